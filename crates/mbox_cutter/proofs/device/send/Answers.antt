@@ -1,0 +1,13 @@
+use Rattle.std.proofs.Common.{◌++◌, take, ◌∙◌}
+use Rattle.contract_words.proofs.Sending.{appends_join, send_step}
+use Rattle.mbox_cutter.proofs.device.send.Goals as goal
+
+pub loop-rest-preserved : goal.loop-rest-preserved
+loop-rest-preserved g c =
+    let before = c.loop-rest.invariant in
+    let n = c.in_ok-n.n in (
+      before.0 ++ take n c.loop-rest.rest.now,
+      send_step _ before.0 c.loop-rest.rest.now n before.1,
+      appends_join _ _ _ before.0 (take n c.loop-rest.rest.now) before.2 c.in_ok-n.ensures.bytes,
+      c.in_ok-n.ensures.count ∙ before.3,
+    )

@@ -1,0 +1,60 @@
+//! What bytes come from and go to, and how often that has failed.
+ghost use Rattle.std.specs.Prelude.{◌≡◌, ◌<◌, ◌≤◌, ◌-◌, ◌^◌, ℕ, List, Option, length, IfOk, OnOk, OnErr};
+ghost use Rattle.std.specs.Io.KnownBytes.{ReadConsumes, WriteAppends, Appends};
+ghost use Rattle.contract_words.specs.Devices.{Counts, Sends};
+
+use thiserror::Error;
+
+/// The device could not do what it was asked.
+#[derive(Clone, Copy, Debug, PartialEq, Eq, Error)]
+#[error("the device failed")]
+pub struct DeviceFault;
+
+/// What an archive's bytes are read from, from the front on.
+pub trait Source {
+    /// The bytes that it will still give, where they are known.
+    ghost rest: { Self → Option (List ℕ) };
+
+    /// How many of its calls have failed.
+    ghost failures: { Self → ℕ };
+
+    /// Reads at least one byte into a slice that isn't empty, and none only at the end.
+    fn read_next(&mut self, into: &mut [u8]) -> Result<usize, DeviceFault>
+        requires room { 0 < length into.old }
+        requires count { failures self.old < 2 ^ 64 - 1 }
+        ensures bound { IfOk result (λ n. n ≤ length into.new) }
+        ensures bytes { ReadConsumes (rest self.old) (rest self.new) result into.new }
+        ensures count { Counts result (failures self.old) (failures self.new) };
+}
+
+/// What an answer's bytes are written to.
+pub trait Out {
+    /// The bytes that it has taken, where they are known.
+    ghost taken: { Self → Option (List ℕ) };
+
+    /// How many of its calls have failed.
+    ghost failures: { Self → ℕ };
+
+    /// Takes at least one byte from the front of a slice that isn't empty.
+    fn put(&mut self, bytes: &[u8]) -> Result<usize, DeviceFault>
+        requires some { 0 < length bytes.now }
+        requires count { failures self.old < 2 ^ 64 - 1 }
+        ensures bound { IfOk result (λ n. (0 < n) × (n ≤ length bytes.now)) }
+        ensures bytes { WriteAppends (taken self.old) (taken self.new) result bytes.now }
+        ensures count { Counts result (failures self.old) (failures self.new) };
+}
+
+/// Writes all the bytes, in as many calls as it takes. Of a failure some front of them went out.
+pub fn send<O: Out>(out: &mut O, bytes: &[u8]) -> Result<(), DeviceFault>
+    requires { O.failures out.old < 2 ^ 64 - 1 }
+    ensures ok { OnOk result (Appends (O.taken out.old) (O.taken out.new) bytes.now) }
+    ensures err { OnErr result (Sends (O.taken out.old) (O.taken out.new) bytes.now) }
+    ensures count { Counts result (O.failures out.old) (O.failures out.new) }
+{
+    let mut rest = bytes;
+    while !rest.is_empty() {
+        let n = out.put(rest)?;
+        rest = &rest[n..];
+    }
+    Ok(())
+}

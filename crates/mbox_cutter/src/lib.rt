@@ -1,0 +1,12 @@
+//! Cuts mbox archives (RFC 4155) into their messages, one line at a time, over any device.
+#![tactic(auto)]
+
+mod device;
+mod line;
+mod memory;
+mod std_io;
+
+pub use device::{DeviceFault, Out, Source, send};
+pub use line::{is_empty_line, line_end};
+pub use memory::{MemoryOut, MemorySource};
+pub use std_io::{FromRead, ToWrite};

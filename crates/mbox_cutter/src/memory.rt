@@ -1,0 +1,156 @@
+//! Devices in memory, which tell their bytes and fail where they are told to.
+ghost use Rattle.std.specs.Prelude.{◌≡◌, ◌<◌, ◌≤◌, ◌-◌, ◌^◌, ◌↔◌, [], Some, length, IfOk, IfSome, OnErr, IsErr};
+ghost use Rattle.std.specs.Io.KnownBytes.{ReadConsumes, WriteAppends};
+ghost use Rattle.contract_words.specs.Devices.{Counts};
+
+use crate::device::{DeviceFault, Out, Source};
+use std::alloc::{AllocError, Global};
+use std::marker::Model;
+
+/// Bytes that come in pieces, up to a read that fails.
+#[derive(Drop)]
+pub struct MemorySource {
+    bytes: Vec<u8>,
+    at: usize,
+    piece: usize,
+    // The number of the read that fails, counted from the next one as 1.
+    fail_at: Option<u64>,
+    failures: u64,
+}
+
+impl Model for MemorySource {
+    ghost use Rattle.mbox_cutter.specs.Memory.{Giving};
+
+    ghost Value = { Giving };
+
+    ghost use Rattle.mbox_cutter.specs.MemoryFields.{giving, IsGiving};
+
+    ghost view = { giving };
+
+    ghost invariant = { IsGiving };
+}
+
+impl MemorySource {
+    /// At most `piece` bytes come at a read. The read with the number `fail_at`, counted from 1, fails, and later ones go on.
+    pub fn new(
+        alloc: Global,
+        bytes: &[u8],
+        piece: usize,
+        fail_at: Option<u64>,
+    ) -> Result<Self, AllocError>
+        requires { 0 < piece }
+        ensures { IfOk result (λ s. s ≡ record { rest = bytes.now; piece = piece; fail_at = fail_at; failures = 0 }) }
+    {
+        Ok(MemorySource {
+            bytes: bytes.to_vec(alloc)?,
+            at: 0,
+            piece,
+            fail_at,
+            failures: 0,
+        })
+    }
+}
+
+impl Source for MemorySource {
+    ghost use Rattle.mbox_cutter.specs.Memory.{next_failure, piece_length};
+
+    ghost rest = { λ s. Some s.rest };
+
+    ghost failures = { λ s. s.failures };
+
+    fn read_next(&mut self, into: &mut [u8]) -> Result<usize, DeviceFault>
+        requires room { 0 < length into.old }
+        requires count { self.old.failures < 2 ^ 64 - 1 }
+        ensures bound { IfOk result (λ n. n ≤ length into.new) }
+        ensures bytes { ReadConsumes (Some self.old.rest) (Some self.new.rest) result into.new }
+        ensures count { Counts result self.old.failures self.new.failures }
+        ensures fails { IsErr result ↔ (self.old.fail_at ≡ Some 1) }
+        ensures piece { IfOk result (λ n. n ≡ piece_length self.old (length into.old)) }
+        ensures next { (self.new.fail_at ≡ next_failure self.old.fail_at) × (self.new.piece ≡ self.old.piece) }
+    {
+        let fails = self.fail_at == Some(1);
+        self.fail_at = match self.fail_at {
+            Some(reads) => Some(reads.saturating_sub(1)),
+            None => None,
+        };
+        if fails {
+            self.failures += 1;
+            return Err(DeviceFault);
+        }
+        let left = self.bytes.len() - self.at;
+        let n = left.min(self.piece).min(into.len());
+        into[..n].copy_from_slice(&self.bytes[self.at..self.at + n]);
+        self.at += n;
+        Ok(n)
+    }
+}
+
+/// Keeps all that it takes, up to a number of bytes.
+#[derive(Drop)]
+pub struct MemoryOut {
+    bytes: Vec<u8>,
+    room: Option<u64>,
+    failures: u64,
+}
+
+impl Model for MemoryOut {
+    ghost use Rattle.mbox_cutter.specs.Memory.{Taking};
+
+    ghost Value = { Taking };
+
+    ghost use Rattle.mbox_cutter.specs.MemoryFields.{taking};
+
+    ghost view = { taking };
+}
+
+impl MemoryOut {
+    /// It takes `room` bytes in all, or any number of them, and then fails. A refused growth is its failure too.
+    pub fn new(alloc: Global, room: Option<u64>) -> Self
+        ensures { result ≡ record { taken = []; room = room; failures = 0 } }
+    {
+        MemoryOut {
+            bytes: Vec::new(alloc),
+            room,
+            failures: 0,
+        }
+    }
+
+    /// All that it took.
+    pub fn bytes(&self) -> &[u8]
+        ensures { result.now ≡ self.now.taken }
+    {
+        &self.bytes
+    }
+}
+
+impl Out for MemoryOut {
+    ghost use Rattle.mbox_cutter.specs.Memory.{room_for, room_after};
+
+    ghost taken = { λ s. Some s.taken };
+
+    ghost failures = { λ s. s.failures };
+
+    fn put(&mut self, bytes: &[u8]) -> Result<usize, DeviceFault>
+        requires some { 0 < length bytes.now }
+        requires count { self.old.failures < 2 ^ 64 - 1 }
+        ensures bound { IfOk result (λ n. (0 < n) × (n ≤ length bytes.now)) }
+        ensures bytes { WriteAppends (Some self.old.taken) (Some self.new.taken) result bytes.now }
+        ensures count { Counts result self.old.failures self.new.failures }
+        ensures takes { IfOk result (λ n. (n ≡ room_for self.old.room (length bytes.now)) × (self.new.room ≡ room_after self.old.room n)) }
+        ensures full { OnErr result (self.new.room ≡ self.old.room) }
+    {
+        let fitting = match self.room {
+            None => bytes.len(),
+            Some(room) => (bytes.len() as u64).min(room) as usize,
+        };
+        if fitting == 0 || self.bytes.extend_from_slice(&bytes[..fitting]).is_err() {
+            self.failures += 1;
+            return Err(DeviceFault);
+        }
+        self.room = match self.room {
+            None => None,
+            Some(room) => Some(room - fitting as u64),
+        };
+        Ok(fitting)
+    }
+}
