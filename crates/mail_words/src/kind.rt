@@ -1,0 +1,20 @@
+//! The texts of a message that are searched apart from one another.
+
+/// Which text of a message a word stands in: one of five header fields (RFC 5322 3.6), or the body.
+///
+/// The kinds have no order.
+#[derive(Clone, Copy, Debug, PartialEq, Eq)]
+pub enum TextKind {
+    /// The field To.
+    To,
+    /// The field Cc.
+    Cc,
+    /// The field Bcc.
+    Bcc,
+    /// The field From.
+    From,
+    /// The field Subject.
+    Subject,
+    /// The lines of the parts that are text.
+    Body,
+}

@@ -1,0 +1,11 @@
+//! Words of a message's texts: what a word is, how words are compared, and in which text of a message
+//! they stand.
+#![tactic(auto)]
+
+mod kind;
+
+pub use kind::TextKind;
+
+mod flags;
+
+pub use flags::{Flag, Flags};
