@@ -1,0 +1,4 @@
+mod Rows
+mod RowsFolding
+mod RowsLimits
+mod RowsUnicode

@@ -1,0 +1,112 @@
+-- The words of a text: the maximal runs of word characters, and the longer runs in which joiners stand between them.
+use Rattle.std.specs.Prelude.{◌≡◌, ℕ, zero, suc, ◌<◌, ◌≤◌, ◌⊎◌, Bool, true, false, not, ◌&&◌, ◌||◌, ◌==◌, nat_le, List, [], ◌∷◌, ◌++◌, length, take, drop, map, reverse, filter, slice_range, chars, encode_utf8_all, codes}
+use Rattle.std.specs.List.{list_any, list_all}
+use Rattle.unicode.specs.Binary.{is_alphabetic}
+use Rattle.unicode.specs.GeneralCategory.{general_category, general_category_eq}
+use Rattle.unicode.specs.declared.properties.GeneralCategory.TheVariants.{NonspacingMark, SpacingMark, DecimalNumber}
+
+-- a word character is Alphabetic, or of category Mn, Mc or Nd (Unicode 4.5 and 4.10)
+unfoldable pub is_word_character : ℕ → Bool
+is_word_character c =
+    is_alphabetic c || list_any (general_category_eq (general_category c)) (NonspacingMark ∷ SpacingMark ∷ DecimalNumber ∷ [])
+
+unfoldable pub is_joiner : ℕ → Bool
+is_joiner c = list_any (λ joiner. c == joiner) (codes "-_.+@")
+
+-- no word has more bytes
+abbrev pub word_limit : ℕ
+word_limit = 128
+
+-- ---- ranges of a text, each from a place to an end behind it
+
+-- so many numbers, from one on
+abbrev pub numbers_from : ℕ → ℕ → List ℕ
+numbers_from first zero = []
+numbers_from first (suc count) = first ∷ numbers_from (suc first) count
+
+-- all ranges that begin in these characters, the first of which stands at place i: by the place, and then by the end
+abbrev pub ranges_from : ℕ → List ℕ → List (ℕ × ℕ)
+ranges_from i [] = []
+ranges_from i (c ∷ cs) = map (λ end. (i, end)) (numbers_from (suc i) (length (c ∷ cs))) ++ ranges_from (suc i) cs
+
+abbrev pub range_bytes : List ℕ → ℕ × ℕ → List ℕ
+range_bytes cs r = encode_utf8_all (slice_range cs r.0 r.1)
+
+-- ---- which ranges are words
+
+-- there is a first character, and it passes
+abbrev pub begins : (ℕ → Bool) → List ℕ → Bool
+begins p [] = false
+begins p (c ∷ cs) = p c
+
+-- the characters behind the joiners at the front
+abbrev pub after_joiners : List ℕ → List ℕ
+after_joiners [] = []
+after_joiners (c ∷ cs) = elim (is_joiner c) [ true ↦ after_joiners cs | false ↦ c ∷ cs ]
+
+-- Which characters are word characters is a parameter. A range is looked at as the characters before it, the nearest
+-- first, those inside it, and those behind it.
+module _ (in_word : ℕ → Bool) where
+  -- a maximal run of word characters
+  abbrev pub is_plain_word : List ℕ → List ℕ → List ℕ → Bool
+  is_plain_word before inside behind =
+      begins in_word inside && list_all in_word inside && not (begins in_word before) && not (begins in_word behind)
+
+  -- a maximal run of word characters and joiners without the joiners at both its ends, and a joiner is left: it begins
+  -- and ends with a word character, and beyond each end no word character stands directly or behind joiners alone
+  abbrev pub is_long_word : List ℕ → List ℕ → List ℕ → Bool
+  is_long_word before inside behind =
+      begins in_word inside && begins in_word (reverse inside)
+      && list_all (λ c. in_word c || is_joiner c) inside && list_any is_joiner inside
+      && not (begins in_word (after_joiners before)) && not (begins in_word (after_joiners behind))
+
+  abbrev pub is_word : List ℕ → List ℕ → List ℕ → Bool
+  is_word before inside behind =
+      (is_plain_word before inside behind || is_long_word before inside behind) && nat_le (length (encode_utf8_all inside)) word_limit
+
+  abbrev pub is_word_range : List ℕ → ℕ × ℕ → Bool
+  is_word_range cs r = is_word (reverse (take r.0 cs)) (slice_range cs r.0 r.1) (drop r.1 cs)
+
+  -- the ranges that are words and begin in the rest of a text, behind its front
+  abbrev pub word_ranges_behind : List ℕ → List ℕ → List (ℕ × ℕ)
+  word_ranges_behind front rest = filter (is_word_range (front ++ rest)) (ranges_from (length front) rest)
+
+  -- the words that begin in the rest of a text, behind its front
+  abbrev pub words_behind : List ℕ → List ℕ → List (List ℕ)
+  words_behind front rest = map (range_bytes (front ++ rest)) (word_ranges_behind front rest)
+
+-- the ranges of a text's characters that are words: by where they begin, the plain word before the long one
+abbrev pub word_ranges : List ℕ → List (ℕ × ℕ)
+word_ranges text = word_ranges_behind is_word_character [] (chars text)
+
+-- the words of a text, in that order
+unfoldable pub words : List ℕ → List (List ℕ)
+words text = map (range_bytes (chars text)) (word_ranges text)
+
+-- the whole text is one word
+unfoldable pub is_one_word : List ℕ → Bool
+is_one_word text = is_word is_word_character [] (chars text) []
+
+-- a piece of a word: 1 to 128 bytes of word characters and joiners
+unfoldable pub is_part_of_word : List ℕ → Bool
+is_part_of_word text =
+    nat_le 1 (length text) && nat_le (length text) word_limit && list_all (λ c. is_word_character c || is_joiner c) (chars text)
+
+-- ---- facts
+
+-- a word that is kept has some bytes, and at most 128
+abbrev pub HasWordLength : List ℕ → Type 0
+HasWordLength word = (1 ≤ length word) × (length word ≤ word_limit)
+
+-- the first range begins earlier, or at the same place and ends earlier
+abbrev pub IsBefore : ℕ × ℕ → ℕ × ℕ → Type 0
+IsBefore r s = (r.0 < s.0) ⊎ ((r.0 ≡ s.0) × (r.1 < s.1))
+
+abbrev pub IsBeforeEach : ℕ × ℕ → List (ℕ × ℕ) → Type 0
+IsBeforeEach r [] = Unit {0}
+IsBeforeEach r (s ∷ ss) = IsBefore r s × IsBeforeEach r ss
+
+-- each range is before all that follow it, so none stands twice
+abbrev pub AreInOrder : List (ℕ × ℕ) → Type 0
+AreInOrder [] = Unit {0}
+AreInOrder (r ∷ rs) = IsBeforeEach r rs × AreInOrder rs
