@@ -1,3 +1,4 @@
 pub mod Lines
 pub mod Memory
 pub mod MemoryFields
+pub mod Separators

@@ -4,9 +4,11 @@
 mod device;
 mod line;
 mod memory;
+mod separator;
 mod std_io;
 
 pub use device::{DeviceFault, Out, Source, send};
 pub use line::{is_empty_line, line_end};
 pub use memory::{MemoryOut, MemorySource};
+pub use separator::is_separator;
 pub use std_io::{FromRead, ToWrite};

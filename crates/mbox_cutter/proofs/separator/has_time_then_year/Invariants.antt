@@ -1,0 +1,10 @@
+use Rattle.std.proofs.Common.{◌≡◌, ◌&&◌, ◌||◌, length}
+use Rattle.std.specs.List.{list_any}
+use Rattle.mbox_cutter.specs.Separators.{has_time_then_year, tokens, is_year}
+use Rattle.mbox_cutter.proofs.separator.has_time_then_year.Given as goal
+
+abbrev pub invariant-tokens : goal.invariant-tokens
+invariant-tokens l = has_time_then_year (tokens l.fn.text) ≡ ((l.timed && list_any is_year (tokens l.rest)) || has_time_then_year (tokens l.rest))
+
+abbrev pub decreases-tokens : goal.decreases-tokens
+decreases-tokens l = length l.rest

@@ -1,0 +1,79 @@
+//! The lines at which a message may start.
+ghost use Rattle.std.specs.Prelude.{◌≡◌};
+ghost use Rattle.mbox_cutter.specs.Separators.{has_form, has_time_then_year, is_separator, is_time, is_year, tokens, without_break};
+
+use memchr::memchr;
+
+/// Whether a message may start with this line (RFC 4155, Appendix A, more lenient): it begins with `From `, and of the texts
+/// between the spaces of what follows, without its line break, some is `dd:dd` or `dd:dd:dd` and some later one is four digits.
+#[tactic(auto, unfolding(crate::specs::Separators::is_separator))]
+pub fn is_separator(line: &[u8]) -> bool
+    ensures { result ≡ is_separator line.now }
+{
+    match line.strip_prefix(b"From ") {
+        Some(rest) => has_time_then_year(without_break(rest)),
+        None => false,
+    }
+}
+
+/// The line without its final LF and a CR directly before it.
+#[tactic(auto, unfolding(crate::specs::Separators::without_break))]
+fn without_break(line: &[u8]) -> &[u8]
+    ensures { result.now ≡ without_break line.now }
+{
+    if let Some(text) = line.strip_suffix(b"\r\n") {
+        return text;
+    }
+    match line.strip_suffix(b"\n") {
+        Some(text) => text,
+        None => line,
+    }
+}
+
+/// Whether some token is a time, and some later one a year.
+fn has_time_then_year(text: &[u8]) -> bool
+    ensures { result ≡ has_time_then_year (tokens text.now) }
+{
+    let mut rest = text;
+    let mut timed = false;
+    'tokens: loop {
+        match memchr(b' ', rest) {
+            Some(end) => {
+                let (token, more) = rest.split_at(end);
+                if !timed {
+                    timed = is_time(token);
+                } else if is_year(token) {
+                    return true;
+                }
+                rest = more.split_at(1).1;
+            }
+            None if timed => return is_year(rest),
+            None => return false,
+        }
+    }
+}
+
+fn is_time(token: &[u8]) -> bool
+    ensures { result ≡ is_time token.now }
+{
+    has_form(b"dd:dd", token) || has_form(b"dd:dd:dd", token)
+}
+
+fn is_year(token: &[u8]) -> bool
+    ensures { result ≡ is_year token.now }
+{
+    has_form(b"dddd", token)
+}
+
+/// Whether the text is of the form, in which `d` stands for any digit and another sign for itself.
+#[tactic(auto, unfolding(crate::specs::Separators::has_form))]
+fn has_form(form: &[u8], text: &[u8]) -> bool
+    ensures { result ≡ has_form form.now text.now }
+{
+    match (form, text) {
+        ([], []) => true,
+        ([b'd', form @ ..], [byte, text @ ..]) => byte.is_ascii_digit() && has_form(form, text),
+        ([sign, form @ ..], [byte, text @ ..]) => byte == sign && has_form(form, text),
+        _ => false,
+    }
+}
