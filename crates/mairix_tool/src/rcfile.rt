@@ -15,6 +15,15 @@ pub struct Rc {
     pub mfolder: Text,
 }
 
+/// What one line of an rcfile says.
+#[derive(Debug, Drop)]
+enum Setting {
+    /// Some archives' names.
+    Archives(Texts),
+    Database(Text),
+    Mfolder(Text),
+}
+
 /// An option that every rcfile has.
 #[derive(Clone, Copy, Debug, PartialEq, Eq)]
 pub enum Name {
