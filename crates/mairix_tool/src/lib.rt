@@ -1,0 +1,10 @@
+//! Runs of mairix: what the words of a command line and an rcfile ask for.
+#![tactic(auto)]
+
+mod command_line;
+mod owned_text;
+mod rcfile;
+
+pub use command_line::{Plan, UsageFault};
+pub use owned_text::{Text, Texts};
+pub use rcfile::{Name, Rc, RcFault};

@@ -1,0 +1,77 @@
+//! Texts that a plan and an rcfile keep.
+ghost use Rattle.std.specs.Prelude.{◌≡◌, ℕ, List, [], ◌∷◌, ◌++◌, map, IfOk, OnOk, OnErr, string_bytes};
+
+use std::alloc::{AllocError, Global};
+use std::marker::Model;
+
+/// A text, which contracts see as its bytes.
+#[derive(Debug, Drop)]
+pub struct Text {
+    text: String,
+}
+
+impl Model for Text {
+    ghost Value = { List ℕ };
+
+    ghost view = { λ t. string_bytes t.text };
+}
+
+impl Text {
+    pub(crate) fn new(alloc: Global, text: &str) -> Result<Self, AllocError>
+        ensures { IfOk result (λ t. t ≡ text.now) }
+    {
+        Ok(Text {
+            text: String::from_str(alloc, text)?,
+        })
+    }
+
+    pub fn as_str(&self) -> &str
+        ensures { result.now ≡ self.now }
+    {
+        self.text.as_str()
+    }
+}
+
+/// A list of texts, which contracts see as the list of their bytes.
+#[derive(Debug, Drop)]
+pub struct Texts {
+    texts: Vec<String>,
+}
+
+impl Model for Texts {
+    ghost Value = { List (List ℕ) };
+
+    ghost view = { λ t. map string_bytes t.texts.items };
+}
+
+impl Texts {
+    pub(crate) fn new(alloc: Global) -> Self
+        ensures { result ≡ [] }
+    {
+        Texts {
+            texts: Vec::new(alloc),
+        }
+    }
+
+    pub fn as_slice(&self) -> &[String]
+        ensures { map string_bytes result.now ≡ self.now }
+    {
+        self.texts.as_slice()
+    }
+
+    pub(crate) fn push(&mut self, text: &str) -> Result<(), AllocError>
+        ensures ok { OnOk result (self.new ≡ self.old ++ text.now ∷ []) }
+        ensures err { OnErr result (self.new ≡ self.old) }
+    {
+        let text = String::from_str(*self.texts.allocator(), text)?;
+        self.texts.push(text)?;
+        Ok(())
+    }
+
+    pub(crate) fn append(&mut self, mut more: Texts) -> Result<(), AllocError>
+        ensures ok { OnOk result (self.new ≡ self.old ++ more) }
+        ensures err { OnErr result (self.new ≡ self.old) }
+    {
+        self.texts.append(&mut more.texts)
+    }
+}
