@@ -1,1 +1,2 @@
 mod RowsRcfile
+pub mod RawTexts

@@ -1,1 +1,4 @@
 pub mod Rcfile
+pub mod Faults
+pub mod FaultTexts
+pub mod RawAnswers

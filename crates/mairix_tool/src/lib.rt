@@ -1,10 +1,20 @@
 //! Runs of mairix: what the words of a command line and an rcfile ask for.
 #![tactic(auto)]
 
+mod answer;
 mod command_line;
+mod explanation;
+mod fault;
+mod file_source;
 mod owned_text;
+mod place;
+mod query_fault;
 mod rcfile;
 
 pub use command_line::{Plan, UsageFault};
+pub use explanation::fault_text;
+pub use fault::{Fault, Reply};
 pub use owned_text::{Text, Texts};
+pub use place::Place;
+pub use query_fault::{QueryFault, QueryKind};
 pub use rcfile::{Name, Rc, RcFault};

@@ -1,0 +1,124 @@
+-- The faults of a run: the exit status of each, which of them words, rcfile and archives determine, and which are a device's.
+use Rattle.std.specs.Prelude.{◌≡◌, ⊤, ℕ, Bool, true, false, nat_eq, Option, None, Some, Result, Ok, Err}
+use Rattle.mbox_cutter.specs.declared.event.CutFault.{CutFault}
+use Rattle.mbox_cutter.specs.declared.event.CutFault.TheVariants.{Device, NotAnMbox, ArchiveTooLong, Failed}
+use Rattle.mairix_tool.specs.declared.command_line.UsageFault.{UsageFault}
+use Rattle.mairix_tool.specs.declared.command_line.UsageFault.TheVariants as usage
+use Rattle.mairix_tool.specs.declared.rcfile.RcFault.{RcFault}
+use Rattle.mairix_tool.specs.declared.rcfile.RcFault.TheVariants as rcfile
+use Rattle.mairix_tool.specs.declared.query_fault.QueryFault.{QueryFault}
+use Rattle.mairix_tool.specs.declared.query_fault.QueryKind.{QueryKind}
+use Rattle.mairix_tool.specs.declared.query_fault.QueryKind.TheVariants as query
+use Rattle.mairix_tool.specs.declared.fault.Fault.{Fault}
+use Rattle.mairix_tool.specs.declared.fault.Fault.TheVariants.{Usage, Rc, Query, Archive, Out, Memory}
+
+-- Help and Version 0; words, rcfile or query refused 2; a device failed, or no mbox 4; want of memory, or an archive too long 5
+abbrev pub status_of_usage : UsageFault → ℕ
+status_of_usage usage.Help = 0
+status_of_usage usage.Version = 0
+status_of_usage usage.OutOfMemory = 5
+status_of_usage usage.Parse = 2
+status_of_usage usage.TwoFormats = 2
+
+abbrev pub status_of_rc : RcFault → ℕ
+status_of_rc rcfile.OutOfMemory = 5
+status_of_rc _ = 2
+
+abbrev pub status_of_query : QueryKind → ℕ
+status_of_query query.OutOfMemory = 5
+status_of_query _ = 2
+
+abbrev pub status_of_cut : CutFault → ℕ
+status_of_cut ArchiveTooLong = 5
+status_of_cut Device = 4
+status_of_cut NotAnMbox = 4
+status_of_cut Failed = 4
+
+abbrev pub status_of_fault : Fault → ℕ
+status_of_fault (Usage fault) = status_of_usage fault
+status_of_fault (Rc fault) = status_of_rc fault
+status_of_fault (Query fault) = status_of_query fault.kind
+status_of_fault (Archive number fault) = status_of_cut fault
+status_of_fault Out = 4
+status_of_fault Memory = 5
+
+-- the refusals of a query, of which want of memory is none
+abbrev pub kind_refusal : QueryFault → QueryKind → Option QueryFault
+kind_refusal fault query.OutOfMemory = None
+kind_refusal fault _ = Some fault
+
+abbrev pub query_refusal : QueryFault → Option QueryFault
+query_refusal fault = kind_refusal fault fault.kind
+
+-- an OutOfMemory of any layer becomes Memory
+abbrev pub of_usage : UsageFault → Fault
+of_usage usage.OutOfMemory = Memory
+of_usage fault = Usage fault
+
+abbrev pub of_rc : RcFault → Fault
+of_rc rcfile.OutOfMemory = Memory
+of_rc fault = Rc fault
+
+abbrev pub of_kind : QueryFault → QueryKind → Fault
+of_kind fault query.OutOfMemory = Memory
+of_kind fault _ = Query fault
+
+abbrev pub of_query : QueryFault → Fault
+of_query fault = of_kind fault fault.kind
+
+-- the refusal that words, rcfile and archives determine; a device's failure and want of memory are none
+abbrev pub refusal_of : Fault → Option Fault
+refusal_of (Archive number Device) = None
+refusal_of Out = None
+refusal_of Memory = None
+refusal_of fault = Some fault
+
+-- the fault that a call answered
+abbrev pub fault_in : {T : Type 0} → Result T Fault → Option Fault
+fault_in (Ok x) = None
+fault_in (Err fault) = Some fault
+
+-- whether the source of this number failed
+abbrev pub is_failed_source : ℕ → Option Fault → Bool
+is_failed_source n (Some (Archive number Device)) = nat_eq n number
+is_failed_source n _ = false
+
+-- whether the output failed
+abbrev pub is_failed_out : Option Fault → Bool
+is_failed_out (Some Out) = true
+is_failed_out _ = false
+
+-- whether a device or memory failed
+abbrev pub is_failure : Option Fault → Bool
+is_failure (Some (Archive number Device)) = true
+is_failure (Some Out) = true
+is_failure (Some Memory) = true
+is_failure _ = false
+
+-- whether words, rcfile or query are refused
+abbrev pub is_early : Option Fault → Bool
+is_early (Some (Usage fault)) = true
+is_early (Some (Rc fault)) = true
+is_early (Some (Query fault)) = true
+is_early _ = false
+
+-- whether an archive is refused, or its source has failed
+abbrev pub is_of_archive : Option Fault → Bool
+is_of_archive (Some (Archive number fault)) = true
+is_of_archive _ = false
+
+abbrev pub is_memory : Option Fault → Bool
+is_memory (Some Memory) = true
+is_memory _ = false
+
+-- want of memory, or a fault of this archive
+abbrev pub IsOfArchive : ℕ → Fault → Type 0
+IsOfArchive n (Archive number fault) = number ≡ n
+IsOfArchive n Memory = ⊤
+IsOfArchive n _ = ⊥
+
+-- want of memory, or a failed output
+abbrev pub IsOfOutput : Fault → Type 0
+IsOfOutput Out = ⊤
+IsOfOutput Memory = ⊤
+IsOfOutput _ = ⊥

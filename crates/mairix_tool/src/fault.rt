@@ -1,0 +1,147 @@
+//! Why a run has no whole answer, and what it answers then.
+
+use crate::command_line::UsageFault;
+use crate::query_fault::{QueryFault, QueryKind};
+use crate::rcfile::RcFault;
+use mbox_cutter::{CutFault, DeviceFault};
+use std::alloc::{AllocError, AllocFailed};
+use thiserror::Error;
+
+/// Why a run has no whole answer. Want of memory in any layer is `Memory`.
+#[derive(Clone, Copy, Debug, PartialEq, Eq, Error)]
+pub enum Fault {
+    /// The words of the command line are refused.
+    #[error("{0}")]
+    Usage(UsageFault),
+    /// The rcfile is refused.
+    #[error("{0}")]
+    Rc(RcFault),
+    /// A pattern is refused.
+    #[error("{0}")]
+    Query(QueryFault),
+    /// The archive of this number, counted from 0, couldn't be read or is refused.
+    #[error("archive: {fault}")]
+    Archive { number: u64, fault: CutFault },
+    /// The output failed.
+    #[error("output failed")]
+    Out,
+    /// There was no memory left.
+    #[error("out of memory")]
+    Memory,
+}
+
+/// What a run answers beside the text that goes out.
+#[derive(Clone, Copy, Debug, PartialEq, Eq)]
+pub struct Reply {
+    /// The exit status: 0 with messages, 1 without one, and above 1 with a fault (but Help and Version have 0).
+    pub status: u8,
+    /// How many messages were answered, 0 with a fault.
+    pub messages: u64,
+    /// Why the answer isn't whole.
+    pub fault: Option<Fault>,
+}
+
+impl Fault {
+    ghost use Rattle.std.specs.Prelude.{◌≡◌};
+    ghost use Rattle.mairix_tool.specs.Faults.{status_of_fault};
+
+    /// The exit status that a run with this fault has.
+    pub fn status(self) -> u8
+        ensures { result ≡ status_of_fault self }
+    {
+        match self {
+            Fault::Usage(UsageFault::Help | UsageFault::Version) => 0,
+            Fault::Usage(UsageFault::OutOfMemory) => 5,
+            Fault::Rc(RcFault::OutOfMemory) => 5,
+            Fault::Query(
+                QueryFault {
+                    kind: QueryKind::OutOfMemory,
+                    ..
+                },
+            ) => 5,
+            Fault::Usage(_) | Fault::Rc(_) | Fault::Query(_) => 2,
+            Fault::Archive {
+                fault: CutFault::ArchiveTooLong,
+                ..
+            } => 5,
+            Fault::Archive { .. } | Fault::Out => 4,
+            Fault::Memory => 5,
+        }
+    }
+}
+
+impl From<AllocError> for Fault {
+    ghost use Rattle.std.specs.Prelude.{◌≡◌};
+    ghost use Rattle.mairix_tool.specs.declared.fault.Fault.TheVariants.{Memory};
+
+    ghost from_gives = { λ _ e. e ≡ Memory };
+
+    fn from(_: AllocError) -> Self {
+        Fault::Memory
+    }
+}
+
+impl<T: Drop> From<AllocFailed<T>> for Fault {
+    ghost use Rattle.std.specs.Prelude.{◌≡◌};
+    ghost use Rattle.mairix_tool.specs.declared.fault.Fault.TheVariants.{Memory};
+
+    ghost from_gives = { λ _ e. e ≡ Memory };
+
+    fn from(_: AllocFailed<T>) -> Self {
+        Fault::Memory
+    }
+}
+
+/// Of the devices whose faults come by `?` only the output is left: an archive's carries its number.
+impl From<DeviceFault> for Fault {
+    ghost use Rattle.std.specs.Prelude.{◌≡◌};
+    ghost use Rattle.mairix_tool.specs.declared.fault.Fault.TheVariants.{Out};
+
+    ghost from_gives = { λ _ e. e ≡ Out };
+
+    fn from(_: DeviceFault) -> Self {
+        Fault::Out
+    }
+}
+
+impl From<UsageFault> for Fault {
+    ghost use Rattle.std.specs.Prelude.{◌≡◌};
+    ghost use Rattle.mairix_tool.specs.Faults.{of_usage};
+
+    ghost from_gives = { λ fault e. e ≡ of_usage fault };
+
+    fn from(fault: UsageFault) -> Self {
+        match fault {
+            UsageFault::OutOfMemory => Fault::Memory,
+            fault => Fault::Usage(fault),
+        }
+    }
+}
+
+impl From<RcFault> for Fault {
+    ghost use Rattle.std.specs.Prelude.{◌≡◌};
+    ghost use Rattle.mairix_tool.specs.Faults.{of_rc};
+
+    ghost from_gives = { λ fault e. e ≡ of_rc fault };
+
+    fn from(fault: RcFault) -> Self {
+        match fault {
+            RcFault::OutOfMemory => Fault::Memory,
+            fault => Fault::Rc(fault),
+        }
+    }
+}
+
+impl From<QueryFault> for Fault {
+    ghost use Rattle.std.specs.Prelude.{◌≡◌};
+    ghost use Rattle.mairix_tool.specs.Faults.{of_query};
+
+    ghost from_gives = { λ fault e. e ≡ of_query fault };
+
+    fn from(fault: QueryFault) -> Self {
+        match fault.kind {
+            QueryKind::OutOfMemory => Fault::Memory,
+            _ => Fault::Query(fault),
+        }
+    }
+}
