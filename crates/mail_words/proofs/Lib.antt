@@ -1,3 +1,4 @@
+pub mod FoldingLemmas
 mod Rows
 mod RowsFolding
 mod RowsLimits

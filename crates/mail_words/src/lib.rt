@@ -3,9 +3,8 @@
 #![tactic(auto)]
 
 mod kind;
-
 pub use kind::TextKind;
-
 mod flags;
-
 pub use flags::{Flag, Flags};
+mod folding;
+pub use folding::{fold, fold_into};

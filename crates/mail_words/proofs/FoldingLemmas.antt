@@ -1,0 +1,82 @@
+-- Laws of foldings, and what is left of one that is being written.
+use Rattle.std.proofs.Common.{◌≡◌, ℕ, ◌+◌, ◌*◌, ◌≤◌, List, [], ◌∷◌, ◌++◌, map, length, Option, None, Some, chars, encode_utf8, encode_utf8_all, IsAscii, IsUtf8, inl, inr, refl, sym, ap, ap₂, ◌∙◌, arith, append_assoc, append-nil, length-append}
+use Rattle.std.proofs.lemmas.Bool.{cases_lt}
+use Rattle.std.proofs.lemmas.List.{length-map}
+use Rattle.std.proofs.lemmas.Str.{chars-IsAscii, encodes-IsAscii, encodes-chars, length-le-encodes, Chars-gives, len_utf8_bounds, length-encode}
+use Rattle.std.proofs.lemmas.Str.Ascii.{IsAscii-map, lowercase_ascii}
+use Rattle.std.specs.Char.{to_ascii_lowercase}
+use Rattle.std.specs.Str.Iter.{chars_rest, chars_steps}
+use Rattle.std.specs.declared.str.Chars.{Chars}
+use Rattle.std.specs.Iterator.{AlwaysYields}
+use Rattle.caseless.specs.Caseless.{default_case_fold}
+use Rattle.caseless.specs.CaseFold.{FoldsCaseTo, CaseFoldSteps}
+use Rattle.caseless.specs.declared.CaseFold.{CaseFold}
+use Rattle.unicode.specs.CaseFolding.{full_fold, full_folding}
+use Rattle.caseless.proofs.CaselessLemmas.{default_case_fold-ascii, default_case_fold-cons, All-chars, length-default_case_fold, full_fold-none, full_fold-some}
+use Rattle.mail_words.specs.Folding.{folding}
+
+-- in ASCII only the capital letters change
+pub folding-ascii : (text : List ℕ) → IsAscii text → folding text ≡ map to_ascii_lowercase text
+folding-ascii text ascii =
+    ap encode_utf8_all (default_case_fold-ascii (chars text) (All-chars text ascii) ∙ ap (map to_ascii_lowercase) (chars-IsAscii text ascii))
+    ∙ encodes-IsAscii (map to_ascii_lowercase text) (IsAscii-map to_ascii_lowercase text lowercase_ascii ascii)
+
+pub length-folding-ascii : (text : List ℕ) → IsAscii text → length (folding text) ≡ length text
+length-folding-ascii text ascii = ap length (folding-ascii text ascii) ∙ simp length-map
+
+length-encodes-le : (cs : List ℕ) → length (encode_utf8_all cs) ≤ 4 * length cs
+length-encodes-le [] = omega arith
+length-encodes-le (c ∷ cs) =
+    omega (arith, length-append (encode_utf8 c) (encode_utf8_all cs), length-encode c, (len_utf8_bounds c).1, length-encodes-le cs)
+
+pub length-folding : (text : List ℕ) → IsUtf8 text → length (folding text) ≤ 8 * length text
+length-folding text utf8 =
+    omega (arith, length-encodes-le (default_case_fold (chars text)), length-default_case_fold (chars text), ap length (encodes-chars text utf8))
+
+full_fold_some : (c : ℕ) → 1 ≤ length (full_fold c)
+full_fold_some c =
+    elim (cases_lt (length (full_folding c)) 1) [
+      | inl none ↦ rw (full_fold-none c (full_folding c) refl none) (omega arith)
+      | inr some ↦ rw (full_fold-some c (full_folding c) refl some) some
+    ]
+
+folds_to_some : (cs : List ℕ) → 1 ≤ length cs → 1 ≤ length (encode_utf8_all (default_case_fold cs))
+folds_to_some [] some = absurd (omega arith)
+folds_to_some (c ∷ cs) some =
+    omega (arith, ap length (default_case_fold-cons c cs), length-append (full_fold c) (default_case_fold cs), full_fold_some c, length-le-encodes (default_case_fold (c ∷ cs)))
+
+has_chars : (cs : List ℕ) → 1 ≤ length (encode_utf8_all cs) → 1 ≤ length cs
+has_chars [] some = absurd (omega arith)
+has_chars (c ∷ cs) some = omega arith
+
+pub folding_some : (text : List ℕ) → IsUtf8 text → 1 ≤ length text → 1 ≤ length (folding text)
+folding_some text utf8 some = folds_to_some (chars text) (has_chars (chars text) (omega (arith, ap length (encodes-chars text utf8))))
+
+-- the bytes written so far, and those of the characters that the iterator has left, are the folding
+pub record StillFolds (text written : List ℕ) (iterator : CaseFold Chars) : Type 0 where
+  pub left : List ℕ
+  pub source : FoldsCaseTo chars_steps iterator left
+  pub whole : folding text ≡ written ++ encode_utf8_all left
+
+pub folds_from_start : (text : List ℕ) (source : Chars) (iterator : CaseFold Chars) → IsUtf8 text → chars_rest source ≡ text
+    → ((cs : List ℕ) → AlwaysYields chars_steps (λ c. c) source cs → FoldsCaseTo chars_steps iterator (default_case_fold cs)) → StillFolds text [] iterator
+folds_from_start text source iterator utf8 rest folds =
+    record { left = default_case_fold (chars text); source = folds (chars text) (Chars-gives (chars text) source (encodes-chars text utf8 ∙ sym rest)); whole = refl }
+
+pub folds_further : (text written : List ℕ) (old new : CaseFold Chars) (c : ℕ) → StillFolds text written old → CaseFoldSteps chars_steps old (Some c) new
+    → StillFolds text (written ++ encode_utf8 c) new
+folds_further text written old new c h step =
+    let next = step.first.at h.left h.source in
+    record {
+      left = next.0;
+      source = next.2;
+      whole = h.whole ∙ ap (λ cs. written ++ encode_utf8_all cs) next.1 ∙ sym (append_assoc written (encode_utf8 c) (encode_utf8_all next.0));
+    }
+
+pub folds_to_end : (text written : List ℕ) (old new : CaseFold Chars) → StillFolds text written old → CaseFoldSteps chars_steps old None new → written ≡ folding text
+folds_to_end text written old new h step =
+    sym (h.whole ∙ ap (λ cs. written ++ encode_utf8_all cs) (step.first.at h.left h.source) ∙ append-nil written)
+
+-- what is written is no longer than the folding
+pub folds_within : (text written : List ℕ) (iterator : CaseFold Chars) → StillFolds text written iterator → length written ≤ length (folding text)
+folds_within text written iterator h = omega (arith, ap length h.whole, length-append written (encode_utf8_all h.left))

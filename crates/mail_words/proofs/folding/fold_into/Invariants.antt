@@ -1,0 +1,11 @@
+use Rattle.std.proofs.Common.{◌≤◌, string_bytes}
+use Rattle.std.specs.String.{string_capacity}
+use Rattle.mail_words.proofs.FoldingLemmas.{StillFolds}
+use Rattle.mail_words.proofs.folding.fold_into.Given as goal
+
+abbrev pub invariant-loop-c : goal.invariant-loop-c
+invariant-loop-c l =
+    record {
+      folds : StillFolds l.fn.word (string_bytes l.into) l.c-iterator;
+      roomy : string_capacity l.fn.into ≤ string_capacity l.into;
+    }
