@@ -1,3 +1,5 @@
+pub mod Archives
+pub mod Events
 pub mod Lines
 pub mod Memory
 pub mod MemoryFields

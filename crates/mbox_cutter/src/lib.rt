@@ -2,12 +2,14 @@
 #![tactic(auto)]
 
 mod device;
+mod event;
 mod line;
 mod memory;
 mod separator;
 mod std_io;
 
 pub use device::{DeviceFault, Out, Source, send};
+pub use event::{CutFault, Event};
 pub use line::{is_empty_line, line_end};
 pub use memory::{MemoryOut, MemorySource};
 pub use separator::is_separator;
