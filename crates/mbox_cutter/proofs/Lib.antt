@@ -1,4 +1,7 @@
 pub mod FirstLines
+pub mod LineLists
+pub mod LinesAreCut
+pub mod OnlyLines
 pub mod Parts
 mod RowsArchives
 mod RowsEvents

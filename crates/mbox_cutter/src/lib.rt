@@ -10,7 +10,7 @@ mod std_io;
 
 pub use device::{DeviceFault, Out, Source, send};
 pub use event::{CutFault, Event};
-pub use line::{is_empty_line, line_end};
+pub use line::{is_empty_line, line_end, lines_law};
 pub use memory::{MemoryOut, MemorySource};
 pub use separator::is_separator;
 pub use std_io::{FromRead, ToWrite};
