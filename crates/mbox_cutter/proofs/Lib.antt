@@ -8,3 +8,4 @@ mod RowsEvents
 mod RowsLines
 mod RowsSeparators
 pub mod Tokens
+pub mod Windows

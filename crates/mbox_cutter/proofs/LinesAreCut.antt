@@ -1,10 +1,10 @@
 -- The lines of bytes join to them, and each is cut where a line ends.
-use Rattle.std.proofs.Common.{◌≡◌, ℕ, zero, suc, ◌+◌, ◌-◌, ◌<◌, ◌≤◌, ◌==◌, Bool, true, false, cond, min, List, [], ◌∷◌, ◌++◌, length, take, drop, refl, ap, sym, ◌∙◌, subst, arith}
+use Rattle.std.proofs.Common.{◌≡◌, None, Some, ℕ, zero, suc, ◌+◌, ◌-◌, ◌<◌, ◌≤◌, ◌==◌, Bool, true, false, cond, min, List, [], ◌∷◌, ◌++◌, length, take, drop, refl, ap, sym, ◌∙◌, subst, arith}
 use Rattle.std.specs.List.{concat}
 use Rattle.std.proofs.lemmas.Bool.Decides.{nat_tests}
-use Rattle.std.proofs.lemmas.List.{length-drop, length-take-le, take-append-drop}
-use Rattle.mbox_cutter.specs.Lines.{length_before_feed, first_length, first_lines, lines, IsLine, AreCut, AreLines}
-use Rattle.mbox_cutter.proofs.FirstLines.{length_before_feed-le, length_before_feed-take, first_length-le, first_length-positive}
+use Rattle.std.proofs.lemmas.List.{length-drop, length-take-le, take-append-drop, take_all}
+use Rattle.mbox_cutter.specs.Lines.{line_end_of, length_before_feed, first_length, first_lines, lines, IsLine, AreCut, AreLines}
+use Rattle.mbox_cutter.proofs.FirstLines.{line_end-within, line_end-whole, length_before_feed-le, length_before_feed-take, first_length-le, first_length-positive}
 use Rattle.mbox_cutter.proofs.LineLists.{lines-cons, lines-nil}
 
 length_before_feed-drop : (k : ℕ) (b : List ℕ) → k ≤ length_before_feed b → length_before_feed (drop k b) ≡ length_before_feed b - k
@@ -72,3 +72,18 @@ concat-lines (suc n) (x ∷ xs) h =
 
 pub lines-AreLines : (b : List ℕ) → AreLines b (lines b)
 lines-AreLines b = record { joined = concat-lines (length b) b (omega arith); each = lines-AreCut (length b) b (omega arith) }
+
+-- bytes whose first line's end is known begin with a line
+pub line_end-IsLine : (b : List ℕ) (n : ℕ) → Some n ≡ line_end_of b → IsLine (take n b)
+unfolding line_end_of
+line_end-IsLine b n e =
+    let le : length_before_feed b ≤ length b = length_before_feed-le b in
+    let within : n ≤ length b = line_end-within b n e in
+    let len : length (take n b) ≡ n = length-take-le n b within in
+    let before : length_before_feed (take n b) ≡ min n (length_before_feed b) = length_before_feed-take n b in
+    record { some = grind (arith, nat_tests); last = grind (arith, nat_tests); short = grind (arith, nat_tests) }
+
+-- and if it isn't known, and no byte is to come, they are a line
+pub open_end-IsLine : (b : List ℕ) → None ≡ line_end_of b → 0 < length b → IsLine b
+open_end-IsLine b e h =
+    subst IsLine (ap (λ (n : ℕ). take n b) (line_end-whole b e) ∙ take_all (length b) b (omega arith)) (first_line-IsLine b h)

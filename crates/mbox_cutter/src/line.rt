@@ -34,5 +34,4 @@ pub fn line_end(bytes: &[u8]) -> Option<usize>
 pub fn lines_law()
     ensures some { (bytes : List ℕ) → AreLines bytes (lines bytes) }
     ensures only { (bytes : List ℕ) (ls : List (List ℕ)) → AreLines bytes ls → ls ≡ lines bytes }
-{
-}
+{}
