@@ -1,14 +1,19 @@
 //! Cuts mbox archives (RFC 4155) into their messages, one line at a time, over any device.
 #![tactic(auto)]
 
+mod buffer;
 mod device;
+mod event;
 mod line;
 mod memory;
 mod separator;
 mod std_io;
+mod window;
 
+pub use buffer::Buffer;
 pub use device::{DeviceFault, Out, Source, send};
-pub use line::{is_empty_line, line_end};
+pub use event::{CutFault, Event};
+pub use line::{is_empty_line, line_end, lines_law};
 pub use memory::{MemoryOut, MemorySource};
 pub use separator::is_separator;
 pub use std_io::{FromRead, ToWrite};

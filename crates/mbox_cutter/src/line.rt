@@ -1,6 +1,6 @@
 //! The lines of an archive.
-ghost use Rattle.std.specs.Prelude.{◌≡◌};
-ghost use Rattle.mbox_cutter.specs.Lines.{is_empty, line_end_of};
+ghost use Rattle.std.specs.Prelude.{◌≡◌, ℕ, List};
+ghost use Rattle.mbox_cutter.specs.Lines.{AreLines, is_empty, line_end_of, lines};
 
 use memchr::memchr;
 
@@ -27,3 +27,11 @@ pub fn line_end(bytes: &[u8]) -> Option<usize>
         None => None,
     }
 }
+
+/// The law of lines: all bytes have a list of lines that joins to them, in which LF stands at most as a line's last byte, no line
+/// has more than 65,536 bytes other than LF, and one without LF that isn't the last has as many and isn't followed by LF; and it
+/// is the only one. It does nothing.
+pub fn lines_law()
+    ensures some { (bytes : List ℕ) → AreLines bytes (lines bytes) }
+    ensures only { (bytes : List ℕ) (ls : List (List ℕ)) → AreLines bytes ls → ls ≡ lines bytes }
+{}

@@ -1,0 +1,89 @@
+-- The lines of bytes join to them, and each is cut where a line ends.
+use Rattle.std.proofs.Common.{◌≡◌, None, Some, ℕ, zero, suc, ◌+◌, ◌-◌, ◌<◌, ◌≤◌, ◌==◌, Bool, true, false, cond, min, List, [], ◌∷◌, ◌++◌, length, take, drop, refl, ap, sym, ◌∙◌, subst, arith}
+use Rattle.std.specs.List.{concat}
+use Rattle.std.proofs.lemmas.Bool.Decides.{nat_tests}
+use Rattle.std.proofs.lemmas.List.{length-drop, length-take-le, take-append-drop, take_all}
+use Rattle.mbox_cutter.specs.Lines.{line_end_of, length_before_feed, first_length, first_lines, lines, IsLine, AreCut, AreLines}
+use Rattle.mbox_cutter.proofs.FirstLines.{line_end-within, line_end-whole, length_before_feed-le, length_before_feed-take, first_length-le, first_length-positive}
+use Rattle.mbox_cutter.proofs.LineLists.{lines-cons, lines-nil}
+
+length_before_feed-drop : (k : ℕ) (b : List ℕ) → k ≤ length_before_feed b → length_before_feed (drop k b) ≡ length_before_feed b - k
+length_before_feed-drop zero b h = omega arith
+length_before_feed-drop (suc k) [] h = absurd (omega arith)
+length_before_feed-drop (suc k) (x ∷ xs) h = (elim (x == 10) as (λ v. suc k ≤ cond v 0 (suc (length_before_feed xs)) → length_before_feed (drop k xs) ≡ cond v 0 (suc (length_before_feed xs)) - suc k) [
+  | true ↦ λ (le : _). absurd (omega arith)
+  | false ↦ λ (le : _). let rest : length_before_feed (drop k xs) ≡ length_before_feed xs - k = length_before_feed-drop k xs (omega arith) in omega arith
+]) h
+
+-- the first of all the bytes' lines is a line
+pub first_line-IsLine : (b : List ℕ) → 0 < length b → IsLine (take (first_length b) b)
+unfolding first_length
+first_line-IsLine b h =
+    let le : first_length b ≤ length b = first_length-le b in
+    let positive : 0 < first_length b = first_length-positive b h in
+    let len : length (take (first_length b) b) ≡ first_length b = length-take-le (first_length b) b le in
+    let before : length_before_feed (take (first_length b) b) ≡ min (first_length b) (length_before_feed b) = length_before_feed-take (first_length b) b in
+    record { some = grind (arith, nat_tests); last = grind (arith, nat_tests); short = grind (arith, nat_tests) }
+
+open_line : (b : List ℕ) → first_length b ≤ length_before_feed b → first_length b < length b → (first_length b ≡ 65536) × (65536 < length_before_feed b)
+unfolding first_length
+open_line b h below = (grind (arith, nat_tests), grind (arith, nat_tests))
+
+-- where the first line has no LF and others follow it, it is full and no LF follows
+first_line-full : (b : List ℕ) → 0 < length (drop (first_length b) b) → length_before_feed (take (first_length b) b) ≡ length (take (first_length b) b) →
+    (length (take (first_length b) b) ≡ 65536) × (0 < length_before_feed (take (first_length (drop (first_length b) b)) (drop (first_length b) b)))
+first_line-full b some no_feed =
+    let le : first_length b ≤ length b = first_length-le b in
+    let len : length (take (first_length b) b) ≡ first_length b = length-take-le (first_length b) b le in
+    let left : length (drop (first_length b) b) ≡ length b - first_length b = length-drop (first_length b) b in
+    let before : length_before_feed (take (first_length b) b) ≡ min (first_length b) (length_before_feed b) = length_before_feed-take (first_length b) b in
+    let le_before : first_length b ≤ length_before_feed b = omega arith in
+    let full : (first_length b ≡ 65536) × (65536 < length_before_feed b) = open_line b le_before (omega arith) in
+    let rest : length_before_feed (drop (first_length b) b) ≡ length_before_feed b - first_length b = length_before_feed-drop (first_length b) b le_before in
+    let positive : 0 < first_length (drop (first_length b) b) = first_length-positive (drop (first_length b) b) some in
+    let next : length_before_feed (take (first_length (drop (first_length b) b)) (drop (first_length b) b)) ≡ min (first_length (drop (first_length b) b)) (length_before_feed (drop (first_length b) b)) = length_before_feed-take (first_length (drop (first_length b) b)) (drop (first_length b) b) in
+    (len ∙ full.0, omega (arith, full.0, full.1))
+
+joined_cut : (l rest : List ℕ) → IsLine l → (0 < length rest → length_before_feed l ≡ length l → (length l ≡ 65536) × (0 < length_before_feed (take (first_length rest) rest))) → AreCut (lines rest) → AreCut (l ∷ lines rest)
+joined_cut l [] is full cut = rw lines-nil is
+joined_cut l (y ∷ ys) is full cut =
+    let e : lines (y ∷ ys) ≡ take (first_length (y ∷ ys)) (y ∷ ys) ∷ lines (drop (first_length (y ∷ ys)) (y ∷ ys)) = lines-cons (y ∷ ys) (omega arith) in
+    rw e (is, full (omega arith), subst AreCut e cut)
+
+lines-AreCut : (n : ℕ) (b : List ℕ) → length b ≤ n → AreCut (lines b)
+lines-AreCut n [] h = rw lines-nil tt
+lines-AreCut zero (x ∷ xs) h = absurd (omega arith)
+lines-AreCut (suc n) (x ∷ xs) h =
+    let positive : 0 < first_length (x ∷ xs) = first_length-positive (x ∷ xs) (omega arith) in
+    let left : length (drop (first_length (x ∷ xs)) (x ∷ xs)) ≡ length (x ∷ xs) - first_length (x ∷ xs) = length-drop (first_length (x ∷ xs)) (x ∷ xs) in
+    rw (lines-cons (x ∷ xs) (omega arith))
+    (joined_cut (take (first_length (x ∷ xs)) (x ∷ xs)) (drop (first_length (x ∷ xs)) (x ∷ xs)) (first_line-IsLine (x ∷ xs) (omega arith)) (first_line-full (x ∷ xs))
+    (lines-AreCut n (drop (first_length (x ∷ xs)) (x ∷ xs)) (omega arith)))
+
+concat-lines : (n : ℕ) (b : List ℕ) → length b ≤ n → concat (lines b) ≡ b
+concat-lines n [] h = rw lines-nil refl
+concat-lines zero (x ∷ xs) h = absurd (omega arith)
+concat-lines (suc n) (x ∷ xs) h =
+    let positive : 0 < first_length (x ∷ xs) = first_length-positive (x ∷ xs) (omega arith) in
+    let left : length (drop (first_length (x ∷ xs)) (x ∷ xs)) ≡ length (x ∷ xs) - first_length (x ∷ xs) = length-drop (first_length (x ∷ xs)) (x ∷ xs) in
+    ap concat (lines-cons (x ∷ xs) (omega arith))
+    ∙ ap (λ (rest : List ℕ). take (first_length (x ∷ xs)) (x ∷ xs) ++ rest) (concat-lines n (drop (first_length (x ∷ xs)) (x ∷ xs)) (omega arith))
+    ∙ take-append-drop (first_length (x ∷ xs)) (x ∷ xs)
+
+pub lines-AreLines : (b : List ℕ) → AreLines b (lines b)
+lines-AreLines b = record { joined = concat-lines (length b) b (omega arith); each = lines-AreCut (length b) b (omega arith) }
+
+-- bytes whose first line's end is known begin with a line
+pub line_end-IsLine : (b : List ℕ) (n : ℕ) → Some n ≡ line_end_of b → IsLine (take n b)
+unfolding line_end_of
+line_end-IsLine b n e =
+    let le : length_before_feed b ≤ length b = length_before_feed-le b in
+    let within : n ≤ length b = line_end-within b n e in
+    let len : length (take n b) ≡ n = length-take-le n b within in
+    let before : length_before_feed (take n b) ≡ min n (length_before_feed b) = length_before_feed-take n b in
+    record { some = grind (arith, nat_tests); last = grind (arith, nat_tests); short = grind (arith, nat_tests) }
+
+-- and if it isn't known, and no byte is to come, they are a line
+pub open_end-IsLine : (b : List ℕ) → None ≡ line_end_of b → 0 < length b → IsLine b
+open_end-IsLine b e h =
+    subst IsLine (ap (λ (n : ℕ). take n b) (line_end-whole b e) ∙ take_all (length b) b (omega arith)) (first_line-IsLine b h)

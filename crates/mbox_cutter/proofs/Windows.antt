@@ -1,0 +1,68 @@
+-- What a window's steps do to the bytes to come.
+use Rattle.std.proofs.Common.{◌≡◌, ℕ, ◌+◌, ◌-◌, ◌<◌, ◌≤◌, Ok, Err, Result, List, [], ◌++◌, Option, Some, None, IfSome, IfOk, length, take, drop, append-nil, refl, ap, sym, ◌∙◌, arith, append_assoc}
+use Rattle.std.specs.Io.KnownBytes.{Consumes, ReadConsumes, IsAtEnd, prepend_known}
+use Rattle.std.proofs.Math.Seq.{take-append-add}
+use Rattle.std.proofs.lemmas.List.{take-append-le, length-take-le, take_all, length-drop, drop-append-le, length-append}
+use borrow.Rule.Slice.PartMut.{put_mid}
+use Rattle.mbox_cutter.specs.declared.device.DeviceFault.{DeviceFault}
+use Rattle.mbox_cutter.specs.Lines.{line_end_of, first_length, IsLine}
+use Rattle.mbox_cutter.specs.Ahead.{ReadsBehind, Extends}
+use Rattle.mbox_cutter.proofs.FirstLines.{line_end-more, line_end-whole}
+use Rattle.mbox_cutter.proofs.Parts.{take_front}
+
+pub known_nothing_read : (bytes : Option (List ℕ)) → prepend_known [] bytes ≡ bytes
+known_nothing_read None = refl
+known_nothing_read (Some b) = refl
+
+take_behind : (front into post : List ℕ) (held n : ℕ) → length front ≡ held → n ≤ length into → take (held + n) (front ++ (into ++ post)) ≡ front ++ take n into
+take_behind front into post held n e h = rw (← e) (take-append-add front (into ++ post) n ∙ ap (λ (s : List ℕ). front ++ s) (take-append-le n into post h))
+
+pub reads_behind : (held : ℕ) (old new : Option (List ℕ)) (result : Result ℕ DeviceFault) (before into : List ℕ) →
+    held < length before → length into ≡ length before - held → IfOk result (λ n. n ≤ length into) → ReadConsumes old new result into →
+    ReadsBehind held old new result before (put_mid held (length before - held) before into)
+reads_behind held old new (Ok n) before into room len bound h =
+    let front : length (take held before) ≡ held = length-take-le held before (omega arith) in
+    (take n into, omega arith, length-take-le n into bound, take_behind (take held before) into _ held n front bound, h.0, λ zero. h.1 zero (omega arith))
+reads_behind held old new (Err fault) before into room len bound h =
+    let front : length (take held before) ≡ held = length-take-le held before (omega arith) in
+    (h, take_front (take held before) _ held front)
+
+-- the line's end is found in what was read
+pub at_some : (skip n : ℕ) (u : List ℕ) (old now : Option (List ℕ)) → skip ≤ length u → Some n ≡ line_end_of (drop skip u) →
+    IfSome old (λ b. prepend_known u now ≡ Some b) → IfSome old (λ b. n ≡ first_length (drop skip b))
+at_some skip n u None now fits e h = tt
+at_some skip n u (Some b) None fits e h = cc
+at_some skip n u (Some b) (Some r) fits e h =
+    let is : u ++ r ≡ b = cc in
+    line_end-more (drop skip u) r n e ∙ ap first_length (sym (drop-append-le skip u r fits) ∙ ap (drop skip) is)
+
+-- nothing is to come, so that what was read is the line
+pub at_end : (skip : ℕ) (u : List ℕ) (old now : Option (List ℕ)) → None ≡ line_end_of (drop skip u) → IsAtEnd now →
+    IfSome old (λ b. prepend_known u now ≡ Some b) → IfSome old (λ b. length (drop skip u) ≡ first_length (drop skip b))
+at_end skip u None now e over h = tt
+at_end skip u (Some b) None e over h = cc
+at_end skip u (Some b) (Some r) e over h =
+    let is : u ++ r ≡ b = cc in
+    let same : u ≡ b = sym (append-nil u) ∙ ap (λ (s : List ℕ). u ++ s) (sym over) ∙ is in
+    sym (line_end-whole (drop skip u) e) ∙ ap (λ (s : List ℕ). first_length (drop skip s)) same
+
+pub known_taken : (n : ℕ) (u : List ℕ) (r : Option (List ℕ)) → n ≤ length u →
+    IfSome (prepend_known u r) (λ b. prepend_known (drop n u) r ≡ Some (drop n b))
+known_taken n u None h = tt
+known_taken n u (Some r) h = ap Some (sym (drop-append-le n u r h))
+
+pub line_taken : (n : ℕ) (u : List ℕ) (r : Option (List ℕ)) → n ≤ length u → IfSome (prepend_known u r) (λ b. take n u ≡ take n b)
+line_taken n u None h = tt
+line_taken n u (Some r) h = sym (take-append-le n u r h)
+
+pub Extends-self : (u : List ℕ) → Extends u u
+Extends-self u = ([], sym (append-nil u))
+
+pub Extends-join : (a b c : List ℕ) → Extends a b → Extends b c → Extends a c
+Extends-join a b c h k = (h.0 ++ k.0, k.1 ∙ ap (λ (s : List ℕ). s ++ k.0) h.1 ∙ append_assoc a h.0 k.0)
+
+pub length-Extends : (a b : List ℕ) → Extends a b → length a ≤ length b
+length-Extends a b h = omega (arith, ap length h.1, length-append a h.0)
+
+pub take-Extends : (n : ℕ) (a b : List ℕ) → n ≤ length a → Extends a b → take n b ≡ take n a
+take-Extends n a b fits h = ap (take n) h.1 ∙ take-append-le n a h.0 fits

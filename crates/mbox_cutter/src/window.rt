@@ -1,0 +1,188 @@
+//! The part of a source that is held in a buffer.
+ghost use Rattle.std.specs.Prelude.{◌≡◌, ◌⊎◌, ℕ, List, Some, true, false, ◌+◌, ◌-◌, ◌^◌, ◌<◌, ◌≤◌, length, take, drop, slice_range, IfOk, OnOk, IfSome};
+ghost use Rattle.std.specs.Io.KnownBytes.{IsAtEnd};
+ghost use Rattle.contract_words.specs.Devices.{Counts};
+ghost use Rattle.mbox_cutter.specs.Ahead.{known, Extends, ReadsBehind};
+ghost use Rattle.mbox_cutter.specs.Lines.{first_length, IsLine};
+
+use crate::buffer::Buffer;
+use crate::device::{DeviceFault, Source};
+use crate::line::line_end;
+use std::marker::Model;
+
+/// The bytes `from..to` of the buffer were read and not taken.
+#[derive(Drop)]
+pub(crate) struct Window<'a, S: Source> {
+    source: &'a mut S,
+    buffer: Vec<u8>,
+    // How many bytes the line has that was taken last. It ends at `from`.
+    taken: usize,
+    from: usize,
+    to: usize,
+    // Whether the source's end was seen.
+    ended: bool,
+}
+
+impl<'a, S: Source> Model for Window<'a, S> {
+    ghost use Rattle.mbox_cutter.specs.Ahead.{Ahead};
+
+    ghost Value = { Ahead S };
+
+    ghost use Rattle.mbox_cutter.specs.Window.{ahead, IsWindow};
+
+    ghost view = { ahead };
+
+    ghost invariant = { IsWindow S.rest };
+}
+
+impl<'a, S: Source> Window<'a, S> {
+    pub(crate) fn over(buffer: Buffer, source: &'a mut S) -> Self
+        ensures source { result.source.ghost_name ≡ source.entry.ghost_name }
+        ensures same { result.source.now ≡ source.old }
+        ensures known { known S.rest result ≡ S.rest source.old }
+    {
+        Window {
+            source,
+            buffer: buffer.bytes,
+            taken: 0,
+            from: 0,
+            to: 0,
+            ended: false,
+        }
+    }
+
+    /// The source, after what was read, and the buffer.
+    pub(crate) fn into_parts(self) -> (&'a mut S, Buffer)
+        ensures name { result.0.ghost_name ≡ self.entry.source.ghost_name }
+        ensures same { result.0.now ≡ self.entry.source.now }
+    {
+        let Window { source, buffer, .. } = self;
+        (source, Buffer { bytes: buffer })
+    }
+
+    /// The bytes that were read and not taken.
+    fn unread(&self) -> &[u8]
+        ensures unread { result.now ≡ self.now.unread }
+        ensures bound { length self.now.unread ≤ 131072 }
+    {
+        &self.buffer[self.from..self.to]
+    }
+
+    fn unread_after(&self, skip: usize) -> &[u8]
+        requires { skip ≤ length self.now.unread }
+        ensures rest { result.now ≡ drop skip self.now.unread }
+        ensures length { skip + length result.now ≡ length self.now.unread }
+    {
+        self.unread().split_at(skip).1
+    }
+
+    /// The line that was taken last.
+    pub(crate) fn line(&self) -> &[u8]
+        ensures { result.now ≡ self.now.line }
+    {
+        &self.buffer[self.from - self.taken..self.from]
+    }
+
+    /// Takes the next `n` bytes.
+    pub(crate) fn take(&mut self, n: usize)
+        requires { n ≤ length self.old.unread }
+        ensures source { self.new.source ≡ self.old.source }
+        ensures line { self.new.line ≡ take n self.old.unread }
+        ensures unread { self.new.unread ≡ drop n self.old.unread }
+        ensures known { IfSome (known S.rest self.old) (λ bytes. known S.rest self.new ≡ Some (drop n bytes)) }
+        ensures known_line { IfSome (known S.rest self.old) (λ bytes. self.new.line ≡ take n bytes) }
+    {
+        self.move_on(n);
+    }
+
+    fn move_on(&mut self, n: usize)
+        requires { n ≤ length self.old.unread }
+        ensures source { self.new.source ≡ self.old.source }
+        ensures line { self.new.line ≡ take n self.old.unread }
+        ensures unread { self.new.unread ≡ drop n self.old.unread }
+    {
+        self.taken = n;
+        self.from += n;
+    }
+
+    /// The `n` bytes after the next `skip` ones.
+    pub(crate) fn part(&self, skip: usize, n: usize) -> &[u8]
+        requires { skip + n ≤ length self.now.unread }
+        ensures unread { result.now ≡ take n (drop skip self.now.unread) }
+        ensures known { IfSome (known S.rest self.now) (λ bytes. result.now ≡ take n (drop skip bytes)) }
+        ensures length { length result.now ≡ n }
+    {
+        self.unread_after(skip).split_at(n).0
+    }
+
+    /// The length of the line after the next `skip` bytes, 0 at the end.
+    pub(crate) fn line_after(&mut self, skip: usize) -> Result<usize, DeviceFault>
+        requires near { skip ≤ 2 }
+        requires within { skip ≤ length self.old.unread }
+        requires count { S.failures self.old.source.now < 2 ^ 64 - 1 }
+        ensures source { self.new.source.ghost_name ≡ self.old.source.ghost_name }
+        ensures count { Counts result (S.failures self.old.source.now) (S.failures self.new.source.now) }
+        ensures known { IfSome (known S.rest self.old) (λ bytes. known S.rest self.new ≡ Some bytes) }
+        ensures keeps { Extends self.old.unread self.new.unread }
+        ensures within { IfOk result (λ n. skip + n ≤ length self.new.unread) }
+        ensures line { IfOk result (λ n. 0 < n → IsLine (take n (drop skip self.new.unread))) }
+        ensures first { IfOk result (λ n. IfSome (known S.rest self.old) (λ bytes. n ≡ first_length (drop skip bytes))) }
+        ensures end { IfOk result (λ n. n ≡ 0 → IsAtEnd (S.rest self.new.source.now)) }
+    {
+        'more: loop {
+            let rest = self.unread_after(skip);
+            let len = rest.len();
+            match line_end(rest) {
+                Some(n) => return Ok(n),
+                None if self.ended => return Ok(len),
+                None => self.fill()?,
+            }
+        }
+    }
+
+    /// Reads more. It has seen the end or has more bytes then.
+    fn fill(&mut self) -> Result<(), DeviceFault>
+        requires room { length self.old.unread < 131072 }
+        requires open { self.old.ended ≡ false }
+        requires count { S.failures self.old.source.now < 2 ^ 64 - 1 }
+        ensures source { self.new.source.ghost_name ≡ self.old.source.ghost_name }
+        ensures count { Counts result (S.failures self.old.source.now) (S.failures self.new.source.now) }
+        ensures known { IfSome (known S.rest self.old) (λ bytes. known S.rest self.new ≡ Some bytes) }
+        ensures keeps { Extends self.old.unread self.new.unread }
+        ensures grows { OnOk result ((self.new.ended ≡ true) ⊎ (length self.old.unread < length self.new.unread)) }
+        ensures bound { length self.new.unread ≤ 131072 }
+    {
+        let held = self.to - self.from;
+        move_to_front(&mut self.buffer, self.from, self.to);
+        self.taken = 0;
+        self.from = 0;
+        self.to = held;
+        let n = read_behind(self.source, &mut self.buffer, held)?;
+        self.to += n;
+        self.ended = n == 0;
+        Ok(())
+    }
+}
+
+/// Moves the bytes `from..to` to the front.
+fn move_to_front(buffer: &mut [u8], from: usize, to: usize)
+    requires order { from ≤ to }
+    requires within { to ≤ length buffer.old }
+    ensures { take (to - from) buffer.new ≡ slice_range buffer.old from to }
+{
+    buffer.copy_within(from..to, 0);
+}
+
+/// Reads into the buffer behind the first `held` bytes.
+fn read_behind<S: Source>(
+    source: &mut S,
+    buffer: &mut [u8],
+    held: usize,
+) -> Result<usize, DeviceFault>
+    requires room { held < length buffer.old }
+    requires count { S.failures source.old < 2 ^ 64 - 1 }
+    ensures count { Counts result (S.failures source.old) (S.failures source.new) }
+    ensures bytes { ReadsBehind held (S.rest source.old) (S.rest source.new) result buffer.old buffer.new }
+{
+    source.read_next(&mut buffer[held..])
+}
