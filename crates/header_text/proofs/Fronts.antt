@@ -1,0 +1,40 @@
+-- The front of some bytes that passes a test, and blanks at the ends.
+use Rattle.std.proofs.Common.{◌≡◌, ◌∙◌, ◌++◌, ◌-◌, ◌≤◌, ◌+◌, ℕ, Bool, true, false, List, [], ◌∷◌, length, take, drop, reverse, refl, sym, ap, arith, length-append}
+use Rattle.std.proofs.lemmas.List.{take_at, drop_at, reverse-append, reverse-reverse}
+use Rattle.header_text.specs.Blanks.{is_blank, split_while, after_blanks, before_blanks}
+
+-- the two parts join to the whole
+pub split_while-joined : (p : ℕ → Bool) (bs : List ℕ) → (split_while p bs).0 ++ (split_while p bs).1 ≡ bs
+split_while-joined p [] = refl
+split_while-joined p (b ∷ bs) = go (p b) refl (split_while-joined p bs)
+  where
+    go : (t : Bool) → p b ≡ t → (split_while p bs).0 ++ (split_while p bs).1 ≡ bs → (split_while p (b ∷ bs)).0 ++ (split_while p (b ∷ bs)).1 ≡ b ∷ bs
+    go true e h = rw (e, split_while) (ap (λ (x : List ℕ). b ∷ x) h)
+    go false e h = rw (e, split_while) refl
+
+-- the first part is what stands before the second
+pub take-split_while : (p : ℕ → Bool) (bs : List ℕ) → take (length bs - length (split_while p bs).1) bs ≡ (split_while p bs).0
+take-split_while p bs =
+    let joined : (split_while p bs).0 ++ (split_while p bs).1 ≡ bs = split_while-joined p bs in
+    let sizes : length (split_while p bs).0 + length (split_while p bs).1 ≡ length bs = sym (length-append (split_while p bs).0 (split_while p bs).1) ∙ ap length joined in
+    let n : length (split_while p bs).0 ≡ length bs - length (split_while p bs).1 = omega arith in
+    ap (λ (x : List ℕ). take (length bs - length (split_while p bs).1) x) (sym joined) ∙ take_at (split_while p bs).0 (split_while p bs).1 (length bs - length (split_while p bs).1) n
+
+pub length-split_while : (p : ℕ → Bool) (bs : List ℕ) → length (split_while p bs).1 ≤ length bs
+length-split_while p bs =
+    let joined : (split_while p bs).0 ++ (split_while p bs).1 ≡ bs = split_while-joined p bs in
+    let sizes : length (split_while p bs).0 + length (split_while p bs).1 ≡ length bs = sym (length-append (split_while p bs).0 (split_while p bs).1) ∙ ap length joined in
+    omega arith
+
+-- a blank at the end goes, and at any other byte it stops
+pub before_blanks-last : (bs : List ℕ) (b : ℕ) → is_blank b ≡ true → before_blanks (bs ++ b ∷ []) ≡ before_blanks bs
+unfolding before_blanks
+before_blanks-last bs b e = ap (λ (x : List ℕ). reverse (after_blanks x)) (reverse-append bs (b ∷ [])) ∙ rw (e, after_blanks) refl
+
+pub before_blanks-stops : (bs : List ℕ) (b : ℕ) → is_blank b ≡ false → before_blanks (bs ++ b ∷ []) ≡ bs ++ b ∷ []
+unfolding before_blanks
+before_blanks-stops bs b e = ap (λ (x : List ℕ). reverse (after_blanks x)) (reverse-append bs (b ∷ [])) ∙ rw (e, after_blanks) (ap reverse (sym (reverse-append bs (b ∷ []))) ∙ reverse-reverse (bs ++ b ∷ []))
+
+pub before_blanks-nil : before_blanks [] ≡ []
+unfolding before_blanks
+before_blanks-nil = refl

@@ -1,0 +1,10 @@
+use Rattle.std.proofs.Common.{◌≡◌, length}
+use Rattle.header_text.specs.Blanks.{before_blanks as before_blanks_of}
+use Rattle.header_text.proofs.blanks.before_blanks.Given as goal
+
+-- what is left has the same before its blanks
+abbrev pub invariant-loop-last : goal.invariant-loop-last
+invariant-loop-last l = before_blanks_of l.rest ≡ before_blanks_of l.fn.bytes
+
+abbrev pub decreases-loop-last : goal.decreases-loop-last
+decreases-loop-last l = length l.rest

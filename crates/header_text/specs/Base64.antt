@@ -1,0 +1,28 @@
+-- Base64 (RFC 4648, 4), read leniently: bytes outside the alphabet are skipped, it ends at the first `=`, and a rest of
+-- two or three symbols gives one or two bytes.
+use Rattle.std.specs.Prelude.{ℕ, not, ◌==◌, List, [], ◌∷◌, ◌++◌, take, Option, Some, None}
+use Rattle.std.specs.List.{position, filter_map}
+use Rattle.base64.specs.Engines.{standard}
+use Rattle.base64.specs.GeneralPurpose.{engine_symbols}
+use Rattle.base64.specs.Decode.{decode_group}
+use Rattle.header_text.specs.Blanks.{split_while}
+
+-- the value of a symbol: its place in the alphabet
+unfoldable pub sextet : ℕ → Option ℕ
+sextet b = position (λ symbol. symbol == b) (engine_symbols standard)
+
+-- the bytes of sextets, three of each group of four; a rest is completed by zeros and gives what is whole of it
+unfoldable pub bytes_of_sextets : List ℕ → List ℕ
+bytes_of_sextets (a ∷ b ∷ c ∷ d ∷ rest) = decode_group a b c d ++ bytes_of_sextets rest
+bytes_of_sextets (a ∷ b ∷ c ∷ []) = take 2 (decode_group a b c 0)
+bytes_of_sextets (a ∷ b ∷ []) = take 1 (decode_group a b 0 0)
+bytes_of_sextets (a ∷ []) = []
+bytes_of_sextets [] = []
+
+-- the sextets up to the first `=`
+abbrev pub sextets : List ℕ → List ℕ
+sextets text = filter_map sextet (split_while (λ b. not (b == 0x3D)) text).0
+
+-- what the text encodes
+unfoldable pub base64_bytes : List ℕ → List ℕ
+base64_bytes text = bytes_of_sextets (sextets text)

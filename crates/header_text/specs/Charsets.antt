@@ -1,0 +1,62 @@
+-- Charsets: their labels, and how each reads bytes.
+use Rattle.std.specs.Prelude.{ℕ, ◌-◌, Bool, not, ◌&&◌, ◌||◌, ◌==◌, nat_lt, nat_le, List, [], ◌∷◌, map, if◌then◌else◌, slice_index, codes, encode_utf8_all}
+use Rattle.std.specs.List.{list_any}
+use Rattle.std.specs.Str.{bytes_eq, str_to_ascii_lowercase}
+use Rattle.bstr.specs.Utf8.{lossy_chars}
+use Rattle.header_text.specs.Blanks.{split_while}
+use Rattle.header_text.specs.declared.charset.Charset.{Charset}
+use Rattle.header_text.specs.declared.charset.Charset.TheVariants.{Utf8, Latin1, Latin9, Windows1252, Unknown}
+
+-- the label before a `*`, in lower case
+abbrev pub plain_label : List ℕ → List ℕ
+plain_label label = str_to_ascii_lowercase (split_while (λ b. not (b == 0x2A)) label).0
+
+abbrev pub is_among : List (List ℕ) → List ℕ → Bool
+is_among labels label = list_any (bytes_eq label) labels
+
+abbrev pub charset_named : List ℕ → Charset
+charset_named label =
+    if is_among ([] ∷ codes "us-ascii" ∷ codes "ascii" ∷ codes "utf-8" ∷ codes "utf8" ∷ []) label then Utf8
+    else if is_among (codes "iso-8859-1" ∷ codes "iso8859-1" ∷ codes "latin1" ∷ []) label then Latin1
+    else if is_among (codes "iso-8859-15" ∷ codes "iso8859-15" ∷ []) label then Latin9
+    else if is_among (codes "windows-1252" ∷ codes "cp1252" ∷ []) label then Windows1252
+    else Unknown
+
+-- the charset of a label
+unfoldable pub charset_of : List ℕ → Charset
+charset_of label = charset_named (plain_label label)
+
+-- iso-8859-15: eight characters are others than in iso-8859-1
+abbrev pub latin9_character : ℕ → ℕ
+latin9_character b =
+    if b == 0xA4 then 0x20AC
+    else if b == 0xA6 then 0x0160
+    else if b == 0xA8 then 0x0161
+    else if b == 0xB4 then 0x017D
+    else if b == 0xB8 then 0x017E
+    else if b == 0xBC then 0x0152
+    else if b == 0xBD then 0x0153
+    else if b == 0xBE then 0x0178 else b
+
+-- windows-1252 from 80 to 9F, with U+FFFD where it has no character
+abbrev pub windows_1252_upper : List ℕ
+windows_1252_upper =
+    0x20AC ∷ 0xFFFD ∷ 0x201A ∷ 0x0192 ∷ 0x201E ∷ 0x2026 ∷ 0x2020 ∷ 0x2021
+    ∷ 0x02C6 ∷ 0x2030 ∷ 0x0160 ∷ 0x2039 ∷ 0x0152 ∷ 0xFFFD ∷ 0x017D ∷ 0xFFFD
+    ∷ 0xFFFD ∷ 0x2018 ∷ 0x2019 ∷ 0x201C ∷ 0x201D ∷ 0x2022 ∷ 0x2013 ∷ 0x2014
+    ∷ 0x02DC ∷ 0x2122 ∷ 0x0161 ∷ 0x203A ∷ 0x0153 ∷ 0xFFFD ∷ 0x017E ∷ 0x0178 ∷ []
+
+abbrev pub windows_1252_character : ℕ → ℕ
+windows_1252_character b = if nat_le 0x80 b && nat_le b 0x9F then slice_index windows_1252_upper (b - 0x80) else b
+
+-- the characters of bytes
+abbrev pub characters : Charset → List ℕ → List ℕ
+characters Utf8 bytes = lossy_chars bytes
+characters Latin1 bytes = bytes
+characters Latin9 bytes = map latin9_character bytes
+characters Windows1252 bytes = map windows_1252_character bytes
+characters Unknown bytes = map (λ b. if nat_lt b 0x80 then b else 0xFFFD) bytes
+
+-- the text of bytes
+unfoldable pub text_of : Charset → List ℕ → List ℕ
+text_of charset bytes = encode_utf8_all (characters charset bytes)

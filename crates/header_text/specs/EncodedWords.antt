@@ -1,0 +1,148 @@
+-- Encoded words in an unfolded value (RFC 2047).
+use Rattle.std.specs.Prelude.{◌≡◌, ℕ, zero, suc, ◌-◌, Bool, true, false, not, ◌&&◌, ◌||◌, ◌==◌, nat_le, nat_lt, IsTrue, List, [], ◌∷◌, ◌++◌, length, Option, Some, None, if◌then◌else◌, option_map, encode_utf8_all}
+use Rattle.std.specs.List.{list_all}
+use Rattle.bstr.specs.Utf8.{lossy_chars}
+use Rattle.header_text.specs.Blanks.{is_blank}
+use Rattle.header_text.specs.Escapes.{q_bytes}
+use Rattle.header_text.specs.Base64.{base64_bytes}
+use Rattle.header_text.specs.Charsets.{charset_of, text_of}
+
+-- `=?charset?encoding?text?=`
+pub record EncodedWord : Type 0 where
+  pub charset : List ℕ
+  pub encoding : ℕ
+  pub text : List ℕ
+
+abbrev pub question : ℕ
+question = 0x3F
+
+abbrev pub equals_sign : ℕ
+equals_sign = 0x3D
+
+-- how an encoded word is written
+abbrev pub spelled : EncodedWord → List ℕ
+spelled w = equals_sign ∷ question ∷ (w.charset ++ question ∷ w.encoding ∷ question ∷ (w.text ++ question ∷ equals_sign ∷ []))
+
+-- 33 to 126 but for `?`
+abbrev pub is_charset_byte : ℕ → Bool
+is_charset_byte b = nat_le 33 b && nat_le b 126 && not (b == question)
+
+-- 32 to 126 but for `?`
+abbrev pub is_text_byte : ℕ → Bool
+is_text_byte b = nat_le 32 b && nat_le b 126 && not (b == question)
+
+abbrev pub is_q : ℕ → Bool
+is_q encoding = (encoding == 0x51) || (encoding == 0x71)
+
+abbrev pub is_b : ℕ → Bool
+is_b encoding = (encoding == 0x42) || (encoding == 0x62)
+
+-- a charset of one or more bytes, one of the two encodings, a text
+abbrev pub is_well_formed : EncodedWord → Bool
+is_well_formed w =
+    nat_lt 0 (length w.charset) && list_all is_charset_byte w.charset && (is_q w.encoding || is_b w.encoding) && list_all is_text_byte w.text
+
+-- an encoded word begins the bytes
+abbrev pub BeginsWord : List ℕ → EncodedWord → Type 0
+BeginsWord bytes w = IsTrue (is_well_formed w) × ((later : List ℕ) × (bytes ≡ spelled w ++ later))
+
+-- ---- the encoded word that begins some bytes, if one does: there is one at most
+
+-- what stands before the first `?`, and what follows it
+abbrev pub cut_at_question : List ℕ → Option (List ℕ × List ℕ)
+cut_at_question [] = None
+cut_at_question (b ∷ bs) =
+    elim (b == question) [ true ↦ Some ([], bs) | false ↦ option_map (λ parts. (b ∷ parts.0, parts.1)) (cut_at_question bs) ]
+
+-- what follows a front, where the bytes have it
+abbrev pub after : List ℕ → List ℕ → Option (List ℕ)
+after [] bytes = Some bytes
+after (c ∷ front) [] = None
+after (c ∷ front) (b ∷ bytes) = elim (b == c) [ true ↦ after front bytes | false ↦ None ]
+
+-- the word of these three parts, if they make one
+abbrev pub word_of : List ℕ → List ℕ → List ℕ → Option EncodedWord
+word_of charset (encoding ∷ []) text =
+    let w : EncodedWord = record { charset = charset; encoding = encoding; text = text } in if is_well_formed w then Some w else None
+word_of charset encoding text = None
+
+infixl 10 ◌>>=◌
+abbrev pub ◌>>=◌ : {A B : Type 0} → Option A → (A → Option B) → Option B
+(Some x) >>= f = f x
+None >>= f = None
+
+unfoldable pub word_at : List ℕ → Option EncodedWord
+word_at bytes =
+    after (equals_sign ∷ question ∷ []) bytes
+    >>= (λ rest. cut_at_question rest
+    >>= (λ charset. cut_at_question charset.1
+    >>= (λ encoding. cut_at_question encoding.1
+    >>= (λ text. after (equals_sign ∷ []) text.1
+    >>= (λ later. word_of charset.0 encoding.0 text.0)))))
+
+-- ---- all encoded words of a value: the leftmost, then the leftmost at or after its end, and so on
+
+-- an encoded word, and the text between the one before it, or the value's beginning, and it
+pub record WordAfter : Type 0 where
+  pub between : List ℕ
+  pub word : EncodedWord
+
+-- the encoded words, and the text behind the last
+pub record Pieces : Type 0 where
+  pub words : List WordAfter
+  pub rest : List ℕ
+
+-- a byte more in front, of the text before the first word
+abbrev pub onto_front : ℕ → List WordAfter → List ℕ → Pieces
+onto_front b [] rest = record { words = []; rest = b ∷ rest }
+onto_front b (w ∷ ws) rest = record { words = record { between = b ∷ w.between; word = w.word } ∷ ws; rest = rest }
+
+-- the pieces of what follows so many bytes
+abbrev pub pieces_behind : ℕ → List ℕ → Pieces
+pieces_behind skipped [] = record { words = []; rest = [] }
+pieces_behind (suc skipped) (b ∷ bs) = pieces_behind skipped bs
+pieces_behind zero (b ∷ bs) = elim (word_at (b ∷ bs)) [
+  | Some w ↦ let later : Pieces = pieces_behind (length (spelled w) - 1) bs in record { words = record { between = []; word = w } ∷ later.words; rest = later.rest }
+  | None ↦ let later : Pieces = pieces_behind zero bs in onto_front b later.words later.rest
+]
+
+abbrev pub pieces : List ℕ → Pieces
+pieces value = pieces_behind zero value
+
+-- no encoded word begins at a byte of a text, where later follows it
+abbrev pub NoneBegins : List ℕ → List ℕ → Type 0
+NoneBegins [] later = Unit {0}
+NoneBegins (b ∷ bs) later = ((w : EncodedWord) → ¬ BeginsWord (b ∷ (bs ++ later)) w) × NoneBegins bs later
+
+-- these are the value's encoded words, each the leftmost at or after the end of the one before
+abbrev pub AreLeftmost : List ℕ → List WordAfter → List ℕ → Type 0
+AreLeftmost value [] rest = (value ≡ rest) × NoneBegins rest []
+AreLeftmost value (w ∷ ws) rest = (later : List ℕ) × (value ≡ w.between ++ (spelled w.word ++ later)) × IsTrue (is_well_formed w.word)
+    × NoneBegins w.between (spelled w.word ++ later) × AreLeftmost later ws rest
+
+-- ---- decoding
+
+-- an encoded word alone
+abbrev pub word_text : EncodedWord → List ℕ
+word_text w = text_of (charset_of w.charset) (if is_q w.encoding then q_bytes w.text else base64_bytes w.text)
+
+-- any other text: UTF-8 with U+FFFD
+abbrev pub plain_text : List ℕ → List ℕ
+plain_text bytes = encode_utf8_all (lossy_chars bytes)
+
+-- the text between two encoded words: nothing where it is spaces and tabs alone
+abbrev pub text_between : List ℕ → List ℕ
+text_between bytes = if list_all is_blank bytes then [] else plain_text bytes
+
+-- words that follow an encoded word
+abbrev pub later_words_text : List WordAfter → List ℕ
+later_words_text [] = []
+later_words_text (w ∷ ws) = text_between w.between ++ (word_text w.word ++ later_words_text ws)
+
+abbrev pub words_text : List WordAfter → List ℕ
+words_text [] = []
+words_text (w ∷ ws) = plain_text w.between ++ (word_text w.word ++ later_words_text ws)
+
+-- the text of an unfolded value
+unfoldable pub decoded : List ℕ → List ℕ
+decoded value = words_text (pieces value).words ++ plain_text (pieces value).rest

@@ -1,0 +1,38 @@
+//! Spaces and tabs.
+ghost use Rattle.std.specs.Prelude.{◌≡◌};
+ghost use Rattle.header_text.specs.Blanks.{is_blank as is_blank_of, after_blanks as after_blanks_of, before_blanks as before_blanks_of};
+
+/// A space or a tab.
+pub fn is_blank(b: u8) -> bool
+    ensures { result ≡ is_blank_of b }
+{
+    b == b' ' || b == b'\t'
+}
+
+/// The bytes behind the spaces and tabs in front.
+pub fn after_blanks(bytes: &[u8]) -> &[u8]
+    ensures { result.now ≡ after_blanks_of bytes.now }
+{
+    let mut rest = bytes;
+    while let Some((first, others)) = rest.split_first() {
+        if !is_blank(*first) {
+            break;
+        }
+        rest = others;
+    }
+    rest
+}
+
+/// The bytes before the spaces and tabs at the end.
+pub fn before_blanks(bytes: &[u8]) -> &[u8]
+    ensures { result.now ≡ before_blanks_of bytes.now }
+{
+    let mut rest = bytes;
+    while let Some((last, others)) = rest.split_last() {
+        if !is_blank(*last) {
+            break;
+        }
+        rest = others;
+    }
+    rest
+}

@@ -1,0 +1,75 @@
+//! Fields, and the line that begins one.
+ghost use Rattle.std.specs.Prelude.{◌≡◌, ◌<◌, ◌≤◌, ◌↔◌, length, take, drop, map, IsTrue, IfSome, option_map};
+ghost use Rattle.std.specs.Char.{to_ascii_lowercase};
+ghost use Rattle.header_text.specs.Blanks.{split_while};
+ghost use Rattle.header_text.specs.Headers.{HeaderField, field_of_line, named as named_of, is_name_byte as is_name_byte_of, is_continuation as is_continuation_of};
+
+use crate::blanks::after_blanks;
+
+/// A field of a header: its name, and all bytes after its colon, line breaks and continuation lines included.
+#[derive(Clone, Copy, Debug)]
+pub struct Field<'a> {
+    /// One or more bytes 33 to 126 other than the colon.
+    pub name: &'a [u8],
+    /// As it stands in the lines; unfold it before it is read.
+    pub body: &'a [u8],
+}
+
+impl Field<'_> {
+    /// Whether the field has this name, in any ASCII case.
+    pub fn is(&self, name: &[u8]) -> bool
+        ensures { IsTrue result ↔ (map to_ascii_lowercase self.now.name.now ≡ map to_ascii_lowercase name.now) }
+    {
+        self.name.eq_ignore_ascii_case(name)
+    }
+}
+
+/// Whether the line continues the field before it.
+pub fn is_continuation(line: &[u8]) -> bool
+    ensures { result ≡ is_continuation_of line.now }
+{
+    matches!(line, [b' ' | b'\t', ..])
+}
+
+/// Whether a name may have the byte: 33 to 126, but no colon.
+fn is_name_byte(b: u8) -> bool
+    ensures { result ≡ is_name_byte_of b }
+{
+    matches!(b, 33..=126) && b != b':'
+}
+
+/// The bytes behind the name in front.
+fn after_name(line: &[u8]) -> &[u8]
+    ensures { result.now ≡ (split_while is_name_byte_of line.now).1 }
+{
+    let mut rest = line;
+    while let Some((first, others)) = rest.split_first() {
+        if !is_name_byte(*first) {
+            break;
+        }
+        rest = others;
+    }
+    rest
+}
+
+/// A name that isn't empty, then what begins with a colon.
+fn named<'a>(name: &'a [u8], rest: &'a [u8]) -> Option<Field<'a>>
+    ensures { option_map (λ f. record { name = f.name.now; body = f.body.now }) result ≡ named_of name.now rest.now }
+{
+    if name.is_empty() {
+        return None;
+    }
+    match rest {
+        [b':', body @ ..] => Some(Field { name, body }),
+        _ => None,
+    }
+}
+
+/// The field that a line begins, without its continuations.
+pub fn field_of_line(line: &[u8]) -> Option<Field<'_>>
+    ensures { option_map (λ f. record { name = f.name.now; body = f.body.now }) result ≡ field_of_line line.now }
+{
+    let rest = after_name(line);
+    let name = &line[..line.len() - rest.len()];
+    named(name, after_blanks(rest))
+}
