@@ -1,1 +1,3 @@
 mod RowsRcfile
+pub mod Searches
+pub mod Trimming

@@ -1,1 +1,3 @@
+pub mod Blanks
+pub mod Path
 pub mod Rcfile

@@ -1,8 +1,10 @@
 //! Runs of mairix: what the words of a command line and an rcfile ask for.
 #![tactic(auto)]
 
+mod blanks;
 mod command_line;
 mod owned_text;
+mod path;
 mod rcfile;
 
 pub use command_line::{Plan, UsageFault};
