@@ -1,2 +1,4 @@
 mod RowsRcfile
 pub mod RawTexts
+pub mod Searches
+pub mod Trimming

@@ -3,7 +3,9 @@ use Rattle.std.proofs.Common.{◌≡◌, codes, refl, List, [], ◌∷◌, ◌++
 use Rattle.bstr.proofs.Computing.{computing}
 use Rattle.std.specs.Str.{chars}
 use Rattle.std.specs.Char.{encode_utf8}
-use Rattle.mairix_tool.specs.Rcfile.{is_path, rc_of, trimmed}
+use Rattle.mairix_tool.specs.Blanks.{trimmed}
+use Rattle.mairix_tool.specs.Path.{is_path}
+use Rattle.mairix_tool.specs.Rcfile.{rc_of}
 use Rattle.mairix_tool.specs.declared.rcfile.Name.TheVariants as name
 use Rattle.mairix_tool.specs.declared.rcfile.RcFault.TheVariants.{BadLine, NotSupported, Wildcard, Expansion, Missing}
 

@@ -1,3 +1,5 @@
+pub mod Blanks
+pub mod Path
 pub mod Rcfile
 pub mod Faults
 pub mod FaultTexts

@@ -5,6 +5,8 @@ use Rattle.std.specs.Option.{option_to_list, is_none}
 use Rattle.std.specs.Str.{bytes_eq, is_utf8}
 use Rattle.bstr.specs.Text.{lines_of, without_terminator}
 use Rattle.contract_words.specs.Answers.{◌>>=◌, collect_from}
+use Rattle.mairix_tool.specs.Blanks.{trimmed}
+use Rattle.mairix_tool.specs.Path.{is_path, has_expansion, has_wildcard}
 use Rattle.mairix_tool.specs.declared.rcfile.Name.{Name}
 use Rattle.mairix_tool.specs.declared.rcfile.Name.TheVariants as name
 use Rattle.mairix_tool.specs.declared.rcfile.Rc.{Rc}
@@ -12,33 +14,6 @@ use Rattle.mairix_tool.specs.declared.rcfile.RcFault.{RcFault}
 use Rattle.mairix_tool.specs.declared.rcfile.RcFault.TheVariants.{BadLine, NotSupported, Wildcard, Expansion, Missing, OutOfMemory}
 use Rattle.mairix_tool.specs.declared.rcfile.Setting.{Setting}
 use Rattle.mairix_tool.specs.declared.rcfile.Setting.TheVariants.{Archives, Database, Mfolder}
-
--- ---- texts
-
--- what can name a file: 1 to 4,096 bytes, none of them LF or NUL
-abbrev pub is_path : List ℕ → Bool
-is_path text = nat_lt 0 (length text) && (nat_le (length text) 4096 && not (list_any (λ b. b == 10 || b == 0) text))
-
-abbrev pub is_blank : ℕ → Bool
-is_blank b = b == 32 || b == 9
-
--- the text without the spaces and tabs at both ends
-unfoldable pub trimmed : List ℕ → List ℕ
-trimmed text =
-    let rest = drop (prefix_len is_blank text) text in
-    take (length rest - suffix_len is_blank rest) rest
-
-abbrev pub has_three_dots : List ℕ → Bool
-has_three_dots [] = false
-has_three_dots (b ∷ text) = starts_with nat_eq (b ∷ text) (codes "...") || has_three_dots text
-
--- a name that would stand for other names: `*`, `?`, `[` or `...` anywhere
-abbrev pub has_wildcard : List ℕ → Bool
-has_wildcard text = list_any (λ b. b == 42 || (b == 63 || b == 91)) text || has_three_dots text
-
--- a name that a shell would expand: `$` anywhere, or `~` at the front
-abbrev pub has_expansion : List ℕ → Bool
-has_expansion text = list_any (λ b. b == 36) text || starts_with nat_eq text (codes "~")
 
 -- ---- one line
 

@@ -2,6 +2,7 @@
 #![tactic(auto)]
 
 mod answer;
+mod blanks;
 mod command_line;
 mod explanation;
 mod fault;
@@ -9,6 +10,7 @@ mod file_source;
 mod owned_text;
 mod place;
 mod query_fault;
+mod path;
 mod rcfile;
 
 pub use command_line::{Plan, UsageFault};
