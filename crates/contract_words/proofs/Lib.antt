@@ -1,2 +1,3 @@
 pub mod Collecting
 pub mod Sending
+pub mod DeviceLists

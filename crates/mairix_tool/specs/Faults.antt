@@ -122,3 +122,11 @@ abbrev pub IsOfOutput : Fault → Type 0
 IsOfOutput Out = ⊤
 IsOfOutput Memory = ⊤
 IsOfOutput _ = ⊥
+
+-- want of memory, or a refusal of words, rcfile or query
+abbrev pub IsEarly : Fault → Type 0
+IsEarly (Usage fault) = ⊤
+IsEarly (Rc fault) = ⊤
+IsEarly (Query fault) = ⊤
+IsEarly Memory = ⊤
+IsEarly _ = ⊥

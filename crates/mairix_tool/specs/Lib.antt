@@ -4,3 +4,8 @@ pub mod Rcfile
 pub mod Faults
 pub mod FaultTexts
 pub mod RawAnswers
+pub mod CommandLine
+pub mod MessageTexts
+pub mod Patterns
+pub mod Places
+pub mod Replies

