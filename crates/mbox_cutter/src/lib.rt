@@ -6,6 +6,7 @@ mod device;
 mod event;
 mod line;
 mod memory;
+mod scan;
 mod separator;
 mod std_io;
 mod window;
