@@ -1,5 +1,6 @@
 -- Where a cutter stands in an archive, and how an event moves it, whatever the archive's bytes.
-use Rattle.std.specs.Prelude.{◌≡◌, ◌⊎◌, ℕ, ◌+◌, ◌-◌, ◌*◌, ◌<◌, ◌≤◌, List, length}
+use Rattle.std.specs.Prelude.{◌≡◌, ◌⊎◌, ℕ, ◌+◌, ◌-◌, ◌*◌, ◌<◌, ◌≤◌, List, length, Option}
+use Rattle.std.specs.Io.KnownBytes.{IsAtEnd}
 use Rattle.mbox_cutter.specs.declared.scan.Phase.{Phase}
 use Rattle.mbox_cutter.specs.declared.scan.Phase.TheVariants.{Between, Inside, Ended, Failed}
 use Rattle.mbox_cutter.specs.Lines.{IsLine}
@@ -73,3 +74,10 @@ Nears (Start at line) old new = left new < left old
 Nears (Line line) old new = left new < left old
 Nears (End span size) old new = left new < left old
 Nears (Done all) old new = left new ≤ left old
+
+-- at the archive's end all bytes have been read
+abbrev pub ReadsAll : ArchiveEvent → Option (List ℕ) → Type 0
+ReadsAll (Start at line) bytes = Unit {0}
+ReadsAll (Line line) bytes = Unit {0}
+ReadsAll (End span size) bytes = Unit {0}
+ReadsAll (Done all) bytes = IsAtEnd bytes

@@ -59,13 +59,6 @@ abbrev pub told_result : List ℕ → Result Step CutFault → Result ArchiveEve
 told_result line (Ok e) = Ok (told_at e line)
 told_result line (Err fault) = Err fault
 
--- at the end of the archive all bytes have been read
-abbrev pub EndsAt : Step → Option (List ℕ) → Type 0
-EndsAt (step.Start at) bytes = Unit {0}
-EndsAt step.Line bytes = Unit {0}
-EndsAt (step.End span size) bytes = Unit {0}
-EndsAt (step.Done all) bytes = IsAtEnd bytes
-
 module _ {S : Type 0} where
   abbrev pub place : Scan S → Place
   place s = record { phase = s.phase; offset = s.offset; most = s.most }

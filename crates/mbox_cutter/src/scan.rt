@@ -1,5 +1,5 @@
 //! The place in an archive, and the steps from it.
-ghost use Rattle.std.specs.Prelude.{◌≡◌, Some, false, ◌+◌, ◌-◌, ◌^◌, ◌<◌, ◌≤◌, length, take, drop, IfOk, IfErr, IfSome};
+ghost use Rattle.std.specs.Prelude.{◌≡◌, Some, Ok, false, ◌+◌, ◌-◌, ◌^◌, ◌<◌, ◌≤◌, length, take, drop, IfOk, IfErr, IfSome};
 
 use crate::device::{DeviceFault, Source};
 use crate::event::CutFault;
@@ -51,8 +51,8 @@ impl<'a, S: Source> Scan<'a, S> {
     ghost use Rattle.mbox_cutter.specs.Ahead.{known, Extends};
     ghost use Rattle.mbox_cutter.specs.Lines.{first_length, IsLine};
     ghost use Rattle.mbox_cutter.specs.Coming.{is_device_fault};
-    ghost use Rattle.mbox_cutter.specs.Places.{HasLine, Moves, Nears};
-    ghost use Rattle.mbox_cutter.specs.Scan.{closes_at, is_failed, place, told_at, EndsAt, FailsFirst, HasEnded, IsFresh, IsScan, StepsTo};
+    ghost use Rattle.mbox_cutter.specs.Places.{HasLine, Moves, Nears, ReadsAll};
+    ghost use Rattle.mbox_cutter.specs.Scan.{closes_at, is_failed, place, told_at, FailsFirst, HasEnded, IsFresh, IsScan, StepsTo};
 
     /// The length of the first line, 0 at the end.
     fn line(&mut self) -> Result<usize, CutFault>
@@ -92,7 +92,7 @@ impl<'a, S: Source> Scan<'a, S> {
         ensures live { IfOk result (λ _. is_failed self.new.phase ≡ false) }
         ensures fresh { IfErr result IsFresh }
         ensures end { HasEnded S.rest self.old → HasEnded S.rest self.new }
-        ensures ends { HasEnded S.rest self.old → IfOk result (λ step. EndsAt step (S.rest self.new.window.source.now)) }
+        ensures ends { HasEnded S.rest self.old → IfOk result (λ step. ReadsAll (told_at step self.new.window.line) (S.rest self.new.window.source.now)) }
     {
         'empties: loop {
             let n = match self.line() {
@@ -138,7 +138,7 @@ impl<'a, S: Source> Scan<'a, S> {
         ensures live { IfOk result (λ _. is_failed self.new.phase ≡ false) }
         ensures fresh { IfErr result IsFresh }
         ensures end { HasEnded S.rest self.old → HasEnded S.rest self.new }
-        ensures ends { HasEnded S.rest self.old → IfOk result (λ step. EndsAt step (S.rest self.new.window.source.now)) }
+        ensures ends { HasEnded S.rest self.old → IfOk result (λ step. ReadsAll (told_at step self.new.window.line) (S.rest self.new.window.source.now)) }
     {
         let n = match self.line() {
             Ok(n) => n,
@@ -220,10 +220,11 @@ impl<'a, S: Source> Scan<'a, S> {
         ensures moves { IfOk result (λ step. Moves (told_at step self.new.window.line) (place self.old) (place self.new)) }
         ensures line { IfOk result (λ step. HasLine (told_at step self.new.window.line)) }
         ensures nears { IfOk result (λ step. Nears (told_at step self.new.window.line) (place self.old) (place self.new)) }
+        ensures done { self.old.phase ≡ Phase.Ended → result ≡ Ok (Step.Done self.old.offset) }
         ensures live { IfOk result (λ _. is_failed self.new.phase ≡ false) }
         ensures fresh { IfErr result IsFresh }
         ensures end { HasEnded S.rest self.old → HasEnded S.rest self.new }
-        ensures ends { HasEnded S.rest self.old → IfOk result (λ step. EndsAt step (S.rest self.new.window.source.now)) }
+        ensures ends { HasEnded S.rest self.old → IfOk result (λ step. ReadsAll (told_at step self.new.window.line) (S.rest self.new.window.source.now)) }
     {
         match self.phase {
             Phase::Between => self.start(),
