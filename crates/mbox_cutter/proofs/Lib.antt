@@ -1,11 +1,14 @@
 pub mod FirstLines
+pub mod KnownSteps
 pub mod LineLists
 pub mod LinesAreCut
+pub mod Machine
 pub mod OnlyLines
 pub mod Parts
 mod RowsArchives
 mod RowsEvents
 mod RowsLines
 mod RowsSeparators
+pub mod Steps
 pub mod Tokens
 pub mod Windows

@@ -1,8 +1,14 @@
 pub mod Ahead
 pub mod Archives
+pub mod Coming
+pub mod Cutter
 pub mod Events
 pub mod Lines
 pub mod Memory
 pub mod MemoryFields
+pub mod Places
+pub mod Progress
+pub mod Resume
+pub mod Scan
 pub mod Separators
 pub mod Window

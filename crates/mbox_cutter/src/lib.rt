@@ -2,15 +2,18 @@
 #![tactic(auto)]
 
 mod buffer;
+mod cutter;
 mod device;
 mod event;
 mod line;
 mod memory;
+mod scan;
 mod separator;
 mod std_io;
 mod window;
 
 pub use buffer::Buffer;
+pub use cutter::Cutter;
 pub use device::{DeviceFault, Out, Source, send};
 pub use event::{CutFault, Event};
 pub use line::{is_empty_line, line_end, lines_law};

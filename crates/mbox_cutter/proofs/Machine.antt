@@ -1,0 +1,75 @@
+-- How what is told goes on from line to line.
+use Rattle.std.proofs.Common.{◌≡◌, ℕ, ◌+◌, ◌-◌, ◌≤◌, Bool, true, false, cond, ◌||◌, ◌⊎◌, inl, inr, List, [], ◌∷◌, length, refl, ap, sym, arith, add_assoc, add-zero, zero-add}
+use Rattle.std.specs.Str.{bytes_eq}
+use Rattle.std.proofs.lemmas.Slice.Eq.{bytes_eq-Decides}
+use Rattle.mbox_cutter.specs.Lines.{is_empty}
+use Rattle.mbox_cutter.specs.Separators.{is_separator}
+use Rattle.mbox_cutter.specs.Archives.{marked, grouped, is_refused, total, messages_from, without_closing}
+use Rattle.mbox_cutter.specs.Events.{Start, Line, End, told}
+use Rattle.mbox_cutter.specs.Resume.{told_between, told_inside}
+use Rattle.mbox_cutter.proofs.FirstLines.{not_true}
+
+-- a line that isn't empty is never the closing one
+without_closing-full : (l : List ℕ) (ls : List (List ℕ)) → is_empty l ≡ false → without_closing (l ∷ ls) ≡ l ∷ without_closing ls
+without_closing-full l [] e = rw e
+without_closing-full l (m ∷ ls) e = refl
+
+-- what is taken since
+sub_front : (a b : ℕ) → (a + b) - a ≡ b
+sub_front a b = omega arith
+
+module _ (l : List ℕ) (ls : List (List ℕ)) where
+  -- an empty line between two messages
+  pub between-empty : (all at : ℕ) → is_empty l ≡ true → is_separator l ≡ false → told_between all at (l ∷ ls) ≡ told_between all (at + length l) ls
+  between-empty all at e s = rw (e, s) (ap (λ (n : ℕ). cond (is_refused (marked true ls)) [] (told all (messages_from n (grouped (marked true ls)).1))) (sym (add_assoc at (length l) (total (grouped (marked true ls)).0))))
+
+  -- a start
+  pub between-start : (all at : ℕ) → is_separator l ≡ true → is_empty l ≡ false → told_between all at (l ∷ ls) ≡ Start at l ∷ told_inside all (at + length l) at 0 ls
+  between-start all at s e = rw (s, e) (simp (add-zero, zero-add, add_assoc, sub_front))
+
+  -- no mbox
+  pub between-refused : (all at : ℕ) → is_separator l ≡ false → is_empty l ≡ false → told_between all at (l ∷ ls) ≡ []
+  between-refused all at s e = rw (s, e)
+
+  pub inside-line : (all at start size : ℕ) → is_empty l ≡ false → told_inside all at start size (l ∷ ls) ≡ Line l ∷ told_inside all (at + length l) start (size + length l) ls
+  inside-line all at start size e = rw e (rw (without_closing-full l (grouped (marked false ls)).0 e) (simp add_assoc))
+
+-- the archive ends with an empty line
+pub inside-closing_last : (l : List ℕ) (all at start size : ℕ) → is_empty l ≡ true → told_inside all at start size (l ∷ []) ≡ End ((at + length l) - start) size ∷ told_between all (at + length l) []
+inside-closing_last l all at start size e = rw e (simp add-zero)
+
+module _ (l m : List ℕ) (ls : List (List ℕ)) where
+  -- an empty line before a start
+  pub inside-closing : (all at start size : ℕ) → is_empty l ≡ true → is_separator m ≡ true → is_empty m ≡ false →
+      told_inside all at start size (l ∷ m ∷ ls) ≡ End ((at + length l) - start) size ∷ told_between all (at + length l) (m ∷ ls)
+  inside-closing all at start size e s f = rw (e, s, f) (rw e (simp add-zero))
+
+  -- another empty line
+  pub inside-empty : (all at start size : ℕ) → is_empty l ≡ true → is_separator m ≡ false →
+      told_inside all at start size (l ∷ m ∷ ls) ≡ Line l ∷ told_inside all (at + length l) start (size + length l) (m ∷ ls)
+  inside-empty all at start size e s = rw (e, s) (simp add_assoc)
+
+pub inside-nil : (all at start size : ℕ) → told_inside all at start size [] ≡ End (at - start) size ∷ told_between all at []
+inside-nil all at start size = simp add-zero
+
+-- a separator isn't empty
+either : (a b : Bool) → (a || b) ≡ true → (a ≡ true) ⊎ (b ≡ true)
+either true b e = inl refl
+either false b e = inr e
+
+no_separator : (l m : List ℕ) → bytes_eq l m ≡ true → is_separator m ≡ false → is_separator l ≡ true → ⊥
+no_separator l m h none s = let is : l ≡ m = (bytes_eq-Decides l m).0 h in let c : is_separator l ≡ is_separator m = ap is_separator is in cc
+
+pub separator-full : (l : List ℕ) → is_separator l ≡ true → is_empty l ≡ false
+unfolding is_separator is_empty
+separator-full l s = not_true (is_empty l) (λ e. elim (either (bytes_eq l (10 ∷ [])) (bytes_eq l (13 ∷ 10 ∷ [])) e) as (λ (_ : _). ⊥) [
+  | inl h ↦ no_separator l (10 ∷ []) h refl s
+  | inr h ↦ no_separator l (13 ∷ 10 ∷ []) h refl s
+])
+
+pub empty-short : (l : List ℕ) → is_empty l ≡ true → length l ≤ 2
+unfolding is_empty
+empty-short l e = elim (either (bytes_eq l (10 ∷ [])) (bytes_eq l (13 ∷ 10 ∷ [])) e) as (λ (_ : _). length l ≤ 2) [
+  | inl h ↦ let is : length l ≡ 1 = ap length ((bytes_eq-Decides l (10 ∷ [])).0 h) in omega arith
+  | inr h ↦ let is : length l ≡ 2 = ap length ((bytes_eq-Decides l (13 ∷ 10 ∷ [])).0 h) in omega arith
+]

@@ -1,0 +1,221 @@
+-- A step of a cutter is a step of what still comes.
+use Rattle.std.proofs.Common.{◌≡◌, ℕ, zero, suc, ◌+◌, ◌-◌, ◌<◌, ◌≤◌, Bool, true, false, cond, ◌&&◌, ◌||◌, nat_eq, nat_lt, nat_le, List, [], ◌∷◌, Option, Some, None, length, take, drop, refl, ap, sym, ◌∙◌, arith, add_assoc, add-zero, zero-add}
+use Rattle.std.proofs.lemmas.Bool.Decides.{nat_tests}
+use Rattle.std.proofs.lemmas.List.{length-drop, length-take-le}
+use Rattle.std.specs.Option.{option_map_or}
+use Rattle.mbox_cutter.specs.declared.event.CutFault.{CutFault}
+use Rattle.mbox_cutter.specs.declared.event.CutFault.TheVariants.{NotAnMbox, ArchiveTooLong}
+use Rattle.mbox_cutter.specs.declared.scan.Phase.TheVariants.{Between, Inside, Ended}
+use Rattle.mbox_cutter.specs.Lines.{lines, first_length, is_empty}
+use Rattle.mbox_cutter.specs.Separators.{is_separator}
+use Rattle.mbox_cutter.specs.Archives.{Message, messages, marked, grouped, is_refused, total, messages_from}
+use Rattle.mbox_cutter.specs.Events.{ArchiveEvent, Start, Line, End, Done, told, events, first_full_end, refusal_of, Coming, coming_of}
+use Rattle.mbox_cutter.specs.Coming.{Takes, Refuses}
+use Rattle.mbox_cutter.specs.Scan.{closes_at}
+use Rattle.mbox_cutter.specs.Resume.{told_between, told_inside, refusal_between, too_long, resume}
+use Rattle.mbox_cutter.proofs.FirstLines.{first_length-le, first_length-positive}
+use Rattle.mbox_cutter.proofs.LineLists.{lines-cons, lines-nil}
+use Rattle.mbox_cutter.proofs.Machine.{between-empty, between-start, inside-line, inside-closing_last, inside-closing, inside-empty, inside-nil, separator-full}
+
+-- ---- refusals
+
+pub too_long-beyond : (most all : ℕ) → most < all → too_long most all ≡ Some ArchiveTooLong
+too_long-beyond most all h = let t : nat_lt most all ≡ true = grind (arith, nat_tests) in rw t
+
+refusal-start : (at most rest : ℕ) (l : List ℕ) (ls : List (List ℕ)) → is_separator l ≡ true → is_empty l ≡ false → refusal_between at most (l ∷ ls) rest ≡ too_long most (at + rest)
+refusal-start at most rest l ls s e = rw (s, e) refl
+
+refusal-empty : (at most rest rest' : ℕ) (l : List ℕ) (ls : List (List ℕ)) → is_separator l ≡ false → is_empty l ≡ true → rest ≡ length l + rest' →
+    refusal_between at most (l ∷ ls) rest ≡ refusal_between (at + length l) most ls rest'
+refusal-empty at most rest rest' l ls s e h = rw (h, s, e) (simp add_assoc)
+
+refusal-none : (at most rest : ℕ) (l : List ℕ) (ls : List (List ℕ)) → is_separator l ≡ false → is_empty l ≡ false → at + length l ≤ most →
+    refusal_between at most (l ∷ ls) rest ≡ Some NotAnMbox
+refusal-none at most rest l ls s e h = let t : nat_le (at + length l) most ≡ true = grind (arith, nat_tests) in rw (s, e) (rw t refl)
+
+first_full_end-le : (l : List ℕ) (ls : List (List ℕ)) → length l ≤ first_full_end (l ∷ ls)
+first_full_end-le l ls = elim (is_empty l) as (λ v. length l ≤ cond v (length l + first_full_end ls) (length l)) [ true ↦ omega arith | false ↦ omega arith ]
+
+and-no : (a : Bool) → (a && false) ≡ false
+and-no true = refl
+and-no false = refl
+
+refusal-long : (at most rest : ℕ) (l : List ℕ) (ls : List (List ℕ)) → most < at + length l → length l ≤ rest → refusal_between at most (l ∷ ls) rest ≡ Some ArchiveTooLong
+refusal-long at most rest l ls h k =
+    let end : length l ≤ first_full_end (l ∷ ls) = first_full_end-le l ls in
+    let f : nat_le (at + first_full_end (l ∷ ls)) most ≡ false = grind (arith, nat_tests) in
+    rw f (rw and-no (too_long-beyond most (at + rest) (omega arith)))
+
+same_coming : {a b : List ArchiveEvent} {r q : Option CutFault} → a ≡ b → r ≡ q → ◌≡◌ {A = Coming} (record { events = a; refusal = r }) (record { events = b; refusal = q })
+same_coming e f = cc
+
+-- ---- the end
+
+no_bytes : (b : List ℕ) → 0 ≡ first_length b → b ≡ []
+no_bytes [] e = refl
+no_bytes (x ∷ xs) e = let h : 0 < first_length (x ∷ xs) = first_length-positive (x ∷ xs) (omega arith) in absurd (omega arith)
+
+pub step-done : (at most : ℕ) (b : List ℕ) → 0 ≡ first_length b → at ≤ most → Takes (Done at) (resume Between at most b) (resume Ended at most b)
+unfolding resume
+step-done at most b e h =
+    let t : nat_lt most at ≡ false = grind (arith, nat_tests) in
+    rw (no_bytes b e) (rw lines-nil (rw (add-zero, t) (refl, refl, refl)))
+
+pub step-end : (at most start size : ℕ) (b : List ℕ) → 0 ≡ first_length b → Takes (End (at - start) size) (resume (Inside start size) at most b) (resume Between at most b)
+unfolding resume
+step-end at most start size b e = rw (no_bytes b e) (rw lines-nil (inside-nil (at + 0) at start size, refl))
+
+pub ended-stays : (at most : ℕ) (b : List ℕ) → Takes (Done at) (resume Ended at most b) (resume Ended at most b)
+unfolding resume
+ended-stays at most b = (refl, refl, refl)
+
+-- ---- the first line is behind the limit
+
+first-some : (b : List ℕ) (n : ℕ) → n ≡ first_length b → 0 < n → 0 < length b
+first-some b n e h = let le : first_length b ≤ length b = first_length-le b in omega arith
+
+-- the first line of n bytes, and what follows it
+module _ (b : List ℕ) (n : ℕ) (e : n ≡ first_length b) where
+  first-lines : 0 < n → lines b ≡ take n b ∷ lines (drop n b)
+  first-lines h = rw e (lines-cons b (first-some b n e h))
+
+  first-taken : length (take n b) ≡ n
+  first-taken = let le : first_length b ≤ length b = first_length-le b in length-take-le n b (omega arith)
+
+  first-rest : length b ≡ n + length (drop n b)
+  first-rest =
+      let le : first_length b ≤ length b = first_length-le b in
+      let d : length (drop n b) ≡ length b - n = length-drop n b in
+      omega arith
+
+  first-all : (at : ℕ) → at + length b ≡ (at + n) + length (drop n b)
+  first-all at = let rest : length b ≡ n + length (drop n b) = first-rest in omega arith
+
+pub step-long : (at most : ℕ) (b : List ℕ) → at ≤ most → most < at + first_length b → Refuses ArchiveTooLong (resume Between at most b)
+unfolding resume
+step-long at most b le h =
+    let len : length (take (first_length b) b) ≡ first_length b = first-taken b (first_length b) refl in
+    rw (first-lines b (first_length b) refl (omega arith))
+    (refusal-long at most (length b) (take (first_length b) b) (lines (drop (first_length b) b)) (rw len h) (rw len (first_length-le b)))
+
+pub step-long_inside : (at most start size : ℕ) (b : List ℕ) → most < at + first_length b → Refuses ArchiveTooLong (resume (Inside start size) at most b)
+unfolding resume
+step-long_inside at most start size b h = too_long-beyond most (at + length b) (let le : first_length b ≤ length b = first_length-le b in omega arith)
+
+-- ---- a first line
+
+module _ (at most n : ℕ) (b : List ℕ) (e : n ≡ first_length b) (h : 0 < n) where
+  pub step-start : is_separator (take n b) ≡ true → Takes (Start at (take n b)) (resume Between at most b) (resume (Inside at 0) (at + n) most (drop n b))
+  unfolding resume
+  step-start s =
+      let full : is_empty (take n b) ≡ false = separator-full (take n b) s in (
+        ap (told_between (at + length b) at) (first-lines b n e h) ∙ between-start (take n b) (lines (drop n b)) (at + length b) at s full
+            ∙ ap (λ (k : ℕ). Start at (take n b) ∷ told_inside (at + length b) (at + k) at 0 (lines (drop n b))) (first-taken b n e)
+            ∙ ap (λ (k : ℕ). Start at (take n b) ∷ told_inside k (at + n) at 0 (lines (drop n b))) (first-all b n e at),
+        sym (ap (λ (ls : List (List ℕ)). refusal_between at most ls (length b)) (first-lines b n e h) ∙ refusal-start at most (length b) (take n b) (lines (drop n b)) s full ∙ ap (too_long most) (first-all b n e at)),
+      )
+
+  pub step-empty : is_separator (take n b) ≡ false → is_empty (take n b) ≡ true → resume Between at most b ≡ resume Between (at + n) most (drop n b)
+  unfolding resume
+  step-empty s f =
+      same_coming
+      (ap (told_between (at + length b) at) (first-lines b n e h) ∙ between-empty (take n b) (lines (drop n b)) (at + length b) at f s
+      ∙ ap (λ (k : ℕ). told_between (at + length b) (at + k) (lines (drop n b))) (first-taken b n e)
+      ∙ ap (λ (k : ℕ). told_between k (at + n) (lines (drop n b))) (first-all b n e at))
+      (ap (λ (ls : List (List ℕ)). refusal_between at most ls (length b)) (first-lines b n e h)
+      ∙ refusal-empty at most (length b) (length (drop n b)) (take n b) (lines (drop n b)) s f (rw (first-taken b n e) (first-rest b n e))
+      ∙ ap (λ (k : ℕ). refusal_between (at + k) most (lines (drop n b)) (length (drop n b))) (first-taken b n e))
+
+  pub step-refused : is_separator (take n b) ≡ false → is_empty (take n b) ≡ false → at + n ≤ most → Refuses NotAnMbox (resume Between at most b)
+  unfolding resume
+  step-refused s f fits = rw (first-lines b n e h) (refusal-none at most (length b) (take n b) (lines (drop n b)) s f (rw (first-taken b n e) fits))
+
+  -- ---- inside a message
+
+  module _ (start size : ℕ) where
+    pub step-line : is_empty (take n b) ≡ false → Takes (Line (take n b)) (resume (Inside start size) at most b) (resume (Inside start (size + n)) (at + n) most (drop n b))
+    unfolding resume
+    step-line f = (
+      ap (told_inside (at + length b) at start size) (first-lines b n e h) ∙ inside-line (take n b) (lines (drop n b)) (at + length b) at start size f
+          ∙ ap (λ (k : ℕ). Line (take n b) ∷ told_inside (at + length b) (at + k) start (size + k) (lines (drop n b))) (first-taken b n e)
+          ∙ ap (λ (k : ℕ). Line (take n b) ∷ told_inside k (at + n) start (size + n) (lines (drop n b))) (first-all b n e at),
+      ap (too_long most) (sym (first-all b n e at)),
+    )
+
+    -- another empty line
+    step-kept : (m : ℕ) → is_empty (take n b) ≡ true → m ≡ first_length (drop n b) → 0 < m → is_separator (take m (drop n b)) ≡ false →
+        Takes (Line (take n b)) (resume (Inside start size) at most b) (resume (Inside start (size + n)) (at + n) most (drop n b))
+    unfolding resume
+    step-kept m f d k s =
+        let next : lines (drop n b) ≡ take m (drop n b) ∷ lines (drop m (drop n b)) = first-lines (drop n b) m d k in (
+          ap (told_inside (at + length b) at start size) (first-lines b n e h ∙ ap (λ (ls : List (List ℕ)). take n b ∷ ls) next)
+              ∙ inside-empty (take n b) (take m (drop n b)) (lines (drop m (drop n b))) (at + length b) at start size f s
+              ∙ ap (λ (ls : List (List ℕ)). Line (take n b) ∷ told_inside (at + length b) (at + length (take n b)) start (size + length (take n b)) ls) (sym next)
+              ∙ ap (λ (k : ℕ). Line (take n b) ∷ told_inside (at + length b) (at + k) start (size + k) (lines (drop n b))) (first-taken b n e)
+              ∙ ap (λ (k : ℕ). Line (take n b) ∷ told_inside k (at + n) start (size + n) (lines (drop n b))) (first-all b n e at),
+          ap (too_long most) (sym (first-all b n e at)),
+        )
+
+    -- an empty line before a start
+    step-closing : (m : ℕ) → is_empty (take n b) ≡ true → m ≡ first_length (drop n b) → 0 < m → is_separator (take m (drop n b)) ≡ true →
+        Takes (End ((at + n) - start) size) (resume (Inside start size) at most b) (resume Between (at + n) most (drop n b))
+    unfolding resume
+    step-closing m f d k s =
+        let full : is_empty (take m (drop n b)) ≡ false = separator-full (take m (drop n b)) s in
+        let next : lines (drop n b) ≡ take m (drop n b) ∷ lines (drop m (drop n b)) = first-lines (drop n b) m d k in (
+          ap (told_inside (at + length b) at start size) (first-lines b n e h ∙ ap (λ (ls : List (List ℕ)). take n b ∷ ls) next)
+              ∙ inside-closing (take n b) (take m (drop n b)) (lines (drop m (drop n b))) (at + length b) at start size f s full
+              ∙ ap (λ (ls : List (List ℕ)). End ((at + length (take n b)) - start) size ∷ told_between (at + length b) (at + length (take n b)) ls) (sym next)
+              ∙ ap (λ (k : ℕ). End ((at + k) - start) size ∷ told_between (at + length b) (at + k) (lines (drop n b))) (first-taken b n e)
+              ∙ ap (λ (k : ℕ). End ((at + n) - start) size ∷ told_between k (at + n) (lines (drop n b))) (first-all b n e at),
+          ap (λ (ls : List (List ℕ)). refusal_between (at + n) most ls (length (drop n b))) next
+              ∙ refusal-start (at + n) most (length (drop n b)) (take m (drop n b)) (lines (drop m (drop n b))) s full
+              ∙ ap (too_long most) (sym (first-all b n e at)),
+        )
+
+    -- an empty line at the end
+    step-closing_last : is_empty (take n b) ≡ true → 0 ≡ first_length (drop n b) →
+        Takes (End ((at + n) - start) size) (resume (Inside start size) at most b) (resume Between (at + n) most (drop n b))
+    unfolding resume
+    step-closing_last f d =
+        let next : lines (drop n b) ≡ [] = ap lines (no_bytes (drop n b) d) ∙ lines-nil in (
+          ap (told_inside (at + length b) at start size) (first-lines b n e h ∙ ap (λ (ls : List (List ℕ)). take n b ∷ ls) next)
+              ∙ inside-closing_last (take n b) (at + length b) at start size f
+              ∙ ap (λ (ls : List (List ℕ)). End ((at + length (take n b)) - start) size ∷ told_between (at + length b) (at + length (take n b)) ls) (sym next)
+              ∙ ap (λ (k : ℕ). End ((at + k) - start) size ∷ told_between (at + length b) (at + k) (lines (drop n b))) (first-taken b n e)
+              ∙ ap (λ (k : ℕ). End ((at + n) - start) size ∷ told_between k (at + n) (lines (drop n b))) (first-all b n e at),
+          ap (λ (ls : List (List ℕ)). refusal_between (at + n) most ls (length (drop n b))) next ∙ ap (too_long most) (sym (first-all b n e at)),
+        )
+
+    closed-cases : (m : ℕ) → is_empty (take n b) ≡ true → m ≡ first_length (drop n b) → (nat_eq m 0 || is_separator (take m (drop n b))) ≡ true →
+        Takes (End ((at + n) - start) size) (resume (Inside start size) at most b) (resume Between (at + n) most (drop n b))
+    closed-cases zero f d c = step-closing_last f d
+    closed-cases (suc m) f d c = step-closing (suc m) f d (omega arith) (let z : nat_eq (suc m) 0 ≡ false = grind (arith, nat_tests) in rw z at c)
+
+    pub step-closed : is_empty (take n b) ≡ true → closes_at n b ≡ true → Takes (End ((at + n) - start) size) (resume (Inside start size) at most b) (resume Between (at + n) most (drop n b))
+    step-closed f c = closed-cases (first_length (drop n b)) f refl c
+
+    pub step-open : is_empty (take n b) ≡ true → closes_at n b ≡ false → Takes (Line (take n b)) (resume (Inside start size) at most b) (resume (Inside start (size + n)) (at + n) most (drop n b))
+    step-open f c =
+        let k = split_closes (first_length (drop n b)) (is_separator (take (first_length (drop n b)) (drop n b))) c in
+        step-kept (first_length (drop n b)) f refl k.0 k.1
+      where
+        split_closes : (m : ℕ) (t : Bool) → (nat_eq m 0 || t) ≡ false → (0 < m) × (t ≡ false)
+        split_closes zero t c = cc
+        split_closes (suc m) t c = (omega arith, let z : nat_eq (suc m) 0 ≡ false = grind (arith, nat_tests) in rw z at c)
+
+-- ---- the beginning
+
+accepted : (t : Bool) (all : ℕ) (ms : List Message) → cond t [] (told all ms) ≡ option_map_or (told all) (cond t None (Some ms)) []
+accepted true all ms = refl
+accepted false all ms = refl
+
+begin-events : (b : List ℕ) → told_between (0 + length b) 0 (lines b) ≡ events b
+unfolding events messages
+begin-events b =
+    let groups = grouped (marked true (lines b)) in
+    rw (zero-add, zero-add) (accepted (is_refused (marked true (lines b))) (length b) (messages_from (total groups.0) groups.1))
+
+pub begin-resume : (most : ℕ) (b : List ℕ) → resume Between 0 most b ≡ coming_of most b
+unfolding resume refusal_of
+begin-resume most b = same_coming (begin-events b) (simp zero-add)

@@ -1,0 +1,140 @@
+//! The messages of an mbox archive, one event after another.
+ghost use Rattle.std.specs.Prelude.{◌≡◌, [], Ok, Err, false, ◌-◌, ◌^◌, ◌<◌, IfOk};
+ghost use Rattle.std.specs.Option.{option_map};
+ghost use Rattle.std.specs.Borrow.{sem};
+
+use crate::buffer::Buffer;
+use crate::device::Source;
+use crate::event::{CutFault, Event};
+use crate::scan::{Phase, Scan, Step};
+use crate::window::Window;
+use std::alloc::{AllocError, Global};
+use std::marker::Model;
+
+/// Cuts an mbox archive (RFC 4155) into its messages while it reads it once, through a buffer of a fixed size.
+///
+/// A message starts at each separator that is the archive's first line or directly follows an empty line, and its span runs to
+/// the next start or the archive's end. Its text is the span without the separator and without an empty line at its end.
+#[derive(Drop)]
+pub struct Cutter<'a, S: Source> {
+    scan: Scan<'a, S>,
+}
+
+impl<'a, S: Source> Model for Cutter<'a, S> {
+    ghost use Rattle.mbox_cutter.specs.Progress.{Progress};
+
+    ghost Value = { Progress S };
+
+    ghost use Rattle.mbox_cutter.specs.Cutter.{progress, IsCutter};
+
+    ghost view = { progress S.rest };
+
+    ghost invariant = { IsCutter S.rest };
+}
+
+impl<'a, S: Source> Cutter<'a, S> {
+    ghost use Rattle.mbox_cutter.specs.contracts.cutter.Cutter.{the_row};
+    ghost use Rattle.mbox_cutter.specs.Events.{coming_of};
+    ghost use Rattle.mbox_cutter.specs.Places.{HasLine};
+    ghost use Rattle.mbox_cutter.specs.Scan.{is_failed, told_at, told_result};
+    ghost use Rattle.mbox_cutter.specs.Progress.{Advances, LendsLine, Rests, shown, shown_result};
+    ghost use mir.Syntax.{named};
+
+    /// A cutter of what the source still gives, of which at most `most` bytes are allowed. It takes all memory that it needs.
+    pub fn new(alloc: Global, source: &'a mut S, most: u64) -> Result<Self, AllocError>
+        ensures source { IfOk result (λ c. c.source.ghost_name ≡ source.entry.ghost_name) }
+        ensures same { IfOk result (λ c. c.source.now ≡ source.old) }
+        ensures place { IfOk result (λ c. c.place ≡ record { phase = Phase.Between; offset = 0; most = most }) }
+        ensures coming { IfOk result (λ c. c.coming ≡ option_map (coming_of most) (S.rest source.old)) }
+    {
+        let buffer = Buffer::new(alloc)?;
+        Ok(Cutter::over(buffer, source, most))
+    }
+
+    /// The same over a buffer. It takes no memory.
+    pub fn over(buffer: Buffer, source: &'a mut S, most: u64) -> Self
+        ensures source { result.source.ghost_name ≡ source.entry.ghost_name }
+        ensures same { result.source.now ≡ source.old }
+        ensures place { result.place ≡ record { phase = Phase.Between; offset = 0; most = most } }
+        ensures coming { result.coming ≡ option_map (coming_of most) (S.rest source.old) }
+    {
+        Cutter {
+            scan: Scan {
+                window: Window::over(buffer, source),
+                offset: 0,
+                most,
+                phase: Phase::Between,
+            },
+        }
+    }
+
+    /// The source, after what was read, and the buffer.
+    pub fn into_parts(self) -> (&'a mut S, Buffer)
+        ensures name { result.0.ghost_name ≡ self.entry.source.ghost_name }
+        ensures same { result.0.now ≡ self.entry.source.now }
+    {
+        let Cutter { scan } = self;
+        let Scan { window, .. } = scan;
+        window.into_parts()
+    }
+
+    /// The source, after what was read.
+    pub fn into_source(self) -> &'a mut S
+        ensures name { result.ghost_name ≡ self.entry.source.ghost_name }
+        ensures same { result.now ≡ self.entry.source.now }
+    {
+        let (source, _buffer) = self.into_parts();
+        source
+    }
+
+    /// The next event. It takes no memory.
+    ///
+    /// Events come as Start, the lines of the text, End, for each message, and then Done, which every later call answers again.
+    /// A fault ends them: Device, where the source failed in this call; NotAnMbox, where the first line that isn't empty starts no
+    /// message and ends within `most` bytes; else ArchiveTooLong, where the archive has more. Every later call answers Failed.
+    pub fn next_event(&mut self) -> Result<Event<'_>, CutFault>
+        requires count { is_failed self.old.place.phase ≡ false → S.failures self.old.source.now < 2 ^ 64 - 1 }
+        ensures again { self.old.place.phase ≡ Phase.Failed → result ≡ Err CutFault.Failed }
+        ensures once { result ≡ Err CutFault.Failed → self.old.place.phase ≡ Phase.Failed }
+        ensures done { self.old.place.phase ≡ Phase.Ended → result ≡ Ok (Event.Done self.old.place.offset) }
+        ensures line { IfOk result LendsLine }
+        ensures* after { sem 𝓛 (Rests (the_row (record { mir = named 1; lft = [] }) S.row S.Source) self.entry (Advances S.rest S.failures self.old (shown_result result))) }
+    {
+        let step = self.step()?;
+        Ok(self.event(step))
+    }
+
+    /// The next step, or a fault, after which each call has failed.
+    fn step(&mut self) -> Result<Step, CutFault>
+        requires count { is_failed self.old.place.phase ≡ false → S.failures self.old.source.now < 2 ^ 64 - 1 }
+        ensures again { self.old.place.phase ≡ Phase.Failed → result ≡ Err CutFault.Failed }
+        ensures once { result ≡ Err CutFault.Failed → self.old.place.phase ≡ Phase.Failed }
+        ensures done { self.old.place.phase ≡ Phase.Ended → result ≡ Ok (Step.Done self.old.place.offset) }
+        ensures line { IfOk result (λ step. HasLine (told_at step self.new.line)) }
+        ensures advances { Advances S.rest S.failures self.old (told_result self.new.line result) self.new }
+    {
+        if let Phase::Failed = self.scan.phase {
+            return Err(CutFault::Failed);
+        }
+        match self.scan.advance() {
+            Ok(step) => Ok(step),
+            Err(fault) => {
+                self.scan.phase = Phase::Failed;
+                Err(fault)
+            }
+        }
+    }
+
+    /// A step with the line that was taken last.
+    fn event(&self, step: Step) -> Event<'_>
+        ensures { shown result ≡ told_at step self.now.line }
+    {
+        let line = self.scan.window.line();
+        match step {
+            Step::Start { offset } => Event::Start { offset, line },
+            Step::Line => Event::Line(line),
+            Step::End { length, size } => Event::End { length, size },
+            Step::Done { length } => Event::Done { length },
+        }
+    }
+}
