@@ -1,5 +1,6 @@
 pub mod Blanks
 pub mod Headers
+pub mod Places
 pub mod Unfolding
 pub mod Ids
 pub mod Charsets

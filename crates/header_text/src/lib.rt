@@ -4,6 +4,8 @@
 mod blanks;
 mod charset;
 mod field;
+mod field_list;
 
 pub use charset::Charset;
 pub use field::Field;
+pub use field_list::Fields;
