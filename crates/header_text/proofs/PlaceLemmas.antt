@@ -4,7 +4,8 @@ use Rattle.std.specs.Prelude.{slice_range}
 use Rattle.std.proofs.lemmas.List.{take-append-le, drop-append-le, take_all, take_at, drop_at, length-drop, length-take}
 use Rattle.header_text.specs.declared.field_list.Place.{Place}
 use Rattle.header_text.specs.Headers.{HeaderField, fields_size}
-use Rattle.header_text.specs.Places.{next_start, AreInOrder, fields_at, onto_last}
+use Rattle.header_text.specs.Places.{next_start, AreInOrder, fields_at}
+use Rattle.header_text.specs.OpenFields.{onto_last}
 
 -- a range within the front
 pub slice_range-append : (xs ys : List ℕ) (i j : ℕ) → i ≤ j → j ≤ length xs → slice_range (xs ++ ys) i j ≡ slice_range xs i j

@@ -1,5 +1,5 @@
 -- Where fields lie in bytes that hold them one behind another.
-use Rattle.std.specs.Prelude.{ℕ, ◌≤◌, List, [], ◌∷◌, ◌++◌, length, slice_range}
+use Rattle.std.specs.Prelude.{ℕ, ◌≤◌, List, [], ◌∷◌, length, slice_range}
 use Rattle.header_text.specs.declared.field_list.Place.{Place}
 use Rattle.header_text.specs.Headers.{HeaderField}
 
@@ -18,9 +18,3 @@ abbrev pub fields_at : List ℕ → List Place → List HeaderField
 fields_at bytes [] = []
 fields_at bytes (p ∷ ps) =
     record { name = slice_range bytes p.name p.body; body = slice_range bytes p.body (next_start ps (length bytes)) } ∷ fields_at bytes ps
-
--- more bytes at the end of the last field's body
-abbrev pub onto_last : List ℕ → List HeaderField → List HeaderField
-onto_last more [] = []
-onto_last more (f ∷ []) = record { name = f.name; body = f.body ++ more } ∷ []
-onto_last more (f ∷ g ∷ fs) = f ∷ onto_last more (g ∷ fs)

@@ -71,7 +71,7 @@ fn append_both(bytes: &mut Vec<u8>, first: &[u8], second: &[u8]) -> Result<(), A
 }
 
 impl FieldList {
-    ghost use Rattle.header_text.specs.Places.{onto_last};
+    ghost use Rattle.header_text.specs.OpenFields.{onto_last};
 
     pub fn new(alloc: Global) -> Self
         ensures { result ≡ [] }

@@ -1,6 +1,6 @@
-use Rattle.std.proofs.Common.{List, ℕ, ◌∙◌, ap}
+use Rattle.std.proofs.Common.{List, ◌∙◌, ap}
 use Rattle.header_text.specs.Headers.{HeaderField}
-use Rattle.header_text.specs.Places.{onto_last}
+use Rattle.header_text.specs.OpenFields.{onto_last}
 use Rattle.header_text.proofs.PlaceLemmas.{AreInOrder-append, fields_at-append}
 use Rattle.header_text.proofs.field_list.FieldList.extend_last.Goals as goal
 

@@ -9,7 +9,7 @@ field : (c : After-unwrap) → HoldsPushed c.self.inside.bytes.items c.args.fiel
 field c =
     let p : Place = record { name = c.len-name.result; body = c.len.result - length c.args.field.body.now } in
     let places : c.push.new.self.items ≡ c.self.inside.places.items ++ p ∷ [] =
-      rw c.unwrap.ensures at c.push.ensures.items ∙ ap (λ (ps : List Place). ps ++ p ∷ []) c.in_ok-reserve.ensures.items in
+    rw c.unwrap.ensures at c.push.ensures.items ∙ ap (λ (ps : List Place). ps ++ p ∷ []) c.in_ok-reserve.ensures.items in
     pushed c.self.inside.bytes.items c.append_both.new.bytes.items c.args.field.name.now c.args.field.body.now c.self.inside.places.items c.push.new.self.items
     p.name p.body c.self.invariant c.in_ok-append_both.ensures places (c.len-name.ensures ∙ c.self.inside.bytes.ok.0)
     (ap (λ (n : ℕ). n - length c.args.field.body.now) (c.len.ensures ∙ c.append_both.new.bytes.ok.0))
