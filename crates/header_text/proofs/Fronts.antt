@@ -1,6 +1,6 @@
 -- The front of some bytes that passes a test, and blanks at the ends.
-use Rattle.std.proofs.Common.{◌≡◌, ◌∙◌, ◌++◌, ◌-◌, ◌≤◌, ◌+◌, ℕ, Bool, true, false, List, [], ◌∷◌, length, take, drop, reverse, refl, sym, ap, arith, length-append}
-use Rattle.std.proofs.lemmas.List.{take_at, drop_at, reverse-append, reverse-reverse}
+use Rattle.std.proofs.Common.{◌≡◌, ◌∙◌, ◌++◌, ◌-◌, ◌≤◌, ◌+◌, ℕ, Bool, true, false, List, [], ◌∷◌, length, take, reverse, refl, sym, ap, arith, length-append}
+use Rattle.std.proofs.lemmas.List.{take_at, reverse-append, reverse-reverse}
 use Rattle.header_text.specs.Blanks.{is_blank, split_while, after_blanks, before_blanks}
 
 -- the two parts join to the whole

@@ -1,1 +1,4 @@
 mod Fronts
+mod PlaceLemmas
+mod HeaderLemmas
+mod PushLemmas

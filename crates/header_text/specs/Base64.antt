@@ -1,6 +1,6 @@
 -- Base64 (RFC 4648, 4), read leniently: bytes outside the alphabet are skipped, it ends at the first `=`, and a rest of
 -- two or three symbols gives one or two bytes.
-use Rattle.std.specs.Prelude.{ℕ, not, ◌==◌, List, [], ◌∷◌, ◌++◌, take, Option, Some, None}
+use Rattle.std.specs.Prelude.{ℕ, not, ◌==◌, List, [], ◌∷◌, ◌++◌, take, Option}
 use Rattle.std.specs.List.{position, filter_map}
 use Rattle.base64.specs.Engines.{standard}
 use Rattle.base64.specs.GeneralPurpose.{engine_symbols}

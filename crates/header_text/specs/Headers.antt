@@ -1,5 +1,5 @@
 -- The fields of a header (RFC 5322, 2.2).
-use Rattle.std.specs.Prelude.{ℕ, ◌+◌, ◌-◌, Bool, true, false, not, ◌&&◌, ◌==◌, nat_le, List, [], ◌∷◌, ◌++◌, length, map, Option, Some, None}
+use Rattle.std.specs.Prelude.{ℕ, ◌+◌, ◌-◌, Bool, true, false, not, ◌&&◌, ◌==◌, nat_le, List, [], ◌∷◌, ◌++◌, length, Option, Some, None}
 use Rattle.header_text.specs.Blanks.{is_blank, split_while, after_blanks}
 use Rattle.mbox_cutter.specs.Lines.{is_empty}
 

@@ -1,5 +1,9 @@
 pub mod Blanks
 pub mod Headers
+pub mod Places
+pub mod OpenFields
+pub mod Stages
+pub mod HeldLines
 pub mod Unfolding
 pub mod Ids
 pub mod Charsets

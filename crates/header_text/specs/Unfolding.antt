@@ -1,5 +1,5 @@
 -- Unfolding (RFC 5322, 2.2.3).
-use Rattle.std.specs.Prelude.{ℕ, Bool, true, false, ◌&&◌, ◌||◌, ◌==◌, List, [], ◌∷◌}
+use Rattle.std.specs.Prelude.{ℕ, true, false, ◌&&◌, ◌||◌, ◌==◌, List, [], ◌∷◌}
 use Rattle.header_text.specs.Blanks.{trimmed}
 
 -- without each LF, and without a CR directly before one

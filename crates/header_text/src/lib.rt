@@ -4,6 +4,10 @@
 mod blanks;
 mod charset;
 mod field;
+mod field_list;
+mod header;
 
 pub use charset::Charset;
 pub use field::Field;
+pub use field_list::Fields;
+pub use header::{Header, Taken};

@@ -1,4 +1,4 @@
-use Rattle.std.proofs.Common.{◌∙◌, [], ◌∷◌, ◌++◌, sym, ap}
+use Rattle.std.proofs.Common.{◌∙◌, sym, ap}
 use Rattle.std.proofs.lemmas.List.{nil_from_length}
 use Rattle.header_text.specs.Blanks.{before_blanks}
 use Rattle.header_text.proofs.Fronts.{before_blanks-last, before_blanks-stops, before_blanks-nil}

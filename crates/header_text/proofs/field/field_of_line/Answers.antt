@@ -11,5 +11,5 @@ pub returns : goal.returns
 returns c =
     let line : List ℕ = c.args.line.now in
     c.named.ensures ∙ ap₂ named
-      (ap (λ (rest : List ℕ). take (length line - length rest) line) c.after_name-rest.ensures ∙ take-split_while is_name_byte line)
-      (c.after_blanks.ensures ∙ ap after_blanks c.after_name-rest.ensures)
+    (ap (λ (rest : List ℕ). take (length line - length rest) line) c.after_name-rest.ensures ∙ take-split_while is_name_byte line)
+    (c.after_blanks.ensures ∙ ap after_blanks c.after_name-rest.ensures)

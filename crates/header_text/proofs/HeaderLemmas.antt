@@ -1,0 +1,154 @@
+-- The fields of lines, and one line more.
+use Rattle.std.proofs.Common.{◌≡◌, ◌∙◌, ◌+◌, ◌≤◌, ◌<◌, ◌++◌, ◌==◌, ℕ, suc, Bool, true, false, List, [], ◌∷◌, Option, Some, None, length, refl, sym, ap, arith, length-append, append_assoc, append-nil}
+use Rattle.std.specs.Prelude.{is_some}
+use Rattle.std.specs.Option.{option_to_list}
+use Rattle.header_text.specs.Headers.{HeaderField, is_continuation, field_of_line, with_continuations, continued_and_fields, fields_in, fields_size, named, is_name_byte}
+use Rattle.header_text.specs.Blanks.{is_blank, split_while, after_blanks}
+use Rattle.header_text.specs.OpenFields.{onto_last, is_open_after, is_open_behind, fields_with}
+use Rattle.header_text.proofs.Fronts.{split_while-joined}
+
+-- what comes of one line more in front
+abbrev grown : Option HeaderField → List ℕ → Option HeaderField
+grown None l = None
+grown (Some f) l = Some (record { name = f.name; body = f.body ++ l })
+
+abbrev whole : Option HeaderField → List (List ℕ) → List HeaderField
+whole o ls = let rest = continued_and_fields ls in with_continuations o rest.0 rest.1
+
+-- a continuation in front of what follows a field
+with_continuations-grown : (o : Option HeaderField) (l more : List ℕ) (later : List HeaderField) → with_continuations o (l ++ more) later ≡ with_continuations (grown o l) more later
+with_continuations-grown None l more later = refl
+with_continuations-grown (Some f) l more later = ap (λ (b : List ℕ). record { name = f.name; body = b } ∷ later) (sym (append_assoc f.body l more))
+
+whole-cons_yes : (o : Option HeaderField) (l : List ℕ) (ls : List (List ℕ)) → is_continuation l ≡ true → whole o (l ∷ ls) ≡ whole (grown o l) ls
+whole-cons_yes o l ls e = rw (e, continued_and_fields) (with_continuations-grown o l (continued_and_fields ls).0 (continued_and_fields ls).1)
+
+whole-cons_no : (o : Option HeaderField) (l : List ℕ) (ls : List (List ℕ)) → is_continuation l ≡ false → whole o (l ∷ ls) ≡ with_continuations o [] (whole (field_of_line l) ls)
+whole-cons_no o l ls e = rw (e, continued_and_fields) refl
+
+with_continuations-append : (o : Option HeaderField) (more : List ℕ) (later end : List HeaderField) → with_continuations o more (later ++ end) ≡ with_continuations o more later ++ end
+with_continuations-append None more later end = refl
+with_continuations-append (Some f) more later end = refl
+
+is_some-grown : (o : Option HeaderField) (l : List ℕ) → is_some (grown o l) ≡ is_some o
+is_some-grown None l = refl
+is_some-grown (Some f) l = refl
+
+-- a last line that is no continuation
+whole-push_no : (o : Option HeaderField) (ls : List (List ℕ)) (l : List ℕ) → is_continuation l ≡ false → whole o (ls ++ l ∷ []) ≡ whole o ls ++ whole (field_of_line l) []
+whole-push_no o [] l e = rw (e, continued_and_fields) (with_continuations-append o [] [] (whole (field_of_line l) []))
+whole-push_no o (k ∷ ks) l e = go (λ p. whole-push_no p ks l e) (is_continuation k) refl
+  where
+    go : ((p : Option HeaderField) → whole p (ks ++ l ∷ []) ≡ whole p ks ++ whole (field_of_line l) []) → (t : Bool) → is_continuation k ≡ t
+        → whole o (k ∷ (ks ++ l ∷ [])) ≡ whole o (k ∷ ks) ++ whole (field_of_line l) []
+    go later true f =
+        whole-cons_yes o k (ks ++ l ∷ []) f ∙ later (grown o k) ∙ ap (λ (fs : List HeaderField). fs ++ whole (field_of_line l) []) (sym (whole-cons_yes o k ks f))
+    go later false f =
+        whole-cons_no o k (ks ++ l ∷ []) f ∙ ap (λ (fs : List HeaderField). with_continuations o [] fs) (later (field_of_line k))
+        ∙ with_continuations-append o [] (whole (field_of_line k) ks) (whole (field_of_line l) []) ∙ ap (λ (fs : List HeaderField). fs ++ whole (field_of_line l) []) (sym (whole-cons_no o k ks f))
+
+-- a last line that is a continuation goes to the last field where one is open, and else is skipped
+record Continued (o : Option HeaderField) (ls : List (List ℕ)) (l : List ℕ) (opened : Bool) : Type 0 where
+  goes : opened ≡ true → (whole o (ls ++ l ∷ []) ≡ onto_last l (whole o ls)) × (0 < length (whole o ls))
+  skips : opened ≡ false → whole o (ls ++ l ∷ []) ≡ whole o ls
+
+onto_last-front : (o : Option HeaderField) (l more : List ℕ) (fs : List HeaderField) → 0 < length fs → with_continuations o more (onto_last l fs) ≡ onto_last l (with_continuations o more fs)
+onto_last-front None l more fs some = refl
+onto_last-front (Some f) l more [] some = absurd (omega arith)
+onto_last-front (Some f) l more (g ∷ gs) some = refl
+
+length-with_continuations : (o : Option HeaderField) (more : List ℕ) (fs : List HeaderField) → length fs ≤ length (with_continuations o more fs)
+length-with_continuations None more fs = omega arith
+length-with_continuations (Some f) more fs = omega arith
+
+continued : (o : Option HeaderField) (ls : List (List ℕ)) (l : List ℕ) → is_continuation l ≡ true → Continued o ls l (is_open_behind (is_some o) ls)
+continued None [] l e = record { goes = λ no. absurd (cc); skips = λ _. rw (e, continued_and_fields) refl }
+continued (Some f) [] l e = record {
+  goes = λ _. (rw (e, continued_and_fields) (ap (λ (b : List ℕ). record { name = f.name; body = b } ∷ []) (ap (λ (m : List ℕ). f.body ++ m) (append-nil l) ∙ ap (λ (m : List ℕ). m ++ l) (sym (append-nil f.body)))), omega arith);
+  skips = λ no. absurd (cc);
+}
+continued o (k ∷ ks) l e = go (λ p. continued p ks l e) (is_continuation k) refl
+  where
+    go : ((p : Option HeaderField) → Continued p ks l (is_open_behind (is_some p) ks)) → (t : Bool) → is_continuation k ≡ t
+        → Continued o (k ∷ ks) l (is_open_behind (is_open_after (is_some o) k) ks)
+    go each true f =
+        let later = each (grown o k) in
+        let same : is_open_after (is_some o) k ≡ is_some (grown o k) = rw f (sym (is_some-grown o k)) in
+        let now = whole-cons_yes o k ks f in
+        let next = whole-cons_yes o k (ks ++ l ∷ []) f in
+        rw same (record {
+          goes = λ is. (next ∙ (later.goes is).0 ∙ ap (onto_last l) (sym now), rw now (later.goes is).1);
+          skips = λ is. next ∙ later.skips is ∙ sym now;
+        })
+    go each false f =
+        let later = each (field_of_line k) in
+        let same : is_open_after (is_some o) k ≡ is_some (field_of_line k) = rw f refl in
+        let now = whole-cons_no o k ks f in
+        let next = whole-cons_no o k (ks ++ l ∷ []) f in
+        rw same (record {
+          goes = λ is. (
+            next ∙ ap (λ (fs : List HeaderField). with_continuations o [] fs) (later.goes is).0 ∙ onto_last-front o l [] (whole (field_of_line k) ks) (later.goes is).1 ∙ ap (onto_last l) (sym now),
+            rw now (omega (arith, (later.goes is).1, length-with_continuations o [] (whole (field_of_line k) ks))),
+          );
+          skips = λ is. next ∙ ap (λ (fs : List HeaderField). with_continuations o [] fs) (later.skips is) ∙ sym now;
+        })
+
+-- one line more
+pub fields_in-push : (ls : List (List ℕ)) (l : List ℕ) → fields_in (ls ++ l ∷ []) ≡ fields_with (is_open_behind false ls) l (fields_in ls)
+fields_in-push ls l = go (is_continuation l) refl (is_open_behind false ls) refl
+  where
+    last : (o : Option HeaderField) → whole o [] ≡ option_to_list o
+    last None = refl
+    last (Some f) = ap (λ (b : List ℕ). record { name = f.name; body = b } ∷ []) (append-nil f.body)
+
+    go : (t : Bool) → is_continuation l ≡ t → (u : Bool) → is_open_behind false ls ≡ u → fields_in (ls ++ l ∷ []) ≡ fields_with (is_open_behind false ls) l (fields_in ls)
+    go false e u f = whole-push_no None ls l e ∙ rw e (ap (λ (fs : List HeaderField). fields_in ls ++ fs) (last (field_of_line l)))
+    go true e true f = ((continued None ls l e).goes f).0 ∙ rw (e, f) refl
+    go true e false f = (continued None ls l e).skips f ∙ rw (e, f) refl
+
+pub is_open_behind-push : (b : Bool) (ls : List (List ℕ)) (l : List ℕ) → is_open_behind b (ls ++ l ∷ []) ≡ is_open_after (is_open_behind b ls) l
+is_open_behind-push b [] l = refl
+is_open_behind-push b (k ∷ ks) l = is_open_behind-push (is_open_after b k) ks l
+
+-- ---- how many bytes fields have
+
+fields_size-append : (fs gs : List HeaderField) → fields_size (fs ++ gs) ≡ fields_size fs + fields_size gs
+fields_size-append [] gs = omega arith
+fields_size-append (f ∷ fs) gs = let later = fields_size-append fs gs in omega arith
+
+fields_size-onto_last : (l : List ℕ) (fs : List HeaderField) → fields_size (onto_last l fs) ≤ fields_size fs + length l
+fields_size-onto_last l [] = omega arith
+fields_size-onto_last l (f ∷ []) = omega (arith, length-append f.body l)
+fields_size-onto_last l (f ∷ g ∷ fs) = let later = fields_size-onto_last l (g ∷ fs) in omega arith
+
+length-after_blanks : (bs : List ℕ) → length (after_blanks bs) ≤ length bs
+length-after_blanks [] = omega arith
+length-after_blanks (b ∷ bs) = go (is_blank b) refl (length-after_blanks bs)
+  where
+    go : (t : Bool) → is_blank b ≡ t → length (after_blanks bs) ≤ length bs → length (after_blanks (b ∷ bs)) ≤ suc (length bs)
+    go true e later = rw (e, after_blanks) (omega arith)
+    go false e later = rw (e, after_blanks) (omega arith)
+
+named-size : (name rest : List ℕ) → fields_size (option_to_list (named name rest)) ≤ length name + length rest
+named-size [] rest = omega arith
+named-size (b ∷ name) [] = omega arith
+named-size (b ∷ name) (c ∷ rest) = go (c == 0x3A) refl
+  where
+    go : (t : Bool) → (c == 0x3A) ≡ t → fields_size (option_to_list (named (b ∷ name) (c ∷ rest))) ≤ length (b ∷ name) + length (c ∷ rest)
+    go true e = rw (e, named) (omega arith)
+    go false e = rw (e, named) (omega arith)
+
+field_of_line-size : (l : List ℕ) → fields_size (option_to_list (field_of_line l)) ≤ length l
+field_of_line-size l =
+    let parts = split_while is_name_byte l in
+    let sizes : length parts.0 + length parts.1 ≡ length l = sym (length-append parts.0 parts.1) ∙ ap length (split_while-joined is_name_byte l) in
+    omega (arith, named-size parts.0 (after_blanks parts.1), length-after_blanks parts.1, sizes)
+
+-- a line adds no more bytes than it has
+pub fields_size-with : (b : Bool) (l : List ℕ) (fs : List HeaderField) → fields_size (fields_with b l fs) ≤ fields_size fs + length l
+fields_size-with b l fs = go (is_continuation l) refl b
+  where
+    go : (t : Bool) → is_continuation l ≡ t → (u : Bool) → fields_size (fields_with u l fs) ≤ fields_size fs + length l
+    go false e u = rw e (omega (arith, fields_size-append fs (option_to_list (field_of_line l)), field_of_line-size l))
+    go true e true = rw e (fields_size-onto_last l fs)
+    go true e false = rw e (omega arith)

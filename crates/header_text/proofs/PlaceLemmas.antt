@@ -1,0 +1,108 @@
+-- Fields at places, as bytes and places are added.
+use Rattle.std.proofs.Common.{◌≡◌, ◌∙◌, ◌+◌, ◌-◌, ◌≤◌, ◌++◌, ℕ, List, [], ◌∷◌, length, take, drop, refl, sym, ap, ap₂, arith, length-append, append_assoc}
+use Rattle.std.specs.Prelude.{slice_range}
+use Rattle.std.proofs.lemmas.List.{take-append-le, drop-append-le, take_all, take_at, drop_at, length-drop, length-take}
+use Rattle.header_text.specs.declared.field_list.Place.{Place}
+use Rattle.header_text.specs.Headers.{HeaderField, fields_size}
+use Rattle.header_text.specs.Places.{next_start, AreInOrder, fields_at}
+use Rattle.header_text.specs.OpenFields.{onto_last}
+
+-- a range within the front
+pub slice_range-append : (xs ys : List ℕ) (i j : ℕ) → i ≤ j → j ≤ length xs → slice_range (xs ++ ys) i j ≡ slice_range xs i j
+slice_range-append xs ys i j low high =
+    let short : i ≤ length xs = omega arith in
+    let room : j - i ≤ length (drop i xs) = omega (arith, length-drop i xs) in
+    ap (λ (l : List ℕ). take (j - i) l) (drop-append-le i xs ys short) ∙ take-append-le (j - i) (drop i xs) ys room
+
+-- a range up to the end, with more bytes
+pub slice_range-append_end : (xs ys : List ℕ) (i : ℕ) → i ≤ length xs → slice_range (xs ++ ys) i (length (xs ++ ys)) ≡ slice_range xs i (length xs) ++ ys
+slice_range-append_end xs ys i low =
+    let both : length (xs ++ ys) ≡ length xs + length ys = length-append xs ys in
+    let left : length (drop i xs) ≡ length xs - i = length-drop i xs in
+    let all : length (drop i xs ++ ys) ≤ length (xs ++ ys) - i = omega (arith, length-append (drop i xs) ys) in
+    ap (λ (l : List ℕ). take (length (xs ++ ys) - i) l) (drop-append-le i xs ys low) ∙ take_all (length (xs ++ ys) - i) (drop i xs ++ ys) all
+    ∙ ap (λ (l : List ℕ). l ++ ys) (sym (take_all (length xs - i) (drop i xs) (omega arith)))
+
+pub next_start-le : (end : ℕ) (ps : List Place) → AreInOrder end ps → next_start ps end ≤ end
+next_start-le end [] h = omega arith
+next_start-le end (p ∷ ps) h = let later = next_start-le end ps h.2 in omega (arith, h.0, h.1, later)
+
+-- a field more
+pub AreInOrder-push : (end : ℕ) (ps : List Place) (p : Place) (more : ℕ) → AreInOrder end ps → p.name ≡ end → p.name ≤ p.body → p.body ≤ more → AreInOrder more (ps ++ p ∷ [])
+AreInOrder-push end [] p more h e low high = (low, high, tt)
+AreInOrder-push end (q ∷ []) p more h e low high = (h.0, omega (arith, h.1), (low, high, tt))
+AreInOrder-push end (q ∷ r ∷ ps) p more h e low high = (h.0, h.1, AreInOrder-push end (r ∷ ps) p more h.2 e low high)
+
+AreInOrder-more : (end more : ℕ) (ps : List Place) → AreInOrder end ps → end ≤ more → AreInOrder more ps
+AreInOrder-more end more [] h le = tt
+AreInOrder-more end more (q ∷ []) h le = (h.0, omega (arith, h.1), tt)
+AreInOrder-more end more (q ∷ r ∷ ps) h le = (h.0, h.1, AreInOrder-more end more (r ∷ ps) h.2 le)
+
+pub AreInOrder-append : (bytes more : List ℕ) (ps : List Place) → AreInOrder (length bytes) ps → AreInOrder (length (bytes ++ more)) ps
+AreInOrder-append bytes more ps h = AreInOrder-more (length bytes) (length (bytes ++ more)) ps h (omega (arith, length-append bytes more))
+
+abbrev one : List ℕ → List ℕ → HeaderField
+one name body = record { name = name; body = body }
+
+-- the field whose bytes are the last
+last_field : (bytes name body : List ℕ) (at : ℕ) (from : ℕ) → at ≡ length bytes → from ≡ length bytes + length name
+    → one (slice_range (bytes ++ (name ++ body)) at from) (slice_range (bytes ++ (name ++ body)) from (length (bytes ++ (name ++ body)))) ≡ one name body
+last_field bytes name body at from e f =
+    let all : List ℕ = bytes ++ (name ++ body) in
+    let grouped : (bytes ++ name) ++ body ≡ all = append_assoc bytes name body in
+    let front : length (bytes ++ name) ≡ from = length-append bytes name ∙ sym f in
+    let named : slice_range all at from ≡ name = ap (λ (l : List ℕ). take (from - at) l) (drop_at bytes (name ++ body) at (sym e)) ∙ take_at name body (from - at) (omega arith) in
+    let rest : drop from all ≡ body = ap (λ (l : List ℕ). drop from l) (sym grouped) ∙ drop_at (bytes ++ name) body from front in
+    let size : length body ≤ length all - from = omega (arith, length-append bytes (name ++ body), length-append name body) in
+    ap₂ (λ (x y : List ℕ). one x y) named (ap (λ (l : List ℕ). take (length all - from) l) rest ∙ take_all (length all - from) body size)
+
+pub fields_at-push : (bytes name body : List ℕ) (ps : List Place) (p : Place) → AreInOrder (length bytes) ps → p.name ≡ length bytes → p.body ≡ length bytes + length name
+    → fields_at (bytes ++ (name ++ body)) (ps ++ p ∷ []) ≡ fields_at bytes ps ++ one name body ∷ []
+fields_at-push bytes name body [] p h e f = ap (λ (x : HeaderField). x ∷ []) (last_field bytes name body p.name p.body e f)
+fields_at-push bytes name body (q ∷ []) p h e f =
+    let more : List ℕ = name ++ body in
+    let stays : slice_range (bytes ++ more) q.body p.name ≡ slice_range bytes q.body (length bytes) = rw e (slice_range-append bytes more q.body (length bytes) h.1 (omega arith)) in
+    ap₂ (λ (x y : HeaderField). x ∷ y ∷ []) (ap₂ (λ (x y : List ℕ). one x y) (slice_range-append bytes more q.name q.body h.0 h.1) stays)
+    (last_field bytes name body p.name p.body e f)
+fields_at-push bytes name body (q ∷ r ∷ ps) p h e f =
+    let more : List ℕ = name ++ body in
+    let top = next_start-le (length bytes) (r ∷ ps) h.2 in
+    let first = slice_range-append bytes more q.name q.body h.0 (omega (arith, h.1, top)) in
+    let second = slice_range-append bytes more q.body r.name h.1 top in
+    ap₂ (λ (x : HeaderField) (y : List HeaderField). x ∷ y) (ap₂ (λ (x y : List ℕ). one x y) first second) (fields_at-push bytes name body (r ∷ ps) p h.2 e f)
+
+-- more bytes for the last field
+pub fields_at-append : (bytes more : List ℕ) (ps : List Place) → AreInOrder (length bytes) ps → fields_at (bytes ++ more) ps ≡ onto_last more (fields_at bytes ps)
+fields_at-append bytes more [] h = refl
+fields_at-append bytes more (q ∷ []) h =
+    ap₂ (λ (x y : List ℕ). one x y ∷ []) (slice_range-append bytes more q.name q.body h.0 h.1) (slice_range-append_end bytes more q.body h.1)
+fields_at-append bytes more (q ∷ r ∷ ps) h =
+    let top = next_start-le (length bytes) (r ∷ ps) h.2 in
+    let name = slice_range-append bytes more q.name q.body h.0 (omega (arith, h.1, top)) in
+    let body = slice_range-append bytes more q.body r.name h.1 top in
+    ap₂ (λ (x : HeaderField) (y : List HeaderField). x ∷ y) (ap₂ (λ (x y : List ℕ). one x y) name body) (fields_at-append bytes more (r ∷ ps) h.2)
+
+-- names and bodies are no longer than the bytes
+pub fields_size-at : (bytes : List ℕ) (ps : List Place) → AreInOrder (length bytes) ps → fields_size (fields_at bytes ps) + next_start ps (length bytes) ≤ length bytes
+fields_size-at bytes [] h = omega arith
+fields_size-at bytes (p ∷ ps) h =
+    let later = fields_size-at bytes ps h.2 in
+    let end : ℕ = next_start ps (length bytes) in
+    let name : length (slice_range bytes p.name p.body) ≤ p.body - p.name = omega (arith, length-take (p.body - p.name) (drop p.name bytes)) in
+    let body : length (slice_range bytes p.body end) ≤ end - p.body = omega (arith, length-take (end - p.body) (drop p.body bytes)) in
+    omega (arith, h.0, h.1, later, name, body)
+
+-- a field that was added, by what the two buffers hold
+pub record HoldsPushed (bytes name body : List ℕ) (ps : List Place) (new : List ℕ) (qs : List Place) : Type 0 where
+  pub order : AreInOrder (length new) qs
+  pub fields : fields_at new qs ≡ fields_at bytes ps ++ record { name = name; body = body } ∷ []
+
+pub pushed : (bytes new name body : List ℕ) (ps qs : List Place) (start from : ℕ) → AreInOrder (length bytes) ps → new ≡ bytes ++ (name ++ body)
+    → qs ≡ ps ++ record { name = start; body = from } ∷ [] → start ≡ length bytes → from ≡ length new - length body → HoldsPushed bytes name body ps new qs
+pushed bytes new name body ps qs start from h e f low high =
+    let size : length new ≡ length bytes + (length name + length body) = ap length e ∙ length-append bytes (name ++ body) ∙ ap (λ (n : ℕ). length bytes + n) (length-append name body) in
+    let p : Place = record { name = start; body = from } in
+    record {
+      order = rw f (AreInOrder-push (length bytes) ps p (length new) h low (omega arith) (omega arith));
+      fields = rw (e, f) (fields_at-push bytes name body ps p h low (omega arith));
+    }

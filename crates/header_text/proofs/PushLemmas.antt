@@ -1,0 +1,305 @@
+-- What a Header holds, behind one line more.
+use Rattle.std.proofs.Common.{◌≡◌, ◌∙◌, ◌+◌, ◌-◌, ◌≤◌, ◌<◌, ◌++◌, ◌||◌, ◌⊎◌, inl, inr, ℕ, Bool, true, false, nat_le, nat_lt, List, [], ◌∷◌, length, refl, sym, ap, ap₂, arith, length-append}
+use Rattle.std.proofs.lemmas.Bool.{cases_lt}
+use Rattle.std.proofs.lemmas.Bool.Decides.{nat_tests}
+use Rattle.mbox_cutter.specs.Lines.{is_empty}
+use Rattle.header_text.specs.Headers.{HeaderField, most_in_header, lines_before_empty, lines_within, header, fields_in, fields_of}
+use Rattle.header_text.specs.OpenFields.{is_open_after, is_open_behind, fields_with}
+use Rattle.header_text.specs.Stages.{has_empty, lines_size, stage_of, stage_behind}
+use Rattle.header_text.specs.HeldLines.{Holds, taken_of}
+use Rattle.header_text.specs.declared.header.Stage.{Stage}
+use Rattle.header_text.specs.declared.header.Stage.TheVariants.{Open, Full, Ended}
+use Rattle.header_text.specs.declared.header.Taken.TheVariants.{More, Ended as HeaderEnded}
+use Rattle.header_text.proofs.HeaderLemmas.{fields_in-push, is_open_behind-push}
+
+-- ---- the empty line
+
+before_empty-none : (ls : List (List ℕ)) → has_empty ls ≡ false → lines_before_empty ls ≡ ls
+before_empty-none [] h = refl
+before_empty-none (l ∷ ls) h = go (is_empty l) refl (before_empty-none ls)
+  where
+    go : (t : Bool) → is_empty l ≡ t → (has_empty ls ≡ false → lines_before_empty ls ≡ ls) → lines_before_empty (l ∷ ls) ≡ l ∷ ls
+    go true e later = absurd (cc (rw e at h))
+    go false e later = rw (e, lines_before_empty) (ap (λ (ks : List (List ℕ)). l ∷ ks) (later (rw e at h)))
+
+before_empty-push_some : (ls : List (List ℕ)) (l : List ℕ) → has_empty ls ≡ true → lines_before_empty (ls ++ l ∷ []) ≡ lines_before_empty ls
+before_empty-push_some [] l h = absurd (cc)
+before_empty-push_some (k ∷ ks) l h = go (is_empty k) refl (before_empty-push_some ks l)
+  where
+    go : (t : Bool) → is_empty k ≡ t → (has_empty ks ≡ true → lines_before_empty (ks ++ l ∷ []) ≡ lines_before_empty ks) → lines_before_empty (k ∷ (ks ++ l ∷ [])) ≡ lines_before_empty (k ∷ ks)
+    go true e later = rw (e, lines_before_empty) refl
+    go false e later = rw (e, lines_before_empty) (ap (λ (ms : List (List ℕ)). k ∷ ms) (later (rw e at h)))
+
+before_empty-push_end : (ls : List (List ℕ)) (l : List ℕ) → is_empty l ≡ true → lines_before_empty (ls ++ l ∷ []) ≡ lines_before_empty ls
+before_empty-push_end [] l h = rw (h, lines_before_empty) refl
+before_empty-push_end (k ∷ ks) l h = go (is_empty k) refl (before_empty-push_end ks l h)
+  where
+    go : (t : Bool) → is_empty k ≡ t → lines_before_empty (ks ++ l ∷ []) ≡ lines_before_empty ks → lines_before_empty (k ∷ (ks ++ l ∷ [])) ≡ lines_before_empty (k ∷ ks)
+    go true e later = rw (e, lines_before_empty) refl
+    go false e later = rw (e, lines_before_empty) (ap (λ (ms : List (List ℕ)). k ∷ ms) later)
+
+pub has_empty-push : (ls : List (List ℕ)) (l : List ℕ) → has_empty (ls ++ l ∷ []) ≡ (has_empty ls || is_empty l)
+has_empty-push [] l = or_false (is_empty l)
+  where
+    or_false : (b : Bool) → (b || false) ≡ b
+    or_false true = refl
+    or_false false = refl
+has_empty-push (k ∷ ks) l = regroup (is_empty k) (has_empty ks) (is_empty l) (has_empty (ks ++ l ∷ [])) (has_empty-push ks l)
+  where
+    regroup : (a b c d : Bool) → d ≡ (b || c) → (a || d) ≡ (a || b || c)
+    regroup true b c d e = refl
+    regroup false b c d e = e
+
+-- ---- the room
+
+lines_size-push : (ls : List (List ℕ)) (l : List ℕ) → lines_size (ls ++ l ∷ []) ≡ lines_size ls + length l
+lines_size-push [] l = omega arith
+lines_size-push (k ∷ ks) l = let later = lines_size-push ks l in omega arith
+
+within-all : (room : ℕ) (ls : List (List ℕ)) → lines_size ls ≤ room → lines_within room ls ≡ ls
+within-all room [] h = refl
+within-all room (l ∷ ls) h =
+    let fits : nat_le (length l) room ≡ true = grind (arith, nat_tests) in
+    rw (fits, lines_within) (ap (λ (ks : List (List ℕ)). l ∷ ks) (within-all (room - length l) ls (omega arith)))
+
+-- once a line didn't fit, no later one counts
+record Stops (room : ℕ) (ls more : List (List ℕ)) : Type 0 where
+  same : lines_within room (ls ++ more) ≡ lines_within room ls
+  fewer : length (lines_within room ls) < length ls
+
+stops : (room : ℕ) (ls more : List (List ℕ)) → room < lines_size ls → Stops room ls more
+stops room [] more h = absurd (omega arith)
+stops room (l ∷ ls) more h = go (nat_le (length l) room) refl (stops (room - length l) ls more)
+  where
+    go : (t : Bool) → nat_le (length l) room ≡ t → (room - length l < lines_size ls → Stops (room - length l) ls more) → Stops room (l ∷ ls) more
+    go false e later = record { same = rw (e, lines_within) refl; fewer = rw (e, lines_within) (omega arith) }
+    go true e later =
+        let le : length l ≤ room = grind (arith, nat_tests, e) in
+        let next = later (omega arith) in
+        record { same = rw (e, lines_within) (ap (λ (ks : List (List ℕ)). l ∷ ks) next.same); fewer = rw (e, lines_within) (omega (arith, next.fewer)) }
+
+-- a line that doesn't fit
+overflow : (room : ℕ) (ls : List (List ℕ)) (l : List ℕ) → lines_size ls ≤ room → room - lines_size ls < length l → lines_within room (ls ++ l ∷ []) ≡ ls
+overflow room [] l h over = let none : nat_le (length l) room ≡ false = grind (arith, nat_tests) in rw (none, lines_within) refl
+overflow room (k ∷ ks) l h over =
+    let fits : nat_le (length k) room ≡ true = grind (arith, nat_tests) in
+    rw (fits, lines_within) (ap (λ (ms : List (List ℕ)). k ∷ ms) (overflow (room - length k) ks l (omega arith) (omega arith)))
+
+pub size-within : (room : ℕ) (ls : List (List ℕ)) → lines_size (lines_within room ls) ≤ room
+size-within room [] = omega arith
+size-within room (l ∷ ls) = go (nat_le (length l) room) refl (size-within (room - length l) ls)
+  where
+    go : (t : Bool) → nat_le (length l) room ≡ t → lines_size (lines_within (room - length l) ls) ≤ room - length l → lines_size (lines_within room (l ∷ ls)) ≤ room
+    go false e later = rw (e, lines_within) (omega arith)
+    go true e later = let le : length l ≤ room = grind (arith, nat_tests, e) in rw (e, lines_within) (omega arith)
+
+-- ---- the stages
+
+stage_of-ended : (ls : List (List ℕ)) → has_empty ls ≡ true → stage_of ls ≡ Ended
+unfolding stage_of
+stage_of-ended ls h = rw h refl
+
+stage_of-full : (ls : List (List ℕ)) → has_empty ls ≡ false → length (header ls) < length ls → stage_of ls ≡ Full
+unfolding stage_of
+stage_of-full ls h less = let short : nat_lt (length (header ls)) (length ls) ≡ true = grind (arith, nat_tests) in rw (h, short) refl
+
+stage_of-open : (ls : List (List ℕ)) → has_empty ls ≡ false → header ls ≡ ls → stage_of ls ≡ Open
+unfolding stage_of
+stage_of-open ls h same =
+    let size : length (header ls) ≡ length ls = ap length same in
+    let whole : nat_lt (length (header ls)) (length ls) ≡ false = grind (arith, nat_tests) in rw (h, whole) refl
+
+-- what a line does to the stage, and whether it counts
+pub record Steps (ls : List (List ℕ)) (l : List ℕ) (stage : Stage) (size : ℕ) : Type 0 where
+  pub next : stage_behind stage size l ≡ stage_of (ls ++ l ∷ [])
+  pub counts : stage_of (ls ++ l ∷ []) ≡ Open → header (ls ++ l ∷ []) ≡ header ls ++ l ∷ []
+  pub was_open : stage_of (ls ++ l ∷ []) ≡ Open → stage ≡ Open
+  pub stays : (stage_of (ls ++ l ∷ []) ≡ Open → ⊥) → header (ls ++ l ∷ []) ≡ header ls
+
+abbrev front : List (List ℕ) → List (List ℕ)
+front ls = lines_within most_in_header ls
+
+header-none : (ls : List (List ℕ)) → has_empty ls ≡ false → header ls ≡ front ls
+header-none ls h = ap front (before_empty-none ls h)
+
+-- the header has ended before the line
+steps-ended : (ls : List (List ℕ)) (l : List ℕ) (stage : Stage) (size : ℕ) → has_empty ls ≡ true → stage ≡ stage_of ls → Steps ls l stage size
+steps-ended ls l stage size h e =
+    let was : stage ≡ Ended = e ∙ stage_of-ended ls h in
+    let now : stage_of (ls ++ l ∷ []) ≡ Ended = stage_of-ended (ls ++ l ∷ []) (rw (has_empty-push ls l, h) refl) in
+    record {
+      next = rw (was, now) refl;
+      counts = λ o. absurd (cc);
+      was_open = λ o. absurd (cc);
+      stays = λ _. ap front (before_empty-push_some ls l h);
+    }
+
+-- the line ends it
+steps-end : (ls : List (List ℕ)) (l : List ℕ) (stage : Stage) (size : ℕ) → has_empty ls ≡ false → is_empty l ≡ true → Steps ls l stage size
+steps-end ls l stage size h e =
+    let some : has_empty (ls ++ l ∷ []) ≡ true = rw (has_empty-push ls l, h, e) refl in
+    let now : stage_of (ls ++ l ∷ []) ≡ Ended = stage_of-ended (ls ++ l ∷ []) some in
+    record {
+      next = ends stage now;
+      counts = λ o. absurd (cc);
+      was_open = λ o. absurd (cc);
+      stays = λ _. ap front (before_empty-push_end ls l e);
+    }
+  where
+    ends : (s : Stage) → stage_of (ls ++ l ∷ []) ≡ Ended → stage_behind s size l ≡ stage_of (ls ++ l ∷ [])
+    ends Ended now = sym now
+    ends Full now = rw e (sym now)
+    ends Open now = rw e (sym now)
+
+-- the header is full before the line
+steps-full : (ls : List (List ℕ)) (l : List ℕ) (stage : Stage) (size : ℕ) → has_empty ls ≡ false → is_empty l ≡ false → stage ≡ stage_of ls → most_in_header < lines_size ls → Steps ls l stage size
+steps-full ls l stage size h e s over =
+    let none : has_empty (ls ++ l ∷ []) ≡ false = rw (has_empty-push ls l, h, e) refl in
+    let stop = stops most_in_header ls (l ∷ []) over in
+    let before : header ls ≡ front ls = header-none ls h in
+    let same : header (ls ++ l ∷ []) ≡ header ls = header-none (ls ++ l ∷ []) none ∙ stop.same ∙ sym before in
+    let fewer : length (header ls) < length ls = rw before stop.fewer in
+    let was : stage ≡ Full = s ∙ stage_of-full ls h fewer in
+    let now : stage_of (ls ++ l ∷ []) ≡ Full = stage_of-full (ls ++ l ∷ []) none (rw same (omega (arith, length-append ls (l ∷ [])))) in
+    record {
+      next = rw (was, e, now) refl;
+      counts = λ o. absurd (cc);
+      was_open = λ o. absurd (cc);
+      stays = λ _. same;
+    }
+
+-- all lines count before the line
+steps-open : (ls : List (List ℕ)) (l : List ℕ) (stage : Stage) (size : ℕ) → has_empty ls ≡ false → is_empty l ≡ false → stage ≡ stage_of ls → size ≡ lines_size (header ls) → lines_size ls ≤ most_in_header → Steps ls l stage size
+steps-open ls l stage size h e s n fits = go (cases_lt (most_in_header - lines_size ls) (length l))
+  where
+    none : has_empty (ls ++ l ∷ []) ≡ false
+    none = rw (has_empty-push ls l, h, e) refl
+
+    before : header ls ≡ ls
+    before = header-none ls h ∙ within-all most_in_header ls fits
+
+    was : stage ≡ Open
+    was = s ∙ stage_of-open ls h before
+
+    sized : size ≡ lines_size ls
+    sized = n ∙ ap lines_size before
+
+    go : (most_in_header - lines_size ls < length l) ⊎ (length l ≤ most_in_header - lines_size ls) → Steps ls l stage size
+    go (inl over) =
+        let now : header (ls ++ l ∷ []) ≡ ls = header-none (ls ++ l ∷ []) none ∙ overflow most_in_header ls l fits over in
+        let full : stage_of (ls ++ l ∷ []) ≡ Full = stage_of-full (ls ++ l ∷ []) none (rw now (omega (arith, length-append ls (l ∷ [])))) in
+        let test : nat_lt (most_in_header - size) (length l) ≡ true = rw sized (grind (arith, nat_tests)) in
+        record {
+          next = rw (was, e, test, full) refl;
+          counts = λ o. absurd (cc);
+          was_open = λ o. absurd (cc);
+          stays = λ _. now ∙ sym before;
+        }
+    go (inr room) =
+        let now : header (ls ++ l ∷ []) ≡ ls ++ l ∷ [] = header-none (ls ++ l ∷ []) none ∙ within-all most_in_header (ls ++ l ∷ []) (omega (arith, lines_size-push ls l)) in
+        let still : stage_of (ls ++ l ∷ []) ≡ Open = stage_of-open (ls ++ l ∷ []) none now in
+        let test : nat_lt (most_in_header - size) (length l) ≡ false = rw sized (grind (arith, nat_tests)) in
+        record {
+          next = rw (was, e, test, still) refl;
+          counts = λ _. now ∙ ap (λ (ks : List (List ℕ)). ks ++ l ∷ []) (sym before);
+          was_open = λ _. was;
+          stays = λ no. absurd (no still);
+        }
+
+pub steps : (ls : List (List ℕ)) (l : List ℕ) (stage : Stage) (size : ℕ) → stage ≡ stage_of ls → size ≡ lines_size (header ls) → Steps ls l stage size
+steps ls l stage size s n = go (has_empty ls) refl (is_empty l) refl (cases_lt most_in_header (lines_size ls))
+  where
+    go : (t : Bool) → has_empty ls ≡ t → (u : Bool) → is_empty l ≡ u → (most_in_header < lines_size ls) ⊎ (lines_size ls ≤ most_in_header) → Steps ls l stage size
+    go true h u e c = steps-ended ls l stage size h s
+    go false h true e c = steps-end ls l stage size h e
+    go false h false e (inl over) = steps-full ls l stage size h e s over
+    go false h false e (inr fits) = steps-open ls l stage size h e s n fits
+
+stage_of-ended_only : (ls : List (List ℕ)) → stage_of ls ≡ Ended → has_empty ls ≡ true
+unfolding stage_of
+stage_of-ended_only ls e = go (has_empty ls) refl (nat_lt (length (header ls)) (length ls)) refl
+  where
+    go : (t : Bool) → has_empty ls ≡ t → (u : Bool) → nat_lt (length (header ls)) (length ls) ≡ u → has_empty ls ≡ true
+    go true t u f = t
+    go false t true f = absurd (cc (rw (t, f) at e))
+    go false t false f = absurd (cc (rw (t, f) at e))
+
+taken-ended : (ls : List (List ℕ)) → has_empty ls ≡ true → HeaderEnded ≡ taken_of ls
+taken-ended ls h = rw h refl
+
+taken-more : (ls : List (List ℕ)) → (stage_of ls ≡ Ended → ⊥) → More ≡ taken_of ls
+taken-more ls goes_on = go (has_empty ls) refl
+  where
+    go : (t : Bool) → has_empty ls ≡ t → More ≡ taken_of ls
+    go true h = absurd (goes_on (stage_of-ended ls h))
+    go false h = rw h refl
+
+-- ---- one line more
+
+pub holds-new : (fs : List HeaderField) → fs ≡ [] → Holds fs 0 false Open []
+unfolding fields_of stage_of
+holds-new fs e = record { fields_are = e; size_is = refl; in_field_is = refl; stage_is = refl }
+
+module _ (fs : List HeaderField) (size : ℕ) (in_field : Bool) (stage : Stage) (ls : List (List ℕ)) (l : List ℕ) (h : Holds fs size in_field stage ls) where
+  stepped : Steps ls l stage size
+  stepped = steps ls l stage size h.stage_is h.size_is
+
+  -- a line that counts
+  pub holds-counted : (new : List HeaderField) (after : Bool) → stage_behind stage size l ≡ Open → new ≡ fields_with in_field l fs → after ≡ is_open_after in_field l
+      → Holds new (size + length l) after stage (ls ++ l ∷ [])
+  unfolding fields_of
+  holds-counted new after e f g =
+      let still : stage_of (ls ++ l ∷ []) ≡ Open = sym stepped.next ∙ e in
+      let more : header (ls ++ l ∷ []) ≡ header ls ++ l ∷ [] = stepped.counts still in
+      record {
+        fields_are = f ∙ ap₂ (λ (b : Bool) (gs : List HeaderField). fields_with b l gs) h.in_field_is h.fields_are ∙ sym (fields_in-push (header ls) l) ∙ ap fields_in (sym more);
+        size_is = ap (λ (n : ℕ). n + length l) h.size_is ∙ sym (lines_size-push (header ls) l) ∙ ap lines_size (sym more);
+        in_field_is = g ∙ ap (λ (b : Bool). is_open_after b l) h.in_field_is ∙ sym (is_open_behind-push false (header ls) l) ∙ ap (is_open_behind false) (sym more);
+        stage_is = stepped.was_open still ∙ sym still;
+      }
+
+  -- a line that doesn't
+  pub holds-skipped : (next : Stage) → stage_behind stage size l ≡ next → (next ≡ Open → ⊥) → Holds fs size in_field next (ls ++ l ∷ [])
+  unfolding fields_of
+  holds-skipped next e closed =
+      let is : next ≡ stage_of (ls ++ l ∷ []) = sym e ∙ stepped.next in
+      let same : header (ls ++ l ∷ []) ≡ header ls = stepped.stays (λ o. closed (is ∙ o)) in
+      record {
+        fields_are = h.fields_are ∙ ap fields_in (sym same);
+        size_is = h.size_is ∙ ap lines_size (sym same);
+        in_field_is = h.in_field_is ∙ ap (is_open_behind false) (sym same);
+        stage_is = is;
+      }
+
+  -- a line behind the end
+  pub holds-ended : stage ≡ Ended → Holds fs size in_field stage (ls ++ l ∷ [])
+  holds-ended e = let next : stage_behind stage size l ≡ stage = rw e refl in holds-skipped stage next (λ o. absurd (cc))
+
+  pub has_empty-ended : stage ≡ Ended → has_empty (ls ++ l ∷ []) ≡ true
+  has_empty-ended e = let some : has_empty ls ≡ true = stage_of-ended_only ls (sym h.stage_is ∙ e) in rw (has_empty-push ls l, some) refl
+
+  pub never_ended : has_empty ls ≡ true → (stage ≡ Ended → ⊥) → ⊥
+  never_ended some goes_on = goes_on (h.stage_is ∙ stage_of-ended ls some)
+
+  -- what the line is answered
+  pub taken-next_ended : stage_behind stage size l ≡ Ended → HeaderEnded ≡ taken_of (ls ++ l ∷ [])
+  taken-next_ended e = taken-ended (ls ++ l ∷ []) (stage_of-ended_only (ls ++ l ∷ []) (sym stepped.next ∙ e))
+
+  pub taken-next_more : (stage_behind stage size l ≡ Ended → ⊥) → More ≡ taken_of (ls ++ l ∷ [])
+  taken-next_more goes_on = taken-more (ls ++ l ∷ []) (λ e. goes_on (stepped.next ∙ e))
+
+-- ---- the bounds
+
+pub room-open : (stage : Stage) (size : ℕ) (l : List ℕ) → size ≤ most_in_header → stage_behind stage size l ≡ Open → size + length l ≤ most_in_header
+room-open Ended size l le e = absurd (cc)
+room-open Full size l le e = go (is_empty l) refl
+  where
+    go : (t : Bool) → is_empty l ≡ t → size + length l ≤ most_in_header
+    go true t = absurd (cc (rw t at e))
+    go false t = absurd (cc (rw t at e))
+room-open Open size l le e = go (is_empty l) refl (cases_lt (most_in_header - size) (length l))
+  where
+    go : (t : Bool) → is_empty l ≡ t → (most_in_header - size < length l) ⊎ (length l ≤ most_in_header - size) → size + length l ≤ most_in_header
+    go true t c = absurd (cc (rw t at e))
+    go false t (inl over) = let test : nat_lt (most_in_header - size) (length l) ≡ true = grind (arith, nat_tests) in absurd (cc (rw (t, test) at e))
+    go false t (inr room) = omega arith

@@ -1,0 +1,23 @@
+-- What a Header holds of the lines that were pushed.
+use Rattle.std.specs.Prelude.{◌≡◌, ℕ, Bool, false, List, if◌then◌else◌}
+use Rattle.header_text.specs.Headers.{HeaderField, header, fields_of}
+use Rattle.header_text.specs.OpenFields.{is_open_behind}
+use Rattle.header_text.specs.Stages.{has_empty, lines_size, stage_of}
+use Rattle.header_text.specs.declared.header.Taken.{Taken}
+use Rattle.header_text.specs.declared.header.Taken.TheVariants.{More, Ended}
+use Rattle.header_text.specs.declared.header.Stage.{Stage}
+use Rattle.header_text.specs.declared.header.Header.{Header}
+
+-- what the last of these lines is answered
+abbrev pub taken_of : List (List ℕ) → Taken
+taken_of ls = if has_empty ls then Ended else More
+
+pub record Holds (fields : List HeaderField) (size : ℕ) (in_field : Bool) (stage : Stage) (ls : List (List ℕ)) : Type 0 where
+  pub fields_are : fields ≡ fields_of ls
+  pub size_is : size ≡ lines_size (header ls)
+  pub in_field_is : in_field ≡ is_open_behind false (header ls)
+  pub stage_is : stage ≡ stage_of ls
+
+-- these are the lines that were pushed
+abbrev pub HasLines : Header → List (List ℕ) → Type 0
+HasLines h ls = Holds h.fields h.size h.in_field h.stage ls

@@ -1,0 +1,24 @@
+-- Fields as lines are added, one at a time.
+use Rattle.std.specs.Prelude.{ℕ, Bool, List, [], ◌∷◌, ◌++◌, is_some, if◌then◌else◌}
+use Rattle.std.specs.Option.{option_to_list}
+use Rattle.header_text.specs.Headers.{HeaderField, is_continuation, field_of_line}
+
+-- more bytes at the end of the last field's body
+abbrev pub onto_last : List ℕ → List HeaderField → List HeaderField
+onto_last more [] = []
+onto_last more (f ∷ []) = record { name = f.name; body = f.body ++ more } ∷ []
+onto_last more (f ∷ g ∷ fs) = f ∷ onto_last more (g ∷ fs)
+
+-- whether a field is open behind a line: the one before goes on, or this line begins one
+abbrev pub is_open_after : Bool → List ℕ → Bool
+is_open_after open_before l = if is_continuation l then open_before else is_some (field_of_line l)
+
+-- whether a field is open behind lines
+abbrev pub is_open_behind : Bool → List (List ℕ) → Bool
+is_open_behind open_before [] = open_before
+is_open_behind open_before (l ∷ ls) = is_open_behind (is_open_after open_before l) ls
+
+-- the fields, and a line behind them
+abbrev pub fields_with : Bool → List ℕ → List HeaderField → List HeaderField
+fields_with open_before l fs =
+    if is_continuation l then (if open_before then onto_last l fs else fs) else fs ++ option_to_list (field_of_line l)

@@ -1,0 +1,162 @@
+//! Fields kept one behind another, and the iterator over them.
+ghost use Rattle.std.specs.Prelude.{◌≡◌, ℕ, ◌+◌, ◌≤◌, List, [], ◌∷◌, ◌++◌, length, slice_range, is_ok, OnOk, OnErr, if◌then◌else◌};
+ghost use Rattle.std.specs.Iterator.{YieldsFirstBy, item_count};
+ghost use Rattle.header_text.specs.Headers.{HeaderField};
+ghost use Rattle.header_text.specs.Places.{next_start as next_start_of};
+
+use crate::field::Field;
+use std::alloc::{AllocError, Global};
+use std::marker::Model;
+
+/// Where a field's name and its body begin. A name ends where its body begins, and a body where the next name does.
+#[derive(Clone, Copy, Debug)]
+pub struct Place {
+    name: usize,
+    body: usize,
+}
+
+/// Fields in order, in two buffers.
+#[derive(Drop)]
+pub struct FieldList {
+    bytes: Vec<u8>,
+    places: Vec<Place>,
+}
+
+impl Model for FieldList {
+    ghost use Rattle.std.specs.Prelude.{List};
+    ghost use Rattle.header_text.specs.Headers.{HeaderField};
+
+    ghost Value = { List HeaderField };
+
+    ghost use Rattle.std.specs.Prelude.{length};
+    ghost use Rattle.header_text.specs.Places.{AreInOrder, fields_at};
+
+    ghost view = { λ s. fields_at s.bytes.items s.places.items };
+
+    ghost invariant = { λ s. AreInOrder (length s.bytes.items) s.places.items };
+}
+
+/// The fields still to come of a header.
+#[derive(Drop)]
+pub struct Fields<'a> {
+    bytes: &'a [u8],
+    places: &'a [Place],
+}
+
+impl<'a> Model for Fields<'a> {
+    ghost use Rattle.std.specs.Prelude.{List};
+    ghost use Rattle.header_text.specs.Headers.{HeaderField};
+
+    ghost Value = { List HeaderField };
+
+    ghost use Rattle.std.specs.Prelude.{length};
+    ghost use Rattle.header_text.specs.Places.{AreInOrder, fields_at};
+
+    ghost view = { λ s. fields_at s.bytes.now s.places.now };
+
+    ghost invariant = { λ s. AreInOrder (length s.bytes.now) s.places.now };
+}
+
+/// Adds both at the end, or neither.
+fn append_both(bytes: &mut Vec<u8>, first: &[u8], second: &[u8]) -> Result<(), AllocError>
+    ensures { bytes.new.items ≡ (if is_ok result then bytes.old.items ++ (first.now ++ second.now) else bytes.old.items) }
+{
+    let len = bytes.len();
+    bytes.extend_from_slice(first)?;
+    if let Err(error) = bytes.extend_from_slice(second) {
+        bytes.truncate(len);
+        return Err(error);
+    }
+    Ok(())
+}
+
+impl FieldList {
+    ghost use Rattle.header_text.specs.OpenFields.{onto_last};
+
+    pub fn new(alloc: Global) -> Self
+        ensures { result ≡ [] }
+    {
+        FieldList {
+            bytes: Vec::new(alloc),
+            places: Vec::new(alloc),
+        }
+    }
+
+    /// Drops all fields, and keeps the memory.
+    pub fn clear(&mut self)
+        ensures { self.new ≡ [] }
+    {
+        self.bytes.clear();
+        self.places.clear();
+    }
+
+    /// Adds a field.
+    pub fn push(&mut self, field: Field<'_>) -> Result<(), AllocError>
+        ensures ok { OnOk result (self.new ≡ self.old ++ record { name = field.entry.name.now; body = field.entry.body.now } ∷ []) }
+        ensures err { OnErr result (self.new ≡ self.old) }
+    {
+        self.places.reserve(1)?;
+        let name = self.bytes.len();
+        append_both(&mut self.bytes, field.name, field.body)?;
+        let body = self.bytes.len() - field.body.len();
+        self.places.push(Place { name, body }).unwrap();
+        Ok(())
+    }
+
+    /// Adds bytes to the last field's body.
+    pub fn extend_last(&mut self, more: &[u8]) -> Result<(), AllocError>
+        ensures ok { OnOk result (self.new ≡ onto_last more.now self.old) }
+        ensures err { OnErr result (self.new ≡ self.old) }
+    {
+        self.bytes.extend_from_slice(more)?;
+        Ok(())
+    }
+
+    pub fn iter(&self) -> Fields<'_>
+        ensures { result ≡ self.now }
+    {
+        Fields {
+            bytes: &self.bytes,
+            places: &self.places,
+        }
+    }
+}
+
+/// Where the next field begins, or the bytes end.
+fn next_start(places: &[Place], end: usize) -> usize
+    ensures { result ≡ next_start_of places.now end }
+{
+    match places {
+        [next, ..] => next.name,
+        [] => end,
+    }
+}
+
+/// The field at a place, whose body ends there.
+fn field_at<'a>(bytes: &'a [u8], place: Place, end: usize) -> Field<'a>
+    requires name { place.name ≤ place.body }
+    requires body { place.body ≤ end }
+    requires within { end ≤ length bytes.now }
+    ensures name { result.name.now ≡ slice_range bytes.now place.name place.body }
+    ensures body { result.body.now ≡ slice_range bytes.now place.body end }
+{
+    Field {
+        name: &bytes[place.name..place.body],
+        body: &bytes[place.body..end],
+    }
+}
+
+impl<'a> Iterator for Fields<'a> {
+    type Item = Field<'a>;
+
+    ghost next_gives = { YieldsFirstBy (λ f. record { name = f.name.now; body = f.body.now }) (λ it. it) };
+
+    ghost remaining = { item_count (λ it. it) };
+
+    fn next(&mut self) -> Option<Field<'a>> {
+        let (place, others) = self.places.split_first()?;
+        let field = field_at(self.bytes, *place, next_start(others, self.bytes.len()));
+        self.places = others;
+        Some(field)
+    }
+}
