@@ -1,3 +1,5 @@
+pub mod Entries
 mod RowsRcfile
 pub mod Searches
+pub mod Settings
 pub mod Trimming

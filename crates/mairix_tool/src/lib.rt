@@ -9,4 +9,4 @@ mod rcfile;
 
 pub use command_line::{Plan, UsageFault};
 pub use owned_text::{Text, Texts};
-pub use rcfile::{Name, Rc, RcFault};
+pub use rcfile::{Name, Rc, RcFault, read_rc};
