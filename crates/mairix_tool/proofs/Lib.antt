@@ -1,4 +1,5 @@
 pub mod Entries
+mod RowsCommandLine
 mod RowsRcfile
 pub mod Searches
 pub mod Settings
