@@ -1,6 +1,9 @@
+pub mod Entries
+mod RowsCommandLine
 mod RowsRcfile
 pub mod RawTexts
 pub mod Searches
+pub mod Settings
 pub mod Trimming
 pub mod RunLaws
 pub mod Searching

@@ -1,5 +1,5 @@
 -- What some rcfiles say.
-use Rattle.std.proofs.Common.{◌≡◌, codes, refl, List, [], ◌∷◌, ◌++◌, Ok, Err, replicate, true, false}
+use Rattle.std.proofs.Common.{◌≡◌, codes, refl, [], ◌∷◌, ◌++◌, Ok, Err, replicate, true, false}
 use Rattle.bstr.proofs.Computing.{computing}
 use Rattle.std.specs.Str.{chars}
 use Rattle.std.specs.Char.{encode_utf8}

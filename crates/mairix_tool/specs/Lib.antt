@@ -1,4 +1,5 @@
 pub mod Blanks
+pub mod CommandLine
 pub mod Path
 pub mod Rcfile
 pub mod Faults

@@ -1,7 +1,6 @@
 -- What an rcfile says, by mairixrc(5): the archives' paths, the index file and the file that answers go to.
-use Rattle.std.specs.Prelude.{ℕ, ◌+◌, ◌-◌, ◌==◌, nat_eq, nat_lt, nat_le, Bool, true, false, not, ◌&&◌, ◌||◌, if◌then◌else◌, List, [], ◌∷◌, length, take, drop, map, filter, codes, Option, Some, None, Result, Ok, Err}
-use Rattle.std.specs.List.{list_any, list_all, starts_with, before_first, after_first, prefix_len, suffix_len, slice_split, flat_map, filter_map, last_or}
-use Rattle.std.specs.Option.{option_to_list, is_none}
+use Rattle.std.specs.Prelude.{ℕ, ◌==◌, nat_eq, nat_lt, Bool, true, not, ◌||◌, if◌then◌else◌, List, [], ◌∷◌, length, map, filter, codes, Option, Some, None, Result, Ok, Err}
+use Rattle.std.specs.List.{list_any, list_all, before_first, after_first, slice_split, flat_map, filter_map, last_or}
 use Rattle.std.specs.Str.{bytes_eq, is_utf8}
 use Rattle.bstr.specs.Text.{lines_of, without_terminator}
 use Rattle.contract_words.specs.Answers.{◌>>=◌, collect_from}
@@ -59,17 +58,19 @@ assigned n option value =
           else Ok s)
     ]
 
+-- what a trimmed line with an assignment says; one without `=` has no value
+abbrev pub entry : ℕ → List ℕ → Result Setting RcFault
+entry n text =
+    if not (is_utf8 text) then Err (BadLine n)
+    else assigned n (trimmed (before_first (λ b. b == 61) text)) (trimmed (after_first (λ b. b == 61) text))
+
 -- An empty line and a comment say nothing.
 abbrev pub is_skipped : List ℕ → Bool
 is_skipped [] = true
 is_skipped (b ∷ text) = b == 35
 
--- what a line, trimmed, says; one without `=` has no value
 abbrev pub text_settings : ℕ → List ℕ → Result (List Setting) RcFault
-text_settings n text =
-    if is_skipped text then Ok []
-    else (if not (is_utf8 text) then Err (BadLine n)
-    else (assigned n (trimmed (before_first (λ b. b == 61) text)) (trimmed (after_first (λ b. b == 61) text)) >>= (λ s. Ok (s ∷ []))))
+text_settings n text = if is_skipped text then Ok [] else (entry n text >>= (λ s. Ok (s ∷ [])))
 
 -- what the n-th line says
 abbrev pub line_settings : ℕ → List ℕ → Result (List Setting) RcFault

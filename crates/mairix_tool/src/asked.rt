@@ -8,7 +8,7 @@ use crate::command_line::Plan;
 use crate::fault::Fault;
 use crate::owned_text::{Text, Texts};
 use crate::pattern::read_patterns;
-use crate::rcfile::Rc;
+use crate::rcfile::read_rc;
 use std::alloc::Global;
 
 /// What words and rcfile ask for: of which archives, and for which folded word.
@@ -27,7 +27,7 @@ impl Asked {
         ensures early { IfErr result IsEarly }
     {
         let plan = Plan::of(alloc, words)?;
-        let rc = Rc::of(alloc, rc)?;
+        let rc = read_rc(alloc, rc)?;
         let word = read_patterns(alloc, plan.patterns.as_slice())?;
         Ok(Asked {
             paths: rc.paths,

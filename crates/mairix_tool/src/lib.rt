@@ -23,5 +23,5 @@ pub use fault::{Fault, Reply};
 pub use owned_text::{Text, Texts};
 pub use place::Place;
 pub use query_fault::{QueryFault, QueryKind};
-pub use rcfile::{Name, Rc, RcFault};
+pub use rcfile::{Name, Rc, RcFault, read_rc};
 pub use run::once_run;

@@ -1,4 +1,3 @@
-use Rattle.std.proofs.Common.{◌-◌, ◌∙◌, ap, take, drop, refl}
 use Rattle.mairix_tool.proofs.Trimming.{trimmed-parts}
 use Rattle.mairix_tool.proofs.blanks.trimmed.Goals as goal
 

@@ -1,5 +1,4 @@
-use Rattle.std.proofs.Common.{◌≡◌, ◌==◌, ◌||◌, ◌∙◌, ◌<◌, ◌≤◌, sym, not, ap, true, nat_lt, nat_le, length, arith}
-use Rattle.std.specs.List.{list_any}
+use Rattle.std.proofs.Common.{◌≡◌, ◌==◌, ◌||◌, ◌∙◌, sym, ap, true, nat_lt, nat_le, length, arith}
 use Rattle.std.proofs.lemmas.Bool.Decides.{nat_tests}
 use Rattle.mairix_tool.proofs.Searches.{list_any-found, not-not}
 use Rattle.mairix_tool.proofs.path.is_path.Goals as goal
