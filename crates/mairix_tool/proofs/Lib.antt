@@ -8,3 +8,4 @@ pub mod Trimming
 pub mod RunLaws
 pub mod Searching
 pub mod ArchiveFaults
+pub mod PlacesComing

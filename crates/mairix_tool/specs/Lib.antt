@@ -5,8 +5,9 @@ pub mod Rcfile
 pub mod Faults
 pub mod FaultTexts
 pub mod RawAnswers
-pub mod CommandLine
 pub mod MessageTexts
 pub mod Patterns
 pub mod Places
 pub mod Replies
+pub mod OpenMessages
+pub mod ArchiveSearches

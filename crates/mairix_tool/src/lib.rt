@@ -2,6 +2,7 @@
 #![tactic(auto)]
 
 mod answer;
+mod archive_search;
 mod asked;
 mod blanks;
 mod command_line;
@@ -16,6 +17,7 @@ mod query_fault;
 mod rcfile;
 mod run;
 mod search;
+mod subject;
 
 pub use command_line::{Plan, UsageFault};
 pub use explanation::fault_text;

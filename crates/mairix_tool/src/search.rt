@@ -4,11 +4,17 @@ ghost use Rattle.contract_words.specs.Answers.{Gives, collect_from};
 ghost use Rattle.contract_words.specs.Devices.{Counted};
 ghost use Rattle.mairix_tool.specs.Faults.{refusal_of, is_failed_source, is_failed_out, is_early, fault_in, IsOfArchive};
 ghost use Rattle.mairix_tool.specs.Places.{places_of, SoundBefore};
+ghost use Rattle.mairix_tool.specs.ArchiveSearches.{places_coming};
+ghost use Rattle.mbox_cutter.specs.declared.scan.Phase.TheVariants as phase;
 
+use crate::archive_search::ArchiveSearch;
 use crate::fault::Fault;
 use crate::place::Place;
-use mbox_cutter::Source;
+use mbox_cutter::{Buffer, Cutter, Event, Source};
 use std::alloc::Global;
+
+/// The most bytes of an archive.
+const MOST: u64 = 1_099_511_627_776;
 
 /// The places of the messages that have the word in a subject, in the order of archive and offset, or the first archive's fault.
 pub(crate) fn search_sources<S: Source>(
@@ -46,9 +52,33 @@ fn search_source<S: Source>(
     ensures count { Counted (is_failed_source number (fault_in result)) (S.failures source.old) (S.failures source.new) }
     ensures own { IfErr result (IsOfArchive number) }
 {
-    let _ = alloc;
-    let _ = number;
-    let _ = word;
-    let _ = source;
-    Err(Fault::Memory)
+    let buffer = Buffer::new(alloc)?;
+    let mut cutter = Cutter::over(buffer, source, MOST);
+    let places = search_events(alloc, number, word, &mut cutter);
+    let _source = cutter.into_source();
+    places
+}
+
+/// The places among the events of a cutter that has just begun.
+fn search_events<'a, S: Source>(
+    alloc: Global,
+    number: u64,
+    word: &str,
+    cutter: &mut Cutter<'a, S>,
+) -> Result<Vec<Place>, Fault>
+    requires fresh { cutter.old.place.phase ≡ phase.Between }
+    requires count { S.failures cutter.old.source.now < 2 ^ 64 - 1 }
+    ensures source { cutter.new.source.ghost_name ≡ cutter.old.source.ghost_name }
+    ensures places { IfSome cutter.old.coming (λ coming. Gives (λ v. v.items) refusal_of result (places_coming word.now number coming)) }
+    ensures count { Counted (is_failed_source number (fault_in result)) (S.failures cutter.old.source.now) (S.failures cutter.new.source.now) }
+    ensures own { IfErr result (IsOfArchive number) }
+{
+    let mut search = ArchiveSearch::new(alloc, number, word);
+    'events: loop {
+        match cutter.next_event() {
+            Ok(Event::Done { .. }) => return Ok(search.into_places()),
+            Ok(event) => search.take(event)?,
+            Err(fault) => return Err(Fault::Archive { number, fault }),
+        }
+    }
 }

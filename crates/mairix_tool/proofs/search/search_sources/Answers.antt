@@ -28,7 +28,7 @@ returns-in_err-places-clause-places g c = λ archives h.
     let here = bytes_at g.S.Source.rest c.loop-number.sources c.args.sources.now archives i c.index-sources-number.result (λ bytes. IfSome (refusal_of fault) (λ f. places_of word i bytes ≡ Err f)) c.loop-number.invariant.unread h below c.in_err-places.ensures.places in
     let inside : i < length archives = omega (arith, known_length g.S.Source.rest c.args.sources.now archives h) in
     rw (p.1, p.2) (if_some_map (refusal_of fault) (λ f. places_of word i (get_or archives i []) ≡ Err f) (λ f. collect_from (places_of word) 0 archives ≡ Err f)
-        (λ f e. collect_take_err (places_of word) archives i [] c.loop-number.all.items f inside (c.loop-number.invariant.found archives h) e) here)
+    (λ f e. collect_take_err (places_of word) archives i [] c.loop-number.all.items f inside (c.loop-number.invariant.found archives h) e) here)
 
 pub returns-in_err-places-clause-count : goal.returns-in_err-places-clause-count
 returns-in_err-places-clause-count g c =
