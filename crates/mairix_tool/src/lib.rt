@@ -7,6 +7,6 @@ mod owned_text;
 mod path;
 mod rcfile;
 
-pub use command_line::{Plan, UsageFault};
+pub use command_line::{Plan, UsageFault, plan_of, usage_text};
 pub use owned_text::{Text, Texts};
 pub use rcfile::{Name, Rc, RcFault, read_rc};
