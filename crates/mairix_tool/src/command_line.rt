@@ -216,3 +216,76 @@ fn long_flag<'a>(alloc: Global, id: &'a str, help: &'a str) -> Arg<'a>
         .action(ArgAction::SetTrue)
         .help(help)
 }
+
+#[cfg(test)]
+mod tests {
+    use super::*;
+    use std::fmt::InlineText;
+    use std::test::Fail;
+
+    const HELP: &str = "Index and search mbox archives
+
+Usage: mairix [OPTIONS] -f <RCFILE> [PATTERN]
+
+Arguments:
+  [PATTERN]  What to search for
+
+Options:
+  -f <RCFILE>    The file that names the archives and the index
+  -r             Print offsets, lengths and archives
+      --once     Index in memory, then search
+  -h, --help     Print help
+  -V, --version  Print version
+";
+
+    fn words(alloc: Global, texts: &[&str]) -> Result<Vec<String>, Fail> {
+        let mut words = Vec::new(alloc);
+        for text in texts {
+            words.push(String::from_str(alloc, text)?)?;
+        }
+        Ok(words)
+    }
+
+    #[test]
+    fn accepted_words(rt: HostRuntime) -> Result<(), Fail> {
+        let alloc = rt.alloc();
+        let words = words(alloc, &["-f", "rc", "-r", "--once", "s:hello"])?;
+        let plan = plan_of(alloc, &words)?;
+        assert_eq!(rt; plan.rcfile.as_str(), "rc");
+        assert!(rt; plan.raw && plan.once);
+        assert_eq!(rt; plan.patterns.as_slice().len(), 1);
+        assert_eq!(rt; plan.patterns.as_slice()[0].as_str(), "s:hello");
+        assert_eq!(rt; usage_text(alloc, &words)?.as_str(), "");
+        Ok(())
+    }
+
+    #[test]
+    fn texts_of_the_parser(rt: HostRuntime) -> Result<(), Fail> {
+        let alloc = rt.alloc();
+        let version = usage_text(alloc, &words(alloc, &["-V"])?)?;
+        assert_eq!(rt; version.as_str(), "mairix 0.1.0\n");
+        let help = usage_text(alloc, &words(alloc, &["-h"])?)?;
+        assert_eq!(rt; help.as_str(), HELP);
+        let refusal = usage_text(alloc, &words(alloc, &["-f", "rc", "-z"])?)?;
+        assert!(rt;
+            refusal
+                .as_str()
+                .starts_with("error: unexpected argument '-z' found\n")
+        );
+        Ok(())
+    }
+
+    #[test]
+    fn texts_of_faults(rt: HostRuntime) {
+        for (fault, text) in [
+            (UsageFault::Parse, "bad words"),
+            (UsageFault::TwoFormats, "-r and -x exclude each other"),
+            (UsageFault::Help, "help"),
+            (UsageFault::Version, "version"),
+            (UsageFault::OutOfMemory, "out of memory"),
+        ] {
+            let said: InlineText<32> = InlineText::of(fault);
+            assert_eq!(rt; said.as_str(), text);
+        }
+    }
+}
