@@ -1,4 +1,6 @@
 pub mod Entries
+pub mod OneKind
+pub mod Parses
 mod RowsCommandLine
 mod RowsRcfile
 pub mod RawTexts

@@ -77,7 +77,12 @@ abbrev pub usage_refusal : UsageFault → Option UsageFault
 usage_refusal OutOfMemory = None
 usage_refusal fault = Some fault
 
--- what the parser's kind of refusal is answered as
+-- the refusal that a parser's error is
+abbrev pub kind_refusal : ErrorKind → Option UsageFault
+kind_refusal kind.OutOfMemory = None
+kind_refusal k = Some (refusal_of_kind k)
+
+-- what a parser's error is answered as
 abbrev pub fault_of_kind : ErrorKind → UsageFault
 fault_of_kind kind.OutOfMemory = OutOfMemory
 fault_of_kind k = refusal_of_kind k

@@ -4,7 +4,7 @@ ghost use Rattle.std.specs.String.{string_bytes};
 ghost use Rattle.contract_words.specs.Answers.{Gives};
 ghost use Rattle.mairix_tool.specs.Faults.{refusal_of, IsEarly};
 
-use crate::command_line::Plan;
+use crate::command_line::plan_of;
 use crate::fault::Fault;
 use crate::owned_text::{Text, Texts};
 use crate::pattern::read_patterns;
@@ -26,7 +26,7 @@ impl Asked {
         ensures asked { Gives (λ a. a) refusal_of result (asked (map string_bytes words.now) rc.now) }
         ensures early { IfErr result IsEarly }
     {
-        let plan = Plan::of(alloc, words)?;
+        let plan = plan_of(alloc, words)?;
         let rc = read_rc(alloc, rc)?;
         let word = read_patterns(alloc, plan.patterns.as_slice())?;
         Ok(Asked {

@@ -1,6 +1,13 @@
 //! What the words of a command line ask for.
+ghost use Rattle.std.specs.Prelude.{◌≡◌, [], true, false, map, option_map, unwrap_or, is_ok, IfOk, codes, string_bytes};
+ghost use Rattle.clap.specs.Words.{app_of, rule_of, with_rule, found_of, rows_of, first_of, all_of, kind_of};
+ghost use Rattle.contract_words.specs.Answers.{Gives};
+ghost use Rattle.mairix_tool.specs.CommandLine.{short_flag, long_flag, rcfile_option, pattern_argument, bare_command, command, flag, plan, plan_of_rows, fault_of_kind, kind_refusal, usage_refusal};
+
 use crate::owned_text::{Text, Texts};
-use std::alloc::{AllocError, AllocFailed};
+use clap::error::ErrorKind;
+use clap::{Arg, ArgAction, ArgMatches, Command};
+use std::alloc::{AllocError, AllocFailed, Global};
 use thiserror::Error;
 
 /// What the words of a command line ask for.
@@ -50,17 +57,235 @@ impl<T: Drop> From<AllocFailed<T>> for UsageFault {
     }
 }
 
-impl Plan {
-    ghost use Rattle.std.specs.Prelude.{map};
-    ghost use Rattle.std.specs.String.{string_bytes};
-    ghost use Rattle.contract_words.specs.Answers.{Gives};
-    ghost use Rattle.mairix_tool.specs.CommandLine.{plan, usage_refusal};
+/// What the words after the program's name ask for.
+///
+/// The command is `mairix -f RCFILE [-r] [--once] [PATTERN]`, with `-h`, `--help`, `-V` and `--version`. What clap
+/// takes of it counts: values attached as `-fRCFILE` or `-f=RCFILE`, bundles as `-rfRCFILE`, options behind the
+/// pattern, `--` before a pattern that begins with `-`, and `-` as a pattern.
+///
+/// # Errors
+///
+/// `Help` and `Version` where that is what the parser answers first, and `Parse` for any other refusal of it.
+pub fn plan_of(alloc: Global, words: &[String]) -> Result<Plan, UsageFault>
+    ensures { Gives (λ p. p) usage_refusal result (plan (map string_bytes words.now)) }
+{
+    match parsed(alloc, words)? {
+        Ok(matches) => Ok(planned(alloc, &matches)?),
+        Err(error) => Err(fault_of_kind(error.kind())),
+    }
+}
 
-    pub fn of(alloc: std::alloc::Global, words: &[String]) -> Result<Plan, UsageFault>
-        ensures { Gives (λ p. p) usage_refusal result (plan (map string_bytes words.now)) }
-    {
-        let _ = alloc;
-        let _ = words;
-        Err(UsageFault::OutOfMemory)
+/// The parser's own text for words that it refuses, help and version included, and else none.
+pub fn usage_text(alloc: Global, words: &[String]) -> Result<String, AllocError>
+    ensures { is_ok (plan (map string_bytes words.now)) ≡ true → IfOk result (λ text. string_bytes text ≡ []) }
+{
+    match parsed(alloc, words)? {
+        Ok(_) => Ok(String::new(alloc)),
+        Err(error) => match error.kind() {
+            ErrorKind::OutOfMemory => Err(AllocError),
+            _ => error.to_string(alloc),
+        },
+    }
+}
+
+fn parsed<'a>(
+    alloc: Global,
+    words: &'a [String],
+) -> Result<Result<ArgMatches<'a>, clap::Error>, AllocError>
+    ensures { IfOk result (λ r. Gives (λ m. plan_of_rows (rows_of (found_of m))) (λ e. kind_refusal (kind_of e)) r (plan (map string_bytes words.entry.now))) }
+{
+    Ok(command(alloc)?.try_get_matches_from(words))
+}
+
+fn planned(alloc: Global, matches: &ArgMatches<'_>) -> Result<Plan, AllocError>
+    ensures { IfOk result (λ p. p ≡ plan_of_rows (rows_of (found_of matches.now))) }
+{
+    Ok(Plan {
+        rcfile: Text::new(alloc, text_of(matches, "rcfile").unwrap_or(""))?,
+        raw: is_set(matches, "raw"),
+        once: is_set(matches, "once"),
+        patterns: texts_of(alloc, matches, "pattern")?,
+    })
+}
+
+fn text_of<'a>(matches: &ArgMatches<'a>, id: &str) -> Option<&'a str>
+    ensures { option_map (λ s. s.now) result ≡ first_of id.now (rows_of (found_of matches.now)) }
+{
+    matches.get_str(id)
+}
+
+fn is_set(matches: &ArgMatches<'_>, id: &str) -> bool
+    ensures { result ≡ flag id.now (rows_of (found_of matches.now)) }
+{
+    match text_of(matches, id) {
+        Some(text) => text == "true",
+        None => false,
+    }
+}
+
+fn texts_of(alloc: Global, matches: &ArgMatches<'_>, id: &str) -> Result<Texts, AllocError>
+    ensures { IfOk result (λ texts. texts ≡ unwrap_or (all_of id.now (rows_of (found_of matches.now))) []) }
+{
+    match matches.get_strs(id) {
+        Some(texts) => Texts::of(alloc, texts),
+        None => Ok(Texts::new(alloc)),
+    }
+}
+
+fn fault_of_kind(kind: ErrorKind) -> UsageFault
+    ensures { result ≡ fault_of_kind kind }
+{
+    match kind {
+        ErrorKind::DisplayHelp => UsageFault::Help,
+        ErrorKind::DisplayVersion => UsageFault::Version,
+        ErrorKind::OutOfMemory => UsageFault::OutOfMemory,
+        _ => UsageFault::Parse,
+    }
+}
+
+fn command<'a>(alloc: Global) -> Result<Command<'a>, AllocError>
+    ensures { IfOk result (λ c. app_of c ≡ command) }
+{
+    let bare = bare_command(alloc);
+    let rcfile = with(bare, rcfile_option(alloc))?;
+    let raw = with(
+        rcfile,
+        short_flag(alloc, "raw", 'r', "Print offsets, lengths and archives"),
+    )?;
+    let once = with(
+        raw,
+        long_flag(alloc, "once", "Index in memory, then search"),
+    )?;
+    with(once, pattern_argument(alloc))
+}
+
+fn with<'a>(command: Command<'a>, arg: Arg<'a>) -> Result<Command<'a>, AllocError>
+    requires { arg.global ≡ false }
+    ensures { IfOk result (λ c. app_of c ≡ with_rule (app_of command.entry) (rule_of arg.entry)) }
+{
+    command.arg(arg)
+}
+
+fn bare_command<'a>(alloc: Global) -> Command<'a>
+    ensures { app_of result ≡ bare_command }
+{
+    Command::new(alloc, "mairix")
+        .version("0.1.0")
+        .about("Index and search mbox archives")
+        .no_binary_name(true)
+}
+
+fn rcfile_option<'a>(alloc: Global) -> Arg<'a>
+    ensures rule { rule_of result ≡ rcfile_option }
+    ensures local { result.global ≡ false }
+{
+    Arg::new(alloc, "rcfile")
+        .short('f')
+        .value_name("RCFILE")
+        .required(true)
+        .action(ArgAction::Set)
+        .help("The file that names the archives and the index")
+}
+
+fn pattern_argument<'a>(alloc: Global) -> Arg<'a>
+    ensures rule { rule_of result ≡ pattern_argument }
+    ensures local { result.global ≡ false }
+{
+    Arg::new(alloc, "pattern")
+        .value_name("PATTERN")
+        .action(ArgAction::Set)
+        .help("What to search for")
+}
+
+fn short_flag<'a>(alloc: Global, id: &'a str, letter: char, help: &'a str) -> Arg<'a>
+    ensures rule { rule_of result ≡ short_flag id.entry.now letter }
+    ensures local { result.global ≡ false }
+{
+    Arg::new(alloc, id)
+        .short(letter)
+        .action(ArgAction::SetTrue)
+        .help(help)
+}
+
+fn long_flag<'a>(alloc: Global, id: &'a str, help: &'a str) -> Arg<'a>
+    ensures rule { rule_of result ≡ long_flag id.entry.now }
+    ensures local { result.global ≡ false }
+{
+    Arg::new(alloc, id)
+        .long(id)
+        .action(ArgAction::SetTrue)
+        .help(help)
+}
+
+#[cfg(test)]
+mod tests {
+    use super::*;
+    use std::fmt::InlineText;
+    use std::test::Fail;
+
+    const HELP: &str = "Index and search mbox archives
+
+Usage: mairix [OPTIONS] -f <RCFILE> [PATTERN]
+
+Arguments:
+  [PATTERN]  What to search for
+
+Options:
+  -f <RCFILE>    The file that names the archives and the index
+  -r             Print offsets, lengths and archives
+      --once     Index in memory, then search
+  -h, --help     Print help
+  -V, --version  Print version
+";
+
+    fn words(alloc: Global, texts: &[&str]) -> Result<Vec<String>, Fail> {
+        let mut words = Vec::new(alloc);
+        for text in texts {
+            words.push(String::from_str(alloc, text)?)?;
+        }
+        Ok(words)
+    }
+
+    #[test]
+    fn accepted_words(rt: HostRuntime) -> Result<(), Fail> {
+        let alloc = rt.alloc();
+        let words = words(alloc, &["-f", "rc", "-r", "--once", "s:hello"])?;
+        let plan = plan_of(alloc, &words)?;
+        assert_eq!(rt; plan.rcfile.as_str(), "rc");
+        assert!(rt; plan.raw && plan.once);
+        assert_eq!(rt; plan.patterns.as_slice().len(), 1);
+        assert_eq!(rt; plan.patterns.as_slice()[0].as_str(), "s:hello");
+        assert_eq!(rt; usage_text(alloc, &words)?.as_str(), "");
+        Ok(())
+    }
+
+    #[test]
+    fn texts_of_the_parser(rt: HostRuntime) -> Result<(), Fail> {
+        let alloc = rt.alloc();
+        let version = usage_text(alloc, &words(alloc, &["-V"])?)?;
+        assert_eq!(rt; version.as_str(), "mairix 0.1.0\n");
+        let help = usage_text(alloc, &words(alloc, &["-h"])?)?;
+        assert_eq!(rt; help.as_str(), HELP);
+        let refusal = usage_text(alloc, &words(alloc, &["-f", "rc", "-z"])?)?;
+        assert!(rt;
+            refusal
+                .as_str()
+                .starts_with("error: unexpected argument '-z' found\n")
+        );
+        Ok(())
+    }
+
+    #[test]
+    fn texts_of_faults(rt: HostRuntime) {
+        for (fault, text) in [
+            (UsageFault::Parse, "bad words"),
+            (UsageFault::TwoFormats, "-r and -x exclude each other"),
+            (UsageFault::Help, "help"),
+            (UsageFault::Version, "version"),
+            (UsageFault::OutOfMemory, "out of memory"),
+        ] {
+            let said: InlineText<32> = InlineText::of(fault);
+            assert_eq!(rt; said.as_str(), text);
+        }
     }
 }

@@ -53,6 +53,16 @@ impl Texts {
         }
     }
 
+    pub(crate) fn of(alloc: Global, texts: &[&str]) -> Result<Self, AllocError>
+        ensures { IfOk result (λ t. t ≡ map (λ text. text.now) texts.now) }
+    {
+        let mut copies = Texts::new(alloc);
+        for text in texts {
+            copies.push(text)?;
+        }
+        Ok(copies)
+    }
+
     pub fn as_slice(&self) -> &[String]
         ensures { map string_bytes result.now ≡ self.now }
     {

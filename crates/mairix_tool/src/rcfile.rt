@@ -284,3 +284,51 @@ fn some_has_wildcard(texts: &[String]) -> bool
 {
     texts.iter().any(|text| has_wildcard(text.as_str()))
 }
+
+#[cfg(test)]
+mod tests {
+    use super::*;
+    use std::fmt::InlineText;
+    use std::test::Fail;
+
+    #[test]
+    fn accepted_rcfile(rt: HostRuntime) -> Result<(), Fail> {
+        let rc = read_rc(
+            rt.alloc(),
+            b"mbox=a.mbox:b.mbox\ndatabase=m.idx\nmfolder=hits\n",
+        )?;
+        assert_eq!(rt; rc.paths.as_slice().len(), 2);
+        assert_eq!(rt; rc.paths.as_slice()[0].as_str(), "a.mbox");
+        assert_eq!(rt; rc.paths.as_slice()[1].as_str(), "b.mbox");
+        assert_eq!(rt; rc.database.as_str(), "m.idx");
+        assert_eq!(rt; rc.mfolder.as_str(), "hits");
+        Ok(())
+    }
+
+    #[test]
+    fn texts_of_faults(rt: HostRuntime) {
+        for (fault, text) in [
+            (RcFault::BadLine(1), "rcfile line 1: not option=value"),
+            (
+                RcFault::NotSupported(20),
+                "rcfile line 20: option not supported",
+            ),
+            (
+                RcFault::Wildcard(3),
+                "rcfile line 3: wildcard not supported",
+            ),
+            (
+                RcFault::Expansion(4),
+                "rcfile line 4: expansion not supported",
+            ),
+            (RcFault::BadFormat(5), "rcfile line 5: unknown format"),
+            (RcFault::Missing(Name::Mbox), "rcfile: mbox missing"),
+            (RcFault::Missing(Name::Database), "rcfile: database missing"),
+            (RcFault::Missing(Name::Mfolder), "rcfile: mfolder missing"),
+            (RcFault::OutOfMemory, "out of memory"),
+        ] {
+            let said: InlineText<64> = InlineText::of(fault);
+            assert_eq!(rt; said.as_str(), text);
+        }
+    }
+}
