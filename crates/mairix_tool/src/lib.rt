@@ -25,7 +25,7 @@ pub use explanation::fault_text;
 pub use fault::{Fault, Reply};
 pub use owned_text::{Text, Texts};
 pub use place::Place;
-pub use query_fault::{QueryFault, QueryKind};
 pub use program::run_program;
+pub use query_fault::{QueryFault, QueryKind};
 pub use rcfile::{Name, Rc, RcFault, read_rc};
 pub use run::once_run;

@@ -1,9 +1,10 @@
 //! The program: files in, standard output, standard error and an exit status out.
-ghost use Rattle.std.specs.Prelude.{◌≡◌, length, All, IfOk, vec_len};
+ghost use Rattle.std.specs.Prelude.{◌≡◌, length, All, IfOk, Ok, vec_len};
+ghost use Rattle.mairix_tool.specs.Rcfile.{rc_of};
 
 use crate::command_line::{UsageFault, plan_of, usage_text};
-use crate::fault::Fault;
 use crate::explanation::fault_text;
+use crate::fault::Fault;
 use crate::file_source::FileSource;
 use crate::rcfile::{Rc, read_rc};
 use crate::run::once_run;
@@ -13,11 +14,10 @@ use std::fs;
 use std::io::{ErrorKind, Read, Write};
 use std::rt::Files;
 
-/// Why the program ends without a reply that it has printed.
-enum Stop<'p> {
-    Fault(Fault),
-    /// A file that can't be opened or read.
-    CannotOpen(&'p str),
+/// Why the rcfile couldn't be read whole.
+enum Unread {
+    CannotOpen,
+    OutOfMemory,
 }
 
 /// Runs the words after the program's name over the files that they name, and answers the exit status.
@@ -33,59 +33,63 @@ pub fn run_program<R: Files, W: Write, E: Write>(
     out: &mut W,
     err: &mut E,
 ) -> u8 {
-    let plan = match plan_of(alloc, words) {
-        Ok(plan) => plan,
-        Err(fault) => return tell_usage(alloc, words, fault, out, err),
-    };
-    match run_files(rt, alloc, words, plan.rcfile.as_str(), out) {
-        Ok(status) => status,
-        Err(Stop::Fault(fault)) => tell_fault(alloc, fault, err),
-        Err(Stop::CannotOpen(path)) => {
-            let _ = writeln!(err, "mairix: cannot open {path}");
-            4
-        }
+    match plan_of(alloc, words) {
+        Ok(plan) => run_files(rt, alloc, words, plan.rcfile.as_str(), out, err),
+        Err(fault) => tell_usage(alloc, words, fault, out, err),
     }
 }
 
-fn run_files<'p, R: Files, W: Write>(
+fn run_files<R: Files, W: Write, E: Write>(
     rt: &R,
     alloc: Global,
     words: &[String],
-    rcfile: &'p str,
+    rcfile: &str,
     out: &mut W,
-) -> Result<u8, Stop<'p>> {
-    let bytes = read_file(rt, alloc, rcfile)?;
-    let rc = match read_rc(alloc, &bytes) {
-        Ok(rc) => rc,
-        Err(fault) => return Err(Stop::Fault(Fault::from(fault))),
+    err: &mut E,
+) -> u8 {
+    let bytes = match read_file(rt, alloc, rcfile) {
+        Ok(bytes) => bytes,
+        Err(Unread::CannotOpen) => return tell_unopened(rcfile, err),
+        Err(Unread::OutOfMemory) => return tell_fault(alloc, Fault::Memory, err),
     };
-    run_archives(rt, alloc, words, &bytes, &rc, out)
+    match read_rc(alloc, &bytes) {
+        Ok(rc) => run_archives(rt, alloc, words, &bytes, &rc, out, err),
+        Err(fault) => tell_fault(alloc, Fault::from(fault), err),
+    }
 }
 
 /// Opens each archive in its order, which tells whether it can be opened, and closes it again; then runs over all of them.
-fn run_archives<'p, R: Files, W: Write>(
+fn run_archives<R: Files, W: Write, E: Write>(
     rt: &R,
     alloc: Global,
     words: &[String],
     bytes: &[u8],
-    rc: &'p Rc,
+    rc: &Rc,
     out: &mut W,
-) -> Result<u8, Stop<'p>>
+    err: &mut E,
+) -> u8
+    requires { rc_of bytes.now ≡ Ok rc.now }
 {
-    for path in rc.paths.as_slice() {
+    let paths = rc.paths.as_slice();
+    for path in paths {
         if fs::open(rt, path.as_str()).is_err() {
-            return Err(Stop::CannotOpen(path.as_str()));
+            return tell_unopened(path.as_str(), err);
         }
     }
-    let mut sources = match sources_of(rt, alloc, rc.paths.as_slice()) {
-        Ok(sources) => sources,
-        Err(_) => return Err(Stop::Fault(Fault::Memory)),
+    let Ok(mut sources) = sources_of(rt, alloc, paths) else {
+        return tell_fault(alloc, Fault::Memory, err);
     };
-    let reply = once_run(alloc, words, bytes, &mut sources, &mut ToWrite::new(&mut *out));
+    let reply = once_run(
+        alloc,
+        words,
+        bytes,
+        &mut sources,
+        &mut ToWrite::new(&mut *out),
+    );
     match reply.fault {
-        None if out.flush().is_err() => Err(Stop::Fault(Fault::Out)),
-        None => Ok(reply.status),
-        Some(fault) => Err(Stop::Fault(fault)),
+        Some(fault) => tell_fault(alloc, fault, err),
+        None if out.flush().is_err() => tell_fault(alloc, Fault::Out, err),
+        None => reply.status,
     }
 }
 
@@ -95,7 +99,7 @@ fn sources_of<'p, R: Files>(
     paths: &'p [String],
 ) -> Result<Vec<FileSource<'p, R>>, AllocError>
     ensures count { IfOk result (λ v. vec_len v ≡ length paths.now) }
-    ensures fresh { IfOk result (λ v. All (λ s. ⟦<FileSource<R> as Source>⟧.failures s ≡ 0) v.items) }
+    ensures fresh { IfOk result (λ v. All (λ s. ⟦<FileSource<'p, R> as Source>⟧.failures s ≡ 0) v.items) }
 {
     let mut sources = Vec::new(alloc);
     for path in paths {
@@ -105,15 +109,15 @@ fn sources_of<'p, R: Files>(
 }
 
 /// The whole file, or why not.
-fn read_file<'p, R: Files>(rt: &R, alloc: Global, path: &'p str) -> Result<Vec<u8>, Stop<'p>> {
+fn read_file<R: Files>(rt: &R, alloc: Global, path: &str) -> Result<Vec<u8>, Unread> {
     let Ok(mut file) = fs::open(rt, path) else {
-        return Err(Stop::CannotOpen(path));
+        return Err(Unread::CannotOpen);
     };
     let mut bytes = Vec::new(alloc);
     match file.read_to_end(&mut bytes) {
         Ok(_) => Ok(bytes),
-        Err(error) if error.kind() == ErrorKind::OutOfMemory => Err(Stop::Fault(Fault::Memory)),
-        Err(_) => Err(Stop::CannotOpen(path)),
+        Err(error) if error.kind() == ErrorKind::OutOfMemory => Err(Unread::OutOfMemory),
+        Err(_) => Err(Unread::CannotOpen),
     }
 }
 
@@ -137,6 +141,12 @@ fn tell_usage<W: Write, E: Write>(
         return tell_fault(alloc, Fault::Out, err);
     }
     Fault::from(fault).status()
+}
+
+/// Tells of a file that can't be opened or read.
+fn tell_unopened<E: Write>(path: &str, err: &mut E) -> u8 {
+    let _ = writeln!(err, "mairix: cannot open {path}");
+    4
 }
 
 /// Prints a fault in one line. One whose text wants memory that isn't there is told as want of memory.

@@ -1,0 +1,9 @@
+//! Tests that cross crates: worked runs over archives in memory. It has no code of its own.
+#![tactic(auto)]
+
+#[cfg(test)]
+mod fixture;
+#[cfg(test)]
+mod rows;
+#[cfg(test)]
+mod sweeps;
