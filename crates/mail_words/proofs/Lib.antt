@@ -1,3 +1,9 @@
+pub mod RunLemmas
+pub mod Steps
+pub mod Tests
+pub mod Places
+pub mod OneWord
+pub mod Characters
 pub mod FoldingLemmas
 mod Rows
 mod RowsFolding

@@ -1,0 +1,25 @@
+-- What a reader of words looks for at the front of the characters that are left.
+use Rattle.std.specs.Prelude.{ℕ, Bool, true, false, List, [], ◌∷◌}
+use Rattle.mail_words.specs.Words.{is_word_character, is_joiner}
+
+-- the characters at the front that pass, and what follows them
+abbrev pub front : (ℕ → Bool) → List ℕ → List ℕ
+front p [] = []
+front p (c ∷ cs) = elim (p c) [ true ↦ c ∷ front p cs | false ↦ [] ]
+
+abbrev pub behind : (ℕ → Bool) → List ℕ → List ℕ
+behind p [] = []
+behind p (c ∷ cs) = elim (p c) [ true ↦ behind p cs | false ↦ c ∷ cs ]
+
+-- a joiner, where something follows it
+abbrev pub joined_to : ℕ → List ℕ → List ℕ
+joined_to joiner [] = []
+joined_to joiner (c ∷ cs) = joiner ∷ c ∷ cs
+
+-- the run of word characters and joiners at the front, without the joiners at its end
+abbrev pub joined_front : List ℕ → List ℕ
+joined_front [] = []
+joined_front (c ∷ cs) = elim (is_word_character c) [
+  | true ↦ c ∷ joined_front cs
+  | false ↦ elim (is_joiner c) [ true ↦ joined_to c (joined_front cs) | false ↦ [] ]
+]
