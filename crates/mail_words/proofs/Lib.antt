@@ -1,3 +1,5 @@
+pub mod Seams
+pub mod Reading
 pub mod RunLemmas
 pub mod Steps
 pub mod Tests

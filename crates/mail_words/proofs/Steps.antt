@@ -49,7 +49,7 @@ pub words_on-other : (before : List ℕ) (c : ℕ) (cs : List ℕ) → is_word_c
 words_on-other before c cs other = ap₂ ◌++◌ (none_begins before (c ∷ []) cs other) (none_begin before c [] cs other)
 
 -- within a run of word characters
-none_within : (before inside rest : List ℕ) → begins is_word_character before ≡ true → begins is_word_character (after_joiners before) ≡ true → words_on before inside rest ≡ []
+pub none_within : (before inside rest : List ℕ) → begins is_word_character before ≡ true → begins is_word_character (after_joiners before) ≡ true → words_on before inside rest ≡ []
 none_within before inside [] first run = refl
 none_within before inside (c ∷ cs) first run =
     ap₂ ◌++◌ (none_inside before (inside ++ c ∷ []) cs first run) (none_within before (inside ++ c ∷ []) cs first run)
@@ -244,7 +244,7 @@ no_long_behind before plain (c ∷ cs) last run =
 abbrev pub words_at : Bool → List ℕ → List ℕ → List (List ℕ)
 words_at in_run plain rest = within plain ++ cond in_run [] (joined_on plain (joined_front rest))
 
-words_on-word : (in_run : Bool) (before cs : List ℕ) → begins is_word_character before ≡ false → begins is_word_character (after_joiners before) ≡ in_run → begins is_word_character cs ≡ true
+pub words_on-word : (in_run : Bool) (before cs : List ℕ) → begins is_word_character before ≡ false → begins is_word_character (after_joiners before) ≡ in_run → begins is_word_character cs ≡ true
     → words_on before [] cs ≡ words_at in_run (front is_word_character cs) (behind is_word_character cs)
 words_on-word in_run before cs first run e =
     words_on-plain before [] cs refl refl first e ∙ ap (λ ws. within plain ++ ws) (go in_run run)

@@ -1,6 +1,6 @@
 -- What a reader of words looks for at the front of the characters that are left.
-use Rattle.std.specs.Prelude.{ℕ, Bool, true, false, List, [], ◌∷◌}
-use Rattle.mail_words.specs.Words.{is_word_character, is_joiner}
+use Rattle.std.specs.Prelude.{ℕ, Bool, true, false, not, List, [], ◌∷◌, codes}
+use Rattle.mail_words.specs.Words.{is_word_character, is_joiner, words_behind}
 
 -- the characters at the front that pass, and what follows them
 abbrev pub front : (ℕ → Bool) → List ℕ → List ℕ
@@ -10,6 +10,10 @@ front p (c ∷ cs) = elim (p c) [ true ↦ c ∷ front p cs | false ↦ [] ]
 abbrev pub behind : (ℕ → Bool) → List ℕ → List ℕ
 behind p [] = []
 behind p (c ∷ cs) = elim (p c) [ true ↦ behind p cs | false ↦ c ∷ cs ]
+
+-- no word character
+abbrev pub is_other : ℕ → Bool
+is_other c = not (is_word_character c)
 
 -- a joiner, where something follows it
 abbrev pub joined_to : ℕ → List ℕ → List ℕ
@@ -23,3 +27,12 @@ joined_front (c ∷ cs) = elim (is_word_character c) [
   | true ↦ c ∷ joined_front cs
   | false ↦ elim (is_joiner c) [ true ↦ joined_to c (joined_front cs) | false ↦ [] ]
 ]
+
+-- what stands before the characters that are left: nothing, or a run that they can go on
+abbrev pub read_front : Bool → List ℕ
+read_front true = codes "a-"
+read_front false = []
+
+-- the words that begin in the characters that are left
+unfoldable pub words_left : Bool → List ℕ → List (List ℕ)
+words_left in_run rest = words_behind is_word_character (read_front in_run) rest
