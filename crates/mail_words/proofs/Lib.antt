@@ -1,3 +1,4 @@
+pub mod FrontReads
 pub mod Seams
 pub mod Reading
 pub mod RunLemmas

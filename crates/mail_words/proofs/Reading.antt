@@ -1,5 +1,6 @@
 -- Reading the words of a text from the front: what is left of a text behind a place.
 use Rattle.std.proofs.Common.{◌≡◌, ℕ, Bool, true, false, not, cond, ◌&&◌, ◌||◌, List, [], ◌∷◌, ◌++◌, reverse, length, refl, sym, ap, ap₂, ◌∙◌, append_assoc, append-nil, lit<}
+use Rattle.std.proofs.Math.Bool.{and-true, and-false}
 use Rattle.std.specs.List.{list_all}
 use Rattle.mail_words.specs.Words.{is_word_character, is_joiner, begins, after_joiners, words_behind}
 use Rattle.mail_words.specs.Runs.{front, behind, is_other, joined_front, read_front, words_left}
@@ -72,12 +73,6 @@ words_left-gap in_run c cs other =
     ∙ words_from-same (c ∷ before_rest in_run) (before_rest (in_run && is_joiner c)) cs (other ∙ sym (first_before_rest (in_run && is_joiner c))) (go (is_joiner c) refl ∙ sym (run_before_rest (in_run && is_joiner c)))
     ∙ sym (words_left-places (in_run && is_joiner c) cs)
   where
-    and-true : (b : Bool) → (b && true) ≡ b
-    and-true true = refl
-    and-true false = refl
-    and-false : (b : Bool) → (b && false) ≡ false
-    and-false true = refl
-    and-false false = refl
     go : (t : Bool) → is_joiner c ≡ t → begins is_word_character (after_joiners (c ∷ before_rest in_run)) ≡ (in_run && is_joiner c)
     go true e =
         ap (begins is_word_character) (after_joiners-joiner c (before_rest in_run) e) ∙ run_before_rest in_run ∙ sym (ap (λ t. in_run && t) e ∙ and-true in_run)
@@ -114,9 +109,6 @@ pub words_left-gaps : (in_run : Bool) (cs : List ℕ) → words_left in_run cs �
 words_left-gaps in_run [] = words_left-end in_run ∙ sym (words_left-end (in_run && true))
 words_left-gaps in_run (c ∷ cs) = go (is_word_character c) refl (words_left-gaps (in_run && is_joiner c) cs)
   where
-    and-true : (b : Bool) → (b && true) ≡ b
-    and-true true = refl
-    and-true false = refl
     and_assoc : (a b c : Bool) → ((a && b) && c) ≡ (a && (b && c))
     and_assoc true b c = refl
     and_assoc false b c = refl

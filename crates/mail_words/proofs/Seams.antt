@@ -1,4 +1,5 @@
 -- A text, cut between two of its characters.
+use lib.Utf8.{scalar}
 use Rattle.std.proofs.Common.{◌≡◌, ℕ, ◌+◌, ◌≤◌, ◌<◌, Bool, true, false, ◌&&◌, List, [], ◌∷◌, ◌++◌, length, take, drop, chars, encode_utf8_all, IsUtf8, refl, sym, ap, ◌∙◌, arith, length-append}
 use Rattle.std.proofs.Math.Seq.{take-append_seam, drop-append_seam}
 use Rattle.std.proofs.Math.Utf8.{scalars}
@@ -8,11 +9,13 @@ use Rattle.std.specs.Str.{IsCharBoundary}
 
 scalars-front : (xs ys : List ℕ) → scalars (xs ++ ys) ≡ true → scalars xs ≡ true
 scalars-front [] ys h = refl
-scalars-front (x ∷ xs) ys h = ?
+scalars-front (x ∷ xs) ys h =
+    let parts = and_parts (scalar x) (scalars (xs ++ ys)) h in
+    (λ k. parts.0 k && scalars-front xs ys parts.1 k)
 
 scalars-back : (xs ys : List ℕ) → scalars (xs ++ ys) ≡ true → scalars ys ≡ true
 scalars-back [] ys h = h
-scalars-back (x ∷ xs) ys h = ?
+scalars-back (x ∷ xs) ys h = scalars-back xs ys (and_parts (scalar x) (scalars (xs ++ ys)) h).1
 
 -- the text, cut behind the characters xs and before ys
 pub record IsSeam (text xs ys : List ℕ) : Type 0 where

@@ -1,5 +1,6 @@
 -- What begins at a place, by what the character there is.
 use Rattle.std.proofs.Common.{◌≡◌, ℕ, Bool, true, false, not, cond, ◌&&◌, ◌||◌, List, [], ◌∷◌, ◌++◌, reverse, length, encode_utf8_all, refl, sym, ap, ap₂, ◌∙◌, append_assoc, append-nil, nat_le}
+use Rattle.std.proofs.Math.Bool.{and-false, or-true}
 use Rattle.std.proofs.lemmas.Bool.{and_parts}
 use Rattle.std.proofs.lemmas.List.{reverse-append}
 use Rattle.std.proofs.lemmas.List.Folds.{list_all-append, list_any-append}
@@ -28,14 +29,6 @@ all-push p xs c = list_all-append p xs (c ∷ [])
 
 any-push : (p : ℕ → Bool) (xs : List ℕ) (c : ℕ) → list_any p (xs ++ c ∷ []) ≡ (list_any p xs || (p c || false))
 any-push p xs c = list_any-append p xs (c ∷ [])
-
-and-false : (b : Bool) → (b && false) ≡ false
-and-false true = refl
-and-false false = refl
-
-or-true : (b : Bool) → (b || true) ≡ true
-or-true true = refl
-or-true false = refl
 
 -- ---- nothing begins here
 

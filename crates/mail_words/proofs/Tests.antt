@@ -1,5 +1,6 @@
 -- When three parts of a text make the middle one a word.
 use Rattle.std.proofs.Common.{◌≡◌, ℕ, Bool, true, false, not, cond, ◌&&◌, ◌||◌, List, [], ◌∷◌, ◌++◌, reverse, length, encode_utf8_all, refl, sym, ap, ap₂, ◌∙◌, nat_le}
+use Rattle.std.proofs.Math.Bool.{and-false, or-true}
 use Rattle.std.proofs.lemmas.List.{reverse-append}
 use Rattle.std.proofs.lemmas.List.Folds.{list_all-append, list_any-append}
 use Rattle.std.specs.List.{list_all, list_any}
@@ -15,14 +16,6 @@ fits inside = nat_le (length (encode_utf8_all inside)) word_limit
 -- a word, where it is short enough
 abbrev pub within : List ℕ → List (List ℕ)
 within inside = cond (fits inside) (encode_utf8_all inside ∷ []) []
-
-and-false : (b : Bool) → (b && false) ≡ false
-and-false true = refl
-and-false false = refl
-
-or-true : (b : Bool) → (b || true) ≡ true
-or-true true = refl
-or-true false = refl
 
 pub is_plain : (before inside behind : List ℕ) → begins is_word_character inside ≡ true → list_all is_word_character inside ≡ true
     → begins is_word_character before ≡ false → begins is_word_character behind ≡ false → if_word before inside behind ≡ within inside

@@ -13,3 +13,4 @@ mod one_word;
 pub use one_word::{is_one_word, is_part_of_word};
 
 mod character;
+mod runs;

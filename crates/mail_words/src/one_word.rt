@@ -1,9 +1,10 @@
 //! Texts that are a word, or a piece of one.
-ghost use Rattle.std.specs.Prelude.{◌≡◌, ◌||◌, chars, reverse};
+ghost use Rattle.std.specs.Prelude.{◌≡◌, ◌||◌, chars};
 ghost use Rattle.std.specs.List.{list_all};
 ghost use Rattle.mail_words.specs.Words.{is_word_character, is_joiner, begins, is_one_word, is_part_of_word};
 
 use crate::character::{is_joiner, is_word_character};
+use crate::runs::joined_len;
 use crate::words::WORD_LIMIT;
 
 /// Whether the whole text is one plain or long word of at most 128 bytes.
@@ -11,7 +12,7 @@ use crate::words::WORD_LIMIT;
 pub fn is_one_word(text: &str) -> bool
     ensures { result ≡ is_one_word text.now }
 {
-    is_part_of_word(text) && begins_in_word(text) && ends_in_word(text)
+    is_part_of_word(text) && begins_in_word(text) && joined_len(text) == text.len()
 }
 
 /// Whether the text can be a piece of a word: 1 to 128 bytes, of word characters and joiners alone.
@@ -37,11 +38,4 @@ fn begins_in_word(text: &str) -> bool
     ensures { result ≡ begins is_word_character (chars text.now) }
 {
     text.chars().next().is_some_and(is_word_character)
-}
-
-/// Whether there is a last character, and it is a word character.
-fn ends_in_word(text: &str) -> bool
-    ensures { result ≡ begins is_word_character (reverse (chars text.now)) }
-{
-    text.chars().next_back().is_some_and(is_word_character)
 }
