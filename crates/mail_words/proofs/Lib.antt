@@ -1,3 +1,5 @@
+pub mod Kept
+pub mod Lengths
 pub mod FrontReads
 pub mod Seams
 pub mod Reading

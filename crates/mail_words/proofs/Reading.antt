@@ -3,12 +3,12 @@ use Rattle.std.proofs.Common.{◌≡◌, ℕ, Bool, true, false, not, cond, ◌&
 use Rattle.std.proofs.Math.Bool.{and-true, and-false}
 use Rattle.std.specs.List.{list_all}
 use Rattle.mail_words.specs.Words.{is_word_character, is_joiner, begins, after_joiners, words_behind}
-use Rattle.mail_words.specs.Runs.{front, behind, is_other, joined_front, read_front, words_left}
+use Rattle.mail_words.specs.Runs.{front, behind, is_other, joined_front, read_front, words_left, within, long_at}
 use Rattle.mail_words.proofs.Characters.{joiner_is_no_word_character, word_character_is_no_joiner, is_word_character-ascii}
 use Rattle.mail_words.proofs.RunLemmas.{front-pass, front-fail, behind-pass, behind-fail, begins-behind, is_some, after_joiners-joiner, after_joiners-other, run-word}
 use Rattle.mail_words.proofs.Places.{words_on, words_from, words_behind-places}
-use Rattle.mail_words.proofs.Tests.{within, same_before}
-use Rattle.mail_words.proofs.Steps.{words_on-other, none_within, words_at, words_on-word}
+use Rattle.mail_words.proofs.Tests.{same_before}
+use Rattle.mail_words.proofs.Steps.{words_on-other, none_within, words_on-word}
 
 -- ---- of what stands before, only two tests matter
 
@@ -97,7 +97,7 @@ words_from-past before (c ∷ cs) first = go (is_word_character c) refl (words_f
 
 -- at a word character: the words that begin there, and those behind its plain word
 pub words_left-word : (in_run : Bool) (cs : List ℕ) → begins is_word_character cs ≡ true
-    → words_left in_run cs ≡ words_at in_run (front is_word_character cs) (behind is_word_character cs) ++ words_left true (behind is_word_character cs)
+    → words_left in_run cs ≡ (within (front is_word_character cs) ++ long_at in_run cs) ++ words_left true (behind is_word_character cs)
 words_left-word in_run [] e = cc
 words_left-word in_run (c ∷ cs) e =
     words_left-places in_run (c ∷ cs)

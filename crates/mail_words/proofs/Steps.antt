@@ -6,11 +6,11 @@ use Rattle.std.proofs.lemmas.List.{reverse-append}
 use Rattle.std.proofs.lemmas.List.Folds.{list_all-append, list_any-append}
 use Rattle.std.specs.List.{list_all, list_any}
 use Rattle.mail_words.specs.Words.{is_word_character, is_joiner, begins, after_joiners}
-use Rattle.mail_words.specs.Runs.{front, behind, joined_to, joined_front}
+use Rattle.mail_words.specs.Runs.{front, behind, joined_to, joined_front, within, joined_on, long_at}
 use Rattle.mail_words.proofs.Characters.{joiner_is_no_word_character, word_character_is_no_joiner}
 use Rattle.mail_words.proofs.RunLemmas.{front-pass, front-fail, behind-pass, behind-fail, begins-behind, is_some, nil_from_none, joined_front-word, joined_front-joiner, joined_front-other, is_some-joined_front, run-word}
 use Rattle.mail_words.proofs.Places.{if_word, words_on, words_from}
-use Rattle.mail_words.proofs.Tests.{is_piece, within, is_plain, is_long, none_begins, none_inside, none_of_others, none_ends, none_yet, none_in_run, none_before_end, same_before}
+use Rattle.mail_words.proofs.Tests.{is_piece, is_plain, is_long, none_begins, none_inside, none_of_others, none_ends, none_yet, none_in_run, none_before_end, same_before}
 
 -- ---- the front of a word that grows by a character
 
@@ -104,11 +104,6 @@ words_on-plain before inside (c ∷ cs) all joins first e =
         ∙ sym (ap₂ (λ fore rest. plain_first before inside (c ∷ fore) rest) (front-fail is_word_character cs last) (behind-fail is_word_character cs last))
 
 -- ---- a long word
-
--- the long word that begins so, where its run goes on
-abbrev pub joined_on : List ℕ → List ℕ → List (List ℕ)
-joined_on inside [] = []
-joined_on inside (c ∷ cs) = within (inside ++ c ∷ cs)
 
 joined_on-push : (inside : List ℕ) (c : ℕ) (cs : List ℕ) → is_some cs ≡ true → joined_on (inside ++ c ∷ []) cs ≡ joined_on inside (c ∷ cs)
 joined_on-push inside c [] some = cc
@@ -233,12 +228,9 @@ no_long_behind before plain (c ∷ cs) last run =
     all' : list_all is_word_character (plain ++ c ∷ []) ≡ false
     all' = all-push is_word_character plain c ∙ (λ k. list_all is_word_character plain && (last k && true)) ∙ and-false (list_all is_word_character plain)
 
--- the plain word and the long one that begin where the rest begins
-abbrev pub words_at : Bool → List ℕ → List ℕ → List (List ℕ)
-words_at in_run plain rest = within plain ++ cond in_run [] (joined_on plain (joined_front rest))
-
+-- the plain word and the long one that begin at a word character
 pub words_on-word : (in_run : Bool) (before cs : List ℕ) → begins is_word_character before ≡ false → begins is_word_character (after_joiners before) ≡ in_run → begins is_word_character cs ≡ true
-    → words_on before [] cs ≡ words_at in_run (front is_word_character cs) (behind is_word_character cs)
+    → words_on before [] cs ≡ within (front is_word_character cs) ++ long_at in_run cs
 words_on-word in_run before cs first run e =
     words_on-plain before [] cs refl refl first e ∙ ap (λ ws. within plain ++ ws) (go in_run run)
   where
@@ -246,6 +238,6 @@ words_on-word in_run before cs first run e =
     plain = front is_word_character cs
     rest : List ℕ
     rest = behind is_word_character cs
-    go : (t : Bool) → begins is_word_character (after_joiners before) ≡ t → words_on before plain rest ≡ cond t [] (joined_on plain (joined_front rest))
+    go : (t : Bool) → begins is_word_character (after_joiners before) ≡ t → words_on before plain rest ≡ long_at t cs
     go true run = no_long_behind before plain rest (begins-behind is_word_character cs) run
     go false run = long_behind before plain rest (begins-front is_word_character cs e) (all-front is_word_character cs) (begins-behind is_word_character cs) run

@@ -5,17 +5,11 @@ use Rattle.std.proofs.lemmas.List.{reverse-append}
 use Rattle.std.proofs.lemmas.List.Folds.{list_all-append, list_any-append}
 use Rattle.std.specs.List.{list_all, list_any}
 use Rattle.mail_words.specs.Words.{is_word_character, is_joiner, begins, after_joiners, is_word, word_limit}
+use Rattle.mail_words.specs.Runs.{within}
 use Rattle.mail_words.proofs.Places.{if_word}
 
 abbrev pub is_piece : ℕ → Bool
 is_piece c = is_word_character c || is_joiner c
-
-abbrev pub fits : List ℕ → Bool
-fits inside = nat_le (length (encode_utf8_all inside)) word_limit
-
--- a word, where it is short enough
-abbrev pub within : List ℕ → List (List ℕ)
-within inside = cond (fits inside) (encode_utf8_all inside ∷ []) []
 
 pub is_plain : (before inside behind : List ℕ) → begins is_word_character inside ≡ true → list_all is_word_character inside ≡ true
     → begins is_word_character before ≡ false → begins is_word_character behind ≡ false → if_word before inside behind ≡ within inside

@@ -1,6 +1,6 @@
 -- What a reader of words looks for at the front of the characters that are left.
-use Rattle.std.specs.Prelude.{ℕ, Bool, true, false, not, List, [], ◌∷◌, codes}
-use Rattle.mail_words.specs.Words.{is_word_character, is_joiner, words_behind}
+use Rattle.std.specs.Prelude.{ℕ, Bool, true, false, not, List, [], ◌∷◌, ◌++◌, length, nat_le, codes, encode_utf8_all, if◌then◌else◌}
+use Rattle.mail_words.specs.Words.{is_word_character, is_joiner, word_limit, words_behind}
 
 -- the characters at the front that pass, and what follows them
 abbrev pub front : (ℕ → Bool) → List ℕ → List ℕ
@@ -36,3 +36,17 @@ read_front false = []
 -- the words that begin in the characters that are left
 unfoldable pub words_left : Bool → List ℕ → List (List ℕ)
 words_left in_run rest = words_behind is_word_character (read_front in_run) rest
+
+-- the word of these characters, unless it is too long
+abbrev pub within : List ℕ → List (List ℕ)
+within cs = if nat_le (length (encode_utf8_all cs)) word_limit then encode_utf8_all cs ∷ [] else []
+
+-- the long word that begins with a plain one, where its run goes on with these characters
+abbrev pub joined_on : List ℕ → List ℕ → List (List ℕ)
+joined_on plain [] = []
+joined_on plain (c ∷ cs) = within (plain ++ c ∷ cs)
+
+-- the long word that begins where these characters do, unless its run began earlier
+abbrev pub long_at : Bool → List ℕ → List (List ℕ)
+long_at true cs = []
+long_at false cs = joined_on (front is_word_character cs) (joined_front (behind is_word_character cs))

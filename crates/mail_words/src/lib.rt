@@ -7,6 +7,7 @@ pub use kind::TextKind;
 mod flags;
 pub use flags::{Flag, Flags};
 mod words;
+pub use words::Words;
 mod folding;
 pub use folding::{fold, fold_into};
 mod one_word;
