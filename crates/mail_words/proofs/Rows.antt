@@ -1,7 +1,7 @@
 -- Words of texts that are written out, by computation. Word characters are here the letters and digits of ASCII.
 use Rattle.std.proofs.Common.{◌≡◌, ℕ, Bool, true, false, ◌||◌, ◌&&◌, List, [], ◌∷◌, refl, leb}
 use Rattle.std.specs.Prelude.{codes}
-use Rattle.mail_words.specs.Words.{is_joiner, words_behind}
+use Rattle.mail_words.specs.Words.{is_joiner, is_word, words_behind}
 
 abbrev is_ascii_word : ℕ → Bool
 is_ascii_word c = (leb 0x61 c && leb c 0x7A) || (leb 0x41 c && leb c 0x5A) || (leb 0x30 c && leb c 0x39)
@@ -11,7 +11,7 @@ words_of = words_behind is_ascii_word []
 
 -- what a row unfolds
 unfoldable on_literals : Unit {0}
-unfolding is_joiner lib.Utf8.encode
+unfolding is_joiner is_word lib.Utf8.encode
 on_literals = tt
 
 nothing_of_no_text : words_of [] ≡ []

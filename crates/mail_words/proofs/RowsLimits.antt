@@ -18,7 +18,7 @@ abbrev hyphen : List ℕ
 hyphen = 0x2D ∷ []
 
 unfoldable on_literals : Unit {0}
-unfolding is_joiner lib.Utf8.encode
+unfolding is_joiner is_word lib.Utf8.encode
 on_literals = tt
 
 plain_word_of_128_bytes : words_of (wide 32) ≡ encode_utf8_all (wide 32) ∷ []

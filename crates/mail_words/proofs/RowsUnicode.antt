@@ -5,10 +5,10 @@ use Rattle.std.specs.List.{list_any, list_all}
 use Rattle.std.specs.Str.{chars}
 use Rattle.unicode.proofs.DerivedComputing.{ucd_derived}
 use Rattle.unicode.proofs.CategoryComputing.{ucd_category}
-use Rattle.mail_words.specs.Words.{is_word_character, is_joiner, words, is_one_word, is_part_of_word}
+use Rattle.mail_words.specs.Words.{is_word_character, is_joiner, is_word, words, is_one_word, is_part_of_word}
 
 unfoldable on_literals : Unit {0}
-unfolding ucd_derived ucd_category is_word_character is_joiner lib.Utf8.encode chars words is_one_word is_part_of_word
+unfolding ucd_derived ucd_category is_word_character is_joiner is_word lib.Utf8.encode chars words is_one_word is_part_of_word
 on_literals = tt
 
 -- letters, marks that combine, decimal digits, letter numbers, and a circled letter, which is Alphabetic

@@ -60,7 +60,7 @@ module _ (in_word : ℕ → Bool) where
       && list_all (λ c. in_word c || is_joiner c) inside && list_any is_joiner inside
       && not (begins in_word (after_joiners before)) && not (begins in_word (after_joiners behind))
 
-  abbrev pub is_word : List ℕ → List ℕ → List ℕ → Bool
+  unfoldable pub is_word : List ℕ → List ℕ → List ℕ → Bool
   is_word before inside behind =
       (is_plain_word before inside behind || is_long_word before inside behind) && nat_le (length (encode_utf8_all inside)) word_limit
 

@@ -6,5 +6,12 @@ mod kind;
 pub use kind::TextKind;
 mod flags;
 pub use flags::{Flag, Flags};
+mod words;
+pub use words::Words;
 mod folding;
 pub use folding::{fold, fold_into};
+mod one_word;
+pub use one_word::{is_one_word, is_part_of_word};
+
+mod character;
+mod runs;

@@ -1,0 +1,69 @@
+-- Words that are short enough, and those that aren't.
+use Rattle.std.proofs.Common.{◌≡◌, ℕ, ◌+◌, ◌≤◌, ◌<◌, Bool, true, false, cond, List, [], ◌∷◌, ◌++◌, length, take, drop, chars, encode_utf8_all, IsUtf8, refl, sym, ap, ◌∙◌, arith, append_assoc, length-append}
+use Rattle.std.proofs.lemmas.Bool.{le-leb}
+use Rattle.std.proofs.lemmas.Bool.Decides.{nat_tests}
+use Rattle.std.proofs.lemmas.Str.{encodes-append}
+use Rattle.mail_words.specs.Words.{is_word_character, word_limit}
+use Rattle.mail_words.specs.Runs.{front, behind, joined_front, within, joined_on, long_at}
+use Rattle.mail_words.proofs.RunLemmas.{front-behind, is_some}
+use Rattle.mail_words.proofs.OneWord.{joined_front-prefix}
+use Rattle.mail_words.proofs.Seams.{IsSeam, seam, front_seam, seam_front, chars_back, some_from_bytes}
+
+pub within-short : (cs word : List ℕ) → word ≡ encode_utf8_all cs → length word ≤ word_limit → within cs ≡ word ∷ []
+within-short cs word is short =
+    ap (λ t. cond t (encode_utf8_all cs ∷ []) []) (le-leb (length (encode_utf8_all cs)) word_limit (omega (arith, short, ap length is))) ∙ ap (λ w. w ∷ []) (sym is)
+
+pub within-long : (cs : List ℕ) → word_limit < length (encode_utf8_all cs) → within cs ≡ []
+within-long cs long = grind (arith, nat_tests)
+
+pub joined_on-short : (plain more word : List ℕ) → is_some more ≡ true → word ≡ encode_utf8_all (plain ++ more) → length word ≤ word_limit → joined_on plain more ≡ word ∷ []
+joined_on-short plain [] word some is short = cc
+joined_on-short plain (c ∷ cs) word some is short = within-short (plain ++ c ∷ cs) word is short
+
+pub joined_on-long : (plain more : List ℕ) → word_limit < length (encode_utf8_all (plain ++ more)) → joined_on plain more ≡ []
+joined_on-long plain [] long = refl
+joined_on-long plain (c ∷ cs) long = within-long (plain ++ c ∷ cs) long
+
+-- a plain word that is too long begins no long word that is kept
+pub long_at-long : (in_run : Bool) (cs : List ℕ) → word_limit < length (encode_utf8_all (front is_word_character cs)) → long_at in_run cs ≡ []
+long_at-long true cs long = refl
+long_at-long false cs long =
+    let plain : List ℕ = front is_word_character cs in
+    let more : List ℕ = joined_front (behind is_word_character cs) in
+    joined_on-long plain more (omega (arith, long, ap length (encodes-append plain more), length-append (encode_utf8_all plain) (encode_utf8_all more)))
+
+-- a text is cut behind its long word
+abbrev pub long_front : List ℕ → List ℕ
+long_front cs = front is_word_character cs ++ joined_front (behind is_word_character cs)
+
+pub length-long_front : (cs : List ℕ) → length (encode_utf8_all (long_front cs)) ≡ length (encode_utf8_all (front is_word_character cs)) + length (encode_utf8_all (joined_front (behind is_word_character cs)))
+length-long_front cs =
+    ap length (encodes-append (front is_word_character cs) (joined_front (behind is_word_character cs)))
+    ∙ length-append (encode_utf8_all (front is_word_character cs)) (encode_utf8_all (joined_front (behind is_word_character cs)))
+
+pub long_seam : (text : List ℕ) → IsUtf8 text → (rest : List ℕ) × IsSeam text (long_front (chars text)) rest
+long_seam text utf8 =
+    let cs : List ℕ = chars text in
+    let parts = joined_front-prefix (behind is_word_character cs) in
+    (
+      parts.0,
+      seam text (long_front cs) parts.0 utf8
+      (sym (front-behind is_word_character cs) ∙ ap (λ rest. front is_word_character cs ++ rest) parts.1
+      ∙ sym (append_assoc (front is_word_character cs) (joined_front (behind is_word_character cs)) parts.0)),
+    )
+
+-- what the run behind the plain word comes to
+pub joined_is : (text part : List ℕ) (plain joined : ℕ) → IsUtf8 text → plain ≡ length (encode_utf8_all (front is_word_character (chars text))) → part ≡ drop plain text
+    → joined ≡ length (encode_utf8_all (joined_front (chars part))) → joined ≡ length (encode_utf8_all (joined_front (behind is_word_character (chars text))))
+joined_is text part plain joined utf8 place is run =
+    run ∙ ap (λ cs. length (encode_utf8_all (joined_front cs))) (chars_back text _ _ plain part (front_seam is_word_character text utf8) place is)
+
+-- a long word that is short enough is the front of the text
+pub long_at-short : (text word : List ℕ) (len : ℕ) → IsUtf8 text → len ≡ length (encode_utf8_all (long_front (chars text))) → len ≤ word_limit
+    → 0 < length (encode_utf8_all (joined_front (behind is_word_character (chars text)))) → word ≡ take len text → long_at false (chars text) ≡ word ∷ []
+long_at-short text word len utf8 place short some is =
+    let cs : List ℕ = chars text in
+    let cut = long_seam text utf8 in
+    let whole = seam_front text (long_front cs) cut.0 len word cut.1 place is in
+    joined_on-short (front is_word_character cs) (joined_front (behind is_word_character cs)) word (some_from_bytes (joined_front (behind is_word_character cs)) some) whole
+    (omega (arith, short, place, ap length whole))

@@ -1,0 +1,54 @@
+-- Each word that is kept has some bytes, and at most as many as a word may have.
+use Rattle.std.proofs.Common.{◌≡◌, ℕ, zero, suc, ◌≤◌, Bool, true, false, cond, ◌&&◌, ◌||◌, List, [], ◌∷◌, ◌++◌, All, length, chars, encode_utf8_all, nat_le, refl, sym, ap, subst, ◌∙◌, arith}
+use Rattle.std.proofs.Math.Bool.{and-false}
+use Rattle.std.proofs.lemmas.Bool.{and_parts, leb-true}
+use Rattle.std.proofs.lemmas.List.Elements.{All-append}
+use Rattle.std.proofs.lemmas.Str.{length-le-encodes}
+use Rattle.mail_words.specs.Words.{is_word_character, begins, is_word, word_limit, words, HasWordLength}
+use Rattle.mail_words.specs.Runs.{words_left}
+use Rattle.mail_words.proofs.Places.{if_word, words_on, words_from, words_behind-places}
+use Rattle.mail_words.proofs.Tests.{none_begins}
+
+all-nil : All HasWordLength []
+all-nil k d below = absurd (omega (arith, below))
+
+all-one : (word : List ℕ) → HasWordLength word → All HasWordLength (word ∷ [])
+all-one word h zero d below = h
+all-one word h (suc k) d below = absurd (omega (arith, below))
+
+begun_length : (cs : List ℕ) → begins is_word_character cs ≡ true → 1 ≤ length (encode_utf8_all cs)
+begun_length [] e = cc
+begun_length (c ∷ cs) e = omega (arith, length-le-encodes (c ∷ cs))
+
+short_of_word : (before inside behind : List ℕ) → is_word is_word_character before inside behind ≡ true → nat_le (length (encode_utf8_all inside)) word_limit ≡ true
+unfolding is_word
+short_of_word before inside behind e = (and_parts _ (nat_le (length (encode_utf8_all inside)) word_limit) e).1
+
+all-if_word : (before inside behind : List ℕ) → All HasWordLength (if_word before inside behind)
+all-if_word before inside behind = go (is_word is_word_character before inside behind) (begins is_word_character inside) refl refl
+  where
+    go : (word begun : Bool) → is_word is_word_character before inside behind ≡ word → begins is_word_character inside ≡ begun → All HasWordLength (if_word before inside behind)
+    go word false e b = subst (All HasWordLength) (sym (none_begins before inside behind b)) all-nil
+    go false true e b = subst (λ t. All HasWordLength (cond t (encode_utf8_all inside ∷ []) [])) (sym e) all-nil
+    go true true e b =
+        subst (λ t. All HasWordLength (cond t (encode_utf8_all inside ∷ []) [])) (sym e)
+        (all-one (encode_utf8_all inside) (begun_length inside b, leb-true (length (encode_utf8_all inside)) word_limit (short_of_word before inside behind e)))
+
+all-words_on : (before inside rest : List ℕ) → All HasWordLength (words_on before inside rest)
+all-words_on before inside [] = all-nil
+all-words_on before inside (c ∷ cs) =
+    All-append HasWordLength (if_word before (inside ++ c ∷ []) cs) (words_on before (inside ++ c ∷ []) cs) (all-if_word before (inside ++ c ∷ []) cs) (all-words_on before (inside ++ c ∷ []) cs)
+
+all-words_from : (before cs : List ℕ) → All HasWordLength (words_from before cs)
+all-words_from before [] = all-nil
+all-words_from before (c ∷ cs) =
+    All-append HasWordLength (words_on before [] (c ∷ cs)) (words_from (c ∷ before) cs) (all-words_on before [] (c ∷ cs)) (all-words_from (c ∷ before) cs)
+
+-- a text is read from its first character on
+pub words_left-whole : (text : List ℕ) → words_left false (chars text) ≡ words text
+unfolding words words_left
+words_left-whole text = refl
+
+pub all-words : (text : List ℕ) → All HasWordLength (words text)
+unfolding words
+all-words text = subst (All HasWordLength) (sym (words_behind-places [] (chars text))) (all-words_from [] (chars text))

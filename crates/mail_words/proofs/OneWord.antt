@@ -1,0 +1,202 @@
+-- A text is one word where it is a piece of one, begins with a word character, and is its own run without the joiners at its end.
+use Rattle.std.proofs.Common.{◌≡◌, ℕ, suc, ◌+◌, ◌≤◌, Bool, true, false, not, ◌&&◌, ◌||◌, List, [], ◌∷◌, ◌++◌, length, reverse, chars, encode_utf8, encode_utf8_all, IsUtf8, nat_le, refl, sym, ap, ap₂, ◌∙◌, arith, length-append}
+use Rattle.std.specs.Prelude.{◌==◌}
+use Rattle.std.proofs.Math.Bool.{and-true, and-false}
+use Rattle.std.proofs.lemmas.Bool.{and_parts, le-leb, eq-eqb, eqb-true}
+use Rattle.std.proofs.lemmas.List.{reverse-append, append-nil}
+use Rattle.std.proofs.lemmas.Str.{encodes-append, encodes-chars, length-encode, len_utf8_bounds, length-le-encodes}
+use Rattle.std.specs.List.{list_all, list_any}
+use Rattle.mail_words.specs.Words.{is_word_character, is_joiner, begins, after_joiners, is_one_word, is_part_of_word, is_word, word_limit}
+use Rattle.mail_words.specs.Runs.{joined_to, joined_front}
+use Rattle.mail_words.proofs.Characters.{joiner_is_no_word_character}
+use Rattle.mail_words.proofs.RunLemmas.{is_some, joined_front-word, joined_front-joiner, joined_front-other}
+use Rattle.mail_words.proofs.Tests.{is_piece}
+
+-- ---- the last character
+
+is_some-append : (xs ys : List ℕ) → is_some ys ≡ true → is_some (xs ++ ys) ≡ true
+is_some-append [] ys h = h
+is_some-append (x ∷ xs) ys h = refl
+
+is_some-reverse : (xs : List ℕ) → is_some xs ≡ true → is_some (reverse xs) ≡ true
+is_some-reverse [] h = h
+is_some-reverse (x ∷ xs) h = ap is_some (reverse-append (x ∷ []) xs) ∙ is_some-append (reverse xs) (x ∷ []) refl
+
+begins-front : (p : ℕ → Bool) (xs ys : List ℕ) → is_some xs ≡ true → begins p (xs ++ ys) ≡ begins p xs
+begins-front p [] ys h = cc
+begins-front p (x ∷ xs) ys h = refl
+
+ends-cons : (p : ℕ → Bool) (c : ℕ) (cs : List ℕ) → is_some cs ≡ true → begins p (reverse (c ∷ cs)) ≡ begins p (reverse cs)
+ends-cons p c cs h = ap (begins p) (reverse-append (c ∷ []) cs) ∙ begins-front p (reverse cs) (c ∷ []) (is_some-reverse cs h)
+
+-- ---- what the run at the front is
+
+-- a prefix
+joined_to-prefix : (c : ℕ) (cs js : List ℕ) → (rest : List ℕ) × (cs ≡ js ++ rest) → (rest : List ℕ) × (c ∷ cs ≡ joined_to c js ++ rest)
+joined_to-prefix c cs [] h = (c ∷ cs, refl)
+joined_to-prefix c cs (j ∷ js) h = (h.0, ap (λ ds. c ∷ ds) h.1)
+
+pub joined_front-prefix : (cs : List ℕ) → (rest : List ℕ) × (cs ≡ joined_front cs ++ rest)
+joined_front-prefix [] = ([], refl)
+joined_front-prefix (c ∷ cs) = go (is_word_character c) (is_joiner c) refl refl (joined_front-prefix cs)
+  where
+    go : (w j : Bool) → is_word_character c ≡ w → is_joiner c ≡ j → (rest : List ℕ) × (cs ≡ joined_front cs ++ rest) → (rest : List ℕ) × (c ∷ cs ≡ joined_front (c ∷ cs) ++ rest)
+    go true j e f h = (h.0, ap (λ ds. c ∷ ds) h.1 ∙ ap (λ js. js ++ h.0) (sym (joined_front-word c cs e)))
+    go false true e f h =
+        let more = joined_to-prefix c cs (joined_front cs) h in (more.0, more.1 ∙ ap (λ js. js ++ more.0) (sym (joined_front-joiner c cs f)))
+    go false false e f h = (c ∷ cs, ap (λ js. js ++ (c ∷ cs)) (sym (joined_front-other c cs e f)))
+
+-- of word characters and joiners
+all-joined_to : (c : ℕ) (cs : List ℕ) → is_piece c ≡ true → list_all is_piece cs ≡ true → list_all is_piece (joined_to c cs) ≡ true
+all-joined_to c [] piece h = refl
+all-joined_to c (d ∷ ds) piece h = (λ k. piece k && h k)
+
+all-joined_front : (cs : List ℕ) → list_all is_piece (joined_front cs) ≡ true
+all-joined_front [] = refl
+all-joined_front (c ∷ cs) = go (is_word_character c) (is_joiner c) refl refl (all-joined_front cs)
+  where
+    go : (w j : Bool) → is_word_character c ≡ w → is_joiner c ≡ j → list_all is_piece (joined_front cs) ≡ true → list_all is_piece (joined_front (c ∷ cs)) ≡ true
+    go true j e f h = ap (list_all is_piece) (joined_front-word c cs e) ∙ (λ k. (e k || is_joiner c) && h k)
+    go false true e f h = ap (list_all is_piece) (joined_front-joiner c cs f) ∙ all-joined_to c (joined_front cs) (λ k. e k || f k) h
+    go false false e f h = ap (list_all is_piece) (joined_front-other c cs e f)
+
+-- that ends with a word character
+ends-word : (c : ℕ) (cs : List ℕ) → is_word_character c ≡ true → (is_some cs ≡ true → begins is_word_character (reverse cs) ≡ true) → begins is_word_character (reverse (c ∷ cs)) ≡ true
+ends-word c [] e h = e
+ends-word c (d ∷ ds) e h = ends-cons is_word_character c (d ∷ ds) refl ∙ h refl
+
+ends-joined_to : (c : ℕ) (cs : List ℕ) → (is_some cs ≡ true → begins is_word_character (reverse cs) ≡ true) → is_some (joined_to c cs) ≡ true
+    → begins is_word_character (reverse (joined_to c cs)) ≡ true
+ends-joined_to c [] h some = some
+ends-joined_to c (d ∷ ds) h some = ends-cons is_word_character c (d ∷ ds) refl ∙ h refl
+
+ends-joined_front : (cs : List ℕ) → is_some (joined_front cs) ≡ true → begins is_word_character (reverse (joined_front cs)) ≡ true
+ends-joined_front [] some = some
+ends-joined_front (c ∷ cs) some = go (is_word_character c) (is_joiner c) refl refl (ends-joined_front cs)
+  where
+    go : (w j : Bool) → is_word_character c ≡ w → is_joiner c ≡ j → (is_some (joined_front cs) ≡ true → begins is_word_character (reverse (joined_front cs)) ≡ true)
+        → begins is_word_character (reverse (joined_front (c ∷ cs))) ≡ true
+    go true j e f h = ap (λ js. begins is_word_character (reverse js)) (joined_front-word c cs e) ∙ ends-word c (joined_front cs) e h
+    go false true e f h =
+        ap (λ js. begins is_word_character (reverse js)) (joined_front-joiner c cs f)
+        ∙ ends-joined_to c (joined_front cs) h (ap is_some (sym (joined_front-joiner c cs f)) ∙ some)
+    go false false e f h = let none = ap is_some (joined_front-other c cs e f) in cc
+
+-- ---- when it is the whole
+
+joined_to-whole : (c : ℕ) (cs : List ℕ) → is_some cs ≡ true → joined_to c cs ≡ c ∷ cs
+joined_to-whole c [] h = cc
+joined_to-whole c (d ∷ ds) h = refl
+
+joined_front-whole : (cs : List ℕ) → list_all is_piece cs ≡ true → (is_some cs ≡ true → begins is_word_character (reverse cs) ≡ true) → joined_front cs ≡ cs
+joined_front-whole [] pieces ended = refl
+joined_front-whole (c ∷ cs) pieces ended = go (is_word_character c) (is_joiner c) (is_some cs) refl refl refl (joined_front-whole cs parts.1)
+  where
+    parts : (is_piece c ≡ true) × (list_all is_piece cs ≡ true)
+    parts = and_parts (is_piece c) (list_all is_piece cs) pieces
+    rest_ended : is_some cs ≡ true → begins is_word_character (reverse cs) ≡ true
+    rest_ended some = sym (ends-cons is_word_character c cs some) ∙ ended refl
+    no_rest : is_some cs ≡ false → begins is_word_character (reverse (c ∷ cs)) ≡ is_word_character c
+    no_rest none = only cs none
+      where
+        only : (ds : List ℕ) → is_some ds ≡ false → begins is_word_character (reverse (c ∷ ds)) ≡ is_word_character c
+        only [] h = refl
+        only (d ∷ ds) h = cc
+    go : (w j some : Bool) → is_word_character c ≡ w → is_joiner c ≡ j → is_some cs ≡ some
+        → ((is_some cs ≡ true → begins is_word_character (reverse cs) ≡ true) → joined_front cs ≡ cs) → joined_front (c ∷ cs) ≡ c ∷ cs
+    go true j some e f s h = joined_front-word c cs e ∙ ap (λ ds. c ∷ ds) (h rest_ended)
+    go false true true e f s h = joined_front-joiner c cs f ∙ ap (joined_to c) (h rest_ended) ∙ joined_to-whole c cs s
+    go false true false e f s h = let last = sym (ended refl) ∙ no_rest s in cc
+    go false false some e f s h = let piece : (is_word_character c || is_joiner c) ≡ false = (λ k. e k || f k) in let no = sym parts.0 ∙ piece in cc
+
+-- ---- the tests as one
+
+pieces_of_words : (cs : List ℕ) → list_all is_word_character cs ≡ true → list_all is_piece cs ≡ true
+pieces_of_words [] h = refl
+pieces_of_words (c ∷ cs) h =
+    let parts = and_parts (is_word_character c) (list_all is_word_character cs) h in
+    (λ k. (parts.0 k || is_joiner c) && pieces_of_words cs parts.1 k)
+
+ends_of_words : (cs : List ℕ) → list_all is_word_character cs ≡ true → is_some cs ≡ true → begins is_word_character (reverse cs) ≡ true
+ends_of_words [] h some = some
+ends_of_words (c ∷ cs) h some =
+    let parts = and_parts (is_word_character c) (list_all is_word_character cs) h in
+    ends-word c cs parts.0 (ends_of_words cs parts.1)
+
+-- with no joiner they are word characters
+all_or_joined : (cs : List ℕ) → list_all is_piece cs ≡ true → (list_all is_word_character cs || list_any is_joiner cs) ≡ true
+all_or_joined [] h = refl
+all_or_joined (c ∷ cs) h =
+    let parts = and_parts (is_piece c) (list_all is_piece cs) h in
+    go (is_word_character c) (is_joiner c) (list_all is_word_character cs) (list_any is_joiner cs) parts.0 (all_or_joined cs parts.1)
+  where
+    go : (w j all any : Bool) → (w || j) ≡ true → (all || any) ≡ true → ((w && all) || (j || any)) ≡ true
+    go true j true any e h = refl
+    go true true false any e h = refl
+    go true false false any e h = h
+    go false true all any e h = refl
+    go false false all any e h = cc
+
+some_length : (cs : List ℕ) → is_some cs ≡ true → 1 ≤ length cs
+some_length [] h = cc
+some_length (c ∷ cs) h = omega arith
+
+some-begins : (cs : List ℕ) → begins is_word_character cs ≡ true → is_some cs ≡ true
+some-begins [] h = h
+some-begins (c ∷ cs) h = refl
+
+abbrev word_tests : Bool → Bool → Bool → Bool → Bool → Bool → Bool
+word_tests begun all ended pieces joins short =
+    (((begun && all && not false && not false) || (begun && ended && pieces && joins && not false && not false)) && short)
+
+-- what the tests of a word come to, where the whole text is looked at
+tests_as_one : (begun all ended pieces joins short some whole : Bool) → (all ≡ true → pieces ≡ true) → (begun ≡ true → all ≡ true → ended ≡ true) → (pieces ≡ true → (all || joins) ≡ true)
+    → (begun ≡ true → some ≡ true) → (pieces ≡ true → ended ≡ true → whole ≡ true) → (begun ≡ true → whole ≡ true → ended ≡ true)
+    → word_tests begun all ended pieces joins short ≡ ((some && short && pieces) && (begun && whole))
+tests_as_one false all ended pieces joins short some whole a b c d e f = sym (and-false (some && short && pieces))
+tests_as_one true true ended pieces joins short some whole a b c d e f =
+    let p = a refl in
+    let s = d refl in
+    let w = e p (b refl refl) in
+    rw (p, s, w) (sym (and-true (short && true) ∙ and-true short))
+tests_as_one true false true true joins short some whole a b c d e f =
+    let j = c refl in
+    let s = d refl in
+    let w = e refl refl in
+    rw (j, s, w) (sym (and-true (short && true) ∙ and-true short))
+tests_as_one true false true false joins short some whole a b c d e f = sym (ap (λ t. t && whole) (and-false (some && short)))
+tests_as_one true false false pieces joins short some true a b c d e f = let no = f refl refl in cc
+tests_as_one true false false pieces joins short some false a b c d e f = sym (and-false (some && short && pieces))
+
+-- the run is the whole text where it has as many bytes
+same_length : (cs js rest : List ℕ) → cs ≡ js ++ rest → length (encode_utf8_all js) ≡ length (encode_utf8_all cs) → js ≡ cs
+same_length cs js [] parts same = sym (parts ∙ append-nil js)
+same_length cs js (r ∷ rest) parts same =
+    absurd (omega (arith, same, ap (λ ds. length (encode_utf8_all ds)) parts, ap length (encodes-append js (r ∷ rest)), length-append (encode_utf8_all js) (encode_utf8_all (r ∷ rest)), length-le-encodes (r ∷ rest)))
+
+pub is_one_word-parts : (text : List ℕ) → IsUtf8 text
+    → is_one_word text ≡ (is_part_of_word text && (begins is_word_character (chars text) && (length (encode_utf8_all (joined_front (chars text))) == length text)))
+unfolding is_one_word is_part_of_word is_word
+is_one_word-parts text utf8 =
+    tests_as_one begun (list_all is_word_character cs) (begins is_word_character (reverse cs)) (list_all is_piece cs) (list_any is_joiner cs) (nat_le (length (encode_utf8_all cs)) word_limit) (nat_le 1 (length text)) whole
+    (pieces_of_words cs)
+    (λ b a. ends_of_words cs a (some-begins cs b))
+    (all_or_joined cs)
+    (λ b. le-leb 1 (length text) (omega (arith, bytes, length-le-encodes cs, some_length cs (some-begins cs b))))
+    (λ pieces ended. eq-eqb (length (encode_utf8_all (joined_front cs))) (length text) (ap (λ ds. length (encode_utf8_all ds)) (joined_front-whole cs pieces (λ _. ended)) ∙ bytes))
+    (λ b w.
+    let parts = joined_front-prefix cs in
+    let same = same_length cs (joined_front cs) parts.0 parts.1 (eqb-true (length (encode_utf8_all (joined_front cs))) (length text) w ∙ sym bytes) in
+    ap (λ ds. begins is_word_character (reverse ds)) (sym same) ∙ ends-joined_front cs (ap is_some same ∙ some-begins cs b))
+    ∙ ap (λ n. (nat_le 1 (length text) && nat_le n word_limit && list_all is_piece cs) && (begun && whole)) bytes
+  where
+    cs : List ℕ
+    cs = chars text
+    begun : Bool
+    begun = begins is_word_character cs
+    whole : Bool
+    whole = length (encode_utf8_all (joined_front cs)) == length text
+    bytes : length (encode_utf8_all cs) ≡ length text
+    bytes = ap length (encodes-chars text utf8)
+
+pub ruleset is_one_word_parts = is_one_word-parts

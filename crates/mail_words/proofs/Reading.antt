@@ -1,0 +1,135 @@
+-- Reading the words of a text from the front: what is left of a text behind a place.
+use Rattle.std.proofs.Common.{◌≡◌, ℕ, Bool, true, false, not, cond, ◌&&◌, ◌||◌, List, [], ◌∷◌, ◌++◌, reverse, length, refl, sym, ap, ap₂, ◌∙◌, append_assoc, append-nil, lit<}
+use Rattle.std.proofs.Math.Bool.{and-true, and-false}
+use Rattle.std.specs.List.{list_all}
+use Rattle.mail_words.specs.Words.{is_word_character, is_joiner, begins, after_joiners, words_behind}
+use Rattle.mail_words.specs.Runs.{front, behind, is_other, joined_front, read_front, words_left, within, long_at}
+use Rattle.mail_words.proofs.Characters.{joiner_is_no_word_character, word_character_is_no_joiner, is_word_character-ascii}
+use Rattle.mail_words.proofs.RunLemmas.{front-pass, front-fail, behind-pass, behind-fail, begins-behind, is_some, after_joiners-joiner, after_joiners-other, run-word}
+use Rattle.mail_words.proofs.Places.{words_on, words_from, words_behind-places}
+use Rattle.mail_words.proofs.Tests.{same_before}
+use Rattle.mail_words.proofs.Steps.{words_on-other, none_within, words_on-word}
+
+-- ---- of what stands before, only two tests matter
+
+words_on-same : (before before' inside rest : List ℕ) → begins is_word_character before ≡ begins is_word_character before'
+    → begins is_word_character (after_joiners before) ≡ begins is_word_character (after_joiners before') → words_on before inside rest ≡ words_on before' inside rest
+words_on-same before before' inside [] first run = refl
+words_on-same before before' inside (c ∷ cs) first run =
+    ap₂ ◌++◌ (same_before before before' (inside ++ c ∷ []) cs first run) (words_on-same before before' (inside ++ c ∷ []) cs first run)
+
+run-push : (c : ℕ) (before before' : List ℕ) → begins is_word_character (after_joiners before) ≡ begins is_word_character (after_joiners before')
+    → begins is_word_character (after_joiners (c ∷ before)) ≡ begins is_word_character (after_joiners (c ∷ before'))
+run-push c before before' run = go (is_joiner c) refl
+  where
+    go : (t : Bool) → is_joiner c ≡ t → begins is_word_character (after_joiners (c ∷ before)) ≡ begins is_word_character (after_joiners (c ∷ before'))
+    go true e = ap (begins is_word_character) (after_joiners-joiner c before e) ∙ run ∙ sym (ap (begins is_word_character) (after_joiners-joiner c before' e))
+    go false e = ap (begins is_word_character) (after_joiners-other c before e) ∙ sym (ap (begins is_word_character) (after_joiners-other c before' e))
+
+words_from-same : (before before' cs : List ℕ) → begins is_word_character before ≡ begins is_word_character before'
+    → begins is_word_character (after_joiners before) ≡ begins is_word_character (after_joiners before') → words_from before cs ≡ words_from before' cs
+words_from-same before before' [] first run = refl
+words_from-same before before' (c ∷ cs) first run =
+    ap₂ ◌++◌ (words_on-same before before' [] (c ∷ cs) first run) (words_from-same (c ∷ before) (c ∷ before') cs refl (run-push c before before' run))
+
+-- where no word begins at the first character, only the run matters
+words_from-run : (before before' cs : List ℕ) → begins is_word_character cs ≡ false
+    → begins is_word_character (after_joiners before) ≡ begins is_word_character (after_joiners before') → words_from before cs ≡ words_from before' cs
+words_from-run before before' [] last run = refl
+words_from-run before before' (c ∷ cs) last run =
+    ap₂ ◌++◌ (words_on-other before c cs last ∙ sym (words_on-other before' c cs last))
+    (words_from-same (c ∷ before) (c ∷ before') cs refl (run-push c before before' run))
+
+-- ---- what is left
+
+letter : is_word_character 0x61 ≡ true
+letter = is_word_character-ascii 0x61 (lit< tt)
+
+hyphen : is_joiner 0x2D ≡ true
+unfolding is_joiner
+hyphen = refl
+
+-- what stands before the rest, the nearest first
+abbrev before_rest : Bool → List ℕ
+before_rest in_run = reverse (read_front in_run)
+
+first_before_rest : (in_run : Bool) → begins is_word_character (before_rest in_run) ≡ false
+first_before_rest true = joiner_is_no_word_character 0x2D hyphen
+first_before_rest false = refl
+
+run_before_rest : (in_run : Bool) → begins is_word_character (after_joiners (before_rest in_run)) ≡ in_run
+run_before_rest true =
+    ap (begins is_word_character) (after_joiners-joiner 0x2D (0x61 ∷ []) hyphen ∙ after_joiners-other 0x61 [] (word_character_is_no_joiner 0x61 letter)) ∙ letter
+run_before_rest false = refl
+
+words_left-places : (in_run : Bool) (cs : List ℕ) → words_left in_run cs ≡ words_from (before_rest in_run) cs
+unfolding words_left
+words_left-places in_run cs = words_behind-places (read_front in_run) cs
+
+-- past a character at which no word begins
+words_left-gap : (in_run : Bool) (c : ℕ) (cs : List ℕ) → is_word_character c ≡ false → words_left in_run (c ∷ cs) ≡ words_left (in_run && is_joiner c) cs
+words_left-gap in_run c cs other =
+    words_left-places in_run (c ∷ cs) ∙ ap (λ ws. ws ++ words_from (c ∷ before_rest in_run) cs) (words_on-other (before_rest in_run) c cs other)
+    ∙ words_from-same (c ∷ before_rest in_run) (before_rest (in_run && is_joiner c)) cs (other ∙ sym (first_before_rest (in_run && is_joiner c))) (go (is_joiner c) refl ∙ sym (run_before_rest (in_run && is_joiner c)))
+    ∙ sym (words_left-places (in_run && is_joiner c) cs)
+  where
+    go : (t : Bool) → is_joiner c ≡ t → begins is_word_character (after_joiners (c ∷ before_rest in_run)) ≡ (in_run && is_joiner c)
+    go true e =
+        ap (begins is_word_character) (after_joiners-joiner c (before_rest in_run) e) ∙ run_before_rest in_run ∙ sym (ap (λ t. in_run && t) e ∙ and-true in_run)
+    go false e =
+        ap (begins is_word_character) (after_joiners-other c (before_rest in_run) e) ∙ other ∙ sym (ap (λ t. in_run && t) e ∙ and-false in_run)
+
+pub words_left-end : (in_run : Bool) → words_left in_run [] ≡ []
+words_left-end in_run = words_left-places in_run []
+
+-- behind a word character, what is left is what is left behind its plain word
+words_from-past : (before cs : List ℕ) → begins is_word_character before ≡ true → words_from before cs ≡ words_left true (behind is_word_character cs)
+words_from-past before [] first = sym (words_left-end true)
+words_from-past before (c ∷ cs) first = go (is_word_character c) refl (words_from-past (c ∷ before) cs)
+  where
+    go : (t : Bool) → is_word_character c ≡ t → (is_word_character c ≡ true → words_from (c ∷ before) cs ≡ words_left true (behind is_word_character cs))
+        → words_from before (c ∷ cs) ≡ words_left true (behind is_word_character (c ∷ cs))
+    go true e rest =
+        ap₂ ◌++◌ (none_within before [] (c ∷ cs) first (run-word before first)) (rest e) ∙ ap (words_left true) (sym (behind-pass is_word_character c cs e))
+    go false e rest =
+        words_from-run before (before_rest true) (c ∷ cs) e (run-word before first ∙ sym (run_before_rest true)) ∙ sym (words_left-places true (c ∷ cs))
+        ∙ ap (words_left true) (sym (behind-fail is_word_character (c ∷ cs) e))
+
+-- at a word character: the words that begin there, and those behind its plain word
+pub words_left-word : (in_run : Bool) (cs : List ℕ) → begins is_word_character cs ≡ true
+    → words_left in_run cs ≡ (within (front is_word_character cs) ++ long_at in_run cs) ++ words_left true (behind is_word_character cs)
+words_left-word in_run [] e = cc
+words_left-word in_run (c ∷ cs) e =
+    words_left-places in_run (c ∷ cs)
+    ∙ ap₂ ◌++◌ (words_on-word in_run (before_rest in_run) (c ∷ cs) (first_before_rest in_run) (run_before_rest in_run) e)
+      (words_from-past (c ∷ before_rest in_run) cs e ∙ ap (words_left true) (sym (behind-pass is_word_character c cs e)))
+
+-- past all characters at which no word begins
+pub words_left-gaps : (in_run : Bool) (cs : List ℕ) → words_left in_run cs ≡ words_left (in_run && list_all is_joiner (front is_other cs)) (behind is_other cs)
+words_left-gaps in_run [] = words_left-end in_run ∙ sym (words_left-end (in_run && true))
+words_left-gaps in_run (c ∷ cs) = go (is_word_character c) refl (words_left-gaps (in_run && is_joiner c) cs)
+  where
+    and_assoc : (a b c : Bool) → ((a && b) && c) ≡ (a && (b && c))
+    and_assoc true b c = refl
+    and_assoc false b c = refl
+    go : (t : Bool) → is_word_character c ≡ t
+        → words_left (in_run && is_joiner c) cs ≡ words_left ((in_run && is_joiner c) && list_all is_joiner (front is_other cs)) (behind is_other cs)
+        → words_left in_run (c ∷ cs) ≡ words_left (in_run && list_all is_joiner (front is_other (c ∷ cs))) (behind is_other (c ∷ cs))
+    go true e rest =
+        ap (λ b. words_left b (c ∷ cs)) (sym (and-true in_run))
+        ∙ sym (ap₂ (λ fore back. words_left (in_run && list_all is_joiner fore) back) (front-fail is_other (c ∷ cs) (λ k. not (e k))) (behind-fail is_other (c ∷ cs) (λ k. not (e k))))
+    go false e rest =
+        words_left-gap in_run c cs e ∙ rest ∙ ap (λ b. words_left b (behind is_other cs)) (and_assoc in_run (is_joiner c) (list_all is_joiner (front is_other cs)))
+        ∙ sym (ap₂ (λ fore back. words_left (in_run && list_all is_joiner fore) back) (front-pass is_other c cs (λ k. not (e k))) (behind-pass is_other c cs (λ k. not (e k))))
+
+begins-other : (cs : List ℕ) → begins is_other cs ≡ false → is_some cs ≡ true → begins is_word_character cs ≡ true
+begins-other [] e some = some
+begins-other (c ∷ cs) e some = go (is_word_character c) refl e
+  where
+    go : (t : Bool) → is_word_character c ≡ t → is_other c ≡ false → is_word_character c ≡ true
+    go true w o = w
+    go false w o = let other : is_other c ≡ true = (λ k. not (w k)) in cc
+
+-- a word begins behind them, unless nothing is left
+pub begins-gaps : (cs : List ℕ) → is_some (behind is_other cs) ≡ true → begins is_word_character (behind is_other cs) ≡ true
+begins-gaps cs some = begins-other (behind is_other cs) (begins-behind is_other cs) some

@@ -1,0 +1,71 @@
+-- A text, cut between two of its characters.
+use lib.Utf8.{scalar}
+use Rattle.std.proofs.Common.{◌≡◌, ℕ, ◌+◌, ◌≤◌, ◌<◌, Bool, true, false, ◌&&◌, List, [], ◌∷◌, ◌++◌, length, take, drop, chars, encode_utf8_all, IsUtf8, refl, sym, ap, subst, ◌∙◌, arith, length-append}
+use Rattle.std.proofs.Math.Seq.{take-append_seam, drop-append_seam}
+use Rattle.std.proofs.Math.Utf8.{scalars}
+use Rattle.std.proofs.lemmas.Bool.{and_parts}
+use Rattle.std.proofs.lemmas.Str.{encodes-append, encodes-chars, chars-encodes, scalars-chars, length-le-encodes, IsCharBoundary-at_seam}
+use Rattle.std.specs.Str.{IsCharBoundary}
+use Rattle.mail_words.specs.Runs.{front, behind}
+use Rattle.mail_words.proofs.RunLemmas.{front-behind, is_some}
+
+scalars-front : (xs ys : List ℕ) → scalars (xs ++ ys) ≡ true → scalars xs ≡ true
+scalars-front [] ys h = refl
+scalars-front (x ∷ xs) ys h =
+    let parts = and_parts (scalar x) (scalars (xs ++ ys)) h in
+    (λ k. parts.0 k && scalars-front xs ys parts.1 k)
+
+scalars-back : (xs ys : List ℕ) → scalars (xs ++ ys) ≡ true → scalars ys ≡ true
+scalars-back [] ys h = h
+scalars-back (x ∷ xs) ys h = scalars-back xs ys (and_parts (scalar x) (scalars (xs ++ ys)) h).1
+
+-- the text, cut behind the characters xs and before ys
+pub record IsSeam (text xs ys : List ℕ) : Type 0 where
+  pub front : take (length (encode_utf8_all xs)) text ≡ encode_utf8_all xs
+  pub back : drop (length (encode_utf8_all xs)) text ≡ encode_utf8_all ys
+  pub boundary : IsCharBoundary text (length (encode_utf8_all xs))
+  pub front_chars : chars (encode_utf8_all xs) ≡ xs
+  pub back_chars : chars (encode_utf8_all ys) ≡ ys
+  pub lengths : length text ≡ length (encode_utf8_all xs) + length (encode_utf8_all ys)
+
+pub seam : (text xs ys : List ℕ) → IsUtf8 text → chars text ≡ xs ++ ys → IsSeam text xs ys
+seam text xs ys utf8 parts =
+    let valid : scalars (xs ++ ys) ≡ true = ap scalars (sym parts) ∙ scalars-chars text utf8 in
+    let joined : text ≡ encode_utf8_all xs ++ encode_utf8_all ys = sym (encodes-chars text utf8) ∙ ap encode_utf8_all parts ∙ encodes-append xs ys in
+    record {
+      front = ap (take (length (encode_utf8_all xs))) joined ∙ take-append_seam (encode_utf8_all xs) (encode_utf8_all ys);
+      back = ap (drop (length (encode_utf8_all xs))) joined ∙ drop-append_seam (encode_utf8_all xs) (encode_utf8_all ys);
+      boundary = IsCharBoundary-at_seam text (encode_utf8_all xs) (encode_utf8_all ys) joined (ys, (scalars-back xs ys valid, refl));
+      front_chars = chars-encodes xs (scalars-front xs ys valid);
+      back_chars = chars-encodes ys (scalars-back xs ys valid);
+      lengths = ap length joined ∙ length-append (encode_utf8_all xs) (encode_utf8_all ys);
+    }
+
+-- the same at a place that is told by its number of bytes
+pub seam_boundary : (text xs ys : List ℕ) (n : ℕ) → IsSeam text xs ys → n ≡ length (encode_utf8_all xs) → IsCharBoundary text n
+seam_boundary text xs ys n s place = subst (IsCharBoundary text) (sym place) s.boundary
+
+pub seam_front : (text xs ys : List ℕ) (n : ℕ) (part : List ℕ) → IsSeam text xs ys → n ≡ length (encode_utf8_all xs) → part ≡ take n text → part ≡ encode_utf8_all xs
+seam_front text xs ys n part s place is = is ∙ ap (λ k. take k text) place ∙ s.front
+
+pub seam_back : (text xs ys : List ℕ) (n : ℕ) (part : List ℕ) → IsSeam text xs ys → n ≡ length (encode_utf8_all xs) → part ≡ drop n text → part ≡ encode_utf8_all ys
+seam_back text xs ys n part s place is = is ∙ ap (λ k. drop k text) place ∙ s.back
+
+pub chars_front : (text xs ys : List ℕ) (n : ℕ) (part : List ℕ) → IsSeam text xs ys → n ≡ length (encode_utf8_all xs) → part ≡ take n text → chars part ≡ xs
+chars_front text xs ys n part s place is = ap chars (seam_front text xs ys n part s place is) ∙ s.front_chars
+
+pub chars_back : (text xs ys : List ℕ) (n : ℕ) (part : List ℕ) → IsSeam text xs ys → n ≡ length (encode_utf8_all xs) → part ≡ drop n text → chars part ≡ ys
+chars_back text xs ys n part s place is = ap chars (seam_back text xs ys n part s place is) ∙ s.back_chars
+
+-- behind the characters that pass
+pub front_seam : (p : ℕ → Bool) (text : List ℕ) → IsUtf8 text → IsSeam text (front p (chars text)) (behind p (chars text))
+front_seam p text utf8 = seam text (front p (chars text)) (behind p (chars text)) utf8 (sym (front-behind p (chars text)))
+
+-- there are characters where there are bytes
+pub some_from_bytes : (cs : List ℕ) → 0 < length (encode_utf8_all cs) → is_some cs ≡ true
+some_from_bytes [] h = absurd (omega (arith, h))
+some_from_bytes (c ∷ cs) h = refl
+
+pub nil_from_bytes : (cs : List ℕ) → length (encode_utf8_all cs) ≡ 0 → cs ≡ []
+nil_from_bytes [] h = refl
+nil_from_bytes (c ∷ cs) h = absurd (omega (arith, h, length-le-encodes (c ∷ cs)))

@@ -1,0 +1,243 @@
+-- What begins at a place, by what the character there is.
+use Rattle.std.proofs.Common.{◌≡◌, ℕ, Bool, true, false, not, cond, ◌&&◌, ◌||◌, List, [], ◌∷◌, ◌++◌, reverse, length, encode_utf8_all, refl, sym, ap, ap₂, ◌∙◌, append_assoc, append-nil, nat_le}
+use Rattle.std.proofs.Math.Bool.{and-false, or-true}
+use Rattle.std.proofs.lemmas.Bool.{and_parts}
+use Rattle.std.proofs.lemmas.List.{reverse-append}
+use Rattle.std.proofs.lemmas.List.Folds.{list_all-append, list_any-append}
+use Rattle.std.specs.List.{list_all, list_any}
+use Rattle.mail_words.specs.Words.{is_word_character, is_joiner, begins, after_joiners}
+use Rattle.mail_words.specs.Runs.{front, behind, joined_to, joined_front, within, joined_on, long_at}
+use Rattle.mail_words.proofs.Characters.{joiner_is_no_word_character, word_character_is_no_joiner}
+use Rattle.mail_words.proofs.RunLemmas.{front-pass, front-fail, behind-pass, behind-fail, begins-behind, is_some, nil_from_none, joined_front-word, joined_front-joiner, joined_front-other, is_some-joined_front, run-word}
+use Rattle.mail_words.proofs.Places.{if_word, words_on, words_from}
+use Rattle.mail_words.proofs.Tests.{is_piece, is_plain, is_long, none_begins, none_inside, none_of_others, none_ends, none_yet, none_in_run, none_before_end, same_before}
+
+-- ---- the front of a word that grows by a character
+
+begins-append : (p : ℕ → Bool) (xs ys : List ℕ) → begins p xs ≡ true → begins p (xs ++ ys) ≡ true
+begins-append p [] ys h = cc
+begins-append p (x ∷ xs) ys h = h
+
+not_begins-append : (p : ℕ → Bool) (x : ℕ) (xs ys : List ℕ) → begins p (x ∷ xs) ≡ false → begins p (x ∷ xs ++ ys) ≡ false
+not_begins-append p x xs ys h = h
+
+ends-push : (p : ℕ → Bool) (xs : List ℕ) (c : ℕ) → begins p (reverse (xs ++ c ∷ [])) ≡ p c
+ends-push p xs c = ap (begins p) (reverse-append xs (c ∷ []))
+
+all-push : (p : ℕ → Bool) (xs : List ℕ) (c : ℕ) → list_all p (xs ++ c ∷ []) ≡ (list_all p xs && (p c && true))
+all-push p xs c = list_all-append p xs (c ∷ [])
+
+any-push : (p : ℕ → Bool) (xs : List ℕ) (c : ℕ) → list_any p (xs ++ c ∷ []) ≡ (list_any p xs || (p c || false))
+any-push p xs c = list_any-append p xs (c ∷ [])
+
+-- ---- nothing begins here
+
+-- at a character that is no word character
+none_begin : (before : List ℕ) (x : ℕ) (inside rest : List ℕ) → is_word_character x ≡ false → words_on before (x ∷ inside) rest ≡ []
+none_begin before x inside [] other = refl
+none_begin before x inside (c ∷ cs) other =
+    ap₂ ◌++◌ (none_begins before (x ∷ inside ++ c ∷ []) cs other) (none_begin before x (inside ++ c ∷ []) cs other)
+
+pub words_on-other : (before : List ℕ) (c : ℕ) (cs : List ℕ) → is_word_character c ≡ false → words_on before [] (c ∷ cs) ≡ []
+words_on-other before c cs other = ap₂ ◌++◌ (none_begins before (c ∷ []) cs other) (none_begin before c [] cs other)
+
+-- within a run of word characters
+pub none_within : (before inside rest : List ℕ) → begins is_word_character before ≡ true → begins is_word_character (after_joiners before) ≡ true → words_on before inside rest ≡ []
+none_within before inside [] first run = refl
+none_within before inside (c ∷ cs) first run =
+    ap₂ ◌++◌ (none_inside before (inside ++ c ∷ []) cs first run) (none_within before (inside ++ c ∷ []) cs first run)
+
+-- with a character that is neither a word character nor a joiner
+none_with_other : (before inside rest : List ℕ) → list_all is_word_character inside ≡ false → list_all is_piece inside ≡ false → words_on before inside rest ≡ []
+none_with_other before inside [] all pieces = refl
+none_with_other before inside (c ∷ cs) all pieces =
+    let all' : list_all is_word_character (inside ++ c ∷ []) ≡ false = all-push is_word_character inside c ∙ ap (λ b. b && (is_word_character c && true)) all in
+    let pieces' : list_all is_piece (inside ++ c ∷ []) ≡ false = all-push is_piece inside c ∙ ap (λ b. b && (is_piece c && true)) pieces in
+    ap₂ ◌++◌ (none_of_others before (inside ++ c ∷ []) cs all' pieces') (none_with_other before (inside ++ c ∷ []) cs all' pieces')
+
+-- a long word whose run began earlier
+none_again : (before inside rest : List ℕ) → list_all is_word_character inside ≡ false → begins is_word_character (after_joiners before) ≡ true → words_on before inside rest ≡ []
+none_again before inside [] all run = refl
+none_again before inside (c ∷ cs) all run =
+    let all' : list_all is_word_character (inside ++ c ∷ []) ≡ false = all-push is_word_character inside c ∙ ap (λ b. b && (is_word_character c && true)) all in
+    ap₂ ◌++◌ (none_in_run before (inside ++ c ∷ []) cs all' run) (none_again before (inside ++ c ∷ []) cs all' run)
+
+-- ---- a plain word
+
+begins-all : (p : ℕ → Bool) (xs : List ℕ) (c : ℕ) → list_all p (xs ++ c ∷ []) ≡ true → begins p (xs ++ c ∷ []) ≡ true
+begins-all p [] c h = go (p c) h
+  where
+    go : (t : Bool) → (t && true) ≡ true → t ≡ true
+    go true e = refl
+    go false e = e
+begins-all p (x ∷ xs) c h = go (p x) (list_all p (xs ++ c ∷ [])) h
+  where
+    go : (t u : Bool) → (t && u) ≡ true → t ≡ true
+    go true u e = refl
+    go false u e = e
+
+-- the words that begin with these word characters and end in the rest, which begins with one: first the plain word
+abbrev plain_first : List ℕ → List ℕ → List ℕ → List ℕ → List (List ℕ)
+plain_first before inside fore rest = within (inside ++ fore) ++ words_on before (inside ++ fore) rest
+
+words_on-plain : (before inside cs : List ℕ) → list_all is_word_character inside ≡ true → list_any is_joiner inside ≡ false → begins is_word_character before ≡ false
+    → begins is_word_character cs ≡ true → words_on before inside cs ≡ plain_first before inside (front is_word_character cs) (behind is_word_character cs)
+words_on-plain before inside [] all joins first e = cc
+words_on-plain before inside (c ∷ cs) all joins first e =
+    go (begins is_word_character cs) refl (words_on-plain before longer cs all' joins' first)
+    ∙ sym (ap₂ (plain_first before inside) (front-pass is_word_character c cs e) (behind-pass is_word_character c cs e))
+  where
+    longer : List ℕ
+    longer = inside ++ c ∷ []
+    all' : list_all is_word_character longer ≡ true
+    all' = all-push is_word_character inside c ∙ (λ k. all k && (e k && true))
+    joins' : list_any is_joiner longer ≡ false
+    joins' = any-push is_joiner inside c ∙ (λ k. joins k || (word_character_is_no_joiner c e k || false))
+    go : (t : Bool) → begins is_word_character cs ≡ t
+        → (begins is_word_character cs ≡ true → words_on before longer cs ≡ plain_first before longer (front is_word_character cs) (behind is_word_character cs))
+        → words_on before inside (c ∷ cs) ≡ plain_first before inside (c ∷ front is_word_character cs) (behind is_word_character cs)
+    go true more rest =
+        ap₂ ◌++◌ (none_yet before longer cs more joins') (rest more)
+        ∙ ap (λ whole. within whole ++ words_on before whole (behind is_word_character cs)) (append_assoc inside (c ∷ []) (front is_word_character cs))
+    go false last rest =
+        ap (λ ws. ws ++ words_on before longer cs) (is_plain before longer cs (begins-all is_word_character inside c all') all' first last)
+        ∙ sym (ap₂ (λ fore rest. plain_first before inside (c ∷ fore) rest) (front-fail is_word_character cs last) (behind-fail is_word_character cs last))
+
+-- ---- a long word
+
+joined_on-push : (inside : List ℕ) (c : ℕ) (cs : List ℕ) → is_some cs ≡ true → joined_on (inside ++ c ∷ []) cs ≡ joined_on inside (c ∷ cs)
+joined_on-push inside c [] some = cc
+joined_on-push inside c (d ∷ ds) some = ap within (append_assoc inside (c ∷ []) (d ∷ ds))
+
+joined_on-joined_to : (inside : List ℕ) (c : ℕ) (cs : List ℕ) → joined_on (inside ++ c ∷ []) cs ≡ joined_on inside (joined_to c cs)
+joined_on-joined_to inside c [] = refl
+joined_on-joined_to inside c (d ∷ ds) = ap within (append_assoc inside (c ∷ []) (d ∷ ds))
+
+-- what is so of the front of a long word
+record BeginsLong (before inside : List ℕ) : Type 0 where
+  begun : begins is_word_character inside ≡ true
+  pieces : list_all is_piece inside ≡ true
+  first : begins is_word_character (after_joiners before) ≡ false
+
+begins_long-push : (before inside : List ℕ) (c : ℕ) → BeginsLong before inside → is_piece c ≡ true → BeginsLong before (inside ++ c ∷ [])
+begins_long-push before inside c h piece =
+    record {
+      begun = begins-append is_word_character inside (c ∷ []) h.begun;
+      pieces = all-push is_piece inside c ∙ (λ k. h.pieces k && (piece k && true));
+      first = h.first;
+    }
+
+-- some joiner stands in it
+record IsJoined (inside : List ℕ) : Type 0 where
+  joins : list_any is_joiner inside ≡ true
+  all : list_all is_word_character inside ≡ false
+
+is_joined-push : (inside : List ℕ) (c : ℕ) → IsJoined inside → IsJoined (inside ++ c ∷ [])
+is_joined-push inside c h =
+    record {
+      joins = any-push is_joiner inside c ∙ (λ k. h.joins k || (is_joiner c || false));
+      all = all-push is_word_character inside c ∙ (λ k. h.all k && (is_word_character c && true));
+    }
+
+is_joined-joiner : (inside : List ℕ) (c : ℕ) → is_joiner c ≡ true → IsJoined (inside ++ c ∷ [])
+is_joined-joiner inside c e =
+    record {
+      joins = any-push is_joiner inside c ∙ (λ k. list_any is_joiner inside || (e k || false)) ∙ or-true (list_any is_joiner inside);
+      all = all-push is_word_character inside c ∙ (λ k. list_all is_word_character inside && (joiner_is_no_word_character c e k && true)) ∙ and-false (list_all is_word_character inside);
+    }
+
+none_past_other : (before inside : List ℕ) (c : ℕ) (cs : List ℕ) → is_word_character c ≡ false → is_joiner c ≡ false → words_on before inside (c ∷ cs) ≡ []
+none_past_other before inside c cs e f =
+    ap₂ ◌++◌ (none_of_others before (inside ++ c ∷ []) cs all' pieces') (none_with_other before (inside ++ c ∷ []) cs all' pieces')
+  where
+    all' : list_all is_word_character (inside ++ c ∷ []) ≡ false
+    all' = all-push is_word_character inside c ∙ (λ k. list_all is_word_character inside && (e k && true)) ∙ and-false (list_all is_word_character inside)
+    pieces' : list_all is_piece (inside ++ c ∷ []) ≡ false
+    pieces' = all-push is_piece inside c ∙ (λ k. list_all is_piece inside && ((e k || f k) && true)) ∙ and-false (list_all is_piece inside)
+
+words_on-joined : (before inside cs : List ℕ) → BeginsLong before inside → IsJoined inside → words_on before inside cs ≡ joined_on inside (joined_front cs)
+words_on-joined before inside [] h j = refl
+words_on-joined before inside (c ∷ cs) h j =
+    go (is_word_character c) (is_joiner c) (begins is_word_character (after_joiners cs)) refl refl refl (words_on-joined before longer cs)
+  where
+    longer : List ℕ
+    longer = inside ++ c ∷ []
+    go : (w d more : Bool) → is_word_character c ≡ w → is_joiner c ≡ d → begins is_word_character (after_joiners cs) ≡ more
+        → (BeginsLong before longer → IsJoined longer → words_on before longer cs ≡ joined_on longer (joined_front cs))
+        → words_on before inside (c ∷ cs) ≡ joined_on inside (joined_front (c ∷ cs))
+    go true d true e f m rest =
+        let h' = begins_long-push before inside c h (λ k. e k || is_joiner c) in
+        let j' = is_joined-push inside c j in
+        ap₂ ◌++◌ (none_before_end before longer cs j'.all m) (rest h' j')
+        ∙ joined_on-push inside c (joined_front cs) (is_some-joined_front cs ∙ m) ∙ ap (joined_on inside) (sym (joined_front-word c cs e))
+    go true d false e f m rest =
+        let h' = begins_long-push before inside c h (λ k. e k || is_joiner c) in
+        let j' = is_joined-push inside c j in
+        let none = nil_from_none (joined_front cs) (is_some-joined_front cs ∙ m) in
+        ap₂ ◌++◌ (is_long before longer cs h'.begun (ends-push is_word_character inside c ∙ e) h'.pieces j'.joins h.first m) (rest h' j' ∙ ap (joined_on longer) none)
+        ∙ append-nil (within longer) ∙ ap (λ js. within (inside ++ c ∷ js)) (sym none) ∙ ap (joined_on inside) (sym (joined_front-word c cs e))
+    go false true more e f m rest =
+        let h' = begins_long-push before inside c h (λ k. e k || f k) in
+        let j' = is_joined-push inside c j in
+        ap₂ ◌++◌ (none_ends before longer cs j'.all (ends-push is_word_character inside c ∙ e)) (rest h' j')
+        ∙ joined_on-joined_to inside c (joined_front cs) ∙ ap (joined_on inside) (sym (joined_front-joiner c cs f))
+    go false false more e f m rest = none_past_other before inside c cs e f ∙ ap (joined_on inside) (sym (joined_front-other c cs e f))
+
+-- ---- what begins at the first character of a plain word
+
+all_pieces : (cs : List ℕ) → list_all is_word_character cs ≡ true → list_all is_piece cs ≡ true
+all_pieces [] h = refl
+all_pieces (c ∷ cs) h =
+    let parts = and_parts (is_word_character c) (list_all is_word_character cs) h in
+    (λ k. (parts.0 k || is_joiner c) && all_pieces cs parts.1 k)
+
+all-front : (p : ℕ → Bool) (cs : List ℕ) → list_all p (front p cs) ≡ true
+all-front p [] = refl
+all-front p (c ∷ cs) = go (p c) refl (all-front p cs)
+  where
+    go : (t : Bool) → p c ≡ t → list_all p (front p cs) ≡ true → list_all p (front p (c ∷ cs)) ≡ true
+    go true e rest = ap (list_all p) (front-pass p c cs e) ∙ (λ k. e k && rest k)
+    go false e rest = ap (list_all p) (front-fail p (c ∷ cs) e)
+
+begins-front : (p : ℕ → Bool) (cs : List ℕ) → begins p cs ≡ true → begins p (front p cs) ≡ true
+begins-front p [] e = e
+begins-front p (c ∷ cs) e = ap (begins p) (front-pass p c cs e) ∙ e
+
+-- the long word, behind the plain one with which it begins
+long_behind : (before plain rest : List ℕ) → begins is_word_character plain ≡ true → list_all is_word_character plain ≡ true → begins is_word_character rest ≡ false
+    → begins is_word_character (after_joiners before) ≡ false → words_on before plain rest ≡ joined_on plain (joined_front rest)
+long_behind before plain [] begun all last first = refl
+long_behind before plain (c ∷ cs) begun all last first = go (is_joiner c) refl
+  where
+    longer : List ℕ
+    longer = plain ++ c ∷ []
+    go : (t : Bool) → is_joiner c ≡ t → words_on before plain (c ∷ cs) ≡ joined_on plain (joined_front (c ∷ cs))
+    go true e =
+        let joined = is_joined-joiner plain c e in
+        let h = begins_long-push before plain c (record { begun = begun; pieces = all_pieces plain all; first = first }) (λ k. last k || e k) in
+        ap₂ ◌++◌ (none_ends before longer cs joined.all (ends-push is_word_character plain c ∙ last)) (words_on-joined before longer cs h joined)
+        ∙ joined_on-joined_to plain c (joined_front cs) ∙ ap (joined_on plain) (sym (joined_front-joiner c cs e))
+    go false e = none_past_other before plain c cs last e ∙ ap (joined_on plain) (sym (joined_front-other c cs last e))
+
+-- no long word, where its run began earlier
+no_long_behind : (before plain rest : List ℕ) → begins is_word_character rest ≡ false → begins is_word_character (after_joiners before) ≡ true → words_on before plain rest ≡ []
+no_long_behind before plain [] last run = refl
+no_long_behind before plain (c ∷ cs) last run =
+    ap₂ ◌++◌ (none_in_run before (plain ++ c ∷ []) cs all' run) (none_again before (plain ++ c ∷ []) cs all' run)
+  where
+    all' : list_all is_word_character (plain ++ c ∷ []) ≡ false
+    all' = all-push is_word_character plain c ∙ (λ k. list_all is_word_character plain && (last k && true)) ∙ and-false (list_all is_word_character plain)
+
+-- the plain word and the long one that begin at a word character
+pub words_on-word : (in_run : Bool) (before cs : List ℕ) → begins is_word_character before ≡ false → begins is_word_character (after_joiners before) ≡ in_run → begins is_word_character cs ≡ true
+    → words_on before [] cs ≡ within (front is_word_character cs) ++ long_at in_run cs
+words_on-word in_run before cs first run e =
+    words_on-plain before [] cs refl refl first e ∙ ap (λ ws. within plain ++ ws) (go in_run run)
+  where
+    plain : List ℕ
+    plain = front is_word_character cs
+    rest : List ℕ
+    rest = behind is_word_character cs
+    go : (t : Bool) → begins is_word_character (after_joiners before) ≡ t → words_on before plain rest ≡ long_at t cs
+    go true run = no_long_behind before plain rest (begins-behind is_word_character cs) run
+    go false run = long_behind before plain rest (begins-front is_word_character cs e) (all-front is_word_character cs) (begins-behind is_word_character cs) run

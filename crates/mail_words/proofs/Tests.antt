@@ -1,0 +1,59 @@
+-- When three parts of a text make the middle one a word.
+use Rattle.std.proofs.Common.{◌≡◌, ℕ, Bool, true, false, not, cond, ◌&&◌, ◌||◌, List, [], ◌∷◌, ◌++◌, reverse, length, encode_utf8_all, refl, sym, ap, ap₂, ◌∙◌, nat_le}
+use Rattle.std.proofs.Math.Bool.{and-false, or-true}
+use Rattle.std.proofs.lemmas.List.{reverse-append}
+use Rattle.std.proofs.lemmas.List.Folds.{list_all-append, list_any-append}
+use Rattle.std.specs.List.{list_all, list_any}
+use Rattle.mail_words.specs.Words.{is_word_character, is_joiner, begins, after_joiners, is_word, word_limit}
+use Rattle.mail_words.specs.Runs.{within}
+use Rattle.mail_words.proofs.Places.{if_word}
+
+abbrev pub is_piece : ℕ → Bool
+is_piece c = is_word_character c || is_joiner c
+
+pub is_plain : (before inside behind : List ℕ) → begins is_word_character inside ≡ true → list_all is_word_character inside ≡ true
+    → begins is_word_character before ≡ false → begins is_word_character behind ≡ false → if_word before inside behind ≡ within inside
+unfolding is_word
+is_plain before inside behind begun all first last = rw (begun, all, first, last) refl
+
+pub is_long : (before inside behind : List ℕ) → begins is_word_character inside ≡ true → begins is_word_character (reverse inside) ≡ true → list_all is_piece inside ≡ true
+    → list_any is_joiner inside ≡ true → begins is_word_character (after_joiners before) ≡ false → begins is_word_character (after_joiners behind) ≡ false
+    → if_word before inside behind ≡ within inside
+unfolding is_word
+is_long before inside behind begun ended pieces joins first last = rw (begun, ended, pieces, joins, first, last) (rw or-true refl)
+
+-- ---- when they don't: each has a reason against a plain word and one against a long one
+
+pub none_begins : (before inside behind : List ℕ) → begins is_word_character inside ≡ false → if_word before inside behind ≡ []
+unfolding is_word
+none_begins before inside behind begun = rw begun refl
+
+pub none_inside : (before inside behind : List ℕ) → begins is_word_character before ≡ true → begins is_word_character (after_joiners before) ≡ true → if_word before inside behind ≡ []
+unfolding is_word
+none_inside before inside behind first run = simp (first, run, and-false) refl
+
+pub none_of_others : (before inside behind : List ℕ) → list_all is_word_character inside ≡ false → list_all is_piece inside ≡ false → if_word before inside behind ≡ []
+unfolding is_word
+none_of_others before inside behind all pieces = simp (all, pieces, and-false) refl
+
+pub none_ends : (before inside behind : List ℕ) → list_all is_word_character inside ≡ false → begins is_word_character (reverse inside) ≡ false → if_word before inside behind ≡ []
+unfolding is_word
+none_ends before inside behind all ended = simp (all, ended, and-false) refl
+
+pub none_yet : (before inside behind : List ℕ) → begins is_word_character behind ≡ true → list_any is_joiner inside ≡ false → if_word before inside behind ≡ []
+unfolding is_word
+none_yet before inside behind last joins = simp (last, joins, and-false) refl
+
+pub none_in_run : (before inside behind : List ℕ) → list_all is_word_character inside ≡ false → begins is_word_character (after_joiners before) ≡ true → if_word before inside behind ≡ []
+unfolding is_word
+none_in_run before inside behind all first = simp (all, first, and-false) refl
+
+pub none_before_end : (before inside behind : List ℕ) → list_all is_word_character inside ≡ false → begins is_word_character (after_joiners behind) ≡ true → if_word before inside behind ≡ []
+unfolding is_word
+none_before_end before inside behind all last = simp (all, last, and-false) refl
+
+-- of what stands before, only these two matter
+pub same_before : (before before' inside behind : List ℕ) → begins is_word_character before ≡ begins is_word_character before'
+    → begins is_word_character (after_joiners before) ≡ begins is_word_character (after_joiners before') → if_word before inside behind ≡ if_word before' inside behind
+unfolding is_word
+same_before before before' inside behind first run = rw (first, run) refl

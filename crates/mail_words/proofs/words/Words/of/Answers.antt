@@ -1,0 +1,10 @@
+use Rattle.std.proofs.Common.{All, sym, subst}
+use Rattle.mail_words.specs.Words.{HasWordLength}
+use Rattle.mail_words.proofs.Lengths.{words_left-whole, all-words}
+use Rattle.mail_words.proofs.words.Words.of.Goals as goal
+
+pub returns-clause-words : goal.returns-clause-words
+returns-clause-words c = words_left-whole c.args.text.now
+
+pub returns-clause-bounded : goal.returns-clause-bounded
+returns-clause-bounded c = subst (All HasWordLength) (sym (words_left-whole c.args.text.now)) (all-words c.args.text.now)

@@ -1,0 +1,15 @@
+use Rattle.mail_words.specs.Words.{is_word_character}
+use Rattle.mail_words.proofs.Seams.{front_seam, seam_boundary, seam_front, seam_back, chars_back}
+use Rattle.mail_words.proofs.words.place_at.Goals as goal
+
+pub split_at-requires : goal.split_at-requires
+split_at-requires c = seam_boundary _ _ _ _ (front_seam is_word_character c.args.text.now c.utf8.text) c.plain_len-len.ensures
+
+pub returns-clause-plain : goal.returns-clause-plain
+returns-clause-plain c = seam_front _ _ _ _ _ (front_seam is_word_character c.args.text.now c.utf8.text) c.plain_len-len.ensures c.split_at.ensures.front
+
+pub returns-clause-behind : goal.returns-clause-behind
+returns-clause-behind c = seam_back _ _ _ _ _ (front_seam is_word_character c.args.text.now c.utf8.text) c.plain_len-len.ensures c.split_at.ensures.back
+
+pub returns-clause-behind_chars : goal.returns-clause-behind_chars
+returns-clause-behind_chars c = chars_back _ _ _ _ _ (front_seam is_word_character c.args.text.now c.utf8.text) c.plain_len-len.ensures c.split_at.ensures.back

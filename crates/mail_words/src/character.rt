@@ -1,0 +1,30 @@
+//! The characters that words are made of.
+ghost use Rattle.std.specs.Prelude.{◌≡◌};
+ghost use Rattle.mail_words.specs.Words.{is_word_character, is_joiner};
+
+use unicode::properties::{GeneralCategory, is_alphabetic};
+
+/// Whether it is Alphabetic, or of category Mn, Mc or Nd.
+#[tactic(auto, using(crate::proofs::Characters::ascii_word_characters), unfolding(crate::specs::Words::is_word_character))]
+pub(crate) fn is_word_character(c: char) -> bool
+    ensures { result ≡ is_word_character c }
+{
+    if c.is_ascii() {
+        return c.is_ascii_alphanumeric();
+    }
+    is_alphabetic(c)
+        || matches!(
+            GeneralCategory::for_char(c),
+            GeneralCategory::NonspacingMark
+                | GeneralCategory::SpacingMark
+                | GeneralCategory::DecimalNumber
+        )
+}
+
+/// Whether it joins plain words to a long one.
+#[tactic(auto, unfolding(crate::specs::Words::is_joiner))]
+pub(crate) fn is_joiner(c: char) -> bool
+    ensures { result ≡ is_joiner c }
+{
+    matches!(c, '-' | '_' | '.' | '+' | '@')
+}

@@ -1,0 +1,51 @@
+//! Runs of word characters and joiners at the front of a text.
+ghost use Rattle.std.specs.Prelude.{◌≡◌, length, chars, encode_utf8_all};
+ghost use Rattle.mail_words.specs.Words.{is_word_character};
+ghost use Rattle.mail_words.specs.Runs.{front, is_other, joined_front};
+
+use crate::character::{is_joiner, is_word_character};
+
+/// How many bytes the word characters at the front take.
+pub(crate) fn plain_len(text: &str) -> usize
+    ensures { result ≡ length (encode_utf8_all (front is_word_character (chars text.now))) }
+{
+    let mut len = 0;
+    for c in text.chars() {
+        if !is_word_character(c) {
+            return len;
+        }
+        len += c.len_utf8();
+    }
+    len
+}
+
+/// How many bytes the characters before the first word character take.
+pub(crate) fn gap_len(text: &str) -> usize
+    ensures { result ≡ length (encode_utf8_all (front is_other (chars text.now))) }
+{
+    let mut len = 0;
+    for c in text.chars() {
+        if is_word_character(c) {
+            return len;
+        }
+        len += c.len_utf8();
+    }
+    len
+}
+
+/// How many bytes the run of word characters and joiners at the front takes, without the joiners at its end.
+pub(crate) fn joined_len(text: &str) -> usize
+    ensures { result ≡ length (encode_utf8_all (joined_front (chars text.now))) }
+{
+    let mut read = 0;
+    let mut len = 0;
+    for c in text.chars() {
+        read += c.len_utf8();
+        if is_word_character(c) {
+            len = read;
+        } else if !is_joiner(c) {
+            return len;
+        }
+    }
+    len
+}

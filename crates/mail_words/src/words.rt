@@ -1,0 +1,154 @@
+//! The words of a text, one after another.
+ghost use Rattle.std.specs.Prelude.{◌≡◌, [], ◌∷◌, ◌++◌, ◌<◌, ◌≤◌, true, false, length, chars, encode_utf8_all, All, MatchOption, option_to_list};
+ghost use Rattle.std.specs.Iterator.{YieldsFirstRef, item_count};
+ghost use Rattle.std.specs.List.{list_all};
+ghost use Rattle.std.specs.Option.{option_copied};
+ghost use Rattle.mail_words.specs.Words.{words, HasWordLength, is_word_character, is_joiner, begins};
+ghost use Rattle.mail_words.specs.Runs.{words_left, front, behind, long_at};
+
+use crate::character::is_joiner;
+use crate::runs::{gap_len, joined_len, plain_len};
+use std::marker::Model;
+
+/// No word has more bytes than these.
+pub(crate) const WORD_LIMIT: usize = 128;
+
+/// The words of a text, by where they begin; at one place the plain word comes before the long one.
+///
+/// A plain word is a maximal run of word characters, which are Alphabetic or of category Mn, Mc or Nd
+/// (Unicode 18.0). A long word is a maximal run of word characters and `-`, `_`, `.`, `+` and `@`, without these
+/// five at both its ends, in which at least one of them is left. Each that comes has 1 to 128 bytes; longer ones
+/// are left out. It takes no memory, and its time is linear in the text.
+#[derive(Drop)]
+pub struct Words<'a> {
+    /// The long word that begins where the plain word given last began.
+    long: Option<&'a str>,
+    rest: &'a str,
+    /// Whether the rest goes on with a run whose long word was already looked at.
+    in_run: bool,
+}
+
+impl<'a> Model for Words<'a> {
+    ghost use Rattle.std.specs.Prelude.{List, ℕ, ◌++◌, chars, option_to_list};
+    ghost use Rattle.std.specs.Option.{option_copied};
+
+    ghost Value = { List (List ℕ) };
+
+    ghost use Rattle.mail_words.specs.Runs.{words_left};
+
+    ghost view = { λ s. option_to_list (option_copied s.long) ++ words_left s.in_run (chars s.rest.now) };
+}
+
+impl<'a> Words<'a> {
+    /// The words of this text.
+    pub fn of(text: &'a str) -> Words<'a>
+        ensures words { result ≡ words text.now }
+        ensures bounded { All HasWordLength result }
+    {
+        Words {
+            long: None,
+            rest: text,
+            in_run: false,
+        }
+    }
+}
+
+impl<'a> Iterator for Words<'a> {
+    type Item = &'a str;
+
+    ghost next_gives = { YieldsFirstRef (λ s. s) };
+
+    ghost remaining = { item_count (λ s. s) };
+
+    fn next(&mut self) -> Option<&'a str> {
+        if let Some(long) = self.long.take() {
+            return Some(long);
+        }
+        let place = next_place(self.rest, self.in_run)?;
+        self.long = place.long;
+        self.rest = place.behind;
+        self.in_run = true;
+        Some(place.plain)
+    }
+}
+
+/// A place where a plain word begins.
+#[derive(Clone, Copy)]
+struct Place<'a> {
+    plain: &'a str,
+    /// The long word that begins with it.
+    long: Option<&'a str>,
+    /// The text behind the plain word.
+    behind: &'a str,
+}
+
+/// The next place of a text where a word is kept. The text may go on with a run whose long word was looked at.
+fn next_place(text: &str, in_run: bool) -> Option<Place<'_>>
+    ensures { MatchOption result (words_left in_run (chars text.now) ≡ []) (λ p. words_left in_run (chars text.now) ≡ p.plain.now ∷ (option_to_list (option_copied p.long) ++ words_left true (chars p.behind.now))) }
+{
+    let mut rest = text;
+    let mut goes_on = in_run;
+    loop {
+        let (start, start_goes_on) = behind_gap(rest, goes_on);
+        if start.is_empty() {
+            return None;
+        }
+        let place = place_at(start, start_goes_on);
+        if place.plain.len() <= WORD_LIMIT {
+            return Some(place);
+        }
+        // The long word that begins with it is longer still.
+        rest = place.behind;
+        goes_on = true;
+    }
+}
+
+/// The text from its first word character on, and whether it still goes on with the run.
+fn behind_gap(text: &str, in_run: bool) -> (&str, bool)
+    ensures left { words_left in_run (chars text.now) ≡ words_left result.1 (chars result.0.now) }
+    ensures begins { 0 < length result.0.now → begins is_word_character (chars result.0.now) ≡ true }
+    ensures bound { length result.0.now ≤ length text.now }
+{
+    let (gap, start) = text.split_at(gap_len(text));
+    (start, in_run && has_joiners_alone(gap))
+}
+
+/// Whether each character is a joiner.
+fn has_joiners_alone(text: &str) -> bool
+    ensures { result ≡ list_all is_joiner (chars text.now) }
+{
+    text.chars().all(is_joiner)
+}
+
+/// What begins where a text does.
+fn place_at(text: &str, in_run: bool) -> Place<'_>
+    ensures plain { result.plain.now ≡ encode_utf8_all (front is_word_character (chars text.now)) }
+    ensures long { option_to_list (option_copied result.long) ≡ long_at in_run (chars text.now) }
+    ensures behind { result.behind.now ≡ encode_utf8_all (behind is_word_character (chars text.now)) }
+    ensures behind_chars { chars result.behind.now ≡ behind is_word_character (chars text.now) }
+{
+    let len = plain_len(text);
+    let (plain, behind) = text.split_at(len);
+    let long = if in_run { None } else { long_word(text, len) };
+    Place {
+        plain,
+        long,
+        behind,
+    }
+}
+
+/// The long word with which a text begins, whose plain word takes so many bytes.
+fn long_word(text: &str, plain: usize) -> Option<&str>
+    requires { plain ≡ length (encode_utf8_all (front is_word_character (chars text.now))) }
+    ensures { option_to_list (option_copied result) ≡ long_at false (chars text.now) }
+{
+    let joined = joined_len(text.split_at(plain).1);
+    if joined == 0 {
+        return None;
+    }
+    let len = plain + joined;
+    if len > WORD_LIMIT {
+        return None;
+    }
+    Some(text.split_at(len).0)
+}
