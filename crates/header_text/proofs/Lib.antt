@@ -2,3 +2,5 @@ mod Fronts
 mod PlaceLemmas
 mod HeaderLemmas
 mod PushLemmas
+mod CutLemmas
+mod UnfoldLemmas
