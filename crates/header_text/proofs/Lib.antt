@@ -4,3 +4,4 @@ mod HeaderLemmas
 mod PushLemmas
 mod CutLemmas
 mod UnfoldLemmas
+mod IdLemmas
