@@ -1,6 +1,6 @@
 -- The front of some bytes that passes a test, and blanks at the ends.
-use Rattle.std.proofs.Common.{◌≡◌, ◌∙◌, ◌++◌, ◌-◌, ◌≤◌, ◌+◌, ℕ, Bool, true, false, List, [], ◌∷◌, length, take, reverse, refl, sym, ap, arith, length-append}
-use Rattle.std.proofs.lemmas.List.{take_at, reverse-append, reverse-reverse}
+use Rattle.std.proofs.Common.{◌≡◌, ◌∙◌, ◌++◌, ◌-◌, ◌≤◌, ◌+◌, ℕ, Bool, true, false, List, [], ◌∷◌, length, take, drop, reverse, refl, sym, ap, arith, length-append, append_assoc}
+use Rattle.std.proofs.lemmas.List.{take_at, reverse-append, reverse-reverse, take-append-drop, length-take-le}
 use Rattle.header_text.specs.Blanks.{is_blank, split_while, after_blanks, before_blanks}
 
 -- the two parts join to the whole
@@ -38,3 +38,27 @@ before_blanks-stops bs b e = ap (λ (x : List ℕ). reverse (after_blanks x)) (r
 pub before_blanks-nil : before_blanks [] ≡ []
 unfolding before_blanks
 before_blanks-nil = refl
+
+-- what stands before the blanks at the end is a front
+after_blanks-joined : (bs : List ℕ) → (front : List ℕ) × (bs ≡ front ++ after_blanks bs)
+after_blanks-joined [] = ([], refl)
+after_blanks-joined (b ∷ bs) = go (is_blank b) refl (after_blanks-joined bs)
+  where
+    go : (t : Bool) → is_blank b ≡ t → (front : List ℕ) × (bs ≡ front ++ after_blanks bs) → (front : List ℕ) × (b ∷ bs ≡ front ++ after_blanks (b ∷ bs))
+    go true e later = (b ∷ later.0, rw (e, after_blanks) (ap (λ (l : List ℕ). b ∷ l) later.1))
+    go false e later = ([], rw (e, after_blanks) refl)
+
+before_blanks-joined : (bs : List ℕ) → (end : List ℕ) × (bs ≡ before_blanks bs ++ end)
+unfolding before_blanks
+before_blanks-joined bs =
+    let back = after_blanks-joined (reverse bs) in
+    (reverse back.0, sym (reverse-reverse bs) ∙ ap reverse back.1 ∙ reverse-append back.0 (after_blanks (reverse bs)))
+
+-- the bytes up to a place, and those behind it trimmed at the end
+pub take-before_blanks : (bs : List ℕ) (n : ℕ) → n ≤ length bs → take (n + length (before_blanks (drop n bs))) bs ≡ take n bs ++ before_blanks (drop n bs)
+take-before_blanks bs n le =
+    let kept : List ℕ = before_blanks (drop n bs) in
+    let end = before_blanks-joined (drop n bs) in
+    let whole : (take n bs ++ kept) ++ end.0 ≡ bs = append_assoc (take n bs) kept end.0 ∙ ap (λ (l : List ℕ). take n bs ++ l) (sym end.1) ∙ take-append-drop n bs in
+    let size : length (take n bs ++ kept) ≡ n + length kept = length-append (take n bs) kept ∙ ap (λ (k : ℕ). k + length kept) (length-take-le n bs le) in
+    ap (λ (l : List ℕ). take (n + length kept) l) (sym whole) ∙ take_at (take n bs ++ kept) end.0 (n + length kept) size

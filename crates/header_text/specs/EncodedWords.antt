@@ -1,8 +1,9 @@
 -- Encoded words in an unfolded value (RFC 2047).
-use Rattle.std.specs.Prelude.{◌≡◌, ℕ, zero, suc, ◌-◌, Bool, true, false, not, ◌&&◌, ◌||◌, ◌==◌, nat_le, nat_lt, IsTrue, List, [], ◌∷◌, ◌++◌, length, Option, Some, None, if◌then◌else◌, option_map, encode_utf8_all}
+use Rattle.std.specs.Prelude.{◌≡◌, ℕ, zero, suc, ◌-◌, Bool, true, false, not, ◌&&◌, ◌||◌, ◌==◌, nat_le, nat_lt, IsTrue, List, [], ◌∷◌, ◌++◌, length, Option, Some, None, if◌then◌else◌, encode_utf8_all}
 use Rattle.std.specs.List.{list_all}
 use Rattle.bstr.specs.Utf8.{lossy_chars}
 use Rattle.header_text.specs.Blanks.{is_blank}
+use Rattle.header_text.specs.Cuts.{cut_at}
 use Rattle.header_text.specs.Escapes.{q_bytes}
 use Rattle.header_text.specs.Base64.{base64_bytes}
 use Rattle.header_text.specs.Charsets.{charset_of, text_of}
@@ -48,12 +49,6 @@ BeginsWord bytes w = IsTrue (is_well_formed w) × ((later : List ℕ) × (bytes 
 
 -- ---- the encoded word that begins some bytes, if one does: there is one at most
 
--- what stands before the first `?`, and what follows it
-abbrev pub cut_at_question : List ℕ → Option (List ℕ × List ℕ)
-cut_at_question [] = None
-cut_at_question (b ∷ bs) =
-    elim (b == question) [ true ↦ Some ([], bs) | false ↦ option_map (λ parts. (b ∷ parts.0, parts.1)) (cut_at_question bs) ]
-
 -- what follows a front, where the bytes have it
 abbrev pub after : List ℕ → List ℕ → Option (List ℕ)
 after [] bytes = Some bytes
@@ -74,9 +69,9 @@ None >>= f = None
 unfoldable pub word_at : List ℕ → Option EncodedWord
 word_at bytes =
     after (equals_sign ∷ question ∷ []) bytes
-    >>= (λ rest. cut_at_question rest
-    >>= (λ charset. cut_at_question charset.1
-    >>= (λ encoding. cut_at_question encoding.1
+    >>= (λ rest. cut_at question rest
+    >>= (λ charset. cut_at question charset.1
+    >>= (λ encoding. cut_at question encoding.1
     >>= (λ text. after (equals_sign ∷ []) text.1
     >>= (λ later. word_of charset.0 encoding.0 text.0)))))
 

@@ -1,10 +1,12 @@
 pub mod Blanks
+pub mod Cuts
 pub mod Headers
 pub mod Places
 pub mod OpenFields
 pub mod Stages
 pub mod HeldLines
 pub mod Unfolding
+pub mod Breaks
 pub mod Ids
 pub mod Charsets
 pub mod Escapes

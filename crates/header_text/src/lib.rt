@@ -3,11 +3,16 @@
 
 mod blanks;
 mod charset;
+mod cut;
 mod field;
 mod field_list;
 mod header;
+mod message_id;
+mod unfolding;
 
 pub use charset::Charset;
 pub use field::Field;
 pub use field_list::Fields;
 pub use header::{Header, Taken};
+pub use message_id::message_ids;
+pub use unfolding::{unfold, unfold_into};

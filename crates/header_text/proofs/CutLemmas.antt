@@ -1,0 +1,77 @@
+-- Where bytes are cut.
+use Rattle.std.proofs.Common.{◌≡◌, ◌∙◌, ◌<◌, ◌++◌, ◌==◌, ℕ, zero, suc, Bool, true, false, List, [], ◌∷◌, Option, Some, None, length, take, drop, slice_index, refl, sym, ap, arith}
+use Rattle.std.specs.Prelude.{option_map, unwrap_or}
+use Rattle.std.proofs.lemmas.Bool.{eqb-true}
+use Rattle.header_text.specs.Cuts.{cut_at}
+
+-- the byte isn't among the bytes
+abbrev pub Lacks : ℕ → List ℕ → Type 0
+Lacks c [] = Unit {0}
+Lacks c (b ∷ bs) = ((b == c) ≡ false) × Lacks c bs
+
+-- the parts are what stands before the first byte c, and what follows it
+pub record IsCut (c : ℕ) (bytes before behind : List ℕ) : Type 0 where
+  pub joined : bytes ≡ before ++ c ∷ behind
+  pub free : Lacks c before
+
+abbrev put : ℕ → Option (List ℕ × List ℕ) → Option (List ℕ × List ℕ)
+put b o = option_map (λ parts. (b ∷ parts.0, parts.1)) o
+
+cut_at-yes : (c b : ℕ) (bs : List ℕ) → (b == c) ≡ true → cut_at c (b ∷ bs) ≡ Some ([], bs)
+cut_at-yes c b bs e = rw (e, cut_at) refl
+
+cut_at-no : (c b : ℕ) (bs : List ℕ) → (b == c) ≡ false → cut_at c (b ∷ bs) ≡ put b (cut_at c bs)
+cut_at-no c b bs e = rw (e, cut_at) refl
+
+-- by places
+pub cut_at-first : (c : ℕ) (bs : List ℕ) (at : ℕ) → at < length bs → (slice_index bs at == c) ≡ true → ((k : ℕ) → k < at → (slice_index bs k == c) ≡ false)
+    → cut_at c bs ≡ Some (take at bs, drop (suc at) bs)
+cut_at-first c [] at lt is before = absurd (omega arith)
+cut_at-first c (b ∷ bs) zero lt is before = cut_at-yes c b bs is
+cut_at-first c (b ∷ bs) (suc at) lt is before =
+    cut_at-no c b bs (before 0 (omega arith)) ∙ ap (put b) (cut_at-first c bs at (omega arith) is (λ k l. before (suc k) (omega arith)))
+
+pub cut_at-none : (c : ℕ) (bs : List ℕ) → ((k : ℕ) → k < length bs → (slice_index bs k == c) ≡ false) → cut_at c bs ≡ None
+cut_at-none c [] before = refl
+cut_at-none c (b ∷ bs) before = cut_at-no c b bs (before 0 (omega arith)) ∙ ap (put b) (cut_at-none c bs (λ k l. before (suc k) (omega arith)))
+
+-- by what is cut
+pub cut_at-is : (c : ℕ) (before behind : List ℕ) → Lacks c before → cut_at c (before ++ c ∷ behind) ≡ Some (before, behind)
+cut_at-is c [] behind free = cut_at-yes c c behind (grind arith)
+cut_at-is c (b ∷ before) behind free = cut_at-no c b (before ++ c ∷ behind) free.0 ∙ ap (put b) (cut_at-is c before behind free.1)
+
+same_parts : (p q : List ℕ × List ℕ) → Some p ≡ Some q → p ≡ q
+same_parts p q h = ap (λ (o : Option (List ℕ × List ℕ)). unwrap_or o p) h
+
+pub IsCut-from : (c : ℕ) (bytes before behind : List ℕ) → cut_at c bytes ≡ Some (before, behind) → IsCut c bytes before behind
+IsCut-from c [] before behind e = absurd (cc)
+IsCut-from c (b ∷ bs) before behind e = go (b == c) refl (cut_at c bs) refl (IsCut-from c bs)
+  where
+    parts : List ℕ × List ℕ
+    parts = (before, behind)
+
+    go : (t : Bool) → (b == c) ≡ t → (o : Option (List ℕ × List ℕ)) → cut_at c bs ≡ o → ((x y : List ℕ) → cut_at c bs ≡ Some (x, y) → IsCut c bs x y) → IsCut c (b ∷ bs) before behind
+    go true t o f later =
+        let here : List ℕ × List ℕ = ([], bs) in
+        let same : here ≡ parts = same_parts here parts (sym (cut_at-yes c b bs t) ∙ e) in
+        let front : [] ≡ before = ap (λ (p : List ℕ × List ℕ). p.0) same in
+        let back : bs ≡ behind = ap (λ (p : List ℕ × List ℕ). p.1) same in
+        let is : b ≡ c = eqb-true b c t in
+        record { joined = rw (← front, ← back, is) refl; free = rw (← front) tt }
+    go false t None f later = absurd (cc (sym (cut_at-no c b bs t ∙ ap (put b) f) ∙ e))
+    go false t (Some (x, y)) f later =
+        let inner = later x y f in
+        let here : List ℕ × List ℕ = (b ∷ x, y) in
+        let same : here ≡ parts = same_parts here parts (sym (cut_at-no c b bs t ∙ ap (put b) f) ∙ e) in
+        let front : b ∷ x ≡ before = ap (λ (p : List ℕ × List ℕ). p.0) same in
+        let back : y ≡ behind = ap (λ (p : List ℕ × List ℕ). p.1) same in
+        record { joined = rw (← front, ← back) (ap (λ (l : List ℕ). b ∷ l) inner.joined); free = rw (← front) (t, inner.free) }
+
+pub Lacks-from : (c : ℕ) (bytes : List ℕ) → cut_at c bytes ≡ None → Lacks c bytes
+Lacks-from c [] e = tt
+Lacks-from c (b ∷ bs) e = go (b == c) refl (cut_at c bs) refl (Lacks-from c bs)
+  where
+    go : (t : Bool) → (b == c) ≡ t → (o : Option (List ℕ × List ℕ)) → cut_at c bs ≡ o → (cut_at c bs ≡ None → Lacks c bs) → Lacks c (b ∷ bs)
+    go true t o f later = absurd (cc (sym (cut_at-yes c b bs t) ∙ e))
+    go false t None f later = (t, later f)
+    go false t (Some p) f later = absurd (cc (sym (cut_at-no c b bs t ∙ ap (put b) f) ∙ e))

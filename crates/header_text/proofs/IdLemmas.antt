@@ -1,0 +1,123 @@
+-- Ids one after another.
+use Rattle.std.proofs.Common.{◌≡◌, ◌∙◌, ◌+◌, ◌<◌, ◌≤◌, ◌++◌, ◌==◌, ℕ, zero, suc, Bool, true, false, nat_lt, List, [], ◌∷◌, Option, Some, None, length, drop, get_or, slice_index, map, refl, sym, ap, subst, arith}
+use Rattle.std.specs.Prelude.{filter, IfSome, Vec}
+use Rattle.std.specs.Global.{Global}
+use Rattle.std.specs.List.{filter_map}
+use Rattle.std.proofs.lemmas.List.{map-append, length-map, get_or-map}
+use Rattle.std.proofs.lemmas.Bool.{ltb-true}
+use Rattle.std.proofs.lemmas.List.Elements.{filter-append, filter_map-append}
+use Rattle.header_text.specs.Ids.{onto_first, closed_texts, after_last_open, is_id_byte, ids_in, ids_of}
+use Rattle.header_text.proofs.CutLemmas.{Lacks}
+
+-- ---- behind the last `<`
+
+abbrev judged : ℕ → List ℕ → Option (List ℕ) → Option (List ℕ)
+judged b bs o = elim o [ Some id ↦ Some id | None ↦ elim (b == 0x3C) [ true ↦ Some bs | false ↦ None ] ]
+
+after_last_open-cons : (b : ℕ) (bs : List ℕ) → after_last_open (b ∷ bs) ≡ judged b bs (after_last_open bs)
+after_last_open-cons b bs = refl
+
+pub after_last_open-none : (bs : List ℕ) → ((k : ℕ) → k < length bs → (slice_index bs k == 0x3C) ≡ false) → after_last_open bs ≡ None
+after_last_open-none [] h = refl
+after_last_open-none (b ∷ bs) h = ap (judged b bs) (after_last_open-none bs (λ k lt. h (suc k) (omega arith))) ∙ rw (h 0 (omega arith), judged) refl
+
+pub after_last_open-last : (bs : List ℕ) (at : ℕ) → at < length bs → (slice_index bs at == 0x3C) ≡ true → ((k : ℕ) → at + 1 ≤ k → k < length bs → (slice_index bs k == 0x3C) ≡ false)
+    → after_last_open bs ≡ Some (drop (suc at) bs)
+after_last_open-last [] at lt is after = absurd (omega arith)
+after_last_open-last (b ∷ bs) zero lt is after =
+    ap (judged b bs) (after_last_open-none bs (λ k l. after (suc k) (omega arith) (omega arith))) ∙ rw (is, judged) refl
+after_last_open-last (b ∷ bs) (suc at) lt is after =
+    ap (judged b bs) (after_last_open-last bs at (omega arith) is (λ k low high. after (suc k) (omega arith) (omega arith)))
+
+-- ---- text by text
+
+pub closed_texts-cut : (text behind : List ℕ) → Lacks 0x3E text → closed_texts (text ++ 0x3E ∷ behind) ≡ text ∷ closed_texts behind
+closed_texts-cut [] behind free = refl
+closed_texts-cut (b ∷ text) behind free = rw (free.0, closed_texts) (ap (onto_first b) (closed_texts-cut text behind free.1))
+
+pub closed_texts-free : (text : List ℕ) → Lacks 0x3E text → closed_texts text ≡ []
+closed_texts-free [] free = refl
+closed_texts-free (b ∷ text) free = rw (free.0, closed_texts) (ap (onto_first b) (closed_texts-free text free.1))
+
+pub ids_in-cons : (text : List ℕ) (texts : List (List ℕ)) → ids_in (text ∷ texts) ≡ ids_in (text ∷ []) ++ ids_in texts
+ids_in-cons text texts =
+    let some : List ℕ → Bool = λ id. nat_lt 0 (length id) in
+    let ids : List (List ℕ) → List (List ℕ) = λ ts. map (filter is_id_byte) (filter_map after_last_open ts) in
+    ap (filter some) (ap (map (filter is_id_byte)) (filter_map-append after_last_open (text ∷ []) texts)
+    ∙ map-append (filter is_id_byte) (filter_map after_last_open (text ∷ [])) (filter_map after_last_open texts))
+    ∙ filter-append some (ids (text ∷ [])) (ids texts)
+
+-- ---- sizes
+
+-- each has a byte, and at most so many
+abbrev AreSized : ℕ → List (List ℕ) → Type 0
+AreSized n [] = Unit {0}
+AreSized n (id ∷ ids) = (0 < length id) × (length id ≤ n) × AreSized n ids
+
+-- each has at most so many
+abbrev AreShort : ℕ → List (List ℕ) → Type 0
+AreShort n [] = Unit {0}
+AreShort n (t ∷ ts) = (length t ≤ n) × AreShort n ts
+
+AreShort-more : (n m : ℕ) (ts : List (List ℕ)) → n ≤ m → AreShort n ts → AreShort m ts
+AreShort-more n m [] le h = tt
+AreShort-more n m (t ∷ ts) le h = (omega (arith, h.0), AreShort-more n m ts le h.1)
+
+onto_first-short : (n b : ℕ) (ts : List (List ℕ)) → AreShort n ts → AreShort (suc n) (onto_first b ts)
+onto_first-short n b [] h = tt
+onto_first-short n b (t ∷ ts) h = (omega (arith, h.0), AreShort-more n (suc n) ts (omega arith) h.1)
+
+closed_texts-short : (bs : List ℕ) → AreShort (length bs) (closed_texts bs)
+closed_texts-short [] = tt
+closed_texts-short (b ∷ bs) = go (b == 0x3E) refl (closed_texts-short bs)
+  where
+    go : (t : Bool) → (b == 0x3E) ≡ t → AreShort (length bs) (closed_texts bs) → AreShort (suc (length bs)) (closed_texts (b ∷ bs))
+    go true e h = rw (e, closed_texts) (omega arith, AreShort-more (length bs) (suc (length bs)) (closed_texts bs) (omega arith) h)
+    go false e h = rw (e, closed_texts) (onto_first-short (length bs) b (closed_texts bs) h)
+
+after_last_open-short : (bs : List ℕ) → IfSome (after_last_open bs) (λ t. length t ≤ length bs)
+after_last_open-short [] = tt
+after_last_open-short (b ∷ bs) = go (after_last_open bs) refl (after_last_open-short bs) (b == 0x3C) refl
+  where
+    go : (o : Option (List ℕ)) → after_last_open bs ≡ o → IfSome (after_last_open bs) (λ t. length t ≤ length bs) → (u : Bool) → (b == 0x3C) ≡ u
+        → IfSome (judged b bs (after_last_open bs)) (λ t. length t ≤ suc (length bs))
+    go (Some t) e h u f = let short : length t ≤ length bs = rw e at h in rw e (omega arith)
+    go None e h true f = rw (e, judged, f) (omega arith)
+    go None e h false f = rw (e, judged, f) tt
+
+filter-short : (p : ℕ → Bool) (xs : List ℕ) → length (filter p xs) ≤ length xs
+filter-short p [] = omega arith
+filter-short p (x ∷ xs) = go (p x) refl (filter-short p xs)
+  where
+    go : (t : Bool) → p x ≡ t → length (filter p xs) ≤ length xs → length (filter p (x ∷ xs)) ≤ suc (length xs)
+    go true e h = rw e (omega arith)
+    go false e h = rw e (omega arith)
+
+ids_in-sized : (n : ℕ) (ts : List (List ℕ)) → AreShort n ts → AreSized n (ids_in ts)
+ids_in-sized n [] h = tt
+ids_in-sized n (t ∷ ts) h = go (after_last_open t) refl (after_last_open-short t) (ids_in-sized n ts h.1)
+  where
+    go : (o : Option (List ℕ)) → after_last_open t ≡ o → IfSome (after_last_open t) (λ u. length u ≤ length t) → AreSized n (ids_in ts) → AreSized n (ids_in (t ∷ ts))
+    go None e short later = rw e later
+    go (Some u) e short later = rw e (last (nat_lt 0 (length (filter is_id_byte u))) refl)
+      where
+        last : (v : Bool) → nat_lt 0 (length (filter is_id_byte u)) ≡ v
+            → AreSized n (filter (λ x. nat_lt 0 (length x)) (filter is_id_byte u ∷ map (filter is_id_byte) (filter_map after_last_open ts)))
+        last true f =
+            let fits : length u ≤ length t = rw e at short in
+            rw f (ltb-true 0 (length (filter is_id_byte u)) f, omega (arith, filter-short is_id_byte u, h.0), later)
+        last false f = rw f later
+
+All-sized : (n : ℕ) (ids : List (List ℕ)) → AreSized n ids → (k : ℕ) (d : List ℕ) → k < length ids → (0 < length (get_or ids k d)) × (length (get_or ids k d) ≤ n)
+All-sized n [] h k d lt = absurd (omega arith)
+All-sized n (id ∷ ids) h zero d lt = (h.0, h.1)
+All-sized n (id ∷ ids) h (suc k) d lt = All-sized n ids h.2 k d (omega arith)
+
+pub ids_of-sized : (value : List ℕ) (ids : List (Vec ℕ Global)) → map (λ (id : Vec ℕ Global). id.items) ids ≡ ids_of value
+    → (k : ℕ) (d : Vec ℕ Global) → k < length ids → (0 < length (get_or ids k d).items) × (length (get_or ids k d).items ≤ length value)
+unfolding ids_of
+ids_of-sized value ids e k d lt =
+    let sized : AreSized (length value) (ids_of value) = ids_in-sized (length value) (closed_texts value) (closed_texts-short value) in
+    let below : k < length (ids_of value) = omega (arith, ap length e, length-map ids (λ (id : Vec ℕ Global). id.items)) in
+    let here : get_or (ids_of value) k d.items ≡ (get_or ids k d).items = ap (λ (l : List (List ℕ)). get_or l k d.items) (sym e) ∙ get_or-map (λ (id : Vec ℕ Global). id.items) ids k d d.items lt in
+    subst (λ (l : List ℕ). (0 < length l) × (length l ≤ length value)) here (All-sized (length value) (ids_of value) sized k d.items below)

@@ -1,0 +1,131 @@
+-- Unfolding part by part.
+use Rattle.std.proofs.Common.{◌≡◌, ◌∙◌, ◌<◌, ◌++◌, ◌==◌, ◌||◌, ◌&&◌, ℕ, Bool, true, false, nat_lt, List, [], ◌∷◌, None, length, take, drop, refl, sym, ap, ap₂, arith, length-append, append_assoc, append-nil}
+use Rattle.std.specs.Prelude.{if◌then◌else◌}
+use Rattle.std.proofs.lemmas.Bool.Decides.{nat_tests}
+use Rattle.std.proofs.lemmas.Bool.{lt-ltb}
+use Rattle.std.proofs.lemmas.List.{take_at, drop_at}
+use Rattle.header_text.specs.Blanks.{is_blank, after_blanks, before_blanks}
+use Rattle.header_text.specs.Unfolding.{without_breaks, unfolded}
+use Rattle.header_text.specs.Breaks.{without_final_cr, led}
+use Rattle.header_text.proofs.CutLemmas.{Lacks, IsCut, Lacks-from}
+use Rattle.header_text.specs.Cuts.{cut_at}
+
+-- ---- a CR at the end
+
+pub without_final_cr-push : (bs : List ℕ) (b : ℕ) → without_final_cr (bs ++ b ∷ []) ≡ (if b == 0x0D then bs else bs ++ b ∷ [])
+without_final_cr-push [] b = refl
+without_final_cr-push (c ∷ []) b = go (b == 0x0D) refl
+  where
+    go : (t : Bool) → (b == 0x0D) ≡ t → c ∷ (if b == 0x0D then [] else b ∷ []) ≡ (if b == 0x0D then c ∷ [] else c ∷ b ∷ [])
+    go true e = rw e refl
+    go false e = rw e refl
+without_final_cr-push (c ∷ d ∷ bs) b = go (b == 0x0D) refl (without_final_cr-push (d ∷ bs) b)
+  where
+    go : (t : Bool) → (b == 0x0D) ≡ t → without_final_cr (d ∷ (bs ++ b ∷ [])) ≡ (if b == 0x0D then d ∷ bs else d ∷ (bs ++ b ∷ []))
+        → c ∷ without_final_cr (d ∷ (bs ++ b ∷ [])) ≡ (if b == 0x0D then c ∷ d ∷ bs else c ∷ d ∷ (bs ++ b ∷ []))
+    go true e later = rw e (ap (λ (l : List ℕ). c ∷ l) (later ∙ rw e refl))
+    go false e later = rw e (ap (λ (l : List ℕ). c ∷ l) (later ∙ rw e refl))
+
+-- ---- breaks
+
+and_false : (b : Bool) → (b && false) ≡ false
+and_false true = refl
+and_false false = refl
+
+-- a byte that is dropped, or isn't, before others
+chosen : ℕ → List ℕ → Bool → List ℕ
+chosen b bs t = elim t [ true ↦ without_breaks bs | false ↦ b ∷ without_breaks bs ]
+
+breaks-feed : (later : List ℕ) → without_breaks (0x0A ∷ later) ≡ without_breaks later
+breaks-feed [] = refl
+breaks-feed (b ∷ later) = refl
+
+-- a line without LF, its LF, and what follows
+breaks-cut : (line later : List ℕ) → Lacks 0x0A line → without_breaks (line ++ 0x0A ∷ later) ≡ without_final_cr line ++ without_breaks later
+unfolding chosen
+breaks-cut [] later free = breaks-feed later
+breaks-cut (b ∷ []) later free = go (b == 0x0D) refl
+  where
+    go : (t : Bool) → (b == 0x0D) ≡ t → without_breaks (b ∷ 0x0A ∷ later) ≡ without_final_cr (b ∷ []) ++ without_breaks later
+    go true e = rw (free.0, e, without_breaks) (breaks-feed later)
+    go false e = rw (free.0, e, without_breaks) (ap (λ (l : List ℕ). b ∷ l) (breaks-feed later))
+breaks-cut (b ∷ c ∷ line) later free =
+    let kept : ((b == 0x0A) || ((b == 0x0D) && (c == 0x0A))) ≡ false = rw (free.0, free.1.0) (and_false (b == 0x0D)) in
+    ap (chosen b (c ∷ (line ++ 0x0A ∷ later))) kept ∙ ap (λ (l : List ℕ). b ∷ l) (breaks-cut (c ∷ line) later free.1)
+
+-- nothing is a break
+breaks-free : (line : List ℕ) → Lacks 0x0A line → without_breaks line ≡ line
+unfolding chosen
+breaks-free [] free = refl
+breaks-free (b ∷ []) free = rw (free.0, without_breaks) refl
+breaks-free (b ∷ c ∷ line) free =
+    let kept : ((b == 0x0A) || ((b == 0x0D) && (c == 0x0A))) ≡ false = rw (free.0, free.1.0) (and_false (b == 0x0D)) in
+    ap (chosen b (c ∷ line)) kept ∙ ap (λ (l : List ℕ). b ∷ l) (breaks-free (c ∷ line) free.1)
+
+-- ---- blanks in front
+
+abbrev pub is_some_bytes : List ℕ → Bool
+is_some_bytes [] = false
+is_some_bytes (b ∷ bs) = true
+
+after_blanks-append : (p w : List ℕ) → after_blanks p ++ led (is_some_bytes (after_blanks p)) w ≡ after_blanks (p ++ w)
+after_blanks-append [] w = refl
+after_blanks-append (b ∷ p) w = go (is_blank b) refl (after_blanks-append p w)
+  where
+    go : (t : Bool) → is_blank b ≡ t → after_blanks p ++ led (is_some_bytes (after_blanks p)) w ≡ after_blanks (p ++ w)
+        → after_blanks (b ∷ p) ++ led (is_some_bytes (after_blanks (b ∷ p))) w ≡ after_blanks (b ∷ (p ++ w))
+    go true e later = rw (e, after_blanks) later
+    go false e later = rw (e, after_blanks) refl
+
+-- one part more
+led-append : (done p w : List ℕ) → (done ++ led (is_some_bytes done) p) ++ led (is_some_bytes (done ++ led (is_some_bytes done) p)) w ≡ done ++ led (is_some_bytes done) (p ++ w)
+led-append [] p w = after_blanks-append p w
+led-append (d ∷ done) p w = append_assoc (d ∷ done) p w
+
+is_some-test : (old done : List ℕ) → nat_lt (length old) (length (old ++ done)) ≡ is_some_bytes done
+is_some-test old [] = let none : nat_lt (length old) (length old) ≡ false = grind (arith, nat_tests) in rw append-nil none
+is_some-test old (d ∷ done) = let less : length old < length (old ++ d ∷ done) = omega (arith, length-append old (d ∷ done)) in lt-ltb (length old) (length (old ++ d ∷ done)) less
+
+-- ---- the whole
+
+-- so much is written, and the rest gives what is left
+pub record Unfolds (old body items rest : List ℕ) : Type 0 where
+  pub done : List ℕ
+  pub items_are : items ≡ old ++ done
+  pub sofar : done ++ led (is_some_bytes done) (without_breaks rest) ≡ after_blanks (without_breaks body)
+
+pub unfolds-start : (old body : List ℕ) → Unfolds old body old body
+unfolds-start old body = record { done = []; items_are = sym (append-nil old); sofar = refl }
+
+pub unfolds-line : (old body items rest line behind new : List ℕ) → Unfolds old body items rest → IsCut 0x0A rest line behind
+    → new ≡ items ++ led (nat_lt (length old) (length items)) (without_final_cr line) → Unfolds old body new behind
+unfolds-line old body items rest line behind new h cut e =
+    let part : List ℕ = without_final_cr line in
+    let test : nat_lt (length old) (length items) ≡ is_some_bytes h.done = rw h.items_are (is_some-test old h.done) in
+    let more : List ℕ = led (is_some_bytes h.done) part in
+    let split : without_breaks rest ≡ part ++ without_breaks behind = ap without_breaks cut.joined ∙ breaks-cut line behind cut.free in
+    record {
+      done = h.done ++ more;
+      items_are = e ∙ ap₂ (λ (l : List ℕ) (t : Bool). l ++ led t part) h.items_are test ∙ append_assoc old h.done more;
+      sofar = led-append h.done part (without_breaks behind) ∙ ap (λ (l : List ℕ). h.done ++ led (is_some_bytes h.done) l) (sym split) ∙ h.sofar;
+    }
+
+pub unfolds-end : (old body items rest new : List ℕ) → Unfolds old body items rest → Lacks 0x0A rest
+    → new ≡ items ++ led (nat_lt (length old) (length items)) rest → new ≡ old ++ after_blanks (without_breaks body)
+unfolds-end old body items rest new h free e =
+    let test : nat_lt (length old) (length items) ≡ is_some_bytes h.done = rw h.items_are (is_some-test old h.done) in
+    let more : List ℕ = led (is_some_bytes h.done) rest in
+    e ∙ ap₂ (λ (l : List ℕ) (t : Bool). l ++ led t rest) h.items_are test ∙ append_assoc old h.done more
+    ∙ ap (λ (l : List ℕ). old ++ l) (ap (λ (l : List ℕ). h.done ++ led (is_some_bytes h.done) l) (sym (breaks-free rest free)) ∙ h.sofar)
+
+-- the end is trimmed
+pub unfolded-trimmed : (old body items : List ℕ) → items ≡ old ++ after_blanks (without_breaks body) → take (length old) items ++ before_blanks (drop (length old) items) ≡ old ++ unfolded body
+unfolding unfolded
+unfolded-trimmed old body items e =
+    rw e (ap₂ (λ (x y : List ℕ). x ++ before_blanks y) (take_at old (after_blanks (without_breaks body)) (length old) refl) (drop_at old (after_blanks (without_breaks body)) (length old) refl))
+
+-- the rest has no break
+pub unfolds-rest : (old body items rest new : List ℕ) (start : ℕ) → start ≡ length old → Unfolds old body items rest → cut_at 0x0A rest ≡ None
+    → new ≡ items ++ led (nat_lt start (length items)) rest → new ≡ old ++ after_blanks (without_breaks body)
+unfolds-rest old body items rest new start s h none e =
+    unfolds-end old body items rest new h (Lacks-from 0x0A rest none) (e ∙ ap (λ (n : ℕ). items ++ led (nat_lt n (length items)) rest) s)

@@ -1,0 +1,13 @@
+use Rattle.std.proofs.Common.{◌≡◌, length}
+use Rattle.header_text.proofs.UnfoldLemmas.{Unfolds}
+use Rattle.header_text.proofs.unfolding.unfold_into.Given as goal
+
+-- what was written, and what comes of the rest
+abbrev pub invariant-loop-line : goal.invariant-loop-line
+invariant-loop-line l = record {
+  start : l.start ≡ length l.fn.into.items;
+  sofar : Unfolds l.fn.into.items l.fn.body l.into.items l.rest;
+}
+
+abbrev pub decreases-loop-line : goal.decreases-loop-line
+decreases-loop-line l = length l.rest

@@ -1,0 +1,61 @@
+//! Message ids.
+ghost use Rattle.std.specs.Prelude.{◌≡◌, ◌<◌, ◌≤◌, ◌∷◌, ◌++◌, length, map, filter, option_map, All, IfOk, OnOk, if◌then◌else◌, nat_lt, []};
+ghost use Rattle.header_text.specs.Ids.{ids_of, ids_in, after_last_open as after_last_open_of, is_id_byte as is_id_byte_of};
+
+use crate::blanks::is_blank;
+use crate::cut::cut_at;
+use memchr::memrchr;
+use std::alloc::{AllocError, Global};
+
+/// What stands behind the last `<`.
+fn after_last_open(text: &[u8]) -> Option<&[u8]>
+    ensures { option_map (λ t. t.now) result ≡ after_last_open_of text.now }
+{
+    let at = memrchr(b'<', text)?;
+    Some(&text[at + 1..])
+}
+
+/// Neither space, tab, CR nor LF.
+fn is_id_byte(b: u8) -> bool
+    ensures { result ≡ is_id_byte_of b }
+{
+    !(is_blank(b) || b == b'\r' || b == b'\n')
+}
+
+/// The bytes without spaces, tabs, CRs and LFs.
+fn id_bytes(alloc: Global, text: &[u8]) -> Result<Vec<u8>, AllocError>
+    ensures { IfOk result (λ id. id.items ≡ filter is_id_byte_of text.now) }
+{
+    text.iter()
+        .copied()
+        .filter(|b| is_id_byte(*b))
+        .collect(alloc)
+}
+
+/// Adds the id that a text before a `>` ends with, if it does.
+fn push_id(alloc: Global, ids: &mut Vec<Vec<u8>>, text: &[u8]) -> Result<(), AllocError>
+    ensures { OnOk result (map (λ id. id.items) ids.new.items ≡ map (λ id. id.items) ids.old.items ++ ids_in (text.now ∷ [])) }
+{
+    if let Some(inner) = after_last_open(text) {
+        let id = id_bytes(alloc, inner)?;
+        if !id.is_empty() {
+            ids.push(id)?;
+        }
+    }
+    Ok(())
+}
+
+/// The ids of a value, in order (RFC 5322, 3.6.4): each text between a `<` and the next `>` with neither between, without
+/// its spaces, tabs, CRs and LFs, if then not empty.
+pub fn message_ids(alloc: Global, value: &[u8]) -> Result<Vec<Vec<u8>>, AllocError>
+    ensures ids { IfOk result (λ ids. map (λ id. id.items) ids.items ≡ ids_of value.now) }
+    ensures sizes { IfOk result (λ ids. All (λ id. (0 < length id.items) × (length id.items ≤ length value.now)) ids.items) }
+{
+    let mut ids = Vec::new(alloc);
+    let mut rest = value;
+    while let Some((text, behind)) = cut_at(b'>', rest) {
+        push_id(alloc, &mut ids, text)?;
+        rest = behind;
+    }
+    Ok(ids)
+}

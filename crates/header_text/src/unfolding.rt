@@ -1,0 +1,65 @@
+//! Unfolding.
+ghost use Rattle.std.specs.Prelude.{◌≡◌, ◌++◌, ◌+◌, ◌≤◌, length, take, drop, nat_lt, IfOk, OnOk, is_ok, vec_len, if◌then◌else◌};
+ghost use Rattle.header_text.specs.Blanks.{before_blanks as before_blanks_of};
+ghost use Rattle.header_text.specs.Unfolding.{unfolded};
+ghost use Rattle.header_text.specs.Breaks.{without_final_cr as without_final_cr_of, led};
+
+use crate::blanks::{after_blanks, before_blanks};
+use crate::cut::cut_at;
+use std::alloc::{AllocError, Global};
+
+/// The bytes without a CR at their end.
+fn without_final_cr(bytes: &[u8]) -> &[u8]
+    ensures { result.now ≡ without_final_cr_of bytes.now }
+{
+    match bytes.split_last() {
+        Some((last, front)) if *last == b'\r' => front,
+        _ => bytes,
+    }
+}
+
+/// Adds a part, of the first parts only what follows their spaces and tabs: these begin at a place.
+fn add_part(into: &mut Vec<u8>, start: usize, part: &[u8]) -> Result<(), AllocError>
+    ensures { OnOk result (into.new.items ≡ into.old.items ++ led (nat_lt start (length into.old.items)) part.now) }
+{
+    let part = if into.len() > start {
+        part
+    } else {
+        after_blanks(part)
+    };
+    into.extend_from_slice(part)
+}
+
+/// Adds a field's body in one line: without line breaks, and without spaces and tabs at both ends (RFC 5322, 2.2.3).
+/// What the buffer holds after an error isn't said.
+pub fn unfold_into(body: &[u8], into: &mut Vec<u8>) -> Result<(), AllocError>
+    ensures { OnOk result (into.new.items ≡ into.old.items ++ unfolded body.now) }
+{
+    let start = into.len();
+    let mut rest = body;
+    while let Some((line, behind)) = cut_at(b'\n', rest) {
+        add_part(into, start, without_final_cr(line))?;
+        rest = behind;
+    }
+    add_part(into, start, rest)?;
+    trim_end(into, start);
+    Ok(())
+}
+
+/// Drops the spaces and tabs at the end, down to a place.
+fn trim_end(bytes: &mut Vec<u8>, start: usize)
+    requires { start ≤ length bytes.old.items }
+    ensures { bytes.new.items ≡ take start bytes.old.items ++ before_blanks_of (drop start bytes.old.items) }
+{
+    let len = start + before_blanks(&bytes[start..]).len();
+    bytes.truncate(len);
+}
+
+/// A field's body in one line: without line breaks, and without spaces and tabs at both ends (RFC 5322, 2.2.3).
+pub fn unfold(alloc: Global, body: &[u8]) -> Result<Vec<u8>, AllocError>
+    ensures { IfOk result (λ value. value.items ≡ unfolded body.now) }
+{
+    let mut value = Vec::new(alloc);
+    unfold_into(body, &mut value)?;
+    Ok(value)
+}
