@@ -1,3 +1,4 @@
+pub mod Events
 pub mod FirstLines
 pub mod KnownSteps
 pub mod LineLists

@@ -18,6 +18,10 @@ abbrev pub told : ℕ → List Message → List ArchiveEvent
 told all [] = Done all ∷ []
 told all (m ∷ ms) = Start m.offset m.separator ∷ map Line (text m) ++ End (span_length m) (size m) ∷ told all ms
 
+-- what is told inside a message with these lines of its text left, and these messages after it
+abbrev pub told_rest : ℕ → Message → List (List ℕ) → List Message → List ArchiveEvent
+told_rest all m ls ms = map Line ls ++ End (span_length m) (size m) ∷ told all ms
+
 -- the events of an archive; none where it is refused
 unfoldable pub events : List ℕ → List ArchiveEvent
 events bytes = option_map_or (told (length bytes)) (messages bytes) []

@@ -1,5 +1,5 @@
 //! The messages of an mbox archive, one event after another.
-ghost use Rattle.std.specs.Prelude.{◌≡◌, [], Ok, Err, false, ◌-◌, ◌^◌, ◌<◌, IfOk};
+ghost use Rattle.std.specs.Prelude.{◌≡◌, [], IsSome, Ok, Err, false, ◌-◌, ◌^◌, ◌<◌, IfOk};
 ghost use Rattle.std.specs.Option.{option_map};
 ghost use Rattle.std.specs.Borrow.{sem};
 
@@ -68,16 +68,6 @@ impl<'a, S: Source> Cutter<'a, S> {
         }
     }
 
-    /// The source, after what was read, and the buffer.
-    pub fn into_parts(self) -> (&'a mut S, Buffer)
-        ensures name { result.0.ghost_name ≡ self.entry.source.ghost_name }
-        ensures same { result.0.now ≡ self.entry.source.now }
-    {
-        let Cutter { scan } = self;
-        let Scan { window, .. } = scan;
-        window.into_parts()
-    }
-
     /// The source, after what was read.
     pub fn into_source(self) -> &'a mut S
         ensures name { result.ghost_name ≡ self.entry.source.ghost_name }
@@ -85,6 +75,26 @@ impl<'a, S: Source> Cutter<'a, S> {
     {
         let (source, _buffer) = self.into_parts();
         source
+    }
+
+    /// The same, and the buffer is kept for the next cutter.
+    pub fn into_source_keeping(self, kept: &mut Option<Buffer>) -> &'a mut S
+        ensures name { result.ghost_name ≡ self.entry.source.ghost_name }
+        ensures same { result.now ≡ self.entry.source.now }
+        ensures kept { IsSome kept.new }
+    {
+        let (source, buffer) = self.into_parts();
+        *kept = Some(buffer);
+        source
+    }
+
+    fn into_parts(self) -> (&'a mut S, Buffer)
+        ensures name { result.0.ghost_name ≡ self.entry.source.ghost_name }
+        ensures same { result.0.now ≡ self.entry.source.now }
+    {
+        let Cutter { scan } = self;
+        let Scan { window, .. } = scan;
+        window.into_parts()
     }
 
     /// The next event. It takes no memory.
