@@ -25,6 +25,13 @@ impl Text {
         })
     }
 
+    /// The text that a string is.
+    pub(crate) fn of(text: String) -> Self
+        ensures { result ≡ string_bytes text }
+    {
+        Text { text }
+    }
+
     pub fn as_str(&self) -> &str
         ensures { result.now ≡ self.now }
     {

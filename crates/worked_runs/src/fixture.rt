@@ -21,12 +21,12 @@ pub fn words(alloc: Global, texts: &[&str]) -> Result<Vec<String>, AllocError> {
     Ok(words)
 }
 
-/// An archive's text, where `S` stands for the separator line and `|` for LF.
+/// An archive's text, where `^` stands for the separator line and `|` for LF.
 pub fn archive(alloc: Global, text: &str) -> Result<Vec<u8>, AllocError> {
     let mut bytes = Vec::new(alloc);
     for b in text.as_bytes() {
         match *b {
-            b'S' => bytes.extend_from_slice(SEPARATOR.as_bytes())?,
+            b'^' => bytes.extend_from_slice(SEPARATOR.as_bytes())?,
             b'|' => bytes.push(b'\n')?,
             b => bytes.push(b)?,
         }

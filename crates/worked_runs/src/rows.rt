@@ -2,63 +2,215 @@
 use crate::fixture::{RC, archive, run, sources, words};
 use mairix_tool::{Fault, Name, QueryFault, QueryKind, RcFault, Reply, UsageFault};
 use mbox_cutter::{CutFault, MemoryOut};
-use std::alloc::{AllocError, Global};
+use std::alloc::Global;
 use std::process::Abort;
 use std::test::Fail;
 
-/// What a run over archives in memory answers, and what goes out. A `-f rc --once` stands before the words.
-struct Row<'a> {
-    archives: &'a [&'a str],
-    rc: &'a [u8],
-    words: &'a [&'a str],
-    reply: Reply,
-    text: &'a str,
+const TWO_MESSAGES: &str = "^Subject: one||a||From here on we go||From - Sat Jan  4 12:00:00 2003|Subject: two||b||";
+
+/// What a run answers that finds so many messages.
+fn found(messages: u64) -> Reply {
+    Reply {
+        status: if messages == 0 { 1 } else { 0 },
+        messages,
+        fault: None,
+    }
 }
 
-const FOUND: Reply = Reply {
-    status: 0,
-    messages: 1,
-    fault: None,
-};
-
-const NOTHING: Reply = Reply {
-    status: 1,
-    messages: 0,
-    fault: None,
-};
-
-fn check(rt: &impl Abort, alloc: Global, row: &Row<'_>) -> Result<(), AllocError> {
-    let mut archives = Vec::new(alloc);
-    for text in row.archives {
-        archives.push(archive(alloc, text)?)?;
+/// What a run answers that is refused.
+fn refused(status: u8, fault: Fault) -> Reply {
+    Reply {
+        status,
+        messages: 0,
+        fault: Some(fault),
     }
+}
+
+/// Runs `-f rc --once -r` with a pattern over one archive, in pieces of several sizes.
+fn check_pattern(
+    rt: &impl Abort,
+    alloc: Global,
+    text: &str,
+    pattern: &str,
+    messages: u64,
+    answer: &str,
+) -> Result<(), Fail> {
+    let words = words(alloc, &["-f", "rc", "--once", "-r", pattern])?;
     for piece in [1usize, 7, 65_536] {
-        let words = words(alloc, row.words)?;
+        let mut archives = Vec::new(alloc);
+        archives.push(archive(alloc, text)?)?;
         let mut sources = sources(alloc, &archives, piece, None)?;
         let mut out = MemoryOut::new(alloc, None);
-        let reply = run(rt, alloc, &words, row.rc, &mut sources, &mut out);
-        assert_eq!(rt; reply, Some(row.reply));
-        assert_eq!(rt; out.bytes(), row.text.as_bytes());
+        let reply = run(rt, alloc, &words, RC, &mut sources, &mut out);
+        assert_eq!(rt; reply, Some(found(messages)), "{text} {pattern}");
+        assert_eq!(rt; out.bytes(), answer.as_bytes(), "{text} {pattern}");
     }
+    Ok(())
+}
+
+/// Runs words and an rcfile over one archive, and expects a refusal with nothing written.
+fn check_refusal(
+    rt: &impl Abort,
+    alloc: Global,
+    words: &[String],
+    rc: &[u8],
+    text: &str,
+    reply: Reply,
+) -> Result<(), Fail> {
+    let mut archives = Vec::new(alloc);
+    archives.push(archive(alloc, text)?)?;
+    let mut sources = sources(alloc, &archives, 7, None)?;
+    let mut out = MemoryOut::new(alloc, None);
+    assert_eq!(rt; run(rt, alloc, words, rc, &mut sources, &mut out), Some(reply));
+    assert_eq!(rt; out.bytes().len(), 0);
     Ok(())
 }
 
 #[test]
 fn subjects_are_found(rt: HostRuntime) -> Result<(), Fail> {
-    let three = "S|Subject: one||a||From here on we go||From - Sat Jan  4 12:00:00 2003|Subject: two||b||";
-    for (archive, pattern, text) in [
-        ("SSubject: Hello||hi||", "s:hello", "0 58 m.mbox\n"),
-        ("SSubject: Hello||hi|", "s:hello", "0 57 m.mbox\n"),
-        (three.trim_start_matches("S|"), "s:none", ""),
+    for (text, pattern, messages, answer) in [
+        ("^Subject: Hello||hi||", "s:hello", 1, "0 58 m.mbox\n"),
+        ("^Subject: Hello||hi||", "s:hell", 0, ""),
+        ("^Subject: Hello||hi|", "s:hello", 1, "0 57 m.mbox\n"),
+        (TWO_MESSAGES, "s:one", 1, "0 75 m.mbox\n"),
+        (TWO_MESSAGES, "s:two", 1, "75 49 m.mbox\n"),
+        ("", "s:one", 0, ""),
+        ("||", "s:one", 0, ""),
+        ("|From a 10:00 2003|", "s:a", 0, ""),
+        ("^Subject: =?iso-8859-1?Q?Gr=FC=DFe?=||x||", "s:GR\u{dc}SSE", 1, "0 78 m.mbox\n"),
+        ("^Subject: =?utf-8?Q?lun?=| =?utf-8?Q?ch?=||x||", "s:lunch", 1, "0 83 m.mbox\n"),
+        ("^Subject: =?utf-8?Q?lun?=| =?utf-8?Q?ch?=||x||", "s:lun", 0, ""),
     ] {
-        let row = Row {
-            archives: &[archive],
-            rc: RC,
-            words: &["-f", "rc", "--once", "-r", pattern],
-            reply: if text.is_empty() { NOTHING } else { FOUND },
-            text,
-        };
-        check(&rt, rt.alloc(), &row)?;
+        check_pattern(&rt, rt.alloc(), text, pattern, messages, answer)?;
+    }
+    Ok(())
+}
+
+#[test]
+fn queries_are_refused(rt: HostRuntime) -> Result<(), Fail> {
+    let alloc = rt.alloc();
+    for (pattern, kind) in [("q:x", QueryKind::BadPrefix), ("x", QueryKind::BadPrefix), ("s:", QueryKind::BadWord), ("s:a b", QueryKind::BadWord)] {
+        let words = words(alloc, &["-f", "rc", "--once", pattern])?;
+        let reply = refused(2, Fault::Query(QueryFault { number: 1, kind }));
+        check_refusal(&rt, alloc, &words, RC, "^Subject: Hello||hi||", reply)?;
+    }
+    let words = words(alloc, &["-f", "rc", "--once"])?;
+    let reply = refused(2, Fault::Query(QueryFault { number: 1, kind: QueryKind::NoPattern }));
+    check_refusal(&rt, alloc, &words, RC, "^Subject: Hello||hi||", reply)
+}
+
+#[test]
+fn words_are_refused(rt: HostRuntime) -> Result<(), Fail> {
+    let alloc = rt.alloc();
+    let words = words(alloc, &["--once", "s:a"])?;
+    check_refusal(&rt, alloc, &words, RC, "", refused(2, Fault::Usage(UsageFault::Parse)))
+}
+
+#[test]
+fn help_has_status_0(rt: HostRuntime) -> Result<(), Fail> {
+    let alloc = rt.alloc();
+    let words = words(alloc, &["-h"])?;
+    check_refusal(&rt, alloc, &words, RC, "", refused(0, Fault::Usage(UsageFault::Help)))
+}
+
+#[test]
+fn rcfiles_are_refused(rt: HostRuntime) -> Result<(), Fail> {
+    let alloc = rt.alloc();
+    let words = words(alloc, &["-f", "rc", "--once", "s:hello"])?;
+    for (rc, fault) in [
+        (b"mbox=a*\n".as_slice(), RcFault::Wildcard(1)),
+        (b"maildir=x\n".as_slice(), RcFault::NotSupported(1)),
+        (b"\nmbox\n".as_slice(), RcFault::BadLine(2)),
+        (b"".as_slice(), RcFault::Missing(Name::Mbox)),
+    ] {
+        check_refusal(&rt, alloc, &words, rc, "^Subject: Hello||hi||", refused(2, Fault::Rc(fault)))?;
+    }
+    Ok(())
+}
+
+#[test]
+fn no_mbox_is_refused(rt: HostRuntime) -> Result<(), Fail> {
+    let alloc = rt.alloc();
+    let words = words(alloc, &["-f", "rc", "--once", "s:x"])?;
+    let reply = refused(4, Fault::Archive { number: 0, fault: CutFault::NotAnMbox });
+    check_refusal(&rt, alloc, &words, RC, "hello|", reply)
+}
+
+#[test]
+fn a_failed_read_is_answered(rt: HostRuntime) -> Result<(), Fail> {
+    let alloc = rt.alloc();
+    let words = words(alloc, &["-f", "rc", "--once", "-r", "s:hello"])?;
+    for fail_at in 1..70u64 {
+        let mut archives = Vec::new(alloc);
+        archives.push(archive(alloc, "^Subject: Hello||hi||")?)?;
+        let mut sources = sources(alloc, &archives, 1, Some(fail_at))?;
+        let mut out = MemoryOut::new(alloc, None);
+        let reply = run(&rt, alloc, &words, RC, &mut sources, &mut out);
+        // 58 bytes come in as many reads, and the next one tells the end.
+        if fail_at <= 59 {
+            let fault = Fault::Archive { number: 0, fault: CutFault::Device };
+            assert_eq!(rt; reply, Some(refused(4, fault)));
+            assert_eq!(rt; out.bytes().len(), 0);
+        } else {
+            assert_eq!(rt; reply, Some(found(1)));
+        }
+    }
+    Ok(())
+}
+
+#[test]
+fn a_failed_write_leaves_a_front(rt: HostRuntime) -> Result<(), Fail> {
+    let alloc = rt.alloc();
+    let words = words(alloc, &["-f", "rc", "--once", "-r", "s:one"])?;
+    let answer = b"0 75 m.mbox\n";
+    for room in 0..20usize {
+        let mut archives = Vec::new(alloc);
+        archives.push(archive(alloc, TWO_MESSAGES)?)?;
+        let mut sources = sources(alloc, &archives, 7, None)?;
+        let mut out = MemoryOut::new(alloc, Some(room as u64));
+        let reply = run(&rt, alloc, &words, RC, &mut sources, &mut out);
+        if room < answer.len() {
+            assert_eq!(rt; reply, Some(refused(4, Fault::Out)));
+            assert_eq!(rt; out.bytes(), &answer[..room]);
+        } else {
+            assert_eq!(rt; reply, Some(found(1)));
+            assert_eq!(rt; out.bytes(), answer.as_slice());
+        }
+    }
+    Ok(())
+}
+
+#[test]
+fn each_fault_has_its_text(rt: HostRuntime) -> Result<(), Fail> {
+    let alloc = rt.alloc();
+    let query = |kind| Fault::Query(QueryFault { number: 7, kind });
+    for (fault, text) in [
+        (Fault::Usage(UsageFault::Parse), "bad words"),
+        (Fault::Usage(UsageFault::Help), "help"),
+        (Fault::Usage(UsageFault::Version), "version"),
+        (Fault::Usage(UsageFault::TwoFormats), "-r and -x exclude each other"),
+        (Fault::Usage(UsageFault::OutOfMemory), "out of memory"),
+        (Fault::Rc(RcFault::BadLine(3)), "rcfile line 3: not option=value"),
+        (Fault::Rc(RcFault::NotSupported(3)), "rcfile line 3: option not supported"),
+        (Fault::Rc(RcFault::Wildcard(3)), "rcfile line 3: wildcard not supported"),
+        (Fault::Rc(RcFault::Expansion(3)), "rcfile line 3: expansion not supported"),
+        (Fault::Rc(RcFault::BadFormat(3)), "rcfile line 3: unknown format"),
+        (Fault::Rc(RcFault::Missing(Name::Mbox)), "rcfile: mbox missing"),
+        (Fault::Rc(RcFault::Missing(Name::Database)), "rcfile: database missing"),
+        (Fault::Rc(RcFault::Missing(Name::Mfolder)), "rcfile: mfolder missing"),
+        (Fault::Rc(RcFault::OutOfMemory), "out of memory"),
+        (query(QueryKind::NoPattern), "query item 7: no pattern"),
+        (query(QueryKind::BadPrefix), "query item 7: bad prefix"),
+        (query(QueryKind::BadWord), "query item 7: bad word"),
+        (query(QueryKind::OutOfMemory), "out of memory"),
+        (Fault::Archive { number: 0, fault: CutFault::Device }, "archive 1: read failed"),
+        (Fault::Archive { number: 1, fault: CutFault::NotAnMbox }, "archive 2: not an mbox"),
+        (Fault::Archive { number: u64::MAX, fault: CutFault::ArchiveTooLong }, "archive 18446744073709551616: too long"),
+        (Fault::Archive { number: 0, fault: CutFault::Failed }, "archive 1: failed before"),
+        (Fault::Out, "output failed"),
+        (Fault::Memory, "out of memory"),
+    ] {
+        assert_eq!(rt; mairix_tool::fault_text(alloc, &fault)?.as_str(), text);
     }
     Ok(())
 }
