@@ -19,7 +19,7 @@ is_read-step text len rest c rest' h parts =
       lengths = omega (arith, h.lengths, ap length parts, length-append (encode_utf8 c) rest', length-encode c);
     }
 
-no_chars : (rest : List ℕ) → length rest ≡ 0 → chars rest ≡ []
+pub no_chars : (rest : List ℕ) → length rest ≡ 0 → chars rest ≡ []
 no_chars rest none = ap chars (nil_from_length rest (omega arith)) ∙ chars-nil
 
 -- ---- the characters at the front that pass

@@ -1,12 +1,13 @@
 -- Words that are short enough, and those that aren't.
-use Rattle.std.proofs.Common.{◌≡◌, ℕ, ◌+◌, ◌≤◌, ◌<◌, Bool, true, false, cond, List, [], ◌∷◌, ◌++◌, length, take, drop, chars, encode_utf8_all, IsUtf8, refl, sym, ap, ◌∙◌, arith, append_assoc, length-append}
+use Rattle.std.proofs.Common.{◌≡◌, ℕ, ◌+◌, ◌≤◌, ◌<◌, Bool, true, false, cond, List, [], ◌∷◌, ◌++◌, length, take, drop, chars, encode_utf8_all, IsUtf8, refl, sym, ap, ap₂, ◌∙◌, arith, append_assoc, length-append}
 use Rattle.std.proofs.lemmas.Bool.{le-leb}
 use Rattle.std.proofs.lemmas.Bool.Decides.{nat_tests}
 use Rattle.std.proofs.lemmas.Str.{encodes-append}
-use Rattle.mail_words.specs.Words.{is_word_character, word_limit}
-use Rattle.mail_words.specs.Runs.{front, behind, joined_front, within, joined_on, long_at}
+use Rattle.mail_words.specs.Words.{is_word_character, begins, word_limit}
+use Rattle.mail_words.specs.Runs.{front, behind, joined_front, within, joined_on, long_at, words_left}
 use Rattle.mail_words.proofs.RunLemmas.{front-behind, is_some}
 use Rattle.mail_words.proofs.OneWord.{joined_front-prefix}
+use Rattle.mail_words.proofs.Reading.{words_left-word}
 use Rattle.mail_words.proofs.Seams.{IsSeam, seam, front_seam, seam_front, chars_back, some_from_bytes}
 
 pub within-short : (cs word : List ℕ) → word ≡ encode_utf8_all cs → length word ≤ word_limit → within cs ≡ word ∷ []
@@ -67,3 +68,20 @@ long_at-short text word len utf8 place short some is =
     let whole = seam_front text (long_front cs) cut.0 len word cut.1 place is in
     joined_on-short (front is_word_character cs) (joined_front (behind is_word_character cs)) word (some_from_bytes (joined_front (behind is_word_character cs)) some) whole
     (omega (arith, short, place, ap length whole))
+
+-- ---- what is left, from a word character on
+
+pub words_left-kept : (in_run : Bool) (cs rest plain : List ℕ) (longs : List (List ℕ)) → begins is_word_character cs ≡ true → plain ≡ encode_utf8_all (front is_word_character cs)
+    → length plain ≤ word_limit → longs ≡ long_at in_run cs → rest ≡ behind is_word_character cs → words_left in_run cs ≡ plain ∷ (longs ++ words_left true rest)
+words_left-kept in_run cs rest plain longs begun is short long after =
+    words_left-word in_run cs begun
+    ∙ ap₂ (λ ws vs. (ws ++ vs) ++ words_left true (behind is_word_character cs)) (within-short (front is_word_character cs) plain is short) (sym long)
+    ∙ ap (λ cs'. plain ∷ (longs ++ words_left true cs')) (sym after)
+
+pub words_left-dropped : (in_run : Bool) (cs rest plain : List ℕ) → begins is_word_character cs ≡ true → plain ≡ encode_utf8_all (front is_word_character cs)
+    → word_limit < length plain → rest ≡ behind is_word_character cs → words_left in_run cs ≡ words_left true rest
+words_left-dropped in_run cs rest plain begun is long after =
+    let longer : word_limit < length (encode_utf8_all (front is_word_character cs)) = omega (arith, long, ap length is) in
+    words_left-word in_run cs begun
+    ∙ ap₂ (λ ws vs. (ws ++ vs) ++ words_left true (behind is_word_character cs)) (within-long (front is_word_character cs) longer) (long_at-long in_run cs longer)
+    ∙ ap (words_left true) (sym after)

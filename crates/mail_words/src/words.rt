@@ -1,5 +1,5 @@
 //! The words of a text, one after another.
-ghost use Rattle.std.specs.Prelude.{◌≡◌, [], ◌∷◌, ◌++◌, ◌<◌, ◌≤◌, true, false, length, chars, encode_utf8_all, All, MatchOption, option_to_list};
+ghost use Rattle.std.specs.Prelude.{◌≡◌, ◌+◌, [], ◌∷◌, ◌++◌, ◌<◌, ◌≤◌, true, false, length, chars, encode_utf8_all, All, MatchOption, option_to_list};
 ghost use Rattle.std.specs.Iterator.{YieldsFirstRef, item_count};
 ghost use Rattle.std.specs.List.{list_all};
 ghost use Rattle.std.specs.Option.{option_copied};
@@ -88,7 +88,7 @@ fn next_place(text: &str, in_run: bool) -> Option<Place<'_>>
 {
     let mut rest = text;
     let mut goes_on = in_run;
-    loop {
+    'places: loop {
         let (start, start_goes_on) = behind_gap(rest, goes_on);
         if start.is_empty() {
             return None;
@@ -125,6 +125,7 @@ fn place_at(text: &str, in_run: bool) -> Place<'_>
     ensures plain { result.plain.now ≡ encode_utf8_all (front is_word_character (chars text.now)) }
     ensures long { option_to_list (option_copied result.long) ≡ long_at in_run (chars text.now) }
     ensures behind { result.behind.now ≡ encode_utf8_all (behind is_word_character (chars text.now)) }
+    ensures lengths { length result.plain.now + length result.behind.now ≡ length text.now }
     ensures behind_chars { chars result.behind.now ≡ behind is_word_character (chars text.now) }
 {
     let len = plain_len(text);
