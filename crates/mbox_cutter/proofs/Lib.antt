@@ -11,5 +11,6 @@ mod RowsEvents
 mod RowsLines
 mod RowsSeparators
 pub mod Steps
+mod Tallies
 pub mod Tokens
 pub mod Windows

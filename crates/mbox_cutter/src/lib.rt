@@ -20,3 +20,6 @@ pub use line::{is_empty_line, line_end, lines_law};
 pub use memory::{MemoryOut, MemorySource};
 pub use separator::is_separator;
 pub use std_io::{FromRead, ToWrite};
+
+#[cfg(test)]
+mod tests;

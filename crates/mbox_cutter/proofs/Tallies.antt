@@ -1,0 +1,74 @@
+-- What a caller counts: the messages that start, and the bytes of the texts that end.
+use Rattle.std.proofs.Common.{◌≡◌, ℕ, zero, suc, ◌+◌, ◌≤◌, List, [], ◌∷◌, ◌++◌, Option, Some, None, IfSome, length, map, refl, ap, sym, ◌∙◌, arith}
+use Rattle.std.specs.List.{sum_by}
+use Rattle.std.proofs.lemmas.List.Sums.{sum_by-cons}
+use Rattle.std.specs.Option.{option_map}
+use Rattle.mbox_cutter.specs.declared.scan.Phase.{Phase}
+use Rattle.mbox_cutter.specs.declared.scan.Phase.TheVariants.{Between, Inside, Ended, Failed}
+use Rattle.mbox_cutter.specs.Archives.{Message, messages, text, size, span_length}
+use Rattle.mbox_cutter.specs.Events.{ArchiveEvent, Start, Line, End, Done, told, events, Coming, coming_of}
+use Rattle.mbox_cutter.specs.Coming.{TakesKnown}
+use Rattle.mbox_cutter.proofs.Events.{events-accepted}
+use Rattle.mbox_cutter.proofs.KnownSteps.{each_some}
+
+abbrev pub starts : List ArchiveEvent → ℕ
+starts [] = 0
+starts (Start at line ∷ es) = suc (starts es)
+starts (Line line ∷ es) = starts es
+starts (End span size ∷ es) = starts es
+starts (Done all ∷ es) = starts es
+
+abbrev pub sizes : List ArchiveEvent → ℕ
+sizes [] = 0
+sizes (Start at line ∷ es) = sizes es
+sizes (Line line ∷ es) = sizes es
+sizes (End span size ∷ es) = size + sizes es
+sizes (Done all ∷ es) = sizes es
+
+-- so many have been counted since
+abbrev pub Tallied : Option Coming → ℕ → ℕ → Option Coming → Type 0
+Tallied before count bytes after =
+    IfSome before (λ k. (m : Coming) × (after ≡ Some m) × (starts k.events ≡ count + starts m.events) × (sizes k.events ≡ bytes + sizes m.events))
+
+-- the texts that ended lie before the bytes taken, and before an open message
+abbrev pub IsBehind : ℕ → Phase → ℕ → Type 0
+IsBehind bytes Between at = bytes ≤ at
+IsBehind bytes (Inside start size) at = bytes ≤ start
+IsBehind bytes Ended at = bytes ≤ at
+IsBehind bytes Failed at = Unit {0}
+
+starts-lines : (ls : List (List ℕ)) (es : List ArchiveEvent) → starts (map Line ls ++ es) ≡ starts es
+starts-lines [] es = refl
+starts-lines (l ∷ ls) es = starts-lines ls es
+
+sizes-lines : (ls : List (List ℕ)) (es : List ArchiveEvent) → sizes (map Line ls ++ es) ≡ sizes es
+sizes-lines [] es = refl
+sizes-lines (l ∷ ls) es = sizes-lines ls es
+
+starts-told : (all : ℕ) (ms : List Message) → starts (told all ms) ≡ length ms
+starts-told all [] = refl
+starts-told all (m ∷ ms) = ap suc (starts-lines (text m) (End (span_length m) (size m) ∷ told all ms) ∙ starts-told all ms)
+
+sizes-told : (all : ℕ) (ms : List Message) → sizes (told all ms) ≡ sum_by size ms
+sizes-told all [] = refl
+sizes-told all (m ∷ ms) =
+    sizes-lines (text m) (End (span_length m) (size m) ∷ told all ms) ∙ ap (λ (n : ℕ). size m + n) (sizes-told all ms) ∙ sym (sum_by-cons size m ms)
+
+counted-at : (most : ℕ) (b : List ℕ) (ms : List Message) (before now after : Option Coming) (count bytes all : ℕ) → messages b ≡ Some ms → before ≡ Some (coming_of most b) →
+    Tallied before count bytes now → TakesKnown (Done all) now after → (count ≡ length ms) × (bytes ≡ sum_by size ms)
+counted-at most b ms None now after count bytes all m e t d = cc
+counted-at most b ms (Some k) None after count bytes all m e t d = let no : None ≡ Some t.0 = t.1 in cc
+counted-at most b ms (Some k) (Some n) after count bytes all m e t d =
+    let is : n ≡ t.0 = cc (t.1) in
+    let last : t.0.events ≡ Done all ∷ [] = ap (λ (c : Coming). c.events) (sym is) ∙ d.2.0 in
+    let first : k.events ≡ told (length b) ms = ap (λ (c : Coming). c.events) (let same : k ≡ coming_of most b = cc in same) ∙ events-accepted b ms m in
+    let all_starts : starts k.events ≡ length ms = ap starts first ∙ starts-told (length b) ms in
+    let all_sizes : sizes k.events ≡ sum_by size ms = ap sizes first ∙ sizes-told (length b) ms in
+    let no_starts : starts t.0.events ≡ 0 = ap starts last in
+    let no_sizes : sizes t.0.events ≡ 0 = ap sizes last in
+    (omega (arith, t.2), omega (arith, t.3))
+
+pub counted : (most : ℕ) (known : Option (List ℕ)) (before now after : Option Coming) (count bytes all : ℕ) → before ≡ option_map (coming_of most) known →
+    Tallied before count bytes now → TakesKnown (Done all) now after → IfSome known (λ b. IfSome (messages b) (λ ms. (count ≡ length ms) × (bytes ≡ sum_by size ms)))
+counted most known before now after count bytes all e t d =
+    each_some known _ (λ b is. each_some (messages b) _ (λ ms m. counted-at most b ms before now after count bytes all m (e ∙ ap (option_map (coming_of most)) is) t d))
