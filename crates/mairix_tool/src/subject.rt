@@ -1,8 +1,9 @@
 //! The subjects of a message.
 ghost use Rattle.std.specs.Prelude.{◌≡◌, ℕ, List, [], ◌∷◌, ◌++◌, IfOk, OnOk};
-ghost use Rattle.mairix_tool.specs.MessageTexts.{has_subject_word, texts_of_message};
+ghost use Rattle.mairix_tool.specs.MessageTexts.{has_subject_word, has_word, texts_of_message, texts_of_fields, text_of_body};
 
-use header_text::Header;
+use header_text::{Fields, Header, unfold_into};
+use mail_words::{Words, fold_into};
 use std::alloc::{AllocError, Global};
 
 /// The header of the message that is open, and the word that is looked for in its subjects.
@@ -10,6 +11,15 @@ use std::alloc::{AllocError, Global};
 pub(crate) struct Subjects<'w> {
     word: &'w str,
     header: Header,
+    reader: ValueReader,
+}
+
+/// Reads the values of fields into memory that is used again for each.
+#[derive(Drop)]
+struct ValueReader {
+    unfolded: Vec<u8>,
+    text: String,
+    folded: String,
 }
 
 impl<'w> Subjects<'w> {
@@ -23,6 +33,11 @@ impl<'w> Subjects<'w> {
         Subjects {
             word,
             header: Header::new(alloc),
+            reader: ValueReader {
+                unfolded: Vec::new(alloc),
+                text: String::new(alloc),
+                folded: String::new(alloc),
+            },
         }
     }
 
@@ -49,6 +64,60 @@ impl<'w> Subjects<'w> {
         ensures header { self.new.header ≡ self.old.header }
         ensures found { IfOk result (λ b. (ls : List (List ℕ)) → HasLines self.old.header ls → b ≡ has_subject_word self.old.word.now (texts_of_message ls)) }
     {
-        Err(AllocError)
+        let fields = self.header.fields();
+        have_subject_word(fields, self.word, &mut self.reader)
     }
+}
+
+/// Whether a Subject field among these has the word.
+fn have_subject_word(
+    fields: Fields<'_>,
+    word: &str,
+    reader: &mut ValueReader,
+) -> Result<bool, AllocError>
+    ensures { IfOk result (λ b. b ≡ has_subject_word word.now (texts_of_fields fields.entry)) }
+{
+    for field in fields {
+        if field.is(b"subject") && reader.value_has_word(field.body, word)? {
+            return Ok(true);
+        }
+    }
+    Ok(false)
+}
+
+impl ValueReader {
+    /// Whether the text of a field's body has the word.
+    fn value_has_word(&mut self, body: &[u8], word: &str) -> Result<bool, AllocError>
+        ensures { IfOk result (λ b. b ≡ has_word word.now (text_of_body body.now)) }
+    {
+        self.unfolded.clear();
+        unfold_into(body, &mut self.unfolded)?;
+        self.text.clear();
+        decode_words_into(&self.unfolded, &mut self.text)?;
+        text_has_word(self.text.as_str(), word, &mut self.folded)
+    }
+}
+
+/// Whether some word of the text folds to this one.
+fn text_has_word(text: &str, word: &str, folded: &mut String) -> Result<bool, AllocError>
+    ensures { IfOk result (λ b. b ≡ has_word word.now text.now) }
+{
+    for candidate in Words::of(text) {
+        fold_into(candidate, folded)?;
+        if folded.as_str() == word {
+            return Ok(true);
+        }
+    }
+    Ok(false)
+}
+
+ghost use Rattle.header_text.specs.EncodedWords.{decoded};
+ghost use Rattle.std.specs.Prelude.{string_bytes};
+
+fn decode_words_into(value: &[u8], into: &mut String) -> Result<(), AllocError>
+    ensures { OnOk result (string_bytes into.new ≡ string_bytes into.old ++ decoded value.now) }
+{
+    let _ = value;
+    let _ = into;
+    Err(AllocError)
 }
