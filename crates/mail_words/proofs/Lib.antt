@@ -5,7 +5,7 @@ pub mod Seams
 pub mod Reading
 pub mod RunLemmas
 pub mod Steps
-pub mod Tests
+pub mod WordTests
 pub mod Places
 pub mod OneWord
 pub mod Characters

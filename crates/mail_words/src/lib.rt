@@ -15,3 +15,6 @@ pub use one_word::{is_one_word, is_part_of_word};
 
 mod character;
 mod runs;
+
+#[cfg(test)]
+mod tests;
