@@ -7,7 +7,7 @@ use Rattle.std.proofs.lemmas.Str.{length-le-encodes}
 use Rattle.mail_words.specs.Words.{is_word_character, begins, is_word, word_limit, words, HasWordLength}
 use Rattle.mail_words.specs.Runs.{words_left}
 use Rattle.mail_words.proofs.Places.{if_word, words_on, words_from, words_behind-places}
-use Rattle.mail_words.proofs.Tests.{none_begins}
+use Rattle.mail_words.proofs.WordTests.{none_begins}
 
 all-nil : All HasWordLength []
 all-nil k d below = absurd (omega (arith, below))

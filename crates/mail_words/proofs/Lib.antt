@@ -1,16 +1,17 @@
-pub mod Kept
-pub mod Lengths
-pub mod FrontReads
-pub mod Seams
-pub mod Reading
-pub mod RunLemmas
-pub mod Steps
-pub mod Tests
-pub mod Places
-pub mod OneWord
 pub mod Characters
 pub mod FoldingLemmas
+pub mod FrontReads
+pub mod Kept
+pub mod Lengths
+pub mod OneWord
+pub mod Order
+pub mod Places
+pub mod Reading
 mod Rows
 mod RowsFolding
 mod RowsLimits
 mod RowsUnicode
+pub mod RunLemmas
+pub mod Seams
+pub mod Steps
+pub mod WordTests

@@ -10,7 +10,7 @@ use Rattle.mail_words.specs.Words.{is_word_character, is_joiner, begins, after_j
 use Rattle.mail_words.specs.Runs.{joined_to, joined_front}
 use Rattle.mail_words.proofs.Characters.{joiner_is_no_word_character}
 use Rattle.mail_words.proofs.RunLemmas.{is_some, joined_front-word, joined_front-joiner, joined_front-other}
-use Rattle.mail_words.proofs.Tests.{is_piece}
+use Rattle.mail_words.proofs.WordTests.{is_piece}
 
 -- ---- the last character
 

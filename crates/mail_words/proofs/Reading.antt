@@ -7,7 +7,7 @@ use Rattle.mail_words.specs.Runs.{front, behind, is_other, joined_front, read_fr
 use Rattle.mail_words.proofs.Characters.{joiner_is_no_word_character, word_character_is_no_joiner, is_word_character-ascii}
 use Rattle.mail_words.proofs.RunLemmas.{front-pass, front-fail, behind-pass, behind-fail, begins-behind, is_some, after_joiners-joiner, after_joiners-other, run-word}
 use Rattle.mail_words.proofs.Places.{words_on, words_from, words_behind-places}
-use Rattle.mail_words.proofs.Tests.{same_before}
+use Rattle.mail_words.proofs.WordTests.{same_before}
 use Rattle.mail_words.proofs.Steps.{words_on-other, none_within, words_on-word}
 
 -- ---- of what stands before, only two tests matter

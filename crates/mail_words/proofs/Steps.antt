@@ -10,7 +10,7 @@ use Rattle.mail_words.specs.Runs.{front, behind, joined_to, joined_front, within
 use Rattle.mail_words.proofs.Characters.{joiner_is_no_word_character, word_character_is_no_joiner}
 use Rattle.mail_words.proofs.RunLemmas.{front-pass, front-fail, behind-pass, behind-fail, begins-behind, is_some, nil_from_none, joined_front-word, joined_front-joiner, joined_front-other, is_some-joined_front, run-word}
 use Rattle.mail_words.proofs.Places.{if_word, words_on, words_from}
-use Rattle.mail_words.proofs.Tests.{is_piece, is_plain, is_long, none_begins, none_inside, none_of_others, none_ends, none_yet, none_in_run, none_before_end, same_before}
+use Rattle.mail_words.proofs.WordTests.{is_piece, is_plain, is_long, none_begins, none_inside, none_of_others, none_ends, none_yet, none_in_run, none_before_end, same_before}
 
 -- ---- the front of a word that grows by a character
 

@@ -12,6 +12,11 @@ mod folding;
 pub use folding::{fold, fold_into};
 mod one_word;
 pub use one_word::{is_one_word, is_part_of_word};
+mod laws;
+pub use laws::words_are_in_order;
 
 mod character;
 mod runs;
+
+#[cfg(test)]
+mod tests;

@@ -1,0 +1,5 @@
+use Rattle.mail_words.proofs.Order.{order-word_ranges}
+use Rattle.mail_words.proofs.laws.words_are_in_order.Goals as goal
+
+pub returns : goal.returns
+returns c text = order-word_ranges text
