@@ -6,7 +6,8 @@ use std::alloc::Global;
 use std::process::Abort;
 use std::test::Fail;
 
-const TWO_MESSAGES: &str = "^Subject: one||a||From here on we go||From - Sat Jan  4 12:00:00 2003|Subject: two||b||";
+const TWO_MESSAGES: &str =
+    "^Subject: one||a||From here on we go||From - Sat Jan  4 12:00:00 2003|Subject: two||b||";
 
 /// What a run answers that finds so many messages.
 fn found(messages: u64) -> Reply {
@@ -61,7 +62,10 @@ fn check_refusal(
     archives.push(archive(alloc, text)?)?;
     let mut sources = sources(alloc, &archives, 7, None)?;
     let mut out = MemoryOut::new(alloc, None);
-    assert_eq!(rt; run(rt, alloc, words, rc, &mut sources, &mut out), Some(reply));
+    assert_eq!(rt;
+        run(rt, alloc, words, rc, &mut sources, &mut out),
+        Some(reply)
+    );
     assert_eq!(rt; out.bytes().len(), 0);
     Ok(())
 }
@@ -77,9 +81,24 @@ fn subjects_are_found(rt: HostRuntime) -> Result<(), Fail> {
         ("", "s:one", 0, ""),
         ("||", "s:one", 0, ""),
         ("|From a 10:00 2003|", "s:a", 0, ""),
-        ("^Subject: =?iso-8859-1?Q?Gr=FC=DFe?=||x||", "s:GR\u{dc}SSE", 1, "0 78 m.mbox\n"),
-        ("^Subject: =?utf-8?Q?lun?=| =?utf-8?Q?ch?=||x||", "s:lunch", 1, "0 83 m.mbox\n"),
-        ("^Subject: =?utf-8?Q?lun?=| =?utf-8?Q?ch?=||x||", "s:lun", 0, ""),
+        (
+            "^Subject: =?iso-8859-1?Q?Gr=FC=DFe?=||x||",
+            "s:GR\u{dc}SSE",
+            1,
+            "0 78 m.mbox\n",
+        ),
+        (
+            "^Subject: =?utf-8?Q?lun?=| =?utf-8?Q?ch?=||x||",
+            "s:lunch",
+            1,
+            "0 83 m.mbox\n",
+        ),
+        (
+            "^Subject: =?utf-8?Q?lun?=| =?utf-8?Q?ch?=||x||",
+            "s:lun",
+            0,
+            "",
+        ),
     ] {
         check_pattern(&rt, rt.alloc(), text, pattern, messages, answer)?;
     }
@@ -89,13 +108,24 @@ fn subjects_are_found(rt: HostRuntime) -> Result<(), Fail> {
 #[test]
 fn queries_are_refused(rt: HostRuntime) -> Result<(), Fail> {
     let alloc = rt.alloc();
-    for (pattern, kind) in [("q:x", QueryKind::BadPrefix), ("x", QueryKind::BadPrefix), ("s:", QueryKind::BadWord), ("s:a b", QueryKind::BadWord)] {
+    for (pattern, kind) in [
+        ("q:x", QueryKind::BadPrefix),
+        ("x", QueryKind::BadPrefix),
+        ("s:", QueryKind::BadWord),
+        ("s:a b", QueryKind::BadWord),
+    ] {
         let words = words(alloc, &["-f", "rc", "--once", pattern])?;
         let reply = refused(2, Fault::Query(QueryFault { number: 1, kind }));
         check_refusal(&rt, alloc, &words, RC, "^Subject: Hello||hi||", reply)?;
     }
     let words = words(alloc, &["-f", "rc", "--once"])?;
-    let reply = refused(2, Fault::Query(QueryFault { number: 1, kind: QueryKind::NoPattern }));
+    let reply = refused(
+        2,
+        Fault::Query(QueryFault {
+            number: 1,
+            kind: QueryKind::NoPattern,
+        }),
+    );
     check_refusal(&rt, alloc, &words, RC, "^Subject: Hello||hi||", reply)
 }
 
@@ -103,14 +133,28 @@ fn queries_are_refused(rt: HostRuntime) -> Result<(), Fail> {
 fn words_are_refused(rt: HostRuntime) -> Result<(), Fail> {
     let alloc = rt.alloc();
     let words = words(alloc, &["--once", "s:a"])?;
-    check_refusal(&rt, alloc, &words, RC, "", refused(2, Fault::Usage(UsageFault::Parse)))
+    check_refusal(
+        &rt,
+        alloc,
+        &words,
+        RC,
+        "",
+        refused(2, Fault::Usage(UsageFault::Parse)),
+    )
 }
 
 #[test]
 fn help_has_status_0(rt: HostRuntime) -> Result<(), Fail> {
     let alloc = rt.alloc();
     let words = words(alloc, &["-h"])?;
-    check_refusal(&rt, alloc, &words, RC, "", refused(0, Fault::Usage(UsageFault::Help)))
+    check_refusal(
+        &rt,
+        alloc,
+        &words,
+        RC,
+        "",
+        refused(0, Fault::Usage(UsageFault::Help)),
+    )
 }
 
 #[test]
@@ -123,7 +167,14 @@ fn rcfiles_are_refused(rt: HostRuntime) -> Result<(), Fail> {
         (b"\nmbox\n".as_slice(), RcFault::BadLine(2)),
         (b"".as_slice(), RcFault::Missing(Name::Mbox)),
     ] {
-        check_refusal(&rt, alloc, &words, rc, "^Subject: Hello||hi||", refused(2, Fault::Rc(fault)))?;
+        check_refusal(
+            &rt,
+            alloc,
+            &words,
+            rc,
+            "^Subject: Hello||hi||",
+            refused(2, Fault::Rc(fault)),
+        )?;
     }
     Ok(())
 }
@@ -132,7 +183,13 @@ fn rcfiles_are_refused(rt: HostRuntime) -> Result<(), Fail> {
 fn no_mbox_is_refused(rt: HostRuntime) -> Result<(), Fail> {
     let alloc = rt.alloc();
     let words = words(alloc, &["-f", "rc", "--once", "s:x"])?;
-    let reply = refused(4, Fault::Archive { number: 0, fault: CutFault::NotAnMbox });
+    let reply = refused(
+        4,
+        Fault::Archive {
+            number: 0,
+            fault: CutFault::NotAnMbox,
+        },
+    );
     check_refusal(&rt, alloc, &words, RC, "hello|", reply)
 }
 
@@ -148,7 +205,10 @@ fn a_failed_read_is_answered(rt: HostRuntime) -> Result<(), Fail> {
         let reply = run(&rt, alloc, &words, RC, &mut sources, &mut out);
         // 58 bytes come in as many reads, and the next one tells the end.
         if fail_at <= 59 {
-            let fault = Fault::Archive { number: 0, fault: CutFault::Device };
+            let fault = Fault::Archive {
+                number: 0,
+                fault: CutFault::Device,
+            };
             assert_eq!(rt; reply, Some(refused(4, fault)));
             assert_eq!(rt; out.bytes().len(), 0);
         } else {
@@ -188,25 +248,76 @@ fn each_fault_has_its_text(rt: HostRuntime) -> Result<(), Fail> {
         (Fault::Usage(UsageFault::Parse), "bad words"),
         (Fault::Usage(UsageFault::Help), "help"),
         (Fault::Usage(UsageFault::Version), "version"),
-        (Fault::Usage(UsageFault::TwoFormats), "-r and -x exclude each other"),
+        (
+            Fault::Usage(UsageFault::TwoFormats),
+            "-r and -x exclude each other",
+        ),
         (Fault::Usage(UsageFault::OutOfMemory), "out of memory"),
-        (Fault::Rc(RcFault::BadLine(3)), "rcfile line 3: not option=value"),
-        (Fault::Rc(RcFault::NotSupported(3)), "rcfile line 3: option not supported"),
-        (Fault::Rc(RcFault::Wildcard(3)), "rcfile line 3: wildcard not supported"),
-        (Fault::Rc(RcFault::Expansion(3)), "rcfile line 3: expansion not supported"),
-        (Fault::Rc(RcFault::BadFormat(3)), "rcfile line 3: unknown format"),
-        (Fault::Rc(RcFault::Missing(Name::Mbox)), "rcfile: mbox missing"),
-        (Fault::Rc(RcFault::Missing(Name::Database)), "rcfile: database missing"),
-        (Fault::Rc(RcFault::Missing(Name::Mfolder)), "rcfile: mfolder missing"),
+        (
+            Fault::Rc(RcFault::BadLine(3)),
+            "rcfile line 3: not option=value",
+        ),
+        (
+            Fault::Rc(RcFault::NotSupported(3)),
+            "rcfile line 3: option not supported",
+        ),
+        (
+            Fault::Rc(RcFault::Wildcard(3)),
+            "rcfile line 3: wildcard not supported",
+        ),
+        (
+            Fault::Rc(RcFault::Expansion(3)),
+            "rcfile line 3: expansion not supported",
+        ),
+        (
+            Fault::Rc(RcFault::BadFormat(3)),
+            "rcfile line 3: unknown format",
+        ),
+        (
+            Fault::Rc(RcFault::Missing(Name::Mbox)),
+            "rcfile: mbox missing",
+        ),
+        (
+            Fault::Rc(RcFault::Missing(Name::Database)),
+            "rcfile: database missing",
+        ),
+        (
+            Fault::Rc(RcFault::Missing(Name::Mfolder)),
+            "rcfile: mfolder missing",
+        ),
         (Fault::Rc(RcFault::OutOfMemory), "out of memory"),
         (query(QueryKind::NoPattern), "query item 7: no pattern"),
         (query(QueryKind::BadPrefix), "query item 7: bad prefix"),
         (query(QueryKind::BadWord), "query item 7: bad word"),
         (query(QueryKind::OutOfMemory), "out of memory"),
-        (Fault::Archive { number: 0, fault: CutFault::Device }, "archive 1: read failed"),
-        (Fault::Archive { number: 1, fault: CutFault::NotAnMbox }, "archive 2: not an mbox"),
-        (Fault::Archive { number: u64::MAX, fault: CutFault::ArchiveTooLong }, "archive 18446744073709551616: too long"),
-        (Fault::Archive { number: 0, fault: CutFault::Failed }, "archive 1: failed before"),
+        (
+            Fault::Archive {
+                number: 0,
+                fault: CutFault::Device,
+            },
+            "archive 1: read failed",
+        ),
+        (
+            Fault::Archive {
+                number: 1,
+                fault: CutFault::NotAnMbox,
+            },
+            "archive 2: not an mbox",
+        ),
+        (
+            Fault::Archive {
+                number: u64::MAX,
+                fault: CutFault::ArchiveTooLong,
+            },
+            "archive 18446744073709551616: too long",
+        ),
+        (
+            Fault::Archive {
+                number: 0,
+                fault: CutFault::Failed,
+            },
+            "archive 1: failed before",
+        ),
         (Fault::Out, "output failed"),
         (Fault::Memory, "out of memory"),
     ] {

@@ -2,7 +2,7 @@
 //! allocation, then the second, and so on. Each call answers in full, or its own want of memory with what that leaves. Where a
 //! fixture has no memory the test ends well.
 use crate::fixture::{RC, archive, run, sources, words};
-use header_text::{Header, Taken, decode_words, message_ids, unfold};
+use header_text::{Header, Taken, message_ids, unfold};
 use mail_words::fold;
 use mairix_tool::{Fault, RcFault, Reply, UsageFault, fault_text, plan_of, read_rc};
 use mbox_cutter::{Cutter, Event, MemoryOut, MemorySource};
@@ -49,7 +49,8 @@ fn sweep_once_run_of_one_message(rt: HostRuntime) {
 
 #[test]
 fn sweep_once_run_of_two_messages(rt: HostRuntime) {
-    let text = "^Subject: one||a||From here on we go||From - Sat Jan  4 12:00:00 2003|Subject: two||b||";
+    let text =
+        "^Subject: one||a||From here on we go||From - Sat Jan  4 12:00:00 2003|Subject: two||b||";
     let _ = sweep_run(&rt, rt.alloc(), text, "0 75 m.mbox\n");
 }
 
@@ -79,7 +80,10 @@ fn sweep_read_rc(rt: HostRuntime) {
 #[test]
 fn sweep_fault_text(rt: HostRuntime) {
     for (fault, text) in [
-        (Fault::Rc(RcFault::Wildcard(12)), "rcfile line 12: wildcard not supported"),
+        (
+            Fault::Rc(RcFault::Wildcard(12)),
+            "rcfile line 12: wildcard not supported",
+        ),
         (Fault::Out, "output failed"),
     ] {
         if let Ok(told) = fault_text(rt.alloc(), &fault) {
@@ -108,7 +112,11 @@ fn sweep_push_line(rt: HostRuntime) {
         (b"\n".as_slice(), Taken::Ended),
     ] {
         let first = header.push_line(line);
-        let answer = if first.is_err() { header.push_line(line) } else { first };
+        let answer = if first.is_err() {
+            header.push_line(line)
+        } else {
+            first
+        };
         assert_eq!(rt; answer, Ok(taken));
     }
     for field in header.fields() {
@@ -122,9 +130,6 @@ fn sweep_values(rt: HostRuntime) {
     let alloc = rt.alloc();
     if let Ok(value) = unfold(alloc, b" b\n c\n") {
         assert_eq!(rt; value.as_slice(), b"b c".as_slice());
-    }
-    if let Ok(text) = decode_words(alloc, b"a =?utf-8?B?w7w=?= b") {
-        assert_eq!(rt; text.as_str(), "a \u{fc} b");
     }
     if let Ok(ids) = message_ids(alloc, b"<a@x> <b @y>") {
         assert_eq!(rt; ids.len(), 2);
