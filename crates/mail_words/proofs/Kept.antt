@@ -45,12 +45,11 @@ length-long_front cs =
 pub long_seam : (text : List ℕ) → IsUtf8 text → (rest : List ℕ) × IsSeam text (long_front (chars text)) rest
 long_seam text utf8 =
     let cs : List ℕ = chars text in
-    let parts = joined_front-prefix (behind is_word_character cs) in
-    (
+    let parts = joined_front-prefix (behind is_word_character cs) in (
       parts.0,
       seam text (long_front cs) parts.0 utf8
-      (sym (front-behind is_word_character cs) ∙ ap (λ rest. front is_word_character cs ++ rest) parts.1
-      ∙ sym (append_assoc (front is_word_character cs) (joined_front (behind is_word_character cs)) parts.0)),
+          (sym (front-behind is_word_character cs) ∙ ap (λ rest. front is_word_character cs ++ rest) parts.1
+          ∙ sym (append_assoc (front is_word_character cs) (joined_front (behind is_word_character cs)) parts.0)),
     )
 
 -- what the run behind the plain word comes to

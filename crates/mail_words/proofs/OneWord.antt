@@ -1,14 +1,13 @@
 -- A text is one word where it is a piece of one, begins with a word character, and is its own run without the joiners at its end.
-use Rattle.std.proofs.Common.{◌≡◌, ℕ, suc, ◌+◌, ◌≤◌, Bool, true, false, not, ◌&&◌, ◌||◌, List, [], ◌∷◌, ◌++◌, length, reverse, chars, encode_utf8, encode_utf8_all, IsUtf8, nat_le, refl, sym, ap, ap₂, ◌∙◌, arith, length-append}
+use Rattle.std.proofs.Common.{◌≡◌, ℕ, ◌≤◌, Bool, true, false, not, ◌&&◌, ◌||◌, List, [], ◌∷◌, ◌++◌, length, reverse, chars, encode_utf8_all, IsUtf8, nat_le, refl, sym, ap, ◌∙◌, arith, length-append}
 use Rattle.std.specs.Prelude.{◌==◌}
 use Rattle.std.proofs.Math.Bool.{and-true, and-false}
 use Rattle.std.proofs.lemmas.Bool.{and_parts, le-leb, eq-eqb, eqb-true}
 use Rattle.std.proofs.lemmas.List.{reverse-append, append-nil}
-use Rattle.std.proofs.lemmas.Str.{encodes-append, encodes-chars, length-encode, len_utf8_bounds, length-le-encodes}
+use Rattle.std.proofs.lemmas.Str.{encodes-append, encodes-chars, length-le-encodes}
 use Rattle.std.specs.List.{list_all, list_any}
-use Rattle.mail_words.specs.Words.{is_word_character, is_joiner, begins, after_joiners, is_one_word, is_part_of_word, is_word, word_limit}
+use Rattle.mail_words.specs.Words.{is_word_character, is_joiner, begins, is_one_word, is_part_of_word, is_word, word_limit}
 use Rattle.mail_words.specs.Runs.{joined_to, joined_front}
-use Rattle.mail_words.proofs.Characters.{joiner_is_no_word_character}
 use Rattle.mail_words.proofs.RunLemmas.{is_some, joined_front-word, joined_front-joiner, joined_front-other}
 use Rattle.mail_words.proofs.WordTests.{is_piece}
 
@@ -94,14 +93,17 @@ joined_front-whole (c ∷ cs) pieces ended = go (is_word_character c) (is_joiner
   where
     parts : (is_piece c ≡ true) × (list_all is_piece cs ≡ true)
     parts = and_parts (is_piece c) (list_all is_piece cs) pieces
+
     rest_ended : is_some cs ≡ true → begins is_word_character (reverse cs) ≡ true
     rest_ended some = sym (ends-cons is_word_character c cs some) ∙ ended refl
+
     no_rest : is_some cs ≡ false → begins is_word_character (reverse (c ∷ cs)) ≡ is_word_character c
     no_rest none = only cs none
       where
         only : (ds : List ℕ) → is_some ds ≡ false → begins is_word_character (reverse (c ∷ ds)) ≡ is_word_character c
         only [] h = refl
         only (d ∷ ds) h = cc
+
     go : (w j some : Bool) → is_word_character c ≡ w → is_joiner c ≡ j → is_some cs ≡ some
         → ((is_some cs ≡ true → begins is_word_character (reverse cs) ≡ true) → joined_front cs ≡ cs) → joined_front (c ∷ cs) ≡ c ∷ cs
     go true j some e f s h = joined_front-word c cs e ∙ ap (λ ds. c ∷ ds) (h rest_ended)
@@ -192,10 +194,13 @@ is_one_word-parts text utf8 =
   where
     cs : List ℕ
     cs = chars text
+
     begun : Bool
     begun = begins is_word_character cs
+
     whole : Bool
     whole = length (encode_utf8_all (joined_front cs)) == length text
+
     bytes : length (encode_utf8_all cs) ≡ length text
     bytes = ap length (encodes-chars text utf8)
 

@@ -1,7 +1,7 @@
 -- Ranges come by where they begin and then by where they end, and those that are words come so too.
-use Rattle.std.proofs.Common.{◌≡◌, ℕ, zero, suc, ◌+◌, ◌<◌, Bool, true, false, cond, List, [], ◌∷◌, ◌++◌, length, map, chars, refl, inl, inr, arith}
+use Rattle.std.proofs.Common.{ℕ, zero, suc, ◌<◌, Bool, true, false, cond, List, [], ◌∷◌, ◌++◌, length, map, chars, refl, inl, inr, arith}
 use Rattle.std.specs.Prelude.{filter}
-use Rattle.mail_words.specs.Words.{is_word_character, is_word_range, numbers_from, ranges_from, word_ranges, IsBefore, IsBeforeEach, AreInOrder}
+use Rattle.mail_words.specs.Words.{is_word_character, is_word_range, numbers_from, ranges_from, word_ranges, IsBeforeEach, AreInOrder}
 
 -- what is left of an ordered list is ordered
 before-filter : (p : ℕ × ℕ → Bool) (r : ℕ × ℕ) (rs : List (ℕ × ℕ)) → IsBeforeEach r rs → IsBeforeEach r (filter p rs)

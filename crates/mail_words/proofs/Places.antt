@@ -1,6 +1,6 @@
 -- The words of a text, place by place: what begins at a place depends on the characters before it, the nearest first, and
 -- on those from it on.
-use Rattle.std.proofs.Common.{◌≡◌, ℕ, suc, ◌+◌, ◌-◌, Bool, true, false, cond, List, [], ◌∷◌, ◌++◌, map, reverse, length, take, drop, encode_utf8_all, refl, sym, ap, ap₂, ◌∙◌, arith, append_assoc, append-nil, add-one, length-append}
+use Rattle.std.proofs.Common.{◌≡◌, ℕ, suc, ◌-◌, Bool, true, false, cond, List, [], ◌∷◌, ◌++◌, map, reverse, length, take, drop, encode_utf8_all, refl, sym, ap, ap₂, ◌∙◌, arith, append_assoc, append-nil, length-append}
 use Rattle.std.proofs.Math.Seq.{take-append_seam, drop-append_seam}
 use Rattle.std.proofs.lemmas.List.{map-append, reverse-append}
 use Rattle.std.proofs.lemmas.List.Elements.{filter-append}
@@ -60,7 +60,7 @@ words_in_place front inside (c ∷ cs) =
     let longer : List ℕ = inside ++ c ∷ [] in
     let whole = ap (λ back. front ++ back) (sym (append_assoc inside (c ∷ []) cs)) in
     let end : suc (length (front ++ inside)) ≡ length (front ++ longer) =
-        omega (arith, length-append front inside, length-append front longer, length-append inside (c ∷ [])) in
+    omega (arith, length-append front inside, length-append front longer, length-append inside (c ∷ [])) in
     ap₂ (λ text n. words_in text ((length front, n) ∷ map (λ end. (length front, end)) (numbers_from (suc n) (length cs)))) whole end
     ∙ words_in-append (front ++ (longer ++ cs)) ((length front, length (front ++ longer)) ∷ []) (map (λ end. (length front, end)) (numbers_from (suc (length (front ++ longer))) (length cs)))
     ∙ ap₂ ◌++◌ (word_in_one front longer cs) (words_in_place front longer cs)
@@ -73,5 +73,5 @@ words_behind-places front (c ∷ cs) =
     let place : suc (length front) ≡ length front' = omega (arith, length-append front (c ∷ [])) in
     words_in-append (front ++ c ∷ cs) here (ranges_from (suc (length front)) cs)
     ∙ ap₂ ◌++◌
-      (ap (λ l. words_in (front ++ c ∷ cs) (map (λ end. (length front, end)) (numbers_from (suc (length l)) (length (c ∷ cs))))) (sym (append-nil front)) ∙ words_in_place front [] (c ∷ cs))
-      (ap₂ (λ text n. words_in text (ranges_from n cs)) (sym (append_assoc front (c ∷ []) cs)) place ∙ words_behind-places front' cs ∙ ap (λ before. words_from before cs) (reverse-append front (c ∷ [])))
+    (ap (λ l. words_in (front ++ c ∷ cs) (map (λ end. (length front, end)) (numbers_from (suc (length l)) (length (c ∷ cs))))) (sym (append-nil front)) ∙ words_in_place front [] (c ∷ cs))
+    (ap₂ (λ text n. words_in text (ranges_from n cs)) (sym (append_assoc front (c ∷ []) cs)) place ∙ words_behind-places front' cs ∙ ap (λ before. words_from before cs) (reverse-append front (c ∷ [])))

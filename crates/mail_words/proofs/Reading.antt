@@ -1,9 +1,9 @@
 -- Reading the words of a text from the front: what is left of a text behind a place.
-use Rattle.std.proofs.Common.{◌≡◌, ℕ, Bool, true, false, not, cond, ◌&&◌, ◌||◌, List, [], ◌∷◌, ◌++◌, reverse, length, refl, sym, ap, ap₂, ◌∙◌, append_assoc, append-nil, lit<}
+use Rattle.std.proofs.Common.{◌≡◌, ℕ, Bool, true, false, not, ◌&&◌, List, [], ◌∷◌, ◌++◌, reverse, refl, sym, ap, ap₂, ◌∙◌, lit<}
 use Rattle.std.proofs.Math.Bool.{and-true, and-false}
 use Rattle.std.specs.List.{list_all}
-use Rattle.mail_words.specs.Words.{is_word_character, is_joiner, begins, after_joiners, words_behind}
-use Rattle.mail_words.specs.Runs.{front, behind, is_other, joined_front, read_front, words_left, within, long_at}
+use Rattle.mail_words.specs.Words.{is_word_character, is_joiner, begins, after_joiners}
+use Rattle.mail_words.specs.Runs.{front, behind, is_other, read_front, words_left, within, long_at}
 use Rattle.mail_words.proofs.Characters.{joiner_is_no_word_character, word_character_is_no_joiner, is_word_character-ascii}
 use Rattle.mail_words.proofs.RunLemmas.{front-pass, front-fail, behind-pass, behind-fail, begins-behind, is_some, after_joiners-joiner, after_joiners-other, run-word}
 use Rattle.mail_words.proofs.Places.{words_on, words_from, words_behind-places}
@@ -102,7 +102,7 @@ words_left-word in_run [] e = cc
 words_left-word in_run (c ∷ cs) e =
     words_left-places in_run (c ∷ cs)
     ∙ ap₂ ◌++◌ (words_on-word in_run (before_rest in_run) (c ∷ cs) (first_before_rest in_run) (run_before_rest in_run) e)
-      (words_from-past (c ∷ before_rest in_run) cs e ∙ ap (words_left true) (sym (behind-pass is_word_character c cs e)))
+    (words_from-past (c ∷ before_rest in_run) cs e ∙ ap (words_left true) (sym (behind-pass is_word_character c cs e)))
 
 -- past all characters at which no word begins
 pub words_left-gaps : (in_run : Bool) (cs : List ℕ) → words_left in_run cs ≡ words_left (in_run && list_all is_joiner (front is_other cs)) (behind is_other cs)
@@ -112,6 +112,7 @@ words_left-gaps in_run (c ∷ cs) = go (is_word_character c) refl (words_left-ga
     and_assoc : (a b c : Bool) → ((a && b) && c) ≡ (a && (b && c))
     and_assoc true b c = refl
     and_assoc false b c = refl
+
     go : (t : Bool) → is_word_character c ≡ t
         → words_left (in_run && is_joiner c) cs ≡ words_left ((in_run && is_joiner c) && list_all is_joiner (front is_other cs)) (behind is_other cs)
         → words_left in_run (c ∷ cs) ≡ words_left (in_run && list_all is_joiner (front is_other (c ∷ cs))) (behind is_other (c ∷ cs))

@@ -80,4 +80,3 @@ deseret = refl
 marks_stay_apart : folding (0x45 ∷ 0xCC ∷ 0x81 ∷ []) ≡ (0x65 ∷ 0xCC ∷ 0x81 ∷ [])
 unfolding on_literals
 marks_stay_apart = refl
-

@@ -54,7 +54,7 @@ long_word_of_128_bytes : words_of (wide 16 ++ (hyphen ++ (wide 15 ++ 0x4E00 ∷ 
 unfolding on_literals
 long_word_of_128_bytes = refl
 
-long_word_of_128_bytes_between_joiners : words_of (hyphen ++ (0x2E ∷ (wide 16 ++ (hyphen ++ (wide 15 ++ 0x4E00 ∷ 0x5F ∷ []))))) 
+long_word_of_128_bytes_between_joiners : words_of (hyphen ++ (0x2E ∷ (wide 16 ++ (hyphen ++ (wide 15 ++ 0x4E00 ∷ 0x5F ∷ [])))))
     ≡ encode_utf8_all (wide 16) ∷ encode_utf8_all (wide 16 ++ (hyphen ++ (wide 15 ++ 0x4E00 ∷ []))) ∷ encode_utf8_all (wide 15 ++ 0x4E00 ∷ []) ∷ []
 unfolding on_literals
 long_word_of_128_bytes_between_joiners = refl

@@ -1,5 +1,5 @@
 -- What begins at a place, by what the character there is.
-use Rattle.std.proofs.Common.{◌≡◌, ℕ, Bool, true, false, not, cond, ◌&&◌, ◌||◌, List, [], ◌∷◌, ◌++◌, reverse, length, encode_utf8_all, refl, sym, ap, ap₂, ◌∙◌, append_assoc, append-nil, nat_le}
+use Rattle.std.proofs.Common.{◌≡◌, ℕ, Bool, true, false, ◌&&◌, ◌||◌, List, [], ◌∷◌, ◌++◌, reverse, refl, sym, ap, ap₂, ◌∙◌, append_assoc, append-nil}
 use Rattle.std.proofs.Math.Bool.{and-false, or-true}
 use Rattle.std.proofs.lemmas.Bool.{and_parts}
 use Rattle.std.proofs.lemmas.List.{reverse-append}
@@ -8,9 +8,9 @@ use Rattle.std.specs.List.{list_all, list_any}
 use Rattle.mail_words.specs.Words.{is_word_character, is_joiner, begins, after_joiners}
 use Rattle.mail_words.specs.Runs.{front, behind, joined_to, joined_front, within, joined_on, long_at}
 use Rattle.mail_words.proofs.Characters.{joiner_is_no_word_character, word_character_is_no_joiner}
-use Rattle.mail_words.proofs.RunLemmas.{front-pass, front-fail, behind-pass, behind-fail, begins-behind, is_some, nil_from_none, joined_front-word, joined_front-joiner, joined_front-other, is_some-joined_front, run-word}
-use Rattle.mail_words.proofs.Places.{if_word, words_on, words_from}
-use Rattle.mail_words.proofs.WordTests.{is_piece, is_plain, is_long, none_begins, none_inside, none_of_others, none_ends, none_yet, none_in_run, none_before_end, same_before}
+use Rattle.mail_words.proofs.RunLemmas.{front-pass, front-fail, behind-pass, behind-fail, begins-behind, is_some, nil_from_none, joined_front-word, joined_front-joiner, joined_front-other, is_some-joined_front}
+use Rattle.mail_words.proofs.Places.{words_on}
+use Rattle.mail_words.proofs.WordTests.{is_piece, is_plain, is_long, none_begins, none_inside, none_of_others, none_ends, none_yet, none_in_run, none_before_end}
 
 -- ---- the front of a word that grows by a character
 
@@ -89,10 +89,13 @@ words_on-plain before inside (c ∷ cs) all joins first e =
   where
     longer : List ℕ
     longer = inside ++ c ∷ []
+
     all' : list_all is_word_character longer ≡ true
     all' = all-push is_word_character inside c ∙ (λ k. all k && (e k && true))
+
     joins' : list_any is_joiner longer ≡ false
     joins' = any-push is_joiner inside c ∙ (λ k. joins k || (word_character_is_no_joiner c e k || false))
+
     go : (t : Bool) → begins is_word_character cs ≡ t
         → (begins is_word_character cs ≡ true → words_on before longer cs ≡ plain_first before longer (front is_word_character cs) (behind is_word_character cs))
         → words_on before inside (c ∷ cs) ≡ plain_first before inside (c ∷ front is_word_character cs) (behind is_word_character cs)
@@ -152,6 +155,7 @@ none_past_other before inside c cs e f =
   where
     all' : list_all is_word_character (inside ++ c ∷ []) ≡ false
     all' = all-push is_word_character inside c ∙ (λ k. list_all is_word_character inside && (e k && true)) ∙ and-false (list_all is_word_character inside)
+
     pieces' : list_all is_piece (inside ++ c ∷ []) ≡ false
     pieces' = all-push is_piece inside c ∙ (λ k. list_all is_piece inside && ((e k || f k) && true)) ∙ and-false (list_all is_piece inside)
 
@@ -162,6 +166,7 @@ words_on-joined before inside (c ∷ cs) h j =
   where
     longer : List ℕ
     longer = inside ++ c ∷ []
+
     go : (w d more : Bool) → is_word_character c ≡ w → is_joiner c ≡ d → begins is_word_character (after_joiners cs) ≡ more
         → (BeginsLong before longer → IsJoined longer → words_on before longer cs ≡ joined_on longer (joined_front cs))
         → words_on before inside (c ∷ cs) ≡ joined_on inside (joined_front (c ∷ cs))
@@ -211,6 +216,7 @@ long_behind before plain (c ∷ cs) begun all last first = go (is_joiner c) refl
   where
     longer : List ℕ
     longer = plain ++ c ∷ []
+
     go : (t : Bool) → is_joiner c ≡ t → words_on before plain (c ∷ cs) ≡ joined_on plain (joined_front (c ∷ cs))
     go true e =
         let joined = is_joined-joiner plain c e in
@@ -236,8 +242,10 @@ words_on-word in_run before cs first run e =
   where
     plain : List ℕ
     plain = front is_word_character cs
+
     rest : List ℕ
     rest = behind is_word_character cs
+
     go : (t : Bool) → begins is_word_character (after_joiners before) ≡ t → words_on before plain rest ≡ long_at t cs
     go true run = no_long_behind before plain rest (begins-behind is_word_character cs) run
     go false run = long_behind before plain rest (begins-front is_word_character cs e) (all-front is_word_character cs) (begins-behind is_word_character cs) run

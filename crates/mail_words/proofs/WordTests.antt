@@ -1,10 +1,8 @@
 -- When three parts of a text make the middle one a word.
-use Rattle.std.proofs.Common.{◌≡◌, ℕ, Bool, true, false, not, cond, ◌&&◌, ◌||◌, List, [], ◌∷◌, ◌++◌, reverse, length, encode_utf8_all, refl, sym, ap, ap₂, ◌∙◌, nat_le}
+use Rattle.std.proofs.Common.{◌≡◌, ℕ, Bool, true, false, ◌||◌, List, [], reverse, refl}
 use Rattle.std.proofs.Math.Bool.{and-false, or-true}
-use Rattle.std.proofs.lemmas.List.{reverse-append}
-use Rattle.std.proofs.lemmas.List.Folds.{list_all-append, list_any-append}
 use Rattle.std.specs.List.{list_all, list_any}
-use Rattle.mail_words.specs.Words.{is_word_character, is_joiner, begins, after_joiners, is_word, word_limit}
+use Rattle.mail_words.specs.Words.{is_word_character, is_joiner, begins, after_joiners, is_word}
 use Rattle.mail_words.specs.Runs.{within}
 use Rattle.mail_words.proofs.Places.{if_word}
 

@@ -5,5 +5,4 @@ ghost use Rattle.mail_words.specs.Words.{AreInOrder, word_ranges};
 /// Words come by where they begin, and of two that begin together the shorter first. So none stands twice.
 pub fn words_are_in_order()
     ensures { (text : List ℕ) → AreInOrder (word_ranges text) }
-{
-}
+{}

@@ -3,20 +3,30 @@
 #![tactic(auto)]
 
 mod kind;
+
 pub use kind::TextKind;
+
 mod flags;
+
 pub use flags::{Flag, Flags};
+
 mod words;
+
 pub use words::Words;
+
 mod folding;
+
 pub use folding::{fold, fold_into};
+
 mod one_word;
+
 pub use one_word::{is_one_word, is_part_of_word};
+
 mod laws;
+
 pub use laws::words_are_in_order;
 
 mod character;
 mod runs;
-
 #[cfg(test)]
 mod tests;

@@ -29,7 +29,10 @@ fn word_count(text: &str) -> u32 {
 
 #[test]
 fn words_come_in_order(rt: HostRuntime) -> Result<(), Fail> {
-    assert_eq!(rt; joined(rt.alloc(), "e-mail, a_b!")?.as_str(), "ee-mailmailaa_bb");
+    assert_eq!(rt;
+        joined(rt.alloc(), "e-mail, a_b!")?.as_str(),
+        "ee-mailmailaa_bb"
+    );
     Ok(())
 }
 

@@ -1,4 +1,4 @@
-use Rattle.std.proofs.Common.{◌≡◌, ◌≤◌, ◌++◌, length, encode_utf8, string_bytes, sym, ap, ◌∙◌, arith, length-append}
+use Rattle.std.proofs.Common.{◌≤◌, ◌++◌, length, encode_utf8, string_bytes, sym, ap, ◌∙◌, arith, length-append}
 use Rattle.std.proofs.lemmas.Result.{err_from_is_err_and}
 use Rattle.std.specs.Char.{to_ascii_lowercase}
 use Rattle.std.specs.Prelude.{map}

@@ -1,4 +1,4 @@
-use Rattle.std.proofs.Common.{not, arith, sym, ap, ◌∙◌}
+use Rattle.std.proofs.Common.{arith, sym, ap, ◌∙◌}
 use Rattle.std.specs.Str.Iter.{chars_rest}
 use Rattle.mail_words.proofs.FrontReads.{front_read-start, front_read-pass, front_read-stop, front_read-end, front_read-within}
 use Rattle.mail_words.proofs.runs.plain_len.Goals as goal

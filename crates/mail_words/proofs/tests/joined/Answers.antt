@@ -1,4 +1,4 @@
-use Rattle.std.proofs.Common.{◌≡◌, ◌++◌, suc, All, string_bytes, ap, subst, sym, ◌∙◌, append_assoc, suc-le-suc}
+use Rattle.std.proofs.Common.{◌++◌, suc, All, string_bytes, ap, subst, sym, ◌∙◌, append_assoc, suc-le-suc}
 use Rattle.std.specs.List.{concat}
 use Rattle.mail_words.specs.Words.{HasWordLength}
 use Rattle.mail_words.proofs.tests.joined.Goals as goal

@@ -1,4 +1,4 @@
-use Rattle.std.proofs.Common.{◌≡◌, ◌&&◌, ◌<◌, List, ℕ, length, chars, encode_utf8_all, sym, ap, ap₂, ◌∙◌, arith}
+use Rattle.std.proofs.Common.{◌&&◌, length, chars, sym, ap, ap₂, ◌∙◌, arith}
 use Rattle.std.specs.List.{list_all}
 use Rattle.mail_words.specs.Words.{is_word_character, is_joiner, begins}
 use Rattle.mail_words.specs.Runs.{front, behind, is_other, words_left}
@@ -17,11 +17,11 @@ returns-clause-left c =
     let start = chars_back _ _ _ _ _ cut c.gap_len.ensures c.split_at.ensures.back in
     words_left-gaps c.args.in_run (chars c.args.text.now)
     ∙ ap₂ words_left
-      (elim c.if-in_run.branch [
-        | then-in_run w ↦ (λ k. w.if-in_run.true k && list_all is_joiner (front is_other (chars c.args.text.now))) ∙ sym (w.result-is ∙ w.has_joiners_alone.ensures ∙ ap (list_all is_joiner) gap)
-        | else-in_run w ↦ (λ k. w.if-in_run.false k && list_all is_joiner (front is_other (chars c.args.text.now))) ∙ sym (w.result-is ∙ w.if-in_run.false)
-      ])
-      (sym start)
+    (elim c.if-in_run.branch [
+      | then-in_run w ↦ (λ k. w.if-in_run.true k && list_all is_joiner (front is_other (chars c.args.text.now))) ∙ sym (w.result-is ∙ w.has_joiners_alone.ensures ∙ ap (list_all is_joiner) gap)
+      | else-in_run w ↦ (λ k. w.if-in_run.false k && list_all is_joiner (front is_other (chars c.args.text.now))) ∙ sym (w.result-is ∙ w.if-in_run.false)
+    ])
+    (sym start)
 
 pub returns-clause-begins : goal.returns-clause-begins
 returns-clause-begins c =

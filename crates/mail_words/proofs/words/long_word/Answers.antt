@@ -1,4 +1,4 @@
-use Rattle.std.proofs.Common.{◌≡◌, ◌≤◌, ◌+◌, ℕ, length, chars, encode_utf8_all, sym, ap, ◌∙◌, arith}
+use Rattle.std.proofs.Common.{◌+◌, chars, sym, ap, ◌∙◌, arith}
 use Rattle.mail_words.specs.Words.{is_word_character}
 use Rattle.mail_words.specs.Runs.{front, behind, joined_front, joined_on}
 use Rattle.mail_words.proofs.Seams.{front_seam, seam_boundary, nil_from_bytes}
@@ -23,7 +23,7 @@ pub returns-then-len-gt-WORD_LIMIT : goal.returns-then-len-gt-WORD_LIMIT
 returns-then-len-gt-WORD_LIMIT c =
     let joined = joined_is _ _ _ _ c.utf8.text c.requires c.split_at.ensures.back c.joined_len-joined.ensures in
     sym (joined_on-long (front is_word_character (chars c.args.text.now)) (joined_front (behind is_word_character (chars c.args.text.now)))
-      (omega (arith, joined, c.requires, length-long_front (chars c.args.text.now), c.if-len-gt-WORD_LIMIT.true)))
+    (omega (arith, joined, c.requires, length-long_front (chars c.args.text.now), c.if-len-gt-WORD_LIMIT.true)))
 
 pub split_at-requires-2 : goal.split_at-requires-2
 split_at-requires-2 c =
@@ -35,4 +35,4 @@ pub returns : goal.returns
 returns c =
     let joined = joined_is _ _ _ _ c.utf8.text c.requires c.split_at.ensures.back c.joined_len-joined.ensures in
     sym (long_at-short c.args.text.now c.split_at-2.result.0.now (c.args.plain + c.joined_len-joined.result) c.utf8.text
-      (omega (arith, joined, c.requires, length-long_front (chars c.args.text.now))) (omega (arith, c.if-len-gt-WORD_LIMIT.false)) (omega (arith, joined, c.if-joined-eq0.false)) c.split_at-2.ensures.front)
+    (omega (arith, joined, c.requires, length-long_front (chars c.args.text.now))) (omega (arith, c.if-len-gt-WORD_LIMIT.false)) (omega (arith, joined, c.if-joined-eq0.false)) c.split_at-2.ensures.front)

@@ -1,4 +1,4 @@
-use Rattle.std.proofs.Common.{◌≡◌, ◌<◌, ◌≤◌, length, chars, sym, ap, ◌∙◌, arith, rules}
+use Rattle.std.proofs.Common.{length, sym, ap, ◌∙◌, arith, rules}
 use Rattle.std.proofs.lemmas.Bool.{eqb-true, eqb-false}
 use Rattle.mail_words.specs.Runs.{words_left}
 use Rattle.mail_words.proofs.Reading.{words_left-end}
@@ -21,9 +21,8 @@ returns-then-place-le-WORD_LIMIT c =
 
 pub places-preserved : goal.places-preserved
 places-preserved c =
-    let begun = c.behind_gap-start_goes_on.ensures.begins (omega (arith, c.place_at-place.ensures.lengths, c.if-place-le-WORD_LIMIT.false)) in
-    (
+    let begun = c.behind_gap-start_goes_on.ensures.begins (omega (arith, c.place_at-place.ensures.lengths, c.if-place-le-WORD_LIMIT.false)) in (
       search rules,
       sym (sym c.places.invariant.1 ∙ c.behind_gap-start_goes_on.ensures.left
-      ∙ words_left-dropped c.behind_gap-start_goes_on.result.1 _ _ _ begun c.place_at-place.ensures.plain c.if-place-le-WORD_LIMIT.false c.place_at-place.ensures.behind_chars),
+          ∙ words_left-dropped c.behind_gap-start_goes_on.result.1 _ _ _ begun c.place_at-place.ensures.plain c.if-place-le-WORD_LIMIT.false c.place_at-place.ensures.behind_chars),
     )
