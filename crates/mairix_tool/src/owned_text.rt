@@ -25,6 +25,7 @@ impl Text {
         })
     }
 
+    /// The text itself.
     pub fn as_str(&self) -> &str
         ensures { result.now ≡ self.now }
     {
@@ -63,6 +64,7 @@ impl Texts {
         Ok(copies)
     }
 
+    /// The texts, in order.
     pub fn as_slice(&self) -> &[String]
         ensures { map string_bytes result.now ≡ self.now }
     {
