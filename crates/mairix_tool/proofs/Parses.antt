@@ -7,7 +7,7 @@ use Rattle.clap.specs.declared.error.kind.ErrorKind.TheVariants as kind
 use Rattle.clap.specs.declared.parser.matches.ArgMatches.{ArgMatches}
 use Rattle.contract_words.proofs.Collecting.{if_some_map}
 use Rattle.contract_words.specs.Answers.{Gives}
-use Rattle.mairix_tool.specs.CommandLine.{command, plan, plan_by, plan_of_rows, refusal_of_kind, kind_refusal}
+use Rattle.mairix_tool.specs.CommandLine.{command, plan, plan_by, plan_of_rows, plan_in, refusal_of_kind, kind_refusal, error_refusal}
 use Rattle.mairix_tool.proofs.OneKind.{One, one_fault, only_kind}
 
 -- the command is one of those whose parse clap states
@@ -36,7 +36,7 @@ refused_by k ks rows one (inr among) =
     (if_some_map (kind_refusal k) (λ f. refusal_of_kind k ≡ f) (λ f. plan_by (k ∷ []) rows ≡ Err f) (λ f same. ap Err same) (refused k))
 
 plan-taken : (words : List Text) (m : ArgMatches) → fault_of command words ≡ [] → rows_of (found_of m) ≡ matches_of command words
-    → plan words ≡ Ok (plan_of_rows (rows_of (found_of m)))
+    → plan words ≡ Ok (plan_in m)
 unfolding plan
 plan-taken words m none same =
     subst (λ (all : Kinds). plan_by all (matches_of command words) ≡ Ok (plan_of_rows (rows_of (found_of m)))) (sym none)
@@ -48,6 +48,6 @@ unfolding plan
 plan-refused words k has = refused_by k (fault_of command words) (matches_of command words) (one_fault command words no_subcommands leaf) has
 
 pub Gives-parsed : (words : List Text) (r : Result ArgMatches Error) → IfOk r (HasMatchesOf command words) → FailsBy (fault_of command words) r
-    → Gives (λ m. plan_of_rows (rows_of (found_of m))) (λ e. kind_refusal (kind_of e)) r (plan words)
+    → Gives plan_in error_refusal r (plan words)
 Gives-parsed words (Ok m) matches none = plan-taken words m none (matches simple).0
 Gives-parsed words (Err e) matches has = plan-refused words (kind_of e) has

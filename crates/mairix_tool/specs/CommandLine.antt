@@ -2,11 +2,13 @@
 use Rattle.std.specs.Prelude.{ℕ, Bool, true, false, List, [], ◌∷◌, Option, Some, None, unwrap_or, codes, fold, Result, Ok, Err}
 use Rattle.std.specs.Option.{option_map_or}
 use Rattle.std.specs.Str.{byte, bytes_eq}
-use Rattle.clap.specs.Words.{App, Rule, Row, Text, Kinds, new_app, new_rule, with_rule, fault_of, matches_of, first_of, all_of}
+use Rattle.clap.specs.Words.{App, Rule, Row, Text, Kinds, new_app, new_rule, with_rule, fault_of, matches_of, first_of, all_of, rows_of, found_of, kind_of}
 use Rattle.clap.specs.Simple.{on_top}
 use Rattle.clap.specs.declared.builder.action.ArgAction.TheVariants.{Set, SetTrue}
+use Rattle.clap.specs.declared.error.Error.{Error}
 use Rattle.clap.specs.declared.error.kind.ErrorKind.{ErrorKind}
 use Rattle.clap.specs.declared.error.kind.ErrorKind.TheVariants as kind
+use Rattle.clap.specs.declared.parser.matches.ArgMatches.{ArgMatches}
 use Rattle.mairix_tool.specs.declared.command_line.Plan.{Plan}
 use Rattle.mairix_tool.specs.declared.command_line.UsageFault.{UsageFault}
 use Rattle.mairix_tool.specs.declared.command_line.UsageFault.TheVariants.{Parse, Help, Version, OutOfMemory}
@@ -56,6 +58,10 @@ plan_of_rows rows = record {
   patterns = unwrap_or (all_of (codes "pattern") rows) [];
 }
 
+-- the plan that a parse gives
+abbrev pub plan_in : ArgMatches → Plan
+plan_in matches = plan_of_rows (rows_of (found_of matches))
+
 -- Help and version count as they are, and every other refusal of the parser alike.
 abbrev pub refusal_of_kind : ErrorKind → UsageFault
 refusal_of_kind kind.DisplayHelp = Help
@@ -77,10 +83,13 @@ abbrev pub usage_refusal : UsageFault → Option UsageFault
 usage_refusal OutOfMemory = None
 usage_refusal fault = Some fault
 
--- the refusal that a parser's error is
+-- the refusal that a parser's error is: want of memory is none
 abbrev pub kind_refusal : ErrorKind → Option UsageFault
 kind_refusal kind.OutOfMemory = None
 kind_refusal k = Some (refusal_of_kind k)
+
+abbrev pub error_refusal : Error → Option UsageFault
+error_refusal error = kind_refusal (kind_of error)
 
 -- what a parser's error is answered as
 abbrev pub fault_of_kind : ErrorKind → UsageFault

@@ -1,8 +1,8 @@
 //! What the words of a command line ask for.
 ghost use Rattle.std.specs.Prelude.{◌≡◌, [], true, false, map, option_map, unwrap_or, is_ok, IfOk, codes, string_bytes};
-ghost use Rattle.clap.specs.Words.{app_of, rule_of, with_rule, found_of, rows_of, first_of, all_of, kind_of};
+ghost use Rattle.clap.specs.Words.{app_of, rule_of, with_rule, found_of, rows_of, first_of, all_of};
 ghost use Rattle.contract_words.specs.Answers.{Gives};
-ghost use Rattle.mairix_tool.specs.CommandLine.{short_flag, long_flag, rcfile_option, pattern_argument, bare_command, command, flag, plan, plan_of_rows, fault_of_kind, kind_refusal, usage_refusal};
+ghost use Rattle.mairix_tool.specs.CommandLine.{short_flag, long_flag, rcfile_option, pattern_argument, bare_command, command, flag, plan, plan_in, fault_of_kind, error_refusal, usage_refusal};
 
 use crate::owned_text::{Text, Texts};
 use clap::error::ErrorKind;
@@ -13,9 +13,13 @@ use thiserror::Error;
 /// What the words of a command line ask for.
 #[derive(Debug, Drop)]
 pub struct Plan {
+    /// The rcfile's path, as written.
     pub rcfile: Text,
+    /// Whether the answer is offsets, lengths and paths.
     pub raw: bool,
+    /// Whether the index is made in memory.
     pub once: bool,
+    /// What to search for, in the order of the words.
     pub patterns: Texts,
 }
 
@@ -25,12 +29,16 @@ pub enum UsageFault {
     /// The parser refuses the words.
     #[error("bad words")]
     Parse,
+    /// Both raw and excerpt are asked for.
     #[error("-r and -x exclude each other")]
     TwoFormats,
+    /// Help is asked for.
     #[error("help")]
     Help,
+    /// The version is asked for.
     #[error("version")]
     Version,
+    /// A growth was refused.
     #[error("out of memory")]
     OutOfMemory,
 }
@@ -92,13 +100,13 @@ fn parsed<'a>(
     alloc: Global,
     words: &'a [String],
 ) -> Result<Result<ArgMatches<'a>, clap::Error>, AllocError>
-    ensures { IfOk result (λ r. Gives (λ m. plan_of_rows (rows_of (found_of m))) (λ e. kind_refusal (kind_of e)) r (plan (map string_bytes words.entry.now))) }
+    ensures { IfOk result (λ r. Gives plan_in error_refusal r (plan (map string_bytes words.entry.now))) }
 {
     Ok(command(alloc)?.try_get_matches_from(words))
 }
 
 fn planned(alloc: Global, matches: &ArgMatches<'_>) -> Result<Plan, AllocError>
-    ensures { IfOk result (λ p. p ≡ plan_of_rows (rows_of (found_of matches.now))) }
+    ensures { IfOk result (λ p. p ≡ plan_in matches.now) }
 {
     Ok(Plan {
         rcfile: Text::new(alloc, text_of(matches, "rcfile").unwrap_or(""))?,

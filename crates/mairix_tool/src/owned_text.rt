@@ -32,6 +32,7 @@ impl Text {
         Text { text }
     }
 
+    /// The text itself.
     pub fn as_str(&self) -> &str
         ensures { result.now ≡ self.now }
     {
@@ -70,6 +71,7 @@ impl Texts {
         Ok(copies)
     }
 
+    /// The texts, in order.
     pub fn as_slice(&self) -> &[String]
         ensures { map string_bytes result.now ≡ self.now }
     {

@@ -55,18 +55,25 @@ impl fmt::Display for Name {
 /// Why an rcfile is refused. Lines are numbered from 1.
 #[derive(Clone, Copy, Debug, PartialEq, Eq, Error)]
 pub enum RcFault {
+    /// Not UTF-8, no `=`, an empty option or value, or a value (of `mbox`, one of its names) that is no path.
     #[error("rcfile line {0}: not option=value")]
     BadLine(u64),
+    /// Another option than `mbox`, `database` and `mfolder`.
     #[error("rcfile line {0}: option not supported")]
     NotSupported(u64),
+    /// `*`, `?`, `[` or `...` in `mbox`.
     #[error("rcfile line {0}: wildcard not supported")]
     Wildcard(u64),
+    /// `$` anywhere, or a name or value that begins with `~`.
     #[error("rcfile line {0}: expansion not supported")]
     Expansion(u64),
+    /// No line sets the option, or `mbox` names no archive.
     #[error("rcfile: {0} missing")]
     Missing(Name),
+    /// An answer's format that isn't known.
     #[error("rcfile line {0}: unknown format")]
     BadFormat(u64),
+    /// A growth was refused.
     #[error("out of memory")]
     OutOfMemory,
 }
