@@ -2,7 +2,7 @@
 //! allocation, then the second, and so on. Each call answers in full, or its own want of memory with what that leaves. Where a
 //! fixture has no memory the test ends well.
 use crate::fixture::{RC, archive, run, sources, words};
-use header_text::{Header, Taken, message_ids, unfold};
+use header_text::{Header, Taken, decode_words, message_ids, unfold};
 use mail_words::fold;
 use mairix_tool::{Fault, RcFault, Reply, UsageFault, fault_text, plan_of, read_rc};
 use mbox_cutter::{Cutter, Event, MemoryOut, MemorySource};
@@ -130,6 +130,9 @@ fn sweep_values(rt: HostRuntime) {
     let alloc = rt.alloc();
     if let Ok(value) = unfold(alloc, b" b\n c\n") {
         assert_eq!(rt; value.as_slice(), b"b c".as_slice());
+    }
+    if let Ok(text) = decode_words(alloc, b"a =?utf-8?B?w7w=?= b") {
+        assert_eq!(rt; text.as_str(), "a \u{fc} b");
     }
     if let Ok(ids) = message_ids(alloc, b"<a@x> <b @y>") {
         assert_eq!(rt; ids.len(), 2);
