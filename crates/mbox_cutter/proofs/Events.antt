@@ -1,7 +1,6 @@
 -- How a caller goes through the messages of an archive by its events: what is told of messages begins with a start, and between
 -- a start and an end come the lines of that message's text.
-use Rattle.std.proofs.Common.{◌≡◌, ℕ, List, [], ◌∷◌, ◌++◌, length, None, Some, refl}
-use Rattle.std.specs.Option.{option_map_or}
+use Rattle.std.proofs.Common.{◌≡◌, ℕ, List, [], ◌∷◌, length, None, Some, refl}
 use Rattle.mbox_cutter.specs.Archives.{Message, messages, text, size, span_length}
 use Rattle.mbox_cutter.specs.Events.{ArchiveEvent, Start, Line, End, Done, told, told_rest, events}
 

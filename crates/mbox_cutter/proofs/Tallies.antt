@@ -1,12 +1,12 @@
 -- What a caller counts: the messages that start, and the bytes of the texts that end.
-use Rattle.std.proofs.Common.{◌≡◌, ℕ, zero, suc, ◌+◌, ◌≤◌, List, [], ◌∷◌, ◌++◌, Option, Some, None, IfSome, length, map, refl, ap, sym, ◌∙◌, arith}
+use Rattle.std.proofs.Common.{◌≡◌, ℕ, suc, ◌+◌, ◌≤◌, List, [], ◌∷◌, ◌++◌, Option, Some, None, IfSome, length, map, refl, ap, sym, ◌∙◌, arith}
 use Rattle.std.specs.List.{sum_by}
 use Rattle.std.proofs.lemmas.List.Sums.{sum_by-cons}
 use Rattle.std.specs.Option.{option_map}
 use Rattle.mbox_cutter.specs.declared.scan.Phase.{Phase}
 use Rattle.mbox_cutter.specs.declared.scan.Phase.TheVariants.{Between, Inside, Ended, Failed}
 use Rattle.mbox_cutter.specs.Archives.{Message, messages, text, size, span_length}
-use Rattle.mbox_cutter.specs.Events.{ArchiveEvent, Start, Line, End, Done, told, events, Coming, coming_of}
+use Rattle.mbox_cutter.specs.Events.{ArchiveEvent, Start, Line, End, Done, told, Coming, coming_of}
 use Rattle.mbox_cutter.specs.Coming.{TakesKnown}
 use Rattle.mbox_cutter.proofs.Events.{events-accepted}
 use Rattle.mbox_cutter.proofs.KnownSteps.{each_some}

@@ -1,11 +1,11 @@
 -- What a window's steps do to the bytes to come.
 use Rattle.std.proofs.Common.{◌≡◌, ℕ, ◌+◌, ◌-◌, ◌<◌, ◌≤◌, Ok, Err, Result, List, [], ◌++◌, Option, Some, None, IfSome, IfOk, length, take, drop, append-nil, refl, ap, sym, ◌∙◌, arith, append_assoc}
-use Rattle.std.specs.Io.KnownBytes.{Consumes, ReadConsumes, IsAtEnd, prepend_known}
+use Rattle.std.specs.Io.KnownBytes.{ReadConsumes, IsAtEnd, prepend_known}
 use Rattle.std.proofs.Math.Seq.{take-append-add}
-use Rattle.std.proofs.lemmas.List.{take-append-le, length-take-le, take_all, length-drop, drop-append-le, length-append}
+use Rattle.std.proofs.lemmas.List.{take-append-le, length-take-le, drop-append-le, length-append}
 use borrow.Rule.Slice.PartMut.{put_mid}
 use Rattle.mbox_cutter.specs.declared.device.DeviceFault.{DeviceFault}
-use Rattle.mbox_cutter.specs.Lines.{line_end_of, first_length, IsLine}
+use Rattle.mbox_cutter.specs.Lines.{line_end_of, first_length}
 use Rattle.mbox_cutter.specs.Ahead.{ReadsBehind, Extends}
 use Rattle.mbox_cutter.proofs.FirstLines.{line_end-more, line_end-whole}
 use Rattle.mbox_cutter.proofs.Parts.{take_front}

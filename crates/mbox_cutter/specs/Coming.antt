@@ -1,5 +1,5 @@
 -- How a call of a cutter changes what still comes.
-use Rattle.std.specs.Prelude.{◌≡◌, Bool, true, false, List, [], ◌∷◌, Option, Result, None, Some, Ok, Err, IfSome}
+use Rattle.std.specs.Prelude.{◌≡◌, Bool, true, false, [], ◌∷◌, Option, Result, None, Some, Ok, Err, IfSome}
 use Rattle.mbox_cutter.specs.declared.event.CutFault.{CutFault}
 use Rattle.mbox_cutter.specs.declared.event.CutFault.TheVariants.{Device, NotAnMbox, ArchiveTooLong, Failed}
 use Rattle.mbox_cutter.specs.Events.{ArchiveEvent, Start, Line, End, Done, Coming}

@@ -1,5 +1,5 @@
 -- Where a cutter stands in an archive, and how an event moves it, whatever the archive's bytes.
-use Rattle.std.specs.Prelude.{◌≡◌, ◌⊎◌, ℕ, ◌+◌, ◌-◌, ◌*◌, ◌<◌, ◌≤◌, List, length, Option}
+use Rattle.std.specs.Prelude.{◌≡◌, ◌⊎◌, ℕ, ◌+◌, ◌-◌, ◌*◌, ◌<◌, ◌≤◌, Bool, true, false, List, length, Option}
 use Rattle.std.specs.Io.KnownBytes.{IsAtEnd}
 use Rattle.mbox_cutter.specs.declared.scan.Phase.{Phase}
 use Rattle.mbox_cutter.specs.declared.scan.Phase.TheVariants.{Between, Inside, Ended, Failed}
@@ -12,6 +12,12 @@ pub record Place : Type 0 where
   pub phase : Phase
   pub offset : ℕ
   pub most : ℕ
+
+abbrev pub is_failed : Phase → Bool
+is_failed Between = false
+is_failed (Inside start size) = false
+is_failed Ended = false
+is_failed Failed = true
 
 -- a message starts not before the bytes that were taken, and its separator is taken
 pub record Starts (at : ℕ) (line : List ℕ) (old new : Place) : Type 0 where

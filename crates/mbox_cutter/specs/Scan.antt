@@ -1,5 +1,5 @@
 -- A step of a cutter, as the scan sees it that decides it.
-use Rattle.std.specs.Prelude.{◌≡◌, ℕ, ◌+◌, ◌<◌, ◌≤◌, Bool, ◌||◌, nat_eq, take, drop, List, Option, Result, Ok, Err, IfSome, true, false}
+use Rattle.std.specs.Prelude.{◌≡◌, ℕ, ◌+◌, ◌<◌, ◌≤◌, Bool, ◌||◌, nat_eq, take, drop, List, Option, Result, Ok, Err, IfSome}
 use Rattle.std.specs.Io.KnownBytes.{IsAtEnd}
 use Rattle.std.specs.Option.{option_map}
 use Rattle.mbox_cutter.specs.declared.event.CutFault.{CutFault}
@@ -23,12 +23,6 @@ IsWithin phase.Between at = Unit {0}
 IsWithin (phase.Inside start size) at = start + size < at
 IsWithin phase.Ended at = Unit {0}
 IsWithin phase.Failed at = Unit {0}
-
-abbrev pub is_failed : Phase → Bool
-is_failed phase.Between = false
-is_failed (phase.Inside start size) = false
-is_failed phase.Ended = false
-is_failed phase.Failed = true
 
 -- the source has failed, or the first line ends behind the limit
 abbrev pub FailsFirst : ℕ → ℕ → Option (List ℕ) → CutFault → Type 0

@@ -35,8 +35,8 @@ impl<'a, S: Source> Model for Cutter<'a, S> {
 impl<'a, S: Source> Cutter<'a, S> {
     ghost use Rattle.mbox_cutter.specs.contracts.cutter.Cutter.{the_row};
     ghost use Rattle.mbox_cutter.specs.Events.{coming_of};
-    ghost use Rattle.mbox_cutter.specs.Places.{HasLine};
-    ghost use Rattle.mbox_cutter.specs.Scan.{is_failed, told_at, told_result};
+    ghost use Rattle.mbox_cutter.specs.Places.{is_failed, HasLine};
+    ghost use Rattle.mbox_cutter.specs.Scan.{told_at, told_result};
     ghost use Rattle.mbox_cutter.specs.Progress.{Advances, LendsLine, Rests, shown, shown_result};
     ghost use mir.Syntax.{named};
 

@@ -119,7 +119,7 @@ impl MemoryOut {
     pub fn bytes(&self) -> &[u8]
         ensures { result.now ≡ self.now.taken }
     {
-        &self.bytes
+        self.bytes.as_slice()
     }
 }
 

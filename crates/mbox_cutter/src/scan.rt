@@ -51,8 +51,8 @@ impl<'a, S: Source> Scan<'a, S> {
     ghost use Rattle.mbox_cutter.specs.Ahead.{known, Extends};
     ghost use Rattle.mbox_cutter.specs.Lines.{first_length, IsLine};
     ghost use Rattle.mbox_cutter.specs.Coming.{is_device_fault};
-    ghost use Rattle.mbox_cutter.specs.Places.{HasLine, Moves, Nears, ReadsAll};
-    ghost use Rattle.mbox_cutter.specs.Scan.{closes_at, is_failed, place, told_at, FailsFirst, HasEnded, IsFresh, IsScan, StepsTo};
+    ghost use Rattle.mbox_cutter.specs.Places.{is_failed, HasLine, Moves, Nears, ReadsAll};
+    ghost use Rattle.mbox_cutter.specs.Scan.{closes_at, place, told_at, FailsFirst, HasEnded, IsFresh, IsScan, StepsTo};
 
     /// The length of the first line, 0 at the end.
     fn line(&mut self) -> Result<usize, CutFault>

@@ -177,6 +177,11 @@ fn failed_from_then_on(rt: HostRuntime) -> Result<(), Fail> {
     assert!(rt; matches!(cutter.next_event(), Err(CutFault::ArchiveTooLong)));
     assert!(rt; matches!(cutter.next_event(), Err(CutFault::Failed)));
     assert!(rt; matches!(cutter.next_event(), Err(CutFault::Failed)));
+    let fault = CutFault::Failed;
+    assert_eq!(rt;
+        format!(in rt.alloc(); "{fault}, {DeviceFault}")?.as_str(),
+        "failed before, the device failed"
+    );
     Ok(())
 }
 

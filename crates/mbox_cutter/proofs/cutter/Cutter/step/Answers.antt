@@ -1,4 +1,3 @@
-use Rattle.std.proofs.Common.{rules, ◌≡◌, false, true, ap, sym, ◌∙◌, subst, refl}
 use Rattle.mbox_cutter.proofs.cutter.Cutter.step.Goals as goal
 
 pub returns-in-Ok : goal.returns-in-Ok

@@ -1,4 +1,4 @@
-use Rattle.std.proofs.Common.{ℕ, List, ◌<◌, length, take, drop, ap, ◌∙◌, subst, sym, arith}
+use Rattle.std.proofs.Common.{ℕ, List, ◌<◌, length, take, ap, ◌∙◌, subst, sym, arith}
 use Rattle.std.specs.Io.KnownBytes.{IsAtEnd}
 use Rattle.std.proofs.lemmas.List.{take_all}
 use Rattle.mbox_cutter.specs.Ahead.{Ahead}

@@ -1,4 +1,4 @@
-use Rattle.std.proofs.Common.{◌≡◌, ◌+◌, ◌-◌, ◌*◌, ◌≤◌, length, IfSome, Some, cond}
+use Rattle.std.proofs.Common.{◌≡◌, ◌+◌, ◌-◌, ◌*◌, length, IfSome, Some, cond}
 use Rattle.mbox_cutter.specs.Ahead.{known, Extends}
 use Rattle.mbox_cutter.proofs.window.Window.line_after.Given as goal
 
