@@ -1,6 +1,5 @@
 use Rattle.std.proofs.Common.{◌≡◌, false, IfSome}
-use Rattle.mbox_cutter.specs.Places.{left}
-use Rattle.mbox_cutter.specs.Scan.{is_failed}
+use Rattle.mbox_cutter.specs.Places.{is_failed, left}
 use Rattle.mairix_tool.specs.ArchiveSearches.{HasFound}
 use Rattle.mairix_tool.proofs.search.search_events.Given as goal
 
