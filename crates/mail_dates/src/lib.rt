@@ -1,0 +1,13 @@
+//! Dates of mail: what a Date field says, and the seconds that a range of days takes in. Nothing here takes memory.
+//!
+//! A second is a second of UTC from 1970-01-01T00:00:00Z, without leap seconds. Days are those of the proleptic
+//! Gregorian calendar, in which year 0 is a leap year.
+#![tactic(auto)]
+
+mod fault;
+mod moment;
+mod range;
+
+pub use fault::DateFault;
+pub use moment::Moment;
+pub use range::Range;
