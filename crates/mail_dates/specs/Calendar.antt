@@ -1,5 +1,7 @@
 -- Days and seconds of UTC on the proleptic Gregorian calendar (ISO 8601), where year 0 is a leap year.
-use Rattle.std.specs.Prelude.{ℤ, pos, ◌+ℤ◌, ◌*ℤ◌, ◌≤ℤ◌}
+use Rattle.std.specs.Prelude.{◌≡◌, ℕ, zero, suc, nat_le, Bool, true, false, ◌&&◌, IsTrue, ℤ, pos, ◌+ℤ◌, ◌-ℤ◌, ◌*ℤ◌, ◌≤ℤ◌, unsigned_abs, List, [], ◌∷◌, Option, Some, None, if◌then◌else◌, option_map, position, bytes_eq, codes}
+use Rattle.std.specs.Str.{str_to_ascii_lowercase}
+use Rattle.jiff_core.specs.Calendar.{days_from_civil, days_in_month}
 
 -- from 1970-01-01T00:00:00Z to 9999-12-31T23:59:59Z
 abbrev pub IsMoment : ℤ → Type 0
@@ -11,3 +13,38 @@ start_of_day day = day *ℤ pos 86400
 
 abbrev pub end_of_day : ℤ → ℤ
 end_of_day day = day *ℤ pos 86400 +ℤ pos 86399
+
+-- the calendar has this day, in a year from -9999 to 9999
+abbrev pub is_civil_day : ℤ → ℕ → ℕ → Bool
+is_civil_day year month day =
+    nat_le (unsigned_abs year) 9999 && nat_le 1 month && nat_le month 12 && nat_le 1 day && nat_le day (days_in_month year month)
+
+-- the number of a day from 1970-01-01, where the calendar has it
+unfoldable pub day_number : ℤ → ℕ → ℕ → Option ℤ
+day_number year month day = if is_civil_day year month day then Some (days_from_civil year month day) else None
+
+-- the month that a name of three letters stands for, in either case
+abbrev pub month_names : List (List ℕ)
+month_names =
+    codes "jan" ∷ codes "feb" ∷ codes "mar" ∷ codes "apr" ∷ codes "may" ∷ codes "jun"
+    ∷ codes "jul" ∷ codes "aug" ∷ codes "sep" ∷ codes "oct" ∷ codes "nov" ∷ codes "dec" ∷ []
+
+abbrev pub month_of : List ℕ → Option ℕ
+month_of name = option_map suc (position (bytes_eq (str_to_ascii_lowercase name)) month_names)
+
+-- the greatest number below a limit that passes
+abbrev pub greatest_below : ℕ → (ℕ → Bool) → Option ℕ
+greatest_below zero passes = None
+greatest_below (suc n) passes = elim (passes n) [ true ↦ Some n | false ↦ greatest_below n passes ]
+
+-- the latest year of the calendar that passes
+abbrev pub year_at : ℕ → ℤ
+year_at n = pos n -ℤ pos 9999
+
+abbrev pub latest_year : (ℤ → Bool) → Option ℤ
+latest_year passes = option_map year_at (greatest_below 19999 (λ n. passes (year_at n)))
+
+-- the same as a fact: it passes, and no later year does
+pub record IsLatestYear (passes : ℤ → Bool) (year : ℤ) : Type 0 where
+  pub passes_then : IsTrue (passes year)
+  pub latest : (later : ℤ) → IsTrue (passes later) → later ≤ℤ year

@@ -4,8 +4,10 @@
 //! Gregorian calendar, in which year 0 is a leap year.
 #![tactic(auto)]
 
+mod days;
 mod fault;
 mod moment;
+mod period;
 mod range;
 
 pub use fault::DateFault;

@@ -1,0 +1,5 @@
+pub mod Formula
+mod RowsCalendar
+mod RowsHeaderDates
+mod RowsRanges
+mod RowsIsoRanges
