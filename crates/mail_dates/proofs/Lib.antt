@@ -1,3 +1,5 @@
+pub mod Cuts
+pub mod Digits
 pub mod Formula
 mod RowsCalendar
 mod RowsHeaderDates

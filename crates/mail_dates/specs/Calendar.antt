@@ -23,14 +23,17 @@ is_civil_day year month day =
 unfoldable pub day_number : ℤ → ℕ → ℕ → Option ℤ
 day_number year month day = if is_civil_day year month day then Some (days_from_civil year month day) else None
 
--- the month that a name of three letters stands for, in either case
+-- the names of months, in small letters
 abbrev pub month_names : List (List ℕ)
 month_names =
     codes "jan" ∷ codes "feb" ∷ codes "mar" ∷ codes "apr" ∷ codes "may" ∷ codes "jun"
     ∷ codes "jul" ∷ codes "aug" ∷ codes "sep" ∷ codes "oct" ∷ codes "nov" ∷ codes "dec" ∷ []
 
-abbrev pub month_of : List ℕ → Option ℕ
-month_of name = option_map suc (position (bytes_eq (str_to_ascii_lowercase name)) month_names)
+-- the month that three letters stand for, in either case
+unfoldable pub month_of : List ℕ → Option ℕ
+month_of (a ∷ b ∷ c ∷ []) =
+    option_map suc (position (λ name. bytes_eq name (str_to_ascii_lowercase (a ∷ b ∷ c ∷ []))) month_names)
+month_of _ = None
 
 -- the greatest number below a limit that passes
 abbrev pub greatest_below : ℕ → (ℕ → Bool) → Option ℕ

@@ -1,6 +1,7 @@
 -- Numbers in decimal digits.
 use Rattle.std.specs.Prelude.{ℕ, nat_le, ◌&&◌, List, length, Option, Some, None, if◌then◌else◌, option_and_then}
-use Rattle.std.specs.Str.{all_ascii_digits}
+use Rattle.std.specs.Char.{is_ascii_digit}
+use Rattle.std.specs.List.{list_all}
 use Rattle.std.specs.Str.Parse.{digits_value}
 
 -- what comes of the value, where there is one
@@ -11,5 +12,5 @@ o >>= f = option_and_then f o
 -- the number that the text writes in decimal, where it has so many to so many digits and nothing else
 abbrev pub number_in : ℕ → ℕ → List ℕ → Option ℕ
 number_in least most text =
-    if nat_le least (length text) && nat_le (length text) most && all_ascii_digits text then Some (digits_value 10 text)
+    if nat_le least (length text) && nat_le (length text) most && list_all is_ascii_digit text then Some (digits_value 10 text)
     else None

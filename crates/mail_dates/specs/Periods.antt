@@ -1,8 +1,8 @@
 -- The periods of days that a range names.
 use Rattle.std.specs.Prelude.{ℕ, ◌-◌, ◌*◌, nat_le, nat_lt, ◌==◌, Bool, true, false, not, ◌&&◌, ℤ, pos, ◌-ℤ◌, int_le, List, [], ◌∷◌, length, take, drop, slice_get, slice_range, Option, Some, None, Result, Ok, Err, ok_or, is_some, if◌then◌else◌, option_map}
 use Rattle.std.specs.Option.{option_or}
-use Rattle.std.specs.Char.{to_ascii_lowercase}
-use Rattle.std.specs.Str.{all_ascii_digits}
+use Rattle.std.specs.Char.{is_ascii_digit, to_ascii_lowercase}
+use Rattle.std.specs.List.{list_all}
 use Rattle.jiff_core.specs.Calendar.{days_in_month}
 use Rattle.mail_dates.specs.declared.fault.DateFault.{DateFault}
 use Rattle.mail_dates.specs.declared.fault.DateFault.TheVariants.{BadDate, BadNumber}
@@ -42,7 +42,7 @@ ago text = do
 -- more than four digits, and then a unit
 abbrev pub has_long_count : List ℕ → Bool
 has_long_count text =
-    is_some (last_unit text) && nat_lt 4 (length (before_last_letter text)) && all_ascii_digits (before_last_letter text)
+    is_some (last_unit text) && nat_lt 4 (length (before_last_letter text)) && list_all is_ascii_digit (before_last_letter text)
 
 -- YYYYMMDD
 abbrev pub full_date : List ℕ → Option Period

@@ -4,11 +4,14 @@
 //! Gregorian calendar, in which year 0 is a leap year.
 #![tactic(auto)]
 
+mod calendar;
 mod days;
 mod fault;
 mod moment;
+mod number;
 mod period;
 mod range;
+mod text;
 
 pub use fault::DateFault;
 pub use moment::Moment;
