@@ -40,12 +40,15 @@ no_day = number_is (pos 2003) 1 0 None refl
 
 -- names of months
 first_month : month_of (codes "Jan") ≡ Some 1
+unfolding month_of
 first_month = refl
 
 last_month : month_of (codes "dEC") ≡ Some 12
+unfolding month_of
 last_month = refl
 
 no_name : month_of [] ≡ None
+unfolding month_of
 no_name = refl
 
 -- a range's ends are in it
