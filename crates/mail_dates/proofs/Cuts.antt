@@ -35,3 +35,12 @@ module _ (p : ℕ → Bool) where
           let within : position_or_len p xs < length xs = grind (arith, nat_tests) in
           record { within = rw same within; parts = rw same (slice_split_first p xs 0 within) }
       go false h e = absurd cc
+
+  -- there is always a first part
+  pub split_front : (xs : List ℕ) → (part : List ℕ) × (parts : List (List ℕ)) × (slice_split p xs ≡ part ∷ parts)
+  split_front [] = ([], [], refl)
+  split_front (x ∷ xs) = go (p x) (split_front xs)
+    where
+      go : (t : Bool) → (part : List ℕ) × (parts : List (List ℕ)) × (slice_split p xs ≡ part ∷ parts) → (part : List ℕ) × (parts : List (List ℕ)) × (cond t ([] ∷ slice_split p xs) (onto_first x (slice_split p xs)) ≡ part ∷ parts)
+      go true r = ([], slice_split p xs, refl)
+      go false r = (x ∷ r.0, r.1, rw r.2 refl)

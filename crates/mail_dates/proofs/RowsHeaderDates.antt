@@ -2,7 +2,7 @@
 use Rattle.std.proofs.Common.{◌≡◌, ℕ, List, [], ◌∷◌, ◌++◌, map, refl, Option, Some, None, ℤ, pos, negsuc, ◌∙◌, ap}
 use Rattle.std.specs.Prelude.{codes}
 use Rattle.mail_dates.specs.Calendar.{day_number, month_of}
-use Rattle.mail_dates.specs.HeaderDates.{date_of, date_by, tokens, time_of, offset_of}
+use Rattle.mail_dates.specs.HeaderDates.{date_of, date_by, tokens, time_of, offset_of, hours_west}
 use Rattle.mail_dates.proofs.Formula.{number_by_formula, day_number-formula}
 
 -- a field, and the second that it says
@@ -22,7 +22,7 @@ fields : Holds ((codes "Thu, 2 Jan 2003 10:00:00 +0100 (CET)", Some (pos 1041498
     ∷ (codes "Thu Thu 2 Jan 2003 10:00", None)
     ∷ (codes "Jan 2 2003 10:00", None)
     ∷ (codes "Thu, 2 Jan 2003 10:00 +0100 -0500 more", Some (pos 1041498000)) ∷ [])
-unfolding tokens time_of offset_of month_of
+unfolding tokens time_of offset_of hours_west month_of
 fields = hold refl
 
 -- spaces, tabs and commas part the tokens, and nothing else does
@@ -34,7 +34,7 @@ gaps : Holds ((codes ",,Thu," ++ (0x09 ∷ []) ++ codes "2,Jan" ++ (0x09 ∷ [])
     ∷ (codes "2 Jan 2003 10:00" ++ (0x0D ∷ []), None)
     ∷ (codes "2 Jan 2003 10:00" ++ (0x0D ∷ []) ++ codes " +0100", None)
     ∷ (codes "2 Jan 2003 10:00 +0100" ++ (0x0D ∷ []), Some (pos 1041501600)) ∷ [])
-unfolding tokens time_of offset_of month_of
+unfolding tokens time_of offset_of hours_west month_of
 gaps = hold refl
 
 -- a comment ends the field
@@ -43,7 +43,7 @@ comments : Holds ((codes "2 Jan 2003 10:00 (+0100) +0100", Some (pos 1041501600)
     ∷ (codes "(Thu) 2 Jan 2003 10:00", None)
     ∷ (codes "2 Jan (x) 2003 10:00", None)
     ∷ (codes "2 Jan 2003 10:00 )+0100", Some (pos 1041501600)) ∷ [])
-unfolding tokens time_of offset_of month_of
+unfolding tokens time_of offset_of hours_west month_of
 comments = hold refl
 
 -- a part that is missing
@@ -56,7 +56,7 @@ missing : Holds (([], None)
     ∷ (codes "2 Jan 2003", None)
     ∷ (codes "2 Jan 2003 +0100", None)
     ∷ (codes "Thu, 2 Jan 2003", None) ∷ [])
-unfolding tokens time_of offset_of month_of
+unfolding tokens time_of offset_of hours_west month_of
 missing = hold refl
 
 -- days
@@ -73,7 +73,7 @@ days : Holds ((codes "0 Jan 2003 00:00", None)
     ∷ (codes "1a Jan 2003 00:00", None)
     ∷ (codes "-1 Jan 2003 00:00", None)
     ∷ (codes "+1 Jan 2003 00:00", None) ∷ [])
-unfolding tokens time_of offset_of month_of
+unfolding tokens time_of offset_of hours_west month_of
 days = hold refl
 
 -- months, in either case
@@ -87,7 +87,7 @@ months : Holds ((codes "2 jan 2003 10:00", Some (pos 1041501600))
     ∷ (codes "2 dec 2003 10:00", Some (pos 1070359200))
     ∷ (codes "2 Feb 2003 10:00", Some (pos 1044180000))
     ∷ (codes "2 mar 2003 10:00", Some (pos 1046599200)) ∷ [])
-unfolding tokens time_of offset_of month_of
+unfolding tokens time_of offset_of hours_west month_of
 months = hold refl
 
 -- the others
@@ -100,7 +100,7 @@ more_months : Holds ((codes "2 Apr 2003 10:00", Some (pos 1049277600))
     ∷ (codes "2 Sept 2003 10:00", None)
     ∷ (codes "2 Oct 2003 10:00", Some (pos 1065088800))
     ∷ (codes "2 Nov 2003 10:00", Some (pos 1067767200)) ∷ [])
-unfolding tokens time_of offset_of month_of
+unfolding tokens time_of offset_of hours_west month_of
 more_months = hold refl
 
 -- years of two, three and four digits
@@ -118,7 +118,7 @@ years : Holds ((codes "1 Jan 00 00:00", Some (pos 946684800))
     ∷ (codes "1 Jan 20030 00:00", None)
     ∷ (codes "29 Feb 00 00:00", Some (pos 951782400))
     ∷ (codes "29 Feb 000 00:00", None) ∷ [])
-unfolding tokens time_of offset_of month_of
+unfolding tokens time_of offset_of hours_west month_of
 years = hold refl
 
 -- times of day
@@ -135,7 +135,7 @@ times : Holds ((codes "2 Jan 2003 1:02", Some (pos 1041469320))
     ∷ (codes "2 Jan 2003 10.00", None)
     ∷ (codes "2 Jan 2003 :00", None)
     ∷ (codes "2 Jan 2003 10:", None) ∷ [])
-unfolding tokens time_of offset_of month_of
+unfolding tokens time_of offset_of hours_west month_of
 times = hold refl
 
 -- seconds
@@ -150,7 +150,7 @@ seconds : Holds ((codes "2 Jan 2003 10:00:01", Some (pos 1041501601))
     ∷ (codes "2 Jan 2003 10:00:00:00", None)
     ∷ (codes "2 Jan 2003 10:00:00.5", None)
     ∷ (codes "2 Jan 2003 10::00", None) ∷ [])
-unfolding tokens time_of offset_of month_of
+unfolding tokens time_of offset_of hours_west month_of
 seconds = hold refl
 
 -- zones by numbers
@@ -167,7 +167,7 @@ numeric_zones : Holds ((codes "2 Jan 2003 10:00 +0000", Some (pos 1041501600))
     ∷ (codes "2 Jan 2003 10:00 +01000", Some (pos 1041501600))
     ∷ (codes "2 Jan 2003 10:00 0100", Some (pos 1041501600))
     ∷ (codes "2 Jan 2003 10:00 +", Some (pos 1041501600)) ∷ [])
-unfolding tokens time_of offset_of month_of
+unfolding tokens time_of offset_of hours_west month_of
 numeric_zones = hold refl
 
 -- zones by names
@@ -181,7 +181,7 @@ zones_in_capitals : Holds ((codes "2 Jan 2003 10:00 GMT", Some (pos 1041501600))
     ∷ (codes "2 Jan 2003 10:00 MDT", Some (pos 1041523200))
     ∷ (codes "2 Jan 2003 10:00 PST", Some (pos 1041530400))
     ∷ (codes "2 Jan 2003 10:00 PDT", Some (pos 1041526800)) ∷ [])
-unfolding tokens time_of offset_of month_of
+unfolding tokens time_of offset_of hours_west month_of
 zones_in_capitals = hold refl
 
 -- zones by names
@@ -195,7 +195,7 @@ zones_in_small_letters : Holds ((codes "2 Jan 2003 10:00 gmt", Some (pos 1041501
     ∷ (codes "2 Jan 2003 10:00 mdt", Some (pos 1041523200))
     ∷ (codes "2 Jan 2003 10:00 pst", Some (pos 1041530400))
     ∷ (codes "2 Jan 2003 10:00 pdt", Some (pos 1041526800)) ∷ [])
-unfolding tokens time_of offset_of month_of
+unfolding tokens time_of offset_of hours_west month_of
 zones_in_small_letters = hold refl
 
 -- any other name is UTC
@@ -207,7 +207,7 @@ other_zones : Holds ((codes "2 Jan 2003 10:00 Est", Some (pos 1041519600))
     ∷ (codes "2 Jan 2003 10:00 ESTX", Some (pos 1041501600))
     ∷ (codes "2 Jan 2003 10:00 ES", Some (pos 1041501600))
     ∷ (codes "2 Jan 2003 10:00 EST+1", Some (pos 1041501600)) ∷ [])
-unfolding tokens time_of offset_of month_of
+unfolding tokens time_of offset_of hours_west month_of
 other_zones = hold refl
 
 -- text beyond ASCII is of no form
@@ -218,5 +218,5 @@ beyond_ascii : Holds ((codes "D" ++ (0xC3 ∷ []) ++ (0xB6 ∷ []) ++ codes ", 2
     ∷ (codes "2 Jan 2003 10:00 " ++ (0xC3 ∷ []) ++ (0xB1 ∷ []), Some (pos 1041501600))
     ∷ (codes "2 Jan 2003 10:00 +" ++ (0xD9 ∷ []) ++ (0xA0 ∷ []) ++ codes "100", Some (pos 1041501600))
     ∷ (codes "2 Jan 2003 10:00" ++ (0x00 ∷ []), None) ∷ [])
-unfolding tokens time_of offset_of month_of
+unfolding tokens time_of offset_of hours_west month_of
 beyond_ascii = hold refl

@@ -16,9 +16,12 @@ is_gap b = (b == 0x20) || (b == 0x09) || (b == 0x2C)
 abbrev pub is_parenthesis : ℕ → Bool
 is_parenthesis b = b == 0x28
 
--- what stands between gaps, before the first comment
+-- what stands between gaps
 unfoldable pub tokens : List ℕ → List (List ℕ)
-tokens text = filter (λ token. not (length token == 0)) (slice_split is_gap (before_first is_parenthesis text))
+tokens text = filter (λ token. not (length token == 0)) (slice_split is_gap text)
+
+abbrev pub without_comments : List ℕ → List ℕ
+without_comments text = before_first is_parenthesis text
 
 -- without the name of a day of the week, right or not
 abbrev pub without_day_name : List (List ℕ) → List (List ℕ)
@@ -40,16 +43,16 @@ abbrev pub second_of_day : ℕ → ℕ → ℕ → Option ℕ
 second_of_day hour minute second =
     if nat_le hour 23 && nat_le minute 59 && nat_le second 60 then Some (hour * 3600 + minute * 60 + second) else None
 
-abbrev pub time_of_parts : List (List ℕ) → Option ℕ
-time_of_parts (hour ∷ minute ∷ []) = do
+abbrev pub time_by : List ℕ → List ℕ → Option ℕ → Option ℕ
+time_by hour minute second = do
   hour ← number_in 1 2 hour
   minute ← number_in 2 2 minute
-  second_of_day hour minute 0
-time_of_parts (hour ∷ minute ∷ second ∷ []) = do
-  hour ← number_in 1 2 hour
-  minute ← number_in 2 2 minute
-  second ← number_in 2 2 second
+  second ← second
   second_of_day hour minute second
+
+abbrev pub time_of_parts : List (List ℕ) → Option ℕ
+time_of_parts (hour ∷ minute ∷ []) = time_by hour minute (Some 0)
+time_of_parts (hour ∷ minute ∷ second ∷ []) = time_by hour minute (number_in 2 2 second)
 time_of_parts _ = None
 
 abbrev pub is_colon : ℕ → Bool
@@ -69,16 +72,19 @@ numeric_offset (sign ∷ digits) =
     if sign == 0x2B then option_map pos (offset_size digits)
     else (if sign == 0x2D then option_map (λ west. neg_ℤ (pos west)) (offset_size digits) else None)
 
--- the zones that have names, and how many hours west of UTC each is
+-- the names of zones other than UTC, in small letters, and how many hours west of UTC each is
 abbrev pub zones : List (List ℕ × ℕ)
 zones =
-    (codes "gmt", 0) ∷ (codes "ut", 0) ∷ (codes "est", 5) ∷ (codes "edt", 4) ∷ (codes "cst", 6) ∷ (codes "cdt", 5)
+    (codes "est", 5) ∷ (codes "edt", 4) ∷ (codes "cst", 6) ∷ (codes "cdt", 5)
     ∷ (codes "mst", 7) ∷ (codes "mdt", 6) ∷ (codes "pst", 8) ∷ (codes "pdt", 7) ∷ []
 
-abbrev pub hours_west : List ℕ → ℕ
-hours_west token = option_map_or (λ zone. zone.1) (find (λ zone. bytes_eq (str_to_ascii_lowercase token) zone.0) zones) 0
+-- GMT, UT and any name that isn't known are UTC
+unfoldable pub hours_west : List ℕ → ℕ
+hours_west (a ∷ b ∷ c ∷ []) =
+    option_map_or (λ zone. zone.1) (find (λ zone. bytes_eq zone.0 (str_to_ascii_lowercase (a ∷ b ∷ c ∷ []))) zones) 0
+hours_west _ = 0
 
--- how many seconds east of UTC; a zone that isn't known is UTC
+-- how many seconds east of UTC
 unfoldable pub offset_of : List ℕ → ℤ
 offset_of token = unwrap_or (numeric_offset token) (neg_ℤ (pos (hours_west token * 3600)))
 
@@ -89,19 +95,23 @@ zone_offset (token ∷ rest) = offset_of token
 -- ---- the date
 
 module _ (day_number : ℤ → ℕ → ℕ → Option ℤ) where
-  abbrev pub date_of_tokens : List (List ℕ) → Option ℤ
-  date_of_tokens (day ∷ month ∷ year ∷ time ∷ rest) = do
+  abbrev pub date_of_parts_by : List ℕ → List ℕ → List ℕ → List ℕ → ℤ → Option ℤ
+  date_of_parts_by day month year time offset = do
     day ← number_in 1 2 day
     month ← month_of month
     year ← year_of year
     date ← day_number (pos year) month day
     second ← time_of time
-    Some ((start_of_day date +ℤ pos second) -ℤ zone_offset rest)
-  date_of_tokens _ = None
+    Some ((start_of_day date +ℤ pos second) -ℤ offset)
+
+  -- the day, the month, the year, the time, and perhaps a zone; what follows is ignored
+  abbrev pub date_of_tokens_by : List (List ℕ) → Option ℤ
+  date_of_tokens_by (day ∷ month ∷ year ∷ time ∷ rest) = date_of_parts_by day month year time (zone_offset rest)
+  date_of_tokens_by _ = None
 
   -- the second that the field says, where days are numbered so
   abbrev pub date_by : List ℕ → Option ℤ
-  date_by text = date_of_tokens (without_day_name (tokens text))
+  date_by text = date_of_tokens_by (without_day_name (tokens (without_comments text)))
 
 unfoldable pub date_of : List ℕ → Option ℤ
 date_of text = date_by day_number text

@@ -85,9 +85,9 @@ unfoldable pub period_of : List ℕ → Result Period DateFault
 period_of text =
     if has_long_count text then Err BadNumber
     else ok_or
-      (option_or (ago text) (option_or (full_date text) (option_or (full_year text)
-      (option_or (yearly_month text) (option_or (day_and_month text) (month_and_day text))))))
-      BadDate
+    (option_or (ago text) (option_or (full_date text) (option_or (full_year text)
+    (option_or (yearly_month text) (option_or (day_and_month text) (month_and_day text))))))
+    BadDate
 
 -- ---- its days
 

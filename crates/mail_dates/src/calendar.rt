@@ -22,7 +22,8 @@ pub fn day_number(year: i16, month: u8, day: u8) -> Option<i32>
 
 /// The names of months, in small letters.
 const MONTH_NAMES: [[u8; 3]; 12] = [
-    *b"jan", *b"feb", *b"mar", *b"apr", *b"may", *b"jun", *b"jul", *b"aug", *b"sep", *b"oct", *b"nov", *b"dec",
+    *b"jan", *b"feb", *b"mar", *b"apr", *b"may", *b"jun", *b"jul", *b"aug", *b"sep", *b"oct",
+    *b"nov", *b"dec",
 ];
 
 /// The month that three letters stand for, in either case.
@@ -32,7 +33,11 @@ pub fn month_of(name: &[u8]) -> Option<u8>
     ensures bound { IfSome result (λ month. month ≤ 12) }
 {
     let [a, b, c] = name else { return None };
-    let lower = [a.to_ascii_lowercase(), b.to_ascii_lowercase(), c.to_ascii_lowercase()];
+    let lower = [
+        a.to_ascii_lowercase(),
+        b.to_ascii_lowercase(),
+        c.to_ascii_lowercase(),
+    ];
     Some(index_of_month(lower)? as u8 + 1)
 }
 

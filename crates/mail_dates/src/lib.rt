@@ -7,12 +7,17 @@
 mod calendar;
 mod days;
 mod fault;
+mod header_date;
 mod moment;
 mod number;
 mod period;
 mod range;
 mod text;
+mod time_of_day;
+mod token;
+mod zone;
 
 pub use fault::DateFault;
+pub use header_date::read_date;
 pub use moment::Moment;
 pub use range::Range;

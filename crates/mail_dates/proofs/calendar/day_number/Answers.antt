@@ -24,7 +24,7 @@ returns-in-Ok-clause-value c =
     let is : IsYmd c.args.year (to_z w8 c.args.month) (to_z w8 c.args.day) c.in-Ok.date = rw year at c.in-Ok.ensures.value in
     let fits : FitsSigned w32 c.to_unix_epoch_day.result = search rules in
     let number : to_z w32 (of_z w32 c.to_unix_epoch_day.result) ≡ epoch_day c.in-Ok.date =
-        to_z-of_z w32 c.to_unix_epoch_day.result fits ∙ c.to_unix_epoch_day.ensures.value ∙ ap epoch_day c.to_plain.ensures in
+    to_z-of_z w32 c.to_unix_epoch_day.result fits ∙ c.to_unix_epoch_day.ensures.value ∙ ap epoch_day c.to_plain.ensures in
     let civil = date_civil c.args.year c.args.month c.args.day (omega arith) (omega arith) can in
     day_number_at c.args.year c.args.month c.args.day c.in-Ok.date _ civil is number
 

@@ -5,5 +5,5 @@ use Rattle.mail_dates.proofs.number.decimal_value.Given as goal
 abbrev pub invariant-loop-digit : goal.invariant-loop-digit
 invariant-loop-digit l = record {
   value : l.value ≡ digits_value 10 (take l.digit-index l.digits);
-  bound : l.value < 10 ^ l.digit-index
+  bound : l.value < 10 ^ l.digit-index;
 }
