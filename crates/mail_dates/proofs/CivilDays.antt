@@ -1,12 +1,14 @@
 -- The test of a day of the calendar, and the fact.
-use Rattle.std.proofs.Common.{◌≡◌, ℕ, ◌<◌, ◌≤◌, Bool, true, false, ◌&&◌, Option, Some, None, refl, ap, sym, ◌∙◌, arith, ℤ, pos, negsuc, ◌≤ℤ◌, unsigned_abs, nat_le, to_z, w8}
+use Rattle.std.proofs.Common.{◌≡◌, ℕ, ◌<◌, ◌≤◌, Bool, true, false, ◌&&◌, Option, Some, None, refl, ap, sym, ◌∙◌, arith, ℤ, pos, negsuc, ◌≤ℤ◌, ◌<ℤ◌, unsigned_abs, nat_le, to_z, w8}
 use Rattle.std.specs.Prelude.{if◌then◌else◌}
 use Rattle.std.proofs.lemmas.Bool.Decides.{nat_tests}
 use Rattle.std.proofs.lemmas.Int.{ints, to_z_pos}
 use Rattle.jiff_core.specs.declared.civil.date.Date.{Date}
-use Rattle.jiff_core.specs.Calendar.{days_from_civil, days_in_month, IsDate}
+use Rattle.jiff_core.specs.Calendar.{days_from_civil, days_in_month, IsDate, IsYear}
 use Rattle.jiff_core.specs.Date.{epoch_day, IsYmd}
-use Rattle.jiff_core.proofs.CalendarLemmas.{days_in_month_bounds}
+use Rattle.jiff_core.proofs.CalendarLemmas.{days_in_month_bounds, days_from_civil-day_count, day_count-lt_year}
+use Rattle.jiff_core.proofs.DateLemmas.{civil}
+use Rattle.jiff_core.proofs.SignedLemmas.{signed_arith}
 use Rattle.mail_dates.specs.Calendar.{is_civil_day, day_number}
 
 pub record IsCivilDay (year : ℤ) (month day : ℕ) : Type 0 where
@@ -81,3 +83,34 @@ day_number_at year month day date number h is e =
     let m : date.month ≡ month = omega (arith, ints, is.1, h.month_high) in
     let d : date.day ≡ day = omega (arith, ints, is.2, h.day_high) in
     ap Some (e ∙ rw (is.0, m, d) refl) ∙ sym (day_number_some year month day h)
+
+-- what has a number is a day of the calendar
+pub record IsNumbered (year : ℤ) (month day : ℕ) (number : ℤ) : Type 0 where
+  pub civil : IsCivilDay year month day
+  pub is : number ≡ days_from_civil year month day
+
+pub numbered : (year : ℤ) (month day : ℕ) (number : ℤ) → day_number year month day ≡ Some number → IsNumbered year month day number
+unfolding day_number
+numbered year month day number e = go (is_civil_day year month day) refl e
+  where
+    go : (t : Bool) → is_civil_day year month day ≡ t → (if t then Some (days_from_civil year month day) else None) ≡ Some number → IsNumbered year month day number
+    go true h e = record { civil = civil_parts year month day h; is = cc }
+    go false h e = absurd cc
+
+-- a day of a later year has a greater number
+pub later_number : (date : Date) (next : ℤ) (month day : ℕ) (number : ℤ) → date.year <ℤ next → day_number next month day ≡ Some number → epoch_day date <ℤ number
+later_number date next month day number later e =
+    let n = numbered next month day number e in
+    let far = day_count-lt_year date.year date.month date.day next month day (civil date) n.civil.day_low later in
+    let is : number ≡ days_from_civil next month day = n.is in
+    omega (arith, signed_arith, days_from_civil-day_count, far, is)
+
+pub year_bounds : (year : ℤ) → IsYear year → (negsuc 9998 ≤ℤ year) × (year ≤ℤ pos 9999)
+year_bounds year h = h
+
+-- after the year 9999 nothing has a number
+pub none_later : (next : ℤ) (month day : ℕ) (number : ℤ) → pos 9999 <ℤ next → day_number next month day ≡ Some number → ⊥
+none_later next month day number later e =
+    let n = numbered next month day number e in
+    let within = year_within next n.civil.year_in in
+    omega (arith, signed_arith, within.1)

@@ -2,6 +2,7 @@ pub mod CivilDays
 pub mod Cuts
 pub mod Digits
 pub mod Formula
+pub mod LatestYear
 mod RowsCalendar
 mod RowsHeaderDates
 mod RowsRanges

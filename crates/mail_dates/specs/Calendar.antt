@@ -1,5 +1,5 @@
 -- Days and seconds of UTC on the proleptic Gregorian calendar (ISO 8601), where year 0 is a leap year.
-use Rattle.std.specs.Prelude.{◌≡◌, ℕ, zero, suc, nat_le, Bool, true, false, ◌&&◌, IsTrue, ℤ, pos, ◌+ℤ◌, ◌-ℤ◌, ◌*ℤ◌, ◌≤ℤ◌, unsigned_abs, List, [], ◌∷◌, Option, Some, None, if◌then◌else◌, option_map, position, bytes_eq, codes}
+use Rattle.std.specs.Prelude.{◌≡◌, ℕ, zero, suc, nat_le, Bool, true, false, ◌&&◌, IsTrue, ℤ, pos, negsuc, ◌+ℤ◌, ◌-ℤ◌, ◌*ℤ◌, ◌≤ℤ◌, ◌<ℤ◌, unsigned_abs, List, [], ◌∷◌, Option, Some, None, if◌then◌else◌, option_map, position, bytes_eq, codes}
 use Rattle.std.specs.Str.{str_to_ascii_lowercase}
 use Rattle.jiff_core.specs.Calendar.{days_from_civil, days_in_month}
 
@@ -51,3 +51,9 @@ latest_year passes = option_map year_at (greatest_below 19999 (λ n. passes (yea
 pub record IsLatestYear (passes : ℤ → Bool) (year : ℤ) : Type 0 where
   pub passes_then : IsTrue (passes year)
   pub latest : (later : ℤ) → IsTrue (passes later) → later ≤ℤ year
+
+-- the calendar has the year, and no day of a later one comes by this day
+pub record HasNoLater (day year : ℤ) : Type 0 where
+  pub low : negsuc 9998 ≤ℤ year
+  pub high : year ≤ℤ pos 9999
+  pub later : (next : ℤ) (month date : ℕ) (number : ℤ) → year <ℤ next → day_number next month date ≡ Some number → day <ℤ number

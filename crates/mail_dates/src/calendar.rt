@@ -2,7 +2,7 @@
 
 ghost use Rattle.std.specs.Prelude.{◌≡◌, ◌≤◌, ◌<◌, IfSome, position, bytes_eq};
 ghost use Rattle.jiff_core.specs.Calendar.{IsEpochDay};
-ghost use Rattle.mail_dates.specs.Calendar.{day_number, month_names, month_of};
+ghost use Rattle.mail_dates.specs.Calendar.{day_number, month_names, month_of, HasNoLater};
 
 use jiff::civil::Date;
 
@@ -17,6 +17,16 @@ pub fn day_number(year: i16, month: u8, day: u8) -> Option<i32>
     match Date::new(year, month as i8, day as i8) {
         Ok(date) => Some(date.to_plain().to_unix_epoch_day()),
         Err(_) => None,
+    }
+}
+
+/// The year of a day, or 9999 where the calendar hasn't this day.
+pub fn year_of_day(day: i32) -> i16
+    ensures { HasNoLater day result }
+{
+    match jiff_core::civil::Date::from_unix_epoch_day(i64::from(day)) {
+        Ok(date) => date.year,
+        Err(_) => 9999,
     }
 }
 
