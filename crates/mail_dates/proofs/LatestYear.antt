@@ -97,10 +97,12 @@ search_next which by year next h low e is = rw is (record {
 })
 
 pub search_found : (which : DaysOfYear) (by year : ℤ) → IsSearch which by year → negsuc 9998 ≤ℤ year → begin_by by (days_in_by day_number which year) ≡ true → days_in_by day_number which year ≡ latest_days_by day_number which by
+unfolding latest_days_by
 search_found which by year h low e =
     sym (ap (λ (o : Option ℤ). o >>= days_in_by day_number which) (h.latest ∙ latest_found (fits_year which by) year low e))
 
 pub search_over : (which : DaysOfYear) (by year : ℤ) → IsSearch which by year → year <ℤ negsuc 9998 → None ≡ latest_days_by day_number which by
+unfolding latest_days_by
 search_over which by year h over =
     let end : year ≡ negsuc 9999 = let low = h.low in omega (arith, ints) in
     let none : latest_up_to year (fits_year which by) ≡ None = rw end (latest_none (fits_year which by)) in

@@ -5,7 +5,7 @@ use Rattle.mail_dates.specs.declared.fault.DateFault.{DateFault}
 use Rattle.mail_dates.specs.declared.fault.DateFault.TheVariants.{BadDate, BadNumber}
 use Rattle.mail_dates.specs.declared.range.Range.{Range}
 use Rattle.mail_dates.specs.Calendar.{month_of}
-use Rattle.mail_dates.specs.Periods.{period_of}
+use Rattle.mail_dates.specs.Periods.{period_of, latest_days_by}
 use Rattle.mail_dates.specs.Ranges.{range_at, range_by}
 use Rattle.mail_dates.proofs.Formula.{number_by_formula, day_number-formula}
 
@@ -32,7 +32,7 @@ periods : Holds ((1053259200, codes "mar", between (Some (pos 1046476800)) (Some
     ∷ (1053259200, codes "21apr-1w", between (Some (pos 1050883200)) (Some (pos 1052697599)))
     ∷ (1053259200, codes "21apr-", between (Some (pos 1050883200)) (Some (pos 1053259200)))
     ∷ (1046476800, codes "29feb", between (Some (pos 951782400)) (Some (pos 951868799))) ∷ [])
-unfolding period_of month_of
+unfolding period_of month_of latest_days_by
 periods = hold refl
 
 -- faults
@@ -46,7 +46,7 @@ faults : Holds ((1053259200, codes "31apr", Err BadDate)
     ∷ (1053259200, codes "mar-apr-may", Err BadDate)
     ∷ (1053259200, codes "a-b-", Err BadDate)
     ∷ (1053259200, codes "x", Err BadDate) ∷ [])
-unfolding period_of month_of
+unfolding period_of month_of latest_days_by
 faults = hold refl
 
 -- counts of days, weeks, months and years before today
@@ -63,7 +63,7 @@ counts : Holds ((1053259200, codes "0d", between (Some (pos 1053216000)) (Some (
     ∷ (1053259200, codes "9999d", between (Some (pos 189302400)) (Some (pos 189388799)))
     ∷ (1053259200, codes "0000y", between (Some (pos 1053216000)) (Some (pos 1053302399)))
     ∷ (1053259200, codes "1d-0d", between (Some (pos 1053129600)) (Some (pos 1053302399))) ∷ [])
-unfolding period_of month_of
+unfolding period_of month_of latest_days_by
 counts = hold refl
 
 -- counts of no form, or too long
@@ -80,7 +80,7 @@ bad_counts : Holds ((1053259200, codes "d", Err BadDate)
     ∷ (1053259200, codes "12345d ", Err BadDate)
     ∷ (1053259200, codes "12345D", Err BadNumber)
     ∷ (1053259200, codes "1_2d", Err BadDate) ∷ [])
-unfolding period_of month_of
+unfolding period_of month_of latest_days_by
 bad_counts = hold refl
 
 -- the end is read first
@@ -94,7 +94,7 @@ order_of_faults : Holds ((1053259200, codes "12345d-", Err BadNumber)
     ∷ (1053259200, codes "12345d-12345d", Err BadNumber)
     ∷ (1053259200, codes "1d-31apr", Err BadDate)
     ∷ (1053259200, codes "31apr-1d", Err BadDate) ∷ [])
-unfolding period_of month_of
+unfolding period_of month_of latest_days_by
 order_of_faults = hold refl
 
 -- dates and years that are written out
@@ -114,7 +114,7 @@ dates : Holds ((1053259200, codes "20030518", between (Some (pos 1053216000)) (S
     ∷ (1053259200, codes "200305", Err BadDate)
     ∷ (1053259200, codes "2003051", Err BadDate)
     ∷ (1053259200, codes "200305188", Err BadDate) ∷ [])
-unfolding period_of month_of
+unfolding period_of month_of latest_days_by
 dates = hold refl
 
 -- months and days of the latest year
@@ -130,7 +130,7 @@ months : Holds ((240886094400, codes "MAR", between (Some (pos 240879312000)) (S
     ∷ (240886094400, codes "1May", between (Some (pos 240884582400)) (Some (pos 240884668799)))
     ∷ (240886094400, codes "31dec", between (Some (pos 240874128000)) (Some (pos 240874214399)))
     ∷ (240886094400, codes "dec31", between (Some (pos 240874128000)) (Some (pos 240874214399))) ∷ [])
-unfolding period_of month_of
+unfolding period_of month_of latest_days_by
 months = hold refl
 
 -- days that are of no form, or that no year has
@@ -152,7 +152,7 @@ bad_days : Holds ((1053259200, codes "0may", Err BadDate)
     ∷ (1053259200, codes "1.may", Err BadDate)
     ∷ (1053259200, codes "ma", Err BadDate)
     ∷ (1053259200, codes "m18", Err BadDate) ∷ [])
-unfolding period_of month_of
+unfolding period_of month_of latest_days_by
 bad_days = hold refl
 
 -- a start is taken against its end
@@ -170,12 +170,12 @@ starts : Holds ((240886094400, codes "dec-jan", between (Some (pos 240871536000)
     ∷ (240886094400, codes "jun-", between (Some (pos 240855724800)) (Some (pos 240886094400)))
     ∷ (240886094400, codes "19may-", between (Some (pos 240854601600)) (Some (pos 240886094400)))
     ∷ (240886094400, codes "29feb-", between (Some (pos 240784617600)) (Some (pos 240886094400))) ∷ [])
-unfolding period_of month_of
+unfolding period_of month_of latest_days_by
 starts = hold refl
 
 -- a start may lie before year 0
 distant : Holds ((1053259200, codes "29feb-00000101", between (Some (negsuc 62288351999)) (Some (negsuc 62167132800))) ∷ [])
-unfolding period_of month_of
+unfolding period_of month_of latest_days_by
 distant = hold refl
 
 -- an end is not cut to today, and an empty one is now
@@ -190,7 +190,7 @@ ends : Holds ((240886094400, codes "-may", between (None) (Some (pos 24088726079
     ∷ (240886094400, codes "0d-", between (Some (pos 240886051200)) (Some (pos 240886094400)))
     ∷ (240886094400, codes "-0d", between (None) (Some (pos 240886137599)))
     ∷ (240886094400, codes "9999-0000", between (Some (pos 253370764800)) (Some (negsuc 62135596800))) ∷ [])
-unfolding period_of month_of
+unfolding period_of month_of latest_days_by
 ends = hold refl
 
 -- today is in the first year
@@ -202,7 +202,7 @@ early : Holds ((0, codes "jan", between (Some (pos 0)) (Some (pos 2678399)))
     ∷ (0, codes "29feb", between (Some (negsuc 58060799)) (Some (negsuc 57974400)))
     ∷ (86399, codes "0d", between (Some (pos 0)) (Some (pos 86399)))
     ∷ (86400, codes "0d", between (Some (pos 86400)) (Some (pos 172799))) ∷ [])
-unfolding period_of month_of
+unfolding period_of month_of latest_days_by
 early = hold refl
 
 -- today is the last day
@@ -213,7 +213,7 @@ late : Holds ((253402300799, codes "dec", between (Some (pos 253399622400)) (Som
     ∷ (253402300799, codes "0d", between (Some (pos 253402214400)) (Some (pos 253402300799)))
     ∷ (253402300799, codes "9999-", between (Some (pos 253370764800)) (Some (pos 253402300799)))
     ∷ (253402300799, codes "-1d", between (None) (Some (pos 253402214399))) ∷ [])
-unfolding period_of month_of
+unfolding period_of month_of latest_days_by
 late = hold refl
 
 -- leap days
@@ -226,7 +226,7 @@ leap : Holds ((240784617599, codes "29feb", between (Some (pos 240658387200)) (S
     ∷ (240782198400, codes "feb", between (Some (pos 240782198400)) (Some (pos 240784703999)))
     ∷ (240813820800, codes "feb", between (Some (pos 240813820800)) (Some (pos 240816239999)))
     ∷ (240813820799, codes "feb", between (Some (pos 240782198400)) (Some (pos 240784703999))) ∷ [])
-unfolding period_of month_of
+unfolding period_of month_of latest_days_by
 leap = hold refl
 
 -- text beyond ASCII is of no form
@@ -238,5 +238,5 @@ beyond_ascii : Holds ((1053259200, codes "m" ++ (0xC3 ∷ []) ++ (0xA4 ∷ []) +
     ∷ (1053259200, codes " mar", Err BadDate)
     ∷ (1053259200, codes "mar-" ++ (0xC2 ∷ []) ++ (0xA0 ∷ []), Err BadDate)
     ∷ (1053259200, codes "12345" ++ (0xC3 ∷ []) ++ (0xA4 ∷ []), Err BadDate) ∷ [])
-unfolding period_of month_of
+unfolding period_of month_of latest_days_by
 beyond_ascii = hold refl

@@ -124,7 +124,7 @@ module _ (day_number : ℤ → ℕ → ℕ → Option ℤ) where
   days_in_by (days.Day month day) year = days_from_to (day_number year month day) (day_number year month day)
 
   -- those in the latest year that has them and in which they begin by this day
-  abbrev pub latest_days_by : DaysOfYear → ℤ → Option Days
+  unfoldable pub latest_days_by : DaysOfYear → ℤ → Option Days
   latest_days_by which by = latest_year (λ year. begin_by by (days_in_by which year)) >>= days_in_by which
 
   -- the days of a period, where today is this day and one without a year begins by that day

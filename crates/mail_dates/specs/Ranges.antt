@@ -7,6 +7,7 @@ use Rattle.mail_dates.specs.declared.fault.DateFault.{DateFault}
 use Rattle.mail_dates.specs.declared.fault.DateFault.TheVariants.{BadDate}
 use Rattle.mail_dates.specs.declared.days.Days.{Days}
 use Rattle.mail_dates.specs.declared.range.Range.{Range}
+use Rattle.mail_dates.specs.declared.range_of_days.End.{End}
 use Rattle.mail_dates.specs.Calendar.{day_number, start_of_day, end_of_day}
 use Rattle.mail_dates.specs.Periods.{period_of, period_days_by}
 
@@ -23,11 +24,6 @@ is_dash b = b == 0x2D
 -- all seconds of these days
 abbrev pub range_of_days : Days → Range
 range_of_days days = record { from = Some (start_of_day days.first); until = Some (end_of_day days.last) }
-
--- an end: its last day, and its last second
-pub record End : Type 0 where
-  pub day : ℤ
-  pub second : ℤ
 
 module _ (day_number : ℤ → ℕ → ℕ → Option ℤ) where
   -- the days that a text names, where one without a year begins by this day
@@ -57,10 +53,13 @@ module _ (day_number : ℤ → ℕ → ℕ → Option ℤ) where
     from ← start_by now end.day start
     Ok (record { from = from; until = Some end.second })
 
-  abbrev pub range_of_parts_by : ℕ → List (List ℕ) → Result Range DateFault
-  range_of_parts_by now (period ∷ []) = do
-    days ← named_days_by (pos (now / 86400)) (pos (now / 86400)) period
+  abbrev pub range_of_period_by : ℕ → List ℕ → Result Range DateFault
+  range_of_period_by now text = do
+    days ← named_days_by (pos (now / 86400)) (pos (now / 86400)) text
     Ok (range_of_days days)
+
+  abbrev pub range_of_parts_by : ℕ → List (List ℕ) → Result Range DateFault
+  range_of_parts_by now (period ∷ []) = range_of_period_by now period
   range_of_parts_by now (start ∷ end ∷ []) = range_between_by now start end
   range_of_parts_by now _ = Err BadDate
 

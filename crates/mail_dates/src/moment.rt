@@ -38,6 +38,13 @@ impl Moment {
         }
     }
 
+    /// The day that it is in, by its number from 1970-01-01.
+    pub(crate) fn day(self) -> i32
+        ensures { result ≡ pos (self / 86400) }
+    {
+        (self.second / 86_400) as i32
+    }
+
     /// Its second, below 2^38.
     pub fn second(self) -> i64
         ensures value { result ≡ pos self }
