@@ -4,7 +4,7 @@ use Rattle.std.specs.Prelude.{codes}
 use Rattle.mail_dates.specs.declared.fault.DateFault.{DateFault}
 use Rattle.mail_dates.specs.declared.fault.DateFault.TheVariants.{BadDate}
 use Rattle.mail_dates.specs.declared.range.Range.{Range}
-use Rattle.mail_dates.specs.IsoRanges.{iso_range_of, iso_range_by}
+use Rattle.mail_dates.specs.IsoRanges.{iso_range_of, iso_range_by, iso_days_by}
 use Rattle.mail_dates.proofs.Formula.{number_by_formula, day_number-formula}
 
 abbrev between : Option ℤ → Option ℤ → Result Range DateFault
@@ -33,6 +33,7 @@ expressions : Holds ((codes "2003-02", between (Some (pos 1044057600)) (Some (po
     ∷ (codes "0000-02-29", between (Some (negsuc 62162121599)) (Some (negsuc 62162035200)))
     ∷ (codes "9999-12", between (Some (pos 253399622400)) (Some (pos 253402300799)))
     ∷ (codes "9999-12-31", between (Some (pos 253402214400)) (Some (pos 253402300799))) ∷ [])
+unfolding iso_days_by
 expressions = hold refl
 
 -- two ends, of which one may be empty
@@ -45,6 +46,7 @@ since_and_until : Holds ((codes "2003-02..", between (Some (pos 1044057600)) (No
     ∷ (codes "..2003-02-31", Err BadDate)
     ∷ (codes "2003-02-31..", Err BadDate)
     ∷ (codes "2003-02..x", Err BadDate) ∷ [])
+unfolding iso_days_by
 since_and_until = hold refl
 
 -- texts of no form
@@ -66,6 +68,7 @@ no_expressions : Holds (([], Err BadDate)
     ∷ (codes "20030201", Err BadDate)
     ∷ (codes "2003/02", Err BadDate)
     ∷ (codes "feb", Err BadDate) ∷ [])
+unfolding iso_days_by
 no_expressions = hold refl
 
 -- dots that are no pair
@@ -81,4 +84,5 @@ dots : Holds ((codes ".", Err BadDate)
     ∷ (codes "2003-02..2003-03..", Err BadDate)
     ∷ (codes " 2003-02", Err BadDate)
     ∷ (codes "2003-02" ++ (0x0D ∷ []), Err BadDate) ∷ [])
+unfolding iso_days_by
 dots = hold refl

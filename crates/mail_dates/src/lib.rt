@@ -8,6 +8,7 @@ mod calendar;
 mod days;
 mod fault;
 mod header_date;
+mod iso_dates;
 mod moment;
 mod number;
 mod period;
@@ -20,6 +21,7 @@ mod zone;
 
 pub use fault::DateFault;
 pub use header_date::read_date;
+pub use iso_dates::iso_range;
 pub use moment::Moment;
 pub use range::Range;
 pub use range_of_days::range_of;
