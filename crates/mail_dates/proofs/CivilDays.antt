@@ -48,7 +48,7 @@ day_number_none year month day not_civil = go (is_civil_day year month day) refl
     go false e = refl
 
 -- the same, as the calendar's own constructor asks it
-year_within : (year : ℤ) → unsigned_abs year ≤ 9999 → (negsuc 9998 ≤ℤ year) × (year ≤ℤ pos 9999)
+pub year_within : (year : ℤ) → unsigned_abs year ≤ 9999 → (negsuc 9998 ≤ℤ year) × (year ≤ℤ pos 9999)
 year_within (pos n) h = (omega (arith, ints), omega (arith, ints))
 year_within (negsuc n) h = (omega (arith, ints), omega (arith, ints))
 
@@ -104,9 +104,6 @@ later_number date next month day number later e =
     let far = day_count-lt_year date.year date.month date.day next month day (civil date) n.civil.day_low later in
     let is : number ≡ days_from_civil next month day = n.is in
     omega (arith, signed_arith, days_from_civil-day_count, far, is)
-
-pub year_bounds : (year : ℤ) → IsYear year → (negsuc 9998 ≤ℤ year) × (year ≤ℤ pos 9999)
-year_bounds year h = h
 
 -- after the year 9999 nothing has a number
 pub none_later : (next : ℤ) (month day : ℕ) (number : ℤ) → pos 9999 <ℤ next → day_number next month day ≡ Some number → ⊥

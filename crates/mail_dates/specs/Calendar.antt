@@ -47,10 +47,10 @@ year_at n = pos n -ℤ pos 9999
 abbrev pub latest_year : (ℤ → Bool) → Option ℤ
 latest_year passes = option_map year_at (greatest_below 19999 (λ n. passes (year_at n)))
 
--- the same as a fact: it passes, and no later year does
+-- the same as a fact: it passes, and each year that does is at most it
 pub record IsLatestYear (passes : ℤ → Bool) (year : ℤ) : Type 0 where
-  pub passes_then : IsTrue (passes year)
-  pub latest : (later : ℤ) → IsTrue (passes later) → later ≤ℤ year
+  pub has : IsTrue (passes year)
+  pub latest : (other : ℤ) → IsTrue (passes other) → other ≤ℤ year
 
 -- the calendar has the year, and no day of a later one comes by this day
 pub record HasNoLater (day year : ℤ) : Type 0 where

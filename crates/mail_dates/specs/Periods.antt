@@ -123,9 +123,13 @@ module _ (day_number : ℤ → ℕ → ℕ → Option ℤ) where
   days_in_by (days.Month month) year = days_from_to (day_number year month 1) (day_number year month (days_in_month year month))
   days_in_by (days.Day month day) year = days_from_to (day_number year month day) (day_number year month day)
 
-  -- those in the latest year that has them and in which they begin by this day
+  -- the year has them, and they begin by this day
+  abbrev pub fit_by : DaysOfYear → ℤ → ℤ → Bool
+  fit_by which by year = begin_by by (days_in_by which year)
+
+  -- those of the latest such year
   unfoldable pub latest_days_by : DaysOfYear → ℤ → Option Days
-  latest_days_by which by = latest_year (λ year. begin_by by (days_in_by which year)) >>= days_in_by which
+  latest_days_by which by = latest_year (fit_by which by) >>= days_in_by which
 
   -- the days of a period, where today is this day and one without a year begins by that day
   abbrev pub period_days_by : ℤ → ℤ → Period → Option Days
