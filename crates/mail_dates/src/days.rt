@@ -19,7 +19,10 @@ impl Days {
     pub fn one(day: i32) -> Days
         ensures { result ≡ one_day day }
     {
-        Days { first: day, last: day }
+        Days {
+            first: day,
+            last: day,
+        }
     }
 
     fn from_to(first: Option<i32>, last: Option<i32>) -> Option<Days>

@@ -81,7 +81,9 @@ impl Period {
         ensures { result ≡ period_days_by day_number today by self }
     {
         match self {
-            Period::Ago { count, unit } => Some(Days::one(today - i32::from(count) * i32::from(unit.days()))),
+            Period::Ago { count, unit } => Some(Days::one(
+                today - i32::from(count) * i32::from(unit.days()),
+            )),
             Period::InYear { year, days } => days.in_year(year),
             Period::Yearly(days) => days.latest(by),
         }
@@ -92,7 +94,9 @@ impl Period {
 fn has_long_count(text: &[u8]) -> bool
     ensures { result ≡ has_long_count text.now }
 {
-    let [digits @ .., letter] = text else { return false };
+    let [digits @ .., letter] = text else {
+        return false
+    };
     Unit::of(*letter).is_some() && digits.len() > 4 && are_digits(digits)
 }
 
@@ -100,7 +104,9 @@ fn has_long_count(text: &[u8]) -> bool
 fn ago(text: &[u8]) -> Option<Period>
     ensures { result ≡ ago text.now }
 {
-    let [digits @ .., letter] = text else { return None };
+    let [digits @ .., letter] = text else {
+        return None
+    };
     let unit = Unit::of(*letter)?;
     let count = number_in(1, 4, digits)?;
     Some(Period::Ago { count, unit })
@@ -113,7 +119,11 @@ fn full_date(text: &[u8]) -> Option<Period>
     if text.len() != 8 {
         return None;
     }
-    full_date_of(number_in(4, 4, &text[..4]), number_in(2, 2, &text[4..6]), number_in(2, 2, &text[6..]))
+    full_date_of(
+        number_in(4, 4, &text[..4]),
+        number_in(2, 2, &text[4..6]),
+        number_in(2, 2, &text[6..]),
+    )
 }
 
 fn full_date_of(year: Option<u16>, month: Option<u16>, day: Option<u16>) -> Option<Period>
@@ -125,7 +135,10 @@ fn full_date_of(year: Option<u16>, month: Option<u16>, day: Option<u16>) -> Opti
     let year = year? as i16;
     let month = month? as u8;
     let day = day? as u8;
-    Some(Period::InYear { year, days: DaysOfYear::Day { month, day } })
+    Some(Period::InYear {
+        year,
+        days: DaysOfYear::Day { month, day },
+    })
 }
 
 /// `YYYY`.
@@ -133,7 +146,10 @@ fn full_year(text: &[u8]) -> Option<Period>
     ensures { result ≡ full_year text.now }
 {
     let year = number_in(4, 4, text)?;
-    Some(Period::InYear { year: year as i16, days: DaysOfYear::All })
+    Some(Period::InYear {
+        year: year as i16,
+        days: DaysOfYear::All,
+    })
 }
 
 /// A month's name.

@@ -22,7 +22,7 @@ returns-then-begin_by c =
     let by : to_z w32 (of_z w32 c.args.by) ≡ c.args.by = to_z-of_z w32 c.args.by c.ranges.by in
     let year : ℤ = to_z w16 c.loop-year.year-bits in
     let found : begin_by c.args.by (days_in_by day_number c.args.self year) ≡ true =
-        rw by at (ap (begin_by (to_z w32 (of_z w32 c.args.by))) (sym c.in_year-days.ensures) ∙ sym c.begin_by.ensures ∙ c.if-begin_by.true) in
+    rw by at (ap (begin_by (to_z w32 (of_z w32 c.args.by))) (sym c.in_year-days.ensures) ∙ sym c.begin_by.ensures ∙ c.if-begin_by.true) in
     c.in_year-days.ensures ∙ search_found c.args.self c.args.by year (rw by at c.loop-year.invariant) (at_least year c.loop-year-test.true) found
 
 pub loop-year-preserved : goal.loop-year-preserved
@@ -30,7 +30,7 @@ loop-year-preserved c =
     let year : ℤ = to_z w16 c.loop-year.year-bits in
     let low = at_least year c.loop-year-test.true in
     let missed : begin_by (to_z w32 (of_z w32 c.args.by)) (days_in_by day_number c.args.self year) ≡ false =
-        ap (begin_by (to_z w32 (of_z w32 c.args.by))) (sym c.in_year-days.ensures) ∙ sym c.begin_by.ensures ∙ c.if-begin_by.false in
+    ap (begin_by (to_z w32 (of_z w32 c.args.by))) (sym c.in_year-days.ensures) ∙ sym c.begin_by.ensures ∙ c.if-begin_by.false in
     search_next c.args.self (to_z w32 (of_z w32 c.args.by)) year _ c.loop-year.invariant low missed (let high = c.loop-year.invariant.high in omega (arith, ints))
 
 pub returns : goal.returns
