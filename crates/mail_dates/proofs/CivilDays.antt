@@ -1,0 +1,113 @@
+-- The test of a day of the calendar, and the fact.
+use Rattle.std.proofs.Common.{◌≡◌, ℕ, ◌<◌, ◌≤◌, Bool, true, false, ◌&&◌, Option, Some, None, refl, ap, sym, ◌∙◌, arith, ℤ, pos, negsuc, ◌≤ℤ◌, ◌<ℤ◌, unsigned_abs, nat_le, to_z, w8}
+use Rattle.std.specs.Prelude.{if◌then◌else◌}
+use Rattle.std.proofs.lemmas.Bool.Decides.{nat_tests}
+use Rattle.std.proofs.lemmas.Int.{ints, to_z_pos}
+use Rattle.jiff_core.specs.declared.civil.date.Date.{Date}
+use Rattle.jiff_core.specs.Calendar.{days_from_civil, days_in_month, IsDate, IsYear}
+use Rattle.jiff_core.specs.Date.{epoch_day, IsYmd}
+use Rattle.jiff_core.proofs.CalendarLemmas.{days_in_month_bounds, days_from_civil-day_count, day_count-lt_year}
+use Rattle.jiff_core.proofs.DateLemmas.{civil}
+use Rattle.jiff_core.proofs.SignedLemmas.{signed_arith}
+use Rattle.mail_dates.specs.Calendar.{is_civil_day, day_number}
+
+pub record IsCivilDay (year : ℤ) (month day : ℕ) : Type 0 where
+  pub year_in : unsigned_abs year ≤ 9999
+  pub month_low : 1 ≤ month
+  pub month_high : month ≤ 12
+  pub day_low : 1 ≤ day
+  pub day_high : day ≤ days_in_month year month
+
+abbrev within : ℕ → ℕ → ℕ → ℕ → Bool
+within year month day last = nat_le year 9999 && nat_le 1 month && nat_le month 12 && nat_le 1 day && nat_le day last
+
+within_parts : (y m d last : ℕ) → within y m d last ≡ true → (y ≤ 9999) × (1 ≤ m) × (m ≤ 12) × (1 ≤ d) × (d ≤ last)
+within_parts y m d last e = (grind (arith, nat_tests), grind (arith, nat_tests), grind (arith, nat_tests), grind (arith, nat_tests), grind (arith, nat_tests))
+
+parts_within : (y m d last : ℕ) → y ≤ 9999 → 1 ≤ m → m ≤ 12 → 1 ≤ d → d ≤ last → within y m d last ≡ true
+parts_within y m d last a b c e f = grind (arith, nat_tests)
+
+pub civil_parts : (year : ℤ) (month day : ℕ) → is_civil_day year month day ≡ true → IsCivilDay year month day
+civil_parts year month day e =
+    let p = within_parts (unsigned_abs year) month day (days_in_month year month) e in
+    record { year_in = p.0; month_low = p.1; month_high = p.2; day_low = p.3; day_high = p.4 }
+
+pub civil_test : (year : ℤ) (month day : ℕ) → IsCivilDay year month day → is_civil_day year month day ≡ true
+civil_test year month day h = parts_within (unsigned_abs year) month day (days_in_month year month) h.year_in h.month_low h.month_high h.day_low h.day_high
+
+pub day_number_some : (year : ℤ) (month day : ℕ) → IsCivilDay year month day → day_number year month day ≡ Some (days_from_civil year month day)
+unfolding day_number
+day_number_some year month day h = rw (civil_test year month day h) refl
+
+pub day_number_none : (year : ℤ) (month day : ℕ) → ¬ IsCivilDay year month day → day_number year month day ≡ None
+unfolding day_number
+day_number_none year month day not_civil = go (is_civil_day year month day) refl
+  where
+    go : (t : Bool) → is_civil_day year month day ≡ t → (if t then Some (days_from_civil year month day) else None) ≡ None
+    go true e = absurd (not_civil (civil_parts year month day e))
+    go false e = refl
+
+-- the same, as the calendar's own constructor asks it
+pub year_within : (year : ℤ) → unsigned_abs year ≤ 9999 → (negsuc 9998 ≤ℤ year) × (year ≤ℤ pos 9999)
+year_within (pos n) h = (omega (arith, ints), omega (arith, ints))
+year_within (negsuc n) h = (omega (arith, ints), omega (arith, ints))
+
+within_year : (year : ℤ) → negsuc 9998 ≤ℤ year → year ≤ℤ pos 9999 → unsigned_abs year ≤ 9999
+within_year (pos n) low high = omega (arith, ints)
+within_year (negsuc n) low high = omega (arith, ints)
+
+pub civil_date : (year : ℤ) (month day : ℕ) → IsCivilDay year month day → IsDate year (to_z w8 month) (to_z w8 day)
+civil_date year month day h =
+    let long = days_in_month_bounds year month in
+    let m : to_z w8 month ≡ pos month = omega (arith, ints, h.month_high) in
+    let d : to_z w8 day ≡ pos day = omega (arith, ints, h.day_high) in
+    rw (m, d) (year_within year h.year_in, (omega (arith, ints, h.month_low), omega (arith, ints, h.month_high)), (omega (arith, ints, h.day_low), omega (arith, ints, h.day_high)))
+
+pub date_civil : (year : ℤ) (month day : ℕ) → month ≤ 12 → day ≤ 31 → IsDate year (to_z w8 month) (to_z w8 day) → IsCivilDay year month day
+date_civil year month day few short h =
+    let m : to_z w8 month ≡ pos month = omega (arith, ints) in
+    let d : to_z w8 day ≡ pos day = omega (arith, ints) in
+    let is : IsDate year (pos month) (pos day) = rw (m, d) at h in
+    record {
+      year_in = within_year year is.0.0 is.0.1;
+      month_low = omega (arith, ints, is.1.0);
+      month_high = few;
+      day_low = omega (arith, ints, is.2.0);
+      day_high = omega (arith, ints, is.2.1);
+    }
+
+-- what a date with these parts says
+pub day_number_at : (year : ℤ) (month day : ℕ) (date : Date) (number : ℤ) → IsCivilDay year month day → IsYmd year (to_z w8 month) (to_z w8 day) date → number ≡ epoch_day date → Some number ≡ day_number year month day
+day_number_at year month day date number h is e =
+    let long = days_in_month_bounds year month in
+    let m : date.month ≡ month = omega (arith, ints, is.1, h.month_high) in
+    let d : date.day ≡ day = omega (arith, ints, is.2, h.day_high) in
+    ap Some (e ∙ rw (is.0, m, d) refl) ∙ sym (day_number_some year month day h)
+
+-- what has a number is a day of the calendar
+pub record IsNumbered (year : ℤ) (month day : ℕ) (number : ℤ) : Type 0 where
+  pub civil : IsCivilDay year month day
+  pub is : number ≡ days_from_civil year month day
+
+pub numbered : (year : ℤ) (month day : ℕ) (number : ℤ) → day_number year month day ≡ Some number → IsNumbered year month day number
+unfolding day_number
+numbered year month day number e = go (is_civil_day year month day) refl e
+  where
+    go : (t : Bool) → is_civil_day year month day ≡ t → (if t then Some (days_from_civil year month day) else None) ≡ Some number → IsNumbered year month day number
+    go true h e = record { civil = civil_parts year month day h; is = cc }
+    go false h e = absurd cc
+
+-- a day of a later year has a greater number
+pub later_number : (date : Date) (next : ℤ) (month day : ℕ) (number : ℤ) → date.year <ℤ next → day_number next month day ≡ Some number → epoch_day date <ℤ number
+later_number date next month day number later e =
+    let n = numbered next month day number e in
+    let far = day_count-lt_year date.year date.month date.day next month day (civil date) n.civil.day_low later in
+    let is : number ≡ days_from_civil next month day = n.is in
+    omega (arith, signed_arith, days_from_civil-day_count, far, is)
+
+-- after the year 9999 nothing has a number
+pub none_later : (next : ℤ) (month day : ℕ) (number : ℤ) → pos 9999 <ℤ next → day_number next month day ≡ Some number → ⊥
+none_later next month day number later e =
+    let n = numbered next month day number e in
+    let within = year_within next n.civil.year_in in
+    omega (arith, signed_arith, within.1)

@@ -1,0 +1,46 @@
+-- Lists that are cut where a test passes.
+use Rattle.std.proofs.Common.{◌≡◌, ◌<◌, ◌≤◌, ◌+◌, ◌-◌, ℕ, zero, suc, Bool, true, false, not, cond, List, [], ◌∷◌, length, take, drop, Option, Some, None, nat_lt, refl, sym, arith}
+use Rattle.std.specs.List.{slice_split, onto_first, position, position_or_len, before_first, after_first}
+use Rattle.std.proofs.lemmas.Bool.Decides.{nat_tests}
+use Rattle.std.proofs.lemmas.List.Splits.{slice_split_first}
+
+module _ (p : ℕ → Bool) where
+  whole : (xs : List ℕ) → length xs ≤ position_or_len p xs → slice_split p xs ≡ xs ∷ []
+  whole [] h = refl
+  whole (x ∷ xs) h = go (p x) refl (whole xs)
+    where
+      go : (t : Bool) → p x ≡ t → (length xs ≤ position_or_len p xs → slice_split p xs ≡ xs ∷ []) → cond t ([] ∷ slice_split p xs) (onto_first x (slice_split p xs)) ≡ (x ∷ xs) ∷ []
+      go true e r = absurd (omega (arith, rw e at h))
+      go false e r = rw (r (omega (arith, rw e at h))) refl
+
+  -- a list where no element passes is its one part
+  pub split_none : (xs : List ℕ) → None ≡ position p xs → slice_split p xs ≡ xs ∷ []
+  split_none xs e = go (nat_lt (position_or_len p xs) (length xs)) refl e
+    where
+      go : (t : Bool) → nat_lt (position_or_len p xs) (length xs) ≡ t → None ≡ cond t (Some (position_or_len p xs)) None → slice_split p xs ≡ xs ∷ []
+      go true h e = absurd cc
+      go false h e = whole xs (grind (arith, nat_tests))
+
+  -- what stands before the first element that passes, and the parts behind it
+  pub record IsCut (xs : List ℕ) (at : ℕ) : Type 0 where
+    pub within : at < length xs
+    pub parts : slice_split p xs ≡ take at xs ∷ slice_split p (drop (at + 1) xs)
+
+  pub split_some : (xs : List ℕ) (at : ℕ) → Some at ≡ position p xs → IsCut xs at
+  split_some xs at e = go (nat_lt (position_or_len p xs) (length xs)) refl e
+    where
+      go : (t : Bool) → nat_lt (position_or_len p xs) (length xs) ≡ t → Some at ≡ cond t (Some (position_or_len p xs)) None → IsCut xs at
+      go true h e =
+          let same : at ≡ position_or_len p xs = cc in
+          let within : position_or_len p xs < length xs = grind (arith, nat_tests) in
+          record { within = rw same within; parts = rw same (slice_split_first p xs 0 within) }
+      go false h e = absurd cc
+
+  -- there is always a first part
+  pub split_front : (xs : List ℕ) → (part : List ℕ) × (parts : List (List ℕ)) × (slice_split p xs ≡ part ∷ parts)
+  split_front [] = ([], [], refl)
+  split_front (x ∷ xs) = go (p x) (split_front xs)
+    where
+      go : (t : Bool) → (part : List ℕ) × (parts : List (List ℕ)) × (slice_split p xs ≡ part ∷ parts) → (part : List ℕ) × (parts : List (List ℕ)) × (cond t ([] ∷ slice_split p xs) (onto_first x (slice_split p xs)) ≡ part ∷ parts)
+      go true r = ([], slice_split p xs, refl)
+      go false r = (x ∷ r.0, r.1, rw r.2 refl)

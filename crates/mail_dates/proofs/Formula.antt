@@ -1,0 +1,53 @@
+-- Day numbers in closed form, in which long rows compute.
+use Rattle.std.proofs.Common.{◌≡◌, ℕ, zero, suc, ◌+◌, ◌-◌, ◌<◌, ◌≤◌, Bool, true, false, ◌&&◌, Option, Some, None, refl, ap, ◌∙◌, arith, ℤ, pos, negsuc, ◌+ℤ◌, ◌-ℤ◌, unsigned_abs, nat_le, cond}
+use Rattle.std.specs.Prelude.{if◌then◌else◌}
+use Rattle.std.proofs.lemmas.Bool.Decides.{nat_tests}
+use Rattle.std.proofs.lemmas.Int.{ints}
+use Rattle.jiff_core.specs.Calendar.{days_from_civil, days_in_month, day_count}
+use Rattle.jiff_core.specs.March.{march_days, march_months}
+use Rattle.jiff_core.proofs.MarchLemmas.{day_count-late, day_count-early}
+use Rattle.jiff_core.proofs.CalendarLemmas.{days_from_civil-day_count, day_count-epoch}
+use Rattle.jiff_core.proofs.SignedLemmas.{signed_arith}
+use Rattle.mail_dates.specs.Calendar.{is_civil_day, day_number}
+use Rattle.mail_dates.proofs.CivilDays.{IsCivilDay, civil_parts}
+
+-- through years that begin in March, counted from the year -10000
+abbrev pub march_number : ℤ → ℕ → ℕ → ℤ
+march_number year month day =
+    if nat_le month 2 then pos (march_days (unsigned_abs (year +ℤ pos 9999)) + march_months (month + 12) + day + 59) -ℤ pos 4371953
+    else pos (march_days (unsigned_abs (year +ℤ pos 10000)) + march_months month + day + 59) -ℤ pos 4371953
+
+abbrev pub number_by_formula : ℤ → ℕ → ℕ → Option ℤ
+number_by_formula year month day = if is_civil_day year month day then Some (march_number year month day) else None
+
+shifted : (year : ℤ) (k : ℕ) → unsigned_abs year ≤ k → year +ℤ pos k ≡ pos (unsigned_abs (year +ℤ pos k))
+shifted (pos n) k h = omega (arith, ints)
+shifted (negsuc n) k h = omega (arith, ints)
+
+early : (year : ℤ) (month day : ℕ) → IsCivilDay year month day → month ≤ 2 → days_from_civil year month day ≡ pos (march_days (unsigned_abs (year +ℤ pos 9999)) + march_months (month + 12) + day + 59) -ℤ pos 4371953
+early year month day h low =
+    let place : year +ℤ pos 10000 ≡ pos (suc (unsigned_abs (year +ℤ pos 9999))) = omega (arith, signed_arith, shifted year 9999 h.year_in) in
+    omega (arith, signed_arith, days_from_civil-day_count, day_count-early year (unsigned_abs (year +ℤ pos 9999)) month day place h.month_low low h.day_low)
+
+late : (year : ℤ) (month day : ℕ) → IsCivilDay year month day → 3 ≤ month → days_from_civil year month day ≡ pos (march_days (unsigned_abs (year +ℤ pos 10000)) + march_months month + day + 59) -ℤ pos 4371953
+late year month day h high =
+    let place : year +ℤ pos 10000 ≡ pos (unsigned_abs (year +ℤ pos 10000)) = shifted year 10000 (omega (arith, h.year_in)) in
+    omega (arith, signed_arith, days_from_civil-day_count, day_count-late year (unsigned_abs (year +ℤ pos 10000)) month day place high h.month_high h.day_low)
+
+march_number_is : (year : ℤ) (month day : ℕ) → IsCivilDay year month day → days_from_civil year month day ≡ march_number year month day
+march_number_is year month day h = go (nat_le month 2) refl
+  where
+    go : (t : Bool) → nat_le month 2 ≡ t → days_from_civil year month day ≡ (if t then pos (march_days (unsigned_abs (year +ℤ pos 9999)) + march_months (month + 12) + day + 59) -ℤ pos 4371953 else pos (march_days (unsigned_abs (year +ℤ pos 10000)) + march_months month + day + 59) -ℤ pos 4371953)
+    go true e = early year month day h (grind (arith, nat_tests))
+    go false e = late year month day h (grind (arith, nat_tests))
+
+day_number_is : (year : ℤ) (month day : ℕ) → day_number year month day ≡ number_by_formula year month day
+unfolding day_number
+day_number_is year month day = go (is_civil_day year month day) refl
+  where
+    go : (t : Bool) → is_civil_day year month day ≡ t → (if t then Some (days_from_civil year month day) else None) ≡ (if t then Some (march_number year month day) else None)
+    go true e = ap Some (march_number_is year month day (civil_parts year month day e))
+    go false e = refl
+
+pub day_number-formula : day_number ≡ number_by_formula
+day_number-formula = λ i. λ year month day. day_number_is year month day i

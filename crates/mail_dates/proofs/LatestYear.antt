@@ -1,0 +1,176 @@
+-- The latest year that passes, from a year on down.
+use Rattle.std.proofs.Common.{◌≡◌, ℕ, zero, suc, ◌+◌, ◌-◌, ◌<◌, ◌≤◌, Bool, true, false, Option, Some, None, refl, sym, ap, ◌∙◌, subst, arith, inl, inr, ℤ, pos, negsuc, ◌+ℤ◌, ◌-ℤ◌, ◌≤ℤ◌, ◌<ℤ◌, unsigned_abs}
+use Rattle.std.specs.Prelude.{◌⊎◌, ◌↔◌, option_map, IsTrue, int_le}
+use Rattle.std.proofs.lemmas.Int.{ints}
+use Rattle.std.proofs.lemmas.Bool.{cases_lt}
+use Rattle.mail_dates.specs.declared.days.Days.{Days}
+use Rattle.mail_dates.specs.declared.days.DaysOfYear.{DaysOfYear}
+use Rattle.mail_dates.specs.declared.days.DaysOfYear.TheVariants as days
+use Rattle.mail_dates.specs.Numbers.{◌>>=◌}
+use Rattle.mail_dates.specs.Calendar.{day_number, greatest_below, year_at, latest_year, IsLatestYear, HasNoLater}
+use Rattle.mail_dates.proofs.CivilDays.{year_within, numbered}
+use Rattle.mail_dates.specs.Periods.{days_from_to, days_in_by, latest_days_by, begin_by, fit_by}
+
+-- the place of a year among those of the calendar, from 1
+abbrev pub place : ℤ → ℕ
+place year = unsigned_abs (year +ℤ pos 10000)
+
+-- the latest year up to this one that passes
+abbrev pub latest_up_to : ℤ → (ℤ → Bool) → Option ℤ
+latest_up_to year passes = option_map year_at (greatest_below (place year) (λ n. passes (year_at n)))
+
+place_suc : (year : ℤ) → negsuc 9998 ≤ℤ year → (n : ℕ) × (place year ≡ suc n) × (year_at n ≡ year) × (place (year -ℤ pos 1) ≡ n)
+place_suc (pos k) low = (k + 9999, omega (arith, ints), omega (arith, ints), omega (arith, ints))
+place_suc (negsuc k) low = (9998 - k, omega (arith, ints), omega (arith, ints), omega (arith, ints))
+
+module _ (passes : ℤ → Bool) where
+  pub latest_found : (year : ℤ) → negsuc 9998 ≤ℤ year → passes year ≡ true → latest_up_to year passes ≡ Some year
+  latest_found year low e = go (place_suc year low)
+    where
+      go : (n : ℕ) × (place year ≡ suc n) × (year_at n ≡ year) × (place (year -ℤ pos 1) ≡ n) → latest_up_to year passes ≡ Some year
+      go (n, at, is, before) = let here : passes (year_at n) ≡ true = rw is e in rw (at, here) (ap Some is)
+
+  pub latest_skipped : (year : ℤ) → negsuc 9998 ≤ℤ year → passes year ≡ false → latest_up_to year passes ≡ latest_up_to (year -ℤ pos 1) passes
+  latest_skipped year low e = go (place_suc year low)
+    where
+      go : (n : ℕ) × (place year ≡ suc n) × (year_at n ≡ year) × (place (year -ℤ pos 1) ≡ n) → latest_up_to year passes ≡ latest_up_to (year -ℤ pos 1) passes
+      go (n, at, is, before) = let here : passes (year_at n) ≡ false = rw is e in rw (at, before, here) refl
+
+  pub latest_none : latest_up_to (negsuc 9999) passes ≡ None
+  latest_none = refl
+
+  -- the years after this one can be left out, where none of them passes
+  pub latest_from : (k : ℕ) (year : ℤ) → negsuc 9998 ≤ℤ year → ((next : ℤ) → year <ℤ next → passes next ≡ false) → latest_up_to (year +ℤ pos k) passes ≡ latest_up_to year passes
+  latest_from zero year low no_later = let same : year +ℤ pos 0 ≡ year = omega (arith, ints) in rw same refl
+  latest_from (suc k) year low no_later =
+      let before : (year +ℤ pos (suc k)) -ℤ pos 1 ≡ year +ℤ pos k = omega (arith, ints) in
+      latest_skipped (year +ℤ pos (suc k)) (omega (arith, ints)) (no_later (year +ℤ pos (suc k)) (omega (arith, ints)))
+      ∙ rw before (latest_from k year low no_later)
+
+  pub latest_year_from : (year : ℤ) → negsuc 9998 ≤ℤ year → year ≤ℤ pos 9999 → ((next : ℤ) → year <ℤ next → passes next ≡ false) → latest_year passes ≡ latest_up_to year passes
+  latest_year_from year low high no_later =
+      let k : ℕ = unsigned_abs (pos 9999 -ℤ year) in
+      let top : year +ℤ pos k ≡ pos 9999 = rest year high in
+      rw top at (latest_from k year low no_later)
+    where
+      rest : (year : ℤ) → year ≤ℤ pos 9999 → year +ℤ pos (unsigned_abs (pos 9999 -ℤ year)) ≡ pos 9999
+      rest (pos n) h = omega (arith, ints)
+      rest (negsuc n) h = omega (arith, ints)
+
+-- days that lie in a later year than this day don't begin by it
+begins_later : (by year next : ℤ) (month date : ℕ) (last : Option ℤ) → HasNoLater by year → year <ℤ next → begin_by by (days_from_to (day_number next month date) last) ≡ false
+begins_later by year next month date last h later = go (day_number next month date) last refl
+  where
+    go : (first last : Option ℤ) → day_number next month date ≡ first → begin_by by (days_from_to first last) ≡ false
+    go None last e = refl
+    go (Some first) None e = refl
+    go (Some first) (Some last) e = after by first (h.later next month date first later e)
+      where
+        after : (by first : ℤ) → by <ℤ first → int_le first by ≡ false
+        after by first lt = grind (arith, ints)
+
+pub none_later_begins : (by year : ℤ) (which : DaysOfYear) → HasNoLater by year → (next : ℤ) → year <ℤ next → begin_by by (days_in_by day_number which next) ≡ false
+none_later_begins by year days.All h next later = begins_later by year next 1 1 _ h later
+none_later_begins by year (days.Month month) h next later = begins_later by year next month 1 _ h later
+none_later_begins by year (days.Day month day) h next later = begins_later by year next month day _ h later
+
+-- the search has come down to this year, and none above it fits
+pub record IsSearch (which : DaysOfYear) (by year : ℤ) : Type 0 where
+  pub low : negsuc 9999 ≤ℤ year
+  pub high : year ≤ℤ pos 9999
+  pub latest : latest_year (fit_by day_number which by) ≡ latest_up_to year (fit_by day_number which by)
+
+pub search_start : (which : DaysOfYear) (by year : ℤ) → HasNoLater by year → IsSearch which by year
+search_start which by year h = record {
+  low = let low = h.low in omega (arith, ints);
+  high = h.high;
+  latest = latest_year_from (fit_by day_number which by) year h.low h.high (none_later_begins by year which h);
+}
+
+pub search_next : (which : DaysOfYear) (by year next : ℤ) → IsSearch which by year → negsuc 9998 ≤ℤ year → begin_by by (days_in_by day_number which year) ≡ false → next ≡ year -ℤ pos 1 → IsSearch which by next
+search_next which by year next h low e is = rw is (record {
+  low = omega (arith, ints);
+  high = let high = h.high in omega (arith, ints);
+  latest = h.latest ∙ latest_skipped (fit_by day_number which by) year low e;
+})
+
+pub search_found : (which : DaysOfYear) (by year : ℤ) → IsSearch which by year → negsuc 9998 ≤ℤ year → begin_by by (days_in_by day_number which year) ≡ true → days_in_by day_number which year ≡ latest_days_by day_number which by
+unfolding latest_days_by
+search_found which by year h low e =
+    sym (ap (λ (o : Option ℤ). o >>= days_in_by day_number which) (h.latest ∙ latest_found (fit_by day_number which by) year low e))
+
+pub search_over : (which : DaysOfYear) (by year : ℤ) → IsSearch which by year → year <ℤ negsuc 9998 → None ≡ latest_days_by day_number which by
+unfolding latest_days_by
+search_over which by year h over =
+    let end : year ≡ negsuc 9999 = let low = h.low in omega (arith, ints) in
+    let none : latest_up_to year (fit_by day_number which by) ≡ None = rw end (latest_none (fit_by day_number which by)) in
+    sym (ap (λ (o : Option ℤ). o >>= days_in_by day_number which) (h.latest ∙ none))
+
+-- ---- the year found is the latest, and the latest is found
+
+-- the number passes, and each that passes below the limit is at most it
+record IsGreatest (passes : ℕ → Bool) (limit found : ℕ) : Type 0 where
+  has : passes found ≡ true
+  below : found < limit
+  most : (k : ℕ) → k < limit → passes k ≡ true → k ≤ found
+
+greatest_is : (limit : ℕ) (passes : ℕ → Bool) (found : ℕ) → greatest_below limit passes ≡ Some found → IsGreatest passes limit found
+greatest_is zero passes found e = absurd cc
+greatest_is (suc n) passes found e = go (passes n) refl e (greatest_is n passes found)
+  where
+    go : (t : Bool) → passes n ≡ t → elim t as (λ _. Option ℕ) [ true ↦ Some n | false ↦ greatest_below n passes ] ≡ Some found → (greatest_below n passes ≡ Some found → IsGreatest passes n found) → IsGreatest passes (suc n) found
+    go true h e r = let same : n ≡ found = cc in record { has = subst (λ (k : ℕ). passes k ≡ true) same h; below = omega (arith, same); most = λ k lt g. omega (arith, same, lt) }
+    go false h e r = let g = r e in record { has = g.has; below = omega (arith, g.below); most = λ k lt q. at_most k lt q g }
+      where
+        at_most : (k : ℕ) → k < suc n → passes k ≡ true → IsGreatest passes n found → k ≤ found
+        at_most k lt q g = grind (arith, lt, q, h, g.most k)
+
+found_year : (o : Option ℕ) (year : ℤ) → option_map year_at o ≡ Some year → (n : ℕ) × (o ≡ Some n) × (year_at n ≡ year)
+found_year None year e = absurd cc
+found_year (Some n) year e = (n, refl, cc)
+
+-- only years of the calendar pass
+abbrev pub AreOfCalendar : (ℤ → Bool) → Type 0
+AreOfCalendar passes = (year : ℤ) → IsTrue (passes year) → (negsuc 9998 ≤ℤ year) × (year ≤ℤ pos 9999)
+
+pub latest_is : (passes : ℤ → Bool) (year : ℤ) → AreOfCalendar passes → latest_year passes ≡ Some year → IsLatestYear passes year
+latest_is passes year calendar e =
+    let f = found_year (greatest_below 19999 (λ n. passes (year_at n))) year e in
+    let g = greatest_is 19999 (λ n. passes (year_at n)) f.0 f.1 in
+    record {
+      has = subst (λ (y : ℤ). passes y ≡ true) f.2 g.has;
+      latest = λ other h. go other h (place_suc other (calendar other h).0) f.0 f.2 g;
+    }
+  where
+    go : (other : ℤ) → passes other ≡ true → (n : ℕ) × (place other ≡ suc n) × (year_at n ≡ other) × (place (other -ℤ pos 1) ≡ n) → (m : ℕ) → year_at m ≡ year → IsGreatest (λ n. passes (year_at n)) 19999 m → other ≤ℤ year
+    go other h (n, at, is, before) m same g =
+        let high : other ≤ℤ pos 9999 = (calendar other h).1 in
+        let small : n < 19999 = omega (arith, ints) in
+        let most : n ≤ m = g.most n small (subst (λ (y : ℤ). passes y ≡ true) (sym is) h) in
+        omega (arith, ints)
+
+pub is_latest : (passes : ℤ → Bool) (year : ℤ) → AreOfCalendar passes → IsLatestYear passes year → latest_year passes ≡ Some year
+is_latest passes year calendar h =
+    let within = calendar year h.has in
+    latest_year_from passes year within.0 within.1 (λ next later. not_later next later (passes next) refl) ∙ latest_found passes year within.0 h.has
+  where
+    not_later : (next : ℤ) → year <ℤ next → (t : Bool) → passes next ≡ t → t ≡ false
+    not_later next later true e = let below : next ≤ℤ year = h.latest next e in absurd (omega (arith, ints))
+    not_later next later false e = refl
+
+-- days that a year has lie in a year of the calendar
+of_calendar : (by year : ℤ) (month date : ℕ) (last : Option ℤ) → begin_by by (days_from_to (day_number year month date) last) ≡ true → (negsuc 9998 ≤ℤ year) × (year ≤ℤ pos 9999)
+of_calendar by year month date last h = go (day_number year month date) refl h
+  where
+    go : (first : Option ℤ) → day_number year month date ≡ first → begin_by by (days_from_to first last) ≡ true → (negsuc 9998 ≤ℤ year) × (year ≤ℤ pos 9999)
+    go None e h = absurd cc
+    go (Some first) e h = year_within year (numbered year month date first e).civil.year_in
+
+pub fits_are_of_calendar : (which : DaysOfYear) (by : ℤ) → AreOfCalendar (fit_by day_number which by)
+fits_are_of_calendar days.All by year h = of_calendar by year 1 1 _ h
+fits_are_of_calendar (days.Month month) by year h = of_calendar by year month 1 _ h
+fits_are_of_calendar (days.Day month day) by year h = of_calendar by year month day _ h
+
+pub latest_year_law : (which : DaysOfYear) (by year : ℤ) → (latest_year (fit_by day_number which by) ≡ Some year) ↔ IsLatestYear (fit_by day_number which by) year
+latest_year_law which by year =
+    (latest_is (fit_by day_number which by) year (fits_are_of_calendar which by), is_latest (fit_by day_number which by) year (fits_are_of_calendar which by))

@@ -1,0 +1,9 @@
+pub mod CivilDays
+pub mod Cuts
+pub mod Digits
+pub mod Formula
+pub mod LatestYear
+mod RowsCalendar
+mod RowsHeaderDates
+mod RowsRanges
+mod RowsIsoRanges

@@ -1,0 +1,34 @@
+use Rattle.std.proofs.Common.{◌≡◌, ◌<◌, Some, ap, sym, ◌∙◌, arith, rules, refl, w8, w16, w32, ℤ, pos, to_z, of_z, FitsSigned, unsigned_abs}
+use Rattle.std.proofs.lemmas.Int.{ints, to_z-of_z}
+use Rattle.jiff_core.specs.Calendar.{days_from_civil, IsDate}
+use Rattle.jiff_core.specs.Date.{IsYmd, epoch_day}
+use Rattle.jiff_core.proofs.CalendarLemmas.{days_in_month_bounds}
+use Rattle.mail_dates.specs.Calendar.{day_number}
+use Rattle.mail_dates.proofs.CivilDays.{IsCivilDay, civil_date, date_civil, day_number_some, day_number_none, day_number_at}
+use Rattle.mail_dates.proofs.calendar.day_number.Goals as goal
+use Rattle.mail_dates.proofs.calendar.day_number.Goals.{then-month-gt12-via-then-month-gt12, then-month-gt12-via-else-month-gt12+then-day-gt31}
+
+pub returns-then-month-gt12-clause-value : goal.returns-then-month-gt12-clause-value
+returns-then-month-gt12-clause-value c =
+    let long = days_in_month_bounds c.args.year c.args.month in
+    sym (day_number_none c.args.year c.args.month c.args.day (λ h.
+    elim c.then-month-gt12.branch [
+      | then-month-gt12-via-then-month-gt12 w ↦ omega (arith, h.month_high)
+      | then-month-gt12-via-else-month-gt12+then-day-gt31 w ↦ omega (arith, h.day_high)
+    ]))
+
+pub returns-in-Ok-clause-value : goal.returns-in-Ok-clause-value
+returns-in-Ok-clause-value c =
+    let year : to_z w16 (of_z w16 c.args.year) ≡ c.args.year = to_z-of_z w16 c.args.year c.ranges.year in
+    let can : IsDate c.args.year (to_z w8 c.args.month) (to_z w8 c.args.day) = rw year at (c.in-Ok.ensures.succeeds.0 refl) in
+    let is : IsYmd c.args.year (to_z w8 c.args.month) (to_z w8 c.args.day) c.in-Ok.date = rw year at c.in-Ok.ensures.value in
+    let fits : FitsSigned w32 c.to_unix_epoch_day.result = search rules in
+    let number : to_z w32 (of_z w32 c.to_unix_epoch_day.result) ≡ epoch_day c.in-Ok.date =
+    to_z-of_z w32 c.to_unix_epoch_day.result fits ∙ c.to_unix_epoch_day.ensures.value ∙ ap epoch_day c.to_plain.ensures in
+    let civil = date_civil c.args.year c.args.month c.args.day (omega arith) (omega arith) can in
+    day_number_at c.args.year c.args.month c.args.day c.in-Ok.date _ civil is number
+
+pub returns-in-Err-clause-value : goal.returns-in-Err-clause-value
+returns-in-Err-clause-value c =
+    let year : to_z w16 (of_z w16 c.args.year) ≡ c.args.year = to_z-of_z w16 c.args.year c.ranges.year in
+    sym (day_number_none c.args.year c.args.month c.args.day (λ h. let k : IsDate (to_z w16 (of_z w16 c.args.year)) (to_z w8 c.args.month) (to_z w8 c.args.day) = rw year (civil_date c.args.year c.args.month c.args.day h) in let e = c.in-Err.ensures.succeeds.1 k in cc))

@@ -1,0 +1,8 @@
+use Rattle.mail_dates.proofs.LatestYear.{place, IsSearch}
+use Rattle.mail_dates.proofs.days.DaysOfYear.latest.Given as goal
+
+abbrev pub invariant-loop-year : goal.invariant-loop-year
+invariant-loop-year l = IsSearch l.self l.by l.year
+
+abbrev pub decreases-loop-year : goal.decreases-loop-year
+decreases-loop-year l = place l.year

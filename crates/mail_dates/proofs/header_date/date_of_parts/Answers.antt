@@ -1,0 +1,23 @@
+use Rattle.std.proofs.Common.{◌≡◌, ◌<◌, ◌^◌, ◌+◌, ◌*◌, ℕ, ℤ, pos, ◌+ℤ◌, ◌-ℤ◌, ◌*ℤ◌, of_z, to_z, w16, w32, w64, FitsSigned, arith, rules, refl, sym, ◌∙◌, ap, List, Option, Some, None}
+use Rattle.std.proofs.lemmas.Int.{ints}
+use Rattle.jiff_core.specs.Calendar.{IsEpochDay}
+use Rattle.mail_dates.specs.Calendar.{day_number, month_of, start_of_day}
+use Rattle.mail_dates.specs.Numbers.{number_in}
+use Rattle.mail_dates.specs.HeaderDates.{year_of, time_of, date_of_parts_by}
+use Rattle.mail_dates.proofs.header_date.date_of_parts.Goals as goal
+
+-- the parts, read
+read : (day month year time : List ℕ) (offset : ℤ) (d m y s : ℕ) (date : ℤ) → Some d ≡ number_in 1 2 day → Some m ≡ month_of month → Some y ≡ year_of year → Some date ≡ day_number (pos y) m d → Some s ≡ time_of time → date_of_parts_by day_number day month year time offset ≡ Some ((start_of_day date +ℤ pos s) -ℤ offset)
+read day month year time offset d m y s date e f g h k = rw (← e, ← f, ← g, ← h, ← k) refl
+
+-- no step leaves 64 bits
+fits : (date offset first second third : ℤ) (s : ℕ) → IsEpochDay date → s < 2 ^ 32 → FitsSigned w32 offset → first ≡ to_z w32 (of_z w32 date) → second ≡ pos s → third ≡ to_z w32 (of_z w32 offset) → to_z w64 (of_z w64 (to_z w64 (of_z w64 (to_z w64 (of_z w64 (to_z w64 (of_z w64 first) *ℤ pos 86400)) +ℤ to_z w64 (of_z w64 second))) -ℤ to_z w64 (of_z w64 third))) ≡ (start_of_day date +ℤ pos s) -ℤ offset
+fits date offset first second third s h small f a b d = omega (arith, ints)
+
+pub returns : goal.returns
+returns c =
+    let year : to_z w16 c.in_ok-year.year ≡ pos c.in_ok-year.year = let small = c.in_ok-year.ensures.bound in omega (arith, ints) in
+    let date : Some c.in_ok-date.date ≡ day_number (pos c.in_ok-year.year) c.in_ok-month.month c.in_ok-day.day = rw year at c.in_ok-date.ensures.value in
+    let same = fits c.in_ok-date.date c.args.offset c.from.result c.from-2.result c.from-3.result c.in_ok-second.second c.in_ok-date.ensures.bound (search rules) c.ranges.offset c.from.ensures c.from-2.ensures c.from-3.ensures in
+    ap Some same
+    ∙ sym (read c.args.day.now c.args.month.now c.args.year.now c.args.time.now c.args.offset c.in_ok-day.day c.in_ok-month.month c.in_ok-year.year c.in_ok-second.second c.in_ok-date.date c.in_ok-day.ensures.value c.in_ok-month.ensures.value c.in_ok-year.ensures.value date c.in_ok-second.ensures)

@@ -1,0 +1,21 @@
+use Rattle.std.proofs.Common.{◌≡◌, ◌<◌, ◌*◌, ℕ, ℤ, pos, neg_ℤ, ◌-ℤ◌, ◌*ℤ◌, of_z, to_z, w32, FitsSigned, arith, rules, ◌∙◌, ap, refl, Option, Some, None}
+use Rattle.std.specs.Prelude.{unwrap_or}
+use Rattle.std.proofs.lemmas.Int.{ints, to_z-of_z}
+use Rattle.mail_dates.specs.HeaderDates.{offset_of, hours_west, numeric_offset}
+use Rattle.mail_dates.proofs.zone.offset_of.Goals as goal
+
+west : (hours : ℕ) (z : ℤ) → hours < 9 → z ≡ pos hours → to_z w32 (of_z w32 (pos 0 -ℤ to_z w32 (of_z w32 (to_z w32 (of_z w32 z) *ℤ pos 3600)))) ≡ neg_ℤ (pos (hours * 3600))
+west hours z few e = omega (arith, ints)
+
+pub returns-in-Some : goal.returns-in-Some
+unfolding offset_of
+returns-in-Some c =
+    let fits : FitsSigned w32 c.in-Some.offset = search rules in
+    to_z-of_z w32 c.in-Some.offset fits ∙ ap (λ (o : Option ℤ). unwrap_or o (neg_ℤ (pos (hours_west c.args.zone.now * 3600)))) c.in-Some.ensures
+
+pub returns-in-None : goal.returns-in-None
+unfolding offset_of
+returns-in-None c =
+    west c.hours_west.result c.from.result c.hours_west.ensures.bound c.from.ensures
+    ∙ ap (λ (hours : ℕ). neg_ℤ (pos (hours * 3600))) c.hours_west.ensures.value
+    ∙ ap (λ (o : Option ℤ). unwrap_or o (neg_ℤ (pos (hours_west c.args.zone.now * 3600)))) c.in-None.ensures

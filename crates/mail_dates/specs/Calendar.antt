@@ -1,0 +1,59 @@
+-- Days and seconds of UTC on the proleptic Gregorian calendar (ISO 8601), where year 0 is a leap year.
+use Rattle.std.specs.Prelude.{◌≡◌, ℕ, zero, suc, nat_le, Bool, true, false, ◌&&◌, IsTrue, ℤ, pos, negsuc, ◌+ℤ◌, ◌-ℤ◌, ◌*ℤ◌, ◌≤ℤ◌, ◌<ℤ◌, unsigned_abs, List, [], ◌∷◌, Option, Some, None, if◌then◌else◌, option_map, position, bytes_eq, codes}
+use Rattle.std.specs.Str.{str_to_ascii_lowercase}
+use Rattle.jiff_core.specs.Calendar.{days_from_civil, days_in_month}
+
+-- from 1970-01-01T00:00:00Z to 9999-12-31T23:59:59Z
+abbrev pub IsMoment : ℤ → Type 0
+IsMoment second = (pos 0 ≤ℤ second) × (second ≤ℤ pos 253402300799)
+
+-- the first second of a day, by the day's number from 1970-01-01, and the last one
+abbrev pub start_of_day : ℤ → ℤ
+start_of_day day = day *ℤ pos 86400
+
+abbrev pub end_of_day : ℤ → ℤ
+end_of_day day = day *ℤ pos 86400 +ℤ pos 86399
+
+-- the calendar has this day, in a year from -9999 to 9999
+abbrev pub is_civil_day : ℤ → ℕ → ℕ → Bool
+is_civil_day year month day =
+    nat_le (unsigned_abs year) 9999 && nat_le 1 month && nat_le month 12 && nat_le 1 day && nat_le day (days_in_month year month)
+
+-- the number of a day from 1970-01-01, where the calendar has it
+unfoldable pub day_number : ℤ → ℕ → ℕ → Option ℤ
+day_number year month day = if is_civil_day year month day then Some (days_from_civil year month day) else None
+
+-- the names of months, in small letters
+abbrev pub month_names : List (List ℕ)
+month_names =
+    codes "jan" ∷ codes "feb" ∷ codes "mar" ∷ codes "apr" ∷ codes "may" ∷ codes "jun"
+    ∷ codes "jul" ∷ codes "aug" ∷ codes "sep" ∷ codes "oct" ∷ codes "nov" ∷ codes "dec" ∷ []
+
+-- the month that three letters stand for, in either case
+unfoldable pub month_of : List ℕ → Option ℕ
+month_of (a ∷ b ∷ c ∷ []) =
+    option_map suc (position (λ name. bytes_eq name (str_to_ascii_lowercase (a ∷ b ∷ c ∷ []))) month_names)
+month_of _ = None
+
+-- the greatest number below a limit that passes
+abbrev pub greatest_below : ℕ → (ℕ → Bool) → Option ℕ
+greatest_below zero passes = None
+greatest_below (suc n) passes = elim (passes n) [ true ↦ Some n | false ↦ greatest_below n passes ]
+
+-- the latest year of the calendar that passes
+abbrev pub year_at : ℕ → ℤ
+year_at n = pos n -ℤ pos 9999
+
+abbrev pub latest_year : (ℤ → Bool) → Option ℤ
+latest_year passes = option_map year_at (greatest_below 19999 (λ n. passes (year_at n)))
+
+-- the same as a fact: it passes, and each year that does is at most it
+pub record IsLatestYear (passes : ℤ → Bool) (year : ℤ) : Type 0 where
+  pub has : IsTrue (passes year)
+  pub latest : (other : ℤ) → IsTrue (passes other) → other ≤ℤ year
+
+-- the calendar has the year, and no day of a later one comes by this day
+pub record HasNoLater (day year : ℤ) : Type 0 where
+  pub low : negsuc 9998 ≤ℤ year
+  pub high : year ≤ℤ pos 9999
+  pub later : (next : ℤ) (month date : ℕ) (number : ℤ) → year <ℤ next → day_number next month date ≡ Some number → day <ℤ number

@@ -1,0 +1,6 @@
+pub mod Numbers
+pub mod Calendar
+pub mod HeaderDates
+pub mod Periods
+pub mod Ranges
+pub mod IsoRanges

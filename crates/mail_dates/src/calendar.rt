@@ -1,0 +1,59 @@
+//! Days of the calendar by their numbers, and the names of months.
+
+ghost use Rattle.std.specs.Prelude.{◌≡◌, ◌≤◌, ◌<◌, IfSome, position, bytes_eq};
+ghost use Rattle.jiff_core.specs.Calendar.{IsEpochDay};
+ghost use Rattle.mail_dates.specs.Calendar.{day_number, month_names, month_of, HasNoLater};
+
+use jiff::civil::Date;
+
+/// The number of a day from 1970-01-01, where the calendar has it, in a year from -9999 to 9999.
+pub fn day_number(year: i16, month: u8, day: u8) -> Option<i32>
+    ensures value { result ≡ day_number year month day }
+    ensures bound { IfSome result IsEpochDay }
+{
+    if month > 12 || day > 31 {
+        return None;
+    }
+    match Date::new(year, month as i8, day as i8) {
+        Ok(date) => Some(date.to_plain().to_unix_epoch_day()),
+        Err(_) => None,
+    }
+}
+
+/// The year of a day, or 9999 where the calendar hasn't this day.
+pub fn year_of_day(day: i32) -> i16
+    ensures { HasNoLater day result }
+{
+    match jiff_core::civil::Date::from_unix_epoch_day(i64::from(day)) {
+        Ok(date) => date.year,
+        Err(_) => 9999,
+    }
+}
+
+/// The names of months, in small letters.
+const MONTH_NAMES: [[u8; 3]; 12] = [
+    *b"jan", *b"feb", *b"mar", *b"apr", *b"may", *b"jun", *b"jul", *b"aug", *b"sep", *b"oct",
+    *b"nov", *b"dec",
+];
+
+/// The month that three letters stand for, in either case.
+#[tactic(auto, unfolding(crate::specs::Calendar::month_of))]
+pub fn month_of(name: &[u8]) -> Option<u8>
+    ensures value { result ≡ month_of name.now }
+    ensures bound { IfSome result (λ month. month ≤ 12) }
+{
+    let [a, b, c] = name else { return None };
+    let lower = [
+        a.to_ascii_lowercase(),
+        b.to_ascii_lowercase(),
+        c.to_ascii_lowercase(),
+    ];
+    Some(index_of_month(lower)? as u8 + 1)
+}
+
+fn index_of_month(lower: [u8; 3]) -> Option<usize>
+    ensures value { result ≡ position (λ name. bytes_eq name lower) month_names }
+    ensures bound { IfSome result (λ index. index < 12) }
+{
+    MONTH_NAMES.iter().position(|name| *name == lower)
+}

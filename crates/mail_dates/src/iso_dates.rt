@@ -1,0 +1,120 @@
+//! Ranges of ISO 8601 dates, as in `2003-02..2003-04-15`.
+
+ghost use Rattle.std.specs.Prelude.{◌≡◌};
+ghost use Rattle.std.specs.List.{slice_split};
+ghost use Rattle.mail_dates.specs.Calendar.{day_number};
+ghost use Rattle.mail_dates.specs.IsoRanges.{is_dot, iso_days_by, iso_month_by, iso_day_by, iso_range_of_one_by, iso_range_of_parts_by, iso_since_by, iso_until_by, iso_between_by, iso_range_of};
+
+use crate::days::{Days, DaysOfYear};
+use crate::fault::DateFault;
+use crate::number::number_in;
+use crate::range::Range;
+use crate::range_of_days::{end_of_day, range_of_days, start_of_day};
+use crate::text::cut;
+
+/// The range from the first second of one expression to the last second of another, with `..` between them, of which one may
+/// be empty, or from the first to the last second of a lone expression. An expression is `YYYY-MM` or `YYYY-MM-DD`, in UTC.
+/// An empty end is no bound.
+///
+/// The error is `BadDate`, at anything else, and at a month or a day that the calendar hasn't.
+#[tactic(auto, unfolding(crate::specs::IsoRanges::iso_range_of))]
+pub fn iso_range(spec: &str) -> Result<Range, DateFault>
+    ensures { result ≡ iso_range_of spec.now }
+{
+    let text = spec.as_bytes();
+    range_of_text(text).ok_or(DateFault::BadDate)
+}
+
+fn range_of_text(text: &[u8]) -> Option<Range>
+    ensures { result ≡ iso_range_of_parts_by day_number (slice_split is_dot text.now) }
+{
+    let Some((since, rest)) = cut(text, b'.') else {
+        return range_of_one(text);
+    };
+    match cut(rest, b'.') {
+        None => None,
+        Some((between, until)) => {
+            if !between.is_empty() {
+                return None;
+            }
+            match cut(until, b'.') {
+                None => range_between(since, until),
+                Some(_) => None,
+            }
+        }
+    }
+}
+
+fn range_of_one(text: &[u8]) -> Option<Range>
+    ensures { result ≡ iso_range_of_one_by day_number text.now }
+{
+    let days = days_of(text)?;
+    Some(range_of_days(days))
+}
+
+fn range_between(since: &[u8], until: &[u8]) -> Option<Range>
+    ensures { result ≡ iso_between_by day_number since.now until.now }
+{
+    if since.is_empty() && until.is_empty() {
+        return None;
+    }
+    let from = since_of(since)?;
+    let until = until_of(until)?;
+    Some(Range { from, until })
+}
+
+fn since_of(text: &[u8]) -> Option<Option<i64>>
+    ensures { result ≡ iso_since_by day_number text.now }
+{
+    if text.is_empty() {
+        return Some(None);
+    }
+    let days = days_of(text)?;
+    Some(Some(start_of_day(days.first)))
+}
+
+fn until_of(text: &[u8]) -> Option<Option<i64>>
+    ensures { result ≡ iso_until_by day_number text.now }
+{
+    if text.is_empty() {
+        return Some(None);
+    }
+    let days = days_of(text)?;
+    Some(Some(end_of_day(days.last)))
+}
+
+/// The days of an expression.
+#[tactic(auto, unfolding(crate::specs::IsoRanges::iso_days_by))]
+fn days_of(text: &[u8]) -> Option<Days>
+    ensures { result ≡ iso_days_by day_number text.now }
+{
+    let (year, rest) = cut(text, b'-')?;
+    match cut(rest, b'-') {
+        None => days_of_month(year, rest),
+        Some((month, day)) => match cut(day, b'-') {
+            None => days_of_day(year, month, day),
+            Some(_) => None,
+        },
+    }
+}
+
+fn days_of_month(year: &[u8], month: &[u8]) -> Option<Days>
+    ensures { result ≡ iso_month_by day_number year.now month.now }
+{
+    let year = number_in(4, 4, year)?;
+    let month = number_in(2, 2, month)?;
+    DaysOfYear::Month(month as u8).in_year(year as i16)
+}
+
+fn days_of_day(year: &[u8], month: &[u8], day: &[u8]) -> Option<Days>
+    ensures { result ≡ iso_day_by day_number year.now month.now day.now }
+{
+    let year = number_in(4, 4, year)?;
+    let month = number_in(2, 2, month)?;
+    let day = number_in(2, 2, day)?;
+    DaysOfYear::Day {
+        month: month as u8,
+        day: day as u8,
+    }
+    .in_year(year as i16)
+}

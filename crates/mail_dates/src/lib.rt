@@ -1,0 +1,32 @@
+//! Dates of mail: what a Date field says, and the seconds that a range of days takes in. Nothing here takes memory.
+//!
+//! A second is a second of UTC from 1970-01-01T00:00:00Z, without leap seconds. Days are those of the proleptic
+//! Gregorian calendar, in which year 0 is a leap year.
+#![tactic(auto)]
+
+mod calendar;
+mod days;
+mod fault;
+mod header_date;
+mod iso_dates;
+mod laws;
+mod moment;
+mod number;
+mod period;
+mod range;
+mod range_of_days;
+mod text;
+mod time_of_day;
+mod token;
+mod zone;
+
+pub use fault::DateFault;
+pub use header_date::read_date;
+pub use iso_dates::iso_range;
+pub use laws::latest_year_is_latest;
+pub use moment::Moment;
+pub use range::Range;
+pub use range_of_days::range_of;
+
+#[cfg(test)]
+mod tests;

@@ -1,0 +1,55 @@
+//! The moment at which a range is read.
+
+ghost use Rattle.std.specs.Prelude.{◌≡◌, ◌↔◌, ◌<◌, ◌≤◌, ◌^◌, ◌/◌, ℕ, pos, IsSome, IfSome};
+ghost use Rattle.mail_dates.specs.Calendar.{IsMoment};
+
+use std::marker::Model;
+
+/// The last second of the year 9999.
+const LAST_SECOND: u64 = 253_402_300_799;
+
+/// A second of UTC from 1970-01-01T00:00:00Z to 9999-12-31T23:59:59Z.
+#[derive(Clone, Copy, Debug, PartialEq, Eq, PartialOrd, Ord)]
+pub struct Moment {
+    second: u64,
+}
+
+impl Model for Moment {
+    ghost Value = { ℕ };
+
+    ghost view = { λ moment. moment.second };
+
+    ghost inverse = { λ second. record { second = second } };
+
+    ghost invariant = { λ moment. moment.second ≤ 253402300799 };
+}
+
+impl Moment {
+    /// The moment with this second, or None outside those years.
+    pub fn new(second: i64) -> Option<Moment>
+        ensures exists { IsSome result ↔ IsMoment second }
+        ensures value { IfSome result (λ moment. pos moment ≡ second) }
+    {
+        let second = u64::try_from(second).ok()?;
+        if second <= LAST_SECOND {
+            Some(Moment { second })
+        } else {
+            None
+        }
+    }
+
+    /// The day that it is in, by its number from 1970-01-01.
+    pub(crate) fn day(self) -> i32
+        ensures { result ≡ pos (self / 86400) }
+    {
+        (self.second / 86_400) as i32
+    }
+
+    /// Its second, below 2^38.
+    pub fn second(self) -> i64
+        ensures value { result ≡ pos self }
+        ensures bound { self < 2 ^ 38 }
+    {
+        self.second as i64
+    }
+}

@@ -1,0 +1,42 @@
+//! Numbers in decimal digits.
+
+ghost use Rattle.std.specs.Prelude.{◌≡◌, ◌<◌, ◌≤◌, ◌^◌, length, true, IfSome};
+ghost use Rattle.std.specs.Char.{is_ascii_digit};
+ghost use Rattle.std.specs.List.{list_all};
+ghost use Rattle.std.specs.Str.Parse.{digits_value};
+ghost use Rattle.mail_dates.specs.Numbers.{number_in};
+
+/// The number that the text writes in decimal, where it has `least` to `most` digits and nothing else.
+pub fn number_in(least: usize, most: usize, text: &[u8]) -> Option<u16>
+    requires { most ≤ 4 }
+    ensures value { result ≡ number_in least most text.now }
+    ensures bound { IfSome result (λ number. number < 10 ^ most) }
+{
+    if text.len() < least || text.len() > most {
+        return None;
+    }
+    if !are_digits(text) {
+        return None;
+    }
+    Some(decimal_value(text))
+}
+
+/// Whether it is digits alone.
+pub fn are_digits(text: &[u8]) -> bool
+    ensures { result ≡ list_all is_ascii_digit text.now }
+{
+    text.iter().all(|byte| byte.is_ascii_digit())
+}
+
+fn decimal_value(digits: &[u8]) -> u16
+    requires few { length digits.now ≤ 4 }
+    requires digits { list_all is_ascii_digit digits.now ≡ true }
+    ensures value { result ≡ digits_value 10 digits.now }
+    ensures bound { result < 10 ^ length digits.now }
+{
+    let mut value: u16 = 0;
+    for digit in digits {
+        value = value * 10 + u16::from(*digit - b'0');
+    }
+    value
+}

@@ -1,0 +1,198 @@
+//! Periods of days, as a range names them.
+
+ghost use Rattle.std.specs.Prelude.{◌≡◌, ◌*◌, ◌≤◌, ◌≤ℤ◌, pos, IfSome};
+ghost use Rattle.mail_dates.specs.Calendar.{day_number};
+ghost use Rattle.mail_dates.specs.Periods.{unit_of, days_in_unit, ago, has_long_count, full_date_of, full_date, full_year, yearly_month, day_of, yearly_day, day_and_month, month_and_day, period_of, period_days_by};
+
+use crate::calendar::month_of;
+use crate::days::{Days, DaysOfYear};
+use crate::fault::DateFault;
+use crate::number::{are_digits, number_in};
+
+/// A unit of the time before today.
+#[derive(Clone, Copy)]
+pub enum Unit {
+    Day,
+    Week,
+    /// 30 days.
+    Month,
+    /// 365 days.
+    Year,
+}
+
+impl Unit {
+    fn of(letter: u8) -> Option<Unit>
+        ensures { result ≡ unit_of letter }
+    {
+        match letter.to_ascii_lowercase() {
+            b'd' => Some(Unit::Day),
+            b'w' => Some(Unit::Week),
+            b'm' => Some(Unit::Month),
+            b'y' => Some(Unit::Year),
+            _ => None,
+        }
+    }
+
+    fn days(self) -> u16
+        ensures value { result ≡ days_in_unit self }
+        ensures bound { result ≤ 365 }
+    {
+        match self {
+            Unit::Day => 1,
+            Unit::Week => 7,
+            Unit::Month => 30,
+            Unit::Year => 365,
+        }
+    }
+}
+
+/// A period of days.
+#[derive(Clone, Copy)]
+pub enum Period {
+    /// The day so long before today.
+    Ago { count: u16, unit: Unit },
+    /// Days of one year.
+    InYear { year: i16, days: DaysOfYear },
+    /// Days of the latest year that fits.
+    Yearly(DaysOfYear),
+}
+
+impl Period {
+    /// The period that a text names.
+    #[tactic(auto, unfolding(crate::specs::Periods::period_of))]
+    pub fn of(text: &[u8]) -> Result<Period, DateFault>
+        ensures { result ≡ period_of text.now }
+    {
+        if has_long_count(text) {
+            return Err(DateFault::BadNumber);
+        }
+        ago(text)
+            .or_else(|| full_date(text))
+            .or_else(|| full_year(text))
+            .or_else(|| yearly_month(text))
+            .or_else(|| day_and_month(text))
+            .or_else(|| month_and_day(text))
+            .ok_or(DateFault::BadDate)
+    }
+
+    /// Its days, where today is this day and a period without a year begins by that day.
+    pub fn days(self, today: i32, by: i32) -> Option<Days>
+        requires { pos 0 ≤ℤ today }
+        ensures { result ≡ period_days_by day_number today by self }
+    {
+        match self {
+            Period::Ago { count, unit } => Some(Days::one(
+                today - i32::from(count) * i32::from(unit.days()),
+            )),
+            Period::InYear { year, days } => days.in_year(year),
+            Period::Yearly(days) => days.latest(by),
+        }
+    }
+}
+
+/// Whether it is more than four digits and then a unit.
+fn has_long_count(text: &[u8]) -> bool
+    ensures { result ≡ has_long_count text.now }
+{
+    let [digits @ .., letter] = text else {
+        return false
+    };
+    Unit::of(*letter).is_some() && digits.len() > 4 && are_digits(digits)
+}
+
+/// One to four digits, and then a unit.
+fn ago(text: &[u8]) -> Option<Period>
+    ensures { result ≡ ago text.now }
+{
+    let [digits @ .., letter] = text else {
+        return None
+    };
+    let unit = Unit::of(*letter)?;
+    let count = number_in(1, 4, digits)?;
+    Some(Period::Ago { count, unit })
+}
+
+/// `YYYYMMDD`.
+fn full_date(text: &[u8]) -> Option<Period>
+    ensures { result ≡ full_date text.now }
+{
+    if text.len() != 8 {
+        return None;
+    }
+    full_date_of(
+        number_in(4, 4, &text[..4]),
+        number_in(2, 2, &text[4..6]),
+        number_in(2, 2, &text[6..]),
+    )
+}
+
+fn full_date_of(year: Option<u16>, month: Option<u16>, day: Option<u16>) -> Option<Period>
+    requires year { IfSome year (λ year. year ≤ 9999) }
+    requires month { IfSome month (λ month. month ≤ 99) }
+    requires day { IfSome day (λ day. day ≤ 99) }
+    ensures { result ≡ full_date_of year month day }
+{
+    let year = year? as i16;
+    let month = month? as u8;
+    let day = day? as u8;
+    Some(Period::InYear {
+        year,
+        days: DaysOfYear::Day { month, day },
+    })
+}
+
+/// `YYYY`.
+fn full_year(text: &[u8]) -> Option<Period>
+    ensures { result ≡ full_year text.now }
+{
+    let year = number_in(4, 4, text)?;
+    Some(Period::InYear {
+        year: year as i16,
+        days: DaysOfYear::All,
+    })
+}
+
+/// A month's name.
+fn yearly_month(text: &[u8]) -> Option<Period>
+    ensures { result ≡ yearly_month text.now }
+{
+    let month = month_of(text)?;
+    Some(Period::Yearly(DaysOfYear::Month(month)))
+}
+
+/// A day and a month's name.
+fn day_and_month(text: &[u8]) -> Option<Period>
+    ensures { result ≡ day_and_month text.now }
+{
+    let (day, month) = text.split_at(text.len().saturating_sub(3));
+    yearly_day(month_of(month), day_of(day))
+}
+
+/// A month's name and a day.
+fn month_and_day(text: &[u8]) -> Option<Period>
+    ensures { result ≡ month_and_day text.now }
+{
+    let (month, day) = text.split_at(text.len().min(3));
+    yearly_day(month_of(month), day_of(day))
+}
+
+fn yearly_day(month: Option<u8>, day: Option<u8>) -> Option<Period>
+    ensures { result ≡ yearly_day month day }
+{
+    let month = month?;
+    let day = day?;
+    Some(Period::Yearly(DaysOfYear::Day { month, day }))
+}
+
+/// One or two digits from 1 to 31, without a 0 before others.
+fn day_of(text: &[u8]) -> Option<u8>
+    ensures { result ≡ day_of text.now }
+{
+    let [first, ..] = text else { return None };
+    let day = number_in(1, 2, text)?;
+    if *first != b'0' && day <= 31 {
+        Some(day as u8)
+    } else {
+        None
+    }
+}

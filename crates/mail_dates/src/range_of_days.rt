@@ -1,0 +1,124 @@
+//! Ranges of days, as in `2w-`, `oct` or `21apr-mar`.
+
+ghost use Rattle.std.specs.Prelude.{◌≡◌, ◌≤ℤ◌, pos, Ok, Err};
+ghost use Rattle.mail_dates.specs.Calendar.{day_number, start_of_day, end_of_day};
+ghost use Rattle.mail_dates.specs.Ranges.{named_days_by, end_by, start_by, range_between_by, range_of_period_by, range_of_days, range_at};
+
+use crate::days::Days;
+use crate::fault::DateFault;
+use crate::moment::Moment;
+use crate::period::Period;
+use crate::range::Range;
+use crate::text::cut;
+
+/// The range that the text names at this moment: a period, or a start and an end with a `-` between them, of which one may
+/// be empty. Days are those of UTC.
+///
+/// A period is `N` and `d`, `w`, `m` or `y` (one to four digits: the one day so many days, weeks, months of 30 days or years
+/// of 365 days before today), `YYYYMMDD`, `YYYY`, a month (`jan` to `dec`), or a day and a month in either order, letters
+/// in either case. An end or a period without a year is the latest that has begun today, a start the latest that has begun
+/// by the end's last day; none is cut to today. An empty start is no bound, an empty end is this moment.
+///
+/// The error is `BadNumber` where a start, an end or a period is more than four digits and then such a letter, and
+/// `BadDate` at anything else. The end is read first, and its fault goes first.
+pub fn range_of(spec: &str, now: Moment) -> Result<Range, DateFault>
+    ensures { result ≡ range_at spec.now now }
+{
+    let text = spec.as_bytes();
+    match cut(text, b'-') {
+        None => range_of_period(now, text),
+        Some((start, end)) => match cut(end, b'-') {
+            None => range_between(now, start, end),
+            Some(_) => Err(DateFault::BadDate),
+        },
+    }
+}
+
+fn range_of_period(now: Moment, text: &[u8]) -> Result<Range, DateFault>
+    ensures { result ≡ range_of_period_by day_number now text.now }
+{
+    let today = now.day();
+    let days = named_days(today, today, text)?;
+    Ok(range_of_days(days))
+}
+
+/// All seconds of these days.
+pub fn range_of_days(days: Days) -> Range
+    ensures { result ≡ range_of_days days }
+{
+    Range {
+        from: Some(start_of_day(days.first)),
+        until: Some(end_of_day(days.last)),
+    }
+}
+
+/// The first second of a day.
+pub fn start_of_day(day: i32) -> i64
+    ensures { result ≡ start_of_day day }
+{
+    i64::from(day) * 86_400
+}
+
+/// The last second of a day.
+pub fn end_of_day(day: i32) -> i64
+    ensures { result ≡ end_of_day day }
+{
+    i64::from(day) * 86_400 + 86_399
+}
+
+/// An end: its last day, and its last second.
+#[derive(Clone, Copy)]
+struct End {
+    day: i32,
+    second: i64,
+}
+
+fn range_between(now: Moment, start: &[u8], end: &[u8]) -> Result<Range, DateFault>
+    ensures { result ≡ range_between_by day_number now start.now end.now }
+{
+    if start.is_empty() && end.is_empty() {
+        return Err(DateFault::BadDate);
+    }
+    let end = end_at(now, end)?;
+    let from = start_at(now, end.day, start)?;
+    Ok(Range {
+        from,
+        until: Some(end.second),
+    })
+}
+
+fn end_at(now: Moment, text: &[u8]) -> Result<End, DateFault>
+    ensures { result ≡ end_by day_number now text.now }
+{
+    let today = now.day();
+    if text.is_empty() {
+        return Ok(End {
+            day: today,
+            second: now.second(),
+        });
+    }
+    let days = named_days(today, today, text)?;
+    Ok(End {
+        day: days.last,
+        second: end_of_day(days.last),
+    })
+}
+
+fn start_at(now: Moment, end: i32, text: &[u8]) -> Result<Option<i64>, DateFault>
+    ensures { result ≡ start_by day_number now end text.now }
+{
+    if text.is_empty() {
+        return Ok(None);
+    }
+    let days = named_days(now.day(), end, text)?;
+    Ok(Some(start_of_day(days.first)))
+}
+
+/// The days that a text names, where one without a year begins by this day.
+fn named_days(today: i32, by: i32, text: &[u8]) -> Result<Days, DateFault>
+    requires { pos 0 ≤ℤ today }
+    ensures { result ≡ named_days_by day_number today by text.now }
+{
+    let period = Period::of(text)?;
+    period.days(today, by).ok_or(DateFault::BadDate)
+}

@@ -1,0 +1,39 @@
+//! Times of day.
+
+ghost use Rattle.std.specs.Prelude.{◌≡◌, ◌≤◌, IfSome};
+ghost use Rattle.mail_dates.specs.HeaderDates.{second_of_day, time_by, time_of};
+
+use crate::number::number_in;
+use crate::text::cut;
+
+/// The second of the day that `h:mm`, `hh:mm`, `h:mm:ss` or `hh:mm:ss` says: 86,400 at 23:59:60.
+pub fn time_of(token: &[u8]) -> Option<u32>
+    ensures { result ≡ time_of token.now }
+{
+    let (hour, rest) = cut(token, b':')?;
+    match cut(rest, b':') {
+        None => time_by(hour, rest, Some(0)),
+        Some((minute, second)) => match cut(second, b':') {
+            None => time_by(hour, minute, number_in(2, 2, second)),
+            Some(_) => None,
+        },
+    }
+}
+
+fn time_by(hour: &[u8], minute: &[u8], second: Option<u16>) -> Option<u32>
+    ensures { result ≡ time_by hour.now minute.now second }
+{
+    let hour = number_in(1, 2, hour)?;
+    let minute = number_in(2, 2, minute)?;
+    second_of_day(hour, minute, second?)
+}
+
+fn second_of_day(hour: u16, minute: u16, second: u16) -> Option<u32>
+    ensures { result ≡ second_of_day hour minute second }
+{
+    if hour <= 23 && minute <= 59 && second <= 60 {
+        Some(u32::from(hour) * 3600 + u32::from(minute) * 60 + u32::from(second))
+    } else {
+        None
+    }
+}

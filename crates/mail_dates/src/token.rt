@@ -1,0 +1,59 @@
+//! Tokens of a header field.
+
+ghost use Rattle.std.specs.Prelude.{◌≡◌, ◌<◌, [], ◌∷◌, length, position, MatchOption, IfSome};
+ghost use Rattle.std.specs.List.{list_all, slice_split};
+ghost use Rattle.std.specs.Char.{is_ascii_alphabetic};
+ghost use Rattle.mail_dates.specs.HeaderDates.{is_gap, tokens, without_comments};
+
+use crate::text::place_of;
+
+/// What stands before the first comment.
+pub fn without_comments(text: &[u8]) -> &[u8]
+    ensures { result.now ≡ without_comments text.now }
+{
+    match place_of(text, b'(') {
+        Some(at) => &text[..at],
+        None => text,
+    }
+}
+
+/// The first token, and what stands behind it.
+pub fn next_token(text: &[u8]) -> Option<(&[u8], &[u8])>
+    ensures { MatchOption result (tokens text.now ≡ []) (λ parts. tokens text.now ≡ parts.0.now ∷ tokens parts.1.now) }
+{
+    let mut rest = text;
+    while let Some((front, back)) = cut_at_gap(rest) {
+        if !front.is_empty() {
+            return Some((front, back));
+        }
+        rest = back;
+    }
+    if rest.is_empty() {
+        None
+    } else {
+        Some((rest, b""))
+    }
+}
+
+/// Whether it is ASCII letters alone.
+pub fn are_letters(token: &[u8]) -> bool
+    ensures { result ≡ list_all is_ascii_alphabetic token.now }
+{
+    token.iter().all(|byte| byte.is_ascii_alphabetic())
+}
+
+fn cut_at_gap(text: &[u8]) -> Option<(&[u8], &[u8])>
+    ensures shorter { IfSome result (λ parts. length parts.1.now < length text.now) }
+    ensures parts { MatchOption result (slice_split is_gap text.now ≡ text.now ∷ []) (λ parts. slice_split is_gap text.now ≡ parts.0.now ∷ slice_split is_gap parts.1.now) }
+{
+    match place_of_gap(text) {
+        Some(at) => Some((&text[..at], &text[at + 1..])),
+        None => None,
+    }
+}
+
+fn place_of_gap(text: &[u8]) -> Option<usize>
+    ensures { result ≡ position is_gap text.now }
+{
+    text.iter().position(|b| matches!(*b, b' ' | b'\t' | b','))
+}
