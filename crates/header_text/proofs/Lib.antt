@@ -5,3 +5,6 @@ mod PushLemmas
 mod CutLemmas
 mod UnfoldLemmas
 mod IdLemmas
+mod CharsetLemmas
+mod LossyBytes
+mod CharacterLemmas

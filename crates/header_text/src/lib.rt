@@ -8,6 +8,7 @@ mod field;
 mod field_list;
 mod header;
 mod message_id;
+mod text;
 mod unfolding;
 
 pub use charset::Charset;
@@ -15,4 +16,5 @@ pub use field::Field;
 pub use field_list::Fields;
 pub use header::{Header, Taken};
 pub use message_id::message_ids;
+pub use text::{decode, decode_into};
 pub use unfolding::{unfold, unfold_into};
