@@ -8,3 +8,4 @@ mod IdLemmas
 mod CharsetLemmas
 mod LossyBytes
 mod CharacterLemmas
+mod EscapeLemmas

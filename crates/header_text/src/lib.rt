@@ -4,6 +4,7 @@
 mod blanks;
 mod charset;
 mod cut;
+mod escape;
 mod field;
 mod field_list;
 mod header;
@@ -12,6 +13,7 @@ mod text;
 mod unfolding;
 
 pub use charset::Charset;
+pub use escape::unescape_into;
 pub use field::Field;
 pub use field_list::Fields;
 pub use header::{Header, Taken};
