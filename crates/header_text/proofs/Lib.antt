@@ -9,3 +9,4 @@ mod CharsetLemmas
 mod LossyBytes
 mod CharacterLemmas
 mod EscapeLemmas
+mod GroupLemmas

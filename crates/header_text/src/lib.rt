@@ -1,6 +1,7 @@
 //! The header of a message: its fields (RFC 5322), their encoded words (RFC 2047) and charsets, and the ids in them.
 #![tactic(auto)]
 
+mod base64_reader;
 mod blanks;
 mod charset;
 mod cut;

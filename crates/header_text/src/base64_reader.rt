@@ -1,0 +1,54 @@
+//! Base64 that comes piece by piece.
+ghost use Rattle.std.specs.Prelude.{◌≡◌, ℕ, ◌<◌, ◌≤◌, ◌+◌, ◌%◌, ◌++◌, List, [], true, length, slice_index, OnOk, IfOk};
+ghost use Rattle.header_text.specs.Base64.{base64_bytes};
+ghost use Rattle.header_text.specs.Alphabet.{is_symbol as is_symbol_of};
+
+use crate::cut::cut_at;
+use base64::engine::general_purpose::STANDARD;
+use std::alloc::AllocError;
+
+/// At most three symbols, which wait for their group's others.
+#[derive(Clone, Copy)]
+pub struct Held {
+    symbols: [u8; 4],
+    count: usize,
+    ghost few: { count < 4 },
+    ghost all: { (k : ℕ) → k < count → is_symbol_of (slice_index symbols k) ≡ true },
+}
+
+/// A letter, a digit, `+` or `/`.
+fn is_symbol(b: u8) -> bool
+    ensures { result ≡ is_symbol_of b }
+{
+    matches!(b, b'A'..=b'Z' | b'a'..=b'z' | b'0'..=b'9' | b'+' | b'/')
+}
+
+/// How many symbols stand in front, in whole groups of four.
+fn whole_groups(text: &[u8]) -> usize
+    ensures within { result ≤ length text.now }
+    ensures groups { result % 4 ≡ 0 }
+    ensures symbols { (k : ℕ) → k < result → is_symbol_of (slice_index text.now k) ≡ true }
+{
+    let count = symbols_in_front(text);
+    count - count % 4
+}
+
+/// How many symbols stand in front.
+fn symbols_in_front(text: &[u8]) -> usize
+    ensures within { result ≤ length text.now }
+    ensures symbols { (k : ℕ) → k < result → is_symbol_of (slice_index text.now k) ≡ true }
+{
+    for (i, b) in text.iter().enumerate() {
+        if !is_symbol(*b) {
+            return i;
+        }
+    }
+    text.len()
+}
+
+/// Base64 (RFC 4648, 4) whose text comes in pieces.
+#[derive(Clone, Copy)]
+pub struct Base64 {
+    held: Held,
+    ended: bool,
+}
