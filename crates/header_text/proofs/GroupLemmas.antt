@@ -2,13 +2,15 @@
 use Rattle.std.proofs.Common.{◌≡◌, ◌∙◌, ◌==◌, ◌&&◌, ◌<◌, ◌≤◌, ◌+◌, ◌-◌, ◌*◌, ◌/◌, ◌%◌, ◌++◌, ℕ, zero, suc, Bool, true, false, nat_lt, List, [], ◌∷◌, Option, Some, None, length, slice_index, slice_set, take, drop, map, refl, sym, ap, ap₂, subst, arith, length-append, append_assoc, append-nil}
 use Rattle.std.specs.Prelude.{if◌then◌else◌, not, Ok, Result, is_none}
 use Rattle.std.specs.List.{filter_map}
-use Rattle.std.proofs.lemmas.Bool.{and_parts, eqb-true, not-true}
+use Rattle.std.proofs.lemmas.Bool.{and_parts, eqb-true, ne_eqb, not-true}
+use Rattle.std.proofs.lemmas.List.{drop_more, drop_all, take_more, map-append, length-map, length-take-le, take-append-drop, take_at, take_all}
+use Rattle.std.proofs.lemmas.Bool.Decides.{nat_tests}
 use Rattle.base64.specs.Engines.{standard}
 use Rattle.base64.specs.GeneralPurpose.{decode_slice_of, decoded_bytes_of}
 use Rattle.base64.specs.Decode.{push_leftover, no_leftover, scan, scan_last, suffix_error, suffix_bytes, leftover_error, leftover_bytes, decode_group, decoded_bytes, or_error, bytes_fit, or_else, groups_error, groups_bytes, group_error, group_bytes, groups_before_last, lone_error, symbol_error}
 use Rattle.base64.specs.declared.decode.DecodeError.{DecodeError}
 use Rattle.base64.specs.declared.engine.DecodePaddingMode.TheVariants.{RequireCanonical}
-use Rattle.base64.proofs.Decoding.{scan-cons_ok, scan-nil, suffix_error_of, suffix_bytes_of}
+use Rattle.base64.proofs.Decoding.{length-groups_bytes, scan-cons_ok, scan-nil, suffix_error_of, suffix_bytes_of}
 use Rattle.base64.proofs.OnLiterals.{base64_on_literals}
 use Rattle.base64.specs.Tables.{all_below}
 use Rattle.base64.proofs.Tables.{all_below_at}
@@ -64,3 +66,150 @@ sextet-other b lt no_symbol = none (sextet b) (if_not_parts (is_symbol b) (not (
     none : (o : Option ℕ) → is_none o ≡ true → o ≡ None
     none None h = refl
     none (Some n) h = absurd (cc)
+
+-- ---- groups joined
+
+pub bytes_of_sextets-append : (k : ℕ) (xs ys : List ℕ) → length xs ≡ 4 * k → bytes_of_sextets (xs ++ ys) ≡ bytes_of_sextets xs ++ bytes_of_sextets ys
+unfolding bytes_of_sextets
+bytes_of_sextets-append zero [] ys e = refl
+bytes_of_sextets-append zero (a ∷ xs) ys e = absurd (omega arith)
+bytes_of_sextets-append (suc k) [] ys e = absurd (omega arith)
+bytes_of_sextets-append (suc k) (a ∷ []) ys e = absurd (omega arith)
+bytes_of_sextets-append (suc k) (a ∷ b ∷ []) ys e = absurd (omega arith)
+bytes_of_sextets-append (suc k) (a ∷ b ∷ c ∷ []) ys e = absurd (omega arith)
+bytes_of_sextets-append (suc k) (a ∷ b ∷ c ∷ d ∷ xs) ys e =
+    ap (λ (l : List ℕ). decode_group a b c d ++ l) (bytes_of_sextets-append k xs ys (omega arith)) ∙ sym (append_assoc (decode_group a b c d) (bytes_of_sextets xs) (bytes_of_sextets ys))
+
+one_group : (a b c d : ℕ) → bytes_of_sextets (a ∷ b ∷ c ∷ d ∷ []) ≡ decode_group a b c d
+unfolding bytes_of_sextets
+one_group a b c d = append-nil (decode_group a b c d)
+
+-- ---- what the decoder answers for symbols in whole groups
+
+-- all are symbols
+abbrev pub AreSymbols : List ℕ → Type 0
+AreSymbols s = (k : ℕ) → k < length s → is_symbol (slice_index s k) ≡ true
+
+abbrev pub AreBytes : List ℕ → Type 0
+AreBytes s = (k : ℕ) → slice_index s k < 256
+
+pub sextets-symbols : (s : List ℕ) → AreSymbols s → AreBytes s → filter_map sextet s ≡ map value s
+sextets-symbols [] h b = refl
+sextets-symbols (x ∷ s) h b =
+    let is = (symbol x (b 0) (h 0 (omega arith))).sextet_is in
+    rw is (ap (λ (l : List ℕ). value x ∷ l) (sextets-symbols s (λ k lt. h (suc k) (omega arith)) (λ k. b (suc k))))
+
+module _ (s : List ℕ) (h : AreSymbols s) (bytes : AreBytes s) where
+  at : (i : ℕ) → i < length s → IsSymbol (slice_index s i)
+  at i lt = symbol (slice_index s i) (bytes i) (h i lt)
+
+  symbol_error-none : (i : ℕ) → i < length s → symbol_error dec s i ≡ None
+  symbol_error-none i lt = rw (at i lt).valued refl
+
+  group_error-none : (i : ℕ) → i + 3 < length s → group_error dec s i ≡ None
+  group_error-none i lt =
+      rw (symbol_error-none i (omega arith), symbol_error-none (i + 1) (omega arith), symbol_error-none (i + 2) (omega arith), symbol_error-none (i + 3) (omega arith)) refl
+
+  groups_error-none : (j : ℕ) → 4 * j ≤ length s → groups_error dec s j ≡ None
+  unfolding groups_error
+  groups_error-none zero le = refl
+  groups_error-none (suc j) le = rw (groups_error-none j (omega arith), group_error-none (4 * j) (omega arith)) refl
+
+  four : (i : ℕ) → i + 3 < length s → drop i s ≡ slice_index s i ∷ slice_index s (i + 1) ∷ slice_index s (i + 2) ∷ slice_index s (i + 3) ∷ drop (i + 4) s
+  four i lt =
+      let e : i + 1 + 1 ≡ i + 2 = omega arith in
+      let f : i + 2 + 1 ≡ i + 3 = omega arith in
+      let g : i + 3 + 1 ≡ i + 4 = omega arith in
+      let a = drop_more s i 0 (omega arith) in
+      let b : drop (i + 1) s ≡ slice_index s (i + 1) ∷ drop (i + 2) s = rw (← e) (drop_more s (i + 1) 0 (omega arith)) in
+      let c : drop (i + 2) s ≡ slice_index s (i + 2) ∷ drop (i + 3) s = rw (← f) (drop_more s (i + 2) 0 (omega arith)) in
+      let d : drop (i + 3) s ≡ slice_index s (i + 3) ∷ drop (i + 4) s = rw (← g) (drop_more s (i + 3) 0 (omega arith)) in
+      a ∙ ap (λ (l : List ℕ). slice_index s i ∷ l) (b ∙ ap (λ (l : List ℕ). slice_index s (i + 1) ∷ l) (c ∙ ap (λ (l : List ℕ). slice_index s (i + 2) ∷ l) d))
+
+  -- one group more
+  taken_group : (j : ℕ) → 4 * suc j ≤ length s
+      → take (4 * suc j) s ≡ take (4 * j) s ++ slice_index s (4 * j) ∷ slice_index s (4 * j + 1) ∷ slice_index s (4 * j + 2) ∷ slice_index s (4 * j + 3) ∷ []
+  taken_group j le =
+      let i = 4 * j in
+      let group : List ℕ = slice_index s i ∷ slice_index s (i + 1) ∷ slice_index s (i + 2) ∷ slice_index s (i + 3) ∷ [] in
+      let front : length (take i s) ≡ i = length-take-le i s (omega arith) in
+      let size : length (take i s ++ group) ≡ 4 * suc j = omega (arith, length-append (take i s) group, front) in
+      let split : s ≡ (take i s ++ group) ++ drop (i + 4) s =
+      sym (take-append-drop i s) ∙ ap (λ (l : List ℕ). take i s ++ l) (four i (omega arith)) ∙ sym (append_assoc (take i s) group (drop (i + 4) s)) in
+      ap (λ (l : List ℕ). take (4 * suc j) l) split ∙ take_at (take i s ++ group) (drop (i + 4) s) (4 * suc j) size
+
+  -- the bytes of the groups, one after another
+  groups_bytes-sextets : (j : ℕ) → 4 * j ≤ length s → groups_bytes dec s j ≡ bytes_of_sextets (map value (take (4 * j) s))
+  unfolding groups_bytes bytes_of_sextets
+  groups_bytes-sextets zero le = refl
+  groups_bytes-sextets (suc j) le =
+      let i = 4 * j in
+      let group : List ℕ = slice_index s i ∷ slice_index s (i + 1) ∷ slice_index s (i + 2) ∷ slice_index s (i + 3) ∷ [] in
+      let sum : 4 * suc j ≡ i + 4 = omega arith in
+      let taken : take (4 * suc j) s ≡ take i s ++ group = taken_group j le in
+      let size : length (map value (take i s)) ≡ 4 * j = length-map (take i s) value ∙ length-take-le i s (omega arith) in
+      ap (λ (l : List ℕ). l ++ group_bytes dec s i) (groups_bytes-sextets j (omega arith))
+      ∙ ap (λ (l : List ℕ). bytes_of_sextets (map value (take i s)) ++ l) (sym (one_group (value (slice_index s i)) (value (slice_index s (i + 1))) (value (slice_index s (i + 2))) (value (slice_index s (i + 3)))))
+      ∙ sym (bytes_of_sextets-append j (map value (take i s)) (map value group) size)
+      ∙ ap bytes_of_sextets (sym (map-append value (take i s) group)) ∙ ap (λ (l : List ℕ). bytes_of_sextets (map value l)) (sym taken)
+
+  -- the last group
+  last_group : (i : ℕ) → i + 4 ≡ length s → (suffix_error dec 61 false RequireCanonical i s ≡ None) × (suffix_bytes dec 61 i s ≡ group_bytes dec s i)
+  last_group i e =
+      let a = slice_index s i in
+      let b = slice_index s (i + 1) in
+      let c = slice_index s (i + 2) in
+      let d = slice_index s (i + 3) in
+      let fa = at i (omega arith) in
+      let fb = at (i + 1) (omega arith) in
+      let fc = at (i + 2) (omega arith) in
+      let fd = at (i + 3) (omega arith) in
+      let st1 = record no_leftover { morsels = value a ∷ 0 ∷ 0 ∷ 0 ∷ []; morsels_count = 1; last_symbol = a; last_symbol_value = value a } in
+      let st2 = record no_leftover { morsels = value a ∷ value b ∷ 0 ∷ 0 ∷ []; morsels_count = 2; last_symbol = b; last_symbol_value = value b } in
+      let st3 = record no_leftover { morsels = value a ∷ value b ∷ value c ∷ 0 ∷ []; morsels_count = 3; last_symbol = c; last_symbol_value = value c } in
+      let st4 = record no_leftover { morsels = value a ∷ value b ∷ value c ∷ value d ∷ []; morsels_count = 4; last_symbol = d; last_symbol_value = value d } in
+      let push1 : push_leftover dec 61 i no_leftover 0 a ≡ Ok st1 = rw (fa.padding, fa.valued) refl in
+      let push2 : push_leftover dec 61 i st1 1 b ≡ Ok st2 = rw (fb.padding, fb.valued) refl in
+      let push3 : push_leftover dec 61 i st2 2 c ≡ Ok st3 = rw (fc.padding, fc.valued) refl in
+      let push4 : push_leftover dec 61 i st3 3 d ≡ Ok st4 = rw (fd.padding, fd.valued) refl in
+      let rest : drop i s ≡ a ∷ b ∷ c ∷ d ∷ [] = four i (omega arith) ∙ ap (λ (l : List ℕ). a ∷ b ∷ c ∷ d ∷ l) (drop_all (i + 4) s (omega arith)) in
+      let scanned : scan_last dec 61 i s ≡ Ok st4 =
+      ap (λ (l : List ℕ). scan dec 61 i no_leftover 0 l) rest
+      ∙ scan-cons_ok dec 61 i no_leftover 0 a (b ∷ c ∷ d ∷ []) st1 push1
+      ∙ scan-cons_ok dec 61 i st1 1 b (c ∷ d ∷ []) st2 push2
+      ∙ scan-cons_ok dec 61 i st2 2 c (d ∷ []) st3 push3
+      ∙ scan-cons_ok dec 61 i st3 3 d [] st4 push4
+      ∙ scan-nil dec 61 i st4 4 in
+      let some : (length s == 0) ≡ false = ne_eqb (length s) 0 (λ z. absurd (omega arith)) in
+      (suffix_error_of dec s 61 i false RequireCanonical st4 scanned ∙ rw some refl, suffix_bytes_of dec s 61 i st4 scanned)
+
+  groups_bytes-suc : (j : ℕ) → groups_bytes dec s (suc j) ≡ groups_bytes dec s j ++ group_bytes dec s (4 * j)
+  unfolding groups_bytes
+  groups_bytes-suc j = refl
+
+  -- the whole
+  abbrev pub out : List ℕ
+  out = bytes_of_sextets (filter_map sextet s)
+
+  pub decoded_is : (m : ℕ) → length s ≡ 4 * suc m → decoded_bytes_of standard s ≡ out
+  decoded_is m e =
+      let last : groups_before_last (length s) ≡ m = omega arith in
+      let ends = last_group (4 * m) (omega arith) in
+      rw last (ap (λ (l : List ℕ). groups_bytes dec s m ++ l) ends.1) ∙ sym (groups_bytes-suc m) ∙ groups_bytes-sextets (suc m) (omega arith)
+      ∙ ap (λ (l : List ℕ). bytes_of_sextets (map value l)) (take_all (4 * suc m) s (omega arith)) ∙ ap bytes_of_sextets (sym (sextets-symbols s h bytes))
+
+  pub length-decoded : (m : ℕ) → length s ≡ 4 * suc m → length (decoded_bytes_of standard s) ≡ 3 * suc m
+  length-decoded m e =
+      let last : groups_before_last (length s) ≡ m = omega arith in
+      let ends = last_group (4 * m) (omega arith) in
+      rw last (ap length (ap (λ (l : List ℕ). groups_bytes dec s m ++ l) ends.1 ∙ sym (groups_bytes-suc m)) ∙ length-groups_bytes dec s (suc m))
+
+  pub decode_slice_is : (m : ℕ) → length s ≡ 4 * suc m → decode_slice_of standard s (3 * suc m) ≡ Ok (3 * suc m)
+  decode_slice_is m e =
+      let last : groups_before_last (length s) ≡ m = omega arith in
+      let ends = last_group (4 * m) (omega arith) in
+      let lone : (length s % 4 == 1) ≡ false = ne_eqb (length s % 4) 1 (λ one. absurd (omega arith)) in
+      let room : nat_lt (3 * suc m / 3) m ≡ false = grind (arith, nat_tests) in
+      let fits : nat_lt (3 * suc m) (3 * suc m) ≡ false = grind (arith, nat_tests) in
+      let len : length (decoded_bytes_of standard s) ≡ 3 * suc m = length-decoded m e in
+      rw (len, lone, last, room, groups_error-none m (omega arith), ends.0, fits) refl

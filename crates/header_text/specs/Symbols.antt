@@ -1,14 +1,10 @@
 -- Symbols that a reader of base64 holds, and what is still to come of its text.
-use Rattle.std.specs.Prelude.{ℕ, Bool, ◌&&◌, ◌||◌, ◌==◌, nat_le, List, ◌++◌, take, if◌then◌else◌}
-use Rattle.std.specs.List.{filter_map}
-use Rattle.header_text.specs.Base64.{sextet, bytes_of_sextets, base64_bytes}
+use Rattle.std.specs.Prelude.{ℕ, List, ◌++◌, take, if◌then◌else◌}
+use Rattle.header_text.specs.Base64.{bytes_of_symbols, base64_bytes}
 use Rattle.header_text.specs.declared.base64_reader.Held.{Held}
 use Rattle.header_text.specs.declared.base64_reader.Base64.{Base64}
 
--- the bytes of a text without `=`
-abbrev pub bytes_of_symbols : List ℕ → List ℕ
-bytes_of_symbols text = bytes_of_sextets (filter_map sextet text)
-
+-- the symbols that are held
 abbrev pub symbols_of : Held → List ℕ
 symbols_of held = take held.count held.symbols
 

@@ -1,6 +1,6 @@
 //! Base64 that comes piece by piece.
 ghost use Rattle.std.specs.Prelude.{◌≡◌, ℕ, ◌<◌, ◌≤◌, ◌+◌, ◌%◌, ◌++◌, List, [], true, length, slice_index, OnOk, IfOk};
-ghost use Rattle.header_text.specs.Base64.{base64_bytes};
+ghost use Rattle.header_text.specs.Base64.{bytes_of_symbols};
 ghost use Rattle.header_text.specs.Alphabet.{is_symbol as is_symbol_of};
 
 use crate::cut::cut_at;
@@ -51,4 +51,17 @@ fn symbols_in_front(text: &[u8]) -> usize
 pub struct Base64 {
     held: Held,
     ended: bool,
+}
+
+/// Adds the bytes of symbols in whole groups of four, in one call of the decoder.
+fn decode_groups(symbols: &[u8], into: &mut Vec<u8>) -> Result<(), AllocError>
+    requires some { 0 < length symbols.now }
+    requires groups { length symbols.now % 4 ≡ 0 }
+    requires symbols { (k : ℕ) → k < length symbols.now → is_symbol_of (slice_index symbols.now k) ≡ true }
+    ensures { OnOk result (into.new.items ≡ into.old.items ++ bytes_of_symbols symbols.now) }
+{
+    let start = into.len();
+    into.resize(start + symbols.len() / 4 * 3, 0)?;
+    let _ = STANDARD.decode_slice(symbols, &mut into[start..]);
+    Ok(())
 }
