@@ -1,14 +1,14 @@
 -- Whole groups of base64, as the decoder reads them.
 use Rattle.std.proofs.Common.{◌≡◌, ◌∙◌, ◌==◌, ◌&&◌, ◌<◌, ◌≤◌, ◌+◌, ◌-◌, ◌*◌, ◌/◌, ◌%◌, ◌++◌, ℕ, zero, suc, Bool, true, false, nat_lt, List, [], ◌∷◌, Option, Some, None, length, slice_index, slice_set, take, drop, map, refl, sym, ap, ap₂, subst, arith, length-append, append_assoc, append-nil}
-use Rattle.std.specs.Prelude.{if◌then◌else◌, not, Ok, Result, is_none}
+use Rattle.std.specs.Prelude.{if◌then◌else◌, not, Ok, Result, OnOk, is_none}
 use Rattle.std.specs.List.{filter_map}
 use Rattle.std.proofs.lemmas.Bool.{and_parts, eqb-true, ne_eqb, not-true}
 use Rattle.std.proofs.lemmas.List.{drop_more, drop_all, take_more, map-append, length-map, length-take-le, take-append-drop, take_at, take_all}
 use Rattle.std.proofs.lemmas.Bool.Decides.{nat_tests}
 use Rattle.base64.specs.Engines.{standard}
 use Rattle.base64.specs.GeneralPurpose.{decode_slice_of, decoded_bytes_of}
-use Rattle.base64.specs.Decode.{push_leftover, no_leftover, scan, scan_last, suffix_error, suffix_bytes, leftover_error, leftover_bytes, decode_group, decoded_bytes, or_error, bytes_fit, or_else, groups_error, groups_bytes, group_error, group_bytes, groups_before_last, lone_error, symbol_error}
-use Rattle.base64.specs.declared.decode.DecodeError.{DecodeError}
+use Rattle.base64.specs.Decode.{IsWrittenOver, push_leftover, no_leftover, scan, scan_last, suffix_error, suffix_bytes, leftover_error, leftover_bytes, decode_group, decoded_bytes, or_error, bytes_fit, or_else, groups_error, groups_bytes, group_error, group_bytes, groups_before_last, lone_error, symbol_error}
+use Rattle.base64.specs.declared.decode.DecodeSliceError.{DecodeSliceError}
 use Rattle.base64.specs.declared.engine.DecodePaddingMode.TheVariants.{RequireCanonical}
 use Rattle.base64.proofs.Decoding.{length-groups_bytes, scan-cons_ok, scan-nil, suffix_error_of, suffix_bytes_of}
 use Rattle.base64.proofs.OnLiterals.{base64_on_literals}
@@ -213,3 +213,16 @@ module _ (s : List ℕ) (h : AreSymbols s) (bytes : AreBytes s) where
       let fits : nat_lt (3 * suc m) (3 * suc m) ≡ false = grind (arith, nat_tests) in
       let len : length (decoded_bytes_of standard s) ≡ 3 * suc m = length-decoded m e in
       rw (len, lone, last, room, groups_error-none m (omega arith), ends.0, fits) refl
+
+-- what the decoder has written into a slice of the right length
+pub decoded-into : (s back new : List ℕ) (r : Result ℕ DecodeSliceError) → AreSymbols s → AreBytes s → 0 < length s → length s % 4 ≡ 0 → length back ≡ length s / 4 * 3
+    → r ≡ decode_slice_of standard s (length back) → OnOk r (IsWrittenOver (decoded_bytes_of standard s) back new) → new ≡ bytes_of_sextets (filter_map sextet s)
+decoded-into s back new r h bytes some whole room e written =
+    let m : ℕ = length s / 4 - 1 in
+    let size : length s ≡ 4 * suc m = omega arith in
+    let three : length back ≡ 3 * suc m = omega arith in
+    let ok : r ≡ Ok (3 * suc m) = e ∙ ap (λ (n : ℕ). decode_slice_of standard s n) three ∙ decode_slice_is s h bytes m size in
+    let over : new ≡ decoded_bytes_of standard s ++ drop (length (decoded_bytes_of standard s)) back =
+    subst (λ (q : Result ℕ DecodeSliceError). OnOk q (IsWrittenOver (decoded_bytes_of standard s) back new)) ok written in
+    let none : drop (length (decoded_bytes_of standard s)) back ≡ [] = drop_all (length (decoded_bytes_of standard s)) back (omega (arith, length-decoded s h bytes m size)) in
+    over ∙ ap (λ (l : List ℕ). decoded_bytes_of standard s ++ l) none ∙ append-nil (decoded_bytes_of standard s) ∙ decoded_is s h bytes m size

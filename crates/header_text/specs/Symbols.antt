@@ -1,7 +1,7 @@
 -- Symbols that a reader of base64 holds, and what is still to come of its text.
 use Rattle.std.specs.Prelude.{ℕ, List, ◌++◌, take, if◌then◌else◌}
 use Rattle.header_text.specs.Base64.{bytes_of_symbols, base64_bytes}
-use Rattle.header_text.specs.declared.base64_reader.Held.{Held}
+use Rattle.header_text.specs.declared.base64_groups.Held.{Held}
 use Rattle.header_text.specs.declared.base64_reader.Base64.{Base64}
 
 -- the symbols that are held

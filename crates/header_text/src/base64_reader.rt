@@ -1,50 +1,12 @@
 //! Base64 that comes piece by piece.
-ghost use Rattle.std.specs.Prelude.{◌≡◌, ℕ, ◌<◌, ◌≤◌, ◌+◌, ◌%◌, ◌++◌, List, [], true, length, slice_index, OnOk, IfOk};
-ghost use Rattle.header_text.specs.Base64.{bytes_of_symbols};
+ghost use Rattle.std.specs.Prelude.{◌≡◌, ℕ, ◌∷◌, ◌++◌, List, true, IfOk, OnOk};
+ghost use Rattle.header_text.specs.Base64.{bytes_of_symbols, base64_bytes};
 ghost use Rattle.header_text.specs.Alphabet.{is_symbol as is_symbol_of};
+ghost use Rattle.header_text.specs.Symbols.{symbols_of};
 
+use crate::base64_groups::{Held, decode_groups, is_symbol, whole_groups};
 use crate::cut::cut_at;
-use base64::engine::general_purpose::STANDARD;
 use std::alloc::AllocError;
-
-/// At most three symbols, which wait for their group's others.
-#[derive(Clone, Copy)]
-pub struct Held {
-    symbols: [u8; 4],
-    count: usize,
-    ghost few: { count < 4 },
-    ghost all: { (k : ℕ) → k < count → is_symbol_of (slice_index symbols k) ≡ true },
-}
-
-/// A letter, a digit, `+` or `/`.
-fn is_symbol(b: u8) -> bool
-    ensures { result ≡ is_symbol_of b }
-{
-    matches!(b, b'A'..=b'Z' | b'a'..=b'z' | b'0'..=b'9' | b'+' | b'/')
-}
-
-/// How many symbols stand in front, in whole groups of four.
-fn whole_groups(text: &[u8]) -> usize
-    ensures within { result ≤ length text.now }
-    ensures groups { result % 4 ≡ 0 }
-    ensures symbols { (k : ℕ) → k < result → is_symbol_of (slice_index text.now k) ≡ true }
-{
-    let count = symbols_in_front(text);
-    count - count % 4
-}
-
-/// How many symbols stand in front.
-fn symbols_in_front(text: &[u8]) -> usize
-    ensures within { result ≤ length text.now }
-    ensures symbols { (k : ℕ) → k < result → is_symbol_of (slice_index text.now k) ≡ true }
-{
-    for (i, b) in text.iter().enumerate() {
-        if !is_symbol(*b) {
-            return i;
-        }
-    }
-    text.len()
-}
 
 /// Base64 (RFC 4648, 4) whose text comes in pieces.
 #[derive(Clone, Copy)]
@@ -53,15 +15,44 @@ pub struct Base64 {
     ended: bool,
 }
 
-/// Adds the bytes of symbols in whole groups of four, in one call of the decoder.
-fn decode_groups(symbols: &[u8], into: &mut Vec<u8>) -> Result<(), AllocError>
-    requires some { 0 < length symbols.now }
-    requires groups { length symbols.now % 4 ≡ 0 }
-    requires symbols { (k : ℕ) → k < length symbols.now → is_symbol_of (slice_index symbols.now k) ≡ true }
-    ensures { OnOk result (into.new.items ≡ into.old.items ++ bytes_of_symbols symbols.now) }
+/// Holds one symbol more, or decodes its group.
+fn hold(held: Held, symbol: u8, into: &mut Vec<u8>) -> Result<Held, AllocError>
+    requires { is_symbol_of symbol ≡ true }
+    ensures { IfOk result (λ after. (later : List ℕ) → into.new.items ++ bytes_of_symbols (symbols_of after ++ later) ≡ into.old.items ++ bytes_of_symbols (symbols_of held ++ symbol ∷ later)) }
 {
-    let start = into.len();
-    into.resize(start + symbols.len() / 4 * 3, 0)?;
-    let _ = STANDARD.decode_slice(symbols, &mut into[start..]);
-    Ok(())
+    let mut symbols = held.symbols;
+    symbols[held.count] = symbol;
+    if held.count < 3 {
+        return Ok(Held {
+            symbols,
+            count: held.count + 1,
+        });
+    }
+    decode_groups(&symbols, into)?;
+    Ok(Held { symbols, count: 0 })
+}
+
+/// Decodes a text without `=` behind the symbols that are held.
+fn decode_text(held: Held, text: &[u8], into: &mut Vec<u8>) -> Result<Held, AllocError>
+    ensures { IfOk result (λ after. (later : List ℕ) → into.new.items ++ bytes_of_symbols (symbols_of after ++ later) ≡ into.old.items ++ bytes_of_symbols (symbols_of held ++ (text.now ++ later))) }
+{
+    let mut held = held;
+    let mut rest = text;
+    while let Some((first, others)) = rest.split_first() {
+        let count = if held.count == 0 {
+            whole_groups(rest)
+        } else {
+            0
+        };
+        if count > 0 {
+            decode_groups(&rest[..count], into)?;
+            rest = &rest[count..];
+        } else {
+            if is_symbol(*first) {
+                held = hold(held, *first, into)?;
+            }
+            rest = others;
+        }
+    }
+    Ok(held)
 }

@@ -1,6 +1,7 @@
 //! The header of a message: its fields (RFC 5322), their encoded words (RFC 2047) and charsets, and the ids in them.
 #![tactic(auto)]
 
+mod base64_groups;
 mod base64_reader;
 mod blanks;
 mod charset;
@@ -13,6 +14,7 @@ mod message_id;
 mod text;
 mod unfolding;
 
+pub use base64_reader::Base64;
 pub use charset::Charset;
 pub use escape::unescape_into;
 pub use field::Field;
