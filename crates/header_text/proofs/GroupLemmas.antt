@@ -1,9 +1,10 @@
 -- Whole groups of base64, as the decoder reads them.
-use Rattle.std.proofs.Common.{◌≡◌, ◌∙◌, ◌==◌, ◌&&◌, ◌<◌, ◌≤◌, ◌+◌, ◌-◌, ◌*◌, ◌/◌, ◌%◌, ◌++◌, ℕ, zero, suc, Bool, true, false, nat_lt, List, [], ◌∷◌, Option, Some, None, length, slice_index, slice_set, take, drop, map, refl, sym, ap, ap₂, subst, arith, length-append, append_assoc, append-nil}
+use Rattle.std.proofs.Common.{◌≡◌, ◌∙◌, ◌==◌, ◌&&◌, ◌<◌, ◌≤◌, ◌+◌, ◌-◌, ◌*◌, ◌/◌, ◌%◌, ◌++◌, ℕ, zero, suc, Bool, true, false, ◌⊎◌, inl, inr, nat_lt, nat_le, List, [], ◌∷◌, Option, Some, None, length, slice_index, slice_set, take, drop, map, refl, sym, ap, ap₂, subst, arith, length-append, append_assoc, append-nil}
 use Rattle.std.specs.Prelude.{if◌then◌else◌, not, Ok, Result, OnOk, is_none}
 use Rattle.std.specs.List.{filter_map}
-use Rattle.std.proofs.lemmas.Bool.{and_parts, eqb-true, ne_eqb, not-true}
-use Rattle.std.proofs.lemmas.List.{drop_more, drop_all, take_more, map-append, length-map, length-take-le, take-append-drop, take_at, take_all}
+use Rattle.std.proofs.lemmas.Bool.{and_parts, eqb-true, ne_eqb, not-true, cases_lt, cases_eq}
+use Rattle.std.proofs.lemmas.List.Elements.{filter_map-append}
+use Rattle.std.proofs.lemmas.List.{drop_more, drop_all, take_more, map-append, length-map, length-take-le, take-append-drop, take_at, take_all, take_more_set, length-set, get_or-set_same, get_or-set_other, get_or-take}
 use Rattle.std.proofs.lemmas.Bool.Decides.{nat_tests}
 use Rattle.base64.specs.Engines.{standard}
 use Rattle.base64.specs.GeneralPurpose.{decode_slice_of, decoded_bytes_of}
@@ -14,7 +15,7 @@ use Rattle.base64.proofs.Decoding.{length-groups_bytes, scan-cons_ok, scan-nil, 
 use Rattle.base64.proofs.OnLiterals.{base64_on_literals}
 use Rattle.base64.specs.Tables.{all_below}
 use Rattle.base64.proofs.Tables.{all_below_at}
-use Rattle.header_text.specs.Base64.{sextet, bytes_of_sextets}
+use Rattle.header_text.specs.Base64.{sextet, bytes_of_sextets, bytes_of_symbols}
 use Rattle.header_text.specs.Alphabet.{is_symbol}
 
 abbrev pub dec : List ℕ
@@ -226,3 +227,91 @@ decoded-into s back new r h bytes some whole room e written =
     subst (λ (q : Result ℕ DecodeSliceError). OnOk q (IsWrittenOver (decoded_bytes_of standard s) back new)) ok written in
     let none : drop (length (decoded_bytes_of standard s)) back ≡ [] = drop_all (length (decoded_bytes_of standard s)) back (omega (arith, length-decoded s h bytes m size)) in
     over ∙ ap (λ (l : List ℕ). decoded_bytes_of standard s ++ l) none ∙ append-nil (decoded_bytes_of standard s) ∙ decoded_is s h bytes m size
+
+-- ---- symbols of any text
+
+below : (b : ℕ) → is_symbol b ≡ true → b < 256
+below b is = elim (cases_lt b 256) [
+  | inl lt ↦ lt
+  | inr ge ↦
+      let a : nat_le b 0x5A ≡ false = grind (arith, nat_tests) in
+      let l : nat_le b 0x7A ≡ false = grind (arith, nat_tests) in
+      let n : nat_le b 0x39 ≡ false = grind (arith, nat_tests) in
+      let p : (b == 0x2B) ≡ false = ne_eqb b 0x2B (λ e. absurd (omega arith)) in
+      let s : (b == 0x2F) ≡ false = ne_eqb b 0x2F (λ e. absurd (omega arith)) in
+      absurd (cc (rw (a, l, n, p, s, and_no (nat_le 0x41 b), and_no (nat_le 0x61 b), and_no (nat_le 0x30 b)) at is))
+]
+  where
+    and_no : (t : Bool) → (t && false) ≡ false
+    and_no true = refl
+    and_no false = refl
+
+pub AreBytes-symbols : (s : List ℕ) → AreSymbols s → AreBytes s
+AreBytes-symbols [] h k = omega arith
+AreBytes-symbols (x ∷ s) h zero = below x (h 0 (omega arith))
+AreBytes-symbols (x ∷ s) h (suc k) = AreBytes-symbols s (λ j lt. h (suc j) (omega arith)) k
+
+-- whole groups in front
+pub bytes_of_symbols-groups : (s later : List ℕ) → AreSymbols s → length s % 4 ≡ 0 → bytes_of_symbols (s ++ later) ≡ bytes_of_symbols s ++ bytes_of_symbols later
+bytes_of_symbols-groups s later h whole =
+    let values : filter_map sextet s ≡ map value s = sextets-symbols s h (AreBytes-symbols s h) in
+    let size : length (filter_map sextet s) ≡ 4 * (length s / 4) = ap length values ∙ length-map s value ∙ omega arith in
+    ap bytes_of_sextets (filter_map-append sextet s later) ∙ bytes_of_sextets-append (length s / 4) (filter_map sextet s) (filter_map sextet later) size
+
+-- a byte outside the alphabet is skipped
+pub bytes_of_symbols-other : (front later : List ℕ) (b : ℕ) → sextet b ≡ None → bytes_of_symbols (front ++ b ∷ later) ≡ bytes_of_symbols (front ++ later)
+bytes_of_symbols-other front later b other =
+    ap bytes_of_sextets (filter_map-append sextet front (b ∷ later) ∙ rw other (sym (filter_map-append sextet front later)))
+
+-- ---- the fourth symbol of a group
+
+module _ (symbols : List ℕ) (count symbol : ℕ) (size : length symbols ≡ 4) (third : count ≡ 3)
+    (held : (k : ℕ) → k < count → is_symbol (slice_index symbols k) ≡ true) (is : is_symbol symbol ≡ true) where
+  pub hold-symbols : AreSymbols (slice_set symbols count symbol)
+  hold-symbols k lt =
+      let inside : count < length symbols = omega arith in
+      let same_size : length (slice_set symbols count symbol) ≡ length symbols = length-set symbols count symbol in
+      each inside (omega arith) (cases_eq k count)
+    where
+      each : count < length symbols → k < 4 → (k ≡ count) ⊎ (k ≡ count → ⊥) → is_symbol (slice_index (slice_set symbols count symbol) k) ≡ true
+      each inside four (inl same) = rw (same, get_or-set_same symbols count symbol 0 inside) is
+      each inside four (inr other) = rw (get_or-set_other symbols count k symbol 0 other) (held k (less (cases_lt k count)))
+        where
+          less : (k < count) ⊎ (count ≤ k) → k < count
+          less (inl lt) = lt
+          less (inr ge) = absurd (other (omega arith))
+
+  pub hold-bytes : (later old new : List ℕ) → new ≡ old ++ bytes_of_symbols (slice_set symbols count symbol)
+      → new ++ bytes_of_symbols later ≡ old ++ bytes_of_symbols (take count symbols ++ symbol ∷ later)
+  hold-bytes later old new e =
+      let group : List ℕ = slice_set symbols count symbol in
+      let full : length group ≡ 4 = length-set symbols count symbol ∙ size in
+      let inside : count < length symbols = omega arith in
+      let front : take count symbols ++ symbol ∷ [] ≡ group = sym (take_more_set symbols count symbol inside) ∙ take_all (count + 1) group (omega arith) in
+      let whole : length group % 4 ≡ 0 = rw full refl in
+      ap (λ (l : List ℕ). l ++ bytes_of_symbols later) e ∙ append_assoc old (bytes_of_symbols group) (bytes_of_symbols later)
+      ∙ ap (λ (l : List ℕ). old ++ l) (sym (bytes_of_symbols-groups group later hold-symbols whole) ∙ ap (λ (l : List ℕ). bytes_of_symbols (l ++ later)) (sym front) ∙ ap bytes_of_symbols (append_assoc (take count symbols) (symbol ∷ []) later))
+
+-- ---- a text's groups, where no symbol is held
+
+pub text-groups : (symbols : List ℕ) (count : ℕ) (rest : List ℕ) (n : ℕ) → count ≡ 0 → n ≤ length rest → n % 4 ≡ 0 → ((k : ℕ) → k < n → is_symbol (slice_index rest k) ≡ true)
+    → (later old new : List ℕ) → new ≡ old ++ bytes_of_symbols (take n rest) → (behind : List ℕ) → behind ≡ drop n rest
+    → new ++ bytes_of_symbols (take count symbols ++ (behind ++ later)) ≡ old ++ bytes_of_symbols (take count symbols ++ (rest ++ later))
+text-groups symbols count rest n none fits whole are later old new e behind f =
+    let run : List ℕ = take n rest in
+    let size : length run ≡ n = length-take-le n rest fits in
+    let symbols : AreSymbols run = λ k lt. let inside : k < n = omega (arith, lt, size) in rw (get_or-take n rest k 0 inside) (are k inside) in
+    let split : run ++ (behind ++ later) ≡ rest ++ later = sym (append_assoc run behind later) ∙ ap (λ (l : List ℕ). l ++ later) (ap (λ (l : List ℕ). run ++ l) f ∙ take-append-drop n rest) in
+    rw none (ap (λ (l : List ℕ). l ++ bytes_of_symbols (behind ++ later)) e ∙ append_assoc old (bytes_of_symbols run) (bytes_of_symbols (behind ++ later))
+    ∙ ap (λ (l : List ℕ). old ++ l) (sym (bytes_of_symbols-groups run (behind ++ later) symbols (rw size whole)) ∙ ap bytes_of_symbols split))
+
+-- a byte that is skipped
+pub text-other : (front rest others : List ℕ) (b : ℕ) → rest ≡ b ∷ others → sextet b ≡ None → (later : List ℕ)
+    → bytes_of_symbols (front ++ (others ++ later)) ≡ bytes_of_symbols (front ++ (rest ++ later))
+text-other front rest others b e other later =
+    sym (bytes_of_symbols-other front (others ++ later) b other) ∙ ap (λ (l : List ℕ). bytes_of_symbols (front ++ (l ++ later))) (sym e)
+
+-- ---- a text's end
+
+A_is : (k : ℕ) → is_symbol (slice_index (65 ∷ 65 ∷ 65 ∷ 65 ∷ []) k) ≡ true → Unit {0}
+A_is k h = tt
