@@ -78,7 +78,7 @@ Lacks-from c (b ∷ bs) e = go (b == c) refl (cut_at c bs) refl (Lacks-from c bs
     go false t (Some p) f later = absurd (cc (sym (cut_at-no c b bs t ∙ ap (put b) f) ∙ e))
 
 -- the front up to a byte is what stands before it
-split_while-lacks : (c : ℕ) (before behind : List ℕ) → Lacks c before → split_while (λ b. not (b == c)) (before ++ c ∷ behind) ≡ (before, c ∷ behind)
+pub split_while-lacks : (c : ℕ) (before behind : List ℕ) → Lacks c before → split_while (λ b. not (b == c)) (before ++ c ∷ behind) ≡ (before, c ∷ behind)
 split_while-lacks c [] behind free = let is : (c == c) ≡ true = grind arith in rw (is, split_while) refl
 split_while-lacks c (b ∷ before) behind free =
     rw (free.0, split_while) (ap (λ (p : List ℕ × List ℕ). (b ∷ p.0, p.1)) (split_while-lacks c before behind free.1))

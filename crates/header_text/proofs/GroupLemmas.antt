@@ -44,17 +44,17 @@ if_not_parts : (s p q : Bool) → s ≡ false → (if s then p else q) ≡ true 
 if_not_parts true p q e h = absurd (cc)
 if_not_parts false p q e h = h
 
-record IsSymbol (b : ℕ) : Type 0 where
-  padding : (b == 61) ≡ false
-  valued : (value b == 255) ≡ false
-  sextet_is : sextet b ≡ Some (value b)
+pub record IsSymbol (b : ℕ) : Type 0 where
+  pub padding : (b == 61) ≡ false
+  pub valued : (value b == 255) ≡ false
+  pub sextet_is : sextet b ≡ Some (value b)
 
 from_value : (o : Option ℕ) (n : ℕ) → is_value o n ≡ true → o ≡ Some n
 unfolding is_value
 from_value None n h = absurd (cc)
 from_value (Some m) n h = ap (λ (k : ℕ). Some k) (eqb-true m n h)
 
-symbol : (b : ℕ) → b < 256 → is_symbol b ≡ true → IsSymbol b
+pub symbol : (b : ℕ) → b < 256 → is_symbol b ≡ true → IsSymbol b
 symbol b lt is =
     let parts = if_parts (is_symbol b) (not (b == 61) && (not (value b == 255) && is_value (sextet b) (value b))) (is_none (sextet b)) is (all_below_at test 256 b all lt) in
     let outer = and_parts (not (b == 61)) (not (value b == 255) && is_value (sextet b) (value b)) parts in
@@ -230,7 +230,7 @@ decoded-into s back new r h bytes some whole room e written =
 
 -- ---- symbols of any text
 
-below : (b : ℕ) → is_symbol b ≡ true → b < 256
+pub below : (b : ℕ) → is_symbol b ≡ true → b < 256
 below b is = elim (cases_lt b 256) [
   | inl lt ↦ lt
   | inr ge ↦
@@ -310,8 +310,3 @@ pub text-other : (front rest others : List ℕ) (b : ℕ) → rest ≡ b ∷ oth
     → bytes_of_symbols (front ++ (others ++ later)) ≡ bytes_of_symbols (front ++ (rest ++ later))
 text-other front rest others b e other later =
     sym (bytes_of_symbols-other front (others ++ later) b other) ∙ ap (λ (l : List ℕ). bytes_of_symbols (front ++ (l ++ later))) (sym e)
-
--- ---- a text's end
-
-A_is : (k : ℕ) → is_symbol (slice_index (65 ∷ 65 ∷ 65 ∷ 65 ∷ []) k) ≡ true → Unit {0}
-A_is k h = tt

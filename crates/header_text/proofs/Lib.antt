@@ -10,3 +10,4 @@ mod LossyBytes
 mod CharacterLemmas
 mod EscapeLemmas
 mod GroupLemmas
+mod ReaderLemmas

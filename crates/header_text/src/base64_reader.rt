@@ -1,5 +1,5 @@
 //! Base64 that comes piece by piece.
-ghost use Rattle.std.specs.Prelude.{◌≡◌, ℕ, ◌<◌, ◌≤◌, ◌%◌, ◌∷◌, ◌++◌, length, slice_index, List, true, IfOk, OnOk};
+ghost use Rattle.std.specs.Prelude.{◌≡◌, ℕ, ◌<◌, ◌≤◌, ◌+◌, ◌%◌, ◌∷◌, ◌++◌, length, slice_index, List, true, IfOk, OnOk};
 ghost use Rattle.header_text.specs.Base64.{bytes_of_symbols, base64_bytes};
 ghost use Rattle.header_text.specs.Alphabet.{is_symbol as is_symbol_of};
 ghost use Rattle.header_text.specs.Symbols.{symbols_of};
@@ -120,5 +120,16 @@ fn finish_text(held: Held, into: &mut Vec<u8>) -> Result<(), AllocError>
     let end = into.len() + held.count - 1;
     decode_groups(&symbols, into)?;
     into.truncate(end);
+    Ok(())
+}
+
+/// Adds the bytes of a whole text.
+pub fn decode_base64_into(text: &[u8], into: &mut Vec<u8>) -> Result<(), AllocError>
+    ensures bytes { OnOk result (into.new.items ≡ into.old.items ++ base64_bytes text.now) }
+    ensures size { OnOk result (length into.new.items ≤ length into.old.items + length text.now) }
+{
+    let mut reader = Base64::new();
+    reader.push(text, into)?;
+    reader.finish(into)?;
     Ok(())
 }
