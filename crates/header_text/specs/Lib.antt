@@ -14,3 +14,4 @@ pub mod Base64
 pub mod Alphabet
 pub mod Symbols
 pub mod EncodedWords
+pub mod ShownWords

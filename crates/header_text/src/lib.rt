@@ -6,6 +6,7 @@ mod base64_reader;
 mod blanks;
 mod charset;
 mod cut;
+mod encoded_word;
 mod escape;
 mod field;
 mod field_list;
