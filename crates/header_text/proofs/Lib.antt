@@ -11,3 +11,4 @@ mod CharacterLemmas
 mod EscapeLemmas
 mod GroupLemmas
 mod ReaderLemmas
+mod WordLemmas

@@ -1,9 +1,10 @@
 //! Encoded words (RFC 2047).
-ghost use Rattle.std.specs.Prelude.{◌≡◌, ◌<◌, ◌≤◌, ◌+◌, ◌*◌, ◌∷◌, ◌++◌, [], Some, None, length, option_map, MatchOption, IfOk, OnOk, string_bytes, if◌then◌else◌};
+ghost use Rattle.std.specs.Prelude.{◌≡◌, ◌<◌, ◌≤◌, ◌+◌, ◌*◌, ◌∷◌, ◌++◌, [], Some, None, length, option_map, MatchOption, IfSome, IfOk, OnOk, string_bytes, if◌then◌else◌};
 ghost use Rattle.std.specs.Prelude.{◌&&◌, nat_lt};
 ghost use Rattle.std.specs.List.{list_all};
-ghost use Rattle.header_text.specs.EncodedWords.{is_charset_byte as is_charset_byte_of, is_text_byte as is_text_byte_of, is_q as is_q_of, is_b as is_b_of, word_of as word_of_parts, after, question, equals_sign, word_and_later};
-ghost use Rattle.header_text.specs.ShownWords.{shown_word};
+ghost use Rattle.header_text.specs.Blanks.{is_blank as is_blank_of};
+ghost use Rattle.header_text.specs.EncodedWords.{is_charset_byte as is_charset_byte_of, is_text_byte as is_text_byte_of, is_q as is_q_of, is_b as is_b_of, word_of as word_of_parts, after, question, equals_sign, word_and_later, pieces, text_between, plain_text, word_text};
+ghost use Rattle.header_text.specs.ShownWords.{shown_word, shown_found, no_word, word_first};
 
 use crate::base64_reader::decode_base64_into;
 use crate::blanks::is_blank;
@@ -127,4 +128,59 @@ fn word_behind(bytes: &[u8]) -> Option<(EncodedWord<'_>, &[u8])>
     let later = after_equals(rest)?;
     let word = word_of(charset, encoding, text)?;
     Some((word, later))
+}
+
+/// The leftmost encoded word.
+fn find_word(value: &[u8]) -> Option<Found<'_>>
+    ensures pieces { MatchOption result (pieces value.now ≡ no_word value.now) (λ f. pieces value.now ≡ word_first (shown_found f) f.later.now) }
+    ensures smaller { IfSome result (λ f. length f.between.now + length f.word.text.now + length f.later.now < length value.now) }
+{
+    let mut rest = value;
+    while let Some((_, behind)) = cut_at(b'=', rest) {
+        if let Some((word, later)) = word_behind(behind) {
+            return Some(Found {
+                between: &value[..value.len() - behind.len() - 1],
+                word,
+                later,
+            });
+        }
+        rest = behind;
+    }
+    None
+}
+
+/// Adds the text before an encoded word: between two of them nothing, where it is spaces and tabs alone.
+fn push_between(bytes: &[u8], follows_word: bool, into: &mut String) -> Result<(), AllocError>
+    ensures text { OnOk result (string_bytes into.new ≡ string_bytes into.old ++ (if follows_word then text_between bytes.now else plain_text bytes.now)) }
+    ensures size { OnOk result (length (string_bytes into.new) ≤ length (string_bytes into.old) + 3 * length bytes.now) }
+{
+    if follows_word && are_blanks(bytes) {
+        return Ok(());
+    }
+    push_lossy(bytes, into)
+}
+
+/// Whether all bytes are spaces and tabs.
+fn are_blanks(bytes: &[u8]) -> bool
+    ensures { result ≡ list_all is_blank_of bytes.now }
+{
+    bytes.iter().all(|b| is_blank(*b))
+}
+
+/// Adds the text of an encoded word.
+fn push_word(
+    word: &EncodedWord<'_>,
+    scratch: &mut Vec<u8>,
+    into: &mut String,
+) -> Result<(), AllocError>
+    ensures text { OnOk result (string_bytes into.new ≡ string_bytes into.old ++ word_text (shown_word word.now)) }
+    ensures size { OnOk result (length (string_bytes into.new) ≤ length (string_bytes into.old) + 3 * length word.now.text.now) }
+{
+    scratch.clear();
+    if is_q(word.encoding) {
+        decode_q_into(word.text, scratch)?;
+    } else {
+        decode_base64_into(word.text, scratch)?;
+    }
+    decode_into(Charset::of(word.charset), scratch, into)
 }
