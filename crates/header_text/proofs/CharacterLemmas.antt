@@ -1,6 +1,6 @@
 -- The text of bytes of which each is a character.
-use Rattle.std.proofs.Common.{◌≡◌, ◌∙◌, ◌==◌, ◌&&◌, ◌<◌, ◌≤◌, ◌+◌, ◌*◌, ◌++◌, ℕ, zero, suc, Bool, true, false, inl, inr, nat_lt, nat_le, List, [], ◌∷◌, map, length, slice_index, take, drop, refl, sym, ap, ap₂, subst, arith, encode_utf8_all, length-append, append_assoc}
-use Rattle.std.specs.Char.{encode_utf8, len_utf8}
+use Rattle.std.proofs.Common.{◌≡◌, ◌∙◌, ◌<◌, ◌≤◌, ◌+◌, ◌++◌, ℕ, suc, true, false, inl, inr, nat_lt, nat_le, List, [], ◌∷◌, map, length, slice_index, take, drop, refl, sym, ap, ap₂, subst, arith, encode_utf8_all, append_assoc}
+use Rattle.std.specs.Char.{encode_utf8}
 use Rattle.std.specs.Str.{IsAscii}
 use Rattle.std.proofs.lemmas.Bool.{ne_eqb, cases_lt, lt-ltb}
 use Rattle.std.proofs.lemmas.Bool.Decides.{nat_tests}
@@ -9,7 +9,7 @@ use Rattle.std.proofs.lemmas.Str.Ascii.{IsAscii-from_reads}
 use Rattle.std.proofs.lemmas.Str.{encodes-append, encodes-IsAscii, IsUtf8-from_ascii, length-encode}
 use Rattle.bstr.specs.Utf8.{lossy_chars}
 use Rattle.bstr.proofs.lemmas.EncodeLemmas.{lossy_chars-utf8}
-use Rattle.header_text.specs.Charsets.{character, latin9_character, windows_1252_character, text_of, characters}
+use Rattle.header_text.specs.Charsets.{character, text_of}
 use Rattle.header_text.specs.declared.charset.Charset.{Charset}
 use Rattle.header_text.specs.declared.charset.Charset.TheVariants.{Utf8, Latin1, Latin9, Windows1252, Unknown}
 

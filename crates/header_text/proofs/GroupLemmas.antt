@@ -1,18 +1,17 @@
 -- Whole groups of base64, as the decoder reads them.
-use Rattle.std.proofs.Common.{◌≡◌, ◌∙◌, ◌==◌, ◌&&◌, ◌<◌, ◌≤◌, ◌+◌, ◌-◌, ◌*◌, ◌/◌, ◌%◌, ◌++◌, ℕ, zero, suc, Bool, true, false, ◌⊎◌, inl, inr, nat_lt, nat_le, List, [], ◌∷◌, Option, Some, None, length, slice_index, slice_set, take, drop, map, refl, sym, ap, ap₂, subst, arith, length-append, append_assoc, append-nil}
+use Rattle.std.proofs.Common.{◌≡◌, ◌∙◌, ◌==◌, ◌&&◌, ◌<◌, ◌≤◌, ◌+◌, ◌-◌, ◌*◌, ◌/◌, ◌%◌, ◌++◌, ℕ, zero, suc, Bool, true, false, ◌⊎◌, inl, inr, nat_lt, nat_le, List, [], ◌∷◌, Option, Some, None, length, slice_index, slice_set, take, drop, map, refl, sym, ap, subst, arith, length-append, append_assoc, append-nil}
 use Rattle.std.specs.Prelude.{if◌then◌else◌, not, Ok, Result, OnOk, is_none}
 use Rattle.std.specs.List.{filter_map}
 use Rattle.std.proofs.lemmas.Bool.{and_parts, eqb-true, ne_eqb, not-true, cases_lt, cases_eq}
 use Rattle.std.proofs.lemmas.List.Elements.{filter_map-append}
-use Rattle.std.proofs.lemmas.List.{drop_more, drop_all, take_more, map-append, length-map, length-take-le, take-append-drop, take_at, take_all, take_more_set, length-set, get_or-set_same, get_or-set_other, get_or-take}
+use Rattle.std.proofs.lemmas.List.{drop_more, drop_all, map-append, length-map, length-take-le, take-append-drop, take_at, take_all, take_more_set, length-set, get_or-set_same, get_or-set_other, get_or-take}
 use Rattle.std.proofs.lemmas.Bool.Decides.{nat_tests}
 use Rattle.base64.specs.Engines.{standard}
 use Rattle.base64.specs.GeneralPurpose.{decode_slice_of, decoded_bytes_of}
-use Rattle.base64.specs.Decode.{IsWrittenOver, push_leftover, no_leftover, scan, scan_last, suffix_error, suffix_bytes, leftover_error, leftover_bytes, decode_group, decoded_bytes, or_error, bytes_fit, or_else, groups_error, groups_bytes, group_error, group_bytes, groups_before_last, lone_error, symbol_error}
+use Rattle.base64.specs.Decode.{IsWrittenOver, push_leftover, no_leftover, scan, scan_last, suffix_error, suffix_bytes, decode_group, groups_error, groups_bytes, group_error, group_bytes, groups_before_last, symbol_error}
 use Rattle.base64.specs.declared.decode.DecodeSliceError.{DecodeSliceError}
 use Rattle.base64.specs.declared.engine.DecodePaddingMode.TheVariants.{RequireCanonical}
 use Rattle.base64.proofs.Decoding.{length-groups_bytes, scan-cons_ok, scan-nil, suffix_error_of, suffix_bytes_of}
-use Rattle.base64.proofs.OnLiterals.{base64_on_literals}
 use Rattle.base64.specs.Tables.{all_below}
 use Rattle.base64.proofs.Tables.{all_below_at}
 use Rattle.header_text.specs.Base64.{sextet, bytes_of_sextets, bytes_of_symbols}

@@ -12,3 +12,4 @@ mod EscapeLemmas
 mod GroupLemmas
 mod ReaderLemmas
 mod WordLemmas
+mod DecodedLemmas

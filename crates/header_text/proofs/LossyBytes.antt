@@ -1,5 +1,5 @@
 -- The length of a lossy text.
-use Rattle.std.proofs.Common.{◌≡◌, ◌≤◌, ◌*◌, ℕ, zero, suc, List, [], ◌∷◌, ◌++◌, Option, Some, None, map, drop, length, refl, encode_utf8_all, arith, length-drop, length-append}
+use Rattle.std.proofs.Common.{◌≡◌, ◌≤◌, ◌*◌, ℕ, zero, suc, List, [], ◌∷◌, Option, Some, None, map, drop, length, refl, encode_utf8_all, arith, length-drop, length-append}
 use Rattle.std.specs.Char.{encode_utf8}
 use Rattle.bstr.specs.Utf8.{decoded, or_replacement, pieces_from, lossy_chars}
 use Rattle.bstr.proofs.lemmas.PieceLemmas.{piece-bounds}

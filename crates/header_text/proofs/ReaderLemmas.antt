@@ -1,16 +1,15 @@
 -- Base64 piece by piece.
-use Rattle.std.proofs.Common.{◌≡◌, ◌∙◌, ◌==◌, ◌<◌, ◌≤◌, ◌+◌, ◌-◌, ◌++◌, ℕ, zero, suc, Bool, true, false, ◌⊎◌, inl, inr, List, [], ◌∷◌, Option, Some, None, length, slice_index, take, drop, refl, sym, ap, ap₂, arith, length-append, append_assoc, append-nil}
+use Rattle.std.proofs.Common.{◌≡◌, ◌∙◌, ◌==◌, ◌<◌, ◌≤◌, ◌+◌, ◌-◌, ◌++◌, ℕ, zero, suc, Bool, true, false, List, [], ◌∷◌, Option, Some, None, length, slice_index, take, drop, refl, sym, ap, ap₂, arith, length-append, append_assoc, append-nil}
 use Rattle.std.specs.Prelude.{not, if◌then◌else◌}
-use Rattle.std.proofs.lemmas.List.{take_at, length-take, get_or-take}
+use Rattle.std.proofs.lemmas.List.{length-take, get_or-take}
 use Rattle.header_text.specs.Blanks.{split_while}
 use Rattle.header_text.specs.Cuts.{cut_at}
 use Rattle.header_text.specs.Base64.{sextet, bytes_of_sextets, bytes_of_symbols, base64_bytes}
 use Rattle.header_text.specs.Alphabet.{is_symbol}
-use Rattle.header_text.proofs.CutLemmas.{Lacks, IsCut, IsCut-from, Lacks-from, split_while-cut, split_while-lacks}
+use Rattle.header_text.proofs.CutLemmas.{Lacks, IsCut-from, Lacks-from, split_while-lacks}
 use Rattle.std.specs.List.{filter_map}
 use Rattle.header_text.proofs.Fronts.{split_while-joined}
-use Rattle.header_text.proofs.GroupLemmas.{AreSymbols, value, IsSymbol, symbol, below}
-use Rattle.base64.specs.Decode.{decode_group}
+use Rattle.header_text.proofs.GroupLemmas.{AreSymbols, symbol, below}
 use Rattle.std.proofs.Math.Seq.{take-append-add}
 
 -- what stands before the first `=`

@@ -1,6 +1,6 @@
 -- Encoded words one after another.
-use Rattle.std.proofs.Common.{◌≡◌, ◌∙◌, ◌==◌, ◌&&◌, ◌<◌, ◌≤◌, ◌+◌, ◌-◌, ◌++◌, ℕ, zero, suc, Bool, true, false, List, [], ◌∷◌, Option, Some, None, length, take, drop, refl, sym, ap, ap₂, arith, length-append, append_assoc, append-nil}
-use Rattle.std.specs.Prelude.{if◌then◌else◌, option_map, unwrap_or}
+use Rattle.std.proofs.Common.{◌≡◌, ◌∙◌, ◌==◌, ◌<◌, ◌+◌, ◌-◌, ◌++◌, ℕ, zero, suc, Bool, true, false, List, [], ◌∷◌, Option, Some, None, length, take, drop, refl, sym, ap, ap₂, arith, length-append, append_assoc, append-nil}
+use Rattle.std.specs.Prelude.{option_map, unwrap_or}
 use Rattle.std.proofs.lemmas.List.{take_at}
 use Rattle.std.proofs.lemmas.Bool.{eqb-true}
 use Rattle.header_text.specs.Cuts.{cut_at}
@@ -252,3 +252,8 @@ seen-end value rest s e =
     let free = Lacks-from equals_sign rest e in
     let alone : pieces rest ≡ no_word rest = ap pieces (sym (append-nil rest)) ∙ pieces-plain rest [] free ∙ ap no_word (append-nil rest) in
     s.found ∙ ap (in_front s.seen) alone ∙ ap no_word (sym s.joined)
+
+-- what is behind is shorter
+pub seen-shorter : (value rest plain behind : List ℕ) → Seen value rest → IsCut equals_sign rest plain behind → length behind < length value
+seen-shorter value rest plain behind s cut =
+    omega (arith, ap length s.joined, length-append s.seen rest, ap length cut.joined, length-append plain (equals_sign ∷ behind))

@@ -3,7 +3,7 @@ ghost use Rattle.std.specs.Prelude.{◌≡◌, ◌<◌, ◌≤◌, ◌+◌, ◌*
 ghost use Rattle.std.specs.Prelude.{◌&&◌, nat_lt};
 ghost use Rattle.std.specs.List.{list_all};
 ghost use Rattle.header_text.specs.Blanks.{is_blank as is_blank_of};
-ghost use Rattle.header_text.specs.EncodedWords.{is_charset_byte as is_charset_byte_of, is_text_byte as is_text_byte_of, is_q as is_q_of, is_b as is_b_of, word_of as word_of_parts, after, question, equals_sign, word_and_later, pieces, text_between, plain_text, word_text};
+ghost use Rattle.header_text.specs.EncodedWords.{is_charset_byte as is_charset_byte_of, is_text_byte as is_text_byte_of, is_q as is_q_of, is_b as is_b_of, word_of as word_of_parts, after, question, equals_sign, word_and_later, pieces, text_between, plain_text, word_text, decoded};
 ghost use Rattle.header_text.specs.ShownWords.{shown_word, shown_found, no_word, word_first};
 
 use crate::base64_reader::decode_base64_into;
@@ -183,4 +183,39 @@ fn push_word(
         decode_base64_into(word.text, scratch)?;
     }
     decode_into(Charset::of(word.charset), scratch, into)
+}
+
+/// Adds the text of an unfolded value (RFC 2047): its encoded words are found anywhere in it, the leftmost first, and each
+/// is decoded alone; spaces and tabs alone between two of them are dropped, and any other stretch is read as UTF-8 with
+/// U+FFFD for each maximal faulty part. It has at most three bytes for each of the value's. An encoded word's bytes are
+/// gathered in `scratch`. After an error the buffer holds its old text and some more.
+pub fn decode_words_into(
+    unfolded: &[u8],
+    scratch: &mut Vec<u8>,
+    into: &mut String,
+) -> Result<(), AllocError>
+    ensures text { OnOk result (string_bytes into.new ≡ string_bytes into.old ++ decoded unfolded.now) }
+    ensures size { OnOk result (length (string_bytes into.new) ≤ length (string_bytes into.old) + 3 * length unfolded.now) }
+{
+    let mut rest = unfolded;
+    let mut follows_word = false;
+    while let Some(found) = find_word(rest) {
+        push_between(found.between, follows_word, into)?;
+        push_word(&found.word, scratch, into)?;
+        follows_word = true;
+        rest = found.later;
+    }
+    push_lossy(rest, into)?;
+    Ok(())
+}
+
+/// The text of an unfolded value (RFC 2047), as `decode_words_into` adds it.
+pub fn decode_words(alloc: Global, unfolded: &[u8]) -> Result<String, AllocError>
+    ensures text { IfOk result (λ text. string_bytes text ≡ decoded unfolded.now) }
+    ensures size { IfOk result (λ text. length (string_bytes text) ≤ 3 * length unfolded.now) }
+{
+    let mut text = String::new(alloc);
+    let mut scratch = Vec::new(alloc);
+    decode_words_into(unfolded, &mut scratch, &mut text)?;
+    Ok(text)
 }

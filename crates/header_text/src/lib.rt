@@ -17,6 +17,7 @@ mod unfolding;
 
 pub use base64_reader::Base64;
 pub use charset::Charset;
+pub use encoded_word::{decode_words, decode_words_into};
 pub use escape::unescape_into;
 pub use field::Field;
 pub use field_list::Fields;

@@ -1,5 +1,4 @@
-use Rattle.std.proofs.Common.{◌≡◌, ◌∙◌, ◌<◌, ◌-◌, ◌*◌, ◌/◌, ◌++◌, ℕ, List, length, take, drop, slice_index, ap₂, arith, length-drop}
-use Rattle.header_text.specs.Base64.{bytes_of_symbols}
+use Rattle.std.proofs.Common.{◌≡◌, ◌<◌, ◌*◌, ◌/◌, ◌++◌, ℕ, List, length, slice_index, ap₂, arith}
 use Rattle.header_text.proofs.GroupLemmas.{decoded-into}
 use Rattle.header_text.proofs.base64_groups.decode_behind.Goals as goal
 

@@ -1,8 +1,6 @@
-use Rattle.std.proofs.Common.{◌≡◌, ◌∙◌, ◌<◌, ◌≤◌, ◌+◌, ◌-◌, ◌++◌, ◌%◌, ℕ, List, [], ◌∷◌, length, take, drop, slice_index, refl, sym, ap, arith, append_assoc}
+use Rattle.std.proofs.Common.{◌∙◌, ◌++◌, ℕ, List, sym, ap, arith}
 use Rattle.std.proofs.lemmas.List.{take_rest}
-use Rattle.header_text.specs.Base64.{bytes_of_symbols}
 use Rattle.header_text.specs.Symbols.{symbols_of}
-use Rattle.header_text.specs.Alphabet.{is_symbol}
 use Rattle.header_text.proofs.GroupLemmas.{text-groups, text-other, sextet-other}
 use Rattle.header_text.proofs.base64_reader.decode_text.Goals as goal
 

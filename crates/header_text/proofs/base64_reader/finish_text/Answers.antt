@@ -1,5 +1,5 @@
-use Rattle.std.proofs.Common.{◌≡◌, ◌∙◌, ◌≤◌, ◌<◌, ◌+◌, ◌-◌, ◌++◌, ℕ, List, [], ◌∷◌, length, take, drop, sym, ap, ap₂, subst, arith, append-nil}
-use Rattle.std.proofs.lemmas.List.{length-take, length-take-le}
+use Rattle.std.proofs.Common.{◌≡◌, ◌∙◌, ◌+◌, ◌-◌, ◌++◌, ℕ, List, [], ◌∷◌, length, drop, sym, ap, ap₂, subst, arith, append-nil}
+use Rattle.std.proofs.lemmas.List.{length-take}
 use Rattle.header_text.specs.Base64.{bytes_of_symbols}
 use Rattle.header_text.specs.Symbols.{symbols_of}
 use Rattle.header_text.proofs.GroupLemmas.{AreSymbols}

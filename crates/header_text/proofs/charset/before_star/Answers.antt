@@ -1,7 +1,5 @@
-use Rattle.std.proofs.Common.{◌≡◌, ◌∙◌, ◌==◌, ℕ, List, sym, ap}
-use Rattle.std.specs.Prelude.{not}
-use Rattle.header_text.specs.Blanks.{split_while}
-use Rattle.header_text.proofs.CutLemmas.{IsCut-from, Lacks-from, split_while-cut, split_while-free}
+use Rattle.std.proofs.Common.{sym}
+use Rattle.header_text.proofs.CutLemmas.{split_while-cut, split_while-free}
 use Rattle.header_text.proofs.charset.before_star.Goals as goal
 
 pub returns-in-Some : goal.returns-in-Some

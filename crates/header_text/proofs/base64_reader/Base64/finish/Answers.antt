@@ -1,4 +1,3 @@
-use Rattle.std.proofs.Common.{◌≡◌, ◌++◌, List, ℕ, ap, sym, ◌∙◌}
 use Rattle.header_text.specs.Symbols.{symbols_of}
 use Rattle.header_text.proofs.ReaderLemmas.{to_come-end, held-symbols}
 use Rattle.header_text.proofs.base64_reader.Base64.finish.Goals as goal

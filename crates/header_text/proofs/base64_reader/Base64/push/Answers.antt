@@ -1,6 +1,5 @@
-use Rattle.std.proofs.Common.{◌≡◌, ◌∙◌, ◌++◌, ℕ, List, sym, ap}
-use Rattle.header_text.specs.Base64.{base64_bytes}
-use Rattle.header_text.specs.Symbols.{symbols_of, bytes_to_come}
+use Rattle.std.proofs.Common.{sym}
+use Rattle.header_text.specs.Symbols.{symbols_of}
 use Rattle.header_text.proofs.ReaderLemmas.{read-ended, read-on, held-symbols}
 use Rattle.header_text.proofs.base64_reader.Base64.push.Goals as goal
 
