@@ -1,6 +1,7 @@
 -- Where bytes are cut.
 use Rattle.std.proofs.Common.{◌≡◌, ◌∙◌, ◌<◌, ◌++◌, ◌==◌, ℕ, zero, suc, Bool, true, false, List, [], ◌∷◌, Option, Some, None, length, take, drop, slice_index, refl, sym, ap, arith}
-use Rattle.std.specs.Prelude.{option_map, unwrap_or}
+use Rattle.std.specs.Prelude.{option_map, unwrap_or, not}
+use Rattle.header_text.specs.Blanks.{split_while}
 use Rattle.std.proofs.lemmas.Bool.{eqb-true}
 use Rattle.header_text.specs.Cuts.{cut_at}
 
@@ -75,3 +76,21 @@ Lacks-from c (b ∷ bs) e = go (b == c) refl (cut_at c bs) refl (Lacks-from c bs
     go true t o f later = absurd (cc (sym (cut_at-yes c b bs t) ∙ e))
     go false t None f later = (t, later f)
     go false t (Some p) f later = absurd (cc (sym (cut_at-no c b bs t ∙ ap (put b) f) ∙ e))
+
+-- the front up to a byte is what stands before it
+pub split_while-lacks : (c : ℕ) (before behind : List ℕ) → Lacks c before → split_while (λ b. not (b == c)) (before ++ c ∷ behind) ≡ (before, c ∷ behind)
+split_while-lacks c [] behind free = let is : (c == c) ≡ true = grind arith in rw (is, split_while) refl
+split_while-lacks c (b ∷ before) behind free =
+    rw (free.0, split_while) (ap (λ (p : List ℕ × List ℕ). (b ∷ p.0, p.1)) (split_while-lacks c before behind free.1))
+
+pub split_while-cut : (c : ℕ) (bytes before behind : List ℕ) → cut_at c bytes ≡ Some (before, behind) → (split_while (λ b. not (b == c)) bytes).0 ≡ before
+split_while-cut c bytes before behind e =
+    let cut = IsCut-from c bytes before behind e in
+    rw cut.joined (ap (λ (p : List ℕ × List ℕ). p.0) (split_while-lacks c before behind cut.free))
+
+split_while-whole : (c : ℕ) (bytes : List ℕ) → Lacks c bytes → split_while (λ b. not (b == c)) bytes ≡ (bytes, [])
+split_while-whole c [] free = refl
+split_while-whole c (b ∷ bytes) free = rw (free.0, split_while) (ap (λ (p : List ℕ × List ℕ). (b ∷ p.0, p.1)) (split_while-whole c bytes free.1))
+
+pub split_while-free : (c : ℕ) (bytes : List ℕ) → cut_at c bytes ≡ None → (split_while (λ b. not (b == c)) bytes).0 ≡ bytes
+split_while-free c bytes e = ap (λ (p : List ℕ × List ℕ). p.0) (split_while-whole c bytes (Lacks-from c bytes e))

@@ -5,3 +5,11 @@ mod PushLemmas
 mod CutLemmas
 mod UnfoldLemmas
 mod IdLemmas
+mod CharsetLemmas
+mod LossyBytes
+mod CharacterLemmas
+mod EscapeLemmas
+mod GroupLemmas
+mod ReaderLemmas
+mod WordLemmas
+mod DecodedLemmas

@@ -19,10 +19,10 @@ bytes_of_sextets (a ∷ b ∷ []) = take 1 (decode_group a b 0 0)
 bytes_of_sextets (a ∷ []) = []
 bytes_of_sextets [] = []
 
--- the sextets up to the first `=`
-abbrev pub sextets : List ℕ → List ℕ
-sextets text = filter_map sextet (split_while (λ b. not (b == 0x3D)) text).0
+-- the bytes of a text without `=`: bytes outside the alphabet are skipped
+abbrev pub bytes_of_symbols : List ℕ → List ℕ
+bytes_of_symbols text = bytes_of_sextets (filter_map sextet text)
 
--- what the text encodes
+-- what a text encodes: what stands before its first `=`
 unfoldable pub base64_bytes : List ℕ → List ℕ
-base64_bytes text = bytes_of_sextets (sextets text)
+base64_bytes text = bytes_of_symbols (split_while (λ b. not (b == 0x3D)) text).0

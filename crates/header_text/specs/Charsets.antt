@@ -14,12 +14,24 @@ plain_label label = str_to_ascii_lowercase (split_while (λ b. not (b == 0x2A)) 
 abbrev pub is_among : List (List ℕ) → List ℕ → Bool
 is_among labels label = list_any (bytes_eq label) labels
 
+abbrev pub utf8_labels : List (List ℕ)
+utf8_labels = [] ∷ codes "us-ascii" ∷ codes "ascii" ∷ codes "utf-8" ∷ codes "utf8" ∷ []
+
+abbrev pub latin1_labels : List (List ℕ)
+latin1_labels = codes "iso-8859-1" ∷ codes "iso8859-1" ∷ codes "latin1" ∷ []
+
+abbrev pub latin9_labels : List (List ℕ)
+latin9_labels = codes "iso-8859-15" ∷ codes "iso8859-15" ∷ []
+
+abbrev pub windows_1252_labels : List (List ℕ)
+windows_1252_labels = codes "windows-1252" ∷ codes "cp1252" ∷ []
+
 abbrev pub charset_named : List ℕ → Charset
 charset_named label =
-    if is_among ([] ∷ codes "us-ascii" ∷ codes "ascii" ∷ codes "utf-8" ∷ codes "utf8" ∷ []) label then Utf8
-    else if is_among (codes "iso-8859-1" ∷ codes "iso8859-1" ∷ codes "latin1" ∷ []) label then Latin1
-    else if is_among (codes "iso-8859-15" ∷ codes "iso8859-15" ∷ []) label then Latin9
-    else if is_among (codes "windows-1252" ∷ codes "cp1252" ∷ []) label then Windows1252
+    if is_among utf8_labels label then Utf8
+    else if is_among latin1_labels label then Latin1
+    else if is_among latin9_labels label then Latin9
+    else if is_among windows_1252_labels label then Windows1252
     else Unknown
 
 -- the charset of a label
@@ -49,13 +61,22 @@ windows_1252_upper =
 abbrev pub windows_1252_character : ℕ → ℕ
 windows_1252_character b = if nat_le 0x80 b && nat_le b 0x9F then slice_index windows_1252_upper (b - 0x80) else b
 
--- the characters of bytes
+-- ASCII alone
+abbrev pub ascii_character : ℕ → ℕ
+ascii_character b = if nat_lt b 0x80 then b else 0xFFFD
+
+-- the character of a byte that stands alone; in UTF-8 an ASCII byte does
+abbrev pub character : Charset → ℕ → ℕ
+character Latin1 b = b
+character Latin9 b = latin9_character b
+character Windows1252 b = windows_1252_character b
+character Utf8 b = ascii_character b
+character Unknown b = ascii_character b
+
+-- the characters of bytes: in UTF-8 each maximal faulty part is one U+FFFD, elsewhere each byte is a character
 abbrev pub characters : Charset → List ℕ → List ℕ
 characters Utf8 bytes = lossy_chars bytes
-characters Latin1 bytes = bytes
-characters Latin9 bytes = map latin9_character bytes
-characters Windows1252 bytes = map windows_1252_character bytes
-characters Unknown bytes = map (λ b. if nat_lt b 0x80 then b else 0xFFFD) bytes
+characters charset bytes = map (character charset) bytes
 
 -- the text of bytes
 unfoldable pub text_of : Charset → List ℕ → List ℕ

@@ -1,5 +1,5 @@
 -- Encoded words in an unfolded value (RFC 2047).
-use Rattle.std.specs.Prelude.{◌≡◌, ℕ, zero, suc, ◌-◌, Bool, true, false, not, ◌&&◌, ◌||◌, ◌==◌, nat_le, nat_lt, IsTrue, List, [], ◌∷◌, ◌++◌, length, Option, Some, None, if◌then◌else◌, encode_utf8_all}
+use Rattle.std.specs.Prelude.{◌≡◌, ℕ, zero, suc, ◌-◌, Bool, true, false, not, ◌&&◌, ◌||◌, ◌==◌, nat_le, nat_lt, IsTrue, List, [], ◌∷◌, ◌++◌, length, Option, Some, None, if◌then◌else◌, option_map, encode_utf8_all}
 use Rattle.std.specs.List.{list_all}
 use Rattle.bstr.specs.Utf8.{lossy_chars}
 use Rattle.header_text.specs.Blanks.{is_blank}
@@ -66,14 +66,18 @@ abbrev pub ◌>>=◌ : {A B : Type 0} → Option A → (A → Option B) → Opti
 (Some x) >>= f = f x
 None >>= f = None
 
-unfoldable pub word_at : List ℕ → Option EncodedWord
-word_at bytes =
-    after (equals_sign ∷ question ∷ []) bytes
+-- the word that begins with `=` and these bytes, and what follows it
+unfoldable pub word_and_later : List ℕ → Option (EncodedWord × List ℕ)
+word_and_later bytes =
+    after (question ∷ []) bytes
     >>= (λ rest. cut_at question rest
     >>= (λ charset. cut_at question charset.1
     >>= (λ encoding. cut_at question encoding.1
     >>= (λ text. after (equals_sign ∷ []) text.1
-    >>= (λ later. word_of charset.0 encoding.0 text.0)))))
+    >>= (λ later. option_map (λ w. (w, later)) (word_of charset.0 encoding.0 text.0))))))
+
+unfoldable pub word_at : List ℕ → Option EncodedWord
+word_at bytes = after (equals_sign ∷ []) bytes >>= (λ rest. option_map (λ found. found.0) (word_and_later rest))
 
 -- ---- all encoded words of a value: the leftmost, then the leftmost at or after its end, and so on
 

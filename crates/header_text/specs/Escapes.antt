@@ -27,3 +27,8 @@ unescaped = unescaped_by (λ b. b)
 -- Q's: `_` is a space, any other byte stays
 unfoldable pub q_bytes : List ℕ → List ℕ
 q_bytes = unescaped_by (λ b. if b == 0x5F then 0x20 else b)
+
+-- what `=` and the bytes behind it stand for, and what follows that
+abbrev pub behind_equals : List ℕ → ℕ × List ℕ
+behind_equals (b ∷ c ∷ bytes) = elim (escaped 0x3D b c) [ Some n ↦ (n, bytes) | None ↦ (0x3D, b ∷ c ∷ bytes) ]
+behind_equals bytes = (0x3D, bytes)

@@ -11,4 +11,7 @@ pub mod Ids
 pub mod Charsets
 pub mod Escapes
 pub mod Base64
+pub mod Alphabet
+pub mod Symbols
 pub mod EncodedWords
+pub mod ShownWords

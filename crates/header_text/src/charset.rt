@@ -1,4 +1,11 @@
 //! Charsets and how they read bytes.
+ghost use Rattle.std.specs.Prelude.{◌≡◌, ◌<◌, map, not, ◌==◌};
+ghost use Rattle.std.specs.Char.{to_ascii_lowercase};
+ghost use Rattle.std.specs.Str.{bytes_eq, str_to_ascii_lowercase};
+ghost use Rattle.header_text.specs.Blanks.{split_while};
+ghost use Rattle.header_text.specs.Charsets.{charset_of, is_among, utf8_labels, latin1_labels, latin9_labels, windows_1252_labels, character as character_of, latin9_character as latin9_character_of, windows_1252_character as windows_1252_character_of};
+
+use crate::cut::cut_at;
 
 /// A charset that a mail can name.
 #[derive(Clone, Copy, Debug, PartialEq, Eq)]
@@ -13,4 +20,124 @@ pub enum Charset {
     Windows1252,
     /// Any other: ASCII is read, each other byte is U+FFFD.
     Unknown,
+}
+
+/// Windows-1252 from 80 to 9F, with U+FFFD where it has no character.
+const WINDOWS_1252_UPPER: [char; 32] = [
+    '\u{20AC}', '\u{FFFD}', '\u{201A}', '\u{192}', '\u{201E}', '\u{2026}', '\u{2020}', '\u{2021}',
+    '\u{2C6}', '\u{2030}', '\u{160}', '\u{2039}', '\u{152}', '\u{FFFD}', '\u{17D}', '\u{FFFD}',
+    '\u{FFFD}', '\u{2018}', '\u{2019}', '\u{201C}', '\u{201D}', '\u{2022}', '\u{2013}', '\u{2014}',
+    '\u{2DC}', '\u{2122}', '\u{161}', '\u{203A}', '\u{153}', '\u{FFFD}', '\u{17E}', '\u{178}',
+];
+
+/// The character of a byte in ISO 8859-15.
+fn latin9_character(b: u8) -> char
+    ensures { result ≡ latin9_character_of b }
+{
+    match b {
+        0xA4 => '\u{20AC}',
+        0xA6 => '\u{160}',
+        0xA8 => '\u{161}',
+        0xB4 => '\u{17D}',
+        0xB8 => '\u{17E}',
+        0xBC => '\u{152}',
+        0xBD => '\u{153}',
+        0xBE => '\u{178}',
+        _ => char::from(b),
+    }
+}
+
+/// The character of a byte in Windows-1252.
+fn windows_1252_character(b: u8) -> char
+    ensures value { result ≡ windows_1252_character_of b }
+    ensures small { result < 65536 }
+{
+    match b {
+        0x80..=0x9F => WINDOWS_1252_UPPER[usize::from(b - 0x80)],
+        _ => char::from(b),
+    }
+}
+
+/// Whether a label is this name, in any ASCII case.
+fn is_named(label: &[u8], name: &[u8]) -> bool
+    requires { map to_ascii_lowercase name.now ≡ name.now }
+    ensures { result ≡ bytes_eq (str_to_ascii_lowercase label.now) name.now }
+{
+    label.eq_ignore_ascii_case(name)
+}
+
+/// Whether a label is empty or one of UTF-8's.
+fn is_utf8(label: &[u8]) -> bool
+    ensures { result ≡ is_among utf8_labels (str_to_ascii_lowercase label.now) }
+{
+    label.is_empty()
+        || is_named(label, b"us-ascii")
+        || is_named(label, b"ascii")
+        || is_named(label, b"utf-8")
+        || is_named(label, b"utf8")
+}
+
+/// Whether a label is one of ISO 8859-1's.
+fn is_latin1(label: &[u8]) -> bool
+    ensures { result ≡ is_among latin1_labels (str_to_ascii_lowercase label.now) }
+{
+    is_named(label, b"iso-8859-1") || is_named(label, b"iso8859-1") || is_named(label, b"latin1")
+}
+
+/// Whether a label is one of ISO 8859-15's.
+fn is_latin9(label: &[u8]) -> bool
+    ensures { result ≡ is_among latin9_labels (str_to_ascii_lowercase label.now) }
+{
+    is_named(label, b"iso-8859-15") || is_named(label, b"iso8859-15")
+}
+
+/// Whether a label is one of Windows-1252's.
+fn is_windows_1252(label: &[u8]) -> bool
+    ensures { result ≡ is_among windows_1252_labels (str_to_ascii_lowercase label.now) }
+{
+    is_named(label, b"windows-1252") || is_named(label, b"cp1252")
+}
+
+impl Charset {
+    /// The charset of a label: what stands before its first `*`, in any ASCII case. It takes no memory.
+    pub fn of(label: &[u8]) -> Charset
+        ensures { result ≡ charset_of label.now }
+    {
+        let name = before_star(label);
+        if is_utf8(name) {
+            Charset::Utf8
+        } else if is_latin1(name) {
+            Charset::Latin1
+        } else if is_latin9(name) {
+            Charset::Latin9
+        } else if is_windows_1252(name) {
+            Charset::Windows1252
+        } else {
+            Charset::Unknown
+        }
+    }
+
+    /// The character of a byte that stands alone.
+    pub(crate) fn character(self, b: u8) -> char
+        ensures value { result ≡ character_of self b }
+        ensures small { result < 65536 }
+    {
+        match self {
+            Charset::Latin1 => char::from(b),
+            Charset::Latin9 => latin9_character(b),
+            Charset::Windows1252 => windows_1252_character(b),
+            Charset::Utf8 | Charset::Unknown if b.is_ascii() => char::from(b),
+            Charset::Utf8 | Charset::Unknown => '\u{FFFD}',
+        }
+    }
+}
+
+/// What stands before the first `*`.
+fn before_star(label: &[u8]) -> &[u8]
+    ensures { result.now ≡ (split_while (λ b. not (b == 0x2A)) label.now).0 }
+{
+    match cut_at(b'*', label) {
+        Some((name, _)) => name,
+        None => label,
+    }
 }

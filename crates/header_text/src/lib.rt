@@ -1,18 +1,27 @@
 //! The header of a message: its fields (RFC 5322), their encoded words (RFC 2047) and charsets, and the ids in them.
 #![tactic(auto)]
 
+mod base64_groups;
+mod base64_reader;
 mod blanks;
 mod charset;
 mod cut;
+mod encoded_word;
+mod escape;
 mod field;
 mod field_list;
 mod header;
 mod message_id;
+mod text;
 mod unfolding;
 
+pub use base64_reader::Base64;
 pub use charset::Charset;
+pub use encoded_word::{decode_words, decode_words_into};
+pub use escape::unescape_into;
 pub use field::Field;
 pub use field_list::Fields;
 pub use header::{Header, Taken};
 pub use message_id::message_ids;
+pub use text::{decode, decode_into};
 pub use unfolding::{unfold, unfold_into};

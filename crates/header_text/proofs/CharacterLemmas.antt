@@ -1,0 +1,86 @@
+-- The text of bytes of which each is a character.
+use Rattle.std.proofs.Common.{◌≡◌, ◌∙◌, ◌<◌, ◌≤◌, ◌+◌, ◌++◌, ℕ, suc, true, false, inl, inr, nat_lt, nat_le, List, [], ◌∷◌, map, length, slice_index, take, drop, refl, sym, ap, ap₂, subst, arith, encode_utf8_all, append_assoc}
+use Rattle.std.specs.Char.{encode_utf8}
+use Rattle.std.specs.Str.{IsAscii}
+use Rattle.std.proofs.lemmas.Bool.{ne_eqb, cases_lt, lt-ltb}
+use Rattle.std.proofs.lemmas.Bool.Decides.{nat_tests}
+use Rattle.std.proofs.lemmas.List.{map-append, take-append-drop, drop_more, length-take, get_or-take, take_all}
+use Rattle.std.proofs.lemmas.Str.Ascii.{IsAscii-from_reads}
+use Rattle.std.proofs.lemmas.Str.{encodes-append, encodes-IsAscii, IsUtf8-from_ascii, length-encode}
+use Rattle.bstr.specs.Utf8.{lossy_chars}
+use Rattle.bstr.proofs.lemmas.EncodeLemmas.{lossy_chars-utf8}
+use Rattle.header_text.specs.Charsets.{character, text_of}
+use Rattle.header_text.specs.declared.charset.Charset.{Charset}
+use Rattle.header_text.specs.declared.charset.Charset.TheVariants.{Utf8, Latin1, Latin9, Windows1252, Unknown}
+
+-- an ASCII byte is its own character in each charset
+character-ascii : (c : Charset) (b : ℕ) → b < 128 → character c b ≡ b
+character-ascii Latin1 b lt = refl
+character-ascii Latin9 b lt =
+    let a4 = ne_eqb b 0xA4 (λ e. absurd (omega arith)) in
+    let a6 = ne_eqb b 0xA6 (λ e. absurd (omega arith)) in
+    let a8 = ne_eqb b 0xA8 (λ e. absurd (omega arith)) in
+    let b4 = ne_eqb b 0xB4 (λ e. absurd (omega arith)) in
+    let b8 = ne_eqb b 0xB8 (λ e. absurd (omega arith)) in
+    let bc = ne_eqb b 0xBC (λ e. absurd (omega arith)) in
+    let bd = ne_eqb b 0xBD (λ e. absurd (omega arith)) in
+    let be = ne_eqb b 0xBE (λ e. absurd (omega arith)) in
+    rw (a4, a6, a8, b4, b8, bc, bd, be) refl
+character-ascii Windows1252 b lt = let below : nat_le 0x80 b ≡ false = grind (arith, nat_tests) in rw below refl
+character-ascii Utf8 b lt = let below : nat_lt b 0x80 ≡ true = grind (arith, nat_tests) in rw below refl
+character-ascii Unknown b lt = let below : nat_lt b 0x80 ≡ true = grind (arith, nat_tests) in rw below refl
+
+map-character-ascii : (c : Charset) (bs : List ℕ) → IsAscii bs → map (character c) bs ≡ bs
+map-character-ascii c [] h = refl
+map-character-ascii c (b ∷ bs) h = ap₂ (λ (x : ℕ) (xs : List ℕ). x ∷ xs) (character-ascii c b (h 0)) (map-character-ascii c bs (λ i. h (suc i)))
+
+-- ASCII reads the same in each charset
+pub lossy-ascii : (c : Charset) (bs : List ℕ) → IsAscii bs → encode_utf8_all (lossy_chars bs) ≡ encode_utf8_all (map (character c) bs)
+lossy-ascii c bs h = lossy_chars-utf8 bs (IsUtf8-from_ascii bs h) ∙ sym (encodes-IsAscii bs h) ∙ ap encode_utf8_all (sym (map-character-ascii c bs h))
+
+-- ASCII bytes, one that isn't, and the rest
+pub characters-split : (c : Charset) (bs : List ℕ) (at : ℕ) → at < length bs → IsAscii (take at bs)
+    → encode_utf8_all (map (character c) bs) ≡ encode_utf8_all (lossy_chars (take at bs)) ++ (encode_utf8 (character c (slice_index bs at)) ++ encode_utf8_all (map (character c) (drop (at + 1) bs)))
+characters-split c bs at lt h =
+    let ch : ℕ → ℕ = character c in
+    let b = slice_index bs at in
+    let split : bs ≡ take at bs ++ b ∷ drop (at + 1) bs = sym (take-append-drop at bs) ∙ ap (λ (l : List ℕ). take at bs ++ l) (drop_more bs at 0 lt) in
+    ap (λ (l : List ℕ). encode_utf8_all (map ch l)) split ∙ ap encode_utf8_all (map-append ch (take at bs) (b ∷ drop (at + 1) bs))
+    ∙ encodes-append (map ch (take at bs)) (ch b ∷ map ch (drop (at + 1) bs))
+    ∙ ap (λ (l : List ℕ). l ++ (encode_utf8 (ch b) ++ encode_utf8_all (map ch (drop (at + 1) bs)))) (sym (lossy-ascii c (take at bs) h))
+
+pub length-encode_small : (c : ℕ) → c < 65536 → length (encode_utf8 c) ≤ 3
+length-encode_small c lt = rw length-encode (grind (arith, nat_tests))
+
+-- one character more
+pub characters-step : (c : Charset) (bs old new newer : List ℕ) (at : ℕ) → at < length bs → IsAscii (take at bs)
+    → new ≡ old ++ encode_utf8_all (lossy_chars (take at bs)) → newer ≡ new ++ encode_utf8 (character c (slice_index bs at))
+    → newer ++ encode_utf8_all (map (character c) (drop (at + 1) bs)) ≡ old ++ encode_utf8_all (map (character c) bs)
+characters-step c bs old new newer at lt h e f =
+    let ascii : List ℕ = encode_utf8_all (lossy_chars (take at bs)) in
+    let one : List ℕ = encode_utf8 (character c (slice_index bs at)) in
+    let rest : List ℕ = encode_utf8_all (map (character c) (drop (at + 1) bs)) in
+    ap (λ (l : List ℕ). l ++ rest) (f ∙ ap (λ (l : List ℕ). l ++ one) e) ∙ append_assoc (old ++ ascii) one rest ∙ append_assoc old ascii (one ++ rest)
+    ∙ ap (λ (l : List ℕ). old ++ l) (sym (characters-split c bs at lt h))
+
+-- a byte alone is a character in any charset but UTF-8
+pub text_of-single : (c : Charset) → (c ≡ Utf8 → ⊥) → (bs : List ℕ) → text_of c bs ≡ encode_utf8_all (map (character c) bs)
+unfolding text_of
+text_of-single Utf8 other bs = absurd (other refl)
+text_of-single Latin1 other bs = refl
+text_of-single Latin9 other bs = refl
+text_of-single Windows1252 other bs = refl
+text_of-single Unknown other bs = refl
+
+-- bytes below 128 up to a place
+pub IsAscii-before : (bs : List ℕ) (at : ℕ) → ((k : ℕ) → 0 ≤ k → k < at → nat_lt 127 (slice_index bs k) ≡ true → ⊥) → IsAscii (take at bs)
+IsAscii-before bs at h =
+    IsAscii-from_reads (take at bs) at (omega (arith, length-take at bs))
+    (λ k lt. rw (get_or-take at bs k 0 lt) (low (slice_index bs k) (h k (omega arith) lt)))
+  where
+    low : (b : ℕ) → (nat_lt 127 b ≡ true → ⊥) → b < 128
+    low b no_high = elim (cases_lt 127 b) [ inl high ↦ absurd (no_high (lt-ltb 127 b high)) | inr le ↦ omega arith ]
+
+-- all bytes below 128
+pub IsAscii-all : (bs : List ℕ) → ((k : ℕ) → 0 ≤ k → k < length bs → nat_lt 127 (slice_index bs k) ≡ true → ⊥) → IsAscii bs
+IsAscii-all bs h = subst (λ (l : List ℕ). IsAscii l) (take_all (length bs) bs (omega arith)) (IsAscii-before bs (length bs) h)

@@ -1,0 +1,137 @@
+-- Escapes stretch by stretch.
+use Rattle.std.proofs.Common.{◌≡◌, ◌∙◌, ◌==◌, ◌≤◌, ◌++◌, ℕ, Bool, true, false, List, [], ◌∷◌, Option, Some, None, length, refl, sym, ap, arith, append_assoc, append-nil}
+use Rattle.std.specs.Prelude.{if◌then◌else◌}
+use Rattle.header_text.specs.Escapes.{hex_value, escaped, unescaped_by, unescaped, q_bytes, behind_equals}
+use Rattle.header_text.proofs.CutLemmas.{Lacks, IsCut}
+
+module _ (other : ℕ → ℕ) where
+  placed : ℕ → ℕ → ℕ → List ℕ → Option ℕ → List ℕ
+  placed a b c bytes o = elim o [ Some n ↦ n ∷ unescaped_by other bytes | None ↦ other a ∷ unescaped_by other (b ∷ c ∷ bytes) ]
+
+  u-none : (a b c : ℕ) (bytes : List ℕ) → escaped a b c ≡ None → unescaped_by other (a ∷ b ∷ c ∷ bytes) ≡ other a ∷ unescaped_by other (b ∷ c ∷ bytes)
+  unfolding placed
+  u-none a b c bytes e = ap (placed a b c bytes) e
+
+  u-some : (a b c n : ℕ) (bytes : List ℕ) → escaped a b c ≡ Some n → unescaped_by other (a ∷ b ∷ c ∷ bytes) ≡ n ∷ unescaped_by other bytes
+  unfolding placed
+  u-some a b c n bytes e = ap (placed a b c bytes) e
+
+  -- a byte other than `=`
+  u-plain : (a : ℕ) (bytes : List ℕ) → (a == 0x3D) ≡ false → unescaped_by other (a ∷ bytes) ≡ other a ∷ unescaped_by other bytes
+  u-plain a [] e = refl
+  u-plain a (b ∷ []) e = refl
+  u-plain a (b ∷ c ∷ bytes) e = u-none a b c bytes (rw e refl)
+
+  u-size : (bytes : List ℕ) → length (unescaped_by other bytes) ≤ length bytes
+  u-size [] = omega arith
+  u-size (a ∷ []) = omega arith
+  u-size (a ∷ b ∷ []) = omega arith
+  u-size (a ∷ b ∷ c ∷ bytes) = go (escaped a b c) refl (u-size bytes) (u-size (b ∷ c ∷ bytes))
+    where
+      go : (o : Option ℕ) → escaped a b c ≡ o → length (unescaped_by other bytes) ≤ length bytes → length (unescaped_by other (b ∷ c ∷ bytes)) ≤ length (b ∷ c ∷ bytes)
+          → length (unescaped_by other (a ∷ b ∷ c ∷ bytes)) ≤ length (a ∷ b ∷ c ∷ bytes)
+      go (Some n) e later after = rw (u-some a b c n bytes e) (omega arith)
+      go None e later after = rw (u-none a b c bytes e) (omega arith)
+
+pub length-unescaped : (bytes : List ℕ) → length (unescaped bytes) ≤ length bytes
+unfolding unescaped
+length-unescaped bytes = u-size (λ b. b) bytes
+
+pub length-q_bytes : (bytes : List ℕ) → length (q_bytes bytes) ≤ length bytes
+unfolding q_bytes
+length-q_bytes bytes = u-size (λ b. if b == 0x5F then 0x20 else b) bytes
+
+-- bytes without `=` stay
+pub unescaped-plain : (plain bytes : List ℕ) → Lacks 0x3D plain → unescaped (plain ++ bytes) ≡ plain ++ unescaped bytes
+unfolding unescaped
+unescaped-plain [] bytes free = refl
+unescaped-plain (a ∷ plain) bytes free = u-plain (λ b. b) a (plain ++ bytes) free.0 ∙ ap (λ (l : List ℕ). a ∷ l) (unescaped-plain plain bytes free.1)
+
+pub unescaped-nil : unescaped [] ≡ []
+unfolding unescaped
+unescaped-nil = refl
+
+pub unescaped-equals : (bytes : List ℕ) → unescaped (0x3D ∷ bytes) ≡ (behind_equals bytes).0 ∷ unescaped (behind_equals bytes).1
+unfolding unescaped
+unescaped-equals [] = refl
+unescaped-equals (b ∷ []) = refl
+unescaped-equals (b ∷ c ∷ bytes) = go (escaped 0x3D b c) refl
+  where
+    go : (o : Option ℕ) → escaped 0x3D b c ≡ o → unescaped (0x3D ∷ b ∷ c ∷ bytes) ≡ (behind_equals (b ∷ c ∷ bytes)).0 ∷ unescaped (behind_equals (b ∷ c ∷ bytes)).1
+    go (Some n) e = u-some (λ b. b) 0x3D b c n bytes e ∙ rw (e, behind_equals) refl
+    go None e = u-none (λ b. b) 0x3D b c bytes e ∙ rw (e, behind_equals) refl
+
+pub length-behind_equals : (bytes : List ℕ) → length (behind_equals bytes).1 ≤ length bytes
+length-behind_equals [] = omega arith
+length-behind_equals (b ∷ []) = omega arith
+length-behind_equals (b ∷ c ∷ bytes) = go (escaped 0x3D b c) refl
+  where
+    go : (o : Option ℕ) → escaped 0x3D b c ≡ o → length (behind_equals (b ∷ c ∷ bytes)).1 ≤ length (b ∷ c ∷ bytes)
+    go (Some n) e = rw (e, behind_equals) (omega arith)
+    go None e = rw (e, behind_equals) (omega arith)
+
+-- ---- Q
+
+abbrev q : ℕ → ℕ
+q b = if b == 0x5F then 0x20 else b
+
+no_digit : (a b : ℕ) → escaped a b 0x5F ≡ None
+no_digit a b = go (a == 0x3D) refl (hex_value b) refl
+  where
+    go : (t : Bool) → (a == 0x3D) ≡ t → (o : Option ℕ) → hex_value b ≡ o → escaped a b 0x5F ≡ None
+    go false e o f = rw e refl
+    go true e None f = rw (e, f) refl
+    go true e (Some n) f = rw (e, f) refl
+
+no_first_digit : (a c : ℕ) → escaped a 0x5F c ≡ None
+no_first_digit a c = go (a == 0x3D) refl
+  where
+    go : (t : Bool) → (a == 0x3D) ≡ t → escaped a 0x5F c ≡ None
+    go false e = rw e refl
+    go true e = rw e refl
+
+-- a `_` in front, behind a byte that isn't one
+q-then_space : (a : ℕ) (later : List ℕ) → (a == 0x5F) ≡ false → unescaped_by q (a ∷ 0x5F ∷ later) ≡ a ∷ 0x20 ∷ unescaped_by q later
+q-then_space a [] f = rw f refl
+q-then_space a (c ∷ later) f = u-none q a 0x5F c later (no_first_digit a c) ∙ rw f (ap (λ (l : List ℕ). a ∷ l) (u-plain q 0x5F (c ∷ later) refl))
+
+pub q_bytes-space : (stretch later : List ℕ) → Lacks 0x5F stretch → q_bytes (stretch ++ 0x5F ∷ later) ≡ unescaped stretch ++ 0x20 ∷ q_bytes later
+unfolding q_bytes unescaped
+q_bytes-space [] later free = u-plain q 0x5F later refl
+q_bytes-space (a ∷ []) later free = q-then_space a later free.0
+q_bytes-space (a ∷ b ∷ []) later free =
+    u-none q a b 0x5F later (no_digit a b) ∙ rw free.0 (ap (λ (l : List ℕ). a ∷ l) (q-then_space b later free.1.0))
+q_bytes-space (a ∷ b ∷ c ∷ stretch) later free = go (escaped a b c) refl (q_bytes-space stretch later free.1.1.1) (q_bytes-space (b ∷ c ∷ stretch) later free.1)
+  where
+    go : (o : Option ℕ) → escaped a b c ≡ o → q_bytes (stretch ++ 0x5F ∷ later) ≡ unescaped stretch ++ 0x20 ∷ q_bytes later
+        → q_bytes (b ∷ c ∷ (stretch ++ 0x5F ∷ later)) ≡ unescaped (b ∷ c ∷ stretch) ++ 0x20 ∷ q_bytes later
+        → q_bytes (a ∷ b ∷ c ∷ (stretch ++ 0x5F ∷ later)) ≡ unescaped (a ∷ b ∷ c ∷ stretch) ++ 0x20 ∷ q_bytes later
+    go (Some n) e far near = u-some q a b c n (stretch ++ 0x5F ∷ later) e ∙ ap (λ (l : List ℕ). n ∷ l) far ∙ ap (λ (l : List ℕ). l ++ 0x20 ∷ unescaped_by q later) (sym (u-some (λ b. b) a b c n stretch e))
+    go None e far near =
+        u-none q a b c (stretch ++ 0x5F ∷ later) e ∙ rw free.0 (ap (λ (l : List ℕ). a ∷ l) near)
+        ∙ ap (λ (l : List ℕ). l ++ 0x20 ∷ unescaped_by q later) (sym (u-none (λ b. b) a b c stretch e))
+
+pub q_bytes-free : (stretch : List ℕ) → Lacks 0x5F stretch → q_bytes stretch ≡ unescaped stretch
+unfolding q_bytes unescaped
+q_bytes-free [] free = refl
+q_bytes-free (a ∷ []) free = rw free.0 refl
+q_bytes-free (a ∷ b ∷ []) free = rw (free.0, free.1.0) refl
+q_bytes-free (a ∷ b ∷ c ∷ stretch) free = go (escaped a b c) refl (q_bytes-free stretch free.1.1.1) (q_bytes-free (b ∷ c ∷ stretch) free.1)
+  where
+    go : (o : Option ℕ) → escaped a b c ≡ o → q_bytes stretch ≡ unescaped stretch → q_bytes (b ∷ c ∷ stretch) ≡ unescaped (b ∷ c ∷ stretch) → q_bytes (a ∷ b ∷ c ∷ stretch) ≡ unescaped (a ∷ b ∷ c ∷ stretch)
+    go (Some n) e far near = u-some q a b c n stretch e ∙ ap (λ (l : List ℕ). n ∷ l) far ∙ sym (u-some (λ b. b) a b c n stretch e)
+    go None e far near = u-none q a b c stretch e ∙ rw free.0 (ap (λ (l : List ℕ). a ∷ l) near) ∙ sym (u-none (λ b. b) a b c stretch e)
+
+-- ---- a stretch more
+
+pub unescaped-step : (rest plain behind later : List ℕ) (byte : ℕ) → IsCut 0x3D rest plain behind → byte ≡ (behind_equals behind).0 → later ≡ (behind_equals behind).1
+    → unescaped rest ≡ plain ++ byte ∷ unescaped later
+unescaped-step rest plain behind later byte cut e f =
+    ap unescaped cut.joined ∙ unescaped-plain plain (0x3D ∷ behind) cut.free ∙ ap (λ (l : List ℕ). plain ++ l) (unescaped-equals behind ∙ rw (← e, ← f) refl)
+
+pub unescaped-rest : (rest : List ℕ) → Lacks 0x3D rest → unescaped rest ≡ rest
+unescaped-rest rest free = ap unescaped (sym (append-nil rest)) ∙ unescaped-plain rest [] free ∙ ap (λ (l : List ℕ). rest ++ l) unescaped-nil ∙ append-nil rest
+
+-- what was written before goes on with a stretch, a byte and what follows
+pub written : (items plain later : List ℕ) (byte : ℕ) → ((items ++ plain) ++ byte ∷ []) ++ later ≡ items ++ (plain ++ byte ∷ later)
+written items plain later byte = append_assoc (items ++ plain) (byte ∷ []) later ∙ append_assoc items plain (byte ∷ later)

@@ -1,0 +1,259 @@
+-- Encoded words one after another.
+use Rattle.std.proofs.Common.{◌≡◌, ◌∙◌, ◌==◌, ◌<◌, ◌+◌, ◌-◌, ◌++◌, ℕ, zero, suc, Bool, true, false, List, [], ◌∷◌, Option, Some, None, length, take, drop, refl, sym, ap, ap₂, arith, length-append, append_assoc, append-nil}
+use Rattle.std.specs.Prelude.{option_map, unwrap_or}
+use Rattle.std.proofs.lemmas.List.{take_at}
+use Rattle.std.proofs.lemmas.Bool.{eqb-true}
+use Rattle.header_text.specs.Cuts.{cut_at}
+use Rattle.header_text.specs.EncodedWords.{EncodedWord, spelled, is_well_formed, question, equals_sign, after, word_of, ◌>>=◌, word_and_later, word_at, WordAfter, Pieces, onto_front, pieces_behind, pieces}
+use Rattle.header_text.specs.ShownWords.{no_word, word_first}
+use Rattle.header_text.proofs.CutLemmas.{Lacks, IsCut, IsCut-from, Lacks-from}
+
+-- ---- how a word is spelled
+
+after-one : (c : ℕ) (bytes rest : List ℕ) → after (c ∷ []) bytes ≡ Some rest → bytes ≡ c ∷ rest
+after-one c [] rest e = absurd (cc)
+after-one c (b ∷ bytes) rest e = go (b == c) refl
+  where
+    go : (t : Bool) → (b == c) ≡ t → b ∷ bytes ≡ c ∷ rest
+    go true t = ap₂ (λ (x : ℕ) (l : List ℕ). x ∷ l) (eqb-true b c t) (ap (λ (o : Option (List ℕ)). unwrap_or o bytes) (rw (t, after) at e))
+    go false t = absurd (cc (rw (t, after) at e))
+
+pub record Spells (bytes : List ℕ) (w : EncodedWord) (later : List ℕ) : Type 0 where
+  pub joined : equals_sign ∷ bytes ≡ spelled w ++ later
+  pub well : is_well_formed w ≡ true
+
+record IsWordOf (charset encoding text : List ℕ) (w : EncodedWord) : Type 0 where
+  charset_is : charset ≡ w.charset
+  encoding_is : encoding ≡ w.encoding ∷ []
+  text_is : text ≡ w.text
+  well : is_well_formed w ≡ true
+
+abbrev made : List ℕ → ℕ → List ℕ → EncodedWord
+made charset e text = record { charset = charset; encoding = e; text = text }
+
+word_of-is : (charset encoding text : List ℕ) (w : EncodedWord) → word_of charset encoding text ≡ Some w → IsWordOf charset encoding text w
+word_of-is charset [] text w h = absurd (cc)
+word_of-is charset (e ∷ f ∷ encoding) text w h = absurd (cc)
+word_of-is charset (e ∷ []) text w h = go (is_well_formed (made charset e text)) refl
+  where
+    go : (t : Bool) → is_well_formed (made charset e text) ≡ t → IsWordOf charset (e ∷ []) text w
+    go false t = absurd (cc (rw t at h))
+    go true t =
+        let same : made charset e text ≡ w = ap (λ (o : Option EncodedWord). unwrap_or o w) (rw t at h) in
+        record {
+          charset_is = ap (λ (x : EncodedWord). x.charset) same;
+          encoding_is = ap (λ (x : EncodedWord). x.encoding ∷ []) same;
+          text_is = ap (λ (x : EncodedWord). x.text) same;
+          well = ap is_well_formed (sym same) ∙ t;
+        }
+
+abbrev Parts : Type 0
+Parts = List ℕ × List ℕ
+
+abbrev Found : Type 0
+Found = EncodedWord × List ℕ
+
+abbrev with_later : Parts → Parts → Parts → List ℕ → Option Found
+with_later charset encoding text later = option_map (λ (w : EncodedWord). (w, later)) (word_of charset.0 encoding.0 text.0)
+
+abbrev with_text : Parts → Parts → Parts → Option Found
+with_text charset encoding text = after (equals_sign ∷ []) text.1 >>= with_later charset encoding text
+
+abbrev with_encoding : Parts → Parts → Option Found
+with_encoding charset encoding = cut_at question encoding.1 >>= with_text charset encoding
+
+abbrev with_charset : Parts → Option Found
+with_charset charset = cut_at question charset.1 >>= with_encoding charset
+
+abbrev with_rest : List ℕ → Option Found
+with_rest rest = cut_at question rest >>= with_charset
+
+chain : (bytes : List ℕ) → word_and_later bytes ≡ (after (question ∷ []) bytes >>= with_rest)
+unfolding word_and_later
+chain bytes = refl
+
+-- what a step that succeeded went through
+record Passed {A B : Type 0} (o : Option A) (f : A → Option B) (y : B) : Type 0 where
+  value : A
+  was : o ≡ Some value
+  next : f value ≡ Some y
+
+passed : {A B : Type 0} (o : Option A) (f : A → Option B) (y : B) → (o >>= f) ≡ Some y → Passed o f y
+passed None f y h = absurd (cc)
+passed (Some x) f y h = record { value = x; was = refl; next = h }
+
+word_made : (o : Option EncodedWord) (later : List ℕ) (f : EncodedWord × List ℕ) → option_map (λ (w : EncodedWord). (w, later)) o ≡ Some f → (o ≡ Some f.0) × (later ≡ f.1)
+word_made None later f h = absurd (cc)
+word_made (Some w) later f h =
+    let p : EncodedWord × List ℕ = (w, later) in
+    let same : p ≡ f = ap (λ (o : Option (EncodedWord × List ℕ)). unwrap_or o p) h in
+    (ap (λ (q : EncodedWord × List ℕ). Some q.0) same, ap (λ (q : EncodedWord × List ℕ). q.1) same)
+
+-- an encoded word and what follows it, written out
+pub spelled-append : (w : EncodedWord) (later : List ℕ)
+    → spelled w ++ later ≡ equals_sign ∷ question ∷ (w.charset ++ question ∷ w.encoding ∷ question ∷ (w.text ++ question ∷ equals_sign ∷ later))
+spelled-append w later =
+    ap (λ (l : List ℕ). equals_sign ∷ question ∷ l) (append_assoc w.charset (question ∷ w.encoding ∷ question ∷ (w.text ++ question ∷ equals_sign ∷ [])) later
+    ∙ ap (λ (l : List ℕ). w.charset ++ question ∷ w.encoding ∷ question ∷ l) (append_assoc w.text (question ∷ equals_sign ∷ []) later))
+
+joined_parts : (bytes a b0 b1 c0 c1 d0 d1 e later : List ℕ) (w : EncodedWord) → bytes ≡ question ∷ a → a ≡ b0 ++ question ∷ b1 → b1 ≡ c0 ++ question ∷ c1 → c1 ≡ d0 ++ question ∷ d1
+    → d1 ≡ equals_sign ∷ e → e ≡ later → IsWordOf b0 c0 d0 w → equals_sign ∷ bytes ≡ spelled w ++ later
+joined_parts bytes a b0 b1 c0 c1 d0 d1 e later w r0 r1 r2 r3 r4 r5 is =
+    let text : c1 ≡ w.text ++ question ∷ equals_sign ∷ later = r3 ∙ ap₂ (λ (x y : List ℕ). x ++ question ∷ y) is.text_is (r4 ∙ ap (λ (l : List ℕ). equals_sign ∷ l) r5) in
+    let encoding : b1 ≡ w.encoding ∷ question ∷ c1 = r2 ∙ ap (λ (l : List ℕ). l ++ question ∷ c1) is.encoding_is in
+    ap (λ (l : List ℕ). equals_sign ∷ l) (r0 ∙ ap (λ (l : List ℕ). question ∷ l) (r1 ∙ ap₂ (λ (x y : List ℕ). x ++ question ∷ y) is.charset_is (encoding ∙ ap (λ (l : List ℕ). w.encoding ∷ question ∷ l) text)))
+    ∙ sym (spelled-append w later)
+
+pub spells : (bytes : List ℕ) (w : EncodedWord) (later : List ℕ) → word_and_later bytes ≡ Some (w, later) → Spells bytes w later
+spells bytes w later h =
+    let found : Found = (w, later) in
+    let a = passed (after (question ∷ []) bytes) with_rest found (sym (chain bytes) ∙ h) in
+    let b = passed (cut_at question a.value) with_charset found a.next in
+    let c = passed (cut_at question b.value.1) (with_encoding b.value) found b.next in
+    let d = passed (cut_at question c.value.1) (with_text b.value c.value) found c.next in
+    let e = passed (after (equals_sign ∷ []) d.value.1) (with_later b.value c.value d.value) found d.next in
+    let made_is = word_made (word_of b.value.0 c.value.0 d.value.0) e.value found e.next in
+    let is = word_of-is b.value.0 c.value.0 d.value.0 w made_is.0 in
+    let r0 : bytes ≡ question ∷ a.value = after-one question bytes a.value a.was in
+    let r1 : a.value ≡ b.value.0 ++ question ∷ b.value.1 = (IsCut-from question a.value b.value.0 b.value.1 b.was).joined in
+    let r2 : b.value.1 ≡ c.value.0 ++ question ∷ c.value.1 = (IsCut-from question b.value.1 c.value.0 c.value.1 c.was).joined in
+    let r3 : c.value.1 ≡ d.value.0 ++ question ∷ d.value.1 = (IsCut-from question c.value.1 d.value.0 d.value.1 d.was).joined in
+    let r4 : d.value.1 ≡ equals_sign ∷ e.value = after-one equals_sign d.value.1 e.value e.was in
+    record { joined = joined_parts bytes a.value b.value.0 b.value.1 c.value.0 c.value.1 d.value.0 d.value.1 e.value later w r0 r1 r2 r3 r4 made_is.1 is; well = is.well }
+
+-- ---- pieces
+
+-- a text before the first word
+abbrev pub with_front : List ℕ → List WordAfter → List ℕ → Pieces
+with_front seen [] rest = record { words = []; rest = seen ++ rest }
+with_front seen (w ∷ ws) rest = record { words = record { between = seen ++ w.between; word = w.word } ∷ ws; rest = rest }
+
+abbrev pub in_front : List ℕ → Pieces → Pieces
+in_front seen p = with_front seen p.words p.rest
+
+in_front-nil : (p : Pieces) → in_front [] p ≡ p
+in_front-nil p = go p.words p.rest
+  where
+    go : (ws : List WordAfter) (rest : List ℕ) → with_front [] ws rest ≡ record { words = ws; rest = rest }
+    go [] rest = refl
+    go (w ∷ ws) rest = refl
+
+in_front-cons : (b : ℕ) (seen : List ℕ) (p : Pieces) → onto_front b (in_front seen p).words (in_front seen p).rest ≡ in_front (b ∷ seen) p
+in_front-cons b seen p = go p.words
+  where
+    go : (ws : List WordAfter) → onto_front b (with_front seen ws p.rest).words (with_front seen ws p.rest).rest ≡ with_front (b ∷ seen) ws p.rest
+    go [] = refl
+    go (w ∷ ws) = refl
+
+pub in_front-append : (seen more : List ℕ) (p : Pieces) → in_front (seen ++ more) p ≡ in_front seen (in_front more p)
+in_front-append seen more p = go p.words
+  where
+    go : (ws : List WordAfter) → with_front (seen ++ more) ws p.rest ≡ in_front seen (with_front more ws p.rest)
+    go [] = ap (λ (l : List ℕ). no_word l) (append_assoc seen more p.rest)
+    go (w ∷ ws) = ap (λ (l : List ℕ). record { words = record { between = l; word = w.word } ∷ ws; rest = p.rest }) (append_assoc seen more w.between)
+
+judged : ℕ → List ℕ → Option EncodedWord → Pieces
+judged b bs o = elim o [
+  | Some w ↦ let later : Pieces = pieces_behind (length (spelled w) - 1) bs in record { words = record { between = []; word = w } ∷ later.words; rest = later.rest }
+  | None ↦ let later : Pieces = pieces_behind zero bs in onto_front b later.words later.rest
+]
+
+pieces-cons : (b : ℕ) (bs : List ℕ) → pieces (b ∷ bs) ≡ judged b bs (word_at (b ∷ bs))
+unfolding judged
+pieces-cons b bs = refl
+
+pub pieces-none : (b : ℕ) (bs : List ℕ) → word_at (b ∷ bs) ≡ None → pieces (b ∷ bs) ≡ in_front (b ∷ []) (pieces bs)
+unfolding judged
+pieces-none b bs e = pieces-cons b bs ∙ ap (judged b bs) e ∙ ap (λ (p : Pieces). onto_front b p.words p.rest) (sym (in_front-nil (pieces bs))) ∙ in_front-cons b [] (pieces bs)
+
+-- what is skipped is behind
+pieces_behind-skip : (front later : List ℕ) → pieces_behind (length front) (front ++ later) ≡ pieces later
+pieces_behind-skip [] [] = refl
+pieces_behind-skip [] (b ∷ later) = refl
+pieces_behind-skip (b ∷ front) later = pieces_behind-skip front later
+
+pub pieces-some : (bytes later : List ℕ) (w : EncodedWord) → word_at (equals_sign ∷ bytes) ≡ Some w → equals_sign ∷ bytes ≡ spelled w ++ later
+    → pieces (equals_sign ∷ bytes) ≡ word_first (record { between = []; word = w }) later
+unfolding judged
+pieces-some bytes later w e joined =
+    let front : List ℕ = question ∷ (w.charset ++ question ∷ w.encoding ∷ question ∷ (w.text ++ question ∷ equals_sign ∷ [])) in
+    let rest : bytes ≡ front ++ later = ap (λ (l : List ℕ). drop 1 l) joined in
+    let size : length (spelled w) - 1 ≡ length front = omega arith in
+    let skipped : pieces_behind (length (spelled w) - 1) bytes ≡ pieces later = rw (size, rest) (pieces_behind-skip front later) in
+    pieces-cons equals_sign bytes ∙ ap (judged equals_sign bytes) e ∙ ap (λ (p : Pieces). record { words = record { between = []; word = w } ∷ p.words; rest = p.rest }) skipped
+
+-- at a byte other than `=` no word begins
+word_at-other : (b : ℕ) (bs : List ℕ) → (b == equals_sign) ≡ false → word_at (b ∷ bs) ≡ None
+unfolding word_at
+word_at-other b bs e = rw (e, after) refl
+
+word_at-equals : (bs : List ℕ) → word_at (equals_sign ∷ bs) ≡ option_map (λ (found : EncodedWord × List ℕ). found.0) (word_and_later bs)
+unfolding word_at
+word_at-equals bs = refl
+
+pub pieces-plain : (plain later : List ℕ) → Lacks equals_sign plain → pieces (plain ++ later) ≡ in_front plain (pieces later)
+pieces-plain [] later free = sym (in_front-nil (pieces later))
+pieces-plain (b ∷ plain) later free =
+    pieces-none b (plain ++ later) (word_at-other b (plain ++ later) free.0) ∙ ap (in_front (b ∷ [])) (pieces-plain plain later free.1)
+    ∙ sym (in_front-append (b ∷ []) plain (pieces later))
+
+-- ---- searching for the first word
+
+-- so far none has begun
+pub record Seen (value rest : List ℕ) : Type 0 where
+  pub seen : List ℕ
+  pub joined : value ≡ seen ++ rest
+  pub found : pieces value ≡ in_front seen (pieces rest)
+
+pub seen-start : (value : List ℕ) → Seen value value
+seen-start value = record { seen = []; joined = refl; found = sym (in_front-nil (pieces value)) }
+
+-- an `=` at which none begins
+pub seen-more : (value rest plain behind : List ℕ) → Seen value rest → IsCut equals_sign rest plain behind → word_and_later behind ≡ None → Seen value behind
+seen-more value rest plain behind s cut e =
+    let none : word_at (equals_sign ∷ behind) ≡ None = word_at-equals behind ∙ ap (option_map (λ (found : EncodedWord × List ℕ). found.0)) e in
+    let passed : pieces rest ≡ in_front (plain ++ equals_sign ∷ []) (pieces behind) =
+    ap pieces cut.joined ∙ pieces-plain plain (equals_sign ∷ behind) cut.free ∙ ap (in_front plain) (pieces-none equals_sign behind none) ∙ sym (in_front-append plain (equals_sign ∷ []) (pieces behind)) in
+    record {
+      seen = s.seen ++ (plain ++ equals_sign ∷ []);
+      joined = s.joined ∙ ap (λ (l : List ℕ). s.seen ++ l) (cut.joined ∙ sym (append_assoc plain (equals_sign ∷ []) behind)) ∙ sym (append_assoc s.seen (plain ++ equals_sign ∷ []) behind);
+      found = s.found ∙ ap (in_front s.seen) passed ∙ sym (in_front-append s.seen (plain ++ equals_sign ∷ []) (pieces behind));
+    }
+
+-- one at which one begins
+pub record First (value behind later : List ℕ) (w : EncodedWord) : Type 0 where
+  pub found : pieces value ≡ word_first (record { between = take (length value - length behind - 1) value; word = w }) later
+  pub size : length (take (length value - length behind - 1) value) + length w.text + length later < length value
+
+pub seen-first : (value rest plain behind later : List ℕ) (w : EncodedWord) → Seen value rest → IsCut equals_sign rest plain behind → word_and_later behind ≡ Some (w, later) → First value behind later w
+seen-first value rest plain behind later w s cut e =
+    let is = spells behind w later e in
+    let here : word_at (equals_sign ∷ behind) ≡ Some w = word_at-equals behind ∙ ap (option_map (λ (found : EncodedWord × List ℕ). found.0)) e in
+    let front : List ℕ = s.seen ++ plain in
+    let split : value ≡ front ++ equals_sign ∷ behind = s.joined ∙ ap (λ (l : List ℕ). s.seen ++ l) cut.joined ∙ sym (append_assoc s.seen plain (equals_sign ∷ behind)) in
+    let sizes : length value ≡ length front + suc (length behind) = ap length split ∙ length-append front (equals_sign ∷ behind) in
+    let n : length front ≡ length value - length behind - 1 = omega arith in
+    let taken : take (length value - length behind - 1) value ≡ front = ap (λ (l : List ℕ). take (length value - length behind - 1) l) split ∙ take_at front (equals_sign ∷ behind) (length value - length behind - 1) n in
+    let first : pieces rest ≡ in_front plain (word_first (record { between = []; word = w }) later) =
+    ap pieces cut.joined ∙ pieces-plain plain (equals_sign ∷ behind) cut.free ∙ ap (in_front plain) (pieces-some behind later w here is.joined) in
+    let all : pieces value ≡ word_first (record { between = front; word = w }) later =
+    s.found ∙ ap (in_front s.seen) first ∙ ap (λ (l : List ℕ). word_first (record { between = l; word = w }) later) (ap (λ (l : List ℕ). s.seen ++ l) (append-nil plain)) in
+    let written = ap length (is.joined ∙ spelled-append w later) in
+    let a = length-append w.charset (question ∷ w.encoding ∷ question ∷ (w.text ++ question ∷ equals_sign ∷ later)) in
+    let b = length-append w.text (question ∷ equals_sign ∷ later) in
+    record {
+      found = all ∙ ap (λ (l : List ℕ). word_first (record { between = l; word = w }) later) (sym taken);
+      size = rw taken (omega (arith, sizes, written, a, b));
+    }
+
+-- none is left
+pub seen-end : (value rest : List ℕ) → Seen value rest → cut_at equals_sign rest ≡ None → pieces value ≡ no_word value
+seen-end value rest s e =
+    let free = Lacks-from equals_sign rest e in
+    let alone : pieces rest ≡ no_word rest = ap pieces (sym (append-nil rest)) ∙ pieces-plain rest [] free ∙ ap no_word (append-nil rest) in
+    s.found ∙ ap (in_front s.seen) alone ∙ ap no_word (sym s.joined)
+
+-- what is behind is shorter
+pub seen-shorter : (value rest plain behind : List ℕ) → Seen value rest → IsCut equals_sign rest plain behind → length behind < length value
+seen-shorter value rest plain behind s cut =
+    omega (arith, ap length s.joined, length-append s.seen rest, ap length cut.joined, length-append plain (equals_sign ∷ behind))

@@ -1,0 +1,7 @@
+use Rattle.std.proofs.Common.{◌≡◌, ℕ, ◌<◌, true, slice_index}
+use Rattle.header_text.specs.Alphabet.{is_symbol}
+use Rattle.header_text.proofs.base64_groups.symbols_in_front.Given as goal
+
+-- all before are symbols
+abbrev pub invariant-loop-i : goal.invariant-loop-i
+invariant-loop-i l = (k : ℕ) → k < l.i → is_symbol (slice_index l.text k) ≡ true

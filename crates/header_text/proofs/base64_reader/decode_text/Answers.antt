@@ -1,0 +1,16 @@
+use Rattle.std.proofs.Common.{◌∙◌, ◌++◌, ℕ, List, sym, ap, arith}
+use Rattle.std.proofs.lemmas.List.{take_rest}
+use Rattle.header_text.specs.Symbols.{symbols_of}
+use Rattle.header_text.proofs.GroupLemmas.{text-groups, text-other, sextet-other}
+use Rattle.header_text.proofs.base64_reader.decode_text.Goals as goal
+
+pub loop-first-preserved-then-count-gt0 : goal.loop-first-preserved-then-count-gt0
+loop-first-preserved-then-count-gt0 c later =
+    text-groups c.loop-first.held.symbols c.loop-first.held.count c.loop-first.rest.now c.groups_ahead-count.result (c.groups_ahead-count.ensures.none c.if-count-gt0.true)
+    c.groups_ahead-count.ensures.within c.groups_ahead-count.ensures.groups c.groups_ahead-count.ensures.symbols later c.loop-first.into.items c.decode_groups.new.into.items
+    c.in_ok-decode_groups.ensures _ (take_rest c.loop-first.rest.now c.groups_ahead-count.result) ∙ c.loop-first.invariant later
+
+pub loop-first-preserved : goal.loop-first-preserved
+loop-first-preserved c later =
+    ap (λ (l : List ℕ). c.loop-first.into.items ++ l) (text-other (symbols_of c.loop-first.held) c.loop-first.rest.now c.in-Some.others.now c.in-Some.first.now c.in-Some.ensures.cases.0
+    (sextet-other c.in-Some.first.now (omega arith) (sym c.is_symbol.ensures ∙ c.if-is_symbol.false)) later) ∙ c.loop-first.invariant later

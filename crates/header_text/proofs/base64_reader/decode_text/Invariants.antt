@@ -1,0 +1,12 @@
+use Rattle.std.proofs.Common.{◌≡◌, ◌++◌, ℕ, List, length}
+use Rattle.header_text.specs.Base64.{bytes_of_symbols}
+use Rattle.header_text.specs.Symbols.{symbols_of}
+use Rattle.header_text.proofs.base64_reader.decode_text.Given as goal
+
+-- what was written, and what comes of the symbols that are held and the rest, whatever follows
+abbrev pub invariant-loop-first : goal.invariant-loop-first
+invariant-loop-first l = (later : List ℕ) →
+    l.into.items ++ bytes_of_symbols (symbols_of l.held ++ (l.rest ++ later)) ≡ l.fn.into.items ++ bytes_of_symbols (symbols_of l.fn.held ++ (l.fn.text ++ later))
+
+abbrev pub decreases-loop-first : goal.decreases-loop-first
+decreases-loop-first l = length l.rest

@@ -1,0 +1,10 @@
+use Rattle.std.proofs.Common.{arith}
+use Rattle.header_text.proofs.GroupLemmas.{hold-symbols, hold-bytes}
+use Rattle.header_text.proofs.base64_reader.hold.Goals as goal
+
+pub decode_groups-requires-clause-symbols : goal.decode_groups-requires-clause-symbols
+decode_groups-requires-clause-symbols c = hold-symbols c.args.held.symbols c.args.held.count c.args.symbol (omega arith) (omega arith) c.args.held.all c.requires
+
+pub returns : goal.returns
+returns c later =
+    hold-bytes c.args.held.symbols c.args.held.count c.args.symbol (omega arith) (omega arith) c.args.held.all c.requires later c.args.into.now.items c.decode_groups.new.into.items c.in_ok-decode_groups.ensures

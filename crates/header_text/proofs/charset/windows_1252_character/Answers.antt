@@ -1,0 +1,7 @@
+use Rattle.std.proofs.Common.{refl}
+use Rattle.header_text.specs.Charsets.{windows_1252_upper}
+use Rattle.header_text.proofs.CharsetLemmas.{small-at}
+use Rattle.header_text.proofs.charset.windows_1252_character.Goals as goal
+
+pub returns-in-128-to-159-clause-small : goal.returns-in-128-to-159-clause-small
+returns-in-128-to-159-clause-small c = small-at windows_1252_upper refl c.from.result

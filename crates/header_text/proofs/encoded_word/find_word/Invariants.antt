@@ -1,0 +1,10 @@
+use Rattle.std.proofs.Common.{length}
+use Rattle.header_text.proofs.WordLemmas.{Seen}
+use Rattle.header_text.proofs.encoded_word.find_word.Given as goal
+
+-- no word has begun so far
+abbrev pub invariant-loop-behind : goal.invariant-loop-behind
+invariant-loop-behind l = Seen l.value l.rest
+
+abbrev pub decreases-loop-behind : goal.decreases-loop-behind
+decreases-loop-behind l = length l.rest

@@ -1,0 +1,29 @@
+use Rattle.std.proofs.Common.{◌∙◌, ◌++◌, ℕ, List, [], ◌∷◌, length, sym, ap, arith, length-append}
+use Rattle.header_text.specs.Escapes.{unescaped, q_bytes}
+use Rattle.header_text.proofs.CutLemmas.{IsCut, IsCut-from, Lacks-from}
+use Rattle.header_text.proofs.EscapeLemmas.{q_bytes-space, q_bytes-free, written, length-q_bytes}
+use Rattle.header_text.proofs.escape.decode_q_into.Goals as goal
+use Rattle.header_text.proofs.escape.decode_q_into.Goals.{In_ok-push}
+
+cut : (c : In_ok-push) → IsCut 0x5F c.loop-stretch.rest.now c.in-Some.stretch.now c.in-Some.behind.now
+cut c = IsCut-from 0x5F c.loop-stretch.rest.now c.in-Some.stretch.now c.in-Some.behind.now (sym c.in-Some.ensures)
+
+pub loop-stretch-smaller : goal.loop-stretch-smaller
+loop-stretch-smaller c = let joined = (cut c).joined in omega (arith, ap length joined, length-append c.in-Some.stretch.now (0x5F ∷ c.in-Some.behind.now))
+
+pub loop-stretch-preserved : goal.loop-stretch-preserved
+loop-stretch-preserved c =
+    let stretch = c.in-Some.stretch.now in
+    let behind = c.in-Some.behind.now in
+    let items : List ℕ = c.loop-stretch.into.items in
+    ap (λ (l : List ℕ). l ++ q_bytes behind) (c.in_ok-push.ensures.items ∙ ap (λ (l : List ℕ). l ++ 0x20 ∷ []) c.in_ok-unescape_into.ensures.bytes)
+    ∙ written items (unescaped stretch) (q_bytes behind) 0x20
+    ∙ ap (λ (l : List ℕ). items ++ l) (sym (ap q_bytes (cut c).joined ∙ q_bytes-space stretch behind (cut c).free)) ∙ c.loop-stretch.invariant
+
+pub returns-clause-bytes : goal.returns-clause-bytes
+returns-clause-bytes c =
+    c.in_ok-unescape_into-2.ensures.bytes ∙ ap (λ (l : List ℕ). c.loop-stretch.into.items ++ l) (sym (q_bytes-free c.loop-stretch.rest.now (Lacks-from 0x5F c.loop-stretch.rest.now (sym c.in_default.ensures))))
+    ∙ c.loop-stretch.invariant
+
+pub returns-clause-size : goal.returns-clause-size
+returns-clause-size c = omega (arith, ap length (returns-clause-bytes c), length-append c.args.into.now.items (q_bytes c.args.text.now), length-q_bytes c.args.text.now)

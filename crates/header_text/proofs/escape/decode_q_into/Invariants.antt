@@ -1,0 +1,10 @@
+use Rattle.std.proofs.Common.{◌≡◌, ◌++◌, length}
+use Rattle.header_text.specs.Escapes.{q_bytes}
+use Rattle.header_text.proofs.escape.decode_q_into.Given as goal
+
+-- what was written, and what comes of the rest
+abbrev pub invariant-loop-stretch : goal.invariant-loop-stretch
+invariant-loop-stretch l = l.into.items ++ q_bytes l.rest ≡ l.fn.into.items ++ q_bytes l.fn.text
+
+abbrev pub decreases-loop-stretch : goal.decreases-loop-stretch
+decreases-loop-stretch l = length l.rest

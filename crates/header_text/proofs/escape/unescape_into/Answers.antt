@@ -1,0 +1,36 @@
+use Rattle.std.proofs.Common.{◌≡◌, ◌∙◌, ◌≤◌, ◌++◌, ℕ, List, [], ◌∷◌, length, sym, ap, arith, length-append}
+use Rattle.header_text.specs.Escapes.{unescaped, behind_equals}
+use Rattle.header_text.proofs.CutLemmas.{IsCut, IsCut-from, Lacks-from}
+use Rattle.header_text.proofs.EscapeLemmas.{unescaped-step, unescaped-rest, written, length-behind_equals, length-unescaped}
+use Rattle.header_text.proofs.escape.unescape_into.Goals as goal
+use Rattle.header_text.proofs.escape.unescape_into.Goals.{In_ok-push}
+
+cut : (c : In_ok-push) → IsCut 0x3D c.loop-plain.rest.now c.in-Some.plain.now c.in-Some.behind.now
+cut c = IsCut-from 0x3D c.loop-plain.rest.now c.in-Some.plain.now c.in-Some.behind.now (sym c.in-Some.ensures)
+
+later : (c : In_ok-push) → c.behind_equals-byte.result.1.now ≡ (behind_equals c.in-Some.behind.now).1
+later c = ap (λ (p : ℕ × List ℕ). p.1) c.behind_equals-byte.ensures
+
+pub loop-plain-smaller : goal.loop-plain-smaller
+loop-plain-smaller c =
+    let joined = (cut c).joined in
+    let fits : length c.behind_equals-byte.result.1.now ≤ length c.in-Some.behind.now = rw (later c) (length-behind_equals c.in-Some.behind.now) in
+    omega (arith, fits, ap length joined, length-append c.in-Some.plain.now (0x3D ∷ c.in-Some.behind.now))
+
+pub loop-plain-preserved : goal.loop-plain-preserved
+loop-plain-preserved c =
+    let plain = c.in-Some.plain.now in
+    let byte : ℕ = c.behind_equals-byte.result.0 in
+    let items : List ℕ = c.loop-plain.into.items in
+    let behind = unescaped c.behind_equals-byte.result.1.now in
+    let e : byte ≡ (behind_equals c.in-Some.behind.now).0 = ap (λ (p : ℕ × List ℕ). p.0) c.behind_equals-byte.ensures in
+    ap (λ (l : List ℕ). l ++ behind) (c.in_ok-push.ensures.items ∙ ap (λ (l : List ℕ). l ++ byte ∷ []) c.in_ok-extend_from_slice.ensures.items) ∙ written items plain behind byte
+    ∙ ap (λ (l : List ℕ). items ++ l) (sym (unescaped-step c.loop-plain.rest.now plain c.in-Some.behind.now c.behind_equals-byte.result.1.now byte (cut c) e (later c))) ∙ c.loop-plain.invariant
+
+pub returns-clause-bytes : goal.returns-clause-bytes
+returns-clause-bytes c =
+    c.in_ok-extend_from_slice-2.ensures.items ∙ ap (λ (l : List ℕ). c.loop-plain.into.items ++ l) (sym (unescaped-rest c.loop-plain.rest.now (Lacks-from 0x3D c.loop-plain.rest.now (sym c.in_default.ensures))))
+    ∙ c.loop-plain.invariant
+
+pub returns-clause-size : goal.returns-clause-size
+returns-clause-size c = omega (arith, ap length (returns-clause-bytes c), length-append c.args.into.now.items (unescaped c.args.bytes.now), length-unescaped c.args.bytes.now)

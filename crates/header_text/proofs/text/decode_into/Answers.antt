@@ -1,0 +1,10 @@
+use Rattle.header_text.specs.Charsets.{text_of}
+use Rattle.header_text.proofs.CharacterLemmas.{text_of-single}
+use Rattle.header_text.proofs.text.decode_into.Goals as goal
+
+pub returns-in-Utf8-clause-text : goal.returns-in-Utf8-clause-text
+unfolding text_of
+returns-in-Utf8-clause-text c = rw c.in-Utf8.is c.push_lossy.ensures.text
+
+pub returns-in_default-clause-text : goal.returns-in_default-clause-text
+returns-in_default-clause-text c = rw (text_of-single c.args.charset c.in_default.not-Utf8 c.args.bytes.now) c.push_characters.ensures.text

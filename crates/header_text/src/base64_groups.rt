@@ -1,0 +1,72 @@
+//! Groups of base64 symbols.
+ghost use Rattle.std.specs.Prelude.{◌≡◌, ℕ, ◌<◌, ◌≤◌, ◌+◌, ◌%◌, ◌/◌, ◌*◌, ◌++◌, take, List, [], true, length, slice_index, OnOk, IfOk};
+ghost use Rattle.header_text.specs.Base64.{bytes_of_symbols};
+ghost use Rattle.header_text.specs.Alphabet.{is_symbol as is_symbol_of};
+
+use base64::engine::general_purpose::STANDARD;
+use std::alloc::AllocError;
+
+/// At most three symbols, which wait for their group's others.
+#[derive(Clone, Copy)]
+pub struct Held {
+    pub symbols: [u8; 4],
+    pub count: usize,
+    ghost few: { count < 4 },
+    ghost all: { (k : ℕ) → k < count → is_symbol_of (slice_index symbols k) ≡ true },
+}
+
+/// A letter, a digit, `+` or `/`.
+pub fn is_symbol(b: u8) -> bool
+    ensures { result ≡ is_symbol_of b }
+{
+    matches!(b, b'A'..=b'Z' | b'a'..=b'z' | b'0'..=b'9' | b'+' | b'/')
+}
+
+/// How many symbols stand in front, in whole groups of four.
+pub fn whole_groups(text: &[u8]) -> usize
+    ensures within { result ≤ length text.now }
+    ensures groups { result % 4 ≡ 0 }
+    ensures symbols { (k : ℕ) → k < result → is_symbol_of (slice_index text.now k) ≡ true }
+{
+    let count = symbols_in_front(text);
+    count - count % 4
+}
+
+/// How many symbols stand in front.
+fn symbols_in_front(text: &[u8]) -> usize
+    ensures within { result ≤ length text.now }
+    ensures symbols { (k : ℕ) → k < result → is_symbol_of (slice_index text.now k) ≡ true }
+{
+    for (i, b) in text.iter().enumerate() {
+        if !is_symbol(*b) {
+            return i;
+        }
+    }
+    text.len()
+}
+
+/// Adds the bytes of symbols in whole groups of four, in one call of the decoder.
+pub fn decode_groups(symbols: &[u8], into: &mut Vec<u8>) -> Result<(), AllocError>
+    requires some { 0 < length symbols.now }
+    requires groups { length symbols.now % 4 ≡ 0 }
+    requires symbols { (k : ℕ) → k < length symbols.now → is_symbol_of (slice_index symbols.now k) ≡ true }
+    ensures { OnOk result (into.new.items ≡ into.old.items ++ bytes_of_symbols symbols.now) }
+{
+    let start = into.len();
+    let size = symbols.len() / 4 * 3;
+    into.resize(start + size, 0)?;
+    decode_behind(symbols, into, start);
+    Ok(())
+}
+
+/// Writes the bytes of symbols in whole groups of four behind a place, up to the end.
+fn decode_behind(symbols: &[u8], into: &mut [u8], start: usize)
+    requires some { 0 < length symbols.now }
+    requires groups { length symbols.now % 4 ≡ 0 }
+    requires symbols { (k : ℕ) → k < length symbols.now → is_symbol_of (slice_index symbols.now k) ≡ true }
+    requires room { length into.old ≡ start + length symbols.now / 4 * 3 }
+    ensures { into.new ≡ take start into.old ++ bytes_of_symbols symbols.now }
+{
+    let (_, behind) = into.split_at_mut(start);
+    let _ = STANDARD.decode_slice(symbols, behind);
+}

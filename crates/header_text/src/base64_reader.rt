@@ -1,0 +1,135 @@
+//! Base64 that comes piece by piece.
+ghost use Rattle.std.specs.Prelude.{◌≡◌, ℕ, ◌<◌, ◌≤◌, ◌+◌, ◌%◌, ◌∷◌, ◌++◌, length, slice_index, List, true, IfOk, OnOk};
+ghost use Rattle.header_text.specs.Base64.{bytes_of_symbols, base64_bytes};
+ghost use Rattle.header_text.specs.Alphabet.{is_symbol as is_symbol_of};
+ghost use Rattle.header_text.specs.Symbols.{symbols_of};
+
+use crate::base64_groups::{Held, decode_groups, is_symbol, whole_groups};
+use crate::cut::cut_at;
+use std::alloc::AllocError;
+
+/// Base64 (RFC 4648, 4) whose text comes in pieces.
+#[derive(Clone, Copy)]
+pub struct Base64 {
+    held: Held,
+    ended: bool,
+}
+
+/// Holds one symbol more, or decodes its group.
+fn hold(held: Held, symbol: u8, into: &mut Vec<u8>) -> Result<Held, AllocError>
+    requires { is_symbol_of symbol ≡ true }
+    ensures { IfOk result (λ after. (later : List ℕ) → into.new.items ++ bytes_of_symbols (symbols_of after ++ later) ≡ into.old.items ++ bytes_of_symbols (symbols_of held ++ symbol ∷ later)) }
+{
+    let mut symbols = held.symbols;
+    symbols[held.count] = symbol;
+    if held.count < 3 {
+        return Ok(Held {
+            symbols,
+            count: held.count + 1,
+        });
+    }
+    decode_groups(&symbols, into)?;
+    Ok(Held { symbols, count: 0 })
+}
+
+/// How many symbols stand in front in whole groups, where none is held.
+fn groups_ahead(held: Held, text: &[u8]) -> usize
+    ensures within { result ≤ length text.now }
+    ensures groups { result % 4 ≡ 0 }
+    ensures symbols { (k : ℕ) → k < result → is_symbol_of (slice_index text.now k) ≡ true }
+    ensures none { 0 < result → held.count ≡ 0 }
+{
+    if held.count == 0 {
+        whole_groups(text)
+    } else {
+        0
+    }
+}
+
+/// Decodes a text without `=` behind the symbols that are held.
+fn decode_text(held: Held, text: &[u8], into: &mut Vec<u8>) -> Result<Held, AllocError>
+    ensures { IfOk result (λ after. (later : List ℕ) → into.new.items ++ bytes_of_symbols (symbols_of after ++ later) ≡ into.old.items ++ bytes_of_symbols (symbols_of held ++ (text.now ++ later))) }
+{
+    let mut held = held;
+    let mut rest = text;
+    while let Some((first, others)) = rest.split_first() {
+        let count = groups_ahead(held, rest);
+        if count > 0 {
+            decode_groups(&rest[..count], into)?;
+            rest = &rest[count..];
+        } else {
+            if is_symbol(*first) {
+                held = hold(held, *first, into)?;
+            }
+            rest = others;
+        }
+    }
+    Ok(held)
+}
+
+impl Base64 {
+    ghost use Rattle.std.specs.Prelude.{[]};
+    ghost use Rattle.header_text.specs.Symbols.{bytes_to_come};
+
+    /// A reader at the beginning of a text.
+    pub fn new() -> Self
+        ensures { (text : List ℕ) → bytes_to_come result text ≡ base64_bytes text }
+    {
+        let held = Held {
+            symbols: [0; 4],
+            count: 0,
+        };
+        Base64 { held, ended: false }
+    }
+
+    /// Reads a piece, and adds the bytes of the groups that it completes: bytes outside the alphabet are skipped, and the
+    /// text ends at its first `=`. What the buffer and the reader hold after an error isn't said.
+    pub fn push(&mut self, piece: &[u8], into: &mut Vec<u8>) -> Result<(), AllocError>
+        ensures { OnOk result ((later : List ℕ) → into.new.items ++ bytes_to_come self.new later ≡ into.old.items ++ bytes_to_come self.old (piece.now ++ later)) }
+    {
+        if self.ended {
+            return Ok(());
+        }
+        match cut_at(b'=', piece) {
+            Some((text, _)) => {
+                self.held = decode_text(self.held, text, into)?;
+                self.ended = true;
+            }
+            None => self.held = decode_text(self.held, piece, into)?,
+        }
+        Ok(())
+    }
+
+    /// Adds what the symbols that are left over give at the text's end: one byte of two, two of three.
+    pub fn finish(self, into: &mut Vec<u8>) -> Result<(), AllocError>
+        ensures { OnOk result (into.new.items ≡ into.old.items ++ bytes_to_come self []) }
+    {
+        finish_text(self.held, into)
+    }
+}
+
+/// Adds what the symbols that are held give.
+fn finish_text(held: Held, into: &mut Vec<u8>) -> Result<(), AllocError>
+    ensures { OnOk result (into.new.items ≡ into.old.items ++ bytes_of_symbols (symbols_of held)) }
+{
+    if held.count < 2 {
+        return Ok(());
+    }
+    let mut symbols = [b'A'; 4];
+    symbols[..held.count].copy_from_slice(&held.symbols[..held.count]);
+    let end = into.len() + held.count - 1;
+    decode_groups(&symbols, into)?;
+    into.truncate(end);
+    Ok(())
+}
+
+/// Adds the bytes of a whole text.
+pub fn decode_base64_into(text: &[u8], into: &mut Vec<u8>) -> Result<(), AllocError>
+    ensures bytes { OnOk result (into.new.items ≡ into.old.items ++ base64_bytes text.now) }
+    ensures size { OnOk result (length into.new.items ≤ length into.old.items + length text.now) }
+{
+    let mut reader = Base64::new();
+    reader.push(text, into)?;
+    reader.finish(into)?;
+    Ok(())
+}

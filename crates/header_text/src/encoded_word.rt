@@ -1,0 +1,221 @@
+//! Encoded words (RFC 2047).
+ghost use Rattle.std.specs.Prelude.{◌≡◌, ◌<◌, ◌≤◌, ◌+◌, ◌*◌, ◌∷◌, ◌++◌, [], Some, None, length, option_map, MatchOption, IfSome, IfOk, OnOk, string_bytes, if◌then◌else◌};
+ghost use Rattle.std.specs.Prelude.{◌&&◌, nat_lt};
+ghost use Rattle.std.specs.List.{list_all};
+ghost use Rattle.header_text.specs.Blanks.{is_blank as is_blank_of};
+ghost use Rattle.header_text.specs.EncodedWords.{is_charset_byte as is_charset_byte_of, is_text_byte as is_text_byte_of, is_q as is_q_of, is_b as is_b_of, word_of as word_of_parts, after, question, equals_sign, word_and_later, pieces, text_between, plain_text, word_text, decoded};
+ghost use Rattle.header_text.specs.ShownWords.{shown_word, shown_found, no_word, word_first};
+
+use crate::base64_reader::decode_base64_into;
+use crate::blanks::is_blank;
+use crate::charset::Charset;
+use crate::cut::cut_at;
+use crate::escape::decode_q_into;
+use crate::text::{decode_into, push_lossy};
+use std::alloc::{AllocError, Global};
+
+/// `=?charset?encoding?text?=`
+#[derive(Clone, Copy)]
+struct EncodedWord<'a> {
+    charset: &'a [u8],
+    encoding: u8,
+    text: &'a [u8],
+}
+
+/// The text between two encoded words, the second of them, and what follows it.
+#[derive(Clone, Copy)]
+struct Found<'a> {
+    between: &'a [u8],
+    word: EncodedWord<'a>,
+    later: &'a [u8],
+}
+
+/// 33 to 126 but for `?`.
+fn is_charset_byte(b: u8) -> bool
+    ensures { result ≡ is_charset_byte_of b }
+{
+    matches!(b, 33..=126) && b != b'?'
+}
+
+/// 32 to 126 but for `?`.
+fn is_text_byte(b: u8) -> bool
+    ensures { result ≡ is_text_byte_of b }
+{
+    matches!(b, 32..=126) && b != b'?'
+}
+
+/// The letter of Q, in either case.
+fn is_q(encoding: u8) -> bool
+    ensures { result ≡ is_q_of encoding }
+{
+    encoding == b'Q' || encoding == b'q'
+}
+
+/// The letter of B, in either case.
+fn is_b(encoding: u8) -> bool
+    ensures { result ≡ is_b_of encoding }
+{
+    encoding == b'B' || encoding == b'b'
+}
+
+/// Whether a charset may have all these bytes.
+fn are_charset_bytes(bytes: &[u8]) -> bool
+    ensures { result ≡ list_all is_charset_byte_of bytes.now }
+{
+    bytes.iter().all(|b| is_charset_byte(*b))
+}
+
+/// One or more bytes of a charset.
+fn is_charset(bytes: &[u8]) -> bool
+    ensures { result ≡ (nat_lt 0 (length bytes.now) && list_all is_charset_byte_of bytes.now) }
+{
+    !bytes.is_empty() && are_charset_bytes(bytes)
+}
+
+/// Whether a text may have all these bytes.
+fn is_text(bytes: &[u8]) -> bool
+    ensures { result ≡ list_all is_text_byte_of bytes.now }
+{
+    bytes.iter().all(|b| is_text_byte(*b))
+}
+
+/// The word of three parts, if they make one.
+fn word_of<'a>(charset: &'a [u8], encoding: &[u8], text: &'a [u8]) -> Option<EncodedWord<'a>>
+    ensures { option_map shown_word result ≡ word_of_parts charset.now encoding.now text.now }
+{
+    match encoding {
+        [encoding]
+            if is_charset(charset) && (is_q(*encoding) || is_b(*encoding)) && is_text(text) => Some(
+            EncodedWord {
+                charset,
+                encoding: *encoding,
+                text,
+            },
+        ),
+        _ => None,
+    }
+}
+
+/// What follows `?`.
+fn after_question(bytes: &[u8]) -> Option<&[u8]>
+    ensures { option_map (λ rest. rest.now) result ≡ after (question ∷ []) bytes.now }
+{
+    match bytes {
+        [b'?', rest @ ..] => Some(rest),
+        _ => None,
+    }
+}
+
+/// What follows `=`.
+fn after_equals(bytes: &[u8]) -> Option<&[u8]>
+    ensures { option_map (λ rest. rest.now) result ≡ after (equals_sign ∷ []) bytes.now }
+{
+    match bytes {
+        [b'=', rest @ ..] => Some(rest),
+        _ => None,
+    }
+}
+
+/// The encoded word that begins with `=` and these bytes, and what follows it.
+#[tactic(auto, unfolding(crate::specs::EncodedWords::word_and_later))]
+fn word_behind(bytes: &[u8]) -> Option<(EncodedWord<'_>, &[u8])>
+    ensures { option_map (λ f. (shown_word f.0, f.1.now)) result ≡ word_and_later bytes.now }
+{
+    let rest = after_question(bytes)?;
+    let (charset, rest) = cut_at(b'?', rest)?;
+    let (encoding, rest) = cut_at(b'?', rest)?;
+    let (text, rest) = cut_at(b'?', rest)?;
+    let later = after_equals(rest)?;
+    let word = word_of(charset, encoding, text)?;
+    Some((word, later))
+}
+
+/// The leftmost encoded word.
+fn find_word(value: &[u8]) -> Option<Found<'_>>
+    ensures pieces { MatchOption result (pieces value.now ≡ no_word value.now) (λ f. pieces value.now ≡ word_first (shown_found f) f.later.now) }
+    ensures smaller { IfSome result (λ f. length f.between.now + length f.word.text.now + length f.later.now < length value.now) }
+{
+    let mut rest = value;
+    while let Some((_, behind)) = cut_at(b'=', rest) {
+        if let Some((word, later)) = word_behind(behind) {
+            return Some(Found {
+                between: &value[..value.len() - behind.len() - 1],
+                word,
+                later,
+            });
+        }
+        rest = behind;
+    }
+    None
+}
+
+/// Adds the text before an encoded word: between two of them nothing, where it is spaces and tabs alone.
+fn push_between(bytes: &[u8], follows_word: bool, into: &mut String) -> Result<(), AllocError>
+    ensures text { OnOk result (string_bytes into.new ≡ string_bytes into.old ++ (if follows_word then text_between bytes.now else plain_text bytes.now)) }
+    ensures size { OnOk result (length (string_bytes into.new) ≤ length (string_bytes into.old) + 3 * length bytes.now) }
+{
+    if follows_word && are_blanks(bytes) {
+        return Ok(());
+    }
+    push_lossy(bytes, into)
+}
+
+/// Whether all bytes are spaces and tabs.
+fn are_blanks(bytes: &[u8]) -> bool
+    ensures { result ≡ list_all is_blank_of bytes.now }
+{
+    bytes.iter().all(|b| is_blank(*b))
+}
+
+/// Adds the text of an encoded word.
+fn push_word(
+    word: &EncodedWord<'_>,
+    scratch: &mut Vec<u8>,
+    into: &mut String,
+) -> Result<(), AllocError>
+    ensures text { OnOk result (string_bytes into.new ≡ string_bytes into.old ++ word_text (shown_word word.now)) }
+    ensures size { OnOk result (length (string_bytes into.new) ≤ length (string_bytes into.old) + 3 * length word.now.text.now) }
+{
+    scratch.clear();
+    if is_q(word.encoding) {
+        decode_q_into(word.text, scratch)?;
+    } else {
+        decode_base64_into(word.text, scratch)?;
+    }
+    decode_into(Charset::of(word.charset), scratch, into)
+}
+
+/// Adds the text of an unfolded value (RFC 2047): its encoded words are found anywhere in it, the leftmost first, and each
+/// is decoded alone; spaces and tabs alone between two of them are dropped, and any other stretch is read as UTF-8 with
+/// U+FFFD for each maximal faulty part. It has at most three bytes for each of the value's. An encoded word's bytes are
+/// gathered in `scratch`. After an error the buffer holds its old text and some more.
+pub fn decode_words_into(
+    unfolded: &[u8],
+    scratch: &mut Vec<u8>,
+    into: &mut String,
+) -> Result<(), AllocError>
+    ensures text { OnOk result (string_bytes into.new ≡ string_bytes into.old ++ decoded unfolded.now) }
+    ensures size { OnOk result (length (string_bytes into.new) ≤ length (string_bytes into.old) + 3 * length unfolded.now) }
+{
+    let mut rest = unfolded;
+    let mut follows_word = false;
+    while let Some(found) = find_word(rest) {
+        push_between(found.between, follows_word, into)?;
+        push_word(&found.word, scratch, into)?;
+        follows_word = true;
+        rest = found.later;
+    }
+    push_lossy(rest, into)?;
+    Ok(())
+}
+
+/// The text of an unfolded value (RFC 2047), as `decode_words_into` adds it.
+pub fn decode_words(alloc: Global, unfolded: &[u8]) -> Result<String, AllocError>
+    ensures text { IfOk result (λ text. string_bytes text ≡ decoded unfolded.now) }
+    ensures size { IfOk result (λ text. length (string_bytes text) ≤ 3 * length unfolded.now) }
+{
+    let mut text = String::new(alloc);
+    let mut scratch = Vec::new(alloc);
+    decode_words_into(unfolded, &mut scratch, &mut text)?;
+    Ok(text)
+}

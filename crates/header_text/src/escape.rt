@@ -1,0 +1,72 @@
+//! Escapes of bytes as `=` and two hexadecimal digits.
+ghost use Rattle.std.specs.Prelude.{◌≡◌, ◌<◌, ◌≤◌, ◌+◌, ◌++◌, length, IfSome, OnOk};
+ghost use Rattle.header_text.specs.Escapes.{hex_value, escaped as escaped_of, behind_equals as behind_equals_of, unescaped, q_bytes};
+
+use crate::cut::cut_at;
+use std::alloc::AllocError;
+
+/// The value of a hexadecimal digit, in either case.
+fn hex_digit(b: u8) -> Option<u8>
+    ensures value { result ≡ hex_value b }
+    ensures small { IfSome result (λ n. n < 16) }
+{
+    match b {
+        b'0'..=b'9' => Some(b - b'0'),
+        b'A'..=b'F' => Some(b - b'A' + 10),
+        b'a'..=b'f' => Some(b - b'a' + 10),
+        _ => None,
+    }
+}
+
+/// The byte that `=` and two digits stand for.
+fn escaped(high: u8, low: u8) -> Option<u8>
+    ensures { result ≡ escaped_of 0x3D high low }
+{
+    let high = hex_digit(high)?;
+    let low = hex_digit(low)?;
+    Some(high * 16 + low)
+}
+
+/// What `=` and the bytes behind it stand for, and what follows that.
+fn behind_equals(bytes: &[u8]) -> (u8, &[u8])
+    ensures { (result.0, result.1.now) ≡ behind_equals_of bytes.now }
+{
+    if let [high, low, rest @ ..] = bytes {
+        if let Some(byte) = escaped(*high, *low) {
+            return (byte, rest);
+        }
+    }
+    (b'=', bytes)
+}
+
+/// Adds bytes in which `=` and two hexadecimal digits in either case stand for a byte, and any other byte for itself, a
+/// lone `=` too (RFC 2045, 6.7, rule 1). What the buffer holds after an error isn't said.
+pub fn unescape_into(bytes: &[u8], into: &mut Vec<u8>) -> Result<(), AllocError>
+    ensures bytes { OnOk result (into.new.items ≡ into.old.items ++ unescaped bytes.now) }
+    ensures size { OnOk result (length into.new.items ≤ length into.old.items + length bytes.now) }
+{
+    let mut rest = bytes;
+    while let Some((plain, behind)) = cut_at(b'=', rest) {
+        into.extend_from_slice(plain)?;
+        let (byte, later) = behind_equals(behind);
+        into.push(byte)?;
+        rest = later;
+    }
+    into.extend_from_slice(rest)?;
+    Ok(())
+}
+
+/// Adds the bytes of a text in Q: as `unescape_into`, but that `_` is a space (RFC 2047, 4.2).
+pub fn decode_q_into(text: &[u8], into: &mut Vec<u8>) -> Result<(), AllocError>
+    ensures bytes { OnOk result (into.new.items ≡ into.old.items ++ q_bytes text.now) }
+    ensures size { OnOk result (length into.new.items ≤ length into.old.items + length text.now) }
+{
+    let mut rest = text;
+    while let Some((stretch, behind)) = cut_at(b'_', rest) {
+        unescape_into(stretch, into)?;
+        into.push(b' ')?;
+        rest = behind;
+    }
+    unescape_into(rest, into)?;
+    Ok(())
+}
