@@ -2,7 +2,7 @@
 ghost use Rattle.std.specs.Prelude.{◌≡◌, ℕ, List, [], ◌∷◌, ◌++◌, IfOk, OnOk};
 ghost use Rattle.mairix_tool.specs.MessageTexts.{has_subject_word, has_word, texts_of_message, texts_of_fields, text_of_body};
 
-use header_text::{Fields, Header, unfold_into};
+use header_text::{Fields, Header, decode_words_into, unfold_into};
 use mail_words::{Words, fold_into};
 use std::alloc::{AllocError, Global};
 
@@ -18,6 +18,7 @@ pub(crate) struct Subjects<'w> {
 #[derive(Drop)]
 struct ValueReader {
     unfolded: Vec<u8>,
+    decoded: Vec<u8>,
     text: String,
     folded: String,
 }
@@ -35,6 +36,7 @@ impl<'w> Subjects<'w> {
             header: Header::new(alloc),
             reader: ValueReader {
                 unfolded: Vec::new(alloc),
+                decoded: Vec::new(alloc),
                 text: String::new(alloc),
                 folded: String::new(alloc),
             },
@@ -93,7 +95,7 @@ impl ValueReader {
         self.unfolded.clear();
         unfold_into(body, &mut self.unfolded)?;
         self.text.clear();
-        decode_words_into(&self.unfolded, &mut self.text)?;
+        decode_words_into(&self.unfolded, &mut self.decoded, &mut self.text)?;
         text_has_word(self.text.as_str(), word, &mut self.folded)
     }
 }
@@ -109,15 +111,4 @@ fn text_has_word(text: &str, word: &str, folded: &mut String) -> Result<bool, Al
         }
     }
     Ok(false)
-}
-
-ghost use Rattle.header_text.specs.EncodedWords.{decoded};
-ghost use Rattle.std.specs.Prelude.{string_bytes};
-
-fn decode_words_into(value: &[u8], into: &mut String) -> Result<(), AllocError>
-    ensures { OnOk result (string_bytes into.new ≡ string_bytes into.old ++ decoded value.now) }
-{
-    let _ = value;
-    let _ = into;
-    Err(AllocError)
 }
