@@ -9,24 +9,18 @@ where it is installed as `mairix`. Past runs are kept in bench/results/.
 import os, shutil, subprocess, sys, tempfile, time
 
 
-def measured(command, folder):
+def measured(measure, command, folder):
     """Processor seconds, peak megabytes and status of one run."""
-    pid = os.fork()
-    if pid == 0:
-        os.chdir(folder)
-        null = os.open(os.devnull, os.O_RDWR)
-        os.dup2(null, 0)
-        os.dup2(null, 1)
-        os.execvp(command[0], command)
-    _, status, usage = os.wait4(pid, 0)
-    return usage.ru_utime + usage.ru_stime, usage.ru_maxrss / 1024, os.waitstatus_to_exitcode(status)
+    told = subprocess.run([measure, "answer"] + command, cwd=folder, stdin=subprocess.DEVNULL, capture_output=True, check=True).stdout.split()
+    return float(told[0]), int(told[1]) / 1024, int(told[2])
 
 
 def main(megabytes):
     here = os.path.dirname(os.path.abspath(__file__))
     program = os.path.join(here, "..", "crates", "mairix", "out", "mairix")
     with tempfile.TemporaryDirectory() as folder:
-        archive = os.path.join(folder, "m.mbox")
+        archive, measure = os.path.join(folder, "m.mbox"), os.path.join(folder, "measure")
+        subprocess.run(["cc", "-O2", "-o", measure, os.path.join(here, "measure.c")], check=True)
         subprocess.run([sys.executable, os.path.join(here, "make_mbox.py"), str(megabytes), archive], check=True)
         with open(os.path.join(folder, "rc"), "w") as f:
             f.write("mbox=m.mbox\ndatabase=m.idx\nmfolder=hits\n")
@@ -40,7 +34,7 @@ def main(megabytes):
         print("%s, %.0f MB, seconds are the least of three" % (time.strftime("%Y-%m-%d"), size))
         base = None
         for name, command in commands:
-            runs = [measured(command, folder) for _ in range(3)]
+            runs = [measured(measure, command, folder) for _ in range(3)]
             seconds = max(min(run[0] for run in runs), 1e-3)
             base = base or seconds
             print("%-20s %7.3f s %7.1f MB  %6.1f times wc -l  %6.0f MB/s  status %d" % (name, seconds, runs[0][1], seconds / base, size / seconds, runs[0][2]))
