@@ -7,7 +7,6 @@ pub mod RawTexts
 pub mod Searches
 pub mod Settings
 pub mod Trimming
-pub mod RunLaws
 pub mod Searching
 pub mod ArchiveFaults
 pub mod PlacesComing
