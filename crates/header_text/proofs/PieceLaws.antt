@@ -1,10 +1,10 @@
 -- The pieces of a value are its leftmost encoded words, and no others are.
-use Rattle.std.proofs.Common.{◌≡◌, ◌∙◌, ◌==◌, ◌&&◌, ◌||◌, ◌<◌, ◌≤◌, ◌+◌, ◌++◌, ℕ, zero, suc, Bool, true, false, nat_lt, nat_le, List, [], ◌∷◌, Option, Some, None, length, refl, sym, ap, ap₂, subst, arith, length-append, append_assoc, append-nil}
-use Rattle.std.specs.Prelude.{if◌then◌else◌, not, option_map, unwrap_or, IsTrue}
+use Rattle.std.proofs.Common.{◌≡◌, ◌∙◌, ◌==◌, ◌&&◌, ◌||◌, ◌≤◌, ◌++◌, ℕ, zero, suc, Bool, true, false, nat_lt, nat_le, List, [], ◌∷◌, Option, Some, None, length, refl, sym, ap, subst, arith, length-append, append-nil}
+use Rattle.std.specs.Prelude.{if◌then◌else◌, not, option_map, unwrap_or}
 use Rattle.std.specs.List.{list_all}
-use Rattle.std.proofs.lemmas.Bool.{eqb-true, and_parts, not-true, or_cases, ne_eqb}
+use Rattle.std.proofs.lemmas.Bool.{eqb-true, and_parts, not-true, ne_eqb}
 use Rattle.header_text.specs.Cuts.{cut_at}
-use Rattle.header_text.specs.EncodedWords.{EncodedWord, spelled, is_charset_byte, is_text_byte, is_q, is_b, is_well_formed, question, equals_sign, after, word_of, ◌>>=◌, word_and_later, word_at, WordAfter, Pieces, pieces, BeginsWord, NoneBegins, AreLeftmost}
+use Rattle.header_text.specs.EncodedWords.{EncodedWord, spelled, is_charset_byte, is_text_byte, is_q, is_b, is_well_formed, question, equals_sign, ◌>>=◌, word_and_later, word_at, WordAfter, Pieces, pieces, BeginsWord, NoneBegins, AreLeftmost}
 use Rattle.header_text.specs.ShownWords.{no_word, word_first}
 use Rattle.header_text.proofs.CutLemmas.{Lacks, cut_at-is}
 use Rattle.header_text.proofs.WordLemmas.{spells, spelled-append, chain, with_charset, with_encoding, with_text, with_front, in_front, pieces-none, pieces-some, word_at-equals, word_at-other, in_front-append}

@@ -1,5 +1,5 @@
 -- Rows of encoded words and charsets; the values on the right come from a separate reading of the rules.
-use Rattle.std.proofs.Common.{◌≡◌, ℕ, List, [], ◌∷◌, refl}
+use Rattle.std.proofs.Common.{◌≡◌, [], ◌∷◌, refl}
 use Rattle.std.specs.Prelude.{codes}
 use Rattle.std.specs.Char.{encode_utf8}
 use Rattle.bstr.specs.Utf8.{pieces_from}
