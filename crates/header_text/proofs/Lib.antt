@@ -13,3 +13,6 @@ mod GroupLemmas
 mod ReaderLemmas
 mod WordLemmas
 mod DecodedLemmas
+mod Rows
+mod WordRows
+mod PieceLaws

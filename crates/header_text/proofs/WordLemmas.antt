@@ -47,28 +47,28 @@ word_of-is charset (e ∷ []) text w h = go (is_well_formed (made charset e text
           well = ap is_well_formed (sym same) ∙ t;
         }
 
-abbrev Parts : Type 0
+abbrev pub Parts : Type 0
 Parts = List ℕ × List ℕ
 
-abbrev Found : Type 0
+abbrev pub Found : Type 0
 Found = EncodedWord × List ℕ
 
-abbrev with_later : Parts → Parts → Parts → List ℕ → Option Found
+abbrev pub with_later : Parts → Parts → Parts → List ℕ → Option Found
 with_later charset encoding text later = option_map (λ (w : EncodedWord). (w, later)) (word_of charset.0 encoding.0 text.0)
 
-abbrev with_text : Parts → Parts → Parts → Option Found
+abbrev pub with_text : Parts → Parts → Parts → Option Found
 with_text charset encoding text = after (equals_sign ∷ []) text.1 >>= with_later charset encoding text
 
-abbrev with_encoding : Parts → Parts → Option Found
+abbrev pub with_encoding : Parts → Parts → Option Found
 with_encoding charset encoding = cut_at question encoding.1 >>= with_text charset encoding
 
-abbrev with_charset : Parts → Option Found
+abbrev pub with_charset : Parts → Option Found
 with_charset charset = cut_at question charset.1 >>= with_encoding charset
 
-abbrev with_rest : List ℕ → Option Found
+abbrev pub with_rest : List ℕ → Option Found
 with_rest rest = cut_at question rest >>= with_charset
 
-chain : (bytes : List ℕ) → word_and_later bytes ≡ (after (question ∷ []) bytes >>= with_rest)
+pub chain : (bytes : List ℕ) → word_and_later bytes ≡ (after (question ∷ []) bytes >>= with_rest)
 unfolding word_and_later
 chain bytes = refl
 
@@ -183,11 +183,11 @@ pieces-some bytes later w e joined =
     pieces-cons equals_sign bytes ∙ ap (judged equals_sign bytes) e ∙ ap (λ (p : Pieces). record { words = record { between = []; word = w } ∷ p.words; rest = p.rest }) skipped
 
 -- at a byte other than `=` no word begins
-word_at-other : (b : ℕ) (bs : List ℕ) → (b == equals_sign) ≡ false → word_at (b ∷ bs) ≡ None
+pub word_at-other : (b : ℕ) (bs : List ℕ) → (b == equals_sign) ≡ false → word_at (b ∷ bs) ≡ None
 unfolding word_at
 word_at-other b bs e = rw (e, after) refl
 
-word_at-equals : (bs : List ℕ) → word_at (equals_sign ∷ bs) ≡ option_map (λ (found : EncodedWord × List ℕ). found.0) (word_and_later bs)
+pub word_at-equals : (bs : List ℕ) → word_at (equals_sign ∷ bs) ≡ option_map (λ (found : EncodedWord × List ℕ). found.0) (word_and_later bs)
 unfolding word_at
 word_at-equals bs = refl
 

@@ -11,6 +11,7 @@ mod escape;
 mod field;
 mod field_list;
 mod header;
+mod law;
 mod message_id;
 mod text;
 mod unfolding;
@@ -22,6 +23,10 @@ pub use escape::unescape_into;
 pub use field::Field;
 pub use field_list::Fields;
 pub use header::{Header, Taken};
+pub use law::{encoded_words_are_leftmost, encoded_words_are_the_only_leftmost};
 pub use message_id::message_ids;
 pub use text::{decode, decode_into};
 pub use unfolding::{unfold, unfold_into};
+
+#[cfg(test)]
+mod tests;

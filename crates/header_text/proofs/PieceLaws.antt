@@ -1,0 +1,159 @@
+-- The pieces of a value are its leftmost encoded words, and no others are.
+use Rattle.std.proofs.Common.{◌≡◌, ◌∙◌, ◌==◌, ◌&&◌, ◌||◌, ◌≤◌, ◌++◌, ℕ, zero, suc, Bool, true, false, nat_lt, nat_le, List, [], ◌∷◌, Option, Some, None, length, refl, sym, ap, subst, arith, length-append, append-nil}
+use Rattle.std.specs.Prelude.{if◌then◌else◌, not, option_map, unwrap_or}
+use Rattle.std.specs.List.{list_all}
+use Rattle.std.proofs.lemmas.Bool.{eqb-true, and_parts, not-true, ne_eqb}
+use Rattle.header_text.specs.Cuts.{cut_at}
+use Rattle.header_text.specs.EncodedWords.{EncodedWord, spelled, is_charset_byte, is_text_byte, is_q, is_b, is_well_formed, question, equals_sign, ◌>>=◌, word_and_later, word_at, WordAfter, Pieces, pieces, BeginsWord, NoneBegins, AreLeftmost}
+use Rattle.header_text.specs.ShownWords.{no_word, word_first}
+use Rattle.header_text.proofs.CutLemmas.{Lacks, cut_at-is}
+use Rattle.header_text.proofs.WordLemmas.{spells, spelled-append, chain, with_charset, with_encoding, with_text, with_front, in_front, pieces-none, pieces-some, word_at-equals, word_at-other, in_front-append}
+
+-- ---- a word that begins is found
+
+record Parts (w : EncodedWord) : Type 0 where
+  some : nat_lt 0 (length w.charset) ≡ true
+  charset : list_all is_charset_byte w.charset ≡ true
+  encoding : (is_q w.encoding || is_b w.encoding) ≡ true
+  text : list_all is_text_byte w.text ≡ true
+
+parts : (w : EncodedWord) → is_well_formed w ≡ true → Parts w
+parts w h =
+    let a = and_parts (nat_lt 0 (length w.charset) && list_all is_charset_byte w.charset && (is_q w.encoding || is_b w.encoding)) (list_all is_text_byte w.text) h in
+    let b = and_parts (nat_lt 0 (length w.charset) && list_all is_charset_byte w.charset) (is_q w.encoding || is_b w.encoding) a.0 in
+    let c = and_parts (nat_lt 0 (length w.charset)) (list_all is_charset_byte w.charset) b.0 in
+    record { some = c.0; charset = c.1; encoding = b.1; text = a.1 }
+
+Lacks-charset : (bs : List ℕ) → list_all is_charset_byte bs ≡ true → Lacks question bs
+Lacks-charset [] h = tt
+Lacks-charset (b ∷ bs) h =
+    let p = and_parts (is_charset_byte b) (list_all is_charset_byte bs) h in
+    (not-true (b == question) (and_parts (nat_le 33 b && nat_le b 126) (not (b == question)) p.0).1, Lacks-charset bs p.1)
+
+Lacks-text : (bs : List ℕ) → list_all is_text_byte bs ≡ true → Lacks question bs
+Lacks-text [] h = tt
+Lacks-text (b ∷ bs) h =
+    let p = and_parts (is_text_byte b) (list_all is_text_byte bs) h in
+    (not-true (b == question) (and_parts (nat_le 32 b && nat_le b 126) (not (b == question)) p.0).1, Lacks-text bs p.1)
+
+letter : (e : ℕ) → (is_q e || is_b e) ≡ true → (e == question) ≡ false
+letter e h = ne_eqb e question (λ same. absurd (cc (rw same at h)))
+
+found : (w : EncodedWord) (later : List ℕ) → is_well_formed w ≡ true
+    → word_and_later (question ∷ (w.charset ++ question ∷ w.encoding ∷ question ∷ (w.text ++ question ∷ equals_sign ∷ later))) ≡ Some (w, later)
+found w later h =
+    let p = parts w h in
+    let rest : List ℕ = w.text ++ question ∷ equals_sign ∷ later in
+    let behind : List ℕ = w.encoding ∷ question ∷ rest in
+    let c0 : cut_at question (w.charset ++ question ∷ behind) ≡ Some (w.charset, behind) = cut_at-is question w.charset behind (Lacks-charset w.charset p.charset) in
+    let c1 : cut_at question behind ≡ Some (w.encoding ∷ [], rest) = cut_at-is question (w.encoding ∷ []) rest (letter w.encoding p.encoding, tt) in
+    let c2 : cut_at question rest ≡ Some (w.text, equals_sign ∷ later) = cut_at-is question w.text (equals_sign ∷ later) (Lacks-text w.text p.text) in
+    chain (question ∷ (w.charset ++ question ∷ behind))
+    ∙ ap (λ (o : Option (List ℕ × List ℕ)). o >>= with_charset) c0
+    ∙ ap (λ (o : Option (List ℕ × List ℕ)). o >>= with_encoding (w.charset, behind)) c1
+    ∙ ap (λ (o : Option (List ℕ × List ℕ)). o >>= with_text (w.charset, behind) (w.encoding ∷ [], rest)) c2
+    ∙ ap (λ (t : Bool). option_map (λ (v : EncodedWord). (v, later)) (if t then Some w else None)) h
+
+-- at a place one word begins at most, and it is found
+pub word_at-begins : (bytes : List ℕ) (w : EncodedWord) → BeginsWord bytes w → word_at bytes ≡ Some w
+word_at-begins bytes w h =
+    ap word_at (h.1.1 ∙ spelled-append w h.1.0)
+    ∙ word_at-equals (question ∷ (w.charset ++ question ∷ w.encoding ∷ question ∷ (w.text ++ question ∷ equals_sign ∷ h.1.0)))
+    ∙ ap (option_map (λ (f : EncodedWord × List ℕ). f.0)) (found w h.1.0 h.0)
+
+-- what is found begins there
+pub record Begins (bytes : List ℕ) (w : EncodedWord) : Type 0 where
+  pub rest : List ℕ
+  pub later : List ℕ
+  pub equals : bytes ≡ equals_sign ∷ rest
+  pub joined : bytes ≡ spelled w ++ later
+  pub well : is_well_formed w ≡ true
+
+pub begins : (bytes : List ℕ) (w : EncodedWord) → word_at bytes ≡ Some w → Begins bytes w
+unfolding word_at
+begins [] w h = absurd (cc)
+begins (b ∷ bs) w h = go (b == equals_sign) refl
+  where
+    at_equals : b ≡ equals_sign → (o : Option (EncodedWord × List ℕ)) → word_and_later bs ≡ o → word_at (b ∷ bs) ≡ option_map (λ (f : EncodedWord × List ℕ). f.0) o → Begins (b ∷ bs) w
+    at_equals e None f g = absurd (cc (sym g ∙ h))
+    at_equals e (Some (v, later)) f g =
+        let same : v ≡ w = ap (λ (o : Option EncodedWord). unwrap_or o w) (sym g ∙ h) in
+        let is = spells bs v later f in
+        record {
+          rest = bs;
+          later = later;
+          equals = ap (λ (x : ℕ). x ∷ bs) e;
+          joined = ap (λ (x : ℕ). x ∷ bs) e ∙ is.joined ∙ ap (λ (x : EncodedWord). spelled x ++ later) same;
+          well = ap is_well_formed (sym same) ∙ is.well;
+        }
+
+    go : (t : Bool) → (b == equals_sign) ≡ t → Begins (b ∷ bs) w
+    go false e = absurd (cc (sym (word_at-other b bs e) ∙ h))
+    go true e =
+        let is : b ≡ equals_sign = eqb-true b equals_sign e in
+        at_equals is (word_and_later bs) refl (ap (λ (x : ℕ). word_at (x ∷ bs)) is ∙ word_at-equals bs)
+
+none_begins : (bytes : List ℕ) → word_at bytes ≡ None → (w : EncodedWord) → BeginsWord bytes w → ⊥
+none_begins bytes e w h = absurd (cc (sym (word_at-begins bytes w h) ∙ e))
+
+-- ---- the pieces are the leftmost words
+
+-- a byte more in front, at which none begins
+more_in_front : (b : ℕ) (bs : List ℕ) (ws : List WordAfter) (rest : List ℕ) → word_at (b ∷ bs) ≡ None → AreLeftmost bs ws rest
+    → AreLeftmost (b ∷ bs) (with_front (b ∷ []) ws rest).words (with_front (b ∷ []) ws rest).rest
+more_in_front b bs [] rest e h =
+    let same : bs ≡ rest ++ [] = h.0 ∙ sym (append-nil rest) in
+    (ap (λ (l : List ℕ). b ∷ l) h.0, (λ w begun. none_begins (b ∷ bs) e w (subst (λ (l : List ℕ). BeginsWord (b ∷ l) w) (sym same) begun), h.1))
+more_in_front b bs (v ∷ ws) rest e h =
+    (h.0, ap (λ (l : List ℕ). b ∷ l) h.1, h.2, (λ w begun. none_begins (b ∷ bs) e w (subst (λ (l : List ℕ). BeginsWord (b ∷ l) w) (sym h.1) begun), h.3), h.4)
+
+within : (n : ℕ) (value : List ℕ) → length value ≤ n → AreLeftmost value (pieces value).words (pieces value).rest
+within n [] le = (refl, tt)
+within zero (b ∷ bs) le = absurd (omega arith)
+within (suc n) (b ∷ bs) le = go (word_at (b ∷ bs)) refl (within n)
+  where
+    go : (o : Option EncodedWord) → word_at (b ∷ bs) ≡ o → ((value : List ℕ) → length value ≤ n → AreLeftmost value (pieces value).words (pieces value).rest)
+        → AreLeftmost (b ∷ bs) (pieces (b ∷ bs)).words (pieces (b ∷ bs)).rest
+    go None e each =
+        subst (λ (p : Pieces). AreLeftmost (b ∷ bs) p.words p.rest) (sym (pieces-none b bs e)) (more_in_front b bs (pieces bs).words (pieces bs).rest e (each bs (omega arith)))
+    go (Some w) e each =
+        let is = begins (b ∷ bs) w e in
+        let here : word_at (equals_sign ∷ is.rest) ≡ Some w = ap word_at (sym is.equals) ∙ e in
+        let first : pieces (b ∷ bs) ≡ word_first (record { between = []; word = w }) is.later = ap pieces is.equals ∙ pieces-some is.rest is.later w here (sym is.equals ∙ is.joined) in
+        let sizes = ap length is.joined ∙ ap length (spelled-append w is.later) in
+        let a = length-append w.charset (question ∷ w.encoding ∷ question ∷ (w.text ++ question ∷ equals_sign ∷ is.later)) in
+        let c = length-append w.text (question ∷ equals_sign ∷ is.later) in
+        subst (λ (p : Pieces). AreLeftmost (b ∷ bs) p.words p.rest) (sym first) (is.later, is.joined, is.well, tt, each is.later (omega (arith, sizes, a, c)))
+
+pub are_leftmost : (value : List ℕ) → AreLeftmost value (pieces value).words (pieces value).rest
+are_leftmost value = within (length value) value (omega arith)
+
+-- ---- and no others are
+
+nowhere : (bytes : List ℕ) → ((w : EncodedWord) → ¬ BeginsWord bytes w) → word_at bytes ≡ None
+nowhere bytes h = go (word_at bytes) refl
+  where
+    go : (o : Option EncodedWord) → word_at bytes ≡ o → word_at bytes ≡ None
+    go None e = e
+    go (Some w) e = let is = begins bytes w e in absurd (h w (is.well, (is.later, is.joined)))
+
+past : (front later : List ℕ) → NoneBegins front later → pieces (front ++ later) ≡ in_front front (pieces later)
+past [] later h = go (pieces later).words (pieces later).rest
+  where
+    go : (ws : List WordAfter) (rest : List ℕ) → record { words = ws; rest = rest } ≡ with_front [] ws rest
+    go [] rest = refl
+    go (w ∷ ws) rest = refl
+past (b ∷ front) later h =
+    pieces-none b (front ++ later) (nowhere (b ∷ (front ++ later)) h.0) ∙ ap (in_front (b ∷ [])) (past front later h.1) ∙ sym (in_front-append (b ∷ []) front (pieces later))
+
+pub only_leftmost : (value : List ℕ) (ws : List WordAfter) (rest : List ℕ) → AreLeftmost value ws rest → pieces value ≡ record { words = ws; rest = rest }
+only_leftmost value [] rest h = ap pieces (h.0 ∙ sym (append-nil rest)) ∙ past rest [] h.1 ∙ ap no_word (append-nil rest)
+only_leftmost value (w ∷ ws) rest h =
+    let later : List ℕ = h.0 in
+    let spelling : List ℕ = question ∷ (w.word.charset ++ question ∷ w.word.encoding ∷ question ∷ (w.word.text ++ question ∷ equals_sign ∷ later)) in
+    let written : spelled w.word ++ later ≡ equals_sign ∷ spelling = spelled-append w.word later in
+    let here : word_at (equals_sign ∷ spelling) ≡ Some w.word = ap word_at (sym written) ∙ word_at-begins (spelled w.word ++ later) w.word (h.2, (later, refl)) in
+    let first : pieces (spelled w.word ++ later) ≡ word_first (record { between = []; word = w.word }) later = ap pieces written ∙ pieces-some spelling later w.word here (sym written) in
+    ap pieces h.1 ∙ past w.between (spelled w.word ++ later) h.3 ∙ ap (in_front w.between) first
+    ∙ ap (λ (l : List ℕ). word_first (record { between = l; word = w.word }) later) (append-nil w.between)
+    ∙ ap (λ (p : Pieces). record { words = w ∷ p.words; rest = p.rest }) (only_leftmost later ws rest h.4)
