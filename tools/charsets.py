@@ -34,7 +34,7 @@ def defined_tables(text):
 
 def tested_table(text, name):
     """The characters of bytes 80 to FF in the crate's test, after ASCII."""
-    lines = text.split("const %s: &str = " % name)[1].split(";")[0]
+    lines = re.split(r"const %s: &str =\s" % name, text)[1].split(";")[0]
     return list(range(128)) + [int(c, 16) for c in re.findall(r"\\u\{([0-9A-F]+)\}", lines)]
 
 
