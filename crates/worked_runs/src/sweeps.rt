@@ -22,8 +22,14 @@ const OUT: Reply = Reply {
     fault: Some(Fault::Out),
 };
 
-fn sweep_run(rt: &impl Abort, alloc: Global, text: &str, answer: &str) -> Option<()> {
-    let words = words(alloc, &["-f", "rc", "--once", "-r", "s:one"]).ok()?;
+fn sweep_run(
+    rt: &impl Abort,
+    alloc: Global,
+    text: &str,
+    pattern: &str,
+    answer: &str,
+) -> Option<()> {
+    let words = words(alloc, &["-f", "rc", "--once", "-r", pattern]).ok()?;
     let mut archives = Vec::new(alloc);
     archives.push(archive(alloc, text).ok()?).ok()?;
     let mut sources = sources(alloc, &archives, 7, None).ok()?;
@@ -44,14 +50,20 @@ fn sweep_run(rt: &impl Abort, alloc: Global, text: &str, answer: &str) -> Option
 
 #[test]
 fn sweep_once_run_of_one_message(rt: HostRuntime) {
-    let _ = sweep_run(&rt, rt.alloc(), "^Subject: one||hi||", "0 56 m.mbox\n");
+    let _ = sweep_run(
+        &rt,
+        rt.alloc(),
+        "^Subject: Hello||hi||",
+        "s:hello",
+        "0 58 m.mbox\n",
+    );
 }
 
 #[test]
 fn sweep_once_run_of_two_messages(rt: HostRuntime) {
     let text =
         "^Subject: one||a||From here on we go||From - Sat Jan  4 12:00:00 2003|Subject: two||b||";
-    let _ = sweep_run(&rt, rt.alloc(), text, "0 75 m.mbox\n");
+    let _ = sweep_run(&rt, rt.alloc(), text, "s:one", "0 75 m.mbox\n");
 }
 
 #[test]
