@@ -1,0 +1,344 @@
+-- The reader's fault at a token is the one that the tokens before it show.
+use Rattle.std.proofs.Common.{◌≡◌, ℕ, zero, suc, ◌+◌, Bool, true, false, not, cond, eqb, leb, List, [], ◌∷◌, ◌++◌, length, Option, None, Some, Result, Ok, Err, refl, sym, ap, subst, ◌∙◌, append-nil, arith}
+use Rattle.std.specs.Prelude.{◌&&◌, is_none}
+use Rattle.contract_words.specs.Answers.{◌>>=◌, fault_as}
+use Rattle.mail_query.specs.declared.boolean.field.Field.{Field}
+use Rattle.mail_query.specs.declared.boolean.field.Fields.{Fields}
+use Rattle.mail_query.specs.declared.fault.QueryFault.{QueryFault}
+use Rattle.mail_query.specs.declared.fault.QueryFaultKind.{QueryFaultKind}
+use Rattle.mail_query.specs.declared.fault.QueryFaultKind.TheVariants.{Phrase, NeedsOperator, TooDeep, MissingTerm, BadParenthesis}
+use Rattle.mail_query.specs.Lexicon.{Lexicon}
+use Rattle.mail_query.specs.Query.{Query}
+use Rattle.mail_query.specs.Tokens.{Token, Open, Close, AndSign, OrSign, NotSign, Term}
+use Rattle.mail_query.specs.BooleanTerms.{Parts, parts_of, no_fields, has_field, with_field, is_phrase, parts_query}
+use Rattle.mail_query.specs.BooleanGrammar.{Link, Beside, ByAnd, ByOr, Item, NotOf, Group, Leaf, Chain, Last, Then, link_tokens, item_tokens, chain_tokens, plain_prefix, seen_behind, Reads}
+use Rattle.mail_query.specs.BooleanFaults.{is_wanted, open_count, waiting_count, is_not, fields_before, needs_operator, err_of, deep_fault, operator_fault, close_fault, end_fault, first_some, parts_fault, term_fault, token_fault, first_fault_from, first_fault}
+use Rattle.mail_query.specs.BooleanReading.{Level, Waiting, ForNot, ForClose, State, empty_level, placed, noted, run_ended, each_ended, level_query, is_negated, has_open, deeper, popped, closed, ended, cut_term_step, parts_step, term_step, step, run_from, tokens_query}
+use Rattle.mail_query.proofs.BooleanComplete.{reading_answered}
+use Rattle.mail_query.proofs.BooleanTrees.{Front, Nothing, Behind, Part, Wait, WaitNot, WaitClose, nothing_read, front_tokens, last_tokens, part_tokens, spelled, seen_front, last_prefix, seen_of, wanted_of, waits_not, wanted_behind, front_wanted, is_closed, level_of, waiting_of, state_of, length-waiting_of, negated-waiting_of, Fine, reach, answer_read}
+
+-- the tokens put behind those before, the nearest first
+abbrev behind : List Token → List Token → List Token
+behind [] back = back
+behind (t ∷ ts) back = behind ts (t ∷ back)
+
+behind-append : (xs ys back : List Token) → behind (xs ++ ys) back ≡ behind ys (behind xs back)
+behind-append [] ys back = refl
+behind-append (t ∷ xs) ys back = behind-append xs ys (t ∷ back)
+
+cond_same : {A : Type 0} (b : Bool) (x : A) → cond b x x ≡ x
+cond_same true x = refl
+cond_same false x = refl
+
+not_passed : (k : ℕ) (back : List Token) → waiting_count false k (NotSign ∷ back) ≡ waiting_count false k back
+not_passed zero back = refl
+not_passed (suc k) back = refl
+
+-- ---- what a whole item or chain leaves of what stands before
+
+record Passes (back after : List Token) : Type 0 where
+  wanted : is_wanted after ≡ false
+  plain : is_not after ≡ false
+  opens : (k : ℕ) → open_count k after ≡ open_count k back
+  waits : (f : Bool) (k : ℕ) → waiting_count f k after ≡ waiting_count false k back
+  inside : (k : ℕ) → fields_before (suc k) after ≡ fields_before (suc k) back
+
+record Leaves (i : Item) (back after : List Token) : Type 0 where
+  passes : Passes back after
+  run : fields_before zero after ≡ with_field (cond (is_not back) None (plain_prefix i)) (fields_before zero back)
+
+abbrev linked_back : Link → List Token → List Token
+linked_back Beside back = back
+linked_back ByAnd back = AndSign ∷ back
+linked_back ByOr back = OrSign ∷ back
+
+link_behind : (l : Link) (back : List Token) → behind (link_tokens l) back ≡ linked_back l back
+link_behind Beside back = refl
+link_behind ByAnd back = refl
+link_behind ByOr back = refl
+
+passes_on : (l : Link) (back middle after : List Token) → Passes back middle → Passes (linked_back l middle) after → Passes back after
+passes_on Beside back middle after p q = record { wanted = q.wanted; plain = q.plain; opens = λ k. q.opens k ∙ p.opens k; waits = λ f k. q.waits f k ∙ p.waits false k; inside = λ k. q.inside k ∙ p.inside k }
+passes_on ByAnd back middle after p q = record { wanted = q.wanted; plain = q.plain; opens = λ k. q.opens k ∙ p.opens k; waits = λ f k. q.waits f k ∙ p.waits false k; inside = λ k. q.inside k ∙ p.inside k }
+passes_on ByOr back middle after p q = record { wanted = q.wanted; plain = q.plain; opens = λ k. q.opens k ∙ p.opens k; waits = λ f k. q.waits f k ∙ p.waits false k; inside = λ k. q.inside k ∙ p.inside k }
+
+chain_behind : (i : Item) (l : Link) (c : Chain) (back : List Token) → behind (chain_tokens (Then i l c)) back ≡ behind (chain_tokens c) (linked_back l (behind (item_tokens i) back))
+chain_behind i l c back =
+    behind-append (item_tokens i) (link_tokens l ++ chain_tokens c) back
+    ∙ behind-append (link_tokens l) (chain_tokens c) (behind (item_tokens i) back)
+    ∙ ap (behind (chain_tokens c)) (link_behind l (behind (item_tokens i) back))
+
+mutual
+  item_leaves : (i : Item) (back : List Token) → Leaves i back (behind (item_tokens i) back)
+  item_leaves (NotOf i) back =
+      let r = item_leaves i (NotSign ∷ back) in
+      record {
+        passes = record { wanted = r.passes.wanted; plain = r.passes.plain; opens = r.passes.opens; waits = λ f k. r.passes.waits f k ∙ not_passed k back; inside = r.passes.inside };
+        run = r.run ∙ ap (λ (o : Option Field). with_field o (fields_before zero back)) (sym (cond_same (is_not back) None));
+      }
+  item_leaves (Group c) back =
+      let r = chain_passes c (Open ∷ back) in
+      let e : behind (chain_tokens c ++ Close ∷ []) (Open ∷ back) ≡ Close ∷ behind (chain_tokens c) (Open ∷ back) = behind-append (chain_tokens c) (Close ∷ []) (Open ∷ back) in
+      subst (Leaves (Group c) back) (sym e) (record {
+        passes = record { wanted = refl; plain = refl; opens = λ k. r.opens (suc k); waits = λ f k. r.waits false (suc k); inside = λ k. r.inside (suc k) };
+        run = r.inside zero ∙ ap (λ (o : Option Field). with_field o (fields_before zero back)) (sym (cond_same (is_not back) None));
+      })
+  item_leaves (Leaf t) back = record {
+    passes = record { wanted = refl; plain = refl; opens = λ k. refl; waits = λ f k. refl; inside = λ k. refl };
+    run = refl;
+  }
+
+  chain_passes : (c : Chain) (back : List Token) → Passes back (behind (chain_tokens c) back)
+  chain_passes (Last i) back = (item_leaves i back).passes
+  chain_passes (Then i l c) back =
+      subst (Passes back) (sym (chain_behind i l c back))
+      (passes_on l back (behind (item_tokens i) back) _ (item_leaves i back).passes (chain_passes c (linked_back l (behind (item_tokens i) back))))
+
+-- ---- what a part leaves, at the front of all or behind a `(`
+
+record Opens (back : List Token) : Type 0 where
+  wanted : is_wanted back ≡ true
+  plain : is_not back ≡ false
+  fields : fields_before zero back ≡ no_fields
+  waits : (f : Bool) (k : ℕ) → waiting_count f k back ≡ waiting_count false k back
+
+opens_all : Opens []
+opens_all = record { wanted = refl; plain = refl; fields = refl; waits = λ f k. refl }
+
+opens_group : (back : List Token) → Opens (Open ∷ back)
+opens_group back = record { wanted = refl; plain = refl; fields = refl; waits = go }
+  where
+    go : (f : Bool) (k : ℕ) → waiting_count f k (Open ∷ back) ≡ waiting_count false k (Open ∷ back)
+    go f zero = refl
+    go f (suc k) = refl
+
+record Stands (back after : List Token) (wanted : Bool) (seen : Fields) : Type 0 where
+  is_so : is_wanted after ≡ wanted
+  plain : is_not after ≡ false
+  fields : fields_before zero after ≡ seen
+  opens : (k : ℕ) → open_count k after ≡ open_count k back
+  waits : (f : Bool) (k : ℕ) → waiting_count f k after ≡ waiting_count false k back
+
+plain_field : (b : Bool) (o : Option Field) → b ≡ false → cond b None o ≡ o
+plain_field b o e = ap (λ (x : Bool). cond x None o) e
+
+item_stands : (i : Item) (back before : List Token) (w : Bool) (seen : Fields) → Stands back before w seen → Stands back (behind (item_tokens i) before) false (with_field (plain_prefix i) seen)
+item_stands i back before w seen s =
+    let l = item_leaves i before in
+    record {
+      is_so = l.passes.wanted;
+      plain = l.passes.plain;
+      fields = l.run ∙ ap (λ (o : Option Field). with_field o (fields_before zero before)) (plain_field (is_not before) (plain_prefix i) s.plain) ∙ ap (with_field (plain_prefix i)) s.fields;
+      opens = λ k. l.passes.opens k ∙ s.opens k;
+      waits = λ f k. l.passes.waits f k ∙ s.waits false k;
+    }
+
+link_stands : (i : Item) (l : Link) (back before : List Token) (seen : Fields) → Stands back before false (with_field (plain_prefix i) seen)
+    → Stands back (linked_back l before) (wanted_behind l) (seen_behind i l seen)
+link_stands i Beside back before seen s = s
+link_stands i ByAnd back before seen s = record { is_so = refl; plain = refl; fields = refl; opens = s.opens; waits = λ f k. s.waits false k }
+link_stands i ByOr back before seen s = record { is_so = refl; plain = refl; fields = refl; opens = s.opens; waits = λ f k. s.waits false k }
+
+front_stands : (f : Front) (back : List Token) → Opens back → Stands back (behind (front_tokens f) back) (front_wanted f) (seen_front f)
+front_stands Nothing back o = record { is_so = o.wanted; plain = o.plain; fields = o.fields; opens = λ k. refl; waits = o.waits }
+front_stands (Behind f i l) back o =
+    let e : behind (front_tokens f ++ (item_tokens i ++ link_tokens l)) back ≡ linked_back l (behind (item_tokens i) (behind (front_tokens f) back)) =
+    behind-append (front_tokens f) (item_tokens i ++ link_tokens l) back ∙ behind-append (item_tokens i) (link_tokens l) (behind (front_tokens f) back)
+    ∙ link_behind l (behind (item_tokens i) (behind (front_tokens f) back)) in
+    subst (λ (after : List Token). Stands back after (wanted_behind l) (seen_behind i l (seen_front f))) (sym e)
+    (link_stands i l back (behind (item_tokens i) (behind (front_tokens f) back)) (seen_front f) (item_stands i back (behind (front_tokens f) back) (front_wanted f) (seen_front f) (front_stands f back o)))
+
+part_stands : (p : Part) (back : List Token) → is_closed p.front p.last ≡ true → Opens back → Stands back (behind (part_tokens p) back) (is_none p.last) (seen_of p)
+part_stands p back c o = go p.last c
+  where
+    go : (last : Option Item) → is_closed p.front last ≡ true
+        → Stands back (behind (front_tokens p.front ++ last_tokens last) back) (is_none last) (with_field (last_prefix last) (seen_front p.front))
+    go None c =
+        let s = front_stands p.front back o in
+        subst (λ (ts : List Token). Stands back (behind ts back) true (seen_front p.front)) (sym (append-nil (front_tokens p.front)))
+        (record { is_so = s.is_so ∙ c; plain = s.plain; fields = s.fields; opens = s.opens; waits = s.waits })
+    go (Some i) c =
+        subst (λ (after : List Token). Stands back after false (with_field (plain_prefix i) (seen_front p.front))) (sym (behind-append (front_tokens p.front) (item_tokens i) back))
+        (item_stands i back (behind (front_tokens p.front) back) (front_wanted p.front) (seen_front p.front) (front_stands p.front back o))
+
+-- ---- what the tokens so far show
+
+abbrev back_of : List Wait → Part → List Token
+back_of ws p = behind (spelled ws p) []
+
+abbrev open_of : List Wait → ℕ
+open_of [] = 0
+open_of (WaitNot ∷ ws) = open_of ws
+open_of (WaitClose outer ∷ ws) = suc (open_of ws)
+
+record Shows (ws : List Wait) (p : Part) (back : List Token) : Type 0 where
+  wanted : is_wanted back ≡ wanted_of ws p
+  plain : is_not back ≡ waits_not ws
+  fields : fields_before zero back ≡ seen_of p
+  opens : open_count zero back ≡ open_of ws
+  waits : waiting_count true zero back ≡ length ws
+
+first_of : {A B : Type 0} → (A → B) → Option A → Option B
+first_of f None = None
+first_of f (Some x) = Some (f x)
+
+pub fault_of : {T E : Type 0} → Result T E → Option E
+fault_of (Ok x) = None
+fault_of (Err e) = Some e
+
+module _ (lexicon : Lexicon) where
+  shows : (ws : List Wait) (p : Part) → Fine lexicon ws p → Shows ws p (back_of ws p)
+  unfolding Fine
+  shows [] p fine =
+      let s = part_stands p [] fine.closed opens_all in
+      record { wanted = s.is_so; plain = s.plain; fields = s.fields; opens = s.opens zero; waits = s.waits true zero }
+  shows (WaitNot ∷ ws) p fine =
+      let s = shows ws p fine.0 in
+      subst (Shows (WaitNot ∷ ws) p) (sym (behind-append (spelled ws p) (NotSign ∷ []) []))
+      (record { wanted = refl; plain = refl; fields = s.fields; opens = s.opens; waits = ap suc s.waits })
+  shows (WaitClose outer ∷ ws) p fine =
+      let before = shows ws outer fine.0 in
+      let s = part_stands p (Open ∷ back_of ws outer) fine.2.closed (opens_group (back_of ws outer)) in
+      subst (Shows (WaitClose outer ∷ ws) p) (sym (behind-append (spelled ws outer) (Open ∷ part_tokens p) []))
+      (record { wanted = s.is_so; plain = s.plain; fields = s.fields; opens = s.opens zero ∙ ap suc before.opens; waits = s.waits true zero ∙ ap suc before.waits })
+
+  open-has_open : (ws : List Wait) → eqb (open_of ws) 0 ≡ not (has_open (waiting_of lexicon ws))
+  open-has_open [] = refl
+  open-has_open (WaitNot ∷ ws) = open-has_open ws
+  open-has_open (WaitClose outer ∷ ws) = grind arith
+
+  -- ---- the fault at a token
+
+  same_deep : (ws : List Wait) (p : Part) (back : List Token) (what : Waiting) (level : Level) → Shows ws p back → deep_fault back ≡ fault_of (deeper (state_of lexicon ws p) what level)
+  unfolding fault_of
+  same_deep ws p back what level s = rw (s.waits, length-waiting_of lexicon ws) (go (leb 30 (length ws)))
+    where
+      go : (b : Bool) → cond b (Some TooDeep) None ≡ fault_of {T = State} (cond b (Err TooDeep) (Ok (record { waiting = what ∷ waiting_of lexicon ws; level = level; wanted = true })))
+      go true = refl
+      go false = refl
+
+  same_operator : (ws : List Wait) (p : Part) (back : List Token) (next : State) → Shows ws p back
+      → operator_fault back ≡ fault_of {T = State} (cond (wanted_of ws p) (Err MissingTerm) (Ok next))
+  unfolding fault_of
+  same_operator ws p back next s = rw s.wanted (go (wanted_of ws p))
+    where
+      go : (b : Bool) → cond b (Some MissingTerm) None ≡ fault_of {T = State} (cond b (Err MissingTerm) (Ok next))
+      go true = refl
+      go false = refl
+
+  same_close : (ws : List Wait) (p : Part) (back : List Token) → Shows ws p back → close_fault back ≡ fault_of (closed (state_of lexicon ws p))
+  unfolding fault_of
+  same_close ws p back s = rw (s.opens, s.wanted, open-has_open ws) (go ws)
+    where
+      at : (w : Bool) (outer : Part) (vs : List Wait) → cond w (Some MissingTerm) None ≡ fault_of (cond w (Err MissingTerm) (popped (ForClose (level_of lexicon outer) ∷ waiting_of lexicon vs) (level_of lexicon p)))
+      at true outer vs = refl
+      at false outer vs = refl
+
+      none : (w : Bool) → Some BadParenthesis ≡ fault_of {T = State} (cond w (Err BadParenthesis) (Err BadParenthesis))
+      none true = refl
+      none false = refl
+
+      under : (o : Bool) → cond (not o) (Some BadParenthesis) (Some MissingTerm) ≡ fault_of {T = State} (cond o (Err MissingTerm) (Err BadParenthesis))
+      under true = refl
+      under false = refl
+
+      go : (vs : List Wait) → cond (not (has_open (waiting_of lexicon vs))) (Some BadParenthesis) (cond (wanted_of vs p) (Some MissingTerm) None)
+          ≡ fault_of (cond (wanted_of vs p) (cond (has_open (waiting_of lexicon vs)) (Err MissingTerm) (Err BadParenthesis)) (popped (waiting_of lexicon vs) (level_of lexicon p)))
+      go [] = none (is_none p.last)
+      go (WaitNot ∷ vs) = under (has_open (waiting_of lexicon vs))
+      go (WaitClose outer ∷ vs) = at (is_none p.last) outer vs
+
+  same_end : (ws : List Wait) (p : Part) (back : List Token) → Shows ws p back → end_fault back ≡ fault_of (ended (state_of lexicon ws p))
+  unfolding fault_of
+  same_end ws p back s = rw (s.opens, s.wanted, open-has_open ws) (go (wanted_of ws p) (has_open (waiting_of lexicon ws)))
+    where
+      go : (w o : Bool) → cond w (Some MissingTerm) (cond (not o) None (Some BadParenthesis)) ≡ fault_of (cond w (Err MissingTerm) (cond o (Err BadParenthesis) (Ok (level_query (level_of lexicon p)))))
+      go true o = refl
+      go false true = refl
+      go false false = refl
+
+  same_parts : (s : State) (back : List Token) (prefix : Option Field) (rest : List ℕ) → is_not back ≡ is_negated s.waiting → fields_before zero back ≡ s.level.seen
+      → cond (needs_operator back prefix) (Some NeedsOperator) (err_of (parts_query lexicon prefix rest)) ≡ fault_of (cut_term_step lexicon s prefix rest)
+  unfolding fault_of
+  same_parts s back prefix rest e h = rw (e, h) (go (not (is_negated s.waiting) && has_field s.level.seen prefix) (parts_query lexicon prefix rest))
+    where
+      go : (b : Bool) (r : Result Query QueryFaultKind) → cond b (Some NeedsOperator) (err_of r)
+          ≡ fault_of (cond b (Err NeedsOperator) (r >>= (λ q. Ok (placed s.waiting (noted (is_negated s.waiting) prefix s.level) q))))
+      go true r = refl
+      go false (Ok q) = refl
+      go false (Err kind) = refl
+
+  same_term : (s : State) (back : List Token) (t : List ℕ) → is_not back ≡ is_negated s.waiting → fields_before zero back ≡ s.level.seen → term_fault lexicon back t ≡ fault_of (term_step lexicon s t)
+  unfolding fault_of
+  same_term s back t e h = go (is_phrase t) (parts_of t)
+    where
+      go : (b : Bool) (o : Option Parts) → cond b (Some Phrase) (parts_fault lexicon back o) ≡ fault_of (cond b (Err Phrase) (parts_step lexicon s o))
+      go true o = refl
+      go false None = refl
+      go false (Some parts) = same_parts s back parts.prefix parts.rest e h
+
+  same_fault : (ws : List Wait) (p : Part) (back : List Token) (t : Token) → Shows ws p back → token_fault lexicon back t ≡ fault_of (step lexicon (state_of lexicon ws p) t)
+  same_fault ws p back (Term t) s = same_term (state_of lexicon ws p) back t (s.plain ∙ sym (negated-waiting_of lexicon ws)) s.fields
+  same_fault ws p back NotSign s = same_deep ws p back ForNot (level_of lexicon p) s
+  same_fault ws p back Open s = same_deep ws p back (ForClose (level_of lexicon p)) empty_level s
+  same_fault ws p back Close s = same_close ws p back s
+  same_fault ws p back AndSign s = same_operator ws p back (record { waiting = waiting_of lexicon ws; level = run_ended (level_of lexicon p); wanted = true }) s
+  same_fault ws p back OrSign s = same_operator ws p back (record { waiting = waiting_of lexicon ws; level = each_ended (level_of lexicon p); wanted = true }) s
+
+  -- ---- the first fault of all
+
+  abbrev at_number : ℕ → QueryFaultKind → QueryFault
+  at_number n kind = record { number = n; kind = kind }
+
+  same_first : (n : ℕ) (ws : List Wait) (p : Part) (ts : List Token) → Fine lexicon ws p → first_fault_from lexicon n (back_of ws p) ts ≡ fault_of (run_from lexicon n (state_of lexicon ws p) ts)
+  unfolding fault_of
+  same_first n ws p [] fine = ap (λ (o : Option QueryFaultKind). first_some (at_number n) o None) (same_end ws p (back_of ws p) (shows ws p fine)) ∙ go (ended (state_of lexicon ws p))
+    where
+      go : (r : Result Query QueryFaultKind) → first_some (at_number n) (fault_of r) None ≡ fault_of (fault_as (at_number n) r)
+      go (Ok q) = refl
+      go (Err kind) = refl
+  same_first n ws p (t ∷ ts) fine =
+      ap (λ (o : Option QueryFaultKind). first_some (at_number n) o (first_fault_from lexicon (n + 1) (t ∷ back_of ws p) ts)) (same_fault ws p (back_of ws p) t (shows ws p fine))
+      ∙ go (step lexicon (state_of lexicon ws p) t) refl (λ vs r h. same_first (n + 1) vs r ts h)
+    where
+      go : (r : Result State QueryFaultKind) → step lexicon (state_of lexicon ws p) t ≡ r
+          → ((vs : List Wait) (q : Part) → Fine lexicon vs q → first_fault_from lexicon (n + 1) (back_of vs q) ts ≡ fault_of (run_from lexicon (n + 1) (state_of lexicon vs q) ts))
+          → first_some (at_number n) (fault_of r) (first_fault_from lexicon (n + 1) (t ∷ back_of ws p) ts) ≡ fault_of (fault_as (at_number n) r >>= (λ next. run_from lexicon (n + 1) next ts))
+      go (Err kind) e h = refl
+      go (Ok next) e h =
+          let reached = reach lexicon ws p t next fine e in
+          let back : back_of reached.waits reached.part ≡ t ∷ back_of ws p = ap (λ (xs : List Token). behind xs []) reached.tokens ∙ behind-append (spelled ws p) (t ∷ []) [] in
+          ap (λ (b : List Token). first_fault_from lexicon (n + 1) b ts) (sym back) ∙ h reached.waits reached.part reached.fine
+          ∙ ap (λ s. fault_of (run_from lexicon (n + 1) s ts)) (sym reached.shown)
+
+  -- the reader's fault is the first one that the places show
+  first_fault_is : (ts : List Token) → first_fault lexicon ts ≡ fault_of (tokens_query lexicon ts)
+  unfolding fault_of Fine
+  first_fault_is [] = refl
+  first_fault_is (t ∷ ts) = same_first 1 [] nothing_read (t ∷ ts) (record { front = refl; last = refl; closed = refl })
+
+  pub fault_answered : (ts : List Token) (f : QueryFault) → first_fault lexicon ts ≡ Some f → tokens_query lexicon ts ≡ Err f
+  unfolding fault_of
+  fault_answered ts f e = go (tokens_query lexicon ts) (sym (first_fault_is ts) ∙ e)
+    where
+      go : (r : Result Query QueryFault) → fault_of r ≡ Some f → r ≡ Err f
+      go (Ok q) e = absurd cc
+      go (Err g) e = cc
+
+  pub answer_faulty : (ts : List Token) (f : QueryFault) → tokens_query lexicon ts ≡ Err f → first_fault lexicon ts ≡ Some f
+  unfolding fault_of
+  answer_faulty ts f e = first_fault_is ts ∙ ap fault_of e
+
+  -- what is read shows no fault
+  pub read_faultless : (ts : List Token) (q : Query) → Reads lexicon ts q → first_fault lexicon ts ≡ None
+  unfolding fault_of
+  read_faultless ts q r = first_fault_is ts ∙ ap fault_of (reading_answered lexicon ts q r)
+
+  -- what shows no fault is read
+  pub faultless_read : (ts : List Token) → first_fault lexicon ts ≡ None → (q : Query) × Reads lexicon ts q
+  unfolding fault_of
+  faultless_read ts e = go (tokens_query lexicon ts) refl (sym (first_fault_is ts) ∙ e)
+    where
+      go : (r : Result Query QueryFault) → tokens_query lexicon ts ≡ r → fault_of r ≡ None → (q : Query) × Reads lexicon ts q
+      go (Ok q) i e = (q, answer_read lexicon ts q i)
+      go (Err f) i e = absurd cc

@@ -1,0 +1,557 @@
+-- The tree that was read so far, and what the reader has of it.
+use Rattle.std.proofs.Common.{◌≡◌, ℕ, suc, ◌+◌, ◌<◌, Bool, true, false, not, cond, ltb, leb, List, [], ◌∷◌, ◌++◌, length, map, Option, None, Some, Result, Ok, Err, refl, sym, ap, subst, ◌∙◌, append_assoc, append-nil, arith, add-one}
+use Rattle.std.specs.Prelude.{◌&&◌, is_ok, is_none, option_and_then}
+use Rattle.std.proofs.lemmas.Bool.Decides.{nat_tests}
+use Rattle.contract_words.specs.Answers.{◌>>=◌, fault_as}
+use Rattle.mail_query.specs.declared.boolean.field.Field.{Field}
+use Rattle.mail_query.specs.declared.boolean.field.Field.TheVariants as field
+use Rattle.mail_query.specs.declared.boolean.field.Fields.{Fields}
+use Rattle.mail_query.specs.declared.fault.QueryFault.{QueryFault}
+use Rattle.mail_query.specs.declared.fault.QueryFaultKind.{QueryFaultKind}
+use Rattle.mail_query.specs.declared.fault.QueryFaultKind.TheVariants.{Phrase, NeedsOperator, TooDeep, MissingTerm, BadParenthesis}
+use Rattle.mail_query.specs.Lexicon.{Lexicon}
+use Rattle.mail_query.specs.Query.{Query, Not, all_of, either_of}
+use Rattle.mail_query.specs.Tokens.{Token, Open, Close, AndSign, OrSign, NotSign, Term}
+use Rattle.mail_query.specs.BooleanTerms.{Parts, parts_of, no_fields, has_field, with_field, is_phrase, parts_query, cut_query, term_query}
+use Rattle.mail_query.specs.BooleanGrammar.{Link, Beside, ByAnd, ByOr, Item, NotOf, Group, Leaf, Chain, Last, Then, link_tokens, item_tokens, chain_tokens, term_prefix, plain_prefix, seen_behind, item_query, chain_queries, tree_query, is_fine_item, is_fine_chain, Reads}
+use Rattle.mail_query.specs.BooleanReading.{Level, Waiting, ForNot, ForClose, State, empty_level, with_member, noted, run_ended, each_ended, level_query, is_negated, has_open, placed, deeper, joined, parted, popped, closed, ended, parts_step, term_step, step, run_from, tokens_query}
+use Rattle.mail_query.proofs.BooleanComplete.{noted-none, state, seen_at, term_fine, with_first, with_first-one, with_first-none}
+
+-- ---- what was read
+
+-- the items of a chain, each with how it stands before the next, so far
+pub data Front : Type 0 where
+  Nothing : Front
+  Behind : Front → Item → Link → Front
+
+-- a chain so far, and its last item, where nothing is known yet of what follows
+pub record Part : Type 0 where
+  pub front : Front
+  pub last : Option Item
+
+pub data Wait : Type 0 where
+  WaitNot : Wait
+  WaitClose : Part → Wait
+
+abbrev pub nothing_read : Part
+nothing_read = record { front = Nothing; last = None }
+
+abbrev pub front_tokens : Front → List Token
+front_tokens Nothing = []
+front_tokens (Behind f i l) = front_tokens f ++ (item_tokens i ++ link_tokens l)
+
+abbrev pub last_tokens : Option Item → List Token
+last_tokens None = []
+last_tokens (Some i) = item_tokens i
+
+abbrev pub part_tokens : Part → List Token
+part_tokens p = front_tokens p.front ++ last_tokens p.last
+
+-- all tokens so far
+abbrev pub spelled : List Wait → Part → List Token
+spelled [] p = part_tokens p
+spelled (WaitNot ∷ ws) p = spelled ws p ++ NotSign ∷ []
+spelled (WaitClose outer ∷ ws) p = spelled ws outer ++ (Open ∷ part_tokens p)
+
+abbrev pub onto : Front → Chain → Chain
+onto Nothing c = c
+onto (Behind f i l) c = onto f (Then i l c)
+
+abbrev pub seen_front : Front → Fields
+seen_front Nothing = no_fields
+seen_front (Behind f i l) = seen_behind i l (seen_front f)
+
+abbrev pub last_prefix : Option Item → Option Field
+last_prefix None = None
+last_prefix (Some i) = plain_prefix i
+
+abbrev pub seen_of : Part → Fields
+seen_of p = with_field (last_prefix p.last) (seen_front p.front)
+
+abbrev pub wanted_of : List Wait → Part → Bool
+wanted_of (WaitNot ∷ ws) p = true
+wanted_of [] p = is_none p.last
+wanted_of (WaitClose outer ∷ ws) p = is_none p.last
+
+-- one item more
+abbrev pub beside : Front → Option Item → Front
+beside f None = f
+beside f (Some j) = Behind f j Beside
+
+abbrev pub put : Part → Item → Part
+put p i = record { front = beside p.front p.last; last = Some i }
+
+abbrev pub put_waits : List Wait → List Wait
+put_waits [] = []
+put_waits (WaitNot ∷ ws) = put_waits ws
+put_waits (WaitClose outer ∷ ws) = WaitClose outer ∷ ws
+
+abbrev pub put_part : List Wait → Part → Item → Part
+put_part [] p i = put p i
+put_part (WaitNot ∷ ws) p i = put_part ws p (NotOf i)
+put_part (WaitClose outer ∷ ws) p i = put p i
+
+-- ---- how it is spelled
+
+part_tokens-put : (p : Part) (i : Item) → part_tokens (put p i) ≡ part_tokens p ++ item_tokens i
+part_tokens-put p i = go p.last
+  where
+    go : (last : Option Item) → front_tokens (beside p.front last) ++ item_tokens i ≡ (front_tokens p.front ++ last_tokens last) ++ item_tokens i
+    go None = ap (λ (ts : List Token). ts ++ item_tokens i) (sym (append-nil (front_tokens p.front)))
+    go (Some j) = ap (λ (ts : List Token). (front_tokens p.front ++ ts) ++ item_tokens i) (append-nil (item_tokens j))
+
+-- a `some` must stand behind
+abbrev pub wanted_behind : Link → Bool
+wanted_behind Beside = false
+wanted_behind ByAnd = true
+wanted_behind ByOr = true
+
+abbrev pub front_wanted : Front → Bool
+front_wanted Nothing = true
+front_wanted (Behind f i l) = wanted_behind l
+
+-- where no item stands last, none stands before, or an operator does
+abbrev pub is_closed : Front → Option Item → Bool
+is_closed f None = front_wanted f
+is_closed f (Some i) = true
+
+operator_wanted : (l : Link) (t : Token) → link_tokens l ≡ t ∷ [] → wanted_behind l ≡ true
+operator_wanted Beside t e = absurd cc
+operator_wanted ByAnd t e = refl
+operator_wanted ByOr t e = refl
+
+-- a `not` waits nearest
+abbrev pub waits_not : List Wait → Bool
+waits_not (WaitNot ∷ ws) = true
+waits_not _ = false
+
+-- what follows in the innermost part follows the whole, where no `not` waits nearest
+spelled-more : (ws : List Wait) (p next : Part) (ts : List Token) → waits_not ws ≡ false → part_tokens next ≡ part_tokens p ++ ts → spelled ws next ≡ spelled ws p ++ ts
+spelled-more [] p next ts e h = h
+spelled-more (WaitNot ∷ ws) p next ts e h = absurd cc
+spelled-more (WaitClose outer ∷ ws) p next ts e h =
+    ap (λ (part : List Token). spelled ws outer ++ (Open ∷ part)) h ∙ sym (append_assoc (spelled ws outer) (Open ∷ part_tokens p) ts)
+
+spelled-put : (ws : List Wait) (p : Part) (i : Item) → spelled (put_waits ws) (put_part ws p i) ≡ spelled ws p ++ item_tokens i
+spelled-put [] p i = part_tokens-put p i
+spelled-put (WaitNot ∷ ws) p i = spelled-put ws p (NotOf i) ∙ sym (append_assoc (spelled ws p) (NotSign ∷ []) (item_tokens i))
+spelled-put (WaitClose outer ∷ ws) p i = spelled-more (WaitClose outer ∷ ws) p (put p i) (item_tokens i) refl (part_tokens-put p i)
+
+chain_tokens-onto : (f : Front) (c : Chain) → chain_tokens (onto f c) ≡ front_tokens f ++ chain_tokens c
+chain_tokens-onto Nothing c = refl
+chain_tokens-onto (Behind f i l) c =
+    chain_tokens-onto f (Then i l c)
+    ∙ ap (λ (ts : List Token). front_tokens f ++ ts) (sym (append_assoc (item_tokens i) (link_tokens l) (chain_tokens c)))
+    ∙ sym (append_assoc (front_tokens f) (item_tokens i ++ link_tokens l) (chain_tokens c))
+
+and_true : (a b : Bool) → a ≡ true → b ≡ true → (a && b) ≡ true
+and_true a b h k = rw h k
+
+and_assoc : (a b c : Bool) → ((a && b) && c) ≡ (a && (b && c))
+and_assoc true b c = refl
+and_assoc false b c = refl
+
+module _ (lexicon : Lexicon) where
+  -- ---- what the reader has of it
+
+  abbrev pub members_front : Front → List Query
+  members_front Nothing = []
+  members_front (Behind f i Beside) = members_front f ++ item_query lexicon i ∷ []
+  members_front (Behind f i ByAnd) = members_front f ++ item_query lexicon i ∷ []
+  members_front (Behind f i ByOr) = []
+
+  abbrev pub eaches_front : Front → List Query
+  eaches_front Nothing = []
+  eaches_front (Behind f i Beside) = eaches_front f
+  eaches_front (Behind f i ByAnd) = eaches_front f
+  eaches_front (Behind f i ByOr) = eaches_front f ++ all_of (members_front f ++ item_query lexicon i ∷ []) ∷ []
+
+  abbrev pub last_query : Option Item → List Query
+  last_query None = []
+  last_query (Some i) = item_query lexicon i ∷ []
+
+  abbrev pub level_of : Part → Level
+  level_of p = record { eaches = eaches_front p.front; members = members_front p.front ++ last_query p.last; seen = seen_of p }
+
+  abbrev pub waiting_of : List Wait → List Waiting
+  waiting_of [] = []
+  waiting_of (WaitNot ∷ ws) = ForNot ∷ waiting_of ws
+  waiting_of (WaitClose outer ∷ ws) = ForClose (level_of outer) ∷ waiting_of ws
+
+  abbrev pub state_of : List Wait → Part → State
+  state_of ws p = record { waiting = waiting_of ws; level = level_of p; wanted = wanted_of ws p }
+
+  pub length-waiting_of : (ws : List Wait) → length (waiting_of ws) ≡ length ws
+  length-waiting_of [] = refl
+  length-waiting_of (WaitNot ∷ ws) = ap suc (length-waiting_of ws)
+  length-waiting_of (WaitClose outer ∷ ws) = ap suc (length-waiting_of ws)
+
+  pub negated-waiting_of : (ws : List Wait) → is_negated (waiting_of ws) ≡ waits_not ws
+  negated-waiting_of [] = refl
+  negated-waiting_of (WaitNot ∷ ws) = refl
+  negated-waiting_of (WaitClose outer ∷ ws) = refl
+
+  level_of-put : (p : Part) (i : Item) → level_of (put p i) ≡ with_member (noted false (plain_prefix i) (level_of p)) (item_query lexicon i)
+  level_of-put p i = go p.front p.last
+    where
+      go : (f : Front) (last : Option Item) → level_of (put (record { front = f; last = last }) i) ≡ with_member (noted false (plain_prefix i) (level_of (record { front = f; last = last }))) (item_query lexicon i)
+      go f None = ap (λ (ms : List Query). let l : Level = record { eaches = eaches_front f; members = ms ++ item_query lexicon i ∷ []; seen = with_field (plain_prefix i) (seen_front f) } in l) (sym (append-nil (members_front f)))
+      go f (Some j) = refl
+
+  placed_is : (ws : List Wait) (p : Part) (i : Item)
+      → placed (waiting_of ws) (noted (is_negated (waiting_of ws)) (plain_prefix i) (level_of p)) (item_query lexicon i) ≡ state_of (put_waits ws) (put_part ws p i)
+  placed_is [] p i = ap (λ (l : Level). let s : State = record { waiting = []; level = l; wanted = false } in s) (sym (level_of-put p i))
+  placed_is (WaitNot ∷ ws) p i =
+      ap (λ (l : Level). placed (waiting_of ws) l (Not (item_query lexicon i))) (sym (noted-none (is_negated (waiting_of ws)) (level_of p))) ∙ placed_is ws p (NotOf i)
+  placed_is (WaitClose outer ∷ ws) p i =
+      ap (λ (l : Level). let s : State = record { waiting = ForClose (level_of outer) ∷ waiting_of ws; level = l; wanted = false } in s) (sym (level_of-put p i))
+
+  eaches-onto : (f : Front) (c : Chain) → map all_of (chain_queries lexicon (onto f c)) ≡ eaches_front f ++ map all_of (with_first (members_front f) (chain_queries lexicon c))
+  eaches-onto Nothing c = ap (map all_of) (sym (with_first-none lexicon c))
+  eaches-onto (Behind f i Beside) c =
+      eaches-onto f (Then i Beside c) ∙ ap (λ (qss : List (List Query)). eaches_front f ++ map all_of qss) (sym (with_first-one (members_front f) (item_query lexicon i) (chain_queries lexicon c)))
+  eaches-onto (Behind f i ByAnd) c =
+      eaches-onto f (Then i ByAnd c) ∙ ap (λ (qss : List (List Query)). eaches_front f ++ map all_of qss) (sym (with_first-one (members_front f) (item_query lexicon i) (chain_queries lexicon c)))
+  eaches-onto (Behind f i ByOr) c =
+      eaches-onto f (Then i ByOr c)
+      ∙ sym (append_assoc (eaches_front f) (all_of (members_front f ++ item_query lexicon i ∷ []) ∷ []) (map all_of (chain_queries lexicon c)))
+      ∙ ap (λ (qss : List (List Query)). (eaches_front f ++ all_of (members_front f ++ item_query lexicon i ∷ []) ∷ []) ++ map all_of qss) (sym (with_first-none lexicon c))
+
+  -- what a level asks is what its tree asks
+  pub level_asks : (f : Front) (i : Item) → level_query (level_of (record { front = f; last = Some i })) ≡ tree_query lexicon (onto f (Last i))
+  level_asks f i = ap either_of (sym (eaches-onto f (Last i)))
+
+  -- ---- that it is allowed
+
+  abbrev pub is_fine_front : Front → ℕ → Bool
+  is_fine_front Nothing n = true
+  is_fine_front (Behind f i l) n = is_fine_front f n && is_fine_item lexicon i n (seen_front f)
+
+  abbrev pub is_fine_last : Front → Option Item → ℕ → Bool
+  is_fine_last f None n = true
+  is_fine_last f (Some i) n = is_fine_item lexicon i n (seen_front f)
+
+  pub record FinePart (p : Part) (n : ℕ) : Type 0 where
+    pub front : is_fine_front p.front n ≡ true
+    pub last : is_fine_last p.front p.last n ≡ true
+    pub closed : is_closed p.front p.last ≡ true
+
+  unfoldable pub Fine : List Wait → Part → Type 0
+  Fine [] p = FinePart p 0
+  Fine (WaitNot ∷ ws) p = Fine ws p × (length ws < 30)
+  Fine (WaitClose outer ∷ ws) p = Fine ws outer × (length ws < 30) × FinePart p (suc (length ws))
+
+  fine-onto : (f : Front) (c : Chain) (n : ℕ) → is_fine_chain lexicon (onto f c) n no_fields ≡ (is_fine_front f n && is_fine_chain lexicon c n (seen_front f))
+  fine-onto Nothing c n = refl
+  fine-onto (Behind f i l) c n = fine-onto f (Then i l c) n ∙ sym (and_assoc (is_fine_front f n) (is_fine_item lexicon i n (seen_front f)) (is_fine_chain lexicon c n (seen_behind i l (seen_front f))))
+
+  fine_put : (p : Part) (i : Item) (n : ℕ) → FinePart p n → is_fine_item lexicon i n (seen_of p) ≡ true → FinePart (put p i) n
+  fine_put p i n h k = go p.front p.last h.front h.last k
+    where
+      go : (f : Front) (last : Option Item) → is_fine_front f n ≡ true → is_fine_last f last n ≡ true → is_fine_item lexicon i n (with_field (last_prefix last) (seen_front f)) ≡ true
+          → FinePart (put (record { front = f; last = last }) i) n
+      go f None h k e = record { front = h; last = e; closed = refl }
+      go f (Some j) h k e = record { front = and_true (is_fine_front f n) (is_fine_item lexicon j n (seen_front f)) h k; last = e; closed = refl }
+
+  negate_fine : (i : Item) (n : ℕ) (seen : Fields) → n < 30 → is_fine_item lexicon i (suc n) no_fields ≡ true → is_fine_item lexicon (NotOf i) n seen ≡ true
+  negate_fine i n seen room h =
+      let below : ltb n 30 ≡ true = grind (arith, nat_tests) in
+      rw below (ap (λ m. is_fine_item lexicon i m no_fields) (add-one n) ∙ h)
+
+  put_fine : (ws : List Wait) (p : Part) (i : Item) → Fine ws p → is_fine_item lexicon i (length ws) (cond (waits_not ws) no_fields (seen_of p)) ≡ true → Fine (put_waits ws) (put_part ws p i)
+  unfolding Fine
+  put_fine [] p i h k = fine_put p i 0 h k
+  put_fine (WaitNot ∷ ws) p i h k = put_fine ws p (NotOf i) h.0 (negate_fine i (length ws) (cond (waits_not ws) no_fields (seen_of p)) h.1 k)
+  put_fine (WaitClose outer ∷ ws) p i h k = (h.0, h.1, fine_put p i (suc (length ws)) h.2 k)
+
+  part_fine : (ws : List Wait) (p next : Part) → waits_not ws ≡ false → ((n : ℕ) → FinePart p n → FinePart next n) → Fine ws p → Fine ws next
+  unfolding Fine
+  part_fine [] p next e h k = h 0 k
+  part_fine (WaitNot ∷ ws) p next e h k = absurd cc
+  part_fine (WaitClose outer ∷ ws) p next e h k = (k.0, k.1, h (suc (length ws)) k.2)
+
+  -- ---- a step
+
+  -- what is read with one token more
+  pub record Reaches (ws : List Wait) (p : Part) (t : Token) (s : State) : Type 0 where
+    pub waits : List Wait
+    pub part : Part
+    pub shown : s ≡ state_of waits part
+    pub tokens : spelled waits part ≡ spelled ws p ++ t ∷ []
+    pub fine : Fine waits part
+
+  no_fields-have : (prefix : Option Field) → has_field no_fields prefix ≡ false
+  no_fields-have None = refl
+  no_fields-have (Some field.From) = refl
+  no_fields-have (Some field.To) = refl
+  no_fields-have (Some field.Subject) = refl
+  no_fields-have (Some field.Body) = refl
+  no_fields-have (Some field.Id) = refl
+  no_fields-have (Some field.Date) = refl
+
+  new_prefix : (negated : Bool) (seen : Fields) (prefix : Option Field) → (not negated && has_field seen prefix) ≡ false → not (has_field (cond negated no_fields seen) prefix) ≡ true
+  new_prefix true seen prefix h = ap not (no_fields-have prefix)
+  new_prefix false seen prefix h = ap not h
+
+  -- a term that was read is allowed where it stands
+  term_ok : (s next : State) (t : List ℕ) → term_step lexicon s t ≡ Ok next
+      → (not (has_field (seen_at s.waiting s.level) (term_prefix t)) && is_ok (term_query lexicon t)) ≡ true
+  unfolding seen_at
+  term_ok s next t e = go (is_phrase t) (parts_of t) e
+    where
+      cut_ok : (prefix : Option Field) (b : Bool) → (not (is_negated s.waiting) && has_field s.level.seen prefix) ≡ b → (r : Result Query QueryFaultKind)
+          → cond b (Err NeedsOperator) (r >>= (λ q. Ok (placed s.waiting (noted (is_negated s.waiting) prefix s.level) q))) ≡ Ok next
+          → (not (has_field (cond (is_negated s.waiting) no_fields s.level.seen) prefix) && is_ok r) ≡ true
+      cut_ok prefix true i r e = absurd cc
+      cut_ok prefix false i (Err kind) e = absurd cc
+      cut_ok prefix false i (Ok q) e = and_true _ true (new_prefix (is_negated s.waiting) s.level.seen prefix i) refl
+
+      go : (b : Bool) (o : Option Parts) → cond b (Err Phrase) (parts_step lexicon s o) ≡ Ok next
+          → (not (has_field (cond (is_negated s.waiting) no_fields s.level.seen) (option_and_then (λ (p : Parts). p.prefix) o)) && is_ok {T = Query} (cond b (Err Phrase) (cut_query lexicon o))) ≡ true
+      go true o e = absurd cc
+      go false None e = absurd cc
+      go false (Some parts) e = cut_ok parts.prefix (not (is_negated s.waiting) && has_field s.level.seen parts.prefix) refl (parts_query lexicon parts.prefix parts.rest) e
+
+  reach_term : (ws : List Wait) (p : Part) (t : List ℕ) (s : State) → Fine ws p → term_step lexicon (state_of ws p) t ≡ Ok s → Reaches ws p (Term t) s
+  unfolding seen_at
+  reach_term ws p t s fine e =
+      let ok = term_ok (state_of ws p) s t e in
+      let is : s ≡ placed (waiting_of ws) (noted (is_negated (waiting_of ws)) (term_prefix t) (level_of p)) (item_query lexicon (Leaf t)) =
+      let both = sym e ∙ term_fine lexicon (state_of ws p) t ok in cc in
+      let leaf : is_fine_item lexicon (Leaf t) (length ws) (cond (waits_not ws) no_fields (seen_of p)) ≡ true =
+      ap (λ (b : Bool). not (has_field (cond b no_fields (seen_of p)) (term_prefix t)) && is_ok (term_query lexicon t)) (sym (negated-waiting_of ws)) ∙ ok in
+      record {
+        waits = put_waits ws;
+        part = put_part ws p (Leaf t);
+        shown = is ∙ placed_is ws p (Leaf t);
+        tokens = spelled-put ws p (Leaf t);
+        fine = put_fine ws p (Leaf t) fine leaf;
+      }
+
+  -- there is room, where one more waits
+  deeper_is : (s next : State) (what : Waiting) (level : Level) → deeper s what level ≡ Ok next → (length s.waiting < 30) × (next ≡ state (what ∷ s.waiting) level true)
+  unfolding state
+  deeper_is s next what level e = go (leb 30 (length s.waiting)) refl e
+    where
+      go : (b : Bool) → leb 30 (length s.waiting) ≡ b → cond b (Err TooDeep) (Ok (record { waiting = what ∷ s.waiting; level = level; wanted = true })) ≡ Ok next
+          → (length s.waiting < 30) × (next ≡ record { waiting = what ∷ s.waiting; level = level; wanted = true })
+      go true i e = absurd cc
+      go false i e = (grind (arith, nat_tests, i), cc)
+
+  reach_not : (ws : List Wait) (p : Part) (s : State) → Fine ws p → deeper (state_of ws p) ForNot (level_of p) ≡ Ok s → Reaches ws p NotSign s
+  unfolding Fine state
+  reach_not ws p s fine e =
+      let d = deeper_is (state_of ws p) s ForNot (level_of p) e in
+      record { waits = WaitNot ∷ ws; part = p; shown = d.1; tokens = refl; fine = (fine, omega (arith, d.0, length-waiting_of ws)) }
+
+  reach_open : (ws : List Wait) (p : Part) (s : State) → Fine ws p → deeper (state_of ws p) (ForClose (level_of p)) empty_level ≡ Ok s → Reaches ws p Open s
+  unfolding Fine state
+  reach_open ws p s fine e =
+      let d = deeper_is (state_of ws p) s (ForClose (level_of p)) empty_level e in
+      record {
+        waits = WaitClose p ∷ ws;
+        part = nothing_read;
+        shown = d.1;
+        tokens = refl;
+        fine = (fine, omega (arith, d.0, length-waiting_of ws), record { front = refl; last = refl; closed = refl });
+      }
+
+  -- where nothing is wanted, there is a last item, and no `not` waits nearest
+  record Ends (ws : List Wait) (p : Part) : Type 0 where
+    item : Item
+    last : p.last ≡ Some item
+    no_not : waits_not ws ≡ false
+
+  ends : (ws : List Wait) (p : Part) → wanted_of ws p ≡ false → Ends ws p
+  ends [] p e = go p.last refl e
+    where
+      go : (last : Option Item) → p.last ≡ last → is_none last ≡ false → Ends [] p
+      go None i e = absurd cc
+      go (Some j) i e = record { item = j; last = i; no_not = refl }
+  ends (WaitNot ∷ ws) p e = absurd cc
+  ends (WaitClose outer ∷ ws) p e = go p.last refl e
+    where
+      go : (last : Option Item) → p.last ≡ last → is_none last ≡ false → Ends (WaitClose outer ∷ ws) p
+      go None i e = absurd cc
+      go (Some j) i e = record { item = j; last = i; no_not = refl }
+
+  wanted-none : (ws : List Wait) (f : Front) → wanted_of ws (record { front = f; last = None }) ≡ true
+  wanted-none [] f = refl
+  wanted-none (WaitNot ∷ ws) f = refl
+  wanted-none (WaitClose outer ∷ ws) f = refl
+
+  -- an operator stands behind the last item
+  reach_operator : (ws : List Wait) (p : Part) (l : Link) (t : Token) (level : Level) (s : State) → Fine ws p → link_tokens l ≡ t ∷ [] → (en : Ends ws p)
+      → level ≡ level_of (record { front = Behind p.front en.item l; last = None }) → s ≡ state (waiting_of ws) level true → Reaches ws p t s
+  unfolding state
+  reach_operator ws p l t level s fine spelled_so en is shown =
+      let next : Part = record { front = Behind p.front en.item l; last = None } in
+      record {
+        waits = ws;
+        part = next;
+        shown = shown ∙ ap (λ (v : Level). state (waiting_of ws) v true) is ∙ ap (state (waiting_of ws) (level_of next)) (sym (wanted-none ws (Behind p.front en.item l)));
+        tokens = spelled-more ws p next (t ∷ []) en.no_not (more p.last en.last);
+        fine = part_fine ws p next en.no_not (λ n h. record { front = and_true _ _ h.front (allowed p.last en.last n h.last); last = refl; closed = operator_wanted l t spelled_so }) fine;
+      }
+    where
+      more : (last : Option Item) → last ≡ Some en.item → (front_tokens p.front ++ (item_tokens en.item ++ link_tokens l)) ++ [] ≡ (front_tokens p.front ++ last_tokens last) ++ t ∷ []
+      more last e =
+          append-nil (front_tokens p.front ++ (item_tokens en.item ++ link_tokens l))
+          ∙ ap (λ (ts : List Token). front_tokens p.front ++ (item_tokens en.item ++ ts)) spelled_so
+          ∙ sym (append_assoc (front_tokens p.front) (item_tokens en.item) (t ∷ []))
+          ∙ ap (λ (o : Option Item). (front_tokens p.front ++ last_tokens o) ++ t ∷ []) (sym e)
+
+      allowed : (last : Option Item) → last ≡ Some en.item → (n : ℕ) → is_fine_last p.front last n ≡ true → is_fine_item lexicon en.item n (seen_front p.front) ≡ true
+      allowed last e n h = ap (λ (o : Option Item). is_fine_last p.front o n) (sym e) ∙ h
+
+  joined_is : (s next : State) → joined s ≡ Ok next → (s.wanted ≡ false) × (next ≡ state s.waiting (run_ended s.level) true)
+  unfolding state
+  joined_is s next e = go s.wanted refl e
+    where
+      go : (b : Bool) → s.wanted ≡ b → cond b (Err MissingTerm) (Ok (record { waiting = s.waiting; level = run_ended s.level; wanted = true })) ≡ Ok next
+          → (s.wanted ≡ false) × (next ≡ record { waiting = s.waiting; level = run_ended s.level; wanted = true })
+      go true i e = absurd cc
+      go false i e = (i, cc)
+
+  parted_is : (s next : State) → parted s ≡ Ok next → (s.wanted ≡ false) × (next ≡ state s.waiting (each_ended s.level) true)
+  unfolding state
+  parted_is s next e = go s.wanted refl e
+    where
+      go : (b : Bool) → s.wanted ≡ b → cond b (Err MissingTerm) (Ok (record { waiting = s.waiting; level = each_ended s.level; wanted = true })) ≡ Ok next
+          → (s.wanted ≡ false) × (next ≡ record { waiting = s.waiting; level = each_ended s.level; wanted = true })
+      go true i e = absurd cc
+      go false i e = (i, cc)
+
+  reach_and : (ws : List Wait) (p : Part) (s : State) → Fine ws p → joined (state_of ws p) ≡ Ok s → Reaches ws p AndSign s
+  reach_and ws p s fine e =
+      let j = joined_is (state_of ws p) s e in
+      let en = ends ws p j.0 in
+      reach_operator ws p ByAnd AndSign (run_ended (level_of p)) s fine refl en (same p.front p.last en.item en.last) j.1
+    where
+      same : (f : Front) (last : Option Item) (i : Item) → last ≡ Some i → run_ended (level_of (record { front = f; last = last })) ≡ level_of (record { front = Behind f i ByAnd; last = None })
+      same f last i e =
+          ap (λ (o : Option Item). run_ended (level_of (record { front = f; last = o }))) e
+          ∙ ap (λ (ms : List Query). let l : Level = record { eaches = eaches_front f; members = ms; seen = no_fields } in l) (sym (append-nil (members_front f ++ item_query lexicon i ∷ [])))
+
+  reach_or : (ws : List Wait) (p : Part) (s : State) → Fine ws p → parted (state_of ws p) ≡ Ok s → Reaches ws p OrSign s
+  reach_or ws p s fine e =
+      let j = parted_is (state_of ws p) s e in
+      let en = ends ws p j.0 in
+      reach_operator ws p ByOr OrSign (each_ended (level_of p)) s fine refl en (same p.front p.last en.item en.last) j.1
+    where
+      same : (f : Front) (last : Option Item) (i : Item) → last ≡ Some i → each_ended (level_of (record { front = f; last = last })) ≡ level_of (record { front = Behind f i ByOr; last = None })
+      same f last i e = ap (λ (o : Option Item). each_ended (level_of (record { front = f; last = o }))) e
+
+  -- a group is closed
+  closed_is : (s next : State) → closed s ≡ Ok next → (s.wanted ≡ false) × (popped s.waiting s.level ≡ Ok next)
+  closed_is s next e = go s.wanted (has_open s.waiting) refl e
+    where
+      go : (b o : Bool) → s.wanted ≡ b → cond b (cond o (Err MissingTerm) (Err BadParenthesis)) (popped s.waiting s.level) ≡ Ok next → (s.wanted ≡ false) × (popped s.waiting s.level ≡ Ok next)
+      go true true i e = absurd cc
+      go true false i e = absurd cc
+      go false o i e = (i, e)
+
+  group_fine : (f : Front) (i : Item) (n : ℕ) (seen : Fields) → n < 30 → FinePart (record { front = f; last = Some i }) (suc n) → is_fine_item lexicon (Group (onto f (Last i))) n seen ≡ true
+  group_fine f i n seen room h =
+      let below : ltb n 30 ≡ true = grind (arith, nat_tests) in
+      rw below (ap (λ m. is_fine_chain lexicon (onto f (Last i)) m no_fields) (add-one n) ∙ fine-onto f (Last i) (suc n) ∙ and_true (is_fine_front f (suc n)) _ h.front h.last)
+
+  reach_close : (ws : List Wait) (p : Part) (s : State) → Fine ws p → closed (state_of ws p) ≡ Ok s → Reaches ws p Close s
+  unfolding Fine
+  reach_close ws p s fine e =
+      let d = closed_is (state_of ws p) s e in
+      go ws (ends ws p d.0) fine d.1
+    where
+      whole : (f : Front) (last : Option Item) (i : Item) → last ≡ Some i → record { front = f; last = last } ≡ (let r : Part = record { front = f; last = Some i } in r)
+      whole f last i e = ap (λ (o : Option Item). let r : Part = record { front = f; last = o } in r) e
+
+      go : (vs : List Wait) → Ends vs p → Fine vs p → popped (waiting_of vs) (level_of p) ≡ Ok s → Reaches vs p Close s
+      go [] en h e = absurd cc
+      go (WaitNot ∷ vs) en h e = absurd cc
+      go (WaitClose outer ∷ vs) en h e =
+          let i = en.item in
+          let c : Chain = onto p.front (Last i) in
+          let part : p ≡ record { front = p.front; last = Some i } = whole p.front p.last i en.last in
+          let asks : level_query (level_of p) ≡ item_query lexicon (Group c) = ap (λ (r : Part). level_query (level_of r)) part ∙ level_asks p.front i in
+          let is : s ≡ placed (waiting_of vs) (noted (is_negated (waiting_of vs)) None (level_of outer)) (item_query lexicon (Group c)) =
+          let popped_so : placed (waiting_of vs) (level_of outer) (level_query (level_of p)) ≡ s = cc in
+          sym popped_so ∙ ap (placed (waiting_of vs) (level_of outer)) asks
+          ∙ ap (λ (l : Level). placed (waiting_of vs) l (item_query lexicon (Group c))) (sym (noted-none (is_negated (waiting_of vs)) (level_of outer))) in
+          let fine_here : FinePart (record { front = p.front; last = Some i }) (suc (length vs)) = subst (λ (r : Part). FinePart r (suc (length vs))) part h.2 in
+          record {
+            waits = put_waits vs;
+            part = put_part vs outer (Group c);
+            shown = is ∙ placed_is vs outer (Group c);
+            tokens = spelled-put vs outer (Group c) ∙ tokens_close vs outer i en.last;
+            fine = put_fine vs outer (Group c) h.0 (group_fine p.front i (length vs) (cond (waits_not vs) no_fields (seen_of outer)) h.1 fine_here);
+          }
+        where
+          tokens_close : (us : List Wait) (out : Part) (j : Item) → p.last ≡ Some j
+              → spelled us out ++ (Open ∷ (chain_tokens (onto p.front (Last j)) ++ Close ∷ [])) ≡ (spelled us out ++ (Open ∷ part_tokens p)) ++ Close ∷ []
+          tokens_close us out j e =
+              ap (λ (ts : List Token). spelled us out ++ (Open ∷ (ts ++ Close ∷ []))) (chain_tokens-onto p.front (Last j) ∙ ap (λ (o : Option Item). front_tokens p.front ++ last_tokens o) (sym e))
+              ∙ sym (append_assoc (spelled us out) (Open ∷ part_tokens p) (Close ∷ []))
+
+  pub reach : (ws : List Wait) (p : Part) (t : Token) (s : State) → Fine ws p → step lexicon (state_of ws p) t ≡ Ok s → Reaches ws p t s
+  reach ws p (Term t) s fine e = reach_term ws p t s fine e
+  reach ws p NotSign s fine e = reach_not ws p s fine e
+  reach ws p Open s fine e = reach_open ws p s fine e
+  reach ws p Close s fine e = reach_close ws p s fine e
+  reach ws p AndSign s fine e = reach_and ws p s fine e
+  reach ws p OrSign s fine e = reach_or ws p s fine e
+
+  -- ---- the whole
+
+  ended_is : (s : State) (q : Query) → ended s ≡ Ok q → (s.wanted ≡ false) × (has_open s.waiting ≡ false) × (level_query s.level ≡ q)
+  ended_is s q e = go s.wanted (has_open s.waiting) refl refl e
+    where
+      go : (b o : Bool) → s.wanted ≡ b → has_open s.waiting ≡ o → cond b (Err MissingTerm) (cond o (Err BadParenthesis) (Ok (level_query s.level))) ≡ Ok q
+          → (s.wanted ≡ false) × (has_open s.waiting ≡ false) × (level_query s.level ≡ q)
+      go true o i j e = absurd cc
+      go false true i j e = absurd cc
+      go false false i j e = (i, j, cc)
+
+  end_reads : (ws : List Wait) (p : Part) (q : Query) → Fine ws p → ended (state_of ws p) ≡ Ok q → Reads lexicon (spelled ws p) q
+  unfolding Fine
+  end_reads ws p q fine e =
+      let d = ended_is (state_of ws p) q e in
+      go ws (ends ws p d.0) d.1 fine d.2
+    where
+      whole : (f : Front) (last : Option Item) (i : Item) → last ≡ Some i → record { front = f; last = last } ≡ (let r : Part = record { front = f; last = Some i } in r)
+      whole f last i e = ap (λ (o : Option Item). let r : Part = record { front = f; last = o } in r) e
+
+      go : (vs : List Wait) → Ends vs p → has_open (waiting_of vs) ≡ false → Fine vs p → level_query (level_of p) ≡ q → Reads lexicon (spelled vs p) q
+      go (WaitNot ∷ vs) en o h e = let no = en.no_not in absurd cc
+      go (WaitClose outer ∷ vs) en o h e = absurd cc
+      go [] en o h e =
+          let part : p ≡ record { front = p.front; last = Some en.item } = whole p.front p.last en.item en.last in
+          let fine_here : FinePart (record { front = p.front; last = Some en.item }) 0 = subst (λ (r : Part). FinePart r 0) part h in
+          record {
+            tree = onto p.front (Last en.item);
+            spelled = chain_tokens-onto p.front (Last en.item) ∙ ap (λ (o : Option Item). front_tokens p.front ++ last_tokens o) (sym en.last);
+            fine = fine-onto p.front (Last en.item) 0 ∙ and_true (is_fine_front p.front 0) _ fine_here.front fine_here.last;
+            asked = sym (level_asks p.front en.item) ∙ ap (λ (r : Part). level_query (level_of r)) (sym part) ∙ e;
+          }
+
+  run_reads : (n : ℕ) (ws : List Wait) (p : Part) (ts : List Token) (q : Query) → Fine ws p → run_from lexicon n (state_of ws p) ts ≡ Ok q → Reads lexicon (spelled ws p ++ ts) q
+  run_reads n ws p [] q fine e = subst (λ (xs : List Token). Reads lexicon xs q) (sym (append-nil (spelled ws p))) (end_reads ws p q fine (unnumbered (ended (state_of ws p)) e))
+    where
+      unnumbered : (r : Result Query QueryFaultKind) → fault_as (λ kind. let f : QueryFault = record { number = n; kind = kind } in f) r ≡ Ok q → r ≡ Ok q
+      unnumbered (Ok x) e = cc
+      unnumbered (Err kind) e = absurd cc
+  run_reads n ws p (t ∷ ts) q fine e = go (step lexicon (state_of ws p) t) refl e (λ vs r h k. run_reads (n + 1) vs r ts q h k)
+    where
+      go : (r : Result State QueryFaultKind) → step lexicon (state_of ws p) t ≡ r
+          → (fault_as (λ kind. let f : QueryFault = record { number = n; kind = kind } in f) r >>= (λ next. run_from lexicon (n + 1) next ts)) ≡ Ok q
+          → ((vs : List Wait) (r : Part) → Fine vs r → run_from lexicon (n + 1) (state_of vs r) ts ≡ Ok q → Reads lexicon (spelled vs r ++ ts) q) → Reads lexicon (spelled ws p ++ t ∷ ts) q
+      go (Err kind) i e k = absurd cc
+      go (Ok next) i e k =
+          let reached = reach ws p t next fine i in
+          let rest = k reached.waits reached.part reached.fine (ap (λ s. run_from lexicon (n + 1) s ts) (sym reached.shown) ∙ e) in
+          subst (λ (xs : List Token). Reads lexicon xs q) (ap (λ (xs : List Token). xs ++ ts) reached.tokens ∙ append_assoc (spelled ws p) (t ∷ []) ts) rest
+
+  -- what the reader answers is read by the grammar
+  pub answer_read : (ts : List Token) (q : Query) → tokens_query lexicon ts ≡ Ok q → Reads lexicon ts q
+  unfolding Fine
+  answer_read [] q e = absurd cc
+  answer_read (t ∷ ts) q e = run_reads 1 [] nothing_read (t ∷ ts) q (record { front = refl; last = refl; closed = refl }) e

@@ -1,0 +1,23 @@
+-- Lists of digits.
+use Rattle.std.proofs.Common.{◌≡◌, ◌<◌, ◌≤◌, ◌-◌, ℕ, zero, suc, Bool, true, false, ◌&&◌, List, [], ◌∷◌, length, get_or, arith}
+use Rattle.std.specs.Char.{is_ascii_digit, digit_value}
+use Rattle.std.specs.List.{list_all}
+use Rattle.std.proofs.lemmas.Bool.Decides.{nat_tests}
+
+pub record IsDigit (b : ℕ) : Type 0 where
+  pub low : 48 ≤ b
+  pub high : b ≤ 57
+  pub value : digit_value b ≡ b - 48
+
+pub digit_is : (b : ℕ) → is_ascii_digit b ≡ true → IsDigit b
+digit_is b e = record { low = grind (arith, nat_tests); high = grind (arith, nat_tests); value = grind (arith, nat_tests) }
+
+and_true : (a b : Bool) → (a && b) ≡ true → (a ≡ true) × (b ≡ true)
+and_true true b e = (cc, e)
+and_true false b e = absurd cc
+
+-- each of them is a digit
+pub digit_at : (xs : List ℕ) (i : ℕ) → list_all is_ascii_digit xs ≡ true → i < length xs → IsDigit (get_or xs i 0)
+digit_at [] i e h = absurd (omega arith)
+digit_at (x ∷ xs) zero e h = digit_is x (and_true (is_ascii_digit x) (list_all is_ascii_digit xs) e).0
+digit_at (x ∷ xs) (suc i) e h = digit_at xs i (and_true (is_ascii_digit x) (list_all is_ascii_digit xs) e).1 (omega arith)

@@ -1,0 +1,18 @@
+pub mod PieceLemmas
+pub mod ApproximateLemmas
+pub mod EachLemmas
+pub mod Digits
+pub mod FlagLemmas
+pub mod SizeLemmas
+pub mod NodeLemmas
+pub mod PatternLemmas
+pub mod DepthLemmas
+pub mod TokenLemmas
+pub mod StackLemmas
+pub mod BooleanDepth
+pub mod RowLexicon
+mod RowsMairix
+mod RowsBoolean
+pub mod BooleanComplete
+pub mod BooleanTrees
+pub mod BooleanPlaces

@@ -1,0 +1,122 @@
+-- What waits, the nearest first.
+use Rattle.std.proofs.Common.{◌≡◌, ℕ, suc, ◌+◌, ◌-◌, ◌<◌, ◌≤◌, Bool, true, false, ◌||◌, leb, Ok, Err, List, [], ◌∷◌, ◌++◌, length, take, drop, get_or, drop-cons, length-append, refl, sym, ap, ◌∙◌, arith}
+use Rattle.std.specs.List.{IsLastAndRest}
+use Rattle.std.proofs.Math.Seq.{take-append_seam}
+use Rattle.std.proofs.lemmas.List.{drop_all}
+use Rattle.std.proofs.lemmas.Bool.Decides.{nat_tests}
+use Rattle.mail_query.specs.declared.fault.QueryFaultKind.TheVariants.{TooDeep, BadParenthesis}
+use Rattle.mail_query.specs.declared.boolean.level.Level.{Level as CodeLevel}
+use Rattle.mail_query.specs.declared.boolean.reader.Waiting.{Waiting as CodeWaiting}
+use Rattle.mail_query.specs.declared.boolean.reader.Waiting.TheVariants as code_waiting
+use Rattle.mail_query.specs.Query.{Query, Not}
+use Rattle.mail_query.specs.Shown.{shown_level, shown_waiting, nearest_first, shown_stack}
+use Rattle.mail_query.specs.BooleanReading.{Level, Waiting, ForNot, ForClose, State, with_member, is_negated, has_open, placed, deeper, popped, level_query}
+
+nearest_first-push : (ws : List CodeWaiting) (w : CodeWaiting) (behind : List Waiting) → nearest_first (ws ++ w ∷ []) behind ≡ shown_waiting w ∷ nearest_first ws behind
+nearest_first-push [] w behind = refl
+nearest_first-push (v ∷ ws) w behind = nearest_first-push ws w (shown_waiting v ∷ behind)
+
+-- the last waits nearest
+pub shown_stack-push : (ws : List CodeWaiting) (w : CodeWaiting) → shown_stack (ws ++ w ∷ []) ≡ shown_waiting w ∷ shown_stack ws
+shown_stack-push ws w = nearest_first-push ws w []
+
+length-nearest_first : (ws : List CodeWaiting) (behind : List Waiting) → length (nearest_first ws behind) ≡ length ws + length behind
+length-nearest_first [] behind = omega arith
+length-nearest_first (w ∷ ws) behind = omega (arith, length-nearest_first ws (shown_waiting w ∷ behind))
+
+pub length-shown_stack : (ws : List CodeWaiting) → length (shown_stack ws) ≡ length ws
+length-shown_stack ws = omega (arith, length-nearest_first ws [])
+
+pub negated_last : (ws front : List CodeWaiting) → IsLastAndRest ws code_waiting.ForNot front → is_negated (shown_stack ws) ≡ true
+negated_last ws front h = ap (λ xs. is_negated (shown_stack xs)) h.0 ∙ ap is_negated (shown_stack-push front code_waiting.ForNot)
+
+pub open_last : (ws front : List CodeWaiting) (w : CodeWaiting) (level : Level) → IsLastAndRest ws w front → shown_waiting w ≡ ForClose level → is_negated (shown_stack ws) ≡ false
+open_last ws front w level h e = ap (λ xs. is_negated (shown_stack xs)) h.0 ∙ ap is_negated (shown_stack-push front w) ∙ ap (λ v. is_negated (v ∷ shown_stack front)) e
+
+pub nothing_waits : (ws : List CodeWaiting) → length ws ≡ 0 → shown_stack ws ≡ []
+nothing_waits [] e = refl
+nothing_waits (w ∷ ws) e = absurd (omega (arith, e))
+
+-- a `some` that no `not` waits for is a member
+pub placed-settled : (ws : List Waiting) (level : Level) (q : Query) → is_negated ws ≡ false → placed ws level q ≡ record { waiting = ws; level = with_member level q; wanted = false }
+placed-settled [] level q e = refl
+placed-settled (ForNot ∷ ws) level q e = absurd cc
+placed-settled (ForClose outer ∷ ws) level q e = refl
+
+-- ---- whether some `(` waits
+
+abbrev pub has_open_code : List CodeWaiting → Bool
+has_open_code [] = false
+has_open_code (code_waiting.ForNot ∷ ws) = has_open_code ws
+has_open_code (code_waiting.ForClose level ∷ ws) = true
+
+or_true : (b : Bool) → (b || true) ≡ true
+or_true true = refl
+or_true false = refl
+
+or_false : (b : Bool) → (b || false) ≡ b
+or_false true = refl
+or_false false = refl
+
+has_open-nearest_first : (ws : List CodeWaiting) (behind : List Waiting) → has_open (nearest_first ws behind) ≡ (has_open_code ws || has_open behind)
+has_open-nearest_first [] behind = refl
+has_open-nearest_first (code_waiting.ForNot ∷ ws) behind = has_open-nearest_first ws (ForNot ∷ behind)
+has_open-nearest_first (code_waiting.ForClose level ∷ ws) behind = has_open-nearest_first ws (shown_waiting (code_waiting.ForClose level) ∷ behind) ∙ or_true (has_open_code ws)
+
+pub has_open-shown_stack : (ws : List CodeWaiting) → has_open (shown_stack ws) ≡ has_open_code ws
+has_open-shown_stack ws = has_open-nearest_first ws [] ∙ or_false (has_open_code ws)
+
+-- ---- whether there is room to wait
+
+pub deeper-full : (s : State) (what : Waiting) (level : Level) → 30 ≤ length s.waiting → deeper s what level ≡ Err TooDeep
+deeper-full s what level h = let e : leb 30 (length s.waiting) ≡ true = grind (arith, nat_tests) in rw e refl
+
+pub deeper-room : (s : State) (what : Waiting) (level : Level) → length s.waiting < 30 → deeper s what level ≡ Ok (record { waiting = what ∷ s.waiting; level = level; wanted = true })
+deeper-room s what level h = let e : leb 30 (length s.waiting) ≡ false = grind (arith, nat_tests) in rw e refl
+
+-- ---- what the last leaves
+
+-- a list that isn't empty has a last element
+last_of : {A : Type 0} (xs : List A) → 0 < length xs → (front : List A) × (x : A) × (xs ≡ front ++ x ∷ [])
+last_of [] h = absurd (omega (arith, h))
+last_of (x ∷ []) h = ([], x, refl)
+last_of {A} (x ∷ y ∷ xs) h = let l = last_of (y ∷ xs) (omega arith) in (x ∷ l.0, l.1, ap (λ (ys : List A). x ∷ ys) l.2)
+
+without_last : {A : Type 0} (front : List A) (x : A) → take (length (front ++ x ∷ []) - 1) (front ++ x ∷ []) ≡ front
+without_last {A} front x =
+    let place : length (front ++ x ∷ []) - 1 ≡ length front = omega (arith, length-append front (x ∷ [])) in
+    ap (λ n. take n (front ++ x ∷ [])) place ∙ take-append_seam front (x ∷ [])
+
+pub negated_some : (ws : List CodeWaiting) → is_negated (shown_stack ws) ≡ true → 0 < length ws
+negated_some [] e = absurd cc
+negated_some (w ∷ ws) e = omega arith
+
+negated_is : (w : CodeWaiting) (behind : List Waiting) → is_negated (shown_waiting w ∷ behind) ≡ true → shown_waiting w ≡ ForNot
+negated_is code_waiting.ForNot behind e = refl
+negated_is (code_waiting.ForClose level) behind e = absurd cc
+
+pub placed-not : (ws : List CodeWaiting) (level : Level) (q : Query) → is_negated (shown_stack ws) ≡ true → placed (shown_stack ws) level q ≡ placed (shown_stack (take (length ws - 1) ws)) level (Not q)
+placed-not ws level q e =
+    let l = last_of ws (negated_some ws e) in
+    let stack : shown_stack ws ≡ shown_waiting l.1 ∷ shown_stack l.0 = ap shown_stack l.2 ∙ shown_stack-push l.0 l.1 in
+    let is : shown_waiting l.1 ≡ ForNot = negated_is l.1 (shown_stack l.0) (sym (ap is_negated stack) ∙ e) in
+    let front : take (length ws - 1) ws ≡ l.0 = ap (λ (xs : List CodeWaiting). take (length xs - 1) xs) l.2 ∙ without_last l.0 l.1 in
+    ap (λ (xs : List Waiting). placed xs level q) (stack ∙ ap (λ (w : Waiting). w ∷ shown_stack l.0) is) ∙ sym (ap (λ xs. placed (shown_stack xs) level (Not q)) front)
+
+pub pops-close : (ws rest : List CodeWaiting) (outer : CodeLevel) (level : Level) → ws ≡ rest ++ code_waiting.ForClose outer ∷ []
+    → popped (shown_stack ws) level ≡ Ok (placed (shown_stack rest) (shown_level outer) (level_query level))
+pops-close ws rest outer level e = ap (λ xs. popped (shown_stack xs) level) e ∙ ap (λ xs. popped xs level) (shown_stack-push rest (code_waiting.ForClose outer))
+
+pub pops-not : (ws rest : List CodeWaiting) (level : Level) → ws ≡ rest ++ code_waiting.ForNot ∷ [] → popped (shown_stack ws) level ≡ Err BadParenthesis
+pops-not ws rest level e = ap (λ xs. popped (shown_stack xs) level) e ∙ ap (λ xs. popped xs level) (shown_stack-push rest code_waiting.ForNot)
+
+-- ---- a `(` that waits, found from the front
+
+pub open_here : (ws : List CodeWaiting) (i : ℕ) (item : CodeWaiting) (level : CodeLevel) → i < length ws → item ≡ get_or ws i item → item ≡ code_waiting.ForClose level
+    → has_open_code (drop i ws) ≡ has_open_code ws → true ≡ has_open (shown_stack ws)
+open_here ws i item level below here is h =
+    let e : drop i ws ≡ code_waiting.ForClose level ∷ drop (suc i) ws = drop-cons ws i item below ∙ ap (λ (w : CodeWaiting). w ∷ drop (suc i) ws) (sym here ∙ is) in
+    sym (ap has_open_code e) ∙ h ∙ sym (has_open-shown_stack ws)
+
+pub none_open : (ws : List CodeWaiting) (i : ℕ) → length ws ≤ i → has_open_code (drop i ws) ≡ has_open_code ws → false ≡ has_open (shown_stack ws)
+none_open ws i past h = sym (ap has_open_code (drop_all i ws past)) ∙ h ∙ sym (has_open-shown_stack ws)

@@ -1,0 +1,20 @@
+use Rattle.std.proofs.Common.{◌≡◌, Ok, ap, sym, ◌∙◌, arith}
+use Rattle.contract_words.specs.Answers.{fault_as}
+use Rattle.mail_query.specs.declared.fault.QueryFault.{QueryFault}
+use Rattle.mail_query.specs.Mail.{boolean_lexicon}
+use Rattle.mail_query.specs.Query.{query_of}
+use Rattle.mail_query.specs.Shown.{shown}
+use Rattle.mail_query.specs.Tokens.{tokens}
+use Rattle.mail_query.specs.BooleanReading.{run_from, start}
+use Rattle.mail_query.proofs.BooleanDepth.{run_depth}
+use Rattle.mail_query.proofs.boolean.read_tokens.Goals as goal
+
+pub new-requires : goal.new-requires
+new-requires c =
+    let lexicon = boolean_lexicon in
+    let number = c.tokens.number in
+    let reader = shown c.tokens.reader in
+    let asked : run_from lexicon 1 start (tokens c.args.text.now) ≡ Ok (query_of c.in-Ok-read_end.node) =
+    sym c.tokens.invariant.whole ∙ ap (run_from lexicon number reader) c.in_default.ensures.token
+    ∙ ap (fault_as (λ kind. let f : QueryFault = record { number = number; kind = kind } in f)) c.in-Ok-read_end.ensures in
+    omega (arith, run_depth lexicon 1 (tokens c.args.text.now) (query_of c.in-Ok-read_end.node) asked)

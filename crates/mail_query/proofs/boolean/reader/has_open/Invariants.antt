@@ -1,0 +1,6 @@
+use Rattle.std.proofs.Common.{◌≡◌, drop}
+use Rattle.mail_query.proofs.StackLemmas.{has_open_code}
+use Rattle.mail_query.proofs.boolean.reader.has_open.Given as goal
+
+abbrev pub invariant-all : goal.invariant-all
+invariant-all l = has_open_code (drop l.what-index l.waiting) ≡ has_open_code l.waiting

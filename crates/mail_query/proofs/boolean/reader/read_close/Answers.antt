@@ -1,0 +1,21 @@
+use Rattle.std.proofs.Common.{Ok, ap, sym, ◌∙◌}
+use Rattle.mail_query.specs.Query.{Query}
+use Rattle.mail_query.specs.Shown.{shown_level, shown_stack}
+use Rattle.mail_query.specs.BooleanReading.{placed}
+use Rattle.mail_query.proofs.StackLemmas.{pops-close, pops-not}
+use Rattle.mail_query.proofs.boolean.reader.read_close.Goals as goal
+
+pub returns-in_ok-placed-in-Some-ForClose : goal.returns-in_ok-placed-in-Some-ForClose
+returns-in_ok-placed-in-Some-ForClose c =
+    let reader = c.args.reader in
+    let last = rw c.in-Some-ForClose.field-0-is at c.in-Some-ForClose.ensures.items in
+    rw c.if-reader.false
+    (pops-close reader.waiting.items c.pop.new.self.items c.in-Some-ForClose.outer (shown_level reader.level) last
+    ∙ ap (λ (q : Query). Ok (placed (shown_stack c.pop.new.self.items) (shown_level c.in-Some-ForClose.outer) q)) (sym c.in_ok-node-in-Some-ForClose.ensures)
+    ∙ ap Ok (sym c.in_ok-placed-in-Some-ForClose.ensures))
+
+pub returns-in-Some-ForNot : goal.returns-in-Some-ForNot
+returns-in-Some-ForNot c =
+    let reader = c.args.reader in
+    let last = rw c.in-Some-ForNot.field-0-is at c.in-Some-ForNot.ensures.items in
+    rw c.if-reader.false (pops-not reader.waiting.items c.pop.new.self.items (shown_level reader.level) last)

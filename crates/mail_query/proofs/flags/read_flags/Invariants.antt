@@ -1,0 +1,5 @@
+use Rattle.mail_query.proofs.FlagLemmas.{HasRead}
+use Rattle.mail_query.proofs.flags.read_flags.Given as goal
+
+abbrev pub invariant-loop-letter : goal.invariant-loop-letter
+invariant-loop-letter l = HasRead l.text l.members.items l.wanted l.letter-index

@@ -1,0 +1,5 @@
+use Rattle.mail_query.proofs.BooleanPlaces.{faultless_read}
+use Rattle.mail_query.proofs.laws.what_shows_no_fault_is_read.Goals as goal
+
+pub returns : goal.returns
+returns c = faultless_read

@@ -1,0 +1,7 @@
+use Rattle.std.proofs.Common.{◌≡◌, drop}
+use Rattle.mail_query.specs.Kinds.{no_kinds}
+use Rattle.mail_query.specs.Mairix.{kinds_with}
+use Rattle.mail_query.proofs.mairix.kinds_of.Given as goal
+
+abbrev pub invariant-loop-letter : goal.invariant-loop-letter
+invariant-loop-letter l = kinds_with l.kinds (drop l.letter-index l.letters) ≡ kinds_with no_kinds l.letters

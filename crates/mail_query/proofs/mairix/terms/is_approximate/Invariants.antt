@@ -1,0 +1,10 @@
+use Rattle.std.proofs.Common.{◌≡◌, true, drop}
+use Rattle.mail_query.specs.Mairix.{is_approximate}
+use Rattle.mail_query.proofs.ApproximateLemmas.{approximate_behind}
+use Rattle.mail_query.proofs.mairix.terms.is_approximate.Given as goal
+
+abbrev pub invariant-loop-b : goal.invariant-loop-b
+invariant-loop-b l = record {
+  rest : approximate_behind l.marked l.counted (drop l.b-index l.text) ≡ is_approximate l.text;
+  marked : l.counted ≡ true → l.marked ≡ true;
+}

@@ -1,0 +1,107 @@
+-- The grammar of boolean queries: what is written, as a tree, how it is spelled, and what it asks.
+use Rattle.std.specs.Prelude.{◌≡◌, ℕ, ◌+◌, Bool, not, ◌&&◌, nat_lt, IsTrue, is_ok, List, [], ◌∷◌, ◌++◌, map, Option, None, Result, Ok, Err, option_and_then}
+use Rattle.mail_query.specs.declared.boolean.field.Field.{Field}
+use Rattle.mail_query.specs.declared.boolean.field.Fields.{Fields}
+use Rattle.mail_query.specs.declared.fault.QueryFaultKind.{QueryFaultKind}
+use Rattle.mail_query.specs.Lexicon.{Lexicon}
+use Rattle.mail_query.specs.Query.{Query, Any, Not, all_of, either_of}
+use Rattle.mail_query.specs.Tokens.{Token, Open, Close, AndSign, OrSign, NotSign, Term}
+use Rattle.mail_query.specs.BooleanTerms.{parts_of, Parts, no_fields, has_field, with_field, term_query}
+
+-- how one `some` stands before the next
+pub data Link : Type 0 where
+  Beside ByAnd ByOr : Link
+
+mutual
+  pub data Item : Type 0 where
+    NotOf : Item → Item
+    Group : Chain → Item
+    Leaf : List ℕ → Item
+
+  pub data Chain : Type 0 where
+    Last : Item → Chain
+    Then : Item → Link → Chain → Chain
+
+-- ---- how it is spelled
+
+abbrev pub link_tokens : Link → List Token
+link_tokens Beside = []
+link_tokens ByAnd = AndSign ∷ []
+link_tokens ByOr = OrSign ∷ []
+
+-- some = "not" some | "(" either ")" | term
+-- either = each *("or" each), each = some *(["and"] some)
+abbrev mutual
+  pub item_tokens : Item → List Token
+  item_tokens (NotOf i) = NotSign ∷ item_tokens i
+  item_tokens (Group c) = Open ∷ (chain_tokens c ++ Close ∷ [])
+  item_tokens (Leaf t) = Term t ∷ []
+
+  pub chain_tokens : Chain → List Token
+  chain_tokens (Last i) = item_tokens i
+  chain_tokens (Then i l c) = item_tokens i ++ (link_tokens l ++ chain_tokens c)
+
+-- ---- what it asks
+
+-- `or` binds weaker than `and` and than nothing between: the members of each `each`, with one more in front
+abbrev pub into_first : Query → List (List Query) → List (List Query)
+into_first q [] = (q ∷ []) ∷ []
+into_first q (qs ∷ qss) = (q ∷ qs) ∷ qss
+
+abbrev pub linked : Link → Query → List (List Query) → List (List Query)
+linked Beside q qss = into_first q qss
+linked ByAnd q qss = into_first q qss
+linked ByOr q qss = (q ∷ []) ∷ qss
+
+abbrev pub query_or_any : Result Query QueryFaultKind → Query
+query_or_any (Ok q) = q
+query_or_any (Err e) = Any
+
+-- the prefix of a term, if it has one
+abbrev pub term_prefix : List ℕ → Option Field
+term_prefix t = option_and_then (λ (p : Parts). p.prefix) (parts_of t)
+
+abbrev pub plain_prefix : Item → Option Field
+plain_prefix (Leaf t) = term_prefix t
+plain_prefix _ = None
+
+-- the prefixes of the plain terms in a run that goes on behind an item
+abbrev pub seen_behind : Item → Link → Fields → Fields
+seen_behind i Beside seen = with_field (plain_prefix i) seen
+seen_behind i _ seen = no_fields
+
+module _ (lexicon : Lexicon) where
+  abbrev mutual
+    pub item_query : Item → Query
+    item_query (NotOf i) = Not (item_query i)
+    item_query (Group c) = either_of (map all_of (chain_queries c))
+    item_query (Leaf t) = query_or_any (term_query lexicon t)
+
+    -- the members of each `each`
+    pub chain_queries : Chain → List (List Query)
+    chain_queries (Last i) = (item_query i ∷ []) ∷ []
+    chain_queries (Then i l c) = linked l (item_query i) (chain_queries c)
+
+  abbrev pub tree_query : Chain → Query
+  tree_query c = either_of (map all_of (chain_queries c))
+
+  -- ---- which trees are allowed
+
+  -- n `(` and `not` wait round it, at most 30 in all; each term asks something, and has no prefix that a plain term
+  -- before it in its run has
+  abbrev mutual
+    pub is_fine_item : Item → ℕ → Fields → Bool
+    is_fine_item (NotOf i) n seen = nat_lt n 30 && is_fine_item i (n + 1) no_fields
+    is_fine_item (Group c) n seen = nat_lt n 30 && is_fine_chain c (n + 1) no_fields
+    is_fine_item (Leaf t) n seen = not (has_field seen (term_prefix t)) && is_ok (term_query lexicon t)
+
+    pub is_fine_chain : Chain → ℕ → Fields → Bool
+    is_fine_chain (Last i) n seen = is_fine_item i n seen
+    is_fine_chain (Then i l c) n seen = is_fine_item i n seen && is_fine_chain c n (seen_behind i l seen)
+
+  -- the tokens are an `either` that is allowed, and ask the query
+  pub record Reads (ts : List Token) (q : Query) : Type 0 where
+    pub tree : Chain
+    pub spelled : chain_tokens tree ≡ ts
+    pub fine : IsTrue (is_fine_chain tree 0 no_fields)
+    pub asked : tree_query tree ≡ q

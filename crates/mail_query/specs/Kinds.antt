@@ -1,0 +1,29 @@
+-- Sets of the kinds of text.
+use Rattle.std.specs.Prelude.{Bool, false, ◌||◌}
+use Rattle.mail_words.specs.declared.kind.TextKind.{TextKind}
+use Rattle.mail_words.specs.declared.kind.TextKind.TheVariants.{To, Cc, Bcc, From, Subject, Body}
+use Rattle.mail_query.specs.declared.kinds.Kinds.{Kinds}
+
+abbrev pub has_kind : Kinds → TextKind → Bool
+has_kind kinds To = kinds.to
+has_kind kinds Cc = kinds.cc
+has_kind kinds Bcc = kinds.bcc
+has_kind kinds From = kinds.from
+has_kind kinds Subject = kinds.subject
+has_kind kinds Body = kinds.body
+
+abbrev pub no_kinds : Kinds
+no_kinds =
+    record { to = false; cc = false; bcc = false; from = false; subject = false; body = false; own_id = false }
+
+-- what is in one set or the other
+abbrev pub union : Kinds → Kinds → Kinds
+union a b = record {
+  to = a.to || b.to;
+  cc = a.cc || b.cc;
+  bcc = a.bcc || b.bcc;
+  from = a.from || b.from;
+  subject = a.subject || b.subject;
+  body = a.body || b.body;
+  own_id = a.own_id || b.own_id;
+}

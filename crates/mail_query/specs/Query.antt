@@ -1,0 +1,74 @@
+-- Queries: what is asked of a message, without where it lies in memory.
+use Rattle.std.specs.Prelude.{ℕ, suc, max, Bool, List, [], ◌∷◌, map, Option}
+use Rattle.mail_words.specs.declared.flags.Flag.{Flag}
+use Rattle.mail_dates.specs.declared.range.Range.{Range}
+use Rattle.mail_query.specs.declared.kinds.Kinds.{Kinds}
+use Rattle.mail_query.specs.declared.node.Node.{Node, fold-Node}
+use Rattle.mail_query.specs.declared.node.Node.TheOpen.{Node-F}
+
+mutual
+  pub data Query : Type 0 where
+    Any : Query
+    Word : Kinds → List ℕ → Query
+    Part : Kinds → List ℕ → Query
+    Prefix : Kinds → List ℕ → Query
+    Date : Range → Query
+    Size : ℕ → Option ℕ → Query
+    HasFlag : Flag → Bool → Query
+    Not : Query → Query
+    All : Queries → Query
+    Either : Queries → Query
+
+  pub data Queries : Type 0 where
+    End : Queries
+    More : Query → Queries → Queries
+
+-- a list as members
+abbrev pub members_of : List Query → Queries
+members_of [] = End
+members_of (q ∷ qs) = More q (members_of qs)
+
+-- each of them, where one alone stands for itself
+abbrev pub all_of : List Query → Query
+all_of [] = All End
+all_of (q ∷ []) = q
+all_of (q ∷ r ∷ qs) = All (More q (More r (members_of qs)))
+
+-- some of them, where one alone stands for itself
+abbrev pub either_of : List Query → Query
+either_of [] = Either End
+either_of (q ∷ []) = q
+either_of (q ∷ r ∷ qs) = Either (More q (More r (members_of qs)))
+
+-- how many levels a query has
+abbrev mutual
+  pub depth : Query → ℕ
+  depth (Not q) = suc (depth q)
+  depth (All qs) = suc (deepest qs)
+  depth (Either qs) = suc (deepest qs)
+  depth _ = 1
+
+  pub deepest : Queries → ℕ
+  deepest End = 0
+  deepest (More q qs) = max (depth q) (deepest qs)
+
+-- ---- what a node asks
+
+-- one level, with each node inside already seen as what it asks
+abbrev pub query_step : Node-F Query → Query
+query_step Node-F.Any = Any
+query_step (Node-F.Word kinds text) = Word kinds text
+query_step (Node-F.Part kinds text) = Part kinds text
+query_step (Node-F.Prefix kinds text) = Prefix kinds text
+query_step (Node-F.Date range) = Date range
+query_step (Node-F.Size low high) = Size low high
+query_step (Node-F.Flag flag wanted) = HasFlag flag wanted
+query_step (Node-F.Not inner) = Not inner.value
+query_step (Node-F.All members) = All (members_of members.items)
+query_step (Node-F.Either members) = Either (members_of members.items)
+
+abbrev pub query_of : Node → Query
+query_of = fold-Node Query query_step
+
+abbrev pub queries_of : List Node → List Query
+queries_of nodes = map query_of nodes

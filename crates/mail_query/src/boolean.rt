@@ -1,0 +1,63 @@
+//! The boolean language.
+ghost use Rattle.std.specs.Prelude.{◌≡◌, IfOk, IfErr, IfSome};
+ghost use Rattle.contract_words.specs.Answers.{Gives};
+ghost use Rattle.mail_query.specs.Meaning.{meaning};
+ghost use Rattle.mail_query.specs.Refusals.{query_refusal};
+ghost use Rattle.mail_query.specs.Mail.{boolean_lexicon, boolean_query};
+ghost use Rattle.mail_query.specs.Tokens.{tokens};
+ghost use Rattle.mail_query.specs.BooleanGrammar.{Reads};
+ghost use Rattle.mail_query.specs.BooleanFaults.{first_fault};
+
+mod field;
+mod level;
+mod reader;
+mod term;
+mod token;
+
+use crate::boolean::reader::{new_reader, read_end, read_token};
+use crate::boolean::token::next_token;
+use crate::fault::{QueryFault, QueryFaultKind};
+use crate::query::Query;
+use mail_dates::Moment;
+use std::alloc::Global;
+
+/// What a text in the boolean language asks.
+///
+/// Tokens are parentheses and the runs between them and spaces, tabs and line feeds; a fault has the number of the
+/// first token at which one shows, where the end counts as one. `now` isn't used: `date:` names days by the calendar.
+pub fn read_boolean(alloc: Global, text: &str, _now: Moment) -> Result<Query, QueryFault>
+    ensures answer { Gives meaning query_refusal result (boolean_query text.now) }
+    ensures read { IfOk result (λ q. Reads boolean_lexicon (tokens text.now) (meaning q)) }
+    ensures fault { IfErr result (λ f. IfSome (query_refusal f) (λ g. first_fault boolean_lexicon (tokens text.now) ≡ Some g)) }
+    ensures memory { IfErr result (λ f. f.kind ≡ QueryFaultKind.OutOfMemory → f.number ≡ 0) }
+{
+    read_tokens(alloc, text)
+}
+
+/// What the tokens of a text ask.
+fn read_tokens(alloc: Global, text: &str) -> Result<Query, QueryFault>
+    ensures answer { Gives meaning query_refusal result (boolean_query text.now) }
+    ensures memory { IfErr result (λ f. f.kind ≡ QueryFaultKind.OutOfMemory → f.number ≡ 0) }
+{
+    let mut reader = new_reader(alloc);
+    let mut rest = text;
+    let mut number = 1;
+    'tokens: while let Some((token, behind)) = next_token(rest) {
+        match read_token(alloc, reader, token) {
+            Ok(next) => reader = next,
+            Err(kind) => return Err(QueryFault::at(number, kind)),
+        }
+        rest = behind;
+        number += 1;
+    }
+    if number == 1 {
+        return Err(QueryFault {
+            number: 1,
+            kind: QueryFaultKind::NoPattern,
+        });
+    }
+    match read_end(reader) {
+        Ok(node) => Ok(Query::new(node)),
+        Err(kind) => Err(QueryFault::at(number, kind)),
+    }
+}

@@ -1,0 +1,88 @@
+//! The prefixes of the boolean language.
+ghost use Rattle.std.specs.Prelude.{◌≡◌};
+ghost use Rattle.mail_query.specs.BooleanTerms as terms;
+
+/// What a term's prefix names.
+#[derive(Clone, Copy)]
+pub(crate) enum Field {
+    From,
+    To,
+    Subject,
+    Body,
+    Id,
+    Date,
+}
+
+/// The prefix of a name, in lower case.
+pub(crate) fn field_of(name: &str) -> Option<Field>
+    ensures { result ≡ terms.field_of name.now }
+{
+    match name {
+        "from" => Some(Field::From),
+        "to" => Some(Field::To),
+        "subject" => Some(Field::Subject),
+        "body" => Some(Field::Body),
+        "id" => Some(Field::Id),
+        "date" => Some(Field::Date),
+        _ => None,
+    }
+}
+
+/// A set of prefixes.
+#[derive(Clone, Copy)]
+pub(crate) struct Fields {
+    from: bool,
+    to: bool,
+    subject: bool,
+    body: bool,
+    id: bool,
+    date: bool,
+}
+
+impl Fields {
+    ghost use Rattle.mail_query.specs.BooleanTerms.{no_fields, has_field, with_field};
+
+    pub(crate) fn none() -> Fields
+        ensures { result ≡ no_fields }
+    {
+        Fields {
+            from: false,
+            to: false,
+            subject: false,
+            body: false,
+            id: false,
+            date: false,
+        }
+    }
+
+    /// Whether there is a prefix, and it is in the set.
+    pub(crate) fn has(self, prefix: Option<Field>) -> bool
+        ensures { result ≡ has_field self prefix }
+    {
+        match prefix {
+            None => false,
+            Some(Field::From) => self.from,
+            Some(Field::To) => self.to,
+            Some(Field::Subject) => self.subject,
+            Some(Field::Body) => self.body,
+            Some(Field::Id) => self.id,
+            Some(Field::Date) => self.date,
+        }
+    }
+
+    /// The set with the prefix, if there is one.
+    pub(crate) fn with(mut self, prefix: Option<Field>) -> Fields
+        ensures { result ≡ with_field prefix self }
+    {
+        match prefix {
+            None => {}
+            Some(Field::From) => self.from = true,
+            Some(Field::To) => self.to = true,
+            Some(Field::Subject) => self.subject = true,
+            Some(Field::Body) => self.body = true,
+            Some(Field::Id) => self.id = true,
+            Some(Field::Date) => self.date = true,
+        }
+        self
+    }
+}

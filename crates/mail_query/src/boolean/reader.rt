@@ -1,0 +1,239 @@
+//! How far a boolean query was read.
+ghost use Rattle.std.specs.Prelude.{◌≡◌, IfOk};
+ghost use Rattle.contract_words.specs.Answers.{Gives};
+ghost use Rattle.mail_query.specs.Query.{query_of};
+ghost use Rattle.mail_query.specs.Refusals.{kind_refusal};
+ghost use Rattle.mail_query.specs.Mail.{boolean_lexicon};
+ghost use Rattle.mail_query.specs.Shown.{shown, shown_level, shown_stack, shown_token};
+ghost use Rattle.mail_query.specs.BooleanReading.{start, placed, deeper, joined, parted, closed, ended, step, term_step, cut_term_step, is_negated, has_open, ForNot, ForClose, empty_level};
+
+use crate::boolean::field::{Field, field_of};
+use crate::boolean::level::Level;
+use crate::boolean::term::{is_phrase, read_parts};
+use crate::boolean::token::Token;
+use crate::fault::QueryFaultKind;
+use crate::node::Node;
+use crate::pieces::cut;
+use std::alloc::{AllocError, Global};
+
+/// So many `(` and `not` may wait for their end at once.
+const MOST_WAITING: usize = 30;
+
+/// What waits for its end: a `not`, or a `(` with the `either` that it stands in.
+#[derive(Drop)]
+pub(crate) enum Waiting {
+    ForNot,
+    ForClose(Level),
+}
+
+/// What was read: what waits, the nearest last, and the innermost `either`.
+#[derive(Drop)]
+pub(crate) struct Reader {
+    waiting: Vec<Waiting>,
+    level: Level,
+    /// A `some` must stand next.
+    wanted: bool,
+}
+
+pub(crate) fn new_reader(alloc: Global) -> Reader
+    ensures { shown result ≡ start }
+{
+    Reader {
+        waiting: Vec::new(alloc),
+        level: Level::empty(alloc),
+        wanted: true,
+    }
+}
+
+/// What is read with one token more.
+pub(crate) fn read_token(
+    alloc: Global,
+    reader: Reader,
+    token: Token<'_>,
+) -> Result<Reader, QueryFaultKind>
+    ensures { Gives shown kind_refusal result (step boolean_lexicon (shown reader) (shown_token token.entry)) }
+{
+    match token {
+        Token::Term(term) => read_term(alloc, reader, term),
+        Token::Not => read_not(reader),
+        Token::Open => read_open(alloc, reader),
+        Token::Close => read_close(alloc, reader),
+        Token::And => read_and(reader),
+        Token::Or => read_or(alloc, reader),
+    }
+}
+
+/// What the whole asks, where nothing more comes.
+pub(crate) fn read_end(reader: Reader) -> Result<Node, QueryFaultKind>
+    ensures { Gives query_of kind_refusal result (ended (shown reader)) }
+{
+    if reader.wanted {
+        return Err(QueryFaultKind::MissingTerm);
+    }
+    if has_open(reader.waiting.as_slice()) {
+        return Err(QueryFaultKind::BadParenthesis);
+    }
+    Ok(reader.level.into_node()?)
+}
+
+fn read_term(alloc: Global, reader: Reader, term: &str) -> Result<Reader, QueryFaultKind>
+    ensures { Gives shown kind_refusal result (term_step boolean_lexicon (shown reader) term.now) }
+{
+    if is_phrase(term) {
+        return Err(QueryFaultKind::Phrase);
+    }
+    match cut(term, ':') {
+        None => read_cut_term(alloc, reader, None, term),
+        Some((name, rest)) => match field_of(name) {
+            None => Err(QueryFaultKind::BadPrefix),
+            Some(field) => read_cut_term(alloc, reader, Some(field), rest),
+        },
+    }
+}
+
+fn read_cut_term(
+    alloc: Global,
+    reader: Reader,
+    prefix: Option<Field>,
+    rest: &str,
+) -> Result<Reader, QueryFaultKind>
+    ensures { Gives shown kind_refusal result (cut_term_step boolean_lexicon (shown reader) prefix rest.now) }
+{
+    let negated = is_negated(reader.waiting.as_slice());
+    if !negated && reader.level.has_seen(prefix) {
+        return Err(QueryFaultKind::NeedsOperator);
+    }
+    match read_parts(alloc, prefix, rest) {
+        Ok(node) => Ok(placed(
+            alloc,
+            reader.waiting,
+            reader.level.noted(negated, prefix),
+            node,
+        )?),
+        Err(kind) => Err(kind),
+    }
+}
+
+fn read_not(reader: Reader) -> Result<Reader, QueryFaultKind>
+    ensures { Gives shown kind_refusal result (deeper (shown reader) ForNot (shown reader).level) }
+{
+    let mut waiting = reader.waiting;
+    if waiting.len() >= MOST_WAITING {
+        return Err(QueryFaultKind::TooDeep);
+    }
+    waiting.push(Waiting::ForNot)?;
+    Ok(Reader {
+        waiting,
+        level: reader.level,
+        wanted: true,
+    })
+}
+
+fn read_open(alloc: Global, reader: Reader) -> Result<Reader, QueryFaultKind>
+    ensures { Gives shown kind_refusal result (deeper (shown reader) (ForClose (shown reader).level) empty_level) }
+{
+    let mut waiting = reader.waiting;
+    if waiting.len() >= MOST_WAITING {
+        return Err(QueryFaultKind::TooDeep);
+    }
+    waiting.push(Waiting::ForClose(reader.level))?;
+    Ok(Reader {
+        waiting,
+        level: Level::empty(alloc),
+        wanted: true,
+    })
+}
+
+fn read_close(alloc: Global, reader: Reader) -> Result<Reader, QueryFaultKind>
+    ensures { Gives shown kind_refusal result (closed (shown reader)) }
+{
+    let mut waiting = reader.waiting;
+    if reader.wanted {
+        return Err(if has_open(waiting.as_slice()) {
+            QueryFaultKind::MissingTerm
+        } else {
+            QueryFaultKind::BadParenthesis
+        });
+    }
+    match waiting.pop() {
+        Some(Waiting::ForClose(outer)) => {
+            let node = reader.level.into_node()?;
+            Ok(placed(alloc, waiting, outer, node)?)
+        }
+        Some(Waiting::ForNot) => Err(QueryFaultKind::BadParenthesis),
+        None => Err(QueryFaultKind::BadParenthesis),
+    }
+}
+
+fn read_and(reader: Reader) -> Result<Reader, QueryFaultKind>
+    ensures { Gives shown kind_refusal result (joined (shown reader)) }
+{
+    if reader.wanted {
+        return Err(QueryFaultKind::MissingTerm);
+    }
+    Ok(Reader {
+        waiting: reader.waiting,
+        level: reader.level.run_ended(),
+        wanted: true,
+    })
+}
+
+fn read_or(alloc: Global, reader: Reader) -> Result<Reader, QueryFaultKind>
+    ensures { Gives shown kind_refusal result (parted (shown reader)) }
+{
+    if reader.wanted {
+        return Err(QueryFaultKind::MissingTerm);
+    }
+    Ok(Reader {
+        waiting: reader.waiting,
+        level: reader.level.each_ended(alloc)?,
+        wanted: true,
+    })
+}
+
+/// A `some` ends, and so does each `not` that waited for it.
+fn placed(
+    alloc: Global,
+    waiting: Vec<Waiting>,
+    level: Level,
+    node: Node,
+) -> Result<Reader, AllocError>
+    ensures { IfOk result (λ reader. shown reader ≡ placed (shown_stack waiting.items) (shown_level level) (query_of node)) }
+{
+    let mut waiting = waiting;
+    let mut node = node;
+    'nots: while is_negated(waiting.as_slice()) {
+        waiting.truncate(waiting.len() - 1);
+        node = Node::Not(Box::new(alloc, node)?);
+    }
+    Ok(Reader {
+        waiting,
+        level: level.with_member(node)?,
+        wanted: false,
+    })
+}
+
+/// Whether a `not` waits nearest.
+fn is_negated(waiting: &[Waiting]) -> bool
+    ensures { result ≡ is_negated (shown_stack waiting.now) }
+{
+    match waiting.split_last() {
+        None => false,
+        Some((last, _)) => match last {
+            Waiting::ForNot => true,
+            Waiting::ForClose(_) => false,
+        },
+    }
+}
+
+/// Whether some `(` waits.
+fn has_open(waiting: &[Waiting]) -> bool
+    ensures { result ≡ has_open (shown_stack waiting.now) }
+{
+    'all: for what in waiting {
+        if let Waiting::ForClose(_) = what {
+            return true;
+        }
+    }
+    false
+}

@@ -1,0 +1,95 @@
+//! The tokens of a boolean query.
+ghost use Rattle.std.specs.Prelude.{◌≡◌, ◌<◌, ◌≤◌, [], ◌∷◌, length, MatchOption, IfSome};
+ghost use Rattle.mail_query.specs.Tokens.{tokens, token_of, is_blank};
+ghost use Rattle.mail_query.specs.Shown.{shown_token, blank_count, run_length};
+
+use crate::pieces::{is_in_any_case, without_first};
+
+/// A token: a parenthesis, an operator in any case, or a term.
+#[derive(Clone, Copy)]
+pub(crate) enum Token<'a> {
+    Open,
+    Close,
+    And,
+    Or,
+    Not,
+    Term(&'a str),
+}
+
+/// The first token, and the text behind it.
+pub(crate) fn next_token(text: &str) -> Option<(Token<'_>, &str)>
+    ensures token { MatchOption result (tokens text.now ≡ []) (λ p. tokens text.now ≡ shown_token p.0 ∷ tokens p.1.now) }
+    ensures shorter { IfSome result (λ p. length p.1.now < length text.now) }
+{
+    let text = behind_blanks(text);
+    if let Some(rest) = without_first(text, '(') {
+        return Some((Token::Open, rest));
+    }
+    if let Some(rest) = without_first(text, ')') {
+        return Some((Token::Close, rest));
+    }
+    if text.is_empty() {
+        return None;
+    }
+    let (run, rest) = text.split_at(run_length(text.as_bytes()));
+    Some((token_of(run), rest))
+}
+
+fn token_of(run: &str) -> Token<'_>
+    ensures { shown_token result ≡ token_of run.now }
+{
+    if is_in_any_case(run, "and") {
+        Token::And
+    } else if is_in_any_case(run, "or") {
+        Token::Or
+    } else if is_in_any_case(run, "not") {
+        Token::Not
+    } else {
+        Token::Term(run)
+    }
+}
+
+/// The text without the blanks in front.
+fn behind_blanks(text: &str) -> &str
+    ensures tokens { tokens result.now ≡ tokens text.now }
+    ensures none { blank_count result.now ≡ 0 }
+    ensures within { length result.now ≤ length text.now }
+{
+    text.split_at(blank_count(text.as_bytes())).1
+}
+
+/// How many blanks stand in front.
+fn blank_count(text: &[u8]) -> usize
+    ensures value { result ≡ blank_count text.now }
+    ensures within { result ≤ length text.now }
+{
+    let mut count = 0;
+    for b in text {
+        if !is_blank(*b) {
+            return count;
+        }
+        count += 1;
+    }
+    count
+}
+
+/// How many bytes stand before the first blank or parenthesis.
+fn run_length(text: &[u8]) -> usize
+    ensures value { result ≡ run_length text.now }
+    ensures within { result ≤ length text.now }
+{
+    let mut count = 0;
+    for b in text {
+        if is_blank(*b) || *b == b'(' || *b == b')' {
+            return count;
+        }
+        count += 1;
+    }
+    count
+}
+
+fn is_blank(b: u8) -> bool
+    ensures { result ≡ is_blank b }
+{
+    matches!(b, b' ' | b'\t' | b'\n')
+}

@@ -1,0 +1,49 @@
+//! Flags, as a pattern names them.
+ghost use Rattle.std.specs.Prelude.{◌≡◌, Option, Some, None};
+ghost use Rattle.contract_words.specs.Answers.{Gives};
+ghost use Rattle.mail_query.specs.Query.{query_of};
+ghost use Rattle.mail_query.specs.Refusals.{kind_refusal};
+ghost use Rattle.mail_query.specs.Flags.{flag_of};
+ghost use Rattle.mail_query.specs.Mairix.{flags_query};
+
+use crate::fault::QueryFaultKind;
+use crate::node::{Node, all_of};
+use mail_words::Flag;
+use std::alloc::Global;
+
+/// One letter or more, each alone or behind a dash, which negates that letter only.
+pub(crate) fn read_flags(alloc: Global, text: &[u8]) -> Result<Node, QueryFaultKind>
+    ensures { Gives query_of kind_refusal result (flags_query text.now) }
+{
+    let mut members = Vec::new(alloc);
+    let mut wanted = true;
+    for letter in text {
+        if *letter == b'-' {
+            if !wanted {
+                return Err(QueryFaultKind::BadFlag);
+            }
+            wanted = false;
+        } else {
+            let Some(flag) = flag_of(*letter) else {
+                return Err(QueryFaultKind::BadFlag);
+            };
+            members.push(Node::Flag { flag, wanted })?;
+            wanted = true;
+        }
+    }
+    if !wanted || members.is_empty() {
+        return Err(QueryFaultKind::BadFlag);
+    }
+    Ok(all_of(members))
+}
+
+fn flag_of(letter: u8) -> Option<Flag>
+    ensures { result ≡ flag_of letter }
+{
+    match letter {
+        b's' | b'S' => Some(Flag::Seen),
+        b'r' | b'R' => Some(Flag::Replied),
+        b'f' | b'F' => Some(Flag::Flagged),
+        _ => None,
+    }
+}

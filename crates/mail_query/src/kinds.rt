@@ -1,0 +1,60 @@
+//! The kinds of text in which a word is sought.
+ghost use Rattle.std.specs.Prelude.{◌≡◌};
+
+use mail_words::TextKind;
+
+/// A set of the six kinds of text and a message's own id.
+#[derive(Clone, Copy, Debug, PartialEq, Eq)]
+pub struct Kinds {
+    pub to: bool,
+    pub cc: bool,
+    pub bcc: bool,
+    pub from: bool,
+    pub subject: bool,
+    pub body: bool,
+    pub own_id: bool,
+}
+
+impl Kinds {
+    ghost use Rattle.mail_query.specs.Kinds.{has_kind, union};
+
+    /// The set of nothing.
+    pub const NONE: Kinds = Kinds {
+        to: false,
+        cc: false,
+        bcc: false,
+        from: false,
+        subject: false,
+        body: false,
+        own_id: false,
+    };
+
+    /// Whether the kind is in the set; of the own id the field says it.
+    pub fn has(self, kind: TextKind) -> bool
+        ensures { result ≡ has_kind self kind }
+    {
+        match kind {
+            TextKind::To => self.to,
+            TextKind::Cc => self.cc,
+            TextKind::Bcc => self.bcc,
+            TextKind::From => self.from,
+            TextKind::Subject => self.subject,
+            TextKind::Body => self.body,
+        }
+    }
+
+    /// What is in one set or the other.
+    pub fn union(self, other: Kinds) -> Kinds
+        ensures { result ≡ union self other }
+    {
+        Kinds {
+            to: self.to || other.to,
+            cc: self.cc || other.cc,
+            bcc: self.bcc || other.bcc,
+            from: self.from || other.from,
+            subject: self.subject || other.subject,
+            body: self.body || other.body,
+            own_id: self.own_id || other.own_id,
+        }
+    }
+}

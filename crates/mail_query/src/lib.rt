@@ -1,0 +1,44 @@
+//! Queries over messages: the tree of a query, when a message satisfies one, and two readers, of mairix patterns and of
+//! a boolean language.
+#![tactic(auto)]
+
+mod query_text;
+
+pub use query_text::QueryText;
+
+mod kinds;
+
+pub use kinds::Kinds;
+
+mod node;
+
+pub use node::Node;
+
+mod query;
+
+pub use query::Query;
+
+mod fault;
+
+pub use fault::{QueryFault, QueryFaultKind};
+
+mod mairix;
+
+pub use mairix::read_mairix;
+
+mod boolean;
+
+pub use boolean::read_boolean;
+
+mod laws;
+
+pub use laws::{
+    the_answer_is_what_is_read, the_refusal_is_the_first_fault, what_is_read_shows_no_fault,
+    what_shows_no_fault_is_read,
+};
+
+mod flags;
+mod pieces;
+mod size;
+#[cfg(test)]
+mod tests;

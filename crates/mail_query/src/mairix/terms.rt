@@ -1,0 +1,100 @@
+//! What stands behind a prefix: words, parts of words, and what joins them.
+ghost use Rattle.std.specs.Prelude.{◌≡◌};
+ghost use Rattle.contract_words.specs.Answers.{Gives};
+ghost use Rattle.mail_query.specs.Query.{query_of};
+ghost use Rattle.mail_query.specs.Refusals.{kind_refusal};
+ghost use Rattle.mail_query.specs.Reading.{forms_of};
+ghost use Rattle.mail_query.specs.Mairix.{atom_query, term_query, all_query, rest_query, is_approximate};
+
+use crate::fault::QueryFaultKind;
+use crate::mairix::forms::{Target, part_of, word_of};
+use crate::node::{Node, all_of, either_of};
+use crate::pieces::{without_first, without_last};
+use std::alloc::Global;
+
+/// One or more alternatives between slashes.
+pub(crate) fn read_rest(alloc: Global, target: Target, text: &str) -> Result<Node, QueryFaultKind>
+    ensures { Gives query_of kind_refusal result (rest_query (forms_of target) text.now) }
+{
+    let mut members = Vec::new(alloc);
+    for part in text.split('/') {
+        match read_all(alloc, target, part) {
+            Ok(node) => members.push(node)?,
+            Err(kind) => return Err(kind),
+        }
+    }
+    Ok(either_of(members))
+}
+
+/// One or more terms between commas.
+fn read_all(alloc: Global, target: Target, text: &str) -> Result<Node, QueryFaultKind>
+    ensures { Gives query_of kind_refusal result (all_query (forms_of target) text.now) }
+{
+    let mut members = Vec::new(alloc);
+    for part in text.split(',') {
+        match read_term(alloc, target, part) {
+            Ok(node) => members.push(node)?,
+            Err(kind) => return Err(kind),
+        }
+    }
+    Ok(all_of(members))
+}
+
+/// An atom, negated or not.
+fn read_term(alloc: Global, target: Target, text: &str) -> Result<Node, QueryFaultKind>
+    ensures { Gives query_of kind_refusal result (term_query (forms_of target) text.now) }
+{
+    match without_first(text, '~') {
+        None => read_atom(alloc, target, text),
+        Some(atom) => match read_atom(alloc, target, atom) {
+            Ok(node) => Ok(Node::Not(Box::new(alloc, node)?)),
+            Err(kind) => Err(kind),
+        },
+    }
+}
+
+/// A word, or with an `=` behind it a part of one, which a `^` sets at the word's front.
+fn read_atom(alloc: Global, target: Target, text: &str) -> Result<Node, QueryFaultKind>
+    ensures { Gives query_of kind_refusal result (atom_query (forms_of target) text.now) }
+{
+    if is_approximate(text.as_bytes()) {
+        return Err(QueryFaultKind::Approximate);
+    }
+    let kinds = target.kinds();
+    if let Some(text) = word_of(alloc, target, text)? {
+        return Ok(Node::Word { kinds, text });
+    }
+    let Some(sub) = without_last(text, '=') else {
+        return Err(QueryFaultKind::BadWord);
+    };
+    if let Some(text) = part_of(alloc, target, sub)? {
+        return Ok(Node::Part { kinds, text });
+    }
+    let Some(sub) = without_first(sub, '^') else {
+        return Err(QueryFaultKind::BadWord);
+    };
+    match part_of(alloc, target, sub)? {
+        Some(text) => Ok(Node::Prefix { kinds, text }),
+        None => Err(QueryFaultKind::BadWord),
+    }
+}
+
+/// Whether one digit or more stand between an `=` and the end.
+fn is_approximate(text: &[u8]) -> bool
+    ensures { result ≡ is_approximate text.now }
+{
+    let mut marked = false;
+    let mut counted = false;
+    for b in text {
+        if *b == b'=' {
+            marked = true;
+            counted = false;
+        } else if b.is_ascii_digit() {
+            counted = marked;
+        } else {
+            marked = false;
+            counted = false;
+        }
+    }
+    counted
+}

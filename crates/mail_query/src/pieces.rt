@@ -1,0 +1,48 @@
+//! Pieces of a text.
+ghost use Rattle.std.specs.Prelude.{◌≡◌, ◌<◌, option_map, option_copied};
+ghost use Rattle.std.specs.Str.{str_eq_ignore_ascii_case};
+ghost use Rattle.mail_query.specs.Pieces.{cut, without_first, without_last, without_angles};
+
+/// The text before the first such character, and the text behind it.
+pub(crate) fn cut(text: &str, sign: char) -> Option<(&str, &str)>
+    requires { sign < 128 }
+    ensures { option_map (λ p. (p.0.now, p.1.now)) result ≡ cut sign text.now }
+{
+    text.split_once(sign)
+}
+
+/// The rest of a text that begins with this character.
+pub(crate) fn without_first(text: &str, sign: char) -> Option<&str>
+    requires { sign < 128 }
+    ensures { option_copied result ≡ without_first sign text.now }
+{
+    text.strip_prefix(sign)
+}
+
+/// The front of a text that ends with this character.
+pub(crate) fn without_last(text: &str, sign: char) -> Option<&str>
+    requires { sign < 128 }
+    ensures { option_copied result ≡ without_last sign text.now }
+{
+    text.strip_suffix(sign)
+}
+
+/// The text without a `<` at its front and a `>` at its end, where both stand.
+pub(crate) fn without_angles(text: &str) -> &str
+    ensures { result.now ≡ without_angles text.now }
+{
+    match without_first(text, '<') {
+        None => text,
+        Some(behind) => match without_last(behind, '>') {
+            None => text,
+            Some(inside) => inside,
+        },
+    }
+}
+
+/// Whether the two texts are one but for the case of ASCII letters.
+pub(crate) fn is_in_any_case(text: &str, word: &str) -> bool
+    ensures { result ≡ str_eq_ignore_ascii_case text.now word.now }
+{
+    text.eq_ignore_ascii_case(word)
+}

@@ -1,0 +1,56 @@
+//! A query as a whole.
+ghost use Rattle.std.specs.Prelude.{◌≡◌, ◌≤◌};
+ghost use Rattle.mail_query.specs.Query.{query_of, depth};
+
+use crate::node::Node;
+
+/// A query: a tree of at most 64 levels.
+#[derive(Debug, Drop)]
+pub struct Query {
+    root: Node,
+    ghost bounded: { depth (query_of root) ≤ 64 },
+}
+
+impl Query {
+    ghost use Rattle.mail_query.specs.Meaning.{meaning};
+
+    pub(crate) fn new(root: Node) -> Self
+        requires { depth (query_of root) ≤ 64 }
+        ensures { meaning result ≡ query_of root }
+    {
+        Query { root }
+    }
+
+    /// Its tree.
+    pub fn root(&self) -> &Node
+        ensures tree { query_of result.now ≡ meaning self.now }
+        ensures bounded { depth (query_of result.now) ≤ 64 }
+    {
+        &self.root
+    }
+
+    /// How many levels it has: a tree of one node has 1.
+    pub fn depth(&self) -> u32
+        ensures value { result ≡ depth (meaning self.now) }
+        ensures bounded { result ≤ 64 }
+    {
+        depth_of(&self.root)
+    }
+}
+
+fn depth_of(node: &Node) -> u32
+    requires { depth (query_of node.now) ≤ 64 }
+    ensures { result ≡ depth (query_of node.now) }
+{
+    match node {
+        Node::Not(inner) => depth_of(inner) + 1,
+        Node::All(members) | Node::Either(members) => {
+            let mut deepest = 0;
+            for member in members {
+                deepest = deepest.max(depth_of(member));
+            }
+            deepest + 1
+        }
+        _ => 1,
+    }
+}

@@ -1,0 +1,106 @@
+//! Sizes, as a pattern names them.
+ghost use Rattle.std.specs.Prelude.{◌≡◌, ◌<◌, ◌≤◌, ◌^◌, length, true, option_map};
+ghost use Rattle.std.specs.Char.{is_ascii_digit};
+ghost use Rattle.std.specs.List.{list_all};
+ghost use Rattle.std.specs.Str.Parse.{digits_value};
+ghost use Rattle.mail_query.specs.Query.{query_of};
+ghost use Rattle.mail_query.specs.Sizes.{factor_of, scaled, size_of, low_of, high_of, sizes_between, sizes_of};
+
+use crate::node::Node;
+use crate::pieces::cut;
+
+/// The greatest size that can be asked.
+const SIZE_LIMIT: u64 = 9_223_372_036_854_775_807;
+
+/// The sizes from a low to a high end, which the one dash parts.
+#[tactic(auto, unfolding(crate::specs::Sizes::sizes_of))]
+pub(crate) fn sizes_of(text: &str) -> Option<Node>
+    ensures { option_map query_of result ≡ sizes_of text.now }
+{
+    match cut(text, '-') {
+        None => None,
+        Some((low, high)) => sizes_between(low.as_bytes(), high.as_bytes()),
+    }
+}
+
+fn sizes_between(low: &[u8], high: &[u8]) -> Option<Node>
+    ensures { option_map query_of result ≡ sizes_between low.now high.now }
+{
+    match (low_of(low), high_of(high)) {
+        (Some(low), Some(high)) => Some(Node::Size { low, high }),
+        _ => None,
+    }
+}
+
+fn low_of(text: &[u8]) -> Option<u64>
+    ensures { result ≡ low_of text.now }
+{
+    if text.is_empty() {
+        Some(0)
+    } else {
+        size_of(text)
+    }
+}
+
+fn high_of(text: &[u8]) -> Option<Option<u64>>
+    ensures { result ≡ high_of text.now }
+{
+    if text.is_empty() {
+        Some(None)
+    } else {
+        size_of(text).map(Some)
+    }
+}
+
+/// One digit to 18, and then a letter that multiplies them or none.
+#[tactic(auto, unfolding(crate::specs::Sizes::size_of))]
+fn size_of(text: &[u8]) -> Option<u64>
+    ensures { result ≡ size_of text.now }
+{
+    if let Some((letter, digits)) = text.split_last() {
+        if let Some(factor) = factor_of(*letter) {
+            return scaled(factor, digits);
+        }
+    }
+    scaled(1, text)
+}
+
+fn factor_of(letter: u8) -> Option<u64>
+    ensures { result ≡ factor_of letter }
+{
+    match letter {
+        b'k' | b'K' => Some(1 << 10),
+        b'm' | b'M' => Some(1 << 20),
+        _ => None,
+    }
+}
+
+fn scaled(factor: u64, digits: &[u8]) -> Option<u64>
+    ensures { result ≡ scaled factor digits.now }
+{
+    if digits.is_empty() || digits.len() > 18 || !are_digits(digits) {
+        return None;
+    }
+    match decimal_value(digits).checked_mul(factor) {
+        Some(size) if size <= SIZE_LIMIT => Some(size),
+        _ => None,
+    }
+}
+
+fn are_digits(text: &[u8]) -> bool
+    ensures { result ≡ list_all is_ascii_digit text.now }
+{
+    text.iter().all(|byte| byte.is_ascii_digit())
+}
+
+fn decimal_value(digits: &[u8]) -> u64
+    requires few { length digits.now ≤ 18 }
+    requires digits { list_all is_ascii_digit digits.now ≡ true }
+    ensures { result ≡ digits_value 10 digits.now }
+{
+    let mut value: u64 = 0;
+    for digit in digits {
+        value = value * 10 + u64::from(*digit - b'0');
+    }
+    value
+}
