@@ -1,0 +1,2 @@
+pub mod FieldTexts
+pub mod MessageFacts
