@@ -1,0 +1,12 @@
+//! The texts of a message: its parts (RFC 2045, RFC 2046), from its lines to decoded texts, one line at a time.
+#![tactic(auto)]
+
+mod default_type;
+mod fault;
+mod law;
+mod sink;
+
+pub use default_type::DefaultType;
+pub use fault::{SinkFault, TextFault};
+pub use law::one_line_at_a_time;
+pub use sink::TextSink;
