@@ -1,0 +1,5 @@
+pub mod Kinds
+pub mod Tables
+pub mod Postings
+pub mod Files
+pub mod Steps

@@ -1,0 +1,19 @@
+//! An index of archives: what a table of archives, messages and keys says, the file that it is written to, and a
+//! reader of such a file in place.
+#![tactic(auto)]
+
+mod kind;
+
+pub use kind::Kind;
+
+mod record;
+
+pub use record::Record;
+
+mod path;
+
+pub use path::is_path;
+
+mod steps;
+
+pub use steps::Steps;
