@@ -1,8 +1,11 @@
 -- What the patterns ask for.
-use Rattle.std.specs.Prelude.{ℕ, List, [], ◌∷◌, drop, nat_eq, Result, Ok, Err, if◌then◌else◌, codes}
+use Rattle.std.specs.Prelude.{ℕ, List, [], ◌∷◌, drop, nat_eq, Option, Some, None, Result, Ok, Err, if◌then◌else◌, codes}
 use Rattle.std.specs.List.{starts_with}
+use Rattle.mail_words.specs.declared.kind.TextKind.{TextKind}
+use Rattle.mail_words.specs.declared.kind.TextKind.TheVariants as kind
 use Rattle.mail_words.specs.Words.{is_one_word}
 use Rattle.mail_words.specs.Folding.{folding}
+use Rattle.mairix_tool.specs.declared.pattern.Sought.{Sought}
 use Rattle.mairix_tool.specs.declared.query_fault.QueryFault.{QueryFault}
 use Rattle.mairix_tool.specs.declared.query_fault.QueryKind.{QueryKind}
 use Rattle.mairix_tool.specs.declared.query_fault.QueryKind.TheVariants.{NoPattern, BadPrefix, BadWord}
@@ -10,10 +13,19 @@ use Rattle.mairix_tool.specs.declared.query_fault.QueryKind.TheVariants.{NoPatte
 abbrev pub refused_pattern : {A : Type 0} → QueryKind → Result A QueryFault
 refused_pattern kind = Err (record { number = 1; kind = kind })
 
--- The word of `s:word`, folded. Another prefix or none is a bad prefix, any other rest a bad word.
-abbrev pub query_of : List (List ℕ) → Result (List ℕ) QueryFault
+-- the kind of text that a prefix names, and what follows the prefix: `s:` subjects, `b:` the body
+abbrev pub kind_and_rest : List ℕ → Option (TextKind × List ℕ)
+kind_and_rest pattern =
+    if starts_with nat_eq pattern (codes "s:") then Some (kind.Subject, drop 2 pattern)
+    else if starts_with nat_eq pattern (codes "b:") then Some (kind.Body, drop 2 pattern)
+    else None
+
+-- another prefix or none is a bad prefix, and what is no word a bad word
+abbrev pub sought_of : Option (TextKind × List ℕ) → Result Sought QueryFault
+sought_of None = refused_pattern BadPrefix
+sought_of (Some p) = if is_one_word p.1 then Ok (record { kind = p.0; word = folding p.1 }) else refused_pattern BadWord
+
+-- the word of `s:word` or `b:word`, folded, and where it is sought
+abbrev pub query_of : List (List ℕ) → Result Sought QueryFault
 query_of [] = refused_pattern NoPattern
-query_of (pattern ∷ patterns) =
-    if starts_with nat_eq pattern (codes "s:")
-    then (if is_one_word (drop 2 pattern) then Ok (folding (drop 2 pattern)) else refused_pattern BadWord)
-    else refused_pattern BadPrefix
+query_of (pattern ∷ patterns) = sought_of (kind_and_rest pattern)

@@ -23,11 +23,11 @@ use Rattle.mairix_tool.specs.RawAnswers.{raw_text}
 abbrev pub asked_rc : List (List ℕ) → List ℕ → Result Rc Fault
 asked_rc words rc = fault_as of.Usage (plan words) >>= λ p. fault_as of.Rc (rc_of rc)
 
--- of which archives and for which word: of words, then rcfile, then query the first refusal counts
+-- of which archives and for what: of words, then rcfile, then query the first refusal counts
 abbrev pub asked : List (List ℕ) → List ℕ → Result Asked Fault
 asked words rc =
-    fault_as of.Usage (plan words) >>= λ p. fault_as of.Rc (rc_of rc) >>= λ r. fault_as of.Query (query_of p.patterns) >>= λ word.
-    Ok (record { paths = r.paths; word = word })
+    fault_as of.Usage (plan words) >>= λ p. fault_as of.Rc (rc_of rc) >>= λ r. fault_as of.Query (query_of p.patterns) >>= λ sought.
+    Ok (record { paths = r.paths; sought = sought })
 
 -- ---- the answer
 
@@ -51,7 +51,7 @@ answered (Err fault) = refused fault
 
 -- the places of the messages that are asked for, in the order of archive and offset, or the first archive's refusal
 abbrev pub found : Asked → List (List ℕ) → Result Answer Fault
-found a archives = collect_from (places_of a.word) 0 archives >>= λ places. Ok (answer_of a.paths places)
+found a archives = collect_from (places_of a.sought) 0 archives >>= λ places. Ok (answer_of a.paths places)
 
 abbrev pub run_of : List (List ℕ) → List ℕ → List (List ℕ) → Result Answer Fault
 run_of words rc archives = asked words rc >>= λ a. found a archives
@@ -83,5 +83,5 @@ RefusesAsked (Err refusal) fault = MatchBool (is_memory fault) ⊤ (fault ≡ So
 
 -- where an archive's fault is answered, no archive before it has one
 abbrev pub AreSoundBefore : Result Asked Fault → List (List ℕ) → Option Fault → Type 0
-AreSoundBefore (Ok a) archives fault = SoundBefore a.word archives fault
+AreSoundBefore (Ok a) archives fault = SoundBefore a.sought archives fault
 AreSoundBefore (Err refusal) archives fault = ⊤

@@ -1,37 +1,42 @@
 //! One archive, searched event by event.
-ghost use Rattle.std.specs.Prelude.{◌≡◌, ◌++◌, ℕ, List, [], OnOk};
+ghost use Rattle.std.specs.Prelude.{◌≡◌, ◌++◌, ℕ, List, [], Option, None, OnOk, false};
+ghost use Rattle.mairix_tool.specs.TextFaults.{IsWantOfMemory};
 
+use crate::pattern::Sought;
 use crate::place::Place;
-use crate::subject::Subjects;
+use crate::word_search::WordSearch;
 use mbox_cutter::Event;
+use mime_text::{MessageText, TextFault};
 use std::alloc::{AllocError, Global};
 
 /// The messages of an archive that were found so far, and the one that is open.
 #[derive(Drop)]
-pub(crate) struct ArchiveSearch<'w> {
+pub(crate) struct ArchiveSearch<'s> {
+    alloc: Global,
     archive: u64,
-    subjects: Subjects<'w>,
     offset: u64,
+    text: Option<MessageText>,
+    words: WordSearch<'s>,
     places: Vec<Place>,
 }
 
-impl<'w> ArchiveSearch<'w> {
-    ghost use Rattle.mairix_tool.specs.OpenMessages.{OpenMessage, message_after, found_at};
-    ghost use Rattle.mairix_tool.specs.ArchiveSearches.{IsOpen, is_chosen};
+impl<'s> ArchiveSearch<'s> {
+    ghost use Rattle.mairix_tool.specs.OpenMessages.{OpenMessage, open_after, found_at, place_found};
+    ghost use Rattle.mairix_tool.specs.ArchiveSearches.{IsOpen, HasOpen, is_chosen};
     ghost use Rattle.mbox_cutter.specs.Progress.{shown};
-    ghost use Rattle.mbox_cutter.specs.Events.{End};
 
-    /// A search of the archive of this number for subjects with the word. It takes no memory.
-    pub(crate) fn new(alloc: Global, archive: u64, word: &'w str) -> Self
+    /// A search of the archive of this number. It takes no memory.
+    pub(crate) fn new(alloc: Global, archive: u64, sought: &'s Sought) -> Self
         ensures archive { result.archive ≡ archive }
-        ensures word { result.subjects.word.now ≡ word.entry.now }
-        ensures open { IsOpen result (record { offset = 0; lines = [] }) }
+        ensures sought { result.words.sought.now ≡ sought.entry.now }
         ensures places { result.places.items ≡ [] }
     {
         ArchiveSearch {
+            alloc,
             archive,
-            subjects: Subjects::new(alloc, word),
             offset: 0,
+            text: None,
+            words: WordSearch::new(alloc, sought),
             places: Vec::new(alloc),
         }
     }
@@ -39,33 +44,56 @@ impl<'w> ArchiveSearch<'w> {
     /// Takes the next event of the archive.
     pub(crate) fn take(&mut self, event: Event<'_>) -> Result<(), AllocError>
         ensures archive { self.new.archive ≡ self.old.archive }
-        ensures word { self.new.subjects.word ≡ self.old.subjects.word }
-        ensures open { OnOk result ((m : OpenMessage) → IsOpen self.old m → IsOpen self.new (message_after m (shown event.entry))) }
-        ensures places { OnOk result ((m : OpenMessage) → IsOpen self.old m
-            → self.new.places.items ≡ self.old.places.items ++ found_at self.old.archive (is_chosen self.old.subjects.word.now) m (shown event.entry)) }
+        ensures sought { self.new.words.sought ≡ self.old.words.sought }
+        ensures open { OnOk result ((m : Option OpenMessage) → IsOpen self.old m → IsOpen self.new (open_after m (shown event.entry))) }
+        ensures places { OnOk result ((m : Option OpenMessage) → IsOpen self.old m
+            → self.new.places.items ≡ self.old.places.items ++ found_at self.old.archive (is_chosen self.old.words.sought.now) m (shown event.entry)) }
     {
         match event {
-            Event::Start { offset, .. } => {
-                self.subjects.clear();
-                self.offset = offset;
-                Ok(())
-            }
-            Event::Line(line) => self.subjects.push_line(line),
+            Event::Start { offset, .. } => self.start(offset),
+            Event::Line(line) => self.push_line(line),
             Event::End { length, .. } => self.end(length),
             Event::Done { .. } => Ok(()),
+        }
+    }
+
+    /// Opens a message.
+    fn start(&mut self, offset: u64) -> Result<(), AllocError>
+        ensures archive { self.new.archive ≡ self.old.archive }
+        ensures sought { self.new.words.sought ≡ self.old.words.sought }
+        ensures places { self.new.places ≡ self.old.places }
+        ensures open { OnOk result (HasOpen self.new (record { offset = offset; lines = [] })) }
+    {
+        self.text = Some(MessageText::new(self.alloc)?);
+        self.words.clear();
+        self.offset = offset;
+        Ok(())
+    }
+
+    /// Reads a line of the open message.
+    fn push_line(&mut self, line: &[u8]) -> Result<(), AllocError>
+        ensures archive { self.new.archive ≡ self.old.archive }
+        ensures sought { self.new.words.sought ≡ self.old.words.sought }
+        ensures places { self.new.places ≡ self.old.places }
+        ensures open { OnOk result ((m : OpenMessage) → HasOpen self.old m → HasOpen self.new (with_line m line.now)) }
+    {
+        match &mut self.text {
+            Some(text) => text.line(line, &mut self.words).map_err(want_of_memory),
+            None => Ok(()),
         }
     }
 
     /// Ends the open message, whose span has so many bytes.
     fn end(&mut self, span: u64) -> Result<(), AllocError>
         ensures archive { self.new.archive ≡ self.old.archive }
-        ensures word { self.new.subjects.word ≡ self.old.subjects.word }
-        ensures header { self.new.subjects.header ≡ self.old.subjects.header }
-        ensures offset { self.new.offset ≡ self.old.offset }
-        ensures places { OnOk result ((m : OpenMessage) → IsOpen self.old m
-            → self.new.places.items ≡ self.old.places.items ++ found_at self.old.archive (is_chosen self.old.subjects.word.now) m (End span 0)) }
+        ensures sought { self.new.words.sought ≡ self.old.words.sought }
+        ensures places { OnOk result ((m : OpenMessage) → HasOpen self.old m
+            → self.new.places.items ≡ self.old.places.items ++ place_found self.old.archive (is_chosen self.old.words.sought.now) m span) }
     {
-        if self.subjects.have_word()? {
+        if let Some(text) = self.text.take() {
+            end_text(text, &mut self.words)?;
+        }
+        if self.words.has_found() {
             self.places.push(Place {
                 archive: self.archive,
                 offset: self.offset,

@@ -6,16 +6,16 @@ ghost use Rattle.mairix_tool.specs.Faults.{refusal_of, IsEarly};
 
 use crate::command_line::plan_of;
 use crate::fault::Fault;
-use crate::owned_text::{Text, Texts};
-use crate::pattern::read_patterns;
+use crate::owned_text::Texts;
+use crate::pattern::{Sought, read_patterns};
 use crate::rcfile::read_rc;
 use std::alloc::Global;
 
-/// What words and rcfile ask for: of which archives, and for which folded word.
+/// What words and rcfile ask for: of which archives, and for which word.
 #[derive(Drop)]
 pub(crate) struct Asked {
     pub(crate) paths: Texts,
-    pub(crate) word: Text,
+    pub(crate) sought: Sought,
 }
 
 impl Asked {
@@ -28,10 +28,10 @@ impl Asked {
     {
         let plan = plan_of(alloc, words)?;
         let rc = read_rc(alloc, rc)?;
-        let word = read_patterns(alloc, plan.patterns.as_slice())?;
+        let sought = read_patterns(alloc, plan.patterns.as_slice())?;
         Ok(Asked {
             paths: rc.paths,
-            word,
+            sought,
         })
     }
 }

@@ -1,31 +1,55 @@
 //! The pattern that messages are asked for by.
-ghost use Rattle.std.specs.Prelude.{◌≡◌, map};
+ghost use Rattle.std.specs.Prelude.{◌≡◌, map, option_map};
 ghost use Rattle.std.specs.String.{string_bytes};
 ghost use Rattle.contract_words.specs.Answers.{Gives};
-ghost use Rattle.mairix_tool.specs.Patterns.{query_of};
+ghost use Rattle.mairix_tool.specs.Patterns.{query_of, kind_and_rest as kind_and_rest_of};
 ghost use Rattle.mairix_tool.specs.Faults.{query_refusal};
 
 use crate::owned_text::Text;
 use crate::query_fault::{QueryFault, QueryKind};
-use mail_words::{fold, is_one_word};
+use mail_words::{TextKind, fold, is_one_word};
 use std::alloc::Global;
 
-/// The folded word that the first pattern asks for in subjects.
+/// What a pattern asks for: a folded word, in texts of a kind.
+#[derive(Debug, Drop)]
+pub struct Sought {
+    pub kind: TextKind,
+    pub word: Text,
+}
+
+/// What the first pattern asks for.
 ///
-/// A pattern is `s:` and a word: a run of letters, marks and digits, or of these and `- _ . + @`, of at most 128 bytes.
-pub fn read_patterns(alloc: Global, patterns: &[String]) -> Result<Text, QueryFault>
-    ensures { Gives (λ word. word) query_refusal result (query_of (map string_bytes patterns.now)) }
+/// A pattern is `s:` for subjects or `b:` for the body, and a word: a run of letters, marks and digits, or of these and
+/// `- _ . + @`, of at most 128 bytes.
+pub fn read_patterns(alloc: Global, patterns: &[String]) -> Result<Sought, QueryFault>
+    ensures { Gives (λ sought. sought) query_refusal result (query_of (map string_bytes patterns.now)) }
 {
     let Some(pattern) = patterns.first() else {
         return Err(refused(QueryKind::NoPattern));
     };
-    let Some(word) = pattern.as_str().strip_prefix("s:") else {
+    let Some((kind, word)) = kind_and_rest(pattern.as_str()) else {
         return Err(refused(QueryKind::BadPrefix));
     };
     if !is_one_word(word) {
         return Err(refused(QueryKind::BadWord));
     }
-    Ok(Text::of(fold(alloc, word)?))
+    Ok(Sought {
+        kind,
+        word: Text::of(fold(alloc, word)?),
+    })
+}
+
+/// The kind of text that a pattern's prefix names, and what follows the prefix.
+fn kind_and_rest(pattern: &str) -> Option<(TextKind, &str)>
+    ensures { option_map (λ p. (p.0, p.1.now)) result ≡ kind_and_rest_of pattern.now }
+{
+    if let Some(rest) = pattern.strip_prefix("s:") {
+        return Some((TextKind::Subject, rest));
+    }
+    if let Some(rest) = pattern.strip_prefix("b:") {
+        return Some((TextKind::Body, rest));
+    }
+    None
 }
 
 /// The fault of the first pattern.

@@ -89,6 +89,6 @@ fn run<S: Source, O: Out>(
     ensures silent { OnTrue (is_of_archive (fault_in result)) (out.new ≡ out.old) }
 {
     let asked = Asked::of(alloc, words, rc)?;
-    let places = search_sources(alloc, asked.word.as_str(), sources)?;
+    let places = search_sources(alloc, &asked.sought, sources)?;
     write_raw(alloc, asked.paths.as_slice(), &places, out)
 }

@@ -10,8 +10,8 @@ invariant-events g l = record {
   live : is_failed l.cutter.place.phase ≡ false;
   failures : g.S.Source.failures l.cutter.source.now ≡ g.S.Source.failures l.initial.cutter.source.now;
   archive : l.search.archive ≡ l.number;
-  word : l.search.subjects.word.now ≡ l.word;
-  found : IfSome l.initial.cutter.coming (HasFound l.number l.word l.search l.cutter.coming);
+  sought : l.search.words.sought.now ≡ l.sought;
+  found : IfSome l.initial.cutter.coming (HasFound l.number l.sought l.search l.cutter.coming);
 }
 
 abbrev pub decreases-events : goal.decreases-events

@@ -8,5 +8,5 @@ use Rattle.mairix_tool.proofs.search.search_source.Goals as goal
 
 pub returns-clause-places : goal.returns-clause-places
 returns-clause-places g c =
-    of_known_bytes (λ (r : Result (List Place) Fault). Gives (λ v. v.items) refusal_of c.search_events-places.result r) c.args.word.now c.args.number _ _
+    of_known_bytes (λ (r : Result (List Place) Fault). Gives (λ v. v.items) refusal_of c.search_events-places.result r) c.args.sought.now c.args.number _ _
     c.over-cutter.ensures.coming c.search_events-places.ensures.places

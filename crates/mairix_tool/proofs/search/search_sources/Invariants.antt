@@ -9,5 +9,5 @@ invariant-loop-number g l = record {
   unread : drop l.number l.sources ≡ drop l.number l.fn.sources;
   counts : map g.S.Source.failures l.sources ≡ map g.S.Source.failures l.fn.sources;
   found : (archives : List (List ℕ)) → map g.S.Source.rest l.fn.sources ≡ map Some archives
-      → collect_from (places_of l.word) 0 (take l.number archives) ≡ Ok l.all.items;
+      → collect_from (places_of l.sought) 0 (take l.number archives) ≡ Ok l.all.items;
 }
