@@ -1,2 +1,5 @@
+pub mod Fronts
+pub mod RecordFronts
+pub mod OneTable
 mod Rows
 mod RowsDigest

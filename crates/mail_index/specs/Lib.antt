@@ -2,4 +2,6 @@ pub mod Kinds
 pub mod Tables
 pub mod Postings
 pub mod Files
+pub mod Fields
+pub mod Faults
 pub mod Steps
