@@ -80,7 +80,7 @@ abbrev Small : ℕ → ℕ → Type 0
 Small zero n = n < 1
 Small (suc k) n = Small k (n / 128)
 
-leb_front : (k n m : ℕ) (x y : List ℕ) → Small k n → Small k m → leb128 k n ++ x ≡ leb128 k m ++ y → (n ≡ m) × (x ≡ y)
+pub leb_front : (k n m : ℕ) (x y : List ℕ) → Small k n → Small k m → leb128 k n ++ x ≡ leb128 k m ++ y → (n ≡ m) × (x ≡ y)
 leb_front zero n m x y p q e = (omega (arith, p, q), e)
 leb_front (suc k) n m x y p q e = go (ltb n 128) refl (ltb m 128) refl e (λ x y. leb_front k (n / 128) (m / 128) x y p q)
   where
@@ -96,7 +96,7 @@ leb_front (suc k) n m x y p q e = go (ltb n 128) refl (ltb m 128) refl e (λ x y
         let s = r x y t in
         (omega (arith, a, s.0), s.1)
 
-leb_some : (k n : ℕ) (x : List ℕ) → leb128 (suc k) n ++ x ≡ [] → ⊥
+pub leb_some : (k n : ℕ) (x : List ℕ) → leb128 (suc k) n ++ x ≡ [] → ⊥
 leb_some k n x e = go (ltb n 128) e
   where
     go : (t : Bool) → cond t (n ∷ []) ((128 + n % 128) ∷ leb128 k (n / 128)) ++ x ≡ [] → ⊥

@@ -27,3 +27,7 @@ mod laws;
 pub use laws::one_table_for_a_file;
 
 mod fields;
+mod leb128;
+mod postings;
+
+pub use postings::Postings;
