@@ -26,4 +26,6 @@ mod laws;
 
 pub use laws::one_table_for_a_file;
 
+mod archive;
 mod fields;
+mod record_walk;
