@@ -109,7 +109,7 @@ keys_are count (k ∷ ks) (l ∷ ls) h p q e =
     let r : ks ≡ ls = keys_are count ks ls h p.1 q.1 tail in
     cc
 
-small_archive : (archives : List Archive) (n : ℕ) → AllByRecursion IsArchive archives → archive_length archives n ≤ 2 ^ 40
+pub small_archive : (archives : List Archive) (n : ℕ) → AllByRecursion IsArchive archives → archive_length archives n ≤ 2 ^ 40
 small_archive [] n s = omega arith
 small_archive (a ∷ rest) zero s = s.0.1
 small_archive (a ∷ rest) (suc n) s = small_archive rest n s.1

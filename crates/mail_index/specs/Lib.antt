@@ -4,5 +4,6 @@ pub mod Postings
 pub mod PostingReads
 pub mod Files
 pub mod Fields
+pub mod Records
 pub mod Faults
 pub mod Steps

@@ -26,8 +26,11 @@ mod laws;
 
 pub use laws::one_table_for_a_file;
 
-mod fields;
-mod leb128;
 mod postings;
 
 pub use postings::Postings;
+
+mod archive;
+mod fields;
+mod leb128;
+mod record_walk;
