@@ -1,5 +1,6 @@
 #!/usr/bin/env python3
-"""Compares tables of this repository with outside sources: charsets with Python's codecs, header dates with email.utils.
+"""Compares tables of this repository with outside sources: charsets with Python's codecs, header dates with email.utils, and
+the rows of queries with a second reader.
 
 The last line is `N passed, M failed`.
 """
@@ -22,9 +23,13 @@ def same_header_dates():
     return written.returncode == 0 and bare(written.stdout) == bare(kept)
 
 
+def same_query_rows():
+    return subprocess.run([sys.executable, os.path.join(TOOLS, "query_rows.py")]).returncode == 0
+
+
 def main():
     passed = failed = 0
-    for check in (same_charsets, same_header_dates):
+    for check in (same_charsets, same_header_dates, same_query_rows):
         good = check()
         passed, failed = passed + good, failed + (not good)
         print("tables: %s: %s" % (check.__name__, "yes" if good else "NO"))

@@ -17,3 +17,20 @@ pub use path::is_path;
 mod steps;
 
 pub use steps::Steps;
+
+mod fault;
+
+pub use fault::{IndexFault, Section};
+
+mod laws;
+
+pub use laws::one_table_for_a_file;
+
+mod postings;
+
+pub use postings::Postings;
+
+mod archive;
+mod fields;
+mod leb128;
+mod record_walk;

@@ -13,6 +13,7 @@ pub mod BooleanDepth
 pub mod RowLexicon
 mod RowsMairix
 mod RowsBoolean
+mod RowsTruth
 pub mod BooleanComplete
 pub mod BooleanTrees
 pub mod BooleanPlaces
