@@ -10,3 +10,4 @@ pub mod Trimming
 pub mod Searching
 pub mod ArchiveFaults
 pub mod PlacesComing
+pub mod WordSearches

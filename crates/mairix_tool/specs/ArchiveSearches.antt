@@ -1,10 +1,10 @@
 -- A search through an archive as its fields are.
-use Rattle.std.specs.Prelude.{◌≡◌, ⊤, ℕ, Bool, List, [], ◌++◌, Option, Some, None, Result}
+use Rattle.std.specs.Prelude.{◌≡◌, ℕ, Bool, List, [], ◌++◌, Option, Some, None, Result}
 use Rattle.std.specs.Option.{MatchOption}
 use Rattle.mbox_cutter.specs.Events.{Coming}
 use Rattle.mime_text.specs.Sinks.{Pair}
 use Rattle.mime_text.specs.Texts.{texts_of_message}
-use Rattle.mime_text.specs.Feeding.{Fed}
+use Rattle.mime_text.specs.Fed.{Fed}
 use Rattle.mime_text.specs.declared.message_text.MessageText.{MessageText}
 use Rattle.mairix_tool.specs.declared.fault.Fault.{Fault}
 use Rattle.mairix_tool.specs.declared.pattern.Sought.{Sought}
@@ -28,7 +28,7 @@ pub record HasOpen (search : ArchiveSearch) (m : OpenMessage) : Type 0 where
 
 -- this message is open, or none
 abbrev pub IsOpen : ArchiveSearch → Option OpenMessage → Type 0
-IsOpen search None = ⊤
+IsOpen search None = search.text ≡ None
 IsOpen search (Some m) = HasOpen search m
 
 -- whether a message whose text has these lines is asked for

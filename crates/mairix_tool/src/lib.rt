@@ -18,12 +18,13 @@ mod query_fault;
 mod rcfile;
 mod run;
 mod search;
-mod subject;
+mod word_search;
 
 pub use command_line::{Plan, UsageFault, plan_of, usage_text};
 pub use explanation::fault_text;
 pub use fault::{Fault, Reply};
 pub use owned_text::{Text, Texts};
+pub use pattern::Sought;
 pub use place::Place;
 pub use program::run_program;
 pub use query_fault::{QueryFault, QueryKind};

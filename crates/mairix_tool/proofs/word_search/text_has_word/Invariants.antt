@@ -3,7 +3,7 @@ use Rattle.std.specs.List.{list_any}
 use Rattle.std.specs.Str.{bytes_eq}
 use Rattle.mail_words.specs.Folding.{folding}
 use Rattle.mairix_tool.specs.MessageTexts.{has_word}
-use Rattle.mairix_tool.proofs.subject.text_has_word.Given as goal
+use Rattle.mairix_tool.proofs.word_search.text_has_word.Given as goal
 
 -- no word so far was it, so the words that are left decide
 abbrev pub invariant-loop-candidate : goal.invariant-loop-candidate
