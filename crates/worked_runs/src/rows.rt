@@ -2,7 +2,7 @@
 use crate::fixture::{RC, archive, run, sources, words};
 use mairix_tool::{Fault, Name, QueryFault, QueryKind, RcFault, Reply, UsageFault};
 use mbox_cutter::{CutFault, MemoryOut};
-use std::alloc::Global;
+use std::alloc::{AllocError, Global};
 use std::process::Abort;
 use std::test::Fail;
 
@@ -106,12 +106,84 @@ fn subjects_are_found(rt: HostRuntime) -> Result<(), Fail> {
 }
 
 #[test]
+fn bodies_are_found(rt: HostRuntime) -> Result<(), Fail> {
+    let soft_break = "^Content-Transfer-Encoding: quoted-printable||lunch=|break||";
+    let split_group = "^Content-Type: text/plain; charset=utf-8|Content-Transfer-Encoding: base64||ZsO|8cg==||";
+    let nested = "^Content-Type: multipart/mixed; boundary=o||--o|Content-Type: multipart/mixed; boundary=i||--i||inner|--o||outer|--o--||";
+    let html = "^Content-Type: text/html||<p>Mee<b>t||";
+    for (text, pattern, messages, answer) in [
+        ("^Subject: Hello||hi||", "b:hi", 1, "0 58 m.mbox\n"),
+        ("^Subject: Hello||hi||", "b:hello", 0, ""),
+        ("^Subject: Hello||hi||", "s:hi", 0, ""),
+        ("^Subject: Hello||hi", "b:hi", 1, "0 56 m.mbox\n"),
+        (soft_break, "b:lunchbreak", 1, "0 97 m.mbox\n"),
+        (soft_break, "b:lunch", 0, ""),
+        (split_group, "b:f\u{fc}r", 1, "0 124 m.mbox\n"),
+        (nested, "b:inner", 1, "0 157 m.mbox\n"),
+        (nested, "b:outer", 1, "0 157 m.mbox\n"),
+        (nested, "b:o", 0, ""),
+        (html, "b:mee", 1, "0 75 m.mbox\n"),
+        (html, "b:meet", 0, ""),
+    ] {
+        check_pattern(&rt, rt.alloc(), text, pattern, messages, answer)?;
+    }
+    Ok(())
+}
+
+/// A text in which a line is so many spaces and `wxyz`.
+fn with_long_line(alloc: Global, spaces: usize) -> Result<String, AllocError> {
+    let mut text = String::from_str(alloc, "^Subject: a||")?;
+    for _ in 0..spaces {
+        text.push(' ')?;
+    }
+    text.push_str("wxyz||")?;
+    Ok(text)
+}
+
+/// A line is cut behind 65,536 bytes, and so is a word.
+#[test]
+fn long_lines_are_cut(rt: HostRuntime) -> Result<(), Fail> {
+    let alloc = rt.alloc();
+    let cut = with_long_line(alloc, 65_533)?;
+    let answer = "0 65589 m.mbox\n";
+    check_pattern(&rt, alloc, cut.as_str(), "b:wxy", 1, answer)?;
+    check_pattern(&rt, alloc, cut.as_str(), "b:z", 1, answer)?;
+    check_pattern(&rt, alloc, cut.as_str(), "b:wxyz", 0, "")?;
+    let whole = with_long_line(alloc, 65_532)?;
+    check_pattern(&rt, alloc, whole.as_str(), "b:wxyz", 1, "0 65588 m.mbox\n")?;
+    Ok(())
+}
+
+/// A message inside so many messages.
+fn nested_messages(alloc: Global, depth: usize) -> Result<String, AllocError> {
+    let mut text = String::from_str(alloc, "^")?;
+    for _ in 0..depth {
+        text.push_str("Content-Type: message/rfc822||")?;
+    }
+    text.push_str("|deep||")?;
+    Ok(text)
+}
+
+/// Parts are read down to the depth of 16.
+#[test]
+fn depths_above_16_give_nothing(rt: HostRuntime) -> Result<(), Fail> {
+    let alloc = rt.alloc();
+    let deep = nested_messages(alloc, 16)?;
+    check_pattern(&rt, alloc, deep.as_str(), "b:deep", 1, "0 525 m.mbox\n")?;
+    let deeper = nested_messages(alloc, 17)?;
+    check_pattern(&rt, alloc, deeper.as_str(), "b:deep", 0, "")?;
+    Ok(())
+}
+
+#[test]
 fn queries_are_refused(rt: HostRuntime) -> Result<(), Fail> {
     let alloc = rt.alloc();
     for (pattern, kind) in [
         ("q:x", QueryKind::BadPrefix),
+        ("sb:x", QueryKind::BadPrefix),
         ("x", QueryKind::BadPrefix),
         ("s:", QueryKind::BadWord),
+        ("b:", QueryKind::BadWord),
         ("s:a b", QueryKind::BadWord),
     ] {
         let words = words(alloc, &["-f", "rc", "--once", pattern])?;
