@@ -1,2 +1,7 @@
 mod FlagLemmas
 mod StreamLaws
+mod ParameterLemmas
+mod TagLemmas
+mod TagReads
+mod Handing
+mod LineSteps

@@ -5,8 +5,8 @@ use Rattle.mbox_cutter.specs.Lines.{is_empty}
 use Rattle.mbox_cutter.specs.Separators.{without_break}
 use Rattle.header_text.specs.Blanks.{is_blank}
 use Rattle.header_text.specs.Headers.{HeaderField, fields_of}
-use Rattle.mime_text.specs.declared.default_type.DefaultType.{DefaultType}
-use Rattle.mime_text.specs.declared.default_type.DefaultType.TheVariants.{TextPlain}
+use Rattle.mime_text.specs.declared.shape.DefaultType.{DefaultType}
+use Rattle.mime_text.specs.declared.shape.DefaultType.TheVariants.{TextPlain}
 
 -- what an entity is, by its header
 pub data Shape : Type 0 where

@@ -2,8 +2,8 @@
 use Rattle.std.specs.Prelude.{ℕ, zero, suc, Bool, true, false, cond, List, [], ◌∷◌, ◌++◌, Option, Some, None, flat_map}
 use Rattle.mbox_cutter.specs.Lines.{is_empty}
 use Rattle.header_text.specs.Headers.{HeaderField, fields_of}
-use Rattle.mime_text.specs.declared.default_type.DefaultType.{DefaultType}
-use Rattle.mime_text.specs.declared.default_type.DefaultType.TheVariants.{TextPlain}
+use Rattle.mime_text.specs.declared.shape.DefaultType.{DefaultType}
+use Rattle.mime_text.specs.declared.shape.DefaultType.TheVariants.{TextPlain}
 use Rattle.mime_text.specs.Parts.{Shape, Multipart, Message, Text, Other, Part, Counted, Leaf, is_closing, is_delimiter, parts}
 
 -- a multipart that is open: its boundary, what its pieces are, and how many depths are left below them
