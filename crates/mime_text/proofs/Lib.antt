@@ -5,3 +5,5 @@ mod TagLemmas
 mod TagReads
 mod Handing
 mod LineSteps
+mod RowsTypes
+mod RowsBodies
