@@ -1,5 +1,6 @@
 -- Texts of fields that a sink is given.
-use Rattle.std.proofs.Common.{◌≡◌, ◌∙◌, ◌++◌, ◌≤◌, ◌+◌, ℕ, Bool, true, false, List, [], ◌∷◌, Option, Some, None, length, refl, sym, ap, arith, cond}
+use Rattle.std.proofs.Common.{◌≡◌, ◌∙◌, ◌++◌, ◌≤◌, ◌+◌, ℕ, Bool, true, false, List, [], ◌∷◌, Option, Some, None, length, refl, sym, ap, arith, cond, append_assoc}
+use Rattle.std.proofs.lemmas.List.{append-nil}
 use Rattle.std.specs.Prelude.{option_map}
 use Rattle.std.specs.List.{cons_option}
 use Rattle.header_text.specs.Headers.{HeaderField}
@@ -53,3 +54,20 @@ module _ {S : Type 0} (takes : S → TextKind → List ℕ → S → Type 0) (re
 
   pub broke-one : (A : Coming) (p : Pair) (fault : SinkFault) (s t : S) → ((ms : List (List ℕ)) → A ms ≡ p ∷ []) → refuses s p.0 p.1 fault t → Broke takes refuses A (Sink fault) s t
   broke-one A p fault s t e h = record { pairs = p ∷ []; broken = ([], p, s, refl, refl, h); front = λ ms. ([], e ms) }
+
+  -- in front of more
+  pub gave-front : (A B R : Coming) (s t : S) → ((ms : List (List ℕ)) → B ms ≡ A ms ++ R ms) → Gave takes refuses A (λ _. []) s t → Gave takes refuses B R s t
+  gave-front A B R s t e h =
+      record { pairs = h.pairs; taken = h.taken; rest = λ ms. e ms ∙ ap (λ (ps : List Pair). ps ++ R ms) (h.rest ms ∙ append-nil h.pairs) }
+
+  pub broke-front : (A B R : Coming) (fault : TextFault) (s t : S) → ((ms : List (List ℕ)) → B ms ≡ A ms ++ R ms) → Broke takes refuses A fault s t → Broke takes refuses B fault s t
+  broke-front A B R fault s t e h =
+      record {
+        pairs = h.pairs;
+        broken = h.broken;
+        front = λ ms. ((h.front ms).0 ++ R ms, e ms ∙ ap (λ (ps : List Pair). ps ++ R ms) (h.front ms).1 ∙ append_assoc h.pairs (h.front ms).0 (R ms));
+      }
+
+  -- the same, of what comes behind
+  pub gave-behind : (A B C : Coming) (s t : S) → ((ms : List (List ℕ)) → B ms ≡ C ms) → Gave takes refuses A B s t → Gave takes refuses A C s t
+  gave-behind A B C s t e h = record { pairs = h.pairs; taken = h.taken; rest = λ ms. h.rest ms ∙ ap (λ (ps : List Pair). h.pairs ++ ps) (e ms) }

@@ -1,10 +1,14 @@
 mod FlagLemmas
-pub mod StreamLaws
-mod FrameLemmas
+mod StreamLaws
 mod ParameterLemmas
 mod TagLemmas
 mod TagReads
 mod Handing
 mod LineSteps
+mod RowsTypes
+mod RowsBodies
+mod FrameLemmas
 mod GivingLemmas
 mod StepLemmas
+mod PassingLemmas
+mod FedLemmas

@@ -28,15 +28,21 @@ module _ {S : Type 0} (takes : S → TextKind → List ℕ → S → Type 0) (re
     pub taken : TakesAll takes refuses pairs old new
     pub fed : (ls : List (List ℕ)) (ps : List Pair) → Fed m ls ps → Fed n (ls ++ l ∷ []) (ps ++ pairs)
 
-  -- the sink was given some pairs, and there a fault came: they are in front of those that the message has behind what was given,
-  -- whatever was fed before and comes behind these lines
-  pub record FeedsPart (m : MessageText) (more : List (List ℕ)) (fault : TextFault) (old new : S) : Type 0 where
+  -- the sink was given some pairs, and there a fault came: they are in front of what comes, whatever was fed before, and
+  -- whatever comes behind the line
+  pub record FeedsPart (m : MessageText) (l : List ℕ) (fault : TextFault) (old new : S) : Type 0 where
     pub pairs : List Pair
     pub broken : Breaks takes refuses fault pairs old new
-    pub front : (ls : List (List ℕ)) (ps : List Pair) → Fed m ls ps → (ms : List (List ℕ)) → (later : List Pair) × (texts_of_message (ls ++ (more ++ ms)) ≡ (ps ++ pairs) ++ later)
+    pub front : (ls : List (List ℕ)) (ps : List Pair) → Fed m ls ps → (ms : List (List ℕ)) → (later : List Pair) × (texts_of_message (ls ++ l ∷ ms) ≡ (ps ++ pairs) ++ later)
 
   -- the sink took the pairs that were left, whatever was fed before
   pub record Finishes (m : MessageText) (old new : S) : Type 0 where
     pub pairs : List Pair
     pub taken : TakesAll takes refuses pairs old new
     pub whole : (ls : List (List ℕ)) (ps : List Pair) → Fed m ls ps → texts_of_message ls ≡ ps ++ pairs
+
+  -- the sink was given some of them, and there a fault came
+  pub record FinishesPart (m : MessageText) (fault : TextFault) (old new : S) : Type 0 where
+    pub pairs : List Pair
+    pub broken : Breaks takes refuses fault pairs old new
+    pub front : (ls : List (List ℕ)) (ps : List Pair) → Fed m ls ps → (later : List Pair) × (texts_of_message ls ≡ (ps ++ pairs) ++ later)

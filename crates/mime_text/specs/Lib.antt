@@ -11,8 +11,8 @@ pub mod Tags
 pub mod LeafTexts
 pub mod OpenTags
 pub mod Decoders
-pub mod Showing
 pub mod LeafReading
+pub mod Showing
 pub mod Texts
 pub mod Passing
 pub mod Feeding

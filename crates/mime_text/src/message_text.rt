@@ -4,7 +4,7 @@ ghost use Rattle.mbox_cutter.specs.Lines.{length_before_feed};
 ghost use Rattle.header_text.specs.Headers.{fields_of};
 ghost use Rattle.mime_text.specs.MessageFacts.{HasSizedIds, facts_of};
 ghost use Rattle.mime_text.specs.Sinks.{Pair};
-ghost use Rattle.mime_text.specs.Fed.{Fed, Feeds, FeedsPart, Finishes, has_failed};
+ghost use Rattle.mime_text.specs.Fed.{Fed, Feeds, FeedsPart, Finishes, FinishesPart, has_failed};
 
 use crate::facts::Facts;
 use crate::fault::TextFault;
@@ -39,7 +39,7 @@ impl MessageText {
         requires short { length line.now ≤ 65537 }
         requires last { length line.now ≤ length_before_feed line.now + 1 }
         ensures fed { OnOk result (Feeds S.takes S.refuses self.old self.new line.now sink.old sink.new) }
-        ensures stopped { has_failed self.old ≡ false → IfErr result (λ fault. FeedsPart S.takes S.refuses self.old (line.now ∷ []) fault sink.old sink.new) }
+        ensures stopped { has_failed self.old ≡ false → IfErr result (λ fault. FeedsPart S.takes S.refuses self.old line.now fault sink.old sink.new) }
         ensures fails { OnErr result (has_failed self.new ≡ true) }
         ensures again { has_failed self.old ≡ true → (result ≡ Err TextFault.Failed) × (sink.new ≡ sink.old) }
     {
@@ -60,7 +60,7 @@ impl MessageText {
         ensures texts { OnOk result (Finishes S.takes S.refuses self sink.old sink.new) }
         ensures facts { IfOk result (λ facts. (ls : List (List ℕ)) (ps : List Pair) → Fed self ls ps → facts ≡ facts_of (fields_of ls)) }
         ensures sizes { IfOk result HasSizedIds }
-        ensures stopped { has_failed self ≡ false → IfErr result (λ fault. FeedsPart S.takes S.refuses self [] fault sink.old sink.new) }
+        ensures stopped { has_failed self ≡ false → IfErr result (λ fault. FinishesPart S.takes S.refuses self fault sink.old sink.new) }
         ensures again { has_failed self ≡ true → (result ≡ Err TextFault.Failed) × (sink.new ≡ sink.old) }
     {
         if self.failed {
