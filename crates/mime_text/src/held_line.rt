@@ -59,6 +59,9 @@ fn drop_front(bytes: &mut Vec<u8>, at: usize)
     requires { at ≤ length bytes.old.items }
     ensures { bytes.new.items ≡ drop at bytes.old.items }
 {
+    if at == 0 {
+        return;
+    }
     let len = bytes.len();
     bytes.copy_within(at..len, 0);
     bytes.truncate(len - at);

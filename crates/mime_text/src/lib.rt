@@ -30,3 +30,6 @@ pub use owned::{DateText, MessageId, MessageIds};
 pub use shape::{DefaultType, Shape};
 pub use sink::TextSink;
 pub use transfer::TransferEncoding;
+
+#[cfg(test)]
+mod leaf_tests;
