@@ -5,5 +5,6 @@ mod TagLemmas
 mod TagReads
 mod Handing
 mod LineSteps
+mod LineEnds
 mod RowsTypes
 mod RowsBodies

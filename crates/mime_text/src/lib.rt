@@ -10,6 +10,7 @@ mod field_text;
 mod held_line;
 mod law;
 mod leaf_reader;
+mod line_end;
 mod line_texts;
 mod own_text;
 mod owned;
