@@ -5,6 +5,7 @@ mod TagLemmas
 mod TagReads
 mod Handing
 mod LineSteps
+mod LineEnds
 mod RowsTypes
 mod RowsBodies
 mod FrameLemmas

@@ -1,5 +1,5 @@
 -- Rows of transfer encodings, tags and the texts of leaves; the values on the right come from a separate reading of the rules.
-use Rattle.std.proofs.Common.{◌≡◌, ℕ, true, false, List, [], ◌∷◌, ◌++◌, refl}
+use Rattle.std.proofs.Common.{◌≡◌, true, false, [], ◌∷◌, refl}
 use Rattle.std.specs.Prelude.{codes}
 use Rattle.std.specs.Char.{encode_utf8}
 use Rattle.std.specs.Str.{chars}
@@ -9,12 +9,10 @@ use Rattle.header_text.specs.Blanks.{before_blanks}
 use Rattle.header_text.specs.Escapes.{unescaped}
 use Rattle.header_text.specs.Base64.{sextet, bytes_of_sextets, base64_bytes}
 use Rattle.header_text.specs.Charsets.{charset_of, text_of}
-use Rattle.header_text.specs.declared.charset.Charset.{Charset}
 use Rattle.header_text.specs.declared.charset.Charset.TheVariants.{Utf8, Latin1}
 use Rattle.mime_text.specs.Transfer.{printable_bytes, decoded_bytes}
 use Rattle.mime_text.specs.Tags.{lines_without_tags}
 use Rattle.mime_text.specs.LeafTexts.{leaf_texts}
-use Rattle.mime_text.specs.declared.transfer.TransferEncoding.{TransferEncoding}
 use Rattle.mime_text.specs.declared.transfer.TransferEncoding.TheVariants.{Identity, QuotedPrintable, Base64}
 
 soft_break : decoded_bytes QuotedPrintable (codes "lunch=\n" ∷ codes "break\n" ∷ []) ≡ codes "lunchbreak\n"

@@ -6,15 +6,11 @@ use Rattle.header_text.specs.Blanks.{before_blanks}
 use Rattle.header_text.specs.Headers.{HeaderField, fields_of}
 use Rattle.header_text.specs.Unfolding.{unfolded}
 use Rattle.header_text.specs.Charsets.{charset_of}
-use Rattle.header_text.specs.declared.charset.Charset.{Charset}
 use Rattle.header_text.specs.declared.charset.Charset.TheVariants.{Utf8, Latin1, Unknown}
 use Rattle.mime_text.specs.Parameters.{Parameter, piece_of, parameters, parameter}
 use Rattle.mime_text.specs.Types.{shape_of, shape_of_value, charset_in, charset_of_value, transfer_in, transfer_named}
-use Rattle.mime_text.specs.declared.shape.DefaultType.{DefaultType}
 use Rattle.mime_text.specs.declared.shape.DefaultType.TheVariants.{TextPlain, MessageRfc822}
-use Rattle.mime_text.specs.declared.shape.Shape.{Shape}
 use Rattle.mime_text.specs.declared.shape.Shape.TheVariants.{Multipart, Message, Text, Other}
-use Rattle.mime_text.specs.declared.transfer.TransferEncoding.{TransferEncoding}
 use Rattle.mime_text.specs.declared.transfer.TransferEncoding.TheVariants.{Identity, QuotedPrintable, Base64}
 
 abbrev typed : List ℕ → List HeaderField

@@ -1,9 +1,12 @@
 -- Tags line by line.
-use Rattle.std.proofs.Common.{◌≡◌, ◌∙◌, ◌==◌, ◌||◌, ◌++◌, ℕ, Bool, true, false, List, [], ◌∷◌, map, reverse, refl, sym, ap, ap₂, arith, append_assoc, encode_utf8_all}
+use Rattle.std.proofs.Common.{◌≡◌, ◌∙◌, ◌==◌, ◌||◌, ◌++◌, ℕ, Bool, true, false, List, [], ◌∷◌, map, reverse, refl, sym, ap, ap₂, subst, arith, append_assoc, encode_utf8_all, IsUtf8}
 use Rattle.std.specs.Prelude.{if◌then◌else◌}
+use Rattle.std.specs.Char.{encode_utf8}
 use Rattle.std.specs.Str.{chars}
 use Rattle.std.proofs.lemmas.Bool.{eqb-true}
 use Rattle.std.proofs.lemmas.List.{reverse-append}
+use Rattle.std.proofs.lemmas.Str.{encodes-chars}
+use Rattle.header_text.proofs.CutLemmas.{Lacks}
 use Rattle.header_text.specs.Charsets.{text_of}
 use Rattle.header_text.specs.declared.charset.Charset.{Charset}
 use Rattle.mime_text.specs.Tags.{is_open, is_in_tag, without_tags, lines_without_tags}
@@ -57,3 +60,45 @@ plain_lines charset o (l ∷ ls) = ap (λ (ts : List (List ℕ)). text_of charse
 pub texts-begin : (charset : Charset) (is_html : Bool) (ls : List (List ℕ)) → texts_behind charset is_html false ls ≡ texts_of_lines charset is_html ls
 texts-begin charset false ls = sym (plain_lines charset false ls)
 texts-begin charset true ls = sym (tagged_lines charset [] false ls refl)
+
+-- ---- text without tags
+
+lacks-append : (c : ℕ) (xs ys : List ℕ) → Lacks c (xs ++ ys) → Lacks c xs × Lacks c ys
+lacks-append c [] ys h = (tt, h)
+lacks-append c (x ∷ xs) ys h = let rest = lacks-append c xs ys h.1 in ((h.0, rest.0), rest.1)
+
+opening : encode_utf8 0x3C ≡ 0x3C ∷ []
+unfolding encode_utf8
+opening = refl
+
+-- no byte is `<`, so no character is
+lacks-chars : (cs : List ℕ) → Lacks 0x3C (encode_utf8_all cs) → Lacks 0x3C cs
+lacks-chars [] h = tt
+lacks-chars (c ∷ cs) h = let parts = lacks-append 0x3C (encode_utf8 c) (encode_utf8_all cs) h in (go (c == 0x3C) refl parts.0, lacks-chars cs parts.1)
+  where
+    go : (t : Bool) → (c == 0x3C) ≡ t → Lacks 0x3C (encode_utf8 c) → (c == 0x3C) ≡ false
+    go true e k =
+        let is : encode_utf8 c ≡ 0x3C ∷ [] = ap encode_utf8 (eqb-true c 0x3C e) ∙ opening in
+        let P : List ℕ → Type 0 = λ l. Lacks 0x3C l in
+        let no : Lacks 0x3C (0x3C ∷ []) = subst P is k in
+        absurd (cc (no.0))
+    go false e k = e
+
+blanked-free : (cs : List ℕ) → Lacks 0x3C cs → blanked false cs ≡ cs
+blanked-free [] h = refl
+blanked-free (c ∷ cs) h = rw h.0 (ap (λ (l : List ℕ). c ∷ l) (blanked-free cs h.1))
+
+is_open-free : (cs : List ℕ) → Lacks 0x3C cs → is_open_behind false cs ≡ false
+is_open-free [] h = refl
+is_open-free (c ∷ cs) h = rw h.0 (is_open-free cs h.1)
+
+lacks-text : (text : List ℕ) → IsUtf8 text → Lacks 0x3C text → Lacks 0x3C (chars text)
+lacks-text text utf8 h =
+    let P : List ℕ → Type 0 = λ l. Lacks 0x3C l in
+    lacks-chars (chars text) (subst P (sym (encodes-chars text utf8)) h)
+
+pub free-text : (text : List ℕ) (o : Bool) → o ≡ false → IsUtf8 text → Lacks 0x3C text → encode_utf8_all (blanked o (chars text)) ≡ text
+free-text text o e utf8 h = rw e (ap encode_utf8_all (blanked-free (chars text) (lacks-text text utf8 h)) ∙ encodes-chars text utf8)
+
+pub free-behind : (text : List ℕ) (o : Bool) → o ≡ false → IsUtf8 text → Lacks 0x3C text → is_open_behind o (chars text) ≡ false
+free-behind text o e utf8 h = rw e (is_open-free (chars text) (lacks-text text utf8 h))

@@ -1,16 +1,16 @@
 //! The line of a leaf that isn't whole yet.
 ghost use Rattle.std.specs.Prelude.{◌≡◌, ℕ, ◌≤◌, ◌-◌, ◌∷◌, ◌++◌, [], List, None, true, length, drop, OnOk, IfOk, IfErr};
 ghost use Rattle.std.specs.List.{concat};
-ghost use Rattle.mbox_cutter.specs.Lines.{line_end_of};
+ghost use Rattle.mbox_cutter.specs.Lines.{length_before_feed, line_end_of};
 ghost use Rattle.mime_text.specs.Sinks.{Gave, Broke, Hands};
 ghost use Rattle.mime_text.specs.Decoders.{still_decoded};
 ghost use Rattle.mime_text.specs.LeafReading.{pairs_of_bytes};
 
 use crate::decoder::Decoder;
 use crate::fault::TextFault;
+use crate::line_end::line_end_behind;
 use crate::line_texts::LineTexts;
 use crate::sink::TextSink;
-use mbox_cutter::line_end;
 use std::alloc::Global;
 use std::marker::Model;
 
@@ -31,12 +31,15 @@ impl Model for HeldLine {
     ghost invariant = { λ h. line_end_of h.bytes.items ≡ None };
 }
 
-/// Gives the lines in front that are whole, and answers the bytes behind them.
+/// Gives the lines in front that are whole, and answers the bytes behind them. So many bytes in front have no LF.
 fn give_lines<'a, S: TextSink>(
+    searched: usize,
     bytes: &'a [u8],
     texts: &mut LineTexts,
     sink: &mut S,
 ) -> Result<&'a [u8], TextFault>
+    requires free { searched ≤ length_before_feed bytes.now }
+    requires few { searched ≤ 65536 }
     ensures open { IfOk result (λ rest. line_end_of rest.now ≡ None) }
     ensures fits { IfOk result (λ rest. length rest.now ≤ length bytes.now) }
     ensures rest { IfOk result (λ rest. rest.now ≡ drop (length bytes.now - length rest.now) bytes.now) }
@@ -44,10 +47,14 @@ fn give_lines<'a, S: TextSink>(
     ensures broke { IfErr result (λ fault. Broke S.takes S.refuses (λ ls. pairs_of_bytes texts.old (bytes.now ++ concat ls)) fault sink.old sink.new) }
 {
     let mut rest = bytes;
-    while let Some(len) = line_end(rest) {
+    let mut searched = searched;
+    while let Some(len) = line_end_behind(searched, rest) {
         let (line, later) = rest.split_at(len);
         match texts.give(line, sink) {
-            Ok(()) => rest = later,
+            Ok(()) => {
+                rest = later;
+                searched = 0;
+            }
             Err(fault) => return Err(fault),
         }
     }
@@ -59,21 +66,27 @@ fn drop_front(bytes: &mut Vec<u8>, at: usize)
     requires { at ≤ length bytes.old.items }
     ensures { bytes.new.items ≡ drop at bytes.old.items }
 {
+    if at == 0 {
+        return;
+    }
     let len = bytes.len();
     bytes.copy_within(at..len, 0);
     bytes.truncate(len - at);
 }
 
-/// Gives the lines in front that are whole, and drops them.
+/// Gives the lines in front that are whole, and drops them. So many bytes in front have no LF.
 fn take_lines<S: TextSink>(
+    searched: usize,
     bytes: &mut Vec<u8>,
     texts: &mut LineTexts,
     sink: &mut S,
 ) -> Result<(), TextFault>
+    requires free { searched ≤ length_before_feed bytes.old.items }
+    requires few { searched ≤ 65536 }
     ensures open { OnOk result (line_end_of bytes.new.items ≡ None) }
     ensures hands { Hands S.takes S.refuses (λ ls. pairs_of_bytes texts.old (bytes.old.items ++ concat ls)) (λ ls. pairs_of_bytes texts.new (bytes.new.items ++ concat ls)) result sink.old sink.new }
 {
-    let left = match give_lines(bytes, texts, sink) {
+    let left = match give_lines(searched, bytes, texts, sink) {
         Ok(rest) => rest.len(),
         Err(fault) => return Err(fault),
     };
@@ -86,7 +99,7 @@ fn take_lines<S: TextSink>(
 fn give_all<S: TextSink>(bytes: &[u8], texts: &mut LineTexts, sink: &mut S) -> Result<(), TextFault>
     ensures { Hands S.takes S.refuses (λ _. pairs_of_bytes texts.old bytes.now) (λ _. []) result sink.old sink.new }
 {
-    match give_lines(bytes, texts, sink) {
+    match give_lines(0, bytes, texts, sink) {
         Ok(rest) => {
             if rest.is_empty() {
                 return Ok(());
@@ -105,11 +118,13 @@ fn take_encoded<S: TextSink>(
     texts: &mut LineTexts,
     sink: &mut S,
 ) -> Result<(), TextFault>
+    requires { line_end_of bytes.old.items ≡ None }
     ensures open { OnOk result (line_end_of bytes.new.items ≡ None) }
     ensures hands { Hands S.takes S.refuses (λ ls. pairs_of_bytes texts.old (bytes.old.items ++ still_decoded decoder.old (line.now ∷ ls))) (λ ls. pairs_of_bytes texts.new (bytes.new.items ++ still_decoded decoder.new ls)) result sink.old sink.new }
 {
+    let held = bytes.len();
     match decoder.push(line, bytes) {
-        Ok(()) => take_lines(bytes, texts, sink),
+        Ok(()) => take_lines(held.min(bytes.len()), bytes, texts, sink),
         Err(_) => Err(TextFault::OutOfMemory),
     }
 }

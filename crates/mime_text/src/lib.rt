@@ -13,6 +13,7 @@ mod giving;
 mod held_line;
 mod law;
 mod leaf_reader;
+mod line_end;
 mod line_texts;
 mod message_text;
 mod nesting;
@@ -36,3 +37,6 @@ pub use owned::{DateText, MessageId, MessageIds};
 pub use shape::{DefaultType, Shape};
 pub use sink::TextSink;
 pub use transfer::TransferEncoding;
+
+#[cfg(test)]
+mod leaf_tests;

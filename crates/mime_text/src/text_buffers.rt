@@ -8,7 +8,7 @@ ghost use Rattle.mime_text.specs.Showing.{Shows};
 use crate::fault::TextFault;
 use crate::own_text::own_text;
 use crate::sink::TextSink;
-use crate::tags::blank_tags;
+use crate::tags::{blank_tags, is_free_of_tags};
 use header_text::{Charset, decode_into};
 use mail_words::TextKind;
 use std::alloc::{AllocError, Global};
@@ -126,6 +126,14 @@ impl TextBuffers {
         ensures shows { Shows S.takes S.refuses (encode_utf8_all (blanked open_before (chars (text_of charset line.now)))) result sink.old sink.new }
         ensures is_open { IfOk result (λ behind. behind ≡ is_open_behind open_before (chars (text_of charset line.now))) }
     {
+        if let Some(text) = own_text(charset, line) {
+            if is_free_of_tags(open_before, text) {
+                return match show(text, sink) {
+                    Ok(()) => Ok(false),
+                    Err(fault) => Err(fault),
+                };
+            }
+        }
         match self.write_blanked_line(charset, open_before, line) {
             Ok(behind) => match show(self.blanked.as_str(), sink) {
                 Ok(()) => Ok(behind),

@@ -8,6 +8,8 @@ use Rattle.mime_text.proofs.held_line.give_lines.Goals as goal
 
 pub loop-len-init : goal.loop-len-init
 loop-len-init g c = record {
+  free = c.requires.free;
+  few = c.requires.few;
   fits = omega arith;
   rest = rest-start c.args.bytes.now;
   gave = gave-nothing g.S.TextSink.takes g.S.TextSink.refuses (λ ls. pairs_of_bytes c.args.texts.now (c.args.bytes.now ++ concat ls)) c.args.sink.now;
@@ -32,6 +34,8 @@ loop-len-preserved g c =
     let before = c.loop-len.invariant in
     let within = line_end-within rest len c.in-Some.ensures in
     record {
+      free = omega arith;
+      few = omega arith;
       fits = omega (arith, before.fits, within, c.split_at.ensures.back_len);
       rest = rest-step c.args.bytes.now rest later len before.fits before.rest c.split_at.ensures.back within;
       gave = gave-more g.S.TextSink.takes g.S.TextSink.refuses (λ ls. pairs_of_bytes c.args.texts.now (c.args.bytes.now ++ concat ls)) (λ ls. pairs_of_bytes c.loop-len.texts (rest ++ concat ls))

@@ -1,10 +1,21 @@
-use Rattle.std.proofs.Common.{◌∙◌, ◌++◌, ℕ, List, [], ◌∷◌, sym, ap}
+use Rattle.std.proofs.Common.{◌∙◌, ◌++◌, ℕ, List, [], ◌∷◌, sym, ap, arith}
 use Rattle.std.specs.List.{concat}
 use Rattle.mime_text.specs.Decoders.{still_decoded}
 use Rattle.mime_text.specs.LeafReading.{pairs_of_bytes}
 use Rattle.mime_text.proofs.Handing.{hands-along}
+use Rattle.mbox_cutter.proofs.FirstLines.{line_end-open}
+use Rattle.mime_text.proofs.LineEnds.{held-free, still-free}
 use Rattle.mime_text.proofs.LineSteps.{concat-one}
 use Rattle.mime_text.proofs.held_line.take_encoded.Goals as goal
+
+pub take_lines-requires-clause-free : goal.take_lines-requires-clause-free
+take_lines-requires-clause-free g c =
+    let old : List ℕ = c.args.bytes.now.items in
+    still-free old c.push.new.into.items (still_decoded c.push.new.self []) (still_decoded c.args.decoder.now (c.args.line.now ∷ [])) c.min.result (c.in-Ok.ensures [])
+    (omega arith) (omega arith) (held-free old c.requires)
+
+pub take_lines-requires-clause-few : goal.take_lines-requires-clause-few
+take_lines-requires-clause-few g c = omega (arith, line_end-open c.args.bytes.now.items (sym c.requires))
 
 pub returns-in-Ok-clause-hands : goal.returns-in-Ok-clause-hands
 returns-in-Ok-clause-hands g c =
