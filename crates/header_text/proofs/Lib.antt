@@ -1,14 +1,15 @@
-mod Fronts
+pub mod Fronts
 mod PlaceLemmas
 mod HeaderLemmas
 mod PushLemmas
-mod CutLemmas
+pub mod CutLemmas
 mod UnfoldLemmas
 mod UnfoldSizes
 mod IdLemmas
 mod CharsetLemmas
 mod LossyBytes
 mod CharacterLemmas
+pub mod OwnTexts
 mod EscapeLemmas
 mod GroupLemmas
 mod ReaderLemmas

@@ -1,6 +1,6 @@
 //! Spaces and tabs.
 ghost use Rattle.std.specs.Prelude.{◌≡◌};
-ghost use Rattle.header_text.specs.Blanks.{is_blank as is_blank_of, after_blanks as after_blanks_of, before_blanks as before_blanks_of};
+ghost use Rattle.header_text.specs.Blanks.{is_blank as is_blank_of, after_blanks as after_blanks_of, before_blanks as before_blanks_of, trimmed as trimmed_of};
 
 /// A space or a tab.
 pub fn is_blank(b: u8) -> bool
@@ -35,4 +35,11 @@ pub fn before_blanks(bytes: &[u8]) -> &[u8]
         rest = others;
     }
     rest
+}
+
+/// The bytes without spaces and tabs at both ends.
+pub fn trimmed(bytes: &[u8]) -> &[u8]
+    ensures { result.now ≡ trimmed_of bytes.now }
+{
+    before_blanks(after_blanks(bytes))
 }

@@ -59,7 +59,7 @@ fn windows_1252_character(b: u8) -> char
 }
 
 /// Whether a label is this name, in any ASCII case.
-fn is_named(label: &[u8], name: &[u8]) -> bool
+pub fn is_named(label: &[u8], name: &[u8]) -> bool
     requires { map to_ascii_lowercase name.now ≡ name.now }
     ensures { result ≡ bytes_eq (str_to_ascii_lowercase label.now) name.now }
 {

@@ -17,7 +17,9 @@ mod text;
 mod unfolding;
 
 pub use base64_reader::Base64;
-pub use charset::Charset;
+pub use blanks::{after_blanks, before_blanks, trimmed};
+pub use charset::{Charset, is_named};
+pub use cut::cut_at;
 pub use encoded_word::{decode_words, decode_words_into};
 pub use escape::unescape_into;
 pub use field::Field;

@@ -18,7 +18,7 @@ pub fn is_separator(line: &[u8]) -> bool
 
 /// The line without its final LF and a CR directly before it.
 #[tactic(auto, unfolding(crate::specs::Separators::without_break))]
-fn without_break(line: &[u8]) -> &[u8]
+pub fn without_break(line: &[u8]) -> &[u8]
     ensures { result.now ≡ without_break line.now }
 {
     if let Some(text) = line.strip_suffix(b"\r\n") {

@@ -1,2 +1,15 @@
 mod FlagLemmas
 mod StreamLaws
+mod ParameterLemmas
+mod TagLemmas
+mod TagReads
+mod Handing
+mod LineSteps
+mod LineEnds
+mod RowsTypes
+mod RowsBodies
+mod FrameLemmas
+mod GivingLemmas
+mod StepLemmas
+mod PassingLemmas
+mod FedLemmas

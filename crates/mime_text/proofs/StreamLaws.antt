@@ -6,10 +6,13 @@ use Rattle.std.proofs.lemmas.List.{append-nil}
 use Rattle.std.proofs.lemmas.Grind.{flat_map-append}
 use Rattle.mbox_cutter.specs.Lines.{is_empty}
 use Rattle.header_text.specs.Headers.{HeaderField, lines_before_empty, lines_within, fields_in, fields_of, most_in_header}
-use Rattle.mime_text.specs.declared.default_type.DefaultType.{DefaultType}
-use Rattle.mime_text.specs.declared.default_type.DefaultType.TheVariants.{TextPlain}
-use Rattle.mime_text.specs.Parts.{Shape, Multipart, Message, Text, Other, Part, Counted, Leaf, body_lines, is_closing, is_delimiter, preamble_and_pieces, pieces, parts, parts_by, is_left}
-use Rattle.mime_text.specs.Stream.{Frame, Place, Skip, InHeader, InLeaf, or_else, own_hit, hit, counted_part, value, behind_header, inner_step, step_by, given}
+use Rattle.mime_text.specs.declared.shape.DefaultType.{DefaultType}
+use Rattle.mime_text.specs.declared.shape.DefaultType.TheVariants.{TextPlain}
+use Rattle.mime_text.specs.declared.shape.Shape.{Shape}
+use Rattle.mime_text.specs.declared.shape.Shape.TheVariants.{Multipart, Message, Text, Other}
+use Rattle.mime_text.specs.declared.frame.Frame.{Frame}
+use Rattle.mime_text.specs.Parts.{Part, Counted, Leaf, body_lines, is_closing, is_delimiter, preamble_and_pieces, pieces, parts, parts_by, is_left}
+use Rattle.mime_text.specs.Stream.{Place, Skip, InHeader, InLeaf, or_else, own_hit, hit, counted_part, value, behind_header, inner_step, step_by, given}
 
 abbrev Line : Type 0
 Line = List ℕ

@@ -3,3 +3,17 @@ pub mod MessageFacts
 pub mod Sinks
 pub mod Parts
 pub mod Stream
+pub mod Frames
+pub mod Parameters
+pub mod Types
+pub mod Transfer
+pub mod Tags
+pub mod LeafTexts
+pub mod OpenTags
+pub mod Decoders
+pub mod LeafReading
+pub mod Showing
+pub mod Texts
+pub mod Passing
+pub mod Feeding
+pub mod Fed

@@ -1,19 +1,15 @@
 -- The parts of a message (RFC 2046), the outermost split first.
-use Rattle.std.specs.Prelude.{ℕ, zero, suc, Bool, true, false, ◌&&◌, nat_eq, List, [], ◌∷◌, ◌++◌, length, drop, flat_map, if◌then◌else◌}
-use Rattle.std.specs.List.{list_all, starts_with}
+use Rattle.std.specs.Prelude.{ℕ, zero, suc, Bool, true, false, List, [], ◌∷◌, ◌++◌, Option, Some, None, flat_map, if◌then◌else◌}
+use Rattle.std.specs.List.{list_all}
 use Rattle.mbox_cutter.specs.Lines.{is_empty}
 use Rattle.mbox_cutter.specs.Separators.{without_break}
 use Rattle.header_text.specs.Blanks.{is_blank}
+use Rattle.header_text.specs.EncodedWords.{after}
 use Rattle.header_text.specs.Headers.{HeaderField, fields_of}
-use Rattle.mime_text.specs.declared.default_type.DefaultType.{DefaultType}
-use Rattle.mime_text.specs.declared.default_type.DefaultType.TheVariants.{TextPlain}
-
--- what an entity is, by its header
-pub data Shape : Type 0 where
-  Multipart : (boundary : List ℕ) → DefaultType → Shape
-  Message : Shape
-  Text : (is_html : Bool) → Shape
-  Other : Shape
+use Rattle.mime_text.specs.declared.shape.DefaultType.{DefaultType}
+use Rattle.mime_text.specs.declared.shape.DefaultType.TheVariants.{TextPlain}
+use Rattle.mime_text.specs.declared.shape.Shape.{Shape}
+use Rattle.mime_text.specs.declared.shape.Shape.TheVariants.{Multipart, Message, Text, Other}
 
 -- what gives texts: a header that counts for the whole message, or a leaf of the tree
 pub data Part : Type 0 where
@@ -25,10 +21,14 @@ abbrev pub body_lines : List (List ℕ) → List (List ℕ)
 body_lines [] = []
 body_lines (l ∷ ls) = elim (is_empty l) [ true ↦ ls | false ↦ body_lines ls ]
 
+-- some bytes are there, and blanks alone
+abbrev pub are_blanks : Option (List ℕ) → Bool
+are_blanks None = false
+are_blanks (Some bytes) = list_all is_blank bytes
+
 -- two dashes and the boundary, then blanks alone, before the line break (RFC 2046, 5.1.1)
 unfoldable pub is_delimiter : List ℕ → List ℕ → Bool
-is_delimiter boundary l = let mark = 0x2D ∷ 0x2D ∷ boundary in
-    starts_with nat_eq (without_break l) mark && list_all is_blank (drop (length mark) (without_break l))
+is_delimiter boundary l = are_blanks (after (0x2D ∷ 0x2D ∷ boundary) (without_break l))
 
 -- the same with two dashes behind the boundary
 abbrev pub is_closing : List ℕ → List ℕ → Bool

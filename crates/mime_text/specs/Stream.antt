@@ -2,15 +2,12 @@
 use Rattle.std.specs.Prelude.{ℕ, zero, suc, Bool, true, false, cond, List, [], ◌∷◌, ◌++◌, Option, Some, None, flat_map}
 use Rattle.mbox_cutter.specs.Lines.{is_empty}
 use Rattle.header_text.specs.Headers.{HeaderField, fields_of}
-use Rattle.mime_text.specs.declared.default_type.DefaultType.{DefaultType}
-use Rattle.mime_text.specs.declared.default_type.DefaultType.TheVariants.{TextPlain}
-use Rattle.mime_text.specs.Parts.{Shape, Multipart, Message, Text, Other, Part, Counted, Leaf, is_closing, is_delimiter, parts}
-
--- a multipart that is open: its boundary, what its pieces are, and how many depths are left below them
-pub record Frame : Type 0 where
-  pub boundary : List ℕ
-  pub default : DefaultType
-  pub left : ℕ
+use Rattle.mime_text.specs.declared.shape.DefaultType.{DefaultType}
+use Rattle.mime_text.specs.declared.shape.DefaultType.TheVariants.{TextPlain}
+use Rattle.mime_text.specs.declared.shape.Shape.{Shape}
+use Rattle.mime_text.specs.declared.shape.Shape.TheVariants.{Multipart, Message, Text, Other}
+use Rattle.mime_text.specs.declared.frame.Frame.{Frame}
+use Rattle.mime_text.specs.Parts.{Part, Counted, Leaf, is_closing, is_delimiter, parts}
 
 -- what the next line belongs to: to nothing that gives texts; to the header of an entity below which so many depths are left,
 -- behind these lines; or to a leaf that gives this of the lines that it still has

@@ -1,8 +1,9 @@
 //! What holds of the definitions that the contracts cite.
 ghost use Rattle.std.specs.Prelude.{◌≡◌, ℕ, suc, List, [], ◌++◌, Bool, flat_map};
 ghost use Rattle.header_text.specs.Headers.{HeaderField};
-ghost use Rattle.mime_text.specs.declared.default_type.DefaultType.{DefaultType};
-ghost use Rattle.mime_text.specs.Parts.{Shape, Part, parts};
+ghost use Rattle.mime_text.specs.declared.shape.DefaultType.{DefaultType};
+ghost use Rattle.mime_text.specs.declared.shape.Shape.{Shape};
+ghost use Rattle.mime_text.specs.Parts.{Part, parts};
 ghost use Rattle.mime_text.specs.Stream.{given, InHeader, counted_part};
 
 /// A stack of boundaries, one line at a time, gives the parts of the split that takes the outermost boundaries first. It does

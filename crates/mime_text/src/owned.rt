@@ -111,6 +111,13 @@ impl MessageIds {
         Ok(())
     }
 
+    /// Each is sized. It does nothing.
+    pub(crate) fn know_sizes(&self)
+        ensures { All IsSizedId self.now }
+    {
+        let _ids = &self.ids;
+    }
+
     /// The ids, in order.
     pub fn as_slice(&self) -> &[Vec<u8>]
         ensures ids { map (λ id. id.items) result.now ≡ self.now }

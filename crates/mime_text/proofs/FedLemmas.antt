@@ -1,0 +1,69 @@
+-- Lines fed and pairs given.
+use Rattle.std.proofs.Common.{◌≡◌, ◌∙◌, ◌++◌, ℕ, Bool, false, List, [], ◌∷◌, refl, sym, ap, append_assoc}
+use Rattle.std.specs.Prelude.{Result, Ok, Err, OnOk, IfErr}
+use Rattle.std.proofs.lemmas.List.{append-nil}
+use Rattle.mail_words.specs.declared.kind.TextKind.{TextKind}
+use Rattle.mime_text.specs.declared.fault.SinkFault.{SinkFault}
+use Rattle.mime_text.specs.declared.fault.TextFault.{TextFault}
+use Rattle.mime_text.specs.declared.message_text.MessageText.{MessageText}
+use Rattle.mime_text.specs.Sinks.{Pair, Coming}
+use Rattle.mime_text.specs.Texts.{texts_of_message}
+use Rattle.mime_text.specs.Passing.{Passed, Stopped, Passes, IsOver}
+use Rattle.mime_text.specs.Feeding.{Comes, KnowsFacts}
+use Rattle.mime_text.specs.Fed.{Fed, Feeds, FeedsPart, Finishes, FinishesPart}
+
+abbrev Line : Type 0
+Line = List ℕ
+
+module _ {S : Type 0} (takes : S → TextKind → List ℕ → S → Type 0) (refuses : S → TextKind → List ℕ → SinkFault → S → Type 0) where
+  pub feeds : (m n : MessageText) (l : Line) (s t : S) → n.failed ≡ m.failed → Passed takes refuses (Comes m.reader) (Comes n.reader) (λ c ms. c (l ∷ ms)) s t
+      → ((ls : List Line) → KnowsFacts m.reader ls → KnowsFacts n.reader (ls ++ l ∷ [])) → Feeds takes refuses m n l s t
+  feeds m n l s t q h k =
+      record {
+        pairs = h.pairs;
+        taken = h.taken;
+        fed = λ ls ps f. record {
+          live = q ∙ f.live;
+          coming = (h.rest f.coming f.comes).0;
+          comes = (h.rest f.coming f.comes).1;
+          texts = λ ms. ap texts_of_message (append_assoc ls (l ∷ []) ms) ∙ f.texts (l ∷ ms) ∙ ap (λ (x : List Pair). ps ++ x) ((h.rest f.coming f.comes).2 ms)
+            ∙ sym (append_assoc ps h.pairs ((h.rest f.coming f.comes).0 ms));
+          facts = k ls f.facts;
+        };
+      }
+
+  pub feeds-part : (m : MessageText) (l : Line) (fault : TextFault) (s t : S) → Stopped takes refuses (Comes m.reader) (λ c ms. c (l ∷ ms)) fault s t → FeedsPart takes refuses m l fault s t
+  feeds-part m l fault s t h =
+      record {
+        pairs = h.pairs;
+        broken = h.broken;
+        front = λ ls ps f ms. ((h.front f.coming f.comes ms).0, f.texts (l ∷ ms) ∙ ap (λ (x : List Pair). ps ++ x) (h.front f.coming f.comes ms).1
+          ∙ sym (append_assoc ps h.pairs (h.front f.coming f.comes ms).0));
+      }
+
+  pub finishes : (m : MessageText) (s t : S) → Passed takes refuses (Comes m.reader) IsOver (λ c _. c []) s t → Finishes takes refuses m s t
+  finishes m s t h =
+      record {
+        pairs = h.pairs;
+        taken = h.taken;
+        whole = λ ls ps f. ap texts_of_message (sym (append-nil ls)) ∙ f.texts []
+          ∙ ap (λ (x : List Pair). ps ++ x) ((h.rest f.coming f.comes).2 [] ∙ ap (λ (x : List Pair). h.pairs ++ x) ((h.rest f.coming f.comes).1 []) ∙ append-nil h.pairs);
+      }
+
+  pub finishes-part : (m : MessageText) (fault : TextFault) (s t : S) → Stopped takes refuses (Comes m.reader) (λ c _. c []) fault s t → FinishesPart takes refuses m fault s t
+  finishes-part m fault s t h =
+      record {
+        pairs = h.pairs;
+        broken = h.broken;
+        front = λ ls ps f. ((h.front f.coming f.comes []).0, ap texts_of_message (sym (append-nil ls)) ∙ f.texts [] ∙ ap (λ (x : List Pair). ps ++ x) (h.front f.coming f.comes []).1
+          ∙ sym (append_assoc ps h.pairs (h.front f.coming f.comes []).0));
+      }
+
+  pub finishes-at : {T : Type 0} (m : MessageText) (result : Result T TextFault) (s t : S) → Passes takes refuses (Comes m.reader) IsOver (λ c _. c []) result s t → OnOk result (Finishes takes refuses m s t)
+  finishes-at m (Ok x) s t h = finishes m s t h
+  finishes-at m (Err fault) s t h = tt
+
+  pub finishes-part_at : {T : Type 0} (m : MessageText) (result : Result T TextFault) (s t : S) → Passes takes refuses (Comes m.reader) IsOver (λ c _. c []) result s t
+      → IfErr result (λ fault. FinishesPart takes refuses m fault s t)
+  finishes-part_at m (Ok x) s t h = tt
+  finishes-part_at m (Err fault) s t h = finishes-part m fault s t h

@@ -1,0 +1,199 @@
+-- Delimiter lines, and the multiparts that are open.
+use Rattle.std.proofs.Common.{◌≡◌, ◌∙◌, ◌≤◌, ◌<◌, ◌+◌, ◌-◌, ◌++◌, ◌==◌, ℕ, zero, suc, Bool, true, false, cond, List, [], ◌∷◌, Option, Some, None, length, take, drop, refl, sym, ap, arith, add-one, get_or, Bor}
+use Rattle.std.specs.Prelude.{slice_get, option_map, MatchOption}
+use Rattle.std.specs.List.{list_all}
+use Rattle.std.specs.Str.{bytes_eq}
+use Rattle.std.proofs.lemmas.Option.{slice_get-get_or}
+use Rattle.mbox_cutter.specs.Separators.{without_break}
+use Rattle.header_text.specs.Blanks.{is_blank}
+use Rattle.header_text.specs.EncodedWords.{after}
+use Rattle.mime_text.specs.declared.shape.DefaultType.{DefaultType}
+use Rattle.mime_text.specs.declared.frame.Frame.{Frame}
+use Rattle.mime_text.specs.declared.delimiter.Delimiter.{Delimiter}
+use Rattle.mime_text.specs.declared.delimiter.Delimiter.TheVariants.{Next, Closing}
+use Rattle.mime_text.specs.Parts.{are_blanks, is_delimiter, is_closing}
+use Rattle.mime_text.specs.Stream.{Place, Skip, InHeader, or_else, own_hit, hit}
+use Rattle.mime_text.specs.Frames.{dash_dash, dashes, kind_behind, delimiter_of, led, scan, inside_out, opened, AreNested}
+
+-- ---- a front of some bytes
+
+-- what follows the second front, behind the first
+abbrev then_after : Option (List ℕ) → List ℕ → Option (List ℕ)
+then_after None b = None
+then_after (Some rest) b = after b rest
+
+after-append : (a b bytes : List ℕ) → after (a ++ b) bytes ≡ then_after (after a bytes) b
+after-append [] b bytes = refl
+after-append (c ∷ a) b [] = refl
+after-append (c ∷ a) b (x ∷ bytes) = go (x == c) refl (after-append a b bytes)
+  where
+    go : (t : Bool) → (x == c) ≡ t → after (a ++ b) bytes ≡ then_after (after a bytes) b → after ((c ∷ a) ++ b) (x ∷ bytes) ≡ then_after (after (c ∷ a) (x ∷ bytes)) b
+    go true e later = rw (e, after) later
+    go false e later = rw (e, after) refl
+
+after-tested : (front bytes : List ℕ) → after front bytes ≡ cond (bytes_eq (take (length front) bytes) front) (Some (drop (length front) bytes)) None
+after-tested [] bytes = refl
+after-tested (c ∷ front) [] = refl
+after-tested (c ∷ front) (x ∷ bytes) = go (x == c) refl (after-tested front bytes)
+  where
+    go : (t : Bool) → (x == c) ≡ t → after front bytes ≡ cond (bytes_eq (take (length front) bytes) front) (Some (drop (length front) bytes)) None
+        → after (c ∷ front) (x ∷ bytes) ≡ cond (bytes_eq (take (length (c ∷ front)) (x ∷ bytes)) (c ∷ front)) (Some (drop (length (c ∷ front)) (x ∷ bytes))) None
+    go true e later = rw (e, after) later
+    go false e later = rw (e, after) refl
+
+-- what `strip_prefix` answers
+pub after-stripped : (front bytes : List ℕ) (r : Option (Bor (List ℕ)))
+    → MatchOption r (bytes_eq (take (length front) bytes) front ≡ false) (λ x. (bytes_eq (take (length front) bytes) front ≡ true) × (x.now ≡ drop (length front) bytes) × (length x.now + length front ≡ length bytes))
+    → option_map (λ x. x.now) r ≡ after front bytes
+after-stripped front bytes None h = sym (after-tested front bytes ∙ ap (λ (t : Bool). cond t (Some (drop (length front) bytes)) None) h)
+after-stripped front bytes (Some x) h = ap (λ (t : List ℕ). Some t) h.1 ∙ sym (after-tested front bytes ∙ ap (λ (t : Bool). cond t (Some (drop (length front) bytes)) None) h.0)
+
+-- ---- delimiters
+
+abbrev led_by : {A : Type 0} → Option (List ℕ) → Frame → List Frame → Option (List Frame × Place A)
+led_by None f outer = None
+led_by (Some text) f outer = led (delimiter_of f.boundary text) f outer
+
+own_hit-is : {A : Type 0} (l : List ℕ) (f : Frame) (outer : List Frame) → own_hit {A = A} (is_closing f.boundary l) (is_delimiter f.boundary l) f outer ≡ led_by (dashes l) f outer
+unfolding is_delimiter dashes delimiter_of
+own_hit-is {A} l f outer =
+    rw (after-append dash_dash f.boundary (without_break l), after-append dash_dash (f.boundary ++ dash_dash) (without_break l)) (by_dashes (after dash_dash (without_break l)))
+  where
+    by_bools : (closing blank : Bool) → own_hit {A = A} closing blank f outer ≡ led (cond closing (Some Closing) (cond blank (Some Next) None)) f outer
+    by_bools true blank = refl
+    by_bools false true = refl
+    by_bools false false = refl
+
+    by_rest : (o : Option (List ℕ)) → own_hit {A = A} (are_blanks (then_after o dash_dash)) (are_blanks o) f outer ≡ led (kind_behind o) f outer
+    by_rest None = refl
+    by_rest (Some rest) = by_bools (are_blanks (after dash_dash rest)) (are_blanks (Some rest))
+
+    by_dashes : (o : Option (List ℕ)) → own_hit {A = A} (are_blanks (then_after o (f.boundary ++ dash_dash))) (are_blanks (then_after o f.boundary)) f outer ≡ led_by o f outer
+    by_dashes None = refl
+    by_dashes (Some text) = rw (after-append f.boundary dash_dash text) (by_rest (after f.boundary text))
+
+-- ---- the outermost that a line delimits
+
+abbrev pub scan_by : {A : Type 0} → Option (List ℕ) → List Frame → List Frame → Option (List Frame × Place A)
+scan_by None outer fs = None
+scan_by (Some text) outer fs = scan outer fs text
+
+or_else-assoc : {A : Type 0} (a b c : Option A) → or_else (or_else a b) c ≡ or_else a (or_else b c)
+or_else-assoc None b c = refl
+or_else-assoc (Some x) b c = refl
+
+or_else-none : {A : Type 0} (a : Option A) → or_else a None ≡ a
+or_else-none None = refl
+or_else-none (Some x) = refl
+
+hit_inside : {A : Type 0} (l : List ℕ) (fs outer : List Frame) → hit {A = A} (inside_out fs outer) l ≡ or_else (hit outer l) (scan_by (dashes l) outer fs)
+hit_inside {A} l [] outer = go (dashes l)
+  where
+    go : (o : Option (List ℕ)) → hit {A = A} outer l ≡ or_else (hit outer l) (scan_by o outer [])
+    go None = sym (or_else-none (hit outer l))
+    go (Some text) = sym (or_else-none (hit outer l))
+hit_inside {A} l (f ∷ fs) outer =
+    hit_inside l fs (f ∷ outer)
+    ∙ ap (λ (o : Option (List Frame × Place A)). or_else (or_else (hit outer l) o) (scan_by (dashes l) (f ∷ outer) fs)) (own_hit-is l f outer)
+    ∙ or_else-assoc (hit outer l) (led_by (dashes l) f outer) (scan_by (dashes l) (f ∷ outer) fs)
+    ∙ ap (or_else (hit outer l)) (go (dashes l))
+  where
+    go : (o : Option (List ℕ)) → or_else (led_by {A = A} o f outer) (scan_by o (f ∷ outer) fs) ≡ scan_by o outer (f ∷ fs)
+    go None = refl
+    go (Some text) = refl
+
+pub hit-is : {A : Type 0} (l : List ℕ) (fs : List Frame) → hit {A = A} (inside_out fs []) l ≡ scan_by (dashes l) [] fs
+hit-is l fs = hit_inside l fs []
+
+-- behind a multipart that the line doesn't delimit, or at one that it does
+pub scan-at : {A : Type 0} (text : List ℕ) (fs : List Frame) (n : ℕ) (outer : List Frame) (f : Frame) → slice_get fs n ≡ Some f
+    → scan {A = A} (inside_out (take n fs) outer) (drop n fs) text
+    ≡ or_else (led (delimiter_of f.boundary text) f (inside_out (take n fs) outer)) (scan (inside_out (take (suc n) fs) outer) (drop (suc n) fs) text)
+scan-at text [] n outer f e = absurd (cc)
+scan-at {A} text (g ∷ gs) zero outer f e =
+    let same : g ≡ f = cc in
+    ap (λ (x : Frame). or_else (led {A = A} (delimiter_of x.boundary text) x outer) (scan (g ∷ outer) gs text)) same
+scan-at text (g ∷ gs) (suc n) outer f e = scan-at text gs n (g ∷ outer) f e
+
+pub inside_out-at : (fs : List Frame) (n : ℕ) (outer : List Frame) (f : Frame) → slice_get fs n ≡ Some f → inside_out (take (suc n) fs) outer ≡ f ∷ inside_out (take n fs) outer
+inside_out-at [] n outer f e = absurd (cc)
+inside_out-at (g ∷ gs) zero outer f e =
+    let same : g ≡ f = cc in
+    ap (λ (x : Frame). x ∷ outer) same
+inside_out-at (g ∷ gs) (suc n) outer f e = inside_out-at gs n (g ∷ outer) f e
+
+pub inside_out-push : (fs outer : List Frame) (f : Frame) → inside_out (fs ++ f ∷ []) outer ≡ f ∷ inside_out fs outer
+inside_out-push [] outer f = refl
+inside_out-push (g ∷ gs) outer f = inside_out-push gs (g ∷ outer) f
+
+-- ---- how deep they lie
+
+pub AreNested-push : (above : ℕ) (fs : List Frame) (f : Frame) → AreNested above fs → above + length fs + 1 + f.left ≤ 16 → AreNested above (fs ++ f ∷ [])
+AreNested-push above [] f h e = (omega arith, tt)
+AreNested-push above (g ∷ gs) f h e = (h.0, AreNested-push (above + 1) gs f h.1 (omega arith))
+
+pub AreNested-take : (above : ℕ) (fs : List Frame) (n : ℕ) → AreNested above fs → AreNested above (take n fs)
+AreNested-take above fs zero h = tt
+AreNested-take above [] (suc n) h = tt
+AreNested-take above (g ∷ gs) (suc n) h = (h.0, AreNested-take (above + 1) gs n h.1)
+
+pub AreNested-at : (above : ℕ) (fs : List Frame) (n : ℕ) (f : Frame) → AreNested above fs → slice_get fs n ≡ Some f → above + n + 1 + f.left ≤ 16
+AreNested-at above [] n f h e = absurd (cc)
+AreNested-at above (g ∷ gs) zero f h e =
+    let same : g.left ≡ f.left = cc in
+    omega (arith, h.0, same)
+AreNested-at above (g ∷ gs) (suc n) f h e = omega (arith, AreNested-at (above + 1) gs n f h.1 e)
+
+-- a multipart more
+pub open-frames : (fs : List Frame) (left : ℕ) (boundary : List ℕ) (d : DefaultType) → 0 < left
+    → inside_out (fs ++ record { boundary = boundary; default = d; left = left - 1 } ∷ []) [] ≡ opened left boundary d (inside_out fs [])
+open-frames fs zero boundary d h = absurd (omega arith)
+open-frames fs (suc left) boundary d h =
+    inside_out-push fs [] (record { boundary = boundary; default = d; left = suc left - 1 })
+    ∙ (let e : suc left - 1 ≡ left = omega arith in ap (λ (n : ℕ). record { boundary = boundary; default = d; left = n } ∷ inside_out fs []) e)
+
+-- ---- where a delimiter leads
+
+pub or_else-led : {A : Type 0} (k : Delimiter) (f : Frame) (outer : List Frame) (o : Option (List Frame × Place A)) → or_else (led (Some k) f outer) o ≡ led (Some k) f outer
+or_else-led Next f outer o = refl
+or_else-led Closing f outer o = refl
+
+-- the element of an index that a loop or a place reads
+pub got-at : (fs : List Frame) (n : ℕ) (f : Frame) → n < length fs → f ≡ get_or fs n f → slice_get fs n ≡ Some f
+got-at fs n f h e = slice_get-get_or fs n f h ∙ ap (λ (x : Frame). Some x) (sym e)
+
+pub no_dashes : {A : Type 0} (l : List ℕ) (frames : List Frame) → dashes l ≡ None → hit {A = A} frames l ≡ None
+no_dashes l [] e = refl
+no_dashes {A} l (f ∷ outer) e =
+    ap (λ (o : Option (List Frame × Place A)). or_else o (own_hit (is_closing f.boundary l) (is_delimiter f.boundary l) f outer)) (no_dashes l outer e)
+    ∙ own_hit-is l f outer ∙ ap (λ (o : Option (List ℕ)). led_by {A = A} o f outer) e
+
+pub scanned : {A : Type 0} (l text : List ℕ) (frames fs seen : List Frame) (o : Option (List Frame × Place A))
+    → frames ≡ inside_out fs [] → seen ≡ fs → dashes l ≡ Some text → scan [] seen text ≡ o → hit frames l ≡ o
+scanned {A} l text frames fs seen o v q e s =
+    ap (λ (x : List Frame). hit {A = A} x l) v ∙ hit-is l fs ∙ ap (λ (t : Option (List ℕ)). scan_by {A = A} t [] fs) e
+    ∙ ap (λ (x : List Frame). scan {A = A} [] x text) (sym q) ∙ s
+
+-- what is found of the multipart that a line delimits
+abbrev pub Found : (A : Type 0) → List Frame → List ℕ → ℕ → Delimiter → Type 0
+Found A seen text n k = (f : Frame) × (slice_get seen n ≡ Some f) × (scan {A = A} [] seen text ≡ led (Some k) f (inside_out (take n seen) []))
+
+pub closing-leads : {A : Type 0} (l text : List ℕ) (frames fs seen kept : List Frame) (n : ℕ) (k : Delimiter)
+    → frames ≡ inside_out fs [] → seen ≡ fs → dashes l ≡ Some text → k ≡ Closing → Found A seen text n k → kept ≡ take n fs
+    → Some (inside_out kept [], Skip) ≡ hit {A = A} frames l
+closing-leads {A} l text frames fs seen kept n k v q e is found t =
+    let here : kept ≡ take n seen = t ∙ ap (take n) (sym q) in
+    sym (scanned l text frames fs seen (Some (inside_out kept [], Skip)) v q e
+      (found.2 ∙ ap (λ (x : Delimiter). led {A = A} (Some x) found.0 (inside_out (take n seen) [])) is ∙ ap (λ (x : List Frame). Some (inside_out x [], Skip)) (sym here)))
+
+pub next-leads : {A : Type 0} (l text : List ℕ) (frames fs seen kept : List Frame) (n : ℕ) (k : Delimiter) (g : Frame)
+    → frames ≡ inside_out fs [] → seen ≡ fs → dashes l ≡ Some text → k ≡ Next → Found A seen text n k → slice_get fs n ≡ Some g → kept ≡ take (n + 1) fs
+    → Some (inside_out kept [], InHeader false g.left g.default []) ≡ hit {A = A} frames l
+next-leads {A} l text frames fs seen kept n k g v q e is found got t =
+    let here : kept ≡ take (suc n) seen = t ∙ rw add-one (ap (take (suc n)) (sym q)) in
+    let same : found.0 ≡ g = let a : slice_get fs n ≡ Some found.0 = ap (λ (x : List Frame). slice_get x n) (sym q) ∙ found.1 in cc in
+    let inner : List Frame = inside_out (take n seen) [] in
+    sym (scanned l text frames fs seen (Some (inside_out kept [], InHeader false g.left g.default [])) v q e
+      (found.2 ∙ ap (λ (x : Delimiter). led {A = A} (Some x) found.0 inner) is
+        ∙ ap (λ (x : List Frame). Some (x, InHeader false found.0.left found.0.default [])) (sym (inside_out-at seen n [] found.0 found.1) ∙ ap (λ (x : List Frame). inside_out x []) (sym here))
+        ∙ ap (λ (f : Frame). Some (inside_out kept [], InHeader false f.left f.default [])) same))

@@ -1,0 +1,73 @@
+-- Texts of fields that a sink is given.
+use Rattle.std.proofs.Common.{◌≡◌, ◌∙◌, ◌++◌, ◌≤◌, ◌+◌, ℕ, Bool, true, false, List, [], ◌∷◌, Option, Some, None, length, refl, sym, ap, arith, cond, append_assoc}
+use Rattle.std.proofs.lemmas.List.{append-nil}
+use Rattle.std.specs.Prelude.{option_map}
+use Rattle.std.specs.List.{cons_option}
+use Rattle.header_text.specs.Headers.{HeaderField}
+use Rattle.mail_words.specs.declared.kind.TextKind.{TextKind}
+use Rattle.mail_words.specs.declared.kind.TextKind.TheVariants as kind
+use Rattle.mime_text.specs.declared.fault.SinkFault.{SinkFault}
+use Rattle.mime_text.specs.declared.fault.TextFault.{TextFault}
+use Rattle.mime_text.specs.declared.fault.TextFault.TheVariants.{OutOfMemory, Sink, Failed}
+use Rattle.mime_text.specs.Sinks.{Pair, Coming, TakesAll, Breaks, Gave, Broke, most_in_text}
+use Rattle.mime_text.specs.FieldTexts.{is_name, kind_of_field, text_of_body, texts_of_fields}
+
+abbrev with_text : HeaderField → TextKind → Pair
+with_text f k = (k, text_of_body f.body)
+
+pub texts-none : (f : HeaderField) → kind_of_field f.name ≡ None → texts_of_fields (f ∷ []) ≡ []
+texts-none f e = ap (λ (o : Option TextKind). cons_option (option_map (with_text f) o) []) e
+
+pub texts-some : (f : HeaderField) (k : TextKind) → kind_of_field f.name ≡ Some k → texts_of_fields (f ∷ []) ≡ (k, text_of_body f.body) ∷ []
+texts-some f k e = ap (λ (o : Option TextKind). cons_option (option_map (with_text f) o) []) e
+
+pub texts-cons : (f : HeaderField) (fs : List HeaderField) → texts_of_fields (f ∷ fs) ≡ texts_of_fields (f ∷ []) ++ texts_of_fields fs
+texts-cons f fs = go (option_map (with_text f) (kind_of_field f.name))
+  where
+    go : (o : Option Pair) → cons_option o (texts_of_fields fs) ≡ cons_option o [] ++ texts_of_fields fs
+    go None = refl
+    go (Some p) = refl
+
+-- the text of a field has at most three bytes for each of a header
+pub most-of-field : (name : List ℕ) (k : TextKind) → kind_of_field name ≡ Some k → most_in_text k ≡ 786432
+most-of-field name kind.To e = refl
+most-of-field name kind.Cc e = refl
+most-of-field name kind.Bcc e = refl
+most-of-field name kind.From e = refl
+most-of-field name kind.Subject e = refl
+most-of-field name kind.Body e = absurd (no_body _ _ _ _ _ e)
+  where
+    no_body : (a b c d f : Bool) → cond a (Some kind.To) (cond b (Some kind.Cc) (cond c (Some kind.Bcc) (cond d (Some kind.From) (cond f (Some kind.Subject) None)))) ≡ Some kind.Body → ⊥
+    no_body true b c d f e = cc
+    no_body false true c d f e = cc
+    no_body false false true d f e = cc
+    no_body false false false true f e = cc
+    no_body false false false false true e = cc
+    no_body false false false false false e = cc
+
+module _ {S : Type 0} (takes : S → TextKind → List ℕ → S → Type 0) (refuses : S → TextKind → List ℕ → SinkFault → S → Type 0) where
+  pub gave-none : (A : Coming) (s t : S) → ((ms : List (List ℕ)) → A ms ≡ []) → t ≡ s → Gave takes refuses A (λ _. []) s t
+  gave-none A s t e q = record { pairs = []; taken = q; rest = e }
+
+  pub gave-one : (A : Coming) (p : Pair) (s t : S) → ((ms : List (List ℕ)) → A ms ≡ p ∷ []) → takes s p.0 p.1 t → Gave takes refuses A (λ _. []) s t
+  gave-one A p s t e h = record { pairs = p ∷ []; taken = (t, h, refl); rest = e }
+
+  pub broke-one : (A : Coming) (p : Pair) (fault : SinkFault) (s t : S) → ((ms : List (List ℕ)) → A ms ≡ p ∷ []) → refuses s p.0 p.1 fault t → Broke takes refuses A (Sink fault) s t
+  broke-one A p fault s t e h = record { pairs = p ∷ []; broken = ([], p, s, refl, refl, h); front = λ ms. ([], e ms) }
+
+  -- in front of more
+  pub gave-front : (A B R : Coming) (s t : S) → ((ms : List (List ℕ)) → B ms ≡ A ms ++ R ms) → Gave takes refuses A (λ _. []) s t → Gave takes refuses B R s t
+  gave-front A B R s t e h =
+      record { pairs = h.pairs; taken = h.taken; rest = λ ms. e ms ∙ ap (λ (ps : List Pair). ps ++ R ms) (h.rest ms ∙ append-nil h.pairs) }
+
+  pub broke-front : (A B R : Coming) (fault : TextFault) (s t : S) → ((ms : List (List ℕ)) → B ms ≡ A ms ++ R ms) → Broke takes refuses A fault s t → Broke takes refuses B fault s t
+  broke-front A B R fault s t e h =
+      record {
+        pairs = h.pairs;
+        broken = h.broken;
+        front = λ ms. ((h.front ms).0 ++ R ms, e ms ∙ ap (λ (ps : List Pair). ps ++ R ms) (h.front ms).1 ∙ append_assoc h.pairs (h.front ms).0 (R ms));
+      }
+
+  -- the same, of what comes behind
+  pub gave-behind : (A B C : Coming) (s t : S) → ((ms : List (List ℕ)) → B ms ≡ C ms) → Gave takes refuses A B s t → Gave takes refuses A C s t
+  gave-behind A B C s t e h = record { pairs = h.pairs; taken = h.taken; rest = λ ms. h.rest ms ∙ ap (λ (ps : List Pair). h.pairs ++ ps) (e ms) }

@@ -1,0 +1,64 @@
+-- What a sink was given, call by call.
+use Rattle.std.proofs.Common.{◌≡◌, ◌∙◌, ◌++◌, ℕ, List, [], ◌∷◌, refl, sym, ap, subst, append_assoc}
+use Rattle.std.specs.Prelude.{Result, Ok, Err}
+use Rattle.mail_words.specs.declared.kind.TextKind.{TextKind}
+use Rattle.mime_text.specs.declared.fault.SinkFault.{SinkFault}
+use Rattle.mime_text.specs.declared.fault.TextFault.{TextFault}
+use Rattle.mime_text.specs.declared.fault.TextFault.TheVariants.{OutOfMemory, Sink, Failed}
+use Rattle.mime_text.specs.Sinks.{Pair, Coming, TakesAll, Breaks, Gave, Broke, Hands}
+
+module _ {S : Type 0} (takes : S → TextKind → List ℕ → S → Type 0) (refuses : S → TextKind → List ℕ → SinkFault → S → Type 0) where
+  taken-append : (ps qs : List Pair) (s t u : S) → TakesAll takes refuses ps s t → TakesAll takes refuses qs t u → TakesAll takes refuses (ps ++ qs) s u
+  taken-append [] qs s t u h k = let P : S → Type 0 = λ x. TakesAll takes refuses qs x u in subst P h k
+  taken-append (p ∷ ps) qs s t u h k = (h.0, h.1, taken-append ps qs h.0 t u h.2 k)
+
+  breaks-append : (fault : TextFault) (ps qs : List Pair) (s t u : S) → TakesAll takes refuses ps s t → Breaks takes refuses fault qs t u → Breaks takes refuses fault (ps ++ qs) s u
+  breaks-append OutOfMemory ps qs s t u h k = taken-append ps qs s t u h k
+  breaks-append (Sink fault) ps qs s t u h k =
+      (ps ++ k.0, k.1, k.2, ap (λ (l : List Pair). ps ++ l) k.3 ∙ sym (append_assoc ps k.0 (k.1 ∷ [])), taken-append ps k.0 s t k.2 h k.4, k.5)
+  breaks-append Failed ps qs s t u h k = absurd k
+
+  -- nothing
+  pub gave-nothing : (A : Coming) (s : S) → Gave takes refuses A A s s
+  gave-nothing A s = record { pairs = []; taken = refl; rest = λ ms. refl }
+
+  -- memory is wanting before anything is given
+  pub broke-memory : (A : Coming) (s : S) → Broke takes refuses A OutOfMemory s s
+  broke-memory A s = record { pairs = []; broken = refl; front = λ ms. (A ms, refl) }
+
+  -- one call behind another
+  pub gave-more : (A B C : Coming) (s t u : S) → Gave takes refuses A B s t → Gave takes refuses B C t u → Gave takes refuses A C s u
+  gave-more A B C s t u h k =
+      record {
+        pairs = h.pairs ++ k.pairs;
+        taken = taken-append h.pairs k.pairs s t u h.taken k.taken;
+        rest = λ ms. h.rest ms ∙ ap (λ (l : List Pair). h.pairs ++ l) (k.rest ms) ∙ sym (append_assoc h.pairs k.pairs (C ms));
+      }
+
+  pub broke-later : (A B : Coming) (fault : TextFault) (s t u : S) → Gave takes refuses A B s t → Broke takes refuses B fault t u → Broke takes refuses A fault s u
+  broke-later A B fault s t u h k =
+      record {
+        pairs = h.pairs ++ k.pairs;
+        broken = breaks-append fault h.pairs k.pairs s t u h.taken k.broken;
+        front = λ ms. ((k.front ms).0, h.rest ms ∙ ap (λ (l : List Pair). h.pairs ++ l) (k.front ms).1 ∙ sym (append_assoc h.pairs k.pairs (k.front ms).0));
+      }
+
+  pub hands-later : {T : Type 0} (A B C : Coming) (result : Result T TextFault) (s t u : S) → Gave takes refuses A B s t → Hands takes refuses B C result t u → Hands takes refuses A C result s u
+  hands-later A B C (Ok x) s t u h k = gave-more A B C s t u h k
+  hands-later A B C (Err fault) s t u h k = broke-later A B fault s t u h k
+
+  -- the same, said of other lines to come
+  pub gave-along : (A B A' B' : Coming) (to : List (List ℕ) → List (List ℕ)) (s t : S) → ((ms : List (List ℕ)) → A' ms ≡ A (to ms)) → ((ms : List (List ℕ)) → B' ms ≡ B (to ms))
+      → Gave takes refuses A B s t → Gave takes refuses A' B' s t
+  gave-along A B A' B' to s t p q h =
+      record { pairs = h.pairs; taken = h.taken; rest = λ ms. p ms ∙ h.rest (to ms) ∙ ap (λ (l : List Pair). h.pairs ++ l) (sym (q ms)) }
+
+  pub broke-along : (A A' : Coming) (to : List (List ℕ) → List (List ℕ)) (fault : TextFault) (s t : S) → ((ms : List (List ℕ)) → A' ms ≡ A (to ms))
+      → Broke takes refuses A fault s t → Broke takes refuses A' fault s t
+  broke-along A A' to fault s t p h =
+      record { pairs = h.pairs; broken = h.broken; front = λ ms. ((h.front (to ms)).0, p ms ∙ (h.front (to ms)).1) }
+
+  pub hands-along : {T : Type 0} (A B A' B' : Coming) (to : List (List ℕ) → List (List ℕ)) (result : Result T TextFault) (s t : S) → ((ms : List (List ℕ)) → A' ms ≡ A (to ms))
+      → ((ms : List (List ℕ)) → B' ms ≡ B (to ms)) → Hands takes refuses A B result s t → Hands takes refuses A' B' result s t
+  hands-along A B A' B' to (Ok x) s t p q h = gave-along A B A' B' to s t p q h
+  hands-along A B A' B' to (Err fault) s t p q h = broke-along A A' to fault s t p h

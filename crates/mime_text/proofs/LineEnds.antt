@@ -1,0 +1,77 @@
+-- A line's end, where its beginning was searched before.
+use Rattle.std.proofs.Common.{◌≡◌, ◌∙◌, ◌+◌, ◌<◌, ◌≤◌, ◌==◌, ◌++◌, ℕ, zero, suc, true, false, cond, List, [], ◌∷◌, Some, None, length, take, drop, sym, ap, arith, min, nat_lt}
+use Rattle.std.proofs.lemmas.Bool.Decides.{nat_tests}
+use Rattle.std.proofs.lemmas.List.{length-take, length-drop, take-append-le}
+use Rattle.memchr.specs.Find.{IsFirstByte, is_byte}
+use Rattle.mbox_cutter.specs.Lines.{length_before_feed, line_end_of}
+use Rattle.mbox_cutter.proofs.FirstLines.{length_before_feed-le, length_before_feed-take, length_before_feed-found, length_before_feed-not_found}
+
+before_feed-drop : (n : ℕ) (b : List ℕ) → n ≤ length_before_feed b → length_before_feed b ≡ n + length_before_feed (drop n b)
+before_feed-drop zero b h = omega arith
+before_feed-drop (suc n) [] h = absurd (omega arith)
+before_feed-drop (suc n) (x ∷ xs) h = (elim (x == 10) as (λ v. suc n ≤ cond v 0 (suc (length_before_feed xs)) → cond v 0 (suc (length_before_feed xs)) ≡ suc n + length_before_feed (drop n xs))
+    [ true ↦ λ k. absurd (omega arith) | false ↦ λ k. omega (arith, before_feed-drop n xs (omega arith)) ]) h
+
+-- the front has no line feed either
+front-free : (b : List ℕ) (n s : ℕ) → n ≡ min (length b) 65537 → s ≤ length_before_feed b → s ≤ 65536 → s ≤ length_before_feed (take n b)
+front-free b n s e free few = omega (arith, length_before_feed-take n b, length_before_feed-le b)
+
+pub searched-fits : (b : List ℕ) (n s : ℕ) → n ≡ min (length b) 65537 → s ≤ length_before_feed b → s ≤ 65536 → s ≤ length (take n b)
+searched-fits b n s e free few = omega (arith, front-free b n s e free few, length_before_feed-le (take n b))
+
+pub behind-found : (b rest : List ℕ) (n s at : ℕ) → n ≡ min (length b) 65537 → s ≤ length_before_feed b → s ≤ 65536 → rest ≡ drop s (take n b)
+    → IsFirstByte (is_byte 10) rest (Some at) → Some (s + at + 1) ≡ line_end_of b
+unfolding line_end_of
+behind-found b rest n s at e free few is h =
+    let front : length_before_feed (take n b) ≡ s + length_before_feed (drop s (take n b)) = before_feed-drop s (take n b) (front-free b n s e free few) in
+    let found : length_before_feed rest ≡ at = length_before_feed-found rest at h in
+    let same : length_before_feed rest ≡ length_before_feed (drop s (take n b)) = ap length_before_feed is in
+    let below : at < length rest = h.0.high in
+    let sizes : length rest ≡ length (drop s (take n b)) = ap length is in
+    let place : length_before_feed b ≡ s + at = omega (arith, length_before_feed-take n b, length-drop s (take n b), length-take n b) in
+    let short : s + at < 65537 = omega (arith, length-drop s (take n b), length-take n b) in
+    let within : s + at < length b = omega (arith, length-drop s (take n b), length-take n b) in
+    rw place (let small : nat_lt 65536 (s + at) ≡ false = grind (arith, nat_tests) in let inside : nat_lt (s + at) (length b) ≡ true = grind (arith, nat_tests) in rw (small, inside))
+
+none-before : (b rest : List ℕ) (n s : ℕ) → n ≡ min (length b) 65537 → s ≤ length_before_feed b → s ≤ 65536 → rest ≡ drop s (take n b)
+    → IsFirstByte (is_byte 10) rest None → min n (length_before_feed b) ≡ length (take n b)
+none-before b rest n s e free few is h =
+    let front : length_before_feed (take n b) ≡ s + length_before_feed (drop s (take n b)) = before_feed-drop s (take n b) (front-free b n s e free few) in
+    let none : length_before_feed rest ≡ length rest = length_before_feed-not_found rest h in
+    let same : length_before_feed rest ≡ length_before_feed (drop s (take n b)) = ap length_before_feed is in
+    let sizes : length rest ≡ length (drop s (take n b)) = ap length is in
+    omega (arith, length_before_feed-take n b, length-drop s (take n b), searched-fits b n s e free few)
+
+pub behind-full : (b rest : List ℕ) (n s : ℕ) → n ≡ min (length b) 65537 → s ≤ length_before_feed b → s ≤ 65536 → rest ≡ drop s (take n b)
+    → IsFirstByte (is_byte 10) rest None → 65536 < length (take n b) → Some 65536 ≡ line_end_of b
+unfolding line_end_of
+behind-full b rest n s e free few is h long =
+    let r = none-before b rest n s e free few is h in
+    let past : 65536 < length_before_feed b = omega (arith, r) in
+    let lt : nat_lt 65536 (length_before_feed b) ≡ true = grind (arith, nat_tests) in
+    rw lt
+
+pub behind-open : (b rest : List ℕ) (n s : ℕ) → n ≡ min (length b) 65537 → s ≤ length_before_feed b → s ≤ 65536 → rest ≡ drop s (take n b)
+    → IsFirstByte (is_byte 10) rest None → length (take n b) ≤ 65536 → None ≡ line_end_of b
+unfolding line_end_of
+behind-open b rest n s e free few is h short =
+    let r = none-before b rest n s e free few is h in
+    let size = length-take n b in
+    let le = length_before_feed-le b in
+    let place : length_before_feed b ≡ length b = omega (arith, r, size, le) in
+    let below : length b ≤ 65536 = omega (arith, size) in
+    rw place (let a : nat_lt 65536 (length b) ≡ false = grind (arith, nat_tests) in let c : nat_lt (length b) (length b) ≡ false = grind (arith, nat_tests) in rw (a, c))
+
+-- ---- bytes that are held
+
+-- they have no line feed
+pub held-free : (b : List ℕ) → line_end_of b ≡ None → length_before_feed b ≡ length b
+unfolding line_end_of
+held-free b e = let le = length_before_feed-le b in grind (arith, nat_tests)
+
+-- nor has their front, where bytes were added behind them
+pub still-free : (old new x y : List ℕ) (k : ℕ) → new ++ x ≡ old ++ y → k ≤ length old → k ≤ length new → length_before_feed old ≡ length old → k ≤ length_before_feed new
+still-free old new x y k e in_old in_new free =
+    let fronts : take k new ≡ take k old = sym (take-append-le k new x in_new) ∙ ap (take k) e ∙ take-append-le k old y in_old in
+    let same : length_before_feed (take k new) ≡ length_before_feed (take k old) = ap length_before_feed fronts in
+    omega (arith, same, length_before_feed-take k new, length_before_feed-take k old)

@@ -1,0 +1,141 @@
+-- A leaf's decoded bytes, line by line.
+use Rattle.std.proofs.Common.{◌≡◌, ◌∙◌, ◌+◌, ◌-◌, ◌<◌, ◌≤◌, ◌==◌, ◌++◌, ℕ, suc, true, false, cond, List, [], ◌∷◌, Some, None, length, take, drop, refl, sym, ap, ap₂, subst, arith, length-append, append-nil}
+use Rattle.std.specs.Prelude.{Result, Ok, Err, OnOk}
+use Rattle.std.specs.List.{concat}
+use Rattle.std.proofs.lemmas.Bool.{eqb-true}
+use Rattle.std.proofs.lemmas.Bool.Decides.{nat_tests}
+use Rattle.std.proofs.lemmas.List.{length-drop, drop-drop, take-append-le, drop-append-le, take_all, drop_all, take-append-drop}
+use Rattle.std.proofs.lemmas.Slice.Eq.{bytes_eq-Decides}
+use Rattle.mbox_cutter.specs.Lines.{length_before_feed, line_end_of, first_length, lines}
+use Rattle.mbox_cutter.proofs.FirstLines.{line_end-more, line_end-positive, line_end-within, line_end-whole}
+use Rattle.mbox_cutter.proofs.LineLists.{lines-cons, lines-nil}
+use Rattle.mail_words.specs.declared.kind.TextKind.{TextKind}
+use Rattle.mail_words.specs.declared.kind.TextKind.TheVariants as kind
+use Rattle.mime_text.specs.declared.fault.SinkFault.{SinkFault}
+use Rattle.mime_text.specs.declared.fault.TextFault.{TextFault}
+use Rattle.mime_text.specs.declared.fault.TextFault.TheVariants.{OutOfMemory, Sink, Failed}
+use Rattle.mime_text.specs.declared.line_texts.LineTexts.{LineTexts}
+use Rattle.mime_text.specs.Sinks.{Pair, Gave, Broke, Hands}
+use Rattle.mime_text.specs.Transfer.{ends_in}
+use Rattle.mime_text.specs.OpenTags.{line_text, is_open_behind_line, texts_behind}
+use Rattle.mime_text.specs.LeafReading.{body_pairs, pairs_of_lines, pairs_of_bytes}
+use Rattle.mime_text.specs.Showing.{Shows}
+use Rattle.mime_text.proofs.Handing.{gave-along, broke-along}
+
+-- ---- lines
+
+pub concat-one : (bytes : List ℕ) → concat (bytes ∷ []) ≡ bytes
+concat-one bytes = append-nil bytes
+
+-- the first line of some bytes, where none to come can change it
+pub lines-first : (b more : List ℕ) (n : ℕ) → Some n ≡ line_end_of b → lines (b ++ more) ≡ take n b ∷ lines (drop n b ++ more)
+lines-first b more n e =
+    let is : n ≡ first_length (b ++ more) = line_end-more b more n e in
+    let fits : n ≤ length b = line_end-within b n e in
+    let some : 0 < length (b ++ more) = omega (arith, line_end-positive b n e, fits, length-append b more) in
+    lines-cons (b ++ more) some ∙ rw (← is) (ap₂ (λ (x y : List ℕ). x ∷ lines y) (take-append-le n b more fits) (drop-append-le n b more fits))
+
+pub lines-parts : (b line later more : List ℕ) (n : ℕ) → Some n ≡ line_end_of b → line ≡ take n b → later ≡ drop n b → lines (b ++ more) ≡ line ∷ lines (later ++ more)
+lines-parts b line later more n e f g = lines-first b more n e ∙ ap₂ (λ (x y : List ℕ). x ∷ lines (y ++ more)) (sym f) (sym g)
+
+-- the last one
+pub lines-last : (b : List ℕ) → None ≡ line_end_of b → 0 < length b → lines b ≡ b ∷ []
+lines-last b e some =
+    let is : first_length b ≡ length b = line_end-whole b e in
+    lines-cons b some ∙ rw is (ap₂ (λ (x y : List ℕ). x ∷ lines y) (take_all (length b) b (omega arith)) (drop_all (length b) b (omega arith)) ∙ ap (λ (ls : List (List ℕ)). b ∷ ls) lines-nil)
+
+before_feed-last : (front : List ℕ) → length_before_feed (front ++ 10 ∷ []) ≤ length front
+before_feed-last [] = omega arith
+before_feed-last (x ∷ xs) = elim (x == 10) as (λ v. cond v 0 (suc (length_before_feed (xs ++ 10 ∷ []))) ≤ length (x ∷ xs)) [ true ↦ omega arith | false ↦ omega (arith, before_feed-last xs) ]
+
+-- a line that ends with its only line feed
+pub feed-end : (line : List ℕ) → ends_in 0x0A line ≡ true → length line ≤ length_before_feed line + 1 → length line ≤ 65537 → Some (length line) ≡ line_end_of line
+unfolding line_end_of
+feed-end line feed last short =
+    let tail : drop (length line - 1) line ≡ 10 ∷ [] = (bytes_eq-Decides (drop (length line - 1) line) (10 ∷ [])).0 feed in
+    let front : List ℕ = take (length line - 1) line in
+    let whole : line ≡ front ++ 10 ∷ [] = sym (take-append-drop (length line - 1) line) ∙ ap (λ (l : List ℕ). front ++ l) tail in
+    let size : length line ≡ length front + 1 = ap length whole ∙ length-append front (10 ∷ []) in
+    let P : List ℕ → Type 0 = λ l. length_before_feed l ≤ length front in
+    let feeds : length_before_feed line ≤ length front = subst P (sym whole) (before_feed-last front) in
+    grind (arith, nat_tests)
+
+pub lines-whole : (line more : List ℕ) → Some (length line) ≡ line_end_of line → lines (line ++ more) ≡ line ∷ lines more
+lines-whole line more e =
+    lines-first line more (length line) e ∙ ap₂ (λ (x y : List ℕ). x ∷ lines (y ++ more)) (take_all (length line) line (omega arith)) (drop_all (length line) line (omega arith))
+
+-- ---- what comes of them
+
+pub no_bytes : (b : List ℕ) → (length b == 0) ≡ true → b ≡ []
+no_bytes [] e = refl
+no_bytes (x ∷ xs) e = let none : length (x ∷ xs) ≡ 0 = eqb-true (length (x ∷ xs)) 0 e in absurd (omega arith)
+
+pub some_bytes : (b : List ℕ) → (length b == 0) ≡ false → 0 < length b
+some_bytes [] e = absurd (cc e)
+some_bytes (x ∷ xs) e = omega arith
+
+-- ---- what is left is the end of the bytes
+
+pub rest-start : (b : List ℕ) → b ≡ drop (length b - length b) b
+rest-start b = let none : length b - length b ≡ 0 = omega arith in rw none refl
+
+pub rest-step : (b rest later : List ℕ) (n : ℕ) → length rest ≤ length b → rest ≡ drop (length b - length rest) b → later ≡ drop n rest → n ≤ length rest
+    → later ≡ drop (length b - length later) b
+rest-step b rest later n fits is next within =
+    let size : length later ≡ length rest - n = ap length next ∙ length-drop n rest in
+    let places : length b - length rest + n ≡ length b - length later = omega arith in
+    next ∙ ap (drop n) is ∙ drop-drop n (length b - length rest) b ∙ ap (λ (k : ℕ). drop k b) places
+
+module _ {S : Type 0} (takes : S → TextKind → List ℕ → S → Type 0) (refuses : S → TextKind → List ℕ → SinkFault → S → Type 0) where
+  -- a line that is given
+  pub hands-line : {T : Type 0} (old new : LineTexts) (line : List ℕ) (result : Result T TextFault) (s t : S) → Shows takes refuses (line_text old.charset old.is_html old.is_open line) result s t
+      → new.charset ≡ old.charset → new.is_html ≡ old.is_html → OnOk result (new.is_open ≡ is_open_behind_line old.charset old.is_html old.is_open line)
+      → Hands takes refuses (λ ls. pairs_of_lines old (line ∷ ls)) (λ ls. pairs_of_lines new ls) result s t
+  hands-line old new line (Ok x) s t h e f g =
+      let p : Pair = (kind.Body, line_text old.charset old.is_html old.is_open line) in
+      record { pairs = p ∷ []; taken = (t, h, refl); rest = λ ls. ap (λ (l : List Pair). p ∷ l) (rw (e, f, g) refl) }
+  hands-line old new line (Err OutOfMemory) s t h e f g =
+      record { pairs = []; broken = h; front = λ ls. (pairs_of_lines old (line ∷ ls), refl) }
+  hands-line old new line (Err (Sink fault)) s t h e f g =
+      let p : Pair = (kind.Body, line_text old.charset old.is_html old.is_open line) in
+      record {
+        pairs = p ∷ [];
+        broken = ([], p, s, refl, refl, h);
+        front = λ ls. (body_pairs (texts_behind old.charset old.is_html (is_open_behind_line old.charset old.is_html old.is_open line) ls), refl);
+      }
+  hands-line old new line (Err Failed) s t h e f g = absurd h
+
+  pub gave-line : (old new : LineTexts) (b line later : List ℕ) (n : ℕ) (s t : S) → Some n ≡ line_end_of b → line ≡ take n b → later ≡ drop n b
+      → Gave takes refuses (λ ls. pairs_of_lines old (line ∷ ls)) (λ ls. pairs_of_lines new ls) s t
+      → Gave takes refuses (λ ms. pairs_of_bytes old (b ++ concat ms)) (λ ms. pairs_of_bytes new (later ++ concat ms)) s t
+  gave-line old new b line later n s t e f g h =
+      gave-along takes refuses (λ ls. pairs_of_lines old (line ∷ ls)) (λ ls. pairs_of_lines new ls)
+      (λ ms. pairs_of_bytes old (b ++ concat ms)) (λ ms. pairs_of_bytes new (later ++ concat ms)) (λ ms. lines (later ++ concat ms)) s t
+      (λ ms. ap (pairs_of_lines old) (lines-parts b line later (concat ms) n e f g)) (λ ms. refl) h
+
+  pub broke-line : (old : LineTexts) (b line : List ℕ) (n : ℕ) (fault : TextFault) (s t : S) → Some n ≡ line_end_of b → line ≡ take n b
+      → Broke takes refuses (λ ls. pairs_of_lines old (line ∷ ls)) fault s t
+      → Broke takes refuses (λ ms. pairs_of_bytes old (b ++ concat ms)) fault s t
+  broke-line old b line n fault s t e f h =
+      broke-along takes refuses (λ ls. pairs_of_lines old (line ∷ ls)) (λ ms. pairs_of_bytes old (b ++ concat ms)) (λ ms. lines (drop n b ++ concat ms)) fault s t
+      (λ ms. ap (pairs_of_lines old) (lines-parts b line (drop n b) (concat ms) n e f refl)) h
+
+  -- the lines in front were given, and nothing is left
+  pub gave-all : (old new : LineTexts) (b rest : List ℕ) (s t : S) → rest ≡ [] → Gave takes refuses (λ ms. pairs_of_bytes old (b ++ concat ms)) (λ ms. pairs_of_bytes new (rest ++ concat ms)) s t
+      → Gave takes refuses (λ _. pairs_of_bytes old b) (λ _. []) s t
+  gave-all old new b rest s t e h =
+      gave-along takes refuses (λ ms. pairs_of_bytes old (b ++ concat ms)) (λ ms. pairs_of_bytes new (rest ++ concat ms)) (λ _. pairs_of_bytes old b) (λ _. []) (λ _. []) s t
+      (λ ms. ap (pairs_of_bytes old) (sym (append-nil b))) (λ ms. sym (ap (pairs_of_bytes new) (append-nil rest ∙ e) ∙ ap (pairs_of_lines new) lines-nil)) h
+
+  -- the lines in front were given, and what is left is the last line
+  pub gave-front : (old new : LineTexts) (b rest : List ℕ) (s t : S) → None ≡ line_end_of rest → 0 < length rest
+      → Gave takes refuses (λ ms. pairs_of_bytes old (b ++ concat ms)) (λ ms. pairs_of_bytes new (rest ++ concat ms)) s t
+      → Gave takes refuses (λ _. pairs_of_bytes old b) (λ _. pairs_of_lines new (rest ∷ [])) s t
+  gave-front old new b rest s t e some h =
+      gave-along takes refuses (λ ms. pairs_of_bytes old (b ++ concat ms)) (λ ms. pairs_of_bytes new (rest ++ concat ms)) (λ _. pairs_of_bytes old b) (λ _. pairs_of_lines new (rest ∷ [])) (λ _. []) s t
+      (λ ms. ap (pairs_of_bytes old) (sym (append-nil b))) (λ ms. sym (ap (pairs_of_bytes new) (append-nil rest) ∙ ap (pairs_of_lines new) (lines-last rest e some))) h
+
+  pub broke-front : (old : LineTexts) (b : List ℕ) (fault : TextFault) (s t : S) → Broke takes refuses (λ ms. pairs_of_bytes old (b ++ concat ms)) fault s t
+      → Broke takes refuses (λ _. pairs_of_bytes old b) fault s t
+  broke-front old b fault s t h =
+      broke-along takes refuses (λ ms. pairs_of_bytes old (b ++ concat ms)) (λ _. pairs_of_bytes old b) (λ _. []) fault s t (λ ms. ap (pairs_of_bytes old) (sym (append-nil b))) h

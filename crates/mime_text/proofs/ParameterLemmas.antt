@@ -1,0 +1,173 @@
+-- Parameters piece by piece.
+use Rattle.std.proofs.Common.{◌≡◌, ◌∙◌, ◌<◌, ◌≤◌, ◌++◌, ◌==◌, ℕ, zero, suc, Bool, true, false, List, [], ◌∷◌, Option, Some, None, length, refl, sym, ap, arith, length-append}
+use Rattle.std.specs.Prelude.{option_map, unwrap_or}
+use Rattle.std.specs.Option.{option_map_or, option_to_list}
+use Rattle.std.specs.Str.{bytes_eq, str_to_ascii_lowercase}
+use Rattle.header_text.specs.Blanks.{is_blank, split_while, after_blanks, trimmed}
+use Rattle.header_text.specs.Cuts.{cut_at}
+use Rattle.header_text.proofs.Fronts.{length-split_while}
+use Rattle.header_text.proofs.CutLemmas.{IsCut, IsCut-from}
+use Rattle.mime_text.specs.Parameters.{Parameter, Piece, quoted, is_token_byte, value_and_rest, is_name_byte, behind_semicolon, piece_of, parameters_within, parameters_behind, first_named}
+
+-- ---- quotes
+
+pub quoted-end : (bs : List ℕ) → quoted (0x22 ∷ bs) ≡ ([], bs)
+quoted-end [] = refl
+quoted-end (b ∷ bs) = refl
+
+pub quoted-plain : (b : ℕ) (bs : List ℕ) → (b == 0x22) ≡ false → (b == 0x5C) ≡ false → quoted (b ∷ bs) ≡ (b ∷ (quoted bs).0, (quoted bs).1)
+quoted-plain b [] e f = rw (e, f, quoted) refl
+quoted-plain b (c ∷ bs) e f = rw (e, f, quoted) refl
+
+-- ---- what follows is shorter
+
+length-after_blanks : (bs : List ℕ) → length (after_blanks bs) ≤ length bs
+length-after_blanks [] = omega arith
+length-after_blanks (b ∷ bs) = go (is_blank b) refl (length-after_blanks bs)
+  where
+    go : (t : Bool) → is_blank b ≡ t → length (after_blanks bs) ≤ length bs → length (after_blanks (b ∷ bs)) ≤ length (b ∷ bs)
+    go true e h = rw (e, after_blanks) (omega arith)
+    go false e h = rw (e, after_blanks) (omega arith)
+
+length-quoted : (bs : List ℕ) → length (quoted bs).1 ≤ length bs
+length-quoted [] = omega arith
+length-quoted (b ∷ []) = go (b == 0x22) refl (b == 0x5C) refl
+  where
+    go : (s : Bool) → (b == 0x22) ≡ s → (t : Bool) → (b == 0x5C) ≡ t → length (quoted (b ∷ [])).1 ≤ length (b ∷ [])
+    go true e t f = rw (e, quoted) (omega arith)
+    go false e true f = rw (e, f, quoted) (omega arith)
+    go false e false f = rw (e, f, quoted) (omega arith)
+length-quoted (b ∷ c ∷ bs) = go (b == 0x22) refl (b == 0x5C) refl (length-quoted bs) (length-quoted (c ∷ bs))
+  where
+    go : (s : Bool) → (b == 0x22) ≡ s → (t : Bool) → (b == 0x5C) ≡ t → length (quoted bs).1 ≤ length bs → length (quoted (c ∷ bs)).1 ≤ length (c ∷ bs)
+        → length (quoted (b ∷ c ∷ bs)).1 ≤ length (b ∷ c ∷ bs)
+    go true e t f far near = rw (e, quoted) (omega arith)
+    go false e true f far near = rw (e, f, quoted) (omega arith)
+    go false e false f far near = rw (e, f, quoted) (omega arith)
+
+length-value_and_rest : (bs : List ℕ) → length (value_and_rest bs).1 ≤ length bs
+length-value_and_rest [] = omega arith
+length-value_and_rest (b ∷ bs) = go (b == 0x22) refl
+  where
+    go : (t : Bool) → (b == 0x22) ≡ t → length (value_and_rest (b ∷ bs)).1 ≤ length (b ∷ bs)
+    go true e = rw (e, value_and_rest) (omega (arith, length-quoted bs))
+    go false e = rw (e, value_and_rest) (length-split_while is_token_byte (b ∷ bs))
+
+same_some : (x y : List ℕ) → Some x ≡ Some y → x ≡ y
+same_some x y h = ap (λ (o : Option (List ℕ)). unwrap_or o x) h
+
+length-behind_semicolon : (bs rest : List ℕ) → behind_semicolon bs ≡ Some rest → length rest < length bs
+length-behind_semicolon bs rest h = go (cut_at 0x3B bs) refl
+  where
+    go : (o : Option (List ℕ × List ℕ)) → cut_at 0x3B bs ≡ o → length rest < length bs
+    go None e = absurd (cc (sym (ap (λ (p : Option (List ℕ × List ℕ)). option_map (λ parts. parts.1) p) e) ∙ h))
+    go (Some (x, y)) e =
+        let cut : IsCut 0x3B bs x y = IsCut-from 0x3B bs x y e in
+        let joined = ap length cut.joined in
+        let same : y ≡ rest = same_some y rest (sym (ap (λ (p : Option (List ℕ × List ℕ)). option_map (λ parts. parts.1) p) e) ∙ h) in
+        let size = ap length same in
+        omega (arith, joined, size, length-append x (0x3B ∷ y))
+
+piece_behind : List ℕ → List ℕ → Piece
+piece_behind name behind = elim behind [
+  | [] ↦ record { parameter = None; later = None }
+  | c ∷ rest ↦ elim (c == 0x3D) [
+    | false ↦ record { parameter = None; later = Some rest }
+    | true ↦ record { parameter = Some (record { name = name; value = (value_and_rest (after_blanks rest)).0 }); later = behind_semicolon (value_and_rest (after_blanks rest)).1 }
+  ]
+]
+
+later-shorter_behind : (name behind rest : List ℕ) → (piece_behind name behind).later ≡ Some rest → length rest < length behind
+unfolding piece_behind
+later-shorter_behind name [] rest h = absurd (cc h)
+later-shorter_behind name (c ∷ bs) rest h = go (c == 0x3D) refl
+  where
+    go : (t : Bool) → (c == 0x3D) ≡ t → length rest < length (c ∷ bs)
+    go false e =
+        let here : Some bs ≡ Some rest = rw (e, piece_behind) at h in
+        let size = ap length (same_some bs rest here) in omega (arith, size)
+    go true e =
+        let here : behind_semicolon (value_and_rest (after_blanks bs)).1 ≡ Some rest = rw (e, piece_behind) at h in
+        let one = length-behind_semicolon (value_and_rest (after_blanks bs)).1 rest here in
+        let two = length-value_and_rest (after_blanks bs) in
+        let three = length-after_blanks bs in
+        omega (arith, one, two, three)
+
+pub later-shorter : (bs rest : List ℕ) → (piece_of bs).later ≡ Some rest → length rest < length bs
+unfolding piece_of piece_behind
+later-shorter bs rest h =
+    let front = length-split_while is_name_byte bs in
+    let less = later-shorter_behind (trimmed (split_while is_name_byte bs).0) (split_while is_name_byte bs).1 rest h in
+    omega (arith, front, less)
+
+-- ---- any number of pieces that is large enough
+
+within-nil : (n : ℕ) → parameters_within n [] ≡ []
+unfolding piece_of
+within-nil zero = refl
+within-nil (suc n) = refl
+
+within-enough : (n m : ℕ) (bs : List ℕ) → length bs ≤ n → length bs ≤ m → parameters_within n bs ≡ parameters_within m bs
+within-enough n m [] h k = within-nil n ∙ sym (within-nil m)
+within-enough zero m (b ∷ bs) h k = absurd (omega arith)
+within-enough (suc n) zero (b ∷ bs) h k = absurd (omega arith)
+within-enough (suc n) (suc m) (b ∷ bs) h k = go (piece_of (b ∷ bs)).later refl (within-enough n m)
+  where
+    go : (o : Option (List ℕ)) → (piece_of (b ∷ bs)).later ≡ o → ((rest : List ℕ) → length rest ≤ n → length rest ≤ m → parameters_within n rest ≡ parameters_within m rest)
+        → parameters_within (suc n) (b ∷ bs) ≡ parameters_within (suc m) (b ∷ bs)
+    go None e same = rw e refl
+    go (Some rest) e same =
+        let less = later-shorter (b ∷ bs) rest e in
+        rw e (ap (λ (ps : List Parameter). option_to_list (piece_of (b ∷ bs)).parameter ++ ps) (same rest (omega (arith, less)) (omega (arith, less))))
+
+behind-nil : [] ≡ option_to_list (piece_of []).parameter ++ parameters_behind (piece_of []).later
+unfolding piece_of
+behind-nil = refl
+
+-- a piece more
+pub behind-step : (bs : List ℕ) → parameters_behind (Some bs) ≡ option_to_list (piece_of bs).parameter ++ parameters_behind (piece_of bs).later
+behind-step [] = behind-nil
+behind-step (b ∷ bs) = go (piece_of (b ∷ bs)).later refl
+  where
+    go : (o : Option (List ℕ)) → (piece_of (b ∷ bs)).later ≡ o → parameters_behind (Some (b ∷ bs)) ≡ option_to_list (piece_of (b ∷ bs)).parameter ++ parameters_behind (piece_of (b ∷ bs)).later
+    go None e = rw e refl
+    go (Some rest) e =
+        let less = later-shorter (b ∷ bs) rest e in
+        rw e (ap (λ (ps : List Parameter). option_to_list (piece_of (b ∷ bs)).parameter ++ ps) (within-enough (length bs) (length rest) rest (omega (arith, less)) (omega arith)))
+
+-- a piece that is no parameter, a parameter of another name, and one of the name
+pub named-none : (name bs : List ℕ) → (piece_of bs).parameter ≡ None → first_named name (parameters_behind (Some bs)) ≡ first_named name (parameters_behind (piece_of bs).later)
+named-none name bs e = ap (first_named name) (behind-step bs) ∙ rw e refl
+
+pub named-other : (name bs : List ℕ) (p : Parameter) → (piece_of bs).parameter ≡ Some p → bytes_eq (str_to_ascii_lowercase p.name) name ≡ false
+    → first_named name (parameters_behind (Some bs)) ≡ first_named name (parameters_behind (piece_of bs).later)
+named-other name bs p e f = ap (first_named name) (behind-step bs) ∙ rw e (rw (f, first_named) refl)
+
+pub named-found : (name bs : List ℕ) (p : Parameter) → (piece_of bs).parameter ≡ Some p → bytes_eq (str_to_ascii_lowercase p.name) name ≡ true
+    → first_named name (parameters_behind (Some bs)) ≡ Some p.value
+named-found name bs p e f = ap (first_named name) (behind-step bs) ∙ rw e (rw (f, first_named) refl)
+
+abbrev parameter_of : List ℕ → List ℕ → Parameter
+parameter_of name value = record { name = name; value = value }
+
+pub piece-other : {A : Type 0} (o : Option A) (now : A → List ℕ) (name value bs : List ℕ) → option_map (λ a. parameter_of (now a) value) o ≡ (piece_of bs).parameter
+    → option_map_or (λ a. bytes_eq (str_to_ascii_lowercase (now a)) name) o false ≡ false → first_named name (parameters_behind (Some bs)) ≡ first_named name (parameters_behind (piece_of bs).later)
+piece-other None now name value bs e f = named-none name bs (sym e)
+piece-other (Some a) now name value bs e f = named-other name bs (parameter_of (now a) value) (sym e) f
+
+pub piece-found : {A : Type 0} (o : Option A) (now : A → List ℕ) (name value bs : List ℕ) → option_map (λ a. parameter_of (now a) value) o ≡ (piece_of bs).parameter
+    → option_map_or (λ a. bytes_eq (str_to_ascii_lowercase (now a)) name) o false ≡ true → first_named name (parameters_behind (Some bs)) ≡ Some value
+piece-found None now name value bs e f = absurd (cc f)
+piece-found (Some a) now name value bs e f = named-found name bs (parameter_of (now a) value) (sym e) f
+
+-- fewer bytes are left behind a piece
+pub later-measure : {A : Type 0} (before : Option A) (now : A → List ℕ) (a : A) (o : Option (List ℕ)) → before ≡ Some a → (piece_of (now a)).later ≡ o
+    → option_map_or (λ rest. suc (length rest)) o 0 < option_map_or (λ rest. suc (length rest)) (option_map now before) 0
+later-measure before now a None is e = rw is (omega arith)
+later-measure before now a (Some rest) is e = let less = later-shorter (now a) rest e in rw is (omega (arith, less))
+
+-- a name, `=` and a value
+pub piece-parameter : (text rest : List ℕ) (sign : ℕ) → (split_while is_name_byte text).1 ≡ sign ∷ rest → (sign == 0x3D) ≡ true
+    → (piece_of text).parameter ≡ Some (record { name = trimmed (split_while is_name_byte text).0; value = (value_and_rest (after_blanks rest)).0 })
+unfolding piece_of
+piece-parameter text rest sign e f = rw (e, f, piece_of) refl

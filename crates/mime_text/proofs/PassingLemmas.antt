@@ -1,0 +1,254 @@
+-- What comes of a reader's calls.
+use Rattle.std.proofs.Common.{◌≡◌, ◌∙◌, ◌++◌, ℕ, suc, Bool, true, false, List, [], ◌∷◌, Option, Some, None, refl, sym, ap, subst, append_assoc, if◌then◌else◌}
+use Rattle.std.specs.Prelude.{Result, Ok, Err, OnOk}
+use Rattle.std.proofs.lemmas.List.{append-nil}
+use Rattle.mbox_cutter.specs.Lines.{is_empty}
+use Rattle.header_text.specs.Headers.{HeaderField, fields_of}
+use Rattle.header_text.specs.HeldLines.{HasLines, taken_of}
+use Rattle.header_text.specs.Stages.{has_empty}
+use Rattle.header_text.specs.declared.header.Header.{Header}
+use Rattle.header_text.specs.declared.header.Taken.{Taken}
+use Rattle.header_text.specs.declared.header.Taken.TheVariants.{More, Ended}
+use Rattle.mail_words.specs.declared.kind.TextKind.{TextKind}
+use Rattle.mime_text.specs.declared.fault.SinkFault.{SinkFault}
+use Rattle.mime_text.specs.declared.fault.TextFault.{TextFault}
+use Rattle.mime_text.specs.declared.fault.TextFault.TheVariants.{OutOfMemory, Sink, Failed}
+use Rattle.mime_text.specs.declared.shape.DefaultType.{DefaultType}
+use Rattle.mime_text.specs.declared.shape.DefaultType.TheVariants.{TextPlain}
+use Rattle.mime_text.specs.declared.frame.Frame.{Frame}
+use Rattle.mime_text.specs.declared.facts.Facts.{Facts}
+use Rattle.mime_text.specs.declared.part_reader.State.{State}
+use Rattle.mime_text.specs.declared.part_reader.State.TheVariants as state
+use Rattle.mime_text.specs.declared.part_reader.PartReader.{PartReader}
+use Rattle.mime_text.specs.declared.nesting.Lead.{Lead}
+use Rattle.mime_text.specs.declared.nesting.Lead.TheVariants.{Nowhere, Piece, Behind}
+use Rattle.mime_text.specs.Sinks.{Pair, Coming, TakesAll, Breaks, Gave, Broke, Hands}
+use Rattle.mime_text.specs.Types.{shape_of}
+use Rattle.mime_text.specs.MessageFacts.{facts_of}
+use Rattle.mime_text.specs.LeafReading.{pairs_to_come}
+use Rattle.mime_text.specs.Stream.{Place, Skip, InHeader, InLeaf, hit, value}
+use Rattle.mime_text.specs.Frames.{Nest, lead_to}
+use Rattle.mime_text.specs.Texts.{part_texts}
+use Rattle.mime_text.specs.Passing.{Passed, Stopped, Passes, IsOver}
+use Rattle.mime_text.specs.Feeding.{given_from, counted_texts, ending, given_behind, given_after, ComesAt, Comes, ComesBehindHeader, ComesEndingAt, ComesEnding, IsInOwnHeader, KnowsAt, KnowsFacts, Notes}
+use Rattle.mime_text.proofs.StepLemmas.{value-header, given-hit, given-skip, given-leaf_line, given-more, given-ended, given-leaf, empty_ends, fields-on}
+
+abbrev Line : Type 0
+Line = List ℕ
+
+pub on_ok-map : {T E P Q : Type 0} (result : Result T E) → (P → Q) → OnOk result P → OnOk result Q
+on_ok-map (Ok x) f h = f h
+on_ok-map (Err e) f h = h
+
+pub on_ok-pure : {T E P : Type 0} (result : Result T E) → P → OnOk result P
+on_ok-pure (Ok x) h = h
+on_ok-pure (Err e) h = tt
+
+more-open : (b : Bool) → More ≡ (if b then Ended else More) → b ≡ false
+more-open true e = absurd (cc)
+more-open false e = refl
+
+ended-empty : (b : Bool) → Ended ≡ (if b then Ended else More) → b ≡ true
+ended-empty true e = refl
+ended-empty false e = absurd (cc)
+
+-- what an entity gives that ends here
+ending-is : (r : PartReader) (lead : Lead) (fields : List HeaderField) (c : Coming) → ((ls : List Line) → HasLines r.header ls → fields ≡ fields_of ls) → ComesEnding r lead c
+    → (ms : List Line) → c ms ≡ ending r.state fields r.leaf ++ given_after lead r.nesting ms
+ending-is r lead fields c f k = go r.state k
+  where
+    go : (s : State) → ComesEndingAt s r lead c → (ms : List Line) → c ms ≡ ending s fields r.leaf ++ given_after lead r.nesting ms
+    go state.Skipping k ms = k ms
+    go (state.InHeader counted d) k ms = k.2 ms ∙ ap (λ (fs : List HeaderField). counted_texts counted fs ++ given_after lead r.nesting ms) (sym (f k.0 k.1))
+    go state.InLeaf k ms = k ms
+
+-- what the message gives that ends here
+whole-ending : (r : PartReader) (fields : List HeaderField) (c : Coming) → ((ls : List Line) → HasLines r.header ls → fields ≡ fields_of ls) → Comes r c → c [] ≡ ending r.state fields r.leaf
+whole-ending r fields c f k = go r.state k
+  where
+    go : (s : State) → ComesAt s r c → c [] ≡ ending s fields r.leaf
+    go state.Skipping k = k []
+    go (state.InHeader counted d) k = k.3 [] ∙ value-header counted r.nesting.left d k.0 k.2 ∙ ap (counted_texts counted) (sym (f k.0 k.1))
+    go state.InLeaf k = k []
+
+-- a line that delimits ends the entity
+delimits : (r : PartReader) (n : Nest) (lead : Lead) (l : Line) (h : List Frame × Place Pair) → hit r.nesting.frames l ≡ Some h → ((ms : List Line) → given_from h.0 h.1 ms ≡ given_after lead n ms)
+    → (c : Coming) → Comes r c → ComesEnding (record r { nesting = n }) lead (λ ms. c (l ∷ ms))
+delimits r n lead l h e q c k = go r.state k
+  where
+    go : (s : State) → ComesAt s r c → ComesEndingAt s (record r { nesting = n }) lead (λ ms. c (l ∷ ms))
+    go state.Skipping k = λ ms. k (l ∷ ms) ∙ given-hit r.nesting.frames Skip l h ms e ∙ q ms
+    go (state.InHeader counted d) k =
+        (k.0, k.1, λ ms. k.3 (l ∷ ms) ∙ given-hit r.nesting.frames (InHeader counted r.nesting.left d k.0) l h ms e
+          ∙ ap (λ (ps : List Pair). ps ++ given_from h.0 h.1 ms) (value-header counted r.nesting.left d k.0 k.2)
+          ∙ ap (λ (ps : List Pair). counted_texts counted (fields_of k.0) ++ ps) (q ms))
+    go state.InLeaf k =
+        λ ms. k (l ∷ ms) ∙ given-hit r.nesting.frames (InLeaf (pairs_to_come r.leaf)) l h ms e ∙ ap (λ (ps : List Pair). pairs_to_come r.leaf [] ++ ps) (q ms)
+
+pub delimited : (r : PartReader) (n : Nest) (lead : Lead) (l : Line) → lead_to {A = Pair} lead n ≡ hit r.nesting.frames l → (lead ≡ Nowhere → ⊥)
+    → (c : Coming) → Comes r c → ComesEnding (record r { nesting = n }) lead (λ ms. c (l ∷ ms))
+delimited r n Nowhere l e away c k = absurd (away refl)
+delimited r n (Piece d) l e away c k = delimits r n (Piece d) l (n.frames, InHeader false n.left d []) (sym e) (λ ms. refl) c k
+delimited r n Behind l e away c k = delimits r n Behind l (n.frames, Skip) (sym e) (λ ms. refl) c k
+
+-- ---- facts
+
+one_more : (f : Facts) (ls : List Line) (l : Line) → ((ms : List Line) → f ≡ facts_of (fields_of (ls ++ ms))) → (ms : List Line) → f ≡ facts_of (fields_of ((ls ++ l ∷ []) ++ ms))
+one_more f ls l k ms = k (l ∷ ms) ∙ ap (λ (ks : List Line). facts_of (fields_of ks)) (sym (append_assoc ls (l ∷ []) ms))
+
+-- a line that delimits belongs to no header of the message's own
+pub facts-delimited : (r n : PartReader) (nest : Nest) (lead : Lead) (l : Line) → lead_to {A = Pair} lead nest ≡ hit r.nesting.frames l → (lead ≡ Nowhere → ⊥) → n.facts ≡ r.facts
+    → (ls : List Line) → KnowsFacts r ls → KnowsFacts n (ls ++ l ∷ [])
+facts-delimited r n nest lead l e away same ls k = let P : Option Facts → Type 0 = λ o. KnowsAt o n (ls ++ l ∷ []) in subst P (sym same) (go r.facts k)
+  where
+    outside : (x : Lead) → lead_to {A = Pair} x nest ≡ None → (x ≡ Nowhere → ⊥) → ⊥
+    outside Nowhere q away = away refl
+    outside (Piece d) q away = absurd (cc)
+    outside Behind q away = absurd (cc)
+
+    go : (o : Option Facts) → KnowsAt o r ls → KnowsAt o n (ls ++ l ∷ [])
+    go None k = absurd (outside lead (e ∙ ap (λ (fs : List Frame). hit {A = Pair} fs l) k.outside) away)
+    go (Some f) k = one_more f ls l k
+
+-- where the header has ended
+pub facts-ended : (r n : PartReader) (h : Header) (l : Line) → ((ls : List Line) → HasLines r.header ls → HasLines h (ls ++ l ∷ [])) → ((ls : List Line) → HasLines r.header ls → Ended ≡ taken_of (ls ++ l ∷ []))
+    → Notes r.facts n.facts h → (ls : List Line) → KnowsFacts r ls → KnowsFacts n (ls ++ l ∷ [])
+facts-ended r n h l push taken notes ls k = go r.facts notes k
+  where
+    go : (o : Option Facts) → Notes o n.facts h → KnowsAt o r ls → KnowsAt n.facts n (ls ++ l ∷ [])
+    go None e k =
+        let P : Option Facts → Type 0 = λ o. KnowsAt o n (ls ++ l ∷ []) in
+        let t : is_empty l ≡ true = empty_ends ls l true k.open_ended (ended-empty (has_empty (ls ++ l ∷ [])) (taken ls k.lines)) in
+        subst P (sym (e (ls ++ l ∷ []) (push ls k.lines))) (λ ms. ap facts_of (sym (fields-on ls l ms k.open_ended t)))
+    go (Some f) e k = let P : Option Facts → Type 0 = λ o. KnowsAt o n (ls ++ l ∷ []) in subst P (sym e) (one_more f ls l k)
+
+-- where the message has ended
+pub facts-whole : (r : PartReader) (f : Facts) → Notes r.facts (Some f) r.header → (ls : List Line) → KnowsFacts r ls → f ≡ facts_of (fields_of ls)
+facts-whole r f notes ls k = go r.facts notes k
+  where
+    go : (o : Option Facts) → Notes o (Some f) r.header → KnowsAt o r ls → f ≡ facts_of (fields_of ls)
+    go None e k = let q = e ls k.lines in cc
+    go (Some g) e k = let q : f ≡ g = cc in q ∙ k [] ∙ ap (λ (ks : List Line). facts_of (fields_of ks)) (append-nil ls)
+
+module _ {S : Type 0} (takes : S → TextKind → List ℕ → S → Type 0) (refuses : S → TextKind → List ℕ → SinkFault → S → Type 0) where
+  -- what comes before, said otherwise
+  pub passes-from : {T : Type 0} (A A' B : Coming → Type 0) (seen : Coming → Coming) (result : Result T TextFault) (s t : S) → ((c : Coming) → A c → A' (seen c))
+      → Passes takes refuses A' B (λ c. c) result s t → Passes takes refuses A B seen result s t
+  passes-from A A' B seen (Ok x) s t f h = record { pairs = h.pairs; taken = h.taken; rest = λ c k. h.rest (seen c) (f c k) }
+  passes-from A A' B seen (Err fault) s t f h = record { pairs = h.pairs; broken = h.broken; front = λ c k. h.front (seen c) (f c k) }
+
+  pub passes-before : {T : Type 0} (A A' B : Coming → Type 0) (seen : Coming → Coming) (result : Result T TextFault) (s t : S) → ((c : Coming) → A c → A' c)
+      → Passes takes refuses A' B seen result s t → Passes takes refuses A B seen result s t
+  passes-before A A' B seen (Ok x) s t f h = record { pairs = h.pairs; taken = h.taken; rest = λ c k. h.rest c (f c k) }
+  passes-before A A' B seen (Err fault) s t f h = record { pairs = h.pairs; broken = h.broken; front = λ c k. h.front c (f c k) }
+
+  -- ---- behind a header
+
+  pub header-passed : (r : PartReader) (counted : Bool) (d : DefaultType) (fields : List HeaderField) (after : Coming → Type 0) (s t : S)
+      → ((ls : List Line) → HasLines r.header ls → fields ≡ fields_of ls) → Gave takes refuses (λ _. counted_texts counted fields) (λ _. []) s t
+      → ((ls : List Line) → HasLines r.header ls → after (given_behind (shape_of d (fields_of ls)) r.nesting (fields_of ls)))
+      → Passed takes refuses (ComesBehindHeader r counted d) after (λ c. c) s t
+  header-passed r counted d fields after s t f h a =
+      record {
+        pairs = h.pairs;
+        taken = h.taken;
+        rest = λ c k. (given_behind (shape_of d (fields_of k.0)) r.nesting (fields_of k.0), a k.0 k.1,
+          λ ms. k.2 ms ∙ ap (λ (ps : List Pair). ps ++ given_behind (shape_of d (fields_of k.0)) r.nesting (fields_of k.0) ms) (ap (counted_texts counted) (sym (f k.0 k.1)) ∙ h.rest ms ∙ append-nil h.pairs));
+      }
+
+  pub header-stopped : (r : PartReader) (counted : Bool) (d : DefaultType) (fields : List HeaderField) (fault : TextFault) (s t : S)
+      → ((ls : List Line) → HasLines r.header ls → fields ≡ fields_of ls) → Broke takes refuses (λ _. counted_texts counted fields) fault s t
+      → Stopped takes refuses (ComesBehindHeader r counted d) (λ c. c) fault s t
+  header-stopped r counted d fields fault s t f h =
+      record {
+        pairs = h.pairs;
+        broken = h.broken;
+        front = λ c k ms. ((h.front ms).0 ++ given_behind (shape_of d (fields_of k.0)) r.nesting (fields_of k.0) ms,
+          k.2 ms ∙ ap (λ (ps : List Pair). ps ++ given_behind (shape_of d (fields_of k.0)) r.nesting (fields_of k.0) ms) (ap (counted_texts counted) (sym (f k.0 k.1)) ∙ (h.front ms).1)
+          ∙ append_assoc h.pairs (h.front ms).0 (given_behind (shape_of d (fields_of k.0)) r.nesting (fields_of k.0) ms));
+      }
+
+  -- all was given, and then memory is wanting
+  pub broke-memory_behind : (A : Coming) (s t : S) → Gave takes refuses A (λ _. []) s t → Broke takes refuses A OutOfMemory s t
+  broke-memory_behind A s t h = record { pairs = h.pairs; broken = h.taken; front = λ ms. ([], h.rest ms) }
+
+  -- ---- a line in a leaf, and in a header
+
+  pub leaf-passes : {T : Type 0} (r n : PartReader) (l : Line) (result : Result T TextFault) (s t : S) → r.state ≡ state.InLeaf → n.state ≡ r.state → n.nesting ≡ r.nesting → hit {A = Pair} r.nesting.frames l ≡ None
+      → Hands takes refuses (λ ls. pairs_to_come r.leaf (l ∷ ls)) (λ ls. pairs_to_come n.leaf ls) result s t → Passes takes refuses (Comes r) (Comes n) (λ c ms. c (l ∷ ms)) result s t
+  leaf-passes r n l (Ok x) s t e p q away h =
+      let at : (c : Coming) → Comes r c → ComesAt state.InLeaf r c = λ c k. (let P : State → Type 0 = λ u. ComesAt u r c in subst P e k) in
+      let here : Coming = given_from n.nesting.frames (InLeaf (pairs_to_come n.leaf)) in
+      let comes : Comes n here = (let P : State → Type 0 = λ u. ComesAt u n here in subst P (sym (p ∙ e)) (λ ms. refl)) in
+      record {
+        pairs = h.pairs;
+        taken = h.taken;
+        rest = λ c k. (here, comes, λ ms. at c k (l ∷ ms) ∙ given-leaf_line r.nesting.frames (pairs_to_come r.leaf) l ms away
+          ∙ given-leaf r.nesting.frames (λ ks. pairs_to_come r.leaf (l ∷ ks)) (pairs_to_come n.leaf) h.pairs h.rest ms
+          ∙ ap (λ (x : Nest). h.pairs ++ given_from x.frames (InLeaf (pairs_to_come n.leaf)) ms) (sym q));
+      }
+  leaf-passes r n l (Err fault) s t e p q away h =
+      let at : (c : Coming) → Comes r c → ComesAt state.InLeaf r c = λ c k. (let P : State → Type 0 = λ u. ComesAt u r c in subst P e k) in
+      let later : Coming = λ ks. (h.front ks).0 in
+      record {
+        pairs = h.pairs;
+        broken = h.broken;
+        front = λ c k ms. (given_from r.nesting.frames (InLeaf later) ms, at c k (l ∷ ms) ∙ given-leaf_line r.nesting.frames (pairs_to_come r.leaf) l ms away
+          ∙ given-leaf r.nesting.frames (λ ks. pairs_to_come r.leaf (l ∷ ks)) later h.pairs (λ ks. (h.front ks).1) ms);
+      }
+
+  pub more-passed : (r n : PartReader) (l : Line) (counted : Bool) (d : DefaultType) (s : S) → r.state ≡ state.InHeader counted d → n.state ≡ r.state → n.nesting ≡ r.nesting → hit {A = Pair} r.nesting.frames l ≡ None
+      → ((ls : List Line) → HasLines r.header ls → HasLines n.header (ls ++ l ∷ [])) → ((ls : List Line) → HasLines r.header ls → More ≡ taken_of (ls ++ l ∷ []))
+      → Passed takes refuses (Comes r) (Comes n) (λ c ms. c (l ∷ ms)) s s
+  more-passed r n l counted d s e p q away push taken =
+      let at : (c : Coming) → Comes r c → ComesAt (state.InHeader counted d) r c = λ c k. (let P : State → Type 0 = λ u. ComesAt u r c in subst P e k) in
+      let here : List Line → Coming = λ held. given_from n.nesting.frames (InHeader counted n.nesting.left d (held ++ l ∷ [])) in
+      let still : (held : List Line) → HasLines r.header held → has_empty (held ++ l ∷ []) ≡ false = λ held x. more-open (has_empty (held ++ l ∷ [])) (taken held x) in
+      let comes : (held : List Line) → HasLines r.header held → Comes n (here held) = λ held x.
+        (let P : State → Type 0 = λ u. ComesAt u n (here held) in subst P (sym (p ∙ e)) (held ++ l ∷ [], push held x, still held x, λ ms. refl)) in
+      record {
+        pairs = [];
+        taken = refl;
+        rest = λ c k. (here (at c k).0, comes (at c k).0 (at c k).1, λ ms. (at c k).3 (l ∷ ms)
+          ∙ given-more r.nesting counted d (at c k).0 l ms away (empty_ends (at c k).0 l false (at c k).2 (still (at c k).0 (at c k).1))
+          ∙ ap (λ (x : Nest). given_from x.frames (InHeader counted x.left d ((at c k).0 ++ l ∷ [])) ms) (sym q));
+      }
+
+  pub ended-comes : (r n : PartReader) (l : Line) (counted : Bool) (d : DefaultType) → r.state ≡ state.InHeader counted d → n.nesting ≡ r.nesting → hit {A = Pair} r.nesting.frames l ≡ None
+      → ((ls : List Line) → HasLines r.header ls → HasLines n.header (ls ++ l ∷ [])) → ((ls : List Line) → HasLines r.header ls → Ended ≡ taken_of (ls ++ l ∷ []))
+      → (c : Coming) → Comes r c → ComesBehindHeader n counted d (λ ms. c (l ∷ ms))
+  ended-comes r n l counted d e q away push taken c k =
+      let at : ComesAt (state.InHeader counted d) r c = (let P : State → Type 0 = λ u. ComesAt u r c in subst P e k) in
+      let t : is_empty l ≡ true = empty_ends at.0 l true at.2 (ended-empty (has_empty (at.0 ++ l ∷ [])) (taken at.0 at.1)) in
+      let fields = fields_of (at.0 ++ l ∷ []) in
+      (at.0 ++ l ∷ [], push at.0 at.1, λ ms. at.3 (l ∷ ms) ∙ given-ended r.nesting counted d at.0 l ms away at.2 t
+        ∙ ap (λ (x : Nest). counted_texts counted fields ++ given_behind (shape_of d fields) x fields ms) (sym q))
+
+  -- ---- an entity's end, and the message's
+
+  pub leave-passed : (r n : PartReader) (lead : Lead) (fields : List HeaderField) (s t : S) → ((ls : List Line) → HasLines r.header ls → fields ≡ fields_of ls)
+      → Gave takes refuses (λ _. ending r.state fields r.leaf) (λ _. []) s t → Comes n (given_after lead r.nesting) → Passed takes refuses (ComesEnding r lead) (Comes n) (λ c. c) s t
+  leave-passed r n lead fields s t f h a =
+      record {
+        pairs = h.pairs;
+        taken = h.taken;
+        rest = λ c k. (given_after lead r.nesting, a, λ ms. ending-is r lead fields c f k ms ∙ ap (λ (ps : List Pair). ps ++ given_after lead r.nesting ms) (h.rest ms ∙ append-nil h.pairs));
+      }
+
+  pub leave-stopped : (r : PartReader) (lead : Lead) (fields : List HeaderField) (fault : TextFault) (s t : S) → ((ls : List Line) → HasLines r.header ls → fields ≡ fields_of ls)
+      → Broke takes refuses (λ _. ending r.state fields r.leaf) fault s t → Stopped takes refuses (ComesEnding r lead) (λ c. c) fault s t
+  leave-stopped r lead fields fault s t f h =
+      record {
+        pairs = h.pairs;
+        broken = h.broken;
+        front = λ c k ms. ((h.front ms).0 ++ given_after lead r.nesting ms, ending-is r lead fields c f k ms ∙ ap (λ (ps : List Pair). ps ++ given_after lead r.nesting ms) (h.front ms).1
+          ∙ append_assoc h.pairs (h.front ms).0 (given_after lead r.nesting ms));
+      }
+
+  pub end-passed : (r : PartReader) (fields : List HeaderField) (s t : S) → ((ls : List Line) → HasLines r.header ls → fields ≡ fields_of ls)
+      → Gave takes refuses (λ _. ending r.state fields r.leaf) (λ _. []) s t → Passed takes refuses (Comes r) IsOver (λ c _. c []) s t
+  end-passed r fields s t f h = record { pairs = h.pairs; taken = h.taken; rest = λ c k. (λ _. [], λ ms. refl, λ ms. whole-ending r fields c f k ∙ h.rest ms) }
+
+  pub end-stopped : (r : PartReader) (fields : List HeaderField) (fault : TextFault) (s t : S) → ((ls : List Line) → HasLines r.header ls → fields ≡ fields_of ls)
+      → Broke takes refuses (λ _. ending r.state fields r.leaf) fault s t → Stopped takes refuses (Comes r) (λ c _. c []) fault s t
+  end-stopped r fields fault s t f h = record { pairs = h.pairs; broken = h.broken; front = λ c k ms. ((h.front ms).0, whole-ending r fields c f k ∙ (h.front ms).1) }

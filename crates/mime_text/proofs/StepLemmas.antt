@@ -1,0 +1,205 @@
+-- The places of a reader of lines, one line on.
+use Rattle.std.proofs.Common.{◌≡◌, ◌∙◌, ◌++◌, ℕ, zero, suc, Bool, true, false, ◌||◌, cond, List, [], ◌∷◌, Option, Some, None, refl, sym, ap, append_assoc}
+use Rattle.std.specs.Prelude.{flat_map, map}
+use Rattle.std.specs.List.{AllByRecursion, list_any}
+use Rattle.std.proofs.lemmas.List.{append-nil}
+use Rattle.std.proofs.lemmas.Grind.{flat_map-append}
+use Rattle.mbox_cutter.specs.Lines.{is_empty, lines}
+use Rattle.header_text.specs.Headers.{HeaderField, fields_of}
+use Rattle.header_text.specs.Stages.{has_empty}
+use Rattle.header_text.specs.Charsets.{text_of}
+use Rattle.header_text.specs.Base64.{base64_bytes, bytes_of_sextets}
+use Rattle.header_text.specs.declared.charset.Charset.{Charset}
+use Rattle.mime_text.specs.declared.shape.DefaultType.{DefaultType}
+use Rattle.mime_text.specs.declared.shape.DefaultType.TheVariants.{TextPlain}
+use Rattle.mime_text.specs.declared.shape.Shape.{Shape}
+use Rattle.mime_text.specs.declared.shape.Shape.TheVariants.{Multipart, Message, Text, Other}
+use Rattle.mime_text.specs.declared.frame.Frame.{Frame}
+use Rattle.mime_text.specs.declared.transfer.TransferEncoding.{TransferEncoding}
+use Rattle.mime_text.specs.declared.transfer.TransferEncoding.TheVariants.{Identity, QuotedPrintable, Base64}
+use Rattle.mime_text.specs.declared.leaf_reader.LeafReader.{LeafReader}
+use Rattle.mime_text.specs.Sinks.{Pair, Coming}
+use Rattle.mime_text.specs.FieldTexts.{texts_of_fields}
+use Rattle.mime_text.specs.Types.{shape_of, charset_in, transfer_in}
+use Rattle.mime_text.specs.LeafTexts.{leaf_texts}
+use Rattle.mime_text.specs.LeafReading.{body_pairs, pairs_to_come}
+use Rattle.mime_text.specs.Parts.{Part, Counted, Leaf, body_lines, pieces, parts, parts_by, is_left, parts_of_message}
+use Rattle.mime_text.specs.Stream.{Place, Skip, InHeader, InLeaf, hit, counted_part, value, behind_header, inner_step, step_by, given}
+use Rattle.mime_text.specs.Frames.{Nest, opened}
+use Rattle.mime_text.specs.Texts.{part_texts, texts_of_message}
+use Rattle.mime_text.specs.Feeding.{given_from, counted_texts, given_behind}
+use Rattle.mime_text.proofs.StreamLaws.{IsHeader, fields_of-ended, whole_given}
+
+abbrev Line : Type 0
+Line = List ℕ
+
+-- ---- headers
+
+pub IsHeader-of : (ls : List Line) → has_empty ls ≡ false → IsHeader ls
+IsHeader-of [] e = tt
+IsHeader-of (l ∷ ls) e = go (is_empty l) refl e (λ q. IsHeader-of ls q)
+  where
+    go : (t : Bool) → is_empty l ≡ t → (t || has_empty ls) ≡ false → (has_empty ls ≡ false → IsHeader ls) → (is_empty l ≡ false) × IsHeader ls
+    go true q e later = absurd (cc)
+    go false q e later = (q, later e)
+
+pub has_empty-push : (ls : List Line) (l : Line) → has_empty (ls ++ l ∷ []) ≡ (has_empty ls || is_empty l)
+has_empty-push [] l = go (is_empty l)
+  where
+    go : (t : Bool) → (t || false) ≡ t
+    go true = refl
+    go false = refl
+has_empty-push (k ∷ ls) l = go (is_empty k) (has_empty-push ls l)
+  where
+    go : (t : Bool) → has_empty (ls ++ l ∷ []) ≡ (has_empty ls || is_empty l) → (t || has_empty (ls ++ l ∷ [])) ≡ ((t || has_empty ls) || is_empty l)
+    go true e = refl
+    go false e = e
+
+-- a line that ends a header, and one that doesn't
+pub empty_ends : (ls : List Line) (l : Line) (t : Bool) → has_empty ls ≡ false → has_empty (ls ++ l ∷ []) ≡ t → is_empty l ≡ t
+empty_ends ls l t e q = let p = has_empty-push ls l in let r : (false || is_empty l) ≡ t = ap (λ (b : Bool). b || is_empty l) (sym e) ∙ sym p ∙ q in r
+
+pub fields-ended : (ls : List Line) (l : Line) → has_empty ls ≡ false → is_empty l ≡ true → fields_of (ls ++ l ∷ []) ≡ fields_of ls
+fields-ended ls l e t = fields_of-ended ls l [] (IsHeader-of ls e) t
+
+pub fields-on : (ls : List Line) (l : Line) (ms : List Line) → has_empty ls ≡ false → is_empty l ≡ true → fields_of ((ls ++ l ∷ []) ++ ms) ≡ fields_of (ls ++ l ∷ [])
+fields-on ls l ms e t = ap fields_of (append_assoc ls (l ∷ []) ms) ∙ fields_of-ended ls l ms (IsHeader-of ls e) t ∙ sym (fields-ended ls l e t)
+
+counted-is : (c : Bool) (ls : List Line) → flat_map part_texts (counted_part c ls) ≡ counted_texts c (fields_of ls)
+counted-is true ls = append-nil (texts_of_fields (fields_of ls))
+counted-is false ls = refl
+
+-- ---- an entity without a body gives nothing
+
+body-none : (ls : List Line) → has_empty ls ≡ false → body_lines ls ≡ []
+body-none [] e = refl
+body-none (l ∷ ls) e = go (is_empty l) refl e (λ q. body-none ls q)
+  where
+    go : (t : Bool) → is_empty l ≡ t → (t || has_empty ls) ≡ false → (has_empty ls ≡ false → body_lines ls ≡ []) → body_lines (l ∷ ls) ≡ []
+    go true q e later = absurd (cc)
+    go false q e later = rw (q, body_lines) (later e)
+
+fields-none : texts_of_fields (fields_of []) ≡ []
+unfolding fields_of
+fields-none = refl
+
+pub leaf_texts-none : (transfer : TransferEncoding) (charset : Charset) (is_html : Bool) → leaf_texts transfer charset is_html [] ≡ []
+unfolding leaf_texts lines base64_bytes bytes_of_sextets
+leaf_texts-none Identity charset true = refl
+leaf_texts-none Identity charset false = refl
+leaf_texts-none QuotedPrintable charset true = refl
+leaf_texts-none QuotedPrintable charset false = refl
+leaf_texts-none Base64 charset true = refl
+leaf_texts-none Base64 charset false = refl
+
+parts-none : (n : ℕ) (d : DefaultType) (ls : List Line) → body_lines ls ≡ [] → flat_map part_texts (parts shape_of n d ls) ≡ []
+parts-none zero d ls e = refl
+parts-none (suc n) d ls e = go n (λ k. parts-none n TextPlain k) (shape_of d (fields_of ls))
+  where
+    go : (m : ℕ) → ((ks : List Line) → body_lines ks ≡ [] → flat_map part_texts (parts shape_of m TextPlain ks) ≡ []) → (sh : Shape)
+        → flat_map part_texts (parts_by shape_of (λ e ks. parts shape_of m e ks) (is_left m) sh ls) ≡ []
+    go m later (Multipart b f) = ap (λ (ks : List Line). flat_map part_texts (flat_map (parts shape_of m f) (pieces b ks))) e
+    go zero later Message = refl
+    go (suc m) later Message =
+        ap (λ (ks : List Line). texts_of_fields (fields_of ks) ++ flat_map part_texts (parts shape_of (suc m) TextPlain ks)) e
+        ∙ ap (λ (ps : List Pair). ps ++ flat_map part_texts (parts shape_of (suc m) TextPlain [])) fields-none ∙ later [] refl
+    go m later (Text h) =
+        append-nil (body_pairs (leaf_texts (transfer_in (fields_of ls)) (charset_in (fields_of ls)) h (body_lines ls)))
+        ∙ ap (λ (ks : List Line). body_pairs (leaf_texts (transfer_in (fields_of ls)) (charset_in (fields_of ls)) h ks)) e
+        ∙ ap (λ (ts : List Line). body_pairs ts) (leaf_texts-none (transfer_in (fields_of ls)) (charset_in (fields_of ls)) h)
+    go m later Other = refl
+
+-- what an entity gives that ends in its header
+pub value-header : (c : Bool) (n : ℕ) (d : DefaultType) (held : List Line) → has_empty held ≡ false → value shape_of part_texts (InHeader c n d held) [] ≡ counted_texts c (fields_of held)
+value-header c n d held e =
+    ap (λ (ks : List Line). flat_map part_texts (counted_part c ks ++ parts shape_of (suc n) d ks)) (append-nil held)
+    ∙ flat_map-append part_texts (counted_part c held) (parts shape_of (suc n) d held)
+    ∙ ap (λ (ps : List Pair). flat_map part_texts (counted_part c held) ++ ps) (parts-none (suc n) d held (body-none held e))
+    ∙ append-nil (flat_map part_texts (counted_part c held)) ∙ counted-is c held
+
+-- ---- one line
+
+pub given-hit : (fs : List Frame) (place : Place Pair) (l : Line) (h : List Frame × Place Pair) (ms : List Line) → hit fs l ≡ Some h
+    → given_from fs place (l ∷ ms) ≡ value shape_of part_texts place [] ++ given_from h.0 h.1 ms
+given-hit fs place l h ms e =
+    ap (λ (o : Option (List Frame × Place Pair)). (step_by shape_of part_texts o fs place l).0 ++ given_from (step_by shape_of part_texts o fs place l).1.0 (step_by shape_of part_texts o fs place l).1.1 ms) e
+
+given-inner : (fs : List Frame) (place : Place Pair) (l : Line) (ms : List Line) → hit {A = Pair} fs l ≡ None
+    → given_from fs place (l ∷ ms) ≡ (inner_step shape_of part_texts fs place l).0 ++ given_from (inner_step shape_of part_texts fs place l).1.0 (inner_step shape_of part_texts fs place l).1.1 ms
+given-inner fs place l ms e =
+    ap (λ (o : Option (List Frame × Place Pair)). (step_by shape_of part_texts o fs place l).0 ++ given_from (step_by shape_of part_texts o fs place l).1.0 (step_by shape_of part_texts o fs place l).1.1 ms) e
+
+pub given-skip : (fs : List Frame) (l : Line) (ms : List Line) → hit {A = Pair} fs l ≡ None → given_from fs Skip (l ∷ ms) ≡ given_from fs Skip ms
+given-skip fs l ms e = given-inner fs Skip l ms e
+
+pub given-leaf_line : (fs : List Frame) (leaf : Coming) (l : Line) (ms : List Line) → hit {A = Pair} fs l ≡ None → given_from fs (InLeaf leaf) (l ∷ ms) ≡ given_from fs (InLeaf (λ ks. leaf (l ∷ ks))) ms
+given-leaf_line fs leaf l ms e = given-inner fs (InLeaf leaf) l ms e
+
+abbrev header_step : Bool → Nest → Bool → DefaultType → List Line → Line → List Pair × (List Frame × Place Pair)
+header_step t nest c d held l = elim t [
+  | true ↦ (flat_map part_texts (counted_part c held), behind_header shape_of part_texts (shape_of d (fields_of held)) nest.frames nest.left (fields_of held))
+  | false ↦ ([], (nest.frames, InHeader c nest.left d (held ++ l ∷ [])))
+]
+
+given-header : (nest : Nest) (c : Bool) (d : DefaultType) (held : List Line) (l : Line) (ms : List Line) (t : Bool) → hit {A = Pair} nest.frames l ≡ None → is_empty l ≡ t
+    → given_from nest.frames (InHeader c nest.left d held) (l ∷ ms)
+    ≡ (header_step t nest c d held l).0 ++ given_from (header_step t nest c d held l).1.0 (header_step t nest c d held l).1.1 ms
+given-header nest c d held l ms t e q =
+    given-inner nest.frames (InHeader c nest.left d held) l ms e
+    ∙ ap (λ (b : Bool). (header_step b nest c d held l).0 ++ given_from (header_step b nest c d held l).1.0 (header_step b nest c d held l).1.1 ms) q
+
+-- the header goes on
+pub given-more : (nest : Nest) (c : Bool) (d : DefaultType) (held : List Line) (l : Line) (ms : List Line) → hit {A = Pair} nest.frames l ≡ None → is_empty l ≡ false
+    → given_from nest.frames (InHeader c nest.left d held) (l ∷ ms) ≡ given_from nest.frames (InHeader c nest.left d (held ++ l ∷ [])) ms
+given-more nest c d held l ms e t = given-header nest c d held l ms false e t
+
+-- the header ends
+pub given-ended : (nest : Nest) (c : Bool) (d : DefaultType) (held : List Line) (l : Line) (ms : List Line) → hit {A = Pair} nest.frames l ≡ None → has_empty held ≡ false → is_empty l ≡ true
+    → given_from nest.frames (InHeader c nest.left d held) (l ∷ ms)
+    ≡ counted_texts c (fields_of (held ++ l ∷ [])) ++ given_behind (shape_of d (fields_of (held ++ l ∷ []))) nest (fields_of (held ++ l ∷ [])) ms
+given-ended nest c d held l ms e q t =
+    let rest : List HeaderField → List Pair = λ fields. given_behind (shape_of d fields) nest fields ms in
+    given-header nest c d held l ms true e t
+    ∙ ap (λ (ps : List Pair). ps ++ rest (fields_of held)) (counted-is c held)
+    ∙ ap (λ (fields : List HeaderField). counted_texts c fields ++ rest fields) (sym (fields-ended held l q t))
+
+-- a leaf that has given some pairs
+pub given-leaf : (fs : List Frame) (f g : Coming) (qs : List Pair) → ((ms : List Line) → f ms ≡ qs ++ g ms) → (ms : List Line) → given_from fs (InLeaf f) ms ≡ qs ++ given_from fs (InLeaf g) ms
+given-leaf fs f g qs e [] = e []
+given-leaf fs f g qs e (l ∷ ms) = go (hit fs l) refl (given-leaf fs (λ ks. f (l ∷ ks)) (λ ks. g (l ∷ ks)) qs (λ ks. e (l ∷ ks)) ms)
+  where
+    go : (o : Option (List Frame × Place Pair)) → hit fs l ≡ o → given_from fs (InLeaf (λ ks. f (l ∷ ks))) ms ≡ qs ++ given_from fs (InLeaf (λ ks. g (l ∷ ks))) ms
+        → given_from fs (InLeaf f) (l ∷ ms) ≡ qs ++ given_from fs (InLeaf g) (l ∷ ms)
+    go None q later =
+        given-leaf_line fs f l ms q ∙ later
+        ∙ ap (λ (ps : List Pair). qs ++ ps) (sym (given-leaf_line fs g l ms q))
+    go (Some h) q later =
+        given-hit fs (InLeaf f) l h ms q ∙ ap (λ (ps : List Pair). ps ++ given_from h.0 h.1 ms) (e []) ∙ append_assoc qs (g []) (given_from h.0 h.1 ms)
+        ∙ ap (λ (ps : List Pair). qs ++ ps) (sym (given-hit fs (InLeaf g) l h ms q))
+
+-- the same leaf, said otherwise
+pub given-same_leaf : (fs : List Frame) (f g : Coming) → ((ms : List Line) → f ms ≡ g ms) → (ms : List Line) → given_from fs (InLeaf f) ms ≡ given_from fs (InLeaf g) ms
+given-same_leaf fs f g e ms = given-leaf fs f g [] e ms
+
+-- from the message's first line on
+pub given-message : (ms : List Line) → texts_of_message ms ≡ given_from [] (InHeader true 16 TextPlain []) ms
+unfolding texts_of_message
+given-message ms = sym (whole_given shape_of part_texts true 16 TextPlain ms)
+
+-- ---- behind a header
+
+pub behind-multipart : (b : Line) (d : DefaultType) (nest : Nest) (fields : List HeaderField) (ms : List Line)
+    → given_behind (Multipart b d) nest fields ms ≡ given_from (opened nest.left b d nest.frames) Skip ms
+behind-multipart b d nest fields ms = go nest.left
+  where
+    go : (n : ℕ) → given_from (behind_header shape_of part_texts (Multipart b d) nest.frames n fields).0 (behind_header shape_of part_texts (Multipart b d) nest.frames n fields).1 ms ≡ given_from (opened n b d nest.frames) Skip ms
+    go zero = refl
+    go (suc n) = refl
+
+pub behind-message_none : (nest : Nest) (fields : List HeaderField) (ms : List Line) → nest.left ≡ 0 → given_behind Message nest fields ms ≡ given_from nest.frames Skip ms
+behind-message_none nest fields ms e =
+    ap (λ (n : ℕ). given_from (behind_header shape_of part_texts Message nest.frames n fields).0 (behind_header shape_of part_texts Message nest.frames n fields).1 ms) e
+
+pub behind-message_some : (nest : Nest) (n : ℕ) (fields : List HeaderField) (ms : List Line) → nest.left ≡ suc n → given_behind Message nest fields ms ≡ given_from nest.frames (InHeader true n TextPlain []) ms
+behind-message_some nest n fields ms e =
+    ap (λ (n : ℕ). given_from (behind_header shape_of part_texts Message nest.frames n fields).0 (behind_header shape_of part_texts Message nest.frames n fields).1 ms) e

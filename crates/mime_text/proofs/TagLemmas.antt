@@ -1,0 +1,104 @@
+-- Tags line by line.
+use Rattle.std.proofs.Common.{◌≡◌, ◌∙◌, ◌==◌, ◌||◌, ◌++◌, ℕ, Bool, true, false, List, [], ◌∷◌, map, reverse, refl, sym, ap, ap₂, subst, arith, append_assoc, encode_utf8_all, IsUtf8}
+use Rattle.std.specs.Prelude.{if◌then◌else◌}
+use Rattle.std.specs.Char.{encode_utf8}
+use Rattle.std.specs.Str.{chars}
+use Rattle.std.proofs.lemmas.Bool.{eqb-true}
+use Rattle.std.proofs.lemmas.List.{reverse-append}
+use Rattle.std.proofs.lemmas.Str.{encodes-chars}
+use Rattle.header_text.proofs.CutLemmas.{Lacks}
+use Rattle.header_text.specs.Charsets.{text_of}
+use Rattle.header_text.specs.declared.charset.Charset.{Charset}
+use Rattle.mime_text.specs.Tags.{is_open, is_in_tag, without_tags, lines_without_tags}
+use Rattle.mime_text.specs.LeafTexts.{texts_of_lines}
+use Rattle.mime_text.specs.OpenTags.{is_open_after, is_open_behind, blanked, texts_behind}
+
+-- ---- of what stands before, whether a tag is open is all that counts
+
+is_open-step : (before : List ℕ) (c : ℕ) → is_open (c ∷ before) ≡ is_open_after (is_open before) c
+is_open-step before c = go (is_open before) refl (c == 0x3C) refl (c == 0x3E) refl
+  where
+    go : (o : Bool) → is_open before ≡ o → (s : Bool) → (c == 0x3C) ≡ s → (t : Bool) → (c == 0x3E) ≡ t → is_open (c ∷ before) ≡ is_open_after (is_open before) c
+    go o h true e true f =
+        let is : c ≡ 0x3C = eqb-true c 0x3C e in
+        let other : c ≡ 0x3E = eqb-true c 0x3E f in
+        absurd (omega arith)
+    go true h true e false f = rw (h, e, f, is_open) refl
+    go false h true e false f = rw (h, e, f, is_open) refl
+    go true h false e true f = rw (h, e, f, is_open) refl
+    go false h false e true f = rw (h, e, f, is_open) refl
+    go true h false e false f = rw (e, f, h, is_open) refl
+    go false h false e false f = rw (e, f, h, is_open) refl
+
+without_tags-blanked : (before cs : List ℕ) (o : Bool) → is_open before ≡ o → without_tags before cs ≡ blanked o cs
+without_tags-blanked before [] o h = refl
+without_tags-blanked before (c ∷ cs) o h =
+    let here : is_in_tag before c ≡ (o || (c == 0x3C)) = ap (λ (b : Bool). b || (c == 0x3C)) h in
+    let later : without_tags (c ∷ before) cs ≡ blanked (is_open_after o c) cs =
+    without_tags-blanked (c ∷ before) cs (is_open_after o c) (is_open-step before c ∙ ap (λ (b : Bool). is_open_after b c) h) in
+    ap₂ (λ (b : Bool) (l : List ℕ). (if b then 0x20 else c) ∷ l) here later
+
+is_open-line : (before cs : List ℕ) → is_open (reverse cs ++ before) ≡ is_open_behind (is_open before) cs
+is_open-line before [] = refl
+is_open-line before (c ∷ cs) =
+    let turned : reverse (c ∷ cs) ++ before ≡ reverse cs ++ c ∷ before = ap (λ (l : List ℕ). l ++ before) (reverse-append (c ∷ []) cs) ∙ append_assoc (reverse cs) (c ∷ []) before in
+    ap is_open turned ∙ is_open-line (c ∷ before) cs ∙ ap (λ (b : Bool). is_open_behind b cs) (is_open-step before c)
+
+tagged_lines : (charset : Charset) (before : List ℕ) (o : Bool) (ls : List (List ℕ)) → is_open before ≡ o
+    → map encode_utf8_all (lines_without_tags before (map (λ line. chars (text_of charset line)) ls)) ≡ texts_behind charset true o ls
+tagged_lines charset before o [] h = refl
+tagged_lines charset before o (l ∷ ls) h =
+    let cs : List ℕ = chars (text_of charset l) in
+    ap₂ (λ (t : List ℕ) (ts : List (List ℕ)). encode_utf8_all t ∷ ts) (without_tags-blanked before cs o h)
+    (tagged_lines charset (reverse cs ++ before) (is_open_behind o cs) ls (is_open-line before cs ∙ ap (λ (b : Bool). is_open_behind b cs) h))
+
+plain_lines : (charset : Charset) (o : Bool) (ls : List (List ℕ)) → map (text_of charset) ls ≡ texts_behind charset false o ls
+plain_lines charset o [] = refl
+plain_lines charset o (l ∷ ls) = ap (λ (ts : List (List ℕ)). text_of charset l ∷ ts) (plain_lines charset o ls)
+
+-- at the beginning no tag is open
+pub texts-begin : (charset : Charset) (is_html : Bool) (ls : List (List ℕ)) → texts_behind charset is_html false ls ≡ texts_of_lines charset is_html ls
+texts-begin charset false ls = sym (plain_lines charset false ls)
+texts-begin charset true ls = sym (tagged_lines charset [] false ls refl)
+
+-- ---- text without tags
+
+lacks-append : (c : ℕ) (xs ys : List ℕ) → Lacks c (xs ++ ys) → Lacks c xs × Lacks c ys
+lacks-append c [] ys h = (tt, h)
+lacks-append c (x ∷ xs) ys h = let rest = lacks-append c xs ys h.1 in ((h.0, rest.0), rest.1)
+
+opening : encode_utf8 0x3C ≡ 0x3C ∷ []
+unfolding encode_utf8
+opening = refl
+
+-- no byte is `<`, so no character is
+lacks-chars : (cs : List ℕ) → Lacks 0x3C (encode_utf8_all cs) → Lacks 0x3C cs
+lacks-chars [] h = tt
+lacks-chars (c ∷ cs) h = let parts = lacks-append 0x3C (encode_utf8 c) (encode_utf8_all cs) h in (go (c == 0x3C) refl parts.0, lacks-chars cs parts.1)
+  where
+    go : (t : Bool) → (c == 0x3C) ≡ t → Lacks 0x3C (encode_utf8 c) → (c == 0x3C) ≡ false
+    go true e k =
+        let is : encode_utf8 c ≡ 0x3C ∷ [] = ap encode_utf8 (eqb-true c 0x3C e) ∙ opening in
+        let P : List ℕ → Type 0 = λ l. Lacks 0x3C l in
+        let no : Lacks 0x3C (0x3C ∷ []) = subst P is k in
+        absurd (cc (no.0))
+    go false e k = e
+
+blanked-free : (cs : List ℕ) → Lacks 0x3C cs → blanked false cs ≡ cs
+blanked-free [] h = refl
+blanked-free (c ∷ cs) h = rw h.0 (ap (λ (l : List ℕ). c ∷ l) (blanked-free cs h.1))
+
+is_open-free : (cs : List ℕ) → Lacks 0x3C cs → is_open_behind false cs ≡ false
+is_open-free [] h = refl
+is_open-free (c ∷ cs) h = rw h.0 (is_open-free cs h.1)
+
+lacks-text : (text : List ℕ) → IsUtf8 text → Lacks 0x3C text → Lacks 0x3C (chars text)
+lacks-text text utf8 h =
+    let P : List ℕ → Type 0 = λ l. Lacks 0x3C l in
+    lacks-chars (chars text) (subst P (sym (encodes-chars text utf8)) h)
+
+pub free-text : (text : List ℕ) (o : Bool) → o ≡ false → IsUtf8 text → Lacks 0x3C text → encode_utf8_all (blanked o (chars text)) ≡ text
+free-text text o e utf8 h = rw e (ap encode_utf8_all (blanked-free (chars text) (lacks-text text utf8 h)) ∙ encodes-chars text utf8)
+
+pub free-behind : (text : List ℕ) (o : Bool) → o ≡ false → IsUtf8 text → Lacks 0x3C text → is_open_behind o (chars text) ≡ false
+free-behind text o e utf8 h = rw e (is_open-free (chars text) (lacks-text text utf8 h))

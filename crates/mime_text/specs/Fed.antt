@@ -1,0 +1,48 @@
+-- What a MessageText was fed.
+use Rattle.std.specs.Prelude.{◌≡◌, ℕ, Bool, false, List, [], ◌∷◌, ◌++◌}
+use Rattle.mail_words.specs.declared.kind.TextKind.{TextKind}
+use Rattle.mime_text.specs.declared.fault.SinkFault.{SinkFault}
+use Rattle.mime_text.specs.declared.fault.TextFault.{TextFault}
+use Rattle.mime_text.specs.declared.message_text.MessageText.{MessageText}
+use Rattle.mime_text.specs.Sinks.{Pair, Coming, TakesAll, Breaks}
+use Rattle.mime_text.specs.Texts.{texts_of_message}
+use Rattle.mime_text.specs.Feeding.{Comes, KnowsFacts}
+
+-- an earlier call has failed
+abbrev pub has_failed : MessageText → Bool
+has_failed m = m.failed
+
+-- It was fed these lines and gave these pairs: whatever lines come, the message's texts are these pairs and those that it still
+-- gives. What it knows of the message's facts is right too.
+pub record Fed (m : MessageText) (ls : List (List ℕ)) (ps : List Pair) : Type 0 where
+  pub live : m.failed ≡ false
+  pub coming : Coming
+  pub comes : Comes m.reader coming
+  pub texts : (ms : List (List ℕ)) → texts_of_message (ls ++ ms) ≡ ps ++ coming ms
+  pub facts : KnowsFacts m.reader ls
+
+module _ {S : Type 0} (takes : S → TextKind → List ℕ → S → Type 0) (refuses : S → TextKind → List ℕ → SinkFault → S → Type 0) where
+  -- the sink took some pairs, with which a line more was fed, whatever was fed before
+  pub record Feeds (m n : MessageText) (l : List ℕ) (old new : S) : Type 0 where
+    pub pairs : List Pair
+    pub taken : TakesAll takes refuses pairs old new
+    pub fed : (ls : List (List ℕ)) (ps : List Pair) → Fed m ls ps → Fed n (ls ++ l ∷ []) (ps ++ pairs)
+
+  -- the sink was given some pairs, and there a fault came: they are in front of what comes, whatever was fed before, and
+  -- whatever comes behind the line
+  pub record FeedsPart (m : MessageText) (l : List ℕ) (fault : TextFault) (old new : S) : Type 0 where
+    pub pairs : List Pair
+    pub broken : Breaks takes refuses fault pairs old new
+    pub front : (ls : List (List ℕ)) (ps : List Pair) → Fed m ls ps → (ms : List (List ℕ)) → (later : List Pair) × (texts_of_message (ls ++ l ∷ ms) ≡ (ps ++ pairs) ++ later)
+
+  -- the sink took the pairs that were left, whatever was fed before
+  pub record Finishes (m : MessageText) (old new : S) : Type 0 where
+    pub pairs : List Pair
+    pub taken : TakesAll takes refuses pairs old new
+    pub whole : (ls : List (List ℕ)) (ps : List Pair) → Fed m ls ps → texts_of_message ls ≡ ps ++ pairs
+
+  -- the sink was given some of them, and there a fault came
+  pub record FinishesPart (m : MessageText) (fault : TextFault) (old new : S) : Type 0 where
+    pub pairs : List Pair
+    pub broken : Breaks takes refuses fault pairs old new
+    pub front : (ls : List (List ℕ)) (ps : List Pair) → Fed m ls ps → (later : List Pair) × (texts_of_message ls ≡ (ps ++ pairs) ++ later)

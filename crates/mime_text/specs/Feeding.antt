@@ -1,0 +1,97 @@
+-- What a reader of a message's lines still gives.
+use Rattle.std.specs.Prelude.{◌≡◌, ℕ, Bool, true, false, List, [], ◌∷◌, ◌++◌, Option, Some, None}
+use Rattle.header_text.specs.Headers.{HeaderField, fields_of}
+use Rattle.header_text.specs.declared.header.Header.{Header}
+use Rattle.header_text.specs.HeldLines.{HasLines}
+use Rattle.header_text.specs.Stages.{has_empty}
+use Rattle.mime_text.specs.declared.shape.DefaultType.{DefaultType}
+use Rattle.mime_text.specs.declared.shape.DefaultType.TheVariants.{TextPlain}
+use Rattle.mime_text.specs.declared.shape.Shape.{Shape}
+use Rattle.mime_text.specs.declared.frame.Frame.{Frame}
+use Rattle.mime_text.specs.declared.facts.Facts.{Facts}
+use Rattle.mime_text.specs.declared.leaf_reader.LeafReader.{LeafReader}
+use Rattle.mime_text.specs.declared.part_reader.State.{State}
+use Rattle.mime_text.specs.declared.part_reader.State.TheVariants as state
+use Rattle.mime_text.specs.declared.part_reader.PartReader.{PartReader}
+use Rattle.mime_text.specs.declared.nesting.Lead.{Lead}
+use Rattle.mime_text.specs.declared.nesting.Lead.TheVariants.{Nowhere, Piece, Behind}
+use Rattle.mime_text.specs.Sinks.{Pair, Coming}
+use Rattle.mime_text.specs.FieldTexts.{texts_of_fields}
+use Rattle.mime_text.specs.LeafReading.{pairs_to_come}
+use Rattle.mime_text.specs.MessageFacts.{facts_of}
+use Rattle.mime_text.specs.Types.{shape_of}
+use Rattle.mime_text.specs.Stream.{Place, Skip, InHeader, InLeaf, behind_header, given}
+use Rattle.mime_text.specs.Frames.{Nest}
+use Rattle.mime_text.specs.Texts.{part_texts}
+
+-- what the lines to come give from a place on
+abbrev pub given_from : List Frame → Place Pair → Coming
+given_from frames place ms = given shape_of part_texts frames place ms
+
+-- the texts of a header, if it counts
+abbrev pub counted_texts : Bool → List HeaderField → List Pair
+counted_texts true fields = texts_of_fields fields
+counted_texts false fields = []
+
+-- what an entity gives that ends here, with these fields where it is in its header
+abbrev pub ending : State → List HeaderField → LeafReader → List Pair
+ending state.Skipping fields leaf = []
+ending (state.InHeader counted d) fields leaf = counted_texts counted fields
+ending state.InLeaf fields leaf = pairs_to_come leaf []
+
+-- what comes behind the end of a header with these fields
+abbrev pub given_behind : Shape → Nest → List HeaderField → Coming
+given_behind shape nest fields ms =
+    let behind = behind_header shape_of part_texts shape nest.frames nest.left fields in given_from behind.0 behind.1 ms
+
+-- what comes behind a line that delimits
+abbrev pub given_after : Lead → Nest → Coming
+given_after Nowhere nest ms = given_from nest.frames Skip ms
+given_after (Piece d) nest ms = given_from nest.frames (InHeader false nest.left d []) ms
+given_after Behind nest ms = given_from nest.frames Skip ms
+
+-- these pairs come, in a state
+abbrev pub ComesAt : State → PartReader → Coming → Type 0
+ComesAt state.Skipping r c = (ms : List (List ℕ)) → c ms ≡ given_from r.nesting.frames Skip ms
+ComesAt (state.InHeader counted d) r c = (held : List (List ℕ)) × HasLines r.header held × (has_empty held ≡ false)
+    × ((ms : List (List ℕ)) → c ms ≡ given_from r.nesting.frames (InHeader counted r.nesting.left d held) ms)
+ComesAt state.InLeaf r c = (ms : List (List ℕ)) → c ms ≡ given_from r.nesting.frames (InLeaf (pairs_to_come r.leaf)) ms
+
+-- these pairs come, by the lines to come
+abbrev pub Comes : PartReader → Coming → Type 0
+Comes r c = ComesAt r.state r c
+
+-- these pairs come where a header has just ended
+abbrev pub ComesBehindHeader : PartReader → Bool → DefaultType → Coming → Type 0
+ComesBehindHeader r counted d c = (ls : List (List ℕ)) × HasLines r.header ls
+    × ((ms : List (List ℕ)) → c ms ≡ counted_texts counted (fields_of ls) ++ given_behind (shape_of d (fields_of ls)) r.nesting (fields_of ls) ms)
+
+-- these pairs come where an entity ends, and then what a lead goes to
+abbrev pub ComesEndingAt : State → PartReader → Lead → Coming → Type 0
+ComesEndingAt state.Skipping r lead c = (ms : List (List ℕ)) → c ms ≡ given_after lead r.nesting ms
+ComesEndingAt (state.InHeader counted d) r lead c = (held : List (List ℕ)) × HasLines r.header held
+    × ((ms : List (List ℕ)) → c ms ≡ counted_texts counted (fields_of held) ++ given_after lead r.nesting ms)
+ComesEndingAt state.InLeaf r lead c = (ms : List (List ℕ)) → c ms ≡ pairs_to_come r.leaf [] ++ given_after lead r.nesting ms
+
+abbrev pub ComesEnding : PartReader → Lead → Coming → Type 0
+ComesEnding r lead c = ComesEndingAt r.state r lead c
+
+-- the message's own header is being read, and these are its lines
+pub record IsInOwnHeader (r : PartReader) (ls : List (List ℕ)) : Type 0 where
+  pub state_is : r.state ≡ state.InHeader true TextPlain
+  pub outside : r.nesting.frames ≡ []
+  pub lines : HasLines r.header ls
+  pub open_ended : has_empty ls ≡ false
+
+-- what is known of the facts behind these lines
+abbrev pub KnowsAt : Option Facts → PartReader → List (List ℕ) → Type 0
+KnowsAt None r ls = IsInOwnHeader r ls
+KnowsAt (Some facts) r ls = (ms : List (List ℕ)) → facts ≡ facts_of (fields_of (ls ++ ms))
+
+-- facts that aren't known yet are those of the header that has ended
+abbrev pub Notes : Option Facts → Option Facts → Header → Type 0
+Notes None new h = (ls : List (List ℕ)) → HasLines h ls → new ≡ Some (facts_of (fields_of ls))
+Notes (Some facts) new h = new ≡ Some facts
+
+abbrev pub KnowsFacts : PartReader → List (List ℕ) → Type 0
+KnowsFacts r ls = KnowsAt r.facts r ls

@@ -1,0 +1,38 @@
+-- Tags, one character and one line at a time: whether one is open is all that counts of what stands before.
+use Rattle.std.specs.Prelude.{ℕ, Bool, true, false, not, ◌&&◌, ◌||◌, ◌==◌, if◌then◌else◌, List, [], ◌∷◌, encode_utf8_all}
+use Rattle.std.specs.Str.{chars}
+use Rattle.header_text.specs.Charsets.{text_of}
+use Rattle.header_text.specs.declared.charset.Charset.{Charset}
+
+-- whether a tag is open behind a character
+abbrev pub is_open_after : Bool → ℕ → Bool
+is_open_after open_before c = (open_before || (c == 0x3C)) && not (c == 0x3E)
+
+-- whether one is open behind characters
+abbrev pub is_open_behind : Bool → List ℕ → Bool
+is_open_behind open_before [] = open_before
+is_open_behind open_before (c ∷ cs) = is_open_behind (is_open_after open_before c) cs
+
+-- what stands for a character
+abbrev pub shown_character : Bool → ℕ → ℕ
+shown_character open_before c = if open_before || (c == 0x3C) then 0x20 else c
+
+-- the characters, with a space for each in a tag
+abbrev pub blanked : Bool → List ℕ → List ℕ
+blanked open_before [] = []
+blanked open_before (c ∷ cs) = shown_character open_before c ∷ blanked (is_open_after open_before c) cs
+
+-- the text of a line, and whether a tag is open behind it
+abbrev pub line_text : Charset → Bool → Bool → List ℕ → List ℕ
+line_text charset false open_before line = text_of charset line
+line_text charset true open_before line = encode_utf8_all (blanked open_before (chars (text_of charset line)))
+
+abbrev pub is_open_behind_line : Charset → Bool → Bool → List ℕ → Bool
+is_open_behind_line charset false open_before line = open_before
+is_open_behind_line charset true open_before line = is_open_behind open_before (chars (text_of charset line))
+
+-- the texts of lines behind those
+abbrev pub texts_behind : Charset → Bool → Bool → List (List ℕ) → List (List ℕ)
+texts_behind charset is_html open_before [] = []
+texts_behind charset is_html open_before (l ∷ ls) =
+    line_text charset is_html open_before l ∷ texts_behind charset is_html (is_open_behind_line charset is_html open_before l) ls

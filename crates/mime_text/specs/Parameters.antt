@@ -1,0 +1,91 @@
+-- The parameters of a Content-Type field (RFC 2045, 5.1), read leniently.
+use Rattle.std.specs.Prelude.{ℕ, zero, suc, Bool, true, false, not, ◌||◌, ◌==◌, if◌then◌else◌, List, [], ◌∷◌, ◌++◌, length, Option, None, Some, option_map}
+use Rattle.std.specs.Option.{option_map_or, option_to_list}
+use Rattle.std.specs.Str.{bytes_eq, str_to_ascii_lowercase}
+use Rattle.header_text.specs.Blanks.{is_blank, split_while, after_blanks, trimmed}
+use Rattle.header_text.specs.Cuts.{cut_at}
+
+pub record Parameter : Type 0 where
+  pub name : List ℕ
+  pub value : List ℕ
+
+abbrev pub semicolon : ℕ
+semicolon = 0x3B
+
+abbrev pub equals_sign : ℕ
+equals_sign = 0x3D
+
+abbrev pub quote : ℕ
+quote = 0x22
+
+abbrev pub backslash : ℕ
+backslash = 0x5C
+
+-- What stands in quotes, behind the first of them, and what follows them. A backslash is dropped, and the byte behind it
+-- taken as it is; the quotes end at the next other quote, or with the field.
+abbrev pub quoted : List ℕ → List ℕ × List ℕ
+quoted [] = ([], [])
+quoted (b ∷ []) = if (b == quote) || (b == backslash) then ([], []) else (b ∷ [], [])
+quoted (b ∷ c ∷ bs) = elim (b == quote) [
+  | true ↦ ([], c ∷ bs)
+  | false ↦ elim (b == backslash) [
+    | true ↦ let rest = quoted bs in (c ∷ rest.0, rest.1)
+    | false ↦ let rest = quoted (c ∷ bs) in (b ∷ rest.0, rest.1)
+  ]
+]
+
+-- a value that isn't in quotes ends before a semicolon, space or tab
+abbrev pub is_token_byte : ℕ → Bool
+is_token_byte b = not ((b == semicolon) || is_blank b)
+
+-- the value that begins some bytes, and what follows it; only a quote that is the value's first byte begins quotes
+abbrev pub value_and_rest : List ℕ → List ℕ × List ℕ
+value_and_rest [] = ([], [])
+value_and_rest (b ∷ bs) = elim (b == quote) [ true ↦ quoted bs | false ↦ split_while is_token_byte (b ∷ bs) ]
+
+-- a name ends before `=`; before a semicolon ends what is no parameter
+abbrev pub is_name_byte : ℕ → Bool
+is_name_byte b = not ((b == semicolon) || (b == equals_sign))
+
+-- what stands between a semicolon and the next: a parameter or nothing that counts; and what follows the next one, if there is
+pub record Piece : Type 0 where
+  pub parameter : Option Parameter
+  pub later : Option (List ℕ)
+
+abbrev pub behind_semicolon : List ℕ → Option (List ℕ)
+behind_semicolon bs = option_map (λ parts. parts.1) (cut_at semicolon bs)
+
+-- A parameter is a name, `=` and a value, with spaces and tabs round each. What has no `=` up to the next semicolon isn't one,
+-- and what stands between a value and the next semicolon doesn't count.
+unfoldable pub piece_of : List ℕ → Piece
+piece_of bs = let front = split_while is_name_byte bs in elim (front.1) [
+  | [] ↦ record { parameter = None; later = None }
+  | c ∷ rest ↦ elim (c == equals_sign) [
+    | false ↦ record { parameter = None; later = Some rest }
+    | true ↦ let found = value_and_rest (after_blanks rest) in
+        record { parameter = Some (record { name = trimmed front.0; value = found.0 }); later = behind_semicolon found.1 }
+  ]
+]
+
+-- the parameters of the first pieces of some bytes
+abbrev pub parameters_within : ℕ → List ℕ → List Parameter
+parameters_within zero bs = []
+parameters_within (suc n) bs = option_to_list (piece_of bs).parameter ++ option_map_or (λ rest. parameters_within n rest) (piece_of bs).later []
+
+-- the parameters behind a semicolon, where there is one: there are no more pieces than bytes
+abbrev pub parameters_behind : Option (List ℕ) → List Parameter
+parameters_behind None = []
+parameters_behind (Some bs) = parameters_within (length bs) bs
+
+-- the parameters of an unfolded value, in order
+abbrev pub parameters : List ℕ → List Parameter
+parameters value = parameters_behind (behind_semicolon value)
+
+-- the value of the first parameter of a name, which is written in lower case
+abbrev pub first_named : List ℕ → List Parameter → Option (List ℕ)
+first_named name [] = None
+first_named name (p ∷ ps) = elim (bytes_eq (str_to_ascii_lowercase p.name) name) [ true ↦ Some p.value | false ↦ first_named name ps ]
+
+-- the parameter of a name: the first one counts, names are compared without regard to case
+unfoldable pub parameter : List ℕ → List ℕ → Option (List ℕ)
+parameter name value = first_named name (parameters value)

@@ -1,0 +1,74 @@
+//! Delimiter lines (RFC 2046, 5.1.1).
+ghost use Rattle.std.specs.Prelude.{◌≡◌, Some, option_map};
+ghost use Rattle.std.specs.List.{list_all};
+ghost use Rattle.header_text.specs.Blanks.{is_blank as is_blank_of};
+ghost use Rattle.header_text.specs.EncodedWords.{after as after_of};
+ghost use Rattle.mime_text.specs.Parts.{are_blanks as are_blanks_of};
+ghost use Rattle.mime_text.specs.Frames.{dash_dash, dashes, delimiter_of, kind_behind};
+
+use mbox_cutter::without_break;
+
+/// What a delimiter line does to its multipart.
+#[derive(Clone, Copy, Debug, PartialEq, Eq)]
+pub(crate) enum Delimiter {
+    /// The next piece begins.
+    Next,
+    /// It ends.
+    Closing,
+}
+
+/// What follows a front of some bytes.
+fn after<'a>(front: &[u8], bytes: &'a [u8]) -> Option<&'a [u8]>
+    ensures { option_map (λ rest. rest.now) result ≡ after_of front.now bytes.now }
+{
+    bytes.strip_prefix(front)
+}
+
+/// Whether all bytes are spaces and tabs.
+fn are_blanks(bytes: &[u8]) -> bool
+    ensures { result ≡ list_all is_blank_of bytes.now }
+{
+    bytes.iter().all(|b| matches!(b, b' ' | b'\t'))
+}
+
+/// What follows the two dashes that a delimiter line begins with, without the line break.
+#[tactic(auto, unfolding(crate::specs::Frames::dashes))]
+pub(crate) fn after_dashes(line: &[u8]) -> Option<&[u8]>
+    ensures { option_map (λ rest. rest.now) result ≡ dashes line.now }
+{
+    after(b"--", without_break(line))
+}
+
+/// Whether two dashes stand there, and then spaces and tabs alone.
+fn closes(text: &[u8]) -> bool
+    ensures { result ≡ are_blanks_of (after_of dash_dash text.now) }
+{
+    match after(b"--", text) {
+        Some(behind) => are_blanks(behind),
+        None => false,
+    }
+}
+
+/// What a line is to a multipart, by what follows the two dashes and its boundary.
+fn delimiter_of_rest(rest: &[u8]) -> Option<Delimiter>
+    ensures { result ≡ kind_behind (Some rest.now) }
+{
+    if closes(rest) {
+        Some(Delimiter::Closing)
+    } else if are_blanks(rest) {
+        Some(Delimiter::Next)
+    } else {
+        None
+    }
+}
+
+/// What a line is to the multipart of a boundary, by what follows the line's two dashes.
+#[tactic(auto, unfolding(crate::specs::Frames::delimiter_of))]
+pub(crate) fn delimiter_behind(boundary: &[u8], text: &[u8]) -> Option<Delimiter>
+    ensures { result ≡ delimiter_of boundary.now text.now }
+{
+    match after(boundary, text) {
+        Some(rest) => delimiter_of_rest(rest),
+        None => None,
+    }
+}

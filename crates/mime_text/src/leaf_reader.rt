@@ -1,0 +1,78 @@
+//! The texts of a leaf, read one line at a time.
+ghost use Rattle.std.specs.Prelude.{◌≡◌, ℕ, ◌≤◌, ◌+◌, ◌∷◌, [], List, true, length};
+ghost use Rattle.mbox_cutter.specs.Lines.{length_before_feed};
+ghost use Rattle.mime_text.specs.Sinks.{Hands};
+ghost use Rattle.mime_text.specs.Transfer.{ends_in};
+ghost use Rattle.mime_text.specs.LeafTexts.{leaf_texts};
+ghost use Rattle.mime_text.specs.LeafReading.{body_pairs, pairs_to_come};
+ghost use Rattle.mime_text.specs.declared.decoder.Decoder.TheVariants as decoder_of;
+
+use crate::decoder::Decoder;
+use crate::fault::TextFault;
+use crate::held_line::HeldLine;
+use crate::line_texts::LineTexts;
+use crate::sink::TextSink;
+use crate::transfer::TransferEncoding;
+use header_text::Charset;
+use std::alloc::Global;
+
+/// Reads the bodies of texts, one after another, and gives their texts to a sink: one for each line of what the body encodes.
+/// Of a body it keeps at most the beginning of one such line.
+#[derive(Drop)]
+pub struct LeafReader {
+    decoder: Decoder,
+    held: HeldLine,
+    texts: LineTexts,
+}
+
+/// Whether a line of the body is a line of what it encodes, and nothing stands before it in that.
+fn is_passed_on(decoder: &Decoder, held: &HeldLine, line: &[u8]) -> bool
+    ensures decoder { result ≡ true → decoder.now ≡ decoder_of.Identity }
+    ensures held { result ≡ true → held.now ≡ [] }
+    ensures feed { result ≡ true → ends_in 0x0A line.now ≡ true }
+{
+    match decoder {
+        Decoder::Identity => held.is_empty() && line.strip_suffix(b"\n").is_some(),
+        _ => false,
+    }
+}
+
+impl LeafReader {
+    /// A reader that has no body yet. It takes no memory.
+    pub fn new(alloc: Global) -> Self {
+        LeafReader {
+            decoder: Decoder::Identity,
+            held: HeldLine::new(alloc),
+            texts: LineTexts::new(alloc),
+        }
+    }
+
+    /// Begins a body.
+    pub fn begin(&mut self, transfer: TransferEncoding, charset: Charset, is_html: bool)
+        ensures { (ls : List (List ℕ)) → pairs_to_come self.new ls ≡ body_pairs (leaf_texts transfer charset is_html ls) }
+    {
+        self.decoder = Decoder::new(transfer);
+        self.held.clear();
+        self.texts.begin(charset, is_html);
+    }
+
+    /// Reads the next line of the body.
+    pub fn line<S: TextSink>(&mut self, line: &[u8], sink: &mut S) -> Result<(), TextFault>
+        requires short { length line.now ≤ 65537 }
+        requires last { length line.now ≤ length_before_feed line.now + 1 }
+        ensures { Hands S.takes S.refuses (λ ls. pairs_to_come self.old (line.now ∷ ls)) (λ ls. pairs_to_come self.new ls) result sink.old sink.new }
+    {
+        if is_passed_on(&self.decoder, &self.held, line) {
+            return self.texts.give(line, sink);
+        }
+        self.held
+            .take(&mut self.decoder, line, &mut self.texts, sink)
+    }
+
+    /// Ends the body: gives what is left of it.
+    pub fn end<S: TextSink>(&mut self, sink: &mut S) -> Result<(), TextFault>
+        ensures { Hands S.takes S.refuses (λ _. pairs_to_come self.old []) (λ _. []) result sink.old sink.new }
+    {
+        self.held.finish(self.decoder, &mut self.texts, sink)
+    }
+}

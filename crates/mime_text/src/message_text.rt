@@ -1,0 +1,71 @@
+//! The texts of a message.
+ghost use Rattle.std.specs.Prelude.{◌≡◌, ◌<◌, ◌≤◌, ◌+◌, ℕ, true, false, List, [], ◌∷◌, ◌++◌, length, Ok, Err, IfOk, IfErr, OnOk, OnErr};
+ghost use Rattle.mbox_cutter.specs.Lines.{length_before_feed};
+ghost use Rattle.header_text.specs.Headers.{fields_of};
+ghost use Rattle.mime_text.specs.MessageFacts.{HasSizedIds, facts_of};
+ghost use Rattle.mime_text.specs.Sinks.{Pair};
+ghost use Rattle.mime_text.specs.Fed.{Fed, Feeds, FeedsPart, Finishes, FinishesPart, has_failed};
+
+use crate::facts::Facts;
+use crate::fault::TextFault;
+use crate::part_reader::PartReader;
+use crate::sink::TextSink;
+use std::alloc::{AllocError, Global};
+
+/// Reads a message one line at a time, and gives its texts to a sink as they come: of each header that counts the texts of its
+/// To, Cc, Bcc, From and Subject fields in order, and of each text/plain and text/html part a text for each line (RFC 2045,
+/// RFC 2046). Parts below the depth of 16 give nothing. No content is refused.
+#[derive(Drop)]
+pub struct MessageText {
+    reader: PartReader,
+    failed: bool,
+}
+
+impl MessageText {
+    /// Before the message's first line.
+    pub fn new(alloc: Global) -> Result<Self, AllocError>
+        ensures { IfOk result (λ m. Fed m [] []) }
+    {
+        Ok(MessageText {
+            reader: PartReader::new(alloc),
+            failed: false,
+        })
+    }
+
+    /// Reads the next line of the message's text, with its LF where it has one: 1 to 65,537 bytes, LF at most the last. After a
+    /// fault every call answers Failed.
+    pub fn line<S: TextSink>(&mut self, line: &[u8], sink: &mut S) -> Result<(), TextFault>
+        requires some { 0 < length line.now }
+        requires short { length line.now ≤ 65537 }
+        requires last { length line.now ≤ length_before_feed line.now + 1 }
+        ensures fed { OnOk result (Feeds S.takes S.refuses self.old self.new line.now sink.old sink.new) }
+        ensures stopped { has_failed self.old ≡ false → IfErr result (λ fault. FeedsPart S.takes S.refuses self.old line.now fault sink.old sink.new) }
+        ensures fails { OnErr result (has_failed self.new ≡ true) }
+        ensures again { has_failed self.old ≡ true → (result ≡ Err TextFault.Failed) × (sink.new ≡ sink.old) }
+    {
+        if self.failed {
+            return Err(TextFault::Failed);
+        }
+        match self.reader.line(line, sink) {
+            Ok(()) => Ok(()),
+            Err(fault) => {
+                self.failed = true;
+                Err(fault)
+            }
+        }
+    }
+
+    /// Ends the message, gives the texts that are left, and answers what its own header says beside its texts.
+    pub fn end<S: TextSink>(self, sink: &mut S) -> Result<Facts, TextFault>
+        ensures texts { OnOk result (Finishes S.takes S.refuses self sink.old sink.new) }
+        ensures facts { IfOk result (λ facts. (ls : List (List ℕ)) (ps : List Pair) → Fed self ls ps → facts ≡ facts_of (fields_of ls)) }
+        ensures sizes { IfOk result HasSizedIds }
+        ensures stopped { has_failed self ≡ false → IfErr result (λ fault. FinishesPart S.takes S.refuses self fault sink.old sink.new) }
+        ensures again { has_failed self ≡ true → (result ≡ Err TextFault.Failed) × (sink.new ≡ sink.old) }
+    {
+        if self.failed {
+            return Err(TextFault::Failed);
+        }
+        self.reader.end(sink)
+    }
+}

@@ -1,0 +1,172 @@
+//! The parameters of a field (RFC 2045, 5.1), read leniently.
+ghost use Rattle.std.specs.Prelude.{◌≡◌, ◌<◌, ◌++◌, false, map, length, IfOk, IfSome, option_map, if◌then◌else◌};
+ghost use Rattle.std.specs.Char.{to_ascii_lowercase};
+ghost use Rattle.std.specs.Option.{option_map_or};
+ghost use Rattle.std.specs.Str.{bytes_eq, str_to_ascii_lowercase};
+ghost use Rattle.header_text.specs.Blanks.{split_while};
+ghost use Rattle.mime_text.specs.Parameters.{quoted, is_token_byte as is_token_byte_of, is_name_byte as is_name_byte_of, value_and_rest, piece_of, behind_semicolon as behind_semicolon_of, parameter as parameter_of};
+
+use header_text::{after_blanks, cut_at, is_named, trimmed};
+use std::alloc::AllocError;
+
+/// Whether a value that isn't in quotes may have the byte.
+fn is_token_byte(b: u8) -> bool
+    ensures { result ≡ is_token_byte_of b }
+{
+    !matches!(b, b';' | b' ' | b'\t')
+}
+
+/// Whether a name may have the byte.
+fn is_name_byte(b: u8) -> bool
+    ensures { result ≡ is_name_byte_of b }
+{
+    !matches!(b, b';' | b'=')
+}
+
+/// The bytes behind those in front that a value may have that isn't in quotes.
+fn after_token(bytes: &[u8]) -> &[u8]
+    ensures { result.now ≡ (split_while is_token_byte_of bytes.now).1 }
+{
+    let mut rest = bytes;
+    while let Some((first, others)) = rest.split_first() {
+        if !is_token_byte(*first) {
+            break;
+        }
+        rest = others;
+    }
+    rest
+}
+
+/// The bytes behind those in front that a name may have.
+fn after_name(bytes: &[u8]) -> &[u8]
+    ensures { result.now ≡ (split_while is_name_byte_of bytes.now).1 }
+{
+    let mut rest = bytes;
+    while let Some((first, others)) = rest.split_first() {
+        if !is_name_byte(*first) {
+            break;
+        }
+        rest = others;
+    }
+    rest
+}
+
+/// Adds what stands in quotes, behind the first of them, and answers what follows them.
+fn read_quoted<'a>(text: &'a [u8], into: &mut Vec<u8>) -> Result<&'a [u8], AllocError>
+    ensures value { IfOk result (λ rest. into.new.items ≡ into.old.items ++ (quoted text.now).0) }
+    ensures rest { IfOk result (λ rest. rest.now ≡ (quoted text.now).1) }
+{
+    let mut rest = text;
+    while let Some((first, others)) = rest.split_first() {
+        if *first == b'"' {
+            return Ok(others);
+        }
+        if *first == b'\\' {
+            match others.split_first() {
+                Some((next, later)) => {
+                    into.push(*next)?;
+                    rest = later;
+                }
+                None => return Ok(others),
+            }
+        } else {
+            into.push(*first)?;
+            rest = others;
+        }
+    }
+    Ok(rest)
+}
+
+/// Adds the value that begins a text and isn't in quotes, and answers what follows it.
+fn read_token<'a>(text: &'a [u8], into: &mut Vec<u8>) -> Result<&'a [u8], AllocError>
+    ensures value { IfOk result (λ rest. into.new.items ≡ into.old.items ++ (split_while is_token_byte_of text.now).0) }
+    ensures rest { IfOk result (λ rest. rest.now ≡ (split_while is_token_byte_of text.now).1) }
+{
+    let rest = after_token(text);
+    into.extend_from_slice(&text[..text.len() - rest.len()])?;
+    Ok(rest)
+}
+
+/// Adds the value that begins a text, and answers what follows it.
+fn read_value<'a>(text: &'a [u8], into: &mut Vec<u8>) -> Result<&'a [u8], AllocError>
+    ensures value { IfOk result (λ rest. into.new.items ≡ into.old.items ++ (value_and_rest text.now).0) }
+    ensures rest { IfOk result (λ rest. rest.now ≡ (value_and_rest text.now).1) }
+{
+    match text.split_first() {
+        Some((first, others)) if *first == b'"' => read_quoted(others, into),
+        _ => read_token(text, into),
+    }
+}
+
+/// What stands between a semicolon and the next.
+#[derive(Clone, Copy)]
+struct Piece<'a> {
+    /// Of the parameter, where it is one.
+    name: Option<&'a [u8]>,
+    /// What follows the next semicolon, where there is one.
+    later: Option<&'a [u8]>,
+}
+
+/// What follows the first semicolon.
+fn behind_semicolon(text: &[u8]) -> Option<&[u8]>
+    ensures { option_map (λ rest. rest.now) result ≡ behind_semicolon_of text.now }
+{
+    let (_, behind) = cut_at(b';', text)?;
+    Some(behind)
+}
+
+/// Reads what begins behind a semicolon. The buffer then holds its value, where it is a parameter.
+#[tactic(auto, unfolding(crate::specs::Parameters::piece_of))]
+fn read_piece<'a>(text: &'a [u8], into: &mut Vec<u8>) -> Result<Piece<'a>, AllocError>
+    ensures parameter { IfOk result (λ piece. option_map (λ name. record { name = name.now; value = into.new.items }) piece.name ≡ (piece_of text.now).parameter) }
+    ensures later { IfOk result (λ piece. option_map (λ rest. rest.now) piece.later ≡ (piece_of text.now).later) }
+{
+    into.clear();
+    let behind = after_name(text);
+    let name = &text[..text.len() - behind.len()];
+    match behind.split_first() {
+        Some((sign, rest)) if *sign == b'=' => {
+            let after = read_value(after_blanks(rest), into)?;
+            Ok(Piece {
+                name: Some(trimmed(name)),
+                later: behind_semicolon(after),
+            })
+        }
+        Some((_, rest)) => Ok(Piece {
+            name: None,
+            later: Some(rest),
+        }),
+        None => Ok(Piece {
+            name: None,
+            later: None,
+        }),
+    }
+}
+
+/// Whether there is a name, and it is this one, in any ASCII case.
+fn has_name(found: Option<&[u8]>, name: &[u8]) -> bool
+    requires { map to_ascii_lowercase name.now ≡ name.now }
+    ensures { result ≡ option_map_or (λ text. bytes_eq (str_to_ascii_lowercase text.now) name.now) found.entry false }
+{
+    match found {
+        Some(text) => is_named(text, name),
+        None => false,
+    }
+}
+
+/// Whether an unfolded value has a parameter of a name, which is written in lower case. The first one counts, and the buffer
+/// then holds its value. What the buffer holds else isn't said.
+pub fn read_parameter(value: &[u8], name: &[u8], into: &mut Vec<u8>) -> Result<bool, AllocError>
+    requires { map to_ascii_lowercase name.now ≡ name.now }
+    ensures { IfOk result (λ found. (if found then Some into.new.items else None) ≡ parameter_of name.now value.now) }
+{
+    let mut rest = behind_semicolon(value);
+    while let Some(text) = rest {
+        let piece = read_piece(text, into)?;
+        if has_name(piece.name, name) {
+            return Ok(true);
+        }
+        rest = piece.later;
+    }
+    Ok(false)
+}
