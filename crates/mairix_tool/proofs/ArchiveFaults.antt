@@ -1,5 +1,5 @@
 -- Which archive a fault is of.
-use Rattle.std.proofs.Common.{◌≡◌, ◌≢◌, ℕ, false, inl, inr, Option, Some, refl, ◌∙◌}
+use Rattle.std.proofs.Common.{◌≡◌, ◌≢◌, ℕ, false, inl, inr, Some, refl, ◌∙◌}
 use Rattle.std.proofs.lemmas.Bool.Decides.{eqb_tells}
 use Rattle.mbox_cutter.specs.declared.event.CutFault.TheVariants.{Device}
 use Rattle.mairix_tool.specs.declared.fault.Fault.{Fault}

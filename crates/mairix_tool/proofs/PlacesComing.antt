@@ -1,5 +1,5 @@
 -- What comes of an archive from its front on gives the archive's places.
-use Rattle.std.proofs.Common.{◌≡◌, ℕ, List, [], Option, Some, None, Result, IfSome, ap, subst, sym}
+use Rattle.std.proofs.Common.{◌≡◌, ℕ, List, Option, Some, None, Result, IfSome, ap, subst}
 use Rattle.std.specs.Option.{option_map}
 use Rattle.mbox_cutter.specs.Events.{Coming, coming_of, refusal_of}
 use Rattle.mairix_tool.specs.declared.fault.Fault.{Fault}
@@ -20,4 +20,4 @@ pub of_known_bytes : (P : Result (List Place) Fault → Type 0) (sought : Sought
 of_known_bytes P sought archive None coming is h = tt
 of_known_bytes P sought archive (Some b) coming is h =
     let known : IfSome (Some (coming_of most_in_archive b)) (λ k. P (places_coming sought archive k)) = subst (λ o. IfSome o (λ k. P (places_coming sought archive k))) is h in
-    subst P (places_coming-archive word archive b) known
+    subst P (places_coming-archive sought archive b) known

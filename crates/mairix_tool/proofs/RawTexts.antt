@@ -1,9 +1,9 @@
 -- Laws of a raw answer, line by line.
-use Rattle.std.proofs.Common.{◌≡◌, ℕ, ◌+◌, suc, ◌<◌, List, [], ◌∷◌, ◌++◌, length, get_or, drop, drop-cons, Option, Result, Ok, Err, OnErr, refl, ap, sym, ◌∙◌, append_assoc, add-one}
+use Rattle.std.proofs.Common.{◌≡◌, ℕ, ◌+◌, suc, ◌<◌, List, ◌++◌, length, get_or, drop, drop-cons, Option, Result, Ok, Err, OnErr, ap, sym, ◌∙◌, append_assoc, add-one}
 use Rattle.std.proofs.lemmas.List.Concat.{flat_map-cons}
 use Rattle.std.specs.Io.KnownBytes.{Appends}
 use Rattle.contract_words.specs.Devices.{Sends}
-use Rattle.contract_words.proofs.Sending.{appends_join, sends_more}
+use Rattle.contract_words.proofs.Sending.{appends_join}
 use Rattle.mairix_tool.specs.declared.place.Place.{Place}
 use Rattle.mairix_tool.specs.RawAnswers.{raw_line, raw_text, MovesOut}
 

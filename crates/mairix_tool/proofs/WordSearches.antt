@@ -1,13 +1,14 @@
 -- What a word search has found of the texts that it took.
-use Rattle.std.proofs.Common.{◌≡◌, ◌∙◌, ℕ, Bool, true, false, List, [], ◌∷◌, ◌++◌, refl, sym, ap, subst}
+use Rattle.std.proofs.Common.{◌≡◌, ◌∙◌, ℕ, Bool, true, false, List, [], ◌∷◌, ◌++◌, refl, sym, ap}
 use Rattle.std.specs.Prelude.{◌||◌}
 use Rattle.std.proofs.lemmas.List.Folds.{list_any-append}
 use Rattle.mail_words.specs.declared.kind.TextKind.{TextKind}
 use Rattle.mime_text.specs.declared.fault.SinkFault.{SinkFault}
+use Rattle.mime_text.specs.declared.fault.SinkFault.TheVariants.{OutOfMemory}
 use Rattle.mime_text.specs.declared.message_text.MessageText.{MessageText}
 use Rattle.mime_text.specs.Sinks.{Pair, TakesAll}
 use Rattle.mime_text.specs.Texts.{texts_of_message}
-use Rattle.mime_text.specs.Fed.{Fed, Feeds, Finishes}
+use Rattle.mime_text.specs.Fed.{Feeds, Finishes}
 use Rattle.mairix_tool.specs.declared.word_search.WordSearch.{WordSearch}
 use Rattle.mairix_tool.specs.MessageTexts.{is_found_in, is_found}
 use Rattle.mairix_tool.specs.ArchiveSearches.{HasBeenFed}
@@ -19,6 +20,10 @@ or_or false b c = refl
 -- what a text makes of a search
 abbrev pub Takes : WordSearch → TextKind → List ℕ → WordSearch → Type 0
 Takes old kind text new = (new.sought ≡ old.sought) × (new.found ≡ (old.found || is_found_in old.sought.now (kind, text)))
+
+-- and what a refused one does: memory is wanting
+abbrev pub Refuses : WordSearch → TextKind → List ℕ → SinkFault → WordSearch → Type 0
+Refuses old kind text fault new = fault ≡ OutOfMemory
 
 module _ (refuses : WordSearch → TextKind → List ℕ → SinkFault → WordSearch → Type 0) where
   pub taken-sought : (ps : List Pair) (old new : WordSearch) → TakesAll Takes refuses ps old new → new.sought ≡ old.sought

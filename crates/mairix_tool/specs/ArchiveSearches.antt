@@ -1,5 +1,5 @@
 -- A search through an archive as its fields are.
-use Rattle.std.specs.Prelude.{◌≡◌, ℕ, Bool, List, [], ◌++◌, Option, Some, None, Result}
+use Rattle.std.specs.Prelude.{◌≡◌, ℕ, Bool, List, ◌++◌, Option, Some, None, Result}
 use Rattle.std.specs.Option.{MatchOption}
 use Rattle.mbox_cutter.specs.Events.{Coming}
 use Rattle.mime_text.specs.Sinks.{Pair}

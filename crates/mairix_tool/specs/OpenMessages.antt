@@ -21,12 +21,16 @@ open_after m (End span size) = None
 open_after m (Done all) = None
 
 -- the place of a message with this span that ends, where its text is chosen
-abbrev pub place_found : ℕ → (List (List ℕ) → Bool) → OpenMessage → ℕ → List Place
-place_found archive chosen m span = if chosen m.lines then record { archive = archive; offset = m.offset; span = span } ∷ [] else []
+abbrev pub place_found : ℕ → (List (List ℕ) → Bool) → Option OpenMessage → ℕ → List Place
+place_found archive chosen None span = []
+place_found archive chosen (Some m) span = if chosen m.lines then record { archive = archive; offset = m.offset; span = span } ∷ [] else []
 
+-- what an event gives
 abbrev pub found_at : ℕ → (List (List ℕ) → Bool) → Option OpenMessage → ArchiveEvent → List Place
-found_at archive chosen (Some m) (End span size) = place_found archive chosen m span
-found_at archive chosen _ _ = []
+found_at archive chosen m (Start offset separator) = []
+found_at archive chosen m (Line line) = []
+found_at archive chosen m (End span size) = place_found archive chosen m span
+found_at archive chosen m (Done all) = []
 
 -- what these events still give, where this message is open, or none
 abbrev pub still_found : ℕ → (List (List ℕ) → Bool) → Option OpenMessage → List ArchiveEvent → List Place

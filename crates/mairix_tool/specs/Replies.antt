@@ -1,5 +1,5 @@
 -- The reply of a run: a function of the words, the rcfile and the archives' bytes.
-use Rattle.std.specs.Prelude.{◌≡◌, ⊤, ℕ, ◌+◌, List, [], ◌∷◌, ◌++◌, length, true, false, nat_eq, if◌then◌else◌, Option, None, Some, Result, Ok, Err}
+use Rattle.std.specs.Prelude.{◌≡◌, ⊤, ℕ, List, [], length, false, nat_eq, if◌then◌else◌, Option, None, Some, Result, Ok, Err}
 use Rattle.std.specs.Bool.{MatchBool}
 use Rattle.std.specs.Io.KnownBytes.{Appends}
 use Rattle.contract_words.specs.Answers.{◌>>=◌, fault_as, collect_from}

@@ -31,11 +31,7 @@ fn want_of_memory(_fault: TextFault) -> AllocError {
 }
 
 /// Feeds a line of the message's text to the search.
-fn feed(
-    text: &mut MessageText,
-    line: &[u8],
-    words: &mut WordSearch<'_>,
-) -> Result<(), AllocError>
+fn feed(text: &mut MessageText, line: &[u8], words: &mut WordSearch<'_>) -> Result<(), AllocError>
     requires { IsLine line.now }
     ensures sought { OnOk result (words.new.sought ≡ words.old.sought) }
     ensures fed { OnOk result ((ls : List (List ℕ)) → HasBeenFed text.old words.old ls → HasBeenFed text.new words.new (ls ++ line.now ∷ [])) }

@@ -13,6 +13,17 @@ pub enum SinkFault {
     Refused,
 }
 
+impl From<AllocError> for SinkFault {
+    ghost use Rattle.std.specs.Prelude.{◌≡◌};
+    ghost use Rattle.mime_text.specs.declared.fault.SinkFault.TheVariants.{OutOfMemory};
+
+    ghost from_gives = { λ _ fault. fault ≡ OutOfMemory };
+
+    fn from(_: AllocError) -> Self {
+        SinkFault::OutOfMemory
+    }
+}
+
 /// Why a message's texts weren't all given.
 #[derive(Clone, Copy, Debug, PartialEq, Eq, Error)]
 pub enum TextFault {

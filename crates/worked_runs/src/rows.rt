@@ -108,8 +108,10 @@ fn subjects_are_found(rt: HostRuntime) -> Result<(), Fail> {
 #[test]
 fn bodies_are_found(rt: HostRuntime) -> Result<(), Fail> {
     let soft_break = "^Content-Transfer-Encoding: quoted-printable||lunch=|break||";
-    let split_group = "^Content-Type: text/plain; charset=utf-8|Content-Transfer-Encoding: base64||ZsO|8cg==||";
-    let nested = "^Content-Type: multipart/mixed; boundary=o||--o|Content-Type: multipart/mixed; boundary=i||--i||inner|--o||outer|--o--||";
+    let split_group =
+        "^Content-Type: text/plain; charset=utf-8|Content-Transfer-Encoding: base64||ZsO|8cg==||";
+    let nested =
+        "^Content-Type: multipart/mixed; boundary=o||--o|Content-Type: multipart/mixed; boundary=i||--i||inner|--o||outer|--o--||";
     let html = "^Content-Type: text/html||<p>Mee<b>t||";
     for (text, pattern, messages, answer) in [
         ("^Subject: Hello||hi||", "b:hi", 1, "0 58 m.mbox\n"),

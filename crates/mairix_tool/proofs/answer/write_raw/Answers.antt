@@ -1,5 +1,4 @@
-use Rattle.std.proofs.Common.{arith, ◌≡◌, ◌∙◌, ◌<◌, ◌+◌, ◌++◌, [], ℕ, List, sym, ap, map, drop, length, get_or, refl, string_bytes, append-nil}
-use Rattle.std.proofs.lemmas.List.{drop_all}
+use Rattle.std.proofs.Common.{arith, ◌∙◌, ◌+◌, ◌++◌, ℕ, List, map, drop, get_or, string_bytes}
 use Rattle.contract_words.proofs.Sending.{sends_more}
 use Rattle.mairix_tool.specs.declared.place.Place.{Place}
 use Rattle.mairix_tool.specs.RawAnswers.{raw_text, raw_line}

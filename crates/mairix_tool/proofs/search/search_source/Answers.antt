@@ -1,4 +1,4 @@
-use Rattle.std.proofs.Common.{ℕ, List, Result}
+use Rattle.std.proofs.Common.{List, Result}
 use Rattle.contract_words.specs.Answers.{Gives}
 use Rattle.mairix_tool.specs.declared.place.Place.{Place}
 use Rattle.mairix_tool.specs.declared.fault.Fault.{Fault}

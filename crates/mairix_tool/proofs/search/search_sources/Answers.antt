@@ -1,5 +1,4 @@
-use Rattle.std.proofs.Common.{arith, ◌≡◌, ◌∙◌, ◌<◌, ◌+◌, ◌++◌, [], ℕ, List, sym, ap, map, take, drop, length, get_or, false, refl, IfSome, IsOk, Some, Ok, Err, take_all}
-use Rattle.std.proofs.lemmas.List.{length-set}
+use Rattle.std.proofs.Common.{arith, ◌≡◌, ◌∙◌, ◌<◌, [], sym, ap, length, get_or, false, refl, IfSome, Some, Ok, Err}
 use Rattle.std.proofs.lemmas.List.Elements.{All-get_or}
 use Rattle.std.proofs.lemmas.Result.{err_from_is_err_and}
 use Rattle.std.proofs.Math.Seq.{map-set_same}
@@ -7,7 +6,6 @@ use Rattle.contract_words.specs.Answers.{collect_from}
 use Rattle.contract_words.proofs.Collecting.{collect_take_ok, collect_take_err, if_some_map}
 use Rattle.contract_words.proofs.DeviceLists.{same_at, same_behind, known_length, counted_at, bytes_at}
 use Rattle.mairix_tool.specs.declared.pattern.Sought.{Sought}
-use Rattle.mairix_tool.specs.declared.place.Place.{Place}
 use Rattle.mairix_tool.specs.declared.fault.Fault.{Fault}
 use Rattle.mairix_tool.specs.Faults.{refusal_of, is_failed_source}
 use Rattle.mairix_tool.specs.Places.{places_of}

@@ -1,4 +1,4 @@
-use Rattle.std.proofs.Common.{◌≡◌, ℕ, List, map, take, drop, Ok, Some, vec_len}
+use Rattle.std.proofs.Common.{◌≡◌, ℕ, List, map, take, drop, Ok, Some}
 use Rattle.contract_words.specs.Answers.{collect_from}
 use Rattle.mairix_tool.specs.Places.{places_of}
 use Rattle.mairix_tool.proofs.search.search_sources.Given as goal
