@@ -27,7 +27,7 @@ module _ {S : Type 0} (takes : S → TextKind → List ℕ → S → Type 0) (re
           coming = (h.rest f.coming f.comes).0;
           comes = (h.rest f.coming f.comes).1;
           texts = λ ms. ap texts_of_message (append_assoc ls (l ∷ []) ms) ∙ f.texts (l ∷ ms) ∙ ap (λ (x : List Pair). ps ++ x) ((h.rest f.coming f.comes).2 ms)
-            ∙ sym (append_assoc ps h.pairs ((h.rest f.coming f.comes).0 ms));
+              ∙ sym (append_assoc ps h.pairs ((h.rest f.coming f.comes).0 ms));
           facts = k ls f.facts;
         };
       }
@@ -37,8 +37,11 @@ module _ {S : Type 0} (takes : S → TextKind → List ℕ → S → Type 0) (re
       record {
         pairs = h.pairs;
         broken = h.broken;
-        front = λ ls ps f ms. ((h.front f.coming f.comes ms).0, f.texts (l ∷ ms) ∙ ap (λ (x : List Pair). ps ++ x) (h.front f.coming f.comes ms).1
-          ∙ sym (append_assoc ps h.pairs (h.front f.coming f.comes ms).0));
+        front = λ ls ps f ms. (
+          (h.front f.coming f.comes ms).0,
+          f.texts (l ∷ ms) ∙ ap (λ (x : List Pair). ps ++ x) (h.front f.coming f.comes ms).1
+              ∙ sym (append_assoc ps h.pairs (h.front f.coming f.comes ms).0),
+        );
       }
 
   pub finishes : (m : MessageText) (s t : S) → Passed takes refuses (Comes m.reader) IsOver (λ c _. c []) s t → Finishes takes refuses m s t
@@ -47,7 +50,7 @@ module _ {S : Type 0} (takes : S → TextKind → List ℕ → S → Type 0) (re
         pairs = h.pairs;
         taken = h.taken;
         whole = λ ls ps f. ap texts_of_message (sym (append-nil ls)) ∙ f.texts []
-          ∙ ap (λ (x : List Pair). ps ++ x) ((h.rest f.coming f.comes).2 [] ∙ ap (λ (x : List Pair). h.pairs ++ x) ((h.rest f.coming f.comes).1 []) ∙ append-nil h.pairs);
+            ∙ ap (λ (x : List Pair). ps ++ x) ((h.rest f.coming f.comes).2 [] ∙ ap (λ (x : List Pair). h.pairs ++ x) ((h.rest f.coming f.comes).1 []) ∙ append-nil h.pairs);
       }
 
   pub finishes-part : (m : MessageText) (fault : TextFault) (s t : S) → Stopped takes refuses (Comes m.reader) (λ c _. c []) fault s t → FinishesPart takes refuses m fault s t
@@ -55,8 +58,11 @@ module _ {S : Type 0} (takes : S → TextKind → List ℕ → S → Type 0) (re
       record {
         pairs = h.pairs;
         broken = h.broken;
-        front = λ ls ps f. ((h.front f.coming f.comes []).0, ap texts_of_message (sym (append-nil ls)) ∙ f.texts [] ∙ ap (λ (x : List Pair). ps ++ x) (h.front f.coming f.comes []).1
-          ∙ sym (append_assoc ps h.pairs (h.front f.coming f.comes []).0));
+        front = λ ls ps f. (
+          (h.front f.coming f.comes []).0,
+          ap texts_of_message (sym (append-nil ls)) ∙ f.texts [] ∙ ap (λ (x : List Pair). ps ++ x) (h.front f.coming f.comes []).1
+              ∙ sym (append_assoc ps h.pairs (h.front f.coming f.comes []).0),
+        );
       }
 
   pub finishes-at : {T : Type 0} (m : MessageText) (result : Result T TextFault) (s t : S) → Passes takes refuses (Comes m.reader) IsOver (λ c _. c []) result s t → OnOk result (Finishes takes refuses m s t)

@@ -184,7 +184,7 @@ pub closing-leads : {A : Type 0} (l text : List ℕ) (frames fs seen kept : List
 closing-leads {A} l text frames fs seen kept n k v q e is found t =
     let here : kept ≡ take n seen = t ∙ ap (take n) (sym q) in
     sym (scanned l text frames fs seen (Some (inside_out kept [], Skip)) v q e
-      (found.2 ∙ ap (λ (x : Delimiter). led {A = A} (Some x) found.0 (inside_out (take n seen) [])) is ∙ ap (λ (x : List Frame). Some (inside_out x [], Skip)) (sym here)))
+    (found.2 ∙ ap (λ (x : Delimiter). led {A = A} (Some x) found.0 (inside_out (take n seen) [])) is ∙ ap (λ (x : List Frame). Some (inside_out x [], Skip)) (sym here)))
 
 pub next-leads : {A : Type 0} (l text : List ℕ) (frames fs seen kept : List Frame) (n : ℕ) (k : Delimiter) (g : Frame)
     → frames ≡ inside_out fs [] → seen ≡ fs → dashes l ≡ Some text → k ≡ Next → Found A seen text n k → slice_get fs n ≡ Some g → kept ≡ take (n + 1) fs
@@ -194,6 +194,6 @@ next-leads {A} l text frames fs seen kept n k g v q e is found got t =
     let same : found.0 ≡ g = let a : slice_get fs n ≡ Some found.0 = ap (λ (x : List Frame). slice_get x n) (sym q) ∙ found.1 in cc in
     let inner : List Frame = inside_out (take n seen) [] in
     sym (scanned l text frames fs seen (Some (inside_out kept [], InHeader false g.left g.default [])) v q e
-      (found.2 ∙ ap (λ (x : Delimiter). led {A = A} (Some x) found.0 inner) is
-        ∙ ap (λ (x : List Frame). Some (x, InHeader false found.0.left found.0.default [])) (sym (inside_out-at seen n [] found.0 found.1) ∙ ap (λ (x : List Frame). inside_out x []) (sym here))
-        ∙ ap (λ (f : Frame). Some (inside_out kept [], InHeader false f.left f.default [])) same))
+    (found.2 ∙ ap (λ (x : Delimiter). led {A = A} (Some x) found.0 inner) is
+    ∙ ap (λ (x : List Frame). Some (x, InHeader false found.0.left found.0.default [])) (sym (inside_out-at seen n [] found.0 found.1) ∙ ap (λ (x : List Frame). inside_out x []) (sym here))
+    ∙ ap (λ (f : Frame). Some (inside_out kept [], InHeader false f.left f.default [])) same))

@@ -78,10 +78,13 @@ delimits r n lead l h e q c k = go r.state k
   where
     go : (s : State) → ComesAt s r c → ComesEndingAt s (record r { nesting = n }) lead (λ ms. c (l ∷ ms))
     go state.Skipping k = λ ms. k (l ∷ ms) ∙ given-hit r.nesting.frames Skip l h ms e ∙ q ms
-    go (state.InHeader counted d) k =
-        (k.0, k.1, λ ms. k.3 (l ∷ ms) ∙ given-hit r.nesting.frames (InHeader counted r.nesting.left d k.0) l h ms e
+    go (state.InHeader counted d) k = (
+      k.0,
+      k.1,
+      λ ms. k.3 (l ∷ ms) ∙ given-hit r.nesting.frames (InHeader counted r.nesting.left d k.0) l h ms e
           ∙ ap (λ (ps : List Pair). ps ++ given_from h.0 h.1 ms) (value-header counted r.nesting.left d k.0 k.2)
-          ∙ ap (λ (ps : List Pair). counted_texts counted (fields_of k.0) ++ ps) (q ms))
+          ∙ ap (λ (ps : List Pair). counted_texts counted (fields_of k.0) ++ ps) (q ms),
+    )
     go state.InLeaf k =
         λ ms. k (l ∷ ms) ∙ given-hit r.nesting.frames (InLeaf (pairs_to_come r.leaf)) l h ms e ∙ ap (λ (ps : List Pair). pairs_to_come r.leaf [] ++ ps) (q ms)
 
@@ -152,8 +155,11 @@ module _ {S : Type 0} (takes : S → TextKind → List ℕ → S → Type 0) (re
       record {
         pairs = h.pairs;
         taken = h.taken;
-        rest = λ c k. (given_behind (shape_of d (fields_of k.0)) r.nesting (fields_of k.0), a k.0 k.1,
-          λ ms. k.2 ms ∙ ap (λ (ps : List Pair). ps ++ given_behind (shape_of d (fields_of k.0)) r.nesting (fields_of k.0) ms) (ap (counted_texts counted) (sym (f k.0 k.1)) ∙ h.rest ms ∙ append-nil h.pairs));
+        rest = λ c k. (
+          given_behind (shape_of d (fields_of k.0)) r.nesting (fields_of k.0),
+          a k.0 k.1,
+          λ ms. k.2 ms ∙ ap (λ (ps : List Pair). ps ++ given_behind (shape_of d (fields_of k.0)) r.nesting (fields_of k.0) ms) (ap (counted_texts counted) (sym (f k.0 k.1)) ∙ h.rest ms ∙ append-nil h.pairs),
+        );
       }
 
   pub header-stopped : (r : PartReader) (counted : Bool) (d : DefaultType) (fields : List HeaderField) (fault : TextFault) (s t : S)
@@ -163,9 +169,11 @@ module _ {S : Type 0} (takes : S → TextKind → List ℕ → S → Type 0) (re
       record {
         pairs = h.pairs;
         broken = h.broken;
-        front = λ c k ms. ((h.front ms).0 ++ given_behind (shape_of d (fields_of k.0)) r.nesting (fields_of k.0) ms,
+        front = λ c k ms. (
+          (h.front ms).0 ++ given_behind (shape_of d (fields_of k.0)) r.nesting (fields_of k.0) ms,
           k.2 ms ∙ ap (λ (ps : List Pair). ps ++ given_behind (shape_of d (fields_of k.0)) r.nesting (fields_of k.0) ms) (ap (counted_texts counted) (sym (f k.0 k.1)) ∙ (h.front ms).1)
-          ∙ append_assoc h.pairs (h.front ms).0 (given_behind (shape_of d (fields_of k.0)) r.nesting (fields_of k.0) ms));
+              ∙ append_assoc h.pairs (h.front ms).0 (given_behind (shape_of d (fields_of k.0)) r.nesting (fields_of k.0) ms),
+        );
       }
 
   -- all was given, and then memory is wanting
@@ -183,9 +191,13 @@ module _ {S : Type 0} (takes : S → TextKind → List ℕ → S → Type 0) (re
       record {
         pairs = h.pairs;
         taken = h.taken;
-        rest = λ c k. (here, comes, λ ms. at c k (l ∷ ms) ∙ given-leaf_line r.nesting.frames (pairs_to_come r.leaf) l ms away
-          ∙ given-leaf r.nesting.frames (λ ks. pairs_to_come r.leaf (l ∷ ks)) (pairs_to_come n.leaf) h.pairs h.rest ms
-          ∙ ap (λ (x : Nest). h.pairs ++ given_from x.frames (InLeaf (pairs_to_come n.leaf)) ms) (sym q));
+        rest = λ c k. (
+          here,
+          comes,
+          λ ms. at c k (l ∷ ms) ∙ given-leaf_line r.nesting.frames (pairs_to_come r.leaf) l ms away
+              ∙ given-leaf r.nesting.frames (λ ks. pairs_to_come r.leaf (l ∷ ks)) (pairs_to_come n.leaf) h.pairs h.rest ms
+              ∙ ap (λ (x : Nest). h.pairs ++ given_from x.frames (InLeaf (pairs_to_come n.leaf)) ms) (sym q),
+        );
       }
   leaf-passes r n l (Err fault) s t e p q away h =
       let at : (c : Coming) → Comes r c → ComesAt state.InLeaf r c = λ c k. (let P : State → Type 0 = λ u. ComesAt u r c in subst P e k) in
@@ -193,8 +205,11 @@ module _ {S : Type 0} (takes : S → TextKind → List ℕ → S → Type 0) (re
       record {
         pairs = h.pairs;
         broken = h.broken;
-        front = λ c k ms. (given_from r.nesting.frames (InLeaf later) ms, at c k (l ∷ ms) ∙ given-leaf_line r.nesting.frames (pairs_to_come r.leaf) l ms away
-          ∙ given-leaf r.nesting.frames (λ ks. pairs_to_come r.leaf (l ∷ ks)) later h.pairs (λ ks. (h.front ks).1) ms);
+        front = λ c k ms. (
+          given_from r.nesting.frames (InLeaf later) ms,
+          at c k (l ∷ ms) ∙ given-leaf_line r.nesting.frames (pairs_to_come r.leaf) l ms away
+              ∙ given-leaf r.nesting.frames (λ ks. pairs_to_come r.leaf (l ∷ ks)) later h.pairs (λ ks. (h.front ks).1) ms,
+        );
       }
 
   pub more-passed : (r n : PartReader) (l : Line) (counted : Bool) (d : DefaultType) (s : S) → r.state ≡ state.InHeader counted d → n.state ≡ r.state → n.nesting ≡ r.nesting → hit {A = Pair} r.nesting.frames l ≡ None
@@ -205,13 +220,17 @@ module _ {S : Type 0} (takes : S → TextKind → List ℕ → S → Type 0) (re
       let here : List Line → Coming = λ held. given_from n.nesting.frames (InHeader counted n.nesting.left d (held ++ l ∷ [])) in
       let still : (held : List Line) → HasLines r.header held → has_empty (held ++ l ∷ []) ≡ false = λ held x. more-open (has_empty (held ++ l ∷ [])) (taken held x) in
       let comes : (held : List Line) → HasLines r.header held → Comes n (here held) = λ held x.
-        (let P : State → Type 0 = λ u. ComesAt u n (here held) in subst P (sym (p ∙ e)) (held ++ l ∷ [], push held x, still held x, λ ms. refl)) in
+      (let P : State → Type 0 = λ u. ComesAt u n (here held) in subst P (sym (p ∙ e)) (held ++ l ∷ [], push held x, still held x, λ ms. refl)) in
       record {
         pairs = [];
         taken = refl;
-        rest = λ c k. (here (at c k).0, comes (at c k).0 (at c k).1, λ ms. (at c k).3 (l ∷ ms)
-          ∙ given-more r.nesting counted d (at c k).0 l ms away (empty_ends (at c k).0 l false (at c k).2 (still (at c k).0 (at c k).1))
-          ∙ ap (λ (x : Nest). given_from x.frames (InHeader counted x.left d ((at c k).0 ++ l ∷ [])) ms) (sym q));
+        rest = λ c k. (
+          here (at c k).0,
+          comes (at c k).0 (at c k).1,
+          λ ms. (at c k).3 (l ∷ ms)
+              ∙ given-more r.nesting counted d (at c k).0 l ms away (empty_ends (at c k).0 l false (at c k).2 (still (at c k).0 (at c k).1))
+              ∙ ap (λ (x : Nest). given_from x.frames (InHeader counted x.left d ((at c k).0 ++ l ∷ [])) ms) (sym q),
+        );
       }
 
   pub ended-comes : (r n : PartReader) (l : Line) (counted : Bool) (d : DefaultType) → r.state ≡ state.InHeader counted d → n.nesting ≡ r.nesting → hit {A = Pair} r.nesting.frames l ≡ None
@@ -220,9 +239,12 @@ module _ {S : Type 0} (takes : S → TextKind → List ℕ → S → Type 0) (re
   ended-comes r n l counted d e q away push taken c k =
       let at : ComesAt (state.InHeader counted d) r c = (let P : State → Type 0 = λ u. ComesAt u r c in subst P e k) in
       let t : is_empty l ≡ true = empty_ends at.0 l true at.2 (ended-empty (has_empty (at.0 ++ l ∷ [])) (taken at.0 at.1)) in
-      let fields = fields_of (at.0 ++ l ∷ []) in
-      (at.0 ++ l ∷ [], push at.0 at.1, λ ms. at.3 (l ∷ ms) ∙ given-ended r.nesting counted d at.0 l ms away at.2 t
-        ∙ ap (λ (x : Nest). counted_texts counted fields ++ given_behind (shape_of d fields) x fields ms) (sym q))
+      let fields = fields_of (at.0 ++ l ∷ []) in (
+        at.0 ++ l ∷ [],
+        push at.0 at.1,
+        λ ms. at.3 (l ∷ ms) ∙ given-ended r.nesting counted d at.0 l ms away at.2 t
+            ∙ ap (λ (x : Nest). counted_texts counted fields ++ given_behind (shape_of d fields) x fields ms) (sym q),
+      )
 
   -- ---- an entity's end, and the message's
 
@@ -241,8 +263,11 @@ module _ {S : Type 0} (takes : S → TextKind → List ℕ → S → Type 0) (re
       record {
         pairs = h.pairs;
         broken = h.broken;
-        front = λ c k ms. ((h.front ms).0 ++ given_after lead r.nesting ms, ending-is r lead fields c f k ms ∙ ap (λ (ps : List Pair). ps ++ given_after lead r.nesting ms) (h.front ms).1
-          ∙ append_assoc h.pairs (h.front ms).0 (given_after lead r.nesting ms));
+        front = λ c k ms. (
+          (h.front ms).0 ++ given_after lead r.nesting ms,
+          ending-is r lead fields c f k ms ∙ ap (λ (ps : List Pair). ps ++ given_after lead r.nesting ms) (h.front ms).1
+              ∙ append_assoc h.pairs (h.front ms).0 (given_after lead r.nesting ms),
+        );
       }
 
   pub end-passed : (r : PartReader) (fields : List HeaderField) (s t : S) → ((ls : List Line) → HasLines r.header ls → fields ≡ fields_of ls)

@@ -100,7 +100,11 @@ impl Nesting {
     }
 
     /// Opens a multipart, the one that is read, where a depth is left for its pieces.
-    pub(crate) fn open(&mut self, boundary: Boundary, default: DefaultType) -> Result<(), AllocError>
+    pub(crate) fn open(
+        &mut self,
+        boundary: Boundary,
+        default: DefaultType,
+    ) -> Result<(), AllocError>
         ensures { OnOk result (self.new.frames ≡ opened self.old.left boundary default self.old.frames) }
     {
         if self.left == 0 {

@@ -67,11 +67,7 @@ fn end_entity<S: TextSink>(
 }
 
 /// What a message's own header says: what is known of it, or else what this one says.
-fn facts_behind(
-    alloc: Global,
-    header: &Header,
-    known: Option<Facts>,
-) -> Result<Facts, AllocError>
+fn facts_behind(alloc: Global, header: &Header, known: Option<Facts>) -> Result<Facts, AllocError>
     ensures facts { IfOk result (λ facts. Notes known (Some facts) header.now) }
     ensures sizes { IfOk result HasSizedIds }
 {

@@ -11,7 +11,7 @@ returns-in-Ok-text g c =
     let k : kind_of_field c.args.field.name.now ≡ Some c.in-Some.kind = cc in
     let e : c.in-Ok.text.now ≡ text_of_body c.args.field.body.now = c.in-Ok.ensures.text in
     gave-one g.S.TextSink.takes g.S.TextSink.refuses _ (c.in-Some.kind, c.in-Ok.text.now) _ _
-      (λ ms. texts-some f c.in-Some.kind k ∙ ap (λ (t : List ℕ). let ps : List Pair = (c.in-Some.kind, t) ∷ [] in ps) (sym e)) c.in-Ok-text.ensures.taken
+    (λ ms. texts-some f c.in-Some.kind k ∙ ap (λ (t : List ℕ). let ps : List Pair = (c.in-Some.kind, t) ∷ [] in ps) (sym e)) c.in-Ok-text.ensures.taken
 
 pub returns-in-Err : goal.returns-in-Err
 returns-in-Err g c =
@@ -19,4 +19,4 @@ returns-in-Err g c =
     let k : kind_of_field c.args.field.name.now ≡ Some c.in-Some.kind = cc in
     let e : c.in-Ok.text.now ≡ text_of_body c.args.field.body.now = c.in-Ok.ensures.text in
     broke-one g.S.TextSink.takes g.S.TextSink.refuses _ (c.in-Some.kind, c.in-Ok.text.now) c.in-Err.fault _ _
-      (λ ms. texts-some f c.in-Some.kind k ∙ ap (λ (t : List ℕ). let ps : List Pair = (c.in-Some.kind, t) ∷ [] in ps) (sym e)) c.in-Err.ensures.refused
+    (λ ms. texts-some f c.in-Some.kind k ∙ ap (λ (t : List ℕ). let ps : List Pair = (c.in-Some.kind, t) ∷ [] in ps) (sym e)) c.in-Err.ensures.refused

@@ -17,15 +17,19 @@ returns-in-Err g c =
     let f : HeaderField = record { name = c.in-Some.field.name.now; body = c.in-Some.field.body.now } in
     let e : texts_of_fields c.loop-field.field-iterator ≡ texts_of_fields (f ∷ []) ++ texts_of_fields c.next.new.self = ap texts_of_fields c.in-Some.ensures.steps ∙ texts-cons f c.next.new.self in
     broke-later g.S.TextSink.takes g.S.TextSink.refuses (texts c.args.fields) (texts c.loop-field.field-iterator) c.in-Err.fault _ _ _ c.loop-field.invariant.3
-      (broke-front g.S.TextSink.takes g.S.TextSink.refuses (texts (f ∷ [])) (texts c.loop-field.field-iterator) (texts c.next.new.self) c.in-Err.fault _ _ (λ ms. e) c.in-Err.ensures)
+    (broke-front g.S.TextSink.takes g.S.TextSink.refuses (texts (f ∷ [])) (texts c.loop-field.field-iterator) (texts c.next.new.self) c.in-Err.fault _ _ (λ ms. e) c.in-Err.ensures)
 
 pub loop-field-preserved : goal.loop-field-preserved
 loop-field-preserved g c =
     let f : HeaderField = record { name = c.in-Some.field.name.now; body = c.in-Some.field.body.now } in
     let e : texts_of_fields c.loop-field.field-iterator ≡ texts_of_fields (f ∷ []) ++ texts_of_fields c.next.new.self = ap texts_of_fields c.in-Some.ensures.steps ∙ texts-cons f c.next.new.self in
-    let size : fields_size c.next.new.self ≤ most_in_header = omega (arith, c.loop-field.invariant.2, ap fields_size c.in-Some.ensures.steps) in
-    (tt, tt, size, gave-more g.S.TextSink.takes g.S.TextSink.refuses (texts c.args.fields) (texts c.loop-field.field-iterator) (texts c.next.new.self) _ _ _ c.loop-field.invariant.3
-      (gave-front g.S.TextSink.takes g.S.TextSink.refuses (texts (f ∷ [])) (texts c.loop-field.field-iterator) (texts c.next.new.self) _ _ (λ ms. e) c.in_default.ensures))
+    let size : fields_size c.next.new.self ≤ most_in_header = omega (arith, c.loop-field.invariant.2, ap fields_size c.in-Some.ensures.steps) in (
+      tt,
+      tt,
+      size,
+      gave-more g.S.TextSink.takes g.S.TextSink.refuses (texts c.args.fields) (texts c.loop-field.field-iterator) (texts c.next.new.self) _ _ _ c.loop-field.invariant.3
+          (gave-front g.S.TextSink.takes g.S.TextSink.refuses (texts (f ∷ [])) (texts c.loop-field.field-iterator) (texts c.next.new.self) _ _ (λ ms. e) c.in_default.ensures),
+    )
 
 pub returns : goal.returns
 returns g c =

@@ -13,10 +13,13 @@ returns-in-Some-clause-some c =
     let outer = inside_out (take c.loop-at.at c.args.frames.now) [] in
     let here : slice_get c.args.frames.now c.loop-at.at ≡ Some f = got-at c.args.frames.now c.loop-at.at f (omega arith) c.index-frames-at.is in
     let kind : delimiter_of f.boundary c.args.text.now ≡ Some c.in-Some.kind = cc in
-    let later = scan {A = Pair} (inside_out (take (suc c.loop-at.at) c.args.frames.now) []) (drop (suc c.loop-at.at) c.args.frames.now) c.args.text.now in
-    (f, here, c.loop-at.invariant ∙ scan-at c.args.text.now c.args.frames.now c.loop-at.at [] f here
-      ∙ ap (λ (o : Option Delimiter). or_else (led {A = Pair} o f outer) later) kind
-      ∙ or_else-led c.in-Some.kind f outer later)
+    let later = scan {A = Pair} (inside_out (take (suc c.loop-at.at) c.args.frames.now) []) (drop (suc c.loop-at.at) c.args.frames.now) c.args.text.now in (
+      f,
+      here,
+      c.loop-at.invariant ∙ scan-at c.args.text.now c.args.frames.now c.loop-at.at [] f here
+          ∙ ap (λ (o : Option Delimiter). or_else (led {A = Pair} o f outer) later) kind
+          ∙ or_else-led c.in-Some.kind f outer later,
+    )
 
 pub loop-at-preserved : goal.loop-at-preserved
 loop-at-preserved c =
@@ -25,4 +28,4 @@ loop-at-preserved c =
     let here : slice_get c.args.frames.now c.loop-at.at ≡ Some f = got-at c.args.frames.now c.loop-at.at f (omega arith) c.index-frames-at.is in
     let kind : delimiter_of f.boundary c.args.text.now ≡ None = cc in
     rw add-one (c.loop-at.invariant ∙ scan-at c.args.text.now c.args.frames.now c.loop-at.at [] f here
-      ∙ ap (λ (o : Option Delimiter). or_else (led {A = Pair} o f outer) (scan (inside_out (take (suc c.loop-at.at) c.args.frames.now) []) (drop (suc c.loop-at.at) c.args.frames.now) c.args.text.now)) kind)
+    ∙ ap (λ (o : Option Delimiter). or_else (led {A = Pair} o f outer) (scan (inside_out (take (suc c.loop-at.at) c.args.frames.now) []) (drop (suc c.loop-at.at) c.args.frames.now) c.args.text.now)) kind)

@@ -15,7 +15,7 @@ pub returns-in-None-clause-leads : goal.returns-in-None-clause-leads
 returns-in-None-clause-leads c =
     let e : dashes c.args.line.now ≡ Some c.in-Some.text.now = sym c.after_dashes.ensures ∙ ap bytes_of c.in-Some.is in
     sym (scanned c.args.line.now c.in-Some.text.now c.args.self.now.frames c.self.inside.frames.items c.deref.result.now None
-      (ap (λ (n : Nest). n.frames) (sym c.self.view_is)) c.deref.ensures.value e c.in-None.ensures.none)
+    (ap (λ (n : Nest). n.frames) (sym c.self.view_is)) c.deref.ensures.value e c.in-None.ensures.none)
 
 pub invariant_of-self : goal.invariant_of-self
 invariant_of-self c =
@@ -25,8 +25,8 @@ pub returns-in-Some-default-Closing-clause-leads : goal.returns-in-Some-default-
 returns-in-Some-default-Closing-clause-leads c =
     let e : dashes c.args.line.now ≡ Some c.in-Some.text.now = sym c.after_dashes.ensures ∙ ap bytes_of c.in-Some.is in
     closing-leads c.args.line.now c.in-Some.text.now c.args.self.now.frames c.self.inside.frames.items c.deref.result.now c.truncate.new.self.items
-      c.in-Some-default-Closing.at c.in-Some-default-Closing.field-0-1 (ap (λ (n : Nest). n.frames) (sym c.self.view_is)) c.deref.ensures.value e
-      c.in-Some-default-Closing.field-0-1-is c.in-Some-default-Closing.ensures.some c.truncate.ensures.items
+    c.in-Some-default-Closing.at c.in-Some-default-Closing.field-0-1 (ap (λ (n : Nest). n.frames) (sym c.self.view_is)) c.deref.ensures.value e
+    c.in-Some-default-Closing.field-0-1-is c.in-Some-default-Closing.ensures.some c.truncate.ensures.items
 
 pub overflow_add-at : goal.overflow_add-at
 overflow_add-at c =
@@ -36,8 +36,8 @@ overflow_add-at c =
 pub invariant_of-self-in-Some-default-Next : goal.invariant_of-self-in-Some-default-Next
 invariant_of-self-in-Some-default-Next c =
     let got : slice_get c.self.inside.frames.items c.in-Some-default-Next.at ≡ Some c.index-frame.result.now =
-        (let h : c.in-Some-default-Next.at < length c.deref.result.now = c.in-Some-default-Next.ensures.within in
-        got-at c.self.inside.frames.items c.in-Some-default-Next.at c.index-frame.result.now (omega (arith, h, ap length c.deref.ensures.value)) c.index-frame.ensures) in
+    (let h : c.in-Some-default-Next.at < length c.deref.result.now = c.in-Some-default-Next.ensures.within in
+    got-at c.self.inside.frames.items c.in-Some-default-Next.at c.index-frame.result.now (omega (arith, h, ap length c.deref.ensures.value)) c.index-frame.ensures) in
     let deep = AreNested-at 0 c.self.inside.frames.items c.in-Some-default-Next.at c.index-frame.result.now c.self.invariant.1 got in
     rw c.truncate-in-Some-default-Next.ensures.items (omega (arith, deep, length-take (c.in-Some-default-Next.at + 1) c.self.inside.frames.items), AreNested-take 0 c.self.inside.frames.items (c.in-Some-default-Next.at + 1) c.self.invariant.1)
 
@@ -45,8 +45,8 @@ pub returns-in-Some-default-Next-clause-leads : goal.returns-in-Some-default-Nex
 returns-in-Some-default-Next-clause-leads c =
     let e : dashes c.args.line.now ≡ Some c.in-Some.text.now = sym c.after_dashes.ensures ∙ ap bytes_of c.in-Some.is in
     let got : slice_get c.self.inside.frames.items c.in-Some-default-Next.at ≡ Some c.index-frame.result.now =
-        (let h : c.in-Some-default-Next.at < length c.deref.result.now = c.in-Some-default-Next.ensures.within in
-        got-at c.self.inside.frames.items c.in-Some-default-Next.at c.index-frame.result.now (omega (arith, h, ap length c.deref.ensures.value)) c.index-frame.ensures) in
+    (let h : c.in-Some-default-Next.at < length c.deref.result.now = c.in-Some-default-Next.ensures.within in
+    got-at c.self.inside.frames.items c.in-Some-default-Next.at c.index-frame.result.now (omega (arith, h, ap length c.deref.ensures.value)) c.index-frame.ensures) in
     next-leads c.args.line.now c.in-Some.text.now c.args.self.now.frames c.self.inside.frames.items c.deref.result.now c.truncate-in-Some-default-Next.new.self.items
-      c.in-Some-default-Next.at c.in-Some-default-Next.field-0-1 c.index-frame.result.now (ap (λ (n : Nest). n.frames) (sym c.self.view_is)) c.deref.ensures.value e
-      c.in-Some-default-Next.field-0-1-is c.in-Some-default-Next.ensures.some got c.truncate-in-Some-default-Next.ensures.items
+    c.in-Some-default-Next.at c.in-Some-default-Next.field-0-1 c.index-frame.result.now (ap (λ (n : Nest). n.frames) (sym c.self.view_is)) c.deref.ensures.value e
+    c.in-Some-default-Next.field-0-1-is c.in-Some-default-Next.ensures.some got c.truncate-in-Some-default-Next.ensures.items

@@ -18,4 +18,4 @@ returns-in-Ok-clause-facts g c = facts-whole c.args.self c.in-Ok.facts c.in-Ok.e
 pub returns-clause-pairs : goal.returns-clause-pairs
 returns-clause-pairs g c =
     end-stopped g.S.TextSink.takes g.S.TextSink.refuses c.args.self c.fields.result OutOfMemory _ _ c.fields.ensures.fields
-      (broke-memory_behind g.S.TextSink.takes g.S.TextSink.refuses (λ _. ending c.args.self.state c.fields.result c.args.self.leaf) _ _ c.in_default.ensures)
+    (broke-memory_behind g.S.TextSink.takes g.S.TextSink.refuses (λ _. ending c.args.self.state c.fields.result c.args.self.leaf) _ _ c.in_default.ensures)

@@ -15,15 +15,15 @@ returns-in-Err-clause-pairs g c =
 pub returns-then-is_err-clause-pairs : goal.returns-then-is_err-clause-pairs
 returns-then-is_err-clause-pairs g c =
     header-stopped g.S.TextSink.takes g.S.TextSink.refuses c.args.self.now c.args.counted c.args.default c.fields.result OutOfMemory _ _ c.fields.ensures.fields
-      (broke-memory_behind g.S.TextSink.takes g.S.TextSink.refuses (λ _. counted_texts c.args.counted c.fields.result) _ _ c.in_default.ensures)
+    (broke-memory_behind g.S.TextSink.takes g.S.TextSink.refuses (λ _. counted_texts c.args.counted c.fields.result) _ _ c.in_default.ensures)
 
 pub returns-in-Err-begin_body-clause-pairs : goal.returns-in-Err-begin_body-clause-pairs
 returns-in-Err-begin_body-clause-pairs g c =
     header-stopped g.S.TextSink.takes g.S.TextSink.refuses c.args.self.now c.args.counted c.args.default c.fields.result OutOfMemory _ _ c.fields.ensures.fields
-      (broke-memory_behind g.S.TextSink.takes g.S.TextSink.refuses (λ _. counted_texts c.args.counted c.fields.result) _ _ c.in_default.ensures)
+    (broke-memory_behind g.S.TextSink.takes g.S.TextSink.refuses (λ _. counted_texts c.args.counted c.fields.result) _ _ c.in_default.ensures)
 
 pub returns-in-Ok-clause-pairs : goal.returns-in-Ok-clause-pairs
 returns-in-Ok-clause-pairs g c =
     let P : PartReader → Type 0 = λ r. (ls : List (List ℕ)) → HasLines r.header ls → Comes c.begin_body.new.self (given_behind (shape_of c.args.default (fields_of ls)) r.nesting (fields_of ls)) in
     header-passed g.S.TextSink.takes g.S.TextSink.refuses c.args.self.now c.args.counted c.args.default c.fields.result (Comes c.begin_body.new.self) _ _ c.fields.ensures.fields c.in_default.ensures
-      (subst P c.note_facts.ensures.kept c.in-Ok.ensures.comes)
+    (subst P c.note_facts.ensures.kept c.in-Ok.ensures.comes)

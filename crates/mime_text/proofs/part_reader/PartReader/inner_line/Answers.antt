@@ -22,8 +22,8 @@ returns-in-Ok-Ended-clause-pairs g c =
     let n : PartReader = record c.args.self.now { header = c.push_line.new.self } in
     let taken : (ls : List (List ℕ)) → HasLines c.args.self.now.header ls → Ended ≡ taken_of (ls ++ c.args.line.now ∷ []) = λ ls h. sym c.in-Ok-Ended.field-0-is ∙ c.in-Ok-Ended.ensures.taken ls h in
     passes-from g.S.TextSink.takes g.S.TextSink.refuses (Comes c.args.self.now) (ComesBehindHeader n c.in-InHeader.counted c.in-InHeader.default) (Comes c.end_header.new.self) (λ k ms. k (c.args.line.now ∷ ms))
-      c.end_header.result _ _ (ended-comes g.S.TextSink.takes g.S.TextSink.refuses c.args.self.now n c.args.line.now c.in-InHeader.counted c.in-InHeader.default c.in-InHeader.is refl c.requires.inner c.in-Ok-Ended.ensures.lines taken)
-      c.end_header.ensures.pairs
+    c.end_header.result _ _ (ended-comes g.S.TextSink.takes g.S.TextSink.refuses c.args.self.now n c.args.line.now c.in-InHeader.counted c.in-InHeader.default c.in-InHeader.is refl c.requires.inner c.in-Ok-Ended.ensures.lines taken)
+    c.end_header.ensures.pairs
 
 pub returns-in-Ok-Ended-clause-facts : goal.returns-in-Ok-Ended-clause-facts
 returns-in-Ok-Ended-clause-facts g c =
