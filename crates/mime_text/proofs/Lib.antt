@@ -8,6 +8,7 @@ mod LineSteps
 mod LineEnds
 mod RowsTypes
 mod RowsBodies
+mod RowsParts
 mod FrameLemmas
 mod GivingLemmas
 mod StepLemmas

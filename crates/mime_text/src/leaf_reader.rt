@@ -1,5 +1,5 @@
 //! The texts of a leaf, read one line at a time.
-ghost use Rattle.std.specs.Prelude.{◌≡◌, ℕ, ◌≤◌, ◌+◌, ◌∷◌, [], List, true, length};
+ghost use Rattle.std.specs.Prelude.{◌≡◌, ℕ, ◌≤◌, ◌+◌, ◌∷◌, [], List, true, false, length};
 ghost use Rattle.mbox_cutter.specs.Lines.{length_before_feed};
 ghost use Rattle.mime_text.specs.Sinks.{Hands};
 ghost use Rattle.mime_text.specs.Transfer.{ends_in};
@@ -38,12 +38,17 @@ fn is_passed_on(decoder: &Decoder, held: &HeldLine, line: &[u8]) -> bool
 }
 
 impl LeafReader {
-    /// A reader that has no body yet. It takes no memory.
-    pub fn new(alloc: Global) -> Self {
+    /// A reader of a body that is plain text in UTF-8 as it stands. It takes no memory.
+    pub fn new(alloc: Global) -> Self
+        ensures { (ls : List (List ℕ)) → pairs_to_come result ls ≡ body_pairs (leaf_texts TransferEncoding.Identity Charset.Utf8 false ls) }
+    {
+        let decoder = Decoder::new(TransferEncoding::Identity);
+        let held = HeldLine::new(alloc);
+        let texts = LineTexts::new(alloc);
         LeafReader {
-            decoder: Decoder::Identity,
-            held: HeldLine::new(alloc),
-            texts: LineTexts::new(alloc),
+            decoder,
+            held,
+            texts,
         }
     }
 

@@ -1,5 +1,9 @@
 //! The texts of some bodies, and what a header says of one.
 use super::*;
+use crate::content_type::EntityType;
+use crate::leaf_reader::LeafReader;
+use crate::shape::{DefaultType, Shape};
+use crate::transfer::TransferEncoding;
 use header_text::{Charset, Header};
 use mail_words::TextKind;
 use std::alloc::Global;

@@ -27,16 +27,12 @@ mod tags;
 mod text_buffers;
 mod transfer;
 
-pub use boundary::Boundary;
-pub use content_type::EntityType;
 pub use facts::Facts;
 pub use fault::{SinkFault, TextFault};
 pub use law::one_line_at_a_time;
 pub use message_text::MessageText;
 pub use owned::{DateText, MessageId, MessageIds};
-pub use shape::{DefaultType, Shape};
 pub use sink::TextSink;
-pub use transfer::TransferEncoding;
 
 #[cfg(test)]
 mod leaf_tests;

@@ -23,7 +23,11 @@ pub(crate) struct LineTexts {
 
 impl LineTexts {
     /// Those of a leaf that is plain text in UTF-8. It takes no memory.
-    pub(crate) fn new(alloc: Global) -> Self {
+    pub(crate) fn new(alloc: Global) -> Self
+        ensures charset { result.charset ≡ Charset.Utf8 }
+        ensures is_html { result.is_html ≡ false }
+        ensures is_open { result.is_open ≡ false }
+    {
         LineTexts {
             charset: Charset::Utf8,
             is_html: false,
