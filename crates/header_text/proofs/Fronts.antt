@@ -40,7 +40,7 @@ unfolding before_blanks
 before_blanks-nil = refl
 
 -- what stands before the blanks at the end is a front
-after_blanks-joined : (bs : List ℕ) → (front : List ℕ) × (bs ≡ front ++ after_blanks bs)
+pub after_blanks-joined : (bs : List ℕ) → (front : List ℕ) × (bs ≡ front ++ after_blanks bs)
 after_blanks-joined [] = ([], refl)
 after_blanks-joined (b ∷ bs) = go (is_blank b) refl (after_blanks-joined bs)
   where
@@ -48,7 +48,7 @@ after_blanks-joined (b ∷ bs) = go (is_blank b) refl (after_blanks-joined bs)
     go true e later = (b ∷ later.0, rw (e, after_blanks) (ap (λ (l : List ℕ). b ∷ l) later.1))
     go false e later = ([], rw (e, after_blanks) refl)
 
-before_blanks-joined : (bs : List ℕ) → (end : List ℕ) × (bs ≡ before_blanks bs ++ end)
+pub before_blanks-joined : (bs : List ℕ) → (end : List ℕ) × (bs ≡ before_blanks bs ++ end)
 unfolding before_blanks
 before_blanks-joined bs =
     let back = after_blanks-joined (reverse bs) in

@@ -4,6 +4,7 @@ mod HeaderLemmas
 mod PushLemmas
 mod CutLemmas
 mod UnfoldLemmas
+mod UnfoldSizes
 mod IdLemmas
 mod CharsetLemmas
 mod LossyBytes

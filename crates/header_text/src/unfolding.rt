@@ -30,10 +30,11 @@ fn add_part(into: &mut Vec<u8>, start: usize, part: &[u8]) -> Result<(), AllocEr
     into.extend_from_slice(part)
 }
 
-/// Adds a field's body in one line: without line breaks, and without spaces and tabs at both ends (RFC 5322, 2.2.3).
-/// What the buffer holds after an error isn't said.
+/// Adds a field's body in one line: without line breaks, and without spaces and tabs at both ends (RFC 5322, 2.2.3). It has
+/// at most as many bytes as the body. What the buffer holds after an error isn't said.
 pub fn unfold_into(body: &[u8], into: &mut Vec<u8>) -> Result<(), AllocError>
-    ensures { OnOk result (into.new.items ≡ into.old.items ++ unfolded body.now) }
+    ensures text { OnOk result (into.new.items ≡ into.old.items ++ unfolded body.now) }
+    ensures size { OnOk result (length into.new.items ≤ length into.old.items + length body.now) }
 {
     let start = into.len();
     let mut rest = body;
@@ -57,7 +58,8 @@ fn trim_end(bytes: &mut Vec<u8>, start: usize)
 
 /// A field's body in one line: without line breaks, and without spaces and tabs at both ends (RFC 5322, 2.2.3).
 pub fn unfold(alloc: Global, body: &[u8]) -> Result<Vec<u8>, AllocError>
-    ensures { IfOk result (λ value. value.items ≡ unfolded body.now) }
+    ensures text { IfOk result (λ value. value.items ≡ unfolded body.now) }
+    ensures size { IfOk result (λ value. length value.items ≤ length body.now) }
 {
     let mut value = Vec::new(alloc);
     unfold_into(body, &mut value)?;

@@ -1,11 +1,12 @@
 use Rattle.std.proofs.Common.{◌≡◌, ◌∙◌, ◌++◌, ℕ, List, ◌∷◌, length, take, drop, nat_lt, sym, ap, ap₂, arith, length-append}
 use Rattle.header_text.specs.Blanks.{after_blanks, before_blanks}
-use Rattle.header_text.specs.Unfolding.{without_breaks}
+use Rattle.header_text.specs.Unfolding.{without_breaks, unfolded}
 use Rattle.header_text.specs.Breaks.{led, without_final_cr}
 use Rattle.header_text.proofs.CutLemmas.{IsCut, IsCut-from}
+use Rattle.header_text.proofs.UnfoldSizes.{length-unfolded}
 use Rattle.header_text.proofs.UnfoldLemmas.{unfolds-start, unfolds-line, unfolds-rest, unfolded-trimmed}
 use Rattle.header_text.proofs.unfolding.unfold_into.Goals as goal
-use Rattle.header_text.proofs.unfolding.unfold_into.Goals.{In_ok-add_part}
+use Rattle.header_text.proofs.unfolding.unfold_into.Goals.{In_ok-add_part, After-trim_end}
 
 pub loop-line-init : goal.loop-line-init
 loop-line-init c = record { start = c.len-start.ensures ∙ c.args.into.now.ok.0; sofar = unfolds-start c.args.into.now.items c.args.body.now }
@@ -35,10 +36,17 @@ trim_end-requires c =
     c.loop-line.invariant.start c.loop-line.invariant.sofar (sym c.in_default.ensures) c.in_ok-add_part-2.ensures in
     omega (arith, c.loop-line.invariant.start, ap length all, length-append c.args.into.now.items (after_blanks (without_breaks c.args.body.now)))
 
-pub returns : goal.returns
-returns c =
+abbrev pub added : (c : After-trim_end) → c.trim_end.new.bytes.items ≡ c.args.into.now.items ++ unfolded c.args.body.now
+added c =
     let items : List ℕ = c.add_part-2.new.into.items in
     let all = unfolds-rest c.args.into.now.items c.args.body.now c.loop-line.into.items c.loop-line.rest.now items c.len-start.result
     c.loop-line.invariant.start c.loop-line.invariant.sofar (sym c.in_default.ensures) c.in_ok-add_part-2.ensures in
     c.trim_end.ensures ∙ ap (λ (n : ℕ). take n items ++ before_blanks (drop n items)) c.loop-line.invariant.start
     ∙ unfolded-trimmed c.args.into.now.items c.args.body.now items all
+
+pub returns-clause-text : goal.returns-clause-text
+returns-clause-text c = added c
+
+pub returns-clause-size : goal.returns-clause-size
+returns-clause-size c =
+    omega (arith, ap length (added c), length-append c.args.into.now.items (unfolded c.args.body.now), length-unfolded c.args.body.now)

@@ -1,0 +1,36 @@
+-- An unfolded body is no longer than the body.
+use Rattle.std.proofs.Common.{◌≤◌, ◌==◌, ◌||◌, ◌&&◌, ℕ, suc, Bool, true, false, List, [], ◌∷◌, length, ap, arith, length-append}
+use Rattle.header_text.specs.Blanks.{after_blanks, before_blanks}
+use Rattle.header_text.specs.Unfolding.{without_breaks, unfolded}
+use Rattle.header_text.proofs.Fronts.{after_blanks-joined, before_blanks-joined}
+
+-- a byte that is dropped, or isn't, before others
+kept : ℕ → List ℕ → Bool → List ℕ
+kept b bs t = elim t [ true ↦ bs | false ↦ b ∷ bs ]
+
+length-kept : (b : ℕ) (bs : List ℕ) (t : Bool) (n : ℕ) → length bs ≤ n → length (kept b bs t) ≤ suc n
+unfolding kept
+length-kept b bs true n h = omega (arith, h)
+length-kept b bs false n h = omega (arith, h)
+
+length-without_breaks : (bs : List ℕ) → length (without_breaks bs) ≤ length bs
+unfolding kept
+length-without_breaks [] = omega arith
+length-without_breaks (b ∷ []) = length-kept b [] (b == 0x0A) 0 (omega arith)
+length-without_breaks (b ∷ c ∷ bs) =
+    length-kept b (without_breaks (c ∷ bs)) ((b == 0x0A) || ((b == 0x0D) && (c == 0x0A))) (length (c ∷ bs)) (length-without_breaks (c ∷ bs))
+
+length-after_blanks : (bs : List ℕ) → length (after_blanks bs) ≤ length bs
+length-after_blanks bs =
+    let whole = after_blanks-joined bs in
+    omega (arith, ap length whole.1, length-append whole.0 (after_blanks bs))
+
+length-before_blanks : (bs : List ℕ) → length (before_blanks bs) ≤ length bs
+length-before_blanks bs =
+    let whole = before_blanks-joined bs in
+    omega (arith, ap length whole.1, length-append (before_blanks bs) whole.0)
+
+pub length-unfolded : (body : List ℕ) → length (unfolded body) ≤ length body
+unfolding unfolded
+length-unfolded body =
+    omega (arith, length-before_blanks (after_blanks (without_breaks body)), length-after_blanks (without_breaks body), length-without_breaks body)

@@ -1,0 +1,13 @@
+pub mod Fronts
+pub mod RecordFronts
+pub mod OneTable
+pub mod Bytes
+pub mod RecordReads
+pub mod ArchiveReads
+pub mod RecordWalk
+pub mod RecordSections
+pub mod LebLemmas
+pub mod PostingReadLemmas
+pub mod StepLemmas
+mod Rows
+mod RowsDigest

@@ -1,0 +1,72 @@
+-- Rows of index files; the bytes on the right come from a separate reading of the format.
+use Rattle.std.proofs.Common.{◌≡◌, ℕ, List, [], ◌∷◌, refl, length, Some, None, true, false}
+use Rattle.std.specs.Prelude.{codes, negsuc}
+use Rattle.mail_words.specs.declared.kind.TextKind.TheVariants.{Subject, Body}
+use Rattle.mail_words.specs.declared.flags.Flags.{Flags}
+use Rattle.mail_index.specs.declared.kind.Kind.TheVariants.{Text, LinkId}
+use Rattle.mail_index.specs.Tables.{Table}
+use Rattle.mail_index.specs.Postings.{leb128, postings}
+use Rattle.mail_index.specs.Files.{body, record_bytes, entry_bytes}
+
+abbrev pub nothing : Table
+nothing = record { archives = []; messages = []; keys = [] }
+
+abbrev pub nothing_bytes : List ℕ
+nothing_bytes =
+    0x4d ∷ 0x41 ∷ 0x49 ∷ 0x52 ∷ 0x49 ∷ 0x58 ∷ 0x0d ∷ 0x0a ∷ 0 ∷ 0 ∷ 0 ∷ 1 ∷ 0 ∷ 0 ∷ 0 ∷ 0 ∷ 0 ∷ 0 ∷ 0 ∷ 0 ∷ 0 ∷ 0 ∷ 0 ∷ 0
+    ∷ 0 ∷ 0 ∷ 0 ∷ 0 ∷ 0 ∷ 0 ∷ 0 ∷ 0 ∷ 0 ∷ 0 ∷ 0 ∷ 0 ∷ 0 ∷ 0 ∷ 0 ∷ 0 ∷ 0 ∷ 0 ∷ 0 ∷ 0 ∷ 0 ∷ 0 ∷ 0 ∷ 0 ∷ []
+
+nothing_body : body nothing ≡ nothing_bytes
+nothing_body = refl
+
+abbrev plain : Flags
+plain = record { seen = false; replied = false; flagged = false }
+
+abbrev pub hello : Table
+hello = record {
+  archives = record { path = codes "m.mbox"; length = 58 } ∷ [];
+  messages = record { archive = 0; offset = 0; length = 58; size = 19; date = None; flags = plain } ∷ [];
+  keys = record { kind = Text Subject; text = codes "hello"; numbers = 0 ∷ [] } ∷ record { kind = Text Body; text = codes "hi"; numbers = 0 ∷ [] } ∷ [];
+}
+
+abbrev pub hello_bytes : List ℕ
+hello_bytes =
+    0x4d ∷ 0x41 ∷ 0x49 ∷ 0x52 ∷ 0x49 ∷ 0x58 ∷ 0x0d ∷ 0x0a ∷ 0 ∷ 0 ∷ 0 ∷ 1 ∷ 0 ∷ 0 ∷ 0 ∷ 1 ∷ 0 ∷ 0 ∷ 0 ∷ 1 ∷ 0 ∷ 0 ∷ 0 ∷ 2
+    ∷ 0 ∷ 0 ∷ 0 ∷ 0 ∷ 0 ∷ 0 ∷ 0 ∷ 0x12 ∷ 0 ∷ 0 ∷ 0 ∷ 0 ∷ 0 ∷ 0 ∷ 0 ∷ 7 ∷ 0 ∷ 0 ∷ 0 ∷ 0 ∷ 0 ∷ 0 ∷ 0 ∷ 2
+    ∷ 0 ∷ 0 ∷ 0 ∷ 0 ∷ 0 ∷ 0 ∷ 0 ∷ 0x3a ∷ 0 ∷ 0 ∷ 0 ∷ 6 ∷ 0x6d ∷ 0x2e ∷ 0x6d ∷ 0x62 ∷ 0x6f ∷ 0x78
+    ∷ 0 ∷ 0 ∷ 0 ∷ 0 ∷ 0 ∷ 0 ∷ 0 ∷ 0 ∷ 0 ∷ 0 ∷ 0 ∷ 0 ∷ 0 ∷ 0 ∷ 0 ∷ 0 ∷ 0 ∷ 0 ∷ 0 ∷ 0 ∷ 0 ∷ 0 ∷ 0 ∷ 0x3a ∷ 0 ∷ 0 ∷ 0 ∷ 0 ∷ 0 ∷ 0 ∷ 0 ∷ 0x13 ∷ 0 ∷ 0 ∷ 0 ∷ 0 ∷ 0 ∷ 0 ∷ 0 ∷ 0
+    ∷ 5 ∷ 0 ∷ 0 ∷ 0 ∷ 0 ∷ 0 ∷ 0 ∷ 5 ∷ 0 ∷ 0 ∷ 0 ∷ 0 ∷ 0 ∷ 0 ∷ 0 ∷ 0 ∷ 0 ∷ 0 ∷ 0 ∷ 0 ∷ 0 ∷ 0 ∷ 0 ∷ 0
+    ∷ 6 ∷ 0 ∷ 0 ∷ 0 ∷ 0 ∷ 0 ∷ 0 ∷ 2 ∷ 0 ∷ 0 ∷ 0 ∷ 0 ∷ 0 ∷ 0 ∷ 0 ∷ 5 ∷ 0 ∷ 0 ∷ 0 ∷ 0 ∷ 0 ∷ 0 ∷ 0 ∷ 1
+    ∷ 0x68 ∷ 0x65 ∷ 0x6c ∷ 0x6c ∷ 0x6f ∷ 0x68 ∷ 0x69 ∷ 1 ∷ 1 ∷ []
+
+hello_body : body hello ≡ hello_bytes
+hello_body = refl
+
+hello_length : length (body hello) ≡ 163
+hello_length = refl
+
+-- a second before 1970, and all flags
+early_record : record_bytes (record { archive = 258; offset = 1; length = 65536; size = 255; date = Some (negsuc 0); flags = record { seen = true; replied = true; flagged = true } })
+    ≡ 0 ∷ 0 ∷ 1 ∷ 2 ∷ 15 ∷ 0 ∷ 0 ∷ 0 ∷ 0 ∷ 0 ∷ 0 ∷ 0 ∷ 0 ∷ 0 ∷ 0 ∷ 1 ∷ 0 ∷ 0 ∷ 0 ∷ 0 ∷ 0 ∷ 1 ∷ 0 ∷ 0 ∷ 0 ∷ 0 ∷ 0 ∷ 0 ∷ 0 ∷ 0 ∷ 0 ∷ 255
+    ∷ 255 ∷ 255 ∷ 255 ∷ 255 ∷ 255 ∷ 255 ∷ 255 ∷ 255 ∷ []
+early_record = refl
+
+link_entry : entry_bytes 256 65535 (record { kind = LinkId; text = codes "a@b"; postings = 1 ∷ [] })
+    ≡ 8 ∷ 0 ∷ 0 ∷ 0 ∷ 0 ∷ 0 ∷ 0 ∷ 3 ∷ 0 ∷ 0 ∷ 0 ∷ 0 ∷ 0 ∷ 0 ∷ 1 ∷ 0 ∷ 0 ∷ 0 ∷ 0 ∷ 0 ∷ 0 ∷ 0 ∷ 255 ∷ 255 ∷ []
+link_entry = refl
+
+three_hundred : leb128 5 300 ≡ 0xAC ∷ 2 ∷ []
+three_hundred = refl
+
+one_byte : leb128 5 127 ≡ 0x7F ∷ []
+one_byte = refl
+
+two_bytes : leb128 5 128 ≡ 0x80 ∷ 1 ∷ []
+two_bytes = refl
+
+-- the greatest difference, of the number 2 ^ 32 - 1 from none
+greatest : postings (0xFFFF_FFFF ∷ []) ≡ 0x80 ∷ 0x80 ∷ 0x80 ∷ 0x80 ∷ 0x10 ∷ []
+greatest = refl
+
+gaps : postings (0 ∷ 2 ∷ 300 ∷ []) ≡ 1 ∷ 2 ∷ 0xAA ∷ 2 ∷ []
+gaps = refl

@@ -1,0 +1,11 @@
+-- Steps added up.
+use Rattle.std.proofs.Common.{◌≡◌, ℕ, suc, arith}
+use Rattle.mail_index.specs.Steps.{add_steps}
+
+-- none
+pub add_steps-none : (old : ℕ) → old ≡ add_steps old 0
+add_steps-none old = omega arith
+
+-- one more
+pub add_steps-one : (old n : ℕ) → add_steps (add_steps old n) 1 ≡ add_steps old (suc n)
+add_steps-one old n = omega arith

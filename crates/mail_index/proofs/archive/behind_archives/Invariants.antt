@@ -1,0 +1,9 @@
+use Rattle.std.proofs.Common.{◌≡◌, ◌-◌}
+use Rattle.mail_index.specs.Records.{SpellsArchives, behind_archives}
+use Rattle.mail_index.proofs.archive.behind_archives.Given as goal
+
+abbrev pub invariant-loop-number : goal.invariant-loop-number
+invariant-loop-number l = record {
+  spelled : SpellsArchives (l.fn.count - l.number) l.rest;
+  same : behind_archives (l.fn.n - l.number) l.rest ≡ behind_archives l.fn.n l.fn.section;
+}

@@ -1,0 +1,9 @@
+use Rattle.std.proofs.Common.{arith}
+use Rattle.mail_index.proofs.ArchiveReads.{front_of_some}
+use Rattle.mail_index.proofs.archive.first_length.Goals as goal
+
+pub u64_at-requires : goal.u64_at-requires
+u64_at-requires c = let f = front_of_some c.args.count c.args.section.now c.requires.some c.requires.spelled in omega (arith, f.long)
+
+pub returns : goal.returns
+returns c = let f = front_of_some c.args.count c.args.section.now c.requires.some c.requires.spelled in record { value = c.u64_at.ensures; bound = omega (arith, f.size, c.u64_at.ensures) }

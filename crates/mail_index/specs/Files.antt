@@ -1,0 +1,96 @@
+-- The file of a table: counts, archives, records, directory, texts, postings, and the SHA-256 of all these.
+use Rattle.std.specs.Prelude.{ℕ, ◌+◌, ◌^◌, ◌<◌, Bool, if◌then◌else◌, ℤ, List, [], ◌∷◌, ◌++◌, length, map, Option, Some, None, flat_map, is_some}
+use Rattle.std.specs.Int.{w32, w64, to_be_bytes, cast_unsigned}
+use Rattle.std.specs.List.{concat}
+use Rattle.sha2.specs.Sha256.{sha256}
+use Rattle.mail_index.specs.declared.kind.Kind.{Kind}
+use Rattle.mail_index.specs.declared.record.Record.{Record}
+use Rattle.mail_index.specs.Kinds.{kind_number}
+use Rattle.mail_index.specs.Tables.{Archive, Key, Table}
+use Rattle.mail_index.specs.Postings.{postings}
+
+-- M A I R I X and a line's end
+abbrev pub magic : List ℕ
+magic = 0x4D ∷ 0x41 ∷ 0x49 ∷ 0x52 ∷ 0x49 ∷ 0x58 ∷ 0x0D ∷ 0x0A ∷ []
+
+abbrev pub version : ℕ
+version = 1
+
+abbrev pub be32 : ℕ → List ℕ
+be32 n = to_be_bytes w32 n
+
+abbrev pub be64 : ℕ → List ℕ
+be64 n = to_be_bytes w64 n
+
+abbrev pub zeros : List ℕ
+zeros = 0 ∷ 0 ∷ 0 ∷ []
+
+abbrev pub archive_bytes : Archive → List ℕ
+archive_bytes a = concat (be64 a.length ∷ be32 (length a.path) ∷ a.path ∷ [])
+
+abbrev pub bit : ℕ → Bool → ℕ
+bit n b = if b then n else 0
+
+abbrev pub flags_byte : Record → ℕ
+flags_byte m = bit 1 m.flags.seen + bit 2 m.flags.replied + bit 4 m.flags.flagged + bit 8 (is_some m.date)
+
+-- in two's complement, and 0 without a date
+abbrev pub date_number : Option ℤ → ℕ
+date_number None = 0
+date_number (Some z) = cast_unsigned w64 z
+
+abbrev pub record_bytes : Record → List ℕ
+record_bytes m = concat (be32 m.archive ∷ (flags_byte m ∷ zeros) ∷ be64 m.offset ∷ be64 m.length ∷ be64 m.size ∷ be64 (date_number m.date) ∷ [])
+
+-- a key with the bytes of its numbers
+pub record Entry : Type 0 where
+  pub kind : Kind
+  pub text : List ℕ
+  pub postings : List ℕ
+
+abbrev pub entry_of : Key → Entry
+entry_of k = record { kind = k.kind; text = k.text; postings = postings k.numbers }
+
+-- with its places in the texts and in the postings
+abbrev pub entry_bytes : ℕ → ℕ → Entry → List ℕ
+entry_bytes text_place place e = concat ((kind_number e.kind ∷ zeros) ∷ be32 (length e.text) ∷ be64 text_place ∷ be64 place ∷ [])
+
+-- the entries of the directory, where the texts and the postings of the first begin at these places
+abbrev pub directory_from : ℕ → ℕ → List Entry → List ℕ
+directory_from text_place place [] = []
+directory_from text_place place (e ∷ es) = entry_bytes text_place place e ++ directory_from (text_place + length e.text) (place + length e.postings) es
+
+abbrev pub texts_of : List Entry → List ℕ
+texts_of = flat_map (λ e. e.text)
+
+abbrev pub postings_of : List Entry → List ℕ
+postings_of = flat_map (λ e. e.postings)
+
+abbrev pub entries : Table → List Entry
+entries t = map entry_of t.keys
+
+abbrev pub archive_section : Table → List ℕ
+archive_section t = flat_map archive_bytes t.archives
+
+abbrev pub counts : Table → List (List ℕ)
+counts t =
+    magic ∷ be32 version ∷ be32 (length t.archives) ∷ be32 (length t.messages) ∷ be32 (length t.keys)
+    ∷ be64 (length (archive_section t)) ∷ be64 (length (texts_of (entries t))) ∷ be64 (length (postings_of (entries t))) ∷ []
+
+abbrev pub sections : Table → List (List ℕ)
+sections t =
+    concat (counts t) ∷ archive_section t ∷ flat_map record_bytes t.messages
+    ∷ directory_from 0 0 (entries t) ∷ texts_of (entries t) ∷ postings_of (entries t) ∷ []
+
+-- all of the file before its digest
+abbrev pub body : Table → List ℕ
+body t = concat (sections t)
+
+unfoldable pub index_file : Table → List ℕ
+index_file t = body t ++ sha256 (body t)
+
+-- each section's length fits its count
+pub record HasSmallSections (t : Table) : Type 0 where
+  pub archives : length (archive_section t) < 2 ^ 64
+  pub texts : length (texts_of (entries t)) < 2 ^ 64
+  pub postings : length (postings_of (entries t)) < 2 ^ 64

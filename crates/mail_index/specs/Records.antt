@@ -1,0 +1,88 @@
+-- Records and archives read from the front of their sections. Of bytes that no table has these say anything.
+use Rattle.std.specs.Prelude.{◌≡◌, ◌-◌, true, ℕ, zero, suc, ◌+◌, ◌<◌, ◌≤◌, Bool, ◌&&◌, ◌||◌, nat_eq, nat_le, nat_lt, cond, ℤ, List, [], ◌∷◌, ◌++◌, take, drop, Option, Some, None, flat_map, bit_and}
+use Rattle.std.specs.Int.{w64, cast_signed}
+use Rattle.std.specs.List.{AllByRecursion}
+use Rattle.mail_words.specs.declared.flags.Flags.{Flags}
+use Rattle.mail_index.specs.declared.record.Record.{Record}
+use Rattle.mail_index.specs.Fields.{byte_at, u32_at, u64_at}
+use Rattle.mail_index.specs.Tables.{Archive, IsArchive}
+use Rattle.mail_index.specs.Files.{archive_bytes}
+
+-- ---- records
+
+abbrev pub has_bit : ℕ → ℕ → Bool
+has_bit flags b = nat_eq (bit_and flags b) b
+
+abbrev pub read_flags : ℕ → Flags
+read_flags flags = record { seen = has_bit flags 1; replied = has_bit flags 2; flagged = has_bit flags 4 }
+
+abbrev pub read_date : ℕ → ℕ → Option ℤ
+read_date flags date = cond (has_bit flags 8) (Some (cast_signed w64 date)) None
+
+unfoldable pub read_record : List ℕ → Record
+read_record r = record {
+  archive = u32_at r 0;
+  offset = u64_at r 8;
+  length = u64_at r 16;
+  size = u64_at r 24;
+  date = read_date (byte_at r 4) (u64_at r 32);
+  flags = read_flags (byte_at r 4);
+}
+
+-- so many of them
+abbrev pub read_records : ℕ → List ℕ → List Record
+read_records zero r = []
+read_records (suc n) r = read_record r ∷ read_records n (drop 40 r)
+
+-- the flags and zeros are those of some record, and without a date its bytes are 0
+unfoldable pub is_record : List ℕ → Bool
+is_record r =
+    nat_le (byte_at r 4) 15 && nat_eq (byte_at r 5) 0 && nat_eq (byte_at r 6) 0 && nat_eq (byte_at r 7) 0
+    && (has_bit (byte_at r 4) 8 || nat_eq (u64_at r 32) 0)
+
+-- ---- archives
+
+unfoldable pub read_archive : List ℕ → Archive
+read_archive r = record { path = take (u32_at r 8) (drop 12 r); length = u64_at r 0 }
+
+unfoldable pub behind_archive : List ℕ → List ℕ
+behind_archive r = drop (u32_at r 8) (drop 12 r)
+
+abbrev pub read_archives : ℕ → List ℕ → List Archive
+read_archives zero r = []
+read_archives (suc n) r = read_archive r ∷ read_archives n (behind_archive r)
+
+-- the bytes begin with an archive
+pub record HasArchive (r : List ℕ) : Type 0 where
+  pub spelled : r ≡ archive_bytes (read_archive r) ++ behind_archive r
+  pub valid : IsArchive (read_archive r)
+
+-- the bytes are so many archives
+pub record SpellsArchives (n : ℕ) (r : List ℕ) : Type 0 where
+  pub spelled : r ≡ flat_map archive_bytes (read_archives n r)
+  pub each : AllByRecursion IsArchive (read_archives n r)
+
+-- what follows so many archives
+abbrev pub behind_archives : ℕ → List ℕ → List ℕ
+behind_archives zero r = r
+behind_archives (suc n) r = behind_archives n (behind_archive r)
+
+-- ---- the records of a section, from where an earlier one ended
+
+-- the message lies in a later archive, or in this one from the place on
+abbrev pub is_behind : ℕ → ℕ → Record → Bool
+is_behind archive place m = nat_lt archive m.archive || (nat_eq archive m.archive && nat_le place m.offset)
+
+-- the record may follow in the archive of this number from the place on, or in a later one; the rest is the archives from
+-- this number on
+pub record IsNext (count archive place : ℕ) (rest : List ℕ) (m : Record) : Type 0 where
+  pub exists : m.archive < count
+  pub follows : is_behind archive place m ≡ true
+  pub within : m.offset + m.length ≤ u64_at (behind_archives (m.archive - archive) rest) 0
+  pub size : m.size < m.length
+
+abbrev pub AreRecords : ℕ → ℕ → ℕ → List ℕ → ℕ → List ℕ → Type 0
+AreRecords count archive place rest zero r = Unit {0}
+AreRecords count archive place rest (suc n) r =
+    (is_record r ≡ true) × IsNext count archive place rest (read_record r)
+    × AreRecords count (read_record r).archive ((read_record r).offset + (read_record r).length) (behind_archives ((read_record r).archive - archive) rest) n (drop 40 r)

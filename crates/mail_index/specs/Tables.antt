@@ -1,0 +1,93 @@
+-- What an index says of archives, apart from its file.
+use Rattle.std.specs.Prelude.{◌≡◌, ◌≢◌, ℕ, zero, suc, ◌+◌, ◌^◌, ◌<◌, ◌≤◌, ◌⊎◌, FitsSigned, List, [], ◌∷◌, length, IfSome, IsUtf8}
+use Rattle.std.specs.Int.{w64}
+use Rattle.std.specs.List.{AllByRecursion}
+use Rattle.mail_index.specs.declared.kind.Kind.{Kind}
+use Rattle.mail_index.specs.declared.record.Record.{Record}
+use Rattle.mail_index.specs.Kinds.{kind_number}
+
+pub record Archive : Type 0 where
+  pub path : List ℕ
+  pub length : ℕ
+
+-- a word or an id, and the numbers of the messages that have it
+pub record Key : Type 0 where
+  pub kind : Kind
+  pub text : List ℕ
+  pub numbers : List ℕ
+
+pub record Table : Type 0 where
+  pub archives : List Archive
+  pub messages : List Record
+  pub keys : List Key
+
+-- ---- which tables are well-formed
+
+-- one to 4,096 bytes of text without a line feed and a zero
+pub record IsPath (path : List ℕ) : Type 0 where
+  pub text : IsUtf8 path
+  pub some : 0 < length path
+  pub most : length path ≤ 4096
+  pub one_line : AllByRecursion (λ b. (b ≢ 0x0A) × (b ≢ 0)) path
+
+abbrev pub IsArchive : Archive → Type 0
+IsArchive a = IsPath a.path × (a.length ≤ 2 ^ 40)
+
+-- the length of the archive of that number
+abbrev pub archive_length : List Archive → ℕ → ℕ
+archive_length [] n = 0
+archive_length (a ∷ rest) zero = a.length
+archive_length (a ∷ rest) (suc n) = archive_length rest n
+
+-- a message of one of these archives
+pub record IsMessage (archives : List Archive) (m : Record) : Type 0 where
+  pub exists : m.archive < length archives
+  pub within : m.offset + m.length ≤ archive_length archives m.archive
+  pub size : m.size < m.length
+  pub date : IfSome m.date (FitsSigned w64)
+
+-- the second lies behind the first: in a later archive, or in the same one from its end on
+abbrev pub Follows : Record → Record → Type 0
+Follows m n = (m.archive < n.archive) ⊎ ((m.archive ≡ n.archive) × (m.offset + m.length ≤ n.offset))
+
+-- each and the next
+abbrev pub AllNext : {A : Type 0} → (A → A → Type 0) → List A → Type 0
+AllNext R [] = Unit {0}
+AllNext R (x ∷ []) = Unit {0}
+AllNext R (x ∷ y ∷ ys) = R x y × AllNext R (y ∷ ys)
+
+-- the first text comes before the second, byte by byte
+abbrev pub TextBefore : List ℕ → List ℕ → Type 0
+TextBefore xs [] = ⊥
+TextBefore [] (y ∷ ys) = Unit {0}
+TextBefore (x ∷ xs) (y ∷ ys) = (x < y) ⊎ ((x ≡ y) × TextBefore xs ys)
+
+-- by kind, then by text
+abbrev pub IsBefore : Kind → List ℕ → Kind → List ℕ → Type 0
+IsBefore j xs k ys = (kind_number j < kind_number k) ⊎ ((j ≡ k) × TextBefore xs ys)
+
+abbrev pub KeyBefore : Key → Key → Type 0
+KeyBefore a b = IsBefore a.kind a.text b.kind b.text
+
+-- strictly rising, and no number below low
+abbrev pub RisesFrom : ℕ → List ℕ → Type 0
+RisesFrom low [] = Unit {0}
+RisesFrom low (n ∷ ns) = (low ≤ n) × RisesFrom (suc n) ns
+
+-- a key of some of so many messages
+pub record IsKey (count : ℕ) (k : Key) : Type 0 where
+  pub some_text : 0 < length k.text
+  pub short : length k.text < 2 ^ 32
+  pub some_number : 0 < length k.numbers
+  pub rises : RisesFrom 0 k.numbers
+  pub below : AllByRecursion (λ n. n < count) k.numbers
+
+pub record IsWellFormed (t : Table) : Type 0 where
+  pub archive_count : length t.archives < 2 ^ 32
+  pub message_count : length t.messages < 2 ^ 32
+  pub key_count : length t.keys < 2 ^ 32
+  pub archives : AllByRecursion IsArchive t.archives
+  pub messages : AllByRecursion (IsMessage t.archives) t.messages
+  pub in_order : AllNext Follows t.messages
+  pub keys : AllByRecursion (IsKey (length t.messages)) t.keys
+  pub sorted : AllNext KeyBefore t.keys

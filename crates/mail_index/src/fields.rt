@@ -1,0 +1,25 @@
+//! Numbers at a place of a file, the highest byte first.
+ghost use Rattle.std.specs.Prelude.{◌≡◌, ◌+◌, ◌≤◌, length};
+ghost use Rattle.mail_index.specs.Fields.{u32_at as u32_in, u64_at as u64_in};
+
+/// The four bytes from `at` on, as a number.
+pub(crate) fn u32_at(bytes: &[u8], at: usize) -> u32
+    requires { at + 4 ≤ length bytes.now }
+    ensures { result ≡ u32_in bytes.now at }
+{
+    match bytes.split_at(at).1.split_first_chunk::<4>() {
+        Some((field, _)) => u32::from_be_bytes(*field),
+        None => unreachable!(),
+    }
+}
+
+/// The eight bytes from `at` on, as a number.
+pub(crate) fn u64_at(bytes: &[u8], at: usize) -> u64
+    requires { at + 8 ≤ length bytes.now }
+    ensures { result ≡ u64_in bytes.now at }
+{
+    match bytes.split_at(at).1.split_first_chunk::<8>() {
+        Some((field, _)) => u64::from_be_bytes(*field),
+        None => unreachable!(),
+    }
+}

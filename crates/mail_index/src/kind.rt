@@ -1,0 +1,37 @@
+//! What the keys of an index are of.
+ghost use Rattle.std.specs.Prelude.{◌≡◌};
+
+use mail_words::TextKind;
+
+/// What a key is of: a word of one of the kinds of text, a message's own id, or an id that links it to a thread.
+///
+/// Kinds stand in an index file in the order of their numbers there, 1 to 8.
+#[derive(Clone, Copy, Debug, PartialEq, Eq)]
+pub enum Kind {
+    /// A folded word of a text of this kind.
+    Text(TextKind),
+    /// The message's own id.
+    OwnId,
+    /// An id by which messages belong to one thread.
+    LinkId,
+}
+
+impl Kind {
+    ghost use Rattle.mail_index.specs.Kinds.{kind_number};
+
+    /// The number that stands for the kind in an index file, 1 to 8.
+    pub(crate) fn number(self) -> u8
+        ensures { result ≡ kind_number self }
+    {
+        match self {
+            Kind::Text(TextKind::To) => 1,
+            Kind::Text(TextKind::Cc) => 2,
+            Kind::Text(TextKind::Bcc) => 3,
+            Kind::Text(TextKind::From) => 4,
+            Kind::Text(TextKind::Subject) => 5,
+            Kind::Text(TextKind::Body) => 6,
+            Kind::OwnId => 7,
+            Kind::LinkId => 8,
+        }
+    }
+}

@@ -1,0 +1,27 @@
+//! Unsigned LEB128 in its shortest form.
+ghost use Rattle.std.specs.Prelude.{◌≡◌, ◌≤◌, ◌<◌, ℕ, List, ◌++◌, Some, IfSome};
+ghost use Rattle.mail_index.specs.Postings.{leb128};
+ghost use Rattle.mail_index.specs.PostingReads.{IsShort, shown_split};
+
+/// The number that the bytes begin with, in the shortest unsigned LEB128 of at most so many bytes, and the bytes behind it;
+/// None where they begin with none. Of no byte it is 0.
+pub(crate) fn split_leb128(most: u32, bytes: &[u8]) -> Option<(u64, &[u8])>
+    requires { most ≤ 5 }
+    ensures small { IfSome result (λ p. p.0 < 34359738368) }
+    ensures short { IfSome result (λ p. IsShort most p.0) }
+    ensures some { IfSome result (λ p. bytes.now ≡ leb128 most p.0 ++ p.1.now) }
+    ensures only { (k : ℕ) (rest : List ℕ) → IsShort most k → bytes.now ≡ leb128 most k ++ rest → shown_split result ≡ Some (k, rest) }
+{
+    if most == 0 {
+        return Some((0, bytes));
+    }
+    let (first, rest) = bytes.split_first()?;
+    if *first < 128 {
+        return Some((u64::from(*first), rest));
+    }
+    let (high, rest) = split_leb128(most - 1, rest)?;
+    if high == 0 {
+        return None;
+    }
+    Some((u64::from(*first - 128) + 128 * high, rest))
+}

@@ -1,0 +1,36 @@
+//! An index of archives: what a table of archives, messages and keys says, the file that it is written to, and a
+//! reader of such a file in place.
+#![tactic(auto)]
+
+mod kind;
+
+pub use kind::Kind;
+
+mod record;
+
+pub use record::Record;
+
+mod path;
+
+pub use path::is_path;
+
+mod steps;
+
+pub use steps::Steps;
+
+mod fault;
+
+pub use fault::{IndexFault, Section};
+
+mod laws;
+
+pub use laws::one_table_for_a_file;
+
+mod postings;
+
+pub use postings::Postings;
+
+mod archive;
+mod fields;
+mod leb128;
+mod record_walk;

@@ -1,0 +1,11 @@
+//! Names of archives.
+ghost use Rattle.std.specs.Prelude.{◌↔◌, IsTrue};
+ghost use Rattle.mail_index.specs.Tables.{IsPath};
+
+/// Whether an index may name an archive so: 1 to 4,096 bytes, without line feed and NUL.
+pub fn is_path(path: &str) -> bool
+    ensures { IsTrue result ↔ IsPath path.now }
+{
+    let bytes = path.as_bytes();
+    !bytes.is_empty() && bytes.len() <= 4096 && bytes.iter().all(|b| *b != b'\n' && *b != 0)
+}

@@ -1,0 +1,86 @@
+//! What an index tells of one message.
+ghost use Rattle.std.specs.Prelude.{◌≡◌, ◌≤◌, length};
+ghost use Rattle.mail_index.specs.Records.{has_bit as has_bit_of, read_flags as flags_of, read_date as date_of, is_record as is_record_of};
+
+use crate::fields::{u32_at, u64_at};
+use mail_words::Flags;
+
+/// A message of an archive, as an index keeps it.
+#[derive(Clone, Copy, Debug, PartialEq, Eq)]
+pub struct Record {
+    /// The archive's number, from 0.
+    pub archive: u32,
+    /// Where the message begins in its archive, in bytes.
+    pub offset: u64,
+    /// The bytes of the message with its separator and the empty line that closes it, at least 1.
+    pub length: u64,
+    /// The bytes of its text, without separator and closing line: less than `length`.
+    pub size: u64,
+    /// The second of its Date field (UTC), where it has one that can be read.
+    pub date: Option<i64>,
+    /// Which marks it has.
+    pub flags: Flags,
+}
+
+/// Whether all bits of the mask are set.
+fn has_bit(flags: u8, mask: u8) -> bool
+    ensures { result ≡ has_bit_of flags mask }
+{
+    flags & mask == mask
+}
+
+fn read_flags(flags: u8) -> Flags
+    ensures { result ≡ flags_of flags }
+{
+    Flags {
+        seen: has_bit(flags, 1),
+        replied: has_bit(flags, 2),
+        flagged: has_bit(flags, 4),
+    }
+}
+
+fn read_date(flags: u8, date: u64) -> Option<i64>
+    ensures { result ≡ date_of flags date }
+{
+    if has_bit(flags, 8) {
+        Some(date.cast_signed())
+    } else {
+        None
+    }
+}
+
+impl Record {
+    ghost use Rattle.mail_index.specs.Records.{read_record};
+
+    /// The record in the first 40 bytes.
+    #[tactic(auto, unfolding(crate::specs::Records::read_record))]
+    pub(crate) fn read(bytes: &[u8]) -> Record
+        requires { 40 ≤ length bytes.now }
+        ensures { result ≡ read_record bytes.now }
+    {
+        let flags = bytes[4];
+        Record {
+            archive: u32_at(bytes, 0),
+            offset: u64_at(bytes, 8),
+            length: u64_at(bytes, 16),
+            size: u64_at(bytes, 24),
+            date: read_date(flags, u64_at(bytes, 32)),
+            flags: read_flags(flags),
+        }
+    }
+}
+
+/// Whether the first 40 bytes are those of some record: no unknown flag, zeros behind the flags, and no date without
+/// its flag.
+#[tactic(auto, unfolding(crate::specs::Records::is_record))]
+pub(crate) fn is_record(bytes: &[u8]) -> bool
+    requires { 40 ≤ length bytes.now }
+    ensures { result ≡ is_record_of bytes.now }
+{
+    let flags = bytes[4];
+    flags <= 15
+        && bytes[5] == 0
+        && bytes[6] == 0
+        && bytes[7] == 0
+        && (has_bit(flags, 8) || u64_at(bytes, 32) == 0)
+}

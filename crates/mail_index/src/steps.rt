@@ -1,0 +1,43 @@
+//! A count of work done.
+ghost use Rattle.std.specs.Prelude.{◌≡◌, ℕ, ◌+◌, ◌-◌, ◌^◌, ◌<◌};
+
+use std::marker::Model;
+
+/// How many steps a search has taken: directory entries compared, postings dropped and records scanned.
+///
+/// At the greatest value of a `u64` the count stays.
+#[derive(Debug, Drop)]
+pub struct Steps {
+    count: u64,
+}
+
+impl Model for Steps {
+    ghost Value = { ℕ };
+
+    ghost view = { λ s. s.count };
+}
+
+impl Steps {
+    ghost use Rattle.mail_index.specs.Steps.{add_steps};
+
+    /// No step.
+    pub fn new() -> Self
+        ensures { result ≡ 0 }
+    {
+        Steps { count: 0 }
+    }
+
+    /// One step more.
+    pub fn tick(&mut self)
+        ensures { self.new ≡ add_steps self.old 1 }
+    {
+        self.count = self.count.saturating_add(1);
+    }
+
+    /// How many steps there were.
+    pub fn count(&self) -> u64
+        ensures { result ≡ self.now }
+    {
+        self.count
+    }
+}

@@ -1,0 +1,236 @@
+-- One line at a time gives what the parts of the outermost split first give.
+use Rattle.std.proofs.Common.{◌≡◌, ℕ, zero, suc, Bool, true, false, cond, List, [], ◌∷◌, ◌++◌, Option, Some, None, refl, sym, ap, ◌∙◌, append_assoc}
+use Rattle.std.specs.Prelude.{flat_map}
+use Rattle.std.specs.List.{AllByRecursion}
+use Rattle.std.proofs.lemmas.List.{append-nil}
+use Rattle.std.proofs.lemmas.Grind.{flat_map-append}
+use Rattle.mbox_cutter.specs.Lines.{is_empty}
+use Rattle.header_text.specs.Headers.{HeaderField, lines_before_empty, lines_within, fields_in, fields_of, most_in_header}
+use Rattle.mime_text.specs.declared.default_type.DefaultType.{DefaultType}
+use Rattle.mime_text.specs.declared.default_type.DefaultType.TheVariants.{TextPlain}
+use Rattle.mime_text.specs.Parts.{Shape, Multipart, Message, Text, Other, Part, Counted, Leaf, body_lines, is_closing, is_delimiter, preamble_and_pieces, pieces, parts, parts_by, is_left}
+use Rattle.mime_text.specs.Stream.{Frame, Place, Skip, InHeader, InLeaf, or_else, own_hit, hit, counted_part, value, behind_header, inner_step, step_by, given}
+
+abbrev Line : Type 0
+Line = List ℕ
+
+-- no line is empty
+abbrev pub IsHeader : List Line → Type 0
+IsHeader = AllByRecursion (λ l. is_empty l ≡ false)
+
+before_empty_of : (ls : List Line) (l : Line) (rest : List Line) → IsHeader ls → is_empty l ≡ true → lines_before_empty (ls ++ l ∷ rest) ≡ ls
+before_empty_of [] l rest h e = rw (e, lines_before_empty) refl
+before_empty_of (k ∷ ls) l rest h e = rw (h.0, lines_before_empty) (ap (λ (t : List Line). k ∷ t) (before_empty_of ls l rest h.1 e))
+
+before_empty_all : (ls : List Line) → IsHeader ls → lines_before_empty ls ≡ ls
+before_empty_all [] h = refl
+before_empty_all (k ∷ ls) h = rw (h.0, lines_before_empty) (ap (λ (t : List Line). k ∷ t) (before_empty_all ls h.1))
+
+-- a header's fields are there once it has ended
+pub fields_of-ended : (ls : List Line) (l : Line) (rest : List Line) → IsHeader ls → is_empty l ≡ true → fields_of (ls ++ l ∷ rest) ≡ fields_of ls
+unfolding fields_of
+fields_of-ended ls l rest h e =
+    ap (λ (ks : List Line). fields_in (lines_within most_in_header ks)) (before_empty_of ls l rest h e ∙ sym (before_empty_all ls h))
+
+pub body_of : (ls : List Line) (l : Line) (rest : List Line) → IsHeader ls → is_empty l ≡ true → body_lines (ls ++ l ∷ rest) ≡ rest
+body_of [] l rest h e = rw (e, body_lines) refl
+body_of (k ∷ ls) l rest h e = rw (h.0, body_lines) (body_of ls l rest h.1 e)
+
+pub IsHeader-push : (ls : List Line) (l : Line) → IsHeader ls → is_empty l ≡ false → IsHeader (ls ++ l ∷ [])
+IsHeader-push [] l h e = (e, tt)
+IsHeader-push (k ∷ ls) l h e = (h.0, IsHeader-push ls l h.1 e)
+
+counted_part-ended : (c : Bool) (lines : List Line) (l : Line) (rest : List Line) → IsHeader lines → is_empty l ≡ true → counted_part c (lines ++ l ∷ rest) ≡ counted_part c lines
+counted_part-ended true lines l rest h e = ap (λ (fs : List HeaderField). Counted fs ∷ []) (fields_of-ended lines l rest h e)
+counted_part-ended false lines l rest h e = refl
+
+flat_map-none : {A : Type 0} (xs : List (List Line)) → flat_map {A = A} (λ (x : List Line). []) xs ≡ []
+flat_map-none [] = refl
+flat_map-none (x ∷ xs) = flat_map-none xs
+
+module _ {A : Type 0} (shape_of : DefaultType → List HeaderField → Shape) (gives : Part → List A) where
+  abbrev Lead : Type 0
+  Lead = Option (List Frame × Place A)
+
+  -- before a header's end no line is empty
+  abbrev pub IsFine : Place A → Type 0
+  IsFine Skip = Unit {0}
+  IsFine (InHeader c n d lines) = IsHeader lines
+  IsFine (InLeaf leaf) = Unit {0}
+
+  abbrev hits : List Frame → Line → Lead
+  hits fs l = hit fs l
+
+  -- the lines before the first that delimits an open multipart
+  abbrev before_by : Lead → Line → List Line → List Line
+  before_by None l ls = l ∷ ls
+  before_by (Some h) l ls = []
+
+  abbrev before : List Frame → List Line → List Line
+  before fs [] = []
+  before fs (l ∷ ls) = before_by (hits fs l) l (before fs ls)
+
+  before_all : (ls : List Line) → before [] ls ≡ ls
+  before_all [] = refl
+  before_all (l ∷ ls) = ap (λ (t : List Line). l ∷ t) (before_all ls)
+
+  -- what comes from that line on
+  abbrev later_by : Lead → List A → List Line → List A
+  later_by None later ls = later
+  later_by (Some h) later ls = given shape_of gives h.0 h.1 ls
+
+  abbrev later : List Frame → List Line → List A
+  later fs [] = []
+  later fs (l ∷ ls) = later_by (hits fs l) (later fs ls) ls
+
+  later_none : (ls : List Line) → later [] ls ≡ []
+  later_none [] = refl
+  later_none (l ∷ ls) = later_none ls
+
+  preamble_is : (f : Frame) (outer : List Frame) (ls : List Line) → (preamble_and_pieces f.boundary (before outer ls)).0 ≡ before (f ∷ outer) ls
+  preamble_is f outer [] = refl
+  preamble_is f outer (l ∷ ls) = by_outer (hits outer l) (preamble_is f outer ls)
+    where
+      by_own : (c d : Bool) (p : List Line × List (List Line)) (x : List Line) → p.0 ≡ x
+          → (elim c as (λ _. List Line × List (List Line)) [ true ↦ ([], []) | false ↦ cond d ([], p.0 ∷ p.1) (l ∷ p.0, p.1) ]).0 ≡ before_by (own_hit c d f outer) l x
+      by_own true d p x e = refl
+      by_own false true p x e = refl
+      by_own false false p x e = ap (λ (t : List Line). l ∷ t) e
+
+      by_outer : (o : Lead) → (preamble_and_pieces f.boundary (before outer ls)).0 ≡ before (f ∷ outer) ls
+          → (preamble_and_pieces f.boundary (before_by o l (before outer ls))).0 ≡ before_by (or_else o (own_hit (is_closing f.boundary l) (is_delimiter f.boundary l) f outer)) l (before (f ∷ outer) ls)
+      by_outer (Some h) e = refl
+      by_outer None e = by_own (is_closing f.boundary l) (is_delimiter f.boundary l) (preamble_and_pieces f.boundary (before outer ls)) (before (f ∷ outer) ls) e
+
+  -- what pieces of a multipart give
+  abbrev of_pieces : ℕ → DefaultType → List (List Line) → List A
+  of_pieces left d ps = flat_map gives (flat_map (parts shape_of left d) ps)
+
+  abbrev StreamIs : List Line → List Frame → Place A → Type 0
+  StreamIs ls fs place = given shape_of gives fs place ls ≡ value shape_of gives place (before fs ls) ++ later fs ls
+
+  abbrev FrameIs : List Line → Frame → List Frame → Type 0
+  FrameIs ls f outer = given shape_of gives (f ∷ outer) Skip ls ≡ of_pieces (suc f.left) f.default (pieces f.boundary (before outer ls)) ++ later outer ls
+
+  abbrev AllStreams : List Line → Type 0
+  AllStreams ls = (fs : List Frame) (place : Place A) → IsFine place → StreamIs ls fs place
+
+  abbrev AllFrames : List Line → Type 0
+  AllFrames ls = (f : Frame) (outer : List Frame) → FrameIs ls f outer
+
+  -- the entity whose header has ended, and what comes behind it
+  abbrev EntityIs : Shape → List Line → List Frame → ℕ → List Line → Line → Type 0
+  EntityIs sh ls fs left lines l =
+      given shape_of gives (behind_header shape_of gives sh fs left (fields_of lines)).0 (behind_header shape_of gives sh fs left (fields_of lines)).1 ls
+      ≡ flat_map gives (parts_by shape_of (λ e ks. parts shape_of left e ks) (is_left left) sh (lines ++ l ∷ before fs ls)) ++ later fs ls
+
+  by_shape : (sh : Shape) (ls : List Line) (fs : List Frame) (left : ℕ) (lines : List Line) (l : Line)
+      → AllStreams ls → AllFrames ls → IsHeader lines → is_empty l ≡ true → EntityIs sh ls fs left lines l
+  by_shape (Multipart b e) ls fs zero lines l m g h t =
+      m fs Skip tt ∙ ap (λ (ps : List Part). flat_map gives ps ++ later fs ls) (sym (flat_map-none {A = Part} (pieces b (body_lines (lines ++ l ∷ before fs ls)))))
+  by_shape (Multipart b e) ls fs (suc left) lines l m g h t =
+      let f : Frame = record { boundary = b; default = e; left = left } in
+      g f fs ∙ ap (λ (ks : List Line). of_pieces (suc left) e (pieces b ks) ++ later fs ls) (sym (body_of lines l (before fs ls) h t))
+  by_shape Message ls fs zero lines l m g h t = m fs Skip tt
+  by_shape Message ls fs (suc left) lines l m g h t =
+      let inside : List Line → List A = λ ks. flat_map gives (Counted (fields_of ks) ∷ parts shape_of (suc left) TextPlain ks) in
+      m fs (InHeader true left TextPlain []) tt
+      ∙ ap (λ (ks : List Line). inside ks ++ later fs ls) (sym (body_of lines l (before fs ls) h t))
+  by_shape (Text is_html) ls fs left lines l m g h t =
+      let x = before fs ls in
+      m fs (InLeaf (λ body. gives (Leaf is_html (fields_of lines) body))) tt
+      ∙ ap (λ (ps : List A). ps ++ later fs ls) (sym (append-nil (gives (Leaf is_html (fields_of lines) x))))
+      ∙ ap (λ (k : List HeaderField). (gives (Leaf is_html k x) ++ []) ++ later fs ls) (sym (fields_of-ended lines l x h t))
+      ∙ ap (λ (ks : List Line). (gives (Leaf is_html (fields_of (lines ++ l ∷ x)) ks) ++ []) ++ later fs ls) (sym (body_of lines l x h t))
+  by_shape Other ls fs left lines l m g h t = m fs Skip tt
+
+  by_end : (ls : List Line) (fs : List Frame) (c : Bool) (left : ℕ) (d : DefaultType) (lines : List Line) (l : Line)
+      → AllStreams ls → AllFrames ls → IsHeader lines → is_empty l ≡ true
+      → flat_map gives (counted_part c lines)
+      ++ given shape_of gives (behind_header shape_of gives (shape_of d (fields_of lines)) fs left (fields_of lines)).0 (behind_header shape_of gives (shape_of d (fields_of lines)) fs left (fields_of lines)).1 ls
+      ≡ value shape_of gives (InHeader c left d lines) (l ∷ before fs ls) ++ later fs ls
+  by_end ls fs c left d lines l m g h t =
+      let x = before fs ls in
+      let all = lines ++ l ∷ x in
+      let inside : Shape → List Part = λ sh. parts_by shape_of (λ e ks. parts shape_of left e ks) (is_left left) sh all in
+      ap (λ (ps : List A). flat_map gives (counted_part c lines) ++ ps) (by_shape (shape_of d (fields_of lines)) ls fs left lines l m g h t)
+      ∙ sym (append_assoc (flat_map gives (counted_part c lines)) (flat_map gives (inside (shape_of d (fields_of lines)))) (later fs ls))
+      ∙ ap (λ (ps : List A). ps ++ later fs ls) (sym (flat_map-append gives (counted_part c lines) (inside (shape_of d (fields_of lines)))))
+      ∙ ap (λ (ps : List Part). flat_map gives (ps ++ inside (shape_of d (fields_of lines))) ++ later fs ls) (sym (counted_part-ended c lines l x h t))
+      ∙ ap (λ (k : List HeaderField). flat_map gives (counted_part c all ++ inside (shape_of d k)) ++ later fs ls) (sym (fields_of-ended lines l x h t))
+
+  one_more : (c : Bool) (n : ℕ) (d : DefaultType) (lines : List Line) (l : Line) (rest : List Line)
+      → value shape_of gives (InHeader c n d (lines ++ l ∷ [])) rest ≡ value shape_of gives (InHeader c n d lines) (l ∷ rest)
+  one_more c n d lines l rest = ap (λ (ks : List Line). flat_map gives (counted_part c ks ++ parts shape_of (suc n) d ks)) (append_assoc lines (l ∷ []) rest)
+
+  by_place : (place : Place A) (ls : List Line) (fs : List Frame) (l : Line) → AllStreams ls → AllFrames ls → IsFine place
+      → (inner_step shape_of gives fs place l).0 ++ given shape_of gives (inner_step shape_of gives fs place l).1.0 (inner_step shape_of gives fs place l).1.1 ls
+      ≡ value shape_of gives place (l ∷ before fs ls) ++ later fs ls
+  by_place Skip ls fs l m g h = m fs Skip tt
+  by_place (InLeaf leaf) ls fs l m g h = m fs (InLeaf (λ ms. leaf (l ∷ ms))) tt
+  by_place (InHeader c n d lines) ls fs l m g h = by_line (is_empty l) refl
+    where
+      stepped : Bool → List A × (List Frame × Place A)
+      stepped t = elim t [
+        | true ↦ (flat_map gives (counted_part c lines), behind_header shape_of gives (shape_of d (fields_of lines)) fs n (fields_of lines))
+        | false ↦ ([], (fs, InHeader c n d (lines ++ l ∷ [])))
+      ]
+
+      by_line : (t : Bool) → is_empty l ≡ t
+          → (stepped t).0 ++ given shape_of gives (stepped t).1.0 (stepped t).1.1 ls ≡ value shape_of gives (InHeader c n d lines) (l ∷ before fs ls) ++ later fs ls
+      by_line true t = by_end ls fs c n d lines l m g h t
+      by_line false t =
+          m fs (InHeader c n d (lines ++ l ∷ [])) (IsHeader-push lines l h t)
+          ∙ ap (λ (ps : List A). ps ++ later fs ls) (one_more c n d lines l (before fs ls))
+
+  by_hit : (o : Lead) (place : Place A) (ls : List Line) (fs : List Frame) (l : Line) → AllStreams ls → AllFrames ls → IsFine place
+      → (step_by shape_of gives o fs place l).0 ++ given shape_of gives (step_by shape_of gives o fs place l).1.0 (step_by shape_of gives o fs place l).1.1 ls
+      ≡ value shape_of gives place (before_by o l (before fs ls)) ++ later_by o (later fs ls) ls
+  by_hit (Some x) place ls fs l m g h = refl
+  by_hit None place ls fs l m g h = by_place place ls fs l m g h
+
+  by_own : (c d : Bool) (ls : List Line) (f : Frame) (outer : List Frame) (l : Line) → AllStreams ls → AllFrames ls
+      → (step_by shape_of gives (own_hit c d f outer) (f ∷ outer) Skip l).0
+      ++ given shape_of gives (step_by shape_of gives (own_hit c d f outer) (f ∷ outer) Skip l).1.0 (step_by shape_of gives (own_hit c d f outer) (f ∷ outer) Skip l).1.1 ls
+      ≡ of_pieces (suc f.left) f.default (elim c as (λ _. List Line × List (List Line)) [
+        | true ↦ ([], [])
+        | false ↦ cond d ([], (preamble_and_pieces f.boundary (before outer ls)).0 ∷ (preamble_and_pieces f.boundary (before outer ls)).1)
+            (l ∷ (preamble_and_pieces f.boundary (before outer ls)).0, (preamble_and_pieces f.boundary (before outer ls)).1)
+      ]).1 ++ later outer ls
+  by_own true d ls f outer l m g = m outer Skip tt
+  by_own false true ls f outer l m g =
+      let p = preamble_and_pieces f.boundary (before outer ls) in
+      let here : List Line → List A = λ ks. flat_map gives (parts shape_of (suc f.left) f.default ks) in
+      let others : later (f ∷ outer) ls ≡ of_pieces (suc f.left) f.default p.1 ++ later outer ls = sym (m (f ∷ outer) Skip tt) ∙ g f outer in
+      m (f ∷ outer) (InHeader false f.left f.default []) tt
+      ∙ ap (λ (ps : List A). here (before (f ∷ outer) ls) ++ ps) others
+      ∙ ap (λ (ks : List Line). here ks ++ (of_pieces (suc f.left) f.default p.1 ++ later outer ls)) (sym (preamble_is f outer ls))
+      ∙ sym (append_assoc (here p.0) (of_pieces (suc f.left) f.default p.1) (later outer ls))
+      ∙ ap (λ (ps : List A). ps ++ later outer ls)
+      (sym (flat_map-append gives (parts shape_of (suc f.left) f.default p.0) (flat_map (parts shape_of (suc f.left) f.default) p.1)))
+  by_own false false ls f outer l m g = g f outer
+
+  by_outer : (o : Lead) (ls : List Line) (f : Frame) (outer : List Frame) (l : Line) → AllStreams ls → AllFrames ls
+      → (step_by shape_of gives (or_else o (own_hit (is_closing f.boundary l) (is_delimiter f.boundary l) f outer)) (f ∷ outer) Skip l).0
+      ++ given shape_of gives (step_by shape_of gives (or_else o (own_hit (is_closing f.boundary l) (is_delimiter f.boundary l) f outer)) (f ∷ outer) Skip l).1.0
+      (step_by shape_of gives (or_else o (own_hit (is_closing f.boundary l) (is_delimiter f.boundary l) f outer)) (f ∷ outer) Skip l).1.1 ls
+      ≡ of_pieces (suc f.left) f.default (pieces f.boundary (before_by o l (before outer ls))) ++ later_by o (later outer ls) ls
+  by_outer (Some x) ls f outer l m g = refl
+  by_outer None ls f outer l m g = by_own (is_closing f.boundary l) (is_delimiter f.boundary l) ls f outer l m g
+
+  mutual
+    given_is : (ls : List Line) (fs : List Frame) (place : Place A) → IsFine place → StreamIs ls fs place
+    given_is [] fs place h = sym (append-nil (value shape_of gives place []))
+    given_is (l ∷ ls) fs place h = by_hit (hits fs l) place ls fs l (λ gs p k. given_is ls gs p k) (λ f outer. frame_is ls f outer) h
+
+    frame_is : (ls : List Line) (f : Frame) (outer : List Frame) → FrameIs ls f outer
+    frame_is [] f outer = refl
+    frame_is (l ∷ ls) f outer = by_outer (hits outer l) ls f outer l (λ gs p k. given_is ls gs p k) (λ e o. frame_is ls e o)
+
+  -- from the front of an entity on, with nothing open
+  pub whole_given : (c : Bool) (n : ℕ) (d : DefaultType) (ls : List Line)
+      → given shape_of gives [] (InHeader c n d []) ls ≡ flat_map gives (counted_part c ls ++ parts shape_of (suc n) d ls)
+  whole_given c n d ls =
+      let whole : List Line → List A = λ ks. flat_map gives (counted_part c ks ++ parts shape_of (suc n) d ks) in
+      given_is ls [] (InHeader c n d []) tt
+      ∙ ap (λ (ps : List A). whole (before [] ls) ++ ps) (later_none ls) ∙ append-nil (whole (before [] ls)) ∙ ap whole (before_all ls)

@@ -1,0 +1,5 @@
+use Rattle.mime_text.proofs.StreamLaws.{whole_given}
+use Rattle.mime_text.proofs.law.one_line_at_a_time.Goals as goal
+
+pub returns : goal.returns
+returns c shape_of gives counted left default lines = whole_given shape_of gives counted left default lines

@@ -1,0 +1,5 @@
+pub mod FieldTexts
+pub mod MessageFacts
+pub mod Sinks
+pub mod Parts
+pub mod Stream

@@ -1,0 +1,61 @@
+//! Why a message's texts aren't all there.
+use std::alloc::{AllocError, AllocFailed};
+use thiserror::Error;
+
+/// Why a sink refused a text.
+#[derive(Clone, Copy, Debug, PartialEq, Eq, Error)]
+pub enum SinkFault {
+    /// There was no memory left.
+    #[error("out of memory")]
+    OutOfMemory,
+    /// It doesn't take the text.
+    #[error("refused")]
+    Refused,
+}
+
+/// Why a message's texts weren't all given.
+#[derive(Clone, Copy, Debug, PartialEq, Eq, Error)]
+pub enum TextFault {
+    /// There was no memory left.
+    #[error("out of memory")]
+    OutOfMemory,
+    /// The sink refused a text.
+    #[error("text refused: {0}")]
+    Sink(SinkFault),
+    /// An earlier call has failed.
+    #[error("failed before")]
+    Failed,
+}
+
+impl From<AllocError> for TextFault {
+    ghost use Rattle.std.specs.Prelude.{◌≡◌};
+    ghost use Rattle.mime_text.specs.declared.fault.TextFault.TheVariants.{OutOfMemory};
+
+    ghost from_gives = { λ _ fault. fault ≡ OutOfMemory };
+
+    fn from(_: AllocError) -> Self {
+        TextFault::OutOfMemory
+    }
+}
+
+impl<T: Drop> From<AllocFailed<T>> for TextFault {
+    ghost use Rattle.std.specs.Prelude.{◌≡◌};
+    ghost use Rattle.mime_text.specs.declared.fault.TextFault.TheVariants.{OutOfMemory};
+
+    ghost from_gives = { λ _ fault. fault ≡ OutOfMemory };
+
+    fn from(_: AllocFailed<T>) -> Self {
+        TextFault::OutOfMemory
+    }
+}
+
+impl From<SinkFault> for TextFault {
+    ghost use Rattle.std.specs.Prelude.{◌≡◌};
+    ghost use Rattle.mime_text.specs.declared.fault.TextFault.TheVariants.{Sink};
+
+    ghost from_gives = { λ f fault. fault ≡ Sink f };
+
+    fn from(fault: SinkFault) -> Self {
+        TextFault::Sink(fault)
+    }
+}

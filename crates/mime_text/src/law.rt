@@ -1,0 +1,13 @@
+//! What holds of the definitions that the contracts cite.
+ghost use Rattle.std.specs.Prelude.{◌≡◌, ℕ, suc, List, [], ◌++◌, Bool, flat_map};
+ghost use Rattle.header_text.specs.Headers.{HeaderField};
+ghost use Rattle.mime_text.specs.declared.default_type.DefaultType.{DefaultType};
+ghost use Rattle.mime_text.specs.Parts.{Shape, Part, parts};
+ghost use Rattle.mime_text.specs.Stream.{given, InHeader, counted_part};
+
+/// A stack of boundaries, one line at a time, gives the parts of the split that takes the outermost boundaries first. It does
+/// nothing.
+pub fn one_line_at_a_time()
+    ensures { (shape_of : DefaultType → List HeaderField → Shape) (gives : Part → List ℕ) (counted : Bool) (left : ℕ) (default : DefaultType) (lines : List (List ℕ))
+        → given shape_of gives [] (InHeader counted left default []) lines ≡ flat_map gives (counted_part counted lines ++ parts shape_of (suc left) default lines) }
+{}

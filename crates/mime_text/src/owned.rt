@@ -1,0 +1,121 @@
+//! What facts keep of a header. Each type bounds by itself what it keeps.
+ghost use Rattle.std.specs.Prelude.{◌≡◌, ◌≤◌, ℕ, List, [], ◌++◌, All, length, map, IfOk, OnOk, string_bytes};
+ghost use Rattle.mime_text.specs.MessageFacts.{IsSizedId};
+
+use std::alloc::{AllocError, Global};
+use std::marker::Model;
+
+/// The text of a Date field, of at most 786,432 bytes, which contracts see as its bytes.
+#[derive(Debug, Drop)]
+pub struct DateText {
+    text: String,
+}
+
+impl Model for DateText {
+    ghost use Rattle.std.specs.Prelude.{ℕ, List};
+
+    ghost Value = { List ℕ };
+
+    ghost use Rattle.std.specs.Prelude.{◌≤◌, length, string_bytes};
+
+    ghost view = { λ t. string_bytes t.text };
+
+    ghost invariant = { λ t. length (string_bytes t.text) ≤ 786432 };
+}
+
+impl DateText {
+    pub(crate) fn new(alloc: Global, text: &str) -> Result<Self, AllocError>
+        requires { length text.now ≤ 786432 }
+        ensures { IfOk result (λ t. t ≡ text.now) }
+    {
+        Ok(DateText {
+            text: String::from_str(alloc, text)?,
+        })
+    }
+
+    pub fn as_str(&self) -> &str
+        ensures { result.now ≡ self.now }
+    {
+        self.text.as_str()
+    }
+}
+
+/// A message id, of 1 to 262,144 bytes, which contracts see as its bytes.
+#[derive(Debug, Drop)]
+pub struct MessageId {
+    bytes: Vec<u8>,
+}
+
+impl Model for MessageId {
+    ghost use Rattle.std.specs.Prelude.{ℕ, List};
+
+    ghost Value = { List ℕ };
+
+    ghost use Rattle.mime_text.specs.MessageFacts.{IsSizedId};
+
+    ghost view = { λ id. id.bytes.items };
+
+    ghost invariant = { λ id. IsSizedId id.bytes.items };
+}
+
+impl MessageId {
+    pub(crate) fn of(bytes: Vec<u8>) -> Self
+        requires { IsSizedId bytes.items }
+        ensures { result ≡ bytes.items }
+    {
+        MessageId { bytes }
+    }
+
+    pub fn as_bytes(&self) -> &[u8]
+        ensures bytes { result.now ≡ self.now }
+        ensures size { IsSizedId result.now }
+    {
+        &self.bytes
+    }
+}
+
+/// Message ids, each of 1 to 262,144 bytes, which contracts see as the list of their bytes.
+#[derive(Debug, Drop)]
+pub struct MessageIds {
+    ids: Vec<Vec<u8>>,
+}
+
+impl Model for MessageIds {
+    ghost use Rattle.std.specs.Prelude.{ℕ, List};
+
+    ghost Value = { List (List ℕ) };
+
+    ghost use Rattle.std.specs.Prelude.{All, map};
+    ghost use Rattle.mime_text.specs.MessageFacts.{IsSizedId};
+
+    ghost view = { λ ids. map (λ id. id.items) ids.ids.items };
+
+    ghost invariant = { λ ids. All (λ id. IsSizedId id.items) ids.ids.items };
+}
+
+impl MessageIds {
+    pub(crate) fn new(alloc: Global) -> Self
+        ensures { result ≡ [] }
+    {
+        MessageIds {
+            ids: Vec::new(alloc),
+        }
+    }
+
+    pub(crate) fn append(&mut self, mut more: Vec<Vec<u8>>) -> Result<(), AllocError>
+        requires { All (λ id. IsSizedId id.items) more.items }
+        ensures ids { OnOk result (self.new ≡ self.old ++ map (λ id. id.items) more.items) }
+        ensures sizes { OnOk result (All IsSizedId self.new) }
+    {
+        self.ids.append(&mut more)?;
+        Ok(())
+    }
+
+    /// The ids, in order.
+    pub fn as_slice(&self) -> &[Vec<u8>]
+        ensures ids { map (λ id. id.items) result.now ≡ self.now }
+        ensures sizes { All (λ id. IsSizedId id.items) result.now }
+    {
+        self.ids.as_slice()
+    }
+}

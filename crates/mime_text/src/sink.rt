@@ -1,0 +1,23 @@
+//! What takes the texts of a message.
+ghost use Rattle.std.specs.Prelude.{ℕ, List, ◌≤◌, length, OnOk, IfErr};
+ghost use Rattle.mail_words.specs.declared.kind.TextKind.{TextKind};
+ghost use Rattle.mime_text.specs.declared.fault.SinkFault.{SinkFault};
+ghost use Rattle.mime_text.specs.Sinks.{most_in_text};
+
+use crate::fault::SinkFault;
+use mail_words::TextKind;
+
+/// What takes the texts of a message, one at a time, each with its kind.
+pub trait TextSink {
+    /// What a text that was taken makes of the sink: the sink before, the kind, the text, and the sink behind it.
+    ghost takes: { Self → TextKind → List ℕ → Self → Type 0 };
+
+    /// What a text that was refused makes of the sink, and why it was.
+    ghost refuses: { Self → TextKind → List ℕ → SinkFault → Self → Type 0 };
+
+    /// Takes a text: of a header field at most 786,432 bytes, and of a body, one line of at most 196,611.
+    fn text(&mut self, kind: TextKind, text: &str) -> Result<(), SinkFault>
+        requires { length text.now ≤ most_in_text kind }
+        ensures taken { OnOk result (takes self.old kind text.now self.new) }
+        ensures refused { IfErr result (λ fault. refuses self.old kind text.now fault self.new) };
+}
