@@ -17,3 +17,11 @@ mod RowsTruth
 pub mod BooleanComplete
 pub mod BooleanTrees
 pub mod BooleanPlaces
+pub mod SignLemmas
+pub mod KindLemmas
+pub mod SizeGrammarLemmas
+pub mod FlagGrammarLemmas
+pub mod MairixSound
+pub mod MairixComplete
+pub mod PlainWords
+pub mod MairixLaws

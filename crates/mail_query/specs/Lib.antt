@@ -7,6 +7,9 @@ pub mod Lexicon
 pub mod Sizes
 pub mod Flags
 pub mod Mairix
+pub mod SizeGrammar
+pub mod FlagGrammar
+pub mod MairixGrammar
 pub mod Refusals
 pub mod Reading
 pub mod Mail

@@ -1,8 +1,15 @@
-//! Laws of the boolean language: its grammar, its faults by places, and what the reader answers are one.
-ghost use Rattle.std.specs.Prelude.{◌≡◌, ◌↔◌, List, Option, Some, None, Ok, Err};
+//! Laws of both languages: a grammar and what its reader answers are one, and of the boolean language its faults by places
+//! too.
+ghost use Rattle.std.specs.Prelude.{◌≡◌, ◌↔◌, ℕ, List, Option, Some, None, Ok, Err};
+ghost use Rattle.std.specs.List.{All};
+ghost use Rattle.std.specs.Str.{IsUtf8};
+ghost use Rattle.mail_dates.specs.declared.range.Range.{Range};
 ghost use Rattle.mail_query.specs.declared.fault.QueryFault.{QueryFault};
 ghost use Rattle.mail_query.specs.Query.{Query};
 ghost use Rattle.mail_query.specs.Lexicon.{Lexicon};
+ghost use Rattle.mail_query.specs.Mairix.{pattern_query, patterns_query};
+ghost use Rattle.mail_query.specs.MairixGrammar.{IsPattern, IsAsked, HasNoSigns};
+ghost use Rattle.mail_query.specs.Mail.{mail_lexicon, pattern_lexicon, mairix_query};
 ghost use Rattle.mail_query.specs.Tokens.{Token};
 ghost use Rattle.mail_query.specs.BooleanGrammar.{Reads};
 ghost use Rattle.mail_query.specs.BooleanFaults.{first_fault};
@@ -26,4 +33,31 @@ pub fn what_is_read_shows_no_fault()
 /// What shows no fault is read.
 pub fn what_shows_no_fault_is_read()
     ensures { (lexicon : Lexicon) (ts : List Token) → first_fault lexicon ts ≡ None → (q : Query) × Reads lexicon ts q }
+{}
+
+/// A pattern is read as the query that the grammar relates to it, so the grammar relates one at most. Neither a word nor a
+/// piece of one may have a byte that means something in a pattern.
+pub fn a_pattern_is_read_as_the_grammar_says()
+    ensures { (lexicon : Lexicon) (pattern : List ℕ) (q : Query) → HasNoSigns lexicon → IsUtf8 pattern → (pattern_query lexicon pattern ≡ Ok q) ↔ IsPattern lexicon pattern q }
+{}
+
+/// The same of a list of patterns.
+pub fn patterns_are_read_as_the_grammar_says()
+    ensures { (lexicon : Lexicon) (patterns : List (List ℕ)) (q : Query) → HasNoSigns lexicon → All IsUtf8 patterns → (patterns_query lexicon patterns ≡ Ok q) ↔ IsAsked lexicon patterns q }
+{}
+
+/// Patterns are refused exactly where the grammar relates no query to them.
+pub fn what_is_no_pattern_is_refused()
+    ensures { (lexicon : Lexicon) (patterns : List (List ℕ)) → HasNoSigns lexicon → All IsUtf8 patterns
+        → ((f : QueryFault) × (patterns_query lexicon patterns ≡ Err f)) ↔ ((q : Query) → IsAsked lexicon patterns q → ⊥) }
+{}
+
+/// Neither a word of mail nor a piece of one has a byte that means something in a pattern.
+pub fn words_of_mail_have_no_signs()
+    ensures { (dates : List ℕ → Option Range) → HasNoSigns (mail_lexicon dates) }
+{}
+
+/// What patterns ask of mail is what the grammar relates to them.
+pub fn patterns_of_mail_are_read_as_the_grammar_says()
+    ensures { (patterns : List (List ℕ)) (now : ℕ) (q : Query) → All IsUtf8 patterns → (mairix_query patterns now ≡ Ok q) ↔ IsAsked (pattern_lexicon now) patterns q }
 {}

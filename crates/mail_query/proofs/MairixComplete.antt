@@ -1,0 +1,213 @@
+-- What the grammar of patterns relates is what is read.
+use Rattle.std.proofs.Common.{◌≡◌, ℕ, suc, ◌+◌, ◌<◌, Bool, true, false, not, eqb, List, [], ◌∷◌, ◌++◌, Option, None, Some, Result, Ok, refl, ap, ◌∙◌, arith, IsUtf8}
+use Rattle.std.specs.Prelude.{◌&&◌, bytes_eq, codes, ok_or}
+use Rattle.std.specs.Bool.{Decides}
+use Rattle.std.specs.List.{list_any, list_all, slice_split, All}
+use Rattle.std.proofs.lemmas.Bool.{and_parts, or_from, not-true}
+use Rattle.std.proofs.lemmas.Slice.Eq.{bytes_eq-Decides}
+use Rattle.contract_words.specs.Answers.{◌>>=◌, with_front, fault_as}
+use Rattle.mail_query.specs.declared.fault.QueryFault.{QueryFault}
+use Rattle.mail_query.specs.declared.fault.QueryFaultKind.{QueryFaultKind}
+use Rattle.mail_query.specs.declared.fault.QueryFaultKind.TheVariants.{BadSize, BadFlag}
+use Rattle.mail_query.specs.declared.kinds.Kinds.{Kinds}
+use Rattle.mail_query.specs.Pieces.{is_byte, without_angles, is_nonempty}
+use Rattle.mail_query.specs.Lexicon.{Lexicon}
+use Rattle.mail_query.specs.Query.{Query, Not, all_of, either_of}
+use Rattle.mail_query.specs.Mairix.{Forms, plain_kinds, kinds_of, is_sign, is_id, id_forms, word_forms, some_if, each_read, atom_query, term_query, all_query, rest_query, prefixed_query, pattern_query, patterns_from, patterns_query}
+use Rattle.mail_query.specs.MairixGrammar.{is_among, kinds_named, Separated, Alone, Before, IsAtom, WholeWord, PartOfWord, FrontOfWord, IsTerm, Wanted, Unwanted, IsAll, EachTerm, IsRest, SomeAll, IsPattern, Plain, InKinds, OfId, OfDate, OfSize, OfFlags, ArePatterns, Only, AndAlso, IsAsked, EachPattern, HasNoSigns}
+use Rattle.mail_query.proofs.PieceLemmas.{other_byte, without_last-same}
+use Rattle.mail_query.proofs.KindLemmas.{letters_read}
+use Rattle.mail_query.proofs.FlagGrammarLemmas.{flags_read}
+use Rattle.mail_query.proofs.SizeGrammarLemmas.{sizes_read}
+use Rattle.mail_query.proofs.SignLemmas.{Free, any-append, any-behind, free_of, not_approximate, not_approximate-marked, split_none, split_at, first_free, cut_none, cut_at, utf8_before, utf8_behind}
+
+-- ---- texts between signs
+
+pub separated_read : (sign : ℕ) (Asks : List ℕ → Query → Type 0) (read : List ℕ → Result Query QueryFaultKind) → sign < 128
+    → ((text : List ℕ) (q : Query) → Asks text q → IsUtf8 text → (read text ≡ Ok q) × Free sign text)
+    → (text : List ℕ) (qs : List Query) → Separated sign Asks text qs → IsUtf8 text → each_read read (slice_split (is_byte sign) text) ≡ Ok qs
+separated_read sign Asks read below one text qs (Alone t q a) utf8 =
+    let h = one t q a utf8 in
+    ap (each_read read) (split_none sign t h.1) ∙ ap (λ (r : Result Query QueryFaultKind). r >>= (λ x. with_front (x ∷ []) (Ok []))) h.0
+separated_read sign Asks read below one text qs (Before t rest q more a s) utf8 =
+    let h = one t q a (utf8_before t rest sign below utf8) in
+    let k = separated_read sign Asks read below one rest more s (utf8_behind t rest sign below utf8) in
+    ap (each_read read) (split_at sign t rest h.1)
+    ∙ ap (λ (r : Result Query QueryFaultKind). r >>= (λ x. with_front (x ∷ []) (each_read read (slice_split (is_byte sign) rest)))) h.0
+    ∙ ap (with_front (q ∷ [])) k
+
+pub separated_free : (sign c : ℕ) (Asks : List ℕ → Query → Type 0) → sign < 128 → eqb sign c ≡ false
+    → ((text : List ℕ) (q : Query) → Asks text q → IsUtf8 text → Free c text) → (text : List ℕ) (qs : List Query) → Separated sign Asks text qs → IsUtf8 text → Free c text
+separated_free sign c Asks below differs one text qs (Alone t q a) utf8 = one t q a utf8
+separated_free sign c Asks below differs one text qs (Before t rest q more a s) utf8 =
+    any-append (is_byte c) t (sign ∷ rest) (one t q a (utf8_before t rest sign below utf8))
+    (or_from (eqb sign c) (list_any (is_byte c) rest) differs (separated_free sign c Asks below differs one rest more s (utf8_behind t rest sign below utf8)))
+
+-- ---- atoms, terms and what they make
+
+-- neither a word nor a part of one has a sign
+pub record PlainForms (forms : Forms) : Type 0 where
+  pub words : (text sought : List ℕ) → IsUtf8 text → forms.word text ≡ Some sought → list_any is_sign text ≡ false
+  pub parts : (text sought : List ℕ) → IsUtf8 text → forms.part text ≡ Some sought → list_any is_sign text ≡ false
+
+module _ (forms : Forms) (plain : PlainForms forms) where
+  no_word : (text : List ℕ) → IsUtf8 text → list_any is_sign text ≡ true → forms.word text ≡ None
+  no_word text utf8 h = go (forms.word text) refl
+    where
+      go : (o : Option (List ℕ)) → forms.word text ≡ o → forms.word text ≡ None
+      go None e = e
+      go (Some sought) e = let k = plain.words text sought utf8 e in absurd cc
+
+  no_part : (text : List ℕ) → IsUtf8 text → list_any is_sign text ≡ true → forms.part text ≡ None
+  no_part text utf8 h = go (forms.part text) refl
+    where
+      go : (o : Option (List ℕ)) → forms.part text ≡ o → forms.part text ≡ None
+      go None e = e
+      go (Some sought) e = let k = plain.parts text sought utf8 e in absurd cc
+
+  pub record AtomRead (text : List ℕ) (q : Query) : Type 0 where
+    pub read : atom_query forms text ≡ Ok q
+    pub tilde : Free 0x7E text
+    pub comma : Free 0x2C text
+    pub slash : Free 0x2F text
+
+  marked_free : (c : ℕ) (sub : List ℕ) → is_sign c ≡ true → eqb 0x3D c ≡ false → list_any is_sign sub ≡ false → Free c (sub ++ 0x3D ∷ [])
+  marked_free c sub sign differs h = any-append (is_byte c) sub (0x3D ∷ []) (free_of c sub sign h) (or_from (eqb 0x3D c) false differs refl)
+
+  atom_read : (text : List ℕ) (q : Query) → IsAtom forms text q → IsUtf8 text → AtomRead text q
+  atom_read text q (WholeWord word sought e) utf8 =
+      let h = plain.words word sought utf8 e in
+      record { read = rw (not_approximate word h, e) refl; tilde = free_of 0x7E word refl h; comma = free_of 0x2C word refl h; slash = free_of 0x2F word refl h }
+  atom_read text q (PartOfWord sub sought e) utf8 =
+      let h = plain.parts sub sought (utf8_before sub [] 0x3D (omega arith) utf8) e in
+      record {
+        read = rw (not_approximate-marked sub h, no_word (sub ++ 0x3D ∷ []) utf8 (any-behind is_sign sub [] 0x3D refl), without_last-same 0x3D sub, e) refl;
+        tilde = marked_free 0x7E sub refl refl h;
+        comma = marked_free 0x2C sub refl refl h;
+        slash = marked_free 0x2F sub refl refl h;
+      }
+  atom_read text q (FrontOfWord sub sought e) utf8 =
+      let behind : IsUtf8 (sub ++ 0x3D ∷ []) = utf8_behind [] (sub ++ 0x3D ∷ []) 0x5E (omega arith) utf8 in
+      let h = plain.parts sub sought (utf8_before sub [] 0x3D (omega arith) behind) e in
+      record {
+        read =
+            rw (
+              not_approximate-marked sub h,
+              no_word (0x5E ∷ (sub ++ 0x3D ∷ [])) utf8 refl,
+              without_last-same 0x3D (0x5E ∷ sub),
+              no_part (0x5E ∷ sub) (utf8_before (0x5E ∷ sub) [] 0x3D (omega arith) utf8) refl,
+              e,
+            )
+            refl;
+        tilde = marked_free 0x7E sub refl refl h;
+        comma = marked_free 0x2C sub refl refl h;
+        slash = marked_free 0x2F sub refl refl h;
+      }
+
+  pub record TermRead (text : List ℕ) (q : Query) : Type 0 where
+    pub read : term_query forms text ≡ Ok q
+    pub comma : Free 0x2C text
+    pub slash : Free 0x2F text
+
+  term_read : (text : List ℕ) (q : Query) → IsTerm forms text q → IsUtf8 text → TermRead text q
+  term_read text q (Wanted atom asked a) utf8 =
+      let h = atom_read atom asked a utf8 in
+      record { read = rw (first_free 0x7E atom h.tilde, term_query) h.read; comma = h.comma; slash = h.slash }
+  term_read text q (Unwanted atom asked a) utf8 =
+      let h = atom_read atom asked a (utf8_behind [] atom 0x7E (omega arith) utf8) in
+      record { read = ap (λ (r : Result Query QueryFaultKind). r >>= (λ x. Ok (Not x))) h.read; comma = h.comma; slash = h.slash }
+
+  all_read : (text : List ℕ) (q : Query) → IsAll forms text q → IsUtf8 text → (all_query forms text ≡ Ok q) × Free 0x2F text
+  all_read text q (EachTerm t qs s) utf8 = (
+    ap (λ (r : Result (List Query) QueryFaultKind). r >>= (λ xs. Ok (all_of xs)))
+        (separated_read 0x2C (IsTerm forms) (term_query forms) (omega arith) (λ u x a v. let h = term_read u x a v in (h.read, h.comma)) t qs s utf8),
+    separated_free 0x2C 0x2F (IsTerm forms) (omega arith) refl (λ u x a v. let h = term_read u x a v in h.slash) t qs s utf8,
+  )
+
+  pub rest_read : (text : List ℕ) (q : Query) → IsRest forms text q → IsUtf8 text → rest_query forms text ≡ Ok q
+  rest_read text q (SomeAll t qs s) utf8 =
+      ap (λ (r : Result (List Query) QueryFaultKind). r >>= (λ xs. Ok (either_of xs)))
+      (separated_read 0x2F (IsAll forms) (all_query forms) (omega arith) all_read t qs s utf8)
+
+-- ---- patterns
+
+id_test : (passes filled : Bool) (text sought : List ℕ) → some_if (passes && filled) text ≡ Some sought → passes ≡ true
+id_test true filled text sought e = refl
+id_test false filled text sought e = absurd cc
+
+test : (passes : Bool) (text sought : List ℕ) → some_if passes text ≡ Some sought → passes ≡ true
+test true text sought e = refl
+test false text sought e = absurd cc
+
+unsigned : (filled signs : Bool) → (filled && not signs) ≡ true → signs ≡ false
+unsigned true signs h = not-true signs h
+unsigned false signs h = absurd cc
+
+pub id_plain : PlainForms id_forms
+id_plain = record {
+  words = λ text sought utf8 e. unsigned (is_nonempty text) (list_any is_sign text) (id_test (is_id text) (is_nonempty (without_angles text)) (without_angles text) sought e);
+  parts = λ text sought utf8 e. unsigned (is_nonempty text) (list_any is_sign text) (test (is_id text) text sought e);
+}
+
+module _ (lexicon : Lexicon) (plain : HasNoSigns lexicon) where
+  pub word_plain : (kinds : Kinds) → PlainForms (word_forms lexicon kinds)
+  word_plain kinds = record {
+    words = λ text sought utf8 e. plain.words text utf8 (test (lexicon.is_word text) (lexicon.folded text) sought e);
+    parts = λ text sought utf8 e. plain.pieces text utf8 (test (lexicon.is_piece text) (lexicon.folded text) sought e);
+  }
+
+  -- what names kinds is no other prefix
+  differs : (letters other : List ℕ) (kinds : Kinds) → kinds_of letters ≡ Some kinds → kinds_of other ≡ None → bytes_eq letters other ≡ false
+  differs letters other kinds e n = go (bytes_eq letters other) refl (bytes_eq-Decides letters other)
+    where
+      go : (t : Bool) → bytes_eq letters other ≡ t → Decides (bytes_eq letters other) (letters ≡ other) → bytes_eq letters other ≡ false
+      go true h d = let same = d.0 h in let none = ap kinds_of same ∙ n in absurd cc
+      go false h d = h
+
+  -- letters have no `:`
+  letters_free : (letters : List ℕ) → list_all (is_among (codes "tcfsba")) letters ≡ true → Free 0x3A letters
+  letters_free [] h = refl
+  letters_free (letter ∷ letters) h =
+      let parts = and_parts (is_among (codes "tcfsba") letter) (list_all (is_among (codes "tcfsba")) letters) h in
+      or_from (eqb letter 0x3A) (list_any (is_byte 0x3A) letters) (other_byte letter 0x3A (λ e. let same = ap (is_among (codes "tcfsba")) e in let named = parts.0 in cc)) (letters_free letters parts.1)
+
+  prefixed_letters : (letters rest : List ℕ) (kinds : Kinds) → kinds_of letters ≡ Some kinds → prefixed_query lexicon letters rest ≡ rest_query (word_forms lexicon kinds) rest
+  prefixed_letters letters rest kinds e =
+      rw (differs letters (codes "m") kinds e refl, differs letters (codes "d") kinds e refl, differs letters (codes "z") kinds e refl, differs letters (codes "F") kinds e refl, e) refl
+
+  pub pattern_read : (text : List ℕ) (q : Query) → IsPattern lexicon text q → IsUtf8 text → pattern_query lexicon text ≡ Ok q
+  pattern_read text q (Plain rest asked free r) utf8 = rw (cut_none 0x3A rest free, pattern_query) (rest_read (word_forms lexicon plain_kinds) (word_plain plain_kinds) rest asked r utf8)
+  pattern_read text q (InKinds letters rest asked named r) utf8 =
+      let kinds : Kinds = kinds_named letters in
+      rw (cut_at 0x3A letters rest (letters_free letters named.letters), pattern_query)
+      (prefixed_letters letters rest kinds (letters_read letters named) ∙ rest_read (word_forms lexicon kinds) (word_plain kinds) rest asked r (utf8_behind letters rest 0x3A (omega arith) utf8))
+  pattern_read text q (OfId rest asked r) utf8 = rest_read id_forms id_plain rest asked r (utf8_behind (0x6D ∷ []) rest 0x3A (omega arith) utf8)
+  pattern_read text q (OfDate dates range e) utf8 = rw e refl
+  pattern_read text q (OfSize sizes asked s) utf8 = ap (λ (o : Option Query). ok_or o BadSize) (sizes_read sizes asked s)
+  pattern_read text q (OfFlags flags asked f) utf8 = ap (λ (o : Option Query). ok_or o BadFlag) (flags_read flags asked f)
+
+  -- ---- lists of patterns
+
+  all_first : (pattern : List ℕ) (patterns : List (List ℕ)) → All IsUtf8 (pattern ∷ patterns) → IsUtf8 pattern
+  all_first pattern patterns h = h 0 pattern (omega arith)
+
+  all_behind : (pattern : List ℕ) (patterns : List (List ℕ)) → All IsUtf8 (pattern ∷ patterns) → All IsUtf8 patterns
+  all_behind pattern patterns h = λ k d below. h (suc k) d (omega (arith, below))
+
+  abbrev at_number : ℕ → QueryFaultKind → QueryFault
+  at_number n kind = record { number = n; kind = kind }
+
+  from_read : (n : ℕ) (patterns : List (List ℕ)) (qs : List Query) → ArePatterns lexicon patterns qs → All IsUtf8 patterns → patterns_from lexicon n patterns ≡ Ok qs
+  from_read n patterns qs (Only pattern q a) utf8 =
+      ap (λ (r : Result Query QueryFaultKind). fault_as (at_number n) r >>= (λ x. with_front (x ∷ []) (Ok []))) (pattern_read pattern q a (all_first pattern [] utf8))
+  from_read n patterns qs (AndAlso pattern rest q more a s) utf8 =
+      ap (λ (r : Result Query QueryFaultKind). fault_as (at_number n) r >>= (λ x. with_front (x ∷ []) (patterns_from lexicon (n + 1) rest))) (pattern_read pattern q a (all_first pattern rest utf8))
+      ∙ ap (with_front (q ∷ [])) (from_read (n + 1) rest more s (all_behind pattern rest utf8))
+
+  first_read : (patterns : List (List ℕ)) (qs : List Query) → ArePatterns lexicon patterns qs → patterns_query lexicon patterns ≡ patterns_from lexicon 1 patterns >>= (λ xs. Ok (all_of xs))
+  first_read patterns qs (Only pattern q a) = refl
+  first_read patterns qs (AndAlso pattern rest q more a s) = refl
+
+  pub patterns_read : (patterns : List (List ℕ)) (q : Query) → IsAsked lexicon patterns q → All IsUtf8 patterns → patterns_query lexicon patterns ≡ Ok q
+  patterns_read patterns q (EachPattern texts qs s) utf8 =
+      first_read texts qs s ∙ ap (λ (r : Result (List Query) QueryFault). r >>= (λ xs. Ok (all_of xs))) (from_read 1 texts qs s utf8)

@@ -1,0 +1,147 @@
+-- Texts without some byte, and where such a byte cuts them.
+use Rattle.std.proofs.Common.{◌≡◌, ℕ, ◌+◌, ◌<◌, Bool, true, false, cond, eqb, List, [], ◌∷◌, ◌++◌, length, get_or, Option, None, Some, refl, ap, subst, ◌∙◌, arith, length-append, IsUtf8}
+use Rattle.std.specs.Prelude.{option_map}
+use Rattle.std.specs.List.{list_any, slice_split, onto_first}
+use Rattle.std.proofs.Math.Seq.{get_or-append_seam, take-append_seam, drop-append-add}
+use Rattle.std.proofs.lemmas.Bool.{eqb-true, or_parts, or_from, or_left, or_right}
+use Rattle.std.proofs.lemmas.Str.{IsCharBoundary-before_ascii, IsCharBoundary-after_ascii, IsUtf8-take, IsUtf8-drop}
+use Rattle.mail_query.specs.Pieces.{is_byte, cut, without_first, without_last}
+use Rattle.mail_query.specs.Mairix.{is_sign, is_approximate}
+use Rattle.mail_query.proofs.PieceLemmas.{same_byte}
+
+-- the byte stands nowhere
+abbrev pub Free : ℕ → List ℕ → Type 0
+Free c text = list_any (is_byte c) text ≡ false
+
+pub any-append : (p : ℕ → Bool) (xs ys : List ℕ) → list_any p xs ≡ false → list_any p ys ≡ false → list_any p (xs ++ ys) ≡ false
+any-append p [] ys h k = k
+any-append p (x ∷ xs) ys h k =
+    let parts = or_parts (p x) (list_any p xs) h in or_from (p x) (list_any p (xs ++ ys)) parts.0 (any-append p xs ys parts.1 k)
+
+pub any-behind : (p : ℕ → Bool) (xs ys : List ℕ) (y : ℕ) → p y ≡ true → list_any p (xs ++ y ∷ ys) ≡ true
+any-behind p [] ys y h = or_left (p y) (list_any p ys) h
+any-behind p (x ∷ xs) ys y h = or_right (p x) (list_any p (xs ++ y ∷ ys)) (any-behind p xs ys y h)
+
+-- ---- signs
+
+no_both : (b : Bool) {A : Type 0} → b ≡ true → b ≡ false → A
+no_both b h k = absurd cc
+
+pub other_sign : (c b : ℕ) → is_sign c ≡ true → is_sign b ≡ false → eqb b c ≡ false
+other_sign c b h k = go (eqb b c) refl
+  where
+    go : (t : Bool) → eqb b c ≡ t → eqb b c ≡ false
+    go true e = no_both (is_sign b) (ap is_sign (eqb-true b c e) ∙ h) k
+    go false e = e
+
+-- a text without signs is without each of them
+pub free_of : (c : ℕ) (text : List ℕ) → is_sign c ≡ true → list_any is_sign text ≡ false → Free c text
+free_of c [] h k = refl
+free_of c (b ∷ bs) h k =
+    let parts = or_parts (is_sign b) (list_any is_sign bs) k in
+    or_from (eqb b c) (list_any (is_byte c) bs) (other_sign c b h parts.0) (free_of c bs h parts.1)
+
+pub not_approximate : (text : List ℕ) → list_any is_sign text ≡ false → is_approximate text ≡ false
+not_approximate [] h = refl
+not_approximate (b ∷ bs) h =
+    let parts = or_parts (is_sign b) (list_any is_sign bs) h in rw (other_sign 0x3D b refl parts.0) (not_approximate bs parts.1)
+
+pub not_approximate-marked : (text : List ℕ) → list_any is_sign text ≡ false → is_approximate (text ++ 0x3D ∷ []) ≡ false
+not_approximate-marked [] h = refl
+not_approximate-marked (b ∷ bs) h =
+    let parts = or_parts (is_sign b) (list_any is_sign bs) h in rw (other_sign 0x3D b refl parts.0) (not_approximate-marked bs parts.1)
+
+-- ---- where a byte cuts
+
+pub split_none : (c : ℕ) (text : List ℕ) → Free c text → slice_split (is_byte c) text ≡ text ∷ []
+split_none c [] h = refl
+split_none c (b ∷ bs) h =
+    let parts = or_parts (eqb b c) (list_any (is_byte c) bs) h in rw parts.0 (ap (onto_first b) (split_none c bs parts.1))
+
+pub split_at : (c : ℕ) (text rest : List ℕ) → Free c text → slice_split (is_byte c) (text ++ c ∷ rest) ≡ text ∷ slice_split (is_byte c) rest
+split_at c [] rest h = rw same_byte refl
+split_at c (b ∷ bs) rest h =
+    let parts = or_parts (eqb b c) (list_any (is_byte c) bs) h in rw parts.0 (ap (onto_first b) (split_at c bs rest parts.1))
+
+pub first_free : (c : ℕ) (text : List ℕ) → Free c text → without_first c text ≡ None
+first_free c [] h = refl
+first_free c (b ∷ bs) h = let parts = or_parts (eqb b c) (list_any (is_byte c) bs) h in rw parts.0 refl
+
+onto_front : ℕ → Option (List ℕ × List ℕ) → Option (List ℕ × List ℕ)
+onto_front b o = option_map (λ (p : List ℕ × List ℕ). (b ∷ p.0, p.1)) o
+
+pub cut_none : (c : ℕ) (text : List ℕ) → Free c text → cut c text ≡ None
+unfolding onto_front
+cut_none c [] h = refl
+cut_none c (b ∷ bs) h = let parts = or_parts (eqb b c) (list_any (is_byte c) bs) h in rw parts.0 (ap (onto_front b) (cut_none c bs parts.1))
+
+pub cut_at : (c : ℕ) (text rest : List ℕ) → Free c text → cut c (text ++ c ∷ rest) ≡ Some (text, rest)
+unfolding onto_front
+cut_at c [] rest h = rw same_byte refl
+cut_at c (b ∷ bs) rest h = let parts = or_parts (eqb b c) (list_any (is_byte c) bs) h in rw parts.0 (ap (onto_front b) (cut_at c bs rest parts.1))
+
+-- ---- where a text was cut
+
+pub map_some : {A B : Type 0} (f : A → B) (o : Option A) (y : B) → option_map f o ≡ Some y → (x : A) × (o ≡ Some x) × (f x ≡ y)
+map_some f None y e = absurd cc
+map_some f (Some x) y e = (x, refl, cc)
+
+pub last_is : (c : ℕ) (text sub : List ℕ) → without_last c text ≡ Some sub → text ≡ sub ++ c ∷ []
+last_is c [] sub e = absurd cc
+last_is c (b ∷ []) sub e = go (eqb b c) refl e
+  where
+    go : (t : Bool) → eqb b c ≡ t → cond t (Some []) None ≡ Some sub → b ∷ [] ≡ sub ++ c ∷ []
+    go true h e = let s : [] ≡ sub = cc in ap (λ x. x ∷ []) (eqb-true b c h) ∙ ap (λ (t : List ℕ). t ++ c ∷ []) s
+    go false h e = absurd cc
+last_is c (b ∷ d ∷ bs) sub e =
+    let m = map_some (λ (t : List ℕ). b ∷ t) (without_last c (d ∷ bs)) sub e in
+    ap (λ (t : List ℕ). b ∷ t) (last_is c (d ∷ bs) m.0 m.1) ∙ ap (λ (t : List ℕ). t ++ c ∷ []) m.2
+
+pub first_is : (c : ℕ) (text sub : List ℕ) → without_first c text ≡ Some sub → text ≡ c ∷ sub
+first_is c [] sub e = absurd cc
+first_is c (b ∷ bs) sub e = go (eqb b c) refl e
+  where
+    go : (t : Bool) → eqb b c ≡ t → cond t (Some bs) None ≡ Some sub → b ∷ bs ≡ c ∷ sub
+    go true h e = let s : bs ≡ sub = cc in let same : b ≡ c = eqb-true b c h in cc
+    go false h e = absurd cc
+
+pub cut_is : (c : ℕ) (text : List ℕ) (p : List ℕ × List ℕ) → cut c text ≡ Some p → text ≡ p.0 ++ c ∷ p.1
+cut_is c [] p e = absurd cc
+cut_is c (b ∷ bs) p e = go (eqb b c) refl e (λ r h. cut_is c bs r h)
+  where
+    go : (t : Bool) → eqb b c ≡ t → cond t (Some ([], bs)) (option_map (λ (r : List ℕ × List ℕ). (b ∷ r.0, r.1)) (cut c bs)) ≡ Some p
+        → ((r : List ℕ × List ℕ) → cut c bs ≡ Some r → bs ≡ r.0 ++ c ∷ r.1) → b ∷ bs ≡ p.0 ++ c ∷ p.1
+    go true h e k =
+        let s : ([], bs) ≡ p = cc in
+        ap (λ x. x ∷ bs) (eqb-true b c h) ∙ ap (λ (r : List ℕ × List ℕ). r.0 ++ c ∷ r.1) s
+    go false h e k =
+        let m = map_some (λ (r : List ℕ × List ℕ). (b ∷ r.0, r.1)) (cut c bs) p e in
+        ap (λ (t : List ℕ). b ∷ t) (k m.0 m.1) ∙ ap (λ (r : List ℕ × List ℕ). r.0 ++ c ∷ r.1) m.2
+
+pub uncut_free : (c : ℕ) (text : List ℕ) → cut c text ≡ None → list_any (is_byte c) text ≡ false
+uncut_free c [] e = refl
+uncut_free c (b ∷ bs) e = go (eqb b c) (cut c bs) refl refl e (uncut_free c bs)
+  where
+    go : (t : Bool) (o : Option (List ℕ × List ℕ)) → eqb b c ≡ t → cut c bs ≡ o → cond {A = Option (List ℕ × List ℕ)} t (Some ([], bs)) (option_map (λ (r : List ℕ × List ℕ). (b ∷ r.0, r.1)) o) ≡ None
+        → (cut c bs ≡ None → list_any (is_byte c) bs ≡ false) → list_any (is_byte c) (b ∷ bs) ≡ false
+    go true o h i e k = absurd cc
+    go false None h i e k = or_from (eqb b c) (list_any (is_byte c) bs) h (k i)
+    go false (Some r) h i e k = absurd cc
+
+-- ---- both sides of an ASCII byte are texts
+
+pub utf8_before : (text rest : List ℕ) (c : ℕ) → c < 128 → IsUtf8 (text ++ c ∷ rest) → IsUtf8 text
+utf8_before text rest c below utf8 =
+    let whole : List ℕ = text ++ c ∷ rest in
+    let here : get_or whole (length text) 0 ≡ c = get_or-append_seam text c rest 0 in
+    let inside : length text < length whole = omega (arith, length-append text (c ∷ rest)) in
+    subst IsUtf8 (take-append_seam text (c ∷ rest))
+    (IsUtf8-take whole (length text) utf8 (IsCharBoundary-before_ascii whole (length text) inside (omega (arith, here, below))))
+
+pub utf8_behind : (text rest : List ℕ) (c : ℕ) → c < 128 → IsUtf8 (text ++ c ∷ rest) → IsUtf8 rest
+utf8_behind text rest c below utf8 =
+    let whole : List ℕ = text ++ c ∷ rest in
+    let here : get_or whole (length text) 0 ≡ c = get_or-append_seam text c rest 0 in
+    let inside : length text < length whole = omega (arith, length-append text (c ∷ rest)) in
+    subst IsUtf8 (drop-append-add text (c ∷ rest) 1)
+    (IsUtf8-drop whole (length text + 1) utf8 (IsCharBoundary-after_ascii whole (length text) utf8 inside (omega (arith, here, below))))

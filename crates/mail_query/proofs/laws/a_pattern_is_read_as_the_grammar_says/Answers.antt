@@ -1,0 +1,5 @@
+use Rattle.mail_query.proofs.MairixLaws.{pattern_exact}
+use Rattle.mail_query.proofs.laws.a_pattern_is_read_as_the_grammar_says.Goals as goal
+
+pub returns : goal.returns
+returns c = λ lexicon pattern q plain utf8. pattern_exact lexicon plain pattern q utf8
