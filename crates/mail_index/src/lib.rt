@@ -30,7 +30,14 @@ mod postings;
 
 pub use postings::Postings;
 
+mod index_view;
+
+pub use index_view::IndexView;
+
 mod archive;
+mod directory_walk;
 mod fields;
+mod layout;
 mod leb128;
+mod posting_walk;
 mod record_walk;
