@@ -7,3 +7,7 @@ pub mod Fields
 pub mod Records
 pub mod Faults
 pub mod Steps
+pub mod LookUps
+pub mod Directory
+pub mod Lists
+pub mod KeysRead

@@ -31,6 +31,10 @@ mod postings;
 pub use postings::Postings;
 
 mod archive;
+mod directory;
+mod directory_walk;
 mod fields;
 mod leb128;
+mod look_up;
+mod posting_walk;
 mod record_walk;
