@@ -16,5 +16,7 @@ pub mod WholeFile
 pub mod LebLemmas
 pub mod PostingReadLemmas
 pub mod StepLemmas
+pub mod LookUpLemmas
+pub mod DirectoryKeys
 mod Rows
 mod RowsDigest

@@ -13,7 +13,7 @@ use Rattle.mail_index.specs.Records.{read_archives, SpellsArchives, read_record,
 use Rattle.mail_index.specs.Directory.{read_entry, read_entries}
 use Rattle.mail_index.specs.PostingReads.{numbers_read}
 use Rattle.mail_index.specs.Lists.{IsList, AreLists}
-use Rattle.mail_index.specs.Layouts.{key_of}
+use Rattle.mail_index.specs.KeysRead.{key_of}
 use Rattle.mail_index.proofs.ArchiveReads.{archives_back}
 use Rattle.mail_index.proofs.RecordFronts.{leb_some}
 use Rattle.mail_index.proofs.PostingReadLemmas.{read-posted}

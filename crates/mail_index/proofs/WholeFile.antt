@@ -13,7 +13,8 @@ use Rattle.mail_index.specs.Faults.{IsSigned, records_start, directory_start, te
 use Rattle.mail_index.specs.Records.{SpellsArchives, AreRecords}
 use Rattle.mail_index.specs.Directory.{AreEntries, read_entries}
 use Rattle.mail_index.specs.Lists.{IsList, AreLists}
-use Rattle.mail_index.specs.Layouts.{IsLayout, key_of, table_of}
+use Rattle.mail_index.specs.Layouts.{IsLayout, table_of}
+use Rattle.mail_index.specs.KeysRead.{key_of}
 use Rattle.mail_index.proofs.Fronts.{before, concat_then, split}
 use Rattle.mail_index.proofs.Bytes.{AreBytes, length_part, u32_back, u64_back}
 use Rattle.mail_index.proofs.ArchiveReads.{read_count}

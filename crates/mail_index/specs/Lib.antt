@@ -10,3 +10,5 @@ pub mod Lists
 pub mod Layouts
 pub mod Faults
 pub mod Steps
+pub mod LookUps
+pub mod KeysRead

@@ -4,12 +4,17 @@ ghost use Rattle.std.specs.List.{slice_get};
 ghost use Rattle.mail_index.specs.Faults.{IsFileOf, IsFirstFault};
 
 use crate::archive::{Archive, are_archives, behind_archives, first_archive};
+use crate::directory::Directory;
 use crate::directory_walk::are_entries;
 use crate::fault::{IndexFault, Section};
+use crate::kind::Kind;
 use crate::layout::{Layout, signature_fault};
+use crate::look_up::look_up;
 use crate::posting_walk::are_lists;
+use crate::postings::Postings;
 use crate::record::Record;
 use crate::record_walk::are_records;
+use crate::steps::Steps;
 use std::marker::Model;
 
 /// The table of an index file, read in the file's own bytes.
@@ -31,6 +36,7 @@ impl<'a> Model for IndexView<'a> {
 
 impl<'a> IndexView<'a> {
     ghost use Rattle.mail_index.specs.Layouts.{archive_of};
+    ghost use Rattle.mail_index.specs.LookUps.{numbers_at, TakesDigits};
 
     /// The table whose file these bytes are, or the first thing that is wrong with them. Takes no memory.
     pub fn open(bytes: &'a [u8]) -> Result<IndexView<'a>, IndexFault>
@@ -101,5 +107,26 @@ impl<'a> IndexView<'a> {
         ensures { slice_get self.now.messages n ≡ Some result }
     {
         Record::read(self.layout.records.split_at(40 * n as usize).1)
+    }
+
+    /// The keys in order.
+    fn directory(&self) -> Directory<'a>
+        ensures { result ≡ self.now.keys }
+    {
+        Directory::of(
+            self.layout.directory,
+            self.layout.texts,
+            self.layout.postings,
+            self.layout.key_count,
+        )
+    }
+
+    /// The numbers of the messages that have the key, none where there is no such key. A binary search: it takes at most as
+    /// many steps as the number of keys has binary digits.
+    pub fn look_up(&self, kind: Kind, text: &[u8], steps: &mut Steps) -> Postings<'a>
+        ensures numbers { result ≡ numbers_at kind text.now self.now.keys }
+        ensures steps { TakesDigits (length self.now.keys) steps.old steps.new }
+    {
+        look_up(&self.directory(), kind, text, steps)
     }
 }
