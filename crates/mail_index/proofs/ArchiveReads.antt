@@ -1,4 +1,5 @@
 -- Archives read back from their bytes, and the bytes of archives that were read.
+use Rattle.std.proofs.Common.{Some, slice_get}
 use Rattle.std.proofs.Common.{◌≡◌, ◌↔◌, ℕ, zero, suc, ◌+◌, ◌-◌, ◌^◌, ◌<◌, ◌≤◌, List, [], ◌∷◌, ◌++◌, length, take, drop, refl, sym, ap, subst, ◌∙◌, arith, length-append, length-drop}
 use Rattle.std.specs.Prelude.{flat_map, IsTrue, nat_eq, Bool, true, false}
 use Rattle.std.proofs.lemmas.Bool.Decides.{nat_tests}
@@ -201,3 +202,12 @@ read_count (suc n) r = ap suc (read_count n (behind_archive r))
 pub front_of_some : (count : ℕ) (r : List ℕ) → 0 < count → SpellsArchives count r → ArchiveFront r
 front_of_some zero r l h = absurd (omega (arith, l))
 front_of_some (suc n) r l h = archive_front_of r (spells_front n r h)
+
+pub has_first : (count : ℕ) (r : List ℕ) → 0 < count → SpellsArchives count r → HasArchive r
+has_first zero r l h = absurd (omega (arith, l))
+has_first (suc n) r l h = spells_front n r h
+
+pub archive_at : (count n : ℕ) (r : List ℕ) → n < count → slice_get (read_archives count r) n ≡ Some (read_archive (behind_archives n r))
+archive_at zero n r l = absurd (omega (arith, l))
+archive_at (suc count) zero r l = refl
+archive_at (suc count) (suc n) r l = archive_at count n (behind_archive r) (omega (arith, l))

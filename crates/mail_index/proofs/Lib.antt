@@ -6,8 +6,17 @@ pub mod RecordReads
 pub mod ArchiveReads
 pub mod RecordWalk
 pub mod RecordSections
+pub mod DirectoryWalk
+pub mod KeyOrder
+pub mod DirectorySections
+pub mod ListWalk
+pub mod Opening
+pub mod FileLemmas
+pub mod WholeFile
 pub mod LebLemmas
 pub mod PostingReadLemmas
 pub mod StepLemmas
+pub mod LookUpLemmas
+pub mod DirectoryKeys
 mod Rows
 mod RowsDigest

@@ -5,5 +5,10 @@ pub mod PostingReads
 pub mod Files
 pub mod Fields
 pub mod Records
+pub mod Directory
+pub mod Lists
+pub mod Layouts
 pub mod Faults
 pub mod Steps
+pub mod LookUps
+pub mod KeysRead

@@ -88,3 +88,16 @@ pub(crate) fn first_length(section: &[u8], count: u32) -> u64
 {
     u64_at(section, 0)
 }
+
+/// The first of the section's archives, of which there are `count`.
+pub(crate) fn first_archive(section: &[u8], count: u32) -> Archive<'_>
+    requires some { 0 < count }
+    requires spelled { SpellsArchives count section.now }
+    ensures path { result.path.now ≡ (read_archive section.now).path }
+    ensures length { result.length ≡ (read_archive section.now).length }
+{
+    match split_archive(section) {
+        Some((archive, _)) => archive,
+        None => unreachable!(),
+    }
+}

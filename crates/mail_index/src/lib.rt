@@ -31,6 +31,18 @@ mod postings;
 pub use postings::Postings;
 
 mod archive;
+
+pub use archive::Archive;
+
+mod index_view;
+
+pub use index_view::IndexView;
+
+mod directory;
+mod directory_walk;
 mod fields;
+mod layout;
 mod leb128;
+mod look_up;
+mod posting_walk;
 mod record_walk;

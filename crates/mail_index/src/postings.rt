@@ -39,6 +39,13 @@ impl<'a> Postings<'a> {
         Postings { bytes, low: 0 }
     }
 
+    /// No number.
+    pub(crate) fn none() -> Self
+        ensures { result ≡ [] }
+    {
+        Postings { bytes: &[], low: 0 }
+    }
+
     /// The next number, which is dropped: a step.
     pub fn next(&mut self, steps: &mut Steps) -> Option<u32>
         ensures { MatchOption result ((self.old ≡ []) × (self.new ≡ []) × (steps.new ≡ steps.old))

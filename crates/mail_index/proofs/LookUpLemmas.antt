@@ -1,0 +1,137 @@
+-- A key looked up among sorted ones.
+use Rattle.std.proofs.Common.{◌≡◌, ◌≢◌, ◌∙◌, ℕ, zero, suc, ◌+◌, ◌-◌, ◌*◌, ◌^◌, ◌<◌, ◌≤◌, Bool, true, false, ◌&&◌, List, [], ◌∷◌, ◌/◌, length, map, get_or, refl, sym, ap, ap₂, subst, arith}
+use Rattle.std.specs.Prelude.{nat_eq}
+use Rattle.std.specs.Str.{bytes_eq}
+use Rattle.std.specs.declared.cmp.Ordering.{Ordering}
+use Rattle.std.specs.declared.cmp.Ordering.TheVariants.{Less, Equal, Greater}
+use Rattle.std.specs.Ordering.{nat_cmp, is_eq, ordering_reverse}
+use Rattle.std.specs.Cmp.{IsTotalOrder}
+use Rattle.std.specs.Cmp.Lexicographic.{slice_cmp}
+use Rattle.std.proofs.lemmas.List.{length-map, get_or-map}
+use Rattle.std.proofs.lemmas.Bool.Decides.{nat_tests}
+use Rattle.std.proofs.Math.Nat.{pow-suc}
+use Rattle.std.proofs.lemmas.Cmp.{nat_list_cmp_total}
+use Rattle.std.proofs.lemmas.Map.Text.{is_eq-slice_cmp}
+use Rattle.std.proofs.lemmas.Map.Keys.{Less-from_sorted}
+use Rattle.mail_index.specs.declared.kind.Kind.{Kind}
+use Rattle.mail_index.specs.Kinds.{kind_number}
+use Rattle.mail_index.specs.Tables.{Key}
+use Rattle.mail_index.specs.LookUps.{is_key, lies_to, numbers_at, AreSorted}
+
+-- a key's bytes, by which keys are sorted
+abbrev pub key_bytes : Key → List ℕ
+key_bytes k = kind_number k.kind ∷ k.text
+
+-- the key is the wanted one exactly where it is equal to it
+is_key-lies : (kind : Kind) (text : List ℕ) (k : Key) → is_eq (lies_to kind text k) ≡ is_key kind text k
+is_key-lies kind text k = is_eq-slice_cmp (key_bytes k) (kind_number kind ∷ text)
+
+pub is_key-equal : (kind : Kind) (text : List ℕ) (k : Key) → lies_to kind text k ≡ Equal → is_key kind text k ≡ true
+is_key-equal kind text k h = sym (is_key-lies kind text k) ∙ ap is_eq h
+
+pub is_key-less : (kind : Kind) (text : List ℕ) (k : Key) → lies_to kind text k ≡ Less → is_key kind text k ≡ false
+is_key-less kind text k h = sym (is_key-lies kind text k) ∙ ap is_eq h
+
+pub is_key-greater : (kind : Kind) (text : List ℕ) (k : Key) → lies_to kind text k ≡ Greater → is_key kind text k ≡ false
+is_key-greater kind text k h = sym (is_key-lies kind text k) ∙ ap is_eq h
+
+-- no key so far, and the rest
+numbers_at-other : (kind : Kind) (text : List ℕ) (k : Key) (ks : List Key) → is_key kind text k ≡ false → numbers_at kind text (k ∷ ks) ≡ numbers_at kind text ks
+numbers_at-other kind text k ks e = rw (e, numbers_at) refl
+
+numbers_at-this : (kind : Kind) (text : List ℕ) (k : Key) (ks : List Key) → is_key kind text k ≡ true → numbers_at kind text (k ∷ ks) ≡ k.numbers
+numbers_at-this kind text k ks e = rw (e, numbers_at) refl
+
+-- the first keys aren't it, and the next is
+pub numbers_at-found : (kind : Kind) (text : List ℕ) (ks : List Key) (i : ℕ) (d : Key) → i < length ks
+    → ((j : ℕ) → j < i → lies_to kind text (get_or ks j d) ≡ Less) → lies_to kind text (get_or ks i d) ≡ Equal → numbers_at kind text ks ≡ (get_or ks i d).numbers
+numbers_at-found kind text [] i d h below here = absurd (omega (arith, h))
+numbers_at-found kind text (k ∷ ks) zero d h below here = numbers_at-this kind text k ks (is_key-equal kind text k here)
+numbers_at-found kind text (k ∷ ks) (suc i) d h below here =
+    numbers_at-other kind text k ks (is_key-less kind text k (below 0 (omega arith)))
+    ∙ numbers_at-found kind text ks i d (omega (arith, h)) (λ j lt. below (suc j) (omega (arith, lt))) here
+
+-- the first keys lie before it, and all others behind it
+pub numbers_at-none : (kind : Kind) (text : List ℕ) (ks : List Key) (i : ℕ) (d : Key)
+    → ((j : ℕ) → j < i → lies_to kind text (get_or ks j d) ≡ Less) → ((j : ℕ) → i ≤ j → j < length ks → lies_to kind text (get_or ks j d) ≡ Greater) → numbers_at kind text ks ≡ []
+numbers_at-none kind text [] i d below above = refl
+numbers_at-none kind text (k ∷ ks) zero d below above =
+    numbers_at-other kind text k ks (is_key-greater kind text k (above 0 (omega arith) (omega arith)))
+    ∙ numbers_at-none kind text ks 0 d (λ j lt. absurd (omega (arith, lt))) (λ j le lt. above (suc j) (omega arith) (omega (arith, lt)))
+numbers_at-none kind text (k ∷ ks) (suc i) d below above =
+    numbers_at-other kind text k ks (is_key-less kind text k (below 0 (omega arith)))
+    ∙ numbers_at-none kind text ks i d (λ j lt. below (suc j) (omega (arith, lt))) (λ j le lt. above (suc j) (omega (arith, le)) (omega (arith, lt)))
+
+-- ---- among sorted keys
+
+-- those before one that lies before it do too
+pub before-less : (kind : Kind) (text : List ℕ) (ks : List Key) (d : Key) (m j : ℕ) → AreSorted ks → m < length ks → lies_to kind text (get_or ks m d) ≡ Less → j < suc m
+    → lies_to kind text (get_or ks j d) ≡ Less
+before-less kind text ks d m j sorted within less le = go (nat_eq j m) refl
+  where
+    go : (t : Bool) → nat_eq j m ≡ t → lies_to kind text (get_or ks j d) ≡ Less
+    go true e = let same : j ≡ m = grind (arith, nat_tests) in ap (λ i. lies_to kind text (get_or ks i d)) same ∙ less
+    go false e =
+        let lower : j < m = grind (arith, nat_tests) in
+        let inside : m < length (map key_bytes ks) = omega (arith, within, length-map ks key_bytes) in
+        let here : slice_cmp nat_cmp (key_bytes (get_or ks j d)) (key_bytes (get_or ks m d)) ≡ Less =
+        ap₂ (slice_cmp nat_cmp) (sym (get_or-map key_bytes ks j d (key_bytes d) (omega (arith, lower, within)))) (sym (get_or-map key_bytes ks m d (key_bytes d) within))
+        ∙ Less-from_sorted (slice_cmp nat_cmp) (map key_bytes ks) j m (key_bytes d) sorted lower inside in
+        nat_list_cmp_total.trans (key_bytes (get_or ks j d)) (key_bytes (get_or ks m d)) (kind_number kind ∷ text) here less
+
+reversed : (o : Ordering) → o ≡ Greater → ordering_reverse o ≡ Less
+reversed Less e = absurd cc
+reversed Equal e = absurd cc
+reversed Greater e = refl
+
+-- those behind one that lies behind it do too
+pub behind-greater : (kind : Kind) (text : List ℕ) (ks : List Key) (d : Key) (m j : ℕ) → AreSorted ks → lies_to kind text (get_or ks m d) ≡ Greater → m ≤ j → j < length ks
+    → lies_to kind text (get_or ks j d) ≡ Greater
+behind-greater kind text ks d m j sorted greater le within = go (nat_eq j m) refl
+  where
+    go : (t : Bool) → nat_eq j m ≡ t → lies_to kind text (get_or ks j d) ≡ Greater
+    go true e = let same : j ≡ m = grind (arith, nat_tests) in ap (λ i. lies_to kind text (get_or ks i d)) same ∙ greater
+    go false e =
+        let wanted : List ℕ = kind_number kind ∷ text in
+        let higher : m < j = grind (arith, nat_tests) in
+        let inside : j < length (map key_bytes ks) = omega (arith, within, length-map ks key_bytes) in
+        let here : slice_cmp nat_cmp (key_bytes (get_or ks m d)) (key_bytes (get_or ks j d)) ≡ Less =
+        ap₂ (slice_cmp nat_cmp) (sym (get_or-map key_bytes ks m d (key_bytes d) (omega (arith, higher, within)))) (sym (get_or-map key_bytes ks j d (key_bytes d) within))
+        ∙ Less-from_sorted (slice_cmp nat_cmp) (map key_bytes ks) m j (key_bytes d) sorted higher inside in
+        let first : slice_cmp nat_cmp wanted (key_bytes (get_or ks m d)) ≡ Less =
+        nat_list_cmp_total.antisymm wanted (key_bytes (get_or ks m d)) ∙ reversed (lies_to kind text (get_or ks m d)) greater in
+        let all : slice_cmp nat_cmp wanted (key_bytes (get_or ks j d)) ≡ Less = nat_list_cmp_total.trans wanted (key_bytes (get_or ks m d)) (key_bytes (get_or ks j d)) first here in
+        nat_list_cmp_total.antisymm (key_bytes (get_or ks j d)) wanted ∙ ap ordering_reverse all
+
+-- ---- steps
+
+-- the halves of some keys have a binary digit less
+pub record Halves (keys digits : ℕ) : Type 0 where
+  pub fewer : ℕ
+  pub digits_are : digits ≡ suc fewer
+  pub lower : keys / 2 < 2 ^ fewer
+  pub upper : keys - keys / 2 - 1 < 2 ^ fewer
+
+pub halves : (keys digits : ℕ) → 0 < keys → keys < 2 ^ digits → Halves keys digits
+halves keys zero some h = absurd (omega (arith, some, h))
+halves keys (suc fewer) some h =
+    let double : 2 ^ suc fewer ≡ 2 ^ fewer * 2 = pow-suc 2 fewer in
+    record { fewer = fewer; digits_are = refl; lower = omega (arith, h, double); upper = omega (arith, h, double) }
+
+-- ---- a key that was met
+
+-- one is met: those before it lie before the wanted key
+pub numbers_at-met : (kind : Kind) (text : List ℕ) (ks : List Key) (m : ℕ) (d : Key) → AreSorted ks → m < length ks → lies_to kind text (get_or ks m d) ≡ Equal
+    → numbers_at kind text ks ≡ (get_or ks m d).numbers
+numbers_at-met kind text ks m d sorted within equal =
+    let wanted : List ℕ = kind_number kind ∷ text in
+    numbers_at-found kind text ks m d within
+    (λ j lt.
+    let inside : m < length (map key_bytes ks) = omega (arith, within, length-map ks key_bytes) in
+    let here : slice_cmp nat_cmp (key_bytes (get_or ks j d)) (key_bytes (get_or ks m d)) ≡ Less =
+    ap₂ (slice_cmp nat_cmp) (sym (get_or-map key_bytes ks j d (key_bytes d) (omega (arith, lt, within)))) (sym (get_or-map key_bytes ks m d (key_bytes d) within))
+    ∙ Less-from_sorted (slice_cmp nat_cmp) (map key_bytes ks) j m (key_bytes d) sorted lt inside in
+    let behind : slice_cmp nat_cmp wanted (key_bytes (get_or ks j d)) ≡ Greater =
+    sym (nat_list_cmp_total.congr (key_bytes (get_or ks m d)) wanted (key_bytes (get_or ks j d)) equal)
+    ∙ nat_list_cmp_total.antisymm (key_bytes (get_or ks m d)) (key_bytes (get_or ks j d)) ∙ ap ordering_reverse here in
+    nat_list_cmp_total.antisymm (key_bytes (get_or ks j d)) wanted ∙ ap ordering_reverse behind) equal

@@ -1,0 +1,5 @@
+use Rattle.mail_index.proofs.ArchiveReads.{has_first}
+use Rattle.mail_index.proofs.archive.first_archive.Goals as goal
+
+pub unreachable-requires : goal.unreachable-requires
+unreachable-requires c = c.in-None.ensures (has_first c.args.count c.args.section.now c.requires.some c.requires.spelled)

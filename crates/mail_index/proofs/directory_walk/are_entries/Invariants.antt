@@ -1,0 +1,10 @@
+use Rattle.std.proofs.Common.{◌≡◌, ◌↔◌, ◌-◌, ◌*◌, ◌≤◌, [], length}
+use Rattle.mail_index.specs.Directory.{AreEntries}
+use Rattle.mail_index.proofs.directory_walk.are_entries.Given as goal
+
+abbrev pub invariant-loop-number : goal.invariant-loop-number
+invariant-loop-number l = record {
+  left : length l.rest ≡ 24 * (l.fn.count - l.number);
+  bound : l.place.text_place ≤ length l.fn.texts;
+  same : AreEntries l.fn.texts l.fn.total 0 0 0 [] l.fn.count l.fn.directory ↔ AreEntries l.fn.texts l.fn.total l.place.text_place l.place.place l.place.number l.place.text.now (l.fn.count - l.number) l.rest;
+}

@@ -1,0 +1,50 @@
+use Rattle.std.proofs.Common.{◌≡◌, true, false, sym, ◌∙◌}
+use Rattle.std.proofs.Math.Facts.{Fits-lt-pow}
+use Rattle.mail_index.proofs.FileLemmas.{these_archives, has_archives, has_records, no_records}
+use Rattle.mail_index.proofs.WholeFile.{laid_out, has_directory, no_directory, has_postings, no_postings, is_file}
+use Rattle.mail_index.proofs.index_view.IndexView.open.Goals as goal
+
+pub returns-then-not-are_archives-clause-fault : goal.returns-then-not-are_archives-clause-fault
+returns-then-not-are_archives-clause-fault c =
+    let bytes = c.args.bytes.now in
+    let l = c.in-Some-of.layout in
+    let f = laid_out bytes l c.in_default.ensures c.in-Some-of.ensures (record { below = λ i. Fits-lt-pow (c.type_inv.bytes i) }) in
+    (f.counts, λ archives h. let g : false ≡ true = sym c.if-not-are_archives.true ∙ c.are_archives.ensures.1 (these_archives bytes l f archives h).1 in cc)
+
+pub returns-then-not-are_records-clause-fault : goal.returns-then-not-are_records-clause-fault
+returns-then-not-are_records-clause-fault c =
+    let bytes = c.args.bytes.now in
+    let l = c.in-Some-of.layout in
+    let f = laid_out bytes l c.in_default.ensures c.in-Some-of.ensures (record { below = λ i. Fits-lt-pow (c.type_inv.bytes i) }) in
+    let a = c.are_archives.ensures.0 c.if-not-are_archives.false in
+    (_, has_archives bytes l f a, no_records bytes l f a (λ h. let g : false ≡ true = sym c.if-not-are_records.true ∙ c.are_records.ensures.1 h in cc))
+
+pub returns-then-not-are_entries-clause-fault : goal.returns-then-not-are_entries-clause-fault
+returns-then-not-are_entries-clause-fault c =
+    let bytes = c.args.bytes.now in
+    let l = c.in-Some-of.layout in
+    let f = laid_out bytes l c.in_default.ensures c.in-Some-of.ensures (record { below = λ i. Fits-lt-pow (c.type_inv.bytes i) }) in
+    let a = c.are_archives.ensures.0 c.if-not-are_archives.false in
+    let r = c.are_records.ensures.0 c.if-not-are_records.false in
+    (_, _, has_records bytes l f a r, no_directory bytes l f (λ h. let g : false ≡ true = sym c.if-not-are_entries.true ∙ c.are_entries.ensures.1 h in cc))
+
+pub returns-then-not-are_lists-clause-fault : goal.returns-then-not-are_lists-clause-fault
+returns-then-not-are_lists-clause-fault c =
+    let bytes = c.args.bytes.now in
+    let l = c.in-Some-of.layout in
+    let f = laid_out bytes l c.in_default.ensures c.in-Some-of.ensures (record { below = λ i. Fits-lt-pow (c.type_inv.bytes i) }) in
+    let a = c.are_archives.ensures.0 c.if-not-are_archives.false in
+    let r = c.are_records.ensures.0 c.if-not-are_records.false in
+    let d = c.are_entries.ensures.0 c.if-not-are_entries.false in
+    (_, _, _, has_directory bytes l f (record { archives = a; records = r }) d, no_postings bytes l f (λ h. let g : false ≡ true = sym c.if-not-are_lists.true ∙ c.are_lists.ensures.1 h in cc))
+
+pub returns-clause-ok : goal.returns-clause-ok
+returns-clause-ok c =
+    let bytes = c.args.bytes.now in
+    let l = c.in-Some-of.layout in
+    let f = laid_out bytes l c.in_default.ensures c.in-Some-of.ensures (record { below = λ i. Fits-lt-pow (c.type_inv.bytes i) }) in
+    let a = c.are_archives.ensures.0 c.if-not-are_archives.false in
+    let r = c.are_records.ensures.0 c.if-not-are_records.false in
+    let d = c.are_entries.ensures.0 c.if-not-are_entries.false in
+    let p = c.are_lists.ensures.0 c.if-not-are_lists.false in
+    is_file bytes l f (has_postings bytes l f (record { archives = a; records = r }) d p)

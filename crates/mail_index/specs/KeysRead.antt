@@ -1,0 +1,32 @@
+-- The keys of a file, read in place.
+use Rattle.std.specs.Prelude.{◌≡◌, ℕ, ◌*◌, ◌^◌, ◌≤◌, List, [], length, map}
+use Rattle.std.specs.List.{slice_index_or}
+use Rattle.mail_index.specs.declared.kind.Kind.TheVariants.{OwnId}
+use Rattle.mail_index.specs.Tables.{Key}
+use Rattle.mail_index.specs.Files.{Entry}
+use Rattle.mail_index.specs.PostingReads.{numbers_read}
+use Rattle.mail_index.specs.Directory.{read_entries, AreEntries}
+use Rattle.mail_index.specs.Lists.{AreLists}
+
+-- a key with its postings read
+abbrev pub key_of : Entry → Key
+key_of e = record { kind = e.kind; text = e.text; numbers = numbers_read 0 e.postings }
+
+-- the keys of so many entries, by their texts and postings
+abbrev pub keys_read : List ℕ → List ℕ → ℕ → List ℕ → List Key
+keys_read texts postings count entries = map key_of (read_entries texts postings count entries)
+
+-- the entries stand in the order of their keys, each with its own text and with postings of messages
+pub record IsDirectory (texts postings : List ℕ) (count : ℕ) (entries : List ℕ) : Type 0 where
+  pub long : length entries ≡ 24 * count
+  pub sorted : AreEntries texts (length postings) 0 0 0 [] count entries
+  pub messages : ℕ
+  pub few : messages ≤ 2 ^ 32
+  pub lists : AreLists messages postings count entries
+
+-- of a place where there is none, any key
+abbrev pub no_key : Key
+no_key = record { kind = OwnId; text = []; numbers = [] }
+
+abbrev pub key_at : List Key → ℕ → Key
+key_at keys number = slice_index_or keys number no_key

@@ -1,0 +1,46 @@
+-- The sections of a file as slices, and the table that they tell.
+use Rattle.std.specs.Prelude.{◌≡◌, ℕ, ◌+◌, ◌*◌, ◌^◌, ◌<◌, List, [], length, map, slice_range}
+use Rattle.mail_index.specs.declared.archive.Archive.{Archive}
+use Rattle.mail_index.specs.declared.layout.Layout.{Layout}
+use Rattle.mail_index.specs.Fields.{u32_at}
+use Rattle.mail_index.specs.Tables.{Key, Table}
+use Rattle.mail_index.specs.Tables as table
+use Rattle.mail_index.specs.Files.{Entry}
+use Rattle.mail_index.specs.Faults.{records_start, directory_start, texts_start, postings_start, digest_start}
+use Rattle.mail_index.specs.Records.{SpellsArchives, AreRecords, read_archives, read_records}
+use Rattle.mail_index.specs.Directory.{AreEntries, read_entries}
+use Rattle.mail_index.specs.Lists.{AreLists}
+use Rattle.mail_index.specs.KeysRead.{keys_read}
+
+pub record IsLayout (bytes : List ℕ) (l : Layout) : Type 0 where
+  pub adds_up : digest_start bytes + 32 ≡ length bytes
+  pub few : length bytes < 2 ^ 64
+  pub archive_count : l.archive_count ≡ u32_at bytes 12
+  pub few_messages : l.message_count < 2 ^ 32
+  pub message_count : l.message_count ≡ u32_at bytes 16
+  pub key_count : l.key_count ≡ u32_at bytes 20
+  pub archives : l.archives.now ≡ slice_range bytes 48 (records_start bytes)
+  pub records : l.records.now ≡ slice_range bytes (records_start bytes) (directory_start bytes)
+  pub directory : l.directory.now ≡ slice_range bytes (directory_start bytes) (texts_start bytes)
+  pub texts : l.texts.now ≡ slice_range bytes (texts_start bytes) (postings_start bytes)
+  pub postings : l.postings.now ≡ slice_range bytes (postings_start bytes) (digest_start bytes)
+
+abbrev pub table_of : Layout → Table
+table_of l = record {
+  archives = read_archives l.archive_count l.archives.now;
+  messages = read_records l.message_count l.records.now;
+  keys = keys_read l.texts.now l.postings.now l.key_count l.directory.now;
+}
+
+abbrev pub archive_of : Archive → table.Archive
+archive_of a = record { path = a.path.now; length = a.length }
+
+-- the sections were looked at, each from its front on, and keep their rules
+pub record IsChecked (l : Layout) : Type 0 where
+  pub archives : SpellsArchives l.archive_count l.archives.now
+  pub record_bytes : length l.records.now ≡ 40 * l.message_count
+  pub records : AreRecords l.archive_count 0 0 l.archives.now l.message_count l.records.now
+  pub directory_bytes : length l.directory.now ≡ 24 * l.key_count
+  pub entries : AreEntries l.texts.now (length l.postings.now) 0 0 0 [] l.key_count l.directory.now
+  pub few_messages : l.message_count < 2 ^ 32
+  pub lists : AreLists l.message_count l.postings.now l.key_count l.directory.now

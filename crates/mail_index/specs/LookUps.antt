@@ -1,0 +1,38 @@
+-- What a table answers of a key.
+use Rattle.std.specs.Prelude.{◌≡◌, ℕ, ◌+◌, ◌*◌, ◌^◌, ◌<◌, ◌≤◌, Bool, true, false, ◌&&◌, nat_eq, List, [], ◌∷◌, map, filter}
+use Rattle.std.specs.Str.{bytes_eq}
+use Rattle.mail_index.specs.declared.kind.Kind.{Kind}
+use Rattle.mail_index.specs.Kinds.{kind_number}
+use Rattle.std.specs.declared.cmp.Ordering.{Ordering}
+use Rattle.std.specs.Ordering.{nat_cmp}
+use Rattle.std.specs.Cmp.Lexicographic.{slice_cmp}
+use Rattle.std.specs.List.Sorted.{IsStrictlySortedBy}
+use Rattle.mail_index.specs.Steps.{add_steps}
+use Rattle.mail_index.specs.Tables.{Key}
+
+abbrev pub is_of_kind : Kind → Key → Bool
+is_of_kind kind k = nat_eq (kind_number k.kind) (kind_number kind)
+
+abbrev pub is_key : Kind → List ℕ → Key → Bool
+is_key kind text k = is_of_kind kind k && bytes_eq k.text text
+
+-- how a key lies to another: keys are sorted by the number of their kind, then by text, byte by byte
+abbrev pub lies_to : Kind → List ℕ → Key → Ordering
+lies_to kind text k = slice_cmp nat_cmp (kind_number k.kind ∷ k.text) (kind_number kind ∷ text)
+
+-- the keys stand in that order, each once
+abbrev pub AreSorted : List Key → Type 0
+AreSorted ks = IsStrictlySortedBy (slice_cmp nat_cmp) (map (λ k. kind_number k.kind ∷ k.text) ks)
+
+-- the numbers of the messages that have the key; none where the table hasn't it
+abbrev pub numbers_at : Kind → List ℕ → List Key → List ℕ
+numbers_at kind text [] = []
+numbers_at kind text (k ∷ ks) = elim (is_key kind text k) [ true ↦ k.numbers | false ↦ numbers_at kind text ks ]
+
+-- the keys of a kind
+abbrev pub keys_of : Kind → List Key → List Key
+keys_of kind ks = filter (is_of_kind kind) ks
+
+-- so few steps were taken: at most so many as the number has binary digits, which is the least number of digits that holds it
+abbrev pub TakesDigits : ℕ → ℕ → ℕ → Type 0
+TakesDigits number old new = (digits : ℕ) → number < 2 ^ digits → (taken : ℕ) × (taken ≤ digits) × (new ≡ add_steps old taken)

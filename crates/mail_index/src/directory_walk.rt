@@ -1,0 +1,130 @@
+//! The directory of a file, against the texts and the postings that its entries name.
+ghost use Rattle.std.specs.Prelude.{◌≡◌, ◌↔◌, ◌+◌, ◌-◌, ◌*◌, ◌≤◌, ◌<◌, ℕ, [], length, take, drop, MatchOption, IsTrue};
+ghost use Rattle.mail_index.specs.Fields.{byte_at, u32_at as u32_in, u64_at as u64_in};
+ghost use Rattle.mail_index.specs.Directory.{key_cmp, is_entry as is_entry_of, end_before as end_before_of, text_at, IsEntryAt, AreEntries};
+
+use crate::fields::{u32_at, u64_at};
+use std::cmp::Ordering;
+
+/// The greatest number of a kind.
+const LAST_KIND: u8 = 8;
+
+/// The order of keys in a file: by the number of their kind, then byte by byte.
+pub(crate) fn compare_keys(number: u8, text: &[u8], other_number: u8, other_text: &[u8]) -> Ordering
+    ensures { result ≡ key_cmp number text.now other_number other_text.now }
+{
+    match number.cmp(&other_number) {
+        Ordering::Less => Ordering::Less,
+        Ordering::Equal => text.cmp(other_text),
+        Ordering::Greater => Ordering::Greater,
+    }
+}
+
+/// Whether an entry begins with the number of a kind and three zeros.
+#[tactic(auto, unfolding(crate::specs::Directory::is_entry))]
+fn is_entry(entry: &[u8]) -> bool
+    requires { 24 ≤ length entry.now }
+    ensures { result ≡ is_entry_of entry.now }
+{
+    1 <= entry[0] && entry[0] <= LAST_KIND && entry[1] == 0 && entry[2] == 0 && entry[3] == 0
+}
+
+/// Where the postings of the entry before these end: where those of the first of them begin, or at the end of all.
+pub(crate) fn end_before(entries: &[u8], total: u64) -> u64
+    requires { 0 < length entries.now → 24 ≤ length entries.now }
+    ensures { result ≡ end_before_of entries.now total }
+{
+    if entries.is_empty() {
+        total
+    } else {
+        u64_at(entries, 16)
+    }
+}
+
+/// Where the walk has come: where the texts and the postings of the next entry begin, and the key of the last one, which is
+/// of kind 0 before the first.
+#[derive(Clone, Copy)]
+struct Place<'a> {
+    text_place: u64,
+    place: u64,
+    number: u8,
+    text: &'a [u8],
+}
+
+/// The place behind the first entry, if it may stand behind the last one. There are `total` bytes of postings.
+fn behind_entry<'a>(
+    place: Place<'a>,
+    entries: &[u8],
+    texts: &'a [u8],
+    total: u64,
+) -> Option<Place<'a>>
+    requires long { 24 ≤ length entries.now }
+    requires whole { 24 < length entries.now → 48 ≤ length entries.now }
+    requires bound { place.text_place ≤ length texts.now }
+    ensures { MatchOption result (¬ IsEntryAt texts.entry.now total place.entry.text_place place.entry.place place.entry.number place.entry.text.now entries.now)
+        (λ p. IsEntryAt texts.entry.now total place.entry.text_place place.entry.place place.entry.number place.entry.text.now entries.now
+        × (p.text_place ≡ place.entry.text_place + u32_in entries.now 4) × (p.place ≡ end_before_of (drop 24 entries.now) total)
+        × (p.number ≡ byte_at entries.now 0) × (p.text.now ≡ text_at texts.entry.now entries.now)) }
+{
+    let text_length = u32_at(entries, 4);
+    let end = end_before(entries.split_at(24).1, total);
+    if !is_entry(entries) {
+        return None;
+    }
+    if u64_at(entries, 8) != place.text_place {
+        return None;
+    }
+    if u64_at(entries, 16) != place.place {
+        return None;
+    }
+    if text_length == 0 {
+        return None;
+    }
+    let rest = texts.split_at(place.text_place as usize).1;
+    if rest.len() < text_length as usize {
+        return None;
+    }
+    let text = rest.split_at(text_length as usize).0;
+    if place.place >= end {
+        return None;
+    }
+    if end > total {
+        return None;
+    }
+    match compare_keys(place.number, place.text, entries[0], text) {
+        Ordering::Less => Some(Place {
+            text_place: place.text_place + text_length as u64,
+            place: end,
+            number: entries[0],
+            text,
+        }),
+        Ordering::Equal => None,
+        Ordering::Greater => None,
+    }
+}
+
+/// Whether the directory is so many entries, in order, whose texts fill the section of texts and whose postings fill that of
+/// postings, which has `total` bytes.
+pub(crate) fn are_entries(directory: &[u8], count: u32, texts: &[u8], total: u64) -> bool
+    requires { length directory.now ≡ 24 * count }
+    ensures { IsTrue result ↔ AreEntries texts.now total 0 0 0 [] count directory.now }
+{
+    let mut rest = directory;
+    let mut place = Place {
+        text_place: 0,
+        place: 0,
+        number: 0,
+        text: &[],
+    };
+    for number in 0..count {
+        place = match behind_entry(place, rest, texts, total) {
+            Some(behind) => behind,
+            None => return false,
+        };
+        rest = rest.split_at(24).1;
+    }
+    if place.text_place != texts.len() as u64 {
+        return false;
+    }
+    place.place == total
+}

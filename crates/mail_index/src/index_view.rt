@@ -1,0 +1,132 @@
+//! An index file read in place.
+ghost use Rattle.std.specs.Prelude.{◌≡◌, ◌<◌, length, IfOk, IfErr};
+ghost use Rattle.std.specs.List.{slice_get};
+ghost use Rattle.mail_index.specs.Faults.{IsFileOf, IsFirstFault};
+
+use crate::archive::{Archive, are_archives, behind_archives, first_archive};
+use crate::directory::Directory;
+use crate::directory_walk::are_entries;
+use crate::fault::{IndexFault, Section};
+use crate::kind::Kind;
+use crate::layout::{Layout, signature_fault};
+use crate::look_up::look_up;
+use crate::posting_walk::are_lists;
+use crate::postings::Postings;
+use crate::record::Record;
+use crate::record_walk::are_records;
+use crate::steps::Steps;
+use std::marker::Model;
+
+/// The table of an index file, read in the file's own bytes.
+#[derive(Debug, Drop)]
+pub struct IndexView<'a> {
+    layout: Layout<'a>,
+}
+
+impl<'a> Model for IndexView<'a> {
+    ghost use Rattle.mail_index.specs.Tables.{Table};
+    ghost use Rattle.mail_index.specs.Layouts.{table_of, IsChecked};
+
+    ghost Value = { Table };
+
+    ghost view = { λ s. table_of s.layout };
+
+    ghost invariant = { λ s. IsChecked s.layout };
+}
+
+impl<'a> IndexView<'a> {
+    ghost use Rattle.mail_index.specs.Layouts.{archive_of};
+    ghost use Rattle.mail_index.specs.LookUps.{numbers_at, TakesDigits};
+
+    /// The table whose file these bytes are, or the first thing that is wrong with them. Takes no memory.
+    pub fn open(bytes: &'a [u8]) -> Result<IndexView<'a>, IndexFault>
+        ensures ok { IfOk result (λ table. IsFileOf bytes.entry.now table) }
+        ensures fault { IfErr result (λ fault. IsFirstFault bytes.entry.now fault) }
+    {
+        if let Some(fault) = signature_fault(bytes) {
+            return Err(fault);
+        }
+        let layout = match Layout::of(bytes) {
+            Some(layout) => layout,
+            None => return Err(IndexFault::BadLayout(Section::Counts)),
+        };
+        if !are_archives(layout.archives, layout.archive_count) {
+            return Err(IndexFault::BadLayout(Section::Archives));
+        }
+        if !are_records(
+            layout.records,
+            layout.message_count,
+            layout.archives,
+            layout.archive_count,
+        ) {
+            return Err(IndexFault::BadLayout(Section::Records));
+        }
+        let total = layout.postings.len() as u64;
+        if !are_entries(layout.directory, layout.key_count, layout.texts, total) {
+            return Err(IndexFault::BadLayout(Section::Directory));
+        }
+        if !are_lists(
+            layout.directory,
+            layout.key_count,
+            layout.postings,
+            layout.message_count,
+        ) {
+            return Err(IndexFault::BadLayout(Section::Postings));
+        }
+        Ok(IndexView { layout })
+    }
+
+    /// How many archives there are.
+    #[tactic(auto, using(crate::proofs::ArchiveReads::read_count))]
+    pub fn archive_count(&self) -> u32
+        ensures { result ≡ length self.now.archives }
+    {
+        self.layout.archive_count
+    }
+
+    /// The archive of this number, from 0.
+    pub fn archive(&self, n: u32) -> Archive<'a>
+        requires { n < length self.now.archives }
+        ensures { slice_get self.now.archives n ≡ Some (archive_of result) }
+    {
+        let rest = behind_archives(self.layout.archives, self.layout.archive_count, n);
+        first_archive(rest, self.layout.archive_count - n)
+    }
+
+    /// How many messages there are.
+    #[tactic(auto, using(crate::proofs::Opening::count_records))]
+    pub fn message_count(&self) -> u32
+        ensures { result ≡ length self.now.messages }
+    {
+        self.layout.message_count
+    }
+
+    /// The message of this number, from 0.
+    pub fn message(&self, n: u32) -> Record
+        requires { n < length self.now.messages }
+        ensures { slice_get self.now.messages n ≡ Some result }
+    {
+        Record::read(self.layout.records.split_at(40 * n as usize).1)
+    }
+
+    /// The keys in order.
+    fn directory(&self) -> Directory<'a>
+        ensures { result ≡ self.now.keys }
+    {
+        Directory::of(
+            self.layout.directory,
+            self.layout.texts,
+            self.layout.postings,
+            self.layout.key_count,
+        )
+    }
+
+    /// The numbers of the messages that have the key, none where there is no such key. A binary search: it takes at most as
+    /// many steps as the number of keys has binary digits.
+    pub fn look_up(&self, kind: Kind, text: &[u8], steps: &mut Steps) -> Postings<'a>
+        ensures numbers { result ≡ numbers_at kind text.now self.now.keys }
+        ensures steps { TakesDigits (length self.now.keys) steps.old steps.new }
+    {
+        look_up(&self.directory(), kind, text, steps)
+    }
+}
