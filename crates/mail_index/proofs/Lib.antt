@@ -1,2 +1,5 @@
 mod Rows
 mod RowsDigest
+mod PostingLemmas
+mod KeyMapLemmas
+mod DraftLemmas

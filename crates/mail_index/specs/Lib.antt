@@ -3,3 +3,7 @@ pub mod Tables
 pub mod Postings
 pub mod Files
 pub mod Steps
+pub mod PostingLists
+pub mod KeyMaps
+pub mod Builders
+pub mod Drafts

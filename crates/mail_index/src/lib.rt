@@ -17,3 +17,15 @@ pub use path::is_path;
 mod steps;
 
 pub use steps::Steps;
+
+mod build_fault;
+
+pub use build_fault::BuildFault;
+
+mod builder;
+
+pub use builder::Builder;
+
+mod draft;
+mod key_map;
+mod posting_list;
