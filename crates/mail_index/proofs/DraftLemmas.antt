@@ -10,7 +10,8 @@ use Rattle.mail_index.specs.Kinds.{kind_number}
 use Rattle.mail_index.specs.Postings.{leb128, postings_from}
 use Rattle.mail_index.specs.PostingLists.{end_from, with_number}
 use Rattle.mail_index.specs.Tables.{Key, RisesFrom, IsKey}
-use Rattle.mail_index.specs.Builders.{with_pair}
+use Rattle.mail_index.specs.Builders.{Draft, with_pair}
+use Rattle.mail_index.specs.Drafts.{IsDraft, message_count}
 use Rattle.mail_index.proofs.PostingLemmas.{length-leb128}
 
 pub all-snoc : {A : Type 0} (P : A → Type 0) (xs : List A) (x : A) → AllByRecursion P xs → P x → AllByRecursion P (xs ++ x ∷ [])
@@ -92,3 +93,10 @@ length-postings_from low (n ∷ ns) r =
 -- a key's postings have at most as many bytes as there are messages
 pub length-postings : (count : ℕ) (k : Key) → IsKey count k → length (postings_from 0 k.numbers) ≤ count
 length-postings count k is = omega (arith, length-postings_from 0 k.numbers is.rises, end_from-below count 0 k.numbers (omega arith) is.below)
+
+-- the message that is open counts within the limit
+pub message_count-within : (d : Draft) → IsDraft d → message_count d ≤ d.most
+message_count-within d is = (elim d.in_message as (λ v. d.in_message ≡ v → (if v then suc (length d.table.messages) else length d.table.messages) ≤ d.most) [
+  | true ↦ λ open_now. omega (arith, is.open_message open_now)
+  | false ↦ λ _. is.messages
+]) refl

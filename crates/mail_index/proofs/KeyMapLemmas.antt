@@ -1,5 +1,5 @@
 -- Laws of the keys' map: what a look-up and an insertion make of the entries, seen by their bytes.
-use Rattle.std.proofs.Common.{◌≡◌, ℕ, suc, cond, List, [], ◌∷◌, length, map, Some, None, Result, Ok, Err, OnOk, OnErr, Vec, subst, refl, ap, sym, ◌∙◌}
+use Rattle.std.proofs.Common.{◌≡◌, ℕ, suc, cond, List, [], ◌∷◌, length, map, Some, None, Result, Ok, Err, OnOk, OnErr, Vec, subst, refl, ap, sym, ◌∙◌, ◌^◌, ◌<◌}
 use Rattle.std.specs.Global.{Global}
 use Rattle.std.specs.declared.cmp.Ordering.{Ordering}
 use Rattle.std.specs.declared.cmp.Ordering.TheVariants.{Less, Equal, Greater}
@@ -101,20 +101,23 @@ with_pair-is kind text n (p ∷ ps) all =
     let bytes : List ℕ = kind_number kind ∷ text in
     keys-match (slice_cmp nat_cmp (kind_number kind ∷ text) p.0) ((kind_number kind ∷ text, n ∷ []) ∷ p ∷ ps) ((p.0, with_number p.1 n) ∷ ps) (p ∷ with_entry (kind_number kind ∷ text) n ps)
     ∙ ap (λ (o : Ordering). match_ordering o (map key_of ((kind_number kind ∷ text, n ∷ []) ∷ p ∷ ps)) (map key_of ((p.0, with_number p.1 n) ∷ ps)) (map key_of (p ∷ with_entry (kind_number kind ∷ text) n ps)))
-    (ap (λ (q : List ℕ). slice_cmp nat_cmp (kind_number kind ∷ text) q) (sym all.0))
+    (ap (λ (q : List ℕ). slice_cmp nat_cmp (kind_number kind ∷ text) q) (sym all.0.same))
     ∙ ap (λ (k : Kind). let key : Key = record { kind = k; text = text; numbers = n ∷ [] } in
     match_ordering (slice_cmp nat_cmp (kind_number kind ∷ text) (kind_number (key_of p).kind ∷ (key_of p).text)) (key ∷ map key_of (p ∷ ps)) (map key_of ((p.0, with_number p.1 n) ∷ ps)) (map key_of (p ∷ with_entry (kind_number kind ∷ text) n ps))) (kind_of-number kind)
     ∙ ap (λ (ks : List Key). let key : Key = record { kind = kind; text = text; numbers = n ∷ [] } in
     match_ordering (slice_cmp nat_cmp (kind_number kind ∷ text) (kind_number (key_of p).kind ∷ (key_of p).text)) (key ∷ map key_of (p ∷ ps)) (map key_of ((p.0, with_number p.1 n) ∷ ps)) (key_of p ∷ ks)) (with_pair-is kind text n ps all.1)
 
 -- and the bytes stay those of their keys
-pub with_entry-key_bytes : (kind : Kind) (text : List ℕ) (n : ℕ) (ps : List (List ℕ × List ℕ)) → AllByRecursion IsKeyBytes ps → AllByRecursion IsKeyBytes (with_entry (kind_number kind ∷ text) n ps)
-with_entry-key_bytes kind text n [] all = (ap (λ (k : Kind). kind_number k ∷ text) (kind_of-number kind), tt)
-with_entry-key_bytes kind text n (p ∷ ps) all =
+key_bytes-new : (kind : Kind) (text : List ℕ) (ns : List ℕ) → length text < 2 ^ 32 → IsKeyBytes (kind_number kind ∷ text, ns)
+key_bytes-new kind text ns short = record { same = ap (λ (k : Kind). kind_number k ∷ text) (kind_of-number kind); short = short }
+
+pub with_entry-key_bytes : (kind : Kind) (text : List ℕ) (n : ℕ) → length text < 2 ^ 32 → (ps : List (List ℕ × List ℕ)) → AllByRecursion IsKeyBytes ps → AllByRecursion IsKeyBytes (with_entry (kind_number kind ∷ text) n ps)
+with_entry-key_bytes kind text n short [] all = (key_bytes-new kind text (n ∷ []) short, tt)
+with_entry-key_bytes kind text n short (p ∷ ps) all =
     elim (slice_cmp nat_cmp (kind_number kind ∷ text) p.0) as (λ o. AllByRecursion IsKeyBytes (match_ordering o ((kind_number kind ∷ text, n ∷ []) ∷ p ∷ ps) ((p.0, with_number p.1 n) ∷ ps) (p ∷ with_entry (kind_number kind ∷ text) n ps))) [
-      | Less ↦ (ap (λ (k : Kind). kind_number k ∷ text) (kind_of-number kind), all)
-      | Equal ↦ (all.0, all.1)
-      | Greater ↦ (all.0, with_entry-key_bytes kind text n ps all.1)
+      | Less ↦ (key_bytes-new kind text (n ∷ []) short, all)
+      | Equal ↦ (record { same = all.0.same; short = all.0.short }, all.1)
+      | Greater ↦ (all.0, with_entry-key_bytes kind text n short ps all.1)
     ]
 
 pub length-with_pair : (kind : Kind) (text : List ℕ) (n : ℕ) (ps : List (List ℕ × List ℕ)) → AllByRecursion IsKeyBytes ps
@@ -122,12 +125,12 @@ pub length-with_pair : (kind : Kind) (text : List ℕ) (n : ℕ) (ps : List (Lis
 length-with_pair kind text n ps all = ap length (sym (with_pair-is kind text n ps all)) ∙ length-map (with_entry (kind_number kind ∷ text) n ps) key_of
 
 -- what a call made of the entries is what it made of the keys
-pub kept : {T E : Type 0} (r : Result T E) (kind : Kind) (text : List ℕ) (n : ℕ) (ps qs : List (List ℕ × List ℕ)) (bytes : List ℕ) → bytes ≡ kind_number kind ∷ text
+pub kept : {T E : Type 0} (r : Result T E) (kind : Kind) (text : List ℕ) (n : ℕ) → length text < 2 ^ 32 → (ps qs : List (List ℕ × List ℕ)) (bytes : List ℕ) → bytes ≡ kind_number kind ∷ text
     → OnOk r (qs ≡ with_entry bytes n ps) → OnErr r (qs ≡ ps) → AllByRecursion IsKeyBytes ps → AllByRecursion IsKeyBytes qs
-kept (Ok _) kind text n ps qs bytes b ok err all =
+kept (Ok _) kind text n short ps qs bytes b ok err all =
     let e : qs ≡ with_entry (kind_number kind ∷ text) n ps = ok ∙ ap (λ x. with_entry x n ps) b in
-    subst (λ x. AllByRecursion IsKeyBytes x) (sym e) (with_entry-key_bytes kind text n ps all)
-kept (Err _) kind text n ps qs bytes b ok err all = subst (λ x. AllByRecursion IsKeyBytes x) (sym err) all
+    subst (λ x. AllByRecursion IsKeyBytes x) (sym e) (with_entry-key_bytes kind text n short ps all)
+kept (Err _) kind text n short ps qs bytes b ok err all = subst (λ x. AllByRecursion IsKeyBytes x) (sym err) all
 
 pub kept-keys : {T E : Type 0} (r : Result T E) (kind : Kind) (text : List ℕ) (n : ℕ) (ps qs : List (List ℕ × List ℕ)) (bytes : List ℕ) → bytes ≡ kind_number kind ∷ text
     → (now : List Key) → map key_of ps ≡ now → OnOk r (qs ≡ with_entry bytes n ps) → AllByRecursion IsKeyBytes ps → OnOk r (map key_of qs ≡ with_pair kind text n now)

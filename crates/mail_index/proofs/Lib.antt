@@ -3,3 +3,6 @@ mod RowsDigest
 mod PostingLemmas
 mod KeyMapLemmas
 mod DraftLemmas
+mod SigningLemmas
+mod KeySectionLemmas
+mod Sizes

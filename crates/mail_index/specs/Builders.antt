@@ -54,6 +54,11 @@ refusal TooMany = Some TooMany
 refusal Device = Some Device
 refusal Failed = Some Failed
 
+-- whether the output failed
+abbrev pub is_device : Result ℕ BuildFault → Bool
+is_device (Err Device) = true
+is_device _ = false
+
 -- once a call has been refused there is nothing left, and every later one fails
 abbrev pub stepped : (Draft → Result Draft BuildFault) → Option Draft → Result (Option Draft) BuildFault
 stepped step None = Err Failed

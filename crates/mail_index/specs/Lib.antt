@@ -7,3 +7,5 @@ pub mod PostingLists
 pub mod KeyMaps
 pub mod Builders
 pub mod Drafts
+pub mod Signing
+pub mod SectionCounts

@@ -1,13 +1,17 @@
 //! Builds an index.
-ghost use Rattle.std.specs.Prelude.{◌≡◌, ◌^◌, ◌<◌, ◌≤◌, length, Some, None, Err, IfSome, IfNone, OnErr, is_ok, if◌then◌else◌};
+ghost use Rattle.std.specs.Prelude.{◌≡◌, ◌^◌, ◌<◌, ◌≤◌, ◌-◌, length, Some, None, Err, IfOk, IfErr, IfSome, IfNone, OnErr, is_ok, if◌then◌else◌};
+ghost use Rattle.std.specs.Io.KnownBytes.{Appends};
 ghost use Rattle.contract_words.specs.Answers.{Gives};
+ghost use Rattle.contract_words.specs.Devices.{Counted, Sends};
+ghost use Rattle.mail_index.specs.Files.{index_file};
 ghost use Rattle.mail_index.specs.Tables.{IsPath};
-ghost use Rattle.mail_index.specs.Builders.{empty_draft, begun_archive, begun_message, added, ended_message, ended_archive, refusal, stepped, archive_count, end_of, IsNext, IsBetweenArchives, IsInArchive, IsInMessage};
+ghost use Rattle.mail_index.specs.Builders.{empty_draft, begun_archive, begun_message, added, ended_message, ended_archive, refusal, is_device, stepped, archive_count, end_of, IsNext, IsBetweenArchives, IsInArchive, IsInMessage};
 
 use crate::build_fault::BuildFault;
 use crate::draft::Draft;
 use crate::kind::Kind;
 use crate::record::Record;
+use mbox_cutter::Out;
 use std::alloc::Global;
 use std::marker::Model;
 
@@ -135,6 +139,31 @@ impl Builder {
         };
         let outcome = draft.end_archive(length);
         self.settled(outcome)
+    }
+
+    /// Writes the index file of all archives, where none is open. Answers how many bytes it has.
+    ///
+    /// Takes no memory, and writes in many small pieces. The builder stays as it is, also where the output fails: some
+    /// front of the file went out then.
+    ///
+    /// # Errors
+    ///
+    /// `Device` where the output failed.
+    pub fn write<O: Out>(&self, out: &mut O) -> Result<u64, BuildFault>
+        requires failures { O.failures out.old < 2 ^ 64 - 1 }
+        requires phase { IfSome self.now IsBetweenArchives }
+        ensures failed { IfNone self.now ((result ≡ Err BuildFault.Failed) × (out.new ≡ out.old)) }
+        ensures ok { IfSome self.now (λ d. IfOk result (λ n. (n ≡ length (index_file d.table)) × Appends (O.taken out.old) (O.taken out.new) (index_file d.table))) }
+        ensures err { IfSome self.now (λ d. IfErr result (λ e. (e ≡ BuildFault.Device) × Sends (O.taken out.old) (O.taken out.new) (index_file d.table))) }
+        ensures count { Counted (is_device result) (O.failures out.old) (O.failures out.new) }
+    {
+        let Some(draft) = &self.draft else {
+            return Err(BuildFault::Failed);
+        };
+        match draft.write(out) {
+            Ok(length) => Ok(length),
+            Err(fault) => Err(BuildFault::from(fault)),
+        }
     }
 
     // After a refusal nothing is kept.

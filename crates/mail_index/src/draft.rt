@@ -1,6 +1,11 @@
 //! The table that is being built.
-ghost use Rattle.std.specs.Prelude.{◌≡◌, ◌^◌, ◌<◌, ◌≤◌, true, length, IsSome};
+ghost use Rattle.std.specs.Prelude.{◌≡◌, ◌^◌, ◌<◌, ◌≤◌, true, length, IsSome, IfOk, OnOk, OnErr, ◌-◌, string_len};
+ghost use Rattle.std.specs.Io.KnownBytes.{Appends};
 ghost use Rattle.contract_words.specs.Answers.{Gives};
+ghost use Rattle.contract_words.specs.Devices.{Counts as CountsFailures, Sends};
+ghost use Rattle.mail_index.specs.Files.{body, index_file};
+ghost use Rattle.mail_index.specs.SectionCounts.{IsCountOf, counted_length};
+ghost use Rattle.mail_index.specs.Signing.{Signs};
 ghost use Rattle.mail_index.specs.Tables.{IsPath};
 ghost use Rattle.mail_index.specs.Builders.{empty_draft, begun_archive, begun_message, added, ended_message, ended_archive, refusal};
 
@@ -8,6 +13,9 @@ use crate::build_fault::BuildFault;
 use crate::key_map::KeyMap;
 use crate::kind::Kind;
 use crate::record::Record;
+use crate::sections::{Counts, archives_length, send_archives, send_counts, send_records};
+use mbox_cutter::{DeviceFault, Out, send};
+use sha2::{Digest, Sha256};
 use std::alloc::Global;
 use std::marker::Model;
 
@@ -16,6 +24,7 @@ use std::marker::Model;
 pub struct NamedArchive {
     pub path: String,
     pub length: u64,
+    pub ghost short: { string_len path < 2 ^ 32 },
 }
 
 /// The archives, messages and keys so far, and which archive and message are open.
@@ -111,4 +120,71 @@ impl Draft {
         self.archives.push(NamedArchive { path, length })?;
         Ok(())
     }
+}
+
+impl Draft {
+    /// Writes the index file of the table. Answers how many bytes it has.
+    pub fn write<O: Out>(&self, out: &mut O) -> Result<u64, DeviceFault>
+        requires { O.failures out.old < 2 ^ 64 - 1 }
+        ensures ok { IfOk result (λ n. (n ≡ length (index_file self.now.table)) × Appends (O.taken out.old) (O.taken out.new) (index_file self.now.table)) }
+        ensures err { OnErr result (Sends (O.taken out.old) (O.taken out.new) (index_file self.now.table)) }
+        ensures count { CountsFailures result (O.failures out.old) (O.failures out.new) }
+    {
+        let counts = self.counts();
+        let mut hasher = Sha256::new();
+        self.send_body(out, &mut hasher, &counts)?;
+        let digest = hasher.finalize();
+        send(out, digest.as_slice())?;
+        Ok(file_length(&counts))
+    }
+
+    // What the counts section tells.
+    fn counts(&self) -> Counts
+        ensures counts { IsCountOf self.now.table result }
+        ensures small { counted_length result < 2 ^ 64 }
+    {
+        Counts {
+            archives: self.archives.len() as u32,
+            messages: self.records.len() as u32,
+            keys: self.keys.len() as u32,
+            archive_bytes: archives_length(self.archives.as_slice()),
+            text_bytes: self.keys.texts_length(),
+            posting_bytes: self.keys.postings_length(),
+        }
+    }
+
+    // Writes all but the digest.
+    fn send_body<O: Out>(
+        &self,
+        out: &mut O,
+        hasher: &mut Sha256,
+        counts: &Counts,
+    ) -> Result<(), DeviceFault>
+        requires failures { O.failures out.old < 2 ^ 64 - 1 }
+        requires counts { IsCountOf self.now.table counts.now }
+        requires small { counted_length counts.now < 2 ^ 64 }
+        ensures ok { OnOk result (Signs (O.taken out.old) (O.taken out.new) hasher.old hasher.new (body self.now.table)) }
+        ensures err { OnErr result (Sends (O.taken out.old) (O.taken out.new) (body self.now.table)) }
+        ensures count { CountsFailures result (O.failures out.old) (O.failures out.new) }
+    {
+        send_counts(out, hasher, counts)?;
+        send_archives(out, hasher, self.archives.as_slice())?;
+        send_records(out, hasher, self.records.as_slice())?;
+        self.keys.send_directory(out, hasher)?;
+        self.keys.send_texts(out, hasher)?;
+        self.keys.send_postings(out, hasher)?;
+        Ok(())
+    }
+}
+
+// The length of a file with these counts.
+fn file_length(counts: &Counts) -> u64
+    requires { counted_length counts.now < 2 ^ 64 }
+    ensures { result ≡ counted_length counts.now }
+{
+    80 + counts.archive_bytes
+        + 40 * counts.messages as u64
+        + 24 * counts.keys as u64
+        + counts.text_bytes
+        + counts.posting_bytes
 }

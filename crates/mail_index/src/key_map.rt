@@ -1,15 +1,21 @@
 //! The keys of an index while it is built.
-ghost use Rattle.std.specs.Prelude.{◌≡◌, ◌<◌, ◌≤◌, [], ◌∷◌, length, IfErr, OnOk, OnErr};
+ghost use Rattle.std.specs.Prelude.{◌≡◌, ◌-◌, ◌^◌, ◌<◌, ◌≤◌, None, [], ◌∷◌, length, map, IfErr, OnOk, OnErr};
 ghost use Rattle.std.specs.BTreeMap.{btree_map_len, get_by};
 ghost use Rattle.std.specs.Cmp.Lexicographic.{slice_cmp};
 ghost use Rattle.std.specs.Ordering.{nat_cmp};
+ghost use Rattle.contract_words.specs.Devices.{Counts, Sends};
 ghost use Rattle.mail_index.specs.Kinds.{kind_number};
+ghost use Rattle.mail_index.specs.Files.{entry_of, directory_from, texts_of, postings_of};
+ghost use Rattle.mail_index.specs.Signing.{Signs};
 ghost use Rattle.mail_index.specs.KeyMaps.{pairs, with_entry, IsWantOf};
 ghost use Rattle.mail_index.specs.Builders.{with_pair};
 
 use crate::build_fault::BuildFault;
+use crate::key_sections;
 use crate::kind::Kind;
 use crate::posting_list::PostingList;
+use mbox_cutter::{DeviceFault, Out};
+use sha2::Sha256;
 use std::alloc::{AllocError, Global};
 use std::collections::BTreeMap;
 use std::marker::Model;
@@ -64,6 +70,7 @@ impl KeyMap {
         most: u32,
     ) -> Result<(), BuildFault>
         requires number { number < u32.MAX }
+        requires short { length text.now < 2 ^ 32 }
         requires fits { length self.old ≤ most }
         ensures ok { OnOk result (self.new ≡ with_pair kind text.now number self.old) }
         ensures err { OnErr result (self.new ≡ self.old) }
@@ -72,6 +79,60 @@ impl KeyMap {
     {
         write_key(&mut self.wanted, kind, text)?;
         add_at(alloc, &mut self.lists, self.wanted.as_slice(), number, most)
+    }
+}
+
+impl KeyMap {
+    /// How many bytes the keys' texts have.
+    pub fn texts_length(&self) -> u64
+        requires { length (texts_of (map entry_of self.now)) < 2 ^ 64 }
+        ensures { result ≡ length (texts_of (map entry_of self.now)) }
+    {
+        key_sections::texts_length(&self.lists)
+    }
+
+    /// How many bytes the keys' postings have.
+    pub fn postings_length(&self) -> u64
+        requires { length (postings_of (map entry_of self.now)) < 2 ^ 64 }
+        ensures { result ≡ length (postings_of (map entry_of self.now)) }
+    {
+        key_sections::postings_length(&self.lists)
+    }
+
+    /// Writes the directory.
+    pub fn send_directory<O: Out>(
+        &self,
+        out: &mut O,
+        hasher: &mut Sha256,
+    ) -> Result<(), DeviceFault>
+        requires count { O.failures out.old < 2 ^ 64 - 1 }
+        requires texts { length (texts_of (map entry_of self.now)) < 2 ^ 64 }
+        requires postings { length (postings_of (map entry_of self.now)) < 2 ^ 64 }
+        ensures ok { OnOk result (Signs (O.taken out.old) (O.taken out.new) hasher.old hasher.new (directory_from 0 0 (map entry_of self.now))) }
+        ensures err { OnErr result (Sends (O.taken out.old) (O.taken out.new) (directory_from 0 0 (map entry_of self.now))) }
+        ensures count { Counts result (O.failures out.old) (O.failures out.new) }
+    {
+        key_sections::send_directory(out, hasher, &self.lists)
+    }
+
+    /// Writes the keys' texts.
+    pub fn send_texts<O: Out>(&self, out: &mut O, hasher: &mut Sha256) -> Result<(), DeviceFault>
+        requires { O.failures out.old < 2 ^ 64 - 1 }
+        ensures ok { OnOk result (Signs (O.taken out.old) (O.taken out.new) hasher.old hasher.new (texts_of (map entry_of self.now))) }
+        ensures err { OnErr result (Sends (O.taken out.old) (O.taken out.new) (texts_of (map entry_of self.now))) }
+        ensures count { Counts result (O.failures out.old) (O.failures out.new) }
+    {
+        key_sections::send_texts(out, hasher, &self.lists)
+    }
+
+    /// Writes the keys' postings.
+    pub fn send_postings<O: Out>(&self, out: &mut O, hasher: &mut Sha256) -> Result<(), DeviceFault>
+        requires { O.failures out.old < 2 ^ 64 - 1 }
+        ensures ok { OnOk result (Signs (O.taken out.old) (O.taken out.new) hasher.old hasher.new (postings_of (map entry_of self.now))) }
+        ensures err { OnErr result (Sends (O.taken out.old) (O.taken out.new) (postings_of (map entry_of self.now))) }
+        ensures count { Counts result (O.failures out.old) (O.failures out.new) }
+    {
+        key_sections::send_postings(out, hasher, &self.lists)
     }
 }
 

@@ -27,5 +27,8 @@ mod builder;
 pub use builder::Builder;
 
 mod draft;
+mod file_out;
 mod key_map;
+mod key_sections;
 mod posting_list;
+mod sections;

@@ -8,7 +8,7 @@ use Rattle.mail_index.proofs.key_map.KeyMap.add.Goals as goal
 pub invariant_of-self-2 : goal.invariant_of-self-2
 invariant_of-self-2 c =
     let bytes : c.as_slice.result.now ≡ kind_number c.args.kind ∷ c.args.text.now = c.as_slice.ensures.value ∙ c.in_ok-write_key.ensures in
-    kept c.add_at.result c.args.kind c.args.text.now c.args.number (pairs c.self.inside.lists.entries) (pairs c.add_at.new.lists.entries) c.as_slice.result.now bytes c.add_at.ensures.ok c.add_at.ensures.err c.self.invariant
+    kept c.add_at.result c.args.kind c.args.text.now c.args.number c.requires.short (pairs c.self.inside.lists.entries) (pairs c.add_at.new.lists.entries) c.as_slice.result.now bytes c.add_at.ensures.ok c.add_at.ensures.err c.self.invariant
 
 pub returns-clause-ok : goal.returns-clause-ok
 returns-clause-ok c =
