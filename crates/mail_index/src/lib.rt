@@ -26,6 +26,8 @@ mod builder;
 
 pub use builder::Builder;
 
+#[cfg(test)]
+mod build_tests;
 mod draft;
 mod file_out;
 mod key_map;
