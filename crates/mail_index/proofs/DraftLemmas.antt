@@ -18,7 +18,7 @@ pub all-snoc : {A : Type 0} (P : A → Type 0) (xs : List A) (x : A) → AllByRe
 all-snoc P [] x all p = (p, tt)
 all-snoc P (y ∷ ys) x all p = (all.0, all-snoc P ys x all.1 p)
 
-all-weaker : {A : Type 0} (P Q : A → Type 0) → ((x : A) → P x → Q x) → (xs : List A) → AllByRecursion P xs → AllByRecursion Q xs
+pub all-weaker : {A : Type 0} (P Q : A → Type 0) → ((x : A) → P x → Q x) → (xs : List A) → AllByRecursion P xs → AllByRecursion Q xs
 all-weaker P Q f [] all = tt
 all-weaker P Q f (x ∷ xs) all = (f x all.0, all-weaker P Q f xs all.1)
 

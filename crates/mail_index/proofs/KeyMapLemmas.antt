@@ -78,7 +78,7 @@ length-with_entry-absent bytes n (e ∷ es) f =
 
 -- ---- bytes and keys
 
-kind_of-number : (k : Kind) → kind_of (kind_number k) ≡ k
+pub kind_of-number : (k : Kind) → kind_of (kind_number k) ≡ k
 kind_of-number (Text To) = refl
 kind_of-number (Text Cc) = refl
 kind_of-number (Text Bcc) = refl

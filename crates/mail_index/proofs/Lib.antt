@@ -6,3 +6,5 @@ mod DraftLemmas
 mod SigningLemmas
 mod KeySectionLemmas
 mod Sizes
+mod KeyPlaces
+mod Placing

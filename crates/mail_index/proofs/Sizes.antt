@@ -7,7 +7,7 @@ use Rattle.sha2.proofs.Facts256.{length-sha256}
 use Rattle.mail_index.specs.declared.record.Record.{Record}
 use Rattle.mail_index.specs.Tables.{Archive, Key, Table, IsArchive, IsKey}
 use Rattle.mail_index.specs.Postings.{postings}
-use Rattle.mail_index.specs.Files.{archive_bytes, record_bytes, Entry, entry_of, entry_bytes, directory_from, texts_of, postings_of, entries, archive_section, counts, body, index_file}
+use Rattle.mail_index.specs.Files.{archive_bytes, record_bytes, Entry, entry_of, entry_bytes, directory_from, texts_of, postings_of, entries, archive_section, counts, body, index_file, HasSmallSections}
 use Rattle.mail_index.specs.declared.sections.Counts.{Counts}
 use Rattle.mail_index.specs.SectionCounts.{counted, IsCountOf, counted_length}
 use Rattle.mail_index.specs.Files.{magic, version, be32, be64}
@@ -83,3 +83,10 @@ counted_length-small t c count is archives messages keys h named listed =
 pub index_file-is : (t : Table) → index_file t ≡ body t ++ sha256 (body t)
 unfolding index_file
 index_file-is t = refl
+
+pub small-sections : (t : Table) (c : Counts) → IsCountOf t c → counted_length c < 2 ^ 64 → HasSmallSections t
+small-sections t c is small = record {
+  archives = omega (arith, is.archive_bytes);
+  texts = omega (arith, is.text_bytes);
+  postings = omega (arith, is.posting_bytes);
+}

@@ -3,8 +3,8 @@ ghost use Rattle.std.specs.Prelude.{◌≡◌, ◌^◌, ◌<◌, ◌≤◌, ◌-
 ghost use Rattle.std.specs.Io.KnownBytes.{Appends};
 ghost use Rattle.contract_words.specs.Answers.{Gives};
 ghost use Rattle.contract_words.specs.Devices.{Counted, Sends};
-ghost use Rattle.mail_index.specs.Files.{index_file};
-ghost use Rattle.mail_index.specs.Tables.{IsPath};
+ghost use Rattle.mail_index.specs.Files.{HasSmallSections, index_file};
+ghost use Rattle.mail_index.specs.Tables.{IsPath, IsWellFormed};
 ghost use Rattle.mail_index.specs.Builders.{empty_draft, begun_archive, begun_message, added, ended_message, ended_archive, refusal, is_device, stepped, archive_count, end_of, IsNext, IsBetweenArchives, IsInArchive, IsInMessage};
 
 use crate::build_fault::BuildFault;
@@ -152,6 +152,7 @@ impl Builder {
     pub fn write<O: Out>(&self, out: &mut O) -> Result<u64, BuildFault>
         requires failures { O.failures out.old < 2 ^ 64 - 1 }
         requires phase { IfSome self.now IsBetweenArchives }
+        ensures formed { IfSome self.now (λ d. IsWellFormed d.table × HasSmallSections d.table) }
         ensures failed { IfNone self.now ((result ≡ Err BuildFault.Failed) × (out.new ≡ out.old)) }
         ensures ok { IfSome self.now (λ d. IfOk result (λ n. (n ≡ length (index_file d.table)) × Appends (O.taken out.old) (O.taken out.new) (index_file d.table))) }
         ensures err { IfSome self.now (λ d. IfErr result (λ e. (e ≡ BuildFault.Device) × Sends (O.taken out.old) (O.taken out.new) (index_file d.table))) }

@@ -1,13 +1,14 @@
 //! The table that is being built.
-ghost use Rattle.std.specs.Prelude.{◌≡◌, ◌^◌, ◌<◌, ◌≤◌, true, length, IsSome, IfOk, OnOk, OnErr, ◌-◌, string_len};
+ghost use Rattle.std.specs.Prelude.{None, ◌≡◌, ◌^◌, ◌<◌, ◌≤◌, true, length, IsSome, IfSome, FitsSigned, IfOk, OnOk, OnErr, ◌-◌, string_len};
+ghost use Rattle.std.specs.Int.{w64};
 ghost use Rattle.std.specs.Io.KnownBytes.{Appends};
 ghost use Rattle.contract_words.specs.Answers.{Gives};
 ghost use Rattle.contract_words.specs.Devices.{Counts as CountsFailures, Sends};
-ghost use Rattle.mail_index.specs.Files.{body, index_file};
+ghost use Rattle.mail_index.specs.Files.{HasSmallSections, body, index_file};
 ghost use Rattle.mail_index.specs.SectionCounts.{IsCountOf, counted_length};
 ghost use Rattle.mail_index.specs.Signing.{Signs};
-ghost use Rattle.mail_index.specs.Tables.{IsPath};
-ghost use Rattle.mail_index.specs.Builders.{empty_draft, begun_archive, begun_message, added, ended_message, ended_archive, refusal};
+ghost use Rattle.mail_index.specs.Tables.{IsPath, IsWellFormed};
+ghost use Rattle.mail_index.specs.Builders.{empty_draft, begun_archive, begun_message, added, ended_message, ended_archive, refusal, archive_count, end_of, IsNext, IsBetweenArchives, IsInMessage};
 
 use crate::build_fault::BuildFault;
 use crate::key_map::KeyMap;
@@ -68,7 +69,8 @@ impl Draft {
 
     /// Opens an archive.
     pub fn begin_archive(&mut self, alloc: Global, path: &str) -> Result<(), BuildFault>
-        requires { IsPath path.now }
+        requires phase { self.old.path ≡ None }
+        requires path { IsPath path.now }
         ensures { Gives (λ _. self.new) refusal result (begun_archive path.now self.old) }
     {
         if self.archives.len() >= self.most as usize {
@@ -102,9 +104,11 @@ impl Draft {
 
     /// Closes the message that is open.
     pub fn end_message(&mut self, message: Record) -> Result<(), BuildFault>
-        requires { self.old.in_message ≡ true }
+        requires phase { IsInMessage self.old }
+        requires next { IsNext self.old message }
         ensures { Gives (λ _. self.new) refusal result (ended_message message self.old) }
     {
+        fits_date(&message);
         self.records.push(message)?;
         self.in_message = false;
         Ok(())
@@ -114,18 +118,26 @@ impl Draft {
     pub fn end_archive(&mut self, length: u64) -> Result<(), BuildFault>
         requires phase { IsSome self.old.path }
         requires length { length ≤ 2 ^ 40 }
+        requires last { end_of (archive_count self.old) self.old.table.messages ≤ length }
         ensures { Gives (λ _. self.new) refusal result (ended_archive length self.old) }
     {
         let path = self.path.take().unwrap();
-        self.archives.push(NamedArchive { path, length })?;
+        if let Err(refused) = self.archives.push(NamedArchive { path, length }) {
+            self.path = Some(refused.value.path);
+            return Err(BuildFault::OutOfMemory);
+        }
         Ok(())
     }
 }
 
 impl Draft {
+    ghost use Rattle.mail_index.specs.Drafts.{IsDraft};
+
     /// Writes the index file of the table. Answers how many bytes it has.
     pub fn write<O: Out>(&self, out: &mut O) -> Result<u64, DeviceFault>
-        requires { O.failures out.old < 2 ^ 64 - 1 }
+        requires failures { O.failures out.old < 2 ^ 64 - 1 }
+        requires phase { IsBetweenArchives self.now }
+        ensures formed { IsWellFormed self.now.table × HasSmallSections self.now.table }
         ensures ok { IfOk result (λ n. (n ≡ length (index_file self.now.table)) × Appends (O.taken out.old) (O.taken out.new) (index_file self.now.table)) }
         ensures err { OnErr result (Sends (O.taken out.old) (O.taken out.new) (index_file self.now.table)) }
         ensures count { CountsFailures result (O.failures out.old) (O.failures out.new) }
@@ -140,6 +152,7 @@ impl Draft {
 
     // What the counts section tells.
     fn counts(&self) -> Counts
+        ensures draft { IsDraft self.now }
         ensures counts { IsCountOf self.now.table result }
         ensures small { counted_length result < 2 ^ 64 }
     {
@@ -175,6 +188,13 @@ impl Draft {
         self.keys.send_postings(out, hasher)?;
         Ok(())
     }
+}
+
+// A date is a number of 64 bits, as its type says.
+fn fits_date(message: &Record)
+    ensures { IfSome message.now.date (FitsSigned w64) }
+{
+    if let Some(_second) = message.date {}
 }
 
 // The length of a file with these counts.

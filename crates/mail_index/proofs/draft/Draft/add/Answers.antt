@@ -1,5 +1,6 @@
 use Rattle.std.proofs.Common.{◌≡◌, suc, ◌<◌, true, if◌then◌else◌, length, ap, ◌∙◌, arith}
 use Rattle.mail_index.proofs.DraftLemmas.{listed-after}
+use Rattle.mail_index.proofs.KeyPlaces.{sorted-after}
 use Rattle.mail_index.proofs.draft.Draft.add.Goals as goal
 
 pub invariant_of-self : goal.invariant_of-self
@@ -14,5 +15,8 @@ invariant_of-self c =
       open_message = c.self.invariant.open_message;
       keys = c.add.ensures.fits;
       named = c.self.invariant.named;
+      placed = c.self.invariant.placed;
+      in_order = c.self.invariant.in_order;
+      sorted = sorted-after c.add.result c.args.kind c.args.text.now c.len-number.result c.self.inside.keys c.add.new.self c.add.ensures.ok c.add.ensures.err c.self.invariant.sorted;
       listed = listed-after c.add.result _ c.len-number.result c.args.kind c.args.text.now c.requires.some c.requires.short low c.self.inside.keys c.add.new.self c.add.ensures.ok c.add.ensures.err c.self.invariant.listed;
     }

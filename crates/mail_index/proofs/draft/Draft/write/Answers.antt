@@ -5,7 +5,8 @@ use Rattle.contract_words.specs.Devices.{Sends}
 use Rattle.contract_words.proofs.Sending.{appends_join, sends_more}
 use Rattle.mail_index.specs.Files.{body, index_file}
 use Rattle.mail_index.proofs.SigningLemmas.{sends-longer}
-use Rattle.mail_index.proofs.Sizes.{index_file-is, counted_length-is}
+use Rattle.mail_index.proofs.Placing.{well_formed}
+use Rattle.mail_index.proofs.Sizes.{index_file-is, counted_length-is, small-sections}
 use Rattle.mail_index.proofs.draft.Draft.write.Goals as goal
 
 pub returns-in_err-send_body-clause-err : goal.returns-in_err-send_body-clause-err
@@ -43,3 +44,6 @@ returns-clause-ok g c =
       subst (λ (l : List ℕ). Appends (g.O.Out.taken c.args.out.now) (g.O.Out.taken c.send.new.out) l) whole
           (appends_join (g.O.Out.taken c.args.out.now) (g.O.Out.taken c.send_body.new.out) (g.O.Out.taken c.send.new.out) (body c.args.self.now.table) c.as_slice.result.now c.in_ok-send_body.ensures.ok.out c.in_ok-send.ensures.ok),
     )
+
+pub returns-clause-formed : goal.returns-clause-formed
+returns-clause-formed g c = (well_formed c.args.self.now c.counts-counts.ensures.draft c.requires.phase, small-sections c.args.self.now.table c.counts-counts.result c.counts-counts.ensures.counts c.counts-counts.ensures.small)
