@@ -27,7 +27,7 @@ rises-snoc low [] n r e = (e, tt)
 rises-snoc low (x ∷ ns) n r e = (r.0, rises-snoc (suc x) ns n r.1 e)
 
 -- what holds of a list with and without a number at its end holds of the list with this number
-by-number : (P : List ℕ → Type 0) (ns : List ℕ) (n : ℕ) → P ns → (end_from 0 ns ≤ n → P (ns ++ n ∷ [])) → P (with_number ns n)
+pub by-number : (P : List ℕ → Type 0) (ns : List ℕ) (n : ℕ) → P ns → (end_from 0 ns ≤ n → P (ns ++ n ∷ [])) → P (with_number ns n)
 unfolding with_number
 by-number P ns n stays more = (elim (nat_lt n (end_from 0 ns)) as (λ v. nat_lt n (end_from 0 ns) ≡ v → P (if v then ns else ns ++ n ∷ [])) [
   | true ↦ λ e. stays
@@ -80,7 +80,7 @@ listed-weaker count more h = all-weaker (IsKey count) (IsKey more) (λ k is. rec
 
 -- ---- how many bytes the numbers take
 
-end_from-below : (count low : ℕ) (ns : List ℕ) → low ≤ count → AllByRecursion (λ n. n < count) ns → end_from low ns ≤ count
+pub end_from-below : (count low : ℕ) (ns : List ℕ) → low ≤ count → AllByRecursion (λ n. n < count) ns → end_from low ns ≤ count
 end_from-below count low [] h all = h
 end_from-below count low (n ∷ ns) h all = let next : suc n ≤ count = omega (arith, all.0) in end_from-below count (suc n) ns next all.1
 

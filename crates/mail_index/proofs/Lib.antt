@@ -8,3 +8,5 @@ mod KeySectionLemmas
 mod Sizes
 mod KeyPlaces
 mod Placing
+mod PairLaw
+pub mod BuilderSteps

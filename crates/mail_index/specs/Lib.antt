@@ -9,3 +9,4 @@ pub mod Builders
 pub mod Drafts
 pub mod Signing
 pub mod SectionCounts
+pub mod Pairs

@@ -26,6 +26,10 @@ mod builder;
 
 pub use builder::Builder;
 
+mod pairs;
+
+pub use pairs::pairs_law;
+
 #[cfg(test)]
 mod build_tests;
 mod draft;
