@@ -20,3 +20,13 @@ pub mod LookUpLemmas
 pub mod DirectoryKeys
 mod Rows
 mod RowsDigest
+mod PostingLemmas
+mod KeyMapLemmas
+mod DraftLemmas
+mod SigningLemmas
+mod KeySectionLemmas
+mod Sizes
+mod KeyPlaces
+mod Placing
+mod PairLaw
+pub mod BuilderSteps

@@ -18,17 +18,17 @@ mod steps;
 
 pub use steps::Steps;
 
+mod build_fault;
+
+pub use build_fault::BuildFault;
+
+mod builder;
+
+pub use builder::Builder;
+
 mod fault;
 
 pub use fault::{IndexFault, Section};
-
-mod laws;
-
-pub use laws::one_table_for_a_file;
-
-mod postings;
-
-pub use postings::Postings;
 
 mod archive;
 
@@ -38,11 +38,31 @@ mod index_view;
 
 pub use index_view::IndexView;
 
+mod postings;
+
+pub use postings::Postings;
+
+mod laws;
+
+pub use laws::one_table_for_a_file;
+
+mod pairs;
+
+pub use pairs::pairs_law;
+
+#[cfg(test)]
+mod build_tests;
 mod directory;
 mod directory_walk;
+mod draft;
 mod fields;
+mod file_out;
+mod key_map;
+mod key_sections;
 mod layout;
 mod leb128;
 mod look_up;
+mod posting_list;
 mod posting_walk;
 mod record_walk;
+mod sections;

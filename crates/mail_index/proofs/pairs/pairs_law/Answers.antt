@@ -1,0 +1,11 @@
+use Rattle.mail_index.proofs.PairLaw.{with_pair-has, with_pair-keeps, with_pair-tells}
+use Rattle.mail_index.proofs.pairs.pairs_law.Goals as goal
+
+pub returns-clause-added : goal.returns-clause-added
+returns-clause-added c = with_pair-has
+
+pub returns-clause-kept : goal.returns-clause-kept
+returns-clause-kept c = with_pair-keeps
+
+pub returns-clause-only : goal.returns-clause-only
+returns-clause-only c = with_pair-tells

@@ -1,0 +1,92 @@
+-- The table that an index builder has so far, and what its calls make of it.
+use Rattle.std.specs.Prelude.{◌≡◌, ℕ, ◌+◌, ◌^◌, ◌<◌, ◌≤◌, Bool, true, false, nat_eq, nat_lt, nat_le, if◌then◌else◌, List, [], ◌∷◌, ◌++◌, length, Option, Some, None, IsSome, unwrap_or, Result, Ok, Err}
+use Rattle.std.specs.Ordering.{match_ordering, nat_cmp}
+use Rattle.std.specs.Cmp.Lexicographic.{slice_cmp}
+use Rattle.contract_words.specs.Answers.{◌>>=◌}
+use Rattle.mail_index.specs.declared.build_fault.BuildFault.{BuildFault}
+use Rattle.mail_index.specs.declared.build_fault.BuildFault.TheVariants.{OutOfMemory, TooMany, Device, Failed}
+use Rattle.mail_index.specs.declared.kind.Kind.{Kind}
+use Rattle.mail_index.specs.declared.record.Record.{Record}
+use Rattle.mail_index.specs.Kinds.{kind_number}
+use Rattle.mail_index.specs.Tables.{Key, Table}
+use Rattle.mail_index.specs.PostingLists.{with_number}
+
+-- the keys, in the order of kind and text, with n among the numbers of this one
+abbrev pub with_pair : Kind → List ℕ → ℕ → List Key → List Key
+with_pair kind text n [] = record { kind = kind; text = text; numbers = n ∷ [] } ∷ []
+with_pair kind text n (k ∷ ks) = match_ordering (slice_cmp nat_cmp (kind_number kind ∷ text) (kind_number k.kind ∷ k.text))
+    (record { kind = kind; text = text; numbers = n ∷ [] } ∷ k ∷ ks)
+    (record { kind = k.kind; text = k.text; numbers = with_number k.numbers n } ∷ ks)
+    (k ∷ with_pair kind text n ks)
+
+-- what a builder was given so far: a table, and the path of the archive that is open
+pub record Draft : Type 0 where
+  pub most : ℕ
+  pub path : Option (List ℕ)
+  pub in_message : Bool
+  pub table : Table
+
+abbrev pub empty_draft : ℕ → Draft
+empty_draft most = record { most = most; path = None; in_message = false; table = record { archives = []; messages = []; keys = [] } }
+
+abbrev pub begun_archive : List ℕ → Draft → Result Draft BuildFault
+begun_archive path d = if nat_lt (length d.table.archives) d.most then Ok (record d { path = Some path }) else Err TooMany
+
+abbrev pub begun_message : Draft → Result Draft BuildFault
+begun_message d = if nat_lt (length d.table.messages) d.most then Ok (record d { in_message = true }) else Err TooMany
+
+-- the message that is open gets its number from all messages before it, of whatever archive
+abbrev pub added : Kind → List ℕ → Draft → Result Draft BuildFault
+added kind text d =
+    let keys = with_pair kind text (length d.table.messages) d.table.keys in
+    if nat_le (length keys) d.most then Ok (record d { table = record d.table { keys = keys } }) else Err TooMany
+
+abbrev pub ended_message : Record → Draft → Result Draft BuildFault
+ended_message r d = Ok (record d { in_message = false; table = record d.table { messages = d.table.messages ++ r ∷ [] } })
+
+abbrev pub ended_archive : ℕ → Draft → Result Draft BuildFault
+ended_archive n d = Ok (record d { path = None; table = record d.table { archives = d.table.archives ++ record { path = unwrap_or d.path []; length = n } ∷ [] } })
+
+-- where there was no memory the definition has no answer
+abbrev pub refusal : BuildFault → Option BuildFault
+refusal OutOfMemory = None
+refusal TooMany = Some TooMany
+refusal Device = Some Device
+refusal Failed = Some Failed
+
+-- whether the output failed
+abbrev pub is_device : Result ℕ BuildFault → Bool
+is_device (Err Device) = true
+is_device _ = false
+
+-- once a call has been refused there is nothing left, and every later one fails
+abbrev pub stepped : (Draft → Result Draft BuildFault) → Option Draft → Result (Option Draft) BuildFault
+stepped step None = Err Failed
+stepped step (Some d) = step d >>= λ e. Ok (Some e)
+
+-- ---- conditions on the caller
+
+abbrev pub archive_count : Draft → ℕ
+archive_count d = length d.table.archives
+
+-- where the last message ends, if it is of this archive, or 0
+abbrev pub end_of : ℕ → List Record → ℕ
+end_of archive [] = 0
+end_of archive (r ∷ []) = if nat_eq r.archive archive then r.offset + r.length else 0
+end_of archive (r ∷ s ∷ rs) = end_of archive (s ∷ rs)
+
+-- the next message of the archive that is open, behind those before it
+pub record IsNext (d : Draft) (r : Record) : Type 0 where
+  pub archive : r.archive ≡ archive_count d
+  pub behind : end_of (archive_count d) d.table.messages ≤ r.offset
+  pub within : r.offset + r.length ≤ 2 ^ 40
+  pub size : r.size < r.length
+
+abbrev pub IsBetweenArchives : Draft → Type 0
+IsBetweenArchives d = (d.path ≡ None) × (d.in_message ≡ false)
+
+abbrev pub IsInArchive : Draft → Type 0
+IsInArchive d = IsSome d.path × (d.in_message ≡ false)
+
+abbrev pub IsInMessage : Draft → Type 0
+IsInMessage d = IsSome d.path × (d.in_message ≡ true)

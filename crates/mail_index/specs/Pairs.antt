@@ -1,0 +1,14 @@
+-- Which pairs of a key and a message some keys tell.
+use Rattle.std.specs.Prelude.{◌≡◌, ◌⊎◌, ℕ, List, [], ◌∷◌}
+use Rattle.mail_index.specs.declared.kind.Kind.{Kind}
+use Rattle.mail_index.specs.Tables.{Key}
+
+-- m is one of the numbers
+abbrev pub IsIn : List ℕ → ℕ → Type 0
+IsIn [] m = ⊥
+IsIn (n ∷ ns) m = (n ≡ m) ⊎ IsIn ns m
+
+-- some key of this kind and text has this number
+abbrev pub Tells : List Key → Kind → List ℕ → ℕ → Type 0
+Tells [] kind text n = ⊥
+Tells (k ∷ ks) kind text n = ((k.kind ≡ kind) × (k.text ≡ text) × IsIn k.numbers n) ⊎ Tells ks kind text n

@@ -1,0 +1,44 @@
+-- A list of postings while it grows: the numbers so far, and how they are read back from its bytes.
+use Rattle.std.specs.Prelude.{◌≡◌, ℕ, suc, ◌+◌, ◌-◌, ◌*◌, ◌^◌, ◌<◌, ◌≤◌, nat_lt, if◌then◌else◌, List, [], ◌∷◌, ◌++◌, length, fold}
+use Rattle.mail_index.specs.Postings.{postings}
+
+-- one past the last number, or low where there is none
+abbrev pub end_from : ℕ → List ℕ → ℕ
+end_from low [] = low
+end_from low (n ∷ ns) = end_from (suc n) ns
+
+-- the rising numbers, with n at their end; n is there already where the last of them isn't below it
+unfoldable pub with_number : List ℕ → ℕ → List ℕ
+with_number numbers n = if nat_lt n (end_from 0 numbers) then numbers else numbers ++ n ∷ []
+
+-- what some bytes of postings have told: whole numbers, one past the last of them, and of a difference that goes on
+-- the part that has come, and the weight of its next seven bits
+pub record Told : Type 0 where
+  pub numbers : List ℕ
+  pub next : ℕ
+  pub part : ℕ
+  pub weight : ℕ
+
+abbrev pub told_whole : List ℕ → ℕ → Told
+told_whole numbers next = record { numbers = numbers; next = next; part = 0; weight = 1 }
+
+unfoldable pub told_more : Told → ℕ → Told
+told_more t b =
+    if nat_lt b 128
+    then told_whole (t.numbers ++ (t.next + (t.part + b * t.weight) - 1) ∷ []) (t.next + (t.part + b * t.weight))
+    else record { numbers = t.numbers; next = t.next; part = t.part + (b - 128) * t.weight; weight = 128 * t.weight }
+
+abbrev pub told : List ℕ → Told
+told bytes = fold told_more (told_whole [] 0) bytes
+
+-- the numbers of postings
+unfoldable pub numbers_of : List ℕ → List ℕ
+numbers_of bytes = (told bytes).numbers
+
+-- the bytes are the postings of the numbers that they tell, of which one is past the last
+pub record IsPosted (bytes : List ℕ) (next : ℕ) : Type 0 where
+  pub told : told bytes ≡ told_whole (numbers_of bytes) next
+  pub spelled : postings (numbers_of bytes) ≡ bytes
+  pub ends : end_from 0 (numbers_of bytes) ≡ next
+  pub short : length bytes ≤ next
+  pub small : next < 2 ^ 32
