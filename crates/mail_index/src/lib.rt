@@ -24,7 +24,7 @@ pub use fault::{IndexFault, Section};
 
 mod laws;
 
-pub use laws::one_table_for_a_file;
+pub use laws::{one_table_for_a_file, the_file_of_a_table_has_no_fault};
 
 mod postings;
 
