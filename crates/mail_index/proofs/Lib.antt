@@ -13,6 +13,7 @@ pub mod ListWalk
 pub mod Opening
 pub mod FileLemmas
 pub mod WholeFile
+pub mod Accepts
 pub mod LebLemmas
 pub mod PostingReadLemmas
 pub mod StepLemmas

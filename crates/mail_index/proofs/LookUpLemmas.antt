@@ -135,3 +135,9 @@ numbers_at-met kind text ks m d sorted within equal =
     sym (nat_list_cmp_total.congr (key_bytes (get_or ks m d)) wanted (key_bytes (get_or ks j d)) equal)
     ∙ nat_list_cmp_total.antisymm (key_bytes (get_or ks m d)) (key_bytes (get_or ks j d)) ∙ ap ordering_reverse here in
     nat_list_cmp_total.antisymm (key_bytes (get_or ks j d)) wanted ∙ ap ordering_reverse behind) equal
+
+-- those behind one that doesn't lie before a key don't either
+pub behind-others : (kind : Kind) (text : List ℕ) (ks : List Key) (d : Key) (m j : ℕ) → AreSorted ks → ¬ (lies_to kind text (get_or ks m d) ≡ Less) → m ≤ j → j < length ks
+    → ¬ (lies_to kind text (get_or ks j d) ≡ Less)
+behind-others kind text ks d m j sorted none le within less =
+    none (before-less kind text ks d j m sorted within less (omega (arith, le)))

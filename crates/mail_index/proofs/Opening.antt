@@ -104,7 +104,7 @@ unfolding read_entry
 are_lists messages texts ps zero d h = tt
 are_lists messages texts ps (suc n) d h = (h.0, are_lists messages texts ps n (drop 24 d) h.1)
 
-some_postings : (ns : List ℕ) → 0 < length ns → 0 < length (postings ns)
+pub some_postings : (ns : List ℕ) → 0 < length ns → 0 < length (postings ns)
 some_postings [] l = absurd (omega (arith, l))
 some_postings (n ∷ ns) l = go (postings (n ∷ ns)) refl
   where

@@ -62,7 +62,7 @@ fn first_of(directory: &Directory<'_>, kind: Kind) -> u32
 impl<'a> Keys<'a> {
     /// The keys of a kind in a directory.
     pub(crate) fn of(directory: Directory<'a>, kind: Kind) -> Self
-        ensures { result ≡ map text_and_numbers (keys_of kind directory) }
+        ensures { result ≡ map text_and_numbers (keys_of kind directory.entry) }
     {
         let next = first_of(&directory, kind);
         Keys {

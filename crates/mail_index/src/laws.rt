@@ -1,5 +1,7 @@
 //! Laws of the definitions.
-ghost use Rattle.std.specs.Prelude.{◌≡◌};
+ghost use Rattle.std.specs.Prelude.{◌≡◌, ◌<◌, ◌^◌, ℕ, List, length};
+ghost use Rattle.mail_index.specs.declared.fault.IndexFault.{IndexFault};
+ghost use Rattle.mail_index.specs.Faults.{IsFileOf, IsFirstFault};
 ghost use Rattle.mail_index.specs.Tables.{Table, IsWellFormed};
 ghost use Rattle.mail_index.specs.Files.{index_file, HasSmallSections};
 
@@ -7,4 +9,9 @@ ghost use Rattle.mail_index.specs.Files.{index_file, HasSmallSections};
 pub fn one_table_for_a_file()
     ensures { (t u : Table) → IsWellFormed t → IsWellFormed u → HasSmallSections t → HasSmallSections u
         → index_file t ≡ index_file u → t ≡ u }
+{}
+
+/// The file of a table that lies in memory has no fault: so the bytes that are opened are exactly the files of tables.
+pub fn the_file_of_a_table_has_no_fault()
+    ensures { (bytes : List ℕ) (t : Table) (fault : IndexFault) → length bytes < 2 ^ 64 → IsFileOf bytes t → ¬ IsFirstFault bytes fault }
 {}

@@ -48,7 +48,7 @@ pub use postings::Postings;
 
 mod laws;
 
-pub use laws::one_table_for_a_file;
+pub use laws::{one_table_for_a_file, the_file_of_a_table_has_no_fault};
 
 mod pairs;
 
