@@ -53,7 +53,8 @@ fn first_of(directory: &Directory<'_>, kind: Kind) -> u32
         let middle = low + (high - low) / 2;
         match directory.compare(middle, kind, &[], &mut steps) {
             Ordering::Less => low = middle + 1,
-            Ordering::Equal | Ordering::Greater => high = middle,
+            Ordering::Equal => high = middle,
+            Ordering::Greater => high = middle,
         }
     }
     low
@@ -77,7 +78,10 @@ impl<'a> Keys<'a> {
         ensures { MatchOption result ((self.old ≡ []) × (self.new ≡ [])) (λ key. self.old ≡ (key.text.now, key.postings) ∷ self.new) }
     {
         let number = self.next;
-        if number >= self.directory.len() || !self.directory.is_of_kind(number, self.kind) {
+        if number >= self.directory.len() {
+            return None;
+        }
+        if !self.directory.is_of_kind(number, self.kind) {
             return None;
         }
         self.next = number + 1;
