@@ -153,6 +153,7 @@ before-kind kind k h = go (nat_cmp (kind_number k.kind) (kind_number kind)) refl
     over : (text : List ℕ) → slice_cmp nat_cmp text [] ≡ Less → ⊥
     over [] e = absurd cc
     over (b ∷ text) e = absurd cc
+
     go : (o : Ordering) → nat_cmp (kind_number k.kind) (kind_number kind) ≡ o → ordering_then o (slice_cmp nat_cmp k.text []) ≡ Less → is_of_kind kind k ≡ false
     go Less e less = let lower : kind_number k.kind < kind_number kind = ranked (kind_number k.kind) (kind_number kind) Less (sym e) in grind (arith, nat_tests)
     go Equal e less = absurd (over k.text less)

@@ -12,9 +12,11 @@ split_at-requires c =
     omega (arith, below, c.self.invariant.long)
 
 pub has_number-requires : goal.has_number-requires
-has_number-requires c = record { long =
-    (rest-at c.self.inside.texts.now c.self.inside.postings.now c.self.inside.count c.self.inside.entries.now c.args.self.now c.args.number c.split_at.result.1.now
-    c.self.invariant c.self.view_is c.requires c.split_at.ensures.back).long }
+has_number-requires c = record {
+  long =
+      (rest-at c.self.inside.texts.now c.self.inside.postings.now c.self.inside.count c.self.inside.entries.now c.args.self.now c.args.number c.split_at.result.1.now
+      c.self.invariant c.self.view_is c.requires c.split_at.ensures.back).long;
+}
 
 pub returns : goal.returns
 unfolding read_entry
