@@ -6,7 +6,7 @@ ghost use Rattle.mime_text.specs.FieldTexts.{is_name as is_name_of};
 ghost use Rattle.mime_text.specs.MessageFacts.{date_text_of, flags_of, own_id_of, ids_of_fields, first_of, is_status as is_status_of, is_linking as is_linking_of, IsSizedId, HasSizedIds};
 ghost use Rattle.header_text.specs.Ids.{ids_of};
 
-use crate::field_text::{FieldReader, is_name};
+use crate::field_text::{FieldReader, is_name, unfold_anew};
 use crate::owned::{DateText, MessageId, MessageIds};
 use header_text::{Fields, Header, message_ids};
 use mail_words::Flags;
@@ -97,7 +97,7 @@ fn has_letter(value: &[u8], letter: u8) -> bool
 fn flags(alloc: Global, fields: Fields<'_>) -> Result<Flags, AllocError>
     ensures { IfOk result (λ flags. flags ≡ flags_of fields.entry) }
 {
-    let mut reader = FieldReader::new(alloc);
+    let mut unfolded = Vec::new(alloc);
     let mut flags = Flags {
         seen: false,
         replied: false,
@@ -105,7 +105,7 @@ fn flags(alloc: Global, fields: Fields<'_>) -> Result<Flags, AllocError>
     };
     for field in fields {
         if is_status(field.name) {
-            let value = reader.unfold(field.body)?;
+            let value = unfold_anew(field.body, &mut unfolded)?;
             flags.seen |= has_letter(value, b'R');
             flags.replied |= has_letter(value, b'A');
             flags.flagged |= has_letter(value, b'F');

@@ -1,5 +1,6 @@
 //! The texts of a header's fields.
-ghost use Rattle.std.specs.Prelude.{◌≡◌, ◌≤◌, ◌*◌, length, map, IfOk};
+ghost use Rattle.std.specs.Prelude.{◌≡◌, ◌≤◌, ◌*◌, length, map, IfOk, OnOk, string_bytes};
+ghost use Rattle.header_text.specs.Unfolding.{unfolded as unfolded_of};
 ghost use Rattle.std.specs.Char.{to_ascii_lowercase};
 ghost use Rattle.mime_text.specs.FieldTexts.{is_name as is_name_of, kind_of_field as kind_of_field_of, text_of_body};
 
@@ -34,45 +35,77 @@ pub(crate) fn kind_of_field(name: &[u8]) -> Option<TextKind>
     }
 }
 
-/// Reads the bodies of one header's fields, into memory that is used again for each.
+/// Writes a body in one line (RFC 5322, 2.2.3), and lends it.
+pub(crate) fn unfold_anew<'a>(body: &[u8], into: &'a mut Vec<u8>) -> Result<&'a [u8], AllocError>
+    ensures { IfOk result (λ value. value.now ≡ unfolded_of body.now) }
+{
+    into.clear();
+    unfold_into(body, into)?;
+    Ok(into.as_slice())
+}
+
+/// Writes the text of a body, and before that the body in one line. What the buffers hold after an error isn't said.
+fn write_text(
+    body: &[u8],
+    unfolded: &mut Vec<u8>,
+    scratch: &mut Vec<u8>,
+    into: &mut String,
+) -> Result<(), AllocError>
+    ensures text { OnOk result (string_bytes into.new ≡ text_of_body body.now) }
+    ensures unfolded { OnOk result (length unfolded.new.items ≤ length body.now) }
+    ensures size { OnOk result (length (string_bytes into.new) ≤ 3 * length body.now) }
+{
+    unfolded.clear();
+    unfold_into(body, unfolded)?;
+    into.clear();
+    decode_words_into(unfolded, scratch, into)?;
+    Ok(())
+}
+
+/// Reads the bodies of fields, into memory that is used again for each and bounded by what a header keeps.
 #[derive(Drop)]
 pub(crate) struct FieldReader {
     unfolded: Vec<u8>,
-    decoded: Vec<u8>,
+    scratch: Vec<u8>,
     text: String,
+    ghost unfolded_fits: { length unfolded.items ≤ 262144 },
+    ghost scratch_is_empty: { length scratch.items ≤ 0 },
+    ghost text_fits: { length (string_bytes text) ≤ 786432 },
 }
 
 impl FieldReader {
-    ghost use Rattle.header_text.specs.Unfolding.{unfolded as unfolded_of};
-
     /// It takes no memory before the first body.
     pub(crate) fn new(alloc: Global) -> Self {
         FieldReader {
             unfolded: Vec::new(alloc),
-            decoded: Vec::new(alloc),
+            scratch: Vec::new(alloc),
             text: String::new(alloc),
         }
     }
 
-    /// The body in one line (RFC 5322, 2.2.3).
-    pub(crate) fn unfold(&mut self, body: &[u8]) -> Result<&[u8], AllocError>
-        ensures { IfOk result (λ value. value.now ≡ unfolded_of body.now) }
+    /// Reads a body, and keeps nothing where memory is wanting.
+    fn take(&mut self, body: &[u8]) -> Result<(), AllocError>
+        requires { length body.now ≤ 262144 }
+        ensures text { OnOk result (string_bytes self.new.text ≡ text_of_body body.now) }
+        ensures size { OnOk result (length (string_bytes self.new.text) ≤ 3 * length body.now) }
     {
-        self.unfolded.clear();
-        unfold_into(body, &mut self.unfolded)?;
-        Ok(&self.unfolded)
+        let outcome = write_text(body, &mut self.unfolded, &mut self.scratch, &mut self.text);
+        self.scratch.clear();
+        if outcome.is_err() {
+            self.unfolded.clear();
+            self.text.clear();
+        }
+        outcome
     }
 
     /// The text of a body: in one line, its encoded words decoded (RFC 2047). It has at most three bytes for each of the
     /// body's.
     pub(crate) fn read(&mut self, body: &[u8]) -> Result<&str, AllocError>
+        requires { length body.now ≤ 262144 }
         ensures text { IfOk result (λ text. text.now ≡ text_of_body body.now) }
         ensures size { IfOk result (λ text. length text.now ≤ 3 * length body.now) }
     {
-        self.unfolded.clear();
-        unfold_into(body, &mut self.unfolded)?;
-        self.text.clear();
-        decode_words_into(&self.unfolded, &mut self.decoded, &mut self.text)?;
+        self.take(body)?;
         Ok(self.text.as_str())
     }
 }
