@@ -33,6 +33,10 @@ numbers_at kind text (k ∷ ks) = elim (is_key kind text k) [ true ↦ k.numbers
 abbrev pub keys_of : Kind → List Key → List Key
 keys_of kind ks = filter (is_of_kind kind) ks
 
+-- a key without its kind
+abbrev pub text_and_numbers : Key → List ℕ × List ℕ
+text_and_numbers k = (k.text, k.numbers)
+
 -- so few steps were taken: at most so many as the number has binary digits, which is the least number of digits that holds it
 abbrev pub TakesDigits : ℕ → ℕ → ℕ → Type 0
 TakesDigits number old new = (digits : ℕ) → number < 2 ^ digits → (taken : ℕ) × (taken ≤ digits) × (new ≡ add_steps old taken)

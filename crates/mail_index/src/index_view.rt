@@ -1,5 +1,5 @@
 //! An index file read in place.
-ghost use Rattle.std.specs.Prelude.{◌≡◌, ◌<◌, length, IfOk, IfErr};
+ghost use Rattle.std.specs.Prelude.{◌≡◌, ◌<◌, length, map, IfOk, IfErr};
 ghost use Rattle.std.specs.List.{slice_get};
 ghost use Rattle.mail_index.specs.Faults.{IsFileOf, IsFirstFault};
 
@@ -7,6 +7,7 @@ use crate::archive::{Archive, are_archives, behind_archives, first_archive};
 use crate::directory::Directory;
 use crate::directory_walk::are_entries;
 use crate::fault::{IndexFault, Section};
+use crate::keys::Keys;
 use crate::kind::Kind;
 use crate::layout::{Layout, signature_fault};
 use crate::look_up::look_up;
@@ -36,7 +37,7 @@ impl<'a> Model for IndexView<'a> {
 
 impl<'a> IndexView<'a> {
     ghost use Rattle.mail_index.specs.Layouts.{archive_of};
-    ghost use Rattle.mail_index.specs.LookUps.{numbers_at, TakesDigits};
+    ghost use Rattle.mail_index.specs.LookUps.{numbers_at, TakesDigits, keys_of, text_and_numbers};
 
     /// The table whose file these bytes are, or the first thing that is wrong with them. Takes no memory.
     pub fn open(bytes: &'a [u8]) -> Result<IndexView<'a>, IndexFault>
@@ -119,6 +120,13 @@ impl<'a> IndexView<'a> {
             self.layout.postings,
             self.layout.key_count,
         )
+    }
+
+    /// The keys of a kind, in the order of their bytes. It takes no memory.
+    pub fn keys(&self, kind: Kind) -> Keys<'a>
+        ensures { result ≡ map text_and_numbers (keys_of kind self.now.keys) }
+    {
+        Keys::of(self.directory(), kind)
     }
 
     /// The numbers of the messages that have the key, none where there is no such key. A binary search: it takes at most as

@@ -38,6 +38,10 @@ mod index_view;
 
 pub use index_view::IndexView;
 
+mod keys;
+
+pub use keys::{Key, Keys};
+
 mod postings;
 
 pub use postings::Postings;
