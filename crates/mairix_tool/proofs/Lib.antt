@@ -11,3 +11,4 @@ pub mod Searching
 pub mod ArchiveFaults
 pub mod PlacesComing
 pub mod WordSearches
+pub mod Terms

@@ -3,9 +3,14 @@ pub mod CommandLine
 pub mod Path
 pub mod Rcfile
 pub mod Faults
+pub mod JobFaults
 pub mod FaultTexts
 pub mod RawAnswers
 pub mod MessageTexts
+pub mod MessageTerms
+pub mod ArchiveTables
+pub mod ArchiveRefusals
+pub mod Indexing
 pub mod Patterns
 pub mod Places
 pub mod Replies

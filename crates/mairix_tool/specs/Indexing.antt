@@ -1,0 +1,71 @@
+-- What a builder's draft has while archives are indexed.
+use Rattle.std.specs.Prelude.{◌≡◌, ⊤, ℕ, ◌<◌, ◌≤◌, ◌⊎◌, false, List, ◌++◌, length, map, Option, None, Some, IfSome, option_map, Result}
+use Rattle.std.specs.Result.{MatchResult}
+use Rattle.mail_index.specs.declared.build_fault.BuildFault.{BuildFault}
+use Rattle.mail_index.specs.declared.build_fault.BuildFault.TheVariants as build
+use Rattle.mail_index.specs.Builders.{Draft, archive_count, end_of, IsInArchive}
+use Rattle.mbox_cutter.specs.Archives.{Message}
+use Rattle.mbox_cutter.specs.declared.event.CutFault.{CutFault}
+use Rattle.mbox_cutter.specs.declared.event.CutFault.TheVariants.{Device, NotAnMbox, ArchiveTooLong, Failed}
+use Rattle.mairix_tool.specs.declared.job_fault.JobFault.{JobFault}
+use Rattle.mairix_tool.specs.declared.job_fault.JobFault.TheVariants as job
+use Rattle.mairix_tool.specs.ArchiveTables.{Mbox, record_of, with_terms, with_messages, table}
+use Rattle.mairix_tool.specs.ArchiveRefusals.{most_in_index}
+use Rattle.mairix_tool.specs.MessageTerms.{Term}
+
+-- that of archives which have ended
+abbrev pub draft_of : List Mbox → Draft
+draft_of archives = record { most = most_in_index; path = None; in_message = false; table = table archives }
+
+-- with these terms of the message that is open
+abbrev pub draft_with_terms : List Term → Draft → Draft
+draft_with_terms ts d = record d { table = record d.table { keys = with_terms (length d.table.messages) ts d.table.keys } }
+
+-- with these messages of the archive of this number
+abbrev pub draft_with_messages : ℕ → List Message → Draft → Draft
+draft_with_messages archive ms d = record d { table = record d.table {
+  messages = d.table.messages ++ map (record_of archive) ms;
+  keys = with_messages (length d.table.messages) ms d.table.keys;
+} }
+
+-- there are more messages or keys than are allowed
+abbrev pub HasTooMany : Draft → Type 0
+HasTooMany d = (d.most < length d.table.messages) ⊎ (d.most < length d.table.keys)
+
+-- the archive of this number is open, and its messages so far end before this place
+pub record IsReady (number place : ℕ) (d : Draft) : Type 0 where
+  pub phase : IsInArchive d
+  pub most : d.most ≡ most_in_index
+  pub archive : archive_count d ≡ number
+  pub behind : end_of number d.table.messages ≤ place
+
+-- ---- terms
+
+-- what is wrong where a draft can't become this one
+abbrev pub IsTermFault : Option Draft → BuildFault → Type 0
+IsTermFault whole build.OutOfMemory = ⊤
+IsTermFault whole build.TooMany = IfSome whole (λ d. d.most < length d.table.keys)
+IsTermFault whole build.Device = ⊥
+IsTermFault whole build.Failed = whole ≡ None
+
+-- it would have too many keys, or an earlier call has failed
+abbrev pub RefusesTerms : Option Draft → Type 0
+RefusesTerms None = ⊤
+RefusesTerms (Some whole) = whole.most < length whole.table.keys
+
+-- these terms are added
+abbrev pub AddsTerms : {T : Type 0} → List Term → Result T BuildFault → Option Draft → Option Draft → Type 0
+AddsTerms ts result old new = MatchResult result (λ _. new ≡ option_map (draft_with_terms ts) old) (IsTermFault (option_map (draft_with_terms ts) old))
+
+-- ---- faults
+
+-- a fault of a job whose archive is refused so, or has too much
+abbrev pub IsJobFault : Option CutFault → Type 0 → JobFault → Type 0
+IsJobFault refusal much (job.Cut Device) = ⊤
+IsJobFault refusal much (job.Cut NotAnMbox) = refusal ≡ Some NotAnMbox
+IsJobFault refusal much (job.Cut ArchiveTooLong) = refusal ≡ Some ArchiveTooLong
+IsJobFault refusal much (job.Cut Failed) = ⊥
+IsJobFault refusal much job.OutOfMemory = ⊤
+IsJobFault refusal much job.TooMany = much
+IsJobFault refusal much job.Out = ⊥
+IsJobFault refusal much job.Failed = ⊥

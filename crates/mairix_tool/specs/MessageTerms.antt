@@ -1,0 +1,34 @@
+-- What an index has of one message: the folded words of its texts, its own id, and the ids that link it to others.
+use Rattle.std.specs.Prelude.{ℕ, List, [], ◌∷◌, ◌++◌, map, flat_map, Option, Some, None}
+use Rattle.header_text.specs.Headers.{fields_of}
+use Rattle.mail_words.specs.Words.{words}
+use Rattle.mail_words.specs.Folding.{folding}
+use Rattle.mail_index.specs.declared.kind.Kind.{Kind}
+use Rattle.mail_index.specs.declared.kind.Kind.TheVariants.{Text, OwnId, LinkId}
+use Rattle.mime_text.specs.declared.facts.Facts.{Facts}
+use Rattle.mime_text.specs.MessageFacts.{facts_of}
+use Rattle.mime_text.specs.Sinks.{Pair}
+use Rattle.mime_text.specs.Texts.{texts_of_message}
+
+-- a folded word or an id, and what it is of
+abbrev pub Term : Type 0
+Term = Kind × List ℕ
+
+-- the words of a text, folded
+abbrev pub text_terms : Pair → List Term
+text_terms p = map (λ w. (Text p.0, folding w)) (words p.1)
+
+abbrev pub own_id_terms : Option (List ℕ) → List Term
+own_id_terms None = []
+own_id_terms (Some id) = (OwnId, id) ∷ []
+
+abbrev pub link_terms : List (List ℕ) → List Term
+link_terms ids = map (λ id. (LinkId, id)) ids
+
+-- the ids in a message's own header
+abbrev pub id_terms : Facts → List Term
+id_terms facts = own_id_terms facts.own_id ++ link_terms facts.ids
+
+-- those of the message whose text has these lines
+abbrev pub message_terms : List (List ℕ) → List Term
+message_terms ls = flat_map text_terms (texts_of_message ls) ++ id_terms (facts_of (fields_of ls))
