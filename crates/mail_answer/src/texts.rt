@@ -3,7 +3,7 @@ ghost use Rattle.std.specs.Prelude.{◌≡◌, ◌&&◌, [], length, IfOk};
 ghost use Rattle.std.specs.List.{list_any};
 ghost use Rattle.mail_index.specs.Tables.{IsWellFormed};
 ghost use Rattle.mail_query.specs.Kinds.{has_kind};
-ghost use Rattle.mail_query.specs.Truth.{text_kinds, some_word};
+ghost use Rattle.mail_query.specs.Truth.{some_word};
 ghost use Rattle.mail_answer.specs.TableFacts.{is_among, texts_with, facts_at};
 ghost use Rattle.mail_answer.specs.Marks.{fits, each_number, Adds};
 
@@ -47,15 +47,33 @@ fn mark_kind(index: &IndexView<'_>, kind: Kind, fit: Fit, text: &[u8], truths: &
     }
 }
 
-/// Makes the messages true that have a text of some of these kinds in which the sought one lies so.
-fn mark_text_kinds(index: &IndexView<'_>, kinds: Kinds, fit: Fit, text: &[u8], truths: &mut [bool])
+/// Makes the messages true that have a text of some of these kinds, where the set has it too, in which the sought one lies so.
+fn mark_text_kinds(
+    index: &IndexView<'_>,
+    text_kinds: &[TextKind],
+    kinds: Kinds,
+    fit: Fit,
+    text: &[u8],
+    truths: &mut [bool],
+)
     requires { IsWellFormed index.now }
-    ensures { Adds (λ n. list_any (λ kind. has_kind kinds kind && list_any (fits fit text.now) ((facts_at index.now n).words kind)) text_kinds) truths.old truths.new }
+    ensures { Adds (λ n. list_any (λ kind. has_kind kinds kind && list_any (fits fit text.now) ((facts_at index.now n).words kind)) text_kinds.now) truths.old truths.new }
 {
-    for kind in TEXT_KINDS {
-        if kinds.has(kind) {
-            mark_kind(index, Kind::Text(kind), fit, text, truths);
+    for kind in text_kinds {
+        if kinds.has(*kind) {
+            mark_kind(index, Kind::Text(*kind), fit, text, truths);
         }
+    }
+}
+
+/// Makes the messages true that have a word of one of the kinds, or the own id where the set has it, in which the text lies so.
+fn mark_texts(index: &IndexView<'_>, kinds: Kinds, fit: Fit, text: &[u8], truths: &mut [bool])
+    requires { IsWellFormed index.now }
+    ensures { Adds (λ n. some_word (fits fit text.now) kinds (facts_at index.now n)) truths.old truths.new }
+{
+    mark_text_kinds(index, &TEXT_KINDS, kinds, fit, text, truths);
+    if kinds.own_id {
+        mark_kind(index, Kind::OwnId, fit, text, truths);
     }
 }
 
@@ -71,9 +89,6 @@ pub(crate) fn with_text(
     ensures { IfOk result (λ v. v.items ≡ each_number (length index.now.messages) (λ n. some_word (fits fit text.now) kinds (facts_at index.now n))) }
 {
     let mut truths = vec![in alloc; false; index.message_count() as usize]?;
-    mark_text_kinds(index, kinds, fit, text, truths.as_mut_slice());
-    if kinds.own_id {
-        mark_kind(index, Kind::OwnId, fit, text, truths.as_mut_slice());
-    }
+    mark_texts(index, kinds, fit, text, truths.as_mut_slice());
     Ok(truths)
 }
