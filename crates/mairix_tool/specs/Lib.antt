@@ -11,6 +11,7 @@ pub mod MessageTerms
 pub mod ArchiveTables
 pub mod ArchiveRefusals
 pub mod Indexing
+pub mod Chosen
 pub mod Patterns
 pub mod Places
 pub mod Replies

@@ -1,0 +1,4 @@
+pub mod TruthLists
+pub mod TextLemmas
+pub mod Containing
+pub mod Adding

@@ -1,0 +1,11 @@
+//! Answers to queries from an index: which of its messages satisfy a query.
+#![tactic(auto)]
+
+mod plain;
+
+pub use plain::plain_matches;
+
+mod fit;
+mod marks;
+mod records;
+mod texts;

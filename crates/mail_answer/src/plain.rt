@@ -1,0 +1,74 @@
+//! Which messages of an index satisfy a query, by the meaning of queries word for word.
+ghost use Rattle.std.specs.Prelude.{◌≡◌, ◌≤◌, IfOk};
+ghost use Rattle.mail_index.specs.Tables.{IsWellFormed};
+ghost use Rattle.mail_query.specs.Query.{query_of, queries_of, members_of, All, Either};
+ghost use Rattle.mail_query.specs.Meaning.{meaning};
+ghost use Rattle.mail_answer.specs.TableFacts.{truths, chosen_numbers};
+
+use crate::fit::Fit;
+use crate::marks::{add_others, keep_common, negate, numbers_of};
+use crate::records::{with_date, with_flag, with_size};
+use crate::texts::with_text;
+use mail_index::IndexView;
+use mail_query::{Node, Query};
+use std::alloc::{AllocError, Global};
+
+/// For each message in order whether it satisfies the node.
+fn truths_of(alloc: Global, index: &IndexView<'_>, node: &Node) -> Result<Vec<bool>, AllocError>
+    requires { IsWellFormed index.now }
+    ensures { IfOk result (λ v. v.items ≡ truths index.now (query_of node.now)) }
+{
+    let count = index.message_count() as usize;
+    match node {
+        Node::Any => vec![in alloc; true; count],
+        Node::Word { kinds, text } => with_text(alloc, index, *kinds, Fit::Whole, text.as_bytes()),
+        Node::Part { kinds, text } => with_text(alloc, index, *kinds, Fit::Within, text.as_bytes()),
+        Node::Prefix { kinds, text } => with_text(
+            alloc,
+            index,
+            *kinds,
+            Fit::Front,
+            text.as_bytes(),
+        ),
+        Node::Date(range) => with_date(alloc, index, *range),
+        Node::Size { low, high } => with_size(alloc, index, *low, *high),
+        Node::Flag { flag, wanted } => with_flag(alloc, index, *flag, *wanted),
+        Node::Not(inner) => {
+            let mut truths = truths_of(alloc, index, inner)?;
+            negate(truths.as_mut_slice());
+            Ok(truths)
+        }
+        Node::All(members) => {
+            let mut truths = vec![in alloc; true; count]?;
+            for member in members {
+                let others = truths_of(alloc, index, member)?;
+                keep_common(truths.as_mut_slice(), others.as_slice());
+            }
+            Ok(truths)
+        }
+        Node::Either(members) => {
+            let mut truths = vec![in alloc; false; count]?;
+            for member in members {
+                let others = truths_of(alloc, index, member)?;
+                add_others(truths.as_mut_slice(), others.as_slice());
+            }
+            Ok(truths)
+        }
+    }
+}
+
+/// The numbers of the messages that satisfy the query, rising.
+///
+/// It goes over the index once a part of the query: a part costs as many steps as there are messages, and one more for each
+/// posting of the keys that it names. Part and Prefix look at each key of their kinds.
+pub fn plain_matches(
+    alloc: Global,
+    index: &IndexView<'_>,
+    query: &Query,
+) -> Result<Vec<u32>, AllocError>
+    requires { IsWellFormed index.now }
+    ensures { IfOk result (λ v. v.items ≡ chosen_numbers index.now (meaning query.now)) }
+{
+    let truths = truths_of(alloc, index, query.root())?;
+    numbers_of(alloc, truths.as_slice())
+}
