@@ -1,2 +1,1 @@
 pub mod TableFacts
-pub mod Marks

@@ -1,11 +1,2 @@
-//! Answers to queries from an index: which of its messages satisfy a query.
+//! Which messages of an index satisfy a query.
 #![tactic(auto)]
-
-mod plain;
-
-pub use plain::plain_matches;
-
-mod fit;
-mod marks;
-mod records;
-mod texts;

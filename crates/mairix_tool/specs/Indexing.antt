@@ -39,6 +39,23 @@ pub record IsReady (number place : ℕ) (d : Draft) : Type 0 where
   pub archive : archive_count d ≡ number
   pub behind : end_of number d.table.messages ≤ place
 
+-- a message of it is open, which begins at this place
+pub record IsOpenAt (number place : ℕ) (d : Draft) : Type 0 where
+  pub phase : IsInMessage d
+  pub most : d.most ≡ most_in_index
+  pub archive : archive_count d ≡ number
+  pub behind : end_of number d.table.messages ≤ place
+
+-- the same of a builder that hasn't failed
+abbrev pub IsBuilderReady : ℕ → ℕ → Option Draft → Type 0
+IsBuilderReady number place builder = (d : Draft) × (builder ≡ Some d) × IsReady number place d
+
+abbrev pub IsBuilderOpen : ℕ → ℕ → Option Draft → Type 0
+IsBuilderOpen number place builder = (d : Draft) × (builder ≡ Some d) × IsOpenAt number place d
+
+abbrev pub with_open_message : Draft → Draft
+with_open_message d = record d { in_message = true }
+
 -- ---- terms
 
 -- what is wrong where a draft can't become this one
@@ -69,3 +86,16 @@ IsJobFault refusal much job.OutOfMemory = ⊤
 IsJobFault refusal much job.TooMany = much
 IsJobFault refusal much job.Out = ⊥
 IsJobFault refusal much job.Failed = ⊥
+
+-- a cutter that hasn't failed before
+abbrev pub IsCutFault : CutFault → Type 0
+IsCutFault Failed = ⊥
+IsCutFault _ = ⊤
+
+-- what may be wrong with an archive: not the output, and nothing has failed before
+abbrev pub IsArchiveFault : JobFault → Type 0
+IsArchiveFault (job.Cut fault) = IsCutFault fault
+IsArchiveFault job.OutOfMemory = ⊤
+IsArchiveFault job.TooMany = ⊤
+IsArchiveFault job.Out = ⊥
+IsArchiveFault job.Failed = ⊥

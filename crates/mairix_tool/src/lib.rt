@@ -10,6 +10,7 @@ mod explanation;
 mod fault;
 mod file_source;
 mod job_fault;
+mod message_index;
 mod owned_text;
 mod path;
 mod pattern;

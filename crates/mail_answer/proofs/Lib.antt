@@ -1,4 +1,0 @@
-pub mod TruthLists
-pub mod TextLemmas
-pub mod Containing
-pub mod Adding
