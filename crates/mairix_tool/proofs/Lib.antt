@@ -12,3 +12,4 @@ pub mod ArchiveFaults
 pub mod PlacesComing
 pub mod WordSearches
 pub mod Terms
+pub mod Gatherings

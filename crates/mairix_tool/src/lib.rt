@@ -9,6 +9,7 @@ mod command_line;
 mod explanation;
 mod fault;
 mod file_source;
+mod gathering;
 mod job_fault;
 mod message_index;
 mod owned_text;
