@@ -13,3 +13,4 @@ pub mod PlacesComing
 pub mod WordSearches
 pub mod Terms
 pub mod Gatherings
+pub mod ReadingLines

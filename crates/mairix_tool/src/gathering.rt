@@ -1,10 +1,11 @@
 //! A message's lines, as their terms are gathered.
-ghost use Rattle.std.specs.Prelude.{◌≡◌, ℕ, List, ◌∷◌, ◌++◌, [], Option, IfOk, IfErr, OnOk};
+ghost use Rattle.std.specs.Prelude.{◌≡◌, false, ℕ, List, ◌∷◌, ◌++◌, [], Option, IfOk, IfErr, OnOk};
 ghost use Rattle.header_text.specs.Headers.{fields_of};
 ghost use Rattle.mail_index.specs.Builders.{Draft};
 ghost use Rattle.mbox_cutter.specs.Lines.{IsLine};
 ghost use Rattle.mime_text.specs.MessageFacts.{HasSizedIds, facts_of};
 ghost use Rattle.mime_text.specs.Texts.{texts_of_message};
+ghost use Rattle.mairix_tool.specs.JobFaults.{is_source_failure};
 ghost use Rattle.mairix_tool.specs.Gathering.{HasGathered, IsGatherFault, with_texts};
 
 use crate::job_fault::JobFault;
@@ -18,6 +19,7 @@ pub(crate) fn feed_line(
     terms: &mut TermSink,
 ) -> Result<(), JobFault>
     requires { IsLine line.now }
+    ensures source { is_source_failure result ≡ false }
     ensures ok { OnOk result ((ls : List (List ℕ)) (d : Option Draft) → HasGathered text.old terms.old.builder d ls
         → HasGathered text.new terms.new.builder d (ls ++ line.now ∷ [])) }
     ensures err { IfErr result (λ fault. (ls ms : List (List ℕ)) (d : Option Draft) → HasGathered text.old terms.old.builder d ls
@@ -28,6 +30,7 @@ pub(crate) fn feed_line(
 
 /// Ends the message's text.
 pub(crate) fn end_text(text: MessageText, terms: &mut TermSink) -> Result<Facts, JobFault>
+    ensures source { is_source_failure result ≡ false }
     ensures sizes { IfOk result HasSizedIds }
     ensures facts { IfOk result (λ facts. (ls : List (List ℕ)) (d : Option Draft) → HasGathered text terms.old.builder d ls → facts ≡ facts_of (fields_of ls)) }
     ensures ok { OnOk result ((ls : List (List ℕ)) (d : Option Draft) → HasGathered text terms.old.builder d ls

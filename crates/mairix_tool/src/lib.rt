@@ -2,6 +2,7 @@
 #![tactic(auto)]
 
 mod answer;
+mod archive_index;
 mod archive_search;
 mod asked;
 mod blanks;
