@@ -14,3 +14,4 @@ pub mod WordSearches
 pub mod Terms
 pub mod Gatherings
 pub mod ReadingLines
+pub mod MessageSteps

@@ -34,7 +34,7 @@ behind-end w [] span told_size now' (after, is, (events, refusal)) =
     (refl, cc, cc, is ∙ ap Some whole)
 
 -- what a fault of gathering is to a job
-gather-is-job : (whole : Option Draft) (refusal : Option CutFault) (f : JobFault) → IsGatherFault whole f → IsJobFault refusal (RefusesTerms whole) f
+pub gather-is-job : (whole : Option Draft) (refusal : Option CutFault) (f : JobFault) → IsGatherFault whole f → IsJobFault refusal (RefusesTerms whole) f
 gather-is-job whole refusal (job.Cut f) h = elim h [ ]
 gather-is-job whole refusal job.OutOfMemory h = tt
 gather-is-job whole refusal job.TooMany h = h

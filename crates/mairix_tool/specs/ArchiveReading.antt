@@ -1,5 +1,5 @@
 -- An archive while it is indexed: what still comes of it, and what was gathered.
-use Rattle.std.specs.Prelude.{◌≡◌, ⊤, ℕ, ◌+◌, ◌<◌, ◌≤◌, List, [], ◌∷◌, ◌++◌, Option, None, Some, option_map}
+use Rattle.std.specs.Prelude.{◌≡◌, ⊤, ℕ, ◌+◌, ◌<◌, ◌≤◌, List, [], ◌∷◌, ◌++◌, Option, None, Some, option_map, Result, Ok, Err}
 use Rattle.std.specs.Option.{MatchOption}
 use Rattle.mail_index.specs.Builders.{Draft}
 use Rattle.mbox_cutter.specs.Archives.{Message, text, size, span_length}
@@ -11,7 +11,7 @@ use Rattle.mime_text.specs.declared.message_text.MessageText.{MessageText}
 use Rattle.mairix_tool.specs.declared.archive_index.Ended.{Ended}
 use Rattle.mairix_tool.specs.declared.job_fault.JobFault.{JobFault}
 use Rattle.mairix_tool.specs.Gathering.{HasGathered}
-use Rattle.mairix_tool.specs.Indexing.{draft_with_terms, RefusesTerms, IsJobFault}
+use Rattle.mairix_tool.specs.Indexing.{draft_with_terms, draft_with_messages, HasTooMany, RefusesTerms, IsJobFault}
 use Rattle.mairix_tool.specs.MessageTerms.{message_terms}
 
 -- ---- what comes
@@ -63,6 +63,15 @@ pub record HasReadAll (draft : Option Draft) (w : Awaited) (ended : Ended) (gath
   pub length : ended.length ≡ span_length w.message
   pub told_size : ended.size ≡ size w.message
   pub comes : coming ≡ Some (coming_between w.all w.later w.refusal)
+
+-- in some way the message is being read that comes
+abbrev pub IsReadingSome : Option Draft → Awaited → MessageText → Option Draft → Option Coming → Type 0
+IsReadingSome draft w gathered builder coming = (lines rest : List (List ℕ)) × IsReading draft w lines rest gathered builder coming
+
+-- the message is added to the draft, or what is wrong with it or with its archive
+abbrev pub AddsMessage : ℕ → Draft → Awaited → Result (Option Draft) JobFault → Option Coming → Type 0
+AddsMessage archive d w (Ok builder) coming = (builder ≡ Some (draft_with_messages archive (w.message ∷ []) d)) × (coming ≡ Some (coming_between w.all w.later w.refusal))
+AddsMessage archive d w (Err fault) coming = IsJobFault w.refusal (HasTooMany (draft_with_messages archive (w.message ∷ []) d)) fault
 
 -- the draft has no room for the message's terms, or the archive is refused
 abbrev pub IsMessageFault : Option Draft → Awaited → JobFault → Type 0

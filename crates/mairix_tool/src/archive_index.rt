@@ -3,16 +3,22 @@ ghost use Rattle.std.specs.Prelude.{◌≡◌, ◌<◌, ◌≤◌, ◌+◌, ◌-
 ghost use Rattle.std.specs.Option.{MatchOption};
 ghost use Rattle.contract_words.specs.Devices.{Counted};
 ghost use Rattle.mail_index.specs.Builders.{Draft};
-ghost use Rattle.mairix_tool.specs.ArchiveReading.{Awaited, IsInside, GoesFurther, HasEnded, IsReading, HasReadAll, IsMessageFault};
+ghost use Rattle.mbox_cutter.specs.Archives.{text as text_of};
+ghost use Rattle.mbox_cutter.specs.declared.scan.Phase.TheVariants as Phase;
+ghost use Rattle.mairix_tool.specs.ArchiveRefusals.{most_in_archive};
+ghost use Rattle.mairix_tool.specs.ArchiveReading.{Awaited, coming_inside, AddsMessage, IsInside, GoesFurther, HasEnded, IsReading, HasReadAll, IsMessageFault};
 ghost use Rattle.mairix_tool.specs.Gathering.{HasGathered};
-ghost use Rattle.mairix_tool.specs.Indexing.{IsArchiveFault};
+ghost use Rattle.mairix_tool.specs.Indexing.{IsArchiveFault, IsBuilderReady};
 ghost use Rattle.mairix_tool.specs.JobFaults.{is_source_failure};
 
 use crate::gathering::feed_line;
+use crate::message_index::{Span, finish_message};
 use crate::job_fault::JobFault;
 use crate::term_sink::TermSink;
+use mail_index::Builder;
 use mbox_cutter::{Cutter, Event, Source};
 use mime_text::MessageText;
+use std::alloc::Global;
 
 /// The end of a message: how long its span and its text are.
 #[derive(Clone, Copy)]
@@ -52,5 +58,41 @@ fn next_line<'a, S: Source>(
         // Neither comes inside a message.
         Event::Start { .. } => Ok(None),
         Event::Done { .. } => Ok(None),
+    }
+}
+
+/// Indexes the message that has just begun.
+fn index_message<'a, S: Source>(
+    alloc: Global,
+    cutter: &mut Cutter<'a, S>,
+    builder: Builder,
+    archive: u32,
+    offset: u64,
+) -> Result<Builder, JobFault>
+    requires inside { IsInside offset cutter.old.place }
+    requires most { cutter.old.place.most ≡ most_in_archive }
+    requires count { S.failures cutter.old.source.now < 2 ^ 64 - 1 }
+    requires ready { IsBuilderReady archive offset builder }
+    ensures source { cutter.new.source.ghost_name ≡ cutter.old.source.ghost_name }
+    ensures count { Counted (is_source_failure result) (S.failures cutter.old.source.now) (S.failures cutter.new.source.now) }
+    ensures further { OnOk result (GoesFurther cutter.old.place cutter.new.place) }
+    ensures between { OnOk result (cutter.new.place.phase ≡ Phase.Between) }
+    ensures ready { IfOk result (IsBuilderReady archive cutter.new.place.offset) }
+    ensures known { (d : Draft) (w : Awaited) → builder ≡ Some d → w.message.offset ≡ offset → cutter.old.coming ≡ Some (coming_inside w (text_of w.message))
+        → AddsMessage archive d w result cutter.new.coming }
+    ensures own { IfErr result IsArchiveFault }
+{
+    let mut terms = TermSink::begin(alloc, builder)?;
+    let mut text = MessageText::new(alloc)?;
+    'lines: loop {
+        if let Some(Ended { length, size }) = next_line(cutter, &mut text, &mut terms, offset)? {
+            let span = Span {
+                archive,
+                offset,
+                length,
+                size,
+            };
+            return finish_message(text, terms, span);
+        }
     }
 }
