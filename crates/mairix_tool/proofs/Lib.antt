@@ -12,3 +12,8 @@ pub mod ArchiveFaults
 pub mod PlacesComing
 pub mod WordSearches
 pub mod Terms
+pub mod TableTruth
+pub mod TableTruthKeys
+pub mod TableTruthTerms
+pub mod TableTruthMessages
+pub mod TableTruthPlaces
