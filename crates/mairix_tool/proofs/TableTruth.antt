@@ -47,10 +47,12 @@ mutual
   truth-same (All qs) a b same = each-same qs a b same
   truth-same (Either qs) a b same = some-same qs a b same
 
+  -- so is each of a list
   each-same : (qs : Queries) (a b : Facts) → SaysTheSame a b → each_is_true qs a ≡ each_is_true qs b
   each-same End a b same = refl
   each-same (More q qs) a b same = ap (λ (v : Bool). v && each_is_true qs a) (truth-same q a b same) ∙ ap (λ (v : Bool). is_true q b && v) (each-same qs a b same)
 
+  -- and some of a list
   some-same : (qs : Queries) (a b : Facts) → SaysTheSame a b → some_is_true qs a ≡ some_is_true qs b
   some-same End a b same = refl
   some-same (More q qs) a b same = ap (λ (v : Bool). v || some_is_true qs a) (truth-same q a b same) ∙ ap (λ (v : Bool). is_true q b || v) (some-same qs a b same)

@@ -60,6 +60,7 @@ last-among low m x (y ∷ ns) h below = go (nat_eq m x) (last-among (suc x) m y 
     go true e = refl
     go false e = e
 
+-- a number below the end of numbers that none of them is above is among them
 here-among : (m : ℕ) (ns : List ℕ) → m < end_from 0 ns → AllByRecursion (λ y. y < suc m) ns → is_among m ns ≡ true
 here-among m [] h below = absurd (omega arith)
 here-among m (x ∷ ns) h below = last-among 0 m x ns h below
@@ -87,6 +88,7 @@ among-with_number n m ns below = go (nat_lt m (end_from 0 ns)) refl
 
 -- ---- keys
 
+-- texts that compare equal are equal
 texts-same : (xs ys : List ℕ) → slice_cmp nat_cmp xs ys ≡ Equal → xs ≡ ys
 texts-same xs ys e = (bytes_eq-Decides xs ys).0 (sym (is_eq-slice_cmp xs ys) ∙ ap is_eq e)
 
@@ -135,10 +137,12 @@ with_pair-says kind n passes m k text (key ∷ ks) below =
 
 -- ---- numbers stay below the count
 
+-- one number more at the end
 below-end : (count : ℕ) (ns : List ℕ) (n : ℕ) → AllByRecursion (λ x. x < count) ns → n < count → AllByRecursion (λ x. x < count) (ns ++ n ∷ [])
 below-end count [] n below h = (h, tt)
 below-end count (x ∷ ns) n below h = (below.0, below-end count ns n below.1 h)
 
+-- one more of the numbers of a key
 with_number-below : (count : ℕ) (ns : List ℕ) (n : ℕ) → AllByRecursion (λ x. x < count) ns → n < count → AllByRecursion (λ x. x < count) (with_number ns n)
 unfolding with_number
 with_number-below count ns n below h = go (nat_lt n (end_from 0 ns))
@@ -157,11 +161,12 @@ with_pair-below count m k text (key ∷ ks) h below =
       | Greater ↦ (below.0, with_pair-below count m k text ks h below.1)
     ]
 
+-- numbers below a count are below the next
 numbers-weaker : (count : ℕ) (ns : List ℕ) → AllByRecursion (λ x. x < count) ns → AllByRecursion (λ x. x < suc count) ns
 numbers-weaker count [] below = tt
 numbers-weaker count (x ∷ ns) below = (omega (arith, below.0), numbers-weaker count ns below.1)
 
--- below a count, and so below the next
+-- and so are those of keys
 pub below-weaker : (count : ℕ) (ks : List Key) → AllByRecursion (IsBelow count) ks → AllByRecursion (IsBelow (suc count)) ks
 below-weaker count [] below = tt
 below-weaker count (k ∷ ks) below = (numbers-weaker count k.numbers below.0, below-weaker count ks below.1)

@@ -42,6 +42,7 @@ with_terms-says kind n passes m (t ∷ ts) ks below =
     ∙ ap (λ (b : Bool). list_any (term_says_of kind n passes m) ts || b) (with_pair-says kind n passes m t.0 t.1 ks below)
     ∙ or-regrouped (list_any (term_says_of kind n passes m) ts) (term_says_of kind n passes m t) (list_any (says kind n passes) ks)
 
+-- and their numbers stay below the next message
 with_terms-below : (m : ℕ) (ts : List Term) (ks : List Key) → AllByRecursion (IsBelow (suc m)) ks → AllByRecursion (IsBelow (suc m)) (with_terms m ts ks)
 with_terms-below m [] ks below = below
 with_terms-below m (t ∷ ts) ks below = with_terms-below m ts (with_pair t.0 t.1 m ks) (with_pair-below (suc m) m t.0 t.1 ks (omega arith) below)
@@ -59,6 +60,7 @@ with_messages-says kind n passes m (x ∷ xs) ks below =
 
 -- ---- one message among the others
 
+-- what is never true stays so with a condition more
 and-none : (a : Bool) → (a && false) ≡ false
 and-none true = refl
 and-none false = refl

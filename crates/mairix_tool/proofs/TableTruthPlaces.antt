@@ -25,10 +25,11 @@ abbrev pub Numbered : Type 0
 Numbered = ℕ × Message
 
 -- the messages of the archives, of which the first has this number
-abbrev pub numbered : ℕ → List Mbox → List Numbered
-numbered n [] = []
-numbered n (a ∷ archives) = map (λ m. (n, m)) (messages_in a.bytes) ++ numbered (suc n) archives
+abbrev pub numbered_messages : ℕ → List Mbox → List Numbered
+numbered_messages n [] = []
+numbered_messages n (a ∷ archives) = map (λ m. (n, m)) (messages_in a.bytes) ++ numbered_messages (suc n) archives
 
+-- its message, its record, its place, and whether it satisfies the query
 abbrev message_in : Numbered → Message
 message_in x = x.1
 
@@ -43,34 +44,37 @@ passes_in q x = satisfies q x.1
 
 -- ---- what is told of the archives, by their numbered messages
 
-messages-numbered : (n : ℕ) (archives : List Mbox) → all_messages archives ≡ map message_in (numbered n archives)
+-- all messages are those that are numbered
+messages-numbered : (n : ℕ) (archives : List Mbox) → all_messages archives ≡ map message_in (numbered_messages n archives)
 messages-numbered n [] = refl
 messages-numbered n (a ∷ archives) =
     ap (λ (ms : List Message). messages_in a.bytes ++ ms) (messages-numbered (suc n) archives)
-    ∙ ap (λ (ms : List Message). ms ++ map message_in (numbered (suc n) archives)) (alone (messages_in a.bytes))
-    ∙ sym (map-append message_in (map (λ m. (n, m)) (messages_in a.bytes)) (numbered (suc n) archives))
+    ∙ ap (λ (ms : List Message). ms ++ map message_in (numbered_messages (suc n) archives)) (alone (messages_in a.bytes))
+    ∙ sym (map-append message_in (map (λ m. (n, m)) (messages_in a.bytes)) (numbered_messages (suc n) archives))
   where
     alone : (ms : List Message) → ms ≡ map message_in (map (λ (m : Message). (n, m)) ms)
     alone [] = refl
     alone (m ∷ ms) = ap (λ (rest : List Message). m ∷ rest) (alone ms)
 
-records-numbered : (n : ℕ) (archives : List Mbox) → records_from n archives ≡ map record_in (numbered n archives)
+-- the records are theirs
+records-numbered : (n : ℕ) (archives : List Mbox) → records_from n archives ≡ map record_in (numbered_messages n archives)
 records-numbered n [] = refl
 records-numbered n (a ∷ archives) =
     ap (λ (rs : List Record). map (record_of n) (messages_in a.bytes) ++ rs) (records-numbered (suc n) archives)
-    ∙ ap (λ (rs : List Record). rs ++ map record_in (numbered (suc n) archives)) (alone (messages_in a.bytes))
-    ∙ sym (map-append record_in (map (λ m. (n, m)) (messages_in a.bytes)) (numbered (suc n) archives))
+    ∙ ap (λ (rs : List Record). rs ++ map record_in (numbered_messages (suc n) archives)) (alone (messages_in a.bytes))
+    ∙ sym (map-append record_in (map (λ m. (n, m)) (messages_in a.bytes)) (numbered_messages (suc n) archives))
   where
     alone : (ms : List Message) → map (record_of n) ms ≡ map record_in (map (λ (m : Message). (n, m)) ms)
     alone [] = refl
     alone (m ∷ ms) = ap (λ (rest : List Record). record_of n m ∷ rest) (alone ms)
 
-places-numbered : (q : Query) (n : ℕ) (archives : List Mbox) → map place_in (filter (passes_in q) (numbered n archives)) ≡ places_chosen q n archives
+-- the places chosen are those of the ones that satisfy the query
+places-numbered : (q : Query) (n : ℕ) (archives : List Mbox) → map place_in (filter (passes_in q) (numbered_messages n archives)) ≡ places_chosen q n archives
 places-numbered q n [] = refl
 places-numbered q n (a ∷ archives) =
-    ap (map place_in) (filter-append (passes_in q) (map (λ m. (n, m)) (messages_in a.bytes)) (numbered (suc n) archives))
-    ∙ map-append place_in (filter (passes_in q) (map (λ m. (n, m)) (messages_in a.bytes))) (filter (passes_in q) (numbered (suc n) archives))
-    ∙ ap (λ (ps : List Place). ps ++ map place_in (filter (passes_in q) (numbered (suc n) archives))) (alone (messages_in a.bytes))
+    ap (map place_in) (filter-append (passes_in q) (map (λ m. (n, m)) (messages_in a.bytes)) (numbered_messages (suc n) archives))
+    ∙ map-append place_in (filter (passes_in q) (map (λ m. (n, m)) (messages_in a.bytes))) (filter (passes_in q) (numbered_messages (suc n) archives))
+    ∙ ap (λ (ps : List Place). ps ++ map place_in (filter (passes_in q) (numbered_messages (suc n) archives))) (alone (messages_in a.bytes))
     ∙ ap (λ (ps : List Place). map (place_of n) (filter (satisfies q) (messages_in a.bytes)) ++ ps) (places-numbered q (suc n) archives)
   where
     alone : (ms : List Message) → map place_in (filter (passes_in q) (map (λ (m : Message). (n, m)) ms)) ≡ map (place_of n) (filter (satisfies q) ms)
@@ -143,7 +147,7 @@ tells-from q t n before (x ∷ rest) h records keys =
 pub places-told : (q : Query) (archives : List Mbox) → places_told q (table archives) ≡ places_chosen q 0 archives
 places-told q archives =
     let t : Table = table archives in
-    let xs : List Numbered = numbered 0 archives in
+    let xs : List Numbered = numbered_messages 0 archives in
     let long : length t.messages ≡ length xs = ap length (records-numbered 0 archives) ∙ length-map xs record_in in
     let each : Tells (λ i. is_true q (facts_at t i)) (λ i. place_of_record (record_at t.messages i)) (passes_in q) place_in 0 xs =
     tells-from q t 0 [] xs refl (records-numbered 0 archives) (ap (λ (ms : List Message). with_messages 0 ms []) (messages-numbered 0 archives)) in

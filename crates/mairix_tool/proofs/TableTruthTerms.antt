@@ -62,7 +62,7 @@ text-kinds Body From = refl
 text-kinds Body Subject = refl
 text-kinds Body Body = refl
 
--- an id is no text
+-- an own id is no text
 own-no-text : (kind : TextKind) → nat_eq (kind_number OwnId) (kind_number (Text kind)) ≡ false
 own-no-text To = refl
 own-no-text Cc = refl
@@ -71,6 +71,7 @@ own-no-text From = refl
 own-no-text Subject = refl
 own-no-text Body = refl
 
+-- nor is a link
 link-no-text : (kind : TextKind) → nat_eq (kind_number LinkId) (kind_number (Text kind)) ≡ false
 link-no-text To = refl
 link-no-text Cc = refl
@@ -79,6 +80,7 @@ link-no-text From = refl
 link-no-text Subject = refl
 link-no-text Body = refl
 
+-- and a text is no own id
 text-no-own : (kind : TextKind) → nat_eq (kind_number (Text kind)) (kind_number OwnId) ≡ false
 text-no-own To = refl
 text-no-own Cc = refl
@@ -110,12 +112,13 @@ texts-say kind passes (p ∷ ps) =
     ∙ ap (λ (b : Bool). list_any passes (if is_kind p.0 kind then map folding (words p.1) else []) || b) (texts-say kind passes ps)
     ∙ sym (list_any-append passes (if is_kind p.0 kind then map folding (words p.1) else []) (words_of kind ps))
 
--- no term of a text is an own id
+-- no word of a text is an own id
 words-no-own : (j : TextKind) (passes : List ℕ → Bool) (ws : List (List ℕ)) → list_any (term_says OwnId passes) (map (λ w. (Text j, folding w)) ws) ≡ false
 words-no-own j passes [] = refl
 words-no-own j passes (w ∷ ws) =
     ap (λ (b : Bool). (b && passes (folding w)) || list_any (term_says OwnId passes) (map (λ v. (Text j, folding v)) ws)) (text-no-own j) ∙ words-no-own j passes ws
 
+-- nor is a term of several texts
 texts-no-own : (passes : List ℕ → Bool) (texts : List Pair) → list_any (term_says OwnId passes) (flat_map text_terms texts) ≡ false
 texts-no-own passes [] = refl
 texts-no-own passes (p ∷ ps) =
@@ -128,16 +131,19 @@ links-say kind passes e [] = refl
 links-say kind passes e (id ∷ ids) =
     ap (λ (b : Bool). (b && passes id) || list_any (term_says kind passes) (link_terms ids)) e ∙ links-say kind passes e ids
 
+-- an own id says nothing of a kind of text
 own-says-text : (kind : TextKind) (passes : List ℕ → Bool) (own : Option (List ℕ)) → list_any (term_says (Text kind) passes) (own_id_terms own) ≡ false
 own-says-text kind passes None = refl
 own-says-text kind passes (Some id) = ap (λ (b : Bool). (b && passes id) || false) (own-no-text kind)
 
+-- of own ids it says what it is
 own-says : (passes : List ℕ → Bool) (own : Option (List ℕ)) → list_any (term_says OwnId passes) (own_id_terms own) ≡ list_any passes (ids_in own)
 own-says passes None = refl
 own-says passes (Some id) = refl
 
 -- ---- all terms of a message
 
+-- some term passes: one of the texts, the own id, or a link
 parts-say : (kind : Kind) (passes : List ℕ → Bool) (texts : List Pair) (facts : Facts)
     → list_any (term_says kind passes) (flat_map text_terms texts ++ id_terms facts)
     ≡ (list_any (term_says kind passes) (flat_map text_terms texts) || (list_any (term_says kind passes) (own_id_terms facts.own_id) || list_any (term_says kind passes) (link_terms facts.ids)))
