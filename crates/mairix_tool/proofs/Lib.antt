@@ -17,3 +17,5 @@ pub mod TableTruthKeys
 pub mod TableTruthTerms
 pub mod TableTruthMessages
 pub mod TableTruthPlaces
+pub mod Gatherings
+pub mod ReadingLines

@@ -17,7 +17,7 @@ use Rattle.mail_index.specs.Tables.{Key}
 use Rattle.mail_index.specs.Builders.{Draft, with_pair, added, refusal, stepped, IsInMessage}
 use Rattle.mail_index.proofs.BuilderSteps.{added-is}
 use Rattle.mairix_tool.specs.ArchiveTables.{with_terms}
-use Rattle.mairix_tool.specs.Indexing.{draft_with_terms, IsTermFault, AddsTerms}
+use Rattle.mairix_tool.specs.Indexing.{draft_with_terms, IsTermFault, RefusesTerms, AddsTerms}
 use Rattle.mairix_tool.specs.MessageTerms.{Term, link_terms}
 
 -- ---- keys only become more
@@ -104,7 +104,7 @@ next-link ids i v id here same =
 
 -- ---- terms, and then others
 
-joined : (ts us : List Term) (o : Option Draft) → option_map (draft_with_terms (ts ++ us)) o ≡ option_map (draft_with_terms us) (option_map (draft_with_terms ts) o)
+pub joined : (ts us : List Term) (o : Option Draft) → option_map (draft_with_terms (ts ++ us)) o ≡ option_map (draft_with_terms us) (option_map (draft_with_terms ts) o)
 joined ts us None = refl
 joined ts us (Some d) =
     ap (λ ks. Some (record d { table = record d.table { keys = ks } })) (with_terms-append (length d.table.messages) ts us d.table.keys)
@@ -126,3 +126,7 @@ pub adds-both : {T : Type 0} (ts us : List Term) (r : Result T BuildFault) (old 
 adds-both ts us (Ok x) old mid new first h = h ∙ ap (option_map (draft_with_terms us)) first ∙ sym (joined ts us old)
 adds-both ts us (Err e) old mid new first h =
     subst (λ (o : Option Draft). IsTermFault o e) (ap (option_map (draft_with_terms us)) first ∙ sym (joined ts us old)) h
+
+pub still-refuses : (us : List Term) (o : Option Draft) → RefusesTerms o → RefusesTerms (option_map (draft_with_terms us) o)
+still-refuses us None h = tt
+still-refuses us (Some d) h = omega (arith, h, with_terms-more (length d.table.messages) us d.table.keys)

@@ -11,6 +11,9 @@ pub mod MessageTerms
 pub mod ArchiveTables
 pub mod ArchiveRefusals
 pub mod Indexing
+pub mod Gathering
+pub mod ArchiveReading
+pub mod MessageEnds
 pub mod Chosen
 pub mod Patterns
 pub mod Places

@@ -2,6 +2,7 @@
 #![tactic(auto)]
 
 mod answer;
+mod archive_index;
 mod archive_search;
 mod asked;
 mod blanks;
@@ -9,6 +10,7 @@ mod command_line;
 mod explanation;
 mod fault;
 mod file_source;
+mod gathering;
 mod job_fault;
 mod laws;
 mod message_index;

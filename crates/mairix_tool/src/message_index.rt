@@ -1,14 +1,16 @@
 //! One message that is indexed.
-ghost use Rattle.std.specs.Prelude.{◌≡◌, ◌<◌, ◌≤◌, ◌+◌, ◌^◌, ℕ, List, [], ◌∷◌, Some, IfOk, IfErr, flat_map};
-ghost use Rattle.std.specs.Result.{MatchResult};
-ghost use Rattle.mail_index.specs.Builders.{Draft, IsInArchive};
-ghost use Rattle.mbox_cutter.specs.Archives.{Message, text as text_of, size as size_of, span_length};
-ghost use Rattle.mime_text.specs.Sinks.{Pair};
-ghost use Rattle.mime_text.specs.Fed.{Fed};
+ghost use Rattle.std.specs.Prelude.{◌≡◌, ◌<◌, ◌≤◌, ◌+◌, ◌^◌, ℕ, List, Option, IfOk, IfErr, option_map};
+ghost use Rattle.header_text.specs.Headers.{fields_of};
+ghost use Rattle.mail_index.specs.Builders.{Draft};
+ghost use Rattle.mime_text.specs.MessageFacts.{HasSizedIds, facts_of};
+ghost use Rattle.mime_text.specs.Texts.{texts_of_message};
 ghost use Rattle.mairix_tool.specs.ArchiveTables.{date_told};
-ghost use Rattle.mairix_tool.specs.Indexing.{draft_with_terms, draft_with_messages, with_open_message, HasTooMany, IsBuilderReady, IsBuilderOpen, IsJobFault, IsArchiveFault};
-ghost use Rattle.mairix_tool.specs.MessageTerms.{text_terms};
+ghost use Rattle.mairix_tool.specs.Gathering.{HasGathered, IsGathering, IsGatherFault, with_texts};
+ghost use Rattle.mairix_tool.specs.Indexing.{draft_with_terms, IsBuilderOpen};
+ghost use Rattle.mairix_tool.specs.MessageEnds.{ended_with};
+ghost use Rattle.mairix_tool.specs.MessageTerms.{id_terms, message_terms};
 
+use crate::gathering::end_text;
 use crate::job_fault::JobFault;
 use crate::term_sink::TermSink;
 use mail_dates::read_date;
@@ -34,31 +36,40 @@ pub(crate) struct Span {
     pub(crate) size: u64,
 }
 
+/// Ends a message whose terms are gathered but for its ids.
+fn end_message(mut terms: TermSink, facts: &Facts, span: Span) -> Result<Builder, JobFault>
+    requires sizes { HasSizedIds facts.now }
+    requires opened { IsBuilderOpen span.archive span.offset terms.builder }
+    requires size { span.size < span.length }
+    requires within { span.offset + span.length ≤ 2 ^ 40 }
+    ensures ok { IfOk result (λ b. b ≡ option_map (ended_with facts.now span) terms.builder) }
+    ensures err { IfErr result (IsGatherFault (option_map (draft_with_terms (id_terms facts.now)) terms.builder)) }
+{
+    terms.add_ids(facts)?;
+    Ok(terms.end(Record {
+        archive: span.archive,
+        offset: span.offset,
+        length: span.length,
+        size: span.size,
+        date: date_of(facts),
+        flags: facts.flags,
+    })?)
+}
+
 /// Ends the text of a message, and the message.
 pub(crate) fn finish_message(
     text: MessageText,
     mut terms: TermSink,
     span: Span,
 ) -> Result<Builder, JobFault>
-    requires fed { (ls : List (List ℕ)) × (ps : List Pair) × Fed text ls ps }
-    requires opened { IsBuilderOpen span.archive span.offset terms.builder }
+    requires opened { IsGathering span.archive span.offset text terms.builder }
     requires size { span.size < span.length }
     requires within { span.offset + span.length ≤ 2 ^ 40 }
-    ensures ready { IfOk result (IsBuilderReady span.archive (span.offset + span.length)) }
-    ensures fault { IfErr result IsArchiveFault }
-    ensures known { (m : Message) (d : Draft) (ps : List Pair) → span.offset ≡ m.offset → span.length ≡ span_length m → span.size ≡ size_of m → IsInArchive d
-        → Fed text (text_of m) ps → terms.builder ≡ Some (draft_with_terms (flat_map text_terms ps) (with_open_message d))
-        → MatchResult result (λ b. b ≡ Some (draft_with_messages span.archive (m ∷ []) d)) (λ fault. (refusal : Option CutFault) → IsJobFault refusal (HasTooMany (draft_with_messages span.archive (m ∷ []) d)) fault) }
+    ensures ok { IfOk result (λ b. (ls : List (List ℕ)) (d : Option Draft) → HasGathered text terms.builder d ls
+        → b ≡ option_map (ended_with (facts_of (fields_of ls)) span) (with_texts (texts_of_message ls) d)) }
+    ensures err { IfErr result (λ fault. (ls : List (List ℕ)) (d : Option Draft) → HasGathered text terms.builder d ls
+        → IsGatherFault (option_map (draft_with_terms (message_terms ls)) d) fault) }
 {
-    let facts = text.end(&mut terms)?;
-    terms.add_ids(&facts)?;
-    let message = Record {
-        archive: span.archive,
-        offset: span.offset,
-        length: span.length,
-        size: span.size,
-        date: date_of(&facts),
-        flags: facts.flags,
-    };
-    Ok(terms.end(message)?)
+    let facts = end_text(text, &mut terms)?;
+    end_message(terms, &facts, span)
 }
