@@ -12,6 +12,11 @@ pub mod ArchiveFaults
 pub mod PlacesComing
 pub mod WordSearches
 pub mod Terms
+pub mod TableTruth
+pub mod TableTruthKeys
+pub mod TableTruthTerms
+pub mod TableTruthMessages
+pub mod TableTruthPlaces
 pub mod Gatherings
 pub mod ReadingLines
 pub mod MessageSteps

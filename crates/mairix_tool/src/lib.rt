@@ -12,6 +12,7 @@ mod fault;
 mod file_source;
 mod gathering;
 mod job_fault;
+mod laws;
 mod message_index;
 mod owned_text;
 mod path;
@@ -27,8 +28,9 @@ mod word_search;
 
 pub use command_line::{Plan, UsageFault, plan_of, usage_text};
 pub use explanation::fault_text;
-pub use job_fault::JobFault;
 pub use fault::{Fault, Reply};
+pub use job_fault::JobFault;
+pub use laws::the_table_tells_the_messages;
 pub use owned_text::{Text, Texts};
 pub use pattern::Sought;
 pub use place::Place;

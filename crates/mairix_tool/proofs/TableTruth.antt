@@ -1,0 +1,58 @@
+-- What the truth of a query rests on: which tests the words and ids of a message pass, and its date, size and flags.
+use Rattle.std.proofs.Common.{◌≡◌, ◌∙◌, ℕ, Bool, true, not, List, [], ◌∷◌, refl, ap}
+use Rattle.std.specs.Prelude.{◌&&◌, ◌||◌, nat_le, bytes_eq}
+use Rattle.std.specs.List.{list_any}
+use Rattle.std.specs.Option.{option_map_or}
+use Rattle.mail_words.specs.declared.kind.TextKind.{TextKind}
+use Rattle.mail_words.specs.declared.flags.Flags.{Flags}
+use Rattle.mail_dates.specs.Ranges.{has_date}
+use Rattle.mail_query.specs.declared.kinds.Kinds.{Kinds}
+use Rattle.mail_query.specs.Kinds.{has_kind}
+use Rattle.mail_query.specs.Query.{Query, Any, Word, Part, Prefix, Date, Size, HasFlag, Not, All, Either, Queries, End, More}
+use Rattle.mail_query.specs.Truth.{Facts, text_kinds, some_word, contains_text, begins_with, has_flag, is_same, is_true, each_is_true, some_is_true}
+
+-- both pass the same tests by some word of a kind and by some own id, and have the same date, size and flags
+pub record SaysTheSame (a b : Facts) : Type 0 where
+  pub words : (kind : TextKind) (passes : List ℕ → Bool) → list_any passes (a.words kind) ≡ list_any passes (b.words kind)
+  pub own_ids : (passes : List ℕ → Bool) → list_any passes a.own_ids ≡ list_any passes b.own_ids
+  pub date : a.date ≡ b.date
+  pub size : a.size ≡ b.size
+  pub flags : a.flags ≡ b.flags
+
+-- tests that agree at each element agree on the list
+pub any-same : {A : Type 0} (f g : A → Bool) → ((x : A) → f x ≡ g x) → (xs : List A) → list_any f xs ≡ list_any g xs
+any-same f g same [] = refl
+any-same f g same (x ∷ xs) = ap (λ (b : Bool). b || list_any f xs) (same x) ∙ ap (λ (b : Bool). g x || b) (any-same f g same xs)
+
+-- some word of these kinds passes in both, or in neither
+some_word-same : (passes : List ℕ → Bool) (kinds : Kinds) (a b : Facts) → SaysTheSame a b → some_word passes kinds a ≡ some_word passes kinds b
+some_word-same passes kinds a b same =
+    let kinds-same : list_any (λ kind. has_kind kinds kind && list_any passes (a.words kind)) text_kinds ≡ list_any (λ kind. has_kind kinds kind && list_any passes (b.words kind)) text_kinds =
+    any-same (λ (kind : TextKind). has_kind kinds kind && list_any passes (a.words kind)) (λ (kind : TextKind). has_kind kinds kind && list_any passes (b.words kind))
+    (λ (kind : TextKind). ap (λ (v : Bool). has_kind kinds kind && v) (same.words kind passes)) text_kinds in
+    ap (λ (v : Bool). v || (kinds.own_id && list_any passes a.own_ids)) kinds-same
+    ∙ ap (λ (v : Bool). list_any (λ kind. has_kind kinds kind && list_any passes (b.words kind)) text_kinds || (kinds.own_id && v)) (same.own_ids passes)
+
+mutual
+  -- a query is true of both, or of neither
+  pub truth-same : (q : Query) (a b : Facts) → SaysTheSame a b → is_true q a ≡ is_true q b
+  truth-same Any a b same = refl
+  truth-same (Word kinds text) a b same = some_word-same (bytes_eq text) kinds a b same
+  truth-same (Part kinds text) a b same = some_word-same (contains_text text) kinds a b same
+  truth-same (Prefix kinds text) a b same = some_word-same (begins_with text) kinds a b same
+  truth-same (Date range) a b same = ap (has_date range) same.date
+  truth-same (Size low high) a b same = ap (λ (n : ℕ). nat_le low n && option_map_or (λ most. nat_le n most) high true) same.size
+  truth-same (HasFlag flag wanted) a b same = ap (λ (flags : Flags). is_same wanted (has_flag flag flags)) same.flags
+  truth-same (Not q) a b same = ap not (truth-same q a b same)
+  truth-same (All qs) a b same = each-same qs a b same
+  truth-same (Either qs) a b same = some-same qs a b same
+
+  -- so is each of a list
+  each-same : (qs : Queries) (a b : Facts) → SaysTheSame a b → each_is_true qs a ≡ each_is_true qs b
+  each-same End a b same = refl
+  each-same (More q qs) a b same = ap (λ (v : Bool). v && each_is_true qs a) (truth-same q a b same) ∙ ap (λ (v : Bool). is_true q b && v) (each-same qs a b same)
+
+  -- and some of a list
+  some-same : (qs : Queries) (a b : Facts) → SaysTheSame a b → some_is_true qs a ≡ some_is_true qs b
+  some-same End a b same = refl
+  some-same (More q qs) a b same = ap (λ (v : Bool). v || some_is_true qs a) (truth-same q a b same) ∙ ap (λ (v : Bool). is_true q b || v) (some-same qs a b same)
