@@ -90,3 +90,9 @@ IsInArchive d = IsSome d.path × (d.in_message ≡ false)
 
 abbrev pub IsInMessage : Draft → Type 0
 IsInMessage d = IsSome d.path × (d.in_message ≡ true)
+
+-- no count passes the limit
+pub record IsWithinMost (d : Draft) : Type 0 where
+  pub archives : length d.table.archives ≤ d.most
+  pub messages : length d.table.messages ≤ d.most
+  pub keys : length d.table.keys ≤ d.most

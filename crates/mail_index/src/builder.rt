@@ -5,7 +5,7 @@ ghost use Rattle.contract_words.specs.Answers.{Gives};
 ghost use Rattle.contract_words.specs.Devices.{Counted, Sends};
 ghost use Rattle.mail_index.specs.Files.{HasSmallSections, index_file};
 ghost use Rattle.mail_index.specs.Tables.{IsPath, IsWellFormed};
-ghost use Rattle.mail_index.specs.Builders.{empty_draft, begun_archive, begun_message, added, ended_message, ended_archive, refusal, is_device, stepped, archive_count, end_of, IsNext, IsBetweenArchives, IsInArchive, IsInMessage};
+ghost use Rattle.mail_index.specs.Builders.{empty_draft, begun_archive, begun_message, added, ended_message, ended_archive, refusal, is_device, stepped, archive_count, end_of, IsNext, IsBetweenArchives, IsInArchive, IsInMessage, IsWithinMost};
 
 use crate::build_fault::BuildFault;
 use crate::draft::Draft;
@@ -131,6 +131,7 @@ impl Builder {
         requires within { IfSome self.old (λ _. length ≤ 2 ^ 40) }
         requires last { IfSome self.old (λ d. end_of (archive_count d) d.table.messages ≤ length) }
         ensures gives { Gives (λ _. self.new) refusal result (stepped (ended_archive length) self.old) }
+        ensures within { IfSome self.new IsWithinMost }
         ensures lost { OnErr result (self.new ≡ None) }
         ensures failed { IfNone self.old (result ≡ Err BuildFault.Failed) }
     {

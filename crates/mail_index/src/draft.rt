@@ -8,7 +8,7 @@ ghost use Rattle.mail_index.specs.Files.{HasSmallSections, body, index_file};
 ghost use Rattle.mail_index.specs.SectionCounts.{IsCountOf, counted_length};
 ghost use Rattle.mail_index.specs.Signing.{Signs};
 ghost use Rattle.mail_index.specs.Tables.{IsPath, IsWellFormed};
-ghost use Rattle.mail_index.specs.Builders.{empty_draft, begun_archive, begun_message, added, ended_message, ended_archive, refusal, archive_count, end_of, IsNext, IsBetweenArchives, IsInMessage};
+ghost use Rattle.mail_index.specs.Builders.{empty_draft, begun_archive, begun_message, added, ended_message, ended_archive, refusal, archive_count, end_of, IsNext, IsBetweenArchives, IsInMessage, IsWithinMost};
 
 use crate::build_fault::BuildFault;
 use crate::key_map::KeyMap;
@@ -119,7 +119,8 @@ impl Draft {
         requires phase { IsSome self.old.path }
         requires length { length ≤ 2 ^ 40 }
         requires last { end_of (archive_count self.old) self.old.table.messages ≤ length }
-        ensures { Gives (λ _. self.new) refusal result (ended_archive length self.old) }
+        ensures gives { Gives (λ _. self.new) refusal result (ended_archive length self.old) }
+        ensures within { IsWithinMost self.new }
     {
         let path = self.path.take().unwrap();
         if let Err(refused) = self.archives.push(NamedArchive { path, length }) {

@@ -19,4 +19,6 @@ pub mod TableTruthMessages
 pub mod TableTruthPlaces
 pub mod Gatherings
 pub mod ReadingLines
+pub mod Headings
+pub mod ArchiveSteps
 pub mod MessageSteps

@@ -1,17 +1,21 @@
 -- An archive while it is indexed: what still comes of it, and what was gathered.
-use Rattle.std.specs.Prelude.{◌≡◌, ⊤, ℕ, ◌+◌, ◌<◌, ◌≤◌, List, [], ◌∷◌, ◌++◌, Option, None, Some, option_map, Result, Ok, Err}
-use Rattle.std.specs.Option.{MatchOption}
+use Rattle.std.specs.Prelude.{◌≡◌, ⊤, ℕ, ◌+◌, ◌<◌, ◌≤◌, List, [], ◌∷◌, ◌++◌, Option, None, Some, option_map, unwrap_or, length, Result, Ok, Err}
+use Rattle.std.specs.Option.{option_map_or}
+use Rattle.std.specs.Io.KnownBytes.{IsAtEnd}
 use Rattle.mail_index.specs.Builders.{Draft}
-use Rattle.mbox_cutter.specs.Archives.{Message, text, size, span_length}
+use Rattle.mbox_cutter.specs.Archives as archives
+use Rattle.mbox_cutter.specs.Archives.{text, size, span_length}
 use Rattle.mbox_cutter.specs.declared.event.CutFault.{CutFault}
 use Rattle.mbox_cutter.specs.declared.scan.Phase.TheVariants.{Between, Inside}
 use Rattle.mbox_cutter.specs.Events.{Coming, told, told_rest}
 use Rattle.mbox_cutter.specs.Places.{Place, left}
 use Rattle.mime_text.specs.declared.message_text.MessageText.{MessageText}
 use Rattle.mairix_tool.specs.declared.archive_index.Ended.{Ended}
+use Rattle.mairix_tool.specs.declared.archive_index.Heading.{Heading}
+use Rattle.mairix_tool.specs.declared.archive_index.Heading.TheVariants.{Message, End}
 use Rattle.mairix_tool.specs.declared.job_fault.JobFault.{JobFault}
 use Rattle.mairix_tool.specs.Gathering.{HasGathered}
-use Rattle.mairix_tool.specs.Indexing.{draft_with_terms, draft_with_messages, HasTooMany, RefusesTerms, IsJobFault}
+use Rattle.mairix_tool.specs.Indexing.{draft_with_terms, draft_with_messages, draft_ended, HasTooMany, RefusesTerms, IsJobFault}
 use Rattle.mairix_tool.specs.MessageTerms.{message_terms}
 
 -- ---- what comes
@@ -19,8 +23,8 @@ use Rattle.mairix_tool.specs.MessageTerms.{message_terms}
 -- a message that comes of an archive of so many bytes, those behind it, and the archive's refusal
 pub record Awaited : Type 0 where
   pub all : ℕ
-  pub message : Message
-  pub later : List Message
+  pub message : archives.Message
+  pub later : List archives.Message
   pub refusal : Option CutFault
 
 -- what comes inside the message, with these lines of its text left
@@ -28,8 +32,12 @@ abbrev pub coming_inside : Awaited → List (List ℕ) → Coming
 coming_inside w lines = record { events = told_rest w.all w.message lines w.later; refusal = w.refusal }
 
 -- what comes of these messages
-abbrev pub coming_between : ℕ → List Message → Option CutFault → Coming
+abbrev pub coming_between : ℕ → List archives.Message → Option CutFault → Coming
 coming_between all ms refusal = record { events = told all ms; refusal = refusal }
+
+-- what comes of an archive's messages, or of an archive that has none since it is refused
+abbrev pub coming_ahead : ℕ → Option (List archives.Message) → Option CutFault → Coming
+coming_ahead all ms refusal = record { events = option_map_or (told all) ms []; refusal = refusal }
 
 -- ---- where a cutter stands
 
@@ -48,6 +56,23 @@ pub record HasEnded (start : ℕ) (ended : Ended) (new : Place) : Type 0 where
   pub between : new.phase ≡ Between
   pub smaller : ended.size < ended.length
   pub offset : new.offset ≡ start + ended.length
+
+-- a message begins, or the archive has ended
+abbrev pub IsHeading : Heading → Place → Place → Type 0
+IsHeading (Message start) old new = (new.phase ≡ Inside start 0) × (old.offset ≤ start) × (start < new.offset) × (left new < left old)
+IsHeading (End length) old new = (old.offset ≤ length) × (length ≤ new.most)
+
+-- at the archive's end all bytes have been read
+abbrev pub ReadsToEnd : Heading → Option (List ℕ) → Type 0
+ReadsToEnd (Message start) bytes = ⊤
+ReadsToEnd (End length) bytes = IsAtEnd bytes
+
+-- the message is the first of those that come, or there is none left
+abbrev pub Heads : Heading → ℕ → Option (List archives.Message) → Option CutFault → Option Coming → Type 0
+Heads (Message start) all ms refusal new =
+    (m : archives.Message) × (later : List archives.Message) × (ms ≡ Some (m ∷ later)) × (m.offset ≡ start)
+    × (new ≡ Some (coming_inside (record { all = all; message = m; later = later; refusal = refusal }) (text m)))
+Heads (End length) all ms refusal new = (ms ≡ Some []) × (length ≡ all) × (refusal ≡ None)
 
 -- ---- what was gathered
 
@@ -73,6 +98,21 @@ abbrev pub AddsMessage : ℕ → Draft → Awaited → Result (Option Draft) Job
 AddsMessage archive d w (Ok builder) coming = (builder ≡ Some (draft_with_messages archive (w.message ∷ []) d)) × (coming ≡ Some (coming_between w.all w.later w.refusal))
 AddsMessage archive d w (Err fault) coming = IsJobFault w.refusal (HasTooMany (draft_with_messages archive (w.message ∷ []) d)) fault
 
+-- these messages and the archive's end are added to the draft; or what is wrong with them
+abbrev pub AddsArchive : ℕ → Draft → ℕ → Option (List archives.Message) → Option CutFault → Result (Option Draft × ℕ) JobFault → Type 0
+AddsArchive number d bytes ms refusal (Ok (builder, count)) =
+    (refusal ≡ None) × (builder ≡ Some (draft_ended bytes (draft_with_messages number (unwrap_or ms []) d))) × (count ≡ length (unwrap_or ms []))
+AddsArchive number d bytes ms refusal (Err fault) = IsJobFault refusal (HasTooMany (draft_with_messages number (unwrap_or ms []) d)) fault
+
 -- the draft has no room for the message's terms, or the archive is refused
 abbrev pub IsMessageFault : Option Draft → Awaited → JobFault → Type 0
 IsMessageFault draft w fault = IsJobFault w.refusal (RefusesTerms (option_map (draft_with_terms (message_terms (text w.message))) draft)) fault
+
+-- of an archive's messages these are done and added to the draft, and the others come
+pub record HasDone (number : ℕ) (d : Draft) (all : ℕ) (ms : Option (List archives.Message)) (refusal : Option CutFault) (count : ℕ) (builder : Option Draft) (coming : Option Coming) : Type 0 where
+  pub done : List archives.Message
+  pub rest : Option (List archives.Message)
+  pub whole : ms ≡ option_map (λ later. done ++ later) rest
+  pub counted : count ≡ length done
+  pub added : builder ≡ Some (draft_with_messages number done d)
+  pub comes : coming ≡ Some (coming_ahead all rest refusal)

@@ -1,9 +1,9 @@
 -- What a builder's draft has while archives are indexed.
-use Rattle.std.specs.Prelude.{◌≡◌, ⊤, ℕ, ◌<◌, ◌≤◌, ◌⊎◌, true, false, List, ◌++◌, length, map, Option, None, Some, IfSome, option_map, Result}
+use Rattle.std.specs.Prelude.{◌≡◌, ⊤, ℕ, ◌<◌, ◌≤◌, ◌⊎◌, true, false, List, ◌++◌, length, map, Option, None, Some, IfSome, option_map, unwrap_or, [], ◌∷◌, Result}
 use Rattle.std.specs.Result.{MatchResult}
 use Rattle.mail_index.specs.declared.build_fault.BuildFault.{BuildFault}
 use Rattle.mail_index.specs.declared.build_fault.BuildFault.TheVariants as build
-use Rattle.mail_index.specs.Builders.{Draft, archive_count, end_of, IsInArchive, IsInMessage}
+use Rattle.mail_index.specs.Builders.{Draft, archive_count, end_of, IsBetweenArchives, IsInArchive, IsInMessage}
 use Rattle.mbox_cutter.specs.Archives.{Message}
 use Rattle.mbox_cutter.specs.declared.event.CutFault.{CutFault}
 use Rattle.mbox_cutter.specs.declared.event.CutFault.TheVariants.{Device, NotAnMbox, ArchiveTooLong, Failed}
@@ -52,6 +52,14 @@ IsBuilderReady number place builder = (d : Draft) × (builder ≡ Some d) × IsR
 
 abbrev pub IsBuilderOpen : ℕ → ℕ → Option Draft → Type 0
 IsBuilderOpen number place builder = (d : Draft) × (builder ≡ Some d) × IsOpenAt number place d
+
+-- no archive is open, in a builder that hasn't failed
+abbrev pub IsBuilderIdle : Option Draft → Type 0
+IsBuilderIdle builder = (d : Draft) × (builder ≡ Some d) × IsBetweenArchives d × (d.most ≡ most_in_index)
+
+-- with the archive ended that is open, which has so many bytes
+abbrev pub draft_ended : ℕ → Draft → Draft
+draft_ended bytes d = record d { path = None; table = record d.table { archives = d.table.archives ++ record { path = unwrap_or d.path []; length = bytes } ∷ [] } }
 
 abbrev pub with_open_message : Draft → Draft
 with_open_message d = record d { in_message = true }

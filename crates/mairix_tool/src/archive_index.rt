@@ -1,14 +1,16 @@
 //! One archive that is indexed.
 ghost use Rattle.std.specs.Prelude.{◌≡◌, ◌<◌, ◌≤◌, ◌+◌, ◌-◌, ◌^◌, ℕ, List, Option, Some, IfOk, IfErr, OnOk};
 ghost use Rattle.std.specs.Option.{MatchOption};
+ghost use Rattle.std.specs.Io.KnownBytes.{IsAtEnd};
 ghost use Rattle.contract_words.specs.Devices.{Counted};
 ghost use Rattle.mail_index.specs.Builders.{Draft};
-ghost use Rattle.mbox_cutter.specs.Archives.{text as text_of};
+ghost use Rattle.mbox_cutter.specs.Archives.{Message, text as text_of};
+ghost use Rattle.mbox_cutter.specs.declared.event.CutFault.{CutFault};
 ghost use Rattle.mbox_cutter.specs.declared.scan.Phase.TheVariants as Phase;
 ghost use Rattle.mairix_tool.specs.ArchiveRefusals.{most_in_archive};
-ghost use Rattle.mairix_tool.specs.ArchiveReading.{Awaited, coming_inside, AddsMessage, IsInside, GoesFurther, HasEnded, IsReading, HasReadAll, IsMessageFault};
+ghost use Rattle.mairix_tool.specs.ArchiveReading.{Awaited, AddsArchive, coming_inside, coming_ahead, IsHeading, Heads, ReadsToEnd, AddsMessage, IsInside, GoesFurther, HasEnded, IsReading, HasReadAll, IsMessageFault};
 ghost use Rattle.mairix_tool.specs.Gathering.{HasGathered};
-ghost use Rattle.mairix_tool.specs.Indexing.{IsArchiveFault, IsBuilderReady};
+ghost use Rattle.mairix_tool.specs.Indexing.{IsArchiveFault, IsBuilderIdle, IsJobFault, IsBuilderReady};
 ghost use Rattle.mairix_tool.specs.JobFaults.{is_source_failure};
 
 use crate::gathering::feed_line;
@@ -25,6 +27,38 @@ use std::alloc::Global;
 struct Ended {
     length: u64,
     size: u64,
+}
+
+/// What comes between two messages: the next begins so many bytes from the archive's front, or the archive has ended with so
+/// many bytes.
+#[derive(Clone, Copy)]
+enum Heading {
+    Message(u64),
+    End(u64),
+}
+
+/// Reads on to the next message, or to the archive's end, where no message is open.
+fn next_heading<'a, S: Source>(cutter: &mut Cutter<'a, S>) -> Result<Option<Heading>, JobFault>
+    requires between { cutter.old.place.phase ≡ Phase.Between }
+    requires count { S.failures cutter.old.source.now < 2 ^ 64 - 1 }
+    ensures source { cutter.new.source.ghost_name ≡ cutter.old.source.ghost_name }
+    ensures count { Counted (is_source_failure result) (S.failures cutter.old.source.now) (S.failures cutter.new.source.now) }
+    ensures most { OnOk result (cutter.new.place.most ≡ cutter.old.place.most) }
+    ensures some { IfOk result (λ h. MatchOption h ⊥ (λ heading. IsHeading heading cutter.old.place cutter.new.place)) }
+    ensures end { IfOk result (λ h. MatchOption h ⊥ (λ heading. ReadsToEnd heading (S.rest cutter.new.source.now))) }
+    ensures known { IfOk result (λ h. (all : ℕ) (ms : Option (List Message)) (refusal : Option CutFault) → cutter.old.coming ≡ Some (coming_ahead all ms refusal)
+        → MatchOption h ⊥ (λ heading. Heads heading all ms refusal cutter.new.coming)) }
+    ensures fault { IfErr result (λ fault. (all : ℕ) (ms : Option (List Message)) (refusal : Option CutFault) → cutter.old.coming ≡ Some (coming_ahead all ms refusal)
+        → IsJobFault refusal ⊥ fault) }
+    ensures own { IfErr result IsArchiveFault }
+{
+    match cutter.next_event()? {
+        Event::Start { offset, .. } => Ok(Some(Heading::Message(offset))),
+        Event::Done { length } => Ok(Some(Heading::End(length))),
+        // Neither comes between two messages.
+        Event::Line(_) => Ok(None),
+        Event::End { .. } => Ok(None),
+    }
 }
 
 /// Gathers the next line of the message that is open, or answers its end.
@@ -93,6 +127,42 @@ fn index_message<'a, S: Source>(
                 size,
             };
             return finish_message(text, terms, span);
+        }
+    }
+}
+
+/// Indexes the archive's messages, one after another, ends the archive, and counts them.
+fn index_messages<'a, S: Source>(
+    alloc: Global,
+    cutter: &mut Cutter<'a, S>,
+    builder: Builder,
+    archive: u32,
+) -> Result<(Builder, u64), JobFault>
+    requires between { cutter.old.place.phase ≡ Phase.Between }
+    requires most { cutter.old.place.most ≡ most_in_archive }
+    requires count { S.failures cutter.old.source.now < 2 ^ 64 - 1 }
+    requires ready { IsBuilderReady archive cutter.old.place.offset builder }
+    ensures source { cutter.new.source.ghost_name ≡ cutter.old.source.ghost_name }
+    ensures count { Counted (is_source_failure result) (S.failures cutter.old.source.now) (S.failures cutter.new.source.now) }
+    ensures end { OnOk result (IsAtEnd (S.rest cutter.new.source.now)) }
+    ensures idle { IfOk result (λ r. IsBuilderIdle r.0) }
+    ensures known { (d : Draft) (all : ℕ) (ms : Option (List Message)) (refusal : Option CutFault) → builder ≡ Some d
+        → cutter.old.coming ≡ Some (coming_ahead all ms refusal) → AddsArchive archive d all ms refusal result }
+    ensures own { IfErr result IsArchiveFault }
+{
+    let mut builder = builder;
+    let mut messages: u64 = 0;
+    'messages: loop {
+        match next_heading(cutter)? {
+            Some(Heading::Message(offset)) => {
+                builder = index_message(alloc, cutter, builder, archive, offset)?;
+                messages += 1;
+            }
+            Some(Heading::End(length)) => {
+                builder.end_archive(length)?;
+                return Ok((builder, messages));
+            }
+            None => {}
         }
     }
 }
