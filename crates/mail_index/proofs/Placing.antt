@@ -174,3 +174,13 @@ well_formed d is between = record {
   keys = subst (λ (b : Bool). AllByRecursion (IsKey (if b then suc (length d.table.messages) else length d.table.messages)) d.table.keys) between.1 is.listed;
   sorted = is.sorted;
 }
+
+-- no message is of the archive that comes next
+pub none-of-next : (archives : List Archive) (ms : List Record) → AllByRecursion (IsMessage archives) ms → end_of (length archives) ms ≡ 0
+none-of-next archives [] all = refl
+none-of-next archives (r ∷ []) all = elsewhere (nat_eq r.archive (length archives)) refl
+  where
+    elsewhere : (b : Bool) → nat_eq r.archive (length archives) ≡ b → (if b then r.offset + r.length else 0) ≡ 0
+    elsewhere true same = absurd (grind (arith, nat_tests, same, all.0.exists))
+    elsewhere false other = refl
+none-of-next archives (r ∷ s ∷ rs) all = none-of-next archives (s ∷ rs) all.1

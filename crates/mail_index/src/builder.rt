@@ -59,6 +59,7 @@ impl Builder {
         requires phase { IfSome self.old IsBetweenArchives }
         requires path { IfSome self.old (λ _. IsPath path.now) }
         ensures gives { Gives (λ _. self.new) refusal result (stepped (begun_archive path.now) self.old) }
+        ensures empty { IfSome self.new (λ d. end_of (archive_count d) d.table.messages ≡ 0) }
         ensures lost { OnErr result (self.new ≡ None) }
         ensures failed { IfNone self.old (result ≡ Err BuildFault.Failed) }
     {

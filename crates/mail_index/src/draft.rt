@@ -71,7 +71,8 @@ impl Draft {
     pub fn begin_archive(&mut self, alloc: Global, path: &str) -> Result<(), BuildFault>
         requires phase { self.old.path ≡ None }
         requires path { IsPath path.now }
-        ensures { Gives (λ _. self.new) refusal result (begun_archive path.now self.old) }
+        ensures gives { Gives (λ _. self.new) refusal result (begun_archive path.now self.old) }
+        ensures empty { OnOk result (end_of (archive_count self.new) self.new.table.messages ≡ 0) }
     {
         if self.archives.len() >= self.most as usize {
             return Err(BuildFault::TooMany);

@@ -1,10 +1,11 @@
 -- What the reading of an archive's messages, one after another, makes of a builder's draft.
-use Rattle.std.proofs.Common.{◌≡◌, ◌∙◌, ◌+◌, ◌≤◌, ◌<◌, ◌++◌, ℕ, suc, List, [], ◌∷◌, length, map, Option, None, Some, option_map, unwrap_or, refl, sym, ap, ap₂, subst, arith, append_assoc, append-nil, inl, inr, ⊎_elim}
+use Rattle.std.proofs.Common.{true, false, nat_lt, if◌then◌else◌, ◌≡◌, ◌∙◌, ◌+◌, ◌≤◌, ◌<◌, ◌++◌, ℕ, suc, List, [], ◌∷◌, length, map, Option, None, Some, option_map, unwrap_or, refl, sym, ap, ap₂, subst, arith, append_assoc, append-nil, inl, inr, ⊎_elim}
 use Rattle.std.specs.Prelude.{Result, Ok, Err}
 use Rattle.std.proofs.lemmas.List.{length-append, length-map, map-append}
 use Rattle.contract_words.specs.Answers.{◌>>=◌}
-use Rattle.mail_index.specs.declared.build_fault.BuildFault.{BuildFault}
-use Rattle.mail_index.specs.Builders.{Draft, ended_archive, stepped}
+use Rattle.mail_index.specs.Builders.{Draft, archive_count, begun_archive, ended_archive, stepped}
+use Rattle.mail_index.specs.declared.build_fault.BuildFault.TheVariants.{TooMany}
+use Rattle.std.proofs.lemmas.Bool.Decides.{nat_tests}
 use Rattle.mail_index.specs.Tables.{Key}
 use Rattle.mbox_cutter.specs.Archives.{Message, text}
 use Rattle.mbox_cutter.specs.declared.event.CutFault.{CutFault}
@@ -13,9 +14,9 @@ use Rattle.mbox_cutter.specs.Events.{Coming}
 use Rattle.mairix_tool.specs.declared.archive_index.Heading.TheVariants as heading
 use Rattle.mairix_tool.specs.declared.job_fault.JobFault.{JobFault}
 use Rattle.mairix_tool.specs.declared.job_fault.JobFault.TheVariants as job
-use Rattle.mairix_tool.specs.ArchiveReading.{Awaited, coming_inside, coming_ahead, Heads, AddsMessage, AddsArchive, HasDone}
+use Rattle.mairix_tool.specs.ArchiveReading.{coming_ahead, Heads, AddsArchive, AddsNamed, HasDone}
 use Rattle.mairix_tool.specs.ArchiveTables.{record_of, with_terms, with_messages}
-use Rattle.mairix_tool.specs.Indexing.{draft_with_messages, draft_ended, HasTooMany, IsJobFault}
+use Rattle.mairix_tool.specs.Indexing.{with_open_archive, draft_with_messages, draft_ended, HasTooMany, IsJobFault}
 use Rattle.mairix_tool.specs.MessageTerms.{message_terms}
 use Rattle.mairix_tool.proofs.Terms.{with_terms-more}
 
@@ -101,8 +102,8 @@ module _ (number : ℕ) (d : Draft) (all : ℕ) (ms : Option (List Message)) (re
       inside-fault f =
           weaker refusal _ (HasTooMany whole_draft)
           (λ much. subst HasTooMany
-            (sym (then-messages number (h.done ++ m ∷ []) later d) ∙ ap (λ o. draft_with_messages number (unwrap_or o []) d) (sym ms-is))
-            (still-too-many number later (draft_with_messages number (h.done ++ m ∷ []) d) (subst HasTooMany (sym (then-messages number h.done (m ∷ []) d)) much)))
+          (sym (then-messages number (h.done ++ m ∷ []) later d) ∙ ap (λ o. draft_with_messages number (unwrap_or o []) d) (sym ms-is))
+          (still-too-many number later (draft_with_messages number (h.done ++ m ∷ []) d) (subst HasTooMany (sym (then-messages number h.done (m ∷ []) d)) much)))
           f
 
       -- a message more
@@ -128,3 +129,18 @@ module _ (number : ℕ) (d : Draft) (all : ℕ) (ms : Option (List Message)) (re
           sym is ∙ ap₂ (λ b l. Some (draft_ended b (draft_with_messages number l d))) same (sym all-is),
           h.counted ∙ ap length (sym all-is),
         )
+
+-- ---- an archive with its path
+
+pub named-adds : (path : List ℕ) (number : ℕ) (d : Draft) (all : ℕ) (ms : Option (List Message)) (refusal : Option CutFault) (mid : Option Draft) (r : Result (Option Draft × ℕ) JobFault)
+    → stepped (begun_archive path) (Some d) ≡ Ok mid → ((e : Draft) → mid ≡ Some e → AddsArchive number e all ms refusal r) → AddsNamed path number d all ms refusal r
+named-adds path number d all ms refusal mid r given adds =
+    (elim (nat_lt (length d.table.archives) d.most)
+    as (λ b. nat_lt (length d.table.archives) d.most ≡ b → ((if b then Ok (with_open_archive path d) else Err TooMany) >>= λ e. Ok (Some e)) ≡ Ok mid → AddsNamed path number d all ms refusal r) [
+      | true ↦ λ few is. named r (grind (arith, nat_tests, few)) (adds (with_open_archive path d) (let same : Some (with_open_archive path d) ≡ mid = cc in sym same))
+      | false ↦ λ few is. absurd cc
+    ]) refl given
+  where
+    named : (r : Result (Option Draft × ℕ) JobFault) → archive_count d < d.most → AddsArchive number (with_open_archive path d) all ms refusal r → AddsNamed path number d all ms refusal r
+    named (Ok x) few h = (few, h)
+    named (Err f) few h = inr (few, h)

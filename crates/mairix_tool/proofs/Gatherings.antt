@@ -15,7 +15,7 @@ use Rattle.mime_text.specs.declared.facts.Facts.{Facts}
 use Rattle.mime_text.specs.MessageFacts.{facts_of}
 use Rattle.mime_text.specs.Sinks.{Pair, TakesAll, Breaks}
 use Rattle.mime_text.specs.Texts.{texts_of_message}
-use Rattle.mime_text.specs.Fed.{Fed, Feeds, FeedsPart, Finishes, FinishesPart}
+use Rattle.mime_text.specs.Fed.{Feeds, FeedsPart, Finishes, FinishesPart}
 use Rattle.mairix_tool.specs.declared.job_fault.JobFault.{JobFault}
 use Rattle.mairix_tool.specs.declared.job_fault.JobFault.TheVariants as job
 use Rattle.mairix_tool.specs.declared.message_index.Span.{Span}
@@ -60,13 +60,13 @@ broken (fault.Sink sink.OutOfMemory) ps old new d before later h same = tt
 broken (fault.Sink sink.Refused) ps old new d before later (front, last, reached, is, taken-front, refused) same =
     ⊎_elim (λ e. absurd cc)
     (λ r.
-      let reached-is : reached.builder ≡ with_texts front (with_texts before d) = taken front old reached taken-front ∙ ap (with_texts front) same in
-      let whole : option_map (draft_with_terms (text_terms last)) reached.builder ≡ with_texts (before ++ ps) d =
-      ap (option_map (draft_with_terms (text_terms last))) reached-is
-      ∙ last-is front last (with_texts before d)
-      ∙ ap (λ l. with_texts l (with_texts before d)) (sym is)
-      ∙ sym (with_texts-append before ps d) in
-      more-refuse (before ++ ps) later d (subst RefusesTerms whole r.1))
+    let reached-is : reached.builder ≡ with_texts front (with_texts before d) = taken front old reached taken-front ∙ ap (with_texts front) same in
+    let whole : option_map (draft_with_terms (text_terms last)) reached.builder ≡ with_texts (before ++ ps) d =
+    ap (option_map (draft_with_terms (text_terms last))) reached-is
+    ∙ last-is front last (with_texts before d)
+    ∙ ap (λ l. with_texts l (with_texts before d)) (sym is)
+    ∙ sym (with_texts-append before ps d) in
+    more-refuse (before ++ ps) later d (subst RefusesTerms whole r.1))
     refused
   where
     last-is : (front : List Pair) (last : Pair) (o : Option Draft) → option_map (draft_with_terms (text_terms last)) (with_texts front o) ≡ with_texts (front ++ last ∷ []) o

@@ -1,5 +1,5 @@
 -- What comes between two messages of a known archive.
-use Rattle.std.proofs.Common.{◌≡◌, ◌∙◌, ◌++◌, ℕ, List, [], ◌∷◌, Option, None, Some, refl, sym, ap, ap₂}
+use Rattle.std.proofs.Common.{◌≡◌, ◌∙◌, ℕ, List, [], ◌∷◌, Option, None, Some, refl, sym, ap, ap₂}
 use Rattle.mbox_cutter.specs.Archives.{Message, text}
 use Rattle.mbox_cutter.specs.declared.event.CutFault.{CutFault}
 use Rattle.mbox_cutter.specs.Events.{Start, Done, Coming, told_rest}

@@ -21,4 +21,5 @@ pub mod Gatherings
 pub mod ReadingLines
 pub mod Headings
 pub mod ArchiveSteps
+pub mod TableSteps
 pub mod MessageSteps

@@ -1,26 +1,23 @@
 -- What the reading of a whole message makes of a builder's draft.
-use Rattle.std.proofs.Common.{inr, ◌≡◌, ◌∙◌, ◌+◌, ◌≤◌, ◌++◌, ℕ, Bool, true, false, nat_eq, if◌then◌else◌, List, [], ◌∷◌, length, Option, None, Some, option_map, refl, sym, ap, ap₂, subst, arith}
-use Rattle.std.specs.Prelude.{Result, Ok, Err, IfOk, IfErr, ◌⊎◌}
-use Rattle.std.proofs.lemmas.Bool.Decides.{nat_tests}
+use Rattle.std.proofs.Common.{inr, ◌≡◌, ◌∙◌, ◌+◌, ◌≤◌, ◌++◌, ℕ, Bool, true, false, nat_eq, if◌then◌else◌, List, [], ◌∷◌, length, Option, Some, option_map, refl, sym, ap, arith}
+use Rattle.std.specs.Prelude.{Result, Ok, Err, IfOk, IfErr}
 use Rattle.header_text.specs.Headers.{fields_of}
 use Rattle.mail_index.specs.declared.record.Record.{Record}
-use Rattle.mail_index.specs.Builders.{Draft, end_of, archive_count, IsInArchive}
+use Rattle.mail_index.specs.Builders.{Draft, end_of, IsInArchive}
 use Rattle.mbox_cutter.specs.Archives.{Message, text, size, span_length}
-use Rattle.mbox_cutter.specs.declared.event.CutFault.{CutFault}
 use Rattle.mbox_cutter.specs.declared.event.CutFault.TheVariants as cut
 use Rattle.mbox_cutter.specs.Events.{Coming}
 use Rattle.mime_text.specs.declared.facts.Facts.{Facts}
 use Rattle.mime_text.specs.declared.message_text.MessageText.{MessageText}
 use Rattle.mime_text.specs.MessageFacts.{facts_of}
 use Rattle.mime_text.specs.Texts.{texts_of_message}
-use Rattle.mairix_tool.specs.declared.archive_index.Ended.{Ended}
 use Rattle.mairix_tool.specs.declared.job_fault.JobFault.{JobFault}
 use Rattle.mairix_tool.specs.declared.job_fault.JobFault.TheVariants as job
 use Rattle.mairix_tool.specs.declared.message_index.Span.{Span}
-use Rattle.mairix_tool.specs.ArchiveReading.{Awaited, coming_between, HasReadAll, IsMessageFault, AddsMessage}
+use Rattle.mairix_tool.specs.ArchiveReading.{Awaited, HasReadAll, IsMessageFault, AddsMessage}
 use Rattle.mairix_tool.specs.ArchiveTables.{with_terms, date_told}
 use Rattle.mairix_tool.specs.Gathering.{HasGathered, IsGatherFault, with_texts}
-use Rattle.mairix_tool.specs.Indexing.{draft_with_terms, draft_with_messages, with_open_message, HasTooMany, RefusesTerms, IsReady, IsOpenAt, IsBuilderReady, IsJobFault, IsArchiveFault}
+use Rattle.mairix_tool.specs.Indexing.{draft_with_terms, draft_with_messages, with_open_message, HasTooMany, IsReady, IsOpenAt, IsBuilderReady, IsJobFault, IsArchiveFault}
 use Rattle.mairix_tool.specs.MessageEnds.{ended_with, record_at}
 use Rattle.mairix_tool.specs.MessageTerms.{Term, text_terms, id_terms, message_terms}
 use Rattle.mairix_tool.proofs.Terms.{with_terms-append}

@@ -1,9 +1,9 @@
 -- A message's lines, as they come of its archive and are gathered.
-use Rattle.std.proofs.Common.{◌≡◌, ◌∙◌, ◌++◌, ℕ, List, [], ◌∷◌, Option, None, Some, map, refl, sym, ap, ap₂, subst, append_assoc, append-nil}
+use Rattle.std.proofs.Common.{◌≡◌, ◌∙◌, ◌++◌, ℕ, List, [], ◌∷◌, Option, Some, refl, sym, ap, ap₂, subst, append_assoc, append-nil}
 use Rattle.mail_index.specs.Builders.{Draft}
 use Rattle.mbox_cutter.specs.Archives.{text, size, span_length}
 use Rattle.mbox_cutter.specs.declared.event.CutFault.{CutFault}
-use Rattle.mbox_cutter.specs.Events.{ArchiveEvent, Line, End, Coming, told, told_rest}
+use Rattle.mbox_cutter.specs.Events.{Line, End, Coming, told, told_rest}
 use Rattle.mbox_cutter.specs.Coming.{TakesKnown}
 use Rattle.mime_text.specs.declared.message_text.MessageText.{MessageText}
 use Rattle.mime_text.specs.Texts.{texts_of_message}
@@ -53,12 +53,15 @@ module _ (d : Option Draft) (w : Awaited) (ls rest : List (List ℕ)) (gathered 
   pub reads-line : (gathered' : MessageText) (builder' : Option Draft) → IsReading d w ls rest gathered builder now → TakesKnown (Line l) now now'
       → HasGathered gathered' builder' d (ls ++ l ∷ []) → (more left : List (List ℕ)) × IsReading d w more left gathered' builder' now'
   reads-line gathered' builder' r takes more =
-      let b = behind-line w rest l now' (subst (λ o. TakesKnown (Line l) o now') r.comes takes) in
-      (ls ++ l ∷ [], b.0, record {
-        so_far = more;
-        whole = r.whole ∙ ap (λ x. ls ++ x) b.1 ∙ sym (append_assoc ls (l ∷ []) b.0);
-        comes = b.2;
-      })
+      let b = behind-line w rest l now' (subst (λ o. TakesKnown (Line l) o now') r.comes takes) in (
+        ls ++ l ∷ [],
+        b.0,
+        record {
+          so_far = more;
+          whole = r.whole ∙ ap (λ x. ls ++ x) b.1 ∙ sym (append_assoc ls (l ∷ []) b.0);
+          comes = b.2;
+        },
+      )
 
   -- a line at which a fault comes
   pub line-is-fault : (f : JobFault) → IsReading d w ls rest gathered builder now → TakesKnown (Line l) now now'

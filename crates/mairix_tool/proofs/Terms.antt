@@ -53,7 +53,7 @@ added-terms kind text ts None new h = absurd cc
 added-terms kind text ts (Some d) new h =
     (elim (added kind text d) as (λ r. added kind text d ≡ r → (r >>= λ e. Ok (Some e)) ≡ Ok new → Some (draft_with_terms ((kind, text) ∷ ts) d) ≡ option_map (draft_with_terms ts) new) [
       | Ok e ↦ λ is given. let same : Some e ≡ new = cc in
-      subst (λ (o : Option Draft). Some (draft_with_terms ((kind, text) ∷ ts) d) ≡ option_map (draft_with_terms ts) o) same (ap (λ (x : Draft). Some (draft_with_terms ts x)) (added-is kind text d e is))
+          subst (λ (o : Option Draft). Some (draft_with_terms ((kind, text) ∷ ts) d) ≡ option_map (draft_with_terms ts) o) same (ap (λ (x : Draft). Some (draft_with_terms ts x)) (added-is kind text d e is))
       | Err f ↦ λ is given. absurd cc
     ]) refl h
 
@@ -91,7 +91,7 @@ in-message-kept kind text None new h i = absurd cc
 in-message-kept kind text (Some d) new h i =
     (elim (added kind text d) as (λ r. added kind text d ≡ r → (r >>= λ e. Ok (Some e)) ≡ Ok new → IfSome new IsInMessage) [
       | Ok e ↦ λ is given. let same : Some e ≡ new = cc in
-      subst (λ (o : Option Draft). IfSome o IsInMessage) same (subst (λ (x : Draft). IsInMessage x) (added-is kind text d e is) i)
+          subst (λ (o : Option Draft). IfSome o IsInMessage) same (subst (λ (x : Draft). IsInMessage x) (added-is kind text d e is) i)
       | Err f ↦ λ is given. absurd cc
     ]) refl h
 

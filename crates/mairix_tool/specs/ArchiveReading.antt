@@ -1,8 +1,8 @@
 -- An archive while it is indexed: what still comes of it, and what was gathered.
-use Rattle.std.specs.Prelude.{◌≡◌, ⊤, ℕ, ◌+◌, ◌<◌, ◌≤◌, List, [], ◌∷◌, ◌++◌, Option, None, Some, option_map, unwrap_or, length, Result, Ok, Err}
+use Rattle.std.specs.Prelude.{◌≡◌, ◌⊎◌, ⊤, ℕ, ◌+◌, ◌<◌, ◌≤◌, List, [], ◌∷◌, ◌++◌, Option, None, Some, option_map, unwrap_or, length, Result, Ok, Err}
 use Rattle.std.specs.Option.{option_map_or}
 use Rattle.std.specs.Io.KnownBytes.{IsAtEnd}
-use Rattle.mail_index.specs.Builders.{Draft}
+use Rattle.mail_index.specs.Builders.{Draft, archive_count}
 use Rattle.mbox_cutter.specs.Archives as archives
 use Rattle.mbox_cutter.specs.Archives.{text, size, span_length}
 use Rattle.mbox_cutter.specs.declared.event.CutFault.{CutFault}
@@ -14,8 +14,9 @@ use Rattle.mairix_tool.specs.declared.archive_index.Ended.{Ended}
 use Rattle.mairix_tool.specs.declared.archive_index.Heading.{Heading}
 use Rattle.mairix_tool.specs.declared.archive_index.Heading.TheVariants.{Message, End}
 use Rattle.mairix_tool.specs.declared.job_fault.JobFault.{JobFault}
+use Rattle.mairix_tool.specs.declared.job_fault.JobFault.TheVariants.{OutOfMemory, TooMany}
 use Rattle.mairix_tool.specs.Gathering.{HasGathered}
-use Rattle.mairix_tool.specs.Indexing.{draft_with_terms, draft_with_messages, draft_ended, HasTooMany, RefusesTerms, IsJobFault}
+use Rattle.mairix_tool.specs.Indexing.{draft_with_terms, draft_with_messages, draft_ended, with_open_archive, HasTooMany, RefusesTerms, IsJobFault}
 use Rattle.mairix_tool.specs.MessageTerms.{message_terms}
 
 -- ---- what comes
@@ -98,11 +99,24 @@ abbrev pub AddsMessage : ℕ → Draft → Awaited → Result (Option Draft) Job
 AddsMessage archive d w (Ok builder) coming = (builder ≡ Some (draft_with_messages archive (w.message ∷ []) d)) × (coming ≡ Some (coming_between w.all w.later w.refusal))
 AddsMessage archive d w (Err fault) coming = IsJobFault w.refusal (HasTooMany (draft_with_messages archive (w.message ∷ []) d)) fault
 
+-- there is no room for one archive more, or no memory
+abbrev pub HasNoRoom : Draft → JobFault → Type 0
+HasNoRoom d OutOfMemory = ⊤
+HasNoRoom d TooMany = d.most ≤ archive_count d
+HasNoRoom d _ = ⊥
+
 -- these messages and the archive's end are added to the draft; or what is wrong with them
 abbrev pub AddsArchive : ℕ → Draft → ℕ → Option (List archives.Message) → Option CutFault → Result (Option Draft × ℕ) JobFault → Type 0
 AddsArchive number d bytes ms refusal (Ok (builder, count)) =
     (refusal ≡ None) × (builder ≡ Some (draft_ended bytes (draft_with_messages number (unwrap_or ms []) d))) × (count ≡ length (unwrap_or ms []))
 AddsArchive number d bytes ms refusal (Err fault) = IsJobFault refusal (HasTooMany (draft_with_messages number (unwrap_or ms []) d)) fault
+
+-- the same with the archive's path; where there is room for it
+abbrev pub AddsNamed : List ℕ → ℕ → Draft → ℕ → Option (List archives.Message) → Option CutFault → Result (Option Draft × ℕ) JobFault → Type 0
+AddsNamed path number d bytes ms refusal (Ok (builder, count)) =
+    (archive_count d < d.most) × AddsArchive number (with_open_archive path d) bytes ms refusal (Ok (builder, count))
+AddsNamed path number d bytes ms refusal (Err fault) =
+    HasNoRoom d fault ⊎ ((archive_count d < d.most) × AddsArchive number (with_open_archive path d) bytes ms refusal (Err fault))
 
 -- the draft has no room for the message's terms, or the archive is refused
 abbrev pub IsMessageFault : Option Draft → Awaited → JobFault → Type 0

@@ -3,12 +3,11 @@ use Rattle.std.specs.Prelude.{◌≡◌, ⊤, ℕ, List, flat_map, Option, Some,
 use Rattle.mail_index.specs.Builders.{Draft}
 use Rattle.mime_text.specs.declared.message_text.MessageText.{MessageText}
 use Rattle.mime_text.specs.Sinks.{Pair}
-use Rattle.mime_text.specs.Texts.{texts_of_message}
 use Rattle.mime_text.specs.Fed.{Fed}
 use Rattle.mairix_tool.specs.declared.job_fault.JobFault.{JobFault}
 use Rattle.mairix_tool.specs.declared.job_fault.JobFault.TheVariants.{Cut, OutOfMemory, TooMany, Out, Failed}
 use Rattle.mairix_tool.specs.Indexing.{draft_with_terms, RefusesTerms, IsOpenAt}
-use Rattle.mairix_tool.specs.MessageTerms.{Term, text_terms}
+use Rattle.mairix_tool.specs.MessageTerms.{text_terms}
 
 -- a draft with the terms of some texts
 abbrev pub with_texts : List Pair → Option Draft → Option Draft

@@ -3,7 +3,7 @@ use Rattle.std.specs.Prelude.{◌≡◌, ⊤, ℕ, ◌<◌, ◌≤◌, ◌⊎◌
 use Rattle.std.specs.Result.{MatchResult}
 use Rattle.mail_index.specs.declared.build_fault.BuildFault.{BuildFault}
 use Rattle.mail_index.specs.declared.build_fault.BuildFault.TheVariants as build
-use Rattle.mail_index.specs.Builders.{Draft, archive_count, end_of, IsBetweenArchives, IsInArchive, IsInMessage}
+use Rattle.mail_index.specs.Builders.{Draft, archive_count, end_of, IsBetweenArchives, IsInArchive, IsInMessage, IsWithinMost}
 use Rattle.mbox_cutter.specs.Archives.{Message}
 use Rattle.mbox_cutter.specs.declared.event.CutFault.{CutFault}
 use Rattle.mbox_cutter.specs.declared.event.CutFault.TheVariants.{Device, NotAnMbox, ArchiveTooLong, Failed}
@@ -23,10 +23,12 @@ draft_with_terms ts d = record d { table = record d.table { keys = with_terms (l
 
 -- with these messages of the archive of this number
 abbrev pub draft_with_messages : ℕ → List Message → Draft → Draft
-draft_with_messages archive ms d = record d { table = record d.table {
-  messages = d.table.messages ++ map (record_of archive) ms;
-  keys = with_messages (length d.table.messages) ms d.table.keys;
-} }
+draft_with_messages archive ms d = record d {
+  table = record d.table {
+    messages = d.table.messages ++ map (record_of archive) ms;
+    keys = with_messages (length d.table.messages) ms d.table.keys;
+  };
+}
 
 -- there are more messages or keys than are allowed
 abbrev pub HasTooMany : Draft → Type 0
@@ -53,9 +55,19 @@ IsBuilderReady number place builder = (d : Draft) × (builder ≡ Some d) × IsR
 abbrev pub IsBuilderOpen : ℕ → ℕ → Option Draft → Type 0
 IsBuilderOpen number place builder = (d : Draft) × (builder ≡ Some d) × IsOpenAt number place d
 
--- no archive is open, in a builder that hasn't failed
-abbrev pub IsBuilderIdle : Option Draft → Type 0
-IsBuilderIdle builder = (d : Draft) × (builder ≡ Some d) × IsBetweenArchives d × (d.most ≡ most_in_index)
+-- so many archives have ended and none is open, and no count passes the limit
+pub record IsIdle (number : ℕ) (d : Draft) : Type 0 where
+  pub phase : IsBetweenArchives d
+  pub most : d.most ≡ most_in_index
+  pub archive : archive_count d ≡ number
+  pub within : IsWithinMost d
+
+-- the same of a builder that hasn't failed
+abbrev pub IsBuilderIdle : ℕ → Option Draft → Type 0
+IsBuilderIdle number builder = (d : Draft) × (builder ≡ Some d) × IsIdle number d
+
+abbrev pub with_open_archive : List ℕ → Draft → Draft
+with_open_archive path d = record d { path = Some path }
 
 -- with the archive ended that is open, which has so many bytes
 abbrev pub draft_ended : ℕ → Draft → Draft

@@ -12,6 +12,7 @@ pub mod ArchiveTables
 pub mod ArchiveRefusals
 pub mod Indexing
 pub mod Gathering
+pub mod IndexJobs
 pub mod ArchiveReading
 pub mod MessageEnds
 pub mod Chosen

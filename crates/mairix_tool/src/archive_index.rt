@@ -4,18 +4,19 @@ ghost use Rattle.std.specs.Option.{MatchOption};
 ghost use Rattle.std.specs.Io.KnownBytes.{IsAtEnd};
 ghost use Rattle.contract_words.specs.Devices.{Counted};
 ghost use Rattle.mail_index.specs.Builders.{Draft};
+ghost use Rattle.mail_index.specs.Tables.{IsPath};
 ghost use Rattle.mbox_cutter.specs.Archives.{Message, text as text_of};
 ghost use Rattle.mbox_cutter.specs.declared.event.CutFault.{CutFault};
 ghost use Rattle.mbox_cutter.specs.declared.scan.Phase.TheVariants as Phase;
 ghost use Rattle.mairix_tool.specs.ArchiveRefusals.{most_in_archive};
-ghost use Rattle.mairix_tool.specs.ArchiveReading.{Awaited, AddsArchive, coming_inside, coming_ahead, IsHeading, Heads, ReadsToEnd, AddsMessage, IsInside, GoesFurther, HasEnded, IsReading, HasReadAll, IsMessageFault};
+ghost use Rattle.mairix_tool.specs.ArchiveReading.{Awaited, AddsArchive, AddsNamed, coming_inside, coming_ahead, IsHeading, Heads, ReadsToEnd, AddsMessage, IsInside, GoesFurther, HasEnded, IsReading, HasReadAll, IsMessageFault};
 ghost use Rattle.mairix_tool.specs.Gathering.{HasGathered};
 ghost use Rattle.mairix_tool.specs.Indexing.{IsArchiveFault, IsBuilderIdle, IsJobFault, IsBuilderReady};
 ghost use Rattle.mairix_tool.specs.JobFaults.{is_source_failure};
 
 use crate::gathering::feed_line;
-use crate::message_index::{Span, finish_message};
 use crate::job_fault::JobFault;
+use crate::message_index::{Span, finish_message};
 use crate::term_sink::TermSink;
 use mail_index::Builder;
 use mbox_cutter::{Cutter, Event, Source};
@@ -145,7 +146,7 @@ fn index_messages<'a, S: Source>(
     ensures source { cutter.new.source.ghost_name ≡ cutter.old.source.ghost_name }
     ensures count { Counted (is_source_failure result) (S.failures cutter.old.source.now) (S.failures cutter.new.source.now) }
     ensures end { OnOk result (IsAtEnd (S.rest cutter.new.source.now)) }
-    ensures idle { IfOk result (λ r. IsBuilderIdle r.0) }
+    ensures idle { IfOk result (λ r. IsBuilderIdle (archive + 1) r.0) }
     ensures known { (d : Draft) (all : ℕ) (ms : Option (List Message)) (refusal : Option CutFault) → builder ≡ Some d
         → cutter.old.coming ≡ Some (coming_ahead all ms refusal) → AddsArchive archive d all ms refusal result }
     ensures own { IfErr result IsArchiveFault }
@@ -165,4 +166,29 @@ fn index_messages<'a, S: Source>(
             None => {}
         }
     }
+}
+
+/// Indexes an archive: its messages and its end, and counts its messages.
+pub(crate) fn index_archive<'a, S: Source>(
+    alloc: Global,
+    cutter: &mut Cutter<'a, S>,
+    builder: Builder,
+    path: &str,
+    archive: u32,
+) -> Result<(Builder, u64), JobFault>
+    requires fresh { cutter.old.place ≡ record { phase = Phase.Between; offset = 0; most = most_in_archive } }
+    requires count { S.failures cutter.old.source.now < 2 ^ 64 - 1 }
+    requires idle { IsBuilderIdle archive builder }
+    requires path { IsPath path.now }
+    ensures source { cutter.new.source.ghost_name ≡ cutter.old.source.ghost_name }
+    ensures count { Counted (is_source_failure result) (S.failures cutter.old.source.now) (S.failures cutter.new.source.now) }
+    ensures end { OnOk result (IsAtEnd (S.rest cutter.new.source.now)) }
+    ensures idle { IfOk result (λ r. IsBuilderIdle (archive + 1) r.0) }
+    ensures known { (d : Draft) (all : ℕ) (ms : Option (List Message)) (refusal : Option CutFault) → builder ≡ Some d
+        → cutter.old.coming ≡ Some (coming_ahead all ms refusal) → AddsNamed path.now archive d all ms refusal result }
+    ensures own { IfErr result IsArchiveFault }
+{
+    let mut builder = builder;
+    builder.begin_archive(path)?;
+    index_messages(alloc, cutter, builder, archive)
 }

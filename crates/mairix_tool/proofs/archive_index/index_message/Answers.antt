@@ -1,4 +1,4 @@
-use Rattle.std.proofs.Common.{◌≡◌, ◌∙◌, ℕ, List, Option, Some, IfSome, ap, sym, subst, arith}
+use Rattle.std.proofs.Common.{◌≡◌, ◌∙◌, ℕ, List, Option, Some, IfSome, sym, subst, arith}
 use Rattle.std.specs.Option.{MatchOption}
 use Rattle.mail_index.specs.Builders.{Draft, IsInArchive}
 use Rattle.mairix_tool.specs.declared.archive_index.Ended.{Ended}
@@ -12,8 +12,8 @@ pub returns-in_err-length-clause-known : goal.returns-in_err-length-clause-known
 returns-in_err-length-clause-known g c =
     let p = err_from_is_err_and c.from_residual-in_err-length.result c.from_residual-in_err-length.ensures.1 in
     λ d w is at comes.
-        let r = c.lines.invariant.reads d w is comes in
-        rw (p.1, p.2) (message-fault c.args.archive d w c.in_err-length.field-0.0 (c.in_err-length.ensures.fault (Some (with_open_message d)) w r.0 r.1 r.2))
+    let r = c.lines.invariant.reads d w is comes in
+    rw (p.1, p.2) (message-fault c.args.archive d w c.in_err-length.field-0.0 (c.in_err-length.ensures.fault (Some (with_open_message d)) w r.0 r.1 r.2))
 
 pub returns-in_err-length-clause-own : goal.returns-in_err-length-clause-own
 returns-in_err-length-clause-own g c =

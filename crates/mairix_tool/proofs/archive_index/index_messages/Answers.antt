@@ -1,11 +1,8 @@
-use Rattle.std.proofs.Common.{◌≡◌, ◌∙◌, ◌+◌, ℕ, List, Option, Some, MatchOption, refl, ap, sym, subst, arith}
-use Rattle.std.specs.Prelude.{Result, Ok, Err}
+use Rattle.std.proofs.Common.{◌∙◌, Option, Some, MatchOption, refl, ap, subst, arith}
 use Rattle.std.proofs.lemmas.Result.{err_from_is_err_and}
-use Rattle.mail_index.specs.Builders.{Draft}
 use Rattle.mairix_tool.specs.declared.archive_index.Heading.{Heading}
 use Rattle.mairix_tool.specs.declared.archive_index.Heading.TheVariants.{Message, End}
-use Rattle.mairix_tool.specs.declared.job_fault.JobFault.{JobFault}
-use Rattle.mairix_tool.specs.ArchiveReading.{Heads, IsHeading, AddsMessage, Awaited}
+use Rattle.mairix_tool.specs.ArchiveReading.{Heads, IsHeading, Awaited}
 use Rattle.mairix_tool.specs.Indexing.{draft_with_messages}
 use Rattle.mairix_tool.proofs.ArchiveSteps.{done-none, between-fault, inside-fault, done-more, archive-done}
 use Rattle.mairix_tool.proofs.archive_index.index_messages.Goals as goal
@@ -25,8 +22,8 @@ pub returns-in_err-offset-clause-known : goal.returns-in_err-offset-clause-known
 returns-in_err-offset-clause-known g c =
     let p = err_from_is_err_and c.from_residual.result c.from_residual.ensures.1 in
     λ d all ms refusal is comes.
-        let h = c.messages.invariant.done d all ms refusal is comes in
-        rw (p.1, p.2) (between-fault c.args.archive d all ms refusal c.messages.messages c.messages.builder c.messages.cutter.coming h c.in_err-offset.field-0.0 (c.in_err-offset.ensures.fault all h.rest refusal h.comes))
+    let h = c.messages.invariant.done d all ms refusal is comes in
+    rw (p.1, p.2) (between-fault c.args.archive d all ms refusal c.messages.messages c.messages.builder c.messages.cutter.coming h c.in_err-offset.field-0.0 (c.in_err-offset.ensures.fault all h.rest refusal h.comes))
 
 pub returns-in_err-builder-in-Some-Message-clause-known :
     goal.returns-in_err-builder-in-Some-Message-clause-known
@@ -34,13 +31,13 @@ returns-in_err-builder-in-Some-Message-clause-known g c =
     let p = err_from_is_err_and c.from_residual-in_err-builder-in-Some-Message.result c.from_residual-in_err-builder-in-Some-Message.ensures.1 in
     let start = c.in-Some-Message.offset in
     λ d all ms refusal is comes.
-        let h = c.messages.invariant.done d all ms refusal is comes in
-        let heads : Heads (Message start) all h.rest refusal c.next_heading.new.cutter.coming =
-        subst (λ (o : Option Heading). MatchOption o ⊥ (λ x. Heads x all h.rest refusal c.next_heading.new.cutter.coming)) (c.in-Some-Message.is ∙ ap Some c.in-Some-Message.field-0-is) (c.in_ok-offset.ensures.known all h.rest refusal h.comes) in
-        let w : Awaited = record { all = all; message = heads.0; later = heads.1; refusal = refusal } in
-        let fails = c.in_err-builder-in-Some-Message.ensures.known (draft_with_messages c.args.archive h.done d) w h.added heads.3 heads.4 in
-        rw (p.1, p.2) (inside-fault c.args.archive d all ms refusal c.messages.messages c.messages.builder c.messages.cutter.coming h start c.next_heading.new.cutter.coming heads.0 heads.1 heads.2
-        c.in_err-builder-in-Some-Message.field-0.0 fails)
+    let h = c.messages.invariant.done d all ms refusal is comes in
+    let heads : Heads (Message start) all h.rest refusal c.next_heading.new.cutter.coming =
+    subst (λ (o : Option Heading). MatchOption o ⊥ (λ x. Heads x all h.rest refusal c.next_heading.new.cutter.coming)) (c.in-Some-Message.is ∙ ap Some c.in-Some-Message.field-0-is) (c.in_ok-offset.ensures.known all h.rest refusal h.comes) in
+    let w : Awaited = record { all = all; message = heads.0; later = heads.1; refusal = refusal } in
+    let fails = c.in_err-builder-in-Some-Message.ensures.known (draft_with_messages c.args.archive h.done d) w h.added heads.3 heads.4 in
+    rw (p.1, p.2) (inside-fault c.args.archive d all ms refusal c.messages.messages c.messages.builder c.messages.cutter.coming h start c.next_heading.new.cutter.coming heads.0 heads.1 heads.2
+    c.in_err-builder-in-Some-Message.field-0.0 fails)
 
 pub messages-preserved-in-Some-Message : goal.messages-preserved-in-Some-Message
 messages-preserved-in-Some-Message g c =

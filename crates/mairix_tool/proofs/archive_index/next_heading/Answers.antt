@@ -1,4 +1,4 @@
-use Rattle.std.proofs.Common.{◌≡◌, ◌∙◌, ℕ, Option, Some, ap, subst}
+use Rattle.std.proofs.Common.{◌∙◌, Option, ap, subst}
 use Rattle.std.specs.Prelude.{Result, Ok}
 use Rattle.mbox_cutter.specs.declared.event.Event.{Event}
 use Rattle.mbox_cutter.specs.declared.event.CutFault.{CutFault}

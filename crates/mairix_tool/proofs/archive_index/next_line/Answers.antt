@@ -1,10 +1,9 @@
-use Rattle.std.proofs.Common.{◌≡◌, ◌∙◌, [], ap, subst}
+use Rattle.std.proofs.Common.{◌∙◌, [], ap, subst}
 use Rattle.std.specs.Prelude.{Result, Ok}
 use Rattle.std.proofs.lemmas.Result.{err_from_is_err_and}
-use Rattle.contract_words.specs.Devices.{Counted}
 use Rattle.mbox_cutter.specs.declared.event.Event.{Event}
 use Rattle.mbox_cutter.specs.declared.event.CutFault.{CutFault}
-use Rattle.mbox_cutter.specs.Coming.{Answers, TakesKnown, is_device_fault}
+use Rattle.mbox_cutter.specs.Coming.{Answers, TakesKnown}
 use Rattle.mbox_cutter.specs.Progress.{shown_result}
 use Rattle.mbox_cutter.specs.Events.{Line, End}
 use Rattle.mairix_tool.proofs.ReadingLines.{reads-line, reads-end, line-is-fault, gather-own}

@@ -1,14 +1,5 @@
-use Rattle.std.proofs.Common.{◌≡◌, ◌∙◌, ℕ, List, Option, Some, option_map, ap, subst}
-use Rattle.std.specs.Prelude.{Result}
-use Rattle.std.specs.Result.{MatchResult}
+use Rattle.std.proofs.Common.{Some}
 use Rattle.std.proofs.lemmas.Result.{err_from_is_err_and}
-use Rattle.header_text.specs.Headers.{fields_of}
-use Rattle.mail_index.specs.Builders.{Draft}
-use Rattle.mime_text.specs.declared.facts.Facts.{Facts}
-use Rattle.mime_text.specs.MessageFacts.{facts_of}
-use Rattle.mime_text.specs.Texts.{texts_of_message}
-use Rattle.mairix_tool.specs.Gathering.{HasGathered, IsGatherFault, with_texts}
-use Rattle.mairix_tool.specs.MessageEnds.{ended_with}
 use Rattle.mairix_tool.proofs.Gatherings.{texts-fail, ids-fail, finished-is, open-behind}
 use Rattle.mairix_tool.proofs.message_index.finish_message.Goals as goal
 

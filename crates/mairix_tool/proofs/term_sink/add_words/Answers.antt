@@ -26,7 +26,7 @@ loop-word-preserved c =
       All-tail HasWordLength word rest (subst (λ l. All HasWordLength l) steps i.2),
       in-message-kept (Text kind) (folding word) now new gives i.3,
       i.4 ∙ ap (λ l. option_map (draft_with_terms (map (λ w. (Text kind, folding w)) l)) now) steps
-      ∙ added-terms (Text kind) (folding word) (map (λ w. (Text kind, folding w)) rest) now new gives,
+          ∙ added-terms (Text kind) (folding word) (map (λ w. (Text kind, folding w)) rest) now new gives,
     )
 
 pub returns-in_err-add-clause-terms : goal.returns-in_err-add-clause-terms
