@@ -1,11 +1,18 @@
 //! Lists with a truth for each message, in their order.
-ghost use Rattle.std.specs.Prelude.{◌≡◌, ◌&&◌, ◌||◌, ◌<◌, ◌^◌, ℕ, nat_eq, not, length, map, filter, IfOk};
+ghost use Rattle.std.specs.Prelude.{◌≡◌, ◌&&◌, ◌||◌, ◌<◌, ◌^◌, ℕ, nat_eq, not, length, map, filter, replicate, IfOk};
 ghost use Rattle.std.specs.List.{range_with_len};
 ghost use Rattle.mail_answer.specs.TableFacts.{is_among};
 ghost use Rattle.mail_answer.specs.Marks.{truth_at, Adds};
 
 use mail_index::{Postings, Steps};
 use std::alloc::{AllocError, Global};
+
+/// So many times the same truth.
+pub(crate) fn same_truths(alloc: Global, count: u32, truth: bool) -> Result<Vec<bool>, AllocError>
+    ensures { IfOk result (λ v. v.items ≡ replicate count truth) }
+{
+    vec![in alloc; truth; count as usize]
+}
 
 /// Makes the message of this number true, if there is one.
 fn mark_one(number: u32, truths: &mut [bool])

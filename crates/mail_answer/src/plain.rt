@@ -6,7 +6,7 @@ ghost use Rattle.mail_query.specs.Meaning.{meaning};
 ghost use Rattle.mail_answer.specs.TableFacts.{truths, chosen_numbers};
 
 use crate::fit::Fit;
-use crate::marks::{add_others, keep_common, negate, numbers_of};
+use crate::marks::{add_others, keep_common, negate, numbers_of, same_truths};
 use crate::records::{with_date, with_flag, with_size};
 use crate::texts::with_text;
 use mail_index::IndexView;
@@ -18,9 +18,8 @@ fn truths_of(alloc: Global, index: &IndexView<'_>, node: &Node) -> Result<Vec<bo
     requires { IsWellFormed index.now }
     ensures { IfOk result (λ v. v.items ≡ truths index.now (query_of node.now)) }
 {
-    let count = index.message_count() as usize;
     match node {
-        Node::Any => vec![in alloc; true; count],
+        Node::Any => same_truths(alloc, index.message_count(), true),
         Node::Word { kinds, text } => with_text(alloc, index, *kinds, Fit::Whole, text.as_bytes()),
         Node::Part { kinds, text } => with_text(alloc, index, *kinds, Fit::Within, text.as_bytes()),
         Node::Prefix { kinds, text } => with_text(
@@ -39,7 +38,7 @@ fn truths_of(alloc: Global, index: &IndexView<'_>, node: &Node) -> Result<Vec<bo
             Ok(truths)
         }
         Node::All(members) => {
-            let mut truths = vec![in alloc; true; count]?;
+            let mut truths = same_truths(alloc, index.message_count(), true)?;
             for member in members {
                 let others = truths_of(alloc, index, member)?;
                 keep_common(truths.as_mut_slice(), others.as_slice());
@@ -47,7 +46,7 @@ fn truths_of(alloc: Global, index: &IndexView<'_>, node: &Node) -> Result<Vec<bo
             Ok(truths)
         }
         Node::Either(members) => {
-            let mut truths = vec![in alloc; false; count]?;
+            let mut truths = same_truths(alloc, index.message_count(), false)?;
             for member in members {
                 let others = truths_of(alloc, index, member)?;
                 add_others(truths.as_mut_slice(), others.as_slice());

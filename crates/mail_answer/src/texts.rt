@@ -8,7 +8,7 @@ ghost use Rattle.mail_answer.specs.TableFacts.{is_among, texts_with, facts_at};
 ghost use Rattle.mail_answer.specs.Marks.{fits, each_number, Adds};
 
 use crate::fit::Fit;
-use crate::marks::mark;
+use crate::marks::{mark, same_truths};
 use mail_index::{IndexView, Keys, Kind, Steps};
 use mail_query::Kinds;
 use mail_words::TextKind;
@@ -88,7 +88,7 @@ pub(crate) fn with_text(
     requires { IsWellFormed index.now }
     ensures { IfOk result (λ v. v.items ≡ each_number (length index.now.messages) (λ n. some_word (fits fit text.now) kinds (facts_at index.now n))) }
 {
-    let mut truths = vec![in alloc; false; index.message_count() as usize]?;
+    let mut truths = same_truths(alloc, index.message_count(), false)?;
     mark_texts(index, kinds, fit, text, truths.as_mut_slice());
     Ok(truths)
 }
