@@ -2,3 +2,5 @@ pub mod TruthLists
 pub mod TextLemmas
 pub mod Containing
 pub mod Adding
+pub mod MemberLemmas
+pub mod NodeQueries

@@ -1,7 +1,6 @@
 -- What a table says of its messages, and which of them satisfy a query.
 use Rattle.std.specs.Prelude.{ℕ, Bool, false, nat_eq, List, length, map, filter, None}
 use Rattle.std.specs.List.{list_any, range_with_len, slice_index_or}
-use Rattle.mail_words.specs.declared.kind.TextKind.{TextKind}
 use Rattle.mail_index.specs.declared.kind.Kind.{Kind}
 use Rattle.mail_index.specs.declared.kind.Kind.TheVariants.{Text, OwnId}
 use Rattle.mail_index.specs.declared.record.Record.{Record}

@@ -1,4 +1,4 @@
-use Rattle.std.proofs.Common.{◌<◌, length, arith}
+use Rattle.std.proofs.Common.{arith}
 use Rattle.mail_answer.proofs.TruthLists.{turned}
 use Rattle.mail_answer.proofs.marks.negate.Goals as goal
 

@@ -1,6 +1,6 @@
-use Rattle.std.proofs.Common.{◌≡◌, ◌∙◌, ◌&&◌, ℕ, Bool, List, sym, ap, map}
+use Rattle.std.proofs.Common.{◌∙◌, ◌&&◌, ℕ, Bool, List, sym, ap}
 use Rattle.std.specs.List.{list_any}
-use Rattle.mail_index.specs.LookUps.{numbers_at, keys_of, text_and_numbers}
+use Rattle.mail_index.specs.LookUps.{keys_of}
 use Rattle.mail_answer.specs.TableFacts.{is_among, texts_with}
 use Rattle.mail_answer.specs.Marks.{fits}
 use Rattle.mail_answer.specs.declared.fit.Fit.TheVariants.{Whole}

@@ -1,8 +1,8 @@
-use Rattle.std.proofs.Common.{◌≡◌, ◌&&◌, ◌||◌, ◌<◌, ℕ, take, length}
+use Rattle.std.proofs.Common.{◌&&◌, take}
 use Rattle.std.specs.List.{list_any}
 use Rattle.mail_query.specs.Kinds.{has_kind}
 use Rattle.mail_answer.specs.TableFacts.{facts_at}
-use Rattle.mail_answer.specs.Marks.{truth_at, fits, Adds}
+use Rattle.mail_answer.specs.Marks.{fits, Adds}
 use Rattle.mail_answer.proofs.texts.mark_text_kinds.Given as goal
 
 abbrev pub invariant-loop-kind : goal.invariant-loop-kind

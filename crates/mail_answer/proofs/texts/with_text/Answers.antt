@@ -1,4 +1,4 @@
-use Rattle.std.proofs.Common.{◌≡◌, ◌∙◌, ℕ, Bool, false, List, length, drop, replicate, arith, ap}
+use Rattle.std.proofs.Common.{◌≡◌, ◌∙◌, ℕ, Bool, false, List, length, drop, replicate, ap}
 use Rattle.std.proofs.lemmas.List.{take_at}
 use Rattle.mail_query.specs.Truth.{some_word}
 use Rattle.mail_answer.specs.TableFacts.{facts_at}
