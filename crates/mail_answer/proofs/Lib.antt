@@ -4,3 +4,4 @@ pub mod Containing
 pub mod Adding
 pub mod MemberLemmas
 pub mod NodeQueries
+mod RowsTableFacts

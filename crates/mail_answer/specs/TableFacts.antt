@@ -44,13 +44,13 @@ abbrev pub facts_at : Table → ℕ → Facts
 facts_at t n = facts_of_record t n (record_at t.messages n)
 
 -- the numbers of the messages
-abbrev pub numbers_of : Table → List ℕ
-numbers_of t = range_with_len 0 (length t.messages)
+abbrev pub message_numbers : Table → List ℕ
+message_numbers t = range_with_len 0 (length t.messages)
 
 -- for each message in order whether it satisfies the query
 abbrev pub truths : Table → Query → List Bool
-truths t q = map (λ n. is_true q (facts_at t n)) (numbers_of t)
+truths t q = map (λ n. is_true q (facts_at t n)) (message_numbers t)
 
 -- the rising numbers of the messages that satisfy the query
 abbrev pub chosen_numbers : Table → Query → List ℕ
-chosen_numbers t q = filter (λ n. is_true q (facts_at t n)) (numbers_of t)
+chosen_numbers t q = filter (λ n. is_true q (facts_at t n)) (message_numbers t)

@@ -1,4 +1,5 @@
-//! Which messages of an index satisfy a query, by the meaning of queries word for word.
+//! Which messages of an index satisfy a query, found as the meaning of queries says it: a truth for each message and each part
+//! of the query.
 ghost use Rattle.std.specs.Prelude.{◌≡◌, ◌≤◌, IfOk};
 ghost use Rattle.mail_index.specs.Tables.{IsWellFormed};
 ghost use Rattle.mail_query.specs.Query.{query_of, queries_of, members_of, All, Either};
@@ -56,10 +57,16 @@ fn truths_of(alloc: Global, index: &IndexView<'_>, node: &Node) -> Result<Vec<bo
     }
 }
 
-/// The numbers of the messages that satisfy the query, rising.
+/// The numbers of the messages that satisfy the query, rising, from 0.
 ///
-/// It goes over the index once a part of the query: a part costs as many steps as there are messages, and one more for each
-/// posting of the keys that it names. Part and Prefix look at each key of their kinds.
+/// The index is one that `IndexView::open` gave, so its table keeps the rules of tables.
+///
+/// Each node of the query goes over all messages once, and over the numbers of the keys that it names; a Part or a Prefix looks at
+/// each key of its kinds too. The memory is a byte for each message, at most once more than the query has levels, and the answer.
+///
+/// # Errors
+///
+/// `AllocError` where there is no memory for that.
 pub fn plain_matches(
     alloc: Global,
     index: &IndexView<'_>,
