@@ -8,4 +8,6 @@ pub use plain::plain_matches;
 mod fit;
 mod marks;
 mod records;
+#[cfg(test)]
+mod tests;
 mod texts;
