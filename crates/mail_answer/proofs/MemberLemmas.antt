@@ -1,15 +1,16 @@
 -- Truths of each and of some member of a query.
-use Rattle.std.proofs.Common.{◌≡◌, ◌∙◌, ◌+◌, ◌<◌, ◌≤◌, ℕ, zero, suc, Bool, true, false, cond, not, ◌&&◌, ◌||◌, List, [], ◌∷◌, length, map, drop, replicate, get_or, refl, sym, ap, subst, arith, Result, Ok, Err, IfOk, Vec, Global}
-use Rattle.std.specs.List.{filter, range_with_len}
+use Rattle.std.proofs.Common.{◌≡◌, ◌∙◌, ◌+◌, ◌<◌, ◌≤◌, ℕ, zero, suc, Bool, true, false, cond, not, ◌&&◌, ◌||◌, List, [], ◌∷◌, length, map, drop, replicate, get_or, refl, sym, ap, subst, arith, Some, Result, Ok, Err, IfOk, Vec, Global}
+use Rattle.std.specs.List.{filter, range_with_len, slice_get}
 use Rattle.std.proofs.lemmas.List.{get_or-replicate, length-replicate, drop_more, drop_all}
 use Rattle.std.proofs.lemmas.List.FromFn.{length-map-range_with_len, get_or-map-range_with_len}
+use Rattle.mail_index.specs.declared.record.Record.{Record}
 use Rattle.mail_index.specs.Tables.{Table}
 use Rattle.mail_query.specs.declared.node.Node.{Node}
 use Rattle.mail_query.specs.Query.{Query, Any, Not, All, Either, query_of, queries_of, members_of}
 use Rattle.mail_query.specs.Truth.{is_true, each_is_true, some_is_true}
-use Rattle.mail_answer.specs.TableFacts.{facts_at, truths, chosen_numbers}
+use Rattle.mail_answer.specs.TableFacts.{facts_of_record, facts_at, record_at, truths, chosen_numbers}
 use Rattle.mail_answer.specs.Marks.{truth_at, Adds}
-use Rattle.mail_answer.proofs.TruthLists.{told}
+use Rattle.mail_answer.proofs.TruthLists.{told, record_known}
 
 -- what the list of truths says at a number
 pub truths_at : (t : Table) (q : Query) (n : ℕ) → n < length t.messages → truth_at (truths t q) n ≡ is_true q (facts_at t n)
@@ -17,6 +18,16 @@ truths_at t q n lt = get_or-map-range_with_len (λ m. is_true q (facts_at t m)) 
 
 pub truths_long : (t : Table) (q : Query) → length (truths t q) ≡ length t.messages
 truths_long t q = length-map-range_with_len (λ m. is_true q (facts_at t m)) 0 (length t.messages)
+
+-- each truth is what the record of its number answers
+pub truths_by_records : (t : Table) (q : Query) (xs : List Bool) → length xs ≡ length t.messages
+    → ((n : ℕ) (m : Record) → slice_get t.messages n ≡ Some m → truth_at xs n ≡ is_true q (facts_of_record t n m)) → xs ≡ truths t q
+truths_by_records t q xs long each =
+    told (length t.messages) (λ n. is_true q (facts_at t n)) xs long (λ n lt. each n (record_at t.messages n) (record_known t.messages n lt))
+
+pub both_ok : {A E : Type 0} (r : Result A E) (P Q R : A → Type 0) → IfOk r P → IfOk r Q → ((v : A) → P v → Q v → R v) → IfOk r R
+both_ok (Ok v) P Q R p q f = f v p q
+both_ok (Err e) P Q R p q f = tt
 
 pub any_truths : (t : Table) → replicate (length t.messages) true ≡ truths t Any
 any_truths t =

@@ -1,6 +1,6 @@
 -- Rows: what a table of two messages says of them, and which of them some queries choose.
-use Rattle.std.specs.Prelude.{◌≡◌, ℕ, true, false, List, [], ◌∷◌, None, Some, codes, refl, pos}
-use Rattle.mail_words.specs.declared.kind.TextKind.TheVariants.{From, Subject, Body}
+use Rattle.std.specs.Prelude.{◌≡◌, true, false, [], ◌∷◌, None, Some, codes, refl, pos}
+use Rattle.mail_words.specs.declared.kind.TextKind.TheVariants.{Subject, Body}
 use Rattle.mail_words.specs.declared.flags.Flag.TheVariants.{Seen}
 use Rattle.mail_index.specs.declared.kind.Kind.TheVariants.{Text, OwnId, LinkId}
 use Rattle.mail_index.specs.Tables.{Table}

@@ -1,22 +1,17 @@
 -- Lists with a truth for each message.
-use Rattle.std.proofs.Common.{◌≡◌, ◌∙◌, ◌+◌, ◌<◌, ℕ, zero, suc, Bool, true, false, cond, not, List, [], ◌∷◌, ◌++◌, length, map, Some, sym, ap, arith}
+use Rattle.std.proofs.Common.{◌≡◌, ◌∙◌, ◌+◌, ◌<◌, ℕ, zero, suc, Bool, true, false, cond, not, List, [], ◌∷◌, ◌++◌, length, map, Some, refl, sym, ap, arith}
 use Rattle.std.specs.List.{filter, range_with_len, slice_get}
 use Rattle.std.proofs.lemmas.List.{map-id, ext_get_or, length-map, get_or-map, append-nil}
-use Rattle.std.proofs.lemmas.List.FromFn.{map-range_with_len_more, filter_of_map_range_with_len_more, fill_by_all}
+use Rattle.std.proofs.lemmas.List.FromFn.{filter_of_map_range_with_len_more, fill_by_all}
 use Rattle.mail_index.specs.declared.record.Record.{Record}
 use Rattle.mail_answer.specs.TableFacts.{record_at}
 use Rattle.mail_answer.specs.Marks.{truth_at, each_number}
 
--- one truth more
-pub pushed : (test : ℕ → Bool) (xs ys : List Bool) (n : ℕ) (b : Bool) → xs ≡ each_number n test → ys ≡ xs ++ b ∷ [] → b ≡ test n → ys ≡ each_number (n + 1) test
-pushed test xs ys n b front whole here =
-    whole ∙ ap (λ (zs : List Bool). zs ++ b ∷ []) front ∙ ap (λ (v : Bool). each_number n test ++ v ∷ []) here ∙ sym (map-range_with_len_more test 0 n n (omega arith))
-
 -- the record that a list gives
-pub record_known : (messages : List Record) (n : ℕ) (m : Record) → slice_get messages n ≡ Some m → record_at messages n ≡ m
-record_known [] n m h = absurd cc
-record_known (r ∷ rs) zero m h = cc
-record_known (r ∷ rs) (suc n) m h = record_known rs n m h
+pub record_known : (messages : List Record) (n : ℕ) → n < length messages → slice_get messages n ≡ Some (record_at messages n)
+record_known [] n lt = absurd (omega (arith, lt))
+record_known (m ∷ ms) zero lt = refl
+record_known (m ∷ ms) (suc n) lt = record_known ms n (omega (arith, lt))
 
 -- as many truths as messages, each of which the test tells
 pub told : (count : ℕ) (test : ℕ → Bool) (xs : List Bool) → length xs ≡ count → ((n : ℕ) → n < count → truth_at xs n ≡ test n) → xs ≡ each_number count test

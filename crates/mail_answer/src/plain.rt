@@ -1,8 +1,8 @@
 //! Which messages of an index satisfy a query, found as the meaning of queries says it: a truth for each message and each part
 //! of the query.
-ghost use Rattle.std.specs.Prelude.{◌≡◌, ◌≤◌, IfOk};
+ghost use Rattle.std.specs.Prelude.{◌≡◌, IfOk};
 ghost use Rattle.mail_index.specs.Tables.{IsWellFormed};
-ghost use Rattle.mail_query.specs.Query.{query_of, queries_of, members_of, All, Either};
+ghost use Rattle.mail_query.specs.Query.{query_of};
 ghost use Rattle.mail_query.specs.Meaning.{meaning};
 ghost use Rattle.mail_answer.specs.TableFacts.{truths, chosen_numbers};
 
@@ -21,15 +21,9 @@ fn truths_of(alloc: Global, index: &IndexView<'_>, node: &Node) -> Result<Vec<bo
 {
     match node {
         Node::Any => same_truths(alloc, index.message_count(), true),
-        Node::Word { kinds, text } => with_text(alloc, index, *kinds, Fit::Whole, text.as_bytes()),
-        Node::Part { kinds, text } => with_text(alloc, index, *kinds, Fit::Within, text.as_bytes()),
-        Node::Prefix { kinds, text } => with_text(
-            alloc,
-            index,
-            *kinds,
-            Fit::Front,
-            text.as_bytes(),
-        ),
+        Node::Word { kinds, text } => with_text(alloc, index, *kinds, Fit::Whole, text),
+        Node::Part { kinds, text } => with_text(alloc, index, *kinds, Fit::Within, text),
+        Node::Prefix { kinds, text } => with_text(alloc, index, *kinds, Fit::Front, text),
         Node::Date(range) => with_date(alloc, index, *range),
         Node::Size { low, high } => with_size(alloc, index, *low, *high),
         Node::Flag { flag, wanted } => with_flag(alloc, index, *flag, *wanted),

@@ -1,14 +1,33 @@
 //! What is asked of a message's record alone: its date, its size and its flags.
-ghost use Rattle.std.specs.Prelude.{◌≡◌, ◌&&◌, true, nat_le, IfOk};
+ghost use Rattle.std.specs.Prelude.{◌≡◌, ◌&&◌, ℕ, true, nat_le, Some, length, IfOk};
+ghost use Rattle.std.specs.List.{slice_get};
 ghost use Rattle.std.specs.Option.{option_map_or};
 ghost use Rattle.mail_query.specs.Query.{Date, Size, HasFlag};
 ghost use Rattle.mail_query.specs.Truth.{has_flag, is_same};
 ghost use Rattle.mail_answer.specs.TableFacts.{truths};
+ghost use Rattle.mail_answer.specs.Marks.{truth_at};
 
 use mail_dates::Range;
-use mail_index::IndexView;
+use mail_index::{IndexView, Record};
 use mail_words::{Flag, Flags};
 use std::alloc::{AllocError, Global};
+
+/// What the test answers of each message's record, in order.
+fn each_record<F: Fn(Record) -> bool + Drop>(
+    alloc: Global,
+    index: &IndexView<'_>,
+    test: F,
+) -> Result<Vec<bool>, AllocError>
+    requires { F.IsAlwaysCallable test }
+    ensures long { IfOk result (λ v. length v.items ≡ length index.now.messages) }
+    ensures each { IfOk result (λ v. (n : ℕ) (m : Record) → slice_get index.now.messages n ≡ Some m → F.post test m (truth_at v.items n)) }
+{
+    let mut answers = Vec::new(alloc);
+    for n in 0..index.message_count() {
+        answers.push(test(index.message(n)))?;
+    }
+    Ok(answers)
+}
 
 /// Which messages have a date in the range.
 pub(crate) fn with_date(
@@ -18,11 +37,7 @@ pub(crate) fn with_date(
 ) -> Result<Vec<bool>, AllocError>
     ensures { IfOk result (λ v. v.items ≡ truths index.now (Date range)) }
 {
-    let mut truths = Vec::new(alloc);
-    for n in 0..index.message_count() {
-        truths.push(range.has(index.message(n).date))?;
-    }
-    Ok(truths)
+    each_record(alloc, index, |record| range.has(record.date))
 }
 
 /// Whether the size lies between these, both included; a `high` of None is no bound.
@@ -41,11 +56,7 @@ pub(crate) fn with_size(
 ) -> Result<Vec<bool>, AllocError>
     ensures { IfOk result (λ v. v.items ≡ truths index.now (Size low high)) }
 {
-    let mut truths = Vec::new(alloc);
-    for n in 0..index.message_count() {
-        truths.push(lies_between(low, high, index.message(n).size))?;
-    }
-    Ok(truths)
+    each_record(alloc, index, |record| lies_between(low, high, record.size))
 }
 
 /// Whether the flag is there as is wanted.
@@ -69,9 +80,9 @@ pub(crate) fn with_flag(
 ) -> Result<Vec<bool>, AllocError>
     ensures { IfOk result (λ v. v.items ≡ truths index.now (HasFlag flag wanted)) }
 {
-    let mut truths = Vec::new(alloc);
-    for n in 0..index.message_count() {
-        truths.push(is_as_wanted(flag, wanted, index.message(n).flags))?;
-    }
-    Ok(truths)
+    each_record(
+        alloc,
+        index,
+        |record| is_as_wanted(flag, wanted, record.flags),
+    )
 }

@@ -2,7 +2,7 @@ use Rattle.std.proofs.Common.{◌≡◌, ◌∙◌, ◌+◌, ℕ, Bool, List, le
 use Rattle.std.proofs.lemmas.List.{take_at, length-map}
 use Rattle.mail_index.specs.Tables.{Table}
 use Rattle.mail_query.specs.declared.node.Node.{Node}
-use Rattle.mail_query.specs.Query.{Query, query_of, queries_of, Word, Part, Prefix, Not, members_of, Either}
+use Rattle.mail_query.specs.Query.{Query, query_of, queries_of, Not, members_of, Either}
 use Rattle.mail_query.proofs.NodeLemmas.{query_of-Not}
 use Rattle.mail_answer.specs.TableFacts.{truths}
 use Rattle.mail_answer.proofs.MemberLemmas.{truths_long, any_truths, turned_truths, ok_as, IsNarrowed, narrowed_more, narrowed_all, IsWidened, widened_none, widened_more, widened_all, next_member, no_member}
@@ -85,14 +85,14 @@ returns-in-Any t c =
 pub returns-in-Word : goal.returns-in-Word
 returns-in-Word t c =
     ok_as c.with_text.result _ _ c.with_text.ensures
-    (ap (λ (text : List ℕ). truths c.args.index.now (Word c.in-Word.kinds text)) c.as_bytes.ensures ∙ ap (truths c.args.index.now) (sym (ap query_of c.in-Word.is ∙ query_of-Word c.in-Word.kinds c.in-Word.text)))
+    (ap (truths c.args.index.now) (sym (ap query_of c.in-Word.is ∙ query_of-Word c.in-Word.kinds c.in-Word.text)))
 
 pub returns-in-Part : goal.returns-in-Part
 returns-in-Part t c =
     ok_as c.with_text-in-Part.result _ _ c.with_text-in-Part.ensures
-    (ap (λ (text : List ℕ). truths c.args.index.now (Part c.in-Part.kinds text)) c.as_bytes-in-Part.ensures ∙ ap (truths c.args.index.now) (sym (ap query_of c.in-Part.is ∙ query_of-Part c.in-Part.kinds c.in-Part.text)))
+    (ap (truths c.args.index.now) (sym (ap query_of c.in-Part.is ∙ query_of-Part c.in-Part.kinds c.in-Part.text)))
 
 pub returns-in-Prefix : goal.returns-in-Prefix
 returns-in-Prefix t c =
     ok_as c.with_text-in-Prefix.result _ _ c.with_text-in-Prefix.ensures
-    (ap (λ (text : List ℕ). truths c.args.index.now (Prefix c.in-Prefix.kinds text)) c.as_bytes-in-Prefix.ensures ∙ ap (truths c.args.index.now) (sym (ap query_of c.in-Prefix.is ∙ query_of-Prefix c.in-Prefix.kinds c.in-Prefix.text)))
+    (ap (truths c.args.index.now) (sym (ap query_of c.in-Prefix.is ∙ query_of-Prefix c.in-Prefix.kinds c.in-Prefix.text)))
