@@ -4,23 +4,6 @@ use Rattle.std.proofs.lemmas.List.{get_or-replicate, length-replicate}
 use Rattle.mail_answer.specs.Marks.{truth_at, each_number, Adds}
 use Rattle.mail_answer.proofs.TruthLists.{told}
 
-or_assoc : (a b c : Bool) → ((a || b) || c) ≡ (a || (b || c))
-or_assoc true b c = refl
-or_assoc false b c = refl
-
-or_false : (a b : Bool) → b ≡ false → (a || b) ≡ a
-or_false true b e = refl
-or_false false b e = e
-
--- two tests, one after the other
-pub adds_both : (f g h : ℕ → Bool) (xs ys zs : List Bool) → Adds f xs ys → Adds g ys zs → ((n : ℕ) → h n ≡ (f n || g n)) → Adds h xs zs
-adds_both f g h xs ys zs first second all = record {
-  long = second.long ∙ first.long;
-  each = λ n lt.
-      let within : n < length ys = omega (arith, first.long, lt) in
-      second.each n within ∙ ap (λ (b : Bool). b || g n) (first.each n lt) ∙ or_assoc (truth_at xs n) (f n) (g n) ∙ ap (λ (b : Bool). truth_at xs n || b) (sym (all n));
-}
-
 -- a test that tells the same
 pub adds_same : (f h : ℕ → Bool) (xs ys : List Bool) → Adds f xs ys → ((n : ℕ) → h n ≡ f n) → Adds h xs ys
 adds_same f h xs ys adds all = record {

@@ -67,14 +67,6 @@ or_false : (b : Bool) → (b || false) ≡ b
 or_false true = refl
 or_false false = refl
 
-pub narrowed_none : (t : Table) (q : Query) (coming : List Query) (xs : List Bool) → q ≡ All (members_of coming) → xs ≡ replicate (length t.messages) true → IsNarrowed t q coming xs
-narrowed_none t q coming xs asks all = record {
-  long = ap length all ∙ length-replicate (length t.messages) true;
-  each = λ n lt.
-      ap (λ (b : Bool). b && each_is_true (members_of coming) (facts_at t n)) (ap (λ (zs : List Bool). truth_at zs n) all ∙ get_or-replicate (length t.messages) n true false lt)
-      ∙ sym (ap (λ (p : Query). is_true p (facts_at t n)) asks);
-}
-
 pub narrowed_more : (t : Table) (q r : Query) (last coming : List Query) (xs ys others : List Bool) → IsNarrowed t q last xs → last ≡ r ∷ coming → others ≡ truths t r → length ys ≡ length xs
     → ((n : ℕ) → n < length xs → truth_at ys n ≡ (truth_at xs n && truth_at others n)) → IsNarrowed t q coming ys
 narrowed_more t q r last coming xs ys others given split are long both = record {

@@ -17,8 +17,5 @@ query_of-Part kinds text = search (rules, the_lemmas)
 pub query_of-Prefix : (kinds : Kinds) (text : List ℕ) → query_of (node.Prefix kinds text) ≡ Prefix kinds text
 query_of-Prefix kinds text = search (rules, the_lemmas)
 
-pub query_of-All : (members : Vec Node Global) → query_of (node.All members) ≡ All (members_of (queries_of members.items))
-query_of-All members = search (rules, the_lemmas)
-
 pub query_of-Either : (members : Vec Node Global) → query_of (node.Either members) ≡ Either (members_of (queries_of members.items))
 query_of-Either members = search (rules, the_lemmas)

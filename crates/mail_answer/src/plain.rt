@@ -51,16 +51,16 @@ fn truths_of(alloc: Global, index: &IndexView<'_>, node: &Node) -> Result<Vec<bo
     }
 }
 
-/// The numbers of the messages that satisfy the query, rising, from 0.
+/// The numbers of the messages that satisfy the query, from 0, rising.
 ///
-/// The index is one that `IndexView::open` gave, so its table keeps the rules of tables.
+/// The table of the index keeps the rules of tables, as that of each index that `IndexView::open` gave does.
 ///
-/// Each node of the query goes over all messages once, and over the numbers of the keys that it names; a Part or a Prefix looks at
-/// each key of its kinds too. The memory is a byte for each message, at most once more than the query has levels, and the answer.
+/// Each node of the query goes over all messages once, and over the numbers of the keys that it names; a Part or a Prefix also looks
+/// at each key of its kinds. The memory is a byte for each message, at most once for each level of the query, and that of the answer.
 ///
 /// # Errors
 ///
-/// `AllocError` where there is no memory for that.
+/// `AllocError` where that memory is refused.
 pub fn plain_matches(
     alloc: Global,
     index: &IndexView<'_>,

@@ -22,8 +22,9 @@ fn each_record<F: Fn(Record) -> bool + Drop>(
     ensures long { IfOk result (λ v. length v.items ≡ length index.now.messages) }
     ensures each { IfOk result (λ v. (n : ℕ) (m : Record) → slice_get index.now.messages n ≡ Some m → F.post test m (truth_at v.items n)) }
 {
-    let mut answers = Vec::new(alloc);
-    for n in 0..index.message_count() {
+    let count = index.message_count();
+    let mut answers = Vec::with_capacity(alloc, count as usize)?;
+    for n in 0..count {
         answers.push(test(index.message(n)))?;
     }
     Ok(answers)
