@@ -64,3 +64,24 @@ fn patterns_choose_messages(rt: HostRuntime) -> Result<(), Fail> {
     }
     Ok(())
 }
+
+// Each refused allocation is answered as want of memory, and nothing else is answered than all or that.
+#[test]
+fn sweep_all_numbers_or_want_of_memory(rt: HostRuntime) -> Result<(), Fail> {
+    let now = Moment::new(1_053_259_200).ok_or("a moment")?;
+    let index = IndexView::open(INDEX)?;
+    let Ok(pattern) = String::from_str(rt.alloc(), "s:~re,hello/~h=") else {
+        return Ok(());
+    };
+    let mut patterns = Vec::new(rt.alloc());
+    if patterns.push(pattern).is_err() {
+        return Ok(());
+    }
+    let Ok(query) = read_mairix(rt.alloc(), patterns.as_slice(), now) else {
+        return Ok(());
+    };
+    if let Ok(chosen) = plain_matches(rt.alloc(), &index, &query) {
+        assert_eq!(rt; chosen.as_slice(), [0].as_slice());
+    }
+    Ok(())
+}
