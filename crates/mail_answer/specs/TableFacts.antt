@@ -1,7 +1,6 @@
 -- What a table says of its messages, and which of them satisfy a query.
 use Rattle.std.specs.Prelude.{ℕ, Bool, false, nat_eq, List, length, map, filter, None}
 use Rattle.std.specs.List.{list_any, range_with_len, slice_index_or}
-use Rattle.mail_words.specs.declared.kind.TextKind.{TextKind}
 use Rattle.mail_index.specs.declared.kind.Kind.{Kind}
 use Rattle.mail_index.specs.declared.kind.Kind.TheVariants.{Text, OwnId}
 use Rattle.mail_index.specs.declared.record.Record.{Record}
@@ -45,13 +44,13 @@ abbrev pub facts_at : Table → ℕ → Facts
 facts_at t n = facts_of_record t n (record_at t.messages n)
 
 -- the numbers of the messages
-abbrev pub numbers_of : Table → List ℕ
-numbers_of t = range_with_len 0 (length t.messages)
+abbrev pub message_numbers : Table → List ℕ
+message_numbers t = range_with_len 0 (length t.messages)
 
 -- for each message in order whether it satisfies the query
 abbrev pub truths : Table → Query → List Bool
-truths t q = map (λ n. is_true q (facts_at t n)) (numbers_of t)
+truths t q = map (λ n. is_true q (facts_at t n)) (message_numbers t)
 
 -- the rising numbers of the messages that satisfy the query
 abbrev pub chosen_numbers : Table → Query → List ℕ
-chosen_numbers t q = filter (λ n. is_true q (facts_at t n)) (numbers_of t)
+chosen_numbers t q = filter (λ n. is_true q (facts_at t n)) (message_numbers t)

@@ -1,2 +1,13 @@
-//! Which messages of an index satisfy a query.
+//! Answers to queries from an index: which of its messages satisfy a query.
 #![tactic(auto)]
+
+mod plain;
+
+pub use plain::plain_matches;
+
+mod fit;
+mod marks;
+mod records;
+#[cfg(test)]
+mod tests;
+mod texts;

@@ -1,0 +1,61 @@
+-- A text within another.
+use Rattle.std.proofs.Common.{◌≡◌, ◌∙◌, ◌+◌, ◌<◌, ◌≤◌, ℕ, zero, suc, true, false, List, [], ◌∷◌, length, take, Option, Some, None, sym, ap, arith}
+use Rattle.std.specs.Prelude.{nat_eq, is_some}
+use Rattle.std.specs.List.{starts_with, slice_index}
+use Rattle.std.proofs.lemmas.List.{ext_get_or, length-take-le, length-take, get_or-take}
+use Rattle.std.proofs.lemmas.Bool.{false_from_ne_true, or_left, or_right, or_from}
+use Rattle.std.proofs.lemmas.Slice.Eq.{bytes_eq-Decides}
+use Rattle.memchr.specs.Find.{OccursAt, FindsNeedle}
+use Rattle.mail_query.specs.Truth.{contains_text}
+
+begins_from : (hay needle : List ℕ) → OccursAt hay needle 0 → starts_with nat_eq hay needle ≡ true
+begins_from hay needle at =
+    (bytes_eq-Decides needle (take (length needle) hay)).1 (
+    let fits : length needle ≤ length hay = omega (arith, at.fits) in
+    let long : length (take (length needle) hay) ≡ length needle = length-take-le (length needle) hay fits in
+    ext_get_or 0 needle (take (length needle) hay) (sym long) (λ i lt.
+    let here : slice_index hay (0 + i) ≡ slice_index needle i = at.reads i lt in
+    let plain : 0 + i ≡ i = omega arith in
+    sym (get_or-take (length needle) hay i 0 lt ∙ ap (slice_index hay) (sym plain) ∙ here)))
+
+begins_at : (hay needle : List ℕ) → starts_with nat_eq hay needle ≡ true → OccursAt hay needle 0
+begins_at hay needle begins =
+    let same : needle ≡ take (length needle) hay = (bytes_eq-Decides needle (take (length needle) hay)).0 begins in
+    let long : length needle ≡ length (take (length needle) hay) = ap length same in
+    record {
+      fits = omega (arith, long, length-take (length needle) hay);
+      reads = λ j lt.
+          let plain : 0 + j ≡ j = omega arith in
+          ap (slice_index hay) plain ∙ sym (get_or-take (length needle) hay j 0 lt) ∙ sym (ap (λ (xs : List ℕ). slice_index xs j) same);
+    }
+
+-- one byte on
+later : (b : ℕ) (hay needle : List ℕ) (k : ℕ) → OccursAt hay needle k → OccursAt (b ∷ hay) needle (suc k)
+later b hay needle k at = record {
+  fits = omega (arith, at.fits);
+  reads = λ j lt. let step : suc k + j ≡ suc (k + j) = omega arith in ap (slice_index (b ∷ hay)) step ∙ at.reads j lt;
+}
+
+earlier : (b : ℕ) (hay needle : List ℕ) (k : ℕ) → OccursAt (b ∷ hay) needle (suc k) → OccursAt hay needle k
+earlier b hay needle k at = record {
+  fits = omega (arith, at.fits);
+  reads = λ j lt. let step : suc k + j ≡ suc (k + j) = omega arith in ap (slice_index (b ∷ hay)) (sym step) ∙ at.reads j lt;
+}
+
+contained : (text hay : List ℕ) (k : ℕ) → OccursAt hay text k → contains_text text hay ≡ true
+contained text [] zero at = begins_from [] text at
+contained text [] (suc k) at = absurd (omega (arith, at.fits))
+contained text (b ∷ hay) zero at = or_left (starts_with nat_eq (b ∷ hay) text) (contains_text text hay) (begins_from (b ∷ hay) text at)
+contained text (b ∷ hay) (suc k) at = or_right (starts_with nat_eq (b ∷ hay) text) (contains_text text hay) (contained text hay k (earlier b hay text k at))
+
+not_contained : (text hay : List ℕ) → ((k : ℕ) → k < length hay + 1 → ¬ OccursAt hay text k) → contains_text text hay ≡ false
+not_contained text [] none = false_from_ne_true (starts_with nat_eq [] text) (λ e. none 0 (omega arith) (begins_at [] text e))
+not_contained text (b ∷ hay) none =
+    or_from (starts_with nat_eq (b ∷ hay) text) (contains_text text hay)
+    (false_from_ne_true (starts_with nat_eq (b ∷ hay) text) (λ e. none 0 (omega arith) (begins_at (b ∷ hay) text e)))
+    (not_contained text hay (λ k lt at. none (suc k) (omega (arith, lt)) (later b hay text k at)))
+
+-- what a search for the text finds
+pub found : (text hay : List ℕ) (r : Option ℕ) → FindsNeedle hay text 0 r → is_some r ≡ contains_text text hay
+found text hay None h = sym (not_contained text hay (λ k lt at. h k (omega arith) lt at))
+found text hay (Some k) h = sym (contained text hay k h.1)

@@ -1,0 +1,7 @@
+pub mod TruthLists
+pub mod TextLemmas
+pub mod Containing
+pub mod Adding
+pub mod MemberLemmas
+pub mod NodeQueries
+mod RowsTableFacts

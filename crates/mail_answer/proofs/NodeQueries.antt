@@ -1,0 +1,21 @@
+-- What a node asks, by its kind.
+use Rattle.std.proofs.Common.{◌≡◌, ℕ, List, Vec, Global, rules}
+use Rattle.mail_query.specs.declared.kinds.Kinds.{Kinds}
+use Rattle.mail_query.specs.declared.node.Node as node
+use Rattle.mail_query.specs.declared.node.Node.{Node, the_lemmas}
+use Rattle.mail_query.specs.Query.{Any, Word, Part, Prefix, All, Either, query_of, queries_of, members_of}
+
+pub query_of-Any : query_of node.Any ≡ Any
+query_of-Any = search (rules, the_lemmas)
+
+pub query_of-Word : (kinds : Kinds) (text : List ℕ) → query_of (node.Word kinds text) ≡ Word kinds text
+query_of-Word kinds text = search (rules, the_lemmas)
+
+pub query_of-Part : (kinds : Kinds) (text : List ℕ) → query_of (node.Part kinds text) ≡ Part kinds text
+query_of-Part kinds text = search (rules, the_lemmas)
+
+pub query_of-Prefix : (kinds : Kinds) (text : List ℕ) → query_of (node.Prefix kinds text) ≡ Prefix kinds text
+query_of-Prefix kinds text = search (rules, the_lemmas)
+
+pub query_of-Either : (members : Vec Node Global) → query_of (node.Either members) ≡ Either (members_of (queries_of members.items))
+query_of-Either members = search (rules, the_lemmas)

@@ -1,0 +1,48 @@
+-- Lists with a truth for each message.
+use Rattle.std.proofs.Common.{◌≡◌, ◌∙◌, ◌+◌, ◌<◌, ℕ, zero, suc, Bool, true, false, cond, not, List, [], ◌∷◌, ◌++◌, length, map, Some, refl, sym, ap, arith}
+use Rattle.std.specs.List.{filter, range_with_len, slice_get}
+use Rattle.std.proofs.lemmas.List.{map-id, ext_get_or, length-map, get_or-map, append-nil}
+use Rattle.std.proofs.lemmas.List.FromFn.{filter_of_map_range_with_len_more, fill_by_all}
+use Rattle.mail_index.specs.declared.record.Record.{Record}
+use Rattle.mail_answer.specs.TableFacts.{record_at}
+use Rattle.mail_answer.specs.Marks.{truth_at, each_number}
+
+-- the record that a list gives
+pub record_known : (messages : List Record) (n : ℕ) → n < length messages → slice_get messages n ≡ Some (record_at messages n)
+record_known [] n lt = absurd (omega (arith, lt))
+record_known (m ∷ ms) zero lt = refl
+record_known (m ∷ ms) (suc n) lt = record_known ms n (omega (arith, lt))
+
+pub record_within : (messages : List Record) (n : ℕ) (m : Record) → slice_get messages n ≡ Some m → n < length messages
+record_within [] n m known = absurd cc
+record_within (r ∷ rs) zero m known = omega arith
+record_within (r ∷ rs) (suc n) m known = let rest : n < length rs = record_within rs n m known in omega arith
+
+-- as many truths as messages, each of which the test tells
+pub told : (count : ℕ) (test : ℕ → Bool) (xs : List Bool) → length xs ≡ count → ((n : ℕ) → n < count → truth_at xs n ≡ test n) → xs ≡ each_number count test
+told count test xs long each = fill_by_all test xs count false long each
+
+-- each truth turned
+pub turned : (xs ys : List Bool) → length ys ≡ length xs → ((n : ℕ) → n < length xs → truth_at ys n ≡ not (truth_at xs n)) → ys ≡ map not xs
+turned xs ys long each =
+    ext_get_or false ys (map not xs) (long ∙ sym (length-map xs not)) (λ n lt.
+    let within : n < length xs = omega (arith, long, lt) in
+    each n within ∙ sym (get_or-map not xs n false false within))
+
+-- ---- the numbers of those that are true
+
+-- one number more is looked at
+pub filter_more : (test : ℕ → Bool) (n : ℕ) → filter test (range_with_len 0 (n + 1)) ≡ filter test (range_with_len 0 n) ++ cond (test n) (n ∷ []) []
+filter_more test n =
+    sym (ap (filter test) (map-id (range_with_len 0 (n + 1)))) ∙ filter_of_map_range_with_len_more test (λ (m : ℕ). m) 0 n n (omega arith)
+    ∙ ap (λ (ms : List ℕ). filter test ms ++ cond (test n) (n ∷ []) []) (map-id (range_with_len 0 n))
+
+-- it is true, and joins them
+pub filter_true : (test : ℕ → Bool) (n : ℕ) (xs ys : List ℕ) → xs ≡ filter test (range_with_len 0 n) → test n ≡ true → ys ≡ xs ++ n ∷ [] → ys ≡ filter test (range_with_len 0 (n + 1))
+filter_true test n xs ys front here whole =
+    whole ∙ ap (λ (ms : List ℕ). ms ++ n ∷ []) front ∙ sym (ap (λ (b : Bool). filter test (range_with_len 0 n) ++ cond b (n ∷ []) []) here) ∙ sym (filter_more test n)
+
+-- it isn't
+pub filter_false : (test : ℕ → Bool) (n : ℕ) (xs : List ℕ) → xs ≡ filter test (range_with_len 0 n) → test n ≡ false → xs ≡ filter test (range_with_len 0 (n + 1))
+filter_false test n xs front here =
+    front ∙ sym (append-nil (filter test (range_with_len 0 n))) ∙ sym (ap (λ (b : Bool). filter test (range_with_len 0 n) ++ cond b (n ∷ []) []) here) ∙ sym (filter_more test n)

@@ -1,0 +1,36 @@
+-- Lists with a truth for each message, while they grow.
+use Rattle.std.specs.Prelude.{◌≡◌, ℕ, ◌<◌, Bool, false, ◌&&◌, ◌||◌, List, length, map, bytes_eq}
+use Rattle.std.specs.List.{list_any, range_with_len, slice_index_or}
+use Rattle.mail_words.specs.declared.kind.TextKind.{TextKind}
+use Rattle.mail_query.specs.declared.kinds.Kinds.{Kinds}
+use Rattle.mail_query.specs.Kinds.{has_kind}
+use Rattle.mail_query.specs.Truth.{Facts, contains_text, begins_with}
+use Rattle.mail_answer.specs.TableFacts.{is_among}
+use Rattle.mail_answer.specs.declared.fit.Fit.{Fit}
+use Rattle.mail_answer.specs.declared.fit.Fit.TheVariants.{Whole, Within, Front}
+
+abbrev pub truth_at : List Bool → ℕ → Bool
+truth_at truths n = slice_index_or truths n false
+
+-- for each of so many messages what the test says of its number
+abbrev pub each_number : ℕ → (ℕ → Bool) → List Bool
+each_number count test = map test (range_with_len 0 count)
+
+-- the messages whose numbers pass the test joined those that were true
+pub record Adds (test : ℕ → Bool) (old new : List Bool) : Type 0 where
+  pub long : length new ≡ length old
+  pub each : (n : ℕ) → n < length old → truth_at new n ≡ (truth_at old n || test n)
+
+-- how a text has to lie in a key
+abbrev pub fits : Fit → List ℕ → List ℕ → Bool
+fits Whole = bytes_eq
+fits Within = contains_text
+fits Front = begins_with
+
+-- some of these keys, each with its numbers, passes and has the number
+abbrev pub some_key : (List ℕ → Bool) → ℕ → List (List ℕ × List ℕ) → Bool
+some_key passes n keys = list_any (λ k. passes k.0 && is_among n k.1) keys
+
+-- some text passes, of those of these kinds that are in the set
+abbrev pub some_text : List TextKind → (List ℕ → Bool) → Kinds → Facts → Bool
+some_text text_kinds passes kinds m = list_any (λ kind. has_kind kinds kind && list_any passes (m.words kind)) text_kinds
