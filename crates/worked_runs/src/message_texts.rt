@@ -2,6 +2,7 @@
 use mail_words::{Flags, TextKind};
 use mime_text::{MessageText, SinkFault, TextFault, TextSink};
 use std::alloc::Global;
+use std::process::Abort;
 use std::test::Fail;
 
 /// A sink that keeps the texts that it takes, each with its kind, and refuses one for which it has no room.
@@ -103,4 +104,55 @@ fn a_refused_end_fails(rt: HostRuntime) -> Result<(), Fail> {
         assert_eq!(rt; text.as_str(), "lunch");
     }
     Ok(())
+}
+
+/// Whether a call failed: for want of memory, where none has before it, and else as each does behind such a one.
+fn has_failed(rt: &impl Abort, answer: Result<(), TextFault>, failed: bool) -> bool {
+    let Err(fault) = answer else {
+        assert!(rt; !failed);
+        return false;
+    };
+    if failed {
+        assert_eq!(rt; fault, TextFault::Failed);
+    } else {
+        assert!(rt;
+            fault == TextFault::OutOfMemory || fault == TextFault::Sink(SinkFault::OutOfMemory)
+        );
+    }
+    true
+}
+
+/// The gate refuses each allocation of this test in turn.
+#[test]
+fn sweep_message_text(rt: HostRuntime) {
+    let mut sink = Kept::new(rt.alloc(), 9);
+    let Ok(mut message) = MessageText::new(rt.alloc()) else {
+        return;
+    };
+    let mut failed = false;
+    failed = has_failed(&rt, message.line(b"Message-ID: <a@x>\n", &mut sink), failed);
+    failed = has_failed(&rt, message.line(b"Subject: lunch\n", &mut sink), failed);
+    failed = has_failed(&rt, message.line(b"\n", &mut sink), failed);
+    failed = has_failed(&rt, message.line(b"break", &mut sink), failed);
+    let facts = match message.end(&mut sink) {
+        Ok(facts) => facts,
+        Err(fault) => {
+            let _ = has_failed(&rt, Err(fault), failed);
+            return;
+        }
+    };
+    assert!(rt; !failed);
+    assert_eq!(rt; sink.texts.len(), 2);
+    for ((kind, text), wanted) in sink
+        .texts
+        .iter()
+        .zip([(TextKind::Subject, "lunch"), (TextKind::Body, "break")])
+    {
+        assert_eq!(rt; (*kind, text.as_str()), wanted);
+    }
+    assert_eq!(rt;
+        facts.own_id.map(|id| id.as_bytes() == b"a@x".as_slice()),
+        Some(true)
+    );
+    assert_eq!(rt; facts.ids.as_slice().len(), 1);
 }
