@@ -6,6 +6,8 @@ mod command_lines;
 #[cfg(test)]
 mod fixture;
 #[cfg(test)]
+mod message_texts;
+#[cfg(test)]
 mod rows;
 #[cfg(test)]
 mod sweeps;
