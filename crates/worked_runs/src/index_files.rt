@@ -23,6 +23,60 @@ const BODY: &[u8] = b"MAIRIX\r\n\
     hellohi\
     \x01\x01";
 
+/// Its message.
+const ONLY: Record = Record {
+    archive: 0,
+    offset: 0,
+    length: 58,
+    size: 19,
+    date: None,
+    flags: Flags {
+        seen: false,
+        replied: false,
+        flagged: false,
+    },
+};
+
+// The messages of a file of two archives.
+const FIRST: Record = Record {
+    archive: 0,
+    offset: 0,
+    length: 100,
+    size: 60,
+    date: Some(-1),
+    flags: Flags {
+        seen: true,
+        replied: false,
+        flagged: false,
+    },
+};
+
+const SECOND: Record = Record {
+    archive: 0,
+    offset: 100,
+    length: 50,
+    size: 20,
+    date: Some(1_041_501_600),
+    flags: Flags {
+        seen: true,
+        replied: true,
+        flagged: true,
+    },
+};
+
+const THIRD: Record = Record {
+    archive: 1,
+    offset: 7,
+    length: 30,
+    size: 0,
+    date: None,
+    flags: Flags {
+        seen: false,
+        replied: true,
+        flagged: false,
+    },
+};
+
 /// The kinds by their numbers, from 1.
 const KINDS: [Kind; 8] = [
     Kind::Text(TextKind::To),
@@ -34,6 +88,9 @@ const KINDS: [Kind; 8] = [
     Kind::OwnId,
     Kind::LinkId,
 ];
+
+/// Each bit of a byte.
+const BITS: [u8; 8] = [1, 2, 4, 8, 16, 32, 64, 128];
 
 /// These bytes with their digest.
 fn signed(alloc: Global, body: &[u8]) -> Result<Vec<u8>, AllocError> {
@@ -57,11 +114,11 @@ fn with_bytes_at(
     Ok(changed)
 }
 
-/// The bytes with one bit turned, 0 being the lowest of the first byte.
-fn with_bit_turned(alloc: Global, bytes: &[u8], bit: usize) -> Result<Vec<u8>, AllocError> {
+/// The bytes with the bits of a mask turned in one of them.
+fn with_turned(alloc: Global, bytes: &[u8], at: usize, mask: u8) -> Result<Vec<u8>, AllocError> {
     let mut changed = bytes.to_vec(alloc)?;
-    if let Some(byte) = changed.get_mut(bit / 8) {
-        *byte ^= 1 << (bit % 8);
+    if let Some(byte) = changed.get_mut(at) {
+        *byte ^= mask;
     }
     Ok(changed)
 }
@@ -163,45 +220,11 @@ fn written(rt: &impl Abort, alloc: Global) -> Result<Vec<u8>, Fail> {
     builder.add(Kind::Text(TextKind::Body), b"hi")?;
     builder.add(Kind::Text(TextKind::Subject), b"hello")?;
     builder.add(Kind::Text(TextKind::Body), b"hi")?;
-    builder.end_message(Record {
-        archive: 0,
-        offset: 0,
-        length: 58,
-        size: 19,
-        date: None,
-        flags: Flags {
-            seen: false,
-            replied: false,
-            flagged: false,
-        },
-    })?;
+    builder.end_message(ONLY)?;
     builder.end_archive(58)?;
     let mut out = MemoryOut::new(alloc, None);
     assert_eq!(rt; builder.write(&mut out), Ok(195));
     Ok(out.bytes().to_vec(alloc)?)
-}
-
-#[test]
-fn a_written_file_is_read(rt: HostRuntime) -> Result<(), Fail> {
-    let alloc = rt.alloc();
-    let file = written(&rt, alloc)?;
-    assert_eq!(rt; file.as_slice(), signed(alloc, BODY)?.as_slice());
-    assert_eq!(rt; file.len(), 195);
-    assert_eq!(rt; fault_of(&rt, alloc, &file)?, None);
-    let decoded = decode(alloc, &file)?;
-    let paths: Vec<&str> = decoded
-        .archives
-        .iter()
-        .map(|archive| archive.path.as_str())
-        .collect(alloc)?;
-    assert_eq!(rt; paths.as_slice(), ["m.mbox"].as_slice());
-    for (key, (kind, text)) in decoded.keys.iter().zip([(5u8, "hello"), (6, "hi")]) {
-        assert_eq!(rt; key.kind, kind);
-        assert_eq!(rt; key.text.as_slice(), text.as_bytes());
-        assert_eq!(rt; key.numbers.as_slice(), [0].as_slice());
-    }
-    assert_eq!(rt; decoded.keys.len(), 2);
-    Ok(())
 }
 
 /// What a builder writes that is given two archives and three messages, with keys of every kind.
@@ -230,54 +253,317 @@ fn written_of_two(rt: &impl Abort, alloc: Global) -> Result<Vec<u8>, Fail> {
     builder.end_message(THIRD)?;
     builder.end_archive(37)?;
     let mut out = MemoryOut::new(alloc, None);
-    assert!(rt; builder.write(&mut out).is_ok());
+    assert_eq!(rt; builder.write(&mut out), Ok(445));
     Ok(out.bytes().to_vec(alloc)?)
 }
 
-const FIRST: Record = Record {
-    archive: 0,
-    offset: 0,
-    length: 100,
-    size: 60,
-    date: Some(-1),
-    flags: Flags {
-        seen: true,
-        replied: false,
-        flagged: false,
-    },
-};
+/// The file of the table with nothing in it.
+fn written_of_none(rt: &impl Abort, alloc: Global) -> Result<Vec<u8>, Fail> {
+    let mut out = MemoryOut::new(alloc, None);
+    assert_eq!(rt; Builder::new(alloc, 0).write(&mut out), Ok(80));
+    Ok(out.bytes().to_vec(alloc)?)
+}
 
-const SECOND: Record = Record {
-    archive: 0,
-    offset: 100,
-    length: 50,
-    size: 20,
-    date: Some(1_041_501_600),
-    flags: Flags {
-        seen: true,
-        replied: true,
-        flagged: true,
-    },
-};
+/// The file, without its digest, of an archive with 130 messages of a byte each, of which the first and the last have a word.
+fn body_of_many(alloc: Global) -> Result<Vec<u8>, AllocError> {
+    let mut body = b"MAIRIX\r\n\0\0\0\x01\0\0\0\x01\0\0\0\x82\0\0\0\x01".to_vec(alloc)?;
+    for number in [13u64, 1, 3, 130] {
+        body.extend_from_slice(&number.to_be_bytes())?;
+    }
+    body.extend_from_slice(b"\0\0\0\x01m")?;
+    for offset in 0..130u64 {
+        for number in [0, offset, 1, 0, 0] {
+            body.extend_from_slice(&number.to_be_bytes())?;
+        }
+    }
+    body.extend_from_slice(b"\x06\0\0\0\0\0\0\x01")?;
+    body.extend_from_slice(&[0; 16])?;
+    body.extend_from_slice(b"x\x01\x81\x01")?;
+    Ok(body)
+}
 
-const THIRD: Record = Record {
-    archive: 1,
-    offset: 7,
-    length: 30,
-    size: 0,
-    date: None,
-    flags: Flags {
-        seen: false,
-        replied: true,
-        flagged: false,
-    },
-};
+/// Checks what a decoded file has, in its order.
+fn check_decoded(
+    rt: &impl Abort,
+    decoded: &Decoded,
+    archives: &[(&str, u64)],
+    messages: &[Record],
+    keys: &[(u8, &str, &[u32])],
+) {
+    assert_eq!(rt; decoded.archives.len(), archives.len());
+    for (archive, (path, length)) in decoded.archives.iter().zip(archives) {
+        assert_eq!(rt; archive.path.as_str(), *path);
+        assert_eq!(rt; archive.length, *length);
+    }
+    assert_eq!(rt; decoded.messages.len(), messages.len());
+    for (message, record) in decoded.messages.iter().zip(messages) {
+        assert_eq!(rt; record_of(message), Some(*record));
+    }
+    assert_eq!(rt; decoded.keys.len(), keys.len());
+    for (key, (kind, text, numbers)) in decoded.keys.iter().zip(keys) {
+        assert_eq!(rt; key.kind, *kind);
+        assert_eq!(rt; key.text.as_slice(), text.as_bytes());
+        assert_eq!(rt; key.numbers.as_slice(), *numbers);
+    }
+}
 
 #[test]
-fn a_file_of_two_archives_is_read(rt: HostRuntime) -> Result<(), Fail> {
+fn the_file_of_one_message_is_read(rt: HostRuntime) -> Result<(), Fail> {
+    let alloc = rt.alloc();
+    let file = written(&rt, alloc)?;
+    assert_eq!(rt; file.as_slice(), signed(alloc, BODY)?.as_slice());
+    assert_eq!(rt; fault_of(&rt, alloc, &file)?, None);
+    let keys = [(5, "hello", [0].as_slice()), (6, "hi", [0].as_slice())];
+    check_decoded(
+        &rt,
+        &decode(alloc, &file)?,
+        &[("m.mbox", 58)],
+        &[ONLY],
+        &keys,
+    );
+    Ok(())
+}
+
+#[test]
+fn the_file_of_two_archives_is_read(rt: HostRuntime) -> Result<(), Fail> {
     let alloc = rt.alloc();
     let file = written_of_two(&rt, alloc)?;
     assert_eq!(rt; fault_of(&rt, alloc, &file)?, None);
+    let archives = [("a.mbox", 200), ("b/\u{fc}.mbox", 37)];
+    let keys = [
+        (1, "bob", [2].as_slice()),
+        (2, "ann", [2].as_slice()),
+        (4, "ann", [0].as_slice()),
+        (6, "hi", [0, 1, 2].as_slice()),
+        (6, "hiya", [1].as_slice()),
+        (7, "1@x.org", [0].as_slice()),
+        (8, "1@x.org", [1].as_slice()),
+    ];
+    check_decoded(
+        &rt,
+        &decode(alloc, &file)?,
+        &archives,
+        &[FIRST, SECOND, THIRD],
+        &keys,
+    );
+    Ok(())
+}
+
+#[test]
+fn long_differences_are_read(rt: HostRuntime) -> Result<(), Fail> {
+    let alloc = rt.alloc();
+    let body = body_of_many(alloc)?;
+    let file = signed(alloc, &body)?;
+    assert_eq!(rt; fault_of(&rt, alloc, &file)?, None);
     let decoded = decode(alloc, &file)?;
+    assert_eq!(rt; decoded.messages.len(), 130);
+    assert_eq!(rt; decoded.keys.len(), 1);
+    for key in &decoded.keys {
+        assert_eq!(rt; key.numbers.as_slice(), [0, 129].as_slice());
+    }
+    for at in body.len().saturating_sub(4)..body.len() {
+        for mask in BITS {
+            let changed = with_turned(alloc, &body, at, mask)?;
+            let _ = fault_of(&rt, alloc, &signed(alloc, &changed)?)?;
+        }
+    }
+    Ok(())
+}
+
+#[test]
+fn a_file_of_nothing_is_read(rt: HostRuntime) -> Result<(), Fail> {
+    let alloc = rt.alloc();
+    let file = written_of_none(&rt, alloc)?;
+    assert_eq!(rt; fault_of(&rt, alloc, &file)?, None);
+    check_decoded(&rt, &decode(alloc, &file)?, &[], &[], &[]);
+    let view = IndexView::open(&file)?;
+    let mut steps = Steps::new();
+    let mut postings = view.look_up(Kind::Text(TextKind::Body), b"hi", &mut steps);
+    assert_eq!(rt; postings.next(&mut Steps::new()), None);
+    assert!(rt; steps.count() <= 1);
+    Ok(())
+}
+
+#[test]
+fn look_ups_take_few_steps(rt: HostRuntime) -> Result<(), Fail> {
+    let alloc = rt.alloc();
+    let file = signed(alloc, BODY)?;
+    let view = IndexView::open(&file)?;
+    for (kind, text, number) in [
+        (TextKind::Subject, "hello", Some(0)),
+        (TextKind::Body, "hi", Some(0)),
+        (TextKind::Body, "hello", None),
+        (TextKind::Subject, "hi", None),
+        (TextKind::To, "hello", None),
+    ] {
+        let mut steps = Steps::new();
+        let mut postings = view.look_up(Kind::Text(kind), text.as_bytes(), &mut steps);
+        assert!(rt; steps.count() <= 3);
+        assert_eq!(rt; postings.next(&mut steps), number, "{text}");
+        assert_eq!(rt; postings.next(&mut steps), None);
+    }
+    Ok(())
+}
+
+#[test]
+fn changed_files_are_refused(rt: HostRuntime) -> Result<(), Fail> {
+    let alloc = rt.alloc();
+    let file = signed(alloc, BODY)?;
+    for (at, new, fault) in [
+        (0, b"m".as_slice(), IndexFault::BadMagic),
+        (11, b"\x09", IndexFault::BadVersion),
+        (60, b"l", IndexFault::BadDigest),
+    ] {
+        let changed = with_bytes_at(alloc, &file, at, new)?;
+        assert_eq!(rt; fault_of(&rt, alloc, &changed)?, Some(fault));
+    }
+    Ok(())
+}
+
+#[test]
+fn changed_bodies_are_refused(rt: HostRuntime) -> Result<(), Fail> {
+    let alloc = rt.alloc();
+    let exchanged = b"\x06\0\0\0\0\0\0\x02\0\0\0\0\0\0\0\x05\0\0\0\0\0\0\0\x01\
+        \x05\0\0\0\0\0\0\x05\0\0\0\0\0\0\0\0\0\0\0\0\0\0\0\0";
+    for (at, new, behind, fault) in [
+        (
+            11,
+            b"\x09".as_slice(),
+            b"".as_slice(),
+            IndexFault::BadVersion,
+        ),
+        (
+            106,
+            exchanged,
+            b"",
+            IndexFault::BadLayout(Section::Directory),
+        ),
+        (
+            161,
+            b"\0\x01",
+            b"",
+            IndexFault::BadLayout(Section::Postings),
+        ),
+        (
+            161,
+            b"\x01\x02",
+            b"",
+            IndexFault::BadLayout(Section::Postings),
+        ),
+        (0, b"", b"\0", IndexFault::BadLayout(Section::Counts)),
+    ] {
+        let mut changed = with_bytes_at(alloc, BODY, at, new)?;
+        changed.extend_from_slice(behind)?;
+        let file = signed(alloc, &changed)?;
+        assert_eq!(rt; fault_of(&rt, alloc, &file)?, Some(fault), "at {at}");
+    }
+    let mut longer = with_bytes_at(alloc, BODY, 47, b"\x03")?;
+    longer.truncate(161);
+    longer.extend_from_slice(b"\x01\x81\0")?;
+    let fault = IndexFault::BadLayout(Section::Postings);
+    assert_eq!(rt;
+        fault_of(&rt, alloc, &signed(alloc, &longer)?)?,
+        Some(fault)
+    );
+    Ok(())
+}
+
+#[test]
+fn a_turned_bit_is_refused(rt: HostRuntime) -> Result<(), Fail> {
+    let alloc = rt.alloc();
+    let file = signed(alloc, BODY)?;
+    for at in 0..file.len() {
+        let fault = match at {
+            0..8 => IndexFault::BadMagic,
+            8..12 => IndexFault::BadVersion,
+            _ => IndexFault::BadDigest,
+        };
+        for mask in BITS {
+            let changed = with_turned(alloc, &file, at, mask)?;
+            assert_eq!(rt;
+                fault_of(&rt, alloc, &changed)?,
+                Some(fault),
+                "{mask} at {at}"
+            );
+        }
+    }
+    Ok(())
+}
+
+#[test]
+fn a_front_is_refused(rt: HostRuntime) -> Result<(), Fail> {
+    let alloc = rt.alloc();
+    let file = signed(alloc, BODY)?;
+    for size in 0..file.len() {
+        let fault = if size < 80 {
+            IndexFault::TooShort
+        } else {
+            IndexFault::BadDigest
+        };
+        assert_eq!(rt;
+            fault_of(&rt, alloc, &file[..size])?,
+            Some(fault),
+            "{size} bytes"
+        );
+    }
+    Ok(())
+}
+
+/// What is found wrong with each body that has one bit turned, under its own digest.
+fn faults_of_turned_bits(
+    rt: &impl Abort,
+    alloc: Global,
+    body: &[u8],
+) -> Result<Vec<Option<IndexFault>>, Refusal> {
+    let mut faults = Vec::new(alloc);
+    for at in 0..body.len() {
+        for mask in BITS {
+            let changed = with_turned(alloc, body, at, mask)?;
+            faults.push(fault_of(rt, alloc, &signed(alloc, &changed)?)?)?;
+        }
+    }
+    Ok(faults)
+}
+
+// How many there are of each was counted by hand, section by section.
+#[test]
+fn turned_bits_under_a_right_digest(rt: HostRuntime) -> Result<(), Fail> {
+    let faults = faults_of_turned_bits(&rt, rt.alloc(), BODY)?;
+    for (fault, count) in [
+        (None, 151),
+        (Some(IndexFault::BadMagic), 64),
+        (Some(IndexFault::BadVersion), 32),
+        (Some(IndexFault::BadLayout(Section::Counts)), 256),
+        (Some(IndexFault::BadLayout(Section::Archives)), 94),
+        (Some(IndexFault::BadLayout(Section::Records)), 310),
+        (Some(IndexFault::BadLayout(Section::Directory)), 381),
+        (Some(IndexFault::BadLayout(Section::Postings)), 16),
+    ] {
+        let found = faults.iter().filter(|found| **found == fault).count();
+        assert_eq!(rt; found, count, "{fault:?}");
+    }
+    Ok(())
+}
+
+#[test]
+fn turned_bits_of_two_archives(rt: HostRuntime) -> Result<(), Fail> {
+    let alloc = rt.alloc();
+    let file = written_of_two(&rt, alloc)?;
+    let body = &file[..file.len().saturating_sub(32)];
+    let faults = faults_of_turned_bits(&rt, alloc, body)?;
+    assert_eq!(rt; faults.len(), 8 * 413);
+    Ok(())
+}
+
+#[test]
+fn one_message_more_is_too_many(rt: HostRuntime) -> Result<(), Fail> {
+    let path = "m.mbox";
+    assert!(rt; is_path(path));
+    let mut builder = Builder::new(rt.alloc(), 1);
+    builder.begin_archive(path)?;
+    builder.begin_message()?;
+    builder.end_message(ONLY)?;
+    assert_eq!(rt; builder.begin_message(), Err(BuildFault::TooMany));
+    assert_eq!(rt; builder.begin_message(), Err(BuildFault::Failed));
     Ok(())
 }
