@@ -37,7 +37,29 @@ const ONLY: Record = Record {
     },
 };
 
-// The messages of a file of two archives.
+/// The index file of two archives with three messages and keys of six kinds, without its digest.
+const BODY_OF_TWO: &[u8] = b"MAIRIX\r\n\
+    \x00\x00\x00\x01\x00\x00\x00\x02\x00\x00\x00\x03\x00\x00\x00\x07\x00\x00\x00\x00\
+    \x00\x00\x00\x27\x00\x00\x00\x00\x00\x00\x00\x1d\x00\x00\x00\x00\x00\x00\x00\x09\
+    \x00\x00\x00\x00\x00\x00\x00\xc8\x00\x00\x00\x06a.mbox\
+    \x00\x00\x00\x00\x00\x00\x00\x25\x00\x00\x00\x09b/\xc3\xbc.mbox\
+    \x00\x00\x00\x00\x09\x00\x00\x00\x00\x00\x00\x00\x00\x00\x00\x00\x00\x00\x00\x00\x00\x00\x00\x64\
+    \x00\x00\x00\x00\x00\x00\x00\x3c\xff\xff\xff\xff\xff\xff\xff\xff\
+    \x00\x00\x00\x00\x0f\x00\x00\x00\x00\x00\x00\x00\x00\x00\x00\x64\x00\x00\x00\x00\x00\x00\x00\x32\
+    \x00\x00\x00\x00\x00\x00\x00\x14\x00\x00\x00\x00\x3e\x14\x0d\xa0\
+    \x00\x00\x00\x01\x02\x00\x00\x00\x00\x00\x00\x00\x00\x00\x00\x07\x00\x00\x00\x00\x00\x00\x00\x1e\
+    \x00\x00\x00\x00\x00\x00\x00\x00\x00\x00\x00\x00\x00\x00\x00\x00\
+    \x01\x00\x00\x00\x00\x00\x00\x03\x00\x00\x00\x00\x00\x00\x00\x00\x00\x00\x00\x00\x00\x00\x00\x00\
+    \x02\x00\x00\x00\x00\x00\x00\x03\x00\x00\x00\x00\x00\x00\x00\x03\x00\x00\x00\x00\x00\x00\x00\x01\
+    \x04\x00\x00\x00\x00\x00\x00\x03\x00\x00\x00\x00\x00\x00\x00\x06\x00\x00\x00\x00\x00\x00\x00\x02\
+    \x06\x00\x00\x00\x00\x00\x00\x02\x00\x00\x00\x00\x00\x00\x00\x09\x00\x00\x00\x00\x00\x00\x00\x03\
+    \x06\x00\x00\x00\x00\x00\x00\x04\x00\x00\x00\x00\x00\x00\x00\x0b\x00\x00\x00\x00\x00\x00\x00\x06\
+    \x07\x00\x00\x00\x00\x00\x00\x07\x00\x00\x00\x00\x00\x00\x00\x0f\x00\x00\x00\x00\x00\x00\x00\x07\
+    \x08\x00\x00\x00\x00\x00\x00\x07\x00\x00\x00\x00\x00\x00\x00\x16\x00\x00\x00\x00\x00\x00\x00\x08\
+    bobannannhihiya1@x.org1@x.org\
+    \x03\x03\x01\x01\x01\x01\x02\x01\x02";
+
+// Its messages.
 const FIRST: Record = Record {
     archive: 0,
     offset: 0,
@@ -227,36 +249,6 @@ fn written(rt: &impl Abort, alloc: Global) -> Result<Vec<u8>, Fail> {
     Ok(out.bytes().to_vec(alloc)?)
 }
 
-/// What a builder writes that is given two archives and three messages, with keys of every kind.
-fn written_of_two(rt: &impl Abort, alloc: Global) -> Result<Vec<u8>, Fail> {
-    let (first, second) = ("a.mbox", "b/\u{fc}.mbox");
-    assert!(rt; is_path(first));
-    assert!(rt; is_path(second));
-    let mut builder = Builder::new(alloc, 100);
-    builder.begin_archive(first)?;
-    builder.begin_message()?;
-    builder.add(Kind::Text(TextKind::From), b"ann")?;
-    builder.add(Kind::OwnId, b"1@x.org")?;
-    builder.add(Kind::Text(TextKind::Body), b"hi")?;
-    builder.end_message(FIRST)?;
-    builder.begin_message()?;
-    builder.add(Kind::Text(TextKind::Body), b"hiya")?;
-    builder.add(Kind::LinkId, b"1@x.org")?;
-    builder.add(Kind::Text(TextKind::Body), b"hi")?;
-    builder.end_message(SECOND)?;
-    builder.end_archive(200)?;
-    builder.begin_archive(second)?;
-    builder.begin_message()?;
-    builder.add(Kind::Text(TextKind::Cc), b"ann")?;
-    builder.add(Kind::Text(TextKind::To), b"bob")?;
-    builder.add(Kind::Text(TextKind::Body), b"hi")?;
-    builder.end_message(THIRD)?;
-    builder.end_archive(37)?;
-    let mut out = MemoryOut::new(alloc, None);
-    assert_eq!(rt; builder.write(&mut out), Ok(445));
-    Ok(out.bytes().to_vec(alloc)?)
-}
-
 /// The file of the table with nothing in it.
 fn written_of_none(rt: &impl Abort, alloc: Global) -> Result<Vec<u8>, Fail> {
     let mut out = MemoryOut::new(alloc, None);
@@ -327,7 +319,7 @@ fn the_file_of_one_message_is_read(rt: HostRuntime) -> Result<(), Fail> {
 #[test]
 fn the_file_of_two_archives_is_read(rt: HostRuntime) -> Result<(), Fail> {
     let alloc = rt.alloc();
-    let file = written_of_two(&rt, alloc)?;
+    let file = signed(alloc, BODY_OF_TWO)?;
     assert_eq!(rt; fault_of(&rt, alloc, &file)?, None);
     let archives = [("a.mbox", 200), ("b/\u{fc}.mbox", 37)];
     let keys = [
@@ -525,33 +517,37 @@ fn faults_of_turned_bits(
     Ok(faults)
 }
 
+/// Checks how often each fault was found: none, in magic, version, and in the sections in their order.
+fn check_tally(rt: &impl Abort, faults: &[Option<IndexFault>], counts: [usize; 8]) {
+    let kinds = [
+        None,
+        Some(IndexFault::BadMagic),
+        Some(IndexFault::BadVersion),
+        Some(IndexFault::BadLayout(Section::Counts)),
+        Some(IndexFault::BadLayout(Section::Archives)),
+        Some(IndexFault::BadLayout(Section::Records)),
+        Some(IndexFault::BadLayout(Section::Directory)),
+        Some(IndexFault::BadLayout(Section::Postings)),
+    ];
+    for (fault, count) in kinds.iter().zip(counts) {
+        let found = faults.iter().filter(|found| *found == fault).count();
+        assert_eq!(rt; found, count, "{fault:?}");
+    }
+}
+
 // How many there are of each was counted by hand, section by section.
 #[test]
 fn turned_bits_under_a_right_digest(rt: HostRuntime) -> Result<(), Fail> {
     let faults = faults_of_turned_bits(&rt, rt.alloc(), BODY)?;
-    for (fault, count) in [
-        (None, 151),
-        (Some(IndexFault::BadMagic), 64),
-        (Some(IndexFault::BadVersion), 32),
-        (Some(IndexFault::BadLayout(Section::Counts)), 256),
-        (Some(IndexFault::BadLayout(Section::Archives)), 94),
-        (Some(IndexFault::BadLayout(Section::Records)), 310),
-        (Some(IndexFault::BadLayout(Section::Directory)), 381),
-        (Some(IndexFault::BadLayout(Section::Postings)), 16),
-    ] {
-        let found = faults.iter().filter(|found| **found == fault).count();
-        assert_eq!(rt; found, count, "{fault:?}");
-    }
+    check_tally(&rt, &faults, [151, 64, 32, 256, 94, 310, 381, 16]);
     Ok(())
 }
 
+// The counts come from a third reading of the format, in another language.
 #[test]
 fn turned_bits_of_two_archives(rt: HostRuntime) -> Result<(), Fail> {
-    let alloc = rt.alloc();
-    let file = written_of_two(&rt, alloc)?;
-    let body = &file[..file.len().saturating_sub(32)];
-    let faults = faults_of_turned_bits(&rt, alloc, body)?;
-    assert_eq!(rt; faults.len(), 8 * 413);
+    let faults = faults_of_turned_bits(&rt, rt.alloc(), BODY_OF_TWO)?;
+    check_tally(&rt, &faults, [576, 64, 32, 256, 163, 793, 1355, 65]);
     Ok(())
 }
 
