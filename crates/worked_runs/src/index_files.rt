@@ -543,6 +543,19 @@ fn turned_bits_under_a_right_digest(rt: HostRuntime) -> Result<(), Fail> {
     Ok(())
 }
 
+// One fault more, in the postings and in the archive's name: the first counts, and few bits mend it.
+#[test]
+fn the_first_fault_counts(rt: HostRuntime) -> Result<(), Fail> {
+    let alloc = rt.alloc();
+    let zero_difference = with_bytes_at(alloc, BODY, 161, b"\0")?;
+    let faults = faults_of_turned_bits(&rt, alloc, &zero_difference)?;
+    check_tally(&rt, &faults, [1, 64, 32, 256, 94, 310, 381, 166]);
+    let line_feed = with_bytes_at(alloc, BODY, 60, b"\n")?;
+    let faults = faults_of_turned_bits(&rt, alloc, &line_feed)?;
+    check_tally(&rt, &faults, [7, 64, 32, 256, 945, 0, 0, 0]);
+    Ok(())
+}
+
 // The counts come from a third reading of the format, in another language.
 #[test]
 fn turned_bits_of_two_archives(rt: HostRuntime) -> Result<(), Fail> {
