@@ -1,5 +1,5 @@
 //! An index file read in place.
-ghost use Rattle.std.specs.Prelude.{◌≡◌, ◌<◌, length, map, IfOk, IfErr};
+ghost use Rattle.std.specs.Prelude.{◌≡◌, ◌<◌, length, map, IsOk, IfOk, IfErr};
 ghost use Rattle.std.specs.List.{slice_get};
 ghost use Rattle.mail_index.specs.Faults.{IsFileOf, IsFirstFault};
 
@@ -37,12 +37,15 @@ impl<'a> Model for IndexView<'a> {
 
 impl<'a> IndexView<'a> {
     ghost use Rattle.mail_index.specs.Layouts.{archive_of};
+    ghost use Rattle.mail_index.specs.Tables.{Table};
     ghost use Rattle.mail_index.specs.LookUps.{numbers_at, TakesDigits, keys_of, text_and_numbers};
 
-    /// The table whose file these bytes are, or the first thing that is wrong with them. Takes no memory.
+    /// The table whose file these bytes are, or the first thing that is wrong with them. No file of a well-formed table is
+    /// refused. Takes no memory.
     pub fn open(bytes: &'a [u8]) -> Result<IndexView<'a>, IndexFault>
         ensures ok { IfOk result (λ table. IsFileOf bytes.entry.now table) }
         ensures fault { IfErr result (λ fault. IsFirstFault bytes.entry.now fault) }
+        ensures accepts { (t : Table) → IsFileOf bytes.entry.now t → IsOk result }
     {
         if let Some(fault) = signature_fault(bytes) {
             return Err(fault);

@@ -6,6 +6,10 @@ mod command_lines;
 #[cfg(test)]
 mod fixture;
 #[cfg(test)]
+mod index_decoder;
+#[cfg(test)]
+mod index_files;
+#[cfg(test)]
 mod message_texts;
 #[cfg(test)]
 mod rows;

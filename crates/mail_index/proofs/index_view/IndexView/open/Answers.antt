@@ -1,6 +1,9 @@
 use Rattle.std.proofs.Common.{◌≡◌, true, false, sym, ◌∙◌}
 use Rattle.std.proofs.Math.Facts.{Fits-lt-pow}
 use Rattle.mail_index.proofs.FileLemmas.{these_archives, has_archives, has_records, no_records}
+use Rattle.mail_index.specs.declared.fault.IndexFault.TheVariants.{BadLayout}
+use Rattle.mail_index.specs.declared.fault.Section.TheVariants.{Counts, Archives, Records, Directory, Postings}
+use Rattle.mail_index.proofs.Accepts.{no_fault}
 use Rattle.mail_index.proofs.WholeFile.{laid_out, has_directory, no_directory, has_postings, no_postings, is_file}
 use Rattle.mail_index.proofs.index_view.IndexView.open.Goals as goal
 
@@ -48,3 +51,23 @@ returns-clause-ok c =
     let d = c.are_entries.ensures.0 c.if-not-are_entries.false in
     let p = c.are_lists.ensures.0 c.if-not-are_lists.false in
     is_file bytes l f (has_postings bytes l f (record { archives = a; records = r }) d p)
+
+-- ---- bytes with a fault are the file of no table
+
+pub returns-in-Some-clause-accepts : goal.returns-in-Some-clause-accepts
+returns-in-Some-clause-accepts c t f = absurd (no_fault c.args.bytes.now t c.well_formed.0.0 f c.in-Some.fault c.in-Some.ensures)
+
+pub returns-in-None-clause-accepts : goal.returns-in-None-clause-accepts
+returns-in-None-clause-accepts c t f = absurd (no_fault c.args.bytes.now t c.well_formed.0.0 f (BadLayout Counts) (c.in_default.ensures, c.in-None.ensures))
+
+pub returns-then-not-are_archives-clause-accepts : goal.returns-then-not-are_archives-clause-accepts
+returns-then-not-are_archives-clause-accepts c t f = absurd (no_fault c.args.bytes.now t c.well_formed.0.0 f (BadLayout Archives) (returns-then-not-are_archives-clause-fault c))
+
+pub returns-then-not-are_records-clause-accepts : goal.returns-then-not-are_records-clause-accepts
+returns-then-not-are_records-clause-accepts c t f = absurd (no_fault c.args.bytes.now t c.well_formed.0.0 f (BadLayout Records) (returns-then-not-are_records-clause-fault c))
+
+pub returns-then-not-are_entries-clause-accepts : goal.returns-then-not-are_entries-clause-accepts
+returns-then-not-are_entries-clause-accepts c t f = absurd (no_fault c.args.bytes.now t c.well_formed.0.0 f (BadLayout Directory) (returns-then-not-are_entries-clause-fault c))
+
+pub returns-then-not-are_lists-clause-accepts : goal.returns-then-not-are_lists-clause-accepts
+returns-then-not-are_lists-clause-accepts c t f = absurd (no_fault c.args.bytes.now t c.well_formed.0.0 f (BadLayout Postings) (returns-then-not-are_lists-clause-fault c))
