@@ -14,6 +14,7 @@ pub mod Opening
 pub mod FileLemmas
 pub mod WholeFile
 pub mod Accepts
+pub mod SameTable
 pub mod LebLemmas
 pub mod PostingReadLemmas
 pub mod StepLemmas

@@ -46,6 +46,7 @@ impl<'a> IndexView<'a> {
         ensures ok { IfOk result (λ table. IsFileOf bytes.entry.now table) }
         ensures fault { IfErr result (λ fault. IsFirstFault bytes.entry.now fault) }
         ensures accepts { (t : Table) → IsFileOf bytes.entry.now t → IsOk result }
+        ensures same { (t : Table) → IsFileOf bytes.entry.now t → IfOk result (λ table. table ≡ t) }
     {
         if let Some(fault) = signature_fault(bytes) {
             return Err(fault);

@@ -23,4 +23,5 @@ pub mod Headings
 pub mod ArchiveSteps
 pub mod TableSteps
 pub mod ArchiveLists
+pub mod Numbers
 pub mod MessageSteps

@@ -1,5 +1,7 @@
 use Rattle.std.proofs.Common.{◌≡◌, true, false, sym, ◌∙◌}
 use Rattle.std.proofs.Math.Facts.{Fits-lt-pow}
+use Rattle.mail_index.specs.Layouts.{table_of}
+use Rattle.mail_index.proofs.SameTable.{same-table}
 use Rattle.mail_index.proofs.FileLemmas.{these_archives, has_archives, has_records, no_records}
 use Rattle.mail_index.specs.declared.fault.IndexFault.TheVariants.{BadLayout}
 use Rattle.mail_index.specs.declared.fault.Section.TheVariants.{Counts, Archives, Records, Directory, Postings}
@@ -71,3 +73,6 @@ returns-then-not-are_entries-clause-accepts c t f = absurd (no_fault c.args.byte
 
 pub returns-then-not-are_lists-clause-accepts : goal.returns-then-not-are_lists-clause-accepts
 returns-then-not-are_lists-clause-accepts c t f = absurd (no_fault c.args.bytes.now t c.well_formed.0.0 f (BadLayout Postings) (returns-then-not-are_lists-clause-fault c))
+
+pub returns-clause-same : goal.returns-clause-same
+returns-clause-same c t f = same-table c.args.bytes.now t (table_of c.in-Some-of.layout) c.well_formed.0.0 f (returns-clause-ok c)
