@@ -18,6 +18,7 @@ pub mod MessageEnds
 pub mod Chosen
 pub mod Patterns
 pub mod Places
+pub mod Asked
 pub mod Replies
 pub mod OpenMessages
 pub mod ArchiveSearches
