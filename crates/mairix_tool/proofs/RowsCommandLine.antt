@@ -60,13 +60,37 @@ word_help : plan (codes "-f" ∷ codes "rc" ∷ codes "help" ∷ []) ≡ Ok (rec
 unfolding plan clap_on_literals
 word_help = refl
 
-two_patterns : plan (codes "-f" ∷ codes "rc" ∷ codes "a" ∷ codes "b" ∷ []) ≡ Err Parse
+two_patterns : plan (codes "-f" ∷ codes "rc" ∷ codes "s:b" ∷ codes "s:a" ∷ []) ≡ Ok (record { rcfile = codes "rc"; raw = false; once = false; patterns = codes "s:b" ∷ codes "s:a" ∷ [] })
 unfolding plan clap_on_literals
 two_patterns = refl
 
-two_patterns_after_two_hyphens : plan (codes "-f" ∷ codes "rc" ∷ codes "--" ∷ codes "-r" ∷ codes "-h" ∷ []) ≡ Err Parse
+three_patterns_with_one_twice : plan (codes "-f" ∷ codes "rc" ∷ codes "b:x" ∷ codes "s:a" ∷ codes "b:x" ∷ []) ≡ Ok (record { rcfile = codes "rc"; raw = false; once = false; patterns = codes "b:x" ∷ codes "s:a" ∷ codes "b:x" ∷ [] })
 unfolding plan clap_on_literals
-two_patterns_after_two_hyphens = refl
+three_patterns_with_one_twice = refl
+
+options_between_patterns : plan (codes "s:a" ∷ codes "-r" ∷ codes "s:b" ∷ codes "-f" ∷ codes "rc" ∷ codes "s:c" ∷ codes "--once" ∷ []) ≡ Ok (record { rcfile = codes "rc"; raw = true; once = true; patterns = codes "s:a" ∷ codes "s:b" ∷ codes "s:c" ∷ [] })
+unfolding plan clap_on_literals
+options_between_patterns = refl
+
+patterns_after_two_hyphens : plan (codes "-f" ∷ codes "rc" ∷ codes "--" ∷ codes "-r" ∷ codes "-h" ∷ []) ≡ Ok (record { rcfile = codes "rc"; raw = false; once = false; patterns = codes "-r" ∷ codes "-h" ∷ [] })
+unfolding plan clap_on_literals
+patterns_after_two_hyphens = refl
+
+patterns_on_both_sides_of_two_hyphens : plan (codes "-f" ∷ codes "rc" ∷ codes "s:a" ∷ codes "--" ∷ codes "-r" ∷ codes "--" ∷ []) ≡ Ok (record { rcfile = codes "rc"; raw = false; once = false; patterns = codes "s:a" ∷ codes "-r" ∷ codes "--" ∷ [] })
+unfolding plan clap_on_literals
+patterns_on_both_sides_of_two_hyphens = refl
+
+unknown_option_between_patterns : plan (codes "-f" ∷ codes "rc" ∷ codes "s:a" ∷ codes "-x" ∷ codes "s:b" ∷ []) ≡ Err Parse
+unfolding plan clap_on_literals
+unknown_option_between_patterns = refl
+
+patterns_without_an_rcfile : plan (codes "s:a" ∷ codes "s:b" ∷ []) ≡ Err Parse
+unfolding plan clap_on_literals
+patterns_without_an_rcfile = refl
+
+help_behind_patterns : plan (codes "s:a" ∷ codes "s:b" ∷ codes "-h" ∷ []) ≡ Err Help
+unfolding plan clap_on_literals
+help_behind_patterns = refl
 
 no_words : plan ([]) ≡ Err Parse
 unfolding plan clap_on_literals

@@ -4,7 +4,7 @@ use Rattle.std.specs.Option.{option_map_or}
 use Rattle.std.specs.Str.{byte, bytes_eq}
 use Rattle.clap.specs.Words.{App, Rule, Row, Text, Kinds, new_app, new_rule, with_rule, fault_of, matches_of, first_of, all_of, rows_of, found_of, kind_of}
 use Rattle.clap.specs.Simple.{on_top}
-use Rattle.clap.specs.declared.builder.action.ArgAction.TheVariants.{Set, SetTrue}
+use Rattle.clap.specs.declared.builder.action.ArgAction.TheVariants.{Set, Append, SetTrue}
 use Rattle.clap.specs.declared.error.Error.{Error}
 use Rattle.clap.specs.declared.error.kind.ErrorKind.{ErrorKind}
 use Rattle.clap.specs.declared.error.kind.ErrorKind.TheVariants as kind
@@ -27,15 +27,15 @@ long_flag id = record (new_rule id) { long = Some id; action = Some SetTrue }
 abbrev pub rcfile_option : Rule
 rcfile_option = record (new_rule (codes "rcfile")) { short = Some (byte "f"); value_names = 1; action = Some Set; required = true }
 
--- a word that is no option
+-- the words that are no option, as many as there are
 abbrev pub pattern_argument : Rule
-pattern_argument = record (new_rule (codes "pattern")) { value_names = 1; action = Some Set }
+pattern_argument = record (new_rule (codes "pattern")) { value_names = 1; action = Some Append }
 
 -- It has a version, and so `-V` and `--version`, and as every command `-h` and `--help`.
 abbrev pub bare_command : App
 bare_command = on_top (λ s. record s { has_version = true; no_binary_name = true }) (new_app (codes "mairix"))
 
--- `mairix -f RCFILE [-r] [--once] [PATTERN]`
+-- `mairix -f RCFILE [-r] [--once] [PATTERN..]`
 abbrev pub command : App
 command = fold with_rule bare_command
     (rcfile_option

@@ -6,13 +6,14 @@ use Rattle.mairix_tool.specs.declared.command_line.UsageFault.{UsageFault}
 use Rattle.mairix_tool.specs.declared.command_line.UsageFault.TheVariants as usage
 use Rattle.mairix_tool.specs.declared.rcfile.RcFault.{RcFault}
 use Rattle.mairix_tool.specs.declared.rcfile.RcFault.TheVariants as rcfile
-use Rattle.mairix_tool.specs.declared.query_fault.QueryFault.{QueryFault}
-use Rattle.mairix_tool.specs.declared.query_fault.QueryKind.{QueryKind}
-use Rattle.mairix_tool.specs.declared.query_fault.QueryKind.TheVariants as query
+use Rattle.mail_query.specs.declared.fault.QueryFault.{QueryFault}
+use Rattle.mail_query.specs.declared.fault.QueryFaultKind.{QueryFaultKind}
+use Rattle.mail_query.specs.declared.fault.QueryFaultKind.TheVariants as query
 use Rattle.mairix_tool.specs.declared.fault.Fault.{Fault}
-use Rattle.mairix_tool.specs.declared.fault.Fault.TheVariants.{Usage, Rc, Query, Archive, Index, TooMany, Out, Memory}
+use Rattle.mairix_tool.specs.declared.fault.Fault.TheVariants.{Usage, Rc, Query, Archive, Index, Out, Memory, TooMany}
 
--- Help and Version 0; words, rcfile or query refused 2; a device failed, or no mbox 4; want of memory, or an archive too long 5
+-- Help and Version 0; words, rcfile or query refused 2; an index refused 3; a device failed, or no mbox 4; want of memory, an
+-- archive too long, or too many messages or keys 5
 abbrev pub status_of_usage : UsageFault → ℕ
 status_of_usage usage.Help = 0
 status_of_usage usage.Version = 0
@@ -24,7 +25,7 @@ abbrev pub status_of_rc : RcFault → ℕ
 status_of_rc rcfile.OutOfMemory = 5
 status_of_rc _ = 2
 
-abbrev pub status_of_query : QueryKind → ℕ
+abbrev pub status_of_query : QueryFaultKind → ℕ
 status_of_query query.OutOfMemory = 5
 status_of_query _ = 2
 
@@ -40,17 +41,9 @@ status_of_fault (Rc fault) = status_of_rc fault
 status_of_fault (Query fault) = status_of_query fault.kind
 status_of_fault (Archive number fault) = status_of_cut fault
 status_of_fault (Index fault) = 3
-status_of_fault TooMany = 5
 status_of_fault Out = 4
 status_of_fault Memory = 5
-
--- the refusals of a query, of which want of memory is none
-abbrev pub kind_refusal : QueryFault → QueryKind → Option QueryFault
-kind_refusal fault query.OutOfMemory = None
-kind_refusal fault _ = Some fault
-
-abbrev pub query_refusal : QueryFault → Option QueryFault
-query_refusal fault = kind_refusal fault fault.kind
+status_of_fault TooMany = 5
 
 -- an OutOfMemory of any layer becomes Memory
 abbrev pub of_usage : UsageFault → Fault
@@ -61,14 +54,14 @@ abbrev pub of_rc : RcFault → Fault
 of_rc rcfile.OutOfMemory = Memory
 of_rc fault = Rc fault
 
-abbrev pub of_kind : QueryFault → QueryKind → Fault
+abbrev pub of_kind : QueryFault → QueryFaultKind → Fault
 of_kind fault query.OutOfMemory = Memory
 of_kind fault _ = Query fault
 
 abbrev pub of_query : QueryFault → Fault
 of_query fault = of_kind fault fault.kind
 
--- the refusal that words, rcfile and archives determine; a device's failure and want of memory are none
+-- the refusal that words, rcfile, archives and an index determine; a device's failure and want of memory are none
 abbrev pub refusal_of : Fault → Option Fault
 refusal_of (Archive number Device) = None
 refusal_of Out = None

@@ -19,6 +19,7 @@ pub mod MessageEnds
 pub mod Chosen
 pub mod Patterns
 pub mod Places
+pub mod Asked
 pub mod Replies
 pub mod OpenMessages
 pub mod ArchiveSearches

@@ -6,11 +6,11 @@ use Rattle.mail_words.specs.declared.kind.TextKind.TheVariants as kind
 use Rattle.mail_words.specs.Words.{is_one_word}
 use Rattle.mail_words.specs.Folding.{folding}
 use Rattle.mairix_tool.specs.declared.pattern.Sought.{Sought}
-use Rattle.mairix_tool.specs.declared.query_fault.QueryFault.{QueryFault}
-use Rattle.mairix_tool.specs.declared.query_fault.QueryKind.{QueryKind}
-use Rattle.mairix_tool.specs.declared.query_fault.QueryKind.TheVariants.{NoPattern, BadPrefix, BadWord}
+use Rattle.mail_query.specs.declared.fault.QueryFault.{QueryFault}
+use Rattle.mail_query.specs.declared.fault.QueryFaultKind.{QueryFaultKind}
+use Rattle.mail_query.specs.declared.fault.QueryFaultKind.TheVariants.{NoPattern, BadPrefix, BadWord}
 
-abbrev pub refused_pattern : {A : Type 0} → QueryKind → Result A QueryFault
+abbrev pub refused_pattern : {A : Type 0} → QueryFaultKind → Result A QueryFault
 refused_pattern kind = Err (record { number = 1; kind = kind })
 
 -- the kind of text that a prefix names, and what follows the prefix: `s:` subjects, `b:` the body

@@ -9,7 +9,6 @@ use Rattle.mairix_tool.specs.declared.fault.Fault.TheVariants as of
 use Rattle.mairix_tool.specs.declared.fault.Reply.{Reply}
 use Rattle.mairix_tool.specs.declared.place.Place.{Place}
 use Rattle.mairix_tool.specs.declared.asked.Asked.{Asked}
-use Rattle.mairix_tool.specs.declared.rcfile.Rc.{Rc}
 use Rattle.mairix_tool.specs.CommandLine.{plan}
 use Rattle.mairix_tool.specs.Rcfile.{rc_of}
 use Rattle.mairix_tool.specs.Patterns.{query_of}
@@ -18,10 +17,6 @@ use Rattle.mairix_tool.specs.Places.{places_of, SoundBefore}
 use Rattle.mairix_tool.specs.RawAnswers.{raw_text}
 
 -- ---- what is asked, before any archive is looked at
-
--- the rcfile, where words and rcfile are accepted; else the first refusal
-abbrev pub asked_rc : List (List ℕ) → List ℕ → Result Rc Fault
-asked_rc words rc = fault_as of.Usage (plan words) >>= λ p. fault_as of.Rc (rc_of rc)
 
 -- of which archives and for what: of words, then rcfile, then query the first refusal counts
 abbrev pub asked : List (List ℕ) → List ℕ → Result Asked Fault

@@ -67,9 +67,9 @@ impl<T: Drop> From<AllocFailed<T>> for UsageFault {
 
 /// What the words after the program's name ask for.
 ///
-/// The command is `mairix -f RCFILE [-r] [--once] [PATTERN]`, with `-h`, `--help`, `-V` and `--version`. What clap
-/// takes of it counts: values attached as `-fRCFILE` or `-f=RCFILE`, bundles as `-rfRCFILE`, options behind the
-/// pattern, `--` before a pattern that begins with `-`, and `-` as a pattern.
+/// The command is `mairix -f RCFILE [-r] [--once] [PATTERN..]`, with `-h`, `--help`, `-V` and `--version`. What clap
+/// takes of it counts: values attached as `-fRCFILE` or `-f=RCFILE`, bundles as `-rfRCFILE`, options behind patterns or
+/// between them, `--` before patterns that begin with `-`, and `-` as a pattern. Behind `--` each word is a pattern.
 ///
 /// # Errors
 ///
@@ -201,7 +201,7 @@ fn pattern_argument<'a>(alloc: Global) -> Arg<'a>
 {
     Arg::new(alloc, "pattern")
         .value_name("PATTERN")
-        .action(ArgAction::Set)
+        .action(ArgAction::Append)
         .help("What to search for")
 }
 

@@ -1,12 +1,13 @@
 //! What the program says of a fault.
 ghost use Rattle.std.specs.Prelude.{◌≡◌, IfOk, codes};
 ghost use Rattle.std.specs.String.{string_bytes};
-ghost use Rattle.mairix_tool.specs.FaultTexts.{text_of_fault, text_of_usage, text_of_rc, text_of_query, text_of_cut, numbered};
+ghost use Rattle.mairix_tool.specs.FaultTexts.{text_of_fault, text_of_usage, text_of_rc, text_of_query, text_of_kind, text_of_cut, text_of_index, text_of_section, numbered};
 
 use crate::command_line::UsageFault;
 use crate::fault::Fault;
-use crate::query_fault::{QueryFault, QueryKind};
 use crate::rcfile::{Name, RcFault};
+use mail_index::{IndexFault, Section};
+use mail_query::{QueryFault, QueryFaultKind};
 use mbox_cutter::CutFault;
 use std::alloc::{AllocError, Global};
 
@@ -22,10 +23,10 @@ pub fn fault_text(alloc: Global, fault: &Fault) -> Result<String, AllocError>
         Fault::Archive { number, fault } => {
             numbered(alloc, "archive", u128::from(number) + 1, cut_text(fault))
         }
-        Fault::Index(_) => String::from_str(alloc, "index"),
-        Fault::TooMany => String::from_str(alloc, "too many messages or keys"),
+        Fault::Index(fault) => String::from_str(alloc, index_text(fault)),
         Fault::Out => String::from_str(alloc, "output failed"),
         Fault::Memory => String::from_str(alloc, "out of memory"),
+        Fault::TooMany => String::from_str(alloc, "too many messages or keys"),
     }
 }
 
@@ -80,13 +81,54 @@ fn missing_text(name: Name) -> &'static str
 fn query_text(alloc: Global, fault: QueryFault) -> Result<String, AllocError>
     ensures { IfOk result (λ text. string_bytes text ≡ text_of_query fault) }
 {
-    let reason = match fault.kind {
-        QueryKind::NoPattern => "no pattern",
-        QueryKind::BadPrefix => "bad prefix",
-        QueryKind::BadWord => "bad word",
-        QueryKind::OutOfMemory => return String::from_str(alloc, "out of memory"),
-    };
-    numbered(alloc, "query item", u128::from(fault.number), reason)
+    match fault.kind {
+        QueryFaultKind::OutOfMemory => String::from_str(alloc, "out of memory"),
+        kind => numbered(alloc, "query item", fault.number as u128, kind_text(kind)),
+    }
+}
+
+fn kind_text(kind: QueryFaultKind) -> &'static str
+    ensures { result.now ≡ text_of_kind kind }
+{
+    match kind {
+        QueryFaultKind::NoPattern => "no pattern",
+        QueryFaultKind::BadPrefix => "bad prefix",
+        QueryFaultKind::BadWord => "bad word",
+        QueryFaultKind::Approximate => "approximate match not supported",
+        QueryFaultKind::BadDate => "bad date",
+        QueryFaultKind::BadSize => "bad size",
+        QueryFaultKind::BadFlag => "bad flag",
+        QueryFaultKind::NeedsOperator => "operator needed",
+        QueryFaultKind::BadParenthesis => "bad parenthesis",
+        QueryFaultKind::MissingTerm => "term missing",
+        QueryFaultKind::TooDeep => "too deep",
+        QueryFaultKind::Phrase => "phrase not supported",
+        QueryFaultKind::OutOfMemory => "out of memory",
+    }
+}
+
+fn index_text(fault: IndexFault) -> &'static str
+    ensures { result.now ≡ text_of_index fault }
+{
+    match fault {
+        IndexFault::TooShort => "index: too short",
+        IndexFault::BadMagic => "index: bad magic",
+        IndexFault::BadVersion => "index: unknown version",
+        IndexFault::BadDigest => "index: bad digest",
+        IndexFault::BadLayout(section) => section_text(section),
+    }
+}
+
+fn section_text(section: Section) -> &'static str
+    ensures { result.now ≡ text_of_section section }
+{
+    match section {
+        Section::Counts => "index: bad layout in counts",
+        Section::Archives => "index: bad layout in archives",
+        Section::Records => "index: bad layout in records",
+        Section::Directory => "index: bad layout in directory",
+        Section::Postings => "index: bad layout in postings",
+    }
 }
 
 fn cut_text(fault: CutFault) -> &'static str

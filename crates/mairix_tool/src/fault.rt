@@ -1,9 +1,9 @@
 //! Why a run has no whole answer, and what it answers then.
 
 use crate::command_line::UsageFault;
-use crate::query_fault::{QueryFault, QueryKind};
 use crate::rcfile::RcFault;
 use mail_index::IndexFault;
+use mail_query::{QueryFault, QueryFaultKind};
 use mbox_cutter::{CutFault, DeviceFault};
 use std::alloc::{AllocError, AllocFailed};
 use thiserror::Error;
@@ -17,24 +17,24 @@ pub enum Fault {
     /// The rcfile is refused.
     #[error("{0}")]
     Rc(RcFault),
-    /// A pattern is refused.
+    /// The query is refused.
     #[error("{0}")]
     Query(QueryFault),
     /// The archive of this number, counted from 0, couldn't be read or is refused.
     #[error("archive: {fault}")]
     Archive { number: u64, fault: CutFault },
     /// The index is refused.
-    #[error("{0}")]
+    #[error("index: {0}")]
     Index(IndexFault),
-    /// There are more archives, messages or keys than an index has room for.
-    #[error("too many messages or keys")]
-    TooMany,
     /// The output failed.
     #[error("output failed")]
     Out,
     /// There was no memory left.
     #[error("out of memory")]
     Memory,
+    /// There are more archives, messages or keys than an index has room for.
+    #[error("too many messages or keys")]
+    TooMany,
 }
 
 /// What a run answers beside the text that goes out.
@@ -62,7 +62,7 @@ impl Fault {
             Fault::Rc(RcFault::OutOfMemory) => 5,
             Fault::Query(
                 QueryFault {
-                    kind: QueryKind::OutOfMemory,
+                    kind: QueryFaultKind::OutOfMemory,
                     ..
                 },
             ) => 5,
@@ -73,7 +73,7 @@ impl Fault {
             } => 5,
             Fault::Archive { .. } | Fault::Out => 4,
             Fault::Index(_) => 3,
-            Fault::TooMany | Fault::Memory => 5,
+            Fault::Memory | Fault::TooMany => 5,
         }
     }
 }
@@ -148,7 +148,7 @@ impl From<QueryFault> for Fault {
 
     fn from(fault: QueryFault) -> Self {
         match fault.kind {
-            QueryKind::OutOfMemory => Fault::Memory,
+            QueryFaultKind::OutOfMemory => Fault::Memory,
             _ => Fault::Query(fault),
         }
     }

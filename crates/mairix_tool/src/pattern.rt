@@ -3,10 +3,10 @@ ghost use Rattle.std.specs.Prelude.{◌≡◌, map, option_map};
 ghost use Rattle.std.specs.String.{string_bytes};
 ghost use Rattle.contract_words.specs.Answers.{Gives};
 ghost use Rattle.mairix_tool.specs.Patterns.{query_of, kind_and_rest as kind_and_rest_of};
-ghost use Rattle.mairix_tool.specs.Faults.{query_refusal};
+ghost use Rattle.mail_query.specs.Refusals.{query_refusal};
 
 use crate::owned_text::Text;
-use crate::query_fault::{QueryFault, QueryKind};
+use mail_query::{QueryFault, QueryFaultKind};
 use mail_words::{TextKind, fold, is_one_word};
 use std::alloc::Global;
 
@@ -25,13 +25,13 @@ pub fn read_patterns(alloc: Global, patterns: &[String]) -> Result<Sought, Query
     ensures { Gives (λ sought. sought) query_refusal result (query_of (map string_bytes patterns.now)) }
 {
     let Some(pattern) = patterns.first() else {
-        return Err(refused(QueryKind::NoPattern));
+        return Err(refused(QueryFaultKind::NoPattern));
     };
     let Some((kind, word)) = kind_and_rest(pattern.as_str()) else {
-        return Err(refused(QueryKind::BadPrefix));
+        return Err(refused(QueryFaultKind::BadPrefix));
     };
     if !is_one_word(word) {
-        return Err(refused(QueryKind::BadWord));
+        return Err(refused(QueryFaultKind::BadWord));
     }
     Ok(Sought {
         kind,
@@ -53,7 +53,7 @@ fn kind_and_rest(pattern: &str) -> Option<(TextKind, &str)>
 }
 
 /// The fault of the first pattern.
-fn refused(kind: QueryKind) -> QueryFault
+fn refused(kind: QueryFaultKind) -> QueryFault
     ensures { result ≡ record { number = 1; kind = kind } }
 {
     QueryFault { number: 1, kind }

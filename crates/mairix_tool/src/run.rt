@@ -4,7 +4,8 @@ ghost use Rattle.std.specs.Bool.{OnTrue};
 ghost use Rattle.std.specs.String.{string_bytes};
 ghost use Rattle.contract_words.specs.Devices.{Counted};
 ghost use Rattle.mairix_tool.specs.Faults.{fault_in, is_failed_out, is_failed_source, is_early, is_of_archive};
-ghost use Rattle.mairix_tool.specs.Replies.{asked_rc, reply_of, run_of, Replies, Runs, IsConsistent, asked, RefusesAsked, AreSoundBefore};
+ghost use Rattle.mairix_tool.specs.Asked.{asked_rc};
+ghost use Rattle.mairix_tool.specs.Replies.{reply_of, run_of, Replies, Runs, IsConsistent, asked, RefusesAsked, AreSoundBefore};
 
 use crate::answer::write_raw;
 use crate::asked::Asked;

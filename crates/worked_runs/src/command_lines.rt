@@ -6,10 +6,10 @@ use std::test::Fail;
 
 const HELP: &str = "Index and search mbox archives
 
-Usage: mairix [OPTIONS] -f <RCFILE> [PATTERN]
+Usage: mairix [OPTIONS] -f <RCFILE> [PATTERN]...
 
 Arguments:
-  [PATTERN]  What to search for
+  [PATTERN]...  What to search for
 
 Options:
   -f <RCFILE>    The file that names the archives and the index
@@ -29,6 +29,24 @@ fn accepted_words(rt: HostRuntime) -> Result<(), Fail> {
     assert_eq!(rt; plan.patterns.as_slice().len(), 1);
     assert_eq!(rt; plan.patterns.as_slice()[0].as_str(), "s:hello");
     assert_eq!(rt; usage_text(alloc, &words)?.as_str(), "");
+    Ok(())
+}
+
+#[test]
+fn accepted_patterns(rt: HostRuntime) -> Result<(), Fail> {
+    let alloc = rt.alloc();
+    let words = words(
+        alloc,
+        &["s:b", "-r", "b:a", "-f", "rc", "s:b", "--", "-h", "--"],
+    )?;
+    let plan = plan_of(alloc, &words)?;
+    assert_eq!(rt; plan.rcfile.as_str(), "rc");
+    assert!(rt; plan.raw && !plan.once);
+    let patterns = ["s:b", "b:a", "s:b", "-h", "--"];
+    assert_eq!(rt; plan.patterns.as_slice().len(), patterns.len());
+    for (told, pattern) in plan.patterns.as_slice().iter().zip(patterns) {
+        assert_eq!(rt; told.as_str(), pattern);
+    }
     Ok(())
 }
 

@@ -3,6 +3,7 @@
 
 #[cfg(test)]
 mod command_lines;
+mod fault_texts;
 #[cfg(test)]
 mod fixture;
 #[cfg(test)]

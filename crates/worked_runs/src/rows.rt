@@ -1,6 +1,7 @@
 //! Runs with answers that were worked out by hand.
 use crate::fixture::{RC, archive, run, sources, words};
-use mairix_tool::{Fault, Name, QueryFault, QueryKind, RcFault, Reply, UsageFault};
+use mail_query::{QueryFault, QueryFaultKind};
+use mairix_tool::{Fault, RcFault, Reply, UsageFault};
 use mbox_cutter::{CutFault, MemoryOut};
 use std::alloc::{AllocError, Global};
 use std::process::Abort;
@@ -181,12 +182,12 @@ fn depths_above_16_give_nothing(rt: HostRuntime) -> Result<(), Fail> {
 fn queries_are_refused(rt: HostRuntime) -> Result<(), Fail> {
     let alloc = rt.alloc();
     for (pattern, kind) in [
-        ("q:x", QueryKind::BadPrefix),
-        ("sb:x", QueryKind::BadPrefix),
-        ("x", QueryKind::BadPrefix),
-        ("s:", QueryKind::BadWord),
-        ("b:", QueryKind::BadWord),
-        ("s:a b", QueryKind::BadWord),
+        ("q:x", QueryFaultKind::BadPrefix),
+        ("sb:x", QueryFaultKind::BadPrefix),
+        ("x", QueryFaultKind::BadPrefix),
+        ("s:", QueryFaultKind::BadWord),
+        ("b:", QueryFaultKind::BadWord),
+        ("s:a b", QueryFaultKind::BadWord),
     ] {
         let words = words(alloc, &["-f", "rc", "--once", pattern])?;
         let reply = refused(2, Fault::Query(QueryFault { number: 1, kind }));
@@ -197,7 +198,7 @@ fn queries_are_refused(rt: HostRuntime) -> Result<(), Fail> {
         2,
         Fault::Query(QueryFault {
             number: 1,
-            kind: QueryKind::NoPattern,
+            kind: QueryFaultKind::NoPattern,
         }),
     );
     check_refusal(&rt, alloc, &words, RC, "^Subject: Hello||hi||", reply)
@@ -310,92 +311,6 @@ fn a_failed_write_leaves_a_front(rt: HostRuntime) -> Result<(), Fail> {
             assert_eq!(rt; reply, Some(found(1)));
             assert_eq!(rt; out.bytes(), answer.as_slice());
         }
-    }
-    Ok(())
-}
-
-#[test]
-fn each_fault_has_its_text(rt: HostRuntime) -> Result<(), Fail> {
-    let alloc = rt.alloc();
-    let query = |kind| Fault::Query(QueryFault { number: 7, kind });
-    for (fault, text) in [
-        (Fault::Usage(UsageFault::Parse), "bad words"),
-        (Fault::Usage(UsageFault::Help), "help"),
-        (Fault::Usage(UsageFault::Version), "version"),
-        (
-            Fault::Usage(UsageFault::TwoFormats),
-            "-r and -x exclude each other",
-        ),
-        (Fault::Usage(UsageFault::OutOfMemory), "out of memory"),
-        (
-            Fault::Rc(RcFault::BadLine(3)),
-            "rcfile line 3: not option=value",
-        ),
-        (
-            Fault::Rc(RcFault::NotSupported(3)),
-            "rcfile line 3: option not supported",
-        ),
-        (
-            Fault::Rc(RcFault::Wildcard(3)),
-            "rcfile line 3: wildcard not supported",
-        ),
-        (
-            Fault::Rc(RcFault::Expansion(3)),
-            "rcfile line 3: expansion not supported",
-        ),
-        (
-            Fault::Rc(RcFault::BadFormat(3)),
-            "rcfile line 3: unknown format",
-        ),
-        (
-            Fault::Rc(RcFault::Missing(Name::Mbox)),
-            "rcfile: mbox missing",
-        ),
-        (
-            Fault::Rc(RcFault::Missing(Name::Database)),
-            "rcfile: database missing",
-        ),
-        (
-            Fault::Rc(RcFault::Missing(Name::Mfolder)),
-            "rcfile: mfolder missing",
-        ),
-        (Fault::Rc(RcFault::OutOfMemory), "out of memory"),
-        (query(QueryKind::NoPattern), "query item 7: no pattern"),
-        (query(QueryKind::BadPrefix), "query item 7: bad prefix"),
-        (query(QueryKind::BadWord), "query item 7: bad word"),
-        (query(QueryKind::OutOfMemory), "out of memory"),
-        (
-            Fault::Archive {
-                number: 0,
-                fault: CutFault::Device,
-            },
-            "archive 1: read failed",
-        ),
-        (
-            Fault::Archive {
-                number: 1,
-                fault: CutFault::NotAnMbox,
-            },
-            "archive 2: not an mbox",
-        ),
-        (
-            Fault::Archive {
-                number: u64::MAX,
-                fault: CutFault::ArchiveTooLong,
-            },
-            "archive 18446744073709551616: too long",
-        ),
-        (
-            Fault::Archive {
-                number: 0,
-                fault: CutFault::Failed,
-            },
-            "archive 1: failed before",
-        ),
-        (Fault::Out, "output failed"),
-        (Fault::Memory, "out of memory"),
-    ] {
-        assert_eq!(rt; mairix_tool::fault_text(alloc, &fault)?.as_str(), text);
     }
     Ok(())
 }

@@ -3,6 +3,8 @@
 //! fixture has no memory the test ends well.
 use crate::fixture::{RC, archive, run, sources, words};
 use header_text::{Header, Taken, decode_words, message_ids, unfold};
+use mail_index::IndexFault;
+use mail_query::{QueryFault, QueryFaultKind};
 use mail_words::fold;
 use mairix_tool::{Fault, RcFault, Reply, UsageFault, fault_text, plan_of, read_rc};
 use mbox_cutter::{Cutter, Event, MemoryOut, MemorySource};
@@ -69,13 +71,14 @@ fn sweep_once_run_of_two_messages(rt: HostRuntime) {
 #[test]
 fn sweep_plan_of(rt: HostRuntime) {
     let alloc = rt.alloc();
-    let Ok(words) = words(alloc, &["-rf", "rc", "--once", "s:one"]) else {
+    let Ok(words) = words(alloc, &["-rf", "rc", "--once", "s:one", "b:a"]) else {
         return;
     };
     match plan_of(alloc, &words) {
         Ok(plan) => {
             assert_eq!(rt; plan.rcfile.as_str(), "rc");
             assert!(rt; plan.raw && plan.once);
+            assert_eq!(rt; plan.patterns.as_slice().len(), 2);
         }
         Err(fault) => assert_eq!(rt; fault, UsageFault::OutOfMemory),
     }
@@ -96,6 +99,14 @@ fn sweep_fault_text(rt: HostRuntime) {
             Fault::Rc(RcFault::Wildcard(12)),
             "rcfile line 12: wildcard not supported",
         ),
+        (
+            Fault::Query(QueryFault {
+                number: 12,
+                kind: QueryFaultKind::Approximate,
+            }),
+            "query item 12: approximate match not supported",
+        ),
+        (Fault::Index(IndexFault::BadDigest), "index: bad digest"),
         (Fault::Out, "output failed"),
     ] {
         if let Ok(told) = fault_text(rt.alloc(), &fault) {
