@@ -23,4 +23,5 @@ pub mod ReadingLines
 pub mod Headings
 pub mod ArchiveSteps
 pub mod TableSteps
+pub mod ArchiveLists
 pub mod MessageSteps

@@ -13,7 +13,7 @@ use Rattle.mairix_tool.specs.declared.query_fault.QueryFault.{QueryFault}
 use Rattle.mairix_tool.specs.declared.query_fault.QueryKind.{QueryKind}
 use Rattle.mairix_tool.specs.declared.query_fault.QueryKind.TheVariants as query
 use Rattle.mairix_tool.specs.declared.fault.Fault.{Fault}
-use Rattle.mairix_tool.specs.declared.fault.Fault.TheVariants.{Usage, Rc, Query, Archive, Out, Memory}
+use Rattle.mairix_tool.specs.declared.fault.Fault.TheVariants.{Usage, Rc, Query, Archive, Index, TooMany, Out, Memory}
 
 -- as `query item 2: bad word`
 abbrev pub numbered : List ℕ → ℕ → List ℕ → List ℕ
@@ -61,5 +61,7 @@ text_of_fault (Usage fault) = text_of_usage fault
 text_of_fault (Rc fault) = text_of_rc fault
 text_of_fault (Query fault) = text_of_query fault
 text_of_fault (Archive number fault) = numbered (codes "archive") (number + 1) (text_of_cut fault)
+text_of_fault (Index fault) = codes "index"
+text_of_fault TooMany = codes "too many messages or keys"
 text_of_fault Out = codes "output failed"
 text_of_fault Memory = codes "out of memory"

@@ -10,7 +10,7 @@ use Rattle.mairix_tool.specs.declared.query_fault.QueryFault.{QueryFault}
 use Rattle.mairix_tool.specs.declared.query_fault.QueryKind.{QueryKind}
 use Rattle.mairix_tool.specs.declared.query_fault.QueryKind.TheVariants as query
 use Rattle.mairix_tool.specs.declared.fault.Fault.{Fault}
-use Rattle.mairix_tool.specs.declared.fault.Fault.TheVariants.{Usage, Rc, Query, Archive, Out, Memory}
+use Rattle.mairix_tool.specs.declared.fault.Fault.TheVariants.{Usage, Rc, Query, Archive, Index, TooMany, Out, Memory}
 
 -- Help and Version 0; words, rcfile or query refused 2; a device failed, or no mbox 4; want of memory, or an archive too long 5
 abbrev pub status_of_usage : UsageFault → ℕ
@@ -39,6 +39,8 @@ status_of_fault (Usage fault) = status_of_usage fault
 status_of_fault (Rc fault) = status_of_rc fault
 status_of_fault (Query fault) = status_of_query fault.kind
 status_of_fault (Archive number fault) = status_of_cut fault
+status_of_fault (Index fault) = 3
+status_of_fault TooMany = 5
 status_of_fault Out = 4
 status_of_fault Memory = 5
 

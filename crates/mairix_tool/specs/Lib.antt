@@ -13,6 +13,7 @@ pub mod ArchiveRefusals
 pub mod Indexing
 pub mod Gathering
 pub mod IndexJobs
+pub mod ArchivesIndexed
 pub mod ArchiveReading
 pub mod MessageEnds
 pub mod Chosen

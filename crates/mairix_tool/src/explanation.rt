@@ -22,6 +22,8 @@ pub fn fault_text(alloc: Global, fault: &Fault) -> Result<String, AllocError>
         Fault::Archive { number, fault } => {
             numbered(alloc, "archive", u128::from(number) + 1, cut_text(fault))
         }
+        Fault::Index(_) => String::from_str(alloc, "index"),
+        Fault::TooMany => String::from_str(alloc, "too many messages or keys"),
         Fault::Out => String::from_str(alloc, "output failed"),
         Fault::Memory => String::from_str(alloc, "out of memory"),
     }

@@ -3,6 +3,7 @@
 use crate::command_line::UsageFault;
 use crate::query_fault::{QueryFault, QueryKind};
 use crate::rcfile::RcFault;
+use mail_index::IndexFault;
 use mbox_cutter::{CutFault, DeviceFault};
 use std::alloc::{AllocError, AllocFailed};
 use thiserror::Error;
@@ -22,6 +23,12 @@ pub enum Fault {
     /// The archive of this number, counted from 0, couldn't be read or is refused.
     #[error("archive: {fault}")]
     Archive { number: u64, fault: CutFault },
+    /// The index is refused.
+    #[error("{0}")]
+    Index(IndexFault),
+    /// There are more archives, messages or keys than an index has room for.
+    #[error("too many messages or keys")]
+    TooMany,
     /// The output failed.
     #[error("output failed")]
     Out,
@@ -65,7 +72,8 @@ impl Fault {
                 ..
             } => 5,
             Fault::Archive { .. } | Fault::Out => 4,
-            Fault::Memory => 5,
+            Fault::Index(_) => 3,
+            Fault::TooMany | Fault::Memory => 5,
         }
     }
 }

@@ -11,6 +11,7 @@ mod explanation;
 mod fault;
 mod file_source;
 mod gathering;
+mod index_in_memory;
 mod index_job;
 mod job_fault;
 mod laws;

@@ -1,0 +1,15 @@
+use Rattle.std.proofs.Common.{◌≡◌, ℕ, List, map, take, drop, Some, IsSome, string_bytes}
+use Rattle.mairix_tool.specs.ArchiveRefusals.{AreSound}
+use Rattle.mairix_tool.specs.ArchivesIndexed.{mboxes}
+use Rattle.mairix_tool.specs.IndexJobs.{IsIndexOf}
+use Rattle.mairix_tool.proofs.index_in_memory.index_sources.Given as goal
+
+-- the sources from this number on were not asked yet, none has failed, and the job has the archives so far, which are sound
+abbrev pub invariant-loop-number : goal.invariant-loop-number
+invariant-loop-number g l = record {
+  unread : drop l.number l.sources ≡ drop l.number l.fn.sources;
+  counts : map g.S.Source.failures l.sources ≡ map g.S.Source.failures l.fn.sources;
+  some : IsSome l.job;
+  found : (archives : List (List ℕ)) → map g.S.Source.rest l.fn.sources ≡ map Some archives
+      → IsIndexOf l.job (take l.number (mboxes (map string_bytes l.paths) archives)) × AreSound (take l.number (mboxes (map string_bytes l.paths) archives));
+}
