@@ -6,6 +6,7 @@ mod RowsRcfile
 pub mod RawTexts
 pub mod Searches
 pub mod Settings
+pub mod RcPaths
 pub mod Trimming
 pub mod Searching
 pub mod ArchiveFaults

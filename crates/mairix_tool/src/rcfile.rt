@@ -1,8 +1,9 @@
 //! What an rcfile says.
 ghost use Rattle.std.specs.Prelude.{◌≡◌, map, IfOk, string_bytes};
-ghost use Rattle.std.specs.List.{list_any, list_all};
+ghost use Rattle.std.specs.List.{All, list_any, list_all};
 ghost use Rattle.std.specs.Option.{option_to_list};
 ghost use Rattle.contract_words.specs.Answers.{Gives, collect_from};
+ghost use Rattle.mail_index.specs.Tables.{IsPath};
 ghost use Rattle.mairix_tool.specs.Path.{is_path, has_expansion, has_wildcard};
 ghost use Rattle.mairix_tool.specs.Rcfile.{names_in, setting_of, archives_in, paths_in, assigned, entry, is_skipped, line_settings, lines_in, rc_from, rc_of, rc_refusal};
 
@@ -110,7 +111,8 @@ impl<T: Drop> From<AllocFailed<T>> for RcFault {
 /// The first line that is refused, with the first of its faults in the order BadLine, NotSupported, Expansion,
 /// Wildcard; then the first of the three options that no line sets.
 pub fn read_rc(alloc: Global, rc: &[u8]) -> Result<Rc, RcFault>
-    ensures { Gives (λ r. r) rc_refusal result (rc_of rc.now) }
+    ensures given { Gives (λ r. r) rc_refusal result (rc_of rc.now) }
+    ensures paths { IfOk result (λ r. All IsPath r.paths) }
 {
     let settings = settings_in(alloc, rc)?;
     rc_from(alloc, settings)
