@@ -8,10 +8,6 @@ pub mod Searches
 pub mod Settings
 pub mod RcPaths
 pub mod Trimming
-pub mod Searching
-pub mod ArchiveFaults
-pub mod PlacesComing
-pub mod WordSearches
 pub mod Terms
 pub mod TableTruth
 pub mod TableTruthKeys
@@ -25,4 +21,6 @@ pub mod ArchiveSteps
 pub mod TableSteps
 pub mod ArchiveLists
 pub mod Numbers
+pub mod FoundAnswers
+pub mod AskedPaths
 pub mod MessageSteps

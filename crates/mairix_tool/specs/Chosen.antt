@@ -1,5 +1,5 @@
 -- What a message says to a query, and where the messages lie that satisfy one.
-use Rattle.std.specs.Prelude.{ℕ, suc, Bool, List, [], ◌∷◌, ◌++◌, map, filter, flat_map, if◌then◌else◌, Option, Some, None}
+use Rattle.std.specs.Prelude.{ℕ, suc, Bool, true, false, List, [], ◌∷◌, ◌++◌, map, filter, flat_map, if◌then◌else◌, Option, Some, None}
 use Rattle.header_text.specs.Headers.{fields_of}
 use Rattle.mail_index.specs.declared.record.Record.{Record}
 use Rattle.mail_index.specs.Tables.{Table}
@@ -7,6 +7,7 @@ use Rattle.mail_answer.specs.TableFacts.{chosen_numbers, record_at}
 use Rattle.mail_query.specs.Query.{Query}
 use Rattle.mail_query.specs.Truth.{Facts, is_true}
 use Rattle.mail_words.specs.declared.kind.TextKind.{TextKind}
+use Rattle.mail_words.specs.declared.kind.TextKind.TheVariants as kind
 use Rattle.mail_words.specs.Words.{words}
 use Rattle.mail_words.specs.Folding.{folding}
 use Rattle.mbox_cutter.specs.Archives.{Message, text, size, span_length}
@@ -15,9 +16,17 @@ use Rattle.mime_text.specs.Sinks.{Pair}
 use Rattle.mime_text.specs.Texts.{texts_of_message}
 use Rattle.mairix_tool.specs.declared.place.Place.{Place}
 use Rattle.mairix_tool.specs.ArchiveTables.{Mbox, messages_in, date_told}
-use Rattle.mairix_tool.specs.MessageTexts.{is_kind}
 
 -- ---- by the messages themselves
+
+abbrev pub is_kind : TextKind → TextKind → Bool
+is_kind kind.To kind.To = true
+is_kind kind.Cc kind.Cc = true
+is_kind kind.Bcc kind.Bcc = true
+is_kind kind.From kind.From = true
+is_kind kind.Subject kind.Subject = true
+is_kind kind.Body kind.Body = true
+is_kind _ _ = false
 
 -- the words of the texts of a kind, folded
 abbrev pub words_of : TextKind → List Pair → List (List ℕ)

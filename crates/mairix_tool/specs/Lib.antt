@@ -6,7 +6,6 @@ pub mod Faults
 pub mod JobFaults
 pub mod FaultTexts
 pub mod RawAnswers
-pub mod MessageTexts
 pub mod MessageTerms
 pub mod ArchiveTables
 pub mod ArchiveRefusals
@@ -17,9 +16,5 @@ pub mod ArchivesIndexed
 pub mod ArchiveReading
 pub mod MessageEnds
 pub mod Chosen
-pub mod Patterns
-pub mod Places
 pub mod Asked
 pub mod Replies
-pub mod OpenMessages
-pub mod ArchiveSearches

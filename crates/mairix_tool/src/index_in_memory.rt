@@ -3,8 +3,8 @@ ghost use Rattle.std.specs.Prelude.{◌≡◌, ◌<◌, ◌^◌, ◌-◌, ℕ, L
 ghost use Rattle.std.specs.Result.{MatchResult};
 ghost use Rattle.std.specs.String.{string_bytes};
 ghost use Rattle.contract_words.specs.Devices.{Counted};
-ghost use Rattle.mail_index.specs.Files.{index_file};
-ghost use Rattle.mail_index.specs.Tables.{Table, IsPath, IsWellFormed};
+ghost use Rattle.mail_index.specs.Faults.{IsFileOf};
+ghost use Rattle.mail_index.specs.Tables.{Table, IsPath};
 ghost use Rattle.mairix_tool.specs.ArchiveTables.{table};
 ghost use Rattle.mairix_tool.specs.ArchiveRefusals.{AreSound};
 ghost use Rattle.mairix_tool.specs.ArchivesIndexed.{mboxes, fault_of_job, IsArchivesFault};
@@ -42,9 +42,9 @@ pub(crate) fn index_sources<S: Source>(
     requires many { length paths.now ≡ length sources.old }
     requires paths { All IsPath (map string_bytes paths.now) }
     requires count { All (λ s. S.failures s < 2 ^ 64 - 1) sources.old }
-    ensures formed { IfOk result (λ file. (t : Table) × IsWellFormed t × (file.taken ≡ index_file t)) }
+    ensures formed { IfOk result (λ file. (t : Table) × IsFileOf file.taken t) }
     ensures known { (archives : List (List ℕ)) → map S.rest sources.old ≡ map Some archives
-        → MatchResult result (λ file. AreSound (mboxes (map string_bytes paths.now) archives) × (file.taken ≡ index_file (table (mboxes (map string_bytes paths.now) archives))))
+        → MatchResult result (λ file. AreSound (mboxes (map string_bytes paths.now) archives) × IsFileOf file.taken (table (mboxes (map string_bytes paths.now) archives)))
         (IsArchivesFault (mboxes (map string_bytes paths.now) archives)) }
     ensures count { (n : ℕ) → Counted (is_failed_source n (fault_in result))
         (slice_index (map S.failures sources.old) n) (slice_index (map S.failures sources.new) n) }

@@ -3,8 +3,6 @@
 
 mod answer;
 mod archive_index;
-mod archive_search;
-mod asked;
 mod blanks;
 mod command_line;
 mod explanation;
@@ -19,15 +17,12 @@ mod laws;
 mod message_index;
 mod owned_text;
 mod path;
-mod pattern;
 mod place;
 mod program;
 mod rcfile;
 mod run;
-mod search;
 mod term_sink;
 mod wanted;
-mod word_search;
 
 pub use command_line::{Plan, UsageFault, plan_of, usage_text};
 pub use explanation::fault_text;
@@ -36,7 +31,6 @@ pub use index_job::IndexJob;
 pub use job_fault::JobFault;
 pub use laws::the_table_tells_the_messages;
 pub use owned_text::{Text, Texts};
-pub use pattern::Sought;
 pub use place::Place;
 pub use program::run_program;
 pub use rcfile::{Name, Rc, RcFault, read_rc};

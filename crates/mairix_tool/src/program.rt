@@ -8,6 +8,7 @@ use crate::fault::Fault;
 use crate::file_source::FileSource;
 use crate::rcfile::{Rc, read_rc};
 use crate::run::once_run;
+use mail_dates::Moment;
 use mbox_cutter::{Source, ToWrite};
 use std::alloc::{AllocError, Global};
 use std::fs;
@@ -30,11 +31,12 @@ pub fn run_program<R: Files, W: Write, E: Write>(
     rt: &R,
     alloc: Global,
     words: &[String],
+    now: Moment,
     out: &mut W,
     err: &mut E,
 ) -> u8 {
     match plan_of(alloc, words) {
-        Ok(plan) => run_files(rt, alloc, words, plan.rcfile.as_str(), out, err),
+        Ok(plan) => run_files(rt, alloc, words, plan.rcfile.as_str(), now, out, err),
         Err(fault) => tell_usage(alloc, words, fault, out, err),
     }
 }
@@ -44,6 +46,7 @@ fn run_files<R: Files, W: Write, E: Write>(
     alloc: Global,
     words: &[String],
     rcfile: &str,
+    now: Moment,
     out: &mut W,
     err: &mut E,
 ) -> u8 {
@@ -53,7 +56,7 @@ fn run_files<R: Files, W: Write, E: Write>(
         Err(Unread::OutOfMemory) => return tell_fault(alloc, Fault::Memory, err),
     };
     match read_rc(alloc, &bytes) {
-        Ok(rc) => run_archives(rt, alloc, words, &bytes, &rc, out, err),
+        Ok(rc) => run_archives(rt, alloc, words, &bytes, &rc, now, out, err),
         Err(fault) => tell_fault(alloc, Fault::from(fault), err),
     }
 }
@@ -65,6 +68,7 @@ fn run_archives<R: Files, W: Write, E: Write>(
     words: &[String],
     bytes: &[u8],
     rc: &Rc,
+    now: Moment,
     out: &mut W,
     err: &mut E,
 ) -> u8
@@ -84,6 +88,7 @@ fn run_archives<R: Files, W: Write, E: Write>(
         words,
         bytes,
         &mut sources,
+        now,
         &mut ToWrite::new(&mut *out),
     );
     match reply.fault {

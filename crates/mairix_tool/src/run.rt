@@ -4,27 +4,30 @@ ghost use Rattle.std.specs.Bool.{OnTrue};
 ghost use Rattle.std.specs.String.{string_bytes};
 ghost use Rattle.contract_words.specs.Devices.{Counted};
 ghost use Rattle.mairix_tool.specs.Faults.{fault_in, is_failed_out, is_failed_source, is_early, is_of_archive};
-ghost use Rattle.mairix_tool.specs.Asked.{asked_rc};
-ghost use Rattle.mairix_tool.specs.Replies.{reply_of, run_of, Replies, Runs, IsConsistent, asked, RefusesAsked, AreSoundBefore};
+ghost use Rattle.mairix_tool.specs.Asked.{asked_rc, asked};
+ghost use Rattle.mairix_tool.specs.Replies.{Replies, Runs, IsConsistent, RefusesAsked, AreSoundBefore};
 
 use crate::answer::write_raw;
-use crate::asked::Asked;
 use crate::fault::{Fault, Reply};
-use crate::search::search_sources;
+use crate::index_answer::find_places;
+use crate::index_in_memory::index_sources;
+use crate::wanted::Wanted;
+use mail_dates::Moment;
 use mbox_cutter::{Out, Source};
 use std::alloc::Global;
 
-/// Reads the archives from their sources, and writes a line for each message that the words ask for: its offset, its length
-/// and its archive's path.
+/// Indexes the archives from their sources in memory, and writes a line for each message whose own decoded text satisfies the
+/// patterns: its offset, its length and its archive's path.
 ///
-/// `words` are those after the program's name, `rc` is the rcfile's text. The sources are as many as the rcfile has paths,
-/// whenever words and rcfile are accepted. The first refusal counts: of the words, the rcfile, the query, then of the first
-/// archive that is at fault.
+/// `words` are those after the program's name, `rc` is the rcfile's text, and ages and days without a year are reckoned from
+/// `now`. The sources are as many as the rcfile has paths, whenever words and rcfile are accepted. The first refusal counts: of
+/// the words, the rcfile, the query, then of the first archive that is at fault.
 pub fn once_run<S: Source, O: Out>(
     alloc: Global,
     words: &[String],
     rc: &[u8],
     sources: &mut [S],
+    now: Moment,
     out: &mut O,
 ) -> Reply
     requires archives { IfOk (asked_rc (map string_bytes words.now) rc.now) (λ r. length r.paths ≡ length sources.old) }
@@ -33,11 +36,11 @@ pub fn once_run<S: Source, O: Out>(
 
     // Where the sources' bytes are known: the whole reply and its text, or a fault of a device or of memory and a front of it.
     ensures reply { (archives : List (List ℕ)) → map S.rest sources.old ≡ map Some archives
-        → Replies result (O.taken out.old) (O.taken out.new) (reply_of (map string_bytes words.now) rc.now archives) }
+        → Replies result (O.taken out.old) (O.taken out.new) (asked (map string_bytes words.now) rc.now now) archives }
 
     // Where an archive's fault is answered, no archive before it has one.
     ensures first { (archives : List (List ℕ)) → map S.rest sources.old ≡ map Some archives
-        → AreSoundBefore (asked (map string_bytes words.now) rc.now) archives result.fault }
+        → AreSoundBefore (asked (map string_bytes words.now) rc.now now) archives result.fault }
 
     // The count of the n-th source rises by one exactly where that source's failure is answered, and so does the output's.
     ensures source_failed { (n : ℕ) → Counted (is_failed_source n result.fault)
@@ -45,7 +48,7 @@ pub fn once_run<S: Source, O: Out>(
     ensures out_failed { Counted (is_failed_out result.fault) (O.failures out.old) (O.failures out.new) }
 
     // A refusal of words, rcfile or query is answered whatever the devices hold, and before any of them is asked.
-    ensures asked { RefusesAsked (asked (map string_bytes words.now) rc.now) result.fault }
+    ensures asked { RefusesAsked (asked (map string_bytes words.now) rc.now now) result.fault }
     ensures early { OnTrue (is_early result.fault) ((sources.new ≡ sources.old) × (out.new ≡ out.old)) }
 
     // Where an archive is at fault nothing has gone out.
@@ -54,7 +57,7 @@ pub fn once_run<S: Source, O: Out>(
     // A fault has its status and no messages, an answer 0 with messages and 1 without one.
     ensures status { IsConsistent result result.fault }
 {
-    match run(alloc, words, rc, sources, out) {
+    match run(alloc, words, rc, sources, now, out) {
         Ok(messages) => Reply {
             status: if messages == 0 { 1 } else { 0 },
             messages,
@@ -74,22 +77,25 @@ fn run<S: Source, O: Out>(
     words: &[String],
     rc: &[u8],
     sources: &mut [S],
+    now: Moment,
     out: &mut O,
 ) -> Result<u64, Fault>
+    requires archives { IfOk (asked_rc (map string_bytes words.now) rc.now) (λ r. length r.paths ≡ length sources.old) }
     requires sources { All (λ s. S.failures s < 2 ^ 64 - 1) sources.old }
     requires out { O.failures out.old < 2 ^ 64 - 1 }
     ensures found { (archives : List (List ℕ)) → map S.rest sources.old ≡ map Some archives
-        → Runs result (O.taken out.old) (O.taken out.new) (run_of (map string_bytes words.now) rc.now archives) }
+        → Runs result (O.taken out.old) (O.taken out.new) (asked (map string_bytes words.now) rc.now now) archives }
     ensures first { (archives : List (List ℕ)) → map S.rest sources.old ≡ map Some archives
-        → AreSoundBefore (asked (map string_bytes words.now) rc.now) archives (fault_in result) }
+        → AreSoundBefore (asked (map string_bytes words.now) rc.now now) archives (fault_in result) }
     ensures source_failed { (n : ℕ) → Counted (is_failed_source n (fault_in result))
         (slice_index (map S.failures sources.old) n) (slice_index (map S.failures sources.new) n) }
     ensures out_failed { Counted (is_failed_out (fault_in result)) (O.failures out.old) (O.failures out.new) }
-    ensures asked { RefusesAsked (asked (map string_bytes words.now) rc.now) (fault_in result) }
+    ensures asked { RefusesAsked (asked (map string_bytes words.now) rc.now now) (fault_in result) }
     ensures early { OnTrue (is_early (fault_in result)) ((sources.new ≡ sources.old) × (out.new ≡ out.old)) }
     ensures silent { OnTrue (is_of_archive (fault_in result)) (out.new ≡ out.old) }
 {
-    let asked = Asked::of(alloc, words, rc)?;
-    let places = search_sources(alloc, &asked.sought, sources)?;
-    write_raw(alloc, asked.paths.as_slice(), &places, out)
+    let wanted = Wanted::of(alloc, words, rc, now)?;
+    let file = index_sources(alloc, wanted.paths.as_slice(), sources)?;
+    let places = find_places(alloc, file.bytes(), &wanted.query)?;
+    write_raw(alloc, wanted.paths.as_slice(), &places, out)
 }

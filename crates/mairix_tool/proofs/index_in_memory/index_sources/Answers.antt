@@ -5,8 +5,8 @@ use Rattle.std.proofs.Math.Seq.{map-set_same}
 use Rattle.contract_words.proofs.DeviceLists.{same_at, same_behind, known_at, known_length, counted_at}
 use Rattle.mail_index.specs.Builders.{Draft}
 use Rattle.std.specs.Io.KnownBytes.{Appends}
-use Rattle.mail_index.specs.Files.{index_file}
-use Rattle.mail_index.specs.Tables.{IsPath}
+use Rattle.mail_index.specs.Files.{index_file, HasSmallSections}
+use Rattle.mail_index.specs.Tables.{IsPath, IsWellFormed}
 use Rattle.mbox_cutter.specs.Memory.{Taking}
 use Rattle.mairix_tool.specs.ArchiveTables.{table}
 use Rattle.mairix_tool.specs.Indexing.{draft_of}
@@ -94,4 +94,5 @@ returns-in-Ok-finish-clause-known g c = λ archives known.
     let found = c.loop-number.invariant.found archives known in
     let job : c.loop-number.job ≡ Some (draft_of (mboxes paths archives)) = subst (λ l. IsIndexOf c.loop-number.job l) all found.0 in
     let written = subst (λ (o : Option Draft). IfSome o (λ d. (c.in-Ok-finish.field-0 ≡ length (index_file d.table)) × Appends (Some c.new-file.result.taken) (Some c.finish.new.out.taken) (index_file d.table))) job c.in-Ok-finish.ensures.ok in
-    (subst AreSound all found.1, written.1 ∙ ap (λ (t : List ℕ). t ++ index_file (table (mboxes paths archives))) (ap (λ (f : Taking). f.taken) c.new-file.ensures))
+    let formed = subst (λ (o : Option Draft). IfSome o (λ d. IsWellFormed d.table × HasSmallSections d.table)) job c.in-Ok-finish.ensures.formed in
+    (subst AreSound all found.1, (formed.0, written.1 ∙ ap (λ (t : List ℕ). t ++ index_file (table (mboxes paths archives))) (ap (λ (f : Taking). f.taken) c.new-file.ensures)))
