@@ -22,10 +22,11 @@ pub mod DirectoryKeys
 mod Rows
 mod RowsDigest
 mod PostingLemmas
+mod KindNumbers
+mod PageLemmas
 mod KeyMapLemmas
 mod DraftLemmas
 mod SigningLemmas
-mod KeySectionLemmas
 mod Sizes
 mod KeyPlaces
 mod Placing
