@@ -23,6 +23,7 @@ mod Rows
 mod RowsDigest
 mod PostingLemmas
 mod KindNumbers
+mod EntryLemmas
 mod PageLemmas
 mod KeyMapLemmas
 mod DraftLemmas

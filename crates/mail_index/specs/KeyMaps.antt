@@ -1,13 +1,14 @@
 -- Keys as a builder holds them: entries in the order of their arrival, and their numbers in the order of their keys.
-use Rattle.std.specs.Prelude.{◌≡◌, ℕ, zero, suc, ◌+◌, ◌<◌, ◌≤◌, ◌⊎◌, List, [], ◌∷◌, ◌++◌, length, map, Vec}
+use Rattle.std.specs.Prelude.{◌≡◌, ℕ, zero, suc, ◌+◌, ◌<◌, ◌≤◌, ◌⊎◌, List, [], ◌∷◌, ◌++◌, length, map, take, drop, Vec}
 use Rattle.std.specs.Global.{Global}
 use Rattle.std.specs.declared.cmp.Ordering.TheVariants.{Less, Greater}
-use Rattle.std.specs.List.{AllByRecursion}
+use Rattle.std.specs.List.{AllByRecursion, slice_index}
 use Rattle.mail_index.specs.declared.kind.Kind.{Kind}
 use Rattle.mail_index.specs.declared.build_fault.BuildFault.{BuildFault}
 use Rattle.mail_index.specs.declared.build_fault.BuildFault.TheVariants.{OutOfMemory, TooMany, Device, Failed}
 use Rattle.mail_index.specs.Tables.{Key}
-use Rattle.mail_index.specs.PostingLists.{with_number}
+use Rattle.mail_index.specs.PostingLists.{with_number, numbers_of, IsPosted}
+use Rattle.mail_index.specs.Kinds.{kind_number, kind_of_number}
 use Rattle.mail_index.specs.LookUps.{lies_to, AreSorted}
 use Rattle.mail_index.specs.KeysRead.{key_at}
 
@@ -18,6 +19,20 @@ new_key kind text n = record { kind = kind; text = text; numbers = n ∷ [] }
 -- the key with n among its numbers
 abbrev pub with_one : Key → ℕ → Key
 with_one k n = record { kind = k.kind; text = k.text; numbers = with_number k.numbers n }
+
+-- ---- an entry's bytes
+
+-- the key of the number of a kind and a text, and of postings
+abbrev pub key_in : List ℕ → List ℕ → Key
+key_in front postings = record { kind = kind_of_number (slice_index front 0); text = drop 1 front; numbers = numbers_of postings }
+
+-- so many of the bytes are the number of a kind and a text, and the others are postings of numbers below next
+pub record IsEntry (bytes : List ℕ) (front next : ℕ) : Type 0 where
+  pub long : front ≤ length bytes
+  pub kind : kind_number (kind_of_number (slice_index (take front bytes) 0)) ∷ drop 1 (take front bytes) ≡ take front bytes
+  pub posted : IsPosted (drop front bytes) next
+
+-- ---- the order of the entries
 
 -- the keys of these numbers
 abbrev pub placed : List Key → List ℕ → List Key

@@ -3,7 +3,7 @@ use crate::kind::Kind;
 use std::alloc::{AllocError, Global};
 
 /// How many hints there are.
-const SLOTS: usize = 131072;
+const SLOTS: usize = 262144;
 
 /// For each value of a hash the number of the entry of a key that came last with it. A hint can be wrong, and is no
 /// more than a guess that saves a search; so nothing is lost where a hint is missing, nor where two keys share one.
