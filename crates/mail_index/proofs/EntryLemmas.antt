@@ -1,12 +1,12 @@
 -- Laws of an entry's bytes: the number of its kind, its text, and its postings.
-use Rattle.std.proofs.Common.{◌≡◌, ◌∙◌, ℕ, suc, ◌+◌, ◌-◌, ◌^◌, ◌<◌, ◌≤◌, List, [], ◌∷◌, ◌++◌, length, take, drop, slice_index, refl, sym, ap, ap₂, subst, arith, append-nil, length-append}
+use Rattle.std.proofs.Common.{◌≡◌, ◌∙◌, ℕ, ◌+◌, ◌-◌, ◌^◌, ◌<◌, ◌≤◌, List, [], ◌∷◌, ◌++◌, length, take, drop, slice_index, sym, ap, ap₂, subst, arith, append-nil, length-append}
 use Rattle.std.proofs.lemmas.List.{take-append-le, drop-append-le}
 use Rattle.std.proofs.Math.Seq.{take-length, drop-append_seam}
 use Rattle.mail_index.specs.declared.kind.Kind.{Kind}
 use Rattle.mail_index.specs.Kinds.{kind_number, kind_of_number}
 use Rattle.mail_index.specs.Tables.{Key}
 use Rattle.mail_index.specs.Postings.{leb128}
-use Rattle.mail_index.specs.PostingLists.{end_from, with_number, numbers_of, IsPosted}
+use Rattle.mail_index.specs.PostingLists.{end_from, numbers_of}
 use Rattle.mail_index.specs.KeyMaps.{with_one, key_in, IsEntry}
 use Rattle.mail_index.proofs.KindNumbers.{kind_of-number}
 use Rattle.mail_index.proofs.PostingLemmas.{posted-nil, numbers_of-nil, posted-more, numbers_of-more, with_number-low, with_number-new}

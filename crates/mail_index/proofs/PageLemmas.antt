@@ -1,11 +1,10 @@
 -- Laws of an order that stands in pages, with a head between each and the next.
-use Rattle.std.proofs.Common.{◌≡◌, ◌∙◌, ℕ, zero, suc, ◌+◌, ◌-◌, ◌<◌, ◌≤◌, Bool, true, false, nat_lt, List, [], ◌∷◌, ◌++◌, length, map, take, drop, set, get_or, Vec, refl, sym, ap, ap₂, subst, arith, append-nil, length-append}
+use Rattle.std.proofs.Common.{◌≡◌, ◌∙◌, ℕ, zero, suc, ◌+◌, ◌-◌, ◌<◌, ◌≤◌, List, [], ◌∷◌, ◌++◌, length, take, drop, set, get_or, Vec, refl, sym, ap, ap₂, subst, arith, append-nil, length-append}
 use Rattle.std.specs.Global.{Global}
 use Rattle.std.specs.List.{AllByRecursion, insert}
-use Rattle.std.proofs.lemmas.List.{length-map, get_or-map, append_assoc, get_or_append_left, get_or-append-add, take-append-drop, get_or-drop, take-map, drop-map, map-append}
+use Rattle.std.proofs.lemmas.List.{length-map, get_or-map, append_assoc, get_or_append_left, get_or-append-add, take-map, drop-map, map-append}
 use Rattle.std.proofs.Math.Seq.{get_or-append_seam}
 use Rattle.std.proofs.lemmas.List.Edits.{insert-append_left, insert-append_right}
-use Rattle.std.proofs.lemmas.Bool.Decides.{nat_tests}
 use Rattle.mail_index.specs.KeyMaps.{rows, in_pages, left_in_pages, position}
 
 abbrev row_at : List (List ℕ) → ℕ → List ℕ
@@ -153,11 +152,12 @@ inserted pages heads page at n b h w =
     pages-insert (rows pages) heads page at n (omega (arith, b, long)) (omega (arith, h, long)) w
 
 pub parted : (pages : List (Vec ℕ Global)) (heads : List ℕ) (page half d : ℕ) (row : List ℕ) (rest : Vec ℕ Global) (head : ℕ) → length heads ≡ length pages - 1 → page < length pages → half < length (get_or (rows pages) page [])
-    → row ≡ get_or (rows pages) page [] → rest.items ≡ drop (suc half) row → head ≡ get_or row half d
+    → row ≡ get_or (rows pages) page [] → rest.items ≡ drop (half + 1) row → head ≡ get_or row half d
     → in_pages (set (rows (insert pages (page + 1) rest)) page (take half (get_or (rows (insert pages (page + 1) rest)) page []))) (insert heads page head) ≡ in_pages (rows pages) heads
 parted pages heads page half d row rest head b h w r s t =
     let long : length (rows pages) ≡ length pages = length-map pages (λ (p : Vec ℕ Global). p.items) in
-    let rest_is : rest.items ≡ drop (suc half) (get_or (rows pages) page []) = s ∙ ap (drop (suc half)) r in
+    let behind : half + 1 ≡ suc half = omega arith in
+    let rest_is : rest.items ≡ drop (suc half) (get_or (rows pages) page []) = s ∙ ap₂ (λ (n : ℕ) (l : List ℕ). drop n l) behind r in
     let head_is : head ≡ get_or (get_or (rows pages) page []) half d = t ∙ ap (λ (l : List ℕ). get_or l half d) r in
     let next : page + 1 ≡ suc page = omega arith in
     let rows_are : rows (insert pages (page + 1) rest) ≡ insert (rows pages) (suc page) (drop (suc half) (get_or (rows pages) page [])) =

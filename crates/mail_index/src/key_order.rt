@@ -11,14 +11,13 @@ use crate::key_search::search;
 use crate::kind::Kind;
 use std::alloc::{AllocError, Global};
 
-/// A page with as many numbers is split in two.
+/// A page is split in two once it has so many numbers, and as many as there are pages.
 const PAGE: usize = 256;
-
-/// How many numbers the first part keeps.
-const HALF: usize = 128;
 
 /// The numbers of entries in the order of their keys: pages, and between each and the next one number more, the
 /// head of the next. So a key is found by two binary searches, and a number is inserted by moving those of one page.
+/// Of very many numbers no page has more than there are pages, nor are there many more pages than a page has numbers:
+/// what an insertion moves grows with the root of their count.
 #[derive(Drop)]
 pub struct KeyOrder {
     pub heads: Vec<u32>,
@@ -88,8 +87,15 @@ impl KeyOrder {
         ensures err { OnErr result (in_pages (rows self.new.pages.items) self.new.heads.items ≡ in_pages (rows self.old.pages.items) self.old.heads.items) }
     {
         insert_in_page(&mut self.pages, place, number)?;
-        if self.pages[place.page].len() >= PAGE {
-            let _split = split(alloc, &mut self.heads, &mut self.pages, place.page);
+        let length = self.pages[place.page].len();
+        if length >= PAGE && length >= self.pages.len() {
+            let _split = split(
+                alloc,
+                &mut self.heads,
+                &mut self.pages,
+                place.page,
+                length / 2,
+            );
         }
         Ok(())
     }
@@ -106,32 +112,33 @@ fn insert_in_page(pages: &mut Vec<Vec<u32>>, place: Place, number: u32) -> Resul
     Ok(())
 }
 
-// Splits a page in two. Without memory for that it stays as it is.
+// Splits a page in two, of which the first has that length. Without memory for that it stays as it is.
 fn split(
     alloc: Global,
     heads: &mut Vec<u32>,
     pages: &mut Vec<Vec<u32>>,
     page: usize,
+    half: usize,
 ) -> Result<(), AllocError>
     requires between { length heads.old.items ≡ length pages.old.items - 1 }
     requires page { page < length pages.old.items }
-    requires long { 128 < length (slice_index_or (rows pages.old.items) page []) }
+    requires half { half < length (slice_index_or (rows pages.old.items) page []) }
     ensures between { length heads.new.items ≡ length pages.new.items - 1 }
     ensures same { in_pages (rows pages.new.items) heads.new.items ≡ in_pages (rows pages.old.items) heads.old.items }
 {
-    let (head, rest) = second_half(alloc, &pages[page])?;
+    let (head, rest) = second_half(alloc, &pages[page], half)?;
     insert_page(heads, pages, page, head, rest)?;
-    shorten(pages, page);
+    shorten(pages, page, half);
     Ok(())
 }
 
 // The head of a page's second half, and the rest of it.
-fn second_half(alloc: Global, row: &[u32]) -> Result<(u32, Vec<u32>), AllocError>
-    requires { 128 < length row.now }
-    ensures { IfOk result (λ half. (half.0 ≡ slice_index_or row.now 128 0) × (half.1.items ≡ drop 129 row.now)) }
+fn second_half(alloc: Global, row: &[u32], half: usize) -> Result<(u32, Vec<u32>), AllocError>
+    requires { half < length row.now }
+    ensures { IfOk result (λ second. (second.0 ≡ slice_index_or row.now half 0) × (second.1.items ≡ drop (half + 1) row.now)) }
 {
-    let rest = Vec::from_slice(alloc, &row[HALF + 1..])?;
-    Ok((row[HALF], rest))
+    let rest = Vec::from_slice(alloc, &row[half + 1..])?;
+    Ok((row[half], rest))
 }
 
 // Inserts a page behind another, and its head.
@@ -155,9 +162,9 @@ fn insert_page(
 }
 
 // Leaves the first half of a page.
-fn shorten(pages: &mut Vec<Vec<u32>>, page: usize)
+fn shorten(pages: &mut Vec<Vec<u32>>, page: usize, half: usize)
     requires { page < length pages.old.items }
-    ensures { rows pages.new.items ≡ set (rows pages.old.items) page (take 128 (slice_index_or (rows pages.old.items) page [])) }
+    ensures { rows pages.new.items ≡ set (rows pages.old.items) page (take half (slice_index_or (rows pages.old.items) page [])) }
 {
-    pages[page].truncate(HALF);
+    pages[page].truncate(half);
 }

@@ -11,4 +11,4 @@ pub returns : goal.returns
 returns c =
     map-set items_of c.args.pages.now.items c.args.page c.truncate.new.self
     ∙ ap (set (rows c.args.pages.now.items) c.args.page) (c.truncate.ensures.items
-    ∙ ap (take 128) (ap items_of c.index_mut.ensures.value ∙ sym (get_or-map items_of c.args.pages.now.items c.args.page c.index_mut.result.now [] c.requires)))
+    ∙ ap (take c.args.half) (ap items_of c.index_mut.ensures.value ∙ sym (get_or-map items_of c.args.pages.now.items c.args.page c.index_mut.result.now [] c.requires)))

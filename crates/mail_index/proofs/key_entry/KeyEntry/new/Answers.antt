@@ -1,4 +1,4 @@
-use Rattle.std.proofs.Common.{◌≡◌, ◌∙◌, ℕ, List, ap}
+use Rattle.std.proofs.Common.{◌∙◌, ℕ, List, ap}
 use Rattle.mail_index.specs.Tables.{Key}
 use Rattle.mail_index.specs.KeyMaps.{with_one}
 use Rattle.mail_index.proofs.PostingLemmas.{with_number-nil}

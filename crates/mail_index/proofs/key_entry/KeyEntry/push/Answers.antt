@@ -1,7 +1,7 @@
-use Rattle.std.proofs.Common.{◌≡◌, ◌∙◌, ◌+◌, ◌-◌, ◌^◌, ◌<◌, ◌≤◌, ◌++◌, ℕ, List, ap, sym, arith}
+use Rattle.std.proofs.Common.{◌≡◌, ◌∙◌, ◌+◌, ◌-◌, ◌^◌, ◌<◌, ◌≤◌, ◌++◌, ap, sym, arith}
 use Rattle.mail_index.specs.Tables.{Key}
 use Rattle.mail_index.specs.Postings.{leb128}
-use Rattle.mail_index.specs.KeyMaps.{with_one, key_in}
+use Rattle.mail_index.specs.KeyMaps.{with_one}
 use Rattle.mail_index.proofs.EntryLemmas.{entry-more, key-more, key-same}
 use Rattle.mail_index.proofs.key_entry.KeyEntry.push.Goals as goal
 
