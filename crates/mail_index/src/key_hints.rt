@@ -1,4 +1,7 @@
 //! Where the keys that came last stand among the entries.
+ghost use Rattle.std.specs.Prelude.{◌≡◌, ◌^◌, ◌<◌, [], length, set, OnOk, OnErr};
+ghost use Rattle.std.specs.List.{slice_get};
+
 use crate::kind::Kind;
 use std::alloc::{AllocError, Global};
 
@@ -20,7 +23,9 @@ pub struct Slot {
 
 impl Slot {
     /// The slot of a key.
-    pub fn of(kind: Kind, text: &[u8]) -> Self {
+    pub fn of(kind: Kind, text: &[u8]) -> Self
+        ensures { result.index < 2 ^ 18 }
+    {
         // FNV-1a
         let mut hash = 0x811C_9DC5_u32 ^ kind.number() as u32;
         for byte in text {
@@ -34,14 +39,19 @@ impl Slot {
 
 impl KeyHints {
     /// No hint. Takes no memory.
-    pub fn new(alloc: Global) -> Self {
+    pub fn new(alloc: Global) -> Self
+        ensures { result.numbers.items ≡ [] }
+    {
         KeyHints {
             numbers: Vec::new(alloc),
         }
     }
 
     /// Makes room for the hints, if there is none.
-    pub fn begin(&mut self) -> Result<(), AllocError> {
+    pub fn begin(&mut self) -> Result<(), AllocError>
+        ensures room { OnOk result (length self.old.numbers.items ≡ 0 → length self.new.numbers.items ≡ 2 ^ 18) }
+        ensures kept { 0 < length self.old.numbers.items → self.new ≡ self.old }
+    {
         if self.numbers.is_empty() {
             self.numbers.resize(SLOTS, u32::MAX)?;
         }
@@ -49,12 +59,16 @@ impl KeyHints {
     }
 
     /// The number that stands in a slot.
-    pub fn get(&self, slot: Slot) -> Option<u32> {
+    pub fn get(&self, slot: Slot) -> Option<u32>
+        ensures { result ≡ slice_get self.now.numbers.items slot.index }
+    {
         self.numbers.get(slot.index).copied()
     }
 
     /// Leaves a number in a slot.
-    pub fn note(&mut self, slot: Slot, number: u32) {
+    pub fn note(&mut self, slot: Slot, number: u32)
+        ensures { self.new.numbers.items ≡ set self.old.numbers.items slot.index number }
+    {
         if let Some(hint) = self.numbers.get_mut(slot.index) {
             *hint = number;
         }
