@@ -6,6 +6,8 @@ use Rattle.std.specs.List.{AllByRecursion, slice_index}
 use Rattle.mail_index.specs.declared.kind.Kind.{Kind}
 use Rattle.mail_index.specs.declared.build_fault.BuildFault.{BuildFault}
 use Rattle.mail_index.specs.declared.build_fault.BuildFault.TheVariants.{OutOfMemory, TooMany, Device, Failed}
+use Rattle.mail_index.specs.declared.key_order.KeyOrder.{KeyOrder}
+use Rattle.mail_index.specs.declared.key_order.Place.{Place}
 use Rattle.mail_index.specs.Tables.{Key}
 use Rattle.mail_index.specs.PostingLists.{with_number, numbers_of, IsPosted}
 use Rattle.mail_index.specs.Kinds.{kind_number, kind_of_number}
@@ -78,6 +80,17 @@ abbrev pub position : List (List ℕ) → ℕ → ℕ → ℕ
 position [] page at = at
 position (row ∷ rest) zero at = at
 position (row ∷ rest) (suc page) at = length row + suc (position rest page at)
+
+-- the numbers of an order, and how many of them stand before a place
+abbrev pub numbers_in : KeyOrder → List ℕ
+numbers_in order = in_pages (rows order.pages.items) order.heads.items
+
+abbrev pub place_in : KeyOrder → Place → ℕ
+place_in order place = position (rows order.pages.items) place.page place.at
+
+-- the keys in that order
+abbrev pub keys_in : List Key → KeyOrder → List Key
+keys_in entries order = placed entries (numbers_in order)
 
 -- ---- faults
 

@@ -5,7 +5,7 @@ ghost use Rattle.std.specs.List.{AllByRecursion, slice_index_or};
 ghost use Rattle.contract_words.specs.Devices.{Counts, Sends};
 ghost use Rattle.mail_index.specs.Files.{entry_of, directory_from, texts_of, postings_of};
 ghost use Rattle.mail_index.specs.Signing.{Signs};
-ghost use Rattle.mail_index.specs.KeyMaps.{placed, rows, in_pages, position, with_one, IsOrder, IsGap, IsWantOf};
+ghost use Rattle.mail_index.specs.KeyMaps.{rows, numbers_in, place_in, keys_in, with_one, IsOrder, IsGap, IsWantOf};
 ghost use Rattle.mail_index.specs.KeysRead.{key_at};
 ghost use Rattle.mail_index.specs.LookUps.{lies_to};
 ghost use Rattle.mail_index.specs.Builders.{with_pair};
@@ -37,13 +37,13 @@ pub struct KeyMap {
 impl Model for KeyMap {
     ghost use Rattle.std.specs.Prelude.{◌≡◌, ◌-◌, List, length};
     ghost use Rattle.mail_index.specs.Tables.{Key};
-    ghost use Rattle.mail_index.specs.KeyMaps.{placed, rows, in_pages, IsOrder};
+    ghost use Rattle.mail_index.specs.KeyMaps.{numbers_in, keys_in, IsOrder};
 
     ghost Value = { List Key };
 
-    ghost view = { λ s. placed s.entries.items (in_pages (rows s.order.pages.items) s.order.heads.items) };
+    ghost view = { λ s. keys_in s.entries.items s.order };
 
-    ghost invariant = { λ s. (length s.order.heads.items ≡ length s.order.pages.items - 1) × IsOrder s.entries.items (in_pages (rows s.order.pages.items) s.order.heads.items) };
+    ghost invariant = { λ s. (length s.order.heads.items ≡ length s.order.pages.items - 1) × IsOrder s.entries.items (numbers_in s.order) };
 }
 
 impl KeyMap {
@@ -180,11 +180,11 @@ fn locate(
 ) -> Result<u32, Place>
     requires page { 0 < length order.now.pages.items }
     requires between { length order.now.heads.items ≡ length order.now.pages.items - 1 }
-    requires within { AllByRecursion (λ number. number < length entries.now) (in_pages (rows order.now.pages.items) order.now.heads.items) }
+    requires within { AllByRecursion (λ number. number < length entries.now) (numbers_in order.now) }
     ensures found { IfOk result (λ entry. (entry < length entries.now) × (lies_to kind text.now (key_at entries.now entry) ≡ Equal)) }
     ensures page { IfErr result (λ place. place.page < length order.now.pages.items) }
     ensures at { IfErr result (λ place. place.at ≤ length (slice_index_or (rows order.now.pages.items) place.page [])) }
-    ensures gap { IfErr result (λ place. IsGap kind text.now (placed entries.now (in_pages (rows order.now.pages.items) order.now.heads.items)) (position (rows order.now.pages.items) place.page place.at)) }
+    ensures gap { IfErr result (λ place. IsGap kind text.now (keys_in entries.now order.now) (place_in order.now place)) }
 {
     if let Some(number) = hint {
         if let Some(entry) = matching(number, entries, kind, text) {
@@ -206,17 +206,17 @@ fn add_at(
     requires short { length key.now.text.now < 2 ^ 32 }
     requires fits { length entries.old.items ≤ key.now.most }
     requires between { length order.old.heads.items ≡ length order.old.pages.items - 1 }
-    requires order { IsOrder entries.old.items (in_pages (rows order.old.pages.items) order.old.heads.items) }
+    requires order { IsOrder entries.old.items (numbers_in order.old) }
     requires found { IfOk found (λ entry. (entry < length entries.old.items) × (lies_to key.now.kind key.now.text.now (key_at entries.old.items entry) ≡ Equal)) }
     requires page { IfErr found (λ place. place.page < length order.old.pages.items) }
     requires at { IfErr found (λ place. place.at ≤ length (slice_index_or (rows order.old.pages.items) place.page [])) }
-    requires gap { IfErr found (λ place. IsGap key.now.kind key.now.text.now (placed entries.old.items (in_pages (rows order.old.pages.items) order.old.heads.items)) (position (rows order.old.pages.items) place.page place.at)) }
+    requires gap { IfErr found (λ place. IsGap key.now.kind key.now.text.now (keys_in entries.old.items order.old) (place_in order.old place)) }
     ensures between { length order.new.heads.items ≡ length order.new.pages.items - 1 }
-    ensures order { IsOrder entries.new.items (in_pages (rows order.new.pages.items) order.new.heads.items) }
-    ensures ok { OnOk result (placed entries.new.items (in_pages (rows order.new.pages.items) order.new.heads.items) ≡ with_pair key.now.kind key.now.text.now key.now.number (placed entries.old.items (in_pages (rows order.old.pages.items) order.old.heads.items))) }
-    ensures err { OnErr result (placed entries.new.items (in_pages (rows order.new.pages.items) order.new.heads.items) ≡ placed entries.old.items (in_pages (rows order.old.pages.items) order.old.heads.items)) }
+    ensures order { IsOrder entries.new.items (numbers_in order.new) }
+    ensures ok { OnOk result (keys_in entries.new.items order.new ≡ with_pair key.now.kind key.now.text.now key.now.number (keys_in entries.old.items order.old)) }
+    ensures err { OnErr result (keys_in entries.new.items order.new ≡ keys_in entries.old.items order.old) }
     ensures fits { length entries.new.items ≤ key.now.most }
-    ensures fault { IfErr result (IsWantOf key.now.most (length (with_pair key.now.kind key.now.text.now key.now.number (placed entries.old.items (in_pages (rows order.old.pages.items) order.old.heads.items))))) }
+    ensures fault { IfErr result (IsWantOf key.now.most (length (with_pair key.now.kind key.now.text.now key.now.number (keys_in entries.old.items order.old)))) }
 {
     match found {
         Ok(entry) => {
@@ -249,16 +249,16 @@ fn insert(
     requires short { length key.now.text.now < 2 ^ 32 }
     requires fits { length entries.old.items ≤ key.now.most }
     requires between { length order.old.heads.items ≡ length order.old.pages.items - 1 }
-    requires order { IsOrder entries.old.items (in_pages (rows order.old.pages.items) order.old.heads.items) }
+    requires order { IsOrder entries.old.items (numbers_in order.old) }
     requires page { place.page < length order.old.pages.items }
     requires at { place.at ≤ length (slice_index_or (rows order.old.pages.items) place.page []) }
-    requires gap { IsGap key.now.kind key.now.text.now (placed entries.old.items (in_pages (rows order.old.pages.items) order.old.heads.items)) (position (rows order.old.pages.items) place.page place.at) }
+    requires gap { IsGap key.now.kind key.now.text.now (keys_in entries.old.items order.old) (place_in order.old place) }
     ensures between { length order.new.heads.items ≡ length order.new.pages.items - 1 }
-    ensures order { IsOrder entries.new.items (in_pages (rows order.new.pages.items) order.new.heads.items) }
-    ensures ok { OnOk result (placed entries.new.items (in_pages (rows order.new.pages.items) order.new.heads.items) ≡ with_pair key.now.kind key.now.text.now key.now.number (placed entries.old.items (in_pages (rows order.old.pages.items) order.old.heads.items))) }
-    ensures err { OnErr result (placed entries.new.items (in_pages (rows order.new.pages.items) order.new.heads.items) ≡ placed entries.old.items (in_pages (rows order.old.pages.items) order.old.heads.items)) }
+    ensures order { IsOrder entries.new.items (numbers_in order.new) }
+    ensures ok { OnOk result (keys_in entries.new.items order.new ≡ with_pair key.now.kind key.now.text.now key.now.number (keys_in entries.old.items order.old)) }
+    ensures err { OnErr result (keys_in entries.new.items order.new ≡ keys_in entries.old.items order.old) }
     ensures fits { length entries.new.items ≤ key.now.most }
-    ensures fault { IfErr result (IsWantOf key.now.most (length (with_pair key.now.kind key.now.text.now key.now.number (placed entries.old.items (in_pages (rows order.old.pages.items) order.old.heads.items))))) }
+    ensures fault { IfErr result (IsWantOf key.now.most (length (with_pair key.now.kind key.now.text.now key.now.number (keys_in entries.old.items order.old)))) }
 {
     let number = entries.len();
     if number >= key.most as usize {

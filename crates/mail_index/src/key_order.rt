@@ -2,7 +2,7 @@
 ghost use Rattle.std.specs.Prelude.{◌≡◌, ◌+◌, ◌-◌, ◌<◌, ◌≤◌, [], ◌∷◌, length, take, drop, set, OnOk, OnErr, IfOk, IfErr};
 ghost use Rattle.std.specs.declared.cmp.Ordering.TheVariants.{Equal};
 ghost use Rattle.std.specs.List.{AllByRecursion, insert, slice_index_or};
-ghost use Rattle.mail_index.specs.KeyMaps.{placed, rows, in_pages, position, IsGap};
+ghost use Rattle.mail_index.specs.KeyMaps.{rows, in_pages, numbers_in, place_in, keys_in, IsGap};
 ghost use Rattle.mail_index.specs.KeysRead.{key_at};
 ghost use Rattle.mail_index.specs.LookUps.{lies_to};
 
@@ -49,7 +49,7 @@ impl KeyOrder {
         requires between { length self.old.heads.items ≡ length self.old.pages.items - 1 }
         ensures page { OnOk result (0 < length self.new.pages.items) }
         ensures between { length self.new.heads.items ≡ length self.new.pages.items - 1 }
-        ensures same { in_pages (rows self.new.pages.items) self.new.heads.items ≡ in_pages (rows self.old.pages.items) self.old.heads.items }
+        ensures same { numbers_in self.new ≡ numbers_in self.old }
     {
         if self.pages.is_empty() {
             self.pages.push(Vec::new(alloc))?;
@@ -61,11 +61,11 @@ impl KeyOrder {
     pub fn find(&self, entries: &[KeyEntry], kind: Kind, text: &[u8]) -> Result<u32, Place>
         requires page { 0 < length self.now.pages.items }
         requires between { length self.now.heads.items ≡ length self.now.pages.items - 1 }
-        requires within { AllByRecursion (λ number. number < length entries.now) (in_pages (rows self.now.pages.items) self.now.heads.items) }
+        requires within { AllByRecursion (λ number. number < length entries.now) (numbers_in self.now) }
         ensures found { IfOk result (λ number. (number < length entries.now) × (lies_to kind text.now (key_at entries.now number) ≡ Equal)) }
         ensures page { IfErr result (λ place. place.page < length self.now.pages.items) }
         ensures at { IfErr result (λ place. place.at ≤ length (slice_index_or (rows self.now.pages.items) place.page [])) }
-        ensures gap { IfErr result (λ place. IsGap kind text.now (placed entries.now (in_pages (rows self.now.pages.items) self.now.heads.items)) (position (rows self.now.pages.items) place.page place.at)) }
+        ensures gap { IfErr result (λ place. IsGap kind text.now (keys_in entries.now self.now) (place_in self.now place)) }
     {
         let page = match search(&self.heads, entries, kind, text) {
             Ok(number) => return Ok(number),
@@ -83,8 +83,8 @@ impl KeyOrder {
         requires page { place.page < length self.old.pages.items }
         requires at { place.at ≤ length (slice_index_or (rows self.old.pages.items) place.page []) }
         ensures between { length self.new.heads.items ≡ length self.new.pages.items - 1 }
-        ensures ok { OnOk result (in_pages (rows self.new.pages.items) self.new.heads.items ≡ insert (in_pages (rows self.old.pages.items) self.old.heads.items) (position (rows self.old.pages.items) place.page place.at) number) }
-        ensures err { OnErr result (in_pages (rows self.new.pages.items) self.new.heads.items ≡ in_pages (rows self.old.pages.items) self.old.heads.items) }
+        ensures ok { OnOk result (numbers_in self.new ≡ insert (numbers_in self.old) (place_in self.old place) number) }
+        ensures err { OnErr result (numbers_in self.new ≡ numbers_in self.old) }
     {
         insert_in_page(&mut self.pages, place, number)?;
         let length = self.pages[place.page].len();
