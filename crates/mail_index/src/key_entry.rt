@@ -12,7 +12,7 @@ use std::alloc::{AllocError, Global};
 use std::cmp::Ordering;
 use std::marker::Model;
 
-/// The room for postings that a new key's bytes have: a difference takes four bytes where it is below 2^28.
+/// The room for postings that a new key's bytes have: a difference below 2^28 takes four bytes at most.
 const ROOM: usize = 4;
 
 /// A key, whose text is shorter than 2^32 bytes, with the numbers of its messages.

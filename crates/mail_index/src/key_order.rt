@@ -16,8 +16,8 @@ const PAGE: usize = 256;
 
 /// The numbers of entries in the order of their keys: pages, and between each and the next one number more, the
 /// head of the next. So a key is found by two binary searches, and a number is inserted by moving those of one page.
-/// Of very many numbers no page has more than there are pages, nor are there many more pages than a page has numbers:
-/// what an insertion moves grows with the root of their count.
+/// Of very many numbers both the pages and what one of them has grow with the root of their count, and so does what an
+/// insertion moves, in whatever order the keys come.
 #[derive(Drop)]
 pub struct KeyOrder {
     pub heads: Vec<u32>,
