@@ -1,5 +1,5 @@
 //! The keys of an index while it is built.
-ghost use Rattle.std.specs.Prelude.{◌≡◌, ◌-◌, ◌^◌, ◌<◌, ◌≤◌, [], length, map, set, IfOk, IfErr, OnOk, OnErr};
+ghost use Rattle.std.specs.Prelude.{◌≡◌, ◌-◌, ◌^◌, ◌<◌, ◌≤◌, [], length, map, set, IfOk, IfErr, OnOk, OnErr, MatchResult};
 ghost use Rattle.std.specs.declared.cmp.Ordering.TheVariants.{Equal};
 ghost use Rattle.std.specs.List.{AllByRecursion, slice_index_or};
 ghost use Rattle.contract_words.specs.Devices.{Counts, Sends};
@@ -215,6 +215,7 @@ fn add_at(
     ensures order { IsOrder entries.new.items (numbers_in order.new) }
     ensures ok { OnOk result (keys_in entries.new.items order.new ≡ with_pair key.now.kind key.now.text.now key.now.number (keys_in entries.old.items order.old)) }
     ensures err { OnErr result (keys_in entries.new.items order.new ≡ keys_in entries.old.items order.old) }
+    ensures entry { IfOk result (λ entry. MatchResult found (λ known. entry ≡ known) (λ _. entry ≡ length entries.old.items)) }
     ensures fits { length entries.new.items ≤ key.now.most }
     ensures fault { IfErr result (IsWantOf key.now.most (length (with_pair key.now.kind key.now.text.now key.now.number (keys_in entries.old.items order.old)))) }
 {
@@ -257,6 +258,7 @@ fn insert(
     ensures order { IsOrder entries.new.items (numbers_in order.new) }
     ensures ok { OnOk result (keys_in entries.new.items order.new ≡ with_pair key.now.kind key.now.text.now key.now.number (keys_in entries.old.items order.old)) }
     ensures err { OnErr result (keys_in entries.new.items order.new ≡ keys_in entries.old.items order.old) }
+    ensures entry { IfOk result (λ entry. entry ≡ length entries.old.items) }
     ensures fits { length entries.new.items ≤ key.now.most }
     ensures fault { IfErr result (IsWantOf key.now.most (length (with_pair key.now.kind key.now.text.now key.now.number (keys_in entries.old.items order.old)))) }
 {

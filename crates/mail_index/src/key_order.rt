@@ -125,6 +125,7 @@ fn split(
     requires half { half < length (slice_index_or (rows pages.old.items) page []) }
     ensures between { length heads.new.items ≡ length pages.new.items - 1 }
     ensures same { in_pages (rows pages.new.items) heads.new.items ≡ in_pages (rows pages.old.items) heads.old.items }
+    ensures more { OnOk result (length pages.new.items ≡ length pages.old.items + 1) }
 {
     let (head, rest) = second_half(alloc, &pages[page], half)?;
     insert_page(heads, pages, page, head, rest)?;

@@ -1,5 +1,6 @@
 //! The search for a key among entries in order.
-ghost use Rattle.std.specs.Prelude.{◌≡◌, ◌<◌, length, IfOk, IfErr, IfSome};
+ghost use Rattle.std.specs.Prelude.{◌≡◌, ◌<◌, false, length, IfOk, IfErr, IfSome, IfNone};
+ghost use Rattle.std.specs.Ordering.{is_eq};
 ghost use Rattle.std.specs.declared.cmp.Ordering.TheVariants.{Equal};
 ghost use Rattle.std.specs.List.{AllByRecursion};
 ghost use Rattle.mail_index.specs.KeyMaps.{placed, IsGap};
@@ -33,7 +34,8 @@ pub fn search(numbers: &[u32], entries: &[KeyEntry], kind: Kind, text: &[u8]) ->
 
 /// The number of an entry, if it is this key's.
 pub fn matching(number: u32, entries: &[KeyEntry], kind: Kind, text: &[u8]) -> Option<u32>
-    ensures { IfSome result (λ number. (number < length entries.now) × (lies_to kind text.now (key_at entries.now number) ≡ Equal)) }
+    ensures found { IfSome result (λ found. (found ≡ number) × (found < length entries.now) × (lies_to kind text.now (key_at entries.now found) ≡ Equal)) }
+    ensures other { IfNone result (number < length entries.now → is_eq (lies_to kind text.now (key_at entries.now number)) ≡ false) }
 {
     let entry = entries.get(number as usize)?;
     if entry.is_key(kind, text) {
