@@ -1,143 +1,323 @@
--- Laws of the keys' map: what a look-up and an insertion make of the entries, seen by their bytes.
-use Rattle.std.proofs.Common.{◌≡◌, ℕ, suc, cond, List, [], ◌∷◌, length, map, Some, None, Result, Ok, Err, OnOk, OnErr, Vec, subst, refl, ap, sym, ◌∙◌, ◌^◌, ◌<◌}
+-- Laws of the keys' map: what one more number and one more entry make of the keys in order.
+use Rattle.std.proofs.Common.{◌≡◌, ◌∙◌, ℕ, zero, suc, ◌-◌, ◌<◌, ◌≤◌, inl, inr, Bool, true, false, nat_eq, nat_lt, List, [], ◌∷◌, ◌++◌, length, map, set, get_or, refl, sym, ap, ap₂, subst, arith, length-append, Vec}
 use Rattle.std.specs.Global.{Global}
 use Rattle.std.specs.declared.cmp.Ordering.{Ordering}
 use Rattle.std.specs.declared.cmp.Ordering.TheVariants.{Less, Equal, Greater}
-use Rattle.std.specs.Ordering.{match_ordering, is_eq, nat_cmp}
+use Rattle.std.specs.Ordering.{match_ordering, ordering_reverse, nat_cmp}
 use Rattle.std.specs.Cmp.Lexicographic.{slice_cmp}
-use Rattle.std.specs.List.{AllByRecursion}
+use Rattle.std.specs.List.{AllByRecursion, insert}
 use Rattle.std.specs.List.Sorted.{IsStrictlySortedBy}
-use Rattle.std.specs.Map.{keys_of, lookup, set_value}
-use Rattle.std.specs.BTreeMap.{insert_entry, is_at}
+use Rattle.std.proofs.lemmas.Bool.Decides.{nat_tests}
 use Rattle.std.proofs.lemmas.Cmp.{nat_list_cmp_total}
-use Rattle.std.proofs.lemmas.List.{length-map}
-use Rattle.std.proofs.lemmas.Map.Keys.{sorted_head, sorted_tail}
-use Rattle.mail_words.specs.declared.kind.TextKind.TheVariants.{To, Cc, Bcc, From, Subject, Body}
+use Rattle.std.proofs.lemmas.List.{length-map, length-set, get_or-map, get_or_append_left, get_or-set_same, get_or-set_other}
+use Rattle.std.proofs.Math.Seq.{get_or-append_seam}
+use Rattle.std.proofs.lemmas.List.Edits.{length-insert}
 use Rattle.mail_index.specs.declared.kind.Kind.{Kind}
-use Rattle.mail_index.specs.declared.kind.Kind.TheVariants.{Text, OwnId, LinkId}
 use Rattle.mail_index.specs.Kinds.{kind_number}
 use Rattle.mail_index.specs.Tables.{Key}
-use Rattle.mail_index.specs.PostingLists.{with_number}
-use Rattle.mail_index.specs.KeyMaps.{kind_of, pairs, key_of, IsKeyBytes, with_entry}
+use Rattle.mail_index.specs.KeyMaps.{new_key, with_one, placed, rows, in_pages, position, IsAmong, IsOrder, IsGap}
+use Rattle.mail_index.specs.KeysRead.{key_at, no_key}
+use Rattle.mail_index.specs.LookUps.{lies_to, AreSorted}
 use Rattle.mail_index.specs.Builders.{with_pair}
+use Rattle.mail_index.proofs.LookUpLemmas.{key_bytes, before-less, behind-greater}
+use Rattle.mail_index.proofs.PageLemmas.{position-step, position-next, position-last, position-within, at-page, at-head}
 
-abbrev Entries : Type 0
-Entries = List (Vec ℕ Global × List ℕ)
+abbrev bytes_of : Kind → List ℕ → List ℕ
+bytes_of kind text = kind_number kind ∷ text
 
--- how a query by bytes compares to a key
-abbrev pub by_bytes : List ℕ → Vec ℕ Global → Ordering
-by_bytes bytes key = slice_cmp nat_cmp bytes key.items
+-- the wanted key lies to the other as the other way round
+wanted-to : (kind : Kind) (text : List ℕ) (k : Key) (o : Ordering) → lies_to kind text k ≡ o → slice_cmp nat_cmp (bytes_of kind text) (key_bytes k) ≡ ordering_reverse o
+wanted-to kind text k o e = nat_list_cmp_total.antisymm (bytes_of kind text) (key_bytes k) ∙ ap ordering_reverse e
 
-abbrev pub key_cmp : Vec ℕ Global → Vec ℕ Global → Ordering
-key_cmp a b = slice_cmp nat_cmp a.items b.items
+pub placed-at : (entries : List Key) (order : List ℕ) (j : ℕ) → j < length order → key_at (placed entries order) j ≡ key_at entries (get_or order j 0)
+placed-at entries order j h = get_or-map (key_at entries) order j 0 no_key h
 
--- ---- entries in order
+-- ---- gaps
 
--- no key is found below all keys
-none-below : (bytes : List ℕ) (k : Vec ℕ Global) → by_bytes bytes k ≡ Less → (es : Entries) → AllByRecursion (λ y. key_cmp k y ≡ Less) (keys_of es) → lookup (is_at (by_bytes bytes)) es ≡ None
-none-below bytes k low [] all = refl
-none-below bytes k low (e ∷ es) all =
-    let less : by_bytes bytes e.0 ≡ Less = nat_list_cmp_total.trans bytes k.items e.0.items low all.0 in
-    ap (λ o. cond (is_eq o) (Some e.1) (lookup (is_at (by_bytes bytes)) es)) less ∙ none-below bytes k low es all.1
+-- the gap of the page, found between the heads and then in the page, is the gap of the whole order
+pub gap-in_pages : (kind : Kind) (text : List ℕ) (entries : List Key) (pages : List (List ℕ)) (heads : List ℕ) (page at : ℕ) → length heads ≡ length pages - 1 → page < length pages
+    → IsGap kind text (placed entries heads) page → IsGap kind text (placed entries (get_or pages page [])) at
+    → IsGap kind text (placed entries (in_pages pages heads)) (position pages page at)
+gap-in_pages kind text entries pages heads page at b h outer inner = record {
+  within = omega (arith, length-map flat (key_at entries), position-within pages heads page at b h inside);
+  below = λ j e. below at page j refl refl e;
+  above = λ lt. above lt (nat_lt at (length row)) refl (nat_lt page (length heads)) refl;
+}
+  where
+    row : List ℕ
+    row = get_or pages page []
 
--- a number more in the list that was found
-pub with_entry-found : (bytes : List ℕ) (n : ℕ) (es : Entries) (v : List ℕ) → IsStrictlySortedBy key_cmp (keys_of es) → lookup (is_at (by_bytes bytes)) es ≡ Some v
-    → pairs (set_value (is_at (by_bytes bytes)) es (with_number v n)) ≡ with_entry bytes n (pairs es)
-with_entry-found bytes n [] v s f = cc
-with_entry-found bytes n (e ∷ es) v s f =
-    (elim (by_bytes bytes e.0) as (λ o. by_bytes bytes e.0 ≡ o → cond (is_eq o) (Some e.1) (lookup (is_at (by_bytes bytes)) es) ≡ Some v
-    → pairs (cond (is_eq o) ((e.0, with_number v n) ∷ es) (e ∷ set_value (is_at (by_bytes bytes)) es (with_number v n)))
-    ≡ match_ordering o ((bytes, n ∷ []) ∷ (e.0.items, e.1) ∷ pairs es) ((e.0.items, with_number e.1 n) ∷ pairs es) ((e.0.items, e.1) ∷ with_entry bytes n (pairs es))) [
-      | Less ↦ λ less g. let none : lookup (is_at (by_bytes bytes)) es ≡ None = none-below bytes e.0 less es (sorted_head key_cmp e.0 (keys_of es) s) in cc
-      | Equal ↦ λ equal g. let same : v ≡ e.1 = cc in ap (λ x. (e.0.items, with_number x n) ∷ pairs es) same
-      | Greater ↦ λ greater g. ap (λ ps. (e.0.items, e.1) ∷ ps) (with_entry-found bytes n es v (sorted_tail key_cmp e.0 (keys_of es) s) g)
-    ]) refl f
+    flat : List ℕ
+    flat = in_pages pages heads
 
--- a new entry
-pub with_entry-absent : (key : Vec ℕ Global) (n : ℕ) (es : Entries) → lookup (is_at (by_bytes key.items)) es ≡ None
-    → pairs (insert_entry key_cmp es key (n ∷ [])) ≡ with_entry key.items n (pairs es)
-with_entry-absent key n [] f = refl
-with_entry-absent key n (e ∷ es) f =
-    (elim (by_bytes key.items e.0) as (λ o. cond (is_eq o) (Some e.1) (lookup (is_at (by_bytes key.items)) es) ≡ None
-    → pairs (match_ordering o ((key, n ∷ []) ∷ e ∷ es) ((e.0, n ∷ []) ∷ es) (e ∷ insert_entry key_cmp es key (n ∷ [])))
-    ≡ match_ordering o ((key.items, n ∷ []) ∷ (e.0.items, e.1) ∷ pairs es) ((e.0.items, with_number e.1 n) ∷ pairs es) ((e.0.items, e.1) ∷ with_entry key.items n (pairs es))) [
-      | Less ↦ λ g. refl
-      | Equal ↦ λ g. cc
-      | Greater ↦ λ g. ap (λ ps. (e.0.items, e.1) ∷ ps) (with_entry-absent key n es g)
-    ]) f
+    inside : at ≤ length (get_or pages page [])
+    inside = omega (arith, inner.within, length-map (get_or pages page []) (key_at entries))
 
-pub length-with_entry-absent : (bytes : List ℕ) (n : ℕ) (es : Entries) → lookup (is_at (by_bytes bytes)) es ≡ None → length (with_entry bytes n (pairs es)) ≡ suc (length es)
-length-with_entry-absent bytes n [] f = refl
-length-with_entry-absent bytes n (e ∷ es) f =
-    (elim (by_bytes bytes e.0) as (λ o. cond (is_eq o) (Some e.1) (lookup (is_at (by_bytes bytes)) es) ≡ None
-    → length (match_ordering o ((bytes, n ∷ []) ∷ (e.0.items, e.1) ∷ pairs es) ((e.0.items, with_number e.1 n) ∷ pairs es) ((e.0.items, e.1) ∷ with_entry bytes n (pairs es))) ≡ suc (suc (length es))) [
-      | Less ↦ λ g. ap (λ n. suc (suc n)) (length-map es (λ (e : Vec ℕ Global × List ℕ). (e.0.items, e.1)))
-      | Equal ↦ λ g. cc
-      | Greater ↦ λ g. ap suc (length-with_entry-absent bytes n es g)
-    ]) f
+    key-here : (j n : ℕ) → j < length (in_pages pages heads) → get_or (in_pages pages heads) j 0 ≡ n → key_at (placed entries (in_pages pages heads)) j ≡ key_at entries n
+    key-here j n lt e = placed-at entries (in_pages pages heads) j lt ∙ ap (key_at entries) e
 
--- ---- bytes and keys
+    below : (a p j : ℕ) → at ≡ a → page ≡ p → suc j ≡ position pages page at → lies_to kind text (key_at (placed entries (in_pages pages heads)) j) ≡ Less
+    below (suc a) p j ea ep e =
+        let step : position pages page (suc a) ≡ suc (position pages page a) = position-step pages page a in
+        let place : j ≡ position pages page a = omega (arith, e ∙ ap (position pages page) ea, step) in
+        let low : a < length (get_or pages page []) = omega (arith, inside, ea) in
+        let there : get_or (in_pages pages heads) j 0 ≡ get_or (get_or pages page []) a 0 = ap (λ (i : ℕ). get_or (in_pages pages heads) i 0) place ∙ at-page pages heads page a 0 b h low in
+        let lt : j < length (in_pages pages heads) = omega (arith, e, position-within pages heads page at b h inside) in
+        ap (lies_to kind text) (key-here j (get_or (get_or pages page []) a 0) lt there ∙ sym (placed-at entries (get_or pages page []) a low)) ∙ inner.below a (sym ea)
+    below zero (suc p) j ea ep e =
+        let more : suc p < length pages = omega (arith, h, ep) in
+        let step : position pages (suc p) 0 ≡ suc (position pages p (length (get_or pages p []))) = position-next pages p more in
+        let place : j ≡ position pages p (length (get_or pages p [])) = omega (arith, e ∙ ap₂ (position pages) ep ea, step) in
+        let low : p < length heads = omega (arith, more, b) in
+        let there : get_or (in_pages pages heads) j 0 ≡ get_or heads p 0 = ap (λ (i : ℕ). get_or (in_pages pages heads) i 0) place ∙ at-head pages heads p 0 b low in
+        let lt : j < length (in_pages pages heads) = omega (arith, e, position-within pages heads page at b h inside) in
+        ap (lies_to kind text) (key-here j (get_or heads p 0) lt there ∙ sym (placed-at entries heads p low)) ∙ outer.below p (sym ep)
+    below zero zero j ea ep e = absurd (omega (arith, e ∙ ap₂ (position pages) ep ea, first pages h))
+      where
+        first : (ps : List (List ℕ)) → page < length ps → position ps 0 0 ≡ 0
+        first [] l = absurd (omega (arith, l))
+        first (r ∷ rs) l = refl
 
-pub kind_of-number : (k : Kind) → kind_of (kind_number k) ≡ k
-kind_of-number (Text To) = refl
-kind_of-number (Text Cc) = refl
-kind_of-number (Text Bcc) = refl
-kind_of-number (Text From) = refl
-kind_of-number (Text Subject) = refl
-kind_of-number (Text Body) = refl
-kind_of-number OwnId = refl
-kind_of-number LinkId = refl
+    above : position pages page at < length (placed entries (in_pages pages heads)) → (t : Bool) → nat_lt at (length (get_or pages page [])) ≡ t → (u : Bool) → nat_lt page (length heads) ≡ u
+        → lies_to kind text (key_at (placed entries (in_pages pages heads)) (position pages page at)) ≡ Greater
+    above lt true et u eu =
+        let low : at < length (get_or pages page []) = grind (arith, nat_tests) in
+        let far : position pages page at < length (in_pages pages heads) = omega (arith, lt, length-map (in_pages pages heads) (key_at entries)) in
+        ap (lies_to kind text) (key-here (position pages page at) (get_or (get_or pages page []) at 0) far (at-page pages heads page at 0 b h low) ∙ sym (placed-at entries (get_or pages page []) at low))
+        ∙ inner.above (omega (arith, low, length-map (get_or pages page []) (key_at entries)))
+    above lt false et true eu =
+        let high : length (get_or pages page []) ≤ at = grind (arith, nat_tests) in
+        let end : at ≡ length (get_or pages page []) = omega (arith, high, inside) in
+        let low : page < length heads = grind (arith, nat_tests) in
+        let far : position pages page at < length (in_pages pages heads) = omega (arith, lt, length-map (in_pages pages heads) (key_at entries)) in
+        let there : get_or (in_pages pages heads) (position pages page at) 0 ≡ get_or heads page 0 = ap (λ (i : ℕ). get_or (in_pages pages heads) (position pages page i) 0) end ∙ at-head pages heads page 0 b low in
+        ap (lies_to kind text) (key-here (position pages page at) (get_or heads page 0) far there ∙ sym (placed-at entries heads page low))
+        ∙ outer.above (omega (arith, low, length-map heads (key_at entries)))
+    above lt false et false eu =
+        let high : length (get_or pages page []) ≤ at = grind (arith, nat_tests) in
+        let end : at ≡ length (get_or pages page []) = omega (arith, high, inside) in
+        let last : length heads ≤ page = grind (arith, nat_tests) in
+        let all : position pages page at ≡ length (in_pages pages heads) = ap (position pages page) end ∙ position-last pages heads page b h last in
+        absurd (omega (arith, lt, all, length-map (in_pages pages heads) (key_at entries)))
 
-keys-match : (o : Ordering) (a b c : List (List ℕ × List ℕ)) → map key_of (match_ordering o a b c) ≡ match_ordering o (map key_of a) (map key_of b) (map key_of c)
-keys-match Less a b c = refl
-keys-match Equal a b c = refl
-keys-match Greater a b c = refl
+pub gap-found : (kind : Kind) (text : List ℕ) (entries : List Key) (pages : List (Vec ℕ Global)) (heads : List ℕ) (page at : ℕ) (row : List ℕ) → length heads ≡ length pages - 1 → page < length pages
+    → row ≡ get_or (rows pages) page [] → IsGap kind text (placed entries heads) page → IsGap kind text (placed entries row) at
+    → IsGap kind text (placed entries (in_pages (rows pages) heads)) (position (rows pages) page at)
+gap-found kind text entries pages heads page at row b h r outer inner =
+    let long : length (rows pages) ≡ length pages = length-map pages (λ (p : Vec ℕ Global). p.items) in
+    gap-in_pages kind text entries (rows pages) heads page at (omega (arith, b, long)) (omega (arith, h, long)) outer (subst (λ (l : List ℕ). IsGap kind text (placed entries l) at) r inner)
 
--- the keys of the entries with one number more are the keys with one pair more
-pub with_pair-is : (kind : Kind) (text : List ℕ) (n : ℕ) (ps : List (List ℕ × List ℕ)) → AllByRecursion IsKeyBytes ps
-    → map key_of (with_entry (kind_number kind ∷ text) n ps) ≡ with_pair kind text n (map key_of ps)
-with_pair-is kind text n [] all = ap (λ (k : Kind). let key : Key = record { kind = k; text = text; numbers = n ∷ [] } in key ∷ []) (kind_of-number kind)
-with_pair-is kind text n (p ∷ ps) all =
-    let bytes : List ℕ = kind_number kind ∷ text in
-    keys-match (slice_cmp nat_cmp (kind_number kind ∷ text) p.0) ((kind_number kind ∷ text, n ∷ []) ∷ p ∷ ps) ((p.0, with_number p.1 n) ∷ ps) (p ∷ with_entry (kind_number kind ∷ text) n ps)
-    ∙ ap (λ (o : Ordering). match_ordering o (map key_of ((kind_number kind ∷ text, n ∷ []) ∷ p ∷ ps)) (map key_of ((p.0, with_number p.1 n) ∷ ps)) (map key_of (p ∷ with_entry (kind_number kind ∷ text) n ps)))
-    (ap (λ (q : List ℕ). slice_cmp nat_cmp (kind_number kind ∷ text) q) (sym all.0.same))
-    ∙ ap (λ (k : Kind). let key : Key = record { kind = k; text = text; numbers = n ∷ [] } in
-    match_ordering (slice_cmp nat_cmp (kind_number kind ∷ text) (kind_number (key_of p).kind ∷ (key_of p).text)) (key ∷ map key_of (p ∷ ps)) (map key_of ((p.0, with_number p.1 n) ∷ ps)) (map key_of (p ∷ with_entry (kind_number kind ∷ text) n ps))) (kind_of-number kind)
-    ∙ ap (λ (ks : List Key). let key : Key = record { kind = kind; text = text; numbers = n ∷ [] } in
-    match_ordering (slice_cmp nat_cmp (kind_number kind ∷ text) (kind_number (key_of p).kind ∷ (key_of p).text)) (key ∷ map key_of (p ∷ ps)) (map key_of ((p.0, with_number p.1 n) ∷ ps)) (key_of p ∷ ks)) (with_pair-is kind text n ps all.1)
+-- among sorted keys all before a gap lie before the wanted key, and all others behind it
+gap-below : (kind : Kind) (text : List ℕ) (ks : List Key) (place j : ℕ) → AreSorted ks → IsGap kind text ks place → j < place → lies_to kind text (key_at ks j) ≡ Less
+gap-below kind text ks zero j s g h = absurd (omega (arith, h))
+gap-below kind text ks (suc m) j s g h = before-less kind text ks no_key m j s (omega (arith, g.within)) (g.below m refl) h
 
--- and the bytes stay those of their keys
-key_bytes-new : (kind : Kind) (text : List ℕ) (ns : List ℕ) → length text < 2 ^ 32 → IsKeyBytes (kind_number kind ∷ text, ns)
-key_bytes-new kind text ns short = record { same = ap (λ (k : Kind). kind_number k ∷ text) (kind_of-number kind); short = short }
+gap-above : (kind : Kind) (text : List ℕ) (ks : List Key) (place j : ℕ) → AreSorted ks → IsGap kind text ks place → place ≤ j → j < length ks → lies_to kind text (key_at ks j) ≡ Greater
+gap-above kind text ks place j s g le lt = behind-greater kind text ks no_key place j s (g.above (omega (arith, le, lt))) le lt
 
-pub with_entry-key_bytes : (kind : Kind) (text : List ℕ) (n : ℕ) → length text < 2 ^ 32 → (ps : List (List ℕ × List ℕ)) → AllByRecursion IsKeyBytes ps → AllByRecursion IsKeyBytes (with_entry (kind_number kind ∷ text) n ps)
-with_entry-key_bytes kind text n short [] all = (key_bytes-new kind text (n ∷ []) short, tt)
-with_entry-key_bytes kind text n short (p ∷ ps) all =
-    elim (slice_cmp nat_cmp (kind_number kind ∷ text) p.0) as (λ o. AllByRecursion IsKeyBytes (match_ordering o ((kind_number kind ∷ text, n ∷ []) ∷ p ∷ ps) ((p.0, with_number p.1 n) ∷ ps) (p ∷ with_entry (kind_number kind ∷ text) n ps))) [
-      | Less ↦ (key_bytes-new kind text (n ∷ []) short, all)
-      | Equal ↦ (record { same = all.0.same; short = all.0.short }, all.1)
-      | Greater ↦ (all.0, with_entry-key_bytes kind text n short ps all.1)
-    ]
+-- ---- one more key
 
-pub length-with_pair : (kind : Kind) (text : List ℕ) (n : ℕ) (ps : List (List ℕ × List ℕ)) → AllByRecursion IsKeyBytes ps
-    → length (with_pair kind text n (map key_of ps)) ≡ length (with_entry (kind_number kind ∷ text) n ps)
-length-with_pair kind text n ps all = ap length (sym (with_pair-is kind text n ps all)) ∙ length-map (with_entry (kind_number kind ∷ text) n ps) key_of
+with_pair-new : (kind : Kind) (text : List ℕ) (n : ℕ) (ks : List Key) (place : ℕ) → place ≤ length ks
+    → ((j : ℕ) → j < place → lies_to kind text (key_at ks j) ≡ Less) → ((j : ℕ) → place ≤ j → j < length ks → lies_to kind text (key_at ks j) ≡ Greater)
+    → with_pair kind text n ks ≡ insert ks place (new_key kind text n)
+with_pair-new kind text n [] zero w below above = refl
+with_pair-new kind text n [] (suc place) w below above = absurd (omega (arith, w))
+with_pair-new kind text n (k ∷ ks) zero w below above =
+    ap (λ (o : Ordering). match_ordering o (new_key kind text n ∷ k ∷ ks) (with_one k n ∷ ks) (k ∷ with_pair kind text n ks)) (wanted-to kind text k Greater (above 0 (omega arith) (omega arith)))
+with_pair-new kind text n (k ∷ ks) (suc place) w below above =
+    ap (λ (o : Ordering). match_ordering o (new_key kind text n ∷ k ∷ ks) (with_one k n ∷ ks) (k ∷ with_pair kind text n ks)) (wanted-to kind text k Less (below 0 (omega arith)))
+    ∙ ap (λ (l : List Key). k ∷ l) (with_pair-new kind text n ks place (omega (arith, w)) (λ j lt. below (suc j) (omega (arith, lt))) (λ j le lt. above (suc j) (omega (arith, le)) (omega (arith, lt))))
 
--- what a call made of the entries is what it made of the keys
-pub kept : {T E : Type 0} (r : Result T E) (kind : Kind) (text : List ℕ) (n : ℕ) → length text < 2 ^ 32 → (ps qs : List (List ℕ × List ℕ)) (bytes : List ℕ) → bytes ≡ kind_number kind ∷ text
-    → OnOk r (qs ≡ with_entry bytes n ps) → OnErr r (qs ≡ ps) → AllByRecursion IsKeyBytes ps → AllByRecursion IsKeyBytes qs
-kept (Ok _) kind text n short ps qs bytes b ok err all =
-    let e : qs ≡ with_entry (kind_number kind ∷ text) n ps = ok ∙ ap (λ x. with_entry x n ps) b in
-    subst (λ x. AllByRecursion IsKeyBytes x) (sym e) (with_entry-key_bytes kind text n short ps all)
-kept (Err _) kind text n short ps qs bytes b ok err all = subst (λ x. AllByRecursion IsKeyBytes x) (sym err) all
+all-behind : (kind : Kind) (text : List ℕ) (ks : List Key) → ((j : ℕ) → j < length ks → lies_to kind text (key_at ks j) ≡ Greater)
+    → AllByRecursion (λ y. slice_cmp nat_cmp (bytes_of kind text) y ≡ Less) (map key_bytes ks)
+all-behind kind text [] above = tt
+all-behind kind text (k ∷ ks) above = (wanted-to kind text k Greater (above 0 (omega arith)), all-behind kind text ks (λ j lt. above (suc j) (omega (arith, lt))))
 
-pub kept-keys : {T E : Type 0} (r : Result T E) (kind : Kind) (text : List ℕ) (n : ℕ) (ps qs : List (List ℕ × List ℕ)) (bytes : List ℕ) → bytes ≡ kind_number kind ∷ text
-    → (now : List Key) → map key_of ps ≡ now → OnOk r (qs ≡ with_entry bytes n ps) → AllByRecursion IsKeyBytes ps → OnOk r (map key_of qs ≡ with_pair kind text n now)
-kept-keys (Ok _) kind text n ps qs bytes b now v ok all =
-    ap (map key_of) (ok ∙ ap (λ x. with_entry x n ps) b) ∙ with_pair-is kind text n ps all ∙ ap (with_pair kind text n) v
-kept-keys (Err _) kind text n ps qs bytes b now v ok all = tt
+all-insert : (P : List ℕ → Type 0) (ks : List Key) (place : ℕ) (k : Key) → AllByRecursion P (map key_bytes ks) → P (key_bytes k) → AllByRecursion P (map key_bytes (insert ks place k))
+all-insert P [] zero k all new = (new, tt)
+all-insert P [] (suc place) k all new = (new, tt)
+all-insert P (x ∷ ks) zero k all new = (new, all)
+all-insert P (x ∷ ks) (suc place) k all new = (all.0, all-insert P ks place k all.1 new)
 
-pub kept-same : {T E : Type 0} (r : Result T E) (ps qs : List (List ℕ × List ℕ)) (now : List Key) → map key_of ps ≡ now → OnErr r (qs ≡ ps) → OnErr r (map key_of qs ≡ now)
-kept-same (Ok _) ps qs now v err = tt
-kept-same (Err _) ps qs now v err = ap (map key_of) err ∙ v
+sorted-new : (kind : Kind) (text : List ℕ) (n : ℕ) (ks : List Key) (place : ℕ) → AreSorted ks → place ≤ length ks
+    → ((j : ℕ) → j < place → lies_to kind text (key_at ks j) ≡ Less) → ((j : ℕ) → place ≤ j → j < length ks → lies_to kind text (key_at ks j) ≡ Greater)
+    → AreSorted (insert ks place (new_key kind text n))
+unfolding IsStrictlySortedBy
+sorted-new kind text n [] zero s w below above = (tt, tt)
+sorted-new kind text n [] (suc place) s w below above = (tt, tt)
+sorted-new kind text n (k ∷ ks) zero s w below above = (all-behind kind text (k ∷ ks) (λ j lt. above j (omega arith) lt), s)
+sorted-new kind text n (k ∷ ks) (suc place) s w below above = (
+  all-insert (λ y. slice_cmp nat_cmp (key_bytes k) y ≡ Less) ks place (new_key kind text n) s.0 (below 0 (omega arith)),
+  sorted-new kind text n ks place s.1 (omega (arith, w)) (λ j lt. below (suc j) (omega (arith, lt))) (λ j le lt. above (suc j) (omega (arith, le)) (omega (arith, lt))),
+)
+
+-- one more entry leaves the keys of the others
+placed-more : (entries : List Key) (k : Key) (order : List ℕ) → AllByRecursion (λ i. i < length entries) order → placed (entries ++ k ∷ []) order ≡ placed entries order
+placed-more entries k [] all = refl
+placed-more entries k (i ∷ order) all = ap₂ (λ (x : Key) (l : List Key). x ∷ l) (get_or_append_left entries (k ∷ []) no_key i all.0) (placed-more entries k order all.1)
+
+map-insert : (f : ℕ → Key) (order : List ℕ) (place m : ℕ) → map f (insert order place m) ≡ insert (map f order) place (f m)
+map-insert f [] zero m = refl
+map-insert f [] (suc place) m = refl
+map-insert f (i ∷ order) zero m = refl
+map-insert f (i ∷ order) (suc place) m = ap (λ (l : List Key). f i ∷ l) (map-insert f order place m)
+
+pub placed-new : (entries : List Key) (k : Key) (order : List ℕ) (place : ℕ) → AllByRecursion (λ i. i < length entries) order
+    → placed (entries ++ k ∷ []) (insert order place (length entries)) ≡ insert (placed entries order) place k
+placed-new entries k order place all =
+    map-insert (key_at (entries ++ k ∷ [])) order place (length entries)
+    ∙ ap₂ (λ (l : List Key) (x : Key). insert l place x) (placed-more entries k order all) (get_or-append_seam entries k [] no_key)
+
+all-numbers : (P : ℕ → Type 0) (order : List ℕ) (place m : ℕ) → AllByRecursion P order → P m → AllByRecursion P (insert order place m)
+all-numbers P [] zero m all new = (new, tt)
+all-numbers P [] (suc place) m all new = (new, tt)
+all-numbers P (i ∷ order) zero m all new = (new, all)
+all-numbers P (i ∷ order) (suc place) m all new = (all.0, all-numbers P order place m all.1 new)
+
+all-later : (m n : ℕ) (order : List ℕ) → m ≤ n → AllByRecursion (λ i. i < m) order → AllByRecursion (λ i. i < n) order
+all-later m n [] h all = tt
+all-later m n (i ∷ order) h all = (omega (arith, h, all.0), all-later m n order h all.1)
+
+among-new : (order : List ℕ) (place m : ℕ) → IsAmong m (insert order place m)
+among-new [] zero m = inl refl
+among-new [] (suc place) m = inl refl
+among-new (i ∷ order) zero m = inl refl
+among-new (i ∷ order) (suc place) m = inr (among-new order place m)
+
+among-kept : (order : List ℕ) (place m i : ℕ) → IsAmong i order → IsAmong i (insert order place m)
+among-kept [] place m i a = absurd a
+among-kept (x ∷ order) zero m i a = inr a
+among-kept (x ∷ order) (suc place) m i a = elim a [ inl e ↦ inl e | inr b ↦ inr (among-kept order place m i b) ]
+
+-- the keys with one more are the pairs with one more
+pub with_pair-gap : (kind : Kind) (text : List ℕ) (n : ℕ) (entries : List Key) (order : List ℕ) (place : ℕ) → IsOrder entries order → IsGap kind text (placed entries order) place
+    → placed (entries ++ new_key kind text n ∷ []) (insert order place (length entries)) ≡ with_pair kind text n (placed entries order)
+with_pair-gap kind text n entries order place o g =
+    placed-new entries (new_key kind text n) order place o.within
+    ∙ sym (with_pair-new kind text n (placed entries order) place g.within (λ j lt. gap-below kind text (placed entries order) place j o.sorted g lt) (λ j le lt. gap-above kind text (placed entries order) place j o.sorted g le lt))
+
+pub length-with_pair-gap : (kind : Kind) (text : List ℕ) (n : ℕ) (entries : List Key) (order : List ℕ) (place : ℕ) → IsOrder entries order → IsGap kind text (placed entries order) place
+    → length (with_pair kind text n (placed entries order)) ≡ suc (length entries)
+length-with_pair-gap kind text n entries order place o g =
+    let low : place ≤ length order = omega (arith, g.within, length-map order (key_at entries)) in
+    ap length (sym (with_pair-gap kind text n entries order place o g))
+    ∙ length-map (insert order place (length entries)) (key_at (entries ++ new_key kind text n ∷ []))
+    ∙ length-insert order place (length entries) low ∙ omega (arith, o.count)
+
+pub order-new : (kind : Kind) (text : List ℕ) (n : ℕ) (entries : List Key) (order : List ℕ) (place : ℕ) → IsOrder entries order → IsGap kind text (placed entries order) place
+    → IsOrder (entries ++ new_key kind text n ∷ []) (insert order place (length entries))
+order-new kind text n entries order place o g =
+    let k : Key = new_key kind text n in
+    let long : length (entries ++ k ∷ []) ≡ suc (length entries) = length-append entries (k ∷ []) ∙ omega arith in
+    let low : place ≤ length order = omega (arith, g.within, length-map order (key_at entries)) in
+    record {
+      sorted = subst AreSorted (sym (placed-new entries k order place o.within))
+          (sorted-new kind text n (placed entries order) place o.sorted g.within (λ j lt. gap-below kind text (placed entries order) place j o.sorted g lt) (λ j le lt. gap-above kind text (placed entries order) place j o.sorted g le lt));
+      within = all-numbers (λ i. i < length (entries ++ k ∷ [])) order place (length entries) (all-later (length entries) (length (entries ++ k ∷ [])) order (omega (arith, long)) o.within) (omega (arith, long));
+      whole = λ i lt. whole i lt (nat_eq i (length entries)) refl;
+      count = length-insert order place (length entries) low ∙ omega (arith, o.count, long);
+    }
+  where
+    whole : (i : ℕ) → i < length (entries ++ new_key kind text n ∷ []) → (t : Bool) → nat_eq i (length entries) ≡ t → IsAmong i (insert order place (length entries))
+    whole i lt true e = let same : length entries ≡ i = grind (arith, nat_tests) in subst (λ (m : ℕ). IsAmong i (insert order place m)) (sym same) (among-new order place i)
+    whole i lt false e =
+        let low : i < length entries = grind (arith, nat_tests, length-append entries (new_key kind text n ∷ []), lt, e) in
+        among-kept order place (length entries) i (o.whole i low)
+
+-- ---- one more number
+
+-- another entry leaves what has other numbers
+key-other : (entries : List Key) (i j : ℕ) (k : Key) → nat_eq j i ≡ false → key_at (set entries i k) j ≡ key_at entries j
+key-other entries i j k e = get_or-set_other entries i j k no_key (grind (arith, nat_tests))
+
+placed-other : (entries : List Key) (i : ℕ) (k : Key) (order : List ℕ) → AllByRecursion (λ y. slice_cmp nat_cmp (key_bytes (key_at entries i)) y ≡ Less) (map key_bytes (placed entries order))
+    → placed (set entries i k) order ≡ placed entries order
+placed-other entries i k [] all = refl
+placed-other entries i k (j ∷ order) all = ap₂ (λ (x : Key) (l : List Key). x ∷ l) (go (nat_eq j i) refl) (placed-other entries i k order all.1)
+  where
+    go : (t : Bool) → nat_eq j i ≡ t → key_at (set entries i k) j ≡ key_at entries j
+    go true e =
+        let same : j ≡ i = grind (arith, nat_tests) in
+        let less : slice_cmp nat_cmp (key_bytes (key_at entries i)) (key_bytes (key_at entries i)) ≡ Less = subst (λ (m : ℕ). slice_cmp nat_cmp (key_bytes (key_at entries i)) (key_bytes (key_at entries m)) ≡ Less) same all.0 in
+        absurd (irreflexive (slice_cmp nat_cmp (key_bytes (key_at entries i)) (key_bytes (key_at entries i))) less (nat_list_cmp_total.antisymm (key_bytes (key_at entries i)) (key_bytes (key_at entries i))))
+      where
+        irreflexive : (o : Ordering) → o ≡ Less → o ≡ ordering_reverse o → ⊥
+        irreflexive Less e r = absurd cc
+        irreflexive Equal e r = absurd cc
+        irreflexive Greater e r = absurd cc
+    go false e = key-other entries i j k e
+
+-- one of those behind a key lies behind it
+among-behind : (entries : List Key) (i : ℕ) (first : List ℕ) (order : List ℕ) → IsAmong i order → AllByRecursion (λ y. slice_cmp nat_cmp first y ≡ Less) (map key_bytes (placed entries order))
+    → slice_cmp nat_cmp first (key_bytes (key_at entries i)) ≡ Less
+among-behind entries i first [] a all = absurd a
+among-behind entries i first (j ∷ order) a all = elim a [
+  | inl e ↦ subst (λ (m : ℕ). slice_cmp nat_cmp first (key_bytes (key_at entries m)) ≡ Less) e all.0
+  | inr b ↦ among-behind entries i first order b all.1
+]
+
+pub with_pair-found : (kind : Kind) (text : List ℕ) (n : ℕ) (entries : List Key) (i : ℕ) (order : List ℕ) → i < length entries → lies_to kind text (key_at entries i) ≡ Equal
+    → AreSorted (placed entries order) → IsAmong i order → with_pair kind text n (placed entries order) ≡ placed (set entries i (with_one (key_at entries i) n)) order
+unfolding IsStrictlySortedBy
+with_pair-found kind text n entries i [] lt equal s a = absurd a
+with_pair-found kind text n entries i (j ∷ order) lt equal s a = go (λ rest. with_pair-found kind text n entries i order lt equal s.1 rest) (nat_eq j i) refl
+  where
+    wanted : List ℕ
+    wanted = bytes_of kind text
+
+    new : Key
+    new = with_one (key_at entries i) n
+
+    branch : Ordering → List Key
+    branch o = match_ordering o (new_key kind text n ∷ key_at entries j ∷ placed entries order) (with_one (key_at entries j) n ∷ placed entries order) (key_at entries j ∷ with_pair kind text n (placed entries order))
+
+    go : (IsAmong i order → with_pair kind text n (placed entries order) ≡ placed (set entries i (with_one (key_at entries i) n)) order)
+        → (t : Bool) → nat_eq j i ≡ t → with_pair kind text n (placed entries (j ∷ order)) ≡ placed (set entries i (with_one (key_at entries i) n)) (j ∷ order)
+    go others true e =
+        let same : j ≡ i = grind (arith, nat_tests) in
+        let here : lies_to kind text (key_at entries j) ≡ Equal = ap (λ (m : ℕ). lies_to kind text (key_at entries m)) same ∙ equal in
+        let first : key_at (set entries i (with_one (key_at entries i) n)) j ≡ with_one (key_at entries j) n =
+        ap (key_at (set entries i (with_one (key_at entries i) n))) same ∙ get_or-set_same entries i (with_one (key_at entries i) n) no_key lt ∙ ap (λ (m : ℕ). with_one (key_at entries m) n) (sym same) in
+        let behind : AllByRecursion (λ y. slice_cmp nat_cmp (key_bytes (key_at entries i)) y ≡ Less) (map key_bytes (placed entries order)) =
+        subst (λ (m : ℕ). AllByRecursion (λ y. slice_cmp nat_cmp (key_bytes (key_at entries m)) y ≡ Less) (map key_bytes (placed entries order))) same s.0 in
+        ap branch (wanted-to kind text (key_at entries j) Equal here)
+        ∙ sym (ap₂ (λ (x : Key) (l : List Key). x ∷ l) first (placed-other entries i (with_one (key_at entries i) n) order behind))
+    go others false e =
+        let rest : IsAmong i order = elim a [ inl f ↦ absurd (grind (arith, nat_tests)) | inr b ↦ b ] in
+        let less : slice_cmp nat_cmp (key_bytes (key_at entries j)) (key_bytes (key_at entries i)) ≡ Less = among-behind entries i (key_bytes (key_at entries j)) order rest s.0 in
+        let greater : slice_cmp nat_cmp (bytes_of kind text) (key_bytes (key_at entries j)) ≡ Greater =
+        sym (nat_list_cmp_total.congr (key_bytes (key_at entries i)) (bytes_of kind text) (key_bytes (key_at entries j)) equal)
+        ∙ nat_list_cmp_total.antisymm (key_bytes (key_at entries i)) (key_bytes (key_at entries j)) ∙ ap ordering_reverse less in
+        ap branch greater
+        ∙ ap₂ (λ (x : Key) (l : List Key). x ∷ l) (sym (key-other entries i j (with_one (key_at entries i) n) e)) (others rest)
+
+-- a number more leaves the keys' bytes
+bytes-same : (entries : List Key) (i n : ℕ) (order : List ℕ) → i < length entries → map key_bytes (placed (set entries i (with_one (key_at entries i) n)) order) ≡ map key_bytes (placed entries order)
+bytes-same entries i n [] lt = refl
+bytes-same entries i n (j ∷ order) lt = ap₂ (λ (x : List ℕ) (l : List (List ℕ)). x ∷ l) (go (nat_eq j i) refl) (bytes-same entries i n order lt)
+  where
+    go : (t : Bool) → nat_eq j i ≡ t → key_bytes (key_at (set entries i (with_one (key_at entries i) n)) j) ≡ key_bytes (key_at entries j)
+    go true e =
+        let same : j ≡ i = grind (arith, nat_tests) in
+        ap (λ (m : ℕ). key_bytes (key_at (set entries i (with_one (key_at entries i) n)) m)) same
+        ∙ ap key_bytes (get_or-set_same entries i (with_one (key_at entries i) n) no_key lt) ∙ ap (λ (m : ℕ). key_bytes (key_at entries m)) (sym same)
+    go false e = ap key_bytes (key-other entries i j (with_one (key_at entries i) n) e)
+
+pub order-found : (entries : List Key) (i n : ℕ) (order : List ℕ) → i < length entries → IsOrder entries order → IsOrder (set entries i (with_one (key_at entries i) n)) order
+order-found entries i n order lt o =
+    let long : length (set entries i (with_one (key_at entries i) n)) ≡ length entries = length-set entries i (with_one (key_at entries i) n) in
+    record {
+      sorted = subst (λ (l : List (List ℕ)). IsStrictlySortedBy (slice_cmp nat_cmp) l) (sym (bytes-same entries i n order lt)) o.sorted;
+      within = all-later (length entries) (length (set entries i (with_one (key_at entries i) n))) order (omega (arith, long)) o.within;
+      whole = λ m h. o.whole m (omega (arith, h, long));
+      count = o.count ∙ sym long;
+    }
+
+pub all-at : (P : ℕ → Type 0) (order : List ℕ) (j d : ℕ) → AllByRecursion P order → j < length order → P (get_or order j d)
+all-at P [] j d all h = absurd (omega (arith, h))
+all-at P (i ∷ order) zero d all h = all.0
+all-at P (i ∷ order) (suc j) d all h = all-at P order j d all.1 (omega (arith, h))
+
+pub order-empty : IsOrder [] []
+unfolding IsStrictlySortedBy
+order-empty = record { sorted = tt; within = tt; whole = λ i h. absurd (omega (arith, h)); count = refl }

@@ -7,12 +7,11 @@ use Rattle.std.specs.Ordering.{match_ordering, ordering_then, ordering_reverse, 
 use Rattle.std.specs.Cmp.Lexicographic.{slice_cmp}
 use Rattle.std.proofs.lemmas.Cmp.{ranked, nat_list_cmp_total}
 use Rattle.mail_index.specs.declared.kind.Kind.{Kind}
-use Rattle.mail_index.specs.Kinds.{kind_number}
+use Rattle.mail_index.specs.Kinds.{kind_number, kind_of_number}
 use Rattle.mail_index.specs.Tables.{Key, TextBefore, IsBefore, KeyBefore, AllNext}
 use Rattle.mail_index.specs.PostingLists.{with_number}
-use Rattle.mail_index.specs.KeyMaps.{kind_of}
 use Rattle.mail_index.specs.Builders.{with_pair}
-use Rattle.mail_index.proofs.KeyMapLemmas.{kind_of-number}
+use Rattle.mail_index.proofs.KindNumbers.{kind_of-number}
 
 text-before : (xs ys : List ℕ) → slice_cmp nat_cmp xs ys ≡ Less → TextBefore xs ys
 text-before [] [] h = absurd cc
@@ -32,7 +31,7 @@ key-before j k xs ys h = go (nat_cmp (kind_number j) (kind_number k)) refl h
     go Less e h = let below : kind_number j < kind_number k = ranked (kind_number j) (kind_number k) Less (sym e) in inl below
     go Equal e h =
         let same : kind_number j ≡ kind_number k = ranked (kind_number j) (kind_number k) Equal (sym e) in
-        inr (sym (kind_of-number j) ∙ ap kind_of same ∙ kind_of-number k, text-before xs ys h)
+        inr (sym (kind_of-number j) ∙ ap kind_of_number same ∙ kind_of-number k, text-before xs ys h)
     go Greater e h = absurd cc
 
 key-after : (j k : Kind) (xs ys : List ℕ) → slice_cmp nat_cmp (kind_number j ∷ xs) (kind_number k ∷ ys) ≡ Greater → IsBefore k ys j xs

@@ -23,10 +23,12 @@ pub mod DirectoryKeys
 mod Rows
 mod RowsDigest
 mod PostingLemmas
+mod KindNumbers
+mod EntryLemmas
+mod PageLemmas
 mod KeyMapLemmas
 mod DraftLemmas
 mod SigningLemmas
-mod KeySectionLemmas
 mod Sizes
 mod KeyPlaces
 mod Placing

@@ -9,14 +9,13 @@ use Rattle.std.specs.List.{AllByRecursion}
 use Rattle.std.proofs.lemmas.Bool.Decides.{nat_tests}
 use Rattle.std.proofs.lemmas.Cmp.{ranked}
 use Rattle.mail_index.specs.declared.kind.Kind.{Kind}
-use Rattle.mail_index.specs.Kinds.{kind_number}
+use Rattle.mail_index.specs.Kinds.{kind_number, kind_of_number}
 use Rattle.mail_index.specs.Tables.{Key, RisesFrom, IsKey}
 use Rattle.mail_index.specs.PostingLists.{end_from, with_number}
-use Rattle.mail_index.specs.KeyMaps.{kind_of}
 use Rattle.mail_index.specs.Builders.{with_pair}
 use Rattle.mail_index.specs.Pairs.{IsIn, Tells}
 use Rattle.mail_index.proofs.DraftLemmas.{by-number, end_from-below}
-use Rattle.mail_index.proofs.KeyMapLemmas.{kind_of-number}
+use Rattle.mail_index.proofs.KindNumbers.{kind_of-number}
 
 texts-same : (xs ys : List ℕ) → slice_cmp nat_cmp xs ys ≡ Equal → xs ≡ ys
 texts-same [] [] h = refl
@@ -34,7 +33,7 @@ keys-same j k xs ys h =
     let whole : kind_number j ∷ xs ≡ kind_number k ∷ ys = texts-same (kind_number j ∷ xs) (kind_number k ∷ ys) h in
     let number : kind_number j ≡ kind_number k = cc in
     let text : xs ≡ ys = cc in
-    (sym (kind_of-number j) ∙ ap kind_of number ∙ kind_of-number k, text)
+    (sym (kind_of-number j) ∙ ap kind_of_number number ∙ kind_of-number k, text)
 
 is_in-snoc : (ns : List ℕ) (n m : ℕ) → IsIn (ns ++ n ∷ []) m → IsIn ns m ⊎ (n ≡ m)
 is_in-snoc [] n m h = elim h [ inl e ↦ inr e | inr none ↦ absurd none ]

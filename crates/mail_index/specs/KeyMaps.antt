@@ -1,58 +1,98 @@
--- Keys with their numbers as a builder holds them: by their bytes, the kind's number and then the text.
-use Rattle.std.specs.Prelude.{◌≡◌, ℕ, ◌^◌, ◌<◌, List, [], ◌∷◌, length, map, drop, nat_eq, if◌then◌else◌, Vec}
+-- Keys as a builder holds them: entries in the order of their arrival, and their numbers in the order of their keys.
+use Rattle.std.specs.Prelude.{◌≡◌, ℕ, zero, suc, ◌+◌, ◌<◌, ◌≤◌, ◌⊎◌, List, [], ◌∷◌, ◌++◌, length, map, take, drop, Vec}
 use Rattle.std.specs.Global.{Global}
-use Rattle.std.specs.Ordering.{match_ordering, nat_cmp}
-use Rattle.std.specs.Cmp.Lexicographic.{slice_cmp}
-use Rattle.std.specs.List.{concat, slice_index}
-use Rattle.mail_words.specs.declared.kind.TextKind.TheVariants.{To, Cc, Bcc, From, Subject, Body}
+use Rattle.std.specs.declared.cmp.Ordering.TheVariants.{Less, Greater}
+use Rattle.std.specs.List.{AllByRecursion, slice_index}
 use Rattle.mail_index.specs.declared.kind.Kind.{Kind}
-use Rattle.mail_index.specs.declared.kind.Kind.TheVariants.{Text, OwnId, LinkId}
 use Rattle.mail_index.specs.declared.build_fault.BuildFault.{BuildFault}
 use Rattle.mail_index.specs.declared.build_fault.BuildFault.TheVariants.{OutOfMemory, TooMany, Device, Failed}
-use Rattle.mail_index.specs.Kinds.{kind_number}
+use Rattle.mail_index.specs.declared.key_order.KeyOrder.{KeyOrder}
+use Rattle.mail_index.specs.declared.key_order.Place.{Place}
 use Rattle.mail_index.specs.Tables.{Key}
-use Rattle.mail_index.specs.PostingLists.{with_number}
-use Rattle.mail_index.specs.Files.{zeros, be32, be64, Entry, entry_of}
+use Rattle.mail_index.specs.PostingLists.{with_number, numbers_of, IsPosted}
+use Rattle.mail_index.specs.Kinds.{kind_number, kind_of_number}
+use Rattle.mail_index.specs.LookUps.{lies_to, AreSorted}
+use Rattle.mail_index.specs.KeysRead.{key_at}
 
--- the kind of a number from 1 to 8
-abbrev pub kind_of : ℕ → Kind
-kind_of n =
-    if nat_eq n 1 then Text To
-    else if nat_eq n 2 then Text Cc
-    else if nat_eq n 3 then Text Bcc
-    else if nat_eq n 4 then Text From
-    else if nat_eq n 5 then Text Subject
-    else if nat_eq n 6 then Text Body
-    else if nat_eq n 7 then OwnId
-    else LinkId
+-- a key of one message
+abbrev pub new_key : Kind → List ℕ → ℕ → Key
+new_key kind text n = record { kind = kind; text = text; numbers = n ∷ [] }
 
--- the bytes, and the numbers, of each entry of a map
-abbrev pub pairs : List (Vec ℕ Global × List ℕ) → List (List ℕ × List ℕ)
-pairs = map (λ e. (e.0.items, e.1))
+-- the key with n among its numbers
+abbrev pub with_one : Key → ℕ → Key
+with_one k n = record { kind = k.kind; text = k.text; numbers = with_number k.numbers n }
 
-abbrev pub key_of : List ℕ × List ℕ → Key
-key_of p = record { kind = kind_of (slice_index p.0 0); text = drop 1 p.0; numbers = p.1 }
+-- ---- an entry's bytes
 
--- the bytes are those of the key that they are seen as, whose text is short
-pub record IsKeyBytes (p : List ℕ × List ℕ) : Type 0 where
-  pub same : kind_number (kind_of (slice_index p.0 0)) ∷ drop 1 p.0 ≡ p.0
-  pub short : length (drop 1 p.0) < 2 ^ 32
+-- the key of the number of a kind and a text, and of postings
+abbrev pub key_in : List ℕ → List ℕ → Key
+key_in front postings = record { kind = kind_of_number (slice_index front 0); text = drop 1 front; numbers = numbers_of postings }
 
--- the directory's entries
-abbrev pub entries_of : List (Vec ℕ Global × List ℕ) → List Entry
-entries_of es = map entry_of (map key_of (pairs es))
+-- so many of the bytes are the number of a kind and a text, and the others are postings of numbers below next
+pub record IsEntry (bytes : List ℕ) (front next : ℕ) : Type 0 where
+  pub long : front ≤ length bytes
+  pub kind : kind_number (kind_of_number (slice_index (take front bytes) 0)) ∷ drop 1 (take front bytes) ≡ take front bytes
+  pub posted : IsPosted (drop front bytes) next
 
--- the bytes of an entry of the directory, by the key's bytes
-abbrev pub entry_from_bytes : List ℕ → ℕ → ℕ → List ℕ
-entry_from_bytes bytes text_place place = concat ((slice_index bytes 0 ∷ zeros) ∷ be32 (length (drop 1 bytes)) ∷ be64 text_place ∷ be64 place ∷ [])
+-- ---- the order of the entries
 
--- the pairs, in the order of their bytes, with n among the numbers of these bytes
-abbrev pub with_entry : List ℕ → ℕ → List (List ℕ × List ℕ) → List (List ℕ × List ℕ)
-with_entry bytes n [] = (bytes, n ∷ []) ∷ []
-with_entry bytes n (p ∷ ps) = match_ordering (slice_cmp nat_cmp bytes p.0)
-    ((bytes, n ∷ []) ∷ p ∷ ps)
-    ((p.0, with_number p.1 n) ∷ ps)
-    (p ∷ with_entry bytes n ps)
+-- the keys of these numbers
+abbrev pub placed : List Key → List ℕ → List Key
+placed entries order = map (key_at entries) order
+
+-- i is one of these
+abbrev pub IsAmong : ℕ → List ℕ → Type 0
+IsAmong i [] = ⊥
+IsAmong i (j ∷ js) = (j ≡ i) ⊎ IsAmong i js
+
+-- the order has the number of each entry once, and sorts the entries by their keys
+pub record IsOrder (entries : List Key) (order : List ℕ) : Type 0 where
+  pub sorted : AreSorted (placed entries order)
+  pub within : AllByRecursion (λ i. i < length entries) order
+  pub whole : (i : ℕ) → i < length entries → IsAmong i order
+  pub count : length order ≡ length entries
+
+-- the place is the one among the keys where the wanted one isn't met, and would stand
+pub record IsGap (kind : Kind) (text : List ℕ) (keys : List Key) (place : ℕ) : Type 0 where
+  pub within : place ≤ length keys
+  pub below : (j : ℕ) → suc j ≡ place → lies_to kind text (key_at keys j) ≡ Less
+  pub above : place < length keys → lies_to kind text (key_at keys place) ≡ Greater
+
+-- ---- an order in pages
+
+-- what the pages hold
+abbrev pub rows : List (Vec ℕ Global) → List (List ℕ)
+rows pages = map (λ (page : Vec ℕ Global). page.items) pages
+
+-- the numbers of the pages one after another, and between each and the next one of the heads
+abbrev pub in_pages : List (List ℕ) → List ℕ → List ℕ
+in_pages [] heads = []
+in_pages (row ∷ rest) [] = row ++ []
+in_pages (row ∷ rest) (head ∷ heads) = row ++ head ∷ in_pages rest heads
+
+-- those left of a page, and those behind it: of the heads, and of the pages behind it
+abbrev pub left_in_pages : List ℕ → List ℕ → List (List ℕ) → List ℕ
+left_in_pages row [] rest = row ++ []
+left_in_pages row (head ∷ heads) rest = row ++ head ∷ in_pages rest heads
+
+-- how many numbers stand before the one at a place of a page
+abbrev pub position : List (List ℕ) → ℕ → ℕ → ℕ
+position [] page at = at
+position (row ∷ rest) zero at = at
+position (row ∷ rest) (suc page) at = length row + suc (position rest page at)
+
+-- the numbers of an order, and how many of them stand before a place
+abbrev pub numbers_in : KeyOrder → List ℕ
+numbers_in order = in_pages (rows order.pages.items) order.heads.items
+
+abbrev pub place_in : KeyOrder → Place → ℕ
+place_in order place = position (rows order.pages.items) place.page place.at
+
+-- the keys in that order
+abbrev pub keys_in : List Key → KeyOrder → List Key
+keys_in entries order = placed entries (numbers_in order)
+
+-- ---- faults
 
 -- there was no memory, or there would be more than so many
 abbrev pub IsWantOf : ℕ → ℕ → BuildFault → Type 0

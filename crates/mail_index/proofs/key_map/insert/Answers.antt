@@ -1,21 +1,39 @@
-use Rattle.std.proofs.Common.{◌≡◌, [], ◌∷◌, None, ap, ◌∙◌, arith}
-use Rattle.std.specs.Map.{lookup}
-use Rattle.std.specs.BTreeMap.{is_at, insert_entry}
-use Rattle.mail_index.specs.PostingLists.{with_number}
-use Rattle.mail_index.specs.KeyMaps.{pairs, with_entry}
-use Rattle.mail_index.proofs.PostingLemmas.{with_number-nil}
-use Rattle.mail_index.proofs.KeyMapLemmas.{by_bytes, key_cmp, with_entry-absent, length-with_entry-absent}
+use Rattle.std.proofs.Common.{◌≡◌, ◌∙◌, ℕ, List, [], ◌∷◌, ◌++◌, length, ap, ap₂, sym, subst, arith}
+use Rattle.std.specs.List.{insert}
+use Rattle.mail_index.specs.Tables.{Key}
+use Rattle.mail_index.specs.KeyMaps.{placed, rows, in_pages, position, new_key, IsOrder}
+use Rattle.mail_index.proofs.KeyMapLemmas.{order-new, with_pair-gap, length-with_pair-gap}
 use Rattle.mail_index.proofs.key_map.insert.Goals as goal
 
-pub returns-then-len-most-clause-fault : goal.returns-then-len-most-clause-fault
-returns-then-len-most-clause-fault c = omega (arith, length-with_entry-absent c.args.bytes.now c.args.number c.args.lists.now.entries c.requires.absent)
+pub returns-then-number-key-clause-fault : goal.returns-then-number-key-clause-fault
+returns-then-number-key-clause-fault c =
+    omega (
+      arith,
+      c.if-number-key.true,
+      c.len-number.ensures,
+      length-with_pair-gap c.args.key.now.kind c.args.key.now.text.now c.args.key.now.number c.args.entries.now.items
+          (in_pages (rows c.args.order.now.pages.items) c.args.order.now.heads.items) (position (rows c.args.order.now.pages.items) c.args.place.page c.args.place.at) c.requires.order c.requires.gap,
+    )
 
-pub returns-clause-ok : goal.returns-clause-ok
-returns-clause-ok c =
-    let one : c.push.new.self ≡ c.args.number ∷ [] = c.in_ok-push.ensures.ok ∙ ap (λ l. with_number l c.args.number) c.new-list.ensures ∙ with_number-nil c.args.number in
-    let same : c.in_ok-key.key.items ≡ c.args.bytes.now = c.in_ok-key.ensures.items in
-    let absent : lookup (is_at (by_bytes c.in_ok-key.key.items)) c.args.lists.now.entries ≡ None = rw same c.requires.absent in
-    ap pairs c.in_ok-_absent.ensures.entries
-    ∙ ap (λ w. pairs (insert_entry key_cmp c.args.lists.now.entries c.in_ok-key.key w)) one
-    ∙ with_entry-absent c.in_ok-key.key c.args.number c.args.lists.now.entries absent
-    ∙ ap (λ b. with_entry b c.args.number (pairs c.args.lists.now.entries)) same
+pub returns-in-Ok-clause-order : goal.returns-in-Ok-clause-order
+returns-in-Ok-clause-order c =
+    let place : ℕ = position (rows c.args.order.now.pages.items) c.args.place.page c.args.place.at in
+    let order : List ℕ = in_pages (rows c.args.order.now.pages.items) c.args.order.now.heads.items in
+    let new : Key = new_key c.args.key.now.kind c.args.key.now.text.now c.args.key.now.number in
+    let entries_new : c.push.new.self.items ≡ c.args.entries.now.items ++ new ∷ [] = c.in_ok-push.ensures.items ∙ ap (λ (k : Key). c.args.entries.now.items ++ k ∷ []) c.in_ok-entry.ensures in
+    let number : c.len-number.result ≡ length c.args.entries.now.items = omega (arith, c.len-number.ensures) in
+    let order_new : in_pages (rows c.insert.new.self.pages.items) c.insert.new.self.heads.items ≡ insert order place (length c.args.entries.now.items) = c.in-Ok.ensures.ok ∙ ap (insert order place) number in
+    subst (λ (es : List Key). IsOrder es (in_pages (rows c.insert.new.self.pages.items) c.insert.new.self.heads.items)) (sym entries_new)
+    (subst (λ (l : List ℕ). IsOrder (c.args.entries.now.items ++ new ∷ []) l) (sym order_new)
+    (order-new c.args.key.now.kind c.args.key.now.text.now c.args.key.now.number c.args.entries.now.items order place c.requires.order c.requires.gap))
+
+pub returns-in-Ok-clause-ok : goal.returns-in-Ok-clause-ok
+returns-in-Ok-clause-ok c =
+    let place : ℕ = position (rows c.args.order.now.pages.items) c.args.place.page c.args.place.at in
+    let order : List ℕ = in_pages (rows c.args.order.now.pages.items) c.args.order.now.heads.items in
+    let new : Key = new_key c.args.key.now.kind c.args.key.now.text.now c.args.key.now.number in
+    let entries_new : c.push.new.self.items ≡ c.args.entries.now.items ++ new ∷ [] = c.in_ok-push.ensures.items ∙ ap (λ (k : Key). c.args.entries.now.items ++ k ∷ []) c.in_ok-entry.ensures in
+    let number : c.len-number.result ≡ length c.args.entries.now.items = omega (arith, c.len-number.ensures) in
+    let order_new : in_pages (rows c.insert.new.self.pages.items) c.insert.new.self.heads.items ≡ insert order place (length c.args.entries.now.items) = c.in-Ok.ensures.ok ∙ ap (insert order place) number in
+    ap₂ placed entries_new order_new
+    ∙ with_pair-gap c.args.key.now.kind c.args.key.now.text.now c.args.key.now.number c.args.entries.now.items order place c.requires.order c.requires.gap

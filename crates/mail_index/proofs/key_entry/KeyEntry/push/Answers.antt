@@ -1,0 +1,25 @@
+use Rattle.std.proofs.Common.{◌≡◌, ◌∙◌, ◌+◌, ◌-◌, ◌^◌, ◌<◌, ◌≤◌, ◌++◌, ap, sym, arith}
+use Rattle.mail_index.specs.Tables.{Key}
+use Rattle.mail_index.specs.Postings.{leb128}
+use Rattle.mail_index.specs.KeyMaps.{with_one}
+use Rattle.mail_index.proofs.EntryLemmas.{entry-more, key-more, key-same}
+use Rattle.mail_index.proofs.key_entry.KeyEntry.push.Goals as goal
+
+pub returns-then-number-self-clause-ok : goal.returns-then-number-self-clause-ok
+returns-then-number-self-clause-ok c =
+    sym c.self.view_is ∙ key-same c.self.inside.bytes.items (c.self.inside.text_length + 1) c.self.inside.next c.args.number c.self.invariant (omega arith)
+    ∙ ap (λ (k : Key). with_one k c.args.number) c.self.view_is
+
+pub invariant_of-self-2 : goal.invariant_of-self-2
+invariant_of-self-2 c =
+    let e : c.append_leb128.new.bytes.items ≡ c.self.inside.bytes.items ++ leb128 5 (c.args.number + 1 - c.self.inside.next) = c.in_ok-append_leb128.ensures in
+    let low : c.self.inside.next ≤ c.args.number = omega arith in
+    let high : c.args.number + 1 < 2 ^ 32 = omega arith in
+    rw e (entry-more c.self.inside.bytes.items (c.self.inside.text_length + 1) c.self.inside.next c.args.number c.self.invariant low high)
+
+pub returns-clause-ok : goal.returns-clause-ok
+returns-clause-ok c =
+    let e : c.append_leb128.new.bytes.items ≡ c.self.inside.bytes.items ++ leb128 5 (c.args.number + 1 - c.self.inside.next) = c.in_ok-append_leb128.ensures in
+    let low : c.self.inside.next ≤ c.args.number = omega arith in
+    let high : c.args.number + 1 < 2 ^ 32 = omega arith in
+    rw e (key-more c.self.inside.bytes.items (c.self.inside.text_length + 1) c.self.inside.next c.args.number c.self.invariant low high ∙ ap (λ (k : Key). with_one k c.args.number) c.self.view_is)

@@ -1,0 +1,138 @@
+//! A key of an index while it is built.
+ghost use Rattle.std.specs.Prelude.{◌≡◌, ◌^◌, ◌<◌, [], length, OnOk, OnErr, IfOk};
+ghost use Rattle.std.specs.Ordering.{is_eq};
+ghost use Rattle.mail_index.specs.KeyMaps.{new_key, with_one};
+ghost use Rattle.mail_index.specs.Kinds.{kind_number};
+ghost use Rattle.mail_index.specs.LookUps.{lies_to};
+ghost use Rattle.mail_index.specs.Postings.{postings};
+
+use crate::kind::Kind;
+use crate::leb128_out::append_leb128;
+use std::alloc::{AllocError, Global};
+use std::cmp::Ordering;
+use std::marker::Model;
+
+/// The room for postings that a new key's bytes have: a difference below 2^28 takes four bytes at most.
+const ROOM: usize = 4;
+
+/// A key, whose text is shorter than 2^32 bytes, with the numbers of its messages.
+///
+/// There are many, and most have few numbers; so all its bytes stand in one piece of memory.
+#[derive(Drop)]
+pub struct KeyEntry {
+    // The kind's number, the text, and the postings: each number as its difference from the one before, the first
+    // from -1, in the shortest unsigned LEB128.
+    bytes: Vec<u8>,
+    text_length: u32,
+    // One past the last number.
+    next: u32,
+}
+
+impl Model for KeyEntry {
+    ghost use Rattle.std.specs.Prelude.{◌+◌, take, drop};
+    ghost use Rattle.mail_index.specs.Tables.{Key};
+    ghost use Rattle.mail_index.specs.KeyMaps.{key_in, IsEntry};
+
+    ghost Value = { Key };
+
+    ghost view = { λ s. key_in (take (s.text_length + 1) s.bytes.items) (drop (s.text_length + 1) s.bytes.items) };
+
+    ghost invariant = { λ s. IsEntry s.bytes.items (s.text_length + 1) s.next };
+}
+
+impl KeyEntry {
+    /// A key of one message.
+    pub fn new(alloc: Global, kind: Kind, text: &[u8], number: u32) -> Result<Self, AllocError>
+        requires number { number < u32.MAX }
+        requires short { length text.now < 2 ^ 32 }
+        ensures { IfOk result (λ entry. entry ≡ new_key kind text.now number) }
+    {
+        let mut entry = KeyEntry::without_numbers(alloc, kind, text)?;
+        entry.push(number)?;
+        Ok(entry)
+    }
+
+    // A key of no message.
+    fn without_numbers(alloc: Global, kind: Kind, text: &[u8]) -> Result<Self, AllocError>
+        requires { length text.now < 2 ^ 32 }
+        ensures { IfOk result (λ entry. entry ≡ record { kind = kind; text = text.now; numbers = [] }) }
+    {
+        let mut bytes = Vec::with_capacity(alloc, text.len() + ROOM)?;
+        bytes.push(kind.number())?;
+        bytes.extend_from_slice(text)?;
+        Ok(KeyEntry {
+            bytes,
+            text_length: text.len() as u32,
+            next: 0,
+        })
+    }
+
+    /// Adds a message's number, unless the last is as large. A refused growth changes nothing.
+    pub fn push(&mut self, number: u32) -> Result<(), AllocError>
+        requires { number < u32.MAX }
+        ensures ok { OnOk result (self.new ≡ with_one self.old number) }
+        ensures err { OnErr result (self.new ≡ self.old) }
+    {
+        if number < self.next {
+            return Ok(());
+        }
+        append_leb128(&mut self.bytes, number + 1 - self.next)?;
+        self.next = number + 1;
+        Ok(())
+    }
+
+    // The number of its kind in the file, and its text.
+    fn number_and_text(&self) -> (u8, &[u8])
+        ensures number { result.0 ≡ kind_number self.now.kind }
+        ensures text { result.1.now ≡ self.now.text }
+        ensures short { length result.1.now < 2 ^ 32 }
+    {
+        let (front, _postings) = self.bytes.split_at(self.text_length as usize + 1);
+        match front {
+            [number, text @ ..] => (*number, text),
+            [] => (0, &[]),
+        }
+    }
+
+    /// How the key lies to another: by the kind's number, then by the text.
+    pub fn compare(&self, kind: Kind, text: &[u8]) -> Ordering
+        ensures { result ≡ lies_to kind text.now self.now }
+    {
+        let (own_number, own_text) = self.number_and_text();
+        match own_number.cmp(&kind.number()) {
+            Ordering::Equal => own_text.cmp(text),
+            other => other,
+        }
+    }
+
+    /// Whether it is this key.
+    pub fn is_key(&self, kind: Kind, text: &[u8]) -> bool
+        ensures { result ≡ is_eq (lies_to kind text.now self.now) }
+    {
+        let (own_number, own_text) = self.number_and_text();
+        own_number == kind.number() && own_text == text
+    }
+
+    /// The number of its kind in the file.
+    pub fn kind_number(&self) -> u8
+        ensures { result ≡ kind_number self.now.kind }
+    {
+        self.number_and_text().0
+    }
+
+    /// Its text.
+    pub fn text(&self) -> &[u8]
+        ensures text { result.now ≡ self.now.text }
+        ensures short { length result.now < 2 ^ 32 }
+    {
+        self.number_and_text().1
+    }
+
+    /// The postings of its numbers.
+    pub fn postings(&self) -> &[u8]
+        ensures bytes { result.now ≡ postings self.now.numbers }
+        ensures small { length result.now < 2 ^ 32 }
+    {
+        self.bytes.split_at(self.text_length as usize + 1).1
+    }
+}
