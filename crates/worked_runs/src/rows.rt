@@ -1,7 +1,7 @@
 //! Runs with answers that were worked out by hand.
 use crate::fixture::{RC, archive, run, sources, words};
 use mail_query::{QueryFault, QueryFaultKind};
-use mairix_tool::{Fault, RcFault, Reply, UsageFault};
+use mairix_tool::{Fault, Name, RcFault, Reply, UsageFault};
 use mbox_cutter::{CutFault, MemoryOut};
 use std::alloc::{AllocError, Global};
 use std::process::Abort;
