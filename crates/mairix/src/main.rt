@@ -1,9 +1,12 @@
 //! The program `mairix`: finds every message of mbox archives that fits, and tells nothing else.
 #![tactic(auto)]
 
+use mail_dates::Moment;
 use std::env::Env;
 use std::io::{ErrorKind, Write};
 use std::process::ExitCode;
+use std::rt::Clock;
+use std::time::{SystemTime, UNIX_EPOCH};
 use std::{env, io};
 
 /// The words after the program's name. Words that are no UTF-8 are an error.
@@ -13,6 +16,25 @@ fn words_of<R: Env + AllocGlobal>(rt: &R) -> io::Result<Vec<String>> {
         words.push(word)?;
     }
     Ok(words)
+}
+
+/// The clock's second, or 0 where the clock fails.
+fn second<R: Clock>(rt: &R) -> i64 {
+    let Ok(time) = SystemTime::now(rt) else {
+        return 0;
+    };
+    match time.duration_since(UNIX_EPOCH) {
+        Ok(since) => i64::try_from(since.as_secs()).unwrap_or(0),
+        Err(_) => 0,
+    }
+}
+
+/// The moment of the clock's second, or that of second 0 where it is too late for one.
+fn moment<R: Clock>(rt: &R) -> Moment {
+    match Moment::new(second(rt)) {
+        Some(moment) => moment,
+        None => Moment::new(0).unwrap(),
+    }
 }
 
 /// The status of words that can't be had, after a line on standard error.
@@ -31,6 +53,7 @@ fn main(rt: HostRuntime) -> ExitCode {
             &rt,
             rt.alloc(),
             &words,
+            moment(&rt),
             &mut rt.stdout(),
             &mut rt.stderr(),
         )),
