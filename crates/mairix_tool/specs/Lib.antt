@@ -22,3 +22,4 @@ pub mod Places
 pub mod Replies
 pub mod OpenMessages
 pub mod ArchiveSearches
+pub mod IndexRuns

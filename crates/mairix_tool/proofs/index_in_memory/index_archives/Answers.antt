@@ -78,8 +78,7 @@ loop-number-preserved g c =
           let added : IsAdded (take i (mboxes paths archives)) a c.in_default.field-0 c.archive.new.self =
           subst (λ (t : List ℕ). IsAdded (take i (mboxes paths archives)) (record { path = t; bytes = get_or archives i [] }) c.in_default.field-0 c.archive.new.self) text
           (c.in_default.ensures.ok (take i (mboxes paths archives)) (get_or archives i []) before.0 rest) in
-          let next = sym (next-taken paths archives i many within) in
-          (
+          let next = sym (next-taken paths archives i many within) in (
             subst (λ l. IsIndexOf c.archive.new.self l) next added.whole,
             subst AreSound next (sound-more (take i (mboxes paths archives)) a c.in_default.field-0 c.archive.new.self before.1 added),
           );
