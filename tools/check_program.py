@@ -5,12 +5,28 @@
 
 The last line is `N passed, M failed`.
 """
-import os, subprocess, sys, tempfile
+import hashlib, os, struct, subprocess, sys, tempfile, time
 
 SEPARATOR = b"From a@x.org Thu Jan  2 10:00:00 2003\n"
 HELLO = SEPARATOR + b"Subject: Hello\n\nhi\n\n"
 RC = b"mbox=m.mbox\ndatabase=m.idx\nmfolder=hits\n"
 RUN = ["-f", "rc", "--once", "-r"]
+INDEX = ["-f", "rc"]
+
+# The index file of HELLO as m.mbox, laid out by hand: counts, the archive, its message, the keys `hello` of subjects and `hi`
+# of texts, and the digest of all that.
+HELLO_INDEX = (
+    b"MAIRIX\r\n"
+    + struct.pack(">IIIIQQQ", 1, 1, 1, 2, 18, 7, 2)
+    + struct.pack(">QI", 58, 6)
+    + b"m.mbox"
+    + struct.pack(">IIQQQq", 0, 0, 0, 58, 19, 0)
+    + struct.pack(">IIQQ", 5 << 24, 5, 0, 0)
+    + struct.pack(">IIQQ", 6 << 24, 2, 5, 1)
+    + b"hellohi"
+    + b"\1\1"
+)
+HELLO_INDEX += hashlib.sha256(HELLO_INDEX).digest()
 
 
 def fault(text):
@@ -56,12 +72,45 @@ CASES = [
     ("words that are no UTF-8", {"m.mbox": HELLO}, RUN + [b"s:\xff"], 2, b"", fault(b"bad words")),
 ]
 
+# Each case of an index run: its name, the files before it (None: a folder; a path: a link to it), the status, standard error,
+# and the files that it changed (None: no such file any more), of which an Ellipsis stands for any that isn't empty.
+LINK = tuple
+INDEX_CASES = [
+    ("an index", {"m.mbox": HELLO}, 0, b"", {"m.idx": HELLO_INDEX}),
+    ("an index in place of an old one", {"m.mbox": HELLO, "m.idx": b"old"}, 0, b"", {"m.idx": HELLO_INDEX}),
+    ("an index of an empty archive", {"m.mbox": b""}, 0, b"", {"m.idx": ...}),
+    ("an index of two archives", {"m.mbox": HELLO, "n": HELLO, "rc": b"mbox=m.mbox:n\ndatabase=m.idx\nmfolder=h\n"}, 0, b"", {"m.idx": ...}),
+    ("an index of an archive named twice", {"m.mbox": HELLO, "rc": b"mbox=m.mbox:m.mbox\ndatabase=m.idx\nmfolder=h\n"}, 0, b"", {"m.idx": ...}),
+    ("an index in a folder", {"m.mbox": HELLO, "d": None, "rc": b"mbox=m.mbox\ndatabase=d/m.idx\nmfolder=h\n"}, 0, b"", {"d/m.idx": HELLO_INDEX}),
+    ("an index of no mbox", {"m.mbox": b"hello\n", "m.idx": b"old"}, 4, fault(b"archive 1: not an mbox"), {}),
+    ("an index with a second archive that is no mbox", {"m.mbox": HELLO, "n": b"x\n", "m.idx": b"old", "rc": b"mbox=m.mbox:n\ndatabase=m.idx\nmfolder=h\n"}, 4, fault(b"archive 2: not an mbox"), {}),
+    ("an index of a missing archive", {"m.idx": b"old"}, 4, fault(b"cannot open m.mbox"), {}),
+    ("an index of a folder", {"m.mbox": None, "m.idx": b"old"}, 4, fault(b"archive 1: read failed"), {}),
+    ("an index where a killed run left a file", {"m.mbox": HELLO, "m.idx.new": b"half"}, 0, b"", {"m.idx": HELLO_INDEX, "m.idx.new": None}),
+    ("no index where a killed run left a file", {"m.mbox": b"hello\n", "m.idx": b"old", "m.idx.new": b"half"}, 4, fault(b"archive 1: not an mbox"), {"m.idx.new": None}),
+    ("an index where a link was left", {"m.mbox": HELLO, "other": b"mine", "m.idx.new": LINK(["other"])}, 0, b"", {"m.idx": HELLO_INDEX, "m.idx.new": None}),
+    ("an index where a link to nothing was left", {"m.mbox": HELLO, "m.idx.new": LINK(["nowhere"])}, 0, b"", {"m.idx": HELLO_INDEX, "m.idx.new": None}),
+    ("a folder under the new name", {"m.mbox": HELLO, "m.idx": b"old", "m.idx.new": None}, 4, fault(b"cannot open m.idx.new"), {}),
+    ("a folder under the index's name", {"m.mbox": HELLO, "m.idx": None}, 4, fault(b"output failed"), {}),
+    ("an index in a missing folder", {"m.mbox": HELLO, "rc": b"mbox=m.mbox\ndatabase=d/m.idx\nmfolder=h\n"}, 4, fault(b"cannot open d/m.idx.new"), {}),
+    ("the archive as the index", {"m.mbox": HELLO, "rc": b"mbox=m.mbox\ndatabase=m.mbox\nmfolder=h\n"}, 4, fault(b"cannot open m.mbox"), {}),
+    ("the archive by another path as the index", {"m.mbox": HELLO, "d": None, "rc": b"mbox=m.mbox\ndatabase=d/../m.mbox\nmfolder=h\n"}, 4, fault(b"cannot open d/../m.mbox"), {}),
+    ("a link to the second archive as the index", {"m.mbox": HELLO, "n": HELLO, "m.idx": LINK(["n"]), "rc": b"mbox=m.mbox:n\ndatabase=m.idx\nmfolder=h\n"}, 4, fault(b"cannot open m.idx"), {}),
+    ("an archive that is a link to the index", {"m.idx": HELLO, "m.mbox": LINK(["m.idx"])}, 4, fault(b"cannot open m.idx"), {}),
+    ("a folder's link to the archive as the index", {"m.mbox": HELLO, "d": LINK(["."]), "rc": b"mbox=m.mbox\ndatabase=d/m.mbox\nmfolder=h\n"}, 4, fault(b"cannot open d/m.mbox"), {}),
+    ("the rcfile as the index", {"m.mbox": HELLO, "rc": b"mbox=m.mbox\ndatabase=rc\nmfolder=h\n"}, 4, fault(b"cannot open rc"), {}),
+    ("an archive under the new name", {"m.idx.new": HELLO, "rc": b"mbox=m.idx.new\ndatabase=m.idx\nmfolder=h\n"}, 4, fault(b"cannot open m.idx.new"), {}),
+    ("a link to the archive under the new name", {"m.mbox": HELLO, "m.idx.new": LINK(["m.mbox"])}, 4, fault(b"cannot open m.idx.new"), {}),
+]
+
 
 def write(folder, files):
     for name, body in files.items():
         path = os.path.join(folder, name)
         if body is None:
             os.mkdir(path)
+        elif isinstance(body, LINK):
+            os.symlink(body[0], path)
         else:
             with open(path, "wb") as f:
                 f.write(body)
@@ -92,6 +141,132 @@ def case(program, files, words, status, out, err):
         return bad
 
 
+def contents(folder):
+    """What lies in a folder: each file's bytes, where each link leads, and None for a folder."""
+    found = {}
+    for name in os.listdir(folder):
+        path = os.path.join(folder, name)
+        if os.path.islink(path):
+            found[name] = LINK([os.readlink(path)])
+        elif os.path.isdir(path):
+            found[name] = None
+            found.update({name + "/" + inner: body for inner, body in contents(path).items()})
+        else:
+            with open(path, "rb") as f:
+                found[name] = f.read()
+    return found
+
+
+def index_case(program, files, status, err, changes):
+    with tempfile.TemporaryDirectory() as folder:
+        write(folder, {"rc": RC, **files})
+        want = {**contents(folder), **changes}
+        gone = [name for name, body in changes.items() if body is None]
+        want = {name: body for name, body in want.items() if name not in gone}
+        p = run(program, INDEX, folder, capture_output=True)
+        bad = []
+        if p.returncode != status:
+            bad.append("status %d, wanted %d" % (p.returncode, status))
+        if p.stdout != b"":
+            bad.append("standard output %r" % p.stdout[:200])
+        if not same(err, p.stderr):
+            bad.append("standard error %r, wanted %r" % (p.stderr[:200], err))
+        got = contents(folder)
+        for name in sorted(set(want) | set(got)):
+            if name not in got:
+                bad.append("%s is gone" % name)
+            elif name not in want:
+                bad.append("it left %s" % name)
+            elif want[name] is not None and not same(want[name], got[name]):
+                bad.append("%s is %r" % (name, got[name][:200]))
+        return bad
+
+
+def search_options(program):
+    """An index run with options of a search, which have no effect."""
+    with tempfile.TemporaryDirectory() as folder:
+        write(folder, {"rc": RC, "m.mbox": HELLO})
+        p = run(program, INDEX + ["-r"], folder, capture_output=True)
+        ok = p.returncode == 0 and p.stdout == p.stderr == b"" and contents(folder).get("m.idx") == HELLO_INDEX
+        return [] if ok else ["status %d, %r" % (p.returncode, p.stderr)]
+
+
+def killed_run(program):
+    """An index run that is killed while it reads: the old index stays, and the next run replaces what was left."""
+    with tempfile.TemporaryDirectory() as folder:
+        write(folder, {"rc": RC, "m.idx": b"old"})
+        archive, index, new = (os.path.join(folder, name) for name in ("m.mbox", "m.idx", "m.idx.new"))
+        # A pipe with an end that stays open: whoever reads it waits.
+        os.mkfifo(archive)
+        end = os.open(archive, os.O_RDWR)
+        p = subprocess.Popen([program] + INDEX, cwd=folder, stdin=subprocess.DEVNULL)
+        until = time.monotonic() + 30
+        while not os.path.exists(new) and time.monotonic() < until:
+            time.sleep(0.01)
+        p.kill()
+        p.wait()
+        os.close(end)
+        left = sorted(os.listdir(folder))
+        with open(index, "rb") as f:
+            bad = [] if left == ["m.idx", "m.idx.new", "m.mbox", "rc"] and f.read() == b"old" else ["it left %s" % left]
+        os.remove(archive)
+        write(folder, {"m.mbox": HELLO})
+        p = run(program, INDEX, folder, capture_output=True)
+        if p.returncode != 0 or contents(folder) != {"rc": RC, "m.mbox": HELLO, "m.idx": HELLO_INDEX}:
+            bad.append("then status %d, %r" % (p.returncode, p.stderr))
+        return bad
+
+
+def second_name(program):
+    """A second name (a hard link) of the archive as the index: the name is replaced, and the archive isn't touched."""
+    with tempfile.TemporaryDirectory() as folder:
+        write(folder, {"rc": RC, "m.mbox": HELLO})
+        os.link(os.path.join(folder, "m.mbox"), os.path.join(folder, "m.idx"))
+        p = run(program, INDEX, folder, capture_output=True)
+        ok = p.returncode == 0 and contents(folder) == {"rc": RC, "m.mbox": HELLO, "m.idx": HELLO_INDEX}
+        return [] if ok else ["status %d, %r" % (p.returncode, p.stderr)]
+
+
+def odd_folder(program):
+    """An index run in a folder whose name is no UTF-8, where the system doesn't tell it paths."""
+    bad = []
+    with tempfile.TemporaryDirectory() as top:
+        folder = os.path.join(top, "\udcff")
+        os.mkdir(folder)
+        for index, link, status, err in (("m.idx", None, 0, b""), ("m.mbox", None, 4, fault(b"cannot open m.mbox")), ("l", "m.mbox", 4, fault(b"cannot open l"))):
+            write(folder, {"rc": b"mbox=m.mbox\ndatabase=%s\nmfolder=h\n" % index.encode(), "m.mbox": HELLO})
+            if link:
+                os.symlink(link, os.path.join(folder, index))
+            p = run(program, INDEX, folder, capture_output=True)
+            if (p.returncode, p.stderr, contents(folder)["m.mbox"]) != (status, err, HELLO):
+                bad.append("%s: status %d, %r" % (index, p.returncode, p.stderr))
+    return bad
+
+
+def no_room_for_index(program):
+    """An index that can't be written whole: the old one stays, and nothing else is left."""
+    with tempfile.TemporaryDirectory() as folder:
+        write(folder, {"rc": RC, "m.mbox": HELLO, "m.idx": b"old"})
+        before = contents(folder)
+        p = run("/bin/sh", ["-c", 'trap "" XFSZ; ulimit -f 0; exec "$0" "$@"', program] + INDEX, folder, capture_output=True)
+        ok = p.returncode == 4 and p.stderr == fault(b"output failed") and contents(folder) == before
+        return [] if ok else ["status %d, %r, left %s" % (p.returncode, p.stderr, sorted(os.listdir(folder)))]
+
+
+def large_index(program):
+    """An index of more bytes than are gathered before they are written, twice over."""
+    with tempfile.TemporaryDirectory() as folder:
+        words = b" ".join(b"w%05d" % n for n in range(20000))
+        write(folder, {"rc": RC, "m.mbox": SEPARATOR + b"\n" + b"\n".join(words[k : k + 7000] for k in range(0, len(words), 7000)) + b"\n\n"})
+        bad = []
+        for _ in range(2):
+            p = run(program, INDEX, folder, capture_output=True)
+            index = contents(folder).get("m.idx", b"")
+            if p.returncode != 0 or len(index) < 500000 or hashlib.sha256(index[:-32]).digest() != index[-32:]:
+                bad.append("status %d, %r, %d bytes" % (p.returncode, p.stderr, len(index)))
+        return bad
+
+
 def full_disk(program):
     """An answer, help or version that can't be written."""
     bad = []
@@ -118,7 +293,7 @@ def unreadable(program):
 
 
 def many_archives(program):
-    """More archives than files may be open at once."""
+    """More archives than files may be open at once, searched and indexed."""
     with tempfile.TemporaryDirectory() as folder:
         names = ["m%d" % n for n in range(5000)]
         write(folder, {"rc": ("mbox=" + ":".join(names) + "\ndatabase=d\nmfolder=h\n").encode()})
@@ -127,14 +302,20 @@ def many_archives(program):
                 f.write(HELLO)
         p = run("/bin/sh", ["-c", 'ulimit -n 64; exec "$0" "$@"', program] + RUN + ["s:hello"], folder, capture_output=True)
         ok = p.returncode == 0 and p.stdout == b"".join(b"0 58 %s\n" % name.encode() for name in names)
-        return [] if ok else ["status %d, %r" % (p.returncode, p.stderr)]
+        bad = [] if ok else ["status %d, %r" % (p.returncode, p.stderr)]
+        p = run("/bin/sh", ["-c", 'ulimit -n 64; exec "$0" "$@"', program] + INDEX, folder, capture_output=True)
+        if p.returncode != 0 or not os.path.exists(os.path.join(folder, "d")):
+            bad.append("index run: status %d, %r" % (p.returncode, p.stderr))
+        return bad
 
 
 def main(program):
     program = os.path.abspath(program)
     passed = failed = 0
     checks = [(name, lambda c=c: case(program, *c)) for name, *c in CASES]
-    checks += [(f.__doc__.split(".")[0], lambda f=f: f(program)) for f in (full_disk, unreadable, many_archives)]
+    checks += [(name, lambda c=c: index_case(program, *c)) for name, *c in INDEX_CASES]
+    others = (search_options, killed_run, second_name, odd_folder, no_room_for_index, large_index, full_disk, unreadable, many_archives)
+    checks += [(f.__doc__.split(".")[0], lambda f=f: f(program)) for f in others]
     for name, check in checks:
         bad = check()
         passed, failed = passed + (not bad), failed + bool(bad)

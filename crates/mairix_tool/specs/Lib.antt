@@ -18,3 +18,4 @@ pub mod MessageEnds
 pub mod Chosen
 pub mod Asked
 pub mod Replies
+pub mod IndexRuns

@@ -1,7 +1,8 @@
 //! An archive's file as a source, open only while it is read.
-ghost use Rattle.std.specs.Prelude.{◌≡◌, None};
+ghost use Rattle.std.specs.Prelude.{◌≡◌, length, None, All, IfOk, vec_len};
 
 use mbox_cutter::{DeviceFault, Source};
+use std::alloc::{AllocError, Global};
 use std::fs;
 use std::io::Read;
 use std::rt::Files;
@@ -70,4 +71,20 @@ impl<'p, R: Files> Source for FileSource<'p, R> {
             }
         }
     }
+}
+
+/// A source for each path.
+pub(crate) fn sources_of<'p, R: Files>(
+    rt: &'p R,
+    alloc: Global,
+    paths: &'p [String],
+) -> Result<Vec<FileSource<'p, R>>, AllocError>
+    ensures count { IfOk result (λ v. vec_len v ≡ length paths.now) }
+    ensures fresh { IfOk result (λ v. All (λ s. ⟦<FileSource<'p, R> as Source>⟧.failures s ≡ 0) v.items) }
+{
+    let mut sources = Vec::new(alloc);
+    for path in paths {
+        sources.push(FileSource::new(rt, path.as_str()))?;
+    }
+    Ok(sources)
 }

@@ -1,5 +1,5 @@
 //! Archives that are indexed in memory.
-ghost use Rattle.std.specs.Prelude.{◌≡◌, ◌<◌, ◌^◌, ◌-◌, ℕ, List, Some, false, map, length, All, IfOk, IfErr, slice_index};
+ghost use Rattle.std.specs.Prelude.{◌≡◌, ◌<◌, ◌^◌, ◌-◌, ℕ, List, Some, IsSome, false, map, length, All, IfOk, IfErr, slice_index};
 ghost use Rattle.std.specs.Result.{MatchResult};
 ghost use Rattle.std.specs.String.{string_bytes};
 ghost use Rattle.contract_words.specs.Devices.{Counted};
@@ -8,6 +8,7 @@ ghost use Rattle.mail_index.specs.Tables.{Table, IsPath};
 ghost use Rattle.mairix_tool.specs.ArchiveTables.{table};
 ghost use Rattle.mairix_tool.specs.ArchiveRefusals.{AreSound};
 ghost use Rattle.mairix_tool.specs.ArchivesIndexed.{mboxes, fault_of_job, IsArchivesFault};
+ghost use Rattle.mairix_tool.specs.IndexJobs.{IsIndexOf};
 ghost use Rattle.mairix_tool.specs.Faults.{fault_in, is_failed_source, is_failed_out, is_early};
 
 use crate::fault::Fault;
@@ -33,6 +34,36 @@ fn fault_of_job(number: u64, fault: JobFault) -> Fault
     }
 }
 
+/// Indexes the archives one after another, or answers the first that is at fault.
+pub(crate) fn index_archives<S: Source>(
+    alloc: Global,
+    paths: &[String],
+    sources: &mut [S],
+) -> Result<IndexJob, Fault>
+    requires many { length paths.now ≡ length sources.old }
+    requires paths { All IsPath (map string_bytes paths.now) }
+    requires count { All (λ s. S.failures s < 2 ^ 64 - 1) sources.old }
+    ensures some { IfOk result IsSome }
+    ensures known { (archives : List (List ℕ)) → map S.rest sources.old ≡ map Some archives
+        → MatchResult result (λ job. AreSound (mboxes (map string_bytes paths.now) archives) × IsIndexOf job (mboxes (map string_bytes paths.now) archives))
+        (IsArchivesFault (mboxes (map string_bytes paths.now) archives)) }
+    ensures count { (n : ℕ) → Counted (is_failed_source n (fault_in result))
+        (slice_index (map S.failures sources.old) n) (slice_index (map S.failures sources.new) n) }
+    ensures output { is_failed_out (fault_in result) ≡ false }
+    ensures early { is_early (fault_in result) ≡ false }
+{
+    let mut job = match IndexJob::new(alloc) {
+        Ok(job) => job,
+        Err(fault) => return Err(fault_of_job(0, fault)),
+    };
+    for number in 0..sources.len() {
+        if let Err(fault) = job.archive(paths[number].as_str(), &mut sources[number]) {
+            return Err(fault_of_job(number as u64, fault));
+        }
+    }
+    Ok(job)
+}
+
 /// Indexes the archives one after another into a file in memory, or answers the first that is at fault.
 pub(crate) fn index_sources<S: Source>(
     alloc: Global,
@@ -51,15 +82,10 @@ pub(crate) fn index_sources<S: Source>(
     ensures output { is_failed_out (fault_in result) ≡ false }
     ensures early { is_early (fault_in result) ≡ false }
 {
-    let mut job = match IndexJob::new(alloc) {
+    let job = match index_archives(alloc, paths, sources) {
         Ok(job) => job,
-        Err(fault) => return Err(fault_of_job(0, fault)),
+        Err(fault) => return Err(fault),
     };
-    for number in 0..sources.len() {
-        if let Err(fault) = job.archive(paths[number].as_str(), &mut sources[number]) {
-            return Err(fault_of_job(number as u64, fault));
-        }
-    }
     let mut file = MemoryOut::new(alloc, None);
     match job.finish(&mut file) {
         Ok(_) => Ok(file),

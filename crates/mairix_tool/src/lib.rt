@@ -12,6 +12,7 @@ mod gathering;
 mod index_answer;
 mod index_in_memory;
 mod index_job;
+mod index_run;
 mod job_fault;
 mod laws;
 mod message_index;
@@ -21,6 +22,7 @@ mod place;
 mod program;
 mod rcfile;
 mod run;
+mod same_file;
 mod term_sink;
 mod wanted;
 

@@ -1,16 +1,17 @@
 //! The program: files in, standard output, standard error and an exit status out.
-ghost use Rattle.std.specs.Prelude.{◌≡◌, length, All, IfOk, Ok, vec_len};
+ghost use Rattle.std.specs.Prelude.{◌≡◌, Ok};
 ghost use Rattle.mairix_tool.specs.Rcfile.{rc_of};
 
-use crate::command_line::{UsageFault, plan_of, usage_text};
+use crate::command_line::{Plan, UsageFault, plan_of, usage_text};
 use crate::explanation::fault_text;
 use crate::fault::Fault;
-use crate::file_source::FileSource;
+use crate::file_source::sources_of;
+use crate::index_run::{NoIndex, run_index};
 use crate::rcfile::{Rc, read_rc};
 use crate::run::once_run;
 use mail_dates::Moment;
-use mbox_cutter::{Source, ToWrite};
-use std::alloc::{AllocError, Global};
+use mbox_cutter::ToWrite;
+use std::alloc::Global;
 use std::fs;
 use std::io::{ErrorKind, Read, Write};
 use std::rt::Files;
@@ -23,10 +24,11 @@ enum Unread {
 
 /// Runs the words after the program's name over the files that they name, and answers the exit status.
 ///
-/// The answer goes to `out`, and a fault to `err` as one line, `mairix: ` and its text; of words that the parser refuses the
-/// parser's own text, which for help and version goes to `out`. The status is 0 with messages, 1 without one, 2 where words,
-/// rcfile or query are refused, 4 where a file can't be opened or read, the output failed or an archive is no mbox, and 5
-/// with want of memory or an archive that is too long.
+/// Without a pattern and without `--once` the archives are indexed into the rcfile's `database`. Else an answer goes to `out`.
+/// A fault goes to `err` as one line, `mairix: ` and its text; of words that the parser refuses the parser's own text, which
+/// for help and version goes to `out`. The status is 0 with messages or a new index, 1 without a message, 2 where words,
+/// rcfile or query are refused, 4 where a file can't be opened, read, made or renamed, the output failed or an archive is no
+/// mbox, and 5 with want of memory, too many messages or keys, or an archive that is too long.
 pub fn run_program<R: Files, W: Write, E: Write>(
     rt: &R,
     alloc: Global,
@@ -36,7 +38,7 @@ pub fn run_program<R: Files, W: Write, E: Write>(
     err: &mut E,
 ) -> u8 {
     match plan_of(alloc, words) {
-        Ok(plan) => run_files(rt, alloc, words, plan.rcfile.as_str(), now, out, err),
+        Ok(plan) => run_files(rt, alloc, words, &plan, now, out, err),
         Err(fault) => tell_usage(alloc, words, fault, out, err),
     }
 }
@@ -45,23 +47,50 @@ fn run_files<R: Files, W: Write, E: Write>(
     rt: &R,
     alloc: Global,
     words: &[String],
-    rcfile: &str,
+    plan: &Plan,
     now: Moment,
     out: &mut W,
     err: &mut E,
 ) -> u8 {
+    let rcfile = plan.rcfile.as_str();
     let bytes = match read_file(rt, alloc, rcfile) {
         Ok(bytes) => bytes,
         Err(Unread::CannotOpen) => return tell_unopened(rcfile, err),
         Err(Unread::OutOfMemory) => return tell_fault(alloc, Fault::Memory, err),
     };
-    match read_rc(alloc, &bytes) {
-        Ok(rc) => run_archives(rt, alloc, words, &bytes, &rc, now, out, err),
-        Err(fault) => tell_fault(alloc, Fault::from(fault), err),
+    let rc = match read_rc(alloc, &bytes) {
+        Ok(rc) => rc,
+        Err(fault) => return tell_fault(alloc, Fault::from(fault), err),
+    };
+    if let Some(path) = first_unopened(rt, rc.paths.as_slice()) {
+        return tell_unopened(path, err);
+    }
+    if plan.patterns.as_slice().is_empty() && !plan.once {
+        return index_status(alloc, run_index(rt, alloc, rcfile, &rc), err);
+    }
+    run_archives(rt, alloc, words, &bytes, &rc, now, out, err)
+}
+
+/// Opens each archive in its order, which tells whether it can be opened, and closes it again.
+fn first_unopened<'p, R: Files>(rt: &R, paths: &'p [String]) -> Option<&'p str> {
+    for path in paths {
+        if fs::open(rt, path.as_str()).is_err() {
+            return Some(path.as_str());
+        }
+    }
+    None
+}
+
+/// The status of an index run, after a line on standard error where there is no index.
+fn index_status<E: Write>(alloc: Global, indexed: Result<(), NoIndex>, err: &mut E) -> u8 {
+    match indexed {
+        Ok(()) => 0,
+        Err(NoIndex::CannotOpen(path)) => tell_unopened(path.as_str(), err),
+        Err(NoIndex::Fault(fault)) => tell_fault(alloc, fault, err),
     }
 }
 
-/// Opens each archive in its order, which tells whether it can be opened, and closes it again; then runs over all of them.
+/// Searches the archives themselves.
 fn run_archives<R: Files, W: Write, E: Write>(
     rt: &R,
     alloc: Global,
@@ -74,13 +103,7 @@ fn run_archives<R: Files, W: Write, E: Write>(
 ) -> u8
     requires { rc_of bytes.now ≡ Ok rc.now }
 {
-    let paths = rc.paths.as_slice();
-    for path in paths {
-        if fs::open(rt, path.as_str()).is_err() {
-            return tell_unopened(path.as_str(), err);
-        }
-    }
-    let Ok(mut sources) = sources_of(rt, alloc, paths) else {
+    let Ok(mut sources) = sources_of(rt, alloc, rc.paths.as_slice()) else {
         return tell_fault(alloc, Fault::Memory, err);
     };
     let reply = once_run(
@@ -96,21 +119,6 @@ fn run_archives<R: Files, W: Write, E: Write>(
         None if out.flush().is_err() => tell_fault(alloc, Fault::Out, err),
         None => reply.status,
     }
-}
-
-fn sources_of<'p, R: Files>(
-    rt: &'p R,
-    alloc: Global,
-    paths: &'p [String],
-) -> Result<Vec<FileSource<'p, R>>, AllocError>
-    ensures count { IfOk result (λ v. vec_len v ≡ length paths.now) }
-    ensures fresh { IfOk result (λ v. All (λ s. ⟦<FileSource<'p, R> as Source>⟧.failures s ≡ 0) v.items) }
-{
-    let mut sources = Vec::new(alloc);
-    for path in paths {
-        sources.push(FileSource::new(rt, path.as_str()))?;
-    }
-    Ok(sources)
 }
 
 /// The whole file, or why not.

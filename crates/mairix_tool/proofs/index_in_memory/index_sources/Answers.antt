@@ -1,98 +1,16 @@
-use Rattle.std.proofs.Common.{arith, ◌≡◌, ◌∙◌, ◌+◌, ◌<◌, ◌≤◌, ℕ, List, [], ◌∷◌, ◌++◌, length, map, take, get_or, All, Option, Some, Ok, IfSome, IfOk, refl, sym, ap, subst, string_bytes}
-use Rattle.std.proofs.lemmas.List.{get_or-map, length-map, take_all}
-use Rattle.std.proofs.lemmas.List.Elements.{All-get_or}
-use Rattle.std.proofs.Math.Seq.{map-set_same}
-use Rattle.contract_words.proofs.DeviceLists.{same_at, same_behind, known_at, known_length, counted_at}
-use Rattle.mail_index.specs.Builders.{Draft}
+use Rattle.std.proofs.Common.{◌≡◌, ◌∙◌, ℕ, List, ◌++◌, length, map, Option, Some, IfSome, ap, subst, string_bytes}
 use Rattle.std.specs.Io.KnownBytes.{Appends}
+use Rattle.mail_index.specs.Builders.{Draft}
 use Rattle.mail_index.specs.Files.{index_file, HasSmallSections}
-use Rattle.mail_index.specs.Tables.{IsPath, IsWellFormed}
+use Rattle.mail_index.specs.Tables.{IsWellFormed}
 use Rattle.mbox_cutter.specs.Memory.{Taking}
 use Rattle.mairix_tool.specs.ArchiveTables.{table}
-use Rattle.mairix_tool.specs.Indexing.{draft_of}
-use Rattle.mairix_tool.specs.ArchiveTables.{Mbox}
-use Rattle.mairix_tool.specs.ArchiveRefusals.{AreSound}
-use Rattle.mairix_tool.specs.ArchivesIndexed.{mboxes, fault_of_job, IsArchivesFault}
-use Rattle.mairix_tool.specs.Faults.{is_failed_source}
-use Rattle.mairix_tool.specs.IndexJobs.{IsIndexOf, IsAdded, IsAddFault}
-use Rattle.mairix_tool.proofs.ArchiveLists.{mboxes-length, next-taken, parted-here, taken-so-far, sound-more, archive-fault, others-run, here-counts}
+use Rattle.mairix_tool.specs.ArchivesIndexed.{mboxes}
 use Rattle.mairix_tool.proofs.index_in_memory.index_sources.Goals as goal
-
-pub archive-requires-clause-path : goal.archive-requires-clause-path
-archive-requires-clause-path g c =
-    let i = c.loop-number.number in
-    let below : i < length c.args.paths.now = omega (arith, c.requires.many) in
-    let text : c.as_str.result.now ≡ get_or (map string_bytes c.args.paths.now) i [] =
-    c.as_str.ensures.value ∙ ap string_bytes c.index-paths-number.is ∙ sym (get_or-map string_bytes c.args.paths.now i c.index-paths-number.result [] below) in
-    let within : i < length (map string_bytes c.args.paths.now) = omega (arith, length-map c.args.paths.now string_bytes) in
-    rw text (All-get_or IsPath (map string_bytes c.args.paths.now) i [] within c.requires.paths)
-
-pub archive-requires-clause-count : goal.archive-requires-clause-count
-archive-requires-clause-count g c =
-    rw (same_at _ _ c.loop-number.number c.index-sources-number.result c.loop-number.invariant.unread)
-    (All-get_or (λ s. g.S.Source.failures s < 18446744073709551615) c.args.sources.now c.loop-number.number c.index-sources-number.result (omega arith) c.requires.count)
-
-pub returns-in-Err-archive-clause-known : goal.returns-in-Err-archive-clause-known
-returns-in-Err-archive-clause-known g c = λ archives known.
-    let i = c.loop-number.number in
-    let paths = map string_bytes c.args.paths.now in
-    let below : i < length c.args.paths.now = omega (arith, c.requires.many) in
-    let text : c.as_str.result.now ≡ get_or paths i [] =
-    c.as_str.ensures.value ∙ ap string_bytes c.index-paths-number.is ∙ sym (get_or-map string_bytes c.args.paths.now i c.index-paths-number.result [] below) in
-    let within : i < length paths = omega (arith, length-map c.args.paths.now string_bytes) in
-    let many : length paths ≡ length archives = omega (arith, length-map c.args.paths.now string_bytes, c.requires.many, known_length g.S.Source.rest c.args.sources.now archives known) in
-    let rest : g.S.Source.rest (get_or c.loop-number.sources i c.index-sources-number.result) ≡ Some (get_or archives i []) =
-    ap g.S.Source.rest (same_at c.loop-number.sources c.args.sources.now i c.index-sources-number.result c.loop-number.invariant.unread) ∙ known_at g.S.Source.rest c.args.sources.now archives i c.index-sources-number.result known (omega arith) in
-    let found = c.loop-number.invariant.found archives known in
-    let fails : IsAddFault (take i (mboxes paths archives)) (record { path = get_or paths i []; bytes = get_or archives i [] }) c.in-Err-archive.fault =
-    subst (λ (t : List ℕ). IsAddFault (take i (mboxes paths archives)) (record { path = t; bytes = get_or archives i [] }) c.in-Err-archive.fault) text
-    (c.in-Err-archive.ensures.err (take i (mboxes paths archives)) (get_or archives i []) found.0 rest) in
-    rw c.fault_of_job-in-Err-archive.ensures (archive-fault (mboxes paths archives) (take i (mboxes paths archives)) (record { path = get_or paths i []; bytes = get_or archives i [] }) i c.in-Err-archive.fault
-    (parted-here paths archives i many within) (sym (taken-so-far paths archives i many within)) found.1 fails)
-
-pub returns-in-Err-archive-clause-count : goal.returns-in-Err-archive-clause-count
-returns-in-Err-archive-clause-count g c =
-    let i = c.loop-number.number in
-    let fault = c.in-Err-archive.fault in
-    rw c.fault_of_job-in-Err-archive.ensures (counted_at g.S.Source.failures (λ n. is_failed_source n (Some (fault_of_job i fault))) c.loop-number.sources c.args.sources.now i c.archive.new.source c.index-sources-number.result (omega arith) c.loop-number.invariant.counts
-    (others-run i fault) (here-counts i fault _ _ c.in-Err-archive.ensures.count))
-
-pub loop-number-preserved : goal.loop-number-preserved
-loop-number-preserved g c =
-    let i = c.loop-number.number in
-    record {
-      unread = same_behind c.loop-number.sources c.args.sources.now i c.archive.new.source c.loop-number.invariant.unread;
-      counts = map-set_same g.S.Source.failures c.loop-number.sources i c.archive.new.source c.index-sources-number.result c.in_default.ensures.count ∙ c.loop-number.invariant.counts;
-      some = c.in_default.ensures.kept;
-      found = λ archives known.
-          let paths = map string_bytes c.args.paths.now in
-          let below : i < length c.args.paths.now = omega (arith, c.requires.many) in
-          let text : c.as_str.result.now ≡ get_or paths i [] =
-          c.as_str.ensures.value ∙ ap string_bytes c.index-paths-number.is ∙ sym (get_or-map string_bytes c.args.paths.now i c.index-paths-number.result [] below) in
-          let within : i < length paths = omega (arith, length-map c.args.paths.now string_bytes) in
-          let many : length paths ≡ length archives = omega (arith, length-map c.args.paths.now string_bytes, c.requires.many, known_length g.S.Source.rest c.args.sources.now archives known) in
-          let rest : g.S.Source.rest (get_or c.loop-number.sources i c.index-sources-number.result) ≡ Some (get_or archives i []) =
-          ap g.S.Source.rest (same_at c.loop-number.sources c.args.sources.now i c.index-sources-number.result c.loop-number.invariant.unread) ∙ known_at g.S.Source.rest c.args.sources.now archives i c.index-sources-number.result known (omega arith) in
-          let before = c.loop-number.invariant.found archives known in
-          let a : Mbox = record { path = get_or paths i []; bytes = get_or archives i [] } in
-          let added : IsAdded (take i (mboxes paths archives)) a c.in_default.field-0 c.archive.new.self =
-          subst (λ (t : List ℕ). IsAdded (take i (mboxes paths archives)) (record { path = t; bytes = get_or archives i [] }) c.in_default.field-0 c.archive.new.self) text
-          (c.in_default.ensures.ok (take i (mboxes paths archives)) (get_or archives i []) before.0 rest) in
-          let next = sym (next-taken paths archives i many within) in
-          (
-            subst (λ l. IsIndexOf c.archive.new.self l) next added.whole,
-            subst AreSound next (sound-more (take i (mboxes paths archives)) a c.in_default.field-0 c.archive.new.self before.1 added),
-          );
-    }
 
 pub returns-in-Ok-finish-clause-known : goal.returns-in-Ok-finish-clause-known
 returns-in-Ok-finish-clause-known g c = λ archives known.
-    let paths = map string_bytes c.args.paths.now in
-    let many : length paths ≡ length archives = omega (arith, length-map c.args.paths.now string_bytes, c.requires.many, known_length g.S.Source.rest c.args.sources.now archives known) in
-    let whole : length (mboxes paths archives) ≤ c.loop-number.number = omega (arith, mboxes-length paths archives many, length-map c.args.paths.now string_bytes, c.requires.many) in
-    let all : take c.loop-number.number (mboxes paths archives) ≡ mboxes paths archives = take_all c.loop-number.number (mboxes paths archives) whole in
-    let found = c.loop-number.invariant.found archives known in
-    let job : c.loop-number.job ≡ Some (draft_of (mboxes paths archives)) = subst (λ l. IsIndexOf c.loop-number.job l) all found.0 in
-    let written = subst (λ (o : Option Draft). IfSome o (λ d. (c.in-Ok-finish.field-0 ≡ length (index_file d.table)) × Appends (Some c.new-file.result.taken) (Some c.finish.new.out.taken) (index_file d.table))) job c.in-Ok-finish.ensures.ok in
-    let formed = subst (λ (o : Option Draft). IfSome o (λ d. IsWellFormed d.table × HasSmallSections d.table)) job c.in-Ok-finish.ensures.formed in
-    (subst AreSound all found.1, (formed.0, written.1 ∙ ap (λ (t : List ℕ). t ++ index_file (table (mboxes paths archives))) (ap (λ (f : Taking). f.taken) c.new-file.ensures)))
+    let found = c.in-Ok.ensures.known archives known in
+    let written = subst (λ (o : Option Draft). IfSome o (λ d. (c.in-Ok-finish.field-0 ≡ length (index_file d.table)) × Appends (Some c.new-file.result.taken) (Some c.finish.new.out.taken) (index_file d.table))) found.1 c.in-Ok-finish.ensures.ok in
+    let formed = subst (λ (o : Option Draft). IfSome o (λ d. IsWellFormed d.table × HasSmallSections d.table)) found.1 c.in-Ok-finish.ensures.formed in
+    (found.0, (formed.0, written.1 ∙ ap (λ (t : List ℕ). t ++ index_file (table (mboxes (map string_bytes c.args.paths.now) archives))) (ap (λ (f : Taking). f.taken) c.new-file.ensures)))

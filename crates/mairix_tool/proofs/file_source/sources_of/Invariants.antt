@@ -1,5 +1,5 @@
 use Rattle.std.proofs.Common.{◌≡◌, All, vec_len}
-use Rattle.mairix_tool.proofs.program.sources_of.Given as goal
+use Rattle.mairix_tool.proofs.file_source.sources_of.Given as goal
 
 -- a source for each path so far, none of which has failed
 abbrev pub invariant-loop-path : goal.invariant-loop-path
