@@ -38,8 +38,12 @@ messages-grow xs ys =
 
 keys-grow : (xs ys : List Mbox) → length (table xs).keys ≤ length (table (xs ++ ys)).keys
 keys-grow xs ys =
-    omega (arith, with_messages-more (0 + length (all_messages xs)) (all_messages ys) (with_messages 0 (all_messages xs) []),
-      ap (λ ms. length (with_messages 0 ms [])) (flat_map-append (λ (a : Mbox). messages_in a.bytes) xs ys), ap length (with_messages-append 0 (all_messages xs) (all_messages ys) []))
+    omega (
+      arith,
+      with_messages-more (0 + length (all_messages xs)) (all_messages ys) (with_messages 0 (all_messages xs) []),
+      ap (λ ms. length (with_messages 0 ms [])) (flat_map-append (λ (a : Mbox). messages_in a.bytes) xs ys),
+      ap length (with_messages-append 0 (all_messages xs) (all_messages ys) []),
+    )
 
 archives-grow : (xs ys : List Mbox) → length (table xs).archives ≤ length (table (xs ++ ys)).archives
 archives-grow xs ys = omega (arith, length-map xs entry_of, length-map (xs ++ ys) entry_of, length-append xs ys)
@@ -51,9 +55,9 @@ never-too-much archives before behind a whole few much =
     ⊎_elim
     (λ m. omega (arith, m, archives-grow (before ++ a ∷ []) behind, limit.archives))
     (λ rest. ⊎_elim
-      (λ m. omega (arith, m, messages-grow (before ++ a ∷ []) behind, limit.messages))
-      (λ m. omega (arith, m, keys-grow (before ++ a ∷ []) behind, limit.keys))
-      rest)
+    (λ m. omega (arith, m, messages-grow (before ++ a ∷ []) behind, limit.messages))
+    (λ m. omega (arith, m, keys-grow (before ++ a ∷ []) behind, limit.keys))
+    rest)
     much
 
 never-cut-off : (archives before behind : List Mbox) (a : Mbox) (f : CutFault) → archives ≡ before ++ a ∷ behind → AreSound archives → refusal_of most_in_archive a.bytes ≡ Some f → ⊥

@@ -28,18 +28,18 @@ returns-in_err-file-clause-found g c =
     let w : Wanted = wanted c.in_ok-wanted.wanted in
     let p = err_from_is_err_and c.from_residual-in_err-file.result c.from_residual-in_err-file.ensures.1 in
     λ archives known.
-        let fault : IsArchivesFault (mboxes w.paths archives) c.in_err-file.field-0.0 =
-        subst (λ (paths : List (List ℕ)). IsArchivesFault (mboxes paths archives) c.in_err-file.field-0.0) c.as_slice.ensures (c.in_err-file.ensures.known archives known) in
-        rw (p.1, p.2, c.in_ok-wanted.ensures.asked) (runs-archives (g.O.Out.taken c.args.out.now) (g.O.Out.taken c.args.out.now) refl w archives c.in_err-file.field-0.0 fault)
+    let fault : IsArchivesFault (mboxes w.paths archives) c.in_err-file.field-0.0 =
+    subst (λ (paths : List (List ℕ)). IsArchivesFault (mboxes paths archives) c.in_err-file.field-0.0) c.as_slice.ensures (c.in_err-file.ensures.known archives known) in
+    rw (p.1, p.2, c.in_ok-wanted.ensures.asked) (runs-archives (g.O.Out.taken c.args.out.now) (g.O.Out.taken c.args.out.now) refl w archives c.in_err-file.field-0.0 fault)
 
 pub returns-in_err-file-clause-first : goal.returns-in_err-file-clause-first
 returns-in_err-file-clause-first g c =
     let w : Wanted = wanted c.in_ok-wanted.wanted in
     let p = err_from_is_err_and c.from_residual-in_err-file.result c.from_residual-in_err-file.ensures.1 in
     λ archives known.
-        let fault : IsArchivesFault (mboxes w.paths archives) c.in_err-file.field-0.0 =
-        subst (λ (paths : List (List ℕ)). IsArchivesFault (mboxes paths archives) c.in_err-file.field-0.0) c.as_slice.ensures (c.in_err-file.ensures.known archives known) in
-        rw (p.1, p.2, c.in_ok-wanted.ensures.asked) (sound-before w archives c.in_err-file.field-0.0 fault)
+    let fault : IsArchivesFault (mboxes w.paths archives) c.in_err-file.field-0.0 =
+    subst (λ (paths : List (List ℕ)). IsArchivesFault (mboxes paths archives) c.in_err-file.field-0.0) c.as_slice.ensures (c.in_err-file.ensures.known archives known) in
+    rw (p.1, p.2, c.in_ok-wanted.ensures.asked) (sound-before w archives c.in_err-file.field-0.0 fault)
 
 pub returns-in_err-places-clause-found : goal.returns-in_err-places-clause-found
 returns-in_err-places-clause-found g c =
@@ -53,11 +53,11 @@ returns-clause-found g c =
     let old = g.O.Out.taken c.args.out.now in
     let new = g.O.Out.taken c.write_raw.new.out in
     λ archives known.
-        let indexed = subst (λ (paths : List (List ℕ)). AreSound (mboxes paths archives) × IsFileOf c.in_ok-file.file.taken (table (mboxes paths archives))) c.as_slice.ensures (c.in_ok-file.ensures.known archives known) in
-        let told = c.in_ok-places.ensures.found (table (mboxes w.paths archives)) (subst (λ (b : List ℕ). IsFileOf b (table (mboxes w.paths archives))) (sym c.bytes.ensures) indexed.1) in
-        let listed : c.deref.result.now ≡ places = c.deref.ensures.value in
-        let done = subst (λ (paths : List (List ℕ)). IfOk c.write_raw.result (λ n. (n ≡ length places) × Appends old new (raw_text paths places))) c.as_slice-2.ensures
-        (subst (λ (ps : List Place). IfOk c.write_raw.result (λ n. (n ≡ length ps) × Appends old new (raw_text (map string_bytes c.as_slice-2.result.now) ps))) listed c.write_raw.ensures.ok) in
-        let sent = subst (λ (paths : List (List ℕ)). OnErr c.write_raw.result (Sends old new (raw_text paths places))) c.as_slice-2.ensures
-        (subst (λ (ps : List Place). OnErr c.write_raw.result (Sends old new (raw_text (map string_bytes c.as_slice-2.result.now) ps))) listed c.write_raw.ensures.err) in
-        rw c.in_ok-wanted.ensures.asked (runs-answer w archives places indexed.0 told old new c.write_raw.result done sent c.write_raw.ensures.own)
+    let indexed = subst (λ (paths : List (List ℕ)). AreSound (mboxes paths archives) × IsFileOf c.in_ok-file.file.taken (table (mboxes paths archives))) c.as_slice.ensures (c.in_ok-file.ensures.known archives known) in
+    let told = c.in_ok-places.ensures.found (table (mboxes w.paths archives)) (subst (λ (b : List ℕ). IsFileOf b (table (mboxes w.paths archives))) (sym c.bytes.ensures) indexed.1) in
+    let listed : c.deref.result.now ≡ places = c.deref.ensures.value in
+    let done = subst (λ (paths : List (List ℕ)). IfOk c.write_raw.result (λ n. (n ≡ length places) × Appends old new (raw_text paths places))) c.as_slice-2.ensures
+    (subst (λ (ps : List Place). IfOk c.write_raw.result (λ n. (n ≡ length ps) × Appends old new (raw_text (map string_bytes c.as_slice-2.result.now) ps))) listed c.write_raw.ensures.ok) in
+    let sent = subst (λ (paths : List (List ℕ)). OnErr c.write_raw.result (Sends old new (raw_text paths places))) c.as_slice-2.ensures
+    (subst (λ (ps : List Place). OnErr c.write_raw.result (Sends old new (raw_text (map string_bytes c.as_slice-2.result.now) ps))) listed c.write_raw.ensures.err) in
+    rw c.in_ok-wanted.ensures.asked (runs-answer w archives places indexed.0 told old new c.write_raw.result done sent c.write_raw.ensures.own)
