@@ -1,20 +1,15 @@
-use Rattle.std.proofs.Common.{◌≡◌, ◌∙◌, ◌++◌, ℕ, List, map, All, Option, Some, Result, Ok, Err, IfErr, IfOk, IfSome, refl, sym, ap, subst, string_bytes, length}
+use Rattle.std.proofs.Common.{◌≡◌, ℕ, List, map, IfOk, refl, sym, subst, string_bytes, length}
 use Rattle.std.specs.Prelude.{OnErr}
-use Rattle.std.specs.Result.{MatchResult}
 use Rattle.std.specs.Io.KnownBytes.{Appends}
 use Rattle.std.proofs.lemmas.Result.{err_from_is_err_and}
 use Rattle.contract_words.specs.Devices.{Sends}
 use Rattle.mail_index.specs.Faults.{IsFileOf}
-use Rattle.mail_index.specs.Tables.{IsPath}
-use Rattle.mail_query.specs.Meaning.{meaning}
 use Rattle.mairix_tool.specs.ArchiveRefusals.{AreSound}
 use Rattle.mairix_tool.specs.ArchiveTables.{table}
 use Rattle.mairix_tool.specs.ArchivesIndexed.{mboxes, IsArchivesFault}
 use Rattle.mairix_tool.specs.Asked.{Wanted, wanted, asked}
-use Rattle.mairix_tool.specs.declared.fault.Fault.{Fault}
 use Rattle.mairix_tool.specs.declared.place.Place.{Place}
 use Rattle.mairix_tool.specs.RawAnswers.{raw_text}
-use Rattle.mairix_tool.specs.Replies.{Runs, AreSoundBefore}
 use Rattle.mairix_tool.proofs.AskedPaths.{asked-paths}
 use Rattle.mairix_tool.proofs.FoundAnswers.{runs-archives, runs-memory, runs-answer, sound-before}
 use Rattle.mairix_tool.proofs.run.run.Goals as goal
