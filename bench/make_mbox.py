@@ -1,9 +1,10 @@
 #!/usr/bin/env python3
-"""Writes a made mbox of about so many megabytes to a file: always the same bytes for the same size.
+"""Writes a made mbox of about so many megabytes, or of so many messages, to a file: always the same bytes for the same size.
 
     make_mbox.py MEGABYTES FILE
+    make_mbox.py --messages COUNT FILE
 """
-import base64, random, sys
+import base64, math, random, sys
 
 
 def words(rng, vocabulary, count):
@@ -11,14 +12,14 @@ def words(rng, vocabulary, count):
     return [vocabulary[min(int(len(vocabulary) ** rng.random()) - 1, len(vocabulary) - 1)] for _ in range(count)]
 
 
-def main(megabytes, path):
+def main(most_bytes, most_messages, path):
     rng = random.Random(20030518)
     letters = "abcdefghijklmnopqrstuvwxyz"
     vocabulary = ["".join(rng.choice(letters) for _ in range(rng.randint(2, 11))) for _ in range(200_000)]
     people = ["%s@%s.example" % (rng.choice(vocabulary), rng.choice(vocabulary)) for _ in range(2_000)]
     written = number = 0
     with open(path, "wb") as out:
-        while written < megabytes * 1_000_000:
+        while written < most_bytes and number < most_messages:
             number += 1
             sender = rng.choice(people)
             lines = ["From %s Thu Jan  2 10:00:00 2003" % sender,
@@ -39,4 +40,9 @@ def main(megabytes, path):
 
 
 if __name__ == "__main__":
-    main(int(sys.argv[1]), sys.argv[2]) if len(sys.argv) == 3 else sys.exit(__doc__)
+    if len(sys.argv) == 4 and sys.argv[1] == "--messages":
+        main(math.inf, int(sys.argv[2]), sys.argv[3])
+    elif len(sys.argv) == 3:
+        main(int(sys.argv[1]) * 1_000_000, math.inf, sys.argv[2])
+    else:
+        sys.exit(__doc__)
