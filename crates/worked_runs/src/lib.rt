@@ -2,6 +2,8 @@
 #![tactic(auto)]
 
 #[cfg(test)]
+mod checks;
+#[cfg(test)]
 mod command_lines;
 mod fault_texts;
 #[cfg(test)]
@@ -12,6 +14,8 @@ mod index_decoder;
 mod index_files;
 #[cfg(test)]
 mod message_texts;
+#[cfg(test)]
+mod patterns;
 #[cfg(test)]
 mod rows;
 #[cfg(test)]
