@@ -19,4 +19,6 @@ mod patterns;
 #[cfg(test)]
 mod rows;
 #[cfg(test)]
+mod several_archives;
+#[cfg(test)]
 mod sweeps;
