@@ -13,6 +13,8 @@ mod index_decoder;
 #[cfg(test)]
 mod index_files;
 #[cfg(test)]
+mod index_jobs;
+#[cfg(test)]
 mod message_texts;
 #[cfg(test)]
 mod patterns;
