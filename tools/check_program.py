@@ -52,7 +52,19 @@ CASES = [
     ("a missing rcfile", {"m.mbox": HELLO}, ["-f", "no", "--once", "s:x"], 4, b"", fault(b"cannot open no")),
     ("a missing archive goes before a bad query", {}, RUN + ["q:x"], 4, b"", fault(b"cannot open m.mbox")),
     ("bad prefix", {"m.mbox": HELLO}, RUN + ["q:x"], 2, b"", fault(b"query item 1: bad prefix")),
-    ("no prefix", {"m.mbox": HELLO}, RUN + ["hello"], 2, b"", fault(b"query item 1: bad prefix")),
+    ("no prefix", {"m.mbox": HELLO}, RUN + ["hello"], 0, b"0 58 m.mbox\n", b""),
+    ("no such prefix yet", {"m.mbox": HELLO}, RUN + ["n:x"], 2, b"", fault(b"query item 1: bad prefix")),
+    ("the second pattern is bad", {"m.mbox": HELLO}, RUN + ["s:hello", "q:x"], 2, b"", fault(b"query item 2: bad prefix")),
+    ("approximate match", {"m.mbox": HELLO}, RUN + ["f:alice=2"], 2, b"", fault(b"query item 1: approximate match not supported")),
+    ("bad date", {"m.mbox": HELLO}, RUN + ["d:31apr"], 2, b"", fault(b"query item 1: bad date")),
+    ("bad size", {"m.mbox": HELLO}, RUN + ["z:10"], 2, b"", fault(b"query item 1: bad size")),
+    ("bad flag", {"m.mbox": HELLO}, RUN + ["F:x"], 2, b"", fault(b"query item 1: bad flag")),
+    ("a size", {"m.mbox": HELLO}, RUN + ["z:19-19"], 0, b"0 58 m.mbox\n", b""),
+    ("another size", {"m.mbox": HELLO}, RUN + ["z:20-"], 1, b"", b""),
+    ("no date", {"m.mbox": HELLO}, RUN + ["d:1990-"], 1, b"", b""),
+    ("a year", {"m.mbox": SEPARATOR + b"Date: 4 May 2003 10:00\n\nx\n\n"}, RUN + ["d:2003"], 0, b"0 65 m.mbox\n", b""),
+    ("a negation and a part", {"m.mbox": HELLO}, RUN + ["s:~absent,ell="], 0, b"0 58 m.mbox\n", b""),
+    ("two archives in order", {"m.mbox": HELLO + HELLO, "n": HELLO, "rc": b"mbox=n:m.mbox\ndatabase=d\nmfolder=h\n"}, RUN + ["bs:hello/hi"], 0, b"0 58 n\n0 58 m.mbox\n58 58 m.mbox\n", b""),
     ("bad word", {"m.mbox": HELLO}, RUN + ["s:"], 2, b"", fault(b"query item 1: bad word")),
     ("no pattern", {"m.mbox": HELLO}, RUN, 2, b"", fault(b"query item 1: no pattern")),
     ("wildcard", {"rc": b"# mine\nmbox=a*\n"}, RUN + ["s:x"], 2, b"", fault(b"rcfile line 2: wildcard not supported")),
@@ -309,12 +321,25 @@ def many_archives(program):
         return bad
 
 
+def clock(program):
+    """A range of dates that ends now."""
+    bad = []
+    for days, status in ((-7, 0), (-15, 1), (7, 1)):
+        with tempfile.TemporaryDirectory() as folder:
+            date = time.strftime("%d %b %Y %H:%M:%S +0000", time.gmtime(time.time() + days * 86400))
+            write(folder, {"rc": RC, "m.mbox": SEPARATOR + b"Date: " + date.encode() + b"\n\nx\n\n"})
+            p = run(program, RUN + ["d:10d-"], folder, capture_output=True)
+            if p.returncode != status or p.stderr:
+                bad.append("%d days: status %d, %r" % (days, p.returncode, p.stderr))
+    return bad
+
+
 def main(program):
     program = os.path.abspath(program)
     passed = failed = 0
     checks = [(name, lambda c=c: case(program, *c)) for name, *c in CASES]
     checks += [(name, lambda c=c: index_case(program, *c)) for name, *c in INDEX_CASES]
-    others = (search_options, killed_run, second_name, odd_folder, no_room_for_index, large_index, full_disk, unreadable, many_archives)
+    others = (search_options, killed_run, second_name, odd_folder, no_room_for_index, large_index, full_disk, unreadable, many_archives, clock)
     checks += [(f.__doc__.split(".")[0], lambda f=f: f(program)) for f in others]
     for name, check in checks:
         bad = check()

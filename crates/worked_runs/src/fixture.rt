@@ -1,6 +1,7 @@
 //! What a test needs for a run in memory.
 ghost use Rattle.std.specs.Prelude.{◌≡◌, ◌<◌, ◌^◌, ◌-◌, length, All, IfOk, vec_len};
 
+use mail_dates::Moment;
 use mairix_tool::{RcFault, Reply, once_run, read_rc};
 use mbox_cutter::{MemoryOut, MemorySource};
 use std::alloc::{AllocError, Global};
@@ -8,6 +9,9 @@ use std::process::Abort;
 
 /// The rcfile of most rows.
 pub const RC: &[u8] = b"mbox=m.mbox\ndatabase=m.idx\nmfolder=hits\n";
+
+/// The second of the runs: noon of 18 May 2003, UTC.
+const NOW: i64 = 1_053_259_200;
 
 /// The line at which a message of the rows starts.
 pub const SEPARATOR: &str = "From a@x.org Thu Jan  2 10:00:00 2003\n";
@@ -34,6 +38,15 @@ pub fn archive(alloc: Global, text: &str) -> Result<Vec<u8>, AllocError> {
     Ok(bytes)
 }
 
+/// The archives of these texts.
+pub fn archives(alloc: Global, texts: &[&str]) -> Result<Vec<Vec<u8>>, AllocError> {
+    let mut archives = Vec::new(alloc);
+    for text in texts {
+        archives.push(archive(alloc, text)?)?;
+    }
+    Ok(archives)
+}
+
 /// Sources that give these archives in pieces.
 pub fn sources(
     alloc: Global,
@@ -51,7 +64,7 @@ pub fn sources(
     Ok(sources)
 }
 
-/// A run over these sources, of which there are as many as the rcfile has paths.
+/// A run over these sources, of which there are as many as the rcfile has paths; None where memory is wanting before it begins.
 pub fn run(
     rt: &impl Abort,
     alloc: Global,
@@ -68,5 +81,6 @@ pub fn run(
         Err(RcFault::OutOfMemory) => return None,
         Err(_) => {}
     }
-    Some(once_run(alloc, words, rc, sources, out))
+    let now = Moment::new(NOW)?;
+    Some(once_run(alloc, words, rc, sources, now, out))
 }

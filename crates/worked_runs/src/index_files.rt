@@ -12,7 +12,7 @@ use std::test::Fail;
 
 /// The index file of one archive `m.mbox` of 58 bytes, whose one message has the subject `Hello` and the text `hi`, without its
 /// digest.
-const BODY: &[u8] = b"MAIRIX\r\n\
+pub const BODY: &[u8] = b"MAIRIX\r\n\
     \x00\x00\x00\x01\x00\x00\x00\x01\x00\x00\x00\x01\x00\x00\x00\x02\
     \x00\x00\x00\x00\x00\x00\x00\x12\x00\x00\x00\x00\x00\x00\x00\x07\x00\x00\x00\x00\x00\x00\x00\x02\
     \x00\x00\x00\x00\x00\x00\x00\x3a\x00\x00\x00\x06m.mbox\
@@ -115,7 +115,7 @@ const KINDS: [Kind; 8] = [
 const BITS: [u8; 8] = [1, 2, 4, 8, 16, 32, 64, 128];
 
 /// These bytes with their digest.
-fn signed(alloc: Global, body: &[u8]) -> Result<Vec<u8>, AllocError> {
+pub fn signed(alloc: Global, body: &[u8]) -> Result<Vec<u8>, AllocError> {
     let mut file = body.to_vec(alloc)?;
     file.extend_from_slice(&Sha256::digest(body))?;
     Ok(file)

@@ -2,6 +2,8 @@
 #![tactic(auto)]
 
 #[cfg(test)]
+mod checks;
+#[cfg(test)]
 mod command_lines;
 mod fault_texts;
 #[cfg(test)]
@@ -11,8 +13,14 @@ mod index_decoder;
 #[cfg(test)]
 mod index_files;
 #[cfg(test)]
+mod index_jobs;
+#[cfg(test)]
 mod message_texts;
 #[cfg(test)]
+mod patterns;
+#[cfg(test)]
 mod rows;
+#[cfg(test)]
+mod several_archives;
 #[cfg(test)]
 mod sweeps;

@@ -1,7 +1,7 @@
 //! Runs with answers that were worked out by hand.
+use crate::checks::{check_pattern, check_refusal, found, refused};
 use crate::fixture::{RC, archive, run, sources, words};
-use mail_query::{QueryFault, QueryFaultKind};
-use mairix_tool::{Fault, Name, RcFault, Reply, UsageFault};
+use mairix_tool::{Fault, Name, RcFault, UsageFault};
 use mbox_cutter::{CutFault, MemoryOut};
 use std::alloc::{AllocError, Global};
 use std::process::Abort;
@@ -9,67 +9,6 @@ use std::test::Fail;
 
 const TWO_MESSAGES: &str =
     "^Subject: one||a||From here on we go||From - Sat Jan  4 12:00:00 2003|Subject: two||b||";
-
-/// What a run answers that finds so many messages.
-fn found(messages: u64) -> Reply {
-    Reply {
-        status: if messages == 0 { 1 } else { 0 },
-        messages,
-        fault: None,
-    }
-}
-
-/// What a run answers that is refused.
-fn refused(status: u8, fault: Fault) -> Reply {
-    Reply {
-        status,
-        messages: 0,
-        fault: Some(fault),
-    }
-}
-
-/// Runs `-f rc --once -r` with a pattern over one archive, in pieces of several sizes.
-fn check_pattern(
-    rt: &impl Abort,
-    alloc: Global,
-    text: &str,
-    pattern: &str,
-    messages: u64,
-    answer: &str,
-) -> Result<(), Fail> {
-    let words = words(alloc, &["-f", "rc", "--once", "-r", pattern])?;
-    for piece in [1usize, 7, 65_536] {
-        let mut archives = Vec::new(alloc);
-        archives.push(archive(alloc, text)?)?;
-        let mut sources = sources(alloc, &archives, piece, None)?;
-        let mut out = MemoryOut::new(alloc, None);
-        let reply = run(rt, alloc, &words, RC, &mut sources, &mut out);
-        assert_eq!(rt; reply, Some(found(messages)), "{text} {pattern}");
-        assert_eq!(rt; out.bytes(), answer.as_bytes(), "{text} {pattern}");
-    }
-    Ok(())
-}
-
-/// Runs words and an rcfile over one archive, and expects a refusal with nothing written.
-fn check_refusal(
-    rt: &impl Abort,
-    alloc: Global,
-    words: &[String],
-    rc: &[u8],
-    text: &str,
-    reply: Reply,
-) -> Result<(), Fail> {
-    let mut archives = Vec::new(alloc);
-    archives.push(archive(alloc, text)?)?;
-    let mut sources = sources(alloc, &archives, 7, None)?;
-    let mut out = MemoryOut::new(alloc, None);
-    assert_eq!(rt;
-        run(rt, alloc, words, rc, &mut sources, &mut out),
-        Some(reply)
-    );
-    assert_eq!(rt; out.bytes().len(), 0);
-    Ok(())
-}
 
 #[test]
 fn subjects_are_found(rt: HostRuntime) -> Result<(), Fail> {
@@ -124,6 +63,7 @@ fn bodies_are_found(rt: HostRuntime) -> Result<(), Fail> {
         (split_group, "b:f\u{fc}r", 1, "0 124 m.mbox\n"),
         (nested, "b:inner", 1, "0 157 m.mbox\n"),
         (nested, "b:outer", 1, "0 157 m.mbox\n"),
+        (nested, "b:inner,outer", 1, "0 157 m.mbox\n"),
         (nested, "b:o", 0, ""),
         (html, "b:mee", 1, "0 75 m.mbox\n"),
         (html, "b:meet", 0, ""),
@@ -178,30 +118,25 @@ fn depths_above_16_give_nothing(rt: HostRuntime) -> Result<(), Fail> {
     Ok(())
 }
 
-#[test]
-fn queries_are_refused(rt: HostRuntime) -> Result<(), Fail> {
-    let alloc = rt.alloc();
-    for (pattern, kind) in [
-        ("q:x", QueryFaultKind::BadPrefix),
-        ("sb:x", QueryFaultKind::BadPrefix),
-        ("x", QueryFaultKind::BadPrefix),
-        ("s:", QueryFaultKind::BadWord),
-        ("b:", QueryFaultKind::BadWord),
-        ("s:a b", QueryFaultKind::BadWord),
-    ] {
-        let words = words(alloc, &["-f", "rc", "--once", pattern])?;
-        let reply = refused(2, Fault::Query(QueryFault { number: 1, kind }));
-        check_refusal(&rt, alloc, &words, RC, "^Subject: Hello||hi||", reply)?;
+/// A header of so many lines of 64 bytes and a subject behind them.
+fn with_long_header(alloc: Global, lines: usize) -> Result<String, AllocError> {
+    let mut text = String::from_str(alloc, "^")?;
+    for _ in 0..lines {
+        text.push_str("X: aaaaaaaaaaaaaaaaaaaaaaaaaaaaaaaaaaaaaaaaaaaaaaaaaaaaaaaaaaaa|")?;
     }
-    let words = words(alloc, &["-f", "rc", "--once"])?;
-    let reply = refused(
-        2,
-        Fault::Query(QueryFault {
-            number: 1,
-            kind: QueryFaultKind::NoPattern,
-        }),
-    );
-    check_refusal(&rt, alloc, &words, RC, "^Subject: Hello||hi||", reply)
+    text.push_str("Subject: late||x||")?;
+    Ok(text)
+}
+
+/// A header is read to 262,144 bytes.
+#[test]
+fn long_headers_are_cut(rt: HostRuntime) -> Result<(), Fail> {
+    let alloc = rt.alloc();
+    let whole = with_long_header(alloc, 4_095)?;
+    check_pattern(&rt, alloc, whole.as_str(), "s:late", 1, "0 262136 m.mbox\n")?;
+    let longer = with_long_header(alloc, 4_096)?;
+    check_pattern(&rt, alloc, longer.as_str(), "s:late", 0, "")?;
+    Ok(())
 }
 
 #[test]

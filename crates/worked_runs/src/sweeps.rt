@@ -1,12 +1,14 @@
 //! Calls of which each allocation is refused in turn: the gate runs these tests with a library that refuses the first
 //! allocation, then the second, and so on. Each call answers in full, or its own want of memory with what that leaves. Where a
 //! fixture has no memory the test ends well.
-use crate::fixture::{RC, archive, run, sources, words};
+use crate::fixture::{RC, archive, archives, run, sources, words};
 use header_text::{Header, Taken, decode_words, message_ids, unfold};
-use mail_index::IndexFault;
+use mail_index::{IndexFault, IndexView, Kind, Steps, is_path};
 use mail_query::{QueryFault, QueryFaultKind};
-use mail_words::fold;
-use mairix_tool::{Fault, RcFault, Reply, UsageFault, fault_text, plan_of, read_rc};
+use mail_words::{TextKind, fold};
+use mairix_tool::{
+    Fault, IndexJob, JobFault, RcFault, Reply, UsageFault, fault_text, plan_of, read_rc,
+};
 use mbox_cutter::{Cutter, Event, MemoryOut, MemorySource};
 use std::alloc::Global;
 use std::process::Abort;
@@ -24,6 +26,20 @@ const OUT: Reply = Reply {
     fault: Some(Fault::Out),
 };
 
+/// A run has answered so many messages and the whole answer, or want of memory and a front of the answer.
+fn check_swept(rt: &impl Abort, reply: Reply, out: &[u8], messages: u64, answer: &str) {
+    let full = Reply {
+        status: 0,
+        messages,
+        fault: None,
+    };
+    assert!(rt; reply == full || reply == MEMORY || reply == OUT);
+    assert!(rt; answer.as_bytes().starts_with(out));
+    if reply == full {
+        assert_eq!(rt; out, answer.as_bytes());
+    }
+}
+
 fn sweep_run(
     rt: &impl Abort,
     alloc: Global,
@@ -37,16 +53,7 @@ fn sweep_run(
     let mut sources = sources(alloc, &archives, 7, None).ok()?;
     let mut out = MemoryOut::new(alloc, None);
     let reply = run(rt, alloc, &words, RC, &mut sources, &mut out)?;
-    let full = Reply {
-        status: 0,
-        messages: 1,
-        fault: None,
-    };
-    assert!(rt; reply == full || reply == MEMORY || reply == OUT);
-    assert!(rt; answer.as_bytes().starts_with(out.bytes()));
-    if reply == full {
-        assert_eq!(rt; out.bytes(), answer.as_bytes());
-    }
+    check_swept(rt, reply, out.bytes(), 1, answer);
     Some(())
 }
 
@@ -66,6 +73,89 @@ fn sweep_once_run_of_two_messages(rt: HostRuntime) {
     let text =
         "^Subject: one||a||From here on we go||From - Sat Jan  4 12:00:00 2003|Subject: two||b||";
     let _ = sweep_run(&rt, rt.alloc(), text, "s:one", "0 75 m.mbox\n");
+}
+
+/// Patterns of words, parts, ids, dates, sizes and flags over two archives.
+fn sweep_run_of_two(rt: &impl Abort, alloc: Global) -> Option<()> {
+    let words = words(
+        alloc,
+        &[
+            "-f", "rc", "--once", "-r", "hi/ho", "bs:~a,h=", "m:@=", "d:2003", "z:-99", "F:s",
+        ],
+    )
+    .ok()?;
+    let message = "^Message-ID: <1@x>|Date: 4 May 2003 10:00|Status: R||hi||";
+    let archives = archives(alloc, &[message, message]).ok()?;
+    let mut sources = sources(alloc, &archives, 7, None).ok()?;
+    let mut out = MemoryOut::new(alloc, None);
+    let rc = b"mbox=a.mbox:b.mbox\ndatabase=m.idx\nmfolder=hits\n";
+    let reply = run(rt, alloc, &words, rc, &mut sources, &mut out)?;
+    check_swept(rt, reply, out.bytes(), 2, "0 94 a.mbox\n0 94 b.mbox\n");
+    Some(())
+}
+
+#[test]
+fn sweep_once_run_of_two_archives(rt: HostRuntime) {
+    let _ = sweep_run_of_two(&rt, rt.alloc());
+}
+
+/// The file in these bytes has this word in a body.
+fn check_body_word(rt: &impl Abort, file: &[u8], word: &str) {
+    match IndexView::open(file) {
+        Ok(view) => {
+            let mut steps = Steps::new();
+            let body = Kind::Text(TextKind::Body);
+            let mut postings = view.look_up(body, word.as_bytes(), &mut steps);
+            assert_eq!(rt; postings.next(&mut steps), Some(0));
+        }
+        Err(fault) => panic!(rt; "refused: {fault:?}"),
+    }
+}
+
+/// Indexes an archive with one message, that has this word in its body, into a file of so many bytes. A job that has wanted
+/// memory has failed.
+fn sweep_job(rt: &impl Abort, alloc: Global, text: &str, word: &str, size: u64) -> Option<()> {
+    let path = "m.mbox";
+    assert!(rt; is_path(path));
+    let archive = archive(alloc, text).ok()?;
+    let mut source = MemorySource::new(alloc, &archive, 7, None).ok()?;
+    let mut again = MemorySource::new(alloc, &archive, 7, None).ok()?;
+    let mut job = match IndexJob::new(alloc) {
+        Ok(job) => job,
+        Err(fault) => {
+            assert_eq!(rt; fault, JobFault::OutOfMemory);
+            return None;
+        }
+    };
+    let mut out = MemoryOut::new(alloc, None);
+    if let Err(fault) = job.archive(path, &mut source) {
+        assert_eq!(rt; fault, JobFault::OutOfMemory);
+        assert_eq!(rt; job.archive(path, &mut again), Err(JobFault::Failed));
+        assert_eq!(rt; job.finish(&mut out), Err(JobFault::Failed));
+        return None;
+    }
+    match job.finish(&mut out) {
+        Ok(written) => {
+            assert_eq!(rt; written, size);
+            check_body_word(rt, out.bytes(), word);
+        }
+        Err(fault) => assert_eq!(rt; fault, JobFault::Out),
+    }
+    Some(())
+}
+
+#[test]
+fn sweep_index_job_of_an_encoded_text(rt: HostRuntime) {
+    let text =
+        "^Content-Type: text/plain; charset=utf-8|Content-Transfer-Encoding: base64||ZsO|8cg==||";
+    let _ = sweep_job(&rt, rt.alloc(), text, "f\u{fc}r", 167);
+}
+
+#[test]
+fn sweep_index_job_of_parts(rt: HostRuntime) {
+    let text =
+        "^Content-Type: multipart/mixed; boundary=o||--o|Content-Type: multipart/mixed; boundary=i||--i||inner|--o||outer|--o--||";
+    let _ = sweep_job(&rt, rt.alloc(), text, "outer", 198);
 }
 
 #[test]
