@@ -1,5 +1,5 @@
 -- Marks after marks.
-use Rattle.std.proofs.Common.{◌≡◌, ◌∙◌, ◌<◌, ℕ, Bool, true, false, ◌||◌, List, length, replicate, refl, sym, ap, arith}
+use Rattle.std.proofs.Common.{◌≡◌, ◌∙◌, ◌<◌, ℕ, Bool, false, ◌||◌, List, length, replicate, sym, ap, arith}
 use Rattle.std.proofs.lemmas.List.{get_or-replicate, length-replicate}
 use Rattle.mail_answer.specs.Marks.{truth_at, each_number, Adds}
 use Rattle.mail_answer.proofs.TruthLists.{told}

@@ -6,7 +6,7 @@ use Rattle.std.proofs.lemmas.List.FromFn.{length-map-range_with_len, get_or-map-
 use Rattle.mail_index.specs.declared.record.Record.{Record}
 use Rattle.mail_index.specs.Tables.{Table}
 use Rattle.mail_query.specs.declared.node.Node.{Node}
-use Rattle.mail_query.specs.Query.{Query, Any, Not, All, Either, query_of, queries_of, members_of}
+use Rattle.mail_query.specs.Query.{Query, Any, Not, Either, query_of, queries_of, members_of}
 use Rattle.mail_query.specs.Truth.{is_true, each_is_true, some_is_true}
 use Rattle.mail_answer.specs.TableFacts.{facts_of_record, facts_at, record_at, truths, chosen_numbers}
 use Rattle.mail_answer.specs.Marks.{truth_at, Adds}

@@ -3,7 +3,7 @@ use Rattle.std.proofs.Common.{◌≡◌, ℕ, List, Vec, Global, rules}
 use Rattle.mail_query.specs.declared.kinds.Kinds.{Kinds}
 use Rattle.mail_query.specs.declared.node.Node as node
 use Rattle.mail_query.specs.declared.node.Node.{Node, the_lemmas}
-use Rattle.mail_query.specs.Query.{Any, Word, Part, Prefix, All, Either, query_of, queries_of, members_of}
+use Rattle.mail_query.specs.Query.{Any, Word, Part, Prefix, Either, query_of, queries_of, members_of}
 
 pub query_of-Any : query_of node.Any ≡ Any
 query_of-Any = search (rules, the_lemmas)

@@ -1,5 +1,5 @@
 -- The file of a table keeps every rule, so it has no fault.
-use Rattle.std.proofs.Common.{◌≡◌, ℕ, zero, suc, ◌+◌, ◌-◌, ◌*◌, ◌^◌, ◌<◌, ◌≤◌, List, [], ◌∷◌, ◌++◌, length, map, take, drop, refl, sym, ap, subst, ◌∙◌, append_assoc, arith, length-drop, length-append}
+use Rattle.std.proofs.Common.{◌≡◌, ℕ, suc, ◌+◌, ◌-◌, ◌*◌, ◌^◌, ◌<◌, List, [], ◌∷◌, ◌++◌, length, map, take, drop, refl, sym, ap, subst, ◌∙◌, arith, length-append}
 use Rattle.std.specs.Prelude.{flat_map, slice_range}
 use Rattle.std.specs.List.{AllByRecursion, concat}
 use Rattle.std.proofs.Math.Seq.{take-append_seam, drop-append_seam}
@@ -9,9 +9,9 @@ use Rattle.sha2.specs.Sha256.{sha256}
 use Rattle.sha2.proofs.Facts256.{length-sha256}
 use Rattle.mail_index.specs.declared.record.Record.{Record}
 use Rattle.mail_index.specs.Fields.{u32_at, u64_at}
-use Rattle.mail_index.specs.Files.{magic, version, Entry, entry_of, entries, archive_bytes, archive_section, record_bytes, directory_from, texts_of, postings_of, counts, sections, body, index_file}
+use Rattle.mail_index.specs.Files.{magic, version, entry_of, entries, archive_bytes, archive_section, record_bytes, directory_from, texts_of, postings_of, counts, sections, body, index_file}
 use Rattle.mail_index.specs.Tables.{Archive, Key, Table, IsWellFormed, IsKey, AllNext, KeyBefore}
-use Rattle.mail_index.specs.Faults.{IsFirstFault, EntryBefore, IsEntry, records_start, directory_start, texts_start, postings_start, digest_start, HasDigest, IsSigned, HasCounts, HasArchives, HasRecords, HasDirectory, HasPostings, IsFileOf}
+use Rattle.mail_index.specs.Faults.{IsFirstFault, EntryBefore, IsEntry, records_start, directory_start, texts_start, postings_start, digest_start, HasDigest, IsSigned, HasArchives, HasRecords, HasDirectory, HasPostings, IsFileOf}
 use Rattle.mail_index.specs.declared.fault.IndexFault.{IndexFault}
 use Rattle.mail_index.specs.declared.fault.IndexFault.TheVariants.{TooShort, BadMagic, BadVersion, BadDigest, BadLayout}
 use Rattle.mail_index.specs.declared.fault.Section.TheVariants.{Counts, Archives, Records, Directory, Postings}

@@ -1,25 +1,20 @@
 -- The keys of a directory, entry by entry.
-use Rattle.std.proofs.Common.{◌≡◌, ◌∙◌, ◌↔◌, ℕ, zero, suc, ◌+◌, ◌-◌, ◌*◌, ◌^◌, ◌<◌, ◌≤◌, Bool, true, false, ◌&&◌, List, [], ◌∷◌, length, map, take, drop, get_or, refl, sym, ap, ap₂, subst, arith, length-drop}
+use Rattle.std.proofs.Common.{◌≡◌, ◌∙◌, ℕ, zero, suc, ◌+◌, ◌*◌, ◌^◌, ◌<◌, ◌≤◌, ◌&&◌, List, [], ◌∷◌, length, map, drop, refl, sym, ap, subst, arith, length-drop}
 use Rattle.std.specs.Prelude.{nat_eq}
 use Rattle.std.specs.List.{AllByRecursion}
-use Rattle.std.specs.declared.cmp.Ordering.{Ordering}
-use Rattle.std.specs.declared.cmp.Ordering.TheVariants.{Less, Equal, Greater}
+use Rattle.std.specs.declared.cmp.Ordering.TheVariants.{Less}
 use Rattle.std.specs.Ordering.{nat_cmp}
-use Rattle.std.specs.Cmp.{IsTotalOrder}
 use Rattle.std.specs.Cmp.Lexicographic.{slice_cmp}
 use Rattle.std.specs.List.Sorted.{IsStrictlySortedBy}
 use Rattle.std.proofs.lemmas.Cmp.{nat_list_cmp_total}
-use Rattle.std.proofs.lemmas.Map.Keys.{Less-from_sorted}
-use Rattle.std.proofs.lemmas.List.{drop-drop, length-map, get_or-map}
-use Rattle.mail_index.specs.declared.kind.Kind.{Kind}
+use Rattle.std.proofs.lemmas.List.{drop-drop, length-map}
 use Rattle.mail_index.specs.Kinds.{kind_number, kind_of_number, is_kind_number}
 use Rattle.mail_index.specs.Fields.{byte_at, u32_at, u64_at}
 use Rattle.mail_index.specs.Tables.{Key}
-use Rattle.mail_index.specs.Files.{Entry}
-use Rattle.mail_index.specs.PostingReads.{numbers_read, ArePostings, ArePosted}
-use Rattle.mail_index.specs.Directory.{key_cmp, is_entry, end_before, text_at, read_entry, read_entries, IsEntryAt, AreEntries}
+use Rattle.mail_index.specs.PostingReads.{ArePosted}
+use Rattle.mail_index.specs.Directory.{is_entry, end_before, text_at, read_entry, read_entries, IsEntryAt, AreEntries}
 use Rattle.mail_index.specs.Lists.{list_at, AreLists}
-use Rattle.mail_index.specs.KeysRead.{key_of, keys_read, IsDirectory, no_key, key_at}
+use Rattle.mail_index.specs.KeysRead.{key_of, keys_read, IsDirectory, key_at}
 use Rattle.mail_index.specs.LookUps.{AreSorted}
 use Rattle.mail_index.proofs.Bytes.{both}
 use Rattle.mail_index.proofs.KeyOrder.{kind_kept}

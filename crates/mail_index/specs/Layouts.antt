@@ -1,14 +1,13 @@
 -- The sections of a file as slices, and the table that they tell.
-use Rattle.std.specs.Prelude.{◌≡◌, ℕ, ◌+◌, ◌*◌, ◌^◌, ◌<◌, List, [], length, map, slice_range}
+use Rattle.std.specs.Prelude.{◌≡◌, ℕ, ◌+◌, ◌*◌, ◌^◌, ◌<◌, List, [], length, slice_range}
 use Rattle.mail_index.specs.declared.archive.Archive.{Archive}
 use Rattle.mail_index.specs.declared.layout.Layout.{Layout}
 use Rattle.mail_index.specs.Fields.{u32_at}
 use Rattle.mail_index.specs.Tables.{Key, Table}
 use Rattle.mail_index.specs.Tables as table
-use Rattle.mail_index.specs.Files.{Entry}
 use Rattle.mail_index.specs.Faults.{records_start, directory_start, texts_start, postings_start, digest_start}
 use Rattle.mail_index.specs.Records.{SpellsArchives, AreRecords, read_archives, read_records}
-use Rattle.mail_index.specs.Directory.{AreEntries, read_entries}
+use Rattle.mail_index.specs.Directory.{AreEntries}
 use Rattle.mail_index.specs.Lists.{AreLists}
 use Rattle.mail_index.specs.KeysRead.{keys_read}
 

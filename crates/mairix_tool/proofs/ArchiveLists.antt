@@ -1,5 +1,5 @@
 -- Archives by their paths and bytes, one after another.
-use Rattle.std.proofs.Common.{◌≡◌, ◌∙◌, ◌+◌, ◌<◌, ◌≤◌, ◌++◌, ℕ, zero, suc, List, [], ◌∷◌, length, take, drop, get_or, All, None, Some, false, inl, inr, refl, sym, ap, subst, arith, drop-cons}
+use Rattle.std.proofs.Common.{◌≡◌, ◌∙◌, ◌+◌, ◌<◌, ◌≤◌, ◌++◌, ℕ, zero, suc, List, [], ◌∷◌, length, take, drop, get_or, None, Some, false, inl, inr, refl, sym, ap, arith, drop-cons}
 use Rattle.std.proofs.lemmas.List.{take_more, take-append-drop, length-take-le}
 use Rattle.std.proofs.lemmas.List.Elements.{All-append, All-cons, All-nil}
 use Rattle.mail_index.specs.Builders.{Draft}
@@ -10,7 +10,7 @@ use Rattle.mairix_tool.specs.declared.job_fault.JobFault.TheVariants as job
 use Rattle.mairix_tool.specs.ArchiveTables.{Mbox}
 use Rattle.mairix_tool.specs.ArchiveRefusals.{most_in_archive, AreSound}
 use Rattle.mairix_tool.specs.ArchivesIndexed.{mboxes, Parted, IsArchivesFault, fault_of_job}
-use Rattle.mairix_tool.specs.IndexJobs.{IsIndexOf, IsAdded, IsAddFault}
+use Rattle.mairix_tool.specs.IndexJobs.{IsAdded, IsAddFault}
 use Rattle.std.specs.Prelude.{Option, Err, ◌≢◌}
 use Rattle.std.proofs.lemmas.Bool.Decides.{eqb_tells}
 use Rattle.contract_words.specs.Devices.{Counted}

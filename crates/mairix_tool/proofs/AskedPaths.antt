@@ -1,13 +1,10 @@
 -- The paths of archives that are asked for are paths.
-use Rattle.std.proofs.Common.{◌≡◌, ℕ, List, All, Result, Ok, Err, refl, sym, ap, subst}
+use Rattle.std.proofs.Common.{◌≡◌, ℕ, List, All, Result, Ok, Err, refl, subst}
 use Rattle.contract_words.specs.Answers.{◌>>=◌, fault_as}
 use Rattle.mail_index.specs.Tables.{IsPath}
 use Rattle.mail_query.specs.Query.{Query}
 use Rattle.mail_query.specs.Mail.{mairix_query}
 use Rattle.mail_query.specs.declared.fault.QueryFault.{QueryFault}
-use Rattle.mairix_tool.specs.declared.command_line.Plan.{Plan}
-use Rattle.mairix_tool.specs.declared.command_line.UsageFault.{UsageFault}
-use Rattle.mairix_tool.specs.declared.fault.Fault.{Fault}
 use Rattle.mairix_tool.specs.declared.fault.Fault.TheVariants as of
 use Rattle.mairix_tool.specs.declared.rcfile.Rc.{Rc}
 use Rattle.mairix_tool.specs.declared.rcfile.RcFault.{RcFault}

@@ -1,30 +1,27 @@
 -- What a run answers is the reply of its words, rcfile, moment and archives.
-use Rattle.std.proofs.Common.{◌≡◌, ◌∙◌, ◌+◌, ◌<◌, ◌≤◌, ◌++◌, ℕ, List, [], ◌∷◌, length, map, take, All, get_or, Option, None, Some, Result, Ok, Err, IfOk, IfErr, IfSome, refl, sym, ap, subst, arith, append-nil, append_assoc, false, true, ⊎_elim, inl, inr}
-use Rattle.std.specs.Prelude.{◌⊎◌, OnErr}
+use Rattle.std.proofs.Common.{◌≡◌, ◌∙◌, ◌+◌, ◌<◌, ◌≤◌, ◌++◌, ℕ, List, [], ◌∷◌, length, take, All, get_or, Option, None, Some, Result, Ok, Err, IfOk, IfErr, IfSome, refl, sym, ap, subst, arith, append-nil, append_assoc, ⊎_elim, inl, inr}
+use Rattle.std.specs.Prelude.{OnErr}
 use Rattle.std.specs.Io.KnownBytes.{Appends}
 use Rattle.std.proofs.lemmas.List.{length-append, length-map}
 use Rattle.std.proofs.lemmas.List.Elements.{All-get_or}
 use Rattle.std.proofs.Math.Seq.{get_or-append_seam, take-append_seam}
 use Rattle.std.proofs.lemmas.Grind.{flat_map-append}
-use Rattle.contract_words.specs.Answers.{Gives}
 use Rattle.contract_words.specs.Devices.{Sends}
-use Rattle.mail_index.specs.Tables.{Key, Table}
-use Rattle.mail_query.specs.Query.{Query}
 use Rattle.mbox_cutter.specs.declared.event.CutFault.{CutFault}
 use Rattle.mbox_cutter.specs.declared.event.CutFault.TheVariants as cut
 use Rattle.mbox_cutter.specs.Events.{refusal_of}
 use Rattle.mairix_tool.specs.declared.fault.Fault.{Fault}
 use Rattle.mairix_tool.specs.declared.fault.Fault.TheVariants as of
 use Rattle.mairix_tool.specs.declared.place.Place.{Place}
-use Rattle.mairix_tool.specs.ArchiveRefusals.{most_in_archive, most_in_index, AreSound, IsTooMuch, IsWithinLimit, IsCutOff, IsOneTooMany}
-use Rattle.mairix_tool.specs.ArchiveTables.{Mbox, table, all_messages, messages_in, records_from, with_messages, entry_of}
-use Rattle.mairix_tool.specs.ArchivesIndexed.{mboxes, Parted, Refuses, FailsAt, IsArchivesFault}
+use Rattle.mairix_tool.specs.ArchiveRefusals.{most_in_archive, AreSound, IsTooMuch, IsWithinLimit}
+use Rattle.mairix_tool.specs.ArchiveTables.{Mbox, table, all_messages, messages_in, with_messages, entry_of}
+use Rattle.mairix_tool.specs.ArchivesIndexed.{mboxes, Parted, Refuses, IsArchivesFault}
 use Rattle.mairix_tool.specs.Asked.{Wanted}
 use Rattle.mairix_tool.specs.Chosen.{places_chosen, places_told}
 use Rattle.mairix_tool.specs.Faults as faults
 use Rattle.mairix_tool.specs.Faults.{IsEarly, IsOfOutput}
 use Rattle.mairix_tool.specs.RawAnswers.{raw_text}
-use Rattle.mairix_tool.specs.Replies.{Answer, answer_of, refused, IsFound, IsReply, Runs, AreSoundBefore, status_of_count}
+use Rattle.mairix_tool.specs.Replies.{Answer, answer_of, IsFound, Runs, AreSoundBefore, status_of_count}
 use Rattle.mairix_tool.proofs.ArchiveSteps.{with_messages-append, with_messages-more}
 use Rattle.mairix_tool.proofs.TableSteps.{records-count}
 use Rattle.mairix_tool.proofs.TableTruthPlaces.{places-told}
@@ -38,8 +35,12 @@ messages-grow xs ys =
 
 keys-grow : (xs ys : List Mbox) → length (table xs).keys ≤ length (table (xs ++ ys)).keys
 keys-grow xs ys =
-    omega (arith, with_messages-more (0 + length (all_messages xs)) (all_messages ys) (with_messages 0 (all_messages xs) []),
-      ap (λ ms. length (with_messages 0 ms [])) (flat_map-append (λ (a : Mbox). messages_in a.bytes) xs ys), ap length (with_messages-append 0 (all_messages xs) (all_messages ys) []))
+    omega (
+      arith,
+      with_messages-more (0 + length (all_messages xs)) (all_messages ys) (with_messages 0 (all_messages xs) []),
+      ap (λ ms. length (with_messages 0 ms [])) (flat_map-append (λ (a : Mbox). messages_in a.bytes) xs ys),
+      ap length (with_messages-append 0 (all_messages xs) (all_messages ys) []),
+    )
 
 archives-grow : (xs ys : List Mbox) → length (table xs).archives ≤ length (table (xs ++ ys)).archives
 archives-grow xs ys = omega (arith, length-map xs entry_of, length-map (xs ++ ys) entry_of, length-append xs ys)
@@ -51,9 +52,9 @@ never-too-much archives before behind a whole few much =
     ⊎_elim
     (λ m. omega (arith, m, archives-grow (before ++ a ∷ []) behind, limit.archives))
     (λ rest. ⊎_elim
-      (λ m. omega (arith, m, messages-grow (before ++ a ∷ []) behind, limit.messages))
-      (λ m. omega (arith, m, keys-grow (before ++ a ∷ []) behind, limit.keys))
-      rest)
+    (λ m. omega (arith, m, messages-grow (before ++ a ∷ []) behind, limit.messages))
+    (λ m. omega (arith, m, keys-grow (before ++ a ∷ []) behind, limit.keys))
+    rest)
     much
 
 never-cut-off : (archives before behind : List Mbox) (a : Mbox) (f : CutFault) → archives ≡ before ++ a ∷ behind → AreSound archives → refusal_of most_in_archive a.bytes ≡ Some f → ⊥

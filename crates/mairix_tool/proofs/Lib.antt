@@ -22,5 +22,6 @@ pub mod TableSteps
 pub mod ArchiveLists
 pub mod Numbers
 pub mod FoundAnswers
+pub mod RepliesExist
 pub mod AskedPaths
 pub mod MessageSteps

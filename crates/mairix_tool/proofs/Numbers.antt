@@ -1,9 +1,9 @@
 -- The numbers of the messages that a table chooses, and their records.
-use Rattle.std.proofs.Common.{◌≡◌, ◌∙◌, ◌+◌, ◌<◌, ℕ, List, length, get_or, All, Some, refl, sym, ap, arith}
-use Rattle.std.specs.List.{range_with_len, slice_get}
+use Rattle.std.proofs.Common.{◌<◌, ℕ, length, get_or, All, arith}
+use Rattle.std.specs.List.{range_with_len}
 use Rattle.std.proofs.lemmas.List.Elements.{All-filter, All-from_get_or, All-get_or}
 use Rattle.std.proofs.lemmas.List.FromFn.{get_or-range_with_len, length-range_with_len}
-use Rattle.mail_answer.specs.TableFacts.{chosen_numbers, facts_at, record_at, no_record}
+use Rattle.mail_answer.specs.TableFacts.{chosen_numbers, facts_at}
 use Rattle.mail_index.specs.Tables.{Table}
 use Rattle.mail_query.specs.Query.{Query}
 use Rattle.mail_query.specs.Truth.{is_true}

@@ -24,11 +24,7 @@ fn place_of(message: Record) -> Place
 }
 
 /// The places of the messages that satisfy the query, in the order of archive and offset.
-fn places_in(
-    alloc: Global,
-    index: &IndexView<'_>,
-    query: &Query,
-) -> Result<Vec<Place>, AllocError>
+fn places_in(alloc: Global, index: &IndexView<'_>, query: &Query) -> Result<Vec<Place>, AllocError>
     requires { IsWellFormed index.now }
     ensures { IfOk result (λ v. v.items ≡ places_told (meaning query.now) index.now) }
 {

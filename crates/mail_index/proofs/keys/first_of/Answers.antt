@@ -1,7 +1,6 @@
-use Rattle.std.proofs.Common.{◌≡◌, ◌∙◌, ◌+◌, ◌-◌, ◌/◌, ◌<◌, ◌≤◌, ℕ, suc, [], List, length, sym, arith}
+use Rattle.std.proofs.Common.{◌≡◌, ◌∙◌, ◌+◌, ◌-◌, ◌/◌, ◌<◌, ℕ, [], length, sym, arith}
 use Rattle.std.specs.declared.cmp.Ordering.TheVariants.{Less, Equal, Greater}
-use Rattle.mail_index.specs.Tables.{Key}
-use Rattle.mail_index.specs.LookUps.{lies_to, AreSorted}
+use Rattle.mail_index.specs.LookUps.{lies_to}
 use Rattle.mail_index.specs.KeysRead.{no_key, key_at}
 use Rattle.mail_index.proofs.LookUpLemmas.{before-less, behind-others}
 use Rattle.mail_index.proofs.keys.first_of.Goals as goal

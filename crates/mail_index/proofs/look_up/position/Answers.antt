@@ -1,8 +1,7 @@
-use Rattle.std.proofs.Common.{◌≡◌, ◌∙◌, ◌+◌, ◌-◌, ◌/◌, ◌^◌, ◌<◌, ◌≤◌, ℕ, suc, List, length, sym, ap, arith}
+use Rattle.std.proofs.Common.{◌∙◌, ◌+◌, ◌-◌, ◌/◌, ◌<◌, ℕ, suc, List, length, sym, ap, arith}
 use Rattle.mail_index.specs.Steps.{add_steps}
 use Rattle.mail_index.specs.Tables.{Key}
-use Rattle.mail_index.specs.LookUps.{lies_to}
-use Rattle.mail_index.specs.KeysRead.{no_key, key_at}
+use Rattle.mail_index.specs.KeysRead.{no_key}
 use Rattle.mail_index.proofs.StepLemmas.{add_steps-one}
 use Rattle.mail_index.proofs.LookUpLemmas.{before-less, behind-greater, halves, numbers_at-met, numbers_at-none}
 use Rattle.mail_index.proofs.look_up.position.Goals as goal

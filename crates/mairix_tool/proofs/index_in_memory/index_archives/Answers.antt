@@ -1,18 +1,12 @@
-use Rattle.std.proofs.Common.{arith, ◌≡◌, ◌∙◌, ◌+◌, ◌<◌, ◌≤◌, ℕ, List, [], ◌∷◌, ◌++◌, length, map, take, get_or, All, Option, Some, Ok, IfSome, IfOk, refl, sym, ap, subst, string_bytes}
+use Rattle.std.proofs.Common.{arith, ◌≡◌, ◌∙◌, ◌<◌, ◌≤◌, ℕ, List, [], length, map, take, get_or, Some, sym, ap, subst, string_bytes}
 use Rattle.std.proofs.lemmas.List.{get_or-map, length-map, take_all}
 use Rattle.std.proofs.lemmas.List.Elements.{All-get_or}
 use Rattle.std.proofs.Math.Seq.{map-set_same}
 use Rattle.contract_words.proofs.DeviceLists.{same_at, same_behind, known_at, known_length, counted_at}
-use Rattle.mail_index.specs.Builders.{Draft}
-use Rattle.std.specs.Io.KnownBytes.{Appends}
-use Rattle.mail_index.specs.Files.{index_file}
 use Rattle.mail_index.specs.Tables.{IsPath}
-use Rattle.mbox_cutter.specs.Memory.{Taking}
-use Rattle.mairix_tool.specs.ArchiveTables.{table}
-use Rattle.mairix_tool.specs.Indexing.{draft_of}
 use Rattle.mairix_tool.specs.ArchiveTables.{Mbox}
 use Rattle.mairix_tool.specs.ArchiveRefusals.{AreSound}
-use Rattle.mairix_tool.specs.ArchivesIndexed.{mboxes, fault_of_job, IsArchivesFault}
+use Rattle.mairix_tool.specs.ArchivesIndexed.{mboxes, fault_of_job}
 use Rattle.mairix_tool.specs.Faults.{is_failed_source}
 use Rattle.mairix_tool.specs.IndexJobs.{IsIndexOf, IsAdded, IsAddFault}
 use Rattle.mairix_tool.proofs.ArchiveLists.{mboxes-length, next-taken, parted-here, taken-so-far, sound-more, archive-fault, others-run, here-counts}

@@ -1,12 +1,10 @@
-use Rattle.std.proofs.Common.{◌≡◌, ◌∙◌, ◌*◌, ℕ, List, ◌∷◌, drop, length, sym, ap, ap₂, arith}
+use Rattle.std.proofs.Common.{◌∙◌, ℕ, List, ◌∷◌, sym, ap, arith}
 use Rattle.std.specs.Ordering.{nat_cmp}
 use Rattle.std.specs.Cmp.Lexicographic.{slice_cmp}
 use Rattle.mail_index.specs.Kinds.{kind_number}
-use Rattle.mail_index.specs.Tables.{Key}
 use Rattle.mail_index.specs.Directory.{text_at, read_entry}
 use Rattle.mail_index.specs.LookUps.{lies_to}
-use Rattle.mail_index.specs.KeysRead.{IsDirectory, keys_read}
-use Rattle.mail_index.proofs.DirectoryKeys.{IsRest, number-below, rest-at}
+use Rattle.mail_index.proofs.DirectoryKeys.{number-below, rest-at}
 use Rattle.mail_index.proofs.directory.Directory.compare.Goals as goal
 
 pub split_at-requires : goal.split_at-requires

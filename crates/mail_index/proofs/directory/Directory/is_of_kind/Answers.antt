@@ -1,9 +1,7 @@
-use Rattle.std.proofs.Common.{◌≡◌, ◌∙◌, ◌*◌, ℕ, List, drop, length, nat_eq, sym, ap, ap₂, arith}
-use Rattle.mail_index.specs.Kinds.{kind_number}
-use Rattle.mail_index.specs.Tables.{Key}
+use Rattle.std.proofs.Common.{◌∙◌, ℕ, nat_eq, sym, ap, ap₂, arith}
 use Rattle.mail_index.specs.Directory.{read_entry}
 use Rattle.mail_index.specs.LookUps.{is_of_kind}
-use Rattle.mail_index.proofs.DirectoryKeys.{IsRest, number-below, rest-at}
+use Rattle.mail_index.proofs.DirectoryKeys.{number-below, rest-at}
 use Rattle.mail_index.proofs.directory.Directory.is_of_kind.Goals as goal
 
 pub split_at-requires : goal.split_at-requires

@@ -1,4 +1,4 @@
-use Rattle.std.proofs.Common.{◌≡◌, ◌∙◌, length, sym, ap, subst}
+use Rattle.std.proofs.Common.{◌∙◌, length, sym, ap, subst}
 use Rattle.mail_index.specs.LookUps.{AreSorted}
 use Rattle.mail_index.proofs.DirectoryKeys.{length-keys_read, directory-sorted}
 use Rattle.mail_index.proofs.directory.Directory.len.Goals as goal

@@ -1,10 +1,10 @@
-use Rattle.std.proofs.Common.{◌≡◌, ◌∙◌, ◌*◌, ◌^◌, ℕ, List, drop, length, sym, ap, subst, arith}
+use Rattle.std.proofs.Common.{◌∙◌, ◌^◌, ℕ, List, sym, ap, subst, arith}
 use Rattle.mail_index.specs.Tables.{Key}
 use Rattle.mail_index.specs.Directory.{read_entry}
 use Rattle.mail_index.specs.Lists.{list_at}
-use Rattle.mail_index.specs.PostingReads.{ArePosted, ArePostings, numbers_read}
+use Rattle.mail_index.specs.PostingReads.{ArePosted, ArePostings}
 use Rattle.mail_index.proofs.PostingReadLemmas.{read-posted}
-use Rattle.mail_index.proofs.DirectoryKeys.{IsRest, number-below, rest-at}
+use Rattle.mail_index.proofs.DirectoryKeys.{number-below, rest-at}
 use Rattle.mail_index.proofs.directory.Directory.postings.Goals as goal
 
 pub split_at-requires : goal.split_at-requires

@@ -1,7 +1,7 @@
-use Rattle.std.proofs.Common.{◌≡◌, ◌∙◌, ◌*◌, ℕ, List, drop, length, sym, ap, arith}
+use Rattle.std.proofs.Common.{◌∙◌, sym, ap, arith}
 use Rattle.mail_index.specs.Tables.{Key}
 use Rattle.mail_index.specs.Directory.{read_entry}
-use Rattle.mail_index.proofs.DirectoryKeys.{IsRest, number-below, rest-at}
+use Rattle.mail_index.proofs.DirectoryKeys.{number-below, rest-at}
 use Rattle.mail_index.proofs.directory.Directory.text.Goals as goal
 
 pub split_at-requires : goal.split_at-requires

@@ -1,4 +1,4 @@
-use Rattle.std.proofs.Common.{◌≡◌, ap, ◌∙◌, arith}
+use Rattle.std.proofs.Common.{ap, ◌∙◌, arith}
 use Rattle.mail_index.specs.Tables.{Table}
 use Rattle.mail_index.proofs.index_view.IndexView.directory.Goals as goal
 

@@ -1,7 +1,7 @@
-use Rattle.std.proofs.Common.{rules, ◌≡◌, ◌∙◌, ◌<◌, false, ℕ, List, [], map, length, drop, sym, ap, arith}
+use Rattle.std.proofs.Common.{rules, ◌≡◌, ◌∙◌, ◌<◌, false, ℕ, List, [], map, length, sym, ap, arith}
 use Rattle.mail_index.specs.Kinds.{kind_number}
 use Rattle.mail_index.specs.Tables.{Key}
-use Rattle.mail_index.specs.LookUps.{is_of_kind, keys_of, text_and_numbers}
+use Rattle.mail_index.specs.LookUps.{is_of_kind, text_and_numbers}
 use Rattle.mail_index.specs.KeysRead.{no_key, key_at}
 use Rattle.mail_index.proofs.LookUpLemmas.{past-kind, keys_of-past}
 use Rattle.mail_index.proofs.keys.Keys.next.Goals as goal

@@ -1,5 +1,4 @@
-use Rattle.std.proofs.Common.{ℕ, List, map, ap}
-use Rattle.mail_index.specs.Tables.{Key}
+use Rattle.std.proofs.Common.{map, ap}
 use Rattle.mail_index.specs.LookUps.{text_and_numbers}
 use Rattle.mail_index.specs.KeysRead.{no_key}
 use Rattle.mail_index.proofs.LookUpLemmas.{keys_of-behind}
