@@ -65,6 +65,7 @@ CASES = [
     ("a year", {"m.mbox": SEPARATOR + b"Date: 4 May 2003 10:00\n\nx\n\n"}, RUN + ["d:2003"], 0, b"0 65 m.mbox\n", b""),
     ("a negation and a part", {"m.mbox": HELLO}, RUN + ["s:~absent,ell="], 0, b"0 58 m.mbox\n", b""),
     ("two archives in order", {"m.mbox": HELLO + HELLO, "n": HELLO, "rc": b"mbox=n:m.mbox\ndatabase=d\nmfolder=h\n"}, RUN + ["bs:hello/hi"], 0, b"0 58 n\n0 58 m.mbox\n58 58 m.mbox\n", b""),
+    ("an empty prefix", {"m.mbox": HELLO}, RUN + [":hello"], 2, b"", fault(b"query item 1: bad prefix")),
     ("bad word", {"m.mbox": HELLO}, RUN + ["s:"], 2, b"", fault(b"query item 1: bad word")),
     ("no pattern", {"m.mbox": HELLO}, RUN, 2, b"", fault(b"query item 1: no pattern")),
     ("wildcard", {"rc": b"# mine\nmbox=a*\n"}, RUN + ["s:x"], 2, b"", fault(b"rcfile line 2: wildcard not supported")),

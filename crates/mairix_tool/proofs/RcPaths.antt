@@ -1,6 +1,6 @@
 -- The paths that an accepted rcfile names are paths of an index.
-use Rattle.std.proofs.Common.{◌≡◌, ◌≢◌, ℕ, zero, suc, ◌+◌, ◌-◌, ◌<◌, ◌==◌, Bool, true, false, not, nat_eq, nat_lt, nat_le, ◌||◌, ◌&&◌, if◌then◌else◌, lit<, List, [], ◌∷◌, ◌++◌, length, drop, get_or, codes, Option, None, Some, Result, Ok, Err, IfOk, refl, sym, ap, ◌∙◌, subst, arith, ⊎_elim}
-use Rattle.std.specs.List.{All, AllByRecursion, list_any, list_all, flat_map, filter_map, last_or, prefix_len, suffix_len, position_or_len, before_first, after_first, slice_split}
+use Rattle.std.proofs.Common.{◌≡◌, ◌≢◌, ℕ, zero, suc, ◌+◌, ◌-◌, ◌<◌, ◌==◌, Bool, true, false, not, nat_eq, nat_lt, nat_le, ◌||◌, ◌&&◌, if◌then◌else◌, lit<, List, [], ◌∷◌, ◌++◌, length, drop, get_or, codes, Option, None, Some, Result, Ok, Err, IfOk, IfSome, refl, sym, ap, ◌∙◌, subst, arith, ⊎_elim}
+use Rattle.std.specs.List.{All, AllByRecursion, list_any, list_all, flat_map, filter_map, cons_option, last_or, prefix_len, suffix_len, position_or_len, before_first, after_first, slice_split}
 use Rattle.std.specs.Str.{IsUtf8, is_utf8, bytes_eq}
 use Rattle.std.proofs.lemmas.Bool.{cases_lt, and_parts, or_parts, not-true, not-false}
 use Rattle.std.proofs.lemmas.Bool.Decides.{nat_tests}
@@ -210,23 +210,83 @@ any-is (path ∷ paths) some is = cc
 abbrev rc_with : List (List ℕ) → List ℕ → List ℕ → Rc
 rc_with paths database mfolder = record { paths = paths; database = database; mfolder = mfolder }
 
-rc-paths : (paths : List (List ℕ)) (database mfolder : List ℕ) (r : Rc) → ◌≡◌ {A = Result Rc RcFault} (Ok (rc_with paths database mfolder)) (Ok r) → r.paths ≡ paths
-rc-paths paths database mfolder r is = let same : rc_with paths database mfolder ≡ r = cc in ap (λ (r : Rc). r.paths) (sym same)
+-- the last of some paths, where there is one
+last-path : (o : Option (List ℕ)) (texts : List (List ℕ)) → IfSome o IsPath → All IsPath texts → IfSome (last_or o texts) IsPath
+last-path o [] before all = before
+last-path o (text ∷ texts) before all = last-path (Some text) texts (All-head IsPath text texts all) (All-tail IsPath text texts all)
 
--- the archives of an accepted rcfile are paths
-pub paths-are-paths : (rc : List ℕ) (r : Rc) → rc_of rc ≡ Ok r → All IsPath r.paths
-paths-are-paths rc r is =
+-- what one option says in all settings
+module _ (value : Setting → Option (List ℕ)) (names : (s : Setting) → NamesPaths s → IfSome (value s) IsPath) where
+  value-paths : (ss : List Setting) → All NamesPaths ss → All IsPath (filter_map value ss)
+  value-paths [] all = All-nil IsPath
+  value-paths (s ∷ ss) all =
+      let later : All IsPath (filter_map value ss) = value-paths ss (All-tail NamesPaths s ss all) in
+      (elim (value s) as (λ o. IfSome o IsPath → All IsPath (cons_option o (filter_map value ss))) [
+        | None ↦ λ _. later
+        | Some path ↦ λ is_path. All-cons IsPath path (filter_map value ss) is_path later
+      ]) (names s (All-head NamesPaths s ss all))
+
+  required-path : (option : Name) (ss : List Setting) (path : List ℕ) → All NamesPaths ss → required option (last_or None (filter_map value ss)) ≡ Ok path → IsPath path
+  required-path option ss path all is =
+      subst (λ (o : Option (List ℕ)). IfSome o IsPath) (required-is option (last_or None (filter_map value ss)) path is) (last-path None (filter_map value ss) tt (value-paths ss all))
+
+database-path : (s : Setting) → NamesPaths s → IfSome (database_in s) IsPath
+database-path (Archives names) paths = tt
+database-path (Database path) is_path = is_path
+database-path (Mfolder path) is_path = tt
+
+mfolder-path : (s : Setting) → NamesPaths s → IfSome (mfolder_in s) IsPath
+mfolder-path (Archives names) paths = tt
+mfolder-path (Database path) is_path = tt
+mfolder-path (Mfolder path) is_path = is_path
+
+-- all that an rcfile names are paths
+record AllPaths (r : Rc) : Type 0 where
+  paths : All IsPath r.paths
+  database : IsPath r.database
+  mfolder : IsPath r.mfolder
+
+given-paths : (paths : List (List ℕ)) (database mfolder : List ℕ) (r : Rc) → All IsPath paths → IsPath database → IsPath mfolder
+    → ◌≡◌ {A = Result Rc RcFault} (Ok (rc_with paths database mfolder)) (Ok r) → AllPaths r
+given-paths paths database mfolder r are is_database is_mfolder is =
+    let same : rc_with paths database mfolder ≡ r = cc in
+    subst AllPaths same (record { paths = are; database = is_database; mfolder = is_mfolder })
+
+rc-paths : (ss : List Setting) (r : Rc) → All NamesPaths ss → rc_from ss ≡ Ok r → AllPaths r
+rc-paths ss r all is =
+    let paths = given (required name.Mbox (if_any (flat_map archives_in ss))) _ r is in
+    let database = given (required name.Database (last_or None (filter_map database_in ss))) _ r paths.2 in
+    let mfolder = given (required name.Mfolder (last_or None (filter_map mfolder_in ss))) _ r database.2 in
+    let same : flat_map archives_in ss ≡ paths.0 = any-is (flat_map archives_in ss) paths.0 (required-is name.Mbox (if_any (flat_map archives_in ss)) paths.0 paths.1) in
+    given-paths paths.0 database.0 mfolder.0 r (subst (All IsPath) same (archive-paths ss all))
+    (required-path database_in database-path name.Database ss database.0 all database.1)
+    (required-path mfolder_in mfolder-path name.Mfolder ss mfolder.0 all mfolder.1)
+    mfolder.2
+
+-- what an accepted rcfile names are paths
+all-paths : (rc : List ℕ) (r : Rc) → rc_of rc ≡ Ok r → AllPaths r
+all-paths rc r is =
     let settings = given (collect_from line_settings 1 (lines_in rc)) rc_from r is in
-    let all : All NamesPaths settings.0 = collected NamesPaths line_settings (λ n line. text-names n (trimmed line)) 1 (lines_in rc) settings.0 settings.1 in
-    let paths = given (required name.Mbox (if_any (flat_map archives_in settings.0))) _ r settings.2 in
-    let database = given (required name.Database (last_or None (filter_map database_in settings.0))) _ r paths.2 in
-    let mfolder = given (required name.Mfolder (last_or None (filter_map mfolder_in settings.0))) _ r database.2 in
-    let same : flat_map archives_in settings.0 ≡ paths.0 = any-is (flat_map archives_in settings.0) paths.0 (required-is name.Mbox (if_any (flat_map archives_in settings.0)) paths.0 paths.1) in
-    let ends : r.paths ≡ paths.0 = rc-paths paths.0 database.0 mfolder.0 r mfolder.2 in
-    subst (All IsPath) (same ∙ sym ends) (archive-paths settings.0 all)
+    rc-paths settings.0 r (collected NamesPaths line_settings (λ n line. text-names n (trimmed line)) 1 (lines_in rc) settings.0 settings.1) settings.2
+
+pub paths-are-paths : (rc : List ℕ) (r : Rc) → rc_of rc ≡ Ok r → All IsPath r.paths
+paths-are-paths rc r is = let all = all-paths rc r is in all.paths
 
 -- the same of what reads it
-pub read-paths : (rc : List ℕ) (settings : List Setting) (result : Result Rc RcFault) → collect_from line_settings 1 (lines_in rc) ≡ Ok settings
-    → Gives (λ r. r) rc_refusal result (rc_from settings) → IfOk result (λ r. All IsPath r.paths)
-read-paths rc settings (Ok r) collects gives = paths-are-paths rc r (ap (λ s. s >>= rc_from) collects ∙ gives)
-read-paths rc settings (Err fault) collects gives = tt
+module _ (rc : List ℕ) (settings : List Setting) (collects : collect_from line_settings 1 (lines_in rc) ≡ Ok settings) where
+  read-all : (result : Result Rc RcFault) → Gives (λ r. r) rc_refusal result (rc_from settings) → IfOk result AllPaths
+  read-all (Ok r) gives = all-paths rc r (ap (λ s. s >>= rc_from) collects ∙ gives)
+  read-all (Err fault) gives = tt
+
+  read-each : (P : Rc → Type 0) → ((r : Rc) → AllPaths r → P r) → (result : Result Rc RcFault) → Gives (λ r. r) rc_refusal result (rc_from settings) → IfOk result P
+  read-each P each (Ok r) gives = each r (read-all (Ok r) gives)
+  read-each P each (Err fault) gives = tt
+
+  pub read-paths : (result : Result Rc RcFault) → Gives (λ r. r) rc_refusal result (rc_from settings) → IfOk result (λ r. All IsPath r.paths)
+  read-paths result gives = read-each (λ r. All IsPath r.paths) (λ r all. all.paths) result gives
+
+  pub read-database : (result : Result Rc RcFault) → Gives (λ r. r) rc_refusal result (rc_from settings) → IfOk result (λ r. IsPath r.database)
+  read-database result gives = read-each (λ r. IsPath r.database) (λ r all. all.database) result gives
+
+  pub read-mfolder : (result : Result Rc RcFault) → Gives (λ r. r) rc_refusal result (rc_from settings) → IfOk result (λ r. IsPath r.mfolder)
+  read-mfolder result gives = read-each (λ r. IsPath r.mfolder) (λ r all. all.mfolder) result gives

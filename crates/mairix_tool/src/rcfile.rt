@@ -113,6 +113,8 @@ impl<T: Drop> From<AllocFailed<T>> for RcFault {
 pub fn read_rc(alloc: Global, rc: &[u8]) -> Result<Rc, RcFault>
     ensures given { Gives (λ r. r) rc_refusal result (rc_of rc.now) }
     ensures paths { IfOk result (λ r. All IsPath r.paths) }
+    ensures database { IfOk result (λ r. IsPath r.database) }
+    ensures mfolder { IfOk result (λ r. IsPath r.mfolder) }
 {
     let settings = settings_in(alloc, rc)?;
     rc_from(alloc, settings)
