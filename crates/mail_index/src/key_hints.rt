@@ -6,7 +6,7 @@ use crate::kind::Kind;
 use std::alloc::{AllocError, Global};
 
 /// How many hints there are.
-const SLOTS: usize = 262144;
+const SLOTS: usize = 1048576;
 
 /// For each value of a hash the number of the entry of a key that came last with it. A hint can be wrong, and is no
 /// more than a guess that saves a search; so nothing is lost where a hint is missing, nor where two keys share one.
@@ -24,7 +24,7 @@ pub struct Slot {
 impl Slot {
     /// The slot of a key.
     pub fn of(kind: Kind, text: &[u8]) -> Self
-        ensures { result.index < 2 ^ 18 }
+        ensures { result.index < 2 ^ 20 }
     {
         // FNV-1a
         let mut hash = 0x811C_9DC5_u32 ^ kind.number() as u32;
@@ -49,7 +49,7 @@ impl KeyHints {
 
     /// Makes room for the hints, if there is none.
     pub fn begin(&mut self) -> Result<(), AllocError>
-        ensures room { OnOk result (length self.old.numbers.items ≡ 0 → length self.new.numbers.items ≡ 2 ^ 18) }
+        ensures room { OnOk result (length self.old.numbers.items ≡ 0 → length self.new.numbers.items ≡ 2 ^ 20) }
         ensures kept { 0 < length self.old.numbers.items → self.new ≡ self.old }
     {
         if self.numbers.is_empty() {
