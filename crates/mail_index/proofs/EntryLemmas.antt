@@ -1,5 +1,5 @@
 -- Laws of an entry's bytes: the number of its kind, its text, and its postings.
-use Rattle.std.proofs.Common.{◌≡◌, ◌∙◌, ℕ, ◌+◌, ◌-◌, ◌^◌, ◌<◌, ◌≤◌, List, [], ◌∷◌, ◌++◌, length, take, drop, slice_index, sym, ap, ap₂, subst, arith, append-nil, length-append}
+use Rattle.std.proofs.Common.{◌≡◌, ◌∙◌, ℕ, ◌+◌, ◌-◌, ◌^◌, ◌<◌, ◌≤◌, List, [], ◌∷◌, ◌++◌, length, take, drop, slice_index, sym, ap, ap₂, subst, arith, append-nil, length-append, take_all}
 use Rattle.std.proofs.lemmas.List.{take-append-le, drop-append-le}
 use Rattle.std.proofs.Math.Seq.{take-length, drop-append_seam}
 use Rattle.mail_index.specs.declared.kind.Kind.{Kind}
@@ -58,3 +58,10 @@ pub key-same : (bytes : List ℕ) (front next n : ℕ) → IsEntry bytes front n
 key-same bytes front next n i low =
     let old : n < end_from 0 (numbers_of (drop front bytes)) = omega (arith, i.posted.ends, low) in
     ap (λ (ns : List ℕ). let key : Key = record { kind = kind_of_number (slice_index (take front bytes) 0); text = drop 1 (take front bytes); numbers = ns } in key) (sym (with_number-low (numbers_of (drop front bytes)) n old))
+
+-- of short bytes what is kept apart is the whole
+pub front-kept : (kept bytes : List ℕ) (n : ℕ) → length bytes ≡ n → n ≤ 16 → (length bytes ≤ 16 → take (length bytes) kept ≡ bytes) → take n kept ≡ take n bytes
+front-kept kept bytes n long short same =
+    let within : length bytes ≤ 16 = omega (arith, long, short) in
+    let all : length bytes ≤ n = omega (arith, long) in
+    ap (λ k. take k kept) (sym long) ∙ same within ∙ sym (take_all n bytes all)

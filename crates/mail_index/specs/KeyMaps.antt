@@ -34,6 +34,10 @@ pub record IsEntry (bytes : List ℕ) (front next : ℕ) : Type 0 where
   pub kind : kind_number (kind_of_number (slice_index (take front bytes) 0)) ∷ drop 1 (take front bytes) ≡ take front bytes
   pub posted : IsPosted (drop front bytes) next
 
+-- a front so short is kept apart too
+abbrev pub HasFront : List ℕ → ℕ → List ℕ → Type 0
+HasFront kept front bytes = front ≤ 16 → take front kept ≡ take front bytes
+
 -- ---- the order of the entries
 
 -- the keys of these numbers

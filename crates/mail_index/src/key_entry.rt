@@ -1,5 +1,5 @@
 //! A key of an index while it is built.
-ghost use Rattle.std.specs.Prelude.{◌≡◌, ◌^◌, ◌<◌, [], length, OnOk, OnErr, IfOk};
+ghost use Rattle.std.specs.Prelude.{◌≡◌, ◌^◌, ◌<◌, ◌≤◌, [], length, take, OnOk, OnErr, IfOk};
 ghost use Rattle.std.specs.Ordering.{is_eq};
 ghost use Rattle.mail_index.specs.KeyMaps.{new_key, with_one};
 ghost use Rattle.mail_index.specs.Kinds.{kind_number};
@@ -11,6 +11,9 @@ use crate::leb128_out::append_leb128;
 use std::alloc::{AllocError, Global};
 use std::cmp::Ordering;
 use std::marker::Model;
+
+/// The bytes of a short key: one with more has them behind the entry alone.
+const SHORT: usize = 16;
 
 /// The room for postings that a new key's bytes have: a difference below 2^28 takes four bytes at most.
 const ROOM: usize = 4;
@@ -26,18 +29,20 @@ pub struct KeyEntry {
     text_length: u32,
     // One past the last number.
     next: u32,
+    // Of a short key the kind's number and the text once more, so that it is compared without a look at its bytes.
+    front: [u8; SHORT],
 }
 
 impl Model for KeyEntry {
     ghost use Rattle.std.specs.Prelude.{◌+◌, take, drop};
     ghost use Rattle.mail_index.specs.Tables.{Key};
-    ghost use Rattle.mail_index.specs.KeyMaps.{key_in, IsEntry};
+    ghost use Rattle.mail_index.specs.KeyMaps.{key_in, IsEntry, HasFront};
 
     ghost Value = { Key };
 
     ghost view = { λ s. key_in (take (s.text_length + 1) s.bytes.items) (drop (s.text_length + 1) s.bytes.items) };
 
-    ghost invariant = { λ s. IsEntry s.bytes.items (s.text_length + 1) s.next };
+    ghost invariant = { λ s. IsEntry s.bytes.items (s.text_length + 1) s.next × HasFront s.front (s.text_length + 1) s.bytes.items };
 }
 
 impl KeyEntry {
@@ -60,10 +65,12 @@ impl KeyEntry {
         let mut bytes = Vec::with_capacity(alloc, text.len() + ROOM)?;
         bytes.push(kind.number())?;
         bytes.extend_from_slice(text)?;
+        let front = front_of(&bytes);
         Ok(KeyEntry {
             bytes,
             text_length: text.len() as u32,
             next: 0,
+            front,
         })
     }
 
@@ -87,7 +94,12 @@ impl KeyEntry {
         ensures text { result.1.now ≡ self.now.text }
         ensures short { length result.1.now < 2 ^ 32 }
     {
-        let (front, _postings) = self.bytes.split_at(self.text_length as usize + 1);
+        let length = self.text_length as usize + 1;
+        let front = if length <= SHORT {
+            self.front.split_at(length).0
+        } else {
+            self.bytes.split_at(length).0
+        };
         match front {
             [number, text @ ..] => (*number, text),
             [] => (0, &[]),
@@ -135,4 +147,15 @@ impl KeyEntry {
     {
         self.bytes.split_at(self.text_length as usize + 1).1
     }
+}
+
+// The bytes of a short key, and zeros behind them; zeros alone of another.
+fn front_of(bytes: &[u8]) -> [u8; SHORT]
+    ensures { length bytes.now ≤ 16 → take (length bytes.now) result ≡ bytes.now }
+{
+    let mut front = [0; SHORT];
+    if bytes.len() <= SHORT {
+        front[..bytes.len()].copy_from_slice(bytes);
+    }
+    front
 }
