@@ -5,6 +5,7 @@
 mod checks;
 #[cfg(test)]
 mod command_lines;
+#[cfg(test)]
 mod fault_texts;
 #[cfg(test)]
 mod fixture;
