@@ -5,7 +5,7 @@ ghost use Rattle.std.specs.String.{string_bytes};
 ghost use Rattle.contract_words.specs.Devices.{Counted};
 ghost use Rattle.mairix_tool.specs.Faults.{fault_in, is_failed_out, is_failed_source, is_early, is_of_archive};
 ghost use Rattle.mairix_tool.specs.Asked.{asked_rc, asked};
-ghost use Rattle.mairix_tool.specs.Replies.{Replies, Runs, IsConsistent, RefusesAsked, AreSoundBefore};
+ghost use Rattle.mairix_tool.specs.Replies.{Replies, Runs, IsConsistent, RefusesAsked, AreSoundBefore, status_of_count};
 
 use crate::answer::write_raw;
 use crate::fault::{Fault, Reply};
@@ -59,7 +59,7 @@ pub fn once_run<S: Source, O: Out>(
 {
     match run(alloc, words, rc, sources, now, out) {
         Ok(messages) => Reply {
-            status: if messages == 0 { 1 } else { 0 },
+            status: status_of(messages),
             messages,
             fault: None,
         },
@@ -69,6 +69,13 @@ pub fn once_run<S: Source, O: Out>(
             fault: Some(fault),
         },
     }
+}
+
+/// The status of an answer of so many messages.
+fn status_of(messages: u64) -> u8
+    ensures { result ≡ status_of_count messages }
+{
+    if messages == 0 { 1 } else { 0 }
 }
 
 /// The number of messages that were answered.
