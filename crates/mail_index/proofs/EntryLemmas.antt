@@ -33,6 +33,15 @@ key-none kind text bytes e =
     ap₂ key_in (ap (take (length text + 1)) e ∙ front-all (kind_number kind) text) (ap (drop (length text + 1)) e ∙ behind-none (kind_number kind) text)
     ∙ ap₂ (λ (k : Kind) (ns : List ℕ). let key : Key = record { kind = k; text = text; numbers = ns } in key) (kind_of-number kind) numbers_of-nil
 
+-- ---- the last postings apart
+
+-- bytes of a front alone, with no postings behind them
+pub entry-new : (kind : Kind) (text bytes : List ℕ) → bytes ≡ kind_number kind ∷ text
+    → IsEntry (bytes ++ []) (length text + 1) 0 × (key_in (take (length text + 1) (bytes ++ [])) (drop (length text + 1) (bytes ++ [])) ≡ record { kind = kind; text = text; numbers = [] })
+entry-new kind text bytes e =
+    let whole : bytes ++ [] ≡ kind_number kind ∷ text = append-nil bytes ∙ e in
+    (entry-none kind text (bytes ++ []) whole, key-none kind text (bytes ++ []) whole)
+
 -- ---- one more number
 
 pub entry-more : (bytes : List ℕ) (front next n : ℕ) → IsEntry bytes front next → next ≤ n → n + 1 < 2 ^ 32 → IsEntry (bytes ++ leb128 5 (n + 1 - next)) front (n + 1)

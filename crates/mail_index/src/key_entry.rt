@@ -1,5 +1,5 @@
 //! A key of an index while it is built.
-ghost use Rattle.std.specs.Prelude.{◌≡◌, ◌^◌, ◌<◌, ◌≤◌, [], length, take, OnOk, OnErr, IfOk};
+ghost use Rattle.std.specs.Prelude.{◌≡◌, ℕ, ◌+◌, ◌^◌, ◌<◌, ◌≤◌, [], ◌++◌, length, take, OnOk, OnErr, IfOk};
 ghost use Rattle.std.specs.Ordering.{is_eq};
 ghost use Rattle.mail_index.specs.KeyMaps.{new_key, with_one};
 ghost use Rattle.mail_index.specs.Kinds.{kind_number};
@@ -7,7 +7,8 @@ ghost use Rattle.mail_index.specs.LookUps.{lies_to};
 ghost use Rattle.mail_index.specs.Postings.{postings};
 
 use crate::kind::Kind;
-use crate::leb128_out::append_leb128;
+use crate::leb128_out::leb128_of;
+use crate::short_bytes::ShortBytes;
 use std::alloc::{AllocError, Global};
 use std::cmp::Ordering;
 use std::marker::Model;
@@ -15,34 +16,34 @@ use std::marker::Model;
 /// The bytes of a short key: one with more has them behind the entry alone.
 const SHORT: usize = 16;
 
-/// The room for postings that a new key's bytes have: a difference below 2^28 takes four bytes at most.
-const ROOM: usize = 4;
-
 /// A key, whose text is shorter than 2^32 bytes, with the numbers of its messages.
 ///
-/// There are many, and most have few numbers; so all its bytes stand in one piece of memory.
+/// There are many, and most have few numbers. So the last postings stand in the entry itself, of 64 bytes: mostly a
+/// number is added to a key by a look at its entry alone.
 #[derive(Drop)]
 pub struct KeyEntry {
-    // The kind's number, the text, and the postings: each number as its difference from the one before, the first
-    // from -1, in the shortest unsigned LEB128.
-    bytes: Vec<u8>,
     text_length: u32,
     // One past the last number.
     next: u32,
     // Of a short key the kind's number and the text once more, so that it is compared without a look at its bytes.
     front: [u8; SHORT],
+    // The last bytes of the postings.
+    recent: ShortBytes,
+    // The kind's number, the text, and the postings before the recent ones: each number as its difference from the one
+    // before, the first from -1, in the shortest unsigned LEB128.
+    bytes: Vec<u8>,
 }
 
 impl Model for KeyEntry {
-    ghost use Rattle.std.specs.Prelude.{◌+◌, take, drop};
+    ghost use Rattle.std.specs.Prelude.{◌+◌, ◌≤◌, ◌++◌, length, take, drop};
     ghost use Rattle.mail_index.specs.Tables.{Key};
     ghost use Rattle.mail_index.specs.KeyMaps.{key_in, IsEntry, HasFront};
 
     ghost Value = { Key };
 
-    ghost view = { λ s. key_in (take (s.text_length + 1) s.bytes.items) (drop (s.text_length + 1) s.bytes.items) };
+    ghost view = { λ s. key_in (take (s.text_length + 1) (s.bytes.items ++ s.recent)) (drop (s.text_length + 1) (s.bytes.items ++ s.recent)) };
 
-    ghost invariant = { λ s. IsEntry s.bytes.items (s.text_length + 1) s.next × HasFront s.front (s.text_length + 1) s.bytes.items };
+    ghost invariant = { λ s. IsEntry (s.bytes.items ++ s.recent) (s.text_length + 1) s.next × HasFront s.front (s.text_length + 1) s.bytes.items × (s.text_length + 1 ≤ length s.bytes.items) };
 }
 
 impl KeyEntry {
@@ -62,15 +63,16 @@ impl KeyEntry {
         requires { length text.now < 2 ^ 32 }
         ensures { IfOk result (λ entry. entry ≡ record { kind = kind; text = text.now; numbers = [] }) }
     {
-        let mut bytes = Vec::with_capacity(alloc, text.len() + ROOM)?;
+        let mut bytes = Vec::with_capacity(alloc, text.len() + 1)?;
         bytes.push(kind.number())?;
         bytes.extend_from_slice(text)?;
         let front = front_of(&bytes);
         Ok(KeyEntry {
-            bytes,
             text_length: text.len() as u32,
             next: 0,
             front,
+            recent: ShortBytes::new(),
+            bytes,
         })
     }
 
@@ -83,7 +85,8 @@ impl KeyEntry {
         if number < self.next {
             return Ok(());
         }
-        append_leb128(&mut self.bytes, number + 1 - self.next)?;
+        let difference = leb128_of(number + 1 - self.next);
+        append(&mut self.bytes, &mut self.recent, &difference)?;
         self.next = number + 1;
         Ok(())
     }
@@ -140,13 +143,37 @@ impl KeyEntry {
         self.number_and_text().1
     }
 
-    /// The postings of its numbers.
-    pub fn postings(&self) -> &[u8]
-        ensures bytes { result.now ≡ postings self.now.numbers }
-        ensures small { length result.now < 2 ^ 32 }
+    /// The postings of its numbers, in two parts.
+    pub fn postings(&self) -> (&[u8], &[u8])
+        ensures bytes { result.0.now ++ result.1.now ≡ postings self.now.numbers }
+        ensures small { length result.0.now + length result.1.now < 2 ^ 32 }
     {
-        self.bytes.split_at(self.text_length as usize + 1).1
+        let older = self.bytes.split_at(self.text_length as usize + 1).1;
+        (older, self.recent.as_slice())
     }
+
+    /// How many bytes its postings have.
+    pub fn postings_length(&self) -> usize
+        ensures { result ≡ length (postings self.now.numbers) }
+    {
+        let (older, recent) = self.postings();
+        older.len() + recent.len()
+    }
+}
+
+// Appends bytes to the recent ones. Where there is no room for them the recent ones go behind the others first.
+fn append(bytes: &mut Vec<u8>, recent: &mut ShortBytes, more: &ShortBytes) -> Result<(), AllocError>
+    ensures ok { OnOk result (bytes.new.items ++ recent.new ≡ bytes.old.items ++ recent.old ++ more.now) }
+    ensures err { OnErr result ((bytes.new.items ≡ bytes.old.items) × (recent.new ≡ recent.old)) }
+    ensures front { (n : ℕ) → n ≤ length bytes.old.items → (n ≤ length bytes.new.items) × (take n bytes.new.items ≡ take n bytes.old.items) }
+{
+    let more = more.as_slice();
+    if recent.as_slice().len() + more.len() > ShortBytes::MOST {
+        bytes.extend_from_slice(recent.as_slice())?;
+        recent.clear();
+    }
+    recent.append(more);
+    Ok(())
 }
 
 // The bytes of a short key, and zeros behind them; zeros alone of another.

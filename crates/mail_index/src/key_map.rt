@@ -85,7 +85,8 @@ impl KeyMap {
         self.hints.begin()?;
         self.order.begin(alloc)?;
         let slot = Slot::of(kind, text);
-        let found = locate(&self.entries, &self.order, self.hints.get(slot), kind, text);
+        let hint = self.hints.get(slot);
+        let found = locate(&self.entries, &self.order, hint, kind, text);
         let key = Added {
             kind,
             text,
@@ -93,7 +94,10 @@ impl KeyMap {
             most,
         };
         let entry = add_at(alloc, &mut self.entries, &mut self.order, found, &key)?;
-        self.hints.note(slot, entry);
+        // Most hints stand already: a write of the same number would only send its piece of the table to memory again.
+        if hint != Some(entry) {
+            self.hints.note(slot, entry);
+        }
         Ok(())
     }
 }

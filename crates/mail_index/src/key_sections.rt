@@ -29,7 +29,7 @@ pub fn postings_length(keys: KeysInOrder<'_>) -> u64
 {
     let mut total = 0;
     for key in keys {
-        total += key.postings().len() as u64;
+        total += key.postings_length() as u64;
     }
     total
 }
@@ -52,7 +52,7 @@ pub fn send_directory<O: Out>(
     for key in keys {
         send_entry(out, hasher, key, text_place, place)?;
         text_place += key.text().len() as u64;
-        place += key.postings().len() as u64;
+        place += key.postings_length() as u64;
     }
     Ok(())
 }
@@ -115,7 +115,8 @@ pub fn send_postings<O: Out>(
     ensures count { Counts result (O.failures out.old) (O.failures out.new) }
 {
     for key in keys {
-        send_signed(out, hasher, key.postings())?;
+        let (older, recent) = key.postings();
+        send_parts(out, hasher, &[older, recent])?;
     }
     Ok(())
 }

@@ -1,34 +1,35 @@
 //! Writes unsigned LEB128.
-ghost use Rattle.std.specs.Prelude.{◌≡◌, ◌+◌, ◌%◌, ◌++◌, is_ok, if◌then◌else◌};
+ghost use Rattle.std.specs.Prelude.{◌≡◌, ◌+◌, ◌%◌, ◌≤◌, length};
 ghost use Rattle.mail_index.specs.Postings.{leb128};
 
-use std::alloc::AllocError;
+use crate::short_bytes::ShortBytes;
 
-/// Appends the shortest unsigned LEB128 of a number, seven bits a byte from the lowest on.
-pub fn append_leb128(bytes: &mut Vec<u8>, value: u32) -> Result<(), AllocError>
-    ensures { bytes.new.items ≡ (if is_ok result then bytes.old.items ++ leb128 5 value else bytes.old.items) }
+/// The shortest unsigned LEB128 of a number, seven bits a byte from the lowest on.
+pub fn leb128_of(value: u32) -> ShortBytes
+    ensures bytes { result ≡ leb128 5 value }
+    ensures short { length result ≤ 5 }
 {
     if value < 128 {
-        return bytes.extend_from_slice(&[value as u8]);
+        return ShortBytes::of(&[value as u8]);
     }
     let second = value / 128;
     if second < 128 {
-        return bytes.extend_from_slice(&[followed(value), second as u8]);
+        return ShortBytes::of(&[followed(value), second as u8]);
     }
     let third = second / 128;
     if third < 128 {
-        return bytes.extend_from_slice(&[followed(value), followed(second), third as u8]);
+        return ShortBytes::of(&[followed(value), followed(second), third as u8]);
     }
     let fourth = third / 128;
     if fourth < 128 {
-        return bytes.extend_from_slice(&[
+        return ShortBytes::of(&[
             followed(value),
             followed(second),
             followed(third),
             fourth as u8,
         ]);
     }
-    bytes.extend_from_slice(&[
+    ShortBytes::of(&[
         followed(value),
         followed(second),
         followed(third),

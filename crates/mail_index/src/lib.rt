@@ -75,3 +75,4 @@ mod look_up;
 mod posting_walk;
 mod record_walk;
 mod sections;
+mod short_bytes;

@@ -17,7 +17,7 @@ returns-in_err-send_entry-clause-err g c =
 pub loop-key-preserved : goal.loop-key-preserved
 loop-key-preserved g c =
     let text : c.text.result.now ≡ c.in-Some.key.now.text = c.text.ensures.text in
-    let numbers : c.postings.result.now ≡ postings c.in-Some.key.now.numbers = c.postings.ensures.bytes in
+    let numbers : c.postings_length.result ≡ length (postings c.in-Some.key.now.numbers) = c.postings_length.ensures in
     let texts : length (texts_of (map entry_of c.loop-key.key-iterator)) ≡ length c.in-Some.key.now.text + length (texts_of (map entry_of c.next.new.self)) =
     ap (λ (keys : List Key). length (texts_of (map entry_of keys))) c.in-Some.ensures.steps ∙ length-append c.in-Some.key.now.text (texts_of (map entry_of c.next.new.self)) in
     let places : length (postings_of (map entry_of c.loop-key.key-iterator)) ≡ length (postings c.in-Some.key.now.numbers) + length (postings_of (map entry_of c.next.new.self)) =

@@ -1,0 +1,71 @@
+//! A few bytes that take no memory of their own.
+ghost use Rattle.std.specs.Prelude.{◌≡◌, ◌+◌, ◌≤◌, [], ◌++◌, length};
+
+use std::marker::Model;
+
+/// At most fifteen bytes.
+#[derive(Drop)]
+pub struct ShortBytes {
+    bytes: [u8; 15],
+    length: u8,
+}
+
+impl Model for ShortBytes {
+    ghost use Rattle.std.specs.Prelude.{◌≤◌, ℕ, List, take};
+
+    ghost Value = { List ℕ };
+
+    ghost view = { λ s. take s.length s.bytes };
+
+    ghost invariant = { λ s. s.length ≤ 15 };
+}
+
+impl ShortBytes {
+    /// How many there can be.
+    pub const MOST: usize = 15;
+
+    /// No byte.
+    pub fn new() -> Self
+        ensures { result ≡ [] }
+    {
+        ShortBytes {
+            bytes: [0; 15],
+            length: 0,
+        }
+    }
+
+    /// These bytes.
+    pub fn of(bytes: &[u8]) -> Self
+        requires { length bytes.now ≤ 15 }
+        ensures { result ≡ bytes.now }
+    {
+        let mut short = ShortBytes::new();
+        short.append(bytes);
+        short
+    }
+
+    /// The bytes.
+    pub fn as_slice(&self) -> &[u8]
+        ensures bytes { result.now ≡ self.now }
+        ensures short { length result.now ≤ 15 }
+    {
+        self.bytes.split_at(self.length as usize).0
+    }
+
+    /// Appends some bytes.
+    pub fn append(&mut self, more: &[u8])
+        requires { length self.old + length more.now ≤ 15 }
+        ensures { self.new ≡ self.old ++ more.now }
+    {
+        let length = self.length as usize;
+        self.bytes[length..length + more.len()].copy_from_slice(more);
+        self.length += more.len() as u8;
+    }
+
+    /// Leaves no byte.
+    pub fn clear(&mut self)
+        ensures { self.new ≡ [] }
+    {
+        self.length = 0;
+    }
+}
