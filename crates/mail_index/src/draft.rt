@@ -13,6 +13,7 @@ ghost use Rattle.mail_index.specs.Builders.{empty_draft, begun_archive, begun_me
 use crate::build_fault::BuildFault;
 use crate::key_map::KeyMap;
 use crate::kind::Kind;
+use crate::prefetched::Prefetched;
 use crate::record::Record;
 use crate::sections::{Counts, archives_length, send_archives, send_counts, send_records};
 use mbox_cutter::{DeviceFault, Out, send};
@@ -92,15 +93,26 @@ impl Draft {
         Ok(())
     }
 
+    /// A guess where a key stands.
+    pub fn prefetch(&self, kind: Kind, text: &[u8]) -> Prefetched {
+        self.keys.prefetch(kind, text)
+    }
+
     /// Adds a key to the message that is open.
-    pub fn add(&mut self, alloc: Global, kind: Kind, text: &[u8]) -> Result<(), BuildFault>
+    pub fn add(
+        &mut self,
+        alloc: Global,
+        kind: Kind,
+        text: &[u8],
+        place: Prefetched,
+    ) -> Result<(), BuildFault>
         requires phase { self.old.in_message ≡ true }
         requires some { 0 < length text.now }
         requires short { length text.now < 2 ^ 32 }
         ensures { Gives (λ _. self.new) refusal result (added kind text.now self.old) }
     {
         let number = self.records.len() as u32;
-        self.keys.add(alloc, kind, text, number, self.most)
+        self.keys.add(alloc, kind, text, number, self.most, place)
     }
 
     /// Closes the message that is open.

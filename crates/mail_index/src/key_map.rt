@@ -18,6 +18,7 @@ use crate::key_search::matching;
 use crate::key_sections;
 use crate::keys_in_order::KeysInOrder;
 use crate::kind::Kind;
+use crate::prefetched::Prefetched;
 use mbox_cutter::{DeviceFault, Out};
 use sha2::Sha256;
 use std::alloc::{AllocError, Global};
@@ -65,6 +66,17 @@ impl KeyMap {
         self.entries.len()
     }
 
+    /// A guess where a key stands.
+    pub fn prefetch(&self, kind: Kind, text: &[u8]) -> Prefetched {
+        let slot = Slot::of(kind, text);
+        let number = self.hints.get(slot);
+        Prefetched {
+            slot,
+            number,
+            text_length: text_length_at(&self.entries, number),
+        }
+    }
+
     /// Adds a message's number to a key's numbers, unless it stands there, and the key where it is new.
     pub fn add(
         &mut self,
@@ -73,6 +85,7 @@ impl KeyMap {
         text: &[u8],
         number: u32,
         most: u32,
+        place: Prefetched,
     ) -> Result<(), BuildFault>
         requires number { number < u32.MAX }
         requires short { length text.now < 2 ^ 32 }
@@ -84,8 +97,11 @@ impl KeyMap {
     {
         self.hints.begin()?;
         self.order.begin(alloc)?;
-        let slot = Slot::of(kind, text);
-        let hint = self.hints.get(slot);
+        let hint = if place.text_length == text.len() {
+            place.number
+        } else {
+            None
+        };
         let found = locate(&self.entries, &self.order, hint, kind, text);
         let key = Added {
             kind,
@@ -95,8 +111,8 @@ impl KeyMap {
         };
         let entry = add_at(alloc, &mut self.entries, &mut self.order, found, &key)?;
         // Most hints stand already: a write of the same number would only send its piece of the table to memory again.
-        if hint != Some(entry) {
-            self.hints.note(slot, entry);
+        if place.number != Some(entry) {
+            self.hints.note(place.slot, entry);
         }
         Ok(())
     }
@@ -162,6 +178,17 @@ impl KeyMap {
         ensures { result ≡ self.now }
     {
         KeysInOrder::of(&self.entries, &self.order.heads, &self.order.pages)
+    }
+}
+
+// How long the text of an entry is, where there is that entry.
+fn text_length_at(entries: &[KeyEntry], number: Option<u32>) -> usize {
+    let Some(number) = number else {
+        return 0;
+    };
+    match entries.get(number as usize) {
+        Some(entry) => entry.text().len(),
+        None => 0,
     }
 }
 

@@ -22,6 +22,10 @@ mod build_fault;
 
 pub use build_fault::BuildFault;
 
+mod prefetched;
+
+pub use prefetched::Prefetched;
+
 mod builder;
 
 pub use builder::Builder;
