@@ -1,6 +1,7 @@
 -- What an index has of one message: the folded words of its texts, its own id, and the ids that link it to others.
 use Rattle.std.specs.Prelude.{ℕ, List, [], ◌∷◌, ◌++◌, map, flat_map, Option, Some, None}
 use Rattle.header_text.specs.Headers.{fields_of}
+use Rattle.mail_words.specs.declared.kind.TextKind.{TextKind}
 use Rattle.mail_words.specs.Words.{words}
 use Rattle.mail_words.specs.Folding.{folding}
 use Rattle.mail_index.specs.declared.kind.Kind.{Kind}
@@ -17,6 +18,11 @@ Term = Kind × List ℕ
 -- the words of a text, folded
 abbrev pub text_terms : Pair → List Term
 text_terms p = map (λ w. (Text p.0, folding w)) (words p.1)
+
+-- the word that waits, folded, if one does
+abbrev pub waiting_terms : TextKind → Option (List ℕ) → List Term
+waiting_terms kind None = []
+waiting_terms kind (Some word) = (Text kind, word) ∷ []
 
 abbrev pub own_id_terms : Option (List ℕ) → List Term
 own_id_terms None = []

@@ -24,6 +24,7 @@ mod rcfile;
 mod run;
 mod same_file;
 mod term_sink;
+mod waiting_word;
 mod wanted;
 
 pub use command_line::{Plan, UsageFault, plan_of, usage_text};

@@ -7,8 +7,9 @@ ghost use Rattle.mime_text.specs.MessageFacts.{HasSizedIds, IsSizedId};
 ghost use Rattle.mairix_tool.specs.Indexing.{AddsTerms};
 ghost use Rattle.mairix_tool.specs.MessageTerms.{text_terms, own_id_terms, link_terms, id_terms};
 
+use crate::waiting_word::WaitingWord;
 use mail_index::{BuildFault, Builder, Kind, Record};
-use mail_words::{TextKind, Words, fold_into};
+use mail_words::{TextKind, Words};
 use mime_text::{Facts, MessageId, MessageIds, SinkFault, TextSink};
 use std::alloc::Global;
 
@@ -16,7 +17,7 @@ use std::alloc::Global;
 #[derive(Drop)]
 pub(crate) struct TermSink {
     builder: Builder,
-    folded: String,
+    waiting: WaitingWord,
     ghost phase: { ForSome builder IsInMessage },
 }
 
@@ -29,7 +30,7 @@ impl TermSink {
         builder.begin_message()?;
         Ok(TermSink {
             builder,
-            folded: String::new(alloc),
+            waiting: WaitingWord::new(alloc),
         })
     }
 
@@ -65,7 +66,7 @@ impl TextSink for TermSink {
         ⊎ ((fault ≡ Refused) × RefusesTerms (option_map (draft_with_terms (text_terms (kind, text))) old.builder)) };
 
     fn text(&mut self, kind: TextKind, text: &str) -> Result<(), SinkFault> {
-        match add_words(&mut self.builder, &mut self.folded, kind, text) {
+        match add_words(&mut self.builder, &mut self.waiting, kind, text) {
             Ok(()) => Ok(()),
             Err(BuildFault::OutOfMemory) => Err(SinkFault::OutOfMemory),
             Err(_) => Err(SinkFault::Refused),
@@ -76,7 +77,7 @@ impl TextSink for TermSink {
 /// Adds the words of a text, each folded.
 fn add_words(
     builder: &mut Builder,
-    folded: &mut String,
+    waiting: &mut WaitingWord,
     kind: TextKind,
     text: &str,
 ) -> Result<(), BuildFault>
@@ -84,11 +85,11 @@ fn add_words(
     ensures terms { AddsTerms (text_terms (kind, text.now)) result builder.old builder.new }
     ensures phase { IfSome builder.new IsInMessage }
 {
+    waiting.forget();
     for word in Words::of(text) {
-        fold_into(word, folded)?;
-        builder.add(Kind::Text(kind), folded.as_bytes())?;
+        waiting.follow(builder, kind, word)?;
     }
-    Ok(())
+    waiting.add(builder, kind)
 }
 
 /// Adds the message's own id, where it has one.
