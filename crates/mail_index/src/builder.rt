@@ -103,20 +103,20 @@ impl Builder {
         ensures lost { OnErr result (self.new ≡ None) }
         ensures failed { IfNone self.old (result ≡ Err BuildFault.Failed) }
     {
-        let place = self.prefetch(kind, text);
-        self.add_prefetched(kind, text, place)
+        let mut places = [Prefetched::of(kind, text)];
+        self.prefetch(&mut places);
+        self.add_prefetched(kind, text, places[0])
     }
 
-    /// A guess where a key stands, for [`Builder::add_prefetched`]. Takes no memory.
-    pub fn prefetch(&self, kind: Kind, text: &[u8]) -> Prefetched {
-        match &self.draft {
-            Some(draft) => draft.prefetch(kind, text),
-            None => Prefetched::nowhere(kind, text),
+    /// Guesses where keys stand, for [`Builder::add_prefetched`]. Takes no memory.
+    pub fn prefetch(&self, places: &mut [Prefetched]) {
+        if let Some(draft) = &self.draft {
+            draft.prefetch(places);
         }
     }
 
-    /// Does what [`Builder::add`] does, with a guess where the key stands that was made some keys ago. Who adds many keys
-    /// so, each guessed before the one in front of it is added, waits less for memory.
+    /// Does what [`Builder::add`] does, with a guess where the key stands. Who has several keys to add waits less for memory if
+    /// it has them all guessed at once.
     ///
     /// # Errors
     ///

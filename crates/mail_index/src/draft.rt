@@ -93,9 +93,9 @@ impl Draft {
         Ok(())
     }
 
-    /// A guess where a key stands.
-    pub fn prefetch(&self, kind: Kind, text: &[u8]) -> Prefetched {
-        self.keys.prefetch(kind, text)
+    /// Guesses where keys stand.
+    pub fn prefetch(&self, places: &mut [Prefetched]) {
+        self.keys.prefetch(places);
     }
 
     /// Adds a key to the message that is open.

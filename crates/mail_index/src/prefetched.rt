@@ -3,8 +3,8 @@
 use crate::key_hints::Slot;
 use crate::kind::Kind;
 
-/// A guess where a key stands in a builder. It is made while other keys are still to be added, so that the memory that the
-/// key needs is under way by its own turn.
+/// A guess where a key stands in a builder. Guesses of several keys are made together, before the first of them is added: so
+/// one wait for memory serves them all.
 ///
 /// A guess can be wrong, and means nothing: with that of another key, or of another builder, no more than time is lost.
 #[derive(Clone, Copy)]
@@ -17,8 +17,8 @@ pub struct Prefetched {
 }
 
 impl Prefetched {
-    /// No guess.
-    pub(crate) fn nowhere(kind: Kind, text: &[u8]) -> Self {
+    /// No guess yet where a key stands.
+    pub fn of(kind: Kind, text: &[u8]) -> Self {
         Prefetched {
             slot: Slot::of(kind, text),
             number: None,

@@ -1,5 +1,5 @@
 -- What adding terms makes of a builder's draft.
-use Rattle.std.proofs.Common.{◌≡◌, ◌<◌, ◌≤◌, ℕ, true, false, nat_le, if◌then◌else◌, List, [], ◌∷◌, ◌++◌, length, Option, None, Some, IfSome, Result, Ok, Err, option_map, refl, sym, ap, ◌∙◌, subst, arith, suc, drop, map, get_or, ◌+◌, Vec}
+use Rattle.std.proofs.Common.{◌≡◌, ◌<◌, ◌≤◌, ℕ, zero, String, string_bytes, true, false, nat_le, if◌then◌else◌, List, [], ◌∷◌, ◌++◌, length, Option, None, Some, IfSome, Result, Ok, Err, option_map, refl, sym, ap, ◌∙◌, subst, arith, suc, drop, map, append_assoc, get_or, ◌+◌, Vec}
 use Rattle.std.specs.declared.cmp.Ordering.TheVariants.{Less, Equal, Greater}
 use Rattle.std.specs.Ordering.{match_ordering, nat_cmp}
 use Rattle.std.specs.Cmp.Lexicographic.{slice_cmp}
@@ -8,9 +8,11 @@ use Rattle.mail_index.specs.declared.build_fault.BuildFault.{BuildFault}
 use Rattle.mail_index.specs.declared.build_fault.BuildFault.TheVariants.{OutOfMemory, TooMany, Device, Failed}
 use Rattle.mail_index.specs.declared.kind.Kind.{Kind}
 use Rattle.std.specs.Global.{Global}
+use Rattle.std.specs.List.{AllByRecursion, slice_index_or}
 use Rattle.std.proofs.lemmas.Bool.Decides.{nat_tests}
-use Rattle.std.proofs.lemmas.List.{drop_more}
-use Rattle.mail_index.specs.declared.kind.Kind.TheVariants.{LinkId}
+use Rattle.std.proofs.lemmas.List.{drop_more, map-append}
+use Rattle.mail_index.specs.declared.kind.Kind.TheVariants.{LinkId, Text}
+use Rattle.mail_words.specs.declared.kind.TextKind.{TextKind}
 use Rattle.mail_index.specs.Kinds.{kind_number}
 use Rattle.mail_index.specs.PostingLists.{with_number}
 use Rattle.mail_index.specs.Tables.{Key}
@@ -18,7 +20,7 @@ use Rattle.mail_index.specs.Builders.{Draft, with_pair, added, refusal, stepped,
 use Rattle.mail_index.proofs.BuilderSteps.{added-is}
 use Rattle.mairix_tool.specs.ArchiveTables.{with_terms}
 use Rattle.mairix_tool.specs.Indexing.{draft_with_terms, IsTermFault, RefusesTerms, AddsTerms}
-use Rattle.mairix_tool.specs.MessageTerms.{Term, link_terms}
+use Rattle.mairix_tool.specs.MessageTerms.{Term, link_terms, word_terms, HasTermLength}
 
 -- ---- keys only become more
 
@@ -130,3 +132,40 @@ adds-both ts us (Err e) old mid new first h =
 pub still-refuses : (us : List Term) (o : Option Draft) → RefusesTerms o → RefusesTerms (option_map (draft_with_terms us) o)
 still-refuses us None h = tt
 still-refuses us (Some d) h = omega (arith, h, with_terms-more (length d.table.messages) us d.table.keys)
+
+-- ---- words that wait
+
+-- a word waits, or all that waited are added first: what is left to add behind it is the same
+pub waits-next : (kind : TextKind) (old : List (List ℕ)) (word : List ℕ) (new : List (List ℕ)) (us : List Term) (o n : Option Draft)
+    → option_map (draft_with_terms (word_terms kind (old ++ word ∷ []))) o ≡ option_map (draft_with_terms (word_terms kind new)) n
+    → option_map (draft_with_terms (word_terms kind old ++ (Text kind, word) ∷ us)) o ≡ option_map (draft_with_terms (word_terms kind new ++ us)) n
+waits-next kind old word new us o n h =
+    let one : word_terms kind old ++ (Text kind, word) ∷ us ≡ word_terms kind (old ++ word ∷ []) ++ us =
+    sym (ap (λ (l : List Term). l ++ us) (map-append (λ w. let t : Term = (Text kind, w) in t) old (word ∷ [])) ∙ append_assoc (word_terms kind old) ((Text kind, word) ∷ []) us) in
+    ap (λ (l : List Term). option_map (draft_with_terms l) o) one ∙ joined (word_terms kind (old ++ word ∷ [])) us o ∙ ap (option_map (draft_with_terms us)) h ∙ sym (joined (word_terms kind new) us n)
+
+-- the next of the words that are left
+pub next-word : (kind : TextKind) (words : List (String Global)) (i : ℕ) (w : String Global) (word : List ℕ) → i < length words → w ≡ slice_index_or words i w → word ≡ string_bytes w
+    → word_terms kind (map string_bytes (drop i words)) ≡ word_terms kind (word ∷ []) ++ word_terms kind (map string_bytes (drop (i + 1) words))
+next-word kind words i w word below here same =
+    ap (λ l. word_terms kind (map string_bytes l)) (drop_more words i w below)
+    ∙ ap (λ x. (Text kind, x) ∷ word_terms kind (map string_bytes (drop (i + 1) words))) (ap string_bytes (sym here) ∙ sym same)
+
+pub word-length : (words : List (String Global)) (i : ℕ) (w : String Global) → AllByRecursion HasTermLength (map string_bytes words) → i < length words → w ≡ slice_index_or words i w → HasTermLength (string_bytes w)
+word-length [] i w a below e = absurd (omega (arith, below))
+word-length (x ∷ xs) zero w a below e = subst (λ s. HasTermLength (string_bytes s)) (sym e) a.0
+word-length (x ∷ xs) (suc i) w a below e = word-length xs i w a.1 (omega (arith, below)) e
+
+-- all words that waited are added, and one waits
+pub added-first : (kind : TextKind) (old now : List (List ℕ)) (word : List ℕ) (new : List (List ℕ)) (o n : Option Draft)
+    → n ≡ option_map (draft_with_terms (word_terms kind old)) o → now ≡ [] → new ≡ now ++ word ∷ []
+    → option_map (draft_with_terms (word_terms kind (old ++ word ∷ []))) o ≡ option_map (draft_with_terms (word_terms kind new)) n
+added-first kind old now word new o n added none is =
+    ap (λ (l : List Term). option_map (draft_with_terms l) o) (map-append (λ w. let t : Term = (Text kind, w) in t) old (word ∷ []))
+    ∙ joined (word_terms kind old) (word_terms kind (word ∷ [])) o
+    ∙ ap (option_map (draft_with_terms (word_terms kind (word ∷ [])))) (sym added)
+    ∙ ap (λ (l : List (List ℕ)). option_map (draft_with_terms (word_terms kind l)) n) (sym (is ∙ ap (λ (l : List (List ℕ)). l ++ word ∷ []) none))
+
+pub no-terms : (o : Option Draft) → option_map (draft_with_terms []) o ≡ o
+no-terms None = refl
+no-terms (Some d) = refl

@@ -1,5 +1,5 @@
 -- What an index has of one message: the folded words of its texts, its own id, and the ids that link it to others.
-use Rattle.std.specs.Prelude.{ℕ, List, [], ◌∷◌, ◌++◌, map, flat_map, Option, Some, None}
+use Rattle.std.specs.Prelude.{ℕ, ◌≤◌, List, length, [], ◌∷◌, ◌++◌, map, flat_map, Option, Some, None}
 use Rattle.header_text.specs.Headers.{fields_of}
 use Rattle.mail_words.specs.declared.kind.TextKind.{TextKind}
 use Rattle.mail_words.specs.Words.{words}
@@ -15,14 +15,17 @@ use Rattle.mime_text.specs.Texts.{texts_of_message}
 abbrev pub Term : Type 0
 Term = Kind × List ℕ
 
+-- a folded word has so many bytes
+abbrev pub HasTermLength : List ℕ → Type 0
+HasTermLength word = (1 ≤ length word) × (length word ≤ 1024)
+
+-- folded words of a text of this kind
+abbrev pub word_terms : TextKind → List (List ℕ) → List Term
+word_terms kind folded = map (λ w. (Text kind, w)) folded
+
 -- the words of a text, folded
 abbrev pub text_terms : Pair → List Term
 text_terms p = map (λ w. (Text p.0, folding w)) (words p.1)
-
--- the word that waits, folded, if one does
-abbrev pub waiting_terms : TextKind → Option (List ℕ) → List Term
-waiting_terms kind None = []
-waiting_terms kind (Some word) = (Text kind, word) ∷ []
 
 abbrev pub own_id_terms : Option (List ℕ) → List Term
 own_id_terms None = []

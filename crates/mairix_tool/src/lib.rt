@@ -24,7 +24,7 @@ mod rcfile;
 mod run;
 mod same_file;
 mod term_sink;
-mod waiting_word;
+mod waiting_words;
 mod wanted;
 
 pub use command_line::{Plan, UsageFault, plan_of, usage_text};

@@ -7,7 +7,7 @@ ghost use Rattle.mime_text.specs.MessageFacts.{HasSizedIds, IsSizedId};
 ghost use Rattle.mairix_tool.specs.Indexing.{AddsTerms};
 ghost use Rattle.mairix_tool.specs.MessageTerms.{text_terms, own_id_terms, link_terms, id_terms};
 
-use crate::waiting_word::WaitingWord;
+use crate::waiting_words::WaitingWords;
 use mail_index::{BuildFault, Builder, Kind, Record};
 use mail_words::{TextKind, Words};
 use mime_text::{Facts, MessageId, MessageIds, SinkFault, TextSink};
@@ -17,7 +17,7 @@ use std::alloc::Global;
 #[derive(Drop)]
 pub(crate) struct TermSink {
     builder: Builder,
-    waiting: WaitingWord,
+    waiting: WaitingWords,
     ghost phase: { ForSome builder IsInMessage },
 }
 
@@ -30,7 +30,7 @@ impl TermSink {
         builder.begin_message()?;
         Ok(TermSink {
             builder,
-            waiting: WaitingWord::new(alloc),
+            waiting: WaitingWords::new(alloc),
         })
     }
 
@@ -77,7 +77,7 @@ impl TextSink for TermSink {
 /// Adds the words of a text, each folded.
 fn add_words(
     builder: &mut Builder,
-    waiting: &mut WaitingWord,
+    waiting: &mut WaitingWords,
     kind: TextKind,
     text: &str,
 ) -> Result<(), BuildFault>
@@ -87,7 +87,7 @@ fn add_words(
 {
     waiting.forget();
     for word in Words::of(text) {
-        waiting.follow(builder, kind, word)?;
+        waiting.push(builder, kind, word)?;
     }
     waiting.add(builder, kind)
 }
