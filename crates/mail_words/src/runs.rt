@@ -54,7 +54,7 @@ pub(crate) fn joined_len(text: &str) -> usize
     len
 }
 
-/// The same as [`plain_len`], for a text of any characters.
+/// The same as [`plain_len`], character by character.
 fn plain_len_by_characters(text: &str) -> usize
     ensures { result ≡ length (encode_utf8_all (front is_word_character (chars text.now))) }
 {
@@ -68,7 +68,7 @@ fn plain_len_by_characters(text: &str) -> usize
     len
 }
 
-/// The same as [`gap_len`], for a text of any characters.
+/// The same as [`gap_len`], character by character.
 fn gap_len_by_characters(text: &str) -> usize
     ensures { result ≡ length (encode_utf8_all (front is_other (chars text.now))) }
 {
@@ -82,7 +82,7 @@ fn gap_len_by_characters(text: &str) -> usize
     len
 }
 
-/// The same as [`joined_len`], for a text of any characters.
+/// The same as [`joined_len`], character by character.
 fn joined_len_by_characters(text: &str) -> usize
     ensures { result ≡ length (encode_utf8_all (joined_front (chars text.now))) }
 {

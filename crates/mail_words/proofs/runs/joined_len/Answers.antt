@@ -1,5 +1,4 @@
-use Rattle.std.proofs.Common.{drop, sym, ap, subst, ◌∙◌, arith}
-use Rattle.mail_words.proofs.FrontReads.{JoinedRead}
+use Rattle.std.proofs.Common.{sym, ◌∙◌, arith}
 use Rattle.mail_words.proofs.ByteReads.{word_byte, other_byte, joined_bytes-start, joined_bytes-word, joined_bytes-joiner, joined_bytes-stop, joined_bytes-end, joined_bytes-boundary, joined_bytes-none, joined_bytes-more, length-joined_front}
 use Rattle.mail_words.proofs.runs.joined_len.Goals as goal
 use Rattle.mail_words.proofs.runs.joined_len.Goals.{then-is_ascii_word_character, else-is_ascii_word_character+else-not-is_ascii+else-not-is_ascii_joiner}
