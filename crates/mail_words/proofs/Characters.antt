@@ -1,8 +1,13 @@
--- Word characters of ASCII, and that no joiner is a word character.
-use Rattle.std.proofs.Common.{◌≡◌, ℕ, ◌<◌, Bool, true, false, not, ◌&&◌, refl, sym, arith}
+-- Word characters of ASCII, that no joiner is a word character, and the joiners among bytes.
+use Rattle.std.proofs.Common.{◌≡◌, ℕ, ◌<◌, ◌≤◌, Bool, true, false, not, ◌&&◌, List, [], ◌∷◌, get_or, chars, encode_utf8, encode_utf8_all, IsUtf8, inl, inr, refl, sym, ap, ap₂, ◌∙◌, arith, append-nil}
+use Rattle.std.proofs.Math.Bool.{and-true}
+use Rattle.std.proofs.lemmas.Bool.{cases_lt}
 use Rattle.std.proofs.lemmas.Bool.Decides.{nat_tests}
+use Rattle.std.proofs.lemmas.List.Folds.{list_all-append, list_all_at}
+use Rattle.std.proofs.lemmas.Str.{encode_ascii, encodes-chars, char_from_byte, length-encode, len_utf8_bounds}
 use Rattle.std.specs.Bool.{beq}
 use Rattle.std.specs.Char.{is_ascii_alphanumeric}
+use Rattle.std.specs.List.{list_all}
 use Rattle.unicode.proofs.CategoryComputing.{ucd_category}
 use Rattle.unicode.proofs.DerivedComputing.{ucd_derived}
 use Rattle.unicode.proofs.Facts.{same_from_beq}
@@ -36,3 +41,39 @@ word_character_is_no_joiner c of_word = go (is_joiner c) refl
     go : (t : Bool) → is_joiner c ≡ t → is_joiner c ≡ false
     go true joins = let no = joiner_is_no_word_character c joins in cc
     go false apart = apart
+
+-- ---- the joiners among the bytes of a text
+
+no_joiner_from : (c : ℕ) → 128 ≤ c → is_joiner c ≡ false
+no_joiner_from c beyond = go (is_joiner c) refl
+  where
+    go : (t : Bool) → is_joiner c ≡ t → is_joiner c ≡ false
+    go true joins = absurd (omega (arith, joiner_below c joins))
+    go false apart = apart
+
+no_joiner_first : (c : ℕ) → 128 ≤ c → is_joiner (get_or (encode_utf8 c) 0 0) ≡ false
+no_joiner_first c beyond = go (is_joiner (get_or (encode_utf8 c) 0 0)) refl
+  where
+    go : (t : Bool) → is_joiner (get_or (encode_utf8 c) 0 0) ≡ t → is_joiner (get_or (encode_utf8 c) 0 0) ≡ false
+    go true joins =
+        let below = joiner_below (get_or (encode_utf8 c) 0 0) joins in
+        let same = char_from_byte (encode_utf8 c) [] c (sym (append-nil (encode_utf8 c))) below (omega (arith, length-encode c, (len_utf8_bounds c).0)) in
+        absurd (omega (arith, below, same))
+    go false apart = apart
+
+joiners-encode : (c : ℕ) → list_all is_joiner (encode_utf8 c) ≡ is_joiner c
+joiners-encode c =
+    elim (cases_lt c 128) [
+      | inl ascii ↦ ap (list_all is_joiner) (encode_ascii c ascii) ∙ and-true (is_joiner c)
+      | inr beyond ↦
+          list_all_at is_joiner (encode_utf8 c) 0 0 (omega (arith, length-encode c, (len_utf8_bounds c).0)) (no_joiner_first c beyond) ∙ sym (no_joiner_from c beyond)
+    ]
+
+joiners-encodes : (cs : List ℕ) → list_all is_joiner (encode_utf8_all cs) ≡ list_all is_joiner cs
+joiners-encodes [] = refl
+joiners-encodes (c ∷ cs) =
+    list_all-append is_joiner (encode_utf8 c) (encode_utf8_all cs) ∙ ap₂ ◌&&◌ (joiners-encode c) (joiners-encodes cs)
+
+-- the bytes are joiners alone where the characters are
+pub joiners-bytes : (text : List ℕ) → IsUtf8 text → list_all is_joiner text ≡ list_all is_joiner (chars text)
+joiners-bytes text utf8 = ap (list_all is_joiner) (sym (encodes-chars text utf8)) ∙ joiners-encodes (chars text)

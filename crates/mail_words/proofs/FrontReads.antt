@@ -8,9 +8,9 @@ use Rattle.mail_words.specs.Runs.{front, joined_to, joined_front}
 use Rattle.mail_words.proofs.RunLemmas.{front-pass, front-fail, joined_front-word, joined_front-joiner, joined_front-other}
 
 -- the text, read so far by this many bytes up to this rest
-record IsRead (text : List ℕ) (len : ℕ) (rest : List ℕ) : Type 0 where
-  utf8 : IsUtf8 rest
-  lengths : len + length rest ≡ length text
+pub record IsRead (text : List ℕ) (len : ℕ) (rest : List ℕ) : Type 0 where
+  pub utf8 : IsUtf8 rest
+  pub lengths : len + length rest ≡ length text
 
 is_read-step : (text : List ℕ) (len : ℕ) (rest : List ℕ) (c : ℕ) (rest' : List ℕ) → IsRead text len rest → rest ≡ encode_utf8 c ++ rest' → IsRead text (len + len_utf8 c) rest'
 is_read-step text len rest c rest' h parts =
@@ -25,8 +25,8 @@ no_chars rest none = ap chars (nil_from_length rest (omega arith)) ∙ chars-nil
 -- ---- the characters at the front that pass
 
 pub record FrontRead (p : ℕ → Bool) (text : List ℕ) (len : ℕ) (rest : List ℕ) : Type 0 where
-  read : IsRead text len rest
-  whole : length (encode_utf8_all (front p (chars text))) ≡ len + length (encode_utf8_all (front p (chars rest)))
+  pub read : IsRead text len rest
+  pub whole : length (encode_utf8_all (front p (chars text))) ≡ len + length (encode_utf8_all (front p (chars rest)))
 
 pub front_read-start : (p : ℕ → Bool) (text rest : List ℕ) → IsUtf8 text → rest ≡ text → FrontRead p text 0 rest
 front_read-start p text rest utf8 same =
@@ -63,8 +63,8 @@ kept_len read len [] = len
 kept_len read len (c ∷ cs) = read + length (encode_utf8_all (c ∷ cs))
 
 pub record JoinedRead (text : List ℕ) (read len : ℕ) (rest : List ℕ) : Type 0 where
-  place : IsRead text read rest
-  whole : length (encode_utf8_all (joined_front (chars text))) ≡ kept_len read len (joined_front (chars rest))
+  pub place : IsRead text read rest
+  pub whole : length (encode_utf8_all (joined_front (chars text))) ≡ kept_len read len (joined_front (chars rest))
 
 kept_len-all : (cs : List ℕ) → length (encode_utf8_all cs) ≡ kept_len 0 0 cs
 kept_len-all [] = refl

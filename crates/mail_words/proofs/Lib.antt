@@ -1,3 +1,4 @@
+pub mod ByteReads
 pub mod Characters
 pub mod FoldingLemmas
 pub mod FrontReads

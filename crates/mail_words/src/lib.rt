@@ -26,6 +26,7 @@ mod laws;
 
 pub use laws::words_are_in_order;
 
+mod ascii;
 mod character;
 mod runs;
 #[cfg(test)]

@@ -6,7 +6,7 @@ ghost use Rattle.std.specs.Option.{option_copied};
 ghost use Rattle.mail_words.specs.Words.{words, HasWordLength, is_word_character, is_joiner, begins};
 ghost use Rattle.mail_words.specs.Runs.{words_left, front, behind, long_at};
 
-use crate::character::is_joiner;
+use crate::ascii::are_ascii_joiners;
 use crate::runs::{gap_len, joined_len, plain_len};
 use std::marker::Model;
 
@@ -117,7 +117,7 @@ fn behind_gap(text: &str, in_run: bool) -> (&str, bool)
 fn has_joiners_alone(text: &str) -> bool
     ensures { result ≡ list_all is_joiner (chars text.now) }
 {
-    text.chars().all(is_joiner)
+    are_ascii_joiners(text.as_bytes())
 }
 
 /// What begins where a text does.

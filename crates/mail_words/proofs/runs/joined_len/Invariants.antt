@@ -1,6 +1,6 @@
-use Rattle.std.specs.Str.Iter.{chars_rest}
+use Rattle.std.proofs.Common.{drop}
 use Rattle.mail_words.proofs.FrontReads.{JoinedRead}
 use Rattle.mail_words.proofs.runs.joined_len.Given as goal
 
-abbrev pub invariant-loop-c : goal.invariant-loop-c
-invariant-loop-c l = JoinedRead l.fn.text l.read l.len (chars_rest l.c-iterator)
+abbrev pub invariant-loop-read : goal.invariant-loop-read
+invariant-loop-read l = JoinedRead l.fn.text l.read l.len (drop l.read l.fn.text)

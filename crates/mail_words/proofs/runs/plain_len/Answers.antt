@@ -1,19 +1,30 @@
-use Rattle.std.proofs.Common.{arith, sym, ap, ◌∙◌}
-use Rattle.std.specs.Str.Iter.{chars_rest}
-use Rattle.mail_words.proofs.FrontReads.{front_read-start, front_read-pass, front_read-stop, front_read-end, front_read-within}
+use Rattle.std.proofs.Common.{arith}
+use Rattle.mail_words.specs.Words.{is_word_character}
+use Rattle.mail_words.proofs.ByteReads.{word_byte, other_byte, front_bytes-start, front_bytes-pass, front_bytes-stop, front_bytes-end, front_bytes-boundary, front_bytes-more, length-front}
 use Rattle.mail_words.proofs.runs.plain_len.Goals as goal
 
-pub loop-c-init : goal.loop-c-init
-loop-c-init c = front_read-start _ _ _ c.utf8.text (ap chars_rest c.into_iter-c-iterator.ensures.into_iter_gives ∙ c.chars-c-items.ensures.rest)
+pub loop-len-init : goal.loop-len-init
+loop-len-init c = front_bytes-start is_word_character c.args.text.now c.utf8.text
 
-pub returns-then-not-is_word_character : goal.returns-then-not-is_word_character
-returns-then-not-is_word_character c = front_read-stop _ _ _ _ _ _ c.loop-c.invariant c.in-Some.ensures.steps.0 (sym c.is_word_character.ensures ∙ c.if-not-is_word_character.true)
+pub returns-then-is_ascii : goal.returns-then-is_ascii
+returns-then-is_ascii c =
+    let byte = other_byte _ _ _ c.is_ascii_word_character.ensures c.if-not-is_ascii_word_character.true c.is_ascii.ensures c.if-is_ascii.true in
+    front_bytes-stop _ _ _ _ c.loop-len.invariant c.as_bytes-byte-items.ensures.value c.loop-len-test.true byte.0 byte.1
 
-pub overflow_add-len : goal.overflow_add-len
-overflow_add-len c = omega (arith, front_read-within _ _ _ _ _ _ c.loop-c.invariant c.in-Some.ensures.steps.0, c.len_utf8-len.ensures.value)
+pub split_at-requires : goal.split_at-requires
+split_at-requires c = front_bytes-boundary _ _ _ c.loop-len.invariant
 
-pub loop-c-preserved : goal.loop-c-preserved
-loop-c-preserved c = rw c.len_utf8-len.ensures.value (front_read-pass _ _ _ _ _ _ c.loop-c.invariant c.in-Some.ensures.steps.0 (sym c.is_word_character.ensures ∙ c.if-not-is_word_character.false))
+pub overflow_add-result : goal.overflow_add-result
+overflow_add-result c =
+    omega (arith, front_bytes-more _ _ _ _ _ c.loop-len.invariant c.split_at.ensures.back c.plain_len_by_characters.ensures, length-front is_word_character _ c.utf8.text, c.as_bytes-byte-items.ensures.len, c.as_bytes-byte-items.type_inv.0)
+
+pub returns-then-not-is_ascii_word_character : goal.returns-then-not-is_ascii_word_character
+returns-then-not-is_ascii_word_character c = front_bytes-more _ _ _ _ _ c.loop-len.invariant c.split_at.ensures.back c.plain_len_by_characters.ensures
+
+pub loop-len-preserved : goal.loop-len-preserved
+loop-len-preserved c =
+    let byte = word_byte _ _ c.is_ascii_word_character.ensures c.if-not-is_ascii_word_character.false in
+    front_bytes-pass _ _ _ _ c.loop-len.invariant c.as_bytes-byte-items.ensures.value c.loop-len-test.true byte.0 byte.1
 
 pub returns : goal.returns
-returns c = front_read-end _ _ _ _ c.loop-c.invariant c.in-None.ensures.steps.0.0
+returns c = front_bytes-end _ _ _ c.loop-len.invariant (omega (arith, c.loop-len-test.false, c.as_bytes-byte-items.ensures.len))

@@ -1,0 +1,10 @@
+-- The table is held against the definition at each of the 256 bytes, by computing.
+use Rattle.std.proofs.Common.{◌==◌, get_or, refl, arith}
+use Rattle.std.proofs.lemmas.Bool.{agree_below_at}
+use Rattle.mail_words.specs.Words.{is_joiner}
+use Rattle.mail_words.specs.declared.ascii.TheConstants.{CLASSES}
+use Rattle.mail_words.proofs.ascii.is_ascii_joiner.Goals as goal
+
+pub returns : goal.returns
+unfolding is_joiner
+returns c = agree_below_at (λ b. get_or CLASSES b 0 == 106) is_joiner 256 c.args.byte refl (omega arith)

@@ -1,0 +1,12 @@
+-- The table is held against the definition at each of the 256 bytes, by computing.
+use Rattle.std.proofs.Common.{◌&&◌, ◌==◌, nat_lt, get_or, refl, arith}
+use Rattle.std.proofs.lemmas.Bool.{agree_below_at}
+use Rattle.unicode.proofs.CategoryComputing.{ucd_category}
+use Rattle.unicode.proofs.DerivedComputing.{ucd_derived}
+use Rattle.mail_words.specs.Words.{is_word_character}
+use Rattle.mail_words.specs.declared.ascii.TheConstants.{CLASSES}
+use Rattle.mail_words.proofs.ascii.is_ascii_word_character.Goals as goal
+
+pub returns : goal.returns
+unfolding ucd_derived ucd_category is_word_character
+returns c = agree_below_at (λ b. get_or CLASSES b 0 == 119) (λ b. nat_lt b 128 && is_word_character b) 256 c.args.byte refl (omega arith)

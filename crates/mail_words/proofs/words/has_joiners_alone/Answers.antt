@@ -1,0 +1,8 @@
+use Rattle.std.proofs.Common.{ap, ◌∙◌}
+use Rattle.std.specs.List.{list_all}
+use Rattle.mail_words.specs.Words.{is_joiner}
+use Rattle.mail_words.proofs.Characters.{joiners-bytes}
+use Rattle.mail_words.proofs.words.has_joiners_alone.Goals as goal
+
+pub returns : goal.returns
+returns c = c.are_ascii_joiners.ensures ∙ ap (list_all is_joiner) c.as_bytes.ensures.value ∙ joiners-bytes c.args.text.now c.utf8.text
