@@ -1,5 +1,5 @@
 -- Keys as a builder holds them: entries in the order of their arrival, and their numbers in the order of their keys.
-use Rattle.std.specs.Prelude.{◌≡◌, ℕ, zero, suc, ◌+◌, ◌<◌, ◌≤◌, ◌⊎◌, List, [], ◌∷◌, ◌++◌, length, map, take, drop, Vec}
+use Rattle.std.specs.Prelude.{◌≡◌, ℕ, zero, suc, ◌+◌, ◌<◌, ◌≤◌, ◌⊎◌, nat_le, if◌then◌else◌, List, [], ◌∷◌, ◌++◌, length, map, take, drop, Vec}
 use Rattle.std.specs.Global.{Global}
 use Rattle.std.specs.declared.cmp.Ordering.TheVariants.{Less, Greater}
 use Rattle.std.specs.List.{AllByRecursion, slice_index}
@@ -34,9 +34,17 @@ pub record IsEntry (bytes : List ℕ) (front next : ℕ) : Type 0 where
   pub kind : kind_number (kind_of_number (slice_index (take front bytes) 0)) ∷ drop 1 (take front bytes) ≡ take front bytes
   pub posted : IsPosted (drop front bytes) next
 
--- a front so short is kept apart too
-abbrev pub HasFront : List ℕ → ℕ → List ℕ → Type 0
-HasFront kept front bytes = front ≤ 16 → take front kept ≡ take front bytes
+-- a front of so many bytes, if it is short: then it is kept apart
+abbrev pub short_front : List ℕ → ℕ → List ℕ
+short_front kept front = if nat_le front 16 then take front kept else []
+
+-- what it stands in: the place that is kept apart for it, or the other bytes
+abbrev pub front_holder : List ℕ → ℕ → List ℕ → List ℕ
+front_holder kept front bytes = if nat_le front 16 then kept else bytes
+
+-- all the bytes of an entry: those kept apart, the others, and the last of the postings
+abbrev pub key_bytes : List ℕ → ℕ → List ℕ → List ℕ → List ℕ
+key_bytes kept front bytes recent = short_front kept front ++ (bytes ++ recent)
 
 -- ---- the order of the entries
 

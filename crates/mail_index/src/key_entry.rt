@@ -1,5 +1,5 @@
 //! A key of an index while it is built.
-ghost use Rattle.std.specs.Prelude.{◌≡◌, ℕ, ◌+◌, ◌^◌, ◌<◌, ◌≤◌, [], ◌++◌, length, take, OnOk, OnErr, IfOk};
+ghost use Rattle.std.specs.Prelude.{◌≡◌, ◌+◌, ◌^◌, ◌<◌, ◌≤◌, [], ◌∷◌, ◌++◌, length, take, OnOk, OnErr, IfOk};
 ghost use Rattle.std.specs.Ordering.{is_eq};
 ghost use Rattle.mail_index.specs.KeyMaps.{new_key, with_one};
 ghost use Rattle.mail_index.specs.Kinds.{kind_number};
@@ -13,37 +13,38 @@ use std::alloc::{AllocError, Global};
 use std::cmp::Ordering;
 use std::marker::Model;
 
-/// The bytes of a short key: one with more has them behind the entry alone.
+/// The bytes of a short kind's number and text: more of them stand outside the entry.
 const SHORT: usize = 16;
 
 /// A key, whose text is shorter than 2^32 bytes, with the numbers of its messages.
 ///
-/// There are many, and most have few numbers. So the last postings stand in the entry itself, of 64 bytes: mostly a
-/// number is added to a key by a look at its entry alone.
+/// There are many, and most are short and have few numbers. So a short text and the last postings stand in the entry
+/// itself, of 64 bytes: mostly a number is added to a key by a look at its entry alone, and a rare key takes no more
+/// memory than that.
 #[derive(Drop)]
 pub struct KeyEntry {
     text_length: u32,
     // One past the last number.
     next: u32,
-    // Of a short key the kind's number and the text once more, so that it is compared without a look at its bytes.
+    // The kind's number and the text, if they are short.
     front: [u8; SHORT],
     // The last bytes of the postings.
     recent: ShortBytes,
-    // The kind's number, the text, and the postings before the recent ones: each number as its difference from the one
-    // before, the first from -1, in the shortest unsigned LEB128.
+    // The kind's number and the text, if they aren't short, and the postings before the recent ones: each number as its
+    // difference from the one before, the first from -1, in the shortest unsigned LEB128.
     bytes: Vec<u8>,
 }
 
 impl Model for KeyEntry {
-    ghost use Rattle.std.specs.Prelude.{◌+◌, ◌≤◌, ◌++◌, length, take, drop};
+    ghost use Rattle.std.specs.Prelude.{◌+◌, ◌≤◌, length, take, drop};
     ghost use Rattle.mail_index.specs.Tables.{Key};
-    ghost use Rattle.mail_index.specs.KeyMaps.{key_in, IsEntry, HasFront};
+    ghost use Rattle.mail_index.specs.KeyMaps.{key_in, front_holder, key_bytes, IsEntry};
 
     ghost Value = { Key };
 
-    ghost view = { λ s. key_in (take (s.text_length + 1) (s.bytes.items ++ s.recent)) (drop (s.text_length + 1) (s.bytes.items ++ s.recent)) };
+    ghost view = { λ s. key_in (take (s.text_length + 1) (key_bytes s.front (s.text_length + 1) s.bytes.items s.recent)) (drop (s.text_length + 1) (key_bytes s.front (s.text_length + 1) s.bytes.items s.recent)) };
 
-    ghost invariant = { λ s. IsEntry (s.bytes.items ++ s.recent) (s.text_length + 1) s.next × HasFront s.front (s.text_length + 1) s.bytes.items × (s.text_length + 1 ≤ length s.bytes.items) };
+    ghost invariant = { λ s. IsEntry (key_bytes s.front (s.text_length + 1) s.bytes.items s.recent) (s.text_length + 1) s.next × (s.text_length + 1 ≤ length (front_holder s.front (s.text_length + 1) s.bytes.items)) };
 }
 
 impl KeyEntry {
@@ -63,17 +64,31 @@ impl KeyEntry {
         requires { length text.now < 2 ^ 32 }
         ensures { IfOk result (λ entry. entry ≡ record { kind = kind; text = text.now; numbers = [] }) }
     {
-        let mut bytes = Vec::with_capacity(alloc, text.len() + 1)?;
-        bytes.push(kind.number())?;
-        bytes.extend_from_slice(text)?;
-        let front = front_of(&bytes);
+        if text.len() < SHORT {
+            return Ok(KeyEntry::of_front(alloc, kind, text));
+        }
+        let bytes = front_bytes(alloc, kind, text)?;
         Ok(KeyEntry {
             text_length: text.len() as u32,
             next: 0,
-            front,
+            front: [0; SHORT],
             recent: ShortBytes::new(),
             bytes,
         })
+    }
+
+    // A short key of no message.
+    fn of_front(alloc: Global, kind: Kind, text: &[u8]) -> Self
+        requires { length text.now < 16 }
+        ensures { result ≡ record { kind = kind; text = text.now; numbers = [] } }
+    {
+        KeyEntry {
+            text_length: text.len() as u32,
+            next: 0,
+            front: front_of(kind, text),
+            recent: ShortBytes::new(),
+            bytes: Vec::new(alloc),
+        }
     }
 
     /// Adds a message's number, unless the last is as large. A refused growth changes nothing.
@@ -148,7 +163,12 @@ impl KeyEntry {
         ensures bytes { result.0.now ++ result.1.now ≡ postings self.now.numbers }
         ensures small { length result.0.now + length result.1.now < 2 ^ 32 }
     {
-        let older = self.bytes.split_at(self.text_length as usize + 1).1;
+        let length = self.text_length as usize + 1;
+        let older = if length <= SHORT {
+            self.bytes.as_slice()
+        } else {
+            self.bytes.split_at(length).1
+        };
         (older, self.recent.as_slice())
     }
 
@@ -165,7 +185,7 @@ impl KeyEntry {
 fn append(bytes: &mut Vec<u8>, recent: &mut ShortBytes, more: &ShortBytes) -> Result<(), AllocError>
     ensures ok { OnOk result (bytes.new.items ++ recent.new ≡ bytes.old.items ++ recent.old ++ more.now) }
     ensures err { OnErr result ((bytes.new.items ≡ bytes.old.items) × (recent.new ≡ recent.old)) }
-    ensures front { (n : ℕ) → n ≤ length bytes.old.items → (n ≤ length bytes.new.items) × (take n bytes.new.items ≡ take n bytes.old.items) }
+    ensures kept { length bytes.old.items ≤ length bytes.new.items }
 {
     let more = more.as_slice();
     if recent.as_slice().len() + more.len() > ShortBytes::MOST {
@@ -176,13 +196,24 @@ fn append(bytes: &mut Vec<u8>, recent: &mut ShortBytes, more: &ShortBytes) -> Re
     Ok(())
 }
 
-// The bytes of a short key, and zeros behind them; zeros alone of another.
-fn front_of(bytes: &[u8]) -> [u8; SHORT]
-    ensures { length bytes.now ≤ 16 → take (length bytes.now) result ≡ bytes.now }
+// The kind's number and the text, with zeros behind them.
+fn front_of(kind: Kind, text: &[u8]) -> [u8; SHORT]
+    requires { length text.now < 16 }
+    ensures { take (length text.now + 1) result ≡ kind_number kind ∷ text.now }
 {
     let mut front = [0; SHORT];
-    if bytes.len() <= SHORT {
-        front[..bytes.len()].copy_from_slice(bytes);
-    }
+    front[0] = kind.number();
+    front[1..text.len() + 1].copy_from_slice(text);
     front
+}
+
+// The kind's number and the text.
+fn front_bytes(alloc: Global, kind: Kind, text: &[u8]) -> Result<Vec<u8>, AllocError>
+    requires { length text.now < 2 ^ 32 }
+    ensures { IfOk result (λ bytes. bytes.items ≡ kind_number kind ∷ text.now) }
+{
+    let mut bytes = Vec::with_capacity(alloc, text.len() + 1)?;
+    bytes.push(kind.number())?;
+    bytes.extend_from_slice(text)?;
+    Ok(bytes)
 }
