@@ -5,3 +5,5 @@ pub mod Adding
 pub mod MemberLemmas
 pub mod NodeQueries
 mod RowsTableFacts
+pub mod ThreadLemmas
+pub mod ForestLemmas

@@ -2,10 +2,13 @@
 #![tactic(auto)]
 
 mod plain;
+mod threads;
 
 pub use plain::plain_matches;
+pub use threads::with_threads;
 
 mod fit;
+mod forest;
 mod marks;
 mod records;
 #[cfg(test)]

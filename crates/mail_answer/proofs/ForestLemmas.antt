@@ -1,0 +1,87 @@
+-- Trees of messages that get shorter, and are joined.
+use Rattle.std.proofs.Common.{◌≡◌, ◌≢◌, ◌∙◌, ◌<◌, ◌≤◌, ℕ, Bool, true, List, length, get_or, inl, inr, refl, sym, ap, subst, arith}
+use Rattle.std.proofs.Math.ListN.{set, length-set}
+use Rattle.std.proofs.lemmas.List.{get_or-set_same, get_or-set_other}
+use Rattle.std.proofs.lemmas.Bool.Decides.{eqb_tells}
+use Rattle.mail_index.specs.Tables.{Table}
+use Rattle.mail_answer.specs.Threads.{IsInThread}
+use Rattle.mail_answer.specs.Forests.{LeadsBack, StaysInThreads, LabelsTrees, AreInOneTree, Shortens, Unites}
+use Rattle.mail_answer.proofs.ThreadLemmas.{through, back_again}
+
+-- ---- one parent is exchanged
+
+same_there : (p : List ℕ) (i g n : ℕ) → i < length p → n ≡ i → get_or (set p i g) n 0 ≡ g
+same_there p i g n lt same = ap (λ (k : ℕ). get_or (set p i g) k 0) same ∙ get_or-set_same p i g 0 lt
+
+-- what holds of the new parent there, and of the old ones elsewhere, holds of each
+pub each_parent : (P : ℕ → ℕ → Type 0) (p : List ℕ) (i g : ℕ) → i < length p → P i g → ((n : ℕ) → n < length p → n ≢ i → P n (get_or p n 0)) → (n : ℕ) → n < length p → P n (get_or (set p i g) n 0)
+each_parent P p i g lt here elsewhere n within =
+    elim (eqb_tells n i) [
+      | inl yes ↦
+          let at_it : P n g = subst (λ (k : ℕ). P k g) (sym yes.1) here in
+          subst (P n) (sym (same_there p i g n lt yes.1)) at_it
+      | inr no ↦ subst (P n) (sym (get_or-set_other p i n g 0 no.1)) (elsewhere n within no.1)
+    ]
+
+pub still_back : (p : List ℕ) (i g : ℕ) → i < length p → g ≤ i → LeadsBack p → LeadsBack (set p i g)
+still_back p i g lt before back = λ n within. each_parent (λ m r. r ≤ m) p i g lt before (λ m h ne. back m h) n (subst (λ (k : ℕ). n < k) (length-set p i g) within)
+
+pub still_threads : (t : Table) (p : List ℕ) (i g : ℕ) → i < length p → IsInThread t i g → StaysInThreads t p → StaysInThreads t (set p i g)
+still_threads t p i g lt leads stays = λ n within. each_parent (IsInThread t) p i g lt leads (λ m h ne. stays m h) n (subst (λ (k : ℕ). n < k) (length-set p i g) within)
+
+-- a label of the new trees is one of the old ones, if it is at the exchanged place
+pub still_labels : (label : ℕ → ℕ) (p : List ℕ) (i g : ℕ) → i < length p → label (get_or p i 0) ≡ label i → LabelsTrees label (set p i g) → LabelsTrees label p
+still_labels label p i g lt here labels = λ n within.
+    elim (eqb_tells n i) [
+      | inl yes ↦ subst (λ (k : ℕ). label (get_or p k 0) ≡ label k) (sym yes.1) here
+      | inr no ↦ ap label (sym (get_or-set_other p i n g 0 no.1)) ∙ labels n (subst (λ (k : ℕ). n < k) (sym (length-set p i g)) within)
+    ]
+
+label_there : (label : ℕ → ℕ) (p : List ℕ) (i g : ℕ) → i < length p → LabelsTrees label (set p i g) → label g ≡ label i
+label_there label p i g lt labels = ap label (sym (get_or-set_same p i g 0 lt)) ∙ labels i (subst (λ (k : ℕ). i < k) (sym (length-set p i g)) lt)
+
+-- ---- the parent's parent in its place
+
+-- a label of the new trees is one of the old ones
+lifted_label : (label : ℕ → ℕ) (p : List ℕ) (i : ℕ) → i < length p → get_or p i 0 < length p → LabelsTrees label (set p i (get_or p (get_or p i 0) 0)) → label (get_or p i 0) ≡ label i
+lifted_label label p i lt parent labels =
+    elim (eqb_tells (get_or p i 0) i) [
+      | inl yes ↦ ap label yes.1
+      | inr no ↦
+          sym (ap label (sym (get_or-set_other p i (get_or p i 0) (get_or p (get_or p i 0) 0) 0 no.1)) ∙ labels (get_or p i 0) (subst (λ (k : ℕ). get_or p i 0 < k) (sym (length-set p i (get_or p (get_or p i 0) 0))) parent))
+          ∙ label_there label p i (get_or p (get_or p i 0) 0) lt labels
+    ]
+
+pub lifted : (p : List ℕ) (i : ℕ) → LeadsBack p → i < length p → Shortens p (set p i (get_or p (get_or p i 0) 0))
+lifted p i back lt =
+    let g : ℕ = get_or p (get_or p i 0) 0 in
+    let low : get_or p i 0 ≤ i = back i lt in
+    let parent : get_or p i 0 < length p = omega arith in
+    let lower : g ≤ get_or p i 0 = back (get_or p i 0) parent in
+    record {
+      long = length-set p i g;
+      back = still_back p i g lt (omega (arith, low, lower));
+      roots = λ n within root.
+          elim (eqb_tells n i) [
+            | inl yes ↦
+                let here : get_or p i 0 ≡ i = subst (λ (k : ℕ). get_or p k 0 ≡ k) yes.1 root in
+                same_there p i g n lt yes.1 ∙ ap (λ (k : ℕ). get_or p k 0) here ∙ here ∙ sym yes.1
+            | inr no ↦ get_or-set_other p i n g 0 no.1 ∙ root
+          ];
+      labels = λ label labels. still_labels label p i g lt (lifted_label label p i lt parent labels) labels;
+      threads = λ t stays. still_threads t p i g lt (through t i (get_or p i 0) g (stays i lt) (stays (get_or p i 0) parent)) stays;
+    }
+
+-- ---- steps after one another
+
+pub unchanged : (p : List ℕ) → Shortens p p
+unchanged p = record { long = refl; back = λ back. back; roots = λ n lt root. root; labels = λ label labels. labels; threads = λ t stays. stays }
+
+pub shorter_still : (p q r : List ℕ) → Shortens p q → Shortens q r → Shortens p r
+shorter_still p q r first second = record {
+  long = second.long ∙ first.long;
+  back = λ back. second.back (first.back back);
+  roots = λ n lt root. second.roots n (subst (λ (k : ℕ). n < k) (sym first.long) lt) (first.roots n lt root);
+  labels = λ label labels. first.labels label (second.labels label labels);
+  threads = λ t stays. second.threads t (first.threads t stays);
+}
