@@ -6,7 +6,7 @@ use Rattle.std.proofs.lemmas.Bool.Decides.{eqb_tells}
 use Rattle.mail_index.specs.Tables.{Table}
 use Rattle.mail_answer.specs.Threads.{IsInThread}
 use Rattle.mail_answer.specs.Forests.{LeadsBack, StaysInThreads, LabelsTrees, AreInOneTree, Shortens, Unites}
-use Rattle.mail_answer.proofs.ThreadLemmas.{through, back_again}
+use Rattle.mail_answer.proofs.ThreadLemmas.{through}
 
 -- ---- one parent is exchanged
 
@@ -17,10 +17,10 @@ same_there p i g n lt same = ap (λ (k : ℕ). get_or (set p i g) k 0) same ∙ 
 pub each_parent : (P : ℕ → ℕ → Type 0) (p : List ℕ) (i g : ℕ) → i < length p → P i g → ((n : ℕ) → n < length p → n ≢ i → P n (get_or p n 0)) → (n : ℕ) → n < length p → P n (get_or (set p i g) n 0)
 each_parent P p i g lt here elsewhere n within =
     elim (eqb_tells n i) [
-      | inl yes ↦
-          let at_it : P n g = subst (λ (k : ℕ). P k g) (sym yes.1) here in
-          subst (P n) (sym (same_there p i g n lt yes.1)) at_it
-      | inr no ↦ subst (P n) (sym (get_or-set_other p i n g 0 no.1)) (elsewhere n within no.1)
+      | inl this ↦
+          let at_it : P n g = subst (λ (k : ℕ). P k g) (sym this.1) here in
+          subst (P n) (sym (same_there p i g n lt this.1)) at_it
+      | inr other ↦ subst (P n) (sym (get_or-set_other p i n g 0 other.1)) (elsewhere n within other.1)
     ]
 
 pub still_back : (p : List ℕ) (i g : ℕ) → i < length p → g ≤ i → LeadsBack p → LeadsBack (set p i g)
@@ -33,8 +33,8 @@ still_threads t p i g lt leads stays = λ n within. each_parent (IsInThread t) p
 pub still_labels : (label : ℕ → ℕ) (p : List ℕ) (i g : ℕ) → i < length p → label (get_or p i 0) ≡ label i → LabelsTrees label (set p i g) → LabelsTrees label p
 still_labels label p i g lt here labels = λ n within.
     elim (eqb_tells n i) [
-      | inl yes ↦ subst (λ (k : ℕ). label (get_or p k 0) ≡ label k) (sym yes.1) here
-      | inr no ↦ ap label (sym (get_or-set_other p i n g 0 no.1)) ∙ labels n (subst (λ (k : ℕ). n < k) (sym (length-set p i g)) within)
+      | inl this ↦ subst (λ (k : ℕ). label (get_or p k 0) ≡ label k) (sym this.1) here
+      | inr other ↦ ap label (sym (get_or-set_other p i n g 0 other.1)) ∙ labels n (subst (λ (k : ℕ). n < k) (sym (length-set p i g)) within)
     ]
 
 label_there : (label : ℕ → ℕ) (p : List ℕ) (i g : ℕ) → i < length p → LabelsTrees label (set p i g) → label g ≡ label i
@@ -43,12 +43,12 @@ label_there label p i g lt labels = ap label (sym (get_or-set_same p i g 0 lt)) 
 -- ---- the parent's parent in its place
 
 -- a label of the new trees is one of the old ones
-lifted_label : (label : ℕ → ℕ) (p : List ℕ) (i : ℕ) → i < length p → get_or p i 0 < length p → LabelsTrees label (set p i (get_or p (get_or p i 0) 0)) → label (get_or p i 0) ≡ label i
-lifted_label label p i lt parent labels =
+same_label : (label : ℕ → ℕ) (p : List ℕ) (i : ℕ) → i < length p → get_or p i 0 < length p → LabelsTrees label (set p i (get_or p (get_or p i 0) 0)) → label (get_or p i 0) ≡ label i
+same_label label p i lt parent labels =
     elim (eqb_tells (get_or p i 0) i) [
-      | inl yes ↦ ap label yes.1
-      | inr no ↦
-          sym (ap label (sym (get_or-set_other p i (get_or p i 0) (get_or p (get_or p i 0) 0) 0 no.1)) ∙ labels (get_or p i 0) (subst (λ (k : ℕ). get_or p i 0 < k) (sym (length-set p i (get_or p (get_or p i 0) 0))) parent))
+      | inl this ↦ ap label this.1
+      | inr other ↦
+          sym (ap label (sym (get_or-set_other p i (get_or p i 0) (get_or p (get_or p i 0) 0) 0 other.1)) ∙ labels (get_or p i 0) (subst (λ (k : ℕ). get_or p i 0 < k) (sym (length-set p i (get_or p (get_or p i 0) 0))) parent))
           ∙ label_there label p i (get_or p (get_or p i 0) 0) lt labels
     ]
 
@@ -63,14 +63,31 @@ lifted p i back lt =
       back = still_back p i g lt (omega (arith, low, lower));
       roots = λ n within root.
           elim (eqb_tells n i) [
-            | inl yes ↦
-                let here : get_or p i 0 ≡ i = subst (λ (k : ℕ). get_or p k 0 ≡ k) yes.1 root in
-                same_there p i g n lt yes.1 ∙ ap (λ (k : ℕ). get_or p k 0) here ∙ here ∙ sym yes.1
-            | inr no ↦ get_or-set_other p i n g 0 no.1 ∙ root
+            | inl this ↦
+                let here : get_or p i 0 ≡ i = subst (λ (k : ℕ). get_or p k 0 ≡ k) this.1 root in
+                same_there p i g n lt this.1 ∙ ap (λ (k : ℕ). get_or p k 0) here ∙ here ∙ sym this.1
+            | inr other ↦ get_or-set_other p i n g 0 other.1 ∙ root
           ];
-      labels = λ label labels. still_labels label p i g lt (lifted_label label p i lt parent labels) labels;
+      labels = λ label labels. still_labels label p i g lt (same_label label p i lt parent labels) labels;
       threads = λ t stays. still_threads t p i g lt (through t i (get_or p i 0) g (stays i lt) (stays (get_or p i 0) parent)) stays;
     }
+
+-- the same, as `lift` says it
+pub lifted_to : (p q : List ℕ) (i r : ℕ) → LeadsBack p → i < length p → r ≡ get_or p (get_or p i 0) 0 → q ≡ set p i r → Shortens p q
+lifted_to p q i r back lt value after = subst (Shortens p) (sym (after ∙ ap (set p i) value)) (lifted p i back lt)
+
+parent_within : (p : List ℕ) (i : ℕ) → LeadsBack p → i < length p → get_or p i 0 < length p
+parent_within p i back lt = let low : get_or p i 0 ≤ i = back i lt in omega arith
+
+pub lifted_before : (p : List ℕ) (i r : ℕ) → LeadsBack p → i < length p → r ≡ get_or p (get_or p i 0) 0 → r ≤ get_or p i 0
+lifted_before p i r back lt value = let lower : get_or p (get_or p i 0) 0 ≤ get_or p i 0 = back (get_or p i 0) (parent_within p i back lt) in omega arith
+
+pub lifted_label : (label : ℕ → ℕ) (p : List ℕ) (i r : ℕ) → LeadsBack p → i < length p → r ≡ get_or p (get_or p i 0) 0 → LabelsTrees label p → label i ≡ label r
+lifted_label label p i r back lt value labels = sym (ap label value ∙ labels (get_or p i 0) (parent_within p i back lt) ∙ labels i lt)
+
+pub lifted_thread : (t : Table) (p : List ℕ) (i r : ℕ) → LeadsBack p → i < length p → r ≡ get_or p (get_or p i 0) 0 → StaysInThreads t p → IsInThread t i r
+lifted_thread t p i r back lt value stays =
+    subst (IsInThread t i) (sym value) (through t i (get_or p i 0) (get_or p (get_or p i 0) 0) (stays i lt) (stays (get_or p i 0) (parent_within p i back lt)))
 
 -- ---- steps after one another
 

@@ -7,3 +7,4 @@ pub mod NodeQueries
 mod RowsTableFacts
 pub mod ThreadLemmas
 pub mod ForestLemmas
+pub mod JoinLemmas

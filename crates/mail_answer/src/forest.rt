@@ -14,7 +14,11 @@ use std::alloc::{AllocError, Global};
 pub(crate) fn single_messages(alloc: Global, count: u32) -> Result<Vec<u32>, AllocError>
     ensures { IfOk result (λ v. v.items ≡ range_with_len 0 count) }
 {
-    (0..count).collect(alloc)
+    let mut parents = Vec::with_capacity(alloc, count as usize)?;
+    for number in 0..count {
+        parents.push(number)?;
+    }
+    Ok(parents)
 }
 
 /// Makes its parent's parent a message's parent, and answers it.

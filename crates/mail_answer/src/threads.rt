@@ -1,6 +1,6 @@
 //! The threads of messages: what link ids lead to.
-ghost use Rattle.std.specs.Prelude.{◌≡◌, ◌<◌, ◌^◌, ◌↔◌, nat_eq, length, filter, slice_index, IfOk, IsTrue};
-ghost use Rattle.std.specs.List.{list_any, range_with_len, AllByRecursion};
+ghost use Rattle.std.specs.Prelude.{◌≡◌, ◌<◌, ◌^◌, ◌↔◌, ℕ, nat_eq, length, filter, slice_index, IfOk, IsTrue};
+ghost use Rattle.std.specs.List.{All, list_any, range_with_len};
 ghost use Rattle.mail_index.specs.Tables.{IsWellFormed, RisesFrom};
 ghost use Rattle.mail_index.specs.declared.kind.Kind.TheVariants.{LinkId};
 ghost use Rattle.mail_index.specs.LookUps.{keys_of};
@@ -27,8 +27,8 @@ fn thread_roots(alloc: Global, index: &IndexView<'_>) -> Result<Vec<u32>, AllocE
 
 /// Marks the roots of these messages.
 fn mark_roots(numbers: &[u32], roots: &[u32], marks: &mut [bool])
-    requires within { AllByRecursion (λ n. n < length roots.now) numbers.now }
-    requires marked { AllByRecursion (λ r. r < length marks.old) roots.now }
+    requires within { All (λ n. n < length roots.now) numbers.now }
+    requires marked { (n : ℕ) → n < length roots.now → slice_index roots.now n < length marks.old }
     ensures { Adds (λ r. list_any (λ n. nat_eq r (slice_index roots.now n)) numbers.now) marks.old marks.new }
 {
     for number in numbers {
@@ -39,7 +39,7 @@ fn mark_roots(numbers: &[u32], roots: &[u32], marks: &mut [bool])
 /// The numbers of the messages whose roots are marked, rising.
 fn with_marked_root(alloc: Global, roots: &[u32], marks: &[bool]) -> Result<Vec<u32>, AllocError>
     requires few { length roots.now < 2 ^ 32 }
-    requires marked { AllByRecursion (λ r. r < length marks.now) roots.now }
+    requires marked { (n : ℕ) → n < length roots.now → slice_index roots.now n < length marks.now }
     ensures { IfOk result (λ v. v.items ≡ filter (λ n. truth_at marks.now (slice_index roots.now n)) (range_with_len 0 (length roots.now))) }
 {
     let mut numbers = Vec::new(alloc);
@@ -78,7 +78,7 @@ pub fn with_threads(
 ) -> Result<Vec<u32>, AllocError>
     requires table { IsWellFormed index.now }
     requires rises { RisesFrom 0 numbers.now }
-    requires within { AllByRecursion (λ n. n < length index.now.messages) numbers.now }
+    requires within { All (λ n. n < length index.now.messages) numbers.now }
     ensures { IfOk result (λ v. AreThreads index.now numbers.now v.items) }
 {
     if numbers.is_empty() || !has_links(index) {

@@ -4,13 +4,13 @@ use Rattle.mail_answer.specs.Threads.{IsInThread}
 use Rattle.mail_answer.specs.Forests.{StaysInThreads, AreInOneTree, Shortens}
 use Rattle.mail_answer.proofs.forest.root_of.Given as goal
 
-abbrev pub invariant-loop-root : goal.invariant-loop-root
-invariant-loop-root l = record {
+abbrev pub invariant-loop-parents : goal.invariant-loop-parents
+invariant-loop-parents l = record {
   shortened : Shortens l.initial.parents l.parents;
   before : l.root ≤ l.number;
   same : AreInOneTree l.parents l.number l.root;
   thread : (t : Table) → StaysInThreads t l.initial.parents → IsInThread t l.number l.root;
 }
 
-abbrev pub decreases-loop-root : goal.decreases-loop-root
-decreases-loop-root l = l.root
+abbrev pub decreases-loop-parents : goal.decreases-loop-parents
+decreases-loop-parents l = l.root

@@ -1,0 +1,1 @@
+use Rattle.mail_answer.proofs.threads.mark_roots.Goals as goal
