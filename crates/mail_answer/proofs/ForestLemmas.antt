@@ -1,5 +1,5 @@
 -- Trees of messages that get shorter, and are joined.
-use Rattle.std.proofs.Common.{◌≡◌, ◌≢◌, ◌∙◌, ◌<◌, ◌≤◌, ℕ, Bool, true, List, length, get_or, inl, inr, refl, sym, ap, subst, arith}
+use Rattle.std.proofs.Common.{◌≡◌, ◌≢◌, ◌∙◌, ◌+◌, ◌<◌, ◌≤◌, ℕ, Bool, true, List, length, get_or, inl, inr, refl, sym, ap, subst, arith}
 use Rattle.std.proofs.Math.ListN.{set, length-set}
 use Rattle.std.proofs.lemmas.List.{get_or-set_same, get_or-set_other}
 use Rattle.std.proofs.lemmas.Bool.Decides.{eqb_tells}
@@ -37,7 +37,7 @@ still_labels label p i g lt here labels = λ n within.
       | inr other ↦ ap label (sym (get_or-set_other p i n g 0 other.1)) ∙ labels n (subst (λ (k : ℕ). n < k) (sym (length-set p i g)) within)
     ]
 
-label_there : (label : ℕ → ℕ) (p : List ℕ) (i g : ℕ) → i < length p → LabelsTrees label (set p i g) → label g ≡ label i
+pub label_there : (label : ℕ → ℕ) (p : List ℕ) (i g : ℕ) → i < length p → LabelsTrees label (set p i g) → label g ≡ label i
 label_there label p i g lt labels = ap label (sym (get_or-set_same p i g 0 lt)) ∙ labels i (subst (λ (k : ℕ). i < k) (sym (length-set p i g)) lt)
 
 -- ---- the parent's parent in its place
@@ -102,3 +102,42 @@ shorter_still p q r first second = record {
   labels = λ label labels. first.labels label (second.labels label labels);
   threads = λ t stays. second.threads t (first.threads t stays);
 }
+
+-- ---- each message its root's child
+
+pub flat_none : (p : List ℕ) (n : ℕ) → n < 0 → get_or p (get_or p n 0) 0 ≡ get_or p n 0
+flat_none p n lt = absurd (omega (arith, lt))
+
+-- one more
+pub flat_more : (p q : List ℕ) (i r : ℕ) → LeadsBack p → i < length p → r ≡ get_or p (get_or p i 0) 0 → q ≡ set p i r
+    → ((n : ℕ) → n < i → get_or p (get_or p n 0) 0 ≡ get_or p n 0) → (n : ℕ) → n < i + 1 → get_or q (get_or q n 0) 0 ≡ get_or q n 0
+flat_more p q i r back lt value after flat n within =
+    subst (λ (xs : List ℕ). get_or xs (get_or xs n 0) 0 ≡ get_or xs n 0) (sym after)
+    (elim (eqb_tells n i) [
+      | inl this ↦
+          let there : get_or (set p i r) n 0 ≡ r = same_there p i r n lt this.1 in
+          ap (λ (k : ℕ). get_or (set p i r) k 0) there ∙ at_root ∙ sym there
+      | inr other ↦
+          let there : get_or (set p i r) n 0 ≡ get_or p n 0 = get_or-set_other p i n r 0 other.1 in
+          let before : n < i = before_it other.1 in
+          let parent : get_or p n 0 ≤ n = back n (omega (arith, before, lt)) in
+          let elsewhere : get_or p n 0 ≢ i = (λ (same : get_or p n 0 ≡ i). omega (arith, same, parent, before)) in
+          ap (λ (k : ℕ). get_or (set p i r) k 0) there ∙ get_or-set_other p i (get_or p n 0) r 0 elsewhere ∙ flat n before ∙ sym there
+    ])
+  where
+    before_it : n ≢ i → n < i
+    before_it other = omega (arith, other, within)
+    low : get_or p i 0 ≤ i
+    low = back i lt
+    lower : get_or p i 0 ≢ i → get_or p i 0 < i
+    lower other = let bound : get_or p i 0 ≤ i = low in omega (arith, other, bound)
+    at_root : get_or (set p i r) r 0 ≡ r
+    at_root = elim (eqb_tells r i) [
+      | inl this ↦ same_there p i r r lt this.1
+      | inr other ↦
+          get_or-set_other p i r r 0 other.1
+          ∙ (elim (eqb_tells (get_or p i 0) i) [
+            | inl stays ↦ absurd (other.1 (value ∙ ap (λ (k : ℕ). get_or p k 0) stays.1 ∙ stays.1))
+            | inr moves ↦ ap (λ (k : ℕ). get_or p k 0) value ∙ flat (get_or p i 0) (lower moves.1) ∙ sym value
+          ])
+    ]

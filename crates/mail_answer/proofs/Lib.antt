@@ -8,3 +8,4 @@ mod RowsTableFacts
 pub mod ThreadLemmas
 pub mod ForestLemmas
 pub mod JoinLemmas
+pub mod RootLemmas

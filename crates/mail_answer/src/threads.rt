@@ -4,7 +4,7 @@ ghost use Rattle.std.specs.List.{All, list_any, range_with_len};
 ghost use Rattle.mail_index.specs.Tables.{IsWellFormed, RisesFrom};
 ghost use Rattle.mail_index.specs.declared.kind.Kind.TheVariants.{LinkId};
 ghost use Rattle.mail_index.specs.LookUps.{keys_of};
-ghost use Rattle.mail_answer.specs.Marks.{truth_at, Adds};
+ghost use Rattle.mail_answer.specs.Marks.{truth_at, each_number, Adds};
 ghost use Rattle.mail_answer.specs.Threads.{AreThreads};
 ghost use Rattle.mail_answer.specs.Forests.{TellsThreads};
 
@@ -13,19 +13,28 @@ use crate::marks::same_truths;
 use mail_index::{IndexView, Kind, Steps};
 use std::alloc::{AllocError, Global};
 
+/// Joins the trees of single messages by all link ids, until each message's parent tells its thread.
+fn join_threads(roots: &mut [u32], index: &IndexView<'_>)
+    requires table { IsWellFormed index.now }
+    requires single { roots.old ≡ range_with_len 0 (length index.now.messages) }
+    ensures { TellsThreads index.now roots.new }
+{
+    let mut steps = Steps::new();
+    unite_by_keys(roots, index.keys(Kind::LinkId), &mut steps);
+    flatten(roots);
+}
+
 /// For each message one of its thread, the same for all messages of the thread.
 fn thread_roots(alloc: Global, index: &IndexView<'_>) -> Result<Vec<u32>, AllocError>
     requires { IsWellFormed index.now }
     ensures { IfOk result (λ v. TellsThreads index.now v.items) }
 {
     let mut roots = single_messages(alloc, index.message_count())?;
-    let mut steps = Steps::new();
-    unite_by_keys(roots.as_mut_slice(), index.keys(Kind::LinkId), &mut steps);
-    flatten(roots.as_mut_slice());
+    join_threads(roots.as_mut_slice(), index);
     Ok(roots)
 }
 
-/// Marks the roots of these messages.
+/// Makes the roots of these messages true.
 fn mark_roots(numbers: &[u32], roots: &[u32], marks: &mut [bool])
     requires within { All (λ n. n < length roots.now) numbers.now }
     requires marked { (n : ℕ) → n < length roots.now → slice_index roots.now n < length marks.old }
@@ -34,6 +43,22 @@ fn mark_roots(numbers: &[u32], roots: &[u32], marks: &mut [bool])
     for number in numbers {
         marks[roots[*number as usize] as usize] = true;
     }
+}
+
+/// Of each message whether it is the root of one of these.
+fn root_marks(
+    alloc: Global,
+    numbers: &[u32],
+    roots: &[u32],
+    count: u32,
+) -> Result<Vec<bool>, AllocError>
+    requires within { All (λ n. n < length roots.now) numbers.now }
+    requires marked { (n : ℕ) → n < length roots.now → slice_index roots.now n < count }
+    ensures { IfOk result (λ v. v.items ≡ each_number count (λ r. list_any (λ n. nat_eq r (slice_index roots.now n)) numbers.now)) }
+{
+    let mut marks = same_truths(alloc, count, false)?;
+    mark_roots(numbers, roots, marks.as_mut_slice());
+    Ok(marks)
 }
 
 /// The numbers of the messages whose roots are marked, rising.
@@ -85,7 +110,6 @@ pub fn with_threads(
         return Vec::from_slice(alloc, numbers);
     }
     let roots = thread_roots(alloc, index)?;
-    let mut marks = same_truths(alloc, index.message_count(), false)?;
-    mark_roots(numbers, roots.as_slice(), marks.as_mut_slice());
+    let marks = root_marks(alloc, numbers, roots.as_slice(), index.message_count())?;
     with_marked_root(alloc, roots.as_slice(), marks.as_slice())
 }

@@ -7,8 +7,8 @@ use Rattle.mail_answer.proofs.forest.unite_all.Given as goal
 abbrev pub invariant-loop-number : goal.invariant-loop-number
 invariant-loop-number l = record {
   back : LeadsBack l.parents;
-  first_within : l.first < length l.parents;
-  within : AllByRecursion (λ n. n < length l.parents) l.numbers;
+  first_within : l.first < length l.initial.parents;
+  within : AllByRecursion (λ n. n < length l.initial.parents) l.numbers;
   united : (later : List ℕ) → Unites (AreBothAmong (l.first ∷ l.numbers)) l.parents later → Unites (AreBothAmong (l.first ∷ l.initial.numbers)) l.initial.parents later;
 }
 

@@ -1,0 +1,194 @@
+-- Trees that are threads, and the messages that are chosen by their roots.
+use Rattle.std.proofs.Common.{◌≡◌, ◌≢◌, ◌∙◌, ◌+◌, ◌<◌, ◌≤◌, ℕ, zero, suc, Bool, true, false, cond, nat_eq, ◌&&◌, ◌||◌, ◌↔◌, ◌⊎◌, List, [], ◌∷◌, length, map, get_or, take, inl, inr, refl, sym, ap, subst, arith, eq-eqb, add-one}
+use Rattle.std.specs.List.{All, AllByRecursion, filter, list_any, range_with_len}
+use Rattle.std.proofs.lemmas.List.FromFn.{get_or-range_with_len, length-range_with_len}
+use Rattle.std.proofs.lemmas.Bool.{eqb-true, or_cases, or_left, or_right}
+use Rattle.std.proofs.lemmas.Bool.Decides.{eqb_tells}
+use Rattle.mail_index.specs.declared.kind.Kind.TheVariants.{LinkId}
+use Rattle.mail_index.specs.Tables.{Table, Key, IsKey, IsWellFormed, RisesFrom}
+use Rattle.mail_index.specs.LookUps.{is_of_kind, keys_of, text_and_numbers}
+use Rattle.mail_answer.specs.TableFacts.{is_among}
+use Rattle.mail_answer.specs.Marks.{truth_at}
+use Rattle.mail_answer.specs.Threads.{are_linked, IsPath, IsInThread, IsInThreadOfSome, AreThreads}
+use Rattle.mail_answer.specs.Forests.{LeadsBack, StaysInThreads, LabelsTrees, Shortens, Unites, ShareKey, TellsThreads}
+use Rattle.mail_answer.proofs.ThreadLemmas.{itself, by_link, through, back_again}
+
+-- ---- single messages, and the keys of an index
+
+at_single : (p : List ℕ) (count n : ℕ) → p ≡ range_with_len 0 count → n < length p → get_or p n 0 ≡ n
+at_single p count n single lt =
+    let long : length p ≡ count = ap length single ∙ length-range_with_len 0 count in
+    ap (λ (xs : List ℕ). get_or xs n 0) single ∙ get_or-range_with_len 0 count n 0 (omega (arith, long, lt)) ∙ omega arith
+
+pub single_back : (p : List ℕ) (count : ℕ) → p ≡ range_with_len 0 count → LeadsBack p
+single_back p count single = λ n lt. let same : get_or p n 0 ≡ n = at_single p count n single lt in omega (arith, same)
+
+keys_below : (count : ℕ) (ks : List Key) → AllByRecursion (IsKey count) ks → AllByRecursion (λ (k : List ℕ × List ℕ). AllByRecursion (λ n. n < count) k.1) (map text_and_numbers (keys_of LinkId ks))
+keys_below count [] all = tt
+keys_below count (k ∷ ks) all = go (is_of_kind LinkId k) (keys_below count ks all.1)
+  where
+    go : (of_kind : Bool) → AllByRecursion (λ (key : List ℕ × List ℕ). AllByRecursion (λ n. n < count) key.1) (map text_and_numbers (keys_of LinkId ks))
+        → AllByRecursion (λ (key : List ℕ × List ℕ). AllByRecursion (λ n. n < count) key.1) (map text_and_numbers (cond of_kind (k ∷ keys_of LinkId ks) (keys_of LinkId ks)))
+    go true rest = (all.0.below, rest)
+    go false rest = rest
+
+pub link_keys_below : (t : Table) (p : List ℕ) → IsWellFormed t → p ≡ range_with_len 0 (length t.messages)
+    → AllByRecursion (λ (k : List ℕ × List ℕ). AllByRecursion (λ n. n < length p) k.1) (map text_and_numbers (keys_of LinkId t.keys))
+link_keys_below t p given single =
+    subst (λ (count : ℕ). AllByRecursion (λ (k : List ℕ × List ℕ). AllByRecursion (λ n. n < count) k.1) (map text_and_numbers (keys_of LinkId t.keys)))
+    (sym (ap length single ∙ length-range_with_len 0 (length t.messages))) (keys_below (length t.messages) t.keys given.keys)
+
+share_is_link : (m n : ℕ) (ks : List Key) → list_any (λ (k : List ℕ × List ℕ). is_among m k.1 && is_among n k.1) (map text_and_numbers ks) ≡ list_any (λ (k : Key). is_among m k.numbers && is_among n k.numbers) ks
+share_is_link m n [] = refl
+share_is_link m n (k ∷ ks) = ap (λ (b : Bool). (is_among m k.numbers && is_among n k.numbers) || b) (share_is_link m n ks)
+
+-- ---- trees that are joined by all link ids are threads
+
+along : (t : Table) (label : ℕ → ℕ) → ((m n : ℕ) → are_linked t m n ≡ true → label m ≡ label n) → (m n : ℕ) (path : List ℕ) → IsPath t m path n → label m ≡ label n
+along t label links m n [] here = ap label here
+along t label links m n (l ∷ path) given = links m l given.0 ∙ along t label links l n path given.1
+
+pub threads_told : (t : Table) (p q r : List ℕ) → p ≡ range_with_len 0 (length t.messages) → Unites (ShareKey (map text_and_numbers (keys_of LinkId t.keys))) p q → Shortens q r
+    → ((n : ℕ) → n < length q → get_or r (get_or r n 0) 0 ≡ get_or r n 0) → TellsThreads t r
+threads_told t p q r single joins short flat = record {
+  long = long;
+  back = short.back (joins.back (single_back p (length t.messages) single));
+  same = λ m n m_within n_within. (
+      λ (same : get_or r m 0 ≡ get_or r n 0).
+      through t m (get_or r n 0) n (subst (IsInThread t m) same (stays m (omega (arith, long, m_within)))) (back_again t n (get_or r n 0) (stays n (omega (arith, long, n_within)))),
+      λ (path : IsInThread t m n). along t root linked m n path.0 path.1);
+}
+  where
+    root : ℕ → ℕ
+    root n = get_or r n 0
+    first_long : length p ≡ length t.messages
+    first_long = ap length single ∙ length-range_with_len 0 (length t.messages)
+    long : length r ≡ length t.messages
+    long = short.long ∙ joins.long ∙ first_long
+    stays : StaysInThreads t r
+    stays = short.threads t (joins.threads t (λ m n share. by_link t m n (sym (share_is_link m n (keys_of LinkId t.keys)) ∙ share)) (λ n lt. subst (IsInThread t n) (sym (at_single p (length t.messages) n single lt)) (itself t n)))
+    labels : LabelsTrees root r
+    labels = λ n lt. flat n (omega (arith, lt, short.long))
+    linked : (m n : ℕ) → are_linked t m n ≡ true → root m ≡ root n
+    linked m n link = joins.united m n (share_is_link m n (keys_of LinkId t.keys) ∙ link) root (short.labels root labels)
+
+-- ---- membership
+
+below : (P : ℕ → Type 0) (ns : List ℕ) (n : ℕ) → All P ns → is_among n ns ≡ true → P n
+below P [] n all among = absurd (cc among)
+below P (m ∷ ns) n all among =
+    elim (or_cases (nat_eq n m) (is_among n ns) among) [
+      | inl this ↦ subst P (sym (eqb-true n m this)) (all zero 0 (omega arith))
+      | inr behind ↦ below P ns n (λ k d lt. all (suc k) d (omega (arith, lt))) behind
+    ]
+
+-- some number has the value
+some_from_any : (value : ℕ → ℕ) (r : ℕ) (ns : List ℕ) → list_any (λ n. nat_eq r (value n)) ns ≡ true → (m : ℕ) × (is_among m ns ≡ true) × (r ≡ value m)
+some_from_any value r [] any = absurd (cc any)
+some_from_any value r (n ∷ ns) any =
+    elim (or_cases (nat_eq r (value n)) (list_any (λ m. nat_eq r (value m)) ns) any) [
+      | inl this ↦ (n, or_left (nat_eq n n) (is_among n ns) (eq-eqb n n refl), eqb-true r (value n) this)
+      | inr behind ↦
+          let later = some_from_any value r ns behind in
+          (later.0, or_right (nat_eq later.0 n) (is_among later.0 ns) later.1, later.2)
+    ]
+
+any_from_some : (value : ℕ → ℕ) (r m : ℕ) (ns : List ℕ) → is_among m ns ≡ true → r ≡ value m → list_any (λ n. nat_eq r (value n)) ns ≡ true
+any_from_some value r m [] among same = absurd (cc among)
+any_from_some value r m (n ∷ ns) among same =
+    elim (or_cases (nat_eq m n) (is_among m ns) among) [
+      | inl this ↦ or_left (nat_eq r (value n)) (list_any (λ k. nat_eq r (value k)) ns) (eq-eqb r (value n) (same ∙ ap value (eqb-true m n this)))
+      | inr behind ↦ or_right (nat_eq r (value n)) (list_any (λ k. nat_eq r (value k)) ns) (any_from_some value r m ns behind same)
+    ]
+
+-- ---- the numbers that pass a test
+
+lower : (a b : ℕ) (ns : List ℕ) → a ≤ b → RisesFrom b ns → RisesFrom a ns
+lower a b [] le rises = tt
+lower a b (n ∷ ns) le rises = let first : b ≤ n = rises.0 in (omega arith, rises.1)
+
+pub passed_rise : (test : ℕ → Bool) (a count : ℕ) → RisesFrom a (filter test (range_with_len a count))
+passed_rise test a zero = tt
+passed_rise test a (suc count) = go (test a) (subst (λ (b : ℕ). RisesFrom b (filter test (range_with_len (a + 1) count))) (add-one a) (passed_rise test (a + 1) count))
+  where
+    go : (passes : Bool) → RisesFrom (suc a) (filter test (range_with_len (a + 1) count)) → RisesFrom a (cond passes (a ∷ filter test (range_with_len (a + 1) count)) (filter test (range_with_len (a + 1) count)))
+    go true rest = (omega arith, rest)
+    go false rest = lower a (suc a) (filter test (range_with_len (a + 1) count)) (omega arith) rest
+
+pub from_passed : (test : ℕ → Bool) (a count n : ℕ) → is_among n (filter test (range_with_len a count)) ≡ true → (n < a + count) × (test n ≡ true)
+from_passed test a zero n among = absurd (cc among)
+from_passed test a (suc count) n among = go (test a) refl (λ behind. from_passed test (a + 1) count n behind) among
+  where
+    go : (passes : Bool) → test a ≡ passes → (is_among n (filter test (range_with_len (a + 1) count)) ≡ true → (n < a + 1 + count) × (test n ≡ true))
+        → is_among n (cond passes (a ∷ filter test (range_with_len (a + 1) count)) (filter test (range_with_len (a + 1) count))) ≡ true → (n < a + suc count) × (test n ≡ true)
+    go true here rest given =
+        elim (or_cases (nat_eq n a) (is_among n (filter test (range_with_len (a + 1) count))) given) [
+          | inl this ↦ let same : n ≡ a = eqb-true n a this in (omega (arith, same), ap test same ∙ here)
+          | inr behind ↦ let later : (n < a + 1 + count) × (test n ≡ true) = rest behind in (omega (arith, later.0), later.1)
+        ]
+    go false here rest given = let later : (n < a + 1 + count) × (test n ≡ true) = rest given in (omega (arith, later.0), later.1)
+
+pub to_passed : (test : ℕ → Bool) (a count n : ℕ) → a ≤ n → n < a + count → test n ≡ true → is_among n (filter test (range_with_len a count)) ≡ true
+to_passed test a zero n low high passes = absurd (omega (arith, low, high))
+to_passed test a (suc count) n low high passes = go (test a) refl (λ behind. to_passed test (a + 1) count n behind (omega (arith, high)) passes)
+  where
+    go : (first : Bool) → test a ≡ first → (a + 1 ≤ n → is_among n (filter test (range_with_len (a + 1) count)) ≡ true)
+        → is_among n (cond first (a ∷ filter test (range_with_len (a + 1) count)) (filter test (range_with_len (a + 1) count))) ≡ true
+    go true here rest =
+        elim (eqb_tells n a) [
+          | inl this ↦ or_left (nat_eq n a) (is_among n (filter test (range_with_len (a + 1) count))) this.0
+          | inr other ↦ or_right (nat_eq n a) (is_among n (filter test (range_with_len (a + 1) count))) (rest (omega (arith, other.1, low)))
+        ]
+    go false here rest = rest (bigger low)
+      where
+        bigger : a ≤ n → a + 1 ≤ n
+        bigger le = elim (eqb_tells n a) [
+          | inl this ↦ absurd (cc (here, passes, this.1))
+          | inr other ↦ omega (arith, other.1, le)
+        ]
+
+-- ---- those whose root is the root of one of these are their threads
+
+pub chosen_threads : (t : Table) (numbers roots marks members : List ℕ) (test : ℕ → Bool) → TellsThreads t roots → All (λ n. n < length t.messages) numbers
+    → ((r : ℕ) → r < length t.messages → test r ≡ list_any (λ n. nat_eq r (get_or roots n 0)) numbers)
+    → members ≡ filter (λ n. test (get_or roots n 0)) (range_with_len 0 (length roots)) → AreThreads t numbers members
+chosen_threads t numbers roots marks members test tells within marked are =
+    subst (AreThreads t numbers) (sym are) record {
+      rises = passed_rise (λ n. test (get_or roots n 0)) 0 (length roots);
+      each = λ n. (
+          λ (among : is_among n (filter (λ k. test (get_or roots k 0)) (range_with_len 0 (length roots))) ≡ true). forth n (from_passed (λ k. test (get_or roots k 0)) 0 (length roots) n among),
+          λ (given : (n < length t.messages) × IsInThreadOfSome t numbers n). to_passed (λ k. test (get_or roots k 0)) 0 (length roots) n (omega arith) (omega (arith, given.0, tells.long)) (back n given));
+    }
+  where
+    root : ℕ → ℕ
+    root n = get_or roots n 0
+    root_within : (n : ℕ) → n < length t.messages → root n < length t.messages
+    root_within n lt = let low : root n ≤ n = tells.back n (omega (arith, lt, tells.long)) in omega (arith, lt, low)
+    forth : (n : ℕ) → (n < 0 + length roots) × (test (root n) ≡ true) → (n < length t.messages) × IsInThreadOfSome t numbers n
+    forth n passed =
+        let lt : n < length t.messages = omega (arith, passed.0, tells.long) in
+        let some : (m : ℕ) × (is_among m numbers ≡ true) × (root n ≡ root m) = some_from_any root (root n) numbers (sym (marked (root n) (root_within n lt)) ∙ passed.1) in
+        (lt, (some.0, some.1, (tells.same some.0 n (below (λ k. k < length t.messages) numbers some.0 within some.1) lt).0 (sym some.2)))
+    back : (n : ℕ) → (n < length t.messages) × IsInThreadOfSome t numbers n → test (root n) ≡ true
+    back n given =
+        let m_within : given.1.0 < length t.messages = below (λ k. k < length t.messages) numbers given.1.0 within given.1.1 in
+        marked (root n) (root_within n given.0) ∙ any_from_some root (root n) given.1.0 numbers given.1.1 (sym ((tells.same given.1.0 n m_within given.0).1 given.1.2))
+
+-- ---- without links, or without numbers, they are themselves
+
+path_without : (t : Table) (m n : ℕ) (path : List ℕ) → keys_of LinkId t.keys ≡ [] → IsPath t m path n → m ≡ n
+path_without t m n [] none here = here
+path_without t m n (l ∷ path) none given =
+    absurd (cc (sym given.0 ∙ ap (λ (ks : List Key). list_any (λ (k : Key). is_among m k.numbers && is_among l k.numbers) ks) none))
+
+pub threads_without : (t : Table) (numbers : List ℕ) → (keys_of LinkId t.keys ≡ []) ⊎ (numbers ≡ []) → RisesFrom 0 numbers → All (λ n. n < length t.messages) numbers → AreThreads t numbers numbers
+threads_without t numbers none rises within = record {
+  rises = rises;
+  each = λ n. (
+      λ (among : is_among n numbers ≡ true). (below (λ k. k < length t.messages) numbers n within among, (n, among, itself t n)),
+      λ (given : (n < length t.messages) × IsInThreadOfSome t numbers n).
+      elim none [
+        | inl links ↦ subst (λ (k : ℕ). is_among k numbers ≡ true) (path_without t given.1.0 n given.1.2.0 links given.1.2.1) given.1.1
+        | inr empty ↦ absurd (cc (sym given.1.1 ∙ ap (is_among given.1.0) empty))
+      ]);
+}
