@@ -1,14 +1,14 @@
 -- Trees that are threads, and the messages that are chosen by their roots.
-use Rattle.std.proofs.Common.{◌≡◌, ◌≢◌, ◌∙◌, ◌+◌, ◌<◌, ◌≤◌, ℕ, zero, suc, Bool, true, false, cond, nat_eq, ◌&&◌, ◌||◌, ◌↔◌, ◌⊎◌, List, [], ◌∷◌, length, map, get_or, take, inl, inr, refl, sym, ap, subst, arith, eq-eqb, add-one}
+use Rattle.std.proofs.Common.{◌≡◌, ◌≢◌, ◌∙◌, ◌+◌, ◌<◌, ◌≤◌, ℕ, zero, suc, Bool, true, false, cond, nat_eq, ◌&&◌, ◌||◌, ◌↔◌, ◌⊎◌, List, [], ◌∷◌, length, map, get_or, take, inl, inr, refl, sym, ap, subst, arith, eq-eqb, add-one, Result, Ok, Err, IfOk}
 use Rattle.std.specs.List.{All, AllByRecursion, filter, list_any, range_with_len}
-use Rattle.std.proofs.lemmas.List.FromFn.{get_or-range_with_len, length-range_with_len}
+use Rattle.std.proofs.lemmas.List.FromFn.{get_or-range_with_len, length-range_with_len, length-map-range_with_len, get_or-map-range_with_len}
 use Rattle.std.proofs.lemmas.Bool.{eqb-true, or_cases, or_left, or_right}
 use Rattle.std.proofs.lemmas.Bool.Decides.{eqb_tells}
 use Rattle.mail_index.specs.declared.kind.Kind.TheVariants.{LinkId}
 use Rattle.mail_index.specs.Tables.{Table, Key, IsKey, IsWellFormed, RisesFrom}
 use Rattle.mail_index.specs.LookUps.{is_of_kind, keys_of, text_and_numbers}
 use Rattle.mail_answer.specs.TableFacts.{is_among}
-use Rattle.mail_answer.specs.Marks.{truth_at}
+use Rattle.mail_answer.specs.Marks.{truth_at, each_number}
 use Rattle.mail_answer.specs.Threads.{are_linked, IsPath, IsInThread, IsInThreadOfSome, AreThreads}
 use Rattle.mail_answer.specs.Forests.{LeadsBack, StaysInThreads, LabelsTrees, Shortens, Unites, ShareKey, TellsThreads}
 use Rattle.mail_answer.proofs.ThreadLemmas.{itself, by_link, through, back_again}
@@ -149,10 +149,10 @@ to_passed test a (suc count) n low high passes = go (test a) refl (λ behind. to
 
 -- ---- those whose root is the root of one of these are their threads
 
-pub chosen_threads : (t : Table) (numbers roots marks members : List ℕ) (test : ℕ → Bool) → TellsThreads t roots → All (λ n. n < length t.messages) numbers
+pub chosen_threads : (t : Table) (numbers roots members : List ℕ) (test : ℕ → Bool) → TellsThreads t roots → All (λ n. n < length t.messages) numbers
     → ((r : ℕ) → r < length t.messages → test r ≡ list_any (λ n. nat_eq r (get_or roots n 0)) numbers)
     → members ≡ filter (λ n. test (get_or roots n 0)) (range_with_len 0 (length roots)) → AreThreads t numbers members
-chosen_threads t numbers roots marks members test tells within marked are =
+chosen_threads t numbers roots members test tells within marked are =
     subst (AreThreads t numbers) (sym are) record {
       rises = passed_rise (λ n. test (get_or roots n 0)) 0 (length roots);
       each = λ n. (
@@ -192,3 +192,33 @@ threads_without t numbers none rises within = record {
         | inr empty ↦ absurd (cc (sym given.1.1 ∙ ap (is_among given.1.0) empty))
       ]);
 }
+
+-- ---- what the calls answered
+
+pub ok_then : {A E : Type 0} (r : Result A E) (P Q : A → Type 0) → IfOk r P → ((v : A) → P v → Q v) → IfOk r Q
+ok_then (Ok v) P Q given next = next v given
+ok_then (Err e) P Q given next = tt
+
+pub empty_is : (xs : List ℕ) → length xs ≡ 0 → xs ≡ []
+empty_is [] long = refl
+empty_is (x ∷ xs) long = absurd (omega (arith, long))
+
+pub no_keys : (ks : List Key) → (0 < length ks → ⊥) → ks ≡ []
+no_keys [] none = refl
+no_keys (k ∷ ks) none = absurd (none (omega arith))
+
+-- each root has its place in the marks
+pub root_has_mark : (t : Table) (roots : List ℕ) (marks : List Bool) (test : ℕ → Bool) → TellsThreads t roots → marks ≡ each_number (length t.messages) test → (n : ℕ) → n < length roots → get_or roots n 0 < length marks
+root_has_mark t roots marks test tells are n lt =
+    let low : get_or roots n 0 ≤ n = tells.back n lt in
+    let long : length marks ≡ length t.messages = ap length are ∙ length-map-range_with_len test 0 (length t.messages) in
+    omega (arith, lt, low, long, tells.long)
+
+pub chosen_by_marks : (t : Table) (numbers roots members : List ℕ) (marks : List Bool) → TellsThreads t roots → All (λ n. n < length t.messages) numbers
+    → marks ≡ each_number (length t.messages) (λ r. list_any (λ n. nat_eq r (get_or roots n 0)) numbers)
+    → members ≡ filter (λ n. truth_at marks (get_or roots n 0)) (range_with_len 0 (length roots)) → AreThreads t numbers members
+chosen_by_marks t numbers roots members marks tells within marked are =
+    chosen_threads t numbers roots members (truth_at marks) tells within
+    (λ r lt.
+    ap (λ (xs : List Bool). truth_at xs r) marked ∙ get_or-map-range_with_len (λ k. list_any (λ n. nat_eq k (get_or roots n 0)) numbers) 0 (length t.messages) r r false lt (omega arith))
+    are
