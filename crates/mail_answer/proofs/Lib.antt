@@ -9,3 +9,5 @@ pub mod ThreadLemmas
 pub mod ForestLemmas
 pub mod JoinLemmas
 pub mod RootLemmas
+pub mod OneThreadList
+mod RowsThreads

@@ -1,6 +1,6 @@
 -- Trees that are threads, and the messages that are chosen by their roots.
 use Rattle.std.proofs.Common.{◌≡◌, ◌≢◌, ◌∙◌, ◌+◌, ◌<◌, ◌≤◌, ℕ, zero, suc, Bool, true, false, cond, nat_eq, ◌&&◌, ◌||◌, ◌↔◌, ◌⊎◌, List, [], ◌∷◌, length, map, get_or, take, inl, inr, refl, sym, ap, subst, arith, eq-eqb, add-one, Result, Ok, Err, IfOk}
-use Rattle.std.specs.List.{All, AllByRecursion, filter, list_any, range_with_len}
+use Rattle.std.specs.List.{AllByRecursion, filter, list_any, range_with_len}
 use Rattle.std.proofs.lemmas.List.FromFn.{get_or-range_with_len, length-range_with_len, length-map-range_with_len, get_or-map-range_with_len}
 use Rattle.std.proofs.lemmas.Bool.{eqb-true, or_cases, or_left, or_right}
 use Rattle.std.proofs.lemmas.Bool.Decides.{eqb_tells}
@@ -74,12 +74,12 @@ threads_told t p q r single joins short flat = record {
 
 -- ---- membership
 
-below : (P : ℕ → Type 0) (ns : List ℕ) (n : ℕ) → All P ns → is_among n ns ≡ true → P n
+below : (P : ℕ → Type 0) (ns : List ℕ) (n : ℕ) → AllByRecursion P ns → is_among n ns ≡ true → P n
 below P [] n all among = absurd (cc among)
 below P (m ∷ ns) n all among =
     elim (or_cases (nat_eq n m) (is_among n ns) among) [
-      | inl this ↦ subst P (sym (eqb-true n m this)) (all zero 0 (omega arith))
-      | inr behind ↦ below P ns n (λ k d lt. all (suc k) d (omega (arith, lt))) behind
+      | inl this ↦ subst P (sym (eqb-true n m this)) all.0
+      | inr behind ↦ below P ns n all.1 behind
     ]
 
 -- some number has the value
@@ -149,7 +149,7 @@ to_passed test a (suc count) n low high passes = go (test a) refl (λ behind. to
 
 -- ---- those whose root is the root of one of these are their threads
 
-pub chosen_threads : (t : Table) (numbers roots members : List ℕ) (test : ℕ → Bool) → TellsThreads t roots → All (λ n. n < length t.messages) numbers
+pub chosen_threads : (t : Table) (numbers roots members : List ℕ) (test : ℕ → Bool) → TellsThreads t roots → AllByRecursion (λ n. n < length t.messages) numbers
     → ((r : ℕ) → r < length t.messages → test r ≡ list_any (λ n. nat_eq r (get_or roots n 0)) numbers)
     → members ≡ filter (λ n. test (get_or roots n 0)) (range_with_len 0 (length roots)) → AreThreads t numbers members
 chosen_threads t numbers roots members test tells within marked are =
@@ -181,7 +181,7 @@ path_without t m n [] none here = here
 path_without t m n (l ∷ path) none given =
     absurd (cc (sym given.0 ∙ ap (λ (ks : List Key). list_any (λ (k : Key). is_among m k.numbers && is_among l k.numbers) ks) none))
 
-pub threads_without : (t : Table) (numbers : List ℕ) → (keys_of LinkId t.keys ≡ []) ⊎ (numbers ≡ []) → RisesFrom 0 numbers → All (λ n. n < length t.messages) numbers → AreThreads t numbers numbers
+pub threads_without : (t : Table) (numbers : List ℕ) → (keys_of LinkId t.keys ≡ []) ⊎ (numbers ≡ []) → RisesFrom 0 numbers → AllByRecursion (λ n. n < length t.messages) numbers → AreThreads t numbers numbers
 threads_without t numbers none rises within = record {
   rises = rises;
   each = λ n. (
@@ -214,7 +214,7 @@ root_has_mark t roots marks test tells are n lt =
     let long : length marks ≡ length t.messages = ap length are ∙ length-map-range_with_len test 0 (length t.messages) in
     omega (arith, lt, low, long, tells.long)
 
-pub chosen_by_marks : (t : Table) (numbers roots members : List ℕ) (marks : List Bool) → TellsThreads t roots → All (λ n. n < length t.messages) numbers
+pub chosen_by_marks : (t : Table) (numbers roots members : List ℕ) (marks : List Bool) → TellsThreads t roots → AllByRecursion (λ n. n < length t.messages) numbers
     → marks ≡ each_number (length t.messages) (λ r. list_any (λ n. nat_eq r (get_or roots n 0)) numbers)
     → members ≡ filter (λ n. truth_at marks (get_or roots n 0)) (range_with_len 0 (length roots)) → AreThreads t numbers members
 chosen_by_marks t numbers roots members marks tells within marked are =

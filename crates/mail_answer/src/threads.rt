@@ -1,6 +1,6 @@
 //! The threads of messages: what link ids lead to.
 ghost use Rattle.std.specs.Prelude.{◌≡◌, ◌<◌, ◌^◌, ◌↔◌, ℕ, nat_eq, length, filter, slice_index, IfOk, IsTrue};
-ghost use Rattle.std.specs.List.{All, list_any, range_with_len};
+ghost use Rattle.std.specs.List.{All, AllByRecursion, list_any, range_with_len};
 ghost use Rattle.mail_index.specs.Tables.{IsWellFormed, RisesFrom};
 ghost use Rattle.mail_index.specs.declared.kind.Kind.TheVariants.{LinkId};
 ghost use Rattle.mail_index.specs.LookUps.{keys_of};
@@ -103,7 +103,7 @@ pub fn with_threads(
 ) -> Result<Vec<u32>, AllocError>
     requires table { IsWellFormed index.now }
     requires rises { RisesFrom 0 numbers.now }
-    requires within { All (λ n. n < length index.now.messages) numbers.now }
+    requires within { AllByRecursion (λ n. n < length index.now.messages) numbers.now }
     ensures { IfOk result (λ v. AreThreads index.now numbers.now v.items) }
 {
     if numbers.is_empty() || !has_links(index) {

@@ -1,6 +1,7 @@
-use Rattle.std.proofs.Common.{◌≡◌, ◌∙◌, ◌<◌, ◌⊎◌, ℕ, Bool, nat_eq, List, [], length, get_or, inl, inr, sym, ap, subst}
+use Rattle.std.proofs.Common.{◌≡◌, ◌∙◌, ◌<◌, ◌⊎◌, ℕ, Bool, nat_eq, List, [], length, get_or, inl, inr, sym, ap, subst, arith}
 use Rattle.std.specs.List.{list_any}
 use Rattle.std.proofs.lemmas.Bool.{eqb-true}
+use Rattle.std.proofs.lemmas.List.Elements.{All-from_recursion}
 use Rattle.mail_index.specs.declared.kind.Kind.TheVariants.{LinkId}
 use Rattle.mail_index.specs.LookUps.{keys_of}
 use Rattle.mail_answer.specs.Marks.{each_number}
@@ -19,6 +20,11 @@ returns-then-is_empty c =
     ] in
     ok_then c.from_slice.result (λ v. v.items ≡ c.args.numbers.now) (λ v. AreThreads c.args.index.now c.args.numbers.now v.items) c.from_slice.ensures.items
     (λ v same. subst (AreThreads c.args.index.now c.args.numbers.now) (sym same) (threads_without c.args.index.now c.args.numbers.now none c.requires.rises c.requires.within))
+
+pub root_marks-requires-clause-within : goal.root_marks-requires-clause-within
+root_marks-requires-clause-within c = λ k d lt.
+    let within : get_or c.args.numbers.now k d < length c.args.index.now.messages = All-from_recursion (λ n. n < length c.args.index.now.messages) c.args.numbers.now c.requires.within k d lt in
+    omega (arith, ap length c.as_slice.ensures.value, c.in_ok-roots.ensures.long)
 
 pub with_marked_root-requires-clause-marked : goal.with_marked_root-requires-clause-marked
 with_marked_root-requires-clause-marked c =
