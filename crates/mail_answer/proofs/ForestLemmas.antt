@@ -1,11 +1,11 @@
 -- Trees of messages that get shorter, and are joined.
-use Rattle.std.proofs.Common.{◌≡◌, ◌≢◌, ◌∙◌, ◌+◌, ◌<◌, ◌≤◌, ℕ, Bool, true, List, length, get_or, inl, inr, refl, sym, ap, subst, arith}
+use Rattle.std.proofs.Common.{◌≡◌, ◌≢◌, ◌∙◌, ◌+◌, ◌<◌, ◌≤◌, ℕ, List, length, get_or, inl, inr, refl, sym, ap, subst, arith}
 use Rattle.std.proofs.Math.ListN.{set, length-set}
 use Rattle.std.proofs.lemmas.List.{get_or-set_same, get_or-set_other}
 use Rattle.std.proofs.lemmas.Bool.Decides.{eqb_tells}
 use Rattle.mail_index.specs.Tables.{Table}
 use Rattle.mail_answer.specs.Threads.{IsInThread}
-use Rattle.mail_answer.specs.Forests.{LeadsBack, StaysInThreads, LabelsTrees, AreInOneTree, Shortens, Unites}
+use Rattle.mail_answer.specs.Forests.{LeadsBack, StaysInThreads, LabelsTrees, Shortens}
 use Rattle.mail_answer.proofs.ThreadLemmas.{through}
 
 -- ---- one parent is exchanged
@@ -127,10 +127,13 @@ flat_more p q i r back lt value after flat n within =
   where
     before_it : n ≢ i → n < i
     before_it other = omega (arith, other, within)
+
     low : get_or p i 0 ≤ i
     low = back i lt
+
     lower : get_or p i 0 ≢ i → get_or p i 0 < i
     lower other = let bound : get_or p i 0 ≤ i = low in omega (arith, other, bound)
+
     at_root : get_or (set p i r) r 0 ≡ r
     at_root = elim (eqb_tells r i) [
       | inl this ↦ same_there p i r r lt this.1

@@ -1,14 +1,12 @@
 -- Trees of messages that become one.
-use Rattle.std.proofs.Common.{◌≡◌, ◌≢◌, ◌∙◌, ◌+◌, ◌<◌, ◌≤◌, ℕ, Bool, true, nat_eq, ◌&&◌, ◌||◌, List, [], ◌∷◌, length, get_or, inl, inr, refl, sym, ap, subst, arith, eq-eqb}
+use Rattle.std.proofs.Common.{◌≡◌, ◌∙◌, ◌<◌, ◌≤◌, ℕ, true, nat_eq, ◌&&◌, List, [], ◌∷◌, length, get_or, inl, inr, refl, sym, ap, eq-eqb}
 use Rattle.std.specs.List.{list_any}
 use Rattle.std.proofs.Math.ListN.{set, length-set}
-use Rattle.std.proofs.lemmas.List.{get_or-set_same, get_or-set_other}
 use Rattle.std.proofs.lemmas.Bool.{eqb-true, or_cases, or_left, or_right, and_parts, and_from}
-use Rattle.std.proofs.lemmas.Bool.Decides.{eqb_tells}
 use Rattle.mail_index.specs.Tables.{Table}
 use Rattle.mail_answer.specs.TableFacts.{is_among}
 use Rattle.mail_answer.specs.Threads.{IsInThread}
-use Rattle.mail_answer.specs.Forests.{LeadsBack, StaysInThreads, LabelsTrees, AreInOneTree, Shortens, Unites, AreBothAmong, ShareKey}
+use Rattle.mail_answer.specs.Forests.{StaysInThreads, LabelsTrees, Shortens, Unites, AreBothAmong, ShareKey}
 use Rattle.mail_answer.proofs.ThreadLemmas.{through, back_again}
 use Rattle.mail_answer.proofs.ForestLemmas.{still_back, still_threads, still_labels, label_there}
 

@@ -1,5 +1,5 @@
 -- The list of the threads of messages is one: what is asked of it leaves no choice.
-use Rattle.std.proofs.Common.{◌≡◌, ◌∙◌, ◌≤◌, ℕ, suc, Bool, true, nat_eq, List, [], ◌∷◌, inl, inr, refl, sym, ap, subst, arith, eq-eqb}
+use Rattle.std.proofs.Common.{◌≡◌, ◌∙◌, ◌≤◌, ℕ, suc, true, nat_eq, List, [], ◌∷◌, inl, inr, refl, ap, subst, arith, eq-eqb}
 use Rattle.std.proofs.lemmas.Bool.{eqb-true, or_cases, or_left, or_right}
 use Rattle.mail_index.specs.Tables.{Table, RisesFrom}
 use Rattle.mail_answer.specs.TableFacts.{is_among}

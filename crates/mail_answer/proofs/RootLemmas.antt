@@ -1,5 +1,5 @@
 -- Trees that are threads, and the messages that are chosen by their roots.
-use Rattle.std.proofs.Common.{◌≡◌, ◌≢◌, ◌∙◌, ◌+◌, ◌<◌, ◌≤◌, ℕ, zero, suc, Bool, true, false, cond, nat_eq, ◌&&◌, ◌||◌, ◌↔◌, ◌⊎◌, List, [], ◌∷◌, length, map, get_or, take, inl, inr, refl, sym, ap, subst, arith, eq-eqb, add-one, Result, Ok, Err, IfOk}
+use Rattle.std.proofs.Common.{◌≡◌, ◌∙◌, ◌+◌, ◌<◌, ◌≤◌, ℕ, zero, suc, Bool, true, false, cond, nat_eq, ◌&&◌, ◌||◌, ◌⊎◌, List, [], ◌∷◌, length, map, get_or, inl, inr, refl, sym, ap, subst, arith, eq-eqb, add-one, Result, Ok, Err, IfOk}
 use Rattle.std.specs.List.{AllByRecursion, filter, list_any, range_with_len}
 use Rattle.std.proofs.lemmas.List.FromFn.{get_or-range_with_len, length-range_with_len, length-map-range_with_len, get_or-map-range_with_len}
 use Rattle.std.proofs.lemmas.Bool.{eqb-true, or_cases, or_left, or_right}
@@ -54,21 +54,27 @@ threads_told t p q r single joins short flat = record {
   long = long;
   back = short.back (joins.back (single_back p (length t.messages) single));
   same = λ m n m_within n_within. (
-      λ (same : get_or r m 0 ≡ get_or r n 0).
-      through t m (get_or r n 0) n (subst (IsInThread t m) same (stays m (omega (arith, long, m_within)))) (back_again t n (get_or r n 0) (stays n (omega (arith, long, n_within)))),
-      λ (path : IsInThread t m n). along t root linked m n path.0 path.1);
+    λ (same : get_or r m 0 ≡ get_or r n 0).
+        through t m (get_or r n 0) n (subst (IsInThread t m) same (stays m (omega (arith, long, m_within)))) (back_again t n (get_or r n 0) (stays n (omega (arith, long, n_within)))),
+    λ (path : IsInThread t m n). along t root linked m n path.0 path.1,
+  );
 }
   where
     root : ℕ → ℕ
     root n = get_or r n 0
+
     first_long : length p ≡ length t.messages
     first_long = ap length single ∙ length-range_with_len 0 (length t.messages)
+
     long : length r ≡ length t.messages
     long = short.long ∙ joins.long ∙ first_long
+
     stays : StaysInThreads t r
     stays = short.threads t (joins.threads t (λ m n share. by_link t m n (sym (share_is_link m n (keys_of LinkId t.keys)) ∙ share)) (λ n lt. subst (IsInThread t n) (sym (at_single p (length t.messages) n single lt)) (itself t n)))
+
     labels : LabelsTrees root r
     labels = λ n lt. flat n (omega (arith, lt, short.long))
+
     linked : (m n : ℕ) → are_linked t m n ≡ true → root m ≡ root n
     linked m n link = joins.united m n (share_is_link m n (keys_of LinkId t.keys) ∙ link) root (short.labels root labels)
 
@@ -156,19 +162,23 @@ chosen_threads t numbers roots members test tells within marked are =
     subst (AreThreads t numbers) (sym are) record {
       rises = passed_rise (λ n. test (get_or roots n 0)) 0 (length roots);
       each = λ n. (
-          λ (among : is_among n (filter (λ k. test (get_or roots k 0)) (range_with_len 0 (length roots))) ≡ true). forth n (from_passed (λ k. test (get_or roots k 0)) 0 (length roots) n among),
-          λ (given : (n < length t.messages) × IsInThreadOfSome t numbers n). to_passed (λ k. test (get_or roots k 0)) 0 (length roots) n (omega arith) (omega (arith, given.0, tells.long)) (back n given));
+        λ (among : is_among n (filter (λ k. test (get_or roots k 0)) (range_with_len 0 (length roots))) ≡ true). forth n (from_passed (λ k. test (get_or roots k 0)) 0 (length roots) n among),
+        λ (given : (n < length t.messages) × IsInThreadOfSome t numbers n). to_passed (λ k. test (get_or roots k 0)) 0 (length roots) n (omega arith) (omega (arith, given.0, tells.long)) (back n given),
+      );
     }
   where
     root : ℕ → ℕ
     root n = get_or roots n 0
+
     root_within : (n : ℕ) → n < length t.messages → root n < length t.messages
     root_within n lt = let low : root n ≤ n = tells.back n (omega (arith, lt, tells.long)) in omega (arith, lt, low)
+
     forth : (n : ℕ) → (n < 0 + length roots) × (test (root n) ≡ true) → (n < length t.messages) × IsInThreadOfSome t numbers n
     forth n passed =
         let lt : n < length t.messages = omega (arith, passed.0, tells.long) in
         let some : (m : ℕ) × (is_among m numbers ≡ true) × (root n ≡ root m) = some_from_any root (root n) numbers (sym (marked (root n) (root_within n lt)) ∙ passed.1) in
         (lt, (some.0, some.1, (tells.same some.0 n (below (λ k. k < length t.messages) numbers some.0 within some.1) lt).0 (sym some.2)))
+
     back : (n : ℕ) → (n < length t.messages) × IsInThreadOfSome t numbers n → test (root n) ≡ true
     back n given =
         let m_within : given.1.0 < length t.messages = below (λ k. k < length t.messages) numbers given.1.0 within given.1.1 in
@@ -185,12 +195,13 @@ pub threads_without : (t : Table) (numbers : List ℕ) → (keys_of LinkId t.key
 threads_without t numbers none rises within = record {
   rises = rises;
   each = λ n. (
-      λ (among : is_among n numbers ≡ true). (below (λ k. k < length t.messages) numbers n within among, (n, among, itself t n)),
-      λ (given : (n < length t.messages) × IsInThreadOfSome t numbers n).
-      elim none [
-        | inl links ↦ subst (λ (k : ℕ). is_among k numbers ≡ true) (path_without t given.1.0 n given.1.2.0 links given.1.2.1) given.1.1
-        | inr empty ↦ absurd (cc (sym given.1.1 ∙ ap (is_among given.1.0) empty))
-      ]);
+    λ (among : is_among n numbers ≡ true). (below (λ k. k < length t.messages) numbers n within among, (n, among, itself t n)),
+    λ (given : (n < length t.messages) × IsInThreadOfSome t numbers n).
+        elim none [
+          | inl links ↦ subst (λ (k : ℕ). is_among k numbers ≡ true) (path_without t given.1.0 n given.1.2.0 links given.1.2.1) given.1.1
+          | inr empty ↦ absurd (cc (sym given.1.1 ∙ ap (is_among given.1.0) empty))
+        ],
+  );
 }
 
 -- ---- what the calls answered

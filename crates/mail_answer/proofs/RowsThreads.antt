@@ -1,7 +1,6 @@
 -- Rows: threads of a table of six messages, whose keys are link ids alone.
-use Rattle.std.specs.Prelude.{◌≡◌, true, false, [], ◌∷◌, None, codes, refl}
+use Rattle.std.specs.Prelude.{◌≡◌, true, false, [], ◌∷◌, codes, refl}
 use Rattle.mail_index.specs.declared.kind.Kind.TheVariants.{OwnId, LinkId}
-use Rattle.mail_index.specs.declared.record.Record.{Record}
 use Rattle.mail_index.specs.Tables.{Table}
 use Rattle.mail_answer.specs.TableFacts.{no_record}
 use Rattle.mail_answer.specs.Threads.{are_linked, IsInThread, IsInThreadOfSome}

@@ -1,5 +1,5 @@
 -- Messages in trees: to each message its parent, which is itself or stands before it. A root is its own parent.
-use Rattle.std.specs.Prelude.{◌≡◌, ℕ, ◌<◌, ◌≤◌, IsTrue, ◌↔◌, Bool, ◌&&◌, List, length, slice_index}
+use Rattle.std.specs.Prelude.{◌≡◌, ℕ, ◌<◌, ◌≤◌, IsTrue, ◌↔◌, ◌&&◌, List, length, slice_index}
 use Rattle.std.specs.List.{list_any}
 use Rattle.mail_index.specs.Tables.{Table}
 use Rattle.mail_answer.specs.TableFacts.{is_among}

@@ -1,5 +1,5 @@
 use Rattle.std.proofs.Common.{◌<◌, ℕ, List, length, arith}
-use Rattle.mail_answer.specs.Forests.{LeadsBack, Shortens}
+use Rattle.mail_answer.specs.Forests.{LeadsBack}
 use Rattle.mail_answer.proofs.ForestLemmas.{unchanged, shorter_still, lifted_to, flat_none, flat_more}
 use Rattle.mail_answer.proofs.forest.flatten.Goals as goal
 

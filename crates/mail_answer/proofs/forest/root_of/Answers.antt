@@ -1,4 +1,4 @@
-use Rattle.std.proofs.Common.{◌≡◌, ◌∙◌, ◌<◌, ◌≤◌, ℕ, List, length, get_or, refl, arith}
+use Rattle.std.proofs.Common.{◌∙◌, ◌<◌, ◌≤◌, ℕ, List, length, get_or, refl, arith}
 use Rattle.mail_answer.specs.Forests.{LeadsBack, Shortens}
 use Rattle.mail_answer.proofs.ThreadLemmas.{itself, through}
 use Rattle.mail_answer.proofs.ForestLemmas.{unchanged, shorter_still, lifted_to, lifted_before, lifted_label, lifted_thread}

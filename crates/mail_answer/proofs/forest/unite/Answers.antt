@@ -1,5 +1,4 @@
-use Rattle.std.proofs.Common.{◌≡◌, ◌∙◌, ◌<◌, ◌≤◌, length, sym, arith}
-use Rattle.mail_answer.specs.Forests.{Shortens}
+use Rattle.std.proofs.Common.{◌∙◌, sym, arith}
 use Rattle.mail_answer.proofs.ThreadLemmas.{back_again}
 use Rattle.mail_answer.proofs.ForestLemmas.{shorter_still}
 use Rattle.mail_answer.proofs.JoinLemmas.{hung, roots_linked}

@@ -1,4 +1,4 @@
-use Rattle.std.proofs.Common.{◌≡◌, ◌<◌, ℕ, List, [], ◌∷◌, length, sym, subst, arith}
+use Rattle.std.proofs.Common.{◌≡◌, ◌<◌, ℕ, List, [], ◌∷◌, length, sym, subst}
 use Rattle.std.specs.List.{AllByRecursion}
 use Rattle.mail_answer.specs.Forests.{Unites, AreBothAmong}
 use Rattle.mail_answer.proofs.JoinLemmas.{united_one, united_more}

@@ -1,1 +1,0 @@
-use Rattle.mail_answer.proofs.threads.mark_roots.Goals as goal
