@@ -61,6 +61,15 @@ fn root_marks(
     Ok(marks)
 }
 
+/// Whether the root of the message is marked.
+fn has_marked_root(number: usize, roots: &[u32], marks: &[bool]) -> bool
+    requires within { number < length roots.now }
+    requires marked { slice_index roots.now number < length marks.now }
+    ensures { result ≡ truth_at marks.now (slice_index roots.now number) }
+{
+    marks[roots[number] as usize]
+}
+
 /// The numbers of the messages whose roots are marked, rising.
 fn with_marked_root(alloc: Global, roots: &[u32], marks: &[bool]) -> Result<Vec<u32>, AllocError>
     requires few { length roots.now < 2 ^ 32 }
@@ -68,9 +77,9 @@ fn with_marked_root(alloc: Global, roots: &[u32], marks: &[bool]) -> Result<Vec<
     ensures { IfOk result (λ v. v.items ≡ filter (λ n. truth_at marks.now (slice_index roots.now n)) (range_with_len 0 (length roots.now))) }
 {
     let mut numbers = Vec::new(alloc);
-    for (n, root) in roots.iter().enumerate() {
-        if marks[*root as usize] {
-            numbers.push(n as u32)?;
+    for number in 0..roots.len() {
+        if has_marked_root(number, roots, marks) {
+            numbers.push(number as u32)?;
         }
     }
     Ok(numbers)
