@@ -9,5 +9,6 @@ pub mod ThreadLemmas
 pub mod ForestLemmas
 pub mod JoinLemmas
 pub mod RootLemmas
+pub mod ChosenThreads
 pub mod OneThreadList
 mod RowsThreads

@@ -45,7 +45,7 @@ AreBothAmong numbers m n = IsTrue (is_among m numbers) × IsTrue (is_among n num
 abbrev pub ShareKey : List (List ℕ × List ℕ) → ℕ → ℕ → Type 0
 ShareKey keys m n = IsTrue (list_any (λ k. is_among m k.1 && is_among n k.1) keys)
 
--- to each message the first one of its thread that stands for it: two messages have the same where they are in one thread
+-- to each message the one that stands for its thread: two messages have the same exactly where they are in one thread
 pub record TellsThreads (t : Table) (roots : List ℕ) : Type 0 where
   pub long : length roots ≡ length t.messages
   pub back : LeadsBack roots

@@ -15,7 +15,7 @@ abbrev pub IsPath : Table → ℕ → List ℕ → ℕ → Type 0
 IsPath t m [] n = m ≡ n
 IsPath t m (l ∷ path) n = IsTrue (are_linked t m l) × IsPath t l path n
 
--- the thread of the first message has the second: it is the same, or stands at the end of a path of links
+-- the second message is in the thread of the first: it is the same, or stands at the end of a path of links from it
 abbrev pub IsInThread : Table → ℕ → ℕ → Type 0
 IsInThread t m n = (path : List ℕ) × IsPath t m path n
 

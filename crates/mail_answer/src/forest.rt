@@ -1,6 +1,7 @@
 //! Messages in trees, which are joined until each tree is a thread.
 //!
-//! A slice has each message's parent: a message before it in its thread, or, of a root, itself.
+//! A slice has each message's parent: a message before it in its thread, or, of a root, itself. Ways to a root are halved whenever
+//! they are walked; so, without ranks, a link takes on the whole no more steps than the number of messages has digits, up to a factor.
 ghost use Rattle.std.specs.Prelude.{◌≡◌, ℕ, ◌<◌, ◌≤◌, length, slice_index, slice_set, IfOk};
 ghost use Rattle.std.specs.List.{range_with_len, AllByRecursion};
 ghost use Rattle.mail_index.specs.Tables.{Table};
@@ -21,7 +22,7 @@ pub(crate) fn single_messages(alloc: Global, count: u32) -> Result<Vec<u32>, All
     Ok(parents)
 }
 
-/// Makes its parent's parent a message's parent, and answers it.
+/// Makes a message the child of its parent's parent, which is answered.
 fn lift(parents: &mut [u32], number: usize) -> u32
     requires back { LeadsBack parents.old }
     requires within { number < length parents.old }
@@ -51,7 +52,7 @@ fn root_of(parents: &mut [u32], number: u32) -> u32
     root
 }
 
-/// Makes the trees of two messages one.
+/// Makes the trees of two messages one: the later root is hung at the earlier one.
 fn unite(parents: &mut [u32], number: u32, other: u32)
     requires back { LeadsBack parents.old }
     requires within { number < length parents.old }

@@ -13,7 +13,7 @@ use crate::marks::same_truths;
 use mail_index::{IndexView, Kind, Steps};
 use std::alloc::{AllocError, Global};
 
-/// Joins the trees of single messages by all link ids, until each message's parent tells its thread.
+/// Joins single messages by all link ids, until to each stands the message that stands for its thread.
 fn join_threads(roots: &mut [u32], index: &IndexView<'_>)
     requires table { IsWellFormed index.now }
     requires single { roots.old ≡ range_with_len 0 (length index.now.messages) }
@@ -24,7 +24,7 @@ fn join_threads(roots: &mut [u32], index: &IndexView<'_>)
     flatten(roots);
 }
 
-/// For each message one of its thread, the same for all messages of the thread.
+/// For each message the one that stands for its thread, the same for all messages of the thread.
 fn thread_roots(alloc: Global, index: &IndexView<'_>) -> Result<Vec<u32>, AllocError>
     requires { IsWellFormed index.now }
     ensures { IfOk result (λ v. TellsThreads index.now v.items) }
@@ -34,7 +34,7 @@ fn thread_roots(alloc: Global, index: &IndexView<'_>) -> Result<Vec<u32>, AllocE
     Ok(roots)
 }
 
-/// Makes the roots of these messages true.
+/// Marks the roots of these messages.
 fn mark_roots(numbers: &[u32], roots: &[u32], marks: &mut [bool])
     requires within { All (λ n. n < length roots.now) numbers.now }
     requires marked { (n : ℕ) → n < length roots.now → slice_index roots.now n < length marks.old }
@@ -45,7 +45,7 @@ fn mark_roots(numbers: &[u32], roots: &[u32], marks: &mut [bool])
     }
 }
 
-/// Of each message whether it is the root of one of these.
+/// For each message whether it is the root of one of these.
 fn root_marks(
     alloc: Global,
     numbers: &[u32],
