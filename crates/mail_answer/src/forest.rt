@@ -1,7 +1,7 @@
 //! Messages in trees, which are joined until each tree is a thread.
 //!
 //! A slice has each message's parent: a message before it in its thread, or, of a root, itself. Ways to a root are halved whenever
-//! they are walked; so, without ranks, a link takes on the whole no more steps than the number of messages has digits, up to a factor.
+//! they are walked, which keeps the joining near linear without ranks.
 ghost use Rattle.std.specs.Prelude.{◌≡◌, ℕ, ◌<◌, ◌≤◌, length, slice_index, slice_set, IfOk};
 ghost use Rattle.std.specs.List.{range_with_len, AllByRecursion};
 ghost use Rattle.mail_index.specs.Tables.{Table};
