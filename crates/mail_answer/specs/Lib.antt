@@ -1,2 +1,4 @@
 pub mod TableFacts
 pub mod Marks
+pub mod Threads
+pub mod Forests

@@ -1,0 +1,39 @@
+-- Paths of links, one after another and back.
+use Rattle.std.proofs.Common.{◌≡◌, ◌∙◌, ℕ, Bool, true, ◌&&◌, ◌||◌, List, [], ◌∷◌, ◌++◌, refl, sym, ap, subst}
+use Rattle.std.specs.List.{list_any}
+use Rattle.std.proofs.Math.Bool.{and_comm}
+use Rattle.mail_index.specs.declared.kind.Kind.TheVariants.{LinkId}
+use Rattle.mail_index.specs.Tables.{Key, Table}
+use Rattle.mail_index.specs.LookUps.{keys_of}
+use Rattle.mail_answer.specs.TableFacts.{is_among}
+use Rattle.mail_answer.specs.Threads.{are_linked, IsPath, IsInThread}
+
+-- a key has both, whichever is named first
+both_turned : (m n : ℕ) (ks : List Key) → list_any (λ (k : Key). is_among m k.numbers && is_among n k.numbers) ks ≡ list_any (λ (k : Key). is_among n k.numbers && is_among m k.numbers) ks
+both_turned m n [] = refl
+both_turned m n (k ∷ ks) =
+    ap (λ (b : Bool). b || list_any (λ (key : Key). is_among m key.numbers && is_among n key.numbers) ks) (and_comm (is_among m k.numbers) (is_among n k.numbers))
+    ∙ ap (λ (b : Bool). (is_among n k.numbers && is_among m k.numbers) || b) (both_turned m n ks)
+
+linked_turned : (t : Table) (m n : ℕ) → are_linked t m n ≡ true → are_linked t n m ≡ true
+linked_turned t m n linked = both_turned n m (keys_of LinkId t.keys) ∙ linked
+
+pub itself : (t : Table) (n : ℕ) → IsInThread t n n
+itself t n = ([], refl)
+
+pub by_link : (t : Table) (m n : ℕ) → are_linked t m n ≡ true → IsInThread t m n
+by_link t m n linked = (n ∷ [], (linked, refl))
+
+path_joined : (t : Table) (l m n : ℕ) (front back : List ℕ) → IsPath t l front m → IsPath t m back n → IsPath t l (front ++ back) n
+path_joined t l m n [] back here rest = subst (λ (k : ℕ). IsPath t k back n) (sym here) rest
+path_joined t l m n (k ∷ front) back given rest = (given.0, path_joined t k m n front back given.1 rest)
+
+pub through : (t : Table) (l m n : ℕ) → IsInThread t l m → IsInThread t m n → IsInThread t l n
+through t l m n first rest = (first.0 ++ rest.0, path_joined t l m n first.0 rest.0 first.1 rest.1)
+
+turned_path : (t : Table) (m n : ℕ) (path : List ℕ) → IsPath t m path n → IsInThread t n m
+turned_path t m n [] here = ([], sym here)
+turned_path t m n (l ∷ path) given = through t n l m (turned_path t l n path given.1) (by_link t l m (linked_turned t m l given.0))
+
+pub back_again : (t : Table) (m n : ℕ) → IsInThread t m n → IsInThread t n m
+back_again t m n given = turned_path t m n given.0 given.1

@@ -1,0 +1,5 @@
+use Rattle.mail_answer.proofs.OneThreadList.{one_thread_list}
+use Rattle.mail_answer.proofs.laws.one_list_of_threads.Goals as goal
+
+pub returns : goal.returns
+returns c = one_thread_list

@@ -1,0 +1,7 @@
+use Rattle.std.proofs.Common.{◌≡◌, get_or}
+use Rattle.std.specs.List.{filter, range_with_len}
+use Rattle.mail_answer.specs.Marks.{truth_at}
+use Rattle.mail_answer.proofs.threads.with_marked_root.Given as goal
+
+abbrev pub invariant-loop-number : goal.invariant-loop-number
+invariant-loop-number l = l.numbers.items ≡ filter (λ n. truth_at l.marks (get_or l.roots n 0)) (range_with_len 0 l.number)
