@@ -4,4 +4,9 @@ pub mod Containing
 pub mod Adding
 pub mod MemberLemmas
 pub mod NodeQueries
+pub mod TruthReads
+pub mod CursorLists
+pub mod CursorScans
+pub mod CursorTurns
+pub mod CursorMembers
 mod RowsTableFacts

@@ -5,6 +5,7 @@ mod plain;
 
 pub use plain::plain_matches;
 
+mod cursor;
 mod fit;
 mod marks;
 mod records;
