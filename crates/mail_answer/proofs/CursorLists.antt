@@ -8,7 +8,7 @@ use Rattle.std.proofs.lemmas.Bool.{ltb-true, ltb-false, cases_lt, ne_eqb, eq-eqb
 use Rattle.mail_index.specs.Tables.{RisesFrom}
 use Rattle.mail_answer.specs.TableFacts.{is_among}
 use Rattle.mail_answer.specs.Marks.{truth_at, each_number}
-use Rattle.mail_answer.specs.Cursors.{Drops, IsFirst}
+use Rattle.mail_answer.specs.CursorAhead.{Drops, IsFirst}
 use Rattle.mail_answer.specs.CursorLists.{numbers_ahead, truths_among, AreNumbers, AreCut, is_before, first_of}
 use Rattle.mail_answer.proofs.TruthReads.{each-at, each-past}
 

@@ -5,7 +5,8 @@ use Rattle.std.proofs.Math.ListN.{set}
 use Rattle.std.proofs.lemmas.Bool.{cases_lt, both_ways, or_left, or_right, or_from, and_left, and_right, and_from}
 use Rattle.std.proofs.lemmas.List.{take_all, take_more, take_more_set, length-set, get_or-set_same, get_or-set_other}
 use Rattle.mail_answer.specs.Marks.{truth_at}
-use Rattle.mail_answer.specs.Cursors.{Ahead, both, one_or_other, common, united, left_in, levels, Drops, IsFirst, Reaches, Spends, lesser_of}
+use Rattle.mail_answer.specs.CursorAhead.{Ahead, both, one_or_other, common, united, left_in, levels, Drops, IsFirst, Reaches, Spends, lesser_of}
+use Rattle.mail_answer.specs.CursorTexts.{some_has}
 use Rattle.mail_answer.proofs.TruthReads.{both-at, one_or_other-at}
 use Rattle.mail_answer.proofs.CursorTurns.{first_from}
 
@@ -39,10 +40,6 @@ pub each_has : ℕ → List Ahead → Bool
 each_has m [] = true
 each_has m (w ∷ ws) = truth_at w.truths m && each_has m ws
 
-pub some_has : ℕ → List Ahead → Bool
-some_has m [] = false
-some_has m (w ∷ ws) = truth_at w.truths m || some_has m ws
-
 or_false : (b : Bool) → (b || false) ≡ b
 or_false true = refl
 or_false false = refl
@@ -64,7 +61,6 @@ and_assoc true b c = refl
 and_assoc false b c = refl
 
 pub united-at : (m : ℕ) (ws : List Ahead) → truth_at (united ws) m ≡ some_has m ws
-unfolding some_has
 united-at m [] = refl
 united-at m (w ∷ ws) = one_or_other-at w.truths (united ws) m ∙ ap (λ (b : Bool). truth_at w.truths m || b) (united-at m ws)
 
@@ -74,8 +70,7 @@ common-at m [] some = absurd (omega (arith, some))
 common-at m (w ∷ []) some = sym (and_true (truth_at w.truths m))
 common-at m (w ∷ v ∷ ws) some = both-at w.truths (common (v ∷ ws)) m ∙ ap (λ (b : Bool). truth_at w.truths m && b) (common-at m (v ∷ ws) (omega arith))
 
-some-append : (m : ℕ) (ws : List Ahead) (w : Ahead) → some_has m (ws ++ w ∷ []) ≡ (some_has m ws || truth_at w.truths m)
-unfolding some_has
+pub some-append : (m : ℕ) (ws : List Ahead) (w : Ahead) → some_has m (ws ++ w ∷ []) ≡ (some_has m ws || truth_at w.truths m)
 some-append m [] w = or_false (truth_at w.truths m)
 some-append m (v ∷ ws) w = ap (λ (b : Bool). truth_at v.truths m || b) (some-append m ws w) ∙ sym (or_assoc (truth_at v.truths m) (some_has m ws) (truth_at w.truths m))
 
@@ -134,7 +129,6 @@ pub record HaveDropped (n : ℕ) (old new : List Ahead) (least : Option ℕ) : T
   pub first : Firsts (λ m. some_has m new) least
 
 pub dropped_none : (n : ℕ) → HaveDropped n [] [] None
-unfolding some_has
 dropped_none n = record { rest = λ m le. refl; below = λ m lt. refl; first = λ m. refl }
 
 dropped_one : (n : ℕ) (old new : List Ahead) (least : Option ℕ) (w v : Ahead) (number : Option ℕ) → HaveDropped n old new least → Drops n w.truths v.truths → IsFirst v.truths number

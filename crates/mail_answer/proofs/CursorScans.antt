@@ -9,7 +9,7 @@ use Rattle.mail_query.specs.Truth.{is_true}
 use Rattle.mail_answer.specs.declared.cursor.scanned.Asked.{Asked}
 use Rattle.mail_answer.specs.TableFacts.{record_at, facts_of_record}
 use Rattle.mail_answer.specs.Marks.{truth_at, each_number}
-use Rattle.mail_answer.specs.Cursors.{Drops, IsFirst}
+use Rattle.mail_answer.specs.CursorAhead.{Drops, IsFirst}
 use Rattle.mail_answer.specs.CursorLists.{is_before}
 use Rattle.mail_answer.specs.CursorScans.{asked_query, satisfies, is_ahead, truths_scanned, IsFound, Scans}
 use Rattle.mail_answer.proofs.TruthReads.{each-at, each-past}

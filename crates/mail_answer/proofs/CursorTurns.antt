@@ -3,7 +3,7 @@ use Rattle.std.proofs.Common.{◌≡◌, ◌≢◌, ◌∙◌, ◌+◌, ◌<◌,
 use Rattle.std.specs.Prelude.{nat_le, MatchOption, min}
 use Rattle.std.proofs.lemmas.Bool.{cases_lt, both_ways, lt-leb, le-leb}
 use Rattle.mail_answer.specs.Marks.{truth_at, each_number}
-use Rattle.mail_answer.specs.Cursors.{Ahead, both, one_or_other, common, united, others, left_in, levels, Drops, IsFirst, Reaches, Spends, lesser_of}
+use Rattle.mail_answer.specs.CursorAhead.{Ahead, both, one_or_other, common, united, others, left_in, levels, Drops, IsFirst, Reaches, Spends, lesser_of}
 use Rattle.mail_answer.proofs.TruthReads.{each-at, each-past, both-at, one_or_other-at}
 
 -- ---- all others

@@ -9,4 +9,6 @@ pub mod CursorLists
 pub mod CursorScans
 pub mod CursorTurns
 pub mod CursorMembers
+pub mod CursorNumbers
+pub mod CursorTexts
 mod RowsTableFacts

@@ -4,7 +4,7 @@ use Rattle.std.specs.List.{range_with_len}
 use Rattle.std.proofs.lemmas.List.{get_or_past}
 use Rattle.std.proofs.lemmas.List.FromFn.{length-map-range_with_len, get_or-map-range_with_len}
 use Rattle.mail_answer.specs.Marks.{truth_at, each_number}
-use Rattle.mail_answer.specs.Cursors.{both, one_or_other}
+use Rattle.mail_answer.specs.CursorAhead.{both, one_or_other}
 
 pub each-at : (count : ℕ) (test : ℕ → Bool) (n : ℕ) → n < count → truth_at (each_number count test) n ≡ test n
 each-at count test n lt = get_or-map-range_with_len test 0 count n n false lt (omega arith)

@@ -2,7 +2,7 @@
 use Rattle.std.specs.Prelude.{◌≡◌, ◌≤◌, ◌+◌, ℕ, max, List, [], ◌∷◌}
 use Rattle.std.proofs.Common.{arith}
 use denote.Param.Weighed.{most}
-use Rattle.mail_answer.specs.Cursors.{Ahead, levels}
+use Rattle.mail_answer.specs.CursorAhead.{Ahead, levels}
 use Rattle.mail_answer.specs.CursorWalks.{ahead}
 use Rattle.mail_answer.specs.declared.cursor.walk.Node.{Node}
 use Rattle.mail_answer.specs.declared.cursor.walk.Node.TheVariants.{Listed, Scanned, Others, Common, United}

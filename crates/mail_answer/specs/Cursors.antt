@@ -1,74 +1,69 @@
--- What a walk through the messages of an index still gives, one truth a message.
-use Rattle.std.specs.Prelude.{◌≡◌, ℕ, ◌+◌, ◌<◌, ◌≤◌, nat_le, Bool, true, false, not, ◌&&◌, ◌||◌, max, List, [], ◌∷◌, length, map, filter, MatchOption, Option, Some, None, min}
-use Rattle.std.specs.List.{range_with_len}
-use Rattle.mail_answer.specs.Marks.{truth_at, each_number}
+-- What a cursor gives, and how many steps it may take.
+use Rattle.std.specs.Prelude.{◌≡◌, ℕ, ◌+◌, ◌*◌, ◌^◌, ◌<◌, ◌≤◌, Bool, false, bytes_eq, List, [], ◌∷◌, ◌++◌, length, map, filter}
+use Rattle.mail_index.specs.declared.kind.Kind.{Kind}
+use Rattle.mail_index.specs.declared.kind.Kind.TheVariants.{Text, OwnId, LinkId}
+use Rattle.mail_index.specs.Tables.{Key, Table}
+use Rattle.mail_index.specs.LookUps.{keys_of}
+use Rattle.mail_query.specs.declared.kinds.Kinds.{Kinds}
+use Rattle.mail_query.specs.Kinds.{has_kind}
+use Rattle.mail_query.specs.Query.{Query, Word, Part, Prefix, Not, All, Either, Queries, End, More}
+use Rattle.mail_query.specs.Truth.{text_kinds, contains_text, begins_with}
 
--- whether each message is still to come, how many steps are left at most, and how many levels lie below
-pub record Ahead : Type 0 where
-  pub truths : List Bool
+-- the rising numbers of the messages still to come, and how many steps are left at most
+pub record ToCome : Type 0 where
+  pub numbers : List ℕ
   pub left : ℕ
-  pub below : ℕ
 
--- the messages still to come in both lists
-abbrev pub both : List Bool → List Bool → List Bool
-both [] ys = []
-both (x ∷ xs) [] = []
-both (x ∷ xs) (y ∷ ys) = (x && y) ∷ both xs ys
+abbrev pub is_in : Kinds → Kind → Bool
+is_in kinds (Text kind) = has_kind kinds kind
+is_in kinds OwnId = kinds.own_id
+is_in kinds LinkId = false
 
--- those still to come in one list or the other
-abbrev pub one_or_other : List Bool → List Bool → List Bool
-one_or_other [] ys = ys
-one_or_other (x ∷ xs) [] = x ∷ xs
-one_or_other (x ∷ xs) (y ∷ ys) = (x || y) ∷ one_or_other xs ys
+-- the kinds of a set
+abbrev pub kinds_in : Kinds → List Kind
+kinds_in kinds = filter (is_in kinds) (map Text text_kinds ++ OwnId ∷ [])
 
--- those still to come in each of one or more walks
-abbrev pub common : List Ahead → List Bool
-common [] = []
-common (w ∷ []) = w.truths
-common (w ∷ v ∷ ws) = both w.truths (common (v ∷ ws))
+-- how long the lists of some keys are together
+abbrev pub numbers_of_keys : List Key → ℕ
+numbers_of_keys [] = 0
+numbers_of_keys (k ∷ ks) = length k.numbers + numbers_of_keys ks
 
--- those still to come in some walk
-abbrev pub united : List Ahead → List Bool
-united [] = []
-united (w ∷ ws) = one_or_other w.truths (united ws)
+-- those of the keys of one of these kinds whose texts pass
+abbrev pub numbers_named : (List ℕ → Bool) → List Key → List Kind → ℕ
+numbers_named passes keys [] = 0
+numbers_named passes keys (kind ∷ kinds) =
+    numbers_of_keys (filter (λ k. passes k.text) (keys_of kind keys)) + numbers_named passes keys kinds
 
--- of so many messages those from a number on that don't come in the walk
-abbrev pub others : ℕ → ℕ → List Bool → List Bool
-others count low truths = each_number count (λ n. nat_le low n && not (truth_at truths n))
+-- the most steps of a walk through the messages that satisfy a query: for each leaf that names texts the numbers of all keys that
+-- it names, and else one for each message
+abbrev mutual
+  pub most_left : Table → Query → ℕ
+  most_left t (Word kinds text) = numbers_named (bytes_eq text) t.keys (kinds_in kinds)
+  most_left t (Part kinds text) = numbers_named (contains_text text) t.keys (kinds_in kinds)
+  most_left t (Prefix kinds text) = numbers_named (begins_with text) t.keys (kinds_in kinds)
+  most_left t (Not q) = most_left t q
+  most_left t (All qs) = most_left_of_all t qs
+  most_left t (Either qs) = most_left_of_all t qs
+  most_left t _ = length t.messages
 
-abbrev pub left_in : List Ahead → ℕ
-left_in [] = 0
-left_in (w ∷ ws) = w.left + left_in ws
+  pub most_left_of_all : Table → Queries → ℕ
+  most_left_of_all t End = 0
+  most_left_of_all t (More q qs) = most_left t q + most_left_of_all t qs
 
--- one level more than the most below some walk
-abbrev pub levels : List Ahead → ℕ
-levels [] = 0
-levels (w ∷ ws) = max (w.below + 1) (levels ws)
+-- how many keys are looked up: one for each kind of each Word
+abbrev mutual
+  pub look_ups : Query → ℕ
+  look_ups (Word kinds text) = length (kinds_in kinds)
+  look_ups (Not q) = look_ups q
+  look_ups (All qs) = look_ups_of_all qs
+  look_ups (Either qs) = look_ups_of_all qs
+  look_ups _ = 0
 
--- those from n on stay, and those below are dropped
-pub record Drops (n : ℕ) (old new : List Bool) : Type 0 where
-  pub rest : (m : ℕ) → n ≤ m → truth_at new m ≡ truth_at old m
-  pub below : (m : ℕ) → m < n → truth_at new m ≡ false
+  pub look_ups_of_all : Queries → ℕ
+  look_ups_of_all End = 0
+  look_ups_of_all (More q qs) = look_ups q + look_ups_of_all qs
 
--- the number of the first that is still to come, if there is one
-abbrev pub IsFirst : List Bool → Option ℕ → Type 0
-IsFirst truths number =
-    MatchOption number ((m : ℕ) → truth_at truths m ≡ false)
-    (λ n. (truth_at truths n ≡ true) × ((m : ℕ) → m < n → truth_at truths m ≡ false))
-
--- the number of none that comes before the first from n on, which is n only where n itself is still to come
-abbrev pub Reaches : ℕ → List Bool → Option ℕ → Type 0
-Reaches n truths number =
-    MatchOption number ((m : ℕ) → truth_at truths m ≡ false)
-    (λ k. (n ≤ k) × ((m : ℕ) → m < k → truth_at truths m ≡ false) × (k ≡ n → truth_at truths n ≡ true))
-
--- the lesser of two numbers, as far as there are any
-abbrev pub lesser_of : Option ℕ → Option ℕ → Option ℕ
-lesser_of None other = other
-lesser_of (Some m) None = Some m
-lesser_of (Some m) (Some n) = Some (min m n)
-
--- the steps rose by at most what is left fewer
-pub record Spends (old_left new_left old_steps new_steps : ℕ) : Type 0 where
-  pub rises : old_steps ≤ new_steps
-  pub most : new_steps + new_left ≤ old_steps + old_left
+-- each look-up takes at most so many steps as the number of keys has binary digits
+pub record LooksUp (keys many old new : ℕ) : Type 0 where
+  pub rises : old ≤ new
+  pub most : (digits : ℕ) → keys < 2 ^ digits → new ≤ old + many * digits

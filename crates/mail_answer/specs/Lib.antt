@@ -1,7 +1,10 @@
 pub mod TableFacts
 pub mod Marks
+pub mod CursorAhead
 pub mod Cursors
 pub mod CursorLists
 pub mod CursorScans
+pub mod CursorTexts
+pub mod CursorNumbers
 pub mod CursorWalks
 pub mod CursorFalls

@@ -1,7 +1,7 @@
 //! The walk along a posting list.
 ghost use Rattle.std.specs.Prelude.{◌≡◌, ℕ, ◌-◌, ◌≤◌, length};
 ghost use Rattle.mail_index.specs.Steps.{add_steps};
-ghost use Rattle.mail_answer.specs.Cursors.{Drops, IsFirst, Spends};
+ghost use Rattle.mail_answer.specs.CursorAhead.{Drops, IsFirst, Spends};
 ghost use Rattle.mail_answer.specs.CursorLists.{numbers_ahead, truths_among, AreNumbers, AreCut, first_of, is_before as is_before_of};
 ghost use Rattle.mail_index.specs.Tables.{RisesFrom};
 
@@ -19,7 +19,7 @@ pub(crate) struct Listed<'a> {
 impl<'a> Model for Listed<'a> {
     ghost use Rattle.std.specs.Prelude.{length};
     ghost use Rattle.mail_answer.specs.CursorLists.{numbers_ahead, truths_among, AreNumbers};
-    ghost use Rattle.mail_answer.specs.Cursors.{Ahead};
+    ghost use Rattle.mail_answer.specs.CursorAhead.{Ahead};
 
     ghost Value = { Ahead };
 

@@ -3,7 +3,7 @@ ghost use Rattle.std.specs.Prelude.{◌≡◌, ◌-◌, ℕ, length};
 ghost use Rattle.mail_index.specs.Tables.{Table};
 ghost use Rattle.mail_query.specs.Truth.{is_true};
 ghost use Rattle.mail_answer.specs.TableFacts.{facts_of_record};
-ghost use Rattle.mail_answer.specs.Cursors.{Drops, IsFirst, Spends};
+ghost use Rattle.mail_answer.specs.CursorAhead.{Drops, IsFirst, Spends};
 ghost use Rattle.mail_answer.specs.CursorScans.{asked_query, satisfies, truths_scanned, IsFound, Scans};
 
 use crate::cursor::listed::is_before;
@@ -93,7 +93,7 @@ pub(crate) struct Scanned<'a> {
 impl<'a> Model for Scanned<'a> {
     ghost use Rattle.std.specs.Prelude.{◌-◌, length};
     ghost use Rattle.mail_answer.specs.CursorScans.{satisfies, truths_scanned, IsFound};
-    ghost use Rattle.mail_answer.specs.Cursors.{Ahead};
+    ghost use Rattle.mail_answer.specs.CursorAhead.{Ahead};
 
     ghost Value = { Ahead };
 

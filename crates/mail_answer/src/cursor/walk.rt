@@ -1,6 +1,6 @@
 //! The tree of walks.
 ghost use Rattle.std.specs.Prelude.{◌≡◌, ◌↔◌, ◌<◌, IsTrue, IfOk, length};
-ghost use Rattle.mail_answer.specs.Cursors.{Drops, IsFirst, Reaches, Spends, lesser_of, common, united, others, left_in, levels};
+ghost use Rattle.mail_answer.specs.CursorAhead.{Drops, IsFirst, Reaches, Spends, lesser_of, common, united, others, left_in, levels};
 
 use crate::cursor::listed::Listed;
 use crate::cursor::scanned::Scanned;
@@ -34,7 +34,7 @@ struct Others<'a> {
 }
 
 impl<'a> Model for Walk<'a> {
-    ghost use Rattle.mail_answer.specs.Cursors.{Ahead};
+    ghost use Rattle.mail_answer.specs.CursorAhead.{Ahead};
 
     ghost Value = { Ahead };
 

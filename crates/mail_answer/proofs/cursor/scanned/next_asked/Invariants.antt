@@ -1,5 +1,5 @@
 use Rattle.std.proofs.Common.{◌≡◌, ◌-◌, ◌<◌, ◌≤◌, ℕ, false, length}
-use Rattle.mail_answer.specs.Cursors.{Spends}
+use Rattle.mail_answer.specs.CursorAhead.{Spends}
 use Rattle.mail_answer.specs.CursorScans.{satisfies}
 use Rattle.mail_answer.proofs.cursor.scanned.next_asked.Given as goal
 
