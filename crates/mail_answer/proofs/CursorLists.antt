@@ -44,7 +44,7 @@ among_behind n m (k ∷ ks) rest le below =
     let other : nat_eq m k ≡ false = ne_eqb m k (omega (arith, below.0)) in
     among_behind n m ks rest le below.1 ∙ sym (ap (λ (b : Bool). b || is_among m (ks ++ rest)) other)
 
-past_all : (count m : ℕ) (ns : List ℕ) → count ≤ m → AllByRecursion (λ n. n < count) ns → is_among m ns ≡ false
+pub past_all : (count m : ℕ) (ns : List ℕ) → count ≤ m → AllByRecursion (λ n. n < count) ns → is_among m ns ≡ false
 past_all count m [] past below = refl
 past_all count m (n ∷ ns) past below =
     let other : nat_eq m n ≡ false = ne_eqb m n (omega (arith, below.0)) in

@@ -36,7 +36,7 @@ turn_steps ws i left0 steps0 steps steps1 w v lt is before now = record {
 
 -- ---- each and some
 
-pub each_has : ℕ → List Ahead → Bool
+unfoldable pub each_has : ℕ → List Ahead → Bool
 each_has m [] = true
 each_has m (w ∷ ws) = truth_at w.truths m && each_has m ws
 

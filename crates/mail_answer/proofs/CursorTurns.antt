@@ -8,7 +8,7 @@ use Rattle.mail_answer.proofs.TruthReads.{each-at, each-past, both-at, one_or_ot
 
 -- ---- all others
 
-others-from : (count low : ℕ) (xs : List Bool) (m : ℕ) → m < count → low ≤ m → truth_at (others count low xs) m ≡ not (truth_at xs m)
+pub others-from : (count low : ℕ) (xs : List Bool) (m : ℕ) → m < count → low ≤ m → truth_at (others count low xs) m ≡ not (truth_at xs m)
 others-from count low xs m lt le = each-at count (λ n. nat_le low n && not (truth_at xs n)) m lt ∙ ap (λ (b : Bool). b && not (truth_at xs m)) (le-leb low m le)
 
 others-before : (count low : ℕ) (xs : List Bool) (m : ℕ) → m < low → truth_at (others count low xs) m ≡ false
@@ -21,7 +21,7 @@ others-before count low xs m lt =
     not_le : (m low : ℕ) → m < low → nat_le low m ≡ false
     not_le m low lt = lt-leb low m lt
 
-others-past : (count low : ℕ) (xs : List Bool) (m : ℕ) → count ≤ m → truth_at (others count low xs) m ≡ false
+pub others-past : (count low : ℕ) (xs : List Bool) (m : ℕ) → count ≤ m → truth_at (others count low xs) m ≡ false
 others-past count low xs m past = each-past count (λ n. nat_le low n && not (truth_at xs n)) m past
 
 -- from n and low on, each number below this one has come in the walk, which is as it was from here on

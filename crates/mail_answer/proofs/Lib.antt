@@ -11,4 +11,5 @@ pub mod CursorTurns
 pub mod CursorMembers
 pub mod CursorNumbers
 pub mod CursorTexts
+pub mod CursorBegins
 mod RowsTableFacts

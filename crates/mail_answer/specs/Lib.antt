@@ -5,6 +5,7 @@ pub mod Cursors
 pub mod CursorLists
 pub mod CursorScans
 pub mod CursorTexts
+pub mod CursorBegins
 pub mod CursorNumbers
 pub mod CursorWalks
 pub mod CursorFalls

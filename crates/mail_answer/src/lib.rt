@@ -6,6 +6,9 @@ mod plain;
 pub use plain::plain_matches;
 
 mod cursor;
+
+pub use cursor::{Cursor, matches};
+
 mod fit;
 mod marks;
 mod records;
