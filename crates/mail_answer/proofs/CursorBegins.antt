@@ -1,5 +1,5 @@
 -- What the walks of queries tell, node by node.
-use Rattle.std.proofs.Common.{◌≡◌, ◌∙◌, ◌+◌, ◌*◌, ◌^◌, ◌<◌, ◌≤◌, ℕ, Bool, true, false, not, ◌&&◌, ◌||◌, List, [], ◌∷◌, ◌++◌, length, append_assoc, refl, sym, ap, subst, arith, inl, inr, Result, Ok, Err, IfOk, Vec, Global, rules, eqb}
+use Rattle.std.proofs.Common.{◌≡◌, ◌∙◌, ◌+◌, ◌*◌, ◌^◌, ◌<◌, ◌≤◌, ℕ, Bool, false, not, ◌&&◌, ◌||◌, List, [], ◌∷◌, ◌++◌, length, append_assoc, refl, sym, ap, subst, arith, inl, inr, Result, Ok, Err, IfOk, Vec, Global, rules, eqb}
 use Rattle.std.specs.Prelude.{Option, nat_le}
 use Rattle.std.proofs.Math.Nat.{add-mul}
 use Rattle.std.proofs.lemmas.Bool.{cases_lt, cases_order, both_ways, le-leb, eqb-false}
@@ -11,7 +11,7 @@ use Rattle.mail_query.specs.declared.node.Node.{Node, the_lemmas}
 use Rattle.mail_query.specs.Query.{Query, Date, Size, Not, All, Either, query_of, queries_of, members_of}
 use Rattle.mail_query.specs.Truth.{is_true, each_is_true, some_is_true}
 use Rattle.mail_answer.specs.TableFacts.{facts_at, truths, chosen_numbers}
-use Rattle.mail_answer.specs.Marks.{truth_at, each_number}
+use Rattle.mail_answer.specs.Marks.{truth_at}
 use Rattle.mail_answer.specs.Cursors.{most_left, most_left_of_all, look_ups, look_ups_of_all, LooksUp}
 use Rattle.mail_answer.specs.CursorAhead.{Ahead, common, united, others, left_in}
 use Rattle.mail_answer.specs.CursorTexts.{some_has}

@@ -1,13 +1,13 @@
 -- A posting list whose front is gone.
-use Rattle.std.proofs.Common.{◌≡◌, ◌∙◌, ◌+◌, ◌<◌, ◌≤◌, ℕ, zero, suc, Bool, true, false, ◌||◌, List, [], ◌∷◌, ◌++◌, length, append_assoc, Option, Some, None, refl, sym, ap, subst, arith, inl, inr}
-use Rattle.std.specs.Prelude.{nat_eq, nat_lt, MatchOption}
+use Rattle.std.proofs.Common.{◌≡◌, ◌∙◌, ◌<◌, ◌≤◌, ℕ, suc, Bool, true, false, ◌||◌, List, [], ◌∷◌, ◌++◌, length, append_assoc, Option, Some, None, refl, sym, ap, subst, arith, inl, inr}
+use Rattle.std.specs.Prelude.{nat_eq, MatchOption}
 use Rattle.std.specs.List.{AllByRecursion}
 use Rattle.std.specs.Option.{option_to_list}
 use Rattle.std.proofs.lemmas.List.{append-nil, length-append}
 use Rattle.std.proofs.lemmas.Bool.{ltb-true, ltb-false, cases_lt, ne_eqb, eq-eqb}
 use Rattle.mail_index.specs.Tables.{RisesFrom}
 use Rattle.mail_answer.specs.TableFacts.{is_among}
-use Rattle.mail_answer.specs.Marks.{truth_at, each_number}
+use Rattle.mail_answer.specs.Marks.{truth_at}
 use Rattle.mail_answer.specs.CursorAhead.{Drops, IsFirst}
 use Rattle.mail_answer.specs.CursorLists.{numbers_ahead, truths_among, AreNumbers, AreCut, is_before, first_of}
 use Rattle.mail_answer.proofs.TruthReads.{each-at, each-past}
@@ -127,6 +127,7 @@ cut_drops count n old new are cut =
 pub first_among : (count : ℕ) (ns : List ℕ) → AreNumbers count ns → IsFirst (truths_among count ns) (first_of ns)
 first_among count [] are = λ m. among-at count m [] are
 first_among count (n ∷ ns) are =
-    let this : nat_eq n n ≡ true = eq-eqb n n refl in
-    (among-at count n (n ∷ ns) are ∙ ap (λ (b : Bool). b || is_among n ns) this,
-    λ m lt. among-at count m (n ∷ ns) are ∙ not_below n m (n ∷ ns) lt (omega arith, are.rises.1))
+    let this : nat_eq n n ≡ true = eq-eqb n n refl in (
+      among-at count n (n ∷ ns) are ∙ ap (λ (b : Bool). b || is_among n ns) this,
+      λ m lt. among-at count m (n ∷ ns) are ∙ not_below n m (n ∷ ns) lt (omega arith, are.rises.1),
+    )

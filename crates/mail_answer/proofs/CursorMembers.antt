@@ -1,11 +1,11 @@
 -- What the members of a node have done, member by member.
-use Rattle.std.proofs.Common.{◌≡◌, ◌≢◌, ◌∙◌, ◌+◌, ◌<◌, ◌≤◌, ℕ, zero, suc, Bool, true, false, not, ◌&&◌, ◌||◌, max, List, [], ◌∷◌, ◌++◌, length, take, get_or, Option, Some, None, refl, sym, ap, subst, arith, inl, inr}
+use Rattle.std.proofs.Common.{◌≡◌, ◌≢◌, ◌∙◌, ◌+◌, ◌<◌, ◌≤◌, ℕ, zero, suc, Bool, true, false, ◌&&◌, ◌||◌, max, List, [], ◌∷◌, ◌++◌, length, take, get_or, Option, Some, None, refl, sym, ap, subst, arith, inl, inr}
 use Rattle.std.specs.Prelude.{MatchOption, min}
 use Rattle.std.proofs.Math.ListN.{set}
-use Rattle.std.proofs.lemmas.Bool.{cases_lt, both_ways, or_left, or_right, or_from, and_left, and_right, and_from}
+use Rattle.std.proofs.lemmas.Bool.{cases_lt, or_left, or_right, or_from, and_left, and_right, and_from}
 use Rattle.std.proofs.lemmas.List.{take_all, take_more, take_more_set, length-set, get_or-set_same, get_or-set_other}
 use Rattle.mail_answer.specs.Marks.{truth_at}
-use Rattle.mail_answer.specs.CursorAhead.{Ahead, both, one_or_other, common, united, left_in, levels, Drops, IsFirst, Reaches, Spends, lesser_of}
+use Rattle.mail_answer.specs.CursorAhead.{Ahead, common, united, left_in, levels, Drops, IsFirst, Reaches, Spends, lesser_of}
 use Rattle.mail_answer.specs.CursorTexts.{some_has}
 use Rattle.mail_answer.proofs.TruthReads.{both-at, one_or_other-at}
 use Rattle.mail_answer.proofs.CursorTurns.{first_from}

@@ -1,14 +1,14 @@
 -- A walk along records.
-use Rattle.std.proofs.Common.{◌≡◌, ◌≢◌, ◌∙◌, ◌+◌, ◌-◌, ◌<◌, ◌≤◌, ℕ, zero, suc, Bool, true, false, ◌&&◌, ◌||◌, max, List, [], ◌∷◌, length, Option, Some, None, refl, sym, ap, subst, arith, inl, inr}
-use Rattle.std.specs.Prelude.{nat_eq, nat_le, MatchOption, IfSome}
+use Rattle.std.proofs.Common.{◌≡◌, ◌≢◌, ◌∙◌, ◌<◌, ◌≤◌, ℕ, zero, suc, Bool, true, false, ◌&&◌, ◌||◌, max, List, [], ◌∷◌, Option, Some, None, refl, sym, ap, arith, inl, inr}
+use Rattle.std.specs.Prelude.{nat_le}
 use Rattle.std.specs.List.{slice_get}
-use Rattle.std.proofs.lemmas.Bool.{ltb-true, ltb-false, cases_lt, cases_order, ne_eqb, eq-eqb, lt-leb, le-leb, and_right}
+use Rattle.std.proofs.lemmas.Bool.{ltb-true, ltb-false, cases_lt, cases_order, ne_eqb, eq-eqb, lt-leb, le-leb}
 use Rattle.mail_index.specs.declared.record.Record.{Record}
 use Rattle.mail_index.specs.Tables.{Table}
 use Rattle.mail_query.specs.Truth.{is_true}
 use Rattle.mail_answer.specs.declared.cursor.scanned.Asked.{Asked}
 use Rattle.mail_answer.specs.TableFacts.{record_at, facts_of_record}
-use Rattle.mail_answer.specs.Marks.{truth_at, each_number}
+use Rattle.mail_answer.specs.Marks.{truth_at}
 use Rattle.mail_answer.specs.CursorAhead.{Drops, IsFirst}
 use Rattle.mail_answer.specs.CursorLists.{is_before}
 use Rattle.mail_answer.specs.CursorScans.{asked_query, satisfies, is_ahead, truths_scanned, IsFound, Scans}

@@ -1,5 +1,5 @@
 -- Walks along posting lists, list by list.
-use Rattle.std.proofs.Common.{◌≡◌, ◌∙◌, ◌+◌, ◌*◌, ◌^◌, ◌<◌, ◌≤◌, ℕ, zero, suc, Bool, true, false, cond, ◌&&◌, ◌||◌, List, [], ◌∷◌, ◌++◌, length, map, drop, get_or, refl, sym, ap, subst, arith, Result, Ok, Err, IfOk}
+use Rattle.std.proofs.Common.{◌≡◌, ◌∙◌, ◌+◌, ◌*◌, ◌^◌, ◌<◌, ◌≤◌, ℕ, suc, Bool, true, false, cond, ◌&&◌, ◌||◌, List, [], ◌∷◌, ◌++◌, length, map, drop, get_or, refl, sym, ap, subst, arith, Result, Ok, Err, IfOk}
 use Rattle.std.specs.Prelude.{bytes_eq}
 use Rattle.std.specs.List.{list_any, filter, AllByRecursion}
 use Rattle.std.proofs.Math.Nat.{add-mul, suc-mul}
@@ -17,7 +17,7 @@ use Rattle.mail_query.specs.Truth.{some_word, text_kinds}
 use Rattle.mail_answer.specs.declared.fit.Fit.{Fit}
 use Rattle.mail_answer.specs.declared.fit.Fit.TheVariants.{Whole, Within, Front}
 use Rattle.mail_answer.specs.TableFacts.{is_among, texts_with, facts_at}
-use Rattle.mail_answer.specs.Marks.{truth_at, some_key}
+use Rattle.mail_answer.specs.Marks.{truth_at}
 use Rattle.mail_answer.specs.Cursors.{is_in, kinds_in, numbers_of_keys, numbers_named, LooksUp}
 use Rattle.mail_answer.specs.CursorAhead.{Ahead, left_in}
 use Rattle.mail_answer.specs.CursorLists.{AreNumbers, truths_among}
@@ -174,7 +174,6 @@ times_suc n a d = ap (λ (x : ℕ). x * d) (suc-mul n a) ∙ add-mul (n * a) a d
 
 more_times : (n a d : ℕ) → (suc n * a) * d ≡ a * d + (n * a) * d
 more_times n a d = omega (arith, times_suc n a d)
-
 
 module _ (passes : List ℕ → Bool) (keys : List Key) (a : ℕ) (all : List Kind) (old : List Ahead) (steps0 : ℕ) where
   pub kinds_begin : HaveKinds passes keys a all all old old steps0 steps0

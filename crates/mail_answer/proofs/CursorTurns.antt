@@ -1,10 +1,10 @@
 -- What the walks of a tree have done, turn by turn.
-use Rattle.std.proofs.Common.{◌≡◌, ◌≢◌, ◌∙◌, ◌+◌, ◌<◌, ◌≤◌, ℕ, zero, suc, Bool, true, false, not, ◌&&◌, ◌||◌, max, List, [], ◌∷◌, ◌++◌, length, Option, Some, None, refl, sym, ap, subst, arith, inl, inr}
-use Rattle.std.specs.Prelude.{nat_le, MatchOption, min}
+use Rattle.std.proofs.Common.{◌≡◌, ◌≢◌, ◌∙◌, ◌+◌, ◌<◌, ◌≤◌, ℕ, Bool, true, false, not, ◌&&◌, max, List, Option, Some, None, refl, sym, ap, subst, arith, inl, inr}
+use Rattle.std.specs.Prelude.{nat_le}
 use Rattle.std.proofs.lemmas.Bool.{cases_lt, both_ways, lt-leb, le-leb}
-use Rattle.mail_answer.specs.Marks.{truth_at, each_number}
-use Rattle.mail_answer.specs.CursorAhead.{Ahead, both, one_or_other, common, united, others, left_in, levels, Drops, IsFirst, Reaches, Spends, lesser_of}
-use Rattle.mail_answer.proofs.TruthReads.{each-at, each-past, both-at, one_or_other-at}
+use Rattle.mail_answer.specs.Marks.{truth_at}
+use Rattle.mail_answer.specs.CursorAhead.{others, Drops, IsFirst}
+use Rattle.mail_answer.proofs.TruthReads.{each-at, each-past}
 
 -- ---- all others
 

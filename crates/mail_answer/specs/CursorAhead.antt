@@ -1,6 +1,5 @@
 -- What a walk through the messages of an index still gives, one truth a message.
-use Rattle.std.specs.Prelude.{◌≡◌, ℕ, ◌+◌, ◌<◌, ◌≤◌, nat_le, Bool, true, false, not, ◌&&◌, ◌||◌, max, List, [], ◌∷◌, length, map, filter, MatchOption, Option, Some, None, min}
-use Rattle.std.specs.List.{range_with_len}
+use Rattle.std.specs.Prelude.{◌≡◌, ℕ, ◌+◌, ◌<◌, ◌≤◌, nat_le, Bool, true, false, not, ◌&&◌, ◌||◌, max, List, [], ◌∷◌, MatchOption, Option, Some, None, min}
 use Rattle.mail_answer.specs.Marks.{truth_at, each_number}
 
 -- whether each message is still to come, how many steps are left at most, and how many levels lie below

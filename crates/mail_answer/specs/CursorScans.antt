@@ -1,5 +1,5 @@
 -- A walk along the records of the messages.
-use Rattle.std.specs.Prelude.{◌≡◌, ℕ, suc, ◌<◌, ◌≤◌, Bool, true, false, nat_le, ◌&&◌, ◌||◌, List, length, Option, IfSome, MatchOption}
+use Rattle.std.specs.Prelude.{◌≡◌, ℕ, suc, ◌<◌, ◌≤◌, Bool, true, false, nat_le, ◌&&◌, ◌||◌, List, Option, IfSome, MatchOption}
 use Rattle.std.specs.Option.{option_to_list}
 use Rattle.mail_index.specs.Tables.{Table}
 use Rattle.mail_query.specs.Query as query

@@ -1,9 +1,9 @@
 -- Walks along posting lists while they are gathered.
-use Rattle.std.specs.Prelude.{◌≡◌, ℕ, ◌+◌, ◌≤◌, Bool, false, ◌&&◌, ◌||◌, cond, List, [], ◌∷◌, length, filter}
+use Rattle.std.specs.Prelude.{◌≡◌, ℕ, ◌+◌, ◌≤◌, Bool, false, ◌||◌, cond, List, [], ◌∷◌, length, filter}
 use Rattle.std.specs.List.{list_any, AllByRecursion}
 use Rattle.mail_index.specs.declared.kind.Kind.{Kind}
 use Rattle.mail_index.specs.Tables.{Key}
-use Rattle.mail_answer.specs.TableFacts.{is_among, texts_with}
+use Rattle.mail_answer.specs.TableFacts.{texts_with}
 use Rattle.mail_index.specs.LookUps.{keys_of}
 use Rattle.mail_answer.specs.declared.fit.Fit.{Fit}
 use Rattle.mail_answer.specs.declared.fit.Fit.TheVariants.{Whole, Within, Front}

@@ -1,5 +1,5 @@
 -- How the nodes of a walk are seen.
-use Rattle.std.specs.Prelude.{ℕ, ◌+◌, ◌≤◌, List, [], ◌∷◌, max}
+use Rattle.std.specs.Prelude.{◌+◌}
 use Rattle.mail_answer.specs.CursorAhead.{Ahead, common, united, others, left_in, levels}
 use Rattle.mail_answer.specs.declared.cursor.walk.Node.{Node}
 use Rattle.mail_answer.specs.declared.cursor.walk.Node.TheVariants.{Listed, Scanned, Others, Common, United}

@@ -39,12 +39,7 @@ fn is_as_asked(asked: Asked, message: Record) -> bool
 }
 
 /// Looks at the records from the next one on, a step each, up to the first that is as asked.
-fn next_asked(
-    index: &IndexView<'_>,
-    asked: Asked,
-    next: &mut u32,
-    steps: &mut Steps,
-) -> Option<u32>
+fn next_asked(index: &IndexView<'_>, asked: Asked, next: &mut u32, steps: &mut Steps) -> Option<u32>
     ensures found { Scans (length index.now.messages) (satisfies index.now asked) next.old next.new result }
     ensures steps { Spends (length index.now.messages - next.old) (length index.now.messages - next.new) steps.old steps.new }
 {

@@ -1,11 +1,9 @@
-use Rattle.std.proofs.Common.{◌≡◌, ◌∙◌, ◌+◌, ◌<◌, ◌≤◌, ℕ, Bool, List, ◌∷◌, length, drop, refl, sym, ap, subst, arith, IfOk}
+use Rattle.std.proofs.Common.{◌∙◌, ◌+◌, ◌≤◌, ℕ, List, length, drop, sym, ap, subst, arith, IfOk}
 use Rattle.std.specs.Vec.{vec_len}
 use Rattle.std.proofs.lemmas.Bool.{eqb-true}
-use Rattle.mail_index.specs.Tables.{Table}
 use Rattle.mail_query.specs.declared.node.Node.{Node}
 use Rattle.mail_query.specs.Query as query
 use Rattle.mail_query.specs.Query.{Query, query_of, queries_of, members_of}
-use Rattle.mail_query.specs.Truth.{contains_text, begins_with}
 use Rattle.mail_query.proofs.NodeLemmas.{query_of-Flag, query_of-Not}
 use Rattle.mail_answer.specs.Marks.{fits}
 use Rattle.mail_answer.specs.declared.fit.Fit.TheVariants.{Whole, Within, Front}
@@ -13,7 +11,7 @@ use Rattle.mail_answer.specs.Cursors.{most_left}
 use Rattle.mail_answer.proofs.NodeQueries.{query_of-Any, query_of-Word, query_of-Part, query_of-Prefix, query_of-Either}
 use Rattle.mail_answer.proofs.MemberLemmas.{next_member, no_member}
 use Rattle.mail_answer.proofs.CursorTexts.{word_past}
-use Rattle.mail_answer.proofs.CursorBegins.{some_walk, tells_within, tells_chosen, query_of-Date, query_of-Size, query_of-All, tells_scan, tells_text, tells_not, tells_either, tells_common, tells_none, walks_begin, walks_more, walks_steps, walks_told, walks_left, walks_looks}
+use Rattle.mail_answer.proofs.CursorBegins.{some_walk, query_of-Date, query_of-Size, query_of-All, tells_scan, tells_text, tells_not, tells_either, tells_common, tells_none, walks_more, walks_steps, walks_told}
 use Rattle.mail_answer.proofs.cursor.begin.+begin.Goals as goal
 
 pub walk_of-returns-in-Any-clause-truths : goal.walk_of-returns-in-Any-clause-truths

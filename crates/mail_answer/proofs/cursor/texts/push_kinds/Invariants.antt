@@ -1,4 +1,4 @@
-use Rattle.std.proofs.Common.{length, drop}
+use Rattle.std.proofs.Common.{drop}
 use Rattle.std.specs.List.{filter}
 use Rattle.mail_answer.specs.Marks.{fits}
 use Rattle.mail_answer.specs.Cursors.{is_in, kinds_in}

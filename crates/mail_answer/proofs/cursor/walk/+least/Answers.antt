@@ -1,10 +1,9 @@
-use Rattle.std.proofs.Common.{◌≡◌, ◌∙◌, ◌<◌, ◌≤◌, ◌+◌, ◌*◌, refl, ℕ, Bool, List, Option, Some, None, length, take, get_or, sym, ap, subst, arith}
+use Rattle.std.proofs.Common.{◌≡◌, ◌∙◌, ◌<◌, ◌+◌, ◌*◌, refl, ℕ, List, length, get_or, subst, arith}
 use Rattle.std.proofs.lemmas.Bool.{both_ways}
-use Rattle.std.proofs.Math.ListN.{set}
-use Rattle.std.proofs.lemmas.List.{take_all, get_or_default, get_or-set_other, length-set}
-use Rattle.mail_answer.specs.CursorAhead.{Ahead, Drops, IsFirst, Reaches, Spends, lesser_of, common, united, others, left_in, levels}
-use Rattle.mail_answer.proofs.CursorTurns.{HasPassed, passed_same, passed_more, passed_drops, passed_first, passed_all, passed_none}
-use Rattle.mail_answer.proofs.CursorMembers.{below-levels, turn_steps, levels-set, spends_more, HaveDropped, HaveReached, dropped_none, dropped_more, dropped_drops, dropped_first, reached_none, reached_more, reached_drops, reached_number, ended_none, ended_drops, unvisited_more, whole_dropped, whole_reached}
+use Rattle.std.proofs.lemmas.List.{get_or_default}
+use Rattle.mail_answer.specs.CursorAhead.{Ahead, Drops, IsFirst, left_in}
+use Rattle.mail_answer.proofs.CursorTurns.{passed_same, passed_drops, passed_first, passed_all}
+use Rattle.mail_answer.proofs.CursorMembers.{below-levels, turn_steps, levels-set, dropped_none, dropped_more, dropped_drops, dropped_first, reached_none, reached_more, reached_drops, reached_number, ended_none, ended_drops, unvisited_more, whole_dropped, whole_reached}
 use Rattle.mail_answer.proofs.cursor.walk.+least.Goals as goal
 
 pub least_other-returns-then-not-is_number-clause-rest : goal.least_other-returns-then-not-is_number-clause-rest

@@ -1,5 +1,5 @@
-use Rattle.std.proofs.Common.{◌-◌, ◌^◌, ◌≡◌, ℕ, ◌+◌, ◌*◌, ◌<◌, ◌≤◌, length, take}
-use Rattle.mail_answer.specs.CursorAhead.{Drops, IsFirst, Spends, common, united, others, left_in, levels}
+use Rattle.std.proofs.Common.{◌-◌, ◌^◌, ◌≡◌, ◌+◌, ◌*◌, ◌<◌, length, take}
+use Rattle.mail_answer.specs.CursorAhead.{Spends, common, left_in, levels}
 use Rattle.mail_answer.proofs.CursorTurns.{HasPassed}
 use Rattle.mail_answer.proofs.CursorMembers.{HaveDropped, HaveReached, HasRisen}
 use Rattle.mail_answer.proofs.cursor.walk.+least.Given as goal

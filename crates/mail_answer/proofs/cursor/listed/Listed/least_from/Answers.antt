@@ -1,4 +1,4 @@
-use Rattle.std.proofs.Common.{◌≡◌, ◌∙◌, List, Bool, ℕ, sym, ap, subst, arith}
+use Rattle.std.proofs.Common.{List, Bool, ℕ, sym, ap, subst}
 use Rattle.mail_answer.specs.CursorAhead.{Ahead, Drops, IsFirst}
 use Rattle.mail_answer.specs.CursorLists.{numbers_ahead, truths_among, AreNumbers}
 use Rattle.mail_answer.proofs.CursorLists.{cut_numbers, cut_drops, first_among}
