@@ -9,6 +9,8 @@ mod cursor;
 
 pub use cursor::{Cursor, matches};
 
+#[cfg(test)]
+mod cursor_tests;
 mod fit;
 mod marks;
 mod records;
