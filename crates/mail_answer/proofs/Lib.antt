@@ -4,6 +4,14 @@ pub mod Containing
 pub mod Adding
 pub mod MemberLemmas
 pub mod NodeQueries
+pub mod TruthReads
+pub mod CursorLists
+pub mod CursorScans
+pub mod CursorTurns
+pub mod CursorMembers
+pub mod CursorNumbers
+pub mod CursorTexts
+pub mod CursorBegins
 mod RowsTableFacts
 pub mod ThreadLemmas
 pub mod ForestLemmas

@@ -2,3 +2,12 @@ pub mod TableFacts
 pub mod Marks
 pub mod Threads
 pub mod Forests
+pub mod CursorAhead
+pub mod Cursors
+pub mod CursorLists
+pub mod CursorScans
+pub mod CursorTexts
+pub mod CursorBegins
+pub mod CursorNumbers
+pub mod CursorWalks
+pub mod CursorFalls

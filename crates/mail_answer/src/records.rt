@@ -42,7 +42,7 @@ pub(crate) fn with_date(
 }
 
 /// Whether the size lies between these, both included; a `high` of None is no bound.
-fn lies_between(low: u64, high: Option<u64>, size: u64) -> bool
+pub(crate) fn lies_between(low: u64, high: Option<u64>, size: u64) -> bool
     ensures { result ≡ (nat_le low size && option_map_or (λ most. nat_le size most) high true) }
 {
     low <= size && high.is_none_or(|most| size <= most)
@@ -61,7 +61,7 @@ pub(crate) fn with_size(
 }
 
 /// Whether the flag is there as is wanted.
-fn is_as_wanted(flag: Flag, wanted: bool, flags: Flags) -> bool
+pub(crate) fn is_as_wanted(flag: Flag, wanted: bool, flags: Flags) -> bool
     ensures { result ≡ is_same wanted (has_flag flag flags) }
 {
     let has = match flag {

@@ -9,7 +9,7 @@ use std::test::Fail;
 // The index of one archive m.mbox with two messages. The first has the subject "hello", the text "hi" and the own id 1@x; it has 19
 // bytes of text and no date. The second has the subject "hello re", the text "high", the own id 2@x and the link id 1@x; it has 30
 // bytes of text and the second 1000, and was seen.
-const INDEX: &[u8] = b"MAIRIX\x0d\x0a\
+pub(crate) const INDEX: &[u8] = b"MAIRIX\x0d\x0a\
     \x00\x00\x00\x01\x00\x00\x00\x01\x00\x00\x00\x02\x00\x00\x00\x07\
     \x00\x00\x00\x00\x00\x00\x00\x12\x00\x00\x00\x00\x00\x00\x00\x16\x00\x00\x00\x00\x00\x00\x00\x09\
     \x00\x00\x00\x00\x00\x00\x00x\
@@ -34,7 +34,7 @@ const INDEX: &[u8] = b"MAIRIX\x0d\x0a\
     \x0d\x9ap\xf8\x9ds\xe3l\x84\x00OY\xad\xa24\xb4";
 
 // Patterns, each with the numbers of the messages that satisfy it.
-const CASES: [(&str, &[u32]); 14] = [
+pub(crate) const CASES: [(&str, &[u32]); 14] = [
     ("s:hello", &[0, 1]),
     ("s:~re", &[0]),
     ("s:hello,re", &[1]),

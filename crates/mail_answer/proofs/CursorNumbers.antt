@@ -1,0 +1,130 @@
+-- The numbers that a cursor gives.
+use Rattle.std.proofs.Common.{◌≡◌, ◌∙◌, ◌+◌, ◌<◌, ◌≤◌, ℕ, zero, suc, Bool, true, false, cond, ◌&&◌, max, List, [], ◌∷◌, ◌++◌, Option, Some, None, refl, sym, ap, subst, arith, inl, inr}
+use Rattle.std.specs.Prelude.{nat_le}
+use Rattle.std.specs.List.{filter, range_with_len, AllByRecursion}
+use Rattle.std.proofs.lemmas.List.{append-nil}
+use Rattle.std.proofs.lemmas.Bool.{cases_lt, lt-leb, le-leb, both_ways}
+use Rattle.mail_answer.specs.Marks.{truth_at}
+use Rattle.mail_answer.specs.CursorAhead.{Drops, IsFirst}
+use Rattle.mail_answer.specs.CursorNumbers.{numbers_from, AreWithin, TakesFirst, TakesFrom}
+
+pub filter_alike : (f g : ℕ → Bool) (a n : ℕ) → ((k : ℕ) → a ≤ k → k < a + n → f k ≡ g k) → filter f (range_with_len a n) ≡ filter g (range_with_len a n)
+filter_alike f g a zero same = refl
+filter_alike f g a (suc n) same =
+    ap (λ (b : Bool). cond b (a ∷ filter f (range_with_len (a + 1) n)) (filter f (range_with_len (a + 1) n))) (same a (omega arith) (omega arith))
+    ∙ ap (λ (ns : List ℕ). cond (g a) (a ∷ ns) ns) (filter_alike f g (a + 1) n (λ k le lt. same k (omega (arith, le)) (omega (arith, lt))))
+
+none_pass : (f : ℕ → Bool) (a n : ℕ) → ((k : ℕ) → a ≤ k → k < a + n → f k ≡ false) → filter f (range_with_len a n) ≡ []
+none_pass f a zero none = refl
+none_pass f a (suc n) none =
+    ap (λ (b : Bool). cond b (a ∷ filter f (range_with_len (a + 1) n)) (filter f (range_with_len (a + 1) n))) (none a (omega arith) (omega arith))
+    ∙ none_pass f (a + 1) n (λ k le lt. none k (omega (arith, le)) (omega (arith, lt)))
+
+skips : (f : ℕ → Bool) (a n : ℕ) → f a ≡ false → filter f (range_with_len a (suc n)) ≡ filter f (range_with_len (a + 1) n)
+skips f a n fails = ap (λ (b : Bool). cond b (a ∷ filter f (range_with_len (a + 1) n)) (filter f (range_with_len (a + 1) n))) fails
+
+takes : (f : ℕ → Bool) (a n : ℕ) → f a ≡ true → filter f (range_with_len a (suc n)) ≡ a ∷ filter f (range_with_len (a + 1) n)
+takes f a n holds = ap (λ (b : Bool). cond b (a ∷ filter f (range_with_len (a + 1) n)) (filter f (range_with_len (a + 1) n))) holds
+
+-- from a number on
+abbrev from : ℕ → (ℕ → Bool) → ℕ → Bool
+from low f n = nat_le low n && f n
+
+from-before : (low : ℕ) (f : ℕ → Bool) (n : ℕ) → n < low → from low f n ≡ false
+from-before low f n lt = ap (λ (b : Bool). b && f n) (lt-leb low n lt)
+
+from-behind : (low : ℕ) (f : ℕ → Bool) (n : ℕ) → low ≤ n → from low f n ≡ f n
+from-behind low f n le = ap (λ (b : Bool). b && f n) (le-leb low n le)
+
+first_of_range : (f : ℕ → Bool) (k a n : ℕ) → a ≤ k → k < a + n → f k ≡ true → ((m : ℕ) → m < k → f m ≡ false) → filter f (range_with_len a n) ≡ k ∷ filter (from (suc k) f) (range_with_len a n)
+first_of_range f k a zero le lt holds none = absurd (omega (arith, le, lt))
+first_of_range f k a (suc n) le lt holds none =
+    elim (cases_lt a k) [
+      | inl before ↦
+          let skip : filter (from (suc k) f) (range_with_len a (suc n)) ≡ filter (from (suc k) f) (range_with_len (a + 1) n) = skips (from (suc k) f) a n (from-before (suc k) f a (omega (arith, before))) in
+          skips f a n (none a before) ∙ first_of_range f k (a + 1) n (omega (arith, before)) (omega (arith, lt)) holds none ∙ ap (λ (ns : List ℕ). k ∷ ns) (sym skip)
+      | inr behind ↦
+          let same : a ≡ k = omega (arith, le, behind) in
+          let here : f a ≡ true = ap f same ∙ holds in
+          let skip : filter (from (suc k) f) (range_with_len a (suc n)) ≡ filter (from (suc k) f) (range_with_len (a + 1) n) = skips (from (suc k) f) a n (from-before (suc k) f a (omega (arith, same))) in
+          takes f a n here ∙ ap (λ (m : ℕ). m ∷ filter f (range_with_len (a + 1) n)) same
+          ∙ ap (λ (ns : List ℕ). k ∷ ns) (filter_alike f (from (suc k) f) (a + 1) n (λ m above below. sym (from-behind (suc k) f m (omega (arith, above, same)))) ∙ sym skip)
+    ]
+
+-- the numbers of a list of truths from a number on are those of what is left of it
+same_from : (n count : ℕ) (old new : List Bool) → Drops n old new → numbers_from n count old ≡ filter (truth_at new) (range_with_len 0 count)
+same_from n count old new drops = filter_alike (from n (truth_at old)) (truth_at new) 0 count (λ m a b. elim (cases_lt m n) [
+  | inl before ↦ from-before n (truth_at old) m before ∙ sym (drops.below m before)
+  | inr behind ↦ from-behind n (truth_at old) m behind ∙ sym (drops.rest m behind)
+])
+
+pub within_still : (n count : ℕ) (old new : List Bool) → Drops n old new → AreWithin count old → AreWithin count new
+within_still n count old new drops within m holds = elim (cases_lt m n) [
+  | inl before ↦ absurd (both_ways (truth_at new m) (drops.below m before) holds)
+  | inr behind ↦ within m (sym (drops.rest m behind) ∙ holds)
+]
+
+pub took_none : (n count : ℕ) (old new : List Bool) → Drops n old new → IsFirst new None → numbers_from n count old ≡ []
+took_none n count old new drops none = same_from n count old new drops ∙ none_pass (truth_at new) 0 count (λ m a b. none m)
+
+pub left_none : (low count : ℕ) (new : List Bool) → IsFirst new None → numbers_from low count new ≡ []
+left_none low count new none = none_pass (from low (truth_at new)) 0 count (λ m a b. elim (cases_lt m low) [
+  | inl before ↦ from-before low (truth_at new) m before
+  | inr behind ↦ from-behind low (truth_at new) m behind ∙ none m
+])
+
+pub took_one : (n count k : ℕ) (old new : List Bool) → Drops n old new → IsFirst new (Some k) → k < count → numbers_from n count old ≡ k ∷ numbers_from (k + 1) count new
+took_one n count k old new drops first lt =
+    same_from n count old new drops ∙ first_of_range (truth_at new) k 0 count (omega arith) (omega (arith, lt)) first.0 first.1
+    ∙ ap (λ (m : ℕ). k ∷ numbers_from m count new) (omega arith)
+
+-- ---- those below n go first
+
+pub record Split (n low : ℕ) (f : ℕ → Bool) (ns : List ℕ) : Type 0 where
+  pub dropped : List ℕ
+  pub below : AllByRecursion (λ m. m < n) dropped
+  pub split : filter (from low f) ns ≡ dropped ++ filter (from (max n low) f) ns
+
+split_range : (n low : ℕ) (f : ℕ → Bool) (a k : ℕ) → Split n low f (range_with_len a k)
+split_range n low f a zero = record { dropped = []; below = tt; split = refl }
+split_range n low f a (suc k) = elim (cases_lt a n) [
+  | inl before ↦
+      let rest : Split n low f (range_with_len (a + 1) k) = split_range n low f (a + 1) k in
+      let gone : filter (from (max n low) f) (range_with_len a (suc k)) ≡ filter (from (max n low) f) (range_with_len (a + 1) k) = skips (from (max n low) f) a k (from-before (max n low) f a (omega (arith, before))) in
+      split_one n low f a k before rest gone (from low f a) refl
+  | inr behind ↦ record {
+    dropped = [];
+    below = tt;
+    split = filter_alike (from low f) (from (max n low) f) a (suc k) (λ m above lt. elim (cases_lt m low) [
+      | inl under ↦ from-before low f m under ∙ sym (from-before (max n low) f m (omega (arith, under)))
+      | inr over ↦ from-behind low f m over ∙ sym (from-behind (max n low) f m (omega (arith, over, above, behind)))
+    ]);
+  }
+]
+  where
+    split_one : (n low : ℕ) (f : ℕ → Bool) (a k : ℕ) → a < n → (rest : Split n low f (range_with_len (a + 1) k)) → filter (from (max n low) f) (range_with_len a (suc k)) ≡ filter (from (max n low) f) (range_with_len (a + 1) k)
+        → (b : Bool) → from low f a ≡ b → Split n low f (range_with_len a (suc k))
+    split_one n low f a k before rest gone true holds = record {
+      dropped = a ∷ rest.dropped;
+      below = (before, rest.below);
+      split = takes (from low f) a k holds ∙ ap (λ (ns : List ℕ). a ∷ ns) (rest.split ∙ ap (λ (ns : List ℕ). rest.dropped ++ ns) (sym gone));
+    }
+    split_one n low f a k before rest gone false fails = record {
+      dropped = rest.dropped;
+      below = rest.below;
+      split = skips (from low f) a k fails ∙ rest.split ∙ ap (λ (ns : List ℕ). rest.dropped ++ ns) (sym gone);
+    }
+
+-- what a call from the greater of n and low on takes is what a call from n on takes of those from low on
+pub takes_from : (n low start low_new count : ℕ) (old new : List Bool) (number : Option ℕ) → start ≡ max n low
+    → TakesFirst (numbers_from start count old) (numbers_from low_new count new) number → ((k : ℕ) → number ≡ Some k → start ≤ k)
+    → TakesFrom n (numbers_from low count old) (numbers_from low_new count new) number
+takes_from n low start low_new count old new None is takes least =
+    let s : Split n low (truth_at old) (range_with_len 0 count) = split_range n low (truth_at old) 0 count in
+    let none : numbers_from (max n low) count old ≡ [] = ap (λ (m : ℕ). numbers_from m count old) (sym is) ∙ takes.0 in
+    let all : numbers_from low count old ≡ s.dropped = s.split ∙ ap (λ (ns : List ℕ). s.dropped ++ ns) none ∙ append-nil s.dropped in
+    (subst (AllByRecursion (λ m. m < n)) (sym all) s.below, takes.1)
+takes_from n low start low_new count old new (Some k) is takes least =
+    let s : Split n low (truth_at old) (range_with_len 0 count) = split_range n low (truth_at old) 0 count in
+    let one : numbers_from (max n low) count old ≡ k ∷ numbers_from low_new count new = ap (λ (m : ℕ). numbers_from m count old) (sym is) ∙ takes in
+    (omega (arith, is, least k refl), (s.dropped, s.below, s.split ∙ ap (λ (ns : List ℕ). s.dropped ++ ns) one))

@@ -1,0 +1,7 @@
+use Rattle.std.proofs.Common.{drop}
+use Rattle.mail_query.specs.Query.{queries_of}
+use Rattle.mail_answer.proofs.CursorBegins.{HaveWalks}
+use Rattle.mail_answer.proofs.cursor.begin.+begin.Given as goal
+
+abbrev pub invariant-walks_of-loop-node : goal.invariant-walks_of-loop-node
+invariant-walks_of-loop-node l = HaveWalks l.index (queries_of l.nodes) (queries_of (drop l.node-index l.nodes)) l.walks.items l.initial.steps l.steps

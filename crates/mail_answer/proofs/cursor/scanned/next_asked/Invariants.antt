@@ -1,0 +1,14 @@
+use Rattle.std.proofs.Common.{◌≡◌, ◌-◌, ◌<◌, ◌≤◌, ℕ, false, length}
+use Rattle.mail_answer.specs.CursorAhead.{Spends}
+use Rattle.mail_answer.specs.CursorScans.{satisfies}
+use Rattle.mail_answer.proofs.cursor.scanned.next_asked.Given as goal
+
+abbrev pub invariant-loop-next : goal.invariant-loop-next
+invariant-loop-next l = record {
+  from : l.initial.next ≤ l.next;
+  none : (m : ℕ) → l.initial.next ≤ m → m < l.next → satisfies l.index l.asked m ≡ false;
+  steps : Spends (length l.index.messages - l.initial.next) (length l.index.messages - l.next) l.initial.steps l.steps;
+}
+
+abbrev pub decreases-loop-next : goal.decreases-loop-next
+decreases-loop-next l = length l.index.messages - l.next

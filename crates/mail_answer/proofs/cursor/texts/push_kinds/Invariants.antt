@@ -1,0 +1,11 @@
+use Rattle.std.proofs.Common.{drop}
+use Rattle.std.specs.List.{filter}
+use Rattle.mail_answer.specs.Marks.{fits}
+use Rattle.mail_answer.specs.Cursors.{is_in, kinds_in}
+use Rattle.mail_answer.specs.CursorTexts.{looked_up_by}
+use Rattle.mail_answer.proofs.CursorTexts.{HaveKinds}
+use Rattle.mail_answer.proofs.cursor.texts.push_kinds.Given as goal
+
+abbrev pub invariant-loop-kind : goal.invariant-loop-kind
+invariant-loop-kind l =
+    HaveKinds (fits l.fit l.text) l.index.keys (looked_up_by l.fit) (kinds_in l.kinds) (filter (is_in l.kinds) (drop l.kind-index l.kind-items)) l.initial.members.items l.members.items l.initial.steps l.steps

@@ -1,0 +1,73 @@
+-- What a walk through the messages of an index still gives, one truth a message.
+use Rattle.std.specs.Prelude.{◌≡◌, ℕ, ◌+◌, ◌<◌, ◌≤◌, nat_le, Bool, true, false, not, ◌&&◌, ◌||◌, max, List, [], ◌∷◌, MatchOption, Option, Some, None, min}
+use Rattle.mail_answer.specs.Marks.{truth_at, each_number}
+
+-- whether each message is still to come, how many steps are left at most, and how many levels lie below
+pub record Ahead : Type 0 where
+  pub truths : List Bool
+  pub left : ℕ
+  pub below : ℕ
+
+-- the messages still to come in both lists
+abbrev pub both : List Bool → List Bool → List Bool
+both [] ys = []
+both (x ∷ xs) [] = []
+both (x ∷ xs) (y ∷ ys) = (x && y) ∷ both xs ys
+
+-- those still to come in one list or the other
+abbrev pub one_or_other : List Bool → List Bool → List Bool
+one_or_other [] ys = ys
+one_or_other (x ∷ xs) [] = x ∷ xs
+one_or_other (x ∷ xs) (y ∷ ys) = (x || y) ∷ one_or_other xs ys
+
+-- those still to come in each of one or more walks
+abbrev pub common : List Ahead → List Bool
+common [] = []
+common (w ∷ []) = w.truths
+common (w ∷ v ∷ ws) = both w.truths (common (v ∷ ws))
+
+-- those still to come in some walk
+abbrev pub united : List Ahead → List Bool
+united [] = []
+united (w ∷ ws) = one_or_other w.truths (united ws)
+
+-- of so many messages those from a number on that don't come in the walk
+abbrev pub others : ℕ → ℕ → List Bool → List Bool
+others count low truths = each_number count (λ n. nat_le low n && not (truth_at truths n))
+
+abbrev pub left_in : List Ahead → ℕ
+left_in [] = 0
+left_in (w ∷ ws) = w.left + left_in ws
+
+-- one level more than the most below some walk
+abbrev pub levels : List Ahead → ℕ
+levels [] = 0
+levels (w ∷ ws) = max (w.below + 1) (levels ws)
+
+-- those from n on stay, and those below are dropped
+pub record Drops (n : ℕ) (old new : List Bool) : Type 0 where
+  pub rest : (m : ℕ) → n ≤ m → truth_at new m ≡ truth_at old m
+  pub below : (m : ℕ) → m < n → truth_at new m ≡ false
+
+-- the number of the first that is still to come, if there is one
+abbrev pub IsFirst : List Bool → Option ℕ → Type 0
+IsFirst truths number =
+    MatchOption number ((m : ℕ) → truth_at truths m ≡ false)
+    (λ n. (truth_at truths n ≡ true) × ((m : ℕ) → m < n → truth_at truths m ≡ false))
+
+-- the number of none that comes before the first from n on, which is n only where n itself is still to come
+abbrev pub Reaches : ℕ → List Bool → Option ℕ → Type 0
+Reaches n truths number =
+    MatchOption number ((m : ℕ) → truth_at truths m ≡ false)
+    (λ k. (n ≤ k) × ((m : ℕ) → m < k → truth_at truths m ≡ false) × (k ≡ n → truth_at truths n ≡ true))
+
+-- the lesser of two numbers, as far as there are any
+abbrev pub lesser_of : Option ℕ → Option ℕ → Option ℕ
+lesser_of None other = other
+lesser_of (Some m) None = Some m
+lesser_of (Some m) (Some n) = Some (min m n)
+
+-- the steps rose by at most what is left fewer
+pub record Spends (old_left new_left old_steps new_steps : ℕ) : Type 0 where
+  pub rises : old_steps ≤ new_steps
+  pub most : new_steps + new_left ≤ old_steps + old_left

@@ -1,0 +1,20 @@
+-- A walk before its first step.
+use Rattle.std.specs.Prelude.{◌≡◌, ℕ, ◌<◌, ◌≤◌, Bool, false, List, [], ◌∷◌, length}
+use Rattle.mail_index.specs.Tables.{Table}
+use Rattle.mail_query.specs.Query.{Query}
+use Rattle.mail_query.specs.Truth.{is_true}
+use Rattle.mail_answer.specs.TableFacts.{facts_at}
+use Rattle.mail_answer.specs.Marks.{truth_at}
+use Rattle.mail_answer.specs.CursorAhead.{Ahead}
+
+-- exactly the messages that satisfy the query are to come
+pub record Tells (t : Table) (q : Query) (truths : List Bool) : Type 0 where
+  pub each : (m : ℕ) → m < length t.messages → truth_at truths m ≡ is_true q (facts_at t m)
+  pub past : (m : ℕ) → length t.messages ≤ m → truth_at truths m ≡ false
+
+-- of each walk those that satisfy its query
+abbrev pub TellAll : Table → List Query → List Ahead → Type 0
+TellAll t [] [] = Unit {0}
+TellAll t [] (w ∷ ws) = ⊥
+TellAll t (q ∷ qs) [] = ⊥
+TellAll t (q ∷ qs) (w ∷ ws) = Tells t q w.truths × TellAll t qs ws

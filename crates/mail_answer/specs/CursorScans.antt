@@ -1,0 +1,38 @@
+-- A walk along the records of the messages.
+use Rattle.std.specs.Prelude.{◌≡◌, ℕ, suc, ◌<◌, ◌≤◌, Bool, true, false, nat_le, ◌&&◌, ◌||◌, List, Option, IfSome, MatchOption}
+use Rattle.std.specs.Option.{option_to_list}
+use Rattle.mail_index.specs.Tables.{Table}
+use Rattle.mail_query.specs.Query as query
+use Rattle.mail_query.specs.Query.{Query}
+use Rattle.mail_query.specs.Truth.{is_true}
+use Rattle.mail_answer.specs.declared.cursor.scanned.Asked.{Asked}
+use Rattle.mail_answer.specs.declared.cursor.scanned.Asked.TheVariants.{Any, Date, Size, Flag}
+use Rattle.mail_answer.specs.TableFacts.{is_among, facts_at}
+use Rattle.mail_answer.specs.Marks.{each_number}
+
+-- what is asked of a record, as a query
+abbrev pub asked_query : Asked → Query
+asked_query Any = query.Any
+asked_query (Date range) = query.Date range
+asked_query (Size low high) = query.Size low high
+asked_query (Flag flag wanted) = query.HasFlag flag wanted
+
+abbrev pub satisfies : Table → Asked → ℕ → Bool
+satisfies t asked n = is_true (asked_query asked) (facts_at t n)
+
+-- the first may have been found already; from the next record on those that pass the test
+abbrev pub is_ahead : (ℕ → Bool) → ℕ → Option ℕ → ℕ → Bool
+is_ahead test next first n = is_among n (option_to_list first) || (nat_le next n && test n)
+
+abbrev pub truths_scanned : ℕ → (ℕ → Bool) → ℕ → Option ℕ → List Bool
+truths_scanned count test next first = each_number count (is_ahead test next first)
+
+-- what was found lies before the next record
+abbrev pub IsFound : ℕ → ℕ → Option ℕ → Type 0
+IsFound count next first = IfSome first (λ n. (n < next) × (n < count))
+
+-- the records from one on were looked at, up to the first that passes the test
+abbrev pub Scans : ℕ → (ℕ → Bool) → ℕ → ℕ → Option ℕ → Type 0
+Scans count test old new found =
+    MatchOption found ((count ≤ new) × ((m : ℕ) → old ≤ m → m < count → test m ≡ false))
+    (λ n. (old ≤ n) × (n < count) × (new ≡ suc n) × (test n ≡ true) × ((m : ℕ) → old ≤ m → m < n → test m ≡ false))

@@ -1,0 +1,138 @@
+//! Cursors: the messages that satisfy a query, one after another, in the order of their numbers.
+ghost use Rattle.std.specs.Prelude.{◌≡◌, ◌≤◌, ℕ, Some, length, IfOk};
+ghost use Rattle.mail_index.specs.Tables.{IsWellFormed};
+ghost use Rattle.mail_query.specs.Meaning.{meaning};
+ghost use Rattle.mail_answer.specs.TableFacts.{chosen_numbers};
+ghost use Rattle.mail_answer.specs.CursorAhead.{Spends};
+ghost use Rattle.mail_answer.specs.CursorNumbers.{numbers_from, AreWithin, TakesFirst, TakesFrom};
+
+mod begin;
+mod listed;
+mod scanned;
+mod texts;
+mod walk;
+
+use crate::cursor::begin::walk_of;
+use crate::cursor::walk::Walk;
+use mail_index::{IndexView, Steps};
+use mail_query::Query;
+use std::alloc::{AllocError, Global};
+use std::marker::Model;
+
+/// The messages of an index that satisfy a query and are still to come, rising. No list of them is kept.
+#[derive(Debug, Drop)]
+pub struct Cursor<'a> {
+    walk: Walk<'a>,
+    // One past the last number that was given.
+    low: u32,
+    // How many messages there are.
+    count: u32,
+}
+
+impl<'a> Model for Cursor<'a> {
+    ghost use Rattle.mail_answer.specs.Cursors.{ToCome};
+    ghost use Rattle.mail_answer.specs.CursorNumbers.{numbers_from, AreWithin};
+
+    ghost Value = { ToCome };
+
+    ghost view = { λ s. record { numbers = numbers_from s.low s.count s.walk.truths; left = s.walk.left } };
+
+    ghost invariant = { λ s. AreWithin s.count s.walk.truths };
+}
+
+/// Takes the first number that is at least n.
+fn take_from(
+    walk: &mut Walk<'_>,
+    low: &mut u32,
+    count: u32,
+    n: u32,
+    steps: &mut Steps,
+) -> Option<u32>
+    requires { AreWithin count walk.old.truths }
+    ensures takes { TakesFirst (numbers_from n count walk.old.truths) (numbers_from low.new count walk.new.truths) result }
+    ensures least { (k : ℕ) → result ≡ Some k → n ≤ k }
+    ensures within { AreWithin count walk.new.truths }
+    ensures steps { Spends walk.old.left walk.new.left steps.old steps.new }
+{
+    let number = match walk.least_from(n, steps) {
+        Some(number) => number,
+        None => return None,
+    };
+    *low = number + 1;
+    Some(number)
+}
+
+impl<'a> Cursor<'a> {
+    ghost use Rattle.mail_answer.specs.Cursors.{most_left, look_ups, LooksUp};
+
+    /// The messages of an index that satisfy a query.
+    ///
+    /// The table of the index keeps the rules of tables, as that of each index that `IndexView::open` gave does. Takes all the memory that
+    /// the cursor needs. Each Word looks up its text once in each of its kinds, at most as many steps as the number of keys has binary
+    /// digits; a Part or a Prefix also looks at each key of its kinds.
+    ///
+    /// # Errors
+    ///
+    /// `AllocError` where that memory is refused.
+    pub fn new(
+        alloc: Global,
+        index: &'a IndexView<'a>,
+        query: &Query,
+        steps: &mut Steps,
+    ) -> Result<Cursor<'a>, AllocError>
+        requires { IsWellFormed index.now }
+        ensures numbers { IfOk result (λ c. c.numbers ≡ chosen_numbers index.entry.now (meaning query.now)) }
+        ensures left { IfOk result (λ c. c.left ≤ most_left index.entry.now (meaning query.now)) }
+        ensures steps { LooksUp (length index.entry.now.keys) (look_ups (meaning query.now)) steps.old steps.new }
+    {
+        let walk = walk_of(alloc, index, query.root(), steps)?;
+        Ok(Cursor {
+            walk,
+            low: 0,
+            count: index.message_count(),
+        })
+    }
+
+    /// The next number. Takes no memory, and at most as many steps as `left` falls by.
+    pub fn next(&mut self, steps: &mut Steps) -> Option<u32>
+        ensures number { TakesFirst self.old.numbers self.new.numbers result }
+        ensures steps { Spends self.old.left self.new.left steps.old steps.new }
+    {
+        let from = self.low;
+        take_from(&mut self.walk, &mut self.low, self.count, from, steps)
+    }
+
+    /// The least number to come that is at least n. It and all before it are dropped, or all where there is none. Takes no memory,
+    /// and at most as many steps as `left` falls by.
+    pub fn next_at_least(&mut self, n: u32, steps: &mut Steps) -> Option<u32>
+        ensures number { TakesFrom n self.old.numbers self.new.numbers result }
+        ensures steps { Spends self.old.left self.new.left steps.old steps.new }
+    {
+        let from = n.max(self.low);
+        take_from(&mut self.walk, &mut self.low, self.count, from, steps)
+    }
+}
+
+/// The numbers of the messages that satisfy the query, from 0, rising: its cursor, walked to the end.
+///
+/// The table of the index keeps the rules of tables, as that of each index that `IndexView::open` gave does.
+///
+/// # Errors
+///
+/// `AllocError` where the memory of the cursor or of the answer is refused.
+pub fn matches<'a>(
+    alloc: Global,
+    index: &'a IndexView<'a>,
+    query: &Query,
+) -> Result<Vec<u32>, AllocError>
+    requires { IsWellFormed index.now }
+    ensures { IfOk result (λ v. v.items ≡ chosen_numbers index.entry.now (meaning query.now)) }
+{
+    let mut steps = Steps::new();
+    let mut cursor = Cursor::new(alloc, index, query, &mut steps)?;
+    let mut numbers = Vec::new(alloc);
+    while let Some(number) = cursor.next(&mut steps) {
+        numbers.push(number)?;
+    }
+    Ok(numbers)
+}

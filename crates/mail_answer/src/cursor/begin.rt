@@ -1,0 +1,88 @@
+//! The walk of a query, before its first step.
+ghost use Rattle.std.specs.Prelude.{◌≡◌, ◌≤◌, length, IfOk};
+ghost use Rattle.mail_index.specs.Tables.{IsWellFormed};
+ghost use Rattle.mail_query.specs.Query.{query_of, queries_of, members_of};
+ghost use Rattle.mail_answer.specs.Cursors.{most_left, most_left_of_all, look_ups, look_ups_of_all, LooksUp};
+ghost use Rattle.mail_answer.specs.CursorAhead.{left_in};
+ghost use Rattle.mail_answer.specs.CursorBegins.{Tells, TellAll};
+
+use crate::cursor::scanned::{Asked, Scanned};
+use crate::cursor::texts::with_text;
+use crate::cursor::walk::Walk;
+use crate::fit::Fit;
+use mail_index::{IndexView, Steps};
+use mail_query::Node;
+use std::alloc::{AllocError, Global};
+
+/// The walk through the messages that satisfy the node. Takes all the memory that the walk needs.
+#[cycle(begin)]
+pub(crate) fn walk_of<'a>(
+    alloc: Global,
+    index: &'a IndexView<'a>,
+    node: &Node,
+    steps: &mut Steps,
+) -> Result<Walk<'a>, AllocError>
+    requires { IsWellFormed index.now }
+    ensures truths { IfOk result (λ w. Tells index.entry.now (query_of node.now) w.truths) }
+    ensures left { IfOk result (λ w. w.left ≤ most_left index.entry.now (query_of node.now)) }
+    ensures steps { LooksUp (length index.entry.now.keys) (look_ups (query_of node.now)) steps.old steps.new }
+{
+    match node {
+        Node::Any => Ok(Walk::scanned(Scanned::new(index, Asked::Any))),
+        Node::Word { kinds, text } => with_text(alloc, index, *kinds, Fit::Whole, text, steps),
+        Node::Part { kinds, text } => with_text(alloc, index, *kinds, Fit::Within, text, steps),
+        Node::Prefix { kinds, text } => with_text(alloc, index, *kinds, Fit::Front, text, steps),
+        Node::Date(range) => Ok(Walk::scanned(Scanned::new(index, Asked::Date(*range)))),
+        Node::Size { low, high } => {
+            let asked = Asked::Size {
+                low: *low,
+                high: *high,
+            };
+            Ok(Walk::scanned(Scanned::new(index, asked)))
+        }
+        Node::Flag { flag, wanted } => {
+            let asked = Asked::Flag {
+                flag: *flag,
+                wanted: *wanted,
+            };
+            Ok(Walk::scanned(Scanned::new(index, asked)))
+        }
+        Node::Not(inner) => {
+            let inner = walk_of(alloc, index, inner, steps)?;
+            Walk::others(alloc, index.message_count(), inner)
+        }
+        Node::All(members) => {
+            let walks = walks_of(alloc, index, members, steps)?;
+            if walks.is_empty() {
+                // Each of no members is satisfied by all messages: all but those of none.
+                return Walk::others(alloc, index.message_count(), Walk::united(walks));
+            }
+            Ok(Walk::common(walks))
+        }
+        Node::Either(members) => {
+            let walks = walks_of(alloc, index, members, steps)?;
+            Ok(Walk::united(walks))
+        }
+    }
+}
+
+/// The walks of some nodes.
+#[cycle(begin)]
+fn walks_of<'a>(
+    alloc: Global,
+    index: &'a IndexView<'a>,
+    nodes: &[Node],
+    steps: &mut Steps,
+) -> Result<Vec<Walk<'a>>, AllocError>
+    requires { IsWellFormed index.now }
+    ensures truths { IfOk result (λ v. TellAll index.entry.now (queries_of nodes.now) v.items) }
+    ensures left { IfOk result (λ v. left_in v.items ≤ most_left_of_all index.entry.now (members_of (queries_of nodes.now))) }
+    ensures steps { LooksUp (length index.entry.now.keys) (look_ups_of_all (members_of (queries_of nodes.now))) steps.old steps.new }
+{
+    let mut walks = Vec::new(alloc);
+    for node in nodes {
+        let walk = walk_of(alloc, index, node, steps)?;
+        walks.push(walk)?;
+    }
+    Ok(walks)
+}

@@ -1,0 +1,133 @@
+//! The walk along the records of the messages.
+ghost use Rattle.std.specs.Prelude.{◌≡◌, ◌-◌, ℕ, length};
+ghost use Rattle.mail_index.specs.Tables.{Table};
+ghost use Rattle.mail_query.specs.Truth.{is_true};
+ghost use Rattle.mail_answer.specs.TableFacts.{facts_of_record};
+ghost use Rattle.mail_answer.specs.CursorAhead.{Drops, IsFirst, Spends};
+ghost use Rattle.mail_answer.specs.CursorScans.{asked_query, satisfies, truths_scanned, IsFound, Scans};
+
+use crate::cursor::listed::is_before;
+use crate::records::{is_as_wanted, lies_between};
+use mail_dates::Range;
+use mail_index::{IndexView, Record, Steps};
+use mail_words::Flag;
+use std::marker::Model;
+
+/// What is asked of a message's record.
+#[derive(Clone, Copy, Debug, Drop)]
+pub(crate) enum Asked {
+    /// Nothing.
+    Any,
+    /// That its date lies in the range.
+    Date(Range),
+    /// That its size lies between these, both included; a `high` of None is no bound.
+    Size { low: u64, high: Option<u64> },
+    /// That it has the flag, or where `wanted` is false, has it not.
+    Flag { flag: Flag, wanted: bool },
+}
+
+/// Whether the record is as asked.
+fn is_as_asked(asked: Asked, message: Record) -> bool
+    ensures { (t : Table) (n : ℕ) → result ≡ is_true (asked_query asked) (facts_of_record t n message) }
+{
+    match asked {
+        Asked::Any => true,
+        Asked::Date(range) => range.has(message.date),
+        Asked::Size { low, high } => lies_between(low, high, message.size),
+        Asked::Flag { flag, wanted } => is_as_wanted(flag, wanted, message.flags),
+    }
+}
+
+/// Looks at the records from the next one on, a step each, up to the first that is as asked.
+fn next_asked(index: &IndexView<'_>, asked: Asked, next: &mut u32, steps: &mut Steps) -> Option<u32>
+    ensures found { Scans (length index.now.messages) (satisfies index.now asked) next.old next.new result }
+    ensures steps { Spends (length index.now.messages - next.old) (length index.now.messages - next.new) steps.old steps.new }
+{
+    while *next < index.message_count() {
+        let number = *next;
+        *next = number + 1;
+        steps.tick();
+        if is_as_asked(asked, index.message(number)) {
+            return Some(number);
+        }
+    }
+    None
+}
+
+/// Drops the numbers below n.
+fn cut(
+    index: &IndexView<'_>,
+    asked: Asked,
+    next: &mut u32,
+    first: &mut Option<u32>,
+    n: u32,
+    steps: &mut Steps,
+)
+    requires { IsFound (length index.now.messages) next.old first.old }
+    ensures rest { let test = satisfies index.now asked in
+        Drops n (truths_scanned (length index.now.messages) test next.old first.old) (truths_scanned (length index.now.messages) test next.new first.new) }
+    ensures number { IsFirst (truths_scanned (length index.now.messages) (satisfies index.now asked) next.new first.new) first.new }
+    ensures found { IsFound (length index.now.messages) next.new first.new }
+    ensures steps { Spends (length index.now.messages - next.old) (length index.now.messages - next.new) steps.old steps.new }
+{
+    if is_before(*first, n) {
+        *next = n.max(*next);
+        *first = next_asked(index, asked, next, steps);
+    }
+}
+
+/// The messages still to come of those whose records are as asked: the first of them may have been found already.
+#[derive(Debug, Drop)]
+pub(crate) struct Scanned<'a> {
+    index: &'a IndexView<'a>,
+    asked: Asked,
+    next: u32,
+    first: Option<u32>,
+}
+
+impl<'a> Model for Scanned<'a> {
+    ghost use Rattle.std.specs.Prelude.{◌-◌, length};
+    ghost use Rattle.mail_answer.specs.CursorScans.{satisfies, truths_scanned, IsFound};
+    ghost use Rattle.mail_answer.specs.CursorAhead.{Ahead};
+
+    ghost Value = { Ahead };
+
+    ghost view = { λ s. record { truths = truths_scanned (length s.index.now.messages) (satisfies s.index.now s.asked) s.next s.first; left = length s.index.now.messages - s.next; below = 0 } };
+
+    ghost invariant = { λ s. IsFound (length s.index.now.messages) s.next s.first };
+}
+
+impl<'a> Scanned<'a> {
+    ghost use Rattle.mail_answer.specs.TableFacts.{truths};
+
+    /// All messages whose records are as asked.
+    pub(crate) fn new(index: &'a IndexView<'a>, asked: Asked) -> Self
+        ensures truths { result.truths ≡ truths index.entry.now (asked_query asked) }
+        ensures left { result.left ≡ length index.entry.now.messages }
+    {
+        Scanned {
+            index,
+            asked,
+            next: 0,
+            first: None,
+        }
+    }
+
+    /// The least number still to come that is at least n; all before it are dropped.
+    pub(crate) fn least_from(&mut self, n: u32, steps: &mut Steps) -> Option<u32>
+        ensures rest { Drops n self.old.truths self.new.truths }
+        ensures number { IsFirst self.new.truths result }
+        ensures steps { Spends self.old.left self.new.left steps.old steps.new }
+        ensures below { self.new.below ≡ self.old.below }
+    {
+        cut(
+            self.index,
+            self.asked,
+            &mut self.next,
+            &mut self.first,
+            n,
+            steps,
+        );
+        self.first
+    }
+}

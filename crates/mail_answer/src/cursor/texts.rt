@@ -1,0 +1,134 @@
+//! The walk through the messages that have certain texts.
+ghost use Rattle.std.specs.Prelude.{◌≡◌, ◌≤◌, ◌<◌, ◌+◌, ◌*◌, ◌^◌, ℕ, length, IfOk};
+ghost use Rattle.std.specs.List.{list_any};
+ghost use Rattle.mail_index.specs.Tables.{IsWellFormed};
+ghost use Rattle.mail_query.specs.Truth.{some_word};
+ghost use Rattle.mail_answer.specs.TableFacts.{texts_with, is_among, facts_at};
+ghost use Rattle.mail_answer.specs.Marks.{fits, some_key, truth_at};
+ghost use Rattle.mail_answer.specs.Cursors.{numbers_named, kinds_in, is_in, LooksUp};
+ghost use Rattle.mail_answer.specs.CursorLists.{AreNumbers};
+ghost use Rattle.mail_answer.specs.CursorTexts.{Joins, HaveNumbers, numbers_passing, numbers_fitting, some_of_kinds, looked_up_by};
+
+use crate::cursor::listed::Listed;
+use crate::cursor::walk::Walk;
+use crate::fit::Fit;
+use mail_index::{IndexView, Keys, Kind, Postings, Steps};
+use mail_query::{Kinds, QueryText};
+use mail_words::TextKind;
+use std::alloc::{AllocError, Global};
+
+/// The kinds that a query may name.
+const KINDS: [Kind; 7] = [
+    Kind::Text(TextKind::To),
+    Kind::Text(TextKind::Cc),
+    Kind::Text(TextKind::Bcc),
+    Kind::Text(TextKind::From),
+    Kind::Text(TextKind::Subject),
+    Kind::Text(TextKind::Body),
+    Kind::OwnId,
+];
+
+/// Whether the kind is in the set.
+fn is_in(kinds: Kinds, kind: Kind) -> bool
+    ensures { result ≡ is_in kinds kind }
+{
+    match kind {
+        Kind::Text(text_kind) => kinds.has(text_kind),
+        Kind::OwnId => kinds.own_id,
+        Kind::LinkId => false,
+    }
+}
+
+/// Adds the walk along a posting list.
+fn push_list<'a>(
+    members: &mut Vec<Walk<'a>>,
+    count: u32,
+    postings: Postings<'a>,
+) -> Result<(), AllocError>
+    requires { AreNumbers count postings }
+    ensures { IfOk result (λ _. Joins (λ n. is_among n postings.entry) (length postings.entry) members.old.items members.new.items) }
+{
+    members.push(Walk::listed(Listed::new(count, postings)))?;
+    Ok(())
+}
+
+/// Adds the walks along the lists of those keys in which the text lies so.
+fn push_fitting<'a>(
+    members: &mut Vec<Walk<'a>>,
+    count: u32,
+    mut keys: Keys<'a>,
+    fit: Fit,
+    text: &[u8],
+) -> Result<(), AllocError>
+    requires { HaveNumbers count keys }
+    ensures { IfOk result (λ _. Joins (λ n. some_key (fits fit text.now) n keys.entry) (numbers_passing (fits fit text.now) keys.entry) members.old.items members.new.items) }
+{
+    while let Some(key) = keys.next() {
+        if fit.has(text, key.text) {
+            push_list(members, count, key.postings)?;
+        }
+    }
+    Ok(())
+}
+
+/// Adds the walks along the lists of the keys of this kind in which the text lies so.
+fn push_kind<'a>(
+    members: &mut Vec<Walk<'a>>,
+    index: &IndexView<'a>,
+    kind: Kind,
+    fit: Fit,
+    text: &[u8],
+    steps: &mut Steps,
+) -> Result<(), AllocError>
+    requires { IsWellFormed index.now }
+    ensures joins { IfOk result (λ _. Joins (λ n. list_any (fits fit text.now) (texts_with kind n index.now.keys)) (numbers_fitting (fits fit text.now) index.now.keys kind) members.old.items members.new.items) }
+    ensures steps { LooksUp (length index.now.keys) (looked_up_by fit) steps.old steps.new }
+{
+    match fit {
+        Fit::Whole => {
+            let postings = index.look_up(kind, text, steps);
+            push_list(members, index.message_count(), postings)
+        }
+        _ => push_fitting(members, index.message_count(), index.keys(kind), fit, text),
+    }
+}
+
+/// Adds the walks along the lists of the keys of the kinds of the set in which the text lies so.
+fn push_kinds<'a>(
+    members: &mut Vec<Walk<'a>>,
+    index: &IndexView<'a>,
+    kinds: Kinds,
+    fit: Fit,
+    text: &[u8],
+    steps: &mut Steps,
+) -> Result<(), AllocError>
+    requires { IsWellFormed index.now }
+    ensures joins { IfOk result (λ _. Joins (some_of_kinds (kinds_in kinds) (fits fit text.now) index.now.keys) (numbers_named (fits fit text.now) index.now.keys (kinds_in kinds)) members.old.items members.new.items) }
+    ensures steps { LooksUp (length index.now.keys) (length (kinds_in kinds) * looked_up_by fit) steps.old steps.new }
+{
+    for kind in &KINDS {
+        if is_in(kinds, *kind) {
+            push_kind(members, index, *kind, fit, text, steps)?;
+        }
+    }
+    Ok(())
+}
+
+/// The walk through the messages that have a word of a kind of the set, or the own id if it is in it, in which the text lies so.
+pub(crate) fn with_text<'a>(
+    alloc: Global,
+    index: &IndexView<'a>,
+    kinds: Kinds,
+    fit: Fit,
+    text: &QueryText,
+    steps: &mut Steps,
+) -> Result<Walk<'a>, AllocError>
+    requires { IsWellFormed index.now }
+    ensures truths { IfOk result (λ w. (m : ℕ) → truth_at w.truths m ≡ some_word (fits fit text.now) kinds (facts_at index.now m)) }
+    ensures left { IfOk result (λ w. w.left ≤ numbers_named (fits fit text.now) index.now.keys (kinds_in kinds)) }
+    ensures steps { LooksUp (length index.now.keys) (length (kinds_in kinds) * looked_up_by fit) steps.old steps.new }
+{
+    let mut members = Vec::new(alloc);
+    push_kinds(&mut members, index, kinds, fit, text.as_bytes(), steps)?;
+    Ok(Walk::united(members))
+}
