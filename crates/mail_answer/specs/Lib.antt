@@ -1,2 +1,3 @@
 pub mod TableFacts
 pub mod Marks
+pub mod Archives
