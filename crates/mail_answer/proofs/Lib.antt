@@ -5,3 +5,4 @@ pub mod Adding
 pub mod MemberLemmas
 pub mod NodeQueries
 mod RowsTableFacts
+pub mod SheetLemmas

@@ -2,17 +2,24 @@
 #![tactic(auto)]
 
 mod archives;
+mod excerpt;
 mod fail_at;
+mod fault;
 mod fit;
+mod format;
+mod line_reader;
 mod marks;
 mod memory_archives;
 mod plain;
 mod records;
+mod sheet;
 #[cfg(test)]
 mod tests;
 mod texts;
 
 pub use archives::Archives;
 pub use fail_at::FailAt;
+pub use fault::{AnswerFault, AnswerFaultKind};
+pub use format::Format;
 pub use memory_archives::MemoryArchives;
 pub use plain::plain_matches;
