@@ -6,3 +6,4 @@ pub mod MemberLemmas
 pub mod NodeQueries
 mod RowsTableFacts
 pub mod SheetLemmas
+pub mod ReadingLemmas

@@ -1,7 +1,7 @@
 -- What is read of a part of an archive, line by line.
 use Rattle.std.specs.Prelude.{◌≡◌, ℕ, ◌+◌, ◌<◌, ◌≤◌, ◌^◌, List, ◌++◌, length, take, drop, Option, IfSome}
 use Rattle.std.specs.Option.{option_map}
-use Rattle.mail_answer.specs.Archives.{archive_at}
+use Rattle.mail_answer.specs.Archives.{archive_at, IsRead}
 
 -- the archive, the bytes that were read of the part and not passed, where the others begin, and how many these are
 pub record Reading : Type 0 where
@@ -31,3 +31,10 @@ pub record ReadsBehind (archive offset count : ℕ) (held : Option (List (List �
   pub number : length bytes ≡ count
   pub some : 0 < count
   pub known : IfSome held (λ archives. bytes ≡ take count (drop offset (archive_at archives archive)))
+
+-- so many bytes of an archive, from an offset on, or none at its end, came behind a front of the others
+pub record ReadsTail (archive offset from count : ℕ) (held : Option (List (List ℕ))) (old new : List ℕ) : Type 0 where
+  pub bytes : List ℕ
+  pub behind : take (from + count) new ≡ take from old ++ bytes
+  pub number : length bytes ≡ count
+  pub read : IsRead archive offset bytes held

@@ -1,5 +1,6 @@
 //! The excerpt of a message.
 ghost use Rattle.std.specs.Prelude.{◌≡◌, ℕ, List, ◌∷◌, ◌++◌, IfOk, OnOk};
+ghost use Rattle.std.specs.Str.{bytes_eq, str_to_ascii_lowercase};
 ghost use Rattle.header_text.specs.EncodedWords.{decoded};
 ghost use Rattle.header_text.specs.HeldLines.{HasLines};
 ghost use Rattle.header_text.specs.Headers.{fields_of};
@@ -17,11 +18,18 @@ fn first_body<'a>(fields: Fields<'a>, name: &str) -> &'a [u8]
     ensures { result.now ≡ first_body_of name.now fields.entry }
 {
     for field in fields {
-        if field.is(name.as_bytes()) {
+        if is_named(field.name, name.as_bytes()) {
             return field.body;
         }
     }
     b""
+}
+
+/// Whether two names are the same, in any ASCII case.
+fn is_named(name: &[u8], wanted: &[u8]) -> bool
+    ensures { result ≡ bytes_eq (str_to_ascii_lowercase name.now) (str_to_ascii_lowercase wanted.now) }
+{
+    name.eq_ignore_ascii_case(wanted)
 }
 
 /// Makes a space of each character below U+0020, and of U+007F.

@@ -1,14 +1,14 @@
 //! Part of an archive, read line by line.
 ghost use Rattle.std.specs.Prelude.{◌≡◌, ◌<◌, ◌≤◌, ◌+◌, ◌-◌, ◌^◌, [], false, nat_eq, length, take, drop, IfOk, OnOk, IfSome};
-ghost use Rattle.contract_words.specs.Devices.{Counted};
+ghost use Rattle.contract_words.specs.Devices.{Counted, Counts};
 ghost use Rattle.mbox_cutter.specs.Lines.{first_length};
 ghost use Rattle.mail_answer.specs.Archives.{archive_at};
 ghost use Rattle.mail_answer.specs.Faults.{has_fault, is_of_output, is_of_archives, is_stale};
-ghost use Rattle.mail_answer.specs.Readings.{coming, coming_count, IsInside, ReadsBehind};
+ghost use Rattle.mail_answer.specs.Readings.{coming, coming_count, IsInside, ReadsBehind, ReadsTail};
 
 use crate::archives::Archives;
 use crate::fault::AnswerFaultKind;
-use mbox_cutter::line_end;
+use mbox_cutter::{DeviceFault, line_end};
 use std::alloc::Global;
 use std::marker::Model;
 
@@ -94,20 +94,11 @@ impl LineReader {
         self.from += n;
     }
 
-    /// Drops what was passed.
-    fn forget(&mut self)
-        ensures { self.new ≡ self.old }
-    {
-        let len = self.held.len() - self.from;
-        self.held.copy_within(self.from.., 0);
-        self.held.truncate(len);
-        self.from = 0;
-    }
-
     /// Reads a piece more.
     fn fill<A: Archives>(&mut self, archives: &mut A) -> Result<(), AnswerFaultKind>
         requires inside { IsInside (A.number archives.old) (A.held archives.old) self.old }
         requires more { 0 < self.old.left }
+        requires room { length self.old.unread ≤ 65536 }
         requires count { A.failures archives.old < 2 ^ 64 - 1 }
         ensures held { A.held archives.new ≡ A.held archives.old }
         ensures number { A.number archives.new ≡ A.number archives.old }
@@ -119,7 +110,8 @@ impl LineReader {
         ensures own { has_fault is_of_output result ≡ false }
         ensures fresh { IfSome (A.held archives.old) (λ _. has_fault is_stale result ≡ false) }
     {
-        self.forget();
+        drop_front(&mut self.held, self.from);
+        self.from = 0;
         let most = self.left.min(PIECE) as usize;
         let n = read_behind(archives, self.archive, self.next, most, &mut self.held)?;
         self.next += n as u64;
@@ -158,6 +150,16 @@ impl LineReader {
     }
 }
 
+/// Drops the first `n` bytes.
+fn drop_front(held: &mut Vec<u8>, n: usize)
+    requires { n ≤ length held.old.items }
+    ensures { held.new.items ≡ drop n held.old.items }
+{
+    let len = held.len() - n;
+    held.copy_within(n.., 0);
+    held.truncate(len);
+}
+
 /// Reads at most so many bytes of an archive, from an offset on, behind those held. What is held after an error isn't said.
 fn read_behind<A: Archives>(
     archives: &mut A,
@@ -168,10 +170,12 @@ fn read_behind<A: Archives>(
 ) -> Result<usize, AnswerFaultKind>
     requires below { archive < A.number archives.old }
     requires some { 0 < most }
+    requires room { length held.old.items + most < 2 ^ 63 }
     requires count { A.failures archives.old < 2 ^ 64 - 1 }
     ensures held { A.held archives.new ≡ A.held archives.old }
     ensures number { A.number archives.new ≡ A.number archives.old }
     ensures bound { IfOk result (λ n. n ≤ most) }
+    ensures grows { length held.old.items ≤ length held.new.items }
     ensures bytes { IfOk result (λ n. ReadsBehind archive offset n (A.held archives.old) held.old.items held.new.items) }
     ensures count { Counted (has_fault is_of_archives result) (A.failures archives.old) (A.failures archives.new) }
     ensures own { has_fault is_of_output result ≡ false }
@@ -179,7 +183,7 @@ fn read_behind<A: Archives>(
 {
     let len = held.len();
     held.resize(len + most, 0)?;
-    match archives.read_at(archive, offset, &mut held[len..]) {
+    match read_tail(archives, archive, offset, len, held.as_mut_slice()) {
         Ok(0) => Err(AnswerFaultKind::Stale(archive)),
         Ok(n) => {
             held.truncate(len + n);
@@ -187,4 +191,24 @@ fn read_behind<A: Archives>(
         }
         Err(_) => Err(AnswerFaultKind::Device),
     }
+}
+
+/// Reads an archive from an offset on into the bytes behind the first `from`.
+fn read_tail<A: Archives>(
+    archives: &mut A,
+    archive: u32,
+    offset: u64,
+    from: usize,
+    into: &mut [u8],
+) -> Result<usize, DeviceFault>
+    requires below { archive < A.number archives.old }
+    requires room { from < length into.old }
+    requires count { A.failures archives.old < 2 ^ 64 - 1 }
+    ensures held { A.held archives.new ≡ A.held archives.old }
+    ensures number { A.number archives.new ≡ A.number archives.old }
+    ensures bound { IfOk result (λ n. from + n ≤ length into.new) }
+    ensures bytes { IfOk result (λ n. ReadsTail archive offset from n (A.held archives.old) into.old into.new) }
+    ensures count { Counts result (A.failures archives.old) (A.failures archives.new) }
+{
+    archives.read_at(archive, offset, &mut into[from..])
 }
