@@ -7,3 +7,7 @@ pub mod NodeQueries
 mod RowsTableFacts
 pub mod SheetLemmas
 pub mod ReadingLemmas
+pub mod ByteLists
+pub mod StaleLemmas
+pub mod ClosingLemmas
+pub mod ClosedLemmas

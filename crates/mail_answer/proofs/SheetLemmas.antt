@@ -161,3 +161,22 @@ writes_stop t u a b j k (Err f) err w = let y = some_text k in (w.0 ++ y.0, tell
 pub writes_nothing : {T F : Type 0} (t : Option (List ℕ)) (a b : Sheet) (k : Option (List ℕ)) (r : Result T F) → IsErr r → b.sent ≡ a.sent → Writes t t a b k r
 writes_nothing t a b k (Ok y) err s = absurd (cc err)
 writes_nothing t a b k (Err f) err s = let y = some_text k in (y.0, y.1, nothing_went t a b y.0 s)
+
+-- a call that went wrong
+pub writes_err : {T E : Type 0} (t u : Option (List ℕ)) (a b : Sheet) (k : Option (List ℕ)) (r : Result T E) → IsErr r
+    → ((x : List ℕ) × Tells k x × JoinsFront t u a b x) → Writes t u a b k r
+writes_err t u a b k (Ok y) err w = absurd (cc err)
+writes_err t u a b k (Err f) err w = w
+
+-- what is known of a text is less
+pub writes_less : {T E : Type 0} (t u : Option (List ℕ)) (a b : Sheet) (k : Option (List ℕ)) (text : List ℕ) (r : Result T E) → Tells k text → Writes t u a b (Some text) r → Writes t u a b k r
+writes_less t u a b k text (Ok y) h w = (w.0, tells_same k text w.0 h w.1, w.2)
+  where
+    tells_same : (k : Option (List ℕ)) (x y : List ℕ) → Tells k x → x ≡ y → Tells k y
+    tells_same None x y h e = tt
+    tells_same (Some z) x y h e = h ∙ e
+writes_less t u a b k text (Err f) h w = (w.0, tells_same k text w.0 h w.1, w.2)
+  where
+    tells_same : (k : Option (List ℕ)) (x y : List ℕ) → Tells k x → x ≡ y → Tells k y
+    tells_same None x y h e = tt
+    tells_same (Some z) x y h e = h ∙ e

@@ -13,8 +13,11 @@ first_body name [] = []
 first_body name (f ∷ fs) = elim (bytes_eq (str_to_ascii_lowercase f.name) (str_to_ascii_lowercase name)) [ true ↦ f.body | false ↦ first_body name fs ]
 
 -- each character below U+0020, and U+007F, as a space: in UTF-8 each of them is one byte, and no other character has that byte
+abbrev pub shown_byte : ℕ → ℕ
+shown_byte b = if nat_lt b 32 || b == 127 then 32 else b
+
 abbrev pub without_controls : List ℕ → List ℕ
-without_controls text = map (λ b. if nat_lt b 32 || b == 127 then 32 else b) text
+without_controls text = map shown_byte text
 
 -- behind a space, where it isn't empty
 abbrev pub spaced : List ℕ → List ℕ

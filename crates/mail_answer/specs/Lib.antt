@@ -6,3 +6,5 @@ pub mod Sheets
 pub mod Excerpts
 pub mod Shapes
 pub mod Readings
+pub mod Stale
+pub mod Closing

@@ -1,6 +1,7 @@
 -- What is read of a part of an archive, line by line.
-use Rattle.std.specs.Prelude.{◌≡◌, ℕ, ◌+◌, ◌<◌, ◌≤◌, ◌^◌, List, ◌++◌, length, take, drop, Option, IfSome}
+use Rattle.std.specs.Prelude.{◌≡◌, ℕ, ◌+◌, ◌<◌, ◌≤◌, ◌^◌, List, [], ◌++◌, length, take, drop, Option, IfSome}
 use Rattle.std.specs.Option.{option_map}
+use Rattle.mail_index.specs.declared.record.Record.{Record}
 use Rattle.mail_answer.specs.Archives.{archive_at, IsRead}
 
 -- the archive, the bytes that were read of the part and not passed, where the others begin, and how many these are
@@ -17,6 +18,10 @@ coming held r = option_map (λ archives. r.unread ++ take r.left (drop r.next (a
 -- how many they are
 abbrev pub coming_count : Reading → ℕ
 coming_count r = length r.unread + r.left
+
+-- the bytes of a message, before any is read
+abbrev pub span_reading : Record → Reading
+span_reading m = record { archive = m.archive; unread = []; next = m.offset; left = m.length }
 
 -- the part lies in one of so many archives
 pub record IsInside (number : ℕ) (held : Option (List (List ℕ))) (r : Reading) : Type 0 where

@@ -9,6 +9,7 @@ use Rattle.mail_index.specs.Tables.{Archive, Table}
 use Rattle.mail_answer.specs.declared.format.Format.{Format}
 use Rattle.mail_answer.specs.declared.format.Format.TheVariants.{Raw, Excerpt, Mbox}
 use Rattle.mail_answer.specs.Archives.{archive_at}
+use Rattle.mail_answer.specs.Closing.{feed}
 use Rattle.mail_answer.specs.Excerpts.{excerpt}
 use Rattle.mail_answer.specs.TableFacts.{record_at}
 
@@ -34,9 +35,6 @@ last_of (l ∷ m ∷ ls) = last_of (m ∷ ls)
 
 abbrev pub is_closed : List ℕ → Bool
 is_closed bytes = is_empty (last_of (lines bytes))
-
-abbrev pub feed : List ℕ
-feed = 10 ∷ []
 
 unfoldable pub closed : List ℕ → List ℕ
 closed bytes = if is_closed bytes then bytes else if is_closed (bytes ++ feed) then bytes ++ feed else bytes ++ feed ++ feed

@@ -5,13 +5,10 @@ ghost use Rattle.header_text.specs.EncodedWords.{decoded};
 ghost use Rattle.header_text.specs.HeldLines.{HasLines};
 ghost use Rattle.header_text.specs.Headers.{fields_of};
 ghost use Rattle.header_text.specs.Unfolding.{unfolded};
-ghost use Rattle.mail_answer.specs.Excerpts.{first_body as first_body_of, without_controls, field_line, excerpt_lines};
+ghost use Rattle.mail_answer.specs.Excerpts.{first_body as first_body_of, shown_byte as shown_byte_of, without_controls, field_line, excerpt_lines};
 
 use header_text::{Fields, Header, decode_words, unfold};
 use std::alloc::{AllocError, Global};
-
-/// The fields of an excerpt, in order.
-const NAMES: [&str; 5] = ["To", "Cc", "From", "Subject", "Date"];
 
 /// The body of the first field of a name, empty where it is missing.
 fn first_body<'a>(fields: Fields<'a>, name: &str) -> &'a [u8]
@@ -32,14 +29,18 @@ fn is_named(name: &[u8], wanted: &[u8]) -> bool
     name.eq_ignore_ascii_case(wanted)
 }
 
+fn shown_byte(b: u8) -> u8
+    ensures { result ≡ shown_byte_of b }
+{
+    if b < 32 || b == 127 { b' ' } else { b }
+}
+
 /// Makes a space of each character below U+0020, and of U+007F.
 fn hide_controls(text: &mut [u8])
     ensures { text.new ≡ without_controls text.old }
 {
     for b in text.iter_mut() {
-        if *b < 32 || *b == 127 {
-            *b = b' ';
-        }
+        *b = shown_byte(*b);
     }
 }
 
@@ -84,8 +85,10 @@ pub(crate) fn excerpt_text(
     let mut text = Vec::new(alloc);
     text.extend_from_slice(path.as_bytes())?;
     text.push(b'\n')?;
-    for name in NAMES {
-        push_field(alloc, header, name, &mut text)?;
-    }
+    push_field(alloc, header, "To", &mut text)?;
+    push_field(alloc, header, "Cc", &mut text)?;
+    push_field(alloc, header, "From", &mut text)?;
+    push_field(alloc, header, "Subject", &mut text)?;
+    push_field(alloc, header, "Date", &mut text)?;
     Ok(text)
 }

@@ -10,9 +10,12 @@ mod format;
 mod line_reader;
 mod marks;
 mod memory_archives;
+mod mbox;
 mod plain;
+mod raw_line;
 mod records;
 mod sheet;
+mod stale;
 #[cfg(test)]
 mod tests;
 mod texts;

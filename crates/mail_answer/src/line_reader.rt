@@ -15,7 +15,7 @@ use std::marker::Model;
 /// So many bytes are asked for at a read.
 const PIECE: u64 = 32_768;
 
-/// Reads a part of an archive line by line. It keeps a line and a piece at most, and its memory for the next part.
+/// Reads a part of an archive line by line. It keeps a line and a piece at most.
 #[derive(Drop)]
 pub(crate) struct LineReader {
     archive: u32,
@@ -39,28 +39,17 @@ impl Model for LineReader {
 }
 
 impl LineReader {
-    /// It reads nothing. It takes no memory.
-    pub(crate) fn new(alloc: Global) -> Self
-        ensures { result ≡ record { archive = 0; unread = []; next = 0; left = 0 } }
+    /// It reads `length` bytes of an archive, from an offset on. It takes no memory yet.
+    pub(crate) fn over(alloc: Global, archive: u32, offset: u64, length: u64) -> Self
+        ensures { result ≡ record { archive = archive; unread = []; next = offset; left = length } }
     {
         LineReader {
-            archive: 0,
-            next: 0,
-            left: 0,
+            archive,
+            next: offset,
+            left: length,
             held: Vec::new(alloc),
             from: 0,
         }
-    }
-
-    /// Goes to `length` bytes of an archive, from an offset on.
-    pub(crate) fn begin(&mut self, archive: u32, offset: u64, length: u64)
-        ensures { self.new ≡ record { archive = archive; unread = []; next = offset; left = length } }
-    {
-        self.archive = archive;
-        self.next = offset;
-        self.left = length;
-        self.held.clear();
-        self.from = 0;
     }
 
     /// The bytes that were read and not passed.
