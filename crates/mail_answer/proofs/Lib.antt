@@ -11,3 +11,5 @@ pub mod ByteLists
 pub mod StaleLemmas
 pub mod ClosingLemmas
 pub mod ClosedLemmas
+pub mod AnswerTexts
+pub mod SpanLemmas

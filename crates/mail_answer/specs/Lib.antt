@@ -8,3 +8,4 @@ pub mod Shapes
 pub mod Readings
 pub mod Stale
 pub mod Closing
+pub mod Answers

@@ -70,23 +70,23 @@ fn push_next<A: Archives, O: Out>(
 /// Adds the bytes of a message to an answer, and what closes them.
 pub(crate) fn push_mbox<A: Archives, O: Out>(
     alloc: Global,
-    record: Record,
+    message: Record,
     archives: &mut A,
     sheet: &mut Sheet,
     out: &mut O,
 ) -> Result<(), AnswerFaultKind>
-    requires inside { IsInside (A.number archives.old) (A.held archives.old) (span_reading record) }
-    requires some { 0 < record.length }
+    requires inside { IsInside (A.number archives.old) (A.held archives.old) (span_reading message) }
+    requires some { 0 < message.length }
     requires archives { A.failures archives.old < 2 ^ 64 - 1 }
     requires out { O.failures out.old < 2 ^ 64 - 1 }
     ensures held { A.held archives.new ≡ A.held archives.old }
     ensures number { A.number archives.new ≡ A.number archives.old }
-    ensures writes { Writes (O.taken out.old) (O.taken out.new) sheet.old sheet.new (option_map closed (coming (A.held archives.old) (span_reading record))) result }
+    ensures writes { Writes (O.taken out.old) (O.taken out.new) sheet.old sheet.new (option_map closed (coming (A.held archives.old) (span_reading message))) result }
     ensures out_count { Counted (has_fault is_of_output result) (O.failures out.old) (O.failures out.new) }
     ensures archives_count { Counted (has_fault is_of_archives result) (A.failures archives.old) (A.failures archives.new) }
     ensures fresh { IfSome (A.held archives.old) (λ _. has_fault is_stale result ≡ false) }
 {
-    let mut reader = LineReader::over(alloc, record.archive, record.offset, record.length);
+    let mut reader = LineReader::over(alloc, message.archive, message.offset, message.length);
     'lines: loop {
         if push_next(&mut reader, archives, sheet, out)? {
             return Ok(());
