@@ -61,10 +61,10 @@ coming_read archive next left n (Some archives) unread new r h =
     let parts : take left rest ≡ take n rest ++ take (left - n) (drop n rest) = ap (λ k. take k rest) (omega arith) ∙ take-add n (left - n) rest in
     let further : drop (next + n) (archive_at archives archive) ≡ drop n rest = sym (drop-drop n next (archive_at archives archive)) in
     ap Some (
-      ap (λ l. l ++ take (left - n) (drop (next + n) (archive_at archives archive))) (r.behind ∙ ap (λ l. unread ++ l) r.known)
-      ∙ append_assoc unread (take n rest) (take (left - n) (drop (next + n) (archive_at archives archive)))
-      ∙ ap (λ l. unread ++ (take n rest ++ take (left - n) l)) further
-      ∙ ap (λ l. unread ++ l) (sym parts)
+    ap (λ l. l ++ take (left - n) (drop (next + n) (archive_at archives archive))) (r.behind ∙ ap (λ l. unread ++ l) r.known)
+    ∙ append_assoc unread (take n rest) (take (left - n) (drop (next + n) (archive_at archives archive)))
+    ∙ ap (λ l. unread ++ (take n rest ++ take (left - n) l)) further
+    ∙ ap (λ l. unread ++ l) (sym parts)
     )
 
 -- the end of a line is found in what was read

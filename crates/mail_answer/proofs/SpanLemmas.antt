@@ -19,7 +19,6 @@ joined-assoc (Some x) None c = refl
 joined-assoc (Some x) (Some y) None = refl
 joined-assoc (Some x) (Some y) (Some z) = ap Some (sym (append_assoc x y z))
 
-
 -- a line, and what is closed behind it
 pub closed_next : (held : Option (List (List ℕ))) (number : ℕ) (old new : Reading) → IsInside number held new → 0 < coming_count new → coming held new ≡ option_map behind_next (coming held old)
     → option_map closed (coming held old) ≡ joined (option_map next_text (coming held old)) (option_map closed (coming held new))

@@ -33,7 +33,11 @@ fn feeds_behind_line(line: &[u8]) -> &'static [u8]
 fn feeds_if_last(is_last: bool, line: &[u8]) -> &'static [u8]
     ensures { result.now ≡ feeds_if is_last line.now }
 {
-    if is_last { feeds_behind_line(line) } else { b"" }
+    if is_last {
+        feeds_behind_line(line)
+    } else {
+        b""
+    }
 }
 
 /// Adds the next line to an answer, and if it is the last, what closes it; answers whether it is.

@@ -37,7 +37,7 @@ returns-in_err-push_next-clause-writes g c =
     let front = closed_front held (g.A.Archives.number c.args.archives.now) c.lines.reader i.inside i.some in
     rw (j.2, front.1)
     (writes_next (g.O.Out.taken c.args.out.now) (g.O.Out.taken c.lines.out) (g.O.Out.taken c.push_next.new.out) c.args.sheet.now c.lines.sheet c.push_next.new.sheet j.0 (joined next front.0) c.from_residual.result (j.1, j.3, j.4)
-      (writes_stop (g.O.Out.taken c.lines.out) (g.O.Out.taken c.push_next.new.out) c.lines.sheet c.push_next.new.sheet next front.0 c.from_residual.result c.from_residual.ensures.0 (rw i.held at c.in_err-push_next.ensures.writes)))
+    (writes_stop (g.O.Out.taken c.lines.out) (g.O.Out.taken c.push_next.new.out) c.lines.sheet c.push_next.new.sheet next front.0 c.from_residual.result c.from_residual.ensures.0 (rw i.held at c.in_err-push_next.ensures.writes)))
 
 pub returns-then-branch-clause-writes : goal.returns-then-branch-clause-writes
 returns-then-branch-clause-writes g c =

@@ -32,7 +32,7 @@ returns-in_err-push-2-clause-writes g c =
     c.front-line.ensures c.is_last-is_last.ensures c.feeds_if_last.ensures in
     writes_less (g.O.Out.taken c.args.out.now) (g.O.Out.taken c.push-2.new.out) c.args.sheet.now c.push-2.new.self known (line ++ feeds) c.from_residual-in_err-push-2.result knows
     (writes_next (g.O.Out.taken c.args.out.now) (g.O.Out.taken c.push.new.out) (g.O.Out.taken c.push-2.new.out) c.args.sheet.now c.push.new.self c.push-2.new.self (Some line) (Some feeds) c.from_residual-in_err-push-2.result c.in_ok-push.ensures.writes
-      (writes_err (g.O.Out.taken c.push.new.out) (g.O.Out.taken c.push-2.new.out) c.push.new.self c.push-2.new.self (Some feeds) c.from_residual-in_err-push-2.result c.from_residual-in_err-push-2.ensures.0 c.in_err-push-2.ensures.writes))
+    (writes_err (g.O.Out.taken c.push.new.out) (g.O.Out.taken c.push-2.new.out) c.push.new.self c.push-2.new.self (Some feeds) c.from_residual-in_err-push-2.result c.from_residual-in_err-push-2.ensures.0 c.in_err-push-2.ensures.writes))
 
 pub returns-clause-writes : goal.returns-clause-writes
 returns-clause-writes g c =

@@ -16,7 +16,7 @@ returns-in_err-push_raw-clause-writes g c =
     let whole : j.0 ++ (line ++ rest) ≡ answer_text Raw t [] c.args.numbers.now = sym (j.1 ∙ ap (λ l. j.0 ++ l) (answer_next Raw t [] c.args.numbers.now c.loop-n.n-index (omega arith))) in
     subst (λ (x : List ℕ). Writes (g.O.Out.taken c.args.out.now) (g.O.Out.taken c.push_raw.new.out) c.args.sheet.now c.push_raw.new.sheet (Some x) c.from_residual.result) whole
     (writes_next (g.O.Out.taken c.args.out.now) (g.O.Out.taken c.loop-n.out) (g.O.Out.taken c.push_raw.new.out) c.args.sheet.now c.loop-n.sheet c.push_raw.new.sheet (Some j.0) (Some (line ++ rest)) c.from_residual.result (j.0, refl, j.2)
-      (writes_stop (g.O.Out.taken c.loop-n.out) (g.O.Out.taken c.push_raw.new.out) c.loop-n.sheet c.push_raw.new.sheet (Some line) (Some rest) c.from_residual.result c.from_residual.ensures.0 c.in_err-push_raw.ensures.writes))
+    (writes_stop (g.O.Out.taken c.loop-n.out) (g.O.Out.taken c.push_raw.new.out) c.loop-n.sheet c.push_raw.new.sheet (Some line) (Some rest) c.from_residual.result c.from_residual.ensures.0 c.in_err-push_raw.ensures.writes))
 
 pub loop-n-preserved : goal.loop-n-preserved
 loop-n-preserved g c =

@@ -20,5 +20,5 @@ loop-n-preserved g c =
       number = c.in_ok-is_as_indexed.ensures.number ∙ i.number;
       count = c.in_ok-is_as_indexed.ensures.count ∙ i.count;
       so_far = goes_on named (g.A.Archives.held c.args.archives.now) c.loop-n.n (g.A.Archives.number c.args.archives.now) c.in_ok-is_as_indexed.field-0 (omega arith) (omega arith) c.count-count.ensures.1 i.so_far
-      (rw i.held at c.in_ok-is_as_indexed.ensures.same) (cc);
+          (rw i.held at c.in_ok-is_as_indexed.ensures.same) (cc);
     }
