@@ -1,13 +1,12 @@
 -- A span is closed by what closes its last line.
 use Rattle.std.proofs.Common.{◌≡◌, ℕ, ◌+◌, suc, ◌<◌, ◌≤◌, Bool, true, false, cond, ◌||◌, ◌&&◌, ◌==◌, nat_lt, nat_eq, List, [], ◌∷◌, ◌++◌, Some, length, take, drop, refl, ap, sym, ◌∙◌, append_assoc, append-nil, arith}
-use Rattle.std.specs.List.{list_any}
 use Rattle.std.specs.Str.{bytes_eq}
 use Rattle.std.proofs.lemmas.Bool.Decides.{nat_tests}
-use Rattle.std.proofs.lemmas.List.{take-append-le, drop-append-le, length-append, length-drop, take_all, drop_all, take-append-drop}
+use Rattle.std.proofs.lemmas.List.{drop-append-le, length-append, length-drop, take_all, drop_all, take-append-drop}
 use Rattle.mbox_cutter.specs.Lines.{is_empty, lines, first_length, line_end_of, length_before_feed}
-use Rattle.mbox_cutter.proofs.FirstLines.{line_end-more, first_length-le, first_length-positive, length_before_feed-le, length_before_feed-append_out}
+use Rattle.mbox_cutter.proofs.FirstLines.{line_end-more, first_length-le, length_before_feed-le, length_before_feed-append_out}
 use Rattle.mbox_cutter.proofs.LineLists.{lines-cons, lines-nil}
-use Rattle.mail_answer.specs.Closing.{feed, has_feed, feeds_behind, feeds_if, next_text, behind_next}
+use Rattle.mail_answer.specs.Closing.{feed, has_feed, feeds_behind, next_text, behind_next}
 use Rattle.mail_answer.specs.Shapes.{closed, is_closed, last_of}
 
 ended : (b : List ℕ) → first_length b < length b → Some (first_length b) ≡ line_end_of b

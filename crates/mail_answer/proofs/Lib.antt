@@ -13,3 +13,4 @@ pub mod ClosingLemmas
 pub mod ClosedLemmas
 pub mod AnswerTexts
 pub mod SpanLemmas
+mod RowsShapes

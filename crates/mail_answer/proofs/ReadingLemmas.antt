@@ -1,13 +1,13 @@
 -- Laws of what is read of an archive.
-use Rattle.std.proofs.Common.{◌≡◌, ℕ, ◌+◌, ◌-◌, ◌<◌, ◌≤◌, List, [], ◌++◌, Option, None, Some, IfSome, Result, Ok, Err, IfOk, length, take, drop, refl, ap, sym, ◌∙◌, append_assoc, append-nil, arith}
+use Rattle.std.proofs.Common.{◌≡◌, ℕ, ◌+◌, ◌-◌, ◌<◌, ◌≤◌, List, ◌++◌, Option, None, Some, IfSome, Result, Ok, Err, IfOk, length, take, drop, refl, ap, sym, ◌∙◌, append_assoc, append-nil, arith}
 use Rattle.std.proofs.Math.Seq.{take-append-add, take-add}
-use Rattle.std.proofs.lemmas.List.{take-append-le, take_all, length-take-le, length-append, length-drop, drop-drop, drop_all, drop-append-le, take-append-drop}
+use Rattle.std.proofs.lemmas.List.{take-append-le, take_all, length-take-le, drop-drop, drop_all}
 use borrow.Rule.Slice.PartMut.{put_mid}
 use Rattle.mbox_cutter.specs.declared.device.DeviceFault.{DeviceFault}
 use Rattle.mbox_cutter.specs.Lines.{line_end_of, first_length}
 use Rattle.mbox_cutter.proofs.FirstLines.{line_end-more, line_end-whole}
 use Rattle.mail_answer.specs.Archives.{archive_at, IsRead}
-use Rattle.mail_answer.specs.Readings.{Reading, coming, coming_count, ReadsBehind, ReadsTail}
+use Rattle.mail_answer.specs.Readings.{Reading, coming, ReadsBehind, ReadsTail}
 
 take_behind : (front into post : List ℕ) (held n : ℕ) → length front ≡ held → n ≤ length into → take (held + n) (front ++ (into ++ post)) ≡ front ++ take n into
 take_behind front into post held n e h = rw (← e) (take-append-add front (into ++ post) n ∙ ap (λ (s : List ℕ). front ++ s) (take-append-le n into post h))

@@ -1,9 +1,8 @@
 -- Laws of archives that have changed.
-use Rattle.std.proofs.Common.{◌≡◌, ◌≢◌, ℕ, ◌+◌, suc, ◌<◌, ◌≤◌, Bool, true, false, ◌==◌, cond, min, List, [], ◌∷◌, length, drop, drop-cons, get_or, Option, None, Some, IfSome, Result, Ok, Err, inl, inr, zero, refl, ap, sym, ◌∙◌, add-one, arith}
+use Rattle.std.proofs.Common.{◌≡◌, ℕ, ◌+◌, suc, ◌<◌, ◌≤◌, Bool, true, false, ◌==◌, cond, min, List, [], ◌∷◌, length, drop, drop-cons, get_or, Option, None, Some, IfSome, Err, inl, inr, zero, refl, ap, sym, ◌∙◌, add-one, arith}
 use Rattle.std.proofs.lemmas.List.{drop_all}
 use Rattle.std.proofs.lemmas.Bool.Decides.{eqb_tells}
 use Rattle.mail_index.specs.Tables.{Archive}
-use Rattle.mail_answer.specs.declared.fault.AnswerFaultKind.{AnswerFaultKind}
 use Rattle.mail_answer.specs.declared.fault.AnswerFaultKind.TheVariants.{Stale}
 use Rattle.mail_answer.specs.Archives.{archive_at}
 use Rattle.mail_answer.specs.Stale.{first_changed, stale_archive, length_at, TellsStale}

@@ -1,5 +1,5 @@
 -- What a call that writes an answer does to its output, and what it tells of the archives.
-use Rattle.std.specs.Prelude.{◌≡◌, ℕ, ◌-◌, ◌^◌, min, List, [], ◌++◌, length, Bool, true, false, Option, None, Some, Result, Ok, Err}
+use Rattle.std.specs.Prelude.{◌≡◌, ℕ, ◌-◌, ◌^◌, min, List, ◌++◌, length, Bool, false, Option, None, Some, Result, Ok, Err}
 use Rattle.std.specs.Io.KnownBytes.{Appends, Keeps}
 use Rattle.std.specs.Bool.{MatchBool}
 use Rattle.mail_answer.specs.Faults.{is_stale, is_of_archives}

@@ -2,7 +2,6 @@
 use Rattle.std.specs.Prelude.{Bool, true, false, Result, Ok, Err}
 use Rattle.mail_answer.specs.declared.fault.AnswerFaultKind.{AnswerFaultKind}
 use Rattle.mail_answer.specs.declared.fault.AnswerFaultKind.TheVariants.{Stale, Device, OutOfMemory, OutFailed}
-use Rattle.mail_answer.specs.declared.fault.AnswerFault.{AnswerFault}
 
 abbrev pub is_of_output : AnswerFaultKind → Bool
 is_of_output OutFailed = true

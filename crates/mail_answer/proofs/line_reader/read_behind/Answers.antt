@@ -1,4 +1,4 @@
-use Rattle.std.proofs.Common.{◌≡◌, ℕ, List, length, take, ◌+◌, ◌∙◌, ap, arith}
+use Rattle.std.proofs.Common.{length, take, ◌+◌, ◌∙◌, ap, arith}
 use Rattle.mail_answer.proofs.ReadingLemmas.{behind_read, written_back}
 use Rattle.mail_answer.proofs.line_reader.read_behind.Goals as goal
 

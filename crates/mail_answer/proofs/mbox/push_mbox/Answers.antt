@@ -1,10 +1,10 @@
-use Rattle.std.proofs.Common.{◌≡◌, ◌<◌, ℕ, Bool, true, false, nat_eq, List, [], ◌++◌, Option, Some, Result, Ok, ap, sym, ◌∙◌, refl, subst, append-nil, arith}
+use Rattle.std.proofs.Common.{◌≡◌, ◌<◌, ℕ, Bool, true, false, nat_eq, List, [], ◌++◌, Option, Some, Result, Ok, ap, sym, ◌∙◌, refl, append-nil, arith}
 use Rattle.std.proofs.lemmas.Bool.Decides.{nat_tests}
 use Rattle.std.specs.Option.{option_map}
 use Rattle.mail_answer.specs.Closing.{next_text, behind_next}
-use Rattle.mail_answer.specs.Readings.{Reading, coming, coming_count, span_reading, IsInside}
+use Rattle.mail_answer.specs.Readings.{coming, coming_count, span_reading, IsInside}
 use Rattle.mail_answer.specs.Shapes.{closed}
-use Rattle.mail_answer.specs.Sheets.{joined, Tells, Joins, Writes}
+use Rattle.mail_answer.specs.Sheets.{joined}
 use Rattle.mail_answer.proofs.SheetLemmas.{joins_gathered, writes_next, writes_stop, tells-joined, joins_more}
 use Rattle.mail_answer.proofs.SpanLemmas.{joined-nothing, joined-assoc, closed_next, closed_done, closed_front}
 use Rattle.mail_answer.proofs.mbox.push_mbox.Goals as goal

@@ -1,7 +1,7 @@
-use Rattle.std.proofs.Common.{◌≡◌, ℕ, Bool, List, ◌++◌, Option, Some, Result, Ok, Err, take, nat_eq, ap, ◌∙◌, refl, sym, subst}
+use Rattle.std.proofs.Common.{ℕ, Bool, List, ◌++◌, Option, Some, Result, Ok, refl}
 use Rattle.std.specs.Option.{option_map}
 use Rattle.mail_answer.specs.Closing.{next_text, feeds_if}
-use Rattle.mail_answer.specs.Readings.{Reading, coming, coming_count}
+use Rattle.mail_answer.specs.Readings.{coming}
 use Rattle.mail_answer.specs.Sheets.{Tells}
 use Rattle.mail_answer.proofs.ClosingLemmas.{next_told}
 use Rattle.mail_answer.proofs.SheetLemmas.{writes_nothing, writes_stop, writes_next, writes_less, writes_err}

@@ -4,7 +4,7 @@ use Rattle.mail_answer.specs.Sheets.{Writes}
 use Rattle.mail_answer.specs.TableFacts.{record_at}
 use Rattle.mail_answer.specs.declared.format.Format.TheVariants.{Raw}
 use Rattle.mail_answer.proofs.AnswerTexts.{answer_next, answer_end}
-use Rattle.mail_answer.proofs.SheetLemmas.{writes_next, writes_stop, writes_err, joins_more}
+use Rattle.mail_answer.proofs.SheetLemmas.{writes_next, writes_stop, joins_more}
 use Rattle.mail_answer.proofs.raw_answer.write_lines.Goals as goal
 
 pub returns-in_err-push_raw-clause-writes : goal.returns-in_err-push_raw-clause-writes

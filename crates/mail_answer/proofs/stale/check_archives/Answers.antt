@@ -1,6 +1,4 @@
-use Rattle.std.proofs.Common.{◌≡◌, ℕ, List, Option, Bool, true, false, length, IfSome, ◌==◌, ◌∙◌, subst, arith}
-use Rattle.mail_answer.specs.Archives.{archive_at}
-use Rattle.mail_answer.specs.Stale.{length_at}
+use Rattle.std.proofs.Common.{◌∙◌, arith}
 use Rattle.mail_answer.proofs.StaleLemmas.{goes_on, stops_here, stale_told}
 use Rattle.mail_answer.proofs.stale.check_archives.Goals as goal
 

@@ -1,4 +1,4 @@
-use Rattle.std.proofs.Common.{◌≡◌, length, drop, IfSome}
+use Rattle.std.proofs.Common.{◌≡◌, drop, IfSome}
 use Rattle.mail_answer.specs.Stale.{first_changed}
 use Rattle.mail_answer.proofs.stale.check_archives.Given as goal
 

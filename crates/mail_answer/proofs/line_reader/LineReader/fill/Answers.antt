@@ -1,4 +1,4 @@
-use Rattle.std.proofs.Common.{◌≡◌, ℕ, List, drop, arith, ap, ◌∙◌, subst}
+use Rattle.std.proofs.Common.{ℕ, List, drop, arith, ap, ◌∙◌, subst}
 use Rattle.mail_answer.specs.Readings.{Reading, coming, ReadsBehind}
 use Rattle.mail_answer.proofs.ReadingLemmas.{coming_read}
 use Rattle.mail_answer.proofs.line_reader.LineReader.fill.Goals as goal

@@ -1,4 +1,4 @@
-use Rattle.std.proofs.Common.{◌≡◌, ℕ, ◌<◌, arith, ap, ◌∙◌, sym}
+use Rattle.std.proofs.Common.{◌≡◌, ◌<◌, arith, ap, ◌∙◌, sym}
 use Rattle.mail_answer.specs.Readings.{Reading}
 use Rattle.mbox_cutter.specs.Lines.{line_end_of}
 use Rattle.mbox_cutter.proofs.FirstLines.{line_end-within, line_end-positive, line_end-open}

@@ -1,4 +1,4 @@
-use Rattle.std.proofs.Common.{refl, Some, [], ◌∙◌}
+use Rattle.std.proofs.Common.{refl, Some}
 use Rattle.mail_answer.proofs.SheetLemmas.{joins_gathered, gathered_went, writes_nothing}
 use Rattle.mail_answer.proofs.sheet.Sheet.push.Goals as goal
 

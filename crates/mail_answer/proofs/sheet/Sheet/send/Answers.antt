@@ -1,4 +1,4 @@
-use Rattle.std.proofs.Common.{◌≡◌, ◌≤◌, ◌+◌, [], refl, List, ℕ, length, take, arith, ap, sym, subst, ◌∙◌}
+use Rattle.std.proofs.Common.{◌≡◌, ◌≤◌, ◌+◌, [], refl, List, ℕ, length, arith, ap, ◌∙◌}
 use Rattle.mail_answer.proofs.SheetLemmas.{appends_step, counted_step, all_went, front_went, appends-start, counted-start}
 use Rattle.mail_answer.proofs.sheet.Sheet.send.Goals as goal
 
