@@ -20,3 +20,12 @@ pub mod RootLemmas
 pub mod ChosenThreads
 pub mod OneThreadList
 mod RowsThreads
+pub mod SheetLemmas
+pub mod ReadingLemmas
+pub mod ByteLists
+pub mod StaleLemmas
+pub mod ClosingLemmas
+pub mod ClosedLemmas
+pub mod AnswerTexts
+pub mod SpanLemmas
+mod RowsShapes

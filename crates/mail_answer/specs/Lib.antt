@@ -11,3 +11,12 @@ pub mod CursorBegins
 pub mod CursorNumbers
 pub mod CursorWalks
 pub mod CursorFalls
+pub mod Archives
+pub mod Faults
+pub mod Sheets
+pub mod Excerpts
+pub mod Shapes
+pub mod Readings
+pub mod Stale
+pub mod Closing
+pub mod Answers

@@ -1,5 +1,17 @@
-//! Answers to queries from an index: which of its messages satisfy a query, and which threads they are in.
+//! Answers to queries from an index: which of its messages satisfy a query, which threads they are in, and how they are written.
 #![tactic(auto)]
+
+mod archives;
+
+pub use archives::Archives;
+
+mod memory_archives;
+
+pub use memory_archives::MemoryArchives;
+
+mod fail_at;
+
+pub use fail_at::FailAt;
 
 mod cursor;
 
@@ -9,20 +21,38 @@ mod threads;
 
 pub use threads::with_threads;
 
-mod laws;
+mod format;
 
-pub use laws::one_list_of_threads;
+pub use format::Format;
+
+mod fault;
+
+pub use fault::{AnswerFault, AnswerFaultKind};
+
+mod raw_answer;
+
+pub use raw_answer::write_raw;
 
 mod plain;
 
 pub use plain::plain_matches;
 
+mod laws;
+
+pub use laws::one_list_of_threads;
+
 #[cfg(test)]
 mod cursor_tests;
+mod excerpt;
 mod fit;
 mod forest;
+mod line_reader;
 mod marks;
+mod mbox;
+mod raw_line;
 mod records;
+mod sheet;
+mod stale;
 #[cfg(test)]
 mod tests;
 mod texts;

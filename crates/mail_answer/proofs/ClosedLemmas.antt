@@ -1,0 +1,150 @@
+-- A span is closed by what closes its last line.
+use Rattle.std.proofs.Common.{◌≡◌, ℕ, ◌+◌, suc, ◌<◌, ◌≤◌, Bool, true, false, cond, ◌||◌, ◌&&◌, ◌==◌, nat_lt, nat_eq, List, [], ◌∷◌, ◌++◌, Some, length, take, drop, refl, ap, sym, ◌∙◌, append_assoc, append-nil, arith}
+use Rattle.std.specs.Str.{bytes_eq}
+use Rattle.std.proofs.lemmas.Bool.Decides.{nat_tests}
+use Rattle.std.proofs.lemmas.List.{drop-append-le, length-append, length-drop, take_all, drop_all, take-append-drop}
+use Rattle.mbox_cutter.specs.Lines.{is_empty, lines, first_length, line_end_of, length_before_feed}
+use Rattle.mbox_cutter.proofs.FirstLines.{line_end-more, first_length-le, length_before_feed-le, length_before_feed-append_out}
+use Rattle.mbox_cutter.proofs.LineLists.{lines-cons, lines-nil}
+use Rattle.mail_answer.specs.Closing.{feed, has_feed, feeds_behind, next_text, behind_next}
+use Rattle.mail_answer.specs.Shapes.{closed, is_closed, last_of}
+
+ended : (b : List ℕ) → first_length b < length b → Some (first_length b) ≡ line_end_of b
+unfolding first_length line_end_of
+ended b h = let k : length_before_feed b ≤ length b = length_before_feed-le b in grind (arith, nat_tests)
+
+last-cons : (l : List ℕ) (b : List ℕ) → 0 < length b → last_of (l ∷ lines b) ≡ last_of (lines b)
+last-cons l b h = let e = lines-cons b h in rw (e) refl
+
+-- what follows the first line decides
+closed_behind : (b x : List ℕ) → first_length b < length b → is_closed (b ++ x) ≡ is_closed (behind_next b ++ x)
+closed_behind b x h =
+    let n : ℕ = first_length b in
+    let same : n ≡ first_length (b ++ x) = line_end-more b x n (ended b h) in
+    let long : length (b ++ x) ≡ length b + length x = length-append b x in
+    let rest : drop (first_length (b ++ x)) (b ++ x) ≡ drop n b ++ x = ap (λ k. drop k (b ++ x)) (sym same) ∙ drop-append-le n b x (omega arith) in
+    let some : 0 < length (drop n b ++ x) = omega (arith, length-append (drop n b) x, length-drop n b) in
+    ap (λ ls. is_empty (last_of ls)) (lines-cons (b ++ x) (omega arith))
+    ∙ ap (λ r. is_empty (last_of (take (first_length (b ++ x)) (b ++ x) ∷ lines r))) rest
+    ∙ ap is_empty (last-cons (take (first_length (b ++ x)) (b ++ x)) (drop n b ++ x) some)
+
+-- a single line
+single : (b : List ℕ) → 0 < length b → first_length b ≡ length b → is_closed b ≡ is_empty b
+single b h e =
+    ap (λ ls. is_empty (last_of ls)) (lines-cons b h)
+    ∙ ap (λ r. is_empty (last_of (take (first_length b) b ∷ lines r))) (drop_all (first_length b) b (omega arith))
+    ∙ ap (λ ls. is_empty (last_of (take (first_length b) b ∷ ls))) lines-nil
+    ∙ ap is_empty (take_all (first_length b) b (omega arith))
+
+feed_closed : is_closed feed ≡ true
+unfolding lines first_length is_empty
+feed_closed = refl
+
+has_feed-is : (b : List ℕ) → has_feed b ≡ nat_lt (length_before_feed b) (length b)
+has_feed-is [] = refl
+has_feed-is (x ∷ xs) = elim (x == 10) as (λ v. (v || has_feed xs) ≡ nat_lt (cond v 0 (suc (length_before_feed xs))) (length (x ∷ xs)))
+    [ true ↦ grind (arith, nat_tests) | false ↦ has_feed-is xs ∙ grind (arith, nat_tests) ]
+
+whole_end : (b : List ℕ) → first_length b ≡ length b → nat_lt (length_before_feed b) (length b) ≡ true → Some (first_length b) ≡ line_end_of b
+unfolding first_length line_end_of
+whole_end b e f = grind (arith, nat_tests)
+
+whole_feed : (b : List ℕ) → first_length b ≡ length b → nat_lt (length_before_feed b) (length b) ≡ false → first_length (b ++ feed) ≡ length (b ++ feed)
+unfolding first_length
+whole_feed b e f =
+    let k : length_before_feed b ≤ length b = length_before_feed-le b in
+    let none : length_before_feed b ≡ length b = grind (arith, nat_tests) in
+    let more : length_before_feed (b ++ feed) ≡ length b + 0 = length_before_feed-append_out b feed none in
+    let long : length (b ++ feed) ≡ length b + 1 = length-append b feed in
+    grind (arith, nat_tests)
+
+-- a line that ends in LF is followed by an empty one
+ended_line : (b : List ℕ) → 0 < length b → first_length b ≡ length b → has_feed b ≡ true → is_closed (b ++ feed) ≡ true
+ended_line b h e f =
+    let n : ℕ = first_length b in
+    let same : n ≡ first_length (b ++ feed) = line_end-more b feed n (whole_end b e (sym (has_feed-is b) ∙ f)) in
+    let long : length (b ++ feed) ≡ length b + 1 = length-append b feed in
+    ap (λ ls. is_empty (last_of ls)) (lines-cons (b ++ feed) (omega arith))
+    ∙ ap (λ k. is_empty (last_of (take k (b ++ feed) ∷ lines (drop k (b ++ feed))))) (sym same ∙ e)
+    ∙ ap (λ r. is_empty (last_of (take (length b) (b ++ feed) ∷ lines r))) (drop-append-le (length b) b feed (omega arith) ∙ ap (λ r. r ++ feed) (drop_all (length b) b (omega arith)))
+    ∙ ap is_empty (last-cons (take (length b) (b ++ feed)) feed (omega arith)) ∙ feed_closed
+
+open_line : (b : List ℕ) → 0 < length b → first_length b ≡ length b → has_feed b ≡ false → is_closed (b ++ feed) ≡ is_empty (b ++ feed)
+open_line b h e f = single (b ++ feed) (omega (arith, length-append b feed)) (whole_feed b e (sym (has_feed-is b) ∙ f))
+
+-- CR alone becomes an empty line
+cr_line : (b : List ℕ) → 0 < length b → is_empty (b ++ feed) ≡ bytes_eq b (13 ∷ [])
+unfolding is_empty
+cr_line [] h = absurd (omega arith)
+cr_line (x ∷ []) h = elim (x == 13) as (λ v. (((x == 10) && false) || (v && true)) ≡ (v && true)) [ true ↦ elim (x == 10) as (λ w. ((w && false) || true) ≡ true) [ true ↦ refl | false ↦ refl ] | false ↦ elim (x == 10) as (λ w. ((w && false) || false) ≡ false) [ true ↦ refl | false ↦ refl ] ]
+cr_line (x ∷ y ∷ []) h = tests (x == 10) (x == 13) (y == 10)
+  where
+    tests : (a b c : Bool) → ((a && false) || (b && (c && false))) ≡ (b && false)
+    tests true true true = refl
+    tests true true false = refl
+    tests true false c = refl
+    tests false true true = refl
+    tests false true false = refl
+    tests false false c = refl
+cr_line (x ∷ y ∷ z ∷ rest) h = tests (x == 10) (x == 13) (y == 10)
+  where
+    tests : (a b c : Bool) → ((a && false) || (b && (c && false))) ≡ (b && false)
+    tests true true true = refl
+    tests true true false = refl
+    tests true false c = refl
+    tests false true true = refl
+    tests false true false = refl
+    tests false false c = refl
+
+with_feeds : (b : List ℕ) → (e f g : Bool) → is_closed b ≡ e → is_closed (b ++ feed) ≡ f → closed b ≡ cond e b (cond f (b ++ feed) (b ++ feed ++ feed))
+unfolding closed
+with_feeds b e f g p q = rw (p, q) refl
+
+one_line : (b : List ℕ) → 0 < length b → first_length b ≡ length b → closed b ≡ b ++ feeds_behind b
+one_line b h e = with_feeds b (is_empty b) (has_feed b || bytes_eq b (13 ∷ [])) true (single b h e) (feed_decides b h e) ∙ parts (is_empty b) (has_feed b || bytes_eq b (13 ∷ []))
+  where
+    parts : (e f : Bool) → cond e b (cond f (b ++ feed) (b ++ feed ++ feed)) ≡ b ++ cond e [] (cond f feed (feed ++ feed))
+    parts true f = sym (append-nil b)
+    parts false true = refl
+    parts false false = append_assoc b feed feed
+
+    feed_decides : (b : List ℕ) → 0 < length b → first_length b ≡ length b → is_closed (b ++ feed) ≡ (has_feed b || bytes_eq b (13 ∷ []))
+    feed_decides b h e = go (has_feed b) refl
+      where
+        go : (v : Bool) → has_feed b ≡ v → is_closed (b ++ feed) ≡ (has_feed b || bytes_eq b (13 ∷ []))
+        go true f = ended_line b h e f ∙ ap (λ v. v || bytes_eq b (13 ∷ [])) (sym f)
+        go false f = open_line b h e f ∙ cr_line b h ∙ ap (λ v. v || bytes_eq b (13 ∷ [])) (sym f)
+
+behind-length : (b : List ℕ) → length (behind_next b) + first_length b ≡ length b
+behind-length b = omega (arith, length-drop (first_length b) b, first_length-le b)
+
+not_last : (n m : ℕ) → n < m → nat_eq n m ≡ false
+not_last n m h = grind (arith, nat_tests)
+
+is_last : (n m : ℕ) → n ≡ m → nat_eq n m ≡ true
+is_last n m h = grind (arith, nat_tests)
+
+-- a span of one line
+pub closed_last : (b : List ℕ) → 0 < length b → length (behind_next b) ≡ 0 → closed b ≡ next_text b
+closed_last b h z =
+    let e : first_length b ≡ length b = omega (arith, behind-length b) in
+    one_line b h e ∙ rw (is_last (first_length b) (length b) e, take_all (first_length b) b (omega arith)) refl
+
+-- the first of several lines
+pub closed_more : (b : List ℕ) → 0 < length (behind_next b) → closed b ≡ next_text b ++ closed (behind_next b)
+closed_more b z =
+    let h : first_length b < length b = omega (arith, behind-length b) in
+    let rest : List ℕ = behind_next b in
+    let front : List ℕ = take (first_length b) b in
+    let next : next_text b ≡ front = rw (not_last (first_length b) (length b) h) (append-nil front) in
+    let whole : front ++ rest ≡ b = take-append-drop (first_length b) b in
+    let e : is_closed b ≡ is_closed rest = ap is_closed (sym (append-nil b)) ∙ closed_behind b [] h ∙ ap is_closed (append-nil rest) in
+    with_feeds b (is_closed rest) (is_closed (rest ++ feed)) true e (closed_behind b feed h)
+    ∙ parts front rest b whole (is_closed rest) (is_closed (rest ++ feed))
+    ∙ ap (λ l. front ++ l) (sym (with_feeds rest (is_closed rest) (is_closed (rest ++ feed)) true refl refl))
+    ∙ ap (λ l. l ++ closed rest) (sym next)
+  where
+    parts : (front rest b : List ℕ) → front ++ rest ≡ b → (e f : Bool) → cond e b (cond f (b ++ feed) (b ++ feed ++ feed)) ≡ front ++ cond e rest (cond f (rest ++ feed) (rest ++ feed ++ feed))
+    parts front rest b w true f = sym w
+    parts front rest b w false true = ap (λ l. l ++ feed) (sym w) ∙ append_assoc front rest feed
+    parts front rest b w false false = ap (λ l. (l ++ feed) ++ feed) (sym w) ∙ ap (λ l. l ++ feed) (append_assoc front rest feed) ∙ append_assoc front (rest ++ feed) feed

@@ -1,0 +1,18 @@
+-- What archives that are read at any place tell of their bytes, where these are known.
+use Rattle.std.specs.Prelude.{◌≡◌, ℕ, List, [], Option, IfSome, length, take, drop}
+use Rattle.std.specs.List.{slice_index_or}
+
+-- the bytes of the archive of this number
+abbrev pub archive_at : List (List ℕ) → ℕ → List ℕ
+archive_at archives n = slice_index_or archives n []
+
+abbrev pub IsCount : ℕ → ℕ → Option (List (List ℕ)) → Type 0
+IsCount told number held = (told ≡ number) × IfSome held (λ archives. length archives ≡ number)
+
+abbrev pub IsLength : ℕ → ℕ → Option (List (List ℕ)) → Type 0
+IsLength n bytes held = IfSome held (λ archives. bytes ≡ length (archive_at archives n))
+
+-- These bytes stand in the archive from the offset on. None are read only where none stand there.
+abbrev pub IsRead : ℕ → ℕ → List ℕ → Option (List (List ℕ)) → Type 0
+IsRead n offset bytes held = IfSome held (λ archives. (bytes ≡ take (length bytes) (drop offset (archive_at archives n)))
+    × (length bytes ≡ 0 → drop offset (archive_at archives n) ≡ []))

@@ -1,0 +1,25 @@
+-- The text of a span in an mbox answer, line by line.
+use Rattle.std.specs.Prelude.{ℕ, Bool, ◌||◌, ◌==◌, nat_eq, List, [], ◌∷◌, ◌++◌, length, take, drop, if◌then◌else◌}
+use Rattle.std.specs.List.{list_any}
+use Rattle.std.specs.Str.{bytes_eq}
+use Rattle.mbox_cutter.specs.Lines.{is_empty, first_length}
+
+abbrev pub feed : List ℕ
+feed = 10 ∷ []
+
+abbrev pub has_feed : List ℕ → Bool
+has_feed line = list_any (λ b. b == 10) line
+
+-- what closes a last line
+abbrev pub feeds_behind : List ℕ → List ℕ
+feeds_behind line = if is_empty line then [] else if has_feed line || bytes_eq line (13 ∷ []) then feed else feed ++ feed
+
+abbrev pub behind_next : List ℕ → List ℕ
+behind_next bytes = drop (first_length bytes) bytes
+
+abbrev pub feeds_if : Bool → List ℕ → List ℕ
+feeds_if last line = if last then feeds_behind line else []
+
+-- the first line, with what closes it if it is the last
+abbrev pub next_text : List ℕ → List ℕ
+next_text bytes = take (first_length bytes) bytes ++ feeds_if (nat_eq (first_length bytes) (length bytes)) (take (first_length bytes) bytes)

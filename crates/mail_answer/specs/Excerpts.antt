@@ -1,0 +1,39 @@
+-- The excerpt of a message.
+use Rattle.std.specs.Prelude.{ℕ, true, false, ◌||◌, ◌==◌, nat_lt, List, [], ◌∷◌, ◌++◌, map, drop, if◌then◌else◌, codes}
+use Rattle.std.specs.List.{flat_map}
+use Rattle.std.specs.Str.{bytes_eq, str_to_ascii_lowercase}
+use Rattle.mbox_cutter.specs.Lines.{lines}
+use Rattle.header_text.specs.Headers.{HeaderField, fields_of}
+use Rattle.header_text.specs.Unfolding.{unfolded}
+use Rattle.header_text.specs.EncodedWords.{decoded}
+
+-- the body of the first field of a name, in any ASCII case, empty where it is missing
+abbrev pub first_body : List ℕ → List HeaderField → List ℕ
+first_body name [] = []
+first_body name (f ∷ fs) = elim (bytes_eq (str_to_ascii_lowercase f.name) (str_to_ascii_lowercase name)) [ true ↦ f.body | false ↦ first_body name fs ]
+
+-- each character below U+0020, and U+007F, as a space: in UTF-8 each of them is one byte, and no other character has that byte
+abbrev pub shown_byte : ℕ → ℕ
+shown_byte b = if nat_lt b 32 || b == 127 then 32 else b
+
+abbrev pub without_controls : List ℕ → List ℕ
+without_controls text = map shown_byte text
+
+-- behind a space, where it isn't empty
+abbrev pub spaced : List ℕ → List ℕ
+spaced [] = []
+spaced (b ∷ bs) = 32 ∷ b ∷ bs
+
+-- the name, a colon, the value, LF
+abbrev pub field_line : List HeaderField → List ℕ → List ℕ
+field_line fields name = name ++ 58 ∷ spaced (without_controls (decoded (unfolded (first_body name fields)))) ++ 10 ∷ []
+
+abbrev pub excerpt_names : List (List ℕ)
+excerpt_names = codes "To" ∷ codes "Cc" ∷ codes "From" ∷ codes "Subject" ∷ codes "Date" ∷ []
+
+abbrev pub excerpt_lines : List HeaderField → List ℕ
+excerpt_lines fields = flat_map (field_line fields) excerpt_names
+
+-- the path and LF, and then a line for each of the five fields, by the lines of the span behind its first
+unfoldable pub excerpt : List ℕ → List ℕ → List ℕ
+excerpt path bytes = path ++ 10 ∷ excerpt_lines (fields_of (drop 1 (lines bytes)))

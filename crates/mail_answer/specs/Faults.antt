@@ -1,0 +1,27 @@
+-- Which device an answer failed at.
+use Rattle.std.specs.Prelude.{Bool, true, false, Result, Ok, Err}
+use Rattle.mail_answer.specs.declared.fault.AnswerFaultKind.{AnswerFaultKind}
+use Rattle.mail_answer.specs.declared.fault.AnswerFaultKind.TheVariants.{Stale, Device, OutOfMemory, OutFailed}
+
+abbrev pub is_of_output : AnswerFaultKind → Bool
+is_of_output OutFailed = true
+is_of_output (Stale _) = false
+is_of_output Device = false
+is_of_output OutOfMemory = false
+
+abbrev pub is_of_archives : AnswerFaultKind → Bool
+is_of_archives OutFailed = false
+is_of_archives (Stale _) = false
+is_of_archives Device = true
+is_of_archives OutOfMemory = false
+
+abbrev pub is_stale : AnswerFaultKind → Bool
+is_stale OutFailed = false
+is_stale (Stale _) = true
+is_stale Device = false
+is_stale OutOfMemory = false
+
+-- a call's fault is one of these
+abbrev pub has_fault : {T : Type 0} → (AnswerFaultKind → Bool) → Result T AnswerFaultKind → Bool
+has_fault kinds (Ok _) = false
+has_fault kinds (Err kind) = kinds kind

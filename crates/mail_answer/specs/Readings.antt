@@ -1,0 +1,45 @@
+-- What is read of a part of an archive, line by line.
+use Rattle.std.specs.Prelude.{◌≡◌, ℕ, ◌+◌, ◌<◌, ◌≤◌, ◌^◌, List, [], ◌++◌, length, take, drop, Option, IfSome}
+use Rattle.std.specs.Option.{option_map}
+use Rattle.mail_index.specs.declared.record.Record.{Record}
+use Rattle.mail_answer.specs.Archives.{archive_at, IsRead}
+
+-- the archive, the bytes that were read of the part and not passed, where the others begin, and how many these are
+pub record Reading : Type 0 where
+  pub archive : ℕ
+  pub unread : List ℕ
+  pub next : ℕ
+  pub left : ℕ
+
+-- the bytes of the part that weren't passed, where the archives' bytes are known
+abbrev pub coming : Option (List (List ℕ)) → Reading → Option (List ℕ)
+coming held r = option_map (λ archives. r.unread ++ take r.left (drop r.next (archive_at archives r.archive))) held
+
+-- how many they are
+abbrev pub coming_count : Reading → ℕ
+coming_count r = length r.unread + r.left
+
+-- the bytes of a message, before any is read
+abbrev pub span_reading : Record → Reading
+span_reading m = record { archive = m.archive; unread = []; next = m.offset; left = m.length }
+
+-- the part lies in one of so many archives
+pub record IsInside (number : ℕ) (held : Option (List (List ℕ))) (r : Reading) : Type 0 where
+  pub exists : r.archive < number
+  pub fits : r.next + r.left < 2 ^ 64
+  pub within : IfSome held (λ archives. r.next + r.left ≤ length (archive_at archives r.archive))
+
+-- so many bytes of an archive, from an offset on, came behind the others
+pub record ReadsBehind (archive offset count : ℕ) (held : Option (List (List ℕ))) (old new : List ℕ) : Type 0 where
+  pub bytes : List ℕ
+  pub behind : new ≡ old ++ bytes
+  pub number : length bytes ≡ count
+  pub some : 0 < count
+  pub known : IfSome held (λ archives. bytes ≡ take count (drop offset (archive_at archives archive)))
+
+-- so many bytes of an archive, from an offset on, or none at its end, came behind a front of the others
+pub record ReadsTail (archive offset from count : ℕ) (held : Option (List (List ℕ))) (old new : List ℕ) : Type 0 where
+  pub bytes : List ℕ
+  pub behind : take (from + count) new ≡ take from old ++ bytes
+  pub number : length bytes ≡ count
+  pub read : IsRead archive offset bytes held

@@ -1,0 +1,28 @@
+-- Which archive isn't the one that was indexed.
+use Rattle.std.specs.Prelude.{◌≡◌, ℕ, ◌+◌, ◌==◌, min, List, [], ◌∷◌, length, Option, None, Some, Result, Ok, Err, if◌then◌else◌}
+use Rattle.std.specs.List.{slice_get}
+use Rattle.std.specs.Option.{option_map_or}
+use Rattle.mail_index.specs.Tables.{Archive}
+use Rattle.mail_answer.specs.declared.fault.AnswerFaultKind.{AnswerFaultKind}
+use Rattle.mail_answer.specs.declared.fault.AnswerFaultKind.TheVariants.{Stale, Device, OutOfMemory, OutFailed}
+
+abbrev pub length_at : List Archive → ℕ → ℕ
+length_at named n = option_map_or (λ a. a.length) (slice_get named n) 0
+
+-- the first archive with another length than was indexed, counted from n on
+abbrev pub first_changed : ℕ → List Archive → List (List ℕ) → Option ℕ
+first_changed n [] archives = None
+first_changed n (a ∷ named) [] = None
+first_changed n (a ∷ named) (bytes ∷ archives) = if length bytes == a.length then first_changed (n + 1) named archives else Some n
+
+-- Of another count of archives than was indexed, the smaller one.
+abbrev pub stale_archive : List Archive → List (List ℕ) → Option ℕ
+stale_archive named archives = if length archives == length named then first_changed 0 named archives else Some (min (length archives) (length named))
+
+-- The archives are as they were indexed, or this one isn't. A device that fails tells neither.
+abbrev pub TellsStale : {T : Type 0} → Option ℕ → Result T AnswerFaultKind → Type 0
+TellsStale stale (Ok _) = stale ≡ None
+TellsStale stale (Err (Stale n)) = stale ≡ Some n
+TellsStale stale (Err Device) = Unit {0}
+TellsStale stale (Err OutOfMemory) = ⊥
+TellsStale stale (Err OutFailed) = ⊥

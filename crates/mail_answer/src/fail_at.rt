@@ -1,0 +1,95 @@
+//! Archives that fail once, for tests.
+ghost use Rattle.std.specs.Prelude.{◌≡◌, ◌≢◌, ◌<◌, ◌≤◌, ◌-◌, ◌+◌, ◌^◌, length, take, nat_eq, IfOk, IsErr};
+ghost use Rattle.contract_words.specs.Devices.{Counted, Counts};
+ghost use Rattle.mail_answer.specs.Archives.{IsCount, IsLength, IsRead};
+
+use crate::archives::Archives;
+use mbox_cutter::DeviceFault;
+
+/// Passes each call on to other archives, but one of `length` or `read_at`, which fails.
+#[derive(Drop)]
+pub struct FailAt<A: Archives + Drop> {
+    inner: A,
+    // The number of the call that fails, counted from the next one as 1, and 0 for none.
+    fail_at: u64,
+    failures: u64,
+}
+
+impl<A: Archives + Drop> FailAt<A> {
+    /// The call with the number `fail_at` fails, counted from 1, and later ones go on. It takes no memory.
+    pub fn new(inner: A, fail_at: u64) -> Self
+        ensures inner { result.inner ≡ inner }
+        ensures fail_at { result.fail_at ≡ fail_at }
+        ensures failures { result.failures ≡ 0 }
+    {
+        FailAt {
+            inner,
+            fail_at,
+            failures: 0,
+        }
+    }
+
+    /// Whether this call is to fail; it is counted.
+    fn fails(&mut self) -> bool
+        requires { self.old.failures < 2 ^ 64 - 1 }
+        ensures inner { self.new.inner ≡ self.old.inner }
+        ensures fails { result ≡ nat_eq self.old.fail_at 1 }
+        ensures next { self.new.fail_at ≡ self.old.fail_at - 1 }
+        ensures count { Counted result self.old.failures self.new.failures }
+    {
+        let fails = self.fail_at == 1;
+        self.fail_at = self.fail_at.saturating_sub(1);
+        if fails {
+            self.failures += 1;
+        }
+        fails
+    }
+}
+
+impl<A: Archives + Drop> Archives for FailAt<A> {
+    ghost held = { λ s. A.held s.inner };
+
+    ghost number = { λ s. A.number s.inner };
+
+    ghost failures = { λ s. A.failures s.inner + s.failures };
+
+    fn count(&self) -> u32 {
+        self.inner.count()
+    }
+
+    fn length(&mut self, n: u32) -> Result<u64, DeviceFault>
+        requires below { n < A.number self.old.inner }
+        requires count { A.failures self.old.inner + self.old.failures < 2 ^ 64 - 1 }
+        ensures held { A.held self.new.inner ≡ A.held self.old.inner }
+        ensures number { A.number self.new.inner ≡ A.number self.old.inner }
+        ensures bytes { IfOk result (λ bytes. IsLength n bytes (A.held self.old.inner)) }
+        ensures count { Counts result (A.failures self.old.inner + self.old.failures) (A.failures self.new.inner + self.new.failures) }
+        ensures fails { self.old.fail_at ≡ 1 → IsErr result × (self.new.inner ≡ self.old.inner) }
+        ensures passes { self.old.fail_at ≢ 1 → Counts result (A.failures self.old.inner) (A.failures self.new.inner) }
+        ensures next { self.new.fail_at ≡ self.old.fail_at - 1 }
+    {
+        if self.fails() {
+            return Err(DeviceFault);
+        }
+        self.inner.length(n)
+    }
+
+    fn read_at(&mut self, n: u32, offset: u64, into: &mut [u8]) -> Result<usize, DeviceFault>
+        requires below { n < A.number self.old.inner }
+        requires room { 0 < length into.old }
+        requires count { A.failures self.old.inner + self.old.failures < 2 ^ 64 - 1 }
+        ensures held { A.held self.new.inner ≡ A.held self.old.inner }
+        ensures number { A.number self.new.inner ≡ A.number self.old.inner }
+        ensures bound { IfOk result (λ bytes. bytes ≤ length into.new) }
+        ensures bytes { IfOk result (λ bytes. IsRead n offset (take bytes into.new) (A.held self.old.inner)) }
+        ensures count { Counts result (A.failures self.old.inner + self.old.failures) (A.failures self.new.inner + self.new.failures) }
+        ensures fails { self.old.fail_at ≡ 1 → IsErr result × (self.new.inner ≡ self.old.inner) }
+        ensures passes { self.old.fail_at ≢ 1 → Counts result (A.failures self.old.inner) (A.failures self.new.inner) }
+        ensures next { self.new.fail_at ≡ self.old.fail_at - 1 }
+    {
+        if self.fails() {
+            return Err(DeviceFault);
+        }
+        self.inner.read_at(n, offset, into)
+    }
+}

@@ -1,0 +1,41 @@
+//! Why an answer isn't whole.
+ghost use Rattle.std.specs.Prelude.{◌≡◌};
+
+use std::alloc::{AllocError, AllocFailed};
+use thiserror::Error;
+
+/// What an answer failed at.
+#[derive(Clone, Copy, Debug, PartialEq, Eq, Error)]
+pub enum AnswerFaultKind {
+    /// The archive of this number isn't the one that was indexed, or there are no more or fewer archives than this.
+    #[error("archive {0} has changed")]
+    Stale(u32),
+    /// An archive couldn't be read.
+    #[error("read failed")]
+    Device,
+    /// There was no memory.
+    #[error("out of memory")]
+    OutOfMemory,
+    /// The output failed.
+    #[error("write failed")]
+    OutFailed,
+}
+
+impl From<AllocError> for AnswerFaultKind {
+    ghost use Rattle.mail_answer.specs.declared.fault.AnswerFaultKind.TheVariants.{OutOfMemory};
+
+    ghost from_gives = { λ _ kind. kind ≡ OutOfMemory };
+
+    fn from(_: AllocError) -> Self {
+        AnswerFaultKind::OutOfMemory
+    }
+}
+
+/// Why an answer isn't whole, and how much of it went out.
+#[derive(Clone, Copy, Debug, PartialEq, Eq, Error)]
+#[error("{kind} after {sent} bytes")]
+pub struct AnswerFault {
+    pub kind: AnswerFaultKind,
+    /// The bytes that went out, up to the greatest number of its type.
+    pub sent: u64,
+}

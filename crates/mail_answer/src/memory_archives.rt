@@ -1,0 +1,101 @@
+//! Archives in memory.
+ghost use Rattle.std.specs.Prelude.{◌≡◌, ◌<◌, ◌≤◌, ◌-◌, ◌^◌, ◌++◌, ◌∷◌, [], Some, Ok, length, take, drop, min, IfOk, OnOk, OnErr};
+ghost use Rattle.contract_words.specs.Devices.{Counts};
+ghost use Rattle.mail_answer.specs.Archives.{archive_at, IsCount, IsLength, IsRead};
+
+use crate::archives::Archives;
+use mbox_cutter::DeviceFault;
+use std::alloc::{AllocError, Global};
+use std::marker::Model;
+
+/// Archives in memory, which never fail.
+#[derive(Drop)]
+pub struct MemoryArchives {
+    alloc: Global,
+    archives: Vec<Vec<u8>>,
+}
+
+impl Model for MemoryArchives {
+    ghost use Rattle.std.specs.Prelude.{ℕ, List, ◌≤◌, length, map};
+
+    ghost Value = { List (List ℕ) };
+
+    ghost view = { λ s. map (λ archive. archive.items) s.archives.items };
+
+    ghost invariant = { λ s. length s.archives.items ≤ 2147483647 };
+}
+
+impl MemoryArchives {
+    /// No archives. It takes no memory.
+    pub fn new(alloc: Global) -> Self
+        ensures { result ≡ [] }
+    {
+        MemoryArchives {
+            alloc,
+            archives: Vec::new(alloc),
+        }
+    }
+
+    /// Adds an archive of these bytes behind the others. Where memory is refused nothing is changed.
+    pub fn add(&mut self, bytes: &[u8]) -> Result<(), AllocError>
+        requires { length self.old < 2147483647 }
+        ensures ok { OnOk result (self.new ≡ self.old ++ bytes.now ∷ []) }
+        ensures refused { OnErr result (self.new ≡ self.old) }
+    {
+        let archive = bytes.to_vec(self.alloc)?;
+        self.archives.push(archive)?;
+        Ok(())
+    }
+}
+
+impl Archives for MemoryArchives {
+    ghost held = { λ s. Some s };
+
+    ghost number = { λ s. length s };
+
+    ghost failures = { λ s. 0 };
+
+    fn count(&self) -> u32 {
+        self.archives.len() as u32
+    }
+
+    fn length(&mut self, n: u32) -> Result<u64, DeviceFault>
+        requires below { n < length self.old }
+        requires count { 0 < 2 ^ 64 - 1 }
+        ensures held { Some self.new ≡ Some self.old }
+        ensures number { length self.new ≡ length self.old }
+        ensures bytes { IfOk result (λ bytes. IsLength n bytes (Some self.old)) }
+        ensures count { Counts result 0 0 }
+        ensures never { result ≡ Ok (length (archive_at self.old n)) }
+    {
+        Ok(self.archives[n as usize].len() as u64)
+    }
+
+    fn read_at(&mut self, n: u32, offset: u64, into: &mut [u8]) -> Result<usize, DeviceFault>
+        requires below { n < length self.old }
+        requires room { 0 < length into.old }
+        requires count { 0 < 2 ^ 64 - 1 }
+        ensures held { Some self.new ≡ Some self.old }
+        ensures number { length self.new ≡ length self.old }
+        ensures bound { IfOk result (λ bytes. bytes ≤ length into.new) }
+        ensures bytes { IfOk result (λ bytes. IsRead n offset (take bytes into.new) (Some self.old)) }
+        ensures count { Counts result 0 0 }
+        ensures never { result ≡ Ok (min (length (drop offset (archive_at self.old n))) (length into.old)) }
+    {
+        let archive = self.archives[n as usize].as_slice();
+        Ok(read_part(archive, offset, into))
+    }
+}
+
+/// Copies the bytes from an offset on, as many as there are and fit.
+fn read_part(archive: &[u8], offset: u64, into: &mut [u8]) -> usize
+    ensures bytes { take result into.new ≡ take result (drop offset archive.now) }
+    ensures number { result ≡ min (length (drop offset archive.now)) (length into.old) }
+    ensures bound { result ≤ length into.new }
+{
+    let at = offset.min(archive.len() as u64) as usize;
+    let rest = archive.split_at(at).1;
+    let n = rest.len().min(into.len());
+    into[..n].copy_from_slice(&rest[..n]);
+    n
+}

@@ -1,0 +1,70 @@
+//! The output of an answer.
+ghost use Rattle.std.specs.Prelude.{◌≡◌, ◌<◌, ◌≤◌, ◌-◌, ◌^◌, [], Some, length, OnOk, IfErr, false};
+ghost use Rattle.contract_words.specs.Devices.{Counted};
+ghost use Rattle.mail_answer.specs.Faults.{has_fault, is_of_output, is_of_archives, is_stale};
+
+use crate::fault::AnswerFaultKind;
+use mbox_cutter::Out;
+use std::alloc::Global;
+
+/// So many bytes of an answer are gathered before they go out.
+const FULL: usize = 32_768;
+
+/// Bytes of an answer that were gathered, and how many went out before them.
+#[derive(Drop)]
+pub(crate) struct Sheet {
+    pub(crate) text: Vec<u8>,
+    /// Up to the greatest number of its type.
+    pub(crate) sent: u64,
+    ghost within: { sent ≤ 2 ^ 64 - 1 },
+}
+
+impl Sheet {
+    ghost use Rattle.mail_answer.specs.Sheets.{Writes};
+
+    pub(crate) fn new(alloc: Global) -> Self
+        ensures text { result.text.items ≡ [] }
+        ensures sent { result.sent ≡ 0 }
+    {
+        Sheet {
+            text: Vec::new(alloc),
+            sent: 0,
+        }
+    }
+
+    /// Adds bytes to the answer.
+    pub(crate) fn push<O: Out>(&mut self, out: &mut O, bytes: &[u8]) -> Result<(), AnswerFaultKind>
+        requires { O.failures out.old < 2 ^ 64 - 1 }
+        ensures writes { Writes (O.taken out.old) (O.taken out.new) self.old self.new (Some bytes.now) result }
+        ensures count { Counted (has_fault is_of_output result) (O.failures out.old) (O.failures out.new) }
+        ensures own { (has_fault is_of_archives result ≡ false) × (has_fault is_stale result ≡ false) }
+    {
+        self.text.extend_from_slice(bytes)?;
+        if self.text.len() < FULL {
+            return Ok(());
+        }
+        self.send(out)
+    }
+
+    /// Writes all that is gathered, in as many calls as it takes.
+    pub(crate) fn send<O: Out>(&mut self, out: &mut O) -> Result<(), AnswerFaultKind>
+        requires { O.failures out.old < 2 ^ 64 - 1 }
+        ensures writes { Writes (O.taken out.old) (O.taken out.new) self.old self.new (Some []) result }
+        ensures all { OnOk result (self.new.text.items ≡ []) }
+        ensures count { Counted (has_fault is_of_output result) (O.failures out.old) (O.failures out.new) }
+        ensures own { IfErr result (λ kind. kind ≡ AnswerFaultKind.OutFailed) }
+    {
+        let mut at = 0;
+        while at < self.text.len() {
+            match out.put(&self.text[at..]) {
+                Ok(n) => {
+                    at += n;
+                    self.sent = self.sent.saturating_add(n as u64);
+                }
+                Err(_) => return Err(AnswerFaultKind::OutFailed),
+            }
+        }
+        self.text.clear();
+        Ok(())
+    }
+}

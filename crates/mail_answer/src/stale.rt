@@ -1,0 +1,59 @@
+//! Whether archives are those that were indexed.
+ghost use Rattle.std.specs.Prelude.{◌≡◌, ◌≢◌, ◌<◌, ◌-◌, ◌^◌, ◌==◌, length, min, false, Err, IfOk, IfErr, OnOk, IfSome};
+ghost use Rattle.contract_words.specs.Devices.{Counted};
+ghost use Rattle.mail_answer.specs.Archives.{archive_at};
+ghost use Rattle.mail_answer.specs.Faults.{has_fault, is_of_archives, is_of_output};
+ghost use Rattle.mail_answer.specs.Stale.{stale_archive, length_at, TellsStale};
+
+use crate::archives::Archives;
+use crate::fault::AnswerFaultKind;
+use mail_index::IndexView;
+
+/// Finds the first archive that isn't as long as it was when it was indexed. The count is looked at before; of another one the
+/// archive is the smaller count.
+pub(crate) fn check_archives<A: Archives>(
+    index: &IndexView<'_>,
+    archives: &mut A,
+) -> Result<(), AnswerFaultKind>
+    requires { A.failures archives.old < 2 ^ 64 - 1 }
+    ensures held { A.held archives.new ≡ A.held archives.old }
+    ensures number { A.number archives.new ≡ A.number archives.old }
+    ensures stale { IfSome (A.held archives.old) (λ bytes. TellsStale (stale_archive index.now.archives bytes) result) }
+    ensures same_count { OnOk result (A.number archives.old ≡ length index.now.archives) }
+    ensures other_count { A.number archives.old ≢ length index.now.archives → result ≡ Err (AnswerFaultKind.Stale (min (A.number archives.old) (length index.now.archives))) }
+    ensures count { Counted (has_fault is_of_archives result) (A.failures archives.old) (A.failures archives.new) }
+    ensures own { IfErr result (λ kind. (is_of_output kind ≡ false) × (kind ≢ AnswerFaultKind.OutOfMemory)) }
+{
+    let count = archives.count();
+    let indexed = index.archive_count();
+    if count != indexed {
+        return Err(AnswerFaultKind::Stale(count.min(indexed)));
+    }
+    for n in 0..indexed {
+        if !is_as_indexed(index, archives, n)? {
+            return Err(AnswerFaultKind::Stale(n));
+        }
+    }
+    Ok(())
+}
+
+/// Whether the archive of this number is as long as it was when it was indexed.
+fn is_as_indexed<A: Archives>(
+    index: &IndexView<'_>,
+    archives: &mut A,
+    n: u32,
+) -> Result<bool, AnswerFaultKind>
+    requires below { n < A.number archives.old }
+    requires indexed { n < length index.now.archives }
+    requires count { A.failures archives.old < 2 ^ 64 - 1 }
+    ensures held { A.held archives.new ≡ A.held archives.old }
+    ensures number { A.number archives.new ≡ A.number archives.old }
+    ensures same { IfOk result (λ same. IfSome (A.held archives.old) (λ bytes. same ≡ (length (archive_at bytes n) == length_at index.now.archives n))) }
+    ensures count { Counted (has_fault is_of_archives result) (A.failures archives.old) (A.failures archives.new) }
+    ensures own { IfErr result (λ kind. kind ≡ AnswerFaultKind.Device) }
+{
+    match archives.length(n) {
+        Ok(length) => Ok(length == index.archive(n).length),
+        Err(_) => Err(AnswerFaultKind::Device),
+    }
+}
