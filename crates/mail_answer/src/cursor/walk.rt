@@ -15,16 +15,23 @@ pub(crate) struct Walk<'a> {
     node: Node<'a>,
 }
 
+/// What a walk goes along.
 #[cycle(walk)]
 #[derive(Debug, Drop)]
 enum Node<'a> {
+    /// A posting list.
     Listed(Listed<'a>),
+    /// The records that are as asked.
     Scanned(Scanned<'a>),
+    /// All messages that don't come in a walk.
     Others(Others<'a>),
+    /// The messages that come in each of some walks.
     Common(Vec<Walk<'a>>),
+    /// The messages that come in some walk.
     United(Vec<Walk<'a>>),
 }
 
+/// The messages from `low` on, of `count` in all, that don't come in the inner walk.
 #[cycle(walk)]
 #[derive(Debug, Drop)]
 struct Others<'a> {
@@ -133,6 +140,7 @@ fn is_number(number: Option<u32>, n: u32) -> bool
     }
 }
 
+/// The least number from n on that doesn't come in the inner walk.
 #[cycle(least)]
 fn least_other(walk: &mut Others<'_>, n: u32, steps: &mut Steps) -> Option<u32>
     ensures rest { Drops n (others walk.old.count walk.old.low walk.old.inner.value.truths) (others walk.new.count walk.new.low walk.new.inner.value.truths) }
@@ -154,6 +162,8 @@ fn least_other(walk: &mut Others<'_>, n: u32, steps: &mut Steps) -> Option<u32>
     None
 }
 
+/// The least number from n on that comes in each member: each in turn goes on to where the one before it stands, until a round
+/// moves none.
 #[cycle(least)]
 fn least_common(members: &mut [Walk<'_>], n: u32, steps: &mut Steps) -> Option<u32>
     ensures rest { Drops n (common members.old) (common members.new) }
@@ -177,6 +187,7 @@ fn least_common(members: &mut [Walk<'_>], n: u32, steps: &mut Steps) -> Option<u
     }
 }
 
+/// One round: the number that the last member reached, which is n only where each has it.
 #[cycle(least)]
 fn reach_common(members: &mut [Walk<'_>], n: u32, steps: &mut Steps) -> Option<u32>
     requires { 0 < length members.old }
@@ -206,6 +217,7 @@ fn lesser_of(one: Option<u32>, other: Option<u32>) -> Option<u32>
     }
 }
 
+/// The least number from n on that comes in some member.
 #[cycle(least)]
 fn least_united(members: &mut [Walk<'_>], n: u32, steps: &mut Steps) -> Option<u32>
     ensures rest { Drops n (united members.old) (united members.new) }
