@@ -28,4 +28,8 @@ pub mod ClosingLemmas
 pub mod ClosedLemmas
 pub mod AnswerTexts
 pub mod SpanLemmas
+pub mod IndexedLemmas
+pub mod KnownAnswers
+pub mod HeaderReading
+pub mod SentLemmas
 mod RowsShapes

@@ -20,3 +20,4 @@ pub mod Readings
 pub mod Stale
 pub mod Closing
 pub mod Answers
+pub mod HeaderReads

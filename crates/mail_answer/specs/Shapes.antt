@@ -56,3 +56,9 @@ abbrev pub known_answer : Format → Table → Option (List (List ℕ)) → List
 known_answer Raw t held numbers = Some (answer_text Raw t [] numbers)
 known_answer Excerpt t held numbers = option_map (λ archives. answer_text Excerpt t archives numbers) held
 known_answer Mbox t held numbers = option_map (λ archives. answer_text Mbox t archives numbers) held
+
+-- What is known of the text of the message of this number.
+abbrev pub known_message : Format → Table → Option (List (List ℕ)) → ℕ → Option (List ℕ)
+known_message Raw t held n = Some (message_text Raw t.archives [] (record_at t.messages n))
+known_message Excerpt t held n = option_map (λ archives. message_text Excerpt t.archives archives (record_at t.messages n)) held
+known_message Mbox t held n = option_map (λ archives. message_text Mbox t.archives archives (record_at t.messages n)) held

@@ -1,13 +1,27 @@
 //! The excerpt of a message.
-ghost use Rattle.std.specs.Prelude.{◌≡◌, ℕ, List, ◌∷◌, ◌++◌, IfOk, OnOk};
+ghost use Rattle.std.specs.Prelude.{◌≡◌, ◌<◌, ◌-◌, ◌^◌, ℕ, List, ◌∷◌, ◌++◌, false, length, None, IfOk, OnOk, IfSome};
 ghost use Rattle.std.specs.Str.{bytes_eq, str_to_ascii_lowercase};
+ghost use Rattle.contract_words.specs.Devices.{Counted};
 ghost use Rattle.header_text.specs.EncodedWords.{decoded};
 ghost use Rattle.header_text.specs.HeldLines.{HasLines};
 ghost use Rattle.header_text.specs.Headers.{fields_of};
 ghost use Rattle.header_text.specs.Unfolding.{unfolded};
 ghost use Rattle.mail_answer.specs.Excerpts.{first_body as first_body_of, shown_byte as shown_byte_of, without_controls, field_line, excerpt_lines};
+ghost use Rattle.mail_answer.specs.Faults.{has_fault, is_of_output, is_of_archives, is_stale};
+ghost use Rattle.mail_answer.specs.Shapes.{known_message};
+ghost use Rattle.mail_answer.specs.Sheets.{Writes};
+ghost use Rattle.mail_answer.specs.Stale.{stale_archive};
+ghost use Rattle.mail_answer.specs.declared.format.Format.TheVariants.{Excerpt};
+ghost use Rattle.mail_index.specs.Tables.{IsWellFormed};
 
+use crate::archives::Archives;
+use crate::fault::AnswerFaultKind;
+use crate::header_reads::read_header;
+use crate::raw_line::path_of;
+use crate::sheet::Sheet;
 use header_text::{Fields, Header, decode_words, unfold};
+use mail_index::IndexView;
+use mbox_cutter::Out;
 use std::alloc::{AllocError, Global};
 
 /// The body of the first field of a name, empty where it is missing.
@@ -75,11 +89,7 @@ fn push_field(
 }
 
 /// The excerpt of a message of this header: the path of its archive, and five fields.
-pub(crate) fn excerpt_text(
-    alloc: Global,
-    path: &str,
-    header: &Header,
-) -> Result<Vec<u8>, AllocError>
+fn excerpt_text(alloc: Global, path: &str, header: &Header) -> Result<Vec<u8>, AllocError>
     ensures { IfOk result (λ text. (ls : List (List ℕ)) → HasLines header.now ls → text.items ≡ path.now ++ 10 ∷ excerpt_lines (fields_of ls)) }
 {
     let mut text = Vec::new(alloc);
@@ -91,4 +101,32 @@ pub(crate) fn excerpt_text(
     push_field(alloc, header, "Subject", &mut text)?;
     push_field(alloc, header, "Date", &mut text)?;
     Ok(text)
+}
+
+/// Adds the excerpt of the message of this number to an answer.
+pub(crate) fn push_excerpt<A: Archives, O: Out>(
+    alloc: Global,
+    index: &IndexView<'_>,
+    n: u32,
+    archives: &mut A,
+    sheet: &mut Sheet,
+    out: &mut O,
+) -> Result<(), AnswerFaultKind>
+    requires table { IsWellFormed index.now }
+    requires below { n < length index.now.messages }
+    requires number { A.number archives.old ≡ length index.now.archives }
+    requires fresh { IfSome (A.held archives.old) (λ bytes. stale_archive index.now.archives bytes ≡ None) }
+    requires archives { A.failures archives.old < 2 ^ 64 - 1 }
+    requires out { O.failures out.old < 2 ^ 64 - 1 }
+    ensures held { A.held archives.new ≡ A.held archives.old }
+    ensures number { A.number archives.new ≡ A.number archives.old }
+    ensures writes { Writes (O.taken out.old) (O.taken out.new) sheet.old sheet.new (known_message Excerpt index.now (A.held archives.old) n) result }
+    ensures out_count { Counted (has_fault is_of_output result) (O.failures out.old) (O.failures out.new) }
+    ensures archives_count { Counted (has_fault is_of_archives result) (A.failures archives.old) (A.failures archives.new) }
+    ensures fresh { IfSome (A.held archives.old) (λ _. has_fault is_stale result ≡ false) }
+{
+    let message = index.message(n);
+    let header = read_header(alloc, message, archives)?;
+    let text = excerpt_text(alloc, path_of(index, message.archive), &header)?;
+    sheet.push(out, &text)
 }

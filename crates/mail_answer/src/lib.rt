@@ -29,9 +29,9 @@ mod fault;
 
 pub use fault::{AnswerFault, AnswerFaultKind};
 
-mod raw_answer;
+mod answers;
 
-pub use raw_answer::write_raw;
+pub use answers::{answer, write_answer};
 
 mod plain;
 
@@ -42,13 +42,17 @@ mod laws;
 pub use laws::one_list_of_threads;
 
 #[cfg(test)]
+mod answer_tests;
+#[cfg(test)]
 mod cursor_tests;
 mod excerpt;
 mod fit;
 mod forest;
+mod header_reads;
 mod line_reader;
 mod marks;
 mod mbox;
+mod raw_answer;
 mod raw_line;
 mod records;
 mod sheet;

@@ -1,18 +1,21 @@
 //! A message in the form of mbox archives.
-ghost use Rattle.std.specs.Prelude.{◌≡◌, ◌<◌, ◌≤◌, ◌-◌, ◌^◌, true, false, length, nat_eq, Some, IfOk, OnOk, IfSome};
+ghost use Rattle.std.specs.Prelude.{◌≡◌, ◌<◌, ◌≤◌, ◌-◌, ◌^◌, true, false, length, nat_eq, None, Some, IfOk, OnOk, IfSome};
 ghost use Rattle.std.specs.Option.{option_map};
 ghost use Rattle.contract_words.specs.Devices.{Counted};
+ghost use Rattle.mail_index.specs.Tables.{IsWellFormed};
 ghost use Rattle.mail_answer.specs.Closing.{feeds_behind, feeds_if, next_text, behind_next};
 ghost use Rattle.mail_answer.specs.Faults.{has_fault, is_of_output, is_of_archives, is_stale};
 ghost use Rattle.mail_answer.specs.Readings.{coming, coming_count, span_reading, IsInside};
-ghost use Rattle.mail_answer.specs.Shapes.{closed};
+ghost use Rattle.mail_answer.specs.Shapes.{closed, known_message};
 ghost use Rattle.mail_answer.specs.Sheets.{Writes};
+ghost use Rattle.mail_answer.specs.Stale.{stale_archive};
+ghost use Rattle.mail_answer.specs.declared.format.Format.TheVariants.{Mbox};
 
 use crate::archives::Archives;
 use crate::fault::AnswerFaultKind;
 use crate::line_reader::LineReader;
 use crate::sheet::Sheet;
-use mail_index::Record;
+use mail_index::{IndexView, Record};
 use mbox_cutter::{Out, is_empty_line};
 use std::alloc::Global;
 
@@ -72,7 +75,7 @@ fn push_next<A: Archives, O: Out>(
 }
 
 /// Adds the bytes of a message to an answer, and what closes them.
-pub(crate) fn push_mbox<A: Archives, O: Out>(
+fn push_closed<A: Archives, O: Out>(
     alloc: Global,
     message: Record,
     archives: &mut A,
@@ -96,4 +99,30 @@ pub(crate) fn push_mbox<A: Archives, O: Out>(
             return Ok(());
         }
     }
+}
+
+/// Adds the bytes of the message of this number to an answer, and what closes them.
+pub(crate) fn push_mbox<A: Archives, O: Out>(
+    alloc: Global,
+    index: &IndexView<'_>,
+    n: u32,
+    archives: &mut A,
+    sheet: &mut Sheet,
+    out: &mut O,
+) -> Result<(), AnswerFaultKind>
+    requires table { IsWellFormed index.now }
+    requires below { n < length index.now.messages }
+    requires number { A.number archives.old ≡ length index.now.archives }
+    requires fresh { IfSome (A.held archives.old) (λ bytes. stale_archive index.now.archives bytes ≡ None) }
+    requires archives { A.failures archives.old < 2 ^ 64 - 1 }
+    requires out { O.failures out.old < 2 ^ 64 - 1 }
+    ensures held { A.held archives.new ≡ A.held archives.old }
+    ensures number { A.number archives.new ≡ A.number archives.old }
+    ensures writes { Writes (O.taken out.old) (O.taken out.new) sheet.old sheet.new (known_message Mbox index.now (A.held archives.old) n) result }
+    ensures out_count { Counted (has_fault is_of_output result) (O.failures out.old) (O.failures out.new) }
+    ensures archives_count { Counted (has_fault is_of_archives result) (A.failures archives.old) (A.failures archives.new) }
+    ensures fresh { IfSome (A.held archives.old) (λ _. has_fault is_stale result ≡ false) }
+{
+    let message = index.message(n);
+    push_closed(alloc, message, archives, sheet, out)
 }

@@ -3,7 +3,7 @@ use Rattle.std.specs.Option.{option_map}
 use Rattle.mail_answer.specs.Readings.{coming, coming_count, span_reading, IsInside}
 use Rattle.mail_answer.specs.Shapes.{closed}
 use Rattle.mail_answer.specs.Sheets.{joined, Tells, Joins}
-use Rattle.mail_answer.proofs.mbox.push_mbox.Given as goal
+use Rattle.mail_answer.proofs.mbox.push_closed.Given as goal
 
 -- some lines joined the answer; what is left to come, closed, is what is left of the closed span
 abbrev pub invariant-lines : goal.invariant-lines
