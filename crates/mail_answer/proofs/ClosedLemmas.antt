@@ -40,7 +40,7 @@ feed_closed : is_closed feed ≡ true
 unfolding lines first_length is_empty
 feed_closed = refl
 
-has_feed-is : (b : List ℕ) → has_feed b ≡ nat_lt (length_before_feed b) (length b)
+pub has_feed-is : (b : List ℕ) → has_feed b ≡ nat_lt (length_before_feed b) (length b)
 has_feed-is [] = refl
 has_feed-is (x ∷ xs) = elim (x == 10) as (λ v. (v || has_feed xs) ≡ nat_lt (cond v 0 (suc (length_before_feed xs))) (length (x ∷ xs)))
     [ true ↦ grind (arith, nat_tests) | false ↦ has_feed-is xs ∙ grind (arith, nat_tests) ]
@@ -73,7 +73,7 @@ open_line : (b : List ℕ) → 0 < length b → first_length b ≡ length b → 
 open_line b h e f = single (b ++ feed) (omega (arith, length-append b feed)) (whole_feed b e (sym (has_feed-is b) ∙ f))
 
 -- CR alone becomes an empty line
-cr_line : (b : List ℕ) → 0 < length b → is_empty (b ++ feed) ≡ bytes_eq b (13 ∷ [])
+pub cr_line : (b : List ℕ) → 0 < length b → is_empty (b ++ feed) ≡ bytes_eq b (13 ∷ [])
 unfolding is_empty
 cr_line [] h = absurd (omega arith)
 cr_line (x ∷ []) h = elim (x == 13) as (λ v. (((x == 10) && false) || (v && true)) ≡ (v && true)) [ true ↦ elim (x == 10) as (λ w. ((w && false) || true) ≡ true) [ true ↦ refl | false ↦ refl ] | false ↦ elim (x == 10) as (λ w. ((w && false) || false) ≡ false) [ true ↦ refl | false ↦ refl ] ]
@@ -100,7 +100,7 @@ with_feeds : (b : List ℕ) → (e f g : Bool) → is_closed b ≡ e → is_clos
 unfolding closed
 with_feeds b e f g p q = rw (p, q) refl
 
-one_line : (b : List ℕ) → 0 < length b → first_length b ≡ length b → closed b ≡ b ++ feeds_behind b
+pub one_line : (b : List ℕ) → 0 < length b → first_length b ≡ length b → closed b ≡ b ++ feeds_behind b
 one_line b h e = with_feeds b (is_empty b) (has_feed b || bytes_eq b (13 ∷ [])) true (single b h e) (feed_decides b h e) ∙ parts (is_empty b) (has_feed b || bytes_eq b (13 ∷ []))
   where
     parts : (e f : Bool) → cond e b (cond f (b ++ feed) (b ++ feed ++ feed)) ≡ b ++ cond e [] (cond f feed (feed ++ feed))

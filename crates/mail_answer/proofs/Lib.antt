@@ -11,6 +11,7 @@ pub mod CursorTurns
 pub mod CursorMembers
 pub mod CursorNumbers
 pub mod CursorTexts
+pub mod CursorGroups
 pub mod CursorBegins
 mod RowsTableFacts
 pub mod ThreadLemmas
@@ -33,3 +34,10 @@ pub mod KnownAnswers
 pub mod HeaderReading
 pub mod SentLemmas
 mod RowsShapes
+pub mod MessageLines
+pub mod CutMessages
+pub mod Separated
+pub mod ClosedMessages
+pub mod CutAgain
+pub mod ChosenBelow
+mod RowsCutAgain

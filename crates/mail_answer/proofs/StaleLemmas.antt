@@ -1,5 +1,5 @@
 -- Laws of archives that have changed.
-use Rattle.std.proofs.Common.{◌≡◌, ℕ, ◌+◌, suc, ◌<◌, ◌≤◌, Bool, true, false, ◌==◌, cond, min, List, [], ◌∷◌, length, drop, drop-cons, get_or, Option, None, Some, IfSome, Err, inl, inr, zero, refl, ap, sym, ◌∙◌, add-one, arith}
+use Rattle.std.proofs.Common.{◌≡◌, ℕ, ◌+◌, suc, ◌<◌, ◌≤◌, Bool, true, false, ◌==◌, cond, min, List, [], ◌∷◌, length, length-drop, drop, drop-cons, get_or, Option, None, Some, IfSome, Err, inl, inr, zero, refl, ap, sym, ◌∙◌, add-one, arith}
 use Rattle.std.proofs.lemmas.List.{drop_all}
 use Rattle.std.proofs.lemmas.Bool.Decides.{eqb_tells}
 use Rattle.mail_index.specs.Tables.{Archive}
@@ -20,6 +20,27 @@ length_in : (named : List Archive) (n : ℕ) → n < length named → length_at 
 length_in [] n h = absurd (omega arith)
 length_in (a ∷ rest) zero h = refl
 length_in (a ∷ rest) (suc n) h = length_in rest n (omega arith)
+
+-- the next archive of those that were indexed
+pub next_named : (named : List Archive) (n : ℕ) (a : Archive) (rest : List Archive) → drop n named ≡ a ∷ rest → (length_at named n ≡ a.length) × (drop (n + 1) named ≡ rest)
+next_named [] zero a rest e = absurd cc
+next_named [] (suc n) a rest e = absurd cc
+next_named (b ∷ named) zero a rest e =
+    let first : b ≡ a = cc in
+    let behind : named ≡ rest = cc in
+    (ap (λ (t : Archive). t.length) first, behind)
+next_named (b ∷ named) (suc n) a rest e =
+    let then = next_named named n a rest e in
+    let more : suc n + 1 ≡ suc (n + 1) = omega arith in
+    (then.0, ap (λ (k : ℕ). drop k (b ∷ named)) more ∙ then.1)
+
+pub still_named : (named : List Archive) (n : ℕ) → n < length named → drop n named ≡ [] → ⊥
+still_named named n h e = let long : length (drop n named) ≡ 0 = ap length e in absurd (omega (arith, long, length-drop n named))
+
+pub as_named : (held : Option (List (List ℕ))) (named : List Archive) (n indexed : ℕ) (same : Bool) → length_at named n ≡ indexed
+    → IfSome held (λ bytes. same ≡ (length (archive_at bytes n) == indexed)) → IfSome held (λ bytes. same ≡ (length (archive_at bytes n) == length_at named n))
+as_named None named n indexed same e h = tt
+as_named (Some bytes) named n indexed same e h = h ∙ ap (λ (k : ℕ). length (archive_at bytes n) == k) (sym e)
 
 -- the answer at an archive, and what is left behind it
 changed_next : (named : List Archive) (bytes : List (List ℕ)) (n : ℕ) → n < length named → n < length bytes

@@ -8,6 +8,7 @@ pub mod CursorLists
 pub mod CursorScans
 pub mod CursorTexts
 pub mod CursorBegins
+pub mod CursorHeads
 pub mod CursorNumbers
 pub mod CursorWalks
 pub mod CursorFalls
@@ -21,3 +22,4 @@ pub mod Stale
 pub mod Closing
 pub mod Answers
 pub mod HeaderReads
+pub mod CutAgain

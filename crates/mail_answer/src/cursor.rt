@@ -7,6 +7,7 @@ ghost use Rattle.mail_answer.specs.CursorAhead.{Spends};
 ghost use Rattle.mail_answer.specs.CursorNumbers.{numbers_from, AreWithin, TakesFirst, TakesFrom};
 
 mod begin;
+mod head;
 mod listed;
 mod scanned;
 mod texts;

@@ -1,9 +1,27 @@
 //! Laws of the definitions.
-ghost use Rattle.std.specs.Prelude.{◌≡◌, ℕ, List};
+ghost use Rattle.std.specs.Prelude.{◌≡◌, ◌<◌, ℕ, false, List, length, map};
+ghost use Rattle.std.specs.List.{All, flat_map};
 ghost use Rattle.mail_index.specs.Tables.{Table};
+ghost use Rattle.mail_answer.specs.CutAgain.{IsCutInto, IsCutOut, ends_in_return};
+ghost use Rattle.mail_answer.specs.Shapes.{closed};
+ghost use Rattle.mail_answer.specs.TableFacts.{chosen_numbers};
 ghost use Rattle.mail_answer.specs.Threads.{AreThreads};
+ghost use Rattle.mail_query.specs.Query.{Query};
 
 /// What is asked of a list of threads leaves no choice: there is one such list.
 pub fn one_list_of_threads()
     ensures { (t : Table) (numbers members others : List ℕ) → AreThreads t numbers members → AreThreads t numbers others → members ≡ others }
+{}
+
+/// Messages that were cut out of archives, of which none has CR as its last byte, are cut again where each is closed and they
+/// are joined: into these messages in order, each with the line feeds that close it.
+pub fn closed_messages_are_cut_again()
+    ensures { (texts : List (List ℕ)) → All IsCutOut texts → All (λ text. ends_in_return text ≡ false) texts
+        → IsCutInto (flat_map closed texts) (map closed texts) }
+{}
+
+/// What is chosen are messages of the table: by a query alone, and with their threads.
+pub fn chosen_numbers_are_those_of_messages()
+    ensures alone { (t : Table) (q : Query) → All (λ n. n < length t.messages) (chosen_numbers t q) }
+    ensures threads { (t : Table) (numbers members : List ℕ) → AreThreads t numbers members → All (λ n. n < length t.messages) members }
 {}

@@ -39,7 +39,9 @@ pub use plain::plain_matches;
 
 mod laws;
 
-pub use laws::one_list_of_threads;
+pub use laws::{
+    chosen_numbers_are_those_of_messages, closed_messages_are_cut_again, one_list_of_threads,
+};
 
 #[cfg(test)]
 mod answer_tests;

@@ -3,7 +3,7 @@ ghost use Rattle.std.specs.Prelude.{◌≡◌, ◌≢◌, ◌<◌, ◌-◌, ◌^
 ghost use Rattle.contract_words.specs.Devices.{Counted};
 ghost use Rattle.mail_answer.specs.Archives.{archive_at};
 ghost use Rattle.mail_answer.specs.Faults.{has_fault, is_of_archives, is_of_output};
-ghost use Rattle.mail_answer.specs.Stale.{stale_archive, length_at, TellsStale};
+ghost use Rattle.mail_answer.specs.Stale.{stale_archive, TellsStale};
 
 use crate::archives::Archives;
 use crate::fault::AnswerFaultKind;
@@ -29,31 +29,30 @@ pub(crate) fn check_archives<A: Archives>(
     if count != indexed {
         return Err(AnswerFaultKind::Stale(count.min(indexed)));
     }
+    let mut named = index.archives();
     for n in 0..indexed {
-        if !is_as_indexed(index, archives, n)? {
+        let Some(archive) = named.next() else {
+            unreachable!();
+        };
+        if !is_as_long(archives, n, archive.length)? {
             return Err(AnswerFaultKind::Stale(n));
         }
     }
     Ok(())
 }
 
-/// Whether the archive of this number is as long as it was when it was indexed.
-fn is_as_indexed<A: Archives>(
-    index: &IndexView<'_>,
-    archives: &mut A,
-    n: u32,
-) -> Result<bool, AnswerFaultKind>
+/// Whether the archive of this number is so long.
+fn is_as_long<A: Archives>(archives: &mut A, n: u32, indexed: u64) -> Result<bool, AnswerFaultKind>
     requires below { n < A.number archives.old }
-    requires indexed { n < length index.now.archives }
     requires count { A.failures archives.old < 2 ^ 64 - 1 }
     ensures held { A.held archives.new ≡ A.held archives.old }
     ensures number { A.number archives.new ≡ A.number archives.old }
-    ensures same { IfOk result (λ same. IfSome (A.held archives.old) (λ bytes. same ≡ (length (archive_at bytes n) == length_at index.now.archives n))) }
+    ensures same { IfOk result (λ same. IfSome (A.held archives.old) (λ bytes. same ≡ (length (archive_at bytes n) == indexed))) }
     ensures count { Counted (has_fault is_of_archives result) (A.failures archives.old) (A.failures archives.new) }
     ensures own { IfErr result (λ kind. kind ≡ AnswerFaultKind.Device) }
 {
     match archives.length(n) {
-        Ok(length) => Ok(length == index.archive(n).length),
+        Ok(length) => Ok(length == indexed),
         Err(_) => Err(AnswerFaultKind::Device),
     }
 }

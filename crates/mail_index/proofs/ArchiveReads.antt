@@ -163,11 +163,6 @@ spells_return n i s r b l h e =
 pub behind_begin : (n : ℕ) (r : List ℕ) → behind_archives (n - 0) r ≡ behind_archives n r
 behind_begin n r = let e : n - 0 ≡ n = omega arith in ap (λ (k : ℕ). behind_archives k r) e
 
-pub must_have : (count n i : ℕ) (r : List ℕ) → i < n → n ≤ count → SpellsArchives (count - i) r → (HasArchive r → ⊥) → ⊥
-must_have count n i r l b h refuses =
-    let e : count - i ≡ suc (count - (i + 1)) = omega (arith, l, b) in
-    refuses (spells_front (count - (i + 1)) r (subst (λ (k : ℕ). SpellsArchives k r) e h))
-
 pub pass_step : (count n i : ℕ) (s r behind : List ℕ) → i < n → n ≤ count → SpellsArchives (count - i) r → behind_archives (n - i) r ≡ behind_archives n s → behind ≡ behind_archive r
     → SpellsArchives (count - (i + 1)) behind × (behind_archives (n - (i + 1)) behind ≡ behind_archives n s)
 pass_step count n i s r behind l b h e g =
@@ -182,6 +177,16 @@ pass_end count n i s r l m h e =
     let z : n - i ≡ 0 = omega (arith, l) in
     let same : i ≡ n = omega (arith, l, m) in
     (sym (ap (λ (j : ℕ). behind_archives j r) z) ∙ e, subst (λ (j : ℕ). SpellsArchives (count - j) r) same h)
+
+pub behind_value : (r tail behind : List ℕ) (n : ℕ) → n ≡ u32_at r 8 → tail ≡ drop 12 r → behind ≡ drop n tail → behind ≡ behind_archive r
+unfolding behind_archive
+behind_value r tail behind n en et eb = eb ∙ ap (λ (k : ℕ). drop k tail) en ∙ ap (drop (u32_at r 8)) et
+
+pub behind_some : (count : ℕ) (r behind : List ℕ) → 0 < count → SpellsArchives count r → behind ≡ behind_archive r → SpellsArchives (count - 1) behind
+behind_some zero r behind l h e = absurd (omega (arith, l))
+behind_some (suc n) r behind l h e =
+    let f : suc n - 1 ≡ n = omega arith in
+    rw (f, e) (spells_rest n r h)
 
 -- ---- lengths of archives
 

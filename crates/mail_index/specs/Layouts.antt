@@ -3,7 +3,7 @@ use Rattle.std.specs.Prelude.{◌≡◌, ℕ, ◌+◌, ◌*◌, ◌^◌, ◌<◌
 use Rattle.mail_index.specs.declared.archive.Archive.{Archive}
 use Rattle.mail_index.specs.declared.layout.Layout.{Layout}
 use Rattle.mail_index.specs.Fields.{u32_at}
-use Rattle.mail_index.specs.Tables.{Key, Table}
+use Rattle.mail_index.specs.Tables.{Key, Table, IsWellFormed}
 use Rattle.mail_index.specs.Tables as table
 use Rattle.mail_index.specs.Faults.{records_start, directory_start, texts_start, postings_start, digest_start}
 use Rattle.mail_index.specs.Records.{SpellsArchives, AreRecords, read_archives, read_records}
@@ -43,3 +43,4 @@ pub record IsChecked (l : Layout) : Type 0 where
   pub entries : AreEntries l.texts.now (length l.postings.now) 0 0 0 [] l.key_count l.directory.now
   pub few_messages : l.message_count < 2 ^ 32
   pub lists : AreLists l.message_count l.postings.now l.key_count l.directory.now
+  pub formed : IsWellFormed (table_of l)

@@ -71,12 +71,20 @@ pub(crate) fn behind_archives(section: &[u8], count: u32, n: u32) -> &[u8]
 {
     let mut rest = section;
     for number in 0..n {
-        match split_archive(rest) {
-            Some((_, behind)) => rest = behind,
-            None => unreachable!(),
-        }
+        rest = behind_first(rest, count - number);
     }
     rest
+}
+
+/// What follows the first of the section's archives, of which there are `count`. Its path isn't looked at.
+pub(crate) fn behind_first(section: &[u8], count: u32) -> &[u8]
+    requires some { 0 < count }
+    requires spelled { SpellsArchives count section.now }
+    ensures value { result.now ≡ behind_archive section.now }
+    ensures spelled { SpellsArchives (count - 1) result.now }
+{
+    let size = u32_at(section, 8) as usize;
+    section.split_at(12).1.split_at(size).1
 }
 
 /// The length of the first of the section's archives, of which there are `count`.

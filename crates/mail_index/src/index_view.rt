@@ -4,6 +4,8 @@ ghost use Rattle.std.specs.List.{slice_get};
 ghost use Rattle.mail_index.specs.Faults.{IsFileOf, IsFirstFault};
 
 use crate::archive::{Archive, are_archives, behind_archives, first_archive};
+use crate::archive_list::ArchiveList;
+use crate::compared_keys::ComparedKeys;
 use crate::directory::Directory;
 use crate::directory_walk::are_entries;
 use crate::fault::{IndexFault, Section};
@@ -37,7 +39,7 @@ impl<'a> Model for IndexView<'a> {
 
 impl<'a> IndexView<'a> {
     ghost use Rattle.mail_index.specs.Layouts.{archive_of};
-    ghost use Rattle.mail_index.specs.Tables.{Table};
+    ghost use Rattle.mail_index.specs.Tables.{Table, IsWellFormed};
     ghost use Rattle.mail_index.specs.LookUps.{numbers_at, TakesDigits, keys_of, text_and_numbers};
 
     /// The table whose file these bytes are, or the first thing that is wrong with them. No file of a well-formed table is
@@ -81,6 +83,16 @@ impl<'a> IndexView<'a> {
         Ok(IndexView { layout })
     }
 
+    /// The same view once more. Its table keeps the rules of tables, as that of each view.
+    pub fn again(&self) -> IndexView<'a>
+        ensures same { result ≡ self.now }
+        ensures formed { IsWellFormed self.now }
+    {
+        IndexView {
+            layout: self.layout,
+        }
+    }
+
     /// How many archives there are.
     #[tactic(auto, using(crate::proofs::ArchiveReads::read_count))]
     pub fn archive_count(&self) -> u32
@@ -96,6 +108,13 @@ impl<'a> IndexView<'a> {
     {
         let rest = behind_archives(self.layout.archives, self.layout.archive_count, n);
         first_archive(rest, self.layout.archive_count - n)
+    }
+
+    /// The archives in order. It takes no memory.
+    pub fn archives(&self) -> ArchiveList<'a>
+        ensures { result ≡ self.now.archives }
+    {
+        ArchiveList::of(self.layout.archives, self.layout.archive_count)
     }
 
     /// How many messages there are.
@@ -139,6 +158,6 @@ impl<'a> IndexView<'a> {
         ensures numbers { result ≡ numbers_at kind text.now self.now.keys }
         ensures steps { TakesDigits (length self.now.keys) steps.old steps.new }
     {
-        look_up(&self.directory(), kind, text, steps)
+        look_up(&ComparedKeys::of(self.directory()), kind, text, steps)
     }
 }

@@ -38,6 +38,10 @@ mod archive;
 
 pub use archive::Archive;
 
+mod archive_list;
+
+pub use archive_list::ArchiveList;
+
 mod index_view;
 
 pub use index_view::IndexView;
@@ -60,6 +64,7 @@ pub use pairs::pairs_law;
 
 #[cfg(test)]
 mod build_tests;
+mod compared_keys;
 mod directory;
 mod directory_walk;
 mod draft;

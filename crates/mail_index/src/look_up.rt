@@ -3,23 +3,23 @@ ghost use Rattle.std.specs.Prelude.{◌≡◌, ◌<◌, [], length, MatchOption}
 ghost use Rattle.mail_index.specs.LookUps.{numbers_at, TakesDigits};
 ghost use Rattle.mail_index.specs.KeysRead.{key_at};
 
-use crate::directory::Directory;
+use crate::compared_keys::ComparedKeys;
 use crate::kind::Kind;
 use crate::postings::Postings;
 use crate::steps::Steps;
 use std::cmp::Ordering;
 
 /// Where the key stands in the directory, if it does: a binary search.
-fn position(directory: &Directory<'_>, kind: Kind, text: &[u8], steps: &mut Steps) -> Option<u32>
-    ensures found { MatchOption result (numbers_at kind text.now directory.now ≡ [])
-        (λ number. (number < length directory.now) × (numbers_at kind text.now directory.now ≡ (key_at directory.now number).numbers)) }
-    ensures steps { TakesDigits (length directory.now) steps.old steps.new }
+fn position(keys: &ComparedKeys<'_>, kind: Kind, text: &[u8], steps: &mut Steps) -> Option<u32>
+    ensures found { MatchOption result (numbers_at kind text.now keys.now ≡ [])
+        (λ number. (number < length keys.now) × (numbers_at kind text.now keys.now ≡ (key_at keys.now number).numbers)) }
+    ensures steps { TakesDigits (length keys.now) steps.old steps.new }
 {
     let mut low = 0;
-    let mut high = directory.len();
+    let mut high = keys.len();
     while low < high {
         let middle = low + (high - low) / 2;
-        match directory.compare(middle, kind, text, steps) {
+        match keys.compare(middle, kind, text, steps) {
             Ordering::Less => low = middle + 1,
             Ordering::Equal => return Some(middle),
             Ordering::Greater => high = middle,
@@ -30,16 +30,16 @@ fn position(directory: &Directory<'_>, kind: Kind, text: &[u8], steps: &mut Step
 
 /// The numbers of the messages that have the key; none where the directory hasn't it.
 pub(crate) fn look_up<'a>(
-    directory: &Directory<'a>,
+    keys: &ComparedKeys<'a>,
     kind: Kind,
     text: &[u8],
     steps: &mut Steps,
 ) -> Postings<'a>
-    ensures numbers { result ≡ numbers_at kind text.now directory.now }
-    ensures steps { TakesDigits (length directory.now) steps.old steps.new }
+    ensures numbers { result ≡ numbers_at kind text.now keys.now }
+    ensures steps { TakesDigits (length keys.now) steps.old steps.new }
 {
-    match position(directory, kind, text, steps) {
-        Some(number) => directory.postings(number),
+    match position(keys, kind, text, steps) {
+        Some(number) => keys.postings(number),
         None => Postings::none(),
     }
 }

@@ -25,3 +25,4 @@ pub mod FoundAnswers
 pub mod RepliesExist
 pub mod AskedPaths
 pub mod MessageSteps
+pub mod AnswersCutAgain

@@ -19,3 +19,4 @@ pub mod Chosen
 pub mod Asked
 pub mod Replies
 pub mod IndexRuns
+pub mod CutAgain

@@ -32,7 +32,9 @@ pub use explanation::fault_text;
 pub use fault::{Fault, Reply};
 pub use index_job::IndexJob;
 pub use job_fault::JobFault;
-pub use laws::{every_run_has_a_reply, the_table_tells_the_messages};
+pub use laws::{
+    an_answer_is_cut_into_its_messages, every_run_has_a_reply, the_table_tells_the_messages,
+};
 pub use owned_text::{Text, Texts};
 pub use place::Place;
 pub use program::run_program;

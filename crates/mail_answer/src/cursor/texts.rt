@@ -130,5 +130,5 @@ pub(crate) fn with_text<'a>(
 {
     let mut members = Vec::new(alloc);
     push_kinds(&mut members, index, kinds, fit, text.as_bytes(), steps)?;
-    Ok(Walk::united(members))
+    Walk::united_in_groups(alloc, members)
 }

@@ -1,18 +1,27 @@
 //! The tree of walks.
-ghost use Rattle.std.specs.Prelude.{◌≡◌, ◌↔◌, ◌<◌, IsTrue, IfOk, length};
+ghost use Rattle.std.specs.Prelude.{◌≡◌, ◌↔◌, ◌<◌, ℕ, IsTrue, IfOk, length};
+ghost use Rattle.std.specs.Vec.{vec_len};
+ghost use Rattle.mail_answer.specs.Marks.{truth_at};
 ghost use Rattle.mail_answer.specs.CursorAhead.{Drops, IsFirst, Reaches, Spends, lesser_of, common, united, others, left_in, levels};
+ghost use Rattle.mail_answer.specs.CursorTexts.{some_has};
 
+use crate::cursor::head::{Head, is_from};
 use crate::cursor::listed::Listed;
 use crate::cursor::scanned::Scanned;
 use mail_index::Steps;
 use std::alloc::{AllocError, Global};
 use std::marker::Model;
 
-/// A walk through the messages that satisfy a query.
+/// The most members of a walk through what comes in some of many.
+const MOST: usize = 4;
+
+/// A walk through the messages that satisfy a query. It remembers its first number, so it goes on in its members only where it
+/// has to.
 #[cycle(walk)]
 #[derive(Debug, Drop)]
 pub(crate) struct Walk<'a> {
     node: Node<'a>,
+    head: Head,
 }
 
 /// What a walk goes along.
@@ -49,6 +58,10 @@ impl<'a> Model for Walk<'a> {
 
     ghost view = { λ s. ahead s.node };
 
+    ghost use Rattle.mail_answer.specs.CursorHeads.{IsHead};
+
+    ghost invariant = { λ s. IsHead (ahead s.node).truths s.head };
+
     ghost size = { λ w. w.below };
 
     ghost use Rattle.mail_answer.specs.CursorFalls.{children_below};
@@ -64,6 +77,7 @@ impl<'a> Walk<'a> {
     {
         Walk {
             node: Node::Listed(list),
+            head: Head::Unasked,
         }
     }
 
@@ -74,6 +88,7 @@ impl<'a> Walk<'a> {
     {
         Walk {
             node: Node::Scanned(scan),
+            head: Head::Unasked,
         }
     }
 
@@ -89,6 +104,7 @@ impl<'a> Walk<'a> {
                 count,
                 inner,
             }),
+            head: Head::Unasked,
         })
     }
 
@@ -99,6 +115,7 @@ impl<'a> Walk<'a> {
     {
         Walk {
             node: Node::Common(members),
+            head: Head::Unasked,
         }
     }
 
@@ -109,7 +126,23 @@ impl<'a> Walk<'a> {
     {
         Walk {
             node: Node::United(members),
+            head: Head::Unasked,
         }
+    }
+
+    /// The walk through the messages that come in some of any number of walks: a tree, so that a step goes on in few of them.
+    pub(crate) fn united_in_groups(
+        alloc: Global,
+        members: Vec<Walk<'a>>,
+    ) -> Result<Self, AllocError>
+        ensures truths { IfOk result (λ w. (m : ℕ) → truth_at w.truths m ≡ some_has m members.entry.items) }
+        ensures left { IfOk result (λ w. w.left ≡ left_in members.entry.items) }
+    {
+        let mut walks = members;
+        while walks.len() > MOST {
+            walks = grouped(alloc, walks)?;
+        }
+        Ok(Walk::united(walks))
     }
 
     /// The least number still to come that is at least n; all before it are dropped.
@@ -120,7 +153,29 @@ impl<'a> Walk<'a> {
         ensures steps { Spends self.old.left self.new.left steps.old steps.new }
         ensures below { self.new.below ≡ self.old.below }
     {
-        match &mut self.node {
+        if let Head::Asked(first) = self.head
+            && is_from(first, n)
+        {
+            return first;
+        }
+        let first = self.node.least_from(n, steps);
+        self.head = Head::Asked(first);
+        first
+    }
+}
+
+impl<'a> Node<'a> {
+    ghost use Rattle.mail_answer.specs.CursorWalks.{ahead};
+
+    /// The least number still to come that is at least n; all before it are dropped.
+    #[cycle(least)]
+    fn least_from(&mut self, n: u32, steps: &mut Steps) -> Option<u32>
+        ensures rest { Drops n (ahead self.old).truths (ahead self.new).truths }
+        ensures number { IsFirst (ahead self.new).truths result }
+        ensures steps { Spends (ahead self.old).left (ahead self.new).left steps.old steps.new }
+        ensures below { (ahead self.new).below ≡ (ahead self.old).below }
+    {
+        match self {
             Node::Listed(list) => list.least_from(n, steps),
             Node::Scanned(scan) => scan.least_from(n, steps),
             Node::Others(others) => least_other(others, n, steps),
@@ -128,6 +183,21 @@ impl<'a> Walk<'a> {
             Node::United(members) => least_united(members, n, steps),
         }
     }
+}
+
+/// The walks, so many at a time made one.
+fn grouped<'a>(alloc: Global, mut walks: Vec<Walk<'a>>) -> Result<Vec<Walk<'a>>, AllocError>
+    requires { 4 < vec_len walks }
+    ensures each { IfOk result (λ v. (m : ℕ) → some_has m v.items ≡ some_has m walks.entry.items) }
+    ensures left { IfOk result (λ v. left_in v.items ≡ left_in walks.entry.items) }
+    ensures fewer { IfOk result (λ v. vec_len v < vec_len walks.entry) }
+{
+    let mut groups = Vec::new(alloc);
+    while !walks.is_empty() {
+        let group = walks.split_off(walks.len().saturating_sub(MOST))?;
+        groups.push(Walk::united(group))?;
+    }
+    Ok(groups)
 }
 
 /// Whether there is a number and it is n.

@@ -5,6 +5,7 @@ use Rattle.mail_answer.proofs.stale.check_archives.Given as goal
 -- the archives before this one are as they were
 abbrev pub invariant-loop-n : goal.invariant-loop-n
 invariant-loop-n g l = record {
+  coming : l.named ≡ drop l.n l.fn.index.archives;
   held : g.A.Archives.held l.archives ≡ g.A.Archives.held l.fn.archives;
   number : g.A.Archives.number l.archives ≡ g.A.Archives.number l.fn.archives;
   count : g.A.Archives.failures l.archives ≡ g.A.Archives.failures l.fn.archives;

@@ -1,4 +1,4 @@
-use Rattle.mail_index.proofs.ArchiveReads.{spells_begin, behind_begin, pass_step, must_have, pass_end}
+use Rattle.mail_index.proofs.ArchiveReads.{spells_begin, behind_begin, pass_step, pass_end}
 use Rattle.mail_index.proofs.archive.behind_archives.Goals as goal
 
 pub loop-number-init : goal.loop-number-init
@@ -6,11 +6,8 @@ loop-number-init c = record { spelled = (spells_begin _ _).0 c.requires.spelled;
 
 pub loop-number-preserved : goal.loop-number-preserved
 loop-number-preserved c =
-    let s = pass_step c.args.count c.args.n _ _ _ _ c.loop-number-test.true c.requires.bound c.loop-number.invariant.spelled c.loop-number.invariant.same c.in-Some.ensures.3 in
+    let s = pass_step c.args.count c.args.n _ _ _ _ c.loop-number-test.true c.requires.bound c.loop-number.invariant.spelled c.loop-number.invariant.same c.behind_first-rest.ensures.value in
     record { spelled = s.0; same = s.1 }
-
-pub unreachable-requires : goal.unreachable-requires
-unreachable-requires c = must_have c.args.count c.args.n _ _ c.loop-number-test.true c.requires.bound c.loop-number.invariant.spelled c.in-None.ensures
 
 pub returns : goal.returns
 returns c =

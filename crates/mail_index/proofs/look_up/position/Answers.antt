@@ -8,7 +8,7 @@ use Rattle.mail_index.proofs.look_up.position.Goals as goal
 
 pub loop-low-preserved-in-Less : goal.loop-low-preserved-in-Less
 loop-low-preserved-in-Less c =
-    let keys : List Key = c.args.directory.now in
+    let keys : List Key = c.args.keys.now in
     let middle : ℕ = c.loop-low.low + (c.loop-low.high - c.loop-low.low) / 2 in
     let i = c.loop-low.invariant in
     let inside : middle < length keys = omega (arith, i.within, c.loop-low-test.true) in
@@ -26,7 +26,7 @@ loop-low-preserved-in-Less c =
 
 pub loop-low-preserved : goal.loop-low-preserved
 loop-low-preserved c =
-    let keys : List Key = c.args.directory.now in
+    let keys : List Key = c.args.keys.now in
     let middle : ℕ = c.loop-low.low + (c.loop-low.high - c.loop-low.low) / 2 in
     let i = c.loop-low.invariant in
     record {
@@ -43,7 +43,7 @@ loop-low-preserved c =
 
 pub returns-in-Equal-clause-found : goal.returns-in-Equal-clause-found
 returns-in-Equal-clause-found c =
-    let keys : List Key = c.args.directory.now in
+    let keys : List Key = c.args.keys.now in
     let middle : ℕ = c.loop-low.low + (c.loop-low.high - c.loop-low.low) / 2 in
     let i = c.loop-low.invariant in
     let inside : middle < length keys = omega (arith, i.within, c.loop-low-test.true) in
@@ -58,5 +58,5 @@ returns-in-Equal-clause-steps c = λ digits h.
 pub returns-clause-found : goal.returns-clause-found
 returns-clause-found c =
     let i = c.loop-low.invariant in
-    numbers_at-none c.args.kind c.args.text.now c.args.directory.now c.loop-low.low no_key i.below
+    numbers_at-none c.args.kind c.args.text.now c.args.keys.now c.loop-low.low no_key i.below
     (λ j le lt. i.above j (omega (arith, le, c.loop-low-test.false)) lt)

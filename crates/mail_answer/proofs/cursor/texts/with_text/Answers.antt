@@ -1,18 +1,20 @@
 use Rattle.std.proofs.Common.{◌∙◌, ◌||◌, ℕ, Bool, List, ap}
 use Rattle.mail_query.specs.Truth.{some_word}
 use Rattle.mail_answer.specs.TableFacts.{facts_at}
-use Rattle.mail_answer.specs.Marks.{fits, truth_at}
+use Rattle.mail_answer.specs.Marks.{fits}
 use Rattle.mail_answer.specs.Cursors.{kinds_in}
 use Rattle.mail_answer.specs.CursorAhead.{Ahead}
 use Rattle.mail_answer.specs.CursorTexts.{some_has, some_of_kinds}
-use Rattle.mail_answer.proofs.CursorMembers.{united-at}
 use Rattle.mail_answer.proofs.CursorTexts.{some_of_all}
+use Rattle.mail_answer.proofs.CursorGroups.{if_told}
 use Rattle.mail_answer.proofs.cursor.texts.with_text.Goals as goal
 
 pub returns-clause-truths : goal.returns-clause-truths
 returns-clause-truths c =
     let passes : List ℕ → Bool = fits c.args.fit c.as_bytes.result.now in
-    λ m. ap (λ (xs : List Bool). truth_at xs m) c.united.ensures.truths ∙ united-at m c.push_kinds.new.members.items ∙ c.in_ok-push_kinds.ensures.joins.each m
+    if_told c.united_in_groups.result c.push_kinds.new.members.items (λ m. some_word (fits c.args.fit c.args.text.now) c.args.kinds (facts_at c.args.index.now m))
+    (λ m. c.in_ok-push_kinds.ensures.joins.each m
     ∙ ap (λ (ws : List Ahead). some_has m ws || some_of_kinds (kinds_in c.args.kinds) passes c.args.index.now.keys m) c.new-members.ensures.items
     ∙ some_of_all c.args.kinds passes c.args.index.now m
-    ∙ ap (λ (text : List ℕ). some_word (fits c.args.fit text) c.args.kinds (facts_at c.args.index.now m)) c.as_bytes.ensures
+    ∙ ap (λ (text : List ℕ). some_word (fits c.args.fit text) c.args.kinds (facts_at c.args.index.now m)) c.as_bytes.ensures)
+    c.united_in_groups.ensures.truths

@@ -43,7 +43,7 @@ least_united-least_from-number-requires t c =
     let w : Ahead = get_or xs i c.member-item.result in
     let within : i < length xs = omega (arith, c.loop-member-test.true, c.loop-member.auto.members) in
     let is : w ≡ get_or xs i w = get_or_default xs i c.member-item.result w within in
-    let falls : 3 * w.below + 2 < t = omega (arith, c.decreases, c.loop-member.invariant.levels, below-levels xs i w within is) in
+    let falls : 4 * w.below + 3 < t = omega (arith, c.decreases, c.loop-member.invariant.levels, below-levels xs i w within is) in
     (falls, tt)
 
 pub least_united-loop-member-preserved : goal.least_united-loop-member-preserved
@@ -90,7 +90,7 @@ reach_common-least_from-requires t c =
     let w : Ahead = get_or xs i c.member-item.result in
     let within : i < length xs = omega (arith, c.loop-member-test.true, c.loop-member.auto.members) in
     let is : w ≡ get_or xs i w = get_or_default xs i c.member-item.result w within in
-    let falls : 3 * w.below + 2 < t = omega (arith, c.decreases, c.loop-member.invariant.levels, below-levels xs i w within is) in
+    let falls : 4 * w.below + 3 < t = omega (arith, c.decreases, c.loop-member.invariant.levels, below-levels xs i w within is) in
     (falls, tt)
 
 pub reach_common-returns-in-None-clause-rest : goal.reach_common-returns-in-None-clause-rest

@@ -1,5 +1,6 @@
 use Rattle.std.proofs.Common.{◌-◌, ◌^◌, ◌≡◌, ◌+◌, ◌*◌, ◌<◌, length, take}
 use Rattle.mail_answer.specs.CursorAhead.{Spends, common, left_in, levels}
+use Rattle.mail_answer.specs.CursorWalks.{ahead}
 use Rattle.mail_answer.proofs.CursorTurns.{HasPassed}
 use Rattle.mail_answer.proofs.CursorMembers.{HaveDropped, HaveReached, HasRisen}
 use Rattle.mail_answer.proofs.cursor.walk.+least.Given as goal
@@ -44,16 +45,19 @@ invariant-reach_common-loop-member l = record {
 }
 
 abbrev pub decreases-Walk::least_from : goal.decreases-Walk::least_from
-decreases-Walk::least_from l = 3 * l.self.now.below + 2
+decreases-Walk::least_from l = 4 * l.self.now.below + 3
+
+abbrev pub decreases-Node::least_from : goal.decreases-Node::least_from
+decreases-Node::least_from l = 4 * (ahead l.self.now).below + 2
 
 abbrev pub decreases-least_other : goal.decreases-least_other
-decreases-least_other l = 3 * l.walk.now.inner.value.below + 3
+decreases-least_other l = 4 * l.walk.now.inner.value.below + 4
 
 abbrev pub decreases-least_common : goal.decreases-least_common
-decreases-least_common l = 3 * levels l.members.now + 1
+decreases-least_common l = 4 * levels l.members.now + 1
 
 abbrev pub decreases-reach_common : goal.decreases-reach_common
-decreases-reach_common l = 3 * levels l.members.now
+decreases-reach_common l = 4 * levels l.members.now
 
 abbrev pub decreases-least_united : goal.decreases-least_united
-decreases-least_united l = 3 * levels l.members.now + 1
+decreases-least_united l = 4 * levels l.members.now + 1

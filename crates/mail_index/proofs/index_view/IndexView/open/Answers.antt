@@ -2,7 +2,7 @@ use Rattle.std.proofs.Common.{◌≡◌, true, false, sym, ◌∙◌}
 use Rattle.std.proofs.Math.Facts.{Fits-lt-pow}
 use Rattle.mail_index.specs.Layouts.{table_of}
 use Rattle.mail_index.proofs.SameTable.{same-table}
-use Rattle.mail_index.proofs.FileLemmas.{these_archives, has_archives, has_records, no_records}
+use Rattle.mail_index.proofs.FileLemmas.{these_archives, has_archives, has_records, no_records, record_section, directory_section}
 use Rattle.mail_index.specs.declared.fault.IndexFault.TheVariants.{BadLayout}
 use Rattle.mail_index.specs.declared.fault.Section.TheVariants.{Counts, Archives, Records, Directory, Postings}
 use Rattle.mail_index.proofs.Accepts.{no_fault}
@@ -76,3 +76,23 @@ returns-then-not-are_lists-clause-accepts c t f = absurd (no_fault c.args.bytes.
 
 pub returns-clause-same : goal.returns-clause-same
 returns-clause-same c t f = same-table c.args.bytes.now t (table_of c.in-Some-of.layout) c.well_formed.0.0 f (returns-clause-ok c)
+
+pub invariant_of-result : goal.invariant_of-result
+invariant_of-result c =
+    let bytes = c.args.bytes.now in
+    let l = c.in-Some-of.layout in
+    let f = laid_out bytes l c.in_default.ensures c.in-Some-of.ensures (record { below = λ i. Fits-lt-pow (c.type_inv.bytes i) }) in
+    let a = c.are_archives.ensures.0 c.if-not-are_archives.false in
+    let r = c.are_records.ensures.0 c.if-not-are_records.false in
+    let d = c.are_entries.ensures.0 c.if-not-are_entries.false in
+    let p = c.are_lists.ensures.0 c.if-not-are_lists.false in
+    record {
+      archives = a;
+      record_bytes = record_section bytes l f;
+      records = r;
+      directory_bytes = directory_section bytes l f;
+      entries = d;
+      few_messages = f.few_messages;
+      lists = p;
+      formed = (is_file bytes l f (has_postings bytes l f (record { archives = a; records = r }) d p)).0;
+    }

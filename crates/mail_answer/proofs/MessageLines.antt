@@ -1,0 +1,145 @@
+-- The lines of messages, and what is cut of messages that stand one behind another.
+use Rattle.std.proofs.Common.{◌≡◌, ◌∙◌, ℕ, ◌+◌, Bool, true, false, cond, ◌&&◌, ◌||◌, ◌==◌, suc, List, [], ◌∷◌, ◌++◌, Some, length, map, refl, ap, sym, arith, append-nil, length-append}
+use Rattle.std.specs.List.{concat}
+use Rattle.std.proofs.lemmas.Bool.{eqb-true}
+use Rattle.std.proofs.lemmas.List.Folds.{concat-append}
+use Rattle.mbox_cutter.specs.Archives.{Message, cut, messages, messages_from, marked, grouped, is_refused, total, span_length}
+use Rattle.mbox_cutter.specs.Lines.{lines, is_empty, length_before_feed, AreCut}
+use Rattle.mbox_cutter.specs.Separators.{is_separator}
+use Rattle.mbox_cutter.proofs.OnlyLines.{only_lines}
+use Rattle.mail_answer.specs.CutAgain.{places_from}
+
+-- each element
+abbrev pub Each : {A : Type 0} → (A → Type 0) → List A → Type 0
+Each P [] = Unit {0}
+Each P (x ∷ xs) = P x × Each P xs
+
+-- at none of these lines a message starts; the flag says whether one may start at the first
+abbrev pub StartsNowhere : Bool → List (List ℕ) → Type 0
+StartsNowhere may [] = Unit {0}
+StartsNowhere may (l ∷ ls) = ((may && is_separator l) ≡ false) × StartsNowhere (is_empty l) ls
+
+-- whether a message may start behind these lines
+abbrev pub may_behind : Bool → List (List ℕ) → Bool
+may_behind may [] = may
+may_behind may (l ∷ ls) = may_behind (is_empty l) ls
+
+-- a line and the lines after it
+abbrev pub Group : Type 0
+Group = List ℕ × List (List ℕ)
+
+-- a message starts at the first line, and none behind it
+pub record IsMessage (g : Group) : Type 0 where
+  pub starts : is_separator g.0 ≡ true
+  pub inside : StartsNowhere (is_empty g.0) g.1
+
+-- the last line is empty
+abbrev pub IsClosed : Group → Type 0
+IsClosed g = may_behind (is_empty g.0) g.1 ≡ true
+
+abbrev pub lines_of : Group → List (List ℕ)
+lines_of g = g.0 ∷ g.1
+
+abbrev pub all_lines : List Group → List (List ℕ)
+all_lines [] = []
+all_lines (g ∷ gs) = lines_of g ++ all_lines gs
+
+abbrev pub text_of : Group → List ℕ
+text_of g = concat (lines_of g)
+
+grouped-behind : (may : Bool) (ls rest : List (List ℕ)) → StartsNowhere may ls
+    → grouped (marked may (ls ++ rest)) ≡ (ls ++ (grouped (marked (may_behind may ls) rest)).0, (grouped (marked (may_behind may ls) rest)).1)
+grouped-behind may [] rest h = refl
+grouped-behind may (l ∷ ls) rest h =
+    rw h.0 (ap (λ (r : List (List ℕ) × List Group). (l ∷ r.0, r.1)) (grouped-behind (is_empty l) ls rest h.1))
+
+-- messages with a closing line are grouped as they are
+grouped-messages : (gs : List Group) → Each IsMessage gs → Each IsClosed gs → grouped (marked true (all_lines gs)) ≡ ([], gs)
+grouped-messages [] is closed = refl
+grouped-messages (g ∷ gs) is closed =
+    let behind : grouped (marked (is_empty g.0) (g.1 ++ all_lines gs)) ≡ (g.1, gs) =
+    grouped-behind (is_empty g.0) g.1 (all_lines gs) is.0.inside
+    ∙ ap (λ (may : Bool). (g.1 ++ (grouped (marked may (all_lines gs))).0, (grouped (marked may (all_lines gs))).1)) closed.0
+    ∙ ap (λ (r : List (List ℕ) × List Group). (g.1 ++ r.0, r.1)) (grouped-messages gs is.1 closed.1)
+    ∙ ap (λ (ls : List (List ℕ)). (ls, gs)) (append-nil g.1) in
+    rw is.0.starts (ap (λ (r : List (List ℕ) × List Group). ([], (g.0, r.0) ∷ r.1)) behind)
+
+-- a separator is no empty line
+pub separator-some : (l : List ℕ) → is_separator l ≡ true → is_empty l ≡ false
+unfolding is_separator is_empty
+separator-some [] h = absurd (cc h)
+separator-some (x ∷ xs) h = go (x == 70) refl h
+  where
+    go : (v : Bool) → (x == 70) ≡ v → is_separator (x ∷ xs) ≡ true → is_empty (x ∷ xs) ≡ false
+    go true e h = rw (eqb-true x 70 e) refl
+    go false e h = absurd (cc (rw e at h))
+
+accepted : (gs : List Group) → Each IsMessage gs → is_refused (marked true (all_lines gs)) ≡ false
+accepted [] is = refl
+accepted (g ∷ gs) is = rw (separator-some g.0 is.0.starts, is.0.starts) refl
+
+pub total-length : (ls : List (List ℕ)) → total ls ≡ length (concat ls)
+total-length [] = refl
+total-length (l ∷ ls) = ap (λ (n : ℕ). length l + n) (total-length ls) ∙ sym (length-append l (concat ls))
+
+-- what a message's span is
+abbrev pub span_of : Message → ℕ × ℕ
+span_of m = (m.offset, span_length m)
+
+spans : (offset : ℕ) (gs : List Group) → map span_of (messages_from offset gs) ≡ places_from offset (map text_of gs)
+spans offset [] = refl
+spans offset (g ∷ gs) =
+    let n : length g.0 + total g.1 ≡ length (text_of g) = total-length (lines_of g) in
+    rw n (ap (λ (rest : List (ℕ × ℕ)). (offset, length (text_of g)) ∷ rest) (spans (offset + length (text_of g)) gs))
+
+joined : (gs : List Group) → concat (all_lines gs) ≡ concat (map text_of gs)
+joined [] = refl
+joined (g ∷ gs) = concat-append (lines_of g) (all_lines gs) ∙ ap (λ (rest : List ℕ). text_of g ++ rest) (joined gs)
+
+pub lines-concat : (ls : List (List ℕ)) → AreCut ls → lines (concat ls) ≡ ls
+lines-concat ls c = sym (only_lines (concat ls) ls (record { joined = refl; each = c }))
+
+-- an empty line has its LF
+empty-feed : (l : List ℕ) → is_empty l ≡ true → length_before_feed l ≡ length l → ⊥
+unfolding is_empty
+empty-feed [] e n = absurd (cc e)
+empty-feed (x ∷ []) e n = tests (x == 10) (x == 13) e n
+  where
+    tests : (a b : Bool) → ((a && true) || (b && false)) ≡ true → ◌≡◌ {A = ℕ} (cond a 0 1) 1 → ⊥
+    tests true b e n = absurd (omega arith)
+    tests false true e n = absurd (cc e)
+    tests false false e n = absurd (cc e)
+empty-feed (x ∷ y ∷ []) e n = tests (x == 10) (x == 13) (y == 10) e n
+  where
+    tests : (a b c : Bool) → ((a && false) || (b && (c && true))) ≡ true → ◌≡◌ {A = ℕ} (cond a 0 (suc (cond c 0 1))) 2 → ⊥
+    tests true b c e n = absurd (omega arith)
+    tests false b true e n = absurd (omega arith)
+    tests false true false e n = absurd (cc e)
+    tests false false false e n = absurd (cc e)
+empty-feed (x ∷ y ∷ z ∷ xs) e n = tests (x == 10) (x == 13) (y == 10) e
+  where
+    tests : (a b c : Bool) → ((a && false) || (b && (c && false))) ≡ true → ⊥
+    tests true true true e = absurd (cc e)
+    tests true true false e = absurd (cc e)
+    tests true false c e = absurd (cc e)
+    tests false true true e = absurd (cc e)
+    tests false true false e = absurd (cc e)
+    tests false false c e = absurd (cc e)
+
+-- lines behind an empty one
+behind-closed : (l : List ℕ) (ls ms : List (List ℕ)) → AreCut (l ∷ ls) → may_behind (is_empty l) ls ≡ true → AreCut ms → AreCut (l ∷ (ls ++ ms))
+behind-closed l [] [] c closed d = c
+behind-closed l [] (m ∷ ms) c closed d = (c, λ e. absurd (empty-feed l closed e), d)
+behind-closed l (k ∷ ls) ms c closed d = (c.0, c.1, behind-closed k ls ms c.2 closed d)
+
+all-cut : (gs : List Group) → Each IsClosed gs → Each (λ g. AreCut (lines_of g)) gs → AreCut (all_lines gs)
+all-cut [] closed each = tt
+all-cut (g ∷ gs) closed each = behind-closed g.0 g.1 (all_lines gs) each.0 closed.0 (all-cut gs closed.1 each.1)
+
+-- messages with a closing line, joined, are cut into these
+pub messages-cut : (gs : List Group) → Each IsMessage gs → Each IsClosed gs → Each (λ g. AreCut (lines_of g)) gs
+    → cut (concat (map text_of gs)) ≡ Some (places_from 0 (map text_of gs))
+unfolding messages
+messages-cut gs is closed each =
+    let all : lines (concat (map text_of gs)) ≡ all_lines gs = ap lines (sym (joined gs)) ∙ lines-concat (all_lines gs) (all-cut gs closed each) in
+    rw (all, accepted gs is, grouped-messages gs is closed) (ap Some (spans 0 gs))

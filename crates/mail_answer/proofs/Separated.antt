@@ -1,0 +1,102 @@
+-- A line without LF and without CR as its last byte is a separator with LF behind it just where it is one without it.
+use Rattle.std.proofs.Common.{◌≡◌, ◌∙◌, ℕ, zero, suc, ◌+◌, ◌-◌, ◌<◌, Bool, true, false, ◌&&◌, ◌==◌, List, [], ◌∷◌, ◌++◌, length, take, drop, refl, ap, sym, arith, length-append}
+use Rattle.std.specs.Prelude.{codes}
+use Rattle.std.specs.Str.{bytes_eq}
+use Rattle.std.proofs.Math.Seq.{take-append_seam, drop-append_seam}
+use Rattle.std.proofs.lemmas.Bool.{and_right, or_parts, false_from_ne_true}
+use Rattle.std.proofs.lemmas.List.{drop-append-le}
+use Rattle.std.proofs.lemmas.Slice.Eq.{bytes_eq-Decides}
+use Rattle.mbox_cutter.specs.Lines.{is_empty}
+use Rattle.mbox_cutter.specs.Separators.{is_separator, without_break, tokens, has_time_then_year}
+use Rattle.mail_answer.specs.Closing.{feed, has_feed}
+use Rattle.mail_answer.specs.CutAgain.{ends_in_return}
+
+pub feed_is_empty : is_empty feed ≡ true
+unfolding is_empty
+feed_is_empty = refl
+
+-- ---- the last byte
+
+-- CR alone ends in CR
+pub return-alone : (l : List ℕ) → ends_in_return l ≡ false → bytes_eq l (13 ∷ []) ≡ false
+return-alone [] other = refl
+return-alone (x ∷ []) other = rw other refl
+return-alone (x ∷ y ∷ l) other = and_right (x == 13) false refl
+
+-- what stands before bytes doesn't change their last one
+pub return-behind : (a b : List ℕ) → 0 < length b → ends_in_return (a ++ b) ≡ ends_in_return b
+return-behind [] b some = refl
+return-behind (x ∷ []) [] some = absurd (omega arith)
+return-behind (x ∷ []) (y ∷ b) some = refl
+return-behind (x ∷ z ∷ a) b some = return-behind (z ∷ a) b some
+
+-- the last byte, which isn't CR
+record IsLast (l : List ℕ) : Type 0 where
+  pub byte : ℕ
+  pub is : drop (length l - 1) l ≡ byte ∷ []
+  pub other : (byte == 13) ≡ false
+
+last-of : (l : List ℕ) → 0 < length l → ends_in_return l ≡ false → IsLast l
+last-of [] some other = absurd (omega arith)
+last-of (x ∷ []) some other = record { byte = x; is = refl; other = other }
+last-of (x ∷ y ∷ l) some other =
+    let rest : IsLast (y ∷ l) = last-of (y ∷ l) (omega arith) other in
+    let less : length (x ∷ y ∷ l) - 1 ≡ suc (length (y ∷ l) - 1) = omega arith in
+    record { byte = rest.byte; is = ap (λ (n : ℕ). drop n (x ∷ y ∷ l)) less ∙ rest.is; other = rest.other }
+
+-- ---- without its break
+
+feed-dropped : (k : ℕ) (l : List ℕ) → has_feed l ≡ false → has_feed (drop k l) ≡ false
+feed-dropped zero l none = none
+feed-dropped (suc k) [] none = refl
+feed-dropped (suc k) (x ∷ l) none = feed-dropped k l (or_parts (x == 10) (has_feed l) none).1
+
+no-feed-in : (a b : List ℕ) → has_feed a ≡ false → has_feed b ≡ true → bytes_eq a b ≡ false
+no-feed-in a b none some = false_from_ne_true (bytes_eq a b) (λ e. absurd (cc (ap has_feed ((bytes_eq-Decides a b).0 e), none, some)))
+
+unbroken : (l : List ℕ) → has_feed l ≡ false → without_break l ≡ l
+unfolding without_break
+unbroken l none =
+    let two : bytes_eq (drop (length l - 2) l) (13 ∷ 10 ∷ []) ≡ false = no-feed-in (drop (length l - 2) l) (13 ∷ 10 ∷ []) (feed-dropped (length l - 2) l none) refl in
+    let one : bytes_eq (drop (length l - 1) l) (10 ∷ []) ≡ false = no-feed-in (drop (length l - 1) l) (10 ∷ []) (feed-dropped (length l - 1) l none) refl in
+    rw (two, one) refl
+
+feed-broken : (l : List ℕ) → ends_in_return l ≡ false → without_break (l ++ feed) ≡ l
+unfolding without_break
+feed-broken [] other = refl
+feed-broken (x ∷ xs) other =
+    let l : List ℕ = x ∷ xs in
+    let long : length (l ++ feed) ≡ length l + 1 = length-append l feed in
+    let last : IsLast l = last-of l (omega arith) other in
+    let less : length (l ++ feed) - 2 ≡ length l - 1 = omega arith in
+    let same : length (l ++ feed) - 1 ≡ length l = omega arith in
+    let two : drop (length (l ++ feed) - 2) (l ++ feed) ≡ last.byte ∷ feed =
+    ap (λ (n : ℕ). drop n (l ++ feed)) less ∙ drop-append-le (length l - 1) l feed (omega arith) ∙ ap (λ (r : List ℕ). r ++ feed) last.is in
+    let one : drop (length (l ++ feed) - 1) (l ++ feed) ≡ feed = ap (λ (n : ℕ). drop n (l ++ feed)) same ∙ drop-append_seam l feed in
+    let front : take (length (l ++ feed) - 1) (l ++ feed) ≡ l = ap (λ (n : ℕ). take n (l ++ feed)) same ∙ take-append_seam l feed in
+    let not_two : bytes_eq (drop (length (l ++ feed) - 2) (l ++ feed)) (13 ∷ 10 ∷ []) ≡ false = ap (λ (r : List ℕ). bytes_eq r (13 ∷ 10 ∷ [])) two ∙ rw last.other refl in
+    let is_one : bytes_eq (drop (length (l ++ feed) - 1) (l ++ feed)) (10 ∷ []) ≡ true = ap (λ (r : List ℕ). bytes_eq r (10 ∷ [])) one in
+    rw (not_two, is_one) front
+
+-- ---- a separator
+
+return-dropped : (a b c d e : ℕ) (rest : List ℕ) → ends_in_return (a ∷ b ∷ c ∷ d ∷ e ∷ rest) ≡ false → ends_in_return rest ≡ false
+return-dropped a b c d e [] other = refl
+return-dropped a b c d e (x ∷ rest) other = other
+
+neither : (v t u : Bool) → v ≡ false → (v && t) ≡ (v && u)
+neither v t u e = rw e refl
+
+pub separator-feed : (l : List ℕ) → has_feed l ≡ false → ends_in_return l ≡ false → is_separator (l ++ feed) ≡ is_separator l
+unfolding is_separator
+separator-feed [] none other = refl
+separator-feed (a ∷ []) none other = neither ((a == 70) && false) _ _ (and_right (a == 70) false refl)
+separator-feed (a ∷ b ∷ []) none other = neither ((a == 70) && ((b == 114) && false)) _ _ (and_right (a == 70) _ (and_right (b == 114) false refl))
+separator-feed (a ∷ b ∷ c ∷ []) none other =
+    neither ((a == 70) && ((b == 114) && ((c == 111) && false))) _ _ (and_right (a == 70) _ (and_right (b == 114) _ (and_right (c == 111) false refl)))
+separator-feed (a ∷ b ∷ c ∷ d ∷ []) none other =
+    neither ((a == 70) && ((b == 114) && ((c == 111) && ((d == 109) && false)))) _ _
+    (and_right (a == 70) _ (and_right (b == 114) _ (and_right (c == 111) _ (and_right (d == 109) false refl))))
+separator-feed (a ∷ b ∷ c ∷ d ∷ e ∷ rest) none other =
+    ap (λ (t : List ℕ). bytes_eq (a ∷ b ∷ c ∷ d ∷ e ∷ []) (codes "From ") && has_time_then_year (tokens t))
+    (feed-broken rest (return-dropped a b c d e rest other) ∙ sym (unbroken rest (feed-dropped 5 (a ∷ b ∷ c ∷ d ∷ e ∷ rest) none)))

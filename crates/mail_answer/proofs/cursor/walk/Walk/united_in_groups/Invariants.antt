@@ -1,0 +1,13 @@
+use Rattle.std.proofs.Common.{◌≡◌, ℕ, vec_len}
+use Rattle.mail_answer.specs.CursorAhead.{left_in}
+use Rattle.mail_answer.specs.CursorTexts.{some_has}
+use Rattle.mail_answer.proofs.cursor.walk.Walk.united_in_groups.Given as goal
+
+abbrev pub invariant-loop-alloc : goal.invariant-loop-alloc
+invariant-loop-alloc l = record {
+  each : (m : ℕ) → some_has m l.walks.items ≡ some_has m l.initial.walks.items;
+  left : left_in l.walks.items ≡ left_in l.initial.walks.items;
+}
+
+abbrev pub decreases-loop-alloc : goal.decreases-loop-alloc
+decreases-loop-alloc l = vec_len l.walks

@@ -1,0 +1,17 @@
+use Rattle.std.proofs.Common.{◌≡◌, ◌∙◌, ℕ, List, length, drop, sym, ap, arith}
+use Rattle.std.specs.Vec.{vec_len}
+use Rattle.mail_answer.specs.CursorAhead.{Ahead, united, left_in}
+use Rattle.mail_answer.proofs.CursorGroups.{grouped_more}
+use Rattle.mail_answer.proofs.CursorBegins.{some_walk}
+use Rattle.mail_answer.proofs.cursor.walk.grouped.Goals as goal
+
+pub loop-walks-preserved : goal.loop-walks-preserved
+loop-walks-preserved c =
+    let walks : List Ahead = c.loop-walks.walks.items in
+    let at : ℕ = c.saturating_sub.result in
+    let items : c.in_ok-group.group.items ≡ drop at walks = c.in_ok-group.ensures.tail in
+    let left : c.united.result.left ≡ left_in (drop at walks) = c.united.ensures.left ∙ ap left_in items in
+    let told : c.united.result.truths ≡ united (drop at walks) = c.united.ensures.truths ∙ ap united items in
+    rw (c.in_ok-push.ensures.items, c.in_ok-group.ensures.items)
+    (grouped_more c.args.walks.items c.loop-walks.groups.items walks at c.united.result (omega (arith, c.saturating_sub.ensures, c.len.ensures, c.loop-walks.walks.ok.0))
+    (some_walk (vec_len c.loop-walks.walks) (length walks) c.loop-walks.walks.ok.0 (sym c.is_empty.ensures ∙ c.loop-walks-test.true)) told left c.loop-walks.invariant)
