@@ -14,7 +14,7 @@ use Rattle.mail_answer.specs.Shapes.{closed, span, answer_text}
 use Rattle.mail_answer.specs.TableFacts.{record_at, no_record}
 use Rattle.mail_answer.proofs.CutAgain.{cut-again}
 use Rattle.mail_answer.proofs.MessageLines.{Each, span_of}
-use Rattle.mairix_tool.specs.ArchiveTables.{Mbox, messages_in, record_of, records_from, table}
+use Rattle.index_job.specs.ArchiveTables.{Mbox, messages_in, record_of, records_from, table}
 use Rattle.mairix_tool.specs.CutAgain.{bytes_held, spans_at}
 
 each-joined : {A : Type 0} (P : A → Type 0) (xs ys : List A) → Each P xs → Each P ys → Each P (xs ++ ys)

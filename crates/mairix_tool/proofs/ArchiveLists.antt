@@ -5,17 +5,17 @@ use Rattle.std.proofs.lemmas.List.Elements.{All-append, All-cons, All-nil}
 use Rattle.mail_index.specs.Builders.{Draft}
 use Rattle.mbox_cutter.specs.declared.event.CutFault.TheVariants as cut
 use Rattle.mbox_cutter.specs.Events.{refusal_of}
-use Rattle.mairix_tool.specs.declared.job_fault.JobFault.{JobFault}
-use Rattle.mairix_tool.specs.declared.job_fault.JobFault.TheVariants as job
-use Rattle.mairix_tool.specs.ArchiveTables.{Mbox}
-use Rattle.mairix_tool.specs.ArchiveRefusals.{most_in_archive, AreSound}
+use Rattle.index_job.specs.declared.job_fault.JobFault.{JobFault}
+use Rattle.index_job.specs.declared.job_fault.JobFault.TheVariants as job
+use Rattle.index_job.specs.ArchiveTables.{Mbox}
+use Rattle.index_job.specs.ArchiveRefusals.{most_in_archive, AreSound}
 use Rattle.mairix_tool.specs.ArchivesIndexed.{mboxes, Parted, IsArchivesFault, fault_of_job}
-use Rattle.mairix_tool.specs.IndexJobs.{IsAdded, IsAddFault}
+use Rattle.index_job.specs.IndexJobs.{IsAdded, IsAddFault}
 use Rattle.std.specs.Prelude.{Option, Err, ◌≢◌}
 use Rattle.std.proofs.lemmas.Bool.Decides.{eqb_tells}
 use Rattle.contract_words.specs.Devices.{Counted}
 use Rattle.mairix_tool.specs.Faults.{is_failed_source}
-use Rattle.mairix_tool.specs.JobFaults.{is_source_failure}
+use Rattle.index_job.specs.JobFaults.{is_source_failure}
 
 pub mboxes-length : (paths bytes : List (List ℕ)) → length paths ≡ length bytes → length (mboxes paths bytes) ≡ length paths
 mboxes-length [] bytes same = refl

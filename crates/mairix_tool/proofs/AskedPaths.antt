@@ -6,12 +6,12 @@ use Rattle.mail_query.specs.Query.{Query}
 use Rattle.mail_query.specs.Mail.{mairix_query}
 use Rattle.mail_query.specs.declared.fault.QueryFault.{QueryFault}
 use Rattle.mairix_tool.specs.declared.fault.Fault.TheVariants as of
-use Rattle.mairix_tool.specs.declared.rcfile.Rc.{Rc}
-use Rattle.mairix_tool.specs.declared.rcfile.RcFault.{RcFault}
+use Rattle.mairix_options.specs.declared.rcfile.Rc.{Rc}
+use Rattle.mairix_options.specs.declared.rcfile.RcFault.{RcFault}
 use Rattle.mairix_tool.specs.Asked.{Wanted, asked}
-use Rattle.mairix_tool.specs.CommandLine.{plan}
-use Rattle.mairix_tool.specs.Rcfile.{rc_of}
-use Rattle.mairix_tool.proofs.RcPaths.{paths-are-paths}
+use Rattle.mairix_options.specs.CommandLine.{plan}
+use Rattle.mairix_options.specs.Rcfile.{rc_of}
+use Rattle.mairix_options.proofs.RcPaths.{paths-are-paths}
 
 pub asked-paths : (words : List (List ℕ)) (rc : List ℕ) (now : ℕ) (w : Wanted) → asked words rc now ≡ Ok w → All IsPath w.paths
 asked-paths words rc now w h =

@@ -13,8 +13,8 @@ use Rattle.mbox_cutter.specs.Events.{refusal_of}
 use Rattle.mairix_tool.specs.declared.fault.Fault.{Fault}
 use Rattle.mairix_tool.specs.declared.fault.Fault.TheVariants as of
 use Rattle.mairix_tool.specs.declared.place.Place.{Place}
-use Rattle.mairix_tool.specs.ArchiveRefusals.{most_in_archive, AreSound, IsTooMuch, IsWithinLimit}
-use Rattle.mairix_tool.specs.ArchiveTables.{Mbox, table, all_messages, messages_in, with_messages, entry_of}
+use Rattle.index_job.specs.ArchiveRefusals.{most_in_archive, AreSound, IsTooMuch, IsWithinLimit}
+use Rattle.index_job.specs.ArchiveTables.{Mbox, table, all_messages, messages_in, with_messages, entry_of}
 use Rattle.mairix_tool.specs.ArchivesIndexed.{mboxes, Parted, Refuses, IsArchivesFault}
 use Rattle.mairix_tool.specs.Asked.{Wanted}
 use Rattle.mairix_tool.specs.Chosen.{places_chosen, places_told}
@@ -22,8 +22,8 @@ use Rattle.mairix_tool.specs.Faults as faults
 use Rattle.mairix_tool.specs.Faults.{IsEarly, IsOfOutput}
 use Rattle.mairix_tool.specs.RawAnswers.{raw_text}
 use Rattle.mairix_tool.specs.Replies.{Answer, answer_of, IsFound, Runs, AreSoundBefore, status_of_count}
-use Rattle.mairix_tool.proofs.ArchiveSteps.{with_messages-append, with_messages-more}
-use Rattle.mairix_tool.proofs.TableSteps.{records-count}
+use Rattle.index_job.proofs.ArchiveSteps.{with_messages-append, with_messages-more}
+use Rattle.index_job.proofs.TableSteps.{records-count}
 use Rattle.mairix_tool.proofs.TableTruthPlaces.{places-told}
 
 -- ---- sound archives aren't refused

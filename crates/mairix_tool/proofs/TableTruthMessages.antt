@@ -11,8 +11,8 @@ use Rattle.mail_index.specs.Kinds.{kind_number}
 use Rattle.mail_index.specs.Tables.{Key}
 use Rattle.mail_index.specs.Builders.{with_pair}
 use Rattle.mail_answer.specs.TableFacts.{texts_with}
-use Rattle.mairix_tool.specs.MessageTerms.{Term, message_terms}
-use Rattle.mairix_tool.specs.ArchiveTables.{with_terms, with_messages}
+use Rattle.index_job.specs.MessageTerms.{Term, message_terms}
+use Rattle.index_job.specs.ArchiveTables.{with_terms, with_messages}
 use Rattle.mairix_tool.proofs.TableTruth.{any-same}
 use Rattle.mairix_tool.proofs.TableTruthKeys.{says, pair_says, IsBelow, texts-say, with_pair-says, with_pair-below, below-weaker}
 use Rattle.mairix_tool.proofs.TableTruthTerms.{term_says}

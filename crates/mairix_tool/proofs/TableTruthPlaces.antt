@@ -14,7 +14,7 @@ use Rattle.mail_query.specs.Truth.{is_true}
 use Rattle.mime_text.specs.MessageFacts.{facts_of}
 use Rattle.mime_text.specs.Texts.{texts_of_message}
 use Rattle.mairix_tool.specs.declared.place.Place.{Place}
-use Rattle.mairix_tool.specs.ArchiveTables.{Mbox, messages_in, all_messages, record_of, records_from, with_messages, table}
+use Rattle.index_job.specs.ArchiveTables.{Mbox, messages_in, all_messages, record_of, records_from, with_messages, table}
 use Rattle.mairix_tool.specs.Chosen.{facts_of_message, satisfies, place_of, places_chosen, place_of_record, places_told}
 use Rattle.mairix_tool.proofs.TableTruth.{SaysTheSame, truth-same}
 use Rattle.mairix_tool.proofs.TableTruthTerms.{terms-say-words, terms-say-own}

@@ -3,10 +3,10 @@ use Rattle.std.specs.Prelude.{◌≡◌, ⊤, ℕ, List, [], ◌∷◌, ◌++◌
 use Rattle.mbox_cutter.specs.declared.event.CutFault.TheVariants.{Device, NotAnMbox, ArchiveTooLong, Failed}
 use Rattle.mairix_tool.specs.declared.fault.Fault.{Fault}
 use Rattle.mairix_tool.specs.declared.fault.Fault.TheVariants.{Archive, TooMany, Memory}
-use Rattle.mairix_tool.specs.declared.job_fault.JobFault.{JobFault}
-use Rattle.mairix_tool.specs.declared.job_fault.JobFault.TheVariants as job
-use Rattle.mairix_tool.specs.ArchiveTables.{Mbox}
-use Rattle.mairix_tool.specs.ArchiveRefusals.{AreSound, IsCutOff, IsOneTooMany}
+use Rattle.index_job.specs.declared.job_fault.JobFault.{JobFault}
+use Rattle.index_job.specs.declared.job_fault.JobFault.TheVariants as job
+use Rattle.index_job.specs.ArchiveTables.{Mbox}
+use Rattle.index_job.specs.ArchiveRefusals.{AreSound, IsCutOff, IsOneTooMany}
 
 -- archives by their paths and their bytes
 abbrev pub mboxes : List (List ℕ) → List (List ℕ) → List Mbox

@@ -6,10 +6,10 @@ use Rattle.mail_query.specs.Meaning.{meaning}
 use Rattle.mail_query.specs.Mail.{mairix_query}
 use Rattle.mairix_tool.specs.declared.fault.Fault.{Fault}
 use Rattle.mairix_tool.specs.declared.fault.Fault.TheVariants as of
-use Rattle.mairix_tool.specs.declared.rcfile.Rc.{Rc}
+use Rattle.mairix_options.specs.declared.rcfile.Rc.{Rc}
 use Rattle.mairix_tool.specs.declared.wanted.Wanted as code
-use Rattle.mairix_tool.specs.CommandLine.{plan}
-use Rattle.mairix_tool.specs.Rcfile.{rc_of}
+use Rattle.mairix_options.specs.CommandLine.{plan}
+use Rattle.mairix_options.specs.Rcfile.{rc_of}
 
 -- the archives' paths, and what a message has to satisfy
 pub record Wanted : Type 0 where

@@ -15,7 +15,7 @@ use Rattle.mime_text.specs.MessageFacts.{facts_of}
 use Rattle.mime_text.specs.Sinks.{Pair}
 use Rattle.mime_text.specs.Texts.{texts_of_message}
 use Rattle.mairix_tool.specs.declared.place.Place.{Place}
-use Rattle.mairix_tool.specs.ArchiveTables.{Mbox, messages_in, date_told}
+use Rattle.index_job.specs.ArchiveTables.{Mbox, messages_in, date_told}
 
 -- ---- by the messages themselves
 

@@ -2,7 +2,7 @@
 use Rattle.std.specs.Prelude.{ℕ, List, map}
 use Rattle.mail_answer.specs.Shapes.{span}
 use Rattle.mail_answer.specs.TableFacts.{record_at}
-use Rattle.mairix_tool.specs.ArchiveTables.{Mbox, table}
+use Rattle.index_job.specs.ArchiveTables.{Mbox, table}
 
 -- the bytes that the archives hold
 abbrev pub bytes_held : List Mbox → List (List ℕ)

@@ -3,12 +3,12 @@ use Rattle.std.specs.Prelude.{ℕ, ◌+◌, List, ◌∷◌, ◌++◌, codes}
 use Rattle.std.specs.Fmt.{decimal}
 use Rattle.mbox_cutter.specs.declared.event.CutFault.{CutFault}
 use Rattle.mbox_cutter.specs.declared.event.CutFault.TheVariants.{Device, NotAnMbox, ArchiveTooLong, Failed}
-use Rattle.mairix_tool.specs.declared.command_line.UsageFault.{UsageFault}
-use Rattle.mairix_tool.specs.declared.command_line.UsageFault.TheVariants as usage
-use Rattle.mairix_tool.specs.declared.rcfile.RcFault.{RcFault}
-use Rattle.mairix_tool.specs.declared.rcfile.RcFault.TheVariants as rcfile
-use Rattle.mairix_tool.specs.declared.rcfile.Name.{Name}
-use Rattle.mairix_tool.specs.declared.rcfile.Name.TheVariants as name
+use Rattle.mairix_options.specs.declared.command_line.UsageFault.{UsageFault}
+use Rattle.mairix_options.specs.declared.command_line.UsageFault.TheVariants as usage
+use Rattle.mairix_options.specs.declared.rcfile.RcFault.{RcFault}
+use Rattle.mairix_options.specs.declared.rcfile.RcFault.TheVariants as rcfile
+use Rattle.mairix_options.specs.declared.rcfile.Name.{Name}
+use Rattle.mairix_options.specs.declared.rcfile.Name.TheVariants as name
 use Rattle.mail_query.specs.declared.fault.QueryFault.{QueryFault}
 use Rattle.mail_query.specs.declared.fault.QueryFaultKind.{QueryFaultKind}
 use Rattle.mail_query.specs.declared.fault.QueryFaultKind.TheVariants as query

@@ -4,8 +4,8 @@ use Rattle.contract_words.specs.Devices.{Sends}
 use Rattle.mail_index.specs.Files.{index_file}
 use Rattle.mairix_tool.specs.declared.fault.Fault.{Fault}
 use Rattle.mairix_tool.specs.declared.fault.Fault.TheVariants.{Out}
-use Rattle.mairix_tool.specs.ArchiveRefusals.{AreSound}
-use Rattle.mairix_tool.specs.ArchiveTables.{Mbox, table}
+use Rattle.index_job.specs.ArchiveRefusals.{AreSound}
+use Rattle.index_job.specs.ArchiveTables.{Mbox, table}
 use Rattle.mairix_tool.specs.ArchivesIndexed.{IsArchivesFault}
 
 -- Out where the archives are sound and a front of their file went out; else what the archives may be refused with.

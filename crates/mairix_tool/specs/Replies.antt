@@ -7,7 +7,7 @@ use Rattle.mairix_tool.specs.declared.fault.Fault.{Fault}
 use Rattle.mairix_tool.specs.declared.fault.Fault.TheVariants.{Archive}
 use Rattle.mairix_tool.specs.declared.fault.Reply.{Reply}
 use Rattle.mairix_tool.specs.declared.place.Place.{Place}
-use Rattle.mairix_tool.specs.ArchiveRefusals.{AreSound}
+use Rattle.index_job.specs.ArchiveRefusals.{AreSound}
 use Rattle.mairix_tool.specs.ArchivesIndexed.{mboxes, Refuses}
 use Rattle.mairix_tool.specs.Asked.{Wanted}
 use Rattle.mairix_tool.specs.Chosen.{places_chosen}

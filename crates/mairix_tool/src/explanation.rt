@@ -3,11 +3,10 @@ ghost use Rattle.std.specs.Prelude.{◌≡◌, IfOk, codes};
 ghost use Rattle.std.specs.String.{string_bytes};
 ghost use Rattle.mairix_tool.specs.FaultTexts.{text_of_fault, text_of_usage, text_of_rc, text_of_query, text_of_kind, text_of_cut, text_of_index, text_of_section, numbered};
 
-use crate::command_line::UsageFault;
 use crate::fault::Fault;
-use crate::rcfile::{Name, RcFault};
 use mail_index::{IndexFault, Section};
 use mail_query::{QueryFault, QueryFaultKind};
+use mairix_options::{Name, RcFault, UsageFault};
 use mbox_cutter::CutFault;
 use std::alloc::{AllocError, Global};
 

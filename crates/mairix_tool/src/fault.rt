@@ -1,9 +1,8 @@
 //! Why a run has no whole answer, and what it answers then.
 
-use crate::command_line::UsageFault;
-use crate::rcfile::RcFault;
 use mail_index::IndexFault;
 use mail_query::{QueryFault, QueryFaultKind};
+use mairix_options::{RcFault, UsageFault};
 use mbox_cutter::{CutFault, DeviceFault};
 use std::alloc::{AllocError, AllocFailed};
 use thiserror::Error;

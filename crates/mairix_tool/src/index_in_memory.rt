@@ -5,15 +5,14 @@ ghost use Rattle.std.specs.String.{string_bytes};
 ghost use Rattle.contract_words.specs.Devices.{Counted};
 ghost use Rattle.mail_index.specs.Faults.{IsFileOf};
 ghost use Rattle.mail_index.specs.Tables.{Table, IsPath};
-ghost use Rattle.mairix_tool.specs.ArchiveTables.{table};
-ghost use Rattle.mairix_tool.specs.ArchiveRefusals.{AreSound};
+ghost use Rattle.index_job.specs.ArchiveTables.{table};
+ghost use Rattle.index_job.specs.ArchiveRefusals.{AreSound};
 ghost use Rattle.mairix_tool.specs.ArchivesIndexed.{mboxes, fault_of_job, IsArchivesFault};
-ghost use Rattle.mairix_tool.specs.IndexJobs.{IsIndexOf};
+ghost use Rattle.index_job.specs.IndexJobs.{IsIndexOf};
 ghost use Rattle.mairix_tool.specs.Faults.{fault_in, is_failed_source, is_failed_out, is_early};
 
 use crate::fault::Fault;
-use crate::index_job::IndexJob;
-use crate::job_fault::JobFault;
+use index_job::{IndexJob, JobFault};
 use mbox_cutter::{CutFault, MemoryOut, Source};
 use std::alloc::Global;
 

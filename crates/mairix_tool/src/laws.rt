@@ -5,7 +5,7 @@ ghost use Rattle.mail_answer.specs.CutAgain.{IsCutInto, ends_in_return};
 ghost use Rattle.mail_answer.specs.Shapes.{answer_text, closed};
 ghost use Rattle.mail_answer.specs.declared.format.Format.TheVariants as format;
 ghost use Rattle.mail_query.specs.Query.{Query};
-ghost use Rattle.mairix_tool.specs.ArchiveTables.{Mbox, table};
+ghost use Rattle.index_job.specs.ArchiveTables.{Mbox, table};
 ghost use Rattle.mairix_tool.specs.Asked.{Wanted};
 ghost use Rattle.mairix_tool.specs.CutAgain.{bytes_held, spans_at};
 ghost use Rattle.mairix_tool.specs.Chosen.{places_chosen, places_told};

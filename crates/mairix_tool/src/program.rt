@@ -1,15 +1,14 @@
 //! The program: files in, standard output, standard error and an exit status out.
 ghost use Rattle.std.specs.Prelude.{◌≡◌, Ok};
-ghost use Rattle.mairix_tool.specs.Rcfile.{rc_of};
+ghost use Rattle.mairix_options.specs.Rcfile.{rc_of};
 
-use crate::command_line::{Plan, UsageFault, plan_of, usage_text};
 use crate::explanation::fault_text;
 use crate::fault::Fault;
-use crate::file_source::sources_of;
 use crate::index_run::{NoIndex, run_index};
-use crate::rcfile::{Rc, read_rc};
 use crate::run::once_run;
 use mail_dates::Moment;
+use mairix_files::sources_of;
+use mairix_options::{Plan, Rc, UsageFault, plan_of, read_rc, usage_text};
 use mbox_cutter::ToWrite;
 use std::alloc::Global;
 use std::fs;

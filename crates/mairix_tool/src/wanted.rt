@@ -4,12 +4,10 @@ ghost use Rattle.std.specs.String.{string_bytes};
 ghost use Rattle.contract_words.specs.Answers.{Gives};
 ghost use Rattle.mairix_tool.specs.Faults.{refusal_of, IsEarly};
 
-use crate::command_line::plan_of;
 use crate::fault::Fault;
-use crate::owned_text::Texts;
-use crate::rcfile::read_rc;
 use mail_dates::Moment;
 use mail_query::{Query, read_mairix};
+use mairix_options::{Texts, plan_of, read_rc};
 use std::alloc::Global;
 
 /// What words and rcfile ask for: of which archives, and what a message has to satisfy.

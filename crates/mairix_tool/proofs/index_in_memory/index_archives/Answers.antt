@@ -4,11 +4,11 @@ use Rattle.std.proofs.lemmas.List.Elements.{All-get_or}
 use Rattle.std.proofs.Math.Seq.{map-set_same}
 use Rattle.contract_words.proofs.DeviceLists.{same_at, same_behind, known_at, known_length, counted_at}
 use Rattle.mail_index.specs.Tables.{IsPath}
-use Rattle.mairix_tool.specs.ArchiveTables.{Mbox}
-use Rattle.mairix_tool.specs.ArchiveRefusals.{AreSound}
+use Rattle.index_job.specs.ArchiveTables.{Mbox}
+use Rattle.index_job.specs.ArchiveRefusals.{AreSound}
 use Rattle.mairix_tool.specs.ArchivesIndexed.{mboxes, fault_of_job}
 use Rattle.mairix_tool.specs.Faults.{is_failed_source}
-use Rattle.mairix_tool.specs.IndexJobs.{IsIndexOf, IsAdded, IsAddFault}
+use Rattle.index_job.specs.IndexJobs.{IsIndexOf, IsAdded, IsAddFault}
 use Rattle.mairix_tool.proofs.ArchiveLists.{mboxes-length, next-taken, parted-here, taken-so-far, sound-more, archive-fault, others-run, here-counts}
 use Rattle.mairix_tool.proofs.index_in_memory.index_archives.Goals as goal
 

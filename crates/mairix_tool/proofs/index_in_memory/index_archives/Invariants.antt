@@ -1,7 +1,7 @@
 use Rattle.std.proofs.Common.{◌≡◌, ℕ, List, map, take, drop, Some, IsSome, string_bytes}
-use Rattle.mairix_tool.specs.ArchiveRefusals.{AreSound}
+use Rattle.index_job.specs.ArchiveRefusals.{AreSound}
 use Rattle.mairix_tool.specs.ArchivesIndexed.{mboxes}
-use Rattle.mairix_tool.specs.IndexJobs.{IsIndexOf}
+use Rattle.index_job.specs.IndexJobs.{IsIndexOf}
 use Rattle.mairix_tool.proofs.index_in_memory.index_archives.Given as goal
 
 -- the sources from this number on were not asked yet, none has failed, and the job has the archives so far, which are sound

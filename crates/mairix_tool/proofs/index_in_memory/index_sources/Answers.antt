@@ -4,7 +4,7 @@ use Rattle.mail_index.specs.Builders.{Draft}
 use Rattle.mail_index.specs.Files.{index_file, HasSmallSections}
 use Rattle.mail_index.specs.Tables.{IsWellFormed}
 use Rattle.mbox_cutter.specs.Memory.{Taking}
-use Rattle.mairix_tool.specs.ArchiveTables.{table}
+use Rattle.index_job.specs.ArchiveTables.{table}
 use Rattle.mairix_tool.specs.ArchivesIndexed.{mboxes}
 use Rattle.mairix_tool.proofs.index_in_memory.index_sources.Goals as goal
 

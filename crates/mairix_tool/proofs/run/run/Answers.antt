@@ -4,8 +4,8 @@ use Rattle.std.specs.Io.KnownBytes.{Appends}
 use Rattle.std.proofs.lemmas.Result.{err_from_is_err_and}
 use Rattle.contract_words.specs.Devices.{Sends}
 use Rattle.mail_index.specs.Faults.{IsFileOf}
-use Rattle.mairix_tool.specs.ArchiveRefusals.{AreSound}
-use Rattle.mairix_tool.specs.ArchiveTables.{table}
+use Rattle.index_job.specs.ArchiveRefusals.{AreSound}
+use Rattle.index_job.specs.ArchiveTables.{table}
 use Rattle.mairix_tool.specs.ArchivesIndexed.{mboxes, IsArchivesFault}
 use Rattle.mairix_tool.specs.Asked.{Wanted, wanted, asked}
 use Rattle.mairix_tool.specs.declared.place.Place.{Place}

@@ -1,0 +1,164 @@
+-- What gathering a line more, or the end, makes of a builder's draft.
+use Rattle.std.proofs.Common.{◌≡◌, ◌∙◌, ℕ, List, [], ◌∷◌, ◌++◌, Option, None, Some, option_map, flat_map, refl, sym, ap, subst, ⊎_elim, append-nil}
+use Rattle.std.specs.Prelude.{◌⊎◌}
+use Rattle.std.proofs.lemmas.Grind.{flat_map-append}
+use Rattle.std.specs.Prelude.{Result, Ok, Err, IfOk, IfErr}
+use Rattle.header_text.specs.Headers.{fields_of}
+use Rattle.mail_index.specs.Builders.{Draft}
+use Rattle.mail_words.specs.declared.kind.TextKind.{TextKind}
+use Rattle.mime_text.specs.declared.fault.SinkFault.{SinkFault}
+use Rattle.mime_text.specs.declared.fault.SinkFault.TheVariants as sink
+use Rattle.mime_text.specs.declared.fault.TextFault.{TextFault}
+use Rattle.mime_text.specs.declared.fault.TextFault.TheVariants as fault
+use Rattle.mime_text.specs.declared.message_text.MessageText.{MessageText}
+use Rattle.mime_text.specs.declared.facts.Facts.{Facts}
+use Rattle.mime_text.specs.MessageFacts.{facts_of}
+use Rattle.mime_text.specs.Sinks.{Pair, TakesAll, Breaks}
+use Rattle.mime_text.specs.Texts.{texts_of_message}
+use Rattle.mime_text.specs.Fed.{Feeds, FeedsPart, Finishes, FinishesPart}
+use Rattle.index_job.specs.declared.job_fault.JobFault.{JobFault}
+use Rattle.index_job.specs.declared.job_fault.JobFault.TheVariants as job
+use Rattle.index_job.specs.declared.message_index.Span.{Span}
+use Rattle.index_job.specs.declared.term_sink.TermSink.{TermSink}
+use Rattle.index_job.specs.Gathering.{with_texts, HasGathered, IsGatherFault}
+use Rattle.index_job.specs.Indexing.{draft_with_terms, RefusesTerms, IsOpenAt, IsBuilderOpen}
+use Rattle.index_job.specs.MessageEnds.{ended_with}
+use Rattle.index_job.specs.JobFaults.{of_text}
+use Rattle.index_job.specs.MessageTerms.{Term, text_terms, id_terms, message_terms}
+use Rattle.index_job.proofs.Terms.{joined, still-refuses}
+
+-- what a text makes of a sink, and what one that is refused does
+abbrev pub Takes : TermSink → TextKind → List ℕ → TermSink → Type 0
+Takes old kind text new = new.builder ≡ option_map (draft_with_terms (text_terms (kind, text))) old.builder
+
+abbrev pub Refuses : TermSink → TextKind → List ℕ → SinkFault → TermSink → Type 0
+Refuses old kind text fault new =
+    (fault ≡ sink.OutOfMemory) ⊎ ((fault ≡ sink.Refused) × RefusesTerms (option_map (draft_with_terms (text_terms (kind, text))) old.builder))
+
+with_texts-append : (ps qs : List Pair) (d : Option Draft) → with_texts (ps ++ qs) d ≡ with_texts qs (with_texts ps d)
+with_texts-append ps qs d =
+    ap (λ ts. option_map (draft_with_terms ts) d) (flat_map-append text_terms ps qs) ∙ joined (flat_map text_terms ps) (flat_map text_terms qs) d
+
+with_texts-none : (d : Option Draft) → with_texts [] d ≡ d
+with_texts-none None = refl
+with_texts-none (Some d) = refl
+
+taken : (ps : List Pair) (old new : TermSink) → TakesAll Takes Refuses ps old new → new.builder ≡ with_texts ps old.builder
+taken [] old new h = ap (λ (s : TermSink). s.builder) h ∙ sym (with_texts-none old.builder)
+taken (p ∷ ps) old new h =
+    taken ps h.0 new h.2 ∙ ap (with_texts ps) h.1 ∙ sym (joined (text_terms p) (flat_map text_terms ps) old.builder)
+
+-- a draft refuses terms where it refuses those of some of the texts
+more-refuse : (ps qs : List Pair) (d : Option Draft) → RefusesTerms (with_texts ps d) → RefusesTerms (with_texts (ps ++ qs) d)
+more-refuse ps qs d h = subst RefusesTerms (sym (with_texts-append ps qs d)) (still-refuses (flat_map text_terms qs) (with_texts ps d) h)
+
+-- these texts were given, and there a fault came
+broken : (f : TextFault) (ps : List Pair) (old new : TermSink) (d : Option Draft) (before later : List Pair)
+    → Breaks Takes Refuses f ps old new → old.builder ≡ with_texts before d → IsGatherFault (with_texts ((before ++ ps) ++ later) d) (of_text f)
+broken fault.OutOfMemory ps old new d before later h same = tt
+broken (fault.Sink sink.OutOfMemory) ps old new d before later h same = tt
+broken (fault.Sink sink.Refused) ps old new d before later (front, last, reached, is, taken-front, refused) same =
+    ⊎_elim (λ e. absurd cc)
+    (λ r.
+    let reached-is : reached.builder ≡ with_texts front (with_texts before d) = taken front old reached taken-front ∙ ap (with_texts front) same in
+    let whole : option_map (draft_with_terms (text_terms last)) reached.builder ≡ with_texts (before ++ ps) d =
+    ap (option_map (draft_with_terms (text_terms last))) reached-is
+    ∙ last-is front last (with_texts before d)
+    ∙ ap (λ l. with_texts l (with_texts before d)) (sym is)
+    ∙ sym (with_texts-append before ps d) in
+    more-refuse (before ++ ps) later d (subst RefusesTerms whole r.1))
+    refused
+  where
+    last-is : (front : List Pair) (last : Pair) (o : Option Draft) → option_map (draft_with_terms (text_terms last)) (with_texts front o) ≡ with_texts (front ++ last ∷ []) o
+    last-is front last o =
+        ap (λ ts. option_map (draft_with_terms ts) (with_texts front o)) (sym (append-nil (text_terms last))) ∙ sym (with_texts-append front (last ∷ []) o)
+broken fault.Failed ps old new d before later h same = elim h [ ]
+
+-- a line more
+pub gathers-line : (text text' : MessageText) (old new : TermSink) (line : List ℕ) → Feeds Takes Refuses text text' line old new
+    → (ls : List (List ℕ)) (d : Option Draft) → HasGathered text old.builder d ls → HasGathered text' new.builder d (ls ++ line ∷ [])
+gathers-line text text' old new line h ls d g = record {
+  pairs = g.pairs ++ h.pairs;
+  fed = h.fed ls g.pairs g.fed;
+  added = taken h.pairs old new h.taken ∙ ap (with_texts h.pairs) g.added ∙ sym (with_texts-append g.pairs h.pairs d);
+}
+
+-- a line at which a fault comes
+pub line-fails : (text : MessageText) (old new : TermSink) (line : List ℕ) (f : TextFault) → FeedsPart Takes Refuses text line f old new
+    → (ls ms : List (List ℕ)) (d : Option Draft) → HasGathered text old.builder d ls → IsGatherFault (with_texts (texts_of_message (ls ++ line ∷ ms)) d) (of_text f)
+line-fails text old new line f h ls ms d g =
+    let rest = h.front ls g.pairs g.fed ms in
+    subst (λ ps. IsGatherFault (with_texts ps d) (of_text f)) (sym rest.1) (broken f h.pairs old new d g.pairs rest.0 h.broken g.added)
+
+-- the end
+pub gathers-end : (text : MessageText) (old new : TermSink) → Finishes Takes Refuses text old new
+    → (ls : List (List ℕ)) (d : Option Draft) → HasGathered text old.builder d ls → new.builder ≡ with_texts (texts_of_message ls) d
+gathers-end text old new h ls d g =
+    taken h.pairs old new h.taken ∙ ap (with_texts h.pairs) g.added ∙ sym (with_texts-append g.pairs h.pairs d)
+    ∙ ap (λ ps. with_texts ps d) (sym (h.whole ls g.pairs g.fed))
+
+-- an end at which a fault comes
+pub end-fails : (text : MessageText) (old new : TermSink) (f : TextFault) → FinishesPart Takes Refuses text f old new
+    → (ls : List (List ℕ)) (d : Option Draft) → HasGathered text old.builder d ls → IsGatherFault (with_texts (texts_of_message ls) d) (of_text f)
+end-fails text old new f h ls d g =
+    let rest = h.front ls g.pairs g.fed in
+    subst (λ ps. IsGatherFault (with_texts ps d) (of_text f)) (sym rest.1) (broken f h.pairs old new d g.pairs rest.0 h.broken g.added)
+
+-- ---- a whole message
+
+-- the texts of a message, and then its ids
+texts-and-ids : (ls : List (List ℕ)) (d : Option Draft)
+    → option_map (draft_with_terms (message_terms ls)) d ≡ option_map (draft_with_terms (id_terms (facts_of (fields_of ls)))) (with_texts (texts_of_message ls) d)
+texts-and-ids ls d = joined (flat_map text_terms (texts_of_message ls)) (id_terms (facts_of (fields_of ls))) d
+
+still-gather-fails : (us : List Term) (o : Option Draft) (f : JobFault) → IsGatherFault o f → IsGatherFault (option_map (draft_with_terms us) o) f
+still-gather-fails us o (job.Cut f) h = h
+still-gather-fails us o job.OutOfMemory h = h
+still-gather-fails us o job.TooMany h = still-refuses us o h
+still-gather-fails us o job.Out h = h
+still-gather-fails us o job.Failed h = h
+
+-- a fault of the texts is one of the message
+pub texts-fail : (ls : List (List ℕ)) (d : Option Draft) (f : JobFault) → IsGatherFault (with_texts (texts_of_message ls) d) f → IsGatherFault (option_map (draft_with_terms (message_terms ls)) d) f
+texts-fail ls d f h =
+    subst (λ o. IsGatherFault o f) (sym (texts-and-ids ls d)) (still-gather-fails (id_terms (facts_of (fields_of ls))) (with_texts (texts_of_message ls) d) f h)
+
+-- the message is open still behind its texts
+pub open-behind : (archive place : ℕ) (ls : List (List ℕ)) (d : Draft) (builder : Option Draft) → builder ≡ with_texts (texts_of_message ls) (Some d) → IsOpenAt archive place d → IsBuilderOpen archive place builder
+open-behind archive place ls d builder is h = (
+  draft_with_terms (flat_map text_terms (texts_of_message ls)) d,
+  is,
+  record { phase = h.phase; most = h.most; archive = h.archive; behind = h.behind },
+)
+
+module _ (facts : Facts) (text : MessageText) (old mid : Option Draft)
+    (facts-are : (ls : List (List ℕ)) (d : Option Draft) → HasGathered text old d ls → facts ≡ facts_of (fields_of ls))
+    (texts-are : (ls : List (List ℕ)) (d : Option Draft) → HasGathered text old d ls → mid ≡ with_texts (texts_of_message ls) d) where
+  finished-of : (span : Span) (b : Option Draft) → b ≡ option_map (ended_with facts span) mid → (ls : List (List ℕ)) (d : Option Draft) → HasGathered text old d ls
+      → b ≡ option_map (ended_with (facts_of (fields_of ls)) span) (with_texts (texts_of_message ls) d)
+  finished-of span b is ls d g = is ∙ ap (λ (f : Facts). option_map (ended_with f span) mid) (facts-are ls d g) ∙ ap (option_map (ended_with (facts_of (fields_of ls)) span)) (texts-are ls d g)
+
+  ids-fail-of : (f : JobFault) → IsGatherFault (option_map (draft_with_terms (id_terms facts)) mid) f → (ls : List (List ℕ)) (d : Option Draft) → HasGathered text old d ls
+      → IsGatherFault (option_map (draft_with_terms (message_terms ls)) d) f
+  ids-fail-of f h ls d g =
+      subst (λ o. IsGatherFault o f)
+      (ap (λ (x : Facts). option_map (draft_with_terms (id_terms x)) mid) (facts-are ls d g) ∙ ap (option_map (draft_with_terms (id_terms (facts_of (fields_of ls))))) (texts-are ls d g) ∙ sym (texts-and-ids ls d))
+      h
+
+-- the message is ended
+pub finished-is : (r : Result (Option Draft) JobFault) (span : Span) (facts : Facts) (text : MessageText) (old mid : Option Draft)
+    → ((ls : List (List ℕ)) (d : Option Draft) → HasGathered text old d ls → facts ≡ facts_of (fields_of ls))
+    → ((ls : List (List ℕ)) (d : Option Draft) → HasGathered text old d ls → mid ≡ with_texts (texts_of_message ls) d)
+    → IfOk r (λ b. b ≡ option_map (ended_with facts span) mid)
+    → IfOk r (λ b. (ls : List (List ℕ)) (d : Option Draft) → HasGathered text old d ls → b ≡ option_map (ended_with (facts_of (fields_of ls)) span) (with_texts (texts_of_message ls) d))
+finished-is (Ok b) span facts text old mid facts-are texts-are is = finished-of facts text old mid facts-are texts-are span b is
+finished-is (Err f) span facts text old mid facts-are texts-are is = tt
+
+-- a fault of its ids
+pub ids-fail : (r : Result (Option Draft) JobFault) (facts : Facts) (text : MessageText) (old mid : Option Draft)
+    → ((ls : List (List ℕ)) (d : Option Draft) → HasGathered text old d ls → facts ≡ facts_of (fields_of ls))
+    → ((ls : List (List ℕ)) (d : Option Draft) → HasGathered text old d ls → mid ≡ with_texts (texts_of_message ls) d)
+    → IfErr r (IsGatherFault (option_map (draft_with_terms (id_terms facts)) mid))
+    → IfErr r (λ f. (ls : List (List ℕ)) (d : Option Draft) → HasGathered text old d ls → IsGatherFault (option_map (draft_with_terms (message_terms ls)) d) f)
+ids-fail (Ok b) facts text old mid facts-are texts-are h = tt
+ids-fail (Err f) facts text old mid facts-are texts-are h = ids-fail-of facts text old mid facts-are texts-are f h

@@ -1,0 +1,85 @@
+-- A message's lines, as they come of its archive and are gathered.
+use Rattle.std.proofs.Common.{◌≡◌, ◌∙◌, ◌++◌, ℕ, List, [], ◌∷◌, Option, Some, refl, sym, ap, ap₂, subst, append_assoc, append-nil}
+use Rattle.mail_index.specs.Builders.{Draft}
+use Rattle.mbox_cutter.specs.Archives.{text, size, span_length}
+use Rattle.mbox_cutter.specs.declared.event.CutFault.{CutFault}
+use Rattle.mbox_cutter.specs.Events.{Line, End, Coming, told, told_rest}
+use Rattle.mbox_cutter.specs.Coming.{TakesKnown}
+use Rattle.mime_text.specs.declared.message_text.MessageText.{MessageText}
+use Rattle.mime_text.specs.Texts.{texts_of_message}
+use Rattle.index_job.specs.declared.archive_index.Ended.{Ended}
+use Rattle.index_job.specs.declared.job_fault.JobFault.{JobFault}
+use Rattle.index_job.specs.declared.job_fault.JobFault.TheVariants as job
+use Rattle.index_job.specs.ArchiveReading.{Awaited, coming_inside, coming_between, IsReading, HasReadAll, IsMessageFault}
+use Rattle.index_job.specs.Gathering.{HasGathered, IsGatherFault, with_texts}
+use Rattle.index_job.specs.Indexing.{RefusesTerms, IsJobFault, IsArchiveFault}
+use Rattle.index_job.proofs.Gatherings.{texts-fail}
+
+-- what comes of known archives goes with the text that is left
+behind-line : (w : Awaited) (rest : List (List ℕ)) (l : List ℕ) (now' : Option Coming) → TakesKnown (Line l) (Some (coming_inside w rest)) now'
+    → (left : List (List ℕ)) × (rest ≡ l ∷ left) × (now' ≡ Some (coming_inside w left))
+behind-line w [] l now' (after, is, takes) = absurd cc
+behind-line w (l' ∷ left) l now' (after, is, (events, refusal)) =
+    let same : l' ≡ l = cc in
+    let behind : told_rest w.all w.message left w.later ≡ after.events = cc in
+    let whole : after ≡ coming_inside w left = ap₂ (λ es r. record { events = es; refusal = r }) (sym behind) refusal in
+    (left, ap (λ x. x ∷ left) same, is ∙ ap Some whole)
+
+behind-end : (w : Awaited) (rest : List (List ℕ)) (span told_size : ℕ) (now' : Option Coming) → TakesKnown (End span told_size) (Some (coming_inside w rest)) now'
+    → (rest ≡ []) × (span ≡ span_length w.message) × (told_size ≡ size w.message) × (now' ≡ Some (coming_between w.all w.later w.refusal))
+behind-end w (l ∷ rest) span told_size now' (after, is, takes) = absurd cc
+behind-end w [] span told_size now' (after, is, (events, refusal)) =
+    let behind : told w.all w.later ≡ after.events = cc in
+    let whole : after ≡ coming_between w.all w.later w.refusal = ap₂ (λ es r. record { events = es; refusal = r }) (sym behind) refusal in
+    (refl, cc, cc, is ∙ ap Some whole)
+
+-- what a fault of gathering is to a job
+pub gather-is-job : (whole : Option Draft) (refusal : Option CutFault) (f : JobFault) → IsGatherFault whole f → IsJobFault refusal (RefusesTerms whole) f
+gather-is-job whole refusal (job.Cut f) h = elim h [ ]
+gather-is-job whole refusal job.OutOfMemory h = tt
+gather-is-job whole refusal job.TooMany h = h
+gather-is-job whole refusal job.Out h = elim h [ ]
+gather-is-job whole refusal job.Failed h = elim h [ ]
+
+pub gather-own : (whole : Option Draft) (f : JobFault) → IsGatherFault whole f → IsArchiveFault f
+gather-own whole (job.Cut f) h = elim h [ ]
+gather-own whole job.OutOfMemory h = tt
+gather-own whole job.TooMany h = tt
+gather-own whole job.Out h = elim h [ ]
+gather-own whole job.Failed h = elim h [ ]
+
+module _ (d : Option Draft) (w : Awaited) (ls rest : List (List ℕ)) (gathered : MessageText) (builder : Option Draft) (now now' : Option Coming) (l : List ℕ) where
+  -- a line more
+  pub reads-line : (gathered' : MessageText) (builder' : Option Draft) → IsReading d w ls rest gathered builder now → TakesKnown (Line l) now now'
+      → HasGathered gathered' builder' d (ls ++ l ∷ []) → (more left : List (List ℕ)) × IsReading d w more left gathered' builder' now'
+  reads-line gathered' builder' r takes more =
+      let b = behind-line w rest l now' (subst (λ o. TakesKnown (Line l) o now') r.comes takes) in (
+        ls ++ l ∷ [],
+        b.0,
+        record {
+          so_far = more;
+          whole = r.whole ∙ ap (λ x. ls ++ x) b.1 ∙ sym (append_assoc ls (l ∷ []) b.0);
+          comes = b.2;
+        },
+      )
+
+  -- a line at which a fault comes
+  pub line-is-fault : (f : JobFault) → IsReading d w ls rest gathered builder now → TakesKnown (Line l) now now'
+      → ((ms : List (List ℕ)) → IsGatherFault (with_texts (texts_of_message (ls ++ l ∷ ms)) d) f) → IsMessageFault d w f
+  line-is-fault f r takes fails =
+      let b = behind-line w rest l now' (subst (λ o. TakesKnown (Line l) o now') r.comes takes) in
+      let whole : ls ++ l ∷ b.0 ≡ text w.message = ap (λ x. ls ++ x) (sym b.1) ∙ sym r.whole in
+      gather-is-job _ w.refusal f (texts-fail (text w.message) d f (subst (λ t. IsGatherFault (with_texts (texts_of_message t) d) f) whole (fails b.0)))
+
+-- the end
+pub reads-end : (d : Option Draft) (w : Awaited) (ls rest : List (List ℕ)) (gathered : MessageText) (builder : Option Draft) (now now' : Option Coming) (ended : Ended)
+    → IsReading d w ls rest gathered builder now → TakesKnown (End ended.length ended.size) now now' → HasReadAll d w ended gathered builder now'
+reads-end d w ls rest gathered builder now now' ended r takes =
+    let b = behind-end w rest ended.length ended.size now' (subst (λ o. TakesKnown (End ended.length ended.size) o now') r.comes takes) in
+    let all : ls ≡ text w.message = sym (r.whole ∙ ap (λ x. ls ++ x) b.0 ∙ append-nil ls) in
+    record {
+      whole = subst (λ x. HasGathered gathered builder d x) all r.so_far;
+      length = b.1;
+      told_size = b.2;
+      comes = b.3;
+    }

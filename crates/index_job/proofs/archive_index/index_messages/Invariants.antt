@@ -1,0 +1,25 @@
+use Rattle.std.proofs.Common.{◌≡◌, ◌≤◌, ℕ, List, Option, Some}
+use Rattle.mail_index.specs.Builders.{Draft}
+use Rattle.mbox_cutter.specs.Archives.{Message}
+use Rattle.mbox_cutter.specs.declared.event.CutFault.{CutFault}
+use Rattle.mbox_cutter.specs.declared.scan.Phase.TheVariants.{Between}
+use Rattle.mbox_cutter.specs.Places.{left}
+use Rattle.index_job.specs.ArchiveReading.{coming_ahead, HasDone}
+use Rattle.index_job.specs.Indexing.{IsBuilderReady}
+use Rattle.index_job.proofs.archive_index.index_messages.Given as goal
+
+-- no message is open; where it is known what comes, some messages are done, and the others come
+abbrev pub invariant-messages : goal.invariant-messages
+invariant-messages g l = record {
+  source : l.cutter.source.ghost_name ≡ l.initial.cutter.source.ghost_name;
+  failures : g.S.Source.failures l.cutter.source.now ≡ g.S.Source.failures l.initial.cutter.source.now;
+  between : l.cutter.place.phase ≡ Between;
+  most : l.cutter.place.most ≡ l.initial.cutter.place.most;
+  ready : IsBuilderReady l.archive l.cutter.place.offset l.builder;
+  few : l.messages ≤ l.cutter.place.offset;
+  done : (d : Draft) (all : ℕ) (ms : Option (List Message)) (refusal : Option CutFault) → l.fn.builder ≡ Some d → l.initial.cutter.coming ≡ Some (coming_ahead all ms refusal)
+      → HasDone l.archive d all ms refusal l.messages l.builder l.cutter.coming;
+}
+
+abbrev pub decreases-messages : goal.decreases-messages
+decreases-messages g l = left l.cutter.place

@@ -1,0 +1,27 @@
+use Rattle.std.proofs.Common.{◌∙◌, Option, ap, subst}
+use Rattle.std.specs.Prelude.{Result, Ok}
+use Rattle.mbox_cutter.specs.declared.event.Event.{Event}
+use Rattle.mbox_cutter.specs.declared.event.CutFault.{CutFault}
+use Rattle.mbox_cutter.specs.Coming.{Answers, TakesKnown}
+use Rattle.mbox_cutter.specs.Events.{Start, Done, Coming}
+use Rattle.mbox_cutter.specs.Progress.{shown_result}
+use Rattle.index_job.proofs.Headings.{heads-message, heads-end}
+use Rattle.index_job.proofs.archive_index.next_heading.Goals as goal
+
+pub returns-in-Start-clause-known : goal.returns-in-Start-clause-known
+returns-in-Start-clause-known g c =
+    let now = c.args.cutter.now.coming in
+    let next = c.next_event.follows.lender-at-none.coming in
+    let answers : Answers now (shown_result c.next_event.result) next = c.next_event.follows.holds-at-none.answers in
+    let takes : TakesKnown (Start c.in-Start.offset c.in-Start.line.now) now next =
+    subst (λ (r : Result Event CutFault). Answers now (shown_result r) next) (c.in_ok-offset.was ∙ ap Ok c.in-Start.is) answers in
+    λ all ms refusal comes. heads-message all ms refusal c.in-Start.offset c.in-Start.line.now next (subst (λ (o : Option Coming). TakesKnown (Start c.in-Start.offset c.in-Start.line.now) o next) comes takes)
+
+pub returns-in-Done-clause-known : goal.returns-in-Done-clause-known
+returns-in-Done-clause-known g c =
+    let now = c.args.cutter.now.coming in
+    let next = c.next_event.follows.lender-at-none.coming in
+    let answers : Answers now (shown_result c.next_event.result) next = c.next_event.follows.holds-at-none.answers in
+    let takes : TakesKnown (Done c.in-Done.length) now next =
+    subst (λ (r : Result Event CutFault). Answers now (shown_result r) next) (c.in_ok-offset.was ∙ ap Ok c.in-Done.is) answers in
+    λ all ms refusal comes. heads-end all ms refusal c.in-Done.length next (subst (λ (o : Option Coming). TakesKnown (Done c.in-Done.length) o next) comes takes)

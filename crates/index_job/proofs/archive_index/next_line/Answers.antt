@@ -1,0 +1,50 @@
+use Rattle.std.proofs.Common.{◌∙◌, [], ap, subst}
+use Rattle.std.specs.Prelude.{Result, Ok}
+use Rattle.std.proofs.lemmas.Result.{err_from_is_err_and}
+use Rattle.mbox_cutter.specs.declared.event.Event.{Event}
+use Rattle.mbox_cutter.specs.declared.event.CutFault.{CutFault}
+use Rattle.mbox_cutter.specs.Coming.{Answers, TakesKnown}
+use Rattle.mbox_cutter.specs.Progress.{shown_result}
+use Rattle.mbox_cutter.specs.Events.{Line, End}
+use Rattle.index_job.proofs.ReadingLines.{reads-line, reads-end, line-is-fault, gather-own}
+use Rattle.index_job.proofs.archive_index.next_line.Goals as goal
+
+pub returns-in_err-feed_line-in-Line-clause-fault :
+    goal.returns-in_err-feed_line-in-Line-clause-fault
+returns-in_err-feed_line-in-Line-clause-fault g c =
+    let p = err_from_is_err_and c.from_residual-in_err-feed_line-in-Line.result c.from_residual-in_err-feed_line-in-Line.ensures.1 in
+    let a = c.next_event.follows.holds-at-none in
+    let now = c.args.cutter.now.coming in
+    let next = c.next_event.follows.lender-at-none.coming in
+    let answers : Answers now (shown_result c.next_event.result) next = a.answers in
+    let takes : TakesKnown (Line c.in-Line.line.now) now next = subst (λ (r : Result Event CutFault). Answers now (shown_result r) next) (c.in_ok-line.was ∙ ap Ok c.in-Line.is) answers in
+    rw (p.1, p.2) (λ d w ls rest r. line-is-fault d w ls rest c.args.text.now c.args.terms.now.builder now next c.in-Line.line.now c.in_err-feed_line-in-Line.field-0.0 r takes
+    (λ ms. c.in_err-feed_line-in-Line.ensures.err ls ms d r.so_far))
+
+pub returns-in_err-feed_line-in-Line-clause-own : goal.returns-in_err-feed_line-in-Line-clause-own
+returns-in_err-feed_line-in-Line-clause-own g c =
+    let p = err_from_is_err_and c.from_residual-in_err-feed_line-in-Line.result c.from_residual-in_err-feed_line-in-Line.ensures.1 in
+    rw (p.1, p.2) (λ d ls h. gather-own _ c.in_err-feed_line-in-Line.field-0.0 (c.in_err-feed_line-in-Line.ensures.err ls [] d h))
+
+pub returns-in_ok-feed_line-in-Line-clause-gathers :
+    goal.returns-in_ok-feed_line-in-Line-clause-gathers
+returns-in_ok-feed_line-in-Line-clause-gathers g c = λ d ls h. (_, c.in_ok-feed_line-in-Line.ensures.ok ls d h)
+
+pub returns-in_ok-feed_line-in-Line-clause-known :
+    goal.returns-in_ok-feed_line-in-Line-clause-known
+returns-in_ok-feed_line-in-Line-clause-known g c =
+    let a = c.next_event.follows.holds-at-none in
+    let now = c.args.cutter.now.coming in
+    let next = c.next_event.follows.lender-at-none.coming in
+    let answers : Answers now (shown_result c.next_event.result) next = a.answers in
+    let takes : TakesKnown (Line c.in-Line.line.now) now next = subst (λ (r : Result Event CutFault). Answers now (shown_result r) next) (c.in_ok-line.was ∙ ap Ok c.in-Line.is) answers in
+    λ d w ls rest r. reads-line d w ls rest c.args.text.now c.args.terms.now.builder now next c.in-Line.line.now c.feed_line.new.text c.feed_line.new.terms.builder r takes (c.in_ok-feed_line-in-Line.ensures.ok ls d r.so_far)
+
+pub returns-in-End-clause-known : goal.returns-in-End-clause-known
+returns-in-End-clause-known g c =
+    let a = c.next_event.follows.holds-at-none in
+    let now = c.args.cutter.now.coming in
+    let next = c.next_event.follows.lender-at-none.coming in
+    let answers : Answers now (shown_result c.next_event.result) next = a.answers in
+    let takes : TakesKnown (End c.in-End.length c.in-End.size) now next = subst (λ (r : Result Event CutFault). Answers now (shown_result r) next) (c.in_ok-line.was ∙ ap Ok c.in-End.is) answers in
+    λ d w ls rest r. reads-end d w ls rest c.args.text.now c.args.terms.now.builder now next (record { length = c.in-End.length; size = c.in-End.size }) r takes

@@ -1,0 +1,12 @@
+use Rattle.std.proofs.Common.{◌≡◌, IfSome, drop, map, option_map}
+use Rattle.mail_index.specs.Builders.{IsInMessage}
+use Rattle.index_job.specs.Indexing.{draft_with_terms}
+use Rattle.index_job.specs.MessageTerms.{link_terms}
+use Rattle.index_job.proofs.term_sink.add_links.Given as goal
+
+-- with the ids that are left it becomes what it is to become
+abbrev pub invariant-loop-id : goal.invariant-loop-id
+invariant-loop-id l = record {
+  phase : IfSome l.builder IsInMessage;
+  whole : option_map (draft_with_terms (link_terms l.ids)) l.fn.builder ≡ option_map (draft_with_terms (link_terms (map (λ id. id.items) (drop l.id-index l.id-items)))) l.builder;
+}

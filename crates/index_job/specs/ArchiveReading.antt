@@ -1,0 +1,132 @@
+-- An archive while it is indexed: what still comes of it, and what was gathered.
+use Rattle.std.specs.Prelude.{◌≡◌, ◌⊎◌, ⊤, ℕ, ◌+◌, ◌<◌, ◌≤◌, List, [], ◌∷◌, ◌++◌, Option, None, Some, option_map, unwrap_or, length, Result, Ok, Err}
+use Rattle.std.specs.Option.{option_map_or}
+use Rattle.std.specs.Io.KnownBytes.{IsAtEnd}
+use Rattle.mail_index.specs.Builders.{Draft, archive_count}
+use Rattle.mbox_cutter.specs.Archives as archives
+use Rattle.mbox_cutter.specs.Archives.{text, size, span_length}
+use Rattle.mbox_cutter.specs.declared.event.CutFault.{CutFault}
+use Rattle.mbox_cutter.specs.declared.scan.Phase.TheVariants.{Between, Inside}
+use Rattle.mbox_cutter.specs.Events.{Coming, told, told_rest}
+use Rattle.mbox_cutter.specs.Places.{Place, left}
+use Rattle.mime_text.specs.declared.message_text.MessageText.{MessageText}
+use Rattle.index_job.specs.declared.archive_index.Ended.{Ended}
+use Rattle.index_job.specs.declared.archive_index.Heading.{Heading}
+use Rattle.index_job.specs.declared.archive_index.Heading.TheVariants.{Message, End}
+use Rattle.index_job.specs.declared.job_fault.JobFault.{JobFault}
+use Rattle.index_job.specs.declared.job_fault.JobFault.TheVariants.{OutOfMemory, TooMany}
+use Rattle.index_job.specs.Gathering.{HasGathered}
+use Rattle.index_job.specs.Indexing.{draft_with_terms, draft_with_messages, draft_ended, with_open_archive, HasTooMany, RefusesTerms, IsJobFault}
+use Rattle.index_job.specs.MessageTerms.{message_terms}
+
+-- ---- what comes
+
+-- a message that comes of an archive of so many bytes, those behind it, and the archive's refusal
+pub record Awaited : Type 0 where
+  pub all : ℕ
+  pub message : archives.Message
+  pub later : List archives.Message
+  pub refusal : Option CutFault
+
+-- what comes inside the message, with these lines of its text left
+abbrev pub coming_inside : Awaited → List (List ℕ) → Coming
+coming_inside w lines = record { events = told_rest w.all w.message lines w.later; refusal = w.refusal }
+
+-- what comes of these messages
+abbrev pub coming_between : ℕ → List archives.Message → Option CutFault → Coming
+coming_between all ms refusal = record { events = told all ms; refusal = refusal }
+
+-- what comes of an archive's messages, or of an archive that has none since it is refused
+abbrev pub coming_ahead : ℕ → Option (List archives.Message) → Option CutFault → Coming
+coming_ahead all ms refusal = record { events = option_map_or (told all) ms []; refusal = refusal }
+
+-- ---- where a cutter stands
+
+abbrev pub IsInside : ℕ → Place → Type 0
+IsInside start place = (told_size : ℕ) × (place.phase ≡ Inside start told_size)
+
+-- it has gone on
+pub record GoesFurther (old new : Place) : Type 0 where
+  pub most : new.most ≡ old.most
+  pub within : new.offset ≤ new.most
+  pub later : old.offset ≤ new.offset
+  pub nearer : left new < left old
+
+-- the message that began there has ended
+pub record HasEnded (start : ℕ) (ended : Ended) (new : Place) : Type 0 where
+  pub between : new.phase ≡ Between
+  pub smaller : ended.size < ended.length
+  pub offset : new.offset ≡ start + ended.length
+
+-- a message begins, or the archive has ended
+abbrev pub IsHeading : Heading → Place → Place → Type 0
+IsHeading (Message start) old new = (new.phase ≡ Inside start 0) × (old.offset ≤ start) × (start < new.offset) × (left new < left old)
+IsHeading (End length) old new = (old.offset ≤ length) × (length ≤ new.most)
+
+-- at the archive's end all bytes have been read
+abbrev pub ReadsToEnd : Heading → Option (List ℕ) → Type 0
+ReadsToEnd (Message start) bytes = ⊤
+ReadsToEnd (End length) bytes = IsAtEnd bytes
+
+-- the message is the first of those that come, or there is none left
+abbrev pub Heads : Heading → ℕ → Option (List archives.Message) → Option CutFault → Option Coming → Type 0
+Heads (Message start) all ms refusal new =
+    (m : archives.Message) × (later : List archives.Message) × (ms ≡ Some (m ∷ later)) × (m.offset ≡ start)
+    × (new ≡ Some (coming_inside (record { all = all; message = m; later = later; refusal = refusal }) (text m)))
+Heads (End length) all ms refusal new = (ms ≡ Some []) × (length ≡ all) × (refusal ≡ None)
+
+-- ---- what was gathered
+
+-- of the message's text these lines were gathered, and these come
+pub record IsReading (draft : Option Draft) (w : Awaited) (lines rest : List (List ℕ)) (gathered : MessageText) (builder : Option Draft) (coming : Option Coming) : Type 0 where
+  pub so_far : HasGathered gathered builder draft lines
+  pub whole : text w.message ≡ lines ++ rest
+  pub comes : coming ≡ Some (coming_inside w rest)
+
+-- the text is whole, and what comes is what is behind the message
+pub record HasReadAll (draft : Option Draft) (w : Awaited) (ended : Ended) (gathered : MessageText) (builder : Option Draft) (coming : Option Coming) : Type 0 where
+  pub whole : HasGathered gathered builder draft (text w.message)
+  pub length : ended.length ≡ span_length w.message
+  pub told_size : ended.size ≡ size w.message
+  pub comes : coming ≡ Some (coming_between w.all w.later w.refusal)
+
+-- in some way the message is being read that comes
+abbrev pub IsReadingSome : Option Draft → Awaited → MessageText → Option Draft → Option Coming → Type 0
+IsReadingSome draft w gathered builder coming = (lines rest : List (List ℕ)) × IsReading draft w lines rest gathered builder coming
+
+-- the message is added to the draft, or what is wrong with it or with its archive
+abbrev pub AddsMessage : ℕ → Draft → Awaited → Result (Option Draft) JobFault → Option Coming → Type 0
+AddsMessage archive d w (Ok builder) coming = (builder ≡ Some (draft_with_messages archive (w.message ∷ []) d)) × (coming ≡ Some (coming_between w.all w.later w.refusal))
+AddsMessage archive d w (Err fault) coming = IsJobFault w.refusal (HasTooMany (draft_with_messages archive (w.message ∷ []) d)) fault
+
+-- there is no room for one archive more, or no memory
+abbrev pub HasNoRoom : Draft → JobFault → Type 0
+HasNoRoom d OutOfMemory = ⊤
+HasNoRoom d TooMany = d.most ≤ archive_count d
+HasNoRoom d _ = ⊥
+
+-- these messages and the archive's end are added to the draft; or what is wrong with them
+abbrev pub AddsArchive : ℕ → Draft → ℕ → Option (List archives.Message) → Option CutFault → Result (Option Draft × ℕ) JobFault → Type 0
+AddsArchive number d bytes ms refusal (Ok (builder, count)) =
+    (refusal ≡ None) × (builder ≡ Some (draft_ended bytes (draft_with_messages number (unwrap_or ms []) d))) × (count ≡ length (unwrap_or ms []))
+AddsArchive number d bytes ms refusal (Err fault) = IsJobFault refusal (HasTooMany (draft_with_messages number (unwrap_or ms []) d)) fault
+
+-- the same with the archive's path; where there is room for it
+abbrev pub AddsNamed : List ℕ → ℕ → Draft → ℕ → Option (List archives.Message) → Option CutFault → Result (Option Draft × ℕ) JobFault → Type 0
+AddsNamed path number d bytes ms refusal (Ok (builder, count)) =
+    (archive_count d < d.most) × AddsArchive number (with_open_archive path d) bytes ms refusal (Ok (builder, count))
+AddsNamed path number d bytes ms refusal (Err fault) =
+    HasNoRoom d fault ⊎ ((archive_count d < d.most) × AddsArchive number (with_open_archive path d) bytes ms refusal (Err fault))
+
+-- the draft has no room for the message's terms, or the archive is refused
+abbrev pub IsMessageFault : Option Draft → Awaited → JobFault → Type 0
+IsMessageFault draft w fault = IsJobFault w.refusal (RefusesTerms (option_map (draft_with_terms (message_terms (text w.message))) draft)) fault
+
+-- of an archive's messages these are done and added to the draft, and the others come
+pub record HasDone (number : ℕ) (d : Draft) (all : ℕ) (ms : Option (List archives.Message)) (refusal : Option CutFault) (count : ℕ) (builder : Option Draft) (coming : Option Coming) : Type 0 where
+  pub done : List archives.Message
+  pub rest : Option (List archives.Message)
+  pub whole : ms ≡ option_map (λ later. done ++ later) rest
+  pub counted : count ≡ length done
+  pub added : builder ≡ Some (draft_with_messages number done d)
+  pub comes : coming ≡ Some (coming_ahead all rest refusal)

@@ -1,0 +1,9 @@
+pub mod JobFaults
+pub mod MessageTerms
+pub mod ArchiveTables
+pub mod ArchiveRefusals
+pub mod Indexing
+pub mod Gathering
+pub mod IndexJobs
+pub mod ArchiveReading
+pub mod MessageEnds

@@ -1,0 +1,26 @@
+-- What the end of a message makes of a draft.
+use Rattle.std.specs.Prelude.{◌++◌, ◌∷◌, [], false}
+use Rattle.mail_index.specs.declared.record.Record.{Record}
+use Rattle.mail_index.specs.Builders.{Draft}
+use Rattle.mime_text.specs.declared.facts.Facts.{Facts}
+use Rattle.index_job.specs.declared.message_index.Span.{Span}
+use Rattle.index_job.specs.ArchiveTables.{date_told}
+use Rattle.index_job.specs.Indexing.{draft_with_terms}
+use Rattle.index_job.specs.MessageTerms.{id_terms}
+
+abbrev pub record_at : Span → Facts → Record
+record_at span facts = record {
+  archive = span.archive;
+  offset = span.offset;
+  length = span.length;
+  size = span.size;
+  date = date_told facts.date_text;
+  flags = facts.flags;
+}
+
+abbrev pub closed_with : Record → Draft → Draft
+closed_with r d = record d { in_message = false; table = record d.table { messages = d.table.messages ++ r ∷ [] } }
+
+-- with the ids, and the message closed
+abbrev pub ended_with : Facts → Span → Draft → Draft
+ended_with facts span d = closed_with (record_at span facts) (draft_with_terms (id_terms facts) d)

@@ -1,0 +1,194 @@
+//! One archive that is indexed.
+ghost use Rattle.std.specs.Prelude.{◌≡◌, ◌<◌, ◌≤◌, ◌+◌, ◌-◌, ◌^◌, ℕ, List, Option, Some, IfOk, IfErr, OnOk};
+ghost use Rattle.std.specs.Option.{MatchOption};
+ghost use Rattle.std.specs.Io.KnownBytes.{IsAtEnd};
+ghost use Rattle.contract_words.specs.Devices.{Counted};
+ghost use Rattle.mail_index.specs.Builders.{Draft};
+ghost use Rattle.mail_index.specs.Tables.{IsPath};
+ghost use Rattle.mbox_cutter.specs.Archives.{Message, text as text_of};
+ghost use Rattle.mbox_cutter.specs.declared.event.CutFault.{CutFault};
+ghost use Rattle.mbox_cutter.specs.declared.scan.Phase.TheVariants as Phase;
+ghost use Rattle.index_job.specs.ArchiveRefusals.{most_in_archive};
+ghost use Rattle.index_job.specs.ArchiveReading.{Awaited, AddsArchive, AddsNamed, coming_inside, coming_ahead, IsHeading, Heads, ReadsToEnd, AddsMessage, IsInside, GoesFurther, HasEnded, IsReading, HasReadAll, IsMessageFault};
+ghost use Rattle.index_job.specs.Gathering.{HasGathered};
+ghost use Rattle.index_job.specs.Indexing.{IsArchiveFault, IsBuilderIdle, IsJobFault, IsBuilderReady};
+ghost use Rattle.index_job.specs.JobFaults.{is_source_failure};
+
+use crate::gathering::feed_line;
+use crate::job_fault::JobFault;
+use crate::message_index::{Span, finish_message};
+use crate::term_sink::TermSink;
+use mail_index::Builder;
+use mbox_cutter::{Cutter, Event, Source};
+use mime_text::MessageText;
+use std::alloc::Global;
+
+/// The end of a message: how long its span and its text are.
+#[derive(Clone, Copy)]
+struct Ended {
+    length: u64,
+    size: u64,
+}
+
+/// What comes between two messages: the next begins so many bytes from the archive's front, or the archive has ended with so
+/// many bytes.
+#[derive(Clone, Copy)]
+enum Heading {
+    Message(u64),
+    End(u64),
+}
+
+/// Reads on to the next message, or to the archive's end, where no message is open.
+fn next_heading<'a, S: Source>(cutter: &mut Cutter<'a, S>) -> Result<Option<Heading>, JobFault>
+    requires between { cutter.old.place.phase ≡ Phase.Between }
+    requires count { S.failures cutter.old.source.now < 2 ^ 64 - 1 }
+    ensures source { cutter.new.source.ghost_name ≡ cutter.old.source.ghost_name }
+    ensures count { Counted (is_source_failure result) (S.failures cutter.old.source.now) (S.failures cutter.new.source.now) }
+    ensures most { OnOk result (cutter.new.place.most ≡ cutter.old.place.most) }
+    ensures some { IfOk result (λ h. MatchOption h ⊥ (λ heading. IsHeading heading cutter.old.place cutter.new.place)) }
+    ensures end { IfOk result (λ h. MatchOption h ⊥ (λ heading. ReadsToEnd heading (S.rest cutter.new.source.now))) }
+    ensures known { IfOk result (λ h. (all : ℕ) (ms : Option (List Message)) (refusal : Option CutFault) → cutter.old.coming ≡ Some (coming_ahead all ms refusal)
+        → MatchOption h ⊥ (λ heading. Heads heading all ms refusal cutter.new.coming)) }
+    ensures fault { IfErr result (λ fault. (all : ℕ) (ms : Option (List Message)) (refusal : Option CutFault) → cutter.old.coming ≡ Some (coming_ahead all ms refusal)
+        → IsJobFault refusal ⊥ fault) }
+    ensures own { IfErr result IsArchiveFault }
+{
+    match cutter.next_event()? {
+        Event::Start { offset, .. } => Ok(Some(Heading::Message(offset))),
+        Event::Done { length } => Ok(Some(Heading::End(length))),
+        // Neither comes between two messages.
+        Event::Line(_) => Ok(None),
+        Event::End { .. } => Ok(None),
+    }
+}
+
+/// Gathers the next line of the message that is open, or answers its end.
+fn next_line<'a, S: Source>(
+    cutter: &mut Cutter<'a, S>,
+    text: &mut MessageText,
+    terms: &mut TermSink,
+    start: u64,
+) -> Result<Option<Ended>, JobFault>
+    requires inside { IsInside start cutter.old.place }
+    requires count { S.failures cutter.old.source.now < 2 ^ 64 - 1 }
+    ensures source { cutter.new.source.ghost_name ≡ cutter.old.source.ghost_name }
+    ensures count { Counted (is_source_failure result) (S.failures cutter.old.source.now) (S.failures cutter.new.source.now) }
+    ensures further { OnOk result (GoesFurther cutter.old.place cutter.new.place) }
+    ensures place { IfOk result (λ end. MatchOption end (IsInside start cutter.new.place) (λ e. HasEnded start e cutter.new.place)) }
+    ensures gathers { OnOk result ((d : Option Draft) (ls : List (List ℕ)) → HasGathered text.old terms.old.builder d ls
+        → (ms : List (List ℕ)) × HasGathered text.new terms.new.builder d ms) }
+    ensures known { IfOk result (λ end. (d : Option Draft) (w : Awaited) (ls rest : List (List ℕ)) → IsReading d w ls rest text.old terms.old.builder cutter.old.coming
+        → MatchOption end ((more left : List (List ℕ)) × IsReading d w more left text.new terms.new.builder cutter.new.coming)
+        (λ e. HasReadAll d w e text.new terms.new.builder cutter.new.coming)) }
+    ensures fault { IfErr result (λ fault. (d : Option Draft) (w : Awaited) (ls rest : List (List ℕ)) → IsReading d w ls rest text.old terms.old.builder cutter.old.coming
+        → IsMessageFault d w fault) }
+    ensures own { IfErr result (λ fault. (d : Option Draft) (ls : List (List ℕ)) → HasGathered text.old terms.old.builder d ls → IsArchiveFault fault) }
+{
+    match cutter.next_event()? {
+        Event::Line(line) => {
+            feed_line(text, line, terms)?;
+            Ok(None)
+        }
+        Event::End { length, size } => Ok(Some(Ended { length, size })),
+        // Neither comes inside a message.
+        Event::Start { .. } => Ok(None),
+        Event::Done { .. } => Ok(None),
+    }
+}
+
+/// Indexes the message that has just begun.
+fn index_message<'a, S: Source>(
+    alloc: Global,
+    cutter: &mut Cutter<'a, S>,
+    builder: Builder,
+    archive: u32,
+    offset: u64,
+) -> Result<Builder, JobFault>
+    requires inside { IsInside offset cutter.old.place }
+    requires most { cutter.old.place.most ≡ most_in_archive }
+    requires count { S.failures cutter.old.source.now < 2 ^ 64 - 1 }
+    requires ready { IsBuilderReady archive offset builder }
+    ensures source { cutter.new.source.ghost_name ≡ cutter.old.source.ghost_name }
+    ensures count { Counted (is_source_failure result) (S.failures cutter.old.source.now) (S.failures cutter.new.source.now) }
+    ensures further { OnOk result (GoesFurther cutter.old.place cutter.new.place) }
+    ensures between { OnOk result (cutter.new.place.phase ≡ Phase.Between) }
+    ensures ready { IfOk result (IsBuilderReady archive cutter.new.place.offset) }
+    ensures known { (d : Draft) (w : Awaited) → builder ≡ Some d → w.message.offset ≡ offset → cutter.old.coming ≡ Some (coming_inside w (text_of w.message))
+        → AddsMessage archive d w result cutter.new.coming }
+    ensures own { IfErr result IsArchiveFault }
+{
+    let mut terms = TermSink::begin(alloc, builder)?;
+    let mut text = MessageText::new(alloc)?;
+    'lines: loop {
+        if let Some(Ended { length, size }) = next_line(cutter, &mut text, &mut terms, offset)? {
+            let span = Span {
+                archive,
+                offset,
+                length,
+                size,
+            };
+            return finish_message(text, terms, span);
+        }
+    }
+}
+
+/// Indexes the archive's messages, one after another, ends the archive, and counts them.
+fn index_messages<'a, S: Source>(
+    alloc: Global,
+    cutter: &mut Cutter<'a, S>,
+    builder: Builder,
+    archive: u32,
+) -> Result<(Builder, u64), JobFault>
+    requires between { cutter.old.place.phase ≡ Phase.Between }
+    requires most { cutter.old.place.most ≡ most_in_archive }
+    requires count { S.failures cutter.old.source.now < 2 ^ 64 - 1 }
+    requires ready { IsBuilderReady archive cutter.old.place.offset builder }
+    ensures source { cutter.new.source.ghost_name ≡ cutter.old.source.ghost_name }
+    ensures count { Counted (is_source_failure result) (S.failures cutter.old.source.now) (S.failures cutter.new.source.now) }
+    ensures end { OnOk result (IsAtEnd (S.rest cutter.new.source.now)) }
+    ensures idle { IfOk result (λ r. IsBuilderIdle (archive + 1) r.0) }
+    ensures known { (d : Draft) (all : ℕ) (ms : Option (List Message)) (refusal : Option CutFault) → builder ≡ Some d
+        → cutter.old.coming ≡ Some (coming_ahead all ms refusal) → AddsArchive archive d all ms refusal result }
+    ensures own { IfErr result IsArchiveFault }
+{
+    let mut builder = builder;
+    let mut messages: u64 = 0;
+    'messages: loop {
+        match next_heading(cutter)? {
+            Some(Heading::Message(offset)) => {
+                builder = index_message(alloc, cutter, builder, archive, offset)?;
+                messages += 1;
+            }
+            Some(Heading::End(length)) => {
+                builder.end_archive(length)?;
+                return Ok((builder, messages));
+            }
+            None => {}
+        }
+    }
+}
+
+/// Indexes an archive: its messages and its end, and counts its messages.
+pub(crate) fn index_archive<'a, S: Source>(
+    alloc: Global,
+    cutter: &mut Cutter<'a, S>,
+    builder: Builder,
+    path: &str,
+    archive: u32,
+) -> Result<(Builder, u64), JobFault>
+    requires fresh { cutter.old.place ≡ record { phase = Phase.Between; offset = 0; most = most_in_archive } }
+    requires count { S.failures cutter.old.source.now < 2 ^ 64 - 1 }
+    requires idle { IsBuilderIdle archive builder }
+    requires path { IsPath path.now }
+    ensures source { cutter.new.source.ghost_name ≡ cutter.old.source.ghost_name }
+    ensures count { Counted (is_source_failure result) (S.failures cutter.old.source.now) (S.failures cutter.new.source.now) }
+    ensures end { OnOk result (IsAtEnd (S.rest cutter.new.source.now)) }
+    ensures idle { IfOk result (λ r. IsBuilderIdle (archive + 1) r.0) }
+    ensures known { (d : Draft) (all : ℕ) (ms : Option (List Message)) (refusal : Option CutFault) → builder ≡ Some d
+        → cutter.old.coming ≡ Some (coming_ahead all ms refusal) → AddsNamed path.now archive d all ms refusal result }
+    ensures own { IfErr result IsArchiveFault }
+{
+    let mut builder = builder;
+    builder.begin_archive(path)?;
+    index_messages(alloc, cutter, builder, archive)
+}

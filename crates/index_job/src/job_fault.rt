@@ -1,0 +1,92 @@
+//! Why archives aren't indexed.
+use mail_index::BuildFault;
+use mbox_cutter::CutFault;
+use mime_text::{SinkFault, TextFault};
+use std::alloc::{AllocError, AllocFailed};
+use thiserror::Error;
+
+/// Why an index isn't made.
+#[derive(Clone, Copy, Debug, PartialEq, Eq, Error)]
+pub enum JobFault {
+    /// The archive couldn't be read, or is refused.
+    #[error("{0}")]
+    Cut(CutFault),
+    /// There was no memory left.
+    #[error("out of memory")]
+    OutOfMemory,
+    /// There are more archives, messages or keys than an index has room for.
+    #[error("too many messages or keys")]
+    TooMany,
+    /// The output failed.
+    #[error("output failed")]
+    Out,
+    /// An earlier call has failed.
+    #[error("failed before")]
+    Failed,
+}
+
+impl From<CutFault> for JobFault {
+    ghost use Rattle.std.specs.Prelude.{◌≡◌};
+    ghost use Rattle.index_job.specs.declared.job_fault.JobFault.TheVariants.{Cut};
+
+    ghost from_gives = { λ fault e. e ≡ Cut fault };
+
+    fn from(fault: CutFault) -> Self {
+        JobFault::Cut(fault)
+    }
+}
+
+impl From<AllocError> for JobFault {
+    ghost use Rattle.std.specs.Prelude.{◌≡◌};
+    ghost use Rattle.index_job.specs.declared.job_fault.JobFault.TheVariants.{OutOfMemory};
+
+    ghost from_gives = { λ _ e. e ≡ OutOfMemory };
+
+    fn from(_: AllocError) -> Self {
+        JobFault::OutOfMemory
+    }
+}
+
+impl<T: Drop> From<AllocFailed<T>> for JobFault {
+    ghost use Rattle.std.specs.Prelude.{◌≡◌};
+    ghost use Rattle.index_job.specs.declared.job_fault.JobFault.TheVariants.{OutOfMemory};
+
+    ghost from_gives = { λ _ e. e ≡ OutOfMemory };
+
+    fn from(_: AllocFailed<T>) -> Self {
+        JobFault::OutOfMemory
+    }
+}
+
+impl From<BuildFault> for JobFault {
+    ghost use Rattle.std.specs.Prelude.{◌≡◌};
+    ghost use Rattle.index_job.specs.JobFaults.{of_build};
+
+    ghost from_gives = { λ fault e. e ≡ of_build fault };
+
+    fn from(fault: BuildFault) -> Self {
+        match fault {
+            BuildFault::OutOfMemory => JobFault::OutOfMemory,
+            BuildFault::TooMany => JobFault::TooMany,
+            BuildFault::Device => JobFault::Out,
+            BuildFault::Failed => JobFault::Failed,
+        }
+    }
+}
+
+/// What gathers a message's terms refuses a text only where there would be too many keys.
+impl From<TextFault> for JobFault {
+    ghost use Rattle.std.specs.Prelude.{◌≡◌};
+    ghost use Rattle.index_job.specs.JobFaults.{of_text};
+
+    ghost from_gives = { λ fault e. e ≡ of_text fault };
+
+    fn from(fault: TextFault) -> Self {
+        match fault {
+            TextFault::OutOfMemory => JobFault::OutOfMemory,
+            TextFault::Sink(SinkFault::OutOfMemory) => JobFault::OutOfMemory,
+            TextFault::Sink(SinkFault::Refused) => JobFault::TooMany,
+            TextFault::Failed => JobFault::Failed,
+        }
+    }
+}

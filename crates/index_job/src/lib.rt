@@ -1,0 +1,13 @@
+//! Indexing: the table of archives, made from one pass over each.
+#![tactic(auto)]
+
+mod archive_index;
+mod gathering;
+mod index_job;
+mod job_fault;
+mod message_index;
+mod term_sink;
+mod waiting_words;
+
+pub use index_job::IndexJob;
+pub use job_fault::JobFault;

@@ -1,0 +1,78 @@
+//! One message that is indexed.
+ghost use Rattle.std.specs.Prelude.{◌≡◌, ◌<◌, ◌≤◌, ◌+◌, ◌^◌, false, ℕ, List, Option, IfOk, IfErr, option_map};
+ghost use Rattle.header_text.specs.Headers.{fields_of};
+ghost use Rattle.mail_index.specs.Builders.{Draft};
+ghost use Rattle.mime_text.specs.MessageFacts.{HasSizedIds, facts_of};
+ghost use Rattle.mime_text.specs.Texts.{texts_of_message};
+ghost use Rattle.index_job.specs.ArchiveTables.{date_told};
+ghost use Rattle.index_job.specs.Gathering.{HasGathered, IsGathering, IsGatherFault, with_texts};
+ghost use Rattle.index_job.specs.Indexing.{draft_with_terms, IsBuilderOpen};
+ghost use Rattle.index_job.specs.JobFaults.{is_source_failure};
+ghost use Rattle.index_job.specs.MessageEnds.{ended_with};
+ghost use Rattle.index_job.specs.MessageTerms.{id_terms, message_terms};
+
+use crate::gathering::end_text;
+use crate::job_fault::JobFault;
+use crate::term_sink::TermSink;
+use mail_dates::read_date;
+use mail_index::{Builder, Record};
+use mime_text::{Facts, MessageText};
+
+/// The second that the Date field tells, where there is one that can be read.
+fn date_of(facts: &Facts) -> Option<i64>
+    ensures { result ≡ date_told facts.now.date_text }
+{
+    match &facts.date_text {
+        Some(text) => read_date(text.as_str()),
+        None => None,
+    }
+}
+
+/// Where a message lies: in the archive of this number, so many bytes from its front; and how long are its span and its text.
+#[derive(Clone, Copy)]
+pub(crate) struct Span {
+    pub(crate) archive: u32,
+    pub(crate) offset: u64,
+    pub(crate) length: u64,
+    pub(crate) size: u64,
+}
+
+/// Ends a message whose terms are gathered but for its ids.
+fn end_message(mut terms: TermSink, facts: &Facts, span: Span) -> Result<Builder, JobFault>
+    requires sizes { HasSizedIds facts.now }
+    requires opened { IsBuilderOpen span.archive span.offset terms.builder }
+    requires size { span.size < span.length }
+    requires within { span.offset + span.length ≤ 2 ^ 40 }
+    ensures source { is_source_failure result ≡ false }
+    ensures ok { IfOk result (λ b. b ≡ option_map (ended_with facts.now span) terms.builder) }
+    ensures err { IfErr result (IsGatherFault (option_map (draft_with_terms (id_terms facts.now)) terms.builder)) }
+{
+    terms.add_ids(facts)?;
+    Ok(terms.end(Record {
+        archive: span.archive,
+        offset: span.offset,
+        length: span.length,
+        size: span.size,
+        date: date_of(facts),
+        flags: facts.flags,
+    })?)
+}
+
+/// Ends the text of a message, and the message.
+pub(crate) fn finish_message(
+    text: MessageText,
+    mut terms: TermSink,
+    span: Span,
+) -> Result<Builder, JobFault>
+    requires opened { IsGathering span.archive span.offset text terms.builder }
+    requires size { span.size < span.length }
+    requires within { span.offset + span.length ≤ 2 ^ 40 }
+    ensures source { is_source_failure result ≡ false }
+    ensures ok { IfOk result (λ b. (ls : List (List ℕ)) (d : Option Draft) → HasGathered text terms.builder d ls
+        → b ≡ option_map (ended_with (facts_of (fields_of ls)) span) (with_texts (texts_of_message ls) d)) }
+    ensures err { IfErr result (λ fault. (ls : List (List ℕ)) (d : Option Draft) → HasGathered text terms.builder d ls
+        → IsGatherFault (option_map (draft_with_terms (message_terms ls)) d) fault) }
+{
+    let facts = end_text(text, &mut terms)?;
+    end_message(terms, &facts, span)
+}

@@ -1,0 +1,9 @@
+pub mod Entries
+pub mod OneKind
+pub mod Parses
+mod RowsCommandLine
+mod RowsRcfile
+pub mod Searches
+pub mod Settings
+pub mod RcPaths
+pub mod Trimming

@@ -1,0 +1,53 @@
+-- What a parse of the words says of the plan.
+use Rattle.std.proofs.Common.{◌≡◌, ◌⊎◌, true, List, [], ◌∷◌, Result, Ok, Err, IfOk, IfSome, refl, sym, subst, ap, inl, inr}
+use Rattle.clap.specs.Words.{Kinds, IsAmong, FailsBy, Row, Text, HasMatchesOf, fault_of, matches_of, is_simple, is_simple_and_free, built, rows_of, found_of, kind_of}
+use Rattle.clap.specs.declared.error.Error.{Error}
+use Rattle.clap.specs.declared.error.kind.ErrorKind.{ErrorKind}
+use Rattle.clap.specs.declared.error.kind.ErrorKind.TheVariants as kind
+use Rattle.clap.specs.declared.parser.matches.ArgMatches.{ArgMatches}
+use Rattle.contract_words.proofs.Collecting.{if_some_map}
+use Rattle.contract_words.specs.Answers.{Gives}
+use Rattle.mairix_options.specs.CommandLine.{command, plan, plan_by, plan_of_rows, plan_in, refusal_of_kind, kind_refusal, error_refusal}
+use Rattle.mairix_options.proofs.OneKind.{One, one_fault, only_kind}
+
+-- the command is one of those whose parse clap states
+pub simple : is_simple command ≡ true
+simple = refl
+
+pub free : is_simple_and_free command ≡ true
+free = refl
+
+no_subcommands : (built command).subs ≡ []
+no_subcommands = refl
+
+leaf : (built command).top.is_leaf ≡ true
+leaf = refl
+
+-- a kind of error is its refusal, and want of memory is none
+refused : (k : ErrorKind) → IfSome (kind_refusal k) (λ f. refusal_of_kind k ≡ f)
+refused kind.OutOfMemory = tt
+refused _ = refl
+
+refused_by : (k : ErrorKind) (ks : Kinds) (rows : List Row) → One ks → (k ≡ kind.OutOfMemory) ⊎ IsAmong k ks
+    → IfSome (kind_refusal k) (λ f. plan_by ks rows ≡ Err f)
+refused_by k ks rows one (inl memory) = subst (λ (l : ErrorKind). IfSome (kind_refusal l) (λ f. plan_by ks rows ≡ Err f)) (sym memory) tt
+refused_by k ks rows one (inr among) =
+    subst (λ (all : Kinds). IfSome (kind_refusal k) (λ f. plan_by all rows ≡ Err f)) (sym (only_kind k ks one among))
+    (if_some_map (kind_refusal k) (λ f. refusal_of_kind k ≡ f) (λ f. plan_by (k ∷ []) rows ≡ Err f) (λ f same. ap Err same) (refused k))
+
+plan-taken : (words : List Text) (m : ArgMatches) → fault_of command words ≡ [] → rows_of (found_of m) ≡ matches_of command words
+    → plan words ≡ Ok (plan_in m)
+unfolding plan
+plan-taken words m none same =
+    subst (λ (all : Kinds). plan_by all (matches_of command words) ≡ Ok (plan_of_rows (rows_of (found_of m)))) (sym none)
+    (ap (λ (r : List Row). Ok (plan_of_rows r)) (sym same))
+
+plan-refused : (words : List Text) (k : ErrorKind) → (k ≡ kind.OutOfMemory) ⊎ IsAmong k (fault_of command words)
+    → IfSome (kind_refusal k) (λ f. plan words ≡ Err f)
+unfolding plan
+plan-refused words k has = refused_by k (fault_of command words) (matches_of command words) (one_fault command words no_subcommands leaf) has
+
+pub Gives-parsed : (words : List Text) (r : Result ArgMatches Error) → IfOk r (HasMatchesOf command words) → FailsBy (fault_of command words) r
+    → Gives plan_in error_refusal r (plan words)
+Gives-parsed words (Ok m) matches none = plan-taken words m none (matches simple).0
+Gives-parsed words (Err e) matches has = plan-refused words (kind_of e) has

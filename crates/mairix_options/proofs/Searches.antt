@@ -1,0 +1,55 @@
+-- What a search for bytes tells of the whole list.
+use Rattle.std.proofs.Common.{◌≡◌, ◌↔◌, ℕ, Bool, true, false, not, List, [], ◌∷◌, ◌++◌, map, ◌&&◌, ◌||◌, drop, codes, nat_eq, get_or, Option, Some, None, refl, sym, ap, ◌∙◌, subst, arith, is_some, ⊎_elim}
+use Rattle.std.specs.List.{list_any, list_all, starts_with}
+use Rattle.std.specs.Str.Iter.{HasSubslice}
+use Rattle.std.proofs.lemmas.Bool.{or_cases, or_right, false_from_ne_true, false≢true}
+use Rattle.std.proofs.lemmas.Bool.Decides.{Decides-eqb, same_from_decides}
+use Rattle.std.proofs.lemmas.List.Folds.{list_any_none, list_any_at}
+use Rattle.std.proofs.lemmas.Grind.{get_or_default_zero}
+use Rattle.std.proofs.lemmas.Slice.Eq.{starts_is}
+use Rattle.memchr.specs.Find.{IsFirstByte}
+use Rattle.mairix_options.specs.Path.{has_three_dots}
+
+pub not-not : (b : Bool) → not (not b) ≡ b
+not-not true = refl
+not-not false = refl
+
+list_any-searched : (test : ℕ → Bool) (hay : List ℕ) (r : Option ℕ) → IsFirstByte test hay r → list_any test hay ≡ is_some r
+list_any-searched test hay None h =
+    list_any_none test hay (λ k d below. false_from_ne_true (test (get_or hay k d))
+    (λ passes. h k (omega arith) below (subst (λ (b : ℕ). test b ≡ true) (get_or_default_zero hay k d below) passes)))
+list_any-searched test hay (Some k) h = list_any_at test hay k 0 (h.0.high) h.1
+
+-- a search of a text finds a byte exactly where some byte passes
+pub list_any-found : (test : ℕ → Bool) (hay text : List ℕ) (r : Option ℕ) → hay ≡ text → IsFirstByte test hay r → list_any test text ≡ is_some r
+list_any-found test hay text r same h = ap (list_any test) (sym same) ∙ list_any-searched test hay r h
+
+abbrev dots : List ℕ
+dots = codes "..."
+
+has_three_dots-inside : (a b : List ℕ) → has_three_dots (a ++ (dots ++ b)) ≡ true
+has_three_dots-inside [] b = refl
+has_three_dots-inside (x ∷ a) b = or_right (starts_with nat_eq (x ∷ (a ++ (dots ++ b))) dots) _ (has_three_dots-inside a b)
+
+HasSubslice-three_dots : (text : List ℕ) → has_three_dots text ≡ true → HasSubslice text dots
+HasSubslice-three_dots [] e = absurd (false≢true e)
+HasSubslice-three_dots (x ∷ text) e =
+    ⊎_elim
+    (λ front. ([], drop 3 (x ∷ text), (starts_is Decides-eqb (x ∷ text) dots _ refl).0 front))
+    (λ later. let inside = HasSubslice-three_dots text later in (x ∷ inside.0, inside.1, ap (λ l. x ∷ l) inside.2))
+    (or_cases (starts_with nat_eq (x ∷ text) dots) (has_three_dots text) e)
+
+-- a search for the three dots
+pub has_three_dots-found : (text : List ℕ) (r : Bool) → ((r ≡ true) ↔ HasSubslice text dots) → r ≡ has_three_dots text
+has_three_dots-found text r h =
+    same_from_decides r (has_three_dots text) (h.0, h.1)
+    (HasSubslice-three_dots text, λ s. subst (λ (l : List ℕ). has_three_dots l ≡ true) (sym s.2) (has_three_dots-inside s.0 s.1))
+
+-- a test of each text's bytes
+pub list_any-map : {X Y : Type 0} (f : X → Y) (test : Y → Bool) (xs : List X) → list_any test (map f xs) ≡ list_any (λ x. test (f x)) xs
+list_any-map f test [] = refl
+list_any-map f test (x ∷ xs) = ap (λ b. test (f x) || b) (list_any-map f test xs)
+
+pub list_all-map : {X Y : Type 0} (f : X → Y) (test : Y → Bool) (xs : List X) → list_all test (map f xs) ≡ list_all (λ x. test (f x)) xs
+list_all-map f test [] = refl
+list_all-map f test (x ∷ xs) = ap (λ b. test (f x) && b) (list_all-map f test xs)

@@ -1,0 +1,11 @@
+use Rattle.std.proofs.Common.{codes, ◌≡◌, ◌==◌, false, ◌∙◌, sym}
+use Rattle.std.specs.List.{list_any}
+use Rattle.std.proofs.lemmas.Str.Pattern.{starts_text}
+use Rattle.mairix_options.proofs.Searches.{list_any-found}
+use Rattle.mairix_options.proofs.path.has_expansion.Goals as goal
+
+pub returns-else-is_some : goal.returns-else-is_some
+returns-else-is_some c =
+    let text = c.args.text.now in
+    let none : list_any (λ b. b == 36) text ≡ false = list_any-found (λ b. b == 36) c.as_bytes.result.now text c.memchr.result c.as_bytes.ensures.value c.memchr.ensures ∙ sym c.is_some.ensures ∙ c.if-is_some.false in
+    rw none (starts_text c.starts_with.result (codes "~") text c.starts_with.ensures.cases)

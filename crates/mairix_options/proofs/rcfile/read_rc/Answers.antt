@@ -1,0 +1,11 @@
+use Rattle.mairix_options.proofs.RcPaths.{read-paths, read-database, read-mfolder}
+use Rattle.mairix_options.proofs.rcfile.read_rc.Goals as goal
+
+pub returns-clause-paths : goal.returns-clause-paths
+returns-clause-paths c = read-paths c.args.rc.now c.in_ok-settings.settings.items c.in_ok-settings.ensures c.rc_from.result c.rc_from.ensures
+
+pub returns-clause-database : goal.returns-clause-database
+returns-clause-database c = read-database c.args.rc.now c.in_ok-settings.settings.items c.in_ok-settings.ensures c.rc_from.result c.rc_from.ensures
+
+pub returns-clause-mfolder : goal.returns-clause-mfolder
+returns-clause-mfolder c = read-mfolder c.args.rc.now c.in_ok-settings.settings.items c.in_ok-settings.ensures c.rc_from.result c.rc_from.ensures

@@ -1,0 +1,97 @@
+-- What the words of a command line, after the program's name, ask for: what clap states of one simple command.
+use Rattle.std.specs.Prelude.{ℕ, Bool, true, false, List, [], ◌∷◌, Option, Some, None, unwrap_or, codes, fold, Result, Ok, Err}
+use Rattle.std.specs.Option.{option_map_or}
+use Rattle.std.specs.Str.{byte, bytes_eq}
+use Rattle.clap.specs.Words.{App, Rule, Row, Text, Kinds, new_app, new_rule, with_rule, fault_of, matches_of, first_of, all_of, rows_of, found_of, kind_of}
+use Rattle.clap.specs.Simple.{on_top}
+use Rattle.clap.specs.declared.builder.action.ArgAction.TheVariants.{Set, Append, SetTrue}
+use Rattle.clap.specs.declared.error.Error.{Error}
+use Rattle.clap.specs.declared.error.kind.ErrorKind.{ErrorKind}
+use Rattle.clap.specs.declared.error.kind.ErrorKind.TheVariants as kind
+use Rattle.clap.specs.declared.parser.matches.ArgMatches.{ArgMatches}
+use Rattle.mairix_options.specs.declared.command_line.Plan.{Plan}
+use Rattle.mairix_options.specs.declared.command_line.UsageFault.{UsageFault}
+use Rattle.mairix_options.specs.declared.command_line.UsageFault.TheVariants.{Parse, Help, Version, OutOfMemory}
+
+-- ---- the command
+
+-- `-c`, once at most
+abbrev pub short_flag : Text → ℕ → Rule
+short_flag id c = record (new_rule id) { short = Some c; action = Some SetTrue }
+
+-- `--id`, once at most
+abbrev pub long_flag : Text → Rule
+long_flag id = record (new_rule id) { long = Some id; action = Some SetTrue }
+
+-- `-f RCFILE`
+abbrev pub rcfile_option : Rule
+rcfile_option = record (new_rule (codes "rcfile")) { short = Some (byte "f"); value_names = 1; action = Some Set; required = true }
+
+-- the words that are no option, as many as there are
+abbrev pub pattern_argument : Rule
+pattern_argument = record (new_rule (codes "pattern")) { value_names = 1; action = Some Append }
+
+-- It has a version, and so `-V` and `--version`, and as every command `-h` and `--help`.
+abbrev pub bare_command : App
+bare_command = on_top (λ s. record s { has_version = true; no_binary_name = true }) (new_app (codes "mairix"))
+
+-- `mairix -f RCFILE [-r] [--once] [PATTERN..]`
+abbrev pub command : App
+command = fold with_rule bare_command
+    (rcfile_option
+    ∷ short_flag (codes "raw") (byte "r")
+    ∷ long_flag (codes "once")
+    ∷ pattern_argument
+    ∷ [])
+
+-- ---- the plan
+
+abbrev pub flag : Text → List Row → Bool
+flag id rows = option_map_or (λ t. bytes_eq t (codes "true")) (first_of id rows) false
+
+-- what is planned where the parser finds these values
+abbrev pub plan_of_rows : List Row → Plan
+plan_of_rows rows = record {
+  rcfile = unwrap_or (first_of (codes "rcfile") rows) [];
+  raw = flag (codes "raw") rows;
+  once = flag (codes "once") rows;
+  patterns = unwrap_or (all_of (codes "pattern") rows) [];
+}
+
+-- the plan that a parse gives
+abbrev pub plan_in : ArgMatches → Plan
+plan_in matches = plan_of_rows (rows_of (found_of matches))
+
+-- Help and version count as they are, and every other refusal of the parser alike.
+abbrev pub refusal_of_kind : ErrorKind → UsageFault
+refusal_of_kind kind.DisplayHelp = Help
+refusal_of_kind kind.DisplayVersion = Version
+refusal_of_kind _ = Parse
+
+abbrev pub plan_by : Kinds → List Row → Result Plan UsageFault
+plan_by [] rows = Ok (plan_of_rows rows)
+plan_by (k ∷ ks) rows = Err (refusal_of_kind k)
+
+-- what the words ask for
+unfoldable pub plan : List Text → Result Plan UsageFault
+plan words = plan_by (fault_of command words) (matches_of command words)
+
+-- ---- refusals
+
+-- the refusals that the words determine: all but want of memory
+abbrev pub usage_refusal : UsageFault → Option UsageFault
+usage_refusal OutOfMemory = None
+usage_refusal fault = Some fault
+
+-- the refusal that a parser's error is: want of memory is none
+abbrev pub kind_refusal : ErrorKind → Option UsageFault
+kind_refusal kind.OutOfMemory = None
+kind_refusal k = Some (refusal_of_kind k)
+
+abbrev pub error_refusal : Error → Option UsageFault
+error_refusal error = kind_refusal (kind_of error)
+
+-- what a parser's error is answered as
+abbrev pub fault_of_kind : ErrorKind → UsageFault
+fault_of_kind kind.OutOfMemory = OutOfMemory
+fault_of_kind k = refusal_of_kind k

@@ -1,0 +1,4 @@
+pub mod Blanks
+pub mod CommandLine
+pub mod Path
+pub mod Rcfile

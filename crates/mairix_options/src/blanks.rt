@@ -1,0 +1,44 @@
+//! Spaces and tabs at the ends of a text.
+ghost use Rattle.std.specs.Prelude.{◌≡◌, ◌≤◌, length};
+ghost use Rattle.std.specs.List.{prefix_len, suffix_len};
+ghost use Rattle.mairix_options.specs.Blanks.{is_blank, trimmed};
+
+fn is_blank(byte: u8) -> bool
+    ensures { result ≡ is_blank byte }
+{
+    byte == b' ' || byte == b'\t'
+}
+
+fn blanks_at_front(text: &[u8]) -> usize
+    ensures count { result ≡ prefix_len is_blank text.now }
+    ensures bound { result ≤ length text.now }
+{
+    text.iter().take_while(|byte| is_blank(**byte)).count()
+}
+
+fn blanks_at_end(text: &[u8]) -> usize
+    ensures count { result ≡ suffix_len is_blank text.now }
+    ensures bound { result ≤ length text.now }
+{
+    text.iter()
+        .rev()
+        .take_while(|byte| is_blank(**byte))
+        .count()
+}
+
+/// The bytes without the spaces and tabs at both ends.
+pub(crate) fn trimmed(text: &[u8]) -> &[u8]
+    ensures { result.now ≡ trimmed text.now }
+{
+    let (_, rest) = text.split_at(blanks_at_front(text));
+    let (kept, _) = rest.split_at(rest.len() - blanks_at_end(rest));
+    kept
+}
+
+/// The text without the spaces and tabs at both ends.
+pub(crate) fn trimmed_text(text: &str) -> &str
+    ensures { result.now ≡ trimmed text.now }
+{
+    let rest = &text[blanks_at_front(text.as_bytes())..];
+    &rest[..rest.len() - blanks_at_end(rest.as_bytes())]
+}

@@ -1,0 +1,226 @@
+//! What the words of a command line ask for.
+ghost use Rattle.std.specs.Prelude.{◌≡◌, [], true, false, map, option_map, unwrap_or, is_ok, IfOk, codes, string_bytes};
+ghost use Rattle.clap.specs.Words.{app_of, rule_of, with_rule, found_of, rows_of, first_of, all_of};
+ghost use Rattle.contract_words.specs.Answers.{Gives};
+ghost use Rattle.mairix_options.specs.CommandLine.{short_flag, long_flag, rcfile_option, pattern_argument, bare_command, command, flag, plan, plan_in, fault_of_kind, error_refusal, usage_refusal};
+
+use crate::owned_text::{Text, Texts};
+use clap::error::ErrorKind;
+use clap::{Arg, ArgAction, ArgMatches, Command};
+use std::alloc::{AllocError, AllocFailed, Global};
+use thiserror::Error;
+
+/// What the words of a command line ask for.
+#[derive(Debug, Drop)]
+pub struct Plan {
+    /// The rcfile's path, as written.
+    pub rcfile: Text,
+    /// Whether the answer is offsets, lengths and paths.
+    pub raw: bool,
+    /// Whether the index is made in memory.
+    pub once: bool,
+    /// What to search for, in the order of the words.
+    pub patterns: Texts,
+}
+
+/// Why the words of a command line ask for nothing.
+#[derive(Clone, Copy, Debug, PartialEq, Eq, Error)]
+pub enum UsageFault {
+    /// The parser refuses the words.
+    #[error("bad words")]
+    Parse,
+    /// Both raw and excerpt are asked for.
+    #[error("-r and -x exclude each other")]
+    TwoFormats,
+    /// Help is asked for.
+    #[error("help")]
+    Help,
+    /// The version is asked for.
+    #[error("version")]
+    Version,
+    /// A growth was refused.
+    #[error("out of memory")]
+    OutOfMemory,
+}
+
+impl From<AllocError> for UsageFault {
+    ghost use Rattle.std.specs.Prelude.{◌≡◌};
+    ghost use Rattle.mairix_options.specs.declared.command_line.UsageFault.TheVariants.{OutOfMemory};
+
+    ghost from_gives = { λ _ fault. fault ≡ OutOfMemory };
+
+    fn from(_: AllocError) -> Self {
+        UsageFault::OutOfMemory
+    }
+}
+
+impl<T: Drop> From<AllocFailed<T>> for UsageFault {
+    ghost use Rattle.std.specs.Prelude.{◌≡◌};
+    ghost use Rattle.mairix_options.specs.declared.command_line.UsageFault.TheVariants.{OutOfMemory};
+
+    ghost from_gives = { λ _ fault. fault ≡ OutOfMemory };
+
+    fn from(_: AllocFailed<T>) -> Self {
+        UsageFault::OutOfMemory
+    }
+}
+
+/// What the words after the program's name ask for.
+///
+/// The command is `mairix -f RCFILE [-r] [--once] [PATTERN..]`, with `-h`, `--help`, `-V` and `--version`. What clap
+/// takes of it counts: values attached as `-fRCFILE` or `-f=RCFILE`, bundles as `-rfRCFILE`, options behind patterns or
+/// between them, `--` before patterns that begin with `-`, and `-` as a pattern. Behind `--` each word is a pattern.
+///
+/// # Errors
+///
+/// `Help` and `Version` where that is what the parser answers first, and `Parse` for any other refusal of it.
+pub fn plan_of(alloc: Global, words: &[String]) -> Result<Plan, UsageFault>
+    ensures { Gives (λ p. p) usage_refusal result (plan (map string_bytes words.now)) }
+{
+    match parsed(alloc, words)? {
+        Ok(matches) => Ok(planned(alloc, &matches)?),
+        Err(error) => Err(fault_of_kind(error.kind())),
+    }
+}
+
+/// The parser's own text for words that it refuses, help and version included, and else none.
+pub fn usage_text(alloc: Global, words: &[String]) -> Result<String, AllocError>
+    ensures { is_ok (plan (map string_bytes words.now)) ≡ true → IfOk result (λ text. string_bytes text ≡ []) }
+{
+    match parsed(alloc, words)? {
+        Ok(_) => Ok(String::new(alloc)),
+        Err(error) => match error.kind() {
+            ErrorKind::OutOfMemory => Err(AllocError),
+            _ => error.to_string(alloc),
+        },
+    }
+}
+
+fn parsed<'a>(
+    alloc: Global,
+    words: &'a [String],
+) -> Result<Result<ArgMatches<'a>, clap::Error>, AllocError>
+    ensures { IfOk result (λ r. Gives plan_in error_refusal r (plan (map string_bytes words.entry.now))) }
+{
+    Ok(command(alloc)?.try_get_matches_from(words))
+}
+
+fn planned(alloc: Global, matches: &ArgMatches<'_>) -> Result<Plan, AllocError>
+    ensures { IfOk result (λ p. p ≡ plan_in matches.now) }
+{
+    Ok(Plan {
+        rcfile: Text::new(alloc, text_of(matches, "rcfile").unwrap_or(""))?,
+        raw: is_set(matches, "raw"),
+        once: is_set(matches, "once"),
+        patterns: texts_of(alloc, matches, "pattern")?,
+    })
+}
+
+fn text_of<'a>(matches: &ArgMatches<'a>, id: &str) -> Option<&'a str>
+    ensures { option_map (λ s. s.now) result ≡ first_of id.now (rows_of (found_of matches.now)) }
+{
+    matches.get_str(id)
+}
+
+fn is_set(matches: &ArgMatches<'_>, id: &str) -> bool
+    ensures { result ≡ flag id.now (rows_of (found_of matches.now)) }
+{
+    match text_of(matches, id) {
+        Some(text) => text == "true",
+        None => false,
+    }
+}
+
+fn texts_of(alloc: Global, matches: &ArgMatches<'_>, id: &str) -> Result<Texts, AllocError>
+    ensures { IfOk result (λ texts. texts ≡ unwrap_or (all_of id.now (rows_of (found_of matches.now))) []) }
+{
+    match matches.get_strs(id) {
+        Some(texts) => Texts::of(alloc, texts),
+        None => Ok(Texts::new(alloc)),
+    }
+}
+
+fn fault_of_kind(kind: ErrorKind) -> UsageFault
+    ensures { result ≡ fault_of_kind kind }
+{
+    match kind {
+        ErrorKind::DisplayHelp => UsageFault::Help,
+        ErrorKind::DisplayVersion => UsageFault::Version,
+        ErrorKind::OutOfMemory => UsageFault::OutOfMemory,
+        _ => UsageFault::Parse,
+    }
+}
+
+fn command<'a>(alloc: Global) -> Result<Command<'a>, AllocError>
+    ensures { IfOk result (λ c. app_of c ≡ command) }
+{
+    let bare = bare_command(alloc);
+    let rcfile = with(bare, rcfile_option(alloc))?;
+    let raw = with(
+        rcfile,
+        short_flag(alloc, "raw", 'r', "Print offsets, lengths and archives"),
+    )?;
+    let once = with(
+        raw,
+        long_flag(alloc, "once", "Index in memory, then search"),
+    )?;
+    with(once, pattern_argument(alloc))
+}
+
+fn with<'a>(command: Command<'a>, arg: Arg<'a>) -> Result<Command<'a>, AllocError>
+    requires { arg.global ≡ false }
+    ensures { IfOk result (λ c. app_of c ≡ with_rule (app_of command.entry) (rule_of arg.entry)) }
+{
+    command.arg(arg)
+}
+
+fn bare_command<'a>(alloc: Global) -> Command<'a>
+    ensures { app_of result ≡ bare_command }
+{
+    Command::new(alloc, "mairix")
+        .version("0.1.0")
+        .about("Index and search mbox archives")
+        .no_binary_name(true)
+}
+
+fn rcfile_option<'a>(alloc: Global) -> Arg<'a>
+    ensures rule { rule_of result ≡ rcfile_option }
+    ensures local { result.global ≡ false }
+{
+    Arg::new(alloc, "rcfile")
+        .short('f')
+        .value_name("RCFILE")
+        .required(true)
+        .action(ArgAction::Set)
+        .help("The file that names the archives and the index")
+}
+
+fn pattern_argument<'a>(alloc: Global) -> Arg<'a>
+    ensures rule { rule_of result ≡ pattern_argument }
+    ensures local { result.global ≡ false }
+{
+    Arg::new(alloc, "pattern")
+        .value_name("PATTERN")
+        .action(ArgAction::Append)
+        .help("What to search for")
+}
+
+fn short_flag<'a>(alloc: Global, id: &'a str, letter: char, help: &'a str) -> Arg<'a>
+    ensures rule { rule_of result ≡ short_flag id.entry.now letter }
+    ensures local { result.global ≡ false }
+{
+    Arg::new(alloc, id)
+        .short(letter)
+        .action(ArgAction::SetTrue)
+        .help(help)
+}
+
+fn long_flag<'a>(alloc: Global, id: &'a str, help: &'a str) -> Arg<'a>
+    ensures rule { rule_of result ≡ long_flag id.entry.now }
+    ensures local { result.global ≡ false }
+{
+    Arg::new(alloc, id)
+        .long(id)
+        .action(ArgAction::SetTrue)
+        .help(help)
+}

@@ -1,6 +1,0 @@
-use Rattle.std.proofs.Common.{◌≡◌, map, take}
-use Rattle.mairix_tool.proofs.owned_text.Texts.of.Given as goal
-
--- the copies so far are of the texts so far
-abbrev pub invariant-loop-text : goal.invariant-loop-text
-invariant-loop-text l = l.copies ≡ map (λ text. text.now) (take l.text-index l.texts)

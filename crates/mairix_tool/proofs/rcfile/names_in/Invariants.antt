@@ -1,6 +1,0 @@
-use Rattle.std.proofs.Common.{◌≡◌, map, filter, length, nat_lt}
-use Rattle.mairix_tool.proofs.rcfile.names_in.Given as goal
-
--- the names so far are the pieces so far, without the empty ones
-abbrev pub invariant-loop-name : goal.invariant-loop-name
-invariant-loop-name l = l.names ≡ filter (λ text. nat_lt 0 (length text)) (map (λ piece. piece.now) l.yielded)
