@@ -1,0 +1,160 @@
+#!/usr/bin/env python3
+"""Tries tools/must_fail.py itself, on a small crate of its own: it has to tell the edits that the prover refuses from those that are
+harmless, don't compile, aren't there, or only take away a name that a proof has. The last line is `N passed, M failed`."""
+import re
+import subprocess
+import sys
+import tempfile
+from pathlib import Path
+
+TOOL = Path(__file__).resolve().parent / "must_fail.py"
+
+SOURCE = """\
+//! Numbers.
+#![tactic(auto)]
+
+ghost use Rattle.std.specs.Prelude.{◌≡◌, ◌≤◌, ◌<◌, ◌+◌, ◌⊎◌, nat_lt};
+
+/// The largest number.
+pub const MOST: u32 = 100;
+
+/// The larger of two numbers.
+pub fn larger(a: u32, b: u32) -> u32
+    ensures first { a ≤ result }
+    ensures second { b ≤ result }
+    ensures either { (result ≡ a) ⊎ (result ≡ b) }
+{
+    if b < a { a } else { b }
+}
+
+/// The smaller of two numbers.
+pub fn smaller(a: u32, b: u32) -> u32
+    ensures first { result ≤ a }
+    ensures second { result ≤ b }
+    ensures either { (result ≡ a) ⊎ (result ≡ b) }
+{
+    if a < b { a } else { b }
+}
+
+/// The largest of three numbers.
+pub fn largest(a: u32, b: u32, c: u32) -> u32
+    ensures first { a ≤ result }
+    ensures second { b ≤ result }
+    ensures third { c ≤ result }
+{
+    larger(larger(a, b), c)
+}
+
+/// Whether there is something.
+pub fn is_some(n: u32) -> bool
+    ensures { result ≡ nat_lt 0 n }
+{
+    n > 0
+}
+
+/// The number, and none above the largest.
+pub fn at_most(n: u32) -> u32
+    ensures { result ≤ 100 }
+{
+    smaller(n, MOST)
+}
+
+/// A count.
+pub struct Counter {
+    count: u32,
+}
+
+impl Counter {
+    /// A counter at 0.
+    pub fn new() -> Self
+        ensures { result.count ≡ 0 }
+    {
+        Counter { count: 0 }
+    }
+
+    /// One more.
+    pub fn step(&mut self)
+        requires { self.old.count < 100 }
+        ensures { self.new.count ≡ self.old.count + 1 }
+    {
+        self.count += 1;
+    }
+}
+
+/// The sum of a number with itself, in so many steps.
+pub fn doubled(n: u32) -> u32
+    requires { n < 100 }
+    ensures { result ≡ n + n }
+{
+    let mut sum = n;
+    for i in 0..n {
+        sum += 1;
+    }
+    let whole = sum;
+    whole
+}
+"""
+
+INVARIANTS = """\
+use Rattle.std.proofs.Common.{◌≡◌, ◌+◌}
+use Rattle.counters.proofs.doubled.Given as goal
+
+abbrev pub invariant-loop-i : goal.invariant-loop-i
+invariant-loop-i l = l.sum ≡ l.fn.n + l.i
+"""
+
+TOGETHER, ALONE = "refused: ", "refused (alone): "
+HARMLESS = "NOT refused: the crate is still proved"
+
+# Each edit: its pairs of an old text and a new one, and how its line begins. Of two that change one function the second is in the second
+# round, and that one doesn't compile.
+EDITS = {
+    "a_counter_begins_at_one": ([("Counter { count: 0 }", "Counter { count: 1 }")], TOGETHER),
+    "a_lost_name": ([("let mut sum = n;", "let mut total = n;"), ("sum += 1;", "total += 1;"), ("= sum;", "= total;")], "NOT refused but by names"),
+    "a_lost_text": ([("n > 1", "n > 2")], "NOT refused: BAD EDIT: an 'old:' text is in src/lib.rt 0 times"),
+    "a_step_is_two": ([("self.count += 1;", "self.count += 2;")], TOGETHER),
+    "at_least_one": ([("n > 0", "n >= 1")], HARMLESS),
+    "larger_gives_the_first": ([("if b < a { a } else { b }", "if b < a { a } else { a }")], TOGETHER),
+    "larger_gives_the_smaller": ([("if b < a { a } else { b }", "if b < a { b } else { a }")], ALONE),
+    "largest_from_behind": ([("larger(larger(a, b), c)", "larger(a, larger(b, c))")], HARMLESS),
+    "more_than_the_most": ([("MOST: u32 = 100", "MOST: u32 = 101")], ALONE),
+    "smaller_of_equal_ones": ([("if a < b { a } else { b }", "if a <= b { a } else { b }")], HARMLESS),
+    "unknown_name": ([("if a < b { a } else { b }", "if a < c { a } else { b }")], "NOT refused: it didn't reach the prover"),
+}
+
+
+def write_repository(root):
+    """A repository of the one crate, with its edits."""
+    crate = root / "crates/counters"
+    for folder in ("src", "specs", "proofs/doubled", "must-fail"):
+        (crate / folder).mkdir(parents=True)
+    (root / "crates.txt").write_text("counters:\n")
+    (crate / "src/lib.rt").write_text(SOURCE, "utf-8")
+    (crate / "specs/Lib.antt").write_text("")
+    (crate / "proofs/doubled/Invariants.antt").write_text(INVARIANTS, "utf-8")
+    for name, (pairs, _) in EDITS.items():
+        lines = ["file: src/lib.rt", *[line for old, new in pairs for line in (f"old: {old}", f"new: {new}")]]
+        (crate / f"must-fail/{name}.edit").write_text("\n".join(lines) + "\n", "utf-8")
+
+
+def main():
+    with tempfile.TemporaryDirectory(prefix="check-must-fail-") as folder:
+        write_repository(Path(folder))
+        ran = subprocess.run([sys.executable, TOOL, "--jobs", "1"], cwd=folder, capture_output=True, text=True, errors="replace")
+    said = dict(re.findall(r"^must-fail counters/(\w+)\.edit: (.*)", ran.stdout, re.M))
+    passed = failed = 0
+    for name, (_, wanted) in EDITS.items():
+        is_well = said.get(name, "").startswith(wanted)
+        passed, failed = passed + is_well, failed + (not is_well)
+        print(f"the tool on {name}: {'well' if is_well else 'WRONG'}: {said.get(name, 'no line')}")
+    refused = sum(wanted in (TOGETHER, ALONE) for _, wanted in EDITS.values())
+    counts = f"{refused} passed, {len(EDITS) - refused} failed"
+    is_well = ran.returncode == 1 and ran.stdout.rstrip("\n").endswith(counts)
+    passed, failed = passed + is_well, failed + (not is_well)
+    print(f"the tool's last line: {'well' if is_well else 'WRONG'}: {ran.stdout.rstrip().rpartition(chr(10))[2]}{ran.stderr[-600:]}")
+    print(f"{passed} passed, {failed} failed")
+    return 1 if failed else 0
+
+
+if __name__ == "__main__":
+    sys.exit(main())

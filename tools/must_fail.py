@@ -1,0 +1,368 @@
+#!/usr/bin/env python3
+"""Tries the edits that the prover must refuse, many of a crate in one check.
+
+    tools/must_fail.py [--jobs N] [--proved FOLDER] [CRATE ..]
+
+An edit, crates/CRATE/must-fail/NAME.edit, turns the meaning of a function, and its crate must then not be proved. A function is
+proved against the contracts of those that it calls, never their bodies, so edits of the bodies of different functions are made
+together, in a copy, at most 25 of them, and one check tries them all: each edited function must be refused for a reason of its own.
+That it calls another that isn't proved is none, nor is a proof that only lacks a name that the edit took away. An edit of which
+a round doesn't tell such a reason is tried alone, and so is one that changes more than the bodies of functions. Alone it
+fails where the crate is still proved, where its functions get no reason of their own, and where it doesn't reach the prover.
+
+Without --proved, each crate is checked first as it stands, and the copies go on from what that check kept. With it, FOLDER is a copy of
+the repository whose crates `rt ci` has just proved and left built: its texts are edited, and the first round proves the others anew.
+
+Each edit has a line, each crate one with its seconds. The last line is `N passed, M failed`.
+"""
+import argparse
+import os
+import re
+import shutil
+import signal
+import subprocess
+import sys
+import tempfile
+import time
+from concurrent.futures import ThreadPoolExecutor
+from dataclasses import dataclass, field
+from pathlib import Path
+
+sys.dont_write_bytecode = True
+from function_bodies import bodies_of_file
+
+RT = os.environ.get("RT", "rt")
+MOST_IN_A_ROUND = 25
+# What a check takes at most, in kB.
+MEMORY_OF_A_CHECK = 3_000_000
+PARTS = ("src", "specs", "proofs")
+ERROR = re.compile(r"(?:\./)?(\S+?):\d+:\d+: error\b")
+# What is said of a proof that names what an edit took away, and of what rests on such a proof.
+LOST_NAME = re.compile(r"has no field|is not in scope|has no `|was not admitted")
+
+
+class Commands:
+    """The commands that run, so that none outlives this program."""
+
+    running = set()
+    stopped = False
+
+    @classmethod
+    def run(cls, words, folder):
+        """Runs a command in a folder, and returns its status and its lines."""
+        if cls.stopped:
+            raise SystemExit(143)
+        how = {"stdin": subprocess.DEVNULL, "stdout": subprocess.PIPE, "stderr": subprocess.STDOUT, "errors": "replace"}
+        with subprocess.Popen(words, cwd=folder, **how) as command:
+            cls.running.add(command)
+            try:
+                said = command.communicate()[0]
+            finally:
+                cls.running.discard(command)
+        return command.returncode, said.rstrip("\n").split("\n")
+
+    @classmethod
+    def stop(cls, *_):
+        """Ends all of them, and then this program, which clears its folders on its way out."""
+        cls.stopped = True
+        for command in list(cls.running):
+            command.kill()
+        raise SystemExit(143)
+
+
+@dataclass(frozen=True)
+class Change:
+    """A new text for a part of a crate's file."""
+
+    path: str
+    start: int
+    end: int
+    new: str
+
+
+@dataclass(eq=False)
+class Edit:
+    """An edit: its changes, the texts that it makes by their files, and the functions whose bodies it changes, none where it changes more than
+    bodies; or what is wrong with it."""
+
+    name: str
+    changes: list = field(default_factory=list)
+    texts: dict = field(default_factory=dict)
+    functions: set = field(default_factory=set)
+    wrong: str = ""
+
+
+def pairs_of(text):
+    """Yields the file, the old text and the new one of each pair of an edit, None for those that it doesn't give."""
+    path = old = None
+    for line in text.split("\n"):
+        if line.startswith("file: "):
+            path = line[len("file: ") :].strip()
+        elif line.startswith("old: "):
+            old = line[len("old: ") :]
+        elif line.startswith("new:"):
+            yield path, old, line[len("new:") :].removeprefix(" ")
+            old = None
+
+
+def read_edit(file, crate):
+    """Reads an edit of this crate."""
+    edit = Edit(f"{crate.name}/{file.name}")
+    spread = False
+    for path, old, new in pairs_of(file.read_text("utf-8")):
+        if not path or not old or os.path.normpath(path) != path or not path.startswith(("src/", "specs/", "proofs/")):
+            edit.wrong = "a 'new:' line stands behind no 'old:' line, or the 'file:' line names no file of the crate"
+            return edit
+        own = crate.text(path)
+        found = edit.texts.get(path, own).count(old)
+        if found != 1:
+            edit.wrong = f"an 'old:' text is in {path} {found} times, and not once"
+            return edit
+        edit.texts[path] = edit.texts.get(path, own).replace(old, new)
+        # Text that the edit itself put there has no place in the crate's own.
+        start = own.find(old) if own.count(old) == 1 else -1
+        end = start + len(old)
+        inside = [name for begins, ends, name in crate.bodies(path) if begins < start and end < ends]
+        edit.changes.append(Change(path, start, end, new))
+        edit.functions.update(inside[-1:])
+        spread = spread or not inside
+    if spread:
+        edit.functions.clear()
+    if not edit.changes:
+        edit.wrong = "it has no 'old:' and 'new:' pair"
+    return edit
+
+
+@dataclass
+class Crate:
+    """A crate whose text is edited: its name, its folder, and the command of a check in a copy of it, but for the folder of kept work."""
+
+    name: str
+    folder: Path
+    command: list
+
+    def text(self, path):
+        file = self.folder / path
+        return file.read_text("utf-8") if file.is_file() else ""
+
+    def bodies(self, path):
+        return bodies_of_file(self.name, path, self.text(path))
+
+    def size(self):
+        return sum(it.stat().st_size for part in PARTS for it in (self.folder / part).rglob("*") if it.is_file())
+
+
+class Toolchain:
+    """The prover, and the libraries that each crate of a repository stands on."""
+
+    def __init__(self, root):
+        self.root = Path(root)
+        self.kit = Path(subprocess.run([RT, "doc"], capture_output=True, text=True, check=True).stdout.strip()).parent
+        self.below = {}
+        for line in (self.root / "crates.txt").read_text("utf-8").splitlines():
+            name, colon, libraries = line.partition("#")[0].partition(":")
+            if colon:
+                self.below[name.split()[0]] = libraries.split()
+
+    def all_below(self, name):
+        """The repository's own libraries below a crate."""
+        found = []
+        for library in self.below[name]:
+            if library in self.below:
+                found += [it for it in [*self.all_below(library), library] if it not in found]
+        return found
+
+    def crate(self, name):
+        """A crate with the command of its check, one job, over built libraries."""
+        folder = self.root / "crates" / name
+        top = "src/main.rt" if (folder / "src/main.rt").is_file() else "src/lib.rt"
+        command = [self.kit / "bin/rattle", "check", "--crate-name", name, top, "--jobs", "1", "--links", f"{name}="]
+        command += ["--antt-project", self.kit / "rattle/logic/antt-project.json", "--logic-built", self.kit / "logic_built"]
+        for library in ["std", *self.below[name]]:
+            of_kit = self.kit / "rlibs" / f"{library}.rlib"
+            own = self.root / "crates" / library / "out/rlib" / f"{library}.rlib"
+            command += ["--extern", f"{library}={own if library in self.below else of_kit}"]
+        folders = [self.kit / "rlibs", *[self.root / "crates" / it / "out/rlib" for it in self.all_below(name)]]
+        command += [word for it in folders for word in ("-L", f"dependency={it}")]
+        return Crate(name, folder, [str(word) for word in command])
+
+
+class Verdict:
+    """What a check said: of each function that it names the reason of its own for which it is refused, or an empty text."""
+
+    def __init__(self, status, lines):
+        self.is_proved = status == 0
+        self.reasons = {}
+        self.by_names = {}
+        errors = [(found[1], line) for line in lines for found in [ERROR.match(line)] if found]
+        unread = [line for path, line in errors if path.startswith(("src/", "specs/")) and LOST_NAME.search(line)]
+        refused = status == 1 and any(line.startswith("logic=not-proved") for line in lines)
+        self.trouble = "" if self.is_proved or refused and not unread else next((line for _, line in errors), lines[-1])
+        for line in lines:
+            told = re.match(r"fn (\S+): (proved|no proof|not proved|could not tell)(?:: )?(.*)", line)
+            if told:
+                self.take(told[1], told[2], told[3], errors)
+
+    def take(self, function, verdict, why, errors):
+        """Takes what is said of a function."""
+        self.reasons[function] = ""
+        if verdict == "no proof" and not why.startswith("it calls "):
+            self.reasons[function] = why
+        if verdict == "not proved" and not why.startswith("it calls "):
+            own = "proofs/" + function.partition("::")[2].replace("::", "/") + "/"
+            said = [line for path, line in errors if path.startswith(own)]
+            self.reasons[function] = next((line for line in said if not LOST_NAME.search(line)), "")
+            if said and not self.reasons[function]:
+                self.by_names[function] = said[0]
+
+    def of(self, edit, reasons):
+        """The first of these reasons that is one of the edit's functions; of any where it has none that the check names."""
+        functions = edit.functions & self.reasons.keys()
+        return next((why for name, why in reasons.items() if why and (not functions or is_within(name, functions))), "")
+
+    def refuses_others(self, edits):
+        """Whether a function that none of the edits changes is refused for a reason of its own."""
+        functions = {it for edit in edits for it in edit.functions}
+        return any(why and not is_within(name, functions) for name, why in self.reasons.items())
+
+
+def is_within(name, functions):
+    """Whether a function is one of these, or a closure in one."""
+    return name in functions or any(name.startswith("{0}::fn::{2}::".format(*it.rpartition("::"))) for it in functions)
+
+
+class Room:
+    """A copy of a crate, in which edits are tried over what the checks before kept."""
+
+    def __init__(self, crate, folder, kept):
+        self.crate, self.folder, self.kept = crate, Path(folder), Path(folder) / "kept"
+        self.checks = 0
+        for part in PARTS:
+            if (crate.folder / part).is_dir():
+                shutil.copytree(crate.folder / part, self.folder / part)
+        if kept.is_dir():
+            shutil.copytree(kept, self.kept)
+        self.kept.mkdir(exist_ok=True)
+
+    def texts(self, edits):
+        """The texts of the files that the edits change together."""
+        if len(edits) == 1:
+            return edits[0].texts
+        texts = {}
+        for change in sorted((it for edit in edits for it in edit.changes), key=lambda it: -it.start):
+            text = texts.get(change.path, self.crate.text(change.path))
+            texts[change.path] = text[: change.start] + change.new + text[change.end :]
+        return texts
+
+    def check(self, edits):
+        """What a check says of the crate with these edits."""
+        texts = self.texts(edits)
+        for path, text in texts.items():
+            (self.folder / path).write_text(text, "utf-8")
+        verdict = Verdict(*Commands.run([*self.crate.command, "--incremental", str(self.kept)], self.folder))
+        for path in texts:
+            (self.folder / path).write_text(self.crate.text(path), "utf-8")
+        self.checks += 1
+        return verdict
+
+
+def rounds_of(edits):
+    """Parts edits into rounds, in none of which two change one function."""
+    rounds = []
+    for edit in edits:
+        fits = (it for it in rounds if len(it) < MOST_IN_A_ROUND and not any(edit.functions & other.functions for other in it))
+        together = next(fits, None)
+        if together is None:
+            rounds.append([edit])
+        else:
+            together.append(edit)
+    return rounds
+
+
+def try_together(room, edits):
+    """The edits of a round that are refused, each with the reason."""
+    verdict = room.check(edits)
+    if verdict.is_proved or verdict.trouble or verdict.refuses_others(edits):
+        return {}
+    reasons = {edit: verdict.of(edit, verdict.reasons) for edit in edits if edit.functions & verdict.reasons.keys()}
+    return {edit: f"refused: {why}" for edit, why in reasons.items() if why}
+
+
+def try_alone(room, edit):
+    """Whether an edit is refused, and what to say of it."""
+    verdict = room.check([edit])
+    why = verdict.of(edit, verdict.reasons)
+    if verdict.is_proved:
+        return False, "NOT refused: the crate is still proved with it"
+    if verdict.trouble:
+        return False, f"NOT refused: it didn't reach the prover: {verdict.trouble}"
+    if why:
+        return True, f"refused (alone): {why}"
+    by_names = verdict.of(edit, verdict.by_names)
+    if by_names:
+        return False, f"NOT refused but by names that it took away, which says nothing of the contract: {by_names}"
+    return False, "NOT refused: its functions got no reason of their own"
+
+
+def try_edits(room, edits):
+    """Whether each edit is refused, and what to say of it."""
+    said = {edit: (False, f"NOT refused: BAD EDIT: {edit.wrong}") for edit in edits if edit.wrong}
+    for together in rounds_of([it for it in edits if it.functions and not it.wrong]):
+        if len(together) > 1:
+            said.update({edit: (True, why) for edit, why in try_together(room, together).items()})
+    for edit in edits:
+        if edit not in said:
+            said[edit] = try_alone(room, edit)
+    return [(said[edit][0], f"must-fail {edit.name}: {said[edit][1][:300]}") for edit in edits]
+
+
+def try_crate(crate, files, is_proved):
+    """Whether each edit of a crate is refused, and the lines to print."""
+    started = time.monotonic()
+    if not is_proved:
+        status, lines = Commands.run([RT, "check", "--jobs", "1"], crate.folder)
+        if status:
+            why = next((line for line in lines if "error" in line), lines[-1])[:200]
+            return [(False, f"must-fail {crate.name}/{it.name}: NOT tried: the crate isn't proved without it: {why}") for it in files], ""
+    edits = [read_edit(it, crate) for it in files]
+    with tempfile.TemporaryDirectory(prefix="must-fail-") as folder:
+        room = Room(crate, folder, crate.folder / "out/incremental")
+        tried = try_edits(room, edits)
+    return tried, f"must-fail {crate.name}: {len(files)} edits, {room.checks} checks, {time.monotonic() - started:.0f} s"
+
+
+def free_places():
+    """How many checks may run side by side: one a processor, as far as memory goes."""
+    free = re.search(r"MemAvailable:\s+(\d+)", Path("/proc/meminfo").read_text())
+    most = int(free[1]) // MEMORY_OF_A_CHECK if free else 1
+    return max(1, min(len(os.sched_getaffinity(0)), most))
+
+
+def main():
+    signal.signal(signal.SIGTERM, Commands.stop)
+    signal.signal(signal.SIGINT, Commands.stop)
+    asked = argparse.ArgumentParser(description="Tries the edits that the prover must refuse, many of a crate in one check.")
+    asked.add_argument("--jobs", type=int, help="how many crates at a time")
+    asked.add_argument("--proved", metavar="FOLDER", help="a copy of the repository that rt ci has just proved")
+    asked.add_argument("crates", nargs="*", metavar="CRATE")
+    words = asked.parse_args()
+    edits = {}
+    for file in sorted(Path("crates").glob("*/must-fail/*.edit")):
+        edits.setdefault(file.parts[1], []).append(file)
+    toolchain = Toolchain(Path(words.proved or ".").resolve())
+    crates = [toolchain.crate(name) for name in words.crates or edits]
+    passed = failed = 0
+    with ThreadPoolExecutor(words.jobs or free_places()) as pool:
+        largest_first = sorted(crates, key=lambda crate: -crate.size())
+        running = [pool.submit(try_crate, it, edits.get(it.name, []), bool(words.proved)) for it in largest_first]
+        for tried, summary in (it.result() for it in running):
+            for is_refused, text in tried:
+                print(text)
+                passed, failed = passed + is_refused, failed + (not is_refused)
+            print(summary, flush=True)
+    print(f"{passed} passed, {failed} failed")
+    return 1 if failed or not passed else 0
+
+
+if __name__ == "__main__":
+    sys.exit(main())
