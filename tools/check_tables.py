@@ -7,7 +7,7 @@ The last line is `N passed, M failed`.
 import os, subprocess, sys
 
 TOOLS = os.path.dirname(os.path.abspath(__file__))
-DATES = os.path.join(TOOLS, "..", "crates", "mail_dates", "src", "tests", "header_dates.rt")
+DATES = os.path.join(TOOLS, "..", "crates", "worked_messages", "src", "header_dates.rt")
 
 
 def same_charsets():

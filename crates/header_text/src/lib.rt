@@ -29,6 +29,3 @@ pub use law::{encoded_words_are_leftmost, encoded_words_are_the_only_leftmost};
 pub use message_id::message_ids;
 pub use text::{decode, decode_into};
 pub use unfolding::{unfold, unfold_into};
-
-#[cfg(test)]
-mod tests;

@@ -43,10 +43,6 @@ pub use laws::{
     chosen_numbers_are_those_of_messages, closed_messages_are_cut_again, one_list_of_threads,
 };
 
-#[cfg(test)]
-mod answer_tests;
-#[cfg(test)]
-mod cursor_tests;
 mod excerpt;
 mod fit;
 mod forest;
@@ -59,8 +55,4 @@ mod raw_line;
 mod records;
 mod sheet;
 mod stale;
-#[cfg(test)]
-mod tests;
 mod texts;
-#[cfg(test)]
-mod thread_tests;

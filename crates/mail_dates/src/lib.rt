@@ -27,6 +27,3 @@ pub use laws::latest_year_is_latest;
 pub use moment::Moment;
 pub use range::Range;
 pub use range_of_days::range_of;
-
-#[cfg(test)]
-mod tests;

@@ -62,8 +62,6 @@ mod pairs;
 
 pub use pairs::pairs_law;
 
-#[cfg(test)]
-mod build_tests;
 mod compared_keys;
 mod directory;
 mod directory_walk;

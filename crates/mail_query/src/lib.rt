@@ -42,5 +42,3 @@ pub use laws::{
 mod flags;
 mod pieces;
 mod size;
-#[cfg(test)]
-mod tests;

@@ -29,5 +29,3 @@ pub use laws::words_are_in_order;
 mod ascii;
 mod character;
 mod runs;
-#[cfg(test)]
-mod tests;

@@ -11,6 +11,5 @@ mod RowsEvents
 mod RowsLines
 mod RowsSeparators
 pub mod Steps
-mod Tallies
 pub mod Tokens
 pub mod Windows

@@ -20,6 +20,3 @@ pub use line::{is_empty_line, line_end, lines_law};
 pub use memory::{MemoryOut, MemorySource};
 pub use separator::{is_separator, without_break};
 pub use std_io::{FromRead, ToWrite};
-
-#[cfg(test)]
-mod tests;

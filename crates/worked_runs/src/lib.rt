@@ -10,14 +10,6 @@ mod fault_texts;
 #[cfg(test)]
 mod fixture;
 #[cfg(test)]
-mod index_decoder;
-#[cfg(test)]
-mod index_files;
-#[cfg(test)]
-mod index_jobs;
-#[cfg(test)]
-mod message_texts;
-#[cfg(test)]
 mod patterns;
 #[cfg(test)]
 mod rows;
