@@ -1,0 +1,153 @@
+//! A file that takes its name once it is whole.
+
+use std::fs::{File, OpenOptions, Permissions};
+use std::io::ErrorKind;
+use std::os::unix::fs::{MetadataExt, OpenOptionsExt, PermissionsExt};
+use std::rt::Files;
+use std::{fs, io};
+
+/// The mode of a file that tells of mail: its owner alone reads and writes it.
+const PRIVATE: u32 = 0o600;
+
+/// The bits of a mode that say who may read, write and run a file.
+const PERMISSION_BITS: u32 = 0o777;
+
+/// A file that is written under a name for the time being, and then takes the name that it is for. It is let go only by
+/// `take_name` or `discard`.
+///
+/// It is locked while it is open, and a lock ends with its process, however that ends. So of two runs that want one file the
+/// second is refused, and what a killed run left is nobody's. Only who has the lock of the file that a passing name leads to
+/// renames or removes it: a lock is believed once the name is seen to lead to the file that was locked, since the file may have
+/// lost its name before.
+pub struct NewFile<'p, R: Files<File = File>> {
+    rt: &'p R,
+    passing: &'p str,
+    name: &'p str,
+    file: File,
+}
+
+impl<'p, R: Files<File = File>> NewFile<'p, R> {
+    /// A new and empty file under a passing name, which only its owner may read. A link or a file of a run that was killed, where
+    /// one lies there, is removed first, so that nothing is written through a link.
+    ///
+    /// # Errors
+    ///
+    /// Where another run has made its own file there and is still at work, that file is untouched. So is a folder. Else what the
+    /// system refused.
+    pub fn create(rt: &'p R, passing: &'p str, name: &'p str) -> io::Result<NewFile<'p, R>> {
+        remove_leftover(rt, passing)?;
+        let file = OpenOptions::new()
+            .write(true)
+            .create_new(true)
+            .mode(PRIVATE)
+            .open(rt, passing)?;
+        lock(rt, &file, passing)?;
+        Ok(NewFile {
+            rt,
+            passing,
+            name,
+            file,
+        })
+    }
+
+    /// The file, to be written from its front.
+    pub fn file(&self) -> &File {
+        &self.file
+    }
+
+    /// Gives the file its name, and the mode of the file that has had this name; without one it stays private. All of it is on the
+    /// disk before.
+    ///
+    /// # Errors
+    ///
+    /// What the system refused, or the passing name leads to another file. The old file is as it was, and this one is removed.
+    pub fn take_name(self) -> io::Result<()> {
+        match self.rename() {
+            Ok(()) => {
+                self.close();
+                Ok(())
+            }
+            Err(error) => {
+                self.discard();
+                Err(error)
+            }
+        }
+    }
+
+    /// Removes the file. Where the passing name leads to another one, that is left.
+    pub fn discard(self) {
+        if let Ok(true) = is_named(self.rt, self.passing, &self.file) {
+            let _ = fs::remove_file(self.rt, self.passing);
+        }
+        self.close();
+    }
+
+    fn rename(&self) -> io::Result<()> {
+        let mode = mode_of(self.rt, self.name);
+        self.file.set_permissions(Permissions::from_mode(mode))?;
+        self.file.sync_all()?;
+        if !is_named(self.rt, self.passing, &self.file)? {
+            return Err(ErrorKind::NotFound.into());
+        }
+        fs::rename(self.rt, self.passing, self.name)
+    }
+
+    fn close(self) {
+        let NewFile {
+            rt: _,
+            passing: _,
+            name: _,
+            file: _,
+        } = self;
+    }
+}
+
+/// Removes what lies under a passing name, unless it is the file of a run at work, or a folder.
+fn remove_leftover<R: Files<File = File>>(rt: &R, passing: &str) -> io::Result<()> {
+    let found = match fs::symlink_metadata(rt, passing) {
+        Ok(found) => found,
+        Err(error) if error.kind() == ErrorKind::NotFound => return Ok(()),
+        Err(error) => return Err(error),
+    };
+    if !found.is_file() {
+        // No run made this.
+        return fs::remove_file(rt, passing);
+    }
+    // Its lock is held until its name is gone.
+    let left = open_leftover(rt, passing)?;
+    lock(rt, &left, passing)?;
+    fs::remove_file(rt, passing)
+}
+
+/// Opens a file to lock it: for writing, which some file systems ask of a lock, where its mode allows that.
+fn open_leftover<R: Files<File = File>>(rt: &R, passing: &str) -> io::Result<File> {
+    match OpenOptions::new().write(true).open(rt, passing) {
+        Err(error) if error.kind() == ErrorKind::PermissionDenied => fs::open(rt, passing),
+        opened => opened,
+    }
+}
+
+/// Locks a file that a name leads to, unless another run has its lock, or has renamed or removed it since it was opened.
+fn lock<R: Files>(rt: &R, file: &File, name: &str) -> io::Result<()> {
+    file.try_lock()?;
+    if is_named(rt, name, file)? {
+        Ok(())
+    } else {
+        Err(ErrorKind::WouldBlock.into())
+    }
+}
+
+/// Whether a name leads to this very file, and not by a link.
+fn is_named<R: Files>(rt: &R, name: &str, file: &File) -> io::Result<bool> {
+    let named = fs::symlink_metadata(rt, name)?;
+    let open = file.metadata()?;
+    Ok(named.dev() == open.dev() && named.ino() == open.ino())
+}
+
+/// The mode of a file that takes a name: that of the file that has it.
+fn mode_of<R: Files>(rt: &R, name: &str) -> u32 {
+    match fs::symlink_metadata(rt, name) {
+        Ok(old) if old.is_file() => old.mode() & PERMISSION_BITS,
+        _ => PRIVATE,
+    }
+}
