@@ -5,28 +5,16 @@
 
 The last line is `N passed, M failed`.
 """
-import hashlib, os, struct, subprocess, sys, tempfile, time
+import hashlib, os, stat, subprocess, sys, tempfile, time
 
-SEPARATOR = b"From a@x.org Thu Jan  2 10:00:00 2003\n"
-HELLO = SEPARATOR + b"Subject: Hello\n\nhi\n\n"
+import overlapping_runs
+from overlapping_runs import HELLO, SEPARATOR, hello_index
+
 RC = b"mbox=m.mbox\ndatabase=m.idx\nmfolder=hits\n"
 RUN = ["-f", "rc", "--once", "-r"]
 INDEX = ["-f", "rc"]
 
-# The index file of HELLO as m.mbox, laid out by hand: counts, the archive, its message, the keys `hello` of subjects and `hi`
-# of texts, and the digest of all that.
-HELLO_INDEX = (
-    b"MAIRIX\r\n"
-    + struct.pack(">IIIIQQQ", 1, 1, 1, 2, 18, 7, 2)
-    + struct.pack(">QI", 58, 6)
-    + b"m.mbox"
-    + struct.pack(">IIQQQq", 0, 0, 0, 58, 19, 0)
-    + struct.pack(">IIQQ", 5 << 24, 5, 0, 0)
-    + struct.pack(">IIQQ", 6 << 24, 2, 5, 1)
-    + b"hellohi"
-    + b"\1\1"
-)
-HELLO_INDEX += hashlib.sha256(HELLO_INDEX).digest()
+HELLO_INDEX = hello_index("m.mbox")
 
 
 def fault(text):
@@ -133,6 +121,11 @@ def same(want, got):
     return bool(got) if want is ... else want == got
 
 
+def mode(path):
+    """Who may do what with a file, and not with what a link leads to."""
+    return stat.S_IMODE(os.lstat(path).st_mode)
+
+
 def run(program, words, folder, **to):
     return subprocess.run([program] + words, cwd=folder, stdin=subprocess.DEVNULL, timeout=60, **to)
 
@@ -222,12 +215,32 @@ def killed_run(program):
         left = sorted(os.listdir(folder))
         with open(index, "rb") as f:
             bad = [] if left == ["m.idx", "m.idx.new", "m.mbox", "rc"] and f.read() == b"old" else ["it left %s" % left]
+        if mode(new) != 0o600:
+            bad.append("its own file has mode %o" % mode(new))
         os.remove(archive)
         write(folder, {"m.mbox": HELLO})
         p = run(program, INDEX, folder, capture_output=True)
         if p.returncode != 0 or contents(folder) != {"rc": RC, "m.mbox": HELLO, "m.idx": HELLO_INDEX}:
             bad.append("then status %d, %r" % (p.returncode, p.stderr))
         return bad
+
+
+def private_index(program):
+    """A new index is private whatever the umask; one in place of an old file has that file's mode."""
+    bad = []
+    for umask, old, want in ((0o022, None, 0o600), (0, None, 0o600), (0o777, None, 0o600), (0o077, 0o644, 0o644), (0, 0o600, 0o600), (0o077, 0o640, 0o640), (0, 0o400, 0o400), (0o022, LINK(["other"]), 0o600)):
+        with tempfile.TemporaryDirectory() as folder:
+            index = os.path.join(folder, "m.idx")
+            write(folder, {"rc": RC, "m.mbox": HELLO, "other": b"other"})
+            if isinstance(old, LINK):
+                write(folder, {"m.idx": old})
+            elif old is not None:
+                write(folder, {"m.idx": b"old"})
+                os.chmod(index, old)
+            p = run(program, INDEX, folder, capture_output=True, umask=umask)
+            if p.returncode != 0 or mode(index) != want or contents(folder) != {"rc": RC, "m.mbox": HELLO, "other": b"other", "m.idx": HELLO_INDEX}:
+                bad.append("umask %o: status %d, %r, mode %o, wanted %o" % (umask, p.returncode, p.stderr, mode(index), want))
+    return bad
 
 
 def second_name(program):
@@ -340,8 +353,9 @@ def main(program):
     passed = failed = 0
     checks = [(name, lambda c=c: case(program, *c)) for name, *c in CASES]
     checks += [(name, lambda c=c: index_case(program, *c)) for name, *c in INDEX_CASES]
-    others = (search_options, killed_run, second_name, odd_folder, no_room_for_index, large_index, full_disk, unreadable, many_archives, clock)
+    others = (search_options, killed_run, private_index, second_name, odd_folder, no_room_for_index, large_index, full_disk, unreadable, many_archives, clock)
     checks += [(f.__doc__.split(".")[0], lambda f=f: f(program)) for f in others]
+    checks += [("overlapping runs: " + name, lambda bad=bad: bad) for name, _, bad in overlapping_runs.checks(program)]
     for name, check in checks:
         bad = check()
         passed, failed = passed + (not bad), failed + bool(bad)

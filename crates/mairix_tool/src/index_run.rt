@@ -15,13 +15,12 @@ ghost use Rattle.mairix_tool.specs.IndexRuns.{IsIndexRunFault};
 
 use crate::fault::Fault;
 use crate::index_in_memory::index_archives;
-use mairix_files::{is_same_file, sources_of};
+use mairix_files::{NewFile, is_same_file, sources_of};
 use mairix_options::Rc;
 use mbox_cutter::{Out, Source, ToWrite};
 use std::alloc::{AllocError, Global};
-use std::fs;
 use std::fs::File;
-use std::io::{BufWriter, ErrorKind, Write};
+use std::io::{BufWriter, Write};
 use std::rt::Files;
 
 /// How many bytes of an index are gathered before they are written.
@@ -43,14 +42,14 @@ impl From<AllocError> for NoIndex {
 
 /// Indexes the archives that the rcfile of this path names, and puts the index under the name `database`.
 ///
-/// The index is written to `<database>.new`, which takes the name of the old index once it is whole; else it is removed, and
-/// the old index is as it was. What lay under `<database>.new` is lost.
+/// The index is written to `<database>.new`, which takes the name of the old index once it is whole, and its mode; else it is
+/// removed, and the old index is as it was. What a run that was killed left under `<database>.new` is lost.
 ///
 /// # Errors
 ///
-/// `CannotOpen` with nothing touched where either name leads to an archive or to the rcfile, and where the new file can't be
-/// made; else the fault of an archive, of the output or of memory.
-pub(crate) fn run_index<R: Files>(
+/// `CannotOpen` with nothing touched where either name leads to an archive or to the rcfile, where another run is making an index
+/// of this name, and where the new file can't be made; else the fault of an archive, of the output or of memory.
+pub(crate) fn run_index<R: Files<File = File>>(
     rt: &R,
     alloc: Global,
     rcfile: &str,
@@ -60,24 +59,23 @@ pub(crate) fn run_index<R: Files>(
 {
     let paths = rc.paths.as_slice();
     let database = rc.database.as_str();
-    let mut new = String::from_str(alloc, database)?;
-    new.push_str(".new")?;
-    for name in [database, new.as_str()] {
+    let mut passing = String::from_str(alloc, database)?;
+    passing.push_str(".new")?;
+    for name in [database, passing.as_str()] {
         if is_read(rt, alloc, name, rcfile, paths)? {
             return Err(NoIndex::CannotOpen(String::from_str(alloc, name)?));
         }
     }
-    let Some(file) = made(rt, new.as_str()) else {
-        return Err(NoIndex::CannotOpen(new));
+    let Ok(new) = NewFile::create(rt, passing.as_str(), database) else {
+        return Err(NoIndex::CannotOpen(passing));
     };
-    let written = index_into(rt, alloc, paths, file);
-    if written.is_ok() && fs::rename(rt, new.as_str(), database).is_ok() {
-        return Ok(());
+    if let Err(fault) = index_into(rt, alloc, paths, new.file()) {
+        new.discard();
+        return Err(NoIndex::Fault(fault));
     }
-    let _ = fs::remove_file(rt, new.as_str());
-    match written {
-        Ok(()) => Err(NoIndex::Fault(Fault::Out)),
-        Err(fault) => Err(NoIndex::Fault(fault)),
+    match new.take_name() {
+        Ok(()) => Ok(()),
+        Err(_) => Err(NoIndex::Fault(Fault::Out)),
     }
 }
 
@@ -100,18 +98,8 @@ fn is_read<R: Files>(
     Ok(false)
 }
 
-/// A new file of this name. What an earlier run may have left there is removed first, so that no link is written through.
-fn made<R: Files>(rt: &R, name: &str) -> Option<R::File> {
-    match fs::remove_file(rt, name) {
-        Ok(()) => {}
-        Err(error) if error.kind() == ErrorKind::NotFound => {}
-        Err(_) => return None,
-    }
-    File::create_new(rt, name).ok()
-}
-
 /// Indexes the archives from their files, one open at a time, into a file.
-fn index_into<R: Files>(rt: &R, alloc: Global, paths: &[String], file: R::File) -> Result<(), Fault>
+fn index_into<R: Files>(rt: &R, alloc: Global, paths: &[String], file: &File) -> Result<(), Fault>
     requires { All IsPath (map string_bytes paths.now) }
 {
     let mut sources = sources_of(rt, alloc, paths)?;

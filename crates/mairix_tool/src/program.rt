@@ -12,6 +12,7 @@ use mairix_options::{Plan, Rc, UsageFault, plan_of, read_rc, usage_text};
 use mbox_cutter::ToWrite;
 use std::alloc::Global;
 use std::fs;
+use std::fs::File;
 use std::io::{ErrorKind, Read, Write};
 use std::rt::Files;
 
@@ -28,7 +29,7 @@ enum Unread {
 /// for help and version goes to `out`. The status is 0 with messages or a new index, 1 without a message, 2 where words,
 /// rcfile or query are refused, 4 where a file can't be opened, read, made or renamed, the output failed or an archive is no
 /// mbox, and 5 with want of memory, too many messages or keys, or an archive that is too long.
-pub fn run_program<R: Files, W: Write, E: Write>(
+pub fn run_program<R: Files<File = File>, W: Write, E: Write>(
     rt: &R,
     alloc: Global,
     words: &[String],
@@ -42,7 +43,7 @@ pub fn run_program<R: Files, W: Write, E: Write>(
     }
 }
 
-fn run_files<R: Files, W: Write, E: Write>(
+fn run_files<R: Files<File = File>, W: Write, E: Write>(
     rt: &R,
     alloc: Global,
     words: &[String],

@@ -1,0 +1,271 @@
+#!/usr/bin/env python3
+"""Lets two index runs of one index overlap: the first is stopped before each of its calls in turn, and meanwhile the second runs
+to its end, is stopped too, is killed or fails at one of its own.
+
+    overlapping_runs.py PROGRAM
+
+After each step the index is the one before it or the whole one of the run that took the step, and whole is what was laid out by
+hand. The last line is `N passed, M failed`.
+"""
+import hashlib, os, signal, struct, subprocess, sys, tempfile, time
+
+SEPARATOR = b"From a@x.org Thu Jan  2 10:00:00 2003\n"
+HELLO = SEPARATOR + b"Subject: Hello\n\nhi\n\n"
+BUSY = b"mairix: cannot open m.idx.new\n"
+FIRST, SECOND = "m.mbox", "n.mbox"
+
+
+def hello_index(path):
+    """The index file of HELLO as the archive of this path, laid out by hand: counts, the archive, its message, the keys `hello` of
+    subjects and `hi` of texts, and the digest of all that."""
+    index = (
+        b"MAIRIX\r\n"
+        + struct.pack(">IIIIQQQ", 1, 1, 1, 2, 12 + len(path), 7, 2)
+        + struct.pack(">QI", 58, len(path))
+        + path.encode()
+        + struct.pack(">IIQQQq", 0, 0, 0, 58, 19, 0)
+        + struct.pack(">IIQQ", 5 << 24, 5, 0, 0)
+        + struct.pack(">IIQQ", 6 << 24, 2, 5, 1)
+        + b"hellohi"
+        + b"\1\1"
+    )
+    return index + hashlib.sha256(index).digest()
+
+
+def rcfile(archive):
+    return b"mbox=%s\ndatabase=m.idx\nmfolder=hits\n" % archive.encode()
+
+
+def read(path):
+    if not os.path.exists(path):
+        return None
+    with open(path, "rb") as f:
+        return f.read()
+
+
+class Run:
+    """A run of the program that indexes one archive, until it ends or stops before a call."""
+
+    def __init__(self, room, archive, at=0, how="stop", log=None):
+        env = dict(os.environ, LD_PRELOAD=room.shim, STOP_AT=str(at), STOP_HOW=how)
+        if log:
+            env["CALLS_LOG"] = log
+        self.room, self.whole = room, hello_index(archive)
+        self.process = subprocess.Popen(
+            [room.program, "-f", "rc." + archive],
+            cwd=room.folder,
+            env=env,
+            stdin=subprocess.DEVNULL,
+            stdout=subprocess.DEVNULL,
+            stderr=subprocess.PIPE,
+        )
+        self.ended = False
+        self.wait(room.index())
+
+    def go_on(self):
+        """Lets a stopped run go on to its end."""
+        if not self.ended:
+            before = self.room.index()
+            self.process.send_signal(signal.SIGCONT)
+            self.wait(before)
+
+    def kill(self):
+        if not self.ended:
+            before = self.room.index()
+            self.process.kill()
+            self.wait(before)
+
+    def wait(self, before):
+        until = time.monotonic() + 30
+        while True:
+            pid, status = os.waitpid(self.process.pid, os.WUNTRACED | os.WNOHANG)
+            if pid:
+                break
+            if time.monotonic() > until:
+                self.process.kill()
+                raise RuntimeError("a run doesn't end")
+            time.sleep(0.0002)
+        self.ended = not os.WIFSTOPPED(status)
+        if self.ended:
+            self.process.returncode = self.status = os.waitstatus_to_exitcode(status)
+            self.text = self.process.stderr.read()
+            self.process.stderr.close()
+        self.judge(before)
+
+    def judge(self, before):
+        """What the index has become by this step."""
+        index, bad = self.room.index(), self.room.bad
+        if index not in (before, self.whole):
+            bad.append("the index became %r" % index)
+        if not self.ended:
+            return
+        if self.status == 0 and (index != self.whole or self.text):
+            bad.append("a run of status 0 left %r and told %r" % (index, self.text))
+        elif self.status not in (0, 4, -signal.SIGKILL):
+            bad.append("status %d" % self.status)
+        elif self.status == 4 and (index != before or not self.text.startswith(b"mairix: ") or self.text.count(b"\n") != 1):
+            bad.append("a run of status 4 told %r" % self.text)
+
+
+class Room:
+    """A folder with two archives and an rcfile for each, both of one index."""
+
+    def __init__(self, program, shim, top, old, left):
+        self.program, self.shim, self.bad = program, shim, []
+        self.folder = tempfile.mkdtemp(dir=top)
+        files = {FIRST: HELLO, SECOND: HELLO, "rc." + FIRST: rcfile(FIRST), "rc." + SECOND: rcfile(SECOND)}
+        self.at_end = sorted(files) + ["m.idx"]
+        for name, body in {**files, "m.idx": old, "m.idx.new": left}.items():
+            if body is not None:
+                with open(os.path.join(self.folder, name), "wb") as f:
+                    f.write(body)
+
+    def index(self):
+        return read(os.path.join(self.folder, "m.idx"))
+
+    def new(self):
+        """Which file lies under the passing name, and what is in it."""
+        path = os.path.join(self.folder, "m.idx.new")
+        return (os.stat(path).st_ino, read(path)) if os.path.exists(path) else None
+
+    def close(self):
+        """A later run makes its index whatever was left, and leaves nothing else."""
+        last = Run(self, FIRST)
+        if last.status != 0:
+            self.bad.append("a later run has status %d and tells %r" % (last.status, last.text))
+        if sorted(os.listdir(self.folder)) != sorted(self.at_end):
+            self.bad.append("left is %s" % sorted(os.listdir(self.folder)))
+        return self.bad
+
+
+def calls(room):
+    """The calls of a run by their names."""
+    log = os.path.join(room.folder, "log")
+    Run(room, FIRST, log=log)
+    names = read(log).decode().split()
+    os.remove(log)
+    return names
+
+
+def second_runs(room, names, n):
+    """The second run has its whole time while the first waits before call n: it is refused where the first has its lock."""
+    first = Run(room, FIRST, n)
+    new = room.new()
+    second = Run(room, SECOND)
+    created, locked, renamed = (names.index(name) + 1 for name in ("create", "flock", "rename"))
+    refused = locked < n <= renamed
+    if refused != (second.status == 4) or (refused and (second.text != BUSY or room.new() != new)):
+        room.bad.append("the second has status %d and tells %r" % (second.status, second.text))
+    first.go_on()
+    if (first.status == 4) != (n == locked):
+        room.bad.append("the first has status %d and tells %r" % (first.status, first.text))
+
+
+def second_clears_too(room, names, n):
+    """As before, where a killed run left a file: one of them makes the index."""
+    first = Run(room, FIRST, n)
+    second = Run(room, SECOND)
+    first.go_on()
+    if first.status != 0 and second.status != 0:
+        room.bad.append("neither makes an index: %r, %r" % (first.text, second.text))
+
+
+def first_is_killed(room, names, n):
+    """The first is killed before call n, and the second makes its index."""
+    Run(room, FIRST, n, "kill")
+    second = Run(room, SECOND)
+    if second.status != 0:
+        room.bad.append("the second has status %d and tells %r" % (second.status, second.text))
+
+
+def first_fails(room, names, n):
+    """Call n of the first fails, and it tells of it, but for calls whose failure says nothing; the second makes its index."""
+    first = Run(room, FIRST, n, "fail")
+    told = {"create": BUSY, "flock": BUSY, "write": b"mairix: output failed\n"}
+    told.update({name: told["write"] for name in ("fchmod", "fsync", "rename")})
+    want = told.get(names[n - 1])
+    if want and (first.status, first.text) != (4, want):
+        room.bad.append("the first has status %d and tells %r" % (first.status, first.text))
+    second = Run(room, SECOND)
+    if second.status != 0:
+        room.bad.append("the second has status %d and tells %r" % (second.status, second.text))
+
+
+def both_wait(room, names, n, m):
+    """The first waits before call n and the second before call m; the first ends, then the second."""
+    first, second = Run(room, FIRST, n), Run(room, SECOND, m)
+    first.go_on()
+    second.go_on()
+
+
+def second_ends_first(room, names, n, m):
+    """The first waits before call n and the second before call m; the second ends, then the first."""
+    first, second = Run(room, FIRST, n), Run(room, SECOND, m)
+    second.go_on()
+    first.go_on()
+
+
+def second_is_killed(room, names, n, m):
+    """The second is killed before its call m while the first waits before call n."""
+    first = Run(room, FIRST, n)
+    Run(room, SECOND, m, "kill")
+    first.go_on()
+
+
+def second_fails(room, names, n, m):
+    """Call m of the second fails while the first waits before call n."""
+    first = Run(room, FIRST, n)
+    Run(room, SECOND, m, "fail")
+    first.go_on()
+
+
+def waiting_is_killed(room, names, n, m):
+    """The first is killed while it waits before call n and the second before call m."""
+    first, second = Run(room, FIRST, n), Run(room, SECOND, m)
+    first.kill()
+    second.go_on()
+
+
+def order(names):
+    """All of an index is on the disk, with its mode, before it takes its name."""
+    last_write = len(names) - 1 - names[::-1].index("write")
+    ok = last_write < names.index("fchmod") < names.index("fsync") < names.index("rename")
+    return [] if ok else ["the calls were %s" % " ".join(names)]
+
+
+def checks(program):
+    """Each check, by its name: how many overlaps it tried, and what was wrong in them."""
+    here = os.path.dirname(os.path.abspath(__file__))
+    with tempfile.TemporaryDirectory() as top:
+        shim = os.path.join(top, "stop.so")
+        subprocess.run(["cc", "-O2", "-fPIC", "-shared", "-o", shim, os.path.join(here, "stop_at_call.c"), "-ldl"], check=True)
+        names = calls(Room(program, shim, top, None, None))
+        yield "order of the calls", 1, order(names)
+        each = range(1, len(names) + 1)
+        # A file that was left adds calls: it is opened, locked, looked at by name and as it is open, and removed.
+        singly = [(f, left, (n,)) for f, left in ((second_runs, None), (second_clears_too, b"half"), (first_is_killed, None), (first_is_killed, b"half"), (first_fails, None)) for n in (each if left is None else range(1, len(names) + 6))]
+        # Every fifth pair of calls: each call of one run meets each fifth of the other's.
+        in_pairs = [(f, left, (n, m)) for f in (both_wait, second_ends_first, second_is_killed, second_fails, waiting_is_killed) for left in (None, b"half") for n in each for m in each if (n + m) % 5 == 0]
+        found = {}
+        for number, (f, left, at) in enumerate(singly + in_pairs):
+            room = Room(program, shim, top, b"old" if number % 2 else None, left)
+            f(room, names, *at)
+            tried, bad = found.setdefault(f, (0, []))
+            found[f] = tried + 1, bad + ["at %s: %s" % (at, text) for text in room.close()]
+        for f, (tried, bad) in found.items():
+            yield f.__name__.replace("_", " "), tried, bad
+
+
+def main(program):
+    passed = failed = overlaps = 0
+    for name, tried, bad in checks(os.path.abspath(program)):
+        passed, failed, overlaps = passed + (not bad), failed + bool(bad), overlaps + tried
+        if bad:
+            print("overlapping runs: %s: %d of %d: %s" % (name, len(bad), tried, "; ".join(bad[:3])))
+    print("overlapping runs: %d overlaps" % overlaps)
+    print("%d passed, %d failed" % (passed, failed))
+    return 1 if failed else 0
+
+
+if __name__ == "__main__":
+    sys.exit(main(sys.argv[1]) if len(sys.argv) == 2 else __doc__)
