@@ -1,6 +1,6 @@
 -- The fields of lines, and one line more.
-use Rattle.std.proofs.Common.{◌≡◌, ◌∙◌, ◌+◌, ◌≤◌, ◌<◌, ◌++◌, ◌==◌, ℕ, suc, Bool, true, false, List, [], ◌∷◌, Option, Some, None, length, refl, sym, ap, arith, length-append, append_assoc, append-nil}
-use Rattle.std.specs.Prelude.{is_some}
+use Rattle.std.proofs.Common.{◌≡◌, ◌∙◌, ◌+◌, ◌≤◌, ◌<◌, ◌++◌, ◌==◌, ℕ, suc, Bool, true, false, List, [], ◌∷◌, Option, Some, None, length, refl, sym, ap, subst, arith, length-append, append_assoc, append-nil}
+use Rattle.std.specs.Prelude.{is_some, option_map, IfSome}
 use Rattle.std.specs.Option.{option_to_list}
 use Rattle.header_text.specs.Headers.{HeaderField, is_continuation, field_of_line, with_continuations, continued_and_fields, fields_in, fields_size, named, is_name_byte}
 use Rattle.header_text.specs.Blanks.{is_blank, split_while, after_blanks}
@@ -143,6 +143,14 @@ field_of_line-size l =
     let parts = split_while is_name_byte l in
     let sizes : length parts.0 + length parts.1 ≡ length l = sym (length-append parts.0 parts.1) ∙ ap length (split_while-joined is_name_byte l) in
     omega (arith, named-size parts.0 (after_blanks parts.1), length-after_blanks parts.1, sizes)
+
+pub field_of_line-fits : {A : Type 0} (name body : A → List ℕ) (o : Option A) (l : List ℕ) → option_map (λ f. record { name = name f; body = body f }) o ≡ field_of_line l
+    → IfSome o (λ f. length (name f) + length (body f) ≤ length l)
+field_of_line-fits name body None l e = tt
+field_of_line-fits name body (Some f) l e =
+    let field : HeaderField = record { name = name f; body = body f } in
+    let size : fields_size (option_to_list (Some field)) ≤ length l = subst (λ (o : Option HeaderField). fields_size (option_to_list o) ≤ length l) (sym e) (field_of_line-size l) in
+    omega (arith, size)
 
 -- a line adds no more bytes than it has
 pub fields_size-with : (b : Bool) (l : List ℕ) (fs : List HeaderField) → fields_size (fields_with b l fs) ≤ fields_size fs + length l

@@ -6,7 +6,7 @@ use Rattle.std.specs.List.{filter_map}
 use Rattle.std.proofs.lemmas.List.{map-append, length-map, get_or-map}
 use Rattle.std.proofs.lemmas.Bool.{ltb-true}
 use Rattle.std.proofs.lemmas.List.Elements.{filter-append, filter_map-append}
-use Rattle.header_text.specs.Ids.{onto_first, closed_texts, after_last_open, is_id_byte, ids_in, ids_of}
+use Rattle.header_text.specs.Ids.{onto_first, closed_texts, after_last_open, is_id_byte, ids_in, ids_of, ids_size}
 use Rattle.header_text.proofs.CutLemmas.{Lacks}
 
 -- ---- behind the last `<`
@@ -75,13 +75,13 @@ closed_texts-short (b ∷ bs) = go (b == 0x3E) refl (closed_texts-short bs)
     go true e h = rw (e, closed_texts) (omega arith, AreShort-more (length bs) (suc (length bs)) (closed_texts bs) (omega arith) h)
     go false e h = rw (e, closed_texts) (onto_first-short (length bs) b (closed_texts bs) h)
 
-after_last_open-short : (bs : List ℕ) → IfSome (after_last_open bs) (λ t. length t ≤ length bs)
+after_last_open-short : (bs : List ℕ) → IfSome (after_last_open bs) (λ t. length t < length bs)
 after_last_open-short [] = tt
 after_last_open-short (b ∷ bs) = go (after_last_open bs) refl (after_last_open-short bs) (b == 0x3C) refl
   where
-    go : (o : Option (List ℕ)) → after_last_open bs ≡ o → IfSome (after_last_open bs) (λ t. length t ≤ length bs) → (u : Bool) → (b == 0x3C) ≡ u
-        → IfSome (judged b bs (after_last_open bs)) (λ t. length t ≤ suc (length bs))
-    go (Some t) e h u f = let short : length t ≤ length bs = rw e at h in rw e (omega arith)
+    go : (o : Option (List ℕ)) → after_last_open bs ≡ o → IfSome (after_last_open bs) (λ t. length t < length bs) → (u : Bool) → (b == 0x3C) ≡ u
+        → IfSome (judged b bs (after_last_open bs)) (λ t. length t < suc (length bs))
+    go (Some t) e h u f = let short : length t < length bs = rw e at h in rw e (omega arith)
     go None e h true f = rw (e, judged, f) (omega arith)
     go None e h false f = rw (e, judged, f) tt
 
@@ -97,16 +97,56 @@ ids_in-sized : (n : ℕ) (ts : List (List ℕ)) → AreShort n ts → AreSized n
 ids_in-sized n [] h = tt
 ids_in-sized n (t ∷ ts) h = go (after_last_open t) refl (after_last_open-short t) (ids_in-sized n ts h.1)
   where
-    go : (o : Option (List ℕ)) → after_last_open t ≡ o → IfSome (after_last_open t) (λ u. length u ≤ length t) → AreSized n (ids_in ts) → AreSized n (ids_in (t ∷ ts))
+    go : (o : Option (List ℕ)) → after_last_open t ≡ o → IfSome (after_last_open t) (λ u. length u < length t) → AreSized n (ids_in ts) → AreSized n (ids_in (t ∷ ts))
     go None e short later = rw e later
     go (Some u) e short later = rw e (last (nat_lt 0 (length (filter is_id_byte u))) refl)
       where
         last : (v : Bool) → nat_lt 0 (length (filter is_id_byte u)) ≡ v
             → AreSized n (filter (λ x. nat_lt 0 (length x)) (filter is_id_byte u ∷ map (filter is_id_byte) (filter_map after_last_open ts)))
         last true f =
-            let fits : length u ≤ length t = rw e at short in
+            let fits : length u < length t = rw e at short in
             rw f (ltb-true 0 (length (filter is_id_byte u)) f, omega (arith, filter-short is_id_byte u, h.0), later)
         last false f = rw f later
+
+-- how many bytes texts have that end at a `>`, with it
+abbrev closed_size : List (List ℕ) → ℕ
+closed_size [] = 0
+closed_size (t ∷ ts) = length t + 1 + closed_size ts
+
+onto_first-size : (b : ℕ) (ts : List (List ℕ)) → closed_size (onto_first b ts) ≤ suc (closed_size ts)
+onto_first-size b [] = omega arith
+onto_first-size b (t ∷ ts) = omega arith
+
+closed_texts-size : (bs : List ℕ) → closed_size (closed_texts bs) ≤ length bs
+closed_texts-size [] = omega arith
+closed_texts-size (b ∷ bs) = go (b == 0x3E) refl (closed_texts-size bs)
+  where
+    go : (t : Bool) → (b == 0x3E) ≡ t → closed_size (closed_texts bs) ≤ length bs → closed_size (closed_texts (b ∷ bs)) ≤ suc (length bs)
+    go true e h = rw (e, closed_texts) (omega arith)
+    go false e h = rw (e, closed_texts) (omega (arith, onto_first-size b (closed_texts bs)))
+
+ids_in-size : (ts : List (List ℕ)) → ids_size (ids_in ts) ≤ closed_size ts
+ids_in-size [] = omega arith
+ids_in-size (t ∷ ts) = go (after_last_open t) refl (after_last_open-short t) (ids_in-size ts)
+  where
+    go : (o : Option (List ℕ)) → after_last_open t ≡ o → IfSome (after_last_open t) (λ u. length u < length t)
+        → ids_size (filter (λ x. nat_lt 0 (length x)) (map (filter is_id_byte) (filter_map after_last_open ts))) ≤ closed_size ts
+        → ids_size (ids_in (t ∷ ts)) ≤ closed_size (t ∷ ts)
+    go None e short later = rw e (omega (arith, later))
+    go (Some u) e short later = rw e (last (nat_lt 0 (length (filter is_id_byte u))) refl)
+      where
+        last : (v : Bool) → nat_lt 0 (length (filter is_id_byte u)) ≡ v
+            → ids_size (filter (λ x. nat_lt 0 (length x)) (filter is_id_byte u ∷ map (filter is_id_byte) (filter_map after_last_open ts))) ≤ closed_size (t ∷ ts)
+        last true f =
+            let fits : length u < length t = rw e at short in
+            rw f (omega (arith, fits, filter-short is_id_byte u, later))
+        last false f = rw f (omega (arith, later))
+
+pub ids_of-size : (value : List ℕ) (ids : List (Vec ℕ Global)) → map (λ (id : Vec ℕ Global). id.items) ids ≡ ids_of value → ids_size (map (λ (id : Vec ℕ Global). id.items) ids) ≤ length value
+unfolding ids_of
+ids_of-size value ids e =
+    let found : ids_size (ids_of value) ≤ closed_size (closed_texts value) = ids_in-size (closed_texts value) in
+    rw e (omega (arith, found, closed_texts-size value))
 
 All-sized : (n : ℕ) (ids : List (List ℕ)) → AreSized n ids → (k : ℕ) (d : List ℕ) → k < length ids → (0 < length (get_or ids k d)) × (length (get_or ids k d) ≤ n)
 All-sized n [] h k d lt = absurd (omega arith)

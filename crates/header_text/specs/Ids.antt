@@ -1,5 +1,5 @@
 -- Message ids (RFC 5322, 3.6.4).
-use Rattle.std.specs.Prelude.{ℕ, Bool, true, false, not, ◌||◌, ◌==◌, nat_lt, List, [], ◌∷◌, length, map, filter, Option, Some, None}
+use Rattle.std.specs.Prelude.{ℕ, ◌+◌, Bool, true, false, not, ◌||◌, ◌==◌, nat_lt, List, [], ◌∷◌, length, map, filter, Option, Some, None}
 use Rattle.std.specs.List.{filter_map}
 use Rattle.header_text.specs.Blanks.{is_blank}
 
@@ -29,3 +29,8 @@ ids_in texts = filter (λ id. nat_lt 0 (length id)) (map (filter is_id_byte) (fi
 -- each text between a `<` and the next `>` with neither between, without its spaces, tabs, CRs and LFs, if then not empty
 unfoldable pub ids_of : List ℕ → List (List ℕ)
 ids_of value = ids_in (closed_texts value)
+
+-- how many bytes ids have, with the `<` and the `>` round each
+abbrev pub ids_size : List (List ℕ) → ℕ
+ids_size [] = 0
+ids_size (id ∷ ids) = length id + 2 + ids_size ids

@@ -1,5 +1,5 @@
 //! Fields, and the line that begins one.
-ghost use Rattle.std.specs.Prelude.{◌≡◌, ◌<◌, ◌≤◌, ◌↔◌, length, take, drop, map, IsTrue, IfSome, option_map};
+ghost use Rattle.std.specs.Prelude.{◌≡◌, ◌+◌, ◌<◌, ◌≤◌, ◌↔◌, length, take, drop, map, IsTrue, IfSome, option_map};
 ghost use Rattle.std.specs.Char.{to_ascii_lowercase};
 ghost use Rattle.header_text.specs.Blanks.{split_while};
 ghost use Rattle.header_text.specs.Headers.{HeaderField, field_of_line, named as named_of, is_name_byte as is_name_byte_of, is_continuation as is_continuation_of};
@@ -67,7 +67,9 @@ fn named<'a>(name: &'a [u8], rest: &'a [u8]) -> Option<Field<'a>>
 
 /// The field that a line begins, without its continuations.
 pub fn field_of_line(line: &[u8]) -> Option<Field<'_>>
-    ensures { option_map (λ f. record { name = f.name.now; body = f.body.now }) result ≡ field_of_line line.now }
+    ensures field { option_map (λ f. record { name = f.name.now; body = f.body.now }) result ≡ field_of_line line.now }
+    ensures name { IfSome result (λ f. 0 < length f.name.now) }
+    ensures fits { IfSome result (λ f. length f.name.now + length f.body.now ≤ length line.now) }
 {
     let rest = after_name(line);
     let name = &line[..line.len() - rest.len()];

@@ -1,7 +1,7 @@
 //! Fields kept one behind another, and the iterator over them.
-ghost use Rattle.std.specs.Prelude.{◌≡◌, ℕ, ◌+◌, ◌≤◌, List, [], ◌∷◌, ◌++◌, length, slice_range, is_ok, OnOk, OnErr, if◌then◌else◌};
+ghost use Rattle.std.specs.Prelude.{◌≡◌, ℕ, ◌+◌, ◌<◌, ◌≤◌, List, [], ◌∷◌, ◌++◌, length, slice_range, is_ok, OnOk, OnErr, if◌then◌else◌};
 ghost use Rattle.std.specs.Iterator.{YieldsFirstBy, item_count};
-ghost use Rattle.header_text.specs.Headers.{HeaderField};
+ghost use Rattle.header_text.specs.Headers.{HeaderField, fields_size, most_in_header};
 ghost use Rattle.header_text.specs.Places.{next_start as next_start_of};
 
 use crate::field::Field;
@@ -15,7 +15,7 @@ pub struct Place {
     body: usize,
 }
 
-/// Fields in order, in two buffers.
+/// Fields in order, in two buffers, of which each holds at most 262,144 items: what a header keeps.
 #[derive(Drop)]
 pub struct FieldList {
     bytes: Vec<u8>,
@@ -28,12 +28,11 @@ impl Model for FieldList {
 
     ghost Value = { List HeaderField };
 
-    ghost use Rattle.std.specs.Prelude.{length};
-    ghost use Rattle.header_text.specs.Places.{AreInOrder, fields_at};
+    ghost use Rattle.header_text.specs.Places.{AreKept, fields_at};
 
     ghost view = { λ s. fields_at s.bytes.items s.places.items };
 
-    ghost invariant = { λ s. AreInOrder (length s.bytes.items) s.places.items };
+    ghost invariant = { λ s. AreKept s.bytes.items s.places.items };
 }
 
 /// The fields still to come of a header.
@@ -92,6 +91,8 @@ impl FieldList {
 
     /// Adds a field.
     pub fn push(&mut self, field: Field<'_>) -> Result<(), AllocError>
+        requires name { 0 < length field.name.now }
+        requires room { fields_size self.old + (length field.name.now + length field.body.now) ≤ most_in_header }
         ensures ok { OnOk result (self.new ≡ self.old ++ record { name = field.entry.name.now; body = field.entry.body.now } ∷ []) }
         ensures err { OnErr result (self.new ≡ self.old) }
     {
@@ -103,11 +104,15 @@ impl FieldList {
         Ok(())
     }
 
-    /// Adds bytes to the last field's body.
+    /// Adds bytes to the last field's body, where there is a field.
     pub fn extend_last(&mut self, more: &[u8]) -> Result<(), AllocError>
+        requires { fields_size self.old + length more.now ≤ most_in_header }
         ensures ok { OnOk result (self.new ≡ onto_last more.now self.old) }
         ensures err { OnErr result (self.new ≡ self.old) }
     {
+        if self.places.is_empty() {
+            return Ok(());
+        }
         self.bytes.extend_from_slice(more)?;
         Ok(())
     }

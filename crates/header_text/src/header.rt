@@ -126,6 +126,7 @@ fn stage_behind(stage: Stage, size: usize, line: &[u8]) -> Stage
 
 /// Adds what a line says to the fields before it, the last of which is open or isn't: answers whether one is open behind it.
 fn add_line(fields: &mut FieldList, in_field: bool, line: &[u8]) -> Result<bool, AllocError>
+    requires { fields_size fields.old + length line.now ≤ most_in_header }
     ensures in_field { IfOk result (λ after. after ≡ is_open_after in_field line.now) }
     ensures fields { OnOk result (fields.new ≡ fields_with in_field line.now fields.old) }
     ensures refused { OnErr result (fields.new ≡ fields.old) }

@@ -1,6 +1,6 @@
 //! Message ids.
 ghost use Rattle.std.specs.Prelude.{◌≡◌, ◌<◌, ◌≤◌, ◌∷◌, ◌++◌, length, map, filter, option_map, All, IfOk, OnOk, if◌then◌else◌, nat_lt, []};
-ghost use Rattle.header_text.specs.Ids.{ids_of, ids_in, after_last_open as after_last_open_of, is_id_byte as is_id_byte_of};
+ghost use Rattle.header_text.specs.Ids.{ids_of, ids_in, ids_size, after_last_open as after_last_open_of, is_id_byte as is_id_byte_of};
 
 use crate::blanks::is_blank;
 use crate::cut::cut_at;
@@ -46,10 +46,13 @@ fn push_id(alloc: Global, ids: &mut Vec<Vec<u8>>, text: &[u8]) -> Result<(), All
 }
 
 /// The ids of a value, in order (RFC 5322, 3.6.4): each text between a `<` and the next `>` with neither between, without
-/// its spaces, tabs, CRs and LFs, if then not empty.
+/// its spaces, tabs, CRs and LFs, if then not empty. Together they have at most as many bytes as the value.
 pub fn message_ids(alloc: Global, value: &[u8]) -> Result<Vec<Vec<u8>>, AllocError>
     ensures ids { IfOk result (λ ids. map (λ id. id.items) ids.items ≡ ids_of value.now) }
     ensures sizes { IfOk result (λ ids. All (λ id. (0 < length id.items) × (length id.items ≤ length value.now)) ids.items) }
+
+    // All together, with the `<` and the `>` round each.
+    ensures size { IfOk result (λ ids. ids_size (map (λ id. id.items) ids.items) ≤ length value.now) }
 {
     let mut ids = Vec::new(alloc);
     let mut rest = value;

@@ -1,7 +1,7 @@
 use Rattle.std.proofs.Common.{◌≡◌, ◌∙◌, ◌++◌, ℕ, List, [], ◌∷◌, length, map, sym, ap, arith, length-append, append_assoc, append-nil}
 use Rattle.header_text.specs.Ids.{ids_in, ids_of, closed_texts}
 use Rattle.header_text.proofs.CutLemmas.{IsCut, IsCut-from, Lacks-from}
-use Rattle.header_text.proofs.IdLemmas.{closed_texts-cut, closed_texts-free, ids_in-cons, ids_of-sized}
+use Rattle.header_text.proofs.IdLemmas.{closed_texts-cut, closed_texts-free, ids_in-cons, ids_of-sized, ids_of-size}
 use Rattle.header_text.proofs.message_id.message_ids.Goals as goal
 use Rattle.header_text.proofs.message_id.message_ids.Goals.{In_ok-push_id}
 
@@ -29,3 +29,6 @@ returns-clause-ids c =
 
 pub returns-clause-sizes : goal.returns-clause-sizes
 returns-clause-sizes c = ids_of-sized c.args.value.now c.loop-text.ids.items (returns-clause-ids c)
+
+pub returns-clause-size : goal.returns-clause-size
+returns-clause-size c = ids_of-size c.args.value.now c.loop-text.ids.items (returns-clause-ids c)

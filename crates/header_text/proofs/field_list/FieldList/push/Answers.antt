@@ -12,10 +12,10 @@ field c =
     rw c.unwrap.ensures at c.push.ensures.items ∙ ap (λ (ps : List Place). ps ++ p ∷ []) c.in_ok-reserve.ensures.items in
     pushed c.self.inside.bytes.items c.append_both.new.bytes.items c.args.field.name.now c.args.field.body.now c.self.inside.places.items c.push.new.self.items
     p.name p.body c.self.invariant c.in_ok-append_both.ensures places (c.len-name.ensures ∙ c.self.inside.bytes.ok.0)
-    (ap (λ (n : ℕ). n - length c.args.field.body.now) (c.len.ensures ∙ c.append_both.new.bytes.ok.0))
+    (ap (λ (n : ℕ). n - length c.args.field.body.now) (c.len.ensures ∙ c.append_both.new.bytes.ok.0)) c.requires.name (rw c.self.view_is c.requires.room)
 
 pub invariant_of-self-2 : goal.invariant_of-self-2
-invariant_of-self-2 c = (field c).order
+invariant_of-self-2 c = (field c).kept
 
 pub returns-clause-ok : goal.returns-clause-ok
 returns-clause-ok c = (field c).fields ∙ ap (λ (fs : List HeaderField). fs ++ record { name = c.args.field.name.now; body = c.args.field.body.now } ∷ []) c.self.view_is
