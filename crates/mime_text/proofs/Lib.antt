@@ -1,4 +1,5 @@
 mod FlagLemmas
+mod IdSizes
 mod StreamLaws
 mod ParameterLemmas
 mod TagLemmas

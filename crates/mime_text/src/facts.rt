@@ -21,7 +21,7 @@ pub struct Facts {
     pub flags: Flags,
     /// The first id in a Message-ID field (RFC 5322, 3.6.4), 1 to 262,144 bytes.
     pub own_id: Option<MessageId>,
-    /// All ids in Message-ID, In-Reply-To and References fields, in order, each of 1 to 262,144 bytes.
+    /// All ids in Message-ID, In-Reply-To and References fields, in order, together of fewer than 262,144 bytes.
     pub ids: MessageIds,
 }
 

@@ -1,5 +1,7 @@
 //! What facts keep of a header. Each type bounds by itself what it keeps.
-ghost use Rattle.std.specs.Prelude.{◌≡◌, ◌≤◌, ℕ, List, [], ◌++◌, All, length, map, IfOk, OnOk, string_bytes};
+ghost use Rattle.std.specs.Prelude.{◌≡◌, ◌+◌, ◌≤◌, ℕ, List, [], ◌++◌, All, length, map, IfOk, OnOk, string_bytes};
+ghost use Rattle.header_text.specs.Headers.{most_in_header};
+ghost use Rattle.header_text.specs.Ids.{ids_size};
 ghost use Rattle.mime_text.specs.MessageFacts.{IsSizedId};
 
 use std::alloc::{AllocError, Global};
@@ -74,7 +76,8 @@ impl MessageId {
     }
 }
 
-/// Message ids, each of 1 to 262,144 bytes, which contracts see as the list of their bytes.
+/// Message ids, which contracts see as the list of their bytes. Each has 1 to 262,144 bytes; and all together have at most
+/// 262,144 with the `<` and the `>` round each, since no more bytes are kept of the header in which they stand.
 #[derive(Debug, Drop)]
 pub struct MessageIds {
     ids: Vec<Vec<u8>>,
@@ -85,12 +88,14 @@ impl Model for MessageIds {
 
     ghost Value = { List (List ℕ) };
 
-    ghost use Rattle.std.specs.Prelude.{All, map};
+    ghost use Rattle.std.specs.Prelude.{◌≤◌, All, map};
+    ghost use Rattle.header_text.specs.Headers.{most_in_header};
+    ghost use Rattle.header_text.specs.Ids.{ids_size};
     ghost use Rattle.mime_text.specs.MessageFacts.{IsSizedId};
 
     ghost view = { λ ids. map (λ id. id.items) ids.ids.items };
 
-    ghost invariant = { λ ids. All (λ id. IsSizedId id.items) ids.ids.items };
+    ghost invariant = { λ ids. All (λ id. IsSizedId id.items) ids.ids.items × (ids_size (map (λ id. id.items) ids.ids.items) ≤ most_in_header) };
 }
 
 impl MessageIds {
@@ -103,7 +108,8 @@ impl MessageIds {
     }
 
     pub(crate) fn append(&mut self, mut more: Vec<Vec<u8>>) -> Result<(), AllocError>
-        requires { All (λ id. IsSizedId id.items) more.items }
+        requires sizes { All (λ id. IsSizedId id.items) more.items }
+        requires room { ids_size self.old + ids_size (map (λ id. id.items) more.items) ≤ most_in_header }
         ensures ids { OnOk result (self.new ≡ self.old ++ map (λ id. id.items) more.items) }
         ensures sizes { OnOk result (All IsSizedId self.new) }
     {
@@ -122,6 +128,7 @@ impl MessageIds {
     pub fn as_slice(&self) -> &[Vec<u8>]
         ensures ids { map (λ id. id.items) result.now ≡ self.now }
         ensures sizes { All (λ id. IsSizedId id.items) result.now }
+        ensures size { ids_size (map (λ id. id.items) result.now) ≤ most_in_header }
     {
         self.ids.as_slice()
     }
