@@ -1,9 +1,12 @@
 -- How a list of patterns is read one after another.
-use Rattle.std.proofs.Common.{◌≡◌, ℕ, ◌+◌, ◌<◌, List, [], ◌∷◌, ◌++◌, length, get_or, drop, map, Result, Ok, Err, IfSome, refl, sym, ap, ◌∙◌, arith, append-nil}
+use Rattle.std.proofs.Common.{◌≡◌, ℕ, ◌+◌, ◌<◌, List, [], ◌∷◌, ◌++◌, length, get_or, drop, map, Result, Ok, Err, IfSome, refl, sym, ap, ◌∙◌, arith, append-nil, IsUtf8}
 use Rattle.contract_words.specs.Answers.{◌>>=◌, with_front, fault_as}
 use Rattle.contract_words.proofs.Collecting.{with_front-append, with_front-nil}
 use Rattle.std.proofs.Common.{String, Global, string_bytes}
+use Rattle.std.specs.List.{All}
 use Rattle.std.proofs.lemmas.List.{drop_all, get_or-map, length-map}
+use Rattle.std.proofs.lemmas.List.Elements.{All-map}
+use Rattle.std.proofs.lemmas.Str.{IsUtf8-string_bytes}
 use Rattle.mail_query.specs.declared.fault.QueryFault.{QueryFault}
 use Rattle.mail_query.specs.declared.fault.QueryFaultKind.{QueryFaultKind}
 use Rattle.mail_query.specs.declared.fault.QueryFaultKind.TheVariants.{OutOfMemory}
@@ -81,3 +84,7 @@ pub pattern_here : (patterns : List (String Global)) (i : ℕ) (pattern : String
 pattern_here patterns i pattern text below is e =
     let inside : i < length (map string_bytes patterns) = rw length-map below in
     (inside, e ∙ sym (ap (get_or (map string_bytes patterns) i) e ∙ get_or-map string_bytes patterns i pattern (string_bytes pattern) below ∙ ap string_bytes (sym is)))
+
+-- texts are UTF-8
+pub texts_utf8 : (patterns : List (String Global)) → All IsUtf8 (map string_bytes patterns)
+texts_utf8 patterns = All-map IsUtf8 string_bytes patterns (λ k d below. IsUtf8-string_bytes (get_or patterns k d))

@@ -1,10 +1,12 @@
 //! Patterns as mairix writes them.
-ghost use Rattle.std.specs.Prelude.{◌≡◌, map, string_bytes, IfErr};
+ghost use Rattle.std.specs.Prelude.{◌≡◌, map, string_bytes, IfOk, IfErr, IfSome};
 ghost use Rattle.contract_words.specs.Answers.{Gives};
 ghost use Rattle.mail_query.specs.Query.{query_of};
+ghost use Rattle.mail_query.specs.Query as asked;
 ghost use Rattle.mail_query.specs.Meaning.{meaning};
 ghost use Rattle.mail_query.specs.Refusals.{kind_refusal, query_refusal};
 ghost use Rattle.mail_query.specs.Mairix.{kinds_of, kinds_of_letter, prefixed_query, pattern_query};
+ghost use Rattle.mail_query.specs.MairixGrammar.{IsAsked};
 ghost use Rattle.mail_query.specs.Mail.{pattern_lexicon, mairix_query};
 
 mod forms;
@@ -37,6 +39,16 @@ const PLAIN_KINDS: Kinds = Kinds {
 /// A pattern is a prefix, `:` and a rest, cut at the first `:`, or a rest alone. The first faulty pattern is
 /// reported, and in it the first fault from the left; an error changes nothing.
 pub fn read_mairix(alloc: Global, patterns: &[String], now: Moment) -> Result<Query, QueryFault>
+    ensures answer { Gives meaning query_refusal result (mairix_query (map string_bytes patterns.now) now) }
+    ensures read { IfOk result (λ q. IsAsked (pattern_lexicon now) (map string_bytes patterns.now) (meaning q)) }
+    ensures refused { IfErr result (λ f. IfSome (query_refusal f) (λ _. (q : asked.Query) → ¬ IsAsked (pattern_lexicon now) (map string_bytes patterns.now) q)) }
+    ensures memory { IfErr result (λ f. f.kind ≡ QueryFaultKind.OutOfMemory → f.number ≡ 0) }
+{
+    read_patterns(alloc, patterns, now)
+}
+
+/// What the patterns ask, one after another.
+fn read_patterns(alloc: Global, patterns: &[String], now: Moment) -> Result<Query, QueryFault>
     ensures answer { Gives meaning query_refusal result (mairix_query (map string_bytes patterns.now) now) }
     ensures memory { IfErr result (λ f. f.kind ≡ QueryFaultKind.OutOfMemory → f.number ≡ 0) }
 {

@@ -1,46 +1,34 @@
-use Rattle.std.proofs.Common.{◌≡◌, ◌≤◌, length, map, string_bytes, Ok, Err, sym, ap, ◌∙◌, arith}
-use Rattle.std.proofs.lemmas.List.{length-map}
-use Rattle.std.proofs.lemmas.Bool.Decides.{nat_tests}
-use Rattle.mail_query.specs.Query.{depth, queries_of, all_of}
-use Rattle.mail_query.specs.Mairix.{pattern_query, patterns_query}
-use Rattle.mail_query.specs.Mail.{pattern_lexicon}
-use Rattle.mail_query.proofs.PatternLemmas.{reads_none, reads_more, reads_all, refuses, numbered_refusal, pattern_here}
-use Rattle.mail_query.proofs.DepthLemmas.{patterns_depth}
+use Rattle.std.proofs.Common.{◌≡◌, ℕ, List, map, string_bytes, Result, Ok, Err, IfOk, IfErr, IfSome, IsUtf8}
+use Rattle.std.specs.List.{All}
+use Rattle.contract_words.specs.Answers.{Gives}
+use Rattle.contract_words.proofs.Collecting.{if_some_map}
+use Rattle.mail_query.specs.declared.query.Query as program
+use Rattle.mail_query.specs.declared.fault.QueryFault.{QueryFault}
+use Rattle.mail_query.specs.Mail.{pattern_lexicon, mairix_query}
+use Rattle.mail_query.specs.MairixGrammar.{IsAsked}
+use Rattle.mail_query.specs.Meaning.{meaning}
+use Rattle.mail_query.specs.Query.{Query}
+use Rattle.mail_query.specs.Refusals.{query_refusal}
+use Rattle.mail_query.proofs.MairixLaws.{patterns_of_mail, refused_of_mail}
+use Rattle.mail_query.proofs.PatternLemmas.{texts_utf8}
 use Rattle.mail_query.proofs.mairix.read_mairix.Goals as goal
 
-pub loop-i-init : goal.loop-i-init
-loop-i-init c = reads_none (pattern_lexicon c.args.now) (map string_bytes c.args.patterns.now) c.new-members.result.items c.new-members.ensures.items
+module _ (patterns : List (List ℕ)) (now : ℕ) (utf8 : All IsUtf8 patterns) where
+  is_read : (r : Result program.Query QueryFault) → Gives meaning query_refusal r (mairix_query patterns now) → IfOk r (λ q. IsAsked (pattern_lexicon now) patterns (meaning q))
+  is_read (Ok q) h = let exact = patterns_of_mail patterns now (meaning q) utf8 in exact.0 h
+  is_read (Err f) h = tt
 
-pub returns-in-Err-clause-answer : goal.returns-in-Err-clause-answer
-returns-in-Err-clause-answer c =
-    let lexicon = pattern_lexicon c.args.now in
-    let patterns = map string_bytes c.args.patterns.now in
-    let here = pattern_here c.args.patterns.now c.loop-i.i c.index-patterns-i.result c.as_str.result.now c.loop-i-test.true c.index-patterns-i.is c.as_str.ensures.value in
-    rw c.at.ensures
-    (numbered_refusal (patterns_query lexicon patterns) _ c.in-Err.kind (λ kind. pattern_query lexicon c.as_str.result.now ≡ Err kind) c.in-Err.ensures
-    (λ kind is. refuses lexicon patterns c.loop-i.members.items c.loop-i.i c.as_str.result.now kind c.loop-i.invariant here is))
+  is_refused : (r : Result program.Query QueryFault) → Gives meaning query_refusal r (mairix_query patterns now)
+      → IfErr r (λ f. IfSome (query_refusal f) (λ _. (q : Query) → ¬ IsAsked (pattern_lexicon now) patterns q))
+  is_refused (Ok q) h = tt
+  is_refused (Err f) h =
+      if_some_map (query_refusal f) (λ g. mairix_query patterns now ≡ Err g) (λ _. (q : Query) → ¬ IsAsked (pattern_lexicon now) patterns q)
+      (λ g e. let exact = refused_of_mail patterns now utf8 in exact.0 (g, e)) h
 
-pub loop-i-preserved : goal.loop-i-preserved
-loop-i-preserved c =
-    let lexicon = pattern_lexicon c.args.now in
-    let patterns = map string_bytes c.args.patterns.now in
-    let here = pattern_here c.args.patterns.now c.loop-i.i c.index-patterns-i.result c.as_str.result.now c.loop-i-test.true c.index-patterns-i.is c.as_str.ensures.value in
-    rw c.in_ok-push-in-Ok.ensures.items
-    (reads_more lexicon patterns c.loop-i.members.items c.loop-i.i c.as_str.result.now c.in-Ok.node c.loop-i.invariant here c.in-Ok.ensures)
+pub returns-clause-read : goal.returns-clause-read
+returns-clause-read c =
+    is_read (map string_bytes c.args.patterns.now) c.args.now (texts_utf8 c.args.patterns.now) c.read_patterns.result c.read_patterns.ensures.answer
 
-pub new-requires : goal.new-requires
-new-requires c =
-    let lexicon = pattern_lexicon c.args.now in
-    let patterns = map string_bytes c.args.patterns.now in
-    let end : c.loop-i.i ≡ length patterns = rw length-map (omega arith) in
-    let whole = reads_all lexicon patterns c.loop-i.members.items c.loop-i.i c.loop-i.invariant end (grind (arith, nat_tests)) in
-    let shallow : depth (all_of (queries_of c.loop-i.members.items)) ≤ 5 = patterns_depth lexicon patterns (all_of (queries_of c.loop-i.members.items)) whole in
-    rw c.all_of.ensures (omega (arith, shallow))
-
-pub returns-clause-answer : goal.returns-clause-answer
-returns-clause-answer c =
-    let lexicon = pattern_lexicon c.args.now in
-    let patterns = map string_bytes c.args.patterns.now in
-    let end : c.loop-i.i ≡ length patterns = rw length-map (omega arith) in
-    let whole = reads_all lexicon patterns c.loop-i.members.items c.loop-i.i c.loop-i.invariant end (grind (arith, nat_tests)) in
-    whole ∙ ap Ok (sym c.all_of.ensures ∙ sym c.new.ensures)
+pub returns-clause-refused : goal.returns-clause-refused
+returns-clause-refused c =
+    is_refused (map string_bytes c.args.patterns.now) c.args.now (texts_utf8 c.args.patterns.now) c.read_patterns.result c.read_patterns.ensures.answer
