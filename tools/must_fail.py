@@ -33,8 +33,8 @@ from function_bodies import bodies_of_file
 
 RT = os.environ.get("RT", "rt")
 MOST_IN_A_ROUND = 25
-# What a check takes at most, in kB.
-MEMORY_OF_A_CHECK = 3_000_000
+# What a check should have, in kB: one from nothing has taken 2.5 GB.
+MEMORY_OF_A_CHECK = 4_000_000
 PARTS = ("src", "specs", "proofs")
 ERROR = re.compile(r"(?:\./)?(\S+?):\d+:\d+: error\b")
 # What is said of a proof that names what an edit took away, and of what rests on such a proof.
@@ -338,6 +338,17 @@ def free_places():
     return max(1, min(len(os.sched_getaffinity(0)), most))
 
 
+def find_edits():
+    """The edits of each crate, and the files beside them that are none."""
+    edits, strays = {}, []
+    for file in sorted(it for it in Path("crates").glob("*/must-fail/**/*") if it.is_file()):
+        if file.suffix == ".edit" and len(file.parts) == 4:
+            edits.setdefault(file.parts[1], []).append(file)
+        elif file.suffix != ".md":
+            strays.append(file)
+    return edits, strays
+
+
 def main():
     signal.signal(signal.SIGTERM, Commands.stop)
     signal.signal(signal.SIGINT, Commands.stop)
@@ -346,12 +357,12 @@ def main():
     asked.add_argument("--proved", metavar="FOLDER", help="a copy of the repository that rt ci has just proved")
     asked.add_argument("crates", nargs="*", metavar="CRATE")
     words = asked.parse_args()
-    edits = {}
-    for file in sorted(Path("crates").glob("*/must-fail/*.edit")):
-        edits.setdefault(file.parts[1], []).append(file)
+    edits, strays = find_edits()
     toolchain = Toolchain(Path(words.proved or ".").resolve())
     crates = [toolchain.crate(name) for name in words.crates or edits]
-    passed = failed = 0
+    passed, failed = 0, len(strays)
+    for file in strays:
+        print(f"{file}: NOT an edit: an edit stands right in must-fail/, and its name ends in .edit (or in .md, if it is only to be read)")
     with ThreadPoolExecutor(words.jobs or free_places()) as pool:
         largest_first = sorted(crates, key=lambda crate: -crate.size())
         running = [pool.submit(try_crate, it, edits.get(it.name, []), bool(words.proved)) for it in largest_first]

@@ -1,6 +1,10 @@
 #!/usr/bin/env python3
 """Refuses each allocation of each test named `sweep_..` in turn.
 
+    sweep.py [FOLDER]
+
+FOLDER has the crates whose tests were built; without it they are those of this repository.
+
 Such a test accepts, at each call, the whole answer or this call's own want of memory with the state that it leaves, and ends
 well where a fixture of its own has no memory. With a preloaded library allocation 1 is refused, then 2, and so on, until a run
 meets no refusal. A test that fails, or a sweep in which nothing was refused, fails. The last line is `N passed, M failed`.
@@ -12,11 +16,12 @@ MOST = 5000
 
 def main():
     here = os.path.dirname(os.path.abspath(__file__))
+    crates = sys.argv[1] if len(sys.argv) == 2 else os.path.join(here, "..", "crates")
     passed = failed = refused = 0
     with tempfile.TemporaryDirectory() as room:
         shim, log = os.path.join(room, "refuse.so"), os.path.join(room, "log")
         subprocess.run(["cc", "-O2", "-fPIC", "-shared", "-o", shim, os.path.join(here, "refuse_allocation.c"), "-ldl"], check=True)
-        for tests in sorted(glob.glob(os.path.join(here, "..", "crates", "*", "out", "*_tests"))):
+        for tests in sorted(glob.glob(os.path.join(crates, "*", "out", "*_tests"))):
             listed = subprocess.run([tests, "--list"], capture_output=True, text=True, check=True).stdout
             for name in [line[:-6] for line in listed.splitlines() if line.endswith(": test") and "::sweep_" in line]:
                 number, bad = 0, None
