@@ -1,19 +1,22 @@
 # `make run` builds the program and answers a small archive with it; `make test` is the whole gate.
 RT ?= rt
 PREFIX ?= /usr/local
+JOBS ?= $(shell nproc)
 PROGRAM = crates/mairix/out/mairix
 
 .PHONY: build run test install
 
-# Proves every crate, and leaves the executable at $(PROGRAM).
+# Leaves the executable at $(PROGRAM). The first time every crate is proved before it, as many side by side as there are processors;
+# later only what has changed.
 build:
+	test -x $(PROGRAM) || $(RT) all check --jobs $(JOBS)
 	cd crates/mairix && $(RT) run -- -h >/dev/null
 
 run: build
 	cd demo && ../$(PROGRAM) -f mairixrc --once -r s:hello
 
 # Every proof and test from nothing, every edit that the prover must refuse, each refused allocation in turn, and the built
-# program on real files.
+# program on real files. It works on a copy, and leaves nothing here.
 test:
 	tools/gate
 
