@@ -1,0 +1,32 @@
+//! A whole file in memory.
+ghost use Rattle.std.specs.Prelude.{◌≡◌, IfOk, IfSome};
+
+use std::alloc::Global;
+use std::fs::File;
+use std::io::Read;
+use std::rt::Files;
+use std::{fs, io};
+
+/// The bytes of a file, in one allocation of its length where it doesn't grow meanwhile.
+///
+/// # Errors
+///
+/// What the system refuses, as of a folder, and want of memory, of the kind `OutOfMemory`.
+pub fn read_whole<R: Files<File = File>>(rt: &R, alloc: Global, path: &str) -> io::Result<Vec<u8>> {
+    let mut file = fs::open(rt, path)?;
+    let length = file.metadata()?.len();
+    read_to_end(alloc, &mut file, length)
+}
+
+/// All that a reader has, in one allocation where that is as long as expected.
+fn read_to_end<R: Read>(alloc: Global, reader: &mut R, expected: u64) -> io::Result<Vec<u8>>
+    ensures { IfOk result (λ v. IfSome (R.remaining reader.old) (λ bytes. v.items ≡ bytes)) }
+{
+    let Ok(expected) = usize::try_from(expected) else {
+        return Err(io::ErrorKind::OutOfMemory.into());
+    };
+    // With room for one byte more the end is seen without growing.
+    let mut bytes = Vec::with_capacity(alloc, expected.saturating_add(1))?;
+    reader.read_to_end(&mut bytes)?;
+    Ok(bytes)
+}
