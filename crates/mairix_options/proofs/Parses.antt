@@ -6,8 +6,10 @@ use Rattle.clap.specs.declared.error.kind.ErrorKind.{ErrorKind}
 use Rattle.clap.specs.declared.error.kind.ErrorKind.TheVariants as kind
 use Rattle.clap.specs.declared.parser.matches.ArgMatches.{ArgMatches}
 use Rattle.contract_words.proofs.Collecting.{if_some_map}
-use Rattle.contract_words.specs.Answers.{Gives}
-use Rattle.mairix_options.specs.CommandLine.{command, plan, plan_by, plan_of_rows, plan_in, refusal_of_kind, kind_refusal, error_refusal}
+use Rattle.contract_words.specs.Answers.{Gives, ◌>>=◌}
+use Rattle.mairix_options.specs.CommandLine.{command, parse, parse_by, plan, plan_of_rows, plan_in, one_format, refusal_of_kind, kind_refusal, error_refusal, fault_of_kind, usage_refusal}
+use Rattle.mairix_options.specs.declared.command_line.Plan.{Plan}
+use Rattle.mairix_options.specs.declared.command_line.UsageFault.{UsageFault}
 use Rattle.mairix_options.proofs.OneKind.{One, one_fault, only_kind}
 
 -- the command is one of those whose parse clap states
@@ -29,25 +31,45 @@ refused kind.OutOfMemory = tt
 refused _ = refl
 
 refused_by : (k : ErrorKind) (ks : Kinds) (rows : List Row) → One ks → (k ≡ kind.OutOfMemory) ⊎ IsAmong k ks
-    → IfSome (kind_refusal k) (λ f. plan_by ks rows ≡ Err f)
-refused_by k ks rows one (inl memory) = subst (λ (l : ErrorKind). IfSome (kind_refusal l) (λ f. plan_by ks rows ≡ Err f)) (sym memory) tt
+    → IfSome (kind_refusal k) (λ f. parse_by ks rows ≡ Err f)
+refused_by k ks rows one (inl memory) = subst (λ (l : ErrorKind). IfSome (kind_refusal l) (λ f. parse_by ks rows ≡ Err f)) (sym memory) tt
 refused_by k ks rows one (inr among) =
-    subst (λ (all : Kinds). IfSome (kind_refusal k) (λ f. plan_by all rows ≡ Err f)) (sym (only_kind k ks one among))
-    (if_some_map (kind_refusal k) (λ f. refusal_of_kind k ≡ f) (λ f. plan_by (k ∷ []) rows ≡ Err f) (λ f same. ap Err same) (refused k))
+    subst (λ (all : Kinds). IfSome (kind_refusal k) (λ f. parse_by all rows ≡ Err f)) (sym (only_kind k ks one among))
+    (if_some_map (kind_refusal k) (λ f. refusal_of_kind k ≡ f) (λ f. parse_by (k ∷ []) rows ≡ Err f) (λ f same. ap Err same) (refused k))
 
-plan-taken : (words : List Text) (m : ArgMatches) → fault_of command words ≡ [] → rows_of (found_of m) ≡ matches_of command words
-    → plan words ≡ Ok (plan_in m)
-unfolding plan
-plan-taken words m none same =
-    subst (λ (all : Kinds). plan_by all (matches_of command words) ≡ Ok (plan_of_rows (rows_of (found_of m)))) (sym none)
+parse-taken : (words : List Text) (m : ArgMatches) → fault_of command words ≡ [] → rows_of (found_of m) ≡ matches_of command words
+    → parse words ≡ Ok (plan_in m)
+unfolding parse
+parse-taken words m none same =
+    subst (λ (all : Kinds). parse_by all (matches_of command words) ≡ Ok (plan_of_rows (rows_of (found_of m)))) (sym none)
     (ap (λ (r : List Row). Ok (plan_of_rows r)) (sym same))
 
-plan-refused : (words : List Text) (k : ErrorKind) → (k ≡ kind.OutOfMemory) ⊎ IsAmong k (fault_of command words)
-    → IfSome (kind_refusal k) (λ f. plan words ≡ Err f)
-unfolding plan
-plan-refused words k has = refused_by k (fault_of command words) (matches_of command words) (one_fault command words no_subcommands leaf) has
+parse-refused : (words : List Text) (k : ErrorKind) → (k ≡ kind.OutOfMemory) ⊎ IsAmong k (fault_of command words)
+    → IfSome (kind_refusal k) (λ f. parse words ≡ Err f)
+unfolding parse
+parse-refused words k has = refused_by k (fault_of command words) (matches_of command words) (one_fault command words no_subcommands leaf) has
 
 pub Gives-parsed : (words : List Text) (r : Result ArgMatches Error) → IfOk r (HasMatchesOf command words) → FailsBy (fault_of command words) r
-    → Gives plan_in error_refusal r (plan words)
-Gives-parsed words (Ok m) matches none = plan-taken words m none (matches simple).0
-Gives-parsed words (Err e) matches has = plan-refused words (kind_of e) has
+    → Gives plan_in error_refusal r (parse words)
+Gives-parsed words (Ok m) matches none = parse-taken words m none (matches simple).0
+Gives-parsed words (Err e) matches has = parse-refused words (kind_of e) has
+
+-- what the parser takes, with one format
+pub Gives-one : (words : List Text) (p : Plan) (r : Result Plan UsageFault) → parse words ≡ Ok p → Gives (λ p. p) usage_refusal r (one_format p)
+    → Gives (λ p. p) usage_refusal r (plan words)
+unfolding plan
+Gives-one words p r takes gives = subst (Gives (λ p. p) usage_refusal r) (ap (λ t. t >>= one_format) (sym takes)) gives
+
+-- a kind is told as its refusal
+told : (k : ErrorKind) (P : UsageFault → Type 0) → IfSome (kind_refusal k) P → IfSome (usage_refusal (fault_of_kind k)) P
+told kind.OutOfMemory P is = tt
+told _ P is = is
+
+-- what the parser refuses
+pub Gives-refused : (words : List Text) (k : ErrorKind) (fault : UsageFault) → fault ≡ fault_of_kind k → IfSome (kind_refusal k) (λ f. parse words ≡ Err f)
+    → IfSome (usage_refusal fault) (λ f. plan words ≡ Err f)
+unfolding plan
+Gives-refused words k fault is refuses =
+    subst (λ (g : UsageFault). IfSome (usage_refusal g) (λ f. (parse words >>= one_format) ≡ Err f)) (sym is)
+    (told k (λ f. (parse words >>= one_format) ≡ Err f)
+    (if_some_map (kind_refusal k) (λ f. parse words ≡ Err f) (λ f. (parse words >>= one_format) ≡ Err f) (λ f same. ap (λ t. t >>= one_format) same) refuses))

@@ -1,5 +1,5 @@
 -- What the words of a command line, after the program's name, ask for: what clap states of one simple command.
-use Rattle.std.specs.Prelude.{ℕ, Bool, true, false, List, [], ◌∷◌, Option, Some, None, unwrap_or, codes, fold, Result, Ok, Err}
+use Rattle.std.specs.Prelude.{ℕ, Bool, true, false, ◌&&◌, if◌then◌else◌, List, [], ◌∷◌, Option, Some, None, unwrap_or, codes, fold, Result, Ok, Err}
 use Rattle.std.specs.Option.{option_map_or}
 use Rattle.std.specs.Str.{byte, bytes_eq}
 use Rattle.clap.specs.Words.{App, Rule, Row, Text, Kinds, new_app, new_rule, with_rule, fault_of, matches_of, first_of, all_of, rows_of, found_of, kind_of}
@@ -9,9 +9,10 @@ use Rattle.clap.specs.declared.error.Error.{Error}
 use Rattle.clap.specs.declared.error.kind.ErrorKind.{ErrorKind}
 use Rattle.clap.specs.declared.error.kind.ErrorKind.TheVariants as kind
 use Rattle.clap.specs.declared.parser.matches.ArgMatches.{ArgMatches}
+use Rattle.contract_words.specs.Answers.{◌>>=◌}
 use Rattle.mairix_options.specs.declared.command_line.Plan.{Plan}
 use Rattle.mairix_options.specs.declared.command_line.UsageFault.{UsageFault}
-use Rattle.mairix_options.specs.declared.command_line.UsageFault.TheVariants.{Parse, Help, Version, OutOfMemory}
+use Rattle.mairix_options.specs.declared.command_line.UsageFault.TheVariants.{Parse, TwoFormats, Help, Version, OutOfMemory}
 
 -- ---- the command
 
@@ -27,6 +28,10 @@ long_flag id = record (new_rule id) { long = Some id; action = Some SetTrue }
 abbrev pub rcfile_option : Rule
 rcfile_option = record (new_rule (codes "rcfile")) { short = Some (byte "f"); value_names = 1; action = Some Set; required = true }
 
+-- `-o NAME`, once at most
+abbrev pub mfolder_option : Rule
+mfolder_option = record (new_rule (codes "mfolder")) { short = Some (byte "o"); value_names = 1; action = Some Set }
+
 -- the words that are no option, as many as there are
 abbrev pub pattern_argument : Rule
 pattern_argument = record (new_rule (codes "pattern")) { value_names = 1; action = Some Append }
@@ -35,11 +40,21 @@ pattern_argument = record (new_rule (codes "pattern")) { value_names = 1; action
 abbrev pub bare_command : App
 bare_command = on_top (λ s. record s { has_version = true; no_binary_name = true }) (new_app (codes "mairix"))
 
--- `mairix -f RCFILE [-r] [--once] [PATTERN..]`
-abbrev pub command : App
-command = fold with_rule bare_command
+-- `mairix -f RCFILE [-r] [-x] [-t]`
+abbrev pub command_of_formats : App
+command_of_formats = fold with_rule bare_command
     (rcfile_option
     ∷ short_flag (codes "raw") (byte "r")
+    ∷ short_flag (codes "excerpt") (byte "x")
+    ∷ short_flag (codes "threads") (byte "t")
+    ∷ [])
+
+-- `mairix -f RCFILE [-r] [-x] [-t] [-o NAME] [--stdout] [--boolean] [--once] [PATTERN..]`
+abbrev pub command : App
+command = fold with_rule command_of_formats
+    (mfolder_option
+    ∷ long_flag (codes "stdout")
+    ∷ long_flag (codes "boolean")
     ∷ long_flag (codes "once")
     ∷ pattern_argument
     ∷ [])
@@ -54,6 +69,11 @@ abbrev pub plan_of_rows : List Row → Plan
 plan_of_rows rows = record {
   rcfile = unwrap_or (first_of (codes "rcfile") rows) [];
   raw = flag (codes "raw") rows;
+  excerpt = flag (codes "excerpt") rows;
+  threads = flag (codes "threads") rows;
+  mfolder = first_of (codes "mfolder") rows;
+  stdout = flag (codes "stdout") rows;
+  boolean = flag (codes "boolean") rows;
   once = flag (codes "once") rows;
   patterns = unwrap_or (all_of (codes "pattern") rows) [];
 }
@@ -68,13 +88,21 @@ refusal_of_kind kind.DisplayHelp = Help
 refusal_of_kind kind.DisplayVersion = Version
 refusal_of_kind _ = Parse
 
-abbrev pub plan_by : Kinds → List Row → Result Plan UsageFault
-plan_by [] rows = Ok (plan_of_rows rows)
-plan_by (k ∷ ks) rows = Err (refusal_of_kind k)
+abbrev pub parse_by : Kinds → List Row → Result Plan UsageFault
+parse_by [] rows = Ok (plan_of_rows rows)
+parse_by (k ∷ ks) rows = Err (refusal_of_kind k)
+
+-- what the parser makes of the words
+unfoldable pub parse : List Text → Result Plan UsageFault
+parse words = parse_by (fault_of command words) (matches_of command words)
+
+-- The parser takes `-r` beside `-x`, and an answer has one format.
+abbrev pub one_format : Plan → Result Plan UsageFault
+one_format p = if p.raw && p.excerpt then Err TwoFormats else Ok p
 
 -- what the words ask for
 unfoldable pub plan : List Text → Result Plan UsageFault
-plan words = plan_by (fault_of command words) (matches_of command words)
+plan words = parse words >>= one_format
 
 -- ---- refusals
 

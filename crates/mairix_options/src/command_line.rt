@@ -2,7 +2,7 @@
 ghost use Rattle.std.specs.Prelude.{◌≡◌, [], true, false, map, option_map, unwrap_or, is_ok, IfOk, codes, string_bytes};
 ghost use Rattle.clap.specs.Words.{app_of, rule_of, with_rule, found_of, rows_of, first_of, all_of};
 ghost use Rattle.contract_words.specs.Answers.{Gives};
-ghost use Rattle.mairix_options.specs.CommandLine.{short_flag, long_flag, rcfile_option, pattern_argument, bare_command, command, flag, plan, plan_in, fault_of_kind, error_refusal, usage_refusal};
+ghost use Rattle.mairix_options.specs.CommandLine.{short_flag, long_flag, rcfile_option, mfolder_option, pattern_argument, bare_command, command_of_formats, command, flag, parse, plan, plan_in, one_format, fault_of_kind, error_refusal, usage_refusal};
 
 use crate::owned_text::{Text, Texts};
 use clap::error::ErrorKind;
@@ -17,6 +17,16 @@ pub struct Plan {
     pub rcfile: Text,
     /// Whether the answer is offsets, lengths and paths.
     pub raw: bool,
+    /// Whether the answer is paths and header lines.
+    pub excerpt: bool,
+    /// Whether the messages found bring their whole threads.
+    pub threads: bool,
+    /// The name of the file that an mbox goes to, as written, where it isn't the rcfile's.
+    pub mfolder: Option<Text>,
+    /// Whether an mbox goes to standard output.
+    pub stdout: bool,
+    /// Whether the patterns, with spaces between them, are one boolean query.
+    pub boolean: bool,
     /// Whether the index is made in memory.
     pub once: bool,
     /// What to search for, in the order of the words.
@@ -67,25 +77,27 @@ impl<T: Drop> From<AllocFailed<T>> for UsageFault {
 
 /// What the words after the program's name ask for.
 ///
-/// The command is `mairix -f RCFILE [-r] [--once] [PATTERN..]`, with `-h`, `--help`, `-V` and `--version`. What clap
-/// takes of it counts: values attached as `-fRCFILE` or `-f=RCFILE`, bundles as `-rfRCFILE`, options behind patterns or
-/// between them, `--` before patterns that begin with `-`, and `-` as a pattern. Behind `--` each word is a pattern.
+/// The command is `mairix -f RCFILE [-r] [-x] [-t] [-o NAME] [--stdout] [--boolean] [--once] [PATTERN..]`, with `-h`, `--help`,
+/// `-V` and `--version`. What clap takes of it counts: values attached as `-fRCFILE` or `-f=RCFILE`, bundles as `-rfRCFILE`,
+/// options behind patterns or between them, `--` before patterns that begin with `-`, and `-` as a pattern. Behind `--` each
+/// word is a pattern. An option stands once at most.
 ///
 /// # Errors
 ///
-/// `Help` and `Version` where that is what the parser answers first, and `Parse` for any other refusal of it.
+/// `Help` and `Version` where that is what the parser answers first, and `Parse` for any other refusal of it; `TwoFormats`
+/// where the parser takes the words and both `-r` and `-x` are among them.
 pub fn plan_of(alloc: Global, words: &[String]) -> Result<Plan, UsageFault>
     ensures { Gives (λ p. p) usage_refusal result (plan (map string_bytes words.now)) }
 {
     match parsed(alloc, words)? {
-        Ok(matches) => Ok(planned(alloc, &matches)?),
+        Ok(matches) => with_one_format(planned(alloc, &matches)?),
         Err(error) => Err(fault_of_kind(error.kind())),
     }
 }
 
 /// The parser's own text for words that it refuses, help and version included, and else none.
 pub fn usage_text(alloc: Global, words: &[String]) -> Result<String, AllocError>
-    ensures { is_ok (plan (map string_bytes words.now)) ≡ true → IfOk result (λ text. string_bytes text ≡ []) }
+    ensures { is_ok (parse (map string_bytes words.now)) ≡ true → IfOk result (λ text. string_bytes text ≡ []) }
 {
     match parsed(alloc, words)? {
         Ok(_) => Ok(String::new(alloc)),
@@ -96,11 +108,21 @@ pub fn usage_text(alloc: Global, words: &[String]) -> Result<String, AllocError>
     }
 }
 
+/// The plan, unless it asks for two formats of the answer.
+fn with_one_format(plan: Plan) -> Result<Plan, UsageFault>
+    ensures { Gives (λ p. p) usage_refusal result (one_format plan) }
+{
+    if plan.raw && plan.excerpt {
+        return Err(UsageFault::TwoFormats);
+    }
+    Ok(plan)
+}
+
 fn parsed<'a>(
     alloc: Global,
     words: &'a [String],
 ) -> Result<Result<ArgMatches<'a>, clap::Error>, AllocError>
-    ensures { IfOk result (λ r. Gives plan_in error_refusal r (plan (map string_bytes words.entry.now))) }
+    ensures { IfOk result (λ r. Gives plan_in error_refusal r (parse (map string_bytes words.entry.now))) }
 {
     Ok(command(alloc)?.try_get_matches_from(words))
 }
@@ -111,6 +133,11 @@ fn planned(alloc: Global, matches: &ArgMatches<'_>) -> Result<Plan, AllocError>
     Ok(Plan {
         rcfile: Text::new(alloc, text_of(matches, "rcfile").unwrap_or(""))?,
         raw: is_set(matches, "raw"),
+        excerpt: is_set(matches, "excerpt"),
+        threads: is_set(matches, "threads"),
+        mfolder: own_text_of(alloc, matches, "mfolder")?,
+        stdout: is_set(matches, "stdout"),
+        boolean: is_set(matches, "boolean"),
         once: is_set(matches, "once"),
         patterns: texts_of(alloc, matches, "pattern")?,
     })
@@ -120,6 +147,19 @@ fn text_of<'a>(matches: &ArgMatches<'a>, id: &str) -> Option<&'a str>
     ensures { option_map (λ s. s.now) result ≡ first_of id.now (rows_of (found_of matches.now)) }
 {
     matches.get_str(id)
+}
+
+fn own_text_of(
+    alloc: Global,
+    matches: &ArgMatches<'_>,
+    id: &str,
+) -> Result<Option<Text>, AllocError>
+    ensures { IfOk result (λ text. text ≡ first_of id.now (rows_of (found_of matches.now))) }
+{
+    match text_of(matches, id) {
+        Some(text) => Ok(Some(Text::new(alloc, text)?)),
+        None => Ok(None),
+    }
 }
 
 fn is_set(matches: &ArgMatches<'_>, id: &str) -> bool
@@ -154,17 +194,49 @@ fn fault_of_kind(kind: ErrorKind) -> UsageFault
 fn command<'a>(alloc: Global) -> Result<Command<'a>, AllocError>
     ensures { IfOk result (λ c. app_of c ≡ command) }
 {
-    let bare = bare_command(alloc);
-    let rcfile = with(bare, rcfile_option(alloc))?;
+    let formats = command_of_formats(alloc)?;
+    let mfolder = with(formats, mfolder_option(alloc))?;
+    let stdout = with(
+        mfolder,
+        long_flag(alloc, "stdout", "Print the mbox, and write no file"),
+    )?;
+    let boolean = with(
+        stdout,
+        long_flag(
+            alloc,
+            "boolean",
+            "Read the patterns as one query of and, or, not and parentheses",
+        ),
+    )?;
+    let once = with(
+        boolean,
+        long_flag(alloc, "once", "Index in memory, then search"),
+    )?;
+    with(once, pattern_argument(alloc))
+}
+
+/// The command up to what its answers are and hold.
+fn command_of_formats<'a>(alloc: Global) -> Result<Command<'a>, AllocError>
+    ensures { IfOk result (λ c. app_of c ≡ command_of_formats) }
+{
+    let rcfile = with(bare_command(alloc), rcfile_option(alloc))?;
     let raw = with(
         rcfile,
         short_flag(alloc, "raw", 'r', "Print offsets, lengths and archives"),
     )?;
-    let once = with(
+    let excerpt = with(
         raw,
-        long_flag(alloc, "once", "Index in memory, then search"),
+        short_flag(
+            alloc,
+            "excerpt",
+            'x',
+            "Print archives and the main header lines",
+        ),
     )?;
-    with(once, pattern_argument(alloc))
+    with(
+        excerpt,
+        short_flag(alloc, "threads", 't', "Answer with whole threads"),
+    )
 }
 
 fn with<'a>(command: Command<'a>, arg: Arg<'a>) -> Result<Command<'a>, AllocError>
@@ -193,6 +265,17 @@ fn rcfile_option<'a>(alloc: Global) -> Arg<'a>
         .required(true)
         .action(ArgAction::Set)
         .help("The file that names the archives and the index")
+}
+
+fn mfolder_option<'a>(alloc: Global) -> Arg<'a>
+    ensures rule { rule_of result ≡ mfolder_option }
+    ensures local { result.global ≡ false }
+{
+    Arg::new(alloc, "mfolder")
+        .short('o')
+        .value_name("NAME")
+        .action(ArgAction::Set)
+        .help("The mbox to write, in place of the rcfile's mfolder")
 }
 
 fn pattern_argument<'a>(alloc: Global) -> Arg<'a>

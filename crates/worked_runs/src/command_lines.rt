@@ -14,6 +14,11 @@ Arguments:
 Options:
   -f <RCFILE>    The file that names the archives and the index
   -r             Print offsets, lengths and archives
+  -x             Print archives and the main header lines
+  -t             Answer with whole threads
+  -o <NAME>      The mbox to write, in place of the rcfile's mfolder
+      --stdout   Print the mbox, and write no file
+      --boolean  Read the patterns as one query of and, or, not and parentheses
       --once     Index in memory, then search
   -h, --help     Print help
   -V, --version  Print version

@@ -1,0 +1,13 @@
+use Rattle.std.proofs.Common.{◌≡◌, ◌∙◌, ap₂}
+use Rattle.std.proofs.lemmas.Result.{IfOk-weaker}
+use Rattle.clap.specs.Words.{app_of, rule_of, with_rule}
+use Rattle.mairix_options.specs.CommandLine.{command}
+use Rattle.mairix_options.proofs.command_line.command.Goals as goal
+
+pub returns : goal.returns
+returns c =
+    let mfolder = c.in_ok-mfolder.ensures ∙ ap₂ with_rule c.in_ok-formats.ensures c.mfolder_option.ensures.rule in
+    let stdout = c.in_ok-stdout.ensures ∙ ap₂ with_rule mfolder c.long_flag.ensures.rule in
+    let boolean = c.in_ok-boolean.ensures ∙ ap₂ with_rule stdout c.long_flag-2.ensures.rule in
+    let once = c.in_ok-once.ensures ∙ ap₂ with_rule boolean c.long_flag-3.ensures.rule in
+    IfOk-weaker c.with-5.result _ (λ whole. app_of whole ≡ command) (λ whole same. same ∙ ap₂ with_rule once c.pattern_argument.ensures.rule) c.with-5.ensures
