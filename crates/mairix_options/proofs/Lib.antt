@@ -1,4 +1,5 @@
 pub mod Entries
+pub mod Misfits
 pub mod OneKind
 pub mod Parses
 mod RowsCommandLine

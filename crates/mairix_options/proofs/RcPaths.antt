@@ -1,27 +1,34 @@
 -- The paths that an accepted rcfile names are paths of an index.
-use Rattle.std.proofs.Common.{◌≡◌, ◌≢◌, ℕ, zero, suc, ◌+◌, ◌-◌, ◌<◌, ◌==◌, Bool, true, false, not, nat_eq, nat_lt, nat_le, ◌||◌, ◌&&◌, if◌then◌else◌, lit<, List, [], ◌∷◌, ◌++◌, length, drop, get_or, codes, Option, None, Some, Result, Ok, Err, IfOk, IfSome, refl, sym, ap, ◌∙◌, subst, arith, ⊎_elim}
-use Rattle.std.specs.List.{All, AllByRecursion, list_any, list_all, flat_map, filter_map, cons_option, last_or, prefix_len, suffix_len, position_or_len, before_first, after_first, slice_split}
-use Rattle.std.specs.Str.{IsUtf8, is_utf8, bytes_eq}
+use Rattle.std.proofs.Common.{◌≡◌, ◌≢◌, ℕ, zero, suc, ◌+◌, ◌-◌, ◌<◌, ◌==◌, Bool, true, false, not, nat_eq, nat_lt, nat_le, ◌||◌, ◌&&◌, if◌then◌else◌, lit<, List, [], ◌∷◌, ◌++◌, length, map, drop, get_or, codes, Option, None, Some, unwrap_or, Result, Ok, Err, IfOk, IfSome, refl, sym, ap, ◌∙◌, subst, arith, ⊎_elim}
+use Rattle.std.specs.List.{All, AllByRecursion, list_any, list_all, flat_map, filter_map, cons_option, last_or, slice_get, slice_index, starts_with, prefix_len, suffix_len, position_or_len, before_first, after_first, slice_split}
+use Rattle.std.specs.Option.{option_and_then}
+use Rattle.std.specs.Str.{IsUtf8, is_utf8}
 use Rattle.std.proofs.lemmas.Bool.{cases_lt, and_parts, or_parts, not-true, not-false}
 use Rattle.std.proofs.lemmas.Bool.Decides.{nat_tests}
 use Rattle.std.proofs.lemmas.List.{drop_all, length-drop}
 use Rattle.std.proofs.lemmas.List.Elements.{All-nil, All-cons, All-head, All-tail, All-append, All-filter}
 use Rattle.std.proofs.lemmas.List.Splits.{slice_split_first}
 use Rattle.std.proofs.lemmas.List.Sums.{passes_at_first}
-use Rattle.std.proofs.lemmas.Str.{IsUtf8-nil, IsUtf8-take, IsUtf8-drop, IsUtf8-from_is_utf8, IsCharBoundary-before_ascii, IsCharBoundary-after_ascii}
-use Rattle.contract_words.specs.Answers.{Gives, ◌>>=◌, with_front, collect_from}
+use Rattle.std.proofs.lemmas.Str.{IsUtf8-nil, IsUtf8-append, IsUtf8-take, IsUtf8-drop, IsUtf8-from_is_utf8, IsUtf8-from_ascii, IsCharBoundary-before_ascii, IsCharBoundary-after_ascii}
+use Rattle.contract_words.specs.Answers.{Gives, ◌>>=◌}
 use Rattle.mail_dates.proofs.Cuts.{split_none}
 use Rattle.mail_index.specs.Tables.{IsPath}
 use Rattle.mairix_options.specs.Blanks.{is_blank, trimmed}
-use Rattle.mairix_options.specs.Path.{is_path, has_expansion, has_wildcard}
-use Rattle.mairix_options.specs.Rcfile.{names_in, setting_of, archives_in, database_in, mfolder_in, paths_in, assigned, entry, is_skipped, text_settings, line_settings, lines_in, required, if_any, rc_from, rc_of, rc_refusal}
+use Rattle.mairix_options.specs.Path.{is_path, has_expansion, has_wildcard, joined, under, archive_path, mfolder_path}
+use Rattle.mairix_options.specs.Rcfile.{keyword_of, archives_of, names_in, paths_in, expanded_in, wild_in, format_of, setting_of, supported, assigned, entry, is_skipped, text_settings, line_settings, base_in, archives_in, database_in, mfolder_in, format_in, last_of, lines_in, settings_from, archives_misfit, mfolder_misfit, earlier, first_misfit, all_fit, required, if_any, all_paths, rc_fitting, rc_with, rc_from, rc_of, rc_refusal}
+use Rattle.mairix_options.specs.declared.setting.ArchivesLine.{ArchivesLine}
+use Rattle.mairix_options.specs.declared.setting.Keyword.{Keyword}
+use Rattle.mairix_options.specs.declared.setting.Keyword.TheVariants as keyword
+use Rattle.mairix_options.specs.declared.mail_format.MailFormat.{MailFormat}
+use Rattle.mairix_options.specs.declared.mail_format.MailFormat.TheVariants as mail
+use Rattle.mairix_options.specs.declared.setting.MfolderLine.{MfolderLine}
 use Rattle.mairix_options.specs.declared.rcfile.Name.{Name}
 use Rattle.mairix_options.specs.declared.rcfile.Name.TheVariants as name
 use Rattle.mairix_options.specs.declared.rcfile.Rc.{Rc}
 use Rattle.mairix_options.specs.declared.rcfile.RcFault.{RcFault}
-use Rattle.mairix_options.specs.declared.rcfile.RcFault.TheVariants.{BadLine, NotSupported, Expansion, Wildcard}
-use Rattle.mairix_options.specs.declared.rcfile.Setting.{Setting}
-use Rattle.mairix_options.specs.declared.rcfile.Setting.TheVariants.{Archives, Database, Mfolder}
+use Rattle.mairix_options.specs.declared.rcfile.RcFault.TheVariants.{BadLine, NotSupported, Expansion, Wildcard, BadFormat}
+use Rattle.mairix_options.specs.declared.setting.Setting.{Setting}
+use Rattle.mairix_options.specs.declared.setting.Setting.TheVariants.{Base, Archives, Database, Mfolder, Format}
 use Rattle.mairix_options.proofs.Trimming.{IsCharBoundary-blanks, IsCharBoundary-end_blanks}
 
 -- ---- pieces of a text are texts
@@ -71,7 +78,7 @@ module _ (c : ℕ) (ascii : c < 128) where
       subst (All IsUtf8) (sym whole) (All-cons IsUtf8 text [] utf8 (All-nil IsUtf8)))
       (cases_lt at (length text))
 
-names-utf8 : (value : List ℕ) → IsUtf8 value → All IsUtf8 (names_in value)
+names-utf8 : (value : List ℕ) → IsUtf8 value → All IsUtf8 (archives_of value)
 names-utf8 value utf8 =
     All-filter (λ text. nat_lt 0 (length text)) IsUtf8 (slice_split (λ b. b == 58) value) (parts-utf8 58 (lit< tt) (suc (length value)) value (omega arith) utf8)
 
@@ -99,28 +106,13 @@ paths-from (text ∷ texts) utf8 pass =
 
 -- ---- a line
 
--- what a setting names are paths
-abbrev NamesPaths : Setting → Type 0
-NamesPaths (Archives names) = All IsPath names
-NamesPaths (Database path) = IsPath path
-NamesPaths (Mfolder path) = IsPath path
-
--- the setting that tests of the option's name pick
-picked-names : (is_mbox is_database is_mfolder : Bool) (value : List ℕ) (s : Setting) → IsUtf8 value
-    → (if is_mbox then Some (Archives (names_in value)) else (if is_database then Some (Database value) else (if is_mfolder then Some (Mfolder value) else None))) ≡ Some s
-    → list_all is_path (paths_in (Some s) value) ≡ true → NamesPaths s
-picked-names true _ _ value s utf8 is pass =
-    let same : Archives (names_in value) ≡ s = cc in
-    subst NamesPaths same (paths-from (names_in value) (names-utf8 value utf8) (subst (λ (s : Setting). list_all is_path (paths_in (Some s) value) ≡ true) (sym same) pass))
-picked-names false true _ value s utf8 is pass =
-    let same : Database value ≡ s = cc in
-    let one = subst (λ (s : Setting). list_all is_path (paths_in (Some s) value) ≡ true) (sym same) pass in
-    subst NamesPaths same (path-from value utf8 (and_parts (is_path value) true one).0)
-picked-names false false true value s utf8 is pass =
-    let same : Mfolder value ≡ s = cc in
-    let one = subst (λ (s : Setting). list_all is_path (paths_in (Some s) value) ≡ true) (sym same) pass in
-    subst NamesPaths same (path-from value utf8 (and_parts (is_path value) true one).0)
-picked-names false false false value s utf8 is pass = absurd cc
+-- what a setting names: paths where nothing is put before them, else texts
+abbrev NamesTexts : Setting → Type 0
+NamesTexts (Base path) = IsPath path
+NamesTexts (Archives line) = All IsUtf8 line.names
+NamesTexts (Database path) = IsPath path
+NamesTexts (Mfolder line) = IsUtf8 line.name
+NamesTexts (Format _) = Unit {0}
 
 module _ {A F : Type 0} where
   -- where a fault would be answered, nothing is
@@ -132,72 +124,169 @@ module _ {A F : Type 0} where
   given (Ok a) f b is = (a, refl, is)
   given (Err fault) f b is = absurd cc
 
-chosen : (n : ℕ) (paths : List (List ℕ)) (o : Option Setting) (s : Setting)
-    → ◌≡◌ {A = Result Setting RcFault} (elim o [
-      | None ↦ Err (NotSupported n)
-      | Some t ↦ if list_any has_expansion paths then Err (Expansion n)
-          else (if list_any has_wildcard (archives_in t) then Err (Wildcard n)
-          else Ok t)
-    ]) (Ok s) → o ≡ Some s
-chosen n paths None s is = absurd cc
-chosen n paths (Some t) s is =
-    let expanded = passed (list_any has_expansion paths) (Expansion n) (if list_any has_wildcard (archives_in t) then Err (Wildcard n) else Ok t) s is in
-    let last = passed (list_any has_wildcard (archives_in t)) (Wildcard n) (Ok t) s expanded.1 in
-    let same : t ≡ s = cc in
-    ap (λ t. Some t) same
+format-names : (n : ℕ) (o : Option MailFormat) (s : Setting)
+    → ◌≡◌ {A = Result Setting RcFault} (elim o [ Some format ↦ Ok (Format format) | None ↦ Err (BadFormat n) ]) (Ok s) → NamesTexts s
+format-names n None s is = absurd cc
+format-names n (Some format) s is = let same : Format format ≡ s = cc in subst NamesTexts same tt
 
-assigned-names : (n : ℕ) (option value : List ℕ) (s : Setting) → IsUtf8 value → assigned n option value ≡ Ok s → NamesPaths s
-assigned-names n option value s utf8 is =
-    let setting : Option Setting = setting_of option value in
-    let paths : List (List ℕ) = paths_in setting value in
-    let sound = passed (nat_eq (length option) 0 || (nat_eq (length value) 0 || not (list_all is_path paths))) (BadLine n) _ s is in
-    let all = or_parts (nat_eq (length value) 0) (not (list_all is_path paths)) (or_parts (nat_eq (length option) 0) (nat_eq (length value) 0 || not (list_all is_path paths)) sound.0).1 in
-    let some : setting ≡ Some s = chosen n paths setting s sound.1 in
-    let pass : list_all is_path paths ≡ true = not-false (list_all is_path paths) all.1 in
-    picked-names (bytes_eq option (codes "mbox")) (bytes_eq option (codes "database")) (bytes_eq option (codes "mfolder")) value s utf8 some
-    (subst (λ (o : Option Setting). list_all is_path (paths_in o value) ≡ true) some pass)
+set-names : (n : ℕ) (k : Keyword) (value : List ℕ) (s : Setting) → IsUtf8 value → list_all is_path (names_in (Some k) value) ≡ true
+    → setting_of n k value ≡ Ok s → NamesTexts s
+set-names n keyword.Base value s utf8 pass is =
+    let same : Base value ≡ s = cc in subst NamesTexts same (path-from value utf8 (and_parts (is_path value) true pass).0)
+set-names n keyword.Mbox value s utf8 pass is =
+    let same : Archives (record { number = n; names = archives_of value }) ≡ s = cc in subst NamesTexts same (names-utf8 value utf8)
+set-names n keyword.Database value s utf8 pass is =
+    let same : Database value ≡ s = cc in subst NamesTexts same (path-from value utf8 (and_parts (is_path value) true pass).0)
+set-names n keyword.Mfolder value s utf8 pass is =
+    let same : Mfolder (record { number = n; name = value }) ≡ s = cc in subst NamesTexts same utf8
+set-names n keyword.Mformat value s utf8 pass is = format-names n (format_of value) s is
 
-entry-names : (n : ℕ) (text : List ℕ) (s : Setting) → entry n text ≡ Ok s → NamesPaths s
-entry-names n text s is =
-    let sound = passed (not (is_utf8 text)) (BadLine n) (assigned n (trimmed (before_first (λ b. b == 61) text)) (trimmed (after_first (λ b. b == 61) text))) s is in
+keyword-names : (n : ℕ) (o : Option Keyword) (value : List ℕ) (s : Setting) → IsUtf8 value → list_all is_path (names_in o value) ≡ true
+    → ◌≡◌ {A = Result Setting RcFault} (elim o [ None ↦ Err (NotSupported n) | Some k ↦ supported n k value ]) (Ok s) → NamesTexts s
+keyword-names n None value s utf8 pass is = absurd cc
+keyword-names n (Some k) value s utf8 pass is =
+    let expanded = passed (list_any has_expansion (expanded_in k value)) (Expansion n) (if list_any has_wildcard (wild_in k value) then Err (Wildcard n) else setting_of n k value) s is in
+    let wild = passed (list_any has_wildcard (wild_in k value)) (Wildcard n) (setting_of n k value) s expanded.1 in
+    set-names n k value s utf8 pass wild.1
+
+assigned-names : (base : Option (List ℕ)) (n : ℕ) (option value : List ℕ) (s : Setting) → IsUtf8 value → assigned base n option value ≡ Ok s → NamesTexts s
+assigned-names base n option value s utf8 is =
+    let k : Option Keyword = keyword_of option in
+    let all : Bool = list_all is_path (names_in k value) && list_all is_path (paths_in base k value) in
+    let sound = passed (nat_eq (length option) 0 || (nat_eq (length value) 0 || not all)) (BadLine n) _ s is in
+    let bad = or_parts (nat_eq (length value) 0) (not all) (or_parts (nat_eq (length option) 0) (nat_eq (length value) 0 || not all) sound.0).1 in
+    let pass = and_parts (list_all is_path (names_in k value)) (list_all is_path (paths_in base k value)) (not-false all bad.1) in
+    keyword-names n k value s utf8 pass.0 sound.1
+
+entry-names : (base : Option (List ℕ)) (n : ℕ) (text : List ℕ) (s : Setting) → entry base n text ≡ Ok s → NamesTexts s
+entry-names base n text s is =
+    let sound = passed (not (is_utf8 text)) (BadLine n) (assigned base n (trimmed (before_first (λ b. b == 61) text)) (trimmed (after_first (λ b. b == 61) text))) s is in
     let utf8 : IsUtf8 text = IsUtf8-from_is_utf8 text (not-false (is_utf8 text) sound.0) in
-    assigned-names n (trimmed (before_first (λ b. b == 61) text)) (trimmed (after_first (λ b. b == 61) text)) s
+    assigned-names base n (trimmed (before_first (λ b. b == 61) text)) (trimmed (after_first (λ b. b == 61) text)) s
     (trimmed-utf8 (after_first (λ b. b == 61) text) (after-utf8 61 (lit< tt) text utf8)) sound.1
 
-text-names : (n : ℕ) (text : List ℕ) (ss : List Setting) → text_settings n text ≡ Ok ss → All NamesPaths ss
-text-names n text ss is =
-    (elim (is_skipped text) as (λ skipped. (if skipped then Ok [] else (entry n text >>= (λ s. Ok (s ∷ [])))) ≡ Ok ss → All NamesPaths ss) [
-      | true ↦ λ none. let same : [] ≡ ss = cc in subst (All NamesPaths) same (All-nil NamesPaths)
+text-names : (base : Option (List ℕ)) (n : ℕ) (text : List ℕ) (ss : List Setting) → text_settings base n text ≡ Ok ss → All NamesTexts ss
+text-names base n text ss is =
+    (elim (is_skipped text) as (λ skipped. (if skipped then Ok [] else (entry base n text >>= (λ s. Ok (s ∷ [])))) ≡ Ok ss → All NamesTexts ss) [
+      | true ↦ λ none. let same : [] ≡ ss = cc in subst (All NamesTexts) same (All-nil NamesTexts)
       | false ↦ λ one.
-          let s = given (entry n text) (λ s. Ok (s ∷ [])) ss one in
+          let s = given (entry base n text) (λ s. Ok (s ∷ [])) ss one in
           let same : s.0 ∷ [] ≡ ss = let e : Ok (s.0 ∷ []) ≡ Ok ss = s.2 in cc in
-          subst (All NamesPaths) same (All-cons NamesPaths s.0 [] (entry-names n text s.0 s.1) (All-nil NamesPaths))
+          subst (All NamesTexts) same (All-cons NamesTexts s.0 [] (entry-names base n text s.0 s.1) (All-nil NamesTexts))
     ]) is
 
 -- ---- all lines
 
-module _ {X Y F : Type 0} (P : Y → Type 0) (f : ℕ → X → Result (List Y) F) (each : (n : ℕ) (x : X) (ys : List Y) → f n x ≡ Ok ys → All P ys) where
-  front-parts : (front : List Y) (r : Result (List Y) F) (ys : List Y) → with_front front r ≡ Ok ys → (rest : List Y) × (r ≡ Ok rest) × (ys ≡ front ++ rest)
-  front-parts front (Ok rest) ys is = (rest, refl, cc)
-  front-parts front (Err fault) ys is = absurd cc
+settings-names : (before : List Setting) (n : ℕ) (lines : List (List ℕ)) (ss : List Setting) → All NamesTexts before → settings_from before n lines ≡ Ok ss → All NamesTexts ss
+settings-names before n [] ss all is = let same : before ≡ ss = cc in subst (All NamesTexts) same all
+settings-names before n (line ∷ lines) ss all is =
+    let said = given (line_settings (last_of base_in before) n line) (λ s. settings_from (before ++ s) (n + 1) lines) ss is in
+    settings-names (before ++ said.0) (n + 1) lines ss
+    (All-append NamesTexts before said.0 all (text-names (last_of base_in before) n (trimmed line) said.0 said.1)) said.2
 
-  collected : (n : ℕ) (xs : List X) (ys : List Y) → collect_from f n xs ≡ Ok ys → All P ys
-  collected n [] ys is = let same : [] ≡ ys = cc in subst (All P) same (All-nil P)
-  collected n (x ∷ xs) ys is =
-      let first = given (f n x) (λ zs. with_front zs (collect_from f (n + 1) xs)) ys is in
-      let rest = front-parts first.0 (collect_from f (n + 1) xs) ys first.2 in
-      subst (All P) (sym rest.2) (All-append P first.0 rest.0 (each n x first.0 first.1) (collected (n + 1) xs rest.0 rest.1))
+-- what one option says in all settings
+module _ {X : Type 0} (P : X → Type 0) (value : Setting → Option X) (names : (s : Setting) → NamesTexts s → IfSome (value s) P) where
+  all-values : (ss : List Setting) → All NamesTexts ss → All P (filter_map value ss)
+  all-values [] all = All-nil P
+  all-values (s ∷ ss) all =
+      let later : All P (filter_map value ss) = all-values ss (All-tail NamesTexts s ss all) in
+      (elim (value s) as (λ o. IfSome o P → All P (cons_option o (filter_map value ss))) [
+        | None ↦ λ _. later
+        | Some x ↦ λ here. All-cons P x (filter_map value ss) here later
+      ]) (names s (All-head NamesTexts s ss all))
 
-archive-paths : (ss : List Setting) → All NamesPaths ss → All IsPath (flat_map archives_in ss)
-archive-paths [] all = All-nil IsPath
-archive-paths (s ∷ ss) all =
-    All-append IsPath (archives_in s) (flat_map archives_in ss)
-    ((elim s as (λ s. NamesPaths s → All IsPath (archives_in s)) [
-      | Archives names ↦ λ paths. paths
-      | Database path ↦ λ _. All-nil IsPath
-      | Mfolder path ↦ λ _. All-nil IsPath
-    ]) (All-head NamesPaths s ss all))
-    (archive-paths ss (All-tail NamesPaths s ss all))
+  last-of : (o : Option X) (xs : List X) → IfSome o P → All P xs → IfSome (last_or o xs) P
+  last-of o [] before all = before
+  last-of o (x ∷ xs) before all = last-of (Some x) xs (All-head P x xs all) (All-tail P x xs all)
+
+  last-value : (ss : List Setting) → All NamesTexts ss → IfSome (last_of value ss) P
+  last-value ss all = last-of None (filter_map value ss) tt (all-values ss all)
+
+base-names : (s : Setting) → NamesTexts s → IfSome (base_in s) IsPath
+base-names (Base path) is = is
+base-names (Archives line) is = tt
+base-names (Database path) is = tt
+base-names (Mfolder line) is = tt
+base-names (Format f) is = tt
+
+abbrev HasTexts : ArchivesLine → Type 0
+HasTexts line = All IsUtf8 line.names
+
+archives-names : (s : Setting) → NamesTexts s → IfSome (archives_in s) HasTexts
+archives-names (Base path) is = tt
+archives-names (Archives line) is = is
+archives-names (Database path) is = tt
+archives-names (Mfolder line) is = tt
+archives-names (Format f) is = tt
+
+database-names : (s : Setting) → NamesTexts s → IfSome (database_in s) IsPath
+database-names (Base path) is = tt
+database-names (Archives line) is = tt
+database-names (Database path) is = is
+database-names (Mfolder line) is = tt
+database-names (Format f) is = tt
+
+mfolder-names : (s : Setting) → NamesTexts s → IfSome (mfolder_in s) (λ line. IsUtf8 line.name)
+mfolder-names (Base path) is = tt
+mfolder-names (Archives line) is = tt
+mfolder-names (Database path) is = tt
+mfolder-names (Mfolder line) is = is
+mfolder-names (Format f) is = tt
+
+-- ---- under the base that counts
+
+slash-ascii : (i : ℕ) → slice_index (codes "/") i < 128
+slash-ascii zero = lit< tt
+slash-ascii (suc i) = lit< tt
+
+under-utf8 : (base : Option (List ℕ)) (as_written : Bool) (name : List ℕ) → IfSome base IsPath → IsUtf8 name → IsUtf8 (under base as_written name)
+under-utf8 None as_written name is utf8 = utf8
+under-utf8 (Some folder) true name is utf8 = utf8
+under-utf8 (Some folder) false name is utf8 =
+    let slash : IsUtf8 (codes "/") = IsUtf8-from_ascii (codes "/") slash-ascii in
+    IsUtf8-append folder (codes "/" ++ name) is.text (IsUtf8-append (codes "/") name slash utf8)
+
+module _ (base : Option (List ℕ)) (is_base : IfSome base IsPath) where
+  archive-utf8 : (names : List (List ℕ)) → All IsUtf8 names → All IsUtf8 (map (archive_path base) names)
+  archive-utf8 [] all = All-nil IsUtf8
+  archive-utf8 (name ∷ names) all =
+      All-cons IsUtf8 (archive_path base name) (map (archive_path base) names)
+      (under-utf8 base (starts_with nat_eq name (codes "/")) name is_base (All-head IsUtf8 name names all))
+      (archive-utf8 names (All-tail IsUtf8 name names all))
+
+  fitting-archives : (archives : List ArchivesLine) → All HasTexts archives → slice_get (filter_map (archives_misfit base) archives) 0 ≡ None
+      → All IsPath (all_paths base archives)
+  fitting-archives [] all none = All-nil IsPath
+  fitting-archives (line ∷ archives) all none =
+      let here : List (List ℕ) = map (archive_path base) line.names in
+      let texts : All IsUtf8 here = archive-utf8 line.names (All-head HasTexts line archives all) in
+      (elim (list_all is_path here) as (λ fit. list_all is_path here ≡ fit
+      → slice_get (cons_option (if fit then None else Some line.number) (filter_map (archives_misfit base) archives)) 0 ≡ None
+      → All IsPath (here ++ all_paths base archives)) [
+        | true ↦ λ fit none. All-append IsPath here (all_paths base archives) (paths-from here texts fit) (fitting-archives archives (All-tail HasTexts line archives all) none)
+        | false ↦ λ _ none. absurd cc
+      ]) refl none
+
+  fitting-mfolder : (line : MfolderLine) → IsUtf8 line.name → mfolder_misfit base line ≡ None → IsPath (mfolder_path base line.name)
+  fitting-mfolder line utf8 none =
+      let path : List ℕ = mfolder_path base line.name in
+      (elim (is_path path) as (λ fit. is_path path ≡ fit → (if fit then None else Some line.number) ≡ None → IsPath path) [
+        | true ↦ λ fit _. path-from path
+            (under-utf8 base (starts_with nat_eq line.name (codes "/") || starts_with nat_eq line.name (codes ".")) line.name is_base utf8) fit
+        | false ↦ λ _ none. absurd cc
+      ]) refl none
+
+-- ---- the whole
+
+neither : (a b : Option ℕ) → earlier a b ≡ None → (a ≡ None) × (b ≡ None)
+neither None None none = (refl, refl)
+neither None (Some b) none = absurd cc
+neither (Some a) None none = absurd cc
+neither (Some a) (Some b) none = absurd cc
+
+all-fit : (o : Option ℕ) → all_fit o ≡ Ok tt → o ≡ None
+all-fit None is = refl
+all-fit (Some n) is = absurd cc
 
 required-is : {A : Type 0} (option : Name) (o : Option A) (a : A) → required option o ≡ Ok a → o ≡ Some a
 required-is option None a is = absurd cc
@@ -207,80 +296,62 @@ any-is : (paths some : List (List ℕ)) → if_any paths ≡ Some some → paths
 any-is [] some is = absurd cc
 any-is (path ∷ paths) some is = cc
 
-abbrev rc_with : List (List ℕ) → List ℕ → List ℕ → Rc
-rc_with paths database mfolder = record { paths = paths; database = database; mfolder = mfolder }
-
--- the last of some paths, where there is one
-last-path : (o : Option (List ℕ)) (texts : List (List ℕ)) → IfSome o IsPath → All IsPath texts → IfSome (last_or o texts) IsPath
-last-path o [] before all = before
-last-path o (text ∷ texts) before all = last-path (Some text) texts (All-head IsPath text texts all) (All-tail IsPath text texts all)
-
--- what one option says in all settings
-module _ (value : Setting → Option (List ℕ)) (names : (s : Setting) → NamesPaths s → IfSome (value s) IsPath) where
-  value-paths : (ss : List Setting) → All NamesPaths ss → All IsPath (filter_map value ss)
-  value-paths [] all = All-nil IsPath
-  value-paths (s ∷ ss) all =
-      let later : All IsPath (filter_map value ss) = value-paths ss (All-tail NamesPaths s ss all) in
-      (elim (value s) as (λ o. IfSome o IsPath → All IsPath (cons_option o (filter_map value ss))) [
-        | None ↦ λ _. later
-        | Some path ↦ λ is_path. All-cons IsPath path (filter_map value ss) is_path later
-      ]) (names s (All-head NamesPaths s ss all))
-
-  required-path : (option : Name) (ss : List Setting) (path : List ℕ) → All NamesPaths ss → required option (last_or None (filter_map value ss)) ≡ Ok path → IsPath path
-  required-path option ss path all is =
-      subst (λ (o : Option (List ℕ)). IfSome o IsPath) (required-is option (last_or None (filter_map value ss)) path is) (last-path None (filter_map value ss) tt (value-paths ss all))
-
-database-path : (s : Setting) → NamesPaths s → IfSome (database_in s) IsPath
-database-path (Archives names) paths = tt
-database-path (Database path) is_path = is_path
-database-path (Mfolder path) is_path = tt
-
-mfolder-path : (s : Setting) → NamesPaths s → IfSome (mfolder_in s) IsPath
-mfolder-path (Archives names) paths = tt
-mfolder-path (Database path) is_path = tt
-mfolder-path (Mfolder path) is_path = is_path
-
 -- all that an rcfile names are paths
 record AllPaths (r : Rc) : Type 0 where
+  base : IfSome r.base IsPath
   paths : All IsPath r.paths
   database : IsPath r.database
   mfolder : IsPath r.mfolder
 
-given-paths : (paths : List (List ℕ)) (database mfolder : List ℕ) (r : Rc) → All IsPath paths → IsPath database → IsPath mfolder
-    → ◌≡◌ {A = Result Rc RcFault} (Ok (rc_with paths database mfolder)) (Ok r) → AllPaths r
-given-paths paths database mfolder r are is_database is_mfolder is =
-    let same : rc_with paths database mfolder ≡ r = cc in
-    subst AllPaths same (record { paths = are; database = is_database; mfolder = is_mfolder })
+-- what the options say
+module _ (base : Option (List ℕ)) (archives : List ArchivesLine) (database : Option (List ℕ)) (mfolder : Option MfolderLine) (format : Option MailFormat)
+    (is_base : IfSome base IsPath) (are_archives : All HasTexts archives) (is_database : IfSome database IsPath) (is_mfolder : IfSome mfolder (λ line. IsUtf8 line.name)) where
+  rc-paths : (r : Rc) → rc_with base archives database mfolder format ≡ Ok r → AllPaths r
+  rc-paths r is =
+      let fit = given (all_fit (first_misfit base archives mfolder)) (λ _. rc_fitting base archives database mfolder format) r is in
+      let paths = given (required name.Mbox (if_any (all_paths base archives))) _ r fit.2 in
+      let index = given (required name.Database database) _ r paths.2 in
+      let line = given (required name.Mfolder mfolder) _ r index.2 in
+      let none = neither (slice_get (filter_map (archives_misfit base) archives) 0) (option_and_then (mfolder_misfit base) mfolder) (all-fit (first_misfit base archives mfolder) fit.1) in
+      let same_paths : all_paths base archives ≡ paths.0 = any-is (all_paths base archives) paths.0 (required-is name.Mbox (if_any (all_paths base archives)) paths.0 paths.1) in
+      let is_line : mfolder ≡ Some line.0 = required-is name.Mfolder mfolder line.0 line.1 in
+      let built : Rc = record { base = base; paths = paths.0; database = index.0; mfolder = mfolder_path base (line.0).name; format = unwrap_or format mail.Mbox } in
+      let same : built ≡ r = cc in
+      subst AllPaths same (record {
+        base = is_base;
+        paths = subst (All IsPath) same_paths (fitting-archives base is_base archives are_archives none.0);
+        database = subst (λ (o : Option (List ℕ)). IfSome o IsPath) (required-is name.Database database index.0 index.1) is_database;
+        mfolder = fitting-mfolder base is_base line.0 (subst (λ (o : Option MfolderLine). IfSome o (λ line. IsUtf8 line.name)) is_line is_mfolder)
+            (ap (option_and_then (mfolder_misfit base)) (sym is_line) ∙ none.1);
+      })
 
-rc-paths : (ss : List Setting) (r : Rc) → All NamesPaths ss → rc_from ss ≡ Ok r → AllPaths r
-rc-paths ss r all is =
-    let paths = given (required name.Mbox (if_any (flat_map archives_in ss))) _ r is in
-    let database = given (required name.Database (last_or None (filter_map database_in ss))) _ r paths.2 in
-    let mfolder = given (required name.Mfolder (last_or None (filter_map mfolder_in ss))) _ r database.2 in
-    let same : flat_map archives_in ss ≡ paths.0 = any-is (flat_map archives_in ss) paths.0 (required-is name.Mbox (if_any (flat_map archives_in ss)) paths.0 paths.1) in
-    given-paths paths.0 database.0 mfolder.0 r (subst (All IsPath) same (archive-paths ss all))
-    (required-path database_in database-path name.Database ss database.0 all database.1)
-    (required-path mfolder_in mfolder-path name.Mfolder ss mfolder.0 all mfolder.1)
-    mfolder.2
+settings-paths : (ss : List Setting) (r : Rc) → All NamesTexts ss → rc_from ss ≡ Ok r → AllPaths r
+settings-paths ss r all is =
+    rc-paths (last_of base_in ss) (filter_map archives_in ss) (last_of database_in ss) (last_of mfolder_in ss) (last_of format_in ss)
+    (last-value IsPath base_in base-names ss all) (all-values HasTexts archives_in archives-names ss all)
+    (last-value IsPath database_in database-names ss all) (last-value (λ line. IsUtf8 line.name) mfolder_in mfolder-names ss all) r is
 
 -- what an accepted rcfile names are paths
-all-paths : (rc : List ℕ) (r : Rc) → rc_of rc ≡ Ok r → AllPaths r
-all-paths rc r is =
-    let settings = given (collect_from line_settings 1 (lines_in rc)) rc_from r is in
-    rc-paths settings.0 r (collected NamesPaths line_settings (λ n line. text-names n (trimmed line)) 1 (lines_in rc) settings.0 settings.1) settings.2
+rc-all-paths : (rc : List ℕ) (r : Rc) → rc_of rc ≡ Ok r → AllPaths r
+rc-all-paths rc r is =
+    let settings = given (settings_from [] 1 (lines_in rc)) rc_from r is in
+    settings-paths settings.0 r (settings-names [] 1 (lines_in rc) settings.0 (All-nil NamesTexts) settings.1) settings.2
 
 pub paths-are-paths : (rc : List ℕ) (r : Rc) → rc_of rc ≡ Ok r → All IsPath r.paths
-paths-are-paths rc r is = let all = all-paths rc r is in all.paths
+paths-are-paths rc r is = let all = rc-all-paths rc r is in all.paths
 
 -- the same of what reads it
-module _ (rc : List ℕ) (settings : List Setting) (collects : collect_from line_settings 1 (lines_in rc) ≡ Ok settings) where
+module _ (rc : List ℕ) (settings : List Setting) (collects : settings_from [] 1 (lines_in rc) ≡ Ok settings) where
   read-all : (result : Result Rc RcFault) → Gives (λ r. r) rc_refusal result (rc_from settings) → IfOk result AllPaths
-  read-all (Ok r) gives = all-paths rc r (ap (λ s. s >>= rc_from) collects ∙ gives)
+  read-all (Ok r) gives = rc-all-paths rc r (ap (λ s. s >>= rc_from) collects ∙ gives)
   read-all (Err fault) gives = tt
 
   read-each : (P : Rc → Type 0) → ((r : Rc) → AllPaths r → P r) → (result : Result Rc RcFault) → Gives (λ r. r) rc_refusal result (rc_from settings) → IfOk result P
   read-each P each (Ok r) gives = each r (read-all (Ok r) gives)
   read-each P each (Err fault) gives = tt
+
+  pub read-base : (result : Result Rc RcFault) → Gives (λ r. r) rc_refusal result (rc_from settings) → IfOk result (λ r. IfSome r.base IsPath)
+  read-base result gives = read-each (λ r. IfSome r.base IsPath) (λ r all. all.base) result gives
 
   pub read-paths : (result : Result Rc RcFault) → Gives (λ r. r) rc_refusal result (rc_from settings) → IfOk result (λ r. All IsPath r.paths)
   read-paths result gives = read-each (λ r. All IsPath r.paths) (λ r all. all.paths) result gives

@@ -1,9 +1,10 @@
 -- What a search for bytes tells of the whole list.
-use Rattle.std.proofs.Common.{◌≡◌, ◌↔◌, ℕ, Bool, true, false, not, List, [], ◌∷◌, ◌++◌, map, ◌&&◌, ◌||◌, drop, codes, nat_eq, get_or, Option, Some, None, refl, sym, ap, ◌∙◌, subst, arith, is_some, ⊎_elim}
+use Rattle.std.proofs.Common.{◌≡◌, ◌↔◌, ℕ, Bool, true, false, not, List, [], ◌∷◌, ◌++◌, map, ◌&&◌, ◌||◌, ◌≤◌, length, take, drop, codes, nat_eq, get_or, Option, Some, None, refl, sym, ap, ◌∙◌, subst, arith, is_some, ⊎_elim}
 use Rattle.std.specs.List.{list_any, list_all, starts_with}
 use Rattle.std.specs.Str.Iter.{HasSubslice}
 use Rattle.std.proofs.lemmas.Bool.{or_cases, or_right, false_from_ne_true, false≢true}
 use Rattle.std.proofs.lemmas.Bool.Decides.{Decides-eqb, same_from_decides}
+use Rattle.std.proofs.lemmas.List.{take_all}
 use Rattle.std.proofs.lemmas.List.Folds.{list_any_none, list_any_at}
 use Rattle.std.proofs.lemmas.Grind.{get_or_default_zero}
 use Rattle.std.proofs.lemmas.Slice.Eq.{starts_is}
@@ -53,3 +54,13 @@ list_any-map f test (x ∷ xs) = ap (λ b. test (f x) || b) (list_any-map f test
 pub list_all-map : {X Y : Type 0} (f : X → Y) (test : Y → Bool) (xs : List X) → list_all test (map f xs) ≡ list_all (λ x. test (f x)) xs
 list_all-map f test [] = refl
 list_all-map f test (x ∷ xs) = ap (λ b. test (f x) && b) (list_all-map f test xs)
+
+map-each : {X Y Z : Type 0} (f : X → Y) (g : Y → Z) (xs : List X) → map g (map f xs) ≡ map (λ x. g (f x)) xs
+map-each f g [] = refl
+map-each f g (x ∷ xs) = ap (λ l. g (f x) ∷ l) (map-each f g xs)
+
+-- what a loop made of each of xs, which f shows as ys
+pub map-each-taken : {X Y Z : Type 0} (f : X → Y) (g : Y → Z) (n : ℕ) (xs : List X) (ys : List Y) (made : List Z) → length xs ≤ n → map f xs ≡ ys
+    → made ≡ map (λ x. g (f x)) (take n xs) → made ≡ map g ys
+map-each-taken f g n xs ys made all shown is =
+    is ∙ ap (λ l. map (λ x. g (f x)) l) (take_all n xs all) ∙ sym (map-each f g xs) ∙ ap (map g) shown

@@ -1,27 +1,75 @@
 -- What one more setting says.
-use Rattle.std.proofs.Common.{◌≡◌, List, [], ◌∷◌, ◌++◌, Option, Some, None, refl, sym, ap, ◌∙◌, append-nil}
-use Rattle.std.specs.List.{flat_map, filter_map, cons_option, last_or}
-use Rattle.std.proofs.lemmas.List.{flat_map_more}
+use Rattle.std.proofs.Common.{◌≡◌, ℕ, ◌+◌, List, [], ◌∷◌, ◌++◌, Option, Some, None, Result, Ok, Err, IfSome, refl, sym, ap, ◌∙◌, append-nil}
+use Rattle.std.specs.List.{filter_map, cons_option, last_or}
+use Rattle.std.specs.Option.{option_to_list}
 use Rattle.std.proofs.lemmas.List.Elements.{filter_map-append}
+use Rattle.contract_words.specs.Answers.{◌>>=◌}
+use Rattle.contract_words.proofs.Collecting.{if_some_map}
+use Rattle.mairix_options.specs.Rcfile.{line_settings, base_in, archives_in, database_in, mfolder_in, format_in, last_of, settings_from}
+use Rattle.mairix_options.specs.declared.setting.ArchivesLine.{ArchivesLine}
+use Rattle.mairix_options.specs.declared.mail_format.MailFormat.{MailFormat}
+use Rattle.mairix_options.specs.declared.setting.MfolderLine.{MfolderLine}
+use Rattle.mairix_options.specs.declared.rcfile.RcFault.{RcFault}
+use Rattle.mairix_options.specs.declared.setting.Setting.{Setting}
+use Rattle.mairix_options.specs.declared.setting.Setting.TheVariants.{Base, Archives, Database, Mfolder, Format}
 
-module _ {X : Type 0} where
-  last_or-push : (o : Option X) (xs : List X) (x : X) → last_or o (xs ++ x ∷ []) ≡ Some x
-  last_or-push o [] x = refl
-  last_or-push o (y ∷ xs) x = last_or-push (Some y) xs x
+last_or-append : {X : Type 0} (o : Option X) (xs ys : List X) → last_or o (xs ++ ys) ≡ last_or (last_or o xs) ys
+last_or-append o [] ys = refl
+last_or-append o (x ∷ xs) ys = last_or-append (Some x) xs ys
 
--- the last value that some setting gives, and all lists that settings give
-module _ {S X : Type 0} (settings : List S) (s : S) where
-  pub last-given : (value : S → Option X) (x : X) → value s ≡ Some x → last_or None (filter_map value (settings ++ s ∷ [])) ≡ Some x
-  last-given value x is =
-      ap (last_or None) (filter_map-append value settings (s ∷ []) ∙ ap (λ o. filter_map value settings ++ cons_option o []) is)
-      ∙ last_or-push None (filter_map value settings) x
+-- the value that counts behind more settings
+last_of-append : {X : Type 0} (value : Setting → Option X) (before said : List Setting)
+    → last_of value (before ++ said) ≡ last_or (last_of value before) (filter_map value said)
+last_of-append value before said = ap (last_or None) (filter_map-append value before said) ∙ last_or-append None (filter_map value before) (filter_map value said)
 
-  pub last-kept : (value : S → Option X) → value s ≡ None → last_or None (filter_map value (settings ++ s ∷ [])) ≡ last_or None (filter_map value settings)
-  last-kept value is =
-      ap (last_or None) (filter_map-append value settings (s ∷ []) ∙ ap (λ o. filter_map value settings ++ cons_option o []) is ∙ append-nil _)
+-- ---- line by line
 
-  pub flat_map-push : (values : S → List X) (new : List X) → values s ≡ new → flat_map values (settings ++ s ∷ []) ≡ flat_map values settings ++ new
-  flat_map-push values new is = sym (flat_map_more values [] settings s) ∙ ap (λ l. flat_map values settings ++ l) is
+-- the base that counts behind a line
+pub base-behind : (before : List Setting) (said : List Setting) (base next : Option (List ℕ)) → base ≡ last_of base_in before
+    → next ≡ last_or base (filter_map base_in said) → next ≡ last_of base_in (before ++ said)
+base-behind before said base next counts is = is ∙ ap (λ o. last_or o (filter_map base_in said)) counts ∙ sym (last_of-append base_in before said)
 
-  pub flat_map-kept : (values : S → List X) → values s ≡ [] → flat_map values (settings ++ s ∷ []) ≡ flat_map values settings
-  flat_map-kept values is = flat_map-push values [] is ∙ append-nil (flat_map values settings)
+module _ (before : List Setting) (base : Option (List ℕ)) (n : ℕ) (line : List ℕ) (lines : List (List ℕ)) (all : Result (List Setting) RcFault)
+    (same : settings_from before n (line ∷ lines) ≡ all) (counts : base ≡ last_of base_in before) where
+  here : (r : Result (List Setting) RcFault) → line_settings base n line ≡ r → (r >>= (λ s. settings_from (before ++ s) (n + 1) lines)) ≡ all
+  here r is =
+      ap (λ x. x >>= (λ s. settings_from (before ++ s) (n + 1) lines)) (sym is ∙ ap (λ b. line_settings b n line) counts) ∙ same
+
+  -- a line that says something, or nothing
+  pub settings-more : (said : List Setting) → line_settings base n line ≡ Ok said → settings_from (before ++ said) (n + 1) lines ≡ all
+  settings-more said is = here (Ok said) is
+
+  -- a line that is refused
+  pub settings-refused : (o : Option RcFault) → IfSome o (λ f. line_settings base n line ≡ Err f) → IfSome o (λ f. all ≡ Err f)
+  settings-refused o refused = if_some_map o (λ f. line_settings base n line ≡ Err f) (λ f. all ≡ Err f) (λ f is. sym (here (Err f) is)) refused
+
+-- ---- option by option
+
+-- what some settings say of each option
+abbrev pub Says : List Setting → Option (List ℕ) → List ArchivesLine → Option (List ℕ) → Option MfolderLine → Option MailFormat → Type 0
+Says settings base archives database mfolder format =
+    (base ≡ last_of base_in settings)
+    × (archives ≡ filter_map archives_in settings)
+    × (database ≡ last_of database_in settings)
+    × (mfolder ≡ last_of mfolder_in settings)
+    × (format ≡ last_of format_in settings)
+
+-- one more says what it sets, and of the other options what those before it say
+pub says-next : (before : List Setting) (s t : Setting) {base : Option (List ℕ)} {archives more : List ArchivesLine} {database : Option (List ℕ)}
+    {mfolder : Option MfolderLine} {format : Option MailFormat}
+    → Says before base archives database mfolder format → s ≡ t → more ≡ archives ++ filter_map archives_in (t ∷ [])
+    → Says (before ++ s ∷ []) (last_or base (filter_map base_in (t ∷ []))) more (last_or database (filter_map database_in (t ∷ [])))
+    (last_or mfolder (filter_map mfolder_in (t ∷ []))) (last_or format (filter_map format_in (t ∷ [])))
+says-next before s t says is grows = (
+  last base_in says.0,
+  grows ∙ ap (λ l. l ++ filter_map archives_in (t ∷ [])) says.1 ∙ ap (λ x. filter_map archives_in before ++ filter_map archives_in (x ∷ [])) (sym is)
+      ∙ sym (filter_map-append archives_in before (s ∷ [])),
+  last database_in says.2,
+  last mfolder_in says.3,
+  last format_in says.4,
+)
+  where
+    last : {X : Type 0} (value : Setting → Option X) {o : Option X} → o ≡ last_of value before → last_or o (filter_map value (t ∷ [])) ≡ last_of value (before ++ s ∷ [])
+    last value counts =
+        ap (λ p. last_or p (filter_map value (t ∷ []))) counts ∙ ap (λ x. last_or (last_of value before) (filter_map value (x ∷ []))) (sym is)
+        ∙ sym (last_of-append value before (s ∷ []))

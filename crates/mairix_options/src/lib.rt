@@ -3,10 +3,13 @@
 
 mod blanks;
 mod command_line;
+mod mail_format;
 mod owned_text;
 mod path;
 mod rcfile;
+mod setting;
 
 pub use command_line::{Plan, UsageFault, plan_of, usage_text};
+pub use mail_format::MailFormat;
 pub use owned_text::{Text, Texts};
 pub use rcfile::{Name, Rc, RcFault, read_rc};

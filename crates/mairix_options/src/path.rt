@@ -1,8 +1,11 @@
 //! Texts that name files.
-ghost use Rattle.std.specs.Prelude.{◌≡◌};
-ghost use Rattle.mairix_options.specs.Path.{is_path, has_expansion, has_wildcard};
+ghost use Rattle.std.specs.Prelude.{◌≡◌, nat_eq, codes, map, IfOk};
+ghost use Rattle.std.specs.List.{starts_with};
+ghost use Rattle.mairix_options.specs.Path.{is_path, has_expansion, has_wildcard, joined, under, archive_path, mfolder_path};
 
+use crate::owned_text::{Text, Texts};
 use memchr::{memchr, memchr2, memchr3};
+use std::alloc::{AllocError, Global};
 
 /// Whether a text can name a file: 1 to 4,096 bytes, none of them LF or NUL.
 pub(crate) fn is_path(text: &str) -> bool
@@ -24,4 +27,82 @@ pub(crate) fn has_wildcard(text: &str) -> bool
     ensures { result ≡ has_wildcard text.now }
 {
     memchr3(b'*', b'?', b'[', text.as_bytes()).is_some() || text.contains("...")
+}
+
+/// The path of an archive's name: under the base where there is one, unless it begins with `/`.
+pub(crate) fn archive_path(
+    alloc: Global,
+    base: &Option<Text>,
+    name: &str,
+) -> Result<Text, AllocError>
+    ensures { IfOk result (λ path. path ≡ archive_path base.now name.now) }
+{
+    under(alloc, base, begins_at_root(name), name)
+}
+
+/// The paths of some archives' names.
+pub(crate) fn archive_paths(
+    alloc: Global,
+    base: &Option<Text>,
+    names: &Texts,
+) -> Result<Texts, AllocError>
+    ensures { IfOk result (λ paths. paths ≡ map (archive_path base.now) names.now) }
+{
+    let mut paths = Texts::new(alloc);
+    let written = names.as_slice();
+    for name in written {
+        let path = archive_path(alloc, base, name.as_str())?;
+        paths.push(path.as_str())?;
+    }
+    Ok(paths)
+}
+
+/// The path of the mfolder's name: under the base where there is one, unless it begins with `/` or `.`.
+pub(crate) fn mfolder_path(
+    alloc: Global,
+    base: &Option<Text>,
+    name: &str,
+) -> Result<Text, AllocError>
+    ensures { IfOk result (λ path. path ≡ mfolder_path base.now name.now) }
+{
+    under(
+        alloc,
+        base,
+        begins_at_root(name) || begins_with_dot(name),
+        name,
+    )
+}
+
+fn begins_at_root(name: &str) -> bool
+    ensures { result ≡ starts_with nat_eq name.now (codes "/") }
+{
+    name.starts_with("/")
+}
+
+fn begins_with_dot(name: &str) -> bool
+    ensures { result ≡ starts_with nat_eq name.now (codes ".") }
+{
+    name.starts_with(".")
+}
+
+fn under(
+    alloc: Global,
+    base: &Option<Text>,
+    as_written: bool,
+    name: &str,
+) -> Result<Text, AllocError>
+    ensures { IfOk result (λ path. path ≡ under base.now as_written name.now) }
+{
+    match base {
+        Some(base) if !as_written => joined(alloc, base, name),
+        _ => Text::new(alloc, name),
+    }
+}
+
+fn joined(alloc: Global, folder: &Text, name: &str) -> Result<Text, AllocError>
+    ensures { IfOk result (λ path. path ≡ joined folder.now name.now) }
+{
+    let folder = folder.as_str();
+    let path = format!(in alloc; "{folder}/{name}")?;
+    Ok(Text::of(path))
 }

@@ -1,38 +1,43 @@
 //! What an rcfile says.
-ghost use Rattle.std.specs.Prelude.{◌≡◌, map, IfOk, string_bytes};
-ghost use Rattle.std.specs.List.{All, list_any, list_all};
+ghost use Rattle.std.specs.Prelude.{◌≡◌, [], IfOk, IfSome};
+ghost use Rattle.std.specs.List.{All, filter_map, last_or, slice_get};
 ghost use Rattle.std.specs.Option.{option_to_list};
-ghost use Rattle.contract_words.specs.Answers.{Gives, collect_from};
+ghost use Rattle.contract_words.specs.Answers.{Gives};
 ghost use Rattle.mail_index.specs.Tables.{IsPath};
-ghost use Rattle.mairix_options.specs.Path.{is_path, has_expansion, has_wildcard};
-ghost use Rattle.mairix_options.specs.Rcfile.{names_in, setting_of, archives_in, paths_in, assigned, entry, is_skipped, line_settings, lines_in, rc_from, rc_of, rc_refusal};
+ghost use Rattle.mairix_options.specs.Rcfile.{base_in, lines_in, settings_from, archives_misfit, mfolder_misfit, earlier, first_misfit, all_paths, rc_fitting, rc_with, rc_from, rc_of, rc_refusal};
 
-use crate::blanks::{trimmed, trimmed_text};
+use crate::mail_format::MailFormat;
 use crate::owned_text::{Text, Texts};
-use crate::path::{has_expansion, has_wildcard, is_path};
+use crate::path::{archive_paths, is_path, mfolder_path};
+use crate::setting::{ArchivesLine, MfolderLine, Setting, all_are_paths, line_setting};
 use bstr::ByteSlice;
 use std::alloc::{AllocError, AllocFailed, Global};
-use std::{fmt, str};
+use std::fmt;
 use thiserror::Error;
 
 /// What an rcfile says.
 #[derive(Debug, Drop)]
 pub struct Rc {
-    /// The archives' paths, in the order of the rcfile; each is 1 to 4,096 bytes without LF and NUL.
+    /// The folder that names of archives and of answers are in, where they don't say another.
+    pub base: Option<Text>,
+    /// The archives' paths under the base, in the order of the rcfile; each is 1 to 4,096 bytes without LF and NUL.
     pub paths: Texts,
-    /// The index file's path.
+    /// The index file's path, as written.
     pub database: Text,
-    /// The path of the file that answers go to.
+    /// The path under the base of the file that answers go to.
     pub mfolder: Text,
+    /// What an answer is where the command line doesn't say.
+    pub format: MailFormat,
 }
 
-/// What one line of an rcfile says.
+/// What all lines of an rcfile say of each option: each line of `mbox`, and of the others the last.
 #[derive(Debug, Drop)]
-enum Setting {
-    /// Some archives' names.
-    Archives(Texts),
-    Database(Text),
-    Mfolder(Text),
+struct Said {
+    base: Option<Text>,
+    archives: Vec<ArchivesLine>,
+    database: Option<Text>,
+    mfolder: Option<MfolderLine>,
+    format: Option<MailFormat>,
 }
 
 /// An option that every rcfile has.
@@ -56,22 +61,23 @@ impl fmt::Display for Name {
 /// Why an rcfile is refused. Lines are numbered from 1.
 #[derive(Clone, Copy, Debug, PartialEq, Eq, Error)]
 pub enum RcFault {
-    /// Not UTF-8, no `=`, an empty option or value, or a value (of `mbox`, one of its names) that is no path.
+    /// Not UTF-8, no `=`, an empty option or value, or a value (of `mbox`, one of its names) that is no path, or none under the
+    /// base.
     #[error("rcfile line {0}: not option=value")]
     BadLine(u64),
-    /// Another option than `mbox`, `database` and `mfolder`.
+    /// Another option than `base`, `mbox`, `database`, `mfolder` and `mformat`.
     #[error("rcfile line {0}: option not supported")]
     NotSupported(u64),
     /// `*`, `?`, `[` or `...` in `mbox`.
     #[error("rcfile line {0}: wildcard not supported")]
     Wildcard(u64),
-    /// `$` anywhere, or a name or value that begins with `~`.
+    /// `$` anywhere, or a name or value that begins with `~`; not looked for in `mformat`.
     #[error("rcfile line {0}: expansion not supported")]
     Expansion(u64),
     /// No line sets the option, or `mbox` names no archive.
     #[error("rcfile: {0} missing")]
     Missing(Name),
-    /// An answer's format that isn't known.
+    /// Another `mformat` than `mbox`, `raw` and `excerpt`.
     #[error("rcfile line {0}: unknown format")]
     BadFormat(u64),
     /// A growth was refused.
@@ -104,14 +110,19 @@ impl<T: Drop> From<AllocFailed<T>> for RcFault {
 /// What an rcfile says, where it has lines `option=value` alone, comments and empty lines.
 ///
 /// Lines end at LF, and a CR before it is dropped. `mbox` names archives between colons, and each of its lines adds
-/// to those before. Of `database` and `mfolder` the last line counts.
+/// to those before. Of `base`, `database`, `mfolder` and `mformat` the last line counts. A name of an archive that doesn't begin
+/// with `/` is taken under the base, and so is the mfolder's name where it begins with neither `/` nor `.`. Without a `mformat`
+/// an answer is an mbox.
 ///
 /// # Errors
 ///
 /// The first line that is refused, with the first of its faults in the order BadLine, NotSupported, Expansion,
-/// Wildcard; then the first of the three options that no line sets.
+/// Wildcard, BadFormat, where a path is taken under the last base before its line. Then BadLine of the first line of `mbox`, or
+/// of the `mfolder` that counts, with a path that is none under the base that counts. Then the first of `mbox`, `database` and
+/// `mfolder` that no line sets.
 pub fn read_rc(alloc: Global, rc: &[u8]) -> Result<Rc, RcFault>
     ensures given { Gives (λ r. r) rc_refusal result (rc_of rc.now) }
+    ensures base { IfOk result (λ r. IfSome r.base IsPath) }
     ensures paths { IfOk result (λ r. All IsPath r.paths) }
     ensures database { IfOk result (λ r. IsPath r.database) }
     ensures mfolder { IfOk result (λ r. IsPath r.mfolder) }
@@ -121,12 +132,15 @@ pub fn read_rc(alloc: Global, rc: &[u8]) -> Result<Rc, RcFault>
 }
 
 fn settings_in(alloc: Global, rc: &[u8]) -> Result<Vec<Setting>, RcFault>
-    ensures { Gives (λ v. v.items) rc_refusal result (collect_from line_settings 1 (lines_in rc.now)) }
+    ensures { Gives (λ v. v.items) rc_refusal result (settings_from [] 1 (lines_in rc.now)) }
 {
     let mut settings = Vec::new(alloc);
+    let mut base = None;
     let mut number = 1;
     for line in rc.lines() {
-        match line_setting(alloc, number, line)? {
+        let setting = line_setting(alloc, &base, number, line)?;
+        base = base_behind(alloc, base, &setting)?;
+        match setting {
             Some(setting) => settings.push(setting)?,
             None => {}
         }
@@ -135,19 +149,69 @@ fn settings_in(alloc: Global, rc: &[u8]) -> Result<Vec<Setting>, RcFault>
     Ok(settings)
 }
 
+/// The base that counts behind a line.
+fn base_behind(
+    alloc: Global,
+    base: Option<Text>,
+    setting: &Option<Setting>,
+) -> Result<Option<Text>, AllocError>
+    ensures { IfOk result (λ b. b ≡ last_or base (filter_map base_in (option_to_list setting.now))) }
+{
+    match setting {
+        Some(Setting::Base(path)) => Ok(Some(Text::new(alloc, path.as_str())?)),
+        _ => Ok(base),
+    }
+}
+
 fn rc_from(alloc: Global, settings: Vec<Setting>) -> Result<Rc, RcFault>
     ensures { Gives (λ r. r) rc_refusal result (rc_from settings.items) }
 {
-    let mut paths = Texts::new(alloc);
+    let mut archives = Vec::new(alloc);
+    let mut base = None;
     let mut database = None;
     let mut mfolder = None;
+    let mut format = None;
     for setting in settings {
         match setting {
-            Setting::Archives(names) => paths.append(names)?,
+            Setting::Base(path) => base = Some(path),
+            Setting::Archives(line) => archives.push(line)?,
             Setting::Database(path) => database = Some(path),
-            Setting::Mfolder(path) => mfolder = Some(path),
+            Setting::Mfolder(line) => mfolder = Some(line),
+            Setting::Format(named) => format = Some(named),
         }
     }
+    rc_with(
+        alloc,
+        Said {
+            base,
+            archives,
+            database,
+            mfolder,
+            format,
+        },
+    )
+}
+
+fn rc_with(alloc: Global, said: Said) -> Result<Rc, RcFault>
+    ensures { Gives (λ r. r) rc_refusal result (rc_with said.base said.archives.items said.database said.mfolder said.format) }
+{
+    if let Some(number) = first_misfit(alloc, &said.base, &said.archives, &said.mfolder)? {
+        return Err(RcFault::BadLine(number));
+    }
+    rc_fitting(alloc, said)
+}
+
+fn rc_fitting(alloc: Global, said: Said) -> Result<Rc, RcFault>
+    ensures { Gives (λ r. r) rc_refusal result (rc_fitting said.base said.archives.items said.database said.mfolder said.format) }
+{
+    let Said {
+        base,
+        archives,
+        database,
+        mfolder,
+        format,
+    } = said;
+    let paths = all_paths(alloc, &base, &archives)?;
     if paths.as_slice().is_empty() {
         return Err(RcFault::Missing(Name::Mbox));
     }
@@ -157,141 +221,83 @@ fn rc_from(alloc: Global, settings: Vec<Setting>) -> Result<Rc, RcFault>
     let Some(mfolder) = mfolder else {
         return Err(RcFault::Missing(Name::Mfolder));
     };
+    let mfolder = mfolder_path(alloc, &base, mfolder.name.as_str())?;
     Ok(Rc {
+        base,
         paths,
         database,
         mfolder,
+        format: format.unwrap_or(MailFormat::Mbox),
     })
 }
 
-fn line_setting(alloc: Global, number: u64, line: &[u8]) -> Result<Option<Setting>, RcFault>
-    ensures { Gives option_to_list rc_refusal result (line_settings number line.now) }
+/// The number of the first line with a path that is none under the base that counts.
+fn first_misfit(
+    alloc: Global,
+    base: &Option<Text>,
+    archives: &[ArchivesLine],
+    mfolder: &Option<MfolderLine>,
+) -> Result<Option<u64>, AllocError>
+    ensures { IfOk result (λ n. n ≡ first_misfit base.now archives.now mfolder.now) }
 {
-    let text = trimmed(line);
-    if is_skipped(text) {
-        return Ok(None);
-    }
-    let setting = entry(alloc, number, text)?;
-    Ok(Some(setting))
-}
-
-fn is_skipped(text: &[u8]) -> bool
-    ensures { result ≡ is_skipped text.now }
-{
-    match text {
-        [] => true,
-        [first, ..] => *first == b'#',
-    }
-}
-
-fn entry(alloc: Global, number: u64, text: &[u8]) -> Result<Setting, RcFault>
-    ensures { Gives (λ s. s) rc_refusal result (entry number text.now) }
-{
-    let Ok(text) = str::from_utf8(text) else {
-        return Err(RcFault::BadLine(number));
+    let archives = first_archives_misfit(alloc, base, archives)?;
+    let mfolder = match mfolder {
+        Some(line) => mfolder_misfit(alloc, base, line)?,
+        None => None,
     };
-    match text.split_once('=') {
-        Some((option, value)) => assigned(alloc, number, trimmed_text(option), trimmed_text(value)),
-        None => Err(RcFault::BadLine(number)),
-    }
+    Ok(earlier(archives, mfolder))
 }
 
-fn assigned(alloc: Global, number: u64, option: &str, value: &str) -> Result<Setting, RcFault>
-    ensures { Gives (λ s. s) rc_refusal result (assigned number option.now value.now) }
+fn first_archives_misfit(
+    alloc: Global,
+    base: &Option<Text>,
+    archives: &[ArchivesLine],
+) -> Result<Option<u64>, AllocError>
+    ensures { IfOk result (λ n. n ≡ slice_get (filter_map (archives_misfit base.now) archives.now) 0) }
 {
-    let setting = setting_of(alloc, option, value)?;
-    if option.is_empty() || value.is_empty() || !has_paths(&setting, value) {
-        return Err(RcFault::BadLine(number));
-    }
-    let Some(setting) = setting else {
-        return Err(RcFault::NotSupported(number));
-    };
-    if has_expansions(&setting, value) {
-        return Err(RcFault::Expansion(number));
-    }
-    if has_wildcards(&setting) {
-        return Err(RcFault::Wildcard(number));
-    }
-    Ok(setting)
-}
-
-fn setting_of(alloc: Global, option: &str, value: &str) -> Result<Option<Setting>, AllocError>
-    ensures { IfOk result (λ s. s ≡ setting_of option.now value.now) }
-{
-    if option == "mbox" {
-        return Ok(Some(Setting::Archives(names_in(alloc, value)?)));
-    }
-    if option == "database" {
-        return Ok(Some(Setting::Database(Text::new(alloc, value)?)));
-    }
-    if option == "mfolder" {
-        return Ok(Some(Setting::Mfolder(Text::new(alloc, value)?)));
+    for line in archives {
+        if !all_are_paths(&archive_paths(alloc, base, &line.names)?) {
+            return Ok(Some(line.number));
+        }
     }
     Ok(None)
 }
 
-fn names_in(alloc: Global, value: &str) -> Result<Texts, AllocError>
-    ensures { IfOk result (λ names. names ≡ names_in value.now) }
+fn mfolder_misfit(
+    alloc: Global,
+    base: &Option<Text>,
+    line: &MfolderLine,
+) -> Result<Option<u64>, AllocError>
+    ensures { IfOk result (λ n. n ≡ mfolder_misfit base.now line.now) }
 {
-    let mut names = Texts::new(alloc);
-    for name in value.split(':') {
-        if !name.is_empty() {
-            names.push(name)?;
-        }
+    let path = mfolder_path(alloc, base, line.name.as_str())?;
+    if is_path(path.as_str()) {
+        return Ok(None);
     }
-    Ok(names)
+    Ok(Some(line.number))
 }
 
-fn has_paths(setting: &Option<Setting>, value: &str) -> bool
-    ensures { result ≡ list_all is_path (paths_in setting.now value.now) }
+fn earlier(a: Option<u64>, b: Option<u64>) -> Option<u64>
+    ensures { result ≡ earlier a b }
 {
-    match setting {
-        Some(setting) => names_paths(setting, value),
-        None => is_path(value),
-    }
-}
-
-fn names_paths(setting: &Setting, value: &str) -> bool
-    ensures { result ≡ list_all is_path (paths_in (Some setting.now) value.now) }
-{
-    match setting {
-        Setting::Archives(names) => all_are_paths(names.as_slice()),
-        _ => is_path(value),
+    match (a, b) {
+        (Some(a), Some(b)) => Some(a.min(b)),
+        (Some(a), None) => Some(a),
+        (None, b) => b,
     }
 }
 
-fn has_expansions(setting: &Setting, value: &str) -> bool
-    ensures { result ≡ list_any has_expansion (paths_in (Some setting.now) value.now) }
+/// The paths of all archives under the base.
+fn all_paths(
+    alloc: Global,
+    base: &Option<Text>,
+    archives: &[ArchivesLine],
+) -> Result<Texts, AllocError>
+    ensures { IfOk result (λ paths. paths ≡ all_paths base.now archives.now) }
 {
-    match setting {
-        Setting::Archives(names) => some_has_expansion(names.as_slice()),
-        _ => has_expansion(value),
+    let mut paths = Texts::new(alloc);
+    for line in archives {
+        paths.append(archive_paths(alloc, base, &line.names)?)?;
     }
-}
-
-fn has_wildcards(setting: &Setting) -> bool
-    ensures { result ≡ list_any has_wildcard (archives_in setting.now) }
-{
-    match setting {
-        Setting::Archives(names) => some_has_wildcard(names.as_slice()),
-        _ => false,
-    }
-}
-
-fn all_are_paths(texts: &[String]) -> bool
-    ensures { result ≡ list_all (λ text. is_path (string_bytes text)) texts.now }
-{
-    texts.iter().all(|text| is_path(text.as_str()))
-}
-
-fn some_has_expansion(texts: &[String]) -> bool
-    ensures { result ≡ list_any (λ text. has_expansion (string_bytes text)) texts.now }
-{
-    texts.iter().any(|text| has_expansion(text.as_str()))
-}
-
-fn some_has_wildcard(texts: &[String]) -> bool
-    ensures { result ≡ list_any (λ text. has_wildcard (string_bytes text)) texts.now }
-{
-    texts.iter().any(|text| has_wildcard(text.as_str()))
+    Ok(paths)
 }

@@ -1,29 +1,19 @@
-use Rattle.std.proofs.Common.{◌∙◌, ◌++◌, sym, ap}
-use Rattle.mairix_options.specs.Rcfile.{archives_in, database_in, mfolder_in}
-use Rattle.mairix_options.proofs.Settings.{last-given, last-kept, flat_map-push, flat_map-kept}
+use Rattle.std.proofs.Common.{append-nil, sym}
+use Rattle.mairix_options.specs.declared.setting.Setting.TheVariants.{Base, Archives, Database, Mfolder, Format}
+use Rattle.mairix_options.proofs.Settings.{says-next}
 use Rattle.mairix_options.proofs.rcfile.rc_from.Goals as goal
 
+pub loop-setting-preserved-in-Base : goal.loop-setting-preserved-in-Base
+loop-setting-preserved-in-Base c = says-next c.loop-setting.yielded c.in-Some.setting (Base c.in-Base.path) c.loop-setting.invariant c.in-Base.is (sym (append-nil c.loop-setting.archives.items))
+
 pub loop-setting-preserved-in-Continue-1 : goal.loop-setting-preserved-in-Continue-1
-loop-setting-preserved-in-Continue-1 c =
-    let before = c.loop-setting in let s = c.in-Some.setting in let is = c.in-Archives.is in (
-      c.in_ok-append-in-Archives.ensures.ok ∙ ap (λ l. l ++ c.in-Archives.names) before.invariant.0
-          ∙ sym (flat_map-push before.yielded s archives_in c.in-Archives.names (ap archives_in is)),
-      before.invariant.1 ∙ sym (last-kept before.yielded s database_in (ap database_in is)),
-      before.invariant.2 ∙ sym (last-kept before.yielded s mfolder_in (ap mfolder_in is)),
-    )
+loop-setting-preserved-in-Continue-1 c = says-next c.loop-setting.yielded c.in-Some.setting (Archives c.in-Archives.line) c.loop-setting.invariant c.in-Archives.is c.in_ok-push-in-Archives.ensures.items
 
 pub loop-setting-preserved-in-Database : goal.loop-setting-preserved-in-Database
-loop-setting-preserved-in-Database c =
-    let before = c.loop-setting in let s = c.in-Some.setting in let is = c.in-Database.is in (
-      before.invariant.0 ∙ sym (flat_map-kept before.yielded s archives_in (ap archives_in is)),
-      sym (last-given before.yielded s database_in c.in-Database.path (ap database_in is)),
-      before.invariant.2 ∙ sym (last-kept before.yielded s mfolder_in (ap mfolder_in is)),
-    )
+loop-setting-preserved-in-Database c = says-next c.loop-setting.yielded c.in-Some.setting (Database c.in-Database.path) c.loop-setting.invariant c.in-Database.is (sym (append-nil c.loop-setting.archives.items))
+
+pub loop-setting-preserved-in-Mfolder : goal.loop-setting-preserved-in-Mfolder
+loop-setting-preserved-in-Mfolder c = says-next c.loop-setting.yielded c.in-Some.setting (Mfolder c.in-Mfolder.line) c.loop-setting.invariant c.in-Mfolder.is (sym (append-nil c.loop-setting.archives.items))
 
 pub loop-setting-preserved : goal.loop-setting-preserved
-loop-setting-preserved c =
-    let before = c.loop-setting in let s = c.in-Some.setting in let is = c.in-Mfolder.is in (
-      before.invariant.0 ∙ sym (flat_map-kept before.yielded s archives_in (ap archives_in is)),
-      before.invariant.1 ∙ sym (last-kept before.yielded s database_in (ap database_in is)),
-      sym (last-given before.yielded s mfolder_in c.in-Mfolder.path (ap mfolder_in is)),
-    )
+loop-setting-preserved c = says-next c.loop-setting.yielded c.in-Some.setting (Format c.in-Format.named) c.loop-setting.invariant c.in-Format.is (sym (append-nil c.loop-setting.archives.items))

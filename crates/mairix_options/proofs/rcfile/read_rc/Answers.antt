@@ -1,4 +1,4 @@
-use Rattle.mairix_options.proofs.RcPaths.{read-paths, read-database, read-mfolder}
+use Rattle.mairix_options.proofs.RcPaths.{read-base, read-paths, read-database, read-mfolder}
 use Rattle.mairix_options.proofs.rcfile.read_rc.Goals as goal
 
 pub returns-clause-paths : goal.returns-clause-paths
@@ -9,3 +9,6 @@ returns-clause-database c = read-database c.args.rc.now c.in_ok-settings.setting
 
 pub returns-clause-mfolder : goal.returns-clause-mfolder
 returns-clause-mfolder c = read-mfolder c.args.rc.now c.in_ok-settings.settings.items c.in_ok-settings.ensures c.rc_from.result c.rc_from.ensures
+
+pub returns-clause-base : goal.returns-clause-base
+returns-clause-base c = read-base c.args.rc.now c.in_ok-settings.settings.items c.in_ok-settings.ensures c.rc_from.result c.rc_from.ensures

@@ -2,7 +2,7 @@ use Rattle.std.proofs.Common.{◌∙◌, ap, filter, length, nat_lt, lit<}
 use Rattle.std.proofs.lemmas.Iterator.Consumers.{YieldsList-end}
 use Rattle.std.proofs.lemmas.Iterator.Splits.{YieldsList-from_str_split}
 use Rattle.std.specs.Str.Iter.{split_text, split_has_more, split_pattern}
-use Rattle.mairix_options.proofs.rcfile.names_in.Goals as goal
+use Rattle.mairix_options.proofs.setting.archives_of.Goals as goal
 
 pub returns : goal.returns
 returns c =

@@ -1,5 +1,5 @@
 use Rattle.std.proofs.Common.{◌≡◌, map, filter, length, nat_lt}
-use Rattle.mairix_options.proofs.rcfile.names_in.Given as goal
+use Rattle.mairix_options.proofs.setting.archives_of.Given as goal
 
 -- the names so far are the pieces so far, without the empty ones
 abbrev pub invariant-loop-name : goal.invariant-loop-name

@@ -5,18 +5,18 @@ use Rattle.contract_words.specs.Answers.{Gives}
 use Rattle.mairix_options.specs.Blanks.{trimmed}
 use Rattle.mairix_options.specs.Rcfile.{rc_refusal}
 use Rattle.mairix_options.specs.declared.rcfile.RcFault.{RcFault}
-use Rattle.mairix_options.specs.declared.rcfile.Setting.{Setting}
+use Rattle.mairix_options.specs.declared.setting.Setting.{Setting}
 use Rattle.mairix_options.proofs.Entries.{entry-not_utf8, entry-assigned, entry-no_value}
-use Rattle.mairix_options.proofs.rcfile.entry.Goals as goal
+use Rattle.mairix_options.proofs.setting.entry.Goals as goal
 
 pub returns-in_default : goal.returns-in_default
-returns-in_default c = entry-not_utf8 c.args.number c.args.text.now c.in_default.ensures.cases.0
+returns-in_default c = entry-not_utf8 c.args.base.now c.args.number c.args.text.now c.in_default.ensures.cases.0
 
 pub returns-in-Some : goal.returns-in-Some
 returns-in-Some c =
     let text = c.in-Ok.ensures.cases in
     let parts = split_once_first 61 c.in-Ok.text.now (Some (c.in-Some.option, c.in-Some.value)) c.in-Some.ensures.cases (lit< tt) in
-    let says = entry-assigned c.args.number c.args.text.now c.trimmed_text.result.now c.trimmed_text-in-Some.result.now text.1
+    let says = entry-assigned c.args.base.now c.args.number c.args.text.now c.trimmed_text.result.now c.trimmed_text-in-Some.result.now text.1
     (c.trimmed_text.ensures ∙ ap trimmed (parts.1 ∙ ap (before_first (λ b. b == 61)) text.0))
     (c.trimmed_text-in-Some.ensures ∙ ap trimmed (parts.2 ∙ ap (after_first (λ b. b == 61)) text.0)) in
     subst (λ (r : Result Setting RcFault). Gives (λ s. s) rc_refusal c.assigned.result r) (sym says) c.assigned.ensures
@@ -25,5 +25,5 @@ pub returns-in-None : goal.returns-in-None
 returns-in-None c =
     let text = c.in-Ok.ensures.cases in
     let none = split_once_first 61 c.in-Ok.text.now None c.in-None.ensures.cases (lit< tt) in
-    ap (Rattle.mairix_options.specs.Rcfile.entry c.args.number) (sym text.0)
-    ∙ entry-no_value c.args.number c.in-Ok.text.now (subst Rattle.std.specs.Str.IsUtf8 (sym text.0) text.1) none
+    ap (Rattle.mairix_options.specs.Rcfile.entry c.args.base.now c.args.number) (sym text.0)
+    ∙ entry-no_value c.args.base.now c.args.number c.in-Ok.text.now (subst Rattle.std.specs.Str.IsUtf8 (sym text.0) text.1) none

@@ -1,0 +1,52 @@
+-- The first line that a base makes no path.
+use Rattle.std.proofs.Common.{◌≡◌, ℕ, ◌+◌, ◌<◌, suc, Bool, true, false, if◌then◌else◌, List, [], ◌∷◌, ◌++◌, Option, None, Some, Result, Ok, Err, map, length, take, drop, get_or, drop-cons, add-one, append-nil, refl, sym, ap, ◌∙◌}
+use Rattle.std.specs.List.{list_all, filter_map, flat_map, cons_option, slice_get}
+use Rattle.std.proofs.lemmas.List.{take_more}
+use Rattle.std.proofs.lemmas.List.{flat_map_more}
+use Rattle.contract_words.specs.Answers.{◌>>=◌}
+use Rattle.mairix_options.specs.Path.{is_path, archive_path}
+use Rattle.mairix_options.specs.Rcfile.{archives_misfit, first_misfit, all_fit, all_paths, rc_fitting, rc_with}
+use Rattle.mairix_options.specs.declared.mail_format.MailFormat.{MailFormat}
+use Rattle.mairix_options.specs.declared.rcfile.Rc.{Rc}
+use Rattle.mairix_options.specs.declared.rcfile.RcFault.{RcFault}
+use Rattle.mairix_options.specs.declared.rcfile.RcFault.TheVariants.{BadLine}
+use Rattle.mairix_options.specs.declared.setting.ArchivesLine.{ArchivesLine}
+use Rattle.mairix_options.specs.declared.setting.MfolderLine.{MfolderLine}
+
+-- ---- the lines of archives
+
+module _ (base : Option (List ℕ)) where
+  abbrev first : List ArchivesLine → Option ℕ
+  first archives = slice_get (filter_map (archives_misfit base) archives) 0
+
+  module _ (archives : List ArchivesLine) (i : ℕ) (line : ArchivesLine) (below : i < length archives) (is : line ≡ get_or archives i line) where
+    from-here : drop i archives ≡ line ∷ drop (i + 1) archives
+    from-here = drop-cons archives i line below ∙ ap (λ l. l ∷ drop (suc i) archives) (sym is) ∙ ap (λ k. line ∷ drop k archives) (sym (add-one i))
+
+    -- a line that fits
+    pub fits : list_all is_path (map (archive_path base) line.names) ≡ true → first (drop i archives) ≡ first (drop (i + 1) archives)
+    fits fit =
+        ap first from-here
+        ∙ ap (λ (b : Bool). slice_get (cons_option (if b then None else Some line.number) (filter_map (archives_misfit base) (drop (i + 1) archives))) 0) fit
+
+    -- one that doesn't
+    pub misfits : list_all is_path (map (archive_path base) line.names) ≡ false → first (drop i archives) ≡ Some line.number
+    misfits misfit =
+        ap first from-here
+        ∙ ap (λ (b : Bool). slice_get (cons_option (if b then None else Some line.number) (filter_map (archives_misfit base) (drop (i + 1) archives))) 0) misfit
+
+    -- the paths of one more line
+    pub more-paths : all_paths base (take (i + 1) archives) ≡ all_paths base (take i archives) ++ map (archive_path base) line.names
+    more-paths =
+        ap (all_paths base) (take_more archives i line below)
+        ∙ sym (flat_map_more (λ l. map (archive_path base) l.names) [] (take i archives) (get_or archives i line))
+        ∙ ap (λ l. all_paths base (take i archives) ++ map (archive_path base) l.names) (sym is)
+
+-- ---- the whole
+
+module _ (base : Option (List ℕ)) (archives : List ArchivesLine) (database : Option (List ℕ)) (mfolder : Option MfolderLine) (format : Option MailFormat) where
+  pub rc-misfits : (n : ℕ) → first_misfit base archives mfolder ≡ Some n → rc_with base archives database mfolder format ≡ Err (BadLine n)
+  rc-misfits n is = ap (λ (o : Option ℕ). all_fit o >>= (λ _. rc_fitting base archives database mfolder format)) is
+
+  pub rc-fits : first_misfit base archives mfolder ≡ None → rc_with base archives database mfolder format ≡ rc_fitting base archives database mfolder format
+  rc-fits is = ap (λ (o : Option ℕ). all_fit o >>= (λ _. rc_fitting base archives database mfolder format)) is

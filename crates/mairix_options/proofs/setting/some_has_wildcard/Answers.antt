@@ -1,0 +1,8 @@
+use Rattle.std.proofs.Common.{◌∙◌, sym, ap, string_bytes}
+use Rattle.std.specs.List.{list_any}
+use Rattle.mairix_options.specs.Path.{has_wildcard}
+use Rattle.mairix_options.proofs.Searches.{list_any-map}
+use Rattle.mairix_options.proofs.setting.some_has_wildcard.Goals as goal
+
+pub returns : goal.returns
+returns c = c.have_wildcard.ensures ∙ sym (list_any-map string_bytes has_wildcard c.as_slice.result.now) ∙ ap (list_any has_wildcard) c.as_slice.ensures

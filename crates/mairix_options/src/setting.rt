@@ -1,0 +1,249 @@
+//! What one line of an rcfile says.
+ghost use Rattle.std.specs.Prelude.{◌≡◌, ◌&&◌, IfOk, string_bytes};
+ghost use Rattle.std.specs.List.{list_any, list_all};
+ghost use Rattle.std.specs.Option.{option_to_list};
+ghost use Rattle.contract_words.specs.Answers.{Gives};
+ghost use Rattle.mairix_options.specs.Path.{is_path, has_expansion, has_wildcard};
+ghost use Rattle.mairix_options.specs.Rcfile.{keyword_of, archives_of, names_in, paths_in, supported, unexpanded, assigned, entry, is_skipped, line_settings, rc_refusal};
+
+use crate::blanks::{trimmed, trimmed_text};
+use crate::mail_format::MailFormat;
+use crate::owned_text::{Text, Texts};
+use crate::path::{archive_paths, has_expansion, has_wildcard, is_path, mfolder_path};
+use crate::rcfile::RcFault;
+use std::alloc::{AllocError, Global};
+use std::str;
+
+/// An option that an rcfile may set.
+#[derive(Clone, Copy)]
+enum Keyword {
+    Base,
+    Mbox,
+    Database,
+    Mfolder,
+    Mformat,
+}
+
+impl Keyword {
+    fn of(option: &str) -> Option<Keyword>
+        ensures { result ≡ keyword_of option.now }
+    {
+        if option == "base" {
+            return Some(Keyword::Base);
+        }
+        if option == "mbox" {
+            return Some(Keyword::Mbox);
+        }
+        if option == "database" {
+            return Some(Keyword::Database);
+        }
+        if option == "mfolder" {
+            return Some(Keyword::Mfolder);
+        }
+        if option == "mformat" {
+            return Some(Keyword::Mformat);
+        }
+        None
+    }
+}
+
+/// A line that names archives.
+#[derive(Debug, Drop)]
+pub(crate) struct ArchivesLine {
+    pub(crate) number: u64,
+    /// As written.
+    pub(crate) names: Texts,
+}
+
+/// A line that names the file that answers go to.
+#[derive(Debug, Drop)]
+pub(crate) struct MfolderLine {
+    pub(crate) number: u64,
+    /// As written.
+    pub(crate) name: Text,
+}
+
+/// What one line of an rcfile says.
+#[derive(Debug, Drop)]
+pub(crate) enum Setting {
+    Base(Text),
+    Archives(ArchivesLine),
+    Database(Text),
+    Mfolder(MfolderLine),
+    Format(MailFormat),
+}
+
+/// What a line says, if anything, under the base before it.
+pub(crate) fn line_setting(
+    alloc: Global,
+    base: &Option<Text>,
+    number: u64,
+    line: &[u8],
+) -> Result<Option<Setting>, RcFault>
+    ensures { Gives option_to_list rc_refusal result (line_settings base.now number line.now) }
+{
+    let text = trimmed(line);
+    if is_skipped(text) {
+        return Ok(None);
+    }
+    let setting = entry(alloc, base, number, text)?;
+    Ok(Some(setting))
+}
+
+fn is_skipped(text: &[u8]) -> bool
+    ensures { result ≡ is_skipped text.now }
+{
+    match text {
+        [] => true,
+        [first, ..] => *first == b'#',
+    }
+}
+
+fn entry(alloc: Global, base: &Option<Text>, number: u64, text: &[u8]) -> Result<Setting, RcFault>
+    ensures { Gives (λ s. s) rc_refusal result (entry base.now number text.now) }
+{
+    let Ok(text) = str::from_utf8(text) else {
+        return Err(RcFault::BadLine(number));
+    };
+    match text.split_once('=') {
+        Some((option, value)) => assigned(
+            alloc,
+            base,
+            number,
+            trimmed_text(option),
+            trimmed_text(value),
+        ),
+        None => Err(RcFault::BadLine(number)),
+    }
+}
+
+fn assigned(
+    alloc: Global,
+    base: &Option<Text>,
+    number: u64,
+    option: &str,
+    value: &str,
+) -> Result<Setting, RcFault>
+    ensures { Gives (λ s. s) rc_refusal result (assigned base.now number option.now value.now) }
+{
+    let keyword = Keyword::of(option);
+    if option.is_empty() || value.is_empty() || !has_paths(alloc, base, keyword, value)? {
+        return Err(RcFault::BadLine(number));
+    }
+    match keyword {
+        Some(keyword) => supported(alloc, number, keyword, value),
+        None => Err(RcFault::NotSupported(number)),
+    }
+}
+
+/// Whether what a value names are paths, as written and under the base.
+fn has_paths(
+    alloc: Global,
+    base: &Option<Text>,
+    keyword: Option<Keyword>,
+    value: &str,
+) -> Result<bool, AllocError>
+    ensures { IfOk result (λ has. has ≡ list_all is_path (names_in keyword value.now) && list_all is_path (paths_in base.now keyword value.now)) }
+{
+    match keyword {
+        Some(Keyword::Mbox) => {
+            let names = archives_of(alloc, value)?;
+            let paths = archive_paths(alloc, base, &names)?;
+            Ok(all_are_paths(&names) && all_are_paths(&paths))
+        }
+        Some(Keyword::Mfolder) => {
+            let path = mfolder_path(alloc, base, value)?;
+            Ok(is_path(value) && is_path(path.as_str()))
+        }
+        _ => Ok(is_path(value)),
+    }
+}
+
+fn supported(alloc: Global, number: u64, keyword: Keyword, value: &str) -> Result<Setting, RcFault>
+    ensures { Gives (λ s. s) rc_refusal result (supported number keyword value.now) }
+{
+    match keyword {
+        Keyword::Base => Ok(Setting::Base(unexpanded(alloc, number, value)?)),
+        Keyword::Mbox => Ok(Setting::Archives(archives_line(alloc, number, value)?)),
+        Keyword::Database => Ok(Setting::Database(unexpanded(alloc, number, value)?)),
+        Keyword::Mfolder => Ok(Setting::Mfolder(MfolderLine {
+            number,
+            name: unexpanded(alloc, number, value)?,
+        })),
+        Keyword::Mformat => match MailFormat::of(value) {
+            Some(format) => Ok(Setting::Format(format)),
+            None => Err(RcFault::BadFormat(number)),
+        },
+    }
+}
+
+/// The text of a value that a shell would leave as it is.
+fn unexpanded(alloc: Global, number: u64, value: &str) -> Result<Text, RcFault>
+    ensures { Gives (λ t. t) rc_refusal result (unexpanded number value.now) }
+{
+    if has_expansion(value) {
+        return Err(RcFault::Expansion(number));
+    }
+    Ok(Text::new(alloc, value)?)
+}
+
+fn archives_line(alloc: Global, number: u64, value: &str) -> Result<ArchivesLine, RcFault>
+    ensures { Gives (λ line. Setting.Archives line) rc_refusal result (supported number Keyword.Mbox value.now) }
+{
+    let names = archives_of(alloc, value)?;
+    if some_has_expansion(&names) {
+        return Err(RcFault::Expansion(number));
+    }
+    if some_has_wildcard(&names) {
+        return Err(RcFault::Wildcard(number));
+    }
+    Ok(ArchivesLine { number, names })
+}
+
+fn archives_of(alloc: Global, value: &str) -> Result<Texts, AllocError>
+    ensures { IfOk result (λ names. names ≡ archives_of value.now) }
+{
+    let mut names = Texts::new(alloc);
+    for name in value.split(':') {
+        if !name.is_empty() {
+            names.push(name)?;
+        }
+    }
+    Ok(names)
+}
+
+pub(crate) fn all_are_paths(texts: &Texts) -> bool
+    ensures { result ≡ list_all is_path texts.now }
+{
+    are_paths(texts.as_slice())
+}
+
+fn are_paths(texts: &[String]) -> bool
+    ensures { result ≡ list_all (λ text. is_path (string_bytes text)) texts.now }
+{
+    texts.iter().all(|text| is_path(text.as_str()))
+}
+
+fn some_has_expansion(texts: &Texts) -> bool
+    ensures { result ≡ list_any has_expansion texts.now }
+{
+    have_expansion(texts.as_slice())
+}
+
+fn have_expansion(texts: &[String]) -> bool
+    ensures { result ≡ list_any (λ text. has_expansion (string_bytes text)) texts.now }
+{
+    texts.iter().any(|text| has_expansion(text.as_str()))
+}
+
+fn some_has_wildcard(texts: &Texts) -> bool
+    ensures { result ≡ list_any has_wildcard texts.now }
+{
+    have_wildcard(texts.as_slice())
+}
+
+fn have_wildcard(texts: &[String]) -> bool
+    ensures { result ≡ list_any (λ text. has_wildcard (string_bytes text)) texts.now }
+{
+    texts.iter().any(|text| has_wildcard(text.as_str()))
+}
