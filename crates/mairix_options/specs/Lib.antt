@@ -1,3 +1,4 @@
+pub mod AnswerFiles
 pub mod Blanks
 pub mod CommandLine
 pub mod Path

@@ -1,6 +1,7 @@
 //! What is asked of a run: the words of a command line, and the rcfile.
 #![tactic(auto)]
 
+mod answer;
 mod blanks;
 mod command_line;
 mod mail_format;
@@ -9,6 +10,7 @@ mod path;
 mod rcfile;
 mod setting;
 
+pub use answer::{answer_file, answer_format};
 pub use command_line::{Plan, UsageFault, plan_of, usage_text};
 pub use mail_format::MailFormat;
 pub use owned_text::{Text, Texts};
