@@ -13,6 +13,7 @@ SEPARATOR = b"From a@x.org Thu Jan  2 10:00:00 2003\n"
 HELLO = SEPARATOR + b"Subject: Hello\n\nhi\n\n"
 BUSY = b"mairix: cannot open m.idx.new\n"
 FIRST, SECOND = "m.mbox", "n.mbox"
+LINK = "a link to another file"
 
 
 def hello_index(path):
@@ -46,8 +47,8 @@ def read(path):
 class Run:
     """A run of the program that indexes one archive, until it ends or stops before a call."""
 
-    def __init__(self, room, archive, at=0, how="stop", log=None):
-        env = dict(os.environ, LD_PRELOAD=room.shim, STOP_AT=str(at), STOP_HOW=how)
+    def __init__(self, room, archive, at=0, how="stop", again=0, log=None):
+        env = dict(os.environ, LD_PRELOAD=room.shim, STOP_AT=str(at), STOP_HOW=how, STOP_AGAIN=str(again))
         if log:
             env["CALLS_LOG"] = log
         self.room, self.whole = room, hello_index(archive)
@@ -63,7 +64,7 @@ class Run:
         self.wait(room.index())
 
     def go_on(self):
-        """Lets a stopped run go on to its end."""
+        """Lets a stopped run go on until it ends or stops again."""
         if not self.ended:
             before = self.room.index()
             self.process.send_signal(signal.SIGCONT)
@@ -108,16 +109,20 @@ class Run:
 
 
 class Room:
-    """A folder with two archives and an rcfile for each, both of one index."""
+    """A folder with two archives and an rcfile for each, both of one index, with what has the index's name, and its passing name:
+    nothing, the bytes of a file, or LINK."""
 
     def __init__(self, program, shim, top, old, left):
         self.program, self.shim, self.bad = program, shim, []
         self.folder = tempfile.mkdtemp(dir=top)
-        files = {FIRST: HELLO, SECOND: HELLO, "rc." + FIRST: rcfile(FIRST), "rc." + SECOND: rcfile(SECOND)}
-        self.at_end = sorted(files) + ["m.idx"]
+        files = {FIRST: HELLO, SECOND: HELLO, "rc." + FIRST: rcfile(FIRST), "rc." + SECOND: rcfile(SECOND), "other": b"mine"}
+        self.at_end = sorted(list(files) + ["m.idx"])
         for name, body in {**files, "m.idx": old, "m.idx.new": left}.items():
-            if body is not None:
-                with open(os.path.join(self.folder, name), "wb") as f:
+            path = os.path.join(self.folder, name)
+            if body == LINK:
+                os.symlink("other", path)
+            elif body is not None:
+                with open(path, "wb") as f:
                     f.write(body)
 
     def index(self):
@@ -126,14 +131,14 @@ class Room:
     def new(self):
         """Which file lies under the passing name, and what is in it."""
         path = os.path.join(self.folder, "m.idx.new")
-        return (os.stat(path).st_ino, read(path)) if os.path.exists(path) else None
+        return (os.lstat(path).st_ino, read(path)) if os.path.lexists(path) else None
 
     def close(self):
         """A later run makes its index whatever was left, and leaves nothing else."""
         last = Run(self, FIRST)
         if last.status != 0:
             self.bad.append("a later run has status %d and tells %r" % (last.status, last.text))
-        if sorted(os.listdir(self.folder)) != sorted(self.at_end):
+        if sorted(os.listdir(self.folder)) != self.at_end or read(os.path.join(self.folder, "other")) != b"mine":
             self.bad.append("left is %s" % sorted(os.listdir(self.folder)))
         return self.bad
 
@@ -226,6 +231,17 @@ def waiting_is_killed(room, names, n, m):
     second.go_on()
 
 
+def first_waits_twice(room, names, n):
+    """The first waits before call n until the second waits to give its file the name, and then two calls on until that has ended."""
+    first, second = Run(room, FIRST, n, again=n + 2), Run(room, SECOND, "rename")
+    first.go_on()
+    second.go_on()
+    first.go_on()
+
+
+PAIRS = (both_wait, second_ends_first, second_is_killed, second_fails, waiting_is_killed)
+
+
 def order(names):
     """All of an index is on the disk, with its mode, before it takes its name."""
     last_write = len(names) - 1 - names[::-1].index("write")
@@ -241,13 +257,16 @@ def checks(program):
         subprocess.run(["cc", "-O2", "-fPIC", "-shared", "-o", shim, os.path.join(here, "stop_at_call.c"), "-ldl"], check=True)
         names = calls(Room(program, shim, top, None, None))
         yield "order of the calls", 1, order(names)
-        each = range(1, len(names) + 1)
-        # A file that was left adds calls: it is opened, locked, looked at by name and as it is open, and removed.
-        singly = [(f, left, (n,)) for f, left in ((second_runs, None), (second_clears_too, b"half"), (first_is_killed, None), (first_is_killed, b"half"), (first_fails, None)) for n in (each if left is None else range(1, len(names) + 6))]
-        # Every fifth pair of calls: each call of one run meets each fifth of the other's.
-        in_pairs = [(f, left, (n, m)) for f in (both_wait, second_ends_first, second_is_killed, second_fails, waiting_is_killed) for left in (None, b"half") for n in each for m in each if (n + m) % 5 == 0]
+        # What was left adds calls: it is opened, locked, looked at by name and as it is open, and removed.
+        each = range(1, len(names) + 6)
+        lefts = (None, b"half", LINK)
+        overlaps = [(second_runs, None, (n,)) for n in each[: len(names)]]
+        overlaps += [(first_fails, None, (n,)) for n in each[: len(names)]]
+        overlaps += [(f, left, (n,)) for f in (second_clears_too, first_is_killed, first_waits_twice) for left in lefts for n in each]
+        # Of pairs of calls three in eleven, over what was left in turn.
+        overlaps += [(f, lefts[(n + m) // 11 % 3], (n, m)) for f in PAIRS for n in each for m in each if (n + 3 * m) % 11 < 3]
         found = {}
-        for number, (f, left, at) in enumerate(singly + in_pairs):
+        for number, (f, left, at) in enumerate(overlaps):
             room = Room(program, shim, top, b"old" if number % 2 else None, left)
             f(room, names, *at)
             tried, bad = found.setdefault(f, (0, []))

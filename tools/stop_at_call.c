@@ -1,6 +1,7 @@
-/* Preloaded into the program, counts its calls that make, look at, lock, write, rename or remove a file, and at the call of the
-   number STOP_AT, counted from 1, does what STOP_HOW says: `stop` stops the process before the call until it is told to go on,
-   `kill` ends it before the call, `fail` lets the call fail. Each call's name is appended to CALLS_LOG as a line before it. */
+/* Preloaded into the program, counts its calls that open, make, look at, lock, write, rename or remove a file, and at the call of
+   the number or name STOP_AT, counted from 1, does what STOP_HOW says: `stop` stops the process before the call until it is told to go on,
+   `kill` ends it before the call, `fail` lets the call fail. STOP_AGAIN is another call to stop before. Each call's name is
+   appended to CALLS_LOG as a line before it. */
 #define _GNU_SOURCE
 #include <dlfcn.h>
 #include <errno.h>
@@ -13,14 +14,18 @@
 #include <sys/syscall.h>
 #include <unistd.h>
 
-static long wanted, seen;
+static const char *wanted_name;
+static long wanted, again, seen;
 static char how;
 static int log_fd = -1;
 
 __attribute__((constructor)) static void arm(void)
 {
     const char *at = getenv("STOP_AT"), *told = getenv("STOP_HOW"), *log = getenv("CALLS_LOG");
-    wanted = at ? atol(at) : 0;
+    const char *then = getenv("STOP_AGAIN");
+    wanted_name = at ? at : "";
+    wanted = atol(wanted_name);
+    again = then ? atol(then) : 0;
     how = told ? told[0] : 0;
     if (log)
         log_fd = syscall(SYS_openat, AT_FDCWD, log, O_WRONLY | O_CREAT | O_APPEND | O_CLOEXEC, 0644);
@@ -37,7 +42,8 @@ static int fails(const char *name)
         if (syscall(SYS_write, log_fd, line, length + 1) != (long)length + 1)
             abort();
     }
-    if (++seen != wanted)
+    ++seen;
+    if (seen != wanted && seen != again && strcmp(name, wanted_name))
         return 0;
     if (how == 'f') {
         errno = EIO;

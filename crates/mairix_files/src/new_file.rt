@@ -3,6 +3,7 @@
 use std::fs::{File, OpenOptions, Permissions};
 use std::io::ErrorKind;
 use std::os::unix::fs::{MetadataExt, OpenOptionsExt, PermissionsExt};
+use std::path::Path;
 use std::rt::Files;
 use std::{fs, io};
 
@@ -16,9 +17,8 @@ const PERMISSION_BITS: u32 = 0o777;
 /// `take_name` or `discard`.
 ///
 /// It is locked while it is open, and a lock ends with its process, however that ends. So of two runs that want one file the
-/// second is refused, and what a killed run left is nobody's. Only who has the lock of the file that a passing name leads to
-/// renames or removes it: a lock is believed once the name is seen to lead to the file that was locked, since the file may have
-/// lost its name before.
+/// second is refused, and what a killed run left is nobody's. Only who has the lock of the file under a passing name renames or
+/// removes it. A lock is believed once the name is seen to lead to the file that was locked, which may have lost its name before.
 pub struct NewFile<'p, R: Files<File = File>> {
     rt: &'p R,
     passing: &'p str,
@@ -110,12 +110,25 @@ fn remove_leftover<R: Files<File = File>>(rt: &R, passing: &str) -> io::Result<(
         Err(error) => return Err(error),
     };
     if !found.is_file() {
-        // No run made this.
-        return fs::remove_file(rt, passing);
+        return remove_unlocked(rt, passing);
     }
     // Its lock is held until its name is gone.
     let left = open_leftover(rt, passing)?;
     lock(rt, &left, passing)?;
+    fs::remove_file(rt, passing)
+}
+
+/// Removes what no run made, as a link. It has no lock, so that of its folder stands in: of two runs that saw it, the later one
+/// doesn't remove the file that the other has made there since.
+fn remove_unlocked<R: Files<File = File>>(rt: &R, passing: &str) -> io::Result<()> {
+    let folder = match Path::new(passing).parent() {
+        Some(folder) if !folder.as_str().is_empty() => fs::open(rt, folder)?,
+        _ => fs::open(rt, ".")?,
+    };
+    folder.try_lock()?;
+    if fs::symlink_metadata(rt, passing)?.is_file() {
+        return Err(ErrorKind::WouldBlock.into());
+    }
     fs::remove_file(rt, passing)
 }
 

@@ -7,20 +7,14 @@ use crate::fault::Fault;
 use crate::index_run::{NoIndex, run_index};
 use crate::run::once_run;
 use mail_dates::Moment;
-use mairix_files::sources_of;
+use mairix_files::{read_whole, sources_of};
 use mairix_options::{Plan, Rc, UsageFault, plan_of, read_rc, usage_text};
 use mbox_cutter::ToWrite;
 use std::alloc::Global;
 use std::fs;
 use std::fs::File;
-use std::io::{ErrorKind, Read, Write};
+use std::io::{ErrorKind, Write};
 use std::rt::Files;
-
-/// Why the rcfile couldn't be read whole.
-enum Unread {
-    CannotOpen,
-    OutOfMemory,
-}
 
 /// Runs the words after the program's name over the files that they name, and answers the exit status.
 ///
@@ -53,10 +47,12 @@ fn run_files<R: Files<File = File>, W: Write, E: Write>(
     err: &mut E,
 ) -> u8 {
     let rcfile = plan.rcfile.as_str();
-    let bytes = match read_file(rt, alloc, rcfile) {
+    let bytes = match read_whole(rt, alloc, rcfile) {
         Ok(bytes) => bytes,
-        Err(Unread::CannotOpen) => return tell_unopened(rcfile, err),
-        Err(Unread::OutOfMemory) => return tell_fault(alloc, Fault::Memory, err),
+        Err(error) if error.kind() == ErrorKind::OutOfMemory => {
+            return tell_fault(alloc, Fault::Memory, err);
+        }
+        Err(_) => return tell_unopened(rcfile, err),
     };
     let rc = match read_rc(alloc, &bytes) {
         Ok(rc) => rc,
@@ -118,19 +114,6 @@ fn run_archives<R: Files, W: Write, E: Write>(
         Some(fault) => tell_fault(alloc, fault, err),
         None if out.flush().is_err() => tell_fault(alloc, Fault::Out, err),
         None => reply.status,
-    }
-}
-
-/// The whole file, or why not.
-fn read_file<R: Files>(rt: &R, alloc: Global, path: &str) -> Result<Vec<u8>, Unread> {
-    let Ok(mut file) = fs::open(rt, path) else {
-        return Err(Unread::CannotOpen);
-    };
-    let mut bytes = Vec::new(alloc);
-    match file.read_to_end(&mut bytes) {
-        Ok(_) => Ok(bytes),
-        Err(error) if error.kind() == ErrorKind::OutOfMemory => Err(Unread::OutOfMemory),
-        Err(_) => Err(Unread::CannotOpen),
     }
 }
 
