@@ -1,13 +1,13 @@
 # `make run` builds the program and answers a small archive with it; `make test` is the whole gate.
 RT ?= rt
 PREFIX ?= /usr/local
-JOBS ?= $(shell nproc)
+JOBS ?= $(shell python3 tools/machine.py)
 PROGRAM = crates/mairix/out/mairix
 
 .PHONY: build run test install
 
-# Leaves the executable at $(PROGRAM). The first time every crate is proved before it, as many side by side as there are processors;
-# later only what has changed.
+# Leaves the executable at $(PROGRAM). The first time every crate is proved before it, as many side by side as processors and memory
+# allow; later only what has changed.
 build:
 	test -x $(PROGRAM) || $(RT) all check --jobs $(JOBS)
 	cd crates/mairix && $(RT) run -- -h >/dev/null

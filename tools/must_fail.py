@@ -30,11 +30,10 @@ from pathlib import Path
 
 sys.dont_write_bytecode = True
 from function_bodies import bodies_of_file
+from machine import checks_side_by_side
 
 RT = os.environ.get("RT", "rt")
 MOST_IN_A_ROUND = 25
-# What a check should have, in kB: one from nothing has taken 2.5 GB.
-MEMORY_OF_A_CHECK = 4_000_000
 PARTS = ("src", "specs", "proofs")
 ERROR = re.compile(r"(?:\./)?(\S+?):\d+:\d+: error\b")
 # What is said of a proof that names what an edit took away, and of what rests on such a proof.
@@ -331,13 +330,6 @@ def try_crate(crate, files, is_proved):
     return tried, f"must-fail {crate.name}: {len(files)} edits, {room.checks} checks, {time.monotonic() - started:.0f} s"
 
 
-def free_places():
-    """How many checks may run side by side: one a processor, as far as memory goes."""
-    free = re.search(r"MemAvailable:\s+(\d+)", Path("/proc/meminfo").read_text())
-    most = int(free[1]) // MEMORY_OF_A_CHECK if free else 1
-    return max(1, min(len(os.sched_getaffinity(0)), most))
-
-
 def find_edits():
     """The edits of each crate, and the files beside them that are none."""
     edits, strays = {}, []
@@ -363,7 +355,7 @@ def main():
     passed, failed = 0, len(strays)
     for file in strays:
         print(f"{file}: NOT an edit: an edit stands right in must-fail/, and its name ends in .edit (or in .md, if it is only to be read)")
-    with ThreadPoolExecutor(words.jobs or free_places()) as pool:
+    with ThreadPoolExecutor(words.jobs or int(os.environ.get("RT_JOBS") or checks_side_by_side())) as pool:
         largest_first = sorted(crates, key=lambda crate: -crate.size())
         running = [pool.submit(try_crate, it, edits.get(it.name, []), bool(words.proved)) for it in largest_first]
         for tried, summary in (it.result() for it in running):
