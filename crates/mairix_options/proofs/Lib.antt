@@ -6,5 +6,6 @@ mod RowsCommandLine
 mod RowsRcfile
 pub mod Searches
 pub mod Settings
+pub mod Paths
 pub mod RcPaths
 pub mod Trimming

@@ -1,14 +1,12 @@
 -- The first line that a base makes no path.
-use Rattle.std.proofs.Common.{◌≡◌, ℕ, ◌+◌, ◌<◌, suc, Bool, true, false, if◌then◌else◌, List, [], ◌∷◌, ◌++◌, Option, None, Some, Result, Ok, Err, map, length, take, drop, get_or, drop-cons, add-one, append-nil, refl, sym, ap, ◌∙◌}
-use Rattle.std.specs.List.{list_all, filter_map, flat_map, cons_option, slice_get}
+use Rattle.std.proofs.Common.{◌≡◌, ℕ, ◌+◌, ◌<◌, suc, Bool, true, false, if◌then◌else◌, List, [], ◌∷◌, ◌++◌, Option, None, Some, Err, map, length, take, drop, get_or, drop-cons, add-one, sym, ap, ◌∙◌}
+use Rattle.std.specs.List.{list_all, filter_map, cons_option, slice_get}
 use Rattle.std.proofs.lemmas.List.{take_more}
 use Rattle.std.proofs.lemmas.List.{flat_map_more}
 use Rattle.contract_words.specs.Answers.{◌>>=◌}
 use Rattle.mairix_options.specs.Path.{is_path, archive_path}
 use Rattle.mairix_options.specs.Rcfile.{archives_misfit, first_misfit, all_fit, all_paths, rc_fitting, rc_with}
 use Rattle.mairix_options.specs.declared.mail_format.MailFormat.{MailFormat}
-use Rattle.mairix_options.specs.declared.rcfile.Rc.{Rc}
-use Rattle.mairix_options.specs.declared.rcfile.RcFault.{RcFault}
 use Rattle.mairix_options.specs.declared.rcfile.RcFault.TheVariants.{BadLine}
 use Rattle.mairix_options.specs.declared.setting.ArchivesLine.{ArchivesLine}
 use Rattle.mairix_options.specs.declared.setting.MfolderLine.{MfolderLine}

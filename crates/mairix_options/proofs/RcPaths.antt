@@ -1,9 +1,9 @@
 -- The paths that an accepted rcfile names are paths of an index.
-use Rattle.std.proofs.Common.{◌≡◌, ◌≢◌, ℕ, zero, suc, ◌+◌, ◌-◌, ◌<◌, ◌==◌, Bool, true, false, not, nat_eq, nat_lt, nat_le, ◌||◌, ◌&&◌, if◌then◌else◌, lit<, List, [], ◌∷◌, ◌++◌, length, map, drop, get_or, codes, Option, None, Some, unwrap_or, Result, Ok, Err, IfOk, IfSome, refl, sym, ap, ◌∙◌, subst, arith, ⊎_elim}
-use Rattle.std.specs.List.{All, AllByRecursion, list_any, list_all, flat_map, filter_map, cons_option, last_or, slice_get, slice_index, starts_with, prefix_len, suffix_len, position_or_len, before_first, after_first, slice_split}
+use Rattle.std.proofs.Common.{◌≡◌, ℕ, zero, suc, ◌+◌, ◌-◌, ◌<◌, ◌==◌, Bool, true, false, not, nat_eq, nat_lt, ◌||◌, ◌&&◌, if◌then◌else◌, lit<, List, [], ◌∷◌, ◌++◌, length, map, drop, get_or, codes, Option, None, Some, unwrap_or, Result, Ok, Err, IfOk, IfSome, refl, sym, ap, ◌∙◌, subst, arith, ⊎_elim}
+use Rattle.std.specs.List.{All, list_any, list_all, filter_map, cons_option, last_or, slice_get, slice_index, starts_with, prefix_len, suffix_len, position_or_len, before_first, after_first, slice_split}
 use Rattle.std.specs.Option.{option_and_then}
 use Rattle.std.specs.Str.{IsUtf8, is_utf8}
-use Rattle.std.proofs.lemmas.Bool.{cases_lt, and_parts, or_parts, not-true, not-false}
+use Rattle.std.proofs.lemmas.Bool.{cases_lt, and_parts, or_parts, not-false}
 use Rattle.std.proofs.lemmas.Bool.Decides.{nat_tests}
 use Rattle.std.proofs.lemmas.List.{drop_all, length-drop}
 use Rattle.std.proofs.lemmas.List.Elements.{All-nil, All-cons, All-head, All-tail, All-append, All-filter}
@@ -14,7 +14,7 @@ use Rattle.contract_words.specs.Answers.{Gives, ◌>>=◌}
 use Rattle.mail_dates.proofs.Cuts.{split_none}
 use Rattle.mail_index.specs.Tables.{IsPath}
 use Rattle.mairix_options.specs.Blanks.{is_blank, trimmed}
-use Rattle.mairix_options.specs.Path.{is_path, has_expansion, has_wildcard, joined, under, archive_path, mfolder_path}
+use Rattle.mairix_options.specs.Path.{is_path, has_expansion, has_wildcard, under, archive_path, mfolder_path}
 use Rattle.mairix_options.specs.Rcfile.{keyword_of, archives_of, names_in, paths_in, expanded_in, wild_in, format_of, setting_of, supported, assigned, entry, is_skipped, text_settings, line_settings, base_in, archives_in, database_in, mfolder_in, format_in, last_of, lines_in, settings_from, archives_misfit, mfolder_misfit, earlier, first_misfit, all_fit, required, if_any, all_paths, rc_fitting, rc_with, rc_from, rc_of, rc_refusal}
 use Rattle.mairix_options.specs.declared.setting.ArchivesLine.{ArchivesLine}
 use Rattle.mairix_options.specs.declared.setting.Keyword.{Keyword}
@@ -29,6 +29,7 @@ use Rattle.mairix_options.specs.declared.rcfile.RcFault.{RcFault}
 use Rattle.mairix_options.specs.declared.rcfile.RcFault.TheVariants.{BadLine, NotSupported, Expansion, Wildcard, BadFormat}
 use Rattle.mairix_options.specs.declared.setting.Setting.{Setting}
 use Rattle.mairix_options.specs.declared.setting.Setting.TheVariants.{Base, Archives, Database, Mfolder, Format}
+use Rattle.mairix_options.proofs.Paths.{path-from}
 use Rattle.mairix_options.proofs.Trimming.{IsCharBoundary-blanks, IsCharBoundary-end_blanks}
 
 -- ---- pieces of a text are texts
@@ -83,20 +84,6 @@ names-utf8 value utf8 =
     All-filter (λ text. nat_lt 0 (length text)) IsUtf8 (slice_split (λ b. b == 58) value) (parts-utf8 58 (lit< tt) (suc (length value)) value (omega arith) utf8)
 
 -- ---- texts that pass the test are paths
-
-all-clear : (text : List ℕ) → list_any (λ b. b == 10 || b == 0) text ≡ false → AllByRecursion (λ b. (b ≢ 0x0A) × (b ≢ 0)) text
-all-clear [] clear = tt
-all-clear (b ∷ text) clear =
-    let parts = or_parts (b == 10 || b == 0) (list_any (λ b. b == 10 || b == 0) text) clear in
-    let here = or_parts (b == 10) (b == 0) parts.0 in
-    ((grind (arith, nat_tests), grind (arith, nat_tests)), all-clear text parts.1)
-
-path-from : (text : List ℕ) → IsUtf8 text → is_path text ≡ true → IsPath text
-path-from text utf8 passes =
-    let some = and_parts (nat_lt 0 (length text)) (nat_le (length text) 4096 && not (list_any (λ b. b == 10 || b == 0) text)) passes in
-    let most = and_parts (nat_le (length text) 4096) (not (list_any (λ b. b == 10 || b == 0) text)) some.1 in
-    let clear : list_any (λ b. b == 10 || b == 0) text ≡ false = not-true (list_any (λ b. b == 10 || b == 0) text) most.1 in
-    record { text = utf8; some = grind (arith, nat_tests); most = grind (arith, nat_tests); one_line = all-clear text clear }
 
 paths-from : (texts : List (List ℕ)) → All IsUtf8 texts → list_all is_path texts ≡ true → All IsPath texts
 paths-from [] utf8 pass = All-nil IsPath

@@ -1,7 +1,6 @@
 -- What one more setting says.
-use Rattle.std.proofs.Common.{◌≡◌, ℕ, ◌+◌, List, [], ◌∷◌, ◌++◌, Option, Some, None, Result, Ok, Err, IfSome, refl, sym, ap, ◌∙◌, append-nil}
-use Rattle.std.specs.List.{filter_map, cons_option, last_or}
-use Rattle.std.specs.Option.{option_to_list}
+use Rattle.std.proofs.Common.{◌≡◌, ℕ, ◌+◌, List, [], ◌∷◌, ◌++◌, Option, Some, None, Result, Ok, Err, IfSome, refl, sym, ap, ◌∙◌}
+use Rattle.std.specs.List.{filter_map, last_or}
 use Rattle.std.proofs.lemmas.List.Elements.{filter_map-append}
 use Rattle.contract_words.specs.Answers.{◌>>=◌}
 use Rattle.contract_words.proofs.Collecting.{if_some_map}
@@ -11,7 +10,6 @@ use Rattle.mairix_options.specs.declared.mail_format.MailFormat.{MailFormat}
 use Rattle.mairix_options.specs.declared.setting.MfolderLine.{MfolderLine}
 use Rattle.mairix_options.specs.declared.rcfile.RcFault.{RcFault}
 use Rattle.mairix_options.specs.declared.setting.Setting.{Setting}
-use Rattle.mairix_options.specs.declared.setting.Setting.TheVariants.{Base, Archives, Database, Mfolder, Format}
 
 last_or-append : {X : Type 0} (o : Option X) (xs ys : List X) → last_or o (xs ++ ys) ≡ last_or (last_or o xs) ys
 last_or-append o [] ys = refl

@@ -4,15 +4,14 @@ ghost use Rattle.std.specs.List.{starts_with};
 ghost use Rattle.mairix_options.specs.Path.{is_path, has_expansion, has_wildcard, joined, under, archive_path, mfolder_path};
 
 use crate::owned_text::{Text, Texts};
-use memchr::{memchr, memchr2, memchr3};
+use memchr::{memchr, memchr3};
 use std::alloc::{AllocError, Global};
 
-/// Whether a text can name a file: 1 to 4,096 bytes, none of them LF or NUL.
+/// Whether a text can name a file, which is what an index asks of an archive's path: 1 to 4,096 bytes, none of them LF or NUL.
 pub(crate) fn is_path(text: &str) -> bool
     ensures { result ≡ is_path text.now }
 {
-    let bytes = text.as_bytes();
-    !bytes.is_empty() && bytes.len() <= 4096 && memchr2(b'\n', 0, bytes).is_none()
+    mail_index::is_path(text)
 }
 
 /// Whether a shell would put something else in its place: `$` anywhere, or `~` at the front.

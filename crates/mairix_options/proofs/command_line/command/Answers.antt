@@ -1,6 +1,6 @@
 use Rattle.std.proofs.Common.{◌≡◌, ◌∙◌, ap₂}
 use Rattle.std.proofs.lemmas.Result.{IfOk-weaker}
-use Rattle.clap.specs.Words.{app_of, rule_of, with_rule}
+use Rattle.clap.specs.Words.{app_of, with_rule}
 use Rattle.mairix_options.specs.CommandLine.{command}
 use Rattle.mairix_options.proofs.command_line.command.Goals as goal
 
