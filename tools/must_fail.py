@@ -1,7 +1,7 @@
 #!/usr/bin/env python3
 """Tries the edits that the prover must refuse, many of a crate in one check.
 
-    tools/must_fail.py [--jobs N] [--proved FOLDER] [CRATE ..]
+    tools/must_fail.py [--jobs N] [--proved FOLDER] [CRATE or CRATE/NAME ..]
 
 An edit, crates/CRATE/must-fail/NAME.edit, turns the meaning of a function, and its crate must then not be proved. A function is
 proved against the contracts of those that it calls, never their bodies, so edits of the bodies of different functions are made
@@ -341,23 +341,32 @@ def find_edits():
     return edits, strays
 
 
+def wanted_of(edits, wanted):
+    """Those of the edits that are asked for, by crates and names."""
+    found = {}
+    for crate, _, name in (it.removesuffix(".edit").partition("/") for it in wanted):
+        found.setdefault(crate, []).extend(it for it in edits.get(crate, []) if not name or it.stem == name)
+    return found
+
+
 def main():
     signal.signal(signal.SIGTERM, Commands.stop)
     signal.signal(signal.SIGINT, Commands.stop)
     asked = argparse.ArgumentParser(description="Tries the edits that the prover must refuse, many of a crate in one check.")
     asked.add_argument("--jobs", type=int, help="how many crates at a time")
     asked.add_argument("--proved", metavar="FOLDER", help="a copy of the repository that rt ci has just proved")
-    asked.add_argument("crates", nargs="*", metavar="CRATE")
+    asked.add_argument("wanted", nargs="*", metavar="CRATE or CRATE/NAME", help="the edits of a crate, or one of them; none: all")
     words = asked.parse_args()
     edits, strays = find_edits()
+    edits = wanted_of(edits, words.wanted) if words.wanted else edits
     toolchain = Toolchain(Path(words.proved or ".").resolve())
-    crates = [toolchain.crate(name) for name in words.crates or edits]
+    crates = [toolchain.crate(name) for name in edits]
     passed, failed = 0, len(strays)
     for file in strays:
         print(f"{file}: NOT an edit: an edit stands right in must-fail/, and its name ends in .edit (or in .md, if it is only to be read)")
     with ThreadPoolExecutor(words.jobs or int(os.environ.get("RT_JOBS") or checks_side_by_side())) as pool:
         largest_first = sorted(crates, key=lambda crate: -crate.size())
-        running = [pool.submit(try_crate, it, edits.get(it.name, []), bool(words.proved)) for it in largest_first]
+        running = [pool.submit(try_crate, it, edits[it.name], bool(words.proved)) for it in largest_first]
         for tried, summary in (it.result() for it in running):
             for is_refused, text in tried:
                 print(text)
