@@ -1,4 +1,4 @@
-//! The keys of a file, of which nothing shows but how they lie to another.
+//! The keys of a file, of which nothing shows but how they lie to another, a step each time.
 ghost use Rattle.std.specs.Prelude.{◌≡◌, ◌<◌, length};
 ghost use Rattle.mail_index.specs.Steps.{add_steps};
 ghost use Rattle.mail_index.specs.KeysRead.{key_at};
@@ -8,61 +8,56 @@ use crate::kind::Kind;
 use crate::postings::Postings;
 use crate::steps::Steps;
 use std::cmp::Ordering;
-use std::marker::Model;
 
-/// The keys of a directory, in order. A look-up has them as this alone: it sees no key but by a step.
-#[derive(Debug, Drop)]
+/// The keys of a directory, in order, and how many steps were taken. A look-up has them as this alone: it sees no key but by a
+/// step, which is counted here and can't be counted elsewhere.
+#[derive(Drop)]
 pub(crate) struct ComparedKeys<'a> {
     directory: Directory<'a>,
-}
-
-impl<'a> Model for ComparedKeys<'a> {
-    ghost use Rattle.std.specs.Prelude.{List};
-    ghost use Rattle.mail_index.specs.Tables.{Key};
-
-    ghost Value = { List Key };
-
-    ghost view = { λ s. s.directory };
+    steps: Steps,
 }
 
 impl<'a> ComparedKeys<'a> {
     ghost use Rattle.mail_index.specs.LookUps.{lies_to, AreSorted};
 
-    /// The keys of this directory.
-    pub(crate) fn of(directory: Directory<'a>) -> Self
-        ensures { result ≡ directory.entry }
+    /// The keys of this directory, after so many steps.
+    pub(crate) fn of(directory: Directory<'a>, steps: Steps) -> Self
+        ensures keys { result.directory ≡ directory.entry }
+        ensures steps { result.steps ≡ steps }
     {
-        ComparedKeys { directory }
+        ComparedKeys { directory, steps }
     }
 
     /// How many keys there are. They stand in order.
     pub(crate) fn len(&self) -> u32
-        ensures count { result ≡ length self.now }
-        ensures sorted { AreSorted self.now }
+        ensures count { result ≡ length self.now.directory }
+        ensures sorted { AreSorted self.now.directory }
     {
         self.directory.len()
     }
 
     /// How the key of this number lies to another: a step.
-    pub(crate) fn compare(
-        &self,
-        number: u32,
-        kind: Kind,
-        text: &[u8],
-        steps: &mut Steps,
-    ) -> Ordering
-        requires { number < length self.now }
-        ensures order { result ≡ lies_to kind text.now (key_at self.now number) }
-        ensures steps { steps.new ≡ add_steps steps.old 1 }
+    pub(crate) fn compare(&mut self, number: u32, kind: Kind, text: &[u8]) -> Ordering
+        requires { number < length self.old.directory }
+        ensures order { result ≡ lies_to kind text.now (key_at self.old.directory number) }
+        ensures steps { self.new.steps ≡ add_steps self.old.steps 1 }
+        ensures keys { self.new.directory ≡ self.old.directory }
     {
-        self.directory.compare(number, kind, text, steps)
+        self.directory.compare(number, kind, text, &mut self.steps)
     }
 
     /// The numbers of the messages that have the key of this number.
     pub(crate) fn postings(&self, number: u32) -> Postings<'a>
-        requires { number < length self.now }
-        ensures { result ≡ (key_at self.now number).numbers }
+        requires { number < length self.now.directory }
+        ensures { result ≡ (key_at self.now.directory number).numbers }
     {
         self.directory.postings(number)
+    }
+
+    /// The steps that were taken.
+    pub(crate) fn into_steps(self) -> Steps
+        ensures { result ≡ self.entry.steps }
+    {
+        self.steps
     }
 }

@@ -158,6 +158,9 @@ impl<'a> IndexView<'a> {
         ensures numbers { result ≡ numbers_at kind text.now self.now.keys }
         ensures steps { TakesDigits (length self.now.keys) steps.old steps.new }
     {
-        look_up(&ComparedKeys::of(self.directory()), kind, text, steps)
+        let mut keys = ComparedKeys::of(self.directory(), steps.copied());
+        let postings = look_up(&mut keys, kind, text);
+        *steps = keys.into_steps();
+        postings
     }
 }

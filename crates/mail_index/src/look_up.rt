@@ -6,20 +6,20 @@ ghost use Rattle.mail_index.specs.KeysRead.{key_at};
 use crate::compared_keys::ComparedKeys;
 use crate::kind::Kind;
 use crate::postings::Postings;
-use crate::steps::Steps;
 use std::cmp::Ordering;
 
 /// Where the key stands in the directory, if it does: a binary search.
-fn position(keys: &ComparedKeys<'_>, kind: Kind, text: &[u8], steps: &mut Steps) -> Option<u32>
-    ensures found { MatchOption result (numbers_at kind text.now keys.now ≡ [])
-        (λ number. (number < length keys.now) × (numbers_at kind text.now keys.now ≡ (key_at keys.now number).numbers)) }
-    ensures steps { TakesDigits (length keys.now) steps.old steps.new }
+fn position(keys: &mut ComparedKeys<'_>, kind: Kind, text: &[u8]) -> Option<u32>
+    ensures found { MatchOption result (numbers_at kind text.now keys.old.directory ≡ [])
+        (λ number. (number < length keys.old.directory) × (numbers_at kind text.now keys.old.directory ≡ (key_at keys.old.directory number).numbers)) }
+    ensures steps { TakesDigits (length keys.old.directory) keys.old.steps keys.new.steps }
+    ensures keys { keys.new.directory ≡ keys.old.directory }
 {
     let mut low = 0;
     let mut high = keys.len();
     while low < high {
         let middle = low + (high - low) / 2;
-        match keys.compare(middle, kind, text, steps) {
+        match keys.compare(middle, kind, text) {
             Ordering::Less => low = middle + 1,
             Ordering::Equal => return Some(middle),
             Ordering::Greater => high = middle,
@@ -29,16 +29,11 @@ fn position(keys: &ComparedKeys<'_>, kind: Kind, text: &[u8], steps: &mut Steps)
 }
 
 /// The numbers of the messages that have the key; none where the directory hasn't it.
-pub(crate) fn look_up<'a>(
-    keys: &ComparedKeys<'a>,
-    kind: Kind,
-    text: &[u8],
-    steps: &mut Steps,
-) -> Postings<'a>
-    ensures numbers { result ≡ numbers_at kind text.now keys.now }
-    ensures steps { TakesDigits (length keys.now) steps.old steps.new }
+pub(crate) fn look_up<'a>(keys: &mut ComparedKeys<'a>, kind: Kind, text: &[u8]) -> Postings<'a>
+    ensures numbers { result ≡ numbers_at kind text.now keys.old.directory }
+    ensures steps { TakesDigits (length keys.old.directory) keys.old.steps keys.new.steps }
 {
-    match position(keys, kind, text, steps) {
+    match position(keys, kind, text) {
         Some(number) => keys.postings(number),
         None => Postings::none(),
     }

@@ -34,6 +34,13 @@ impl Steps {
         self.count = self.count.saturating_add(1);
     }
 
+    /// The same count once more.
+    pub(crate) fn copied(&self) -> Self
+        ensures { result ≡ self.now }
+    {
+        Steps { count: self.count }
+    }
+
     /// How many steps there were.
     pub fn count(&self) -> u64
         ensures { result ≡ self.now }

@@ -8,12 +8,13 @@ use Rattle.mail_index.proofs.look_up.position.Given as goal
 -- the keys before low lie before the wanted one, those from high on behind it, and each step has halved those between
 abbrev pub invariant-loop-low : goal.invariant-loop-low
 invariant-loop-low l = record {
-  sorted : AreSorted l.keys;
+  same : l.keys.directory ≡ l.fn.keys.directory;
+  sorted : AreSorted l.fn.keys.directory;
   order : l.low ≤ l.high;
-  within : l.high ≤ length l.keys;
-  below : (j : ℕ) → j < l.low → lies_to l.kind l.text (key_at l.keys j) ≡ Less;
-  above : (j : ℕ) → l.high ≤ j → j < length l.keys → lies_to l.kind l.text (key_at l.keys j) ≡ Greater;
-  steps : (digits : ℕ) → length l.keys < 2 ^ digits → (left : ℕ) × (taken : ℕ) × (l.high - l.low < 2 ^ left) × (taken + left ≤ digits) × (l.steps ≡ add_steps l.fn.steps taken);
+  within : l.high ≤ length l.fn.keys.directory;
+  below : (j : ℕ) → j < l.low → lies_to l.kind l.text (key_at l.fn.keys.directory j) ≡ Less;
+  above : (j : ℕ) → l.high ≤ j → j < length l.fn.keys.directory → lies_to l.kind l.text (key_at l.fn.keys.directory j) ≡ Greater;
+  steps : (digits : ℕ) → length l.fn.keys.directory < 2 ^ digits → (left : ℕ) × (taken : ℕ) × (l.high - l.low < 2 ^ left) × (taken + left ≤ digits) × (l.keys.steps ≡ add_steps l.fn.keys.steps taken);
 }
 
 abbrev pub decreases-loop-low : goal.decreases-loop-low
