@@ -193,6 +193,8 @@ class Verdict:
         self.is_proved = status == 0
         self.reasons = {}
         self.by_names = {}
+        # Functions that call one another are proved together, so such a reason tells of none of them by itself.
+        self.in_cycles = {}
         errors = [(found[1], line) for line in lines for found in [ERROR.match(line)] if found]
         unread = [line for path, line in errors if path.startswith(("src/", "specs/")) and LOST_NAME.search(line)]
         refused = status == 1 and any(line.startswith("logic=not-proved") for line in lines)
@@ -211,6 +213,10 @@ class Verdict:
             own = "proofs/" + function.partition("::")[2].replace("::", "/") + "/"
             said = [line for path, line in errors if path.startswith(own)]
             self.reasons[function] = next((line for line in said if not LOST_NAME.search(line)), "")
+            cycles = [line for path, line in errors if "/+" in path and own.startswith(path.partition("/+")[0] + "/")]
+            in_cycle = next((line for line in cycles if not LOST_NAME.search(line)), "")
+            if in_cycle and not self.reasons[function]:
+                self.in_cycles[function] = in_cycle
             if said and not self.reasons[function]:
                 self.by_names[function] = said[0]
 
@@ -290,7 +296,7 @@ def try_together(room, edits):
 def try_alone(room, edit):
     """Whether an edit is refused, and what to say of it."""
     verdict = room.check([edit])
-    why = verdict.of(edit, verdict.reasons)
+    why = verdict.of(edit, verdict.reasons) or verdict.of(edit, verdict.in_cycles)
     if verdict.is_proved:
         return False, "NOT refused: the crate is still proved with it"
     if verdict.trouble:

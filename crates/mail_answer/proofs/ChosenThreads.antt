@@ -44,7 +44,7 @@ any_from_some value r m (n ∷ ns) among same =
 
 -- ---- the numbers that pass a test
 
-lower : (a b : ℕ) (ns : List ℕ) → a ≤ b → RisesFrom b ns → RisesFrom a ns
+pub lower : (a b : ℕ) (ns : List ℕ) → a ≤ b → RisesFrom b ns → RisesFrom a ns
 lower a b [] le rises = tt
 lower a b (n ∷ ns) le rises = let first : b ≤ n = rises.0 in (omega arith, rises.1)
 

@@ -13,20 +13,23 @@ ended : (b : List ℕ) → first_length b < length b → Some (first_length b) �
 unfolding first_length line_end_of
 ended b h = let k : length_before_feed b ≤ length b = length_before_feed-le b in grind (arith, nat_tests)
 
-last-cons : (l : List ℕ) (b : List ℕ) → 0 < length b → last_of (l ∷ lines b) ≡ last_of (lines b)
+pub last-cons : (l : List ℕ) (b : List ℕ) → 0 < length b → last_of (l ∷ lines b) ≡ last_of (lines b)
 last-cons l b h = let e = lines-cons b h in rw (e) refl
 
 -- what follows the first line decides
-closed_behind : (b x : List ℕ) → first_length b < length b → is_closed (b ++ x) ≡ is_closed (behind_next b ++ x)
-closed_behind b x h =
+pub last_behind : (b x : List ℕ) → first_length b < length b → last_of (lines (b ++ x)) ≡ last_of (lines (behind_next b ++ x))
+last_behind b x h =
     let n : ℕ = first_length b in
     let same : n ≡ first_length (b ++ x) = line_end-more b x n (ended b h) in
     let long : length (b ++ x) ≡ length b + length x = length-append b x in
     let rest : drop (first_length (b ++ x)) (b ++ x) ≡ drop n b ++ x = ap (λ k. drop k (b ++ x)) (sym same) ∙ drop-append-le n b x (omega arith) in
     let some : 0 < length (drop n b ++ x) = omega (arith, length-append (drop n b) x, length-drop n b) in
-    ap (λ ls. is_empty (last_of ls)) (lines-cons (b ++ x) (omega arith))
-    ∙ ap (λ r. is_empty (last_of (take (first_length (b ++ x)) (b ++ x) ∷ lines r))) rest
-    ∙ ap is_empty (last-cons (take (first_length (b ++ x)) (b ++ x)) (drop n b ++ x) some)
+    ap last_of (lines-cons (b ++ x) (omega arith))
+    ∙ ap (λ r. last_of (take (first_length (b ++ x)) (b ++ x) ∷ lines r)) rest
+    ∙ last-cons (take (first_length (b ++ x)) (b ++ x)) (drop n b ++ x) some
+
+closed_behind : (b x : List ℕ) → first_length b < length b → is_closed (b ++ x) ≡ is_closed (behind_next b ++ x)
+closed_behind b x h = ap is_empty (last_behind b x h)
 
 -- a single line
 single : (b : List ℕ) → 0 < length b → first_length b ≡ length b → is_closed b ≡ is_empty b
@@ -45,11 +48,11 @@ has_feed-is [] = refl
 has_feed-is (x ∷ xs) = elim (x == 10) as (λ v. (v || has_feed xs) ≡ nat_lt (cond v 0 (suc (length_before_feed xs))) (length (x ∷ xs)))
     [ true ↦ grind (arith, nat_tests) | false ↦ has_feed-is xs ∙ grind (arith, nat_tests) ]
 
-whole_end : (b : List ℕ) → first_length b ≡ length b → nat_lt (length_before_feed b) (length b) ≡ true → Some (first_length b) ≡ line_end_of b
+pub whole_end : (b : List ℕ) → first_length b ≡ length b → nat_lt (length_before_feed b) (length b) ≡ true → Some (first_length b) ≡ line_end_of b
 unfolding first_length line_end_of
 whole_end b e f = grind (arith, nat_tests)
 
-whole_feed : (b : List ℕ) → first_length b ≡ length b → nat_lt (length_before_feed b) (length b) ≡ false → first_length (b ++ feed) ≡ length (b ++ feed)
+pub whole_feed : (b : List ℕ) → first_length b ≡ length b → nat_lt (length_before_feed b) (length b) ≡ false → first_length (b ++ feed) ≡ length (b ++ feed)
 unfolding first_length
 whole_feed b e f =
     let k : length_before_feed b ≤ length b = length_before_feed-le b in
@@ -123,6 +126,10 @@ not_last n m h = grind (arith, nat_tests)
 
 is_last : (n m : ℕ) → n ≡ m → nat_eq n m ≡ true
 is_last n m h = grind (arith, nat_tests)
+
+-- a line that isn't the last
+pub next_front : (b : List ℕ) → first_length b < length b → next_text b ≡ take (first_length b) b
+next_front b h = let front : List ℕ = take (first_length b) b in rw (not_last (first_length b) (length b) h) (append-nil front)
 
 -- a span of one line
 pub closed_last : (b : List ℕ) → 0 < length b → length (behind_next b) ≡ 0 → closed b ≡ next_text b

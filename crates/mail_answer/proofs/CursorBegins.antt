@@ -69,6 +69,14 @@ some_walk len long same other = elim (cases_order 0 long) [
   | inr (inr more) ↦ absurd (omega (arith, more))
 ]
 
+pub tells_scanned : {E : Type 0} (t : Table) (q p : Query) (scan : List Bool) (r : Result Ahead E) → q ≡ p → scan ≡ truths t p → IfOk r (λ w. w.truths ≡ scan) → IfOk r (λ w. Tells t q w.truths)
+tells_scanned t q p scan (Ok w) is all given = tells_scan t q p w.truths is (given ∙ all)
+tells_scanned t q p scan (Err e) is all given = tt
+
+pub scanned_left : {E : Type 0} (t : Table) (q p : Query) (left : ℕ) (r : Result Ahead E) → q ≡ p → left ≡ most_left t p → IfOk r (λ w. w.left ≡ left) → IfOk r (λ w. w.left ≤ most_left t q)
+scanned_left t q p left (Ok w) is most given = subst (λ (x : Query). w.left ≤ most_left t x) (sym is) (omega (arith, given, most))
+scanned_left t q p left (Err e) is most given = tt
+
 -- ---- inner nodes
 
 tells_others : (t : Table) (q : Query) (count : ℕ) (inner xs : List Bool) → count ≡ length t.messages → xs ≡ others count 0 inner → Tells t q inner → Tells t (Not q) xs
@@ -119,6 +127,21 @@ tells_united t qs ws tells = record {
 pub tells_either : (t : Table) (q : Query) (qs : List Query) (ws : List Ahead) (xs : List Bool) → q ≡ Either (members_of qs) → xs ≡ united ws → TellAll t qs ws → Tells t q xs
 tells_either t q qs ws xs is all tells =
     subst (λ (x : Query). Tells t x xs) (sym is) (subst (Tells t (Either (members_of qs))) (sym all) (tells_united t qs ws tells))
+
+-- the same where they are joined in groups
+pub tells_grouped : {E : Type 0} (t : Table) (q : Query) (qs : List Query) (ws : List Ahead) (r : Result Ahead E) → q ≡ Either (members_of qs) → TellAll t qs ws
+    → IfOk r (λ w. (m : ℕ) → truth_at w.truths m ≡ some_has m ws) → IfOk r (λ w. Tells t q w.truths)
+tells_grouped t q qs ws (Err e) is tells has = tt
+tells_grouped t q qs ws (Ok w) is tells has =
+    subst (λ (x : Query). Tells t x w.truths) (sym is) (record {
+      each = λ m lt. has m ∙ some_told t qs ws m tells lt;
+      past = λ m le. has m ∙ some_past t qs ws m tells le;
+    })
+
+pub grouped_left : {E : Type 0} (t : Table) (q : Query) (qs : List Query) (ws : List Ahead) (r : Result Ahead E) → q ≡ Either (members_of qs) → left_in ws ≤ most_left_of_all t (members_of qs)
+    → IfOk r (λ w. w.left ≡ left_in ws) → IfOk r (λ w. w.left ≤ most_left t q)
+grouped_left t q qs ws (Err e) is most same = tt
+grouped_left t q qs ws (Ok w) is most same = subst (λ (x : Query). w.left ≤ most_left t x) (sym is) (omega (arith, same, most))
 
 pub tells_common : (t : Table) (q : Query) (qs : List Query) (ws : List Ahead) (xs : List Bool) → q ≡ All (members_of qs) → 0 < length ws → xs ≡ common ws → TellAll t qs ws → Tells t q xs
 tells_common t q qs ws xs is some all tells = record {

@@ -25,15 +25,19 @@ pub mod SheetLemmas
 pub mod ReadingLemmas
 pub mod ByteLists
 pub mod StaleLemmas
+pub mod PassedArchives
 pub mod ClosingLemmas
 pub mod ClosedLemmas
-pub mod AnswerTexts
 pub mod SpanLemmas
 pub mod IndexedLemmas
+pub mod Endings
+pub mod CopiedPieces
 pub mod KnownAnswers
 pub mod HeaderReading
+pub mod NumberLists
 pub mod SentLemmas
 mod RowsShapes
+mod RowsEndings
 pub mod MessageLines
 pub mod CutMessages
 pub mod Separated
@@ -41,3 +45,5 @@ pub mod ClosedMessages
 pub mod CutAgain
 pub mod ChosenBelow
 mod RowsCutAgain
+pub mod EveryThread
+pub mod EveryAnswer

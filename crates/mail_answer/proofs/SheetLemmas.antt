@@ -180,3 +180,15 @@ writes_less t u a b k text (Err f) h w = (w.0, tells_same k text w.0 h w.1, w.2)
     tells_same : (k : Option (List ℕ)) (x y : List ℕ) → Tells k x → x ≡ y → Tells k y
     tells_same None x y h e = tt
     tells_same (Some z) x y h e = h ∙ e
+
+-- ---- where no byte has gone out, none had before
+
+pub unsent_before : {t u : Option (List ℕ)} {a b : Sheet} {x : List ℕ} → Joins t u a b x → b.sent ≡ 0 → a.sent ≡ 0
+unsent_before {t} {u} {a} {b} {x} h unsent = omega (arith, h.count, unsent)
+
+pub unsent_before_front : {t u : Option (List ℕ)} {a b : Sheet} {x : List ℕ} → JoinsFront t u a b x → b.sent ≡ 0 → a.sent ≡ 0
+unsent_before_front {t} {u} {a} {b} {x} h unsent = omega (arith, h.count, unsent)
+
+pub unsent_before_writes : {T E : Type 0} (t u : Option (List ℕ)) (a b : Sheet) (k : Option (List ℕ)) (r : Result T E) → Writes t u a b k r → b.sent ≡ 0 → a.sent ≡ 0
+unsent_before_writes t u a b k (Ok y) w unsent = unsent_before w.2 unsent
+unsent_before_writes t u a b k (Err e) w unsent = unsent_before_front w.2 unsent

@@ -3,11 +3,7 @@ use Rattle.std.specs.Prelude.{◌≡◌, ℕ, ◌-◌, ◌^◌, min, List, ◌++
 use Rattle.std.specs.Io.KnownBytes.{Appends, Keeps}
 use Rattle.std.specs.Bool.{MatchBool}
 use Rattle.mail_answer.specs.Faults.{is_stale, is_of_archives}
-use Rattle.mail_index.specs.Tables.{Table}
-use Rattle.mail_query.specs.Query.{Query}
 use Rattle.mail_answer.specs.Sheets.{Tells}
-use Rattle.mail_answer.specs.TableFacts.{chosen_numbers}
-use Rattle.mail_answer.specs.Threads.{AreThreads}
 use Rattle.mail_answer.specs.declared.fault.AnswerFault.{AnswerFault}
 use Rattle.mail_answer.specs.declared.fault.AnswerFaultKind.{AnswerFaultKind}
 use Rattle.mail_answer.specs.declared.fault.AnswerFaultKind.TheVariants.{Stale}
@@ -40,7 +36,3 @@ abbrev pub AnswersStale : Option (List ℕ) → Option (List ℕ) → Option ℕ
 AnswersStale taken taken' stale (Ok _) = stale ≡ None
 AnswersStale taken taken' None (Err fault) = is_stale fault.kind ≡ false
 AnswersStale taken taken' (Some n) (Err fault) = MatchBool (is_of_archives fault.kind) (fault.sent ≡ 0) (fault ≡ record { kind = Stale n; sent = 0 }) × Keeps taken taken'
-
--- the numbers of the messages that satisfy the query, rising, or of all in their threads
-abbrev pub AreAnswered : Table → Query → Bool → List ℕ → Type 0
-AreAnswered t q threads numbers = MatchBool threads (AreThreads t (chosen_numbers t q) numbers) (numbers ≡ chosen_numbers t q)

@@ -6,7 +6,7 @@ use Rattle.mail_answer.specs.declared.cursor.walk.Node.TheVariants.{Listed, Scan
 
 abbrev pub ahead : Node → Ahead
 ahead (Listed list) = record { truths = list.truths; left = list.left; below = 0 }
-ahead (Scanned scan) = record { truths = scan.truths; left = scan.left; below = 0 }
+ahead (Scanned scan) = record { truths = scan.value.truths; left = scan.value.left; below = 0 }
 ahead (Others o) = record { truths = others o.count o.low o.inner.value.truths; left = o.inner.value.left; below = o.inner.value.below + 1 }
 ahead (Common members) = record { truths = common members.items; left = left_in members.items; below = levels members.items }
 ahead (United members) = record { truths = united members.items; left = left_in members.items; below = levels members.items }

@@ -1,5 +1,6 @@
 pub mod TableFacts
 pub mod Marks
+pub mod Mail
 pub mod Threads
 pub mod Forests
 pub mod CursorAhead
@@ -10,6 +11,7 @@ pub mod CursorTexts
 pub mod CursorBegins
 pub mod CursorHeads
 pub mod CursorNumbers
+pub mod NumbersToCome
 pub mod CursorWalks
 pub mod CursorFalls
 pub mod Archives
@@ -18,8 +20,12 @@ pub mod Sheets
 pub mod Excerpts
 pub mod Shapes
 pub mod Readings
+pub mod PassedArchives
 pub mod Stale
 pub mod Closing
+pub mod Endings
+pub mod Copies
 pub mod Answers
 pub mod HeaderReads
 pub mod CutAgain
+pub mod TableAnswers

@@ -1,10 +1,7 @@
 -- Lists with a truth for each message, while they grow.
 use Rattle.std.specs.Prelude.{◌≡◌, ℕ, ◌<◌, Bool, false, ◌&&◌, ◌||◌, List, length, map, bytes_eq}
 use Rattle.std.specs.List.{list_any, range_with_len, slice_index_or}
-use Rattle.mail_words.specs.declared.kind.TextKind.{TextKind}
-use Rattle.mail_query.specs.declared.kinds.Kinds.{Kinds}
-use Rattle.mail_query.specs.Kinds.{has_kind}
-use Rattle.mail_query.specs.Truth.{Facts, contains_text, begins_with}
+use Rattle.mail_query.specs.Truth.{contains_text, begins_with}
 use Rattle.mail_answer.specs.TableFacts.{is_among}
 use Rattle.mail_answer.specs.declared.fit.Fit.{Fit}
 use Rattle.mail_answer.specs.declared.fit.Fit.TheVariants.{Whole, Within, Front}
@@ -30,7 +27,3 @@ fits Front = begins_with
 -- some of these keys, each with its numbers, passes and has the number
 abbrev pub some_key : (List ℕ → Bool) → ℕ → List (List ℕ × List ℕ) → Bool
 some_key passes n keys = list_any (λ k. passes k.0 && is_among n k.1) keys
-
--- some text passes, of those of these kinds that are in the set
-abbrev pub some_text : List TextKind → (List ℕ → Bool) → Kinds → Facts → Bool
-some_text text_kinds passes kinds m = list_any (λ kind. has_kind kinds kind && list_any passes (m.words kind)) text_kinds

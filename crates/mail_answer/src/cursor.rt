@@ -1,6 +1,5 @@
 //! Cursors: the messages that satisfy a query, one after another, in the order of their numbers.
 ghost use Rattle.std.specs.Prelude.{◌≡◌, ◌≤◌, ℕ, Some, length, IfOk};
-ghost use Rattle.mail_index.specs.Tables.{IsWellFormed};
 ghost use Rattle.mail_query.specs.Meaning.{meaning};
 ghost use Rattle.mail_answer.specs.TableFacts.{chosen_numbers};
 ghost use Rattle.mail_answer.specs.CursorAhead.{Spends};
@@ -68,8 +67,7 @@ impl<'a> Cursor<'a> {
 
     /// The messages of an index that satisfy a query.
     ///
-    /// The table of the index keeps the rules of tables, as that of each index that `IndexView::open` gave does. Takes all the memory that
-    /// the cursor needs. Each Word looks up its text once in each of its kinds, at most as many steps as the number of keys has binary
+    /// Takes all the memory that the cursor needs. Each Word looks up its text once in each of its kinds, at most as many steps as the number of keys has binary
     /// digits; a Part or a Prefix also looks at each key of its kinds.
     ///
     /// # Errors
@@ -77,16 +75,15 @@ impl<'a> Cursor<'a> {
     /// `AllocError` where that memory is refused.
     pub fn new(
         alloc: Global,
-        index: &'a IndexView<'a>,
+        index: &IndexView<'a>,
         query: &Query,
         steps: &mut Steps,
     ) -> Result<Cursor<'a>, AllocError>
-        requires { IsWellFormed index.now }
-        ensures numbers { IfOk result (λ c. c.numbers ≡ chosen_numbers index.entry.now (meaning query.now)) }
-        ensures left { IfOk result (λ c. c.left ≤ most_left index.entry.now (meaning query.now)) }
-        ensures steps { LooksUp (length index.entry.now.keys) (look_ups (meaning query.now)) steps.old steps.new }
+        ensures numbers { IfOk result (λ c. c.numbers ≡ chosen_numbers index.now (meaning query.now)) }
+        ensures left { IfOk result (λ c. c.left ≤ most_left index.now (meaning query.now)) }
+        ensures steps { LooksUp (length index.now.keys) (look_ups (meaning query.now)) steps.old steps.new }
     {
-        let walk = walk_of(alloc, index, query.root(), steps)?;
+        let walk = walk_of(alloc, &index.again(), query.root(), steps)?;
         Ok(Cursor {
             walk,
             low: 0,
@@ -116,18 +113,11 @@ impl<'a> Cursor<'a> {
 
 /// The numbers of the messages that satisfy the query, from 0, rising: its cursor, walked to the end.
 ///
-/// The table of the index keeps the rules of tables, as that of each index that `IndexView::open` gave does.
-///
 /// # Errors
 ///
 /// `AllocError` where the memory of the cursor or of the answer is refused.
-pub fn matches<'a>(
-    alloc: Global,
-    index: &'a IndexView<'a>,
-    query: &Query,
-) -> Result<Vec<u32>, AllocError>
-    requires { IsWellFormed index.now }
-    ensures { IfOk result (λ v. v.items ≡ chosen_numbers index.entry.now (meaning query.now)) }
+pub fn matches(alloc: Global, index: &IndexView<'_>, query: &Query) -> Result<Vec<u32>, AllocError>
+    ensures { IfOk result (λ v. v.items ≡ chosen_numbers index.now (meaning query.now)) }
 {
     let mut steps = Steps::new();
     let mut cursor = Cursor::new(alloc, index, query, &mut steps)?;

@@ -17,10 +17,9 @@ ghost use Rattle.mail_index.specs.Tables.{IsWellFormed};
 use crate::archives::Archives;
 use crate::fault::AnswerFaultKind;
 use crate::header_reads::read_header;
-use crate::raw_line::path_of;
+use crate::places::Places;
 use crate::sheet::Sheet;
 use header_text::{Fields, Header, decode_words, unfold};
-use mail_index::IndexView;
 use mbox_cutter::Out;
 use std::alloc::{AllocError, Global};
 
@@ -106,27 +105,29 @@ fn excerpt_text(alloc: Global, path: &str, header: &Header) -> Result<Vec<u8>, A
 /// Adds the excerpt of the message of this number to an answer.
 pub(crate) fn push_excerpt<A: Archives, O: Out>(
     alloc: Global,
-    index: &IndexView<'_>,
+    places: &mut Places<'_>,
     n: u32,
     archives: &mut A,
     sheet: &mut Sheet,
     out: &mut O,
 ) -> Result<(), AnswerFaultKind>
-    requires table { IsWellFormed index.now }
-    requires below { n < length index.now.messages }
-    requires number { A.number archives.old ≡ length index.now.archives }
-    requires fresh { IfSome (A.held archives.old) (λ bytes. stale_archive index.now.archives bytes ≡ None) }
+    requires table { IsWellFormed places.old.table }
+    requires below { n < length places.old.table.messages }
+    requires number { A.number archives.old ≡ length places.old.table.archives }
+    requires fresh { IfSome (A.held archives.old) (λ bytes. stale_archive places.old.table.archives bytes ≡ None) }
     requires archives { A.failures archives.old < 2 ^ 64 - 1 }
     requires out { O.failures out.old < 2 ^ 64 - 1 }
     ensures held { A.held archives.new ≡ A.held archives.old }
     ensures number { A.number archives.new ≡ A.number archives.old }
-    ensures writes { Writes (O.taken out.old) (O.taken out.new) sheet.old sheet.new (known_message Excerpt index.now (A.held archives.old) n) result }
+    ensures same { places.new.table ≡ places.old.table }
+    ensures writes { Writes (O.taken out.old) (O.taken out.new) sheet.old sheet.new (known_message Excerpt places.old.table (A.held archives.old) n) result }
+    ensures kept { sheet.new.sent ≡ 0 → has_fault is_of_output result ≡ false → out.new ≡ out.old }
     ensures out_count { Counted (has_fault is_of_output result) (O.failures out.old) (O.failures out.new) }
     ensures archives_count { Counted (has_fault is_of_archives result) (A.failures archives.old) (A.failures archives.new) }
     ensures fresh { IfSome (A.held archives.old) (λ _. has_fault is_stale result ≡ false) }
 {
-    let message = index.message(n);
+    let message = places.index().message(n);
     let header = read_header(alloc, message, archives)?;
-    let text = excerpt_text(alloc, path_of(index, message.archive), &header)?;
+    let text = excerpt_text(alloc, places.path_of(message.archive), &header)?;
     sheet.push(out, &text)
 }

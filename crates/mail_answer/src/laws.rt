@@ -1,10 +1,12 @@
 //! Laws of the definitions.
-ghost use Rattle.std.specs.Prelude.{◌≡◌, ◌<◌, ℕ, false, List, length, map};
+ghost use Rattle.std.specs.Prelude.{◌≡◌, ◌<◌, ℕ, false, List, Option, length, map};
 ghost use Rattle.std.specs.List.{All, flat_map};
 ghost use Rattle.mail_index.specs.Tables.{Table};
 ghost use Rattle.mail_answer.specs.CutAgain.{IsCutInto, IsCutOut, ends_in_return};
 ghost use Rattle.mail_answer.specs.Shapes.{closed};
 ghost use Rattle.mail_answer.specs.TableFacts.{chosen_numbers};
+ghost use Rattle.mail_answer.specs.Mail.{Search};
+ghost use Rattle.mail_answer.specs.TableAnswers.{TableAnswer, IsTableAnswer};
 ghost use Rattle.mail_answer.specs.Threads.{AreThreads};
 ghost use Rattle.mail_query.specs.Query.{Query};
 
@@ -24,4 +26,14 @@ pub fn closed_messages_are_cut_again()
 pub fn chosen_numbers_are_those_of_messages()
     ensures alone { (t : Table) (q : Query) → All (λ n. n < length t.messages) (chosen_numbers t q) }
     ensures threads { (t : Table) (numbers members : List ℕ) → AreThreads t numbers members → All (λ n. n < length t.messages) members }
+{}
+
+/// Every table answers every search: so what is said of all answers of a table is never said of none.
+pub fn every_table_answers()
+    ensures { (t : Table) (s : Search) (held : Option (List (List ℕ))) → (a : TableAnswer) × IsTableAnswer t s held a }
+{}
+
+/// And it has one answer.
+pub fn one_answer_of_a_table()
+    ensures { (t : Table) (s : Search) (held : Option (List (List ℕ))) (a b : TableAnswer) → IsTableAnswer t s held a → IsTableAnswer t s held b → a ≡ b }
 {}

@@ -31,18 +31,16 @@ pub use fault::{AnswerFault, AnswerFaultKind};
 
 mod answers;
 
-pub use answers::{answer, write_answer};
-
-mod plain;
-
-pub use plain::plain_matches;
+pub use answers::answer;
 
 mod laws;
 
 pub use laws::{
-    chosen_numbers_are_those_of_messages, closed_messages_are_cut_again, one_list_of_threads,
+    chosen_numbers_are_those_of_messages, closed_messages_are_cut_again, every_table_answers,
+    one_answer_of_a_table, one_list_of_threads,
 };
 
+mod ending;
 mod excerpt;
 mod fit;
 mod forest;
@@ -50,9 +48,10 @@ mod header_reads;
 mod line_reader;
 mod marks;
 mod mbox;
+mod numbers;
+mod places;
 mod raw_answer;
 mod raw_line;
 mod records;
 mod sheet;
 mod stale;
-mod texts;

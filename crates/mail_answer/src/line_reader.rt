@@ -67,14 +67,6 @@ impl LineReader {
         self.unread().split_at(n).0
     }
 
-    /// Whether nothing comes behind the next `n` bytes.
-    pub(crate) fn is_last(&self, n: usize) -> bool
-        requires { n ≤ length self.now.unread }
-        ensures { result ≡ nat_eq n (coming_count self.now) }
-    {
-        self.left == 0 && self.unread().len() == n
-    }
-
     /// Passes the next `n` bytes.
     pub(crate) fn pass(&mut self, n: usize)
         requires { n ≤ length self.old.unread }
@@ -87,7 +79,6 @@ impl LineReader {
     fn fill<A: Archives>(&mut self, archives: &mut A) -> Result<(), AnswerFaultKind>
         requires inside { IsInside (A.number archives.old) (A.held archives.old) self.old }
         requires more { 0 < self.old.left }
-        requires room { length self.old.unread ≤ 65536 }
         requires count { A.failures archives.old < 2 ^ 64 - 1 }
         ensures held { A.held archives.new ≡ A.held archives.old }
         ensures number { A.number archives.new ≡ A.number archives.old }
@@ -150,7 +141,7 @@ fn drop_front(held: &mut Vec<u8>, n: usize)
 }
 
 /// Reads at most so many bytes of an archive, from an offset on, behind those held. What is held after an error isn't said.
-fn read_behind<A: Archives>(
+pub(crate) fn read_behind<A: Archives>(
     archives: &mut A,
     archive: u32,
     offset: u64,
@@ -159,7 +150,7 @@ fn read_behind<A: Archives>(
 ) -> Result<usize, AnswerFaultKind>
     requires below { archive < A.number archives.old }
     requires some { 0 < most }
-    requires room { length held.old.items + most < 2 ^ 63 }
+    requires few { most ≤ 65536 }
     requires count { A.failures archives.old < 2 ^ 64 - 1 }
     ensures held { A.held archives.new ≡ A.held archives.old }
     ensures number { A.number archives.new ≡ A.number archives.old }

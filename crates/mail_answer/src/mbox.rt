@@ -1,9 +1,9 @@
 //! A message in the form of mbox archives.
-ghost use Rattle.std.specs.Prelude.{◌≡◌, ◌<◌, ◌≤◌, ◌-◌, ◌^◌, true, false, length, nat_eq, None, Some, IfOk, OnOk, IfSome};
+ghost use Rattle.std.specs.Prelude.{◌≡◌, ◌<◌, ◌-◌, ◌^◌, false, length, nat_eq, None, OnOk, IfSome};
 ghost use Rattle.std.specs.Option.{option_map};
 ghost use Rattle.contract_words.specs.Devices.{Counted};
 ghost use Rattle.mail_index.specs.Tables.{IsWellFormed};
-ghost use Rattle.mail_answer.specs.Closing.{feeds_behind, feeds_if, next_text, behind_next};
+ghost use Rattle.mail_answer.specs.Copies.{Copies};
 ghost use Rattle.mail_answer.specs.Faults.{has_fault, is_of_output, is_of_archives, is_stale};
 ghost use Rattle.mail_answer.specs.Readings.{coming, coming_count, span_reading, IsInside};
 ghost use Rattle.mail_answer.specs.Shapes.{closed, known_message};
@@ -12,71 +12,88 @@ ghost use Rattle.mail_answer.specs.Stale.{stale_archive};
 ghost use Rattle.mail_answer.specs.declared.format.Format.TheVariants.{Mbox};
 
 use crate::archives::Archives;
+use crate::ending::Ending;
 use crate::fault::AnswerFaultKind;
-use crate::line_reader::LineReader;
+use crate::line_reader::read_behind;
 use crate::sheet::Sheet;
 use mail_index::{IndexView, Record};
-use mbox_cutter::{Out, is_empty_line};
-use std::alloc::Global;
+use mbox_cutter::Out;
+use std::marker::Model;
 
-/// The LFs behind a last line, until the last line is empty.
-fn feeds_behind_line(line: &[u8]) -> &'static [u8]
-    ensures { result.now ≡ feeds_behind line.now }
-{
-    if is_empty_line(line) {
-        b""
-    } else if line.contains(&b'\n') || line == b"\r".as_slice() {
-        b"\n"
-    } else {
-        b"\n\n"
-    }
+/// So many bytes are asked for at a read.
+const PIECE: u64 = 65_536;
+
+/// A part of an archive that is still to be copied.
+#[derive(Drop)]
+struct Part {
+    archive: u32,
+    next: u64,
+    left: u64,
 }
 
-/// What closes a line, if it is the last.
-fn feeds_if_last(is_last: bool, line: &[u8]) -> &'static [u8]
-    ensures { result.now ≡ feeds_if is_last line.now }
-{
-    if is_last {
-        feeds_behind_line(line)
-    } else {
-        b""
-    }
+impl Model for Part {
+    ghost use Rattle.std.specs.Prelude.{[]};
+    ghost use Rattle.mail_answer.specs.Readings.{Reading};
+
+    ghost Value = { Reading };
+
+    ghost view = { λ s. record { archive = s.archive; unread = []; next = s.next; left = s.left } };
 }
 
-/// Adds the next line to an answer, and if it is the last, what closes it; answers whether it is.
-fn push_next<A: Archives, O: Out>(
-    reader: &mut LineReader,
-    archives: &mut A,
-    sheet: &mut Sheet,
-    out: &mut O,
-) -> Result<bool, AnswerFaultKind>
-    requires inside { IsInside (A.number archives.old) (A.held archives.old) reader.old }
-    requires some { 0 < coming_count reader.old }
-    requires archives { A.failures archives.old < 2 ^ 64 - 1 }
-    requires out { O.failures out.old < 2 ^ 64 - 1 }
-    ensures held { A.held archives.new ≡ A.held archives.old }
-    ensures number { A.number archives.new ≡ A.number archives.old }
-    ensures inside { OnOk result (IsInside (A.number archives.old) (A.held archives.old) reader.new) }
-    ensures writes { Writes (O.taken out.old) (O.taken out.new) sheet.old sheet.new (option_map next_text (coming (A.held archives.old) reader.old)) result }
-    ensures coming { IfOk result (λ last. coming (A.held archives.old) reader.new ≡ option_map behind_next (coming (A.held archives.old) reader.old)) }
-    ensures last { IfOk result (λ last. last ≡ nat_eq 0 (coming_count reader.new)) }
-    ensures less { OnOk result (coming_count reader.new < coming_count reader.old) }
-    ensures out_count { Counted (has_fault is_of_output result) (O.failures out.old) (O.failures out.new) }
-    ensures archives_count { Counted (has_fault is_of_archives result) (A.failures archives.old) (A.failures archives.new) }
-    ensures fresh { IfSome (A.held archives.old) (λ _. has_fault is_stale result ≡ false) }
-{
-    let n = reader.first_line(archives)?;
-    let line = reader.front(n);
-    let is_last = reader.is_last(n);
-    sheet.push(out, line)?;
-    sheet.push(out, feeds_if_last(is_last, line))?;
-    reader.pass(n);
-    Ok(is_last)
+impl Part {
+    /// The bytes of a message.
+    fn of(message: Record) -> Self
+        ensures { result ≡ span_reading message }
+    {
+        Part {
+            archive: message.archive,
+            next: message.offset,
+            left: message.length,
+        }
+    }
+
+    /// Whether all of it was copied.
+    fn is_copied(&self) -> bool
+        ensures { result ≡ nat_eq (coming_count self.now) 0 }
+    {
+        self.left == 0
+    }
+
+    /// Reads its next piece behind what an answer has gathered, which goes out where it is enough; answers how the last line stands.
+    fn copy_piece<A: Archives, O: Out>(
+        &mut self,
+        before: Ending,
+        archives: &mut A,
+        sheet: &mut Sheet,
+        out: &mut O,
+    ) -> Result<Ending, AnswerFaultKind>
+        requires inside { IsInside (A.number archives.old) (A.held archives.old) self.old }
+        requires some { 0 < coming_count self.old }
+        requires archives { A.failures archives.old < 2 ^ 64 - 1 }
+        requires out { O.failures out.old < 2 ^ 64 - 1 }
+        ensures held { A.held archives.new ≡ A.held archives.old }
+        ensures number { A.number archives.new ≡ A.number archives.old }
+        ensures inside { OnOk result (IsInside (A.number archives.old) (A.held archives.old) self.new) }
+        ensures copies { Copies (O.taken out.old) (O.taken out.new) sheet.old sheet.new (coming (A.held archives.old) self.old) (coming (A.held archives.old) self.new) before result }
+        ensures less { OnOk result (coming_count self.new < coming_count self.old) }
+        ensures kept { sheet.new.sent ≡ 0 → has_fault is_of_output result ≡ false → out.new ≡ out.old }
+        ensures out_count { Counted (has_fault is_of_output result) (O.failures out.old) (O.failures out.new) }
+        ensures archives_count { Counted (has_fault is_of_archives result) (A.failures archives.old) (A.failures archives.new) }
+        ensures fresh { IfSome (A.held archives.old) (λ _. has_fault is_stale result ≡ false) }
+    {
+        let gathered = sheet.text.len();
+        let most = self.left.min(PIECE) as usize;
+        let n = read_behind(archives, self.archive, self.next, most, &mut sheet.text)?;
+        self.next += n as u64;
+        self.left -= n as u64;
+        let ending = before.with_bytes(&sheet.text[gathered..]);
+        sheet.send_full(out)?;
+        Ok(ending)
+    }
 }
 
 /// Adds the bytes of a message to an answer, and what closes them.
 fn push_closed<A: Archives, O: Out>(
-    alloc: Global,
     message: Record,
     archives: &mut A,
     sheet: &mut Sheet,
@@ -89,21 +106,22 @@ fn push_closed<A: Archives, O: Out>(
     ensures held { A.held archives.new ≡ A.held archives.old }
     ensures number { A.number archives.new ≡ A.number archives.old }
     ensures writes { Writes (O.taken out.old) (O.taken out.new) sheet.old sheet.new (option_map closed (coming (A.held archives.old) (span_reading message))) result }
+    ensures kept { sheet.new.sent ≡ 0 → has_fault is_of_output result ≡ false → out.new ≡ out.old }
     ensures out_count { Counted (has_fault is_of_output result) (O.failures out.old) (O.failures out.new) }
     ensures archives_count { Counted (has_fault is_of_archives result) (A.failures archives.old) (A.failures archives.new) }
     ensures fresh { IfSome (A.held archives.old) (λ _. has_fault is_stale result ≡ false) }
 {
-    let mut reader = LineReader::over(alloc, message.archive, message.offset, message.length);
-    'lines: loop {
-        if push_next(&mut reader, archives, sheet, out)? {
-            return Ok(());
-        }
+    let mut part = Part::of(message);
+    let mut ending = Ending::new();
+    'pieces: while !part.is_copied() {
+        ending = part.copy_piece(ending, archives, sheet, out)?;
     }
+    sheet.push(out, ending.feeds())
 }
 
-/// Adds the bytes of the message of this number to an answer, and what closes them.
+/// Adds the bytes of the message of this number to an answer, and what closes them. They go through one buffer, and out of it in
+/// pieces of at least as many bytes as a full sheet has.
 pub(crate) fn push_mbox<A: Archives, O: Out>(
-    alloc: Global,
     index: &IndexView<'_>,
     n: u32,
     archives: &mut A,
@@ -119,10 +137,10 @@ pub(crate) fn push_mbox<A: Archives, O: Out>(
     ensures held { A.held archives.new ≡ A.held archives.old }
     ensures number { A.number archives.new ≡ A.number archives.old }
     ensures writes { Writes (O.taken out.old) (O.taken out.new) sheet.old sheet.new (known_message Mbox index.now (A.held archives.old) n) result }
+    ensures kept { sheet.new.sent ≡ 0 → has_fault is_of_output result ≡ false → out.new ≡ out.old }
     ensures out_count { Counted (has_fault is_of_output result) (O.failures out.old) (O.failures out.new) }
     ensures archives_count { Counted (has_fault is_of_archives result) (A.failures archives.old) (A.failures archives.new) }
     ensures fresh { IfSome (A.held archives.old) (λ _. has_fault is_stale result ≡ false) }
 {
-    let message = index.message(n);
-    push_closed(alloc, message, archives, sheet, out)
+    push_closed(index.message(n), archives, sheet, out)
 }

@@ -8,7 +8,7 @@ use mbox_cutter::Out;
 use std::alloc::Global;
 
 /// So many bytes of an answer are gathered before they go out.
-const FULL: usize = 32_768;
+const FULL: usize = 65_536;
 
 /// Bytes of an answer that were gathered, and how many went out before them.
 #[derive(Drop)]
@@ -37,9 +37,22 @@ impl Sheet {
         requires { O.failures out.old < 2 ^ 64 - 1 }
         ensures writes { Writes (O.taken out.old) (O.taken out.new) self.old self.new (Some bytes.now) result }
         ensures count { Counted (has_fault is_of_output result) (O.failures out.old) (O.failures out.new) }
+        // Where no byte has gone out and none failed to, the output is as it was.
+        ensures kept { self.new.sent ≡ 0 → has_fault is_of_output result ≡ false → out.new ≡ out.old }
         ensures own { (has_fault is_of_archives result ≡ false) × (has_fault is_stale result ≡ false) }
     {
         self.text.extend_from_slice(bytes)?;
+        self.send_full(out)
+    }
+
+    /// Writes all that is gathered, where it is enough.
+    pub(crate) fn send_full<O: Out>(&mut self, out: &mut O) -> Result<(), AnswerFaultKind>
+        requires { O.failures out.old < 2 ^ 64 - 1 }
+        ensures writes { Writes (O.taken out.old) (O.taken out.new) self.old self.new (Some []) result }
+        ensures count { Counted (has_fault is_of_output result) (O.failures out.old) (O.failures out.new) }
+        ensures kept { self.new.sent ≡ 0 → has_fault is_of_output result ≡ false → out.new ≡ out.old }
+        ensures own { IfErr result (λ kind. kind ≡ AnswerFaultKind.OutFailed) }
+    {
         if self.text.len() < FULL {
             return Ok(());
         }
@@ -52,6 +65,7 @@ impl Sheet {
         ensures writes { Writes (O.taken out.old) (O.taken out.new) self.old self.new (Some []) result }
         ensures all { OnOk result (self.new.text.items ≡ []) }
         ensures count { Counted (has_fault is_of_output result) (O.failures out.old) (O.failures out.new) }
+        ensures kept { self.new.sent ≡ 0 → has_fault is_of_output result ≡ false → out.new ≡ out.old }
         ensures own { IfErr result (λ kind. kind ≡ AnswerFaultKind.OutFailed) }
     {
         let mut at = 0;

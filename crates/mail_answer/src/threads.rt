@@ -92,20 +92,8 @@ fn has_links(index: &IndexView<'_>) -> bool
     index.keys(Kind::LinkId).next().is_some()
 }
 
-/// The numbers of all messages in the threads of these ones, rising, each once.
-///
-/// Two messages are linked where they share a link id, also one that no message has as its own. The thread of a message is the
-/// message itself and all messages at the end of a path of links from it.
-///
-/// The table of the index keeps the rules of tables, as that of each index that `IndexView::open` gave does.
-///
-/// Without link ids, or without numbers, the answer is a copy of the numbers. Otherwise each link id is looked at once, with all its
-/// numbers; the memory is five bytes for each message of the index, and that of the answer.
-///
-/// # Errors
-///
-/// `AllocError` where that memory is refused.
-pub fn with_threads(
+/// The numbers of all messages in the threads of these ones, from an index whose table keeps its rules.
+fn thread_members(
     alloc: Global,
     index: &IndexView<'_>,
     numbers: &[u32],
@@ -121,4 +109,27 @@ pub fn with_threads(
     let roots = thread_roots(alloc, index)?;
     let marks = root_marks(alloc, numbers, roots.as_slice(), index.message_count())?;
     with_marked_root(alloc, roots.as_slice(), marks.as_slice())
+}
+
+/// The numbers of all messages in the threads of these ones, rising, each once.
+///
+/// Two messages are linked where they share a link id, also one that no message has as its own. The thread of a message is the
+/// message itself and all messages at the end of a path of links from it.
+///
+/// Without link ids, or without numbers, the answer is a copy of the numbers. Otherwise each link id is looked at once, with all its
+/// numbers; the memory is five bytes for each message of the index, and that of the answer.
+///
+/// # Errors
+///
+/// `AllocError` where that memory is refused.
+pub fn with_threads(
+    alloc: Global,
+    index: &IndexView<'_>,
+    numbers: &[u32],
+) -> Result<Vec<u32>, AllocError>
+    requires rises { RisesFrom 0 numbers.now }
+    requires within { AllByRecursion (λ n. n < length index.now.messages) numbers.now }
+    ensures { IfOk result (λ v. AreThreads index.now numbers.now v.items) }
+{
+    thread_members(alloc, &index.again(), numbers)
 }

@@ -30,7 +30,7 @@ mod KeyMapLemmas
 mod DraftLemmas
 mod SigningLemmas
 mod Sizes
-mod KeyPlaces
+pub mod KeyPlaces
 mod Placing
 mod PairLaw
 pub mod BuilderSteps

@@ -1,27 +1,64 @@
--- The paths of archives that are asked for are paths.
-use Rattle.std.proofs.Common.{◌≡◌, ℕ, List, All, Result, Ok, Err, refl, subst}
+-- The paths of archives that are asked for are paths, and as many as the rcfile has.
+use Rattle.std.proofs.Common.{◌≡◌, ◌++◌, ℕ, List, [], ◌∷◌, length, map, append-nil, All, IfOk, Result, Ok, Err, refl, sym, ap, subst}
+use Rattle.std.specs.List.{join_by, join_with_byte}
 use Rattle.contract_words.specs.Answers.{◌>>=◌, fault_as}
 use Rattle.mail_index.specs.Tables.{IsPath}
 use Rattle.mail_query.specs.Query.{Query}
-use Rattle.mail_query.specs.Mail.{mairix_query}
 use Rattle.mail_query.specs.declared.fault.QueryFault.{QueryFault}
+use Rattle.mairix_tool.specs.declared.fault.Fault.{Fault}
 use Rattle.mairix_tool.specs.declared.fault.Fault.TheVariants as of
+use Rattle.mairix_options.specs.declared.command_line.Plan.{Plan}
+use Rattle.mairix_options.specs.declared.command_line.UsageFault.{UsageFault}
 use Rattle.mairix_options.specs.declared.rcfile.Rc.{Rc}
 use Rattle.mairix_options.specs.declared.rcfile.RcFault.{RcFault}
-use Rattle.mairix_tool.specs.Asked.{Wanted, asked}
+use Rattle.mairix_tool.specs.Asked.{Wanted, asked, asked_rc, query_asked, wanted_by}
 use Rattle.mairix_options.specs.CommandLine.{plan}
 use Rattle.mairix_options.specs.Rcfile.{rc_of}
 use Rattle.mairix_options.proofs.RcPaths.{paths-are-paths}
 
-pub asked-paths : (words : List (List ℕ)) (rc : List ℕ) (now : ℕ) (w : Wanted) → asked words rc now ≡ Ok w → All IsPath w.paths
-asked-paths words rc now w h =
-    (elim (plan words) as (λ p. (fault_as of.Usage p >>= λ p. fault_as of.Rc (rc_of rc) >>= λ r. fault_as of.Query (mairix_query p.patterns now) >>= λ q. Ok (record { paths = r.paths; query = q })) ≡ Ok w → All IsPath w.paths) [
-      | Err f ↦ λ given. absurd cc
-      | Ok p ↦ λ given. of_rc (mairix_query p.patterns now) (rc_of rc) refl given
-    ]) h
+-- what is asked, step by step
+abbrev asked-by : Result Plan UsageFault → Result Rc RcFault → (Plan → Result Query QueryFault) → Result Wanted Fault
+asked-by planned read queried = fault_as of.Usage planned >>= λ p. fault_as of.Rc read >>= λ r. fault_as of.Query (queried p) >>= λ q. Ok (wanted_by p r q)
+
+paths-by : (planned : Result Plan UsageFault) (read : Result Rc RcFault) (queried : Plan → Result Query QueryFault) (w : Wanted) → asked-by planned read queried ≡ Ok w → (r : Rc) × (read ≡ Ok r) × (w.paths ≡ r.paths)
+paths-by (Err f) read queried w is = absurd cc
+paths-by (Ok p) (Err f) queried w is = absurd cc
+paths-by (Ok p) (Ok r) queried w is = (r, refl, go (queried p) is)
   where
-    of_rc : (queried : Result Query QueryFault) (r : Result Rc RcFault) → rc_of rc ≡ r
-        → (fault_as of.Rc r >>= λ r. fault_as of.Query queried >>= λ q. Ok (record { paths = r.paths; query = q })) ≡ Ok w → All IsPath w.paths
-    of_rc queried (Err f) is given = absurd cc
-    of_rc (Err f) (Ok r) is given = absurd cc
-    of_rc (Ok q) (Ok r) is given = let same : record { paths = r.paths; query = q } ≡ w = cc in subst (λ (v : Wanted). All IsPath v.paths) same (paths-are-paths rc r is)
+    go : (asks : Result Query QueryFault) → (fault_as of.Query asks >>= λ q. Ok (wanted_by p r q)) ≡ Ok w → w.paths ≡ r.paths
+    go (Err f) is = absurd cc
+    go (Ok q) is = let same : wanted_by p r q ≡ w = cc in sym (ap (λ (v : Wanted). v.paths) same)
+
+pub asked-paths : (words : List (List ℕ)) (rc : List ℕ) (now : ℕ) (w : Wanted) → asked words rc now ≡ Ok w → All IsPath w.paths
+asked-paths words rc now w is =
+    let found = paths-by (plan words) (rc_of rc) (λ p. query_asked p.boolean p.patterns now) w is in
+    subst (All IsPath) (sym found.2) (paths-are-paths rc found.0 found.1)
+
+-- where words, rcfile and query are accepted, the rcfile has so many paths
+many-by : (planned : Result Plan UsageFault) (read : Result Rc RcFault) (queried : Plan → Result Query QueryFault) (n : ℕ) (more : Rc → Type 0)
+    → IfOk (fault_as of.Usage planned >>= λ p. fault_as of.Rc read) (λ r. (length r.paths ≡ n) × more r) → IfOk (asked-by planned read queried) (λ w. length w.paths ≡ n)
+many-by (Err f) read queried n more given = tt
+many-by (Ok p) (Err f) queried n more given = tt
+many-by (Ok p) (Ok r) queried n more given = go (queried p)
+  where
+    go : (asks : Result Query QueryFault) → IfOk (fault_as of.Query asks >>= λ q. Ok (wanted_by p r q)) (λ w. length w.paths ≡ n)
+    go (Err f) = tt
+    go (Ok q) = given.0
+
+pub asked-many : (words : List (List ℕ)) (rc : List ℕ) (now n : ℕ) (more : Rc → Type 0) → IfOk (asked_rc words rc) (λ r. (length r.paths ≡ n) × more r) → IfOk (asked words rc now) (λ w. length w.paths ≡ n)
+asked-many words rc now n more given = many-by (plan words) (rc_of rc) (λ p. query_asked p.boolean p.patterns now) n more given
+
+pub rc-many : (read : Result Rc Fault) (n : ℕ) (more : Rc → Type 0) → IfOk read (λ r. (length r.paths ≡ n) × more r) → IfOk read (λ r. length r.paths ≡ n)
+rc-many (Ok r) n more given = given.0
+rc-many (Err f) n more given = tt
+
+-- what is asked for is as many as there are archives
+pub asked-as-many : (read : Result Wanted Fault) (w : Wanted) (n : ℕ) → read ≡ Ok w → IfOk read (λ v. length v.paths ≡ n) → length w.paths ≡ n
+asked-as-many read w n is given = subst (λ (o : Result Wanted Fault). IfOk o (λ v. length v.paths ≡ n)) is given
+
+-- ---- the text of a boolean query
+
+pub joined-by-spaces : {X : Type 0} (f : X → List ℕ) (xs : List X) → join_by f (32 ∷ []) xs ≡ join_with_byte 32 (map f xs)
+joined-by-spaces f [] = refl
+joined-by-spaces f (x ∷ []) = append-nil (f x)
+joined-by-spaces f (x ∷ y ∷ xs) = ap (λ (rest : List ℕ). f x ++ (32 ∷ rest)) (joined-by-spaces f (y ∷ xs))

@@ -48,7 +48,7 @@ with_terms-below m [] ks below = below
 with_terms-below m (t ∷ ts) ks below = with_terms-below m ts (with_pair t.0 t.1 m ks) (with_pair-below (suc m) m t.0 t.1 ks (omega arith) below)
 
 -- with the terms of messages behind those that the keys have: what these say, and what the keys said
-with_messages-says : (kind : Kind) (n : ℕ) (passes : List ℕ → Bool) (m : ℕ) (ms : List Message) (ks : List Key) → AllByRecursion (IsBelow m) ks
+pub with_messages-says : (kind : Kind) (n : ℕ) (passes : List ℕ → Bool) (m : ℕ) (ms : List Message) (ks : List Key) → AllByRecursion (IsBelow m) ks
     → list_any (says kind n passes) (with_messages m ms ks) ≡ (messages_say kind n passes m ms || list_any (says kind n passes) ks)
 with_messages-says kind n passes m [] ks below = refl
 with_messages-says kind n passes m (x ∷ xs) ks below =
@@ -66,7 +66,7 @@ and-none true = refl
 and-none false = refl
 
 -- the terms of another message say nothing of it
-other-says : (kind : Kind) (n : ℕ) (passes : List ℕ → Bool) (m : ℕ) → nat_eq n m ≡ false → (ts : List Term) → list_any (term_says_of kind n passes m) ts ≡ false
+pub other-says : (kind : Kind) (n : ℕ) (passes : List ℕ → Bool) (m : ℕ) → nat_eq n m ≡ false → (ts : List Term) → list_any (term_says_of kind n passes m) ts ≡ false
 other-says kind n passes m e [] = refl
 other-says kind n passes m e (t ∷ ts) =
     ap (λ (b : Bool). (nat_eq (kind_number t.0) (kind_number kind) && (b && passes t.1)) || list_any (term_says_of kind n passes m) ts) e

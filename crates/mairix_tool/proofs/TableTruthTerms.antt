@@ -126,7 +126,7 @@ texts-no-own passes (p ∷ ps) =
     ∙ ap (λ (b : Bool). b || list_any (term_says OwnId passes) (flat_map text_terms ps)) (words-no-own p.0 passes (words p.1)) ∙ texts-no-own passes ps
 
 -- no link is of a kind with another number
-links-say : (kind : Kind) (passes : List ℕ → Bool) → nat_eq (kind_number LinkId) (kind_number kind) ≡ false → (ids : List (List ℕ)) → list_any (term_says kind passes) (link_terms ids) ≡ false
+pub links-say : (kind : Kind) (passes : List ℕ → Bool) → nat_eq (kind_number LinkId) (kind_number kind) ≡ false → (ids : List (List ℕ)) → list_any (term_says kind passes) (link_terms ids) ≡ false
 links-say kind passes e [] = refl
 links-say kind passes e (id ∷ ids) =
     ap (λ (b : Bool). (b && passes id) || list_any (term_says kind passes) (link_terms ids)) e ∙ links-say kind passes e ids
@@ -144,7 +144,7 @@ own-says passes (Some id) = refl
 -- ---- all terms of a message
 
 -- some term passes: one of the texts, the own id, or a link
-parts-say : (kind : Kind) (passes : List ℕ → Bool) (texts : List Pair) (facts : Facts)
+pub parts-say : (kind : Kind) (passes : List ℕ → Bool) (texts : List Pair) (facts : Facts)
     → list_any (term_says kind passes) (flat_map text_terms texts ++ id_terms facts)
     ≡ (list_any (term_says kind passes) (flat_map text_terms texts) || (list_any (term_says kind passes) (own_id_terms facts.own_id) || list_any (term_says kind passes) (link_terms facts.ids)))
 parts-say kind passes texts facts =

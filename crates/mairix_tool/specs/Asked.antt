@@ -1,31 +1,54 @@
 -- What words and rcfile ask for, before any archive is looked at.
-use Rattle.std.specs.Prelude.{ℕ, List, Result, Ok}
+use Rattle.std.specs.Prelude.{ℕ, Bool, true, false, List, Result, Ok}
+use Rattle.std.specs.List.{join_with_byte}
 use Rattle.contract_words.specs.Answers.{◌>>=◌, fault_as}
+use Rattle.mail_answer.specs.Mail.{Search}
+use Rattle.mail_answer.specs.TableAnswers.{search_of}
+use Rattle.mail_answer.specs.declared.format.Format.{Format}
+use Rattle.mail_answer.specs.declared.format.Format.TheVariants as format
+use Rattle.mail_query.specs.declared.fault.QueryFault.{QueryFault}
+use Rattle.mail_query.specs.Mail.{mairix_query, boolean_query}
 use Rattle.mail_query.specs.Query.{Query}
-use Rattle.mail_query.specs.Meaning.{meaning}
-use Rattle.mail_query.specs.Mail.{mairix_query}
 use Rattle.mairix_tool.specs.declared.fault.Fault.{Fault}
 use Rattle.mairix_tool.specs.declared.fault.Fault.TheVariants as of
+use Rattle.mairix_options.specs.declared.command_line.Plan.{Plan}
+use Rattle.mairix_options.specs.declared.mail_format.MailFormat.{MailFormat}
+use Rattle.mairix_options.specs.declared.mail_format.MailFormat.TheVariants as mail
 use Rattle.mairix_options.specs.declared.rcfile.Rc.{Rc}
 use Rattle.mairix_tool.specs.declared.wanted.Wanted as code
+use Rattle.mairix_options.specs.AnswerFiles.{answer_format}
 use Rattle.mairix_options.specs.CommandLine.{plan}
 use Rattle.mairix_options.specs.Rcfile.{rc_of}
 
--- the archives' paths, and what a message has to satisfy
+-- the archives' paths, and what is asked of their messages
 pub record Wanted : Type 0 where
   pub paths : List (List ℕ)
-  pub query : Query
+  pub search : Search
 
 -- what a run was told to look for
 abbrev pub wanted : code.Wanted → Wanted
-wanted w = record { paths = w.paths; query = meaning w.query }
+wanted w = record { paths = w.paths; search = search_of w.query w.threads w.format }
 
 -- the rcfile, where words and rcfile are accepted; else the first refusal
 abbrev pub asked_rc : List (List ℕ) → List ℕ → Result Rc Fault
 asked_rc words rc = fault_as of.Usage (plan words) >>= λ p. fault_as of.Rc (rc_of rc)
 
+-- what patterns ask together: each is a mairix pattern; of a boolean query they are the text, joined by single spaces
+abbrev pub query_asked : Bool → List (List ℕ) → ℕ → Result Query QueryFault
+query_asked true patterns now = boolean_query (join_with_byte 32 patterns)
+query_asked false patterns now = mairix_query patterns now
+
+-- the form in which an answer is written
+abbrev pub format_of_mail : MailFormat → Format
+format_of_mail mail.Mbox = format.Mbox
+format_of_mail mail.Raw = format.Raw
+format_of_mail mail.Excerpt = format.Excerpt
+
+-- What an accepted command line, rcfile and query want: the words' format goes before the rcfile's.
+abbrev pub wanted_by : Plan → Rc → Query → Wanted
+wanted_by p r q = record { paths = r.paths; search = record { query = q; threads = p.threads; format = format_of_mail (answer_format p r) } }
+
 -- of which archives and for what: of words, then rcfile, then query the first refusal counts
 abbrev pub asked : List (List ℕ) → List ℕ → ℕ → Result Wanted Fault
 asked words rc now =
-    fault_as of.Usage (plan words) >>= λ p. fault_as of.Rc (rc_of rc) >>= λ r. fault_as of.Query (mairix_query p.patterns now) >>= λ q.
-    Ok (record { paths = r.paths; query = q })
+    fault_as of.Usage (plan words) >>= λ p. fault_as of.Rc (rc_of rc) >>= λ r. fault_as of.Query (query_asked p.boolean p.patterns now) >>= λ q. Ok (wanted_by p r q)

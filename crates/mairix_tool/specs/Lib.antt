@@ -1,9 +1,10 @@
 pub mod Faults
 pub mod FaultTexts
-pub mod RawAnswers
 pub mod ArchivesIndexed
 pub mod Chosen
+pub mod MailOfArchives
 pub mod Asked
 pub mod Replies
+pub mod Runs
 pub mod IndexRuns
 pub mod CutAgain

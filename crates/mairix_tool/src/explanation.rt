@@ -23,6 +23,13 @@ pub fn fault_text(alloc: Global, fault: &Fault) -> Result<String, AllocError>
             numbered(alloc, "archive", u128::from(number) + 1, cut_text(fault))
         }
         Fault::Index(fault) => String::from_str(alloc, index_text(fault)),
+        Fault::Stale(number) => numbered(
+            alloc,
+            "archive",
+            u128::from(number) + 1,
+            "changed since it was indexed",
+        ),
+        Fault::Device => String::from_str(alloc, "archive read failed"),
         Fault::Out => String::from_str(alloc, "output failed"),
         Fault::Memory => String::from_str(alloc, "out of memory"),
         Fault::TooMany => String::from_str(alloc, "too many messages or keys"),

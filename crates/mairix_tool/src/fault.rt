@@ -3,7 +3,7 @@
 use mail_index::IndexFault;
 use mail_query::{QueryFault, QueryFaultKind};
 use mairix_options::{RcFault, UsageFault};
-use mbox_cutter::{CutFault, DeviceFault};
+use mbox_cutter::CutFault;
 use std::alloc::{AllocError, AllocFailed};
 use thiserror::Error;
 
@@ -25,6 +25,12 @@ pub enum Fault {
     /// The index is refused.
     #[error("index: {0}")]
     Index(IndexFault),
+    /// The archive of this number, counted from 0, isn't the one that was indexed, or there are no more or fewer archives than this.
+    #[error("archive {0} has changed")]
+    Stale(u64),
+    /// An archive couldn't be read where the answer asked for it.
+    #[error("archive read failed")]
+    Device,
     /// The output failed.
     #[error("output failed")]
     Out,
@@ -45,6 +51,29 @@ pub struct Reply {
     pub messages: u64,
     /// Why the answer isn't whole.
     pub fault: Option<Fault>,
+}
+
+impl Reply {
+    ghost use Rattle.std.specs.Prelude.{◌≡◌};
+    ghost use Rattle.mairix_tool.specs.Runs.{reply_of};
+
+    /// So many messages, or a fault, with its status.
+    pub(crate) fn of(found: Result<u64, Fault>) -> Reply
+        ensures { result ≡ reply_of found }
+    {
+        match found {
+            Ok(messages) => Reply {
+                status: if messages == 0 { 1 } else { 0 },
+                messages,
+                fault: None,
+            },
+            Err(fault) => Reply {
+                status: fault.status(),
+                messages: 0,
+                fault: Some(fault),
+            },
+        }
+    }
 }
 
 impl Fault {
@@ -70,8 +99,8 @@ impl Fault {
                 fault: CutFault::ArchiveTooLong,
                 ..
             } => 5,
-            Fault::Archive { .. } | Fault::Out => 4,
-            Fault::Index(_) => 3,
+            Fault::Archive { .. } | Fault::Device | Fault::Out => 4,
+            Fault::Index(_) | Fault::Stale(_) => 3,
             Fault::Memory | Fault::TooMany => 5,
         }
     }
@@ -96,18 +125,6 @@ impl<T: Drop> From<AllocFailed<T>> for Fault {
 
     fn from(_: AllocFailed<T>) -> Self {
         Fault::Memory
-    }
-}
-
-/// Of the devices whose faults come by `?` only the output is left: an archive's carries its number.
-impl From<DeviceFault> for Fault {
-    ghost use Rattle.std.specs.Prelude.{◌≡◌};
-    ghost use Rattle.mairix_tool.specs.declared.fault.Fault.TheVariants.{Out};
-
-    ghost from_gives = { λ _ e. e ≡ Out };
-
-    fn from(_: DeviceFault) -> Self {
-        Fault::Out
     }
 }
 

@@ -9,7 +9,7 @@ ghost use Rattle.index_job.specs.ArchiveTables.{table};
 ghost use Rattle.index_job.specs.ArchiveRefusals.{AreSound};
 ghost use Rattle.mairix_tool.specs.ArchivesIndexed.{mboxes, fault_of_job, IsArchivesFault};
 ghost use Rattle.index_job.specs.IndexJobs.{IsIndexOf};
-ghost use Rattle.mairix_tool.specs.Faults.{fault_in, is_failed_source, is_failed_out, is_early};
+ghost use Rattle.mairix_tool.specs.Faults.{fault_in, is_failed_source, is_failed_out, is_early, IsOfIndexing};
 
 use crate::fault::Fault;
 use index_job::{IndexJob, JobFault};
@@ -50,6 +50,7 @@ pub(crate) fn index_archives<S: Source>(
         (slice_index (map S.failures sources.old) n) (slice_index (map S.failures sources.new) n) }
     ensures output { is_failed_out (fault_in result) ≡ false }
     ensures early { is_early (fault_in result) ≡ false }
+    ensures kinds { IfErr result IsOfIndexing }
 {
     let mut job = match IndexJob::new(alloc) {
         Ok(job) => job,
@@ -80,6 +81,7 @@ pub(crate) fn index_sources<S: Source>(
         (slice_index (map S.failures sources.old) n) (slice_index (map S.failures sources.new) n) }
     ensures output { is_failed_out (fault_in result) ≡ false }
     ensures early { is_early (fault_in result) ≡ false }
+    ensures kinds { IfErr result IsOfIndexing }
 {
     let job = match index_archives(alloc, paths, sources) {
         Ok(job) => job,

@@ -1,27 +1,29 @@
 //! Runs of mairix: what the words of a command line and an rcfile ask for.
 #![tactic(auto)]
 
-mod answer;
 mod explanation;
 mod fault;
-mod index_answer;
 mod index_in_memory;
 mod index_run;
 mod laws;
-mod place;
+mod once;
 mod program;
-mod run;
+mod stored;
+mod view_answer;
 mod wanted;
 
 pub use explanation::fault_text;
 pub use fault::{Fault, Reply};
 pub use index_job::{IndexJob, JobFault};
 pub use laws::{
-    an_answer_is_cut_into_its_messages, every_run_has_a_reply, the_table_tells_the_messages,
+    a_table_replies_as_its_archives, an_answer_is_cut_into_its_messages,
+    every_once_run_has_a_reply, the_table_chooses_as_the_messages, the_table_links_as_the_messages,
+    the_table_shows_the_messages,
 };
 pub use mairix_options::{
-    Name, Plan, Rc, RcFault, Text, Texts, UsageFault, plan_of, read_rc, usage_text,
+    MailFormat, Name, Plan, Rc, RcFault, Text, Texts, UsageFault, answer_file, answer_format,
+    plan_of, read_rc, usage_text,
 };
-pub use place::Place;
+pub use once::once_run;
 pub use program::run_program;
-pub use run::once_run;
+pub use stored::search_run;

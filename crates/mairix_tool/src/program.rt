@@ -5,9 +5,9 @@ ghost use Rattle.mairix_options.specs.Rcfile.{rc_of};
 use crate::explanation::fault_text;
 use crate::fault::Fault;
 use crate::index_run::{NoIndex, run_index};
-use crate::run::once_run;
+use crate::once::once_run;
 use mail_dates::Moment;
-use mairix_files::{read_whole, sources_of};
+use mairix_files::{FileArchives, read_whole, sources_of};
 use mairix_options::{Plan, Rc, UsageFault, plan_of, read_rc, usage_text};
 use mbox_cutter::ToWrite;
 use std::alloc::Global;
@@ -87,7 +87,7 @@ fn index_status<E: Write>(alloc: Global, indexed: Result<(), NoIndex>, err: &mut
 }
 
 /// Searches the archives themselves.
-fn run_archives<R: Files, W: Write, E: Write>(
+fn run_archives<R: Files<File = File>, W: Write, E: Write>(
     rt: &R,
     alloc: Global,
     words: &[String],
@@ -102,11 +102,15 @@ fn run_archives<R: Files, W: Write, E: Write>(
     let Ok(mut sources) = sources_of(rt, alloc, rc.paths.as_slice()) else {
         return tell_fault(alloc, Fault::Memory, err);
     };
+    let Some(mut archives) = FileArchives::new(rt, rc.paths.as_slice()) else {
+        return tell_fault(alloc, Fault::TooMany, err);
+    };
     let reply = once_run(
         alloc,
         words,
         bytes,
         &mut sources,
+        &mut archives,
         now,
         &mut ToWrite::new(&mut *out),
     );

@@ -2,12 +2,16 @@
 ghost use Rattle.std.specs.Prelude.{◌≡◌, map, IfErr};
 ghost use Rattle.std.specs.String.{string_bytes};
 ghost use Rattle.contract_words.specs.Answers.{Gives};
+ghost use Rattle.mail_query.specs.Meaning.{meaning};
+ghost use Rattle.mail_query.specs.Refusals.{query_refusal};
+ghost use Rattle.mairix_tool.specs.Asked.{query_asked, format_of_mail};
 ghost use Rattle.mairix_tool.specs.Faults.{refusal_of, IsEarly};
 
 use crate::fault::Fault;
+use mail_answer::Format;
 use mail_dates::Moment;
-use mail_query::{Query, read_mairix};
-use mairix_options::{Texts, plan_of, read_rc};
+use mail_query::{Query, QueryFault, read_boolean, read_mairix};
+use mairix_options::{MailFormat, Texts, answer_format, plan_of, read_rc};
 use std::alloc::Global;
 
 /// What words and rcfile ask for: of which archives, and what a message has to satisfy.
@@ -15,6 +19,8 @@ use std::alloc::Global;
 pub(crate) struct Wanted {
     pub(crate) paths: Texts,
     pub(crate) query: Query,
+    pub(crate) threads: bool,
+    pub(crate) format: Format,
 }
 
 impl Wanted {
@@ -33,10 +39,42 @@ impl Wanted {
     {
         let plan = plan_of(alloc, words)?;
         let rc = read_rc(alloc, rc)?;
-        let query = read_mairix(alloc, plan.patterns.as_slice(), now)?;
+        let query = read_query(alloc, plan.patterns.as_slice(), plan.boolean, now)?;
+        let format = format_of_mail(answer_format(&plan, &rc));
         Ok(Wanted {
             paths: rc.paths,
             query,
+            threads: plan.threads,
+            format,
         })
+    }
+}
+
+/// The query of these patterns: of mairix's own language, or of the boolean one, in which they are one text, joined by single
+/// spaces.
+fn read_query(
+    alloc: Global,
+    patterns: &[String],
+    boolean: bool,
+    now: Moment,
+) -> Result<Query, QueryFault>
+    ensures { Gives meaning query_refusal result (query_asked boolean (map string_bytes patterns.now) now) }
+{
+    if boolean {
+        let text = patterns.join(alloc, " ")?;
+        read_boolean(alloc, text.as_str(), now)
+    } else {
+        read_mairix(alloc, patterns, now)
+    }
+}
+
+/// The form in which an answer is written.
+fn format_of_mail(format: MailFormat) -> Format
+    ensures { result ≡ format_of_mail format }
+{
+    match format {
+        MailFormat::Mbox => Format::Mbox,
+        MailFormat::Raw => Format::Raw,
+        MailFormat::Excerpt => Format::Excerpt,
     }
 }

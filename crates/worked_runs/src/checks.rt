@@ -49,7 +49,7 @@ pub fn check_answer(
     for piece in [1usize, 7, 65_536] {
         let mut sources = sources(alloc, &archives, piece, None)?;
         let mut out = MemoryOut::new(alloc, None);
-        let reply = run(rt, alloc, &words, rc, &mut sources, &mut out);
+        let reply = run(rt, alloc, &words, rc, &archives, &mut sources, &mut out);
         assert_eq!(rt; reply, Some(found(messages as u64)), "{patterns:?}");
         assert_eq!(rt; out.bytes(), answer.as_bytes(), "{patterns:?}");
     }
@@ -70,7 +70,7 @@ pub fn check_pattern(
     for piece in [1usize, 7, 65_536] {
         let mut sources = sources(alloc, &archives, piece, None)?;
         let mut out = MemoryOut::new(alloc, None);
-        let reply = run(rt, alloc, &words, RC, &mut sources, &mut out);
+        let reply = run(rt, alloc, &words, RC, &archives, &mut sources, &mut out);
         assert_eq!(rt; reply, Some(found(messages)), "{pattern}");
         assert_eq!(rt; out.bytes(), answer.as_bytes(), "{pattern}");
     }
@@ -90,7 +90,7 @@ pub fn check_refusal(
     let mut sources = sources(alloc, &archives, 7, None)?;
     let mut out = MemoryOut::new(alloc, None);
     assert_eq!(rt;
-        run(rt, alloc, words, rc, &mut sources, &mut out),
+        run(rt, alloc, words, rc, &archives, &mut sources, &mut out),
         Some(reply)
     );
     assert_eq!(rt; out.bytes().len(), 0);

@@ -1,6 +1,7 @@
 //! What a test needs for a run in memory.
 ghost use Rattle.std.specs.Prelude.{◌≡◌, ◌<◌, ◌^◌, ◌-◌, length, All, IfOk, vec_len};
 
+use mail_answer::{Archives, MemoryArchives};
 use mail_dates::Moment;
 use mairix_tool::{RcFault, Reply, once_run, read_rc};
 use mbox_cutter::{MemoryOut, MemorySource};
@@ -64,23 +65,46 @@ pub fn sources(
     Ok(sources)
 }
 
-/// A run over these sources, of which there are as many as the rcfile has paths; None where memory is wanting before it begins.
+/// The most archives of a row.
+const MOST: u32 = 100;
+
+/// Archives of these bytes, which are asked for what is answered.
+pub fn memory_archives(
+    rt: &impl Abort,
+    alloc: Global,
+    archives: &[Vec<u8>],
+) -> Result<MemoryArchives, AllocError> {
+    let mut held = MemoryArchives::new(alloc);
+    for archive in archives {
+        assert!(rt; held.count() < MOST);
+        held.add(archive)?;
+    }
+    Ok(held)
+}
+
+/// A run over these archives and their sources, of which there are as many as the rcfile has paths; None where memory is wanting
+/// before it begins.
 pub fn run(
     rt: &impl Abort,
     alloc: Global,
     words: &[String],
     rc: &[u8],
+    archives: &[Vec<u8>],
     sources: &mut [MemorySource],
     out: &mut MemoryOut,
 ) -> Option<Reply>
     requires sources { All (λ s. s.failures ≡ 0) sources.old }
     requires out { out.old.failures ≡ 0 }
 {
+    let mut held = memory_archives(rt, alloc, archives).ok()?;
     match read_rc(alloc, rc) {
-        Ok(rc) => assert_eq!(rt; rc.paths.as_slice().len(), sources.len()),
+        Ok(rc) => {
+            assert_eq!(rt; rc.paths.as_slice().len(), sources.len());
+            assert_eq!(rt; held.count() as usize, sources.len());
+        }
         Err(RcFault::OutOfMemory) => return None,
         Err(_) => {}
     }
     let now = Moment::new(NOW)?;
-    Some(once_run(alloc, words, rc, sources, now, out))
+    Some(once_run(alloc, words, rc, sources, &mut held, now, out))
 }

@@ -212,7 +212,7 @@ fn a_failed_read_is_answered(rt: HostRuntime) -> Result<(), Fail> {
         archives.push(archive(alloc, "^Subject: Hello||hi||")?)?;
         let mut sources = sources(alloc, &archives, 1, Some(fail_at))?;
         let mut out = MemoryOut::new(alloc, None);
-        let reply = run(&rt, alloc, &words, RC, &mut sources, &mut out);
+        let reply = run(&rt, alloc, &words, RC, &archives, &mut sources, &mut out);
         // 58 bytes come in as many reads, and the next one tells the end.
         if fail_at <= 59 {
             let fault = Fault::Archive {
@@ -238,7 +238,7 @@ fn a_failed_write_leaves_a_front(rt: HostRuntime) -> Result<(), Fail> {
         archives.push(archive(alloc, TWO_MESSAGES)?)?;
         let mut sources = sources(alloc, &archives, 7, None)?;
         let mut out = MemoryOut::new(alloc, Some(room as u64));
-        let reply = run(&rt, alloc, &words, RC, &mut sources, &mut out);
+        let reply = run(&rt, alloc, &words, RC, &archives, &mut sources, &mut out);
         if room < answer.len() {
             assert_eq!(rt; reply, Some(refused(4, Fault::Out)));
             assert_eq!(rt; out.bytes(), &answer[..room]);

@@ -78,7 +78,7 @@ fn check_reply(
     let archives = archives(alloc, texts)?;
     let mut sources = sources(alloc, &archives, 7, fail_at)?;
     let mut out = MemoryOut::new(alloc, None);
-    let got = run(rt, alloc, &words, RC, &mut sources, &mut out);
+    let got = run(rt, alloc, &words, RC, &archives, &mut sources, &mut out);
     assert_eq!(rt; got, Some(reply));
     assert_eq!(rt; out.bytes(), answer.as_bytes());
     Ok(())

@@ -48,7 +48,7 @@ fn sweep_run(
     archives.push(archive(alloc, text).ok()?).ok()?;
     let mut sources = sources(alloc, &archives, 7, None).ok()?;
     let mut out = MemoryOut::new(alloc, None);
-    let reply = run(rt, alloc, &words, RC, &mut sources, &mut out)?;
+    let reply = run(rt, alloc, &words, RC, &archives, &mut sources, &mut out)?;
     check_swept(rt, reply, out.bytes(), 1, answer);
     Some(())
 }
@@ -85,7 +85,7 @@ fn sweep_run_of_two(rt: &impl Abort, alloc: Global) -> Option<()> {
     let mut sources = sources(alloc, &archives, 7, None).ok()?;
     let mut out = MemoryOut::new(alloc, None);
     let rc = b"mbox=a.mbox:b.mbox\ndatabase=m.idx\nmfolder=hits\n";
-    let reply = run(rt, alloc, &words, rc, &mut sources, &mut out)?;
+    let reply = run(rt, alloc, &words, rc, &archives, &mut sources, &mut out)?;
     check_swept(rt, reply, out.bytes(), 2, "0 94 a.mbox\n0 94 b.mbox\n");
     Some(())
 }

@@ -18,34 +18,34 @@ use std::alloc::{AllocError, Global};
 #[cycle(begin)]
 pub(crate) fn walk_of<'a>(
     alloc: Global,
-    index: &'a IndexView<'a>,
+    index: &IndexView<'a>,
     node: &Node,
     steps: &mut Steps,
 ) -> Result<Walk<'a>, AllocError>
     requires { IsWellFormed index.now }
-    ensures truths { IfOk result (λ w. Tells index.entry.now (query_of node.now) w.truths) }
-    ensures left { IfOk result (λ w. w.left ≤ most_left index.entry.now (query_of node.now)) }
-    ensures steps { LooksUp (length index.entry.now.keys) (look_ups (query_of node.now)) steps.old steps.new }
+    ensures truths { IfOk result (λ w. Tells index.now (query_of node.now) w.truths) }
+    ensures left { IfOk result (λ w. w.left ≤ most_left index.now (query_of node.now)) }
+    ensures steps { LooksUp (length index.now.keys) (look_ups (query_of node.now)) steps.old steps.new }
 {
     match node {
-        Node::Any => Ok(Walk::scanned(Scanned::new(index, Asked::Any))),
+        Node::Any => Walk::scanned(alloc, Scanned::new(index.again(), Asked::Any)),
         Node::Word { kinds, text } => with_text(alloc, index, *kinds, Fit::Whole, text, steps),
         Node::Part { kinds, text } => with_text(alloc, index, *kinds, Fit::Within, text, steps),
         Node::Prefix { kinds, text } => with_text(alloc, index, *kinds, Fit::Front, text, steps),
-        Node::Date(range) => Ok(Walk::scanned(Scanned::new(index, Asked::Date(*range)))),
+        Node::Date(range) => Walk::scanned(alloc, Scanned::new(index.again(), Asked::Date(*range))),
         Node::Size { low, high } => {
             let asked = Asked::Size {
                 low: *low,
                 high: *high,
             };
-            Ok(Walk::scanned(Scanned::new(index, asked)))
+            Walk::scanned(alloc, Scanned::new(index.again(), asked))
         }
         Node::Flag { flag, wanted } => {
             let asked = Asked::Flag {
                 flag: *flag,
                 wanted: *wanted,
             };
-            Ok(Walk::scanned(Scanned::new(index, asked)))
+            Walk::scanned(alloc, Scanned::new(index.again(), asked))
         }
         Node::Not(inner) => {
             let inner = walk_of(alloc, index, inner, steps)?;
@@ -61,7 +61,7 @@ pub(crate) fn walk_of<'a>(
         }
         Node::Either(members) => {
             let walks = walks_of(alloc, index, members, steps)?;
-            Ok(Walk::united(walks))
+            Walk::united_in_groups(alloc, walks)
         }
     }
 }
@@ -70,14 +70,14 @@ pub(crate) fn walk_of<'a>(
 #[cycle(begin)]
 fn walks_of<'a>(
     alloc: Global,
-    index: &'a IndexView<'a>,
+    index: &IndexView<'a>,
     nodes: &[Node],
     steps: &mut Steps,
 ) -> Result<Vec<Walk<'a>>, AllocError>
     requires { IsWellFormed index.now }
-    ensures truths { IfOk result (λ v. TellAll index.entry.now (queries_of nodes.now) v.items) }
-    ensures left { IfOk result (λ v. left_in v.items ≤ most_left_of_all index.entry.now (members_of (queries_of nodes.now))) }
-    ensures steps { LooksUp (length index.entry.now.keys) (look_ups_of_all (members_of (queries_of nodes.now))) steps.old steps.new }
+    ensures truths { IfOk result (λ v. TellAll index.now (queries_of nodes.now) v.items) }
+    ensures left { IfOk result (λ v. left_in v.items ≤ most_left_of_all index.now (members_of (queries_of nodes.now))) }
+    ensures steps { LooksUp (length index.now.keys) (look_ups_of_all (members_of (queries_of nodes.now))) steps.old steps.new }
 {
     let mut walks = Vec::new(alloc);
     for node in nodes {

@@ -79,7 +79,7 @@ fn cut(
 /// The messages still to come of those whose records are as asked: the first of them may have been found already.
 #[derive(Debug, Drop)]
 pub(crate) struct Scanned<'a> {
-    index: &'a IndexView<'a>,
+    index: IndexView<'a>,
     asked: Asked,
     next: u32,
     first: Option<u32>,
@@ -92,18 +92,18 @@ impl<'a> Model for Scanned<'a> {
 
     ghost Value = { Ahead };
 
-    ghost view = { λ s. record { truths = truths_scanned (length s.index.now.messages) (satisfies s.index.now s.asked) s.next s.first; left = length s.index.now.messages - s.next; below = 0 } };
+    ghost view = { λ s. record { truths = truths_scanned (length s.index.messages) (satisfies s.index s.asked) s.next s.first; left = length s.index.messages - s.next; below = 0 } };
 
-    ghost invariant = { λ s. IsFound (length s.index.now.messages) s.next s.first };
+    ghost invariant = { λ s. IsFound (length s.index.messages) s.next s.first };
 }
 
 impl<'a> Scanned<'a> {
     ghost use Rattle.mail_answer.specs.TableFacts.{truths};
 
     /// All messages whose records are as asked.
-    pub(crate) fn new(index: &'a IndexView<'a>, asked: Asked) -> Self
-        ensures truths { result.truths ≡ truths index.entry.now (asked_query asked) }
-        ensures left { result.left ≡ length index.entry.now.messages }
+    pub(crate) fn new(index: IndexView<'a>, asked: Asked) -> Self
+        ensures truths { result.truths ≡ truths index.entry (asked_query asked) }
+        ensures left { result.left ≡ length index.entry.messages }
     {
         Scanned {
             index,
@@ -121,7 +121,7 @@ impl<'a> Scanned<'a> {
         ensures below { self.new.below ≡ self.old.below }
     {
         cut(
-            self.index,
+            &self.index,
             self.asked,
             &mut self.next,
             &mut self.first,

@@ -30,8 +30,8 @@ pub(crate) struct Walk<'a> {
 enum Node<'a> {
     /// A posting list.
     Listed(Listed<'a>),
-    /// The records that are as asked.
-    Scanned(Scanned<'a>),
+    /// The records that are as asked. It is boxed, since it is large and most walks are lists.
+    Scanned(Box<Scanned<'a>>),
     /// All messages that don't come in a walk.
     Others(Others<'a>),
     /// The messages that come in each of some walks.
@@ -82,14 +82,15 @@ impl<'a> Walk<'a> {
     }
 
     /// The walk along the records.
-    pub(crate) fn scanned(scan: Scanned<'a>) -> Self
-        ensures truths { result.truths ≡ scan.entry.truths }
-        ensures left { result.left ≡ scan.entry.left }
+    pub(crate) fn scanned(alloc: Global, scan: Scanned<'a>) -> Result<Self, AllocError>
+        ensures truths { IfOk result (λ w. w.truths ≡ scan.entry.truths) }
+        ensures left { IfOk result (λ w. w.left ≡ scan.entry.left) }
     {
-        Walk {
+        let scan = Box::new(alloc, scan)?;
+        Ok(Walk {
             node: Node::Scanned(scan),
             head: Head::Unasked,
-        }
+        })
     }
 
     /// The walk through those of so many messages that don't come in another walk.

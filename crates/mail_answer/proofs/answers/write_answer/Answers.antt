@@ -1,7 +1,14 @@
-use Rattle.mail_answer.specs.Shapes.{known_answer}
-use Rattle.mail_answer.proofs.SentLemmas.{nothing_sent}
+use Rattle.mail_answer.specs.TableAnswers.{search_of}
+use Rattle.mail_answer.proofs.SentLemmas.{nothing_sent, answered_sent}
 use Rattle.mail_answer.proofs.answers.write_answer.Goals as goal
 
-pub returns-in-Err-clause-text : goal.returns-in-Err-clause-text
-returns-in-Err-clause-text g c =
-    nothing_sent (g.O.Out.taken c.args.out.now) (known_answer c.args.format c.args.index.now (g.A.Archives.held c.args.archives.now) c.args.numbers.now)
+pub returns-in-Err-clause-answered : goal.returns-in-Err-clause-answered
+returns-in-Err-clause-answered g c = λ a is. nothing_sent (g.O.Out.taken c.args.out.now) a.text
+
+pub returns-in-Ok-clause-answered : goal.returns-in-Ok-clause-answered
+returns-in-Ok-clause-answered g c =
+    answered_sent c.args.index.now (search_of c.args.query.now c.args.threads c.args.format) (g.A.Archives.held c.args.archives.now) (g.O.Out.taken c.args.out.now) (g.O.Out.taken c.write_checked.new.out) c.write_checked.result c.in-Ok.numbers
+    c.in-Ok.ensures.chosen (rw c.check_archives.ensures.held at c.write_checked.ensures.text)
+
+pub returns-in-Err-chosen-clause-answered : goal.returns-in-Err-chosen-clause-answered
+returns-in-Err-chosen-clause-answered g c = λ a is. nothing_sent (g.O.Out.taken c.args.out.now) a.text

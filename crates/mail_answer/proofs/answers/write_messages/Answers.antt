@@ -1,68 +1,103 @@
-use Rattle.std.proofs.Common.{◌≡◌, ℕ, ◌+◌, List, [], ◌++◌, Option, Some, drop, get_or, refl, ap, sym, ◌∙◌, append-nil, arith}
+use Rattle.std.proofs.Common.{◌≡◌, ◌≤◌, ℕ, ◌+◌, List, [], ◌∷◌, ◌++◌, length, Option, Some, Result, Ok, refl, ap, subst, sym, ◌∙◌, append-nil, arith}
+use Rattle.mail_answer.specs.CursorLists.{AreNumbers}
 use Rattle.mail_answer.specs.Shapes.{known_answer, known_message}
-use Rattle.mail_answer.specs.Sheets.{joined}
-use Rattle.mail_answer.proofs.KnownAnswers.{known_next, known_end}
-use Rattle.mail_answer.proofs.SheetLemmas.{joins_gathered, writes_next, writes_stop, writes_less, tells-joined, joins_more}
+use Rattle.mail_answer.specs.Sheets.{joined, Tells}
+use Rattle.mail_answer.proofs.NumberLists.{numbers_next, few_numbers, known_first, known_none}
+use Rattle.mail_answer.proofs.SheetLemmas.{joins_gathered, writes_next, writes_stop, writes_less, writes_err, tells-joined, joins_more, unsent_before}
 use Rattle.mail_answer.proofs.SpanLemmas.{joined-nothing, joined-assoc}
 use Rattle.mail_answer.proofs.answers.write_messages.Goals as goal
 
 pub loop-n-init : goal.loop-n-init
 loop-n-init g c = record {
+  same = refl;
   held = refl;
   number = refl;
+  numbers = c.requires.numbers;
+  counted = omega arith;
   joins = (
     Some [],
     [],
-    joined-nothing (known_answer c.args.format c.args.index.now (g.A.Archives.held c.args.archives.now) c.args.numbers.now),
+    joined-nothing (known_answer c.args.format c.args.places.now.table (g.A.Archives.held c.args.archives.now) c.args.numbers.now),
     refl,
     joins_gathered (g.O.Out.taken c.args.out.now) c.args.sheet.now c.args.sheet.now [] (sym (append-nil c.args.sheet.now.text.items)) refl,
   );
+  kept = λ unsent. refl;
   out_count = refl;
   archives_count = refl;
 }
 
 pub returns-in_err-push_message-clause-writes : goal.returns-in_err-push_message-clause-writes
 returns-in_err-push_message-clause-writes g c =
-    let t = c.args.index.now in
+    let t = c.args.places.now.table in
     let i = c.loop-n.invariant in
     let j = i.joins in
     let held : Option (List (List ℕ)) = g.A.Archives.held c.args.archives.now in
-    let next : Option (List ℕ) = known_message c.args.format t held (get_or c.args.numbers.now c.loop-n.n-index 0) in
-    let rest : Option (List ℕ) = known_answer c.args.format t held (drop (c.loop-n.n-index + 1) c.args.numbers.now) in
-    rw (j.2, known_next c.args.format t held c.args.numbers.now c.loop-n.n-index (omega arith))
+    let next : Option (List ℕ) = known_message c.args.format t held c.in-Some.n in
+    let rest : Option (List ℕ) = known_answer c.args.format t held c.next.new.self in
+    let took : c.loop-n.numbers ≡ c.in-Some.n ∷ c.next.new.self = c.in-Some.ensures in
+    rw (j.2, ap (known_answer c.args.format t held) took ∙ known_first c.args.format t held c.in-Some.n c.next.new.self)
     (writes_next (g.O.Out.taken c.args.out.now) (g.O.Out.taken c.loop-n.out) (g.O.Out.taken c.push_message.new.out) c.args.sheet.now c.loop-n.sheet c.push_message.new.sheet j.0 (joined next rest) c.from_residual.result (j.1, j.3, j.4)
-    (writes_stop (g.O.Out.taken c.loop-n.out) (g.O.Out.taken c.push_message.new.out) c.loop-n.sheet c.push_message.new.sheet next rest c.from_residual.result c.from_residual.ensures.0 (rw i.held at c.in_err-push_message.ensures.writes)))
+    (writes_stop (g.O.Out.taken c.loop-n.out) (g.O.Out.taken c.push_message.new.out) c.loop-n.sheet c.push_message.new.sheet next rest c.from_residual.result c.from_residual.ensures.0 (rw (i.held, i.same) at c.in_err-push_message.ensures.writes)))
+
+pub overflow_add-count : goal.overflow_add-count
+overflow_add-count g c =
+    let took : c.loop-n.numbers ≡ c.in-Some.n ∷ c.next.new.self = c.in-Some.ensures in
+    let few : 0 + length c.args.numbers.now ≤ length c.args.places.now.table.messages = few_numbers 0 (length c.args.places.now.table.messages) c.args.numbers.now (omega arith) c.requires.numbers.rises c.requires.numbers.below in
+    let count : c.loop-n.count + length c.loop-n.numbers ≡ length c.args.numbers.now = c.loop-n.invariant.counted in
+    omega (arith, few, count, ap length took, c.requires.table.message_count)
 
 pub loop-n-preserved : goal.loop-n-preserved
 loop-n-preserved g c =
-    let t = c.args.index.now in
+    let t = c.args.places.now.table in
     let i = c.loop-n.invariant in
     let j = i.joins in
     let held : Option (List (List ℕ)) = g.A.Archives.held c.args.archives.now in
-    let next : Option (List ℕ) = known_message c.args.format t held (get_or c.args.numbers.now c.loop-n.n-index 0) in
-    let rest : Option (List ℕ) = known_answer c.args.format t held (drop (c.loop-n.n-index + 1) c.args.numbers.now) in
-    let w = rw i.held at c.in_ok-push_message.ensures.writes in
+    let next : Option (List ℕ) = known_message c.args.format t held c.in-Some.n in
+    let rest : Option (List ℕ) = known_answer c.args.format t held c.next.new.self in
+    let took : c.loop-n.numbers ≡ c.in-Some.n ∷ c.next.new.self = c.in-Some.ensures in
+    let w = rw (i.held, i.same) at c.in_ok-push_message.ensures.writes in
     record {
+      same = c.in_ok-push_message.ensures.same ∙ i.same;
       held = c.in_ok-push_message.ensures.held ∙ i.held;
       number = c.in_ok-push_message.ensures.number ∙ i.number;
+      numbers = numbers_next (length t.messages) c.in-Some.n c.next.new.self (subst (AreNumbers (length t.messages)) took i.numbers);
+      counted = omega (arith, i.counted, ap length took);
       joins = (
         joined j.0 next,
         j.1 ++ w.0,
-        j.2 ∙ ap (λ (k : Option (List ℕ)). joined j.0 k) (known_next c.args.format t held c.args.numbers.now c.loop-n.n-index (omega arith)) ∙ joined-assoc j.0 next rest,
+        j.2 ∙ ap (λ (k : Option (List ℕ)). joined j.0 k) (ap (known_answer c.args.format t held) took ∙ known_first c.args.format t held c.in-Some.n c.next.new.self) ∙ joined-assoc j.0 next rest,
         tells-joined j.0 next j.1 w.0 j.3 w.1,
         joins_more j.4 w.2,
       );
+      kept = λ unsent. c.in_ok-push_message.ensures.kept unsent refl ∙ i.kept (unsent_before w.2 unsent);
       out_count = c.in_ok-push_message.ensures.out_count ∙ i.out_count;
       archives_count = c.in_ok-push_message.ensures.archives_count ∙ i.archives_count;
     }
 
-pub returns-clause-writes : goal.returns-clause-writes
-returns-clause-writes g c =
-    let t = c.args.index.now in
+pub returns-in_err-send-clause-writes : goal.returns-in_err-send-clause-writes
+returns-in_err-send-clause-writes g c =
+    let t = c.args.places.now.table in
     let i = c.loop-n.invariant in
     let j = i.joins in
     let held : Option (List (List ℕ)) = g.A.Archives.held c.args.archives.now in
-    let rest : Option (List ℕ) = known_answer c.args.format t held (drop c.loop-n.n-index c.args.numbers.now) in
+    let rest : Option (List ℕ) = known_answer c.args.format t held c.loop-n.numbers in
+    let ended : c.loop-n.numbers ≡ [] = c.in_default.ensures.0 in
+    let nothing : Tells rest [] = rw ended (known_none c.args.format t held) in
     rw j.2
-    (writes_next (g.O.Out.taken c.args.out.now) (g.O.Out.taken c.loop-n.out) (g.O.Out.taken c.send.new.out) c.args.sheet.now c.loop-n.sheet c.send.new.self j.0 rest c.send.result (j.1, j.3, j.4)
-    (writes_less (g.O.Out.taken c.loop-n.out) (g.O.Out.taken c.send.new.out) c.loop-n.sheet c.send.new.self rest [] c.send.result (known_end c.args.format t held c.args.numbers.now c.loop-n.n-index (omega arith)) c.send.ensures.writes))
+    (writes_next (g.O.Out.taken c.args.out.now) (g.O.Out.taken c.loop-n.out) (g.O.Out.taken c.send.new.out) c.args.sheet.now c.loop-n.sheet c.send.new.self j.0 rest c.from_residual-in_err-send.result (j.1, j.3, j.4)
+    (writes_less (g.O.Out.taken c.loop-n.out) (g.O.Out.taken c.send.new.out) c.loop-n.sheet c.send.new.self rest [] c.from_residual-in_err-send.result nothing
+    (writes_err (g.O.Out.taken c.loop-n.out) (g.O.Out.taken c.send.new.out) c.loop-n.sheet c.send.new.self (Some []) c.from_residual-in_err-send.result c.from_residual-in_err-send.ensures.0 c.in_err-send.ensures.writes)))
+
+pub returns-clause-writes : goal.returns-clause-writes
+returns-clause-writes g c =
+    let t = c.args.places.now.table in
+    let i = c.loop-n.invariant in
+    let j = i.joins in
+    let held : Option (List (List ℕ)) = g.A.Archives.held c.args.archives.now in
+    let rest : Option (List ℕ) = known_answer c.args.format t held c.loop-n.numbers in
+    let ended : c.loop-n.numbers ≡ [] = c.in_default.ensures.0 in
+    let nothing : Tells rest [] = rw ended (known_none c.args.format t held) in
+    let done : Result ℕ ℕ = Ok 0 in
+    rw j.2
+    (writes_next (g.O.Out.taken c.args.out.now) (g.O.Out.taken c.loop-n.out) (g.O.Out.taken c.send.new.out) c.args.sheet.now c.loop-n.sheet c.send.new.self j.0 rest done (j.1, j.3, j.4)
+    (writes_less (g.O.Out.taken c.loop-n.out) (g.O.Out.taken c.send.new.out) c.loop-n.sheet c.send.new.self rest [] done nothing c.in_ok-send.ensures.writes))

@@ -1,16 +1,24 @@
-use Rattle.std.proofs.Common.{◌≡◌, ℕ, List, Option, drop}
+use Rattle.std.proofs.Common.{◌≡◌, ◌+◌, ℕ, List, length, Option}
+use Rattle.mail_answer.specs.CursorLists.{AreNumbers}
 use Rattle.mail_answer.specs.Shapes.{known_answer}
 use Rattle.mail_answer.specs.Sheets.{joined, Tells, Joins}
 use Rattle.mail_answer.proofs.answers.write_messages.Given as goal
 
--- the messages so far joined the answer
+-- the messages so far joined the answer, and were counted
 abbrev pub invariant-loop-n : goal.invariant-loop-n
 invariant-loop-n g l = record {
+  same : l.places.table ≡ l.fn.places.table;
   held : g.A.Archives.held l.archives ≡ g.A.Archives.held l.fn.archives;
   number : g.A.Archives.number l.archives ≡ g.A.Archives.number l.fn.archives;
+  numbers : AreNumbers (length l.fn.places.table.messages) l.numbers;
+  counted : l.count + length l.numbers ≡ length l.fn.numbers;
   joins : (known : Option (List ℕ)) × (text : List ℕ)
-      × (known_answer l.format l.index (g.A.Archives.held l.fn.archives) l.numbers ≡ joined known (known_answer l.format l.index (g.A.Archives.held l.fn.archives) (drop l.n-index l.numbers)))
+      × (known_answer l.format l.fn.places.table (g.A.Archives.held l.fn.archives) l.fn.numbers ≡ joined known (known_answer l.format l.fn.places.table (g.A.Archives.held l.fn.archives) l.numbers))
       × Tells known text × Joins (g.O.Out.taken l.fn.out) (g.O.Out.taken l.out) l.fn.sheet l.sheet text;
+  kept : l.sheet.sent ≡ 0 → l.out ≡ l.fn.out;
   out_count : g.O.Out.failures l.out ≡ g.O.Out.failures l.fn.out;
   archives_count : g.A.Archives.failures l.archives ≡ g.A.Archives.failures l.fn.archives;
 }
+
+abbrev pub decreases-loop-n : goal.decreases-loop-n
+decreases-loop-n g l = length l.numbers

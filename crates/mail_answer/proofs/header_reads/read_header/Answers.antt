@@ -1,4 +1,4 @@
-use Rattle.std.proofs.Common.{◌≡◌, ℕ, List, Option, IfSome, drop, refl, subst}
+use Rattle.std.proofs.Common.{ℕ, List, Option, IfSome, drop, subst}
 use Rattle.mbox_cutter.specs.Lines.{lines}
 use Rattle.header_text.specs.Headers.{fields_of}
 use Rattle.mail_answer.specs.HeaderReads.{WillHaveFields}

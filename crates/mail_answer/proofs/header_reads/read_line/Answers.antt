@@ -1,4 +1,4 @@
-use Rattle.std.proofs.Common.{◌≡◌, ◌<◌, ℕ, arith}
+use Rattle.std.proofs.Common.{◌<◌, arith}
 use Rattle.mail_answer.proofs.HeaderReading.{none_comes, line_given}
 use Rattle.mail_answer.proofs.header_reads.read_line.Goals as goal
 

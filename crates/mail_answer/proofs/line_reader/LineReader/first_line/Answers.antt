@@ -1,7 +1,7 @@
 use Rattle.std.proofs.Common.{◌≡◌, ◌<◌, arith, ap, ◌∙◌, sym}
 use Rattle.mail_answer.specs.Readings.{Reading}
 use Rattle.mbox_cutter.specs.Lines.{line_end_of}
-use Rattle.mbox_cutter.proofs.FirstLines.{line_end-within, line_end-positive, line_end-open}
+use Rattle.mbox_cutter.proofs.FirstLines.{line_end-within, line_end-positive}
 use Rattle.mail_answer.proofs.ReadingLemmas.{line_found, line_left}
 use Rattle.mail_answer.proofs.line_reader.LineReader.first_line.Goals as goal
 
@@ -19,6 +19,3 @@ pub returns-in-None-clause-line : goal.returns-in-None-clause-line
 returns-in-None-clause-line g c =
     let left : c.more.self.left ≡ 0 = sym (ap (λ (r : Reading). r.left) c.self.view_is) ∙ c.if-self-eq0.true in
     rw (← c.more.invariant.coming, c.unread-rest.ensures) (line_left (g.A.Archives.held c.args.archives.now) c.more.self (c.in-None.ensures ∙ ap line_end_of c.unread-rest.ensures) left)
-
-pub fill-requires-clause-room : goal.fill-requires-clause-room
-fill-requires-clause-room g c = line_end-open c.more.self.unread (c.in-None.ensures ∙ ap line_end_of c.unread-rest.ensures)

@@ -8,6 +8,7 @@ loop-at-init g c = record {
   same = refl;
   appends = appends-start (g.O.Out.taken c.args.out.now) c.args.self.now.text.items;
   sent = counted-start c.args.self.now.sent c.args.self.now.text.items c.args.self.now.within;
+  kept = λ unsent. refl;
   count = refl;
 }
 
@@ -22,6 +23,7 @@ loop-at-preserved g c =
       same = i.same;
       appends = appends_step (g.O.Out.taken c.args.out.now) (g.O.Out.taken c.loop-at.out) (g.O.Out.taken c.put.new.self) items c.loop-at.at c.in-Ok.n bound i.appends (rw now at c.in-Ok.ensures.bytes);
       sent = counted_step c.args.self.now.sent items c.loop-at.self.sent c.loop-at.at c.in-Ok.n _ bound i.sent c.saturating_add-self.ensures;
+      kept = λ unsent. absurd (omega (arith, unsent, c.saturating_add-self.ensures, c.in-Ok.ensures.bound));
       count = c.in-Ok.ensures.count ∙ i.count;
     }
 
@@ -34,3 +36,6 @@ pub returns-clause-writes : goal.returns-clause-writes
 returns-clause-writes g c =
     let i = c.loop-at.invariant in
     ([], refl, all_went (g.O.Out.taken c.args.out.now) (g.O.Out.taken c.loop-at.out) c.args.self.now _ c.loop-at.at (omega (arith, ap length i.same)) i.appends i.sent c.clear.ensures.items)
+
+pub returns-clause-kept : goal.returns-clause-kept
+returns-clause-kept g c = λ unsent own. c.loop-at.invariant.kept unsent

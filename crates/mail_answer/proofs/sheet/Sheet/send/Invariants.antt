@@ -10,6 +10,7 @@ invariant-loop-at g l = record {
   same : l.self.text.items ≡ l.fn.self.text.items;
   appends : Appends (g.O.Out.taken l.fn.out) (g.O.Out.taken l.out) (take l.at l.fn.self.text.items);
   sent : l.self.sent ≡ counted l.fn.self.sent (take l.at l.fn.self.text.items);
+  kept : l.self.sent ≡ 0 → l.out ≡ l.fn.out;
   count : g.O.Out.failures l.out ≡ g.O.Out.failures l.fn.out;
 }
 

@@ -1,0 +1,5 @@
+use Rattle.mail_answer.proofs.EveryAnswer.{some-answer}
+use Rattle.mail_answer.proofs.laws.every_table_answers.Goals as goal
+
+pub returns : goal.returns
+returns c = some-answer

@@ -1,0 +1,44 @@
+use Rattle.std.proofs.Common.{◌≡◌, ◌∙◌, ◌<◌, ◌⊎◌, ℕ, nat_eq, List, [], length, get_or, inl, inr, sym, ap, subst, arith}
+use Rattle.std.specs.List.{list_any}
+use Rattle.std.proofs.lemmas.Bool.{eqb-true}
+use Rattle.std.proofs.lemmas.List.Elements.{All-from_recursion}
+use Rattle.mail_index.specs.declared.kind.Kind.TheVariants.{LinkId}
+use Rattle.mail_index.specs.LookUps.{keys_of}
+use Rattle.mail_answer.specs.Marks.{each_number}
+use Rattle.mail_answer.specs.Threads.{AreThreads}
+use Rattle.mail_answer.specs.Forests.{TellsThreads}
+use Rattle.mail_answer.proofs.ChosenThreads.{ok_then, empty_is, no_keys, threads_without, root_has_mark, chosen_by_marks}
+use Rattle.mail_answer.proofs.threads.thread_members.Goals as goal
+use Rattle.mail_answer.proofs.threads.thread_members.Goals.{then-is_empty-via-then-is_empty, then-is_empty-via-else-is_empty+then-not-has_links}
+
+pub returns-then-is_empty : goal.returns-then-is_empty
+returns-then-is_empty c =
+    let none : (keys_of LinkId c.args.index.now.keys ≡ []) ⊎ (c.args.numbers.now ≡ []) =
+    elim c.then-is_empty.branch [
+      | then-is_empty-via-then-is_empty w ↦ inr (empty_is c.args.numbers.now (eqb-true (length c.args.numbers.now) 0 (sym c.is_empty.ensures ∙ w.if-is_empty.true)))
+      | then-is_empty-via-else-is_empty+then-not-has_links w ↦ inl (no_keys (keys_of LinkId c.args.index.now.keys) (λ some. cc (w.has_links.ensures.1 some, w.if-not-has_links.true)))
+    ] in
+    ok_then c.from_slice.result (λ v. v.items ≡ c.args.numbers.now) (λ v. AreThreads c.args.index.now c.args.numbers.now v.items) c.from_slice.ensures.items
+    (λ v same. subst (AreThreads c.args.index.now c.args.numbers.now) (sym same) (threads_without c.args.index.now c.args.numbers.now none c.requires.rises c.requires.within))
+
+pub root_marks-requires-clause-within : goal.root_marks-requires-clause-within
+root_marks-requires-clause-within c = λ k d lt.
+    let within : get_or c.args.numbers.now k d < length c.args.index.now.messages = All-from_recursion (λ n. n < length c.args.index.now.messages) c.args.numbers.now c.requires.within k d lt in
+    omega (arith, ap length c.as_slice.ensures.value, c.in_ok-roots.ensures.long)
+
+pub with_marked_root-requires-clause-marked : goal.with_marked_root-requires-clause-marked
+with_marked_root-requires-clause-marked c =
+    let tells : TellsThreads c.args.index.now c.as_slice-2.result.now = subst (TellsThreads c.args.index.now) (sym c.as_slice-2.ensures.value) c.in_ok-roots.ensures in
+    root_has_mark c.args.index.now c.as_slice-2.result.now c.as_slice-3.result.now (λ r. list_any (λ n. nat_eq r (get_or c.as_slice.result.now n 0)) c.args.numbers.now) tells
+    (c.as_slice-3.ensures.value ∙ c.in_ok-marks.ensures ∙ ap (λ (count : ℕ). each_number count (λ r. list_any (λ n. nat_eq r (get_or c.as_slice.result.now n 0)) c.args.numbers.now)) c.message_count.ensures)
+
+pub returns : goal.returns
+returns c =
+    let tells : TellsThreads c.args.index.now c.as_slice-2.result.now = subst (TellsThreads c.args.index.now) (sym c.as_slice-2.ensures.value) c.in_ok-roots.ensures in
+    let same_roots : c.as_slice.result.now ≡ c.as_slice-2.result.now = c.as_slice.ensures.value ∙ sym c.as_slice-2.ensures.value in
+    let marks : c.as_slice-3.result.now ≡ each_number (length c.args.index.now.messages) (λ r. list_any (λ n. nat_eq r (get_or c.as_slice-2.result.now n 0)) c.args.numbers.now) =
+    c.as_slice-3.ensures.value ∙ c.in_ok-marks.ensures
+    ∙ ap (λ (count : ℕ). each_number count (λ r. list_any (λ n. nat_eq r (get_or c.as_slice.result.now n 0)) c.args.numbers.now)) c.message_count.ensures
+    ∙ ap (λ (roots : List ℕ). each_number (length c.args.index.now.messages) (λ r. list_any (λ n. nat_eq r (get_or roots n 0)) c.args.numbers.now)) same_roots in
+    ok_then c.with_marked_root.result _ (λ v. AreThreads c.args.index.now c.args.numbers.now v.items) c.with_marked_root.ensures
+    (λ v are. chosen_by_marks c.args.index.now c.args.numbers.now c.as_slice-2.result.now v.items c.as_slice-3.result.now tells c.requires.within marks are)

@@ -1,0 +1,113 @@
+//! The numbers of the messages of an answer, one after another.
+ghost use Rattle.std.specs.Prelude.{◌≡◌, length, drop, IfOk};
+ghost use Rattle.mail_query.specs.Meaning.{meaning};
+ghost use Rattle.mail_answer.specs.CursorLists.{AreNumbers};
+ghost use Rattle.mail_answer.specs.CursorNumbers.{TakesFirst};
+ghost use Rattle.mail_answer.specs.Mail.{AreChosenBy};
+ghost use Rattle.mail_answer.specs.TableAnswers.{mail_told};
+ghost use Rattle.mail_answer.specs.TableFacts.{chosen_numbers};
+
+use crate::cursor::{Cursor, matches};
+use crate::threads::with_threads;
+use mail_index::{IndexView, Steps};
+use mail_query::Query;
+use std::alloc::{AllocError, Global};
+use std::marker::Model;
+
+/// A cursor, and the steps that it has taken.
+#[derive(Drop)]
+struct Walked<'a> {
+    cursor: Cursor<'a>,
+    steps: Steps,
+}
+
+/// A list of numbers, and how many of them were given.
+#[derive(Drop)]
+struct Listed {
+    numbers: Vec<u32>,
+    given: usize,
+}
+
+/// Where numbers come from.
+#[derive(Drop)]
+enum Source<'a> {
+    /// The cursor of a query: no list of them is kept.
+    Walked(Walked<'a>),
+    /// A list of them.
+    Listed(Listed),
+}
+
+/// The numbers of the messages of an answer that are still to come, rising.
+#[derive(Drop)]
+pub(crate) struct Numbers<'a> {
+    source: Source<'a>,
+}
+
+impl<'a> Model for Numbers<'a> {
+    ghost use Rattle.std.specs.Prelude.{ℕ, List};
+    ghost use Rattle.mail_answer.specs.NumbersToCome.{to_come};
+
+    ghost Value = { List ℕ };
+
+    ghost view = { λ s. to_come s.source };
+}
+
+/// The next number of a list of which some were given.
+fn next_listed(numbers: &[u32], given: &mut usize) -> Option<u32>
+    ensures { TakesFirst (drop given.old numbers.now) (drop given.new numbers.now) result }
+{
+    let number = *numbers.get(*given)?;
+    *given += 1;
+    Some(number)
+}
+
+impl<'a> Numbers<'a> {
+    /// Those of the messages that satisfy a query.
+    fn walked(alloc: Global, index: &IndexView<'a>, query: &Query) -> Result<Self, AllocError>
+        ensures { IfOk result (λ numbers. numbers ≡ chosen_numbers index.now (meaning query.now)) }
+    {
+        let mut steps = Steps::new();
+        let cursor = Cursor::new(alloc, index, query, &mut steps)?;
+        Ok(Numbers {
+            source: Source::Walked(Walked { cursor, steps }),
+        })
+    }
+
+    /// Those of a list.
+    fn listed(numbers: Vec<u32>) -> Self
+        ensures { result ≡ numbers.items }
+    {
+        Numbers {
+            source: Source::Listed(Listed { numbers, given: 0 }),
+        }
+    }
+
+    /// Those of the messages that satisfy a query, or with `threads` of all messages in their threads. Without `threads` no list
+    /// of them is made.
+    pub(crate) fn chosen(
+        alloc: Global,
+        index: &IndexView<'a>,
+        query: &Query,
+        threads: bool,
+    ) -> Result<Self, AllocError>
+        ensures chosen { IfOk result (λ numbers. AreChosenBy threads (mail_told index.now) (meaning query.now) numbers) }
+        ensures numbers { IfOk result (λ numbers. AreNumbers (length index.now.messages) numbers) }
+    {
+        if !threads {
+            return Numbers::walked(alloc, index, query);
+        }
+        let satisfying = matches(alloc, index, query)?;
+        let members = with_threads(alloc, index, satisfying.as_slice())?;
+        Ok(Numbers::listed(members))
+    }
+
+    /// The next number.
+    pub(crate) fn next(&mut self) -> Option<u32>
+        ensures { TakesFirst self.old self.new result }
+    {
+        match &mut self.source {
+            Source::Walked(walked) => walked.cursor.next(&mut walked.steps),
+            Source::Listed(listed) => next_listed(&listed.numbers, &mut listed.given),
+        }
+    }
+}

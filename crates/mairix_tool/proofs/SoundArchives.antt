@@ -1,0 +1,91 @@
+-- Sound archives are refused for nothing, and the archives before a fault are sound.
+use Rattle.std.proofs.Common.{◌≡◌, ◌∙◌, ◌+◌, ◌<◌, ◌≤◌, ◌++◌, ℕ, List, [], ◌∷◌, length, take, All, get_or, None, Some, Ok, sym, ap, subst, arith, append_assoc, ⊎_elim}
+use Rattle.std.proofs.lemmas.List.{length-append, length-map}
+use Rattle.std.proofs.lemmas.List.Elements.{All-get_or}
+use Rattle.std.proofs.Math.Seq.{get_or-append_seam, take-append_seam}
+use Rattle.std.proofs.lemmas.Grind.{flat_map-append}
+use Rattle.mbox_cutter.specs.declared.event.CutFault.{CutFault}
+use Rattle.mbox_cutter.specs.declared.event.CutFault.TheVariants as cut
+use Rattle.mbox_cutter.specs.Events.{refusal_of}
+use Rattle.mairix_tool.specs.declared.fault.Fault.{Fault}
+use Rattle.mairix_tool.specs.declared.fault.Fault.TheVariants as of
+use Rattle.index_job.specs.ArchiveRefusals.{most_in_archive, AreSound, IsTooMuch, IsWithinLimit}
+use Rattle.index_job.specs.ArchiveTables.{Mbox, table, all_messages, messages_in, with_messages, entry_of}
+use Rattle.mairix_tool.specs.ArchivesIndexed.{mboxes, Parted, Refuses, IsArchivesFault}
+use Rattle.mairix_tool.specs.Asked.{Wanted}
+use Rattle.mairix_tool.specs.Replies.{AreSoundBefore}
+use Rattle.index_job.proofs.ArchiveSteps.{with_messages-append, with_messages-more}
+use Rattle.index_job.proofs.TableSteps.{records-count}
+
+-- ---- sound archives aren't refused
+
+-- the counts of a table only grow with more archives
+messages-grow : (xs ys : List Mbox) → length (table xs).messages ≤ length (table (xs ++ ys)).messages
+messages-grow xs ys =
+    omega (arith, records-count 0 xs, records-count 0 (xs ++ ys), ap length (flat_map-append (λ (a : Mbox). messages_in a.bytes) xs ys), length-append (all_messages xs) (all_messages ys))
+
+keys-grow : (xs ys : List Mbox) → length (table xs).keys ≤ length (table (xs ++ ys)).keys
+keys-grow xs ys =
+    omega (
+      arith,
+      with_messages-more (0 + length (all_messages xs)) (all_messages ys) (with_messages 0 (all_messages xs) []),
+      ap (λ ms. length (with_messages 0 ms [])) (flat_map-append (λ (a : Mbox). messages_in a.bytes) xs ys),
+      ap length (with_messages-append 0 (all_messages xs) (all_messages ys) []),
+    )
+
+archives-grow : (xs ys : List Mbox) → length (table xs).archives ≤ length (table (xs ++ ys)).archives
+archives-grow xs ys = omega (arith, length-map xs entry_of, length-map (xs ++ ys) entry_of, length-append xs ys)
+
+never-too-much : (archives before behind : List Mbox) (a : Mbox) → archives ≡ before ++ a ∷ behind → IsWithinLimit (table archives) → IsTooMuch (table (before ++ a ∷ [])) → ⊥
+never-too-much archives before behind a whole few much =
+    let same : archives ≡ (before ++ a ∷ []) ++ behind = whole ∙ sym (append_assoc before (a ∷ []) behind) in
+    let limit : IsWithinLimit (table ((before ++ a ∷ []) ++ behind)) = subst (λ l. IsWithinLimit (table l)) same few in
+    ⊎_elim
+    (λ m. omega (arith, m, archives-grow (before ++ a ∷ []) behind, limit.archives))
+    (λ rest. ⊎_elim
+    (λ m. omega (arith, m, messages-grow (before ++ a ∷ []) behind, limit.messages))
+    (λ m. omega (arith, m, keys-grow (before ++ a ∷ []) behind, limit.keys))
+    rest)
+    much
+
+never-cut-off : (archives before behind : List Mbox) (a : Mbox) (f : CutFault) → archives ≡ before ++ a ∷ behind → AreSound archives → refusal_of most_in_archive a.bytes ≡ Some f → ⊥
+never-cut-off archives before behind a f whole sound is =
+    let all : All (λ (b : Mbox). refusal_of most_in_archive b.bytes ≡ None) (before ++ a ∷ behind) = subst (λ l. All (λ (b : Mbox). refusal_of most_in_archive b.bytes ≡ None) l) whole sound.each in
+    let inside : length before < length (before ++ a ∷ behind) = omega (arith, length-append before (a ∷ behind)) in
+    let none : refusal_of most_in_archive (get_or (before ++ a ∷ behind) (length before) a).bytes ≡ None = All-get_or (λ (b : Mbox). refusal_of most_in_archive b.bytes ≡ None) (before ++ a ∷ behind) (length before) a inside all in
+    let here : get_or (before ++ a ∷ behind) (length before) a ≡ a = get_or-append_seam before a behind a in
+    let none-here : refusal_of most_in_archive a.bytes ≡ None = subst (λ (b : Mbox). refusal_of most_in_archive b.bytes ≡ None) here none in
+    cc
+
+pub sound-not-refused : (archives : List Mbox) (f : Fault) → AreSound archives → Refuses archives f → ⊥
+sound-not-refused archives (of.Archive number fault) sound (before, a, parted, same, h) = never-cut-off archives before parted.behind a fault parted.whole sound h.refused
+sound-not-refused archives of.TooMany sound (before, a, parted, h) = never-too-much archives before parted.behind a parted.whole sound.few h.much
+sound-not-refused archives (of.Usage f) sound h = h
+sound-not-refused archives (of.Rc f) sound h = h
+sound-not-refused archives (of.Query f) sound h = h
+sound-not-refused archives (of.Index f) sound h = h
+sound-not-refused archives (of.Stale n) sound h = h
+sound-not-refused archives of.Device sound h = h
+sound-not-refused archives of.Out sound h = h
+sound-not-refused archives of.Memory sound h = h
+
+-- ---- which archives are sound before a fault
+
+taken-before : (archives before : List Mbox) (a : Mbox) (n : ℕ) → Parted archives before a → n ≡ length before → AreSound before → AreSound (take n archives)
+taken-before archives before a n parted same sound =
+    subst AreSound (sym (ap (λ l. take n l) parted.whole ∙ ap (λ k. take k (before ++ a ∷ parted.behind)) same ∙ take-append_seam before (a ∷ parted.behind))) sound
+
+pub sound-before : (w : Wanted) (archives : List (List ℕ)) (f : Fault) → IsArchivesFault (mboxes w.paths archives) f → AreSoundBefore (Ok w) archives (Some f)
+sound-before w archives (of.Archive n cut.Device) (before, a, parted, same, sound) = taken-before (mboxes w.paths archives) before a n parted same sound
+sound-before w archives (of.Archive n cut.NotAnMbox) (before, a, parted, same, h) = taken-before (mboxes w.paths archives) before a n parted same h.sound
+sound-before w archives (of.Archive n cut.ArchiveTooLong) (before, a, parted, same, h) = taken-before (mboxes w.paths archives) before a n parted same h.sound
+sound-before w archives (of.Archive n cut.Failed) h = elim h [ ]
+sound-before w archives of.TooMany h = tt
+sound-before w archives of.Memory h = tt
+sound-before w archives (of.Usage f) h = tt
+sound-before w archives (of.Rc f) h = tt
+sound-before w archives (of.Query f) h = tt
+sound-before w archives (of.Index f) h = tt
+sound-before w archives (of.Stale n) h = tt
+sound-before w archives of.Device h = tt
+sound-before w archives of.Out h = tt

@@ -1,0 +1,167 @@
+-- The table of archives links two messages exactly where they share a link id of their own.
+use Rattle.std.proofs.Common.{◌≡◌, ◌∙◌, ◌<◌, ℕ, Bool, true, false, cond, ◌&&◌, ◌||◌, List, [], ◌∷◌, map, filter, inl, inr, refl, sym, ap, subst, arith}
+use Rattle.std.specs.List.{list_any}
+use Rattle.std.specs.Str.{bytes_eq}
+use Rattle.std.proofs.lemmas.Bool.{eqb-true}
+use Rattle.std.proofs.lemmas.Slice.Eq.{bytes_eq-Decides}
+use Rattle.mail_index.specs.declared.kind.Kind.{Kind}
+use Rattle.mail_index.specs.declared.kind.Kind.TheVariants.{LinkId}
+use Rattle.mail_index.specs.Kinds.{kind_number}
+use Rattle.mail_index.specs.Tables.{Key, TextBefore, KeyBefore, AllNext}
+use Rattle.mail_index.specs.LookUps.{is_of_kind, keys_of}
+use Rattle.mail_answer.specs.TableFacts.{is_among, texts_with}
+use Rattle.mairix_tool.specs.MailOfArchives.{share_id}
+
+-- ---- a text of no other key
+
+-- no key of these has the text
+abbrev pub IsNew : List ℕ → List Key → Type 0
+IsNew text ks = list_any (λ (k : Key). bytes_eq text k.text) ks ≡ false
+
+-- each key has a text of its own
+abbrev pub AreApart : List Key → Type 0
+AreApart [] = Unit {0}
+AreApart (k ∷ ks) = IsNew k.text ks × AreApart ks
+
+-- texts of the keys that have a number
+abbrev texts_of : ℕ → List Key → List (List ℕ)
+texts_of n ks = map (λ (k : Key). k.text) (filter (λ (k : Key). is_among n k.numbers) ks)
+
+bytes-same : (xs : List ℕ) → bytes_eq xs xs ≡ true
+bytes-same xs = (bytes_eq-Decides xs xs).1 refl
+
+bytes-turned : (xs ys : List ℕ) → bytes_eq xs ys ≡ false → bytes_eq ys xs ≡ false
+bytes-turned xs ys e = go (bytes_eq ys xs) refl
+  where
+    go : (b : Bool) → bytes_eq ys xs ≡ b → bytes_eq ys xs ≡ false
+    go false is = is
+    go true is = let back : xs ≡ ys = sym ((bytes_eq-Decides ys xs).0 is) in absurd (cc (sym e ∙ (bytes_eq-Decides xs ys).1 back))
+
+or-none : (a b : Bool) → (a || b) ≡ false → (a ≡ false) × (b ≡ false)
+or-none true b e = absurd (cc e)
+or-none false b e = (refl, e)
+
+-- a new text is none of the texts of these keys
+new-of : (n : ℕ) (text : List ℕ) (ks : List Key) → IsNew text ks → list_any (bytes_eq text) (texts_of n ks) ≡ false
+new-of n text [] new = refl
+new-of n text (k ∷ ks) new = go (is_among n k.numbers) (λ later. new-of n text ks later)
+  where
+    both : (bytes_eq text k.text ≡ false) × IsNew text ks
+    both = or-none (bytes_eq text k.text) (list_any (λ (j : Key). bytes_eq text j.text) ks) new
+
+    go : (b : Bool) → (IsNew text ks → list_any (bytes_eq text) (texts_of n ks) ≡ false)
+        → list_any (bytes_eq text) (map (λ (j : Key). j.text) (cond b (k ∷ filter (λ (j : Key). is_among n j.numbers) ks) (filter (λ (j : Key). is_among n j.numbers) ks))) ≡ false
+    go true rest = ap (λ (b : Bool). b || list_any (bytes_eq text) (texts_of n ks)) both.0 ∙ rest both.1
+    go false rest = rest both.1
+
+-- nor is any of them among texts to which it is added
+without-new : (m : ℕ) (text : List ℕ) (others : List (List ℕ)) (ks : List Key) → IsNew text ks → share_id (texts_of m ks) (text ∷ others) ≡ share_id (texts_of m ks) others
+without-new m text others [] new = refl
+without-new m text others (k ∷ ks) new = go (is_among m k.numbers) (λ later. without-new m text others ks later)
+  where
+    both : (bytes_eq text k.text ≡ false) × IsNew text ks
+    both = or-none (bytes_eq text k.text) (list_any (λ (j : Key). bytes_eq text j.text) ks) new
+
+    rest : List Key
+    rest = filter (λ (j : Key). is_among m j.numbers) ks
+
+    go : (b : Bool) → (IsNew text ks → share_id (texts_of m ks) (text ∷ others) ≡ share_id (texts_of m ks) others)
+        → share_id (map (λ (j : Key). j.text) (cond b (k ∷ rest) rest)) (text ∷ others) ≡ share_id (map (λ (j : Key). j.text) (cond b (k ∷ rest) rest)) others
+    go true later =
+        ap (λ (b : Bool). (b || list_any (bytes_eq k.text) others) || share_id (texts_of m ks) (text ∷ others)) (bytes-turned text k.text both.0)
+        ∙ ap (λ (b : Bool). list_any (bytes_eq k.text) others || b) (later both.1)
+    go false later = later both.1
+
+-- ---- a key has both, or some text is of both
+
+both-keys : (m n : ℕ) (ks : List Key) → AreApart ks → list_any (λ (k : Key). is_among m k.numbers && is_among n k.numbers) ks ≡ share_id (texts_of m ks) (texts_of n ks)
+both-keys m n [] apart = refl
+both-keys m n (k ∷ ks) apart = go (is_among m k.numbers) (is_among n k.numbers) (both-keys m n ks apart.1)
+  where
+    ms : List Key
+    ms = filter (λ (j : Key). is_among m j.numbers) ks
+
+    ns : List Key
+    ns = filter (λ (j : Key). is_among n j.numbers) ks
+
+    go : (a b : Bool) → list_any (λ (j : Key). is_among m j.numbers && is_among n j.numbers) ks ≡ share_id (texts_of m ks) (texts_of n ks)
+        → ((a && b) || list_any (λ (j : Key). is_among m j.numbers && is_among n j.numbers) ks)
+        ≡ share_id (map (λ (j : Key). j.text) (cond a (k ∷ ms) ms)) (map (λ (j : Key). j.text) (cond b (k ∷ ns) ns))
+    go true true e = sym (ap (λ (b : Bool). (b || list_any (bytes_eq k.text) (texts_of n ks)) || share_id (texts_of m ks) (k.text ∷ texts_of n ks)) (bytes-same k.text))
+    go true false e = e ∙ sym (ap (λ (b : Bool). b || share_id (texts_of m ks) (texts_of n ks)) (new-of n k.text ks apart.0))
+    go false true e = e ∙ sym (without-new m k.text (texts_of n ks) ks apart.0)
+    go false false e = e
+
+-- ---- sorted keys of a kind are apart
+
+text-before-itself : (xs : List ℕ) → TextBefore xs xs → ⊥
+text-before-itself [] h = h
+text-before-itself (x ∷ xs) (inl low) = omega (arith, low)
+text-before-itself (x ∷ xs) (inr same) = text-before-itself xs same.1
+
+text-before-through : (xs ys zs : List ℕ) → TextBefore xs ys → TextBefore ys zs → TextBefore xs zs
+text-before-through xs [] zs one two = absurd one
+text-before-through xs (y ∷ ys) [] one two = absurd two
+text-before-through [] (y ∷ ys) (z ∷ zs) one two = tt
+text-before-through (x ∷ xs) (y ∷ ys) (z ∷ zs) (inl a) (inl b) = inl (omega (arith, a, b))
+text-before-through (x ∷ xs) (y ∷ ys) (z ∷ zs) (inl a) (inr b) = inl (omega (arith, a, b.0))
+text-before-through (x ∷ xs) (y ∷ ys) (z ∷ zs) (inr a) (inl b) = inl (omega (arith, a.0, b))
+text-before-through (x ∷ xs) (y ∷ ys) (z ∷ zs) (inr a) (inr b) = inr (a.0 ∙ b.0, text-before-through xs ys zs a.1 b.1)
+
+before-through : (a b c : Key) → KeyBefore a b → KeyBefore b c → KeyBefore a c
+before-through a b c (inl p) (inl q) = inl (omega (arith, p, q))
+before-through a b c (inl p) (inr q) = inl (subst (λ (k : Kind). kind_number a.kind < kind_number k) q.0 p)
+before-through a b c (inr p) (inl q) = inl (subst (λ (k : Kind). kind_number k < kind_number c.kind) (sym p.0) q)
+before-through a b c (inr p) (inr q) = inr (p.0 ∙ q.0, text-before-through a.text b.text c.text p.1 q.1)
+
+-- the key lies before each of these
+abbrev BeforeAll : Key → List Key → Type 0
+BeforeAll a [] = Unit {0}
+BeforeAll a (k ∷ ks) = KeyBefore a k × BeforeAll a ks
+
+before-all : (a b : Key) (ks : List Key) → KeyBefore a b → AllNext KeyBefore (b ∷ ks) → BeforeAll a (b ∷ ks)
+before-all a b [] first next = (first, tt)
+before-all a b (k ∷ ks) first next = (first, before-all a k ks (before-through a b k first next.0) next.1)
+
+below-all : (a : Key) (ks : List Key) → AllNext KeyBefore (a ∷ ks) → BeforeAll a ks
+below-all a [] next = tt
+below-all a (k ∷ ks) next = before-all a k ks next.0 next.1
+
+rest-sorted : (a : Key) (ks : List Key) → AllNext KeyBefore (a ∷ ks) → AllNext KeyBefore ks
+rest-sorted a [] next = tt
+rest-sorted a (k ∷ ks) next = next.1
+
+not-same-text : (kind : Kind) (a k : Key) → is_of_kind kind a ≡ true → is_of_kind kind k ≡ true → KeyBefore a k → bytes_eq a.text k.text ≡ false
+not-same-text kind a k of_a of_k before = go (bytes_eq a.text k.text) refl
+  where
+    kinds : kind_number a.kind ≡ kind_number k.kind
+    kinds = eqb-true (kind_number a.kind) (kind_number kind) of_a ∙ sym (eqb-true (kind_number k.kind) (kind_number kind) of_k)
+
+    never : KeyBefore a k → a.text ≡ k.text → ⊥
+    never (inl low) same = omega (arith, low, kinds)
+    never (inr h) same = text-before-itself k.text (subst (λ (x : List ℕ). TextBefore x k.text) same h.1)
+
+    go : (b : Bool) → bytes_eq a.text k.text ≡ b → bytes_eq a.text k.text ≡ false
+    go false is = is
+    go true is = absurd (never before ((bytes_eq-Decides a.text k.text).0 is))
+
+new-among : (kind : Kind) (a : Key) (ks : List Key) → is_of_kind kind a ≡ true → BeforeAll a ks → IsNew a.text (keys_of kind ks)
+new-among kind a [] of_a before = refl
+new-among kind a (k ∷ ks) of_a before = go (is_of_kind kind k) refl (new-among kind a ks of_a before.1)
+  where
+    go : (b : Bool) → is_of_kind kind k ≡ b → IsNew a.text (keys_of kind ks) → list_any (λ (j : Key). bytes_eq a.text j.text) (cond b (k ∷ keys_of kind ks) (keys_of kind ks)) ≡ false
+    go true is later = ap (λ (b : Bool). b || list_any (λ (j : Key). bytes_eq a.text j.text) (keys_of kind ks)) (not-same-text kind a k of_a is before.0) ∙ later
+    go false is later = later
+
+pub sorted-apart : (kind : Kind) (ks : List Key) → AllNext KeyBefore ks → AreApart (keys_of kind ks)
+sorted-apart kind [] sorted = tt
+sorted-apart kind (k ∷ ks) sorted = go (is_of_kind kind k) refl (λ rest. sorted-apart kind ks rest)
+  where
+    go : (b : Bool) → is_of_kind kind k ≡ b → (AllNext KeyBefore ks → AreApart (keys_of kind ks)) → AreApart (cond b (k ∷ keys_of kind ks) (keys_of kind ks))
+    go true is later = (new-among kind k ks is (below-all k ks sorted), later (rest-sorted k ks sorted))
+    go false is later = later (rest-sorted k ks sorted)
+
+-- of sorted keys some link id has both numbers exactly where both have some text of one link id
+pub linked-by-texts : (m n : ℕ) (ks : List Key) → AllNext KeyBefore ks
+    → list_any (λ (k : Key). is_among m k.numbers && is_among n k.numbers) (keys_of LinkId ks) ≡ share_id (texts_with LinkId m ks) (texts_with LinkId n ks)
+linked-by-texts m n ks sorted = both-keys m n (keys_of LinkId ks) (sorted-apart LinkId ks sorted)

@@ -1,0 +1,5 @@
+use Rattle.mairix_tool.proofs.MailSame.{chosen-same}
+use Rattle.mairix_tool.proofs.laws.the_table_chooses_as_the_messages.Goals as goal
+
+pub returns : goal.returns
+returns c = chosen-same

@@ -1,0 +1,8 @@
+use Rattle.std.proofs.Common.{map, string_bytes}
+use Rattle.mairix_tool.specs.Asked.{wanted}
+use Rattle.mairix_tool.proofs.AskedPaths.{asked-paths}
+use Rattle.mairix_tool.proofs.once.index_wanted.Goals as goal
+
+pub index_sources-requires-clause-paths : goal.index_sources-requires-clause-paths
+index_sources-requires-clause-paths g c =
+    rw c.as_slice.ensures (asked-paths (map string_bytes c.args.words.now) c.args.rc.now c.args.now (wanted c.in_ok-wanted.wanted) c.in_ok-wanted.ensures.asked)

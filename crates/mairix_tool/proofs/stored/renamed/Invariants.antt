@@ -1,0 +1,10 @@
+use Rattle.std.proofs.Common.{◌≡◌, map, drop, string_bytes}
+use Rattle.mairix_tool.specs.Runs.{first_renamed, renamed_archive}
+use Rattle.mairix_tool.proofs.stored.renamed.Given as goal
+
+-- the archives before this one have the paths that were indexed
+abbrev pub invariant-loop-number : goal.invariant-loop-number
+invariant-loop-number l = record {
+  coming : l.named ≡ drop l.number l.fn.index.archives;
+  so_far : renamed_archive l.fn.index.archives (map string_bytes l.paths) ≡ first_renamed l.number (drop l.number l.fn.index.archives) (drop l.number (map string_bytes l.paths));
+}

@@ -1,0 +1,40 @@
+use Rattle.std.proofs.Common.{◌≡◌, ◌∙◌, ◌^◌, ◌<◌, map, length, sym, subst, string_bytes, arith}
+use Rattle.mairix_tool.specs.Asked.{Wanted, wanted, asked}
+use Rattle.mairix_tool.specs.Runs.{reply_of, IsCountedWhere}
+use Rattle.mairix_tool.proofs.StoredReplies.{refused-stored, stored-told, stored-counted, stored-indexed}
+use Rattle.mairix_tool.proofs.stored.search_run.Goals as goal
+
+pub returns-in-Err-clause-reply : goal.returns-in-Err-clause-reply
+returns-in-Err-clause-reply g c = λ held holds.
+    rw c.of-in-Err.ensures
+    (refused-stored (asked (map string_bytes c.args.words.now) c.args.rc.now c.args.now) c.args.index.now held c.in-Err.fault (g.O.Out.taken c.args.out.now) c.in-Err.ensures.refused)
+
+pub returns-in-Err-clause-indexed : goal.returns-in-Err-clause-indexed
+returns-in-Err-clause-indexed g c = λ w bytes is many sound file holds.
+    let few : length c.args.index.now < 2 ^ 64 = omega (arith, c.well_formed) in
+    stored-indexed w c.args.index.now bytes c.of-in-Err.result (g.O.Out.taken c.args.out.now) (g.O.Out.taken c.args.out.now) few many sound file
+    (rw is at (returns-in-Err-clause-reply g c bytes holds))
+
+pub returns-in-Ok-clause-reply : goal.returns-in-Ok-clause-reply
+returns-in-Ok-clause-reply g c = λ held holds.
+    let w : Wanted = wanted c.in-Ok.found.wanted in
+    let few : length c.args.index.now < 2 ^ 64 = omega (arith, c.well_formed) in
+    rw (c.of.ensures, c.in-Ok.ensures.wanted)
+    (stored-told w c.args.index.now few c.in-Ok.found.view c.in-Ok.ensures.table held (reply_of c.answer_view.result) (g.O.Out.taken c.args.out.now) (g.O.Out.taken c.answer_view.new.out)
+    c.in-Ok.ensures.paths (c.answer_view.ensures.told held holds))
+
+pub returns-in-Ok-clause-indexed : goal.returns-in-Ok-clause-indexed
+returns-in-Ok-clause-indexed g c = λ w bytes is many sound file holds.
+    let few : length c.args.index.now < 2 ^ 64 = omega (arith, c.well_formed) in
+    stored-indexed w c.args.index.now bytes c.of.result (g.O.Out.taken c.args.out.now) (g.O.Out.taken c.answer_view.new.out) few many sound file
+    (rw is at (returns-in-Ok-clause-reply g c bytes holds))
+
+pub returns-in-Ok-clause-counted : goal.returns-in-Ok-clause-counted
+returns-in-Ok-clause-counted g c = λ w t is file.
+    let few : length c.args.index.now < 2 ^ 64 = omega (arith, c.well_formed) in
+    let both = sym c.in-Ok.ensures.wanted ∙ is in
+    let same : wanted c.in-Ok.found.wanted ≡ w = cc both in
+    let told = stored-counted (wanted c.in-Ok.found.wanted) c.args.index.now few c.in-Ok.found.view c.in-Ok.ensures.table t (g.A.Archives.held c.args.archives.now) (reply_of c.answer_view.result).fault (reply_of c.answer_view.result)
+    (g.O.Out.taken c.args.out.now) (g.O.Out.taken c.answer_view.new.out) file c.answer_view.ensures.counted in
+    rw c.of.ensures
+    (subst (λ (v : Wanted). IsCountedWhere t v.search (g.A.Archives.held c.args.archives.now) (reply_of c.answer_view.result).fault (reply_of c.answer_view.result) (g.O.Out.taken c.args.out.now) (g.O.Out.taken c.answer_view.new.out)) same told)

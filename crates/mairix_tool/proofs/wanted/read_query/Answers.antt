@@ -1,0 +1,13 @@
+use Rattle.std.proofs.Common.{◌∙◌, ℕ, List, subst, string_bytes}
+use Rattle.contract_words.specs.Answers.{Gives}
+use Rattle.mail_query.specs.Mail.{boolean_query}
+use Rattle.mail_query.specs.Meaning.{meaning}
+use Rattle.mail_query.specs.Refusals.{query_refusal}
+use Rattle.mairix_tool.proofs.AskedPaths.{joined-by-spaces}
+use Rattle.mairix_tool.proofs.wanted.read_query.Goals as goal
+
+pub returns-in_ok-text : goal.returns-in_ok-text
+returns-in_ok-text c =
+    rw c.if-boolean.true
+    (subst (λ (text : List ℕ). Gives meaning query_refusal c.read_boolean.result (boolean_query text))
+    (c.as_str.ensures.value ∙ c.in_ok-text.ensures.ok ∙ joined-by-spaces string_bytes c.args.patterns.now) c.read_boolean.ensures.answer)

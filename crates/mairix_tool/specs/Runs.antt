@@ -1,0 +1,146 @@
+-- What whole runs reply: by the archives' own messages, by a table, and by a stored index.
+use Rattle.std.specs.Prelude.{◌≡◌, ◌⊎◌, ⊤, ℕ, ◌+◌, ◌==◌, min, List, [], ◌∷◌, length, Option, None, Some, Result, Ok, Err, if◌then◌else◌}
+use Rattle.std.specs.Bool.{MatchBool}
+use Rattle.std.specs.Io.KnownBytes.{Appends}
+use Rattle.std.specs.Str.{bytes_eq}
+use Rattle.contract_words.specs.Devices.{Sends}
+use Rattle.mail_answer.specs.declared.fault.AnswerFaultKind.{AnswerFaultKind}
+use Rattle.mail_answer.specs.declared.fault.AnswerFaultKind.TheVariants as kind
+use Rattle.mail_answer.specs.Mail.{Search, AreChosen}
+use Rattle.mail_answer.specs.Shapes.{answer_text, known_answer}
+use Rattle.mail_answer.specs.Sheets.{Tells}
+use Rattle.mail_answer.specs.Stale.{stale_archive}
+use Rattle.mail_answer.specs.TableAnswers.{mail_told}
+use Rattle.mail_index.specs.declared.fault.IndexFault.{IndexFault}
+use Rattle.mail_index.specs.Faults.{IsFileOf, IsFirstFault}
+use Rattle.mail_index.specs.Tables.{Archive, Table}
+use Rattle.mairix_tool.specs.declared.fault.Fault.{Fault}
+use Rattle.mairix_tool.specs.declared.fault.Fault.TheVariants as of
+use Rattle.mairix_tool.specs.declared.fault.Fault.TheVariants.{Index, Stale}
+use Rattle.mairix_tool.specs.declared.fault.Reply.{Reply}
+use Rattle.index_job.specs.ArchiveRefusals.{AreSound}
+use Rattle.index_job.specs.ArchiveTables.{Mbox, table}
+use Rattle.mairix_tool.specs.ArchivesIndexed.{mboxes, Refuses, IsArchivesFault}
+use Rattle.mairix_tool.specs.Asked.{Wanted}
+use Rattle.mairix_tool.specs.Faults.{is_failure, is_memory, status_of_fault}
+use Rattle.mairix_tool.specs.MailOfArchives.{mail_in, shape}
+use Rattle.mairix_tool.specs.Replies.{Answer, refused, status_of_count}
+
+-- so many messages, and the text that tells of them
+abbrev pub answered : List ℕ → ℕ → Answer
+answered text messages = record { text = text; reply = record { status = status_of_count messages; messages = messages; fault = None } }
+
+-- ---- by the messages themselves
+
+-- The messages that satisfy the query, with threads all of their threads, by archive, then offset, each once.
+abbrev pub IsAnswer : List Mbox → Search → Answer → Type 0
+IsAnswer archives s answer = (numbers : List ℕ) × AreChosen (mail_in archives) s numbers × (answer ≡ answered (shape archives s.format numbers) (length numbers))
+
+-- the refusal of the first archive that is at fault
+abbrev pub IsRefusedBy : List Mbox → Answer → Type 0
+IsRefusedBy archives answer = (fault : Fault) × Refuses archives fault × (answer ≡ refused fault)
+
+-- The reply and its text: a refusal of words, rcfile or query; else of an archive; else the answer. Where one archive is too
+-- long and has too many messages or keys, either is replied.
+abbrev pub IsReply : Result Wanted Fault → List (List ℕ) → Answer → Type 0
+IsReply (Err fault) bytes answer = answer ≡ refused fault
+IsReply (Ok w) bytes answer =
+    (AreSound (mboxes w.paths bytes) × IsAnswer (mboxes w.paths bytes) w.search answer) ⊎ IsRefusedBy (mboxes w.paths bytes) answer
+
+-- ---- by a table
+
+-- an archive isn't the one that was indexed, or it is answered
+abbrev pub IsStaleOr : Option ℕ → (Answer → Type 0) → Answer → Type 0
+IsStaleOr (Some n) IsFound answer = answer ≡ refused (Stale n)
+IsStaleOr None IsFound answer = IsFound answer
+
+abbrev pub IsFoundIn : Table → Search → List (List ℕ) → Answer → Type 0
+IsFoundIn t s held answer = (numbers : List ℕ) × AreChosen (mail_told t) s numbers × (answer ≡ answered (answer_text s.format t held numbers) (length numbers))
+
+-- what the table answers over archives that hold these bytes
+abbrev pub IsTold : Table → Search → List (List ℕ) → Answer → Type 0
+IsTold t s held answer = IsStaleOr (stale_archive t.archives held) (IsFoundIn t s held) answer
+
+-- what is replied where these bytes are indexed, and those are searched
+abbrev pub IsOnceReply : Result Wanted Fault → List (List ℕ) → List (List ℕ) → Answer → Type 0
+IsOnceReply (Err fault) bytes held answer = answer ≡ refused fault
+IsOnceReply (Ok w) bytes held answer =
+    (AreSound (mboxes w.paths bytes) × IsTold (table (mboxes w.paths bytes)) w.search held answer) ⊎ IsRefusedBy (mboxes w.paths bytes) answer
+
+-- ---- by a stored index
+
+-- the first archive with another path than was indexed, counted from n on
+abbrev pub first_renamed : ℕ → List Archive → List (List ℕ) → Option ℕ
+first_renamed n [] paths = None
+first_renamed n (a ∷ named) [] = None
+first_renamed n (a ∷ named) (path ∷ paths) = if bytes_eq a.path path then first_renamed (n + 1) named paths else Some n
+
+-- of another count of paths than was indexed, the smaller one
+abbrev pub renamed_archive : List Archive → List (List ℕ) → Option ℕ
+renamed_archive named paths = if length paths == length named then first_renamed 0 named paths else Some (min (length paths) (length named))
+
+-- by its paths, then by what the archives hold
+abbrev pub IsToldOf : Wanted → Table → List (List ℕ) → Answer → Type 0
+IsToldOf w t held answer = IsStaleOr (renamed_archive t.archives w.paths) (IsTold t w.search held) answer
+
+-- a refusal of words, rcfile or query; else the first thing wrong with the index; else what its table answers
+abbrev pub IsStoredReply : Result Wanted Fault → List ℕ → List (List ℕ) → Answer → Type 0
+IsStoredReply (Err fault) index held answer = answer ≡ refused fault
+IsStoredReply (Ok w) index held answer =
+    ((fault : IndexFault) × IsFirstFault index fault × (answer ≡ refused (Index fault)))
+    ⊎ ((t : Table) × IsFileOf index t × IsToldOf w t held answer)
+
+-- what a run answers of an answer's fault
+abbrev pub fault_of_answer_kind : AnswerFaultKind → Fault
+fault_of_answer_kind (kind.Stale n) = Stale n
+fault_of_answer_kind kind.Device = of.Device
+fault_of_answer_kind kind.OutOfMemory = of.Memory
+fault_of_answer_kind kind.OutFailed = of.Out
+
+-- ---- what a run answered, against that
+
+abbrev pub reply_of : Result ℕ Fault → Reply
+reply_of (Ok messages) = record { status = status_of_count messages; messages = messages; fault = None }
+reply_of (Err fault) = record { status = status_of_fault fault; messages = 0; fault = Some fault }
+
+-- the reply and its whole text; or a fault of a device or of memory, and a front of the text
+abbrev pub RepliesBy : (Answer → Type 0) → Reply → Option (List ℕ) → Option (List ℕ) → Type 0
+RepliesBy Is reply old new =
+    MatchBool (is_failure reply.fault)
+    ((answer : Answer) → Is answer → Sends old new answer.text)
+    ((answer : Answer) × Is answer × (reply ≡ answer.reply) × Appends old new answer.text)
+
+-- that is answered, unless memory is wanted
+abbrev pub IsThisOrMemory : Fault → Option Fault → Type 0
+IsThisOrMemory refusal fault = MatchBool (is_memory fault) ⊤ (fault ≡ Some refusal)
+
+-- what the archives of what is asked are indexed into: they are sound, and this is the file of their table
+abbrev pub IsIndexed : Wanted → List (List ℕ) → List ℕ → Type 0
+IsIndexed w bytes file = AreSound (mboxes w.paths bytes) × IsFileOf file (table (mboxes w.paths bytes))
+
+-- why nothing is indexed: words, rcfile or query are refused, else an archive is at fault; or memory is wanted
+abbrev pub IsUnindexed : Result Wanted Fault → List (List ℕ) → Fault → Type 0
+IsUnindexed (Err refusal) bytes fault = IsThisOrMemory refusal (Some fault)
+IsUnindexed (Ok w) bytes fault = IsArchivesFault (mboxes w.paths bytes) fault
+
+-- what is wrong with an index, where it is to be one of archives with these paths
+abbrev pub IsIndexRefusal : List (List ℕ) → List ℕ → Fault → Type 0
+IsIndexRefusal paths index (Index f) = IsFirstFault index f
+IsIndexRefusal paths index (Stale n) = (t : Table) × IsFileOf index t × (renamed_archive t.archives paths ≡ Some n)
+IsIndexRefusal paths index _ = ⊥
+
+-- what a stored search is refused with before any archive is asked, whatever they hold
+abbrev pub IsRefusedAs : Result Wanted Fault → List ℕ → Fault → Type 0
+IsRefusedAs (Err refusal) index fault = fault ≡ refusal
+IsRefusedAs (Ok w) index fault = IsIndexRefusal w.paths index fault
+
+-- The number of messages that the table chooses is replied, and a text went out: the whole, where it is known.
+abbrev pub IsCounted : Table → Search → Option (List (List ℕ)) → Reply → Option (List ℕ) → Option (List ℕ) → Type 0
+IsCounted t s held reply old new =
+    (numbers : List ℕ) × AreChosen (mail_told t) s numbers
+    × (reply ≡ record { status = status_of_count (length numbers); messages = length numbers; fault = None })
+    × (text : List ℕ) × Tells (known_answer s.format t held numbers) text × Appends old new text
+
+abbrev pub IsCountedWhere : Table → Search → Option (List (List ℕ)) → Option Fault → Reply → Option (List ℕ) → Option (List ℕ) → Type 0
+IsCountedWhere t s held None reply old new = IsCounted t s held reply old new
+IsCountedWhere t s held (Some fault) reply old new = ⊤

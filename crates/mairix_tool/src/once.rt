@@ -1,0 +1,125 @@
+//! A run over archives that it indexes itself.
+ghost use Rattle.std.specs.Prelude.{◌≡◌, ◌<◌, ◌^◌, ◌-◌, ℕ, List, false, Some, Ok, length, map, All, IfOk, IfErr, IfSome, slice_index};
+ghost use Rattle.std.specs.Bool.{OnTrue};
+ghost use Rattle.std.specs.Result.{MatchResult};
+ghost use Rattle.std.specs.String.{string_bytes};
+ghost use Rattle.contract_words.specs.Devices.{Counted};
+ghost use Rattle.mail_answer.specs.declared.format.Format.TheVariants.{Raw};
+ghost use Rattle.mail_index.specs.Faults.{IsFileOf};
+ghost use Rattle.mail_index.specs.Tables.{Table};
+ghost use Rattle.mairix_tool.specs.Asked.{asked_rc, asked, wanted as wanted_of};
+ghost use Rattle.mairix_tool.specs.Faults.{fault_in, is_changed_or_unread, is_failed_out, is_failed_source, is_failed_archives, is_early, is_of_indexing, IsOnceFault};
+ghost use Rattle.mairix_tool.specs.Replies.{RefusesAsked, AreSoundBefore, IsConsistent};
+ghost use Rattle.mairix_tool.specs.Runs.{IsReply, IsOnceReply, RepliesBy, IsIndexed, IsUnindexed};
+
+use crate::fault::{Fault, Reply};
+use crate::index_in_memory::index_sources;
+use crate::view_answer::answer_file;
+use crate::wanted::Wanted;
+use mail_answer::Archives;
+use mail_dates::Moment;
+use mbox_cutter::{MemoryOut, Out, Source};
+use std::alloc::Global;
+
+/// Indexes the archives from their sources in memory, and writes the messages that words and rcfile ask for: those whose own
+/// decoded text satisfies the query, or with `-t` all of their threads, in the order of archive and offset, each once.
+///
+/// `words` are those after the program's name, `rc` is the rcfile's text, and ages and days without a year are reckoned from
+/// `now`. There are as many sources, and as many archives, as the rcfile has paths, whenever words and rcfile are accepted. The
+/// archives are asked once the sources are indexed.
+///
+/// # Errors
+///
+/// The first refusal counts: of the words, the rcfile, the query, then of the first archive that is at fault, then `Stale` where
+/// the archives have another length than was indexed.
+pub fn once_run<S: Source, A: Archives, O: Out>(
+    alloc: Global,
+    words: &[String],
+    rc: &[u8],
+    sources: &mut [S],
+    archives: &mut A,
+    now: Moment,
+    out: &mut O,
+) -> Reply
+    requires many { IfOk (asked_rc (map string_bytes words.now) rc.now) (λ r. (length r.paths ≡ length sources.old) × (A.number archives.old ≡ length sources.old)) }
+    requires sources { All (λ s. S.failures s < 2 ^ 64 - 1) sources.old }
+    requires archives { A.failures archives.old < 2 ^ 64 - 1 }
+    requires out { O.failures out.old < 2 ^ 64 - 1 }
+
+    // Where sources and archives hold the same known bytes: the whole reply and its text, by the messages themselves, or a
+    // fault of a device or of memory and a front of it.
+    ensures reply { (bytes : List (List ℕ)) → map S.rest sources.old ≡ map Some bytes → A.held archives.old ≡ Some bytes
+        → RepliesBy (IsReply (asked (map string_bytes words.now) rc.now now) bytes) result (O.taken out.old) (O.taken out.new) }
+
+    // Where the archives hold other bytes than were indexed: what the table of those says over these.
+    ensures changed { (bytes held : List (List ℕ)) → map S.rest sources.old ≡ map Some bytes → A.held archives.old ≡ Some held
+        → RepliesBy (IsOnceReply (asked (map string_bytes words.now) rc.now now) bytes held) result (O.taken out.old) (O.taken out.new) }
+
+    // Where an archive's fault is answered, no archive before it has one.
+    ensures first { (bytes : List (List ℕ)) → map S.rest sources.old ≡ map Some bytes
+        → AreSoundBefore (asked (map string_bytes words.now) rc.now now) bytes result.fault }
+
+    // Each device's count rises by one exactly where its failure is answered.
+    ensures source_failed { (n : ℕ) → Counted (is_failed_source n result.fault)
+        (slice_index (map S.failures sources.old) n) (slice_index (map S.failures sources.new) n) }
+    ensures archives_failed { Counted (is_failed_archives result.fault) (A.failures archives.old) (A.failures archives.new) }
+    ensures out_failed { Counted (is_failed_out result.fault) (O.failures out.old) (O.failures out.new) }
+
+    // A refusal of words, rcfile or query is answered whatever the devices hold, and before any of them is asked.
+    ensures asked { RefusesAsked (asked (map string_bytes words.now) rc.now now) result.fault }
+    ensures early { OnTrue (is_early result.fault) ((sources.new ≡ sources.old) × (archives.new ≡ archives.old) × (out.new ≡ out.old)) }
+
+    // Where the archives aren't indexed nothing is searched, and nothing has gone out. Nor has it where a raw answer finds them
+    // changed or can't read them.
+    ensures silent { OnTrue (is_of_indexing result.fault) ((archives.new ≡ archives.old) × (out.new ≡ out.old)) }
+    ensures raw { IfOk (asked (map string_bytes words.now) rc.now now) (λ w. w.search.format ≡ Raw → OnTrue (is_changed_or_unread result.fault) (out.new ≡ out.old)) }
+
+    // Only faults that such a run has; each has its status and no messages, an answer 0 with messages and 1 without one.
+    ensures kinds { IfSome result.fault IsOnceFault }
+    ensures status { IsConsistent result result.fault }
+{
+    match index_wanted(alloc, words, rc, sources, now) {
+        Ok(found) => Reply::of(answer_file(
+            alloc,
+            found.file.bytes(),
+            &found.wanted,
+            archives,
+            out,
+        )),
+        Err(fault) => Reply::of(Err(fault)),
+    }
+}
+
+/// What is asked, and the index file of the archives of which it is asked.
+#[derive(Drop)]
+struct Indexed {
+    wanted: Wanted,
+    file: MemoryOut,
+}
+
+/// Reads what is asked, and indexes the archives of which it is asked in memory.
+fn index_wanted<S: Source>(
+    alloc: Global,
+    words: &[String],
+    rc: &[u8],
+    sources: &mut [S],
+    now: Moment,
+) -> Result<Indexed, Fault>
+    requires many { IfOk (asked_rc (map string_bytes words.now) rc.now) (λ r. length r.paths ≡ length sources.old) }
+    requires sources { All (λ s. S.failures s < 2 ^ 64 - 1) sources.old }
+    ensures wanted { IfOk result (λ i. asked (map string_bytes words.now) rc.now now ≡ Ok (wanted_of i.wanted)) }
+    ensures formed { IfOk result (λ i. (t : Table) × IsFileOf i.file.taken t) }
+    ensures known { (bytes : List (List ℕ)) → map S.rest sources.old ≡ map Some bytes
+        → MatchResult result (λ i. IsIndexed (wanted_of i.wanted) bytes i.file.taken) (IsUnindexed (asked (map string_bytes words.now) rc.now now) bytes) }
+    ensures source_failed { (n : ℕ) → Counted (is_failed_source n (fault_in result))
+        (slice_index (map S.failures sources.old) n) (slice_index (map S.failures sources.new) n) }
+    ensures archives_failed { is_failed_archives (fault_in result) ≡ false }
+    ensures out_failed { is_failed_out (fault_in result) ≡ false }
+    ensures asked { RefusesAsked (asked (map string_bytes words.now) rc.now now) (fault_in result) }
+    ensures early { OnTrue (is_early (fault_in result)) (sources.new ≡ sources.old) }
+    ensures own { IfErr result (λ fault. IsOnceFault fault) }
+{
+    let wanted = Wanted::of(alloc, words, rc, now)?;
+    let file = index_sources(alloc, wanted.paths.as_slice(), sources)?;
+    Ok(Indexed { wanted, file })
+}

@@ -1,0 +1,84 @@
+//! What an index answers to what is asked.
+ghost use Rattle.std.specs.Prelude.{◌≡◌, ◌<◌, ◌^◌, ◌-◌, ℕ, List, Some, IfErr};
+ghost use Rattle.std.specs.Bool.{OnTrue};
+ghost use Rattle.contract_words.specs.Devices.{Counted};
+ghost use Rattle.mail_answer.specs.declared.format.Format.TheVariants.{Raw};
+ghost use Rattle.mail_index.specs.Faults.{IsFileOf};
+ghost use Rattle.mail_index.specs.Tables.{Table};
+ghost use Rattle.mairix_tool.specs.Asked.{wanted as wanted_of};
+ghost use Rattle.mairix_tool.specs.Faults.{fault_in, is_changed_or_unread, is_failed_archives, is_failed_out, IsOfAnswer};
+ghost use Rattle.mairix_tool.specs.Runs.{IsTold, RepliesBy, reply_of, IsCountedWhere, fault_of_answer_kind};
+
+use crate::fault::Fault;
+use crate::wanted::Wanted;
+use mail_answer::{AnswerFault, AnswerFaultKind, Archives, answer};
+use mail_index::IndexView;
+use mbox_cutter::Out;
+use std::alloc::Global;
+
+/// What the index file in these bytes answers.
+pub(crate) fn answer_file<A: Archives, O: Out>(
+    alloc: Global,
+    bytes: &[u8],
+    wanted: &Wanted,
+    archives: &mut A,
+    out: &mut O,
+) -> Result<u64, Fault>
+    requires file { (t : Table) × IsFileOf bytes.now t }
+    requires archives { A.failures archives.old < 2 ^ 64 - 1 }
+    requires out { O.failures out.old < 2 ^ 64 - 1 }
+    ensures told { (t : Table) (held : List (List ℕ)) → IsFileOf bytes.now t → A.held archives.old ≡ Some held
+        → RepliesBy (IsTold t (wanted_of wanted.now).search held) (reply_of result) (O.taken out.old) (O.taken out.new) }
+    ensures own { IfErr result IsOfAnswer }
+    ensures raw { (wanted_of wanted.now).search.format ≡ Raw → OnTrue (is_changed_or_unread (fault_in result)) (out.new ≡ out.old) }
+    ensures archives_failed { Counted (is_failed_archives (fault_in result)) (A.failures archives.old) (A.failures archives.new) }
+    ensures out_failed { Counted (is_failed_out (fault_in result)) (O.failures out.old) (O.failures out.new) }
+{
+    match IndexView::open(bytes) {
+        Ok(index) => answer_view(alloc, &index, wanted, archives, out),
+        Err(fault) => Err(Fault::Index(fault)),
+    }
+}
+
+/// What the index answers, in as many messages as are counted.
+pub(crate) fn answer_view<A: Archives, O: Out>(
+    alloc: Global,
+    index: &IndexView<'_>,
+    wanted: &Wanted,
+    archives: &mut A,
+    out: &mut O,
+) -> Result<u64, Fault>
+    requires archives { A.failures archives.old < 2 ^ 64 - 1 }
+    requires out { O.failures out.old < 2 ^ 64 - 1 }
+    ensures told { (held : List (List ℕ)) → A.held archives.old ≡ Some held
+        → RepliesBy (IsTold index.now (wanted_of wanted.now).search held) (reply_of result) (O.taken out.old) (O.taken out.new) }
+    ensures counted { IsCountedWhere index.now (wanted_of wanted.now).search (A.held archives.old) (reply_of result).fault (reply_of result) (O.taken out.old) (O.taken out.new) }
+    ensures own { IfErr result IsOfAnswer }
+    ensures raw { (wanted_of wanted.now).search.format ≡ Raw → OnTrue (is_changed_or_unread (fault_in result)) (out.new ≡ out.old) }
+    ensures archives_failed { Counted (is_failed_archives (fault_in result)) (A.failures archives.old) (A.failures archives.new) }
+    ensures out_failed { Counted (is_failed_out (fault_in result)) (O.failures out.old) (O.failures out.new) }
+{
+    match answer(
+        alloc,
+        index,
+        &wanted.query,
+        wanted.threads,
+        wanted.format,
+        archives,
+        out,
+    ) {
+        Ok(messages) => Ok(messages),
+        Err(fault) => Err(fault_of_answer(fault)),
+    }
+}
+
+fn fault_of_answer(fault: AnswerFault) -> Fault
+    ensures { result ≡ fault_of_answer_kind fault.kind }
+{
+    match fault.kind {
+        AnswerFaultKind::Stale(n) => Fault::Stale(u64::from(n)),
+        AnswerFaultKind::Device => Fault::Device,
+        AnswerFaultKind::OutOfMemory => Fault::Memory,
+        AnswerFaultKind::OutFailed => Fault::Out,
+    }
+}
