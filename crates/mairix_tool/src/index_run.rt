@@ -15,10 +15,13 @@ ghost use Rattle.mairix_tool.specs.IndexRuns.{IsIndexRunFault};
 
 use crate::fault::Fault;
 use crate::index_in_memory::index_archives;
-use mairix_files::{NewFile, is_same_file, sources_of};
+use crate::output_file::{create_file, passing_name, settle_file};
+use crate::read_files::ReadFiles;
+use crate::stopped::Stopped;
+use mairix_files::sources_of;
 use mairix_options::Rc;
 use mbox_cutter::{Out, Source, ToWrite};
-use std::alloc::{AllocError, Global};
+use std::alloc::Global;
 use std::fs::File;
 use std::io::{BufWriter, Write};
 use std::rt::Files;
@@ -26,21 +29,10 @@ use std::rt::Files;
 /// How many bytes of an index are gathered before they are written.
 const GATHERED: usize = 65_536;
 
-/// Why an index run has made no index.
-#[derive(Drop)]
-pub(crate) enum NoIndex {
-    /// The file of this path can't be made.
-    CannotOpen(String),
-    Fault(Fault),
-}
+/// The exit status of a run that has made an index.
+const INDEXED: u8 = 0;
 
-impl From<AllocError> for NoIndex {
-    fn from(_: AllocError) -> Self {
-        NoIndex::Fault(Fault::Memory)
-    }
-}
-
-/// Indexes the archives that the rcfile of this path names, and puts the index under the name `database`.
+/// Indexes the archives that the rcfile of this path names, puts the index under the name `database`, and answers status 0.
 ///
 /// The index is written to `<database>.new`, which takes the name of the old index once it is whole, and its mode; else it is
 /// removed, and the old index is as it was. What a run that was killed left under `<database>.new` is lost.
@@ -49,57 +41,29 @@ impl From<AllocError> for NoIndex {
 ///
 /// `CannotOpen` with nothing touched where either name leads to an archive or to the rcfile, where another run is making an index
 /// of this name, and where the new file can't be made; else the fault of an archive, of the output or of memory.
-pub(crate) fn run_index<R: Files<File = File>>(
+pub(crate) fn run_index<'p, R: Files<File = File>>(
     rt: &R,
     alloc: Global,
-    rcfile: &str,
-    rc: &Rc,
-) -> Result<(), NoIndex>
+    rcfile: &'p str,
+    rc: &'p Rc,
+) -> Result<u8, Stopped>
     requires { All IsPath rc.now.paths }
 {
-    let paths = rc.paths.as_slice();
-    let database = rc.database.as_str();
-    let mut passing = String::from_str(alloc, database)?;
-    passing.push_str(".new")?;
-    for name in [database, passing.as_str()] {
-        if is_read(rt, alloc, name, rcfile, paths)? {
-            return Err(NoIndex::CannotOpen(String::from_str(alloc, name)?));
-        }
-    }
-    let Ok(new) = NewFile::create(rt, passing.as_str(), database) else {
-        return Err(NoIndex::CannotOpen(passing));
+    let archives = rc.paths.as_slice();
+    let name = rc.database.as_str();
+    let read = ReadFiles {
+        rcfile,
+        archives,
+        database: None,
     };
-    if let Err(fault) = index_into(rt, alloc, paths, new.file()) {
-        new.discard();
-        return Err(NoIndex::Fault(fault));
-    }
-    match new.take_name() {
-        Ok(()) => Ok(()),
-        Err(_) => Err(NoIndex::Fault(Fault::Out)),
-    }
+    let passing = passing_name(alloc, name)?;
+    let new = create_file(rt, alloc, passing.as_str(), name, &read)?;
+    let indexed = index_into(rt, alloc, archives, new.file());
+    Ok(settle_file(new, indexed)?)
 }
 
-/// Whether a name leads to a file that the run reads.
-fn is_read<R: Files>(
-    rt: &R,
-    alloc: Global,
-    name: &str,
-    rcfile: &str,
-    paths: &[String],
-) -> Result<bool, AllocError> {
-    if is_same_file(rt, alloc, name, rcfile)? {
-        return Ok(true);
-    }
-    for path in paths {
-        if is_same_file(rt, alloc, name, path.as_str())? {
-            return Ok(true);
-        }
-    }
-    Ok(false)
-}
-
-/// Indexes the archives from their files, one open at a time, into a file.
-fn index_into<R: Files>(rt: &R, alloc: Global, paths: &[String], file: &File) -> Result<(), Fault>
+/// Indexes the archives from their files, one open at a time, into a file, and answers the status.
+fn index_into<R: Files>(rt: &R, alloc: Global, paths: &[String], file: &File) -> Result<u8, Fault>
     requires { All IsPath (map string_bytes paths.now) }
 {
     let mut sources = sources_of(rt, alloc, paths)?;
@@ -110,7 +74,7 @@ fn index_into<R: Files>(rt: &R, alloc: Global, paths: &[String], file: &File) ->
     if writer.flush().is_err() {
         return Err(Fault::Out);
     }
-    Ok(())
+    Ok(INDEXED)
 }
 
 /// Indexes the archives from their sources, and writes the index file.

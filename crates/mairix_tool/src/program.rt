@@ -1,28 +1,29 @@
 //! The program: files in, standard output, standard error and an exit status out.
-ghost use Rattle.std.specs.Prelude.{◌≡◌, Ok};
-ghost use Rattle.mairix_options.specs.Rcfile.{rc_of};
-
 use crate::explanation::fault_text;
 use crate::fault::Fault;
-use crate::index_run::{NoIndex, run_index};
-use crate::once::once_run;
+use crate::index_run::run_index;
+use crate::search::{Search, run_search};
+use crate::stopped::Stopped;
 use mail_dates::Moment;
-use mairix_files::{FileArchives, read_whole, sources_of};
-use mairix_options::{Plan, Rc, UsageFault, plan_of, read_rc, usage_text};
-use mbox_cutter::ToWrite;
+use mairix_files::read_whole;
+use mairix_options::{Plan, UsageFault, plan_of, read_rc, usage_text};
 use std::alloc::Global;
 use std::fs;
 use std::fs::File;
-use std::io::{ErrorKind, Write};
+use std::io::Write;
 use std::rt::Files;
 
 /// Runs the words after the program's name over the files that they name, and answers the exit status.
 ///
-/// Without a pattern and without `--once` the archives are indexed into the rcfile's `database`. Else an answer goes to `out`.
+/// Without a pattern and without `--once` the archives are indexed into the rcfile's `database`. Else they are searched: by the
+/// index in `database`, or with `--once` by one that is made in memory. An mbox goes to the file that words and rcfile name, in
+/// place of an older answer, unless `--stdout` is given; any other answer goes to `out`.
+///
 /// A fault goes to `err` as one line, `mairix: ` and its text; of words that the parser refuses the parser's own text, which
-/// for help and version goes to `out`. The status is 0 with messages or a new index, 1 without a message, 2 where words,
-/// rcfile or query are refused, 4 where a file can't be opened, read, made or renamed, the output failed or an archive is no
-/// mbox, and 5 with want of memory, too many messages or keys, or an archive that is too long.
+/// for help and version goes to `out`. The first file that can't be opened, read or made ends the run, before the query is looked at.
+/// The status is 0 with messages or a new index, 1 without a message, 2 where words, rcfile or query are refused, 3 where the index
+/// is refused or isn't that of the archives, 4 where a file can't be opened, read, made or renamed, the output failed or an archive
+/// is no mbox, and 5 with want of memory, too many messages or keys, or an archive that is too long.
 pub fn run_program<R: Files<File = File>, W: Write, E: Write>(
     rt: &R,
     alloc: Global,
@@ -31,94 +32,65 @@ pub fn run_program<R: Files<File = File>, W: Write, E: Write>(
     out: &mut W,
     err: &mut E,
 ) -> u8 {
-    match plan_of(alloc, words) {
-        Ok(plan) => run_files(rt, alloc, words, &plan, now, out, err),
-        Err(fault) => tell_usage(alloc, words, fault, out, err),
+    let plan = match plan_of(alloc, words) {
+        Ok(plan) => plan,
+        Err(fault) => return tell_usage(alloc, words, fault, out, err),
+    };
+    match run_plan(rt, alloc, words, &plan, now, out) {
+        Ok(status) => status,
+        Err(Stopped::CannotOpen(path)) => tell_unopened(path.as_str(), err),
+        Err(Stopped::Fault(fault)) => tell_fault(alloc, fault, err),
     }
 }
 
-fn run_files<R: Files<File = File>, W: Write, E: Write>(
+/// The status of a run that wasn't stopped.
+fn run_plan<R: Files<File = File>, W: Write>(
     rt: &R,
     alloc: Global,
     words: &[String],
     plan: &Plan,
     now: Moment,
     out: &mut W,
-    err: &mut E,
-) -> u8 {
+) -> Result<u8, Stopped> {
     let rcfile = plan.rcfile.as_str();
-    let bytes = match read_whole(rt, alloc, rcfile) {
-        Ok(bytes) => bytes,
-        Err(error) if error.kind() == ErrorKind::OutOfMemory => {
-            return tell_fault(alloc, Fault::Memory, err);
-        }
-        Err(_) => return tell_unopened(rcfile, err),
-    };
-    let rc = match read_rc(alloc, &bytes) {
-        Ok(rc) => rc,
-        Err(fault) => return tell_fault(alloc, Fault::from(fault), err),
-    };
-    if let Some(path) = first_unopened(rt, rc.paths.as_slice()) {
-        return tell_unopened(path, err);
-    }
+    let text = bytes_of(rt, alloc, rcfile)?;
+    let rc = read_rc(alloc, &text)?;
+    open_each(rt, alloc, rc.paths.as_slice())?;
     if plan.patterns.as_slice().is_empty() && !plan.once {
-        return index_status(alloc, run_index(rt, alloc, rcfile, &rc), err);
+        return run_index(rt, alloc, rcfile, &rc);
     }
-    run_archives(rt, alloc, words, &bytes, &rc, now, out, err)
+    let index = if plan.once {
+        None
+    } else {
+        Some(bytes_of(rt, alloc, rc.database.as_str())?)
+    };
+    let index = index.as_deref();
+    let search = Search {
+        words,
+        text: &text,
+        rc: &rc,
+        index,
+        now,
+    };
+    run_search(rt, alloc, plan, &search, out)
+}
+
+/// The bytes of the file of this path.
+fn bytes_of<R: Files<File = File>>(rt: &R, alloc: Global, path: &str) -> Result<Vec<u8>, Stopped> {
+    match read_whole(rt, alloc, path) {
+        Ok(bytes) => Ok(bytes),
+        Err(error) => Err(Stopped::by(alloc, path, &error)),
+    }
 }
 
 /// Opens each archive in its order, which tells whether it can be opened, and closes it again.
-fn first_unopened<'p, R: Files>(rt: &R, paths: &'p [String]) -> Option<&'p str> {
+fn open_each<R: Files>(rt: &R, alloc: Global, paths: &[String]) -> Result<(), Stopped> {
     for path in paths {
-        if fs::open(rt, path.as_str()).is_err() {
-            return Some(path.as_str());
+        if let Err(error) = fs::open(rt, path.as_str()) {
+            return Err(Stopped::by(alloc, path.as_str(), &error));
         }
     }
-    None
-}
-
-/// The status of an index run, after a line on standard error where there is no index.
-fn index_status<E: Write>(alloc: Global, indexed: Result<(), NoIndex>, err: &mut E) -> u8 {
-    match indexed {
-        Ok(()) => 0,
-        Err(NoIndex::CannotOpen(path)) => tell_unopened(path.as_str(), err),
-        Err(NoIndex::Fault(fault)) => tell_fault(alloc, fault, err),
-    }
-}
-
-/// Searches the archives themselves.
-fn run_archives<R: Files<File = File>, W: Write, E: Write>(
-    rt: &R,
-    alloc: Global,
-    words: &[String],
-    bytes: &[u8],
-    rc: &Rc,
-    now: Moment,
-    out: &mut W,
-    err: &mut E,
-) -> u8
-    requires { rc_of bytes.now ≡ Ok rc.now }
-{
-    let Ok(mut sources) = sources_of(rt, alloc, rc.paths.as_slice()) else {
-        return tell_fault(alloc, Fault::Memory, err);
-    };
-    let Some(mut archives) = FileArchives::new(rt, rc.paths.as_slice()) else {
-        return tell_fault(alloc, Fault::TooMany, err);
-    };
-    let reply = once_run(
-        alloc,
-        words,
-        bytes,
-        &mut sources,
-        &mut archives,
-        now,
-        &mut ToWrite::new(&mut *out),
-    );
-    match reply.fault {
-        Some(fault) => tell_fault(alloc, fault, err),
-        None if out.flush().is_err() => tell_fault(alloc, Fault::Out, err),
-        None => reply.status,
-    }
+    Ok(())
 }
 
 /// Prints the parser's own text of words that it refuses, help and version on standard output.

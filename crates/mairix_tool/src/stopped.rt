@@ -1,0 +1,52 @@
+//! Why a run over files ended before it was done.
+
+use crate::fault::Fault;
+use mairix_options::RcFault;
+use std::alloc::{AllocError, Global};
+use std::io;
+use std::io::ErrorKind;
+
+/// Why a run over files ended before it was done.
+#[derive(Drop)]
+pub(crate) enum Stopped {
+    /// The file of this path can't be opened, read or made.
+    CannotOpen(String),
+    /// Anything else.
+    Fault(Fault),
+}
+
+impl Stopped {
+    /// The file of this path can't be opened, read or made.
+    pub(crate) fn at(alloc: Global, path: &str) -> Stopped {
+        match String::from_str(alloc, path) {
+            Ok(path) => Stopped::CannotOpen(path),
+            Err(_) => Stopped::Fault(Fault::Memory),
+        }
+    }
+
+    /// What the system refused of the file of this path, or want of memory.
+    pub(crate) fn by(alloc: Global, path: &str, error: &io::Error) -> Stopped {
+        match error.kind() {
+            ErrorKind::OutOfMemory => Stopped::Fault(Fault::Memory),
+            _ => Stopped::at(alloc, path),
+        }
+    }
+}
+
+impl From<AllocError> for Stopped {
+    fn from(_: AllocError) -> Self {
+        Stopped::Fault(Fault::Memory)
+    }
+}
+
+impl From<RcFault> for Stopped {
+    fn from(fault: RcFault) -> Self {
+        Stopped::Fault(Fault::from(fault))
+    }
+}
+
+impl From<Fault> for Stopped {
+    fn from(fault: Fault) -> Self {
+        Stopped::Fault(fault)
+    }
+}
