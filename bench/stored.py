@@ -1,0 +1,102 @@
+#!/usr/bin/env python3
+"""Times searches of a stored index beside `sha256sum` of that index, `cat` of the answer, and C mairix, notmuch and mu where they are
+installed, over the same 10,000 messages in one run.
+
+    stored.py [PROGRAM]
+
+Prints the processor seconds (the least of the runs), the peak memory, and the ratio to what each line is measured by. Past runs are kept
+in bench/results/.
+"""
+import collections, os, re, shutil, subprocess, sys, tempfile, time
+
+HERE = os.path.dirname(os.path.abspath(__file__))
+RUNS = 15
+
+
+def measured(command, folder, environment=None):
+    """The least processor seconds and the most megabytes of some runs, and the bytes that went to standard output."""
+    env = dict(os.environ, **(environment or {}))
+    runs = []
+    for _ in range(RUNS):
+        told = subprocess.run(["./measure", "answer"] + command, cwd=folder, stdin=subprocess.DEVNULL, capture_output=True, check=True, env=env).stdout.split()
+        runs.append((float(told[0]), int(told[1]) / 1024))
+    return max(min(run[0] for run in runs), 5e-4), max(run[1] for run in runs), os.path.getsize(os.path.join(folder, "answer"))
+
+
+def frequent_word(path):
+    """The word of bodies that is in nearest to a third of the messages, and how many have it."""
+    counts, messages = collections.Counter(), 0
+    with open(path, "rb") as file:
+        for text in re.split(rb"\n\n(?=From )", file.read()):
+            messages += 1
+            counts.update(set(re.findall(rb"[a-z]+", text.partition(b"\n\n")[2])))
+    word = min(counts, key=lambda it: abs(counts[it] - messages / 3))
+    return word.decode(), counts[word]
+
+
+def make_maildir(path, folder):
+    """The messages as files, as notmuch and mu read them."""
+    for part in "cur", "new", "tmp":
+        os.makedirs(os.path.join(folder, "maildir", part))
+    with open(path, "rb") as file:
+        for number, text in enumerate(re.split(rb"\n\n(?=From )", file.read())):
+            with open(os.path.join(folder, "maildir", "cur", "%d:2,S" % number), "wb") as out:
+                out.write(text.partition(b"\n")[2] + b"\n")
+
+
+def peers(folder, word):
+    """A search of each peer that is installed, after it has indexed the mail: name, command, environment."""
+    if shutil.which("mairix"):
+        with open(os.path.join(folder, "c-rc"), "w") as out:
+            out.write("base=%s\nmbox=m.mbox\ndatabase=c.idx\nmfolder=c-hits\nmformat=mbox\n" % folder)
+        subprocess.run(["mairix", "-f", "c-rc"], cwd=folder, check=True, capture_output=True)
+        yield "C mairix, raw", ["mairix", "-f", "c-rc", "-r", "b:" + word], None
+        yield "C mairix, excerpts", ["mairix", "-f", "c-rc", "-x", "b:" + word], None
+        yield "C mairix, mbox", ["mairix", "-f", "c-rc", "b:" + word], None
+    if shutil.which("notmuch"):
+        make_maildir(os.path.join(folder, "m.mbox"), folder)
+        environment = {"NOTMUCH_CONFIG": os.path.join(folder, "notmuch"), "HOME": folder}
+        with open(environment["NOTMUCH_CONFIG"], "w") as out:
+            out.write("[database]\npath=%s/maildir\n[user]\nname=x\nprimary_email=a@x.org\n" % folder)
+        subprocess.run(["notmuch", "new"], cwd=folder, check=True, capture_output=True, env=dict(os.environ, **environment))
+        yield "notmuch, files", ["notmuch", "search", "--output=files", "body:" + word], environment
+    if shutil.which("mu") and os.path.isdir(os.path.join(folder, "maildir")):
+        environment = {"HOME": folder, "XDG_CACHE_HOME": folder}
+        for words in ["init", "--maildir=%s/maildir" % folder], ["index"]:
+            subprocess.run(["mu"] + words, cwd=folder, check=True, capture_output=True, env=dict(os.environ, **environment))
+        yield "mu, paths", ["mu", "find", "--fields=l", "body:" + word], environment
+
+
+def tell(name, told, base=None):
+    ratio = "" if base is None else "  %6.2f times %s" % (told[0] / base[1], base[0])
+    print("  %-24s %7.4f s %7.1f MB  %9d bytes%s" % (name, told[0], told[1], told[2], ratio), flush=True)
+    return told[0]
+
+
+def main(program):
+    print("%s, processor seconds (user and system) are the least of %d runs, peak memory the most" % (time.strftime("%Y-%m-%d"), RUNS))
+    print("load %.1f on %d processors" % (os.getloadavg()[0], os.cpu_count()))
+    with tempfile.TemporaryDirectory() as folder:
+        archive = os.path.join(folder, "m.mbox")
+        subprocess.run(["cc", "-O2", "-o", os.path.join(folder, "measure"), os.path.join(HERE, "measure.c")], check=True)
+        subprocess.run([sys.executable, os.path.join(HERE, "make_mbox.py"), "--messages", "10000", archive], check=True)
+        word, count = frequent_word(archive)
+        with open(os.path.join(folder, "rc"), "w") as out:
+            out.write("mbox=m.mbox\ndatabase=m.idx\nmfolder=hits\n")
+        subprocess.run([program, "-f", "rc"], cwd=folder, check=True)
+        index = os.path.getsize(os.path.join(folder, "m.idx"))
+        print("10,000 messages, %.0f MB; index %.1f MB; the word is in %d" % (os.path.getsize(archive) / 1e6, index / 1e6, count))
+        digest = tell("sha256sum of the index", measured(["sha256sum", "m.idx"], folder))
+        search = [program, "-f", "rc"]
+        raw = tell("mairix, raw", measured(search + ["-r", "b:" + word], folder), ("sha256sum", digest))
+        told = dict((name, tell(name, measured(command, folder, environment))) for name, command, environment in peers(folder, word))
+        tell("mairix, excerpts", measured(search + ["-x", "b:" + word], folder), ("C mairix's", told["C mairix, excerpts"]) if told else None)
+        mbox = measured(search + ["b:" + word], folder)
+        copied = tell("cat of the answer", measured(["cat", "hits"], folder))
+        tell("mairix, mbox", mbox)
+        print("  the mbox answer beside the search itself: %.2f times cat" % ((mbox[0] - raw) / copied))
+        tell("mairix, part (b:%s=)" % word[0], measured(search + ["-r", "b:%s=" % word[0]], folder))
+
+
+if __name__ == "__main__":
+    main(os.path.abspath(sys.argv[1] if len(sys.argv) > 1 else os.path.join(HERE, "..", "crates", "mairix", "out", "mairix")))
