@@ -4,8 +4,14 @@
 #[cfg(test)]
 mod answers;
 #[cfg(test)]
+mod booleans;
+#[cfg(test)]
 mod cursors;
 #[cfg(test)]
-mod plain_answers;
+mod devices;
+#[cfg(test)]
+mod early_end;
+#[cfg(test)]
+mod fixture;
 #[cfg(test)]
 mod threads;

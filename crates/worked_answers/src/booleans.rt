@@ -1,0 +1,155 @@
+//! Boolean texts of many shapes, against a filter over facts that were written by hand.
+
+use crate::fixture::{NOW, indexed};
+use mail_answer::matches;
+use mail_dates::Moment;
+use mail_index::IndexView;
+use mail_query::{Query, read_boolean};
+use std::alloc::Global;
+use std::process::Abort;
+use std::test::Fail;
+
+/// Eight messages. The subject of every second is `a`, of every second pair the body is `b`, and the last four are from `c`.
+const EIGHT: &str =
+    "^Subject: x|From: x||x||^Subject: a|From: x||x||^Subject: x|From: x||b||^Subject: a|From: x||b||^Subject: x|From: c||x||^Subject: a|From: c||x||^Subject: x|From: c||b||^Subject: a|From: c||b||";
+
+/// A set of messages: the bit 2^n stands for the message n.
+type Messages = u8;
+
+const ALL: Messages = 0b1111_1111;
+
+const SUBJECT_A: Messages = 0b1010_1010;
+
+const BODY_B: Messages = 0b1100_1100;
+
+const FROM_C: Messages = 0b1111_0000;
+
+/// A text round another one, and what it chooses: the messages that the inner text chooses, or where it is `turned` the others,
+/// as far as they are `kept`, and those that are `added`.
+struct Shape {
+    front: &'static str,
+    behind: &'static str,
+    /// How many parentheses and negations wait for the inner text.
+    waits: u32,
+    turned: Messages,
+    kept: Messages,
+    added: Messages,
+}
+
+const SHAPES: [Shape; 6] = [
+    Shape {
+        front: "subject:a or body:b (",
+        behind: ")",
+        waits: 1,
+        turned: 0,
+        kept: BODY_B,
+        added: SUBJECT_A,
+    },
+    Shape {
+        front: "not (",
+        behind: ")",
+        waits: 2,
+        turned: ALL,
+        kept: ALL,
+        added: 0,
+    },
+    Shape {
+        front: "subject:a and (",
+        behind: ") or from:c",
+        waits: 1,
+        turned: 0,
+        kept: SUBJECT_A,
+        added: FROM_C,
+    },
+    Shape {
+        front: "NOT body:b Or (",
+        behind: ")",
+        waits: 1,
+        turned: 0,
+        kept: ALL,
+        added: !BODY_B,
+    },
+    Shape {
+        front: "(",
+        behind: ") and not subject:a",
+        waits: 1,
+        turned: 0,
+        kept: !SUBJECT_A,
+        added: 0,
+    },
+    Shape {
+        front: "body:x or from:c not (",
+        behind: ")",
+        waits: 2,
+        turned: ALL,
+        kept: FROM_C,
+        added: !BODY_B,
+    },
+];
+
+/// The text that is inmost, and what it chooses.
+const INMOST: (&str, Messages) = ("subject:a or from:c body:b", SUBJECT_A | FROM_C & BODY_B);
+
+/// The most parentheses and negations that may wait.
+const MOST_WAITS: u32 = 30;
+
+/// Whether a query chooses just these messages.
+fn chooses(
+    alloc: Global,
+    index: &IndexView<'_>,
+    query: &Query,
+    messages: Messages,
+) -> Result<bool, Fail> {
+    let chosen = matches(alloc, index, query)?;
+    let mut as_wanted = true;
+    for n in 0..8u32 {
+        let is_wanted = messages >> n & 1 == 1;
+        as_wanted = as_wanted && chosen.as_slice().contains(&n) == is_wanted;
+    }
+    Ok(as_wanted)
+}
+
+/// Puts shapes round the inmost text, from this one on and so many further each time, as deep as a reader takes. The depth of the
+/// last query is answered.
+fn check_nested(
+    rt: &impl Abort,
+    alloc: Global,
+    index: &IndexView<'_>,
+    first: usize,
+    step: usize,
+) -> Result<u32, Fail> {
+    let now = Moment::new(NOW).ok_or("a moment")?;
+    let (inmost, mut messages) = INMOST;
+    let mut text = String::from_str(alloc, inmost)?;
+    let mut waits = 0u32;
+    let mut depth = 0;
+    for round in 0..=MOST_WAITS as usize {
+        let query = read_boolean(alloc, text.as_str(), now)?;
+        assert!(rt; chooses(alloc, index, &query, messages)?, "{text}");
+        depth = query.depth();
+        let shape = &SHAPES[step.wrapping_mul(round).wrapping_add(first) % 6];
+        waits = shape.waits.saturating_add(waits);
+        if waits > MOST_WAITS {
+            break;
+        }
+        text = format!(in alloc; "{}{text}{}", shape.front, shape.behind)?;
+        messages = (messages ^ shape.turned) & shape.kept | shape.added;
+    }
+    Ok(depth)
+}
+
+#[test]
+fn boolean_texts_choose_as_a_filter_does(rt: HostRuntime) -> Result<(), Fail> {
+    let alloc = rt.alloc();
+    let file = indexed(&rt, alloc, &[("m.mbox", EIGHT)])?;
+    let index = IndexView::open(&file)?;
+    assert_eq!(rt; index.message_count(), 8);
+    let mut deepest = 0;
+    for first in 0..6usize {
+        for step in 0..6usize {
+            deepest = deepest.max(check_nested(&rt, alloc, &index, first, step)?);
+        }
+    }
+    assert_eq!(rt; deepest, 63);
+    Ok(())
+}
