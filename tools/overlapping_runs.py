@@ -1,19 +1,20 @@
 #!/usr/bin/env python3
-"""Lets two index runs of one index overlap: the first is stopped before each of its calls in turn, and meanwhile the second runs
-to its end, is stopped too, is killed or fails at one of its own.
+"""Lets two runs that make one file overlap, two index runs or two searches: the first is stopped before each of its calls in turn,
+and meanwhile the second runs to its end, is stopped too, is killed or fails at one of its own.
 
     overlapping_runs.py PROGRAM
 
-After each step the index is the one before it or the whole one of the run that took the step, and whole is what was laid out by
+After each step the file is the one before it or the whole one of the run that took the step, and whole is what was laid out by
 hand. The last line is `N passed, M failed`.
 """
 import hashlib, os, signal, struct, subprocess, sys, tempfile, time
+from dataclasses import dataclass
 
 SEPARATOR = b"From a@x.org Thu Jan  2 10:00:00 2003\n"
 HELLO = SEPARATOR + b"Subject: Hello\n\nhi\n\n"
-BUSY = b"mairix: cannot open m.idx.new\n"
 FIRST, SECOND = "m.mbox", "n.mbox"
 LINK = "a link to another file"
+COUNTED = "open create statx flock write fchmod fsync unlink rename "
 
 
 def hello_index(path):
@@ -37,6 +38,35 @@ def rcfile(archive):
     return b"mbox=%s\ndatabase=m.idx\nmfolder=hits\n" % archive.encode()
 
 
+@dataclass(frozen=True)
+class Made:
+    """A file that two runs want to make: its name, the words of such a run behind the rcfile's name, by the archive of a run what that
+    holds and what the whole file is, and how many pairs of calls in eleven are tried."""
+
+    what: str
+    name: str
+    words: tuple
+    mail: dict
+    whole: dict
+    pairs: int
+
+    @property
+    def passing(self):
+        """The name that it has until it is whole."""
+        return self.name + ".new"
+
+    @property
+    def busy(self):
+        """What a run tells that finds another one at work."""
+        return b"mairix: cannot open %s\n" % self.passing.encode()
+
+
+AN_INDEX = Made("index", "m.idx", (), {FIRST: HELLO, SECOND: HELLO}, {it: hello_index(it) for it in (FIRST, SECOND)}, 3)
+TWO_ANSWERS = {FIRST: HELLO, SECOND: HELLO + HELLO}
+# Both files are made by the same steps, so that fewer pairs of calls of a search tell enough.
+AN_ANSWER = Made("answer", "hits", ("--once", "s:hello"), TWO_ANSWERS, TWO_ANSWERS, 1)
+
+
 def read(path):
     if not os.path.exists(path):
         return None
@@ -45,15 +75,13 @@ def read(path):
 
 
 class Run:
-    """A run of the program that indexes one archive, until it ends or stops before a call."""
+    """A run of the program over one archive, until it ends or stops before a call."""
 
-    def __init__(self, room, archive, at=0, how="stop", again=0, log=None):
-        env = dict(os.environ, LD_PRELOAD=room.shim, STOP_AT=str(at), STOP_HOW=how, STOP_AGAIN=str(again))
-        if log:
-            env["CALLS_LOG"] = log
-        self.room, self.whole = room, hello_index(archive)
+    def __init__(self, room, archive, at=0, how="stop", again=0, log=""):
+        env = dict(os.environ, LD_PRELOAD=room.shim, COUNTED=COUNTED, AT=str(at), HOW=how, AGAIN=str(again), CALLS_LOG=log)
+        self.room, self.whole = room, room.made.whole[archive]
         self.process = subprocess.Popen(
-            [room.program, "-f", "rc." + archive],
+            [room.program, "-f", "rc." + archive, *room.made.words],
             cwd=room.folder,
             env=env,
             stdin=subprocess.DEVNULL,
@@ -61,18 +89,18 @@ class Run:
             stderr=subprocess.PIPE,
         )
         self.ended = False
-        self.wait(room.index())
+        self.wait(room.file())
 
     def go_on(self):
         """Lets a stopped run go on until it ends or stops again."""
         if not self.ended:
-            before = self.room.index()
+            before = self.room.file()
             self.process.send_signal(signal.SIGCONT)
             self.wait(before)
 
     def kill(self):
         if not self.ended:
-            before = self.room.index()
+            before = self.room.file()
             self.process.kill()
             self.wait(before)
 
@@ -94,30 +122,30 @@ class Run:
         self.judge(before)
 
     def judge(self, before):
-        """What the index has become by this step."""
-        index, bad = self.room.index(), self.room.bad
-        if index not in (before, self.whole):
-            bad.append("the index became %r" % index)
+        """What the file has become by this step."""
+        file, bad = self.room.file(), self.room.bad
+        if file not in (before, self.whole):
+            bad.append("the file became %r" % file)
         if not self.ended:
             return
-        if self.status == 0 and (index != self.whole or self.text):
-            bad.append("a run of status 0 left %r and told %r" % (index, self.text))
+        if self.status == 0 and (file != self.whole or self.text):
+            bad.append("a run of status 0 left %r and told %r" % (file, self.text))
         elif self.status not in (0, 4, -signal.SIGKILL):
             bad.append("status %d" % self.status)
-        elif self.status == 4 and (index != before or not self.text.startswith(b"mairix: ") or self.text.count(b"\n") != 1):
+        elif self.status == 4 and (file != before or not self.text.startswith(b"mairix: ") or self.text.count(b"\n") != 1):
             bad.append("a run of status 4 told %r" % self.text)
 
 
 class Room:
-    """A folder with two archives and an rcfile for each, both of one index, with what has the index's name, and its passing name:
-    nothing, the bytes of a file, or LINK."""
+    """A folder with two archives and an rcfile for each, both of one index and one answer, with what has the file's name, and its
+    passing name: nothing, the bytes of a file, or LINK."""
 
-    def __init__(self, program, shim, top, old, left):
-        self.program, self.shim, self.bad = program, shim, []
+    def __init__(self, program, shim, top, made, old, left):
+        self.program, self.shim, self.made, self.bad = program, shim, made, []
         self.folder = tempfile.mkdtemp(dir=top)
-        files = {FIRST: HELLO, SECOND: HELLO, "rc." + FIRST: rcfile(FIRST), "rc." + SECOND: rcfile(SECOND), "other": b"mine"}
-        self.at_end = sorted(list(files) + ["m.idx"])
-        for name, body in {**files, "m.idx": old, "m.idx.new": left}.items():
+        files = {**made.mail, "rc." + FIRST: rcfile(FIRST), "rc." + SECOND: rcfile(SECOND), "other": b"mine"}
+        self.at_end = sorted([*files, made.name])
+        for name, body in {**files, made.name: old, made.passing: left}.items():
             path = os.path.join(self.folder, name)
             if body == LINK:
                 os.symlink("other", path)
@@ -125,16 +153,16 @@ class Room:
                 with open(path, "wb") as f:
                     f.write(body)
 
-    def index(self):
-        return read(os.path.join(self.folder, "m.idx"))
+    def file(self):
+        return read(os.path.join(self.folder, self.made.name))
 
     def new(self):
         """Which file lies under the passing name, and what is in it."""
-        path = os.path.join(self.folder, "m.idx.new")
+        path = os.path.join(self.folder, self.made.passing)
         return (os.lstat(path).st_ino, read(path)) if os.path.lexists(path) else None
 
     def close(self):
-        """A later run makes its index whatever was left, and leaves nothing else."""
+        """A later run makes its file whatever was left, and leaves nothing else."""
         last = Run(self, FIRST)
         if last.status != 0:
             self.bad.append("a later run has status %d and tells %r" % (last.status, last.text))
@@ -147,7 +175,7 @@ def calls(room):
     """The calls of a run by their names."""
     log = os.path.join(room.folder, "log")
     Run(room, FIRST, log=log)
-    names = read(log).decode().split()
+    names = [line.split()[0] for line in read(log).decode().splitlines()]
     os.remove(log)
     return names
 
@@ -159,7 +187,7 @@ def second_runs(room, names, n):
     second = Run(room, SECOND)
     created, locked, renamed = (names.index(name) + 1 for name in ("create", "flock", "rename"))
     refused = locked < n <= renamed
-    if refused != (second.status == 4) or (refused and (second.text != BUSY or room.new() != new)):
+    if refused != (second.status == 4) or (refused and (second.text != room.made.busy or room.new() != new)):
         room.bad.append("the second has status %d and tells %r" % (second.status, second.text))
     first.go_on()
     if (first.status == 4) != (n == locked):
@@ -167,16 +195,16 @@ def second_runs(room, names, n):
 
 
 def second_clears_too(room, names, n):
-    """As before, where a killed run left a file: one of them makes the index."""
+    """As before, where a killed run left a file: one of them makes the file."""
     first = Run(room, FIRST, n)
     second = Run(room, SECOND)
     first.go_on()
     if first.status != 0 and second.status != 0:
-        room.bad.append("neither makes an index: %r, %r" % (first.text, second.text))
+        room.bad.append("neither makes the file: %r, %r" % (first.text, second.text))
 
 
 def first_is_killed(room, names, n):
-    """The first is killed before call n, and the second makes its index."""
+    """The first is killed before call n, and the second makes its file."""
     Run(room, FIRST, n, "kill")
     second = Run(room, SECOND)
     if second.status != 0:
@@ -184,9 +212,9 @@ def first_is_killed(room, names, n):
 
 
 def first_fails(room, names, n):
-    """Call n of the first fails, and it tells of it, but for calls whose failure says nothing; the second makes its index."""
+    """Call n of the first fails, and it tells of it, but for calls whose failure says nothing; the second makes its file."""
     first = Run(room, FIRST, n, "fail")
-    told = {"create": BUSY, "flock": BUSY, "write": b"mairix: output failed\n"}
+    told = {"create": room.made.busy, "flock": room.made.busy, "write": b"mairix: output failed\n"}
     told.update({name: told["write"] for name in ("fchmod", "fsync", "rename")})
     want = told.get(names[n - 1])
     if want and (first.status, first.text) != (4, want):
@@ -243,36 +271,41 @@ PAIRS = (both_wait, second_ends_first, second_is_killed, second_fails, waiting_i
 
 
 def order(names):
-    """All of an index is on the disk, with its mode, before it takes its name."""
+    """All of a file is on the disk, with its mode, before it takes its name."""
     last_write = len(names) - 1 - names[::-1].index("write")
     ok = last_write < names.index("fchmod") < names.index("fsync") < names.index("rename")
     return [] if ok else ["the calls were %s" % " ".join(names)]
+
+
+def overlaps_of(names, pairs):
+    """Each overlap of two runs with these calls: what the two do, what was left, and at which calls; of pairs of calls so many in eleven."""
+    # What was left adds calls: it is opened, locked, looked at by name and as it is open, and removed.
+    each = range(1, len(names) + 6)
+    lefts = (None, b"half", LINK)
+    yield from ((second_runs, None, (n,)) for n in each[: len(names)])
+    yield from ((first_fails, None, (n,)) for n in each[: len(names)])
+    yield from ((f, left, (n,)) for f in (second_clears_too, first_is_killed, first_waits_twice) for left in lefts for n in each)
+    # What was left is each in turn.
+    yield from ((f, lefts[(n + m) // 11 % 3], (n, m)) for f in PAIRS for n in each for m in each if (n + 3 * m) % 11 < pairs)
 
 
 def checks(program):
     """Each check, by its name: how many overlaps it tried, and what was wrong in them."""
     here = os.path.dirname(os.path.abspath(__file__))
     with tempfile.TemporaryDirectory() as top:
-        shim = os.path.join(top, "stop.so")
-        subprocess.run(["cc", "-O2", "-fPIC", "-shared", "-o", shim, os.path.join(here, "stop_at_call.c"), "-ldl"], check=True)
-        names = calls(Room(program, shim, top, None, None))
-        yield "order of the calls", 1, order(names)
-        # What was left adds calls: it is opened, locked, looked at by name and as it is open, and removed.
-        each = range(1, len(names) + 6)
-        lefts = (None, b"half", LINK)
-        overlaps = [(second_runs, None, (n,)) for n in each[: len(names)]]
-        overlaps += [(first_fails, None, (n,)) for n in each[: len(names)]]
-        overlaps += [(f, left, (n,)) for f in (second_clears_too, first_is_killed, first_waits_twice) for left in lefts for n in each]
-        # Of pairs of calls three in eleven, over what was left in turn.
-        overlaps += [(f, lefts[(n + m) // 11 % 3], (n, m)) for f in PAIRS for n in each for m in each if (n + 3 * m) % 11 < 3]
-        found = {}
-        for number, (f, left, at) in enumerate(overlaps):
-            room = Room(program, shim, top, b"old" if number % 2 else None, left)
-            f(room, names, *at)
-            tried, bad = found.setdefault(f, (0, []))
-            found[f] = tried + 1, bad + ["at %s: %s" % (at, text) for text in room.close()]
-        for f, (tried, bad) in found.items():
-            yield f.__name__.replace("_", " "), tried, bad
+        shim = os.path.join(top, "at_call.so")
+        subprocess.run(["cc", "-O2", "-fPIC", "-shared", "-o", shim, os.path.join(here, "at_call.c"), "-ldl"], check=True)
+        for made in (AN_INDEX, AN_ANSWER):
+            names = calls(Room(program, shim, top, made, None, None))
+            yield made.what + ": order of the calls", 1, order(names)
+            found = {}
+            for number, (f, left, at) in enumerate(overlaps_of(names, made.pairs)):
+                room = Room(program, shim, top, made, b"old" if number % 2 else None, left)
+                f(room, names, *at)
+                tried, bad = found.setdefault(f, (0, []))
+                found[f] = tried + 1, bad + ["at %s: %s" % (at, text) for text in room.close()]
+            for f, (tried, bad) in found.items():
+                yield made.what + ": " + f.__name__.replace("_", " "), tried, bad
 
 
 def main(program):

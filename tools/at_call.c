@@ -1,0 +1,170 @@
+/* Preloaded into the program, counts its calls on files, and at one of them does what it is told:
+
+   COUNTED    the names of the calls that count, a space behind each: open, create, statx, realpath, flock, read, read_at, write, print,
+              fchmod, fsync, unlink, rename. A print is a write to standard output; one to standard error never counts.
+   AT         the number of the call, counted from 1, or its name; `each` is every call
+   HOW        `stop` stops the process before the call until it is told to go on, `kill` ends it before the call; `fail` lets the
+              call fail with EIO, and `full` with ENOSPC; `short` lets a read or a write move one byte alone, and `none` a write
+              none at all
+   AGAIN      the number of another call at which it does so
+   CALLS_LOG  a file to which each call's name, and the last name of its path, are appended as a line before it */
+#define _GNU_SOURCE
+#include <dlfcn.h>
+#include <errno.h>
+#include <fcntl.h>
+#include <signal.h>
+#include <stdarg.h>
+#include <stdio.h>
+#include <stdlib.h>
+#include <string.h>
+#include <sys/stat.h>
+#include <sys/syscall.h>
+#include <unistd.h>
+
+static const char *counted, *wanted_name, *how;
+static long wanted, again, seen;
+static int log_fd = -1;
+
+static const char *told(const char *name)
+{
+    const char *value = getenv(name);
+    return value ? value : "";
+}
+
+__attribute__((constructor)) static void arm(void)
+{
+    counted = told("COUNTED");
+    wanted_name = told("AT");
+    wanted = atol(wanted_name);
+    again = atol(told("AGAIN"));
+    how = told("HOW");
+    if (*told("CALLS_LOG"))
+        log_fd = syscall(SYS_openat, AT_FDCWD, told("CALLS_LOG"), O_WRONLY | O_CREAT | O_APPEND | O_CLOEXEC, 0644);
+}
+
+static void tell(const char *name, const char *path)
+{
+    char line[512];
+    const char *folder = strrchr(path, '/');
+    int length = snprintf(line, sizeof line, "%s %.400s\n", name, folder ? folder + 1 : path);
+    if (log_fd >= 0 && syscall(SYS_write, log_fd, line, length) != length)
+        abort();
+}
+
+/* What is to be done with this call: what HOW says, or nothing. */
+static const char *met(const char *name, const char *path)
+{
+    char word[32];
+    snprintf(word, sizeof word, "%s ", name);
+    if (!strstr(counted, word))
+        return "";
+    tell(name, path);
+    ++seen;
+    if (seen != wanted && seen != again && strcmp(name, wanted_name) && strcmp("each", wanted_name))
+        return "";
+    if (!strcmp(how, "stop") || !strcmp(how, "kill"))
+        kill(getpid(), *how == 'k' ? SIGKILL : SIGSTOP);
+    return how;
+}
+
+/* Whether what is done with a call lets it fail. */
+static int fails(const char *done)
+{
+    int error = !strcmp(done, "fail") ? EIO : !strcmp(done, "full") ? ENOSPC : 0;
+    if (error)
+        errno = error;
+    return error;
+}
+
+/* How many bytes of so many are moved, by what is done with a call. */
+static size_t moved(const char *done, size_t count)
+{
+    return strcmp(done, "short") || !count ? count : 1;
+}
+
+/* The path of an open file. */
+static const char *path_of(int fd)
+{
+    static char path[4096];
+    char link[64];
+    if (fd == 1)
+        return "output";
+    snprintf(link, sizeof link, "/proc/self/fd/%d", fd);
+    long length = syscall(SYS_readlinkat, AT_FDCWD, link, path, sizeof path - 1);
+    path[length > 0 ? length : 0] = 0;
+    return path;
+}
+
+#define REAL(name) ((__typeof__(&name))dlsym(RTLD_NEXT, #name))
+
+#define OPENING(name)                                                                                                            \
+    int name(const char *path, int flags, ...)                                                                                   \
+    {                                                                                                                            \
+        va_list rest;                                                                                                            \
+        va_start(rest, flags);                                                                                                   \
+        mode_t mode = flags & O_CREAT ? va_arg(rest, mode_t) : 0;                                                                \
+        va_end(rest);                                                                                                            \
+        return fails(met(flags & O_CREAT ? "create" : "open", path)) ? -1 : REAL(name)(path, flags, mode);                       \
+    }
+
+OPENING(open)
+OPENING(open64)
+
+int statx(int dir, const char *restrict path, int flags, unsigned mask, struct statx *restrict found)
+{
+    return fails(met("statx", *path ? path : path_of(dir))) ? -1 : REAL(statx)(dir, path, flags, mask, found);
+}
+
+char *realpath(const char *restrict path, char *restrict found)
+{
+    return fails(met("realpath", path)) ? 0 : REAL(realpath)(path, found);
+}
+
+int flock(int fd, int operation)
+{
+    return fails(met("flock", path_of(fd))) ? -1 : REAL(flock)(fd, operation);
+}
+
+ssize_t read(int fd, void *bytes, size_t count)
+{
+    const char *done = met("read", path_of(fd));
+    return fails(done) ? -1 : REAL(read)(fd, bytes, moved(done, count));
+}
+
+#define READING_AT(name, place)                                                                                                  \
+    ssize_t name(int fd, void *bytes, size_t count, place offset)                                                                \
+    {                                                                                                                            \
+        const char *done = met("read_at", path_of(fd));                                                                          \
+        return fails(done) ? -1 : REAL(name)(fd, bytes, moved(done, count), offset);                                             \
+    }
+
+READING_AT(pread, off_t)
+READING_AT(pread64, off64_t)
+
+ssize_t write(int fd, const void *bytes, size_t count)
+{
+    const char *done = fd == 2 ? "" : met(fd == 1 ? "print" : "write", path_of(fd));
+    if (!strcmp(done, "none"))
+        return 0;
+    return fails(done) ? -1 : REAL(write)(fd, bytes, moved(done, count));
+}
+
+int fchmod(int fd, mode_t mode)
+{
+    return fails(met("fchmod", path_of(fd))) ? -1 : REAL(fchmod)(fd, mode);
+}
+
+int fsync(int fd)
+{
+    return fails(met("fsync", path_of(fd))) ? -1 : REAL(fsync)(fd);
+}
+
+int unlink(const char *path)
+{
+    return fails(met("unlink", path)) ? -1 : REAL(unlink)(path);
+}
+
+int rename(const char *old, const char *new)
+{
+    return fails(met("rename", old)) ? -1 : REAL(rename)(old, new);
+}
