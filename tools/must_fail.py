@@ -10,8 +10,11 @@ That it calls another that isn't proved is none, nor is a proof that only lacks 
 a round doesn't tell such a reason is tried alone, and so is one that changes more than the bodies of functions. Alone it
 fails where the crate is still proved, where its functions get no reason of their own, and where it doesn't reach the prover.
 
+A check looks at the edited functions and what they call, or at those that name an edited constant; where that tells no reason,
+one of the whole crate decides.
+
 Without --proved, each crate is checked first as it stands, and the copies go on from what that check kept. With it, FOLDER is a copy of
-the repository whose crates `rt ci` has just proved and left built: its texts are edited, and the first round proves the others anew.
+the repository whose crates `rt ci` has just proved and left built: its texts are edited, and what a check looks at is proved anew.
 
 Each edit has a line, each crate one with its seconds. The last line is `N passed, M failed`.
 """
@@ -39,6 +42,7 @@ PARTS = ("src", "specs", "proofs")
 ERROR = re.compile(r"(?:\./)?(\S+?):\d+:\d+: error\b")
 # What is said of a proof that names what an edit took away, and of what rests on such a proof.
 LOST_NAME = re.compile(r"has no field|is not in scope|has no `|was not admitted")
+CONSTANT = re.compile(r"^(?:pub(?:\([^)]*\))? )?(?:const|static) (\w+)", re.M)
 
 
 class Commands:
@@ -150,6 +154,15 @@ class Crate:
     def bodies(self, path):
         return bodies_of_file(self.name, path, self.text(path))
 
+    def functions_naming(self, edit):
+        """The functions that name a constant which the edit changes."""
+        names = set()
+        for change in edit.changes:
+            names.update([it[1] for it in CONSTANT.finditer(self.text(change.path)) if it.start() < change.end][-1:])
+        named = re.compile(rf"\b({'|'.join(names)})\b" if names else r"(?!)")
+        files = [str(it.relative_to(self.folder)) for it in (self.folder / "src").rglob("*.rt")]
+        return {name for path in files for start, end, name in self.bodies(path) if named.search(self.text(path), start, end)}
+
     def size(self):
         return sum(it.stat().st_size for part in PARTS for it in (self.folder / part).rglob("*") if it.is_file())
 
@@ -200,7 +213,7 @@ class Verdict:
         self.in_cycles = {}
         errors = [(found[1], line) for line in lines for found in [ERROR.match(line)] if found]
         unread = [line for path, line in errors if path.startswith(("src/", "specs/")) and LOST_NAME.search(line)]
-        refused = status == 1 and any(line.startswith("logic=not-proved") for line in lines)
+        refused = status == 1 and any(line.startswith(("logic=not-proved", "only=")) for line in lines)
         self.trouble = "" if self.is_proved or refused and not unread else next((line for _, line in errors), lines[-1])
         for line in lines:
             told = re.match(r"fn (\S+): (proved|no proof|not proved|could not tell)(?:: )?(.*)", line)
@@ -262,12 +275,13 @@ class Room:
             texts[change.path] = text[: change.start] + change.new + text[change.end :]
         return texts
 
-    def check(self, edits):
-        """What a check says of the crate with these edits."""
+    def check(self, edits, functions=()):
+        """What a check says of the crate with these edits: of these functions and those that they call, or of all where none is named."""
         texts = self.texts(edits)
         for path, text in texts.items():
             (self.folder / path).write_text(text, "utf-8")
-        verdict = Verdict(*Commands.run([*self.crate.command, "--incremental", str(self.kept)], self.folder))
+        only = [word for it in sorted(functions) for word in ("--only", it.partition("::")[2])]
+        verdict = Verdict(*Commands.run([*self.crate.command, "--incremental", str(self.kept), *only], self.folder))
         for path in texts:
             (self.folder / path).write_text(self.crate.text(path), "utf-8")
         self.checks += 1
@@ -289,23 +303,32 @@ def rounds_of(edits):
 
 def try_together(room, edits):
     """The edits of a round that are refused, each with the reason."""
-    verdict = room.check(edits)
+    verdict = room.check(edits, {it for edit in edits for it in edit.functions})
     if verdict.is_proved or verdict.trouble or verdict.refuses_others(edits):
         return {}
     reasons = {edit: verdict.of(edit, verdict.reasons) for edit in edits if edit.functions & verdict.reasons.keys()}
     return {edit: f"refused: {why}" for edit, why in reasons.items() if why}
 
 
+def why_alone(room, edit, functions=()):
+    """What a check of these functions, or of all, says of an edit, and for which reason it refuses it, if for one of its own."""
+    verdict = room.check([edit], functions)
+    reached = not verdict.is_proved and not verdict.trouble
+    return verdict, reached and (verdict.of(edit, verdict.reasons) or verdict.of(edit, verdict.in_cycles))
+
+
 def try_alone(room, edit):
     """Whether an edit is refused, and what to say of it."""
-    verdict = room.check([edit])
-    why = verdict.of(edit, verdict.reasons) or verdict.of(edit, verdict.in_cycles)
+    functions = edit.functions or room.crate.functions_naming(edit)
+    why = functions and why_alone(room, edit, functions)[1]
+    if not why:
+        verdict, why = why_alone(room, edit)
+    if why:
+        return True, f"refused (alone): {why}"
     if verdict.is_proved:
         return False, "NOT refused: the crate is still proved with it"
     if verdict.trouble:
         return False, f"NOT refused: it didn't reach the prover: {verdict.trouble}"
-    if why:
-        return True, f"refused (alone): {why}"
     if Edit.doubts_pass:
         return True, f"refused, in doubt: {next(iter(verdict.by_names.values()), 'no function of it has a reason of its own')}"
     by_names = verdict.of(edit, verdict.by_names)
