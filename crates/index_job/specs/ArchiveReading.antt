@@ -8,7 +8,7 @@ use Rattle.mbox_cutter.specs.Archives.{text, size, span_length}
 use Rattle.mbox_cutter.specs.declared.event.CutFault.{CutFault}
 use Rattle.mbox_cutter.specs.declared.scan.Phase.TheVariants.{Between, Inside}
 use Rattle.mbox_cutter.specs.Events.{Coming, told, told_rest}
-use Rattle.mbox_cutter.specs.Places.{Place, left}
+use Rattle.mbox_cutter.specs.Places.{CutterPlace, left}
 use Rattle.mime_text.specs.declared.message_text.MessageText.{MessageText}
 use Rattle.index_job.specs.declared.archive_index.Ended.{Ended}
 use Rattle.index_job.specs.declared.archive_index.Heading.{Heading}
@@ -42,24 +42,24 @@ coming_ahead all ms refusal = record { events = option_map_or (told all) ms []; 
 
 -- ---- where a cutter stands
 
-abbrev pub IsInside : ℕ → Place → Type 0
+abbrev pub IsInside : ℕ → CutterPlace → Type 0
 IsInside start place = (told_size : ℕ) × (place.phase ≡ Inside start told_size)
 
 -- it has gone on
-pub record GoesFurther (old new : Place) : Type 0 where
+pub record GoesFurther (old new : CutterPlace) : Type 0 where
   pub most : new.most ≡ old.most
   pub within : new.offset ≤ new.most
   pub later : old.offset ≤ new.offset
   pub nearer : left new < left old
 
 -- the message that began there has ended
-pub record HasEnded (start : ℕ) (ended : Ended) (new : Place) : Type 0 where
+pub record HasEnded (start : ℕ) (ended : Ended) (new : CutterPlace) : Type 0 where
   pub between : new.phase ≡ Between
   pub smaller : ended.size < ended.length
   pub offset : new.offset ≡ start + ended.length
 
 -- a message begins, or the archive has ended
-abbrev pub IsHeading : Heading → Place → Place → Type 0
+abbrev pub IsHeading : Heading → CutterPlace → CutterPlace → Type 0
 IsHeading (Message start) old new = (new.phase ≡ Inside start 0) × (old.offset ≤ start) × (start < new.offset) × (left new < left old)
 IsHeading (End length) old new = (old.offset ≤ length) × (length ≤ new.most)
 

@@ -10,6 +10,7 @@ mod RowsArchives
 mod RowsEvents
 mod RowsLines
 mod RowsSeparators
+pub mod ScanSteps
 pub mod Steps
 pub mod Tokens
 pub mod Windows

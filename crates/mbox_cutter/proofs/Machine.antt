@@ -6,7 +6,7 @@ use Rattle.mbox_cutter.specs.Lines.{is_empty}
 use Rattle.mbox_cutter.specs.Separators.{is_separator}
 use Rattle.mbox_cutter.specs.Archives.{marked, grouped, is_refused, total, messages_from, without_closing}
 use Rattle.mbox_cutter.specs.Events.{Start, Line, End, told}
-use Rattle.mbox_cutter.specs.Resume.{told_between, told_inside}
+use Rattle.mbox_cutter.specs.Inside.Resume.{told_between, told_inside}
 use Rattle.mbox_cutter.proofs.FirstLines.{not_true}
 
 -- a line that isn't empty is never the closing one

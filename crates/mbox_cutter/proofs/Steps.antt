@@ -11,8 +11,8 @@ use Rattle.mbox_cutter.specs.Separators.{is_separator}
 use Rattle.mbox_cutter.specs.Archives.{Message, messages, marked, grouped, is_refused, total, messages_from}
 use Rattle.mbox_cutter.specs.Events.{ArchiveEvent, Start, Line, End, Done, told, events, first_full_end, refusal_of, Coming, coming_of}
 use Rattle.mbox_cutter.specs.Coming.{Takes, Refuses}
-use Rattle.mbox_cutter.specs.Scan.{closes_at}
-use Rattle.mbox_cutter.specs.Resume.{told_between, told_inside, refusal_between, too_long, resume}
+use Rattle.mbox_cutter.specs.Inside.Scan.{closes_at}
+use Rattle.mbox_cutter.specs.Inside.Resume.{told_between, told_inside, refusal_between, too_long, resume}
 use Rattle.mbox_cutter.proofs.FirstLines.{first_length-le, first_length-positive}
 use Rattle.mbox_cutter.proofs.LineLists.{lines-cons, lines-nil}
 use Rattle.mbox_cutter.proofs.Machine.{between-empty, between-start, inside-line, inside-closing_last, inside-closing, inside-empty, inside-nil, separator-full}
@@ -210,12 +210,12 @@ accepted : (t : Bool) (all : ℕ) (ms : List Message) → cond t [] (told all ms
 accepted true all ms = refl
 accepted false all ms = refl
 
-begin-events : (b : List ℕ) → told_between (0 + length b) 0 (lines b) ≡ events b
+events-beginning : (b : List ℕ) → told_between (0 + length b) 0 (lines b) ≡ events b
 unfolding events messages
-begin-events b =
+events-beginning b =
     let groups = grouped (marked true (lines b)) in
     rw (zero-add, zero-add) (accepted (is_refused (marked true (lines b))) (length b) (messages_from (total groups.0) groups.1))
 
-pub begin-resume : (most : ℕ) (b : List ℕ) → resume Between 0 most b ≡ coming_of most b
+pub resume-beginning : (most : ℕ) (b : List ℕ) → resume Between 0 most b ≡ coming_of most b
 unfolding resume refusal_of
-begin-resume most b = same_coming (begin-events b) (simp zero-add)
+resume-beginning most b = same_coming (events-beginning b) (simp zero-add)

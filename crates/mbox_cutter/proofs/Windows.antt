@@ -1,12 +1,15 @@
 -- What a window's steps do to the bytes to come.
-use Rattle.std.proofs.Common.{◌≡◌, ℕ, ◌+◌, ◌-◌, ◌<◌, ◌≤◌, Ok, Err, Result, List, [], ◌++◌, Option, Some, None, IfSome, IfOk, length, take, drop, append-nil, refl, ap, sym, ◌∙◌, arith, append_assoc}
+use Rattle.std.proofs.Common.{◌≡◌, ℕ, ◌+◌, ◌-◌, ◌<◌, ◌≤◌, Bool, true, false, Ok, Err, Result, List, [], ◌++◌, Option, Some, None, IfSome, IfOk, length, take, drop, append-nil, refl, ap, sym, ◌∙◌, arith, append_assoc, subst}
+use Rattle.std.specs.Result.{IsErr, is_err}
 use Rattle.std.specs.Io.KnownBytes.{ReadConsumes, IsAtEnd, prepend_known}
 use Rattle.std.proofs.Math.Seq.{take-append-add}
 use Rattle.std.proofs.lemmas.List.{take-append-le, length-take-le, drop-append-le, length-append}
 use borrow.Rule.Slice.PartMut.{put_mid}
+use Rattle.contract_words.specs.Devices.{Counted}
 use Rattle.mbox_cutter.specs.declared.device.DeviceFault.{DeviceFault}
+use Rattle.mbox_cutter.specs.declared.device.Source.{Ghosts}
 use Rattle.mbox_cutter.specs.Lines.{line_end_of, first_length}
-use Rattle.mbox_cutter.specs.Ahead.{ReadsBehind, Extends}
+use Rattle.mbox_cutter.specs.Inside.Ahead.{Ahead, known, ReadsBehind, ReadsOn, Extends}
 use Rattle.mbox_cutter.proofs.FirstLines.{line_end-more, line_end-whole}
 use Rattle.mbox_cutter.proofs.Parts.{take_front}
 
@@ -66,3 +69,20 @@ length-Extends a b h = omega (arith, ap length h.1, length-append a h.0)
 
 pub take-Extends : (n : ℕ) (a b : List ℕ) → n ≤ length a → Extends a b → take n b ≡ take n a
 take-Extends n a b fits h = ap (take n) h.1 ∙ take-append-le n a h.0 fits
+
+join_known : (a b c : Option (List ℕ)) → IfSome a (λ x. b ≡ Some x) → IfSome b (λ x. c ≡ Some x) → IfSome a (λ x. c ≡ Some x)
+join_known None b c h k = tt
+join_known (Some x) b c h k = (subst (λ (o : Option (List ℕ)). IfSome o (λ y. c ≡ Some y) → c ≡ Some x) (sym h) (λ k. k)) k
+
+pub ReadsOn-failed : {S T E : Type 0} (g : Ghosts S) (r : Result T E) (old new : Ahead S) → IsErr r → ReadsOn g true old new → ReadsOn g (is_err r) old new
+ReadsOn-failed g (Ok x) old new h k = cc
+ReadsOn-failed g (Err e) old new h k = k
+
+-- one read after another
+pub ReadsOn-join : {S : Type 0} (g : Ghosts S) (failed : Bool) (a b c : Ahead S) → ReadsOn g false a b → ReadsOn g failed b c → ReadsOn g failed a c
+ReadsOn-join g failed a b c h k = record {
+  source = k.source ∙ h.source;
+  count = subst (λ (n : ℕ). Counted failed n (g.failures c.source.now)) h.count k.count;
+  bytes = join_known (known g.rest a) (known g.rest b) (known g.rest c) h.bytes k.bytes;
+  keeps = Extends-join a.unread b.unread c.unread h.keeps k.keeps;
+}

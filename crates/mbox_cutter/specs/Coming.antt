@@ -27,10 +27,14 @@ abbrev pub Answers : Option Coming → Result ArchiveEvent CutFault → Option C
 Answers old (Ok event) new = TakesKnown event old new
 Answers old (Err fault) new = IfSome old (Refuses fault)
 
+-- whether it is that the source failed
+abbrev pub is_device : CutFault → Bool
+is_device Device = true
+is_device NotAnMbox = false
+is_device ArchiveTooLong = false
+is_device Failed = false
+
 -- whether the source failed
 abbrev pub is_device_fault : {T : Type 0} → Result T CutFault → Bool
 is_device_fault (Ok x) = false
-is_device_fault (Err Device) = true
-is_device_fault (Err NotAnMbox) = false
-is_device_fault (Err ArchiveTooLong) = false
-is_device_fault (Err Failed) = false
+is_device_fault (Err fault) = is_device fault

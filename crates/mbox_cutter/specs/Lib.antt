@@ -1,14 +1,10 @@
-pub mod Ahead
 pub mod Archives
 pub mod Coming
-pub mod Cutter
 pub mod Events
+pub mod Inside
 pub mod Lines
 pub mod Memory
-pub mod MemoryFields
+pub mod NextEvent
 pub mod Places
 pub mod Progress
-pub mod Resume
-pub mod Scan
 pub mod Separators
-pub mod Window

@@ -8,7 +8,7 @@ use Rattle.mbox_cutter.specs.Events.{ArchiveEvent, Start, Line, End, Done}
 
 -- Between messages, inside one that started at an offset and of whose text so many bytes were told, at the end, or after a
 -- fault; how many bytes were taken; and how many are allowed.
-pub record Place : Type 0 where
+pub record CutterPlace : Type 0 where
   pub phase : Phase
   pub offset : ℕ
   pub most : ℕ
@@ -20,14 +20,14 @@ is_failed Ended = false
 is_failed Failed = true
 
 -- a message starts not before the bytes that were taken, and its separator is taken
-pub record Starts (at : ℕ) (line : List ℕ) (old new : Place) : Type 0 where
+pub record Starts (at : ℕ) (line : List ℕ) (old new : CutterPlace) : Type 0 where
   pub was : old.phase ≡ Between
   pub now : new.phase ≡ Inside at 0
   pub later : old.offset ≤ at
   pub offset : new.offset ≡ at + length line
 
 -- a line of the open message's text is taken
-pub record GoesOn (line : List ℕ) (old new : Place) : Type 0 where
+pub record GoesOn (line : List ℕ) (old new : CutterPlace) : Type 0 where
   pub start : ℕ
   pub size : ℕ
   pub was : old.phase ≡ Inside start size
@@ -35,7 +35,7 @@ pub record GoesOn (line : List ℕ) (old new : Place) : Type 0 where
   pub offset : new.offset ≡ old.offset + length line
 
 -- the open message ends with the bytes that are taken, and its size is what was told
-pub record Ends (span size : ℕ) (old new : Place) : Type 0 where
+pub record Ends (span size : ℕ) (old new : CutterPlace) : Type 0 where
   pub start : ℕ
   pub was : old.phase ≡ Inside start size
   pub now : new.phase ≡ Between
@@ -44,13 +44,13 @@ pub record Ends (span size : ℕ) (old new : Place) : Type 0 where
   pub offset : new.offset ≡ start + span
 
 -- the archive ends with the bytes that are taken
-pub record Finishes (all : ℕ) (old new : Place) : Type 0 where
+pub record Finishes (all : ℕ) (old new : CutterPlace) : Type 0 where
   pub was : (old.phase ≡ Between) ⊎ (old.phase ≡ Ended)
   pub now : new.phase ≡ Ended
   pub later : old.offset ≤ new.offset
   pub offset : new.offset ≡ all
 
-abbrev pub Moves : ArchiveEvent → Place → Place → Type 0
+abbrev pub Moves : ArchiveEvent → CutterPlace → CutterPlace → Type 0
 Moves (Start at line) old new = Starts at line old new
 Moves (Line line) old new = GoesOn line old new
 Moves (End span size) old new = Ends span size old new
@@ -71,11 +71,11 @@ open_events Ended = 0
 open_events Failed = 0
 
 -- at most so many events come yet, but the archive's end
-abbrev pub left : Place → ℕ
+abbrev pub left : CutterPlace → ℕ
 left p = 2 * (p.most - p.offset) + open_events p.phase
 
 -- fewer events are left, but at the archive's end
-abbrev pub Nears : ArchiveEvent → Place → Place → Type 0
+abbrev pub Nears : ArchiveEvent → CutterPlace → CutterPlace → Type 0
 Nears (Start at line) old new = left new < left old
 Nears (Line line) old new = left new < left old
 Nears (End span size) old new = left new < left old

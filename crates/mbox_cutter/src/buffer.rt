@@ -1,5 +1,6 @@
 //! The memory of a cutter.
 ghost use Rattle.std.specs.Prelude.{◌≡◌, vec_len};
+ghost use Rattle.mbox_cutter.specs.declared.buffer.TheConstants.{ROOM};
 
 use std::alloc::{AllocError, Global};
 
@@ -10,7 +11,7 @@ pub(crate) const ROOM: usize = 131_072;
 #[derive(Drop)]
 pub struct Buffer {
     pub(crate) bytes: Vec<u8>,
-    ghost whole: { vec_len bytes ≡ 131072 },
+    ghost whole: { vec_len bytes ≡ ROOM },
 }
 
 impl Buffer {

@@ -25,7 +25,7 @@ impl<'a, S: Source> Model for Cutter<'a, S> {
 
     ghost Value = { Progress S };
 
-    ghost use Rattle.mbox_cutter.specs.Cutter.{progress, IsCutter};
+    ghost use Rattle.mbox_cutter.specs.Inside.Cutter.{progress, IsCutter};
 
     ghost view = { progress S.rest };
 
@@ -33,12 +33,11 @@ impl<'a, S: Source> Model for Cutter<'a, S> {
 }
 
 impl<'a, S: Source> Cutter<'a, S> {
-    ghost use Rattle.mbox_cutter.specs.contracts.cutter.Cutter.{the_row};
     ghost use Rattle.mbox_cutter.specs.Events.{coming_of};
+    ghost use Rattle.mbox_cutter.specs.NextEvent.{TellsNext};
     ghost use Rattle.mbox_cutter.specs.Places.{is_failed, HasLine};
-    ghost use Rattle.mbox_cutter.specs.Scan.{told_at, told_result};
-    ghost use Rattle.mbox_cutter.specs.Progress.{Advances, LendsLine, Rests, shown, shown_result};
-    ghost use mir.Syntax.{named};
+    ghost use Rattle.mbox_cutter.specs.Progress.{Advances, LendsLine, shown};
+    ghost use Rattle.mbox_cutter.specs.Inside.Scan.{told_at, told_result};
 
     /// A cutter of what the source still gives, of which at most `most` bytes are allowed. It takes all memory that it needs.
     pub fn new(alloc: Global, source: &'a mut S, most: u64) -> Result<Self, AllocError>
@@ -102,13 +101,14 @@ impl<'a, S: Source> Cutter<'a, S> {
     /// Events come as Start, the lines of the text, End, for each message, and then Done, which every later call answers again.
     /// A fault ends them: Device, where the source failed in this call; NotAnMbox, where the first line that isn't empty starts no
     /// message and ends within `most` bytes; else ArchiveTooLong, where the archive has more. Every later call answers Failed.
+    /// What the cutter is once the event is let go says `after`, by `TellsNext`.
     pub fn next_event(&mut self) -> Result<Event<'_>, CutFault>
         requires count { is_failed self.old.place.phase ≡ false → S.failures self.old.source.now < 2 ^ 64 - 1 }
         ensures again { self.old.place.phase ≡ Phase.Failed → result ≡ Err CutFault.Failed }
         ensures once { result ≡ Err CutFault.Failed → self.old.place.phase ≡ Phase.Failed }
         ensures done { self.old.place.phase ≡ Phase.Ended → result ≡ Ok (Event.Done self.old.place.offset) }
         ensures line { IfOk result LendsLine }
-        ensures* after { sem 𝓛 (Rests (the_row (record { mir = named 1; lft = [] }) S.row S.Source) self.entry (Advances S.rest S.failures self.old (shown_result result))) }
+        ensures* after { sem 𝓛 (TellsNext S.row S.Source self.entry result) }
     {
         let step = self.step()?;
         Ok(self.event(step))
@@ -121,7 +121,7 @@ impl<'a, S: Source> Cutter<'a, S> {
         ensures once { result ≡ Err CutFault.Failed → self.old.place.phase ≡ Phase.Failed }
         ensures done { self.old.place.phase ≡ Phase.Ended → result ≡ Ok (Step.Done self.old.place.offset) }
         ensures line { IfOk result (λ step. HasLine (told_at step self.new.line)) }
-        ensures advances { Advances S.rest S.failures self.old (told_result self.new.line result) self.new }
+        ensures advances { Advances S.Source self.old (told_result self.new.line result) self.new }
     {
         if let Phase::Failed = self.scan.phase {
             return Err(CutFault::Failed);
@@ -139,7 +139,7 @@ impl<'a, S: Source> Cutter<'a, S> {
     fn event(&self, step: Step) -> Event<'_>
         ensures { shown result ≡ told_at step self.now.line }
     {
-        let line = self.scan.window.line();
+        let line = self.scan.window.taken_line();
         match step {
             Step::Start { offset } => Event::Start { offset, line },
             Step::Line => Event::Line(line),

@@ -23,7 +23,7 @@ impl Model for MemorySource {
 
     ghost Value = { Giving };
 
-    ghost use Rattle.mbox_cutter.specs.MemoryFields.{giving, IsGiving};
+    ghost use Rattle.mbox_cutter.specs.Inside.MemoryFields.{giving, IsGiving};
 
     ghost view = { giving };
 
@@ -98,7 +98,7 @@ impl Model for MemoryOut {
 
     ghost Value = { Taking };
 
-    ghost use Rattle.mbox_cutter.specs.MemoryFields.{taking};
+    ghost use Rattle.mbox_cutter.specs.Inside.MemoryFields.{taking};
 
     ghost view = { taking };
 }

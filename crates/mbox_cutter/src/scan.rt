@@ -1,5 +1,5 @@
 //! The place in an archive, and the steps from it.
-ghost use Rattle.std.specs.Prelude.{◌≡◌, Some, Ok, false, ◌+◌, ◌-◌, ◌^◌, ◌<◌, ◌≤◌, length, take, drop, IfOk, IfErr, IfSome};
+ghost use Rattle.std.specs.Prelude.{◌≡◌, Ok, false, ◌+◌, ◌-◌, ◌^◌, ◌<◌, ◌≤◌, length, IfOk, IfErr, IfSome};
 
 use crate::device::{DeviceFault, Source};
 use crate::event::CutFault;
@@ -46,30 +46,18 @@ pub(crate) struct Scan<'a, S: Source> {
 }
 
 impl<'a, S: Source> Scan<'a, S> {
-    ghost use Rattle.std.specs.Io.KnownBytes.{IsAtEnd};
-    ghost use Rattle.contract_words.specs.Devices.{Counted};
-    ghost use Rattle.mbox_cutter.specs.Ahead.{known, Extends};
-    ghost use Rattle.mbox_cutter.specs.Lines.{first_length, IsLine};
     ghost use Rattle.mbox_cutter.specs.Coming.{is_device_fault};
-    ghost use Rattle.mbox_cutter.specs.Places.{is_failed, HasLine, Moves, Nears, ReadsAll};
-    ghost use Rattle.mbox_cutter.specs.Scan.{closes_at, place, told_at, FailsFirst, HasEnded, IsFresh, IsScan, StepsTo};
+    ghost use Rattle.mbox_cutter.specs.Places.{is_failed};
+    ghost use Rattle.mbox_cutter.specs.Inside.Ahead.{known, ReadsOn};
+    ghost use Rattle.mbox_cutter.specs.Inside.Scan.{closes_at, place_of, FindsLine, IsScan, Passes, Steps};
 
-    /// The length of the first line, 0 at the end.
-    fn line(&mut self) -> Result<usize, CutFault>
+    /// The length of the first line, 0 at the end; or that the source failed, or that the line ends behind the limit.
+    fn line_length(&mut self) -> Result<usize, CutFault>
         requires place { self.old.offset ≤ self.old.most }
         requires count { S.failures self.old.window.source.now < 2 ^ 64 - 1 }
-        ensures source { self.new.window.source.ghost_name ≡ self.old.window.source.ghost_name }
-        ensures count { Counted (is_device_fault result) (S.failures self.old.window.source.now) (S.failures self.new.window.source.now) }
-        ensures place { place self.new ≡ place self.old }
-        ensures known { IfSome (known S.rest self.old.window) (λ bytes. known S.rest self.new.window ≡ Some bytes) }
-        ensures first { IfOk result (λ n. IfSome (known S.rest self.old.window) (λ bytes. n ≡ first_length bytes)) }
-        ensures within { IfOk result (λ n. n ≤ length self.new.window.unread) }
-        ensures line { IfOk result (λ n. 0 < n → IsLine (take n self.new.window.unread)) }
-        ensures fits { IfOk result (λ n. self.old.offset + n ≤ self.old.most) }
-        ensures end { IfOk result (λ n. n ≡ 0 → IsAtEnd (S.rest self.new.window.source.now)) }
-        ensures err { IfErr result (FailsFirst self.old.offset self.old.most (known S.rest self.old.window)) }
+        ensures { FindsLine S.Source self.old result self.new }
     {
-        let n = self.window.line_after(0)?;
+        let n = self.window.line_length_after(0)?;
         if n as u64 > self.most - self.offset {
             return Err(CutFault::ArchiveTooLong);
         }
@@ -79,23 +67,12 @@ impl<'a, S: Source> Scan<'a, S> {
     /// A step from between two messages, or before the first.
     fn start(&mut self) -> Result<Step, CutFault>
         requires phase { self.old.phase ≡ Phase.Between }
-        requires scan { IsScan self.old }
+        requires scan { IsScan S.rest self.old }
         requires count { S.failures self.old.window.source.now < 2 ^ 64 - 1 }
-        ensures source { self.new.window.source.ghost_name ≡ self.old.window.source.ghost_name }
-        ensures count { Counted (is_device_fault result) (S.failures self.old.window.source.now) (S.failures self.new.window.source.now) }
-        ensures scan { IsScan self.new }
-        ensures most { self.new.most ≡ self.old.most }
-        ensures step { StepsTo S.rest self.old result self.new }
-        ensures moves { IfOk result (λ step. Moves (told_at step self.new.window.line) (place self.old) (place self.new)) }
-        ensures line { IfOk result (λ step. HasLine (told_at step self.new.window.line)) }
-        ensures nears { IfOk result (λ step. Nears (told_at step self.new.window.line) (place self.old) (place self.new)) }
-        ensures live { IfOk result (λ _. is_failed self.new.phase ≡ false) }
-        ensures fresh { IfErr result IsFresh }
-        ensures end { HasEnded S.rest self.old → HasEnded S.rest self.new }
-        ensures ends { HasEnded S.rest self.old → IfOk result (λ step. ReadsAll (told_at step self.new.window.line) (S.rest self.new.window.source.now)) }
+        ensures { Steps S.Source self.old result self.new }
     {
         'empties: loop {
-            let n = match self.line() {
+            let n = match self.line_length() {
                 Ok(n) => n,
                 Err(fault) => return Err(fault),
             };
@@ -125,22 +102,11 @@ impl<'a, S: Source> Scan<'a, S> {
     /// A step from inside the message that started at `start`, with `size` bytes of its text told.
     fn go_on(&mut self, start: u64, size: u64) -> Result<Step, CutFault>
         requires phase { self.old.phase ≡ Phase.Inside start size }
-        requires scan { IsScan self.old }
+        requires scan { IsScan S.rest self.old }
         requires count { S.failures self.old.window.source.now < 2 ^ 64 - 1 }
-        ensures source { self.new.window.source.ghost_name ≡ self.old.window.source.ghost_name }
-        ensures count { Counted (is_device_fault result) (S.failures self.old.window.source.now) (S.failures self.new.window.source.now) }
-        ensures scan { IsScan self.new }
-        ensures most { self.new.most ≡ self.old.most }
-        ensures step { StepsTo S.rest self.old result self.new }
-        ensures moves { IfOk result (λ step. Moves (told_at step self.new.window.line) (place self.old) (place self.new)) }
-        ensures line { IfOk result (λ step. HasLine (told_at step self.new.window.line)) }
-        ensures nears { IfOk result (λ step. Nears (told_at step self.new.window.line) (place self.old) (place self.new)) }
-        ensures live { IfOk result (λ _. is_failed self.new.phase ≡ false) }
-        ensures fresh { IfErr result IsFresh }
-        ensures end { HasEnded S.rest self.old → HasEnded S.rest self.new }
-        ensures ends { HasEnded S.rest self.old → IfOk result (λ step. ReadsAll (told_at step self.new.window.line) (S.rest self.new.window.source.now)) }
+        ensures { Steps S.Source self.old result self.new }
     {
-        let n = match self.line() {
+        let n = match self.line_length() {
             Ok(n) => n,
             Err(fault) => return Err(fault),
         };
@@ -177,15 +143,12 @@ impl<'a, S: Source> Scan<'a, S> {
         requires near { n ≤ 2 }
         requires within { n ≤ length self.old.window.unread }
         requires count { S.failures self.old.window.source.now < 2 ^ 64 - 1 }
-        ensures source { self.new.window.source.ghost_name ≡ self.old.window.source.ghost_name }
-        ensures count { Counted (is_device_fault result) (S.failures self.old.window.source.now) (S.failures self.new.window.source.now) }
-        ensures place { place self.new ≡ place self.old }
-        ensures known { IfSome (known S.rest self.old.window) (λ bytes. known S.rest self.new.window ≡ Some bytes) }
-        ensures keeps { Extends self.old.window.unread self.new.window.unread }
+        ensures place { place_of self.new ≡ place_of self.old }
+        ensures reads { ReadsOn S.Source (is_device_fault result) self.old.window self.new.window }
         ensures closes { IfOk result (λ is. IfSome (known S.rest self.old.window) (λ bytes. is ≡ closes_at n bytes)) }
         ensures err { IfErr result (λ fault. fault ≡ CutFault.Device) }
     {
-        let m = self.window.line_after(n)?;
+        let m = self.window.line_length_after(n)?;
         if m == 0 {
             return Ok(true);
         }
@@ -196,11 +159,7 @@ impl<'a, S: Source> Scan<'a, S> {
     fn pass(&mut self, n: usize, phase: Phase)
         requires within { n ≤ length self.old.window.unread }
         requires fits { self.old.offset + n ≤ self.old.most }
-        ensures place { place self.new ≡ record { phase = phase; offset = self.old.offset + n; most = self.old.most } }
-        ensures source { self.new.window.source ≡ self.old.window.source }
-        ensures line { self.new.window.line ≡ take n self.old.window.unread }
-        ensures known { IfSome (known S.rest self.old.window) (λ bytes. known S.rest self.new.window ≡ Some (drop n bytes)) }
-        ensures known_line { IfSome (known S.rest self.old.window) (λ bytes. self.new.window.line ≡ take n bytes) }
+        ensures { Passes n phase self.old self.new }
     {
         self.window.take(n);
         self.offset += n as u64;
@@ -210,21 +169,10 @@ impl<'a, S: Source> Scan<'a, S> {
     /// The next step, from any place.
     pub(crate) fn advance(&mut self) -> Result<Step, CutFault>
         requires live { is_failed self.old.phase ≡ false }
-        requires scan { IsScan self.old }
+        requires scan { IsScan S.rest self.old }
         requires count { S.failures self.old.window.source.now < 2 ^ 64 - 1 }
-        ensures source { self.new.window.source.ghost_name ≡ self.old.window.source.ghost_name }
-        ensures count { Counted (is_device_fault result) (S.failures self.old.window.source.now) (S.failures self.new.window.source.now) }
-        ensures scan { IsScan self.new }
-        ensures most { self.new.most ≡ self.old.most }
-        ensures step { StepsTo S.rest self.old result self.new }
-        ensures moves { IfOk result (λ step. Moves (told_at step self.new.window.line) (place self.old) (place self.new)) }
-        ensures line { IfOk result (λ step. HasLine (told_at step self.new.window.line)) }
-        ensures nears { IfOk result (λ step. Nears (told_at step self.new.window.line) (place self.old) (place self.new)) }
+        ensures steps { Steps S.Source self.old result self.new }
         ensures done { self.old.phase ≡ Phase.Ended → result ≡ Ok (Step.Done self.old.offset) }
-        ensures live { IfOk result (λ _. is_failed self.new.phase ≡ false) }
-        ensures fresh { IfErr result IsFresh }
-        ensures end { HasEnded S.rest self.old → HasEnded S.rest self.new }
-        ensures ends { HasEnded S.rest self.old → IfOk result (λ step. ReadsAll (told_at step self.new.window.line) (S.rest self.new.window.source.now)) }
     {
         match self.phase {
             Phase::Between => self.start(),

@@ -1,11 +1,9 @@
 //! The part of a source that is held in a buffer.
-ghost use Rattle.std.specs.Prelude.{◌≡◌, ◌⊎◌, ℕ, List, Some, true, false, ◌+◌, ◌-◌, ◌^◌, ◌<◌, ◌≤◌, length, take, drop, slice_range, IfOk, OnOk, IfSome};
-ghost use Rattle.std.specs.Io.KnownBytes.{IsAtEnd};
+ghost use Rattle.std.specs.Prelude.{◌≡◌, ◌⊎◌, ℕ, List, true, false, ◌+◌, ◌-◌, ◌^◌, ◌<◌, ◌≤◌, is_err, length, take, drop, slice_range, IfOk, OnOk, IfSome};
 ghost use Rattle.contract_words.specs.Devices.{Counts};
-ghost use Rattle.mbox_cutter.specs.Ahead.{known, Extends, ReadsBehind};
-ghost use Rattle.mbox_cutter.specs.Lines.{first_length, IsLine};
+ghost use Rattle.mbox_cutter.specs.Inside.Ahead.{known, IsLineLength, ReadsBehind, ReadsOn, TakesLine};
 
-use crate::buffer::Buffer;
+use crate::buffer::{Buffer, ROOM};
 use crate::device::{DeviceFault, Source};
 use crate::line::line_end;
 use std::marker::Model;
@@ -24,11 +22,11 @@ pub(crate) struct Window<'a, S: Source> {
 }
 
 impl<'a, S: Source> Model for Window<'a, S> {
-    ghost use Rattle.mbox_cutter.specs.Ahead.{Ahead};
+    ghost use Rattle.mbox_cutter.specs.Inside.Ahead.{Ahead};
 
     ghost Value = { Ahead S };
 
-    ghost use Rattle.mbox_cutter.specs.Window.{ahead, IsWindow};
+    ghost use Rattle.mbox_cutter.specs.Inside.Window.{ahead, IsWindow};
 
     ghost view = { ahead };
 
@@ -63,7 +61,7 @@ impl<'a, S: Source> Window<'a, S> {
     /// The bytes that were read and not taken.
     fn unread(&self) -> &[u8]
         ensures unread { result.now ≡ self.now.unread }
-        ensures bound { length self.now.unread ≤ 131072 }
+        ensures bound { length self.now.unread ≤ ROOM }
     {
         &self.buffer[self.from..self.to]
     }
@@ -77,7 +75,7 @@ impl<'a, S: Source> Window<'a, S> {
     }
 
     /// The line that was taken last.
-    pub(crate) fn line(&self) -> &[u8]
+    pub(crate) fn taken_line(&self) -> &[u8]
         ensures { result.now ≡ self.now.line }
     {
         &self.buffer[self.from - self.taken..self.from]
@@ -86,20 +84,7 @@ impl<'a, S: Source> Window<'a, S> {
     /// Takes the next `n` bytes.
     pub(crate) fn take(&mut self, n: usize)
         requires { n ≤ length self.old.unread }
-        ensures source { self.new.source ≡ self.old.source }
-        ensures line { self.new.line ≡ take n self.old.unread }
-        ensures unread { self.new.unread ≡ drop n self.old.unread }
-        ensures known { IfSome (known S.rest self.old) (λ bytes. known S.rest self.new ≡ Some (drop n bytes)) }
-        ensures known_line { IfSome (known S.rest self.old) (λ bytes. self.new.line ≡ take n bytes) }
-    {
-        self.move_on(n);
-    }
-
-    fn move_on(&mut self, n: usize)
-        requires { n ≤ length self.old.unread }
-        ensures source { self.new.source ≡ self.old.source }
-        ensures line { self.new.line ≡ take n self.old.unread }
-        ensures unread { self.new.unread ≡ drop n self.old.unread }
+        ensures { TakesLine n self.old self.new }
     {
         self.taken = n;
         self.from += n;
@@ -116,18 +101,12 @@ impl<'a, S: Source> Window<'a, S> {
     }
 
     /// The length of the line after the next `skip` bytes, 0 at the end.
-    pub(crate) fn line_after(&mut self, skip: usize) -> Result<usize, DeviceFault>
+    pub(crate) fn line_length_after(&mut self, skip: usize) -> Result<usize, DeviceFault>
         requires near { skip ≤ 2 }
         requires within { skip ≤ length self.old.unread }
         requires count { S.failures self.old.source.now < 2 ^ 64 - 1 }
-        ensures source { self.new.source.ghost_name ≡ self.old.source.ghost_name }
-        ensures count { Counts result (S.failures self.old.source.now) (S.failures self.new.source.now) }
-        ensures known { IfSome (known S.rest self.old) (λ bytes. known S.rest self.new ≡ Some bytes) }
-        ensures keeps { Extends self.old.unread self.new.unread }
-        ensures within { IfOk result (λ n. skip + n ≤ length self.new.unread) }
-        ensures line { IfOk result (λ n. 0 < n → IsLine (take n (drop skip self.new.unread))) }
-        ensures first { IfOk result (λ n. IfSome (known S.rest self.old) (λ bytes. n ≡ first_length (drop skip bytes))) }
-        ensures end { IfOk result (λ n. n ≡ 0 → IsAtEnd (S.rest self.new.source.now)) }
+        ensures reads { ReadsOn S.Source (is_err result) self.old self.new }
+        ensures length { IfOk result (λ n. IsLineLength S.Source skip self.old self.new n) }
     {
         'more: loop {
             let rest = self.unread_after(skip);
@@ -142,15 +121,12 @@ impl<'a, S: Source> Window<'a, S> {
 
     /// Reads more. It has seen the end or has more bytes then.
     fn fill(&mut self) -> Result<(), DeviceFault>
-        requires room { length self.old.unread < 131072 }
+        requires room { length self.old.unread < ROOM }
         requires open { self.old.ended ≡ false }
         requires count { S.failures self.old.source.now < 2 ^ 64 - 1 }
-        ensures source { self.new.source.ghost_name ≡ self.old.source.ghost_name }
-        ensures count { Counts result (S.failures self.old.source.now) (S.failures self.new.source.now) }
-        ensures known { IfSome (known S.rest self.old) (λ bytes. known S.rest self.new ≡ Some bytes) }
-        ensures keeps { Extends self.old.unread self.new.unread }
+        ensures reads { ReadsOn S.Source (is_err result) self.old self.new }
         ensures grows { OnOk result ((self.new.ended ≡ true) ⊎ (length self.old.unread < length self.new.unread)) }
-        ensures bound { length self.new.unread ≤ 131072 }
+        ensures bound { length self.new.unread ≤ ROOM }
     {
         let held = self.to - self.from;
         move_to_front(&mut self.buffer, self.from, self.to);

@@ -1,5 +1,5 @@
-use Rattle.mbox_cutter.proofs.KnownSteps.{known-ended}
+use Rattle.mbox_cutter.proofs.ScanSteps.{ended-steps}
 use Rattle.mbox_cutter.proofs.scan.Scan.advance.Goals as goal
 
-pub returns-in-Ended-clause-step : goal.returns-in-Ended-clause-step
-returns-in-Ended-clause-step g c = known-ended _ c.args.self.now.offset c.args.self.now.most c.args.self.now.phase c.in-Ended.is
+pub returns-in-Ended-clause-steps : goal.returns-in-Ended-clause-steps
+returns-in-Ended-clause-steps g c = ended-steps g.S.Source c.args.self.now c.in-Ended.is c.requires.scan

@@ -1,6 +1,7 @@
 -- What still comes from any place of an archive on: what the steps of a cutter keep. At its beginning it is what comes of the
 -- whole archive.
 use Rattle.std.specs.Prelude.{ℕ, ◌+◌, ◌-◌, true, false, ◌&&◌, nat_lt, nat_le, if◌then◌else◌, List, [], ◌∷◌, ◌++◌, Option, None, Some, length, map}
+use Rattle.std.specs.Option.{option_map}
 use Rattle.mbox_cutter.specs.declared.event.CutFault.{CutFault}
 use Rattle.mbox_cutter.specs.declared.event.CutFault.TheVariants.{NotAnMbox, ArchiveTooLong}
 use Rattle.mbox_cutter.specs.declared.scan.Phase.{Phase}
@@ -8,6 +9,7 @@ use Rattle.mbox_cutter.specs.declared.scan.Phase.TheVariants.{Between, Inside, E
 use Rattle.mbox_cutter.specs.Lines.{lines}
 use Rattle.mbox_cutter.specs.Archives.{marked, grouped, is_refused, total, messages_from, without_closing}
 use Rattle.mbox_cutter.specs.Events.{ArchiveEvent, Line, End, Done, told, first_full_end, Coming}
+use Rattle.mbox_cutter.specs.Places.{CutterPlace}
 
 -- between two messages, or before the first, with these lines left of an archive of `all` bytes
 abbrev pub told_between : ℕ → ℕ → List (List ℕ) → List ArchiveEvent
@@ -34,3 +36,7 @@ resume Between at most bytes = record { events = told_between (at + length bytes
 resume (Inside start size) at most bytes = record { events = told_inside (at + length bytes) at start size (lines bytes); refusal = too_long most (at + length bytes) }
 resume Ended at most bytes = record { events = Done at ∷ []; refusal = None }
 resume Failed at most bytes = record { events = []; refusal = None }
+
+-- what still comes at this place, where the bytes left are known
+abbrev pub coming_at : CutterPlace → Option (List ℕ) → Option Coming
+coming_at p bytes = option_map (resume p.phase p.offset p.most) bytes

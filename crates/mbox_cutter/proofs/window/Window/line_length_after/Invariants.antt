@@ -1,0 +1,10 @@
+use Rattle.std.proofs.Common.{false, ◌+◌, ◌-◌, ◌*◌, length, cond}
+use Rattle.mbox_cutter.specs.declared.buffer.TheConstants.{ROOM}
+use Rattle.mbox_cutter.specs.Inside.Ahead.{ReadsOn}
+use Rattle.mbox_cutter.proofs.window.Window.line_length_after.Given as goal
+
+abbrev pub invariant-more : goal.invariant-more
+invariant-more g l = ReadsOn g.S.Source false l.fn.self l.self
+
+abbrev pub decreases-more : goal.decreases-more
+decreases-more g l = 2 * (ROOM - length l.self.unread) + cond l.self.ended 0 1

@@ -1,0 +1,7 @@
+-- What private functions say of one another, and views of fields: it serves proofs alone, and no public clause rests on it.
+pub mod Ahead
+pub mod Cutter
+pub mod MemoryFields
+pub mod Resume
+pub mod Scan
+pub mod Window

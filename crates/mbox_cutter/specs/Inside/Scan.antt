@@ -1,0 +1,117 @@
+-- A step of a cutter, as the scan sees it that decides it.
+use Rattle.std.specs.Prelude.{◌≡◌, ℕ, ◌+◌, ◌<◌, ◌≤◌, Bool, ◌||◌, nat_eq, take, drop, List, Option, Result, Ok, Err, IfOk, IfErr, IfSome}
+use Rattle.std.specs.Io.KnownBytes.{IsAtEnd}
+use Rattle.contract_words.specs.Devices.{Counted}
+use Rattle.mbox_cutter.specs.declared.event.CutFault.{CutFault}
+use Rattle.mbox_cutter.specs.declared.event.CutFault.TheVariants.{Device, NotAnMbox, ArchiveTooLong, Failed}
+use Rattle.mbox_cutter.specs.declared.device.Source.{Ghosts}
+use Rattle.mbox_cutter.specs.declared.scan.Phase.{Phase}
+use Rattle.mbox_cutter.specs.declared.scan.Phase.TheVariants as phase
+use Rattle.mbox_cutter.specs.declared.scan.Step.{Step}
+use Rattle.mbox_cutter.specs.declared.scan.Step.TheVariants as step
+use Rattle.mbox_cutter.specs.declared.scan.Scan.{Scan}
+use Rattle.mbox_cutter.specs.Lines.{first_length}
+use Rattle.mbox_cutter.specs.Separators.{is_separator}
+use Rattle.mbox_cutter.specs.Events.{ArchiveEvent, Start, Line, End, Done, Coming}
+use Rattle.mbox_cutter.specs.Coming.{Answers, is_device_fault}
+use Rattle.mbox_cutter.specs.Places.{CutterPlace, HasLine, Moves}
+use Rattle.mbox_cutter.specs.Inside.Ahead.{known, IsLineLength, ReadsOn, TakesLine}
+use Rattle.mbox_cutter.specs.Inside.Resume.{coming_at}
+
+-- an open message has begun, and its separator and what was told of its text were taken
+abbrev pub IsWithin : Phase → ℕ → Type 0
+IsWithin phase.Between at = Unit {0}
+IsWithin (phase.Inside start size) at = start + size < at
+IsWithin phase.Ended at = Unit {0}
+IsWithin phase.Failed at = Unit {0}
+
+-- where a cutter can stand
+pub record IsPlace (p : CutterPlace) : Type 0 where
+  -- no more was taken than is allowed
+  pub most : p.offset ≤ p.most
+  -- an open message lies within what was taken
+  pub phase : IsWithin p.phase p.offset
+
+-- the source has failed, or the first line ends behind the limit
+abbrev pub FailsFirst : ℕ → ℕ → Option (List ℕ) → CutFault → Type 0
+FailsFirst at most bytes Device = Unit {0}
+FailsFirst at most bytes NotAnMbox = ⊥
+FailsFirst at most bytes ArchiveTooLong = IfSome bytes (λ b. most < at + first_length b)
+FailsFirst at most bytes Failed = ⊥
+
+-- it isn't said that an earlier call has failed
+abbrev pub IsFresh : CutFault → Type 0
+IsFresh Device = Unit {0}
+IsFresh NotAnMbox = Unit {0}
+IsFresh ArchiveTooLong = Unit {0}
+IsFresh Failed = ⊥
+
+-- after n bytes a separator or the end comes
+abbrev pub closes_at : ℕ → List ℕ → Bool
+closes_at n b = let m = first_length (drop n b) in nat_eq m 0 || is_separator (take m (drop n b))
+
+-- what is told at a step, with the line that was taken last
+abbrev pub told_at : Step → List ℕ → ArchiveEvent
+told_at (step.Start at) line = Start at line
+told_at step.Line line = Line line
+told_at (step.End span size) line = End span size
+told_at (step.Done all) line = Done all
+
+abbrev pub told_result : List ℕ → Result Step CutFault → Result ArchiveEvent CutFault
+told_result line (Ok e) = Ok (told_at e line)
+told_result line (Err fault) = Err fault
+
+module _ {S : Type 0} where
+  abbrev pub place_of : Scan S → CutterPlace
+  place_of s = record { phase = s.phase; offset = s.offset; most = s.most }
+
+  -- what still comes, where it is known
+  abbrev pub coming : (S → Option (List ℕ)) → Scan S → Option Coming
+  coming rest s = coming_at (place_of s) (known rest s.window)
+
+  -- a scan as each step leaves it
+  pub record IsScan (rest : S → Option (List ℕ)) (s : Scan S) : Type 0 where
+    -- it stands where a cutter can stand
+    pub place : IsPlace (place_of s)
+    -- once the archive's end was told, all bytes have been read
+    pub end : s.phase ≡ phase.Ended → IsAtEnd (rest s.window.source.now)
+
+module _ {S : Type 0} (g : Ghosts S) where
+  -- how long the first line is, or why it can't be told; the scan stays where it is
+  pub record FindsLine (old : Scan S) (result : Result ℕ CutFault) (new : Scan S) : Type 0 where
+    -- nothing is taken
+    pub place : place_of new ≡ place_of old
+    -- more may be read
+    pub reads : ReadsOn g (is_device_fault result) old.window new.window
+    -- the length is that of the first line, and 0 at the end
+    pub first : IfOk result (λ n. IsLineLength g 0 old.window new.window n)
+    -- the line ends within the limit
+    pub fits : IfOk result (λ n. old.offset + n ≤ old.most)
+    -- it isn't told where the source fails, or the line ends behind the limit
+    pub fails : IfErr result (λ fault. FailsFirst old.offset old.most (known g.rest old.window) fault)
+
+  -- how a step changes a scan, with what it answers
+  pub record Steps (old : Scan S) (result : Result Step CutFault) (new : Scan S) : Type 0 where
+    -- the source is the same
+    pub source : new.window.source.ghost_name ≡ old.window.source.ghost_name
+    -- its count of failures rises by one where it failed, and else stays
+    pub count : Counted (is_device_fault result) (g.failures old.window.source.now) (g.failures new.window.source.now)
+    -- the scan goes on to be one
+    pub scan : IsScan g.rest new
+    -- the limit stays
+    pub most : new.most ≡ old.most
+    -- what is told is the first event to come, and a refusal is the archive's
+    pub answers : Answers (coming g.rest old) (told_result new.window.line result) (coming g.rest new)
+    -- the place moves as far as what is told
+    pub moves : IfOk result (λ step. Moves (told_at step new.window.line) (place_of old) (place_of new))
+    -- a line that is told is one
+    pub line : IfOk result (λ step. HasLine (told_at step new.window.line))
+    -- a fault is this step's
+    pub fresh : IfErr result IsFresh
+
+-- the next n bytes are taken, and this phase begins
+pub record Passes {S : Type 0} (n : ℕ) (phase : Phase) (old new : Scan S) : Type 0 where
+  -- the place is behind them
+  pub place : place_of new ≡ record { phase = phase; offset = old.offset + n; most = old.most }
+  -- they are the line that was taken last
+  pub taken : TakesLine n old.window new.window
