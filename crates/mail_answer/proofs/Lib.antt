@@ -12,6 +12,7 @@ pub mod CursorMembers
 pub mod CursorNumbers
 pub mod CursorTexts
 pub mod CursorGroups
+pub mod CursorPlaces
 pub mod CursorBegins
 mod RowsTableFacts
 pub mod ThreadLemmas

@@ -10,6 +10,7 @@ pub mod CursorScans
 pub mod CursorTexts
 pub mod CursorBegins
 pub mod CursorHeads
+pub mod CursorPlaces
 pub mod CursorNumbers
 pub mod NumbersToCome
 pub mod CursorWalks

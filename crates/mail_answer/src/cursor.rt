@@ -7,9 +7,12 @@ ghost use Rattle.mail_answer.specs.CursorNumbers.{numbers_from, AreWithin, Takes
 
 mod begin;
 mod head;
+mod hints;
 mod listed;
+mod queue;
 mod scanned;
 mod texts;
+mod waits;
 mod walk;
 
 use crate::cursor::begin::walk_of;

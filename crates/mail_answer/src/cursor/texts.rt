@@ -39,22 +39,22 @@ fn is_in(kinds: Kinds, kind: Kind) -> bool
     }
 }
 
-/// Adds the walk along a posting list.
+/// Adds a posting list.
 fn push_list<'a>(
-    members: &mut Vec<Walk<'a>>,
+    members: &mut Vec<Listed<'a>>,
     count: u32,
     postings: Postings<'a>,
 ) -> Result<(), AllocError>
     requires { AreNumbers count postings }
     ensures { IfOk result (λ _. Joins (λ n. is_among n postings.entry) (length postings.entry) members.old.items members.new.items) }
 {
-    members.push(Walk::listed(Listed::new(count, postings)))?;
+    members.push(Listed::new(count, postings))?;
     Ok(())
 }
 
-/// Adds the walks along the lists of those keys in which the text lies so.
+/// Adds the lists of those keys in which the text lies so.
 fn push_fitting<'a>(
-    members: &mut Vec<Walk<'a>>,
+    members: &mut Vec<Listed<'a>>,
     count: u32,
     mut keys: Keys<'a>,
     fit: Fit,
@@ -71,9 +71,9 @@ fn push_fitting<'a>(
     Ok(())
 }
 
-/// Adds the walks along the lists of the keys of this kind in which the text lies so.
+/// Adds the lists of the keys of this kind in which the text lies so.
 fn push_kind<'a>(
-    members: &mut Vec<Walk<'a>>,
+    members: &mut Vec<Listed<'a>>,
     index: &IndexView<'a>,
     kind: Kind,
     fit: Fit,
@@ -93,9 +93,9 @@ fn push_kind<'a>(
     }
 }
 
-/// Adds the walks along the lists of the keys of the kinds of the set in which the text lies so.
+/// Adds the lists of the keys of the kinds of the set in which the text lies so.
 fn push_kinds<'a>(
-    members: &mut Vec<Walk<'a>>,
+    members: &mut Vec<Listed<'a>>,
     index: &IndexView<'a>,
     kinds: Kinds,
     fit: Fit,
@@ -130,5 +130,5 @@ pub(crate) fn with_text<'a>(
 {
     let mut members = Vec::new(alloc);
     push_kinds(&mut members, index, kinds, fit, text.as_bytes(), steps)?;
-    Walk::united_in_groups(alloc, members)
+    Walk::along_some(alloc, index.message_count(), members)
 }

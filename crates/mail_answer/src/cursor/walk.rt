@@ -1,5 +1,5 @@
 //! The tree of walks.
-ghost use Rattle.std.specs.Prelude.{◌≡◌, ◌↔◌, ◌<◌, ℕ, IsTrue, IfOk, length};
+ghost use Rattle.std.specs.Prelude.{◌≡◌, ◌↔◌, ◌<◌, ℕ, true, IsTrue, IfOk, length};
 ghost use Rattle.std.specs.Vec.{vec_len};
 ghost use Rattle.mail_answer.specs.Marks.{truth_at};
 ghost use Rattle.mail_answer.specs.CursorAhead.{Drops, IsFirst, Reaches, Spends, lesser_of, common, united, others, left_in, levels};
@@ -7,6 +7,7 @@ ghost use Rattle.mail_answer.specs.CursorTexts.{some_has};
 
 use crate::cursor::head::{Head, is_from};
 use crate::cursor::listed::Listed;
+use crate::cursor::queue::Queue;
 use crate::cursor::scanned::Scanned;
 use mail_index::Steps;
 use std::alloc::{AllocError, Global};
@@ -14,6 +15,9 @@ use std::marker::Model;
 
 /// The most members of a walk through what comes in some of many.
 const MOST: usize = 4;
+
+/// A queue has at most so many places for each of its lists, since these take memory too.
+const MOST_PLACES: u32 = 32;
 
 /// A walk through the messages that satisfy a query. It remembers its first number, so it goes on in its members only where it
 /// has to.
@@ -30,6 +34,8 @@ pub(crate) struct Walk<'a> {
 enum Node<'a> {
     /// A posting list.
     Listed(Listed<'a>),
+    /// Very many posting lists. They are boxed, since most walks are single lists.
+    Queued(Box<Queue<'a>>),
     /// The records that are as asked. It is boxed, since it is large and most walks are lists.
     Scanned(Box<Scanned<'a>>),
     /// All messages that don't come in a walk.
@@ -79,6 +85,37 @@ impl<'a> Walk<'a> {
             node: Node::Listed(list),
             head: Head::Unasked,
         }
+    }
+
+    /// The walk through those of so many messages that come in some of these posting lists: by a queue, where there are enough lists for
+    /// its places, and else by a tree.
+    pub(crate) fn along_some(
+        alloc: Global,
+        count: u32,
+        lists: Vec<Listed<'a>>,
+    ) -> Result<Self, AllocError>
+        requires { (m : ℕ) → some_has m lists.items ≡ true → m < count }
+        ensures truths { IfOk result (λ w. (m : ℕ) → truth_at w.truths m ≡ some_has m lists.entry.items) }
+        ensures left { IfOk result (λ w. w.left ≡ left_in lists.entry.items) }
+    {
+        match u32::try_from(lists.len()) {
+            Ok(number) if lists.len() > MOST && number >= count / MOST_PLACES => {
+                Walk::queued(alloc, Queue::new(alloc, count, lists, number)?)
+            }
+            _ => Walk::united_in_groups(alloc, each_alone(alloc, lists)?),
+        }
+    }
+
+    /// The walk along the lists of a queue.
+    fn queued(alloc: Global, queue: Queue<'a>) -> Result<Self, AllocError>
+        ensures truths { IfOk result (λ w. w.truths ≡ queue.entry.truths) }
+        ensures left { IfOk result (λ w. w.left ≡ queue.entry.left) }
+    {
+        let queue = Box::new(alloc, queue)?;
+        Ok(Walk {
+            node: Node::Queued(queue),
+            head: Head::Unasked,
+        })
     }
 
     /// The walk along the records.
@@ -178,12 +215,25 @@ impl<'a> Node<'a> {
     {
         match self {
             Node::Listed(list) => list.least_from(n, steps),
+            Node::Queued(queue) => queue.least_from(n, steps),
             Node::Scanned(scan) => scan.least_from(n, steps),
             Node::Others(others) => least_other(others, n, steps),
             Node::Common(members) => least_common(members, n, steps),
             Node::United(members) => least_united(members, n, steps),
         }
     }
+}
+
+/// A walk along each of the lists.
+fn each_alone<'a>(alloc: Global, mut lists: Vec<Listed<'a>>) -> Result<Vec<Walk<'a>>, AllocError>
+    ensures each { IfOk result (λ v. (m : ℕ) → some_has m v.items ≡ some_has m lists.entry.items) }
+    ensures left { IfOk result (λ v. left_in v.items ≡ left_in lists.entry.items) }
+{
+    let mut walks = Vec::with_capacity(alloc, lists.len())?;
+    while let Some(list) = lists.pop() {
+        walks.push(Walk::listed(list))?;
+    }
+    Ok(walks)
 }
 
 /// The walks, so many at a time made one.

@@ -1,7 +1,6 @@
-use Rattle.std.proofs.Common.{◌∙◌}
 use Rattle.mail_answer.proofs.CursorTexts.{joins_list}
 use Rattle.mail_answer.proofs.cursor.texts.push_list.Goals as goal
 
 pub returns : goal.returns
 returns c =
-    joins_list c.args.count c.args.postings c.listed.result c.args.members.now.items c.push.new.self.items c.requires (c.listed.ensures.truths ∙ c.new.ensures.truths) (c.listed.ensures.left ∙ c.new.ensures.left) c.in_ok-push.ensures.items
+    joins_list c.args.count c.args.postings c.new.result c.args.members.now.items c.push.new.self.items c.requires c.new.ensures.truths c.new.ensures.left c.in_ok-push.ensures.items

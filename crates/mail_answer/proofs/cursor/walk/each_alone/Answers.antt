@@ -1,0 +1,13 @@
+use Rattle.std.proofs.Common.{◌∙◌}
+use Rattle.mail_answer.proofs.CursorPlaces.{alone_each, alone_left}
+use Rattle.mail_answer.proofs.cursor.walk.each_alone.Goals as goal
+
+pub loop-list-preserved : goal.loop-list-preserved
+loop-list-preserved c = record {
+  each = λ m.
+      alone_each m c.loop-list.walks.items c.push.new.self.items c.loop-list.lists.items c.pop.new.self.items c.in-Some.list c.listed.result c.in_ok-push.ensures.items c.in-Some.ensures.items c.listed.ensures.truths
+      ∙ c.loop-list.invariant.each m;
+  left =
+      alone_left c.loop-list.walks.items c.push.new.self.items c.loop-list.lists.items c.pop.new.self.items c.in-Some.list c.listed.result c.in_ok-push.ensures.items c.in-Some.ensures.items c.listed.ensures.left
+      ∙ c.loop-list.invariant.left;
+}

@@ -1,0 +1,14 @@
+use Rattle.std.proofs.Common.{◌≡◌, ◌||◌, ◌+◌, ℕ, length}
+use Rattle.mail_answer.specs.CursorAhead.{left_in}
+use Rattle.mail_answer.specs.CursorTexts.{some_has}
+use Rattle.mail_answer.proofs.cursor.walk.each_alone.Given as goal
+
+-- the walks so far, and the lists that have none yet
+abbrev pub invariant-loop-list : goal.invariant-loop-list
+invariant-loop-list l = record {
+  each : (m : ℕ) → (some_has m l.walks.items || some_has m l.lists.items) ≡ some_has m l.initial.lists.items;
+  left : left_in l.walks.items + left_in l.lists.items ≡ left_in l.initial.lists.items;
+}
+
+abbrev pub decreases-loop-list : goal.decreases-loop-list
+decreases-loop-list l = length l.lists.items
