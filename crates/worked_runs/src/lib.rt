@@ -4,8 +4,6 @@
 #[cfg(test)]
 mod checks;
 #[cfg(test)]
-mod command_lines;
-#[cfg(test)]
 mod fault_texts;
 #[cfg(test)]
 mod fixture;

@@ -4,7 +4,7 @@
 use crate::fixture::{RC, archive, archives, run, sources, words};
 use mail_index::IndexFault;
 use mail_query::{QueryFault, QueryFaultKind};
-use mairix_tool::{Fault, RcFault, Reply, UsageFault, fault_text, plan_of, read_rc};
+use mairix_tool::{Fault, RcFault, Reply, fault_text};
 use mbox_cutter::MemoryOut;
 use std::alloc::Global;
 use std::process::Abort;
@@ -93,30 +93,6 @@ fn sweep_run_of_two(rt: &impl Abort, alloc: Global) -> Option<()> {
 #[test]
 fn sweep_once_run_of_two_archives(rt: HostRuntime) {
     let _ = sweep_run_of_two(&rt, rt.alloc());
-}
-
-#[test]
-fn sweep_plan_of(rt: HostRuntime) {
-    let alloc = rt.alloc();
-    let Ok(words) = words(alloc, &["-rf", "rc", "--once", "s:one", "b:a"]) else {
-        return;
-    };
-    match plan_of(alloc, &words) {
-        Ok(plan) => {
-            assert_eq!(rt; plan.rcfile.as_str(), "rc");
-            assert!(rt; plan.raw && plan.once);
-            assert_eq!(rt; plan.patterns.as_slice().len(), 2);
-        }
-        Err(fault) => assert_eq!(rt; fault, UsageFault::OutOfMemory),
-    }
-}
-
-#[test]
-fn sweep_read_rc(rt: HostRuntime) {
-    match read_rc(rt.alloc(), b"mbox=a:b\nmbox=c\ndatabase=d\nmfolder=f\n") {
-        Ok(rc) => assert_eq!(rt; rc.paths.as_slice().len(), 3),
-        Err(fault) => assert_eq!(rt; fault, RcFault::OutOfMemory),
-    }
 }
 
 #[test]

@@ -1,0 +1,133 @@
+//! What the words of a command line say, and the parser's own texts.
+
+use mairix_options::{UsageFault, plan_of, usage_text};
+use std::alloc::{AllocError, Global};
+use std::test::Fail;
+
+const HELP: &str = "Index and search mbox archives
+
+Usage: mairix [OPTIONS] -f <RCFILE> [PATTERN]...
+
+Arguments:
+  [PATTERN]...  What to search for
+
+Options:
+  -f <RCFILE>    The file that names the archives and the index
+  -r             Print offsets, lengths and archives
+  -x             Print archives and the main header lines
+  -t             Answer with whole threads
+  -o <NAME>      The mbox to write, in place of the rcfile's mfolder
+      --stdout   Print the mbox, and write no file
+      --boolean  Read the patterns as one query of and, or, not and parentheses
+      --once     Index in memory, then search
+  -h, --help     Print help
+  -V, --version  Print version
+";
+
+/// Words, and what they plan: the rcfile, then each option, then the patterns. Accepted words have no text of the parser.
+const PLANS: [(&str, &str); 3] = [
+    ("-f rc -r --once s:hello", "rc raw once: s:hello"),
+    ("s:b -r b:a -f rc s:b -- -h --", "rc raw: s:b b:a s:b -h --"),
+    (
+        "-x -t -o hits --stdout --boolean -f=rc",
+        "rc excerpt threads hits stdout boolean:",
+    ),
+];
+
+/// Words that are refused, and how the parser's text begins.
+const REFUSALS: [(&str, UsageFault, &str); 7] = [
+    ("-h", UsageFault::Help, HELP),
+    ("--help", UsageFault::Help, HELP),
+    ("-V", UsageFault::Version, "mairix 0.1.0\n"),
+    ("--version", UsageFault::Version, "mairix 0.1.0\n"),
+    (
+        "-f rc -z",
+        UsageFault::Parse,
+        "error: unexpected argument '-z' found\n",
+    ),
+    ("--once s:a", UsageFault::Parse, "error: "),
+    ("-f rc -r -x s:a", UsageFault::TwoFormats, ""),
+];
+
+/// The words of a command line.
+fn words(alloc: Global, line: &str) -> Result<Vec<String>, AllocError> {
+    let mut words = Vec::new(alloc);
+    for word in line.split(' ') {
+        words.push(String::from_str(alloc, word)?)?;
+    }
+    Ok(words)
+}
+
+/// What words plan, as a text.
+fn told_plan(alloc: Global, words: &[String]) -> Result<String, Fail> {
+    let plan = plan_of(alloc, words)?;
+    let mut told = String::from_str(alloc, plan.rcfile.as_str())?;
+    let mfolder = match &plan.mfolder {
+        Some(mfolder) => mfolder.as_str(),
+        None => "",
+    };
+    for (is_set, name) in [
+        (plan.raw, "raw"),
+        (plan.excerpt, "excerpt"),
+        (plan.threads, "threads"),
+        (plan.mfolder.is_some(), mfolder),
+        (plan.stdout, "stdout"),
+        (plan.boolean, "boolean"),
+        (plan.once, "once"),
+    ] {
+        if is_set {
+            told.push_str(" ")?;
+            told.push_str(name)?;
+        }
+    }
+    told.push_str(":")?;
+    for pattern in plan.patterns.as_slice() {
+        told.push_str(" ")?;
+        told.push_str(pattern.as_str())?;
+    }
+    Ok(told)
+}
+
+#[test]
+fn words_are_accepted(rt: HostRuntime) -> Result<(), Fail> {
+    let alloc = rt.alloc();
+    for (line, plan) in PLANS {
+        let words = words(alloc, line)?;
+        let told = told_plan(alloc, &words)?;
+        let text = usage_text(alloc, &words)?;
+        assert!(rt; told.as_str() == plan && text.is_empty(), "{line}: {told}");
+    }
+    Ok(())
+}
+
+#[test]
+fn words_are_refused(rt: HostRuntime) -> Result<(), Fail> {
+    let alloc = rt.alloc();
+    for (line, fault, front) in REFUSALS {
+        let words = words(alloc, line)?;
+        let told = plan_of(alloc, &words).err();
+        let text = usage_text(alloc, &words)?;
+        let as_wanted = told == Some(fault) && text.as_str().starts_with(front);
+        assert!(rt; as_wanted, "{line}: {told:?}: {text}");
+    }
+    Ok(())
+}
+
+/// Each allocation is refused in turn.
+#[test]
+fn sweep_plan_of(rt: HostRuntime) {
+    let alloc = rt.alloc();
+    let Ok(words) = words(alloc, "-rf rc --once s:one b:a") else {
+        return;
+    };
+    let as_wanted = match plan_of(alloc, &words) {
+        Ok(plan) => {
+            plan.rcfile.as_str() == "rc"
+                && plan.raw
+                && plan.once
+                && plan.patterns.as_slice().len() == 2
+        }
+        Err(fault) => fault == UsageFault::OutOfMemory,
+    };
+    assert!(rt; as_wanted);
+}

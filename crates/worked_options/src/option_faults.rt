@@ -1,0 +1,45 @@
+//! What is printed of refused words and rcfiles.
+
+use mairix_options::{Name, RcFault, UsageFault};
+use std::fmt::InlineText;
+
+const USAGE_FAULTS: [(UsageFault, &str); 5] = [
+    (UsageFault::Parse, "bad words"),
+    (UsageFault::TwoFormats, "-r and -x exclude each other"),
+    (UsageFault::Help, "help"),
+    (UsageFault::Version, "version"),
+    (UsageFault::OutOfMemory, "out of memory"),
+];
+
+const RC_FAULTS: [(RcFault, &str); 9] = [
+    (RcFault::BadLine(1), "rcfile line 1: not option=value"),
+    (
+        RcFault::NotSupported(20),
+        "rcfile line 20: option not supported",
+    ),
+    (
+        RcFault::Wildcard(3),
+        "rcfile line 3: wildcard not supported",
+    ),
+    (
+        RcFault::Expansion(4),
+        "rcfile line 4: expansion not supported",
+    ),
+    (RcFault::BadFormat(5), "rcfile line 5: unknown format"),
+    (RcFault::Missing(Name::Mbox), "rcfile: mbox missing"),
+    (RcFault::Missing(Name::Database), "rcfile: database missing"),
+    (RcFault::Missing(Name::Mfolder), "rcfile: mfolder missing"),
+    (RcFault::OutOfMemory, "out of memory"),
+];
+
+#[test]
+fn faults_show_their_text(rt: HostRuntime) {
+    for (fault, text) in USAGE_FAULTS {
+        let said: InlineText<32> = InlineText::of(fault);
+        assert_eq!(rt; said.as_str(), text);
+    }
+    for (fault, text) in RC_FAULTS {
+        let said: InlineText<64> = InlineText::of(fault);
+        assert_eq!(rt; said.as_str(), text);
+    }
+}
