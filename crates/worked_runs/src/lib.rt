@@ -2,16 +2,26 @@
 #![tactic(auto)]
 
 #[cfg(test)]
-mod checks;
+mod date_rows;
+#[cfg(test)]
+mod failing_devices;
 #[cfg(test)]
 mod fault_texts;
 #[cfg(test)]
 mod fixture;
 #[cfg(test)]
-mod patterns;
+mod form_rows;
+#[cfg(test)]
+mod pattern_rows;
+#[cfg(test)]
+mod refusal_rows;
 #[cfg(test)]
 mod rows;
 #[cfg(test)]
-mod several_archives;
+mod stored_indexes;
 #[cfg(test)]
 mod sweeps;
+#[cfg(test)]
+mod text_rows;
+#[cfg(test)]
+mod told;

@@ -1,251 +1,145 @@
-//! Runs with answers that were worked out by hand.
-use crate::checks::{check_pattern, check_refusal, found, refused};
-use crate::fixture::{RC, archive, run, sources, words};
-use mairix_tool::{Fault, Name, RcFault, UsageFault};
-use mbox_cutter::{CutFault, MemoryOut};
-use std::alloc::{AllocError, Global};
+//! Tables of runs, whose answers were worked out by hand.
+//!
+//! `words WORDS`, `rcfile TEXT` and `archives TEXT & TEXT` hold for the rows below them. A row is `WORDS => TOLD`. Words are parted by
+//! `, `, and those of a row come behind those above it. Texts are as [`bytes_of`] reads them, and what is told is as [`told`] says.
+//!
+//! [`told`]: crate::told::told
+
+use crate::date_rows::DATE_ROWS;
+use crate::fixture::{Devices, Given, SOUND, bytes_of};
+use crate::form_rows::FORM_ROWS;
+use crate::pattern_rows::PATTERN_ROWS;
+use crate::refusal_rows::REFUSAL_ROWS;
+use crate::text_rows::TEXT_ROWS;
+use std::alloc::Global;
 use std::process::Abort;
-use std::test::Fail;
 
-const TWO_MESSAGES: &str =
-    "^Subject: one||a||From here on we go||From - Sat Jan  4 12:00:00 2003|Subject: two||b||";
+/// The tables, and the number of their rows.
+const TABLES: [(&str, u32); 5] = [
+    (TEXT_ROWS, 32),
+    (PATTERN_ROWS, 66),
+    (DATE_ROWS, 26),
+    (FORM_ROWS, 38),
+    (REFUSAL_ROWS, 44),
+];
 
-#[test]
-fn subjects_are_found(rt: HostRuntime) -> Result<(), Fail> {
-    for (text, pattern, messages, answer) in [
-        ("^Subject: Hello||hi||", "s:hello", 1, "0 58 m.mbox\n"),
-        ("^Subject: Hello||hi||", "s:hell", 0, ""),
-        ("^Subject: Hello||hi|", "s:hello", 1, "0 57 m.mbox\n"),
-        (TWO_MESSAGES, "s:one", 1, "0 75 m.mbox\n"),
-        (TWO_MESSAGES, "s:two", 1, "75 49 m.mbox\n"),
-        ("", "s:one", 0, ""),
-        ("||", "s:one", 0, ""),
-        ("|From a 10:00 2003|", "s:a", 0, ""),
-        (
-            "^Subject: =?iso-8859-1?Q?Gr=FC=DFe?=||x||",
-            "s:GR\u{dc}SSE",
-            1,
-            "0 78 m.mbox\n",
-        ),
-        (
-            "^Subject: =?utf-8?Q?lun?=| =?utf-8?Q?ch?=||x||",
-            "s:lunch",
-            1,
-            "0 83 m.mbox\n",
-        ),
-        (
-            "^Subject: =?utf-8?Q?lun?=| =?utf-8?Q?ch?=||x||",
-            "s:lun",
-            0,
-            "",
-        ),
-    ] {
-        check_pattern(&rt, rt.alloc(), text, pattern, messages, answer)?;
+/// The most bytes that a source gives at a read.
+const PIECES: [usize; 3] = [1, 7, 65_536];
+
+/// What holds for the rows below a line.
+#[derive(Clone, Copy)]
+struct Setting<'a> {
+    words: &'a str,
+    rcfile: &'a str,
+    archives: &'a str,
+}
+
+impl<'a> Setting<'a> {
+    /// What holds below a line that sets something.
+    fn set_by(self, line: &'a str) -> Option<Setting<'a>> {
+        if let Some(words) = line.strip_prefix("words ") {
+            return Some(Setting { words, ..self });
+        }
+        if let Some(rcfile) = line.strip_prefix("rcfile ") {
+            return Some(Setting { rcfile, ..self });
+        }
+        let archives = line.strip_prefix("archives ")?;
+        Some(Setting { archives, ..self })
     }
-    Ok(())
-}
 
-#[test]
-fn bodies_are_found(rt: HostRuntime) -> Result<(), Fail> {
-    let soft_break = "^Content-Transfer-Encoding: quoted-printable||lunch=|break||";
-    let split_group =
-        "^Content-Type: text/plain; charset=utf-8|Content-Transfer-Encoding: base64||ZsO|8cg==||";
-    let nested =
-        "^Content-Type: multipart/mixed; boundary=o||--o|Content-Type: multipart/mixed; boundary=i||--i||inner|--o||outer|--o--||";
-    let html = "^Content-Type: text/html||<p>Mee<b>t||";
-    for (text, pattern, messages, answer) in [
-        ("^Subject: Hello||hi||", "b:hi", 1, "0 58 m.mbox\n"),
-        ("^Subject: Hello||hi||", "b:hello", 0, ""),
-        ("^Subject: Hello||hi||", "s:hi", 0, ""),
-        ("^Subject: Hello||hi", "b:hi", 1, "0 56 m.mbox\n"),
-        (soft_break, "b:lunchbreak", 1, "0 97 m.mbox\n"),
-        (soft_break, "b:lunch", 0, ""),
-        (split_group, "b:f\u{fc}r", 1, "0 124 m.mbox\n"),
-        (nested, "b:inner", 1, "0 157 m.mbox\n"),
-        (nested, "b:outer", 1, "0 157 m.mbox\n"),
-        (nested, "b:inner,outer", 1, "0 157 m.mbox\n"),
-        (nested, "b:o", 0, ""),
-        (html, "b:mee", 1, "0 75 m.mbox\n"),
-        (html, "b:meet", 0, ""),
-    ] {
-        check_pattern(&rt, rt.alloc(), text, pattern, messages, answer)?;
+    /// Whether a run that indexes the archives itself, in pieces of each size, and a search of their stored index both tell what
+    /// a row says. Archives that are refused have no index. It is None where memory is wanting.
+    fn is_told(self, rt: &impl Abort, alloc: Global, row: &str) -> Option<bool> {
+        let (words, wanted) = row.split_once(" => ")?;
+        let given = Given::of(alloc, [self.words, words], self.rcfile, self.archives)?;
+        let wanted = bytes_of(alloc, wanted)?;
+        let mut as_wanted = match &given.index {
+            Some(index) => given.stored(alloc, index, SOUND)? == wanted,
+            None => wanted.starts_with(b"refused 4: archive "),
+        };
+        for piece in PIECES {
+            let devices = Devices { piece, ..SOUND };
+            as_wanted = given.once(rt, alloc, devices)? == wanted && as_wanted;
+        }
+        Some(as_wanted)
     }
-    Ok(())
 }
 
-/// A text in which a line is so many spaces and `wxyz`.
-fn with_long_line(alloc: Global, spaces: usize) -> Result<String, AllocError> {
-    let mut text = String::from_str(alloc, "^Subject: a||")?;
-    for _ in 0..spaces {
-        text.push(' ')?;
+#[test]
+fn rows_are_told(rt: HostRuntime) {
+    for (table, count) in TABLES {
+        let mut setting = Setting {
+            words: "",
+            rcfile: "",
+            archives: "",
+        };
+        let mut rows = 0u32;
+        for line in table.lines() {
+            match setting.set_by(line) {
+                Some(next) => setting = next,
+                None => {
+                    assert!(rt;
+                        setting.is_told(&rt, rt.alloc(), line) == Some(true),
+                        "{line}"
+                    );
+                    rows = rows.saturating_add(1);
+                }
+            }
+        }
+        assert_eq!(rt; rows, count);
     }
-    text.push_str("wxyz||")?;
-    Ok(text)
 }
 
-/// A line is cut behind 65,536 bytes, and so is a word.
-#[test]
-fn long_lines_are_cut(rt: HostRuntime) -> Result<(), Fail> {
-    let alloc = rt.alloc();
-    let cut = with_long_line(alloc, 65_533)?;
-    let answer = "0 65589 m.mbox\n";
-    check_pattern(&rt, alloc, cut.as_str(), "b:wxy", 1, answer)?;
-    check_pattern(&rt, alloc, cut.as_str(), "b:z", 1, answer)?;
-    check_pattern(&rt, alloc, cut.as_str(), "b:wxyz", 0, "")?;
-    let whole = with_long_line(alloc, 65_532)?;
-    check_pattern(&rt, alloc, whole.as_str(), "b:wxyz", 1, "0 65588 m.mbox\n")?;
-    Ok(())
-}
+/// Archives whose every front is run, a pattern, and the least bytes in which it is found: an encoded text, and parts in one another.
+const FRONTS: [(&str, &str, usize); 2] = [
+    (
+        "From a@x.org Thu Jan  2 10:00:00 2003|Content-Type: text/plain; charset=utf-8|Content-Transfer-Encoding: base64||ZsO|8cg==||",
+        "b:für",
+        120,
+    ),
+    (
+        "From a@x.org Thu Jan  2 10:00:00 2003|Content-Type: multipart/mixed; boundary=o||--o|Content-Type: multipart/mixed; boundary=i||--i||inner|--o||outer|--o--||",
+        "b:inner,outer",
+        149,
+    ),
+];
 
-/// A message inside so many messages.
-fn nested_messages(alloc: Global, depth: usize) -> Result<String, AllocError> {
-    let mut text = String::from_str(alloc, "^")?;
-    for _ in 0..depth {
-        text.push_str("Content-Type: message/rfc822||")?;
+/// The bytes of a separator line without its LF.
+const SEPARATOR_SIZE: usize = 37;
+
+/// The row of a front of an archive, in which the pattern is found from so many bytes on. It is None where memory is wanting.
+fn row_of_front(alloc: Global, pattern: &str, enough: usize, size: usize) -> Option<String> {
+    if size >= enough {
+        format!(in alloc; "{pattern} => found 1: 0 {size} m.mbox|").ok()
+    } else if size == 0 || size >= SEPARATOR_SIZE {
+        format!(in alloc; "{pattern} => none").ok()
+    } else {
+        format!(in alloc; "{pattern} => refused 4: archive 1: not an mbox").ok()
     }
-    text.push_str("|deep||")?;
-    Ok(text)
 }
 
-/// Parts are read down to the depth of 16.
-#[test]
-fn depths_above_16_give_nothing(rt: HostRuntime) -> Result<(), Fail> {
-    let alloc = rt.alloc();
-    let deep = nested_messages(alloc, 16)?;
-    check_pattern(&rt, alloc, deep.as_str(), "b:deep", 1, "0 525 m.mbox\n")?;
-    let deeper = nested_messages(alloc, 17)?;
-    check_pattern(&rt, alloc, deeper.as_str(), "b:deep", 0, "")?;
-    Ok(())
-}
-
-/// A header of so many lines of 64 bytes and a subject behind them.
-fn with_long_header(alloc: Global, lines: usize) -> Result<String, AllocError> {
-    let mut text = String::from_str(alloc, "^")?;
-    for _ in 0..lines {
-        text.push_str("X: aaaaaaaaaaaaaaaaaaaaaaaaaaaaaaaaaaaaaaaaaaaaaaaaaaaaaaaaaaaa|")?;
-    }
-    text.push_str("Subject: late||x||")?;
-    Ok(text)
-}
-
-/// A header is read to 262,144 bytes.
-#[test]
-fn long_headers_are_cut(rt: HostRuntime) -> Result<(), Fail> {
-    let alloc = rt.alloc();
-    let whole = with_long_header(alloc, 4_095)?;
-    check_pattern(&rt, alloc, whole.as_str(), "s:late", 1, "0 262136 m.mbox\n")?;
-    let longer = with_long_header(alloc, 4_096)?;
-    check_pattern(&rt, alloc, longer.as_str(), "s:late", 0, "")?;
-    Ok(())
+/// Whether a front of an archive is told as its row says. It is None where memory is wanting.
+fn front_is_told(
+    rt: &impl Abort,
+    alloc: Global,
+    (text, pattern, enough): (&str, &str, usize),
+    size: usize,
+) -> Option<bool> {
+    let setting = Setting {
+        words: "-f, rc, -r",
+        rcfile: "mbox=m.mbox|database=m.idx|mfolder=hits|",
+        archives: text.get(..size)?,
+    };
+    let row = row_of_front(alloc, pattern, enough, size)?;
+    setting.is_told(rt, alloc, row.as_str())
 }
 
 #[test]
-fn words_are_refused(rt: HostRuntime) -> Result<(), Fail> {
-    let alloc = rt.alloc();
-    let words = words(alloc, &["--once", "s:a"])?;
-    check_refusal(
-        &rt,
-        alloc,
-        &words,
-        RC,
-        "",
-        refused(2, Fault::Usage(UsageFault::Parse)),
-    )
-}
-
-#[test]
-fn help_has_status_0(rt: HostRuntime) -> Result<(), Fail> {
-    let alloc = rt.alloc();
-    let words = words(alloc, &["-h"])?;
-    check_refusal(
-        &rt,
-        alloc,
-        &words,
-        RC,
-        "",
-        refused(0, Fault::Usage(UsageFault::Help)),
-    )
-}
-
-#[test]
-fn rcfiles_are_refused(rt: HostRuntime) -> Result<(), Fail> {
-    let alloc = rt.alloc();
-    let words = words(alloc, &["-f", "rc", "--once", "s:hello"])?;
-    for (rc, fault) in [
-        (b"mbox=a*\n".as_slice(), RcFault::Wildcard(1)),
-        (b"maildir=x\n".as_slice(), RcFault::NotSupported(1)),
-        (b"\nmbox\n".as_slice(), RcFault::BadLine(2)),
-        (b"".as_slice(), RcFault::Missing(Name::Mbox)),
-    ] {
-        check_refusal(
-            &rt,
-            alloc,
-            &words,
-            rc,
-            "^Subject: Hello||hi||",
-            refused(2, Fault::Rc(fault)),
-        )?;
-    }
-    Ok(())
-}
-
-#[test]
-fn no_mbox_is_refused(rt: HostRuntime) -> Result<(), Fail> {
-    let alloc = rt.alloc();
-    let words = words(alloc, &["-f", "rc", "--once", "s:x"])?;
-    let reply = refused(
-        4,
-        Fault::Archive {
-            number: 0,
-            fault: CutFault::NotAnMbox,
-        },
-    );
-    check_refusal(&rt, alloc, &words, RC, "hello|", reply)
-}
-
-#[test]
-fn a_failed_read_is_answered(rt: HostRuntime) -> Result<(), Fail> {
-    let alloc = rt.alloc();
-    let words = words(alloc, &["-f", "rc", "--once", "-r", "s:hello"])?;
-    for fail_at in 1..70u64 {
-        let mut archives = Vec::new(alloc);
-        archives.push(archive(alloc, "^Subject: Hello||hi||")?)?;
-        let mut sources = sources(alloc, &archives, 1, Some(fail_at))?;
-        let mut out = MemoryOut::new(alloc, None);
-        let reply = run(&rt, alloc, &words, RC, &archives, &mut sources, &mut out);
-        // 58 bytes come in as many reads, and the next one tells the end.
-        if fail_at <= 59 {
-            let fault = Fault::Archive {
-                number: 0,
-                fault: CutFault::Device,
-            };
-            assert_eq!(rt; reply, Some(refused(4, fault)));
-            assert_eq!(rt; out.bytes().len(), 0);
-        } else {
-            assert_eq!(rt; reply, Some(found(1)));
+fn fronts_of_archives_are_told(rt: HostRuntime) {
+    for archive in FRONTS {
+        for size in 0..=archive.0.len() {
+            let as_wanted = front_is_told(&rt, rt.alloc(), archive, size) == Some(true);
+            assert!(rt; as_wanted, "{size} bytes of {}", archive.0);
         }
     }
-    Ok(())
-}
-
-#[test]
-fn a_failed_write_leaves_a_front(rt: HostRuntime) -> Result<(), Fail> {
-    let alloc = rt.alloc();
-    let words = words(alloc, &["-f", "rc", "--once", "-r", "s:one"])?;
-    let answer = b"0 75 m.mbox\n";
-    for room in 0..20usize {
-        let mut archives = Vec::new(alloc);
-        archives.push(archive(alloc, TWO_MESSAGES)?)?;
-        let mut sources = sources(alloc, &archives, 7, None)?;
-        let mut out = MemoryOut::new(alloc, Some(room as u64));
-        let reply = run(&rt, alloc, &words, RC, &archives, &mut sources, &mut out);
-        if room < answer.len() {
-            assert_eq!(rt; reply, Some(refused(4, Fault::Out)));
-            assert_eq!(rt; out.bytes(), &answer[..room]);
-        } else {
-            assert_eq!(rt; reply, Some(found(1)));
-            assert_eq!(rt; out.bytes(), answer.as_slice());
-        }
-    }
-    Ok(())
 }

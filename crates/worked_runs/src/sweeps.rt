@@ -1,98 +1,106 @@
 //! Calls of which each allocation is refused in turn: the gate runs these tests with a library that refuses the first
 //! allocation, then the second, and so on. Each call answers in full, or its own want of memory with what that leaves. Where a
 //! fixture has no memory the test ends well.
-use crate::fixture::{RC, archive, archives, run, sources, words};
+
+use crate::fixture::{Given, SOUND, bytes_of};
 use mail_index::IndexFault;
 use mail_query::{QueryFault, QueryFaultKind};
-use mairix_tool::{Fault, RcFault, Reply, fault_text};
-use mbox_cutter::MemoryOut;
+use mairix_tool::{Fault, RcFault, fault_text};
 use std::alloc::Global;
 use std::process::Abort;
 
-const MEMORY: Reply = Reply {
-    status: 5,
-    messages: 0,
-    fault: Some(Fault::Memory),
-};
+const RC: &str = "mbox=m.mbox|database=m.idx|mfolder=hits|";
 
-/// A refused growth of an output in memory is that device's failure.
-const OUT: Reply = Reply {
-    status: 4,
-    messages: 0,
-    fault: Some(Fault::Out),
-};
+const RC_OF_TWO: &str = "mbox=a.mbox:b.mbox|database=m.idx|mfolder=hits|";
 
-/// A run has answered so many messages and the whole answer, or want of memory and a front of the answer.
-fn check_swept(rt: &impl Abort, reply: Reply, out: &[u8], messages: u64, answer: &str) {
-    let full = Reply {
-        status: 0,
-        messages,
-        fault: None,
-    };
-    assert!(rt; reply == full || reply == MEMORY || reply == OUT);
-    assert!(rt; answer.as_bytes().starts_with(out));
-    if reply == full {
-        assert_eq!(rt; out, answer.as_bytes());
+const HELLO: &str = "^Subject: Hello||hi||";
+
+const TWO_MESSAGES: &str =
+    "^Subject: one||a||From here on we go||From - Sat Jan  4 12:00:00 2003|Subject: two||b||";
+
+/// Whether a run tells that it found messages and the whole answer, or want of memory and a front of the answer. A refused growth of
+/// an output in memory is that device's failure.
+fn is_answered(told: &[u8], found: &str, answer: &[u8]) -> bool {
+    if let Some(sent) = told.strip_prefix(found.as_bytes()) {
+        return sent == answer;
     }
+    for refusal in [
+        b"refused 5: out of memory".as_slice(),
+        b"refused 4: output failed",
+    ] {
+        if let Some(sent) = told.strip_prefix(refusal) {
+            return answer.starts_with(sent);
+        }
+    }
+    false
 }
 
-fn sweep_run(
+/// A run that indexes the archives itself, and then a search of their stored index.
+fn sweep_runs(
     rt: &impl Abort,
     alloc: Global,
-    text: &str,
-    pattern: &str,
-    answer: &str,
+    words: &str,
+    rc: &str,
+    archives: &str,
+    [found, answer]: [&str; 2],
 ) -> Option<()> {
-    let words = words(alloc, &["-f", "rc", "--once", "-r", pattern]).ok()?;
-    let mut archives = Vec::new(alloc);
-    archives.push(archive(alloc, text).ok()?).ok()?;
-    let mut sources = sources(alloc, &archives, 7, None).ok()?;
-    let mut out = MemoryOut::new(alloc, None);
-    let reply = run(rt, alloc, &words, RC, &archives, &mut sources, &mut out)?;
-    check_swept(rt, reply, out.bytes(), 1, answer);
+    let given = Given::of(alloc, ["-f, rc", words], rc, archives)?;
+    let answer = bytes_of(alloc, answer)?;
+    if let Some(told) = given.once(rt, alloc, SOUND) {
+        assert!(rt; is_answered(&told, found, &answer), "{told:?}");
+    }
+    let told = given.stored(alloc, given.index.as_ref()?, SOUND)?;
+    assert!(rt; is_answered(&told, found, &answer), "{told:?}");
     Some(())
 }
 
 #[test]
-fn sweep_once_run_of_one_message(rt: HostRuntime) {
-    let _ = sweep_run(
-        &rt,
-        rt.alloc(),
-        "^Subject: Hello||hi||",
-        "s:hello",
-        "0 58 m.mbox\n",
-    );
+fn sweep_runs_of_one_message(rt: HostRuntime) {
+    let told = ["found 1: ", "0 58 m.mbox|"];
+    let _ = sweep_runs(&rt, rt.alloc(), "--once, -r, s:hello", RC, HELLO, told);
 }
 
 #[test]
-fn sweep_once_run_of_two_messages(rt: HostRuntime) {
-    let text =
-        "^Subject: one||a||From here on we go||From - Sat Jan  4 12:00:00 2003|Subject: two||b||";
-    let _ = sweep_run(&rt, rt.alloc(), text, "s:one", "0 75 m.mbox\n");
-}
-
-/// Patterns of words, parts, ids, dates, sizes and flags over two archives.
-fn sweep_run_of_two(rt: &impl Abort, alloc: Global) -> Option<()> {
-    let words = words(
-        alloc,
-        &[
-            "-f", "rc", "--once", "-r", "hi/ho", "bs:~a,h=", "m:@=", "d:2003", "z:-99", "F:s",
-        ],
-    )
-    .ok()?;
-    let message = "^Message-ID: <1@x>|Date: 4 May 2003 10:00|Status: R||hi||";
-    let archives = archives(alloc, &[message, message]).ok()?;
-    let mut sources = sources(alloc, &archives, 7, None).ok()?;
-    let mut out = MemoryOut::new(alloc, None);
-    let rc = b"mbox=a.mbox:b.mbox\ndatabase=m.idx\nmfolder=hits\n";
-    let reply = run(rt, alloc, &words, rc, &archives, &mut sources, &mut out)?;
-    check_swept(rt, reply, out.bytes(), 2, "0 94 a.mbox\n0 94 b.mbox\n");
-    Some(())
+fn sweep_runs_that_write_an_excerpt(rt: HostRuntime) {
+    let told = ["found 1: ", "m.mbox|To:|Cc:|From:|Subject: Hello|Date:|"];
+    let _ = sweep_runs(&rt, rt.alloc(), "-x, s:hello", RC, HELLO, told);
 }
 
 #[test]
-fn sweep_once_run_of_two_archives(rt: HostRuntime) {
-    let _ = sweep_run_of_two(&rt, rt.alloc());
+fn sweep_runs_that_write_an_mbox(rt: HostRuntime) {
+    let told = ["found 1: ", HELLO];
+    let _ = sweep_runs(&rt, rt.alloc(), "--stdout, s:hello", RC, HELLO, told);
+}
+
+#[test]
+fn sweep_runs_of_two_messages(rt: HostRuntime) {
+    let told = ["found 1: ", "0 75 m.mbox|"];
+    let _ = sweep_runs(&rt, rt.alloc(), "--once, -r, s:one", RC, TWO_MESSAGES, told);
+}
+
+#[test]
+fn sweep_runs_of_a_boolean_query(rt: HostRuntime) {
+    let words = "-r, --boolean, not (subject:one or not subject:two)";
+    let told = ["found 1: ", "75 49 m.mbox|"];
+    let _ = sweep_runs(&rt, rt.alloc(), words, RC, TWO_MESSAGES, told);
+}
+
+/// Patterns of words, parts, ids, dates, sizes and flags.
+#[test]
+fn sweep_runs_of_two_archives(rt: HostRuntime) {
+    let words = "--once, -r, hi/ho, bs:~a,h=, m:@=, d:2003, z:-99, F:s";
+    let archives =
+        "^Message-ID: <1@x>|Date: 4 May 2003 10:00|Status: R||hi|| & ^Message-ID: <1@x>|Date: 4 May 2003 10:00|Status: R||hi||";
+    let told = ["found 2: ", "0 94 a.mbox|0 94 b.mbox|"];
+    let _ = sweep_runs(&rt, rt.alloc(), words, RC_OF_TWO, archives, told);
+}
+
+#[test]
+fn sweep_runs_with_threads(rt: HostRuntime) {
+    let archives =
+        "^Message-ID: <1@x>|References: <0@x>||hi|| & ^Message-ID: <2@x>|References: <0@x>||ho||";
+    let told = ["found 2: ", "0 79 a.mbox|0 79 b.mbox|"];
+    let _ = sweep_runs(&rt, rt.alloc(), "-r, -t, b:hi", RC_OF_TWO, archives, told);
 }
 
 #[test]

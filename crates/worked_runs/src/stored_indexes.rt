@@ -1,0 +1,156 @@
+//! Searches of stored indexes that are none, or not those of the rcfile or of the archives.
+
+use crate::fixture::{Given, SOUND, bytes_of};
+use sha2::{Digest, Sha256};
+use std::alloc::Global;
+use std::test::Fail;
+
+const RC: &str = "mbox=m.mbox|database=m.idx|mfolder=hits|";
+
+const HELLO: &str = "^Subject: Hello||hi||";
+
+/// The bytes of its index before the digest.
+const BODY: usize = 163;
+
+/// The two entries of its directory, exchanged.
+const EXCHANGED: &[u8] =
+    b"\x06\x00\x00\x00\x00\x00\x00\x02\x00\x00\x00\x00\x00\x00\x00\x05\x00\x00\x00\x00\x00\x00\x00\x01\
+    \x05\x00\x00\x00\x00\x00\x00\x05\x00\x00\x00\x00\x00\x00\x00\x00\x00\x00\x00\x00\x00\x00\x00\x00";
+
+/// Bytes that are put in place of as many others, from a place on, whether the digest is made anew, and what a search of the index
+/// then tells.
+const CHANGES: [(usize, &[u8], bool, &str); 6] = [
+    (0, b"", false, "found 1: 0 58 m.mbox|"),
+    (0, b"m", false, "refused 3: index: bad magic"),
+    (60, b"\x6c", false, "refused 3: index: bad digest"),
+    (11, b"\x09", true, "refused 3: index: unknown version"),
+    (
+        106,
+        EXCHANGED,
+        true,
+        "refused 3: index: bad layout in directory",
+    ),
+    (
+        161,
+        b"\x00\x01",
+        true,
+        "refused 3: index: bad layout in postings",
+    ),
+];
+
+/// The bytes with such a change.
+fn changed(
+    alloc: Global,
+    bytes: &[u8],
+    at: usize,
+    new: &[u8],
+    signs_again: bool,
+) -> Option<Vec<u8>> {
+    let mut changed = Vec::new(alloc);
+    for (i, byte) in bytes.iter().enumerate() {
+        let put = i.checked_sub(at).and_then(|k| new.get(k)).unwrap_or(byte);
+        changed.push(*put).ok()?;
+    }
+    if signs_again {
+        changed.truncate(BODY);
+        let digest = Sha256::digest(&changed);
+        changed.extend_from_slice(&digest).ok()?;
+    }
+    Some(changed)
+}
+
+const OF_TWO: &str = "mbox=n.mbox:o.mbox|database=m.idx|mfolder=hits|";
+
+const OF_ANOTHER: &str = "mbox=n.mbox|database=m.idx|mfolder=hits|";
+
+const SHORTER: &str = "^Subject: Hello||hi|";
+
+const CHANGED: &str = "refused 3: archive 1: changed since it was indexed";
+
+/// Words, an rcfile, how many bytes of the index there are, an archive's text, and what is told. Each row has one reason less to be
+/// refused than the row before it.
+const REFUSED: [(&str, &str, usize, &str, &str); 9] = [
+    (
+        "-rx, q:x",
+        "mbox=n.mbox|",
+        31,
+        SHORTER,
+        "refused 2: -r and -x exclude each other",
+    ),
+    (
+        "-r, q:x",
+        "mbox=n.mbox|",
+        31,
+        SHORTER,
+        "refused 2: rcfile: database missing",
+    ),
+    (
+        "-r, q:x",
+        OF_TWO,
+        31,
+        SHORTER,
+        "refused 2: query item 1: bad prefix",
+    ),
+    (
+        "-r, s:hello",
+        OF_TWO,
+        31,
+        SHORTER,
+        "refused 3: index: too short",
+    ),
+    (
+        "-r, s:hello",
+        OF_TWO,
+        195,
+        SHORTER,
+        "refused 3: archive 2: changed since it was indexed",
+    ),
+    ("-r, s:hello", OF_ANOTHER, 195, SHORTER, CHANGED),
+    ("-r, s:hello", OF_ANOTHER, 195, HELLO, CHANGED),
+    ("-r, s:hello", RC, 195, SHORTER, CHANGED),
+    ("-r, s:hello", RC, 195, "{}", CHANGED),
+];
+
+/// The index of the archive, of 195 bytes.
+fn whole_index(alloc: Global) -> Option<Vec<u8>> {
+    let given = Given::of(alloc, ["", ""], RC, HELLO)?;
+    given.index.as_ref()?.to_vec(alloc).ok()
+}
+
+/// Whether a search of an index over one archive tells this.
+fn is_told(
+    alloc: Global,
+    line: &str,
+    rc: &str,
+    index: &[u8],
+    text: &str,
+    wanted: &str,
+) -> Option<bool> {
+    let given = Given::of(alloc, ["-f, rc", line], rc, text)?;
+    Some(given.stored(alloc, index, SOUND)? == bytes_of(alloc, wanted)?)
+}
+
+#[test]
+fn what_is_no_index_is_refused(rt: HostRuntime) -> Result<(), Fail> {
+    let alloc = rt.alloc();
+    let whole = whole_index(alloc).ok_or("an index")?;
+    assert_eq!(rt; whole.len(), 195);
+    for (at, new, signs_again, wanted) in CHANGES {
+        let index = changed(alloc, &whole, at, new, signs_again).ok_or("memory")?;
+        let as_wanted = is_told(alloc, "-r, s:hello", RC, &index, HELLO, wanted);
+        assert!(rt; as_wanted == Some(true), "{wanted}");
+    }
+    Ok(())
+}
+
+#[test]
+fn refusals_have_their_order(rt: HostRuntime) -> Result<(), Fail> {
+    let alloc = rt.alloc();
+    let whole = whole_index(alloc).ok_or("an index")?;
+    for (line, rc, length, text, wanted) in REFUSED {
+        let index = whole.get(..length).ok_or("an index")?;
+        let as_wanted = is_told(alloc, line, rc, index, text, wanted);
+        assert!(rt; as_wanted == Some(true), "{wanted}");
+    }
+    Ok(())
+}
