@@ -64,7 +64,7 @@ reply-once (Ok w) bytes answer many (inr bad) = inr bad
 
 -- ---- every run has a reply
 
-some-told : (t : Table) (s : Search) (held : List (List ℕ)) (o : Option ℕ) → (answer : Answer) × IsStaleOr o (IsFoundIn t s held) answer
+pub some-told : (t : Table) (s : Search) (held : List (List ℕ)) (o : Option ℕ) → (answer : Answer) × IsStaleOr o (IsFoundIn t s held) answer
 some-told t s held (Some n) = (refused (Stale n), refl)
 some-told t s held None = let some = some-chosen t s.threads s.query in (answered (answer_text s.format t held some.0) (length some.0), (some.0, some.1, refl))
 

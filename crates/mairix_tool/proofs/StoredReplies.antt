@@ -1,9 +1,10 @@
 -- A run over a stored index replies what its table tells; over the archives that were indexed, what their own messages say.
-use Rattle.std.proofs.Common.{◌≡◌, ◌∙◌, ◌<◌, ◌^◌, ◌+◌, ℕ, Bool, false, cond, IfSome, List, [], ◌∷◌, map, length, None, Some, Option, Result, Ok, Err, refl, sym, ap, subst, arith, inl, inr, eq-eqb, min}
+use Rattle.std.proofs.Common.{◌≡◌, ◌∙◌, ◌<◌, ◌^◌, ◌+◌, ℕ, Bool, false, cond, IfSome, IfOk, IfErr, List, [], ◌∷◌, map, length, None, Some, Option, Result, Ok, Err, refl, sym, ap, subst, arith, inl, inr, eq-eqb, min}
 use Rattle.std.proofs.lemmas.List.{length-map}
 use Rattle.std.proofs.lemmas.Slice.Eq.{bytes_eq-Decides}
 use Rattle.mbox_cutter.specs.declared.event.CutFault.TheVariants as cut
 use Rattle.std.specs.Option.{option_map}
+use Rattle.mail_answer.specs.Stale.{stale_archive}
 use Rattle.mail_index.specs.declared.fault.IndexFault.{IndexFault}
 use Rattle.mail_index.specs.Faults.{IsFileOf, IsFirstFault}
 use Rattle.mail_index.proofs.Bytes.{AreBytes}
@@ -23,7 +24,7 @@ use Rattle.mairix_tool.specs.Runs.{IsTold, IsStaleOr, IsReply, IsStoredReply, Is
 use Rattle.mairix_tool.proofs.ArchiveLists.{mboxes-length}
 use Rattle.mairix_tool.proofs.FirstFaults.{one-first-fault}
 use Rattle.mairix_tool.proofs.SoundArchives.{sound-not-refused}
-use Rattle.mairix_tool.proofs.OnceReplies.{replies-as, unanswered, once-reply, reply-once}
+use Rattle.mairix_tool.proofs.OnceReplies.{replies-as, some-told, unanswered, once-reply, reply-once}
 
 -- ---- the table of archives has their paths
 
@@ -89,6 +90,19 @@ stored-indexed w index bytes reply old new few many sound file given = replies-a
           file,
           subst (λ (o : Option ℕ). IsStaleOr o (IsTold (table (mboxes w.paths bytes)) w.search bytes) answer) (sym (named-as w.paths bytes many)) (told-once answer is),
         )
+
+-- ---- each run has a reply
+
+some-told-of : (w : Wanted) (t : Table) (held : List (List ℕ)) (o : Option ℕ) → (answer : Answer) × IsStaleOr o (IsTold t w.search held) answer
+some-told-of w t held (Some n) = (refused (of.Stale n), refl)
+some-told-of w t held None = some-told t w.search held (stale_archive t.archives held)
+
+-- by what reading the index tells
+pub some-stored-reply : (index : List ℕ) (read : Result Table IndexFault) → IfOk read (IsFileOf index) → IfErr read (IsFirstFault index)
+    → (asked : Result Wanted Fault) (held : List (List ℕ)) → (answer : Answer) × IsStoredReply asked index held answer
+some-stored-reply index read file bad (Err fault) held = (refused fault, refl)
+some-stored-reply index (Ok t) file bad (Ok w) held = let some = some-told-of w t held (renamed_archive t.archives w.paths) in (some.0, inr (t, file, some.1))
+some-stored-reply index (Err f) file bad (Ok w) held = (refused (of.Index f), inl (f, bad, refl))
 
 -- ---- refusals
 

@@ -11,10 +11,12 @@ ghost use Rattle.mail_answer.specs.Mail.{Search, AreChosen};
 ghost use Rattle.mail_answer.specs.TableAnswers.{mail_told};
 ghost use Rattle.mail_answer.specs.Threads.{are_linked};
 ghost use Rattle.mail_answer.specs.declared.format.Format.{Format};
-ghost use Rattle.mairix_tool.specs.Runs.{IsOnceReply, IsReply};
+ghost use Rattle.mairix_tool.specs.Runs.{IsOnceReply, IsReply, IsStoredReply};
 ghost use Rattle.mairix_tool.specs.MailOfArchives.{mail_in, shape};
 ghost use Rattle.mairix_tool.specs.Replies.{Answer};
 ghost use Rattle.mairix_tool.specs.declared.fault.Fault.{Fault};
+
+use mail_index::IndexView;
 
 /// An mbox answer is cut again into its messages: over the table of archives that hold them, and for whatever of its messages,
 /// of which none has CR as its last byte, the text is cut into one span for each in order, its own with the line feeds that
@@ -46,7 +48,15 @@ pub fn every_once_run_has_a_reply()
     ensures { (asked : Result Wanted Fault) (bytes held : List (List ℕ)) → (answer : Answer) × IsOnceReply asked bytes held answer }
 {}
 
-/// Where it searches what it indexed, that is the reply of the archives' own messages.
+/// And so has every run over a stored index, whatever bytes that has: they are the file of a table, or there is a first rule of such
+/// files that they break. This one runs: reading the index tells which.
+pub fn every_stored_run_has_a_reply(index: &[u8])
+    ensures { (asked : Result Wanted Fault) (held : List (List ℕ)) → (answer : Answer) × IsStoredReply asked index.now held answer }
+{
+    let _read = IndexView::open(index);
+}
+
+/// Where a run searches what it indexed, that is the reply of the archives' own messages.
 pub fn a_table_replies_as_its_archives()
     ensures { (asked : Result Wanted Fault) (bytes : List (List ℕ)) (answer : Answer) → IfOk asked (λ w. length w.paths ≡ length bytes)
         → IsOnceReply asked bytes bytes answer → IsReply asked bytes answer }

@@ -21,8 +21,8 @@ pub use fault::{Fault, Reply};
 pub use index_job::{IndexJob, JobFault};
 pub use laws::{
     a_table_replies_as_its_archives, an_answer_is_cut_into_its_messages,
-    every_once_run_has_a_reply, the_table_chooses_as_the_messages, the_table_links_as_the_messages,
-    the_table_shows_the_messages,
+    every_once_run_has_a_reply, every_stored_run_has_a_reply, the_table_chooses_as_the_messages,
+    the_table_links_as_the_messages, the_table_shows_the_messages,
 };
 pub use mairix_options::{
     MailFormat, Name, Plan, Rc, RcFault, Text, Texts, UsageFault, answer_file, answer_format,

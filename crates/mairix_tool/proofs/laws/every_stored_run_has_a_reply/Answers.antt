@@ -1,0 +1,5 @@
+use Rattle.mairix_tool.proofs.StoredReplies.{some-stored-reply}
+use Rattle.mairix_tool.proofs.laws.every_stored_run_has_a_reply.Goals as goal
+
+pub returns : goal.returns
+returns c = some-stored-reply c.args.index.now c.open-read.result c.open-read.ensures.ok c.open-read.ensures.fault
