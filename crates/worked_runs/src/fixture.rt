@@ -65,7 +65,7 @@ pub struct Devices {
     pub piece: usize,
     /// The read that fails of each source, counted from 1.
     pub failing_reads: [Option<u64>; MOST],
-    /// The call of the archives that fails in a search of an index, counted from 1, and 0 for none.
+    /// The call of the archives that fails, counted from 1, and 0 for none.
     pub failing_call: u64,
     /// The bytes that the output takes, where it doesn't take all.
     pub room: Option<u64>,
@@ -106,8 +106,7 @@ impl Given {
         })
     }
 
-    /// What a run tells that indexes the archives itself, over archives that never fail. It is None where memory is wanting before it
-    /// begins or behind it.
+    /// What a run tells that indexes the archives itself. It is None where memory is wanting before it begins or behind it.
     pub fn once(&self, rt: &impl Abort, alloc: Global, devices: Devices) -> Option<Vec<u8>> {
         let mut sources = sources(alloc, &self.archives, devices)?;
         let mut out = MemoryOut::new(alloc, devices.room);
@@ -117,6 +116,7 @@ impl Given {
             &self.words,
             &self.rc,
             &self.archives,
+            devices.failing_call,
             &mut sources,
             &mut out,
         )?;
@@ -150,21 +150,22 @@ impl Given {
     }
 }
 
-/// A run over these archives and their sources, of which there are as many as the rcfile has paths. It is None where memory is wanting
-/// before it begins.
+/// A run over these archives, of which this call fails, or none for 0, and their sources, of which there are as many as the rcfile has
+/// paths. It is None where memory is wanting before it begins.
 fn run(
     rt: &impl Abort,
     alloc: Global,
     words: &[String],
     rc: &[u8],
     archives: &[Vec<u8>],
+    failing_call: u64,
     sources: &mut [MemorySource],
     out: &mut MemoryOut,
 ) -> Option<Reply>
     requires sources { All (λ s. s.failures ≡ 0) sources.old }
     requires out { out.old.failures ≡ 0 }
 {
-    let mut held = held(alloc, archives)?;
+    let mut held = FailAt::new(held(alloc, archives)?, failing_call);
     match read_rc(alloc, rc) {
         Ok(rc) => {
             assert_eq!(rt; rc.paths.as_slice().len(), sources.len());
