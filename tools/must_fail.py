@@ -1,7 +1,7 @@
 #!/usr/bin/env python3
 """Tries the edits that the prover must refuse, many of a crate in one check.
 
-    tools/must_fail.py [--jobs N] [--tell-doubts] [--proved FOLDER] [CRATE or CRATE/NAME ..]
+    tools/must_fail.py [--jobs N] [--proved FOLDER] [CRATE or CRATE/NAME ..]
 
 An edit, crates/CRATE/must-fail/NAME.edit, turns the meaning of a function, and its crate must then not be proved. A function is
 proved against the contracts of those that it calls, never their bodies, so edits of the bodies of different functions are made
@@ -30,7 +30,6 @@ import time
 from concurrent.futures import ThreadPoolExecutor
 from dataclasses import dataclass, field
 from pathlib import Path
-from typing import ClassVar
 
 sys.dont_write_bytecode = True
 from function_bodies import bodies_of_file
@@ -94,8 +93,6 @@ class Edit:
     texts: dict = field(default_factory=dict)
     functions: set = field(default_factory=set)
     wrong: str = ""
-    # Whether what is refused by names alone, or for no reason of its own functions, is told and passes.
-    doubts_pass: ClassVar[bool] = False
 
 
 def pairs_of(text):
@@ -329,8 +326,6 @@ def try_alone(room, edit):
         return False, "NOT refused: the crate is still proved with it"
     if verdict.trouble:
         return False, f"NOT refused: it didn't reach the prover: {verdict.trouble}"
-    if Edit.doubts_pass:
-        return True, f"refused, in doubt: {next(iter(verdict.by_names.values()), 'no function of it has a reason of its own')}"
     by_names = verdict.of(edit, verdict.by_names)
     if by_names:
         return False, f"NOT refused but by names that it took away, which says nothing of the contract: {by_names}"
@@ -387,12 +382,10 @@ def main():
     signal.signal(signal.SIGTERM, Commands.stop)
     signal.signal(signal.SIGINT, Commands.stop)
     asked = argparse.ArgumentParser(description="Tries the edits that the prover must refuse, many of a crate in one check.")
-    asked.add_argument("--tell-doubts", action="store_true", help="tell what is refused by names alone or for no reason of its own, and don't fail it")
     asked.add_argument("--jobs", type=int, help="how many crates at a time")
     asked.add_argument("--proved", metavar="FOLDER", help="a copy of the repository that rt ci has just proved")
     asked.add_argument("wanted", nargs="*", metavar="CRATE or CRATE/NAME", help="the edits of a crate, or one of them; none: all")
     words = asked.parse_args()
-    Edit.doubts_pass = words.tell_doubts
     edits, strays = find_edits()
     edits = wanted_of(edits, words.wanted) if words.wanted else edits
     toolchain = Toolchain(Path(words.proved or ".").resolve())
