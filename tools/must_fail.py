@@ -40,7 +40,7 @@ MOST_IN_A_ROUND = 25
 PARTS = ("src", "specs", "proofs")
 ERROR = re.compile(r"(?:\./)?(\S+?):\d+:\d+: error\b")
 # What is said of a proof that names what an edit took away, and of what rests on such a proof.
-LOST_NAME = re.compile(r"has no field|is not in scope|has no `|was not admitted")
+LOST_NAME = re.compile(r"has no field|is not in scope|has no `|was not admitted|: module `[^`]*`$|: record `[^`]*` \(nearest: ")
 CONSTANT = re.compile(r"^(?:pub(?:\([^)]*\))? )?(?:const|static) (\w+)", re.M)
 
 
