@@ -1,0 +1,140 @@
+//! Index files that a job makes of archives, against answers that were worked out by hand.
+ghost use Rattle.std.specs.Prelude.{◌<◌};
+
+use crate::archive_text::archive;
+use index_job::{IndexJob, JobFault};
+use mail_index::{IndexView, Kind, Steps, is_path};
+use mail_words::TextKind;
+use mbox_cutter::{CutFault, MemoryOut, MemorySource};
+use std::alloc::Global;
+use std::test::Fail;
+
+const HELLO: &str = "^Subject: Hello||hi||";
+
+const PATH: &str = "m.mbox";
+
+/// Its index file, with the digest from outside.
+const FILE: &[u8] = b"MAIRIX\r\n\
+    \x00\x00\x00\x01\x00\x00\x00\x01\x00\x00\x00\x01\x00\x00\x00\x02\
+    \x00\x00\x00\x00\x00\x00\x00\x12\x00\x00\x00\x00\x00\x00\x00\x07\x00\x00\x00\x00\x00\x00\x00\x02\
+    \x00\x00\x00\x00\x00\x00\x00\x3a\x00\x00\x00\x06m.mbox\
+    \x00\x00\x00\x00\x00\x00\x00\x00\x00\x00\x00\x00\x00\x00\x00\x00\
+    \x00\x00\x00\x00\x00\x00\x00\x3a\x00\x00\x00\x00\x00\x00\x00\x13\x00\x00\x00\x00\x00\x00\x00\x00\
+    \x05\x00\x00\x00\x00\x00\x00\x05\x00\x00\x00\x00\x00\x00\x00\x00\x00\x00\x00\x00\x00\x00\x00\x00\
+    \x06\x00\x00\x00\x00\x00\x00\x02\x00\x00\x00\x00\x00\x00\x00\x05\x00\x00\x00\x00\x00\x00\x00\x01\
+    hellohi\
+    \x01\x01\
+    \xbe\x22\x1b\xc0\x97\xae\xcd\xe7\x1f\x26\x77\x17\xf7\x2e\xdb\xcc\
+    \x9d\x3c\x32\x27\x3e\xe3\x56\xa3\x4b\x24\x92\xd5\x7b\x98\xc0\xc3";
+
+/// A job and what it answers of an archive under the path, which comes in such pieces and fails at such a read. It is None where
+/// memory is wanting.
+fn begun(
+    alloc: Global,
+    text: &str,
+    piece: usize,
+    fail_at: Option<u64>,
+) -> Option<(IndexJob, Result<u64, JobFault>)>
+    requires { 0 < piece }
+{
+    if !is_path(PATH) {
+        return None;
+    }
+    let archive = archive(alloc, text).ok()?;
+    let mut source = MemorySource::new(alloc, &archive, piece, fail_at).ok()?;
+    let mut job = IndexJob::new(alloc).ok()?;
+    let answer = job.archive(PATH, &mut source);
+    Some((job, answer))
+}
+
+/// The file of an index of this archive, of one message. It is None where the job answers anything else.
+fn indexed(alloc: Global, text: &str, piece: usize) -> Option<Vec<u8>>
+    requires { 0 < piece }
+{
+    let (job, answer) = begun(alloc, text, piece, None)?;
+    let mut out = MemoryOut::new(alloc, None);
+    let length = job.finish(&mut out).ok()?;
+    if answer == Ok(1) && length == out.bytes().len() as u64 {
+        out.bytes().to_vec(alloc).ok()
+    } else {
+        None
+    }
+}
+
+#[test]
+fn the_file_of_one_message_is_written(rt: HostRuntime) -> Result<(), Fail> {
+    assert_eq!(rt; FILE.len(), 195);
+    for piece in [1usize, 7, 65_536] {
+        let written = indexed(rt.alloc(), HELLO, piece).ok_or("a file")?;
+        assert_eq!(rt; written.as_slice(), FILE);
+    }
+    Ok(())
+}
+
+/// Whether message 0 alone has a word of a kind.
+fn is_of_first(view: &IndexView<'_>, kind: TextKind, word: &[u8]) -> bool {
+    let mut steps = Steps::new();
+    let mut postings = view.look_up(Kind::Text(kind), word, &mut steps);
+    let first = postings.next(&mut steps);
+    first == Some(0) && postings.next(&mut steps).is_none()
+}
+
+#[test]
+fn a_folded_subject_is_a_key(rt: HostRuntime) -> Result<(), Fail> {
+    let text = "^Subject: =?iso-8859-1?Q?Gr=FC=DFe?=||x||";
+    let file = indexed(rt.alloc(), text, 7).ok_or("a file")?;
+    assert_eq!(rt; file.len(), 196);
+    let view = IndexView::open(&file)?;
+    let subject = b"\x67\x72\xc3\xbc\x73\x73\x65";
+    assert!(rt; is_of_first(&view, TextKind::Subject, subject));
+    assert!(rt; is_of_first(&view, TextKind::Body, b"x"));
+    Ok(())
+}
+
+/// Whether a job gives an archive this fault, and then answers that it failed before, whatever comes. It is None where memory is
+/// wanting.
+fn is_lost(alloc: Global, text: &str, fail_at: Option<u64>, fault: CutFault) -> Option<bool> {
+    let (mut job, answer) = begun(alloc, text, 7, fail_at)?;
+    let sound = archive(alloc, HELLO).ok()?;
+    let mut source = MemorySource::new(alloc, &sound, 7, None).ok()?;
+    if !is_path(PATH) {
+        return None;
+    }
+    let again = job.archive(PATH, &mut source);
+    let mut out = MemoryOut::new(alloc, None);
+    let finished = job.finish(&mut out);
+    Some(
+        answer == Err(JobFault::Cut(fault))
+            && again == Err(JobFault::Failed)
+            && finished == Err(JobFault::Failed)
+            && out.bytes().is_empty(),
+    )
+}
+
+#[test]
+fn nothing_goes_on_after_a_fault(rt: HostRuntime) {
+    for (text, fail_at, fault) in [
+        (HELLO, Some(1), CutFault::Device),
+        (HELLO, Some(10), CutFault::Device),
+        ("hello|", None, CutFault::NotAnMbox),
+    ] {
+        assert_eq!(rt; is_lost(rt.alloc(), text, fail_at, fault), Some(true));
+    }
+}
+
+/// Whether an output with so much room takes just so much of the file. It is None where memory is wanting.
+fn is_front(alloc: Global, room: usize) -> Option<bool> {
+    let (job, answer) = begun(alloc, HELLO, 7, None)?;
+    let mut out = MemoryOut::new(alloc, Some(room as u64));
+    let finished = job.finish(&mut out);
+    let front = FILE.get(..room)?;
+    Some(answer == Ok(1) && finished == Err(JobFault::Out) && out.bytes() == front)
+}
+
+/// An output with room for less than the file takes just so much of it.
+#[test]
+fn a_failed_output_leaves_a_front(rt: HostRuntime) {
+    for room in 0..FILE.len() {
+        assert_eq!(rt; is_front(rt.alloc(), room), Some(true), "{room} bytes");
+    }
+}

@@ -1,0 +1,9 @@
+//! Tests of the jobs that index archives. It has no code of its own.
+#![tactic(auto)]
+
+#[cfg(test)]
+mod archive_text;
+#[cfg(test)]
+mod index_jobs;
+#[cfg(test)]
+mod sweeps;
