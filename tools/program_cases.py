@@ -16,7 +16,21 @@ RAW = ONCE + ["-r"]
 STORED = INDEX + ["-r"]
 
 HELLO_INDEX = hello_index("m.mbox")
+OLD_INDEX = hello_index("m.mbox", version=1)
+UNDIGESTED_INDEX = hello_index("m.mbox", digest=bytes(32))
 GOODBYE = SEPARATOR + b"Subject: Goodbye\n\nhi\n\n"
+
+# A message with a part that has two names, of which the disposition's counts.
+REPORT = SEPARATOR + b'''Content-Type: multipart/mixed; boundary=o
+
+--o
+Content-Type: application/pdf; name=old.pdf
+Content-Disposition: attachment; filename="Annual Report.pdf"
+
+%PDF
+--o--
+
+'''
 
 # Two messages that name a third, which no archive holds.
 FIRST_OF_THREAD = SEPARATOR + b"Message-ID: <1@x>\nReferences: <0@x>\n\nhi\n\n"
@@ -39,9 +53,9 @@ def sealed(body):
     return body + hashlib.sha256(body).digest()
 
 
-def changed(place, byte):
+def changed(place, byte, index=HELLO_INDEX):
     """The index of HELLO with one byte changed, under a right digest."""
-    return sealed(HELLO_INDEX[:place] + bytes([byte]) + HELLO_INDEX[place + 1 : -32])
+    return sealed(index[:place] + bytes([byte]) + index[place + 1 : -32])
 
 
 def under(base, *lines):
@@ -57,6 +71,10 @@ ONCE_CASES = [
     ("without a closing empty line", {"m.mbox": HELLO[:-1]}, RAW + ["s:hello"], 0, b"0 57 m.mbox\n", b""),
     ("an archive named twice", {"m.mbox": HELLO, "rc": b"mbox=m.mbox:m.mbox\ndatabase=d\nmfolder=h\n"}, RAW + ["s:hello"], 0, b"0 58 m.mbox\n0 58 m.mbox\n", b""),
     ("folded words", {"m.mbox": SEPARATOR + b"Subject: =?iso-8859-1?Q?Gr=FC=DFe?=\n\nx\n\n"}, RAW + ["s:GR\u00dcSSE"], 0, b"0 78 m.mbox\n", b""),
+    ("an attachment's name", {"m.mbox": REPORT}, RAW + ["n:annual,report.pdf", "ns:^rep="], 0, b"0 204 m.mbox\n", b""),
+    ("a name that isn't taken", {"m.mbox": REPORT}, RAW + ["n:old"], 1, b"", b""),
+    ("a name is no text", {"m.mbox": REPORT}, RAW + ["report"], 1, b"", b""),
+    ("names and ids", {"m.mbox": REPORT}, RAW + ["mn:report"], 2, b"", fault(b"query item 1: bad prefix")),
     ("no mbox", {"m.mbox": b"hello\n"}, RAW + ["s:x"], 4, b"", fault(b"archive 1: not an mbox")),
     ("the second is no mbox", {"m.mbox": HELLO, "n": b"x\n", "rc": b"mbox=m.mbox:n\ndatabase=d\nmfolder=h\n"}, RAW + ["s:hello"], 4, b"", fault(b"archive 2: not an mbox")),
     ("a missing archive", {}, RAW + ["s:x"], 4, b"", fault(b"cannot open m.mbox")),
@@ -66,7 +84,7 @@ ONCE_CASES = [
     ("a missing archive goes before a bad query", {}, RAW + ["q:x"], 4, b"", fault(b"cannot open m.mbox")),
     ("bad prefix", {"m.mbox": HELLO}, RAW + ["q:x"], 2, b"", fault(b"query item 1: bad prefix")),
     ("no prefix", {"m.mbox": HELLO}, RAW + ["hello"], 0, b"0 58 m.mbox\n", b""),
-    ("no such prefix yet", {"m.mbox": HELLO}, RAW + ["n:x"], 2, b"", fault(b"query item 1: bad prefix")),
+    ("no names", {"m.mbox": HELLO}, RAW + ["n:hello"], 1, b"", b""),
     ("the second pattern is bad", {"m.mbox": HELLO}, RAW + ["s:hello", "q:x"], 2, b"", fault(b"query item 2: bad prefix")),
     ("approximate match", {"m.mbox": HELLO}, RAW + ["f:alice=2"], 2, b"", fault(b"query item 1: approximate match not supported")),
     ("bad date", {"m.mbox": HELLO}, RAW + ["d:31apr"], 2, b"", fault(b"query item 1: bad date")),
@@ -195,9 +213,25 @@ STORED_CASES = [
     ("an index of another version", {"m.mbox": HELLO, "m.idx": changed(11, 9)}, STORED + ["s:hello"], 3, b"", fault(b"index: unknown version")),
     ("an index of more messages than it has", {"m.mbox": HELLO, "m.idx": changed(19, 2)}, STORED + ["s:hello"], 3, b"", fault(b"index: bad layout in counts")),
     ("a line's end in an index's path", {"m.mbox": HELLO, "m.idx": changed(61, 10)}, STORED + ["s:hello"], 3, b"", fault(b"index: bad layout in archives")),
-    ("an unknown flag in an index", {"m.mbox": HELLO, "m.idx": changed(70, 16)}, STORED + ["s:hello"], 3, b"", fault(b"index: bad layout in records")),
-    ("an unknown kind of key in an index", {"m.mbox": HELLO, "m.idx": changed(106, 9)}, STORED + ["s:hello"], 3, b"", fault(b"index: bad layout in directory")),
-    ("no message at a key of an index", {"m.mbox": HELLO, "m.idx": changed(161, 0)}, STORED + ["s:hello"], 3, b"", fault(b"index: bad layout in postings")),
+    ("an unknown flag in an index", {"m.mbox": HELLO, "m.idx": changed(102, 16)}, STORED + ["s:hello"], 3, b"", fault(b"index: bad layout in records")),
+    ("an unknown kind of key in an index", {"m.mbox": HELLO, "m.idx": changed(138, 10)}, STORED + ["s:hello"], 3, b"", fault(b"index: bad layout in directory")),
+    ("a name in an old index", {"m.mbox": HELLO, "m.idx": changed(130, 9, OLD_INDEX)}, STORED + ["s:hello"], 3, b"", fault(b"index: bad layout in directory")),
+    ("no message at a key of an index", {"m.mbox": HELLO, "m.idx": changed(193, 0)}, STORED + ["s:hello"], 3, b"", fault(b"index: bad layout in postings")),
+    ("an old index", {"m.mbox": HELLO, "m.idx": OLD_INDEX}, STORED + ["s:hello"], 0, b"0 58 m.mbox\n", b""),
+    ("no names in an index", {"m.mbox": HELLO, "m.idx": HELLO_INDEX}, STORED + ["n:hello"], 1, b"", b""),
+    ("names of an old index", {"m.mbox": HELLO, "m.idx": OLD_INDEX, "hits": b"old"}, INDEX + ["n:hello"], 3, b"", fault(b"index: too old, build it again")),
+    ("names of an old index, and of other kinds", {"m.mbox": HELLO, "m.idx": OLD_INDEX}, STORED + ["s:hello", "sn:~hi"], 3, b"", fault(b"index: too old, build it again")),
+    ("names of an old index go before another path", {"m.mbox": HELLO, "m.idx": hello_index("n.mbox", version=1)}, STORED + ["n:hello"], 3, b"", fault(b"index: too old, build it again")),
+    ("an archive that is verified", {"m.mbox": HELLO, "m.idx": HELLO_INDEX}, INDEX + ["--verify", "s:hello"], 0, b"", b"", {"hits": HELLO}),
+    ("an archive that is verified has no such message", {"m.mbox": HELLO, "m.idx": HELLO_INDEX}, STORED + ["--verify", "s:goodbye"], 1, b"", b""),
+    ("another archive of the same length", {"m.mbox": HELLO.replace(b"Hello", b"World"), "m.idx": HELLO_INDEX, "hits": b"old"}, INDEX + ["--verify", "s:hello"], 3, b"", CHANGED),
+    ("an archive that is indexed in memory is verified so", {"m.mbox": HELLO, "n": HELLO.replace(b"hi", b"ho"), "rc": TWO}, ONCE + ["-r", "--verify", "s:hello"], 0, b"0 58 m.mbox\n0 58 n\n", b""),
+    ("an archive that has shrunk is verified", {"m.mbox": HELLO[:-1], "m.idx": HELLO_INDEX}, STORED + ["--verify", "s:hello"], 3, b"", CHANGED),
+    ("an index with zeros as its archive's digest", {"m.mbox": HELLO, "m.idx": UNDIGESTED_INDEX}, STORED + ["s:hello"], 0, b"0 58 m.mbox\n", b""),
+    ("zeros are no digest of an archive", {"m.mbox": HELLO, "m.idx": UNDIGESTED_INDEX}, STORED + ["--verify", "s:hello"], 3, b"", CHANGED),
+    ("an index with another digest of its archive", {"m.mbox": HELLO, "m.idx": changed(97, 1)}, STORED + ["s:hello"], 0, b"0 58 m.mbox\n", b""),
+    ("another digest of an archive", {"m.mbox": HELLO, "m.idx": changed(97, 1)}, STORED + ["--verify", "s:hello"], 3, b"", CHANGED),
+    ("digests of an old index", {"m.mbox": HELLO, "m.idx": OLD_INDEX, "hits": b"old"}, INDEX + ["--verify", "s:hello"], 3, b"", fault(b"index: too old, build it again")),
     ("an index of another path", {"m.mbox": HELLO, "m.idx": hello_index("n.mbox"), "hits": b"old"}, INDEX + ["s:hello"], 3, b"", CHANGED),
     ("an index of fewer paths", {"m.mbox": HELLO, "n": HELLO, "m.idx": HELLO_INDEX, "rc": TWO}, STORED + ["s:hello"], 3, b"", fault(b"archive 2: changed since it was indexed")),
     ("an archive that has grown", {"m.mbox": HELLO + HELLO, "m.idx": HELLO_INDEX, "hits": b"old"}, INDEX + ["s:hello"], 3, b"", CHANGED),

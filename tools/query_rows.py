@@ -11,7 +11,7 @@ PROOFS = os.path.join(os.path.dirname(os.path.abspath(__file__)), "..", "crates"
 FEWEST = 300  # texts, in both tables
 MOST_WAITING = 30
 SIZE_LIMIT = 2**63 - 1
-KINDS = ["to", "cc", "bcc", "from", "subject", "body", "own_id"]
+KINDS = ["to", "cc", "bcc", "from", "subject", "body", "name", "own_id"]
 
 
 class Fault(Exception):
@@ -74,7 +74,7 @@ def fault(number, kind):
 
 # ---- mairix patterns
 
-LETTERS = {"t": ["to"], "c": ["cc"], "f": ["from"], "s": ["subject"], "b": ["body"], "a": ["to", "cc", "from"]}
+LETTERS = {"t": ["to"], "c": ["cc"], "f": ["from"], "s": ["subject"], "b": ["body"], "a": ["to", "cc", "from"], "n": ["name"]}
 FLAGS = {"s": "Seen", "r": "Replied", "f": "Flagged"}
 
 
@@ -211,7 +211,7 @@ def term_query(term):
     if not colon:
         if term.lower() == "xor":
             raise Fault("BadWord")
-        return word(KINDS[:6], term)
+        return word(KINDS[: KINDS.index("name")], term)
     if not behind or (prefix == "id" and behind == "<>"):
         raise Fault("MissingTerm")
     if prefix == "id":

@@ -1,5 +1,5 @@
 -- Laws of a list of devices, of which those from an index on were not asked yet.
-use Rattle.std.proofs.Common.{arith, ◌≡◌, ◌≢◌, ℕ, suc, zero, ◌+◌, ◌<◌, List, [], ◌∷◌, length, get_or, map, drop, Bool, true, false, inl, inr, Option, Some, refl, ap, sym, ◌∙◌, subst, add-zero, IfSome}
+use Rattle.std.proofs.Common.{arith, ◌≡◌, ◌≢◌, ℕ, zero, ◌+◌, ◌<◌, List, [], length, get_or, map, drop, Bool, false, inl, inr, Option, Some, ap, sym, ◌∙◌, subst, add-zero, IfSome}
 use Rattle.std.proofs.lemmas.Bool.Decides.{eqb_tells}
 use Rattle.std.proofs.lemmas.List.{get_or-drop, drop-drop, length-map, get_or-map, map-set, get_or-set_same, get_or-set_other, length-set, drop-set-lt}
 use Rattle.std.proofs.Math.ListN.{set}

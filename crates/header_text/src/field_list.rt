@@ -151,6 +151,18 @@ fn field_at<'a>(bytes: &'a [u8], place: Place, end: usize) -> Field<'a>
     }
 }
 
+impl<'a> Fields<'a> {
+    /// The same fields, to be gone over once more.
+    pub fn again(&self) -> Fields<'a>
+        ensures { result ≡ self.now }
+    {
+        Fields {
+            bytes: self.bytes,
+            places: self.places,
+        }
+    }
+}
+
 impl<'a> Iterator for Fields<'a> {
     type Item = Field<'a>;
 

@@ -3,7 +3,7 @@ use Rattle.std.proofs.Common.{true, false, nat_lt, if◌then◌else◌, ◌≡�
 use Rattle.std.specs.Prelude.{Result, Ok, Err}
 use Rattle.std.proofs.lemmas.List.{length-append, length-map, map-append}
 use Rattle.contract_words.specs.Answers.{◌>>=◌}
-use Rattle.mail_index.specs.Builders.{Draft, archive_count, begun_archive, ended_archive, stepped}
+use Rattle.mail_index.specs.Builders.{Draft, archive_count, begun_archive, stepped}
 use Rattle.mail_index.specs.declared.build_fault.BuildFault.TheVariants.{TooMany}
 use Rattle.std.proofs.lemmas.Bool.Decides.{nat_tests}
 use Rattle.mail_index.specs.Tables.{Key}
@@ -12,11 +12,12 @@ use Rattle.mbox_cutter.specs.declared.event.CutFault.{CutFault}
 use Rattle.mbox_cutter.specs.declared.event.CutFault.TheVariants as cut
 use Rattle.mbox_cutter.specs.Events.{Coming}
 use Rattle.index_job.specs.declared.archive_index.Heading.TheVariants as heading
+use Rattle.index_job.specs.declared.archive_index.ReadArchive.{ReadArchive}
 use Rattle.index_job.specs.declared.job_fault.JobFault.{JobFault}
 use Rattle.index_job.specs.declared.job_fault.JobFault.TheVariants as job
-use Rattle.index_job.specs.ArchiveReading.{coming_ahead, Heads, AddsArchive, AddsNamed, HasDone}
+use Rattle.index_job.specs.ArchiveReading.{coming_ahead, Heads, AddsMessages, AddsNamed, HasDone}
 use Rattle.index_job.specs.ArchiveTables.{record_of, with_terms, with_messages}
-use Rattle.index_job.specs.Indexing.{with_open_archive, draft_with_messages, draft_ended, HasTooMany, IsJobFault}
+use Rattle.index_job.specs.Indexing.{with_open_archive, draft_with_messages, HasTooMany, IsJobFault}
 use Rattle.index_job.specs.MessageTerms.{message_terms}
 use Rattle.index_job.proofs.Terms.{with_terms-more}
 
@@ -118,22 +119,20 @@ module _ (number : ℕ) (d : Draft) (all : ℕ) (ms : Option (List Message)) (re
         comes = comes;
       }
 
-    -- the archive's end
-    pub archive-done : (bytes : ℕ) (new : Option Draft) → Heads (heading.End bytes) all h.rest refusal coming → stepped (ended_archive bytes) builder ≡ Ok new
-        → (refusal ≡ None) × (new ≡ Some (draft_ended all whole_draft)) × (count ≡ length (unwrap_or ms []))
-    archive-done bytes new (none, same, sound) gives =
-        let all-is : unwrap_or ms [] ≡ h.done = ap (λ o. unwrap_or o []) (h.whole ∙ ap (option_map (λ l. h.done ++ l)) none) ∙ append-nil h.done in
-        let ended : stepped (ended_archive bytes) (Some (draft_with_messages number h.done d)) ≡ Ok new = subst (λ (o : Option Draft). stepped (ended_archive bytes) o ≡ Ok new) h.added gives in
-        let is : Some (draft_ended bytes (draft_with_messages number h.done d)) ≡ new = cc in (
+    -- all are done at the archive's end
+    pub archive-done : (bytes : ℕ) → Heads (heading.End bytes) all h.rest refusal coming → AddsMessages number d all ms refusal (Ok (record { builder = builder; messages = count; length = bytes }))
+    archive-done bytes (none, same, sound) =
+        let all-is : unwrap_or ms [] ≡ h.done = ap (λ o. unwrap_or o []) (h.whole ∙ ap (option_map (λ l. h.done ++ l)) none) ∙ append-nil h.done in (
           sound,
-          sym is ∙ ap₂ (λ b l. Some (draft_ended b (draft_with_messages number l d))) same (sym all-is),
+          h.added ∙ ap (λ l. Some (draft_with_messages number l d)) (sym all-is),
           h.counted ∙ ap length (sym all-is),
+          same,
         )
 
 -- ---- an archive with its path
 
-pub named-adds : (path : List ℕ) (number : ℕ) (d : Draft) (all : ℕ) (ms : Option (List Message)) (refusal : Option CutFault) (mid : Option Draft) (r : Result (Option Draft × ℕ) JobFault)
-    → stepped (begun_archive path) (Some d) ≡ Ok mid → ((e : Draft) → mid ≡ Some e → AddsArchive number e all ms refusal r) → AddsNamed path number d all ms refusal r
+pub named-adds : (path : List ℕ) (number : ℕ) (d : Draft) (all : ℕ) (ms : Option (List Message)) (refusal : Option CutFault) (mid : Option Draft) (r : Result ReadArchive JobFault)
+    → stepped (begun_archive path) (Some d) ≡ Ok mid → ((e : Draft) → mid ≡ Some e → AddsMessages number e all ms refusal r) → AddsNamed path number d all ms refusal r
 named-adds path number d all ms refusal mid r given adds =
     (elim (nat_lt (length d.table.archives) d.most)
     as (λ b. nat_lt (length d.table.archives) d.most ≡ b → ((if b then Ok (with_open_archive path d) else Err TooMany) >>= λ e. Ok (Some e)) ≡ Ok mid → AddsNamed path number d all ms refusal r) [
@@ -141,6 +140,6 @@ named-adds path number d all ms refusal mid r given adds =
       | false ↦ λ few is. absurd cc
     ]) refl given
   where
-    named : (r : Result (Option Draft × ℕ) JobFault) → archive_count d < d.most → AddsArchive number (with_open_archive path d) all ms refusal r → AddsNamed path number d all ms refusal r
+    named : (r : Result ReadArchive JobFault) → archive_count d < d.most → AddsMessages number (with_open_archive path d) all ms refusal r → AddsNamed path number d all ms refusal r
     named (Ok x) few h = (few, h)
     named (Err f) few h = inr (few, h)

@@ -4,11 +4,14 @@ use Rattle.std.specs.Prelude.{Ok, Err, IfSome}
 use Rattle.std.proofs.lemmas.Grind.{flat_map-append}
 use Rattle.std.proofs.lemmas.List.{length-append, length-map, map-append}
 use Rattle.mail_index.specs.declared.record.Record.{Record}
-use Rattle.mail_index.specs.Builders.{Draft}
+use Rattle.sha2.specs.Sha256.{sha256}
+use Rattle.mail_index.specs.Builders.{Draft, IsWithinMost, ended_archive, stepped}
+use Rattle.mail_index.specs.Versions.{newest}
 use Rattle.mail_index.specs.Tables.{Archive, Key}
 use Rattle.mbox_cutter.specs.Archives.{messages}
 use Rattle.mbox_cutter.specs.declared.event.CutFault.TheVariants as cut
 use Rattle.mbox_cutter.specs.Events.{coming_of, events, refusal_of}
+use Rattle.index_job.specs.declared.archive_index.ReadArchive.{ReadArchive}
 use Rattle.index_job.specs.declared.job_fault.JobFault.{JobFault}
 use Rattle.index_job.specs.declared.job_fault.JobFault.TheVariants as job
 use Rattle.index_job.specs.ArchiveReading.{coming_ahead, AddsNamed}
@@ -64,9 +67,9 @@ module _ (archives : List Mbox) (a : Mbox) where
   keys-are : read_draft.table.keys ≡ (table (archives ++ a ∷ [])).keys
   keys-are = keys-more archives a
 
-  table-more : draft_ended (length a.bytes) read_draft ≡ draft_of (archives ++ a ∷ [])
+  table-more : draft_ended (length a.bytes) (sha256 a.bytes) read_draft ≡ draft_of (archives ++ a ∷ [])
   table-more =
-      ap₂ (λ (named : List Archive) (t : List Record × List Key). record (draft_of archives) { table = record { archives = named; messages = t.0; keys = t.1 } })
+      ap₂ (λ (named : List Archive) (t : List Record × List Key). record (draft_of archives) { table = record { version = newest; archives = named; messages = t.0; keys = t.1 } })
       (sym (map-append entry_of archives (a ∷ [])))
       (ap₂ (λ rs ks. (rs, ks)) messages-are keys-are)
 
@@ -77,15 +80,20 @@ module _ (archives : List Mbox) (a : Mbox) where
       (λ much. inr (inr (subst (λ (ks : List Key). most_in_index < length ks) keys-are much)))
       h
 
-  pub one-added : (number : ℕ) (b : Option Draft) (n : ℕ) → number ≡ length archives
-      → AddsNamed a.path number (draft_of archives) (length a.bytes) (messages a.bytes) (refusal_of most_in_archive a.bytes) (Ok (b, n)) → IsBuilderIdle (number + 1) b → IsAdded archives a n b
-  one-added number b n same (few, (sound, is, counted)) (d, d-is, idle) =
-      let whole : b ≡ Some (draft_of (archives ++ a ∷ [])) =
-      is ∙ ap (λ k. Some (draft_ended (length a.bytes) (draft_with_messages k (messages_in a.bytes) (with_open_archive a.path (draft_of archives))))) same ∙ ap Some table-more in
-      let within = subst (λ (o : Option Draft). IfSome o (IsIdle (number + 1))) (sym d-is ∙ whole) idle in
+  -- the archive ended with its length and its digest
+  pub one-added : (number : ℕ) (read : ReadArchive) (digest : List ℕ) (new : Option Draft) → number ≡ length archives
+      → AddsNamed a.path number (draft_of archives) (length a.bytes) (messages a.bytes) (refusal_of most_in_archive a.bytes) (Ok read)
+      → digest ≡ sha256 a.bytes → stepped (ended_archive read.length digest) read.builder ≡ Ok new → IfSome new IsWithinMost → IsAdded archives a read.messages new
+  one-added number read digest new same (few, (sound, is, counted, long)) digest-is gives within =
+      let read-is : read.builder ≡ Some read_draft = is ∙ ap (λ k. Some (draft_with_messages k (messages_in a.bytes) (with_open_archive a.path (draft_of archives)))) same in
+      let ended : stepped (ended_archive read.length digest) (Some read_draft) ≡ Ok new = subst (λ (o : Option Draft). stepped (ended_archive read.length digest) o ≡ Ok new) read-is gives in
+      let new-is : Some (draft_ended read.length digest read_draft) ≡ new = cc in
+      let whole : new ≡ Some (draft_of (archives ++ a ∷ [])) =
+      sym new-is ∙ ap₂ (λ n digest. Some (draft_ended n digest read_draft)) long digest-is ∙ ap Some table-more in
+      let all : IsWithinMost (draft_of (archives ++ a ∷ [])) = subst (λ (o : Option Draft). IfSome o IsWithinMost) whole within in
       record {
         sound = sound;
-        within = record { archives = within.within.archives; messages = within.within.messages; keys = within.within.keys };
+        within = record { archives = all.archives; messages = all.messages; keys = all.keys };
         counted = counted;
         whole = whole;
       }

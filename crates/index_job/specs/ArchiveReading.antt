@@ -13,10 +13,11 @@ use Rattle.mime_text.specs.declared.message_text.MessageText.{MessageText}
 use Rattle.index_job.specs.declared.archive_index.Ended.{Ended}
 use Rattle.index_job.specs.declared.archive_index.Heading.{Heading}
 use Rattle.index_job.specs.declared.archive_index.Heading.TheVariants.{Message, End}
+use Rattle.index_job.specs.declared.archive_index.ReadArchive.{ReadArchive}
 use Rattle.index_job.specs.declared.job_fault.JobFault.{JobFault}
 use Rattle.index_job.specs.declared.job_fault.JobFault.TheVariants.{OutOfMemory, TooMany}
 use Rattle.index_job.specs.Gathering.{HasGathered}
-use Rattle.index_job.specs.Indexing.{draft_with_terms, draft_with_messages, draft_ended, with_open_archive, HasTooMany, RefusesTerms, IsJobFault}
+use Rattle.index_job.specs.Indexing.{draft_with_terms, draft_with_messages, with_open_archive, HasTooMany, RefusesTerms, IsJobFault}
 use Rattle.index_job.specs.MessageTerms.{message_terms}
 
 -- ---- what comes
@@ -105,18 +106,18 @@ HasNoRoom d OutOfMemory = ⊤
 HasNoRoom d TooMany = d.most ≤ archive_count d
 HasNoRoom d _ = ⊥
 
--- these messages and the archive's end are added to the draft; or what is wrong with them
-abbrev pub AddsArchive : ℕ → Draft → ℕ → Option (List archives.Message) → Option CutFault → Result (Option Draft × ℕ) JobFault → Type 0
-AddsArchive number d bytes ms refusal (Ok (builder, count)) =
-    (refusal ≡ None) × (builder ≡ Some (draft_ended bytes (draft_with_messages number (unwrap_or ms []) d))) × (count ≡ length (unwrap_or ms []))
-AddsArchive number d bytes ms refusal (Err fault) = IsJobFault refusal (HasTooMany (draft_with_messages number (unwrap_or ms []) d)) fault
+-- these messages are added to the draft, of an archive of so many bytes; or what is wrong with them
+abbrev pub AddsMessages : ℕ → Draft → ℕ → Option (List archives.Message) → Option CutFault → Result ReadArchive JobFault → Type 0
+AddsMessages number d bytes ms refusal (Ok read) =
+    (refusal ≡ None) × (read.builder ≡ Some (draft_with_messages number (unwrap_or ms []) d)) × (read.messages ≡ length (unwrap_or ms [])) × (read.length ≡ bytes)
+AddsMessages number d bytes ms refusal (Err fault) = IsJobFault refusal (HasTooMany (draft_with_messages number (unwrap_or ms []) d)) fault
 
 -- the same with the archive's path; where there is room for it
-abbrev pub AddsNamed : List ℕ → ℕ → Draft → ℕ → Option (List archives.Message) → Option CutFault → Result (Option Draft × ℕ) JobFault → Type 0
-AddsNamed path number d bytes ms refusal (Ok (builder, count)) =
-    (archive_count d < d.most) × AddsArchive number (with_open_archive path d) bytes ms refusal (Ok (builder, count))
+abbrev pub AddsNamed : List ℕ → ℕ → Draft → ℕ → Option (List archives.Message) → Option CutFault → Result ReadArchive JobFault → Type 0
+AddsNamed path number d bytes ms refusal (Ok read) =
+    (archive_count d < d.most) × AddsMessages number (with_open_archive path d) bytes ms refusal (Ok read)
 AddsNamed path number d bytes ms refusal (Err fault) =
-    HasNoRoom d fault ⊎ ((archive_count d < d.most) × AddsArchive number (with_open_archive path d) bytes ms refusal (Err fault))
+    HasNoRoom d fault ⊎ ((archive_count d < d.most) × AddsMessages number (with_open_archive path d) bytes ms refusal (Err fault))
 
 -- the draft has no room for the message's terms, or the archive is refused
 abbrev pub IsMessageFault : Option Draft → Awaited → JobFault → Type 0

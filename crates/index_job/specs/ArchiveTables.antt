@@ -1,9 +1,11 @@
 -- The table of archives: what an index of them says.
 use Rattle.std.specs.Prelude.{ℕ, suc, ℤ, List, [], ◌∷◌, ◌++◌, length, map, flat_map, Option, Some, None, unwrap_or}
+use Rattle.sha2.specs.Sha256.{sha256}
 use Rattle.header_text.specs.Headers.{fields_of}
 use Rattle.mail_dates.specs.HeaderDates.{date_of}
 use Rattle.mail_index.specs.declared.record.Record.{Record}
 use Rattle.mail_index.specs.Builders.{with_pair}
+use Rattle.mail_index.specs.Versions.{newest}
 use Rattle.mail_index.specs.Tables.{Archive, Key, Table}
 use Rattle.mbox_cutter.specs.Archives.{Message, messages, text, size, span_length}
 use Rattle.mime_text.specs.declared.facts.Facts.{Facts}
@@ -62,12 +64,14 @@ with_messages n (m ∷ ms) ks = with_messages (suc n) ms (with_terms n (message_
 
 -- ---- tables
 
+-- an archive as the table names it: by its path, its length and its digest
 abbrev pub entry_of : Mbox → Archive
-entry_of a = record { path = a.path; length = length a.bytes }
+entry_of a = record { path = a.path; length = length a.bytes; digest = Some (sha256 a.bytes) }
 
 -- the archives; a record for each message; and each term that some message has, with the numbers of all these messages
 abbrev pub table : List Mbox → Table
 table archives = record {
+  version = newest;
   archives = map entry_of archives;
   messages = records_from 0 archives;
   keys = with_messages 0 (all_messages archives) [];

@@ -69,9 +69,9 @@ IsBuilderIdle number builder = (d : Draft) × (builder ≡ Some d) × IsIdle num
 abbrev pub with_open_archive : List ℕ → Draft → Draft
 with_open_archive path d = record d { path = Some path }
 
--- with the archive ended that is open, which has so many bytes
-abbrev pub draft_ended : ℕ → Draft → Draft
-draft_ended bytes d = record d { path = None; table = record d.table { archives = d.table.archives ++ record { path = unwrap_or d.path []; length = bytes } ∷ [] } }
+-- with the archive ended that is open, which has so many bytes and this digest
+abbrev pub draft_ended : ℕ → List ℕ → Draft → Draft
+draft_ended bytes digest d = record d { path = None; table = record d.table { archives = d.table.archives ++ record { path = unwrap_or d.path []; length = bytes; digest = Some digest } ∷ [] } }
 
 abbrev pub with_open_message : Draft → Draft
 with_open_message d = record d { in_message = true }

@@ -1,15 +1,17 @@
 //! One archive that is indexed.
-ghost use Rattle.std.specs.Prelude.{◌≡◌, ◌<◌, ◌≤◌, ◌+◌, ◌-◌, ◌^◌, ℕ, List, Option, Some, IfOk, IfErr, OnOk};
+ghost use Rattle.std.specs.Prelude.{◌≡◌, ◌<◌, ◌≤◌, ◌+◌, ◌-◌, ◌^◌, ℕ, List, Option, Some, IfOk, IfErr, OnOk, length};
 ghost use Rattle.std.specs.Option.{MatchOption};
 ghost use Rattle.std.specs.Io.KnownBytes.{IsAtEnd};
 ghost use Rattle.contract_words.specs.Devices.{Counted};
 ghost use Rattle.mail_index.specs.Builders.{Draft};
 ghost use Rattle.mail_index.specs.Tables.{IsPath};
-ghost use Rattle.mbox_cutter.specs.Archives.{Message, text as text_of};
+ghost use Rattle.mbox_cutter.specs.Archives.{Message, messages as messages_of, text as text_of};
+ghost use Rattle.mbox_cutter.specs.Sources.{Stays};
 ghost use Rattle.mbox_cutter.specs.declared.event.CutFault.{CutFault};
+ghost use Rattle.mbox_cutter.specs.Events.{refusal_of};
 ghost use Rattle.mbox_cutter.specs.declared.scan.Phase.TheVariants as Phase;
 ghost use Rattle.index_job.specs.ArchiveRefusals.{most_in_archive};
-ghost use Rattle.index_job.specs.ArchiveReading.{Awaited, AddsArchive, AddsNamed, coming_inside, coming_ahead, IsHeading, Heads, ReadsToEnd, AddsMessage, IsInside, GoesFurther, HasEnded, IsReading, HasReadAll, IsMessageFault};
+ghost use Rattle.index_job.specs.ArchiveReading.{Awaited, AddsMessages, AddsNamed, coming_inside, coming_ahead, IsHeading, Heads, ReadsToEnd, AddsMessage, IsInside, GoesFurther, HasEnded, IsReading, HasReadAll, IsMessageFault};
 ghost use Rattle.index_job.specs.Gathering.{HasGathered};
 ghost use Rattle.index_job.specs.Indexing.{IsArchiveFault, IsBuilderIdle, IsJobFault, IsBuilderReady};
 ghost use Rattle.index_job.specs.JobFaults.{is_source_failure};
@@ -19,9 +21,12 @@ use crate::job_fault::JobFault;
 use crate::message_index::{Span, finish_message};
 use crate::term_sink::TermSink;
 use mail_index::Builder;
-use mbox_cutter::{Cutter, Event, Source};
+use mbox_cutter::{Buffer, Cutter, Event, Source};
 use mime_text::MessageText;
 use std::alloc::Global;
+
+/// The most bytes of an archive.
+const MOST_BYTES: u64 = 1_099_511_627_776;
 
 /// The end of a message: how long its span and its text are.
 #[derive(Clone, Copy)]
@@ -38,11 +43,20 @@ enum Heading {
     End(u64),
 }
 
+/// An archive whose messages are indexed, and which hasn't ended in the builder: how many messages and bytes it has.
+#[derive(Drop)]
+pub(crate) struct ReadArchive {
+    pub(crate) builder: Builder,
+    pub(crate) messages: u64,
+    pub(crate) length: u64,
+}
+
 /// Reads on to the next message, or to the archive's end, where no message is open.
 fn next_heading<'a, S: Source>(cutter: &mut Cutter<'a, S>) -> Result<Option<Heading>, JobFault>
     requires between { cutter.old.place.phase ≡ Phase.Between }
     requires count { S.failures cutter.old.source.now < 2 ^ 64 - 1 }
     ensures source { cutter.new.source.ghost_name ≡ cutter.old.source.ghost_name }
+    ensures stays { Stays S.Source cutter.old.source.now cutter.new.source.now }
     ensures count { Counted (is_source_failure result) (S.failures cutter.old.source.now) (S.failures cutter.new.source.now) }
     ensures most { OnOk result (cutter.new.place.most ≡ cutter.old.place.most) }
     ensures some { IfOk result (λ h. MatchOption h ⊥ (λ heading. IsHeading heading cutter.old.place cutter.new.place)) }
@@ -72,6 +86,7 @@ fn next_line<'a, S: Source>(
     requires inside { IsInside start cutter.old.place }
     requires count { S.failures cutter.old.source.now < 2 ^ 64 - 1 }
     ensures source { cutter.new.source.ghost_name ≡ cutter.old.source.ghost_name }
+    ensures stays { Stays S.Source cutter.old.source.now cutter.new.source.now }
     ensures count { Counted (is_source_failure result) (S.failures cutter.old.source.now) (S.failures cutter.new.source.now) }
     ensures further { OnOk result (GoesFurther cutter.old.place cutter.new.place) }
     ensures place { IfOk result (λ end. MatchOption end (IsInside start cutter.new.place) (λ e. HasEnded start e cutter.new.place)) }
@@ -109,6 +124,7 @@ fn index_message<'a, S: Source>(
     requires count { S.failures cutter.old.source.now < 2 ^ 64 - 1 }
     requires ready { IsBuilderReady archive offset builder }
     ensures source { cutter.new.source.ghost_name ≡ cutter.old.source.ghost_name }
+    ensures stays { Stays S.Source cutter.old.source.now cutter.new.source.now }
     ensures count { Counted (is_source_failure result) (S.failures cutter.old.source.now) (S.failures cutter.new.source.now) }
     ensures further { OnOk result (GoesFurther cutter.old.place cutter.new.place) }
     ensures between { OnOk result (cutter.new.place.phase ≡ Phase.Between) }
@@ -132,23 +148,25 @@ fn index_message<'a, S: Source>(
     }
 }
 
-/// Indexes the archive's messages, one after another, ends the archive, and counts them.
+/// Indexes the archive's messages, one after another, and leaves its end in the builder to the caller.
 fn index_messages<'a, S: Source>(
     alloc: Global,
     cutter: &mut Cutter<'a, S>,
     builder: Builder,
     archive: u32,
-) -> Result<(Builder, u64), JobFault>
+) -> Result<ReadArchive, JobFault>
     requires between { cutter.old.place.phase ≡ Phase.Between }
     requires most { cutter.old.place.most ≡ most_in_archive }
     requires count { S.failures cutter.old.source.now < 2 ^ 64 - 1 }
     requires ready { IsBuilderReady archive cutter.old.place.offset builder }
     ensures source { cutter.new.source.ghost_name ≡ cutter.old.source.ghost_name }
+    ensures stays { Stays S.Source cutter.old.source.now cutter.new.source.now }
     ensures count { Counted (is_source_failure result) (S.failures cutter.old.source.now) (S.failures cutter.new.source.now) }
     ensures end { OnOk result (IsAtEnd (S.rest cutter.new.source.now)) }
-    ensures idle { IfOk result (λ r. IsBuilderIdle (archive + 1) r.0) }
+    ensures ready { IfOk result (λ read. IsBuilderReady archive read.length read.builder) }
+    ensures within { IfOk result (λ read. read.length ≤ most_in_archive) }
     ensures known { (d : Draft) (all : ℕ) (ms : Option (List Message)) (refusal : Option CutFault) → builder ≡ Some d
-        → cutter.old.coming ≡ Some (coming_ahead all ms refusal) → AddsArchive archive d all ms refusal result }
+        → cutter.old.coming ≡ Some (coming_ahead all ms refusal) → AddsMessages archive d all ms refusal result }
     ensures own { IfErr result IsArchiveFault }
 {
     let mut builder = builder;
@@ -160,30 +178,35 @@ fn index_messages<'a, S: Source>(
                 messages += 1;
             }
             Some(Heading::End(length)) => {
-                builder.end_archive(length)?;
-                return Ok((builder, messages));
+                return Ok(ReadArchive {
+                    builder,
+                    messages,
+                    length,
+                });
             }
             None => {}
         }
     }
 }
 
-/// Indexes an archive: its messages and its end, and counts its messages.
-pub(crate) fn index_archive<'a, S: Source>(
+/// Begins an archive, and indexes its messages.
+fn index_archive<'a, S: Source>(
     alloc: Global,
     cutter: &mut Cutter<'a, S>,
     builder: Builder,
     path: &str,
     archive: u32,
-) -> Result<(Builder, u64), JobFault>
+) -> Result<ReadArchive, JobFault>
     requires fresh { cutter.old.place ≡ record { phase = Phase.Between; offset = 0; most = most_in_archive } }
     requires count { S.failures cutter.old.source.now < 2 ^ 64 - 1 }
     requires idle { IsBuilderIdle archive builder }
     requires path { IsPath path.now }
     ensures source { cutter.new.source.ghost_name ≡ cutter.old.source.ghost_name }
+    ensures stays { Stays S.Source cutter.old.source.now cutter.new.source.now }
     ensures count { Counted (is_source_failure result) (S.failures cutter.old.source.now) (S.failures cutter.new.source.now) }
     ensures end { OnOk result (IsAtEnd (S.rest cutter.new.source.now)) }
-    ensures idle { IfOk result (λ r. IsBuilderIdle (archive + 1) r.0) }
+    ensures ready { IfOk result (λ read. IsBuilderReady archive read.length read.builder) }
+    ensures within { IfOk result (λ read. read.length ≤ most_in_archive) }
     ensures known { (d : Draft) (all : ℕ) (ms : Option (List Message)) (refusal : Option CutFault) → builder ≡ Some d
         → cutter.old.coming ≡ Some (coming_ahead all ms refusal) → AddsNamed path.now archive d all ms refusal result }
     ensures own { IfErr result IsArchiveFault }
@@ -191,4 +214,35 @@ pub(crate) fn index_archive<'a, S: Source>(
     let mut builder = builder;
     builder.begin_archive(path)?;
     index_messages(alloc, cutter, builder, archive)
+}
+
+/// Reads an archive to its end, and indexes its messages. Its end in the builder is left to the caller, who has its digest.
+pub(crate) fn read_archive<S: Source>(
+    alloc: Global,
+    source: &mut S,
+    kept: &mut Option<Buffer>,
+    builder: Builder,
+    path: &str,
+    archive: u32,
+) -> Result<ReadArchive, JobFault>
+    requires count { S.failures source.old < 2 ^ 64 - 1 }
+    requires idle { IsBuilderIdle archive builder }
+    requires path { IsPath path.now }
+    ensures stays { Stays S.Source source.old source.new }
+    ensures count { Counted (is_source_failure result) (S.failures source.old) (S.failures source.new) }
+    ensures end { OnOk result (IsAtEnd (S.rest source.new)) }
+    ensures ready { IfOk result (λ read. IsBuilderReady archive read.length read.builder) }
+    ensures within { IfOk result (λ read. read.length ≤ most_in_archive) }
+    ensures known { (d : Draft) (bytes : List ℕ) → builder ≡ Some d → S.rest source.old ≡ Some bytes
+        → AddsNamed path.now archive d (length bytes) (messages_of bytes) (refusal_of most_in_archive bytes) result }
+    ensures own { IfErr result IsArchiveFault }
+{
+    let buffer = match kept.take() {
+        Some(buffer) => buffer,
+        None => Buffer::new(alloc)?,
+    };
+    let mut cutter = Cutter::over(buffer, source, MOST_BYTES);
+    let read = index_archive(alloc, &mut cutter, builder, path, archive);
+    let _source = cutter.into_source_keeping(kept);
+    read
 }

@@ -9,15 +9,12 @@ ghost use Rattle.index_job.specs.IndexJobs.{IsIndexOf, IsAdded, IsAddFault};
 ghost use Rattle.index_job.specs.Indexing.{IsArchiveFault};
 ghost use Rattle.index_job.specs.JobFaults.{is_source_failure, is_output_failure};
 
-use crate::archive_index::index_archive;
+use crate::archive_index::{ReadArchive, read_archive};
 use crate::job_fault::JobFault;
 use mail_index::Builder;
-use mbox_cutter::{Buffer, Cutter, Out, Source};
+use mbox_cutter::{Buffer, Digested, Out, Source};
 use std::alloc::Global;
 use std::marker::Model;
-
-/// The most bytes of an archive.
-const MOST_BYTES: u64 = 1_099_511_627_776;
 
 /// The most archives, messages and keys of an index.
 const MOST: u32 = 2_147_483_647;
@@ -63,7 +60,7 @@ impl IndexJob {
     }
 
     /// Indexes an archive whose path meets [`is_path`](mail_index::is_path), and counts its messages. The source is read once, to
-    /// its end.
+    /// its end, and the digest of what was read is the archive's in the index.
     ///
     /// # Errors
     ///
@@ -86,14 +83,20 @@ impl IndexJob {
         let Some(builder) = self.builder.take() else {
             return Err(JobFault::Failed);
         };
-        let buffer = match self.buffer.take() {
-            Some(buffer) => buffer,
-            None => Buffer::new(self.alloc)?,
-        };
-        let mut cutter = Cutter::over(buffer, source, MOST_BYTES);
-        let indexed = index_archive(self.alloc, &mut cutter, builder, path, self.archives);
-        let _source = cutter.into_source_keeping(&mut self.buffer);
-        let (builder, messages) = indexed?;
+        let mut digested = Digested::new(source);
+        let ReadArchive {
+            mut builder,
+            messages,
+            length,
+        } = read_archive(
+            self.alloc,
+            &mut digested,
+            &mut self.buffer,
+            builder,
+            path,
+            self.archives,
+        )?;
+        builder.end_archive(length, digested.finish())?;
         self.builder = Some(builder);
         self.archives += 1;
         Ok(messages)

@@ -61,27 +61,27 @@ joins_same f g p q ws bs joins same le = record {
 
 -- ---- keys of a kind
 
-kind_numbers : (count : ℕ) (kind : Kind) (ks : List Key) → AllByRecursion (IsKey count) ks → HaveNumbers count (map text_and_numbers (keys_of kind ks))
-kind_numbers count kind [] all = tt
-kind_numbers count kind (k ∷ ks) all = go (is_of_kind kind k) (kind_numbers count kind ks all.1)
+kind_numbers : (version count : ℕ) (kind : Kind) (ks : List Key) → AllByRecursion (IsKey version count) ks → HaveNumbers count (map text_and_numbers (keys_of kind ks))
+kind_numbers version count kind [] all = tt
+kind_numbers version count kind (k ∷ ks) all = go (is_of_kind kind k) (kind_numbers version count kind ks all.1)
   where
     go : (b : Bool) → HaveNumbers count (map text_and_numbers (keys_of kind ks)) → HaveNumbers count (map text_and_numbers (cond b (k ∷ keys_of kind ks) (keys_of kind ks)))
     go true rest = (record { rises = all.0.rises; below = all.0.below }, rest)
     go false rest = rest
 
 pub keys_numbers : (t : Table) (kind : Kind) (keys : List (List ℕ × List ℕ)) → IsWellFormed t → keys ≡ map text_and_numbers (keys_of kind t.keys) → HaveNumbers (length t.messages) keys
-keys_numbers t kind keys well is = subst (HaveNumbers (length t.messages)) (sym is) (kind_numbers (length t.messages) kind t.keys well.keys)
+keys_numbers t kind keys well is = subst (HaveNumbers (length t.messages)) (sym is) (kind_numbers t.version (length t.messages) kind t.keys well.keys)
 
-found_numbers : (count : ℕ) (kind : Kind) (text : List ℕ) (ks : List Key) → AllByRecursion (IsKey count) ks → AreNumbers count (numbers_at kind text ks)
-found_numbers count kind text [] all = record { rises = tt; below = tt }
-found_numbers count kind text (k ∷ ks) all = go (is_key kind text k) (found_numbers count kind text ks all.1)
+found_numbers : (version count : ℕ) (kind : Kind) (text : List ℕ) (ks : List Key) → AllByRecursion (IsKey version count) ks → AreNumbers count (numbers_at kind text ks)
+found_numbers version count kind text [] all = record { rises = tt; below = tt }
+found_numbers version count kind text (k ∷ ks) all = go (is_key kind text k) (found_numbers version count kind text ks all.1)
   where
     go : (b : Bool) → AreNumbers count (numbers_at kind text ks) → AreNumbers count (elim b as (λ _. List ℕ) [ true ↦ k.numbers | false ↦ numbers_at kind text ks ])
     go true rest = record { rises = all.0.rises; below = all.0.below }
     go false rest = rest
 
 pub list_numbers : (t : Table) (kind : Kind) (text ns : List ℕ) → IsWellFormed t → ns ≡ numbers_at kind text t.keys → AreNumbers (length t.messages) ns
-list_numbers t kind text ns well is = subst (AreNumbers (length t.messages)) (sym is) (found_numbers (length t.messages) kind text t.keys well.keys)
+list_numbers t kind text ns well is = subst (AreNumbers (length t.messages)) (sym is) (found_numbers t.version (length t.messages) kind text t.keys well.keys)
 
 pub fitting_left : (passes : List ℕ → Bool) (ks : List Key) → numbers_passing passes (map text_and_numbers ks) ≡ numbers_of_keys (filter (λ k. passes k.text) ks)
 fitting_left passes [] = refl
@@ -225,19 +225,19 @@ module _ (passes : List ℕ → Bool) (keys : List Key) (a : ℕ) (all : List Ki
 
 -- ---- past the last message
 
-texts_past : (count m : ℕ) (kind : Kind) (ks : List Key) → count ≤ m → AllByRecursion (IsKey count) ks → texts_with kind m ks ≡ []
-texts_past count m kind [] past all = refl
-texts_past count m kind (k ∷ ks) past all = go (is_of_kind kind k) (is_among m k.numbers) (past_all count m k.numbers past all.0.below) (texts_past count m kind ks past all.1)
+texts_past : (version count m : ℕ) (kind : Kind) (ks : List Key) → count ≤ m → AllByRecursion (IsKey version count) ks → texts_with kind m ks ≡ []
+texts_past version count m kind [] past all = refl
+texts_past version count m kind (k ∷ ks) past all = go (is_of_kind kind k) (is_among m k.numbers) (past_all count m k.numbers past all.0.below) (texts_past version count m kind ks past all.1)
   where
     go : (kind_is among : Bool) → among ≡ false → texts_with kind m ks ≡ [] → map (λ (key : Key). key.text) (filter (λ key. is_among m key.numbers) (cond kind_is (k ∷ keys_of kind ks) (keys_of kind ks))) ≡ []
     go false among e rest = rest
     go true among e rest =
         ap (λ (b : Bool). map (λ (key : Key). key.text) (cond b (k ∷ filter (λ key. is_among m key.numbers) (keys_of kind ks)) (filter (λ key. is_among m key.numbers) (keys_of kind ks)))) (past_all count m k.numbers past all.0.below) ∙ rest
 
-kinds_past : (count m : ℕ) (kinds : List Kind) (passes : List ℕ → Bool) (ks : List Key) → count ≤ m → AllByRecursion (IsKey count) ks → some_of_kinds kinds passes ks m ≡ false
-kinds_past count m [] passes ks past all = refl
-kinds_past count m (kind ∷ kinds) passes ks past all =
-    ap (λ (texts : List (List ℕ)). list_any passes texts || some_of_kinds kinds passes ks m) (texts_past count m kind ks past all) ∙ kinds_past count m kinds passes ks past all
+kinds_past : (version count m : ℕ) (kinds : List Kind) (passes : List ℕ → Bool) (ks : List Key) → count ≤ m → AllByRecursion (IsKey version count) ks → some_of_kinds kinds passes ks m ≡ false
+kinds_past version count m [] passes ks past all = refl
+kinds_past version count m (kind ∷ kinds) passes ks past all =
+    ap (λ (texts : List (List ℕ)). list_any passes texts || some_of_kinds kinds passes ks m) (texts_past version count m kind ks past all) ∙ kinds_past version count m kinds passes ks past all
 
 pub word_past : (kinds : Kinds) (passes : List ℕ → Bool) (t : Table) (m : ℕ) → IsWellFormed t → length t.messages ≤ m → some_word passes kinds (facts_at t m) ≡ false
-word_past kinds passes t m well past = sym (some_of_all kinds passes t m) ∙ kinds_past (length t.messages) m (kinds_in kinds) passes t.keys past well.keys
+word_past kinds passes t m well past = sym (some_of_all kinds passes t m) ∙ kinds_past t.version (length t.messages) m (kinds_in kinds) passes t.keys past well.keys

@@ -19,7 +19,7 @@ head_unchanged n a named bytes archives u = go (length bytes == a.length) refl u
     go false t u = absurd (cc u)
 
 -- an archive that hasn't changed is as long as it was
-unchanged_length : (n : ℕ) (named : List Archive) (archives : List (List ℕ)) (k : ℕ) → length archives ≡ length named → k < length named → first_changed n named archives ≡ None
+pub unchanged_length : (n : ℕ) (named : List Archive) (archives : List (List ℕ)) (k : ℕ) → length archives ≡ length named → k < length named → first_changed n named archives ≡ None
     → length (archive_at archives k) ≡ archive_length named k
 unchanged_length n [] archives k e h u = absurd (omega arith)
 unchanged_length n (a ∷ named) [] k e h u = absurd (omega arith)
@@ -27,7 +27,7 @@ unchanged_length n (a ∷ named) (bytes ∷ archives) zero e h u = (head_unchang
 unchanged_length n (a ∷ named) (bytes ∷ archives) (suc k) e h u = unchanged_length (n + 1) named archives k (omega arith) (omega arith) (head_unchanged n a named bytes archives u).1
 
 -- as many archives as there were
-same_number : (named : List Archive) (archives : List (List ℕ)) → stale_archive named archives ≡ None → (length archives ≡ length named) × (first_changed 0 named archives ≡ None)
+pub same_number : (named : List Archive) (archives : List (List ℕ)) → stale_archive named archives ≡ None → (length archives ≡ length named) × (first_changed 0 named archives ≡ None)
 same_number named archives s = go (length archives == length named) refl s
   where
     go : (v : Bool) → (length archives == length named) ≡ v → cond v (first_changed 0 named archives) (Some (Prim.Native.Nat.min (length archives) (length named))) ≡ None → (length archives ≡ length named) × (first_changed 0 named archives ≡ None)
@@ -39,16 +39,16 @@ message_in archives [] n h all = absurd (omega arith)
 message_in archives (m ∷ ms) zero h all = all.0
 message_in archives (m ∷ ms) (suc n) h all = message_in archives ms n (omega arith) all.1
 
-short_archive : (archives : List Archive) (n : ℕ) → AllByRecursion IsArchive archives → archive_length archives n ≤ 2 ^ 40
-short_archive [] n all = omega arith
-short_archive (a ∷ rest) zero all = all.0.1
-short_archive (a ∷ rest) (suc n) all = short_archive rest n all.1
+short_archive : (version : ℕ) (archives : List Archive) (n : ℕ) → AllByRecursion (IsArchive version) archives → archive_length archives n ≤ 2 ^ 40
+short_archive version [] n all = omega arith
+short_archive version (a ∷ rest) zero all = all.0.1
+short_archive version (a ∷ rest) (suc n) all = short_archive version rest n all.1
 
 pub message_inside : (t : Table) (held : Option (List (List ℕ))) (number n : ℕ) → IsWellFormed t → n < length t.messages → number ≡ length t.archives
     → IfSome held (λ archives. stale_archive t.archives archives ≡ None) → IsInside number held (span_reading (record_at t.messages n))
 message_inside t held number n w h e s =
     let m : IsMessage t.archives (record_at t.messages n) = message_in t.archives t.messages n h w.messages in
-    let short : archive_length t.archives (record_at t.messages n).archive ≤ 2 ^ 40 = short_archive t.archives (record_at t.messages n).archive w.archives in
+    let short : archive_length t.archives (record_at t.messages n).archive ≤ 2 ^ 40 = short_archive t.version t.archives (record_at t.messages n).archive w.archives in
     let exists : (record_at t.messages n).archive < length t.archives = m.exists in
     let within : (record_at t.messages n).offset + (record_at t.messages n).length ≤ archive_length t.archives (record_at t.messages n).archive = m.within in
     record {

@@ -26,6 +26,8 @@ pub mod SheetLemmas
 pub mod ReadingLemmas
 pub mod ByteLists
 pub mod StaleLemmas
+pub mod DigestLemmas
+pub mod VerifiedLemmas
 pub mod PassedArchives
 pub mod ClosingLemmas
 pub mod ClosedLemmas

@@ -20,9 +20,9 @@ at_single p count n single lt =
 pub single_back : (p : List ℕ) (count : ℕ) → p ≡ range_with_len 0 count → LeadsBack p
 single_back p count single = λ n lt. let same : get_or p n 0 ≡ n = at_single p count n single lt in omega (arith, same)
 
-keys_below : (count : ℕ) (ks : List Key) → AllByRecursion (IsKey count) ks → AllByRecursion (λ (k : List ℕ × List ℕ). AllByRecursion (λ n. n < count) k.1) (map text_and_numbers (keys_of LinkId ks))
-keys_below count [] all = tt
-keys_below count (k ∷ ks) all = go (is_of_kind LinkId k) (keys_below count ks all.1)
+keys_below : (version count : ℕ) (ks : List Key) → AllByRecursion (IsKey version count) ks → AllByRecursion (λ (k : List ℕ × List ℕ). AllByRecursion (λ n. n < count) k.1) (map text_and_numbers (keys_of LinkId ks))
+keys_below version count [] all = tt
+keys_below version count (k ∷ ks) all = go (is_of_kind LinkId k) (keys_below version count ks all.1)
   where
     go : (of_kind : Bool) → AllByRecursion (λ (key : List ℕ × List ℕ). AllByRecursion (λ n. n < count) key.1) (map text_and_numbers (keys_of LinkId ks))
         → AllByRecursion (λ (key : List ℕ × List ℕ). AllByRecursion (λ n. n < count) key.1) (map text_and_numbers (cond of_kind (k ∷ keys_of LinkId ks) (keys_of LinkId ks)))
@@ -33,7 +33,7 @@ pub link_keys_below : (t : Table) (p : List ℕ) → IsWellFormed t → p ≡ ra
     → AllByRecursion (λ (k : List ℕ × List ℕ). AllByRecursion (λ n. n < length p) k.1) (map text_and_numbers (keys_of LinkId t.keys))
 link_keys_below t p given single =
     subst (λ (count : ℕ). AllByRecursion (λ (k : List ℕ × List ℕ). AllByRecursion (λ n. n < count) k.1) (map text_and_numbers (keys_of LinkId t.keys)))
-    (sym (ap length single ∙ length-range_with_len 0 (length t.messages))) (keys_below (length t.messages) t.keys given.keys)
+    (sym (ap length single ∙ length-range_with_len 0 (length t.messages))) (keys_below t.version (length t.messages) t.keys given.keys)
 
 share_is_link : (m n : ℕ) (ks : List Key) → list_any (λ (k : List ℕ × List ℕ). is_among m k.1 && is_among n k.1) (map text_and_numbers ks) ≡ list_any (λ (k : Key). is_among m k.numbers && is_among n k.numbers) ks
 share_is_link m n [] = refl

@@ -1,8 +1,9 @@
 -- Rows: what a table of two messages says of them, and which of them some queries choose.
-use Rattle.std.specs.Prelude.{◌≡◌, true, false, [], ◌∷◌, None, Some, codes, refl, pos}
-use Rattle.mail_words.specs.declared.kind.TextKind.TheVariants.{Subject, Body}
+use Rattle.std.specs.Prelude.{◌≡◌, true, false, [], ◌∷◌, replicate, None, Some, codes, refl, pos}
+use Rattle.mail_words.specs.declared.kind.TextKind.TheVariants.{Subject, Body, Name}
 use Rattle.mail_words.specs.declared.flags.Flag.TheVariants.{Seen}
 use Rattle.mail_index.specs.declared.kind.Kind.TheVariants.{Text, OwnId, LinkId}
+use Rattle.mail_index.specs.Versions.{newest}
 use Rattle.mail_index.specs.Tables.{Table}
 use Rattle.mail_query.specs.declared.kinds.Kinds.{Kinds}
 use Rattle.mail_query.specs.Kinds.{no_kinds}
@@ -10,16 +11,19 @@ use Rattle.mail_query.specs.Query.{Any, Word, Part, Prefix, Date, Size, HasFlag,
 use Rattle.mail_answer.specs.TableFacts.{texts_with, facts_at, truths, chosen_numbers}
 
 -- the first, without a date and of 19 bytes, has the own id 1@x, the subject hello and the text hi; the second, seen, is of 30 bytes
--- and of second 1000, has the own id 2@x and the link id 1@x, the subjects hello and re, and the text high
+-- and of second 1000, has the own id 2@x and the link id 1@x, the subjects hello and re, the text high,
+-- and a part named re.pdf
 abbrev two : Table
 two = record {
-  archives = record { path = codes "m.mbox"; length = 120 } ∷ [];
+  version = newest;
+  archives = record { path = codes "m.mbox"; length = 120; digest = Some (replicate 32 0) } ∷ [];
   messages = record { archive = 0; offset = 0; length = 58; size = 19; date = None; flags = record { seen = false; replied = false; flagged = false } }
       ∷ record { archive = 0; offset = 58; length = 62; size = 30; date = Some (pos 1000); flags = record { seen = true; replied = false; flagged = false } } ∷ [];
   keys = record { kind = Text Subject; text = codes "hello"; numbers = 0 ∷ 1 ∷ [] } ∷ record { kind = Text Subject; text = codes "re"; numbers = 1 ∷ [] }
       ∷ record { kind = Text Body; text = codes "hi"; numbers = 0 ∷ [] } ∷ record { kind = Text Body; text = codes "high"; numbers = 1 ∷ [] }
       ∷ record { kind = OwnId; text = codes "1@x"; numbers = 0 ∷ [] } ∷ record { kind = OwnId; text = codes "2@x"; numbers = 1 ∷ [] }
-      ∷ record { kind = LinkId; text = codes "1@x"; numbers = 0 ∷ 1 ∷ [] } ∷ [];
+      ∷ record { kind = LinkId; text = codes "1@x"; numbers = 0 ∷ 1 ∷ [] } ∷ record { kind = Text Name; text = codes "pdf"; numbers = 1 ∷ [] }
+      ∷ record { kind = Text Name; text = codes "re.pdf"; numbers = 1 ∷ [] } ∷ [];
 }
 
 abbrev subject : Kinds
@@ -30,6 +34,12 @@ body = record no_kinds { body = true }
 
 abbrev subject_body : Kinds
 subject_body = record no_kinds { subject = true; body = true }
+
+abbrev name : Kinds
+name = record no_kinds { name = true }
+
+abbrev subject_name : Kinds
+subject_name = record no_kinds { subject = true; name = true }
 
 abbrev own : Kinds
 own = record no_kinds { own_id = true }
@@ -60,6 +70,15 @@ a_front_of_words = refl
 
 a_part_at_the_end : chosen_numbers two (Part body (codes "gh")) ≡ 1 ∷ []
 a_part_at_the_end = refl
+
+the_name_of_a_part : chosen_numbers two (Word name (codes "re.pdf")) ≡ 1 ∷ []
+the_name_of_a_part = refl
+
+a_name_is_no_subject : chosen_numbers two (Word subject (codes "pdf")) ≡ []
+a_name_is_no_subject = refl
+
+a_front_in_subjects_or_names : chosen_numbers two (Prefix subject_name (codes "h")) ≡ 0 ∷ 1 ∷ []
+a_front_in_subjects_or_names = refl
 
 -- a link id is no own id
 the_own_id_alone : chosen_numbers two (Word own (codes "1@x")) ≡ 0 ∷ []

@@ -1,6 +1,7 @@
 -- Rows: threads of a table of six messages, whose keys are link ids alone.
-use Rattle.std.specs.Prelude.{◌≡◌, true, false, [], ◌∷◌, codes, refl}
+use Rattle.std.specs.Prelude.{◌≡◌, true, false, [], ◌∷◌, replicate, Some, codes, refl}
 use Rattle.mail_index.specs.declared.kind.Kind.TheVariants.{OwnId, LinkId}
+use Rattle.mail_index.specs.Versions.{newest}
 use Rattle.mail_index.specs.Tables.{Table}
 use Rattle.mail_answer.specs.TableFacts.{no_record}
 use Rattle.mail_answer.specs.Threads.{are_linked, IsInThread, IsInThreadOfSome}
@@ -9,7 +10,8 @@ use Rattle.mail_answer.specs.Threads.{are_linked, IsInThread, IsInThreadOfSome}
 -- no message has
 abbrev six : Table
 six = record {
-  archives = record { path = codes "m.mbox"; length = 6 } ∷ [];
+  version = newest;
+  archives = record { path = codes "m.mbox"; length = 6; digest = Some (replicate 32 0) } ∷ [];
   messages = no_record ∷ no_record ∷ no_record ∷ no_record ∷ no_record ∷ no_record ∷ [];
   keys = record { kind = OwnId; text = codes "3@x"; numbers = 2 ∷ 3 ∷ [] } ∷ record { kind = LinkId; text = codes "0@x"; numbers = 4 ∷ 5 ∷ [] }
       ∷ record { kind = LinkId; text = codes "1@x"; numbers = 0 ∷ 1 ∷ [] } ∷ record { kind = LinkId; text = codes "2@x"; numbers = 1 ∷ 2 ∷ [] }

@@ -14,7 +14,7 @@ neq_tells : (a b : ℕ) → (a ≡ b → ⊥) → (a == b) ≡ false
 neq_tells a b e = elim (eqb_tells a b) [ inl p ↦ absurd (e p.1) | inr p ↦ p.0 ]
 
 no_archive : Archive
-no_archive = record { path = []; length = 0 }
+no_archive = record { path = []; length = 0; digest = None }
 
 length_in : (named : List Archive) (n : ℕ) → n < length named → length_at named n ≡ (get_or named n no_archive).length
 length_in [] n h = absurd (omega arith)

@@ -26,7 +26,7 @@ abbrev pub SendsKnown : Option (List ℕ) → Option (List ℕ) → Option (List
 SendsKnown taken taken' known messages result = (text : List ℕ) × Tells known text × SendsAnswer taken taken' text messages result
 
 -- the kind of a fault is one of these
-abbrev pub fails_by : (AnswerFaultKind → Bool) → Result ℕ AnswerFault → Bool
+abbrev pub fails_by : {T : Type 0} → (AnswerFaultKind → Bool) → Result T AnswerFault → Bool
 fails_by kinds (Ok _) = false
 fails_by kinds (Err fault) = kinds fault.kind
 

@@ -23,6 +23,8 @@ pub mod Shapes
 pub mod Readings
 pub mod PassedArchives
 pub mod Stale
+pub mod Verified
+pub mod Digests
 pub mod Closing
 pub mod Endings
 pub mod Copies

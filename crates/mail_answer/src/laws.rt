@@ -1,13 +1,14 @@
 //! Laws of the definitions.
-ghost use Rattle.std.specs.Prelude.{◌≡◌, ◌<◌, ℕ, false, List, Option, length, map};
+ghost use Rattle.std.specs.Prelude.{◌≡◌, ◌<◌, ℕ, false, List, Option, None, length, map};
 ghost use Rattle.std.specs.List.{All, flat_map};
-ghost use Rattle.mail_index.specs.Tables.{Table};
+ghost use Rattle.mail_index.specs.Tables.{Archive, Table};
 ghost use Rattle.mail_answer.specs.CutAgain.{IsCutInto, IsCutOut, ends_in_return};
 ghost use Rattle.mail_answer.specs.Shapes.{closed};
 ghost use Rattle.mail_answer.specs.TableFacts.{chosen_numbers};
 ghost use Rattle.mail_answer.specs.Mail.{Search};
 ghost use Rattle.mail_answer.specs.TableAnswers.{TableAnswer, IsTableAnswer};
 ghost use Rattle.mail_answer.specs.Threads.{AreThreads};
+ghost use Rattle.mail_answer.specs.Verified.{unverified_archive, AreVerified};
 ghost use Rattle.mail_query.specs.Query.{Query};
 
 /// What is asked of a list of threads leaves no choice: there is one such list.
@@ -36,4 +37,10 @@ pub fn every_table_answers()
 /// And it has one answer.
 pub fn one_answer_of_a_table()
     ensures { (t : Table) (s : Search) (held : Option (List (List ℕ))) (a b : TableAnswer) → IsTableAnswer t s held a → IsTableAnswer t s held b → a ≡ b }
+{}
+
+/// Archives are verified exactly where they are those that were indexed: as many, and each of the same length and digest.
+pub fn verified_archives_are_those_indexed()
+    ensures only { (named : List Archive) (archives : List (List ℕ)) → unverified_archive named archives ≡ None → AreVerified named archives }
+    ensures all { (named : List Archive) (archives : List (List ℕ)) → AreVerified named archives → unverified_archive named archives ≡ None }
 {}

@@ -33,11 +33,15 @@ mod answers;
 
 pub use answers::answer;
 
+mod verified;
+
+pub use verified::verify;
+
 mod laws;
 
 pub use laws::{
     chosen_numbers_are_those_of_messages, closed_messages_are_cut_again, every_table_answers,
-    one_answer_of_a_table, one_list_of_threads,
+    one_answer_of_a_table, one_list_of_threads, verified_archives_are_those_indexed,
 };
 
 mod ending;

@@ -1,7 +1,7 @@
 -- Worked rows of days, moments and what a range has.
-use Rattle.std.proofs.Common.{◌≡◌, ℕ, Bool, true, false, [], ◌∷◌, refl, Option, Some, None, ℤ, pos, negsuc, ap, ◌∙◌}
+use Rattle.std.proofs.Common.{◌≡◌, ℕ, true, false, [], refl, Option, Some, None, ℤ, pos, negsuc, ap, ◌∙◌}
 use Rattle.std.specs.Prelude.{codes, option_map}
-use Rattle.mail_dates.specs.Calendar.{day_number, month_of, start_of_day, end_of_day, latest_year}
+use Rattle.mail_dates.specs.Calendar.{day_number, month_of, start_of_day, end_of_day}
 use Rattle.mail_dates.specs.Ranges.{has_date}
 use Rattle.mail_dates.specs.declared.range.Range.{Range}
 use Rattle.mail_dates.proofs.Formula.{number_by_formula, day_number-formula}

@@ -1,7 +1,7 @@
 -- Worked rows of header dates. The seconds were computed outside.
 use Rattle.std.proofs.Common.{◌≡◌, ℕ, List, [], ◌∷◌, ◌++◌, map, refl, Option, Some, None, ℤ, pos, negsuc, ◌∙◌, ap}
 use Rattle.std.specs.Prelude.{codes}
-use Rattle.mail_dates.specs.Calendar.{day_number, month_of}
+use Rattle.mail_dates.specs.Calendar.{month_of}
 use Rattle.mail_dates.specs.HeaderDates.{date_of, date_by, tokens, time_of, offset_of, hours_west}
 use Rattle.mail_dates.proofs.Formula.{number_by_formula, day_number-formula}
 

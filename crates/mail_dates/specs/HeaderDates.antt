@@ -1,7 +1,7 @@
 -- What the Date field of a message says (RFC 5322 3.3, and its obsolete forms, 4.3).
 use Rattle.std.specs.Prelude.{ℕ, ◌+◌, ◌*◌, ◌/◌, ◌%◌, nat_le, nat_lt, ◌==◌, Bool, not, ◌&&◌, ◌||◌, ℤ, pos, neg_ℤ, ◌+ℤ◌, ◌-ℤ◌, List, [], ◌∷◌, length, filter, find, Option, Some, None, if◌then◌else◌, option_map, unwrap_or, bytes_eq, codes}
 use Rattle.std.specs.List.{list_all, slice_split, before_first}
-use Rattle.std.specs.Option.{option_map_or, option_or}
+use Rattle.std.specs.Option.{option_map_or}
 use Rattle.std.specs.Char.{is_ascii_alphabetic}
 use Rattle.std.specs.Str.{str_to_ascii_lowercase}
 use Rattle.mail_dates.specs.Numbers.{number_in, ◌>>=◌}

@@ -8,10 +8,11 @@ use Rattle.std.proofs.lemmas.Nat.{from_be_bytes-to_be_bytes_4, from_be_bytes-to_
 use Rattle.sha2.specs.Sha256.{sha256}
 use Rattle.sha2.proofs.Facts256.{length-sha256}
 use Rattle.mail_index.specs.declared.record.Record.{Record}
+use Rattle.mail_index.specs.Versions.{IsVersion}
 use Rattle.mail_index.specs.Fields.{u32_at, u64_at}
-use Rattle.mail_index.specs.Files.{magic, version, entry_of, entries, archive_bytes, archive_section, record_bytes, directory_from, texts_of, postings_of, counts, sections, body, index_file}
-use Rattle.mail_index.specs.Tables.{Archive, Key, Table, IsWellFormed, IsKey, AllNext, KeyBefore}
-use Rattle.mail_index.specs.Faults.{IsFirstFault, EntryBefore, IsEntry, records_start, directory_start, texts_start, postings_start, digest_start, HasDigest, IsSigned, HasArchives, HasRecords, HasDirectory, HasPostings, IsFileOf}
+use Rattle.mail_index.specs.Files.{magic, entry_of, entries, archive_bytes, archive_section, record_bytes, directory_from, texts_of, postings_of, counts, sections, body, index_file}
+use Rattle.mail_index.specs.Tables.{Archive, Key, Table, IsWellFormed, IsArchive, IsKey, AllNext, KeyBefore}
+use Rattle.mail_index.specs.Faults.{version_told, IsFirstFault, EntryBefore, IsEntry, records_start, directory_start, texts_start, postings_start, digest_start, HasDigest, IsSigned, HasArchives, HasRecords, HasDirectory, HasPostings, IsFileOf}
 use Rattle.mail_index.specs.declared.fault.IndexFault.{IndexFault}
 use Rattle.mail_index.specs.declared.fault.IndexFault.TheVariants.{TooShort, BadMagic, BadVersion, BadDigest, BadLayout}
 use Rattle.mail_index.specs.declared.fault.Section.TheVariants.{Counts, Archives, Records, Directory, Postings}
@@ -19,6 +20,7 @@ use Rattle.mail_index.specs.Records.{read_archives, read_records}
 use Rattle.mail_index.proofs.ArchiveReads.{archives_back}
 use Rattle.mail_index.proofs.RecordSections.{records_back}
 use Rattle.mail_index.proofs.Fronts.{before, concat_then}
+use Rattle.mail_index.proofs.OneTable.{small_version}
 use Rattle.mail_index.proofs.Opening.{length_records, length_directory, some_postings}
 
 -- a part of some bytes, and what follows it
@@ -37,7 +39,7 @@ part_at bytes i j mid post e n =
 -- what the counts of a table's file tell
 pub record TellsCounts (bytes : List ℕ) (t : Table) : Type 0 where
   pub marked : take 8 bytes ≡ magic
-  pub known : u32_at bytes 8 ≡ version
+  pub known : version_told bytes ≡ t.version
   pub archives : u32_at bytes 12 ≡ length t.archives
   pub messages : u32_at bytes 16 ≡ length t.messages
   pub keys : u32_at bytes 20 ≡ length t.keys
@@ -48,7 +50,7 @@ pub record TellsCounts (bytes : List ℕ) (t : Table) : Type 0 where
 tells : (t : Table) (rest : List ℕ) → IsWellFormed t → length (archive_section t) < 2 ^ 64 → length (texts_of (entries t)) < 2 ^ 64 → length (postings_of (entries t)) < 2 ^ 64 → TellsCounts (before (counts t) rest) t
 tells t rest w a x p = record {
   marked = refl;
-  known = from_be_bytes-to_be_bytes_4 version (omega arith);
+  known = from_be_bytes-to_be_bytes_4 t.version (small_version t.version w.version);
   archives = from_be_bytes-to_be_bytes_4 (length t.archives) w.archive_count;
   messages = from_be_bytes-to_be_bytes_4 (length t.messages) w.message_count;
   keys = from_be_bytes-to_be_bytes_4 (length t.keys) w.key_count;
@@ -66,9 +68,9 @@ entries_in_order [] h = tt
 entries_in_order (k ∷ []) h = tt
 entries_in_order (k ∷ l ∷ ks) h = (h.0, entries_in_order (l ∷ ks) h.1)
 
-are_entries : (count : ℕ) (ks : List Key) → AllByRecursion (IsKey count) ks → AllByRecursion IsEntry (map entry_of ks)
-are_entries count [] h = tt
-are_entries count (k ∷ ks) h = ((h.0.some_text, h.0.short, some_postings k.numbers h.0.some_number), are_entries count ks h.1)
+are_entries : (version count : ℕ) (ks : List Key) → AllByRecursion (IsKey version count) ks → AllByRecursion (IsEntry version) (map entry_of ks)
+are_entries version count [] h = tt
+are_entries version count (k ∷ ks) h = ((h.0.kind, h.0.some_text, h.0.short, some_postings k.numbers h.0.some_number), are_entries version count ks h.1)
 
 length_body : (t : Table) → length (body t) ≡ 48 + length (archive_section t) + 40 * length t.messages + 24 * length t.keys + length (texts_of (entries t)) + length (postings_of (entries t))
 length_body t =
@@ -105,18 +107,19 @@ keeps_rules bytes t few f =
     let digest : HasDigest bytes =
     ap (λ (k : ℕ). drop k bytes) before_digest ∙ ap (drop (length b)) f.1 ∙ drop-append_seam b (sha256 b)
     ∙ ap sha256 (sym (ap (λ (k : ℕ). take k bytes) before_digest ∙ ap (take (length b)) f.1 ∙ take-append_seam b (sha256 b))) in
-    let signed : IsSigned bytes = record { long = omega (arith, size, n); marked = c.marked; known = c.known; digest = digest } in
-    let archives : HasArchives bytes t.archives = record { before = (signed, adds); spelled = p₁.is; counted = sym c.archives; each = w.archives } in
+    let signed : IsSigned bytes = record { long = omega (arith, size, n); marked = c.marked; known = subst IsVersion (sym c.known) w.version; digest = digest } in
+    let archives : HasArchives bytes t.archives = record { before = (signed, adds); spelled = p₁.is; counted = sym c.archives; each = subst (λ (v : ℕ). AllByRecursion (IsArchive v) t.archives) (sym c.known) w.archives } in
     let records : HasRecords bytes t.archives t.messages = record { before = archives; spelled = p₂.is; each = w.messages; in_order = w.in_order } in
+    let keys = subst (λ (v : ℕ). AllByRecursion (IsKey v (length t.messages)) t.keys) (sym c.known) w.keys in
     let directory : HasDirectory bytes t.archives t.messages (map entry_of t.keys) = record {
       before = records;
       spelled = p₃.is;
       texts = p₄.is;
       postings = p₅.is;
-      each = are_entries (length t.messages) t.keys w.keys;
+      each = are_entries (version_told bytes) (length t.messages) t.keys keys;
       sorted = entries_in_order t.keys w.sorted;
     } in
-    record { before = directory; each = w.keys }
+    record { before = directory; each = keys }
 
 -- ---- so it has no fault
 
@@ -124,13 +127,13 @@ same_archives : (bytes : List ℕ) (as' bs : List Archive) → HasArchives bytes
 same_archives bytes as' bs a b =
     let l : length as' ≡ length bs = a.counted ∙ sym b.counted in
     let e : flat_map archive_bytes as' ≡ flat_map archive_bytes bs = sym a.spelled ∙ b.spelled in
-    sym (archives_back as' a.each) ∙ (λ i. read_archives (l i) (e i)) ∙ archives_back bs b.each
+    sym (archives_back (version_told bytes) as' a.each) ∙ (λ i. read_archives (version_told bytes) (l i) (e i)) ∙ archives_back (version_told bytes) bs b.each
 
 same_records : (bytes : List ℕ) (archives : List Archive) (ms ns : List Record) → length archives < 2 ^ 32 → HasRecords bytes archives ms → HasRecords bytes archives ns → ms ≡ ns
 same_records bytes archives ms ns few a b =
     let e : flat_map record_bytes ms ≡ flat_map record_bytes ns = sym a.spelled ∙ b.spelled in
     let l : length ms ≡ length ns = omega (arith, ap length e, length_records ms, length_records ns) in
-    sym (records_back archives ms few a.before.each a.each) ∙ (λ i. read_records (l i) (e i)) ∙ records_back archives ns few b.before.each b.each
+    sym (records_back (version_told bytes) archives ms few a.before.each a.each) ∙ (λ i. read_records (l i) (e i)) ∙ records_back (version_told bytes) archives ns few b.before.each b.each
 
 pub no_fault : (bytes : List ℕ) (t : Table) → length bytes < 2 ^ 64 → IsFileOf bytes t → (f : IndexFault) → IsFirstFault bytes f → ⊥
 no_fault bytes t few w f h = go f h (keeps_rules bytes t few w) w.0.archive_count

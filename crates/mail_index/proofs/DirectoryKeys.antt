@@ -9,6 +9,7 @@ use Rattle.std.specs.List.Sorted.{IsStrictlySortedBy}
 use Rattle.std.proofs.lemmas.Cmp.{nat_list_cmp_total}
 use Rattle.std.proofs.lemmas.List.{drop-drop, length-map}
 use Rattle.mail_index.specs.Kinds.{kind_number, kind_of_number, is_kind_number}
+use Rattle.mail_index.specs.Versions.{last_kind}
 use Rattle.mail_index.specs.Fields.{byte_at, u32_at, u64_at}
 use Rattle.mail_index.specs.Tables.{Key}
 use Rattle.mail_index.specs.PostingReads.{ArePosted}
@@ -17,7 +18,7 @@ use Rattle.mail_index.specs.Lists.{list_at, AreLists}
 use Rattle.mail_index.specs.KeysRead.{key_of, keys_read, IsDirectory, key_at}
 use Rattle.mail_index.specs.LookUps.{AreSorted}
 use Rattle.mail_index.proofs.Bytes.{both}
-use Rattle.mail_index.proofs.KeyOrder.{kind_kept}
+use Rattle.mail_index.proofs.KeyOrder.{kind_kept, few_kinds}
 use Rattle.mail_index.proofs.LookUpLemmas.{key_bytes}
 
 -- ---- the entry of a number
@@ -44,27 +45,27 @@ pub record IsEntry (texts : List ℕ) (total : ℕ) (d : List ℕ) : Type 0 wher
   pub begins : u64_at d 16 < end_before (drop 24 d) total
   pub ends : end_before (drop 24 d) total ≤ total
 
-entry_is : (texts : List ℕ) (total tp pp number : ℕ) (text d : List ℕ) → IsEntryAt texts total tp pp number text d → IsEntry texts total d
+entry_is : (version : ℕ) (texts : List ℕ) (total tp pp number : ℕ) (text d : List ℕ) → IsEntryAt version texts total tp pp number text d → IsEntry texts total d
 unfolding is_entry
-entry_is texts total tp pp number text d h =
+entry_is version texts total tp pp number text d h =
     let k = byte_at d 0 in
-    let t₃ = both (is_kind_number k && nat_eq (byte_at d 1) 0 && nat_eq (byte_at d 2) 0) (nat_eq (byte_at d 3) 0) h.spelled in
-    let t₂ = both (is_kind_number k && nat_eq (byte_at d 1) 0) (nat_eq (byte_at d 2) 0) t₃.0 in
-    let t₁ = both (is_kind_number k) (nat_eq (byte_at d 1) 0) t₂.0 in
+    let t₃ = both (is_kind_number (last_kind version) k && nat_eq (byte_at d 1) 0 && nat_eq (byte_at d 2) 0) (nat_eq (byte_at d 3) 0) h.spelled in
+    let t₂ = both (is_kind_number (last_kind version) k && nat_eq (byte_at d 1) 0) (nat_eq (byte_at d 2) 0) t₃.0 in
+    let t₁ = both (is_kind_number (last_kind version) k) (nat_eq (byte_at d 1) 0) t₂.0 in
     record {
-      kind = kind_kept k t₁.0;
+      kind = kind_kept (last_kind version) k (few_kinds version) t₁.0;
       text = omega (arith, h.text_begins, h.within);
       begins = omega (arith, h.begins, h.some);
       ends = h.end;
     }
 
-pub entry-at : (texts : List ℕ) (total tp pp number : ℕ) (text : List ℕ) (n : ℕ) (d : List ℕ) (i : ℕ) → AreEntries texts total tp pp number text n d → i < n → IsEntry texts total (drop (24 * i) d)
-entry-at texts total tp pp number text zero d i h lt = absurd (omega (arith, lt))
-entry-at texts total tp pp number text (suc n) d zero h lt = entry_is texts total tp pp number text d h.0
-entry-at texts total tp pp number text (suc n) d (suc i) h lt =
+pub entry-at : (version : ℕ) (texts : List ℕ) (total tp pp number : ℕ) (text : List ℕ) (n : ℕ) (d : List ℕ) (i : ℕ) → AreEntries version texts total tp pp number text n d → i < n → IsEntry texts total (drop (24 * i) d)
+entry-at version texts total tp pp number text zero d i h lt = absurd (omega (arith, lt))
+entry-at version texts total tp pp number text (suc n) d zero h lt = entry_is version texts total tp pp number text d h.0
+entry-at version texts total tp pp number text (suc n) d (suc i) h lt =
     let place : 24 + 24 * i ≡ 24 * suc i = omega arith in
     subst (λ (l : List ℕ). IsEntry texts total l) (drop-drop (24 * i) 24 d ∙ ap (λ (k : ℕ). drop k d) place)
-    (entry-at texts total (tp + u32_at d 4) (end_before (drop 24 d) total) (byte_at d 0) (text_at texts d) n (drop 24 d) i h.1 (omega (arith, lt)))
+    (entry-at version texts total (tp + u32_at d 4) (end_before (drop 24 d) total) (byte_at d 0) (text_at texts d) n (drop 24 d) i h.1 (omega (arith, lt)))
 
 pub list-at : (messages : ℕ) (postings : List ℕ) (n : ℕ) (d : List ℕ) (i : ℕ) → messages ≤ 2 ^ 32 → AreLists messages postings n d → i < n → ArePosted (2 ^ 32) 0 (list_at postings (drop (24 * i) d))
 list-at messages postings zero d i few h lt = absurd (omega (arith, lt))
@@ -92,13 +93,13 @@ pub record IsSortedAfter (number : ℕ) (text : List ℕ) (ks : List Key) : Type
   pub after : AllByRecursion (λ k. slice_cmp nat_cmp (number ∷ text) k ≡ Less) (map key_bytes ks)
   pub sorted : AreSorted ks
 
-pub sorted-entries : (texts postings : List ℕ) (total tp pp number : ℕ) (text : List ℕ) (n : ℕ) (d : List ℕ) → AreEntries texts total tp pp number text n d
+pub sorted-entries : (version : ℕ) (texts postings : List ℕ) (total tp pp number : ℕ) (text : List ℕ) (n : ℕ) (d : List ℕ) → AreEntries version texts total tp pp number text n d
     → IsSortedAfter number text (keys_read texts postings n d)
 unfolding read_entry IsStrictlySortedBy
-sorted-entries texts postings total tp pp number text zero d h = record { after = tt; sorted = tt }
-sorted-entries texts postings total tp pp number text (suc n) d h =
-    let more = sorted-entries texts postings total (tp + u32_at d 4) (end_before (drop 24 d) total) (byte_at d 0) (text_at texts d) n (drop 24 d) h.1 in
-    let kind = (entry_is texts total tp pp number text d h.0).kind in
+sorted-entries version texts postings total tp pp number text zero d h = record { after = tt; sorted = tt }
+sorted-entries version texts postings total tp pp number text (suc n) d h =
+    let more = sorted-entries version texts postings total (tp + u32_at d 4) (end_before (drop 24 d) total) (byte_at d 0) (text_at texts d) n (drop 24 d) h.1 in
+    let kind = (entry_is version texts total tp pp number text d h.0).kind in
     let here : slice_cmp nat_cmp (number ∷ text) (kind_number (kind_of_number (byte_at d 0)) ∷ text_at texts d) ≡ Less =
     ap (λ (k : ℕ). slice_cmp nat_cmp (number ∷ text) (k ∷ text_at texts d)) kind ∙ h.0.after in
     let later : AllByRecursion (λ k. slice_cmp nat_cmp (kind_number (kind_of_number (byte_at d 0)) ∷ text_at texts d) k ≡ Less) (map key_bytes (keys_read texts postings n (drop 24 d))) =
@@ -109,7 +110,7 @@ sorted-entries texts postings total tp pp number text (suc n) d h =
     }
 
 pub directory-sorted : (texts postings : List ℕ) (count : ℕ) (entries : List ℕ) → IsDirectory texts postings count entries → AreSorted (keys_read texts postings count entries)
-directory-sorted texts postings count entries h = (sorted-entries texts postings (length postings) 0 0 0 [] count entries h.sorted).sorted
+directory-sorted texts postings count entries h = (sorted-entries h.version texts postings (length postings) 0 0 0 [] count entries h.sorted).sorted
 
 -- ---- what is read at a number
 
@@ -129,7 +130,7 @@ rest-at texts postings count entries keys number rest h view less back =
     let below : number < count = number-below texts postings count entries keys number view less in
     record {
       long = omega (arith, h.long, below, ap length back, length-drop (24 * number) entries);
-      entry = subst (IsEntry texts (length postings)) (sym back) (entry-at texts (length postings) 0 0 0 [] count entries number h.sorted below);
+      entry = subst (IsEntry texts (length postings)) (sym back) (entry-at h.version texts (length postings) 0 0 0 [] count entries number h.sorted below);
       posted = subst (λ (l : List ℕ). ArePosted (2 ^ 32) 0 (list_at postings l)) (sym back) (list-at h.messages postings count entries number h.few h.lists below);
       key = ap (λ (ks : List Key). key_at ks number) (sym view) ∙ key_at-read texts postings count entries number below
           ∙ ap (λ (l : List ℕ). key_of (read_entry texts postings l)) (sym back);

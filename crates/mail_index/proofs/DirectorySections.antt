@@ -9,6 +9,7 @@ use Rattle.std.proofs.lemmas.List.{take-append-drop, drop-drop}
 use Rattle.std.proofs.lemmas.Bool.Decides.{nat_tests}
 use Rattle.std.proofs.lemmas.Nat.{from_be_bytes-to_be_bytes_4, from_be_bytes-to_be_bytes_8}
 use Rattle.mail_index.specs.Kinds.{kind_number, kind_of_number, is_kind_number}
+use Rattle.mail_index.specs.Versions.{last_kind}
 use Rattle.mail_index.specs.Fields.{byte_at, u32_at, u64_at}
 use Rattle.mail_index.specs.Files.{zeros, be32, be64, Entry, entry_bytes, directory_from, texts_of, postings_of}
 use Rattle.mail_index.specs.Tables.{AllNext}
@@ -16,7 +17,7 @@ use Rattle.mail_index.specs.Faults.{IsEntry, EntryBefore}
 use Rattle.mail_index.specs.Directory.{key_cmp, is_entry, end_before, text_at, read_entry, read_entries, IsEntryAt, AreEntries}
 use Rattle.mail_index.proofs.Fronts.{before, concat_then}
 use Rattle.mail_index.proofs.Bytes.{AreBytes, bytes_behind, bytes_before, u32_back, u64_back, byte_back, both, length_part}
-use Rattle.mail_index.proofs.KeyOrder.{kind_back, kind_passes, kind_kept, is_before, key_less, first_less}
+use Rattle.mail_index.proofs.KeyOrder.{kind_back, kind_passes, kind_kept, few_kinds, is_before, key_less, first_less}
 
 -- each entry comes after the one before it, and the first after this key
 abbrev pub AreAfter : ℕ → List ℕ → List Entry → Type 0
@@ -38,11 +39,11 @@ are_after (e ∷ es) h = (first_less [] e.kind e.text, after_first e es h)
 
 -- ---- what the walk shows
 
-pub record ShowsEntries (texts postings : List ℕ) (tp pp number : ℕ) (text : List ℕ) (n : ℕ) (d : List ℕ) : Type 0 where
+pub record ShowsEntries (version : ℕ) (texts postings : List ℕ) (tp pp number : ℕ) (text : List ℕ) (n : ℕ) (d : List ℕ) : Type 0 where
   pub spelled : d ≡ directory_from tp pp (read_entries texts postings n d)
   pub texts_spelled : drop tp texts ≡ texts_of (read_entries texts postings n d)
   pub postings_spelled : drop pp postings ≡ postings_of (read_entries texts postings n d)
-  pub each : AllByRecursion IsEntry (read_entries texts postings n d)
+  pub each : AllByRecursion (IsEntry version) (read_entries texts postings n d)
   pub after : AreAfter number text (read_entries texts postings n d)
 
 empty_list : (r : List ℕ) → length r ≡ 0 → r ≡ []
@@ -54,15 +55,15 @@ u32_small d i h =
     let t = bytes_before 4 (drop i d) (bytes_behind i d h) in
     omega (arith, t.below 0, t.below 1, t.below 2, t.below 3)
 
-entry_kept : (d : List ℕ) (tp pp : ℕ) (e : Entry) → AreBytes d → 24 ≤ length d → is_entry d ≡ true → e.kind ≡ kind_of_number (byte_at d 0) → length e.text ≡ u32_at d 4
+entry_kept : (version : ℕ) (d : List ℕ) (tp pp : ℕ) (e : Entry) → AreBytes d → 24 ≤ length d → is_entry version d ≡ true → e.kind ≡ kind_of_number (byte_at d 0) → length e.text ≡ u32_at d 4
     → tp ≡ u64_at d 8 → pp ≡ u64_at d 16 → entry_bytes tp pp e ++ drop 24 d ≡ d
 unfolding is_entry
-entry_kept d tp pp e h l t ek et etp epp =
+entry_kept version d tp pp e h l t ek et etp epp =
     let k = byte_at d 0 in
-    let t₃ = both (is_kind_number k && nat_eq (byte_at d 1) 0 && nat_eq (byte_at d 2) 0) (nat_eq (byte_at d 3) 0) t in
-    let t₂ = both (is_kind_number k && nat_eq (byte_at d 1) 0) (nat_eq (byte_at d 2) 0) t₃.0 in
-    let t₁ = both (is_kind_number k) (nat_eq (byte_at d 1) 0) t₂.0 in
-    let kind : kind_number e.kind ≡ k = ap kind_number ek ∙ kind_kept k t₁.0 in
+    let t₃ = both (is_kind_number (last_kind version) k && nat_eq (byte_at d 1) 0 && nat_eq (byte_at d 2) 0) (nat_eq (byte_at d 3) 0) t in
+    let t₂ = both (is_kind_number (last_kind version) k && nat_eq (byte_at d 1) 0) (nat_eq (byte_at d 2) 0) t₃.0 in
+    let t₁ = both (is_kind_number (last_kind version) k) (nat_eq (byte_at d 1) 0) t₂.0 in
+    let kind : kind_number e.kind ≡ k = ap kind_number ek ∙ kind_kept (last_kind version) k (few_kinds version) t₁.0 in
     let zero₁ : byte_at d 1 ≡ 0 = grind (arith, nat_tests, t₁.1) in
     let zero₂ : byte_at d 2 ≡ 0 = grind (arith, nat_tests, t₂.1) in
     let zero₃ : byte_at d 3 ≡ 0 = grind (arith, nat_tests, t₃.1) in
@@ -86,21 +87,21 @@ part_then a b c xs e = ap (λ (k : List ℕ). take b (drop a xs) ++ k) (ap (λ (
 past_all : (n : ℕ) (xs : List ℕ) → n ≡ length xs → drop n xs ≡ []
 past_all n xs e = empty_list (drop n xs) (omega (arith, e, length-drop n xs))
 
-entry_kind : (d : List ℕ) → is_entry d ≡ true → is_kind_number (byte_at d 0) ≡ true
+entry_kind : (version : ℕ) (d : List ℕ) → is_entry version d ≡ true → is_kind_number (last_kind version) (byte_at d 0) ≡ true
 unfolding is_entry
-entry_kind d t =
+entry_kind version d t =
     let k = byte_at d 0 in
-    let t₃ = both (is_kind_number k && nat_eq (byte_at d 1) 0 && nat_eq (byte_at d 2) 0) (nat_eq (byte_at d 3) 0) t in
-    let t₂ = both (is_kind_number k && nat_eq (byte_at d 1) 0) (nat_eq (byte_at d 2) 0) t₃.0 in
-    let t₁ = both (is_kind_number k) (nat_eq (byte_at d 1) 0) t₂.0 in
+    let t₃ = both (is_kind_number (last_kind version) k && nat_eq (byte_at d 1) 0 && nat_eq (byte_at d 2) 0) (nat_eq (byte_at d 3) 0) t in
+    let t₂ = both (is_kind_number (last_kind version) k && nat_eq (byte_at d 1) 0) (nat_eq (byte_at d 2) 0) t₃.0 in
+    let t₁ = both (is_kind_number (last_kind version) k) (nat_eq (byte_at d 1) 0) t₂.0 in
     t₁.0
 
-pub shows_entries : (texts postings : List ℕ) (tp pp number : ℕ) (text : List ℕ) (n : ℕ) (d : List ℕ) → AreBytes d → length d ≡ 24 * n
-    → AreEntries texts (length postings) tp pp number text n d → ShowsEntries texts postings tp pp number text n d
+pub shows_entries : (version : ℕ) (texts postings : List ℕ) (tp pp number : ℕ) (text : List ℕ) (n : ℕ) (d : List ℕ) → AreBytes d → length d ≡ 24 * n
+    → AreEntries version texts (length postings) tp pp number text n d → ShowsEntries version texts postings tp pp number text n d
 unfolding read_entry
-shows_entries texts postings tp pp number text zero d b l h =
+shows_entries version texts postings tp pp number text zero d b l h =
     record { spelled = empty_list d (omega (arith, l)); texts_spelled = past_all tp texts h.0; postings_spelled = past_all pp postings h.1; each = tt; after = tt }
-shows_entries texts postings tp pp number text (suc n) d b l h =
+shows_entries version texts postings tp pp number text (suc n) d b l h =
     let x = h.0 in
     let e = read_entry texts postings d in
     let es = read_entries texts postings n (drop 24 d) in
@@ -110,9 +111,10 @@ shows_entries texts postings tp pp number text (suc n) d b l h =
     let size_text : length e.text ≡ size = length_part size (drop (u64_at d 8) texts) (omega (arith, x.within, x.text_begins, length-drop (u64_at d 8) texts)) in
     let size_postings : length e.postings ≡ end - pp =
     length_part (end - u64_at d 16) (drop (u64_at d 16) postings) (omega (arith, x.end, x.begins, length-drop (u64_at d 16) postings)) ∙ ap (λ (k : ℕ). end - k) x.begins in
-    let kind : kind_number e.kind ≡ byte_at d 0 = kind_kept (byte_at d 0) (entry_kind d x.spelled) in
-    let front : entry_bytes tp pp e ++ drop 24 d ≡ d = entry_kept d tp pp e b long x.spelled refl size_text (sym x.text_begins) (sym x.begins) in
-    let more = shows_entries texts postings (tp + size) end (byte_at d 0) (text_at texts d) n (drop 24 d) (bytes_behind 24 d b) (omega (arith, l, length-drop 24 d)) h.1 in
+    let kind : kind_number e.kind ≡ byte_at d 0 = kind_kept (last_kind version) (byte_at d 0) (few_kinds version) (entry_kind version d x.spelled) in
+    let few_kind : kind_number e.kind ≤ last_kind version = let t = entry_kind version d x.spelled in grind (arith, nat_tests, t, kind) in
+    let front : entry_bytes tp pp e ++ drop 24 d ≡ d = entry_kept version d tp pp e b long x.spelled refl size_text (sym x.text_begins) (sym x.begins) in
+    let more = shows_entries version texts postings (tp + size) end (byte_at d 0) (text_at texts d) n (drop 24 d) (bytes_behind 24 d b) (omega (arith, l, length-drop 24 d)) h.1 in
     let tp' : tp + size ≡ tp + length e.text = omega (arith, size_text) in
     let pp' : end ≡ pp + length e.postings = omega (arith, size_postings, x.some) in
     let its_text : take size (drop tp texts) ≡ e.text = ap (λ (k : ℕ). take size (drop k texts)) (sym x.text_begins) in
@@ -121,7 +123,7 @@ shows_entries texts postings tp pp number text (suc n) d b l h =
       spelled = sym front ∙ ap (λ (y : List ℕ). entry_bytes tp pp e ++ y) (more.spelled ∙ ap (λ (k : ℕ). directory_from k end es) tp' ∙ ap (λ (k : ℕ). directory_from (tp + length e.text) k es) pp');
       texts_spelled = sym (part_then tp size (tp + size) texts refl) ∙ ap (λ (y : List ℕ). y ++ drop (tp + size) texts) its_text ∙ ap (λ (y : List ℕ). e.text ++ y) more.texts_spelled;
       postings_spelled = sym (part_then pp (end - pp) end postings (omega (arith, x.some))) ∙ ap (λ (y : List ℕ). y ++ drop end postings) its_postings ∙ ap (λ (y : List ℕ). e.postings ++ y) more.postings_spelled;
-      each = ((omega (arith, size_text, x.some_text), omega (arith, size_text, u32_small d 4 b), omega (arith, size_postings, x.some)), more.each);
+      each = ((few_kind, omega (arith, size_text, x.some_text), omega (arith, size_text, u32_small d 4 b), omega (arith, size_postings, x.some)), more.each);
       after = (ap (λ (k : ℕ). key_cmp number text k (text_at texts d)) kind ∙ x.after, subst (λ (k : ℕ). AreAfter k (text_at texts d) es) (sym kind) more.after);
     }
 
@@ -144,8 +146,8 @@ pub record IsAhead (texts postings : List ℕ) (tp pp : ℕ) (es : List Entry) :
   pub few_texts : length texts < 2 ^ 64
   pub few_postings : length postings < 2 ^ 64
 
-pub record FrontOf (texts postings : List ℕ) (tp pp : ℕ) (e : Entry) (es : List Entry) (d : List ℕ) : Type 0 where
-  pub passes : is_entry d ≡ true
+pub record FrontOf (version : ℕ) (texts postings : List ℕ) (tp pp : ℕ) (e : Entry) (es : List Entry) (d : List ℕ) : Type 0 where
+  pub passes : is_entry version d ≡ true
   pub size : u32_at d 4 ≡ length e.text
   pub text_begins : u64_at d 8 ≡ tp
   pub begins : u64_at d 16 ≡ pp
@@ -159,13 +161,13 @@ pub record FrontOf (texts postings : List ℕ) (tp pp : ℕ) (e : Entry) (es : L
 few_tests : (k : Bool) → k ≡ true → (((k && true) && true) && true) ≡ true
 few_tests k e = rw e refl
 
-front_entry : (texts postings : List ℕ) (tp pp : ℕ) (e : Entry) (es : List Entry) → IsEntry e → IsAhead texts postings tp pp (e ∷ es) → FrontOf texts postings tp pp e es (directory_from tp pp (e ∷ es))
+front_entry : (version : ℕ) (texts postings : List ℕ) (tp pp : ℕ) (e : Entry) (es : List Entry) → IsEntry version e → IsAhead texts postings tp pp (e ∷ es) → FrontOf version texts postings tp pp e es (directory_from tp pp (e ∷ es))
 unfolding is_entry
-front_entry texts postings tp pp e es h a =
+front_entry version texts postings tp pp e es h a =
     let d = directory_from tp pp (e ∷ es) in
     let n₁ : length texts - tp ≡ length e.text + length (texts_of es) = sym (length-drop tp texts) ∙ ap length a.texts_spelled ∙ length-append e.text (texts_of es) in
     let n₂ : length postings - pp ≡ length e.postings + length (postings_of es) = sym (length-drop pp postings) ∙ ap length a.postings_spelled ∙ length-append e.postings (postings_of es) in
-    let size : u32_at d 4 ≡ length e.text = from_be_bytes-to_be_bytes_4 (length e.text) h.1 in
+    let size : u32_at d 4 ≡ length e.text = from_be_bytes-to_be_bytes_4 (length e.text) h.2 in
     let text_begins : u64_at d 8 ≡ tp = from_be_bytes-to_be_bytes_8 tp (omega (arith, a.text_bound, a.few_texts)) in
     let begins : u64_at d 16 ≡ pp = from_be_bytes-to_be_bytes_8 pp (omega (arith, a.bound, a.few_postings)) in
     let end : end_before (drop 24 d) (length postings) ≡ pp + length e.postings =
@@ -181,7 +183,7 @@ front_entry texts postings tp pp e es h a =
     let ahead : IsAhead texts postings (tp + length e.text) (pp + length e.postings) es =
     record { text_bound = omega (arith, n₁, a.text_bound); bound = omega (arith, n₂, a.bound); texts_spelled = t₂; postings_spelled = p₂; few_texts = a.few_texts; few_postings = a.few_postings } in
     record {
-      passes = few_tests (is_kind_number (kind_number e.kind)) (kind_passes e.kind);
+      passes = few_tests (is_kind_number (last_kind version) (kind_number e.kind)) (kind_passes (last_kind version) e.kind h.0);
       size = size;
       text_begins = text_begins;
       begins = begins;
@@ -193,47 +195,47 @@ front_entry texts postings tp pp e es h a =
       ahead = ahead;
     }
 
-entry_back : (texts postings : List ℕ) (tp pp : ℕ) (e : Entry) (es : List Entry) (d : List ℕ) → FrontOf texts postings tp pp e es d → byte_at d 0 ≡ kind_number e.kind → read_entry texts postings d ≡ e
+entry_back : (version : ℕ) (texts postings : List ℕ) (tp pp : ℕ) (e : Entry) (es : List Entry) (d : List ℕ) → FrontOf version texts postings tp pp e es d → byte_at d 0 ≡ kind_number e.kind → read_entry texts postings d ≡ e
 unfolding read_entry
-entry_back texts postings tp pp e es d f k =
+entry_back version texts postings tp pp e es d f k =
     let kind : kind_of_number (byte_at d 0) ≡ e.kind = ap kind_of_number k ∙ kind_back e.kind in
     let text = f.text in
     let its = f.its in
     λ i. record { kind = kind i; text = text i; postings = its i }
 
-pub entries_back : (texts postings : List ℕ) (tp pp : ℕ) (es : List Entry) → AllByRecursion IsEntry es → IsAhead texts postings tp pp es → read_entries texts postings (length es) (directory_from tp pp es) ≡ es
-entries_back texts postings tp pp [] h a = refl
-entries_back texts postings tp pp (e ∷ es) h a =
-    let f = front_entry texts postings tp pp e es h.0 a in
-    let head : read_entry texts postings (directory_from tp pp (e ∷ es)) ≡ e = entry_back texts postings tp pp e es (directory_from tp pp (e ∷ es)) f refl in
-    let tail : read_entries texts postings (length es) (directory_from (tp + length e.text) (pp + length e.postings) es) ≡ es = entries_back texts postings (tp + length e.text) (pp + length e.postings) es h.1 f.ahead in
+pub entries_back : (version : ℕ) (texts postings : List ℕ) (tp pp : ℕ) (es : List Entry) → AllByRecursion (IsEntry version) es → IsAhead texts postings tp pp es → read_entries texts postings (length es) (directory_from tp pp es) ≡ es
+entries_back version texts postings tp pp [] h a = refl
+entries_back version texts postings tp pp (e ∷ es) h a =
+    let f = front_entry version texts postings tp pp e es h.0 a in
+    let head : read_entry texts postings (directory_from tp pp (e ∷ es)) ≡ e = entry_back version texts postings tp pp e es (directory_from tp pp (e ∷ es)) f refl in
+    let tail : read_entries texts postings (length es) (directory_from (tp + length e.text) (pp + length e.postings) es) ≡ es = entries_back version texts postings (tp + length e.text) (pp + length e.postings) es h.1 f.ahead in
     λ i. head i ∷ tail i
 
-moved : (texts : List ℕ) (total a a' b b' c : ℕ) (t t' : List ℕ) (n : ℕ) (d : List ℕ) → a ≡ a' → b ≡ b' → t ≡ t' → AreEntries texts total a b c t n d → AreEntries texts total a' b' c t' n d
-moved texts total a a' b b' c t t' n d p q r h = transport (λ i. AreEntries texts total (p i) (q i) c (r i) n d) h
+moved : (version : ℕ) (texts : List ℕ) (total a a' b b' c : ℕ) (t t' : List ℕ) (n : ℕ) (d : List ℕ) → a ≡ a' → b ≡ b' → t ≡ t' → AreEntries version texts total a b c t n d → AreEntries version texts total a' b' c t' n d
+moved version texts total a a' b b' c t t' n d p q r h = transport (λ i. AreEntries version texts total (p i) (q i) c (r i) n d) h
 
-pub are_entries_of : (texts postings : List ℕ) (tp pp number : ℕ) (text : List ℕ) (es : List Entry) → AllByRecursion IsEntry es → IsAhead texts postings tp pp es → AreAfter number text es
-    → AreEntries texts (length postings) tp pp number text (length es) (directory_from tp pp es)
-are_entries_of texts postings tp pp number text [] h a s =
+pub are_entries_of : (version : ℕ) (texts postings : List ℕ) (tp pp number : ℕ) (text : List ℕ) (es : List Entry) → AllByRecursion (IsEntry version) es → IsAhead texts postings tp pp es → AreAfter number text es
+    → AreEntries version texts (length postings) tp pp number text (length es) (directory_from tp pp es)
+are_entries_of version texts postings tp pp number text [] h a s =
     let n₁ : length texts - tp ≡ 0 = sym (length-drop tp texts) ∙ ap length a.texts_spelled in
     let n₂ : length postings - pp ≡ 0 = sym (length-drop pp postings) ∙ ap length a.postings_spelled in
     (omega (arith, n₁, a.text_bound), omega (arith, n₂, a.bound))
-are_entries_of texts postings tp pp number text (e ∷ es) h a s =
+are_entries_of version texts postings tp pp number text (e ∷ es) h a s =
     let d = directory_from tp pp (e ∷ es) in
-    let f = front_entry texts postings tp pp e es h.0 a in
-    let x : IsEntryAt texts (length postings) tp pp number text d = record {
+    let f = front_entry version texts postings tp pp e es h.0 a in
+    let x : IsEntryAt version texts (length postings) tp pp number text d = record {
       spelled = f.passes;
       text_begins = f.text_begins;
       begins = f.begins;
-      some_text = omega (arith, f.size, h.0.0);
+      some_text = omega (arith, f.size, h.0.1);
       within = omega (arith, f.size, f.text_room);
-      some = omega (arith, f.end, h.0.2);
+      some = omega (arith, f.end, h.0.3);
       end = omega (arith, f.end, f.room);
       after = ap (λ (y : List ℕ). key_cmp number text (kind_number e.kind) y) f.text ∙ s.0;
     } in
-    let more = are_entries_of texts postings (tp + length e.text) (pp + length e.postings) (kind_number e.kind) e.text es h.1 f.ahead s.1 in
+    let more = are_entries_of version texts postings (tp + length e.text) (pp + length e.postings) (kind_number e.kind) e.text es h.1 f.ahead s.1 in
     let same : tp + length e.text ≡ tp + u32_at d 4 = omega (arith, f.size) in (
       x,
-      moved texts (length postings) (tp + length e.text) (tp + u32_at d 4) (pp + length e.postings) (end_before (drop 24 d) (length postings)) (kind_number e.kind) e.text (text_at texts d)
+      moved version texts (length postings) (tp + length e.text) (tp + u32_at d 4) (pp + length e.postings) (end_before (drop 24 d) (length postings)) (kind_number e.kind) e.text (text_at texts d)
           (length es) (directory_from (tp + length e.text) (pp + length e.postings) es) same (sym f.end) (sym f.text) more,
     )

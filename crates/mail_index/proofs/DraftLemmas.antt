@@ -7,11 +7,13 @@ use Rattle.std.specs.List.{AllByRecursion}
 use Rattle.std.proofs.lemmas.Bool.Decides.{nat_tests}
 use Rattle.mail_index.specs.declared.kind.Kind.{Kind}
 use Rattle.mail_index.specs.Kinds.{kind_number}
+use Rattle.mail_index.specs.Versions.{newest}
 use Rattle.mail_index.specs.Postings.{leb128, postings_from}
 use Rattle.mail_index.specs.PostingLists.{end_from, with_number}
 use Rattle.mail_index.specs.Tables.{Key, RisesFrom, IsKey}
 use Rattle.mail_index.specs.Builders.{Draft, with_pair}
 use Rattle.mail_index.specs.Drafts.{IsDraft, message_count}
+use Rattle.mail_index.proofs.KindNumbers.{kind_number-known}
 use Rattle.mail_index.proofs.PostingLemmas.{length-leb128}
 
 pub all-snoc : {A : Type 0} (P : A → Type 0) (xs : List A) (x : A) → AllByRecursion P xs → P x → AllByRecursion P (xs ++ x ∷ [])
@@ -35,8 +37,9 @@ by-number P ns n stays more = (elim (nat_lt n (end_from 0 ns)) as (λ v. nat_lt 
 ]) refl
 
 -- a key of one number more, which is below the count
-pub key-more : (count n : ℕ) (k : Key) → IsKey count k → n < count → IsKey count (record { kind = k.kind; text = k.text; numbers = with_number k.numbers n })
+pub key-more : (count n : ℕ) (k : Key) → IsKey newest count k → n < count → IsKey newest count (record { kind = k.kind; text = k.text; numbers = with_number k.numbers n })
 key-more count n k is low = record {
+  kind = is.kind;
   some_text = is.some_text;
   short = is.short;
   some_number = by-number (λ ns. 0 < length ns) k.numbers n is.some_number (λ _. omega (arith, length-append k.numbers (n ∷ [])));
@@ -44,8 +47,9 @@ key-more count n k is low = record {
   below = by-number (AllByRecursion (λ m. m < count)) k.numbers n is.below (λ _. all-snoc (λ m. m < count) k.numbers n is.below low);
 }
 
-pub key-new : (count n : ℕ) (kind : Kind) (text : List ℕ) → 0 < length text → length text < 2 ^ 32 → n < count → IsKey count (record { kind = kind; text = text; numbers = n ∷ [] })
+pub key-new : (count n : ℕ) (kind : Kind) (text : List ℕ) → 0 < length text → length text < 2 ^ 32 → n < count → IsKey newest count (record { kind = kind; text = text; numbers = n ∷ [] })
 key-new count n kind text some short low = record {
+  kind = kind_number-known kind;
   some_text = some;
   short = short;
   some_number = omega arith;
@@ -53,10 +57,10 @@ key-new count n kind text some short low = record {
   below = (low, tt);
 }
 
-pub with_pair-listed : (count n : ℕ) (kind : Kind) (text : List ℕ) → 0 < length text → length text < 2 ^ 32 → n < count → (ks : List Key) → AllByRecursion (IsKey count) ks → AllByRecursion (IsKey count) (with_pair kind text n ks)
+pub with_pair-listed : (count n : ℕ) (kind : Kind) (text : List ℕ) → 0 < length text → length text < 2 ^ 32 → n < count → (ks : List Key) → AllByRecursion (IsKey newest count) ks → AllByRecursion (IsKey newest count) (with_pair kind text n ks)
 with_pair-listed count n kind text some short low [] all = (key-new count n kind text some short low, tt)
 with_pair-listed count n kind text some short low (k ∷ ks) all =
-    elim (slice_cmp nat_cmp (kind_number kind ∷ text) (kind_number k.kind ∷ k.text)) as (λ o. AllByRecursion (IsKey count) (match_ordering o (record { kind = kind; text = text; numbers = n ∷ [] } ∷ k ∷ ks) (record { kind = k.kind; text = k.text; numbers = with_number k.numbers n } ∷ ks) (k ∷ with_pair kind text n ks))) [
+    elim (slice_cmp nat_cmp (kind_number kind ∷ text) (kind_number k.kind ∷ k.text)) as (λ o. AllByRecursion (IsKey newest count) (match_ordering o (record { kind = kind; text = text; numbers = n ∷ [] } ∷ k ∷ ks) (record { kind = k.kind; text = k.text; numbers = with_number k.numbers n } ∷ ks) (k ∷ with_pair kind text n ks))) [
       | Less ↦ (key-new count n kind text some short low, all)
       | Equal ↦ (key-more count n k all.0 low, all.1)
       | Greater ↦ (all.0, with_pair-listed count n kind text some short low ks all.1)
@@ -64,13 +68,14 @@ with_pair-listed count n kind text some short low (k ∷ ks) all =
 
 -- what a call made of the keys keeps them well-formed
 pub listed-after : {T E : Type 0} (r : Result T E) (count n : ℕ) (kind : Kind) (text : List ℕ) → 0 < length text → length text < 2 ^ 32 → n < count → (ks after : List Key)
-    → OnOk r (after ≡ with_pair kind text n ks) → OnErr r (after ≡ ks) → AllByRecursion (IsKey count) ks → AllByRecursion (IsKey count) after
-listed-after (Ok _) count n kind text some short low ks after ok err all = subst (λ x. AllByRecursion (IsKey count) x) (sym ok) (with_pair-listed count n kind text some short low ks all)
-listed-after (Err _) count n kind text some short low ks after ok err all = subst (λ x. AllByRecursion (IsKey count) x) (sym err) all
+    → OnOk r (after ≡ with_pair kind text n ks) → OnErr r (after ≡ ks) → AllByRecursion (IsKey newest count) ks → AllByRecursion (IsKey newest count) after
+listed-after (Ok _) count n kind text some short low ks after ok err all = subst (λ x. AllByRecursion (IsKey newest count) x) (sym ok) (with_pair-listed count n kind text some short low ks all)
+listed-after (Err _) count n kind text some short low ks after ok err all = subst (λ x. AllByRecursion (IsKey newest count) x) (sym err) all
 
 -- keys of so many messages are keys of more
-pub listed-weaker : (count more : ℕ) → count ≤ more → (ks : List Key) → AllByRecursion (IsKey count) ks → AllByRecursion (IsKey more) ks
-listed-weaker count more h = all-weaker (IsKey count) (IsKey more) (λ k is. record {
+pub listed-weaker : (count more : ℕ) → count ≤ more → (ks : List Key) → AllByRecursion (IsKey newest count) ks → AllByRecursion (IsKey newest more) ks
+listed-weaker count more h = all-weaker (IsKey newest count) (IsKey newest more) (λ k is. record {
+  kind = is.kind;
   some_text = is.some_text;
   short = is.short;
   some_number = is.some_number;
@@ -91,7 +96,7 @@ length-postings_from low (n ∷ ns) r =
     omega (arith, r.0, length-append (leb128 5 (suc n - low)) (postings_from (suc n) ns), length-leb128 5 (suc n - low) gap, length-postings_from (suc n) ns r.1)
 
 -- a key's postings have at most as many bytes as there are messages
-pub length-postings : (count : ℕ) (k : Key) → IsKey count k → length (postings_from 0 k.numbers) ≤ count
+pub length-postings : (count : ℕ) (k : Key) → IsKey newest count k → length (postings_from 0 k.numbers) ≤ count
 length-postings count k is = omega (arith, length-postings_from 0 k.numbers is.rises, end_from-below count 0 k.numbers (omega arith) is.below)
 
 -- the message that is open counts within the limit

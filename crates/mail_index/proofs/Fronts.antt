@@ -1,11 +1,12 @@
 -- What stands at the front of equal bytes is equal.
 use Rattle.std.proofs.Common.{◌≡◌, ℕ, zero, suc, ◌+◌, ◌*◌, ◌^◌, ◌<◌, ◌≤◌, Bool, true, false, cond, List, [], ◌∷◌, ◌++◌, length, map, Option, Some, None, refl, sym, ap, subst, ◌∙◌, append_assoc, arith, inl, inr, ℤ}
-use Rattle.std.specs.Prelude.{flat_map}
+use Rattle.std.specs.Prelude.{flat_map, unwrap_or}
 use Rattle.std.specs.List.{concat, AllByRecursion}
 use Rattle.std.specs.Int.{w32, w64, from_be_bytes}
 use Rattle.std.proofs.lemmas.Nat.{from_be_bytes-to_be_bytes_4, from_be_bytes-to_be_bytes_8}
 use Rattle.mail_index.specs.Tables.{Archive, IsArchive}
 use Rattle.mail_index.specs.Files.{be32, be64, archive_bytes}
+use Rattle.mail_index.proofs.DigestReads.{same_size, digest_is}
 
 pub split : (a b x y : List ℕ) → length a ≡ length b → a ++ x ≡ b ++ y → (a ≡ b) × (x ≡ y)
 split [] [] x y h e = (refl, e)
@@ -61,11 +62,13 @@ front_each f P front (a ∷ xs) (b ∷ ys) x y h p q e =
     let d : xs ≡ ys = r.0 in
     (cc, r.1)
 
-pub archive_front : (a b : Archive) (x y : List ℕ) → IsArchive a → IsArchive b → archive_bytes a ++ x ≡ archive_bytes b ++ y → (a ≡ b) × (x ≡ y)
-archive_front a b x y p q e =
-    let e' = sym (concat_then (be64 a.length ∷ be32 (length a.path) ∷ a.path ∷ []) x) ∙ e ∙ concat_then (be64 b.length ∷ be32 (length b.path) ∷ b.path ∷ []) y in
-    let s = same_parts (be64 a.length ∷ be32 (length a.path) ∷ []) (be64 b.length ∷ be32 (length b.path) ∷ []) (a.path ++ x) (b.path ++ y) refl e' in
+pub archive_front : (version : ℕ) (a b : Archive) (x y : List ℕ) → IsArchive version a → IsArchive version b → archive_bytes a ++ x ≡ archive_bytes b ++ y → (a ≡ b) × (x ≡ y)
+archive_front version a b x y p q e =
+    let e' = sym (concat_then (be64 a.length ∷ be32 (length a.path) ∷ a.path ∷ unwrap_or a.digest [] ∷ []) x) ∙ e ∙ concat_then (be64 b.length ∷ be32 (length b.path) ∷ b.path ∷ unwrap_or b.digest [] ∷ []) y in
+    let s = same_parts (be64 a.length ∷ be32 (length a.path) ∷ []) (be64 b.length ∷ be32 (length b.path) ∷ []) (a.path ++ (unwrap_or a.digest [] ++ x)) (b.path ++ (unwrap_or b.digest [] ++ y)) refl e' in
     let sizes : a.length ≡ b.length = be64_is a.length b.length (omega (arith, p.1)) (omega (arith, q.1)) (ap (λ (l : List (List ℕ)). Rattle.std.proofs.Common.get_or l 0 []) s.0) in
     let lengths : length a.path ≡ length b.path = be32_is (length a.path) (length b.path) (omega (arith, p.0.most)) (omega (arith, q.0.most)) (ap (λ (l : List (List ℕ)). Rattle.std.proofs.Common.get_or l 1 []) s.0) in
-    let r = split a.path b.path x y lengths s.1 in
-    (λ i. record { path = r.0 i; length = sizes i }, r.1)
+    let r = split a.path b.path (unwrap_or a.digest [] ++ x) (unwrap_or b.digest [] ++ y) lengths s.1 in
+    let t = split (unwrap_or a.digest []) (unwrap_or b.digest []) x y (same_size version a.digest b.digest p.2 q.2) r.1 in
+    let digest : a.digest ≡ b.digest = digest_is version a.digest b.digest p.2 q.2 t.0 in
+    (λ i. record { path = r.0 i; length = sizes i; digest = digest i }, t.1)

@@ -1,5 +1,5 @@
 -- The order of keys that the reader computes is that of a table's keys.
-use Rattle.std.proofs.Common.{◌≡◌, ℕ, zero, suc, ◌<◌, true, false, List, [], ◌∷◌, refl, sym, ap, ◌∙◌, arith, inl, inr}
+use Rattle.std.proofs.Common.{◌≡◌, ℕ, zero, suc, ◌<◌, ◌≤◌, true, false, nat_eq, if◌then◌else◌, List, [], ◌∷◌, refl, sym, ap, ◌∙◌, arith, inl, inr}
 use Rattle.std.specs.Prelude.{◌⊎◌}
 use Rattle.std.specs.declared.cmp.Ordering.{Ordering}
 use Rattle.std.specs.declared.cmp.Ordering.TheVariants.{Less, Equal, Greater}
@@ -7,10 +7,11 @@ use Rattle.std.specs.Ordering.{nat_cmp, ordering_then}
 use Rattle.std.specs.Cmp.Lexicographic.{slice_cmp}
 use Rattle.std.proofs.lemmas.Cmp.{ranked}
 use Rattle.std.proofs.lemmas.Bool.Decides.{nat_tests}
-use Rattle.mail_words.specs.declared.kind.TextKind.TheVariants.{To, Cc, Bcc, From, Subject, Body}
+use Rattle.mail_words.specs.declared.kind.TextKind.TheVariants.{To, Cc, Bcc, From, Subject, Body, Name}
 use Rattle.mail_index.specs.declared.kind.Kind.{Kind}
 use Rattle.mail_index.specs.declared.kind.Kind.TheVariants.{Text, OwnId, LinkId}
 use Rattle.mail_index.specs.Kinds.{kind_number, kind_of_number, is_kind_number}
+use Rattle.mail_index.specs.Versions.{last_kind}
 use Rattle.mail_index.specs.Tables.{TextBefore, IsBefore}
 use Rattle.mail_index.specs.Directory.{key_cmp}
 
@@ -23,28 +24,20 @@ kind_back (Text Subject) = refl
 kind_back (Text Body) = refl
 kind_back OwnId = refl
 kind_back LinkId = refl
+kind_back (Text Name) = refl
 
-pub kind_passes : (k : Kind) → is_kind_number (kind_number k) ≡ true
-kind_passes (Text To) = refl
-kind_passes (Text Cc) = refl
-kind_passes (Text Bcc) = refl
-kind_passes (Text From) = refl
-kind_passes (Text Subject) = refl
-kind_passes (Text Body) = refl
-kind_passes OwnId = refl
-kind_passes LinkId = refl
-
-pub kind_kept : (n : ℕ) → is_kind_number n ≡ true → kind_number (kind_of_number n) ≡ n
-kind_kept zero h = absurd (let g : false ≡ true = h in cc)
-kind_kept (suc zero) h = refl
-kind_kept (suc (suc zero)) h = refl
-kind_kept (suc (suc (suc zero))) h = refl
-kind_kept (suc (suc (suc (suc zero)))) h = refl
-kind_kept (suc (suc (suc (suc (suc zero))))) h = refl
-kind_kept (suc (suc (suc (suc (suc (suc zero)))))) h = refl
-kind_kept (suc (suc (suc (suc (suc (suc (suc zero))))))) h = refl
-kind_kept (suc (suc (suc (suc (suc (suc (suc (suc zero)))))))) h = refl
-kind_kept (suc (suc (suc (suc (suc (suc (suc (suc (suc n))))))))) h = absurd (grind (arith, nat_tests))
+pub kind_kept : (last n : ℕ) → last ≤ 9 → is_kind_number last n ≡ true → kind_number (kind_of_number n) ≡ n
+kind_kept last zero l h = absurd (let g : false ≡ true = h in cc)
+kind_kept last (suc zero) l h = refl
+kind_kept last (suc (suc zero)) l h = refl
+kind_kept last (suc (suc (suc zero))) l h = refl
+kind_kept last (suc (suc (suc (suc zero)))) l h = refl
+kind_kept last (suc (suc (suc (suc (suc zero))))) l h = refl
+kind_kept last (suc (suc (suc (suc (suc (suc zero)))))) l h = refl
+kind_kept last (suc (suc (suc (suc (suc (suc (suc zero))))))) l h = refl
+kind_kept last (suc (suc (suc (suc (suc (suc (suc (suc zero)))))))) l h = refl
+kind_kept last (suc (suc (suc (suc (suc (suc (suc (suc (suc zero))))))))) l h = refl
+kind_kept last (suc (suc (suc (suc (suc (suc (suc (suc (suc (suc n)))))))))) l h = absurd (grind (arith, nat_tests, l))
 
 pub kind_is : (j k : Kind) → kind_number j ≡ kind_number k → j ≡ k
 kind_is j k e = sym (kind_back j) ∙ ap kind_of_number e ∙ kind_back k
@@ -58,6 +51,16 @@ kind_some (Text Subject) = omega arith
 kind_some (Text Body) = omega arith
 kind_some OwnId = omega arith
 kind_some LinkId = omega arith
+kind_some (Text Name) = omega arith
+
+pub kind_passes : (last : ℕ) (k : Kind) → kind_number k ≤ last → is_kind_number last (kind_number k) ≡ true
+kind_passes last k h = let some : 1 ≤ kind_number k = omega (arith, kind_some k) in grind (arith, nat_tests, some, h)
+
+pub few_kinds : (version : ℕ) → last_kind version ≤ 9
+few_kinds version = elim (nat_eq version 1) as (λ b. (if b then 8 else 9) ≤ 9) [
+  | true ↦ omega arith
+  | false ↦ omega arith
+]
 
 pub lower : (x y : ℕ) → x < y → nat_cmp x y ≡ Less
 lower x y h = grind (arith, nat_tests)

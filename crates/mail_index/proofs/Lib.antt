@@ -3,6 +3,7 @@ pub mod RecordFronts
 pub mod OneTable
 pub mod Bytes
 pub mod RecordReads
+pub mod DigestReads
 pub mod ArchiveReads
 pub mod RecordWalk
 pub mod RecordSections

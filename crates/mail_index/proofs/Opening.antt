@@ -20,11 +20,11 @@ use Rattle.mail_index.proofs.PostingReadLemmas.{read-posted}
 
 -- ---- archives
 
-pub spells_these : (count : ℕ) (s : List ℕ) (archives : List Archive) → s ≡ flat_map archive_bytes archives → length archives ≡ count → AllByRecursion IsArchive archives
-    → (read_archives count s ≡ archives) × SpellsArchives count s
-spells_these count s archives e l h =
-    let r : read_archives count s ≡ archives = (λ i. read_archives (sym l i) (e i)) ∙ archives_back archives h in
-    (r, record { spelled = e ∙ ap (flat_map archive_bytes) (sym r); each = subst (AllByRecursion IsArchive) (sym r) h })
+pub spells_these : (version count : ℕ) (s : List ℕ) (archives : List Archive) → s ≡ flat_map archive_bytes archives → length archives ≡ count → AllByRecursion (IsArchive version) archives
+    → (read_archives version count s ≡ archives) × SpellsArchives version count s
+spells_these version count s archives e l h =
+    let r : read_archives version count s ≡ archives = (λ i. read_archives version (sym l i) (e i)) ∙ archives_back version archives h in
+    (r, record { spelled = e ∙ ap (flat_map archive_bytes) (sym r); each = subst (AllByRecursion (IsArchive version)) (sym r) h })
 
 -- ---- counts of records and of entries
 
@@ -81,18 +81,18 @@ reads_list messages list l h =
     }
 
 -- the keys that are read of entries
-pub record ReadsKeys (messages : ℕ) (es : List Entry) : Type 0 where
+pub record ReadsKeys (version messages : ℕ) (es : List Entry) : Type 0 where
   pub spelled : map entry_of (map key_of es) ≡ es
-  pub each : AllByRecursion (IsKey messages) (map key_of es)
+  pub each : AllByRecursion (IsKey version messages) (map key_of es)
 
-pub reads_keys : (messages : ℕ) (es : List Entry) → messages < 2 ^ 32 → AllByRecursion IsEntry es → AllByRecursion (λ e. IsList messages e.postings) es → ReadsKeys messages es
-reads_keys messages [] l h p = record { spelled = refl; each = tt }
-reads_keys messages (e ∷ es) l h p =
+pub reads_keys : (version messages : ℕ) (es : List Entry) → messages < 2 ^ 32 → AllByRecursion (IsEntry version) es → AllByRecursion (λ e. IsList messages e.postings) es → ReadsKeys version messages es
+reads_keys version messages [] l h p = record { spelled = refl; each = tt }
+reads_keys version messages (e ∷ es) l h p =
     let r = reads_list messages e.postings l p.0 in
-    let more = reads_keys messages es l h.1 p.1 in
+    let more = reads_keys version messages es l h.1 p.1 in
     let head : entry_of (key_of e) ≡ e = λ i. record { kind = e.kind; text = e.text; postings = r.spelled i } in
     let tail : map entry_of (map key_of es) ≡ es = more.spelled in
-    record { spelled = λ i. head i ∷ tail i; each = (record { some_text = h.0.0; short = h.0.1; some_number = r.some; rises = r.rises; below = r.below }, more.each) }
+    record { spelled = λ i. head i ∷ tail i; each = (record { kind = h.0.0; some_text = h.0.1; short = h.0.2; some_number = r.some; rises = r.rises; below = r.below }, more.each) }
 
 pub lists_of : (messages : ℕ) (texts ps : List ℕ) (n : ℕ) (d : List ℕ) → AreLists messages ps n d → AllByRecursion (λ e. IsList messages e.postings) (read_entries texts ps n d)
 unfolding read_entry
@@ -112,10 +112,10 @@ some_postings (n ∷ ns) l = go (postings (n ∷ ns)) refl
     go [] e = absurd (leb_some 4 (suc n - 0) (postings_from (suc n) ns) e)
     go (x ∷ xs) e = omega arith
 
-pub lists_of_keys : (messages : ℕ) (ks : List Key) → AllByRecursion (IsKey messages) ks → AllByRecursion (λ e. IsList messages e.postings) (map entry_of ks)
-lists_of_keys messages [] h = tt
-lists_of_keys messages (k ∷ ks) h =
-    ((some_postings k.numbers h.0.some_number, (k.numbers, record { rises = h.0.rises; below = h.0.below; spelled = refl })), lists_of_keys messages ks h.1)
+pub lists_of_keys : (version messages : ℕ) (ks : List Key) → AllByRecursion (IsKey version messages) ks → AllByRecursion (λ e. IsList messages e.postings) (map entry_of ks)
+lists_of_keys version messages [] h = tt
+lists_of_keys version messages (k ∷ ks) h =
+    ((some_postings k.numbers h.0.some_number, (k.numbers, record { rises = h.0.rises; below = h.0.below; spelled = refl })), lists_of_keys version messages ks h.1)
 
 pub keys_in_order : (ks : List Key) → AllNext EntryBefore (map entry_of ks) → AllNext KeyBefore ks
 keys_in_order [] h = tt

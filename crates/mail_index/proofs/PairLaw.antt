@@ -100,12 +100,12 @@ with_pair-keeps n kind text (key ∷ ks) k t m h =
       | Greater ↦ elim h [ inl here ↦ inl here | inr rest ↦ inr (with_pair-keeps n kind text ks k t m rest) ]
     ]
 
-pub with_pair-has : (n : ℕ) (kind : Kind) (text : List ℕ) (ks : List Key) → AllByRecursion (IsKey (suc n)) ks → Tells (with_pair kind text n ks) kind text n
-with_pair-has n kind text [] all = inl (refl, refl, inl refl)
-with_pair-has n kind text (key ∷ ks) all =
+pub with_pair-has : (version n : ℕ) (kind : Kind) (text : List ℕ) (ks : List Key) → AllByRecursion (IsKey version (suc n)) ks → Tells (with_pair kind text n ks) kind text n
+with_pair-has version n kind text [] all = inl (refl, refl, inl refl)
+with_pair-has version n kind text (key ∷ ks) all =
     (elim (slice_cmp nat_cmp (kind_number kind ∷ text) (kind_number key.kind ∷ key.text)) as (λ o. slice_cmp nat_cmp (kind_number kind ∷ text) (kind_number key.kind ∷ key.text) ≡ o
     → Tells (match_ordering o (record { kind = kind; text = text; numbers = n ∷ [] } ∷ key ∷ ks) (record { kind = key.kind; text = key.text; numbers = with_number key.numbers n } ∷ ks) (key ∷ with_pair kind text n ks)) kind text n) [
       | Less ↦ λ _. inl (refl, refl, inl refl)
       | Equal ↦ λ equal. let same = keys-same kind key.kind text key.text equal in inl (sym same.0, sym same.1, with_number-has key.numbers n all.0.rises all.0.below)
-      | Greater ↦ λ _. inr (with_pair-has n kind text ks all.1)
+      | Greater ↦ λ _. inr (with_pair-has version n kind text ks all.1)
     ]) refl

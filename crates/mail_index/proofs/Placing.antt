@@ -4,6 +4,7 @@ use Rattle.std.specs.Int.{w64}
 use Rattle.std.specs.List.{AllByRecursion}
 use Rattle.std.proofs.lemmas.Bool.Decides.{nat_tests}
 use Rattle.mail_index.specs.declared.record.Record.{Record}
+use Rattle.mail_index.specs.Versions.{IsVersion, newest}
 use Rattle.mail_index.specs.Tables.{Archive, archive_length, IsMessage, Follows, AllNext, IsPath, IsArchive, IsKey, IsWellFormed}
 use Rattle.mail_index.specs.Builders.{Draft, end_of, IsNext, IsInMessage, IsBetweenArchives}
 use Rattle.mail_index.specs.Drafts.{with_open, IsDraft}
@@ -95,6 +96,7 @@ archives-low archives a ms all =
 
 pub archive-opened : (d : Draft) (p : List ℕ) → IsDraft d → d.path ≡ None → length d.table.archives < d.most → IsPath p → IsDraft (record d { path = Some p })
 archive-opened d p is closed room named = record {
+  version = is.version;
   limit = is.limit;
   archives = is.archives;
   open_archive = (room, named);
@@ -102,7 +104,7 @@ archive-opened d p is closed room named = record {
   open_message = is.open_message;
   keys = is.keys;
   named = is.named;
-  placed = all-weaker (IsMessage d.table.archives) (IsMessage (d.table.archives ++ record { path = p; length = 2 ^ 40 } ∷ [])) (message-more d.table.archives (record { path = p; length = 2 ^ 40 })) d.table.messages
+  placed = all-weaker (IsMessage d.table.archives) (IsMessage (d.table.archives ++ record { path = p; length = 2 ^ 40; digest = None } ∷ [])) (message-more d.table.archives (record { path = p; length = 2 ^ 40; digest = None })) d.table.messages
       (subst (λ (q : Option (List ℕ)). AllByRecursion (IsMessage (with_open d.table.archives q)) d.table.messages) closed is.placed);
   in_order = is.in_order;
   listed = is.listed;
@@ -112,23 +114,24 @@ archive-opened d p is closed room named = record {
 -- a message of the archive that is open
 message-open : (archives : List Archive) (path : Option (List ℕ)) (m : Record) → IsSome path → m.archive ≡ length archives → m.offset + m.length ≤ 2 ^ 40 → m.size < m.length → IfSome m.date (FitsSigned w64) → IsMessage (with_open archives path) m
 message-open archives None m some last within size date = absurd cc
-message-open archives (Some p) m some last within size date = message-new archives (record { path = p; length = 2 ^ 40 }) m last within size date
+message-open archives (Some p) m some last within size date = message-new archives (record { path = p; length = 2 ^ 40; digest = None }) m last within size date
 
 archives-low_open : (archives : List Archive) (path : Option (List ℕ)) (ms : List Record) → AllByRecursion (IsMessage (with_open archives path)) ms → AllByRecursion (λ m. m.archive ≤ length archives) ms
 archives-low_open archives None ms all = all-weaker (IsMessage archives) (λ m. m.archive ≤ length archives) (λ m is. omega (arith, is.exists)) ms all
-archives-low_open archives (Some p) ms all = archives-low archives (record { path = p; length = 2 ^ 40 }) ms all
+archives-low_open archives (Some p) ms all = archives-low archives (record { path = p; length = 2 ^ 40; digest = None }) ms all
 
 pub message-ended_draft : (d : Draft) (r : Record) → IsDraft d → IsInMessage d → IsNext d r → IfSome r.date (FitsSigned w64)
-    → IsDraft (record { most = d.most; path = d.path; in_message = false; table = record { archives = d.table.archives; messages = d.table.messages ++ r ∷ []; keys = d.table.keys } })
+    → IsDraft (record { most = d.most; path = d.path; in_message = false; table = record { version = d.table.version; archives = d.table.archives; messages = d.table.messages ++ r ∷ []; keys = d.table.keys } })
 message-ended_draft d r is inside next date =
     let low : AllByRecursion (λ m. m.archive ≤ r.archive) d.table.messages =
     subst (λ (n : ℕ). AllByRecursion (λ (m : Record). m.archive ≤ n) d.table.messages) (sym next.archive) (archives-low_open d.table.archives d.path d.table.messages is.placed) in
     let behind : end_of r.archive d.table.messages ≤ r.offset = subst (λ (n : ℕ). end_of n d.table.messages ≤ r.offset) (sym next.archive) next.behind in
     let room : length d.table.messages < d.most = is.open_message inside.1 in
-    let listed : AllByRecursion (IsKey (suc (length d.table.messages))) d.table.keys =
-    subst (λ (b : Bool). AllByRecursion (IsKey (if b then suc (length d.table.messages) else length d.table.messages)) d.table.keys) inside.1 is.listed in
+    let listed : AllByRecursion (IsKey newest (suc (length d.table.messages))) d.table.keys =
+    subst (λ (b : Bool). AllByRecursion (IsKey newest (if b then suc (length d.table.messages) else length d.table.messages)) d.table.keys) inside.1 is.listed in
     let count : suc (length d.table.messages) ≤ length (d.table.messages ++ r ∷ []) = omega (arith, length-append d.table.messages (r ∷ [])) in
     record {
+      version = is.version;
       limit = is.limit;
       archives = is.archives;
       open_archive = is.open_archive;
@@ -142,21 +145,22 @@ message-ended_draft d r is inside next date =
       sorted = is.sorted;
     }
 
-pub archive-ended_draft : (d : Draft) (p : List ℕ) (n : ℕ) → IsDraft d → d.path ≡ Some p → n ≤ 2 ^ 40 → end_of (length d.table.archives) d.table.messages ≤ n
-    → IsDraft (record { most = d.most; path = None; in_message = d.in_message; table = record { archives = d.table.archives ++ record { path = p; length = n } ∷ []; messages = d.table.messages; keys = d.table.keys } })
-archive-ended_draft d p n is open_now small last =
+pub archive-ended_draft : (d : Draft) (p : List ℕ) (n : ℕ) (h : List ℕ) → IsDraft d → d.path ≡ Some p → n ≤ 2 ^ 40 → length h ≡ 32 → end_of (length d.table.archives) d.table.messages ≤ n
+    → IsDraft (record { most = d.most; path = None; in_message = d.in_message; table = record { version = d.table.version; archives = d.table.archives ++ record { path = p; length = n; digest = Some h } ∷ []; messages = d.table.messages; keys = d.table.keys } })
+archive-ended_draft d p n h is open_now small size last =
     let room = subst (λ (q : Option (List ℕ)). IfSome q (λ p. (length d.table.archives < d.most) × IsPath p)) open_now is.open_archive in
     let placed = subst (λ (q : Option (List ℕ)). AllByRecursion (IsMessage (with_open d.table.archives q)) d.table.messages) open_now is.placed in
     let low : length d.table.archives < d.most = room.0 in
     record {
+      version = is.version;
       limit = is.limit;
-      archives = omega (arith, length-append {A = Archive} d.table.archives (record { path = p; length = n } ∷ []));
+      archives = omega (arith, length-append {A = Archive} d.table.archives (record { path = p; length = n; digest = Some h } ∷ []));
       open_archive = tt;
       messages = is.messages;
       open_message = is.open_message;
       keys = is.keys;
-      named = all-snoc IsArchive d.table.archives (record { path = p; length = n }) is.named (room.1, small);
-      placed = all-ended d.table.archives (record { path = p; length = 2 ^ 40 }) (record { path = p; length = n }) d.table.messages is.in_order placed last;
+      named = all-snoc (IsArchive newest) d.table.archives (record { path = p; length = n; digest = Some h }) is.named (room.1, small, (refl, size));
+      placed = all-ended d.table.archives (record { path = p; length = 2 ^ 40; digest = None }) (record { path = p; length = n; digest = Some h }) d.table.messages is.in_order placed last;
       in_order = is.in_order;
       listed = is.listed;
       sorted = is.sorted;
@@ -165,13 +169,15 @@ archive-ended_draft d p n is open_now small last =
 -- what is open and what has ended is what a well-formed table has
 pub well_formed : (d : Draft) → IsDraft d → IsBetweenArchives d → IsWellFormed d.table
 well_formed d is between = record {
+  version = subst IsVersion (sym is.version) (inr refl);
   archive_count = omega (arith, is.archives, is.limit);
   message_count = omega (arith, is.messages, is.limit);
   key_count = omega (arith, is.keys, is.limit);
-  archives = is.named;
+  archives = subst (λ (v : ℕ). AllByRecursion (IsArchive v) d.table.archives) (sym is.version) is.named;
   messages = subst (λ (p : Option (List ℕ)). AllByRecursion (IsMessage (with_open d.table.archives p)) d.table.messages) between.0 is.placed;
   in_order = is.in_order;
-  keys = subst (λ (b : Bool). AllByRecursion (IsKey (if b then suc (length d.table.messages) else length d.table.messages)) d.table.keys) between.1 is.listed;
+  keys = subst (λ (v : ℕ). AllByRecursion (IsKey v (length d.table.messages)) d.table.keys) (sym is.version)
+      (subst (λ (b : Bool). AllByRecursion (IsKey newest (if b then suc (length d.table.messages) else length d.table.messages)) d.table.keys) between.1 is.listed);
   sorted = is.sorted;
 }
 

@@ -128,6 +128,6 @@ small_differences : (count low : ℕ) (xs : List ℕ) → count < 2 ^ 32 → All
 small_differences count low [] h p = tt
 small_differences count low (x ∷ xs) h p = (omega (arith, h, p.0), small_differences count (suc x) xs h p.1)
 
-pub numbers_are : (count : ℕ) (a b : Key) → count < 2 ^ 32 → IsKey count a → IsKey count b → postings a.numbers ≡ postings b.numbers → a.numbers ≡ b.numbers
-numbers_are count a b h p q e =
+pub numbers_are : (version count : ℕ) (a b : Key) → count < 2 ^ 32 → IsKey version count a → IsKey version count b → postings a.numbers ≡ postings b.numbers → a.numbers ≡ b.numbers
+numbers_are version count a b h p q e =
     differences_is 0 a.numbers b.numbers p.rises q.rises (whole _ _ (small_differences count 0 a.numbers h p.below) (small_differences count 0 b.numbers h q.below) e)

@@ -1,24 +1,31 @@
 -- How many bytes the sections of an index file have.
-use Rattle.std.proofs.Common.{◌≡◌, ℕ, ◌+◌, ◌*◌, ◌^◌, ◌<◌, ◌≤◌, List, [], ◌∷◌, ◌++◌, length, map, flat_map, refl, ap, ◌∙◌, length-append, arith}
+use Rattle.std.proofs.Common.{◌≡◌, ℕ, ◌+◌, ◌*◌, ◌^◌, ◌<◌, ◌≤◌, List, [], ◌∷◌, ◌++◌, length, map, flat_map, Option, None, Some, refl, sym, ap, ◌∙◌, length-append, arith}
+use Rattle.std.specs.Prelude.{unwrap_or}
 use Rattle.std.specs.List.{AllByRecursion, concat}
 use Rattle.std.proofs.lemmas.List.{length-map}
 use Rattle.sha2.specs.Sha256.{sha256}
 use Rattle.sha2.proofs.Facts256.{length-sha256}
 use Rattle.mail_index.specs.declared.record.Record.{Record}
+use Rattle.mail_index.specs.Versions.{newest, IsDigest}
 use Rattle.mail_index.specs.Tables.{Archive, Key, Table, IsArchive, IsKey}
 use Rattle.mail_index.specs.Postings.{postings}
 use Rattle.mail_index.specs.Files.{archive_bytes, record_bytes, Entry, entry_of, entry_bytes, directory_from, texts_of, postings_of, entries, archive_section, counts, body, index_file, HasSmallSections}
 use Rattle.mail_index.specs.declared.sections.Counts.{Counts}
 use Rattle.mail_index.specs.SectionCounts.{counted, IsCountOf, counted_length}
-use Rattle.mail_index.specs.Files.{magic, version, be32, be64}
+use Rattle.mail_index.specs.Files.{magic, be32, be64}
+use Rattle.mail_index.proofs.DigestReads.{digest_size}
 use Rattle.mail_index.proofs.DraftLemmas.{length-postings}
 
-pub length-archive_bytes : (a : Archive) → length (archive_bytes a) ≡ 12 + length a.path
-length-archive_bytes a = omega (arith, length-append a.path [])
+pub length-archive_bytes : (a : Archive) → length (archive_bytes a) ≡ 12 + length a.path + length (unwrap_or a.digest [])
+length-archive_bytes a = omega (arith, length-append a.path (unwrap_or a.digest [] ++ []), length-append (unwrap_or a.digest []) [])
 
-pub length-archives : (archives : List Archive) → AllByRecursion IsArchive archives → length (flat_map archive_bytes archives) ≤ 4108 * length archives
+most-digest : (d : Option (List ℕ)) → IsDigest newest d → length (unwrap_or d []) ≤ 32
+most-digest None h = omega arith
+most-digest (Some d) h = omega (arith, digest_size newest d h)
+
+pub length-archives : (archives : List Archive) → AllByRecursion (IsArchive newest) archives → length (flat_map archive_bytes archives) ≤ 4140 * length archives
 length-archives [] all = omega arith
-length-archives (a ∷ archives) all = omega (arith, length-append (archive_bytes a) (flat_map archive_bytes archives), length-archive_bytes a, all.0.0.most, length-archives archives all.1)
+length-archives (a ∷ archives) all = omega (arith, length-append (archive_bytes a) (flat_map archive_bytes archives), length-archive_bytes a, all.0.0.most, most-digest a.digest all.0.2, length-archives archives all.1)
 
 length-records : (ms : List Record) → length (flat_map record_bytes ms) ≡ 40 * length ms
 length-records [] = refl
@@ -28,11 +35,11 @@ length-directory : (a b : ℕ) (es : List Entry) → length (directory_from a b 
 length-directory a b [] = refl
 length-directory a b (e ∷ es) = omega (arith, length-append (entry_bytes a b e) (directory_from (a + length e.text) (b + length e.postings) es), length-directory (a + length e.text) (b + length e.postings) es)
 
-pub length-texts : (count : ℕ) (ks : List Key) → AllByRecursion (IsKey count) ks → length (texts_of (map entry_of ks)) ≤ 2 ^ 32 * length ks
+pub length-texts : (count : ℕ) (ks : List Key) → AllByRecursion (IsKey newest count) ks → length (texts_of (map entry_of ks)) ≤ 2 ^ 32 * length ks
 length-texts count [] all = omega arith
 length-texts count (k ∷ ks) all = omega (arith, length-append k.text (texts_of (map entry_of ks)), all.0.short, length-texts count ks all.1)
 
-pub length-all_postings : (count : ℕ) (ks : List Key) → count ≤ 2 ^ 31 → AllByRecursion (IsKey count) ks → length (postings_of (map entry_of ks)) ≤ 2 ^ 31 * length ks
+pub length-all_postings : (count : ℕ) (ks : List Key) → count ≤ 2 ^ 31 → AllByRecursion (IsKey newest count) ks → length (postings_of (map entry_of ks)) ≤ 2 ^ 31 * length ks
 length-all_postings count [] h all = omega arith
 length-all_postings count (k ∷ ks) h all = omega (arith, length-append (postings k.numbers) (postings_of (map entry_of ks)), length-postings count k all.0, length-all_postings count ks h all.1)
 
@@ -63,12 +70,13 @@ length-index_file t = length-append (body t) (sha256 (body t)) ∙ ap (λ n. len
 -- the counts of a table, as they are written
 pub counted-is : (t : Table) (c : Counts) → IsCountOf t c → concat (counted c) ≡ concat (counts t)
 counted-is t c is =
-    ap (λ (n : ℕ). concat (magic ∷ be32 version ∷ be32 n ∷ be32 c.messages ∷ be32 c.keys ∷ be64 c.archive_bytes ∷ be64 c.text_bytes ∷ be64 c.posting_bytes ∷ [])) is.archives
-    ∙ ap (λ (n : ℕ). concat (magic ∷ be32 version ∷ be32 (length t.archives) ∷ be32 n ∷ be32 c.keys ∷ be64 c.archive_bytes ∷ be64 c.text_bytes ∷ be64 c.posting_bytes ∷ [])) is.messages
-    ∙ ap (λ (n : ℕ). concat (magic ∷ be32 version ∷ be32 (length t.archives) ∷ be32 (length t.messages) ∷ be32 n ∷ be64 c.archive_bytes ∷ be64 c.text_bytes ∷ be64 c.posting_bytes ∷ [])) is.keys
-    ∙ ap (λ (n : ℕ). concat (magic ∷ be32 version ∷ be32 (length t.archives) ∷ be32 (length t.messages) ∷ be32 (length t.keys) ∷ be64 n ∷ be64 c.text_bytes ∷ be64 c.posting_bytes ∷ [])) is.archive_bytes
-    ∙ ap (λ (n : ℕ). concat (magic ∷ be32 version ∷ be32 (length t.archives) ∷ be32 (length t.messages) ∷ be32 (length t.keys) ∷ be64 (length (archive_section t)) ∷ be64 n ∷ be64 c.posting_bytes ∷ [])) is.text_bytes
-    ∙ ap (λ (n : ℕ). concat (magic ∷ be32 version ∷ be32 (length t.archives) ∷ be32 (length t.messages) ∷ be32 (length t.keys) ∷ be64 (length (archive_section t)) ∷ be64 (length (texts_of (entries t))) ∷ be64 n ∷ [])) is.posting_bytes
+    ap (λ (n : ℕ). concat (magic ∷ be32 newest ∷ be32 n ∷ be32 c.messages ∷ be32 c.keys ∷ be64 c.archive_bytes ∷ be64 c.text_bytes ∷ be64 c.posting_bytes ∷ [])) is.archives
+    ∙ ap (λ (n : ℕ). concat (magic ∷ be32 newest ∷ be32 (length t.archives) ∷ be32 n ∷ be32 c.keys ∷ be64 c.archive_bytes ∷ be64 c.text_bytes ∷ be64 c.posting_bytes ∷ [])) is.messages
+    ∙ ap (λ (n : ℕ). concat (magic ∷ be32 newest ∷ be32 (length t.archives) ∷ be32 (length t.messages) ∷ be32 n ∷ be64 c.archive_bytes ∷ be64 c.text_bytes ∷ be64 c.posting_bytes ∷ [])) is.keys
+    ∙ ap (λ (n : ℕ). concat (magic ∷ be32 newest ∷ be32 (length t.archives) ∷ be32 (length t.messages) ∷ be32 (length t.keys) ∷ be64 n ∷ be64 c.text_bytes ∷ be64 c.posting_bytes ∷ [])) is.archive_bytes
+    ∙ ap (λ (n : ℕ). concat (magic ∷ be32 newest ∷ be32 (length t.archives) ∷ be32 (length t.messages) ∷ be32 (length t.keys) ∷ be64 (length (archive_section t)) ∷ be64 n ∷ be64 c.posting_bytes ∷ [])) is.text_bytes
+    ∙ ap (λ (n : ℕ). concat (magic ∷ be32 newest ∷ be32 (length t.archives) ∷ be32 (length t.messages) ∷ be32 (length t.keys) ∷ be64 (length (archive_section t)) ∷ be64 (length (texts_of (entries t))) ∷ be64 n ∷ [])) is.posting_bytes
+    ∙ ap (λ (n : ℕ). concat (magic ∷ be32 n ∷ be32 (length t.archives) ∷ be32 (length t.messages) ∷ be32 (length t.keys) ∷ be64 (length (archive_section t)) ∷ be64 (length (texts_of (entries t))) ∷ be64 (length (postings_of (entries t))) ∷ [])) (sym is.version)
 
 -- they tell the file's length
 pub counted_length-is : (t : Table) (c : Counts) → IsCountOf t c → counted_length c ≡ length (index_file t)
@@ -76,7 +84,7 @@ counted_length-is t c is = omega (arith, length-index_file t, length-body t, is.
 
 -- which is below 2 ^ 64
 pub counted_length-small : (t : Table) (c : Counts) (count : ℕ) → IsCountOf t c → length t.archives < 2 ^ 31 → length t.messages < 2 ^ 31 → length t.keys < 2 ^ 31 → count ≤ 2 ^ 31
-    → AllByRecursion IsArchive t.archives → AllByRecursion (IsKey count) t.keys → counted_length c < 2 ^ 64
+    → AllByRecursion (IsArchive newest) t.archives → AllByRecursion (IsKey newest count) t.keys → counted_length c < 2 ^ 64
 counted_length-small t c count is archives messages keys h named listed =
     omega (arith, is.messages, is.keys, is.archive_bytes, is.text_bytes, is.posting_bytes, length-archives t.archives named, length-texts count t.keys listed, length-all_postings count t.keys h listed)
 

@@ -6,10 +6,11 @@ use Rattle.std.specs.List.{AllByRecursion, concat}
 use Rattle.std.proofs.lemmas.List.{take-append-drop, drop-drop}
 use Rattle.sha2.specs.Sha256.{sha256}
 use Rattle.mail_index.specs.declared.layout.Layout.{Layout}
+use Rattle.mail_index.specs.Versions.{version_number, IsVersion}
 use Rattle.mail_index.specs.Fields.{u32_at, u64_at}
-use Rattle.mail_index.specs.Files.{magic, version, be32, be64, Entry, entry_of, entries, archive_section, record_bytes, directory_from, texts_of, postings_of, counts, sections, body, index_file}
-use Rattle.mail_index.specs.Tables.{Key, IsKey, IsWellFormed}
-use Rattle.mail_index.specs.Faults.{IsSigned, records_start, directory_start, texts_start, postings_start, digest_start, HasDigest, HasDirectory, HasPostings, IsFileOf}
+use Rattle.mail_index.specs.Files.{magic, be32, be64, Entry, entry_of, entries, archive_section, record_bytes, directory_from, texts_of, postings_of, counts, sections, body, index_file}
+use Rattle.mail_index.specs.Tables.{Key, IsArchive, IsKey, IsWellFormed}
+use Rattle.mail_index.specs.Faults.{IsEntry, version_told, IsSigned, records_start, directory_start, texts_start, postings_start, digest_start, HasDigest, HasDirectory, HasPostings, IsFileOf}
 use Rattle.mail_index.specs.Records.{SpellsArchives, AreRecords}
 use Rattle.mail_index.specs.Directory.{AreEntries, read_entries}
 use Rattle.mail_index.specs.Lists.{IsList, AreLists}
@@ -35,23 +36,23 @@ laid_out bytes l s y b = record {
 
 -- the archives and the records hold
 pub record HoldsRecords (l : Layout) : Type 0 where
-  pub archives : SpellsArchives l.archive_count l.archives.now
-  pub records : AreRecords l.archive_count 0 0 l.archives.now l.message_count l.records.now
+  pub archives : SpellsArchives (version_number l.version) l.archive_count l.archives.now
+  pub records : AreRecords (version_number l.version) l.archive_count 0 0 l.archives.now l.message_count l.records.now
 
 abbrev pub entries_of : Layout → List Entry
 entries_of l = read_entries l.texts.now l.postings.now l.key_count l.directory.now
 
-pub has_directory : (bytes : List ℕ) (l : Layout) → IsLaidOut bytes l → HoldsRecords l → AreEntries l.texts.now (length l.postings.now) 0 0 0 [] l.key_count l.directory.now
+pub has_directory : (bytes : List ℕ) (l : Layout) → IsLaidOut bytes l → HoldsRecords l → AreEntries (version_number l.version) l.texts.now (length l.postings.now) 0 0 0 [] l.key_count l.directory.now
     → HasDirectory bytes (table_of l).archives (table_of l).messages (entries_of l)
 has_directory bytes l f r h =
-    let s = shows_entries l.texts.now l.postings.now 0 0 0 [] l.key_count l.directory.now
+    let s = shows_entries (version_number l.version) l.texts.now l.postings.now 0 0 0 [] l.key_count l.directory.now
     (section_bytes (directory_start bytes) (texts_start bytes) bytes l.directory.now f.layout.directory f.are_bytes) (directory_section bytes l f) h in
     record {
       before = has_records bytes l f r.archives r.records;
       spelled = sym f.layout.directory ∙ s.spelled;
       texts = sym f.layout.texts ∙ s.texts_spelled;
       postings = sym f.layout.postings ∙ s.postings_spelled;
-      each = s.each;
+      each = subst (λ (v : ℕ). AllByRecursion (IsEntry v) (entries_of l)) f.layout.version s.each;
       sorted = sorted 0 [] (entries_of l) s.after;
     }
 
@@ -71,22 +72,23 @@ ahead_of bytes l f es h = record {
 counted : (bytes : List ℕ) (l : Layout) → IsLaidOut bytes l → (es : List Entry) → HasDirectory bytes (table_of l).archives (table_of l).messages es → length es ≡ l.key_count
 counted bytes l f es h = omega (arith, ap length (f.layout.directory ∙ h.spelled), length_directory 0 0 es, directory_section bytes l f)
 
-pub no_directory : (bytes : List ℕ) (l : Layout) → IsLaidOut bytes l → (AreEntries l.texts.now (length l.postings.now) 0 0 0 [] l.key_count l.directory.now → ⊥)
+pub no_directory : (bytes : List ℕ) (l : Layout) → IsLaidOut bytes l → (AreEntries (version_number l.version) l.texts.now (length l.postings.now) 0 0 0 [] l.key_count l.directory.now → ⊥)
     → (es : List Entry) → HasDirectory bytes (table_of l).archives (table_of l).messages es → ⊥
 no_directory bytes l f refuses es h =
     let e : directory_from 0 0 es ≡ l.directory.now = sym (f.layout.directory ∙ h.spelled) in
     let n = counted bytes l f es h in
-    let a = are_entries_of l.texts.now l.postings.now 0 0 0 [] es h.each (ahead_of bytes l f es h) (are_after es h.sorted) in
-    refuses (transport (λ i. AreEntries l.texts.now (length l.postings.now) 0 0 0 [] (n i) (e i)) a)
+    let each = subst (λ (v : ℕ). AllByRecursion (IsEntry v) es) (sym f.layout.version) h.each in
+    let a = are_entries_of (version_number l.version) l.texts.now l.postings.now 0 0 0 [] es each (ahead_of bytes l f es h) (are_after es h.sorted) in
+    refuses (transport (λ i. AreEntries (version_number l.version) l.texts.now (length l.postings.now) 0 0 0 [] (n i) (e i)) a)
 
-pub has_postings : (bytes : List ℕ) (l : Layout) → IsLaidOut bytes l → HoldsRecords l → AreEntries l.texts.now (length l.postings.now) 0 0 0 [] l.key_count l.directory.now
+pub has_postings : (bytes : List ℕ) (l : Layout) → IsLaidOut bytes l → HoldsRecords l → AreEntries (version_number l.version) l.texts.now (length l.postings.now) 0 0 0 [] l.key_count l.directory.now
     → AreLists l.message_count l.postings.now l.key_count l.directory.now → HasPostings bytes (table_of l).archives (table_of l).messages (table_of l).keys
 has_postings bytes l f r h p =
     let d = has_directory bytes l f r h in
-    let k = reads_keys l.message_count (entries_of l) f.few_messages d.each (lists_of l.message_count l.texts.now l.postings.now l.key_count l.directory.now p) in
+    let k = reads_keys (version_told bytes) l.message_count (entries_of l) f.few_messages d.each (lists_of l.message_count l.texts.now l.postings.now l.key_count l.directory.now p) in
     record {
       before = subst (HasDirectory bytes (table_of l).archives (table_of l).messages) (sym k.spelled) d;
-      each = subst (λ (n : ℕ). AllByRecursion (IsKey n) (table_of l).keys) (sym (count_records l.message_count l.records.now)) k.each;
+      each = subst (λ (n : ℕ). AllByRecursion (IsKey (version_told bytes) n) (table_of l).keys) (sym (count_records l.message_count l.records.now)) k.each;
     }
 
 pub no_postings : (bytes : List ℕ) (l : Layout) → IsLaidOut bytes l → (AreLists l.message_count l.postings.now l.key_count l.directory.now → ⊥)
@@ -96,8 +98,8 @@ no_postings bytes l f refuses ks h =
     let d = h.before in
     let e : l.directory.now ≡ directory_from 0 0 es = f.layout.directory ∙ d.spelled in
     let n : l.key_count ≡ length es = sym (counted bytes l f es d) in
-    let back : entries_of l ≡ es = (λ i. read_entries l.texts.now l.postings.now (n i) (e i)) ∙ entries_back l.texts.now l.postings.now 0 0 es d.each (ahead_of bytes l f es d) in
-    let each = subst (λ (m : ℕ). AllByRecursion (λ x. IsList m x.postings) es) (count_records l.message_count l.records.now) (lists_of_keys (length (table_of l).messages) ks h.each) in
+    let back : entries_of l ≡ es = (λ i. read_entries l.texts.now l.postings.now (n i) (e i)) ∙ entries_back (version_told bytes) l.texts.now l.postings.now 0 0 es d.each (ahead_of bytes l f es d) in
+    let each = subst (λ (m : ℕ). AllByRecursion (λ x. IsList m x.postings) es) (count_records l.message_count l.records.now) (lists_of_keys (version_told bytes) (length (table_of l).messages) ks h.each) in
     refuses (are_lists l.message_count l.texts.now l.postings.now l.key_count l.directory.now (subst (AllByRecursion (λ x. IsList l.message_count x.postings)) (sym back) each))
 
 -- ---- the whole
@@ -116,7 +118,7 @@ counts_front bytes l f h =
     let t = table_of l in
     let b = f.are_bytes in
     let long : 80 ≤ length bytes = f.counts.0.long in
-    let archives : length t.archives ≡ u32_at bytes 12 = read_count l.archive_count l.archives.now ∙ f.layout.archive_count in
+    let archives : length t.archives ≡ u32_at bytes 12 = read_count (version_number l.version) l.archive_count l.archives.now ∙ f.layout.archive_count in
     let messages : length t.messages ≡ u32_at bytes 16 = count_records l.message_count l.records.now ∙ f.layout.message_count in
     let keys : length t.keys ≡ u32_at bytes 20 = count_keys (entries_of l) ∙ count_entries l.texts.now l.postings.now l.key_count l.directory.now ∙ f.layout.key_count in
     let size₁ : length (archive_section t) ≡ u64_at bytes 24 = omega (arith, ap length h.before.before.before.spelled, section_length 48 (records_start bytes) bytes (omega arith) (omega (arith, f.layout.adds_up))) in
@@ -128,17 +130,17 @@ counts_front bytes l f h =
     let c₄ : be32 (length t.keys) ++ drop 24 bytes ≡ drop 20 bytes = ap (λ (n : ℕ). be32 n ++ drop 24 bytes) keys ∙ u32_back bytes 20 24 b (omega (arith, long)) refl in
     let c₃ : be32 (length t.messages) ++ drop 20 bytes ≡ drop 16 bytes = ap (λ (n : ℕ). be32 n ++ drop 20 bytes) messages ∙ u32_back bytes 16 20 b (omega (arith, long)) refl in
     let c₂ : be32 (length t.archives) ++ drop 16 bytes ≡ drop 12 bytes = ap (λ (n : ℕ). be32 n ++ drop 16 bytes) archives ∙ u32_back bytes 12 16 b (omega (arith, long)) refl in
-    let c₁ : be32 version ++ drop 12 bytes ≡ drop 8 bytes = ap (λ (n : ℕ). be32 n ++ drop 12 bytes) (sym f.counts.0.known) ∙ u32_back bytes 8 12 b (omega (arith, long)) refl in
+    let c₁ : be32 t.version ++ drop 12 bytes ≡ drop 8 bytes = ap (λ (n : ℕ). be32 n ++ drop 12 bytes) f.layout.version ∙ u32_back bytes 8 12 b (omega (arith, long)) refl in
     let c₀ : magic ++ drop 8 bytes ≡ bytes = ap (λ (y : List ℕ). y ++ drop 8 bytes) (sym f.counts.0.marked) ∙ take-append-drop 8 bytes in
     let na = be32 (length t.archives) in let nm = be32 (length t.messages) in let nk = be32 (length t.keys) in
     let la = be64 (length (archive_section t)) in let lt = be64 (length (texts_of (entries t))) in
     concat_then (counts t) (drop 48 bytes)
-    ∙ ap (λ (y : List ℕ). before (magic ∷ be32 version ∷ na ∷ nm ∷ nk ∷ la ∷ lt ∷ []) y) c₇
-    ∙ ap (λ (y : List ℕ). before (magic ∷ be32 version ∷ na ∷ nm ∷ nk ∷ la ∷ []) y) c₆
-    ∙ ap (λ (y : List ℕ). before (magic ∷ be32 version ∷ na ∷ nm ∷ nk ∷ []) y) c₅
-    ∙ ap (λ (y : List ℕ). before (magic ∷ be32 version ∷ na ∷ nm ∷ []) y) c₄
-    ∙ ap (λ (y : List ℕ). before (magic ∷ be32 version ∷ na ∷ []) y) c₃
-    ∙ ap (λ (y : List ℕ). before (magic ∷ be32 version ∷ []) y) c₂
+    ∙ ap (λ (y : List ℕ). before (magic ∷ be32 t.version ∷ na ∷ nm ∷ nk ∷ la ∷ lt ∷ []) y) c₇
+    ∙ ap (λ (y : List ℕ). before (magic ∷ be32 t.version ∷ na ∷ nm ∷ nk ∷ la ∷ []) y) c₆
+    ∙ ap (λ (y : List ℕ). before (magic ∷ be32 t.version ∷ na ∷ nm ∷ nk ∷ []) y) c₅
+    ∙ ap (λ (y : List ℕ). before (magic ∷ be32 t.version ∷ na ∷ nm ∷ []) y) c₄
+    ∙ ap (λ (y : List ℕ). before (magic ∷ be32 t.version ∷ na ∷ []) y) c₃
+    ∙ ap (λ (y : List ℕ). before (magic ∷ be32 t.version ∷ []) y) c₂
     ∙ ap (λ (y : List ℕ). before (magic ∷ []) y) c₁
     ∙ c₀
 
@@ -175,17 +177,19 @@ pub is_file : (bytes : List ℕ) (l : Layout) → IsLaidOut bytes l → HasPosti
 unfolding index_file
 is_file bytes l f h =
     let t = table_of l in
-    let archives : length t.archives ≡ l.archive_count = read_count l.archive_count l.archives.now in
+    let archives : length t.archives ≡ l.archive_count = read_count (version_number l.version) l.archive_count l.archives.now in
     let messages : length t.messages ≡ l.message_count = count_records l.message_count l.records.now in
     let keys : length t.keys ≡ l.key_count = count_keys (entries_of l) ∙ count_entries l.texts.now l.postings.now l.key_count l.directory.now in
+    let told : version_told bytes ≡ t.version = sym f.layout.version in
     let w : IsWellFormed t = record {
+      version = subst IsVersion told f.counts.0.known;
       archive_count = omega (arith, archives, f.few_archives);
       message_count = omega (arith, messages, f.few_messages);
       key_count = omega (arith, keys, f.few_keys);
-      archives = h.before.before.before.each;
+      archives = subst (λ (v : ℕ). AllByRecursion (IsArchive v) t.archives) told h.before.before.before.each;
       messages = h.before.before.each;
       in_order = h.before.before.in_order;
-      keys = h.each;
+      keys = subst (λ (v : ℕ). AllByRecursion (IsKey v (length t.messages)) t.keys) told h.each;
       sorted = keys_in_order t.keys h.before.sorted;
     } in
     (w, signed_whole bytes (body t) (digest_start bytes) f.layout.adds_up f.counts.0.digest (body_front bytes l f h))

@@ -8,6 +8,7 @@ use Rattle.mail_index.specs.declared.build_fault.BuildFault.TheVariants.{OutOfMe
 use Rattle.mail_index.specs.declared.kind.Kind.{Kind}
 use Rattle.mail_index.specs.declared.record.Record.{Record}
 use Rattle.mail_index.specs.Kinds.{kind_number}
+use Rattle.mail_index.specs.Versions.{newest}
 use Rattle.mail_index.specs.Tables.{Key, Table}
 use Rattle.mail_index.specs.PostingLists.{with_number}
 
@@ -27,7 +28,7 @@ pub record Draft : Type 0 where
   pub table : Table
 
 abbrev pub empty_draft : ℕ → Draft
-empty_draft most = record { most = most; path = None; in_message = false; table = record { archives = []; messages = []; keys = [] } }
+empty_draft most = record { most = most; path = None; in_message = false; table = record { version = newest; archives = []; messages = []; keys = [] } }
 
 abbrev pub begun_archive : List ℕ → Draft → Result Draft BuildFault
 begun_archive path d = if nat_lt (length d.table.archives) d.most then Ok (record d { path = Some path }) else Err TooMany
@@ -44,8 +45,8 @@ added kind text d =
 abbrev pub ended_message : Record → Draft → Result Draft BuildFault
 ended_message r d = Ok (record d { in_message = false; table = record d.table { messages = d.table.messages ++ r ∷ [] } })
 
-abbrev pub ended_archive : ℕ → Draft → Result Draft BuildFault
-ended_archive n d = Ok (record d { path = None; table = record d.table { archives = d.table.archives ++ record { path = unwrap_or d.path []; length = n } ∷ [] } })
+abbrev pub ended_archive : ℕ → List ℕ → Draft → Result Draft BuildFault
+ended_archive n digest d = Ok (record d { path = None; table = record d.table { archives = d.table.archives ++ record { path = unwrap_or d.path []; length = n; digest = Some digest } ∷ [] } })
 
 -- where there was no memory the definition has no answer
 abbrev pub refusal : BuildFault → Option BuildFault

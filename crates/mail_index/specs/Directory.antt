@@ -5,6 +5,7 @@ use Rattle.std.specs.declared.cmp.Ordering.TheVariants.{Less}
 use Rattle.std.specs.Ordering.{nat_cmp, ordering_then}
 use Rattle.std.specs.Cmp.Lexicographic.{slice_cmp}
 use Rattle.mail_index.specs.Kinds.{is_kind_number, kind_of_number}
+use Rattle.mail_index.specs.Versions.{last_kind}
 use Rattle.mail_index.specs.Fields.{byte_at, u32_at, u64_at}
 use Rattle.mail_index.specs.Files.{Entry}
 
@@ -13,8 +14,8 @@ abbrev pub key_cmp : ℕ → List ℕ → ℕ → List ℕ → Ordering
 key_cmp j xs k ys = ordering_then (nat_cmp j k) (slice_cmp nat_cmp xs ys)
 
 -- the kind is one, and zeros follow
-unfoldable pub is_entry : List ℕ → Bool
-is_entry d = is_kind_number (byte_at d 0) && nat_eq (byte_at d 1) 0 && nat_eq (byte_at d 2) 0 && nat_eq (byte_at d 3) 0
+unfoldable pub is_entry : ℕ → List ℕ → Bool
+is_entry version d = is_kind_number (last_kind version) (byte_at d 0) && nat_eq (byte_at d 1) 0 && nat_eq (byte_at d 2) 0 && nat_eq (byte_at d 3) 0
 
 -- where the postings of the entry before this directory end: where those of its first entry begin, or at the end of all
 abbrev pub end_before : List ℕ → ℕ → ℕ
@@ -36,8 +37,8 @@ read_entries texts postings (suc n) d = read_entry texts postings d ∷ read_ent
 
 -- ---- the entries of a directory, from where the texts and the postings of an earlier one ended
 
-pub record IsEntryAt (texts : List ℕ) (total text_place place number : ℕ) (text d : List ℕ) : Type 0 where
-  pub spelled : is_entry d ≡ true
+pub record IsEntryAt (version : ℕ) (texts : List ℕ) (total text_place place number : ℕ) (text d : List ℕ) : Type 0 where
+  pub spelled : is_entry version d ≡ true
   pub text_begins : u64_at d 8 ≡ text_place
   pub begins : u64_at d 16 ≡ place
   pub some_text : 0 < u32_at d 4
@@ -46,8 +47,8 @@ pub record IsEntryAt (texts : List ℕ) (total text_place place number : ℕ) (t
   pub end : end_before (drop 24 d) total ≤ total
   pub after : key_cmp number text (byte_at d 0) (text_at texts d) ≡ Less
 
-abbrev pub AreEntries : List ℕ → ℕ → ℕ → ℕ → ℕ → List ℕ → ℕ → List ℕ → Type 0
-AreEntries texts total text_place place number text zero d = (text_place ≡ length texts) × (place ≡ total)
-AreEntries texts total text_place place number text (suc n) d =
-    IsEntryAt texts total text_place place number text d
-    × AreEntries texts total (text_place + u32_at d 4) (end_before (drop 24 d) total) (byte_at d 0) (text_at texts d) n (drop 24 d)
+abbrev pub AreEntries : ℕ → List ℕ → ℕ → ℕ → ℕ → ℕ → List ℕ → ℕ → List ℕ → Type 0
+AreEntries version texts total text_place place number text zero d = (text_place ≡ length texts) × (place ≡ total)
+AreEntries version texts total text_place place number text (suc n) d =
+    IsEntryAt version texts total text_place place number text d
+    × AreEntries version texts total (text_place + u32_at d 4) (end_before (drop 24 d) total) (byte_at d 0) (text_at texts d) n (drop 24 d)

@@ -5,18 +5,19 @@ use Rattle.std.specs.Option.{option_map}
 use Rattle.std.specs.List.{AllByRecursion}
 use Rattle.mail_index.specs.declared.draft.NamedArchive.{NamedArchive}
 use Rattle.mail_index.specs.declared.record.Record.{Record}
+use Rattle.mail_index.specs.Versions.{newest}
 use Rattle.mail_index.specs.Tables.{Archive, Key, IsPath, IsArchive, IsMessage, Follows, AllNext, KeyBefore, IsKey}
 use Rattle.mail_index.specs.Builders.{Draft}
 
 abbrev pub archive_of : NamedArchive → Archive
-archive_of a = record { path = string_bytes a.path; length = a.length }
+archive_of a = record { path = string_bytes a.path; length = a.length; digest = Some a.digest }
 
 abbrev pub draft_of : ℕ → Option (String Global) → Bool → List NamedArchive → List Record → List Key → Draft
 draft_of most path in_message archives records keys = record {
   most = most;
   path = option_map string_bytes path;
   in_message = in_message;
-  table = record { archives = map archive_of archives; messages = records; keys = keys };
+  table = record { version = newest; archives = map archive_of archives; messages = records; keys = keys };
 }
 
 -- how many messages there are, with the one that is open
@@ -26,18 +27,19 @@ message_count d = if d.in_message then suc (length d.table.messages) else length
 -- the archives, with the one that is open, which may become as long as any
 abbrev pub with_open : List Archive → Option (List ℕ) → List Archive
 with_open archives None = archives
-with_open archives (Some path) = archives ++ record { path = path; length = 2 ^ 40 } ∷ []
+with_open archives (Some path) = archives ++ record { path = path; length = 2 ^ 40; digest = None } ∷ []
 
 -- no count passes the limit, with what is open counted too, and so far all is as in a well-formed table
 pub record IsDraft (d : Draft) : Type 0 where
+  pub version : d.table.version ≡ newest
   pub limit : d.most < 2 ^ 31
   pub archives : length d.table.archives ≤ d.most
   pub open_archive : IfSome d.path (λ p. (length d.table.archives < d.most) × IsPath p)
   pub messages : length d.table.messages ≤ d.most
   pub open_message : d.in_message ≡ true → length d.table.messages < d.most
   pub keys : length d.table.keys ≤ d.most
-  pub named : AllByRecursion IsArchive d.table.archives
+  pub named : AllByRecursion (IsArchive newest) d.table.archives
   pub placed : AllByRecursion (IsMessage (with_open d.table.archives d.path)) d.table.messages
   pub in_order : AllNext Follows d.table.messages
-  pub listed : AllByRecursion (IsKey (message_count d)) d.table.keys
+  pub listed : AllByRecursion (IsKey newest (message_count d)) d.table.keys
   pub sorted : AllNext KeyBefore d.table.keys

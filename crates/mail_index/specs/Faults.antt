@@ -6,18 +6,23 @@ use Rattle.mail_index.specs.declared.fault.IndexFault.{IndexFault}
 use Rattle.mail_index.specs.declared.fault.IndexFault.TheVariants.{TooShort, BadMagic, BadVersion, BadDigest, BadLayout}
 use Rattle.mail_index.specs.declared.fault.Section.TheVariants.{Counts, Archives, Records, Directory, Postings}
 use Rattle.mail_index.specs.declared.record.Record.{Record}
+use Rattle.mail_index.specs.Kinds.{kind_number}
+use Rattle.mail_index.specs.Versions.{IsVersion, last_kind}
 use Rattle.mail_index.specs.Fields.{u32_at, u64_at}
 use Rattle.mail_index.specs.Tables.{Archive, Key, Table, IsWellFormed, IsArchive, IsMessage, IsKey, Follows, AllNext, IsBefore}
-use Rattle.mail_index.specs.Files.{magic, version, archive_bytes, record_bytes, Entry, entry_of, directory_from, texts_of, postings_of, index_file}
+use Rattle.mail_index.specs.Files.{magic, archive_bytes, record_bytes, Entry, entry_of, directory_from, texts_of, postings_of, index_file}
 
 -- the keys of two entries
 abbrev pub EntryBefore : Entry → Entry → Type 0
 EntryBefore a b = IsBefore a.kind a.text b.kind b.text
 
-abbrev pub IsEntry : Entry → Type 0
-IsEntry e = (0 < length e.text) × (length e.text < 2 ^ 32) × (0 < length e.postings)
+abbrev pub IsEntry : ℕ → Entry → Type 0
+IsEntry version e = (kind_number e.kind ≤ last_kind version) × (0 < length e.text) × (length e.text < 2 ^ 32) × (0 < length e.postings)
 
 module _ (bytes : List ℕ) where
+  abbrev pub version_told : ℕ
+  version_told = u32_at bytes 8
+
   -- ---- where the sections begin, by the lengths that the counts tell
 
   abbrev pub records_start : ℕ
@@ -43,7 +48,7 @@ module _ (bytes : List ℕ) where
   pub record IsSigned : Type 0 where
     pub long : 80 ≤ length bytes
     pub marked : take 8 bytes ≡ magic
-    pub known : u32_at bytes 8 ≡ version
+    pub known : IsVersion version_told
     pub digest : HasDigest
 
   abbrev pub HasCounts : Type 0
@@ -53,7 +58,7 @@ module _ (bytes : List ℕ) where
     pub before : HasCounts
     pub spelled : slice_range bytes 48 records_start ≡ flat_map archive_bytes archives
     pub counted : length archives ≡ u32_at bytes 12
-    pub each : AllByRecursion IsArchive archives
+    pub each : AllByRecursion (IsArchive version_told) archives
 
   pub record HasRecords (archives : List Archive) (messages : List Record) : Type 0 where
     pub before : HasArchives archives
@@ -66,12 +71,12 @@ module _ (bytes : List ℕ) where
     pub spelled : slice_range bytes directory_start texts_start ≡ directory_from 0 0 es
     pub texts : slice_range bytes texts_start postings_start ≡ texts_of es
     pub postings : slice_range bytes postings_start digest_start ≡ postings_of es
-    pub each : AllByRecursion IsEntry es
+    pub each : AllByRecursion (IsEntry version_told) es
     pub sorted : AllNext EntryBefore es
 
   pub record HasPostings (archives : List Archive) (messages : List Record) (keys : List Key) : Type 0 where
     pub before : HasDirectory archives messages (map entry_of keys)
-    pub each : AllByRecursion (IsKey (length messages)) keys
+    pub each : AllByRecursion (IsKey version_told (length messages)) keys
 
   -- the bytes are the file of the table
   abbrev pub IsFileOf : Table → Type 0
@@ -81,8 +86,8 @@ module _ (bytes : List ℕ) where
   abbrev pub IsFirstFault : IndexFault → Type 0
   IsFirstFault TooShort = length bytes < 80
   IsFirstFault BadMagic = (80 ≤ length bytes) × (take 8 bytes ≢ magic)
-  IsFirstFault BadVersion = (80 ≤ length bytes) × (take 8 bytes ≡ magic) × (u32_at bytes 8 ≢ version)
-  IsFirstFault BadDigest = (80 ≤ length bytes) × (take 8 bytes ≡ magic) × (u32_at bytes 8 ≡ version) × ¬ HasDigest
+  IsFirstFault BadVersion = (80 ≤ length bytes) × (take 8 bytes ≡ magic) × (¬ IsVersion version_told)
+  IsFirstFault BadDigest = (80 ≤ length bytes) × (take 8 bytes ≡ magic) × IsVersion version_told × ¬ HasDigest
   IsFirstFault (BadLayout Counts) = IsSigned × ¬ (digest_start + 32 ≡ length bytes)
   IsFirstFault (BadLayout Archives) = HasCounts × ((archives : List Archive) → ¬ HasArchives archives)
   IsFirstFault (BadLayout Records) = (archives : List Archive) × HasArchives archives × ((ms : List Record) → ¬ HasRecords archives ms)

@@ -1,5 +1,5 @@
 -- The file of a table: counts, archives, records, directory, texts, postings, and the SHA-256 of all these.
-use Rattle.std.specs.Prelude.{ℕ, ◌+◌, ◌^◌, ◌<◌, Bool, if◌then◌else◌, ℤ, List, [], ◌∷◌, ◌++◌, length, map, Option, Some, None, flat_map, is_some}
+use Rattle.std.specs.Prelude.{ℕ, ◌+◌, ◌^◌, ◌<◌, Bool, if◌then◌else◌, ℤ, List, [], ◌∷◌, ◌++◌, length, map, Option, Some, None, flat_map, is_some, unwrap_or}
 use Rattle.std.specs.Int.{w32, w64, to_be_bytes, cast_unsigned}
 use Rattle.std.specs.List.{concat}
 use Rattle.sha2.specs.Sha256.{sha256}
@@ -13,9 +13,6 @@ use Rattle.mail_index.specs.Postings.{postings}
 abbrev pub magic : List ℕ
 magic = 0x4D ∷ 0x41 ∷ 0x49 ∷ 0x52 ∷ 0x49 ∷ 0x58 ∷ 0x0D ∷ 0x0A ∷ []
 
-abbrev pub version : ℕ
-version = 1
-
 abbrev pub be32 : ℕ → List ℕ
 be32 n = to_be_bytes w32 n
 
@@ -26,7 +23,7 @@ abbrev pub zeros : List ℕ
 zeros = 0 ∷ 0 ∷ 0 ∷ []
 
 abbrev pub archive_bytes : Archive → List ℕ
-archive_bytes a = concat (be64 a.length ∷ be32 (length a.path) ∷ a.path ∷ [])
+archive_bytes a = concat (be64 a.length ∷ be32 (length a.path) ∷ a.path ∷ unwrap_or a.digest [] ∷ [])
 
 abbrev pub bit : ℕ → Bool → ℕ
 bit n b = if b then n else 0
@@ -74,7 +71,7 @@ archive_section t = flat_map archive_bytes t.archives
 
 abbrev pub counts : Table → List (List ℕ)
 counts t =
-    magic ∷ be32 version ∷ be32 (length t.archives) ∷ be32 (length t.messages) ∷ be32 (length t.keys)
+    magic ∷ be32 t.version ∷ be32 (length t.archives) ∷ be32 (length t.messages) ∷ be32 (length t.keys)
     ∷ be64 (length (archive_section t)) ∷ be64 (length (texts_of (entries t))) ∷ be64 (length (postings_of (entries t))) ∷ []
 
 abbrev pub sections : Table → List (List ℕ)

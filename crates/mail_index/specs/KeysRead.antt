@@ -22,7 +22,8 @@ keys_read texts postings count entries = map key_of (read_entries texts postings
 -- the entries stand in the order of their keys, each with its own text and with postings of messages
 pub record IsDirectory (texts postings : List ℕ) (count : ℕ) (entries : List ℕ) : Type 0 where
   pub long : length entries ≡ 24 * count
-  pub sorted : AreEntries texts (length postings) 0 0 0 [] count entries
+  pub version : ℕ
+  pub sorted : AreEntries version texts (length postings) 0 0 0 [] count entries
   pub messages : ℕ
   pub few : messages ≤ 2 ^ 32
   pub lists : AreLists messages postings count entries

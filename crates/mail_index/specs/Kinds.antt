@@ -1,6 +1,6 @@
 -- The numbers of the kinds in an index file, by which keys are ordered.
 use Rattle.std.specs.Prelude.{ℕ, zero, suc, Bool, nat_le, ◌&&◌}
-use Rattle.mail_words.specs.declared.kind.TextKind.TheVariants.{To, Cc, Bcc, From, Subject, Body}
+use Rattle.mail_words.specs.declared.kind.TextKind.TheVariants.{To, Cc, Bcc, From, Subject, Body, Name}
 use Rattle.mail_index.specs.declared.kind.Kind.{Kind}
 use Rattle.mail_index.specs.declared.kind.Kind.TheVariants.{Text, OwnId, LinkId}
 
@@ -13,13 +13,11 @@ kind_number (Text Subject) = 5
 kind_number (Text Body) = 6
 kind_number OwnId = 7
 kind_number LinkId = 8
+kind_number (Text Name) = 9
 
--- the greatest number of a kind
-abbrev pub last_kind : ℕ
-last_kind = 8
-
-abbrev pub is_kind_number : ℕ → Bool
-is_kind_number n = nat_le 1 n && nat_le n last_kind
+-- the number of a kind that isn't past the last
+abbrev pub is_kind_number : ℕ → ℕ → Bool
+is_kind_number last n = nat_le 1 n && nat_le n last
 
 -- the kind of a number; of those past the last, the last
 abbrev pub kind_of_number : ℕ → Kind
@@ -31,4 +29,5 @@ kind_of_number (suc (suc (suc (suc zero)))) = Text From
 kind_of_number (suc (suc (suc (suc (suc zero))))) = Text Subject
 kind_of_number (suc (suc (suc (suc (suc (suc zero)))))) = Text Body
 kind_of_number (suc (suc (suc (suc (suc (suc (suc zero))))))) = OwnId
-kind_of_number (suc (suc (suc (suc (suc (suc (suc (suc n)))))))) = LinkId
+kind_of_number (suc (suc (suc (suc (suc (suc (suc (suc zero)))))))) = LinkId
+kind_of_number (suc (suc (suc (suc (suc (suc (suc (suc (suc n))))))))) = Text Name

@@ -3,9 +3,10 @@ use Rattle.std.specs.Prelude.{◌≡◌, ℕ, ◌+◌, ◌*◌, ◌^◌, ◌<◌
 use Rattle.mail_index.specs.declared.archive.Archive.{Archive}
 use Rattle.mail_index.specs.declared.layout.Layout.{Layout}
 use Rattle.mail_index.specs.Fields.{u32_at}
+use Rattle.mail_index.specs.Versions.{version_number}
 use Rattle.mail_index.specs.Tables.{Key, Table, IsWellFormed}
 use Rattle.mail_index.specs.Tables as table
-use Rattle.mail_index.specs.Faults.{records_start, directory_start, texts_start, postings_start, digest_start}
+use Rattle.mail_index.specs.Faults.{version_told, records_start, directory_start, texts_start, postings_start, digest_start}
 use Rattle.mail_index.specs.Records.{SpellsArchives, AreRecords, read_archives, read_records}
 use Rattle.mail_index.specs.Directory.{AreEntries}
 use Rattle.mail_index.specs.Lists.{AreLists}
@@ -14,6 +15,7 @@ use Rattle.mail_index.specs.KeysRead.{keys_read}
 pub record IsLayout (bytes : List ℕ) (l : Layout) : Type 0 where
   pub adds_up : digest_start bytes + 32 ≡ length bytes
   pub few : length bytes < 2 ^ 64
+  pub version : version_number l.version ≡ version_told bytes
   pub archive_count : l.archive_count ≡ u32_at bytes 12
   pub few_messages : l.message_count < 2 ^ 32
   pub message_count : l.message_count ≡ u32_at bytes 16
@@ -26,21 +28,22 @@ pub record IsLayout (bytes : List ℕ) (l : Layout) : Type 0 where
 
 abbrev pub table_of : Layout → Table
 table_of l = record {
-  archives = read_archives l.archive_count l.archives.now;
+  version = version_number l.version;
+  archives = read_archives (version_number l.version) l.archive_count l.archives.now;
   messages = read_records l.message_count l.records.now;
   keys = keys_read l.texts.now l.postings.now l.key_count l.directory.now;
 }
 
 abbrev pub archive_of : Archive → table.Archive
-archive_of a = record { path = a.path.now; length = a.length }
+archive_of a = record { path = a.path.now; length = a.length; digest = a.digest }
 
 -- the sections were looked at, each from its front on, and keep their rules
 pub record IsChecked (l : Layout) : Type 0 where
-  pub archives : SpellsArchives l.archive_count l.archives.now
+  pub archives : SpellsArchives (version_number l.version) l.archive_count l.archives.now
   pub record_bytes : length l.records.now ≡ 40 * l.message_count
-  pub records : AreRecords l.archive_count 0 0 l.archives.now l.message_count l.records.now
+  pub records : AreRecords (version_number l.version) l.archive_count 0 0 l.archives.now l.message_count l.records.now
   pub directory_bytes : length l.directory.now ≡ 24 * l.key_count
-  pub entries : AreEntries l.texts.now (length l.postings.now) 0 0 0 [] l.key_count l.directory.now
+  pub entries : AreEntries (version_number l.version) l.texts.now (length l.postings.now) 0 0 0 [] l.key_count l.directory.now
   pub few_messages : l.message_count < 2 ^ 32
   pub lists : AreLists l.message_count l.postings.now l.key_count l.directory.now
   pub formed : IsWellFormed (table_of l)

@@ -1,4 +1,5 @@
 pub mod Kinds
+pub mod Versions
 pub mod Tables
 pub mod Postings
 pub mod PostingReads

@@ -5,6 +5,7 @@ use Rattle.std.specs.List.{AllByRecursion}
 use Rattle.mail_words.specs.declared.flags.Flags.{Flags}
 use Rattle.mail_index.specs.declared.record.Record.{Record}
 use Rattle.mail_index.specs.Fields.{byte_at, u32_at, u64_at}
+use Rattle.mail_index.specs.Versions.{read_digest, behind_digest}
 use Rattle.mail_index.specs.Tables.{Archive, IsArchive}
 use Rattle.mail_index.specs.Files.{archive_bytes}
 
@@ -42,30 +43,34 @@ is_record r =
 
 -- ---- archives
 
-unfoldable pub read_archive : List ℕ → Archive
-read_archive r = record { path = take (u32_at r 8) (drop 12 r); length = u64_at r 0 }
+-- what follows the path of an archive
+abbrev pub behind_path : List ℕ → List ℕ
+behind_path r = drop (u32_at r 8) (drop 12 r)
 
-unfoldable pub behind_archive : List ℕ → List ℕ
-behind_archive r = drop (u32_at r 8) (drop 12 r)
+unfoldable pub read_archive : ℕ → List ℕ → Archive
+read_archive version r = record { path = take (u32_at r 8) (drop 12 r); length = u64_at r 0; digest = read_digest version (behind_path r) }
 
-abbrev pub read_archives : ℕ → List ℕ → List Archive
-read_archives zero r = []
-read_archives (suc n) r = read_archive r ∷ read_archives n (behind_archive r)
+unfoldable pub behind_archive : ℕ → List ℕ → List ℕ
+behind_archive version r = behind_digest version (behind_path r)
+
+abbrev pub read_archives : ℕ → ℕ → List ℕ → List Archive
+read_archives version zero r = []
+read_archives version (suc n) r = read_archive version r ∷ read_archives version n (behind_archive version r)
 
 -- the bytes begin with an archive
-pub record HasArchive (r : List ℕ) : Type 0 where
-  pub spelled : r ≡ archive_bytes (read_archive r) ++ behind_archive r
-  pub valid : IsArchive (read_archive r)
+pub record HasArchive (version : ℕ) (r : List ℕ) : Type 0 where
+  pub spelled : r ≡ archive_bytes (read_archive version r) ++ behind_archive version r
+  pub valid : IsArchive version (read_archive version r)
 
 -- the bytes are so many archives
-pub record SpellsArchives (n : ℕ) (r : List ℕ) : Type 0 where
-  pub spelled : r ≡ flat_map archive_bytes (read_archives n r)
-  pub each : AllByRecursion IsArchive (read_archives n r)
+pub record SpellsArchives (version n : ℕ) (r : List ℕ) : Type 0 where
+  pub spelled : r ≡ flat_map archive_bytes (read_archives version n r)
+  pub each : AllByRecursion (IsArchive version) (read_archives version n r)
 
 -- what follows so many archives
-abbrev pub behind_archives : ℕ → List ℕ → List ℕ
-behind_archives zero r = r
-behind_archives (suc n) r = behind_archives n (behind_archive r)
+abbrev pub behind_archives : ℕ → ℕ → List ℕ → List ℕ
+behind_archives version zero r = r
+behind_archives version (suc n) r = behind_archives version n (behind_archive version r)
 
 -- ---- the records of a section, from where an earlier one ended
 
@@ -75,14 +80,14 @@ is_behind archive place m = nat_lt archive m.archive || (nat_eq archive m.archiv
 
 -- the record may follow in the archive of this number from the place on, or in a later one; the rest is the archives from
 -- this number on
-pub record IsNext (count archive place : ℕ) (rest : List ℕ) (m : Record) : Type 0 where
+pub record IsNext (version count archive place : ℕ) (rest : List ℕ) (m : Record) : Type 0 where
   pub exists : m.archive < count
   pub follows : is_behind archive place m ≡ true
-  pub within : m.offset + m.length ≤ u64_at (behind_archives (m.archive - archive) rest) 0
+  pub within : m.offset + m.length ≤ u64_at (behind_archives version (m.archive - archive) rest) 0
   pub size : m.size < m.length
 
-abbrev pub AreRecords : ℕ → ℕ → ℕ → List ℕ → ℕ → List ℕ → Type 0
-AreRecords count archive place rest zero r = Unit {0}
-AreRecords count archive place rest (suc n) r =
-    (is_record r ≡ true) × IsNext count archive place rest (read_record r)
-    × AreRecords count (read_record r).archive ((read_record r).offset + (read_record r).length) (behind_archives ((read_record r).archive - archive) rest) n (drop 40 r)
+abbrev pub AreRecords : ℕ → ℕ → ℕ → ℕ → List ℕ → ℕ → List ℕ → Type 0
+AreRecords version count archive place rest zero r = Unit {0}
+AreRecords version count archive place rest (suc n) r =
+    (is_record r ≡ true) × IsNext version count archive place rest (read_record r)
+    × AreRecords version count (read_record r).archive ((read_record r).offset + (read_record r).length) (behind_archives version ((read_record r).archive - archive) rest) n (drop 40 r)

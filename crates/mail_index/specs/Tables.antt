@@ -1,14 +1,16 @@
 -- What an index says of archives, apart from its file.
-use Rattle.std.specs.Prelude.{◌≡◌, ◌≢◌, ℕ, zero, suc, ◌+◌, ◌^◌, ◌<◌, ◌≤◌, ◌⊎◌, FitsSigned, List, [], ◌∷◌, length, IfSome, IsUtf8}
+use Rattle.std.specs.Prelude.{◌≡◌, ◌≢◌, ℕ, zero, suc, ◌+◌, ◌^◌, ◌<◌, ◌≤◌, ◌⊎◌, FitsSigned, List, [], ◌∷◌, length, Option, IfSome, IsUtf8}
 use Rattle.std.specs.Int.{w64}
 use Rattle.std.specs.List.{AllByRecursion}
 use Rattle.mail_index.specs.declared.kind.Kind.{Kind}
 use Rattle.mail_index.specs.declared.record.Record.{Record}
 use Rattle.mail_index.specs.Kinds.{kind_number}
+use Rattle.mail_index.specs.Versions.{IsVersion, last_kind, IsDigest}
 
 pub record Archive : Type 0 where
   pub path : List ℕ
   pub length : ℕ
+  pub digest : Option (List ℕ)
 
 -- a word or an id, and the numbers of the messages that have it
 pub record Key : Type 0 where
@@ -17,6 +19,7 @@ pub record Key : Type 0 where
   pub numbers : List ℕ
 
 pub record Table : Type 0 where
+  pub version : ℕ
   pub archives : List Archive
   pub messages : List Record
   pub keys : List Key
@@ -30,8 +33,8 @@ pub record IsPath (path : List ℕ) : Type 0 where
   pub most : length path ≤ 4096
   pub one_line : AllByRecursion (λ b. (b ≢ 0x0A) × (b ≢ 0)) path
 
-abbrev pub IsArchive : Archive → Type 0
-IsArchive a = IsPath a.path × (a.length ≤ 2 ^ 40)
+abbrev pub IsArchive : ℕ → Archive → Type 0
+IsArchive version a = IsPath a.path × (a.length ≤ 2 ^ 40) × IsDigest version a.digest
 
 -- the length of the archive of that number
 abbrev pub archive_length : List Archive → ℕ → ℕ
@@ -75,7 +78,8 @@ RisesFrom low [] = Unit {0}
 RisesFrom low (n ∷ ns) = (low ≤ n) × RisesFrom (suc n) ns
 
 -- a key of some of so many messages
-pub record IsKey (count : ℕ) (k : Key) : Type 0 where
+pub record IsKey (version count : ℕ) (k : Key) : Type 0 where
+  pub kind : kind_number k.kind ≤ last_kind version
   pub some_text : 0 < length k.text
   pub short : length k.text < 2 ^ 32
   pub some_number : 0 < length k.numbers
@@ -83,11 +87,12 @@ pub record IsKey (count : ℕ) (k : Key) : Type 0 where
   pub below : AllByRecursion (λ n. n < count) k.numbers
 
 pub record IsWellFormed (t : Table) : Type 0 where
+  pub version : IsVersion t.version
   pub archive_count : length t.archives < 2 ^ 32
   pub message_count : length t.messages < 2 ^ 32
   pub key_count : length t.keys < 2 ^ 32
-  pub archives : AllByRecursion IsArchive t.archives
+  pub archives : AllByRecursion (IsArchive t.version) t.archives
   pub messages : AllByRecursion (IsMessage t.archives) t.messages
   pub in_order : AllNext Follows t.messages
-  pub keys : AllByRecursion (IsKey (length t.messages)) t.keys
+  pub keys : AllByRecursion (IsKey t.version (length t.messages)) t.keys
   pub sorted : AllNext KeyBefore t.keys

@@ -1,10 +1,13 @@
 //! Archives as an index names them.
 ghost use Rattle.std.specs.Prelude.{◌≡◌, ◌↔◌, ◌-◌, ◌≤◌, ◌<◌, ◌^◌, length, MatchOption, IsTrue};
 ghost use Rattle.mail_index.specs.Fields.{u64_at as u64_in};
+ghost use Rattle.mail_index.specs.Versions.{version_number, IsDigest, read_digest, behind_digest};
+ghost use Rattle.mail_index.specs.Layouts.{archive_of};
 ghost use Rattle.mail_index.specs.Records.{HasArchive, SpellsArchives, read_archive, behind_archive, behind_archives as behind_archives_of};
 
 use crate::fields::{u32_at, u64_at};
 use crate::path::is_path;
+use crate::version::{DIGEST, Version};
 use std::str;
 
 /// The most bytes that an archive has.
@@ -17,12 +20,31 @@ pub struct Archive<'a> {
     pub path: &'a str,
     /// Its length in bytes.
     pub length: u64,
+    /// The SHA-256 of its bytes, None in a file of version 1.
+    pub digest: Option<[u8; 32]>,
 }
 
-/// The archive that the bytes begin with, and the bytes behind it; None where they begin with none.
-pub(crate) fn split_archive(bytes: &[u8]) -> Option<(Archive<'_>, &[u8])>
-    ensures { MatchOption result (¬ HasArchive bytes.now) (λ p. HasArchive bytes.now × (p.0.path.now ≡ (read_archive bytes.now).path)
-        × (p.0.length ≡ (read_archive bytes.now).length) × (p.1.now ≡ behind_archive bytes.now)) }
+/// The digest that the bytes begin with in a file of the version, and the bytes behind it; None where they begin with none.
+fn split_digest(bytes: &[u8], version: Version) -> Option<(Option<[u8; DIGEST]>, &[u8])>
+    ensures { MatchOption result (¬ IsDigest (version_number version) (read_digest (version_number version) bytes.now))
+        (λ p. IsDigest (version_number version) (read_digest (version_number version) bytes.now)
+        × (p.0 ≡ read_digest (version_number version) bytes.now) × (p.1.now ≡ behind_digest (version_number version) bytes.now)) }
+{
+    match version {
+        Version::One => Some((None, bytes)),
+        Version::Two => {
+            let Some((digest, behind)) = bytes.split_first_chunk::<DIGEST>() else {
+                return None;
+            };
+            Some((Some(*digest), behind))
+        }
+    }
+}
+
+/// The archive that the bytes begin with in a file of the version, and the bytes behind it; None where they begin with none.
+pub(crate) fn split_archive(bytes: &[u8], version: Version) -> Option<(Archive<'_>, &[u8])>
+    ensures { MatchOption result (¬ HasArchive (version_number version) bytes.now) (λ p. HasArchive (version_number version) bytes.now
+        × (archive_of p.0 ≡ read_archive (version_number version) bytes.now) × (p.1.now ≡ behind_archive (version_number version) bytes.now)) }
 {
     if bytes.len() < 12 {
         return None;
@@ -41,20 +63,29 @@ pub(crate) fn split_archive(bytes: &[u8]) -> Option<(Archive<'_>, &[u8])>
         Ok(path) => path,
         Err(_) => return None,
     };
-    if is_path(path) {
-        Some((Archive { path, length }, behind))
-    } else {
-        None
+    if !is_path(path) {
+        return None;
     }
+    let Some((digest, behind)) = split_digest(behind, version) else {
+        return None;
+    };
+    Some((
+        Archive {
+            path,
+            length,
+            digest,
+        },
+        behind,
+    ))
 }
 
-/// Whether the section is so many archives.
-pub(crate) fn are_archives(section: &[u8], count: u32) -> bool
-    ensures { IsTrue result ↔ SpellsArchives count section.now }
+/// Whether the section of a file of the version is so many archives.
+pub(crate) fn are_archives(section: &[u8], count: u32, version: Version) -> bool
+    ensures { IsTrue result ↔ SpellsArchives (version_number version) count section.now }
 {
     let mut rest = section;
     for number in 0..count {
-        match split_archive(rest) {
+        match split_archive(rest, version) {
             Some((_, behind)) => rest = behind,
             None => return false,
         }
@@ -62,35 +93,36 @@ pub(crate) fn are_archives(section: &[u8], count: u32) -> bool
     rest.is_empty()
 }
 
-/// What follows the first `n` of the section's archives, of which there are `count`.
-pub(crate) fn behind_archives(section: &[u8], count: u32, n: u32) -> &[u8]
-    requires spelled { SpellsArchives count section.now }
+/// What follows the first `n` of the section's archives, of which there are `count`, in a file of the version.
+pub(crate) fn behind_archives(section: &[u8], count: u32, n: u32, version: Version) -> &[u8]
+    requires spelled { SpellsArchives (version_number version) count section.now }
     requires bound { n ≤ count }
-    ensures value { result.now ≡ behind_archives_of n section.now }
-    ensures spelled { SpellsArchives (count - n) result.now }
+    ensures value { result.now ≡ behind_archives_of (version_number version) n section.now }
+    ensures spelled { SpellsArchives (version_number version) (count - n) result.now }
 {
     let mut rest = section;
     for number in 0..n {
-        rest = behind_first(rest, count - number);
+        rest = behind_first(rest, count - number, version);
     }
     rest
 }
 
 /// What follows the first of the section's archives, of which there are `count`. Its path isn't looked at.
-pub(crate) fn behind_first(section: &[u8], count: u32) -> &[u8]
+pub(crate) fn behind_first(section: &[u8], count: u32, version: Version) -> &[u8]
     requires some { 0 < count }
-    requires spelled { SpellsArchives count section.now }
-    ensures value { result.now ≡ behind_archive section.now }
-    ensures spelled { SpellsArchives (count - 1) result.now }
+    requires spelled { SpellsArchives (version_number version) count section.now }
+    ensures value { result.now ≡ behind_archive (version_number version) section.now }
+    ensures spelled { SpellsArchives (version_number version) (count - 1) result.now }
 {
     let size = u32_at(section, 8) as usize;
-    section.split_at(12).1.split_at(size).1
+    let behind = section.split_at(12).1.split_at(size).1;
+    behind.split_at(version.digest_length()).1
 }
 
 /// The length of the first of the section's archives, of which there are `count`.
-pub(crate) fn first_length(section: &[u8], count: u32) -> u64
+pub(crate) fn first_length(section: &[u8], count: u32, version: Version) -> u64
     requires some { 0 < count }
-    requires spelled { SpellsArchives count section.now }
+    requires spelled { SpellsArchives (version_number version) count section.now }
     ensures value { result ≡ u64_in section.now 0 }
     ensures bound { result ≤ 2 ^ 40 }
 {
@@ -98,13 +130,12 @@ pub(crate) fn first_length(section: &[u8], count: u32) -> u64
 }
 
 /// The first of the section's archives, of which there are `count`.
-pub(crate) fn first_archive(section: &[u8], count: u32) -> Archive<'_>
+pub(crate) fn first_archive(section: &[u8], count: u32, version: Version) -> Archive<'_>
     requires some { 0 < count }
-    requires spelled { SpellsArchives count section.now }
-    ensures path { result.path.now ≡ (read_archive section.now).path }
-    ensures length { result.length ≡ (read_archive section.now).length }
+    requires spelled { SpellsArchives (version_number version) count section.now }
+    ensures { archive_of result ≡ read_archive (version_number version) section.now }
 {
-    match split_archive(section) {
+    match split_archive(section, version) {
         Some((archive, _)) => archive,
         None => unreachable!(),
     }

@@ -158,12 +158,13 @@ impl Builder {
     }
 
     /// Ends the archive that is open, whose messages have ended: its length in bytes, at most 2^40, and at least where
-    /// its last message ends.
-    pub fn end_archive(&mut self, length: u64) -> Result<(), BuildFault>
+    /// its last message ends, and the SHA-256 of these bytes. The caller takes it, since a builder doesn't see them: any 32
+    /// bytes are written as they are.
+    pub fn end_archive(&mut self, length: u64, digest: [u8; 32]) -> Result<(), BuildFault>
         requires phase { IfSome self.old IsInArchive }
         requires within { IfSome self.old (λ _. length ≤ 2 ^ 40) }
         requires last { IfSome self.old (λ d. end_of (archive_count d) d.table.messages ≤ length) }
-        ensures gives { Gives (λ _. self.new) refusal result (stepped (ended_archive length) self.old) }
+        ensures gives { Gives (λ _. self.new) refusal result (stepped (ended_archive length digest) self.old) }
         ensures within { IfSome self.new IsWithinMost }
         ensures lost { OnErr result (self.new ≡ None) }
         ensures failed { IfNone self.old (result ≡ Err BuildFault.Failed) }
@@ -171,11 +172,11 @@ impl Builder {
         let Some(draft) = &mut self.draft else {
             return Err(BuildFault::Failed);
         };
-        let outcome = draft.end_archive(length);
+        let outcome = draft.end_archive(length, digest);
         self.settled(outcome)
     }
 
-    /// Writes the index file of all archives, where none is open. Answers how many bytes it has.
+    /// Writes the index file of all archives, in version 2, where none is open. Answers how many bytes it has.
     ///
     /// Takes no memory, and writes in many small pieces. The builder stays as it is, also where the output fails: some
     /// front of the file went out then.

@@ -1,13 +1,12 @@
 //! The directory of a file, against the texts and the postings that its entries name.
 ghost use Rattle.std.specs.Prelude.{◌≡◌, ◌↔◌, ◌+◌, ◌-◌, ◌*◌, ◌≤◌, ◌<◌, ℕ, [], length, take, drop, MatchOption, IsTrue};
+ghost use Rattle.mail_index.specs.Versions.{version_number};
 ghost use Rattle.mail_index.specs.Fields.{byte_at, u32_at as u32_in, u64_at as u64_in};
 ghost use Rattle.mail_index.specs.Directory.{key_cmp, is_entry as is_entry_of, end_before as end_before_of, text_at, IsEntryAt, AreEntries};
 
 use crate::fields::{u32_at, u64_at};
+use crate::version::Version;
 use std::cmp::Ordering;
-
-/// The greatest number of a kind.
-const LAST_KIND: u8 = 8;
 
 /// The order of keys in a file: by the number of their kind, then byte by byte.
 pub(crate) fn compare_keys(number: u8, text: &[u8], other_number: u8, other_text: &[u8]) -> Ordering
@@ -20,13 +19,17 @@ pub(crate) fn compare_keys(number: u8, text: &[u8], other_number: u8, other_text
     }
 }
 
-/// Whether an entry begins with the number of a kind and three zeros.
+/// Whether an entry begins with the number of a kind that the version has, and three zeros.
 #[tactic(auto, unfolding(crate::specs::Directory::is_entry))]
-fn is_entry(entry: &[u8]) -> bool
+fn is_entry(entry: &[u8], version: Version) -> bool
     requires { 24 ≤ length entry.now }
-    ensures { result ≡ is_entry_of entry.now }
+    ensures { result ≡ is_entry_of (version_number version) entry.now }
 {
-    1 <= entry[0] && entry[0] <= LAST_KIND && entry[1] == 0 && entry[2] == 0 && entry[3] == 0
+    1 <= entry[0]
+        && entry[0] <= version.greatest_kind()
+        && entry[1] == 0
+        && entry[2] == 0
+        && entry[3] == 0
 }
 
 /// Where the postings of the entry before these end: where those of the first of them begin, or at the end of all.
@@ -57,18 +60,19 @@ fn behind_entry<'a>(
     entries: &[u8],
     texts: &'a [u8],
     total: u64,
+    version: Version,
 ) -> Option<Place<'a>>
     requires long { 24 ≤ length entries.now }
     requires whole { 24 < length entries.now → 48 ≤ length entries.now }
     requires bound { place.text_place ≤ length texts.now }
-    ensures { MatchOption result (¬ IsEntryAt texts.entry.now total place.entry.text_place place.entry.place place.entry.number place.entry.text.now entries.now)
-        (λ p. IsEntryAt texts.entry.now total place.entry.text_place place.entry.place place.entry.number place.entry.text.now entries.now
+    ensures { MatchOption result (¬ IsEntryAt (version_number version) texts.entry.now total place.entry.text_place place.entry.place place.entry.number place.entry.text.now entries.now)
+        (λ p. IsEntryAt (version_number version) texts.entry.now total place.entry.text_place place.entry.place place.entry.number place.entry.text.now entries.now
         × (p.text_place ≡ place.entry.text_place + u32_in entries.now 4) × (p.place ≡ end_before_of (drop 24 entries.now) total)
         × (p.number ≡ byte_at entries.now 0) × (p.text.now ≡ text_at texts.entry.now entries.now)) }
 {
     let text_length = u32_at(entries, 4);
     let end = end_before(entries.split_at(24).1, total);
-    if !is_entry(entries) {
+    if !is_entry(entries, version) {
         return None;
     }
     if u64_at(entries, 8) != place.text_place {
@@ -104,10 +108,16 @@ fn behind_entry<'a>(
 }
 
 /// Whether the directory is so many entries, in order, whose texts fill the section of texts and whose postings fill that of
-/// postings, which has `total` bytes.
-pub(crate) fn are_entries(directory: &[u8], count: u32, texts: &[u8], total: u64) -> bool
+/// postings, which has `total` bytes, and whose kinds are of the version.
+pub(crate) fn are_entries(
+    directory: &[u8],
+    count: u32,
+    texts: &[u8],
+    total: u64,
+    version: Version,
+) -> bool
     requires { length directory.now ≡ 24 * count }
-    ensures { IsTrue result ↔ AreEntries texts.now total 0 0 0 [] count directory.now }
+    ensures { IsTrue result ↔ AreEntries (version_number version) texts.now total 0 0 0 [] count directory.now }
 {
     let mut rest = directory;
     let mut place = Place {
@@ -117,7 +127,7 @@ pub(crate) fn are_entries(directory: &[u8], count: u32, texts: &[u8], total: u64
         text: &[],
     };
     for number in 0..count {
-        place = match behind_entry(place, rest, texts, total) {
+        place = match behind_entry(place, rest, texts, total, version) {
             Some(behind) => behind,
             None => return false,
         };

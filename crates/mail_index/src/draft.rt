@@ -26,6 +26,7 @@ use std::marker::Model;
 pub struct NamedArchive {
     pub path: String,
     pub length: u64,
+    pub digest: [u8; 32],
     pub ghost short: { string_len path < 2 ^ 32 },
 }
 
@@ -128,15 +129,20 @@ impl Draft {
     }
 
     /// Closes the archive that is open.
-    pub fn end_archive(&mut self, length: u64) -> Result<(), BuildFault>
+    pub fn end_archive(&mut self, length: u64, digest: [u8; 32]) -> Result<(), BuildFault>
         requires phase { IsSome self.old.path }
         requires length { length ≤ 2 ^ 40 }
         requires last { end_of (archive_count self.old) self.old.table.messages ≤ length }
-        ensures gives { Gives (λ _. self.new) refusal result (ended_archive length self.old) }
+        ensures gives { Gives (λ _. self.new) refusal result (ended_archive length digest self.old) }
         ensures within { IsWithinMost self.new }
     {
         let path = self.path.take().unwrap();
-        if let Err(refused) = self.archives.push(NamedArchive { path, length }) {
+        let archive = NamedArchive {
+            path,
+            length,
+            digest,
+        };
+        if let Err(refused) = self.archives.push(archive) {
             self.path = Some(refused.value.path);
             return Err(BuildFault::OutOfMemory);
         }

@@ -7,7 +7,7 @@ pub enum Section {
     /// Magic, version, and the counts of entries and bytes.
     #[error("counts")]
     Counts,
-    /// The archives' paths and lengths.
+    /// The archives' paths, lengths and digests.
     #[error("archives")]
     Archives,
     /// The messages' records.
@@ -30,7 +30,7 @@ pub enum IndexFault {
     /// The file does not begin as an index file does.
     #[error("bad magic")]
     BadMagic,
-    /// It is of a version that isn't known.
+    /// It is of a version other than 1 and 2.
     #[error("unknown version")]
     BadVersion,
     /// Its last 32 bytes are not the SHA-256 of those before.

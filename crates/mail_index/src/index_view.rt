@@ -11,7 +11,7 @@ use crate::directory_walk::are_entries;
 use crate::fault::{IndexFault, Section};
 use crate::keys::Keys;
 use crate::kind::Kind;
-use crate::layout::{Layout, signature_fault};
+use crate::layout::{Layout, signed_version};
 use crate::look_up::look_up;
 use crate::posting_walk::are_lists;
 use crate::postings::Postings;
@@ -42,22 +42,23 @@ impl<'a> IndexView<'a> {
     ghost use Rattle.mail_index.specs.Tables.{Table, IsWellFormed};
     ghost use Rattle.mail_index.specs.LookUps.{numbers_at, TakesDigits, keys_of, text_and_numbers};
 
-    /// The table whose file these bytes are, or the first thing that is wrong with them. No file of a well-formed table is
-    /// refused. Takes no memory.
+    /// The table whose file these bytes are, in version 1 or 2, or the first thing that is wrong with them. No file of a
+    /// well-formed table is refused. Takes no memory.
     pub fn open(bytes: &'a [u8]) -> Result<IndexView<'a>, IndexFault>
         ensures ok { IfOk result (λ table. IsFileOf bytes.entry.now table) }
         ensures fault { IfErr result (λ fault. IsFirstFault bytes.entry.now fault) }
         ensures accepts { (t : Table) → IsFileOf bytes.entry.now t → IsOk result }
         ensures same { (t : Table) → IsFileOf bytes.entry.now t → IfOk result (λ table. table ≡ t) }
     {
-        if let Some(fault) = signature_fault(bytes) {
-            return Err(fault);
-        }
-        let layout = match Layout::of(bytes) {
+        let version = match signed_version(bytes) {
+            Ok(version) => version,
+            Err(fault) => return Err(fault),
+        };
+        let layout = match Layout::of(bytes, version) {
             Some(layout) => layout,
             None => return Err(IndexFault::BadLayout(Section::Counts)),
         };
-        if !are_archives(layout.archives, layout.archive_count) {
+        if !are_archives(layout.archives, layout.archive_count, layout.version) {
             return Err(IndexFault::BadLayout(Section::Archives));
         }
         if !are_records(
@@ -65,11 +66,18 @@ impl<'a> IndexView<'a> {
             layout.message_count,
             layout.archives,
             layout.archive_count,
+            layout.version,
         ) {
             return Err(IndexFault::BadLayout(Section::Records));
         }
         let total = layout.postings.len() as u64;
-        if !are_entries(layout.directory, layout.key_count, layout.texts, total) {
+        if !are_entries(
+            layout.directory,
+            layout.key_count,
+            layout.texts,
+            total,
+            layout.version,
+        ) {
             return Err(IndexFault::BadLayout(Section::Directory));
         }
         if !are_lists(
@@ -93,6 +101,13 @@ impl<'a> IndexView<'a> {
         }
     }
 
+    /// The version of the file: 1, which has no names of parts, or 2. Takes no memory.
+    pub fn version(&self) -> u32
+        ensures { result ≡ self.now.version }
+    {
+        self.layout.version.number()
+    }
+
     /// How many archives there are.
     #[tactic(auto, using(crate::proofs::ArchiveReads::read_count))]
     pub fn archive_count(&self) -> u32
@@ -106,15 +121,25 @@ impl<'a> IndexView<'a> {
         requires { n < length self.now.archives }
         ensures { slice_get self.now.archives n ≡ Some (archive_of result) }
     {
-        let rest = behind_archives(self.layout.archives, self.layout.archive_count, n);
-        first_archive(rest, self.layout.archive_count - n)
+        let Layout {
+            archives,
+            archive_count,
+            version,
+            ..
+        } = self.layout;
+        let rest = behind_archives(archives, archive_count, n, version);
+        first_archive(rest, archive_count - n, version)
     }
 
     /// The archives in order. It takes no memory.
     pub fn archives(&self) -> ArchiveList<'a>
         ensures { result ≡ self.now.archives }
     {
-        ArchiveList::of(self.layout.archives, self.layout.archive_count)
+        ArchiveList::of(
+            self.layout.archives,
+            self.layout.archive_count,
+            self.layout.version,
+        )
     }
 
     /// How many messages there are.

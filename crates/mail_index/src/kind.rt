@@ -5,7 +5,7 @@ use mail_words::TextKind;
 
 /// What a key is of: a word of one of the kinds of text, a message's own id, or an id that links it to a thread.
 ///
-/// Kinds stand in an index file in the order of their numbers there, 1 to 8.
+/// Kinds stand in an index file in the order of their numbers there, 1 to 9.
 #[derive(Clone, Copy, Debug, PartialEq, Eq)]
 pub enum Kind {
     /// A folded word of a text of this kind.
@@ -19,7 +19,7 @@ pub enum Kind {
 impl Kind {
     ghost use Rattle.mail_index.specs.Kinds.{kind_number};
 
-    /// The number that stands for the kind in an index file, 1 to 8.
+    /// The number that stands for the kind in an index file, 1 to 9. Names are the last, since files of version 1 have none.
     pub(crate) fn number(self) -> u8
         ensures { result ≡ kind_number self }
     {
@@ -32,6 +32,7 @@ impl Kind {
             Kind::Text(TextKind::Body) => 6,
             Kind::OwnId => 7,
             Kind::LinkId => 8,
+            Kind::Text(TextKind::Name) => 9,
         }
     }
 }

@@ -1,22 +1,22 @@
 //! Where the sections of a file lie.
-ghost use Rattle.std.specs.Prelude.{◌≡◌, ◌↔◌, ◌+◌, ◌≤◌, length, MatchOption, IsTrue};
+ghost use Rattle.std.specs.Prelude.{◌≡◌, ◌↔◌, ◌+◌, ◌≤◌, length, MatchOption, MatchResult, IsTrue};
+ghost use Rattle.mail_index.specs.Versions.{version_number};
 ghost use Rattle.sha2.specs.Sha256.{sha256};
-ghost use Rattle.mail_index.specs.Faults.{HasDigest, IsSigned, IsFirstFault, digest_start};
+ghost use Rattle.mail_index.specs.Faults.{version_told, HasDigest, IsSigned, IsFirstFault, digest_start};
 
 use crate::fault::IndexFault;
 use crate::fields::{u32_at, u64_at};
 use crate::posting_walk::part;
+use crate::version::Version;
 use sha2::{Digest, Sha256};
 
 /// The bytes that a file begins with.
 const MAGIC: [u8; 8] = *b"MAIRIX\r\n";
 
-/// The version of the files that are read.
-const VERSION: u32 = 1;
-
 /// The sections of a file, by the lengths that its counts tell.
 #[derive(Clone, Copy, Debug)]
 pub(crate) struct Layout<'a> {
+    pub(crate) version: Version,
     pub(crate) archive_count: u32,
     pub(crate) message_count: u32,
     pub(crate) key_count: u32,
@@ -50,31 +50,32 @@ fn has_digest(bytes: &[u8]) -> bool
     is_same(digest, &digest_of(signed))
 }
 
-/// What is wrong with the bytes before any section is looked at.
-pub(crate) fn signature_fault(bytes: &[u8]) -> Option<IndexFault>
-    ensures { MatchOption result (IsSigned bytes.now) (λ fault. IsFirstFault bytes.now fault) }
+/// The version of a file, or what is wrong with its bytes before any section is looked at.
+pub(crate) fn signed_version(bytes: &[u8]) -> Result<Version, IndexFault>
+    ensures { MatchResult result (λ version. IsSigned bytes.now × (version_number version ≡ version_told bytes.now)) (λ fault. IsFirstFault bytes.now fault) }
 {
     if bytes.len() < 80 {
-        return Some(IndexFault::TooShort);
+        return Err(IndexFault::TooShort);
     }
     if !is_same(bytes.split_at(8).0, &MAGIC) {
-        return Some(IndexFault::BadMagic);
+        return Err(IndexFault::BadMagic);
     }
-    if u32_at(bytes, 8) != VERSION {
-        return Some(IndexFault::BadVersion);
-    }
+    let Some(version) = Version::of(u32_at(bytes, 8)) else {
+        return Err(IndexFault::BadVersion);
+    };
     if !has_digest(bytes) {
-        return Some(IndexFault::BadDigest);
+        return Err(IndexFault::BadDigest);
     }
-    None
+    Ok(version)
 }
 
 impl<'a> Layout<'a> {
     ghost use Rattle.mail_index.specs.Layouts.{IsLayout};
 
     /// The sections, if their lengths with those of counts and digest add up to the file's.
-    pub(crate) fn of(bytes: &'a [u8]) -> Option<Layout<'a>>
-        requires { 80 ≤ length bytes.now }
+    pub(crate) fn of(bytes: &'a [u8], version: Version) -> Option<Layout<'a>>
+        requires long { 80 ≤ length bytes.now }
+        requires version { version_number version ≡ version_told bytes.now }
         ensures { MatchOption result (¬ (digest_start bytes.entry.now + 32 ≡ length bytes.entry.now)) (λ layout. IsLayout bytes.entry.now layout) }
     {
         let message_count = u32_at(bytes, 16);
@@ -89,6 +90,7 @@ impl<'a> Layout<'a> {
             return None;
         }
         Some(Layout {
+            version,
             archive_count: u32_at(bytes, 12),
             message_count,
             key_count,

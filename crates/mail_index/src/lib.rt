@@ -83,3 +83,4 @@ mod posting_walk;
 mod record_walk;
 mod sections;
 mod short_bytes;
+mod version;

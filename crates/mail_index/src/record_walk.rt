@@ -1,9 +1,11 @@
 //! The records of a section, against the archives that they are in.
 ghost use Rattle.std.specs.Prelude.{◌≡◌, ◌↔◌, ◌+◌, ◌-◌, ◌*◌, ◌≤◌, ℕ, length, MatchOption, IsTrue};
+ghost use Rattle.mail_index.specs.Versions.{version_number};
 ghost use Rattle.mail_index.specs.Records.{SpellsArchives, IsNext, AreRecords, is_behind as is_behind_of, behind_archives as behind_archives_of};
 
 use crate::archive::{behind_archives, first_length};
 use crate::record::{Record, is_record};
+use crate::version::Version;
 
 /// Where the walk has come: the archive of the last message, the place in it where that one ended, and the archives from
 /// this one on.
@@ -22,14 +24,19 @@ fn is_behind(archive: u32, offset: u64, message: Record) -> bool
 }
 
 /// The place behind a message, if it may stand behind the last one and lies in its archive. There are `count` archives.
-fn behind_message<'a>(place: Place<'a>, count: u32, message: Record) -> Option<Place<'a>>
+fn behind_message<'a>(
+    place: Place<'a>,
+    count: u32,
+    message: Record,
+    version: Version,
+) -> Option<Place<'a>>
     requires bound { place.archive ≤ count }
-    requires spelled { SpellsArchives (count - place.archive) place.archives.now }
-    ensures next { MatchOption result (¬ IsNext count place.entry.archive place.entry.offset place.entry.archives.now message)
-        (λ p. IsNext count place.entry.archive place.entry.offset place.entry.archives.now message × (p.archive ≡ message.archive)
+    requires spelled { SpellsArchives (version_number version) (count - place.archive) place.archives.now }
+    ensures next { MatchOption result (¬ IsNext (version_number version) count place.entry.archive place.entry.offset place.entry.archives.now message)
+        (λ p. IsNext (version_number version) count place.entry.archive place.entry.offset place.entry.archives.now message × (p.archive ≡ message.archive)
         × (p.offset ≡ message.offset + message.length)
-        × (p.archives.now ≡ behind_archives_of (message.archive - place.entry.archive) place.entry.archives.now)
-        × SpellsArchives (count - p.archive) p.archives.now) }
+        × (p.archives.now ≡ behind_archives_of (version_number version) (message.archive - place.entry.archive) place.entry.archives.now)
+        × SpellsArchives (version_number version) (count - p.archive) p.archives.now) }
 {
     if !is_behind(place.archive, place.offset, message) {
         return None;
@@ -41,8 +48,9 @@ fn behind_message<'a>(place: Place<'a>, count: u32, message: Record) -> Option<P
         place.archives,
         count - place.archive,
         message.archive - place.archive,
+        version,
     );
-    let most = first_length(archives, count - message.archive);
+    let most = first_length(archives, count - message.archive, version);
     let offset = match message.offset.checked_add(message.length) {
         Some(offset) => offset,
         None => return None,
@@ -61,10 +69,16 @@ fn behind_message<'a>(place: Place<'a>, count: u32, message: Record) -> Option<P
 }
 
 /// Whether the section is the records of so many messages in these archives, in order.
-pub(crate) fn are_records(section: &[u8], messages: u32, archives: &[u8], count: u32) -> bool
+pub(crate) fn are_records(
+    section: &[u8],
+    messages: u32,
+    archives: &[u8],
+    count: u32,
+    version: Version,
+) -> bool
     requires whole { length section.now ≡ 40 * messages }
-    requires spelled { SpellsArchives count archives.now }
-    ensures { IsTrue result ↔ AreRecords count 0 0 archives.now messages section.now }
+    requires spelled { SpellsArchives (version_number version) count archives.now }
+    ensures { IsTrue result ↔ AreRecords (version_number version) count 0 0 archives.now messages section.now }
 {
     let mut rest = section;
     let mut place = Place {
@@ -76,7 +90,7 @@ pub(crate) fn are_records(section: &[u8], messages: u32, archives: &[u8], count:
         if !is_record(rest) {
             return false;
         }
-        place = match behind_message(place, count, Record::read(rest)) {
+        place = match behind_message(place, count, Record::read(rest), version) {
             Some(behind) => behind,
             None => return false,
         };

@@ -10,6 +10,7 @@ ghost use Rattle.mail_index.specs.Signing.{Signs};
 use crate::draft::NamedArchive;
 use crate::file_out::send_parts;
 use crate::record::Record;
+use crate::version::Version;
 use mbox_cutter::{DeviceFault, Out};
 use sha2::Sha256;
 
@@ -35,7 +36,7 @@ pub fn send_counts<O: Out>(
     ensures err { OnErr result (Sends (O.taken out.old) (O.taken out.new) (concat (counted counts.now))) }
     ensures count { CountsFailures result (O.failures out.old) (O.failures out.new) }
 {
-    let version = 1u32.to_be_bytes();
+    let version = Version::newest().number().to_be_bytes();
     let archives = counts.archives.to_be_bytes();
     let messages = counts.messages.to_be_bytes();
     let keys = counts.keys.to_be_bytes();
@@ -65,7 +66,8 @@ pub fn archives_length(archives: &[NamedArchive]) -> u64
 {
     let mut total = 0;
     for archive in archives {
-        total += 12 + archive.path.len() as u64;
+        let digest = archive.digest.as_slice();
+        total += 12 + archive.path.len() as u64 + digest.len() as u64;
     }
     total
 }
@@ -87,7 +89,7 @@ pub fn send_archives<O: Out>(
     Ok(())
 }
 
-// Its length, and the length of its path before the path.
+// Its length, the length of its path before the path, and its digest.
 fn send_archive<O: Out>(
     out: &mut O,
     hasher: &mut Sha256,
@@ -104,7 +106,12 @@ fn send_archive<O: Out>(
     send_parts(
         out,
         hasher,
-        &[length.as_slice(), path_length.as_slice(), path],
+        &[
+            length.as_slice(),
+            path_length.as_slice(),
+            path,
+            archive.digest.as_slice(),
+        ],
     )
 }
 

@@ -10,9 +10,9 @@ use Rattle.mail_query.specs.Mairix.{kinds_of_letter, kinds_with, kinds_of}
 use Rattle.mail_query.specs.MairixGrammar.{is_among, kinds_named, AreLetters}
 
 abbrev are_letters : List ℕ → Bool
-are_letters letters = list_all (is_among (codes "tcfsba")) letters
+are_letters letters = list_all (is_among (codes "tcfsban")) letters
 
-letter_named : (letter : ℕ) → kinds_of_letter letter ≡ cond (is_among (codes "tcfsba") letter) (Some (kinds_named (letter ∷ []))) None
+letter_named : (letter : ℕ) → kinds_of_letter letter ≡ cond (is_among (codes "tcfsban") letter) (Some (kinds_named (letter ∷ []))) None
 letter_named letter = elim (eqb_tells letter 0x74) [
   | inl t ↦ rw (t.1) refl
   | inr t ↦ elim (eqb_tells letter 0x63) [
@@ -23,7 +23,10 @@ letter_named letter = elim (eqb_tells letter 0x74) [
         | inl s ↦ rw (s.1) refl
         | inr s ↦ elim (eqb_tells letter 0x62) [
           | inl b ↦ rw (b.1) refl
-          | inr b ↦ elim (eqb_tells letter 0x61) [ inl a ↦ rw (a.1) refl | inr a ↦ rw (t.0, c.0, f.0, s.0, b.0, a.0) refl ]
+          | inr b ↦ elim (eqb_tells letter 0x61) [
+            | inl a ↦ rw (a.1) refl
+            | inr a ↦ elim (eqb_tells letter 0x6E) [ inl n ↦ rw (n.1) refl | inr n ↦ rw (t.0, c.0, f.0, s.0, b.0, a.0, n.0) refl ]
+          ]
         ]
       ]
     ]
@@ -43,6 +46,7 @@ union-named kinds letter letters = λ i. record {
   from = or_steps kinds.from (is_among (codes "fa") letter) (list_any (is_among (codes "fa")) letters) i;
   subject = or_steps kinds.subject (is_among (codes "s") letter) (list_any (is_among (codes "s")) letters) i;
   body = or_steps kinds.body (is_among (codes "b") letter) (list_any (is_among (codes "b")) letters) i;
+  name = or_steps kinds.name (is_among (codes "n") letter) (list_any (is_among (codes "n")) letters) i;
   own_id = or_steps kinds.own_id false false i;
 }
 
@@ -54,6 +58,7 @@ union-none kinds = λ i. record {
   from = or-false kinds.from i;
   subject = or-false kinds.subject i;
   body = or-false kinds.body i;
+  name = or-false kinds.name i;
   own_id = or-false kinds.own_id i;
 }
 
@@ -61,7 +66,7 @@ with_named : (kinds : Kinds) (letters : List ℕ) → kinds_with kinds letters �
 with_named kinds [] = ap Some (sym (union-none kinds))
 with_named kinds (letter ∷ letters) =
     ap (option_and_then (λ more. kinds_with (union kinds more) letters)) (letter_named letter)
-    ∙ go (is_among (codes "tcfsba") letter) (with_named (union kinds (kinds_named (letter ∷ []))) letters)
+    ∙ go (is_among (codes "tcfsban") letter) (with_named (union kinds (kinds_named (letter ∷ []))) letters)
   where
     go : (t : Bool) → kinds_with (union kinds (kinds_named (letter ∷ []))) letters ≡ cond (are_letters letters) (Some (union (union kinds (kinds_named (letter ∷ []))) (kinds_named letters))) None
         → option_and_then (λ more. kinds_with (union kinds more) letters) (cond t (Some (kinds_named (letter ∷ []))) None) ≡ cond (t && are_letters letters) (Some (union kinds (kinds_named (letter ∷ letters)))) None

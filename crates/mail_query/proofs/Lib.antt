@@ -5,6 +5,7 @@ pub mod Digits
 pub mod FlagLemmas
 pub mod SizeLemmas
 pub mod NodeLemmas
+pub mod NameLemmas
 pub mod PatternLemmas
 pub mod DepthLemmas
 pub mod TokenLemmas

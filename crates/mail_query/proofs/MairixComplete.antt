@@ -165,11 +165,11 @@ module _ (lexicon : Lexicon) (plain : HasNoSigns lexicon) where
       go false h d = h
 
   -- letters have no `:`
-  letters_free : (letters : List ℕ) → list_all (is_among (codes "tcfsba")) letters ≡ true → Free 0x3A letters
+  letters_free : (letters : List ℕ) → list_all (is_among (codes "tcfsban")) letters ≡ true → Free 0x3A letters
   letters_free [] h = refl
   letters_free (letter ∷ letters) h =
-      let parts = and_parts (is_among (codes "tcfsba") letter) (list_all (is_among (codes "tcfsba")) letters) h in
-      or_from (eqb letter 0x3A) (list_any (is_byte 0x3A) letters) (other_byte letter 0x3A (λ e. let same = ap (is_among (codes "tcfsba")) e in let named = parts.0 in cc)) (letters_free letters parts.1)
+      let parts = and_parts (is_among (codes "tcfsban") letter) (list_all (is_among (codes "tcfsban")) letters) h in
+      or_from (eqb letter 0x3A) (list_any (is_byte 0x3A) letters) (other_byte letter 0x3A (λ e. let same = ap (is_among (codes "tcfsban")) e in let named = parts.0 in cc)) (letters_free letters parts.1)
 
   prefixed_letters : (letters rest : List ℕ) (kinds : Kinds) → kinds_of letters ≡ Some kinds → prefixed_query lexicon letters rest ≡ rest_query (word_forms lexicon kinds) rest
   prefixed_letters letters rest kinds e =

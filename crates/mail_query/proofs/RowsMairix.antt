@@ -293,7 +293,7 @@ row_71 : patterns_query toy ((codes "afb:X/y") ∷ []) ≡ Ok (Either (More (Wor
 unfolding size_of sizes_of flags_of
 row_71 = refl
 
-row_72 : patterns_query toy ((codes "n:x") ∷ []) ≡ Err (record { number = 1; kind = BadPrefix })
+row_72 : patterns_query toy ((codes "n:x") ∷ []) ≡ Ok (Word (record no_kinds { name = true }) (codes "x"))
 unfolding size_of sizes_of flags_of
 row_72 = refl
 
@@ -868,3 +868,71 @@ row_214 = refl
 row_215 : patterns_query toy ((codes "d:<2okok=") ∷ []) ≡ Err (record { number = 1; kind = BadDate })
 unfolding size_of sizes_of flags_of
 row_215 = refl
+
+row_216 : patterns_query toy ((codes "n:report") ∷ []) ≡ Ok (Word (record no_kinds { name = true }) (codes "report"))
+unfolding size_of sizes_of flags_of
+row_216 = refl
+
+row_217 : patterns_query toy ((codes "ns:rep=") ∷ []) ≡ Ok (Part (record no_kinds { subject = true; name = true }) (codes "rep"))
+unfolding size_of sizes_of flags_of
+row_217 = refl
+
+row_218 : patterns_query toy ((codes "sn:^rep=") ∷ []) ≡ Ok (Prefix (record no_kinds { subject = true; name = true }) (codes "rep"))
+unfolding size_of sizes_of flags_of
+row_218 = refl
+
+row_219 : patterns_query toy ((codes "nn:pdf") ∷ []) ≡ Ok (Word (record no_kinds { name = true }) (codes "pdf"))
+unfolding size_of sizes_of flags_of
+row_219 = refl
+
+row_220 : patterns_query toy ((codes "n:annual,pdf") ∷ []) ≡ Ok (All (More (Word (record no_kinds { name = true }) (codes "annual")) (More (Word (record no_kinds { name = true }) (codes "pdf")) End)))
+unfolding size_of sizes_of flags_of
+row_220 = refl
+
+row_221 : patterns_query toy ((codes "n:~pdf") ∷ []) ≡ Ok (Not (Word (record no_kinds { name = true }) (codes "pdf")))
+unfolding size_of sizes_of flags_of
+row_221 = refl
+
+row_222 : patterns_query toy ((codes "n:") ∷ []) ≡ Err (record { number = 1; kind = BadWord })
+unfolding size_of sizes_of flags_of
+row_222 = refl
+
+row_223 : patterns_query toy ((codes "mn:report") ∷ []) ≡ Err (record { number = 1; kind = BadPrefix })
+unfolding size_of sizes_of flags_of
+row_223 = refl
+
+row_224 : patterns_query toy ((codes "nm:report") ∷ []) ≡ Err (record { number = 1; kind = BadPrefix })
+unfolding size_of sizes_of flags_of
+row_224 = refl
+
+row_225 : patterns_query toy ((codes "nd:ok") ∷ []) ≡ Err (record { number = 1; kind = BadPrefix })
+unfolding size_of sizes_of flags_of
+row_225 = refl
+
+row_226 : patterns_query toy ((codes "Fn:s") ∷ []) ≡ Err (record { number = 1; kind = BadPrefix })
+unfolding size_of sizes_of flags_of
+row_226 = refl
+
+row_227 : patterns_query toy ((codes "nz:1-") ∷ []) ≡ Err (record { number = 1; kind = BadPrefix })
+unfolding size_of sizes_of flags_of
+row_227 = refl
+
+row_228 : patterns_query toy ((codes "N:x") ∷ []) ≡ Err (record { number = 1; kind = BadPrefix })
+unfolding size_of sizes_of flags_of
+row_228 = refl
+
+row_229 : patterns_query toy ((codes "n:x=1") ∷ []) ≡ Err (record { number = 1; kind = Approximate })
+unfolding size_of sizes_of flags_of
+row_229 = refl
+
+row_230 : patterns_query toy ((codes "report") ∷ []) ≡ Ok (Word (record no_kinds { to = true; cc = true; from = true; subject = true; body = true }) (codes "report"))
+unfolding size_of sizes_of flags_of
+row_230 = refl
+
+row_231 : patterns_query toy ((codes "tcfsban:x") ∷ []) ≡ Ok (Word (record no_kinds { to = true; cc = true; from = true; subject = true; body = true; name = true }) (codes "x"))
+unfolding size_of sizes_of flags_of
+row_231 = refl
+
+row_232 : patterns_query toy ((codes "an:x") ∷ (codes "n:y") ∷ []) ≡ Ok (All (More (Word (record no_kinds { to = true; cc = true; from = true; name = true }) (codes "x")) (More (Word (record no_kinds { name = true }) (codes "y")) End)))
+unfolding size_of sizes_of flags_of
+row_232 = refl

@@ -1,14 +1,14 @@
 -- Which messages satisfy which queries.
 use Rattle.std.specs.Prelude.{◌≡◌, List, ℕ, [], ◌∷◌, codes, None, Some, refl, true, false}
 use Rattle.mail_words.specs.declared.kind.TextKind.{TextKind}
-use Rattle.mail_words.specs.declared.kind.TextKind.TheVariants.{To, Cc, Bcc, From, Subject, Body}
+use Rattle.mail_words.specs.declared.kind.TextKind.TheVariants.{To, Cc, Bcc, From, Subject, Body, Name}
 use Rattle.mail_words.specs.declared.flags.Flag.TheVariants.{Seen, Replied, Flagged}
 use Rattle.mail_query.specs.declared.kinds.Kinds.{Kinds}
 use Rattle.mail_query.specs.Kinds.{no_kinds}
-use Rattle.mail_query.specs.Query.{Any, Word, Part, Prefix, Date, Size, HasFlag, Not, All, Either, End, More}
+use Rattle.mail_query.specs.Query.{Any, Word, Part, Prefix, Date, Size, HasFlag, Not, All, Either, End, More, uses_names}
 use Rattle.mail_query.specs.Truth.{Facts, is_true}
 
--- from Alice <alice@example.org>, to bob@x, blind copy to carol, of 19 bytes, seen, without a date
+-- from Alice <alice@example.org>, to bob@x, blind copy to carol, with an attached report.pdf, of 19 bytes, seen, without a date
 abbrev words : TextKind → List (List ℕ)
 words From = codes "alice" ∷ codes "alice" ∷ codes "alice@example.org" ∷ codes "example" ∷ codes "org" ∷ []
 words To = codes "bob" ∷ codes "bob@x" ∷ codes "x" ∷ []
@@ -16,6 +16,7 @@ words Bcc = codes "carol" ∷ []
 words Cc = []
 words Subject = []
 words Body = []
+words Name = codes "report" ∷ codes "report.pdf" ∷ codes "pdf" ∷ []
 
 abbrev letter : Facts
 letter = record {
@@ -37,6 +38,9 @@ to_cc = record no_kinds { to = true; cc = true }
 
 abbrev plain : Kinds
 plain = record no_kinds { to = true; cc = true; from = true; subject = true; body = true }
+
+abbrev names : Kinds
+names = record no_kinds { name = true }
 
 abbrev own : Kinds
 own = record no_kinds { own_id = true }
@@ -77,6 +81,13 @@ another_kind = refl
 a_blind_copy : is_true (Word plain (codes "carol")) letter ≡ false
 a_blind_copy = refl
 
+the_name_of_a_part : is_true (Word names (codes "report")) letter ≡ true
+the_name_of_a_part = refl
+
+-- nor names of parts
+a_name_without_its_prefix : is_true (Word plain (codes "report")) letter ≡ false
+a_name_without_its_prefix = refl
+
 an_id_as_written : is_true (Word own (codes "1@X")) letter ≡ true
 an_id_as_written = refl
 
@@ -85,6 +96,14 @@ an_id_in_another_case = refl
 
 an_id_is_no_word : is_true (Word plain (codes "1@X")) letter ≡ false
 an_id_is_no_word = refl
+
+-- ---- names that a query uses
+
+names_in_a_member : uses_names (All (More (Word plain (codes "report")) (More (Not (Part names (codes "rep"))) End))) ≡ true
+names_in_a_member = refl
+
+no_names_in_two : uses_names (Either (More (Word plain (codes "report")) (More (Word own (codes "1@X")) End))) ≡ false
+no_names_in_two = refl
 
 -- ---- no kind of a group has it
 

@@ -63,9 +63,9 @@ with_field (Some field.Date) fields = record fields { date = true }
 
 -- ---- what a term asks
 
--- without a prefix: in all six kinds
-abbrev pub every_kind : Kinds
-every_kind = record no_kinds { to = true; cc = true; bcc = true; from = true; subject = true; body = true }
+-- without a prefix: in each kind of text but names of parts
+abbrev pub bare_kinds : Kinds
+bare_kinds = record no_kinds { to = true; cc = true; bcc = true; from = true; subject = true; body = true }
 
 abbrev pub is_phrase : List ℕ → Bool
 is_phrase term = list_any (is_byte 0x22) term
@@ -96,7 +96,7 @@ module _ (lexicon : Lexicon) where
   abbrev pub bare_query : List ℕ → Result Query QueryFaultKind
   bare_query term =
       if bytes_eq term (codes "*") then Ok Any
-      else (if str_eq_ignore_ascii_case term (codes "xor") then Err BadWord else word_query every_kind term)
+      else (if str_eq_ignore_ascii_case term (codes "xor") then Err BadWord else word_query bare_kinds term)
 
   abbrev pub parts_query : Option Field → List ℕ → Result Query QueryFaultKind
   parts_query None term = bare_query term

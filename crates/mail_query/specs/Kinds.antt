@@ -1,7 +1,7 @@
 -- Sets of the kinds of text.
 use Rattle.std.specs.Prelude.{Bool, false, ◌||◌}
 use Rattle.mail_words.specs.declared.kind.TextKind.{TextKind}
-use Rattle.mail_words.specs.declared.kind.TextKind.TheVariants.{To, Cc, Bcc, From, Subject, Body}
+use Rattle.mail_words.specs.declared.kind.TextKind.TheVariants.{To, Cc, Bcc, From, Subject, Body, Name}
 use Rattle.mail_query.specs.declared.kinds.Kinds.{Kinds}
 
 abbrev pub has_kind : Kinds → TextKind → Bool
@@ -11,10 +11,11 @@ has_kind kinds Bcc = kinds.bcc
 has_kind kinds From = kinds.from
 has_kind kinds Subject = kinds.subject
 has_kind kinds Body = kinds.body
+has_kind kinds Name = kinds.name
 
 abbrev pub no_kinds : Kinds
 no_kinds =
-    record { to = false; cc = false; bcc = false; from = false; subject = false; body = false; own_id = false }
+    record { to = false; cc = false; bcc = false; from = false; subject = false; body = false; name = false; own_id = false }
 
 -- what is in one set or the other
 abbrev pub union : Kinds → Kinds → Kinds
@@ -25,5 +26,6 @@ union a b = record {
   from = a.from || b.from;
   subject = a.subject || b.subject;
   body = a.body || b.body;
+  name = a.name || b.name;
   own_id = a.own_id || b.own_id;
 }

@@ -18,7 +18,7 @@ use Rattle.mail_query.specs.Flags.{flags_of}
 
 -- ---- where words are sought
 
--- without a prefix: in five of the six kinds
+-- without a prefix: in five of the seven kinds, neither in blind copies nor in names of parts
 abbrev pub plain_kinds : Kinds
 plain_kinds = record no_kinds { to = true; cc = true; from = true; subject = true; body = true }
 
@@ -30,7 +30,8 @@ kinds_of_letter letter =
     else (if letter == 0x73 then Some (record no_kinds { subject = true })
     else (if letter == 0x62 then Some (record no_kinds { body = true })
     else (if letter == 0x61 then Some (record no_kinds { to = true; cc = true; from = true })
-    else None)))))
+    else (if letter == 0x6E then Some (record no_kinds { name = true })
+    else None))))))
 
 -- these kinds, and those of the letters
 abbrev pub kinds_with : Kinds → List ℕ → Option Kinds

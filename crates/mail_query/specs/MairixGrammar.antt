@@ -16,7 +16,7 @@ use Rattle.mail_query.specs.Mairix.{Forms, plain_kinds, is_sign, id_forms, word_
 abbrev pub is_among : List ℕ → ℕ → Bool
 is_among letters letter = list_any (λ b. letter == b) letters
 
--- each kind that some letter names: `t` To, `c` Cc, `f` From, `s` Subject, `b` Body, `a` To, Cc and From
+-- each kind that some letter names: `t` To, `c` Cc, `f` From, `s` Subject, `b` Body, `a` To, Cc and From, `n` Name
 abbrev pub kinds_named : List ℕ → Kinds
 kinds_named letters = record {
   to = list_any (is_among (codes "ta")) letters;
@@ -25,6 +25,7 @@ kinds_named letters = record {
   from = list_any (is_among (codes "fa")) letters;
   subject = list_any (is_among (codes "s")) letters;
   body = list_any (is_among (codes "b")) letters;
+  name = list_any (is_among (codes "n")) letters;
   own_id = false;
 }
 
@@ -54,10 +55,10 @@ pub data IsAll (forms : Forms) : List ℕ → Query → Type 0 where
 pub data IsRest (forms : Forms) : List ℕ → Query → Type 0 where
   SomeAll : (text : List ℕ) (qs : List Query) → Separated 0x2F (IsAll forms) text qs → IsRest forms text (either_of qs)
 
--- letters = 1*("t" / "c" / "f" / "s" / "b" / "a")
+-- letters = 1*("t" / "c" / "f" / "s" / "b" / "a" / "n")
 pub record AreLetters (text : List ℕ) : Type 0 where
   pub some : 1 ≤ length text
-  pub letters : list_all (is_among (codes "tcfsba")) text ≡ true
+  pub letters : list_all (is_among (codes "tcfsban")) text ≡ true
 
 -- pattern = rest | letters ":" rest | "m:" rest | "d:" dates | "z:" sizes | "F:" flags, where a rest alone has no `:`
 pub data IsPattern (lexicon : Lexicon) : List ℕ → Query → Type 0 where

@@ -1,5 +1,6 @@
 -- Queries: what is asked of a message, without where it lies in memory.
-use Rattle.std.specs.Prelude.{ℕ, suc, max, Bool, List, [], ◌∷◌, map, Option}
+use Rattle.std.specs.Prelude.{ℕ, suc, max, Bool, List, [], ◌∷◌, ◌++◌, map, Option}
+use Rattle.std.specs.List.{list_any}
 use Rattle.mail_words.specs.declared.flags.Flag.{Flag}
 use Rattle.mail_dates.specs.declared.range.Range.{Range}
 use Rattle.mail_query.specs.declared.kinds.Kinds.{Kinds}
@@ -51,6 +52,28 @@ abbrev mutual
   pub deepest : Queries → ℕ
   deepest End = 0
   deepest (More q qs) = max (depth q) (deepest qs)
+
+-- the sets of kinds in which a query seeks its texts
+abbrev mutual
+  pub kinds_sought : Query → List Kinds
+  kinds_sought (Word kinds text) = kinds ∷ []
+  kinds_sought (Part kinds text) = kinds ∷ []
+  kinds_sought (Prefix kinds text) = kinds ∷ []
+  kinds_sought (Not q) = kinds_sought q
+  kinds_sought (All qs) = kinds_inside qs
+  kinds_sought (Either qs) = kinds_inside qs
+  kinds_sought _ = []
+
+  pub kinds_inside : Queries → List Kinds
+  kinds_inside End = []
+  kinds_inside (More q qs) = kinds_sought q ++ kinds_inside qs
+
+-- some of these sets has the names of parts
+abbrev pub have_names : List Kinds → Bool
+have_names sets = list_any (λ kinds. kinds.name) sets
+
+abbrev pub uses_names : Query → Bool
+uses_names q = have_names (kinds_sought q)
 
 -- ---- what a node asks
 

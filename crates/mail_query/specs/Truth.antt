@@ -3,7 +3,7 @@ use Rattle.std.specs.Prelude.{ℕ, ℤ, Bool, true, false, not, ◌&&◌, ◌||�
 use Rattle.std.specs.List.{list_any, starts_with}
 use Rattle.std.specs.Option.{option_map_or}
 use Rattle.mail_words.specs.declared.kind.TextKind.{TextKind}
-use Rattle.mail_words.specs.declared.kind.TextKind.TheVariants.{To, Cc, Bcc, From, Subject, Body}
+use Rattle.mail_words.specs.declared.kind.TextKind.TheVariants.{To, Cc, Bcc, From, Subject, Body, Name}
 use Rattle.mail_words.specs.declared.flags.Flag.{Flag}
 use Rattle.mail_words.specs.declared.flags.Flag.TheVariants.{Seen, Replied, Flagged}
 use Rattle.mail_words.specs.declared.flags.Flags.{Flags}
@@ -20,8 +20,16 @@ pub record Facts : Type 0 where
   pub size : ℕ
   pub flags : Flags
 
+-- the message, as if its parts had no names
+abbrev pub words_but_names : (TextKind → List (List ℕ)) → TextKind → List (List ℕ)
+words_but_names words Name = []
+words_but_names words kind = words kind
+
+abbrev pub without_names : Facts → Facts
+without_names m = record m { words = words_but_names m.words }
+
 abbrev pub text_kinds : List TextKind
-text_kinds = To ∷ Cc ∷ Bcc ∷ From ∷ Subject ∷ Body ∷ []
+text_kinds = To ∷ Cc ∷ Bcc ∷ From ∷ Subject ∷ Body ∷ Name ∷ []
 
 -- some word of one of the kinds passes
 abbrev pub some_word : (List ℕ → Bool) → Kinds → Facts → Bool

@@ -3,7 +3,7 @@ ghost use Rattle.std.specs.Prelude.{◌≡◌};
 
 use mail_words::TextKind;
 
-/// A set of the six kinds of text and a message's own id.
+/// A set of the seven kinds of text and a message's own id.
 #[derive(Clone, Copy, Debug, PartialEq, Eq)]
 pub struct Kinds {
     pub to: bool,
@@ -12,6 +12,7 @@ pub struct Kinds {
     pub from: bool,
     pub subject: bool,
     pub body: bool,
+    pub name: bool,
     pub own_id: bool,
 }
 
@@ -26,6 +27,7 @@ impl Kinds {
         from: false,
         subject: false,
         body: false,
+        name: false,
         own_id: false,
     };
 
@@ -40,6 +42,7 @@ impl Kinds {
             TextKind::From => self.from,
             TextKind::Subject => self.subject,
             TextKind::Body => self.body,
+            TextKind::Name => self.name,
         }
     }
 
@@ -54,6 +57,7 @@ impl Kinds {
             from: self.from || other.from,
             subject: self.subject || other.subject,
             body: self.body || other.body,
+            name: self.name || other.name,
             own_id: self.own_id || other.own_id,
         }
     }

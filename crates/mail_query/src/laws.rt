@@ -1,11 +1,12 @@
 //! Laws of both languages: a grammar and what its reader answers are one, and of the boolean language its faults by places
-//! too.
-ghost use Rattle.std.specs.Prelude.{◌≡◌, ◌↔◌, ℕ, List, Option, Some, None, Ok, Err};
+//! too. A query asks nothing of names that it doesn't use.
+ghost use Rattle.std.specs.Prelude.{◌≡◌, ◌↔◌, ℕ, List, Option, false, Some, None, Ok, Err};
 ghost use Rattle.std.specs.List.{All};
 ghost use Rattle.std.specs.Str.{IsUtf8};
 ghost use Rattle.mail_dates.specs.declared.range.Range.{Range};
 ghost use Rattle.mail_query.specs.declared.fault.QueryFault.{QueryFault};
-ghost use Rattle.mail_query.specs.Query.{Query};
+ghost use Rattle.mail_query.specs.Query.{Query, uses_names};
+ghost use Rattle.mail_query.specs.Truth.{Facts, without_names, is_true};
 ghost use Rattle.mail_query.specs.Lexicon.{Lexicon};
 ghost use Rattle.mail_query.specs.Mairix.{pattern_query, patterns_query};
 ghost use Rattle.mail_query.specs.MairixGrammar.{IsPattern, IsAsked, HasNoSigns};
@@ -60,4 +61,9 @@ pub fn words_of_mail_have_no_signs()
 /// What patterns ask of mail is what the grammar relates to them.
 pub fn patterns_of_mail_are_read_as_the_grammar_says()
     ensures { (patterns : List (List ℕ)) (now : ℕ) (q : Query) → All IsUtf8 patterns → (mairix_query patterns now ≡ Ok q) ↔ IsAsked (pattern_lexicon now) patterns q }
+{}
+
+/// A query that doesn't use names of parts is answered alike as if a message's parts had none.
+pub fn names_count_only_where_they_are_asked()
+    ensures { (q : Query) (m : Facts) → uses_names q ≡ false → is_true q (without_names m) ≡ is_true q m }
 {}

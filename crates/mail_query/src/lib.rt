@@ -33,10 +33,10 @@ pub use boolean::read_boolean;
 mod laws;
 
 pub use laws::{
-    a_pattern_is_read_as_the_grammar_says, patterns_are_read_as_the_grammar_says,
-    patterns_of_mail_are_read_as_the_grammar_says, the_answer_is_what_is_read,
-    the_refusal_is_the_first_fault, what_is_no_pattern_is_refused, what_is_read_shows_no_fault,
-    what_shows_no_fault_is_read, words_of_mail_have_no_signs,
+    a_pattern_is_read_as_the_grammar_says, names_count_only_where_they_are_asked,
+    patterns_are_read_as_the_grammar_says, patterns_of_mail_are_read_as_the_grammar_says,
+    the_answer_is_what_is_read, the_refusal_is_the_first_fault, what_is_no_pattern_is_refused,
+    what_is_read_shows_no_fault, what_shows_no_fault_is_read, words_of_mail_have_no_signs,
 };
 
 mod flags;

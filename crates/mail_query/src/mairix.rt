@@ -24,7 +24,7 @@ use crate::size::sizes_of;
 use mail_dates::{Moment, range_of};
 use std::alloc::Global;
 
-/// Where a pattern without a prefix is sought: in five of the six kinds.
+/// Where a pattern without a prefix is sought: in five of the seven kinds, neither in blind copies nor in names of parts.
 const PLAIN_KINDS: Kinds = Kinds {
     to: true,
     cc: true,
@@ -147,6 +147,10 @@ fn kinds_of_letter(letter: u8) -> Option<Kinds>
             to: true,
             cc: true,
             from: true,
+            ..Kinds::NONE
+        }),
+        b'n' => Some(Kinds {
+            name: true,
             ..Kinds::NONE
         }),
         _ => None,

@@ -1,6 +1,6 @@
 //! A query as a whole.
 ghost use Rattle.std.specs.Prelude.{◌≡◌, ◌≤◌};
-ghost use Rattle.mail_query.specs.Query.{query_of, depth};
+ghost use Rattle.mail_query.specs.Query.{query_of, depth, uses_names};
 
 use crate::node::Node;
 
@@ -36,6 +36,13 @@ impl Query {
     {
         depth_of(&self.root)
     }
+
+    /// Whether it asks for names of parts: whether some set of kinds in it has them.
+    pub fn uses_names(&self) -> bool
+        ensures { result ≡ uses_names (meaning self.now) }
+    {
+        has_names(&self.root)
+    }
 }
 
 fn depth_of(node: &Node) -> u32
@@ -52,5 +59,26 @@ fn depth_of(node: &Node) -> u32
             deepest + 1
         }
         _ => 1,
+    }
+}
+
+/// Whether some set of kinds in the tree has names of parts.
+fn has_names(node: &Node) -> bool
+    ensures { result ≡ uses_names (query_of node.now) }
+{
+    match node {
+        Node::Word { kinds, .. } | Node::Part { kinds, .. } | Node::Prefix { kinds, .. } => {
+            kinds.name
+        }
+        Node::Not(inner) => has_names(inner),
+        Node::All(members) | Node::Either(members) => {
+            for member in members {
+                if has_names(member) {
+                    return true;
+                }
+            }
+            false
+        }
+        _ => false,
     }
 }

@@ -1,6 +1,6 @@
 //! The texts of a message that are searched apart from one another.
 
-/// Which text of a message a word stands in: one of five header fields (RFC 5322 3.6), or the body.
+/// Which text of a message a word stands in: one of five header fields (RFC 5322 3.6), the body, or the name of a part (RFC 2183 2.3).
 ///
 /// The kinds have no order.
 #[derive(Clone, Copy, Debug, PartialEq, Eq)]
@@ -17,4 +17,6 @@ pub enum TextKind {
     Subject,
     /// The lines of the parts that are text.
     Body,
+    /// The name under which a part is to be kept as a file.
+    Name,
 }

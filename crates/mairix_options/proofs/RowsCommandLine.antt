@@ -7,7 +7,7 @@ use Rattle.mairix_options.specs.declared.command_line.UsageFault.TheVariants.{Pa
 
 -- the plan of an rcfile and patterns, without any other option
 abbrev plain : List ℕ → List (List ℕ) → Plan
-plain rcfile patterns = record { rcfile = rcfile; raw = false; excerpt = false; threads = false; mfolder = None; stdout = false; boolean = false; once = false; patterns = patterns }
+plain rcfile patterns = record { rcfile = rcfile; raw = false; excerpt = false; threads = false; mfolder = None; stdout = false; boolean = false; once = false; verify = false; patterns = patterns }
 
 rcfile_alone : plan (codes "-f" ∷ codes "rc" ∷ []) ≡ Ok (plain (codes "rc") ([]))
 unfolding parse plan clap_on_literals
@@ -133,6 +133,18 @@ raw_twice_in_a_bundle : plan (codes "-f" ∷ codes "rc" ∷ codes "-rr" ∷ []) 
 unfolding parse plan clap_on_literals
 raw_twice_in_a_bundle = refl
 
+verify_behind_a_pattern : plan (codes "-frc" ∷ codes "s:a" ∷ codes "--verify" ∷ []) ≡ Ok (record (plain (codes "rc") (codes "s:a" ∷ [])) { verify = true })
+unfolding parse plan clap_on_literals
+verify_behind_a_pattern = refl
+
+verify_twice : plan (codes "-f" ∷ codes "rc" ∷ codes "--verify" ∷ codes "--verify" ∷ []) ≡ Err Parse
+unfolding parse plan clap_on_literals
+verify_twice = refl
+
+value_of_verify : plan (codes "-f" ∷ codes "rc" ∷ codes "--verify=1" ∷ []) ≡ Err Parse
+unfolding parse plan clap_on_literals
+value_of_verify = refl
+
 once_twice : plan (codes "-f" ∷ codes "rc" ∷ codes "--once" ∷ codes "--once" ∷ []) ≡ Err Parse
 unfolding parse plan clap_on_literals
 once_twice = refl
@@ -189,7 +201,7 @@ version_before_help : plan (codes "-V" ∷ codes "-h" ∷ []) ≡ Err Version
 unfolding parse plan clap_on_literals
 version_before_help = refl
 
-every_option : plan (codes "-f" ∷ codes "rc" ∷ codes "-rt" ∷ codes "-o" ∷ codes "hits" ∷ codes "--stdout" ∷ codes "--boolean" ∷ codes "--once" ∷ codes "a or b" ∷ []) ≡ Ok (record (plain (codes "rc") (codes "a or b" ∷ [])) { raw = true; threads = true; mfolder = Some (codes "hits"); stdout = true; boolean = true; once = true })
+every_option : plan (codes "-f" ∷ codes "rc" ∷ codes "-rt" ∷ codes "-o" ∷ codes "hits" ∷ codes "--stdout" ∷ codes "--boolean" ∷ codes "--once" ∷ codes "--verify" ∷ codes "a or b" ∷ []) ≡ Ok (record (plain (codes "rc") (codes "a or b" ∷ [])) { raw = true; threads = true; mfolder = Some (codes "hits"); stdout = true; boolean = true; once = true; verify = true })
 unfolding parse plan clap_on_literals
 every_option = refl
 

@@ -49,13 +49,14 @@ command_of_formats = fold with_rule bare_command
     ∷ short_flag (codes "threads") (byte "t")
     ∷ [])
 
--- `mairix -f RCFILE [-r] [-x] [-t] [-o NAME] [--stdout] [--boolean] [--once] [PATTERN..]`
+-- `mairix -f RCFILE [-r] [-x] [-t] [-o NAME] [--stdout] [--boolean] [--once] [--verify] [PATTERN..]`
 abbrev pub command : App
 command = fold with_rule command_of_formats
     (mfolder_option
     ∷ long_flag (codes "stdout")
     ∷ long_flag (codes "boolean")
     ∷ long_flag (codes "once")
+    ∷ long_flag (codes "verify")
     ∷ pattern_argument
     ∷ [])
 
@@ -75,6 +76,7 @@ plan_of_rows rows = record {
   stdout = flag (codes "stdout") rows;
   boolean = flag (codes "boolean") rows;
   once = flag (codes "once") rows;
+  verify = flag (codes "verify") rows;
   patterns = unwrap_or (all_of (codes "pattern") rows) [];
 }
 

@@ -29,6 +29,8 @@ pub struct Plan {
     pub boolean: bool,
     /// Whether the index is made in memory.
     pub once: bool,
+    /// Whether the archives are proved to be those that were indexed.
+    pub verify: bool,
     /// What to search for, in the order of the words.
     pub patterns: Texts,
 }
@@ -77,10 +79,10 @@ impl<T: Drop> From<AllocFailed<T>> for UsageFault {
 
 /// What the words after the program's name ask for.
 ///
-/// The command is `mairix -f RCFILE [-r] [-x] [-t] [-o NAME] [--stdout] [--boolean] [--once] [PATTERN..]`, with `-h`, `--help`,
-/// `-V` and `--version`. What clap takes of it counts: values attached as `-fRCFILE` or `-f=RCFILE`, bundles as `-rfRCFILE`,
-/// options behind patterns or between them, `--` before patterns that begin with `-`, and `-` as a pattern. Behind `--` each
-/// word is a pattern. An option stands once at most.
+/// The command is `mairix -f RCFILE [-r] [-x] [-t] [-o NAME] [--stdout] [--boolean] [--once] [--verify] [PATTERN..]`, with `-h`,
+/// `--help`, `-V` and `--version`. What clap takes of it counts: values attached as `-fRCFILE` or `-f=RCFILE`, bundles as
+/// `-rfRCFILE`, options behind patterns or between them, `--` before patterns that begin with `-`, and `-` as a pattern. Behind
+/// `--` each word is a pattern. An option stands once at most, and beside any other but `-r` beside `-x`.
 ///
 /// # Errors
 ///
@@ -139,6 +141,7 @@ fn planned(alloc: Global, matches: &ArgMatches<'_>) -> Result<Plan, AllocError>
         stdout: is_set(matches, "stdout"),
         boolean: is_set(matches, "boolean"),
         once: is_set(matches, "once"),
+        verify: is_set(matches, "verify"),
         patterns: texts_of(alloc, matches, "pattern")?,
     })
 }
@@ -212,7 +215,15 @@ fn command<'a>(alloc: Global) -> Result<Command<'a>, AllocError>
         boolean,
         long_flag(alloc, "once", "Index in memory, then search"),
     )?;
-    with(once, pattern_argument(alloc))
+    let verify = with(
+        once,
+        long_flag(
+            alloc,
+            "verify",
+            "Read the archives and prove that they are those that were indexed",
+        ),
+    )?;
+    with(verify, pattern_argument(alloc))
 }
 
 /// The command up to what its answers are and hold.

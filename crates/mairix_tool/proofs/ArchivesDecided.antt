@@ -11,7 +11,6 @@ use Rattle.mairix_tool.specs.declared.fault.Fault.TheVariants.{Archive, TooMany}
 use Rattle.index_job.specs.ArchiveRefusals.{most_in_archive, most_in_index, AreSound, IsTooMuch, IsWithinLimit}
 use Rattle.index_job.specs.ArchiveTables.{Mbox, table, entry_of}
 use Rattle.mairix_tool.specs.ArchivesIndexed.{Parted, Refuses}
-use Rattle.mairix_tool.specs.Replies.{refused}
 
 -- ---- one archive more
 

@@ -6,9 +6,9 @@ use Rattle.mail_index.specs.declared.fault.IndexFault.{IndexFault}
 use Rattle.mail_index.specs.declared.fault.IndexFault.TheVariants.{TooShort, BadMagic, BadVersion, BadDigest, BadLayout}
 use Rattle.mail_index.specs.declared.fault.Section.TheVariants.{Counts, Archives, Records, Directory, Postings}
 use Rattle.mail_index.specs.declared.record.Record.{Record}
-use Rattle.mail_index.specs.Fields.{u32_at}
-use Rattle.mail_index.specs.Faults.{IsFirstFault, HasDigest, IsSigned, HasCounts, HasArchives, HasRecords, HasDirectory, digest_start}
-use Rattle.mail_index.specs.Files.{magic, version, archive_bytes, record_bytes, Entry}
+use Rattle.mail_index.specs.Faults.{IsFirstFault, HasDigest, IsSigned, HasCounts, HasArchives, HasRecords, HasDirectory, digest_start, version_told}
+use Rattle.mail_index.specs.Versions.{IsVersion}
+use Rattle.mail_index.specs.Files.{magic, archive_bytes, record_bytes, Entry}
 use Rattle.mail_index.specs.Records.{read_archives, read_records}
 use Rattle.mail_index.specs.Tables.{Archive}
 use Rattle.mail_index.proofs.ArchiveReads.{archives_back}
@@ -58,21 +58,21 @@ module _ (bytes : List ℕ) (are : AreBytes bytes) where
   same-archives as' bs a b =
       let l : length as' ≡ length bs = a.counted ∙ sym b.counted in
       let e : flat_map archive_bytes as' ≡ flat_map archive_bytes bs = sym a.spelled ∙ b.spelled in
-      sym (archives_back as' a.each) ∙ (λ i. read_archives (l i) (e i)) ∙ archives_back bs b.each
+      sym (archives_back (version_told bytes) as' a.each) ∙ (λ i. read_archives (version_told bytes) (l i) (e i)) ∙ archives_back (version_told bytes) bs b.each
 
   same-records : (archives : List Archive) (ms ns : List Record) → HasRecords bytes archives ms → HasRecords bytes archives ns → ms ≡ ns
   same-records archives ms ns a b =
       let few : length archives < 2 ^ 32 = omega (arith, a.before.counted, u32_small bytes 12 are) in
       let e : flat_map record_bytes ms ≡ flat_map record_bytes ns = sym a.spelled ∙ b.spelled in
       let l : length ms ≡ length ns = omega (arith, ap length e, length_records ms, length_records ns) in
-      sym (records_back archives ms few a.before.each a.each) ∙ (λ i. read_records (l i) (e i)) ∙ records_back archives ns few b.before.each b.each
+      sym (records_back (version_told bytes) archives ms few a.before.each a.each) ∙ (λ i. read_records (l i) (e i)) ∙ records_back (version_told bytes) archives ns few b.before.each b.each
 
   -- ---- the rules, each as kept
 
   abbrev IsKept : ℕ → Type 0
   IsKept zero = 80 ≤ length bytes
   IsKept (suc zero) = take 8 bytes ≡ magic
-  IsKept (suc (suc zero)) = u32_at bytes 8 ≡ version
+  IsKept (suc (suc zero)) = IsVersion (version_told bytes)
   IsKept (suc (suc (suc zero))) = HasDigest bytes
   IsKept (suc (suc (suc (suc zero)))) = digest_start bytes + 32 ≡ length bytes
   IsKept (suc (suc (suc (suc (suc zero))))) = (archives : List Archive) × HasArchives bytes archives

@@ -12,6 +12,8 @@ pub mod AnswerReplies
 pub mod ThreadLinks
 pub mod MailSame
 pub mod OnceReplies
+pub mod OldTables
+pub mod Unaltered
 pub mod StoredReplies
 pub mod FirstFaults
 pub mod Renamed

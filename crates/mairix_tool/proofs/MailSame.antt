@@ -12,7 +12,7 @@ use Rattle.mime_text.specs.Texts.{texts_of_message}
 use Rattle.mime_text.specs.Sinks.{Pair}
 use Rattle.mime_text.specs.declared.facts.Facts.{Facts}
 use Rattle.mail_words.specs.declared.kind.TextKind.{TextKind}
-use Rattle.mail_words.specs.declared.kind.TextKind.TheVariants.{To, Cc, Bcc, From, Subject, Body}
+use Rattle.mail_words.specs.declared.kind.TextKind.TheVariants.{To, Cc, Bcc, From, Subject, Body, Name}
 use Rattle.mail_words.specs.Words.{words}
 use Rattle.mail_words.specs.Folding.{folding}
 use Rattle.mail_index.specs.declared.kind.Kind.TheVariants.{Text, LinkId}
@@ -60,6 +60,7 @@ text-no-link Bcc = refl
 text-no-link From = refl
 text-no-link Subject = refl
 text-no-link Body = refl
+text-no-link Name = refl
 
 words-no-link : (j : TextKind) (passes : List ℕ → Bool) (ws : List (List ℕ)) (more : List Term)
     → list_any (term_says LinkId passes) (map (λ w. (Text j, folding w)) ws ++ more) ≡ list_any (term_says LinkId passes) more

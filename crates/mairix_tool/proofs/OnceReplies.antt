@@ -36,7 +36,7 @@ answer-told archives s answer found =
     subst (λ (o : Option ℕ). IsStaleOr o (IsFoundIn (table archives) s (map (λ (a : Mbox). a.bytes) archives)) answer) (sym (not-stale archives))
     (found.0, chosen-back archives s found.0 found.1, found.2 ∙ ap (λ (text : List ℕ). answered text (length found.0)) (sym (shape-same archives s.format found.0)))
 
-bytes-of-mboxes : (paths bytes : List (List ℕ)) → length paths ≡ length bytes → map (λ (a : Mbox). a.bytes) (mboxes paths bytes) ≡ bytes
+pub bytes-of-mboxes : (paths bytes : List (List ℕ)) → length paths ≡ length bytes → map (λ (a : Mbox). a.bytes) (mboxes paths bytes) ≡ bytes
 bytes-of-mboxes [] [] same = refl
 bytes-of-mboxes [] (b ∷ bytes) same = absurd (omega (arith, same))
 bytes-of-mboxes (p ∷ paths) [] same = absurd (omega (arith, same))
@@ -115,6 +115,7 @@ this-fault refusal (of.Rc f) is other = cc
 this-fault refusal (of.Query f) is other = cc
 this-fault refusal (of.Archive n f) is other = cc
 this-fault refusal (of.Index f) is other = cc
+this-fault refusal of.OldIndex is other = cc
 this-fault refusal (of.Stale n) is other = cc
 this-fault refusal of.Device is other = cc
 this-fault refusal of.Out is other = cc
@@ -133,6 +134,7 @@ this-archive archives (of.Usage f) h other = elim h [ ]
 this-archive archives (of.Rc f) h other = elim h [ ]
 this-archive archives (of.Query f) h other = elim h [ ]
 this-archive archives (of.Index f) h other = elim h [ ]
+this-archive archives of.OldIndex h other = elim h [ ]
 this-archive archives (of.Stale n) h other = elim h [ ]
 this-archive archives of.Device h other = elim h [ ]
 this-archive archives of.Out h other = elim h [ ]
@@ -158,6 +160,7 @@ unindexed-early (Ok w) bytes of.Memory is early = tt
 unindexed-early (Err refusal) bytes of.Memory is early = tt
 unindexed-early asked bytes (of.Archive n f) is early = elim early [ ]
 unindexed-early asked bytes (of.Index f) is early = elim early [ ]
+unindexed-early asked bytes of.OldIndex is early = elim early [ ]
 unindexed-early asked bytes (of.Stale n) is early = elim early [ ]
 unindexed-early asked bytes of.Device is early = elim early [ ]
 unindexed-early asked bytes of.TooMany is early = elim early [ ]
@@ -203,6 +206,7 @@ last-step (Err (of.Rc f)) own = elim own [ ]
 last-step (Err (of.Query f)) own = elim own [ ]
 last-step (Err (of.Archive n f)) own = elim own [ ]
 last-step (Err (of.Index f)) own = elim own [ ]
+last-step (Err of.OldIndex) own = elim own [ ]
 last-step (Err of.TooMany) own = elim own [ ]
 
 -- and never a fault of the index
@@ -217,6 +221,7 @@ never-of-index P (Err (of.Rc f)) own = elim own [ ]
 never-of-index P (Err (of.Query f)) own = elim own [ ]
 never-of-index P (Err (of.Archive n f)) own = elim own [ ]
 never-of-index P (Err (of.Index f)) own = elim own [ ]
+never-of-index P (Err of.OldIndex) own = elim own [ ]
 never-of-index P (Err of.TooMany) own = elim own [ ]
 
 -- ---- what may be answered before the search
@@ -234,6 +239,7 @@ first-early (of.Query f) h = record { archives = refl; out = refl; once = h }
 first-early of.Memory h = record { archives = refl; out = refl; once = tt }
 first-early (of.Archive n f) h = elim h [ ]
 first-early (of.Index f) h = elim h [ ]
+first-early of.OldIndex h = elim h [ ]
 first-early (of.Stale n) h = elim h [ ]
 first-early of.Device h = elim h [ ]
 first-early of.TooMany h = elim h [ ]
@@ -247,6 +253,7 @@ first-indexing (of.Usage f) h = elim h [ ]
 first-indexing (of.Rc f) h = elim h [ ]
 first-indexing (of.Query f) h = elim h [ ]
 first-indexing (of.Index f) h = elim h [ ]
+first-indexing of.OldIndex h = elim h [ ]
 first-indexing (of.Stale n) h = elim h [ ]
 first-indexing of.Device h = elim h [ ]
 first-indexing of.Out h = elim h [ ]

@@ -12,7 +12,7 @@ use Rattle.mail_query.specs.Query.{Query}
 use Rattle.mail_query.specs.Truth.{is_true}
 use Rattle.mime_text.specs.MessageFacts.{facts_of}
 use Rattle.mime_text.specs.Texts.{texts_of_message}
-use Rattle.index_job.specs.ArchiveTables.{Mbox, messages_in, all_messages, record_of, records_from, with_messages, table}
+use Rattle.index_job.specs.ArchiveTables.{Mbox, messages_in, all_messages, record_of, records_from, with_messages}
 use Rattle.mairix_tool.specs.MailOfArchives.{Numbered, numbered_messages}
 use Rattle.mairix_tool.specs.Chosen.{facts_of_message}
 use Rattle.mairix_tool.proofs.TableTruth.{SaysTheSame, truth-same}

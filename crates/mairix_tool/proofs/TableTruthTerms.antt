@@ -5,7 +5,7 @@ use Rattle.std.specs.List.{list_any}
 use Rattle.std.proofs.Math.Bool.{or-false}
 use Rattle.std.proofs.lemmas.List.Folds.{list_any-append}
 use Rattle.mail_words.specs.declared.kind.TextKind.{TextKind}
-use Rattle.mail_words.specs.declared.kind.TextKind.TheVariants.{To, Cc, Bcc, From, Subject, Body}
+use Rattle.mail_words.specs.declared.kind.TextKind.TheVariants.{To, Cc, Bcc, From, Subject, Body, Name}
 use Rattle.mail_words.specs.Words.{words}
 use Rattle.mail_words.specs.Folding.{folding}
 use Rattle.mail_index.specs.declared.kind.Kind.{Kind}
@@ -31,36 +31,49 @@ text-kinds To Bcc = refl
 text-kinds To From = refl
 text-kinds To Subject = refl
 text-kinds To Body = refl
+text-kinds To Name = refl
 text-kinds Cc To = refl
 text-kinds Cc Cc = refl
 text-kinds Cc Bcc = refl
 text-kinds Cc From = refl
 text-kinds Cc Subject = refl
 text-kinds Cc Body = refl
+text-kinds Cc Name = refl
 text-kinds Bcc To = refl
 text-kinds Bcc Cc = refl
 text-kinds Bcc Bcc = refl
 text-kinds Bcc From = refl
 text-kinds Bcc Subject = refl
 text-kinds Bcc Body = refl
+text-kinds Bcc Name = refl
 text-kinds From To = refl
 text-kinds From Cc = refl
 text-kinds From Bcc = refl
 text-kinds From From = refl
 text-kinds From Subject = refl
 text-kinds From Body = refl
+text-kinds From Name = refl
 text-kinds Subject To = refl
 text-kinds Subject Cc = refl
 text-kinds Subject Bcc = refl
 text-kinds Subject From = refl
 text-kinds Subject Subject = refl
 text-kinds Subject Body = refl
+text-kinds Subject Name = refl
 text-kinds Body To = refl
 text-kinds Body Cc = refl
 text-kinds Body Bcc = refl
 text-kinds Body From = refl
 text-kinds Body Subject = refl
 text-kinds Body Body = refl
+text-kinds Body Name = refl
+text-kinds Name To = refl
+text-kinds Name Cc = refl
+text-kinds Name Bcc = refl
+text-kinds Name From = refl
+text-kinds Name Subject = refl
+text-kinds Name Body = refl
+text-kinds Name Name = refl
 
 -- an own id is no text
 own-no-text : (kind : TextKind) → nat_eq (kind_number OwnId) (kind_number (Text kind)) ≡ false
@@ -70,6 +83,7 @@ own-no-text Bcc = refl
 own-no-text From = refl
 own-no-text Subject = refl
 own-no-text Body = refl
+own-no-text Name = refl
 
 -- nor is a link
 link-no-text : (kind : TextKind) → nat_eq (kind_number LinkId) (kind_number (Text kind)) ≡ false
@@ -79,6 +93,7 @@ link-no-text Bcc = refl
 link-no-text From = refl
 link-no-text Subject = refl
 link-no-text Body = refl
+link-no-text Name = refl
 
 -- and a text is no own id
 text-no-own : (kind : TextKind) → nat_eq (kind_number (Text kind)) (kind_number OwnId) ≡ false
@@ -88,6 +103,7 @@ text-no-own Bcc = refl
 text-no-own From = refl
 text-no-own Subject = refl
 text-no-own Body = refl
+text-no-own Name = refl
 
 -- ---- terms of a kind
 

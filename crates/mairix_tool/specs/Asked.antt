@@ -20,14 +20,15 @@ use Rattle.mairix_options.specs.AnswerFiles.{answer_format}
 use Rattle.mairix_options.specs.CommandLine.{plan}
 use Rattle.mairix_options.specs.Rcfile.{rc_of}
 
--- the archives' paths, and what is asked of their messages
+-- the archives' paths, what is asked of their messages, and whether the archives are proved to be those that were indexed
 pub record Wanted : Type 0 where
   pub paths : List (List ℕ)
   pub search : Search
+  pub verify : Bool
 
 -- what a run was told to look for
 abbrev pub wanted : code.Wanted → Wanted
-wanted w = record { paths = w.paths; search = search_of w.query w.threads w.format }
+wanted w = record { paths = w.paths; search = search_of w.query w.threads w.format; verify = w.verify }
 
 -- the rcfile, where words and rcfile are accepted; else the first refusal
 abbrev pub asked_rc : List (List ℕ) → List ℕ → Result Rc Fault
@@ -46,7 +47,7 @@ format_of_mail mail.Excerpt = format.Excerpt
 
 -- What an accepted command line, rcfile and query want: the words' format goes before the rcfile's.
 abbrev pub wanted_by : Plan → Rc → Query → Wanted
-wanted_by p r q = record { paths = r.paths; search = record { query = q; threads = p.threads; format = format_of_mail (answer_format p r) } }
+wanted_by p r q = record { paths = r.paths; search = record { query = q; threads = p.threads; format = format_of_mail (answer_format p r) }; verify = p.verify }
 
 -- of which archives and for what: of words, then rcfile, then query the first refusal counts
 abbrev pub asked : List (List ℕ) → List ℕ → ℕ → Result Wanted Fault

@@ -19,6 +19,7 @@ is_kind kind.Bcc kind.Bcc = true
 is_kind kind.From kind.From = true
 is_kind kind.Subject kind.Subject = true
 is_kind kind.Body kind.Body = true
+is_kind kind.Name kind.Name = true
 is_kind _ _ = false
 
 -- the words of the texts of a kind, folded

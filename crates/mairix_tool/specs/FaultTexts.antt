@@ -18,7 +18,7 @@ use Rattle.mail_index.specs.declared.fault.Section.{Section}
 use Rattle.mail_index.specs.declared.fault.Section.TheVariants as section
 use Rattle.mairix_tool.specs.declared.fault.Fault.{Fault}
 use Rattle.mairix_tool.specs.declared.fault.Fault.TheVariants as of
-use Rattle.mairix_tool.specs.declared.fault.Fault.TheVariants.{Usage, Rc, Query, Archive, Index, Stale, Out, Memory, TooMany}
+use Rattle.mairix_tool.specs.declared.fault.Fault.TheVariants.{Usage, Rc, Query, Archive, Index, OldIndex, Stale, Out, Memory, TooMany}
 
 -- as `query item 2: bad word`
 abbrev pub numbered : List ℕ → ℕ → List ℕ → List ℕ
@@ -95,6 +95,7 @@ text_of_fault (Rc fault) = text_of_rc fault
 text_of_fault (Query fault) = text_of_query fault
 text_of_fault (Archive number fault) = numbered (codes "archive") (number + 1) (text_of_cut fault)
 text_of_fault (Index fault) = text_of_index fault
+text_of_fault OldIndex = codes "index: too old, build it again"
 text_of_fault (Stale number) = numbered (codes "archive") (number + 1) (codes "changed since it was indexed")
 text_of_fault of.Device = codes "archive read failed"
 text_of_fault Out = codes "output failed"

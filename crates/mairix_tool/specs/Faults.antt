@@ -11,7 +11,7 @@ use Rattle.mail_query.specs.declared.fault.QueryFaultKind.{QueryFaultKind}
 use Rattle.mail_query.specs.declared.fault.QueryFaultKind.TheVariants as query
 use Rattle.mairix_tool.specs.declared.fault.Fault.{Fault}
 use Rattle.mairix_tool.specs.declared.fault.Fault.TheVariants as of
-use Rattle.mairix_tool.specs.declared.fault.Fault.TheVariants.{Usage, Rc, Query, Archive, Index, Stale, Out, Memory, TooMany}
+use Rattle.mairix_tool.specs.declared.fault.Fault.TheVariants.{Usage, Rc, Query, Archive, Index, OldIndex, Stale, Out, Memory, TooMany}
 
 -- Help and Version 0; words, rcfile or query refused 2; an index refused 3; a device failed, or no mbox 4; want of memory, an
 -- archive too long, or too many messages or keys 5
@@ -42,6 +42,7 @@ status_of_fault (Rc fault) = status_of_rc fault
 status_of_fault (Query fault) = status_of_query fault.kind
 status_of_fault (Archive number fault) = status_of_cut fault
 status_of_fault (Index fault) = 3
+status_of_fault OldIndex = 3
 status_of_fault (Stale number) = 3
 status_of_fault of.Device = 4
 status_of_fault Out = 4
@@ -131,8 +132,10 @@ is_changed_or_unread (Some (Stale number)) = true
 is_changed_or_unread (Some of.Device) = true
 is_changed_or_unread _ = false
 
+-- whether the index is refused, as no index file or as too old
 abbrev pub is_of_index : Option Fault → Bool
 is_of_index (Some (Index fault)) = true
+is_of_index (Some OldIndex) = true
 is_of_index _ = false
 
 -- what may be answered where an index is searched
@@ -159,6 +162,7 @@ IsOnceFault (Rc fault) = fault ≢ rcfile.OutOfMemory
 IsOnceFault (Query fault) = fault.kind ≢ query.OutOfMemory
 IsOnceFault (Archive number fault) = fault ≢ Failed
 IsOnceFault (Index fault) = ⊥
+IsOnceFault OldIndex = ⊥
 IsOnceFault _ = ⊤
 
 -- those of a run over a stored index: no archive is cut, and nothing is counted

@@ -6,5 +6,7 @@ pub mod MailOfArchives
 pub mod Asked
 pub mod Replies
 pub mod Runs
+pub mod OldTables
+pub mod Altered
 pub mod IndexRuns
 pub mod CutAgain

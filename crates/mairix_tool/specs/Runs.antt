@@ -1,5 +1,5 @@
 -- What whole runs reply: by the archives' own messages, by a table, and by a stored index.
-use Rattle.std.specs.Prelude.{◌≡◌, ◌⊎◌, ⊤, ℕ, ◌+◌, ◌==◌, min, List, [], ◌∷◌, length, Option, None, Some, Result, Ok, Err, if◌then◌else◌}
+use Rattle.std.specs.Prelude.{◌≡◌, ◌⊎◌, ⊤, ℕ, ◌+◌, ◌==◌, ◌&&◌, ◌||◌, Bool, true, false, min, List, [], ◌∷◌, length, Option, None, Some, Result, Ok, Err, if◌then◌else◌}
 use Rattle.std.specs.Bool.{MatchBool}
 use Rattle.std.specs.Io.KnownBytes.{Appends}
 use Rattle.std.specs.Str.{bytes_eq}
@@ -11,12 +11,14 @@ use Rattle.mail_answer.specs.Shapes.{answer_text, known_answer}
 use Rattle.mail_answer.specs.Sheets.{Tells}
 use Rattle.mail_answer.specs.Stale.{stale_archive}
 use Rattle.mail_answer.specs.TableAnswers.{mail_told}
+use Rattle.mail_answer.specs.Verified.{unverified_archive}
 use Rattle.mail_index.specs.declared.fault.IndexFault.{IndexFault}
 use Rattle.mail_index.specs.Faults.{IsFileOf, IsFirstFault}
 use Rattle.mail_index.specs.Tables.{Archive, Table}
+use Rattle.mail_query.specs.Query.{uses_names}
 use Rattle.mairix_tool.specs.declared.fault.Fault.{Fault}
 use Rattle.mairix_tool.specs.declared.fault.Fault.TheVariants as of
-use Rattle.mairix_tool.specs.declared.fault.Fault.TheVariants.{Index, Stale}
+use Rattle.mairix_tool.specs.declared.fault.Fault.TheVariants.{Index, OldIndex, Stale}
 use Rattle.mairix_tool.specs.declared.fault.Reply.{Reply}
 use Rattle.index_job.specs.ArchiveRefusals.{AreSound}
 use Rattle.index_job.specs.ArchiveTables.{Mbox, table}
@@ -79,9 +81,26 @@ first_renamed n (a ∷ named) (path ∷ paths) = if bytes_eq a.path path then fi
 abbrev pub renamed_archive : List Archive → List (List ℕ) → Option ℕ
 renamed_archive named paths = if length paths == length named then first_renamed 0 named paths else Some (min (length paths) (length named))
 
--- by its paths, then by what the archives hold
+-- the index is of version 1, which has neither digests of archives nor names of parts, and they are asked for
+abbrev pub is_too_old : Table → Wanted → Bool
+is_too_old t w = (t.version == 1) && (w.verify || uses_names w.search.query)
+
+abbrev pub IsOldOr : Bool → (Answer → Type 0) → Answer → Type 0
+IsOldOr true IsFound answer = answer ≡ refused OldIndex
+IsOldOr false IsFound answer = IsFound answer
+
+-- Where the archives are to be verified, the first that doesn't hold what was indexed; no archive where they aren't.
+abbrev pub unproved_archive : Bool → List Archive → List (List ℕ) → Option ℕ
+unproved_archive false named held = None
+unproved_archive true named held = unverified_archive named held
+
+-- what the table tells over archives of its paths, which are verified first where that is asked for
+abbrev pub IsProvedAndTold : Wanted → Table → List (List ℕ) → Answer → Type 0
+IsProvedAndTold w t held answer = IsStaleOr (unproved_archive w.verify t.archives held) (IsTold t w.search held) answer
+
+-- by its version, then by its paths, then by what the archives hold
 abbrev pub IsToldOf : Wanted → Table → List (List ℕ) → Answer → Type 0
-IsToldOf w t held answer = IsStaleOr (renamed_archive t.archives w.paths) (IsTold t w.search held) answer
+IsToldOf w t held answer = IsOldOr (is_too_old t w) (IsStaleOr (renamed_archive t.archives w.paths) (IsProvedAndTold w t held)) answer
 
 -- a refusal of words, rcfile or query; else the first thing wrong with the index; else what its table answers
 abbrev pub IsStoredReply : Result Wanted Fault → List ℕ → List (List ℕ) → Answer → Type 0
@@ -98,6 +117,14 @@ fault_of_answer_kind kind.OutOfMemory = of.Memory
 fault_of_answer_kind kind.OutFailed = of.Out
 
 -- ---- what a run answered, against that
+
+-- The archives hold what they have to, or this one doesn't. A device or memory that fails tells neither.
+abbrev pub TellsProved : {T : Type 0} → Option ℕ → Result T Fault → Type 0
+TellsProved unproved (Ok _) = unproved ≡ None
+TellsProved unproved (Err (Stale n)) = unproved ≡ Some n
+TellsProved unproved (Err of.Device) = ⊤
+TellsProved unproved (Err of.Memory) = ⊤
+TellsProved unproved (Err _) = ⊥
 
 abbrev pub reply_of : Result ℕ Fault → Reply
 reply_of (Ok messages) = record { status = status_of_count messages; messages = messages; fault = None }
@@ -123,16 +150,18 @@ abbrev pub IsUnindexed : Result Wanted Fault → List (List ℕ) → Fault → T
 IsUnindexed (Err refusal) bytes fault = IsThisOrMemory refusal (Some fault)
 IsUnindexed (Ok w) bytes fault = IsArchivesFault (mboxes w.paths bytes) fault
 
--- what is wrong with an index, where it is to be one of archives with these paths
-abbrev pub IsIndexRefusal : List (List ℕ) → List ℕ → Fault → Type 0
-IsIndexRefusal paths index (Index f) = IsFirstFault index f
-IsIndexRefusal paths index (Stale n) = (t : Table) × IsFileOf index t × (renamed_archive t.archives paths ≡ Some n)
-IsIndexRefusal paths index _ = ⊥
+-- what is wrong with an index, where this is asked of it: it is no index file, else too old, else of other paths
+abbrev pub IsIndexRefusal : Wanted → List ℕ → Fault → Type 0
+IsIndexRefusal w index (Index f) = IsFirstFault index f
+IsIndexRefusal w index OldIndex = (t : Table) × IsFileOf index t × (is_too_old t w ≡ true)
+IsIndexRefusal w index (Stale n) =
+    (t : Table) × IsFileOf index t × (is_too_old t w ≡ false) × (renamed_archive t.archives w.paths ≡ Some n)
+IsIndexRefusal w index _ = ⊥
 
 -- what a stored search is refused with before any archive is asked, whatever they hold
 abbrev pub IsRefusedAs : Result Wanted Fault → List ℕ → Fault → Type 0
 IsRefusedAs (Err refusal) index fault = fault ≡ refusal
-IsRefusedAs (Ok w) index fault = IsIndexRefusal w.paths index fault
+IsRefusedAs (Ok w) index fault = IsIndexRefusal w index fault
 
 -- The number of messages that the table chooses is replied, and a text went out: the whole, where it is known.
 abbrev pub IsCounted : Table → Search → Option (List (List ℕ)) → Reply → Option (List ℕ) → Option (List ℕ) → Type 0

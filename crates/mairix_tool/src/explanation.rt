@@ -23,6 +23,7 @@ pub fn fault_text(alloc: Global, fault: &Fault) -> Result<String, AllocError>
             numbered(alloc, "archive", u128::from(number) + 1, cut_text(fault))
         }
         Fault::Index(fault) => String::from_str(alloc, index_text(fault)),
+        Fault::OldIndex => String::from_str(alloc, "index: too old, build it again"),
         Fault::Stale(number) => numbered(
             alloc,
             "archive",

@@ -25,6 +25,10 @@ pub enum Fault {
     /// The index is refused.
     #[error("index: {0}")]
     Index(IndexFault),
+    /// The query uses names of parts, or the archives are to be verified, and the index is of version 1, which has neither names
+    /// nor digests.
+    #[error("index: too old, build it again")]
+    OldIndex,
     /// The archive of this number, counted from 0, isn't the one that was indexed, or there are no more or fewer archives than this.
     #[error("archive {0} has changed")]
     Stale(u64),
@@ -100,7 +104,7 @@ impl Fault {
                 ..
             } => 5,
             Fault::Archive { .. } | Fault::Device | Fault::Out => 4,
-            Fault::Index(_) | Fault::Stale(_) => 3,
+            Fault::Index(_) | Fault::OldIndex | Fault::Stale(_) => 3,
             Fault::Memory | Fault::TooMany => 5,
         }
     }

@@ -1,10 +1,12 @@
 //! Laws of the definitions.
-ghost use Rattle.std.specs.Prelude.{◌≡◌, ◌<◌, ℕ, false, List, Result, length, map, IfOk};
+ghost use Rattle.std.specs.Prelude.{◌≡◌, ◌<◌, ◌++◌, ℕ, false, List, None, Result, length, map, IfOk};
 ghost use Rattle.std.specs.List.{All};
 ghost use Rattle.mail_answer.specs.CutAgain.{IsCutInto, ends_in_return};
 ghost use Rattle.mail_answer.specs.Shapes.{answer_text, closed};
 ghost use Rattle.mail_answer.specs.declared.format.Format.TheVariants as format;
 ghost use Rattle.index_job.specs.ArchiveTables.{Mbox, table};
+ghost use Rattle.mairix_tool.specs.Altered.{AreToldApart, altered_archive};
+ghost use Rattle.mairix_tool.specs.ArchivesIndexed.{mboxes};
 ghost use Rattle.mairix_tool.specs.Asked.{Wanted};
 ghost use Rattle.mairix_tool.specs.CutAgain.{bytes_held, spans_at};
 ghost use Rattle.mail_answer.specs.Mail.{Search, AreChosen};
@@ -60,4 +62,11 @@ pub fn every_stored_run_has_a_reply(index: &[u8])
 pub fn a_table_replies_as_its_archives()
     ensures { (asked : Result Wanted Fault) (bytes : List (List ℕ)) (answer : Answer) → IfOk asked (λ w. length w.paths ≡ length bytes)
         → IsOnceReply asked bytes bytes answer → IsReply asked bytes answer }
+{}
+
+/// Where SHA-256 tells archives apart, none of them is altered exactly where they are those that were indexed: the same bytes under
+/// the same paths.
+pub fn unaltered_archives_are_those_indexed()
+    ensures only { (before : List Mbox) (paths bytes : List (List ℕ)) → AreToldApart (map (λ a. a.bytes) before ++ bytes) → altered_archive before paths bytes ≡ None → before ≡ mboxes paths bytes }
+    ensures all { (paths bytes : List (List ℕ)) → length paths ≡ length bytes → altered_archive (mboxes paths bytes) paths bytes ≡ None }
 {}

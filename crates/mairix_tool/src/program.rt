@@ -16,8 +16,9 @@ use std::rt::Files;
 /// Runs the words after the program's name over the files that they name, and answers the exit status.
 ///
 /// Without a pattern and without `--once` the archives are indexed into the rcfile's `database`. Else they are searched: by the
-/// index in `database`, or with `--once` by one that is made in memory. An mbox goes to the file that words and rcfile name, in
-/// place of an older answer, unless `--stdout` is given; any other answer goes to `out`.
+/// index in `database`, with `--verify` once they are proved to be those that were indexed, or with `--once` by one that is made in
+/// memory, whatever `--verify` says. An mbox goes to the file that words and rcfile name, in place of an older answer, unless
+/// `--stdout` is given; any other answer goes to `out`.
 ///
 /// A fault goes to `err` as one line, `mairix: ` and its text; of words that the parser refuses the parser's own text, which
 /// for help and version goes to `out`. The first file that can't be opened, read or made ends the run, before the query is looked at.

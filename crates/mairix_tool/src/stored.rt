@@ -1,38 +1,47 @@
 //! A run over a stored index.
-ghost use Rattle.std.specs.Prelude.{◌≡◌, ◌<◌, ◌^◌, ◌-◌, ℕ, List, false, Some, None, Ok, Err, length, map, IfOk, IfErr, IfSome};
+ghost use Rattle.std.specs.Prelude.{◌≡◌, ◌<◌, ◌^◌, ◌-◌, ◌++◌, ℕ, List, true, false, Some, None, Ok, Err, length, map, IfOk, IfErr, IfSome};
 ghost use Rattle.std.specs.Bool.{OnTrue};
 ghost use Rattle.std.specs.String.{string_bytes};
 ghost use Rattle.contract_words.specs.Devices.{Counted};
 ghost use Rattle.mail_answer.specs.declared.format.Format.TheVariants.{Raw};
 ghost use Rattle.mail_index.specs.Faults.{IsFileOf};
 ghost use Rattle.mail_index.specs.Tables.{Table};
+ghost use Rattle.mail_query.specs.Query.{uses_names};
 ghost use Rattle.index_job.specs.ArchiveRefusals.{AreSound};
-ghost use Rattle.index_job.specs.ArchiveTables.{table};
+ghost use Rattle.index_job.specs.ArchiveTables.{Mbox, table};
+ghost use Rattle.mairix_tool.specs.Altered.{AreToldApart, altered_archive};
 ghost use Rattle.mairix_tool.specs.ArchivesIndexed.{mboxes};
 ghost use Rattle.mairix_tool.specs.Asked.{asked, Wanted as Asked, wanted as wanted_of};
-ghost use Rattle.mairix_tool.specs.Faults.{fault_in, refusal_of, is_changed_or_unread, is_failed_out, is_failed_archives, is_of_index, IsSearchFault};
+ghost use Rattle.mairix_tool.specs.OldTables.{but_digests, old_table};
+ghost use Rattle.mairix_tool.specs.Faults.{fault_in, refusal_of, is_changed_or_unread, is_failed_out, is_failed_archives, is_of_index, IsOfAnswer, IsSearchFault};
 ghost use Rattle.mairix_tool.specs.Replies.{RefusesAsked, IsConsistent};
-ghost use Rattle.mairix_tool.specs.Runs.{IsReply, IsStoredReply, RepliesBy, IsRefusedAs, IsIndexRefusal, IsThisOrMemory, IsCountedWhere, renamed_archive};
+ghost use Rattle.mairix_tool.specs.Runs.{IsReply, IsStoredReply, IsProvedAndTold, IsStaleOr, TellsProved, unproved_archive, RepliesBy, reply_of, IsRefusedAs, IsIndexRefusal, IsThisOrMemory, IsCountedWhere, is_too_old, renamed_archive};
 
 use crate::fault::{Fault, Reply};
-use crate::view_answer::answer_view;
+use crate::view_answer::{answer_view, fault_of_answer};
 use crate::wanted::Wanted;
-use mail_answer::Archives;
+use mail_answer::{Archives, verify};
 use mail_dates::Moment;
 use mail_index::IndexView;
 use mbox_cutter::Out;
 use std::alloc::Global;
 
+/// The version of index files that have neither digests of archives nor names of parts.
+const FIRST_VERSION: u32 = 1;
+
 /// Searches the index file in these bytes, and writes the messages that words and rcfile ask for, in the order of the index,
 /// each once.
 ///
 /// `words` are those after the program's name, `rc` is the rcfile's text, and ages and days without a year are reckoned from
-/// `now`. The archives are asked for their lengths, and for the messages that are written.
+/// `now`. The archives are asked for their lengths, and for the messages that are written; with `--verify` they are first read
+/// through, and proved to hold the bytes that were indexed.
 ///
 /// # Errors
 ///
-/// The first refusal counts: of the words, the rcfile, the query, the index; then `Stale` where the index has another count of
-/// paths than the rcfile, then where it has another path, then where the archives have another count or length than was indexed.
+/// The first refusal counts: of the words, the rcfile, the query, the index; then `OldIndex` where the query uses names of parts,
+/// or the archives are to be verified, and the index has neither names nor digests; then `Stale` where the index has another
+/// count of paths than the rcfile, then where it has another path, then where the archives have another count or length than was
+/// indexed, then with `--verify`, before anything is written, where an archive has another digest.
 pub fn search_run<A: Archives, O: Out>(
     alloc: Global,
     words: &[String],
@@ -55,12 +64,28 @@ pub fn search_run<A: Archives, O: Out>(
         → AreSound (mboxes w.paths bytes) → IsFileOf index.now (table (mboxes w.paths bytes)) → A.held archives.old ≡ Some bytes
         → RepliesBy (IsReply (Ok w) bytes) result (O.taken out.old) (O.taken out.new) }
 
+    // So too, unless they are to be verified, where it has other digests of them.
+    ensures indexed_otherwise { (w : Asked) (bytes : List (List ℕ)) (t : Table) → asked (map string_bytes words.now) rc.now now ≡ Ok w → w.verify ≡ false → length w.paths ≡ length bytes
+        → AreSound (mboxes w.paths bytes) → but_digests t ≡ but_digests (table (mboxes w.paths bytes)) → IsFileOf index.now t → A.held archives.old ≡ Some bytes
+        → RepliesBy (IsReply (Ok w) bytes) result (O.taken out.old) (O.taken out.new) }
+
+    // And where it is their index in version 1, which has no names of parts either, and the query uses none.
+    ensures indexed_before { (w : Asked) (bytes : List (List ℕ)) → asked (map string_bytes words.now) rc.now now ≡ Ok w → w.verify ≡ false → length w.paths ≡ length bytes
+        → AreSound (mboxes w.paths bytes) → IsFileOf index.now (old_table (table (mboxes w.paths bytes))) → uses_names w.search.query ≡ false → A.held archives.old ≡ Some bytes
+        → RepliesBy (IsReply (Ok w) bytes) result (O.taken out.old) (O.taken out.new) }
+
+    // With `--verify`, where it is the index of whatever sound archives, and SHA-256 tells these from those that there are now:
+    // unless one of them is told to have been altered, the answer is by their own messages.
+    ensures verified { (w : Asked) (before : List Mbox) (bytes : List (List ℕ)) → asked (map string_bytes words.now) rc.now now ≡ Ok w → w.verify ≡ true
+        → AreSound before → IsFileOf index.now (table before) → A.held archives.old ≡ Some bytes → AreToldApart (map (λ a. a.bytes) before ++ bytes)
+        → RepliesBy (IsStaleOr (altered_archive before w.paths bytes) (IsReply (Ok w) bytes)) result (O.taken out.old) (O.taken out.new) }
+
     // Whatever the archives hold: an answer has the number of messages that the table chooses.
     ensures counted { (w : Asked) (t : Table) → asked (map string_bytes words.now) rc.now now ≡ Ok w → IsFileOf index.now t
         → IsCountedWhere t w.search (A.held archives.old) result.fault result (O.taken out.old) (O.taken out.new) }
 
-    // Whatever the archives hold: a refusal of words, rcfile, query, index or paths is answered, before any archive is asked;
-    // and the first four for no other cause.
+    // Whatever the archives hold: a refusal of words, rcfile, query, index, its version or paths is answered, before any archive
+    // is asked; and the first five for no other cause.
     ensures refused { (fault : Fault) → IsRefusedAs (asked (map string_bytes words.now) rc.now now) index.now fault
         → IsThisOrMemory fault result.fault × (archives.new ≡ archives.old) × (out.new ≡ out.old) }
     ensures asked { RefusesAsked (asked (map string_bytes words.now) rc.now now) result.fault }
@@ -78,7 +103,7 @@ pub fn search_run<A: Archives, O: Out>(
     ensures status { IsConsistent result result.fault }
 {
     match open_wanted(alloc, words, rc, index, now) {
-        Ok(found) => Reply::of(answer_view(alloc, &found.view, &found.wanted, archives, out)),
+        Ok(found) => Reply::of(answer_opened(alloc, &found, archives, out)),
         Err(fault) => Reply::of(Err(fault)),
     }
 }
@@ -90,7 +115,52 @@ struct Opened<'a> {
     view: IndexView<'a>,
 }
 
-/// Reads what is asked, and opens the index, which has to be one of the rcfile's paths.
+/// What the index answers, in as many messages as are counted; with `--verify` once its archives are proved.
+fn answer_opened<A: Archives, O: Out>(
+    alloc: Global,
+    found: &Opened<'_>,
+    archives: &mut A,
+    out: &mut O,
+) -> Result<u64, Fault>
+    requires digests { found.now.wanted.verify ≡ true → found.now.view.version ≡ 2 }
+    requires archives { A.failures archives.old < 2 ^ 64 - 1 }
+    requires out { O.failures out.old < 2 ^ 64 - 1 }
+    ensures told { (held : List (List ℕ)) → A.held archives.old ≡ Some held
+        → RepliesBy (IsProvedAndTold (wanted_of found.now.wanted) found.now.view held) (reply_of result) (O.taken out.old) (O.taken out.new) }
+    ensures counted { IsCountedWhere found.now.view (wanted_of found.now.wanted).search (A.held archives.old) (reply_of result).fault (reply_of result) (O.taken out.old) (O.taken out.new) }
+    ensures own { IfErr result IsOfAnswer }
+    ensures raw { (wanted_of found.now.wanted).search.format ≡ Raw → OnTrue (is_changed_or_unread (fault_in result)) (out.new ≡ out.old) }
+    ensures archives_failed { Counted (is_failed_archives (fault_in result)) (A.failures archives.old) (A.failures archives.new) }
+    ensures out_failed { Counted (is_failed_out (fault_in result)) (O.failures out.old) (O.failures out.new) }
+{
+    prove_archives(alloc, found, archives)?;
+    answer_view(alloc, &found.view, &found.wanted, archives, out)
+}
+
+/// Proves with `--verify` that the archives hold the bytes that were indexed. Nothing is written.
+fn prove_archives<A: Archives>(
+    alloc: Global,
+    found: &Opened<'_>,
+    archives: &mut A,
+) -> Result<(), Fault>
+    requires digests { found.now.wanted.verify ≡ true → found.now.view.version ≡ 2 }
+    requires archives { A.failures archives.old < 2 ^ 64 - 1 }
+    ensures held { A.held archives.new ≡ A.held archives.old }
+    ensures proved { IfSome (A.held archives.old) (λ held. TellsProved (unproved_archive found.now.wanted.verify found.now.view.archives held) result) }
+    ensures own { IfErr result IsOfAnswer }
+    ensures archives_failed { Counted (is_failed_archives (fault_in result)) (A.failures archives.old) (A.failures archives.new) }
+    ensures out_failed { is_failed_out (fault_in result) ≡ false }
+{
+    if !found.wanted.verify {
+        return Ok(());
+    }
+    match verify(alloc, &found.view, archives) {
+        Ok(()) => Ok(()),
+        Err(fault) => Err(fault_of_answer(fault)),
+    }
+}
+
+/// Reads what is asked, and opens the index, which has to have what that uses, and to be one of the rcfile's paths.
 fn open_wanted<'a>(
     alloc: Global,
     words: &[String],
@@ -100,6 +170,7 @@ fn open_wanted<'a>(
 ) -> Result<Opened<'a>, Fault>
     ensures wanted { IfOk result (λ o. asked (map string_bytes words.now) rc.now now ≡ Ok (wanted_of o.wanted)) }
     ensures table { IfOk result (λ o. IsFileOf index.entry.now o.view) }
+    ensures fresh { IfOk result (λ o. is_too_old o.view (wanted_of o.wanted) ≡ false) }
     ensures paths { IfOk result (λ o. renamed_archive o.view.archives (wanted_of o.wanted).paths ≡ None) }
     ensures refused { IfErr result (λ fault. IfSome (refusal_of fault) (IsRefusedAs (asked (map string_bytes words.now) rc.now now) index.entry.now)) }
     ensures each { (fault : Fault) → IsRefusedAs (asked (map string_bytes words.now) rc.now now) index.entry.now fault → IsThisOrMemory fault (fault_in result) }
@@ -108,25 +179,36 @@ fn open_wanted<'a>(
     ensures own { IfErr result (λ fault. IsSearchFault fault) }
 {
     let wanted = Wanted::of(alloc, words, rc, now)?;
-    let view = open_for(index, wanted.paths.as_slice())?;
+    let view = open_for(index, &wanted)?;
     Ok(Opened { wanted, view })
 }
 
-/// Opens the index, which has to be one of archives with these paths. Takes no memory.
-fn open_for<'a>(index: &'a [u8], paths: &[String]) -> Result<IndexView<'a>, Fault>
+/// Opens the index, which has to have what is asked of it, and to be one of the wanted paths. Takes no memory.
+fn open_for<'a>(index: &'a [u8], wanted: &Wanted) -> Result<IndexView<'a>, Fault>
     ensures table { IfOk result (λ view. IsFileOf index.entry.now view) }
-    ensures paths { IfOk result (λ view. renamed_archive view.archives (map string_bytes paths.now) ≡ None) }
-    ensures refused { IfErr result (λ fault. IsIndexRefusal (map string_bytes paths.now) index.entry.now fault) }
-    ensures each { (fault : Fault) → IsIndexRefusal (map string_bytes paths.now) index.entry.now fault → fault_in result ≡ Some fault }
+    ensures fresh { IfOk result (λ view. is_too_old view (wanted_of wanted.now) ≡ false) }
+    ensures paths { IfOk result (λ view. renamed_archive view.archives (wanted_of wanted.now).paths ≡ None) }
+    ensures refused { IfErr result (λ fault. IsIndexRefusal (wanted_of wanted.now) index.entry.now fault) }
+    ensures each { (fault : Fault) → IsIndexRefusal (wanted_of wanted.now) index.entry.now fault → fault_in result ≡ Some fault }
 {
     let view = match IndexView::open(index) {
         Ok(view) => view,
         Err(fault) => return Err(Fault::Index(fault)),
     };
-    match renamed(&view, paths) {
+    if is_too_old(&view, wanted) {
+        return Err(Fault::OldIndex);
+    }
+    match renamed(&view, wanted.paths.as_slice()) {
         Some(number) => Err(Fault::Stale(number)),
         None => Ok(view),
     }
+}
+
+/// Whether digests of archives or names of parts are asked for, and the index has neither. Takes no memory.
+fn is_too_old(index: &IndexView<'_>, wanted: &Wanted) -> bool
+    ensures { result ≡ is_too_old index.now (wanted_of wanted.now) }
+{
+    index.version() == FIRST_VERSION && (wanted.verify || wanted.query.uses_names())
 }
 
 /// The first archive whose path isn't the one that was indexed; of another count the smaller one. Takes no memory.

@@ -72,7 +72,8 @@ pub(crate) fn answer_view<A: Archives, O: Out>(
     }
 }
 
-fn fault_of_answer(fault: AnswerFault) -> Fault
+/// What a run answers of an answer's fault.
+pub(crate) fn fault_of_answer(fault: AnswerFault) -> Fault
     ensures { result ≡ fault_of_answer_kind fault.kind }
 {
     match fault.kind {

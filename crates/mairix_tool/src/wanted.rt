@@ -14,13 +14,15 @@ use mail_query::{Query, QueryFault, read_boolean, read_mairix};
 use mairix_options::{MailFormat, Texts, answer_format, plan_of, read_rc};
 use std::alloc::Global;
 
-/// What words and rcfile ask for: of which archives, and what a message has to satisfy.
+/// What words and rcfile ask for: of which archives, what a message has to satisfy, and whether the archives are proved to be
+/// those that were indexed.
 #[derive(Drop)]
 pub(crate) struct Wanted {
     pub(crate) paths: Texts,
     pub(crate) query: Query,
     pub(crate) threads: bool,
     pub(crate) format: Format,
+    pub(crate) verify: bool,
 }
 
 impl Wanted {
@@ -46,6 +48,7 @@ impl Wanted {
             query,
             threads: plan.threads,
             format,
+            verify: plan.verify,
         })
     }
 }

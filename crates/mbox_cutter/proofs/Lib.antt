@@ -11,6 +11,7 @@ mod RowsEvents
 mod RowsLines
 mod RowsSeparators
 pub mod ScanSteps
+pub mod Sources
 pub mod Steps
 pub mod Tokens
 pub mod Windows

@@ -18,10 +18,12 @@ use Rattle.mbox_cutter.specs.Events.{ArchiveEvent, Start, Line, End, Done, Comin
 use Rattle.mbox_cutter.specs.Coming.{Answers, Refuses, TakesKnown, is_device, is_device_fault}
 use Rattle.mbox_cutter.specs.Places.{CutterPlace, Moves, Nears, ReadsAll, HasLine, Ends, Finishes, open_events}
 use Rattle.mbox_cutter.specs.Progress.{Progress, Advances}
+use Rattle.mbox_cutter.specs.Sources.{Stays}
 use Rattle.mbox_cutter.specs.Inside.Ahead.{known, ReadsOn}
 use Rattle.mbox_cutter.specs.Inside.Resume.{coming_at}
 use Rattle.mbox_cutter.specs.Inside.Scan.{closes_at, coming, place_of, told_at, told_result, IsPlace, IsWithin, IsScan, IsFresh, FailsFirst, FindsLine, Passes, Steps}
 use Rattle.mbox_cutter.proofs.KnownSteps.{each_some, at_same, known-done, known-start, known-empty, known-refused, known-end, known-line, known-open, known-closed, known-fault, known-fault_inside, known-device, known-ended}
+use Rattle.mbox_cutter.proofs.Sources.{Stays-self, Stays-join}
 use Rattle.mbox_cutter.proofs.Windows.{known_taken, line_taken, length-Extends, take-Extends}
 
 -- a place, n bytes further and in this phase
@@ -36,6 +38,7 @@ pub record Found {S : Type 0} (g : Ghosts S) (old now : Scan S) (n : ℕ) (line 
   pub place : place_of now ≡ place_of old
   pub source : now.window.source.ghost_name ≡ old.window.source.ghost_name
   pub count : g.failures now.window.source.now ≡ g.failures old.window.source.now
+  pub stays : Stays g old.window.source.now now.window.source.now
   pub bytes : IfSome (known g.rest old.window) (λ b. known g.rest now.window ≡ Some b)
   pub first : IfSome (known g.rest old.window) (λ b. n ≡ first_length b)
   pub lent : IfSome (known g.rest old.window) (λ b. line ≡ take n b)
@@ -50,6 +53,7 @@ pub record Taken {S : Type 0} (g : Ghosts S) (old new : Scan S) (n : ℕ) (phase
   pub place : place_of new ≡ further phase n (place_of old)
   pub source : new.window.source.ghost_name ≡ old.window.source.ghost_name
   pub count : g.failures new.window.source.now ≡ g.failures old.window.source.now
+  pub stays : Stays g old.window.source.now new.window.source.now
   pub moved : IfSome (known g.rest old.window) (λ b. known g.rest new.window ≡ Some (drop n b))
   pub first : IfSome (known g.rest old.window) (λ b. n ≡ first_length b)
   pub lent : IfSome (known g.rest old.window) (λ b. line ≡ take n b)
@@ -67,6 +71,7 @@ module _ {S : Type 0} (g : Ghosts S) (old mid : Scan S) (n : ℕ) (line : List �
         place = f.place;
         source = f.reads.source;
         count = f.reads.count;
+        stays = f.reads.stays;
         bytes = f.reads.bytes;
         first = f.first.first;
         lent = at_same (known g.rest old.window) (known g.rest mid.window) (λ b. line ≡ take n b) f.reads.bytes
@@ -84,6 +89,7 @@ module _ {S : Type 0} (g : Ghosts S) (old mid : Scan S) (n : ℕ) (line : List �
     place = same ∙ h.place;
     source = r.source ∙ h.source;
     count = r.count ∙ h.count;
+    stays = Stays-join g old.window.source.now mid.window.source.now far.window.source.now h.stays r.stays;
     bytes = at_same (known g.rest old.window) (known g.rest mid.window) (λ b. known g.rest far.window ≡ Some b) h.bytes r.bytes;
     first = h.first;
     lent = h.lent;
@@ -109,6 +115,7 @@ module _ {S : Type 0} (g : Ghosts S) (old mid : Scan S) (n : ℕ) (line : List �
         place = p.place ∙ ap (further phase n) h.place;
         source = ap (λ (r : MutBor S). r.ghost_name) p.taken.source ∙ h.source;
         count = ap (λ (r : MutBor S). g.failures r.now) p.taken.source ∙ h.count;
+        stays = subst (λ (r : MutBor S). Stays g old.window.source.now r.now) (sym p.taken.source) h.stays;
         moved = at_same (known g.rest old.window) (known g.rest mid.window) (λ b. known g.rest new.window ≡ Some (drop n b)) h.bytes
             (subst (λ (o : Option (List ℕ)). IfSome (known g.rest mid.window) (λ b. o ≡ Some (drop n b))) (sym is) (known_taken n mid.window.unread (g.rest mid.window.source.now) h.within));
         first = h.first;
@@ -135,6 +142,7 @@ module _ {S : Type 0} (g : Ghosts S) (old new : Scan S) (n : ℕ) (line : List �
   taken-steps phase s t place not_ended takes moves lends = record {
     source = t.source;
     count = t.count;
+    stays = t.stays;
     scan = record { place = subst IsPlace (sym t.place) place; end = λ e. absurd (not_ended (sym (ap (λ (p : CutterPlace). p.phase) t.place) ∙ e)) };
     most = ap (λ (p : CutterPlace). p.most) t.place;
     answers = subst (λ (l : List ℕ). TakesKnown (told_at s l) (coming g.rest old) (coming g.rest new)) (sym t.is)
@@ -187,6 +195,7 @@ module _ {S : Type 0} (g : Ghosts S) (old mid : Scan S) (n : ℕ) (found_none : 
   done-steps between = record {
     source = found_none.reads.source;
     count = found_none.reads.count;
+    stays = found_none.reads.stays;
     scan = record { place = subst IsPlace (sym (in_phase Ended)) (record { most = was.place.most; phase = tt }); end = λ e. found_none.first.end none };
     most = ap (λ (p : CutterPlace). p.most) found_none.place;
     answers = subst (λ (p : CutterPlace). TakesKnown (Done p.offset) (coming g.rest old) (coming_at p (known g.rest mid.window))) (sym (in_phase Ended))
@@ -202,6 +211,7 @@ module _ {S : Type 0} (g : Ghosts S) (old mid : Scan S) (n : ℕ) (found_none : 
       record {
         source = found_none.reads.source;
         count = found_none.reads.count;
+        stays = found_none.reads.stays;
         scan = record { place = subst IsPlace (sym (in_phase Between)) (record { most = was.place.most; phase = tt }); end = λ e. cc };
         most = ap (λ (p : CutterPlace). p.most) found_none.place;
         answers = subst (λ (p : CutterPlace). TakesKnown (End (p.offset - start) size) (coming g.rest old) (coming_at p (known g.rest mid.window))) (sym (in_phase Between))
@@ -217,6 +227,7 @@ pub ended-steps : {S : Type 0} (g : Ghosts S) (old : Scan S) → old.phase ≡ E
 ended-steps g old ended was = record {
   source = refl;
   count = refl;
+  stays = Stays-self g old.window.source.now;
   scan = was;
   most = refl;
   answers = known-ended (known g.rest old.window) old.offset old.most old.phase ended;
@@ -241,6 +252,7 @@ module _ {S : Type 0} (g : Ghosts S) (old mid : Scan S) (fault : CutFault) (was 
   fails-steps not_ended refuses f = record {
     source = f.reads.source;
     count = f.reads.count;
+    stays = f.reads.stays;
     scan = fails-scan not_ended f.place;
     most = ap (λ (p : CutterPlace). p.most) f.place;
     answers = refuses;
@@ -261,6 +273,7 @@ module _ {S : Type 0} (g : Ghosts S) (old mid : Scan S) (fault : CutFault) (was 
   unread-steps n start size line far inside h same r device = record {
     source = r.source ∙ h.source;
     count = subst (λ (k : ℕ). Counted (is_device fault) k (g.failures far.window.source.now)) h.count r.count;
+    stays = Stays-join g old.window.source.now mid.window.source.now far.window.source.now h.stays r.stays;
     scan = record { place = subst IsPlace (sym (same ∙ h.place)) was.place; end = λ e. let p : far.phase ≡ old.phase = ap (λ (p : CutterPlace). p.phase) (same ∙ h.place) in cc };
     most = ap (λ (p : CutterPlace). p.most) (same ∙ h.place);
     answers = subst (λ (f : CutFault). IfSome (coming g.rest old) (Refuses f)) (sym device) (known-device (known g.rest old.window) old.offset old.most old.phase);
@@ -275,6 +288,7 @@ pub refused-steps : {S : Type 0} (g : Ghosts S) (old mid : Scan S) (n : ℕ) (li
 refused-steps g old mid n line was between h other full = record {
   source = h.source;
   count = h.count;
+  stays = h.stays;
   scan = fails-scan g old mid NotAnMbox was (λ e. cc) h.place;
   most = ap (λ (p : CutterPlace). p.most) h.place;
   answers = known-refused (known g.rest old.window) None old.offset old.most n old.phase h.first between h.some line h.lent other full h.fits;
@@ -289,6 +303,7 @@ refused-steps g old mid n line was between h other full = record {
 pub record Skipped {S : Type 0} (g : Ghosts S) (old now : Scan S) : Type 0 where
   pub source : now.window.source.ghost_name ≡ old.window.source.ghost_name
   pub count : g.failures now.window.source.now ≡ g.failures old.window.source.now
+  pub stays : Stays g old.window.source.now now.window.source.now
   pub was : old.phase ≡ Between
   pub phase : now.phase ≡ Between
   pub scan : IsScan g.rest now
@@ -301,7 +316,7 @@ itself o = each_some o (λ x. o ≡ Some x) (λ x e. e)
 
 pub skipped-none : {S : Type 0} (g : Ghosts S) (old : Scan S) → old.phase ≡ Between → IsScan g.rest old → Skipped g old old
 skipped-none g old between was =
-    record { source = refl; count = refl; was = between; phase = between; scan = was; later = omega arith; most = refl; still = itself (coming g.rest old) }
+    record { source = refl; count = refl; stays = Stays-self g old.window.source.now; was = between; phase = between; scan = was; later = omega arith; most = refl; still = itself (coming g.rest old) }
 
 pub skipped-one : {S : Type 0} (g : Ghosts S) (old now new : Scan S) (n : ℕ) (line : List ℕ) → Skipped g old now → Taken g now new n Between line →
     is_separator line ≡ false → is_empty line ≡ true → Skipped g old new
@@ -310,6 +325,7 @@ skipped-one g old now new n line k t other empty =
     record {
       source = t.source ∙ k.source;
       count = t.count ∙ k.count;
+      stays = Stays-join g old.window.source.now now.window.source.now new.window.source.now k.stays t.stays;
       was = k.was;
       phase = ap (λ (p : CutterPlace). p.phase) t.place;
       scan = record { place = subst IsPlace (sym t.place) (record { most = t.fits; phase = tt }); end = λ e. let p : new.phase ≡ Between = ap (λ (p : CutterPlace). p.phase) t.place in cc };
@@ -340,6 +356,7 @@ pub skipped-steps : {S : Type 0} (g : Ghosts S) (old now new : Scan S) (result :
 skipped-steps g old now new result k s = record {
   source = s.source ∙ k.source;
   count = subst (λ (c : ℕ). Counted (is_device_fault result) c (g.failures new.window.source.now)) k.count s.count;
+  stays = Stays-join g old.window.source.now now.window.source.now new.window.source.now k.stays s.stays;
   scan = s.scan;
   most = s.most ∙ k.most;
   answers = answers-behind (coming g.rest old) (coming g.rest now) (coming g.rest new) (told_result new.window.line result) k.still s.answers;
@@ -374,6 +391,7 @@ pub steps-advance : {S : Type 0} (g : Ghosts S) (old new : Scan S) (s : Step) �
 steps-advance g old new s h = record {
   source = h.source;
   count = h.count;
+  stays = h.stays;
   answers = h.answers;
   moves = h.moves;
   nears = nears (told_at s new.window.line) (place_of old) (place_of new) h.moves h.line h.scan.place.most h.most;

@@ -12,6 +12,7 @@ use Rattle.mbox_cutter.specs.Lines.{line_end_of, first_length}
 use Rattle.mbox_cutter.specs.Inside.Ahead.{Ahead, known, ReadsBehind, ReadsOn, Extends}
 use Rattle.mbox_cutter.proofs.FirstLines.{line_end-more, line_end-whole}
 use Rattle.mbox_cutter.proofs.Parts.{take_front}
+use Rattle.mbox_cutter.proofs.Sources.{Stays-join}
 
 pub known_nothing_read : (bytes : Option (List ℕ)) → prepend_known [] bytes ≡ bytes
 known_nothing_read None = refl
@@ -83,6 +84,7 @@ pub ReadsOn-join : {S : Type 0} (g : Ghosts S) (failed : Bool) (a b c : Ahead S)
 ReadsOn-join g failed a b c h k = record {
   source = k.source ∙ h.source;
   count = subst (λ (n : ℕ). Counted failed n (g.failures c.source.now)) h.count k.count;
+  stays = Stays-join g a.source.now b.source.now c.source.now h.stays k.stays;
   bytes = join_known (known g.rest a) (known g.rest b) (known g.rest c) h.bytes k.bytes;
   keeps = Extends-join a.unread b.unread c.unread h.keeps k.keeps;
 }

@@ -1,5 +1,6 @@
 pub mod Archives
 pub mod Coming
+pub mod Digests
 pub mod Events
 pub mod Inside
 pub mod Lines
@@ -8,3 +9,4 @@ pub mod NextEvent
 pub mod Places
 pub mod Progress
 pub mod Separators
+pub mod Sources

@@ -10,6 +10,7 @@ use Rattle.mbox_cutter.specs.declared.scan.Phase.TheVariants.{Failed}
 use Rattle.mbox_cutter.specs.Events.{ArchiveEvent, Start, Line, End, Done, Coming}
 use Rattle.mbox_cutter.specs.Coming.{Answers, is_device_fault}
 use Rattle.mbox_cutter.specs.Places.{CutterPlace, HasLine, Moves, Nears, ReadsAll}
+use Rattle.mbox_cutter.specs.Sources.{Stays}
 
 -- what still comes, where the source's bytes are known; where the cutter stands; the line that it lent last; and the source
 pub record Progress (S : Type 0) : Type 0 where
@@ -35,6 +36,8 @@ pub record Advances {S : Type 0} (g : Ghosts S) (old : Progress S) (answer : Res
   pub source : new.source.ghost_name ≡ old.source.ghost_name
   -- its count of failures rises by one where it failed, and else stays
   pub count : Counted (is_device_fault answer) (g.failures old.source.now) (g.failures new.source.now)
+  -- what no read changes is as it was
+  pub stays : Stays g old.source.now new.source.now
   -- an event is the first that comes, and a refusal the archive's, where it is known what comes
   pub answers : Answers old.coming answer new.coming
   -- events come in order, with offsets, lengths and sizes that fit what was taken, whether bytes are known or not

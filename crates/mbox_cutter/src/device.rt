@@ -1,5 +1,5 @@
 //! What bytes come from and go to, and how often that has failed.
-ghost use Rattle.std.specs.Prelude.{◌≡◌, ◌<◌, ◌≤◌, ◌-◌, ◌^◌, ℕ, List, Option, length, IfOk, OnOk, OnErr};
+ghost use Rattle.std.specs.Prelude.{◌≡◌, ◌<◌, ◌≤◌, ◌-◌, ◌^◌, ⊤, ℕ, List, Option, length, IfOk, OnOk, OnErr};
 ghost use Rattle.std.specs.Io.KnownBytes.{ReadConsumes, WriteAppends, Appends};
 ghost use Rattle.contract_words.specs.Devices.{Counts, Sends};
 
@@ -18,13 +18,21 @@ pub trait Source {
     /// How many of its calls have failed.
     ghost failures: { Self → ℕ };
 
+    /// Whether these are all its bytes, with those that it has given, as far as it keeps account of them. No read changes it.
+    ghost whole: { Self → List ℕ → Type 0 } = { λ _ _. ⊤ };
+
+    /// The name of the reference that it reads through, where there is one. No read changes it.
+    ghost through: { Self → ℕ } = { λ _. 0 };
+
     /// Reads at least one byte into a slice that isn't empty, and none only at the end.
     fn read_next(&mut self, into: &mut [u8]) -> Result<usize, DeviceFault>
         requires room { 0 < length into.old }
         requires count { failures self.old < 2 ^ 64 - 1 }
         ensures bound { IfOk result (λ n. n ≤ length into.new) }
         ensures bytes { ReadConsumes (rest self.old) (rest self.new) result into.new }
-        ensures count { Counts result (failures self.old) (failures self.new) };
+        ensures count { Counts result (failures self.old) (failures self.new) }
+        ensures whole { (bytes : List ℕ) → whole self.old bytes → whole self.new bytes }
+        ensures through { through self.new ≡ through self.old };
 }
 
 /// What an answer's bytes are written to.

@@ -4,6 +4,7 @@
 mod buffer;
 mod cutter;
 mod device;
+mod digested;
 mod event;
 mod line;
 mod memory;
@@ -15,6 +16,7 @@ mod window;
 pub use buffer::Buffer;
 pub use cutter::Cutter;
 pub use device::{DeviceFault, Out, Source, send};
+pub use digested::Digested;
 pub use event::{CutFault, Event};
 pub use line::{is_empty_line, line_end, lines_law};
 pub use memory::{MemoryOut, MemorySource};

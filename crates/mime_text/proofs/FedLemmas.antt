@@ -1,16 +1,16 @@
 -- Lines fed and pairs given.
-use Rattle.std.proofs.Common.{◌≡◌, ◌∙◌, ◌++◌, ℕ, Bool, false, List, [], ◌∷◌, refl, sym, ap, append_assoc}
+use Rattle.std.proofs.Common.{◌≡◌, ◌∙◌, ◌++◌, ℕ, List, [], ◌∷◌, sym, ap, append_assoc}
 use Rattle.std.specs.Prelude.{Result, Ok, Err, OnOk, IfErr}
 use Rattle.std.proofs.lemmas.List.{append-nil}
 use Rattle.mail_words.specs.declared.kind.TextKind.{TextKind}
 use Rattle.mime_text.specs.declared.fault.SinkFault.{SinkFault}
 use Rattle.mime_text.specs.declared.fault.TextFault.{TextFault}
 use Rattle.mime_text.specs.declared.message_text.MessageText.{MessageText}
-use Rattle.mime_text.specs.Sinks.{Pair, Coming}
+use Rattle.mime_text.specs.Sinks.{Pair}
 use Rattle.mime_text.specs.Texts.{texts_of_message}
 use Rattle.mime_text.specs.Passing.{Passed, Stopped, Passes, IsOver}
 use Rattle.mime_text.specs.Feeding.{Comes, KnowsFacts}
-use Rattle.mime_text.specs.Fed.{Fed, Feeds, FeedsPart, Finishes, FinishesPart}
+use Rattle.mime_text.specs.Fed.{Feeds, FeedsPart, Finishes, FinishesPart}
 
 abbrev Line : Type 0
 Line = List ℕ

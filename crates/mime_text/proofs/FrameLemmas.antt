@@ -1,11 +1,9 @@
 -- Delimiter lines, and the multiparts that are open.
 use Rattle.std.proofs.Common.{◌≡◌, ◌∙◌, ◌≤◌, ◌<◌, ◌+◌, ◌-◌, ◌++◌, ◌==◌, ℕ, zero, suc, Bool, true, false, cond, List, [], ◌∷◌, Option, Some, None, length, take, drop, refl, sym, ap, arith, add-one, get_or, Bor}
 use Rattle.std.specs.Prelude.{slice_get, option_map, MatchOption}
-use Rattle.std.specs.List.{list_all}
 use Rattle.std.specs.Str.{bytes_eq}
 use Rattle.std.proofs.lemmas.Option.{slice_get-get_or}
 use Rattle.mbox_cutter.specs.Separators.{without_break}
-use Rattle.header_text.specs.Blanks.{is_blank}
 use Rattle.header_text.specs.EncodedWords.{after}
 use Rattle.mime_text.specs.declared.shape.DefaultType.{DefaultType}
 use Rattle.mime_text.specs.declared.frame.Frame.{Frame}

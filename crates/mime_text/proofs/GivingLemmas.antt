@@ -1,5 +1,5 @@
 -- Texts of fields that a sink is given.
-use Rattle.std.proofs.Common.{◌≡◌, ◌∙◌, ◌++◌, ◌≤◌, ◌+◌, ℕ, Bool, true, false, List, [], ◌∷◌, Option, Some, None, length, refl, sym, ap, arith, cond, append_assoc}
+use Rattle.std.proofs.Common.{◌≡◌, ◌∙◌, ◌++◌, ℕ, Bool, true, false, List, [], ◌∷◌, Option, Some, None, refl, ap, cond, append_assoc}
 use Rattle.std.proofs.lemmas.List.{append-nil}
 use Rattle.std.specs.Prelude.{option_map}
 use Rattle.std.specs.List.{cons_option}
@@ -8,9 +8,9 @@ use Rattle.mail_words.specs.declared.kind.TextKind.{TextKind}
 use Rattle.mail_words.specs.declared.kind.TextKind.TheVariants as kind
 use Rattle.mime_text.specs.declared.fault.SinkFault.{SinkFault}
 use Rattle.mime_text.specs.declared.fault.TextFault.{TextFault}
-use Rattle.mime_text.specs.declared.fault.TextFault.TheVariants.{OutOfMemory, Sink, Failed}
-use Rattle.mime_text.specs.Sinks.{Pair, Coming, TakesAll, Breaks, Gave, Broke, most_in_text}
-use Rattle.mime_text.specs.FieldTexts.{is_name, kind_of_field, text_of_body, texts_of_fields}
+use Rattle.mime_text.specs.declared.fault.TextFault.TheVariants.{Sink}
+use Rattle.mime_text.specs.Sinks.{Pair, Coming, Gave, Broke, most_in_text}
+use Rattle.mime_text.specs.FieldTexts.{kind_of_field, text_of_body, texts_of_fields}
 
 abbrev with_text : HeaderField → TextKind → Pair
 with_text f k = (k, text_of_body f.body)
@@ -35,6 +35,7 @@ most-of-field name kind.Cc e = refl
 most-of-field name kind.Bcc e = refl
 most-of-field name kind.From e = refl
 most-of-field name kind.Subject e = refl
+most-of-field name kind.Name e = refl
 most-of-field name kind.Body e = absurd (no_body _ _ _ _ _ e)
   where
     no_body : (a b c d f : Bool) → cond a (Some kind.To) (cond b (Some kind.Cc) (cond c (Some kind.Bcc) (cond d (Some kind.From) (cond f (Some kind.Subject) None)))) ≡ Some kind.Body → ⊥

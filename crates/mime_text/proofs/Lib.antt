@@ -10,7 +10,9 @@ mod LineEnds
 mod RowsTypes
 mod RowsBodies
 mod RowsParts
+mod RowsNames
 mod FrameLemmas
+mod NameLemmas
 mod GivingLemmas
 mod StepLemmas
 mod PassingLemmas

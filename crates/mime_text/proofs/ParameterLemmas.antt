@@ -5,9 +5,9 @@ use Rattle.std.specs.Option.{option_map_or, option_to_list}
 use Rattle.std.specs.Str.{bytes_eq, str_to_ascii_lowercase}
 use Rattle.header_text.specs.Blanks.{is_blank, split_while, after_blanks, trimmed}
 use Rattle.header_text.specs.Cuts.{cut_at}
-use Rattle.header_text.proofs.Fronts.{length-split_while}
+use Rattle.header_text.proofs.Fronts.{length-split_while, split_while-joined}
 use Rattle.header_text.proofs.CutLemmas.{IsCut, IsCut-from}
-use Rattle.mime_text.specs.Parameters.{Parameter, Piece, quoted, is_token_byte, value_and_rest, is_name_byte, behind_semicolon, piece_of, parameters_within, parameters_behind, first_named}
+use Rattle.mime_text.specs.Parameters.{Parameter, Piece, quoted, is_token_byte, value_and_rest, is_name_byte, behind_semicolon, piece_of, parameters_within, parameters_behind, first_named, parameter}
 
 -- ---- quotes
 
@@ -171,3 +171,91 @@ pub piece-parameter : (text rest : List ℕ) (sign : ℕ) → (split_while is_na
     → (piece_of text).parameter ≡ Some (record { name = trimmed (split_while is_name_byte text).0; value = (value_and_rest (after_blanks rest)).0 })
 unfolding piece_of
 piece-parameter text rest sign e f = rw (e, f, piece_of) refl
+
+-- ---- a value is no longer than what it stands in
+
+size-front : (p : ℕ → Bool) (bs : List ℕ) → length (split_while p bs).0 ≤ length bs
+size-front p bs = let joined = ap length (split_while-joined p bs) in omega (arith, joined, length-append (split_while p bs).0 (split_while p bs).1)
+
+size-quoted : (bs : List ℕ) → length (quoted bs).0 ≤ length bs
+size-quoted [] = omega arith
+size-quoted (b ∷ []) = go (b == 0x22) refl (b == 0x5C) refl
+  where
+    go : (s : Bool) → (b == 0x22) ≡ s → (t : Bool) → (b == 0x5C) ≡ t → length (quoted (b ∷ [])).0 ≤ length (b ∷ [])
+    go true e t f = rw (e, quoted) (omega arith)
+    go false e true f = rw (e, f, quoted) (omega arith)
+    go false e false f = rw (e, f, quoted) (omega arith)
+size-quoted (b ∷ c ∷ bs) = go (b == 0x22) refl (b == 0x5C) refl (size-quoted bs) (size-quoted (c ∷ bs))
+  where
+    go : (s : Bool) → (b == 0x22) ≡ s → (t : Bool) → (b == 0x5C) ≡ t → length (quoted bs).0 ≤ length bs → length (quoted (c ∷ bs)).0 ≤ length (c ∷ bs)
+        → length (quoted (b ∷ c ∷ bs)).0 ≤ length (b ∷ c ∷ bs)
+    go true e t f far near = rw (e, quoted) (omega arith)
+    go false e true f far near = rw (e, f, quoted) (omega arith)
+    go false e false f far near = rw (e, f, quoted) (omega arith)
+
+size-value : (bs : List ℕ) → length (value_and_rest bs).0 ≤ length bs
+size-value [] = omega arith
+size-value (b ∷ bs) = go (b == 0x22) refl
+  where
+    go : (t : Bool) → (b == 0x22) ≡ t → length (value_and_rest (b ∷ bs)).0 ≤ length (b ∷ bs)
+    go true e = rw (e, value_and_rest) (omega (arith, size-quoted bs))
+    go false e = rw (e, value_and_rest) (size-front is_token_byte (b ∷ bs))
+
+-- its value's length, where there is a parameter
+abbrev size_of : Option Parameter → ℕ
+size_of None = 0
+size_of (Some p) = length p.value
+
+size-piece_behind : (name behind : List ℕ) → size_of (piece_behind name behind).parameter ≤ length behind
+unfolding piece_behind
+size-piece_behind name [] = omega arith
+size-piece_behind name (c ∷ bs) = go (c == 0x3D) refl
+  where
+    go : (t : Bool) → (c == 0x3D) ≡ t → size_of (piece_behind name (c ∷ bs)).parameter ≤ length (c ∷ bs)
+    go false e = rw (e, piece_behind) (omega arith)
+    go true e = rw (e, piece_behind) (omega (arith, size-value (after_blanks bs), length-after_blanks bs))
+
+size-piece : (bs : List ℕ) → size_of (piece_of bs).parameter ≤ length bs
+unfolding piece_of piece_behind
+size-piece bs =
+    let front = length-split_while is_name_byte bs in
+    let behind = size-piece_behind (trimmed (split_while is_name_byte bs).0) (split_while is_name_byte bs).1 in
+    omega (arith, front, behind)
+
+size-within : (n : ℕ) (name bs found : List ℕ) → first_named name (parameters_within n bs) ≡ Some found → length found ≤ length bs
+size-within zero name bs found h = absurd (cc h)
+size-within (suc n) name bs found h = by_piece (piece_of bs).parameter refl (λ rest. size-within n name rest found) h
+  where
+    others : Option (List ℕ) → List Parameter
+    others o = option_map_or (λ rest. parameters_within n rest) o []
+
+    by_later : (o : Option (List ℕ)) → (piece_of bs).later ≡ o → ((rest : List ℕ) → first_named name (parameters_within n rest) ≡ Some found → length found ≤ length rest)
+        → first_named name (others o) ≡ Some found → length found ≤ length bs
+    by_later None e same h = absurd (cc h)
+    by_later (Some rest) e same h = let less = later-shorter bs rest e in let size = same rest h in omega (arith, less, size)
+
+    by_name : (p : Parameter) → (piece_of bs).parameter ≡ Some p → (t : Bool) → bytes_eq (str_to_ascii_lowercase p.name) name ≡ t
+        → ((rest : List ℕ) → first_named name (parameters_within n rest) ≡ Some found → length found ≤ length rest)
+        → elim t [ true ↦ Some p.value | false ↦ first_named name (others (piece_of bs).later) ] ≡ Some found → length found ≤ length bs
+    by_name p e true f same h =
+        let here = size-piece bs in
+        let size = ap size_of e in
+        let found_is = ap length (same_some p.value found h) in
+        omega (arith, here, size, found_is)
+    by_name p e false f same h = by_later (piece_of bs).later refl same h
+
+    by_piece : (o : Option Parameter) → (piece_of bs).parameter ≡ o → ((rest : List ℕ) → first_named name (parameters_within n rest) ≡ Some found → length found ≤ length rest)
+        → first_named name (option_to_list o ++ others (piece_of bs).later) ≡ Some found → length found ≤ length bs
+    by_piece None e same h = by_later (piece_of bs).later refl same h
+    by_piece (Some p) e same h = by_name p e (bytes_eq (str_to_ascii_lowercase p.name) name) refl same h
+
+size-behind : (name value found : List ℕ) (o : Option (List ℕ)) → behind_semicolon value ≡ o → first_named name (parameters_behind o) ≡ Some found → length found ≤ length value
+size-behind name value found None e h = absurd (cc h)
+size-behind name value found (Some bs) e h =
+    let less = length-behind_semicolon value bs e in
+    let size = size-within (length bs) name bs found h in
+    omega (arith, less, size)
+
+pub parameter-size : (name value found : List ℕ) → parameter name value ≡ Some found → length found ≤ length value
+unfolding parameter
+parameter-size name value found h = size-behind name value found (behind_semicolon value) refl h

@@ -1,5 +1,5 @@
 -- What comes of a reader's calls.
-use Rattle.std.proofs.Common.{◌≡◌, ◌∙◌, ◌++◌, ℕ, suc, Bool, true, false, List, [], ◌∷◌, Option, Some, None, refl, sym, ap, subst, append_assoc, if◌then◌else◌}
+use Rattle.std.proofs.Common.{◌≡◌, ◌∙◌, ◌++◌, ℕ, Bool, true, false, List, [], ◌∷◌, Option, Some, None, refl, sym, ap, subst, append_assoc, if◌then◌else◌}
 use Rattle.std.specs.Prelude.{Result, Ok, Err, OnOk}
 use Rattle.std.proofs.lemmas.List.{append-nil}
 use Rattle.mbox_cutter.specs.Lines.{is_empty}
@@ -7,14 +7,12 @@ use Rattle.header_text.specs.Headers.{HeaderField, fields_of}
 use Rattle.header_text.specs.HeldLines.{HasLines, taken_of}
 use Rattle.header_text.specs.Stages.{has_empty}
 use Rattle.header_text.specs.declared.header.Header.{Header}
-use Rattle.header_text.specs.declared.header.Taken.{Taken}
 use Rattle.header_text.specs.declared.header.Taken.TheVariants.{More, Ended}
 use Rattle.mail_words.specs.declared.kind.TextKind.{TextKind}
 use Rattle.mime_text.specs.declared.fault.SinkFault.{SinkFault}
 use Rattle.mime_text.specs.declared.fault.TextFault.{TextFault}
-use Rattle.mime_text.specs.declared.fault.TextFault.TheVariants.{OutOfMemory, Sink, Failed}
+use Rattle.mime_text.specs.declared.fault.TextFault.TheVariants.{OutOfMemory}
 use Rattle.mime_text.specs.declared.shape.DefaultType.{DefaultType}
-use Rattle.mime_text.specs.declared.shape.DefaultType.TheVariants.{TextPlain}
 use Rattle.mime_text.specs.declared.frame.Frame.{Frame}
 use Rattle.mime_text.specs.declared.facts.Facts.{Facts}
 use Rattle.mime_text.specs.declared.part_reader.State.{State}
@@ -22,16 +20,15 @@ use Rattle.mime_text.specs.declared.part_reader.State.TheVariants as state
 use Rattle.mime_text.specs.declared.part_reader.PartReader.{PartReader}
 use Rattle.mime_text.specs.declared.nesting.Lead.{Lead}
 use Rattle.mime_text.specs.declared.nesting.Lead.TheVariants.{Nowhere, Piece, Behind}
-use Rattle.mime_text.specs.Sinks.{Pair, Coming, TakesAll, Breaks, Gave, Broke, Hands}
+use Rattle.mime_text.specs.Sinks.{Pair, Coming, Gave, Broke, Hands}
 use Rattle.mime_text.specs.Types.{shape_of}
 use Rattle.mime_text.specs.MessageFacts.{facts_of}
 use Rattle.mime_text.specs.LeafReading.{pairs_to_come}
-use Rattle.mime_text.specs.Stream.{Place, Skip, InHeader, InLeaf, hit, value}
+use Rattle.mime_text.specs.Stream.{Place, Skip, InHeader, InLeaf, hit}
 use Rattle.mime_text.specs.Frames.{Nest, lead_to}
-use Rattle.mime_text.specs.Texts.{part_texts}
 use Rattle.mime_text.specs.Passing.{Passed, Stopped, Passes, IsOver}
-use Rattle.mime_text.specs.Feeding.{given_from, counted_texts, ending, given_behind, given_after, ComesAt, Comes, ComesBehindHeader, ComesEndingAt, ComesEnding, IsInOwnHeader, KnowsAt, KnowsFacts, Notes}
-use Rattle.mime_text.proofs.StepLemmas.{value-header, given-hit, given-skip, given-leaf_line, given-more, given-ended, given-leaf, empty_ends, fields-on}
+use Rattle.mime_text.specs.Feeding.{given_from, header_texts, ending, given_behind, given_after, ComesAt, Comes, ComesBehindHeader, ComesEndingAt, ComesEnding, KnowsAt, KnowsFacts, Notes}
+use Rattle.mime_text.proofs.StepLemmas.{value-header, given-hit, given-leaf_line, given-more, given-ended, given-leaf, empty_ends, fields-on}
 
 abbrev Line : Type 0
 Line = List ℕ
@@ -59,7 +56,7 @@ ending-is r lead fields c f k = go r.state k
   where
     go : (s : State) → ComesEndingAt s r lead c → (ms : List Line) → c ms ≡ ending s fields r.leaf ++ given_after lead r.nesting ms
     go state.Skipping k ms = k ms
-    go (state.InHeader counted d) k ms = k.2 ms ∙ ap (λ (fs : List HeaderField). counted_texts counted fs ++ given_after lead r.nesting ms) (sym (f k.0 k.1))
+    go (state.InHeader counted d) k ms = k.2 ms ∙ ap (λ (fs : List HeaderField). header_texts counted fs ++ given_after lead r.nesting ms) (sym (f k.0 k.1))
     go state.InLeaf k ms = k ms
 
 -- what the message gives that ends here
@@ -68,7 +65,7 @@ whole-ending r fields c f k = go r.state k
   where
     go : (s : State) → ComesAt s r c → c [] ≡ ending s fields r.leaf
     go state.Skipping k = k []
-    go (state.InHeader counted d) k = k.3 [] ∙ value-header counted r.nesting.left d k.0 k.2 ∙ ap (counted_texts counted) (sym (f k.0 k.1))
+    go (state.InHeader counted d) k = k.3 [] ∙ value-header counted r.nesting.left d k.0 k.2 ∙ ap (header_texts counted) (sym (f k.0 k.1))
     go state.InLeaf k = k []
 
 -- a line that delimits ends the entity
@@ -83,7 +80,7 @@ delimits r n lead l h e q c k = go r.state k
       k.1,
       λ ms. k.3 (l ∷ ms) ∙ given-hit r.nesting.frames (InHeader counted r.nesting.left d k.0) l h ms e
           ∙ ap (λ (ps : List Pair). ps ++ given_from h.0 h.1 ms) (value-header counted r.nesting.left d k.0 k.2)
-          ∙ ap (λ (ps : List Pair). counted_texts counted (fields_of k.0) ++ ps) (q ms),
+          ∙ ap (λ (ps : List Pair). header_texts counted (fields_of k.0) ++ ps) (q ms),
     )
     go state.InLeaf k =
         λ ms. k (l ∷ ms) ∙ given-hit r.nesting.frames (InLeaf (pairs_to_come r.leaf)) l h ms e ∙ ap (λ (ps : List Pair). pairs_to_come r.leaf [] ++ ps) (q ms)
@@ -148,7 +145,7 @@ module _ {S : Type 0} (takes : S → TextKind → List ℕ → S → Type 0) (re
   -- ---- behind a header
 
   pub header-passed : (r : PartReader) (counted : Bool) (d : DefaultType) (fields : List HeaderField) (after : Coming → Type 0) (s t : S)
-      → ((ls : List Line) → HasLines r.header ls → fields ≡ fields_of ls) → Gave takes refuses (λ _. counted_texts counted fields) (λ _. []) s t
+      → ((ls : List Line) → HasLines r.header ls → fields ≡ fields_of ls) → Gave takes refuses (λ _. header_texts counted fields) (λ _. []) s t
       → ((ls : List Line) → HasLines r.header ls → after (given_behind (shape_of d (fields_of ls)) r.nesting (fields_of ls)))
       → Passed takes refuses (ComesBehindHeader r counted d) after (λ c. c) s t
   header-passed r counted d fields after s t f h a =
@@ -158,12 +155,12 @@ module _ {S : Type 0} (takes : S → TextKind → List ℕ → S → Type 0) (re
         rest = λ c k. (
           given_behind (shape_of d (fields_of k.0)) r.nesting (fields_of k.0),
           a k.0 k.1,
-          λ ms. k.2 ms ∙ ap (λ (ps : List Pair). ps ++ given_behind (shape_of d (fields_of k.0)) r.nesting (fields_of k.0) ms) (ap (counted_texts counted) (sym (f k.0 k.1)) ∙ h.rest ms ∙ append-nil h.pairs),
+          λ ms. k.2 ms ∙ ap (λ (ps : List Pair). ps ++ given_behind (shape_of d (fields_of k.0)) r.nesting (fields_of k.0) ms) (ap (header_texts counted) (sym (f k.0 k.1)) ∙ h.rest ms ∙ append-nil h.pairs),
         );
       }
 
   pub header-stopped : (r : PartReader) (counted : Bool) (d : DefaultType) (fields : List HeaderField) (fault : TextFault) (s t : S)
-      → ((ls : List Line) → HasLines r.header ls → fields ≡ fields_of ls) → Broke takes refuses (λ _. counted_texts counted fields) fault s t
+      → ((ls : List Line) → HasLines r.header ls → fields ≡ fields_of ls) → Broke takes refuses (λ _. header_texts counted fields) fault s t
       → Stopped takes refuses (ComesBehindHeader r counted d) (λ c. c) fault s t
   header-stopped r counted d fields fault s t f h =
       record {
@@ -171,7 +168,7 @@ module _ {S : Type 0} (takes : S → TextKind → List ℕ → S → Type 0) (re
         broken = h.broken;
         front = λ c k ms. (
           (h.front ms).0 ++ given_behind (shape_of d (fields_of k.0)) r.nesting (fields_of k.0) ms,
-          k.2 ms ∙ ap (λ (ps : List Pair). ps ++ given_behind (shape_of d (fields_of k.0)) r.nesting (fields_of k.0) ms) (ap (counted_texts counted) (sym (f k.0 k.1)) ∙ (h.front ms).1)
+          k.2 ms ∙ ap (λ (ps : List Pair). ps ++ given_behind (shape_of d (fields_of k.0)) r.nesting (fields_of k.0) ms) (ap (header_texts counted) (sym (f k.0 k.1)) ∙ (h.front ms).1)
               ∙ append_assoc h.pairs (h.front ms).0 (given_behind (shape_of d (fields_of k.0)) r.nesting (fields_of k.0) ms),
         );
       }
@@ -243,7 +240,7 @@ module _ {S : Type 0} (takes : S → TextKind → List ℕ → S → Type 0) (re
         at.0 ++ l ∷ [],
         push at.0 at.1,
         λ ms. at.3 (l ∷ ms) ∙ given-ended r.nesting counted d at.0 l ms away at.2 t
-            ∙ ap (λ (x : Nest). counted_texts counted fields ++ given_behind (shape_of d fields) x fields ms) (sym q),
+            ∙ ap (λ (x : Nest). header_texts counted fields ++ given_behind (shape_of d fields) x fields ms) (sym q),
       )
 
   -- ---- an entity's end, and the message's

@@ -1,5 +1,5 @@
 -- Rows of the tree of parts; the values on the right come from a separate reading of the rules.
-use Rattle.std.proofs.Common.{◌≡◌, ℕ, zero, suc, List, [], ◌∷◌, ◌++◌, length, refl}
+use Rattle.std.proofs.Common.{◌≡◌, ℕ, zero, suc, List, [], ◌∷◌, length, refl}
 use Rattle.std.specs.Prelude.{codes, map}
 use Rattle.mbox_cutter.specs.Lines.{is_empty}
 use Rattle.mbox_cutter.specs.Separators.{without_break}
@@ -8,17 +8,19 @@ use Rattle.header_text.specs.Headers.{HeaderField, fields_of}
 use Rattle.header_text.specs.Unfolding.{unfolded}
 use Rattle.mime_text.specs.Parameters.{piece_of, parameter}
 use Rattle.mime_text.specs.Types.{shape_of, shape_of_value}
-use Rattle.mime_text.specs.Parts.{Part, Counted, Leaf, is_delimiter, parts_of_message}
+use Rattle.mime_text.specs.Parts.{Part, Entity, Counted, Leaf, is_delimiter, parts_of_message}
 
 -- the bodies of the leaves
 bodies : List Part → List (List (List ℕ))
 bodies [] = []
+bodies (Entity fields ∷ ps) = bodies ps
 bodies (Counted fields ∷ ps) = bodies ps
 bodies (Leaf is_html fields body ∷ ps) = body ∷ bodies ps
 
 -- the names of the fields of the headers that count
 names : List Part → List (List (List ℕ))
 names [] = []
+names (Entity fields ∷ ps) = names ps
 names (Counted fields ∷ ps) = map (λ (f : HeaderField). f.name) fields ∷ names ps
 names (Leaf is_html fields body ∷ ps) = names ps
 

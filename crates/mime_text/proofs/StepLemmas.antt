@@ -1,13 +1,13 @@
 -- The places of a reader of lines, one line on.
-use Rattle.std.proofs.Common.{◌≡◌, ◌∙◌, ◌++◌, ℕ, zero, suc, Bool, true, false, ◌||◌, cond, List, [], ◌∷◌, Option, Some, None, refl, sym, ap, append_assoc}
-use Rattle.std.specs.Prelude.{flat_map, map}
-use Rattle.std.specs.List.{AllByRecursion, list_any}
+use Rattle.std.proofs.Common.{◌≡◌, ◌∙◌, ◌++◌, ℕ, zero, suc, Bool, true, false, ◌||◌, List, [], ◌∷◌, Option, Some, None, refl, sym, ap, append_assoc}
+use Rattle.std.specs.Prelude.{flat_map}
 use Rattle.std.proofs.lemmas.List.{append-nil}
 use Rattle.std.proofs.lemmas.Grind.{flat_map-append}
 use Rattle.mbox_cutter.specs.Lines.{is_empty, lines}
 use Rattle.header_text.specs.Headers.{HeaderField, fields_of}
+use Rattle.header_text.specs.Blanks.{before_blanks}
+use Rattle.header_text.specs.Unfolding.{unfolded}
 use Rattle.header_text.specs.Stages.{has_empty}
-use Rattle.header_text.specs.Charsets.{text_of}
 use Rattle.header_text.specs.Base64.{base64_bytes, bytes_of_sextets}
 use Rattle.header_text.specs.declared.charset.Charset.{Charset}
 use Rattle.mime_text.specs.declared.shape.DefaultType.{DefaultType}
@@ -17,17 +17,18 @@ use Rattle.mime_text.specs.declared.shape.Shape.TheVariants.{Multipart, Message,
 use Rattle.mime_text.specs.declared.frame.Frame.{Frame}
 use Rattle.mime_text.specs.declared.transfer.TransferEncoding.{TransferEncoding}
 use Rattle.mime_text.specs.declared.transfer.TransferEncoding.TheVariants.{Identity, QuotedPrintable, Base64}
-use Rattle.mime_text.specs.declared.leaf_reader.LeafReader.{LeafReader}
 use Rattle.mime_text.specs.Sinks.{Pair, Coming}
 use Rattle.mime_text.specs.FieldTexts.{texts_of_fields}
+use Rattle.mime_text.specs.Parameters.{piece_of, parameter}
 use Rattle.mime_text.specs.Types.{shape_of, charset_in, transfer_in}
+use Rattle.mime_text.specs.Names.{name_texts}
 use Rattle.mime_text.specs.LeafTexts.{leaf_texts}
-use Rattle.mime_text.specs.LeafReading.{body_pairs, pairs_to_come}
-use Rattle.mime_text.specs.Parts.{Part, Counted, Leaf, body_lines, pieces, parts, parts_by, is_left, parts_of_message}
-use Rattle.mime_text.specs.Stream.{Place, Skip, InHeader, InLeaf, hit, counted_part, value, behind_header, inner_step, step_by, given}
+use Rattle.mime_text.specs.LeafReading.{body_pairs}
+use Rattle.mime_text.specs.Parts.{Entity, body_lines, pieces, parts, parts_by, is_left}
+use Rattle.mime_text.specs.Stream.{Place, Skip, InHeader, InLeaf, hit, counted_part, header_parts, value, behind_header, inner_step, step_by}
 use Rattle.mime_text.specs.Frames.{Nest, opened}
 use Rattle.mime_text.specs.Texts.{part_texts, texts_of_message}
-use Rattle.mime_text.specs.Feeding.{given_from, counted_texts, given_behind}
+use Rattle.mime_text.specs.Feeding.{given_from, counted_texts, header_texts, given_behind}
 use Rattle.mime_text.proofs.StreamLaws.{IsHeader, fields_of-ended, whole_given}
 
 abbrev Line : Type 0
@@ -69,7 +70,13 @@ counted-is : (c : Bool) (ls : List Line) → flat_map part_texts (counted_part c
 counted-is true ls = append-nil (texts_of_fields (fields_of ls))
 counted-is false ls = refl
 
--- ---- an entity without a body gives nothing
+header-is : (c : Bool) (ls : List Line) → flat_map part_texts (header_parts c ls) ≡ header_texts c (fields_of ls)
+header-is c ls =
+    flat_map-append part_texts (counted_part c ls) (Entity (fields_of ls) ∷ [])
+    ∙ ap (λ (ps : List Pair). ps ++ flat_map part_texts (Entity (fields_of ls) ∷ [])) (counted-is c ls)
+    ∙ ap (λ (ps : List Pair). counted_texts c (fields_of ls) ++ ps) (append-nil (name_texts (fields_of ls)))
+
+-- ---- an entity without a body gives its name alone
 
 body-none : (ls : List Line) → has_empty ls ≡ false → body_lines ls ≡ []
 body-none [] e = refl
@@ -83,6 +90,10 @@ fields-none : texts_of_fields (fields_of []) ≡ []
 unfolding fields_of
 fields-none = refl
 
+name-none : name_texts (fields_of []) ≡ []
+unfolding before_blanks fields_of unfolded piece_of parameter
+name-none = refl
+
 pub leaf_texts-none : (transfer : TransferEncoding) (charset : Charset) (is_html : Bool) → leaf_texts transfer charset is_html [] ≡ []
 unfolding leaf_texts lines base64_bytes bytes_of_sextets
 leaf_texts-none Identity charset true = refl
@@ -92,17 +103,23 @@ leaf_texts-none QuotedPrintable charset false = refl
 leaf_texts-none Base64 charset true = refl
 leaf_texts-none Base64 charset false = refl
 
-parts-none : (n : ℕ) (d : DefaultType) (ls : List Line) → body_lines ls ≡ [] → flat_map part_texts (parts shape_of n d ls) ≡ []
+-- the name, where some depth is left
+abbrev name_at : ℕ → List Line → List Pair
+name_at zero ls = []
+name_at (suc n) ls = name_texts (fields_of ls)
+
+parts-none : (n : ℕ) (d : DefaultType) (ls : List Line) → body_lines ls ≡ [] → flat_map part_texts (parts shape_of n d ls) ≡ name_at n ls
 parts-none zero d ls e = refl
-parts-none (suc n) d ls e = go n (λ k. parts-none n TextPlain k) (shape_of d (fields_of ls))
+parts-none (suc n) d ls e =
+    ap (λ (ps : List Pair). name_texts (fields_of ls) ++ ps) (go n (λ k. parts-none n TextPlain k) (shape_of d (fields_of ls))) ∙ append-nil (name_texts (fields_of ls))
   where
-    go : (m : ℕ) → ((ks : List Line) → body_lines ks ≡ [] → flat_map part_texts (parts shape_of m TextPlain ks) ≡ []) → (sh : Shape)
+    go : (m : ℕ) → ((ks : List Line) → body_lines ks ≡ [] → flat_map part_texts (parts shape_of m TextPlain ks) ≡ name_at m ks) → (sh : Shape)
         → flat_map part_texts (parts_by shape_of (λ e ks. parts shape_of m e ks) (is_left m) sh ls) ≡ []
     go m later (Multipart b f) = ap (λ (ks : List Line). flat_map part_texts (flat_map (parts shape_of m f) (pieces b ks))) e
     go zero later Message = refl
     go (suc m) later Message =
         ap (λ (ks : List Line). texts_of_fields (fields_of ks) ++ flat_map part_texts (parts shape_of (suc m) TextPlain ks)) e
-        ∙ ap (λ (ps : List Pair). ps ++ flat_map part_texts (parts shape_of (suc m) TextPlain [])) fields-none ∙ later [] refl
+        ∙ ap (λ (ps : List Pair). ps ++ flat_map part_texts (parts shape_of (suc m) TextPlain [])) fields-none ∙ later [] refl ∙ name-none
     go m later (Text h) =
         append-nil (body_pairs (leaf_texts (transfer_in (fields_of ls)) (charset_in (fields_of ls)) h (body_lines ls)))
         ∙ ap (λ (ks : List Line). body_pairs (leaf_texts (transfer_in (fields_of ls)) (charset_in (fields_of ls)) h ks)) e
@@ -110,12 +127,12 @@ parts-none (suc n) d ls e = go n (λ k. parts-none n TextPlain k) (shape_of d (f
     go m later Other = refl
 
 -- what an entity gives that ends in its header
-pub value-header : (c : Bool) (n : ℕ) (d : DefaultType) (held : List Line) → has_empty held ≡ false → value shape_of part_texts (InHeader c n d held) [] ≡ counted_texts c (fields_of held)
+pub value-header : (c : Bool) (n : ℕ) (d : DefaultType) (held : List Line) → has_empty held ≡ false → value shape_of part_texts (InHeader c n d held) [] ≡ header_texts c (fields_of held)
 value-header c n d held e =
     ap (λ (ks : List Line). flat_map part_texts (counted_part c ks ++ parts shape_of (suc n) d ks)) (append-nil held)
     ∙ flat_map-append part_texts (counted_part c held) (parts shape_of (suc n) d held)
     ∙ ap (λ (ps : List Pair). flat_map part_texts (counted_part c held) ++ ps) (parts-none (suc n) d held (body-none held e))
-    ∙ append-nil (flat_map part_texts (counted_part c held)) ∙ counted-is c held
+    ∙ ap (λ (ps : List Pair). ps ++ name_texts (fields_of held)) (counted-is c held)
 
 -- ---- one line
 
@@ -137,7 +154,7 @@ given-leaf_line fs leaf l ms e = given-inner fs (InLeaf leaf) l ms e
 
 abbrev header_step : Bool → Nest → Bool → DefaultType → List Line → Line → List Pair × (List Frame × Place Pair)
 header_step t nest c d held l = elim t [
-  | true ↦ (flat_map part_texts (counted_part c held), behind_header shape_of part_texts (shape_of d (fields_of held)) nest.frames nest.left (fields_of held))
+  | true ↦ (flat_map part_texts (header_parts c held), behind_header shape_of part_texts (shape_of d (fields_of held)) nest.frames nest.left (fields_of held))
   | false ↦ ([], (nest.frames, InHeader c nest.left d (held ++ l ∷ [])))
 ]
 
@@ -156,12 +173,12 @@ given-more nest c d held l ms e t = given-header nest c d held l ms false e t
 -- the header ends
 pub given-ended : (nest : Nest) (c : Bool) (d : DefaultType) (held : List Line) (l : Line) (ms : List Line) → hit {A = Pair} nest.frames l ≡ None → has_empty held ≡ false → is_empty l ≡ true
     → given_from nest.frames (InHeader c nest.left d held) (l ∷ ms)
-    ≡ counted_texts c (fields_of (held ++ l ∷ [])) ++ given_behind (shape_of d (fields_of (held ++ l ∷ []))) nest (fields_of (held ++ l ∷ [])) ms
+    ≡ header_texts c (fields_of (held ++ l ∷ [])) ++ given_behind (shape_of d (fields_of (held ++ l ∷ []))) nest (fields_of (held ++ l ∷ [])) ms
 given-ended nest c d held l ms e q t =
     let rest : List HeaderField → List Pair = λ fields. given_behind (shape_of d fields) nest fields ms in
     given-header nest c d held l ms true e t
-    ∙ ap (λ (ps : List Pair). ps ++ rest (fields_of held)) (counted-is c held)
-    ∙ ap (λ (fields : List HeaderField). counted_texts c fields ++ rest fields) (sym (fields-ended held l q t))
+    ∙ ap (λ (ps : List Pair). ps ++ rest (fields_of held)) (header-is c held)
+    ∙ ap (λ (fields : List HeaderField). header_texts c fields ++ rest fields) (sym (fields-ended held l q t))
 
 -- a leaf that has given some pairs
 pub given-leaf : (fs : List Frame) (f g : Coming) (qs : List Pair) → ((ms : List Line) → f ms ≡ qs ++ g ms) → (ms : List Line) → given_from fs (InLeaf f) ms ≡ qs ++ given_from fs (InLeaf g) ms

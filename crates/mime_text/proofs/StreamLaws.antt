@@ -11,8 +11,8 @@ use Rattle.mime_text.specs.declared.shape.DefaultType.TheVariants.{TextPlain}
 use Rattle.mime_text.specs.declared.shape.Shape.{Shape}
 use Rattle.mime_text.specs.declared.shape.Shape.TheVariants.{Multipart, Message, Text, Other}
 use Rattle.mime_text.specs.declared.frame.Frame.{Frame}
-use Rattle.mime_text.specs.Parts.{Part, Counted, Leaf, body_lines, is_closing, is_delimiter, preamble_and_pieces, pieces, parts, parts_by, is_left}
-use Rattle.mime_text.specs.Stream.{Place, Skip, InHeader, InLeaf, or_else, own_hit, hit, counted_part, value, behind_header, inner_step, step_by, given}
+use Rattle.mime_text.specs.Parts.{Part, Entity, Counted, Leaf, body_lines, is_closing, is_delimiter, preamble_and_pieces, pieces, parts, parts_by, is_left}
+use Rattle.mime_text.specs.Stream.{Place, Skip, InHeader, InLeaf, or_else, own_hit, hit, counted_part, header_parts, value, behind_header, inner_step, step_by, given}
 
 abbrev Line : Type 0
 Line = List ℕ
@@ -46,6 +46,11 @@ IsHeader-push (k ∷ ls) l h e = (h.0, IsHeader-push ls l h.1 e)
 counted_part-ended : (c : Bool) (lines : List Line) (l : Line) (rest : List Line) → IsHeader lines → is_empty l ≡ true → counted_part c (lines ++ l ∷ rest) ≡ counted_part c lines
 counted_part-ended true lines l rest h e = ap (λ (fs : List HeaderField). Counted fs ∷ []) (fields_of-ended lines l rest h e)
 counted_part-ended false lines l rest h e = refl
+
+header_parts-ended : (c : Bool) (lines : List Line) (l : Line) (rest : List Line) → IsHeader lines → is_empty l ≡ true → header_parts c (lines ++ l ∷ rest) ≡ header_parts c lines
+header_parts-ended c lines l rest h e =
+    ap (λ (ps : List Part). ps ++ Entity (fields_of (lines ++ l ∷ rest)) ∷ []) (counted_part-ended c lines l rest h e)
+    ∙ ap (λ (fs : List HeaderField). counted_part c lines ++ Entity fs ∷ []) (fields_of-ended lines l rest h e)
 
 flat_map-none : {A : Type 0} (xs : List (List Line)) → flat_map {A = A} (λ (x : List Line). []) xs ≡ []
 flat_map-none [] = refl
@@ -149,18 +154,19 @@ module _ {A : Type 0} (shape_of : DefaultType → List HeaderField → Shape) (g
 
   by_end : (ls : List Line) (fs : List Frame) (c : Bool) (left : ℕ) (d : DefaultType) (lines : List Line) (l : Line)
       → AllStreams ls → AllFrames ls → IsHeader lines → is_empty l ≡ true
-      → flat_map gives (counted_part c lines)
+      → flat_map gives (header_parts c lines)
       ++ given shape_of gives (behind_header shape_of gives (shape_of d (fields_of lines)) fs left (fields_of lines)).0 (behind_header shape_of gives (shape_of d (fields_of lines)) fs left (fields_of lines)).1 ls
       ≡ value shape_of gives (InHeader c left d lines) (l ∷ before fs ls) ++ later fs ls
   by_end ls fs c left d lines l m g h t =
       let x = before fs ls in
       let all = lines ++ l ∷ x in
       let inside : Shape → List Part = λ sh. parts_by shape_of (λ e ks. parts shape_of left e ks) (is_left left) sh all in
-      ap (λ (ps : List A). flat_map gives (counted_part c lines) ++ ps) (by_shape (shape_of d (fields_of lines)) ls fs left lines l m g h t)
-      ∙ sym (append_assoc (flat_map gives (counted_part c lines)) (flat_map gives (inside (shape_of d (fields_of lines)))) (later fs ls))
-      ∙ ap (λ (ps : List A). ps ++ later fs ls) (sym (flat_map-append gives (counted_part c lines) (inside (shape_of d (fields_of lines)))))
-      ∙ ap (λ (ps : List Part). flat_map gives (ps ++ inside (shape_of d (fields_of lines))) ++ later fs ls) (sym (counted_part-ended c lines l x h t))
-      ∙ ap (λ (k : List HeaderField). flat_map gives (counted_part c all ++ inside (shape_of d k)) ++ later fs ls) (sym (fields_of-ended lines l x h t))
+      ap (λ (ps : List A). flat_map gives (header_parts c lines) ++ ps) (by_shape (shape_of d (fields_of lines)) ls fs left lines l m g h t)
+      ∙ sym (append_assoc (flat_map gives (header_parts c lines)) (flat_map gives (inside (shape_of d (fields_of lines)))) (later fs ls))
+      ∙ ap (λ (ps : List A). ps ++ later fs ls) (sym (flat_map-append gives (header_parts c lines) (inside (shape_of d (fields_of lines)))))
+      ∙ ap (λ (ps : List Part). flat_map gives (ps ++ inside (shape_of d (fields_of lines))) ++ later fs ls) (sym (header_parts-ended c lines l x h t))
+      ∙ ap (λ (k : List HeaderField). flat_map gives (header_parts c all ++ inside (shape_of d k)) ++ later fs ls) (sym (fields_of-ended lines l x h t))
+      ∙ ap (λ (ps : List Part). flat_map gives ps ++ later fs ls) (append_assoc (counted_part c all) (Entity (fields_of all) ∷ []) (inside (shape_of d (fields_of all))))
 
   one_more : (c : Bool) (n : ℕ) (d : DefaultType) (lines : List Line) (l : Line) (rest : List Line)
       → value shape_of gives (InHeader c n d (lines ++ l ∷ [])) rest ≡ value shape_of gives (InHeader c n d lines) (l ∷ rest)
@@ -175,7 +181,7 @@ module _ {A : Type 0} (shape_of : DefaultType → List HeaderField → Shape) (g
     where
       stepped : Bool → List A × (List Frame × Place A)
       stepped t = elim t [
-        | true ↦ (flat_map gives (counted_part c lines), behind_header shape_of gives (shape_of d (fields_of lines)) fs n (fields_of lines))
+        | true ↦ (flat_map gives (header_parts c lines), behind_header shape_of gives (shape_of d (fields_of lines)) fs n (fields_of lines))
         | false ↦ ([], (fs, InHeader c n d (lines ++ l ∷ [])))
       ]
 

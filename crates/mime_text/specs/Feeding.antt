@@ -1,5 +1,5 @@
 -- What a reader of a message's lines still gives.
-use Rattle.std.specs.Prelude.{◌≡◌, ℕ, Bool, true, false, List, [], ◌∷◌, ◌++◌, Option, Some, None}
+use Rattle.std.specs.Prelude.{◌≡◌, ℕ, Bool, true, false, List, [], ◌++◌, Option, Some, None}
 use Rattle.header_text.specs.Headers.{HeaderField, fields_of}
 use Rattle.header_text.specs.declared.header.Header.{Header}
 use Rattle.header_text.specs.HeldLines.{HasLines}
@@ -17,6 +17,7 @@ use Rattle.mime_text.specs.declared.nesting.Lead.{Lead}
 use Rattle.mime_text.specs.declared.nesting.Lead.TheVariants.{Nowhere, Piece, Behind}
 use Rattle.mime_text.specs.Sinks.{Pair, Coming}
 use Rattle.mime_text.specs.FieldTexts.{texts_of_fields}
+use Rattle.mime_text.specs.Names.{name_texts}
 use Rattle.mime_text.specs.LeafReading.{pairs_to_come}
 use Rattle.mime_text.specs.MessageFacts.{facts_of}
 use Rattle.mime_text.specs.Types.{shape_of}
@@ -33,10 +34,14 @@ abbrev pub counted_texts : Bool → List HeaderField → List Pair
 counted_texts true fields = texts_of_fields fields
 counted_texts false fields = []
 
+-- those of the header of an entity, and then the entity's name
+abbrev pub header_texts : Bool → List HeaderField → List Pair
+header_texts counted fields = counted_texts counted fields ++ name_texts fields
+
 -- what an entity gives that ends here, with these fields where it is in its header
 abbrev pub ending : State → List HeaderField → LeafReader → List Pair
 ending state.Skipping fields leaf = []
-ending (state.InHeader counted d) fields leaf = counted_texts counted fields
+ending (state.InHeader counted d) fields leaf = header_texts counted fields
 ending state.InLeaf fields leaf = pairs_to_come leaf []
 
 -- what comes behind the end of a header with these fields
@@ -64,13 +69,13 @@ Comes r c = ComesAt r.state r c
 -- these pairs come where a header has just ended
 abbrev pub ComesBehindHeader : PartReader → Bool → DefaultType → Coming → Type 0
 ComesBehindHeader r counted d c = (ls : List (List ℕ)) × HasLines r.header ls
-    × ((ms : List (List ℕ)) → c ms ≡ counted_texts counted (fields_of ls) ++ given_behind (shape_of d (fields_of ls)) r.nesting (fields_of ls) ms)
+    × ((ms : List (List ℕ)) → c ms ≡ header_texts counted (fields_of ls) ++ given_behind (shape_of d (fields_of ls)) r.nesting (fields_of ls) ms)
 
 -- these pairs come where an entity ends, and then what a lead goes to
 abbrev pub ComesEndingAt : State → PartReader → Lead → Coming → Type 0
 ComesEndingAt state.Skipping r lead c = (ms : List (List ℕ)) → c ms ≡ given_after lead r.nesting ms
 ComesEndingAt (state.InHeader counted d) r lead c = (held : List (List ℕ)) × HasLines r.header held
-    × ((ms : List (List ℕ)) → c ms ≡ counted_texts counted (fields_of held) ++ given_after lead r.nesting ms)
+    × ((ms : List (List ℕ)) → c ms ≡ header_texts counted (fields_of held) ++ given_after lead r.nesting ms)
 ComesEndingAt state.InLeaf r lead c = (ms : List (List ℕ)) → c ms ≡ pairs_to_come r.leaf [] ++ given_after lead r.nesting ms
 
 abbrev pub ComesEnding : PartReader → Lead → Coming → Type 0

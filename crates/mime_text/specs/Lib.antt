@@ -6,6 +6,7 @@ pub mod Stream
 pub mod Frames
 pub mod Parameters
 pub mod Types
+pub mod Names
 pub mod Transfer
 pub mod Tags
 pub mod LeafTexts

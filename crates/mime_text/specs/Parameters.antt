@@ -1,4 +1,4 @@
--- The parameters of a Content-Type field (RFC 2045, 5.1), read leniently.
+-- The parameters of a Content-Type field (RFC 2045, 5.1) or a Content-Disposition field (RFC 2183, 2), read leniently.
 use Rattle.std.specs.Prelude.{ℕ, zero, suc, Bool, true, false, not, ◌||◌, ◌==◌, if◌then◌else◌, List, [], ◌∷◌, ◌++◌, length, Option, None, Some, option_map}
 use Rattle.std.specs.Option.{option_map_or, option_to_list}
 use Rattle.std.specs.Str.{bytes_eq, str_to_ascii_lowercase}

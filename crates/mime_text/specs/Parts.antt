@@ -11,8 +11,9 @@ use Rattle.mime_text.specs.declared.shape.DefaultType.TheVariants.{TextPlain}
 use Rattle.mime_text.specs.declared.shape.Shape.{Shape}
 use Rattle.mime_text.specs.declared.shape.Shape.TheVariants.{Multipart, Message, Text, Other}
 
--- what gives texts: a header that counts for the whole message, or a leaf of the tree
+-- what gives texts: an entity, by the fields of its header; a header that counts for the whole message; or a leaf of the tree
 pub data Part : Type 0 where
+  Entity : List HeaderField → Part
   Counted : List HeaderField → Part
   Leaf : (is_html : Bool) → List HeaderField → (body : List (List ℕ)) → Part
 
@@ -53,7 +54,7 @@ is_left (suc n) = true
 
 -- what an entity is by its header's fields, where it is a default type's without a type of its own
 module _ (shape_of : DefaultType → List HeaderField → Shape) where
-  -- an entity's parts, where those inside it are read so, and some depth is left for them or none
+  -- the parts in an entity, where those inside it are read so, and some depth is left for them or none
   abbrev pub parts_by : (DefaultType → List (List ℕ) → List Part) → Bool → Shape → List (List ℕ) → List Part
   parts_by inner deep (Multipart boundary default) ls = flat_map (inner default) (pieces boundary (body_lines ls))
   parts_by inner true Message ls = Counted (fields_of (body_lines ls)) ∷ inner TextPlain (body_lines ls)
@@ -61,10 +62,10 @@ module _ (shape_of : DefaultType → List HeaderField → Shape) where
   parts_by inner deep (Text is_html) ls = Leaf is_html (fields_of ls) (body_lines ls) ∷ []
   parts_by inner deep Other ls = []
 
-  -- the parts of an entity for which so many depths are left, its own included
+  -- the parts of an entity for which so many depths are left, its own included: first the entity itself, of whatever type
   abbrev pub parts : ℕ → DefaultType → List (List ℕ) → List Part
   parts zero default ls = []
-  parts (suc left) default ls = parts_by (λ d ks. parts left d ks) (is_left left) (shape_of default (fields_of ls)) ls
+  parts (suc left) default ls = Entity (fields_of ls) ∷ parts_by (λ d ks. parts left d ks) (is_left left) (shape_of default (fields_of ls)) ls
 
   -- the parts of a message: its own header, and what its body has down to the depth of 16
   abbrev pub parts_of_message : List (List ℕ) → List Part

@@ -7,7 +7,7 @@ use Rattle.mime_text.specs.declared.shape.DefaultType.TheVariants.{TextPlain}
 use Rattle.mime_text.specs.declared.shape.Shape.{Shape}
 use Rattle.mime_text.specs.declared.shape.Shape.TheVariants.{Multipart, Message, Text, Other}
 use Rattle.mime_text.specs.declared.frame.Frame.{Frame}
-use Rattle.mime_text.specs.Parts.{Part, Counted, Leaf, is_closing, is_delimiter, parts}
+use Rattle.mime_text.specs.Parts.{Part, Entity, Counted, Leaf, is_closing, is_delimiter, parts}
 
 -- what the next line belongs to: to nothing that gives texts; to the header of an entity below which so many depths are left,
 -- behind these lines; or to a leaf that gives this of the lines that it still has
@@ -34,6 +34,10 @@ abbrev pub counted_part : Bool → List (List ℕ) → List Part
 counted_part true ls = Counted (fields_of ls) ∷ []
 counted_part false ls = []
 
+-- what is known where a header has ended: whether it counts, and whose it is
+abbrev pub header_parts : Bool → List (List ℕ) → List Part
+header_parts counted ls = counted_part counted ls ++ Entity (fields_of ls) ∷ []
+
 -- what an entity is, and what a part gives
 module _ {A : Type 0} (shape_of : DefaultType → List HeaderField → Shape) (gives : Part → List A) where
   -- what the entity gives that has these lines more and ends with them
@@ -55,7 +59,7 @@ module _ {A : Type 0} (shape_of : DefaultType → List HeaderField → Shape) (g
   abbrev pub inner_step : List Frame → Place A → List ℕ → List A × (List Frame × Place A)
   inner_step fs Skip l = ([], (fs, Skip))
   inner_step fs (InHeader counted left d lines) l = elim (is_empty l) [
-    | true ↦ (flat_map gives (counted_part counted lines), behind_header (shape_of d (fields_of lines)) fs left (fields_of lines))
+    | true ↦ (flat_map gives (header_parts counted lines), behind_header (shape_of d (fields_of lines)) fs left (fields_of lines))
     | false ↦ ([], (fs, InHeader counted left d (lines ++ l ∷ [])))
   ]
   inner_step fs (InLeaf leaf) l = ([], (fs, InLeaf (λ ms. leaf (l ∷ ms))))

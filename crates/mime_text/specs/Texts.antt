@@ -2,13 +2,16 @@
 use Rattle.std.specs.Prelude.{ℕ, List, flat_map}
 use Rattle.mime_text.specs.Sinks.{Pair}
 use Rattle.mime_text.specs.FieldTexts.{texts_of_fields}
+use Rattle.mime_text.specs.Names.{name_texts}
 use Rattle.mime_text.specs.LeafReading.{body_pairs}
 use Rattle.mime_text.specs.LeafTexts.{leaf_texts}
 use Rattle.mime_text.specs.Types.{shape_of, charset_in, transfer_in}
-use Rattle.mime_text.specs.Parts.{Part, Counted, Leaf, parts_of_message}
+use Rattle.mime_text.specs.Parts.{Part, Entity, Counted, Leaf, parts_of_message}
 
--- of a header that counts one for each To, Cc, Bcc, From and Subject field; of a leaf one for each line of what it encodes
+-- of an entity its name, if it has one; of a header that counts one for each To, Cc, Bcc, From and Subject field; of a leaf one for each
+-- line of what it encodes
 abbrev pub part_texts : Part → List Pair
+part_texts (Entity fields) = name_texts fields
 part_texts (Counted fields) = texts_of_fields fields
 part_texts (Leaf is_html fields body) = body_pairs (leaf_texts (transfer_in fields) (charset_in fields) is_html body)
 

@@ -1,8 +1,8 @@
 //! What an entity is, by its header.
-ghost use Rattle.std.specs.Prelude.{◌≡◌, ℕ, List, map, IfOk, OnOk, option_map};
+ghost use Rattle.std.specs.Prelude.{◌≡◌, ◌≤◌, ℕ, List, length, map, IfOk, OnOk, option_map};
 ghost use Rattle.std.specs.Char.{to_ascii_lowercase};
 ghost use Rattle.std.specs.Str.{str_to_ascii_lowercase};
-ghost use Rattle.header_text.specs.Headers.{fields_of};
+ghost use Rattle.header_text.specs.Headers.{fields_of, fields_size};
 ghost use Rattle.header_text.specs.HeldLines.{HasLines};
 ghost use Rattle.mime_text.specs.Types.{first_body as first_body_of, first_value, type_text as type_text_of, has_slash as has_slash_of, media_type as media_type_of, default_type, default_in as default_in_of, is_multipart as is_multipart_of, shape_of_single as shape_of_single_of, shape_of_value, shape_of, charset_of_value, charset_in, transfer_in};
 
@@ -39,9 +39,14 @@ fn first_body<'a>(fields: Fields<'a>, name: &[u8]) -> Option<&'a [u8]>
 
 /// Writes the unfolded value of the first field of a name, which is written in lower case; nothing where there is none.
 #[tactic(auto, unfolding(header_text::specs::Unfolding::unfolded, header_text::specs::Blanks::before_blanks))]
-fn read_first_value(fields: Fields<'_>, name: &[u8], into: &mut Vec<u8>) -> Result<(), AllocError>
+pub(crate) fn read_first_value(
+    fields: Fields<'_>,
+    name: &[u8],
+    into: &mut Vec<u8>,
+) -> Result<(), AllocError>
     requires { map to_ascii_lowercase name.now ≡ name.now }
-    ensures { OnOk result (into.new.items ≡ first_value name.now fields.entry) }
+    ensures value { OnOk result (into.new.items ≡ first_value name.now fields.entry) }
+    ensures size { OnOk result (length into.new.items ≤ fields_size fields.entry) }
 {
     into.clear();
     if let Some(body) = first_body(fields, name) {

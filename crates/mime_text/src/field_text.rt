@@ -1,10 +1,13 @@
-//! The texts of a header's fields.
-ghost use Rattle.std.specs.Prelude.{◌≡◌, ◌≤◌, ◌*◌, length, map, IfOk, OnOk, string_bytes};
+//! The texts of a header's fields, and of the name of its entity.
+ghost use Rattle.std.specs.Prelude.{◌≡◌, ◌≤◌, ◌*◌, length, map, option_map, if◌then◌else◌, IfOk, IfSome, OnOk, string_bytes};
+ghost use Rattle.header_text.specs.Headers.{fields_size, most_in_header};
 ghost use Rattle.header_text.specs.Unfolding.{unfolded as unfolded_of};
 ghost use Rattle.std.specs.Char.{to_ascii_lowercase};
+ghost use Rattle.mime_text.specs.Names.{name_text};
 ghost use Rattle.mime_text.specs.FieldTexts.{is_name as is_name_of, kind_of_field as kind_of_field_of, text_of_body};
 
-use header_text::{decode_words_into, unfold_into};
+use crate::name::write_name;
+use header_text::{Fields, decode_words_into, unfold_into};
 use mail_words::TextKind;
 use std::alloc::{AllocError, Global};
 
@@ -62,7 +65,8 @@ fn write_text(
     Ok(())
 }
 
-/// Reads the bodies of fields, into memory that is used again for each and bounded by what a header keeps.
+/// Reads the bodies of fields and the names of entities, into memory that is used again for each and bounded by what a header
+/// keeps.
 #[derive(Drop)]
 pub(crate) struct FieldReader {
     unfolded: Vec<u8>,
@@ -107,5 +111,37 @@ impl FieldReader {
     {
         self.take(body)?;
         Ok(self.text.as_str())
+    }
+
+    /// Reads the name of a header's entity, and keeps nothing where memory is wanting. The answer is whether it has one.
+    fn take_name(&mut self, fields: Fields<'_>) -> Result<bool, AllocError>
+        requires { fields_size fields ≤ most_in_header }
+        ensures { IfOk result (λ found. (if found then Some (string_bytes self.new.text) else None) ≡ name_text fields.entry) }
+    {
+        let outcome = write_name(
+            fields,
+            &mut self.unfolded,
+            &mut self.scratch,
+            &mut self.text,
+        );
+        self.scratch.clear();
+        if outcome.is_err() {
+            self.unfolded.clear();
+            self.text.clear();
+        }
+        outcome
+    }
+
+    /// The text of the name of a header's entity, if it has one. It has at most three bytes for each of the name's.
+    pub(crate) fn read_name(&mut self, fields: Fields<'_>) -> Result<Option<&str>, AllocError>
+        requires { fields_size fields ≤ most_in_header }
+        ensures text { IfOk result (λ name. option_map (λ text. text.now) name ≡ name_text fields.entry) }
+        ensures size { IfOk result (λ name. IfSome name (λ text. length text.now ≤ 786432)) }
+    {
+        if self.take_name(fields)? {
+            Ok(Some(self.text.as_str()))
+        } else {
+            Ok(None)
+        }
     }
 }

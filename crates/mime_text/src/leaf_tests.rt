@@ -1,6 +1,7 @@
-//! The texts of some bodies, and what a header says of one.
+//! The texts of some bodies, and what a header says of one and of its name.
 use super::*;
 use crate::content_type::EntityType;
+use crate::field_text::FieldReader;
 use crate::leaf_reader::LeafReader;
 use crate::shape::{DefaultType, Shape};
 use crate::transfer::TransferEncoding;
@@ -112,5 +113,18 @@ fn a_header_of_a_multipart(rt: HostRuntime) -> Result<(), Fail> {
         }
         _ => assert!(rt; false),
     }
+    Ok(())
+}
+
+#[test]
+fn names_of_two_headers(rt: HostRuntime) -> Result<(), Fail> {
+    let mut reader = FieldReader::new(rt.alloc());
+    let mut header = Header::new(rt.alloc());
+    header.push_line(b"Content-Disposition: attachment; filename=\"=?utf-8?Q?a_b?=\"\n")?;
+    header.push_line(b"Content-Type: text/plain; name=c\n")?;
+    assert_eq!(rt; reader.read_name(header.fields())?, Some("a b"));
+    header.clear();
+    header.push_line(b"Content-Type: text/plain\n")?;
+    assert_eq!(rt; reader.read_name(header.fields())?, None);
     Ok(())
 }

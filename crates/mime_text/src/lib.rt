@@ -16,6 +16,7 @@ mod leaf_reader;
 mod line_end;
 mod line_texts;
 mod message_text;
+mod name;
 mod nesting;
 mod own_text;
 mod owned;

@@ -13,7 +13,8 @@ use crate::sink::TextSink;
 use std::alloc::{AllocError, Global};
 
 /// Reads a message one line at a time, and gives its texts to a sink as they come: of each header that counts the texts of its
-/// To, Cc, Bcc, From and Subject fields in order, and of each text/plain and text/html part a text for each line (RFC 2045,
+/// To, Cc, Bcc, From and Subject fields in order; of each part of any type, the message too, the name of the file in which it is
+/// to be kept (RFC 2183, 2.3), if it has one; and then of each text/plain and text/html part a text for each line (RFC 2045,
 /// RFC 2046). Parts below the depth of 16 give nothing. No content is refused.
 #[derive(Drop)]
 pub struct MessageText {

@@ -1,5 +1,5 @@
-//! The parameters of a field (RFC 2045, 5.1), read leniently.
-ghost use Rattle.std.specs.Prelude.{◌≡◌, ◌<◌, ◌++◌, false, map, length, IfOk, IfSome, option_map, if◌then◌else◌};
+//! The parameters of a field (RFC 2045, 5.1; RFC 2183, 2), read leniently.
+ghost use Rattle.std.specs.Prelude.{◌≡◌, ◌<◌, ◌≤◌, ◌++◌, true, false, map, length, IfOk, IfSome, option_map, if◌then◌else◌};
 ghost use Rattle.std.specs.Char.{to_ascii_lowercase};
 ghost use Rattle.std.specs.Option.{option_map_or};
 ghost use Rattle.std.specs.Str.{bytes_eq, str_to_ascii_lowercase};
@@ -158,7 +158,8 @@ fn has_name(found: Option<&[u8]>, name: &[u8]) -> bool
 /// then holds its value. What the buffer holds else isn't said.
 pub fn read_parameter(value: &[u8], name: &[u8], into: &mut Vec<u8>) -> Result<bool, AllocError>
     requires { map to_ascii_lowercase name.now ≡ name.now }
-    ensures { IfOk result (λ found. (if found then Some into.new.items else None) ≡ parameter_of name.now value.now) }
+    ensures value { IfOk result (λ found. (if found then Some into.new.items else None) ≡ parameter_of name.now value.now) }
+    ensures size { IfOk result (λ found. found ≡ true → length into.new.items ≤ length value.now) }
 {
     let mut rest = behind_semicolon(value);
     while let Some(text) = rest {

@@ -166,7 +166,7 @@ impl PartReader {
         }
     }
 
-    /// Gives the texts of the header that has ended, if it counts, and begins the entity's body.
+    /// Gives the texts of the header that has ended, if it counts, and the entity's name, and begins its body.
     fn end_header<S: TextSink>(
         &mut self,
         counted: bool,

@@ -15,7 +15,7 @@ pub trait TextSink {
     /// What a text that was refused makes of the sink, and why it was.
     ghost refuses: { Self → TextKind → List ℕ → SinkFault → Self → Type 0 };
 
-    /// Takes a text: of a header field at most 786,432 bytes, and of a body, one line of at most 196,611.
+    /// Takes a text: of a header field, or a part's name, at most 786,432 bytes, and of a body one line of at most 196,611.
     fn text(&mut self, kind: TextKind, text: &str) -> Result<(), SinkFault>
         requires { length text.now ≤ most_in_text kind }
         ensures taken { OnOk result (takes self.old kind text.now self.new) }

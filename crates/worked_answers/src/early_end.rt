@@ -13,9 +13,9 @@ use std::test::Fail;
 
 /// Archives of which each is read as if it ended at an offset, while its length is told as it is.
 #[derive(Drop)]
-struct EarlyEnd {
-    inner: MemoryArchives,
-    end: u64,
+pub struct EarlyEnd {
+    pub inner: MemoryArchives,
+    pub end: u64,
 }
 
 impl Archives for EarlyEnd {

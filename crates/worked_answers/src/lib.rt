@@ -15,3 +15,5 @@ mod early_end;
 mod fixture;
 #[cfg(test)]
 mod threads;
+#[cfg(test)]
+mod verified;

@@ -8,6 +8,8 @@ use std::str;
 /// The table of an index file.
 #[derive(Debug, Drop)]
 pub struct Decoded {
+    /// 1 or 2.
+    pub version: u64,
     pub archives: Vec<DecodedArchive>,
     pub messages: Vec<DecodedMessage>,
     pub keys: Vec<DecodedKey>,
@@ -17,6 +19,8 @@ pub struct Decoded {
 pub struct DecodedArchive {
     pub path: String,
     pub length: u64,
+    /// None in version 1.
+    pub digest: Option<[u8; 32]>,
 }
 
 #[derive(Clone, Copy, Debug)]
@@ -31,7 +35,7 @@ pub struct DecodedMessage {
 
 #[derive(Debug, Drop)]
 pub struct DecodedKey {
-    /// 1 to 8.
+    /// 1 to 9.
     pub kind: u8,
     pub text: Vec<u8>,
     pub numbers: Vec<u32>,
@@ -110,7 +114,7 @@ fn signed_part(bytes: &[u8]) -> Result<&[u8], IndexFault> {
     if !bytes.starts_with(b"MAIRIX\r\n") {
         return Err(IndexFault::BadMagic);
     }
-    if &bytes[8..12] != [0, 0, 0, 1].as_slice() {
+    if !matches!(&bytes[8..12], [0, 0, 0, 1 | 2]) {
         return Err(IndexFault::BadVersion);
     }
     match bytes.split_last_chunk::<32>() {
@@ -122,6 +126,7 @@ fn signed_part(bytes: &[u8]) -> Result<&[u8], IndexFault> {
 /// The sections as the counts cut them.
 #[derive(Clone, Copy)]
 struct Sections<'a> {
+    version: u64,
     archive_count: u64,
     message_count: u64,
     archives: &'a [u8],
@@ -134,7 +139,8 @@ struct Sections<'a> {
 /// The sections, which are all that there is.
 fn cut(signed: &[u8]) -> Option<Sections<'_>> {
     let mut file = Reader { rest: signed };
-    let _magic_and_version = file.take(12)?;
+    let _magic = file.take(8)?;
+    let version = file.number(4)?;
     let archive_count = file.number(4)?;
     let message_count = file.number(4)?;
     let key_count = file.number(4)?;
@@ -142,6 +148,7 @@ fn cut(signed: &[u8]) -> Option<Sections<'_>> {
     let text_bytes = file.number(8)?;
     let posting_bytes = file.number(8)?;
     let sections = Sections {
+        version,
         archive_count,
         message_count,
         archives: file.take(archive_bytes)?,
@@ -157,7 +164,11 @@ fn cut(signed: &[u8]) -> Option<Sections<'_>> {
     }
 }
 
-fn next_archive<'a>(section: &mut Reader<'a>) -> Option<(&'a str, u64)> {
+/// The path, the length and the digest of the next archive.
+fn next_archive<'a>(
+    section: &mut Reader<'a>,
+    version: u64,
+) -> Option<(&'a str, u64, Option<[u8; 32]>)> {
     let length = section.number(8)?;
     let size = section.number(4)?;
     let path = str::from_utf8(section.take(size)?).ok()?;
@@ -167,20 +178,28 @@ fn next_archive<'a>(section: &mut Reader<'a>) -> Option<(&'a str, u64)> {
     if path.is_empty() || path.len() > 4096 {
         return None;
     }
-    Some((path, length))
+    let digest = if version == 1 {
+        None
+    } else {
+        Some(*section.take(32)?.first_chunk::<32>()?)
+    };
+    Some((path, length, digest))
 }
 
-fn read_archives(
-    alloc: Global,
-    count: u64,
-    section: &[u8],
-) -> Result<Vec<DecodedArchive>, Refusal> {
-    let mut rest = Reader { rest: section };
+fn read_archives(alloc: Global, sections: &Sections<'_>) -> Result<Vec<DecodedArchive>, Refusal> {
+    let mut rest = Reader {
+        rest: sections.archives,
+    };
     let mut archives = Vec::new(alloc);
-    for _ in 0..count {
-        let (path, length) = next_archive(&mut rest).ok_or(Section::Archives)?;
+    for _ in 0..sections.archive_count {
+        let next = next_archive(&mut rest, sections.version);
+        let (path, length, digest) = next.ok_or(Section::Archives)?;
         let path = String::from_str(alloc, path)?;
-        archives.push(DecodedArchive { path, length })?;
+        archives.push(DecodedArchive {
+            path,
+            length,
+            digest,
+        })?;
     }
     if rest.rest.is_empty() {
         Ok(archives)
@@ -261,13 +280,18 @@ struct Entry<'a> {
     place: u64,
 }
 
-/// The entry of these bytes, whose text is the next one.
-fn entry_of<'a>(bytes: &[u8], text_place: u64, texts: &mut Reader<'a>) -> Option<Entry<'a>> {
+/// The entry of these bytes, whose text is the next one, and whose kind is at most the last.
+fn entry_of<'a>(
+    bytes: &[u8],
+    text_place: u64,
+    texts: &mut Reader<'a>,
+    last_kind: u8,
+) -> Option<Entry<'a>> {
     let mut fields = Reader { rest: bytes };
     let kind = fields.byte()?;
     fields.pass_zeros()?;
     let text = texts.take(fields.number(4)?)?;
-    if fields.number(8)? != text_place || text.is_empty() || kind == 0 || kind > 8 {
+    if fields.number(8)? != text_place || text.is_empty() || kind == 0 || kind > last_kind {
         return None;
     }
     let place = fields.number(8)?;
@@ -280,17 +304,17 @@ fn are_in_order(first: &Entry<'_>, second: &Entry<'_>) -> bool {
     rises && first.place < second.place
 }
 
-fn read_directory<'a>(
-    alloc: Global,
-    section: &[u8],
-    texts: &'a [u8],
-    posting_bytes: u64,
-) -> Result<Vec<Entry<'a>>, Refusal> {
-    let mut rest = Reader { rest: texts };
+fn read_directory<'a>(alloc: Global, sections: &Sections<'a>) -> Result<Vec<Entry<'a>>, Refusal> {
+    let last_kind = if sections.version == 1 { 8 } else { 9 };
+    let posting_bytes = sections.postings.len() as u64;
+    let mut rest = Reader {
+        rest: sections.texts,
+    };
     let mut entries: Vec<Entry<'a>> = Vec::new(alloc);
-    for bytes in section.chunks_exact(24) {
-        let text_place = texts.len().saturating_sub(rest.rest.len()) as u64;
-        entries.push(entry_of(bytes, text_place, &mut rest).ok_or(Section::Directory)?)?;
+    for bytes in sections.directory.chunks_exact(24) {
+        let text_place = sections.texts.len().saturating_sub(rest.rest.len()) as u64;
+        let entry = entry_of(bytes, text_place, &mut rest, last_kind);
+        entries.push(entry.ok_or(Section::Directory)?)?;
     }
     let begins = entries.first().map_or(0, |entry| entry.place);
     let fits = match entries.last() {
@@ -373,12 +397,12 @@ fn read_keys(
 /// The table of these bytes, or the first rule that they break.
 pub fn decode(alloc: Global, bytes: &[u8]) -> Result<Decoded, Refusal> {
     let sections = cut(signed_part(bytes)?).ok_or(Section::Counts)?;
-    let archives = read_archives(alloc, sections.archive_count, sections.archives)?;
+    let archives = read_archives(alloc, &sections)?;
     let messages = read_messages(alloc, &archives, sections.records)?;
-    let posting_bytes = sections.postings.len() as u64;
-    let entries = read_directory(alloc, sections.directory, sections.texts, posting_bytes)?;
+    let entries = read_directory(alloc, &sections)?;
     let keys = read_keys(alloc, &entries, sections.postings, sections.message_count)?;
     Ok(Decoded {
+        version: sections.version,
         archives,
         messages,
         keys,

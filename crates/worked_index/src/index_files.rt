@@ -11,7 +11,7 @@ use std::process::Abort;
 use std::test::Fail;
 
 /// The index file of one archive `m.mbox` of 58 bytes, whose one message has the subject `Hello` and the text `hi`, without its
-/// digest.
+/// digest. It is of version 1, which isn't written any more: a builder wrote it when that was the only one.
 pub const BODY: &[u8] = b"MAIRIX\r\n\
     \x00\x00\x00\x01\x00\x00\x00\x01\x00\x00\x00\x01\x00\x00\x00\x02\
     \x00\x00\x00\x00\x00\x00\x00\x12\x00\x00\x00\x00\x00\x00\x00\x07\x00\x00\x00\x00\x00\x00\x00\x02\
@@ -27,7 +27,30 @@ pub const BODY: &[u8] = b"MAIRIX\r\n\
 const DIGEST: &[u8] = b"\xbe\x22\x1b\xc0\x97\xae\xcd\xe7\x1f\x26\x77\x17\xf7\x2e\xdb\xcc\
     \x9d\x3c\x32\x27\x3e\xe3\x56\xa3\x4b\x24\x92\xd5\x7b\x98\xc0\xc3";
 
-/// Its message.
+/// A digest of that archive, whose bytes are each another one.
+const ARCHIVE_DIGEST: [u8; 32] = *b"\
+    \xe0\xe1\xe2\xe3\xe4\xe5\xe6\xe7\xe8\xe9\xea\xeb\xec\xed\xee\xef\
+    \xf0\xf1\xf2\xf3\xf4\xf5\xf6\xf7\xf8\xf9\xfa\xfb\xfc\xfd\xfe\xff";
+
+/// The index file of the same archive with that digest as it is written now, in version 2, without its own digest.
+pub const NEW_BODY: &[u8] = b"MAIRIX\r\n\
+    \x00\x00\x00\x02\x00\x00\x00\x01\x00\x00\x00\x01\x00\x00\x00\x02\
+    \x00\x00\x00\x00\x00\x00\x00\x32\x00\x00\x00\x00\x00\x00\x00\x07\x00\x00\x00\x00\x00\x00\x00\x02\
+    \x00\x00\x00\x00\x00\x00\x00\x3a\x00\x00\x00\x06m.mbox\
+    \xe0\xe1\xe2\xe3\xe4\xe5\xe6\xe7\xe8\xe9\xea\xeb\xec\xed\xee\xef\
+    \xf0\xf1\xf2\xf3\xf4\xf5\xf6\xf7\xf8\xf9\xfa\xfb\xfc\xfd\xfe\xff\
+    \x00\x00\x00\x00\x00\x00\x00\x00\x00\x00\x00\x00\x00\x00\x00\x00\
+    \x00\x00\x00\x00\x00\x00\x00\x3a\x00\x00\x00\x00\x00\x00\x00\x13\x00\x00\x00\x00\x00\x00\x00\x00\
+    \x05\x00\x00\x00\x00\x00\x00\x05\x00\x00\x00\x00\x00\x00\x00\x00\x00\x00\x00\x00\x00\x00\x00\x00\
+    \x06\x00\x00\x00\x00\x00\x00\x02\x00\x00\x00\x00\x00\x00\x00\x05\x00\x00\x00\x00\x00\x00\x00\x01\
+    hellohi\
+    \x01\x01";
+
+/// The digest of that file, from outside.
+const NEW_DIGEST: &[u8] = b"\xc1\xb5\x32\xfd\xef\x00\x69\x02\xd2\xeb\x2d\x25\x1c\x05\x04\x45\
+    \x3c\x88\x2b\xa1\x8a\xb9\xba\x28\x5b\x6c\x9a\x42\x48\xc1\xd8\x8e";
+
+/// Their message.
 pub const ONLY: Record = Record {
     archive: 0,
     offset: 0,
@@ -104,7 +127,7 @@ const THIRD: Record = Record {
 };
 
 /// The kinds by their numbers, from 1.
-const KINDS: [Kind; 8] = [
+const KINDS: [Kind; 9] = [
     Kind::Text(TextKind::To),
     Kind::Text(TextKind::Cc),
     Kind::Text(TextKind::Bcc),
@@ -113,6 +136,7 @@ const KINDS: [Kind; 8] = [
     Kind::Text(TextKind::Body),
     Kind::OwnId,
     Kind::LinkId,
+    Kind::Text(TextKind::Name),
 ];
 
 /// Each bit of a byte.
@@ -200,12 +224,14 @@ fn check_keys(
 }
 
 fn check_table(rt: &impl Abort, view: &IndexView<'_>, decoded: &Decoded) {
+    assert_eq!(rt; u64::from(view.version()), decoded.version);
     assert_eq!(rt; view.archive_count() as usize, decoded.archives.len());
     for n in 0..view.archive_count() {
         let archive = view.archive(n);
         let other = decoded.archives.get(n as usize);
         assert_eq!(rt; other.map(|other| other.path.as_str()), Some(archive.path));
         assert_eq!(rt; other.map(|other| other.length), Some(archive.length));
+        assert_eq!(rt; other.map(|other| other.digest), Some(archive.digest));
     }
     assert_eq!(rt; view.message_count() as usize, decoded.messages.len());
     for n in 0..view.message_count() {
@@ -236,7 +262,7 @@ fn fault_of(rt: &impl Abort, alloc: Global, bytes: &[u8]) -> Result<Option<Index
     }
 }
 
-/// What a builder writes that is given the archive of `BODY`.
+/// What a builder writes that is given the archive of `NEW_BODY`.
 fn written(rt: &impl Abort, alloc: Global) -> Result<Vec<u8>, Fail> {
     let path = "m.mbox";
     assert!(rt; is_path(path));
@@ -247,9 +273,9 @@ fn written(rt: &impl Abort, alloc: Global) -> Result<Vec<u8>, Fail> {
     builder.add(Kind::Text(TextKind::Subject), b"hello")?;
     builder.add(Kind::Text(TextKind::Body), b"hi")?;
     builder.end_message(ONLY)?;
-    builder.end_archive(58)?;
+    builder.end_archive(58, ARCHIVE_DIGEST)?;
     let mut out = MemoryOut::new(alloc, None);
-    assert_eq!(rt; builder.write(&mut out), Ok(195));
+    assert_eq!(rt; builder.write(&mut out), Ok(227));
     Ok(out.bytes().to_vec(alloc)?)
 }
 
@@ -282,14 +308,15 @@ fn body_of_many(alloc: Global) -> Result<Vec<u8>, AllocError> {
 fn check_decoded(
     rt: &impl Abort,
     decoded: &Decoded,
-    archives: &[(&str, u64)],
+    archives: &[(&str, u64, Option<[u8; 32]>)],
     messages: &[Record],
     keys: &[(u8, &str, &[u32])],
 ) {
     assert_eq!(rt; decoded.archives.len(), archives.len());
-    for (archive, (path, length)) in decoded.archives.iter().zip(archives) {
+    for (archive, (path, length, digest)) in decoded.archives.iter().zip(archives) {
         assert_eq!(rt; archive.path.as_str(), *path);
         assert_eq!(rt; archive.length, *length);
+        assert_eq!(rt; archive.digest, *digest);
     }
     assert_eq!(rt; decoded.messages.len(), messages.len());
     for (message, record) in decoded.messages.iter().zip(messages) {
@@ -303,21 +330,57 @@ fn check_decoded(
     }
 }
 
+/// Looks up `hello` in subjects, which the one message has.
+fn check_hello(rt: &impl Abort, view: &IndexView<'_>) {
+    let kind = Kind::Text(TextKind::Subject);
+    check_numbers(rt, view.look_up(kind, b"hello", &mut Steps::new()), &[0]);
+}
+
+#[test]
+fn a_file_of_version_1_is_read(rt: HostRuntime) -> Result<(), Fail> {
+    let alloc = rt.alloc();
+    let mut file = BODY.to_vec(alloc)?;
+    file.extend_from_slice(DIGEST)?;
+    assert_eq!(rt; file.len(), 195);
+    assert_eq!(rt; fault_of(&rt, alloc, &file)?, None);
+    let view = IndexView::open(&file)?;
+    assert_eq!(rt; view.version(), 1);
+    check_hello(&rt, &view);
+    Ok(())
+}
+
 #[test]
 fn the_file_of_one_message_is_read(rt: HostRuntime) -> Result<(), Fail> {
     let alloc = rt.alloc();
     let file = written(&rt, alloc)?;
-    assert_eq!(rt; file.as_slice(), signed(alloc, BODY)?.as_slice());
-    assert!(rt; file.as_slice().ends_with(DIGEST));
+    assert_eq!(rt; file.as_slice(), signed(alloc, NEW_BODY)?.as_slice());
+    assert!(rt; file.as_slice().ends_with(NEW_DIGEST));
+    let view = IndexView::open(&file)?;
+    assert_eq!(rt; view.version(), 2);
+    check_hello(&rt, &view);
     assert_eq!(rt; fault_of(&rt, alloc, &file)?, None);
     let keys = [(5, "hello", [0].as_slice()), (6, "hi", [0].as_slice())];
     check_decoded(
         &rt,
         &decode(alloc, &file)?,
-        &[("m.mbox", 58)],
+        &[("m.mbox", 58, Some(ARCHIVE_DIGEST))],
         &[ONLY],
         &keys,
     );
+    Ok(())
+}
+
+#[test]
+fn the_digests_of_archives_are_told(rt: HostRuntime) -> Result<(), Fail> {
+    let alloc = rt.alloc();
+    for digest in [ARCHIVE_DIGEST, [0; 32], [0xff; 32]] {
+        let body = with_bytes_at(alloc, NEW_BODY, 66, &digest)?;
+        let file = signed(alloc, &body)?;
+        let view = IndexView::open(&file)?;
+        assert_eq!(rt; view.archive_count(), 1);
+        assert_eq!(rt; view.archive(0).digest, Some(digest));
+        assert_eq!(rt; fault_of(&rt, alloc, &file)?, None);
+    }
     Ok(())
 }
 
@@ -326,7 +389,7 @@ fn the_file_of_two_archives_is_read(rt: HostRuntime) -> Result<(), Fail> {
     let alloc = rt.alloc();
     let file = signed(alloc, BODY_OF_TWO)?;
     assert_eq!(rt; fault_of(&rt, alloc, &file)?, None);
-    let archives = [("a.mbox", 200), ("b/\u{fc}.mbox", 37)];
+    let archives = [("a.mbox", 200, None), ("b/\u{fc}.mbox", 37, None)];
     let keys = [
         (1, "bob", [2].as_slice()),
         (2, "ann", [2].as_slice()),
@@ -454,6 +517,17 @@ fn changed_bodies_are_refused(rt: HostRuntime) -> Result<(), Fail> {
         let file = signed(alloc, &changed)?;
         assert_eq!(rt; fault_of(&rt, alloc, &file)?, Some(fault), "at {at}");
     }
+    for (at, new, fault) in [
+        // Another version, and the same entries in the other version.
+        (11, b"\x03".as_slice(), IndexFault::BadVersion),
+        (11, b"\x01", IndexFault::BadLayout(Section::Archives)),
+        // Kind 10.
+        (162, b"\x0a", IndexFault::BadLayout(Section::Directory)),
+    ] {
+        let changed = with_bytes_at(alloc, NEW_BODY, at, new)?;
+        let file = signed(alloc, &changed)?;
+        assert_eq!(rt; fault_of(&rt, alloc, &file)?, Some(fault), "at {at}");
+    }
     let mut longer = with_bytes_at(alloc, BODY, 47, b"\x03")?;
     longer.truncate(161);
     longer.extend_from_slice(b"\x01\x81\0")?;
@@ -540,11 +614,29 @@ fn check_tally(rt: &impl Abort, faults: &[Option<IndexFault>], counts: [usize; 8
     }
 }
 
-// How many there are of each was counted by hand, section by section.
+// How many there are of each was counted by hand, section by section. In version 2 an archive's digest may have any bits.
 #[test]
 fn turned_bits_under_a_right_digest(rt: HostRuntime) -> Result<(), Fail> {
     let faults = faults_of_turned_bits(&rt, rt.alloc(), BODY)?;
     check_tally(&rt, &faults, [151, 64, 32, 256, 94, 310, 381, 16]);
+    let faults = faults_of_turned_bits(&rt, rt.alloc(), NEW_BODY)?;
+    check_tally(&rt, &faults, [407, 64, 32, 256, 94, 310, 381, 16]);
+    Ok(())
+}
+
+#[test]
+fn names_are_keys_of_version_2(rt: HostRuntime) -> Result<(), Fail> {
+    let alloc = rt.alloc();
+    // The kind of the second key, which is Body, made Name.
+    let old = with_bytes_at(alloc, BODY, 130, b"\x09")?;
+    let fault = IndexFault::BadLayout(Section::Directory);
+    assert_eq!(rt; fault_of(&rt, alloc, &signed(alloc, &old)?)?, Some(fault));
+    let new = with_bytes_at(alloc, NEW_BODY, 162, b"\x09")?;
+    let file = signed(alloc, &new)?;
+    assert_eq!(rt; fault_of(&rt, alloc, &file)?, None);
+    let view = IndexView::open(&file)?;
+    let kind = Kind::Text(TextKind::Name);
+    check_numbers(&rt, view.look_up(kind, b"hi", &mut Steps::new()), &[0]);
     Ok(())
 }
 

@@ -58,12 +58,12 @@ fn sweep_job(rt: &impl Abort, alloc: Global, text: &str, word: &str, size: u64) 
 fn sweep_index_job_of_an_encoded_text(rt: HostRuntime) {
     let text =
         "^Content-Type: text/plain; charset=utf-8|Content-Transfer-Encoding: base64||ZsO|8cg==||";
-    let _ = sweep_job(&rt, rt.alloc(), text, "f\u{fc}r", 167);
+    let _ = sweep_job(&rt, rt.alloc(), text, "f\u{fc}r", 199);
 }
 
 #[test]
 fn sweep_index_job_of_parts(rt: HostRuntime) {
     let text =
         "^Content-Type: multipart/mixed; boundary=o||--o|Content-Type: multipart/mixed; boundary=i||--i||inner|--o||outer|--o--||";
-    let _ = sweep_job(&rt, rt.alloc(), text, "outer", 198);
+    let _ = sweep_job(&rt, rt.alloc(), text, "outer", 230);
 }

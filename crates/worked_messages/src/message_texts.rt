@@ -67,6 +67,212 @@ fn a_soft_break_joins_two_lines(rt: HostRuntime) -> Result<(), Fail> {
     Ok(())
 }
 
+/// Whether a sink has taken these texts, and no others.
+fn has_taken(sink: &Kept, wanted: &[(TextKind, &str)]) -> bool {
+    sink.texts.len() == wanted.len()
+        && sink.texts.iter().zip(wanted).all(|((kind, text), (wanted_kind, wanted_text))| {
+            kind == wanted_kind && text.as_str() == *wanted_text
+        })
+}
+
+/// Whether a line was taken as those before it. A way out at each line would be a proof for each.
+fn goes_on(answer: Result<(), TextFault>, before: bool) -> bool {
+    answer.is_ok() && before
+}
+
+/// An attachment is no text, but it has a name.
+#[test]
+fn an_attachment_has_the_name_of_its_file(rt: HostRuntime) -> Result<(), Fail> {
+    let mut sink = Kept::new(rt.alloc(), 9);
+    let mut message = MessageText::new(rt.alloc())?;
+    let mut fed = true;
+    fed = goes_on(
+        message.line(b"Content-Type: multipart/mixed; boundary=o\n", &mut sink),
+        fed,
+    );
+    fed = goes_on(message.line(b"\n", &mut sink), fed);
+    fed = goes_on(message.line(b"--o\n", &mut sink), fed);
+    fed = goes_on(
+        message.line(b"Content-Type: application/pdf; name=old.pdf\n", &mut sink),
+        fed,
+    );
+    fed = goes_on(
+        message.line(
+            b"Content-Disposition: attachment; filename=\"Annual Report.pdf\"\n",
+            &mut sink,
+        ),
+        fed,
+    );
+    fed = goes_on(message.line(b"\n", &mut sink), fed);
+    fed = goes_on(message.line(b"%PDF\n", &mut sink), fed);
+    fed = goes_on(message.line(b"--o--\n", &mut sink), fed);
+    message.end(&mut sink)?;
+    assert!(rt; fed);
+    assert!(rt; has_taken(&sink, &[(TextKind::Name, "Annual Report.pdf")]));
+    Ok(())
+}
+
+/// The name of a message itself, which ends in its header: encoded words in it are decoded.
+#[test]
+fn a_name_in_encoded_words(rt: HostRuntime) -> Result<(), Fail> {
+    let mut sink = Kept::new(rt.alloc(), 9);
+    let mut message = MessageText::new(rt.alloc())?;
+    let mut fed = true;
+    fed = goes_on(message.line(b"Subject: lunch\n", &mut sink), fed);
+    fed = goes_on(
+        message.line(b"Content-Disposition: attachment;\n", &mut sink),
+        fed,
+    );
+    fed = goes_on(
+        message.line(
+            b" filename=\"=?iso-8859-1?Q?Caf=E9?= =?utf-8?B?w7w=?=.pdf\"\n",
+            &mut sink,
+        ),
+        fed,
+    );
+    assert!(rt; sink.texts.is_empty());
+    message.end(&mut sink)?;
+    assert!(rt; fed);
+    assert!(rt;
+        has_taken(
+            &sink,
+            &[
+                (TextKind::Subject, "lunch"),
+                (TextKind::Name, "Caf\u{e9}\u{fc}.pdf")
+            ]
+        )
+    );
+    Ok(())
+}
+
+/// A file name that is empty leaves the name to the type, and one that decodes to nothing doesn't.
+#[test]
+fn empty_file_names(rt: HostRuntime) -> Result<(), Fail> {
+    let mut sink = Kept::new(rt.alloc(), 9);
+    let mut message = MessageText::new(rt.alloc())?;
+    let mut fed = true;
+    fed = goes_on(
+        message.line(b"Content-Type: multipart/mixed; boundary=o\n", &mut sink),
+        fed,
+    );
+    fed = goes_on(message.line(b"\n", &mut sink), fed);
+    fed = goes_on(message.line(b"--o\n", &mut sink), fed);
+    fed = goes_on(
+        message.line(
+            b"Content-Disposition: attachment; filename=\"\"\n",
+            &mut sink,
+        ),
+        fed,
+    );
+    fed = goes_on(
+        message.line(b"Content-Type: application/pdf; name=a.pdf\n", &mut sink),
+        fed,
+    );
+    fed = goes_on(message.line(b"\n", &mut sink), fed);
+    fed = goes_on(message.line(b"--o\n", &mut sink), fed);
+    fed = goes_on(
+        message.line(
+            b"Content-Disposition: attachment; filename=\"=?utf-8?Q??=\"\n",
+            &mut sink,
+        ),
+        fed,
+    );
+    fed = goes_on(
+        message.line(b"Content-Type: application/pdf; name=b.pdf\n", &mut sink),
+        fed,
+    );
+    fed = goes_on(message.line(b"\n", &mut sink), fed);
+    fed = goes_on(message.line(b"--o--\n", &mut sink), fed);
+    message.end(&mut sink)?;
+    assert!(rt; fed);
+    assert!(rt; has_taken(&sink, &[(TextKind::Name, "a.pdf"), (TextKind::Name, "")]));
+    Ok(())
+}
+
+/// Parts of each type have names, also one whose type isn't said: a name comes before what its part has in it.
+#[test]
+fn names_of_parts_of_each_type(rt: HostRuntime) -> Result<(), Fail> {
+    let mut sink = Kept::new(rt.alloc(), 9);
+    let mut message = MessageText::new(rt.alloc())?;
+    let mut fed = true;
+    fed = goes_on(
+        message.line(
+            b"Content-Type: multipart/mixed; boundary=o; name=all\n",
+            &mut sink,
+        ),
+        fed,
+    );
+    fed = goes_on(message.line(b"\n", &mut sink), fed);
+    fed = goes_on(message.line(b"--o\n", &mut sink), fed);
+    fed = goes_on(
+        message.line(b"Content-Type: ; name=lone.txt\n", &mut sink),
+        fed,
+    );
+    fed = goes_on(message.line(b"\n", &mut sink), fed);
+    fed = goes_on(message.line(b"lunch\n", &mut sink), fed);
+    fed = goes_on(message.line(b"--o\n", &mut sink), fed);
+    fed = goes_on(
+        message.line(b"Content-Type: message/rfc822; name=note.eml\n", &mut sink),
+        fed,
+    );
+    fed = goes_on(message.line(b"\n", &mut sink), fed);
+    fed = goes_on(
+        message.line(b"Content-Disposition: inline; filename=in.txt\n", &mut sink),
+        fed,
+    );
+    fed = goes_on(message.line(b"Subject: soup\n", &mut sink), fed);
+    fed = goes_on(message.line(b"\n", &mut sink), fed);
+    fed = goes_on(message.line(b"break\n", &mut sink), fed);
+    fed = goes_on(message.line(b"--o--\n", &mut sink), fed);
+    message.end(&mut sink)?;
+    assert!(rt; fed);
+    assert!(rt;
+        has_taken(
+            &sink,
+            &[
+                (TextKind::Name, "all"),
+                (TextKind::Name, "lone.txt"),
+                (TextKind::Body, "lunch\n"),
+                (TextKind::Name, "note.eml"),
+                (TextKind::Subject, "soup"),
+                (TextKind::Name, "in.txt"),
+                (TextKind::Body, "break\n"),
+            ]
+        )
+    );
+    Ok(())
+}
+
+/// A part at the depth of 16 has its name, and what is in it has none.
+#[test]
+fn names_sixteen_deep(rt: HostRuntime) -> Result<(), Fail> {
+    let mut sink = Kept::new(rt.alloc(), 9);
+    let mut message = MessageText::new(rt.alloc())?;
+    let mut fed = true;
+    for _ in 0..16 {
+        fed = goes_on(
+            message.line(b"Content-Type: message/rfc822\n", &mut sink),
+            fed,
+        );
+        fed = goes_on(message.line(b"\n", &mut sink), fed);
+    }
+    fed = goes_on(
+        message.line(b"Content-Type: message/rfc822; name=a.eml\n", &mut sink),
+        fed,
+    );
+    fed = goes_on(message.line(b"\n", &mut sink), fed);
+    fed = goes_on(
+        message.line(b"Content-Type: text/plain; name=b.txt\n", &mut sink),
+        fed,
+    );
+    fed = goes_on(message.line(b"\n", &mut sink), fed);
+    fed = goes_on(message.line(b"lunch\n", &mut sink), fed);
+    message.end(&mut sink)?;
+    assert!(rt; fed);
+    assert!(rt; has_taken(&sink, &[(TextKind::Name, "a.eml")]));
+    Ok(())
+}
+
 /// A fault comes once, and then each call has failed, which gives the sink nothing.
 #[test]
 fn a_refused_line_fails(rt: HostRuntime) -> Result<(), Fail> {
@@ -132,6 +338,14 @@ fn sweep_message_text(rt: HostRuntime) {
     let mut failed = false;
     failed = has_failed(&rt, message.line(b"Message-ID: <a@x>\n", &mut sink), failed);
     failed = has_failed(&rt, message.line(b"Subject: lunch\n", &mut sink), failed);
+    failed = has_failed(
+        &rt,
+        message.line(
+            b"Content-Disposition: inline; filename=\"=?utf-8?Q?menu?=\"\n",
+            &mut sink,
+        ),
+        failed,
+    );
     failed = has_failed(&rt, message.line(b"\n", &mut sink), failed);
     failed = has_failed(&rt, message.line(b"break", &mut sink), failed);
     let facts = match message.end(&mut sink) {
@@ -142,14 +356,16 @@ fn sweep_message_text(rt: HostRuntime) {
         }
     };
     assert!(rt; !failed);
-    assert_eq!(rt; sink.texts.len(), 2);
-    for ((kind, text), wanted) in sink
-        .texts
-        .iter()
-        .zip([(TextKind::Subject, "lunch"), (TextKind::Body, "break")])
-    {
-        assert_eq!(rt; (*kind, text.as_str()), wanted);
-    }
+    assert!(rt;
+        has_taken(
+            &sink,
+            &[
+                (TextKind::Subject, "lunch"),
+                (TextKind::Name, "menu"),
+                (TextKind::Body, "break")
+            ]
+        )
+    );
     assert_eq!(rt;
         facts.own_id.map(|id| id.as_bytes() == b"a@x".as_slice()),
         Some(true)

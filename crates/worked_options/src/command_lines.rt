@@ -20,18 +20,20 @@ Options:
       --stdout   Print the mbox, and write no file
       --boolean  Read the patterns as one query of and, or, not and parentheses
       --once     Index in memory, then search
+      --verify   Read the archives and prove that they are those that were indexed
   -h, --help     Print help
   -V, --version  Print version
 ";
 
 /// Words, and what they plan: the rcfile, then each option, then the patterns. Accepted words have no text of the parser.
-const PLANS: [(&str, &str); 3] = [
+const PLANS: [(&str, &str); 4] = [
     ("-f rc -r --once s:hello", "rc raw once: s:hello"),
     ("s:b -r b:a -f rc s:b -- -h --", "rc raw: s:b b:a s:b -h --"),
     (
         "-x -t -o hits --stdout --boolean -f=rc",
         "rc excerpt threads hits stdout boolean:",
     ),
+    ("-frc s:a --verify b:b", "rc verify: s:a b:b"),
 ];
 
 /// Words that are refused, and how the parser's text begins.
@@ -74,6 +76,7 @@ fn told_plan(alloc: Global, words: &[String]) -> Result<String, Fail> {
         (plan.stdout, "stdout"),
         (plan.boolean, "boolean"),
         (plan.once, "once"),
+        (plan.verify, "verify"),
     ] {
         if is_set {
             told.push_str(" ")?;

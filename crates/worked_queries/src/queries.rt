@@ -31,6 +31,7 @@ fn patterns_are_refused(rt: HostRuntime) -> Result<(), Fail> {
     let cases = [
         ("q:x", QueryFaultKind::BadPrefix),
         ("s:", QueryFaultKind::BadWord),
+        ("mn:report", QueryFaultKind::BadPrefix),
         ("z:10", QueryFaultKind::BadSize),
         ("d:31apr", QueryFaultKind::BadDate),
         ("F:x", QueryFaultKind::BadFlag),
@@ -62,6 +63,10 @@ fn words_are_sought(rt: HostRuntime) -> Result<(), Fail> {
         from: true,
         ..Kinds::NONE
     };
+    let name = Kinds {
+        name: true,
+        ..Kinds::NONE
+    };
     let own_id = Kinds {
         own_id: true,
         ..Kinds::NONE
@@ -74,6 +79,18 @@ fn words_are_sought(rt: HostRuntime) -> Result<(), Fail> {
         ("f:^xample=", "prefix", from, "xample"),
         ("f:STRASSE", "word", from, "strasse"),
         ("f:Straße", "word", from, "strasse"),
+        ("n:Report.PDF", "word", name, "report.pdf"),
+        (
+            "an:rep=",
+            "part",
+            Kinds {
+                to: true,
+                cc: true,
+                from: true,
+                ..name
+            },
+            "rep",
+        ),
         ("m:<1@X>", "word", own_id, "1@X"),
     ];
     for (pattern, form, kinds, text) in cases {
@@ -90,6 +107,27 @@ fn words_are_sought(rt: HostRuntime) -> Result<(), Fail> {
     assert_eq!(rt; sought(query.root()), Some(("word", own_id, "1@X")));
     let query = read_boolean(rt.alloc(), "from:Exam*", now)?;
     assert_eq!(rt; sought(query.root()), Some(("prefix", from, "exam")));
+    Ok(())
+}
+
+#[test]
+fn names_are_used(rt: HostRuntime) -> Result<(), Fail> {
+    let now = Moment::new(1_053_259_200).ok_or("a moment")?;
+    let cases = [
+        ("n:report", true),
+        ("s:a/~b", false),
+        ("sn:~rep=/hi", true),
+        ("report", false),
+    ];
+    for (pattern, uses) in cases {
+        let mut patterns = Vec::new(rt.alloc());
+        patterns.push(String::from_str(rt.alloc(), "F:s")?)?;
+        patterns.push(String::from_str(rt.alloc(), pattern)?)?;
+        let query = read_mairix(rt.alloc(), patterns.as_slice(), now)?;
+        assert_eq!(rt; query.uses_names(), uses, "at {pattern}");
+    }
+    let query = read_boolean(rt.alloc(), "report", now)?;
+    assert!(rt; !query.uses_names());
     Ok(())
 }
 

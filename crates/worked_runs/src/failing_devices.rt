@@ -31,7 +31,7 @@ const OUTPUT_FAILED: &[u8] = b"refused 4: output failed";
 const READ_FAILED: &[u8] = b"refused 4: archive read failed";
 
 /// A run with what it tells where nothing fails, and how many calls of the archives it makes at least: a length of each, and a read
-/// for each message whose bytes it shows.
+/// for each message whose bytes it shows. With `--verify` a stored search makes more.
 #[derive(Clone, Copy)]
 struct Answered {
     rc: &'static str,
@@ -42,7 +42,7 @@ struct Answered {
     calls: u64,
 }
 
-const ANSWERED: [Answered; 5] = [
+const ANSWERED: [Answered; 7] = [
     Answered {
         rc: RC_OF_TWO,
         archives: COUSINS,
@@ -82,6 +82,22 @@ const ANSWERED: [Answered; 5] = [
         found: "found 2: ",
         answer: TWO_MESSAGES,
         calls: 3,
+    },
+    Answered {
+        rc: RC_OF_TWO,
+        archives: COUSINS,
+        words: "-t, -x, --verify, b:hi",
+        found: "found 2: ",
+        answer: EXCERPTS,
+        calls: 4,
+    },
+    Answered {
+        rc: RC_OF_TWO,
+        archives: COUSINS,
+        words: "-t, --stdout, --verify, b:hi",
+        found: "found 2: ",
+        answer: BOTH_COUSINS,
+        calls: 4,
     },
 ];
 

@@ -9,7 +9,7 @@ use std::fmt::InlineText;
 use std::test::Fail;
 
 /// Faults whose own text is that of the program.
-const SHOWN: [(Fault, u8, &str); 26] = [
+const SHOWN: [(Fault, u8, &str); 27] = [
     (Fault::Usage(UsageFault::Parse), 2, "bad words"),
     (
         Fault::Usage(UsageFault::TwoFormats),
@@ -93,6 +93,7 @@ const SHOWN: [(Fault, u8, &str); 26] = [
         3,
         "index: bad layout in postings",
     ),
+    (Fault::OldIndex, 3, "index: too old, build it again"),
     (Fault::Out, 4, "output failed"),
     (Fault::Memory, 5, "out of memory"),
     (Fault::TooMany, 5, "too many messages or keys"),

@@ -12,6 +12,8 @@ mod fixture;
 #[cfg(test)]
 mod form_rows;
 #[cfg(test)]
+mod old_index;
+#[cfg(test)]
 mod pattern_rows;
 #[cfg(test)]
 mod refusal_rows;
@@ -25,3 +27,5 @@ mod sweeps;
 mod text_rows;
 #[cfg(test)]
 mod told;
+#[cfg(test)]
+mod verified;

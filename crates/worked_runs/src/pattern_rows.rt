@@ -1,6 +1,6 @@
 //! Runs over one archive: patterns of each form.
 
-/// Sizes, choices and negations, kinds of text, parts of words, flags, and several patterns together.
+/// Sizes, choices and negations, kinds of text, parts of words, flags, names of parts, and several patterns together.
 pub const PATTERN_ROWS: &str = "\
 words -f, rc, --once, -r
 rcfile mbox=m.mbox|database=m.idx|mfolder=hits|
@@ -82,4 +82,14 @@ F:-r-f => found 1: 0 53 m.mbox|
 F:-s => none
 F:r => none
 F:sf => none
+archives ^Content-Type: multipart/mixed; boundary=o||--o|Content-Type: application/pdf; name=old.pdf|Content-Disposition: attachment; filename=\"Annual Report.pdf\"||%PDF|--o--||
+n:report => found 1: 0 204 m.mbox|
+n:report.pdf => found 1: 0 204 m.mbox|
+n:annual,pdf => found 1: 0 204 m.mbox|
+ns:rep= => found 1: 0 204 m.mbox|
+n:~old => found 1: 0 204 m.mbox|
+n:old => none
+b:report => none
+report => none
+s:report => none
 ";

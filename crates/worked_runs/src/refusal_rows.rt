@@ -20,7 +20,7 @@ archives ^Subject: Hello||hi||
 -f, rc, -t, q:x => refused 2: query item 1: bad prefix
 words -f, rc, --once, -r
 q:x => refused 2: query item 1: bad prefix
-n:x => refused 2: query item 1: bad prefix
+mn:x => refused 2: query item 1: bad prefix
 :x => refused 2: query item 1: bad prefix
 sm:x => refused 2: query item 1: bad prefix
 s: => refused 2: query item 1: bad word

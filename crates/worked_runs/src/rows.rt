@@ -17,7 +17,7 @@ use std::process::Abort;
 /// The tables, and the number of their rows.
 const TABLES: [(&str, u32); 5] = [
     (TEXT_ROWS, 32),
-    (PATTERN_ROWS, 66),
+    (PATTERN_ROWS, 75),
     (DATE_ROWS, 26),
     (FORM_ROWS, 38),
     (REFUSAL_ROWS, 44),

@@ -5,12 +5,12 @@ use sha2::{Digest, Sha256};
 use std::alloc::Global;
 use std::test::Fail;
 
-const RC: &str = "mbox=m.mbox|database=m.idx|mfolder=hits|";
+pub const RC: &str = "mbox=m.mbox|database=m.idx|mfolder=hits|";
 
-const HELLO: &str = "^Subject: Hello||hi||";
+pub const HELLO: &str = "^Subject: Hello||hi||";
 
 /// The bytes of its index before the digest.
-const BODY: usize = 163;
+const BODY: usize = 195;
 
 /// The two entries of its directory, exchanged.
 const EXCHANGED: &[u8] =
@@ -25,13 +25,13 @@ const CHANGES: [(usize, &[u8], bool, &str); 6] = [
     (60, b"\x6c", false, "refused 3: index: bad digest"),
     (11, b"\x09", true, "refused 3: index: unknown version"),
     (
-        106,
+        138,
         EXCHANGED,
         true,
         "refused 3: index: bad layout in directory",
     ),
     (
-        161,
+        193,
         b"\x00\x01",
         true,
         "refused 3: index: bad layout in postings",
@@ -39,7 +39,7 @@ const CHANGES: [(usize, &[u8], bool, &str); 6] = [
 ];
 
 /// The bytes with such a change.
-fn changed(
+pub fn changed(
     alloc: Global,
     bytes: &[u8],
     at: usize,
@@ -59,13 +59,13 @@ fn changed(
     Some(changed)
 }
 
-const OF_TWO: &str = "mbox=n.mbox:o.mbox|database=m.idx|mfolder=hits|";
+pub const OF_TWO: &str = "mbox=n.mbox:o.mbox|database=m.idx|mfolder=hits|";
 
-const OF_ANOTHER: &str = "mbox=n.mbox|database=m.idx|mfolder=hits|";
+pub const OF_ANOTHER: &str = "mbox=n.mbox|database=m.idx|mfolder=hits|";
 
-const SHORTER: &str = "^Subject: Hello||hi|";
+pub const SHORTER: &str = "^Subject: Hello||hi|";
 
-const CHANGED: &str = "refused 3: archive 1: changed since it was indexed";
+pub const CHANGED: &str = "refused 3: archive 1: changed since it was indexed";
 
 /// Words, an rcfile, how many bytes of the index there are, an archive's text, and what is told. Each row has one reason less to be
 /// refused than the row before it.
@@ -101,24 +101,24 @@ const REFUSED: [(&str, &str, usize, &str, &str); 9] = [
     (
         "-r, s:hello",
         OF_TWO,
-        195,
+        227,
         SHORTER,
         "refused 3: archive 2: changed since it was indexed",
     ),
-    ("-r, s:hello", OF_ANOTHER, 195, SHORTER, CHANGED),
-    ("-r, s:hello", OF_ANOTHER, 195, HELLO, CHANGED),
-    ("-r, s:hello", RC, 195, SHORTER, CHANGED),
-    ("-r, s:hello", RC, 195, "{}", CHANGED),
+    ("-r, s:hello", OF_ANOTHER, 227, SHORTER, CHANGED),
+    ("-r, s:hello", OF_ANOTHER, 227, HELLO, CHANGED),
+    ("-r, s:hello", RC, 227, SHORTER, CHANGED),
+    ("-r, s:hello", RC, 227, "{}", CHANGED),
 ];
 
-/// The index of the archive, of 195 bytes.
-fn whole_index(alloc: Global) -> Option<Vec<u8>> {
+/// The index of the archive, of 227 bytes.
+pub fn whole_index(alloc: Global) -> Option<Vec<u8>> {
     let given = Given::of(alloc, ["", ""], RC, HELLO)?;
     given.index.as_ref()?.to_vec(alloc).ok()
 }
 
 /// Whether a search of an index over one archive tells this.
-fn is_told(
+pub fn is_told(
     alloc: Global,
     line: &str,
     rc: &str,
@@ -134,7 +134,7 @@ fn is_told(
 fn what_is_no_index_is_refused(rt: HostRuntime) -> Result<(), Fail> {
     let alloc = rt.alloc();
     let whole = whole_index(alloc).ok_or("an index")?;
-    assert_eq!(rt; whole.len(), 195);
+    assert_eq!(rt; whole.len(), 227);
     for (at, new, signs_again, wanted) in CHANGES {
         let index = changed(alloc, &whole, at, new, signs_again).ok_or("memory")?;
         let as_wanted = is_told(alloc, "-r, s:hello", RC, &index, HELLO, wanted);

@@ -103,6 +103,25 @@ fn sweep_runs_with_threads(rt: HostRuntime) {
     let _ = sweep_runs(&rt, rt.alloc(), "-r, -t, b:hi", RC_OF_TWO, archives, told);
 }
 
+/// With `--verify` the search of the stored index reads its archives through first.
+#[test]
+fn sweep_runs_that_verify(rt: HostRuntime) {
+    let told = ["found 1: ", "0 58 m.mbox|"];
+    let _ = sweep_runs(&rt, rt.alloc(), "--verify, -r, s:hello", RC, HELLO, told);
+}
+
+#[test]
+fn sweep_runs_that_verify_and_write_an_excerpt(rt: HostRuntime) {
+    let told = ["found 1: ", "m.mbox|To:|Cc:|From:|Subject: Hello|Date:|"];
+    let _ = sweep_runs(&rt, rt.alloc(), "--verify, -x, s:hello", RC, HELLO, told);
+}
+
+#[test]
+fn sweep_runs_that_verify_and_write_an_mbox(rt: HostRuntime) {
+    let words = "--verify, --stdout, -t, s:hello";
+    let _ = sweep_runs(&rt, rt.alloc(), words, RC, HELLO, ["found 1: ", HELLO]);
+}
+
 #[test]
 fn sweep_fault_text(rt: HostRuntime) {
     for (fault, text) in [

@@ -18,13 +18,14 @@ use mail_words::TextKind;
 use std::alloc::{AllocError, Global};
 
 /// The kinds that a query may name.
-const KINDS: [Kind; 7] = [
+const KINDS: [Kind; 8] = [
     Kind::Text(TextKind::To),
     Kind::Text(TextKind::Cc),
     Kind::Text(TextKind::Bcc),
     Kind::Text(TextKind::From),
     Kind::Text(TextKind::Subject),
     Kind::Text(TextKind::Body),
+    Kind::Text(TextKind::Name),
     Kind::OwnId,
 ];
 

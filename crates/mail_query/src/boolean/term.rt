@@ -16,15 +16,15 @@ use mail_dates::iso_range;
 use mail_words::{fold, is_one_word, is_part_of_word};
 use std::alloc::Global;
 
-/// Without a prefix a word is sought in all six kinds.
-const EVERY_KIND: Kinds = Kinds {
+/// Without a prefix a word is sought in each kind of text but names of parts.
+const BARE_KINDS: Kinds = Kinds {
     to: true,
     cc: true,
     bcc: true,
     from: true,
     subject: true,
     body: true,
-    own_id: false,
+    ..Kinds::NONE
 };
 
 /// Whether there is a quotation mark.
@@ -57,7 +57,7 @@ fn read_bare(alloc: Global, term: &str) -> Result<Node, QueryFaultKind>
     } else if is_in_any_case(term, "xor") {
         Err(QueryFaultKind::BadWord)
     } else {
-        read_word(alloc, EVERY_KIND, term)
+        read_word(alloc, BARE_KINDS, term)
     }
 }
 

@@ -6,6 +6,7 @@ use Rattle.contract_words.specs.Devices.{Counted}
 use Rattle.mbox_cutter.specs.declared.device.DeviceFault.{DeviceFault}
 use Rattle.mbox_cutter.specs.declared.device.Source.{Ghosts}
 use Rattle.mbox_cutter.specs.Lines.{first_length, IsLine}
+use Rattle.mbox_cutter.specs.Sources.{Stays}
 
 -- the line that was taken last, the bytes that were read and not taken, whether the source's end was seen, and the source
 pub record Ahead (S : Type 0) : Type 0 where
@@ -35,6 +36,8 @@ pub record ReadsOn {S : Type 0} (g : Ghosts S) (failed : Bool) (old new : Ahead 
   pub source : new.source.ghost_name ≡ old.source.ghost_name
   -- its count of failures rises by one where it failed, and else stays
   pub count : Counted failed (g.failures old.source.now) (g.failures new.source.now)
+  -- what no read changes is as it was
+  pub stays : Stays g old.source.now new.source.now
   -- the bytes to come are the same, where they are known
   pub bytes : IfSome (known g.rest old) (λ bytes. known g.rest new ≡ Some bytes)
   -- what was read before still comes first

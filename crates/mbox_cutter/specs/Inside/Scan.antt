@@ -15,6 +15,7 @@ use Rattle.mbox_cutter.specs.Separators.{is_separator}
 use Rattle.mbox_cutter.specs.Events.{ArchiveEvent, Start, Line, End, Done, Coming}
 use Rattle.mbox_cutter.specs.Coming.{Answers, is_device_fault}
 use Rattle.mbox_cutter.specs.Places.{CutterPlace, HasLine, Moves}
+use Rattle.mbox_cutter.specs.Sources.{Stays}
 use Rattle.mbox_cutter.specs.Inside.Ahead.{known, IsLineLength, ReadsOn, TakesLine}
 use Rattle.mbox_cutter.specs.Inside.Resume.{coming_at}
 
@@ -96,6 +97,8 @@ module _ {S : Type 0} (g : Ghosts S) where
     pub source : new.window.source.ghost_name ≡ old.window.source.ghost_name
     -- its count of failures rises by one where it failed, and else stays
     pub count : Counted (is_device_fault result) (g.failures old.window.source.now) (g.failures new.window.source.now)
+    -- what no read changes is as it was
+    pub stays : Stays g old.window.source.now new.window.source.now
     -- the scan goes on to be one
     pub scan : IsScan g.rest new
     -- the limit stays

@@ -1,6 +1,7 @@
 use Rattle.std.proofs.Common.{◌≡◌, ◌∙◌, ℕ, List, Option, Some, IfSome, sym, subst, arith}
 use Rattle.std.specs.Option.{MatchOption}
 use Rattle.mail_index.specs.Builders.{Draft, IsInArchive}
+use Rattle.mbox_cutter.proofs.Sources.{Stays-join}
 use Rattle.index_job.specs.declared.archive_index.Ended.{Ended}
 use Rattle.index_job.specs.ArchiveReading.{IsInside, HasEnded, IsReading, HasReadAll}
 use Rattle.std.proofs.lemmas.Result.{err_from_is_err_and}
@@ -75,6 +76,7 @@ lines-preserved g c =
     let inside : IsInside start next.place = subst (λ (o : Option Ended). MatchOption o (IsInside start next.place) (λ e. HasEnded start e next.place)) c.in_default.is e.place in
     record {
       source = e.source ∙ i.source;
+      stays = Stays-join g.S.Source _ _ _ i.stays e.stays;
       failures = e.count ∙ i.failures;
       inside = inside;
       most = e.further.most ∙ i.most;

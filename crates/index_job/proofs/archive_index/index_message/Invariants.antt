@@ -2,6 +2,7 @@ use Rattle.std.proofs.Common.{◌≡◌, ◌≤◌, ℕ, List, Some}
 use Rattle.mail_index.specs.Builders.{Draft}
 use Rattle.mbox_cutter.specs.Archives.{text}
 use Rattle.mbox_cutter.specs.Places.{left}
+use Rattle.mbox_cutter.specs.Sources.{Stays}
 use Rattle.index_job.specs.ArchiveReading.{Awaited, coming_inside, IsInside, IsReadingSome}
 use Rattle.index_job.specs.Gathering.{HasGathered}
 use Rattle.index_job.specs.Indexing.{with_open_message}
@@ -11,6 +12,7 @@ use Rattle.index_job.proofs.archive_index.index_message.Given as goal
 abbrev pub invariant-lines : goal.invariant-lines
 invariant-lines g l = record {
   source : l.cutter.source.ghost_name ≡ l.initial.cutter.source.ghost_name;
+  stays : Stays g.S.Source l.initial.cutter.source.now l.cutter.source.now;
   failures : g.S.Source.failures l.cutter.source.now ≡ g.S.Source.failures l.initial.cutter.source.now;
   inside : IsInside l.offset l.cutter.place;
   most : l.cutter.place.most ≡ l.initial.cutter.place.most;

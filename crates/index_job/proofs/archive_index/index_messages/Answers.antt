@@ -1,5 +1,6 @@
 use Rattle.std.proofs.Common.{◌∙◌, Option, Some, MatchOption, refl, ap, subst, arith}
 use Rattle.std.proofs.lemmas.Result.{err_from_is_err_and}
+use Rattle.mbox_cutter.proofs.Sources.{Stays-self, Stays-join}
 use Rattle.index_job.specs.declared.archive_index.Heading.{Heading}
 use Rattle.index_job.specs.declared.archive_index.Heading.TheVariants.{Message, End}
 use Rattle.index_job.specs.ArchiveReading.{Heads, IsHeading, Awaited}
@@ -10,6 +11,7 @@ use Rattle.index_job.proofs.archive_index.index_messages.Goals as goal
 pub messages-init : goal.messages-init
 messages-init g c = record {
   source = refl;
+  stays = Stays-self g.S.Source c.args.cutter.now.source.now;
   failures = refl;
   between = c.requires.between;
   most = refl;
@@ -49,6 +51,7 @@ messages-preserved-in-Some-Message g c =
     let placed : IsHeading (Message start) old.place mid.place = subst (λ (o : Option Heading). MatchOption o ⊥ (λ x. IsHeading x old.place mid.place)) (c.in-Some-Message.is ∙ ap Some c.in-Some-Message.field-0-is) c.in_ok-offset.ensures.some in
     record {
       source = e.source ∙ c.in_ok-offset.ensures.source ∙ i.source;
+      stays = Stays-join g.S.Source _ _ _ i.stays (Stays-join g.S.Source _ _ _ c.in_ok-offset.ensures.stays e.stays);
       failures = e.count ∙ c.in_ok-offset.ensures.count ∙ i.failures;
       between = e.between;
       most = e.further.most ∙ c.in_ok-offset.ensures.most ∙ i.most;
@@ -70,4 +73,4 @@ returns-in-Some-End-clause-known g c = λ d all ms refusal is comes.
     let h = c.messages.invariant.done d all ms refusal is comes in
     let heads : Heads (End bytes) all h.rest refusal c.next_heading.new.cutter.coming =
     subst (λ (o : Option Heading). MatchOption o ⊥ (λ x. Heads x all h.rest refusal c.next_heading.new.cutter.coming)) (c.in-Some-End.is ∙ ap Some c.in-Some-End.field-0-is) (c.in_ok-offset.ensures.known all h.rest refusal h.comes) in
-    archive-done c.args.archive d all ms refusal c.messages.messages c.messages.builder c.messages.cutter.coming h bytes c.end_archive.new.self heads c.in_ok-end_archive-in-Some-End.ensures.gives
+    archive-done c.args.archive d all ms refusal c.messages.messages c.messages.builder c.messages.cutter.coming h bytes heads

@@ -4,6 +4,7 @@ use Rattle.mbox_cutter.specs.Archives.{Message}
 use Rattle.mbox_cutter.specs.declared.event.CutFault.{CutFault}
 use Rattle.mbox_cutter.specs.declared.scan.Phase.TheVariants.{Between}
 use Rattle.mbox_cutter.specs.Places.{left}
+use Rattle.mbox_cutter.specs.Sources.{Stays}
 use Rattle.index_job.specs.ArchiveReading.{coming_ahead, HasDone}
 use Rattle.index_job.specs.Indexing.{IsBuilderReady}
 use Rattle.index_job.proofs.archive_index.index_messages.Given as goal
@@ -12,6 +13,7 @@ use Rattle.index_job.proofs.archive_index.index_messages.Given as goal
 abbrev pub invariant-messages : goal.invariant-messages
 invariant-messages g l = record {
   source : l.cutter.source.ghost_name ≡ l.initial.cutter.source.ghost_name;
+  stays : Stays g.S.Source l.initial.cutter.source.now l.cutter.source.now;
   failures : g.S.Source.failures l.cutter.source.now ≡ g.S.Source.failures l.initial.cutter.source.now;
   between : l.cutter.place.phase ≡ Between;
   most : l.cutter.place.most ≡ l.initial.cutter.place.most;

@@ -1,4 +1,4 @@
-use Rattle.std.proofs.Common.{◌≡◌, ◌∙◌, [], ◌∷◌, ◌++◌, ℕ, List, Option, All, map, option_map, sym, ap, subst}
+use Rattle.std.proofs.Common.{◌≡◌, ◌∙◌, ◌∷◌, ◌++◌, List, Option, All, map, option_map, sym, ap, subst}
 use Rattle.std.proofs.lemmas.List.Elements.{All-tail}
 use Rattle.std.proofs.lemmas.Result.{err_from_is_err_and}
 use Rattle.mail_words.specs.Words.{HasWordLength}
@@ -6,8 +6,8 @@ use Rattle.mail_words.specs.Folding.{folding}
 use Rattle.mail_index.specs.declared.kind.Kind.TheVariants.{Text}
 use Rattle.mail_index.specs.Builders.{Draft}
 use Rattle.index_job.specs.Indexing.{draft_with_terms, IsTermFault}
-use Rattle.index_job.specs.MessageTerms.{Term, text_terms, word_terms}
-use Rattle.index_job.proofs.Terms.{joined, fails-first, waits-next}
+use Rattle.index_job.specs.MessageTerms.{Term, word_terms}
+use Rattle.index_job.proofs.Terms.{fails-first, waits-next}
 use Rattle.index_job.proofs.term_sink.add_words.Goals as goal
 
 pub loop-word-preserved : goal.loop-word-preserved

@@ -1,4 +1,4 @@
-use Rattle.std.proofs.Common.{◌≡◌, ◌∙◌, [], ◌∷◌, ◌++◌, ◌+◌, ◌≤◌, List, Option, length, drop, map, option_map, string_bytes, sym, ap, subst, arith}
+use Rattle.std.proofs.Common.{◌∙◌, [], ◌∷◌, ◌+◌, ◌≤◌, List, Option, length, drop, map, option_map, string_bytes, sym, ap, subst, arith}
 use Rattle.std.proofs.lemmas.List.{drop_all}
 use Rattle.std.proofs.lemmas.Result.{err_from_is_err_and}
 use Rattle.mail_index.specs.Builders.{Draft}

@@ -1,7 +1,6 @@
-use Rattle.std.proofs.Common.{◌≡◌, ℤ, pos, negsuc, ◌≤ℤ◌, ◌<ℤ◌, of_z, to_z, w16, w32, w64, FitsSigned, arith, rules, sym, ◌∙◌, subst}
+use Rattle.std.proofs.Common.{◌≡◌, ℤ, of_z, to_z, w16, w32, w64, FitsSigned, arith, rules, ◌∙◌}
 use Rattle.std.proofs.lemmas.Int.{ints, to_z-of_z}
 use Rattle.jiff_core.specs.Date.{epoch_day}
-use Rattle.mail_dates.specs.Calendar.{day_number, HasNoLater}
 use Rattle.mail_dates.proofs.CivilDays.{later_number, none_later}
 use Rattle.mail_dates.proofs.calendar.year_of_day.Goals as goal
 

@@ -1,4 +1,4 @@
-use Rattle.std.proofs.Common.{◌≡◌, ◌<◌, ◌^◌, ◌+◌, ◌*◌, ℕ, ℤ, pos, ◌+ℤ◌, ◌-ℤ◌, ◌*ℤ◌, of_z, to_z, w16, w32, w64, FitsSigned, arith, rules, refl, sym, ◌∙◌, ap, List, Option, Some, None}
+use Rattle.std.proofs.Common.{◌≡◌, ◌<◌, ◌^◌, ℕ, ℤ, pos, ◌+ℤ◌, ◌-ℤ◌, ◌*ℤ◌, of_z, to_z, w16, w32, w64, FitsSigned, arith, rules, refl, sym, ◌∙◌, ap, List, Some}
 use Rattle.std.proofs.lemmas.Int.{ints}
 use Rattle.jiff_core.specs.Calendar.{IsEpochDay}
 use Rattle.mail_dates.specs.Calendar.{day_number, month_of, start_of_day}

@@ -1,4 +1,4 @@
-use Rattle.std.proofs.Common.{◌≡◌, ℕ, List, [], ◌∷◌, Option, None, refl, sym, ap, ◌∙◌}
+use Rattle.std.proofs.Common.{◌≡◌, ℕ, List, ◌∷◌, None, sym, ap, ◌∙◌}
 use Rattle.std.specs.List.{slice_split}
 use Rattle.mail_dates.specs.Calendar.{day_number}
 use Rattle.mail_dates.specs.Ranges.{is_dash}

@@ -1,6 +1,5 @@
-use Rattle.std.proofs.Common.{◌≡◌, ◌==◌, ◌<◌, ℕ, List, [], ◌∷◌, Bool, true, false, not, length, refl, sym, ◌∙◌, arith}
-use Rattle.std.proofs.lemmas.Bool.Decides.{nat_tests}
-use Rattle.std.specs.List.{slice_split, filter}
+use Rattle.std.proofs.Common.{◌≡◌, ◌==◌, ℕ, List, [], ◌∷◌, true, false, length, refl, sym, ◌∙◌}
+use Rattle.std.specs.List.{slice_split}
 use Rattle.mail_dates.specs.HeaderDates.{tokens, is_gap}
 use Rattle.mail_dates.proofs.token.next_token.Goals as goal
 

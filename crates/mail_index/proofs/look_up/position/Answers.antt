@@ -1,4 +1,4 @@
-use Rattle.std.proofs.Common.{◌≡◌, ◌∙◌, ◌+◌, ◌-◌, ◌/◌, ◌<◌, ℕ, suc, List, length, sym, ap, arith}
+use Rattle.std.proofs.Common.{◌∙◌, ◌+◌, ◌-◌, ◌/◌, ◌<◌, ℕ, suc, List, length, sym, ap, arith}
 use Rattle.mail_index.specs.Steps.{add_steps}
 use Rattle.mail_index.specs.LookUps.{lies_to}
 use Rattle.mail_index.specs.KeysRead.{key_at, no_key}

@@ -10,4 +10,5 @@ returns c =
     let stdout = c.in_ok-stdout.ensures ∙ ap₂ with_rule mfolder c.long_flag.ensures.rule in
     let boolean = c.in_ok-boolean.ensures ∙ ap₂ with_rule stdout c.long_flag-2.ensures.rule in
     let once = c.in_ok-once.ensures ∙ ap₂ with_rule boolean c.long_flag-3.ensures.rule in
-    IfOk-weaker c.with-5.result _ (λ whole. app_of whole ≡ command) (λ whole same. same ∙ ap₂ with_rule once c.pattern_argument.ensures.rule) c.with-5.ensures
+    let verify = c.in_ok-verify.ensures ∙ ap₂ with_rule once c.long_flag-4.ensures.rule in
+    IfOk-weaker c.with-6.result _ (λ whole. app_of whole ≡ command) (λ whole same. same ∙ ap₂ with_rule verify c.pattern_argument.ensures.rule) c.with-6.ensures

@@ -1,16 +1,24 @@
-use Rattle.std.proofs.Common.{map, Some, None, sym, string_bytes}
+use Rattle.std.proofs.Common.{◌∙◌, Some, None, sym, ap}
 use Rattle.std.proofs.Math.Facts.{Fits-lt-pow}
-use Rattle.mairix_tool.proofs.StoredReplies.{one-bad-index, one-renamed}
+use Rattle.mairix_tool.specs.Asked.{wanted}
+use Rattle.mairix_tool.specs.Runs.{renamed_archive}
+use Rattle.mairix_tool.proofs.StoredReplies.{one-bad-index, one-too-old, one-renamed}
 use Rattle.mairix_tool.proofs.stored.open_for.Goals as goal
 
 pub returns-in-Err-clause-each : goal.returns-in-Err-clause-each
 returns-in-Err-clause-each c = λ fault is.
-    one-bad-index (map string_bytes c.args.paths.now) c.args.index.now c.well_formed.0.0 (record { below = λ i. Fits-lt-pow (c.type_inv.index i) }) c.in-Err.fault fault c.in-Err.ensures.fault is
+    one-bad-index (wanted c.args.wanted.now) c.args.index.now c.well_formed.0.0 (record { below = λ i. Fits-lt-pow (c.type_inv.index i) }) c.in-Err.fault fault c.in-Err.ensures.fault is
+
+pub returns-then-is_too_old-clause-each : goal.returns-then-is_too_old-clause-each
+returns-then-is_too_old-clause-each c = λ fault is.
+    one-too-old (wanted c.args.wanted.now) c.args.index.now c.well_formed.0.0 c.in-Ok.view c.in-Ok.ensures.ok (sym c.is_too_old.ensures ∙ c.if-is_too_old.true) fault is
 
 pub returns-in-Some-clause-each : goal.returns-in-Some-clause-each
 returns-in-Some-clause-each c = λ fault is.
-    one-renamed (map string_bytes c.args.paths.now) c.args.index.now c.well_formed.0.0 c.in-Ok.view c.in-Ok.ensures.ok (Some c.in-Some.number) (sym c.in-Some.ensures) fault is
+    one-renamed (wanted c.args.wanted.now) c.args.index.now c.well_formed.0.0 c.in-Ok.view c.in-Ok.ensures.ok (sym c.is_too_old.ensures ∙ c.if-is_too_old.false) (Some c.in-Some.number)
+    (ap (renamed_archive c.in-Ok.view.archives) (sym c.as_slice.ensures) ∙ sym c.in-Some.ensures) fault is
 
 pub returns-in-None-clause-each : goal.returns-in-None-clause-each
 returns-in-None-clause-each c = λ fault is.
-    one-renamed (map string_bytes c.args.paths.now) c.args.index.now c.well_formed.0.0 c.in-Ok.view c.in-Ok.ensures.ok None (sym c.in-None.ensures) fault is
+    one-renamed (wanted c.args.wanted.now) c.args.index.now c.well_formed.0.0 c.in-Ok.view c.in-Ok.ensures.ok (sym c.is_too_old.ensures ∙ c.if-is_too_old.false) None
+    (ap (renamed_archive c.in-Ok.view.archives) (sym c.as_slice.ensures) ∙ sym c.in-None.ensures) fault is

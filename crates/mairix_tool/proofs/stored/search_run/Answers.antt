@@ -1,7 +1,7 @@
 use Rattle.std.proofs.Common.{◌≡◌, ◌∙◌, ◌^◌, ◌<◌, map, length, sym, subst, string_bytes, arith}
 use Rattle.mairix_tool.specs.Asked.{Wanted, wanted, asked}
 use Rattle.mairix_tool.specs.Runs.{reply_of, IsCountedWhere}
-use Rattle.mairix_tool.proofs.StoredReplies.{refused-stored, stored-told, stored-counted, stored-indexed}
+use Rattle.mairix_tool.proofs.StoredReplies.{refused-stored, has-digests, stored-told, stored-counted, stored-indexed, stored-otherwise, stored-before, stored-verified}
 use Rattle.mairix_tool.proofs.stored.search_run.Goals as goal
 
 pub returns-in-Err-clause-reply : goal.returns-in-Err-clause-reply
@@ -12,21 +12,60 @@ returns-in-Err-clause-reply g c = λ held holds.
 pub returns-in-Err-clause-indexed : goal.returns-in-Err-clause-indexed
 returns-in-Err-clause-indexed g c = λ w bytes is many sound file holds.
     let few : length c.args.index.now < 2 ^ 64 = omega (arith, c.well_formed) in
-    stored-indexed w c.args.index.now bytes c.of-in-Err.result (g.O.Out.taken c.args.out.now) (g.O.Out.taken c.args.out.now) few many sound file
+    stored-indexed w c.args.index.now few bytes many sound file c.of-in-Err.result (g.O.Out.taken c.args.out.now) (g.O.Out.taken c.args.out.now)
     (rw is at (returns-in-Err-clause-reply g c bytes holds))
+
+pub returns-in-Err-clause-indexed_otherwise : goal.returns-in-Err-clause-indexed_otherwise
+returns-in-Err-clause-indexed_otherwise g c = λ w bytes t is off many sound same file holds.
+    let few : length c.args.index.now < 2 ^ 64 = omega (arith, c.well_formed) in
+    stored-otherwise w c.args.index.now few bytes many sound t off same file c.of-in-Err.result (g.O.Out.taken c.args.out.now) (g.O.Out.taken c.args.out.now)
+    (rw is at (returns-in-Err-clause-reply g c bytes holds))
+
+pub returns-in-Err-clause-indexed_before : goal.returns-in-Err-clause-indexed_before
+returns-in-Err-clause-indexed_before g c = λ w bytes is off many sound file none holds.
+    let few : length c.args.index.now < 2 ^ 64 = omega (arith, c.well_formed) in
+    stored-before w c.args.index.now few bytes many sound off file none c.of-in-Err.result (g.O.Out.taken c.args.out.now) (g.O.Out.taken c.args.out.now)
+    (rw is at (returns-in-Err-clause-reply g c bytes holds))
+
+pub returns-in-Err-clause-verified : goal.returns-in-Err-clause-verified
+returns-in-Err-clause-verified g c = λ w before bytes is verify sound file holds apart.
+    let few : length c.args.index.now < 2 ^ 64 = omega (arith, c.well_formed) in
+    stored-verified w c.args.index.now few before bytes verify sound file apart c.of-in-Err.result (g.O.Out.taken c.args.out.now) (g.O.Out.taken c.args.out.now)
+    (rw is at (returns-in-Err-clause-reply g c bytes holds))
+
+pub answer_opened-requires-clause-digests : goal.answer_opened-requires-clause-digests
+answer_opened-requires-clause-digests g c = has-digests (wanted c.in-Ok.found.wanted) c.in-Ok.found.view c.in-Ok.ensures.table.0.version c.in-Ok.ensures.fresh
 
 pub returns-in-Ok-clause-reply : goal.returns-in-Ok-clause-reply
 returns-in-Ok-clause-reply g c = λ held holds.
     let w : Wanted = wanted c.in-Ok.found.wanted in
     let few : length c.args.index.now < 2 ^ 64 = omega (arith, c.well_formed) in
     rw (c.of.ensures, c.in-Ok.ensures.wanted)
-    (stored-told w c.args.index.now few c.in-Ok.found.view c.in-Ok.ensures.table held (reply_of c.answer_view.result) (g.O.Out.taken c.args.out.now) (g.O.Out.taken c.answer_view.new.out)
-    c.in-Ok.ensures.paths (c.answer_view.ensures.told held holds))
+    (stored-told w c.args.index.now few c.in-Ok.found.view c.in-Ok.ensures.table held c.in-Ok.ensures.fresh c.in-Ok.ensures.paths (reply_of c.answer_opened.result) (g.O.Out.taken c.args.out.now) (g.O.Out.taken c.answer_opened.new.out)
+    (c.answer_opened.ensures.told held holds))
 
 pub returns-in-Ok-clause-indexed : goal.returns-in-Ok-clause-indexed
 returns-in-Ok-clause-indexed g c = λ w bytes is many sound file holds.
     let few : length c.args.index.now < 2 ^ 64 = omega (arith, c.well_formed) in
-    stored-indexed w c.args.index.now bytes c.of.result (g.O.Out.taken c.args.out.now) (g.O.Out.taken c.answer_view.new.out) few many sound file
+    stored-indexed w c.args.index.now few bytes many sound file c.of.result (g.O.Out.taken c.args.out.now) (g.O.Out.taken c.answer_opened.new.out)
+    (rw is at (returns-in-Ok-clause-reply g c bytes holds))
+
+pub returns-in-Ok-clause-indexed_otherwise : goal.returns-in-Ok-clause-indexed_otherwise
+returns-in-Ok-clause-indexed_otherwise g c = λ w bytes t is off many sound same file holds.
+    let few : length c.args.index.now < 2 ^ 64 = omega (arith, c.well_formed) in
+    stored-otherwise w c.args.index.now few bytes many sound t off same file c.of.result (g.O.Out.taken c.args.out.now) (g.O.Out.taken c.answer_opened.new.out)
+    (rw is at (returns-in-Ok-clause-reply g c bytes holds))
+
+pub returns-in-Ok-clause-indexed_before : goal.returns-in-Ok-clause-indexed_before
+returns-in-Ok-clause-indexed_before g c = λ w bytes is off many sound file none holds.
+    let few : length c.args.index.now < 2 ^ 64 = omega (arith, c.well_formed) in
+    stored-before w c.args.index.now few bytes many sound off file none c.of.result (g.O.Out.taken c.args.out.now) (g.O.Out.taken c.answer_opened.new.out)
+    (rw is at (returns-in-Ok-clause-reply g c bytes holds))
+
+pub returns-in-Ok-clause-verified : goal.returns-in-Ok-clause-verified
+returns-in-Ok-clause-verified g c = λ w before bytes is verify sound file holds apart.
+    let few : length c.args.index.now < 2 ^ 64 = omega (arith, c.well_formed) in
+    stored-verified w c.args.index.now few before bytes verify sound file apart c.of.result (g.O.Out.taken c.args.out.now) (g.O.Out.taken c.answer_opened.new.out)
     (rw is at (returns-in-Ok-clause-reply g c bytes holds))
 
 pub returns-in-Ok-clause-counted : goal.returns-in-Ok-clause-counted
@@ -34,7 +73,7 @@ returns-in-Ok-clause-counted g c = λ w t is file.
     let few : length c.args.index.now < 2 ^ 64 = omega (arith, c.well_formed) in
     let both = sym c.in-Ok.ensures.wanted ∙ is in
     let same : wanted c.in-Ok.found.wanted ≡ w = cc both in
-    let told = stored-counted (wanted c.in-Ok.found.wanted) c.args.index.now few c.in-Ok.found.view c.in-Ok.ensures.table t (g.A.Archives.held c.args.archives.now) (reply_of c.answer_view.result).fault (reply_of c.answer_view.result)
-    (g.O.Out.taken c.args.out.now) (g.O.Out.taken c.answer_view.new.out) file c.answer_view.ensures.counted in
+    let told = stored-counted (wanted c.in-Ok.found.wanted) c.args.index.now few c.in-Ok.found.view c.in-Ok.ensures.table t (g.A.Archives.held c.args.archives.now) (reply_of c.answer_opened.result).fault (reply_of c.answer_opened.result)
+    (g.O.Out.taken c.args.out.now) (g.O.Out.taken c.answer_opened.new.out) file c.answer_opened.ensures.counted in
     rw c.of.ensures
-    (subst (λ (v : Wanted). IsCountedWhere t v.search (g.A.Archives.held c.args.archives.now) (reply_of c.answer_view.result).fault (reply_of c.answer_view.result) (g.O.Out.taken c.args.out.now) (g.O.Out.taken c.answer_view.new.out)) same told)
+    (subst (λ (v : Wanted). IsCountedWhere t v.search (g.A.Archives.held c.args.archives.now) (reply_of c.answer_opened.result).fault (reply_of c.answer_opened.result) (g.O.Out.taken c.args.out.now) (g.O.Out.taken c.answer_opened.new.out)) same told)

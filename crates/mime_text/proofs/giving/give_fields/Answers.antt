@@ -1,7 +1,7 @@
-use Rattle.std.proofs.Common.{◌≡◌, ◌∙◌, ◌≤◌, ◌++◌, ℕ, List, [], ◌∷◌, sym, ap, arith}
+use Rattle.std.proofs.Common.{◌≡◌, ◌∙◌, ◌≤◌, ◌++◌, List, [], ◌∷◌, ap, arith}
 use Rattle.header_text.specs.Headers.{HeaderField, fields_size, most_in_header}
 use Rattle.mime_text.specs.FieldTexts.{texts_of_fields}
-use Rattle.mime_text.specs.Sinks.{Pair, Coming}
+use Rattle.mime_text.specs.Sinks.{Coming}
 use Rattle.mime_text.proofs.GivingLemmas.{texts-cons, gave-front, gave-behind, broke-front}
 use Rattle.mime_text.proofs.Handing.{gave-more, broke-later}
 use Rattle.mime_text.proofs.giving.give_fields.Goals as goal

@@ -1,4 +1,4 @@
-use Rattle.std.proofs.Common.{◌≤◌, []}
+use Rattle.std.proofs.Common.{◌≤◌}
 use Rattle.header_text.specs.Headers.{fields_size, most_in_header}
 use Rattle.mime_text.specs.FieldTexts.{texts_of_fields}
 use Rattle.mime_text.specs.Sinks.{Gave}

@@ -1,4 +1,4 @@
-use Rattle.std.proofs.Common.{◌≡◌, ◌∙◌, ◌+◌, suc, [], Option, Some, None, take, drop, refl, sym, ap, arith, add-one}
+use Rattle.std.proofs.Common.{◌≡◌, ◌∙◌, suc, [], Option, Some, None, take, drop, ap, arith, add-one}
 use Rattle.std.specs.Prelude.{slice_get}
 use Rattle.mime_text.specs.declared.delimiter.Delimiter.{Delimiter}
 use Rattle.mime_text.specs.Sinks.{Pair}

@@ -1,4 +1,4 @@
-use Rattle.std.proofs.Common.{◌≡◌, ◌∙◌, [], ◌∷◌, ◌++◌, ℕ, List, Option, option_map, sym, ap, subst}
+use Rattle.std.proofs.Common.{◌∙◌, [], ◌∷◌, ◌++◌, ℕ, List, Option, option_map, sym, ap}
 use Rattle.mail_words.specs.Folding.{folding}
 use Rattle.mail_index.specs.Builders.{Draft}
 use Rattle.index_job.specs.Indexing.{draft_with_terms}

@@ -1,8 +1,8 @@
-use Rattle.std.proofs.Common.{◌≡◌, ℤ, pos, negsuc, ◌-ℤ◌, ◌≤ℤ◌, ◌<ℤ◌, true, false, of_z, to_z, w16, w32, FitsSigned, arith, rules, sym, ap, ◌∙◌}
+use Rattle.std.proofs.Common.{◌≡◌, ℤ, negsuc, ◌≤ℤ◌, ◌<ℤ◌, true, false, of_z, to_z, w16, w32, FitsSigned, arith, rules, sym, ap, ◌∙◌}
 use Rattle.std.proofs.lemmas.Int.{ints, to_z-of_z}
 use Rattle.mail_dates.specs.Calendar.{day_number}
-use Rattle.mail_dates.specs.Periods.{days_in_by, begin_by, latest_days_by}
-use Rattle.mail_dates.proofs.LatestYear.{IsSearch, search_start, search_next, search_found, search_over}
+use Rattle.mail_dates.specs.Periods.{days_in_by, begin_by}
+use Rattle.mail_dates.proofs.LatestYear.{search_start, search_next, search_found, search_over}
 use Rattle.mail_dates.proofs.days.DaysOfYear.latest.Goals as goal
 use lib.Signed.{le_z}
 

@@ -8,6 +8,7 @@ invariant_of-self c =
     let open_now : c.self.inside.in_message ≡ true = ap (λ d. d.in_message) c.self.view_is ∙ c.requires.phase in
     let low : c.len-number.result < (if c.self.inside.in_message then suc (length c.self.inside.records.items) else length c.self.inside.records.items) = rw open_now (omega arith) in
     record {
+      version = c.self.invariant.version;
       limit = c.self.invariant.limit;
       archives = c.self.invariant.archives;
       open_archive = c.self.invariant.open_archive;

@@ -1,4 +1,4 @@
-use Rattle.std.proofs.Common.{◌≡◌, ◌<◌, ◌≤◌, ◌^◌, length, map, rules, arith}
+use Rattle.std.proofs.Common.{◌≡◌, ◌<◌, ◌≤◌, ◌^◌, length, map, refl, rules, arith}
 use Rattle.std.proofs.lemmas.Grind.{common_steps}
 use Rattle.mail_index.specs.Builders.{Draft}
 use Rattle.mail_index.specs.Drafts.{draft_of, archive_of, message_count}
@@ -28,6 +28,7 @@ returns-clause-small c =
     let archive_count : c.len.result ≡ length (map archive_of c.self.inside.archives.items) = first_of (search rules, grind (arith, common_steps)) in
     let message_count_is : c.len-2.result ≡ length c.self.inside.records.items = first_of (search rules, grind (arith, common_steps)) in
     counted_length-small d.table _ (message_count d) (record {
+      version = refl;
       archives = archive_count;
       messages = message_count_is;
       keys = c.len-3.ensures;

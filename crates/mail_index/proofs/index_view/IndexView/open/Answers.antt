@@ -12,23 +12,23 @@ use Rattle.mail_index.proofs.index_view.IndexView.open.Goals as goal
 pub returns-then-not-are_archives-clause-fault : goal.returns-then-not-are_archives-clause-fault
 returns-then-not-are_archives-clause-fault c =
     let bytes = c.args.bytes.now in
-    let l = c.in-Some-of.layout in
-    let f = laid_out bytes l c.in_default.ensures c.in-Some-of.ensures (record { below = λ i. Fits-lt-pow (c.type_inv.bytes i) }) in
+    let l = c.in-Some.layout in
+    let f = laid_out bytes l c.in-Ok.ensures.0 c.in-Some.ensures (record { below = λ i. Fits-lt-pow (c.type_inv.bytes i) }) in
     (f.counts, λ archives h. let g : false ≡ true = sym c.if-not-are_archives.true ∙ c.are_archives.ensures.1 (these_archives bytes l f archives h).1 in cc)
 
 pub returns-then-not-are_records-clause-fault : goal.returns-then-not-are_records-clause-fault
 returns-then-not-are_records-clause-fault c =
     let bytes = c.args.bytes.now in
-    let l = c.in-Some-of.layout in
-    let f = laid_out bytes l c.in_default.ensures c.in-Some-of.ensures (record { below = λ i. Fits-lt-pow (c.type_inv.bytes i) }) in
+    let l = c.in-Some.layout in
+    let f = laid_out bytes l c.in-Ok.ensures.0 c.in-Some.ensures (record { below = λ i. Fits-lt-pow (c.type_inv.bytes i) }) in
     let a = c.are_archives.ensures.0 c.if-not-are_archives.false in
     (_, has_archives bytes l f a, no_records bytes l f a (λ h. let g : false ≡ true = sym c.if-not-are_records.true ∙ c.are_records.ensures.1 h in cc))
 
 pub returns-then-not-are_entries-clause-fault : goal.returns-then-not-are_entries-clause-fault
 returns-then-not-are_entries-clause-fault c =
     let bytes = c.args.bytes.now in
-    let l = c.in-Some-of.layout in
-    let f = laid_out bytes l c.in_default.ensures c.in-Some-of.ensures (record { below = λ i. Fits-lt-pow (c.type_inv.bytes i) }) in
+    let l = c.in-Some.layout in
+    let f = laid_out bytes l c.in-Ok.ensures.0 c.in-Some.ensures (record { below = λ i. Fits-lt-pow (c.type_inv.bytes i) }) in
     let a = c.are_archives.ensures.0 c.if-not-are_archives.false in
     let r = c.are_records.ensures.0 c.if-not-are_records.false in
     (_, _, has_records bytes l f a r, no_directory bytes l f (λ h. let g : false ≡ true = sym c.if-not-are_entries.true ∙ c.are_entries.ensures.1 h in cc))
@@ -36,8 +36,8 @@ returns-then-not-are_entries-clause-fault c =
 pub returns-then-not-are_lists-clause-fault : goal.returns-then-not-are_lists-clause-fault
 returns-then-not-are_lists-clause-fault c =
     let bytes = c.args.bytes.now in
-    let l = c.in-Some-of.layout in
-    let f = laid_out bytes l c.in_default.ensures c.in-Some-of.ensures (record { below = λ i. Fits-lt-pow (c.type_inv.bytes i) }) in
+    let l = c.in-Some.layout in
+    let f = laid_out bytes l c.in-Ok.ensures.0 c.in-Some.ensures (record { below = λ i. Fits-lt-pow (c.type_inv.bytes i) }) in
     let a = c.are_archives.ensures.0 c.if-not-are_archives.false in
     let r = c.are_records.ensures.0 c.if-not-are_records.false in
     let d = c.are_entries.ensures.0 c.if-not-are_entries.false in
@@ -46,8 +46,8 @@ returns-then-not-are_lists-clause-fault c =
 pub returns-clause-ok : goal.returns-clause-ok
 returns-clause-ok c =
     let bytes = c.args.bytes.now in
-    let l = c.in-Some-of.layout in
-    let f = laid_out bytes l c.in_default.ensures c.in-Some-of.ensures (record { below = λ i. Fits-lt-pow (c.type_inv.bytes i) }) in
+    let l = c.in-Some.layout in
+    let f = laid_out bytes l c.in-Ok.ensures.0 c.in-Some.ensures (record { below = λ i. Fits-lt-pow (c.type_inv.bytes i) }) in
     let a = c.are_archives.ensures.0 c.if-not-are_archives.false in
     let r = c.are_records.ensures.0 c.if-not-are_records.false in
     let d = c.are_entries.ensures.0 c.if-not-are_entries.false in
@@ -56,11 +56,11 @@ returns-clause-ok c =
 
 -- ---- bytes with a fault are the file of no table
 
-pub returns-in-Some-clause-accepts : goal.returns-in-Some-clause-accepts
-returns-in-Some-clause-accepts c t f = absurd (no_fault c.args.bytes.now t c.well_formed.0.0 f c.in-Some.fault c.in-Some.ensures)
+pub returns-in-Err-clause-accepts : goal.returns-in-Err-clause-accepts
+returns-in-Err-clause-accepts c t f = absurd (no_fault c.args.bytes.now t c.well_formed.0.0 f c.in-Err.fault c.in-Err.ensures)
 
 pub returns-in-None-clause-accepts : goal.returns-in-None-clause-accepts
-returns-in-None-clause-accepts c t f = absurd (no_fault c.args.bytes.now t c.well_formed.0.0 f (BadLayout Counts) (c.in_default.ensures, c.in-None.ensures))
+returns-in-None-clause-accepts c t f = absurd (no_fault c.args.bytes.now t c.well_formed.0.0 f (BadLayout Counts) (c.in-Ok.ensures.0, c.in-None.ensures))
 
 pub returns-then-not-are_archives-clause-accepts : goal.returns-then-not-are_archives-clause-accepts
 returns-then-not-are_archives-clause-accepts c t f = absurd (no_fault c.args.bytes.now t c.well_formed.0.0 f (BadLayout Archives) (returns-then-not-are_archives-clause-fault c))
@@ -75,13 +75,13 @@ pub returns-then-not-are_lists-clause-accepts : goal.returns-then-not-are_lists-
 returns-then-not-are_lists-clause-accepts c t f = absurd (no_fault c.args.bytes.now t c.well_formed.0.0 f (BadLayout Postings) (returns-then-not-are_lists-clause-fault c))
 
 pub returns-clause-same : goal.returns-clause-same
-returns-clause-same c t f = same-table c.args.bytes.now t (table_of c.in-Some-of.layout) c.well_formed.0.0 f (returns-clause-ok c)
+returns-clause-same c t f = same-table c.args.bytes.now t (table_of c.in-Some.layout) c.well_formed.0.0 f (returns-clause-ok c)
 
 pub invariant_of-result : goal.invariant_of-result
 invariant_of-result c =
     let bytes = c.args.bytes.now in
-    let l = c.in-Some-of.layout in
-    let f = laid_out bytes l c.in_default.ensures c.in-Some-of.ensures (record { below = λ i. Fits-lt-pow (c.type_inv.bytes i) }) in
+    let l = c.in-Some.layout in
+    let f = laid_out bytes l c.in-Ok.ensures.0 c.in-Some.ensures (record { below = λ i. Fits-lt-pow (c.type_inv.bytes i) }) in
     let a = c.are_archives.ensures.0 c.if-not-are_archives.false in
     let r = c.are_records.ensures.0 c.if-not-are_records.false in
     let d = c.are_entries.ensures.0 c.if-not-are_entries.false in

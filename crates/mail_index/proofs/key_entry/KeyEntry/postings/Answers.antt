@@ -1,4 +1,4 @@
-use Rattle.std.proofs.Common.{◌≡◌, ◌∙◌, ℕ, List, ◌+◌, ◌^◌, ◌<◌, ◌≤◌, ◌++◌, length, drop, ap, ap₂, sym, arith, length-append, Bor}
+use Rattle.std.proofs.Common.{◌≡◌, ◌∙◌, ℕ, List, ◌+◌, ◌++◌, length, drop, ap, ap₂, sym, arith, length-append, Bor}
 use Rattle.mail_index.specs.Tables.{Key}
 use Rattle.mail_index.specs.Postings.{postings}
 use Rattle.mail_index.specs.KeyMaps.{key_bytes}

@@ -1,4 +1,4 @@
-use Rattle.mail_index.proofs.EntryLemmas.{IsNew, new-long}
+use Rattle.mail_index.proofs.EntryLemmas.{new-long}
 use Rattle.mail_index.proofs.key_entry.KeyEntry.without_numbers.Goals as goal
 
 pub invariant_of-result : goal.invariant_of-result

@@ -1,6 +1,5 @@
-use Rattle.std.proofs.Common.{◌≡◌, ◌∙◌, ◌+◌, ◌-◌, ◌≤◌, ◌++◌, ◌∷◌, ℕ, zero, suc, List, [], length, refl, sym, ap, arith, length-append}
+use Rattle.std.proofs.Common.{◌≡◌, ◌-◌, ◌≤◌, ◌++◌, ◌∷◌, [], arith, length-append}
 use Rattle.mime_text.specs.declared.frame.Frame.{Frame}
-use Rattle.mime_text.specs.Frames.{inside_out, opened}
 use Rattle.mime_text.proofs.FrameLemmas.{AreNested-push, open-frames}
 use Rattle.mime_text.proofs.nesting.Nesting.open.Goals as goal
 

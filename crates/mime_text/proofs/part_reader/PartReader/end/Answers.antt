@@ -1,4 +1,3 @@
-use Rattle.std.proofs.Common.{[]}
 use Rattle.mime_text.specs.declared.fault.TextFault.TheVariants.{OutOfMemory}
 use Rattle.mime_text.specs.Feeding.{ending}
 use Rattle.mime_text.proofs.PassingLemmas.{end-passed, end-stopped, broke-memory_behind, facts-whole}

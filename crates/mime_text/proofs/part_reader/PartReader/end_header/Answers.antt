@@ -1,10 +1,10 @@
-use Rattle.std.proofs.Common.{◌≡◌, ℕ, List, [], subst}
+use Rattle.std.proofs.Common.{ℕ, List, subst}
 use Rattle.header_text.specs.Headers.{fields_of}
 use Rattle.header_text.specs.HeldLines.{HasLines}
 use Rattle.mime_text.specs.declared.fault.TextFault.TheVariants.{OutOfMemory}
 use Rattle.mime_text.specs.declared.part_reader.PartReader.{PartReader}
 use Rattle.mime_text.specs.Types.{shape_of}
-use Rattle.mime_text.specs.Feeding.{Comes, counted_texts, given_behind}
+use Rattle.mime_text.specs.Feeding.{Comes, header_texts, given_behind}
 use Rattle.mime_text.proofs.PassingLemmas.{header-passed, header-stopped, broke-memory_behind}
 use Rattle.mime_text.proofs.part_reader.PartReader.end_header.Goals as goal
 
@@ -15,12 +15,12 @@ returns-in-Err-clause-pairs g c =
 pub returns-then-is_err-clause-pairs : goal.returns-then-is_err-clause-pairs
 returns-then-is_err-clause-pairs g c =
     header-stopped g.S.TextSink.takes g.S.TextSink.refuses c.args.self.now c.args.counted c.args.default c.fields.result OutOfMemory _ _ c.fields.ensures.fields
-    (broke-memory_behind g.S.TextSink.takes g.S.TextSink.refuses (λ _. counted_texts c.args.counted c.fields.result) _ _ c.in_default.ensures)
+    (broke-memory_behind g.S.TextSink.takes g.S.TextSink.refuses (λ _. header_texts c.args.counted c.fields.result) _ _ c.in_default.ensures)
 
 pub returns-in-Err-begin_body-clause-pairs : goal.returns-in-Err-begin_body-clause-pairs
 returns-in-Err-begin_body-clause-pairs g c =
     header-stopped g.S.TextSink.takes g.S.TextSink.refuses c.args.self.now c.args.counted c.args.default c.fields.result OutOfMemory _ _ c.fields.ensures.fields
-    (broke-memory_behind g.S.TextSink.takes g.S.TextSink.refuses (λ _. counted_texts c.args.counted c.fields.result) _ _ c.in_default.ensures)
+    (broke-memory_behind g.S.TextSink.takes g.S.TextSink.refuses (λ _. header_texts c.args.counted c.fields.result) _ _ c.in_default.ensures)
 
 pub returns-in-Ok-clause-pairs : goal.returns-in-Ok-clause-pairs
 returns-in-Ok-clause-pairs g c =

@@ -1,4 +1,4 @@
-use Rattle.std.proofs.Common.{◌≡◌, ◌∙◌, true, [], refl, sym, ap}
+use Rattle.std.proofs.Common.{◌∙◌, true, [], refl, sym, ap}
 use Rattle.mime_text.specs.declared.shape.DefaultType.TheVariants.{TextPlain}
 use Rattle.mime_text.specs.Stream.{InHeader}
 use Rattle.mime_text.specs.Frames.{Nest}

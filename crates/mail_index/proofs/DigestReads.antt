@@ -1,0 +1,59 @@
+-- Digests of archives read back from their bytes, and the bytes of digests that were read.
+use Rattle.std.proofs.Common.{◌≡◌, ℕ, ◌+◌, ◌<◌, ◌≤◌, true, false, nat_eq, if◌then◌else◌, List, [], ◌++◌, length, take, drop, Option, None, Some, refl, sym, ap, ◌∙◌, arith}
+use Rattle.std.specs.Prelude.{unwrap_or}
+use Rattle.std.proofs.Math.Seq.{take-append_seam, drop-append_seam}
+use Rattle.std.proofs.lemmas.List.{take-append-drop, length-take}
+use Rattle.mail_index.specs.declared.version.Version.{Version}
+use Rattle.mail_index.specs.declared.version.Version.TheVariants.{Two}
+use Rattle.mail_index.specs.Versions.{version_number, IsDigest, digest_length, read_digest, behind_digest}
+
+pub digest_size : (version : ℕ) (d : List ℕ) → IsDigest version (Some d) → length d ≡ 32
+digest_size version d h = h.1
+
+-- what the bytes of a digest are read as
+pub digest_back : (version : ℕ) (d : Option (List ℕ)) (x : List ℕ) → IsDigest version d
+    → (read_digest version (unwrap_or d [] ++ x) ≡ d) × (behind_digest version (unwrap_or d [] ++ x) ≡ x)
+digest_back version None x h = rw h (refl, refl)
+digest_back version (Some d) x h =
+    let size : 32 ≡ length d = sym (digest_size version d h) in
+    let front : take 32 (d ++ x) ≡ d = ap (λ (n : ℕ). take n (d ++ x)) size ∙ take-append_seam d x in
+    let behind : drop 32 (d ++ x) ≡ x = ap (λ (n : ℕ). drop n (d ++ x)) size ∙ drop-append_seam d x in
+    rw h.0 (ap Some front, behind)
+
+-- what is read of some bytes are their first ones
+pub digest_kept : (version : ℕ) (y : List ℕ) → unwrap_or (read_digest version y) [] ++ behind_digest version y ≡ y
+digest_kept version y = elim (nat_eq version 1) as (λ b. unwrap_or (if b then None else Some (take 32 y)) [] ++ drop (if b then 0 else 32) y ≡ y) [
+  | true ↦ refl
+  | false ↦ take-append-drop 32 y
+]
+
+-- bytes that begin with a digest have room for it
+pub digest_room : (version : ℕ) (y : List ℕ) → IsDigest version (read_digest version y) → digest_length version ≤ length y
+digest_room version y = elim (nat_eq version 1) as (λ b. IsDigest version (if b then None else Some (take 32 y)) → (if b then 0 else 32) ≤ length y) [
+  | true ↦ λ h. omega arith
+  | false ↦ λ h. omega (arith, digest_size version (take 32 y) h, length-take 32 y)
+]
+
+pub cut_digest : (v : Version) (y : List ℕ) → v ≡ Two → length y < 32 → IsDigest (version_number v) (read_digest (version_number v) y) → ⊥
+cut_digest v y e l = rw e (λ h. absurd (omega (arith, digest_room 2 y h, l)))
+
+-- 32 bytes and what follows them
+pub whole_digest : (v : Version) (y d x : List ℕ) → v ≡ Two → (d ≡ take 32 y) × (x ≡ drop 32 y) × (length x + 32 ≡ length y)
+    → IsDigest (version_number v) (read_digest (version_number v) y) × (Some d ≡ read_digest (version_number v) y) × (x ≡ behind_digest (version_number v) y)
+whole_digest v y d x e cut =
+    let size : length (take 32 y) ≡ 32 = omega (arith, length-take 32 y, cut.2) in
+    rw e ((refl, size), ap Some cut.0, cut.1)
+
+-- two digests of a version have as many bytes
+pub same_size : (version : ℕ) (d e : Option (List ℕ)) → IsDigest version d → IsDigest version e → length (unwrap_or d []) ≡ length (unwrap_or e [])
+same_size version None None h k = refl
+same_size version None (Some e) h k = absurd (omega (arith, h, k.0))
+same_size version (Some d) None h k = absurd (omega (arith, h.0, k))
+same_size version (Some d) (Some e) h k = digest_size version d h ∙ sym (digest_size version e k)
+
+-- they are told apart by their bytes
+pub digest_is : (version : ℕ) (d e : Option (List ℕ)) → IsDigest version d → IsDigest version e → unwrap_or d [] ≡ unwrap_or e [] → d ≡ e
+digest_is version None None h k same = refl
+digest_is version None (Some e) h k same = absurd (omega (arith, h, k.0))
+digest_is version (Some d) None h k same = absurd (omega (arith, h.0, k))
+digest_is version (Some d) (Some e) h k same = ap Some same

@@ -1,0 +1,35 @@
+-- What differs between the versions of index files. All else is the same in both.
+use Rattle.std.specs.Prelude.{◌≡◌, ℕ, ◌⊎◌, nat_eq, if◌then◌else◌, List, length, take, drop, Option, None, Some}
+use Rattle.mail_index.specs.declared.version.Version.{Version}
+use Rattle.mail_index.specs.declared.version.Version.TheVariants.{One, Two}
+
+abbrev pub version_number : Version → ℕ
+version_number One = 1
+version_number Two = 2
+
+abbrev pub IsVersion : ℕ → Type 0
+IsVersion n = (n ≡ 1) ⊎ (n ≡ 2)
+
+-- the version that is written
+abbrev pub newest : ℕ
+newest = 2
+
+-- the greatest number of a kind: names came with version 2
+abbrev pub last_kind : ℕ → ℕ
+last_kind version = if nat_eq version 1 then 8 else 9
+
+-- what a table of the version has as the digest of an archive: version 1 none, version 2 any 32 bytes
+abbrev pub IsDigest : ℕ → Option (List ℕ) → Type 0
+IsDigest version None = version ≡ 1
+IsDigest version (Some digest) = (version ≡ 2) × (length digest ≡ 32)
+
+-- the bytes of a digest
+abbrev pub digest_length : ℕ → ℕ
+digest_length version = if nat_eq version 1 then 0 else 32
+
+-- the digest that some bytes begin with, and what follows it
+abbrev pub read_digest : ℕ → List ℕ → Option (List ℕ)
+read_digest version bytes = if nat_eq version 1 then None else Some (take 32 bytes)
+
+abbrev pub behind_digest : ℕ → List ℕ → List ℕ
+behind_digest version bytes = drop (digest_length version) bytes

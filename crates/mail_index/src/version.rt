@@ -1,0 +1,67 @@
+//! The versions of index files.
+ghost use Rattle.std.specs.Prelude.{◌≡◌, MatchOption};
+ghost use Rattle.mail_index.specs.Versions.{IsVersion, version_number};
+
+/// The bytes of an archive's digest.
+pub(crate) const DIGEST: usize = 32;
+
+/// A version of index files.
+#[derive(Clone, Copy, Debug, PartialEq, Eq)]
+pub enum Version {
+    /// Without names of parts, and without digests of archives.
+    One,
+    /// The one that is written.
+    Two,
+}
+
+impl Version {
+    ghost use Rattle.mail_index.specs.Versions.{newest, last_kind, digest_length};
+
+    /// The version that is written.
+    pub(crate) fn newest() -> Self
+        ensures { version_number result ≡ newest }
+    {
+        Version::Two
+    }
+
+    /// The version of this number, None where it isn't known.
+    pub(crate) fn of(number: u32) -> Option<Self>
+        ensures { MatchOption result (¬ IsVersion number) (λ version. version_number version ≡ number) }
+    {
+        match number {
+            1 => Some(Version::One),
+            2 => Some(Version::Two),
+            _ => None,
+        }
+    }
+
+    /// Its number, with which a file says it.
+    pub(crate) fn number(self) -> u32
+        ensures { result ≡ version_number self }
+    {
+        match self {
+            Version::One => 1,
+            Version::Two => 2,
+        }
+    }
+
+    /// The greatest number of a kind: names are the last, and came with version 2.
+    pub(crate) fn greatest_kind(self) -> u8
+        ensures { result ≡ last_kind (version_number self) }
+    {
+        match self {
+            Version::One => 8,
+            Version::Two => 9,
+        }
+    }
+
+    /// The bytes that follow an archive's path.
+    pub(crate) fn digest_length(self) -> usize
+        ensures { result ≡ digest_length (version_number self) }
+    {
+        match self {
+            Version::One => 0,
+            Version::Two => DIGEST,
+        }
+    }
+}

@@ -1,0 +1,10 @@
+use Rattle.std.proofs.Common.{◌≡◌, drop}
+use Rattle.mail_query.specs.Query.{query_of, queries_of, members_of, kinds_inside, have_names, uses_names}
+use Rattle.mail_query.proofs.query.+has_names.Given as goal
+
+abbrev pub decreases-has_names : goal.decreases-has_names
+decreases-has_names l = goal.size-has_names l
+
+-- no member so far has them
+abbrev pub invariant-loop-member : goal.invariant-loop-member
+invariant-loop-member l = have_names (kinds_inside (members_of (queries_of (drop l.member-index l.member-items)))) ≡ uses_names (query_of l.node)

@@ -1,0 +1,169 @@
+-- A table without digests answers as the whole table does, and so does that of version 1 where a query doesn't use names of parts.
+use Rattle.std.proofs.Common.{◌≡◌, ◌∙◌, ℕ, ◌+◌, Bool, true, false, not, cond, List, [], ◌∷◌, map, flat_map, length, Option, Some, None, refl, sym, ap, inl, inr, min, unwrap_or}
+use Rattle.std.specs.Prelude.{◌&&◌, ◌==◌, nat_eq, filter}
+use Rattle.std.specs.List.{list_any, range_with_len, slice_get}
+use Rattle.std.specs.Option.{option_map}
+use Rattle.std.specs.Str.{bytes_eq}
+use Rattle.std.proofs.Math.Path.{transport, transport⁻¹}
+use Rattle.std.proofs.lemmas.Bool.Decides.{eqb_tells}
+use Rattle.std.proofs.lemmas.List.{length-map}
+use Rattle.std.proofs.lemmas.Option.{slice_get-map}
+use Rattle.mail_words.specs.declared.kind.TextKind.{TextKind}
+use Rattle.mail_words.specs.declared.kind.TextKind.TheVariants.{To, Cc, Bcc, From, Subject, Body, Name}
+use Rattle.mail_index.specs.declared.kind.Kind.{Kind}
+use Rattle.mail_index.specs.declared.kind.Kind.TheVariants.{Text, OwnId, LinkId}
+use Rattle.mail_index.specs.Kinds.{kind_number}
+use Rattle.mail_index.specs.LookUps.{is_of_kind, keys_of}
+use Rattle.mail_index.specs.Tables.{Archive, Key, Table}
+use Rattle.mail_query.specs.Query.{Query, uses_names}
+use Rattle.mail_query.specs.Truth.{is_true, words_but_names, without_names}
+use Rattle.mail_query.proofs.NameLemmas.{true-without}
+use Rattle.mail_answer.specs.declared.format.Format.{Format}
+use Rattle.mail_answer.specs.declared.format.Format.TheVariants.{Raw, Excerpt, Mbox}
+use Rattle.mail_answer.specs.Mail.{Search, AreChosen, AreChosenBy, AreThreadsOf, satisfying}
+use Rattle.mail_answer.specs.Shapes.{path_at, answer_text, span, raw_line}
+use Rattle.mail_answer.specs.Excerpts.{excerpt}
+use Rattle.mail_answer.specs.Stale.{first_changed, stale_archive}
+use Rattle.mail_answer.specs.TableAnswers.{mail_told}
+use Rattle.mail_answer.specs.TableFacts.{is_among, texts_with, facts_at, record_at}
+use Rattle.mail_answer.specs.Threads.{are_linked}
+use Rattle.mairix_tool.specs.OldTables.{without_digest, keys_but_names, but_digests, old_table}
+use Rattle.mairix_tool.specs.Replies.{Answer}
+use Rattle.mairix_tool.specs.Runs.{IsTold, IsStaleOr, answered, first_renamed, renamed_archive}
+
+-- ---- keys
+
+-- the keys of any other kind stay
+others-stay : (kind : Kind) → nat_eq 9 (kind_number kind) ≡ false → (ks : List Key) → keys_of kind (keys_but_names ks) ≡ keys_of kind ks
+others-stay kind other [] = refl
+others-stay kind other (k ∷ ks) =
+    elim (eqb_tells (kind_number k.kind) 9) [
+      | inl named ↦
+          ap (λ (b : Bool). keys_of kind (cond (not b) (k ∷ keys_but_names ks) (keys_but_names ks))) named.0
+          ∙ others-stay kind other ks
+          ∙ sym (ap (λ (b : Bool). cond b (k ∷ keys_of kind ks) (keys_of kind ks)) (ap (λ (n : ℕ). nat_eq n (kind_number kind)) named.1 ∙ other))
+      | inr unnamed ↦
+          ap (λ (b : Bool). keys_of kind (cond (not b) (k ∷ keys_but_names ks) (keys_but_names ks))) unnamed.0
+          ∙ ap (λ (rest : List Key). cond (is_of_kind kind k) (k ∷ rest) rest) (others-stay kind other ks)
+    ]
+
+-- and none of names
+no-names : (ks : List Key) → keys_of (Text Name) (keys_but_names ks) ≡ []
+no-names [] = refl
+no-names (k ∷ ks) = go (is_of_kind (Text Name) k) refl (no-names ks)
+  where
+    go : (b : Bool) → is_of_kind (Text Name) k ≡ b → keys_of (Text Name) (keys_but_names ks) ≡ [] → keys_of (Text Name) (cond (not (is_of_kind (Text Name) k)) (k ∷ keys_but_names ks) (keys_but_names ks)) ≡ []
+    go true e rest = ap (λ (b : Bool). keys_of (Text Name) (cond (not b) (k ∷ keys_but_names ks) (keys_but_names ks))) e ∙ rest
+    go false e rest =
+        ap (λ (b : Bool). keys_of (Text Name) (cond (not b) (k ∷ keys_but_names ks) (keys_but_names ks))) e
+        ∙ ap (λ (b : Bool). cond b (k ∷ keys_of (Text Name) (keys_but_names ks)) (keys_of (Text Name) (keys_but_names ks))) e
+        ∙ rest
+
+-- ---- what a message says
+
+texts-of : (n : ℕ) (ks ls : List Key) → ks ≡ ls → map (λ (k : Key). k.text) (filter (λ k. is_among n k.numbers) ks) ≡ map (λ (k : Key). k.text) (filter (λ k. is_among n k.numbers) ls)
+texts-of n ks ls e = ap (λ (keys : List Key). map (λ (k : Key). k.text) (filter (λ k. is_among n k.numbers) keys)) e
+
+texts-old : (t : Table) (n : ℕ) (kind : TextKind) → texts_with (Text kind) n (keys_but_names t.keys) ≡ words_but_names (λ k. texts_with (Text k) n t.keys) kind
+texts-old t n To = texts-of n _ _ (others-stay (Text To) refl t.keys)
+texts-old t n Cc = texts-of n _ _ (others-stay (Text Cc) refl t.keys)
+texts-old t n Bcc = texts-of n _ _ (others-stay (Text Bcc) refl t.keys)
+texts-old t n From = texts-of n _ _ (others-stay (Text From) refl t.keys)
+texts-old t n Subject = texts-of n _ _ (others-stay (Text Subject) refl t.keys)
+texts-old t n Body = texts-of n _ _ (others-stay (Text Body) refl t.keys)
+texts-old t n Name = texts-of n _ _ (no-names t.keys)
+
+facts-old : (t : Table) (n : ℕ) → facts_at (old_table t) n ≡ without_names (facts_at t n)
+facts-old t n = λ i. record {
+  words = λ kind. texts-old t n kind i;
+  own_ids = texts-of n _ _ (others-stay OwnId refl t.keys) i;
+  date = (record_at t.messages n).date;
+  size = (record_at t.messages n).size;
+  flags = (record_at t.messages n).flags;
+}
+
+truth-old : (t : Table) (q : Query) → uses_names q ≡ false → (n : ℕ) → is_true q (facts_at (old_table t) n) ≡ is_true q (facts_at t n)
+truth-old t q none n = ap (is_true q) (facts-old t n) ∙ true-without q (facts_at t n) none
+
+linked-old : (t : Table) (m n : ℕ) → are_linked (old_table t) m n ≡ are_linked t m n
+linked-old t m n = ap (list_any (λ (k : Key). is_among m k.numbers && is_among n k.numbers)) (others-stay LinkId refl t.keys)
+
+-- ---- the messages that are chosen
+
+satisfying-old : (t : Table) (q : Query) → uses_names q ≡ false → satisfying (mail_told (old_table t)) q ≡ satisfying (mail_told t) q
+satisfying-old t q none = λ i. filter (λ n. truth-old t q none n i) (range_with_len 0 (length t.messages))
+
+chosen-by-old : (t : Table) (threads : Bool) (q : Query) (numbers : List ℕ) → uses_names q ≡ false → AreChosenBy threads (mail_told (old_table t)) q numbers ≡ AreChosenBy threads (mail_told t) q numbers
+chosen-by-old t false q numbers none = λ i. numbers ≡ satisfying-old t q none i
+chosen-by-old t true q numbers none = λ i. AreThreadsOf (length t.messages) (λ m n. linked-old t m n i) (satisfying-old t q none i) numbers
+
+-- ---- how they are told
+
+path-old : (named : List Archive) (n : ℕ) → path_at (map without_digest named) n ≡ path_at named n
+path-old named n = ap (λ (o : Option Archive). unwrap_or (option_map (λ a. a.path) o) []) (slice_get-map without_digest named n) ∙ go (slice_get named n)
+  where
+    go : (o : Option Archive) → unwrap_or (option_map (λ a. a.path) (option_map without_digest o)) [] ≡ unwrap_or (option_map (λ a. a.path) o) []
+    go None = refl
+    go (Some a) = refl
+
+text-undigested : (t : Table) (format : Format) (held : List (List ℕ)) (numbers : List ℕ) → answer_text format (but_digests t) held numbers ≡ answer_text format t held numbers
+text-undigested t Raw held numbers = λ i. flat_map (λ n. let m = record_at t.messages n in raw_line m.offset m.length (path-old t.archives m.archive i)) numbers
+text-undigested t Excerpt held numbers = λ i. flat_map (λ n. let m = record_at t.messages n in excerpt (path-old t.archives m.archive i) (span held m)) numbers
+text-undigested t Mbox held numbers = refl
+
+-- names don't show in it
+text-old : (t : Table) (format : Format) (held : List (List ℕ)) (numbers : List ℕ) → answer_text format (old_table t) held numbers ≡ answer_text format t held numbers
+text-old t Raw held numbers = text-undigested t Raw held numbers
+text-old t Excerpt held numbers = text-undigested t Excerpt held numbers
+text-old t Mbox held numbers = refl
+
+-- ---- which archive isn't as it was indexed
+
+changed-old : (n : ℕ) (named : List Archive) (held : List (List ℕ)) → first_changed n (map without_digest named) held ≡ first_changed n named held
+changed-old n [] held = refl
+changed-old n (a ∷ named) [] = refl
+changed-old n (a ∷ named) (bytes ∷ held) = ap (λ (o : Option ℕ). cond (length bytes == a.length) o (Some n)) (changed-old (n + 1) named held)
+
+stale-old : (named : List Archive) (held : List (List ℕ)) → stale_archive (map without_digest named) held ≡ stale_archive named held
+stale-old named held =
+    ap (λ (o : Option ℕ). cond (length held == length (map without_digest named)) o (Some (min (length held) (length (map without_digest named))))) (changed-old 0 named held)
+    ∙ ap (λ (n : ℕ). cond (length held == n) (first_changed 0 named held) (Some (min (length held) n))) (length-map named without_digest)
+
+first-renamed-old : (n : ℕ) (named : List Archive) (paths : List (List ℕ)) → first_renamed n (map without_digest named) paths ≡ first_renamed n named paths
+first-renamed-old n [] paths = refl
+first-renamed-old n (a ∷ named) [] = refl
+first-renamed-old n (a ∷ named) (path ∷ paths) = ap (λ (o : Option ℕ). cond (bytes_eq a.path path) o (Some n)) (first-renamed-old (n + 1) named paths)
+
+pub renamed-old : (named : List Archive) (paths : List (List ℕ)) → renamed_archive (map without_digest named) paths ≡ renamed_archive named paths
+renamed-old named paths =
+    ap (λ (o : Option ℕ). cond (length paths == length (map without_digest named)) o (Some (min (length paths) (length (map without_digest named))))) (first-renamed-old 0 named paths)
+    ∙ ap (λ (n : ℕ). cond (length paths == n) (first_renamed 0 named paths) (Some (min (length paths) n))) (length-map named without_digest)
+
+-- ---- what is answered
+
+told-undigested : (t : Table) (s : Search) (held : List (List ℕ)) (answer : Answer) → IsTold (but_digests t) s held answer ≡ IsTold t s held answer
+told-undigested t s held answer = λ i.
+    IsStaleOr (stale-old t.archives held i)
+    (λ (a : Answer). (numbers : List ℕ) × AreChosen (mail_told t) s numbers × (a ≡ answered (text-undigested t s.format held numbers i) (length numbers))) answer
+
+-- of two tables that differ in digests alone both tell the same
+module _ (t u : Table) (same : but_digests t ≡ but_digests u) (s : Search) (held : List (List ℕ)) (answer : Answer) where
+  alike : IsTold t s held answer ≡ IsTold u s held answer
+  alike = sym (told-undigested t s held answer) ∙ ap (λ (v : Table). IsTold v s held answer) same ∙ told-undigested u s held answer
+
+  pub told-same : IsTold t s held answer → IsTold u s held answer
+  told-same = transport alike
+
+  pub same-told : IsTold u s held answer → IsTold t s held answer
+  same-told = transport⁻¹ alike
+
+told-alike : (t : Table) (s : Search) (held : List (List ℕ)) (answer : Answer) → uses_names s.query ≡ false → IsTold (old_table t) s held answer ≡ IsTold t s held answer
+told-alike t s held answer none = λ i.
+    IsStaleOr (stale-old t.archives held i)
+    (λ (a : Answer). (numbers : List ℕ) × chosen-by-old t s.threads s.query numbers none i × (a ≡ answered (text-old t s.format held numbers i) (length numbers))) answer
+
+pub told-old : (t : Table) (s : Search) (held : List (List ℕ)) (answer : Answer) → uses_names s.query ≡ false → IsTold (old_table t) s held answer → IsTold t s held answer
+told-old t s held answer none = transport (told-alike t s held answer none)
+
+pub old-told : (t : Table) (s : Search) (held : List (List ℕ)) (answer : Answer) → uses_names s.query ≡ false → IsTold t s held answer → IsTold (old_table t) s held answer
+old-told t s held answer none = transport⁻¹ (told-alike t s held answer none)

@@ -1,0 +1,23 @@
+use Rattle.std.proofs.Common.{◌≡◌, ◌∙◌, ℕ, List, Option, None, Err, IfSome, sym, subst}
+use Rattle.std.proofs.lemmas.Result.{err_from_is_err_and}
+use Rattle.mairix_tool.specs.Asked.{wanted}
+use Rattle.mairix_tool.specs.Runs.{IsStaleOr, IsTold, RepliesBy, TellsProved, unproved_archive, reply_of}
+use Rattle.mairix_tool.proofs.StoredReplies.{unproved-replied}
+use Rattle.mairix_tool.proofs.stored.answer_opened.Goals as goal
+
+pub returns-in_err-prove_archives-clause-told : goal.returns-in_err-prove_archives-clause-told
+returns-in_err-prove_archives-clause-told g c = λ held holds.
+    let w = wanted c.args.found.now.wanted in
+    let t = c.args.found.now.view in
+    let fault = c.in_err-prove_archives.field-0.0 in
+    let p = err_from_is_err_and c.from_residual.result c.from_residual.ensures.1 in
+    let tells = subst (λ (o : Option (List (List ℕ))). IfSome o (λ bytes. TellsProved {T = Unit {0}} (unproved_archive w.verify t.archives bytes) (Err fault))) holds c.in_err-prove_archives.ensures.proved in
+    rw (p.1, p.2) (unproved-replied (unproved_archive w.verify t.archives held) (IsTold t w.search held) fault (g.O.Out.taken c.args.out.now) tells)
+
+pub returns-clause-told : goal.returns-clause-told
+returns-clause-told g c = λ held holds.
+    let w = wanted c.args.found.now.wanted in
+    let t = c.args.found.now.view in
+    let none = subst (λ (o : Option (List (List ℕ))). IfSome o (λ bytes. unproved_archive w.verify t.archives bytes ≡ None)) holds c.in_ok-prove_archives.ensures.proved in
+    let told = c.answer_view.ensures.told held (c.in_ok-prove_archives.ensures.held ∙ holds) in
+    subst (λ (o : Option ℕ). RepliesBy (IsStaleOr o (IsTold t w.search held)) (reply_of c.answer_view.result) (g.O.Out.taken c.args.out.now) (g.O.Out.taken c.answer_view.new.out)) (sym none) told
