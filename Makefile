@@ -1,10 +1,17 @@
-# `make run` builds the program and answers a small archive with it; `make test` is the whole gate.
+# `make run` builds the program and answers a small archive with it; `make test` is the whole gate; `make install` puts the program, its
+# pages and completions below PREFIX, and `make uninstall` takes them away; `make dist` makes a release of the last commit.
 RT ?= rt
 PREFIX ?= /usr/local
 JOBS ?= $(shell python3 tools/machine.py)
 PROGRAM = crates/mairix/out/mairix
+DISTDIR ?= .
+VERSION = $(shell sed -n 's/.*\.version("\(.*\)").*/\1/p' crates/mairix_options/src/command_line.rt)
+# Manual pages and completions, each with its place in share/.
+PAGES = man/mairix.1:man/man1/mairix.1 man/mairixrc.5:man/man5/mairixrc.5 man/mairix-query.7:man/man7/mairix-query.7 \
+	completions/mairix.bash:bash-completion/completions/mairix completions/_mairix:zsh/site-functions/_mairix \
+	completions/mairix.fish:fish/vendor_completions.d/mairix.fish
 
-.PHONY: build run test install
+.PHONY: build run test install uninstall dist
 
 # Leaves the executable at $(PROGRAM). The first time every crate is proved before it, as many side by side as processors and memory
 # allow; later only what has changed.
@@ -21,6 +28,13 @@ test:
 	tools/gate
 
 install: build
-	install -D -m 755 $(PROGRAM) $(DESTDIR)$(PREFIX)/bin/mairix
-	install -D -m 644 man/mairix.1 $(DESTDIR)$(PREFIX)/share/man/man1/mairix.1
-	install -D -m 644 man/mairixrc.5 $(DESTDIR)$(PREFIX)/share/man/man5/mairixrc.5
+	install -D -m 755 $(PROGRAM) "$(DESTDIR)$(PREFIX)/bin/mairix"
+	for file in $(PAGES); do install -D -m 644 "$${file%%:*}" "$(DESTDIR)$(PREFIX)/share/$${file#*:}" || exit; done
+
+uninstall:
+	rm -f "$(DESTDIR)$(PREFIX)/bin/mairix"
+	for file in $(PAGES); do rm -f "$(DESTDIR)$(PREFIX)/share/$${file#*:}" || exit; done
+
+# A release: all that git tracks.
+dist:
+	git archive --format=tar.gz --prefix=mairix-$(VERSION)/ -o "$(DISTDIR)/mairix-$(VERSION).tar.gz" HEAD
