@@ -2,10 +2,11 @@
 
    COUNTED    the names of the calls that count, a space behind each: open, create, statx, realpath, flock, read, read_at, write, print,
               fchmod, fsync, unlink, rename. A print is a write to standard output; one to standard error never counts.
-   AT         the number of the call, counted from 1, or its name; `each` is every call
-   HOW        `stop` stops the process before the call until it is told to go on, `kill` ends it before the call; `fail` lets the
-              call fail with EIO, and `full` with ENOSPC; `short` lets a read or a write move one byte alone, and `none` a write
-              none at all
+   AT         the number of the call, counted from 1, or its name; `each` is every call, and a number with a dash behind it that
+              call and all later ones
+   HOW        `stop` stops the process before the call until it is told to go on; `kill`, `terminate` and `interrupt` send it
+              SIGKILL, SIGTERM or SIGINT before the call; `fail` lets the call fail with EIO, and `full` with ENOSPC; `short` lets a
+              read or a write move one byte alone, and `none` a write none at all
    AGAIN      the number of another call at which it does so
    CALLS_LOG  a file to which each call's name, and the last name of its path, are appended as a line before it */
 #define _GNU_SOURCE
@@ -23,6 +24,7 @@
 
 static const char *counted, *wanted_name, *how;
 static long wanted, again, seen;
+static int from_then_on;
 static int log_fd = -1;
 
 static const char *told(const char *name)
@@ -35,7 +37,9 @@ __attribute__((constructor)) static void arm(void)
 {
     counted = told("COUNTED");
     wanted_name = told("AT");
-    wanted = atol(wanted_name);
+    char *behind;
+    wanted = strtol(wanted_name, &behind, 10);
+    from_then_on = wanted > 0 && *behind == '-';
     again = atol(told("AGAIN"));
     how = told("HOW");
     if (*told("CALLS_LOG"))
@@ -51,6 +55,23 @@ static void tell(const char *name, const char *path)
         abort();
 }
 
+/* The signal that HOW says, or none. */
+static int signal_told(void)
+{
+    static const struct { const char *how; int signal; } signals[] = {
+        {"stop", SIGSTOP}, {"kill", SIGKILL}, {"terminate", SIGTERM}, {"interrupt", SIGINT}};
+    for (size_t n = 0; n < sizeof signals / sizeof *signals; ++n)
+        if (!strcmp(how, signals[n].how))
+            return signals[n].signal;
+    return 0;
+}
+
+/* Whether the call of this name, which was the last one counted, is one of those that are wanted. */
+static int is_wanted(const char *name)
+{
+    return seen == wanted || seen == again || (from_then_on && seen > wanted) || !strcmp(name, wanted_name) || !strcmp("each", wanted_name);
+}
+
 /* What is to be done with this call: what HOW says, or nothing. */
 static const char *met(const char *name, const char *path)
 {
@@ -60,10 +81,10 @@ static const char *met(const char *name, const char *path)
         return "";
     tell(name, path);
     ++seen;
-    if (seen != wanted && seen != again && strcmp(name, wanted_name) && strcmp("each", wanted_name))
+    if (!is_wanted(name))
         return "";
-    if (!strcmp(how, "stop") || !strcmp(how, "kill"))
-        kill(getpid(), *how == 'k' ? SIGKILL : SIGSTOP);
+    if (signal_told())
+        kill(getpid(), signal_told());
     return how;
 }
 

@@ -17,14 +17,16 @@ LINK = "a link to another file"
 COUNTED = "open create statx flock write fchmod fsync unlink rename "
 
 
-def hello_index(path):
+def hello_index(path, version=2, digest=hashlib.sha256(HELLO).digest()):
     """The index file of HELLO as the archive of this path, laid out by hand: counts, the archive, its message, the keys `hello` of
-    subjects and `hi` of texts, and the digest of all that."""
+    subjects and `hi` of texts, and the digest of all that. Behind an archive's path version 2 has the digest of its bytes."""
+    behind = digest if version == 2 else b""
     index = (
         b"MAIRIX\r\n"
-        + struct.pack(">IIIIQQQ", 1, 1, 1, 2, 12 + len(path), 7, 2)
+        + struct.pack(">IIIIQQQ", version, 1, 1, 2, 12 + len(path) + len(behind), 7, 2)
         + struct.pack(">QI", 58, len(path))
         + path.encode()
+        + behind
         + struct.pack(">IIQQQq", 0, 0, 0, 58, 19, 0)
         + struct.pack(">IIQQ", 5 << 24, 5, 0, 0)
         + struct.pack(">IIQQ", 6 << 24, 2, 5, 1)

@@ -99,12 +99,29 @@ class Swept:
         return [] if good else ["status %d, %r, %r, left %s, wanted %r" % (status, out[:100], err, sorted(files), fault or "all")]
 
 
+def index_of(files, program):
+    return Swept("", files, INDEX).run(program)[3]["m.idx"]
+
+
+def verified_runs(program):
+    """Searches that read the archives through before they answer. A program whose help doesn't name that has none."""
+    if b"--verify" not in Swept("", {}, ["--help"]).run(program)[1]:
+        return []
+    hello = {"m.mbox": HELLO, "m.idx": index_of({"m.mbox": HELLO}, program), "hits": b"old"}
+    world = {**hello, "m.mbox": HELLO.replace(b"Hello", b"World")}
+    verify = INDEX + ["--verify", "s:hello"]
+    return [
+        Swept("lines, verified", hello, STORED + ["--verify", "s:hello"], out=b"0 58 m.mbox\n", told={**STORED_CALLS, **PRINT_CALLS}),
+        Swept("an mbox, verified", hello, verify, changes={"hits": HELLO}, told={**STORED_CALLS, **made("hits")}),
+        Swept("an archive with another letter", world, verify, 3, err=CHANGED, told={**STORED_CALLS, **found("hits")}),
+    ]
+
+
 def swept_runs(program):
-    """The runs that are swept. Two indexes and the parser's own texts are the program's: those are shown elsewhere."""
+    """The runs that are swept. Some indexes and the parser's own texts are the program's: those are shown elsewhere."""
     hello = {"m.mbox": HELLO, "m.idx": HELLO_INDEX, "hits": b"old"}
-    index_of = lambda files: Swept("", files, INDEX).run(program)[3]["m.idx"]
-    alice = {"m.mbox": ALICE, "m.idx": index_of({"m.mbox": ALICE}), "hits": b"old"}
-    thread = {**THREAD, "m.idx": index_of(THREAD), "hits": b"old"}
+    alice = {"m.mbox": ALICE, "m.idx": index_of({"m.mbox": ALICE}, program), "hits": b"old"}
+    thread = {**THREAD, "m.idx": index_of(THREAD, program), "hits": b"old"}
     threads = FIRST_OF_THREAD + SECOND_OF_THREAD
     return [
         Swept("an index run", {**hello, "m.idx": b"old"}, INDEX, changes={"m.idx": HELLO_INDEX}, told={**whole("rc"), **indexed("m.mbox"), **made("m.idx")}),
@@ -118,6 +135,7 @@ def swept_runs(program):
         Swept("an archive that has grown", {**hello, "m.mbox": HELLO + HELLO}, INDEX + ["s:hello"], 3, err=CHANGED, told={**STORED_CALLS, **found("hits")}),
         Swept("bad words", {}, ["-z"], 2, err=Swept("", {}, ["-z"]).run(program)[2]),
         Swept("help", {}, ["-h"], out=Swept("", {}, ["-h"]).run(program)[1], told=PRINT_CALLS),
+        *verified_runs(program),
     ]
 
 
