@@ -4,7 +4,7 @@ use Rattle.std.specs.Prelude.{Result, Ok, Err}
 use Rattle.std.proofs.lemmas.List.{length-append, length-map, map-append}
 use Rattle.contract_words.specs.Answers.{◌>>=◌}
 use Rattle.mail_index.specs.Builders.{Draft, archive_count, begun_archive, stepped}
-use Rattle.mail_index.specs.declared.build_fault.BuildFault.TheVariants.{TooMany}
+use Rattle.mail_index.specs.declared.build.build_fault.BuildFault.TheVariants.{TooMany}
 use Rattle.std.proofs.lemmas.Bool.Decides.{nat_tests}
 use Rattle.mail_index.specs.Tables.{Key}
 use Rattle.mbox_cutter.specs.Archives.{Message, text}

@@ -4,8 +4,8 @@ use Rattle.std.specs.declared.cmp.Ordering.TheVariants.{Less, Equal, Greater}
 use Rattle.std.specs.Ordering.{match_ordering, nat_cmp}
 use Rattle.std.specs.Cmp.Lexicographic.{slice_cmp}
 use Rattle.contract_words.specs.Answers.{◌>>=◌}
-use Rattle.mail_index.specs.declared.build_fault.BuildFault.{BuildFault}
-use Rattle.mail_index.specs.declared.build_fault.BuildFault.TheVariants.{OutOfMemory, TooMany, Device, Failed}
+use Rattle.mail_index.specs.declared.build.build_fault.BuildFault.{BuildFault}
+use Rattle.mail_index.specs.declared.build.build_fault.BuildFault.TheVariants.{OutOfMemory, TooMany, Device, Failed}
 use Rattle.mail_index.specs.declared.kind.Kind.{Kind}
 use Rattle.std.specs.Global.{Global}
 use Rattle.std.specs.List.{AllByRecursion, slice_index_or}
@@ -17,7 +17,7 @@ use Rattle.mail_index.specs.Kinds.{kind_number}
 use Rattle.mail_index.specs.PostingLists.{with_number}
 use Rattle.mail_index.specs.Tables.{Key}
 use Rattle.mail_index.specs.Builders.{Draft, with_pair, added, refusal, stepped, IsInMessage}
-use Rattle.mail_index.proofs.BuilderSteps.{added-is}
+use Rattle.mail_index.proofs.BuildLaws.BuilderSteps.{added-is}
 use Rattle.index_job.specs.ArchiveTables.{with_terms}
 use Rattle.index_job.specs.Indexing.{draft_with_terms, IsTermFault, RefusesTerms, AddsTerms}
 use Rattle.index_job.specs.MessageTerms.{Term, link_terms, word_terms, HasTermLength}

@@ -1,8 +1,8 @@
 -- What a builder's draft has while archives are indexed.
 use Rattle.std.specs.Prelude.{◌≡◌, ⊤, ℕ, ◌<◌, ◌≤◌, ◌⊎◌, true, false, List, ◌++◌, length, map, Option, None, Some, IfSome, option_map, unwrap_or, [], ◌∷◌, Result}
 use Rattle.std.specs.Result.{MatchResult}
-use Rattle.mail_index.specs.declared.build_fault.BuildFault.{BuildFault}
-use Rattle.mail_index.specs.declared.build_fault.BuildFault.TheVariants as build
+use Rattle.mail_index.specs.declared.build.build_fault.BuildFault.{BuildFault}
+use Rattle.mail_index.specs.declared.build.build_fault.BuildFault.TheVariants as build
 use Rattle.mail_index.specs.Builders.{Draft, archive_count, end_of, IsBetweenArchives, IsInArchive, IsInMessage, IsWithinMost}
 use Rattle.mbox_cutter.specs.Archives.{Message}
 use Rattle.mbox_cutter.specs.declared.event.CutFault.{CutFault}

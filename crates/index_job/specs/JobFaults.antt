@@ -1,7 +1,7 @@
 -- The faults of an indexing job.
 use Rattle.std.specs.Prelude.{Bool, true, false, Result, Err}
-use Rattle.mail_index.specs.declared.build_fault.BuildFault.{BuildFault}
-use Rattle.mail_index.specs.declared.build_fault.BuildFault.TheVariants as build
+use Rattle.mail_index.specs.declared.build.build_fault.BuildFault.{BuildFault}
+use Rattle.mail_index.specs.declared.build.build_fault.BuildFault.TheVariants as build
 use Rattle.mbox_cutter.specs.declared.event.CutFault.TheVariants.{Device}
 use Rattle.mime_text.specs.declared.fault.SinkFault.{SinkFault}
 use Rattle.mime_text.specs.declared.fault.SinkFault.TheVariants as sink

@@ -2,8 +2,8 @@
 use Rattle.std.proofs.Common.{◌≡◌, refl}
 use Rattle.std.specs.Prelude.{codes}
 use Rattle.mbox_cutter.specs.Lines.{lines, first_length, is_empty}
-use Rattle.mail_answer.specs.Endings.{ending_of}
-use Rattle.mail_answer.specs.declared.ending.Ending.TheVariants.{Empty, Ended, Return, Open}
+use Rattle.mail_answer.specs.Inside.Endings.{ending_of}
+use Rattle.mail_answer.specs.declared.output.ending.Ending.TheVariants.{Empty, Ended, Return, Open}
 
 empty_line : ending_of (codes "hi\n\r\n") ≡ Empty
 unfolding lines first_length is_empty

@@ -1,7 +1,7 @@
 -- How the bytes of an answer go out: they are gathered, and a front of what was gathered goes out from time to time.
 use Rattle.std.specs.Prelude.{◌≡◌, ℕ, ◌+◌, ◌-◌, ◌^◌, min, List, ◌++◌, length, Option, None, Some, IfSome, Result, Ok, Err}
 use Rattle.std.specs.Io.KnownBytes.{Appends}
-use Rattle.mail_answer.specs.declared.sheet.Sheet.{Sheet}
+use Rattle.mail_answer.specs.declared.output.sheet.Sheet.{Sheet}
 
 -- so many bytes more went out, up to the greatest number of u64
 abbrev pub counted : ℕ → List ℕ → ℕ

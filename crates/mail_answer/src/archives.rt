@@ -3,6 +3,11 @@ ghost use Rattle.std.specs.Prelude.{◌≡◌, ◌<◌, ◌≤◌, ◌-◌, ◌^
 ghost use Rattle.contract_words.specs.Devices.{Counts};
 ghost use Rattle.mail_answer.specs.Archives.{IsCount, IsLength, IsRead};
 
+pub mod fail_at;
+pub mod memory_archives;
+pub mod stale;
+pub mod verified;
+
 use mbox_cutter::DeviceFault;
 
 /// Archives by their numbers, from 0. No call changes them.

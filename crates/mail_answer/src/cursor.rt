@@ -6,10 +6,12 @@ ghost use Rattle.mail_answer.specs.CursorAhead.{Spends};
 ghost use Rattle.mail_answer.specs.CursorNumbers.{numbers_from, AreWithin, TakesFirst, TakesFrom};
 
 mod begin;
+mod fit;
 mod head;
 mod hints;
 mod listed;
 mod queue;
+mod records;
 mod scanned;
 mod texts;
 mod waits;

@@ -1,7 +1,7 @@
 //! The numbers of the messages of an answer, one after another.
 ghost use Rattle.std.specs.Prelude.{◌≡◌, length, drop, IfOk};
 ghost use Rattle.mail_query.specs.Meaning.{meaning};
-ghost use Rattle.mail_answer.specs.CursorLists.{AreNumbers};
+ghost use Rattle.mail_answer.specs.Inside.CursorLists.{AreNumbers};
 ghost use Rattle.mail_answer.specs.CursorNumbers.{TakesFirst};
 ghost use Rattle.mail_answer.specs.Mail.{AreChosenBy};
 ghost use Rattle.mail_answer.specs.TableAnswers.{mail_told};
@@ -45,7 +45,7 @@ pub(crate) struct Numbers<'a> {
 
 impl<'a> Model for Numbers<'a> {
     ghost use Rattle.std.specs.Prelude.{ℕ, List};
-    ghost use Rattle.mail_answer.specs.NumbersToCome.{to_come};
+    ghost use Rattle.mail_answer.specs.Inside.NumbersToCome.{to_come};
 
     ghost Value = { List ℕ };
 

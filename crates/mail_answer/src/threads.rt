@@ -6,10 +6,13 @@ ghost use Rattle.mail_index.specs.declared.kind.Kind.TheVariants.{LinkId};
 ghost use Rattle.mail_index.specs.LookUps.{keys_of};
 ghost use Rattle.mail_answer.specs.Marks.{truth_at, each_number, Adds};
 ghost use Rattle.mail_answer.specs.Threads.{AreThreads};
-ghost use Rattle.mail_answer.specs.Forests.{TellsThreads};
+ghost use Rattle.mail_answer.specs.Inside.Forests.{TellsThreads};
 
-use crate::forest::{flatten, single_messages, unite_by_keys};
-use crate::marks::same_truths;
+mod forest;
+mod marks;
+
+use crate::threads::forest::{flatten, single_messages, unite_by_keys};
+use crate::threads::marks::same_truths;
 use mail_index::{IndexView, Kind, Steps};
 use std::alloc::{AllocError, Global};
 

@@ -3,8 +3,8 @@ use Rattle.std.specs.Prelude.{◌≡◌, ℕ, ◌+◌, ◌^◌, ◌<◌, ◌≤�
 use Rattle.std.specs.Ordering.{match_ordering, nat_cmp}
 use Rattle.std.specs.Cmp.Lexicographic.{slice_cmp}
 use Rattle.contract_words.specs.Answers.{◌>>=◌}
-use Rattle.mail_index.specs.declared.build_fault.BuildFault.{BuildFault}
-use Rattle.mail_index.specs.declared.build_fault.BuildFault.TheVariants.{OutOfMemory, TooMany, Device, Failed}
+use Rattle.mail_index.specs.declared.build.build_fault.BuildFault.{BuildFault}
+use Rattle.mail_index.specs.declared.build.build_fault.BuildFault.TheVariants.{OutOfMemory, TooMany, Device, Failed}
 use Rattle.mail_index.specs.declared.kind.Kind.{Kind}
 use Rattle.mail_index.specs.declared.record.Record.{Record}
 use Rattle.mail_index.specs.Kinds.{kind_number}

@@ -1,7 +1,7 @@
 -- The sections of a file as slices, and the table that they tell.
 use Rattle.std.specs.Prelude.{◌≡◌, ℕ, ◌+◌, ◌*◌, ◌^◌, ◌<◌, List, [], length, slice_range}
-use Rattle.mail_index.specs.declared.archive.Archive.{Archive}
-use Rattle.mail_index.specs.declared.layout.Layout.{Layout}
+use Rattle.mail_index.specs.declared.view.archive.Archive.{Archive}
+use Rattle.mail_index.specs.declared.view.layout.Layout.{Layout}
 use Rattle.mail_index.specs.Fields.{u32_at}
 use Rattle.mail_index.specs.Versions.{version_number}
 use Rattle.mail_index.specs.Tables.{Key, Table, IsWellFormed}

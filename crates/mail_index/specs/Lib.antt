@@ -14,9 +14,6 @@ pub mod Steps
 pub mod LookUps
 pub mod KeysRead
 pub mod PostingLists
-pub mod KeyMaps
 pub mod Builders
-pub mod Drafts
-pub mod Signing
-pub mod SectionCounts
 pub mod Pairs
+pub mod Inside

@@ -1,6 +1,6 @@
 //! Laws of the definitions.
 ghost use Rattle.std.specs.Prelude.{◌≡◌, ◌<◌, ◌^◌, ℕ, List, length};
-ghost use Rattle.mail_index.specs.declared.fault.IndexFault.{IndexFault};
+ghost use Rattle.mail_index.specs.declared.view.fault.IndexFault.{IndexFault};
 ghost use Rattle.mail_index.specs.Faults.{IsFileOf, IsFirstFault};
 ghost use Rattle.mail_index.specs.Tables.{Table, IsWellFormed};
 ghost use Rattle.mail_index.specs.Files.{index_file, HasSmallSections};

@@ -2,30 +2,19 @@
 //! they stand.
 #![tactic(auto)]
 
-mod kind;
-
-pub use kind::TextKind;
-
-mod flags;
-
-pub use flags::{Flag, Flags};
-
-mod words;
-
-pub use words::Words;
-
-mod folding;
-
-pub use folding::{fold, fold_into};
-
-mod one_word;
-
-pub use one_word::{is_one_word, is_part_of_word};
-
-mod laws;
-
-pub use laws::words_are_in_order;
-
 mod ascii;
 mod character;
+mod flags;
+mod folding;
+mod kind;
+mod laws;
+mod one_word;
 mod runs;
+mod words;
+
+pub use flags::{Flag, Flags};
+pub use folding::{fold, fold_into};
+pub use kind::TextKind;
+pub use laws::words_are_in_order;
+pub use one_word::{is_one_word, is_part_of_word};
+pub use words::Words;

@@ -12,10 +12,10 @@ use Rattle.mairix_options.specs.declared.rcfile.Name.TheVariants as name
 use Rattle.mail_query.specs.declared.fault.QueryFault.{QueryFault}
 use Rattle.mail_query.specs.declared.fault.QueryFaultKind.{QueryFaultKind}
 use Rattle.mail_query.specs.declared.fault.QueryFaultKind.TheVariants as query
-use Rattle.mail_index.specs.declared.fault.IndexFault.{IndexFault}
-use Rattle.mail_index.specs.declared.fault.IndexFault.TheVariants.{TooShort, BadMagic, BadVersion, BadDigest, BadLayout}
-use Rattle.mail_index.specs.declared.fault.Section.{Section}
-use Rattle.mail_index.specs.declared.fault.Section.TheVariants as section
+use Rattle.mail_index.specs.declared.view.fault.IndexFault.{IndexFault}
+use Rattle.mail_index.specs.declared.view.fault.IndexFault.TheVariants.{TooShort, BadMagic, BadVersion, BadDigest, BadLayout}
+use Rattle.mail_index.specs.declared.view.fault.Section.{Section}
+use Rattle.mail_index.specs.declared.view.fault.Section.TheVariants as section
 use Rattle.mairix_tool.specs.declared.fault.Fault.{Fault}
 use Rattle.mairix_tool.specs.declared.fault.Fault.TheVariants as of
 use Rattle.mairix_tool.specs.declared.fault.Fault.TheVariants.{Usage, Rc, Query, Archive, Index, OldIndex, Stale, Out, Memory, TooMany}

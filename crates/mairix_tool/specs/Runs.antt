@@ -12,7 +12,7 @@ use Rattle.mail_answer.specs.Sheets.{Tells}
 use Rattle.mail_answer.specs.Stale.{stale_archive}
 use Rattle.mail_answer.specs.TableAnswers.{mail_told}
 use Rattle.mail_answer.specs.Verified.{unverified_archive}
-use Rattle.mail_index.specs.declared.fault.IndexFault.{IndexFault}
+use Rattle.mail_index.specs.declared.view.fault.IndexFault.{IndexFault}
 use Rattle.mail_index.specs.Faults.{IsFileOf, IsFirstFault}
 use Rattle.mail_index.specs.Tables.{Archive, Table}
 use Rattle.mail_query.specs.Query.{uses_names}

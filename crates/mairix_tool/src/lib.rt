@@ -4,14 +4,9 @@
 mod explanation;
 mod fault;
 mod index_in_memory;
-mod index_run;
 mod laws;
 mod once;
-mod output_file;
 mod program;
-mod read_files;
-mod search;
-mod stopped;
 mod stored;
 mod view_answer;
 mod wanted;

@@ -1,9 +1,15 @@
 //! The program: files in, standard output, standard error and an exit status out.
+mod index_run;
+mod output_file;
+mod read_files;
+mod search;
+mod stopped;
+
 use crate::explanation::fault_text;
 use crate::fault::Fault;
-use crate::index_run::run_index;
-use crate::search::{Search, run_search};
-use crate::stopped::Stopped;
+use crate::program::index_run::run_index;
+use crate::program::search::{Search, run_search};
+use crate::program::stopped::Stopped;
 use mail_dates::Moment;
 use mairix_files::read_whole;
 use mairix_options::{Plan, UsageFault, plan_of, read_rc, usage_text};

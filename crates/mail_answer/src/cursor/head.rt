@@ -1,6 +1,6 @@
 //! What a walk remembers of its first number.
 ghost use Rattle.std.specs.Prelude.{◌≡◌};
-ghost use Rattle.mail_answer.specs.CursorHeads.{is_from as is_from_of};
+ghost use Rattle.mail_answer.specs.Inside.CursorHeads.{is_from as is_from_of};
 
 /// What a walk remembers of the first number that is still to come.
 #[derive(Clone, Copy, Debug, Drop)]

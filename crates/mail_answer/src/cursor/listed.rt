@@ -2,7 +2,7 @@
 ghost use Rattle.std.specs.Prelude.{◌≡◌, ℕ, ◌-◌, ◌≤◌, length};
 ghost use Rattle.mail_index.specs.Steps.{add_steps};
 ghost use Rattle.mail_answer.specs.CursorAhead.{Drops, IsFirst, Spends};
-ghost use Rattle.mail_answer.specs.CursorLists.{numbers_ahead, truths_among, AreNumbers, AreCut, first_of, is_before as is_before_of};
+ghost use Rattle.mail_answer.specs.Inside.CursorLists.{numbers_ahead, truths_among, AreNumbers, AreCut, first_of, is_before as is_before_of};
 ghost use Rattle.mail_index.specs.Tables.{RisesFrom};
 
 use mail_index::{Postings, Steps};
@@ -18,7 +18,7 @@ pub(crate) struct Listed<'a> {
 
 impl<'a> Model for Listed<'a> {
     ghost use Rattle.std.specs.Prelude.{length};
-    ghost use Rattle.mail_answer.specs.CursorLists.{numbers_ahead, truths_among, AreNumbers};
+    ghost use Rattle.mail_answer.specs.Inside.CursorLists.{numbers_ahead, truths_among, AreNumbers};
     ghost use Rattle.mail_answer.specs.CursorAhead.{Ahead};
 
     ghost Value = { Ahead };

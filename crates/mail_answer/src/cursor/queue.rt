@@ -3,8 +3,8 @@ ghost use Rattle.std.specs.Prelude.{◌≡◌, ◌<◌, ◌≤◌, ◌+◌, ◌^
 ghost use Rattle.std.specs.Bool.{OnTrue, OnFalse};
 ghost use Rattle.std.specs.List.{AllByRecursion};
 ghost use Rattle.mail_answer.specs.CursorAhead.{Drops, IsFirst, Spends, united, left_in};
-ghost use Rattle.mail_answer.specs.CursorPlaces.{IsQueue};
-ghost use Rattle.mail_answer.specs.CursorTexts.{some_has};
+ghost use Rattle.mail_answer.specs.Inside.CursorPlaces.{IsQueue};
+ghost use Rattle.mail_answer.specs.Inside.CursorTexts.{some_has};
 
 use crate::cursor::hints::Hints;
 use crate::cursor::listed::Listed;
@@ -28,7 +28,7 @@ pub(crate) struct Queue<'a> {
 
 impl<'a> Model for Queue<'a> {
     ghost use Rattle.mail_answer.specs.CursorAhead.{Ahead, united, left_in};
-    ghost use Rattle.mail_answer.specs.CursorPlaces.{IsQueue};
+    ghost use Rattle.mail_answer.specs.Inside.CursorPlaces.{IsQueue};
 
     ghost Value = { Ahead };
 

@@ -4,10 +4,10 @@ ghost use Rattle.mail_index.specs.Tables.{Table};
 ghost use Rattle.mail_query.specs.Truth.{is_true};
 ghost use Rattle.mail_answer.specs.TableFacts.{facts_of_record};
 ghost use Rattle.mail_answer.specs.CursorAhead.{Drops, IsFirst, Spends};
-ghost use Rattle.mail_answer.specs.CursorScans.{asked_query, satisfies, truths_scanned, IsFound, Scans};
+ghost use Rattle.mail_answer.specs.Inside.CursorScans.{asked_query, satisfies, truths_scanned, IsFound, Scans};
 
 use crate::cursor::listed::is_before;
-use crate::records::{is_as_wanted, lies_between};
+use crate::cursor::records::{is_as_wanted, lies_between};
 use mail_dates::Range;
 use mail_index::{IndexView, Record, Steps};
 use mail_words::Flag;
@@ -87,7 +87,7 @@ pub(crate) struct Scanned<'a> {
 
 impl<'a> Model for Scanned<'a> {
     ghost use Rattle.std.specs.Prelude.{◌-◌, length};
-    ghost use Rattle.mail_answer.specs.CursorScans.{satisfies, truths_scanned, IsFound};
+    ghost use Rattle.mail_answer.specs.Inside.CursorScans.{satisfies, truths_scanned, IsFound};
     ghost use Rattle.mail_answer.specs.CursorAhead.{Ahead};
 
     ghost Value = { Ahead };

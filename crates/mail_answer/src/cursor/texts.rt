@@ -6,12 +6,12 @@ ghost use Rattle.mail_query.specs.Truth.{some_word};
 ghost use Rattle.mail_answer.specs.TableFacts.{texts_with, is_among, facts_at};
 ghost use Rattle.mail_answer.specs.Marks.{fits, some_key, truth_at};
 ghost use Rattle.mail_answer.specs.Cursors.{numbers_named, kinds_in, is_in, LooksUp};
-ghost use Rattle.mail_answer.specs.CursorLists.{AreNumbers};
-ghost use Rattle.mail_answer.specs.CursorTexts.{Joins, HaveNumbers, numbers_passing, numbers_fitting, some_of_kinds, looked_up_by};
+ghost use Rattle.mail_answer.specs.Inside.CursorLists.{AreNumbers};
+ghost use Rattle.mail_answer.specs.Inside.CursorTexts.{Joins, HaveNumbers, numbers_passing, numbers_fitting, some_of_kinds, looked_up_by};
 
+use crate::cursor::fit::Fit;
 use crate::cursor::listed::Listed;
 use crate::cursor::walk::Walk;
-use crate::fit::Fit;
 use mail_index::{IndexView, Keys, Kind, Postings, Steps};
 use mail_query::{Kinds, QueryText};
 use mail_words::TextKind;

@@ -1,6 +1,6 @@
 //! At which place each of some lists waits.
 ghost use Rattle.std.specs.Prelude.{◌≡◌, ◌<◌, ◌+◌, ◌^◌, length, replicate, nat_lt, slice_index, slice_set, IfOk};
-ghost use Rattle.mail_answer.specs.CursorPlaces.{waiting_at};
+ghost use Rattle.mail_answer.specs.Inside.CursorPlaces.{waiting_at};
 
 use std::alloc::{AllocError, Global};
 use std::marker::Model;
@@ -15,7 +15,7 @@ pub(crate) struct Waits {
 
 impl Model for Waits {
     ghost use Rattle.std.specs.Prelude.{length};
-    ghost use Rattle.mail_answer.specs.CursorPlaces.{Places, AreCounted};
+    ghost use Rattle.mail_answer.specs.Inside.CursorPlaces.{Places, AreCounted};
 
     ghost Value = { Places };
 

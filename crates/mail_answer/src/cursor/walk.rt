@@ -3,7 +3,7 @@ ghost use Rattle.std.specs.Prelude.{◌≡◌, ◌↔◌, ◌<◌, ℕ, true, Is
 ghost use Rattle.std.specs.Vec.{vec_len};
 ghost use Rattle.mail_answer.specs.Marks.{truth_at};
 ghost use Rattle.mail_answer.specs.CursorAhead.{Drops, IsFirst, Reaches, Spends, lesser_of, common, united, others, left_in, levels};
-ghost use Rattle.mail_answer.specs.CursorTexts.{some_has};
+ghost use Rattle.mail_answer.specs.Inside.CursorTexts.{some_has};
 
 use crate::cursor::head::{Head, is_from};
 use crate::cursor::listed::Listed;
@@ -60,17 +60,17 @@ impl<'a> Model for Walk<'a> {
 
     ghost Value = { Ahead };
 
-    ghost use Rattle.mail_answer.specs.CursorWalks.{ahead};
+    ghost use Rattle.mail_answer.specs.Inside.CursorWalks.{ahead};
 
     ghost view = { λ s. ahead s.node };
 
-    ghost use Rattle.mail_answer.specs.CursorHeads.{IsHead};
+    ghost use Rattle.mail_answer.specs.Inside.CursorHeads.{IsHead};
 
     ghost invariant = { λ s. IsHead (ahead s.node).truths s.head };
 
     ghost size = { λ w. w.below };
 
-    ghost use Rattle.mail_answer.specs.CursorFalls.{children_below};
+    ghost use Rattle.mail_answer.specs.Inside.CursorFalls.{children_below};
 
     ghost size_decreases = { λ s h. children_below s.node };
 }
@@ -203,7 +203,7 @@ impl<'a> Walk<'a> {
 }
 
 impl<'a> Node<'a> {
-    ghost use Rattle.mail_answer.specs.CursorWalks.{ahead};
+    ghost use Rattle.mail_answer.specs.Inside.CursorWalks.{ahead};
 
     /// The least number still to come that is at least n; all before it are dropped.
     #[cycle(least)]

@@ -1,5 +1,5 @@
 use Rattle.mail_answer.specs.TableAnswers.{search_of}
-use Rattle.mail_answer.proofs.SentLemmas.{nothing_sent, answered_sent}
+use Rattle.mail_answer.proofs.OutputLaws.SentLemmas.{nothing_sent, answered_sent}
 use Rattle.mail_answer.proofs.answers.write_answer.Goals as goal
 
 pub returns-in-Err-clause-answered : goal.returns-in-Err-clause-answered

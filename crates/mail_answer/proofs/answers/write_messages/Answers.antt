@@ -1,10 +1,10 @@
 use Rattle.std.proofs.Common.{◌≡◌, ◌≤◌, ℕ, ◌+◌, List, [], ◌∷◌, ◌++◌, length, Option, Some, Result, Ok, refl, ap, subst, sym, ◌∙◌, append-nil, arith}
-use Rattle.mail_answer.specs.CursorLists.{AreNumbers}
+use Rattle.mail_answer.specs.Inside.CursorLists.{AreNumbers}
 use Rattle.mail_answer.specs.Shapes.{known_answer, known_message}
 use Rattle.mail_answer.specs.Sheets.{joined, Tells}
-use Rattle.mail_answer.proofs.NumberLists.{numbers_next, few_numbers, known_first, known_none}
-use Rattle.mail_answer.proofs.SheetLemmas.{joins_gathered, writes_next, writes_stop, writes_less, writes_err, tells-joined, joins_more, unsent_before}
-use Rattle.mail_answer.proofs.SpanLemmas.{joined-nothing, joined-assoc}
+use Rattle.mail_answer.proofs.ThreadLaws.NumberLists.{numbers_next, few_numbers, known_first, known_none}
+use Rattle.mail_answer.proofs.OutputLaws.SheetLemmas.{joins_gathered, writes_next, writes_stop, writes_less, writes_err, tells-joined, joins_more, unsent_before}
+use Rattle.mail_answer.proofs.OutputLaws.SpanLemmas.{joined-nothing, joined-assoc}
 use Rattle.mail_answer.proofs.answers.write_messages.Goals as goal
 
 pub loop-n-init : goal.loop-n-init

@@ -1,5 +1,5 @@
 use Rattle.std.proofs.Common.{◌≡◌, ◌+◌, ℕ, List, length, Option}
-use Rattle.mail_answer.specs.CursorLists.{AreNumbers}
+use Rattle.mail_answer.specs.Inside.CursorLists.{AreNumbers}
 use Rattle.mail_answer.specs.Shapes.{known_answer}
 use Rattle.mail_answer.specs.Sheets.{joined, Tells, Joins}
 use Rattle.mail_answer.proofs.answers.write_messages.Given as goal

@@ -1,6 +1,6 @@
 use Rattle.std.proofs.Common.{◌<◌, List, Bool, Some, subst}
 use Rattle.mail_answer.specs.CursorAhead.{IsFirst}
-use Rattle.mail_answer.proofs.CursorNumbers.{within_still, took_none, left_none, took_one}
+use Rattle.mail_answer.proofs.CursorLaws.Numbers.{within_still, took_none, left_none, took_one}
 use Rattle.mail_answer.proofs.cursor.take_from.Goals as goal
 
 pub returns-in-None-clause-takes : goal.returns-in-None-clause-takes

@@ -1,4 +1,4 @@
-use Rattle.mail_answer.proofs.ChosenBelow.{chosen-below, threads-below}
+use Rattle.mail_answer.proofs.OutputLaws.ChosenBelow.{chosen-below, threads-below}
 use Rattle.mail_answer.proofs.laws.chosen_numbers_are_those_of_messages.Goals as goal
 
 pub returns-clause-alone : goal.returns-clause-alone

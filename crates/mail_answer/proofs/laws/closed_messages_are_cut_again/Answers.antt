@@ -1,4 +1,4 @@
-use Rattle.mail_answer.proofs.CutAgain.{cut-again}
+use Rattle.mail_answer.proofs.OutputLaws.CutAgain.{cut-again}
 use Rattle.mail_answer.proofs.laws.closed_messages_are_cut_again.Goals as goal
 
 pub returns : goal.returns

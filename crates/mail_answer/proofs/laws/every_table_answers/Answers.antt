@@ -1,4 +1,4 @@
-use Rattle.mail_answer.proofs.EveryAnswer.{some-answer}
+use Rattle.mail_answer.proofs.OutputLaws.EveryAnswer.{some-answer}
 use Rattle.mail_answer.proofs.laws.every_table_answers.Goals as goal
 
 pub returns : goal.returns

@@ -1,4 +1,4 @@
-use Rattle.mail_answer.proofs.EveryAnswer.{one-answer}
+use Rattle.mail_answer.proofs.OutputLaws.EveryAnswer.{one-answer}
 use Rattle.mail_answer.proofs.laws.one_answer_of_a_table.Goals as goal
 
 pub returns : goal.returns

@@ -1,4 +1,4 @@
-use Rattle.mail_answer.proofs.OneThreadList.{one_thread_list}
+use Rattle.mail_answer.proofs.ThreadLaws.OneThreadList.{one_thread_list}
 use Rattle.mail_answer.proofs.laws.one_list_of_threads.Goals as goal
 
 pub returns : goal.returns

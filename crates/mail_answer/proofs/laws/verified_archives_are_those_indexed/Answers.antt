@@ -1,4 +1,4 @@
-use Rattle.mail_answer.proofs.VerifiedLemmas.{verified_are, are_verified}
+use Rattle.mail_answer.proofs.ArchiveLaws.VerifiedLemmas.{verified_are, are_verified}
 use Rattle.mail_answer.proofs.laws.verified_archives_are_those_indexed.Goals as goal
 
 pub returns-clause-only : goal.returns-clause-only

@@ -1,7 +1,7 @@
 use Rattle.std.proofs.Common.{◌≡◌, ◌∙◌, Bool, false, nat_eq, List, length, get_or, drop, replicate}
 use Rattle.std.specs.List.{list_any}
 use Rattle.std.proofs.lemmas.List.{take_at}
-use Rattle.mail_answer.proofs.Adding.{adds_to_none}
+use Rattle.mail_answer.proofs.ThreadLaws.Adding.{adds_to_none}
 use Rattle.mail_answer.proofs.threads.root_marks.Goals as goal
 
 pub returns : goal.returns

@@ -6,8 +6,8 @@ use Rattle.mail_index.specs.declared.kind.Kind.TheVariants.{LinkId}
 use Rattle.mail_index.specs.LookUps.{keys_of}
 use Rattle.mail_answer.specs.Marks.{each_number}
 use Rattle.mail_answer.specs.Threads.{AreThreads}
-use Rattle.mail_answer.specs.Forests.{TellsThreads}
-use Rattle.mail_answer.proofs.ChosenThreads.{ok_then, empty_is, no_keys, threads_without, root_has_mark, chosen_by_marks}
+use Rattle.mail_answer.specs.Inside.Forests.{TellsThreads}
+use Rattle.mail_answer.proofs.ThreadLaws.ChosenThreads.{ok_then, empty_is, no_keys, threads_without, root_has_mark, chosen_by_marks}
 use Rattle.mail_answer.proofs.threads.thread_members.Goals as goal
 use Rattle.mail_answer.proofs.threads.thread_members.Goals.{then-is_empty-via-then-is_empty, then-is_empty-via-else-is_empty+then-not-has_links}
 

@@ -1,6 +1,6 @@
 use Rattle.std.proofs.Common.{◌≡◌, ◌∙◌, ℕ, Bool, true, false, get_or, sym}
 use Rattle.mail_answer.specs.Marks.{truth_at}
-use Rattle.mail_answer.proofs.TruthLists.{filter_true, filter_false}
+use Rattle.mail_answer.proofs.CursorLaws.TruthLists.{filter_true, filter_false}
 use Rattle.mail_answer.proofs.threads.with_marked_root.Goals as goal
 use Rattle.mail_answer.proofs.threads.with_marked_root.Goals.{then-has_marked_root+in_ok-push, else-has_marked_root}
 

@@ -1,4 +1,4 @@
-use Rattle.mail_index.proofs.OneTable.{one_file}
+use Rattle.mail_index.proofs.FileLaws.OneTable.{one_file}
 use Rattle.mail_index.proofs.laws.one_table_for_a_file.Goals as goal
 
 pub returns : goal.returns

@@ -1,4 +1,4 @@
-use Rattle.mail_index.proofs.Accepts.{no_fault}
+use Rattle.mail_index.proofs.FileLaws.Accepts.{no_fault}
 use Rattle.mail_index.proofs.laws.the_file_of_a_table_has_no_fault.Goals as goal
 
 pub returns : goal.returns

@@ -1,4 +1,4 @@
-use Rattle.mail_index.proofs.PairLaw.{with_pair-has, with_pair-keeps, with_pair-tells}
+use Rattle.mail_index.proofs.BuildLaws.PairLaw.{with_pair-has, with_pair-keeps, with_pair-tells}
 use Rattle.mail_index.proofs.pairs.pairs_law.Goals as goal
 
 pub returns-clause-added : goal.returns-clause-added

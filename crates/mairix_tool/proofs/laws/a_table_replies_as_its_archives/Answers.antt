@@ -1,4 +1,4 @@
-use Rattle.mairix_tool.proofs.OnceReplies.{once-reply}
+use Rattle.mairix_tool.proofs.ReplyLaws.Once.{once-reply}
 use Rattle.mairix_tool.proofs.laws.a_table_replies_as_its_archives.Goals as goal
 
 pub returns : goal.returns

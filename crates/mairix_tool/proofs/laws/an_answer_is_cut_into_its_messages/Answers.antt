@@ -1,4 +1,4 @@
-use Rattle.mairix_tool.proofs.AnswersCutAgain.{answer-cut-again}
+use Rattle.mairix_tool.proofs.ReplyLaws.CutAgain.{answer-cut-again}
 use Rattle.mairix_tool.proofs.laws.an_answer_is_cut_into_its_messages.Goals as goal
 
 pub returns : goal.returns

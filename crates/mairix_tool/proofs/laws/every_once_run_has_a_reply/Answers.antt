@@ -1,4 +1,4 @@
-use Rattle.mairix_tool.proofs.OnceReplies.{some-once-reply}
+use Rattle.mairix_tool.proofs.ReplyLaws.Once.{some-once-reply}
 use Rattle.mairix_tool.proofs.laws.every_once_run_has_a_reply.Goals as goal
 
 pub returns : goal.returns

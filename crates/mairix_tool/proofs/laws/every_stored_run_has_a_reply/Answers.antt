@@ -1,4 +1,4 @@
-use Rattle.mairix_tool.proofs.StoredReplies.{some-stored-reply}
+use Rattle.mairix_tool.proofs.ReplyLaws.Stored.{some-stored-reply}
 use Rattle.mairix_tool.proofs.laws.every_stored_run_has_a_reply.Goals as goal
 
 pub returns : goal.returns

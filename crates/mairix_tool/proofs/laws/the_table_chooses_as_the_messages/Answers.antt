@@ -1,4 +1,4 @@
-use Rattle.mairix_tool.proofs.MailSame.{chosen-same}
+use Rattle.mairix_tool.proofs.TableLaws.MailSame.{chosen-same}
 use Rattle.mairix_tool.proofs.laws.the_table_chooses_as_the_messages.Goals as goal
 
 pub returns : goal.returns

@@ -1,4 +1,4 @@
-use Rattle.mairix_tool.proofs.MailSame.{links-same}
+use Rattle.mairix_tool.proofs.TableLaws.MailSame.{links-same}
 use Rattle.mairix_tool.proofs.laws.the_table_links_as_the_messages.Goals as goal
 
 pub returns : goal.returns

@@ -1,4 +1,4 @@
-use Rattle.mairix_tool.proofs.MailSame.{shape-same}
+use Rattle.mairix_tool.proofs.TableLaws.MailSame.{shape-same}
 use Rattle.mairix_tool.proofs.laws.the_table_shows_the_messages.Goals as goal
 
 pub returns : goal.returns

@@ -1,5 +1,5 @@
-use Rattle.mairix_tool.proofs.StoredReplies.{none-altered}
-use Rattle.mairix_tool.proofs.Unaltered.{the-same}
+use Rattle.mairix_tool.proofs.ReplyLaws.Stored.{none-altered}
+use Rattle.mairix_tool.proofs.ArchiveLaws.Unaltered.{the-same}
 use Rattle.mairix_tool.proofs.laws.unaltered_archives_are_those_indexed.Goals as goal
 
 pub returns-clause-only : goal.returns-clause-only

@@ -1,6 +1,6 @@
 use Rattle.std.proofs.Common.{map, string_bytes}
 use Rattle.mairix_tool.specs.Asked.{wanted}
-use Rattle.mairix_tool.proofs.AskedPaths.{asked-paths}
+use Rattle.mairix_tool.proofs.ArchiveLaws.AskedPaths.{asked-paths}
 use Rattle.mairix_tool.proofs.once.index_wanted.Goals as goal
 
 pub index_sources-requires-clause-paths : goal.index_sources-requires-clause-paths

@@ -5,8 +5,8 @@ use Rattle.index_job.specs.ArchiveTables.{table}
 use Rattle.mairix_tool.specs.ArchivesIndexed.{mboxes}
 use Rattle.mairix_tool.specs.Asked.{Wanted, wanted, asked}
 use Rattle.mairix_tool.specs.Runs.{reply_of}
-use Rattle.mairix_tool.proofs.AskedPaths.{asked-many}
-use Rattle.mairix_tool.proofs.OnceReplies.{refused-once, sound-once, same-bytes}
+use Rattle.mairix_tool.proofs.ArchiveLaws.AskedPaths.{asked-many}
+use Rattle.mairix_tool.proofs.ReplyLaws.Once.{refused-once, sound-once, same-bytes}
 use Rattle.mairix_tool.proofs.once.once_run.Goals as goal
 
 pub returns-in-Err-clause-changed : goal.returns-in-Err-clause-changed

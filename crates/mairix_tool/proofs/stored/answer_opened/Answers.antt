@@ -2,7 +2,7 @@ use Rattle.std.proofs.Common.{◌≡◌, ◌∙◌, ℕ, List, Option, None, Err
 use Rattle.std.proofs.lemmas.Result.{err_from_is_err_and}
 use Rattle.mairix_tool.specs.Asked.{wanted}
 use Rattle.mairix_tool.specs.Runs.{IsStaleOr, IsTold, RepliesBy, TellsProved, unproved_archive, reply_of}
-use Rattle.mairix_tool.proofs.StoredReplies.{unproved-replied}
+use Rattle.mairix_tool.proofs.ReplyLaws.Stored.{unproved-replied}
 use Rattle.mairix_tool.proofs.stored.answer_opened.Goals as goal
 
 pub returns-in_err-prove_archives-clause-told : goal.returns-in_err-prove_archives-clause-told

@@ -2,7 +2,7 @@ use Rattle.std.proofs.Common.{◌∙◌, Some, None, sym, ap}
 use Rattle.std.proofs.Math.Facts.{Fits-lt-pow}
 use Rattle.mairix_tool.specs.Asked.{wanted}
 use Rattle.mairix_tool.specs.Runs.{renamed_archive}
-use Rattle.mairix_tool.proofs.StoredReplies.{one-bad-index, one-too-old, one-renamed}
+use Rattle.mairix_tool.proofs.ReplyLaws.Stored.{one-bad-index, one-too-old, one-renamed}
 use Rattle.mairix_tool.proofs.stored.open_for.Goals as goal
 
 pub returns-in-Err-clause-each : goal.returns-in-Err-clause-each

@@ -3,7 +3,7 @@ use Rattle.std.specs.Str.{bytes_eq}
 use Rattle.std.proofs.lemmas.List.{get_or-map, length-map}
 use Rattle.mail_index.specs.Layouts.{archive_of}
 use Rattle.mairix_tool.specs.Runs.{first_renamed}
-use Rattle.mairix_tool.proofs.Renamed.{at-archive, behind, still-named}
+use Rattle.mairix_tool.proofs.ArchiveLaws.Renamed.{at-archive, behind, still-named}
 use Rattle.mairix_tool.proofs.stored.renamed.Goals as goal
 
 is-false : (b : Bool) → true ≡ not b → b ≡ false

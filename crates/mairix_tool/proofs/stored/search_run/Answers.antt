@@ -1,7 +1,7 @@
 use Rattle.std.proofs.Common.{◌≡◌, ◌∙◌, ◌^◌, ◌<◌, map, length, sym, subst, string_bytes, arith}
 use Rattle.mairix_tool.specs.Asked.{Wanted, wanted, asked}
 use Rattle.mairix_tool.specs.Runs.{reply_of, IsCountedWhere}
-use Rattle.mairix_tool.proofs.StoredReplies.{refused-stored, has-digests, stored-told, stored-counted, stored-indexed, stored-otherwise, stored-before, stored-verified}
+use Rattle.mairix_tool.proofs.ReplyLaws.Stored.{refused-stored, has-digests, stored-told, stored-counted, stored-indexed, stored-otherwise, stored-before, stored-verified}
 use Rattle.mairix_tool.proofs.stored.search_run.Goals as goal
 
 pub returns-in-Err-clause-reply : goal.returns-in-Err-clause-reply

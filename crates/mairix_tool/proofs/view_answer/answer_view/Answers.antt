@@ -4,7 +4,7 @@ use Rattle.mail_answer.specs.Stale.{stale_archive}
 use Rattle.mail_answer.specs.TableAnswers.{TableAnswer, IsTableAnswer, Answers}
 use Rattle.std.specs.Prelude.{IfSome}
 use Rattle.mairix_tool.specs.Asked.{wanted}
-use Rattle.mairix_tool.proofs.AnswerReplies.{ok-told, err-told, ok-counted, raw-unwritten}
+use Rattle.mairix_tool.proofs.ReplyLaws.Answers.{ok-told, err-told, ok-counted, raw-unwritten}
 use Rattle.mairix_tool.proofs.view_answer.answer_view.Goals as goal
 
 pub returns-in-Ok-clause-told : goal.returns-in-Ok-clause-told

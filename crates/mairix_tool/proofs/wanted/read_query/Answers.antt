@@ -3,7 +3,7 @@ use Rattle.contract_words.specs.Answers.{Gives}
 use Rattle.mail_query.specs.Mail.{boolean_query}
 use Rattle.mail_query.specs.Meaning.{meaning}
 use Rattle.mail_query.specs.Refusals.{query_refusal}
-use Rattle.mairix_tool.proofs.AskedPaths.{joined-by-spaces}
+use Rattle.mairix_tool.proofs.ArchiveLaws.AskedPaths.{joined-by-spaces}
 use Rattle.mairix_tool.proofs.wanted.read_query.Goals as goal
 
 pub returns-in_ok-text : goal.returns-in_ok-text

@@ -1,7 +1,7 @@
 use Rattle.std.proofs.Common.{◌∙◌, ap}
 use Rattle.mail_query.specs.Query.{query_of}
 use Rattle.mail_answer.specs.TableFacts.{chosen_numbers}
-use Rattle.mail_answer.proofs.CursorBegins.{tells_chosen}
+use Rattle.mail_answer.proofs.CursorLaws.Begins.{tells_chosen}
 use Rattle.mail_answer.proofs.cursor.Cursor.new.Goals as goal
 
 pub returns-clause-numbers : goal.returns-clause-numbers

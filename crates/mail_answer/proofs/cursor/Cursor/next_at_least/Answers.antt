@@ -1,7 +1,7 @@
 use Rattle.std.proofs.Common.{◌≡◌, List, ℕ, max, ap, subst, arith}
 use Rattle.mail_answer.specs.Cursors.{ToCome}
 use Rattle.mail_answer.specs.CursorNumbers.{numbers_from, TakesFrom}
-use Rattle.mail_answer.proofs.CursorNumbers.{takes_from}
+use Rattle.mail_answer.proofs.CursorLaws.Numbers.{takes_from}
 use Rattle.mail_answer.proofs.cursor.Cursor.next_at_least.Goals as goal
 
 pub returns-clause-number : goal.returns-clause-number

@@ -8,12 +8,12 @@ use Rattle.mail_query.specs.Query as query
 use Rattle.mail_query.specs.Query.{Query, query_of, queries_of, members_of}
 use Rattle.mail_query.proofs.NodeLemmas.{query_of-Flag, query_of-Not}
 use Rattle.mail_answer.specs.Marks.{fits}
-use Rattle.mail_answer.specs.declared.fit.Fit.TheVariants.{Whole, Within, Front}
+use Rattle.mail_answer.specs.declared.cursor.fit.Fit.TheVariants.{Whole, Within, Front}
 use Rattle.mail_answer.specs.Cursors.{most_left}
-use Rattle.mail_answer.proofs.NodeQueries.{query_of-Any, query_of-Word, query_of-Part, query_of-Prefix, query_of-Either}
-use Rattle.mail_answer.proofs.MemberLemmas.{next_member, no_member}
-use Rattle.mail_answer.proofs.CursorTexts.{word_past}
-use Rattle.mail_answer.proofs.CursorBegins.{some_walk, query_of-Date, query_of-Size, query_of-All, tells_scanned, scanned_left, tells_text, tells_not, tells_grouped, grouped_left, tells_common, tells_none, walks_more, walks_steps, walks_told}
+use Rattle.mail_answer.proofs.CursorLaws.NodeQueries.{query_of-Any, query_of-Word, query_of-Part, query_of-Prefix, query_of-Either}
+use Rattle.mail_answer.proofs.CursorLaws.MemberLemmas.{next_member, no_member}
+use Rattle.mail_answer.proofs.CursorLaws.Texts.{word_past}
+use Rattle.mail_answer.proofs.CursorLaws.Begins.{some_walk, query_of-Date, query_of-Size, query_of-All, tells_scanned, scanned_left, tells_text, tells_not, tells_grouped, grouped_left, tells_common, tells_none, walks_more, walks_steps, walks_told}
 use Rattle.mail_answer.proofs.cursor.begin.+begin.Goals as goal
 
 pub walk_of-returns-in-Any-clause-truths : goal.walk_of-returns-in-Any-clause-truths

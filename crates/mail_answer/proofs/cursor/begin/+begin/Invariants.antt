@@ -1,6 +1,6 @@
 use Rattle.std.proofs.Common.{drop}
 use Rattle.mail_query.specs.Query.{queries_of}
-use Rattle.mail_answer.proofs.CursorBegins.{HaveWalks}
+use Rattle.mail_answer.proofs.CursorLaws.Begins.{HaveWalks}
 use Rattle.mail_answer.proofs.cursor.begin.+begin.Given as goal
 
 abbrev pub invariant-walks_of-loop-node : goal.invariant-walks_of-loop-node

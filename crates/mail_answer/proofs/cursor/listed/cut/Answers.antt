@@ -1,5 +1,5 @@
 use Rattle.std.proofs.Common.{◌∙◌, sym}
-use Rattle.mail_answer.proofs.CursorLists.{cut_more}
+use Rattle.mail_answer.proofs.CursorLaws.Lists.{cut_more}
 use Rattle.mail_answer.proofs.cursor.listed.cut.Goals as goal
 
 pub returns-then-is_before-clause-cut : goal.returns-then-is_before-clause-cut

@@ -1,6 +1,6 @@
 use Rattle.std.proofs.Common.{◌∙◌, arith, inl, inr}
 use Rattle.std.proofs.lemmas.Bool.{OnTrue_at}
-use Rattle.mail_answer.proofs.CursorPlaces.{waiting-drops, waiting-first, waiting-ended}
+use Rattle.mail_answer.proofs.CursorLaws.Places.{waiting-drops, waiting-first, waiting-ended}
 use Rattle.mail_answer.proofs.cursor.queue.least_waiting.Goals as goal
 
 pub returns-then-take_up_at-clause-rest : goal.returns-then-take_up_at-clause-rest

@@ -1,7 +1,7 @@
 use Rattle.std.proofs.Common.{◌≡◌, ◌≤◌, ◌-◌, ℕ}
 use Rattle.mail_answer.specs.CursorAhead.{Spends, left_in}
-use Rattle.mail_answer.specs.CursorTexts.{some_has}
-use Rattle.mail_answer.specs.CursorPlaces.{IsQueue}
+use Rattle.mail_answer.specs.Inside.CursorTexts.{some_has}
+use Rattle.mail_answer.specs.Inside.CursorPlaces.{IsQueue}
 use Rattle.mail_answer.proofs.cursor.queue.least_waiting.Given as goal
 
 abbrev pub invariant-loop-low : goal.invariant-loop-low

@@ -1,8 +1,8 @@
 use Rattle.std.proofs.Common.{◌≡◌, get_or, arith}
 use Rattle.std.proofs.lemmas.List.{get_or_default}
 use Rattle.mail_answer.specs.CursorAhead.{Ahead, left_in}
-use Rattle.mail_answer.proofs.CursorMembers.{turn_steps}
-use Rattle.mail_answer.proofs.CursorPlaces.{IsPlaced, placed_none, placed_some, taken-list, taken-place, taken-queue, taken-rest, taken-number}
+use Rattle.mail_answer.proofs.CursorLaws.Members.{turn_steps}
+use Rattle.mail_answer.proofs.CursorLaws.Places.{IsPlaced, placed_none, placed_some, taken-list, taken-place, taken-queue, taken-rest, taken-number}
 use Rattle.mail_answer.proofs.cursor.queue.take_up.Goals.{in-Some, in-None}
 use Rattle.mail_answer.proofs.cursor.queue.take_up.Goals as goal
 

@@ -1,9 +1,9 @@
 use Rattle.std.proofs.Common.{◌≡◌, ◌∙◌, ◌<◌, ◌≤◌, ℕ, List, max, sym, subst, arith}
 use Rattle.std.proofs.lemmas.Bool.{ltb-false}
 use Rattle.mail_answer.specs.CursorAhead.{left_in}
-use Rattle.mail_answer.specs.CursorPlaces.{waiting_at}
-use Rattle.mail_answer.proofs.CursorMembers.{spends_more}
-use Rattle.mail_answer.proofs.CursorPlaces.{zip-length, waiting-less, queue-from, rest-from, passed-queue}
+use Rattle.mail_answer.specs.Inside.CursorPlaces.{waiting_at}
+use Rattle.mail_answer.proofs.CursorLaws.Members.{spends_more}
+use Rattle.mail_answer.proofs.CursorLaws.Places.{zip-length, waiting-less, queue-from, rest-from, passed-queue}
 use Rattle.mail_answer.proofs.cursor.queue.take_up_at.Goals as goal
 
 pub take_up-to-requires-clause-list : goal.take_up-to-requires-clause-list

@@ -1,7 +1,7 @@
 use Rattle.std.proofs.Common.{◌≡◌, ◌≤◌, ℕ}
 use Rattle.mail_answer.specs.CursorAhead.{Spends, left_in}
-use Rattle.mail_answer.specs.CursorTexts.{some_has}
-use Rattle.mail_answer.specs.CursorPlaces.{waiting_at, IsQueue}
+use Rattle.mail_answer.specs.Inside.CursorTexts.{some_has}
+use Rattle.mail_answer.specs.Inside.CursorPlaces.{waiting_at, IsQueue}
 use Rattle.mail_answer.proofs.cursor.queue.take_up_at.Given as goal
 
 abbrev pub invariant-loop-waits : goal.invariant-loop-waits

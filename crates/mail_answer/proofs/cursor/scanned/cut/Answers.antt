@@ -1,6 +1,6 @@
 use Rattle.std.proofs.Common.{◌≡◌, ◌∙◌, length, max, sym, arith}
-use Rattle.mail_answer.specs.CursorScans.{satisfies}
-use Rattle.mail_answer.proofs.CursorScans.{stays_drops, stays_first, scan_drops, scan_first}
+use Rattle.mail_answer.specs.Inside.CursorScans.{satisfies}
+use Rattle.mail_answer.proofs.CursorLaws.Scans.{stays_drops, stays_first, scan_drops, scan_first}
 use Rattle.mail_answer.proofs.cursor.scanned.cut.Goals as goal
 
 pub returns-then-is_before-clause-rest : goal.returns-then-is_before-clause-rest

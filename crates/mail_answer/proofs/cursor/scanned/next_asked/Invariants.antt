@@ -1,6 +1,6 @@
 use Rattle.std.proofs.Common.{◌≡◌, ◌-◌, ◌<◌, ◌≤◌, ℕ, false, length}
 use Rattle.mail_answer.specs.CursorAhead.{Spends}
-use Rattle.mail_answer.specs.CursorScans.{satisfies}
+use Rattle.mail_answer.specs.Inside.CursorScans.{satisfies}
 use Rattle.mail_answer.proofs.cursor.scanned.next_asked.Given as goal
 
 abbrev pub invariant-loop-next : goal.invariant-loop-next

@@ -1,7 +1,7 @@
 use Rattle.std.proofs.Common.{◌≡◌, ◌≤◌, ◌+◌, ◌||◌, ℕ, length}
 use Rattle.mail_answer.specs.Marks.{fits, some_key}
 use Rattle.mail_answer.specs.CursorAhead.{left_in}
-use Rattle.mail_answer.specs.CursorTexts.{some_has, HaveNumbers, numbers_passing}
+use Rattle.mail_answer.specs.Inside.CursorTexts.{some_has, HaveNumbers, numbers_passing}
 use Rattle.mail_answer.proofs.cursor.texts.push_fitting.Given as goal
 
 -- the walks so far, and those of the keys to come

@@ -3,11 +3,11 @@ use Rattle.std.specs.List.{list_any}
 use Rattle.mail_index.specs.LookUps.{keys_of}
 use Rattle.mail_answer.specs.TableFacts.{is_among, texts_with}
 use Rattle.mail_answer.specs.Marks.{fits, some_key}
-use Rattle.mail_answer.specs.CursorLists.{AreNumbers}
-use Rattle.mail_answer.specs.CursorTexts.{HaveNumbers, numbers_passing, numbers_fitting}
-use Rattle.mail_answer.specs.declared.fit.Fit.TheVariants.{Whole}
-use Rattle.mail_answer.proofs.TextLemmas.{looked_up, sorted_keys, fitting_keys}
-use Rattle.mail_answer.proofs.CursorTexts.{keys_numbers, list_numbers, found_left, fitting_left, looks_up_digits, looks_up_others, if_joins}
+use Rattle.mail_answer.specs.Inside.CursorLists.{AreNumbers}
+use Rattle.mail_answer.specs.Inside.CursorTexts.{HaveNumbers, numbers_passing, numbers_fitting}
+use Rattle.mail_answer.specs.declared.cursor.fit.Fit.TheVariants.{Whole}
+use Rattle.mail_answer.proofs.CursorLaws.TextLemmas.{looked_up, sorted_keys, fitting_keys}
+use Rattle.mail_answer.proofs.CursorLaws.Texts.{keys_numbers, list_numbers, found_left, fitting_left, looks_up_digits, looks_up_others, if_joins}
 use Rattle.mail_answer.proofs.cursor.texts.push_kind.Goals as goal
 
 pub push_list-requires : goal.push_list-requires

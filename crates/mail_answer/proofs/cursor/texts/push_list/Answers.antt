@@ -1,4 +1,4 @@
-use Rattle.mail_answer.proofs.CursorTexts.{joins_list}
+use Rattle.mail_answer.proofs.CursorLaws.Texts.{joins_list}
 use Rattle.mail_answer.proofs.cursor.texts.push_list.Goals as goal
 
 pub returns : goal.returns

@@ -5,9 +5,9 @@ use Rattle.mail_answer.specs.TableFacts.{facts_at}
 use Rattle.mail_answer.specs.Marks.{fits}
 use Rattle.mail_answer.specs.Cursors.{kinds_in}
 use Rattle.mail_answer.specs.CursorAhead.{Ahead}
-use Rattle.mail_answer.specs.CursorTexts.{some_has, some_of_kinds}
-use Rattle.mail_answer.proofs.CursorTexts.{some_of_all, word_past}
-use Rattle.mail_answer.proofs.CursorGroups.{if_told}
+use Rattle.mail_answer.specs.Inside.CursorTexts.{some_has, some_of_kinds}
+use Rattle.mail_answer.proofs.CursorLaws.Texts.{some_of_all, word_past}
+use Rattle.mail_answer.proofs.CursorLaws.Groups.{if_told}
 use Rattle.mail_answer.proofs.cursor.texts.with_text.Goals as goal
 
 pub returns-clause-truths : goal.returns-clause-truths

@@ -2,8 +2,8 @@ use Rattle.std.proofs.Common.{◌≡◌, ◌∙◌, ◌<◌, ◌+◌, ◌*◌, r
 use Rattle.std.proofs.lemmas.Bool.{both_ways}
 use Rattle.std.proofs.lemmas.List.{get_or_default}
 use Rattle.mail_answer.specs.CursorAhead.{Ahead, Drops, IsFirst, left_in}
-use Rattle.mail_answer.proofs.CursorTurns.{passed_same, passed_drops, passed_first, passed_all}
-use Rattle.mail_answer.proofs.CursorMembers.{below-levels, turn_steps, levels-set, dropped_none, dropped_more, dropped_drops, dropped_first, reached_none, reached_more, reached_drops, reached_number, ended_none, ended_drops, unvisited_more, whole_dropped, whole_reached}
+use Rattle.mail_answer.proofs.CursorLaws.Turns.{passed_same, passed_drops, passed_first, passed_all}
+use Rattle.mail_answer.proofs.CursorLaws.Members.{below-levels, turn_steps, levels-set, dropped_none, dropped_more, dropped_drops, dropped_first, reached_none, reached_more, reached_drops, reached_number, ended_none, ended_drops, unvisited_more, whole_dropped, whole_reached}
 use Rattle.mail_answer.proofs.cursor.walk.+least.Goals as goal
 
 pub least_other-returns-then-not-is_number-clause-rest : goal.least_other-returns-then-not-is_number-clause-rest

@@ -1,8 +1,8 @@
 use Rattle.std.proofs.Common.{◌-◌, ◌^◌, ◌≡◌, ◌+◌, ◌*◌, ◌<◌, length, take}
 use Rattle.mail_answer.specs.CursorAhead.{Spends, common, left_in, levels}
-use Rattle.mail_answer.specs.CursorWalks.{ahead}
-use Rattle.mail_answer.proofs.CursorTurns.{HasPassed}
-use Rattle.mail_answer.proofs.CursorMembers.{HaveDropped, HaveReached, HasRisen}
+use Rattle.mail_answer.specs.Inside.CursorWalks.{ahead}
+use Rattle.mail_answer.proofs.CursorLaws.Turns.{HasPassed}
+use Rattle.mail_answer.proofs.CursorLaws.Members.{HaveDropped, HaveReached, HasRisen}
 use Rattle.mail_answer.proofs.cursor.walk.+least.Given as goal
 
 abbrev pub invariant-least_common-loop-reached : goal.invariant-least_common-loop-reached

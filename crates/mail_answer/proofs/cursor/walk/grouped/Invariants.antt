@@ -1,5 +1,5 @@
 use Rattle.std.proofs.Common.{vec_len}
-use Rattle.mail_answer.proofs.CursorGroups.{HaveGrouped}
+use Rattle.mail_answer.proofs.CursorLaws.Groups.{HaveGrouped}
 use Rattle.mail_answer.proofs.cursor.walk.grouped.Given as goal
 
 abbrev pub invariant-loop-walks : goal.invariant-loop-walks

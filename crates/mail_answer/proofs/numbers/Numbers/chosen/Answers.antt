@@ -1,9 +1,9 @@
 use Rattle.std.proofs.Common.{◌≡◌, length}
 use Rattle.mail_query.specs.Meaning.{meaning}
-use Rattle.mail_answer.specs.CursorLists.{AreNumbers}
+use Rattle.mail_answer.specs.Inside.CursorLists.{AreNumbers}
 use Rattle.mail_answer.specs.TableFacts.{chosen_numbers}
-use Rattle.mail_answer.proofs.ChosenThreads.{ok_then, threads_below}
-use Rattle.mail_answer.proofs.NumberLists.{numbers_chosen}
+use Rattle.mail_answer.proofs.ThreadLaws.ChosenThreads.{ok_then, threads_below}
+use Rattle.mail_answer.proofs.ThreadLaws.NumberLists.{numbers_chosen}
 use Rattle.mail_answer.proofs.numbers.Numbers.chosen.Goals as goal
 
 pub returns-then-not-threads-clause-numbers : goal.returns-then-not-threads-clause-numbers

@@ -1,7 +1,7 @@
 use Rattle.std.proofs.Common.{List, Bool, ℕ, sym, ap, subst}
 use Rattle.mail_answer.specs.CursorAhead.{Ahead, Drops, IsFirst}
-use Rattle.mail_answer.specs.CursorLists.{numbers_ahead, truths_among, AreNumbers}
-use Rattle.mail_answer.proofs.CursorLists.{cut_numbers, cut_drops, first_among}
+use Rattle.mail_answer.specs.Inside.CursorLists.{numbers_ahead, truths_among, AreNumbers}
+use Rattle.mail_answer.proofs.CursorLaws.Lists.{cut_numbers, cut_drops, first_among}
 use Rattle.mail_answer.proofs.cursor.listed.Listed.least_from.Goals as goal
 
 pub invariant_of-self : goal.invariant_of-self

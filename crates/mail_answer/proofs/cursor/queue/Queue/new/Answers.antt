@@ -1,7 +1,7 @@
 use Rattle.std.proofs.Common.{ℕ, replicate, refl, sym, subst}
 use Rattle.std.specs.List.{AllZip}
-use Rattle.mail_answer.specs.CursorPlaces.{WaitsAt}
-use Rattle.mail_answer.proofs.CursorPlaces.{begin-at, from-zero}
+use Rattle.mail_answer.specs.Inside.CursorPlaces.{WaitsAt}
+use Rattle.mail_answer.proofs.CursorLaws.Places.{begin-at, from-zero}
 use Rattle.mail_answer.proofs.cursor.queue.Queue.new.Goals as goal
 
 pub invariant_of-result : goal.invariant_of-result

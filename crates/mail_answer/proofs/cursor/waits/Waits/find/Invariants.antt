@@ -1,5 +1,5 @@
 use Rattle.std.proofs.Common.{◌<◌, ◌-◌, drop, length}
-use Rattle.mail_answer.specs.CursorPlaces.{waiting_at}
+use Rattle.mail_answer.specs.Inside.CursorPlaces.{waiting_at}
 use Rattle.mail_answer.proofs.cursor.waits.Waits.find.Given as goal
 
 -- one of those that weren't looked at waits there

@@ -1,6 +1,6 @@
 use Rattle.std.proofs.Common.{◌<◌, length, sym, subst, arith}
-use Rattle.mail_answer.specs.CursorPlaces.{Places}
-use Rattle.mail_answer.proofs.CursorPlaces.{read-some, read-few, read-counted}
+use Rattle.mail_answer.specs.Inside.CursorPlaces.{Places}
+use Rattle.mail_answer.proofs.CursorLaws.Places.{read-some, read-few, read-counted}
 use Rattle.mail_answer.proofs.cursor.waits.Waits.go_to.Goals as goal
 
 pub overflow_sub-index_mut : goal.overflow_sub-index_mut

@@ -1,5 +1,5 @@
 use Rattle.std.proofs.Common.{arith}
-use Rattle.mail_answer.proofs.CursorPlaces.{counted-begin}
+use Rattle.mail_answer.proofs.CursorLaws.Places.{counted-begin}
 use Rattle.mail_answer.proofs.cursor.waits.Waits.new.Goals as goal
 
 pub invariant_of-result : goal.invariant_of-result

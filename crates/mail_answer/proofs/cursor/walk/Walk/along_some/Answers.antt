@@ -1,4 +1,4 @@
-use Rattle.mail_answer.proofs.CursorPlaces.{if_united}
+use Rattle.mail_answer.proofs.CursorLaws.Places.{if_united}
 use Rattle.mail_answer.proofs.cursor.walk.Walk.along_some.Goals as goal
 
 pub returns-in_ok-new-in-Ok-clause-truths : goal.returns-in_ok-new-in-Ok-clause-truths

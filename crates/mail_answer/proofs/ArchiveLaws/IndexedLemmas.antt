@@ -1,0 +1,71 @@
+-- The messages of an index lie inside archives that are as they were indexed.
+use Rattle.std.proofs.Common.{◌≡◌, ℕ, zero, suc, ◌+◌, ◌<◌, ◌≤◌, ◌^◌, Bool, true, false, cond, ◌==◌, List, [], ◌∷◌, length, Option, None, Some, IfSome, refl, arith}
+use Rattle.std.proofs.lemmas.Bool.{eqb-true}
+use Rattle.std.specs.List.{AllByRecursion}
+use Rattle.mail_index.specs.declared.record.Record.{Record}
+use Rattle.mail_index.specs.Tables.{Archive, Table, IsArchive, IsMessage, IsWellFormed, archive_length}
+use Rattle.mail_answer.specs.Archives.{archive_at}
+use Rattle.mail_answer.specs.Inside.Readings.{IsInside, span_reading}
+use Rattle.mail_answer.specs.Stale.{first_changed, stale_archive}
+use Rattle.mail_answer.specs.TableFacts.{record_at}
+
+-- the first archive hasn't changed, nor those behind it
+head_unchanged : (n : ℕ) (a : Archive) (named : List Archive) (bytes : List ℕ) (archives : List (List ℕ)) → first_changed n (a ∷ named) (bytes ∷ archives) ≡ None
+    → (length bytes ≡ a.length) × (first_changed (n + 1) named archives ≡ None)
+head_unchanged n a named bytes archives u = go (length bytes == a.length) refl u
+  where
+    go : (v : Bool) → (length bytes == a.length) ≡ v → cond v (first_changed (n + 1) named archives) (Some n) ≡ None → (length bytes ≡ a.length) × (first_changed (n + 1) named archives ≡ None)
+    go true t u = (eqb-true (length bytes) a.length t, u)
+    go false t u = absurd (cc u)
+
+-- an archive that hasn't changed is as long as it was
+pub unchanged_length : (n : ℕ) (named : List Archive) (archives : List (List ℕ)) (k : ℕ) → length archives ≡ length named → k < length named → first_changed n named archives ≡ None
+    → length (archive_at archives k) ≡ archive_length named k
+unchanged_length n [] archives k e h u = absurd (omega arith)
+unchanged_length n (a ∷ named) [] k e h u = absurd (omega arith)
+unchanged_length n (a ∷ named) (bytes ∷ archives) zero e h u = (head_unchanged n a named bytes archives u).0
+unchanged_length n (a ∷ named) (bytes ∷ archives) (suc k) e h u = unchanged_length (n + 1) named archives k (omega arith) (omega arith) (head_unchanged n a named bytes archives u).1
+
+-- as many archives as there were
+pub same_number : (named : List Archive) (archives : List (List ℕ)) → stale_archive named archives ≡ None → (length archives ≡ length named) × (first_changed 0 named archives ≡ None)
+same_number named archives s = go (length archives == length named) refl s
+  where
+    go : (v : Bool) → (length archives == length named) ≡ v → cond v (first_changed 0 named archives) (Some (Prim.Native.Nat.min (length archives) (length named))) ≡ None → (length archives ≡ length named) × (first_changed 0 named archives ≡ None)
+    go true t u = (eqb-true (length archives) (length named) t, u)
+    go false t u = absurd (cc u)
+
+message_in : (archives : List Archive) (messages : List Record) (n : ℕ) → n < length messages → AllByRecursion (IsMessage archives) messages → IsMessage archives (record_at messages n)
+message_in archives [] n h all = absurd (omega arith)
+message_in archives (m ∷ ms) zero h all = all.0
+message_in archives (m ∷ ms) (suc n) h all = message_in archives ms n (omega arith) all.1
+
+short_archive : (version : ℕ) (archives : List Archive) (n : ℕ) → AllByRecursion (IsArchive version) archives → archive_length archives n ≤ 2 ^ 40
+short_archive version [] n all = omega arith
+short_archive version (a ∷ rest) zero all = all.0.1
+short_archive version (a ∷ rest) (suc n) all = short_archive version rest n all.1
+
+pub message_inside : (t : Table) (held : Option (List (List ℕ))) (number n : ℕ) → IsWellFormed t → n < length t.messages → number ≡ length t.archives
+    → IfSome held (λ archives. stale_archive t.archives archives ≡ None) → IsInside number held (span_reading (record_at t.messages n))
+message_inside t held number n w h e s =
+    let m : IsMessage t.archives (record_at t.messages n) = message_in t.archives t.messages n h w.messages in
+    let short : archive_length t.archives (record_at t.messages n).archive ≤ 2 ^ 40 = short_archive t.version t.archives (record_at t.messages n).archive w.archives in
+    let exists : (record_at t.messages n).archive < length t.archives = m.exists in
+    let within : (record_at t.messages n).offset + (record_at t.messages n).length ≤ archive_length t.archives (record_at t.messages n).archive = m.within in
+    record {
+      exists = omega arith;
+      fits = omega arith;
+      within = known held s within exists;
+    }
+  where
+    known : (held : Option (List (List ℕ))) → IfSome held (λ archives. stale_archive t.archives archives ≡ None)
+        → (record_at t.messages n).offset + (record_at t.messages n).length ≤ archive_length t.archives (record_at t.messages n).archive → (record_at t.messages n).archive < length t.archives
+        → IfSome held (λ archives. (record_at t.messages n).offset + (record_at t.messages n).length ≤ length (archive_at archives (record_at t.messages n).archive))
+    known None s w x = tt
+    known (Some archives) s w x =
+        let same = same_number t.archives archives s in
+        let long : length (archive_at archives (record_at t.messages n).archive) ≡ archive_length t.archives (record_at t.messages n).archive = unchanged_length 0 t.archives archives (record_at t.messages n).archive same.0 x same.1 in
+        omega arith
+
+-- and each has some bytes
+pub message_some : (t : Table) (n : ℕ) → IsWellFormed t → n < length t.messages → 0 < (record_at t.messages n).length
+message_some t n w h = let m : IsMessage t.archives (record_at t.messages n) = message_in t.archives t.messages n h w.messages in omega (arith, m.size)

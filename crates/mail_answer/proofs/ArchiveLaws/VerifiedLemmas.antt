@@ -1,0 +1,198 @@
+-- Laws of archives with other bytes than those that were indexed.
+use Rattle.std.proofs.Common.{◌≡◌, ℕ, zero, suc, ◌+◌, ◌<◌, ◌≤◌, Bool, true, false, ◌==◌, cond, min, List, [], ◌∷◌, map, length, drop, drop-cons, Option, None, Some, IfSome, bytes_eq, refl, ap, sym, ◌∙◌, subst, add-one, Result, Ok, Err, arith}
+use Rattle.std.proofs.lemmas.Bool.{eq-eqb, eqb-true, false_from_ne_true}
+use Rattle.std.proofs.lemmas.List.{drop_all, length-map}
+use Rattle.std.proofs.lemmas.Slice.Eq.{bytes_eq-Decides}
+use Rattle.std.specs.List.{AllByRecursion}
+use Rattle.std.specs.Option.{option_map_or, option_or}
+use Rattle.sha2.specs.Sha256.{sha256}
+use Rattle.mail_index.specs.Tables.{Archive, IsArchive, archive_length}
+use Rattle.mail_index.specs.Versions.{IsDigest}
+use Rattle.mail_answer.specs.Archives.{archive_at}
+use Rattle.mail_answer.specs.Inside.Digests.{front_digest}
+use Rattle.mail_answer.specs.Stale.{first_changed, stale_archive, TellsStale}
+use Rattle.mail_answer.specs.Verified.{has_digest, first_altered, unverified_archive, AreVerified, TellsFound}
+use Rattle.mail_answer.specs.declared.fault.AnswerFaultKind.{AnswerFaultKind}
+use Rattle.mail_answer.specs.declared.fault.AnswerFaultKind.TheVariants.{Stale, Device, OutOfMemory, OutFailed}
+use Rattle.mail_answer.proofs.ArchiveLaws.DigestLemmas.{whole_digest}
+use Rattle.mail_answer.proofs.ArchiveLaws.IndexedLemmas.{same_number, unchanged_length}
+
+-- what a test that went well lets follow
+tested : (b : Bool) (next : Option ℕ) (n : ℕ) → cond b next (Some n) ≡ None → (b ≡ true) × (next ≡ None)
+tested true next n h = (refl, h)
+tested false next n h = absurd cc
+
+neither : (first second : Option ℕ) → option_or first second ≡ None → (first ≡ None) × (second ≡ None)
+neither None second h = (refl, h)
+neither (Some n) second h = absurd cc
+
+digest_told : (digest : Option (List ℕ)) (bytes : List ℕ) → option_map_or (λ d. bytes_eq d (sha256 bytes)) digest false ≡ true → digest ≡ Some (sha256 bytes)
+digest_told None bytes h = absurd cc
+digest_told (Some d) bytes h = ap Some ((bytes_eq-Decides d (sha256 bytes)).0 h)
+
+told_digest : (digest : Option (List ℕ)) (bytes : List ℕ) → digest ≡ Some (sha256 bytes) → option_map_or (λ d. bytes_eq d (sha256 bytes)) digest false ≡ true
+told_digest digest bytes e = ap (λ told. option_map_or (λ d. bytes_eq d (sha256 bytes)) told false) e ∙ (bytes_eq-Decides (sha256 bytes) (sha256 bytes)).1 refl
+
+-- ---- none is unverified exactly where each is as it was indexed
+
+lengths_from : (n : ℕ) (named : List Archive) (archives : List (List ℕ)) → length archives ≡ length named → first_changed n named archives ≡ None → map (λ a. a.length) named ≡ map length archives
+lengths_from n [] [] e h = refl
+lengths_from n [] (bytes ∷ archives) e h = absurd (omega arith)
+lengths_from n (a ∷ named) [] e h = absurd (omega arith)
+lengths_from n (a ∷ named) (bytes ∷ archives) e h =
+    let same = tested (length bytes == a.length) (first_changed (n + 1) named archives) n h in
+    ap (λ k. k ∷ map (λ a. a.length) named) (sym (eqb-true (length bytes) a.length same.0)) ∙ ap (λ ks. length bytes ∷ ks) (lengths_from (n + 1) named archives (omega arith) same.1)
+
+digests_from : (n : ℕ) (named : List Archive) (archives : List (List ℕ)) → length archives ≡ length named → first_altered n named archives ≡ None
+    → map (λ a. a.digest) named ≡ map (λ bytes. Some (sha256 bytes)) archives
+digests_from n [] [] e h = refl
+digests_from n [] (bytes ∷ archives) e h = absurd (omega arith)
+digests_from n (a ∷ named) [] e h = absurd (omega arith)
+digests_from n (a ∷ named) (bytes ∷ archives) e h =
+    let same = tested (has_digest a bytes) (first_altered (n + 1) named archives) n h in
+    ap (λ d. d ∷ map (λ a. a.digest) named) (digest_told a.digest bytes same.0) ∙ ap (λ ds. Some (sha256 bytes) ∷ ds) (digests_from (n + 1) named archives (omega arith) same.1)
+
+from_lengths : (n : ℕ) (named : List Archive) (archives : List (List ℕ)) → map (λ a. a.length) named ≡ map length archives → first_changed n named archives ≡ None
+from_lengths n [] archives h = refl
+from_lengths n (a ∷ named) [] h = refl
+from_lengths n (a ∷ named) (bytes ∷ archives) h =
+    let first : a.length ≡ length bytes = cc in
+    let behind : map (λ (a : Archive). a.length) named ≡ map length archives = cc in
+    ap (λ b. cond b (first_changed (n + 1) named archives) (Some n)) (eq-eqb (length bytes) a.length (sym first)) ∙ from_lengths (n + 1) named archives behind
+
+from_digests : (n : ℕ) (named : List Archive) (archives : List (List ℕ)) → map (λ a. a.digest) named ≡ map (λ bytes. Some (sha256 bytes)) archives → first_altered n named archives ≡ None
+from_digests n [] archives h = refl
+from_digests n (a ∷ named) [] h = refl
+from_digests n (a ∷ named) (bytes ∷ archives) h =
+    let first : a.digest ≡ Some (sha256 bytes) = cc in
+    let behind : map (λ (a : Archive). a.digest) named ≡ map (λ (bytes : List ℕ). Some (sha256 bytes)) archives = cc in
+    ap (λ b. cond b (first_altered (n + 1) named archives) (Some n)) (told_digest a.digest bytes first) ∙ from_digests (n + 1) named archives behind
+
+-- archives that are verified are those that were indexed
+pub verified_are : (named : List Archive) (archives : List (List ℕ)) → unverified_archive named archives ≡ None → AreVerified named archives
+verified_are named archives h =
+    let both = neither (stale_archive named archives) (first_altered 0 named archives) h in
+    let same = same_number named archives both.0 in
+    record { lengths = lengths_from 0 named archives same.0 same.1; digests = digests_from 0 named archives same.0 both.1 }
+
+-- and those that were indexed are verified
+pub are_verified : (named : List Archive) (archives : List (List ℕ)) → AreVerified named archives → unverified_archive named archives ≡ None
+are_verified named archives are =
+    let same : length archives ≡ length named = sym (sym (length-map named (λ (a : Archive). a.length)) ∙ ap length are.lengths ∙ length-map archives length) in
+    let fresh : stale_archive named archives ≡ None = ap (λ b. cond b (first_changed 0 named archives) (Some (min (length archives) (length named)))) (eq-eqb (length archives) (length named) same) ∙ from_lengths 0 named archives are.lengths in
+    ap (λ first. option_or first (first_altered 0 named archives)) fresh ∙ from_digests 0 named archives are.digests
+
+-- verified archives aren't stale
+pub verified_fresh : (named : List Archive) (archives : List (List ℕ)) → unverified_archive named archives ≡ None → stale_archive named archives ≡ None
+verified_fresh named archives h = (neither (stale_archive named archives) (first_altered 0 named archives) h).0
+
+-- ---- archive after archive
+
+-- nothing was told of the archives from this one on
+abbrev pub UnalteredTo : List Archive → Option (List (List ℕ)) → ℕ → List Archive → Type 0
+UnalteredTo named held n rest = IfSome held (λ archives. first_altered 0 named archives ≡ first_altered n rest (drop n archives))
+
+-- the answer at an archive, and what is left behind it
+altered_next : (n : ℕ) (a : Archive) (rest : List Archive) (archives : List (List ℕ)) → n < length archives
+    → first_altered n (a ∷ rest) (drop n archives) ≡ cond (has_digest a (archive_at archives n)) (first_altered (n + 1) rest (drop (n + 1) archives)) (Some n)
+altered_next n a rest archives h =
+    ap (λ bs. first_altered n (a ∷ rest) bs) (drop-cons archives n [] h)
+    ∙ ap (λ k. cond (has_digest a (archive_at archives n)) (first_altered (n + 1) rest (drop k archives)) (Some n)) (sym (add-one n))
+
+named_length : (named : List Archive) (n : ℕ) (a : Archive) (rest : List Archive) → drop n named ≡ a ∷ rest → archive_length named n ≡ a.length
+named_length [] zero a rest e = absurd cc
+named_length [] (suc n) a rest e = absurd cc
+named_length (b ∷ named) zero a rest e = let first : b ≡ a = cc in ap (λ (t : Archive). t.length) first
+named_length (b ∷ named) (suc n) a rest e = named_length named n a rest e
+
+-- an archive that isn't stale is as long as it was indexed
+fresh_length : (named : List Archive) (archives : List (List ℕ)) (n : ℕ) (a : Archive) (rest : List Archive) → stale_archive named archives ≡ None → n < length named → drop n named ≡ a ∷ rest
+    → (length archives ≡ length named) × (length (archive_at archives n) ≡ a.length)
+fresh_length named archives n a rest fresh h e =
+    let same = same_number named archives fresh in
+    (same.0, unchanged_length 0 named archives n same.0 h same.1 ∙ named_length named n a rest e)
+
+-- so that its digest, where it was read, is that of its bytes
+digest_of_fresh : (named : List Archive) (archives : List (List ℕ)) (n : ℕ) (a : Archive) (rest : List Archive) (digest : Option (List ℕ)) → stale_archive named archives ≡ None → n < length named
+    → drop n named ≡ a ∷ rest → digest ≡ front_digest a.length (archive_at archives n) → (length archives ≡ length named) × (digest ≡ Some (sha256 (archive_at archives n)))
+digest_of_fresh named archives n a rest digest fresh h e d =
+    let long = fresh_length named archives n a rest fresh h e in
+    (long.0, d ∙ whole_digest (archive_at archives n) a.length long.1)
+
+pub passes_on : (named : List Archive) (held : Option (List (List ℕ))) (n : ℕ) (a : Archive) (rest : List Archive) (digest indexed : List ℕ) → n < length named → drop n named ≡ a ∷ rest
+    → IfSome held (λ archives. stale_archive named archives ≡ None) → UnalteredTo named held n (drop n named)
+    → IfSome held (λ archives. Some digest ≡ front_digest a.length (archive_at archives n)) → a.digest ≡ Some indexed → digest ≡ indexed
+    → UnalteredTo named held (n + 1) rest
+passes_on named None n a rest digest indexed h e fresh so_far read told same = tt
+passes_on named (Some archives) n a rest digest indexed h e fresh so_far read told same =
+    let found = digest_of_fresh named archives n a rest (Some digest) fresh h e read in
+    so_far ∙ ap (λ t. first_altered n t (drop n archives)) e ∙ altered_next n a rest archives (omega (arith, found.0, h))
+    ∙ ap (λ b. cond b (first_altered (n + 1) rest (drop (n + 1) archives)) (Some n)) (told_digest a.digest (archive_at archives n) (told ∙ ap Some (sym same) ∙ found.1))
+
+other_digest : (told : Option (List ℕ)) (indexed digest bytes : List ℕ) → told ≡ Some indexed → (digest ≡ indexed → ⊥) → Some digest ≡ Some (sha256 bytes)
+    → option_map_or (λ d. bytes_eq d (sha256 bytes)) told false ≡ false
+other_digest told indexed digest bytes e other found =
+    let same : digest ≡ sha256 bytes = cc in
+    ap (λ d. option_map_or (λ (d : List ℕ). bytes_eq d (sha256 bytes)) d false) e
+    ∙ false_from_ne_true (bytes_eq indexed (sha256 bytes)) (λ t. other (same ∙ sym ((bytes_eq-Decides indexed (sha256 bytes)).0 t)))
+
+-- another digest tells the archive
+pub stops_at : (named : List Archive) (held : Option (List (List ℕ))) (n : ℕ) (a : Archive) (rest : List Archive) (digest indexed : List ℕ) → n < length named → drop n named ≡ a ∷ rest
+    → IfSome held (λ archives. stale_archive named archives ≡ None) → UnalteredTo named held n (drop n named)
+    → IfSome held (λ archives. Some digest ≡ front_digest a.length (archive_at archives n)) → a.digest ≡ Some indexed → (digest ≡ indexed → ⊥)
+    → IfSome held (λ archives. TellsStale {T = Unit {0}} (first_altered 0 named archives) (Err (Stale n)))
+stops_at named None n a rest digest indexed h e fresh so_far read told other = tt
+stops_at named (Some archives) n a rest digest indexed h e fresh so_far read told other =
+    let found = digest_of_fresh named archives n a rest (Some digest) fresh h e read in
+    let differs : has_digest a (archive_at archives n) ≡ false = other_digest a.digest indexed digest (archive_at archives n) told other found.1 in
+    so_far ∙ ap (λ t. first_altered n t (drop n archives)) e ∙ altered_next n a rest archives (omega (arith, found.0, h))
+    ∙ ap (λ b. cond b (first_altered (n + 1) rest (drop (n + 1) archives)) (Some n)) differs
+
+-- an archive that isn't stale doesn't end early
+pub not_early : (named : List Archive) (held : Option (List (List ℕ))) (n : ℕ) (a : Archive) (rest : List Archive) → n < length named → drop n named ≡ a ∷ rest
+    → IfSome held (λ archives. stale_archive named archives ≡ None) → IfSome held (λ archives. None ≡ front_digest a.length (archive_at archives n))
+    → IfSome held (λ archives. TellsStale {T = Unit {0}} (first_altered 0 named archives) (Err (Stale n)))
+not_early named None n a rest h e fresh read = tt
+not_early named (Some archives) n a rest h e fresh read =
+    let found = digest_of_fresh named archives n a rest None fresh h e read in
+    absurd (cc found.1)
+
+pub all_unaltered : (named : List Archive) (held : Option (List (List ℕ))) (n : ℕ) → length named ≤ n → UnalteredTo named held n (drop n named)
+    → IfSome held (λ archives. TellsStale {T = Unit {0}} (first_altered 0 named archives) (Ok tt))
+all_unaltered named None n h so_far = tt
+all_unaltered named (Some archives) n h so_far = so_far ∙ ap (λ rest. first_altered n rest (drop n archives)) (drop_all n named h)
+
+-- a device that fails tells nothing
+pub nothing_told : {T : Type 0} (named : List Archive) (held : Option (List (List ℕ))) (r : Result T AnswerFaultKind) (kind : AnswerFaultKind) → r ≡ Err kind → kind ≡ Device
+    → IfSome held (λ archives. TellsStale (first_altered 0 named archives) r)
+nothing_told {T} named None r kind e d = tt
+nothing_told {T} named (Some archives) r kind e d = subst (λ (s : Result T AnswerFaultKind). TellsStale (first_altered 0 named archives) s) (sym (e ∙ ap Err d)) tt
+
+-- by digests, where no archive is stale
+pub told_by_digests : {T : Type 0} (named : List Archive) (held : Option (List (List ℕ))) (r : Result T AnswerFaultKind) → IfSome held (λ archives. stale_archive named archives ≡ None)
+    → IfSome held (λ archives. TellsStale (first_altered 0 named archives) r) → IfSome held (λ archives. TellsFound named archives r)
+told_by_digests {T} named None r fresh h = tt
+told_by_digests {T} named (Some archives) (Ok x) fresh h = ap (λ first. option_or first (first_altered 0 named archives)) fresh ∙ h
+told_by_digests {T} named (Some archives) (Err (Stale n)) fresh h = ap (λ first. option_or first (first_altered 0 named archives)) fresh ∙ h
+told_by_digests {T} named (Some archives) (Err Device) fresh h = tt
+told_by_digests {T} named (Some archives) (Err OutOfMemory) fresh h = absurd h
+told_by_digests {T} named (Some archives) (Err OutFailed) fresh h = absurd h
+
+-- ---- each archive of version 2 has a digest
+
+named_archive : (version : ℕ) (named : List Archive) (n : ℕ) (a : Archive) (rest : List Archive) → AllByRecursion (IsArchive version) named → drop n named ≡ a ∷ rest → IsArchive version a
+named_archive version [] zero a rest all e = absurd cc
+named_archive version [] (suc n) a rest all e = absurd cc
+named_archive version (b ∷ named) zero a rest all e = let first : b ≡ a = cc in subst (λ (t : Archive). IsArchive version t) first all.0
+named_archive version (b ∷ named) (suc n) a rest all e = named_archive version named n a rest all.1 e
+
+without_digest : (version : ℕ) (digest : Option (List ℕ)) → IsDigest version digest → digest ≡ None → version ≡ 1
+without_digest version None is e = is
+without_digest version (Some d) is e = absurd (cc e)
+
+pub has_some_digest : (version : ℕ) (named : List Archive) (n : ℕ) (a : Archive) (rest : List Archive) → version ≡ 2 → AllByRecursion (IsArchive version) named → drop n named ≡ a ∷ rest
+    → a.digest ≡ None → ⊥
+has_some_digest version named n a rest second all e none =
+    let is : IsArchive version a = named_archive version named n a rest all e in
+    let first : version ≡ 1 = without_digest version a.digest is.2 none in
+    omega (arith, first, second)

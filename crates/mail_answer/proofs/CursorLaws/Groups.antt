@@ -1,0 +1,64 @@
+-- Walks made one, group by group.
+use Rattle.std.proofs.Common.{◌≡◌, ◌∙◌, ◌+◌, ◌-◌, ◌*◌, ◌<◌, ◌≤◌, ℕ, Bool, true, false, ◌||◌, List, [], ◌∷◌, ◌++◌, length, take, drop, refl, sym, ap, arith, length-append, Result, Ok, Err, IfOk}
+use Rattle.std.proofs.lemmas.List.{take-append-drop, length-take-le}
+use Rattle.mail_answer.specs.Marks.{truth_at}
+use Rattle.mail_answer.specs.CursorAhead.{Ahead, united, left_in}
+use Rattle.mail_answer.specs.Inside.CursorTexts.{some_has}
+use Rattle.mail_answer.proofs.CursorLaws.Members.{united-at, some-append}
+use Rattle.mail_answer.proofs.CursorLaws.Texts.{left-append}
+
+or_false : (b : Bool) → (b || false) ≡ b
+or_false true = refl
+or_false false = refl
+
+or_assoc : (a b c : Bool) → ((a || b) || c) ≡ (a || (b || c))
+or_assoc true b c = refl
+or_assoc false b c = refl
+
+or_swap : (a b c : Bool) → ((a || c) || b) ≡ (a || (b || c))
+or_swap true b c = refl
+or_swap false true true = refl
+or_swap false true false = refl
+or_swap false false true = refl
+or_swap false false false = refl
+
+some-joined : (m : ℕ) (xs ys : List Ahead) → some_has m (xs ++ ys) ≡ (some_has m xs || some_has m ys)
+some-joined m [] ys = refl
+some-joined m (x ∷ xs) ys = ap (λ (b : Bool). truth_at x.truths m || b) (some-joined m xs ys) ∙ sym (or_assoc (truth_at x.truths m) (some_has m xs) (some_has m ys))
+
+left-joined : (xs ys : List Ahead) → left_in (xs ++ ys) ≡ left_in xs + left_in ys
+left-joined [] ys = omega arith
+left-joined (x ∷ xs) ys = omega (arith, left-joined xs ys)
+
+-- the groups so far, and the walks that are in none yet
+pub record HaveGrouped (all groups walks : List Ahead) : Type 0 where
+  pub each : (m : ℕ) → (some_has m groups || some_has m walks) ≡ some_has m all
+  pub left : left_in groups + left_in walks ≡ left_in all
+  pub few : 4 * length groups + length walks ≤ length all + 3
+  pub whole : 0 < length walks → 4 * length groups + length walks ≤ length all
+
+pub grouped_none : (all : List Ahead) → HaveGrouped all [] all
+grouped_none all = record { each = λ m. refl; left = omega arith; few = omega arith; whole = λ some. omega arith }
+
+pub grouped_more : (all groups walks : List Ahead) (at : ℕ) (w : Ahead) → at ≡ length walks - 4 → 0 < length walks
+    → w.truths ≡ united (drop at walks) → w.left ≡ left_in (drop at walks) → HaveGrouped all groups walks → HaveGrouped all (groups ++ w ∷ []) (take at walks)
+grouped_more all groups walks at w is some told left have =
+    let parts : take at walks ++ drop at walks ≡ walks = take-append-drop at walks in
+    let long : length (take at walks) ≡ at = length-take-le at walks (omega (arith, is)) in
+    let more : length (groups ++ w ∷ []) ≡ length groups + 1 = omega (arith, length-append groups (w ∷ [])) in
+    let before : 4 * length groups + length walks ≤ length all = have.whole some in
+    record {
+      each = λ m.
+          ap (λ (b : Bool). b || some_has m (take at walks)) (some-append m groups w ∙ ap (λ (b : Bool). some_has m groups || b) (ap (λ (xs : List Bool). truth_at xs m) told ∙ united-at m (drop at walks)))
+          ∙ or_swap (some_has m groups) (some_has m (take at walks)) (some_has m (drop at walks))
+          ∙ ap (λ (b : Bool). some_has m groups || b) (sym (some-joined m (take at walks) (drop at walks)) ∙ ap (some_has m) parts)
+          ∙ have.each m;
+      left = omega (arith, left-append groups w, left, left-joined (take at walks) (drop at walks), ap left_in parts, have.left);
+      few = omega (arith, long, more, before, is, some);
+      whole = λ still. omega (arith, long, more, before, is, some, still);
+    }
+
+pub if_told : {E : Type 0} (r : Result Ahead E) (ws : List Ahead) (test : ℕ → Bool) → ((m : ℕ) → some_has m ws ≡ test m) → IfOk r (λ w. (m : ℕ) → truth_at w.truths m ≡ some_has m ws)
+    → IfOk r (λ w. (m : ℕ) → truth_at w.truths m ≡ test m)
+if_told (Ok w) ws test same told = λ m. told m ∙ same m
+if_told (Err e) ws test same told = tt

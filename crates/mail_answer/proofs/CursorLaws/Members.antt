@@ -1,0 +1,305 @@
+-- What the members of a node have done, member by member.
+use Rattle.std.proofs.Common.{◌≡◌, ◌≢◌, ◌∙◌, ◌+◌, ◌<◌, ◌≤◌, ℕ, zero, suc, Bool, true, false, ◌&&◌, ◌||◌, max, List, [], ◌∷◌, ◌++◌, length, take, get_or, Option, Some, None, refl, sym, ap, subst, arith, inl, inr}
+use Rattle.std.specs.Prelude.{MatchOption, min}
+use Rattle.std.proofs.Math.ListN.{set}
+use Rattle.std.proofs.lemmas.Bool.{cases_lt, or_left, or_right, or_from, and_left, and_right, and_from}
+use Rattle.std.proofs.lemmas.List.{take_all, take_more, take_more_set, length-set, get_or-set_same, get_or-set_other}
+use Rattle.mail_answer.specs.Marks.{truth_at}
+use Rattle.mail_answer.specs.CursorAhead.{Ahead, common, united, left_in, levels, Drops, IsFirst, Reaches, Spends, lesser_of}
+use Rattle.mail_answer.specs.Inside.CursorTexts.{some_has}
+use Rattle.mail_answer.proofs.CursorLaws.TruthReads.{both-at, one_or_other-at}
+use Rattle.mail_answer.proofs.CursorLaws.Turns.{first_from}
+
+-- ---- one member changes
+
+pub left-set : (ws : List Ahead) (i : ℕ) (w v : Ahead) → i < length ws → w ≡ get_or ws i w → left_in (set ws i v) + w.left ≡ left_in ws + v.left
+left-set [] i w v lt is = absurd (omega (arith, lt))
+left-set (x ∷ ws) zero w v lt is = let same : w.left ≡ x.left = ap (λ (a : Ahead). a.left) is in omega (arith, same)
+left-set (x ∷ ws) (suc i) w v lt is = omega (arith, left-set ws i w v (omega (arith, lt)) is)
+
+pub levels-set : (ws : List Ahead) (i : ℕ) (w v : Ahead) → i < length ws → w ≡ get_or ws i w → v.below ≡ w.below → levels (set ws i v) ≡ levels ws
+levels-set [] i w v lt is same = refl
+levels-set (x ∷ ws) zero w v lt is same = let here : w.below ≡ x.below = ap (λ (a : Ahead). a.below) is in omega (arith, same, here)
+levels-set (x ∷ ws) (suc i) w v lt is same = ap (λ (n : ℕ). max (x.below + 1) n) (levels-set ws i w v (omega (arith, lt)) is same)
+
+pub below-levels : (ws : List Ahead) (i : ℕ) (w : Ahead) → i < length ws → w ≡ get_or ws i w → w.below < levels ws
+below-levels [] i w lt is = absurd (omega (arith, lt))
+below-levels (x ∷ ws) zero w lt is = let here : w.below ≡ x.below = ap (λ (a : Ahead). a.below) is in omega (arith, here)
+below-levels (x ∷ ws) (suc i) w lt is = omega (arith, below-levels ws i w (omega (arith, lt)) is)
+
+pub turn_steps : (ws : List Ahead) (i left0 steps0 steps steps1 : ℕ) (w v : Ahead) → i < length ws → w ≡ get_or ws i w
+    → Spends left0 (left_in ws) steps0 steps → Spends w.left v.left steps steps1 → Spends left0 (left_in (set ws i v)) steps0 steps1
+turn_steps ws i left0 steps0 steps steps1 w v lt is before now = record {
+  rises = omega (arith, before.rises, now.rises);
+  most = omega (arith, before.most, now.most, left-set ws i w v lt is);
+}
+
+-- ---- each and some
+
+unfoldable pub each_has : ℕ → List Ahead → Bool
+each_has m [] = true
+each_has m (w ∷ ws) = truth_at w.truths m && each_has m ws
+
+or_false : (b : Bool) → (b || false) ≡ b
+or_false true = refl
+or_false false = refl
+
+and_true : (b : Bool) → (b && true) ≡ b
+and_true true = refl
+and_true false = refl
+
+and_false : (b : Bool) → (b && false) ≡ false
+and_false true = refl
+and_false false = refl
+
+or_assoc : (a b c : Bool) → ((a || b) || c) ≡ (a || (b || c))
+or_assoc true b c = refl
+or_assoc false b c = refl
+
+and_assoc : (a b c : Bool) → ((a && b) && c) ≡ (a && (b && c))
+and_assoc true b c = refl
+and_assoc false b c = refl
+
+pub united-at : (m : ℕ) (ws : List Ahead) → truth_at (united ws) m ≡ some_has m ws
+united-at m [] = refl
+united-at m (w ∷ ws) = one_or_other-at w.truths (united ws) m ∙ ap (λ (b : Bool). truth_at w.truths m || b) (united-at m ws)
+
+pub common-at : (m : ℕ) (ws : List Ahead) → 0 < length ws → truth_at (common ws) m ≡ each_has m ws
+unfolding each_has
+common-at m [] some = absurd (omega (arith, some))
+common-at m (w ∷ []) some = sym (and_true (truth_at w.truths m))
+common-at m (w ∷ v ∷ ws) some = both-at w.truths (common (v ∷ ws)) m ∙ ap (λ (b : Bool). truth_at w.truths m && b) (common-at m (v ∷ ws) (omega arith))
+
+pub some-append : (m : ℕ) (ws : List Ahead) (w : Ahead) → some_has m (ws ++ w ∷ []) ≡ (some_has m ws || truth_at w.truths m)
+some-append m [] w = or_false (truth_at w.truths m)
+some-append m (v ∷ ws) w = ap (λ (b : Bool). truth_at v.truths m || b) (some-append m ws w) ∙ sym (or_assoc (truth_at v.truths m) (some_has m ws) (truth_at w.truths m))
+
+each-append : (m : ℕ) (ws : List Ahead) (w : Ahead) → each_has m (ws ++ w ∷ []) ≡ (each_has m ws && truth_at w.truths m)
+unfolding each_has
+each-append m [] w = and_true (truth_at w.truths m)
+each-append m (v ∷ ws) w = ap (λ (b : Bool). truth_at v.truths m && b) (each-append m ws w) ∙ sym (and_assoc (truth_at v.truths m) (each_has m ws) (truth_at w.truths m))
+
+front_lacks : (b front whole : Bool) → (front ≡ false → whole ≡ false) → (b && front) ≡ false → (b && whole) ≡ false
+front_lacks true front whole then lacks = then lacks
+front_lacks false front whole then lacks = refl
+
+-- one that lacks it, or some front that does
+each-lacks : (m : ℕ) (ws : List Ahead) (i : ℕ) (w : Ahead) → i < length ws → w ≡ get_or ws i w → truth_at w.truths m ≡ false → each_has m ws ≡ false
+unfolding each_has
+each-lacks m [] i w lt is lacks = absurd (omega (arith, lt))
+each-lacks m (x ∷ ws) zero w lt is lacks = and_left (truth_at x.truths m) (each_has m ws) (sym (ap (λ (a : Ahead). truth_at a.truths m) is) ∙ lacks)
+each-lacks m (x ∷ ws) (suc i) w lt is lacks = and_right (truth_at x.truths m) (each_has m ws) (each-lacks m ws i w (omega (arith, lt)) is lacks)
+
+each-front : (m : ℕ) (ws : List Ahead) (i : ℕ) → each_has m (take i ws) ≡ false → each_has m ws ≡ false
+unfolding each_has
+each-front m [] zero lacks = lacks
+each-front m [] (suc i) lacks = lacks
+each-front m (x ∷ ws) zero lacks = absurd cc
+each-front m (x ∷ ws) (suc i) lacks = front_lacks (truth_at x.truths m) (each_has m (take i ws)) (each_has m ws) (each-front m ws i) lacks
+
+-- ---- some member
+
+-- the first number that passes, if some does
+abbrev pub Firsts : (ℕ → Bool) → Option ℕ → Type 0
+Firsts test number =
+    MatchOption number ((m : ℕ) → test m ≡ false) (λ n. (test n ≡ true) × ((m : ℕ) → m < n → test m ≡ false))
+
+firsts_same : (f g : ℕ → Bool) (r : Option ℕ) → ((m : ℕ) → g m ≡ f m) → Firsts f r → Firsts g r
+firsts_same f g None same first = λ m. same m ∙ first m
+firsts_same f g (Some n) same first = (same n ∙ first.0, λ m lt. same m ∙ first.1 m lt)
+
+firsts_lesser : (f g : ℕ → Bool) (r s : Option ℕ) → Firsts f r → Firsts g s → Firsts (λ m. f m || g m) (lesser_of r s)
+firsts_lesser f g None None p q = λ m. or_from (f m) (g m) (p m) (q m)
+firsts_lesser f g None (Some b) p q = (or_right (f b) (g b) q.0, λ m lt. or_from (f m) (g m) (p m) (q.1 m lt))
+firsts_lesser f g (Some a) None p q = (or_left (f a) (g a) p.0, λ m lt. or_from (f m) (g m) (p.1 m lt) (q m))
+firsts_lesser f g (Some a) (Some b) p q =
+    elim (cases_lt b a) [
+      | inl lt ↦
+          let is : min a b ≡ b = omega (arith, lt) in
+          rw is (or_right (f b) (g b) q.0, λ m below. or_from (f m) (g m) (p.1 m (omega (arith, below, lt))) (q.1 m below))
+      | inr le ↦
+          let is : min a b ≡ a = omega (arith, le) in
+          rw is (or_left (f a) (g a) p.0, λ m below. or_from (f m) (g m) (p.1 m below) (q.1 m (omega (arith, below, le))))
+    ]
+
+-- members that dropped what lies below n, and the first number that is still to come in some of them
+pub record HaveDropped (n : ℕ) (old new : List Ahead) (least : Option ℕ) : Type 0 where
+  pub rest : (m : ℕ) → n ≤ m → some_has m new ≡ some_has m old
+  pub below : (m : ℕ) → m < n → some_has m new ≡ false
+  pub first : Firsts (λ m. some_has m new) least
+
+pub dropped_none : (n : ℕ) → HaveDropped n [] [] None
+dropped_none n = record { rest = λ m le. refl; below = λ m lt. refl; first = λ m. refl }
+
+dropped_one : (n : ℕ) (old new : List Ahead) (least : Option ℕ) (w v : Ahead) (number : Option ℕ) → HaveDropped n old new least → Drops n w.truths v.truths → IsFirst v.truths number
+    → HaveDropped n (old ++ w ∷ []) (new ++ v ∷ []) (lesser_of least number)
+dropped_one n old new least w v number have drops first = record {
+  rest = λ m le.
+      some-append m new v ∙ ap (λ (b : Bool). b || truth_at v.truths m) (have.rest m le) ∙ ap (λ (b : Bool). some_has m old || b) (drops.rest m le) ∙ sym (some-append m old w);
+  below = λ m lt. some-append m new v ∙ or_from (some_has m new) (truth_at v.truths m) (have.below m lt) (drops.below m lt);
+  first =
+      firsts_same (λ m. some_has m new || truth_at v.truths m) (λ m. some_has m (new ++ v ∷ [])) (lesser_of least number) (λ m. some-append m new v)
+      (firsts_lesser (λ m. some_has m new) (truth_at v.truths) least number have.first first);
+}
+
+pub dropped_more : (n : ℕ) (old new : List Ahead) (i : ℕ) (least number result : Option ℕ) (w v : Ahead) → i < length old → length new ≡ length old → w ≡ get_or old i w
+    → HaveDropped n (take i old) (take i new) least → Drops n w.truths v.truths → IsFirst v.truths number → result ≡ lesser_of least number
+    → HaveDropped n (take (i + 1) old) (take (i + 1) (set new i v)) result
+dropped_more n old new i least number result w v lt long is have drops first lesser =
+    let within : i < length new = omega (arith, lt, long) in
+    let fronts : take (i + 1) old ≡ take i old ++ w ∷ [] = take_more old i w lt ∙ ap (λ (x : Ahead). take i old ++ x ∷ []) (sym is) in
+    rw (fronts, take_more_set new i v within, lesser) (dropped_one n (take i old) (take i new) least w v number have drops first)
+
+pub dropped_drops : (n : ℕ) (old new : List Ahead) (least : Option ℕ) → HaveDropped n old new least → Drops n (united old) (united new)
+dropped_drops n old new least have = record {
+  rest = λ m le. united-at m new ∙ have.rest m le ∙ sym (united-at m old);
+  below = λ m lt. united-at m new ∙ have.below m lt;
+}
+
+pub dropped_first : (n : ℕ) (old new : List Ahead) (least : Option ℕ) → HaveDropped n old new least → IsFirst (united new) least
+dropped_first n old new least have = firsts_same (λ m. some_has m new) (truth_at (united new)) least (λ m. united-at m new) have.first
+
+-- ---- each member
+
+-- members that went from one to the next: the first number that each may still have is at least this one
+pub record HaveReached (n : ℕ) (old new : List Ahead) (number : ℕ) : Type 0 where
+  pub from : n ≤ number
+  pub rest : (m : ℕ) → number ≤ m → each_has m new ≡ each_has m old
+  pub passed : (m : ℕ) → 0 < length new → m < number → each_has m new ≡ false
+  pub lacking : (m : ℕ) → n ≤ m → m < number → each_has m old ≡ false
+  pub reached : number ≡ n → each_has n new ≡ true
+
+pub reached_none : (n : ℕ) → HaveReached n [] [] n
+unfolding each_has
+reached_none n = record {
+  from = omega arith;
+  rest = λ m le. refl;
+  passed = λ m some lt. absurd (omega (arith, some));
+  lacking = λ m le lt. absurd (omega (arith, le, lt));
+  reached = λ same. refl;
+}
+
+reached_one : (n : ℕ) (old new : List Ahead) (number least : ℕ) (w v : Ahead) → HaveReached n old new number → Drops number w.truths v.truths → IsFirst v.truths (Some least)
+    → HaveReached n (old ++ w ∷ []) (new ++ v ∷ []) least
+reached_one n old new number least w v have drops first =
+    let up : number ≤ least = first_from number w.truths v.truths least drops first in
+    record {
+      from = omega (arith, up, have.from);
+      rest = λ m le.
+          let above : number ≤ m = omega (arith, up, le) in
+          each-append m new v ∙ ap (λ (b : Bool). b && truth_at v.truths m) (have.rest m above) ∙ ap (λ (b : Bool). each_has m old && b) (drops.rest m above) ∙ sym (each-append m old w);
+      passed = λ m some lt. each-append m new v ∙ and_right (each_has m new) (truth_at v.truths m) (first.1 m lt);
+      lacking = λ m le lt. elim (cases_lt m number) [
+        | inl before ↦ each-append m old w ∙ and_left (each_has m old) (truth_at w.truths m) (have.lacking m le before)
+        | inr after ↦ each-append m old w ∙ and_right (each_has m old) (truth_at w.truths m) (sym (drops.rest m after) ∙ first.1 m lt)
+      ];
+      reached = λ same.
+          let here : number ≡ n = omega (arith, same, up, have.from) in
+          each-append n new v ∙ and_from (each_has n new) (truth_at v.truths n) (have.reached here) (ap (truth_at v.truths) (sym same) ∙ first.0);
+    }
+
+pub reached_more : (n : ℕ) (old new : List Ahead) (i number least : ℕ) (w v : Ahead) → i < length old → length new ≡ length old → w ≡ get_or old i w
+    → HaveReached n (take i old) (take i new) number → Drops number w.truths v.truths → IsFirst v.truths (Some least)
+    → HaveReached n (take (i + 1) old) (take (i + 1) (set new i v)) least
+reached_more n old new i number least w v lt long is have drops first =
+    let within : i < length new = omega (arith, lt, long) in
+    let fronts : take (i + 1) old ≡ take i old ++ w ∷ [] = take_more old i w lt ∙ ap (λ (x : Ahead). take i old ++ x ∷ []) (sym is) in
+    rw (fronts, take_more_set new i v within) (reached_one n (take i old) (take i new) number least w v have drops first)
+
+pub reached_drops : (n : ℕ) (old new : List Ahead) (number : ℕ) → 0 < length old → 0 < length new → HaveReached n old new number → Drops n (common old) (common new)
+reached_drops n old new number some some_new have = record {
+  rest = λ m le. elim (cases_lt m number) [
+    | inl before ↦ common-at m new some_new ∙ have.passed m some_new before ∙ sym (have.lacking m le before) ∙ sym (common-at m old some)
+    | inr after ↦ common-at m new some_new ∙ have.rest m after ∙ sym (common-at m old some)
+  ];
+  below = λ m lt. common-at m new some_new ∙ have.passed m some_new (omega (arith, lt, have.from));
+}
+
+pub reached_number : (n : ℕ) (old new : List Ahead) (number : ℕ) → 0 < length new → HaveReached n old new number → Reaches n (common new) (Some number)
+reached_number n old new number some have =
+    (have.from, λ m lt. common-at m new some ∙ have.passed m some lt, λ same. common-at n new some ∙ have.reached same)
+
+-- a member that has none ends them all
+pub ended_none : (new : List Ahead) (i : ℕ) (v : Ahead) → i < length new → IsFirst v.truths None → (m : ℕ) → truth_at (common (set new i v)) m ≡ false
+ended_none new i v lt none m =
+    let long : length (set new i v) ≡ length new = length-set new i v in
+    let within : i < length (set new i v) = omega (arith, long, lt) in
+    common-at m (set new i v) (omega (arith, within)) ∙ each-lacks m (set new i v) i v within (sym (get_or-set_same new i v v lt)) (none m)
+
+pub ended_drops : (n : ℕ) (old new : List Ahead) (i number : ℕ) (w v : Ahead) → i < length old → length new ≡ length old → w ≡ get_or old i w
+    → HaveReached n (take i old) (take i new) number → Drops number w.truths v.truths → IsFirst v.truths None → Drops n (common old) (common (set new i v))
+ended_drops n old new i number w v lt long is have drops none =
+    let within : i < length new = omega (arith, lt, long) in
+    record {
+      rest = λ m le. ended_none new i v within none m ∙ sym (common-at m old (omega (arith, lt)) ∙ (elim (cases_lt m number) [
+        | inl before ↦ each-front m old i (have.lacking m le before)
+        | inr after ↦ each-lacks m old i w lt is (sym (drops.rest m after) ∙ none m)
+      ]));
+      below = λ m below. ended_none new i v within none m;
+    }
+
+-- ---- round after round
+
+-- what came before has nothing from n on, and what lies from the number on is as it was
+pub record HasRisen (n : ℕ) (old : List Bool) (number : ℕ) (xs : List Bool) : Type 0 where
+  pub from : n ≤ number
+  pub rest : (m : ℕ) → number ≤ m → truth_at xs m ≡ truth_at old m
+  pub lacking : (m : ℕ) → n ≤ m → m < number → truth_at old m ≡ false
+
+pub risen_none : (n : ℕ) (old : List Bool) → HasRisen n old n old
+risen_none n old = record { from = omega arith; rest = λ m le. refl; lacking = λ m le lt. absurd (omega (arith, le, lt)) }
+
+pub risen_more : (n : ℕ) (old : List Bool) (number reached : ℕ) (xs ys : List Bool) → HasRisen n old number xs → Drops number xs ys → Reaches number ys (Some reached) → HasRisen n old reached ys
+risen_more n old number reached xs ys has drops reaches = record {
+  from = omega (arith, has.from, reaches.0);
+  rest = λ m le. let above : number ≤ m = omega (arith, le, reaches.0) in drops.rest m above ∙ has.rest m above;
+  lacking = λ m le lt. elim (cases_lt m number) [
+    | inl before ↦ has.lacking m le before
+    | inr after ↦ sym (has.rest m after) ∙ sym (drops.rest m after) ∙ reaches.1 m lt
+  ];
+}
+
+pub risen_drops : (n : ℕ) (old : List Bool) (number : ℕ) (xs ys : List Bool) → HasRisen n old number xs → Drops number xs ys → Drops n old ys
+risen_drops n old number xs ys has drops = record {
+  rest = λ m le. elim (cases_lt m number) [
+    | inl before ↦ drops.below m before ∙ sym (has.lacking m le before)
+    | inr after ↦ drops.rest m after ∙ has.rest m after
+  ];
+  below = λ m lt. drops.below m (omega (arith, lt, has.from));
+}
+
+pub risen_first : (number reached : ℕ) (ys : List Bool) → Reaches number ys (Some reached) → reached ≡ number → IsFirst ys (Some number)
+risen_first number reached ys reaches same = (reaches.2 same, λ m lt. reaches.1 m (omega (arith, lt, same)))
+
+pub no_members : (ws : List Ahead) (n : ℕ) → length ws ≡ 0 → Drops n (common ws) (common ws)
+no_members [] n none = record { rest = λ m le. refl; below = λ m lt. refl }
+no_members (w ∷ ws) n none = absurd (omega (arith, none))
+
+pub no_first : (ws : List Ahead) → length ws ≡ 0 → IsFirst (common ws) None
+no_first [] none = λ m. refl
+no_first (w ∷ ws) none = absurd (omega (arith, none))
+
+pub spends_more : (left0 left left1 steps0 steps steps1 : ℕ) → Spends left0 left steps0 steps → Spends left left1 steps steps1 → Spends left0 left1 steps0 steps1
+spends_more left0 left left1 steps0 steps steps1 p q = record { rises = omega (arith, p.rises, q.rises); most = omega (arith, p.most, q.most) }
+
+-- ---- the loop over members
+
+-- those from a number on are as they were
+abbrev pub Unvisited : List Ahead → List Ahead → ℕ → Type 0
+Unvisited old new i = (length new ≡ length old) × ((k : ℕ) (d : Ahead) → i ≤ k → get_or new k d ≡ get_or old k d)
+
+pub unvisited_more : (old new : List Ahead) (i : ℕ) (v : Ahead) → Unvisited old new i → Unvisited old (set new i v) (i + 1)
+unvisited_more old new i v un =
+    (length-set new i v ∙ un.0, λ k d le. let other : k ≢ i = omega (arith, le) in get_or-set_other new i k v d other ∙ un.1 k d (omega (arith, le)))
+
+pub whole_dropped : (n : ℕ) (old new : List Ahead) (i : ℕ) (least : Option ℕ) → length new ≡ length old → length old ≤ i → HaveDropped n (take i old) (take i new) least → HaveDropped n old new least
+whole_dropped n old new i least long past have =
+    let all_old : take i old ≡ old = take_all i old past in
+    let all_new : take i new ≡ new = take_all i new (omega (arith, long, past)) in
+    subst (λ (ws : List Ahead). HaveDropped n ws new least) all_old (subst (λ (ws : List Ahead). HaveDropped n (take i old) ws least) all_new have)
+
+pub whole_reached : (n : ℕ) (old new : List Ahead) (i number : ℕ) → length new ≡ length old → length old ≤ i → HaveReached n (take i old) (take i new) number → HaveReached n old new number
+whole_reached n old new i number long past have =
+    let all_old : take i old ≡ old = take_all i old past in
+    let all_new : take i new ≡ new = take_all i new (omega (arith, long, past)) in
+    subst (λ (ws : List Ahead). HaveReached n ws new number) all_old (subst (λ (ws : List Ahead). HaveReached n (take i old) ws number) all_new have)

@@ -1,0 +1,19 @@
+-- Laws of what an answer writes.
+pub mod ByteLists
+pub mod ChosenBelow
+pub mod ClosedLemmas
+pub mod ClosedMessages
+pub mod ClosingLemmas
+pub mod CopiedPieces
+pub mod CutAgain
+pub mod CutMessages
+pub mod Endings
+pub mod EveryAnswer
+pub mod HeaderReading
+pub mod KnownAnswers
+pub mod MessageLines
+pub mod ReadingLemmas
+pub mod SentLemmas
+pub mod Separated
+pub mod SheetLemmas
+pub mod SpanLemmas

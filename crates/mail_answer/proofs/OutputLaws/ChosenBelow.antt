@@ -1,0 +1,24 @@
+-- What is chosen are numbers of messages.
+use Rattle.std.proofs.Common.{◌≡◌, ℕ, zero, suc, ◌<◌, true, nat_eq, List, [], ◌∷◌, length, refl, arith, eq-eqb}
+use Rattle.std.specs.List.{All, slice_index_or}
+use Rattle.std.proofs.lemmas.Bool.{or_left, or_right}
+use Rattle.mail_index.specs.Tables.{Table}
+use Rattle.mail_query.specs.Query.{Query}
+use Rattle.mail_query.specs.Truth.{is_true}
+use Rattle.mail_answer.specs.TableFacts.{chosen_numbers, facts_at, is_among}
+use Rattle.mail_answer.specs.Threads.{AreThreads}
+use Rattle.mail_answer.proofs.ThreadLaws.ChosenThreads.{from_passed}
+
+-- each element is among the list
+each-among : (ns : List ℕ) (k d : ℕ) → k < length ns → is_among (slice_index_or ns k d) ns ≡ true
+each-among [] k d below = absurd (omega arith)
+each-among (n ∷ ns) zero d below = or_left (nat_eq n n) (is_among n ns) (eq-eqb n n refl)
+each-among (n ∷ ns) (suc k) d below = or_right (nat_eq (slice_index_or ns k d) n) (is_among (slice_index_or ns k d) ns) (each-among ns k d (omega arith))
+
+pub chosen-below : (t : Table) (q : Query) → All (λ n. n < length t.messages) (chosen_numbers t q)
+chosen-below t q k d below =
+    let n : ℕ = slice_index_or (chosen_numbers t q) k d in
+    omega (arith, (from_passed (λ n. is_true q (facts_at t n)) 0 (length t.messages) n (each-among (chosen_numbers t q) k d below)).0)
+
+pub threads-below : (t : Table) (numbers members : List ℕ) → AreThreads t numbers members → All (λ n. n < length t.messages) members
+threads-below t numbers members threads k d below = ((threads.each (slice_index_or members k d)).0 (each-among members k d below)).0

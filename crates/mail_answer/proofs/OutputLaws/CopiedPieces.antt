@@ -1,0 +1,120 @@
+-- Laws of spans that are copied piece by piece.
+use Rattle.std.proofs.Common.{◌≡◌, ◌∙◌, ℕ, zero, suc, ◌+◌, ◌-◌, ◌<◌, ◌≤◌, Bool, true, false, cond, List, [], ◌∷◌, ◌++◌, Option, None, Some, Result, Ok, Err, IsErr, length, take, drop, refl, ap, sym, append_assoc, append-nil, arith, inl, inr}
+use Rattle.std.specs.Option.{option_map}
+use Rattle.std.proofs.lemmas.Bool.{cases_lt}
+use Rattle.std.proofs.lemmas.List.{drop-append-le, drop_all, length-drop, take-append-drop, take_rest}
+use Rattle.mbox_cutter.specs.Lines.{lines, first_length}
+use Rattle.mbox_cutter.proofs.FirstLines.{first_length-le, first_length-positive}
+use Rattle.mail_answer.specs.Archives.{archive_at}
+use Rattle.mail_answer.specs.Closing.{feed, feeds_behind, behind_next}
+use Rattle.mail_answer.specs.Inside.Endings.{ending_of, feeds_of}
+use Rattle.mail_answer.specs.Inside.Readings.{Reading, coming, coming_count, IsInside, ReadsBehind}
+use Rattle.mail_answer.specs.Shapes.{closed, is_closed, last_of}
+use Rattle.mail_answer.specs.Sheets.{Tells, JoinsFront}
+use Rattle.mail_answer.specs.Inside.Copies.{Copies}
+use Rattle.mail_answer.specs.declared.output.ending.Ending.{Ending}
+use Rattle.mail_answer.specs.declared.fault.AnswerFaultKind.{AnswerFaultKind}
+use Rattle.mail_answer.specs.declared.output.sheet.Sheet.{Sheet}
+use Rattle.mail_answer.proofs.OutputLaws.ClosedLemmas.{closed_more, next_front, last_behind, one_line}
+use Rattle.mail_answer.proofs.OutputLaws.ClosingLemmas.{count_known}
+use Rattle.mail_answer.proofs.OutputLaws.Endings.{lines_single, feeds_told}
+use Rattle.mail_answer.proofs.OutputLaws.ReadingLemmas.{coming_read}
+
+-- ---- calls that fail
+
+pub copies_err : (t u : Option (List ℕ)) (a b : Sheet) (coming rest : Option (List ℕ)) (before : Ending) (r : Result Ending AnswerFaultKind) → IsErr r
+    → ((text : List ℕ) × Tells coming text × JoinsFront t u a b text) → Copies t u a b coming rest before r
+copies_err t u a b coming rest before (Ok ending) err went = absurd (cc err)
+copies_err t u a b coming rest before (Err kind) err went = went
+
+-- ---- what closes some bytes closes their last line
+
+closed_by_last-from : (most : ℕ) (b : List ℕ) → length b ≤ most → 0 < length b → closed b ≡ b ++ feeds_behind (last_of (lines b))
+closed_by_last-from zero b le some = absurd (omega (arith, le, some))
+closed_by_last-from (suc most) b le some =
+    let positive : 0 < first_length b = first_length-positive b some in
+    let within : first_length b ≤ length b = first_length-le b in
+    let rest : List ℕ = behind_next b in
+    let front : List ℕ = take (first_length b) b in
+    elim (cases_lt (first_length b) (length b)) [
+      | inl more ↦
+          let behind : length rest ≡ length b - first_length b = length-drop (first_length b) b in
+          let same : last_of (lines b) ≡ last_of (lines rest) = ap (λ (l : List ℕ). last_of (lines l)) (sym (append-nil b)) ∙ last_behind b [] more ∙ ap (λ (l : List ℕ). last_of (lines l)) (append-nil rest) in
+          closed_more b (omega (arith, behind, more)) ∙ ap (λ (l : List ℕ). l ++ closed rest) (next_front b more)
+          ∙ ap (λ (l : List ℕ). front ++ l) (closed_by_last-from most rest (omega (arith, behind, positive, le)) (omega (arith, behind, more)))
+          ∙ sym (append_assoc front rest (feeds_behind (last_of (lines rest))))
+          ∙ ap (λ (l : List ℕ). l ++ feeds_behind (last_of (lines rest))) (take-append-drop (first_length b) b)
+          ∙ ap (λ (l : List ℕ). b ++ feeds_behind l) (sym same)
+      | inr last ↦
+          let whole : first_length b ≡ length b = omega (arith, last, within) in
+          one_line b some whole ∙ ap (λ (ls : List (List ℕ)). b ++ feeds_behind (last_of ls)) (sym (lines_single b some whole))
+    ]
+
+closed_by_last : (b : List ℕ) → 0 < length b → closed b ≡ b ++ feeds_of (ending_of b)
+closed_by_last b some = closed_by_last-from (length b) b (omega arith) some ∙ ap (λ (l : List ℕ). b ++ l) (sym (feeds_told (last_of (lines b))))
+
+-- they are a front of what is closed
+closed_begins : (b : List ℕ) → (feeds : List ℕ) × (closed b ≡ b ++ feeds)
+unfolding closed
+closed_begins b = go (is_closed b) (is_closed (b ++ feed))
+  where
+    go : (v w : Bool) → (feeds : List ℕ) × (cond v b (cond w (b ++ feed) (b ++ feed ++ feed)) ≡ b ++ feeds)
+    go true w = ([], sym (append-nil b))
+    go false true = (feed, refl)
+    go false false = (feed ++ feed, append_assoc b feed feed)
+
+-- ---- pieces
+
+-- what comes is the piece that was read, and what comes then
+pub piece_read : (archive next left n : ℕ) (held : Option (List (List ℕ))) (old new : List ℕ) (r : ReadsBehind archive next n held old new) → n ≤ left
+    → coming held (record { archive = archive; unread = []; next = next; left = left }) ≡ option_map (λ bytes. r.bytes ++ bytes) (coming held (record { archive = archive; unread = []; next = next + n; left = left - n }))
+piece_read archive next left n held old new r le = sym (coming_read archive next left n held [] r.bytes (record { bytes = r.bytes; behind = refl; number = r.number; some = r.some; known = r.known }) le) ∙ parts held
+  where
+    parts : (held : Option (List (List ℕ))) → coming held (record { archive = archive; unread = drop 0 r.bytes; next = next + n; left = left - n }) ≡ option_map (λ bytes. r.bytes ++ bytes) (coming held (record { archive = archive; unread = []; next = next + n; left = left - n }))
+    parts None = refl
+    parts (Some archives) = refl
+
+-- the bytes behind those that were there
+pub behind_gathered : (old piece items : List ℕ) (at : ℕ) → items ≡ old ++ piece → at ≡ length old → take (length items - at) (drop at items) ≡ piece
+behind_gathered old piece items at is long =
+    take_rest items at ∙ ap (drop at) is ∙ ap (λ (k : ℕ). drop k (old ++ piece)) long ∙ drop-append-le (length old) old piece (omega arith)
+    ∙ ap (λ (l : List ℕ). l ++ piece) (drop_all (length old) old (omega arith))
+
+-- a piece and what comes behind it
+pub tells_behind : (known : Option (List ℕ)) (piece rest : List ℕ) → Tells known rest → Tells (option_map (λ bytes. piece ++ bytes) known) (piece ++ rest)
+tells_behind None piece rest told = tt
+tells_behind (Some k) piece rest told = ap (λ (l : List ℕ). piece ++ l) told
+
+-- pieces one behind another
+pub pieces_more : (known : Option (List ℕ)) (text piece : List ℕ) → option_map (λ bytes. text ++ bytes) (option_map (λ bytes. piece ++ bytes) known) ≡ option_map (λ bytes. (text ++ piece) ++ bytes) known
+pieces_more None text piece = refl
+pieces_more (Some k) text piece = ap Some (sym (append_assoc text piece k))
+
+pub pieces_none : (known : Option (List ℕ)) → known ≡ option_map (λ bytes. [] ++ bytes) known
+pieces_none None = refl
+pieces_none (Some k) = refl
+
+-- of a closed span a front was copied
+pub front_told : (span part : Option (List ℕ)) (text rest : List ℕ) → span ≡ option_map (λ bytes. text ++ bytes) part → Tells part rest
+    → (feeds : List ℕ) × Tells (option_map closed span) ((text ++ rest) ++ feeds)
+front_told span None text rest is told = ([], rw is tt)
+front_told span (Some k) text rest is told =
+    let begins = closed_begins (text ++ rest) in
+    (begins.0, rw is (ap (λ (l : List ℕ). closed (text ++ l)) told ∙ begins.1))
+
+-- all of it was copied
+pub closed_told : (held : Option (List (List ℕ))) (number : ℕ) (span part : Reading) (text : List ℕ) → IsInside number held span → 0 < coming_count span
+    → coming held span ≡ option_map (λ bytes. text ++ bytes) (coming held part) → coming_count part ≡ 0 → IsInside number held part → Tells (option_map closed (coming held span)) (text ++ feeds_of (ending_of text))
+closed_told None number span part text inside some is none within = tt
+closed_told (Some archives) number span part text inside some is none within =
+    let all : List ℕ = span.unread ++ take span.left (drop span.next (archive_at archives span.archive)) in
+    let rest : List ℕ = part.unread ++ take part.left (drop part.next (archive_at archives part.archive)) in
+    let long : length all ≡ coming_count span = count_known archives number span inside in
+    let short : length rest ≡ coming_count part = count_known archives number part within in
+    let joined : all ≡ text ++ rest = cc is in
+    let same : all ≡ text = joined ∙ ap (λ (l : List ℕ). text ++ l) (empty rest (omega (arith, short, none))) ∙ append-nil text in
+    ap closed same ∙ closed_by_last text (omega (arith, ap length same, long, some))
+  where
+    empty : (l : List ℕ) → length l ≡ 0 → l ≡ []
+    empty [] long = refl
+    empty (x ∷ xs) long = absurd (omega (arith, long))

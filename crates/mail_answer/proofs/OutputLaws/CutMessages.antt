@@ -1,0 +1,115 @@
+-- What is cut out of an archive is a message.
+use Rattle.std.proofs.Common.{◌≡◌, ◌∙◌, ℕ, ◌+◌, Bool, true, false, cond, ◌&&◌, List, [], ◌∷◌, ◌++◌, Option, None, Some, length, take, drop, map, refl, ap, sym, subst}
+use Rattle.std.specs.List.{concat}
+use Rattle.std.specs.Option.{option_map}
+use Rattle.std.proofs.Math.Seq.{take-append_seam, drop-append_seam}
+use Rattle.std.proofs.lemmas.List.{drop-drop}
+use Rattle.std.proofs.lemmas.List.Folds.{concat-append}
+use Rattle.mbox_cutter.specs.Archives.{Message, messages, messages_from, marked, grouped, is_refused, total, span_length}
+use Rattle.mbox_cutter.specs.Lines.{lines, is_empty, AreCut, AreLines}
+use Rattle.mbox_cutter.specs.Separators.{is_separator}
+use Rattle.mbox_cutter.proofs.LinesAreCut.{lines-AreLines}
+use Rattle.mail_answer.specs.CutAgain.{IsCutOut}
+use Rattle.mail_answer.proofs.OutputLaws.MessageLines.{Each, StartsNowhere, Group, IsMessage, lines_of, all_lines, text_of, span_of, total-length}
+
+-- a text is a message's
+pub record IsText (g : Group) (text : List ℕ) : Type 0 where
+  pub message : IsMessage g
+  pub each_line : AreCut (lines_of g)
+  pub is_text : text ≡ text_of g
+
+-- these groups are those of the lines
+record IsGrouped (may : Bool) (ls : List (List ℕ)) (r : List (List ℕ) × List Group) : Type 0 where
+  pub joined : r.0 ++ all_lines r.1 ≡ ls
+  pub front : StartsNowhere may r.0
+  pub each : Each IsMessage r.1
+
+and-second : (a b : Bool) → (a && b) ≡ true → b ≡ true
+and-second true b e = e
+and-second false b e = absurd (cc e)
+
+grouped-is : (may : Bool) (ls : List (List ℕ)) → IsGrouped may ls (grouped (marked may ls))
+grouped-is may [] = record { joined = refl; front = tt; each = tt }
+grouped-is may (l ∷ ls) = go (may && is_separator l) refl (grouped-is (is_empty l) ls)
+  where
+    go : (v : Bool) → (may && is_separator l) ≡ v → IsGrouped (is_empty l) ls (grouped (marked (is_empty l) ls))
+        → IsGrouped may (l ∷ ls) (cond v ([], (l, (grouped (marked (is_empty l) ls)).0) ∷ (grouped (marked (is_empty l) ls)).1) (l ∷ (grouped (marked (is_empty l) ls)).0, (grouped (marked (is_empty l) ls)).1))
+    go true e h = record {
+      joined = ap (λ (rest : List (List ℕ)). l ∷ rest) h.joined;
+      front = tt;
+      each = (record { starts = and-second may (is_separator l) e; inside = h.front }, h.each);
+    }
+    go false e h = record { joined = ap (λ (rest : List (List ℕ)). l ∷ rest) h.joined; front = (e, h.front); each = h.each }
+
+-- ---- lines of a part
+
+rest-cut : (l : List ℕ) (ls : List (List ℕ)) → AreCut (l ∷ ls) → AreCut ls
+rest-cut l [] c = tt
+rest-cut l (m ∷ ls) c = c.2
+
+cut-front : (l : List ℕ) (ls ms : List (List ℕ)) → AreCut (l ∷ (ls ++ ms)) → AreCut (l ∷ ls)
+cut-front l [] [] c = c
+cut-front l [] (m ∷ ms) c = c.0
+cut-front l (k ∷ ls) ms c = (c.0, c.1, cut-front k ls ms c.2)
+
+cut-behind : (ls ms : List (List ℕ)) → AreCut (ls ++ ms) → AreCut ms
+cut-behind [] ms c = c
+cut-behind (l ∷ ls) ms c = cut-behind ls ms (rest-cut l (ls ++ ms) c)
+
+-- ---- messages
+
+-- the message's span in the archive is its text
+abbrev pub IsIn : List ℕ → Message → Type 0
+IsIn archive m = IsText (m.separator, m.after) (take (span_length m) (drop m.offset archive))
+
+messages-are : (archive : List ℕ) (offset : ℕ) (gs : List Group) → Each IsMessage gs → AreCut (all_lines gs) → drop offset archive ≡ concat (all_lines gs)
+    → Each (IsIn archive) (messages_from offset gs)
+messages-are archive offset [] is c e = tt
+messages-are archive offset (g ∷ gs) is c e =
+    let n : ℕ = length g.0 + total g.1 in
+    let long : n ≡ length (text_of g) = total-length (lines_of g) in
+    let whole : drop offset archive ≡ text_of g ++ concat (all_lines gs) = e ∙ concat-append (lines_of g) (all_lines gs) in
+    let here : take n (drop offset archive) ≡ text_of g =
+    ap (take n) whole ∙ ap (λ (k : ℕ). take k (text_of g ++ concat (all_lines gs))) long ∙ take-append_seam (text_of g) (concat (all_lines gs)) in
+    let next : drop (offset + n) archive ≡ concat (all_lines gs) =
+    sym (drop-drop n offset archive) ∙ ap (drop n) whole ∙ ap (λ (k : ℕ). drop k (text_of g ++ concat (all_lines gs))) long ∙ drop-append_seam (text_of g) (concat (all_lines gs)) in (
+      record { message = is.0; each_line = cut-front g.0 g.1 (all_lines gs) c; is_text = here },
+      messages-are archive (offset + n) gs is.1 (cut-behind (lines_of g) (all_lines gs) c) next,
+    )
+
+-- the messages of an archive
+pub messages-in : (archive : List ℕ) (ms : List Message) → messages archive ≡ Some ms → Each (IsIn archive) ms
+unfolding messages
+messages-in archive ms e =
+    let groups : List (List ℕ) × List Group = grouped (marked true (lines archive)) in
+    let h : IsGrouped true (lines archive) groups = grouped-is true (lines archive) in
+    let are : AreLines archive (lines archive) = lines-AreLines archive in
+    let whole : archive ≡ concat groups.0 ++ concat (all_lines groups.1) =
+    sym are.joined ∙ ap concat (sym h.joined) ∙ concat-append groups.0 (all_lines groups.1) in
+    let behind : drop (total groups.0) archive ≡ concat (all_lines groups.1) =
+    ap (λ (k : ℕ). drop k archive) (total-length groups.0) ∙ ap (drop (length (concat groups.0))) whole ∙ drop-append_seam (concat groups.0) (concat (all_lines groups.1)) in
+    let each : AreCut (all_lines groups.1) = cut-behind groups.0 (all_lines groups.1) (subst AreCut (sym h.joined) are.each) in
+    subst (Each (IsIn archive)) (accepted (is_refused (marked true (lines archive))) (messages_from (total groups.0) groups.1) e) (messages-are archive (total groups.0) groups.1 h.each each behind)
+  where
+    accepted : (refused : Bool) (all : List Message) → cond refused None (Some all) ≡ Some ms → all ≡ ms
+    accepted true all e = absurd (cc e)
+    accepted false all e = cc e
+
+found : (archive : List ℕ) (ms : List Message) (before : List (ℕ × ℕ)) (here : ℕ × ℕ) (behind : List (ℕ × ℕ)) → Each (IsIn archive) ms → map span_of ms ≡ before ++ here ∷ behind
+    → (g : Group) × IsText g (take here.1 (drop here.0 archive))
+found archive [] [] here behind each e = absurd (cc e)
+found archive [] (b ∷ before) here behind each e = absurd (cc e)
+found archive (m ∷ ms) [] here behind each e =
+    let same : span_of m ≡ here = cc e in
+    ((m.separator, m.after), subst (λ (s : ℕ × ℕ). IsText (m.separator, m.after) (take s.1 (drop s.0 archive))) same each.0)
+found archive (m ∷ ms) (b ∷ before) here behind each e = found archive ms before here behind each.1 (cc e)
+
+-- what is cut out is a message
+pub cut-out : (text : List ℕ) → IsCutOut text → (g : Group) × IsText g text
+cut-out text h = go (messages h.archive) refl h.is_cut
+  where
+    go : (o : Option (List Message)) → messages h.archive ≡ o → option_map (map span_of) o ≡ Some (h.before ++ h.here ∷ h.behind) → (g : Group) × IsText g text
+    go None e c = absurd (cc c)
+    go (Some ms) e c =
+        let here : (g : Group) × IsText g (take h.here.1 (drop h.here.0 h.archive)) = found h.archive ms h.before h.here h.behind (messages-in h.archive ms e) (cc c) in
+        (here.0, subst (IsText here.0) (sym h.is_text) here.1)

@@ -1,0 +1,258 @@
+-- How the last line stands once a byte more is there.
+use Rattle.std.proofs.Common.{◌≡◌, ◌∙◌, ℕ, zero, suc, ◌+◌, ◌<◌, ◌≤◌, Bool, true, false, cond, ◌||◌, ◌&&◌, ◌==◌, nat_lt, List, [], ◌∷◌, ◌++◌, length, take, drop, refl, ap, sym, append_assoc, append-nil, arith, inl, inr}
+use Rattle.std.specs.Str.{bytes_eq}
+use Rattle.std.proofs.lemmas.Bool.{cases_lt, eqb-true}
+use Rattle.std.proofs.lemmas.Bool.Decides.{nat_tests}
+use Rattle.std.proofs.lemmas.List.{drop-append-le, length-append, length-drop, take_all, drop_all}
+use Rattle.mbox_cutter.specs.Lines.{is_empty, lines, first_length, length_before_feed}
+use Rattle.mbox_cutter.proofs.FirstLines.{line_end-more, first_length-le, first_length-positive, length_before_feed-le, length_before_feed-append_out}
+use Rattle.mbox_cutter.proofs.LineLists.{lines-cons, lines-nil}
+use Rattle.mail_answer.specs.Closing.{feed, has_feed, feeds_behind, behind_next}
+use Rattle.mail_answer.specs.Inside.Endings.{ending_of_line, ending_of, line_of, with_byte, feeds_of}
+use Rattle.mail_answer.specs.Shapes.{last_of}
+use Rattle.mail_answer.specs.declared.output.ending.Ending.{Ending}
+use Rattle.mail_answer.specs.declared.output.ending.Ending.TheVariants.{Empty, Ended, Return, Open}
+use Rattle.mail_answer.proofs.OutputLaws.ClosedLemmas.{last_behind, last-cons, whole_end, whole_feed, has_feed-is, cr_line}
+
+-- ---- single lines
+
+pub no_lines : ending_of [] ≡ Open 0
+unfolding lines is_empty
+no_lines = refl
+
+one_byte : (b : ℕ) → ending_of_line (b ∷ []) ≡ line_of b
+unfolding is_empty
+one_byte b = go (b == 10) (b == 13)
+  where
+    go : (x y : Bool) → cond ((x && true) || (y && false)) Empty (cond (x || false) Ended (cond (y && true) Return (Open 1))) ≡ cond x Empty (cond y Return (Open 1))
+    go true true = refl
+    go true false = refl
+    go false true = refl
+    go false false = refl
+
+pub lines_single : (b : List ℕ) → 0 < length b → first_length b ≡ length b → lines b ≡ b ∷ []
+lines_single b h e =
+    lines-cons b h
+    ∙ ap (λ (r : List ℕ). take (first_length b) b ∷ lines r) (drop_all (first_length b) b (omega arith))
+    ∙ ap (λ (ls : List (List ℕ)). take (first_length b) b ∷ ls) lines-nil
+    ∙ ap (λ (l : List ℕ). l ∷ []) (take_all (first_length b) b (omega arith))
+
+single_ending : (b : List ℕ) → 0 < length b → first_length b ≡ length b → ending_of b ≡ ending_of_line b
+single_ending b h e = ap (λ (ls : List (List ℕ)). ending_of_line (last_of ls)) (lines_single b h e)
+
+one_length : (b : ℕ) → first_length (b ∷ []) ≡ 1
+unfolding first_length
+one_length b = elim (b == 10) as (λ v. cond (nat_lt 65536 (cond v 0 1)) 65536 (cond (nat_lt (cond v 0 1) 1) (cond v 0 1 + 1) 1) ≡ 1) [ true ↦ refl | false ↦ refl ]
+
+one_line_of : (b : ℕ) → ending_of (b ∷ []) ≡ line_of b
+one_line_of b = single_ending (b ∷ []) (omega arith) (one_length b) ∙ one_byte b
+
+-- a line that the next byte doesn't join
+cut_behind : (b x : List ℕ) → 0 < length b → 0 < length x → length b ≡ first_length (b ++ x) → last_of (lines (b ++ x)) ≡ last_of (lines x)
+cut_behind b x h some same =
+    let long : length (b ++ x) ≡ length b + length x = length-append b x in
+    ap last_of (lines-cons (b ++ x) (omega arith))
+    ∙ ap (λ (k : ℕ). last_of (take k (b ++ x) ∷ lines (drop k (b ++ x)))) (sym same)
+    ∙ ap (λ (r : List ℕ). last_of (take (length b) (b ++ x) ∷ lines r)) (drop-append-le (length b) b x (omega arith) ∙ ap (λ (r : List ℕ). r ++ x) (drop_all (length b) b (omega arith)))
+    ∙ last-cons (take (length b) (b ++ x)) x some
+
+not_empty : (b : List ℕ) → has_feed b ≡ false → is_empty b ≡ false
+unfolding is_empty
+not_empty [] none = refl
+not_empty (x ∷ []) none = go (x == 10) (x == 13) none
+  where
+    go : (a b : Bool) → (a || false) ≡ false → ((a && true) || (b && false)) ≡ false
+    go true b none = absurd (cc none)
+    go false true none = refl
+    go false false none = refl
+not_empty (x ∷ y ∷ []) none = go (x == 10) (x == 13) (y == 10) none
+  where
+    go : (a b c : Bool) → (a || (c || false)) ≡ false → ((a && false) || (b && (c && true))) ≡ false
+    go true b c none = absurd (cc none)
+    go false b true none = absurd (cc none)
+    go false true false none = refl
+    go false false false none = refl
+not_empty (x ∷ y ∷ z ∷ rest) none = go (x == 10) (x == 13) (y == 10)
+  where
+    go : (a b c : Bool) → ((a && false) || (b && (c && false))) ≡ false
+    go true true true = refl
+    go true true false = refl
+    go true false c = refl
+    go false true true = refl
+    go false true false = refl
+    go false false c = refl
+
+-- CR alone is one byte
+return_long : (b : List ℕ) → bytes_eq b (13 ∷ []) ≡ true → length b ≡ 1
+return_long [] is = absurd (cc is)
+return_long (x ∷ []) is = refl
+return_long (x ∷ y ∷ rest) is = absurd (go (x == 13) is)
+  where
+    go : (a : Bool) → (a && false) ≡ true → ⊥
+    go true is = cc is
+    go false is = cc is
+
+not_return : (b : List ℕ) → 1 < length b → bytes_eq b (13 ∷ []) ≡ false
+not_return [] long = absurd (omega arith)
+not_return (x ∷ []) long = absurd (omega arith)
+not_return (x ∷ y ∷ rest) long = go (x == 13)
+  where
+    go : (a : Bool) → (a && false) ≡ false
+    go true = refl
+    go false = refl
+
+has_feed-append : (a b : List ℕ) → has_feed (a ++ b) ≡ (has_feed a || has_feed b)
+has_feed-append [] b = refl
+has_feed-append (x ∷ xs) b = go (x == 10) (has_feed-append xs b)
+  where
+    go : (v : Bool) → has_feed (xs ++ b) ≡ (has_feed xs || has_feed b) → (v || has_feed (xs ++ b)) ≡ ((v || has_feed xs) || has_feed b)
+    go true rest = refl
+    go false rest = rest
+
+-- ---- one byte more
+
+-- a line without LF
+open_ending : (b : List ℕ) → has_feed b ≡ false → ending_of_line b ≡ cond (bytes_eq b (13 ∷ [])) Return (Open (length b))
+open_ending b none = rw (not_empty b none, none) refl
+
+feed_more : (b : List ℕ) → 0 < length b → first_length b ≡ length b → has_feed b ≡ false → ending_of (b ++ feed) ≡ with_byte (ending_of_line b) 10
+feed_more b h e none =
+    let long : length (b ++ feed) ≡ length b + 1 = length-append b feed in
+    let ended : has_feed (b ++ feed) ≡ true = has_feed-append b feed ∙ ap (λ (v : Bool). v || true) none in
+    single_ending (b ++ feed) (omega arith) (whole_feed b e (sym (has_feed-is b) ∙ none))
+    ∙ rw (cr_line b h, ended, open_ending b none) (parts (bytes_eq b (13 ∷ [])))
+  where
+    parts : (v : Bool) → cond v Empty Ended ≡ with_byte (cond v Return (Open (length b))) 10
+    parts true = refl
+    parts false = let some : (length b == 0) ≡ false = grind (arith, nat_tests) in rw some refl
+
+at_most : (b : List ℕ) → first_length b ≡ length b → length_before_feed b ≡ length b → length b ≤ 65536
+unfolding first_length
+at_most b e free = grind (arith, nat_tests)
+
+whole_line : (b : List ℕ) → length_before_feed b ≡ length b → length b ≤ 65536 → first_length b ≡ length b
+unfolding first_length
+whole_line b free most = grind (arith, nat_tests)
+
+cut_line : (b : List ℕ) → 65536 < length_before_feed b → first_length b ≡ 65536
+unfolding first_length
+cut_line b full = grind (arith, nat_tests)
+
+byte_more : (b : List ℕ) (x : ℕ) → 0 < length b → first_length b ≡ length b → has_feed b ≡ false → (x == 10) ≡ false → ending_of (b ++ x ∷ []) ≡ with_byte (ending_of_line b) x
+byte_more b x h e none other =
+    elim (cases_lt (length b) 65536) [
+      | inl short ↦
+          single_ending (b ++ x ∷ []) (omega (arith, long)) (whole (omega arith)) ∙ open_ending (b ++ x ∷ []) without
+          ∙ ap (λ (v : Bool). cond v Return (Open (length (b ++ x ∷ [])))) (not_return (b ++ x ∷ []) (omega (arith, long, h)))
+          ∙ ap Open long ∙ rw (open_ending b none) (parts (bytes_eq b (13 ∷ [])) refl short)
+      | inr full ↦
+          ap ending_of_line (cut_behind b (x ∷ []) h (omega arith) (cut (omega arith))) ∙ one_line_of x
+          ∙ rw (open_ending b none, not_return b (omega arith)) (begins (omega arith))
+    ]
+  where
+    long : length (b ++ x ∷ []) ≡ length b + 1
+    long = length-append b (x ∷ [])
+
+    free : length_before_feed b ≡ length b
+    free = let le : length_before_feed b ≤ length b = length_before_feed-le b in let is : nat_lt (length_before_feed b) (length b) ≡ false = sym (has_feed-is b) ∙ none in grind (arith, nat_tests)
+
+    without : has_feed (b ++ x ∷ []) ≡ false
+    without = has_feed-append b (x ∷ []) ∙ rw (none, other) refl
+
+    free_more : length_before_feed (b ++ x ∷ []) ≡ length b + 1
+    free_more = length_before_feed-append_out b (x ∷ []) free ∙ ap (λ (v : Bool). length b + cond v 0 1) other
+
+    most : length b ≤ 65536
+    most = at_most b e free
+
+    whole : length b < 65536 → first_length (b ++ x ∷ []) ≡ length (b ++ x ∷ [])
+    whole short = whole_line (b ++ x ∷ []) (omega (arith, free_more, long)) (omega (arith, long, short))
+
+    cut : 65536 ≤ length b → length b ≡ first_length (b ++ x ∷ [])
+    cut full = sym (cut_line (b ++ x ∷ []) (omega (arith, free_more, full)) ∙ omega (arith, full, most))
+
+    parts : (v : Bool) → bytes_eq b (13 ∷ []) ≡ v → length b < 65536 → Open (length b + 1) ≡ with_byte (cond v Return (Open (length b))) x
+    parts true is short = let one : length b ≡ 1 = return_long b is in rw (one, other) refl
+    parts false is short =
+        let some : (length b == 0) ≡ false = grind (arith, nat_tests) in
+        let fits : nat_lt (length b) 65536 ≡ true = grind (arith, nat_tests) in
+        rw (some, other, fits) refl
+
+    begins : 65536 ≤ length b → line_of x ≡ with_byte (Open (length b)) x
+    begins full =
+        let some : (length b == 0) ≡ false = grind (arith, nat_tests) in
+        let fits : nat_lt (length b) 65536 ≡ false = grind (arith, nat_tests) in
+        rw (some, other, fits) refl
+
+-- a line that has its LF
+ended_more : (b : List ℕ) (x : ℕ) → 0 < length b → first_length b ≡ length b → has_feed b ≡ true → ending_of (b ++ x ∷ []) ≡ with_byte (ending_of_line b) x
+ended_more b x h e ended =
+    let same : length b ≡ first_length (b ++ x ∷ []) = sym e ∙ line_end-more b (x ∷ []) (first_length b) (whole_end b e (sym (has_feed-is b) ∙ ended)) in
+    ap ending_of_line (cut_behind b (x ∷ []) h (omega arith) same) ∙ one_line_of x ∙ rw ended (parts (is_empty b))
+  where
+    parts : (v : Bool) → line_of x ≡ with_byte (cond v Empty Ended) x
+    parts true = refl
+    parts false = refl
+
+single_more : (b : List ℕ) (x : ℕ) → 0 < length b → first_length b ≡ length b → ending_of (b ++ x ∷ []) ≡ with_byte (ending_of b) x
+single_more b x h e = go (has_feed b) refl (x == 10) refl ∙ ap (λ (a : Ending). with_byte a x) (sym (single_ending b h e))
+  where
+    go : (v : Bool) → has_feed b ≡ v → (w : Bool) → (x == 10) ≡ w → ending_of (b ++ x ∷ []) ≡ with_byte (ending_of_line b) x
+    go true ended w is = ended_more b x h e ended
+    go false none true is = let ten : x ≡ 10 = eqb-true x 10 is in ap (λ (y : ℕ). ending_of (b ++ y ∷ [])) ten ∙ feed_more b h e none ∙ ap (with_byte (ending_of_line b)) (sym ten)
+    go false none false is = byte_more b x h e none is
+
+ending_more-from : (most : ℕ) (b : List ℕ) (x : ℕ) → length b ≤ most → ending_of (b ++ x ∷ []) ≡ with_byte (ending_of b) x
+ending_more-from most [] x le = one_line_of x ∙ ap (λ (a : Ending). with_byte a x) (sym no_lines)
+ending_more-from zero (b ∷ bs) x le = absurd (omega arith)
+ending_more-from (suc most) (b ∷ bs) x le =
+    let all : List ℕ = b ∷ bs in
+    let some : 0 < first_length all = first_length-positive all (omega arith) in
+    let within : first_length all ≤ length all = first_length-le all in
+    elim (cases_lt (first_length all) (length all)) [
+      | inl more ↦
+          let rest : List ℕ = behind_next all in
+          let same : ending_of all ≡ ending_of rest = ap ending_of (sym (append-nil all)) ∙ ap ending_of_line (last_behind all [] more) ∙ ap ending_of (append-nil rest) in
+          ap ending_of_line (last_behind all (x ∷ []) more) ∙ ending_more-from most rest x (omega (arith, length-drop (first_length all) all, some, le)) ∙ ap (λ (a : Ending). with_byte a x) (sym same)
+      | inr last ↦ single_more all x (omega arith) (omega arith)
+    ]
+
+pub ending_more : (b : List ℕ) (x : ℕ) → ending_of (b ++ x ∷ []) ≡ with_byte (ending_of b) x
+ending_more b x = ending_more-from (length b) b x (omega arith)
+
+-- ---- many bytes more
+
+with_bytes : Ending → List ℕ → Ending
+with_bytes e [] = e
+with_bytes e (x ∷ xs) = with_bytes (with_byte e x) xs
+
+endings_more : (b more : List ℕ) → ending_of (b ++ more) ≡ with_bytes (ending_of b) more
+unfolding with_bytes
+endings_more b [] = ap ending_of (append-nil b)
+endings_more b (x ∷ xs) =
+    ap ending_of (sym (append_assoc b (x ∷ []) xs)) ∙ endings_more (b ++ x ∷ []) xs ∙ ap (λ (e : Ending). with_bytes e xs) (ending_more b x)
+
+-- What stands before an LF doesn't matter to what stands behind it.
+pub ending_behind : (b rest : List ℕ) → 0 < length rest → ending_of (b ++ 10 ∷ rest) ≡ ending_of rest
+unfolding with_bytes
+ending_behind b [] some = absurd (omega arith)
+ending_behind b (x ∷ xs) some =
+    endings_more b (10 ∷ x ∷ xs) ∙ ap (λ (e : Ending). with_bytes e xs) (begins (ending_of b)) ∙ sym (endings_more [] (x ∷ xs) ∙ ap (λ (e : Ending). with_bytes (with_byte e x) xs) no_lines)
+  where
+    begins : (e : Ending) → with_byte (with_byte e 10) x ≡ line_of x
+    begins Empty = refl
+    begins Ended = refl
+    begins Return = refl
+    begins (Open zero) = refl
+    begins (Open (suc n)) = let some : (suc n == 0) ≡ false = grind (arith, nat_tests) in rw some refl
+
+-- ---- what closes the last line
+
+pub feeds_told : (line : List ℕ) → feeds_of (ending_of_line line) ≡ feeds_behind line
+feeds_told line = go (is_empty line) (has_feed line) (bytes_eq line (13 ∷ []))
+  where
+    go : (e f r : Bool) → feeds_of (cond e Empty (cond f Ended (cond r Return (Open (length line))))) ≡ cond e [] (cond (f || r) feed (feed ++ feed))
+    go true f r = refl
+    go false true r = refl
+    go false false true = refl
+    go false false false = refl

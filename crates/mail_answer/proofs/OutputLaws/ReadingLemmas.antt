@@ -1,0 +1,80 @@
+-- Laws of what is read of an archive.
+use Rattle.std.proofs.Common.{◌≡◌, ℕ, ◌+◌, ◌-◌, ◌<◌, ◌≤◌, List, ◌++◌, Option, None, Some, IfSome, Result, Ok, Err, IfOk, length, take, drop, refl, ap, sym, ◌∙◌, append_assoc, append-nil, arith}
+use Rattle.std.proofs.Math.Seq.{take-append-add, take-add}
+use Rattle.std.proofs.lemmas.List.{take-append-le, take_all, length-take-le, drop-drop, drop_all}
+use borrow.Rule.Slice.PartMut.{put_mid}
+use Rattle.mbox_cutter.specs.declared.device.DeviceFault.{DeviceFault}
+use Rattle.mbox_cutter.specs.Lines.{line_end_of, first_length}
+use Rattle.mbox_cutter.proofs.FirstLines.{line_end-more, line_end-whole}
+use Rattle.mail_answer.specs.Archives.{archive_at, IsRead}
+use Rattle.mail_answer.specs.Inside.Readings.{Reading, coming, ReadsBehind, ReadsTail}
+
+take_behind : (front into post : List ℕ) (held n : ℕ) → length front ≡ held → n ≤ length into → take (held + n) (front ++ (into ++ post)) ≡ front ++ take n into
+take_behind front into post held n e h = rw (← e) (take-append-add front (into ++ post) n ∙ ap (λ (s : List ℕ). front ++ s) (take-append-le n into post h))
+
+-- the room behind the bytes that are held begins with them
+front_of_room : (old zeros : List ℕ) (m : ℕ) → length old ≤ m → take (length old) (take m old ++ zeros) ≡ old
+front_of_room old zeros m h =
+    ap (λ l. take (length old) (l ++ zeros)) (take_all m old h) ∙ take-append-le (length old) old zeros (omega arith) ∙ take_all (length old) old (omega arith)
+
+known_part : (archive offset n : ℕ) (held : Option (List (List ℕ))) (bytes : List ℕ) → length bytes ≡ n → IsRead archive offset bytes held
+    → IfSome held (λ archives. bytes ≡ take n (drop offset (archive_at archives archive)))
+known_part archive offset n None bytes e h = tt
+known_part archive offset n (Some archives) bytes e h = h.0 ∙ ap (λ k. take k (drop offset (archive_at archives archive))) e
+
+pub tail_read : (archive offset from n k : ℕ) (held : Option (List (List ℕ))) (old into : List ℕ) → from < length old → n ≤ length into → IsRead archive offset (take n into) held
+    → ReadsTail archive offset from n held old (put_mid from k old into)
+tail_read archive offset from n k held old into room bound r = record {
+  bytes = take n into;
+  behind = take_behind (take from old) into _ from n (length-take-le from old (omega arith)) bound;
+  number = length-take-le n into bound;
+  read = r;
+}
+
+pub tail_result : (archive offset from k : ℕ) (held : Option (List (List ℕ))) (old into : List ℕ) (r : Result ℕ DeviceFault) → from < length old → IfOk r (λ n. n ≤ length into)
+    → IfOk r (λ n. IsRead archive offset (take n into) held) → IfOk r (λ n. ReadsTail archive offset from n held old (put_mid from k old into))
+tail_result archive offset from k held old into (Ok n) room bound r = tail_read archive offset from n k held old into room bound r
+tail_result archive offset from k held old into (Err e) room bound r = tt
+
+-- a slice of a whole vector is written back
+pub written_back : (xs ys : List ℕ) (m : ℕ) → length ys ≡ length xs → m ≡ length xs → take m (ys ++ drop (length ys) xs) ≡ ys
+written_back xs ys m e l = ap (λ s. take m (ys ++ s)) (drop_all (length ys) xs (omega arith)) ∙ ap (take m) (append-nil ys) ∙ take_all m ys (omega arith)
+
+pub behind_read : (archive offset n len m : ℕ) (held : Option (List (List ℕ))) (old zeros resized read new : List ℕ) → len ≡ length old → len ≤ m → resized ≡ take m old ++ zeros → 0 < n
+    → ReadsTail archive offset len n held resized read → new ≡ take (len + n) read → ReadsBehind archive offset n held old new
+behind_read archive offset n len m held old zeros resized read new l h e some r w =
+    let front : take len resized ≡ old = ap (take len) e ∙ ap (λ j. take j (take m old ++ zeros)) l ∙ front_of_room old zeros m (omega arith) in
+    record {
+      bytes = r.bytes;
+      behind = w ∙ r.behind ∙ ap (λ s. s ++ r.bytes) front;
+      number = r.number;
+      some = some;
+      known = known_part archive offset n held r.bytes r.number r.read;
+    }
+
+-- what comes is the same before and after a read
+pub coming_read : (archive next left n : ℕ) (held : Option (List (List ℕ))) (unread new : List ℕ) → ReadsBehind archive next n held unread new → n ≤ left
+    → coming held (record { archive = archive; unread = drop 0 new; next = next + n; left = left - n }) ≡ coming held (record { archive = archive; unread = unread; next = next; left = left })
+coming_read archive next left n None unread new r h = refl
+coming_read archive next left n (Some archives) unread new r h =
+    let rest : List ℕ = drop next (archive_at archives archive) in
+    let parts : take left rest ≡ take n rest ++ take (left - n) (drop n rest) = ap (λ k. take k rest) (omega arith) ∙ take-add n (left - n) rest in
+    let further : drop (next + n) (archive_at archives archive) ≡ drop n rest = sym (drop-drop n next (archive_at archives archive)) in
+    ap Some (
+    ap (λ l. l ++ take (left - n) (drop (next + n) (archive_at archives archive))) (r.behind ∙ ap (λ l. unread ++ l) r.known)
+    ∙ append_assoc unread (take n rest) (take (left - n) (drop (next + n) (archive_at archives archive)))
+    ∙ ap (λ l. unread ++ (take n rest ++ take (left - n) l)) further
+    ∙ ap (λ l. unread ++ l) (sym parts)
+    )
+
+-- the end of a line is found in what was read
+pub line_found : (n : ℕ) (held : Option (List (List ℕ))) (r : Reading) → Some n ≡ line_end_of r.unread → IfSome (coming held r) (λ bytes. n ≡ first_length bytes)
+line_found n None r e = tt
+line_found n (Some archives) r e = line_end-more r.unread (take r.left (drop r.next (archive_at archives r.archive))) n e
+
+-- nothing is left, so that what was read is the line
+pub line_left : (held : Option (List (List ℕ))) (r : Reading) → None ≡ line_end_of r.unread → r.left ≡ 0 → IfSome (coming held r) (λ bytes. length r.unread ≡ first_length bytes)
+line_left None r e z = tt
+line_left (Some archives) r e z =
+    let none : List ℕ = drop r.next (archive_at archives r.archive) in
+    sym (line_end-whole r.unread e) ∙ ap first_length (sym (append-nil r.unread)) ∙ ap (λ k. first_length (r.unread ++ take k none)) (sym z)

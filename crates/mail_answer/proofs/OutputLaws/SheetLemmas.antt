@@ -1,0 +1,194 @@
+-- Laws of texts that join an answer.
+use Rattle.std.proofs.Common.{◌≡◌, ℕ, ◌+◌, ◌-◌, ◌^◌, min, List, [], ◌++◌, length, Option, None, Some, Result, Ok, Err, IsErr, refl, ap, sym, ◌∙◌, append_assoc, append-nil, length-append, take, drop, ◌≤◌, arith}
+use Rattle.std.proofs.lemmas.List.{take-append-drop, length-take, take_all, take_rest}
+use Rattle.std.proofs.Math.Seq.{take-add}
+use Rattle.std.specs.Io.KnownBytes.{Appends, Keeps}
+use Rattle.contract_words.proofs.Sending.{appends_join, appends-nil}
+use Rattle.mail_answer.specs.declared.output.sheet.Sheet.{Sheet}
+use Rattle.mail_answer.specs.Sheets.{counted, Joins, JoinsFront, joined, Tells, Writes}
+
+counted-append : (n : ℕ) (a b : List ℕ) → counted (counted n a) b ≡ counted n (a ++ b)
+counted-append n a b = omega (arith, length-append a b)
+
+-- one text and then another
+pub joins_more : {t u v : Option (List ℕ)} {a b c : Sheet} {x y : List ℕ} → Joins t u a b x → Joins u v b c y → Joins t v a c (x ++ y)
+joins_more {t} {u} {v} {a} {b} {c} {x} {y} h k = record {
+  went = h.went ++ k.went;
+  gathered = sym (append_assoc a.text.items x y) ∙ ap (λ l. l ++ y) h.gathered ∙ append_assoc h.went b.text.items y ∙ ap (λ l. h.went ++ l) k.gathered ∙ sym (append_assoc h.went k.went c.text.items);
+  appends = appends_join t u v h.went k.went h.appends k.appends;
+  count = k.count ∙ ap (λ n. counted n k.went) h.count ∙ counted-append a.sent h.went k.went;
+}
+
+-- one text and then a front of another
+pub joins_front : {t u v : Option (List ℕ)} {a b c : Sheet} {x y : List ℕ} → Joins t u a b x → JoinsFront u v b c y → JoinsFront t v a c (x ++ y)
+joins_front {t} {u} {v} {a} {b} {c} {x} {y} h k = record {
+  went = h.went ++ k.went;
+  unsent = k.unsent;
+  front = sym (append_assoc a.text.items x y) ∙ ap (λ l. l ++ y) h.gathered ∙ append_assoc h.went b.text.items y ∙ ap (λ l. h.went ++ l) k.front ∙ sym (append_assoc h.went k.went k.unsent);
+  appends = appends_join t u v h.went k.went h.appends k.appends;
+  count = k.count ∙ ap (λ n. counted n k.went) h.count ∙ counted-append a.sent h.went k.went;
+}
+
+-- more would have followed
+pub front_more : {t u : Option (List ℕ)} {a b : Sheet} {x : List ℕ} (y : List ℕ) → JoinsFront t u a b x → JoinsFront t u a b (x ++ y)
+front_more {t} {u} {a} {b} {x} y h = record {
+  went = h.went;
+  unsent = h.unsent ++ y;
+  front = sym (append_assoc a.text.items x y) ∙ ap (λ l. l ++ y) h.front ∙ append_assoc h.went h.unsent y;
+  appends = h.appends;
+  count = h.count;
+}
+
+pub joins_as_front : {t u : Option (List ℕ)} {a b : Sheet} {x : List ℕ} → Joins t u a b x → JoinsFront t u a b x
+joins_as_front {t} {u} {a} {b} {x} h = record { went = h.went; unsent = b.text.items; front = h.gathered; appends = h.appends; count = h.count }
+
+-- ---- while a sheet is sent, `at` bytes of it so far
+
+pub appends-start : (t : Option (List ℕ)) (items : List ℕ) → Appends t t (take 0 items)
+appends-start t items = appends-nil t
+
+pub counted-start : (n : ℕ) (items : List ℕ) → n ≤ 2 ^ 64 - 1 → n ≡ counted n (take 0 items)
+counted-start n items h = omega arith
+
+take_step : (items : List ℕ) (at n : ℕ) → at + n ≤ length items → take at items ++ take n (take (length items - at) (drop at items)) ≡ take (at + n) items
+take_step items at n h =
+    ap (λ l. take at items ++ take n l) (take_rest items at) ∙ sym (take-add at n items)
+
+pub appends_step : (t u v : Option (List ℕ)) (items : List ℕ) (at n : ℕ) → at + n ≤ length items → Appends t u (take at items)
+    → Appends u v (take n (take (length items - at) (drop at items))) → Appends t v (take (at + n) items)
+appends_step t u v items at n h p q = rw (← take_step items at n h) (appends_join t u v _ _ p q)
+
+pub counted_step : (before : ℕ) (items : List ℕ) (sent at n sent' : ℕ) → at + n ≤ length items → sent ≡ counted before (take at items) → sent' ≡ min (sent + n) (2 ^ 64 - 1)
+    → sent' ≡ counted before (take (at + n) items)
+counted_step before items sent at n sent' h p q = omega (arith, length-take at items, length-take (at + n) items)
+
+pub all_went : (t u : Option (List ℕ)) (old new : Sheet) (at : ℕ) → length old.text.items ≤ at → Appends t u (take at old.text.items) → new.sent ≡ counted old.sent (take at old.text.items)
+    → new.text.items ≡ [] → Joins t u old new []
+all_went t u old new at h p q e = record {
+  went = take at old.text.items;
+  gathered = ap (λ l. l ++ []) (sym (take_all at old.text.items h)) ∙ ap (λ l. take at old.text.items ++ l) (sym e);
+  appends = p;
+  count = q;
+}
+
+pub front_went : (t u v : Option (List ℕ)) (old new : Sheet) (at : ℕ) → Appends t u (take at old.text.items) → new.sent ≡ counted old.sent (take at old.text.items)
+    → Keeps u v → JoinsFront t v old new []
+front_went t u v old new at p q e = record {
+  went = take at old.text.items;
+  unsent = drop at old.text.items;
+  front = append-nil old.text.items ∙ sym (take-append-drop at old.text.items);
+  appends = appends_keeps t u v (take at old.text.items) p e;
+  count = q;
+}
+  where
+    appends_keeps : (t u v : Option (List ℕ)) (x : List ℕ) → Appends t u x → Keeps u v → Appends t v x
+    appends_keeps None u v x h k = tt
+    appends_keeps (Some xs) None v x h k = absurd h
+    appends_keeps (Some xs) (Some ys) None x h k = absurd k
+    appends_keeps (Some xs) (Some ys) (Some zs) x h k = k ∙ h
+
+-- ---- while bytes are pushed
+
+-- they are gathered, and nothing goes out
+pub joins_gathered : (t : Option (List ℕ)) (old new : Sheet) (bytes : List ℕ) → new.text.items ≡ old.text.items ++ bytes → new.sent ≡ old.sent → Joins t t old new bytes
+joins_gathered t old new bytes e s = record {
+  went = [];
+  gathered = sym e;
+  appends = appends-nil t;
+  count = omega arith;
+}
+
+-- nothing happens
+pub nothing_went : (t : Option (List ℕ)) (old new : Sheet) (bytes : List ℕ) → new.sent ≡ old.sent → JoinsFront t t old new bytes
+nothing_went t old new bytes s = record {
+  went = [];
+  unsent = old.text.items ++ bytes;
+  front = refl;
+  appends = appends-nil t;
+  count = omega arith;
+}
+
+-- what was gathered is sent
+pub gathered_went : {T E : Type 0} (t u : Option (List ℕ)) (old mid new : Sheet) (bytes : List ℕ) (r : Result T E) → mid.text.items ≡ old.text.items ++ bytes → mid.sent ≡ old.sent
+    → Writes t u mid new (Some []) r → Writes t u old new (Some bytes) r
+gathered_went t u old mid new bytes (Ok x) e s w = (
+  bytes,
+  refl,
+  record {
+    went = w.2.went;
+    gathered = sym e ∙ sym (append-nil mid.text.items) ∙ ap (λ l. mid.text.items ++ l) w.1 ∙ w.2.gathered;
+    appends = w.2.appends;
+    count = w.2.count ∙ ap (λ n. counted n w.2.went) s;
+  },
+)
+gathered_went t u old mid new bytes (Err x) e s w = (
+  bytes,
+  refl,
+  record {
+    went = w.2.went;
+    unsent = w.2.unsent;
+    front = sym e ∙ sym (append-nil mid.text.items) ∙ ap (λ l. mid.text.items ++ l) w.1 ∙ w.2.front;
+    appends = w.2.appends;
+    count = w.2.count ∙ ap (λ n. counted n w.2.went) s;
+  },
+)
+
+-- ---- calls one after another
+
+pub tells-joined : (j k : Option (List ℕ)) (x y : List ℕ) → Tells j x → Tells k y → Tells (joined j k) (x ++ y)
+tells-joined None k x y p q = tt
+tells-joined (Some a) None x y p q = tt
+tells-joined (Some a) (Some b) x y p q = ap (λ l. l ++ b) p ∙ ap (λ l. x ++ l) q
+
+-- a text that may be unknown is some text
+pub some_text : (k : Option (List ℕ)) → (y : List ℕ) × Tells k y
+some_text None = ([], tt)
+some_text (Some y) = (y, refl)
+
+-- a call after one that went well
+pub writes_next : {T E : Type 0} (t u v : Option (List ℕ)) (a b c : Sheet) (j k : Option (List ℕ)) (r : Result T E)
+    → ((x : List ℕ) × Tells j x × Joins t u a b x) → Writes u v b c k r → Writes t v a c (joined j k) r
+writes_next t u v a b c j k (Ok y) h w = (h.0 ++ w.0, tells-joined j k h.0 w.0 h.1 w.1, joins_more h.2 w.2)
+writes_next t u v a b c j k (Err e) h w = (h.0 ++ w.0, tells-joined j k h.0 w.0 h.1 w.1, joins_front h.2 w.2)
+
+-- a call that went wrong, before another
+pub writes_stop : {T E : Type 0} (t u : Option (List ℕ)) (a b : Sheet) (j k : Option (List ℕ)) (r : Result T E)
+    → IsErr r → ((x : List ℕ) × Tells j x × JoinsFront t u a b x) → Writes t u a b (joined j k) r
+writes_stop t u a b j k (Ok y) err w = absurd (cc err)
+writes_stop t u a b j k (Err f) err w = let y = some_text k in (w.0 ++ y.0, tells-joined j k w.0 y.0 w.1 y.1, front_more y.0 w.2)
+
+-- a call that went wrong, and wrote nothing
+pub writes_nothing : {T F : Type 0} (t : Option (List ℕ)) (a b : Sheet) (k : Option (List ℕ)) (r : Result T F) → IsErr r → b.sent ≡ a.sent → Writes t t a b k r
+writes_nothing t a b k (Ok y) err s = absurd (cc err)
+writes_nothing t a b k (Err f) err s = let y = some_text k in (y.0, y.1, nothing_went t a b y.0 s)
+
+-- a call that went wrong
+pub writes_err : {T E : Type 0} (t u : Option (List ℕ)) (a b : Sheet) (k : Option (List ℕ)) (r : Result T E) → IsErr r
+    → ((x : List ℕ) × Tells k x × JoinsFront t u a b x) → Writes t u a b k r
+writes_err t u a b k (Ok y) err w = absurd (cc err)
+writes_err t u a b k (Err f) err w = w
+
+-- what is known of a text is less
+pub writes_less : {T E : Type 0} (t u : Option (List ℕ)) (a b : Sheet) (k : Option (List ℕ)) (text : List ℕ) (r : Result T E) → Tells k text → Writes t u a b (Some text) r → Writes t u a b k r
+writes_less t u a b k text (Ok y) h w = (w.0, tells_same k text w.0 h w.1, w.2)
+  where
+    tells_same : (k : Option (List ℕ)) (x y : List ℕ) → Tells k x → x ≡ y → Tells k y
+    tells_same None x y h e = tt
+    tells_same (Some z) x y h e = h ∙ e
+writes_less t u a b k text (Err f) h w = (w.0, tells_same k text w.0 h w.1, w.2)
+  where
+    tells_same : (k : Option (List ℕ)) (x y : List ℕ) → Tells k x → x ≡ y → Tells k y
+    tells_same None x y h e = tt
+    tells_same (Some z) x y h e = h ∙ e
+
+-- ---- where no byte has gone out, none had before
+
+pub unsent_before : {t u : Option (List ℕ)} {a b : Sheet} {x : List ℕ} → Joins t u a b x → b.sent ≡ 0 → a.sent ≡ 0
+unsent_before {t} {u} {a} {b} {x} h unsent = omega (arith, h.count, unsent)
+
+pub unsent_before_front : {t u : Option (List ℕ)} {a b : Sheet} {x : List ℕ} → JoinsFront t u a b x → b.sent ≡ 0 → a.sent ≡ 0
+unsent_before_front {t} {u} {a} {b} {x} h unsent = omega (arith, h.count, unsent)
+
+pub unsent_before_writes : {T E : Type 0} (t u : Option (List ℕ)) (a b : Sheet) (k : Option (List ℕ)) (r : Result T E) → Writes t u a b k r → b.sent ≡ 0 → a.sent ≡ 0
+unsent_before_writes t u a b k (Ok y) w unsent = unsent_before w.2 unsent
+unsent_before_writes t u a b k (Err e) w unsent = unsent_before_front w.2 unsent

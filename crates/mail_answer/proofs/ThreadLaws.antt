@@ -1,0 +1,10 @@
+-- Laws of threads.
+pub mod Adding
+pub mod ChosenThreads
+pub mod EveryThread
+pub mod ForestLemmas
+pub mod JoinLemmas
+pub mod NumberLists
+pub mod OneThreadList
+pub mod RootLemmas
+pub mod ThreadLemmas

@@ -1,0 +1,186 @@
+-- The messages that are chosen by the roots of their trees are all of some threads.
+use Rattle.std.proofs.Common.{◌≡◌, ◌∙◌, ◌+◌, ◌<◌, ◌≤◌, ℕ, zero, suc, Bool, true, false, cond, nat_eq, ◌&&◌, ◌⊎◌, List, [], ◌∷◌, length, get_or, inl, inr, refl, sym, ap, subst, arith, eq-eqb, add-one, Result, Ok, Err, IfOk}
+use Rattle.std.specs.List.{AllByRecursion, filter, list_any, range_with_len}
+use Rattle.std.proofs.lemmas.List.FromFn.{length-map-range_with_len, get_or-map-range_with_len}
+use Rattle.std.proofs.lemmas.Bool.{eqb-true, or_cases, or_left, or_right}
+use Rattle.std.proofs.lemmas.Bool.Decides.{eqb_tells}
+use Rattle.mail_index.specs.declared.kind.Kind.TheVariants.{LinkId}
+use Rattle.mail_index.specs.Tables.{Table, Key, RisesFrom}
+use Rattle.mail_index.specs.LookUps.{keys_of}
+use Rattle.mail_answer.specs.TableFacts.{is_among}
+use Rattle.mail_answer.specs.Marks.{truth_at, each_number}
+use Rattle.mail_answer.specs.Threads.{IsPath, IsInThreadOfSome, AreThreads}
+use Rattle.mail_answer.specs.Inside.Forests.{TellsThreads}
+use Rattle.mail_answer.proofs.ThreadLaws.ThreadLemmas.{itself}
+
+-- ---- membership
+
+below : (P : ℕ → Type 0) (ns : List ℕ) (n : ℕ) → AllByRecursion P ns → is_among n ns ≡ true → P n
+below P [] n all among = absurd (cc among)
+below P (m ∷ ns) n all among =
+    elim (or_cases (nat_eq n m) (is_among n ns) among) [
+      | inl this ↦ subst P (sym (eqb-true n m this)) all.0
+      | inr behind ↦ below P ns n all.1 behind
+    ]
+
+-- some number has the value
+some_from_any : (value : ℕ → ℕ) (r : ℕ) (ns : List ℕ) → list_any (λ n. nat_eq r (value n)) ns ≡ true → (m : ℕ) × (is_among m ns ≡ true) × (r ≡ value m)
+some_from_any value r [] any = absurd (cc any)
+some_from_any value r (n ∷ ns) any =
+    elim (or_cases (nat_eq r (value n)) (list_any (λ m. nat_eq r (value m)) ns) any) [
+      | inl this ↦ (n, or_left (nat_eq n n) (is_among n ns) (eq-eqb n n refl), eqb-true r (value n) this)
+      | inr behind ↦
+          let later = some_from_any value r ns behind in
+          (later.0, or_right (nat_eq later.0 n) (is_among later.0 ns) later.1, later.2)
+    ]
+
+any_from_some : (value : ℕ → ℕ) (r m : ℕ) (ns : List ℕ) → is_among m ns ≡ true → r ≡ value m → list_any (λ n. nat_eq r (value n)) ns ≡ true
+any_from_some value r m [] among same = absurd (cc among)
+any_from_some value r m (n ∷ ns) among same =
+    elim (or_cases (nat_eq m n) (is_among m ns) among) [
+      | inl this ↦ or_left (nat_eq r (value n)) (list_any (λ k. nat_eq r (value k)) ns) (eq-eqb r (value n) (same ∙ ap value (eqb-true m n this)))
+      | inr behind ↦ or_right (nat_eq r (value n)) (list_any (λ k. nat_eq r (value k)) ns) (any_from_some value r m ns behind same)
+    ]
+
+-- ---- the numbers that pass a test
+
+pub lower : (a b : ℕ) (ns : List ℕ) → a ≤ b → RisesFrom b ns → RisesFrom a ns
+lower a b [] le rises = tt
+lower a b (n ∷ ns) le rises = let first : b ≤ n = rises.0 in (omega arith, rises.1)
+
+pub passed_rise : (test : ℕ → Bool) (a count : ℕ) → RisesFrom a (filter test (range_with_len a count))
+passed_rise test a zero = tt
+passed_rise test a (suc count) = go (test a) (subst (λ (b : ℕ). RisesFrom b (filter test (range_with_len (a + 1) count))) (add-one a) (passed_rise test (a + 1) count))
+  where
+    go : (passes : Bool) → RisesFrom (suc a) (filter test (range_with_len (a + 1) count)) → RisesFrom a (cond passes (a ∷ filter test (range_with_len (a + 1) count)) (filter test (range_with_len (a + 1) count)))
+    go true rest = (omega arith, rest)
+    go false rest = lower a (suc a) (filter test (range_with_len (a + 1) count)) (omega arith) rest
+
+pub from_passed : (test : ℕ → Bool) (a count n : ℕ) → is_among n (filter test (range_with_len a count)) ≡ true → (n < a + count) × (test n ≡ true)
+from_passed test a zero n among = absurd (cc among)
+from_passed test a (suc count) n among = go (test a) refl (λ behind. from_passed test (a + 1) count n behind) among
+  where
+    go : (passes : Bool) → test a ≡ passes → (is_among n (filter test (range_with_len (a + 1) count)) ≡ true → (n < a + 1 + count) × (test n ≡ true))
+        → is_among n (cond passes (a ∷ filter test (range_with_len (a + 1) count)) (filter test (range_with_len (a + 1) count))) ≡ true → (n < a + suc count) × (test n ≡ true)
+    go true here rest given =
+        elim (or_cases (nat_eq n a) (is_among n (filter test (range_with_len (a + 1) count))) given) [
+          | inl this ↦ let same : n ≡ a = eqb-true n a this in (omega (arith, same), ap test same ∙ here)
+          | inr behind ↦ let later : (n < a + 1 + count) × (test n ≡ true) = rest behind in (omega (arith, later.0), later.1)
+        ]
+    go false here rest given = let later : (n < a + 1 + count) × (test n ≡ true) = rest given in (omega (arith, later.0), later.1)
+
+pub to_passed : (test : ℕ → Bool) (a count n : ℕ) → a ≤ n → n < a + count → test n ≡ true → is_among n (filter test (range_with_len a count)) ≡ true
+to_passed test a zero n low high passes = absurd (omega (arith, low, high))
+to_passed test a (suc count) n low high passes = go (test a) refl (λ behind. to_passed test (a + 1) count n behind (omega (arith, high)) passes)
+  where
+    go : (first : Bool) → test a ≡ first → (a + 1 ≤ n → is_among n (filter test (range_with_len (a + 1) count)) ≡ true)
+        → is_among n (cond first (a ∷ filter test (range_with_len (a + 1) count)) (filter test (range_with_len (a + 1) count))) ≡ true
+    go true here rest =
+        elim (eqb_tells n a) [
+          | inl this ↦ or_left (nat_eq n a) (is_among n (filter test (range_with_len (a + 1) count))) this.0
+          | inr other ↦ or_right (nat_eq n a) (is_among n (filter test (range_with_len (a + 1) count))) (rest (omega (arith, other.1, low)))
+        ]
+    go false here rest = rest (bigger low)
+      where
+        bigger : a ≤ n → a + 1 ≤ n
+        bigger le = elim (eqb_tells n a) [
+          | inl this ↦ absurd (cc (here, passes, this.1))
+          | inr other ↦ omega (arith, other.1, le)
+        ]
+
+-- ---- those whose root is the root of one of these are their threads
+
+pub chosen_threads : (t : Table) (numbers roots members : List ℕ) (test : ℕ → Bool) → TellsThreads t roots → AllByRecursion (λ n. n < length t.messages) numbers
+    → ((r : ℕ) → r < length t.messages → test r ≡ list_any (λ n. nat_eq r (get_or roots n 0)) numbers)
+    → members ≡ filter (λ n. test (get_or roots n 0)) (range_with_len 0 (length roots)) → AreThreads t numbers members
+chosen_threads t numbers roots members test tells within marked are =
+    subst (AreThreads t numbers) (sym are) record {
+      rises = passed_rise (λ n. test (get_or roots n 0)) 0 (length roots);
+      each = λ n. (
+        λ (among : is_among n (filter (λ k. test (get_or roots k 0)) (range_with_len 0 (length roots))) ≡ true). forth n (from_passed (λ k. test (get_or roots k 0)) 0 (length roots) n among),
+        λ (given : (n < length t.messages) × IsInThreadOfSome t numbers n). to_passed (λ k. test (get_or roots k 0)) 0 (length roots) n (omega arith) (omega (arith, given.0, tells.long)) (back n given),
+      );
+    }
+  where
+    root : ℕ → ℕ
+    root n = get_or roots n 0
+
+    root_within : (n : ℕ) → n < length t.messages → root n < length t.messages
+    root_within n lt = let low : root n ≤ n = tells.back n (omega (arith, lt, tells.long)) in omega (arith, lt, low)
+
+    forth : (n : ℕ) → (n < 0 + length roots) × (test (root n) ≡ true) → (n < length t.messages) × IsInThreadOfSome t numbers n
+    forth n passed =
+        let lt : n < length t.messages = omega (arith, passed.0, tells.long) in
+        let some : (m : ℕ) × (is_among m numbers ≡ true) × (root n ≡ root m) = some_from_any root (root n) numbers (sym (marked (root n) (root_within n lt)) ∙ passed.1) in
+        (lt, (some.0, some.1, (tells.same some.0 n (below (λ k. k < length t.messages) numbers some.0 within some.1) lt).0 (sym some.2)))
+
+    back : (n : ℕ) → (n < length t.messages) × IsInThreadOfSome t numbers n → test (root n) ≡ true
+    back n given =
+        let m_within : given.1.0 < length t.messages = below (λ k. k < length t.messages) numbers given.1.0 within given.1.1 in
+        marked (root n) (root_within n given.0) ∙ any_from_some root (root n) given.1.0 numbers given.1.1 (sym ((tells.same given.1.0 n m_within given.0).1 given.1.2))
+
+-- ---- without links, or without numbers, they are themselves
+
+path_without : (t : Table) (m n : ℕ) (path : List ℕ) → keys_of LinkId t.keys ≡ [] → IsPath t m path n → m ≡ n
+path_without t m n [] none here = here
+path_without t m n (l ∷ path) none given =
+    absurd (cc (sym given.0 ∙ ap (λ (ks : List Key). list_any (λ (k : Key). is_among m k.numbers && is_among l k.numbers) ks) none))
+
+pub threads_without : (t : Table) (numbers : List ℕ) → (keys_of LinkId t.keys ≡ []) ⊎ (numbers ≡ []) → RisesFrom 0 numbers → AllByRecursion (λ n. n < length t.messages) numbers → AreThreads t numbers numbers
+threads_without t numbers none rises within = record {
+  rises = rises;
+  each = λ n. (
+    λ (among : is_among n numbers ≡ true). (below (λ k. k < length t.messages) numbers n within among, (n, among, itself t n)),
+    λ (given : (n < length t.messages) × IsInThreadOfSome t numbers n).
+        elim none [
+          | inl links ↦ subst (λ (k : ℕ). is_among k numbers ≡ true) (path_without t given.1.0 n given.1.2.0 links given.1.2.1) given.1.1
+          | inr empty ↦ absurd (cc (sym given.1.1 ∙ ap (is_among given.1.0) empty))
+        ],
+  );
+}
+
+-- ---- what the calls answered
+
+pub ok_then : {A E : Type 0} (r : Result A E) (P Q : A → Type 0) → IfOk r P → ((v : A) → P v → Q v) → IfOk r Q
+ok_then (Ok v) P Q given next = next v given
+ok_then (Err e) P Q given next = tt
+
+pub empty_is : (xs : List ℕ) → length xs ≡ 0 → xs ≡ []
+empty_is [] long = refl
+empty_is (x ∷ xs) long = absurd (omega (arith, long))
+
+pub no_keys : (ks : List Key) → (0 < length ks → ⊥) → ks ≡ []
+no_keys [] none = refl
+no_keys (k ∷ ks) none = absurd (none (omega arith))
+
+-- each root has its place in the marks
+pub root_has_mark : (t : Table) (roots : List ℕ) (marks : List Bool) (test : ℕ → Bool) → TellsThreads t roots → marks ≡ each_number (length t.messages) test → (n : ℕ) → n < length roots → get_or roots n 0 < length marks
+root_has_mark t roots marks test tells are n lt =
+    let low : get_or roots n 0 ≤ n = tells.back n lt in
+    let long : length marks ≡ length t.messages = ap length are ∙ length-map-range_with_len test 0 (length t.messages) in
+    omega (arith, lt, low, long, tells.long)
+
+pub chosen_by_marks : (t : Table) (numbers roots members : List ℕ) (marks : List Bool) → TellsThreads t roots → AllByRecursion (λ n. n < length t.messages) numbers
+    → marks ≡ each_number (length t.messages) (λ r. list_any (λ n. nat_eq r (get_or roots n 0)) numbers)
+    → members ≡ filter (λ n. truth_at marks (get_or roots n 0)) (range_with_len 0 (length roots)) → AreThreads t numbers members
+chosen_by_marks t numbers roots members marks tells within marked are =
+    chosen_threads t numbers roots members (truth_at marks) tells within
+    (λ r lt.
+    ap (λ (xs : List Bool). truth_at xs r) marked ∙ get_or-map-range_with_len (λ k. list_any (λ n. nat_eq k (get_or roots n 0)) numbers) 0 (length t.messages) r r false lt (omega arith))
+    are
+
+-- ---- lists of numbers that are asked for
+
+all_from_members : (P : ℕ → Type 0) (ns : List ℕ) → ((n : ℕ) → is_among n ns ≡ true → P n) → AllByRecursion P ns
+all_from_members P [] each = tt
+all_from_members P (n ∷ ns) each =
+    (each n (or_left (nat_eq n n) (is_among n ns) (eq-eqb n n refl)), all_from_members P ns (λ m among. each m (or_right (nat_eq m n) (is_among m ns) among)))
+
+-- the numbers of messages that pass a test are below their count
+pub passed_below : (test : ℕ → Bool) (count : ℕ) → AllByRecursion (λ n. n < count) (filter test (range_with_len 0 count))
+passed_below test count =
+    all_from_members (λ n. n < count) (filter test (range_with_len 0 count))
+    (λ n among. let passed : (n < 0 + count) × (test n ≡ true) = from_passed test 0 count n among in omega (arith, passed.0))
+
+pub threads_below : (t : Table) (numbers members : List ℕ) → AreThreads t numbers members → AllByRecursion (λ n. n < length t.messages) members
+threads_below t numbers members are = all_from_members (λ n. n < length t.messages) members (λ n among. ((are.each n).0 among).0)

@@ -1,0 +1,146 @@
+-- Trees of messages that get shorter, and are joined.
+use Rattle.std.proofs.Common.{◌≡◌, ◌≢◌, ◌∙◌, ◌+◌, ◌<◌, ◌≤◌, ℕ, List, length, get_or, inl, inr, refl, sym, ap, subst, arith}
+use Rattle.std.proofs.Math.ListN.{set, length-set}
+use Rattle.std.proofs.lemmas.List.{get_or-set_same, get_or-set_other}
+use Rattle.std.proofs.lemmas.Bool.Decides.{eqb_tells}
+use Rattle.mail_index.specs.Tables.{Table}
+use Rattle.mail_answer.specs.Threads.{IsInThread}
+use Rattle.mail_answer.specs.Inside.Forests.{LeadsBack, StaysInThreads, LabelsTrees, Shortens}
+use Rattle.mail_answer.proofs.ThreadLaws.ThreadLemmas.{through}
+
+-- ---- one parent is exchanged
+
+same_there : (p : List ℕ) (i g n : ℕ) → i < length p → n ≡ i → get_or (set p i g) n 0 ≡ g
+same_there p i g n lt same = ap (λ (k : ℕ). get_or (set p i g) k 0) same ∙ get_or-set_same p i g 0 lt
+
+-- what holds of the new parent there, and of the old ones elsewhere, holds of each
+pub each_parent : (P : ℕ → ℕ → Type 0) (p : List ℕ) (i g : ℕ) → i < length p → P i g → ((n : ℕ) → n < length p → n ≢ i → P n (get_or p n 0)) → (n : ℕ) → n < length p → P n (get_or (set p i g) n 0)
+each_parent P p i g lt here elsewhere n within =
+    elim (eqb_tells n i) [
+      | inl this ↦
+          let at_it : P n g = subst (λ (k : ℕ). P k g) (sym this.1) here in
+          subst (P n) (sym (same_there p i g n lt this.1)) at_it
+      | inr other ↦ subst (P n) (sym (get_or-set_other p i n g 0 other.1)) (elsewhere n within other.1)
+    ]
+
+pub still_back : (p : List ℕ) (i g : ℕ) → i < length p → g ≤ i → LeadsBack p → LeadsBack (set p i g)
+still_back p i g lt before back = λ n within. each_parent (λ m r. r ≤ m) p i g lt before (λ m h ne. back m h) n (subst (λ (k : ℕ). n < k) (length-set p i g) within)
+
+pub still_threads : (t : Table) (p : List ℕ) (i g : ℕ) → i < length p → IsInThread t i g → StaysInThreads t p → StaysInThreads t (set p i g)
+still_threads t p i g lt leads stays = λ n within. each_parent (IsInThread t) p i g lt leads (λ m h ne. stays m h) n (subst (λ (k : ℕ). n < k) (length-set p i g) within)
+
+-- a label of the new trees is one of the old ones, if it is at the exchanged place
+pub still_labels : (label : ℕ → ℕ) (p : List ℕ) (i g : ℕ) → i < length p → label (get_or p i 0) ≡ label i → LabelsTrees label (set p i g) → LabelsTrees label p
+still_labels label p i g lt here labels = λ n within.
+    elim (eqb_tells n i) [
+      | inl this ↦ subst (λ (k : ℕ). label (get_or p k 0) ≡ label k) (sym this.1) here
+      | inr other ↦ ap label (sym (get_or-set_other p i n g 0 other.1)) ∙ labels n (subst (λ (k : ℕ). n < k) (sym (length-set p i g)) within)
+    ]
+
+pub label_there : (label : ℕ → ℕ) (p : List ℕ) (i g : ℕ) → i < length p → LabelsTrees label (set p i g) → label g ≡ label i
+label_there label p i g lt labels = ap label (sym (get_or-set_same p i g 0 lt)) ∙ labels i (subst (λ (k : ℕ). i < k) (sym (length-set p i g)) lt)
+
+-- ---- the parent's parent in its place
+
+-- a label of the new trees is one of the old ones
+same_label : (label : ℕ → ℕ) (p : List ℕ) (i : ℕ) → i < length p → get_or p i 0 < length p → LabelsTrees label (set p i (get_or p (get_or p i 0) 0)) → label (get_or p i 0) ≡ label i
+same_label label p i lt parent labels =
+    elim (eqb_tells (get_or p i 0) i) [
+      | inl this ↦ ap label this.1
+      | inr other ↦
+          sym (ap label (sym (get_or-set_other p i (get_or p i 0) (get_or p (get_or p i 0) 0) 0 other.1)) ∙ labels (get_or p i 0) (subst (λ (k : ℕ). get_or p i 0 < k) (sym (length-set p i (get_or p (get_or p i 0) 0))) parent))
+          ∙ label_there label p i (get_or p (get_or p i 0) 0) lt labels
+    ]
+
+pub lifted : (p : List ℕ) (i : ℕ) → LeadsBack p → i < length p → Shortens p (set p i (get_or p (get_or p i 0) 0))
+lifted p i back lt =
+    let g : ℕ = get_or p (get_or p i 0) 0 in
+    let low : get_or p i 0 ≤ i = back i lt in
+    let parent : get_or p i 0 < length p = omega arith in
+    let lower : g ≤ get_or p i 0 = back (get_or p i 0) parent in
+    record {
+      long = length-set p i g;
+      back = still_back p i g lt (omega (arith, low, lower));
+      roots = λ n within root.
+          elim (eqb_tells n i) [
+            | inl this ↦
+                let here : get_or p i 0 ≡ i = subst (λ (k : ℕ). get_or p k 0 ≡ k) this.1 root in
+                same_there p i g n lt this.1 ∙ ap (λ (k : ℕ). get_or p k 0) here ∙ here ∙ sym this.1
+            | inr other ↦ get_or-set_other p i n g 0 other.1 ∙ root
+          ];
+      labels = λ label labels. still_labels label p i g lt (same_label label p i lt parent labels) labels;
+      threads = λ t stays. still_threads t p i g lt (through t i (get_or p i 0) g (stays i lt) (stays (get_or p i 0) parent)) stays;
+    }
+
+-- the same, as `lift` says it
+pub lifted_to : (p q : List ℕ) (i r : ℕ) → LeadsBack p → i < length p → r ≡ get_or p (get_or p i 0) 0 → q ≡ set p i r → Shortens p q
+lifted_to p q i r back lt value after = subst (Shortens p) (sym (after ∙ ap (set p i) value)) (lifted p i back lt)
+
+parent_within : (p : List ℕ) (i : ℕ) → LeadsBack p → i < length p → get_or p i 0 < length p
+parent_within p i back lt = let low : get_or p i 0 ≤ i = back i lt in omega arith
+
+pub lifted_before : (p : List ℕ) (i r : ℕ) → LeadsBack p → i < length p → r ≡ get_or p (get_or p i 0) 0 → r ≤ get_or p i 0
+lifted_before p i r back lt value = let lower : get_or p (get_or p i 0) 0 ≤ get_or p i 0 = back (get_or p i 0) (parent_within p i back lt) in omega arith
+
+pub lifted_label : (label : ℕ → ℕ) (p : List ℕ) (i r : ℕ) → LeadsBack p → i < length p → r ≡ get_or p (get_or p i 0) 0 → LabelsTrees label p → label i ≡ label r
+lifted_label label p i r back lt value labels = sym (ap label value ∙ labels (get_or p i 0) (parent_within p i back lt) ∙ labels i lt)
+
+pub lifted_thread : (t : Table) (p : List ℕ) (i r : ℕ) → LeadsBack p → i < length p → r ≡ get_or p (get_or p i 0) 0 → StaysInThreads t p → IsInThread t i r
+lifted_thread t p i r back lt value stays =
+    subst (IsInThread t i) (sym value) (through t i (get_or p i 0) (get_or p (get_or p i 0) 0) (stays i lt) (stays (get_or p i 0) (parent_within p i back lt)))
+
+-- ---- steps after one another
+
+pub unchanged : (p : List ℕ) → Shortens p p
+unchanged p = record { long = refl; back = λ back. back; roots = λ n lt root. root; labels = λ label labels. labels; threads = λ t stays. stays }
+
+pub shorter_still : (p q r : List ℕ) → Shortens p q → Shortens q r → Shortens p r
+shorter_still p q r first second = record {
+  long = second.long ∙ first.long;
+  back = λ back. second.back (first.back back);
+  roots = λ n lt root. second.roots n (subst (λ (k : ℕ). n < k) (sym first.long) lt) (first.roots n lt root);
+  labels = λ label labels. first.labels label (second.labels label labels);
+  threads = λ t stays. second.threads t (first.threads t stays);
+}
+
+-- ---- each message its root's child
+
+pub flat_none : (p : List ℕ) (n : ℕ) → n < 0 → get_or p (get_or p n 0) 0 ≡ get_or p n 0
+flat_none p n lt = absurd (omega (arith, lt))
+
+-- one more
+pub flat_more : (p q : List ℕ) (i r : ℕ) → LeadsBack p → i < length p → r ≡ get_or p (get_or p i 0) 0 → q ≡ set p i r
+    → ((n : ℕ) → n < i → get_or p (get_or p n 0) 0 ≡ get_or p n 0) → (n : ℕ) → n < i + 1 → get_or q (get_or q n 0) 0 ≡ get_or q n 0
+flat_more p q i r back lt value after flat n within =
+    subst (λ (xs : List ℕ). get_or xs (get_or xs n 0) 0 ≡ get_or xs n 0) (sym after)
+    (elim (eqb_tells n i) [
+      | inl this ↦
+          let there : get_or (set p i r) n 0 ≡ r = same_there p i r n lt this.1 in
+          ap (λ (k : ℕ). get_or (set p i r) k 0) there ∙ at_root ∙ sym there
+      | inr other ↦
+          let there : get_or (set p i r) n 0 ≡ get_or p n 0 = get_or-set_other p i n r 0 other.1 in
+          let before : n < i = before_it other.1 in
+          let parent : get_or p n 0 ≤ n = back n (omega (arith, before, lt)) in
+          let elsewhere : get_or p n 0 ≢ i = (λ (same : get_or p n 0 ≡ i). omega (arith, same, parent, before)) in
+          ap (λ (k : ℕ). get_or (set p i r) k 0) there ∙ get_or-set_other p i (get_or p n 0) r 0 elsewhere ∙ flat n before ∙ sym there
+    ])
+  where
+    before_it : n ≢ i → n < i
+    before_it other = omega (arith, other, within)
+
+    low : get_or p i 0 ≤ i
+    low = back i lt
+
+    lower : get_or p i 0 ≢ i → get_or p i 0 < i
+    lower other = let bound : get_or p i 0 ≤ i = low in omega (arith, other, bound)
+
+    at_root : get_or (set p i r) r 0 ≡ r
+    at_root = elim (eqb_tells r i) [
+      | inl this ↦ same_there p i r r lt this.1
+      | inr other ↦
+          get_or-set_other p i r r 0 other.1
+          ∙ (elim (eqb_tells (get_or p i 0) i) [
+            | inl stays ↦ absurd (other.1 (value ∙ ap (λ (k : ℕ). get_or p k 0) stays.1 ∙ stays.1))
+            | inr moves ↦ ap (λ (k : ℕ). get_or p k 0) value ∙ flat (get_or p i 0) (lower moves.1) ∙ sym value
+          ])
+    ]

@@ -1,0 +1,120 @@
+-- Trees of messages that become one.
+use Rattle.std.proofs.Common.{◌≡◌, ◌∙◌, ◌<◌, ◌≤◌, ℕ, true, nat_eq, ◌&&◌, List, [], ◌∷◌, length, get_or, inl, inr, refl, sym, ap, eq-eqb}
+use Rattle.std.specs.List.{list_any}
+use Rattle.std.proofs.Math.ListN.{set, length-set}
+use Rattle.std.proofs.lemmas.Bool.{eqb-true, or_cases, or_left, or_right, and_parts, and_from}
+use Rattle.mail_index.specs.Tables.{Table}
+use Rattle.mail_answer.specs.TableFacts.{is_among}
+use Rattle.mail_answer.specs.Threads.{IsInThread}
+use Rattle.mail_answer.specs.Inside.Forests.{StaysInThreads, LabelsTrees, Shortens, Unites, AreBothAmong, ShareKey}
+use Rattle.mail_answer.proofs.ThreadLaws.ThreadLemmas.{through, back_again}
+use Rattle.mail_answer.proofs.ThreadLaws.ForestLemmas.{still_back, still_threads, still_labels, label_there}
+
+-- a root is hung at a root before it
+pub hung : (p q : List ℕ) (number other high low : ℕ) → Shortens p q → high < length q → low ≤ high → get_or q high 0 ≡ high
+    → ((label : ℕ → ℕ) → LabelsTrees label q → label high ≡ label low → label number ≡ label other)
+    → ((t : Table) → StaysInThreads t p → IsInThread t number other → IsInThread t high low)
+    → Unites (λ m n. (m ≡ number) × (n ≡ other)) p (set q high low)
+hung p q number other high low short lt before root joins leads = record {
+  long = length-set q high low ∙ short.long;
+  back = λ back. still_back q high low lt before (short.back back);
+  labels = λ label labels. short.labels label (still_labels label q high low lt (ap label root) labels);
+  united = λ m n pair label labels.
+      ap label pair.0 ∙ joins label (still_labels label q high low lt (ap label root) labels) (sym (label_there label q high low lt labels)) ∙ sym (ap label pair.1);
+  threads = λ t all stays. still_threads t q high low lt (leads t stays (all number other (refl, refl))) (short.threads t stays);
+}
+
+-- the roots of two messages of one thread are in it
+pub roots_linked : (t : Table) (number other first second : ℕ) → IsInThread t number first → IsInThread t other second → IsInThread t number other → IsInThread t first second
+roots_linked t number other first second one two linked = through t first number second (back_again t number first one) (through t number other second linked two)
+
+-- ---- all messages of a key
+
+one_of : (first n : ℕ) (ns : List ℕ) → n ≡ first → is_among n (first ∷ ns) ≡ true
+one_of first n ns same = or_left (nat_eq n first) (is_among n ns) (eq-eqb n first same)
+
+behind_first : (first n : ℕ) (ns : List ℕ) → is_among n ns ≡ true → is_among n (first ∷ ns) ≡ true
+behind_first first n ns among = or_right (nat_eq n first) (is_among n ns) among
+
+between : (first n x : ℕ) (ns : List ℕ) → is_among x (first ∷ ns) ≡ true → is_among x (first ∷ n ∷ ns) ≡ true
+between first n x ns among =
+    elim (or_cases (nat_eq x first) (is_among x ns) among) [
+      | inl this ↦ one_of first x (n ∷ ns) (eqb-true x first this)
+      | inr behind ↦ behind_first first x (n ∷ ns) (behind_first n x ns behind)
+    ]
+
+-- what the second of them has too, all have
+as_first : (label : ℕ → ℕ) (first n : ℕ) (ns : List ℕ) → label n ≡ label first → ((x : ℕ) → is_among x (first ∷ ns) ≡ true → label x ≡ label first)
+    → (x : ℕ) → is_among x (first ∷ n ∷ ns) ≡ true → label x ≡ label first
+as_first label first n ns second rest x among =
+    elim (or_cases (nat_eq x first) (is_among x (n ∷ ns)) among) [
+      | inl this ↦ ap label (eqb-true x first this)
+      | inr behind ↦
+          elim (or_cases (nat_eq x n) (is_among x ns) behind) [
+            | inl this ↦ ap label (eqb-true x n this) ∙ second
+            | inr far ↦ rest x (behind_first first x ns far)
+          ]
+    ]
+
+pub united_none : (p : List ℕ) → Unites (AreBothAmong []) p p
+united_none p = record {
+  long = refl;
+  back = λ back. back;
+  labels = λ label labels. labels;
+  united = λ m n both. absurd (cc both.0);
+  threads = λ t all stays. stays;
+}
+
+pub united_one : (p : List ℕ) (first : ℕ) → Unites (AreBothAmong (first ∷ [])) p p
+united_one p first = record {
+  long = refl;
+  back = λ back. back;
+  labels = λ label labels. labels;
+  united = λ m n both label labels. ap label (the_first m both.0 ∙ sym (the_first n both.1));
+  threads = λ t all stays. stays;
+}
+  where
+    the_first : (m : ℕ) → is_among m (first ∷ []) ≡ true → m ≡ first
+    the_first m among = elim (or_cases (nat_eq m first) (is_among m []) among) [ inl this ↦ eqb-true m first this | inr none ↦ absurd (cc none) ]
+
+pub united_more : (p q r : List ℕ) (first n : ℕ) (ns : List ℕ) → Unites (λ x y. (x ≡ first) × (y ≡ n)) p q → Unites (AreBothAmong (first ∷ ns)) q r → Unites (AreBothAmong (first ∷ n ∷ ns)) p r
+united_more p q r first n ns one rest = record {
+  long = rest.long ∙ one.long;
+  back = λ back. rest.back (one.back back);
+  labels = λ label labels. one.labels label (rest.labels label labels);
+  united = λ x y both label labels. all label labels x both.0 ∙ sym (all label labels y both.1);
+  threads = λ t given stays.
+      rest.threads t (λ x y both. given x y (between first n x ns both.0, between first n y ns both.1))
+      (one.threads t (λ x y pair. given x y (one_of first x (n ∷ ns) pair.0, behind_first first y (n ∷ ns) (one_of n y ns pair.1))) stays);
+}
+  where
+    all : (label : ℕ → ℕ) → LabelsTrees label r → (x : ℕ) → is_among x (first ∷ n ∷ ns) ≡ true → label x ≡ label first
+    all label labels =
+        as_first label first n ns (sym (one.united first n (refl, refl) label (rest.labels label labels)))
+        (λ x among. rest.united x first (among, one_of first first ns refl) label labels)
+
+-- ---- all keys
+
+pub keys_none : (p : List ℕ) → Unites (ShareKey []) p p
+keys_none p = record {
+  long = refl;
+  back = λ back. back;
+  labels = λ label labels. labels;
+  united = λ m n both. absurd (cc both);
+  threads = λ t all stays. stays;
+}
+
+pub keys_more : (p q r : List ℕ) (k : List ℕ × List ℕ) (ks : List (List ℕ × List ℕ)) → Unites (AreBothAmong k.1) p q → Unites (ShareKey ks) q r → Unites (ShareKey (k ∷ ks)) p r
+keys_more p q r k ks one rest = record {
+  long = rest.long ∙ one.long;
+  back = λ back. rest.back (one.back back);
+  labels = λ label labels. one.labels label (rest.labels label labels);
+  united = λ x y share label labels.
+      elim (or_cases (is_among x k.1 && is_among y k.1) (list_any (λ (key : List ℕ × List ℕ). is_among x key.1 && is_among y key.1) ks) share) [
+        | inl here ↦ one.united x y (and_parts (is_among x k.1) (is_among y k.1) here) label (rest.labels label labels)
+        | inr behind ↦ rest.united x y behind label labels
+      ];
+  threads = λ t given stays.
+      rest.threads t (λ x y share. given x y (or_right (is_among x k.1 && is_among y k.1) (list_any (λ (key : List ℕ × List ℕ). is_among x key.1 && is_among y key.1) ks) share))
+      (one.threads t (λ x y both. given x y (or_left (is_among x k.1 && is_among y k.1) (list_any (λ (key : List ℕ × List ℕ). is_among x key.1 && is_among y key.1) ks) (and_from (is_among x k.1) (is_among y k.1) both.0 both.1))) stays);
+}

@@ -1,0 +1,29 @@
+use Rattle.std.proofs.Common.{◌∙◌, sym, arith}
+use Rattle.mail_index.specs.Layouts.{archive_of}
+use Rattle.mail_answer.proofs.ArchiveLaws.StaleLemmas.{goes_on, stops_here, stale_told, next_named, still_named, as_named}
+use Rattle.mail_answer.proofs.archives.stale.check_archives.Goals as goal
+
+pub unreachable-requires : goal.unreachable-requires
+unreachable-requires g c = still_named c.args.index.now.archives c.loop-n.n (omega (arith, c.loop-n-test.true, c.archive_count-indexed.ensures)) (sym c.loop-n.invariant.coming ∙ c.in_default.ensures.0)
+
+pub returns-then-not-branch-clause-stale : goal.returns-then-not-branch-clause-stale
+returns-then-not-branch-clause-stale g c =
+    let i = c.loop-n.invariant in
+    let named = c.args.index.now.archives in
+    let step = next_named named c.loop-n.n (archive_of c.in-Some.archive) c.next.new.self (sym i.coming ∙ c.in-Some.ensures) in
+    stale_told named (g.A.Archives.held c.args.archives.now) c.loop-n.n (stops_here named (g.A.Archives.held c.args.archives.now) c.loop-n.n (g.A.Archives.number c.args.archives.now) c.in_ok-is_as_long.field-0 (omega arith) (omega arith) c.count-count.ensures.1 i.so_far
+    (as_named (g.A.Archives.held c.args.archives.now) named c.loop-n.n c.in-Some.archive.length c.in_ok-is_as_long.field-0 step.0 (rw i.held at c.in_ok-is_as_long.ensures.same)) (cc))
+
+pub loop-n-preserved : goal.loop-n-preserved
+loop-n-preserved g c =
+    let i = c.loop-n.invariant in
+    let named = c.args.index.now.archives in
+    let step = next_named named c.loop-n.n (archive_of c.in-Some.archive) c.next.new.self (sym i.coming ∙ c.in-Some.ensures) in
+    record {
+      coming = sym step.1;
+      held = c.in_ok-is_as_long.ensures.held ∙ i.held;
+      number = c.in_ok-is_as_long.ensures.number ∙ i.number;
+      count = c.in_ok-is_as_long.ensures.count ∙ i.count;
+      so_far = goes_on named (g.A.Archives.held c.args.archives.now) c.loop-n.n (g.A.Archives.number c.args.archives.now) c.in_ok-is_as_long.field-0 (omega arith) (omega arith) c.count-count.ensures.1 i.so_far
+          (as_named (g.A.Archives.held c.args.archives.now) named c.loop-n.n c.in-Some.archive.length c.in_ok-is_as_long.field-0 step.0 (rw i.held at c.in_ok-is_as_long.ensures.same)) (cc);
+    }

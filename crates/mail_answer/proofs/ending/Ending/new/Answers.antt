@@ -1,6 +1,0 @@
-use Rattle.std.proofs.Common.{sym}
-use Rattle.mail_answer.proofs.Endings.{no_lines}
-use Rattle.mail_answer.proofs.ending.Ending.new.Goals as goal
-
-pub returns : goal.returns
-returns c = sym no_lines

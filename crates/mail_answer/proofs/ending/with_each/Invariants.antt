@@ -1,7 +1,0 @@
-use Rattle.std.proofs.Common.{◌≡◌, ℕ, List, ◌++◌, take}
-use Rattle.mail_answer.specs.Endings.{ending_of}
-use Rattle.mail_answer.proofs.ending.with_each.Given as goal
-
--- the bytes so far were looked at
-abbrev pub invariant-loop-b : goal.invariant-loop-b
-invariant-loop-b l = (bytes : List ℕ) → l.fn.before ≡ ending_of bytes → l.ending ≡ ending_of (bytes ++ take l.b-index l.more)

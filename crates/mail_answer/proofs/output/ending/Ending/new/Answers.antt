@@ -1,0 +1,6 @@
+use Rattle.std.proofs.Common.{sym}
+use Rattle.mail_answer.proofs.OutputLaws.Endings.{no_lines}
+use Rattle.mail_answer.proofs.output.ending.Ending.new.Goals as goal
+
+pub returns : goal.returns
+returns c = sym no_lines

@@ -1,0 +1,42 @@
+use Rattle.std.proofs.Common.{◌≡◌, ◌<◌, ℕ, List, Option, length, refl, arith}
+use Rattle.mail_answer.specs.Shapes.{known_message}
+use Rattle.mail_answer.specs.Sheets.{Tells}
+use Rattle.mail_answer.specs.TableFacts.{record_at}
+use Rattle.mail_answer.specs.declared.format.Format.TheVariants.{Excerpt}
+use Rattle.mail_answer.proofs.OutputLaws.HeaderReading.{excerpt_told}
+use Rattle.mail_answer.proofs.ArchiveLaws.IndexedLemmas.{message_inside}
+use Rattle.mail_answer.proofs.OutputLaws.SheetLemmas.{writes_nothing, writes_less}
+use Rattle.mail_answer.proofs.CursorLaws.TruthLists.{record_known}
+use Rattle.mail_answer.proofs.output.excerpt.push_excerpt.Goals as goal
+
+pub read_header-requires-clause-inside : goal.read_header-requires-clause-inside
+read_header-requires-clause-inside g c =
+    let t = c.args.places.now.table in
+    let is : c.message-message.result ≡ record_at t.messages c.args.n = cc (c.message-message.ensures, c.index.ensures, record_known t.messages c.args.n c.requires.below) in
+    rw is (message_inside t (g.A.Archives.held c.args.archives.now) (g.A.Archives.number c.args.archives.now) c.args.n c.requires.table c.requires.below c.requires.number c.requires.fresh)
+
+pub returns-in_err-header-clause-writes : goal.returns-in_err-header-clause-writes
+returns-in_err-header-clause-writes g c =
+    writes_nothing (g.O.Out.taken c.args.out.now) c.args.sheet.now c.args.sheet.now (known_message Excerpt c.args.places.now.table (g.A.Archives.held c.args.archives.now) c.args.n) c.from_residual.result c.from_residual.ensures.0 refl
+
+pub path_of-requires : goal.path_of-requires
+path_of-requires g c =
+    let t = c.args.places.now.table in
+    let is : c.message-message.result ≡ record_at t.messages c.args.n = cc (c.message-message.ensures, c.index.ensures, record_known t.messages c.args.n c.requires.below) in
+    let number : g.A.Archives.number c.args.archives.now ≡ length t.archives = c.requires.number in
+    let exists : (record_at t.messages c.args.n).archive < g.A.Archives.number c.args.archives.now =
+    (message_inside t (g.A.Archives.held c.args.archives.now) (g.A.Archives.number c.args.archives.now) c.args.n c.requires.table c.requires.below c.requires.number c.requires.fresh).exists in
+    rw is (omega (arith, number, exists))
+
+pub returns-in_err-text-clause-writes : goal.returns-in_err-text-clause-writes
+returns-in_err-text-clause-writes g c =
+    writes_nothing (g.O.Out.taken c.args.out.now) c.args.sheet.now c.args.sheet.now (known_message Excerpt c.args.places.now.table (g.A.Archives.held c.args.archives.now) c.args.n) c.from_residual-in_err-text.result c.from_residual-in_err-text.ensures.0 refl
+
+pub returns-clause-writes : goal.returns-clause-writes
+returns-clause-writes g c =
+    let t = c.args.places.now.table in
+    let held : Option (List (List ℕ)) = g.A.Archives.held c.args.archives.now in
+    let is : c.message-message.result ≡ record_at t.messages c.args.n = cc (c.message-message.ensures, c.index.ensures, record_known t.messages c.args.n c.requires.below) in
+    let told : Tells (known_message Excerpt t held c.args.n) c.deref.result.now =
+    rw c.deref.ensures.value (excerpt_told t held c.args.n c.message-message.result c.path_of.result.now c.in_ok-text.text.items c.in_ok-header.header is c.path_of.ensures.path c.in_ok-header.ensures.fields c.in_ok-text.ensures) in
+    writes_less (g.O.Out.taken c.args.out.now) (g.O.Out.taken c.push.new.out) c.args.sheet.now c.push.new.self (known_message Excerpt t held c.args.n) c.deref.result.now c.push.result told c.push.ensures.writes

@@ -1,0 +1,23 @@
+use Rattle.std.proofs.Common.{ℕ, List, Option, IfSome, drop, subst}
+use Rattle.mbox_cutter.specs.Lines.{lines}
+use Rattle.header_text.specs.Headers.{fields_of}
+use Rattle.mail_answer.specs.Inside.HeaderReads.{WillHaveFields}
+use Rattle.mail_answer.specs.Inside.Readings.{Reading, coming, IsInside}
+use Rattle.mail_answer.proofs.OutputLaws.HeaderReading.{first_passed}
+use Rattle.mail_answer.proofs.output.header_reads.read_header.Goals as goal
+
+pub lines-init : goal.lines-init
+lines-init g c =
+    let held : Option (List (List ℕ)) = g.A.Archives.held c.args.archives.now in
+    let number : ℕ = g.A.Archives.number c.args.archives.now in
+    let old : IsInside number held c.over-reader.result = rw c.over-reader.ensures c.requires.inside in
+    let inside : IsInside number held c.first_line.new.self = c.in_ok-first.ensures.inside in
+    record {
+      held = c.in_ok-first.ensures.held;
+      number = c.in_ok-first.ensures.number;
+      inside = rw c.pass.ensures (record { exists = inside.exists; fits = inside.fits; within = inside.within });
+      fields = subst (λ (r : Reading). IfSome (coming held r) (λ bytes. WillHaveFields (coming held c.pass.new.self) c.new-header.result (fields_of (drop 1 (lines bytes))))) c.over-reader.ensures
+          (first_passed held number c.in_ok-first.first c.over-reader.result c.first_line.new.self c.pass.new.self c.new-header.result old c.in_ok-first.ensures.coming c.in_ok-first.ensures.some c.in_ok-first.ensures.within c.in_ok-first.ensures.line
+          c.pass.ensures c.new-header.ensures);
+      count = c.in_ok-first.ensures.count;
+    }

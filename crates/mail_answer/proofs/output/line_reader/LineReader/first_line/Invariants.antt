@@ -1,0 +1,17 @@
+use Rattle.std.proofs.Common.{◌≡◌}
+use Rattle.mail_answer.specs.Inside.Readings.{coming, coming_count, IsInside}
+use Rattle.mail_answer.proofs.output.line_reader.LineReader.first_line.Given as goal
+
+-- nothing was passed, and the archives are as they were
+abbrev pub invariant-more : goal.invariant-more
+invariant-more g l = record {
+  held : g.A.Archives.held l.archives ≡ g.A.Archives.held l.fn.archives;
+  number : g.A.Archives.number l.archives ≡ g.A.Archives.number l.fn.archives;
+  inside : IsInside (g.A.Archives.number l.fn.archives) (g.A.Archives.held l.fn.archives) l.self;
+  coming : coming (g.A.Archives.held l.fn.archives) l.self ≡ coming (g.A.Archives.held l.fn.archives) l.fn.self;
+  as_many : coming_count l.self ≡ coming_count l.fn.self;
+  count : g.A.Archives.failures l.archives ≡ g.A.Archives.failures l.fn.archives;
+}
+
+abbrev pub decreases-more : goal.decreases-more
+decreases-more g l = l.self.left

@@ -1,0 +1,47 @@
+use Rattle.std.proofs.Common.{◌≡◌, ◌∙◌, ℕ, List, [], ◌++◌, ◌+◌, ◌-◌, Option, Result, Ok, Err, refl, ap, sym, subst, arith}
+use Rattle.std.specs.Option.{option_map}
+use Rattle.mail_answer.specs.Inside.Endings.{ending_of}
+use Rattle.mail_answer.specs.Inside.Readings.{Reading, coming}
+use Rattle.mail_answer.specs.Sheets.{Joins, JoinsFront}
+use Rattle.mail_answer.specs.declared.fault.AnswerFaultKind.{AnswerFaultKind}
+use Rattle.mail_answer.proofs.OutputLaws.CopiedPieces.{copies_err, piece_read, behind_gathered, tells_behind}
+use Rattle.mail_answer.proofs.OutputLaws.SheetLemmas.{nothing_went, gathered_went, some_text, front_more}
+use Rattle.mail_answer.proofs.output.mbox.Part.copy_piece.Goals as goal
+
+pub returns-in_err-n-clause-copies : goal.returns-in_err-n-clause-copies
+returns-in_err-n-clause-copies g c =
+    let taken : Option (List ℕ) = g.O.Out.taken c.args.out.now in
+    let known : Option (List ℕ) = coming (g.A.Archives.held c.args.archives.now) c.args.self.now in
+    let some = some_text known in
+    copies_err taken taken c.args.sheet.now _ known _ c.args.before c.from_residual.result c.from_residual.ensures.0 (some.0, some.1, nothing_went taken c.args.sheet.now _ some.0 refl)
+
+pub returns-in_err-send_full-clause-copies : goal.returns-in_err-send_full-clause-copies
+returns-in_err-send_full-clause-copies g c =
+    let s = c.self.inside in
+    let held : Option (List (List ℕ)) = g.A.Archives.held c.args.archives.now in
+    let taken : Option (List ℕ) = g.O.Out.taken c.args.out.now in
+    let taken' : Option (List ℕ) = g.O.Out.taken c.send_full.new.out in
+    let reads = c.in_ok-n.ensures.bytes in
+    let failed : Result ℕ AnswerFaultKind = Err c.in_err-send_full.field-0.0 in
+    let went = gathered_went taken taken' c.args.sheet.now _ c.send_full.new.self reads.bytes failed reads.behind refl c.in_err-send_full.ensures.writes in
+    let behind : Option (List ℕ) = coming held (record { archive = s.archive; unread = []; next = s.next + c.in_ok-n.n; left = s.left - c.in_ok-n.n }) in
+    let is : coming held c.args.self.now ≡ option_map (λ bytes. reads.bytes ++ bytes) behind =
+    sym (ap (λ (r : Reading). coming held r) c.self.view_is) ∙ piece_read s.archive s.next s.left c.in_ok-n.n held c.args.sheet.now.text.items c.read_behind.new.held.items reads (omega (arith, c.in_ok-n.ensures.bound)) in
+    let rest = some_text behind in
+    copies_err taken taken' c.args.sheet.now c.send_full.new.self (coming held c.args.self.now) behind c.args.before c.from_residual-in_err-send_full.result c.from_residual-in_err-send_full.ensures.0
+    (reads.bytes ++ rest.0, rw is (tells_behind behind reads.bytes rest.0 rest.1), front_more rest.0 (subst (JoinsFront taken taken' c.args.sheet.now c.send_full.new.self) (sym went.1) went.2))
+
+pub returns-clause-copies : goal.returns-clause-copies
+returns-clause-copies g c =
+    let s = c.self.inside in
+    let held : Option (List (List ℕ)) = g.A.Archives.held c.args.archives.now in
+    let taken : Option (List ℕ) = g.O.Out.taken c.args.out.now in
+    let taken' : Option (List ℕ) = g.O.Out.taken c.send_full.new.out in
+    let reads = c.in_ok-n.ensures.bytes in
+    let done : Result ℕ AnswerFaultKind = Ok 0 in
+    let went = gathered_went taken taken' c.args.sheet.now _ c.send_full.new.self reads.bytes done reads.behind refl c.in_ok-send_full.ensures.writes in (
+      reads.bytes,
+      sym (ap (λ (r : Reading). coming held r) c.self.view_is) ∙ piece_read s.archive s.next s.left c.in_ok-n.n held c.args.sheet.now.text.items c.read_behind.new.held.items reads (omega (arith, c.in_ok-n.ensures.bound)),
+      subst (Joins taken taken' c.args.sheet.now c.send_full.new.self) (sym went.1) went.2,
+      λ text is. c.with_bytes-ending.ensures text is ∙ ap (λ (l : List ℕ). ending_of (text ++ l)) (behind_gathered c.args.sheet.now.text.items reads.bytes c.deref.result.now c.len-gathered.result (c.deref.ensures.value ∙ reads.behind) (omega arith)),
+    )

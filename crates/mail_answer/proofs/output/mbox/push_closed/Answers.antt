@@ -1,0 +1,84 @@
+use Rattle.std.proofs.Common.{◌≡◌, ◌∙◌, ℕ, List, [], ◌++◌, Option, Some, ap, sym, refl, append-nil, arith}
+use Rattle.std.proofs.lemmas.Bool.Decides.{nat_tests}
+use Rattle.std.proofs.lemmas.Result.{err_from_is_err_and}
+use Rattle.std.specs.Option.{option_map}
+use Rattle.mail_answer.specs.Inside.Endings.{ending_of, feeds_of}
+use Rattle.mail_answer.specs.Inside.Readings.{Reading, coming, coming_count, span_reading}
+use Rattle.mail_answer.specs.Shapes.{closed}
+use Rattle.mail_answer.specs.Sheets.{Tells}
+use Rattle.mail_answer.proofs.OutputLaws.CopiedPieces.{pieces_none, pieces_more, front_told, closed_told}
+use Rattle.mail_answer.proofs.OutputLaws.SheetLemmas.{joins_gathered, joins_more, joins_front, front_more, writes_next, writes_less, writes_err, unsent_before, unsent_before_front, unsent_before_writes}
+use Rattle.mail_answer.proofs.output.mbox.push_closed.Goals as goal
+
+pub pieces-init : goal.pieces-init
+pieces-init g c = record {
+  held = refl;
+  number = refl;
+  inside = rw c.of-part.ensures c.requires.inside;
+  joins = (
+    [],
+    rw c.of-part.ensures (pieces_none (coming (g.A.Archives.held c.args.archives.now) (span_reading c.args.message))),
+    c.new-ending.ensures,
+    joins_gathered (g.O.Out.taken c.args.out.now) c.args.sheet.now c.args.sheet.now [] (sym (append-nil c.args.sheet.now.text.items)) refl,
+  );
+  kept = λ unsent. refl;
+  out_count = refl;
+  archives_count = refl;
+}
+
+pub copy_piece-requires-clause-some : goal.copy_piece-requires-clause-some
+copy_piece-requires-clause-some g c = grind (arith, nat_tests)
+
+pub pieces-preserved : goal.pieces-preserved
+pieces-preserved g c =
+    let held : Option (List ℕ) = coming (g.A.Archives.held c.args.archives.now) c.copy_piece.new.self in
+    let i = c.pieces.invariant in
+    let j = i.joins in
+    let w = rw i.held at c.in_ok-ending.ensures.copies in
+    record {
+      held = c.in_ok-ending.ensures.held ∙ i.held;
+      number = c.in_ok-ending.ensures.number ∙ i.number;
+      inside = rw (i.held, i.number) at c.in_ok-ending.ensures.inside;
+      joins = (
+        j.0 ++ w.0,
+        j.1 ∙ ap (option_map (λ bytes. j.0 ++ bytes)) w.1 ∙ pieces_more held j.0 w.0,
+        w.3 j.0 j.2,
+        joins_more j.3 w.2,
+      );
+      kept = λ unsent. c.in_ok-ending.ensures.kept unsent refl ∙ i.kept (unsent_before w.2 unsent);
+      out_count = c.in_ok-ending.ensures.out_count ∙ i.out_count;
+      archives_count = c.in_ok-ending.ensures.archives_count ∙ i.archives_count;
+    }
+
+pub returns-in_err-ending-clause-writes : goal.returns-in_err-ending-clause-writes
+returns-in_err-ending-clause-writes g c =
+    let held : Option (List (List ℕ)) = g.A.Archives.held c.args.archives.now in
+    let span : Option (List ℕ) = coming held (span_reading c.args.message) in
+    let i = c.pieces.invariant in
+    let j = i.joins in
+    let w = rw i.held at c.in_err-ending.ensures.copies in
+    let told = front_told span (coming held c.pieces.part) j.0 w.0 j.1 w.1 in
+    writes_err (g.O.Out.taken c.args.out.now) (g.O.Out.taken c.copy_piece.new.out) c.args.sheet.now c.copy_piece.new.sheet (option_map closed span) c.from_residual.result c.from_residual.ensures.0
+    ((j.0 ++ w.0) ++ told.0, told.1, front_more told.0 (joins_front j.3 w.2))
+
+pub returns-in_err-ending-clause-kept : goal.returns-in_err-ending-clause-kept
+returns-in_err-ending-clause-kept g c =
+    let p = err_from_is_err_and c.from_residual.result c.from_residual.ensures.1 in
+    λ unsent own. c.in_err-ending.ensures.kept unsent (rw (p.1, p.2) at own) ∙ c.pieces.invariant.kept (unsent_before_front c.in_err-ending.ensures.copies.2 unsent)
+
+pub returns-clause-writes : goal.returns-clause-writes
+returns-clause-writes g c =
+    let held : Option (List (List ℕ)) = g.A.Archives.held c.args.archives.now in
+    let span : Reading = span_reading c.args.message in
+    let i = c.pieces.invariant in
+    let j = i.joins in
+    let feeds : List ℕ = c.feeds.result.now in
+    let none : coming_count c.pieces.part ≡ 0 = grind (arith, nat_tests) in
+    let told : Tells (option_map closed (coming held span)) (j.0 ++ feeds_of (ending_of j.0)) = closed_told held (g.A.Archives.number c.args.archives.now) span c.pieces.part j.0 c.requires.inside (omega (arith, c.requires.some)) j.1 none i.inside in
+    let same : feeds_of (ending_of j.0) ≡ feeds = ap feeds_of (sym j.2) ∙ sym c.feeds.ensures in
+    writes_less (g.O.Out.taken c.args.out.now) (g.O.Out.taken c.push.new.out) c.args.sheet.now c.push.new.self (option_map closed (coming held span)) (j.0 ++ feeds) c.push.result (rw same at told)
+    (writes_next (g.O.Out.taken c.args.out.now) (g.O.Out.taken c.pieces.out) (g.O.Out.taken c.push.new.out) c.args.sheet.now c.pieces.sheet c.push.new.self (Some j.0) (Some feeds) c.push.result (j.0, refl, j.3) c.push.ensures.writes)
+
+pub returns-clause-kept : goal.returns-clause-kept
+returns-clause-kept g c =
+    λ unsent own. c.push.ensures.kept unsent own ∙ c.pieces.invariant.kept (unsent_before_writes _ _ c.pieces.sheet c.push.new.self (Some c.feeds.result.now) c.push.result c.push.ensures.writes unsent)

@@ -1,0 +1,23 @@
+use Rattle.std.proofs.Common.{◌≡◌, ℕ, List, ◌++◌}
+use Rattle.std.specs.Option.{option_map}
+use Rattle.mail_answer.specs.Inside.Endings.{ending_of}
+use Rattle.mail_answer.specs.Inside.Readings.{coming, coming_count, span_reading, IsInside}
+use Rattle.mail_answer.specs.Sheets.{Joins}
+use Rattle.mail_answer.proofs.output.mbox.push_closed.Given as goal
+
+-- some pieces joined the answer; they and what is left are the span
+abbrev pub invariant-pieces : goal.invariant-pieces
+invariant-pieces g l = record {
+  held : g.A.Archives.held l.archives ≡ g.A.Archives.held l.fn.archives;
+  number : g.A.Archives.number l.archives ≡ g.A.Archives.number l.fn.archives;
+  inside : IsInside (g.A.Archives.number l.fn.archives) (g.A.Archives.held l.fn.archives) l.part;
+  joins : (text : List ℕ)
+      × (coming (g.A.Archives.held l.fn.archives) (span_reading l.fn.message) ≡ option_map (λ bytes. text ++ bytes) (coming (g.A.Archives.held l.fn.archives) l.part))
+      × (l.ending ≡ ending_of text) × Joins (g.O.Out.taken l.fn.out) (g.O.Out.taken l.out) l.fn.sheet l.sheet text;
+  kept : l.sheet.sent ≡ 0 → l.out ≡ l.fn.out;
+  out_count : g.O.Out.failures l.out ≡ g.O.Out.failures l.fn.out;
+  archives_count : g.A.Archives.failures l.archives ≡ g.A.Archives.failures l.fn.archives;
+}
+
+abbrev pub decreases-pieces : goal.decreases-pieces
+decreases-pieces g l = coming_count l.part

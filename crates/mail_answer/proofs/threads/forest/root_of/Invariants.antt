@@ -1,0 +1,16 @@
+use Rattle.std.proofs.Common.{◌≤◌}
+use Rattle.mail_index.specs.Tables.{Table}
+use Rattle.mail_answer.specs.Threads.{IsInThread}
+use Rattle.mail_answer.specs.Inside.Forests.{StaysInThreads, AreInOneTree, Shortens}
+use Rattle.mail_answer.proofs.threads.forest.root_of.Given as goal
+
+abbrev pub invariant-loop-parents : goal.invariant-loop-parents
+invariant-loop-parents l = record {
+  shortened : Shortens l.initial.parents l.parents;
+  before : l.root ≤ l.number;
+  same : AreInOneTree l.parents l.number l.root;
+  thread : (t : Table) → StaysInThreads t l.initial.parents → IsInThread t l.number l.root;
+}
+
+abbrev pub decreases-loop-parents : goal.decreases-loop-parents
+decreases-loop-parents l = l.root

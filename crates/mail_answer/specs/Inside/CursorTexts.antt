@@ -1,0 +1,47 @@
+-- Walks along posting lists while they are gathered.
+use Rattle.std.specs.Prelude.{◌≡◌, ℕ, ◌+◌, ◌≤◌, Bool, false, ◌||◌, cond, List, [], ◌∷◌, length, filter}
+use Rattle.std.specs.List.{list_any, AllByRecursion}
+use Rattle.mail_index.specs.declared.kind.Kind.{Kind}
+use Rattle.mail_index.specs.Tables.{Key}
+use Rattle.mail_answer.specs.TableFacts.{texts_with}
+use Rattle.mail_index.specs.LookUps.{keys_of}
+use Rattle.mail_answer.specs.declared.cursor.fit.Fit.{Fit}
+use Rattle.mail_answer.specs.declared.cursor.fit.Fit.TheVariants.{Whole, Within, Front}
+use Rattle.mail_answer.specs.Marks.{truth_at}
+use Rattle.mail_answer.specs.Cursors.{numbers_of_keys}
+use Rattle.mail_answer.specs.CursorAhead.{Ahead, left_in}
+use Rattle.mail_answer.specs.Inside.CursorLists.{AreNumbers}
+
+-- the message comes in some walk
+abbrev pub some_has : ℕ → List Ahead → Bool
+some_has m [] = false
+some_has m (w ∷ ws) = truth_at w.truths m || some_has m ws
+
+-- the messages whose numbers pass the test joined, and not more than so many steps
+pub record Joins (test : ℕ → Bool) (most : ℕ) (old new : List Ahead) : Type 0 where
+  pub each : (m : ℕ) → some_has m new ≡ (some_has m old || test m)
+  pub left : left_in new ≤ left_in old + most
+
+-- how long the lists of those keys are together whose texts pass
+abbrev pub numbers_passing : (List ℕ → Bool) → List (List ℕ × List ℕ) → ℕ
+numbers_passing passes [] = 0
+numbers_passing passes (k ∷ ks) = cond (passes k.0) (length k.1) 0 + numbers_passing passes ks
+
+-- rising numbers of so many messages each
+abbrev pub HaveNumbers : ℕ → List (List ℕ × List ℕ) → Type 0
+HaveNumbers count keys = AllByRecursion (λ k. AreNumbers count k.1) keys
+
+-- some text of one of these kinds passes
+abbrev pub some_of_kinds : List Kind → (List ℕ → Bool) → List Key → ℕ → Bool
+some_of_kinds [] passes keys m = false
+some_of_kinds (kind ∷ kinds) passes keys m = list_any passes (texts_with kind m keys) || some_of_kinds kinds passes keys m
+
+-- how long the lists of the keys of a kind are together whose texts pass
+abbrev pub numbers_fitting : (List ℕ → Bool) → List Key → Kind → ℕ
+numbers_fitting passes keys kind = numbers_of_keys (filter (λ k. passes k.text) (keys_of kind keys))
+
+-- how many keys are looked up in each kind
+abbrev pub looked_up_by : Fit → ℕ
+looked_up_by Whole = 1
+looked_up_by Within = 0
+looked_up_by Front = 0

@@ -1,0 +1,162 @@
+//! Whether archives have the bytes that were indexed.
+ghost use Rattle.std.specs.Prelude.{◌≡◌, ◌≢◌, ◌<◌, ◌≤◌, ◌-◌, ◌^◌, false, length, min, None, Err, IfOk, IfErr, OnOk, IfSome};
+ghost use Rattle.contract_words.specs.Devices.{Counted};
+ghost use Rattle.mail_index.specs.Tables.{IsWellFormed};
+ghost use Rattle.mail_answer.specs.Answers.{fails_by};
+ghost use Rattle.mail_answer.specs.Archives.{archive_at};
+ghost use Rattle.mail_answer.specs.Inside.Digests.{front_digest, AbsorbsPart};
+ghost use Rattle.mail_answer.specs.Faults.{has_fault, is_of_archives, is_of_output};
+ghost use Rattle.mail_answer.specs.Stale.{stale_archive, TellsStale};
+ghost use Rattle.mail_answer.specs.Verified.{first_altered, TellsFound, TellsVerified};
+
+use crate::archives::Archives;
+use crate::archives::stale::check_archives;
+use crate::fault::{AnswerFault, AnswerFaultKind};
+use mail_index::IndexView;
+use sha2::{Digest, Sha256};
+use std::alloc::Global;
+
+/// So many bytes are asked for at a read.
+const PIECE: usize = 131_072;
+
+/// Takes the next bytes of an archive, from an offset on, into a digest, and answers how many they are.
+fn digest_piece<A: Archives>(
+    archives: &mut A,
+    archive: u32,
+    offset: u64,
+    room: &mut [u8],
+    hasher: &mut Sha256,
+) -> Result<usize, AnswerFaultKind>
+    requires below { archive < A.number archives.old }
+    requires room { 0 < length room.old }
+    requires count { A.failures archives.old < 2 ^ 64 - 1 }
+    ensures held { A.held archives.new ≡ A.held archives.old }
+    ensures number { A.number archives.new ≡ A.number archives.old }
+    ensures bound { IfOk result (λ count. count ≤ length room.old) }
+    ensures part { IfOk result (λ count. AbsorbsPart archive offset count (A.held archives.old) hasher.old hasher.new) }
+    ensures count { Counted (has_fault is_of_archives result) (A.failures archives.old) (A.failures archives.new) }
+    ensures own { IfErr result (λ kind. kind ≡ AnswerFaultKind.Device) }
+{
+    match archives.read_at(archive, offset, room) {
+        Ok(count) => {
+            hasher.update(&room[..count]);
+            Ok(count)
+        }
+        Err(_) => Err(AnswerFaultKind::Device),
+    }
+}
+
+/// The digest of the first `indexed_length` bytes of an archive, read piece by piece through a buffer. None where it ends before them.
+fn read_digest<A: Archives>(
+    archives: &mut A,
+    archive: u32,
+    indexed_length: u64,
+    buffer: &mut [u8],
+) -> Result<Option<[u8; 32]>, AnswerFaultKind>
+    requires below { archive < A.number archives.old }
+    requires room { 0 < length buffer.old }
+    requires count { A.failures archives.old < 2 ^ 64 - 1 }
+    ensures held { A.held archives.new ≡ A.held archives.old }
+    ensures number { A.number archives.new ≡ A.number archives.old }
+    ensures digest { IfOk result (λ digest. IfSome (A.held archives.old) (λ bytes. digest ≡ front_digest indexed_length (archive_at bytes archive))) }
+    ensures count { Counted (has_fault is_of_archives result) (A.failures archives.old) (A.failures archives.new) }
+    ensures own { IfErr result (λ kind. kind ≡ AnswerFaultKind.Device) }
+{
+    let mut hasher = Sha256::new();
+    let mut at: u64 = 0;
+    'pieces: while at < indexed_length {
+        let most = (indexed_length - at).min(buffer.len() as u64) as usize;
+        let count = digest_piece(archives, archive, at, &mut buffer[..most], &mut hasher)?;
+        if count == 0 {
+            return Ok(None);
+        }
+        at += count as u64;
+    }
+    Ok(Some(hasher.finalize()))
+}
+
+/// Finds the first archive with another digest than was indexed, through a buffer. All are as long as they were indexed.
+fn check_digests<A: Archives>(
+    index: &IndexView<'_>,
+    archives: &mut A,
+    buffer: &mut [u8],
+) -> Result<(), AnswerFaultKind>
+    requires table { IsWellFormed index.now }
+    requires version { index.now.version ≡ 2 }
+    requires number { A.number archives.old ≡ length index.now.archives }
+    requires fresh { IfSome (A.held archives.old) (λ bytes. stale_archive index.now.archives bytes ≡ None) }
+    requires room { 0 < length buffer.old }
+    requires count { A.failures archives.old < 2 ^ 64 - 1 }
+    ensures held { A.held archives.new ≡ A.held archives.old }
+    ensures number { A.number archives.new ≡ A.number archives.old }
+    ensures altered { IfSome (A.held archives.old) (λ bytes. TellsStale (first_altered 0 index.now.archives bytes) result) }
+    ensures count { Counted (has_fault is_of_archives result) (A.failures archives.old) (A.failures archives.new) }
+    ensures own { has_fault is_of_output result ≡ false }
+{
+    let mut named = index.archives();
+    for n in 0..index.archive_count() {
+        let Some(archive) = named.next() else {
+            unreachable!();
+        };
+        let Some(indexed) = archive.digest else {
+            unreachable!();
+        };
+        match read_digest(archives, n, archive.length, buffer)? {
+            Some(digest) if digest == indexed => {}
+            _ => return Err(AnswerFaultKind::Stale(n)),
+        }
+    }
+    Ok(())
+}
+
+/// Finds the first archive that isn't the one that was indexed: by their count, by their lengths, and then by their digests.
+fn verify_each<A: Archives>(
+    alloc: Global,
+    index: &IndexView<'_>,
+    archives: &mut A,
+) -> Result<(), AnswerFaultKind>
+    requires table { IsWellFormed index.now }
+    requires version { index.now.version ≡ 2 }
+    requires count { A.failures archives.old < 2 ^ 64 - 1 }
+    ensures held { A.held archives.new ≡ A.held archives.old }
+    ensures number { A.number archives.new ≡ A.number archives.old }
+    ensures verified { IfSome (A.held archives.old) (λ bytes. TellsFound index.now.archives bytes result) }
+    ensures same_count { OnOk result (A.number archives.old ≡ length index.now.archives) }
+    ensures other_count { A.number archives.old ≢ length index.now.archives → result ≡ Err (AnswerFaultKind.Stale (min (A.number archives.old) (length index.now.archives))) }
+    ensures count { Counted (has_fault is_of_archives result) (A.failures archives.old) (A.failures archives.new) }
+    ensures own { has_fault is_of_output result ≡ false }
+{
+    // Want of memory would hide changed archives if the buffer came first.
+    check_archives(index, archives)?;
+    let mut buffer = vec![in alloc; 0u8; PIECE]?;
+    check_digests(index, archives, buffer.as_mut_slice())
+}
+
+/// Reads every archive through, and compares the SHA-256 of its bytes with the digest that an index of version 2 has of it. Memory
+/// is taken for one buffer, whatever the archives hold.
+///
+/// # Errors
+///
+/// Stale where there is another count of archives than was indexed, of which it tells the smaller; else for the first archive of
+/// another length; else for the first whose bytes have another digest, or that ends before its length. Counts and lengths come
+/// before memory is taken. No byte goes out, so that no fault has any as sent.
+pub fn verify<A: Archives>(
+    alloc: Global,
+    index: &IndexView<'_>,
+    archives: &mut A,
+) -> Result<(), AnswerFault>
+    requires version { index.now.version ≡ 2 }
+    requires archives { A.failures archives.old < 2 ^ 64 - 1 }
+    ensures held { A.held archives.new ≡ A.held archives.old }
+    ensures number { A.number archives.new ≡ A.number archives.old }
+    ensures verified { IfSome (A.held archives.old) (λ bytes. TellsVerified index.now.archives bytes result) }
+    ensures same_count { OnOk result (A.number archives.old ≡ length index.now.archives) }
+    ensures other_count { A.number archives.old ≢ length index.now.archives → result ≡ Err (record { kind = AnswerFaultKind.Stale (min (A.number archives.old) (length index.now.archives)); sent = 0 }) }
+    ensures archives_count { Counted (fails_by is_of_archives result) (A.failures archives.old) (A.failures archives.new) }
+    ensures unwritten { IfErr result (λ fault. (fault.sent ≡ 0) × (is_of_output fault.kind ≡ false)) }
+{
+    match verify_each(alloc, &index.again(), archives) {
+        Ok(()) => Ok(()),
+        Err(kind) => Err(AnswerFault { kind, sent: 0 }),
+    }
+}

@@ -1,0 +1,11 @@
+//! The forms of an answer: lines, excerpts and an mbox, and the sheet on which their bytes are gathered.
+
+pub mod ending;
+pub mod excerpt;
+pub mod header_reads;
+pub mod line_reader;
+pub mod mbox;
+pub mod places;
+pub mod raw_answer;
+pub mod raw_line;
+pub mod sheet;

@@ -1,0 +1,119 @@
+//! How the last line of some bytes stands.
+ghost use Rattle.std.specs.Prelude.{◌≡◌, ◌<◌, ℕ, List, [], ◌∷◌, ◌++◌, length, IfSome};
+ghost use Rattle.mail_answer.specs.declared.output.ending.Ending.TheVariants.{Open};
+ghost use Rattle.mail_answer.specs.Inside.Endings.{ending_of, line_of as line_of_byte, with_byte as with_byte_of, feeds_of};
+
+use memchr::memrchr;
+
+/// A line without LF has at most so many bytes.
+const LONGEST: u32 = 65_536;
+
+/// How the last line of some bytes stands.
+#[derive(Clone, Copy, Debug)]
+pub(crate) enum Ending {
+    /// It is LF, or CR LF.
+    Empty,
+    /// It is longer, and ends in LF.
+    Ended,
+    /// It is CR.
+    Return,
+    /// It has so many other bytes and no LF, or 0 where there is no line.
+    Open(u32),
+}
+
+/// A line of this byte.
+fn line_of(b: u8) -> Ending
+    ensures { result ≡ line_of_byte b }
+{
+    if b == b'\n' {
+        Ending::Empty
+    } else if b == b'\r' {
+        Ending::Return
+    } else {
+        Ending::Open(1)
+    }
+}
+
+/// A line of so many bytes without LF, and a byte more.
+fn open_with(n: u32, b: u8) -> Ending
+    ensures { result ≡ with_byte_of (Open n) b }
+{
+    if n == 0 {
+        line_of(b)
+    } else if b == b'\n' {
+        Ending::Ended
+    } else if n < LONGEST {
+        Ending::Open(n + 1)
+    } else {
+        line_of(b)
+    }
+}
+
+/// With a byte more.
+fn with_byte(ending: Ending, b: u8) -> Ending
+    ensures { result ≡ with_byte_of ending b }
+{
+    match ending {
+        Ending::Empty => line_of(b),
+        Ending::Ended => line_of(b),
+        Ending::Return => {
+            if b == b'\n' {
+                Ending::Empty
+            } else {
+                Ending::Open(2)
+            }
+        }
+        Ending::Open(n) => open_with(n, b),
+    }
+}
+
+/// With these bytes more, each looked at.
+fn with_each(before: Ending, more: &[u8]) -> Ending
+    ensures { (bytes : List ℕ) → before ≡ ending_of bytes → result ≡ ending_of (bytes ++ more.now) }
+{
+    let mut ending = before;
+    for b in more {
+        ending = with_byte(ending, *b);
+    }
+    ending
+}
+
+/// The bytes behind the last LF that isn't the last byte.
+fn behind_last_feed(bytes: &[u8]) -> Option<&[u8]>
+    ensures { IfSome result (λ rest. (front : List ℕ) × (bytes.now ≡ front ++ 10 ∷ rest.now) × (0 < length rest.now)) }
+{
+    let most = bytes.len().checked_sub(1)?;
+    let at = memrchr(b'\n', &bytes[..most])?;
+    Some(&bytes[at + 1..])
+}
+
+impl Ending {
+    /// Of no bytes.
+    pub(crate) fn new() -> Self
+        ensures { result ≡ ending_of [] }
+    {
+        Ending::Open(0)
+    }
+
+    /// With these bytes more. It looks at the last line alone.
+    pub(crate) fn with_bytes(self, more: &[u8]) -> Self
+        ensures { (bytes : List ℕ) → self ≡ ending_of bytes → result ≡ ending_of (bytes ++ more.now) }
+    {
+        match behind_last_feed(more) {
+            Some(rest) => with_each(Ending::new(), rest),
+            None => with_each(self, more),
+        }
+    }
+
+    /// The LFs that make the last line empty.
+    pub(crate) fn feeds(self) -> &'static [u8]
+        ensures { result.now ≡ feeds_of self }
+    {
+        match self {
+            Ending::Empty => b"",
+            Ending::Ended => b"\n",
+            Ending::Return => b"\n",
+            Ending::Open(_) => b"\n\n",
+        }
+    }
+}

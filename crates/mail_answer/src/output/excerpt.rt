@@ -1,0 +1,133 @@
+//! The excerpt of a message.
+ghost use Rattle.std.specs.Prelude.{◌≡◌, ◌<◌, ◌-◌, ◌^◌, ℕ, List, ◌∷◌, ◌++◌, false, length, None, IfOk, OnOk, IfSome};
+ghost use Rattle.std.specs.Str.{bytes_eq, str_to_ascii_lowercase};
+ghost use Rattle.contract_words.specs.Devices.{Counted};
+ghost use Rattle.header_text.specs.EncodedWords.{decoded};
+ghost use Rattle.header_text.specs.HeldLines.{HasLines};
+ghost use Rattle.header_text.specs.Headers.{fields_of};
+ghost use Rattle.header_text.specs.Unfolding.{unfolded};
+ghost use Rattle.mail_answer.specs.Excerpts.{first_body as first_body_of, shown_byte as shown_byte_of, without_controls, field_line, excerpt_lines};
+ghost use Rattle.mail_answer.specs.Faults.{has_fault, is_of_output, is_of_archives, is_stale};
+ghost use Rattle.mail_answer.specs.Shapes.{known_message};
+ghost use Rattle.mail_answer.specs.Sheets.{Writes};
+ghost use Rattle.mail_answer.specs.Stale.{stale_archive};
+ghost use Rattle.mail_answer.specs.declared.format.Format.TheVariants.{Excerpt};
+ghost use Rattle.mail_index.specs.Tables.{IsWellFormed};
+
+use crate::archives::Archives;
+use crate::fault::AnswerFaultKind;
+use crate::output::header_reads::read_header;
+use crate::output::places::Places;
+use crate::output::sheet::Sheet;
+use header_text::{Fields, Header, decode_words, unfold};
+use mbox_cutter::Out;
+use std::alloc::{AllocError, Global};
+
+/// The body of the first field of a name, empty where it is missing.
+fn first_body<'a>(fields: Fields<'a>, name: &str) -> &'a [u8]
+    ensures { result.now ≡ first_body_of name.now fields.entry }
+{
+    for field in fields {
+        if is_named(field.name, name.as_bytes()) {
+            return field.body;
+        }
+    }
+    b""
+}
+
+/// Whether two names are the same, in any ASCII case.
+fn is_named(name: &[u8], wanted: &[u8]) -> bool
+    ensures { result ≡ bytes_eq (str_to_ascii_lowercase name.now) (str_to_ascii_lowercase wanted.now) }
+{
+    name.eq_ignore_ascii_case(wanted)
+}
+
+fn shown_byte(b: u8) -> u8
+    ensures { result ≡ shown_byte_of b }
+{
+    if b < 32 || b == 127 { b' ' } else { b }
+}
+
+/// Makes a space of each character below U+0020, and of U+007F.
+fn hide_controls(text: &mut [u8])
+    ensures { text.new ≡ without_controls text.old }
+{
+    for b in text.iter_mut() {
+        *b = shown_byte(*b);
+    }
+}
+
+/// The value of a field's body, in one line and without control characters.
+fn shown_value(alloc: Global, body: &[u8]) -> Result<Vec<u8>, AllocError>
+    ensures { IfOk result (λ value. value.items ≡ without_controls (decoded (unfolded body.now))) }
+{
+    let unfolded = unfold(alloc, body)?;
+    let mut value = decode_words(alloc, &unfolded)?.into_bytes();
+    hide_controls(value.as_mut_slice());
+    Ok(value)
+}
+
+/// Adds a field: its name, a colon, its value behind a space, if it isn't empty, and LF.
+fn push_field(
+    alloc: Global,
+    header: &Header,
+    name: &str,
+    text: &mut Vec<u8>,
+) -> Result<(), AllocError>
+    ensures { OnOk result ((ls : List (List ℕ)) → HasLines header.now ls → text.new.items ≡ text.old.items ++ field_line (fields_of ls) name.now) }
+{
+    let value = shown_value(alloc, first_body(header.fields(), name))?;
+    text.extend_from_slice(name.as_bytes())?;
+    text.push(b':')?;
+    if !value.is_empty() {
+        text.push(b' ')?;
+        text.extend_from_slice(&value)?;
+    }
+    text.push(b'\n')?;
+    Ok(())
+}
+
+/// The excerpt of a message of this header: the path of its archive, and five fields.
+fn excerpt_text(alloc: Global, path: &str, header: &Header) -> Result<Vec<u8>, AllocError>
+    ensures { IfOk result (λ text. (ls : List (List ℕ)) → HasLines header.now ls → text.items ≡ path.now ++ 10 ∷ excerpt_lines (fields_of ls)) }
+{
+    let mut text = Vec::new(alloc);
+    text.extend_from_slice(path.as_bytes())?;
+    text.push(b'\n')?;
+    push_field(alloc, header, "To", &mut text)?;
+    push_field(alloc, header, "Cc", &mut text)?;
+    push_field(alloc, header, "From", &mut text)?;
+    push_field(alloc, header, "Subject", &mut text)?;
+    push_field(alloc, header, "Date", &mut text)?;
+    Ok(text)
+}
+
+/// Adds the excerpt of the message of this number to an answer.
+pub(crate) fn push_excerpt<A: Archives, O: Out>(
+    alloc: Global,
+    places: &mut Places<'_>,
+    n: u32,
+    archives: &mut A,
+    sheet: &mut Sheet,
+    out: &mut O,
+) -> Result<(), AnswerFaultKind>
+    requires table { IsWellFormed places.old.table }
+    requires below { n < length places.old.table.messages }
+    requires number { A.number archives.old ≡ length places.old.table.archives }
+    requires fresh { IfSome (A.held archives.old) (λ bytes. stale_archive places.old.table.archives bytes ≡ None) }
+    requires archives { A.failures archives.old < 2 ^ 64 - 1 }
+    requires out { O.failures out.old < 2 ^ 64 - 1 }
+    ensures held { A.held archives.new ≡ A.held archives.old }
+    ensures number { A.number archives.new ≡ A.number archives.old }
+    ensures same { places.new.table ≡ places.old.table }
+    ensures writes { Writes (O.taken out.old) (O.taken out.new) sheet.old sheet.new (known_message Excerpt places.old.table (A.held archives.old) n) result }
+    ensures kept { sheet.new.sent ≡ 0 → has_fault is_of_output result ≡ false → out.new ≡ out.old }
+    ensures out_count { Counted (has_fault is_of_output result) (O.failures out.old) (O.failures out.new) }
+    ensures archives_count { Counted (has_fault is_of_archives result) (A.failures archives.old) (A.failures archives.new) }
+    ensures fresh { IfSome (A.held archives.old) (λ _. has_fault is_stale result ≡ false) }
+{
+    let message = places.index().message(n);
+    let header = read_header(alloc, message, archives)?;
+    let text = excerpt_text(alloc, places.path_of(message.archive), &header)?;
+    sheet.push(out, &text)
+}

@@ -1,0 +1,146 @@
+//! A message in the form of mbox archives.
+ghost use Rattle.std.specs.Prelude.{◌≡◌, ◌<◌, ◌-◌, ◌^◌, false, length, nat_eq, None, OnOk, IfSome};
+ghost use Rattle.std.specs.Option.{option_map};
+ghost use Rattle.contract_words.specs.Devices.{Counted};
+ghost use Rattle.mail_index.specs.Tables.{IsWellFormed};
+ghost use Rattle.mail_answer.specs.Inside.Copies.{Copies};
+ghost use Rattle.mail_answer.specs.Faults.{has_fault, is_of_output, is_of_archives, is_stale};
+ghost use Rattle.mail_answer.specs.Inside.Readings.{coming, coming_count, span_reading, IsInside};
+ghost use Rattle.mail_answer.specs.Shapes.{closed, known_message};
+ghost use Rattle.mail_answer.specs.Sheets.{Writes};
+ghost use Rattle.mail_answer.specs.Stale.{stale_archive};
+ghost use Rattle.mail_answer.specs.declared.format.Format.TheVariants.{Mbox};
+
+use crate::archives::Archives;
+use crate::fault::AnswerFaultKind;
+use crate::output::ending::Ending;
+use crate::output::line_reader::read_behind;
+use crate::output::sheet::Sheet;
+use mail_index::{IndexView, Record};
+use mbox_cutter::Out;
+use std::marker::Model;
+
+/// So many bytes are asked for at a read.
+const PIECE: u64 = 65_536;
+
+/// A part of an archive that is still to be copied.
+#[derive(Drop)]
+struct Part {
+    archive: u32,
+    next: u64,
+    left: u64,
+}
+
+impl Model for Part {
+    ghost use Rattle.std.specs.Prelude.{[]};
+    ghost use Rattle.mail_answer.specs.Inside.Readings.{Reading};
+
+    ghost Value = { Reading };
+
+    ghost view = { λ s. record { archive = s.archive; unread = []; next = s.next; left = s.left } };
+}
+
+impl Part {
+    /// The bytes of a message.
+    fn of(message: Record) -> Self
+        ensures { result ≡ span_reading message }
+    {
+        Part {
+            archive: message.archive,
+            next: message.offset,
+            left: message.length,
+        }
+    }
+
+    /// Whether all of it was copied.
+    fn is_copied(&self) -> bool
+        ensures { result ≡ nat_eq (coming_count self.now) 0 }
+    {
+        self.left == 0
+    }
+
+    /// Reads its next piece behind what an answer has gathered, which goes out where it is enough; answers how the last line stands.
+    fn copy_piece<A: Archives, O: Out>(
+        &mut self,
+        before: Ending,
+        archives: &mut A,
+        sheet: &mut Sheet,
+        out: &mut O,
+    ) -> Result<Ending, AnswerFaultKind>
+        requires inside { IsInside (A.number archives.old) (A.held archives.old) self.old }
+        requires some { 0 < coming_count self.old }
+        requires archives { A.failures archives.old < 2 ^ 64 - 1 }
+        requires out { O.failures out.old < 2 ^ 64 - 1 }
+        ensures held { A.held archives.new ≡ A.held archives.old }
+        ensures number { A.number archives.new ≡ A.number archives.old }
+        ensures inside { OnOk result (IsInside (A.number archives.old) (A.held archives.old) self.new) }
+        ensures copies { Copies (O.taken out.old) (O.taken out.new) sheet.old sheet.new (coming (A.held archives.old) self.old) (coming (A.held archives.old) self.new) before result }
+        ensures less { OnOk result (coming_count self.new < coming_count self.old) }
+        ensures kept { sheet.new.sent ≡ 0 → has_fault is_of_output result ≡ false → out.new ≡ out.old }
+        ensures out_count { Counted (has_fault is_of_output result) (O.failures out.old) (O.failures out.new) }
+        ensures archives_count { Counted (has_fault is_of_archives result) (A.failures archives.old) (A.failures archives.new) }
+        ensures fresh { IfSome (A.held archives.old) (λ _. has_fault is_stale result ≡ false) }
+    {
+        let gathered = sheet.text.len();
+        let most = self.left.min(PIECE) as usize;
+        let n = read_behind(archives, self.archive, self.next, most, &mut sheet.text)?;
+        self.next += n as u64;
+        self.left -= n as u64;
+        let ending = before.with_bytes(&sheet.text[gathered..]);
+        sheet.send_full(out)?;
+        Ok(ending)
+    }
+}
+
+/// Adds the bytes of a message to an answer, and what closes them.
+fn push_closed<A: Archives, O: Out>(
+    message: Record,
+    archives: &mut A,
+    sheet: &mut Sheet,
+    out: &mut O,
+) -> Result<(), AnswerFaultKind>
+    requires inside { IsInside (A.number archives.old) (A.held archives.old) (span_reading message) }
+    requires some { 0 < message.length }
+    requires archives { A.failures archives.old < 2 ^ 64 - 1 }
+    requires out { O.failures out.old < 2 ^ 64 - 1 }
+    ensures held { A.held archives.new ≡ A.held archives.old }
+    ensures number { A.number archives.new ≡ A.number archives.old }
+    ensures writes { Writes (O.taken out.old) (O.taken out.new) sheet.old sheet.new (option_map closed (coming (A.held archives.old) (span_reading message))) result }
+    ensures kept { sheet.new.sent ≡ 0 → has_fault is_of_output result ≡ false → out.new ≡ out.old }
+    ensures out_count { Counted (has_fault is_of_output result) (O.failures out.old) (O.failures out.new) }
+    ensures archives_count { Counted (has_fault is_of_archives result) (A.failures archives.old) (A.failures archives.new) }
+    ensures fresh { IfSome (A.held archives.old) (λ _. has_fault is_stale result ≡ false) }
+{
+    let mut part = Part::of(message);
+    let mut ending = Ending::new();
+    'pieces: while !part.is_copied() {
+        ending = part.copy_piece(ending, archives, sheet, out)?;
+    }
+    sheet.push(out, ending.feeds())
+}
+
+/// Adds the bytes of the message of this number to an answer, and what closes them. They go through one buffer, and out of it in
+/// pieces of at least as many bytes as a full sheet has.
+pub(crate) fn push_mbox<A: Archives, O: Out>(
+    index: &IndexView<'_>,
+    n: u32,
+    archives: &mut A,
+    sheet: &mut Sheet,
+    out: &mut O,
+) -> Result<(), AnswerFaultKind>
+    requires table { IsWellFormed index.now }
+    requires below { n < length index.now.messages }
+    requires number { A.number archives.old ≡ length index.now.archives }
+    requires fresh { IfSome (A.held archives.old) (λ bytes. stale_archive index.now.archives bytes ≡ None) }
+    requires archives { A.failures archives.old < 2 ^ 64 - 1 }
+    requires out { O.failures out.old < 2 ^ 64 - 1 }
+    ensures held { A.held archives.new ≡ A.held archives.old }
+    ensures number { A.number archives.new ≡ A.number archives.old }
+    ensures writes { Writes (O.taken out.old) (O.taken out.new) sheet.old sheet.new (known_message Mbox index.now (A.held archives.old) n) result }
+    ensures kept { sheet.new.sent ≡ 0 → has_fault is_of_output result ≡ false → out.new ≡ out.old }
+    ensures out_count { Counted (has_fault is_of_output result) (O.failures out.old) (O.failures out.new) }
+    ensures archives_count { Counted (has_fault is_of_archives result) (A.failures archives.old) (A.failures archives.new) }
+    ensures fresh { IfSome (A.held archives.old) (λ _. has_fault is_stale result ≡ false) }
+{
+    push_closed(index.message(n), archives, sheet, out)
+}

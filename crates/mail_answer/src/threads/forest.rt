@@ -1,0 +1,104 @@
+//! Messages in trees, which are joined until each tree is a thread.
+//!
+//! A slice has each message's parent: a message before it in its thread, or, of a root, itself. Ways to a root are halved whenever
+//! they are walked, which keeps the joining near linear without ranks.
+ghost use Rattle.std.specs.Prelude.{◌≡◌, ℕ, ◌<◌, ◌≤◌, length, slice_index, slice_set, IfOk};
+ghost use Rattle.std.specs.List.{range_with_len, AllByRecursion};
+ghost use Rattle.mail_index.specs.Tables.{Table};
+ghost use Rattle.mail_answer.specs.Threads.{IsInThread};
+ghost use Rattle.mail_answer.specs.Inside.Forests.{LeadsBack, StaysInThreads, AreInOneTree, Shortens, Unites, AreBothAmong, ShareKey};
+
+use mail_index::{Keys, Postings, Steps};
+use std::alloc::{AllocError, Global};
+
+/// So many messages, each the root of a tree of its own.
+pub(crate) fn single_messages(alloc: Global, count: u32) -> Result<Vec<u32>, AllocError>
+    ensures { IfOk result (λ v. v.items ≡ range_with_len 0 count) }
+{
+    let mut parents = Vec::with_capacity(alloc, count as usize)?;
+    for number in 0..count {
+        parents.push(number)?;
+    }
+    Ok(parents)
+}
+
+/// Makes a message the child of its parent's parent, which is answered.
+fn lift(parents: &mut [u32], number: usize) -> u32
+    requires back { LeadsBack parents.old }
+    requires within { number < length parents.old }
+    ensures value { result ≡ slice_index parents.old (slice_index parents.old number) }
+    ensures after { parents.new ≡ slice_set parents.old number result }
+{
+    let parent = parents[number] as usize;
+    let next = parents[parent];
+    parents[number] = next;
+    next
+}
+
+/// The root of the tree that has the message. The way to it gets shorter: each second message on it is lifted.
+fn root_of(parents: &mut [u32], number: u32) -> u32
+    requires back { LeadsBack parents.old }
+    requires within { number < length parents.old }
+    ensures shortened { Shortens parents.old parents.new }
+    ensures root { slice_index parents.new result ≡ result }
+    ensures before { result ≤ number }
+    ensures same { AreInOneTree parents.new number result }
+    ensures thread { (t : Table) → StaysInThreads t parents.old → IsInThread t number result }
+{
+    let mut root = number;
+    while parents[root as usize] != root {
+        root = lift(parents, root as usize);
+    }
+    root
+}
+
+/// Makes the trees of two messages one: the later root is hung at the earlier one.
+fn unite(parents: &mut [u32], number: u32, other: u32)
+    requires back { LeadsBack parents.old }
+    requires within { number < length parents.old }
+    requires other_within { other < length parents.old }
+    ensures { Unites (λ m n. (m ≡ number) × (n ≡ other)) parents.old parents.new }
+{
+    let first = root_of(parents, number);
+    let second = root_of(parents, other);
+    if first < second {
+        parents[second as usize] = first;
+    } else {
+        parents[first as usize] = second;
+    }
+}
+
+/// Makes the trees of these messages one.
+fn unite_all(parents: &mut [u32], mut numbers: Postings<'_>, steps: &mut Steps)
+    requires back { LeadsBack parents.old }
+    requires within { AllByRecursion (λ n. n < length parents.old) numbers }
+    ensures { Unites (AreBothAmong numbers.entry) parents.old parents.new }
+{
+    if let Some(first) = numbers.next(steps) {
+        while let Some(number) = numbers.next(steps) {
+            unite(parents, first, number);
+        }
+    }
+}
+
+/// Makes the trees of messages that share one of these keys one.
+pub(crate) fn unite_by_keys(parents: &mut [u32], mut keys: Keys<'_>, steps: &mut Steps)
+    requires back { LeadsBack parents.old }
+    requires within { AllByRecursion (λ k. AllByRecursion (λ n. n < length parents.old) k.1) keys }
+    ensures { Unites (ShareKey keys.entry) parents.old parents.new }
+{
+    while let Some(key) = keys.next() {
+        unite_all(parents, key.postings, steps);
+    }
+}
+
+/// Makes each message a child of its root.
+pub(crate) fn flatten(parents: &mut [u32])
+    requires { LeadsBack parents.old }
+    ensures shortened { Shortens parents.old parents.new }
+    ensures flat { (n : ℕ) → n < length parents.old → slice_index parents.new (slice_index parents.new n) ≡ slice_index parents.new n }
+{
+    for number in 0..parents.len() {
+        lift(parents, number);
+    }
+}

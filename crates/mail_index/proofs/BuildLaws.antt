@@ -1,0 +1,12 @@
+-- Laws of an index that is built.
+pub mod BuilderSteps
+pub mod DraftLemmas
+pub mod EntryLemmas
+pub mod KeyMapLemmas
+pub mod KeyPlaces
+pub mod PageLemmas
+pub mod PairLaw
+pub mod Placing
+pub mod PostingLemmas
+pub mod SigningLemmas
+pub mod Sizes

@@ -1,0 +1,107 @@
+-- Laws of drafts: each call keeps archives and keys well-formed.
+use Rattle.std.proofs.Common.{◌≡◌, ℕ, suc, ◌+◌, ◌-◌, ◌^◌, ◌<◌, ◌≤◌, true, false, nat_lt, if◌then◌else◌, List, [], ◌∷◌, ◌++◌, length, Result, Ok, Err, OnOk, OnErr, subst, refl, sym, length-append, arith}
+use Rattle.std.specs.declared.cmp.Ordering.TheVariants.{Less, Equal, Greater}
+use Rattle.std.specs.Ordering.{match_ordering, nat_cmp}
+use Rattle.std.specs.Cmp.Lexicographic.{slice_cmp}
+use Rattle.std.specs.List.{AllByRecursion}
+use Rattle.std.proofs.lemmas.Bool.Decides.{nat_tests}
+use Rattle.mail_index.specs.declared.kind.Kind.{Kind}
+use Rattle.mail_index.specs.Kinds.{kind_number}
+use Rattle.mail_index.specs.Versions.{newest}
+use Rattle.mail_index.specs.Postings.{leb128, postings_from}
+use Rattle.mail_index.specs.PostingLists.{end_from, with_number}
+use Rattle.mail_index.specs.Tables.{Key, RisesFrom, IsKey}
+use Rattle.mail_index.specs.Builders.{Draft, with_pair}
+use Rattle.mail_index.specs.Inside.Drafts.{IsDraft, message_count}
+use Rattle.mail_index.proofs.ViewLaws.KindNumbers.{kind_number-known}
+use Rattle.mail_index.proofs.BuildLaws.PostingLemmas.{length-leb128}
+
+pub all-snoc : {A : Type 0} (P : A → Type 0) (xs : List A) (x : A) → AllByRecursion P xs → P x → AllByRecursion P (xs ++ x ∷ [])
+all-snoc P [] x all p = (p, tt)
+all-snoc P (y ∷ ys) x all p = (all.0, all-snoc P ys x all.1 p)
+
+pub all-weaker : {A : Type 0} (P Q : A → Type 0) → ((x : A) → P x → Q x) → (xs : List A) → AllByRecursion P xs → AllByRecursion Q xs
+all-weaker P Q f [] all = tt
+all-weaker P Q f (x ∷ xs) all = (f x all.0, all-weaker P Q f xs all.1)
+
+rises-snoc : (low : ℕ) (ns : List ℕ) (n : ℕ) → RisesFrom low ns → end_from low ns ≤ n → RisesFrom low (ns ++ n ∷ [])
+rises-snoc low [] n r e = (e, tt)
+rises-snoc low (x ∷ ns) n r e = (r.0, rises-snoc (suc x) ns n r.1 e)
+
+-- what holds of a list with and without a number at its end holds of the list with this number
+pub by-number : (P : List ℕ → Type 0) (ns : List ℕ) (n : ℕ) → P ns → (end_from 0 ns ≤ n → P (ns ++ n ∷ [])) → P (with_number ns n)
+unfolding with_number
+by-number P ns n stays more = (elim (nat_lt n (end_from 0 ns)) as (λ v. nat_lt n (end_from 0 ns) ≡ v → P (if v then ns else ns ++ n ∷ [])) [
+  | true ↦ λ e. stays
+  | false ↦ λ e. let new : end_from 0 ns ≤ n = grind (arith, nat_tests) in more new
+]) refl
+
+-- a key of one number more, which is below the count
+pub key-more : (count n : ℕ) (k : Key) → IsKey newest count k → n < count → IsKey newest count (record { kind = k.kind; text = k.text; numbers = with_number k.numbers n })
+key-more count n k is low = record {
+  kind = is.kind;
+  some_text = is.some_text;
+  short = is.short;
+  some_number = by-number (λ ns. 0 < length ns) k.numbers n is.some_number (λ _. omega (arith, length-append k.numbers (n ∷ [])));
+  rises = by-number (RisesFrom 0) k.numbers n is.rises (λ new. rises-snoc 0 k.numbers n is.rises new);
+  below = by-number (AllByRecursion (λ m. m < count)) k.numbers n is.below (λ _. all-snoc (λ m. m < count) k.numbers n is.below low);
+}
+
+pub key-new : (count n : ℕ) (kind : Kind) (text : List ℕ) → 0 < length text → length text < 2 ^ 32 → n < count → IsKey newest count (record { kind = kind; text = text; numbers = n ∷ [] })
+key-new count n kind text some short low = record {
+  kind = kind_number-known kind;
+  some_text = some;
+  short = short;
+  some_number = omega arith;
+  rises = (omega arith, tt);
+  below = (low, tt);
+}
+
+pub with_pair-listed : (count n : ℕ) (kind : Kind) (text : List ℕ) → 0 < length text → length text < 2 ^ 32 → n < count → (ks : List Key) → AllByRecursion (IsKey newest count) ks → AllByRecursion (IsKey newest count) (with_pair kind text n ks)
+with_pair-listed count n kind text some short low [] all = (key-new count n kind text some short low, tt)
+with_pair-listed count n kind text some short low (k ∷ ks) all =
+    elim (slice_cmp nat_cmp (kind_number kind ∷ text) (kind_number k.kind ∷ k.text)) as (λ o. AllByRecursion (IsKey newest count) (match_ordering o (record { kind = kind; text = text; numbers = n ∷ [] } ∷ k ∷ ks) (record { kind = k.kind; text = k.text; numbers = with_number k.numbers n } ∷ ks) (k ∷ with_pair kind text n ks))) [
+      | Less ↦ (key-new count n kind text some short low, all)
+      | Equal ↦ (key-more count n k all.0 low, all.1)
+      | Greater ↦ (all.0, with_pair-listed count n kind text some short low ks all.1)
+    ]
+
+-- what a call made of the keys keeps them well-formed
+pub listed-after : {T E : Type 0} (r : Result T E) (count n : ℕ) (kind : Kind) (text : List ℕ) → 0 < length text → length text < 2 ^ 32 → n < count → (ks after : List Key)
+    → OnOk r (after ≡ with_pair kind text n ks) → OnErr r (after ≡ ks) → AllByRecursion (IsKey newest count) ks → AllByRecursion (IsKey newest count) after
+listed-after (Ok _) count n kind text some short low ks after ok err all = subst (λ x. AllByRecursion (IsKey newest count) x) (sym ok) (with_pair-listed count n kind text some short low ks all)
+listed-after (Err _) count n kind text some short low ks after ok err all = subst (λ x. AllByRecursion (IsKey newest count) x) (sym err) all
+
+-- keys of so many messages are keys of more
+pub listed-weaker : (count more : ℕ) → count ≤ more → (ks : List Key) → AllByRecursion (IsKey newest count) ks → AllByRecursion (IsKey newest more) ks
+listed-weaker count more h = all-weaker (IsKey newest count) (IsKey newest more) (λ k is. record {
+  kind = is.kind;
+  some_text = is.some_text;
+  short = is.short;
+  some_number = is.some_number;
+  rises = is.rises;
+  below = all-weaker (λ n. n < count) (λ n. n < more) (λ n low. omega arith) k.numbers is.below;
+})
+
+-- ---- how many bytes the numbers take
+
+pub end_from-below : (count low : ℕ) (ns : List ℕ) → low ≤ count → AllByRecursion (λ n. n < count) ns → end_from low ns ≤ count
+end_from-below count low [] h all = h
+end_from-below count low (n ∷ ns) h all = let next : suc n ≤ count = omega (arith, all.0) in end_from-below count (suc n) ns next all.1
+
+length-postings_from : (low : ℕ) (ns : List ℕ) → RisesFrom low ns → length (postings_from low ns) + low ≤ end_from low ns
+length-postings_from low [] r = omega arith
+length-postings_from low (n ∷ ns) r =
+    let gap : 0 < suc n - low = omega (arith, r.0) in
+    omega (arith, r.0, length-append (leb128 5 (suc n - low)) (postings_from (suc n) ns), length-leb128 5 (suc n - low) gap, length-postings_from (suc n) ns r.1)
+
+-- a key's postings have at most as many bytes as there are messages
+pub length-postings : (count : ℕ) (k : Key) → IsKey newest count k → length (postings_from 0 k.numbers) ≤ count
+length-postings count k is = omega (arith, length-postings_from 0 k.numbers is.rises, end_from-below count 0 k.numbers (omega arith) is.below)
+
+-- the message that is open counts within the limit
+pub message_count-within : (d : Draft) → IsDraft d → message_count d ≤ d.most
+message_count-within d is = (elim d.in_message as (λ v. d.in_message ≡ v → (if v then suc (length d.table.messages) else length d.table.messages) ≤ d.most) [
+  | true ↦ λ open_now. omega (arith, is.open_message open_now)
+  | false ↦ λ _. is.messages
+]) refl

@@ -1,0 +1,131 @@
+-- Laws of an entry's bytes: the number of its kind, its text, and its postings.
+use Rattle.std.proofs.Common.{◌≡◌, ◌∙◌, ℕ, ◌+◌, ◌-◌, ◌^◌, ◌<◌, ◌≤◌, nat_le, Bool, true, false, cond, List, [], ◌∷◌, ◌++◌, length, take, drop, slice_index, refl, sym, ap, ap₂, subst, arith, append-nil, append_assoc, length-append}
+use Rattle.std.proofs.lemmas.Bool.Decides.{nat_tests}
+use Rattle.std.proofs.lemmas.List.{length-take, length-take-le, take-append-le, drop-append-le, drop_at}
+use Rattle.std.proofs.Math.Seq.{take-length, drop-append_seam}
+use Rattle.mail_index.specs.declared.kind.Kind.{Kind}
+use Rattle.mail_index.specs.Kinds.{kind_number, kind_of_number}
+use Rattle.mail_index.specs.Tables.{Key}
+use Rattle.mail_index.specs.Postings.{leb128}
+use Rattle.mail_index.specs.PostingLists.{end_from, numbers_of}
+use Rattle.mail_index.specs.Inside.KeyMaps.{with_one, key_in, short_front, front_holder, key_bytes, IsEntry}
+use Rattle.mail_index.proofs.ViewLaws.KindNumbers.{kind_of-number}
+use Rattle.mail_index.proofs.BuildLaws.PostingLemmas.{posted-nil, numbers_of-nil, posted-more, numbers_of-more, with_number-low, with_number-new}
+
+-- ---- no postings
+
+front-all : (b : ℕ) (text : List ℕ) → take (length text + 1) (b ∷ text) ≡ b ∷ text
+front-all b text = let long : length text + 1 ≡ length (b ∷ text) = omega arith in ap (λ (n : ℕ). take n (b ∷ text)) long ∙ take-length (b ∷ text)
+
+behind-none : (b : ℕ) (text : List ℕ) → drop (length text + 1) (b ∷ text) ≡ []
+behind-none b text =
+    let long : length text + 1 ≡ length (b ∷ text) = omega arith in
+    ap₂ (λ (n : ℕ) (l : List ℕ). drop n l) long (sym (append-nil (b ∷ text))) ∙ drop-append_seam (b ∷ text) []
+
+pub entry-none : (kind : Kind) (text bytes : List ℕ) → bytes ≡ kind_number kind ∷ text → IsEntry bytes (length text + 1) 0
+entry-none kind text bytes e = subst (λ (l : List ℕ). IsEntry l (length text + 1) 0) (sym e) (record {
+  long = omega arith;
+  kind = rw (front-all (kind_number kind) text) (ap (λ (k : Kind). kind_number k ∷ text) (kind_of-number kind));
+  posted = rw (behind-none (kind_number kind) text) posted-nil;
+})
+
+pub key-none : (kind : Kind) (text bytes : List ℕ) → bytes ≡ kind_number kind ∷ text → key_in (take (length text + 1) bytes) (drop (length text + 1) bytes) ≡ record { kind = kind; text = text; numbers = [] }
+key-none kind text bytes e =
+    ap₂ key_in (ap (take (length text + 1)) e ∙ front-all (kind_number kind) text) (ap (drop (length text + 1)) e ∙ behind-none (kind_number kind) text)
+    ∙ ap₂ (λ (k : Kind) (ns : List ℕ). let key : Key = record { kind = k; text = text; numbers = ns } in key) (kind_of-number kind) numbers_of-nil
+
+-- ---- what stands apart
+
+short-front : (kept : List ℕ) (n : ℕ) → n ≤ 16 → short_front kept n ≡ take n kept
+short-front kept n h = let e : nat_le n 16 ≡ true = grind (arith, nat_tests) in rw e refl
+
+long-front : (kept : List ℕ) (n : ℕ) → 16 < n → short_front kept n ≡ []
+long-front kept n h = let e : nat_le n 16 ≡ false = grind (arith, nat_tests) in rw e refl
+
+holder-short : (kept bytes : List ℕ) (n : ℕ) → n ≤ 16 → n ≤ length (front_holder kept n bytes) → n ≤ length kept
+holder-short kept bytes n h long = let e : nat_le n 16 ≡ true = grind (arith, nat_tests) in subst (λ (b : Bool). n ≤ length (cond b kept bytes)) e long
+
+holder-long : (kept bytes : List ℕ) (n : ℕ) → 16 < n → n ≤ length (front_holder kept n bytes) → n ≤ length bytes
+holder-long kept bytes n h long = let e : nat_le n 16 ≡ false = grind (arith, nat_tests) in subst (λ (b : Bool). n ≤ length (cond b kept bytes)) e long
+
+-- a short front is the one that is kept apart, and the postings are all the others
+pub behind-short : (kept bytes recent : List ℕ) (n : ℕ) → n ≤ 16 → n ≤ length (front_holder kept n bytes) → bytes ++ recent ≡ drop n (key_bytes kept n bytes recent)
+behind-short kept bytes recent n h long =
+    let e = length-take-le n kept (holder-short kept bytes n h long) in
+    sym (ap (λ (l : List ℕ). drop n (l ++ (bytes ++ recent))) (short-front kept n h) ∙ drop_at (take n kept) (bytes ++ recent) n e)
+
+-- a long one stands before the others
+pub behind-long : (kept bytes recent : List ℕ) (n : ℕ) → 16 < n → n ≤ length (front_holder kept n bytes) → drop n bytes ++ recent ≡ drop n (key_bytes kept n bytes recent)
+behind-long kept bytes recent n h long =
+    sym (ap (λ (l : List ℕ). drop n (l ++ (bytes ++ recent))) (long-front kept n h) ∙ drop-append-le n bytes recent (holder-long kept bytes n h long))
+
+-- more bytes hold it too
+pub within-more : (kept old new : List ℕ) (n : ℕ) → n ≤ length (front_holder kept n old) → length old ≤ length new → n ≤ length (front_holder kept n new)
+within-more kept old new n long more = go (nat_le n 16) long
+  where
+    go : (b : Bool) → n ≤ length (cond b kept old) → n ≤ length (cond b kept new)
+    go true h = h
+    go false h = omega (arith, h, more)
+
+-- bytes that are appended to the last ones are appended to all
+pub key_bytes-more : (kept : List ℕ) (n : ℕ) (bytes recent bytes' recent' more : List ℕ) → bytes' ++ recent' ≡ (bytes ++ recent) ++ more
+    → key_bytes kept n bytes' recent' ≡ key_bytes kept n bytes recent ++ more
+key_bytes-more kept n bytes recent bytes' recent' more e = ap (λ (l : List ℕ). short_front kept n ++ l) e ∙ sym (append_assoc (short_front kept n) (bytes ++ recent) more)
+
+-- a front alone, kept apart or not, with no postings behind it
+pub record IsNew (kind : Kind) (text kept bytes recent : List ℕ) : Type 0 where
+  pub entry : IsEntry (key_bytes kept (length text + 1) bytes recent) (length text + 1) 0
+  pub key : key_in (take (length text + 1) (key_bytes kept (length text + 1) bytes recent)) (drop (length text + 1) (key_bytes kept (length text + 1) bytes recent)) ≡ record { kind = kind; text = text; numbers = [] }
+  pub long : length text + 1 ≤ length (front_holder kept (length text + 1) bytes)
+
+pub new-short : (kind : Kind) (text kept bytes recent : List ℕ) → length text < 16 → take (length text + 1) kept ≡ kind_number kind ∷ text → bytes ≡ [] → recent ≡ [] → IsNew kind text kept bytes recent
+new-short kind text kept bytes recent h front none none' =
+    let n : ℕ = length text + 1 in
+    let whole : key_bytes kept n bytes recent ≡ kind_number kind ∷ text =
+    ap₂ (λ (a b : List ℕ). short_front kept n ++ (a ++ b)) none none' ∙ append-nil (short_front kept n) ∙ short-front kept n (omega (arith, h)) ∙ front in
+    let e : nat_le n 16 ≡ true = grind (arith, nat_tests, h) in
+    let within : n ≤ length kept = omega (arith, ap length front, length-take n kept) in
+    record {
+      entry = entry-none kind text (key_bytes kept n bytes recent) whole;
+      key = key-none kind text (key_bytes kept n bytes recent) whole;
+      long = subst (λ (b : Bool). n ≤ length (cond b kept bytes)) (sym e) within;
+    }
+
+pub new-long : (kind : Kind) (text kept bytes recent : List ℕ) → 16 ≤ length text → bytes ≡ kind_number kind ∷ text → recent ≡ [] → IsNew kind text kept bytes recent
+new-long kind text kept bytes recent h front none =
+    let n : ℕ = length text + 1 in
+    let whole : key_bytes kept n bytes recent ≡ kind_number kind ∷ text =
+    ap₂ (λ (a b : List ℕ). a ++ (bytes ++ b)) (long-front kept n (omega (arith, h))) none ∙ append-nil bytes ∙ front in
+    let e : nat_le n 16 ≡ false = grind (arith, nat_tests, h) in
+    let within : n ≤ length bytes = omega (arith, ap length front) in
+    record {
+      entry = entry-none kind text (key_bytes kept n bytes recent) whole;
+      key = key-none kind text (key_bytes kept n bytes recent) whole;
+      long = subst (λ (b : Bool). n ≤ length (cond b kept bytes)) (sym e) within;
+    }
+
+-- ---- one more number
+
+pub entry-more : (bytes : List ℕ) (front next n : ℕ) → IsEntry bytes front next → next ≤ n → n + 1 < 2 ^ 32 → IsEntry (bytes ++ leb128 5 (n + 1 - next)) front (n + 1)
+entry-more bytes front next n i low high =
+    let l : List ℕ = leb128 5 (n + 1 - next) in
+    record {
+      long = omega (arith, i.long, length-append bytes l);
+      kind = rw (take-append-le front bytes l i.long) i.kind;
+      posted = rw (drop-append-le front bytes l i.long) (posted-more (drop front bytes) next n i.posted low high);
+    }
+
+pub key-more : (bytes : List ℕ) (front next n : ℕ) → IsEntry bytes front next → next ≤ n → n + 1 < 2 ^ 32
+    → key_in (take front (bytes ++ leb128 5 (n + 1 - next))) (drop front (bytes ++ leb128 5 (n + 1 - next))) ≡ with_one (key_in (take front bytes) (drop front bytes)) n
+key-more bytes front next n i low high =
+    let l : List ℕ = leb128 5 (n + 1 - next) in
+    let new : end_from 0 (numbers_of (drop front bytes)) ≤ n = omega (arith, i.posted.ends, low) in
+    ap₂ key_in (take-append-le front bytes l i.long) (drop-append-le front bytes l i.long)
+    ∙ ap (λ (ns : List ℕ). let key : Key = record { kind = kind_of_number (slice_index (take front bytes) 0); text = drop 1 (take front bytes); numbers = ns } in key)
+    (numbers_of-more (drop front bytes) next n i.posted low high ∙ sym (with_number-new (numbers_of (drop front bytes)) n new))
+
+-- a number below the end changes nothing
+pub key-same : (bytes : List ℕ) (front next n : ℕ) → IsEntry bytes front next → n < next → key_in (take front bytes) (drop front bytes) ≡ with_one (key_in (take front bytes) (drop front bytes)) n
+key-same bytes front next n i low =
+    let old : n < end_from 0 (numbers_of (drop front bytes)) = omega (arith, i.posted.ends, low) in
+    ap (λ (ns : List ℕ). let key : Key = record { kind = kind_of_number (slice_index (take front bytes) 0); text = drop 1 (take front bytes); numbers = ns } in key) (sym (with_number-low (numbers_of (drop front bytes)) n old))

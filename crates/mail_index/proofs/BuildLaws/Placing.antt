@@ -1,0 +1,192 @@
+-- Messages that are added behind one another are those of a well-formed table.
+use Rattle.std.proofs.Common.{◌≡◌, ℕ, zero, suc, ◌+◌, ◌^◌, ◌<◌, ◌≤◌, Bool, true, false, nat_eq, nat_lt, if◌then◌else◌, List, [], ◌∷◌, ◌++◌, length, Option, None, Some, IsSome, IfSome, FitsSigned, refl, ap, sym, subst, ◌∙◌, inl, inr, length-append, arith}
+use Rattle.std.specs.Int.{w64}
+use Rattle.std.specs.List.{AllByRecursion}
+use Rattle.std.proofs.lemmas.Bool.Decides.{nat_tests}
+use Rattle.mail_index.specs.declared.record.Record.{Record}
+use Rattle.mail_index.specs.Versions.{IsVersion, newest}
+use Rattle.mail_index.specs.Tables.{Archive, archive_length, IsMessage, Follows, AllNext, IsPath, IsArchive, IsKey, IsWellFormed}
+use Rattle.mail_index.specs.Builders.{Draft, end_of, IsNext, IsInMessage, IsBetweenArchives}
+use Rattle.mail_index.specs.Inside.Drafts.{with_open, IsDraft}
+use Rattle.mail_index.proofs.BuildLaws.DraftLemmas.{all-snoc, all-weaker, listed-weaker}
+
+archive_length-before : (archives : List Archive) (a : Archive) (n : ℕ) → n < length archives → archive_length (archives ++ a ∷ []) n ≡ archive_length archives n
+archive_length-before [] a n h = absurd (omega arith)
+archive_length-before (x ∷ archives) a zero h = refl
+archive_length-before (x ∷ archives) a (suc n) h = let low : n < length archives = omega arith in archive_length-before archives a n low
+
+archive_length-last : (archives : List Archive) (a : Archive) → archive_length (archives ++ a ∷ []) (length archives) ≡ a.length
+archive_length-last [] a = refl
+archive_length-last (x ∷ archives) a = archive_length-last archives a
+
+-- a message stays one where an archive more comes
+pub message-more : (archives : List Archive) (a : Archive) (m : Record) → IsMessage archives m → IsMessage (archives ++ a ∷ []) m
+message-more archives a m is = record {
+  exists = omega (arith, length-append archives (a ∷ []), is.exists);
+  within = rw (archive_length-before archives a m.archive is.exists) is.within;
+  size = is.size;
+  date = is.date;
+}
+
+-- a message of the last archive
+pub message-new : (archives : List Archive) (a : Archive) (m : Record) → m.archive ≡ length archives → m.offset + m.length ≤ a.length → m.size < m.length → IfSome m.date (FitsSigned w64) → IsMessage (archives ++ a ∷ []) m
+message-new archives a m last within size date = record {
+  exists = omega (arith, length-append archives (a ∷ []));
+  within = subst (λ (n : ℕ). m.offset + m.length ≤ n) (sym (ap (archive_length (archives ++ a ∷ [])) last ∙ archive_length-last archives a)) within;
+  size = size;
+  date = date;
+}
+
+-- where the last archive gets another length, within which its messages end
+message-ended : (archives : List Archive) (a b : Archive) (m : Record) → (m.archive ≡ length archives → m.offset + m.length ≤ b.length) → IsMessage (archives ++ a ∷ []) m → IsMessage (archives ++ b ∷ []) m
+message-ended archives a b m ends is =
+    let count : length (archives ++ a ∷ []) ≡ suc (length archives) = omega (arith, length-append archives (a ∷ [])) in
+    (elim (nat_lt m.archive (length archives)) as (λ v. nat_lt m.archive (length archives) ≡ v → IsMessage (archives ++ b ∷ []) m) [
+      | true ↦ λ e.
+          let low : m.archive < length archives = grind (arith, nat_tests) in
+          message-more archives b m (record { exists = low; within = rw (archive_length-before archives a m.archive low) at is.within; size = is.size; date = is.date })
+      | false ↦ λ e.
+          let high : length archives ≤ m.archive = grind (arith, nat_tests) in
+          let last : m.archive ≡ length archives = omega (arith, is.exists) in
+          message-new archives b m last (ends last) is.size is.date
+    ]) refl
+
+-- each message of the archive that was open last ends where the last one does, or before
+ends-within : (a end : ℕ) (ms : List Record) → AllNext Follows ms → AllByRecursion (λ m. m.archive ≤ a) ms → end_of a ms ≤ end → AllByRecursion (λ m. m.archive ≡ a → m.offset + m.length ≤ end) ms
+ends-within a end [] f all h = tt
+ends-within a end (r ∷ []) f all h =
+    (λ same. let e : nat_eq r.archive a ≡ true = grind (arith, nat_tests) in let within : r.offset + r.length ≤ end = rw e at h in within, tt)
+ends-within a end (r ∷ s ∷ rs) f all h =
+    let rest = ends-within a end (s ∷ rs) f.1 all.1 h in (
+      λ same. elim f.0 [
+        | inl earlier ↦ absurd (omega (arith, all.1.0))
+        | inr behind ↦ let next : s.offset + s.length ≤ end = rest.0 (sym behind.0 ∙ same) in omega (arith, behind.1)
+      ],
+      rest,
+    )
+
+pub all-ended : (archives : List Archive) (a b : Archive) (ms : List Record) → AllNext Follows ms → AllByRecursion (IsMessage (archives ++ a ∷ [])) ms → end_of (length archives) ms ≤ b.length → AllByRecursion (IsMessage (archives ++ b ∷ [])) ms
+all-ended archives a b ms f all h =
+    let count : length (archives ++ a ∷ []) ≡ suc (length archives) = omega (arith, length-append archives (a ∷ [])) in
+    let low = all-weaker (IsMessage (archives ++ a ∷ [])) (λ m. m.archive ≤ length archives) (λ m is. omega (arith, is.exists)) ms all in
+    go ms all (ends-within (length archives) b.length ms f low h)
+  where
+    go : (ms : List Record) → AllByRecursion (IsMessage (archives ++ a ∷ [])) ms → AllByRecursion (λ m. m.archive ≡ length archives → m.offset + m.length ≤ b.length) ms → AllByRecursion (IsMessage (archives ++ b ∷ [])) ms
+    go [] all ends = tt
+    go (m ∷ ms) all ends = (message-ended archives a b m ends.0 all.0, go ms all.1 ends.1)
+
+-- the next message keeps them in order
+pub in_order-next : (ms : List Record) (r : Record) → AllNext Follows ms → AllByRecursion (λ m. m.archive ≤ r.archive) ms → end_of r.archive ms ≤ r.offset → AllNext Follows (ms ++ r ∷ [])
+in_order-next [] r f all h = tt
+in_order-next (m ∷ []) r f all h = (
+  (elim (nat_eq m.archive r.archive) as (λ v. nat_eq m.archive r.archive ≡ v → Follows m r) [
+    | true ↦ λ e. let same : m.archive ≡ r.archive = grind (arith, nat_tests) in let behind : m.offset + m.length ≤ r.offset = rw e at h in inr (same, behind)
+    | false ↦ λ e. let earlier : m.archive < r.archive = grind (arith, nat_tests, all.0) in inl earlier
+  ]) refl,
+  tt,
+)
+in_order-next (m ∷ s ∷ ms) r f all h = (f.0, in_order-next (s ∷ ms) r f.1 all.1 h)
+
+pub archives-low : (archives : List Archive) (a : Archive) (ms : List Record) → AllByRecursion (IsMessage (archives ++ a ∷ [])) ms → AllByRecursion (λ m. m.archive ≤ length archives) ms
+archives-low archives a ms all =
+    let count : length (archives ++ a ∷ []) ≡ suc (length archives) = omega (arith, length-append archives (a ∷ [])) in
+    all-weaker (IsMessage (archives ++ a ∷ [])) (λ m. m.archive ≤ length archives) (λ m is. omega (arith, is.exists)) ms all
+
+-- ---- what each call makes of a draft
+
+pub archive-opened : (d : Draft) (p : List ℕ) → IsDraft d → d.path ≡ None → length d.table.archives < d.most → IsPath p → IsDraft (record d { path = Some p })
+archive-opened d p is closed room named = record {
+  version = is.version;
+  limit = is.limit;
+  archives = is.archives;
+  open_archive = (room, named);
+  messages = is.messages;
+  open_message = is.open_message;
+  keys = is.keys;
+  named = is.named;
+  placed = all-weaker (IsMessage d.table.archives) (IsMessage (d.table.archives ++ record { path = p; length = 2 ^ 40; digest = None } ∷ [])) (message-more d.table.archives (record { path = p; length = 2 ^ 40; digest = None })) d.table.messages
+      (subst (λ (q : Option (List ℕ)). AllByRecursion (IsMessage (with_open d.table.archives q)) d.table.messages) closed is.placed);
+  in_order = is.in_order;
+  listed = is.listed;
+  sorted = is.sorted;
+}
+
+-- a message of the archive that is open
+message-open : (archives : List Archive) (path : Option (List ℕ)) (m : Record) → IsSome path → m.archive ≡ length archives → m.offset + m.length ≤ 2 ^ 40 → m.size < m.length → IfSome m.date (FitsSigned w64) → IsMessage (with_open archives path) m
+message-open archives None m some last within size date = absurd cc
+message-open archives (Some p) m some last within size date = message-new archives (record { path = p; length = 2 ^ 40; digest = None }) m last within size date
+
+archives-low_open : (archives : List Archive) (path : Option (List ℕ)) (ms : List Record) → AllByRecursion (IsMessage (with_open archives path)) ms → AllByRecursion (λ m. m.archive ≤ length archives) ms
+archives-low_open archives None ms all = all-weaker (IsMessage archives) (λ m. m.archive ≤ length archives) (λ m is. omega (arith, is.exists)) ms all
+archives-low_open archives (Some p) ms all = archives-low archives (record { path = p; length = 2 ^ 40; digest = None }) ms all
+
+pub message-ended_draft : (d : Draft) (r : Record) → IsDraft d → IsInMessage d → IsNext d r → IfSome r.date (FitsSigned w64)
+    → IsDraft (record { most = d.most; path = d.path; in_message = false; table = record { version = d.table.version; archives = d.table.archives; messages = d.table.messages ++ r ∷ []; keys = d.table.keys } })
+message-ended_draft d r is inside next date =
+    let low : AllByRecursion (λ m. m.archive ≤ r.archive) d.table.messages =
+    subst (λ (n : ℕ). AllByRecursion (λ (m : Record). m.archive ≤ n) d.table.messages) (sym next.archive) (archives-low_open d.table.archives d.path d.table.messages is.placed) in
+    let behind : end_of r.archive d.table.messages ≤ r.offset = subst (λ (n : ℕ). end_of n d.table.messages ≤ r.offset) (sym next.archive) next.behind in
+    let room : length d.table.messages < d.most = is.open_message inside.1 in
+    let listed : AllByRecursion (IsKey newest (suc (length d.table.messages))) d.table.keys =
+    subst (λ (b : Bool). AllByRecursion (IsKey newest (if b then suc (length d.table.messages) else length d.table.messages)) d.table.keys) inside.1 is.listed in
+    let count : suc (length d.table.messages) ≤ length (d.table.messages ++ r ∷ []) = omega (arith, length-append d.table.messages (r ∷ [])) in
+    record {
+      version = is.version;
+      limit = is.limit;
+      archives = is.archives;
+      open_archive = is.open_archive;
+      messages = omega (arith, length-append d.table.messages (r ∷ []));
+      open_message = λ e. absurd cc;
+      keys = is.keys;
+      named = is.named;
+      placed = all-snoc (IsMessage (with_open d.table.archives d.path)) d.table.messages r is.placed (message-open d.table.archives d.path r inside.0 next.archive next.within next.size date);
+      in_order = in_order-next d.table.messages r is.in_order low behind;
+      listed = listed-weaker (suc (length d.table.messages)) (length (d.table.messages ++ r ∷ [])) count d.table.keys listed;
+      sorted = is.sorted;
+    }
+
+pub archive-ended_draft : (d : Draft) (p : List ℕ) (n : ℕ) (h : List ℕ) → IsDraft d → d.path ≡ Some p → n ≤ 2 ^ 40 → length h ≡ 32 → end_of (length d.table.archives) d.table.messages ≤ n
+    → IsDraft (record { most = d.most; path = None; in_message = d.in_message; table = record { version = d.table.version; archives = d.table.archives ++ record { path = p; length = n; digest = Some h } ∷ []; messages = d.table.messages; keys = d.table.keys } })
+archive-ended_draft d p n h is open_now small size last =
+    let room = subst (λ (q : Option (List ℕ)). IfSome q (λ p. (length d.table.archives < d.most) × IsPath p)) open_now is.open_archive in
+    let placed = subst (λ (q : Option (List ℕ)). AllByRecursion (IsMessage (with_open d.table.archives q)) d.table.messages) open_now is.placed in
+    let low : length d.table.archives < d.most = room.0 in
+    record {
+      version = is.version;
+      limit = is.limit;
+      archives = omega (arith, length-append {A = Archive} d.table.archives (record { path = p; length = n; digest = Some h } ∷ []));
+      open_archive = tt;
+      messages = is.messages;
+      open_message = is.open_message;
+      keys = is.keys;
+      named = all-snoc (IsArchive newest) d.table.archives (record { path = p; length = n; digest = Some h }) is.named (room.1, small, (refl, size));
+      placed = all-ended d.table.archives (record { path = p; length = 2 ^ 40; digest = None }) (record { path = p; length = n; digest = Some h }) d.table.messages is.in_order placed last;
+      in_order = is.in_order;
+      listed = is.listed;
+      sorted = is.sorted;
+    }
+
+-- what is open and what has ended is what a well-formed table has
+pub well_formed : (d : Draft) → IsDraft d → IsBetweenArchives d → IsWellFormed d.table
+well_formed d is between = record {
+  version = subst IsVersion (sym is.version) (inr refl);
+  archive_count = omega (arith, is.archives, is.limit);
+  message_count = omega (arith, is.messages, is.limit);
+  key_count = omega (arith, is.keys, is.limit);
+  archives = subst (λ (v : ℕ). AllByRecursion (IsArchive v) d.table.archives) (sym is.version) is.named;
+  messages = subst (λ (p : Option (List ℕ)). AllByRecursion (IsMessage (with_open d.table.archives p)) d.table.messages) between.0 is.placed;
+  in_order = is.in_order;
+  keys = subst (λ (v : ℕ). AllByRecursion (IsKey v (length d.table.messages)) d.table.keys) (sym is.version)
+      (subst (λ (b : Bool). AllByRecursion (IsKey newest (if b then suc (length d.table.messages) else length d.table.messages)) d.table.keys) between.1 is.listed);
+  sorted = is.sorted;
+}
+
+-- no message is of the archive that comes next
+pub none-of-next : (archives : List Archive) (ms : List Record) → AllByRecursion (IsMessage archives) ms → end_of (length archives) ms ≡ 0
+none-of-next archives [] all = refl
+none-of-next archives (r ∷ []) all = elsewhere (nat_eq r.archive (length archives)) refl
+  where
+    elsewhere : (b : Bool) → nat_eq r.archive (length archives) ≡ b → (if b then r.offset + r.length else 0) ≡ 0
+    elsewhere true same = absurd (grind (arith, nat_tests, same, all.0.exists))
+    elsewhere false other = refl
+none-of-next archives (r ∷ s ∷ rs) all = none-of-next archives (s ∷ rs) all.1

@@ -1,0 +1,100 @@
+-- How many bytes the sections of an index file have.
+use Rattle.std.proofs.Common.{◌≡◌, ℕ, ◌+◌, ◌*◌, ◌^◌, ◌<◌, ◌≤◌, List, [], ◌∷◌, ◌++◌, length, map, flat_map, Option, None, Some, refl, sym, ap, ◌∙◌, length-append, arith}
+use Rattle.std.specs.Prelude.{unwrap_or}
+use Rattle.std.specs.List.{AllByRecursion, concat}
+use Rattle.std.proofs.lemmas.List.{length-map}
+use Rattle.sha2.specs.Sha256.{sha256}
+use Rattle.sha2.proofs.Facts256.{length-sha256}
+use Rattle.mail_index.specs.declared.record.Record.{Record}
+use Rattle.mail_index.specs.Versions.{newest, IsDigest}
+use Rattle.mail_index.specs.Tables.{Archive, Key, Table, IsArchive, IsKey}
+use Rattle.mail_index.specs.Postings.{postings}
+use Rattle.mail_index.specs.Files.{archive_bytes, record_bytes, Entry, entry_of, entry_bytes, directory_from, texts_of, postings_of, entries, archive_section, counts, body, index_file, HasSmallSections}
+use Rattle.mail_index.specs.declared.build.sections.Counts.{Counts}
+use Rattle.mail_index.specs.Inside.SectionCounts.{counted, IsCountOf, counted_length}
+use Rattle.mail_index.specs.Files.{magic, be32, be64}
+use Rattle.mail_index.proofs.ViewLaws.DigestReads.{digest_size}
+use Rattle.mail_index.proofs.BuildLaws.DraftLemmas.{length-postings}
+
+pub length-archive_bytes : (a : Archive) → length (archive_bytes a) ≡ 12 + length a.path + length (unwrap_or a.digest [])
+length-archive_bytes a = omega (arith, length-append a.path (unwrap_or a.digest [] ++ []), length-append (unwrap_or a.digest []) [])
+
+most-digest : (d : Option (List ℕ)) → IsDigest newest d → length (unwrap_or d []) ≤ 32
+most-digest None h = omega arith
+most-digest (Some d) h = omega (arith, digest_size newest d h)
+
+pub length-archives : (archives : List Archive) → AllByRecursion (IsArchive newest) archives → length (flat_map archive_bytes archives) ≤ 4140 * length archives
+length-archives [] all = omega arith
+length-archives (a ∷ archives) all = omega (arith, length-append (archive_bytes a) (flat_map archive_bytes archives), length-archive_bytes a, all.0.0.most, most-digest a.digest all.0.2, length-archives archives all.1)
+
+length-records : (ms : List Record) → length (flat_map record_bytes ms) ≡ 40 * length ms
+length-records [] = refl
+length-records (m ∷ ms) = omega (arith, length-append (record_bytes m) (flat_map record_bytes ms), length-records ms)
+
+length-directory : (a b : ℕ) (es : List Entry) → length (directory_from a b es) ≡ 24 * length es
+length-directory a b [] = refl
+length-directory a b (e ∷ es) = omega (arith, length-append (entry_bytes a b e) (directory_from (a + length e.text) (b + length e.postings) es), length-directory (a + length e.text) (b + length e.postings) es)
+
+pub length-texts : (count : ℕ) (ks : List Key) → AllByRecursion (IsKey newest count) ks → length (texts_of (map entry_of ks)) ≤ 2 ^ 32 * length ks
+length-texts count [] all = omega arith
+length-texts count (k ∷ ks) all = omega (arith, length-append k.text (texts_of (map entry_of ks)), all.0.short, length-texts count ks all.1)
+
+pub length-all_postings : (count : ℕ) (ks : List Key) → count ≤ 2 ^ 31 → AllByRecursion (IsKey newest count) ks → length (postings_of (map entry_of ks)) ≤ 2 ^ 31 * length ks
+length-all_postings count [] h all = omega arith
+length-all_postings count (k ∷ ks) h all = omega (arith, length-append (postings k.numbers) (postings_of (map entry_of ks)), length-postings count k all.0, length-all_postings count ks h all.1)
+
+length-counts : (t : Table) → length (concat (counts t)) ≡ 48
+length-counts t = refl
+
+pub length-body : (t : Table) → length (body t) ≡ 48 + length (archive_section t) + 40 * length t.messages + 24 * length t.keys + length (texts_of (entries t)) + length (postings_of (entries t))
+length-body t =
+    let records : List ℕ = flat_map record_bytes t.messages in
+    omega (
+      arith,
+      length-counts t,
+      length-records t.messages,
+      length-directory 0 0 (entries t),
+      length-map t.keys entry_of,
+      length-append (concat (counts t)) (archive_section t ++ (flat_map record_bytes t.messages ++ (directory_from 0 0 (entries t) ++ (texts_of (entries t) ++ (postings_of (entries t) ++ []))))),
+      length-append (archive_section t) (flat_map record_bytes t.messages ++ (directory_from 0 0 (entries t) ++ (texts_of (entries t) ++ (postings_of (entries t) ++ [])))),
+      length-append (flat_map record_bytes t.messages) (directory_from 0 0 (entries t) ++ (texts_of (entries t) ++ (postings_of (entries t) ++ []))),
+      length-append (directory_from 0 0 (entries t)) (texts_of (entries t) ++ (postings_of (entries t) ++ [])),
+      length-append (texts_of (entries t)) (postings_of (entries t) ++ []),
+      length-append (postings_of (entries t)) [],
+    )
+
+pub length-index_file : (t : Table) → length (index_file t) ≡ length (body t) + 32
+unfolding index_file
+length-index_file t = length-append (body t) (sha256 (body t)) ∙ ap (λ n. length (body t) + n) (length-sha256 (body t))
+
+-- the counts of a table, as they are written
+pub counted-is : (t : Table) (c : Counts) → IsCountOf t c → concat (counted c) ≡ concat (counts t)
+counted-is t c is =
+    ap (λ (n : ℕ). concat (magic ∷ be32 newest ∷ be32 n ∷ be32 c.messages ∷ be32 c.keys ∷ be64 c.archive_bytes ∷ be64 c.text_bytes ∷ be64 c.posting_bytes ∷ [])) is.archives
+    ∙ ap (λ (n : ℕ). concat (magic ∷ be32 newest ∷ be32 (length t.archives) ∷ be32 n ∷ be32 c.keys ∷ be64 c.archive_bytes ∷ be64 c.text_bytes ∷ be64 c.posting_bytes ∷ [])) is.messages
+    ∙ ap (λ (n : ℕ). concat (magic ∷ be32 newest ∷ be32 (length t.archives) ∷ be32 (length t.messages) ∷ be32 n ∷ be64 c.archive_bytes ∷ be64 c.text_bytes ∷ be64 c.posting_bytes ∷ [])) is.keys
+    ∙ ap (λ (n : ℕ). concat (magic ∷ be32 newest ∷ be32 (length t.archives) ∷ be32 (length t.messages) ∷ be32 (length t.keys) ∷ be64 n ∷ be64 c.text_bytes ∷ be64 c.posting_bytes ∷ [])) is.archive_bytes
+    ∙ ap (λ (n : ℕ). concat (magic ∷ be32 newest ∷ be32 (length t.archives) ∷ be32 (length t.messages) ∷ be32 (length t.keys) ∷ be64 (length (archive_section t)) ∷ be64 n ∷ be64 c.posting_bytes ∷ [])) is.text_bytes
+    ∙ ap (λ (n : ℕ). concat (magic ∷ be32 newest ∷ be32 (length t.archives) ∷ be32 (length t.messages) ∷ be32 (length t.keys) ∷ be64 (length (archive_section t)) ∷ be64 (length (texts_of (entries t))) ∷ be64 n ∷ [])) is.posting_bytes
+    ∙ ap (λ (n : ℕ). concat (magic ∷ be32 n ∷ be32 (length t.archives) ∷ be32 (length t.messages) ∷ be32 (length t.keys) ∷ be64 (length (archive_section t)) ∷ be64 (length (texts_of (entries t))) ∷ be64 (length (postings_of (entries t))) ∷ [])) (sym is.version)
+
+-- they tell the file's length
+pub counted_length-is : (t : Table) (c : Counts) → IsCountOf t c → counted_length c ≡ length (index_file t)
+counted_length-is t c is = omega (arith, length-index_file t, length-body t, is.messages, is.keys, is.archive_bytes, is.text_bytes, is.posting_bytes)
+
+-- which is below 2 ^ 64
+pub counted_length-small : (t : Table) (c : Counts) (count : ℕ) → IsCountOf t c → length t.archives < 2 ^ 31 → length t.messages < 2 ^ 31 → length t.keys < 2 ^ 31 → count ≤ 2 ^ 31
+    → AllByRecursion (IsArchive newest) t.archives → AllByRecursion (IsKey newest count) t.keys → counted_length c < 2 ^ 64
+counted_length-small t c count is archives messages keys h named listed =
+    omega (arith, is.messages, is.keys, is.archive_bytes, is.text_bytes, is.posting_bytes, length-archives t.archives named, length-texts count t.keys listed, length-all_postings count t.keys h listed)
+
+pub index_file-is : (t : Table) → index_file t ≡ body t ++ sha256 (body t)
+unfolding index_file
+index_file-is t = refl
+
+pub small-sections : (t : Table) (c : Counts) → IsCountOf t c → counted_length c < 2 ^ 64 → HasSmallSections t
+small-sections t c is small = record {
+  archives = omega (arith, is.archive_bytes);
+  texts = omega (arith, is.text_bytes);
+  postings = omega (arith, is.posting_bytes);
+}

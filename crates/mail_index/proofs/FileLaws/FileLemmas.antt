@@ -1,0 +1,67 @@
+-- The file that a layout is of: what each walk shows of it, and what each refuses.
+use Rattle.std.proofs.Common.{◌≡◌, ℕ, ◌-◌, ◌*◌, ◌^◌, ◌<◌, ◌≤◌, List, length, drop, refl, sym, ap, subst, ◌∙◌, arith, length-drop}
+use Rattle.std.proofs.Math.Path.{transport}
+use Rattle.std.specs.Prelude.{flat_map, slice_range}
+use Rattle.std.specs.List.{AllByRecursion}
+use Rattle.mail_index.specs.declared.view.layout.Layout.{Layout}
+use Rattle.mail_index.specs.declared.record.Record.{Record}
+use Rattle.mail_index.specs.Files.{record_bytes}
+use Rattle.mail_index.specs.Versions.{version_number}
+use Rattle.mail_index.specs.Tables.{Archive, IsArchive}
+use Rattle.mail_index.specs.Faults.{records_start, directory_start, texts_start, HasCounts, HasArchives, HasRecords}
+use Rattle.mail_index.specs.Records.{read_archives, SpellsArchives, AreRecords, read_records}
+use Rattle.mail_index.specs.Layouts.{IsLayout}
+use Rattle.mail_index.proofs.FileLaws.Bytes.{AreBytes, bytes_behind, bytes_before, length_part}
+use Rattle.mail_index.proofs.ViewLaws.ArchiveReads.{read_count}
+use Rattle.mail_index.proofs.ViewLaws.RecordSections.{shows_records, are_records_of, are_behind, in_order}
+use Rattle.mail_index.proofs.ViewLaws.Opening.{spells_these, length_records}
+
+-- what is known of a file and its layout
+pub record IsLaidOut (bytes : List ℕ) (l : Layout) : Type 0 where
+  pub counts : HasCounts bytes
+  pub layout : IsLayout bytes l
+  pub are_bytes : AreBytes bytes
+  pub few : length bytes < 2 ^ 64
+  pub few_archives : l.archive_count < 2 ^ 32
+  pub few_messages : l.message_count < 2 ^ 32
+  pub few_keys : l.key_count < 2 ^ 32
+
+pub section_length : (i j : ℕ) (xs : List ℕ) → i ≤ j → j ≤ length xs → length (slice_range xs i j) ≡ j - i
+section_length i j xs l m = length_part (j - i) (drop i xs) (omega (arith, l, m, length-drop i xs))
+
+pub section_bytes : (i j : ℕ) (xs ys : List ℕ) → ys ≡ slice_range xs i j → AreBytes xs → AreBytes ys
+section_bytes i j xs ys e b = subst AreBytes (sym e) (bytes_before (j - i) (drop i xs) (bytes_behind i xs b))
+
+pub has_archives : (bytes : List ℕ) (l : Layout) → IsLaidOut bytes l → SpellsArchives (version_number l.version) l.archive_count l.archives.now → HasArchives bytes (read_archives (version_number l.version) l.archive_count l.archives.now)
+has_archives bytes l f h = record { before = f.counts; spelled = sym f.layout.archives ∙ h.spelled; counted = read_count (version_number l.version) l.archive_count l.archives.now ∙ f.layout.archive_count; each = subst (λ (v : ℕ). AllByRecursion (IsArchive v) (read_archives (version_number l.version) l.archive_count l.archives.now)) f.layout.version h.each }
+
+pub these_archives : (bytes : List ℕ) (l : Layout) → IsLaidOut bytes l → (archives : List Archive) → HasArchives bytes archives
+    → (read_archives (version_number l.version) l.archive_count l.archives.now ≡ archives) × SpellsArchives (version_number l.version) l.archive_count l.archives.now
+these_archives bytes l f archives h = spells_these (version_number l.version) l.archive_count l.archives.now archives (f.layout.archives ∙ h.spelled) (h.counted ∙ sym f.layout.archive_count)
+    (subst (λ (v : ℕ). AllByRecursion (IsArchive v) archives) (sym f.layout.version) h.each)
+
+pub record_section : (bytes : List ℕ) (l : Layout) → IsLaidOut bytes l → length l.records.now ≡ 40 * l.message_count
+record_section bytes l f =
+    let n = section_length (records_start bytes) (directory_start bytes) bytes (omega arith) (omega (arith, f.layout.adds_up)) in
+    omega (arith, ap length f.layout.records, n, f.layout.message_count)
+
+pub directory_section : (bytes : List ℕ) (l : Layout) → IsLaidOut bytes l → length l.directory.now ≡ 24 * l.key_count
+directory_section bytes l f =
+    let n = section_length (directory_start bytes) (texts_start bytes) bytes (omega arith) (omega (arith, f.layout.adds_up)) in
+    omega (arith, ap length f.layout.directory, n, f.layout.key_count)
+
+pub has_records : (bytes : List ℕ) (l : Layout) → IsLaidOut bytes l → SpellsArchives (version_number l.version) l.archive_count l.archives.now → AreRecords (version_number l.version) l.archive_count 0 0 l.archives.now l.message_count l.records.now
+    → HasRecords bytes (read_archives (version_number l.version) l.archive_count l.archives.now) (read_records l.message_count l.records.now)
+has_records bytes l f a h =
+    let s = shows_records (version_number l.version) l.archive_count l.archives.now 0 0 l.archives.now l.message_count l.records.now refl
+    (section_bytes (records_start bytes) (directory_start bytes) bytes l.records.now f.layout.records f.are_bytes) (record_section bytes l f) h in
+    record { before = has_archives bytes l f a; spelled = sym f.layout.records ∙ s.spelled; each = s.each; in_order = in_order 0 0 (read_records l.message_count l.records.now) s.behind }
+
+pub no_records : (bytes : List ℕ) (l : Layout) → IsLaidOut bytes l → SpellsArchives (version_number l.version) l.archive_count l.archives.now → (AreRecords (version_number l.version) l.archive_count 0 0 l.archives.now l.message_count l.records.now → ⊥)
+    → (ms : List Record) → HasRecords bytes (read_archives (version_number l.version) l.archive_count l.archives.now) ms → ⊥
+no_records bytes l f a refuses ms h =
+    let e : l.records.now ≡ flat_map record_bytes ms = f.layout.records ∙ h.spelled in
+    let n : length ms ≡ l.message_count = omega (arith, ap length e, length_records ms, record_section bytes l f) in
+    let r = are_records_of (version_number l.version) l.archive_count l.archives.now 0 0 l.archives.now ms f.few_archives a.each refl h.each (are_behind ms h.in_order) in
+    let e' : flat_map record_bytes ms ≡ l.records.now = sym e in
+    refuses (transport (λ i. AreRecords (version_number l.version) l.archive_count 0 0 l.archives.now (n i) (e' i)) r)

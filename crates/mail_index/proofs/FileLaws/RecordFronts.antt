@@ -1,0 +1,133 @@
+-- Records and lists of numbers that stand at the front of equal bytes are equal.
+use Rattle.std.proofs.Common.{◌≡◌, ℕ, zero, suc, ◌+◌, ◌-◌, ◌*◌, ◌/◌, ◌%◌, ◌^◌, ◌<◌, ◌≤◌, Bool, true, false, cond, ltb, List, [], ◌∷◌, ◌++◌, length, get_or, Option, Some, None, refl, sym, ap, ◌∙◌, arith, ℤ, ltb-true}
+use Rattle.std.specs.Prelude.{flat_map, IfSome, FitsSigned, is_some}
+use Rattle.std.specs.List.{AllByRecursion}
+use Rattle.std.specs.Int.{w64, cast_unsigned, cast_signed}
+use Rattle.std.proofs.lemmas.Int.{to_z-of_z}
+use Rattle.std.proofs.Math.Facts.{Fits-of_z, Fits-lt-pow}
+use Rattle.mail_index.specs.declared.record.Record.{Record}
+use Rattle.mail_index.specs.Tables.{Archive, IsMessage, RisesFrom, Key, IsKey, archive_length}
+use Rattle.mail_index.specs.Postings.{leb128, differences_from, postings}
+use Rattle.mail_index.specs.Files.{zeros, be32, be64, bit, flags_byte, date_number, record_bytes}
+use Rattle.mail_index.proofs.FileLaws.Fronts.{concat_then, same_parts, be32_is, be64_is}
+
+abbrev pub at : List (List ℕ) → ℕ → List ℕ
+at xs i = get_or xs i []
+
+pub same_at : (xs ys : List (List ℕ)) (i : ℕ) → xs ≡ ys → at xs i ≡ at ys i
+same_at xs ys i e = ap (λ (l : List (List ℕ)). at l i) e
+
+-- ---- records
+
+bit_is : (b c : Bool) → bit 1 b ≡ bit 1 c → b ≡ c
+bit_is true true e = refl
+bit_is true false e = absurd (omega (arith, e))
+bit_is false true e = absurd (omega (arith, e))
+bit_is false false e = refl
+
+bit_small : (b : Bool) → bit 1 b ≤ 1
+bit_small true = omega arith
+bit_small false = omega arith
+
+bit_by : (n : ℕ) (b : Bool) → bit n b ≡ n * bit 1 b
+bit_by n true = omega arith
+bit_by n false = omega arith
+
+flags_is : (a b c d e f g h : Bool) → bit 1 a + bit 2 b + bit 4 c + bit 8 d ≡ bit 1 e + bit 2 f + bit 4 g + bit 8 h → (a ≡ e) × (b ≡ f) × (c ≡ g) × (d ≡ h)
+flags_is a b c d e f g h s =
+    let x = bit_small a in let y = bit_small b in let z = bit_small c in let w = bit_small d in
+    let p = bit_small e in let q = bit_small f in let r = bit_small g in let t = bit_small h in
+    let s' : bit 1 a + 2 * bit 1 b + 4 * bit 1 c + 8 * bit 1 d ≡ bit 1 e + 2 * bit 1 f + 4 * bit 1 g + 8 * bit 1 h =
+    omega (arith, s, bit_by 2 b, bit_by 4 c, bit_by 8 d, bit_by 2 f, bit_by 4 g, bit_by 8 h) in (
+      bit_is a e (omega (arith, s', x, y, z, w, p, q, r, t)),
+      bit_is b f (omega (arith, s', x, y, z, w, p, q, r, t)),
+      bit_is c g (omega (arith, s', x, y, z, w, p, q, r, t)),
+      bit_is d h (omega (arith, s', x, y, z, w, p, q, r, t)),
+    )
+
+date_is : (a b : Option ℤ) → IfSome a (FitsSigned w64) → IfSome b (FitsSigned w64) → is_some a ≡ is_some b → be64 (date_number a) ≡ be64 (date_number b) → a ≡ b
+date_is None None p q s e = refl
+date_is None (Some y) p q s e = absurd cc
+date_is (Some x) None p q s e = absurd cc
+date_is (Some x) (Some y) p q s e =
+    let same : cast_unsigned w64 x ≡ cast_unsigned w64 y = be64_is _ _ (Fits-lt-pow (Fits-of_z p)) (Fits-lt-pow (Fits-of_z q)) e in
+    let z : x ≡ y = sym (to_z-of_z w64 x p) ∙ ap (cast_signed w64) same ∙ to_z-of_z w64 y q in
+    ap (λ (k : ℤ). Some k) z
+
+record_list : Record → List (List ℕ)
+record_list m = be32 m.archive ∷ (flags_byte m ∷ zeros) ∷ be64 m.offset ∷ be64 m.length ∷ be64 m.size ∷ be64 (date_number m.date) ∷ []
+
+abbrev pub HasFew : List Archive → Record → Type 0
+HasFew archives m = IsMessage archives m × (length archives < 2 ^ 32) × (archive_length archives m.archive ≤ 2 ^ 40)
+
+pub message_front : (archives : List Archive) (a b : Record) (x y : List ℕ) → HasFew archives a → HasFew archives b → record_bytes a ++ x ≡ record_bytes b ++ y → (a ≡ b) × (x ≡ y)
+unfolding record_list
+message_front archives a b x y p q e =
+    let e' = sym (concat_then (record_list a) x) ∙ e ∙ concat_then (record_list b) y in
+    let s = same_parts (record_list a) (record_list b) x y refl e' in
+    let archive : a.archive ≡ b.archive = be32_is a.archive b.archive (omega (arith, p.0.exists, p.1)) (omega (arith, q.0.exists, q.1)) (same_at (record_list a) (record_list b) 0 s.0) in
+    let flags : flags_byte a ≡ flags_byte b = ap (λ (l : List ℕ). get_or l 0 0) (same_at (record_list a) (record_list b) 1 s.0) in
+    let f = flags_is a.flags.seen a.flags.replied a.flags.flagged (is_some a.date) b.flags.seen b.flags.replied b.flags.flagged (is_some b.date) flags in
+    let offset : a.offset ≡ b.offset = be64_is a.offset b.offset (omega (arith, p.0.within, p.2)) (omega (arith, q.0.within, q.2)) (same_at (record_list a) (record_list b) 2 s.0) in
+    let span : a.length ≡ b.length = be64_is a.length b.length (omega (arith, p.0.within, p.2)) (omega (arith, q.0.within, q.2)) (same_at (record_list a) (record_list b) 3 s.0) in
+    let size : a.size ≡ b.size = be64_is a.size b.size (omega (arith, p.0.within, p.2, p.0.size)) (omega (arith, q.0.within, q.2, q.0.size)) (same_at (record_list a) (record_list b) 4 s.0) in
+    let date : a.date ≡ b.date = date_is a.date b.date p.0.date q.0.date f.3 (same_at (record_list a) (record_list b) 5 s.0) in
+    (λ i. record { archive = archive i; offset = offset i; length = span i; size = size i; date = date i; flags = record { seen = f.0 i; replied = f.1 i; flagged = f.2 i } }, s.1)
+
+-- ---- postings
+
+abbrev Small : ℕ → ℕ → Type 0
+Small zero n = n < 1
+Small (suc k) n = Small k (n / 128)
+
+pub leb_front : (k n m : ℕ) (x y : List ℕ) → Small k n → Small k m → leb128 k n ++ x ≡ leb128 k m ++ y → (n ≡ m) × (x ≡ y)
+leb_front zero n m x y p q e = (omega (arith, p, q), e)
+leb_front (suc k) n m x y p q e = go (ltb n 128) refl (ltb m 128) refl e (λ x y. leb_front k (n / 128) (m / 128) x y p q)
+  where
+    go : (t : Bool) → ltb n 128 ≡ t → (u : Bool) → ltb m 128 ≡ u
+        → cond t (n ∷ []) ((128 + n % 128) ∷ leb128 k (n / 128)) ++ x ≡ cond u (m ∷ []) ((128 + m % 128) ∷ leb128 k (m / 128)) ++ y
+        → ((x y : List ℕ) → leb128 k (n / 128) ++ x ≡ leb128 k (m / 128) ++ y → (n / 128 ≡ m / 128) × (x ≡ y)) → (n ≡ m) × (x ≡ y)
+    go true h true g e r = (cc, cc)
+    go true h false g e r = let a : n ≡ 128 + m % 128 = cc in let b : n < 128 = ltb-true n 128 h in absurd (omega (arith, a, b))
+    go false h true g e r = let a : m ≡ 128 + n % 128 = cc in let b : m < 128 = ltb-true m 128 g in absurd (omega (arith, a, b))
+    go false h false g e r =
+        let a : 128 + n % 128 ≡ 128 + m % 128 = cc in
+        let t : leb128 k (n / 128) ++ x ≡ leb128 k (m / 128) ++ y = cc in
+        let s = r x y t in
+        (omega (arith, a, s.0), s.1)
+
+pub leb_some : (k n : ℕ) (x : List ℕ) → leb128 (suc k) n ++ x ≡ [] → ⊥
+leb_some k n x e = go (ltb n 128) e
+  where
+    go : (t : Bool) → cond t (n ∷ []) ((128 + n % 128) ∷ leb128 k (n / 128)) ++ x ≡ [] → ⊥
+    go true e = cc
+    go false e = cc
+
+whole : (xs ys : List ℕ) → AllByRecursion (Small 5) xs → AllByRecursion (Small 5) ys → flat_map (leb128 5) xs ≡ flat_map (leb128 5) ys → xs ≡ ys
+whole [] [] p q e = refl
+whole [] (b ∷ ys) p q e = absurd (leb_some 4 b (flat_map (leb128 5) ys) (sym e))
+whole (a ∷ xs) [] p q e = absurd (leb_some 4 a (flat_map (leb128 5) xs) e)
+whole (a ∷ xs) (b ∷ ys) p q e =
+    let s = leb_front 5 a b (flat_map (leb128 5) xs) (flat_map (leb128 5) ys) p.0 q.0 e in
+    let r = whole xs ys p.1 q.1 s.1 in
+    let h : a ≡ b = s.0 in
+    cc
+
+differences_is : (low : ℕ) (xs ys : List ℕ) → RisesFrom low xs → RisesFrom low ys → differences_from low xs ≡ differences_from low ys → xs ≡ ys
+differences_is low [] [] p q e = refl
+differences_is low [] (b ∷ ys) p q e = absurd cc
+differences_is low (a ∷ xs) [] p q e = absurd cc
+differences_is low (a ∷ xs) (b ∷ ys) p q e =
+    let d : suc a - low ≡ suc b - low = cc in
+    let h : a ≡ b = omega (arith, d, p.0, q.0) in
+    let t : differences_from (suc a) xs ≡ differences_from (suc b) ys = cc in
+    let r = differences_is (suc a) xs ys p.1 (rw h q.1) (t ∙ ap (λ (n : ℕ). differences_from n ys) (ap suc (sym h))) in
+    cc
+
+small_differences : (count low : ℕ) (xs : List ℕ) → count < 2 ^ 32 → AllByRecursion (λ n. n < count) xs → AllByRecursion (Small 5) (differences_from low xs)
+small_differences count low [] h p = tt
+small_differences count low (x ∷ xs) h p = (omega (arith, h, p.0), small_differences count (suc x) xs h p.1)
+
+pub numbers_are : (version count : ℕ) (a b : Key) → count < 2 ^ 32 → IsKey version count a → IsKey version count b → postings a.numbers ≡ postings b.numbers → a.numbers ≡ b.numbers
+numbers_are version count a b h p q e =
+    differences_is 0 a.numbers b.numbers p.rises q.rises (whole _ _ (small_differences count 0 a.numbers h p.below) (small_differences count 0 b.numbers h q.below) e)

@@ -1,0 +1,248 @@
+-- Archives read back from their bytes, and the bytes of archives that were read.
+use Rattle.std.proofs.Common.{Some, slice_get}
+use Rattle.std.proofs.Common.{◌≡◌, ◌↔◌, ℕ, zero, suc, ◌+◌, ◌-◌, ◌^◌, ◌<◌, ◌≤◌, List, [], ◌∷◌, ◌++◌, length, take, drop, Option, refl, sym, ap, subst, ◌∙◌, arith, length-append, length-drop, append_assoc}
+use Rattle.std.specs.Prelude.{unwrap_or, flat_map, IsTrue, nat_eq, Bool, true, false}
+use Rattle.std.proofs.lemmas.Bool.Decides.{nat_tests}
+use Rattle.std.proofs.Math.Seq.{take-append_seam, drop-append_seam}
+use Rattle.std.proofs.lemmas.List.{take-append-drop, append-nil}
+use Rattle.std.specs.List.{AllByRecursion}
+use Rattle.std.proofs.lemmas.Nat.{from_be_bytes-to_be_bytes_4, from_be_bytes-to_be_bytes_8}
+use Rattle.mail_index.specs.Fields.{u32_at, u64_at}
+use Rattle.mail_index.specs.Files.{be32, be64, archive_bytes}
+use Rattle.mail_index.specs.Versions.{IsDigest, digest_length, read_digest, behind_digest}
+use Rattle.mail_index.specs.Tables.{Archive, IsArchive, IsPath, archive_length}
+use Rattle.mail_index.specs.Records.{behind_path, read_archive, behind_archive, read_archives, behind_archives, HasArchive, SpellsArchives}
+use Rattle.mail_index.proofs.ViewLaws.DigestReads.{digest_back, digest_kept, digest_room}
+use Rattle.mail_index.proofs.FileLaws.Fronts.{concat_then}
+use Rattle.mail_index.proofs.FileLaws.Bytes.{AreBytes, u32_back, u64_back, length_part}
+
+-- what the bytes of an archive are read as
+pub archive_back : (version : ℕ) (a : Archive) (x : List ℕ) → IsArchive version a → (read_archive version (archive_bytes a ++ x) ≡ a) × (behind_archive version (archive_bytes a ++ x) ≡ x)
+unfolding read_archive behind_archive
+archive_back version a x h =
+    let r = archive_bytes a ++ x in
+    let d = unwrap_or a.digest [] in
+    let size : u32_at r 8 ≡ length a.path = from_be_bytes-to_be_bytes_4 (length a.path) (omega (arith, h.0.most)) in
+    let tail : drop 12 r ≡ a.path ++ (d ++ x) = append_assoc a.path (d ++ []) x ∙ ap (λ (y : List ℕ). a.path ++ (y ++ x)) (append-nil d) in
+    let span : u64_at r 0 ≡ a.length = from_be_bytes-to_be_bytes_8 a.length (omega (arith, h.1)) in
+    let path : take (u32_at r 8) (drop 12 r) ≡ a.path = ap (λ (n : ℕ). take n (drop 12 r)) size ∙ ap (take (length a.path)) tail ∙ take-append_seam a.path (d ++ x) in
+    let after : behind_path r ≡ d ++ x = ap (λ (n : ℕ). drop n (drop 12 r)) size ∙ ap (drop (length a.path)) tail ∙ drop-append_seam a.path (d ++ x) in
+    let back = digest_back version a.digest x h.2 in
+    let digest : read_digest version (behind_path r) ≡ a.digest = ap (read_digest version) after ∙ back.0 in
+    let behind : behind_digest version (behind_path r) ≡ x = ap (behind_digest version) after ∙ back.1 in
+    ((λ i. record { path = path i; length = span i; digest = digest i }), behind)
+
+-- bytes that are long enough for a path, whose path is one and is followed by a digest
+pub has_archive : (version : ℕ) (r : List ℕ) → AreBytes r → 12 ≤ length r → u32_at r 8 ≤ length (drop 12 r) → IsPath (take (u32_at r 8) (drop 12 r)) → u64_at r 0 ≤ 2 ^ 40
+    → IsDigest version (read_digest version (behind_path r)) → HasArchive version r
+unfolding read_archive behind_archive
+has_archive version r h l n p s t =
+    let path = take (u32_at r 8) (drop 12 r) in
+    let digest = unwrap_or (read_digest version (behind_path r)) [] in
+    let behind = behind_digest version (behind_path r) in
+    let size : length path ≡ u32_at r 8 = length_part (u32_at r 8) (drop 12 r) n in
+    let tail : path ++ behind_path r ≡ drop 12 r = take-append-drop (u32_at r 8) (drop 12 r) in
+    let e : archive_bytes (read_archive version r) ++ behind ≡ r =
+    concat_then (be64 (u64_at r 0) ∷ be32 (length path) ∷ path ∷ digest ∷ []) behind
+    ∙ ap (λ (x : List ℕ). be64 (u64_at r 0) ++ (be32 (length path) ++ (path ++ x))) (digest_kept version (behind_path r))
+    ∙ ap (λ (x : List ℕ). be64 (u64_at r 0) ++ (be32 (length path) ++ x)) tail
+    ∙ ap (λ (k : ℕ). be64 (u64_at r 0) ++ (be32 k ++ drop 12 r)) size
+    ∙ ap (λ (x : List ℕ). be64 (u64_at r 0) ++ x) (u32_back r 8 12 h (omega (arith, l)) refl)
+    ∙ u64_back r 0 8 h (omega (arith, l)) refl in
+    record { spelled = sym e; valid = (p, s, t) }
+
+length_archive : (a : Archive) (x : List ℕ) → length (archive_bytes a ++ x) ≡ 12 + length a.path + length (unwrap_or a.digest []) + length x
+length_archive a x =
+    let d = unwrap_or a.digest [] in
+    let e : length (archive_bytes a ++ x) ≡ length (archive_bytes a) + length x = length-append (archive_bytes a) x in
+    let f : length (archive_bytes a) ≡ length (be64 a.length) + length (be32 (length a.path) ++ (a.path ++ (d ++ []))) = length-append (be64 a.length) (be32 (length a.path) ++ (a.path ++ (d ++ []))) in
+    let g : length (be32 (length a.path) ++ (a.path ++ (d ++ []))) ≡ length (be32 (length a.path)) + length (a.path ++ (d ++ [])) = length-append (be32 (length a.path)) (a.path ++ (d ++ [])) in
+    let i : length (a.path ++ (d ++ [])) ≡ length a.path + length (d ++ []) = length-append a.path (d ++ []) in
+    let j : length (be64 a.length) ≡ 8 = refl in
+    let k : length (be32 (length a.path)) ≡ 4 = refl in
+    let l : length (d ++ []) ≡ length d = ap length (append-nil d) in
+    omega (arith, e, f, g, i, j, k, l)
+
+-- what bytes that begin with an archive can be relied on for
+pub record ArchiveFront (version : ℕ) (r : List ℕ) : Type 0 where
+  pub long : 12 ≤ length r
+  pub path : u32_at r 8 ≤ length (drop 12 r)
+  pub valid : IsPath (take (u32_at r 8) (drop 12 r))
+  pub size : u64_at r 0 ≤ 2 ^ 40
+  pub digest : IsDigest version (read_digest version (behind_path r))
+  pub room : digest_length version ≤ length (behind_path r)
+
+pub archive_front_of : (version : ℕ) (r : List ℕ) → HasArchive version r → ArchiveFront version r
+unfolding read_archive behind_archive
+archive_front_of version r h =
+    let a = read_archive version r in
+    let n : length r ≡ 12 + length a.path + length (unwrap_or a.digest []) + length (behind_archive version r) = ap length h.spelled ∙ length_archive a (behind_archive version r) in
+    let size : u32_at r 8 ≡ length a.path = ap (λ (x : List ℕ). u32_at x 8) h.spelled ∙ from_be_bytes-to_be_bytes_4 (length a.path) (omega (arith, h.valid.0.most)) in
+    let path : u32_at r 8 ≤ length (drop 12 r) = omega (arith, n, size, length-drop 12 r) in
+    record { long = omega (arith, n); path = path; valid = h.valid.0; size = h.valid.1; digest = h.valid.2; room = digest_room version (behind_path r) h.valid.2 }
+
+-- the first of some archives
+pub spells_front : (version n : ℕ) (r : List ℕ) → SpellsArchives version (suc n) r → HasArchive version r
+spells_front version n r h =
+    let rest = flat_map archive_bytes (read_archives version n (behind_archive version r)) in
+    let a = read_archive version r in
+    let e : behind_archive version r ≡ rest = ap (behind_archive version) h.spelled ∙ (archive_back version a rest h.each.0).1 in
+    record { spelled = h.spelled ∙ ap (λ (x : List ℕ). archive_bytes a ++ x) (sym e); valid = h.each.0 }
+
+pub spells_rest : (version n : ℕ) (r : List ℕ) → SpellsArchives version (suc n) r → SpellsArchives version n (behind_archive version r)
+spells_rest version n r h =
+    let rest = flat_map archive_bytes (read_archives version n (behind_archive version r)) in
+    let a = read_archive version r in
+    let e : behind_archive version r ≡ rest = ap (behind_archive version) h.spelled ∙ (archive_back version a rest h.each.0).1 in
+    record { spelled = e; each = h.each.1 }
+
+pub spells_more : (version n : ℕ) (r : List ℕ) → HasArchive version r → SpellsArchives version n (behind_archive version r) → SpellsArchives version (suc n) r
+spells_more version n r h s = record { spelled = h.spelled ∙ ap (λ (x : List ℕ). archive_bytes (read_archive version r) ++ x) s.spelled; each = (h.valid, s.each) }
+
+-- archives are read back as they are
+pub archives_back : (version : ℕ) (archives : List Archive) → AllByRecursion (IsArchive version) archives → read_archives version (length archives) (flat_map archive_bytes archives) ≡ archives
+archives_back version [] h = refl
+archives_back version (a ∷ rest) h =
+    let b = archive_back version a (flat_map archive_bytes rest) h.0 in
+    let head : read_archive version (flat_map archive_bytes (a ∷ rest)) ≡ a = b.0 in
+    let tail : read_archives version (length rest) (behind_archive version (flat_map archive_bytes (a ∷ rest))) ≡ rest = ap (read_archives version (length rest)) b.1 ∙ archives_back version rest h.1 in
+    cc
+
+-- ---- the reader of one archive, from what its calls answer
+
+pub short_has_none : (version : ℕ) (r : List ℕ) → length r < 12 → HasArchive version r → ⊥
+short_has_none version r l h = let f = archive_front_of version r h in absurd (omega (arith, l, f.long))
+
+pub long_has_none : (version : ℕ) (r : List ℕ) (s : ℕ) → s ≡ u64_at r 0 → 2 ^ 40 < s → HasArchive version r → ⊥
+long_has_none version r s e l h = let f = archive_front_of version r h in absurd (omega (arith, e, l, f.size))
+
+pub cut_has_none : (version : ℕ) (r tail : List ℕ) (n : ℕ) → n ≡ u32_at r 8 → tail ≡ drop 12 r → length tail < n → HasArchive version r → ⊥
+cut_has_none version r tail n e t l h = let f = archive_front_of version r h in absurd (omega (arith, e, ap length t, l, f.path))
+
+pub unnamed_has_none : (version : ℕ) (r tail path : List ℕ) (n : ℕ) → n ≡ u32_at r 8 → tail ≡ drop 12 r → path ≡ take n tail → (IsPath path → ⊥) → HasArchive version r → ⊥
+unnamed_has_none version r tail path n e t p refuses h =
+    let f = archive_front_of version r h in
+    let same : take (u32_at r 8) (drop 12 r) ≡ path = sym (p ∙ ap (λ (k : ℕ). take k tail) e ∙ ap (take (u32_at r 8)) t) in
+    refuses (subst IsPath same f.valid)
+
+pub undigested_has_none : (version : ℕ) (r tail behind : List ℕ) (n : ℕ) → n ≡ u32_at r 8 → tail ≡ drop 12 r → behind ≡ drop n tail → (IsDigest version (read_digest version behind) → ⊥)
+    → HasArchive version r → ⊥
+undigested_has_none version r tail behind n e t b refuses h =
+    let f = archive_front_of version r h in
+    let same : behind_path r ≡ behind = sym (b ∙ ap (λ (k : ℕ). drop k tail) e ∙ ap (drop (u32_at r 8)) t) in
+    refuses (subst (λ (y : List ℕ). IsDigest version (read_digest version y)) same f.digest)
+
+pub found : (version : ℕ) (r tail path behind : List ℕ) (n s : ℕ) (digest : Option (List ℕ)) (rest : List ℕ) → AreBytes r → 12 ≤ length r → s ≡ u64_at r 0 → n ≡ u32_at r 8
+    → tail ≡ drop 12 r → n ≤ length tail → path ≡ take n tail → behind ≡ drop n tail → IsPath path → s ≤ 2 ^ 40
+    → IsDigest version (read_digest version behind) → digest ≡ read_digest version behind → rest ≡ behind_digest version behind
+    → HasArchive version r × (record { path = path; length = s; digest = digest } ≡ read_archive version r) × (rest ≡ behind_archive version r)
+unfolding read_archive behind_archive
+found version r tail path behind n s digest rest h l es en et nl ep eb valid most its ed er =
+    let same : path ≡ take (u32_at r 8) (drop 12 r) = ep ∙ ap (λ (k : ℕ). take k tail) en ∙ ap (take (u32_at r 8)) et in
+    let after : behind ≡ behind_path r = eb ∙ ap (λ (k : ℕ). drop k tail) en ∙ ap (drop (u32_at r 8)) et in
+    let d : digest ≡ read_digest version (behind_path r) = ed ∙ ap (read_digest version) after in
+    let front = subst (λ (y : List ℕ). IsDigest version (read_digest version y)) after its in (
+      has_archive version r h l (omega (arith, en, ap length et, nl)) (subst IsPath same valid) (omega (arith, es, most)) front,
+      (λ i. record { path = same i; length = es i; digest = d i }),
+      er ∙ ap (behind_digest version) after,
+    )
+
+-- ---- the loop over archives
+
+pub spells_begin : (version n : ℕ) (r : List ℕ) → SpellsArchives version n r ↔ SpellsArchives version (n - 0) r
+spells_begin version n r =
+    let e : n - 0 ≡ n = omega arith in
+    (λ h. subst (λ (k : ℕ). SpellsArchives version k r) (sym e) h, λ h. subst (λ (k : ℕ). SpellsArchives version k r) e h)
+
+pub spells_step : (version n i : ℕ) (s r behind : List ℕ) → i < n → (SpellsArchives version n s ↔ SpellsArchives version (n - i) r) → HasArchive version r → behind ≡ behind_archive version r
+    → SpellsArchives version n s ↔ SpellsArchives version (n - (i + 1)) behind
+spells_step version n i s r behind l h a b =
+    let e : n - i ≡ suc (n - (i + 1)) = omega (arith, l) in
+    let forth : SpellsArchives version n s → SpellsArchives version (n - (i + 1)) behind = λ p. subst (SpellsArchives version (n - (i + 1))) (sym b) (spells_rest version (n - (i + 1)) r (subst (λ (k : ℕ). SpellsArchives version k r) e (h.0 p))) in
+    let back : SpellsArchives version (n - (i + 1)) behind → SpellsArchives version n s = λ p. h.1 (subst (λ (k : ℕ). SpellsArchives version k r) (sym e) (spells_more version (n - (i + 1)) r a (subst (SpellsArchives version (n - (i + 1))) b p))) in
+    (forth, back)
+
+pub spells_stop : (version n i : ℕ) (s r : List ℕ) → i < n → (SpellsArchives version n s ↔ SpellsArchives version (n - i) r) → (HasArchive version r → ⊥) → SpellsArchives version n s → ⊥
+spells_stop version n i s r l h refuses p =
+    let e : n - i ≡ suc (n - (i + 1)) = omega (arith, l) in
+    refuses (spells_front version (n - (i + 1)) r (subst (λ (k : ℕ). SpellsArchives version k r) e (h.0 p)))
+
+pub spells_end : (version n i : ℕ) (s r : List ℕ) → n ≤ i → (SpellsArchives version n s ↔ SpellsArchives version (n - i) r) → (r ≡ []) ↔ SpellsArchives version n s
+spells_end version n i s r l h =
+    let e : n - i ≡ 0 = omega (arith, l) in
+    (λ q. h.1 (subst (λ (k : ℕ). SpellsArchives version k r) (sym e) (record { spelled = q; each = tt })), λ p. (subst (λ (k : ℕ). SpellsArchives version k r) e (h.0 p)).spelled)
+
+pub empty_test : (b : Bool) (r : List ℕ) → b ≡ nat_eq (length r) 0 → IsTrue b ↔ (r ≡ [])
+empty_test b [] e = let t : b ≡ true = e in (λ h. refl, λ q. t)
+empty_test b (x ∷ r) e =
+    let z : nat_eq (suc (length r)) 0 ≡ false = grind (arith, nat_tests) in
+    let f : b ≡ false = e ∙ z in
+    (λ h. absurd (let g : false ≡ true = sym f ∙ h in cc), λ q. absurd cc)
+
+pub spells_return : (version n i : ℕ) (s r : List ℕ) (b : Bool) → n ≤ i → (SpellsArchives version n s ↔ SpellsArchives version (n - i) r) → b ≡ nat_eq (length r) 0 → IsTrue b ↔ SpellsArchives version n s
+spells_return version n i s r b l h e =
+    let t = empty_test b r e in
+    let u = spells_end version n i s r l h in
+    (λ q. u.0 (t.0 q), λ q. t.1 (u.1 q))
+
+-- ---- the walk behind some archives
+
+pub behind_begin : (version n : ℕ) (r : List ℕ) → behind_archives version (n - 0) r ≡ behind_archives version n r
+behind_begin version n r = let e : n - 0 ≡ n = omega arith in ap (λ (k : ℕ). behind_archives version k r) e
+
+pub pass_step : (version count n i : ℕ) (s r behind : List ℕ) → i < n → n ≤ count → SpellsArchives version (count - i) r → behind_archives version (n - i) r ≡ behind_archives version n s → behind ≡ behind_archive version r
+    → SpellsArchives version (count - (i + 1)) behind × (behind_archives version (n - (i + 1)) behind ≡ behind_archives version n s)
+pass_step version count n i s r behind l b h e g =
+    let f : count - i ≡ suc (count - (i + 1)) = omega (arith, l, b) in
+    let k : n - i ≡ suc (n - (i + 1)) = omega (arith, l) in
+    let spelled = spells_rest version (count - (i + 1)) r (subst (λ (j : ℕ). SpellsArchives version j r) f h) in
+    (subst (SpellsArchives version (count - (i + 1))) (sym g) spelled, ap (behind_archives version (n - (i + 1))) g ∙ ap (λ (j : ℕ). behind_archives version j r) (sym k) ∙ e)
+
+pub pass_end : (version count n i : ℕ) (s r : List ℕ) → n ≤ i → i ≤ n → SpellsArchives version (count - i) r → behind_archives version (n - i) r ≡ behind_archives version n s
+    → (r ≡ behind_archives version n s) × SpellsArchives version (count - n) r
+pass_end version count n i s r l m h e =
+    let z : n - i ≡ 0 = omega (arith, l) in
+    let same : i ≡ n = omega (arith, l, m) in
+    (sym (ap (λ (j : ℕ). behind_archives version j r) z) ∙ e, subst (λ (j : ℕ). SpellsArchives version (count - j) r) same h)
+
+pub behind_value : (version : ℕ) (r tail behind rest : List ℕ) (n k : ℕ) → n ≡ u32_at r 8 → tail ≡ drop 12 r → behind ≡ drop n tail → k ≡ digest_length version → rest ≡ drop k behind
+    → rest ≡ behind_archive version r
+unfolding behind_archive
+behind_value version r tail behind rest n k en et eb ek er =
+    let after : behind ≡ behind_path r = eb ∙ ap (λ (j : ℕ). drop j tail) en ∙ ap (drop (u32_at r 8)) et in
+    er ∙ ap (λ (j : ℕ). drop j behind) ek ∙ ap (behind_digest version) after
+
+pub behind_some : (version count : ℕ) (r behind : List ℕ) → 0 < count → SpellsArchives version count r → behind ≡ behind_archive version r → SpellsArchives version (count - 1) behind
+behind_some version zero r behind l h e = absurd (omega (arith, l))
+behind_some version (suc n) r behind l h e =
+    let f : suc n - 1 ≡ n = omega arith in
+    rw (f, e) (spells_rest version n r h)
+
+-- ---- lengths of archives
+
+pub archives_behind : (version n k : ℕ) (r : List ℕ) → behind_archives version (n + k) r ≡ behind_archives version k (behind_archives version n r)
+archives_behind version zero k r = ap (λ (j : ℕ). behind_archives version j r) (let e : 0 + k ≡ k = omega arith in e)
+archives_behind version (suc n) k r = ap (λ (j : ℕ). behind_archives version j r) (let e : suc n + k ≡ suc (n + k) = omega arith in e) ∙ archives_behind version n k (behind_archive version r)
+
+pub length_at : (version count n : ℕ) (r : List ℕ) → n < count → archive_length (read_archives version count r) n ≡ u64_at (behind_archives version n r) 0
+unfolding read_archive
+length_at version zero n r l = absurd (omega (arith, l))
+length_at version (suc count) zero r l = refl
+length_at version (suc count) (suc n) r l = length_at version count n (behind_archive version r) (omega (arith, l))
+
+pub read_count : (version count : ℕ) (r : List ℕ) → length (read_archives version count r) ≡ count
+read_count version zero r = refl
+read_count version (suc n) r = ap suc (read_count version n (behind_archive version r))
+
+pub front_of_some : (version count : ℕ) (r : List ℕ) → 0 < count → SpellsArchives version count r → ArchiveFront version r
+front_of_some version zero r l h = absurd (omega (arith, l))
+front_of_some version (suc n) r l h = archive_front_of version r (spells_front version n r h)
+
+pub has_first : (version count : ℕ) (r : List ℕ) → 0 < count → SpellsArchives version count r → HasArchive version r
+has_first version zero r l h = absurd (omega (arith, l))
+has_first version (suc n) r l h = spells_front version n r h
+
+pub archive_at : (version count n : ℕ) (r : List ℕ) → n < count → slice_get (read_archives version count r) n ≡ Some (read_archive version (behind_archives version n r))
+archive_at version zero n r l = absurd (omega (arith, l))
+archive_at version (suc count) zero r l = refl
+archive_at version (suc count) (suc n) r l = archive_at version count n (behind_archive version r) (omega (arith, l))

@@ -1,0 +1,130 @@
+-- What the walks over the sections show of a file, and what they refuse.
+use Rattle.std.proofs.Common.{◌≡◌, ℕ, zero, suc, ◌+◌, ◌-◌, ◌*◌, ◌^◌, ◌<◌, ◌≤◌, List, [], ◌∷◌, ◌++◌, length, map, drop, refl, sym, ap, subst, ◌∙◌, arith, length-append}
+use Rattle.std.specs.Prelude.{flat_map}
+use Rattle.std.specs.List.{AllByRecursion}
+use Rattle.std.proofs.Common.{Some, slice_get}
+use Rattle.std.proofs.lemmas.List.{drop-drop}
+use Rattle.mail_index.specs.declared.record.Record.{Record}
+use Rattle.mail_index.specs.Files.{Entry, entry_of, entry_bytes, archive_bytes, record_bytes, directory_from}
+use Rattle.mail_index.specs.Tables.{Archive, Key, IsArchive, IsKey, AllNext, KeyBefore, RisesFrom}
+use Rattle.mail_index.specs.Postings.{postings, postings_from}
+use Rattle.mail_index.specs.Faults.{IsEntry, EntryBefore}
+use Rattle.mail_index.specs.Records.{read_archives, SpellsArchives, read_record, read_records}
+use Rattle.mail_index.specs.Directory.{read_entry, read_entries}
+use Rattle.mail_index.specs.PostingReads.{numbers_read}
+use Rattle.mail_index.specs.Lists.{IsList, AreLists}
+use Rattle.mail_index.specs.KeysRead.{key_of}
+use Rattle.mail_index.proofs.ViewLaws.ArchiveReads.{archives_back}
+use Rattle.mail_index.proofs.FileLaws.RecordFronts.{leb_some}
+use Rattle.mail_index.proofs.ViewLaws.PostingReadLemmas.{read-posted}
+
+-- ---- archives
+
+pub spells_these : (version count : ℕ) (s : List ℕ) (archives : List Archive) → s ≡ flat_map archive_bytes archives → length archives ≡ count → AllByRecursion (IsArchive version) archives
+    → (read_archives version count s ≡ archives) × SpellsArchives version count s
+spells_these version count s archives e l h =
+    let r : read_archives version count s ≡ archives = (λ i. read_archives version (sym l i) (e i)) ∙ archives_back version archives h in
+    (r, record { spelled = e ∙ ap (flat_map archive_bytes) (sym r); each = subst (AllByRecursion (IsArchive version)) (sym r) h })
+
+-- ---- counts of records and of entries
+
+pub length_records : (ms : List Record) → length (flat_map record_bytes ms) ≡ 40 * length ms
+length_records [] = refl
+length_records (m ∷ ms) =
+    let e : length (record_bytes m ++ flat_map record_bytes ms) ≡ length (record_bytes m) + length (flat_map record_bytes ms) = length-append (record_bytes m) (flat_map record_bytes ms) in
+    let f : length (record_bytes m) ≡ 40 = refl in
+    omega (arith, e, f, length_records ms)
+
+pub length_directory : (tp pp : ℕ) (es : List Entry) → length (directory_from tp pp es) ≡ 24 * length es
+length_directory tp pp [] = refl
+length_directory tp pp (e ∷ es) =
+    let d = directory_from (tp + length e.text) (pp + length e.postings) es in
+    let f : length (entry_bytes tp pp e ++ d) ≡ length (entry_bytes tp pp e) + length d = length-append (entry_bytes tp pp e) d in
+    let g : length (entry_bytes tp pp e) ≡ 24 = refl in
+    omega (arith, f, g, length_directory (tp + length e.text) (pp + length e.postings) es)
+
+pub count_records : (n : ℕ) (r : List ℕ) → length (read_records n r) ≡ n
+count_records zero r = refl
+count_records (suc n) r = ap suc (count_records n (drop 40 r))
+
+pub count_entries : (texts postings : List ℕ) (n : ℕ) (d : List ℕ) → length (read_entries texts postings n d) ≡ n
+count_entries texts postings zero d = refl
+count_entries texts postings (suc n) d = ap suc (count_entries texts postings n (drop 24 d))
+
+-- ---- keys
+
+below_all : (m : ℕ) (ns : List ℕ) → m ≤ 2 ^ 32 → AllByRecursion (λ n. n < m) ns → AllByRecursion (λ n. n < 2 ^ 32) ns
+below_all m [] l h = tt
+below_all m (n ∷ ns) l h = (omega (arith, l, h.0), below_all m ns l h.1)
+
+some_numbers : (bytes ns : List ℕ) → bytes ≡ postings_from 0 ns → 0 < length bytes → 0 < length ns
+some_numbers bytes [] e l = absurd (omega (arith, ap length e, l))
+some_numbers bytes (n ∷ ns) e l = omega arith
+
+-- the numbers that are read of a list
+pub record ReadsList (messages : ℕ) (list : List ℕ) : Type 0 where
+  pub spelled : postings (numbers_read 0 list) ≡ list
+  pub some : 0 < length (numbers_read 0 list)
+  pub rises : RisesFrom 0 (numbers_read 0 list)
+  pub below : AllByRecursion (λ n. n < messages) (numbers_read 0 list)
+
+pub reads_list : (messages : ℕ) (list : List ℕ) → messages < 2 ^ 32 → IsList messages list → ReadsList messages list
+reads_list messages list l h =
+    let p = h.1.1 in
+    let ns = h.1.0 in
+    let r : numbers_read 0 list ≡ ns = read-posted 0 list ns (record { rises = p.rises; below = below_all messages ns (omega (arith, l)) p.below; spelled = p.spelled }) in
+    record {
+      spelled = ap postings r ∙ sym p.spelled;
+      some = subst (λ (xs : List ℕ). 0 < length xs) (sym r) (some_numbers list ns p.spelled h.0);
+      rises = subst (RisesFrom 0) (sym r) p.rises;
+      below = subst (AllByRecursion (λ n. n < messages)) (sym r) p.below;
+    }
+
+-- the keys that are read of entries
+pub record ReadsKeys (version messages : ℕ) (es : List Entry) : Type 0 where
+  pub spelled : map entry_of (map key_of es) ≡ es
+  pub each : AllByRecursion (IsKey version messages) (map key_of es)
+
+pub reads_keys : (version messages : ℕ) (es : List Entry) → messages < 2 ^ 32 → AllByRecursion (IsEntry version) es → AllByRecursion (λ e. IsList messages e.postings) es → ReadsKeys version messages es
+reads_keys version messages [] l h p = record { spelled = refl; each = tt }
+reads_keys version messages (e ∷ es) l h p =
+    let r = reads_list messages e.postings l p.0 in
+    let more = reads_keys version messages es l h.1 p.1 in
+    let head : entry_of (key_of e) ≡ e = λ i. record { kind = e.kind; text = e.text; postings = r.spelled i } in
+    let tail : map entry_of (map key_of es) ≡ es = more.spelled in
+    record { spelled = λ i. head i ∷ tail i; each = (record { kind = h.0.0; some_text = h.0.1; short = h.0.2; some_number = r.some; rises = r.rises; below = r.below }, more.each) }
+
+pub lists_of : (messages : ℕ) (texts ps : List ℕ) (n : ℕ) (d : List ℕ) → AreLists messages ps n d → AllByRecursion (λ e. IsList messages e.postings) (read_entries texts ps n d)
+unfolding read_entry
+lists_of messages texts ps zero d h = tt
+lists_of messages texts ps (suc n) d h = (h.0, lists_of messages texts ps n (drop 24 d) h.1)
+
+pub are_lists : (messages : ℕ) (texts ps : List ℕ) (n : ℕ) (d : List ℕ) → AllByRecursion (λ e. IsList messages e.postings) (read_entries texts ps n d) → AreLists messages ps n d
+unfolding read_entry
+are_lists messages texts ps zero d h = tt
+are_lists messages texts ps (suc n) d h = (h.0, are_lists messages texts ps n (drop 24 d) h.1)
+
+pub some_postings : (ns : List ℕ) → 0 < length ns → 0 < length (postings ns)
+some_postings [] l = absurd (omega (arith, l))
+some_postings (n ∷ ns) l = go (postings (n ∷ ns)) refl
+  where
+    go : (xs : List ℕ) → postings (n ∷ ns) ≡ xs → 0 < length xs
+    go [] e = absurd (leb_some 4 (suc n - 0) (postings_from (suc n) ns) e)
+    go (x ∷ xs) e = omega arith
+
+pub lists_of_keys : (version messages : ℕ) (ks : List Key) → AllByRecursion (IsKey version messages) ks → AllByRecursion (λ e. IsList messages e.postings) (map entry_of ks)
+lists_of_keys version messages [] h = tt
+lists_of_keys version messages (k ∷ ks) h =
+    ((some_postings k.numbers h.0.some_number, (k.numbers, record { rises = h.0.rises; below = h.0.below; spelled = refl })), lists_of_keys version messages ks h.1)
+
+pub keys_in_order : (ks : List Key) → AllNext EntryBefore (map entry_of ks) → AllNext KeyBefore ks
+keys_in_order [] h = tt
+keys_in_order (k ∷ []) h = tt
+keys_in_order (k ∷ l ∷ ks) h = (h.0, keys_in_order (l ∷ ks) h.1)
+
+pub message_at : (count n : ℕ) (r : List ℕ) → n < count → slice_get (read_records count r) n ≡ Some (read_record (drop (40 * n) r))
+message_at zero n r l = absurd (omega (arith, l))
+message_at (suc count) zero r l = ap (λ (k : ℕ). Some (read_record (drop k r))) (let e : 0 ≡ 40 * 0 = omega arith in e)
+message_at (suc count) (suc n) r l =
+    let e : 40 + 40 * n ≡ 40 * suc n = omega arith in
+    message_at count n (drop 40 r) (omega (arith, l)) ∙ ap (λ (x : List ℕ). Some (read_record x)) (drop-drop (40 * n) 40 r ∙ ap (λ (k : ℕ). drop k r) e)

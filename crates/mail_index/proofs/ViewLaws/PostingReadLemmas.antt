@@ -1,0 +1,152 @@
+-- Postings read back: the bytes of rising numbers tell these numbers.
+use Rattle.std.proofs.Common.{◌≡◌, ◌∙◌, ℕ, zero, suc, ◌+◌, ◌-◌, ◌*◌, ◌/◌, ◌%◌, ◌^◌, ◌<◌, ◌≤◌, Bool, true, false, cond, nat_lt, List, [], ◌∷◌, ◌++◌, length, Option, Some, None, refl, sym, ap, ap₂, subst, arith, length-append}
+use Rattle.std.specs.List.{AllByRecursion}
+use Rattle.std.specs.Prelude.{is_some}
+use Rattle.std.proofs.lemmas.Bool.{false≢true}
+use Rattle.std.proofs.lemmas.Bool.Decides.{nat_tests}
+use Rattle.std.proofs.Math.Nat.{add-mul, mul_assoc}
+use Rattle.mail_index.specs.Tables.{RisesFrom}
+use Rattle.mail_index.specs.Postings.{leb128, postings_from}
+use Rattle.mail_index.specs.PostingReads.{IsShort, numbers_behind, numbers_read, ArePostings, ArePosted}
+use Rattle.mail_index.proofs.FileLaws.RecordFronts.{leb_front, leb_some}
+
+-- ---- a difference
+
+-- the lowest seven bits, and the rest, each at its weight
+weights : (k p w : ℕ) → (p + (128 + k % 128 - 128) * w) + (k / 128) * (128 * w) ≡ p + k * w
+weights k p w =
+    let low : 128 + k % 128 - 128 ≡ k % 128 = omega arith in
+    let all : k ≡ k % 128 + (k / 128) * 128 = omega arith in
+    let moved : (k / 128) * (128 * w) ≡ (k / 128) * 128 * w = sym (mul_assoc (k / 128) 128 w) in
+    let split : k * w ≡ (k % 128) * w + (k / 128) * 128 * w = ap (λ n. n * w) all ∙ add-mul (k % 128) ((k / 128) * 128) w in
+    rw (low, moved, split) (omega arith)
+
+behind-last : (low p w b : ℕ) (bs : List ℕ) → b < 128 → numbers_behind low p w (b ∷ bs) ≡ (low + (p + b * w) - 1) ∷ numbers_behind (low + (p + b * w)) 0 1 bs
+behind-last low p w b bs h = let e : nat_lt b 128 ≡ true = grind (arith, nat_tests) in rw (e, numbers_behind) refl
+
+behind-more : (low p w b : ℕ) (bs : List ℕ) → 128 ≤ b → numbers_behind low p w (b ∷ bs) ≡ numbers_behind low (p + (b - 128) * w) (128 * w) bs
+behind-more low p w b bs h = let e : nat_lt b 128 ≡ false = grind (arith, nat_tests) in rw (e, numbers_behind) refl
+
+-- what a difference k tells, behind the part that has come
+abbrev told : ℕ → ℕ → List ℕ → List ℕ
+told low difference bs = (low + difference - 1) ∷ numbers_behind (low + difference) 0 1 bs
+
+numbers_behind-leb128 : (groups low p w k : ℕ) (bs : List ℕ) → IsShort (suc groups) k → numbers_behind low p w (leb128 (suc groups) k ++ bs) ≡ told low (p + k * w) bs
+numbers_behind-leb128 zero low p w k bs h =
+    let small : k < 128 = omega (arith, h) in
+    let e : nat_lt k 128 ≡ true = grind (arith, nat_tests) in
+    rw e (behind-last low p w k bs small)
+numbers_behind-leb128 (suc groups) low p w k bs h = go (nat_lt k 128) refl (numbers_behind-leb128 groups low (p + (128 + k % 128 - 128) * w) (128 * w) (k / 128) bs h)
+  where
+    go : (t : Bool) → nat_lt k 128 ≡ t
+        → numbers_behind low (p + (128 + k % 128 - 128) * w) (128 * w) (leb128 (suc groups) (k / 128) ++ bs) ≡ told low ((p + (128 + k % 128 - 128) * w) + (k / 128) * (128 * w)) bs
+        → numbers_behind low p w (cond t (k ∷ []) ((128 + k % 128) ∷ leb128 (suc groups) (k / 128)) ++ bs) ≡ told low (p + k * w) bs
+    go true e later = let small : k < 128 = grind (arith, nat_tests, e) in behind-last low p w k bs small
+    go false e later =
+        behind-more low p w (128 + k % 128) (leb128 (suc groups) (k / 128) ++ bs) (omega arith) ∙ later ∙ ap (λ d. told low d bs) (weights k p w)
+
+pub numbers_read-first : (low k : ℕ) (bs : List ℕ) → IsShort 5 k → numbers_read low (leb128 5 k ++ bs) ≡ (low + k - 1) ∷ numbers_read (low + k) bs
+unfolding numbers_read
+numbers_read-first low k bs h =
+    let same : 0 + k * 1 ≡ k = omega arith in
+    numbers_behind-leb128 4 low 0 1 k bs h ∙ ap (λ d. told low d bs) same
+
+-- ---- all numbers
+
+short-difference : (n low : ℕ) → n < 2 ^ 32 → IsShort 5 (suc n - low)
+short-difference n low h = omega (arith, h)
+
+pub numbers_read-postings : (low : ℕ) (ns : List ℕ) → RisesFrom low ns → AllByRecursion (λ n. n < 2 ^ 32) ns → numbers_read low (postings_from low ns) ≡ ns
+unfolding numbers_read
+numbers_read-postings low [] rises below = refl
+numbers_read-postings low (n ∷ ns) rises below =
+    let here : low + (suc n - low) - 1 ≡ n = omega (arith, rises.0) in
+    let next : low + (suc n - low) ≡ suc n = omega (arith, rises.0) in
+    numbers_read-first low (suc n - low) (postings_from (suc n) ns) (short-difference n low below.0)
+    ∙ ap₂ (λ (m k : ℕ). m ∷ numbers_read k (postings_from (suc n) ns)) here next
+    ∙ ap (λ l. n ∷ l) (numbers_read-postings (suc n) ns rises.1 below.1)
+
+pub read-posted : (low : ℕ) (bytes ns : List ℕ) → ArePostings (2 ^ 32) low bytes ns → numbers_read low bytes ≡ ns
+read-posted low bytes ns h = ap (numbers_read low) h.spelled ∙ numbers_read-postings low ns h.rises h.below
+
+-- ---- the front of some postings
+
+-- no number
+pub posted-none : (limit low : ℕ) (bytes ns : List ℕ) (r : Option (ℕ × List ℕ)) → limit ≤ 2 ^ 32
+    → ((k : ℕ) (rest : List ℕ) → IsShort 5 k → bytes ≡ leb128 5 k ++ rest → r ≡ Some (k, rest)) → r ≡ None → ArePostings limit low bytes ns → ns ≡ []
+posted-none limit low bytes [] r le only none h = refl
+posted-none limit low bytes (n ∷ ns) r le only none h =
+    let small : n < 2 ^ 32 = omega (arith, le, h.below.0) in
+    let some : Some (suc n - low, postings_from (suc n) ns) ≡ None = sym (only (suc n - low) (postings_from (suc n) ns) (short-difference n low small) h.spelled) ∙ none in
+    absurd (false≢true (sym (ap is_some some)))
+
+-- a number, and those behind it
+pub record Front (limit low difference : ℕ) (behind ns : List ℕ) : Type 0 where
+  pub some : 0 < difference
+  pub below : low + difference ≤ limit
+  pub later : List ℕ
+  pub numbers : ns ≡ (low + difference - 1) ∷ later
+  pub posted : ArePostings limit (low + difference) behind later
+
+pub posted-front : (limit low difference : ℕ) (bytes behind ns : List ℕ) → limit ≤ 2 ^ 32 → IsShort 5 difference → bytes ≡ leb128 5 difference ++ behind
+    → ArePostings limit low bytes ns → Front limit low difference behind ns
+posted-front limit low d bytes behind [] le short split h =
+    let none : leb128 5 d ++ behind ≡ [] = sym split ∙ h.spelled in
+    absurd (leb_some 4 d behind none)
+posted-front limit low d bytes behind (n ∷ ns) le short split h =
+    let small : n < 2 ^ 32 = omega (arith, le, h.below.0) in
+    let same = leb_front 5 d (suc n - low) behind (postings_from (suc n) ns) short (short-difference n low small) (sym split ∙ h.spelled) in
+    let next : suc n ≡ low + d = omega (arith, same.0, h.rises.0) in
+    let here : n ≡ low + d - 1 = omega (arith, next) in
+    record {
+      some = omega (arith, same.0, h.rises.0);
+      below = omega (arith, next, h.below.0);
+      later = ns;
+      numbers = ap (λ (m : ℕ). m ∷ ns) here;
+      posted = record {
+        rises = subst (λ (m : ℕ). RisesFrom m ns) next h.rises.1;
+        below = h.below.1;
+        spelled = same.1 ∙ ap (λ (m : ℕ). postings_from m ns) next;
+      };
+    }
+
+-- a number in front of others
+pub posted-back : (limit low difference : ℕ) (bytes behind : List ℕ) → 0 < difference → low + difference ≤ limit → bytes ≡ leb128 5 difference ++ behind
+    → ArePosted limit (low + difference) behind → ArePosted limit low bytes
+posted-back limit low d bytes behind some below split h =
+    let n : ℕ = low + d - 1 in
+    let next : low + d ≡ suc n = omega (arith, some) in
+    let again : d ≡ suc n - low = omega (arith, some) in (
+      n ∷ h.0,
+      record {
+        rises = (omega (arith, some), subst (λ (m : ℕ). RisesFrom m h.0) next h.1.rises);
+        below = (omega (arith, some, below), h.1.below);
+        spelled = split ∙ ap₂ (λ (k : ℕ) (l : List ℕ). leb128 5 k ++ l) again (h.1.spelled ∙ ap (λ (m : ℕ). postings_from m h.0) next);
+      },
+    )
+
+-- a difference has some bytes
+pub posted-shorter : (difference : ℕ) (bytes behind : List ℕ) → bytes ≡ leb128 5 difference ++ behind → length behind < length bytes
+posted-shorter d bytes behind split = go (nat_lt d 128) split
+  where
+    go : (t : Bool) → bytes ≡ cond t (d ∷ []) ((128 + d % 128) ∷ leb128 4 (d / 128)) ++ behind → length behind < length bytes
+    go true e = omega (arith, ap length e)
+    go false e = omega (arith, ap length e, length-append (leb128 4 (d / 128)) behind)
+
+-- nothing is the postings of no number
+pub posted-nothing : (limit low : ℕ) → ArePosted limit low []
+posted-nothing limit low = ([], record { rises = tt; below = tt; spelled = refl })
+
+-- what bytes tell that aren't nothing and begin with no difference
+pub posted-refused : (limit low : ℕ) (bytes : List ℕ) (r : Option (ℕ × List ℕ)) → limit ≤ 2 ^ 32
+    → ((k : ℕ) (rest : List ℕ) → IsShort 5 k → bytes ≡ leb128 5 k ++ rest → r ≡ Some (k, rest)) → r ≡ None → 0 < length bytes → ArePosted limit low bytes → ⊥
+posted-refused limit low bytes r le only none some h =
+    let nothing : h.0 ≡ [] = posted-none limit low bytes h.0 r le only none h.1 in
+    let bare : bytes ≡ [] = h.1.spelled ∙ ap (postings_from low) nothing in
+    absurd (omega (arith, ap length bare, some))
+
+-- ---- numbers dropped
+
+pub All-more : (n m : ℕ) (dropped : List ℕ) → AllByRecursion (λ k. k < n) dropped → m < n → AllByRecursion (λ k. k < n) (dropped ++ m ∷ [])
+All-more n m [] h less = (less, tt)
+All-more n m (k ∷ dropped) h less = (h.0, All-more n m dropped h.1 less)

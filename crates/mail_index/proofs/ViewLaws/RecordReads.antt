@@ -1,0 +1,182 @@
+-- A record read back from its bytes, and the bytes of a record that was read.
+use Rattle.std.proofs.Common.{◌≡◌, ℕ, zero, suc, ◌+◌, ◌^◌, ◌<◌, ◌≤◌, Bool, true, false, cond, ◌&&◌, ◌||◌, List, [], ◌∷◌, ◌++◌, length, drop, Option, Some, None, refl, ap, ◌∙◌, arith, ℤ}
+use Rattle.std.specs.Prelude.{IfSome, FitsSigned, is_some, nat_eq, nat_le}
+use Rattle.std.specs.Int.{w64, cast_signed}
+use Rattle.std.proofs.lemmas.Int.{to_z-of_z}
+use Rattle.std.proofs.Math.Facts.{Fits-of_z, Fits-lt-pow}
+use Rattle.std.proofs.lemmas.Nat.{from_be_bytes-to_be_bytes_4, from_be_bytes-to_be_bytes_8}
+use Rattle.mail_index.specs.declared.record.Record.{Record}
+use Rattle.mail_index.specs.Fields.{byte_at, u32_at, u64_at}
+use Rattle.mail_index.specs.Files.{be32, be64, zeros, bit, flags_byte, date_number, record_bytes}
+use Rattle.mail_index.specs.Records.{has_bit, read_flags, read_date, read_record, is_record}
+use Rattle.mail_index.proofs.FileLaws.Fronts.{before, concat_then}
+use Rattle.std.proofs.lemmas.Int.{of_z-to_z}
+use Rattle.std.proofs.lemmas.Bool.{leb-true}
+use Rattle.std.proofs.lemmas.Bool.Decides.{nat_tests}
+use Rattle.mail_index.proofs.FileLaws.Bytes.{AreBytes, u32_back, u64_back, byte_back, both, bytes_behind, bytes_before}
+
+-- the numbers of a record fit their fields
+pub record HasSmallFields (m : Record) : Type 0 where
+  pub archive : m.archive < 2 ^ 32
+  pub offset : m.offset < 2 ^ 64
+  pub span : m.length < 2 ^ 64
+  pub size : m.size < 2 ^ 64
+  pub date : IfSome m.date (FitsSigned w64)
+
+flags_back : (a b c d : Bool) → read_flags (bit 1 a + bit 2 b + bit 4 c + bit 8 d) ≡ record { seen = a; replied = b; flagged = c }
+flags_back true true true true = refl
+flags_back true true true false = refl
+flags_back true true false true = refl
+flags_back true true false false = refl
+flags_back true false true true = refl
+flags_back true false true false = refl
+flags_back true false false true = refl
+flags_back true false false false = refl
+flags_back false true true true = refl
+flags_back false true true false = refl
+flags_back false true false true = refl
+flags_back false true false false = refl
+flags_back false false true true = refl
+flags_back false false true false = refl
+flags_back false false false true = refl
+flags_back false false false false = refl
+
+dated_back : (a b c d : Bool) → has_bit (bit 1 a + bit 2 b + bit 4 c + bit 8 d) 8 ≡ d
+dated_back true true true true = refl
+dated_back true true true false = refl
+dated_back true true false true = refl
+dated_back true true false false = refl
+dated_back true false true true = refl
+dated_back true false true false = refl
+dated_back true false false true = refl
+dated_back true false false false = refl
+dated_back false true true true = refl
+dated_back false true true false = refl
+dated_back false true false true = refl
+dated_back false true false false = refl
+dated_back false false true true = refl
+dated_back false false true false = refl
+dated_back false false false true = refl
+dated_back false false false false = refl
+
+date_back : (f : ℕ) (date : Option ℤ) → IfSome date (FitsSigned w64) → has_bit f 8 ≡ is_some date → (n : ℕ) → n ≡ date_number date → read_date f n ≡ date
+date_back f None h e n d = rw e refl
+date_back f (Some z) h e n d = rw (e, d) (ap (λ (k : ℤ). Some k) (to_z-of_z w64 z h))
+
+date_small : (date : Option ℤ) → IfSome date (FitsSigned w64) → date_number date < 2 ^ 64
+date_small None h = omega arith
+date_small (Some z) h = Fits-lt-pow (Fits-of_z h)
+
+-- what is read of a record's bytes is the record
+pub record_back : (m : Record) (x : List ℕ) → HasSmallFields m → read_record (record_bytes m ++ x) ≡ m
+unfolding read_record
+record_back m x h =
+    let archive = from_be_bytes-to_be_bytes_4 m.archive h.archive in
+    let offset = from_be_bytes-to_be_bytes_8 m.offset h.offset in
+    let span = from_be_bytes-to_be_bytes_8 m.length h.span in
+    let size = from_be_bytes-to_be_bytes_8 m.size h.size in
+    let date = date_back (flags_byte m) m.date h.date (dated_back m.flags.seen m.flags.replied m.flags.flagged (is_some m.date)) _ (from_be_bytes-to_be_bytes_8 (date_number m.date) (date_small m.date h.date)) in
+    let flags = flags_back m.flags.seen m.flags.replied m.flags.flagged (is_some m.date) in
+    λ i. record { archive = archive i; offset = offset i; length = span i; size = size i; date = date i; flags = flags i }
+
+pub behind_record : (m : Record) (x : List ℕ) → drop 40 (record_bytes m ++ x) ≡ x
+behind_record m x = refl
+
+rebuilt : ℕ → ℕ
+rebuilt f = bit 1 (has_bit f 1) + bit 2 (has_bit f 2) + bit 4 (has_bit f 4) + bit 8 (has_bit f 8)
+
+-- four bits make all flags up to 15
+flags_kept : (f : ℕ) → f ≤ 15 → rebuilt f ≡ f
+unfolding rebuilt
+flags_kept zero h = refl
+flags_kept (suc zero) h = refl
+flags_kept (suc (suc zero)) h = refl
+flags_kept (suc (suc (suc zero))) h = refl
+flags_kept (suc (suc (suc (suc zero)))) h = refl
+flags_kept (suc (suc (suc (suc (suc zero))))) h = refl
+flags_kept (suc (suc (suc (suc (suc (suc zero)))))) h = refl
+flags_kept (suc (suc (suc (suc (suc (suc (suc zero))))))) h = refl
+flags_kept (suc (suc (suc (suc (suc (suc (suc (suc zero)))))))) h = refl
+flags_kept (suc (suc (suc (suc (suc (suc (suc (suc (suc zero))))))))) h = refl
+flags_kept (suc (suc (suc (suc (suc (suc (suc (suc (suc (suc zero)))))))))) h = refl
+flags_kept (suc (suc (suc (suc (suc (suc (suc (suc (suc (suc (suc zero))))))))))) h = refl
+flags_kept (suc (suc (suc (suc (suc (suc (suc (suc (suc (suc (suc (suc zero)))))))))))) h = refl
+flags_kept (suc (suc (suc (suc (suc (suc (suc (suc (suc (suc (suc (suc (suc zero))))))))))))) h = refl
+flags_kept (suc (suc (suc (suc (suc (suc (suc (suc (suc (suc (suc (suc (suc (suc zero)))))))))))))) h = refl
+flags_kept (suc (suc (suc (suc (suc (suc (suc (suc (suc (suc (suc (suc (suc (suc (suc zero))))))))))))))) h = refl
+flags_kept (suc (suc (suc (suc (suc (suc (suc (suc (suc (suc (suc (suc (suc (suc (suc (suc n)))))))))))))))) h = absurd (omega (arith, h))
+
+some_date : (b : Bool) (z : ℤ) → is_some (cond b (Some z) None) ≡ b
+some_date true z = refl
+some_date false z = refl
+
+date_kept : (b : Bool) (n : ℕ) → n < 2 ^ 64 → (b || nat_eq n 0) ≡ true → date_number (cond b (Some (cast_signed w64 n)) None) ≡ n
+date_kept true n h e = of_z-to_z w64 n h
+date_kept false n h e = grind (arith, nat_tests)
+
+u64_small : (r : List ℕ) (i : ℕ) → AreBytes r → i + 8 ≤ length r → u64_at r i < 2 ^ 64
+u64_small r i h l =
+    let t = bytes_before 8 (drop i r) (bytes_behind i r h) in
+    omega (arith, t.below 0, t.below 1, t.below 2, t.below 3, t.below 4, t.below 5, t.below 6, t.below 7)
+
+-- the bytes of a record that was read are those that it was read from
+pub record_kept : (r : List ℕ) → AreBytes r → 40 ≤ length r → is_record r ≡ true → record_bytes (read_record r) ++ drop 40 r ≡ r
+unfolding read_record is_record rebuilt
+record_kept r h l e =
+    let f = byte_at r 4 in
+    let t₄ = both (nat_le f 15 && nat_eq (byte_at r 5) 0 && nat_eq (byte_at r 6) 0 && nat_eq (byte_at r 7) 0) (has_bit f 8 || nat_eq (u64_at r 32) 0) e in
+    let t₃ = both (nat_le f 15 && nat_eq (byte_at r 5) 0 && nat_eq (byte_at r 6) 0) (nat_eq (byte_at r 7) 0) t₄.0 in
+    let t₂ = both (nat_le f 15 && nat_eq (byte_at r 5) 0) (nat_eq (byte_at r 6) 0) t₃.0 in
+    let t₁ = both (nat_le f 15) (nat_eq (byte_at r 5) 0) t₂.0 in
+    let small : f ≤ 15 = leb-true f 15 t₁.0 in
+    let zero₅ : byte_at r 5 ≡ 0 = grind (arith, nat_tests, t₁.1) in
+    let zero₆ : byte_at r 6 ≡ 0 = grind (arith, nat_tests, t₂.1) in
+    let zero₇ : byte_at r 7 ≡ 0 = grind (arith, nat_tests, t₃.1) in
+    let d : date_number (read_date f (u64_at r 32)) ≡ u64_at r 32 = date_kept (has_bit f 8) (u64_at r 32) (u64_small r 32 h (omega (arith, l))) t₄.1 in
+    let flags : flags_byte (read_record r) ≡ f = ap (λ (b : Bool). bit 1 (has_bit f 1) + bit 2 (has_bit f 2) + bit 4 (has_bit f 4) + bit 8 b) (some_date (has_bit f 8) (cast_signed w64 (u64_at r 32))) ∙ flags_kept f small in
+    let s₅ : be64 (date_number (read_date f (u64_at r 32))) ++ drop 40 r ≡ drop 32 r = ap (λ (n : ℕ). be64 n ++ drop 40 r) d ∙ u64_back r 32 40 h (omega (arith, l)) refl in
+    let s₄ : be64 (u64_at r 24) ++ drop 32 r ≡ drop 24 r = u64_back r 24 32 h (omega (arith, l)) refl in
+    let s₃ : be64 (u64_at r 16) ++ drop 24 r ≡ drop 16 r = u64_back r 16 24 h (omega (arith, l)) refl in
+    let s₂ : be64 (u64_at r 8) ++ drop 16 r ≡ drop 8 r = u64_back r 8 16 h (omega (arith, l)) refl in
+    let b₇ : byte_at r 7 ∷ drop 8 r ≡ drop 7 r = byte_back r 7 8 (omega (arith, l)) refl in
+    let b₆ : byte_at r 6 ∷ drop 7 r ≡ drop 6 r = byte_back r 6 7 (omega (arith, l)) refl in
+    let b₅ : byte_at r 5 ∷ drop 6 r ≡ drop 5 r = byte_back r 5 6 (omega (arith, l)) refl in
+    let b₄ : byte_at r 4 ∷ drop 5 r ≡ drop 4 r = byte_back r 4 5 (omega (arith, l)) refl in
+    let s₁ : flags_byte (read_record r) ∷ 0 ∷ 0 ∷ 0 ∷ drop 8 r ≡ drop 4 r = cc in
+    let s₀ : be32 (u32_at r 0) ++ drop 4 r ≡ r = u32_back r 0 4 h (omega (arith, l)) refl in
+    let fields = be32 (u32_at r 0) ∷ (flags_byte (read_record r) ∷ zeros) ∷ be64 (u64_at r 8) ∷ be64 (u64_at r 16) ∷ be64 (u64_at r 24) ∷ be64 (date_number (read_date f (u64_at r 32))) ∷ [] in
+    concat_then fields (drop 40 r)
+    ∙ ap (λ (x : List ℕ). before (be32 (u32_at r 0) ∷ (flags_byte (read_record r) ∷ zeros) ∷ be64 (u64_at r 8) ∷ be64 (u64_at r 16) ∷ be64 (u64_at r 24) ∷ []) x) s₅
+    ∙ ap (λ (x : List ℕ). before (be32 (u32_at r 0) ∷ (flags_byte (read_record r) ∷ zeros) ∷ be64 (u64_at r 8) ∷ be64 (u64_at r 16) ∷ []) x) s₄
+    ∙ ap (λ (x : List ℕ). before (be32 (u32_at r 0) ∷ (flags_byte (read_record r) ∷ zeros) ∷ be64 (u64_at r 8) ∷ []) x) s₃
+    ∙ ap (λ (x : List ℕ). before (be32 (u32_at r 0) ∷ (flags_byte (read_record r) ∷ zeros) ∷ []) x) s₂
+    ∙ ap (λ (x : List ℕ). be32 (u32_at r 0) ++ x) s₁
+    ∙ s₀
+
+few_flags : (a b c d : Bool) (n : ℕ) → (d ≡ false → n ≡ 0) → ((((nat_le (bit 1 a + bit 2 b + bit 4 c + bit 8 d) 15 && true) && true) && true) && (has_bit (bit 1 a + bit 2 b + bit 4 c + bit 8 d) 8 || nat_eq n 0)) ≡ true
+few_flags true true true true n h = refl
+few_flags true true true false n h = rw (h refl) refl
+few_flags true true false true n h = refl
+few_flags true true false false n h = rw (h refl) refl
+few_flags true false true true n h = refl
+few_flags true false true false n h = rw (h refl) refl
+few_flags true false false true n h = refl
+few_flags true false false false n h = rw (h refl) refl
+few_flags false true true true n h = refl
+few_flags false true true false n h = rw (h refl) refl
+few_flags false true false true n h = refl
+few_flags false true false false n h = rw (h refl) refl
+few_flags false false true true n h = refl
+few_flags false false true false n h = rw (h refl) refl
+few_flags false false false true n h = refl
+few_flags false false false false n h = rw (h refl) refl
+
+no_date : (date : Option ℤ) → is_some date ≡ false → date_number date ≡ 0
+no_date None e = refl
+no_date (Some z) e = absurd cc
+
+-- the bytes of a record pass the test
+pub record_passes : (m : Record) (x : List ℕ) → HasSmallFields m → is_record (record_bytes m ++ x) ≡ true
+unfolding is_record
+record_passes m x h =
+    few_flags m.flags.seen m.flags.replied m.flags.flagged (is_some m.date) _ (λ e. from_be_bytes-to_be_bytes_8 (date_number m.date) (date_small m.date h.date) ∙ no_date m.date e)

@@ -1,0 +1,23 @@
+use Rattle.std.proofs.Common.{◌≡◌, ◌<◌, ℕ, List, Option, length, None, string_bytes, ap, sym, subst, rules, ◌∙◌, arith}
+use Rattle.std.proofs.lemmas.Grind.{common_steps}
+use Rattle.std.specs.List.{AllByRecursion}
+use Rattle.mail_index.specs.Tables.{IsPath, IsMessage}
+use Rattle.mail_index.specs.Builders.{Draft}
+use Rattle.mail_index.specs.Inside.Drafts.{draft_of, with_open}
+use Rattle.mail_index.proofs.BuildLaws.Placing.{archive-opened, none-of-next}
+use Rattle.mail_index.proofs.build.draft.Draft.begin_archive.Goals as goal
+
+pub invariant_of-self : goal.invariant_of-self
+invariant_of-self c =
+    let d : Draft = draft_of c.self.inside.most c.self.inside.path c.self.inside.in_message c.self.inside.archives.items c.self.inside.records.items c.self.inside.keys in
+    let closed : d.path ≡ None = ap (λ (e : Draft). e.path) c.self.view_is ∙ c.requires.phase in
+    let room : length d.table.archives < d.most = first_of (search rules, grind (arith, common_steps)) in
+    let named : IsPath (string_bytes c.in_ok-from_str.field-0) = subst IsPath (sym c.in_ok-from_str.ensures.ok) c.requires.path in
+    archive-opened d (string_bytes c.in_ok-from_str.field-0) c.self.invariant closed room named
+
+pub returns-clause-empty : goal.returns-clause-empty
+returns-clause-empty c =
+    let d : Draft = draft_of c.self.inside.most c.self.inside.path c.self.inside.in_message c.self.inside.archives.items c.self.inside.records.items c.self.inside.keys in
+    let closed : d.path ≡ None = ap (λ (e : Draft). e.path) c.self.view_is ∙ c.requires.phase in
+    let placed : AllByRecursion (IsMessage d.table.archives) d.table.messages = subst (λ (p : Option (List ℕ)). AllByRecursion (IsMessage (with_open d.table.archives p)) d.table.messages) closed c.self.invariant.placed in
+    none-of-next d.table.archives d.table.messages placed

@@ -1,0 +1,38 @@
+use Rattle.std.proofs.Common.{◌≡◌, ◌<◌, ◌≤◌, ◌^◌, length, map, refl, rules, arith}
+use Rattle.std.proofs.lemmas.Grind.{common_steps}
+use Rattle.mail_index.specs.Builders.{Draft}
+use Rattle.mail_index.specs.Inside.Drafts.{draft_of, archive_of, message_count}
+use Rattle.mail_index.proofs.BuildLaws.DraftLemmas.{message_count-within}
+use Rattle.mail_index.proofs.BuildLaws.Sizes.{length-archives, length-texts, length-all_postings, counted_length-small}
+use Rattle.mail_index.proofs.build.draft.Draft.counts.Goals as goal
+
+pub archives_length-requires : goal.archives_length-requires
+archives_length-requires c = rw c.as_slice.ensures.value (omega (arith, length-archives (map archive_of c.self.inside.archives.items) c.self.invariant.named, c.self.invariant.archives, c.self.invariant.limit))
+
+pub texts_length-requires : goal.texts_length-requires
+texts_length-requires c = omega (arith, length-texts _ c.self.inside.keys c.self.invariant.listed, c.self.invariant.keys, c.self.invariant.limit)
+
+pub postings_length-requires : goal.postings_length-requires
+postings_length-requires c =
+    let d : Draft = draft_of c.self.inside.most c.self.inside.path c.self.inside.in_message c.self.inside.archives.items c.self.inside.records.items c.self.inside.keys in
+    let count : message_count d ≤ 2 ^ 31 = omega (arith, message_count-within d c.self.invariant, c.self.invariant.limit) in
+    omega (arith, length-all_postings (message_count d) c.self.inside.keys count c.self.invariant.listed, c.self.invariant.keys, c.self.invariant.limit)
+
+pub returns-clause-small : goal.returns-clause-small
+returns-clause-small c =
+    let d : Draft = draft_of c.self.inside.most c.self.inside.path c.self.inside.in_message c.self.inside.archives.items c.self.inside.records.items c.self.inside.keys in
+    let count : message_count d ≤ 2 ^ 31 = omega (arith, message_count-within d c.self.invariant, c.self.invariant.limit) in
+    let archives : length d.table.archives < 2 ^ 31 = omega (arith, c.self.invariant.archives, c.self.invariant.limit) in
+    let messages : length d.table.messages < 2 ^ 31 = omega (arith, c.self.invariant.messages, c.self.invariant.limit) in
+    let keys : length d.table.keys < 2 ^ 31 = omega (arith, c.self.invariant.keys, c.self.invariant.limit) in
+    let archive_count : c.len.result ≡ length (map archive_of c.self.inside.archives.items) = first_of (search rules, grind (arith, common_steps)) in
+    let message_count_is : c.len-2.result ≡ length c.self.inside.records.items = first_of (search rules, grind (arith, common_steps)) in
+    counted_length-small d.table _ (message_count d) (record {
+      version = refl;
+      archives = archive_count;
+      messages = message_count_is;
+      keys = c.len-3.ensures;
+      archive_bytes = rw c.as_slice.ensures.value at c.archives_length.ensures;
+      text_bytes = c.texts_length.ensures;
+      posting_bytes = c.postings_length.ensures;
+    }) archives messages keys count c.self.invariant.named c.self.invariant.listed

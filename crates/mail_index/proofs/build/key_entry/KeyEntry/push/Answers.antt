@@ -1,0 +1,39 @@
+use Rattle.std.proofs.Common.{◌≡◌, ◌∙◌, ℕ, List, ◌+◌, ◌-◌, ◌^◌, ◌<◌, ◌≤◌, ◌++◌, take, drop, ap, sym, subst, arith}
+use Rattle.mail_index.specs.Tables.{Key}
+use Rattle.mail_index.specs.Postings.{leb128}
+use Rattle.mail_index.specs.Inside.KeyMaps.{with_one, key_in, key_bytes, IsEntry}
+use Rattle.mail_index.proofs.BuildLaws.EntryLemmas.{entry-more, key-more, key-same, key_bytes-more, within-more}
+use Rattle.mail_index.proofs.build.key_entry.KeyEntry.push.Goals as goal
+
+pub returns-then-number-self-clause-ok : goal.returns-then-number-self-clause-ok
+returns-then-number-self-clause-ok c =
+    let whole : List ℕ = key_bytes c.self.inside.front (c.self.inside.text_length + 1) c.self.inside.bytes.items c.self.inside.recent in
+    sym c.self.view_is ∙ key-same whole (c.self.inside.text_length + 1) c.self.inside.next c.args.number c.self.invariant.0 (omega arith)
+    ∙ ap (λ (k : Key). with_one k c.args.number) c.self.view_is
+
+pub invariant_of-self-2 : goal.invariant_of-self-2
+invariant_of-self-2 c =
+    let front : ℕ = c.self.inside.text_length + 1 in
+    let whole : List ℕ = key_bytes c.self.inside.front front c.self.inside.bytes.items c.self.inside.recent in
+    let difference : List ℕ = leb128 5 (c.args.number + 1 - c.self.inside.next) in
+    let e : key_bytes c.self.inside.front front c.append.new.bytes.items c.append.new.recent ≡ whole ++ difference =
+    key_bytes-more c.self.inside.front front c.self.inside.bytes.items c.self.inside.recent c.append.new.bytes.items c.append.new.recent difference
+    (c.in_ok-append.ensures.ok ∙ ap (λ (l : List ℕ). (c.self.inside.bytes.items ++ c.self.inside.recent) ++ l) c.leb128_of-difference.ensures.bytes) in
+    let low : c.self.inside.next ≤ c.args.number = omega arith in
+    let high : c.args.number + 1 < 2 ^ 32 = omega arith in (
+      subst (λ (l : List ℕ). IsEntry l front (c.args.number + 1)) (sym e) (entry-more whole front c.self.inside.next c.args.number c.self.invariant.0 low high),
+      within-more c.self.inside.front c.self.inside.bytes.items c.append.new.bytes.items front c.self.invariant.1 c.in_ok-append.ensures.kept,
+    )
+
+pub returns-clause-ok : goal.returns-clause-ok
+returns-clause-ok c =
+    let front : ℕ = c.self.inside.text_length + 1 in
+    let whole : List ℕ = key_bytes c.self.inside.front front c.self.inside.bytes.items c.self.inside.recent in
+    let difference : List ℕ = leb128 5 (c.args.number + 1 - c.self.inside.next) in
+    let e : key_bytes c.self.inside.front front c.append.new.bytes.items c.append.new.recent ≡ whole ++ difference =
+    key_bytes-more c.self.inside.front front c.self.inside.bytes.items c.self.inside.recent c.append.new.bytes.items c.append.new.recent difference
+    (c.in_ok-append.ensures.ok ∙ ap (λ (l : List ℕ). (c.self.inside.bytes.items ++ c.self.inside.recent) ++ l) c.leb128_of-difference.ensures.bytes) in
+    let low : c.self.inside.next ≤ c.args.number = omega arith in
+    let high : c.args.number + 1 < 2 ^ 32 = omega arith in
+    ap (λ (l : List ℕ). key_in (take front l) (drop front l)) e
+    ∙ key-more whole front c.self.inside.next c.args.number c.self.invariant.0 low high ∙ ap (λ (k : Key). with_one k c.args.number) c.self.view_is

@@ -1,0 +1,14 @@
+use Rattle.std.proofs.Common.{◌∙◌, [], ℕ, List, Vec, take, set, ap, sym}
+use Rattle.std.specs.Global.{Global}
+use Rattle.std.proofs.lemmas.List.{map-set, get_or-map}
+use Rattle.mail_index.specs.Inside.KeyMaps.{rows}
+use Rattle.mail_index.proofs.build.key_order.shorten.Goals as goal
+
+abbrev items_of : Vec ℕ Global → List ℕ
+items_of v = v.items
+
+pub returns : goal.returns
+returns c =
+    map-set items_of c.args.pages.now.items c.args.page c.truncate.new.self
+    ∙ ap (set (rows c.args.pages.now.items) c.args.page) (c.truncate.ensures.items
+    ∙ ap (take c.args.half) (ap items_of c.index_mut.ensures.value ∙ sym (get_or-map items_of c.args.pages.now.items c.args.page c.index_mut.result.now [] c.requires)))

@@ -1,0 +1,31 @@
+use Rattle.std.proofs.Common.{◌≡◌, ◌∙◌, ◌+◌, List, length, map, Ok, Err, OnErr, ap, arith, length-append}
+use Rattle.contract_words.specs.Devices.{Sends}
+use Rattle.mail_index.specs.Tables.{Key}
+use Rattle.mail_index.specs.Postings.{postings}
+use Rattle.mail_index.specs.Files.{entry_of, entry_bytes, directory_from, texts_of, postings_of}
+use Rattle.mail_index.proofs.BuildLaws.SigningLemmas.{signing-next, signing-stop}
+use Rattle.mail_index.proofs.build.key_sections.send_directory.Goals as goal
+
+pub returns-in_err-send_entry-clause-err : goal.returns-in_err-send_entry-clause-err
+returns-in_err-send_entry-clause-err g c =
+    elim c.from_residual.result as (λ r. OnErr r (Sends (g.O.Out.taken c.args.out.now) (g.O.Out.taken c.send_entry.new.out) (directory_from 0 0 (map entry_of c.args.keys)))) [
+      | Ok _ ↦ tt
+      | Err _ ↦ signing-stop (g.O.Out.taken c.send_entry.new.out) (entry_bytes c.loop-key.text_place c.loop-key.place (entry_of c.in-Some.key.now)) _ c.loop-key.invariant.0
+          (ap (λ (keys : List Key). directory_from c.loop-key.text_place c.loop-key.place (map entry_of keys)) c.in-Some.ensures.steps) c.in_err-send_entry.ensures.err
+    ]
+
+pub loop-key-preserved : goal.loop-key-preserved
+loop-key-preserved g c =
+    let text : c.text.result.now ≡ c.in-Some.key.now.text = c.text.ensures.text in
+    let numbers : c.postings_length.result ≡ length (postings c.in-Some.key.now.numbers) = c.postings_length.ensures in
+    let texts : length (texts_of (map entry_of c.loop-key.key-iterator)) ≡ length c.in-Some.key.now.text + length (texts_of (map entry_of c.next.new.self)) =
+    ap (λ (keys : List Key). length (texts_of (map entry_of keys))) c.in-Some.ensures.steps ∙ length-append c.in-Some.key.now.text (texts_of (map entry_of c.next.new.self)) in
+    let places : length (postings_of (map entry_of c.loop-key.key-iterator)) ≡ length (postings c.in-Some.key.now.numbers) + length (postings_of (map entry_of c.next.new.self)) =
+    ap (λ (keys : List Key). length (postings_of (map entry_of keys))) c.in-Some.ensures.steps ∙ length-append (postings c.in-Some.key.now.numbers) (postings_of (map entry_of c.next.new.self)) in
+    rw (text, numbers) (
+      signing-next (entry_bytes c.loop-key.text_place c.loop-key.place (entry_of c.in-Some.key.now)) _ c.loop-key.invariant.0
+          (ap (λ (keys : List Key). directory_from c.loop-key.text_place c.loop-key.place (map entry_of keys)) c.in-Some.ensures.steps) c.in_ok-send_entry.ensures.ok,
+      c.in_ok-send_entry.ensures.count ∙ c.loop-key.invariant.1,
+      omega (arith, texts, c.loop-key.invariant.2),
+      omega (arith, places, c.loop-key.invariant.3),
+    )

@@ -1,4 +1,0 @@
-use Rattle.mail_index.proofs.leb128.+split_leb128.Given as goal
-
-abbrev pub decreases-split_leb128 : goal.decreases-split_leb128
-decreases-split_leb128 l = l.most

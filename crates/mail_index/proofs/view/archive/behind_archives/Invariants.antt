@@ -1,0 +1,10 @@
+use Rattle.std.proofs.Common.{◌≡◌, ◌-◌}
+use Rattle.mail_index.specs.Versions.{version_number}
+use Rattle.mail_index.specs.Records.{SpellsArchives, behind_archives}
+use Rattle.mail_index.proofs.view.archive.behind_archives.Given as goal
+
+abbrev pub invariant-loop-number : goal.invariant-loop-number
+invariant-loop-number l = record {
+  spelled : SpellsArchives (version_number l.fn.version) (l.fn.count - l.number) l.rest;
+  same : behind_archives (version_number l.fn.version) (l.fn.n - l.number) l.rest ≡ behind_archives (version_number l.fn.version) l.fn.n l.fn.section;
+}

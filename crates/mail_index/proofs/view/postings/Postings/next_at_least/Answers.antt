@@ -1,0 +1,24 @@
+use Rattle.std.proofs.Common.{◌≡◌, ◌∙◌, ◌-◌, ◌++◌, ℕ, suc, List, [], ◌∷◌, length, refl, sym, ap, arith, append_assoc, length-append}
+use Rattle.mail_index.specs.Steps.{add_steps}
+use Rattle.mail_index.proofs.ViewLaws.StepLemmas.{add_steps-none, add_steps-one}
+use Rattle.mail_index.proofs.ViewLaws.PostingReadLemmas.{All-more}
+use Rattle.mail_index.proofs.view.postings.Postings.next_at_least.Goals as goal
+
+pub loop-number-init : goal.loop-number-init
+loop-number-init c =
+    let none : length c.args.self.now - length c.args.self.now ≡ 0 = omega arith in
+    record { split = ([], tt, refl); steps = add_steps-none c.args.steps.now ∙ ap (add_steps c.args.steps.now) (sym none) }
+
+pub loop-number-preserved : goal.loop-number-preserved
+loop-number-preserved c =
+    let sofar = c.loop-number.invariant.split in
+    let rest : List ℕ = c.next.new.self in
+    let n : ℕ = c.in-Some.number in
+    let all : c.args.self.now ≡ (sofar.0 ++ n ∷ []) ++ rest = sofar.2 ∙ ap (λ (l : List ℕ). sofar.0 ++ l) c.in-Some.ensures.0 ∙ sym (append_assoc sofar.0 (n ∷ []) rest) in
+    let count : suc (length c.args.self.now - length c.loop-number.self) ≡ length c.args.self.now - length rest =
+    omega (arith, ap length sofar.2, ap length c.in-Some.ensures.0, length-append sofar.0 c.loop-number.self) in
+    record {
+      split = (sofar.0 ++ n ∷ [], All-more c.args.n n sofar.0 sofar.1 (omega (arith, c.if-number-n.false)), all);
+      steps = c.in-Some.ensures.1 ∙ ap (λ (s : ℕ). add_steps s 1) c.loop-number.invariant.steps
+          ∙ add_steps-one c.args.steps.now (length c.args.self.now - length c.loop-number.self) ∙ ap (add_steps c.args.steps.now) count;
+    }

@@ -1,0 +1,14 @@
+use Rattle.std.proofs.Common.{◌≡◌, ◌<◌, ◌-◌, ◌++◌, ℕ, List, length}
+use Rattle.std.specs.List.{AllByRecursion}
+use Rattle.mail_index.specs.Steps.{add_steps}
+use Rattle.mail_index.proofs.view.postings.Postings.next_at_least.Given as goal
+
+-- numbers below n were dropped, each with a step
+abbrev pub invariant-loop-number : goal.invariant-loop-number
+invariant-loop-number l = record {
+  split : (dropped : List ℕ) × AllByRecursion (λ m. m < l.n) dropped × (l.fn.self ≡ dropped ++ l.self);
+  steps : l.steps ≡ add_steps l.fn.steps (length l.fn.self - length l.self);
+}
+
+abbrev pub decreases-loop-number : goal.decreases-loop-number
+decreases-loop-number l = length l.self

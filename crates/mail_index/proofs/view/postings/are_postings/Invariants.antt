@@ -1,0 +1,14 @@
+use Rattle.std.proofs.Common.{◌≤◌, length}
+use Rattle.mail_index.specs.PostingReads.{ArePosted}
+use Rattle.mail_index.proofs.view.postings.are_postings.Given as goal
+
+-- all bytes are postings exactly where the rest is, from the number that was reached on
+abbrev pub invariant-loop-rest : goal.invariant-loop-rest
+invariant-loop-rest l = record {
+  forward : ArePosted l.count 0 l.bytes → ArePosted l.count l.low l.rest;
+  back : ArePosted l.count l.low l.rest → ArePosted l.count 0 l.bytes;
+  within : l.low ≤ l.count;
+}
+
+abbrev pub decreases-loop-rest : goal.decreases-loop-rest
+decreases-loop-rest l = length l.rest

@@ -1,0 +1,114 @@
+-- Keys as a builder holds them: entries in the order of their arrival, and their numbers in the order of their keys.
+use Rattle.std.specs.Prelude.{◌≡◌, ℕ, zero, suc, ◌+◌, ◌<◌, ◌≤◌, ◌⊎◌, nat_le, if◌then◌else◌, List, [], ◌∷◌, ◌++◌, length, map, take, drop, Vec}
+use Rattle.std.specs.Global.{Global}
+use Rattle.std.specs.declared.cmp.Ordering.TheVariants.{Less, Greater}
+use Rattle.std.specs.List.{AllByRecursion, slice_index}
+use Rattle.mail_index.specs.declared.kind.Kind.{Kind}
+use Rattle.mail_index.specs.declared.build.build_fault.BuildFault.{BuildFault}
+use Rattle.mail_index.specs.declared.build.build_fault.BuildFault.TheVariants.{OutOfMemory, TooMany, Device, Failed}
+use Rattle.mail_index.specs.declared.build.key_order.KeyOrder.{KeyOrder}
+use Rattle.mail_index.specs.declared.build.key_order.Place.{Place}
+use Rattle.mail_index.specs.Tables.{Key}
+use Rattle.mail_index.specs.PostingLists.{with_number, numbers_of, IsPosted}
+use Rattle.mail_index.specs.Kinds.{kind_number, kind_of_number}
+use Rattle.mail_index.specs.LookUps.{lies_to, AreSorted}
+use Rattle.mail_index.specs.KeysRead.{key_at}
+
+-- a key of one message
+abbrev pub new_key : Kind → List ℕ → ℕ → Key
+new_key kind text n = record { kind = kind; text = text; numbers = n ∷ [] }
+
+-- the key with n among its numbers
+abbrev pub with_one : Key → ℕ → Key
+with_one k n = record { kind = k.kind; text = k.text; numbers = with_number k.numbers n }
+
+-- ---- an entry's bytes
+
+-- the key of the number of a kind and a text, and of postings
+abbrev pub key_in : List ℕ → List ℕ → Key
+key_in front postings = record { kind = kind_of_number (slice_index front 0); text = drop 1 front; numbers = numbers_of postings }
+
+-- so many of the bytes are the number of a kind and a text, and the others are postings of numbers below next
+pub record IsEntry (bytes : List ℕ) (front next : ℕ) : Type 0 where
+  pub long : front ≤ length bytes
+  pub kind : kind_number (kind_of_number (slice_index (take front bytes) 0)) ∷ drop 1 (take front bytes) ≡ take front bytes
+  pub posted : IsPosted (drop front bytes) next
+
+-- a front of so many bytes, if it is short: then it is kept apart
+abbrev pub short_front : List ℕ → ℕ → List ℕ
+short_front kept front = if nat_le front 16 then take front kept else []
+
+-- what it stands in: the place that is kept apart for it, or the other bytes
+abbrev pub front_holder : List ℕ → ℕ → List ℕ → List ℕ
+front_holder kept front bytes = if nat_le front 16 then kept else bytes
+
+-- all the bytes of an entry: those kept apart, the others, and the last of the postings
+abbrev pub key_bytes : List ℕ → ℕ → List ℕ → List ℕ → List ℕ
+key_bytes kept front bytes recent = short_front kept front ++ (bytes ++ recent)
+
+-- ---- the order of the entries
+
+-- the keys of these numbers
+abbrev pub placed : List Key → List ℕ → List Key
+placed entries order = map (key_at entries) order
+
+-- i is one of these
+abbrev pub IsAmong : ℕ → List ℕ → Type 0
+IsAmong i [] = ⊥
+IsAmong i (j ∷ js) = (j ≡ i) ⊎ IsAmong i js
+
+-- the order has the number of each entry once, and sorts the entries by their keys
+pub record IsOrder (entries : List Key) (order : List ℕ) : Type 0 where
+  pub sorted : AreSorted (placed entries order)
+  pub within : AllByRecursion (λ i. i < length entries) order
+  pub whole : (i : ℕ) → i < length entries → IsAmong i order
+  pub count : length order ≡ length entries
+
+-- the place is the one among the keys where the wanted one isn't met, and would stand
+pub record IsGap (kind : Kind) (text : List ℕ) (keys : List Key) (place : ℕ) : Type 0 where
+  pub within : place ≤ length keys
+  pub below : (j : ℕ) → suc j ≡ place → lies_to kind text (key_at keys j) ≡ Less
+  pub above : place < length keys → lies_to kind text (key_at keys place) ≡ Greater
+
+-- ---- an order in pages
+
+-- what the pages hold
+abbrev pub rows : List (Vec ℕ Global) → List (List ℕ)
+rows pages = map (λ (page : Vec ℕ Global). page.items) pages
+
+-- the numbers of the pages one after another, and between each and the next one of the heads
+abbrev pub in_pages : List (List ℕ) → List ℕ → List ℕ
+in_pages [] heads = []
+in_pages (row ∷ rest) [] = row ++ []
+in_pages (row ∷ rest) (head ∷ heads) = row ++ head ∷ in_pages rest heads
+
+-- those left of a page, and those behind it: of the heads, and of the pages behind it
+abbrev pub left_in_pages : List ℕ → List ℕ → List (List ℕ) → List ℕ
+left_in_pages row [] rest = row ++ []
+left_in_pages row (head ∷ heads) rest = row ++ head ∷ in_pages rest heads
+
+-- how many numbers stand before the one at a place of a page
+abbrev pub position : List (List ℕ) → ℕ → ℕ → ℕ
+position [] page at = at
+position (row ∷ rest) zero at = at
+position (row ∷ rest) (suc page) at = length row + suc (position rest page at)
+
+-- the numbers of an order, and how many of them stand before a place
+abbrev pub numbers_in : KeyOrder → List ℕ
+numbers_in order = in_pages (rows order.pages.items) order.heads.items
+
+abbrev pub place_in : KeyOrder → Place → ℕ
+place_in order place = position (rows order.pages.items) place.page place.at
+
+-- the keys in that order
+abbrev pub keys_in : List Key → KeyOrder → List Key
+keys_in entries order = placed entries (numbers_in order)
+
+-- ---- faults
+
+-- there was no memory, or there would be more than so many
+abbrev pub IsWantOf : ℕ → ℕ → BuildFault → Type 0
+IsWantOf most count OutOfMemory = Unit {0}
+IsWantOf most count TooMany = most < count
+IsWantOf most count Device = ⊥
+IsWantOf most count Failed = ⊥

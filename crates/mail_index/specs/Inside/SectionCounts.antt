@@ -1,0 +1,24 @@
+-- The counts that begin an index file.
+use Rattle.std.specs.Prelude.{◌≡◌, ℕ, ◌+◌, ◌*◌, List, [], ◌∷◌, length}
+use Rattle.mail_index.specs.declared.build.sections.Counts.{Counts}
+use Rattle.mail_index.specs.Tables.{Table}
+use Rattle.mail_index.specs.Versions.{newest}
+use Rattle.mail_index.specs.Files.{magic, be32, be64, archive_section, texts_of, postings_of, entries}
+
+-- as they are written
+abbrev pub counted : Counts → List (List ℕ)
+counted c =
+    magic ∷ be32 newest ∷ be32 c.archives ∷ be32 c.messages ∷ be32 c.keys ∷ be64 c.archive_bytes ∷ be64 c.text_bytes ∷ be64 c.posting_bytes ∷ []
+
+pub record IsCountOf (t : Table) (c : Counts) : Type 0 where
+  pub version : t.version ≡ newest
+  pub archives : c.archives ≡ length t.archives
+  pub messages : c.messages ≡ length t.messages
+  pub keys : c.keys ≡ length t.keys
+  pub archive_bytes : c.archive_bytes ≡ length (archive_section t)
+  pub text_bytes : c.text_bytes ≡ length (texts_of (entries t))
+  pub posting_bytes : c.posting_bytes ≡ length (postings_of (entries t))
+
+-- the length of a file with these counts
+abbrev pub counted_length : Counts → ℕ
+counted_length c = 80 + c.archive_bytes + 40 * c.messages + 24 * c.keys + c.text_bytes + c.posting_bytes

@@ -1,0 +1,17 @@
+//! Building an index: the keys in order as they come, and the file of a table.
+
+pub mod build_fault;
+pub mod builder;
+pub mod draft;
+pub mod file_out;
+pub mod key_entry;
+pub mod key_hints;
+pub mod key_map;
+pub mod key_order;
+pub mod key_search;
+pub mod key_sections;
+pub mod keys_in_order;
+pub mod leb128_out;
+pub mod prefetched;
+pub mod sections;
+pub mod short_bytes;

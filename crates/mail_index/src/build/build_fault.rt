@@ -1,0 +1,53 @@
+//! Why an index isn't built.
+ghost use Rattle.std.specs.Prelude.{◌≡◌};
+
+use mbox_cutter::DeviceFault;
+use std::alloc::{AllocError, AllocFailed};
+use thiserror::Error;
+
+/// Why a builder gave up.
+#[derive(Clone, Copy, Debug, PartialEq, Eq, Error)]
+pub enum BuildFault {
+    /// There was no memory.
+    #[error("out of memory")]
+    OutOfMemory,
+    /// There would be more archives, messages or keys than are allowed.
+    #[error("too many archives, messages or words")]
+    TooMany,
+    /// The output failed.
+    #[error("write failed")]
+    Device,
+    /// An earlier call was out of memory or had too many.
+    #[error("failed before")]
+    Failed,
+}
+
+impl From<AllocError> for BuildFault {
+    ghost use Rattle.mail_index.specs.declared.build.build_fault.BuildFault.TheVariants.{OutOfMemory};
+
+    ghost from_gives = { λ _ fault. fault ≡ OutOfMemory };
+
+    fn from(_: AllocError) -> Self {
+        BuildFault::OutOfMemory
+    }
+}
+
+impl<T: Drop> From<AllocFailed<T>> for BuildFault {
+    ghost use Rattle.mail_index.specs.declared.build.build_fault.BuildFault.TheVariants.{OutOfMemory};
+
+    ghost from_gives = { λ _ fault. fault ≡ OutOfMemory };
+
+    fn from(_: AllocFailed<T>) -> Self {
+        BuildFault::OutOfMemory
+    }
+}
+
+impl From<DeviceFault> for BuildFault {
+    ghost use Rattle.mail_index.specs.declared.build.build_fault.BuildFault.TheVariants.{Device};
+
+    ghost from_gives = { λ _ fault. fault ≡ Device };
+
+    fn from(_: DeviceFault) -> Self {
+        BuildFault::Device
+    }
+}

@@ -1,0 +1,215 @@
+//! Builds an index.
+ghost use Rattle.std.specs.Prelude.{◌≡◌, ◌^◌, ◌<◌, ◌≤◌, ◌-◌, length, Some, None, Err, IfOk, IfErr, IfSome, IfNone, OnErr, is_ok, if◌then◌else◌};
+ghost use Rattle.std.specs.Io.KnownBytes.{Appends};
+ghost use Rattle.contract_words.specs.Answers.{Gives};
+ghost use Rattle.contract_words.specs.Devices.{Counted, Sends};
+ghost use Rattle.mail_index.specs.Files.{HasSmallSections, index_file};
+ghost use Rattle.mail_index.specs.Tables.{IsPath, IsWellFormed};
+ghost use Rattle.mail_index.specs.Builders.{empty_draft, begun_archive, begun_message, added, ended_message, ended_archive, refusal, is_device, stepped, archive_count, end_of, IsNext, IsBetweenArchives, IsInArchive, IsInMessage, IsWithinMost};
+
+use crate::build::build_fault::BuildFault;
+use crate::build::draft::Draft;
+use crate::build::prefetched::Prefetched;
+use crate::kind::Kind;
+use crate::record::Record;
+use mbox_cutter::Out;
+use std::alloc::Global;
+use std::marker::Model;
+
+/// Builds an index, archive by archive and in each message by message.
+///
+/// An archive is begun, each of its messages is begun, given its keys and ended, and the archive is ended. Messages
+/// have numbers from 0 on, which run on over all archives. A call that was out of memory, or had one archive, message
+/// or key too many, leaves nothing: every later call answers [`BuildFault::Failed`].
+#[derive(Drop)]
+pub struct Builder {
+    alloc: Global,
+    // None once a call was refused.
+    draft: Option<Draft>,
+}
+
+impl Model for Builder {
+    ghost use Rattle.std.specs.Prelude.{Option};
+    ghost use Rattle.mail_index.specs.Builders.{Draft as Drafted};
+
+    ghost Value = { Option Drafted };
+
+    ghost view = { λ s. s.draft };
+}
+
+impl Builder {
+    /// No archive. At most `most` archives, messages and keys will be taken, and `most` is at most 2,147,483,647.
+    ///
+    /// Takes no memory.
+    pub fn new(alloc: Global, most: u32) -> Self
+        requires { most < 2 ^ 31 }
+        ensures { result ≡ Some (empty_draft most) }
+    {
+        Builder {
+            alloc,
+            draft: Some(Draft::new(alloc, most)),
+        }
+    }
+
+    /// Begins an archive, by a path that meets `is_path`, where none is open.
+    ///
+    /// # Errors
+    ///
+    /// `TooMany` where there would be one more than `most`.
+    pub fn begin_archive(&mut self, path: &str) -> Result<(), BuildFault>
+        requires phase { IfSome self.old IsBetweenArchives }
+        requires path { IfSome self.old (λ _. IsPath path.now) }
+        ensures gives { Gives (λ _. self.new) refusal result (stepped (begun_archive path.now) self.old) }
+        ensures empty { IfSome self.new (λ d. end_of (archive_count d) d.table.messages ≡ 0) }
+        ensures lost { OnErr result (self.new ≡ None) }
+        ensures failed { IfNone self.old (result ≡ Err BuildFault.Failed) }
+    {
+        let Some(draft) = &mut self.draft else {
+            return Err(BuildFault::Failed);
+        };
+        let outcome = draft.begin_archive(self.alloc, path);
+        self.settled(outcome)
+    }
+
+    /// Begins a message of the archive that is open, where no message is.
+    ///
+    /// # Errors
+    ///
+    /// `TooMany` where there would be one more than `most`.
+    pub fn begin_message(&mut self) -> Result<(), BuildFault>
+        requires { IfSome self.old IsInArchive }
+        ensures gives { Gives (λ _. self.new) refusal result (stepped begun_message self.old) }
+        ensures lost { OnErr result (self.new ≡ None) }
+        ensures failed { IfNone self.old (result ≡ Err BuildFault.Failed) }
+    {
+        let Some(draft) = &mut self.draft else {
+            return Err(BuildFault::Failed);
+        };
+        let outcome = draft.begin_message();
+        self.settled(outcome)
+    }
+
+    /// Gives the message that is open a key: a word or an id of 1 to 262,144 bytes. One that it has already changes
+    /// nothing, and takes no memory.
+    ///
+    /// # Errors
+    ///
+    /// `TooMany` where the key is a new one, and there would be one more than `most`.
+    pub fn add(&mut self, kind: Kind, text: &[u8]) -> Result<(), BuildFault>
+        requires phase { IfSome self.old IsInMessage }
+        requires some { IfSome self.old (λ _. 0 < length text.now) }
+        requires short { IfSome self.old (λ _. length text.now ≤ 262144) }
+        ensures gives { Gives (λ _. self.new) refusal result (stepped (added kind text.now) self.old) }
+        ensures lost { OnErr result (self.new ≡ None) }
+        ensures failed { IfNone self.old (result ≡ Err BuildFault.Failed) }
+    {
+        let mut places = [Prefetched::of(kind, text)];
+        self.prefetch(&mut places);
+        self.add_prefetched(kind, text, places[0])
+    }
+
+    /// Guesses where keys stand, for [`Builder::add_prefetched`]. Takes no memory.
+    pub fn prefetch(&self, places: &mut [Prefetched]) {
+        if let Some(draft) = &self.draft {
+            draft.prefetch(places);
+        }
+    }
+
+    /// Does what [`Builder::add`] does, with a guess where the key stands. Who has several keys to add waits less for memory if
+    /// it has them all guessed at once.
+    ///
+    /// # Errors
+    ///
+    /// `TooMany` where the key is a new one, and there would be one more than `most`.
+    pub fn add_prefetched(
+        &mut self,
+        kind: Kind,
+        text: &[u8],
+        place: Prefetched,
+    ) -> Result<(), BuildFault>
+        requires phase { IfSome self.old IsInMessage }
+        requires some { IfSome self.old (λ _. 0 < length text.now) }
+        requires short { IfSome self.old (λ _. length text.now ≤ 262144) }
+        ensures gives { Gives (λ _. self.new) refusal result (stepped (added kind text.now) self.old) }
+        ensures lost { OnErr result (self.new ≡ None) }
+        ensures failed { IfNone self.old (result ≡ Err BuildFault.Failed) }
+    {
+        let Some(draft) = &mut self.draft else {
+            return Err(BuildFault::Failed);
+        };
+        let outcome = draft.add(self.alloc, kind, text, place);
+        self.settled(outcome)
+    }
+
+    /// Ends the message that is open: one of the archive that is open, behind those before it, within 2^40 bytes, and
+    /// with a text that is shorter than itself.
+    pub fn end_message(&mut self, message: Record) -> Result<(), BuildFault>
+        requires phase { IfSome self.old IsInMessage }
+        requires next { IfSome self.old (λ d. IsNext d message) }
+        ensures gives { Gives (λ _. self.new) refusal result (stepped (ended_message message) self.old) }
+        ensures lost { OnErr result (self.new ≡ None) }
+        ensures failed { IfNone self.old (result ≡ Err BuildFault.Failed) }
+    {
+        let Some(draft) = &mut self.draft else {
+            return Err(BuildFault::Failed);
+        };
+        let outcome = draft.end_message(message);
+        self.settled(outcome)
+    }
+
+    /// Ends the archive that is open, whose messages have ended: its length in bytes, at most 2^40, and at least where
+    /// its last message ends, and the SHA-256 of these bytes. The caller takes it, since a builder doesn't see them: any 32
+    /// bytes are written as they are.
+    pub fn end_archive(&mut self, length: u64, digest: [u8; 32]) -> Result<(), BuildFault>
+        requires phase { IfSome self.old IsInArchive }
+        requires within { IfSome self.old (λ _. length ≤ 2 ^ 40) }
+        requires last { IfSome self.old (λ d. end_of (archive_count d) d.table.messages ≤ length) }
+        ensures gives { Gives (λ _. self.new) refusal result (stepped (ended_archive length digest) self.old) }
+        ensures within { IfSome self.new IsWithinMost }
+        ensures lost { OnErr result (self.new ≡ None) }
+        ensures failed { IfNone self.old (result ≡ Err BuildFault.Failed) }
+    {
+        let Some(draft) = &mut self.draft else {
+            return Err(BuildFault::Failed);
+        };
+        let outcome = draft.end_archive(length, digest);
+        self.settled(outcome)
+    }
+
+    /// Writes the index file of all archives, in version 2, where none is open. Answers how many bytes it has.
+    ///
+    /// Takes no memory, and writes in many small pieces. The builder stays as it is, also where the output fails: some
+    /// front of the file went out then.
+    ///
+    /// # Errors
+    ///
+    /// `Device` where the output failed.
+    pub fn write<O: Out>(&self, out: &mut O) -> Result<u64, BuildFault>
+        requires failures { O.failures out.old < 2 ^ 64 - 1 }
+        requires phase { IfSome self.now IsBetweenArchives }
+        ensures formed { IfSome self.now (λ d. IsWellFormed d.table × HasSmallSections d.table) }
+        ensures failed { IfNone self.now ((result ≡ Err BuildFault.Failed) × (out.new ≡ out.old)) }
+        ensures ok { IfSome self.now (λ d. IfOk result (λ n. (n ≡ length (index_file d.table)) × Appends (O.taken out.old) (O.taken out.new) (index_file d.table))) }
+        ensures err { IfSome self.now (λ d. IfErr result (λ e. (e ≡ BuildFault.Device) × Sends (O.taken out.old) (O.taken out.new) (index_file d.table))) }
+        ensures count { Counted (is_device result) (O.failures out.old) (O.failures out.new) }
+    {
+        let Some(draft) = &self.draft else {
+            return Err(BuildFault::Failed);
+        };
+        match draft.write(out) {
+            Ok(length) => Ok(length),
+            Err(fault) => Err(BuildFault::from(fault)),
+        }
+    }
+
+    // After a refusal nothing is kept.
+    fn settled(&mut self, outcome: Result<(), BuildFault>) -> Result<(), BuildFault>
+        ensures same { result ≡ outcome }
+        ensures draft { self.new ≡ (if is_ok outcome then self.old else None) }
+    {
+        if outcome.is_err() {
+            self.draft = None;
+        }
+        outcome
+    }
+}

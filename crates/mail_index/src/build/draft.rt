@@ -1,0 +1,230 @@
+//! The table that is being built.
+ghost use Rattle.std.specs.Prelude.{None, ◌≡◌, ◌^◌, ◌<◌, ◌≤◌, true, length, IsSome, IfSome, FitsSigned, IfOk, OnOk, OnErr, ◌-◌, string_len};
+ghost use Rattle.std.specs.Int.{w64};
+ghost use Rattle.std.specs.Io.KnownBytes.{Appends};
+ghost use Rattle.contract_words.specs.Answers.{Gives};
+ghost use Rattle.contract_words.specs.Devices.{Counts as CountsFailures, Sends};
+ghost use Rattle.mail_index.specs.Files.{HasSmallSections, body, index_file};
+ghost use Rattle.mail_index.specs.Inside.SectionCounts.{IsCountOf, counted_length};
+ghost use Rattle.mail_index.specs.Inside.Signing.{Signs};
+ghost use Rattle.mail_index.specs.Tables.{IsPath, IsWellFormed};
+ghost use Rattle.mail_index.specs.Builders.{empty_draft, begun_archive, begun_message, added, ended_message, ended_archive, refusal, archive_count, end_of, IsNext, IsBetweenArchives, IsInMessage, IsWithinMost};
+
+use crate::build::build_fault::BuildFault;
+use crate::build::key_map::KeyMap;
+use crate::build::prefetched::Prefetched;
+use crate::build::sections::{Counts, archives_length, send_archives, send_counts, send_records};
+use crate::kind::Kind;
+use crate::record::Record;
+use mbox_cutter::{DeviceFault, Out, send};
+use sha2::{Digest, Sha256};
+use std::alloc::Global;
+use std::marker::Model;
+
+/// An archive that has ended.
+#[derive(Drop)]
+pub struct NamedArchive {
+    pub path: String,
+    pub length: u64,
+    pub digest: [u8; 32],
+    pub ghost short: { string_len path < 2 ^ 32 },
+}
+
+/// The archives, messages and keys so far, and which archive and message are open.
+#[derive(Drop)]
+pub struct Draft {
+    most: u32,
+    // The path of the archive that is open.
+    path: Option<String>,
+    in_message: bool,
+    archives: Vec<NamedArchive>,
+    records: Vec<Record>,
+    keys: KeyMap,
+}
+
+impl Model for Draft {
+    ghost use Rattle.mail_index.specs.Builders.{Draft as Drafted};
+    ghost use Rattle.mail_index.specs.Inside.Drafts.{draft_of, IsDraft};
+
+    ghost Value = { Drafted };
+
+    ghost view = { λ s. draft_of s.most s.path s.in_message s.archives.items s.records.items s.keys };
+
+    ghost invariant = { λ s. IsDraft (draft_of s.most s.path s.in_message s.archives.items s.records.items s.keys) };
+}
+
+impl Draft {
+    /// No archive. Takes no memory.
+    pub fn new(alloc: Global, most: u32) -> Self
+        requires { most < 2 ^ 31 }
+        ensures { result ≡ empty_draft most }
+    {
+        Draft {
+            most,
+            path: None,
+            in_message: false,
+            archives: Vec::new(alloc),
+            records: Vec::new(alloc),
+            keys: KeyMap::new(alloc),
+        }
+    }
+
+    /// Opens an archive.
+    pub fn begin_archive(&mut self, alloc: Global, path: &str) -> Result<(), BuildFault>
+        requires phase { self.old.path ≡ None }
+        requires path { IsPath path.now }
+        ensures gives { Gives (λ _. self.new) refusal result (begun_archive path.now self.old) }
+        ensures empty { OnOk result (end_of (archive_count self.new) self.new.table.messages ≡ 0) }
+    {
+        if self.archives.len() >= self.most as usize {
+            return Err(BuildFault::TooMany);
+        }
+        self.path = Some(String::from_str(alloc, path)?);
+        Ok(())
+    }
+
+    /// Opens a message.
+    pub fn begin_message(&mut self) -> Result<(), BuildFault>
+        ensures { Gives (λ _. self.new) refusal result (begun_message self.old) }
+    {
+        if self.records.len() >= self.most as usize {
+            return Err(BuildFault::TooMany);
+        }
+        self.in_message = true;
+        Ok(())
+    }
+
+    /// Guesses where keys stand.
+    pub fn prefetch(&self, places: &mut [Prefetched]) {
+        self.keys.prefetch(places);
+    }
+
+    /// Adds a key to the message that is open.
+    pub fn add(
+        &mut self,
+        alloc: Global,
+        kind: Kind,
+        text: &[u8],
+        place: Prefetched,
+    ) -> Result<(), BuildFault>
+        requires phase { self.old.in_message ≡ true }
+        requires some { 0 < length text.now }
+        requires short { length text.now < 2 ^ 32 }
+        ensures { Gives (λ _. self.new) refusal result (added kind text.now self.old) }
+    {
+        let number = self.records.len() as u32;
+        self.keys.add(alloc, kind, text, number, self.most, place)
+    }
+
+    /// Closes the message that is open.
+    pub fn end_message(&mut self, message: Record) -> Result<(), BuildFault>
+        requires phase { IsInMessage self.old }
+        requires next { IsNext self.old message }
+        ensures { Gives (λ _. self.new) refusal result (ended_message message self.old) }
+    {
+        fits_date(&message);
+        self.records.push(message)?;
+        self.in_message = false;
+        Ok(())
+    }
+
+    /// Closes the archive that is open.
+    pub fn end_archive(&mut self, length: u64, digest: [u8; 32]) -> Result<(), BuildFault>
+        requires phase { IsSome self.old.path }
+        requires length { length ≤ 2 ^ 40 }
+        requires last { end_of (archive_count self.old) self.old.table.messages ≤ length }
+        ensures gives { Gives (λ _. self.new) refusal result (ended_archive length digest self.old) }
+        ensures within { IsWithinMost self.new }
+    {
+        let path = self.path.take().unwrap();
+        let archive = NamedArchive {
+            path,
+            length,
+            digest,
+        };
+        if let Err(refused) = self.archives.push(archive) {
+            self.path = Some(refused.value.path);
+            return Err(BuildFault::OutOfMemory);
+        }
+        Ok(())
+    }
+}
+
+impl Draft {
+    ghost use Rattle.mail_index.specs.Inside.Drafts.{IsDraft};
+
+    /// Writes the index file of the table. Answers how many bytes it has.
+    pub fn write<O: Out>(&self, out: &mut O) -> Result<u64, DeviceFault>
+        requires failures { O.failures out.old < 2 ^ 64 - 1 }
+        requires phase { IsBetweenArchives self.now }
+        ensures formed { IsWellFormed self.now.table × HasSmallSections self.now.table }
+        ensures ok { IfOk result (λ n. (n ≡ length (index_file self.now.table)) × Appends (O.taken out.old) (O.taken out.new) (index_file self.now.table)) }
+        ensures err { OnErr result (Sends (O.taken out.old) (O.taken out.new) (index_file self.now.table)) }
+        ensures count { CountsFailures result (O.failures out.old) (O.failures out.new) }
+    {
+        let counts = self.counts();
+        let mut hasher = Sha256::new();
+        self.send_body(out, &mut hasher, &counts)?;
+        let digest = hasher.finalize();
+        send(out, digest.as_slice())?;
+        Ok(file_length(&counts))
+    }
+
+    // What the counts section tells.
+    fn counts(&self) -> Counts
+        ensures draft { IsDraft self.now }
+        ensures counts { IsCountOf self.now.table result }
+        ensures small { counted_length result < 2 ^ 64 }
+    {
+        Counts {
+            archives: self.archives.len() as u32,
+            messages: self.records.len() as u32,
+            keys: self.keys.len() as u32,
+            archive_bytes: archives_length(self.archives.as_slice()),
+            text_bytes: self.keys.texts_length(),
+            posting_bytes: self.keys.postings_length(),
+        }
+    }
+
+    // Writes all but the digest.
+    fn send_body<O: Out>(
+        &self,
+        out: &mut O,
+        hasher: &mut Sha256,
+        counts: &Counts,
+    ) -> Result<(), DeviceFault>
+        requires failures { O.failures out.old < 2 ^ 64 - 1 }
+        requires counts { IsCountOf self.now.table counts.now }
+        requires small { counted_length counts.now < 2 ^ 64 }
+        ensures ok { OnOk result (Signs (O.taken out.old) (O.taken out.new) hasher.old hasher.new (body self.now.table)) }
+        ensures err { OnErr result (Sends (O.taken out.old) (O.taken out.new) (body self.now.table)) }
+        ensures count { CountsFailures result (O.failures out.old) (O.failures out.new) }
+    {
+        send_counts(out, hasher, counts)?;
+        send_archives(out, hasher, self.archives.as_slice())?;
+        send_records(out, hasher, self.records.as_slice())?;
+        self.keys.send_directory(out, hasher)?;
+        self.keys.send_texts(out, hasher)?;
+        self.keys.send_postings(out, hasher)?;
+        Ok(())
+    }
+}
+
+// A date is a number of 64 bits, as its type says.
+fn fits_date(message: &Record)
+    ensures { IfSome message.now.date (FitsSigned w64) }
+{
+    if let Some(_second) = message.date {}
+}
+
+// The length of a file with these counts.
+fn file_length(counts: &Counts) -> u64
+    requires { counted_length counts.now < 2 ^ 64 }
+    ensures { result ≡ counted_length counts.now }
+{
+    80 + counts.archive_bytes
+        + 40 * counts.messages as u64
+        + 24 * counts.keys as u64
+        + counts.text_bytes
+        + counts.posting_bytes
+}

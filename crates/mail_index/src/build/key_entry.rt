@@ -1,0 +1,219 @@
+//! A key of an index while it is built.
+ghost use Rattle.std.specs.Prelude.{◌≡◌, ◌+◌, ◌^◌, ◌<◌, ◌≤◌, [], ◌∷◌, ◌++◌, length, take, OnOk, OnErr, IfOk};
+ghost use Rattle.std.specs.Ordering.{is_eq};
+ghost use Rattle.mail_index.specs.Inside.KeyMaps.{new_key, with_one};
+ghost use Rattle.mail_index.specs.Kinds.{kind_number};
+ghost use Rattle.mail_index.specs.LookUps.{lies_to};
+ghost use Rattle.mail_index.specs.Postings.{postings};
+
+use crate::build::leb128_out::leb128_of;
+use crate::build::short_bytes::ShortBytes;
+use crate::kind::Kind;
+use std::alloc::{AllocError, Global};
+use std::cmp::Ordering;
+use std::marker::Model;
+
+/// The bytes of a short kind's number and text: more of them stand outside the entry.
+const SHORT: usize = 16;
+
+/// A key, whose text is shorter than 2^32 bytes, with the numbers of its messages.
+///
+/// There are many, and most are short and have few numbers. So a short text and the last postings stand in the entry
+/// itself, of 64 bytes: mostly a number is added to a key by a look at its entry alone, and a rare key takes no more
+/// memory than that.
+#[derive(Drop)]
+pub struct KeyEntry {
+    text_length: u32,
+    // One past the last number.
+    next: u32,
+    // The kind's number and the text, if they are short.
+    front: [u8; SHORT],
+    // The last bytes of the postings.
+    recent: ShortBytes,
+    // The kind's number and the text, if they aren't short, and the postings before the recent ones: each number as its
+    // difference from the one before, the first from -1, in the shortest unsigned LEB128.
+    bytes: Vec<u8>,
+}
+
+impl Model for KeyEntry {
+    ghost use Rattle.std.specs.Prelude.{◌+◌, ◌≤◌, length, take, drop};
+    ghost use Rattle.mail_index.specs.Tables.{Key};
+    ghost use Rattle.mail_index.specs.Inside.KeyMaps.{key_in, front_holder, key_bytes, IsEntry};
+
+    ghost Value = { Key };
+
+    ghost view = { λ s. key_in (take (s.text_length + 1) (key_bytes s.front (s.text_length + 1) s.bytes.items s.recent)) (drop (s.text_length + 1) (key_bytes s.front (s.text_length + 1) s.bytes.items s.recent)) };
+
+    ghost invariant = { λ s. IsEntry (key_bytes s.front (s.text_length + 1) s.bytes.items s.recent) (s.text_length + 1) s.next × (s.text_length + 1 ≤ length (front_holder s.front (s.text_length + 1) s.bytes.items)) };
+}
+
+impl KeyEntry {
+    /// A key of one message.
+    pub fn new(alloc: Global, kind: Kind, text: &[u8], number: u32) -> Result<Self, AllocError>
+        requires number { number < u32.MAX }
+        requires short { length text.now < 2 ^ 32 }
+        ensures { IfOk result (λ entry. entry ≡ new_key kind text.now number) }
+    {
+        let mut entry = KeyEntry::without_numbers(alloc, kind, text)?;
+        entry.push(number)?;
+        Ok(entry)
+    }
+
+    // A key of no message.
+    fn without_numbers(alloc: Global, kind: Kind, text: &[u8]) -> Result<Self, AllocError>
+        requires { length text.now < 2 ^ 32 }
+        ensures { IfOk result (λ entry. entry ≡ record { kind = kind; text = text.now; numbers = [] }) }
+    {
+        if text.len() < SHORT {
+            return Ok(KeyEntry::of_front(alloc, kind, text));
+        }
+        let bytes = front_bytes(alloc, kind, text)?;
+        Ok(KeyEntry {
+            text_length: text.len() as u32,
+            next: 0,
+            front: [0; SHORT],
+            recent: ShortBytes::new(),
+            bytes,
+        })
+    }
+
+    // A short key of no message.
+    fn of_front(alloc: Global, kind: Kind, text: &[u8]) -> Self
+        requires { length text.now < 16 }
+        ensures { result ≡ record { kind = kind; text = text.now; numbers = [] } }
+    {
+        KeyEntry {
+            text_length: text.len() as u32,
+            next: 0,
+            front: front_of(kind, text),
+            recent: ShortBytes::new(),
+            bytes: Vec::new(alloc),
+        }
+    }
+
+    /// Adds a message's number, unless the last is as large. A refused growth changes nothing.
+    pub fn push(&mut self, number: u32) -> Result<(), AllocError>
+        requires { number < u32.MAX }
+        ensures ok { OnOk result (self.new ≡ with_one self.old number) }
+        ensures err { OnErr result (self.new ≡ self.old) }
+    {
+        if number < self.next {
+            return Ok(());
+        }
+        let difference = leb128_of(number + 1 - self.next);
+        append(&mut self.bytes, &mut self.recent, &difference)?;
+        self.next = number + 1;
+        Ok(())
+    }
+
+    // The number of its kind in the file, and its text.
+    fn number_and_text(&self) -> (u8, &[u8])
+        ensures number { result.0 ≡ kind_number self.now.kind }
+        ensures text { result.1.now ≡ self.now.text }
+        ensures short { length result.1.now < 2 ^ 32 }
+    {
+        let length = self.text_length as usize + 1;
+        let front = if length <= SHORT {
+            self.front.split_at(length).0
+        } else {
+            self.bytes.split_at(length).0
+        };
+        match front {
+            [number, text @ ..] => (*number, text),
+            [] => (0, &[]),
+        }
+    }
+
+    /// How the key lies to another: by the kind's number, then by the text.
+    pub fn compare(&self, kind: Kind, text: &[u8]) -> Ordering
+        ensures { result ≡ lies_to kind text.now self.now }
+    {
+        let (own_number, own_text) = self.number_and_text();
+        match own_number.cmp(&kind.number()) {
+            Ordering::Equal => own_text.cmp(text),
+            other => other,
+        }
+    }
+
+    /// Whether it is this key.
+    pub fn is_key(&self, kind: Kind, text: &[u8]) -> bool
+        ensures { result ≡ is_eq (lies_to kind text.now self.now) }
+    {
+        let (own_number, own_text) = self.number_and_text();
+        own_number == kind.number() && own_text == text
+    }
+
+    /// The number of its kind in the file.
+    pub fn kind_number(&self) -> u8
+        ensures { result ≡ kind_number self.now.kind }
+    {
+        self.number_and_text().0
+    }
+
+    /// Its text.
+    pub fn text(&self) -> &[u8]
+        ensures text { result.now ≡ self.now.text }
+        ensures short { length result.now < 2 ^ 32 }
+    {
+        self.number_and_text().1
+    }
+
+    /// The postings of its numbers, in two parts.
+    pub fn postings(&self) -> (&[u8], &[u8])
+        ensures bytes { result.0.now ++ result.1.now ≡ postings self.now.numbers }
+        ensures small { length result.0.now + length result.1.now < 2 ^ 32 }
+    {
+        let length = self.text_length as usize + 1;
+        let older = if length <= SHORT {
+            self.bytes.as_slice()
+        } else {
+            self.bytes.split_at(length).1
+        };
+        (older, self.recent.as_slice())
+    }
+
+    /// How many bytes its postings have.
+    pub fn postings_length(&self) -> usize
+        ensures { result ≡ length (postings self.now.numbers) }
+    {
+        let (older, recent) = self.postings();
+        older.len() + recent.len()
+    }
+}
+
+// Appends bytes to the recent ones. Where there is no room for them the recent ones go behind the others first.
+fn append(bytes: &mut Vec<u8>, recent: &mut ShortBytes, more: &ShortBytes) -> Result<(), AllocError>
+    ensures ok { OnOk result (bytes.new.items ++ recent.new ≡ bytes.old.items ++ recent.old ++ more.now) }
+    ensures err { OnErr result ((bytes.new.items ≡ bytes.old.items) × (recent.new ≡ recent.old)) }
+    ensures kept { length bytes.old.items ≤ length bytes.new.items }
+{
+    let more = more.as_slice();
+    if recent.as_slice().len() + more.len() > ShortBytes::MOST {
+        bytes.extend_from_slice(recent.as_slice())?;
+        recent.clear();
+    }
+    recent.append(more);
+    Ok(())
+}
+
+// The kind's number and the text, with zeros behind them.
+fn front_of(kind: Kind, text: &[u8]) -> [u8; SHORT]
+    requires { length text.now < 16 }
+    ensures { take (length text.now + 1) result ≡ kind_number kind ∷ text.now }
+{
+    let mut front = [0; SHORT];
+    front[0] = kind.number();
+    front[1..text.len() + 1].copy_from_slice(text);
+    front
+}
+
+// The kind's number and the text.
+fn front_bytes(alloc: Global, kind: Kind, text: &[u8]) -> Result<Vec<u8>, AllocError>
+    requires { length text.now < 2 ^ 32 }
+    ensures { IfOk result (λ bytes. bytes.items ≡ kind_number kind ∷ text.now) }
+{
+    let mut bytes = Vec::with_capacity(alloc, text.len() + 1)?;
+    bytes.push(kind.number())?;
+    bytes.extend_from_slice(text)?;
+    Ok(bytes)
+}

@@ -1,0 +1,309 @@
+//! The keys of an index while it is built.
+ghost use Rattle.std.specs.Prelude.{◌≡◌, ◌-◌, ◌^◌, ◌<◌, ◌≤◌, [], length, map, set, IfOk, IfErr, OnOk, OnErr, MatchResult};
+ghost use Rattle.std.specs.declared.cmp.Ordering.TheVariants.{Equal};
+ghost use Rattle.std.specs.List.{AllByRecursion, slice_index_or};
+ghost use Rattle.contract_words.specs.Devices.{Counts, Sends};
+ghost use Rattle.mail_index.specs.Files.{entry_of, directory_from, texts_of, postings_of};
+ghost use Rattle.mail_index.specs.Inside.Signing.{Signs};
+ghost use Rattle.mail_index.specs.Inside.KeyMaps.{rows, numbers_in, place_in, keys_in, with_one, IsOrder, IsGap, IsWantOf};
+ghost use Rattle.mail_index.specs.KeysRead.{key_at};
+ghost use Rattle.mail_index.specs.LookUps.{lies_to};
+ghost use Rattle.mail_index.specs.Builders.{with_pair};
+
+use crate::build::build_fault::BuildFault;
+use crate::build::key_entry::KeyEntry;
+use crate::build::key_hints::{KeyHints, Slot};
+use crate::build::key_order::{KeyOrder, Place};
+use crate::build::key_search::matching;
+use crate::build::key_sections;
+use crate::build::keys_in_order::KeysInOrder;
+use crate::build::prefetched::Prefetched;
+use crate::kind::Kind;
+use mbox_cutter::{DeviceFault, Out};
+use sha2::Sha256;
+use std::alloc::{AllocError, Global};
+use std::marker::Model;
+
+/// The keys so far in the order of the file, each with the numbers of its messages.
+///
+/// The keys' entries stay where they came, and their numbers stand in the order of the keys. A key that stands there
+/// already is mostly found by a hint, and is copied nowhere.
+#[derive(Drop)]
+pub struct KeyMap {
+    entries: Vec<KeyEntry>,
+    order: KeyOrder,
+    hints: KeyHints,
+}
+
+impl Model for KeyMap {
+    ghost use Rattle.std.specs.Prelude.{◌≡◌, ◌-◌, List, length};
+    ghost use Rattle.mail_index.specs.Tables.{Key};
+    ghost use Rattle.mail_index.specs.Inside.KeyMaps.{numbers_in, keys_in, IsOrder};
+
+    ghost Value = { List Key };
+
+    ghost view = { λ s. keys_in s.entries.items s.order };
+
+    ghost invariant = { λ s. (length s.order.heads.items ≡ length s.order.pages.items - 1) × IsOrder s.entries.items (numbers_in s.order) };
+}
+
+impl KeyMap {
+    /// No key. Takes no memory.
+    pub fn new(alloc: Global) -> Self
+        ensures { result ≡ [] }
+    {
+        KeyMap {
+            entries: Vec::new(alloc),
+            order: KeyOrder::new(alloc),
+            hints: KeyHints::new(alloc),
+        }
+    }
+
+    /// How many keys there are.
+    pub fn len(&self) -> usize
+        ensures { result ≡ length self.now }
+    {
+        self.entries.len()
+    }
+
+    /// Guesses where keys stand.
+    pub fn prefetch(&self, places: &mut [Prefetched]) {
+        // A loop of its own for each step: its reads need nothing of each other, so that their waits are one.
+        for place in places.iter_mut() {
+            place.number = self.hints.get(place.slot);
+        }
+        for place in places.iter_mut() {
+            place.text_length = text_length_at(&self.entries, place.number);
+        }
+    }
+
+    /// Adds a message's number to a key's numbers, unless it stands there, and the key where it is new.
+    pub fn add(
+        &mut self,
+        alloc: Global,
+        kind: Kind,
+        text: &[u8],
+        number: u32,
+        most: u32,
+        place: Prefetched,
+    ) -> Result<(), BuildFault>
+        requires number { number < u32.MAX }
+        requires short { length text.now < 2 ^ 32 }
+        requires fits { length self.old ≤ most }
+        ensures ok { OnOk result (self.new ≡ with_pair kind text.now number self.old) }
+        ensures err { OnErr result (self.new ≡ self.old) }
+        ensures fits { length self.new ≤ most }
+        ensures fault { IfErr result (IsWantOf most (length (with_pair kind text.now number self.old))) }
+    {
+        self.hints.begin()?;
+        self.order.begin(alloc)?;
+        let hint = if place.text_length == text.len() {
+            place.number
+        } else {
+            None
+        };
+        let found = locate(&self.entries, &self.order, hint, kind, text);
+        let key = Added {
+            kind,
+            text,
+            number,
+            most,
+        };
+        let entry = add_at(alloc, &mut self.entries, &mut self.order, found, &key)?;
+        // Most hints stand already: a write of the same number would only send its piece of the table to memory again.
+        if place.number != Some(entry) {
+            self.hints.note(place.slot, entry);
+        }
+        Ok(())
+    }
+}
+
+impl KeyMap {
+    /// How many bytes the keys' texts have.
+    pub fn texts_length(&self) -> u64
+        requires { length (texts_of (map entry_of self.now)) < 2 ^ 64 }
+        ensures { result ≡ length (texts_of (map entry_of self.now)) }
+    {
+        key_sections::texts_length(self.in_order())
+    }
+
+    /// How many bytes the keys' postings have.
+    pub fn postings_length(&self) -> u64
+        requires { length (postings_of (map entry_of self.now)) < 2 ^ 64 }
+        ensures { result ≡ length (postings_of (map entry_of self.now)) }
+    {
+        key_sections::postings_length(self.in_order())
+    }
+
+    /// Writes the directory.
+    pub fn send_directory<O: Out>(
+        &self,
+        out: &mut O,
+        hasher: &mut Sha256,
+    ) -> Result<(), DeviceFault>
+        requires count { O.failures out.old < 2 ^ 64 - 1 }
+        requires texts { length (texts_of (map entry_of self.now)) < 2 ^ 64 }
+        requires postings { length (postings_of (map entry_of self.now)) < 2 ^ 64 }
+        ensures ok { OnOk result (Signs (O.taken out.old) (O.taken out.new) hasher.old hasher.new (directory_from 0 0 (map entry_of self.now))) }
+        ensures err { OnErr result (Sends (O.taken out.old) (O.taken out.new) (directory_from 0 0 (map entry_of self.now))) }
+        ensures count { Counts result (O.failures out.old) (O.failures out.new) }
+    {
+        key_sections::send_directory(out, hasher, self.in_order())
+    }
+
+    /// Writes the keys' texts.
+    pub fn send_texts<O: Out>(&self, out: &mut O, hasher: &mut Sha256) -> Result<(), DeviceFault>
+        requires { O.failures out.old < 2 ^ 64 - 1 }
+        ensures ok { OnOk result (Signs (O.taken out.old) (O.taken out.new) hasher.old hasher.new (texts_of (map entry_of self.now))) }
+        ensures err { OnErr result (Sends (O.taken out.old) (O.taken out.new) (texts_of (map entry_of self.now))) }
+        ensures count { Counts result (O.failures out.old) (O.failures out.new) }
+    {
+        key_sections::send_texts(out, hasher, self.in_order())
+    }
+
+    /// Writes the keys' postings.
+    pub fn send_postings<O: Out>(&self, out: &mut O, hasher: &mut Sha256) -> Result<(), DeviceFault>
+        requires { O.failures out.old < 2 ^ 64 - 1 }
+        ensures ok { OnOk result (Signs (O.taken out.old) (O.taken out.new) hasher.old hasher.new (postings_of (map entry_of self.now))) }
+        ensures err { OnErr result (Sends (O.taken out.old) (O.taken out.new) (postings_of (map entry_of self.now))) }
+        ensures count { Counts result (O.failures out.old) (O.failures out.new) }
+    {
+        key_sections::send_postings(out, hasher, self.in_order())
+    }
+}
+
+impl KeyMap {
+    // The entries in the order of the keys.
+    fn in_order(&self) -> KeysInOrder<'_>
+        ensures { result ≡ self.now }
+    {
+        KeysInOrder::of(&self.entries, &self.order.heads, &self.order.pages)
+    }
+}
+
+// How long the text of an entry is, where there is that entry.
+fn text_length_at(entries: &[KeyEntry], number: Option<u32>) -> usize {
+    let Some(number) = number else {
+        return 0;
+    };
+    match entries.get(number as usize) {
+        Some(entry) => entry.text().len(),
+        None => 0,
+    }
+}
+
+// A key that is added, with the number of a message that has it, and how many keys there may be.
+#[derive(Clone, Copy)]
+struct Added<'a> {
+    kind: Kind,
+    text: &'a [u8],
+    number: u32,
+    most: u32,
+}
+
+// The number of the entry of a key, by a hint or by a search; where none is it, the place for it.
+fn locate(
+    entries: &[KeyEntry],
+    order: &KeyOrder,
+    hint: Option<u32>,
+    kind: Kind,
+    text: &[u8],
+) -> Result<u32, Place>
+    requires page { 0 < length order.now.pages.items }
+    requires between { length order.now.heads.items ≡ length order.now.pages.items - 1 }
+    requires within { AllByRecursion (λ number. number < length entries.now) (numbers_in order.now) }
+    ensures found { IfOk result (λ entry. (entry < length entries.now) × (lies_to kind text.now (key_at entries.now entry) ≡ Equal)) }
+    ensures page { IfErr result (λ place. place.page < length order.now.pages.items) }
+    ensures at { IfErr result (λ place. place.at ≤ length (slice_index_or (rows order.now.pages.items) place.page [])) }
+    ensures gap { IfErr result (λ place. IsGap kind text.now (keys_in entries.now order.now) (place_in order.now place)) }
+{
+    if let Some(number) = hint {
+        if let Some(entry) = matching(number, entries, kind, text) {
+            return Ok(entry);
+        }
+    }
+    order.find(entries, kind, text)
+}
+
+// Adds a message's number to the key that was found, or inserts the key. Answers the number of its entry.
+fn add_at(
+    alloc: Global,
+    entries: &mut Vec<KeyEntry>,
+    order: &mut KeyOrder,
+    found: Result<u32, Place>,
+    key: &Added<'_>,
+) -> Result<u32, BuildFault>
+    requires number { key.now.number < u32.MAX }
+    requires short { length key.now.text.now < 2 ^ 32 }
+    requires fits { length entries.old.items ≤ key.now.most }
+    requires between { length order.old.heads.items ≡ length order.old.pages.items - 1 }
+    requires order { IsOrder entries.old.items (numbers_in order.old) }
+    requires found { IfOk found (λ entry. (entry < length entries.old.items) × (lies_to key.now.kind key.now.text.now (key_at entries.old.items entry) ≡ Equal)) }
+    requires page { IfErr found (λ place. place.page < length order.old.pages.items) }
+    requires at { IfErr found (λ place. place.at ≤ length (slice_index_or (rows order.old.pages.items) place.page [])) }
+    requires gap { IfErr found (λ place. IsGap key.now.kind key.now.text.now (keys_in entries.old.items order.old) (place_in order.old place)) }
+    ensures between { length order.new.heads.items ≡ length order.new.pages.items - 1 }
+    ensures order { IsOrder entries.new.items (numbers_in order.new) }
+    ensures ok { OnOk result (keys_in entries.new.items order.new ≡ with_pair key.now.kind key.now.text.now key.now.number (keys_in entries.old.items order.old)) }
+    ensures err { OnErr result (keys_in entries.new.items order.new ≡ keys_in entries.old.items order.old) }
+    ensures entry { IfOk result (λ entry. MatchResult found (λ known. entry ≡ known) (λ _. entry ≡ length entries.old.items)) }
+    ensures fits { length entries.new.items ≤ key.now.most }
+    ensures fault { IfErr result (IsWantOf key.now.most (length (with_pair key.now.kind key.now.text.now key.now.number (keys_in entries.old.items order.old)))) }
+{
+    match found {
+        Ok(entry) => {
+            push_number(entries, entry, key.number)?;
+            Ok(entry)
+        }
+        Err(place) => insert(alloc, entries, order, place, key),
+    }
+}
+
+// Adds a message's number to the key of an entry.
+fn push_number(entries: &mut Vec<KeyEntry>, entry: u32, number: u32) -> Result<(), AllocError>
+    requires within { entry < length entries.old.items }
+    requires number { number < u32.MAX }
+    ensures ok { OnOk result (entries.new.items ≡ set entries.old.items entry (with_one (key_at entries.old.items entry) number)) }
+    ensures err { OnErr result (entries.new.items ≡ entries.old.items) }
+{
+    entries[entry as usize].push(number)
+}
+
+// Inserts a key at its place. Answers the number of its entry.
+fn insert(
+    alloc: Global,
+    entries: &mut Vec<KeyEntry>,
+    order: &mut KeyOrder,
+    place: Place,
+    key: &Added<'_>,
+) -> Result<u32, BuildFault>
+    requires number { key.now.number < u32.MAX }
+    requires short { length key.now.text.now < 2 ^ 32 }
+    requires fits { length entries.old.items ≤ key.now.most }
+    requires between { length order.old.heads.items ≡ length order.old.pages.items - 1 }
+    requires order { IsOrder entries.old.items (numbers_in order.old) }
+    requires page { place.page < length order.old.pages.items }
+    requires at { place.at ≤ length (slice_index_or (rows order.old.pages.items) place.page []) }
+    requires gap { IsGap key.now.kind key.now.text.now (keys_in entries.old.items order.old) (place_in order.old place) }
+    ensures between { length order.new.heads.items ≡ length order.new.pages.items - 1 }
+    ensures order { IsOrder entries.new.items (numbers_in order.new) }
+    ensures ok { OnOk result (keys_in entries.new.items order.new ≡ with_pair key.now.kind key.now.text.now key.now.number (keys_in entries.old.items order.old)) }
+    ensures err { OnErr result (keys_in entries.new.items order.new ≡ keys_in entries.old.items order.old) }
+    ensures entry { IfOk result (λ entry. entry ≡ length entries.old.items) }
+    ensures fits { length entries.new.items ≤ key.now.most }
+    ensures fault { IfErr result (IsWantOf key.now.most (length (with_pair key.now.kind key.now.text.now key.now.number (keys_in entries.old.items order.old)))) }
+{
+    let number = entries.len();
+    if number >= key.most as usize {
+        return Err(BuildFault::TooMany);
+    }
+    let entry = KeyEntry::new(alloc, key.kind, key.text, key.number)?;
+    entries.push(entry)?;
+    match order.insert(alloc, place, number as u32) {
+        Ok(()) => Ok(number as u32),
+        Err(_) => {
+            let _removed = entries.pop();
+            Err(BuildFault::OutOfMemory)
+        }
+    }
+}

@@ -1,0 +1,171 @@
+//! The order of the keys of an index while it is built.
+ghost use Rattle.std.specs.Prelude.{◌≡◌, ◌+◌, ◌-◌, ◌<◌, ◌≤◌, [], ◌∷◌, length, take, drop, set, OnOk, OnErr, IfOk, IfErr};
+ghost use Rattle.std.specs.declared.cmp.Ordering.TheVariants.{Equal};
+ghost use Rattle.std.specs.List.{AllByRecursion, insert, slice_index_or};
+ghost use Rattle.mail_index.specs.Inside.KeyMaps.{rows, in_pages, numbers_in, place_in, keys_in, IsGap};
+ghost use Rattle.mail_index.specs.KeysRead.{key_at};
+ghost use Rattle.mail_index.specs.LookUps.{lies_to};
+
+use crate::build::key_entry::KeyEntry;
+use crate::build::key_search::search;
+use crate::kind::Kind;
+use std::alloc::{AllocError, Global};
+
+/// A page is split in two once it has so many numbers, and as many as there are pages.
+const PAGE: usize = 256;
+
+/// The numbers of entries in the order of their keys: pages, and between each and the next one number more, the
+/// head of the next. So a key is found by two binary searches, and a number is inserted by moving those of one page.
+/// Of very many numbers both the pages and what one of them has grow with the root of their count, and so does what an
+/// insertion moves, in whatever order the keys come.
+#[derive(Drop)]
+pub struct KeyOrder {
+    pub heads: Vec<u32>,
+    pub pages: Vec<Vec<u32>>,
+}
+
+/// A place in the order, where a number can be inserted.
+#[derive(Clone, Copy)]
+pub struct Place {
+    pub page: usize,
+    /// How many of the page's numbers stand before it.
+    pub at: usize,
+}
+
+impl KeyOrder {
+    /// No number. Takes no memory.
+    pub fn new(alloc: Global) -> Self
+        ensures heads { result.heads.items ≡ [] }
+        ensures pages { result.pages.items ≡ [] }
+    {
+        KeyOrder {
+            heads: Vec::new(alloc),
+            pages: Vec::new(alloc),
+        }
+    }
+
+    /// Makes the first page, if there is none.
+    pub fn begin(&mut self, alloc: Global) -> Result<(), AllocError>
+        requires between { length self.old.heads.items ≡ length self.old.pages.items - 1 }
+        ensures page { OnOk result (0 < length self.new.pages.items) }
+        ensures between { length self.new.heads.items ≡ length self.new.pages.items - 1 }
+        ensures same { numbers_in self.new ≡ numbers_in self.old }
+    {
+        if self.pages.is_empty() {
+            self.pages.push(Vec::new(alloc))?;
+        }
+        Ok(())
+    }
+
+    /// The number of the entry of this key; where none is it, the place for it.
+    pub fn find(&self, entries: &[KeyEntry], kind: Kind, text: &[u8]) -> Result<u32, Place>
+        requires page { 0 < length self.now.pages.items }
+        requires between { length self.now.heads.items ≡ length self.now.pages.items - 1 }
+        requires within { AllByRecursion (λ number. number < length entries.now) (numbers_in self.now) }
+        ensures found { IfOk result (λ number. (number < length entries.now) × (lies_to kind text.now (key_at entries.now number) ≡ Equal)) }
+        ensures page { IfErr result (λ place. place.page < length self.now.pages.items) }
+        ensures at { IfErr result (λ place. place.at ≤ length (slice_index_or (rows self.now.pages.items) place.page [])) }
+        ensures gap { IfErr result (λ place. IsGap kind text.now (keys_in entries.now self.now) (place_in self.now place)) }
+    {
+        let page = match search(&self.heads, entries, kind, text) {
+            Ok(number) => return Ok(number),
+            Err(page) => page,
+        };
+        match search(&self.pages[page], entries, kind, text) {
+            Ok(number) => Ok(number),
+            Err(at) => Err(Place { page, at }),
+        }
+    }
+
+    /// Inserts a number. A refused growth leaves the numbers as they are.
+    pub fn insert(&mut self, alloc: Global, place: Place, number: u32) -> Result<(), AllocError>
+        requires between { length self.old.heads.items ≡ length self.old.pages.items - 1 }
+        requires page { place.page < length self.old.pages.items }
+        requires at { place.at ≤ length (slice_index_or (rows self.old.pages.items) place.page []) }
+        ensures between { length self.new.heads.items ≡ length self.new.pages.items - 1 }
+        ensures ok { OnOk result (numbers_in self.new ≡ insert (numbers_in self.old) (place_in self.old place) number) }
+        ensures err { OnErr result (numbers_in self.new ≡ numbers_in self.old) }
+    {
+        insert_in_page(&mut self.pages, place, number)?;
+        let length = self.pages[place.page].len();
+        if length >= PAGE && length >= self.pages.len() {
+            let _split = split(
+                alloc,
+                &mut self.heads,
+                &mut self.pages,
+                place.page,
+                length / 2,
+            );
+        }
+        Ok(())
+    }
+}
+
+// Inserts a number in a page.
+fn insert_in_page(pages: &mut Vec<Vec<u32>>, place: Place, number: u32) -> Result<(), AllocError>
+    requires page { place.page < length pages.old.items }
+    requires at { place.at ≤ length (slice_index_or (rows pages.old.items) place.page []) }
+    ensures ok { OnOk result (rows pages.new.items ≡ set (rows pages.old.items) place.page (insert (slice_index_or (rows pages.old.items) place.page []) place.at number)) }
+    ensures err { OnErr result (rows pages.new.items ≡ rows pages.old.items) }
+{
+    pages[place.page].insert(place.at, number)?;
+    Ok(())
+}
+
+// Splits a page in two, of which the first has that length. Without memory for that it stays as it is.
+fn split(
+    alloc: Global,
+    heads: &mut Vec<u32>,
+    pages: &mut Vec<Vec<u32>>,
+    page: usize,
+    half: usize,
+) -> Result<(), AllocError>
+    requires between { length heads.old.items ≡ length pages.old.items - 1 }
+    requires page { page < length pages.old.items }
+    requires half { half < length (slice_index_or (rows pages.old.items) page []) }
+    ensures between { length heads.new.items ≡ length pages.new.items - 1 }
+    ensures same { in_pages (rows pages.new.items) heads.new.items ≡ in_pages (rows pages.old.items) heads.old.items }
+    ensures more { OnOk result (length pages.new.items ≡ length pages.old.items + 1) }
+{
+    let (head, rest) = second_half(alloc, &pages[page], half)?;
+    insert_page(heads, pages, page, head, rest)?;
+    shorten(pages, page, half);
+    Ok(())
+}
+
+// The head of a page's second half, and the rest of it.
+fn second_half(alloc: Global, row: &[u32], half: usize) -> Result<(u32, Vec<u32>), AllocError>
+    requires { half < length row.now }
+    ensures { IfOk result (λ second. (second.0 ≡ slice_index_or row.now half 0) × (second.1.items ≡ drop (half + 1) row.now)) }
+{
+    let rest = Vec::from_slice(alloc, &row[half + 1..])?;
+    Ok((row[half], rest))
+}
+
+// Inserts a page behind another, and its head.
+fn insert_page(
+    heads: &mut Vec<u32>,
+    pages: &mut Vec<Vec<u32>>,
+    page: usize,
+    head: u32,
+    rest: Vec<u32>,
+) -> Result<(), AllocError>
+    requires head { page ≤ length heads.old.items }
+    requires page { page < length pages.old.items }
+    ensures heads { OnOk result (heads.new.items ≡ insert heads.old.items page head) }
+    ensures pages { OnOk result (pages.new.items ≡ insert pages.old.items (page + 1) rest) }
+    ensures err { OnErr result ((heads.new.items ≡ heads.old.items) × (pages.new.items ≡ pages.old.items)) }
+{
+    heads.reserve(1)?;
+    pages.insert(page + 1, rest)?;
+    let _inserted = heads.insert(page, head);
+    Ok(())
+}
+
+// Leaves the first half of a page.
+fn shorten(pages: &mut Vec<Vec<u32>>, page: usize, half: usize)
+    requires { page < length pages.old.items }
+    ensures { rows pages.new.items ≡ set (rows pages.old.items) page (take half (slice_index_or (rows pages.old.items) page [])) }
+{
+    pages[page].truncate(half);
+}

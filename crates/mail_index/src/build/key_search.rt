@@ -1,0 +1,46 @@
+//! The search for a key among entries in order.
+ghost use Rattle.std.specs.Prelude.{◌≡◌, ◌<◌, false, length, IfOk, IfErr, IfSome, IfNone};
+ghost use Rattle.std.specs.Ordering.{is_eq};
+ghost use Rattle.std.specs.declared.cmp.Ordering.TheVariants.{Equal};
+ghost use Rattle.std.specs.List.{AllByRecursion};
+ghost use Rattle.mail_index.specs.Inside.KeyMaps.{placed, IsGap};
+ghost use Rattle.mail_index.specs.KeysRead.{key_at};
+ghost use Rattle.mail_index.specs.LookUps.{lies_to};
+
+use crate::build::key_entry::KeyEntry;
+use crate::kind::Kind;
+use std::cmp::Ordering;
+
+/// The number of the entry of this key among those of these numbers, which stand in order; where none of them is it,
+/// the place between them where it would stand. A binary search.
+pub fn search(numbers: &[u32], entries: &[KeyEntry], kind: Kind, text: &[u8]) -> Result<u32, usize>
+    requires { AllByRecursion (λ number. number < length entries.now) numbers.now }
+    ensures found { IfOk result (λ number. (number < length entries.now) × (lies_to kind text.now (key_at entries.now number) ≡ Equal)) }
+    ensures place { IfErr result (IsGap kind text.now (placed entries.now numbers.now)) }
+{
+    let mut low = 0;
+    let mut high = numbers.len();
+    while low < high {
+        let middle = low + (high - low) / 2;
+        let number = numbers[middle];
+        match entries[number as usize].compare(kind, text) {
+            Ordering::Less => low = middle + 1,
+            Ordering::Equal => return Ok(number),
+            Ordering::Greater => high = middle,
+        }
+    }
+    Err(low)
+}
+
+/// The number of an entry, if it is this key's.
+pub fn matching(number: u32, entries: &[KeyEntry], kind: Kind, text: &[u8]) -> Option<u32>
+    ensures found { IfSome result (λ found. (found ≡ number) × (found < length entries.now) × (lies_to kind text.now (key_at entries.now found) ≡ Equal)) }
+    ensures other { IfNone result (number < length entries.now → is_eq (lies_to kind text.now (key_at entries.now number)) ≡ false) }
+{
+    let entry = entries.get(number as usize)?;
+    if entry.is_key(kind, text) {
+        Some(number)
+    } else {
+        None
+    }
+}

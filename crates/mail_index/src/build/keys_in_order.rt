@@ -1,0 +1,88 @@
+//! The keys of an index while it is built, in order.
+ghost use Rattle.std.specs.Prelude.{◌≡◌, ◌-◌, ◌<◌, [], ◌∷◌, length, IfSome, MatchOption};
+ghost use Rattle.std.specs.Iterator.{YieldsFirstRef, item_count};
+ghost use Rattle.std.specs.List.{AllByRecursion};
+ghost use Rattle.mail_index.specs.Inside.KeyMaps.{placed, rows, in_pages, left_in_pages};
+
+use crate::build::key_entry::KeyEntry;
+use std::marker::Model;
+
+/// The numbers of entries that are left of an order in pages.
+#[derive(Clone, Copy)]
+struct Left<'a> {
+    // Of the page that is gone over.
+    page: &'a [u32],
+    heads: &'a [u32],
+    pages: &'a [Vec<u32>],
+}
+
+/// The entries still to come, in the order of their keys. It takes no memory.
+#[derive(Drop)]
+pub struct KeysInOrder<'a> {
+    entries: &'a [KeyEntry],
+    left: Left<'a>,
+}
+
+impl<'a> Model for KeysInOrder<'a> {
+    ghost use Rattle.std.specs.Prelude.{◌≡◌, ◌<◌, List, length};
+    ghost use Rattle.std.specs.List.{AllByRecursion};
+    ghost use Rattle.mail_index.specs.Tables.{Key};
+    ghost use Rattle.mail_index.specs.Inside.KeyMaps.{placed, rows, left_in_pages};
+
+    ghost Value = { List Key };
+
+    ghost view = { λ s. placed s.entries.now (left_in_pages s.left.page.now s.left.heads.now (rows s.left.pages.now)) };
+
+    ghost invariant = { λ s. (length s.left.heads.now ≡ length s.left.pages.now) × AllByRecursion (λ i. i < length s.entries.now) (left_in_pages s.left.page.now s.left.heads.now (rows s.left.pages.now)) };
+}
+
+impl<'a> KeysInOrder<'a> {
+    /// All of them, of pages with heads between them.
+    pub fn of(entries: &'a [KeyEntry], heads: &'a [u32], pages: &'a [Vec<u32>]) -> Self
+        requires between { length heads.now ≡ length pages.now - 1 }
+        requires within { AllByRecursion (λ i. i < length entries.now) (in_pages (rows pages.now) heads.now) }
+        ensures { result ≡ placed entries.now (in_pages (rows pages.now) heads.now) }
+    {
+        let left = match pages {
+            [] => Left {
+                page: &[],
+                heads,
+                pages,
+            },
+            [page, rest @ ..] => Left {
+                page,
+                heads,
+                pages: rest,
+            },
+        };
+        KeysInOrder { entries, left }
+    }
+}
+
+impl<'a> Iterator for KeysInOrder<'a> {
+    type Item = &'a KeyEntry;
+
+    ghost next_gives = { YieldsFirstRef (λ s. s) };
+
+    ghost remaining = { item_count (λ s. s) };
+
+    fn next(&mut self) -> Option<&'a KeyEntry> {
+        let (number, left) = next_number(self.left)?;
+        self.left = left;
+        self.entries.get(number as usize)
+    }
+}
+
+// The next number, and those left behind it.
+fn next_number(left: Left<'_>) -> Option<(u32, Left<'_>)>
+    requires { length left.heads.now ≡ length left.pages.now }
+    ensures numbers { MatchOption result (left_in_pages left.entry.page.now left.entry.heads.now (rows left.entry.pages.now) ≡ []) (λ next. left_in_pages left.entry.page.now left.entry.heads.now (rows left.entry.pages.now) ≡ next.0 ∷ left_in_pages next.1.page.now next.1.heads.now (rows next.1.pages.now)) }
+    ensures between { IfSome result (λ next. length next.1.heads.now ≡ length next.1.pages.now) }
+{
+    if let Some((number, page)) = left.page.split_first() {
+        return Some((*number, Left { page, ..left }));
+    }
+    let (number, heads) = left.heads.split_first()?;
+    let (page, pages) = left.pages.split_first()?;
+    Some((*number, Left { page, heads, pages }))
+}

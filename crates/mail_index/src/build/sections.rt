@@ -1,0 +1,190 @@
+//! The sections of an index file whose entries stand in a list: archives and records.
+ghost use Rattle.std.specs.List.{concat};
+ghost use Rattle.std.specs.Prelude.{length, ◌≡◌, ◌-◌, ◌^◌, ◌<◌, ◌≤◌, OnOk, OnErr, map, flat_map};
+ghost use Rattle.contract_words.specs.Devices.{Counts as CountsFailures, Sends};
+ghost use Rattle.mail_index.specs.Files.{archive_bytes, record_bytes, flags_byte, bit, date_number};
+ghost use Rattle.mail_index.specs.Inside.Drafts.{archive_of};
+ghost use Rattle.mail_index.specs.Inside.SectionCounts.{counted};
+ghost use Rattle.mail_index.specs.Inside.Signing.{Signs};
+
+use crate::build::draft::NamedArchive;
+use crate::build::file_out::send_parts;
+use crate::record::Record;
+use crate::version::Version;
+use mbox_cutter::{DeviceFault, Out};
+use sha2::Sha256;
+
+/// The counts that begin an index file: of archives, messages and keys, and of the bytes of three sections.
+#[derive(Clone, Copy)]
+pub struct Counts {
+    pub archives: u32,
+    pub messages: u32,
+    pub keys: u32,
+    pub archive_bytes: u64,
+    pub text_bytes: u64,
+    pub posting_bytes: u64,
+}
+
+/// Writes the counts, behind the magic bytes and the version.
+pub fn send_counts<O: Out>(
+    out: &mut O,
+    hasher: &mut Sha256,
+    counts: &Counts,
+) -> Result<(), DeviceFault>
+    requires { O.failures out.old < 2 ^ 64 - 1 }
+    ensures ok { OnOk result (Signs (O.taken out.old) (O.taken out.new) hasher.old hasher.new (concat (counted counts.now))) }
+    ensures err { OnErr result (Sends (O.taken out.old) (O.taken out.new) (concat (counted counts.now))) }
+    ensures count { CountsFailures result (O.failures out.old) (O.failures out.new) }
+{
+    let version = Version::newest().number().to_be_bytes();
+    let archives = counts.archives.to_be_bytes();
+    let messages = counts.messages.to_be_bytes();
+    let keys = counts.keys.to_be_bytes();
+    let archive_bytes = counts.archive_bytes.to_be_bytes();
+    let text_bytes = counts.text_bytes.to_be_bytes();
+    let posting_bytes = counts.posting_bytes.to_be_bytes();
+    send_parts(
+        out,
+        hasher,
+        &[
+            b"MAIRIX\r\n".as_slice(),
+            version.as_slice(),
+            archives.as_slice(),
+            messages.as_slice(),
+            keys.as_slice(),
+            archive_bytes.as_slice(),
+            text_bytes.as_slice(),
+            posting_bytes.as_slice(),
+        ],
+    )
+}
+
+/// How many bytes the archives' entries have.
+pub fn archives_length(archives: &[NamedArchive]) -> u64
+    requires { length (flat_map archive_bytes (map archive_of archives.now)) < 2 ^ 64 }
+    ensures { result ≡ length (flat_map archive_bytes (map archive_of archives.now)) }
+{
+    let mut total = 0;
+    for archive in archives {
+        let digest = archive.digest.as_slice();
+        total += 12 + archive.path.len() as u64 + digest.len() as u64;
+    }
+    total
+}
+
+/// Writes the archives' entries.
+pub fn send_archives<O: Out>(
+    out: &mut O,
+    hasher: &mut Sha256,
+    archives: &[NamedArchive],
+) -> Result<(), DeviceFault>
+    requires { O.failures out.old < 2 ^ 64 - 1 }
+    ensures ok { OnOk result (Signs (O.taken out.old) (O.taken out.new) hasher.old hasher.new (flat_map archive_bytes (map archive_of archives.now))) }
+    ensures err { OnErr result (Sends (O.taken out.old) (O.taken out.new) (flat_map archive_bytes (map archive_of archives.now))) }
+    ensures count { CountsFailures result (O.failures out.old) (O.failures out.new) }
+{
+    for archive in archives {
+        send_archive(out, hasher, archive)?;
+    }
+    Ok(())
+}
+
+// Its length, the length of its path before the path, and its digest.
+fn send_archive<O: Out>(
+    out: &mut O,
+    hasher: &mut Sha256,
+    archive: &NamedArchive,
+) -> Result<(), DeviceFault>
+    requires { O.failures out.old < 2 ^ 64 - 1 }
+    ensures ok { OnOk result (Signs (O.taken out.old) (O.taken out.new) hasher.old hasher.new (archive_bytes (archive_of archive.now))) }
+    ensures err { OnErr result (Sends (O.taken out.old) (O.taken out.new) (archive_bytes (archive_of archive.now))) }
+    ensures count { CountsFailures result (O.failures out.old) (O.failures out.new) }
+{
+    let path = archive.path.as_bytes();
+    let length = archive.length.to_be_bytes();
+    let path_length = (path.len() as u32).to_be_bytes();
+    send_parts(
+        out,
+        hasher,
+        &[
+            length.as_slice(),
+            path_length.as_slice(),
+            path,
+            archive.digest.as_slice(),
+        ],
+    )
+}
+
+/// Writes the messages' records.
+pub fn send_records<O: Out>(
+    out: &mut O,
+    hasher: &mut Sha256,
+    messages: &[Record],
+) -> Result<(), DeviceFault>
+    requires { O.failures out.old < 2 ^ 64 - 1 }
+    ensures ok { OnOk result (Signs (O.taken out.old) (O.taken out.new) hasher.old hasher.new (flat_map record_bytes messages.now)) }
+    ensures err { OnErr result (Sends (O.taken out.old) (O.taken out.new) (flat_map record_bytes messages.now)) }
+    ensures count { CountsFailures result (O.failures out.old) (O.failures out.new) }
+{
+    for message in messages {
+        send_record(out, hasher, message)?;
+    }
+    Ok(())
+}
+
+fn send_record<O: Out>(
+    out: &mut O,
+    hasher: &mut Sha256,
+    message: &Record,
+) -> Result<(), DeviceFault>
+    requires { O.failures out.old < 2 ^ 64 - 1 }
+    ensures ok { OnOk result (Signs (O.taken out.old) (O.taken out.new) hasher.old hasher.new (record_bytes message.now)) }
+    ensures err { OnErr result (Sends (O.taken out.old) (O.taken out.new) (record_bytes message.now)) }
+    ensures count { CountsFailures result (O.failures out.old) (O.failures out.new) }
+{
+    let archive = message.archive.to_be_bytes();
+    let flags = [flags_byte(message), 0, 0, 0];
+    let offset = message.offset.to_be_bytes();
+    let length = message.length.to_be_bytes();
+    let size = message.size.to_be_bytes();
+    let date = date_number(message.date).to_be_bytes();
+    send_parts(
+        out,
+        hasher,
+        &[
+            archive.as_slice(),
+            flags.as_slice(),
+            offset.as_slice(),
+            length.as_slice(),
+            size.as_slice(),
+            date.as_slice(),
+        ],
+    )
+}
+
+// 1 seen, 2 replied, 4 flagged, 8 has a date.
+fn flags_byte(message: &Record) -> u8
+    ensures { result ≡ flags_byte message.now }
+{
+    bit(1, message.flags.seen)
+        + bit(2, message.flags.replied)
+        + bit(4, message.flags.flagged)
+        + bit(8, message.date.is_some())
+}
+
+fn bit(value: u8, set: bool) -> u8
+    ensures bit { result ≡ bit value set }
+    ensures bound { result ≤ value }
+{
+    if set { value } else { 0 }
+}
+
+// In two's complement, and 0 without a date.
+fn date_number(date: Option<i64>) -> u64
+    ensures { result ≡ date_number date }
+{
+    match date {
+        Some(second) => second.cast_unsigned(),
+        None => 0,
+    }
+}

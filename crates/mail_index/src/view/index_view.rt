@@ -1,0 +1,191 @@
+//! An index file read in place.
+ghost use Rattle.std.specs.Prelude.{◌≡◌, ◌<◌, length, map, IsOk, IfOk, IfErr};
+ghost use Rattle.std.specs.List.{slice_get};
+ghost use Rattle.mail_index.specs.Faults.{IsFileOf, IsFirstFault};
+
+use crate::kind::Kind;
+use crate::record::Record;
+use crate::view::archive::{Archive, are_archives, behind_archives, first_archive};
+use crate::view::archive_list::ArchiveList;
+use crate::view::compared_keys::ComparedKeys;
+use crate::view::directory::Directory;
+use crate::view::directory_walk::are_entries;
+use crate::view::fault::{IndexFault, Section};
+use crate::view::keys::Keys;
+use crate::view::layout::{Layout, signed_version};
+use crate::view::look_up::look_up;
+use crate::view::posting_walk::are_lists;
+use crate::view::postings::Postings;
+use crate::view::record_walk::are_records;
+use crate::view::steps::Steps;
+use std::marker::Model;
+
+/// The table of an index file, read in the file's own bytes.
+#[derive(Debug, Drop)]
+pub struct IndexView<'a> {
+    layout: Layout<'a>,
+}
+
+impl<'a> Model for IndexView<'a> {
+    ghost use Rattle.mail_index.specs.Tables.{Table};
+    ghost use Rattle.mail_index.specs.Layouts.{table_of, IsChecked};
+
+    ghost Value = { Table };
+
+    ghost view = { λ s. table_of s.layout };
+
+    ghost invariant = { λ s. IsChecked s.layout };
+}
+
+impl<'a> IndexView<'a> {
+    ghost use Rattle.mail_index.specs.Layouts.{archive_of};
+    ghost use Rattle.mail_index.specs.Tables.{Table, IsWellFormed};
+    ghost use Rattle.mail_index.specs.LookUps.{numbers_at, TakesDigits, keys_of, text_and_numbers};
+
+    /// The table whose file these bytes are, in version 1 or 2, or the first thing that is wrong with them. No file of a
+    /// well-formed table is refused. Takes no memory.
+    pub fn open(bytes: &'a [u8]) -> Result<IndexView<'a>, IndexFault>
+        ensures ok { IfOk result (λ table. IsFileOf bytes.entry.now table) }
+        ensures fault { IfErr result (λ fault. IsFirstFault bytes.entry.now fault) }
+        ensures accepts { (t : Table) → IsFileOf bytes.entry.now t → IsOk result }
+        ensures same { (t : Table) → IsFileOf bytes.entry.now t → IfOk result (λ table. table ≡ t) }
+    {
+        let version = match signed_version(bytes) {
+            Ok(version) => version,
+            Err(fault) => return Err(fault),
+        };
+        let layout = match Layout::of(bytes, version) {
+            Some(layout) => layout,
+            None => return Err(IndexFault::BadLayout(Section::Counts)),
+        };
+        if !are_archives(layout.archives, layout.archive_count, layout.version) {
+            return Err(IndexFault::BadLayout(Section::Archives));
+        }
+        if !are_records(
+            layout.records,
+            layout.message_count,
+            layout.archives,
+            layout.archive_count,
+            layout.version,
+        ) {
+            return Err(IndexFault::BadLayout(Section::Records));
+        }
+        let total = layout.postings.len() as u64;
+        if !are_entries(
+            layout.directory,
+            layout.key_count,
+            layout.texts,
+            total,
+            layout.version,
+        ) {
+            return Err(IndexFault::BadLayout(Section::Directory));
+        }
+        if !are_lists(
+            layout.directory,
+            layout.key_count,
+            layout.postings,
+            layout.message_count,
+        ) {
+            return Err(IndexFault::BadLayout(Section::Postings));
+        }
+        Ok(IndexView { layout })
+    }
+
+    /// The same view once more. Its table keeps the rules of tables, as that of each view.
+    pub fn again(&self) -> IndexView<'a>
+        ensures same { result ≡ self.now }
+        ensures formed { IsWellFormed self.now }
+    {
+        IndexView {
+            layout: self.layout,
+        }
+    }
+
+    /// The version of the file: 1, which has no names of parts, or 2. Takes no memory.
+    pub fn version(&self) -> u32
+        ensures { result ≡ self.now.version }
+    {
+        self.layout.version.number()
+    }
+
+    /// How many archives there are.
+    #[tactic(auto, using(crate::proofs::ViewLaws::ArchiveReads::read_count))]
+    pub fn archive_count(&self) -> u32
+        ensures { result ≡ length self.now.archives }
+    {
+        self.layout.archive_count
+    }
+
+    /// The archive of this number, from 0.
+    pub fn archive(&self, n: u32) -> Archive<'a>
+        requires { n < length self.now.archives }
+        ensures { slice_get self.now.archives n ≡ Some (archive_of result) }
+    {
+        let Layout {
+            archives,
+            archive_count,
+            version,
+            ..
+        } = self.layout;
+        let rest = behind_archives(archives, archive_count, n, version);
+        first_archive(rest, archive_count - n, version)
+    }
+
+    /// The archives in order. It takes no memory.
+    pub fn archives(&self) -> ArchiveList<'a>
+        ensures { result ≡ self.now.archives }
+    {
+        ArchiveList::of(
+            self.layout.archives,
+            self.layout.archive_count,
+            self.layout.version,
+        )
+    }
+
+    /// How many messages there are.
+    #[tactic(auto, using(crate::proofs::ViewLaws::Opening::count_records))]
+    pub fn message_count(&self) -> u32
+        ensures { result ≡ length self.now.messages }
+    {
+        self.layout.message_count
+    }
+
+    /// The message of this number, from 0.
+    pub fn message(&self, n: u32) -> Record
+        requires { n < length self.now.messages }
+        ensures { slice_get self.now.messages n ≡ Some result }
+    {
+        Record::read(self.layout.records.split_at(40 * n as usize).1)
+    }
+
+    /// The keys in order.
+    fn directory(&self) -> Directory<'a>
+        ensures { result ≡ self.now.keys }
+    {
+        Directory::of(
+            self.layout.directory,
+            self.layout.texts,
+            self.layout.postings,
+            self.layout.key_count,
+        )
+    }
+
+    /// The keys of a kind, in the order of their bytes. It takes no memory.
+    pub fn keys(&self, kind: Kind) -> Keys<'a>
+        ensures { result ≡ map text_and_numbers (keys_of kind self.now.keys) }
+    {
+        Keys::of(self.directory(), kind)
+    }
+
+    /// The numbers of the messages that have the key, none where there is no such key. A binary search: it takes at most as
+    /// many steps as the number of keys has binary digits.
+    pub fn look_up(&self, kind: Kind, text: &[u8], steps: &mut Steps) -> Postings<'a>
+        ensures numbers { result ≡ numbers_at kind text.now self.now.keys }
+        ensures steps { TakesDigits (length self.now.keys) steps.old steps.new }
+    {
+        let mut keys = ComparedKeys::of(self.directory(), steps.copied());
+        let postings = look_up(&mut keys, kind, text);
+        *steps = keys.into_steps();
+        postings
+    }
+}

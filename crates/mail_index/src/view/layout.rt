@@ -1,0 +1,104 @@
+//! Where the sections of a file lie.
+ghost use Rattle.std.specs.Prelude.{◌≡◌, ◌↔◌, ◌+◌, ◌≤◌, length, MatchOption, MatchResult, IsTrue};
+ghost use Rattle.mail_index.specs.Versions.{version_number};
+ghost use Rattle.sha2.specs.Sha256.{sha256};
+ghost use Rattle.mail_index.specs.Faults.{version_told, HasDigest, IsSigned, IsFirstFault, digest_start};
+
+use crate::fields::{u32_at, u64_at};
+use crate::version::Version;
+use crate::view::fault::IndexFault;
+use crate::view::posting_walk::part;
+use sha2::{Digest, Sha256};
+
+/// The bytes that a file begins with.
+const MAGIC: [u8; 8] = *b"MAIRIX\r\n";
+
+/// The sections of a file, by the lengths that its counts tell.
+#[derive(Clone, Copy, Debug)]
+pub(crate) struct Layout<'a> {
+    pub(crate) version: Version,
+    pub(crate) archive_count: u32,
+    pub(crate) message_count: u32,
+    pub(crate) key_count: u32,
+    pub(crate) archives: &'a [u8],
+    pub(crate) records: &'a [u8],
+    pub(crate) directory: &'a [u8],
+    pub(crate) texts: &'a [u8],
+    pub(crate) postings: &'a [u8],
+}
+
+fn is_same(bytes: &[u8], other: &[u8]) -> bool
+    ensures { IsTrue result ↔ (bytes.now ≡ other.now) }
+{
+    bytes == other
+}
+
+fn digest_of(bytes: &[u8]) -> [u8; 32]
+    ensures { result ≡ sha256 bytes.now }
+{
+    let mut hasher = Sha256::new();
+    hasher.update(bytes);
+    hasher.finalize()
+}
+
+/// Whether the last 32 bytes are the digest of those before.
+fn has_digest(bytes: &[u8]) -> bool
+    requires { 80 ≤ length bytes.now }
+    ensures { IsTrue result ↔ HasDigest bytes.now }
+{
+    let (signed, digest) = bytes.split_at(bytes.len() - 32);
+    is_same(digest, &digest_of(signed))
+}
+
+/// The version of a file, or what is wrong with its bytes before any section is looked at.
+pub(crate) fn signed_version(bytes: &[u8]) -> Result<Version, IndexFault>
+    ensures { MatchResult result (λ version. IsSigned bytes.now × (version_number version ≡ version_told bytes.now)) (λ fault. IsFirstFault bytes.now fault) }
+{
+    if bytes.len() < 80 {
+        return Err(IndexFault::TooShort);
+    }
+    if !is_same(bytes.split_at(8).0, &MAGIC) {
+        return Err(IndexFault::BadMagic);
+    }
+    let Some(version) = Version::of(u32_at(bytes, 8)) else {
+        return Err(IndexFault::BadVersion);
+    };
+    if !has_digest(bytes) {
+        return Err(IndexFault::BadDigest);
+    }
+    Ok(version)
+}
+
+impl<'a> Layout<'a> {
+    ghost use Rattle.mail_index.specs.Layouts.{IsLayout};
+
+    /// The sections, if their lengths with those of counts and digest add up to the file's.
+    pub(crate) fn of(bytes: &'a [u8], version: Version) -> Option<Layout<'a>>
+        requires long { 80 ≤ length bytes.now }
+        requires version { version_number version ≡ version_told bytes.now }
+        ensures { MatchOption result (¬ (digest_start bytes.entry.now + 32 ≡ length bytes.entry.now)) (λ layout. IsLayout bytes.entry.now layout) }
+    {
+        let message_count = u32_at(bytes, 16);
+        let key_count = u32_at(bytes, 20);
+        let records = u64_at(bytes, 24).checked_add(48)?;
+        let directory = records.checked_add(40 * message_count as u64)?;
+        let texts = directory.checked_add(24 * key_count as u64)?;
+        let postings = texts.checked_add(u64_at(bytes, 32))?;
+        let digest = postings.checked_add(u64_at(bytes, 40))?;
+        let total = digest.checked_add(32)?;
+        if total != bytes.len() as u64 {
+            return None;
+        }
+        Some(Layout {
+            version,
+            archive_count: u32_at(bytes, 12),
+            message_count,
+            key_count,
+            archives: part(bytes, 48, records),
+            records: part(bytes, records, directory),
+            directory: part(bytes, directory, texts),
+            texts: part(bytes, texts, postings),
+            postings: part(bytes, postings, digest),
+        })
+    }
+}

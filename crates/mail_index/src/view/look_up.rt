@@ -1,0 +1,40 @@
+//! The look-up of a key.
+ghost use Rattle.std.specs.Prelude.{◌≡◌, ◌<◌, [], length, MatchOption};
+ghost use Rattle.mail_index.specs.LookUps.{numbers_at, TakesDigits};
+ghost use Rattle.mail_index.specs.KeysRead.{key_at};
+
+use crate::kind::Kind;
+use crate::view::compared_keys::ComparedKeys;
+use crate::view::postings::Postings;
+use std::cmp::Ordering;
+
+/// Where the key stands in the directory, if it does: a binary search.
+fn position(keys: &mut ComparedKeys<'_>, kind: Kind, text: &[u8]) -> Option<u32>
+    ensures found { MatchOption result (numbers_at kind text.now keys.old.directory ≡ [])
+        (λ number. (number < length keys.old.directory) × (numbers_at kind text.now keys.old.directory ≡ (key_at keys.old.directory number).numbers)) }
+    ensures steps { TakesDigits (length keys.old.directory) keys.old.steps keys.new.steps }
+    ensures keys { keys.new.directory ≡ keys.old.directory }
+{
+    let mut low = 0;
+    let mut high = keys.len();
+    while low < high {
+        let middle = low + (high - low) / 2;
+        match keys.compare(middle, kind, text) {
+            Ordering::Less => low = middle + 1,
+            Ordering::Equal => return Some(middle),
+            Ordering::Greater => high = middle,
+        }
+    }
+    None
+}
+
+/// The numbers of the messages that have the key; none where the directory hasn't it.
+pub(crate) fn look_up<'a>(keys: &mut ComparedKeys<'a>, kind: Kind, text: &[u8]) -> Postings<'a>
+    ensures numbers { result ≡ numbers_at kind text.now keys.old.directory }
+    ensures steps { TakesDigits (length keys.old.directory) keys.old.steps keys.new.steps }
+{
+    match position(keys, kind, text) {
+        Some(number) => keys.postings(number),
+        None => Postings::none(),
+    }
+}

@@ -1,0 +1,35 @@
+//! The posting lists of a file, as its directory divides their section.
+ghost use Rattle.std.specs.Prelude.{◌≡◌, ◌↔◌, ◌-◌, ◌*◌, length, take, drop, IsTrue};
+ghost use Rattle.mail_index.specs.Lists.{AreLists};
+
+use crate::fields::u64_at;
+use crate::view::directory_walk::end_before;
+use crate::view::postings::are_postings;
+
+/// The bytes from one place to another, as far as there are any.
+pub(crate) fn part(bytes: &[u8], from: u64, to: u64) -> &[u8]
+    ensures { result.now ≡ take (to - from) (drop from bytes.now) }
+{
+    let from_here = from.min(bytes.len() as u64) as usize;
+    let rest = bytes.split_at(from_here).1;
+    let size = to.saturating_sub(from).min(rest.len() as u64) as usize;
+    rest.split_at(size).0
+}
+
+/// Whether the postings of each of the directory's `count` entries are one or more numbers of so many messages.
+pub(crate) fn are_lists(directory: &[u8], count: u32, postings: &[u8], messages: u32) -> bool
+    requires { length directory.now ≡ 24 * count }
+    ensures { IsTrue result ↔ AreLists messages postings.now count directory.now }
+{
+    let mut rest = directory;
+    for number in 0..count {
+        let place = u64_at(rest, 16);
+        let behind = rest.split_at(24).1;
+        let end = end_before(behind, postings.len() as u64);
+        if !are_postings(part(postings, place, end), messages) {
+            return false;
+        }
+        rest = behind;
+    }
+    true
+}

@@ -1,0 +1,96 @@
+//! The numbers of the messages that have a key, read in place.
+ghost use Rattle.std.specs.Prelude.{◌≡◌, ◌↔◌, ◌+◌, ◌-◌, ◌<◌, ◌≤◌, ◌^◌, ℕ, List, [], ◌∷◌, ◌++◌, length, IsTrue, MatchOption};
+ghost use Rattle.std.specs.List.{AllByRecursion};
+ghost use Rattle.mail_index.specs.Steps.{add_steps};
+ghost use Rattle.mail_index.specs.PostingReads.{ArePostings, ArePosted};
+
+use crate::view::leb128::split_leb128;
+use crate::view::steps::Steps;
+use std::marker::Model;
+
+/// The most bytes of a difference.
+const MOST: u32 = 5;
+
+/// The rising numbers still to come of the messages that have a key.
+#[derive(Debug, Drop)]
+pub struct Postings<'a> {
+    bytes: &'a [u8],
+    // One past the last number.
+    low: u64,
+}
+
+impl<'a> Model for Postings<'a> {
+    ghost use Rattle.std.specs.Prelude.{ℕ, List, ◌^◌};
+    ghost use Rattle.mail_index.specs.PostingReads.{numbers_read, ArePostings};
+
+    ghost Value = { List ℕ };
+
+    ghost view = { λ s. numbers_read s.low s.bytes.now };
+
+    ghost invariant = { λ s. ArePostings (2 ^ 32) s.low s.bytes.now (numbers_read s.low s.bytes.now) };
+}
+
+impl<'a> Postings<'a> {
+    /// The numbers that these bytes are the postings of.
+    pub(crate) fn of(bytes: &'a [u8]) -> Self
+        requires { ArePosted (2 ^ 32) 0 bytes.now }
+        ensures { (ns : List ℕ) → ArePostings (2 ^ 32) 0 bytes.now ns → result ≡ ns }
+    {
+        Postings { bytes, low: 0 }
+    }
+
+    /// No number.
+    pub(crate) fn none() -> Self
+        ensures { result ≡ [] }
+    {
+        Postings { bytes: &[], low: 0 }
+    }
+
+    /// The next number, which is dropped: a step.
+    pub fn next(&mut self, steps: &mut Steps) -> Option<u32>
+        ensures { MatchOption result ((self.old ≡ []) × (self.new ≡ []) × (steps.new ≡ steps.old))
+            (λ n. (self.old ≡ n ∷ self.new) × (steps.new ≡ add_steps steps.old 1)) }
+    {
+        let (difference, behind) = split_leb128(MOST, self.bytes)?;
+        self.bytes = behind;
+        self.low += difference;
+        steps.tick();
+        Some((self.low - 1) as u32)
+    }
+
+    /// The least number to come that is at least n. It and all before it are dropped, or all where there is none: a step each.
+    pub fn next_at_least(&mut self, n: u32, steps: &mut Steps) -> Option<u32>
+        ensures number { MatchOption result (AllByRecursion (λ m. m < n) self.old × (self.new ≡ []))
+            (λ m. (n ≤ m) × ((dropped : List ℕ) × AllByRecursion (λ m. m < n) dropped × (self.old ≡ dropped ++ m ∷ self.new))) }
+        ensures steps { steps.new ≡ add_steps steps.old (length self.old - length self.new) }
+    {
+        while let Some(number) = self.next(steps) {
+            if number >= n {
+                return Some(number);
+            }
+        }
+        None
+    }
+}
+
+/// Whether these bytes are the postings of one or more rising numbers below a count.
+pub(crate) fn are_postings(bytes: &[u8], count: u32) -> bool
+    ensures { IsTrue result ↔ ((0 < length bytes.now) × ArePosted count 0 bytes.now) }
+{
+    let mut rest = bytes;
+    let mut low = 0;
+    while !rest.is_empty() {
+        let Some((difference, behind)) = split_leb128(MOST, rest) else {
+            return false;
+        };
+        if difference == 0 {
+            return false;
+        }
+        if low + difference > u64::from(count) {
+            return false;
+        }
+        rest = behind;
+        low += difference;
+    }
+    !bytes.is_empty()
+}

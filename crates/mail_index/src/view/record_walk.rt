@@ -1,0 +1,100 @@
+//! The records of a section, against the archives that they are in.
+ghost use Rattle.std.specs.Prelude.{◌≡◌, ◌↔◌, ◌+◌, ◌-◌, ◌*◌, ◌≤◌, ℕ, length, MatchOption, IsTrue};
+ghost use Rattle.mail_index.specs.Versions.{version_number};
+ghost use Rattle.mail_index.specs.Records.{SpellsArchives, IsNext, AreRecords, is_behind as is_behind_of, behind_archives as behind_archives_of};
+
+use crate::record::{Record, is_record};
+use crate::version::Version;
+use crate::view::archive::{behind_archives, first_length};
+
+/// Where the walk has come: the archive of the last message, the place in it where that one ended, and the archives from
+/// this one on.
+#[derive(Clone, Copy)]
+struct Place<'a> {
+    archive: u32,
+    offset: u64,
+    archives: &'a [u8],
+}
+
+/// Whether the message lies in a later archive than this one, or in it from the offset on.
+fn is_behind(archive: u32, offset: u64, message: Record) -> bool
+    ensures { result ≡ is_behind_of archive offset message }
+{
+    archive < message.archive || (archive == message.archive && offset <= message.offset)
+}
+
+/// The place behind a message, if it may stand behind the last one and lies in its archive. There are `count` archives.
+fn behind_message<'a>(
+    place: Place<'a>,
+    count: u32,
+    message: Record,
+    version: Version,
+) -> Option<Place<'a>>
+    requires bound { place.archive ≤ count }
+    requires spelled { SpellsArchives (version_number version) (count - place.archive) place.archives.now }
+    ensures next { MatchOption result (¬ IsNext (version_number version) count place.entry.archive place.entry.offset place.entry.archives.now message)
+        (λ p. IsNext (version_number version) count place.entry.archive place.entry.offset place.entry.archives.now message × (p.archive ≡ message.archive)
+        × (p.offset ≡ message.offset + message.length)
+        × (p.archives.now ≡ behind_archives_of (version_number version) (message.archive - place.entry.archive) place.entry.archives.now)
+        × SpellsArchives (version_number version) (count - p.archive) p.archives.now) }
+{
+    if !is_behind(place.archive, place.offset, message) {
+        return None;
+    }
+    if message.archive >= count {
+        return None;
+    }
+    let archives = behind_archives(
+        place.archives,
+        count - place.archive,
+        message.archive - place.archive,
+        version,
+    );
+    let most = first_length(archives, count - message.archive, version);
+    let offset = match message.offset.checked_add(message.length) {
+        Some(offset) => offset,
+        None => return None,
+    };
+    if offset > most {
+        return None;
+    }
+    if message.size >= message.length {
+        return None;
+    }
+    Some(Place {
+        archive: message.archive,
+        offset,
+        archives,
+    })
+}
+
+/// Whether the section is the records of so many messages in these archives, in order.
+pub(crate) fn are_records(
+    section: &[u8],
+    messages: u32,
+    archives: &[u8],
+    count: u32,
+    version: Version,
+) -> bool
+    requires whole { length section.now ≡ 40 * messages }
+    requires spelled { SpellsArchives (version_number version) count archives.now }
+    ensures { IsTrue result ↔ AreRecords (version_number version) count 0 0 archives.now messages section.now }
+{
+    let mut rest = section;
+    let mut place = Place {
+        archive: 0,
+        offset: 0,
+        archives,
+    };
+    for number in 0..messages {
+        if !is_record(rest) {
+            return false;
+        }
+        place = match behind_message(place, count, Record::read(rest), version) {
+            Some(behind) => behind,
+            None => return false,
+        };
+        rest = rest.split_at(40).1;
+    }
+    true
+}

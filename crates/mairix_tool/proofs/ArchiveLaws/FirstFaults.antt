@@ -1,0 +1,168 @@
+-- Some bytes have one first fault: each comes where all before it are past, and isn't past itself.
+use Rattle.std.proofs.Common.{◌≡◌, ◌∙◌, ℕ, zero, suc, ◌<◌, ◌≤◌, ◌^◌, ◌+◌, List, length, take, flat_map, refl, sym, ap, subst, arith, inl, inr}
+use Rattle.std.specs.Prelude.{◌⊎◌, ⊤}
+use Rattle.std.proofs.lemmas.Bool.Decides.{leb_tells, eqb_tells}
+use Rattle.mail_index.specs.declared.view.fault.IndexFault.{IndexFault}
+use Rattle.mail_index.specs.declared.view.fault.IndexFault.TheVariants.{TooShort, BadMagic, BadVersion, BadDigest, BadLayout}
+use Rattle.mail_index.specs.declared.view.fault.Section.TheVariants.{Counts, Archives, Records, Directory, Postings}
+use Rattle.mail_index.specs.declared.record.Record.{Record}
+use Rattle.mail_index.specs.Faults.{IsFirstFault, HasDigest, IsSigned, HasCounts, HasArchives, HasRecords, HasDirectory, digest_start, version_told}
+use Rattle.mail_index.specs.Versions.{IsVersion}
+use Rattle.mail_index.specs.Files.{magic, archive_bytes, record_bytes, Entry}
+use Rattle.mail_index.specs.Records.{read_archives, read_records}
+use Rattle.mail_index.specs.Tables.{Archive}
+use Rattle.mail_index.proofs.ViewLaws.ArchiveReads.{archives_back}
+use Rattle.mail_index.proofs.FileLaws.Bytes.{AreBytes}
+use Rattle.mail_index.proofs.ViewLaws.DirectorySections.{u32_small}
+use Rattle.mail_index.proofs.ViewLaws.Opening.{length_records}
+use Rattle.mail_index.proofs.ViewLaws.RecordSections.{records_back}
+
+-- the fault's place in their order
+abbrev rank : IndexFault → ℕ
+rank TooShort = 0
+rank BadMagic = 1
+rank BadVersion = 2
+rank BadDigest = 3
+rank (BadLayout Counts) = 4
+rank (BadLayout Archives) = 5
+rank (BadLayout Records) = 6
+rank (BadLayout Directory) = 7
+rank (BadLayout Postings) = 8
+
+abbrev at-rank : ℕ → IndexFault
+at-rank zero = TooShort
+at-rank (suc zero) = BadMagic
+at-rank (suc (suc zero)) = BadVersion
+at-rank (suc (suc (suc zero))) = BadDigest
+at-rank (suc (suc (suc (suc zero)))) = BadLayout Counts
+at-rank (suc (suc (suc (suc (suc zero))))) = BadLayout Archives
+at-rank (suc (suc (suc (suc (suc (suc zero)))))) = BadLayout Records
+at-rank (suc (suc (suc (suc (suc (suc (suc zero))))))) = BadLayout Directory
+at-rank _ = BadLayout Postings
+
+at-its-rank : (f : IndexFault) → at-rank (rank f) ≡ f
+at-its-rank TooShort = refl
+at-its-rank BadMagic = refl
+at-its-rank BadVersion = refl
+at-its-rank BadDigest = refl
+at-its-rank (BadLayout Counts) = refl
+at-its-rank (BadLayout Archives) = refl
+at-its-rank (BadLayout Records) = refl
+at-its-rank (BadLayout Directory) = refl
+at-its-rank (BadLayout Postings) = refl
+
+module _ (bytes : List ℕ) (are : AreBytes bytes) where
+  -- ---- what the sections hold is determined
+
+  same-archives : (as' bs : List Archive) → HasArchives bytes as' → HasArchives bytes bs → as' ≡ bs
+  same-archives as' bs a b =
+      let l : length as' ≡ length bs = a.counted ∙ sym b.counted in
+      let e : flat_map archive_bytes as' ≡ flat_map archive_bytes bs = sym a.spelled ∙ b.spelled in
+      sym (archives_back (version_told bytes) as' a.each) ∙ (λ i. read_archives (version_told bytes) (l i) (e i)) ∙ archives_back (version_told bytes) bs b.each
+
+  same-records : (archives : List Archive) (ms ns : List Record) → HasRecords bytes archives ms → HasRecords bytes archives ns → ms ≡ ns
+  same-records archives ms ns a b =
+      let few : length archives < 2 ^ 32 = omega (arith, a.before.counted, u32_small bytes 12 are) in
+      let e : flat_map record_bytes ms ≡ flat_map record_bytes ns = sym a.spelled ∙ b.spelled in
+      let l : length ms ≡ length ns = omega (arith, ap length e, length_records ms, length_records ns) in
+      sym (records_back (version_told bytes) archives ms few a.before.each a.each) ∙ (λ i. read_records (l i) (e i)) ∙ records_back (version_told bytes) archives ns few b.before.each b.each
+
+  -- ---- the rules, each as kept
+
+  abbrev IsKept : ℕ → Type 0
+  IsKept zero = 80 ≤ length bytes
+  IsKept (suc zero) = take 8 bytes ≡ magic
+  IsKept (suc (suc zero)) = IsVersion (version_told bytes)
+  IsKept (suc (suc (suc zero))) = HasDigest bytes
+  IsKept (suc (suc (suc (suc zero)))) = digest_start bytes + 32 ≡ length bytes
+  IsKept (suc (suc (suc (suc (suc zero))))) = (archives : List Archive) × HasArchives bytes archives
+  IsKept (suc (suc (suc (suc (suc (suc zero)))))) = (archives : List Archive) × (ms : List Record) × HasRecords bytes archives ms
+  IsKept (suc (suc (suc (suc (suc (suc (suc zero))))))) = (archives : List Archive) × (ms : List Record) × (es : List Entry) × HasDirectory bytes archives ms es
+  IsKept _ = ⊤
+
+  -- those before this number
+  abbrev AreKept : ℕ → Type 0
+  AreKept zero = ⊤
+  AreKept (suc n) = AreKept n × IsKept n
+
+  kept-below : (n m : ℕ) → n < m → AreKept m → IsKept n
+  kept-below n zero below kept = absurd (omega (arith, below))
+  kept-below n (suc m) below kept = go (λ less. kept-below n m less kept.0) nearer
+    where
+      nearer : (n < m) ⊎ (n ≡ m)
+      nearer = elim (eqb_tells n m) [ inl p ↦ inr p.1 | inr p ↦ inl (omega (arith, below, p.1)) ]
+
+      go : (n < m → IsKept n) → (n < m) ⊎ (n ≡ m) → IsKept n
+      go before (inl less) = before less
+      go before (inr same) = subst IsKept (sym same) kept.1
+
+  signed : IsSigned bytes → AreKept 4
+  signed s = ((((tt, s.long), s.marked), s.known), s.digest)
+
+  counted : HasCounts bytes → AreKept 5
+  counted c = (signed c.0, c.1)
+
+  listed : (archives : List Archive) → HasArchives bytes archives → AreKept 6
+  listed archives h = (counted h.before, (archives, h))
+
+  recorded : (archives : List Archive) (ms : List Record) → HasRecords bytes archives ms → AreKept 7
+  recorded archives ms h = (listed archives h.before, (archives, ms, h))
+
+  filed : (archives : List Archive) (ms : List Record) (es : List Entry) → HasDirectory bytes archives ms es → AreKept 8
+  filed archives ms es h = (recorded archives ms h.before, (archives, ms, es, h))
+
+  -- all rules before a first fault are kept
+  kept-before : (f : IndexFault) → IsFirstFault bytes f → AreKept (rank f)
+  kept-before TooShort h = tt
+  kept-before BadMagic h = (tt, h.0)
+  kept-before BadVersion h = ((tt, h.0), h.1)
+  kept-before BadDigest h = (((tt, h.0), h.1), h.2)
+  kept-before (BadLayout Counts) h = signed h.0
+  kept-before (BadLayout Archives) h = counted h.0
+  kept-before (BadLayout Records) h = listed h.0 h.1
+  kept-before (BadLayout Directory) h = recorded h.0 h.1 h.2
+  kept-before (BadLayout Postings) h = filed h.0 h.1 h.2 h.3
+
+  -- and its own isn't, unless it is the last
+  not-kept : (f : IndexFault) → rank f < 8 → IsFirstFault bytes f → IsKept (rank f) → ⊥
+  not-kept TooShort last h k = omega (arith, h, k)
+  not-kept BadMagic last h k = h.1 k
+  not-kept BadVersion last h k = h.2 k
+  not-kept BadDigest last h k = h.3 k
+  not-kept (BadLayout Counts) last h k = h.1 k
+  not-kept (BadLayout Archives) last h k = h.1 k.0 k.1
+  not-kept (BadLayout Records) last h k =
+      h.2 k.1 (subst (λ (archives : List Archive). HasRecords bytes archives k.1) (same-archives k.0 h.0 k.2.before h.1) k.2)
+  not-kept (BadLayout Directory) last h k =
+      let here = subst (λ (archives : List Archive). HasDirectory bytes archives k.1 k.2) (same-archives k.0 h.0 k.3.before.before h.2.before) k.3 in
+      h.3 k.2 (subst (λ (ms : List Record). HasDirectory bytes h.0 ms k.2) (same-records h.0 k.1 h.1 here.before h.2) here)
+  not-kept (BadLayout Postings) last h k = absurd (omega (arith, last))
+
+  never-before : (f g : IndexFault) → rank f < rank g → IsFirstFault bytes f → IsFirstFault bytes g → ⊥
+  never-before f g less h k = not-kept f (omega (arith, less, at-most g)) h (kept-below (rank f) (rank g) less (kept-before g k))
+    where
+      at-most : (g : IndexFault) → rank g ≤ 8
+      at-most TooShort = omega arith
+      at-most BadMagic = omega arith
+      at-most BadVersion = omega arith
+      at-most BadDigest = omega arith
+      at-most (BadLayout Counts) = omega arith
+      at-most (BadLayout Archives) = omega arith
+      at-most (BadLayout Records) = omega arith
+      at-most (BadLayout Directory) = omega arith
+      at-most (BadLayout Postings) = omega arith
+
+  pub one-first-fault : (f g : IndexFault) → IsFirstFault bytes f → IsFirstFault bytes g → f ≡ g
+  one-first-fault f g h k = go by-rank
+    where
+      by-rank : (rank f < rank g) ⊎ ((rank g < rank f) ⊎ (rank f ≡ rank g))
+      by-rank =
+          elim (eqb_tells (rank f) (rank g)) [
+            | inl p ↦ inr (inr p.1)
+            | inr p ↦ elim (leb_tells (rank f) (rank g)) [ inl q ↦ inl (omega (arith, p.1, q.1)) | inr q ↦ inr (inl q.1) ]
+          ]
+
+      go : (rank f < rank g) ⊎ ((rank g < rank f) ⊎ (rank f ≡ rank g)) → f ≡ g
+      go (inl less) = absurd (never-before f g less h k)
+      go (inr (inl more)) = absurd (never-before g f more k h)
+      go (inr (inr same)) = sym (at-its-rank f) ∙ ap at-rank same ∙ at-its-rank g

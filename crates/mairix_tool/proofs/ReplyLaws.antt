@@ -1,0 +1,5 @@
+-- Laws of what runs reply.
+pub mod Answers
+pub mod CutAgain
+pub mod Once
+pub mod Stored

@@ -1,0 +1,335 @@
+-- A run over a stored index replies what its table tells; over the archives that were indexed, what their own messages say.
+use Rattle.std.proofs.Common.{◌≡◌, ◌∙◌, ◌<◌, ◌^◌, ◌+◌, ◌++◌, ℕ, Bool, true, false, cond, IfSome, IfOk, IfErr, List, [], ◌∷◌, map, length, None, Some, Option, Result, Ok, Err, refl, sym, ap, subst, arith, inl, inr, eq-eqb, min}
+use Rattle.std.specs.Prelude.{◌==◌, ◌&&◌, ◌||◌}
+use Rattle.std.proofs.lemmas.Bool.{false≢true}
+use Rattle.std.proofs.lemmas.List.{length-map}
+use Rattle.std.proofs.lemmas.Slice.Eq.{bytes_eq-Decides}
+use Rattle.mbox_cutter.specs.declared.event.CutFault.TheVariants as cut
+use Rattle.std.specs.Option.{option_map, option_or}
+use Rattle.mail_answer.specs.Stale.{stale_archive}
+use Rattle.mail_answer.specs.Verified.{unverified_archive}
+use Rattle.mail_index.specs.declared.view.fault.IndexFault.{IndexFault}
+use Rattle.mail_index.specs.Faults.{IsFileOf, IsFirstFault}
+use Rattle.mail_index.proofs.FileLaws.Bytes.{AreBytes}
+use Rattle.mail_index.specs.Tables.{Archive, Table}
+use Rattle.mail_index.proofs.FileLaws.Accepts.{no_fault}
+use Rattle.mail_index.proofs.FileLaws.SameTable.{same-table}
+use Rattle.mail_index.specs.Versions.{IsVersion}
+use Rattle.mail_query.specs.Query.{uses_names}
+use Rattle.index_job.specs.ArchiveRefusals.{AreSound}
+use Rattle.index_job.specs.ArchiveTables.{Mbox, table, entry_of}
+use Rattle.mairix_tool.specs.declared.fault.Fault.{Fault}
+use Rattle.mairix_tool.specs.declared.fault.Fault.TheVariants as of
+use Rattle.mairix_tool.specs.declared.fault.Reply.{Reply}
+use Rattle.mairix_tool.specs.ArchivesIndexed.{mboxes}
+use Rattle.mairix_tool.specs.Asked.{Wanted}
+use Rattle.mairix_tool.specs.Faults.{refusal_of, is_failure}
+use Rattle.mairix_tool.specs.Altered.{AreToldApart, altered_archive}
+use Rattle.mairix_tool.specs.OldTables.{but_digests, old_table}
+use Rattle.mairix_tool.specs.Replies.{Answer, refused}
+use Rattle.mairix_tool.specs.Runs.{IsTold, IsToldOf, IsProvedAndTold, unproved_archive, TellsProved, IsStaleOr, IsOldOr, is_too_old, IsReply, IsStoredReply, IsIndexRefusal, IsRefusedAs, RepliesBy, reply_of, renamed_archive, first_renamed, IsCountedWhere}
+use Rattle.mairix_tool.proofs.ArchiveLaws.ArchiveLists.{mboxes-length}
+use Rattle.mairix_tool.proofs.TableLaws.OldTables.{told-old, old-told, told-same, same-told, renamed-old}
+use Rattle.mairix_tool.proofs.ArchiveLaws.Unaltered.{own-verified, the-same}
+use Rattle.mairix_tool.proofs.ArchiveLaws.FirstFaults.{one-first-fault}
+use Rattle.mairix_tool.proofs.ArchiveLaws.SoundArchives.{sound-not-refused}
+use Rattle.mairix_tool.proofs.ReplyLaws.Once.{replies-as, some-told, unanswered, once-reply, reply-once, bytes-of-mboxes}
+
+-- ---- the table of archives has their paths
+
+first-named : (n : ℕ) (paths bytes : List (List ℕ)) → length paths ≡ length bytes → first_renamed n (map entry_of (mboxes paths bytes)) paths ≡ None
+first-named n [] bytes same = refl
+first-named n (p ∷ paths) [] same = absurd (omega (arith, same))
+first-named n (p ∷ paths) (b ∷ bytes) same =
+    let rest : length paths ≡ length bytes = omega (arith, same) in
+    ap (λ (t : Bool). cond t (first_renamed (n + 1) (map entry_of (mboxes paths bytes)) paths) (Some n)) ((bytes_eq-Decides p p).1 refl) ∙ first-named (n + 1) paths bytes rest
+
+named-as : (paths bytes : List (List ℕ)) → length paths ≡ length bytes → renamed_archive (table (mboxes paths bytes)).archives paths ≡ None
+named-as paths bytes same =
+    let named : List Archive = map entry_of (mboxes paths bytes) in
+    let many : length paths ≡ length named = sym (length-map (mboxes paths bytes) entry_of ∙ mboxes-length paths bytes same) in
+    ap (λ (t : Bool). cond t (first_renamed 0 named paths) (Some (min (length paths) (length named)))) (eq-eqb _ _ many) ∙ first-named 0 paths bytes same
+
+-- and the bytes that they hold have its digests
+proved-as : (verify : Bool) (paths bytes : List (List ℕ)) → length paths ≡ length bytes → unproved_archive verify (table (mboxes paths bytes)).archives bytes ≡ None
+proved-as false paths bytes same = refl
+proved-as true paths bytes same =
+    subst (λ (held : List (List ℕ)). unverified_archive (table (mboxes paths bytes)).archives held ≡ None) (bytes-of-mboxes paths bytes same) (own-verified (mboxes paths bytes))
+
+-- ---- what the table tells
+
+-- of two archives that aren't as they were indexed the first is told
+join : (o p : Option ℕ) (IsFound : Answer → Type 0) (answer : Answer) → IsStaleOr o (IsStaleOr p IsFound) answer → IsStaleOr (option_or o p) IsFound answer
+join None p IsFound answer is = is
+join (Some n) p IsFound answer is = is
+
+part : (o p : Option ℕ) (IsFound : Answer → Type 0) (answer : Answer) → IsStaleOr (option_or o p) IsFound answer → IsStaleOr o (IsStaleOr p IsFound) answer
+part None p IsFound answer is = is
+part (Some n) p IsFound answer is = is
+
+neither : {o p : Option ℕ} → o ≡ None → p ≡ None → option_or o p ≡ None
+neither {o} {p} first second = ap (λ q. option_or q p) first ∙ second
+
+-- archives that are as they were indexed
+pub none-altered : (paths bytes : List (List ℕ)) → length paths ≡ length bytes → altered_archive (mboxes paths bytes) paths bytes ≡ None
+none-altered paths bytes same = neither (named-as paths bytes same) (proved-as true paths bytes same)
+
+-- an index that isn't too old has the digests that are asked for
+pub has-digests : (w : Wanted) (t : Table) → IsVersion t.version → is_too_old t w ≡ false → w.verify ≡ true → t.version ≡ 2
+has-digests w t (inl one) fresh verify =
+    let old : is_too_old t w ≡ true = ap (λ (n : ℕ). (n == 1) && (w.verify || uses_names w.search.query)) one ∙ ap (λ (b : Bool). b || uses_names w.search.query) verify in
+    absurd (false≢true (sym fresh ∙ old))
+has-digests w t (inr two) fresh verify = two
+
+module _ (w : Wanted) (index : List ℕ) (few : length index < 2 ^ 64) (t : Table) (file : IsFileOf index t) where
+  pub one-table : (u : Table) → IsFileOf index u → t ≡ u
+  one-table u f = same-table index u t few f file
+
+  -- an index that isn't too old
+  module _ (held : List (List ℕ)) (fresh : is_too_old t w ≡ false) where
+    -- the archive that isn't as it was indexed
+    abbrev altered : Option ℕ
+    altered = option_or (renamed_archive t.archives w.paths) (unproved_archive w.verify t.archives held)
+
+    stored-by : (answer : Answer) → IsStaleOr altered (IsTold t w.search held) answer → IsStoredReply (Ok w) index held answer
+    stored-by answer is =
+        let both = part (renamed_archive t.archives w.paths) (unproved_archive w.verify t.archives held) (IsTold t w.search held) answer is in
+        inr (t, file, subst (λ (b : Bool). IsOldOr b (IsStaleOr (renamed_archive t.archives w.paths) (IsProvedAndTold w t held)) answer) (sym fresh) both)
+
+    told-by : (answer : Answer) → IsStoredReply (Ok w) index held answer → IsStaleOr altered (IsTold t w.search held) answer
+    told-by answer (inl bad) = absurd (no_fault index t few file bad.0 bad.1)
+    told-by answer (inr (u, f, told)) =
+        let here = subst (λ (v : Table). IsToldOf w v held answer) (sym (one-table u f)) told in
+        let both = subst (λ (b : Bool). IsOldOr b (IsStaleOr (renamed_archive t.archives w.paths) (IsProvedAndTold w t held)) answer) fresh here in
+        join (renamed_archive t.archives w.paths) (unproved_archive w.verify t.archives held) (IsTold t w.search held) answer both
+
+    -- of these paths
+    pub stored-told : renamed_archive t.archives w.paths ≡ None → (reply : Reply) (old new : Option (List ℕ)) → RepliesBy (IsProvedAndTold w t held) reply old new
+        → RepliesBy (IsStoredReply (Ok w) index held) reply old new
+    stored-told none reply old new given =
+        replies-as (IsProvedAndTold w t held) (IsStoredReply (Ok w) index held)
+        (λ answer is. stored-by answer (subst (λ (o : Option ℕ). IsStaleOr (option_or o (unproved_archive w.verify t.archives held)) (IsTold t w.search held) answer) (sym none) is))
+        (λ answer is. subst (λ (o : Option ℕ). IsStaleOr (option_or o (unproved_archive w.verify t.archives held)) (IsTold t w.search held) answer) none (told-by answer is))
+        reply old new given
+
+  pub stored-counted : (u : Table) (held : Option (List (List ℕ))) (fault : Option Fault) (reply : Reply) (old new : Option (List ℕ)) → IsFileOf index u
+      → IsCountedWhere t w.search held fault reply old new → IsCountedWhere u w.search held fault reply old new
+  stored-counted u held fault reply old new f given = subst (λ (v : Table). IsCountedWhere v w.search held fault reply old new) (one-table u f) given
+
+-- over the archives that were indexed
+module _ (w : Wanted) (index : List ℕ) (few : length index < 2 ^ 64) (bytes : List (List ℕ)) (many : length w.paths ≡ length bytes) (sound : AreSound (mboxes w.paths bytes)) where
+  abbrev whole : Table
+  whole = table (mboxes w.paths bytes)
+
+  pub once-told : (answer : Answer) → IsTold whole w.search bytes answer → IsReply (Ok w) bytes answer
+  once-told answer told = once-reply (Ok w) bytes answer many (inl (sound, told))
+
+  pub told-once : (answer : Answer) → IsReply (Ok w) bytes answer → IsTold whole w.search bytes answer
+  told-once answer is =
+      elim (reply-once (Ok w) bytes answer many is) [
+        | inl told ↦ told.1
+        | inr bad ↦ absurd (sound-not-refused (mboxes w.paths bytes) bad.0 sound bad.1)
+      ]
+
+  -- into a table that tells the same
+  stored-alike : (t : Table) → IsFileOf index t → is_too_old t w ≡ false → renamed_archive t.archives w.paths ≡ None → unproved_archive w.verify t.archives bytes ≡ None
+      → ((answer : Answer) → IsTold t w.search bytes answer → IsTold whole w.search bytes answer) → ((answer : Answer) → IsTold whole w.search bytes answer → IsTold t w.search bytes answer)
+      → (reply : Reply) (old new : Option (List ℕ)) → RepliesBy (IsStoredReply (Ok w) index bytes) reply old new → RepliesBy (IsReply (Ok w) bytes) reply old new
+  stored-alike t file fresh named proved forth back reply old new given =
+      let none : option_or (renamed_archive t.archives w.paths) (unproved_archive w.verify t.archives bytes) ≡ None = neither named proved in
+      replies-as (IsStoredReply (Ok w) index bytes) (IsReply (Ok w) bytes)
+      (λ answer is. once-told answer (forth answer (subst (λ (o : Option ℕ). IsStaleOr o (IsTold t w.search bytes) answer) none (told-by w index few t file bytes fresh answer is))))
+      (λ answer is. stored-by w index few t file bytes fresh answer (subst (λ (o : Option ℕ). IsStaleOr o (IsTold t w.search bytes) answer) (sym none) (back answer (told-once answer is))))
+      reply old new given
+
+  -- by the version that is written now
+  pub stored-indexed : IsFileOf index whole → (reply : Reply) (old new : Option (List ℕ)) → RepliesBy (IsStoredReply (Ok w) index bytes) reply old new → RepliesBy (IsReply (Ok w) bytes) reply old new
+  stored-indexed file =
+      stored-alike whole file refl (named-as w.paths bytes many) (proved-as w.verify w.paths bytes many) (λ answer told. told) (λ answer told. told)
+
+  -- with other digests
+  pub stored-otherwise : (t : Table) → w.verify ≡ false → but_digests t ≡ but_digests whole → IsFileOf index t → (reply : Reply) (old new : Option (List ℕ)) → RepliesBy (IsStoredReply (Ok w) index bytes) reply old new
+      → RepliesBy (IsReply (Ok w) bytes) reply old new
+  stored-otherwise t off same file =
+      let fresh : is_too_old t w ≡ false = ap (λ (u : Table). is_too_old u w) same in
+      let named : renamed_archive t.archives w.paths ≡ None =
+      sym (renamed-old t.archives w.paths) ∙ ap (λ (u : Table). renamed_archive u.archives w.paths) same ∙ renamed-old whole.archives w.paths ∙ named-as w.paths bytes many in
+      stored-alike t file fresh named (ap (λ (b : Bool). unproved_archive b t.archives bytes) off) (λ answer. told-same t whole same w.search bytes answer) (λ answer. same-told t whole same w.search bytes answer)
+
+  -- by version 1
+  pub stored-before : w.verify ≡ false → IsFileOf index (old_table whole) → uses_names w.search.query ≡ false → (reply : Reply) (old new : Option (List ℕ)) → RepliesBy (IsStoredReply (Ok w) index bytes) reply old new
+      → RepliesBy (IsReply (Ok w) bytes) reply old new
+  stored-before off file none =
+      let fresh : is_too_old (old_table whole) w ≡ false = ap (λ (b : Bool). b || uses_names w.search.query) off ∙ none in
+      stored-alike (old_table whole) file fresh (renamed-old whole.archives w.paths ∙ named-as w.paths bytes many)
+      (ap (λ (b : Bool). unproved_archive b (old_table whole).archives bytes) off)
+      (λ answer told. told-old whole w.search bytes answer none told) (λ answer told. old-told whole w.search bytes answer none told)
+
+-- where they are verified, by the index of whatever archives
+module _ (w : Wanted) (index : List ℕ) (few : length index < 2 ^ 64) (before : List Mbox) (bytes : List (List ℕ)) (verify : w.verify ≡ true) (sound : AreSound before) (file : IsFileOf index (table before))
+    (apart : AreToldApart (map (λ a. a.bytes) before ++ bytes)) where
+  stale-or : (o : Option ℕ) (IsFound IsOther : Answer → Type 0) → (o ≡ None → (answer : Answer) → IsFound answer → IsOther answer) → (answer : Answer) → IsStaleOr o IsFound answer → IsStaleOr o IsOther answer
+  stale-or None IsFound IsOther forth answer is = forth refl answer is
+  stale-or (Some n) IsFound IsOther forth answer is = is
+
+  -- the bytes of archives that are verified are those that were indexed
+  unaltered : altered_archive before w.paths bytes ≡ None → (length w.paths ≡ length bytes) × (before ≡ mboxes w.paths bytes)
+  unaltered none = the-same before w.paths bytes apart none
+
+  replied : altered_archive before w.paths bytes ≡ None → (answer : Answer) → IsTold (table before) w.search bytes answer → IsReply (Ok w) bytes answer
+  replied none answer told =
+      let same = unaltered none in
+      once-told w index few bytes same.0 (subst AreSound same.1 sound) answer (subst (λ (archives : List Mbox). IsTold (table archives) w.search bytes answer) same.1 told)
+
+  told-again : altered_archive before w.paths bytes ≡ None → (answer : Answer) → IsReply (Ok w) bytes answer → IsTold (table before) w.search bytes answer
+  told-again none answer is =
+      let same = unaltered none in
+      subst (λ (archives : List Mbox). IsTold (table archives) w.search bytes answer) (sym same.1) (told-once w index few bytes same.0 (subst AreSound same.1 sound) answer is)
+
+  abbrev by-tables : Bool → Option ℕ
+  by-tables b = option_or (renamed_archive (table before).archives w.paths) (unproved_archive b (table before).archives bytes)
+
+  pub stored-verified : (reply : Reply) (old new : Option (List ℕ)) → RepliesBy (IsStoredReply (Ok w) index bytes) reply old new
+      → RepliesBy (IsStaleOr (altered_archive before w.paths bytes) (IsReply (Ok w) bytes)) reply old new
+  stored-verified reply old new given =
+      replies-as (IsStoredReply (Ok w) index bytes) (IsStaleOr (altered_archive before w.paths bytes) (IsReply (Ok w) bytes))
+      (λ answer is.
+      stale-or (altered_archive before w.paths bytes) (IsTold (table before) w.search bytes) (IsReply (Ok w) bytes) replied answer
+      (subst (λ (b : Bool). IsStaleOr (by-tables b) (IsTold (table before) w.search bytes) answer) verify (told-by w index few (table before) file bytes refl answer is)))
+      (λ answer is.
+      stored-by w index few (table before) file bytes refl answer
+      (subst (λ (b : Bool). IsStaleOr (by-tables b) (IsTold (table before) w.search bytes) answer) (sym verify)
+      (stale-or (altered_archive before w.paths bytes) (IsReply (Ok w) bytes) (IsTold (table before) w.search bytes) told-again answer is)))
+      reply old new given
+
+-- ---- each run has a reply
+
+some-stale : (o : Option ℕ) (IsFound : Answer → Type 0) → (answer : Answer) × IsFound answer → (answer : Answer) × IsStaleOr o IsFound answer
+some-stale (Some n) IsFound found = (refused (of.Stale n), refl)
+some-stale None IsFound found = found
+
+-- an index that is too old refuses, and another one answers
+some-old : (old : Bool) (IsFound : Answer → Type 0) → (answer : Answer) × IsFound answer → (answer : Answer) × IsOldOr old IsFound answer
+some-old true IsFound found = (refused of.OldIndex, refl)
+some-old false IsFound found = found
+
+-- by what reading the index tells
+pub some-stored-reply : (index : List ℕ) (read : Result Table IndexFault) → IfOk read (IsFileOf index) → IfErr read (IsFirstFault index)
+    → (asked : Result Wanted Fault) (held : List (List ℕ)) → (answer : Answer) × IsStoredReply asked index held answer
+some-stored-reply index read file bad (Err fault) held = (refused fault, refl)
+some-stored-reply index (Ok t) file bad (Ok w) held =
+    let told = some-told t w.search held (stale_archive t.archives held) in
+    let proved = some-stale (unproved_archive w.verify t.archives held) (IsTold t w.search held) told in
+    let named = some-stale (renamed_archive t.archives w.paths) (IsProvedAndTold w t held) proved in
+    let some = some-old (is_too_old t w) (IsStaleOr (renamed_archive t.archives w.paths) (IsProvedAndTold w t held)) named in
+    (some.0, inr (t, file, some.1))
+some-stored-reply index (Err f) file bad (Ok w) held = (refused (of.Index f), inl (f, bad, refl))
+
+-- ---- refusals
+
+-- a fault that is no device's or memory's is a refusal
+refusal-known : (f : Fault) → is_failure (Some f) ≡ false → refusal_of f ≡ Some f
+refusal-known (of.Usage f) other = refl
+refusal-known (of.Rc f) other = refl
+refusal-known (of.Query f) other = refl
+refusal-known (of.Archive n cut.Device) other = absurd cc
+refusal-known (of.Archive n cut.NotAnMbox) other = refl
+refusal-known (of.Archive n cut.ArchiveTooLong) other = refl
+refusal-known (of.Archive n cut.Failed) other = refl
+refusal-known (of.Index f) other = refl
+refusal-known of.OldIndex other = refl
+refusal-known (of.Stale n) other = refl
+refusal-known of.Device other = absurd cc
+refusal-known of.Out other = absurd cc
+refusal-known of.Memory other = absurd cc
+refusal-known of.TooMany other = refl
+
+stored-refusal : (asked : Result Wanted Fault) (index : List ℕ) (held : List (List ℕ)) (f : Fault) → IsRefusedAs asked index f → IsStoredReply asked index held (refused f)
+stored-refusal (Err refusal) index held f is = ap refused is
+stored-refusal (Ok w) index held (of.Index g) is = inl (g, is, refl)
+stored-refusal (Ok w) index held of.OldIndex is =
+    inr (is.0, is.1, subst (λ (b : Bool). IsOldOr b (IsStaleOr (renamed_archive is.0.archives w.paths) (IsProvedAndTold w is.0 held)) (refused of.OldIndex)) (sym is.2) refl)
+stored-refusal (Ok w) index held (of.Stale n) is =
+    let named = subst (λ (o : Option ℕ). IsStaleOr o (IsProvedAndTold w is.0 held) (refused (of.Stale n))) (sym is.3) refl in
+    inr (is.0, is.1, subst (λ (b : Bool). IsOldOr b (IsStaleOr (renamed_archive is.0.archives w.paths) (IsProvedAndTold w is.0 held)) (refused (of.Stale n))) (sym is.2) named)
+stored-refusal (Ok w) index held (of.Usage f) is = elim is [ ]
+stored-refusal (Ok w) index held (of.Rc f) is = elim is [ ]
+stored-refusal (Ok w) index held (of.Query f) is = elim is [ ]
+stored-refusal (Ok w) index held (of.Archive n f) is = elim is [ ]
+stored-refusal (Ok w) index held of.Device is = elim is [ ]
+stored-refusal (Ok w) index held of.Out is = elim is [ ]
+stored-refusal (Ok w) index held of.Memory is = elim is [ ]
+stored-refusal (Ok w) index held of.TooMany is = elim is [ ]
+
+pub refused-stored : (asked : Result Wanted Fault) (index : List ℕ) (held : List (List ℕ)) (f : Fault) (old : Option (List ℕ)) → IfSome (refusal_of f) (IsRefusedAs asked index)
+    → RepliesBy (IsStoredReply asked index held) (reply_of (Err f)) old old
+refused-stored asked index held f old is =
+    unanswered (IsStoredReply asked index held) f old
+    (λ other. stored-refusal asked index held f (subst (λ (o : Option Fault). IfSome o (IsRefusedAs asked index)) (refusal-known f other) is))
+
+-- what is replied where an archive isn't the one that was indexed, or couldn't be read for that
+pub unproved-replied : (unproved : Option ℕ) (IsFound : Answer → Type 0) (f : Fault) (old : Option (List ℕ)) → TellsProved {T = Unit {0}} unproved (Err f)
+    → RepliesBy (IsStaleOr unproved IsFound) (reply_of (Err f)) old old
+unproved-replied unproved IsFound f old tells = unanswered (IsStaleOr unproved IsFound) f old (go f tells)
+  where
+    go : (g : Fault) → TellsProved {T = Unit {0}} unproved (Err g) → is_failure (Some g) ≡ false → IsStaleOr unproved IsFound (refused g)
+    go (of.Stale n) tells other = subst (λ (o : Option ℕ). IsStaleOr o IsFound (refused (of.Stale n))) (sym tells) refl
+    go of.Device tells other = absurd cc
+    go of.Memory tells other = absurd cc
+    go of.Out tells other = elim tells [ ]
+    go of.OldIndex tells other = elim tells [ ]
+    go of.TooMany tells other = elim tells [ ]
+    go (of.Usage g) tells other = elim tells [ ]
+    go (of.Rc g) tells other = elim tells [ ]
+    go (of.Query g) tells other = elim tells [ ]
+    go (of.Archive n g) tells other = elim tells [ ]
+    go (of.Index g) tells other = elim tells [ ]
+
+-- ---- an index is refused in one way
+
+module _ (w : Wanted) (index : List ℕ) (few : length index < 2 ^ 64) where
+  pub one-bad-index : AreBytes index → (f : IndexFault) (fault : Fault) → IsFirstFault index f → IsIndexRefusal w index fault → Some (of.Index f) ≡ Some fault
+  one-bad-index are f (of.Index g) first is = ap (λ (x : IndexFault). Some (of.Index x)) (one-first-fault index are f g first is)
+  one-bad-index are f of.OldIndex first is = absurd (no_fault index is.0 few is.1 f first)
+  one-bad-index are f (of.Stale n) first is = absurd (no_fault index is.0 few is.1 f first)
+  one-bad-index are f (of.Usage g) first is = elim is [ ]
+  one-bad-index are f (of.Rc g) first is = elim is [ ]
+  one-bad-index are f (of.Query g) first is = elim is [ ]
+  one-bad-index are f (of.Archive n g) first is = elim is [ ]
+  one-bad-index are f of.Device first is = elim is [ ]
+  one-bad-index are f of.Out first is = elim is [ ]
+  one-bad-index are f of.Memory first is = elim is [ ]
+  one-bad-index are f of.TooMany first is = elim is [ ]
+
+  module _ (t : Table) (file : IsFileOf index t) where
+    -- of two tables of one file both are too old, or neither
+    one-age : (u : Table) → IsFileOf index u → is_too_old t w ≡ is_too_old u w
+    one-age u f = ap (λ (v : Table). is_too_old v w) (same-table index u t few f file)
+
+    pub one-too-old : is_too_old t w ≡ true → (fault : Fault) → IsIndexRefusal w index fault → Some of.OldIndex ≡ Some fault
+    one-too-old old (of.Index g) given = absurd (no_fault index t few file g given)
+    one-too-old old of.OldIndex given = refl
+    one-too-old old (of.Stale n) given = absurd (false≢true (sym given.2 ∙ sym (one-age given.0 given.1) ∙ old))
+    one-too-old old (of.Usage g) given = elim given [ ]
+    one-too-old old (of.Rc g) given = elim given [ ]
+    one-too-old old (of.Query g) given = elim given [ ]
+    one-too-old old (of.Archive n g) given = elim given [ ]
+    one-too-old old of.Device given = elim given [ ]
+    one-too-old old of.Out given = elim given [ ]
+    one-too-old old of.Memory given = elim given [ ]
+    one-too-old old of.TooMany given = elim given [ ]
+
+    pub one-renamed : is_too_old t w ≡ false → (o : Option ℕ) → renamed_archive t.archives w.paths ≡ o → (fault : Fault) → IsIndexRefusal w index fault
+        → option_map (λ n. of.Stale n) o ≡ Some fault
+    one-renamed fresh o is (of.Index g) given = absurd (no_fault index t few file g given)
+    one-renamed fresh o is of.OldIndex given = absurd (false≢true (sym fresh ∙ one-age given.0 given.1 ∙ given.2))
+    one-renamed fresh o is (of.Stale m) given =
+        ap (option_map (λ n. of.Stale n)) (sym is ∙ ap (λ (v : Table). renamed_archive v.archives w.paths) (same-table index given.0 t few given.1 file) ∙ given.3)
+    one-renamed fresh o is (of.Usage g) given = elim given [ ]
+    one-renamed fresh o is (of.Rc g) given = elim given [ ]
+    one-renamed fresh o is (of.Query g) given = elim given [ ]
+    one-renamed fresh o is (of.Archive n g) given = elim given [ ]
+    one-renamed fresh o is of.Device given = elim given [ ]
+    one-renamed fresh o is of.Out given = elim given [ ]
+    one-renamed fresh o is of.Memory given = elim given [ ]
+    one-renamed fresh o is of.TooMany given = elim given [ ]

@@ -1,0 +1,9 @@
+-- Laws of the table of archives, which says of messages what these say themselves.
+pub mod Keys
+pub mod MailSame
+pub mod Messages
+pub mod Numbers
+pub mod OldTables
+pub mod Terms
+pub mod ThreadLinks
+pub mod Truth

@@ -1,0 +1,239 @@
+-- What the table of archives says of their messages, their threads and their texts is what these say themselves.
+use Rattle.std.proofs.Common.{◌≡◌, ◌∙◌, ℕ, zero, suc, ◌+◌, ◌<◌, ◌≤◌, Bool, true, false, cond, nat_eq, ◌&&◌, ◌||◌, List, [], ◌∷◌, ◌++◌, map, flat_map, length, take, drop, drop-cons, Option, None, Some, inl, inr, refl, sym, ap, subst, arith, eq-eqb, append_assoc, min}
+use Rattle.std.specs.List.{list_any, filter, range_with_len}
+use Rattle.std.specs.Str.{bytes_eq}
+use Rattle.std.proofs.Math.Bool.{or-false}
+use Rattle.std.proofs.lemmas.Bool.Decides.{leb_tells, nat_tests}
+use Rattle.std.proofs.lemmas.List.{map-append, length-map, length_push, get_or_at, take-append-drop, length-take-le}
+use Rattle.header_text.specs.Headers.{fields_of}
+use Rattle.mbox_cutter.specs.Archives.{Message, text}
+use Rattle.mime_text.specs.MessageFacts.{facts_of}
+use Rattle.mime_text.specs.Texts.{texts_of_message}
+use Rattle.mime_text.specs.Sinks.{Pair}
+use Rattle.mime_text.specs.declared.facts.Facts.{Facts}
+use Rattle.mail_words.specs.declared.kind.TextKind.{TextKind}
+use Rattle.mail_words.specs.declared.kind.TextKind.TheVariants.{To, Cc, Bcc, From, Subject, Body, Name}
+use Rattle.mail_words.specs.Words.{words}
+use Rattle.mail_words.specs.Folding.{folding}
+use Rattle.mail_index.specs.declared.kind.Kind.TheVariants.{Text, LinkId}
+use Rattle.mail_index.specs.declared.record.Record.{Record}
+use Rattle.mail_index.specs.Kinds.{kind_number}
+use Rattle.mail_index.specs.LookUps.{keys_of}
+use Rattle.mail_index.specs.Tables.{Archive, Key, Table, KeyBefore, AllNext}
+use Rattle.mail_index.proofs.BuildLaws.KeyPlaces.{with_pair-sorted}
+use Rattle.mail_query.specs.Query.{Query}
+use Rattle.mail_query.specs.Truth.{is_true}
+use Rattle.mail_answer.specs.declared.format.Format.{Format}
+use Rattle.mail_answer.specs.declared.format.Format.TheVariants.{Raw, Excerpt, Mbox}
+use Rattle.mail_answer.specs.Mail.{Search, IsChain, IsLedToBySome, AreThreadsOf, AreChosen, AreChosenBy, satisfying}
+use Rattle.mail_answer.specs.Shapes.{message_text, answer_text}
+use Rattle.mail_answer.specs.Stale.{first_changed, stale_archive}
+use Rattle.mail_answer.specs.TableAnswers.{mail_told}
+use Rattle.mail_answer.specs.TableFacts.{facts_at, record_at, texts_with, is_among}
+use Rattle.mail_answer.specs.Threads.{are_linked}
+use Rattle.index_job.specs.ArchiveTables.{Mbox as Archived, table, entry_of, with_terms, with_messages}
+use Rattle.index_job.specs.MessageTerms.{Term, message_terms, text_terms, own_id_terms, link_terms}
+use Rattle.mairix_tool.specs.MailOfArchives.{Numbered, numbered_messages, numbered_at, nobody, link_ids, share_id, mail_in, shape, shape_of}
+use Rattle.mairix_tool.proofs.TableLaws.Truth.{any-same}
+use Rattle.mairix_tool.proofs.TableLaws.Keys.{texts-say}
+use Rattle.mairix_tool.proofs.TableLaws.Terms.{term_says, parts-say}
+use Rattle.mairix_tool.proofs.TableLaws.Messages.{keys-say, messages_say, with_messages-says, other-says}
+use Rattle.mairix_tool.proofs.TableLaws.Numbers.{messages-numbered, records-numbered, message_in, record_in, passes_in, AllTell, tells-from}
+use Rattle.mairix_tool.proofs.TableLaws.ThreadLinks.{linked-by-texts}
+
+-- ---- the keys of a table are sorted
+
+terms-sorted : (n : ℕ) (ts : List Term) (ks : List Key) → AllNext KeyBefore ks → AllNext KeyBefore (with_terms n ts ks)
+terms-sorted n [] ks sorted = sorted
+terms-sorted n (t ∷ ts) ks sorted = terms-sorted n ts _ (with_pair-sorted t.0 t.1 n ks sorted)
+
+messages-sorted : (n : ℕ) (ms : List Message) (ks : List Key) → AllNext KeyBefore ks → AllNext KeyBefore (with_messages n ms ks)
+messages-sorted n [] ks sorted = sorted
+messages-sorted n (m ∷ ms) ks sorted = messages-sorted (suc n) ms _ (terms-sorted n (message_terms (text m)) ks sorted)
+
+-- ---- the link ids of a message are those among its terms
+
+text-no-link : (kind : TextKind) → nat_eq (kind_number (Text kind)) (kind_number LinkId) ≡ false
+text-no-link To = refl
+text-no-link Cc = refl
+text-no-link Bcc = refl
+text-no-link From = refl
+text-no-link Subject = refl
+text-no-link Body = refl
+text-no-link Name = refl
+
+words-no-link : (j : TextKind) (passes : List ℕ → Bool) (ws : List (List ℕ)) (more : List Term)
+    → list_any (term_says LinkId passes) (map (λ w. (Text j, folding w)) ws ++ more) ≡ list_any (term_says LinkId passes) more
+words-no-link j passes [] more = refl
+words-no-link j passes (w ∷ ws) more =
+    ap (λ (b : Bool). (b && passes (folding w)) || list_any (term_says LinkId passes) (map (λ v. (Text j, folding v)) ws ++ more)) (text-no-link j) ∙ words-no-link j passes ws more
+
+texts-no-link : (passes : List ℕ → Bool) (texts : List Pair) → list_any (term_says LinkId passes) (flat_map text_terms texts) ≡ false
+texts-no-link passes [] = refl
+texts-no-link passes (p ∷ ps) = words-no-link p.0 passes (words p.1) (flat_map text_terms ps) ∙ texts-no-link passes ps
+
+own-no-link : (passes : List ℕ → Bool) (own : Option (List ℕ)) → list_any (term_says LinkId passes) (own_id_terms own) ≡ false
+own-no-link passes None = refl
+own-no-link passes (Some id) = refl
+
+links-themselves : (passes : List ℕ → Bool) (ids : List (List ℕ)) → list_any (term_says LinkId passes) (link_terms ids) ≡ list_any passes ids
+links-themselves passes [] = refl
+links-themselves passes (id ∷ ids) = ap (λ (b : Bool). passes id || b) (links-themselves passes ids)
+
+terms-say-links : (passes : List ℕ → Bool) (texts : List Pair) (facts : Facts)
+    → list_any (term_says LinkId passes) (flat_map text_terms texts ++ (own_id_terms facts.own_id ++ link_terms facts.ids)) ≡ list_any passes facts.ids
+terms-say-links passes texts facts =
+    parts-say LinkId passes texts facts
+    ∙ ap (λ (b : Bool). b || (list_any (term_says LinkId passes) (own_id_terms facts.own_id) || list_any (term_says LinkId passes) (link_terms facts.ids))) (texts-no-link passes texts)
+    ∙ ap (λ (b : Bool). b || list_any (term_says LinkId passes) (link_terms facts.ids)) (own-no-link passes facts.own_id)
+    ∙ links-themselves passes facts.ids
+
+-- ---- what the keys say of the message of a number
+
+past-say : (n : ℕ) (passes : List ℕ → Bool) (m : ℕ) (ms : List Message) → m + length ms ≤ n → messages_say LinkId n passes m ms ≡ false
+past-say n passes m [] h = refl
+past-say n passes m (x ∷ xs) h =
+    let other : nat_eq n m ≡ false = grind (arith, nat_tests) in
+    ap (λ (b : Bool). b || messages_say LinkId n passes (suc m) xs) (other-says LinkId n passes m other (message_terms (text x))) ∙ past-say n passes (suc m) xs (omega (arith, h))
+
+no-ids : link_ids nobody.1 ≡ []
+unfolding facts_of fields_of
+no-ids = refl
+
+at-message : List Numbered → ℕ → Message
+at-message xs n = (numbered_at xs n).1
+
+past-nobody : (xs : List Numbered) (n : ℕ) → length xs ≤ n → numbered_at xs n ≡ nobody
+past-nobody [] n h = refl
+past-nobody (x ∷ xs) zero h = absurd (omega (arith, h))
+past-nobody (x ∷ xs) (suc n) h = past-nobody xs n (omega (arith, h))
+
+split-at : (xs : List Numbered) (n : ℕ) → n < length xs → map message_in xs ≡ map message_in (take n xs) ++ (numbered_at xs n).1 ∷ map message_in (drop (suc n) xs)
+split-at xs n below =
+    ap (map message_in) (sym (take-append-drop n xs) ∙ ap (λ (l : List Numbered). take n xs ++ l) (drop-cons xs n nobody below))
+    ∙ map-append message_in (take n xs) (numbered_at xs n ∷ drop (suc n) xs)
+
+keys-say-links : (xs : List Numbered) (n : ℕ) (passes : List ℕ → Bool)
+    → list_any passes (texts_with LinkId n (with_messages 0 (map message_in xs) [])) ≡ list_any passes (link_ids (numbered_at xs n).1)
+keys-say-links xs n passes =
+    elim (leb_tells (length xs) n) [
+      | inl past ↦
+          texts-say LinkId n passes (with_messages 0 (map message_in xs) [])
+          ∙ with_messages-says LinkId n passes 0 (map message_in xs) [] tt
+          ∙ or-false (messages_say LinkId n passes 0 (map message_in xs))
+          ∙ past-say n passes 0 (map message_in xs) (omega (arith, past.1, length-map xs message_in))
+          ∙ sym (ap (λ (x : Numbered). list_any passes (link_ids x.1)) (past-nobody xs n past.1) ∙ ap (list_any passes) no-ids)
+      | inr here ↦
+          ap (λ (ms : List Message). list_any passes (texts_with LinkId n (with_messages 0 ms []))) (split-at xs n here.1)
+          ∙ keys-say LinkId n passes (map message_in (take n xs)) (numbered_at xs n).1 (map message_in (drop (suc n) xs)) (length-map (take n xs) message_in ∙ length-take-le n xs (omega (arith, here.1)))
+          ∙ terms-say-links passes (texts_of_message (text (numbered_at xs n).1)) (facts_of (fields_of (text (numbered_at xs n).1)))
+    ]
+
+share-same : (xs ys us vs : List (List ℕ)) → ((p : List ℕ → Bool) → list_any p xs ≡ list_any p us) → ((p : List ℕ → Bool) → list_any p ys ≡ list_any p vs) → share_id xs ys ≡ share_id us vs
+share-same xs ys us vs first second =
+    any-same (λ id. list_any (bytes_eq id) ys) (λ id. list_any (bytes_eq id) vs) (λ id. second (bytes_eq id)) xs ∙ first (λ id. list_any (bytes_eq id) vs)
+
+-- two messages are linked by the table of archives exactly where they share a link id of their own
+pub links-same : (archives : List Archived) (m n : ℕ) → are_linked (table archives) m n ≡ (mail_in archives).linked m n
+links-same archives m n =
+    let xs : List Numbered = numbered_messages 0 archives in
+    ap (λ (ms : List Message). list_any (λ (k : Key). is_among m k.numbers && is_among n k.numbers) (keys_of LinkId (with_messages 0 ms []))) (messages-numbered 0 archives)
+    ∙ linked-by-texts m n (with_messages 0 (map message_in xs) []) (messages-sorted 0 (map message_in xs) [] tt)
+    ∙ share-same (texts_with LinkId m (with_messages 0 (map message_in xs) [])) (texts_with LinkId n (with_messages 0 (map message_in xs) []))
+    (link_ids (numbered_at xs m).1) (link_ids (numbered_at xs n).1) (keys-say-links xs m) (keys-say-links xs n)
+
+-- ---- the messages that satisfy a query
+
+count-same : (archives : List Archived) → length (table archives).messages ≡ length (numbered_messages 0 archives)
+count-same archives = ap length (records-numbered 0 archives) ∙ length-map (numbered_messages 0 archives) record_in
+
+told-at : (test : ℕ → Bool) (q : Query) (all before xs : List Numbered) (n : ℕ) → all ≡ before ++ xs → length before ≡ n
+    → AllTell test q n xs → filter test (range_with_len n (length xs)) ≡ filter (λ i. passes_in q (numbered_at all i)) (range_with_len n (length xs))
+told-at test q all before [] n whole h tells = refl
+told-at test q all before (x ∷ xs) n whole h tells =
+    let here : numbered_at all n ≡ x = ap (λ (l : List Numbered). numbered_at l n) whole ∙ get_or_at before x xs nobody n h in
+    let rest = told-at test q all (before ++ x ∷ []) xs (n + 1) (whole ∙ sym (append_assoc before (x ∷ []) xs)) (length_push before x ∙ ap (λ (i : ℕ). i + 1) h) tells.1 in
+    let agree : test n ≡ passes_in q (numbered_at all n) = tells.0 ∙ sym (ap (passes_in q) here) in
+    ap (λ (b : Bool). cond b (n ∷ filter test (range_with_len (n + 1) (length xs))) (filter test (range_with_len (n + 1) (length xs)))) agree
+    ∙ ap (λ (l : List ℕ). cond (passes_in q (numbered_at all n)) (n ∷ l) l) rest
+
+pub satisfying-same : (archives : List Archived) (q : Query) → satisfying (mail_told (table archives)) q ≡ satisfying (mail_in archives) q
+satisfying-same archives q =
+    let t : Table = table archives in
+    let xs : List Numbered = numbered_messages 0 archives in
+    ap (λ (count : ℕ). filter (λ i. is_true q (facts_at t i)) (range_with_len 0 count)) (count-same archives)
+    ∙ told-at (λ i. is_true q (facts_at t i)) q xs [] xs 0 refl refl
+    (tells-from q t 0 [] xs refl (records-numbered 0 archives) (ap (λ (ms : List Message). with_messages 0 ms []) (messages-numbered 0 archives)))
+
+-- ---- the messages that are chosen
+
+module _ (linked other : ℕ → ℕ → Bool) (same : (m n : ℕ) → linked m n ≡ other m n) where
+  chain-same : (m n : ℕ) (path : List ℕ) → IsChain linked m path n → IsChain other m path n
+  chain-same m n [] given = given
+  chain-same m n (l ∷ path) given = (sym (same m l) ∙ given.0, chain-same l n path given.1)
+
+  led-same : (numbers : List ℕ) (n : ℕ) → IsLedToBySome linked numbers n → IsLedToBySome other numbers n
+  led-same numbers n given = (given.0, given.1, (given.2.0, chain-same given.0 n given.2.0 given.2.1))
+
+threads-same : (linked other : ℕ → ℕ → Bool) → ((m n : ℕ) → linked m n ≡ other m n) → (count : ℕ) (numbers members : List ℕ) → AreThreadsOf count linked numbers members → AreThreadsOf count other numbers members
+threads-same linked other same count numbers members are = record {
+  rises = are.rises;
+  each = λ n. (
+    λ (among : is_among n members ≡ true). let inside = (are.each n).0 among in (inside.0, led-same linked other same numbers n inside.1),
+    λ (given : (n < count) × IsLedToBySome other numbers n). (are.each n).1 (given.0, led-same other linked (λ m k. sym (same m k)) numbers n given.1),
+  );
+}
+
+chosen-by : (threads : Bool) (q : Query) (archives : List Archived) (numbers : List ℕ) → AreChosenBy threads (mail_told (table archives)) q numbers → AreChosenBy threads (mail_in archives) q numbers
+chosen-by false q archives numbers are = are ∙ satisfying-same archives q
+chosen-by true q archives numbers are =
+    subst (λ (ns : List ℕ). AreThreadsOf (mail_in archives).count (mail_in archives).linked ns numbers) (satisfying-same archives q)
+    (threads-same (are_linked (table archives)) (mail_in archives).linked (links-same archives) (mail_in archives).count (satisfying (mail_told (table archives)) q) numbers
+    (subst (λ (count : ℕ). AreThreadsOf count (are_linked (table archives)) (satisfying (mail_told (table archives)) q) numbers) (count-same archives) are))
+
+chosen-back-by : (threads : Bool) (q : Query) (archives : List Archived) (numbers : List ℕ) → AreChosenBy threads (mail_in archives) q numbers → AreChosenBy threads (mail_told (table archives)) q numbers
+chosen-back-by false q archives numbers are = are ∙ sym (satisfying-same archives q)
+chosen-back-by true q archives numbers are =
+    subst (λ (count : ℕ). AreThreadsOf count (are_linked (table archives)) (satisfying (mail_told (table archives)) q) numbers) (sym (count-same archives))
+    (threads-same (mail_in archives).linked (are_linked (table archives)) (λ m n. sym (links-same archives m n)) (mail_in archives).count (satisfying (mail_told (table archives)) q) numbers
+    (subst (λ (ns : List ℕ). AreThreadsOf (mail_in archives).count (mail_in archives).linked ns numbers) (sym (satisfying-same archives q)) are))
+
+pub chosen-back : (archives : List Archived) (s : Search) (numbers : List ℕ) → AreChosen (mail_in archives) s numbers → AreChosen (mail_told (table archives)) s numbers
+chosen-back archives s numbers are = chosen-back-by s.threads s.query archives numbers are
+
+pub chosen-same : (archives : List Archived) (s : Search) (numbers : List ℕ) → AreChosen (mail_told (table archives)) s numbers → AreChosen (mail_in archives) s numbers
+chosen-same archives s numbers are = chosen-by s.threads s.query archives numbers are
+
+-- ---- how they are told
+
+shown-at : (format : Format) (named : List Archive) (held : List (List ℕ)) (xs : List Numbered) (n : ℕ)
+    → message_text format named held (record_at (map record_in xs) n) ≡ message_text format named held (record_in (numbered_at xs n))
+shown-at Raw named held [] n = refl
+shown-at Excerpt named held [] n = refl
+shown-at Mbox named held [] n = refl
+shown-at format named held (x ∷ xs) zero = refl
+shown-at format named held (x ∷ xs) (suc n) = shown-at format named held xs n
+
+all-shown : (f g : ℕ → List ℕ) → ((n : ℕ) → f n ≡ g n) → (ns : List ℕ) → flat_map f ns ≡ flat_map g ns
+all-shown f g same [] = refl
+all-shown f g same (n ∷ ns) = ap (λ (l : List ℕ). l ++ flat_map f ns) (same n) ∙ ap (λ (l : List ℕ). g n ++ l) (all-shown f g same ns)
+
+pub shape-same : (archives : List Archived) (format : Format) (numbers : List ℕ) → answer_text format (table archives) (map (λ (a : Archived). a.bytes) archives) numbers ≡ shape archives format numbers
+shape-same archives format numbers =
+    all-shown (λ n. message_text format (map entry_of archives) (map (λ (a : Archived). a.bytes) archives) (record_at (table archives).messages n))
+    (λ n. shape_of format archives (numbered_at (numbered_messages 0 archives) n))
+    (λ n. ap (λ (rs : List Record). message_text format (map entry_of archives) (map (λ (a : Archived). a.bytes) archives) (record_at rs n)) (records-numbered 0 archives)
+    ∙ shown-at format (map entry_of archives) (map (λ (a : Archived). a.bytes) archives) (numbered_messages 0 archives) n)
+    numbers
+
+-- ---- archives that are as they were indexed
+
+none-changed : (n : ℕ) (archives : List Archived) → first_changed n (map entry_of archives) (map (λ (a : Archived). a.bytes) archives) ≡ None
+none-changed n [] = refl
+none-changed n (a ∷ archives) =
+    ap (λ (b : Bool). cond b (first_changed (n + 1) (map entry_of archives) (map (λ (x : Archived). x.bytes) archives)) (Some n)) (eq-eqb (length a.bytes) (length a.bytes) refl) ∙ none-changed (n + 1) archives
+
+pub not-stale : (archives : List Archived) → stale_archive (table archives).archives (map (λ (a : Archived). a.bytes) archives) ≡ None
+not-stale archives =
+    let many : length (map (λ (a : Archived). a.bytes) archives) ≡ length (map entry_of archives) = length-map archives (λ (a : Archived). a.bytes) ∙ sym (length-map archives entry_of) in
+    ap (λ (b : Bool). cond b (first_changed 0 (map entry_of archives) (map (λ (a : Archived). a.bytes) archives)) (Some (min (length (map (λ (a : Archived). a.bytes) archives)) (length (map entry_of archives))))) (eq-eqb _ _ many) ∙ none-changed 0 archives

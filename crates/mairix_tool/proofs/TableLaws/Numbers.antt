@@ -1,0 +1,98 @@
+-- Which numbers satisfy a query is the same by the table of archives and by the messages of these numbers themselves.
+use Rattle.std.proofs.Common.{◌≡◌, ◌∙◌, ℕ, suc, ◌+◌, Bool, List, [], ◌∷◌, ◌++◌, length, map, refl, sym, ap, append_assoc}
+use Rattle.std.specs.List.{list_any}
+use Rattle.std.proofs.lemmas.List.{map-append, length-map, length_push, get_or_at}
+use Rattle.header_text.specs.Headers.{fields_of}
+use Rattle.mbox_cutter.specs.Archives.{Message, text}
+use Rattle.mail_index.specs.declared.kind.Kind.TheVariants.{Text, OwnId}
+use Rattle.mail_index.specs.declared.record.Record.{Record}
+use Rattle.mail_index.specs.Tables.{Key, Table}
+use Rattle.mail_answer.specs.TableFacts.{texts_with, facts_at, record_at, no_record}
+use Rattle.mail_query.specs.Query.{Query}
+use Rattle.mail_query.specs.Truth.{is_true}
+use Rattle.mime_text.specs.MessageFacts.{facts_of}
+use Rattle.mime_text.specs.Texts.{texts_of_message}
+use Rattle.index_job.specs.ArchiveTables.{Mbox, messages_in, all_messages, record_of, records_from, with_messages}
+use Rattle.mairix_tool.specs.MailOfArchives.{Numbered, numbered_messages}
+use Rattle.mairix_tool.specs.Chosen.{facts_of_message}
+use Rattle.mairix_tool.proofs.TableLaws.Truth.{SaysTheSame, truth-same}
+use Rattle.mairix_tool.proofs.TableLaws.Terms.{terms-say-words, terms-say-own}
+use Rattle.mairix_tool.proofs.TableLaws.Messages.{keys-say}
+
+-- its message, its record, and whether it satisfies the query
+abbrev pub message_in : Numbered → Message
+message_in x = x.1
+
+abbrev pub record_in : Numbered → Record
+record_in x = record_of x.0 x.1
+
+abbrev pub passes_in : Query → Numbered → Bool
+passes_in q x = is_true q (facts_of_message x.1)
+
+-- ---- what is told of the archives, by their numbered messages
+
+-- all messages are those that are numbered
+pub messages-numbered : (n : ℕ) (archives : List Mbox) → all_messages archives ≡ map message_in (numbered_messages n archives)
+messages-numbered n [] = refl
+messages-numbered n (a ∷ archives) =
+    ap (λ (ms : List Message). messages_in a.bytes ++ ms) (messages-numbered (suc n) archives)
+    ∙ ap (λ (ms : List Message). ms ++ map message_in (numbered_messages (suc n) archives)) (alone (messages_in a.bytes))
+    ∙ sym (map-append message_in (map (λ m. (n, m)) (messages_in a.bytes)) (numbered_messages (suc n) archives))
+  where
+    alone : (ms : List Message) → ms ≡ map message_in (map (λ (m : Message). (n, m)) ms)
+    alone [] = refl
+    alone (m ∷ ms) = ap (λ (rest : List Message). m ∷ rest) (alone ms)
+
+-- the records are theirs
+pub records-numbered : (n : ℕ) (archives : List Mbox) → records_from n archives ≡ map record_in (numbered_messages n archives)
+records-numbered n [] = refl
+records-numbered n (a ∷ archives) =
+    ap (λ (rs : List Record). map (record_of n) (messages_in a.bytes) ++ rs) (records-numbered (suc n) archives)
+    ∙ ap (λ (rs : List Record). rs ++ map record_in (numbered_messages (suc n) archives)) (alone (messages_in a.bytes))
+    ∙ sym (map-append record_in (map (λ m. (n, m)) (messages_in a.bytes)) (numbered_messages (suc n) archives))
+  where
+    alone : (ms : List Message) → map (record_of n) ms ≡ map record_in (map (λ (m : Message). (n, m)) ms)
+    alone [] = refl
+    alone (m ∷ ms) = ap (λ (rest : List Record). record_of n m ∷ rest) (alone ms)
+
+-- ---- numbers one after another
+
+-- from this number on, each passes where its message satisfies the query
+abbrev pub AllTell : (ℕ → Bool) → Query → ℕ → List Numbered → Type 0
+AllTell test q n [] = Unit {0}
+AllTell test q n (x ∷ xs) = (test n ≡ passes_in q x) × AllTell test q (n + 1) xs
+
+-- ---- the table
+
+-- a table with the keys of these messages says of one of them what it says itself, where its record stands at its number
+facts-told : (t : Table) (n archive : ℕ) (before : List Message) (x : Message) (after : List Message) → length before ≡ n
+    → t.keys ≡ with_messages 0 (before ++ x ∷ after) [] → record_at t.messages n ≡ record_of archive x → SaysTheSame (facts_at t n) (facts_of_message x)
+facts-told t n archive before x after h keys known = record {
+  words = λ kind passes.
+      ap (λ (ks : List Key). list_any passes (texts_with (Text kind) n ks)) keys ∙ keys-say (Text kind) n passes before x after h
+      ∙ terms-say-words kind passes (texts_of_message (text x)) (facts_of (fields_of (text x)));
+  own_ids = λ passes.
+      ap (λ (ks : List Key). list_any passes (texts_with OwnId n ks)) keys ∙ keys-say OwnId n passes before x after h
+      ∙ terms-say-own passes (texts_of_message (text x)) (facts_of (fields_of (text x)));
+  date = ap (λ (r : Record). r.date) known;
+  size = ap (λ (r : Record). r.size) known;
+  flags = ap (λ (r : Record). r.flags) known;
+}
+
+-- the numbers of a table from here on tell of the messages from here on
+pub tells-from : (q : Query) (t : Table) (n : ℕ) (before rest : List Numbered) → length before ≡ n
+    → t.messages ≡ map record_in (before ++ rest) → t.keys ≡ with_messages 0 (map message_in (before ++ rest)) []
+    → AllTell (λ i. is_true q (facts_at t i)) q n rest
+tells-from q t n before [] h records keys = tt
+tells-from q t n before (x ∷ rest) h records keys =
+    let known : record_at t.messages n ≡ record_in x =
+    ap (λ (rs : List Record). record_at rs n) (records ∙ map-append record_in before (x ∷ rest))
+    ∙ get_or_at (map record_in before) (record_in x) (map record_in rest) no_record n (length-map before record_in ∙ h) in
+    let keys-here : t.keys ≡ with_messages 0 (map message_in before ++ message_in x ∷ map message_in rest) [] =
+    keys ∙ ap (λ (ms : List Message). with_messages 0 ms []) (map-append message_in before (x ∷ rest)) in
+    let regrouped : before ++ x ∷ rest ≡ (before ++ x ∷ []) ++ rest = sym (append_assoc before (x ∷ []) rest) in (
+      truth-same q (facts_at t n) (facts_of_message (message_in x))
+          (facts-told t n x.0 (map message_in before) (message_in x) (map message_in rest) (length-map before message_in ∙ h) keys-here known),
+      tells-from q t (n + 1) (before ++ x ∷ []) rest (length_push before x ∙ ap (λ (i : ℕ). i + 1) h)
+          (records ∙ ap (map record_in) regrouped) (keys ∙ ap (λ (xs : List Numbered). with_messages 0 (map message_in xs) []) regrouped),
+    )

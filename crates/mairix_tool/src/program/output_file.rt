@@ -1,0 +1,59 @@
+//! The file that a run makes.
+ghost use Rattle.std.specs.Prelude.{◌≡◌, ◌++◌, codes, IfOk, string_bytes};
+
+use crate::fault::Fault;
+use crate::program::read_files::ReadFiles;
+use crate::program::stopped::Stopped;
+use mairix_files::NewFile;
+use std::alloc::{AllocError, Global};
+use std::fs::File;
+use std::rt::Files;
+
+/// The name that a file has until it is whole.
+pub(crate) fn passing_name(alloc: Global, name: &str) -> Result<String, AllocError>
+    ensures { IfOk result (λ passing. string_bytes passing ≡ name.now ++ codes ".new") }
+{
+    format!(in alloc; "{name}.new")
+}
+
+/// A new file that is to have a name, under a passing name for the time being.
+///
+/// # Errors
+///
+/// `CannotOpen` with nothing touched where either name leads to a file that the run reads; and where no file can be made under the
+/// passing name, as while another run makes its own there.
+pub(crate) fn create_file<'p, R: Files<File = File>>(
+    rt: &'p R,
+    alloc: Global,
+    passing: &'p str,
+    name: &'p str,
+    read: &ReadFiles<'_>,
+) -> Result<NewFile<'p, R>, Stopped> {
+    for path in [name, passing] {
+        if read.has(rt, alloc, path)? {
+            return Err(Stopped::at(alloc, path));
+        }
+    }
+    match NewFile::create(rt, passing, name) {
+        Ok(new) => Ok(new),
+        Err(error) => Err(Stopped::by(alloc, passing, &error)),
+    }
+}
+
+/// Gives a file its name where all of it was written, and removes it else. A name that can't be given is a failed output.
+pub(crate) fn settle_file<R: Files<File = File>>(
+    new: NewFile<'_, R>,
+    written: Result<u8, Fault>,
+) -> Result<u8, Fault> {
+    let status = match written {
+        Ok(status) => status,
+        Err(fault) => {
+            new.discard();
+            return Err(fault);
+        }
+    };
+    match new.take_name() {
+        Ok(()) => Ok(status),
+        Err(_) => Err(Fault::Out),
+    }
+}

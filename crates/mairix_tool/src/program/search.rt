@@ -1,0 +1,104 @@
+//! A search of archives' files.
+ghost use Rattle.std.specs.Prelude.{◌≡◌, ◌<◌, ◌^◌, ◌-◌, Ok};
+ghost use Rattle.mairix_options.specs.Rcfile.{rc_of};
+
+use crate::fault::{Fault, Reply};
+use crate::once::once_run;
+use crate::program::output_file::{create_file, passing_name, settle_file};
+use crate::program::read_files::ReadFiles;
+use crate::program::stopped::Stopped;
+use crate::stored::search_run;
+use mail_dates::Moment;
+use mairix_files::{FileArchives, sources_of};
+use mairix_options::{Plan, Rc, answer_file};
+use mbox_cutter::{Out, ToWrite};
+use std::alloc::Global;
+use std::fs::File;
+use std::io::Write;
+use std::rt::Files;
+
+/// What is searched, and for what.
+#[derive(Clone, Copy)]
+pub(crate) struct Search<'a> {
+    /// The words after the program's name.
+    pub(crate) words: &'a [String],
+    /// The rcfile's text.
+    pub(crate) text: &'a [u8],
+    /// What the rcfile says.
+    pub(crate) rc: &'a Rc,
+    /// The stored index, without which the archives are indexed in memory.
+    pub(crate) index: Option<&'a [u8]>,
+    /// What ages and days without a year are reckoned from.
+    pub(crate) now: Moment,
+    ghost said: { rc_of text.now ≡ Ok rc.now },
+}
+
+/// Searches the archives' files, and answers the status, 0 or 1: to `out`, or to the file that the plan and the rcfile name,
+/// which then takes the place of an older answer.
+///
+/// # Errors
+///
+/// `CannotOpen` where that file can't be made; with nothing touched where it would be an archive, the rcfile or the index. Else the
+/// run's own fault, or want of more numbers for archives. No file is left then, and an older answer is as it was.
+pub(crate) fn run_search<R: Files<File = File>, W: Write>(
+    rt: &R,
+    alloc: Global,
+    plan: &Plan,
+    search: &Search<'_>,
+    out: &mut W,
+) -> Result<u8, Stopped> {
+    let Some(name) = answer_file(alloc, plan, search.rc)? else {
+        return Ok(answer_to(rt, alloc, search, out)?);
+    };
+    let read = ReadFiles {
+        rcfile: plan.rcfile.as_str(),
+        archives: search.rc.paths.as_slice(),
+        database: Some(search.rc.database.as_str()),
+    };
+    let passing = passing_name(alloc, name.as_str())?;
+    let new = create_file(rt, alloc, passing.as_str(), name.as_str(), &read)?;
+    let answered = answer_to(rt, alloc, search, &mut new.file());
+    Ok(settle_file(new, answered)?)
+}
+
+/// Writes the answer, and tells its status.
+fn answer_to<R: Files<File = File>, W: Write>(
+    rt: &R,
+    alloc: Global,
+    search: &Search<'_>,
+    out: &mut W,
+) -> Result<u8, Fault> {
+    let reply = reply_to(rt, alloc, search, &mut ToWrite::new(&mut *out))?;
+    match reply.fault {
+        Some(fault) => Err(fault),
+        None if out.flush().is_err() => Err(Fault::Out),
+        None => Ok(reply.status),
+    }
+}
+
+/// The reply of the run over the archives' files.
+fn reply_to<R: Files<File = File>, O: Out>(
+    rt: &R,
+    alloc: Global,
+    search: &Search<'_>,
+    out: &mut O,
+) -> Result<Reply, Fault>
+    requires { O.failures out.old < 2 ^ 64 - 1 }
+{
+    let Search {
+        words,
+        text,
+        rc,
+        index,
+        now,
+    } = *search;
+    let paths = rc.paths.as_slice();
+    let Some(mut archives) = FileArchives::new(rt, paths) else {
+        return Err(Fault::TooMany);
+    };
+    let Some(index) = index else {
+        let mut sources = sources_of(rt, alloc, paths)?;
+        return Ok(once_run(alloc, words, text, &mut sources, &mut archives, now, out));
+    };
+    Ok(search_run(alloc, words, text, index, &mut archives, now, out))
+}
