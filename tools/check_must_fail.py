@@ -7,6 +7,9 @@ import sys
 import tempfile
 from pathlib import Path
 
+sys.dont_write_bytecode = True
+from must_fail import Verdict
+
 TOOL = Path(__file__).resolve().parent / "must_fail.py"
 
 SOURCE = """\
@@ -103,6 +106,14 @@ abbrev pub invariant-loop-i : goal.invariant-loop-i
 invariant-loop-i l = l.sum ≡ l.fn.n + l.i
 """
 
+# What a check says of a function whose proof names what an edit took away, where the name of the record is long.
+LONG_NAMES = """\
+./proofs/counter/step/Answers.antt:1:1: error: `returns`: record `Rattle.counters.proofs.counter.step.Lts.View`
+  has no field `new-count`
+  the fields that can be named here are `before`
+fn counters::counter::step: not proved
+logic=not-proved"""
+
 TOGETHER, ALONE = "refused: ", "refused (alone): "
 HARMLESS = "NOT refused: the crate is still proved"
 
@@ -152,6 +163,10 @@ def main():
     is_well = ran.returncode == 1 and ran.stdout.rstrip("\n").endswith(counts)
     passed, failed = passed + is_well, failed + (not is_well)
     print(f"the tool's last line: {'well' if is_well else 'WRONG'}: {ran.stdout.rstrip().rpartition(chr(10))[2]}{ran.stderr[-600:]}")
+    verdict = Verdict(1, LONG_NAMES.splitlines())
+    is_well = not verdict.trouble and not verdict.reasons["counters::counter::step"] and "counters::counter::step" in verdict.by_names
+    passed, failed = passed + is_well, failed + (not is_well)
+    print(f"the tool on a lost name that is told on two lines: {'well' if is_well else 'WRONG'}")
     print(f"{passed} passed, {failed} failed")
     return 1 if failed else 0
 

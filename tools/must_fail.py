@@ -199,6 +199,17 @@ class Toolchain:
         return Crate(name, folder, [str(word) for word in command])
 
 
+def joined(lines):
+    """The lines of a check, each error in one: a long one says on its next line, indented, that a record lacks a field."""
+    whole = []
+    for line in lines:
+        if whole and ERROR.match(whole[-1]) and line.startswith("  has no field"):
+            whole[-1] += f" {line.strip()}"
+        else:
+            whole.append(line)
+    return whole
+
+
 class Verdict:
     """What a check said: of each function that it names the reason of its own for which it is refused, or an empty text."""
 
@@ -208,7 +219,7 @@ class Verdict:
         self.by_names = {}
         # Functions that call one another are proved together, so such a reason tells of none of them by itself.
         self.in_cycles = {}
-        errors = [(found[1], line) for line in lines for found in [ERROR.match(line)] if found]
+        errors = [(found[1], line) for line in joined(lines) for found in [ERROR.match(line)] if found]
         unread = [line for path, line in errors if path.startswith(("src/", "specs/")) and LOST_NAME.search(line)]
         refused = status == 1 and any(line.startswith(("logic=not-proved", "only=")) for line in lines)
         self.trouble = "" if self.is_proved or refused and not unread else next((line for _, line in errors), lines[-1])
