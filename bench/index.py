@@ -3,7 +3,7 @@
 
     index.py [PROGRAM]
 
-The archives are made mail of several sizes, and a hostile one whose words are all distinct. Each program makes its index afresh,
+The archives are made mail of two kinds and several sizes, and a hostile one whose words are all distinct. Each program makes its index afresh,
 without an old one. Prints the processor seconds, the peak memory, the rate, the size of the index or the count of messages found, and
 the ratios of seconds and of memory to C mairix. Past runs are kept in bench/results/.
 """
@@ -32,8 +32,10 @@ def distinct_words(path):
             out.write("\n")
 
 
-SHAPES = [("10,000 messages", made("--messages", "10000"), 3), ("50,000 messages", made("--messages", "50000"), 3), ("100 MB", made("100"), 3),
-          ("250 MB", made("250"), 3), ("500 MB", made("500"), 1), ("1,500,000 distinct words", distinct_words, 3)]
+SHAPES = [("10,000 messages", made("--messages", "10000"), 3), ("50,000 messages", made("--messages", "50000"), 3),
+          ("10,000 messages of lists", made("--lists", "--messages", "10000"), 3),
+          ("50,000 messages of lists", made("--lists", "--messages", "50000"), 3),
+          ("100 MB", made("100"), 3), ("250 MB", made("250"), 3), ("500 MB", made("500"), 1), ("1,500,000 distinct words", distinct_words, 3)]
 
 
 def cut(folder):

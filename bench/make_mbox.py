@@ -1,48 +1,141 @@
 #!/usr/bin/env python3
-"""Writes a made mbox of about so many megabytes, or of so many messages, to a file: always the same bytes for the same size.
+"""Writes a made mbox of about so many megabytes, or of so many messages, to a file: always the same bytes for the same words.
 
-    make_mbox.py MEGABYTES FILE
-    make_mbox.py --messages COUNT FILE
+    make_mbox.py [--lists] MEGABYTES FILE
+    make_mbox.py [--lists] --messages COUNT FILE
+
+Its mail is letters of plain text, one in twenty in base64, over a vocabulary that is there from the start. With --lists it is mail as
+mailing lists send it: a third of the messages is multipart with HTML, a fifth has base64, one in ten has quoted-printable, fields stand
+as lists write them, and words are new the more rarely the longer the text is (Heaps' law).
 """
-import base64, math, random, sys
+import base64, itertools, math, random, sys, textwrap
+
+LETTERS = "abcdefghijklmnopqrstuvwxyz"
+SEPARATOR = "From %s Thu Jan  2 10:00:00 2003"
 
 
-def words(rng, vocabulary, count):
-    # Words come by Zipf's law, as in real text.
-    return [vocabulary[min(int(len(vocabulary) ** rng.random()) - 1, len(vocabulary) - 1)] for _ in range(count)]
+def new_word(rng):
+    return "".join(rng.choice(LETTERS) for _ in range(rng.randint(2, 11)))
 
 
-def main(most_bytes, most_messages, path):
-    rng = random.Random(20030518)
-    letters = "abcdefghijklmnopqrstuvwxyz"
-    vocabulary = ["".join(rng.choice(letters) for _ in range(rng.randint(2, 11))) for _ in range(200_000)]
+def letters(rng):
+    """Messages of plain text."""
+    vocabulary = [new_word(rng) for _ in range(200_000)]
     people = ["%s@%s.example" % (rng.choice(vocabulary), rng.choice(vocabulary)) for _ in range(2_000)]
-    written = number = 0
+
+    # Words come by Zipf's law, as in real text.
+    def words(count):
+        return [vocabulary[min(int(len(vocabulary) ** rng.random()) - 1, len(vocabulary) - 1)] for _ in range(count)]
+
+    for number in itertools.count(1):
+        sender = rng.choice(people)
+        lines = [SEPARATOR % sender,
+                 "From: %s" % sender, "To: %s" % rng.choice(people),
+                 "Subject: %s" % " ".join(words(rng.randint(2, 8))),
+                 "Date: Thu, 2 Jan 2003 10:00:00 +0000", "Message-ID: <%d@bench.example>" % number, ""]
+        if number % 20 == 0:
+            lines[-1:] = ["Content-Type: text/plain; charset=utf-8", "Content-Transfer-Encoding: base64", ""]
+            body = " ".join(words(3_000)).encode()
+            text = base64.b64encode(body).decode()
+            lines += [text[i:i + 76] for i in range(0, len(text), 76)]
+        else:
+            for _ in range(rng.randint(5, 120)):
+                lines.append(" ".join(words(rng.randint(4, 12))))
+        yield lines
+
+
+class GrowingVocabulary:
+    """Words by Zipf's law, of which after n words about 30 times n to the power of 0.6 are distinct."""
+
+    def __init__(self, rng):
+        self.rng, self.told, self.known = rng, 0, [new_word(rng) for _ in range(50)]
+
+    def word(self):
+        self.told += 1
+        if self.rng.random() < 18 * self.told ** -0.4:
+            self.known.append(new_word(self.rng))
+            return self.known[-1]
+        return self.known[int(len(self.known) ** self.rng.random()) - 1]
+
+    def words(self, least, most):
+        return " ".join(self.word() for _ in range(self.rng.randint(least, most)))
+
+
+def quoted(line):
+    """A line in quoted-printable, with some letters that need it."""
+    return "".join("=C3=BC" if at % 40 == 39 else letter for at, letter in enumerate(line.replace("=", "=3D")))
+
+
+def encoded(lines):
+    text = base64.b64encode("\n".join(lines).encode()).decode()
+    return textwrap.wrap(text, 76)
+
+
+def part(kind, transfer, lines):
+    """The fields and the lines of an entity."""
+    fields = ["Content-Type: text/%s; charset=UTF-8" % kind, "Content-Transfer-Encoding: %s" % transfer, ""]
+    if transfer == "base64":
+        return fields + encoded(lines)
+    return fields + [quoted(line) for line in lines] if transfer == "quoted-printable" else fields + lines
+
+
+def list_fields(rng, vocabulary, number, sender, group):
+    """The fields of a message of a mailing list, as it arrives."""
+    hosts = [vocabulary.word() for _ in range(3)]
+    answers = ["<%d@%s.example>" % (max(number - rng.randint(1, 200), 1), hosts[0]) for _ in range(rng.randint(0, 5))]
+    fields = ["Return-Path: <%s-bounces@lists.example>" % group, "Delivered-To: me@home.example"]
+    fields += ["Received: from %s.example (%s.example [10.0.%d.%d])\n\tby mx.%s.example with ESMTPS id %x\n\tfor <me@home.example>; Thu, 2 Jan 2003 10:00:0%d +0000"
+               % (host, host, number % 256, at, host, rng.getrandbits(48), at) for at, host in enumerate(hosts)]
+    fields += ["DKIM-Signature: v=1; a=rsa-sha256; c=relaxed/relaxed; d=%s.example;\n\tb=%s" % (hosts[0], base64.b64encode(rng.randbytes(96)).decode()),
+               "From: %s <%s>" % (vocabulary.words(2, 2), sender), "To: %s@lists.example" % group,
+               "Subject: %s[%s] %s" % ("Re: " if answers else "", group, vocabulary.words(3, 9)),
+               "Date: Thu, 2 Jan 2003 10:00:00 +0000", "Message-ID: <%d@%s.example>" % (number, hosts[0]), "MIME-Version: 1.0"]
+    if answers:
+        fields += ["In-Reply-To: %s" % answers[-1], "References: %s" % "\n\t".join(answers)]
+    return fields + ["Precedence: list", "List-Id: <%s.lists.example>" % group, "List-Post: <mailto:%s@lists.example>" % group,
+                     "List-Unsubscribe: <https://lists.example/%s>,\n\t<mailto:%s-request@lists.example?subject=unsubscribe>" % (group, group)]
+
+
+def list_mail(rng):
+    """Messages of mailing lists."""
+    vocabulary = GrowingVocabulary(rng)
+    people = ["%s@%s.example" % (new_word(rng), new_word(rng)) for _ in range(2_000)]
+    groups = [new_word(rng) for _ in range(20)]
+    for number in itertools.count(1):
+        sender, turn = rng.choice(people), number * 7 % 30
+        lines = [SEPARATOR % sender] + list_fields(rng, vocabulary, number, sender, rng.choice(groups))
+        text = [vocabulary.words(4, 12) for _ in range(rng.randint(5, 60))]
+        # Of thirty ten are multipart, two of these with base64 and one with quoted-printable; four more have base64, and two quoted-printable.
+        transfer = "base64" if turn in (0, 1, 10, 11, 12, 13) else "quoted-printable" if turn in (2, 14, 15) else "7bit"
+        if turn < 10:
+            page = ["<html><body>"] + ['<p style="margin:0;color:#%06x">%s<br></p>' % (rng.getrandbits(24), line) for line in text] + ["</body></html>"]
+            border = "=_%x" % rng.getrandbits(64)
+            lines += ['Content-Type: multipart/alternative; boundary="%s"' % border, "", "This is a message of several parts.",
+                      "--" + border, *part("plain", transfer, text), "--" + border, *part("html", transfer, page), "--%s--" % border]
+        else:
+            lines += part("plain", transfer, text)
+        yield lines
+
+
+def main(messages, most_bytes, most_messages, path):
+    written = 0
     with open(path, "wb") as out:
-        while written < most_bytes and number < most_messages:
-            number += 1
-            sender = rng.choice(people)
-            lines = ["From %s Thu Jan  2 10:00:00 2003" % sender,
-                     "From: %s" % sender, "To: %s" % rng.choice(people),
-                     "Subject: %s" % " ".join(words(rng, vocabulary, rng.randint(2, 8))),
-                     "Date: Thu, 2 Jan 2003 10:00:00 +0000", "Message-ID: <%d@bench.example>" % number, ""]
-            if number % 20 == 0:
-                lines[-1:] = ["Content-Type: text/plain; charset=utf-8", "Content-Transfer-Encoding: base64", ""]
-                body = " ".join(words(rng, vocabulary, 3_000)).encode()
-                text = base64.b64encode(body).decode()
-                lines += [text[i:i + 76] for i in range(0, len(text), 76)]
-            else:
-                for _ in range(rng.randint(5, 120)):
-                    lines.append(" ".join(words(rng, vocabulary, rng.randint(4, 12))))
+        for number, lines in enumerate(messages(random.Random(20030518))):
+            if written >= most_bytes or number >= most_messages:
+                break
             data = ("\n".join(lines) + "\n\n").encode()
             out.write(data)
             written += len(data)
 
 
 if __name__ == "__main__":
-    if len(sys.argv) == 4 and sys.argv[1] == "--messages":
-        main(math.inf, int(sys.argv[2]), sys.argv[3])
-    elif len(sys.argv) == 3:
-        main(int(sys.argv[1]) * 1_000_000, math.inf, sys.argv[2])
+    asked = sys.argv[1:]
+    kind = letters
+    if asked[:1] == ["--lists"]:
+        kind, asked = list_mail, asked[1:]
+    if len(asked) == 3 and asked[0] == "--messages":
+        main(kind, math.inf, int(asked[1]), asked[2])
+    elif len(asked) == 2:
+        main(kind, int(asked[0]) * 1_000_000, math.inf, asked[1])
     else:
         sys.exit(__doc__)
