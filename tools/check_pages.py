@@ -1,6 +1,6 @@
 #!/usr/bin/env python3
-"""Holds the manual pages, README.md, docs/RECIPES.md and the completions to the built program: their examples are run (page_examples.py
-says how they are written), and each option, each text of a fault and each prefix stands where it is looked for, and no others.
+"""Holds the manual pages, README.md, docs/RECIPES.md, the completions and the program's help to the built program: their examples are run
+(page_examples.py says how they are written), and each option, each text of a fault and each prefix stands where it is looked for, and no others.
 
     check_pages.py PROGRAM
 
@@ -16,6 +16,8 @@ from page_examples import TOP, Sandbox, checks_of, roff_text
 COMING = {"--verify"}
 # Texts of faults that no run tells: the first two are answered by texts of the parser, and a job that has failed isn't asked again.
 UNTOLD = {"help", "version", "failed before"}
+# How wide the lines of help are at most, and how many tell of a query language, with their title.
+WIDTH, LINES_OF_LANGUAGE = 80, 6
 
 COMMANDS, RCFILE, QUERIES = (TOP / "man" / name for name in ("mairix.1", "mairixrc.5", "mairix-query.7"))
 MANUAL = (COMMANDS, RCFILE, QUERIES)
@@ -52,10 +54,13 @@ def options_in(text):
     return set(re.findall(r"(?<![\w-])(--?[A-Za-z][a-z]*)\b", text))
 
 
+def help_text(program):
+    return subprocess.run([program, "--help"], capture_output=True, text=True, timeout=60).stdout
+
+
 def known_options(program):
     """The options that the parser lists."""
-    text = subprocess.run([program, "--help"], capture_output=True, text=True, timeout=60).stdout
-    heads = [re.split(r" {2,}", line.strip())[0] for line in text.splitlines() if re.match(r" +-", line)]
+    heads = [re.split(r" {2,}", line.strip())[0] for line in help_text(program).splitlines() if re.match(r" +-", line)]
     return set().union(*map(options_in, heads))
 
 
@@ -156,6 +161,31 @@ def prefix_checks():
     yield "options of the rcfile", differences("option", rcfile_options(), {it.split("=")[0] for it in tags(section(RCFILE, "DESCRIPTION"))})
 
 
+# ---- help
+
+
+def help_part(text, title):
+    """The lines of the part of help that a line with this title begins, without that line."""
+    parts = [part.splitlines() for part in text.split("\n\n")]
+    return next((lines[1:] for lines in parts if re.match(rf"{title}\b.*:$", lines[0])), [])
+
+
+def help_checks(program):
+    text = help_text(program)
+    yield "width of help", ", ".join(line for line in text.splitlines() if len(line) > WIDTH)
+    languages = ("Patterns", pattern_prefixes() | {"tc"}), ("Boolean queries", boolean_prefixes())
+    for title, prefixes in languages:
+        lines = help_part(text, title)
+        found = set(re.findall(r"(?<!\w)(\w+):", "\n".join(lines)))
+        yield f"{title} in help", differences("prefix", prefixes, found) or ("" if 0 < len(lines) < LINES_OF_LANGUAGE else f"{len(lines) + 1} lines")
+    examples = [line.strip() for line in help_part(text, "Examples")]
+    yield "examples of help", "" if len(examples) == 3 else f"{len(examples)} are there"
+    with Sandbox(program) as sandbox:
+        for example in examples:
+            status, printed = sandbox.shell(example, sandbox.demo)
+            yield f"help: {example}", "" if status == 0 else f"status {status}, printed {printed!r}"
+
+
 # ---- form
 
 
@@ -234,6 +264,7 @@ def all_checks(program):
     yield from option_checks(known)
     yield "texts of faults", differences("text of a fault", told_texts(), fault_tags())
     yield from prefix_checks()
+    yield from help_checks(program)
     yield from form_checks(program)
     yield from install_checks(program)
     yield from dist_checks()

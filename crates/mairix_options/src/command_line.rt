@@ -10,6 +10,34 @@ use clap::{Arg, ArgAction, ArgMatches, Command};
 use std::alloc::{AllocError, AllocFailed, Global};
 use thiserror::Error;
 
+// The headings of the options' groups in help. An option without one stands below `Options`, as the parser's own do.
+const OUTPUT: &str = "Output, else as the rcfile's mformat and mfolder say";
+
+const SEARCHING: &str = "Searching";
+
+const INDEXING: &str = "Indexing";
+
+// What stands behind the options in help: both query languages, in short, and examples.
+const QUERIES_AND_EXAMPLES: &str = "\
+Patterns, of which a message has to fit each:
+  s:x b:x n:x         A word of the Subject, of the body, of attachments' names
+  t:x c:x f:x a:x     A word of To, Cc, From, any of the three; tc:x is To or Cc
+  x                   A word of To, Cc, From, the Subject or the body
+  x,y x/y ~x x= ^x=   Both, either, not this; a part of a word, its beginning
+  d:2w- z:10k- F:-s   Dates, sizes, flags (seen, replied, flagged); m: an id
+
+Boolean queries, with --boolean:
+  from:x to:x         A word of From; of To, Cc or Bcc
+  subject:x body:x    A word of the Subject; of the body
+  x x* *              A word of any of these; one that begins so; every message
+  id:x date:2003-02   The Message-ID; a month or day, or two with .. between
+  (x or y) and not z  not binds closest, then and, then or
+
+Examples:
+  mairix -f ~/.mairixrc                                            # index
+  mairix -f ~/.mairixrc -x s:lunch d:2003                          # excerpts
+  mairix -f ~/.mairixrc -r --boolean 'from:alice or subject:rep*'  # lines";
+
 /// What the words of a command line ask for.
 #[derive(Debug, Drop)]
 pub struct Plan {
@@ -198,29 +226,33 @@ fn command<'a>(alloc: Global) -> Result<Command<'a>, AllocError>
     ensures { IfOk result (λ c. app_of c ≡ command) }
 {
     let formats = command_of_formats(alloc)?;
-    let mfolder = with(formats, mfolder_option(alloc))?;
-    let stdout = with(
+    let mfolder = with_in_group(formats, OUTPUT, mfolder_option(alloc))?;
+    let stdout = with_in_group(
         mfolder,
+        OUTPUT,
         long_flag(alloc, "stdout", "Print the mbox, and write no file"),
     )?;
-    let boolean = with(
+    let boolean = with_in_group(
         stdout,
+        SEARCHING,
         long_flag(
             alloc,
             "boolean",
             "Read the patterns as one query of and, or, not and parentheses",
         ),
     )?;
-    let once = with(
+    let once = with_in_group(
         boolean,
+        INDEXING,
         long_flag(alloc, "once", "Index in memory, then search"),
     )?;
-    let verify = with(
+    let verify = with_in_group(
         once,
+        INDEXING,
         long_flag(
             alloc,
             "verify",
-            "Read the archives and prove that they are those that were indexed",
+            "Prove first that the archives are those that were indexed",
         ),
     )?;
     with(verify, pattern_argument(alloc))
@@ -231,12 +263,14 @@ fn command_of_formats<'a>(alloc: Global) -> Result<Command<'a>, AllocError>
     ensures { IfOk result (λ c. app_of c ≡ command_of_formats) }
 {
     let rcfile = with(bare_command(alloc), rcfile_option(alloc))?;
-    let raw = with(
+    let raw = with_in_group(
         rcfile,
+        OUTPUT,
         short_flag(alloc, "raw", 'r', "Print offsets, lengths and archives"),
     )?;
-    let excerpt = with(
+    let excerpt = with_in_group(
         raw,
+        OUTPUT,
         short_flag(
             alloc,
             "excerpt",
@@ -244,10 +278,23 @@ fn command_of_formats<'a>(alloc: Global) -> Result<Command<'a>, AllocError>
             "Print archives and the main header lines",
         ),
     )?;
-    with(
+    with_in_group(
         excerpt,
+        SEARCHING,
         short_flag(alloc, "threads", 't', "Answer with whole threads"),
     )
+}
+
+/// The command with an option that help shows in a group of its own.
+fn with_in_group<'a>(
+    command: Command<'a>,
+    group: &'a str,
+    arg: Arg<'a>,
+) -> Result<Command<'a>, AllocError>
+    requires { arg.global ≡ false }
+    ensures { IfOk result (λ c. app_of c ≡ with_rule (app_of command.entry) (rule_of arg.entry)) }
+{
+    with(command, arg.help_heading(group))
 }
 
 fn with<'a>(command: Command<'a>, arg: Arg<'a>) -> Result<Command<'a>, AllocError>
@@ -263,6 +310,7 @@ fn bare_command<'a>(alloc: Global) -> Command<'a>
     Command::new(alloc, "mairix")
         .version("0.1.0")
         .about("Index and search mbox archives")
+        .after_help(QUERIES_AND_EXAMPLES)
         .no_binary_name(true)
 }
 
@@ -296,7 +344,7 @@ fn pattern_argument<'a>(alloc: Global) -> Arg<'a>
     Arg::new(alloc, "pattern")
         .value_name("PATTERN")
         .action(ArgAction::Append)
-        .help("What to search for")
+        .help("What to search for; without one the index is made")
 }
 
 fn short_flag<'a>(alloc: Global, id: &'a str, letter: char, help: &'a str) -> Arg<'a>

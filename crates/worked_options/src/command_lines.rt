@@ -9,20 +9,45 @@ const HELP: &str = "Index and search mbox archives
 Usage: mairix [OPTIONS] -f <RCFILE> [PATTERN]...
 
 Arguments:
-  [PATTERN]...  What to search for
+  [PATTERN]...  What to search for; without one the index is made
 
 Options:
   -f <RCFILE>    The file that names the archives and the index
-  -r             Print offsets, lengths and archives
-  -x             Print archives and the main header lines
-  -t             Answer with whole threads
-  -o <NAME>      The mbox to write, in place of the rcfile's mfolder
-      --stdout   Print the mbox, and write no file
-      --boolean  Read the patterns as one query of and, or, not and parentheses
-      --once     Index in memory, then search
-      --verify   Read the archives and prove that they are those that were indexed
   -h, --help     Print help
   -V, --version  Print version
+
+Output, else as the rcfile's mformat and mfolder say:
+  -r            Print offsets, lengths and archives
+  -x            Print archives and the main header lines
+  -o <NAME>     The mbox to write, in place of the rcfile's mfolder
+      --stdout  Print the mbox, and write no file
+
+Searching:
+  -t             Answer with whole threads
+      --boolean  Read the patterns as one query of and, or, not and parentheses
+
+Indexing:
+      --once    Index in memory, then search
+      --verify  Prove first that the archives are those that were indexed
+
+Patterns, of which a message has to fit each:
+  s:x b:x n:x         A word of the Subject, of the body, of attachments' names
+  t:x c:x f:x a:x     A word of To, Cc, From, any of the three; tc:x is To or Cc
+  x                   A word of To, Cc, From, the Subject or the body
+  x,y x/y ~x x= ^x=   Both, either, not this; a part of a word, its beginning
+  d:2w- z:10k- F:-s   Dates, sizes, flags (seen, replied, flagged); m: an id
+
+Boolean queries, with --boolean:
+  from:x to:x         A word of From; of To, Cc or Bcc
+  subject:x body:x    A word of the Subject; of the body
+  x x* *              A word of any of these; one that begins so; every message
+  id:x date:2003-02   The Message-ID; a month or day, or two with .. between
+  (x or y) and not z  not binds closest, then and, then or
+
+Examples:
+  mairix -f ~/.mairixrc                                            # index
+  mairix -f ~/.mairixrc -x s:lunch d:2003                          # excerpts
+  mairix -f ~/.mairixrc -r --boolean 'from:alice or subject:rep*'  # lines
 ";
 
 /// Words, and what they plan: the rcfile, then each option, then the patterns. Accepted words have no text of the parser.
