@@ -25,3 +25,26 @@ pub(crate) fn split_leb128(most: u32, bytes: &[u8]) -> Option<(u64, &[u8])>
     }
     Some((u64::from(*first - 128) + 128 * high, rest))
 }
+
+/// The most bytes of a difference.
+const MOST: u32 = 5;
+
+/// The difference that some postings begin with, and those behind it: a number of at most five bytes, as `split_leb128` splits
+/// it off. Most differences have one byte or two, and these are read here.
+#[inline]
+pub(crate) fn split_difference(bytes: &[u8]) -> Option<(u64, &[u8])>
+    ensures small { IfSome result (λ p. p.0 < 34359738368) }
+    ensures short { IfSome result (λ p. IsShort 5 p.0) }
+    ensures some { IfSome result (λ p. bytes.now ≡ leb128 5 p.0 ++ p.1.now) }
+    ensures only { (k : ℕ) (rest : List ℕ) → IsShort 5 k → bytes.now ≡ leb128 5 k ++ rest → shown_split result ≡ Some (k, rest) }
+{
+    let (first, tail) = bytes.split_first()?;
+    if *first < 128 {
+        return Some((u64::from(*first), tail));
+    }
+    let (second, behind) = tail.split_first()?;
+    if 1 <= *second && *second < 128 {
+        return Some((u64::from(*first - 128) + 128 * u64::from(*second), behind));
+    }
+    split_leb128(MOST, bytes)
+}

@@ -4,12 +4,9 @@ ghost use Rattle.std.specs.List.{AllByRecursion};
 ghost use Rattle.mail_index.specs.Steps.{add_steps};
 ghost use Rattle.mail_index.specs.PostingReads.{ArePostings, ArePosted};
 
-use crate::view::leb128::split_leb128;
+use crate::view::leb128::split_difference;
 use crate::view::steps::Steps;
 use std::marker::Model;
-
-/// The most bytes of a difference.
-const MOST: u32 = 5;
 
 /// The rising numbers still to come of the messages that have a key.
 #[derive(Debug, Drop)]
@@ -51,7 +48,7 @@ impl<'a> Postings<'a> {
         ensures { MatchOption result ((self.old ≡ []) × (self.new ≡ []) × (steps.new ≡ steps.old))
             (λ n. (self.old ≡ n ∷ self.new) × (steps.new ≡ add_steps steps.old 1)) }
     {
-        let (difference, behind) = split_leb128(MOST, self.bytes)?;
+        let (difference, behind) = split_difference(self.bytes)?;
         self.bytes = behind;
         self.low += difference;
         steps.tick();
@@ -80,7 +77,7 @@ pub(crate) fn are_postings(bytes: &[u8], count: u32) -> bool
     let mut rest = bytes;
     let mut low = 0;
     while !rest.is_empty() {
-        let Some((difference, behind)) = split_leb128(MOST, rest) else {
+        let Some((difference, behind)) = split_difference(rest) else {
             return false;
         };
         if difference == 0 {

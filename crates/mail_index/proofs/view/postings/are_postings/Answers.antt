@@ -9,8 +9,8 @@ pub returns-in_default : goal.returns-in_default
 returns-in_default c =
     let some : 0 < length c.loop-rest.rest.now = grind (arith, nat_tests, c.is_empty.ensures, c.loop-rest-test.true) in (
       λ t. absurd (false≢true t),
-      λ h. absurd (posted-refused c.args.count c.loop-rest.low c.loop-rest.rest.now (shown_split c.split_leb128.result) (omega (arith, c.ranges.count.fits))
-          c.split_leb128.ensures.only (ap shown_split c.in_default.is) some (c.loop-rest.invariant.forward h.1)),
+      λ h. absurd (posted-refused c.args.count c.loop-rest.low c.loop-rest.rest.now (shown_split c.split_difference.result) (omega (arith, c.ranges.count.fits))
+          c.split_difference.ensures.only (ap shown_split c.in_default.is) some (c.loop-rest.invariant.forward h.1)),
     )
 
 pub returns-then-difference-eq0 : goal.returns-then-difference-eq0

@@ -45,6 +45,6 @@ returns c = (
 pub returns-in_err-difference : goal.returns-in_err-difference
 returns-in_err-difference c =
     let nothing : numbers_read c.self.inside.low c.self.inside.bytes.now ≡ [] =
-    posted-none (2 ^ 32) c.self.inside.low c.self.inside.bytes.now (numbers_read c.self.inside.low c.self.inside.bytes.now) (shown_split c.split_leb128.result) (omega arith) c.split_leb128.ensures.only (ap shown_split c.in_err-difference.was) c.self.invariant in
+    posted-none (2 ^ 32) c.self.inside.low c.self.inside.bytes.now (numbers_read c.self.inside.low c.self.inside.bytes.now) (shown_split c.split_difference.result) (omega arith) c.split_difference.ensures.only (ap shown_split c.in_err-difference.was) c.self.invariant in
     let empty : c.args.self.now ≡ [] = sym c.self.view_is ∙ nothing in
     rw c.from_residual.ensures (empty, empty, refl)
