@@ -2,7 +2,7 @@
 use Rattle.std.proofs.Common.{◌≡◌, ◌∙◌, ◌++◌, ℕ, Bool, true, false, List, refl, sym, ap, append_assoc}
 use Rattle.std.specs.Prelude.{if◌then◌else◌}
 use Rattle.header_text.specs.EncodedWords.{WordAfter, Pieces, pieces, word_text, plain_text, text_between, later_words_text, words_text, decoded}
-use Rattle.header_text.specs.ShownWords.{no_word, word_first}
+use Rattle.header_text.specs.Inside.ShownWords.{no_word, word_first}
 
 -- the text of words that follow one, or don't
 abbrev pub words_behind : Bool → List WordAfter → List ℕ

@@ -15,7 +15,7 @@ use Rattle.base64.proofs.Decoding.{length-groups_bytes, scan-cons_ok, scan-nil, 
 use Rattle.base64.specs.Tables.{all_below}
 use Rattle.base64.proofs.Tables.{all_below_at}
 use Rattle.header_text.specs.Base64.{sextet, bytes_of_sextets, bytes_of_symbols}
-use Rattle.header_text.specs.Alphabet.{is_symbol}
+use Rattle.header_text.specs.Inside.Alphabet.{is_symbol}
 
 abbrev pub dec : List ℕ
 dec = standard.decode_table

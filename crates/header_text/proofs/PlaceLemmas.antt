@@ -4,7 +4,7 @@ use Rattle.std.specs.Prelude.{slice_range}
 use Rattle.std.proofs.lemmas.List.{take-append-le, drop-append-le, take_all, take_at, drop_at, length-drop, length-take-le}
 use Rattle.header_text.specs.declared.field_list.Place.{Place}
 use Rattle.header_text.specs.Headers.{HeaderField, fields_size, most_in_header}
-use Rattle.header_text.specs.Places.{next_start, AreInOrder, AreKept, fields_at}
+use Rattle.header_text.specs.Inside.Places.{next_start, AreInOrder, AreKept, fields_at}
 use Rattle.header_text.specs.OpenFields.{onto_last}
 
 length-slice_range : (xs : List ℕ) (i j : ℕ) → i ≤ j → j ≤ length xs → length (slice_range xs i j) ≡ j - i

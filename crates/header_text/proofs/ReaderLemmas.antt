@@ -5,7 +5,7 @@ use Rattle.std.proofs.lemmas.List.{length-take, get_or-take}
 use Rattle.header_text.specs.Blanks.{split_while}
 use Rattle.header_text.specs.Cuts.{cut_at}
 use Rattle.header_text.specs.Base64.{sextet, bytes_of_sextets, bytes_of_symbols, base64_bytes}
-use Rattle.header_text.specs.Alphabet.{is_symbol}
+use Rattle.header_text.specs.Inside.Alphabet.{is_symbol}
 use Rattle.header_text.proofs.CutLemmas.{Lacks, IsCut-from, Lacks-from, split_while-lacks}
 use Rattle.std.specs.List.{filter_map}
 use Rattle.header_text.proofs.Fronts.{split_while-joined}

@@ -6,7 +6,7 @@ use Rattle.std.proofs.lemmas.Bool.{lt-ltb}
 use Rattle.std.proofs.lemmas.List.{take_at, drop_at}
 use Rattle.header_text.specs.Blanks.{is_blank, after_blanks, before_blanks}
 use Rattle.header_text.specs.Unfolding.{without_breaks, unfolded}
-use Rattle.header_text.specs.Breaks.{without_final_cr, led}
+use Rattle.header_text.specs.Inside.Breaks.{without_final_cr, led}
 use Rattle.header_text.proofs.CutLemmas.{Lacks, IsCut, Lacks-from}
 use Rattle.header_text.specs.Cuts.{cut_at}
 

@@ -5,7 +5,7 @@ use Rattle.std.proofs.lemmas.List.{take_at}
 use Rattle.std.proofs.lemmas.Bool.{eqb-true}
 use Rattle.header_text.specs.Cuts.{cut_at}
 use Rattle.header_text.specs.EncodedWords.{EncodedWord, spelled, is_well_formed, question, equals_sign, after, word_of, ◌>>=◌, word_and_later, word_at, WordAfter, Pieces, onto_front, pieces_behind, pieces}
-use Rattle.header_text.specs.ShownWords.{no_word, word_first}
+use Rattle.header_text.specs.Inside.ShownWords.{no_word, word_first}
 use Rattle.header_text.proofs.CutLemmas.{Lacks, IsCut, IsCut-from, Lacks-from}
 
 -- ---- how a word is spelled

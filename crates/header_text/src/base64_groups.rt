@@ -1,7 +1,7 @@
 //! Groups of base64 symbols.
 ghost use Rattle.std.specs.Prelude.{◌≡◌, ℕ, ◌<◌, ◌≤◌, ◌+◌, ◌%◌, ◌/◌, ◌*◌, ◌++◌, take, List, [], true, length, slice_index, OnOk, IfOk};
 ghost use Rattle.header_text.specs.Base64.{bytes_of_symbols};
-ghost use Rattle.header_text.specs.Alphabet.{is_symbol as is_symbol_of};
+ghost use Rattle.header_text.specs.Inside.Alphabet.{is_symbol as is_symbol_of};
 
 use base64::engine::general_purpose::STANDARD;
 use std::alloc::AllocError;

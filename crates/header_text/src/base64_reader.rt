@@ -1,7 +1,7 @@
 //! Base64 that comes piece by piece.
 ghost use Rattle.std.specs.Prelude.{◌≡◌, ℕ, ◌<◌, ◌≤◌, ◌+◌, ◌%◌, ◌∷◌, ◌++◌, length, slice_index, List, true, IfOk, OnOk};
 ghost use Rattle.header_text.specs.Base64.{bytes_of_symbols, base64_bytes};
-ghost use Rattle.header_text.specs.Alphabet.{is_symbol as is_symbol_of};
+ghost use Rattle.header_text.specs.Inside.Alphabet.{is_symbol as is_symbol_of};
 ghost use Rattle.header_text.specs.Symbols.{symbols_of};
 
 use crate::base64_groups::{Held, decode_groups, is_symbol, whole_groups};

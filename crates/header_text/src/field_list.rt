@@ -2,7 +2,7 @@
 ghost use Rattle.std.specs.Prelude.{◌≡◌, ℕ, ◌+◌, ◌<◌, ◌≤◌, List, [], ◌∷◌, ◌++◌, length, slice_range, is_ok, OnOk, OnErr, if◌then◌else◌};
 ghost use Rattle.std.specs.Iterator.{YieldsFirstBy, item_count};
 ghost use Rattle.header_text.specs.Headers.{HeaderField, fields_size, most_in_header};
-ghost use Rattle.header_text.specs.Places.{next_start as next_start_of};
+ghost use Rattle.header_text.specs.Inside.Places.{next_start as next_start_of};
 
 use crate::field::Field;
 use std::alloc::{AllocError, Global};
@@ -28,7 +28,7 @@ impl Model for FieldList {
 
     ghost Value = { List HeaderField };
 
-    ghost use Rattle.header_text.specs.Places.{AreKept, fields_at};
+    ghost use Rattle.header_text.specs.Inside.Places.{AreKept, fields_at};
 
     ghost view = { λ s. fields_at s.bytes.items s.places.items };
 
@@ -49,7 +49,7 @@ impl<'a> Model for Fields<'a> {
     ghost Value = { List HeaderField };
 
     ghost use Rattle.std.specs.Prelude.{length};
-    ghost use Rattle.header_text.specs.Places.{AreInOrder, fields_at};
+    ghost use Rattle.header_text.specs.Inside.Places.{AreInOrder, fields_at};
 
     ghost view = { λ s. fields_at s.bytes.now s.places.now };
 

@@ -2,7 +2,7 @@
 ghost use Rattle.std.specs.Prelude.{◌≡◌, ◌++◌, ◌+◌, ◌≤◌, length, take, drop, nat_lt, IfOk, OnOk, is_ok, vec_len, if◌then◌else◌};
 ghost use Rattle.header_text.specs.Blanks.{before_blanks as before_blanks_of};
 ghost use Rattle.header_text.specs.Unfolding.{unfolded};
-ghost use Rattle.header_text.specs.Breaks.{without_final_cr as without_final_cr_of, led};
+ghost use Rattle.header_text.specs.Inside.Breaks.{without_final_cr as without_final_cr_of, led};
 
 use crate::blanks::{after_blanks, before_blanks};
 use crate::cut::cut_at;

@@ -9,7 +9,7 @@ use Rattle.mail_query.specs.declared.boolean.level.Level.{Level as CodeLevel}
 use Rattle.mail_query.specs.declared.boolean.reader.Waiting.{Waiting as CodeWaiting}
 use Rattle.mail_query.specs.declared.boolean.reader.Waiting.TheVariants as code_waiting
 use Rattle.mail_query.specs.Query.{Query, Not}
-use Rattle.mail_query.specs.Shown.{shown_level, shown_waiting, nearest_first, shown_stack}
+use Rattle.mail_query.specs.Inside.Shown.{shown_level, shown_waiting, nearest_first, shown_stack}
 use Rattle.mail_query.specs.BooleanReading.{Level, Waiting, ForNot, ForClose, State, with_member, is_negated, has_open, placed, deeper, popped, level_query}
 
 nearest_first-push : (ws : List CodeWaiting) (w : CodeWaiting) (behind : List Waiting) → nearest_first (ws ++ w ∷ []) behind ≡ shown_waiting w ∷ nearest_first ws behind

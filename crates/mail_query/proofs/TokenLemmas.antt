@@ -5,7 +5,7 @@ use Rattle.std.specs.Str.{IsUtf8, IsCharBoundary}
 use Rattle.std.proofs.lemmas.Str.{IsCharBoundary-start, IsCharBoundary-after_ascii}
 use Rattle.mail_query.specs.Tokens.{Open, Close, Cut, token_of, is_blank, closed_run, all_tokens, cut_tokens, tokens}
 use Rattle.mail_query.specs.Pieces.{without_first}
-use Rattle.mail_query.specs.Shown.{blank_count, ends_run, run_length}
+use Rattle.mail_query.specs.Inside.Shown.{blank_count, ends_run, run_length}
 
 -- ---- blanks in front
 

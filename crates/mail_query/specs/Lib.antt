@@ -11,11 +11,10 @@ pub mod SizeGrammar
 pub mod FlagGrammar
 pub mod MairixGrammar
 pub mod Refusals
-pub mod Reading
 pub mod Mail
 pub mod Tokens
 pub mod BooleanTerms
 pub mod BooleanGrammar
 pub mod BooleanFaults
 pub mod BooleanReading
-pub mod Shown
+pub mod Inside

@@ -5,7 +5,7 @@ use Rattle.std.proofs.lemmas.Str.{encode_ascii, len_utf8_ascii, length-le-encode
 use Rattle.std.specs.Char.{is_ascii}
 use Rattle.std.specs.Str.{IsCharBoundary}
 use Rattle.mail_words.specs.Words.{is_word_character, is_joiner}
-use Rattle.mail_words.specs.Runs.{front, joined_front}
+use Rattle.mail_words.specs.Inside.Runs.{front, joined_front}
 use Rattle.mail_words.proofs.FrontReads.{IsRead, FrontRead, front_read-start, front_read-pass, front_read-stop, front_read-end, JoinedRead, kept_len, joined_read-start, joined_read-word, joined_read-joiner, joined_read-stop, joined_read-end}
 use Rattle.mail_words.proofs.OneWord.{joined_front-prefix}
 use Rattle.mail_words.proofs.Seams.{front_seam, seam}

@@ -4,7 +4,7 @@ use Rattle.std.proofs.lemmas.List.{nil_from_length}
 use Rattle.std.proofs.lemmas.Str.{chars_past_char, IsUtf8-past_char, length-encode, chars-nil}
 use Rattle.std.specs.Char.{len_utf8}
 use Rattle.mail_words.specs.Words.{is_word_character, is_joiner}
-use Rattle.mail_words.specs.Runs.{front, joined_to, joined_front}
+use Rattle.mail_words.specs.Inside.Runs.{front, joined_to, joined_front}
 use Rattle.mail_words.proofs.RunLemmas.{front-pass, front-fail, joined_front-word, joined_front-joiner, joined_front-other}
 
 -- the text, read so far by this many bytes up to this rest

@@ -4,7 +4,7 @@ use Rattle.std.proofs.lemmas.Bool.{le-leb}
 use Rattle.std.proofs.lemmas.Bool.Decides.{nat_tests}
 use Rattle.std.proofs.lemmas.Str.{encodes-append}
 use Rattle.mail_words.specs.Words.{is_word_character, begins, word_limit}
-use Rattle.mail_words.specs.Runs.{front, behind, joined_front, within, joined_on, long_at, words_left}
+use Rattle.mail_words.specs.Inside.Runs.{front, behind, joined_front, within, joined_on, long_at, words_left}
 use Rattle.mail_words.proofs.RunLemmas.{front-behind, is_some}
 use Rattle.mail_words.proofs.OneWord.{joined_front-prefix}
 use Rattle.mail_words.proofs.Reading.{words_left-word}

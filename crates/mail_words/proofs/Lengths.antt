@@ -4,7 +4,7 @@ use Rattle.std.proofs.lemmas.Bool.{and_parts, leb-true}
 use Rattle.std.proofs.lemmas.List.Elements.{All-append}
 use Rattle.std.proofs.lemmas.Str.{length-le-encodes}
 use Rattle.mail_words.specs.Words.{is_word_character, begins, is_word, word_limit, words, HasWordLength}
-use Rattle.mail_words.specs.Runs.{words_left}
+use Rattle.mail_words.specs.Inside.Runs.{words_left}
 use Rattle.mail_words.proofs.Places.{if_word, words_on, words_from, words_behind-places}
 use Rattle.mail_words.proofs.WordTests.{none_begins}
 

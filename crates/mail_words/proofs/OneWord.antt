@@ -7,7 +7,7 @@ use Rattle.std.proofs.lemmas.List.{reverse-append, append-nil}
 use Rattle.std.proofs.lemmas.Str.{encodes-append, encodes-chars, length-le-encodes}
 use Rattle.std.specs.List.{list_all, list_any}
 use Rattle.mail_words.specs.Words.{is_word_character, is_joiner, begins, is_one_word, is_part_of_word, is_word, word_limit}
-use Rattle.mail_words.specs.Runs.{joined_to, joined_front}
+use Rattle.mail_words.specs.Inside.Runs.{joined_to, joined_front}
 use Rattle.mail_words.proofs.RunLemmas.{is_some, joined_front-word, joined_front-joiner, joined_front-other}
 use Rattle.mail_words.proofs.WordTests.{is_piece}
 

@@ -1,7 +1,7 @@
 -- Laws of what a reader looks for at the front of the characters that are left.
 use Rattle.std.proofs.Common.{◌≡◌, ℕ, Bool, true, false, List, [], ◌∷◌, ◌++◌, refl, sym, ap, ap₂, ◌∙◌}
 use Rattle.mail_words.specs.Words.{is_word_character, is_joiner, begins, after_joiners}
-use Rattle.mail_words.specs.Runs.{front, behind, joined_to, joined_front}
+use Rattle.mail_words.specs.Inside.Runs.{front, behind, joined_to, joined_front}
 use Rattle.mail_words.proofs.Characters.{joiner_is_no_word_character, word_character_is_no_joiner}
 
 pub front-pass : (p : ℕ → Bool) (c : ℕ) (cs : List ℕ) → p c ≡ true → front p (c ∷ cs) ≡ c ∷ front p cs

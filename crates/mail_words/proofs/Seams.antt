@@ -6,7 +6,7 @@ use Rattle.std.proofs.Math.Utf8.{scalars}
 use Rattle.std.proofs.lemmas.Bool.{and_parts}
 use Rattle.std.proofs.lemmas.Str.{encodes-append, encodes-chars, chars-encodes, scalars-chars, length-le-encodes, IsCharBoundary-at_seam}
 use Rattle.std.specs.Str.{IsCharBoundary}
-use Rattle.mail_words.specs.Runs.{front, behind}
+use Rattle.mail_words.specs.Inside.Runs.{front, behind}
 use Rattle.mail_words.proofs.RunLemmas.{front-behind, is_some}
 
 scalars-front : (xs ys : List ℕ) → scalars (xs ++ ys) ≡ true → scalars xs ≡ true

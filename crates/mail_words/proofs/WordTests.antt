@@ -3,7 +3,7 @@ use Rattle.std.proofs.Common.{◌≡◌, ℕ, Bool, true, false, ◌||◌, List,
 use Rattle.std.proofs.Math.Bool.{and-false, or-true}
 use Rattle.std.specs.List.{list_all, list_any}
 use Rattle.mail_words.specs.Words.{is_word_character, is_joiner, begins, after_joiners, is_word}
-use Rattle.mail_words.specs.Runs.{within}
+use Rattle.mail_words.specs.Inside.Runs.{within}
 use Rattle.mail_words.proofs.Places.{if_word}
 
 abbrev pub is_piece : ℕ → Bool

@@ -1,3 +1,3 @@
 pub mod Folding
-pub mod Runs
 pub mod Words
+pub mod Inside

@@ -1,7 +1,7 @@
 //! Runs of word characters and joiners at the front of a text.
 ghost use Rattle.std.specs.Prelude.{◌≡◌, length, chars, encode_utf8_all};
 ghost use Rattle.mail_words.specs.Words.{is_word_character};
-ghost use Rattle.mail_words.specs.Runs.{front, is_other, joined_front};
+ghost use Rattle.mail_words.specs.Inside.Runs.{front, is_other, joined_front};
 
 use crate::ascii::{is_ascii_joiner, is_ascii_word_character};
 use crate::character::{is_joiner, is_word_character};

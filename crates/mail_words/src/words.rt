@@ -4,7 +4,7 @@ ghost use Rattle.std.specs.Iterator.{YieldsFirstRef, item_count};
 ghost use Rattle.std.specs.List.{list_all};
 ghost use Rattle.std.specs.Option.{option_copied};
 ghost use Rattle.mail_words.specs.Words.{words, HasWordLength, is_word_character, is_joiner, begins};
-ghost use Rattle.mail_words.specs.Runs.{words_left, front, behind, long_at};
+ghost use Rattle.mail_words.specs.Inside.Runs.{words_left, front, behind, long_at};
 
 use crate::ascii::are_ascii_joiners;
 use crate::runs::{gap_len, joined_len, plain_len};
@@ -34,7 +34,7 @@ impl<'a> Model for Words<'a> {
 
     ghost Value = { List (List ℕ) };
 
-    ghost use Rattle.mail_words.specs.Runs.{words_left};
+    ghost use Rattle.mail_words.specs.Inside.Runs.{words_left};
 
     ghost view = { λ s. option_to_list (option_copied s.long) ++ words_left s.in_run (chars s.rest.now) };
 }

@@ -8,7 +8,7 @@ use Rattle.mime_text.specs.declared.fault.TextFault.{TextFault}
 use Rattle.mime_text.specs.declared.message_text.MessageText.{MessageText}
 use Rattle.mime_text.specs.Sinks.{Pair}
 use Rattle.mime_text.specs.Texts.{texts_of_message}
-use Rattle.mime_text.specs.Passing.{Passed, Stopped, Passes, IsOver}
+use Rattle.mime_text.specs.Inside.Passing.{Passed, Stopped, Passes, IsOver}
 use Rattle.mime_text.specs.Feeding.{Comes, KnowsFacts}
 use Rattle.mime_text.specs.Fed.{Feeds, FeedsPart, Finishes, FinishesPart}
 

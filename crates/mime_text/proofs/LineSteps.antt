@@ -19,7 +19,7 @@ use Rattle.mime_text.specs.Sinks.{Pair, Gave, Broke, Hands}
 use Rattle.mime_text.specs.Transfer.{ends_in}
 use Rattle.mime_text.specs.OpenTags.{line_text, is_open_behind_line, texts_behind}
 use Rattle.mime_text.specs.LeafReading.{body_pairs, pairs_of_lines, pairs_of_bytes}
-use Rattle.mime_text.specs.Showing.{Shows}
+use Rattle.mime_text.specs.Inside.Showing.{Shows}
 use Rattle.mime_text.proofs.Handing.{gave-along, broke-along}
 
 -- ---- lines

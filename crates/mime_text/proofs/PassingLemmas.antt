@@ -26,7 +26,7 @@ use Rattle.mime_text.specs.MessageFacts.{facts_of}
 use Rattle.mime_text.specs.LeafReading.{pairs_to_come}
 use Rattle.mime_text.specs.Stream.{Place, Skip, InHeader, InLeaf, hit}
 use Rattle.mime_text.specs.Frames.{Nest, lead_to}
-use Rattle.mime_text.specs.Passing.{Passed, Stopped, Passes, IsOver}
+use Rattle.mime_text.specs.Inside.Passing.{Passed, Stopped, Passes, IsOver}
 use Rattle.mime_text.specs.Feeding.{given_from, header_texts, ending, given_behind, given_after, ComesAt, Comes, ComesBehindHeader, ComesEndingAt, ComesEnding, KnowsAt, KnowsFacts, Notes}
 use Rattle.mime_text.proofs.StepLemmas.{value-header, given-hit, given-leaf_line, given-more, given-ended, given-leaf, empty_ends, fields-on}
 

@@ -13,8 +13,7 @@ pub mod LeafTexts
 pub mod OpenTags
 pub mod Decoders
 pub mod LeafReading
-pub mod Showing
 pub mod Texts
-pub mod Passing
 pub mod Feeding
 pub mod Fed
+pub mod Inside

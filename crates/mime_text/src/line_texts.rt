@@ -2,7 +2,7 @@
 ghost use Rattle.std.specs.Prelude.{◌≡◌, ℕ, ◌≤◌, ◌∷◌, List, false, length, OnOk};
 ghost use Rattle.mime_text.specs.OpenTags.{line_text, is_open_behind_line};
 ghost use Rattle.mime_text.specs.Sinks.{Hands};
-ghost use Rattle.mime_text.specs.Showing.{Shows};
+ghost use Rattle.mime_text.specs.Inside.Showing.{Shows};
 ghost use Rattle.mime_text.specs.LeafReading.{pairs_of_lines};
 
 use crate::fault::TextFault;

@@ -9,7 +9,7 @@ ghost use Rattle.mime_text.specs.Types.{shape_of};
 ghost use Rattle.mime_text.specs.Stream.{hit};
 ghost use Rattle.mime_text.specs.Feeding.{ending, Notes};
 ghost use Rattle.mime_text.specs.Texts.{texts_of_message};
-ghost use Rattle.mime_text.specs.Passing.{Passes, IsOver};
+ghost use Rattle.mime_text.specs.Inside.Passing.{Passes, IsOver};
 
 use crate::content_type::EntityType;
 use crate::facts::Facts;

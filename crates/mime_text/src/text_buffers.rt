@@ -3,7 +3,7 @@ ghost use Rattle.std.specs.Prelude.{◌≡◌, ℕ, ◌≤◌, List, length, IfO
 ghost use Rattle.std.specs.Str.{chars};
 ghost use Rattle.header_text.specs.Charsets.{text_of};
 ghost use Rattle.mime_text.specs.OpenTags.{blanked, is_open_behind};
-ghost use Rattle.mime_text.specs.Showing.{Shows};
+ghost use Rattle.mime_text.specs.Inside.Showing.{Shows};
 
 use crate::fault::TextFault;
 use crate::own_text::own_text;

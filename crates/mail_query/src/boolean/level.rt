@@ -16,7 +16,7 @@ pub(crate) struct Level {
 }
 
 impl Level {
-    ghost use Rattle.mail_query.specs.Shown.{shown_level};
+    ghost use Rattle.mail_query.specs.Inside.Shown.{shown_level};
     ghost use Rattle.mail_query.specs.BooleanReading.{empty_level, with_member, noted, run_ended, each_ended, level_query};
     ghost use Rattle.mail_query.specs.BooleanTerms.{has_field};
 

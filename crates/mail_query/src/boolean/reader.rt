@@ -4,7 +4,7 @@ ghost use Rattle.contract_words.specs.Answers.{Gives};
 ghost use Rattle.mail_query.specs.Query.{query_of};
 ghost use Rattle.mail_query.specs.Refusals.{kind_refusal};
 ghost use Rattle.mail_query.specs.Mail.{boolean_lexicon};
-ghost use Rattle.mail_query.specs.Shown.{shown, shown_level, shown_stack, shown_token};
+ghost use Rattle.mail_query.specs.Inside.Shown.{shown, shown_level, shown_stack, shown_token};
 ghost use Rattle.mail_query.specs.BooleanReading.{start, placed, deeper, joined, parted, closed, ended, step, term_step, cut_term_step, is_negated, has_open, ForNot, ForClose, empty_level};
 
 use crate::boolean::field::{Field, field_of};

@@ -1,7 +1,7 @@
 //! The tokens of a boolean query.
 ghost use Rattle.std.specs.Prelude.{◌≡◌, ◌<◌, ◌≤◌, [], ◌∷◌, length, MatchOption, IfSome};
 ghost use Rattle.mail_query.specs.Tokens.{tokens, token_of, is_blank};
-ghost use Rattle.mail_query.specs.Shown.{shown_token, blank_count, run_length};
+ghost use Rattle.mail_query.specs.Inside.Shown.{shown_token, blank_count, run_length};
 
 use crate::pieces::{is_in_any_case, without_first};
 

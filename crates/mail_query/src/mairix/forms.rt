@@ -1,6 +1,6 @@
 //! Where the words of a pattern are sought, and which forms they have.
 ghost use Rattle.std.specs.Prelude.{◌≡◌, IfOk};
-ghost use Rattle.mail_query.specs.Reading.{forms_of, sought_text};
+ghost use Rattle.mail_query.specs.Inside.Reading.{forms_of, sought_text};
 ghost use Rattle.std.specs.List.{list_any};
 ghost use Rattle.mail_query.specs.Mairix.{is_id, is_sign};
 
@@ -20,7 +20,7 @@ pub(crate) enum Target {
 }
 
 impl Target {
-    ghost use Rattle.mail_query.specs.Reading.{target_kinds};
+    ghost use Rattle.mail_query.specs.Inside.Reading.{target_kinds};
 
     pub(crate) fn kinds(self) -> Kinds
         ensures { result ≡ target_kinds self }

@@ -3,7 +3,7 @@ ghost use Rattle.std.specs.Prelude.{◌≡◌};
 ghost use Rattle.contract_words.specs.Answers.{Gives};
 ghost use Rattle.mail_query.specs.Query.{query_of};
 ghost use Rattle.mail_query.specs.Refusals.{kind_refusal};
-ghost use Rattle.mail_query.specs.Reading.{forms_of};
+ghost use Rattle.mail_query.specs.Inside.Reading.{forms_of};
 ghost use Rattle.mail_query.specs.Mairix.{atom_query, term_query, all_query, rest_query, is_approximate};
 
 use crate::fault::QueryFaultKind;

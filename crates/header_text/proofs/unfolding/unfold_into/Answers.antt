@@ -1,7 +1,7 @@
 use Rattle.std.proofs.Common.{◌≡◌, ◌∙◌, ◌++◌, ℕ, List, ◌∷◌, length, take, drop, nat_lt, sym, ap, ap₂, arith, length-append}
 use Rattle.header_text.specs.Blanks.{after_blanks, before_blanks}
 use Rattle.header_text.specs.Unfolding.{without_breaks, unfolded}
-use Rattle.header_text.specs.Breaks.{led, without_final_cr}
+use Rattle.header_text.specs.Inside.Breaks.{led, without_final_cr}
 use Rattle.header_text.proofs.CutLemmas.{IsCut, IsCut-from}
 use Rattle.header_text.proofs.UnfoldSizes.{length-unfolded}
 use Rattle.header_text.proofs.UnfoldLemmas.{unfolds-start, unfolds-line, unfolds-rest, unfolded-trimmed}

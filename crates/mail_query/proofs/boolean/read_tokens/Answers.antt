@@ -3,7 +3,7 @@ use Rattle.contract_words.specs.Answers.{fault_as}
 use Rattle.mail_query.specs.declared.fault.QueryFault.{QueryFault}
 use Rattle.mail_query.specs.Mail.{boolean_lexicon}
 use Rattle.mail_query.specs.Query.{query_of}
-use Rattle.mail_query.specs.Shown.{shown}
+use Rattle.mail_query.specs.Inside.Shown.{shown}
 use Rattle.mail_query.specs.Tokens.{tokens}
 use Rattle.mail_query.specs.BooleanReading.{run_from, start}
 use Rattle.mail_query.proofs.BooleanDepth.{run_depth}

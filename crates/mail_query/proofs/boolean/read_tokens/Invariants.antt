@@ -1,7 +1,7 @@
 use Rattle.std.proofs.Common.{◌≡◌, ◌+◌, ◌≤◌, length}
 use Rattle.std.specs.Str.{IsUtf8}
 use Rattle.mail_query.specs.Mail.{boolean_lexicon}
-use Rattle.mail_query.specs.Shown.{shown}
+use Rattle.mail_query.specs.Inside.Shown.{shown}
 use Rattle.mail_query.specs.Tokens.{tokens}
 use Rattle.mail_query.specs.BooleanReading.{run_from, start}
 use Rattle.mail_query.proofs.boolean.read_tokens.Given as goal

@@ -1,5 +1,5 @@
 use Rattle.std.proofs.Common.{not, ap, arith}
-use Rattle.mail_words.specs.Runs.{is_other}
+use Rattle.mail_words.specs.Inside.Runs.{is_other}
 use Rattle.mail_words.proofs.ByteReads.{word_byte, other_byte, front_bytes-start, front_bytes-pass, front_bytes-stop, front_bytes-end, front_bytes-boundary, front_bytes-more, length-front}
 use Rattle.mail_words.proofs.runs.gap_len.Goals as goal
 

@@ -1,5 +1,5 @@
 use Rattle.std.specs.Str.Iter.{chars_rest}
-use Rattle.mail_words.specs.Runs.{is_other}
+use Rattle.mail_words.specs.Inside.Runs.{is_other}
 use Rattle.mail_words.proofs.FrontReads.{FrontRead}
 use Rattle.mail_words.proofs.runs.gap_len_by_characters.Given as goal
 

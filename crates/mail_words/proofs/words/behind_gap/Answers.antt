@@ -1,7 +1,7 @@
 use Rattle.std.proofs.Common.{◌&&◌, length, chars, sym, ap, ap₂, ◌∙◌, arith}
 use Rattle.std.specs.List.{list_all}
 use Rattle.mail_words.specs.Words.{is_word_character, is_joiner, begins}
-use Rattle.mail_words.specs.Runs.{front, behind, is_other, words_left}
+use Rattle.mail_words.specs.Inside.Runs.{front, behind, is_other, words_left}
 use Rattle.mail_words.proofs.Reading.{words_left-gaps, begins-gaps}
 use Rattle.mail_words.proofs.Seams.{front_seam, seam_boundary, seam_back, chars_front, chars_back, some_from_bytes}
 use Rattle.mail_words.proofs.words.behind_gap.Goals as goal

@@ -1,6 +1,6 @@
 use Rattle.std.proofs.Common.{◌+◌, chars, sym, ap, ◌∙◌, arith}
 use Rattle.mail_words.specs.Words.{is_word_character}
-use Rattle.mail_words.specs.Runs.{front, behind, joined_front, joined_on}
+use Rattle.mail_words.specs.Inside.Runs.{front, behind, joined_front, joined_on}
 use Rattle.mail_words.proofs.Seams.{front_seam, seam_boundary, nil_from_bytes}
 use Rattle.mail_words.proofs.Kept.{joined_on-long, length-long_front, long_seam, joined_is, long_at-short}
 use Rattle.mail_words.proofs.words.long_word.Goals as goal

@@ -1,6 +1,6 @@
 use Rattle.std.proofs.Common.{length, sym, ap, ◌∙◌, arith, rules}
 use Rattle.std.proofs.lemmas.Bool.{eqb-true, eqb-false}
-use Rattle.mail_words.specs.Runs.{words_left}
+use Rattle.mail_words.specs.Inside.Runs.{words_left}
 use Rattle.mail_words.proofs.Reading.{words_left-end}
 use Rattle.mail_words.proofs.FrontReads.{no_chars}
 use Rattle.mail_words.proofs.Kept.{words_left-kept, words_left-dropped}

@@ -1,6 +1,6 @@
 use Rattle.std.proofs.Common.{List, ◌∷◌, length, subst}
 use Rattle.header_text.specs.declared.field_list.Place.{Place}
-use Rattle.header_text.specs.Places.{AreInOrder}
+use Rattle.header_text.specs.Inside.Places.{AreInOrder}
 use Rattle.header_text.proofs.PlaceLemmas.{next_start-le}
 use Rattle.header_text.proofs.field_list.FieldsIterator.next.Goals as goal
 

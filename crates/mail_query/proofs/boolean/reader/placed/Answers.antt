@@ -1,7 +1,7 @@
 use Rattle.std.proofs.Common.{◌≡◌, ◌-◌, true, length, take, arith, ap, sym, ◌∙◌}
 use Rattle.mail_query.specs.declared.node.Node as node
 use Rattle.mail_query.specs.Query.{Query, Not, query_of}
-use Rattle.mail_query.specs.Shown.{shown_level, shown_stack}
+use Rattle.mail_query.specs.Inside.Shown.{shown_level, shown_stack}
 use Rattle.mail_query.specs.BooleanReading.{placed, is_negated}
 use Rattle.mail_query.proofs.NodeLemmas.{query_of-Not}
 use Rattle.mail_query.proofs.StackLemmas.{placed-not}

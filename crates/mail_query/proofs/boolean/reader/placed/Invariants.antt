@@ -1,6 +1,6 @@
 use Rattle.std.proofs.Common.{◌≡◌, vec_len}
 use Rattle.mail_query.specs.Query.{query_of}
-use Rattle.mail_query.specs.Shown.{shown_stack, shown_level}
+use Rattle.mail_query.specs.Inside.Shown.{shown_stack, shown_level}
 use Rattle.mail_query.specs.BooleanReading.{placed}
 use Rattle.mail_query.proofs.boolean.reader.placed.Given as goal
 

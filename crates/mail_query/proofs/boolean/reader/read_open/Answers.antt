@@ -1,5 +1,5 @@
 use Rattle.std.proofs.Common.{◌≤◌, ◌<◌, List, length, true, Ok, ap, sym, ◌∙◌, arith}
-use Rattle.mail_query.specs.Shown.{shown, shown_level, shown_stack}
+use Rattle.mail_query.specs.Inside.Shown.{shown, shown_level, shown_stack}
 use Rattle.mail_query.specs.BooleanReading.{Level, Waiting, ForClose, State, empty_level}
 use Rattle.mail_query.specs.declared.boolean.reader.Waiting.TheVariants as waiting
 use Rattle.mail_query.proofs.StackLemmas.{deeper-full, deeper-room, length-shown_stack, shown_stack-push}

@@ -7,7 +7,7 @@ use Rattle.contract_words.specs.Answers.{◌>>=◌}
 use Rattle.mail_query.specs.Query.{all_of}
 use Rattle.mail_query.specs.Refusals.{kind_refusal}
 use Rattle.mail_query.specs.Pieces.{is_byte}
-use Rattle.mail_query.specs.Reading.{forms_of}
+use Rattle.mail_query.specs.Inside.Reading.{forms_of}
 use Rattle.mail_query.specs.Mairix.{term_query, each_read}
 use Rattle.mail_query.proofs.EachLemmas.{reads_none, reads_more, reads_no_more, reads_all, then_refused}
 use Rattle.mail_query.proofs.mairix.terms.read_all.Goals as goal

@@ -1,0 +1,5 @@
+-- What private functions say of one another, and views of fields: it serves proofs alone, and no public clause rests on it.
+pub mod Alphabet
+pub mod Breaks
+pub mod Places
+pub mod ShownWords
