@@ -1,3 +1,5 @@
 pub mod Collecting
 pub mod Sending
 pub mod DeviceLists
+pub mod RangeOrder
+pub mod RangePlaces

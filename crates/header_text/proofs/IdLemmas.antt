@@ -6,7 +6,9 @@ use Rattle.std.specs.List.{filter_map}
 use Rattle.std.proofs.lemmas.List.{map-append, length-map, get_or-map}
 use Rattle.std.proofs.lemmas.Bool.{ltb-true}
 use Rattle.std.proofs.lemmas.List.Elements.{filter-append, filter_map-append}
-use Rattle.header_text.specs.Ids.{onto_first, closed_texts, after_last_open, is_id_byte, ids_in, ids_of, ids_size}
+use Rattle.header_text.specs.Ids.{is_id_byte, ids_of, ids_size}
+use Rattle.header_text.specs.Inside.Ids.{onto_first, closed_texts, after_last_open, ids_in}
+use Rattle.header_text.proofs.IdRanges.{ids_of-closed}
 use Rattle.header_text.proofs.CutLemmas.{Lacks}
 
 -- ---- behind the last `<`
@@ -38,14 +40,6 @@ closed_texts-cut (b ∷ text) behind free = rw (free.0, closed_texts) (ap (onto_
 pub closed_texts-free : (text : List ℕ) → Lacks 0x3E text → closed_texts text ≡ []
 closed_texts-free [] free = refl
 closed_texts-free (b ∷ text) free = rw (free.0, closed_texts) (ap (onto_first b) (closed_texts-free text free.1))
-
-pub ids_in-cons : (text : List ℕ) (texts : List (List ℕ)) → ids_in (text ∷ texts) ≡ ids_in (text ∷ []) ++ ids_in texts
-ids_in-cons text texts =
-    let some : List ℕ → Bool = λ id. nat_lt 0 (length id) in
-    let ids : List (List ℕ) → List (List ℕ) = λ ts. map (filter is_id_byte) (filter_map after_last_open ts) in
-    ap (filter some) (ap (map (filter is_id_byte)) (filter_map-append after_last_open (text ∷ []) texts)
-    ∙ map-append (filter is_id_byte) (filter_map after_last_open (text ∷ [])) (filter_map after_last_open texts))
-    ∙ filter-append some (ids (text ∷ [])) (ids texts)
 
 -- ---- sizes
 
@@ -143,9 +137,8 @@ ids_in-size (t ∷ ts) = go (after_last_open t) refl (after_last_open-short t) (
         last false f = rw f (omega (arith, later))
 
 pub ids_of-size : (value : List ℕ) (ids : List (Vec ℕ Global)) → map (λ (id : Vec ℕ Global). id.items) ids ≡ ids_of value → ids_size (map (λ (id : Vec ℕ Global). id.items) ids) ≤ length value
-unfolding ids_of
 ids_of-size value ids e =
-    let found : ids_size (ids_of value) ≤ closed_size (closed_texts value) = ids_in-size (closed_texts value) in
+    let found : ids_size (ids_of value) ≤ closed_size (closed_texts value) = rw (ids_of-closed value) (ids_in-size (closed_texts value)) in
     rw e (omega (arith, found, closed_texts-size value))
 
 All-sized : (n : ℕ) (ids : List (List ℕ)) → AreSized n ids → (k : ℕ) (d : List ℕ) → k < length ids → (0 < length (get_or ids k d)) × (length (get_or ids k d) ≤ n)
@@ -155,9 +148,8 @@ All-sized n (id ∷ ids) h (suc k) d lt = All-sized n ids h.2 k d (omega arith)
 
 pub ids_of-sized : (value : List ℕ) (ids : List (Vec ℕ Global)) → map (λ (id : Vec ℕ Global). id.items) ids ≡ ids_of value
     → (k : ℕ) (d : Vec ℕ Global) → k < length ids → (0 < length (get_or ids k d).items) × (length (get_or ids k d).items ≤ length value)
-unfolding ids_of
 ids_of-sized value ids e k d lt =
-    let sized : AreSized (length value) (ids_of value) = ids_in-sized (length value) (closed_texts value) (closed_texts-short value) in
+    let sized : AreSized (length value) (ids_of value) = rw (ids_of-closed value) (ids_in-sized (length value) (closed_texts value) (closed_texts-short value)) in
     let below : k < length (ids_of value) = omega (arith, ap length e, length-map ids (λ (id : Vec ℕ Global). id.items)) in
     let here : get_or (ids_of value) k d.items ≡ (get_or ids k d).items = ap (λ (l : List (List ℕ)). get_or l k d.items) (sym e) ∙ get_or-map (λ (id : Vec ℕ Global). id.items) ids k d d.items lt in
     subst (λ (l : List ℕ). (0 < length l) × (length l ≤ length value)) here (All-sized (length value) (ids_of value) sized k d.items below)

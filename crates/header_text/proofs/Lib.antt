@@ -5,6 +5,7 @@ mod PushLemmas
 pub mod CutLemmas
 mod UnfoldLemmas
 mod UnfoldSizes
+mod IdRanges
 mod IdLemmas
 mod CharsetLemmas
 mod LossyBytes

@@ -1,6 +1,7 @@
 //! Message ids.
 ghost use Rattle.std.specs.Prelude.{◌≡◌, ◌<◌, ◌≤◌, ◌∷◌, ◌++◌, length, map, filter, option_map, All, IfOk, OnOk, if◌then◌else◌, nat_lt, []};
-ghost use Rattle.header_text.specs.Ids.{ids_of, ids_in, ids_size, after_last_open as after_last_open_of, is_id_byte as is_id_byte_of};
+ghost use Rattle.header_text.specs.Ids.{ids_of, ids_size, is_id_byte as is_id_byte_of};
+ghost use Rattle.header_text.specs.Inside.Ids.{ids_in, after_last_open as after_last_open_of};
 
 use crate::blanks::is_blank;
 use crate::cut::cut_at;

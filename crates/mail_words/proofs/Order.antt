@@ -1,53 +1,8 @@
--- Ranges come by where they begin and then by where they end, and those that are words come so too.
-use Rattle.std.proofs.Common.{ℕ, zero, suc, ◌<◌, Bool, true, false, cond, List, [], ◌∷◌, ◌++◌, length, map, chars, refl, inl, inr, arith}
-use Rattle.std.specs.Prelude.{filter}
-use Rattle.mail_words.specs.Words.{is_word_character, is_word_range, numbers_from, ranges_from, word_ranges, IsBeforeEach, AreInOrder}
-
--- what is left of an ordered list is ordered
-before-filter : (p : ℕ × ℕ → Bool) (r : ℕ × ℕ) (rs : List (ℕ × ℕ)) → IsBeforeEach r rs → IsBeforeEach r (filter p rs)
-before-filter p r [] h = tt
-before-filter p r (s ∷ ss) h = go (p s) (before-filter p r ss h.1)
-  where
-    go : (t : Bool) → IsBeforeEach r (filter p ss) → IsBeforeEach r (cond t (s ∷ filter p ss) (filter p ss))
-    go true rest = (h.0, rest)
-    go false rest = rest
-
-order-filter : (p : ℕ × ℕ → Bool) (rs : List (ℕ × ℕ)) → AreInOrder rs → AreInOrder (filter p rs)
-order-filter p [] h = tt
-order-filter p (r ∷ rs) h = go (p r) (order-filter p rs h.1)
-  where
-    go : (t : Bool) → AreInOrder (filter p rs) → AreInOrder (cond t (r ∷ filter p rs) (filter p rs))
-    go true rest = (before-filter p r rs h.0, rest)
-    go false rest = rest
-
-before-append : (r : ℕ × ℕ) (xs ys : List (ℕ × ℕ)) → IsBeforeEach r xs → IsBeforeEach r ys → IsBeforeEach r (xs ++ ys)
-before-append r [] ys h g = g
-before-append r (x ∷ xs) ys h g = (h.0, before-append r xs ys h.1 g)
-
--- the ranges of one place with later ends
-later_ends : (i end first count : ℕ) → end < first → IsBeforeEach (i, end) (map (λ n. (i, n)) (numbers_from first count))
-later_ends i end first zero h = tt
-later_ends i end first (suc count) h = (inr (refl, h), later_ends i end (suc first) count (omega (arith, h)))
-
--- the ranges of later places
-later_place : (i end j first count : ℕ) → i < j → IsBeforeEach (i, end) (map (λ n. (j, n)) (numbers_from first count))
-later_place i end j first zero h = tt
-later_place i end j first (suc count) h = (inl h, later_place i end j (suc first) count h)
-
-later_places : (i end j : ℕ) (cs : List ℕ) → i < j → IsBeforeEach (i, end) (ranges_from j cs)
-later_places i end j [] h = tt
-later_places i end j (c ∷ cs) h =
-    before-append (i, end) (map (λ n. (j, n)) (numbers_from (suc j) (length (c ∷ cs)))) (ranges_from (suc j) cs) (later_place i end j (suc j) (length (c ∷ cs)) h) (later_places i end (suc j) cs (omega (arith, h)))
-
-order-place : (i first count : ℕ) (rest : List (ℕ × ℕ)) → ((end : ℕ) → IsBeforeEach (i, end) rest) → AreInOrder rest → AreInOrder (map (λ n. (i, n)) (numbers_from first count) ++ rest)
-order-place i first zero rest h g = g
-order-place i first (suc count) rest h g =
-    (before-append (i, first) (map (λ n. (i, n)) (numbers_from (suc first) count)) rest (later_ends i first (suc first) count (omega arith)) (h first), order-place i (suc first) count rest h g)
-
-order-ranges_from : (i : ℕ) (cs : List ℕ) → AreInOrder (ranges_from i cs)
-order-ranges_from i [] = tt
-order-ranges_from i (c ∷ cs) =
-    order-place i (suc i) (length (c ∷ cs)) (ranges_from (suc i) cs) (λ end. later_places i end (suc i) cs (omega arith)) (order-ranges_from (suc i) cs)
+-- The ranges of words come by where they begin and then by where they end.
+use Rattle.std.proofs.Common.{ℕ, List, chars}
+use Rattle.contract_words.specs.Ranges.{ranges_from, AreInOrder}
+use Rattle.contract_words.proofs.RangeOrder.{order-filter, order-ranges_from}
+use Rattle.mail_words.specs.Words.{is_word_character, is_word_range, word_ranges}
 
 pub order-word_ranges : (text : List ℕ) → AreInOrder (word_ranges text)
 order-word_ranges text = order-filter (is_word_range is_word_character (chars text)) (ranges_from 0 (chars text)) (order-ranges_from 0 (chars text))

@@ -1,6 +1,7 @@
 -- The words of a text: the maximal runs of word characters, and the longer runs in which joiners stand between them.
-use Rattle.std.specs.Prelude.{◌≡◌, ℕ, zero, suc, ◌<◌, ◌≤◌, ◌⊎◌, Bool, true, false, not, ◌&&◌, ◌||◌, ◌==◌, nat_le, List, [], ◌∷◌, ◌++◌, length, take, drop, map, reverse, filter, slice_range, chars, encode_utf8_all, codes}
+use Rattle.std.specs.Prelude.{ℕ, ◌≤◌, Bool, true, false, not, ◌&&◌, ◌||◌, ◌==◌, nat_le, List, [], ◌∷◌, ◌++◌, length, map, reverse, filter, slice_range, chars, encode_utf8_all, codes}
 use Rattle.std.specs.List.{list_any, list_all}
+use Rattle.contract_words.specs.Ranges.{ranges_from, passes_at}
 use Rattle.unicode.specs.Binary.{is_alphabetic}
 use Rattle.unicode.specs.GeneralCategory.{general_category, general_category_eq}
 use Rattle.unicode.specs.declared.properties.GeneralCategory.TheVariants.{NonspacingMark, SpacingMark, DecimalNumber}
@@ -17,18 +18,7 @@ is_joiner c = list_any (λ joiner. c == joiner) (codes "-_.+@")
 abbrev pub word_limit : ℕ
 word_limit = 128
 
--- ---- ranges of a text, each from a place to an end behind it
-
--- so many numbers, from one on
-abbrev pub numbers_from : ℕ → ℕ → List ℕ
-numbers_from first zero = []
-numbers_from first (suc count) = first ∷ numbers_from (suc first) count
-
--- all ranges that begin in these characters, the first of which stands at place i: by the place, and then by the end
-abbrev pub ranges_from : ℕ → List ℕ → List (ℕ × ℕ)
-ranges_from i [] = []
-ranges_from i (c ∷ cs) = map (λ end. (i, end)) (numbers_from (suc i) (length (c ∷ cs))) ++ ranges_from (suc i) cs
-
+-- the bytes of a range of characters
 abbrev pub range_bytes : List ℕ → ℕ × ℕ → List ℕ
 range_bytes cs r = encode_utf8_all (slice_range cs r.0 r.1)
 
@@ -65,7 +55,7 @@ module _ (in_word : ℕ → Bool) where
       (is_plain_word before inside behind || is_long_word before inside behind) && nat_le (length (encode_utf8_all inside)) word_limit
 
   abbrev pub is_word_range : List ℕ → ℕ × ℕ → Bool
-  is_word_range cs r = is_word (reverse (take r.0 cs)) (slice_range cs r.0 r.1) (drop r.1 cs)
+  is_word_range = passes_at is_word
 
   -- the ranges that are words and begin in the rest of a text, behind its front
   abbrev pub word_ranges_behind : List ℕ → List ℕ → List (ℕ × ℕ)
@@ -97,16 +87,3 @@ is_part_of_word text =
 -- a word that is kept has some bytes, and at most 128
 abbrev pub HasWordLength : List ℕ → Type 0
 HasWordLength word = (1 ≤ length word) × (length word ≤ word_limit)
-
--- the first range begins earlier, or at the same place and ends earlier
-abbrev pub IsBefore : ℕ × ℕ → ℕ × ℕ → Type 0
-IsBefore r s = (r.0 < s.0) ⊎ ((r.0 ≡ s.0) × (r.1 < s.1))
-
-abbrev pub IsBeforeEach : ℕ × ℕ → List (ℕ × ℕ) → Type 0
-IsBeforeEach r [] = Unit {0}
-IsBeforeEach r (s ∷ ss) = IsBefore r s × IsBeforeEach r ss
-
--- each range is before all that follow it, so none stands twice
-abbrev pub AreInOrder : List (ℕ × ℕ) → Type 0
-AreInOrder [] = Unit {0}
-AreInOrder (r ∷ rs) = IsBeforeEach r rs × AreInOrder rs

@@ -1,7 +1,8 @@
 use Rattle.std.proofs.Common.{◌≡◌, ◌∙◌, ◌++◌, ℕ, List, [], ◌∷◌, length, map, sym, ap, arith, length-append, append_assoc, append-nil}
-use Rattle.header_text.specs.Ids.{ids_in, ids_of, closed_texts}
+use Rattle.header_text.specs.Inside.Ids.{ids_in, closed_texts}
 use Rattle.header_text.proofs.CutLemmas.{IsCut, IsCut-from, Lacks-from}
-use Rattle.header_text.proofs.IdLemmas.{closed_texts-cut, closed_texts-free, ids_in-cons, ids_of-sized, ids_of-size}
+use Rattle.header_text.proofs.IdLemmas.{closed_texts-cut, closed_texts-free, ids_of-sized, ids_of-size}
+use Rattle.header_text.proofs.IdRanges.{ids_in-cons, ids_of-closed}
 use Rattle.header_text.proofs.message_id.message_ids.Goals as goal
 use Rattle.header_text.proofs.message_id.message_ids.Goals.{In_ok-push_id}
 
@@ -21,11 +22,10 @@ loop-text-preserved c =
     ∙ ap (λ (ids : List (List ℕ)). old ++ ids) (sym (ids_in-cons text (closed_texts behind)) ∙ ap ids_in (sym texts)) ∙ c.loop-text.invariant
 
 pub returns-clause-ids : goal.returns-clause-ids
-unfolding ids_of
 returns-clause-ids c =
     let none : closed_texts c.loop-text.rest.now ≡ [] = closed_texts-free c.loop-text.rest.now (Lacks-from 0x3E c.loop-text.rest.now (sym c.in_default.ensures)) in
     let old = map (λ id. id.items) c.loop-text.ids.items in
-    sym (append-nil old) ∙ ap (λ (ts : List (List ℕ)). old ++ ids_in ts) (sym none) ∙ c.loop-text.invariant
+    sym (append-nil old) ∙ ap (λ (ts : List (List ℕ)). old ++ ids_in ts) (sym none) ∙ c.loop-text.invariant ∙ sym (ids_of-closed c.args.value.now)
 
 pub returns-clause-sizes : goal.returns-clause-sizes
 returns-clause-sizes c = ids_of-sized c.args.value.now c.loop-text.ids.items (returns-clause-ids c)

@@ -1,0 +1,264 @@
+-- Ids by place are those of the texts up to each `>`.
+use Rattle.std.proofs.Common.{◌≡◌, ◌∙◌, ◌++◌, ◌&&◌, ◌==◌, ℕ, Bool, true, false, cond, List, [], ◌∷◌, Option, Some, None, map, refl, sym, ap, ap₂, append_assoc, append-nil, inl, inr, ◌⊎◌, nat_lt, length, subst}
+use Rattle.std.specs.Prelude.{filter}
+use Rattle.std.specs.List.{list_all, filter_map}
+use Rattle.std.proofs.lemmas.List.{map-append}
+use Rattle.std.proofs.lemmas.List.Elements.{filter-append, filter_map-append}
+use Rattle.std.proofs.lemmas.List.Folds.{list_all-append}
+use Rattle.std.proofs.lemmas.Bool.{eqb-true}
+use Rattle.contract_words.proofs.RangePlaces.{seen_on, seen_from, if_passes, seen_behind-places}
+use Rattle.header_text.specs.Ids.{open_sign, close_sign, begins_with, is_inside_id, is_id, is_id_byte, kept_ids, ids_of}
+use Rattle.header_text.specs.Inside.Ids.{onto_first, closed_texts, after_last_open, ids_in}
+use Rattle.header_text.proofs.CutLemmas.{Lacks}
+
+-- ---- three tests
+
+not_first : (a b c : Bool) → a ≡ false → (a && b && c) ≡ false
+not_first a b c e = rw e refl
+
+not_mid : (a b c : Bool) → b ≡ false → (a && b && c) ≡ false
+not_mid true b c e = rw e refl
+not_mid false b c e = refl
+
+not_last : (a b c : Bool) → c ≡ false → (a && b && c) ≡ false
+not_last true true c e = e
+not_last true false c e = refl
+not_last false b c e = refl
+
+all_three : (a b c : Bool) → a ≡ true → b ≡ true → c ≡ true → (a && b && c) ≡ true
+all_three a b c e f g = rw (e, f, g) refl
+
+-- ---- the ids that begin with some bytes, and those that begin in the rest
+
+abbrev ids_on : List ℕ → List ℕ → List ℕ → List (List ℕ)
+ids_on = seen_on is_id (λ bs. bs)
+
+abbrev pub ids_from : List ℕ → List ℕ → List (List ℕ)
+ids_from = seen_from is_id (λ bs. bs)
+
+abbrev one : List ℕ → List ℕ → List ℕ → List (List ℕ)
+one = if_passes is_id (λ bs. bs)
+
+refused : (before inside behind : List ℕ) → is_id before inside behind ≡ false → one before inside behind ≡ []
+refused before inside behind e = ap (λ (t : Bool). cond t (inside ∷ []) []) e
+
+taken : (before inside behind : List ℕ) → is_id before inside behind ≡ true → one before inside behind ≡ inside ∷ []
+taken before inside behind e = ap (λ (t : Bool). cond t (inside ∷ []) []) e
+
+-- a byte more inside
+inside_more : (inside : List ℕ) (b : ℕ) → list_all is_inside_id inside ≡ true → is_inside_id b ≡ true → list_all is_inside_id (inside ++ b ∷ []) ≡ true
+inside_more inside b e f = list_all-append is_inside_id inside (b ∷ []) ∙ rw (e, f) refl
+
+broken_more : (inside : List ℕ) (b : ℕ) → list_all is_inside_id inside ≡ false → list_all is_inside_id (inside ++ b ∷ []) ≡ false
+broken_more inside b e = list_all-append is_inside_id inside (b ∷ []) ∙ rw e refl
+
+and_false : (a : Bool) → (a && false) ≡ false
+and_false true = refl
+and_false false = refl
+
+broken_by : (inside : List ℕ) (b : ℕ) → is_inside_id b ≡ false → list_all is_inside_id (inside ++ b ∷ []) ≡ false
+broken_by inside b e = list_all-append is_inside_id inside (b ∷ []) ∙ rw e (and_false (list_all is_inside_id inside))
+
+is_inside : (b : ℕ) → (b == open_sign) ≡ false → (b == close_sign) ≡ false → is_inside_id b ≡ true
+is_inside b e f = rw (e, f) refl
+
+-- no `<` stands before them
+on-unopened : (before inside rest : List ℕ) → begins_with open_sign before ≡ false → ids_on before inside rest ≡ []
+on-unopened before inside [] e = refl
+on-unopened before inside (c ∷ cs) e =
+    ap₂ ◌++◌
+    (refused before (inside ++ c ∷ []) cs (not_first (begins_with open_sign before) (list_all is_inside_id (inside ++ c ∷ [])) (begins_with close_sign cs) e))
+    (on-unopened before (inside ++ c ∷ []) cs e)
+
+refused_broken : (before inside behind : List ℕ) → list_all is_inside_id inside ≡ false → one before inside behind ≡ []
+refused_broken before inside behind e =
+    refused before inside behind (not_mid (begins_with open_sign before) (list_all is_inside_id inside) (begins_with close_sign behind) e)
+
+refused_open : (before inside behind : List ℕ) → begins_with close_sign behind ≡ false → one before inside behind ≡ []
+refused_open before inside behind e =
+    refused before inside behind (not_last (begins_with open_sign before) (list_all is_inside_id inside) (begins_with close_sign behind) e)
+
+-- a `<` or a `>` is among them
+on-broken : (before inside rest : List ℕ) → list_all is_inside_id inside ≡ false → ids_on before inside rest ≡ []
+on-broken before inside [] e = refl
+on-broken before inside (c ∷ cs) e =
+    ap₂ ◌++◌ (refused_broken before (inside ++ c ∷ []) cs (broken_more inside c e)) (on-broken before (inside ++ c ∷ []) cs (broken_more inside c e))
+
+on-sign : (before inside rest : List ℕ) (c : ℕ) → is_inside_id c ≡ false → ids_on before inside (c ∷ rest) ≡ []
+on-sign before inside rest c e =
+    ap₂ ◌++◌ (refused_broken before (inside ++ c ∷ []) rest (broken_by inside c e)) (on-broken before (inside ++ c ∷ []) rest (broken_by inside c e))
+
+not_closed : (x rest : List ℕ) → Lacks close_sign x → begins_with close_sign rest ≡ false → begins_with close_sign (x ++ rest) ≡ false
+not_closed [] rest free e = e
+not_closed (b ∷ x) rest free e = free.0
+
+-- a `<` comes before any `>`
+on-reopened : (before inside x rest : List ℕ) → Lacks close_sign x → ids_on before inside (x ++ open_sign ∷ rest) ≡ []
+on-reopened before inside [] rest free = on-sign before inside rest open_sign refl
+on-reopened before inside (b ∷ x) rest free =
+    ap₂ ◌++◌ (refused_open before (inside ++ b ∷ []) (x ++ open_sign ∷ rest) (not_closed x (open_sign ∷ rest) free.1 refl)) (on-reopened before (inside ++ b ∷ []) x rest free.1)
+
+-- no `>` comes
+on-end : (before inside x : List ℕ) → Lacks close_sign x → ids_on before inside x ≡ []
+on-end before inside [] free = refl
+on-end before inside (b ∷ x) free =
+    let last : begins_with close_sign x ≡ false = subst (λ (l : List ℕ). begins_with close_sign l ≡ false) (append-nil x) (not_closed x [] free.1 refl) in
+    ap₂ ◌++◌ (refused_open before (inside ++ b ∷ []) x last) (on-end before (inside ++ b ∷ []) x free.1)
+
+-- a text, unless these bytes are none
+abbrev unless_none : List ℕ → List ℕ → List (List ℕ)
+unless_none [] text = []
+unless_none (b ∷ bs) text = text ∷ []
+
+on-found : (before inside u rest : List ℕ) → begins_with open_sign before ≡ true → list_all is_inside_id inside ≡ true → Lacks open_sign u → Lacks close_sign u
+    → ids_on before inside (u ++ close_sign ∷ rest) ≡ unless_none u (inside ++ u)
+on-found before inside [] rest e f unopened unclosed = on-sign before inside rest close_sign refl
+on-found before inside (b ∷ []) rest e f unopened unclosed =
+    let more : list_all is_inside_id (inside ++ b ∷ []) ≡ true = inside_more inside b f (is_inside b unopened.0 unclosed.0) in
+    ap₂ ◌++◌ (taken before (inside ++ b ∷ []) (close_sign ∷ rest) (all_three (begins_with open_sign before) (list_all is_inside_id (inside ++ b ∷ [])) true e more refl)) (on-sign before (inside ++ b ∷ []) rest close_sign refl)
+on-found before inside (b ∷ c ∷ u) rest e f unopened unclosed =
+    let more : list_all is_inside_id (inside ++ b ∷ []) ≡ true = inside_more inside b f (is_inside b unopened.0 unclosed.0) in
+    ap₂ ◌++◌ (refused_open before (inside ++ b ∷ []) (c ∷ (u ++ close_sign ∷ rest)) unclosed.1.0) (on-found before (inside ++ b ∷ []) (c ∷ u) rest e more unopened.1 unclosed.1)
+    ∙ ap (λ (l : List ℕ). l ∷ []) (append_assoc inside (b ∷ []) (c ∷ u))
+
+-- ---- whether a `<` stands before is all that counts of what stands before
+
+on-same : (x y inside rest : List ℕ) → begins_with open_sign x ≡ begins_with open_sign y → ids_on x inside rest ≡ ids_on y inside rest
+on-same x y inside [] e = refl
+on-same x y inside (c ∷ cs) e =
+    ap₂ ◌++◌ (ap (λ (t : Bool). cond (t && list_all is_inside_id (inside ++ c ∷ []) && begins_with close_sign cs) ((inside ++ c ∷ []) ∷ []) []) e) (on-same x y (inside ++ c ∷ []) cs e)
+
+from-same : (x y rest : List ℕ) → begins_with open_sign x ≡ begins_with open_sign y → ids_from x rest ≡ ids_from y rest
+from-same x y [] e = refl
+from-same x y (c ∷ cs) e = ap₂ ◌++◌ (on-same x y [] (c ∷ cs) e) (from-same (c ∷ x) (c ∷ y) cs refl)
+
+from-reopened : (before x rest : List ℕ) → Lacks close_sign x → ids_from before (x ++ open_sign ∷ rest) ≡ ids_from (open_sign ∷ []) rest
+from-reopened before [] rest free = ap₂ ◌++◌ (on-reopened before [] [] rest tt) (from-same (open_sign ∷ before) (open_sign ∷ []) rest refl)
+from-reopened before (b ∷ x) rest free = ap₂ ◌++◌ (on-reopened before [] (b ∷ x) rest free) (from-reopened (b ∷ before) x rest free.1)
+
+from-unopened : (before u rest : List ℕ) → begins_with open_sign before ≡ false → Lacks open_sign u → ids_from before (u ++ close_sign ∷ rest) ≡ ids_from [] rest
+from-unopened before [] rest e free = ap₂ ◌++◌ (on-unopened before [] (close_sign ∷ rest) e) (from-same (close_sign ∷ before) [] rest refl)
+from-unopened before (b ∷ u) rest e free = ap₂ ◌++◌ (on-unopened before [] (b ∷ (u ++ close_sign ∷ rest)) e) (from-unopened (b ∷ before) u rest free.0 free.1)
+
+from-found : (u rest : List ℕ) → Lacks open_sign u → Lacks close_sign u → ids_from (open_sign ∷ []) (u ++ close_sign ∷ rest) ≡ unless_none u u ++ ids_from [] rest
+from-found [] rest unopened unclosed =
+    ap₂ ◌++◌ (on-found (open_sign ∷ []) [] [] rest refl refl tt tt) (from-same (close_sign ∷ open_sign ∷ []) [] rest refl)
+from-found (b ∷ u) rest unopened unclosed =
+    ap₂ ◌++◌ (on-found (open_sign ∷ []) [] (b ∷ u) rest refl refl unopened unclosed) (from-unopened (b ∷ open_sign ∷ []) u rest unopened.0 unopened.1)
+
+from-end : (before x : List ℕ) → Lacks close_sign x → ids_from before x ≡ []
+from-end before [] free = refl
+from-end before (b ∷ x) free = ap₂ ◌++◌ (on-end before [] (b ∷ x) free) (from-end (b ∷ before) x free.1)
+
+-- ---- a text up to its `>`
+
+kept-append : (xs ys : List (List ℕ)) → kept_ids (xs ++ ys) ≡ kept_ids xs ++ kept_ids ys
+kept-append xs ys =
+    let some : List ℕ → Bool = λ id. nat_lt 0 (length id) in
+    ap (filter some) (map-append (filter is_id_byte) xs ys) ∙ filter-append some (map (filter is_id_byte) xs) (map (filter is_id_byte) ys)
+
+pub ids_in-cons : (text : List ℕ) (texts : List (List ℕ)) → ids_in (text ∷ texts) ≡ ids_in (text ∷ []) ++ ids_in texts
+ids_in-cons text texts =
+    ap kept_ids (filter_map-append after_last_open (text ∷ []) texts) ∙ kept-append (filter_map after_last_open (text ∷ [])) (filter_map after_last_open texts)
+
+kept-unless_none : (u : List ℕ) → kept_ids (unless_none u u) ≡ kept_ids (u ∷ [])
+kept-unless_none [] = refl
+kept-unless_none (b ∷ u) = refl
+
+-- a `<` stands in the text, none after it
+record LastOpen (text : List ℕ) : Type 0 where
+  before : List ℕ
+  behind : List ℕ
+  joined : text ≡ before ++ open_sign ∷ behind
+  is : after_last_open text ≡ Some behind
+  unopened : Lacks open_sign behind
+  unclosed_before : Lacks close_sign before
+  unclosed : Lacks close_sign behind
+
+abbrev judged : ℕ → List ℕ → Option (List ℕ) → Option (List ℕ)
+judged b bs o = elim o [ Some id ↦ Some id | None ↦ elim (b == open_sign) [ true ↦ Some bs | false ↦ None ] ]
+
+last_open : (text : List ℕ) → Lacks close_sign text → ((after_last_open text ≡ None) × Lacks open_sign text) ⊎ LastOpen text
+last_open [] free = inl (refl, tt)
+last_open (b ∷ bs) free = elim (last_open bs free.1) [
+  | inr o ↦ inr (record {
+    before = b ∷ o.before;
+    behind = o.behind;
+    joined = ap (λ (l : List ℕ). b ∷ l) o.joined;
+    is = ap (judged b bs) o.is;
+    unopened = o.unopened;
+    unclosed_before = (free.0, o.unclosed_before);
+    unclosed = o.unclosed;
+  })
+  | inl none ↦ go (b == open_sign) refl none
+]
+  where
+    go : (t : Bool) → (b == open_sign) ≡ t → (after_last_open bs ≡ None) × Lacks open_sign bs → ((after_last_open (b ∷ bs) ≡ None) × Lacks open_sign (b ∷ bs)) ⊎ LastOpen (b ∷ bs)
+    go true t none = inr (record {
+      before = [];
+      behind = bs;
+      joined = ap (λ (x : ℕ). x ∷ bs) (eqb-true b open_sign t);
+      is = ap (judged b bs) none.0 ∙ rw (judged, t) refl;
+      unopened = none.1;
+      unclosed_before = tt;
+      unclosed = free.1;
+    })
+    go false t none = inl (ap (judged b bs) none.0 ∙ rw (judged, t) refl, (t, none.1))
+
+from-text : (text rest : List ℕ) → Lacks close_sign text → kept_ids (ids_from [] (text ++ close_sign ∷ rest)) ≡ ids_in (text ∷ []) ++ kept_ids (ids_from [] rest)
+from-text text rest free = go (last_open text free)
+  where
+    go : ((after_last_open text ≡ None) × Lacks open_sign text) ⊎ LastOpen text → kept_ids (ids_from [] (text ++ close_sign ∷ rest)) ≡ ids_in (text ∷ []) ++ kept_ids (ids_from [] rest)
+    go (inl none) =
+        let nothing : ids_in (text ∷ []) ≡ [] = rw none.0 refl in
+        ap kept_ids (from-unopened [] text rest refl none.1) ∙ ap (λ (l : List (List ℕ)). l ++ kept_ids (ids_from [] rest)) (sym nothing)
+    go (inr o) =
+        let some : ids_in (text ∷ []) ≡ kept_ids (o.behind ∷ []) = rw o.is refl in
+        let cut : text ++ close_sign ∷ rest ≡ o.before ++ open_sign ∷ (o.behind ++ close_sign ∷ rest) =
+        ap (λ (l : List ℕ). l ++ close_sign ∷ rest) o.joined ∙ append_assoc o.before (open_sign ∷ o.behind) (close_sign ∷ rest) in
+        let found : ids_from [] (text ++ close_sign ∷ rest) ≡ unless_none o.behind o.behind ++ ids_from [] rest =
+        ap (ids_from []) cut ∙ from-reopened [] o.before (o.behind ++ close_sign ∷ rest) o.unclosed_before ∙ from-found o.behind rest o.unopened o.unclosed in
+        ap kept_ids found ∙ kept-append (unless_none o.behind o.behind) (ids_from [] rest)
+        ∙ ap (λ (l : List (List ℕ)). l ++ kept_ids (ids_from [] rest)) (kept-unless_none o.behind ∙ sym some)
+
+-- ---- all texts
+
+-- a front of the first text
+abbrev onto_text : List ℕ → List (List ℕ) → List (List ℕ)
+onto_text front [] = []
+onto_text front (text ∷ texts) = (front ++ text) ∷ texts
+
+onto_text-nil : (texts : List (List ℕ)) → onto_text [] texts ≡ texts
+onto_text-nil [] = refl
+onto_text-nil (text ∷ texts) = refl
+
+onto_text-byte : (front : List ℕ) (b : ℕ) (texts : List (List ℕ)) → onto_text (front ++ b ∷ []) texts ≡ onto_text front (onto_first b texts)
+onto_text-byte front b [] = refl
+onto_text-byte front b (text ∷ texts) = ap (λ (l : List ℕ). l ∷ texts) (append_assoc front (b ∷ []) text)
+
+lacks_more : (front : List ℕ) (b : ℕ) → Lacks close_sign front → (b == close_sign) ≡ false → Lacks close_sign (front ++ b ∷ [])
+lacks_more [] b free e = (e, tt)
+lacks_more (a ∷ front) b free e = (free.0, lacks_more front b free.1 e)
+
+from-texts : (front bs : List ℕ) → Lacks close_sign front → kept_ids (ids_from [] (front ++ bs)) ≡ ids_in (onto_text front (closed_texts bs))
+from-texts front [] free = ap kept_ids (ap (ids_from []) (append-nil front) ∙ from-end [] front free)
+from-texts front (b ∷ bs) free = go (b == close_sign) refl (from-texts [] bs tt) (λ e. from-texts (front ++ b ∷ []) bs (lacks_more front b free e))
+  where
+    go : (t : Bool) → (b == close_sign) ≡ t → kept_ids (ids_from [] bs) ≡ ids_in (onto_text [] (closed_texts bs))
+        → ((b == close_sign) ≡ false → kept_ids (ids_from [] ((front ++ b ∷ []) ++ bs)) ≡ ids_in (onto_text (front ++ b ∷ []) (closed_texts bs)))
+        → kept_ids (ids_from [] (front ++ b ∷ bs)) ≡ ids_in (onto_text front (closed_texts (b ∷ bs)))
+    go true t behind longer =
+        let texts : closed_texts (b ∷ bs) ≡ [] ∷ closed_texts bs = rw (t, closed_texts) refl in
+        let later : kept_ids (ids_from [] bs) ≡ ids_in (closed_texts bs) = behind ∙ ap ids_in (onto_text-nil (closed_texts bs)) in
+        ap (λ (c : ℕ). kept_ids (ids_from [] (front ++ c ∷ bs))) (eqb-true b close_sign t) ∙ from-text front bs free
+        ∙ ap (λ (l : List (List ℕ)). ids_in (front ∷ []) ++ l) later ∙ sym (ids_in-cons front (closed_texts bs))
+        ∙ ap (λ (l : List ℕ). ids_in (l ∷ closed_texts bs)) (sym (append-nil front)) ∙ ap (λ (l : List (List ℕ)). ids_in (onto_text front l)) (sym texts)
+    go false t behind longer =
+        let texts : closed_texts (b ∷ bs) ≡ onto_first b (closed_texts bs) = rw (t, closed_texts) refl in
+        ap (λ (l : List ℕ). kept_ids (ids_from [] l)) (sym (append_assoc front (b ∷ []) bs)) ∙ longer t
+        ∙ ap ids_in (onto_text-byte front b (closed_texts bs)) ∙ ap (λ (l : List (List ℕ)). ids_in (onto_text front l)) (sym texts)
+
+pub ids_of-closed : (value : List ℕ) → ids_of value ≡ ids_in (closed_texts value)
+unfolding ids_of
+ids_of-closed value =
+    ap kept_ids (seen_behind-places is_id (λ bs. bs) [] value) ∙ from-texts [] value tt ∙ ap ids_in (onto_text-nil (closed_texts value))
