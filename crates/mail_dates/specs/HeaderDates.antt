@@ -31,12 +31,12 @@ without_day_name (token ∷ rest) = if list_all is_ascii_alphabetic token then r
 -- ---- the year, the time of day and the zone
 
 -- a year of two digits is one from 1950 to 2049, and one of three digits counts from 1900
-abbrev pub full_year : ℕ → ℕ → ℕ
-full_year digits n =
+abbrev pub year_with_century : ℕ → ℕ → ℕ
+year_with_century digits n =
     if digits == 4 then n else (if (digits == 2) && nat_lt n 50 then n + 2000 else n + 1900)
 
 abbrev pub year_of : List ℕ → Option ℕ
-year_of token = option_map (full_year (length token)) (number_in 2 4 token)
+year_of token = option_map (year_with_century (length token)) (number_in 2 4 token)
 
 -- the second of the day, where second 60 is the first of the next minute
 abbrev pub second_of_day : ℕ → ℕ → ℕ → Option ℕ

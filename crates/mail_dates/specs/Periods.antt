@@ -58,8 +58,8 @@ full_date text =
     else None
 
 -- YYYY
-abbrev pub full_year : List ℕ → Option Period
-full_year text = option_map (λ year. InYear (pos year) days.All) (number_in 4 4 text)
+abbrev pub whole_year : List ℕ → Option Period
+whole_year text = option_map (λ year. InYear (pos year) days.All) (number_in 4 4 text)
 
 -- a month's name
 abbrev pub yearly_month : List ℕ → Option Period
@@ -90,7 +90,7 @@ unfoldable pub period_of : List ℕ → Result Period DateFault
 period_of text =
     if has_long_count text then Err BadNumber
     else ok_or
-    (option_or (ago text) (option_or (full_date text) (option_or (full_year text)
+    (option_or (ago text) (option_or (full_date text) (option_or (whole_year text)
     (option_or (yearly_month text) (option_or (day_and_month text) (month_and_day text))))))
     BadDate
 

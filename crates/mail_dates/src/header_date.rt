@@ -2,7 +2,7 @@
 
 ghost use Rattle.std.specs.Prelude.{◌≡◌, ◌<◌, ◌≤◌, ◌∷◌, IfSome};
 ghost use Rattle.mail_dates.specs.Calendar.{day_number};
-ghost use Rattle.mail_dates.specs.HeaderDates.{full_year, year_of, tokens, zone_offset, date_of_parts_by, date_of_tokens_by, date_of};
+ghost use Rattle.mail_dates.specs.HeaderDates.{year_with_century, year_of, tokens, zone_offset, date_of_parts_by, date_of_tokens_by, date_of};
 
 use crate::calendar::{day_number, month_of};
 use crate::number::number_in;
@@ -65,12 +65,12 @@ fn year_of(token: &[u8]) -> Option<u16>
     ensures bound { IfSome result (λ year. year < 12000) }
 {
     let year = number_in(2, 4, token)?;
-    Some(full_year(token.len(), year))
+    Some(year_with_century(token.len(), year))
 }
 
-fn full_year(digits: usize, year: u16) -> u16
+fn year_with_century(digits: usize, year: u16) -> u16
     requires { year < 10000 }
-    ensures { result ≡ full_year digits year }
+    ensures { result ≡ year_with_century digits year }
 {
     match digits {
         4 => year,

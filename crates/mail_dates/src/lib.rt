@@ -25,5 +25,6 @@ pub use header_date::read_date;
 pub use iso_dates::iso_range;
 pub use laws::latest_year_is_latest;
 pub use moment::Moment;
+pub use number::{are_digits, decimal_value};
 pub use range::Range;
 pub use range_of_days::range_of;

@@ -18,7 +18,7 @@ pub fn number_in(least: usize, most: usize, text: &[u8]) -> Option<u16>
     if !are_digits(text) {
         return None;
     }
-    Some(decimal_value(text))
+    Some(decimal_value(text) as u16)
 }
 
 /// Whether it is digits alone.
@@ -28,15 +28,16 @@ pub fn are_digits(text: &[u8]) -> bool
     text.iter().all(|byte| byte.is_ascii_digit())
 }
 
-fn decimal_value(digits: &[u8]) -> u16
-    requires few { length digits.now ≤ 4 }
+/// The number that digits write in decimal.
+pub fn decimal_value(digits: &[u8]) -> u64
+    requires few { length digits.now ≤ 18 }
     requires digits { list_all is_ascii_digit digits.now ≡ true }
     ensures value { result ≡ digits_value 10 digits.now }
     ensures bound { result < 10 ^ length digits.now }
 {
-    let mut value: u16 = 0;
+    let mut value: u64 = 0;
     for digit in digits {
-        value = value * 10 + u16::from(*digit - b'0');
+        value = value * 10 + u64::from(*digit - b'0');
     }
     value
 }

@@ -2,7 +2,7 @@
 
 ghost use Rattle.std.specs.Prelude.{◌≡◌, ◌*◌, ◌≤◌, ◌≤ℤ◌, pos, IfSome};
 ghost use Rattle.mail_dates.specs.Calendar.{day_number};
-ghost use Rattle.mail_dates.specs.Periods.{unit_of, days_in_unit, ago, has_long_count, full_date_of, full_date, full_year, yearly_month, day_of, yearly_day, day_and_month, month_and_day, period_of, period_days_by};
+ghost use Rattle.mail_dates.specs.Periods.{unit_of, days_in_unit, ago, has_long_count, full_date_of, full_date, whole_year, yearly_month, day_of, yearly_day, day_and_month, month_and_day, period_of, period_days_by};
 
 use crate::calendar::month_of;
 use crate::days::{Days, DaysOfYear};
@@ -68,7 +68,7 @@ impl Period {
         }
         ago(text)
             .or_else(|| full_date(text))
-            .or_else(|| full_year(text))
+            .or_else(|| whole_year(text))
             .or_else(|| yearly_month(text))
             .or_else(|| day_and_month(text))
             .or_else(|| month_and_day(text))
@@ -142,8 +142,8 @@ fn full_date_of(year: Option<u16>, month: Option<u16>, day: Option<u16>) -> Opti
 }
 
 /// `YYYY`.
-fn full_year(text: &[u8]) -> Option<Period>
-    ensures { result ≡ full_year text.now }
+fn whole_year(text: &[u8]) -> Option<Period>
+    ensures { result ≡ whole_year text.now }
 {
     let year = number_in(4, 4, text)?;
     Some(Period::InYear {
