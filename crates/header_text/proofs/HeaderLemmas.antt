@@ -2,7 +2,7 @@
 use Rattle.std.proofs.Common.{◌≡◌, ◌∙◌, ◌+◌, ◌≤◌, ◌<◌, ◌++◌, ◌==◌, ℕ, suc, Bool, true, false, List, [], ◌∷◌, Option, Some, None, length, refl, sym, ap, subst, arith, length-append, append_assoc, append-nil}
 use Rattle.std.specs.Prelude.{is_some, option_map, IfSome}
 use Rattle.std.specs.Option.{option_to_list}
-use Rattle.header_text.specs.Headers.{HeaderField, is_continuation, field_of_line, with_continuations, continued_and_fields, fields_in, fields_size, named, is_name_byte}
+use Rattle.header_text.specs.Headers.{HeaderField, is_continuation, field_of_line, with_continuations, continued_and_fields, fields_in, fields_size, named, is_field_name_byte}
 use Rattle.header_text.specs.Blanks.{is_blank, split_while, after_blanks}
 use Rattle.header_text.specs.OpenFields.{onto_last, is_open_after, is_open_behind, fields_with}
 use Rattle.header_text.proofs.Fronts.{split_while-joined}
@@ -140,8 +140,8 @@ named-size (b ∷ name) (c ∷ rest) = go (c == 0x3A) refl
 
 field_of_line-size : (l : List ℕ) → fields_size (option_to_list (field_of_line l)) ≤ length l
 field_of_line-size l =
-    let parts = split_while is_name_byte l in
-    let sizes : length parts.0 + length parts.1 ≡ length l = sym (length-append parts.0 parts.1) ∙ ap length (split_while-joined is_name_byte l) in
+    let parts = split_while is_field_name_byte l in
+    let sizes : length parts.0 + length parts.1 ≡ length l = sym (length-append parts.0 parts.1) ∙ ap length (split_while-joined is_field_name_byte l) in
     omega (arith, named-size parts.0 (after_blanks parts.1), length-after_blanks parts.1, sizes)
 
 pub field_of_line-fits : {A : Type 0} (name body : A → List ℕ) (o : Option A) (l : List ℕ) → option_map (λ f. record { name = name f; body = body f }) o ≡ field_of_line l

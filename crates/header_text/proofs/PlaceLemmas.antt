@@ -2,7 +2,7 @@
 use Rattle.std.proofs.Common.{◌≡◌, ◌∙◌, ◌+◌, ◌-◌, ◌<◌, ◌≤◌, ◌++◌, ℕ, List, [], ◌∷◌, length, take, drop, refl, sym, ap, ap₂, arith, length-append, append_assoc}
 use Rattle.std.specs.Prelude.{slice_range}
 use Rattle.std.proofs.lemmas.List.{take-append-le, drop-append-le, take_all, take_at, drop_at, length-drop, length-take-le}
-use Rattle.header_text.specs.declared.field_list.Place.{Place}
+use Rattle.header_text.specs.declared.field_list.FieldPlace.{FieldPlace}
 use Rattle.header_text.specs.Headers.{HeaderField, fields_size, most_in_header}
 use Rattle.header_text.specs.Inside.Places.{next_start, AreInOrder, AreKept, fields_at}
 use Rattle.header_text.specs.OpenFields.{onto_last}
@@ -26,33 +26,33 @@ slice_range-append_end xs ys i low =
     ap (λ (l : List ℕ). take (length (xs ++ ys) - i) l) (drop-append-le i xs ys low) ∙ take_all (length (xs ++ ys) - i) (drop i xs ++ ys) all
     ∙ ap (λ (l : List ℕ). l ++ ys) (sym (take_all (length xs - i) (drop i xs) (omega arith)))
 
-pub next_start-le : (end : ℕ) (ps : List Place) → AreInOrder end ps → next_start ps end ≤ end
+pub next_start-le : (end : ℕ) (ps : List FieldPlace) → AreInOrder end ps → next_start ps end ≤ end
 next_start-le end [] h = omega arith
 next_start-le end (p ∷ ps) h = let later = next_start-le end ps h.2 in omega (arith, h.0, h.1, later)
 
 -- a field more
-AreInOrder-push : (end : ℕ) (ps : List Place) (p : Place) (more : ℕ) → AreInOrder end ps → p.name ≡ end → p.name < p.body → p.body ≤ more → AreInOrder more (ps ++ p ∷ [])
+AreInOrder-push : (end : ℕ) (ps : List FieldPlace) (p : FieldPlace) (more : ℕ) → AreInOrder end ps → p.name ≡ end → p.name < p.body → p.body ≤ more → AreInOrder more (ps ++ p ∷ [])
 AreInOrder-push end [] p more h e low high = (low, high, tt)
 AreInOrder-push end (q ∷ []) p more h e low high = (h.0, omega (arith, h.1), (low, high, tt))
 AreInOrder-push end (q ∷ r ∷ ps) p more h e low high = (h.0, h.1, AreInOrder-push end (r ∷ ps) p more h.2 e low high)
 
-next_start-push : (end : ℕ) (ps : List Place) (p : Place) (more : ℕ) → p.name ≡ end → next_start (ps ++ p ∷ []) more ≡ next_start ps end
+next_start-push : (end : ℕ) (ps : List FieldPlace) (p : FieldPlace) (more : ℕ) → p.name ≡ end → next_start (ps ++ p ∷ []) more ≡ next_start ps end
 next_start-push end [] p more e = e
 next_start-push end (q ∷ ps) p more e = refl
 
 -- more bytes behind the last field
-AreInOrder-more : (end more : ℕ) (ps : List Place) → AreInOrder end ps → end ≤ more → AreInOrder more ps
+AreInOrder-more : (end more : ℕ) (ps : List FieldPlace) → AreInOrder end ps → end ≤ more → AreInOrder more ps
 AreInOrder-more end more [] h le = tt
 AreInOrder-more end more (q ∷ []) h le = (h.0, omega (arith, h.1), tt)
 AreInOrder-more end more (q ∷ r ∷ ps) h le = (h.0, h.1, AreInOrder-more end more (r ∷ ps) h.2 le)
 
 -- each field has a byte of its own
-length-places : (end : ℕ) (ps : List Place) → AreInOrder end ps → length ps + next_start ps end ≤ end
+length-places : (end : ℕ) (ps : List FieldPlace) → AreInOrder end ps → length ps + next_start ps end ≤ end
 length-places end [] h = omega arith
 length-places end (p ∷ ps) h = omega (arith, h.0, h.1, length-places end ps h.2)
 
 -- so few bytes have few places
-kept : (bytes : List ℕ) (ps : List Place) → AreInOrder (length bytes) ps → next_start ps (length bytes) ≡ 0 → length bytes ≤ most_in_header → AreKept bytes ps
+kept : (bytes : List ℕ) (ps : List FieldPlace) → AreInOrder (length bytes) ps → next_start ps (length bytes) ≡ 0 → length bytes ≤ most_in_header → AreKept bytes ps
 kept bytes ps order first few = record { order = order; first = first; few_bytes = few; few_places = omega (arith, length-places (length bytes) ps order) }
 
 abbrev one : List ℕ → List ℕ → HeaderField
@@ -70,7 +70,7 @@ last_field bytes name body at from e f =
     let size : length body ≤ length all - from = omega (arith, length-append bytes (name ++ body), length-append name body) in
     ap₂ (λ (x y : List ℕ). one x y) named (ap (λ (l : List ℕ). take (length all - from) l) rest ∙ take_all (length all - from) body size)
 
-pub fields_at-push : (bytes name body : List ℕ) (ps : List Place) (p : Place) → AreInOrder (length bytes) ps → p.name ≡ length bytes → p.body ≡ length bytes + length name
+pub fields_at-push : (bytes name body : List ℕ) (ps : List FieldPlace) (p : FieldPlace) → AreInOrder (length bytes) ps → p.name ≡ length bytes → p.body ≡ length bytes + length name
     → fields_at (bytes ++ (name ++ body)) (ps ++ p ∷ []) ≡ fields_at bytes ps ++ one name body ∷ []
 fields_at-push bytes name body [] p h e f = ap (λ (x : HeaderField). x ∷ []) (last_field bytes name body p.name p.body e f)
 fields_at-push bytes name body (q ∷ []) p h e f =
@@ -86,7 +86,7 @@ fields_at-push bytes name body (q ∷ r ∷ ps) p h e f =
     ap₂ (λ (x : HeaderField) (y : List HeaderField). x ∷ y) (ap₂ (λ (x y : List ℕ). one x y) first second) (fields_at-push bytes name body (r ∷ ps) p h.2 e f)
 
 -- more bytes for the last field
-pub fields_at-append : (bytes more : List ℕ) (ps : List Place) → AreInOrder (length bytes) ps → fields_at (bytes ++ more) ps ≡ onto_last more (fields_at bytes ps)
+pub fields_at-append : (bytes more : List ℕ) (ps : List FieldPlace) → AreInOrder (length bytes) ps → fields_at (bytes ++ more) ps ≡ onto_last more (fields_at bytes ps)
 fields_at-append bytes more [] h = refl
 fields_at-append bytes more (q ∷ []) h =
     ap₂ (λ (x y : List ℕ). one x y ∷ []) (slice_range-append bytes more q.name q.body (omega (arith, h.0)) h.1) (slice_range-append_end bytes more q.body h.1)
@@ -97,7 +97,7 @@ fields_at-append bytes more (q ∷ r ∷ ps) h =
     ap₂ (λ (x : HeaderField) (y : List HeaderField). x ∷ y) (ap₂ (λ (x y : List ℕ). one x y) name body) (fields_at-append bytes more (r ∷ ps) h.2)
 
 -- names and bodies are the bytes from the first name on
-fields_size-at : (bytes : List ℕ) (ps : List Place) → AreInOrder (length bytes) ps → fields_size (fields_at bytes ps) + next_start ps (length bytes) ≡ length bytes
+fields_size-at : (bytes : List ℕ) (ps : List FieldPlace) → AreInOrder (length bytes) ps → fields_size (fields_at bytes ps) + next_start ps (length bytes) ≡ length bytes
 fields_size-at bytes [] h = omega arith
 fields_size-at bytes (p ∷ ps) h =
     let later = fields_size-at bytes ps h.2 in
@@ -108,28 +108,28 @@ fields_size-at bytes (p ∷ ps) h =
     omega (arith, h.0, h.1, later, name, body)
 
 -- there are no other bytes
-pub fields_size-kept : (bytes : List ℕ) (ps : List Place) → AreKept bytes ps → fields_size (fields_at bytes ps) ≡ length bytes
+pub fields_size-kept : (bytes : List ℕ) (ps : List FieldPlace) → AreKept bytes ps → fields_size (fields_at bytes ps) ≡ length bytes
 fields_size-kept bytes ps k = let size = fields_size-at bytes ps k.order in omega (arith, k.first)
 
 -- a field that was added, by what the two buffers hold
-pub record HoldsPushed (bytes name body : List ℕ) (ps : List Place) (new : List ℕ) (qs : List Place) : Type 0 where
+pub record HoldsPushed (bytes name body : List ℕ) (ps : List FieldPlace) (new : List ℕ) (qs : List FieldPlace) : Type 0 where
   pub kept : AreKept new qs
   pub fields : fields_at new qs ≡ fields_at bytes ps ++ record { name = name; body = body } ∷ []
 
-pub pushed : (bytes new name body : List ℕ) (ps qs : List Place) (start from : ℕ) → AreKept bytes ps → new ≡ bytes ++ (name ++ body)
+pub pushed : (bytes new name body : List ℕ) (ps qs : List FieldPlace) (start from : ℕ) → AreKept bytes ps → new ≡ bytes ++ (name ++ body)
     → qs ≡ ps ++ record { name = start; body = from } ∷ [] → start ≡ length bytes → from ≡ length new - length body
     → 0 < length name → fields_size (fields_at bytes ps) + (length name + length body) ≤ most_in_header → HoldsPushed bytes name body ps new qs
 pushed bytes new name body ps qs start from k e f low high some room =
     let size : length new ≡ length bytes + (length name + length body) = ap length e ∙ length-append bytes (name ++ body) ∙ ap (λ (n : ℕ). length bytes + n) (length-append name body) in
     let few : length new ≤ most_in_header = omega (arith, fields_size-kept bytes ps k) in
-    let p : Place = record { name = start; body = from } in
+    let p : FieldPlace = record { name = start; body = from } in
     record {
       kept = rw f (kept new (ps ++ p ∷ []) (AreInOrder-push (length bytes) ps p (length new) k.order low (omega arith) (omega arith)) (next_start-push (length bytes) ps p (length new) low ∙ k.first) few);
       fields = rw (e, f) (fields_at-push bytes name body ps p k.order low (omega arith));
     }
 
 -- more bytes for the last field, by what the buffers hold
-pub AreKept-more : (bytes more new : List ℕ) (ps : List Place) → AreKept bytes ps → new ≡ bytes ++ more → 0 < length ps → fields_size (fields_at bytes ps) + length more ≤ most_in_header → AreKept new ps
+pub AreKept-more : (bytes more new : List ℕ) (ps : List FieldPlace) → AreKept bytes ps → new ≡ bytes ++ more → 0 < length ps → fields_size (fields_at bytes ps) + length more ≤ most_in_header → AreKept new ps
 AreKept-more bytes more new [] k e some room = absurd (omega arith)
 AreKept-more bytes more new (p ∷ ps) k e some room =
     let size : length new ≡ length bytes + length more = ap length e ∙ length-append bytes more in

@@ -1,6 +1,7 @@
 -- The fields of a header (RFC 5322, 2.2).
 use Rattle.std.specs.Prelude.{ℕ, ◌+◌, ◌-◌, Bool, true, false, not, ◌&&◌, ◌==◌, nat_le, List, [], ◌∷◌, ◌++◌, length, Option, Some, None}
 use Rattle.header_text.specs.Blanks.{is_blank, split_while, after_blanks}
+use Rattle.header_text.specs.declared.header.TheConstants.{MOST_IN_HEADER}
 use Rattle.mbox_cutter.specs.Lines.{is_empty}
 
 -- a field's name, and all bytes after its colon, those of its continuation lines included
@@ -10,7 +11,7 @@ pub record HeaderField : Type 0 where
 
 -- the most bytes of lines that a header keeps
 abbrev pub most_in_header : ℕ
-most_in_header = 262144
+most_in_header = MOST_IN_HEADER
 
 -- the lines before the first empty line
 abbrev pub lines_before_empty : List (List ℕ) → List (List ℕ)
@@ -32,8 +33,8 @@ is_continuation [] = false
 is_continuation (b ∷ bs) = is_blank b
 
 -- 33 to 126 but for the colon
-abbrev pub is_name_byte : ℕ → Bool
-is_name_byte b = nat_le 33 b && nat_le b 126 && not (b == 0x3A)
+abbrev pub is_field_name_byte : ℕ → Bool
+is_field_name_byte b = nat_le 33 b && nat_le b 126 && not (b == 0x3A)
 
 -- a name that isn't empty, then what begins with a colon
 abbrev pub named : List ℕ → List ℕ → Option HeaderField
@@ -42,7 +43,7 @@ named name rest = None
 
 -- the field that a line begins: one or more name bytes, then any spaces and tabs, then a colon
 abbrev pub field_of_line : List ℕ → Option HeaderField
-field_of_line l = let parts = split_while is_name_byte l in named parts.0 (after_blanks parts.1)
+field_of_line l = let parts = split_while is_field_name_byte l in named parts.0 (after_blanks parts.1)
 
 -- a field, where one begins, goes on with the continuations that follow; where none begins they are skipped
 abbrev pub with_continuations : Option HeaderField → List ℕ → List HeaderField → List HeaderField

@@ -2,7 +2,7 @@
 ghost use Rattle.std.specs.Prelude.{◌≡◌, ◌+◌, ◌<◌, ◌≤◌, ◌↔◌, length, take, drop, map, IsTrue, IfSome, option_map};
 ghost use Rattle.std.specs.Char.{to_ascii_lowercase};
 ghost use Rattle.header_text.specs.Blanks.{split_while};
-ghost use Rattle.header_text.specs.Headers.{HeaderField, field_of_line, named as named_of, is_name_byte as is_name_byte_of, is_continuation as is_continuation_of};
+ghost use Rattle.header_text.specs.Headers.{HeaderField, field_of_line, named as named_of, is_field_name_byte as is_field_name_byte_of, is_continuation as is_continuation_of};
 
 use crate::blanks::after_blanks;
 
@@ -32,19 +32,19 @@ pub fn is_continuation(line: &[u8]) -> bool
 }
 
 /// Whether a name may have the byte: 33 to 126, but no colon.
-fn is_name_byte(b: u8) -> bool
-    ensures { result ≡ is_name_byte_of b }
+fn is_field_name_byte(b: u8) -> bool
+    ensures { result ≡ is_field_name_byte_of b }
 {
     matches!(b, 33..=126) && b != b':'
 }
 
 /// The bytes behind the name in front.
 fn after_name(line: &[u8]) -> &[u8]
-    ensures { result.now ≡ (split_while is_name_byte_of line.now).1 }
+    ensures { result.now ≡ (split_while is_field_name_byte_of line.now).1 }
 {
     let mut rest = line;
     while let Some((first, others)) = rest.split_first() {
-        if !is_name_byte(*first) {
+        if !is_field_name_byte(*first) {
             break;
         }
         rest = others;

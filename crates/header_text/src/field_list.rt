@@ -10,7 +10,7 @@ use std::marker::Model;
 
 /// Where a field's name and its body begin. A name ends where its body begins, and a body where the next name does.
 #[derive(Clone, Copy, Debug)]
-pub struct Place {
+pub struct FieldPlace {
     name: usize,
     body: usize,
 }
@@ -19,7 +19,7 @@ pub struct Place {
 #[derive(Drop)]
 pub struct FieldList {
     bytes: Vec<u8>,
-    places: Vec<Place>,
+    places: Vec<FieldPlace>,
 }
 
 impl Model for FieldList {
@@ -39,7 +39,7 @@ impl Model for FieldList {
 #[derive(Drop)]
 pub struct Fields<'a> {
     bytes: &'a [u8],
-    places: &'a [Place],
+    places: &'a [FieldPlace],
 }
 
 impl<'a> Model for Fields<'a> {
@@ -100,7 +100,7 @@ impl FieldList {
         let name = self.bytes.len();
         append_both(&mut self.bytes, field.name, field.body)?;
         let body = self.bytes.len() - field.body.len();
-        self.places.push(Place { name, body }).unwrap();
+        self.places.push(FieldPlace { name, body }).unwrap();
         Ok(())
     }
 
@@ -128,7 +128,7 @@ impl FieldList {
 }
 
 /// Where the next field begins, or the bytes end.
-fn next_start(places: &[Place], end: usize) -> usize
+fn next_start(places: &[FieldPlace], end: usize) -> usize
     ensures { result ≡ next_start_of places.now end }
 {
     match places {
@@ -138,7 +138,7 @@ fn next_start(places: &[Place], end: usize) -> usize
 }
 
 /// The field at a place, whose body ends there.
-fn field_at<'a>(bytes: &'a [u8], place: Place, end: usize) -> Field<'a>
+fn field_at<'a>(bytes: &'a [u8], place: FieldPlace, end: usize) -> Field<'a>
     requires name { place.name ≤ place.body }
     requires body { place.body ≤ end }
     requires within { end ≤ length bytes.now }

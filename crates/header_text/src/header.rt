@@ -104,7 +104,7 @@ impl Header {
         ensures fields { (ls : List (List ℕ)) → HasLines self.now ls → result ≡ fields_of ls }
 
         // All names and bodies together.
-        ensures bounded { fields_size result ≤ 262144 }
+        ensures bounded { fields_size result ≤ most_in_header }
     {
         self.fields.iter()
     }

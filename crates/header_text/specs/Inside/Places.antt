@@ -1,27 +1,27 @@
 -- Where fields lie in bytes that hold them one behind another.
 use Rattle.std.specs.Prelude.{◌≡◌, ℕ, ◌<◌, ◌≤◌, List, [], ◌∷◌, length, slice_range}
-use Rattle.header_text.specs.declared.field_list.Place.{Place}
+use Rattle.header_text.specs.declared.field_list.FieldPlace.{FieldPlace}
 use Rattle.header_text.specs.Headers.{HeaderField, most_in_header}
 
 -- where the next field begins, or the bytes end
-abbrev pub next_start : List Place → ℕ → ℕ
+abbrev pub next_start : List FieldPlace → ℕ → ℕ
 next_start [] end = end
 next_start (p ∷ ps) end = p.name
 
 -- a name begins, which isn't empty, then its body, then the next name, or the bytes end
-abbrev pub AreInOrder : ℕ → List Place → Type 0
+abbrev pub AreInOrder : ℕ → List FieldPlace → Type 0
 AreInOrder end [] = Unit {0}
 AreInOrder end (p ∷ ps) = (p.name < p.body) × (p.body ≤ next_start ps end) × AreInOrder end ps
 
 -- fields one behind another, from the first of the bytes to the last; of both there are no more than a header keeps bytes
-pub record AreKept (bytes : List ℕ) (places : List Place) : Type 0 where
+pub record AreKept (bytes : List ℕ) (places : List FieldPlace) : Type 0 where
   pub order : AreInOrder (length bytes) places
   pub first : next_start places (length bytes) ≡ 0
   pub few_bytes : length bytes ≤ most_in_header
   pub few_places : length places ≤ most_in_header
 
 -- the fields at these places
-abbrev pub fields_at : List ℕ → List Place → List HeaderField
+abbrev pub fields_at : List ℕ → List FieldPlace → List HeaderField
 fields_at bytes [] = []
 fields_at bytes (p ∷ ps) =
     record { name = slice_range bytes p.name p.body; body = slice_range bytes p.body (next_start ps (length bytes)) } ∷ fields_at bytes ps

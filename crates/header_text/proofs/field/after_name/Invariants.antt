@@ -1,11 +1,11 @@
 use Rattle.std.proofs.Common.{◌≡◌, length}
 use Rattle.header_text.specs.Blanks.{split_while}
-use Rattle.header_text.specs.Headers.{is_name_byte as is_name_byte_of}
+use Rattle.header_text.specs.Headers.{is_field_name_byte as is_field_name_byte_of}
 use Rattle.header_text.proofs.field.after_name.Given as goal
 
 -- what is left has the same behind its name
 abbrev pub invariant-loop-first : goal.invariant-loop-first
-invariant-loop-first l = (split_while is_name_byte_of l.rest).1 ≡ (split_while is_name_byte_of l.fn.line).1
+invariant-loop-first l = (split_while is_field_name_byte_of l.rest).1 ≡ (split_while is_field_name_byte_of l.fn.line).1
 
 abbrev pub decreases-loop-first : goal.decreases-loop-first
 decreases-loop-first l = length l.rest

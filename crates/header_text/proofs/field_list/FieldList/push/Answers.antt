@@ -1,5 +1,5 @@
 use Rattle.std.proofs.Common.{◌≡◌, ◌∙◌, ◌-◌, ◌++◌, ℕ, List, [], ◌∷◌, length, ap}
-use Rattle.header_text.specs.declared.field_list.Place.{Place}
+use Rattle.header_text.specs.declared.field_list.FieldPlace.{FieldPlace}
 use Rattle.header_text.specs.Headers.{HeaderField}
 use Rattle.header_text.proofs.PlaceLemmas.{HoldsPushed, pushed}
 use Rattle.header_text.proofs.field_list.FieldList.push.Goals as goal
@@ -7,9 +7,9 @@ use Rattle.header_text.proofs.field_list.FieldList.push.Goals.{After-unwrap}
 
 field : (c : After-unwrap) → HoldsPushed c.self.inside.bytes.items c.args.field.name.now c.args.field.body.now c.self.inside.places.items c.append_both.new.bytes.items c.push.new.self.items
 field c =
-    let p : Place = record { name = c.len-name.result; body = c.len.result - length c.args.field.body.now } in
+    let p : FieldPlace = record { name = c.len-name.result; body = c.len.result - length c.args.field.body.now } in
     let places : c.push.new.self.items ≡ c.self.inside.places.items ++ p ∷ [] =
-    rw c.unwrap.ensures at c.push.ensures.items ∙ ap (λ (ps : List Place). ps ++ p ∷ []) c.in_ok-reserve.ensures.items in
+    rw c.unwrap.ensures at c.push.ensures.items ∙ ap (λ (ps : List FieldPlace). ps ++ p ∷ []) c.in_ok-reserve.ensures.items in
     pushed c.self.inside.bytes.items c.append_both.new.bytes.items c.args.field.name.now c.args.field.body.now c.self.inside.places.items c.push.new.self.items
     p.name p.body c.self.invariant c.in_ok-append_both.ensures places (c.len-name.ensures ∙ c.self.inside.bytes.ok.0)
     (ap (λ (n : ℕ). n - length c.args.field.body.now) (c.len.ensures ∙ c.append_both.new.bytes.ok.0)) c.requires.name (rw c.self.view_is c.requires.room)
