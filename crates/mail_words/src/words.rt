@@ -74,7 +74,7 @@ impl<'a> Iterator for Words<'a> {
 
 /// A place where a plain word begins.
 #[derive(Clone, Copy)]
-struct Place<'a> {
+struct WordPlace<'a> {
     plain: &'a str,
     /// The long word that begins with it.
     long: Option<&'a str>,
@@ -83,7 +83,7 @@ struct Place<'a> {
 }
 
 /// The next place of a text where a word is kept. The text may go on with a run whose long word was looked at.
-fn next_place(text: &str, in_run: bool) -> Option<Place<'_>>
+fn next_place(text: &str, in_run: bool) -> Option<WordPlace<'_>>
     ensures { MatchOption result (words_left in_run (chars text.now) ≡ []) (λ p. words_left in_run (chars text.now) ≡ p.plain.now ∷ (option_to_list (option_copied p.long) ++ words_left true (chars p.behind.now))) }
 {
     let mut rest = text;
@@ -121,7 +121,7 @@ fn has_joiners_alone(text: &str) -> bool
 }
 
 /// What begins where a text does.
-fn place_at(text: &str, in_run: bool) -> Place<'_>
+fn place_at(text: &str, in_run: bool) -> WordPlace<'_>
     ensures plain { result.plain.now ≡ encode_utf8_all (front is_word_character (chars text.now)) }
     ensures long { option_to_list (option_copied result.long) ≡ long_at in_run (chars text.now) }
     ensures behind { result.behind.now ≡ encode_utf8_all (behind is_word_character (chars text.now)) }
@@ -131,7 +131,7 @@ fn place_at(text: &str, in_run: bool) -> Place<'_>
     let len = plain_len(text);
     let (plain, behind) = text.split_at(len);
     let long = if in_run { None } else { long_word(text, len) };
-    Place {
+    WordPlace {
         plain,
         long,
         behind,
