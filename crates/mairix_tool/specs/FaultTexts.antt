@@ -20,6 +20,10 @@ use Rattle.mairix_tool.specs.declared.fault.Fault.{Fault}
 use Rattle.mairix_tool.specs.declared.fault.Fault.TheVariants as of
 use Rattle.mairix_tool.specs.declared.fault.Fault.TheVariants.{Usage, Rc, Query, Archive, Index, OldIndex, Stale, Out, Memory, TooMany}
 
+-- want of memory in whatever layer
+abbrev pub out_of_memory : List ℕ
+out_of_memory = codes "out of memory"
+
 -- as `query item 2: bad word`
 abbrev pub numbered : List ℕ → ℕ → List ℕ → List ℕ
 numbered what number reason = what ++ 32 ∷ decimal number ++ 58 ∷ 32 ∷ reason
@@ -29,7 +33,7 @@ text_of_usage usage.Parse = codes "bad words"
 text_of_usage usage.TwoFormats = codes "-r and -x exclude each other"
 text_of_usage usage.Help = codes "help"
 text_of_usage usage.Version = codes "version"
-text_of_usage usage.OutOfMemory = codes "out of memory"
+text_of_usage usage.OutOfMemory = out_of_memory
 
 abbrev pub text_of_missing : Name → List ℕ
 text_of_missing name.Mbox = codes "rcfile: mbox missing"
@@ -43,7 +47,7 @@ text_of_rc (rcfile.Wildcard line) = numbered (codes "rcfile line") line (codes "
 text_of_rc (rcfile.Expansion line) = numbered (codes "rcfile line") line (codes "expansion not supported")
 text_of_rc (rcfile.Missing name) = text_of_missing name
 text_of_rc (rcfile.BadFormat line) = numbered (codes "rcfile line") line (codes "unknown format")
-text_of_rc rcfile.OutOfMemory = codes "out of memory"
+text_of_rc rcfile.OutOfMemory = out_of_memory
 
 abbrev pub text_of_kind : QueryFaultKind → List ℕ
 text_of_kind query.NoPattern = codes "no pattern"
@@ -58,11 +62,11 @@ text_of_kind query.BadParenthesis = codes "bad parenthesis"
 text_of_kind query.MissingTerm = codes "term missing"
 text_of_kind query.TooDeep = codes "too deep"
 text_of_kind query.Phrase = codes "phrase not supported"
-text_of_kind query.OutOfMemory = codes "out of memory"
+text_of_kind query.OutOfMemory = out_of_memory
 
 -- a pattern's number is counted from 1 and printed as it is; want of memory has none
 abbrev pub text_of_item : ℕ → QueryFaultKind → List ℕ
-text_of_item number query.OutOfMemory = codes "out of memory"
+text_of_item number query.OutOfMemory = out_of_memory
 text_of_item number kind = numbered (codes "query item") number (text_of_kind kind)
 
 abbrev pub text_of_query : QueryFault → List ℕ
@@ -99,5 +103,5 @@ text_of_fault OldIndex = codes "index: too old, build it again"
 text_of_fault (Stale number) = numbered (codes "archive") (number + 1) (codes "changed since it was indexed")
 text_of_fault of.Device = codes "archive read failed"
 text_of_fault Out = codes "output failed"
-text_of_fault Memory = codes "out of memory"
+text_of_fault Memory = out_of_memory
 text_of_fault TooMany = codes "too many messages or keys"

@@ -4,9 +4,10 @@ pub mod ArchivesIndexed
 pub mod Chosen
 pub mod MailOfArchives
 pub mod Asked
+pub mod Counts
 pub mod Replies
 pub mod Runs
 pub mod OldTables
 pub mod Altered
-pub mod IndexRuns
+pub mod Inside
 pub mod CutAgain

@@ -4,6 +4,7 @@ use Rattle.mail_words.specs.declared.kind.TextKind.TheVariants.{Name}
 use Rattle.mail_index.specs.declared.kind.Kind.TheVariants.{Text}
 use Rattle.mail_index.specs.LookUps.{is_of_kind}
 use Rattle.mail_index.specs.Tables.{Archive, Key, Table}
+use Rattle.mairix_tool.specs.declared.stored.TheConstants.{FIRST_VERSION}
 
 abbrev pub without_digest : Archive → Archive
 without_digest a = record a { digest = None }
@@ -17,4 +18,4 @@ but_digests t = record t { archives = map without_digest t.archives }
 
 -- the table without digests and names
 abbrev pub old_table : Table → Table
-old_table t = record { version = 1; archives = map without_digest t.archives; messages = t.messages; keys = keys_but_names t.keys }
+old_table t = record { version = FIRST_VERSION; archives = map without_digest t.archives; messages = t.messages; keys = keys_but_names t.keys }

@@ -1,6 +1,7 @@
 -- The reply of a run and its text, and what each reply keeps to.
 use Rattle.std.specs.Prelude.{◌≡◌, ⊤, ℕ, List, [], take, false, nat_eq, if◌then◌else◌, Option, None, Some, Result, Ok, Err}
 use Rattle.std.specs.Bool.{MatchBool}
+use Rattle.mairix_tool.specs.declared.fault.TheConstants.{DONE, NO_MESSAGE}
 use Rattle.mairix_tool.specs.declared.fault.Fault.{Fault}
 use Rattle.mairix_tool.specs.declared.fault.Fault.TheVariants.{Archive}
 use Rattle.mairix_tool.specs.declared.fault.Reply.{Reply}
@@ -17,7 +18,7 @@ pub record Answer : Type 0 where
   pub reply : Reply
 
 abbrev pub status_of_count : ℕ → ℕ
-status_of_count messages = if nat_eq messages 0 then 1 else 0
+status_of_count messages = if nat_eq messages 0 then NO_MESSAGE else DONE
 
 abbrev pub refused : Fault → Answer
 refused fault = record { text = []; reply = record { status = status_of_fault fault; messages = 0; fault = Some fault } }

@@ -20,6 +20,7 @@ use Rattle.mairix_tool.specs.declared.fault.Fault.{Fault}
 use Rattle.mairix_tool.specs.declared.fault.Fault.TheVariants as of
 use Rattle.mairix_tool.specs.declared.fault.Fault.TheVariants.{Index, OldIndex, Stale}
 use Rattle.mairix_tool.specs.declared.fault.Reply.{Reply}
+use Rattle.mairix_tool.specs.declared.stored.TheConstants.{FIRST_VERSION}
 use Rattle.index_job.specs.ArchiveRefusals.{AreSound}
 use Rattle.index_job.specs.ArchiveTables.{Mbox, table}
 use Rattle.mairix_tool.specs.ArchivesIndexed.{mboxes, Refuses, IsArchivesFault}
@@ -81,9 +82,9 @@ first_renamed n (a ∷ named) (path ∷ paths) = if bytes_eq a.path path then fi
 abbrev pub renamed_archive : List Archive → List (List ℕ) → Option ℕ
 renamed_archive named paths = if length paths == length named then first_renamed 0 named paths else Some (min (length paths) (length named))
 
--- the index is of version 1, which has neither digests of archives nor names of parts, and they are asked for
+-- the index is of the first version, which has neither digests of archives nor names of parts, and they are asked for
 abbrev pub is_too_old : Table → Wanted → Bool
-is_too_old t w = (t.version == 1) && (w.verify || uses_names w.search.query)
+is_too_old t w = (t.version == FIRST_VERSION) && (w.verify || uses_names w.search.query)
 
 abbrev pub IsOldOr : Bool → (Answer → Type 0) → Answer → Type 0
 IsOldOr true IsFound answer = answer ≡ refused OldIndex

@@ -10,13 +10,19 @@ use mairix_options::{Name, RcFault, UsageFault};
 use mbox_cutter::CutFault;
 use std::alloc::{AllocError, Global};
 
+/// What is said of a file that can't be opened, read or made, in front of its path.
+pub(crate) const CANNOT_OPEN: &str = "cannot open";
+
+/// What is said of want of memory, in whatever layer.
+pub(crate) const OUT_OF_MEMORY: &str = "out of memory";
+
 /// The text of a fault, without the program's name and a line's end. Lines of the rcfile and items of a query are counted from
 /// 1 as they are; an archive's number, which is counted from 0, is printed plus 1.
 pub fn fault_text(alloc: Global, fault: &Fault) -> Result<String, AllocError>
     ensures { IfOk result (λ text. string_bytes text ≡ text_of_fault fault.now) }
 {
     match *fault {
-        Fault::Usage(fault) => String::from_str(alloc, usage_text(fault)),
+        Fault::Usage(fault) => String::from_str(alloc, usage_fault_text(fault)),
         Fault::Rc(fault) => rc_text(alloc, fault),
         Fault::Query(fault) => query_text(alloc, fault),
         Fault::Archive { number, fault } => {
@@ -32,7 +38,7 @@ pub fn fault_text(alloc: Global, fault: &Fault) -> Result<String, AllocError>
         ),
         Fault::Device => String::from_str(alloc, "archive read failed"),
         Fault::Out => String::from_str(alloc, "output failed"),
-        Fault::Memory => String::from_str(alloc, "out of memory"),
+        Fault::Memory => String::from_str(alloc, OUT_OF_MEMORY),
         Fault::TooMany => String::from_str(alloc, "too many messages or keys"),
     }
 }
@@ -43,7 +49,7 @@ fn numbered(alloc: Global, what: &str, number: u128, reason: &str) -> Result<Str
     format!(in alloc; "{what} {number}: {reason}")
 }
 
-fn usage_text(fault: UsageFault) -> &'static str
+fn usage_fault_text(fault: UsageFault) -> &'static str
     ensures { result.now ≡ text_of_usage fault }
 {
     match fault {
@@ -51,7 +57,7 @@ fn usage_text(fault: UsageFault) -> &'static str
         UsageFault::TwoFormats => "-r and -x exclude each other",
         UsageFault::Help => "help",
         UsageFault::Version => "version",
-        UsageFault::OutOfMemory => "out of memory",
+        UsageFault::OutOfMemory => OUT_OF_MEMORY,
     }
 }
 
@@ -65,7 +71,7 @@ fn rc_text(alloc: Global, fault: RcFault) -> Result<String, AllocError>
         RcFault::Expansion(line) => line_text(alloc, line, "expansion not supported"),
         RcFault::BadFormat(line) => line_text(alloc, line, "unknown format"),
         RcFault::Missing(name) => String::from_str(alloc, missing_text(name)),
-        RcFault::OutOfMemory => String::from_str(alloc, "out of memory"),
+        RcFault::OutOfMemory => String::from_str(alloc, OUT_OF_MEMORY),
     }
 }
 
@@ -89,7 +95,7 @@ fn query_text(alloc: Global, fault: QueryFault) -> Result<String, AllocError>
     ensures { IfOk result (λ text. string_bytes text ≡ text_of_query fault) }
 {
     match fault.kind {
-        QueryFaultKind::OutOfMemory => String::from_str(alloc, "out of memory"),
+        QueryFaultKind::OutOfMemory => String::from_str(alloc, OUT_OF_MEMORY),
         kind => numbered(alloc, "query item", fault.number as u128, kind_text(kind)),
     }
 }
@@ -110,7 +116,7 @@ fn kind_text(kind: QueryFaultKind) -> &'static str
         QueryFaultKind::MissingTerm => "term missing",
         QueryFaultKind::TooDeep => "too deep",
         QueryFaultKind::Phrase => "phrase not supported",
-        QueryFaultKind::OutOfMemory => "out of memory",
+        QueryFaultKind::OutOfMemory => OUT_OF_MEMORY,
     }
 }
 

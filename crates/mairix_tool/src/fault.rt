@@ -7,6 +7,24 @@ use mbox_cutter::CutFault;
 use std::alloc::{AllocError, AllocFailed};
 use thiserror::Error;
 
+/// The exit status of a run with messages or with a new index, of help and of version.
+pub(crate) const DONE: u8 = 0;
+
+/// Of a run without a message.
+pub(crate) const NO_MESSAGE: u8 = 1;
+
+/// Where words, rcfile or query are refused.
+pub(crate) const REFUSED: u8 = 2;
+
+/// Where the index is refused, or isn't that of the archives.
+pub(crate) const WRONG_INDEX: u8 = 3;
+
+/// Where a file can't be opened, read, made or renamed, the output failed or an archive is no mbox.
+pub(crate) const FAILED: u8 = 4;
+
+/// With want of memory, too many messages or keys, or an archive that is too long.
+pub(crate) const NO_ROOM: u8 = 5;
+
 /// Why a run has no whole answer. Want of memory in any layer is `Memory`.
 #[derive(Clone, Copy, Debug, PartialEq, Eq, Error)]
 pub enum Fault {
@@ -67,7 +85,7 @@ impl Reply {
     {
         match found {
             Ok(messages) => Reply {
-                status: if messages == 0 { 1 } else { 0 },
+                status: if messages == 0 { NO_MESSAGE } else { DONE },
                 messages,
                 fault: None,
             },
@@ -89,23 +107,23 @@ impl Fault {
         ensures { result ≡ status_of_fault self }
     {
         match self {
-            Fault::Usage(UsageFault::Help | UsageFault::Version) => 0,
-            Fault::Usage(UsageFault::OutOfMemory) => 5,
-            Fault::Rc(RcFault::OutOfMemory) => 5,
+            Fault::Usage(UsageFault::Help | UsageFault::Version) => DONE,
+            Fault::Usage(UsageFault::OutOfMemory) => NO_ROOM,
+            Fault::Rc(RcFault::OutOfMemory) => NO_ROOM,
             Fault::Query(
                 QueryFault {
                     kind: QueryFaultKind::OutOfMemory,
                     ..
                 },
-            ) => 5,
-            Fault::Usage(_) | Fault::Rc(_) | Fault::Query(_) => 2,
+            ) => NO_ROOM,
+            Fault::Usage(_) | Fault::Rc(_) | Fault::Query(_) => REFUSED,
             Fault::Archive {
                 fault: CutFault::ArchiveTooLong,
                 ..
-            } => 5,
-            Fault::Archive { .. } | Fault::Device | Fault::Out => 4,
-            Fault::Index(_) | Fault::OldIndex | Fault::Stale(_) => 3,
-            Fault::Memory | Fault::TooMany => 5,
+            } => NO_ROOM,
+            Fault::Archive { .. } | Fault::Device | Fault::Out => FAILED,
+            Fault::Index(_) | Fault::OldIndex | Fault::Stale(_) => WRONG_INDEX,
+            Fault::Memory | Fault::TooMany => NO_ROOM,
         }
     }
 }

@@ -1,10 +1,11 @@
 //! Runs of mairix: what the words of a command line and an rcfile ask for.
 #![tactic(auto)]
 
+mod archives_job;
 mod explanation;
 mod fault;
-mod index_in_memory;
 mod laws;
+mod memory_file;
 mod once;
 mod program;
 mod stored;

@@ -1,20 +1,20 @@
 //! A run over archives that it indexes itself.
-ghost use Rattle.std.specs.Prelude.{◌≡◌, ◌<◌, ◌^◌, ◌-◌, ℕ, List, false, Some, Ok, length, map, All, IfOk, IfErr, IfSome, slice_index};
+ghost use Rattle.std.specs.Prelude.{◌≡◌, ◌<◌, ◌^◌, ◌-◌, ℕ, List, false, Some, Ok, length, map, All, IfOk, IfErr, IfSome};
 ghost use Rattle.std.specs.Bool.{OnTrue};
 ghost use Rattle.std.specs.Result.{MatchResult};
 ghost use Rattle.std.specs.String.{string_bytes};
 ghost use Rattle.contract_words.specs.Devices.{Counted};
-ghost use Rattle.mail_answer.specs.declared.format.Format.TheVariants.{Raw};
 ghost use Rattle.mail_index.specs.Faults.{IsFileOf};
 ghost use Rattle.mail_index.specs.Tables.{Table};
 ghost use Rattle.mairix_tool.specs.Asked.{asked_rc, asked, wanted as wanted_of};
-ghost use Rattle.mairix_tool.specs.Faults.{fault_in, is_changed_or_unread, is_failed_out, is_failed_source, is_failed_archives, is_early, is_of_indexing, IsOnceFault};
+ghost use Rattle.mairix_tool.specs.Counts.{CountsSources, KeepsRawBack};
+ghost use Rattle.mairix_tool.specs.Faults.{fault_in, is_failed_out, is_failed_archives, is_early, is_of_indexing, IsOnceFault};
 ghost use Rattle.mairix_tool.specs.Replies.{RefusesAsked, AreSoundBefore, IsConsistent};
 ghost use Rattle.mairix_tool.specs.Runs.{IsReply, IsOnceReply, RepliesBy, IsIndexed, IsUnindexed};
 
 use crate::fault::{Fault, Reply};
-use crate::index_in_memory::index_sources;
-use crate::view_answer::answer_file;
+use crate::memory_file::file_of_archives;
+use crate::view_answer::answer_bytes;
 use crate::wanted::Wanted;
 use mail_answer::Archives;
 use mail_dates::Moment;
@@ -60,8 +60,7 @@ pub fn once_run<S: Source, A: Archives, O: Out>(
         → AreSoundBefore (asked (map string_bytes words.now) rc.now now) bytes result.fault }
 
     // Each device's count rises by one exactly where its failure is answered.
-    ensures source_failed { (n : ℕ) → Counted (is_failed_source n result.fault)
-        (slice_index (map S.failures sources.old) n) (slice_index (map S.failures sources.new) n) }
+    ensures source_failed { CountsSources result.fault (map S.failures sources.old) (map S.failures sources.new) }
     ensures archives_failed { Counted (is_failed_archives result.fault) (A.failures archives.old) (A.failures archives.new) }
     ensures out_failed { Counted (is_failed_out result.fault) (O.failures out.old) (O.failures out.new) }
 
@@ -72,14 +71,14 @@ pub fn once_run<S: Source, A: Archives, O: Out>(
     // Where the archives aren't indexed nothing is searched, and nothing has gone out. Nor has it where a raw answer finds them
     // changed or can't read them.
     ensures silent { OnTrue (is_of_indexing result.fault) ((archives.new ≡ archives.old) × (out.new ≡ out.old)) }
-    ensures raw { IfOk (asked (map string_bytes words.now) rc.now now) (λ w. w.search.format ≡ Raw → OnTrue (is_changed_or_unread result.fault) (out.new ≡ out.old)) }
+    ensures raw { IfOk (asked (map string_bytes words.now) rc.now now) (λ w. KeepsRawBack w.search result.fault out.old out.new) }
 
     // Only faults that such a run has; each has its status and no messages, an answer 0 with messages and 1 without one.
     ensures kinds { IfSome result.fault IsOnceFault }
     ensures status { IsConsistent result result.fault }
 {
     match index_wanted(alloc, words, rc, sources, now) {
-        Ok(found) => Reply::of(answer_file(
+        Ok(found) => Reply::of(answer_bytes(
             alloc,
             found.file.bytes(),
             &found.wanted,
@@ -111,8 +110,7 @@ fn index_wanted<S: Source>(
     ensures formed { IfOk result (λ i. (t : Table) × IsFileOf i.file.taken t) }
     ensures known { (bytes : List (List ℕ)) → map S.rest sources.old ≡ map Some bytes
         → MatchResult result (λ i. IsIndexed (wanted_of i.wanted) bytes i.file.taken) (IsUnindexed (asked (map string_bytes words.now) rc.now now) bytes) }
-    ensures source_failed { (n : ℕ) → Counted (is_failed_source n (fault_in result))
-        (slice_index (map S.failures sources.old) n) (slice_index (map S.failures sources.new) n) }
+    ensures source_failed { CountsSources (fault_in result) (map S.failures sources.old) (map S.failures sources.new) }
     ensures archives_failed { is_failed_archives (fault_in result) ≡ false }
     ensures out_failed { is_failed_out (fault_in result) ≡ false }
     ensures asked { RefusesAsked (asked (map string_bytes words.now) rc.now now) (fault_in result) }
@@ -120,6 +118,6 @@ fn index_wanted<S: Source>(
     ensures own { IfErr result (λ fault. IsOnceFault fault) }
 {
     let wanted = Wanted::of(alloc, words, rc, now)?;
-    let file = index_sources(alloc, wanted.paths.as_slice(), sources)?;
+    let file = file_of_archives(alloc, wanted.paths.as_slice(), sources)?;
     Ok(Indexed { wanted, file })
 }

@@ -1,13 +1,13 @@
 //! The program: files in, standard output, standard error and an exit status out.
-mod index_run;
+mod new_index;
 mod output_file;
 mod read_files;
 mod search;
 mod stopped;
 
-use crate::explanation::fault_text;
-use crate::fault::Fault;
-use crate::program::index_run::run_index;
+use crate::explanation::{CANNOT_OPEN, OUT_OF_MEMORY, fault_text};
+use crate::fault::{FAILED, Fault};
+use crate::program::new_index::replace_index;
 use crate::program::search::{Search, run_search};
 use crate::program::stopped::Stopped;
 use mail_dates::Moment;
@@ -64,7 +64,7 @@ fn run_plan<R: Files<File = File>, W: Write>(
     let rc = read_rc(alloc, &text)?;
     open_each(rt, alloc, rc.paths.as_slice())?;
     if plan.patterns.as_slice().is_empty() && !plan.once {
-        return run_index(rt, alloc, rcfile, &rc);
+        return replace_index(rt, alloc, rcfile, &rc);
     }
     let index = if plan.once {
         None
@@ -124,8 +124,8 @@ fn tell_usage<W: Write, E: Write>(
 
 /// Tells of a file that can't be opened or read.
 fn tell_unopened<E: Write>(path: &str, err: &mut E) -> u8 {
-    let _ = writeln!(err, "mairix: cannot open {path}");
-    4
+    let _ = writeln!(err, "mairix: {CANNOT_OPEN} {path}");
+    FAILED
 }
 
 /// Prints a fault in one line. One whose text wants memory that isn't there is told as want of memory.
@@ -136,7 +136,7 @@ fn tell_fault<E: Write>(alloc: Global, fault: Fault, err: &mut E) -> u8 {
             fault.status()
         }
         Err(_) => {
-            let _ = err.write_all(b"mairix: out of memory\n");
+            let _ = writeln!(err, "mairix: {OUT_OF_MEMORY}");
             Fault::Memory.status()
         }
     }

@@ -3,9 +3,9 @@ ghost use Rattle.std.specs.Prelude.{◌≡◌, ◌<◌, ◌^◌, ◌-◌, ◌++�
 ghost use Rattle.std.specs.Bool.{OnTrue};
 ghost use Rattle.std.specs.String.{string_bytes};
 ghost use Rattle.contract_words.specs.Devices.{Counted};
-ghost use Rattle.mail_answer.specs.declared.format.Format.TheVariants.{Raw};
 ghost use Rattle.mail_index.specs.Faults.{IsFileOf};
 ghost use Rattle.mail_index.specs.Tables.{Table};
+ghost use Rattle.mail_index.specs.Versions.{newest};
 ghost use Rattle.mail_query.specs.Query.{uses_names};
 ghost use Rattle.index_job.specs.ArchiveRefusals.{AreSound};
 ghost use Rattle.index_job.specs.ArchiveTables.{Mbox, table};
@@ -13,7 +13,8 @@ ghost use Rattle.mairix_tool.specs.Altered.{AreToldApart, altered_archive};
 ghost use Rattle.mairix_tool.specs.ArchivesIndexed.{mboxes};
 ghost use Rattle.mairix_tool.specs.Asked.{asked, Wanted as Asked, wanted as wanted_of};
 ghost use Rattle.mairix_tool.specs.OldTables.{but_digests, old_table};
-ghost use Rattle.mairix_tool.specs.Faults.{fault_in, refusal_of, is_changed_or_unread, is_failed_out, is_failed_archives, is_of_index, IsOfAnswer, IsSearchFault};
+ghost use Rattle.mairix_tool.specs.Counts.{KeepsRawBack};
+ghost use Rattle.mairix_tool.specs.Faults.{fault_in, refusal_of, is_failed_out, is_failed_archives, is_of_index, IsOfAnswer, IsSearchFault};
 ghost use Rattle.mairix_tool.specs.Replies.{RefusesAsked, IsConsistent};
 ghost use Rattle.mairix_tool.specs.Runs.{IsReply, IsStoredReply, IsProvedAndTold, IsStaleOr, TellsProved, unproved_archive, RepliesBy, reply_of, IsRefusedAs, IsIndexRefusal, IsThisOrMemory, IsCountedWhere, is_too_old, renamed_archive};
 
@@ -92,7 +93,7 @@ pub fn search_run<A: Archives, O: Out>(
     ensures opened { IfSome result.fault (λ fault. OnTrue (is_of_index (Some fault)) (IsRefusedAs (asked (map string_bytes words.now) rc.now now) index.now fault)) }
 
     // Nothing has gone out where a raw answer finds the archives changed or can't read them.
-    ensures raw { IfOk (asked (map string_bytes words.now) rc.now now) (λ w. w.search.format ≡ Raw → OnTrue (is_changed_or_unread result.fault) (out.new ≡ out.old)) }
+    ensures raw { IfOk (asked (map string_bytes words.now) rc.now now) (λ w. KeepsRawBack w.search result.fault out.old out.new) }
 
     // Each device's count rises by one exactly where its failure is answered.
     ensures archives_failed { Counted (is_failed_archives result.fault) (A.failures archives.old) (A.failures archives.new) }
@@ -122,14 +123,14 @@ fn answer_opened<A: Archives, O: Out>(
     archives: &mut A,
     out: &mut O,
 ) -> Result<u64, Fault>
-    requires digests { found.now.wanted.verify ≡ true → found.now.view.version ≡ 2 }
+    requires digests { found.now.wanted.verify ≡ true → found.now.view.version ≡ newest }
     requires archives { A.failures archives.old < 2 ^ 64 - 1 }
     requires out { O.failures out.old < 2 ^ 64 - 1 }
     ensures told { (held : List (List ℕ)) → A.held archives.old ≡ Some held
         → RepliesBy (IsProvedAndTold (wanted_of found.now.wanted) found.now.view held) (reply_of result) (O.taken out.old) (O.taken out.new) }
     ensures counted { IsCountedWhere found.now.view (wanted_of found.now.wanted).search (A.held archives.old) (reply_of result).fault (reply_of result) (O.taken out.old) (O.taken out.new) }
     ensures own { IfErr result IsOfAnswer }
-    ensures raw { (wanted_of found.now.wanted).search.format ≡ Raw → OnTrue (is_changed_or_unread (fault_in result)) (out.new ≡ out.old) }
+    ensures raw { KeepsRawBack (wanted_of found.now.wanted).search (fault_in result) out.old out.new }
     ensures archives_failed { Counted (is_failed_archives (fault_in result)) (A.failures archives.old) (A.failures archives.new) }
     ensures out_failed { Counted (is_failed_out (fault_in result)) (O.failures out.old) (O.failures out.new) }
 {
@@ -143,7 +144,7 @@ fn prove_archives<A: Archives>(
     found: &Opened<'_>,
     archives: &mut A,
 ) -> Result<(), Fault>
-    requires digests { found.now.wanted.verify ≡ true → found.now.view.version ≡ 2 }
+    requires digests { found.now.wanted.verify ≡ true → found.now.view.version ≡ newest }
     requires archives { A.failures archives.old < 2 ^ 64 - 1 }
     ensures held { A.held archives.new ≡ A.held archives.old }
     ensures proved { IfSome (A.held archives.old) (λ held. TellsProved (unproved_archive found.now.wanted.verify found.now.view.archives held) result) }

@@ -1,12 +1,11 @@
 //! What an index answers to what is asked.
 ghost use Rattle.std.specs.Prelude.{◌≡◌, ◌<◌, ◌^◌, ◌-◌, ℕ, List, Some, IfErr};
-ghost use Rattle.std.specs.Bool.{OnTrue};
 ghost use Rattle.contract_words.specs.Devices.{Counted};
-ghost use Rattle.mail_answer.specs.declared.format.Format.TheVariants.{Raw};
 ghost use Rattle.mail_index.specs.Faults.{IsFileOf};
 ghost use Rattle.mail_index.specs.Tables.{Table};
 ghost use Rattle.mairix_tool.specs.Asked.{wanted as wanted_of};
-ghost use Rattle.mairix_tool.specs.Faults.{fault_in, is_changed_or_unread, is_failed_archives, is_failed_out, IsOfAnswer};
+ghost use Rattle.mairix_tool.specs.Counts.{KeepsRawBack};
+ghost use Rattle.mairix_tool.specs.Faults.{fault_in, is_failed_archives, is_failed_out, IsOfAnswer};
 ghost use Rattle.mairix_tool.specs.Runs.{IsTold, RepliesBy, reply_of, IsCountedWhere, fault_of_answer_kind};
 
 use crate::fault::Fault;
@@ -17,7 +16,7 @@ use mbox_cutter::Out;
 use std::alloc::Global;
 
 /// What the index file in these bytes answers.
-pub(crate) fn answer_file<A: Archives, O: Out>(
+pub(crate) fn answer_bytes<A: Archives, O: Out>(
     alloc: Global,
     bytes: &[u8],
     wanted: &Wanted,
@@ -30,7 +29,7 @@ pub(crate) fn answer_file<A: Archives, O: Out>(
     ensures told { (t : Table) (held : List (List ℕ)) → IsFileOf bytes.now t → A.held archives.old ≡ Some held
         → RepliesBy (IsTold t (wanted_of wanted.now).search held) (reply_of result) (O.taken out.old) (O.taken out.new) }
     ensures own { IfErr result IsOfAnswer }
-    ensures raw { (wanted_of wanted.now).search.format ≡ Raw → OnTrue (is_changed_or_unread (fault_in result)) (out.new ≡ out.old) }
+    ensures raw { KeepsRawBack (wanted_of wanted.now).search (fault_in result) out.old out.new }
     ensures archives_failed { Counted (is_failed_archives (fault_in result)) (A.failures archives.old) (A.failures archives.new) }
     ensures out_failed { Counted (is_failed_out (fault_in result)) (O.failures out.old) (O.failures out.new) }
 {
@@ -54,7 +53,7 @@ pub(crate) fn answer_view<A: Archives, O: Out>(
         → RepliesBy (IsTold index.now (wanted_of wanted.now).search held) (reply_of result) (O.taken out.old) (O.taken out.new) }
     ensures counted { IsCountedWhere index.now (wanted_of wanted.now).search (A.held archives.old) (reply_of result).fault (reply_of result) (O.taken out.old) (O.taken out.new) }
     ensures own { IfErr result IsOfAnswer }
-    ensures raw { (wanted_of wanted.now).search.format ≡ Raw → OnTrue (is_changed_or_unread (fault_in result)) (out.new ≡ out.old) }
+    ensures raw { KeepsRawBack (wanted_of wanted.now).search (fault_in result) out.old out.new }
     ensures archives_failed { Counted (is_failed_archives (fault_in result)) (A.failures archives.old) (A.failures archives.new) }
     ensures out_failed { Counted (is_failed_out (fault_in result)) (O.failures out.old) (O.failures out.new) }
 {

@@ -26,13 +26,13 @@ pub returns-in-Ok-clause-changed : goal.returns-in-Ok-clause-changed
 returns-in-Ok-clause-changed g c = λ bytes held known holds.
     let w : Wanted = wanted c.in-Ok.found.wanted in
     let indexed = c.in-Ok.ensures.known bytes known in
-    let told = c.answer_file.ensures.told (table (mboxes w.paths bytes)) held (subst (λ (b : List ℕ). IsFileOf b (table (mboxes w.paths bytes))) (sym c.bytes.ensures) indexed.1) holds in
-    rw (c.of.ensures, c.in-Ok.ensures.wanted) (sound-once w bytes held (reply_of c.answer_file.result) (g.O.Out.taken c.args.out.now) (g.O.Out.taken c.answer_file.new.out) indexed.0 told)
+    let told = c.answer_bytes.ensures.told (table (mboxes w.paths bytes)) held (subst (λ (b : List ℕ). IsFileOf b (table (mboxes w.paths bytes))) (sym c.bytes.ensures) indexed.1) holds in
+    rw (c.of.ensures, c.in-Ok.ensures.wanted) (sound-once w bytes held (reply_of c.answer_bytes.result) (g.O.Out.taken c.args.out.now) (g.O.Out.taken c.answer_bytes.new.out) indexed.0 told)
 
 pub returns-in-Ok-clause-reply : goal.returns-in-Ok-clause-reply
 returns-in-Ok-clause-reply g c = λ bytes known holds.
     let long = known_length g.S.Source.rest c.args.sources.now bytes known in
-    same-bytes (asked (map string_bytes c.args.words.now) c.args.rc.now c.args.now) bytes c.of.result (g.O.Out.taken c.args.out.now) (g.O.Out.taken c.answer_file.new.out)
+    same-bytes (asked (map string_bytes c.args.words.now) c.args.rc.now c.args.now) bytes c.of.result (g.O.Out.taken c.args.out.now) (g.O.Out.taken c.answer_bytes.new.out)
     (subst (λ (n : ℕ). IfOk (asked (map string_bytes c.args.words.now) c.args.rc.now c.args.now) (λ w. length w.paths ≡ n)) (sym long)
     (asked-many (map string_bytes c.args.words.now) c.args.rc.now c.args.now (length c.args.sources.now) (λ r. g.A.Archives.number c.args.archives.now ≡ length c.args.sources.now) c.requires.many))
     (returns-in-Ok-clause-changed g c bytes bytes known holds)

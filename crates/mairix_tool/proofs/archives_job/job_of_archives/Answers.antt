@@ -10,7 +10,7 @@ use Rattle.mairix_tool.specs.ArchivesIndexed.{mboxes, fault_of_job}
 use Rattle.mairix_tool.specs.Faults.{is_failed_source}
 use Rattle.index_job.specs.IndexJobs.{IsIndexOf, IsAdded, IsAddFault}
 use Rattle.mairix_tool.proofs.ArchiveLaws.ArchiveLists.{mboxes-length, next-taken, parted-here, taken-so-far, sound-more, archive-fault, others-run, here-counts}
-use Rattle.mairix_tool.proofs.index_in_memory.index_archives.Goals as goal
+use Rattle.mairix_tool.proofs.archives_job.job_of_archives.Goals as goal
 
 pub archive-requires-clause-path : goal.archive-requires-clause-path
 archive-requires-clause-path g c =

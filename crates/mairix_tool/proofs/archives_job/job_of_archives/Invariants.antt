@@ -2,7 +2,7 @@ use Rattle.std.proofs.Common.{◌≡◌, ℕ, List, map, take, drop, Some, IsSom
 use Rattle.index_job.specs.ArchiveRefusals.{AreSound}
 use Rattle.mairix_tool.specs.ArchivesIndexed.{mboxes}
 use Rattle.index_job.specs.IndexJobs.{IsIndexOf}
-use Rattle.mairix_tool.proofs.index_in_memory.index_archives.Given as goal
+use Rattle.mairix_tool.proofs.archives_job.job_of_archives.Given as goal
 
 -- the sources from this number on were not asked yet, none has failed, and the job has the archives so far, which are sound
 abbrev pub invariant-loop-number : goal.invariant-loop-number

@@ -6,7 +6,7 @@ use Rattle.mail_index.specs.Tables.{IsWellFormed}
 use Rattle.mbox_cutter.specs.Memory.{Taking}
 use Rattle.index_job.specs.ArchiveTables.{table}
 use Rattle.mairix_tool.specs.ArchivesIndexed.{mboxes}
-use Rattle.mairix_tool.proofs.index_in_memory.index_sources.Goals as goal
+use Rattle.mairix_tool.proofs.memory_file.file_of_archives.Goals as goal
 
 pub returns-in-Ok-finish-clause-known : goal.returns-in-Ok-finish-clause-known
 returns-in-Ok-finish-clause-known g c = λ archives known.

@@ -1,5 +1,5 @@
-//! The index run: archives in, an index file out.
-ghost use Rattle.std.specs.Prelude.{◌≡◌, ◌<◌, ◌^◌, ◌-◌, ℕ, List, Some, map, length, All, IfErr, slice_index};
+//! The new index that takes the place of an old one: archives in, an index file out.
+ghost use Rattle.std.specs.Prelude.{◌≡◌, ◌<◌, ◌^◌, ◌-◌, ℕ, List, Some, map, length, All, IfErr};
 ghost use Rattle.std.specs.Bool.{OnFalse};
 ghost use Rattle.std.specs.Io.KnownBytes.{Appends};
 ghost use Rattle.std.specs.Result.{MatchResult};
@@ -10,11 +10,12 @@ ghost use Rattle.mail_index.specs.Tables.{IsPath};
 ghost use Rattle.index_job.specs.ArchiveRefusals.{AreSound};
 ghost use Rattle.index_job.specs.ArchiveTables.{table};
 ghost use Rattle.mairix_tool.specs.ArchivesIndexed.{mboxes};
-ghost use Rattle.mairix_tool.specs.Faults.{fault_in, is_failed_source, is_failed_out};
-ghost use Rattle.mairix_tool.specs.IndexRuns.{IsIndexRunFault};
+ghost use Rattle.mairix_tool.specs.Counts.{CountsSources};
+ghost use Rattle.mairix_tool.specs.Faults.{fault_in, is_failed_out};
+ghost use Rattle.mairix_tool.specs.Inside.IndexRuns.{IsIndexRunFault};
 
-use crate::fault::Fault;
-use crate::index_in_memory::index_archives;
+use crate::archives_job::job_of_archives;
+use crate::fault::{DONE, Fault};
 use crate::program::output_file::{create_file, passing_name, settle_file};
 use crate::program::read_files::ReadFiles;
 use crate::program::stopped::Stopped;
@@ -29,9 +30,6 @@ use std::rt::Files;
 /// How many bytes of an index are gathered before they are written.
 const GATHERED: usize = 65_536;
 
-/// The exit status of a run that has made an index.
-const INDEXED: u8 = 0;
-
 /// Indexes the archives that the rcfile of this path names, puts the index under the name `database`, and answers status 0.
 ///
 /// The index is written to `<database>.new`, which takes the name of the old index once it is whole, and its mode; else it is
@@ -41,7 +39,7 @@ const INDEXED: u8 = 0;
 ///
 /// `CannotOpen` with nothing touched where either name leads to an archive or to the rcfile, where another run is making an index
 /// of this name, and where the new file can't be made; else the fault of an archive, of the output or of memory.
-pub(crate) fn run_index<'p, R: Files<File = File>>(
+pub(crate) fn replace_index<'p, R: Files<File = File>>(
     rt: &R,
     alloc: Global,
     rcfile: &'p str,
@@ -58,27 +56,32 @@ pub(crate) fn run_index<'p, R: Files<File = File>>(
     };
     let passing = passing_name(alloc, name)?;
     let new = create_file(rt, alloc, passing.as_str(), name, &read)?;
-    let indexed = index_into(rt, alloc, archives, new.file());
+    let indexed = fill_index_file(rt, alloc, archives, new.file());
     Ok(settle_file(new, indexed)?)
 }
 
 /// Indexes the archives from their files, one open at a time, into a file, and answers the status.
-fn index_into<R: Files>(rt: &R, alloc: Global, paths: &[String], file: &File) -> Result<u8, Fault>
+fn fill_index_file<R: Files>(
+    rt: &R,
+    alloc: Global,
+    paths: &[String],
+    file: &File,
+) -> Result<u8, Fault>
     requires { All IsPath (map string_bytes paths.now) }
 {
     let mut sources = sources_of(rt, alloc, paths)?;
     let Ok(mut writer) = BufWriter::with_capacity(alloc, GATHERED, file) else {
         return Err(Fault::Memory);
     };
-    write_index(alloc, paths, &mut sources, &mut ToWrite::new(&mut writer))?;
+    send_index(alloc, paths, &mut sources, &mut ToWrite::new(&mut writer))?;
     if writer.flush().is_err() {
         return Err(Fault::Out);
     }
-    Ok(INDEXED)
+    Ok(DONE)
 }
 
-/// Indexes the archives from their sources, and writes the index file.
-fn write_index<S: Source, O: Out>(
+/// Indexes the archives from their sources, and sends the index file to the output.
+fn send_index<S: Source, O: Out>(
     alloc: Global,
     paths: &[String],
     sources: &mut [S],
@@ -92,12 +95,11 @@ fn write_index<S: Source, O: Out>(
         → MatchResult result (λ _. AreSound (mboxes (map string_bytes paths.now) archives)
         × Appends (O.taken out.old) (O.taken out.new) (index_file (table (mboxes (map string_bytes paths.now) archives))))
         (IsIndexRunFault (mboxes (map string_bytes paths.now) archives) (O.taken out.old) (O.taken out.new)) }
-    ensures source_failed { (n : ℕ) → Counted (is_failed_source n (fault_in result))
-        (slice_index (map S.failures sources.old) n) (slice_index (map S.failures sources.new) n) }
+    ensures source_failed { CountsSources (fault_in result) (map S.failures sources.old) (map S.failures sources.new) }
     ensures out_failed { Counted (is_failed_out (fault_in result)) (O.failures out.old) (O.failures out.new) }
     ensures silent { IfErr result (λ fault. OnFalse (is_failed_out (Some fault)) (out.new ≡ out.old)) }
 {
-    let job = match index_archives(alloc, paths, sources) {
+    let job = match job_of_archives(alloc, paths, sources) {
         Ok(job) => job,
         Err(fault) => return Err(fault),
     };

@@ -1,0 +1,62 @@
+//! The job that indexes a run's archives.
+ghost use Rattle.std.specs.Prelude.{◌≡◌, ◌<◌, ◌^◌, ◌-◌, ℕ, List, Some, IsSome, false, map, length, All, IfOk, IfErr};
+ghost use Rattle.std.specs.Result.{MatchResult};
+ghost use Rattle.std.specs.String.{string_bytes};
+ghost use Rattle.mail_index.specs.Tables.{IsPath};
+ghost use Rattle.index_job.specs.ArchiveRefusals.{AreSound};
+ghost use Rattle.mairix_tool.specs.ArchivesIndexed.{mboxes, fault_of_job, IsArchivesFault};
+ghost use Rattle.index_job.specs.IndexJobs.{IsIndexOf};
+ghost use Rattle.mairix_tool.specs.Counts.{CountsSources};
+ghost use Rattle.mairix_tool.specs.Faults.{fault_in, is_failed_out, is_early, IsOfIndexing};
+
+use crate::fault::Fault;
+use index_job::{IndexJob, JobFault};
+use mbox_cutter::{CutFault, Source};
+use std::alloc::Global;
+
+/// What a run answers of a job's fault at the archive of this number.
+pub(crate) fn fault_of_job(number: u64, fault: JobFault) -> Fault
+    ensures { result ≡ fault_of_job number fault }
+{
+    match fault {
+        JobFault::Cut(fault) => Fault::Archive { number, fault },
+        JobFault::OutOfMemory => Fault::Memory,
+        JobFault::TooMany => Fault::TooMany,
+        // The file in memory fails only for want of memory.
+        JobFault::Out => Fault::Memory,
+        JobFault::Failed => Fault::Archive {
+            number,
+            fault: CutFault::Failed,
+        },
+    }
+}
+
+/// A job that has indexed the archives, one after another; or the first of them that is at fault.
+pub(crate) fn job_of_archives<S: Source>(
+    alloc: Global,
+    paths: &[String],
+    sources: &mut [S],
+) -> Result<IndexJob, Fault>
+    requires many { length paths.now ≡ length sources.old }
+    requires paths { All IsPath (map string_bytes paths.now) }
+    requires count { All (λ s. S.failures s < 2 ^ 64 - 1) sources.old }
+    ensures some { IfOk result IsSome }
+    ensures known { (archives : List (List ℕ)) → map S.rest sources.old ≡ map Some archives
+        → MatchResult result (λ job. AreSound (mboxes (map string_bytes paths.now) archives) × IsIndexOf job (mboxes (map string_bytes paths.now) archives))
+        (IsArchivesFault (mboxes (map string_bytes paths.now) archives)) }
+    ensures count { CountsSources (fault_in result) (map S.failures sources.old) (map S.failures sources.new) }
+    ensures output { is_failed_out (fault_in result) ≡ false }
+    ensures early { is_early (fault_in result) ≡ false }
+    ensures kinds { IfErr result IsOfIndexing }
+{
+    let mut job = match IndexJob::new(alloc) {
+        Ok(job) => job,
+        Err(fault) => return Err(fault_of_job(0, fault)),
+    };
+    for number in 0..sources.len() {
+        if let Err(fault) = job.archive(paths[number].as_str(), &mut sources[number]) {
+            return Err(fault_of_job(number as u64, fault));
+        }
+    }
+    Ok(job)
+}

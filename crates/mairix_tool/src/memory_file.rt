@@ -1,0 +1,45 @@
+//! The index file that a run makes in memory.
+ghost use Rattle.std.specs.Prelude.{◌≡◌, ◌<◌, ◌^◌, ◌-◌, ℕ, List, Some, false, map, length, All, IfOk, IfErr};
+ghost use Rattle.std.specs.Result.{MatchResult};
+ghost use Rattle.std.specs.String.{string_bytes};
+ghost use Rattle.mail_index.specs.Faults.{IsFileOf};
+ghost use Rattle.mail_index.specs.Tables.{Table, IsPath};
+ghost use Rattle.index_job.specs.ArchiveRefusals.{AreSound};
+ghost use Rattle.index_job.specs.ArchiveTables.{table};
+ghost use Rattle.mairix_tool.specs.ArchivesIndexed.{mboxes, IsArchivesFault};
+ghost use Rattle.mairix_tool.specs.Counts.{CountsSources};
+ghost use Rattle.mairix_tool.specs.Faults.{fault_in, is_failed_out, is_early, IsOfIndexing};
+
+use crate::archives_job::{fault_of_job, job_of_archives};
+use crate::fault::Fault;
+use mbox_cutter::{MemoryOut, Source};
+use std::alloc::Global;
+
+/// The index file of the archives, in memory; or the first of them that is at fault.
+pub(crate) fn file_of_archives<S: Source>(
+    alloc: Global,
+    paths: &[String],
+    sources: &mut [S],
+) -> Result<MemoryOut, Fault>
+    requires many { length paths.now ≡ length sources.old }
+    requires paths { All IsPath (map string_bytes paths.now) }
+    requires count { All (λ s. S.failures s < 2 ^ 64 - 1) sources.old }
+    ensures formed { IfOk result (λ file. (t : Table) × IsFileOf file.taken t) }
+    ensures known { (archives : List (List ℕ)) → map S.rest sources.old ≡ map Some archives
+        → MatchResult result (λ file. AreSound (mboxes (map string_bytes paths.now) archives) × IsFileOf file.taken (table (mboxes (map string_bytes paths.now) archives)))
+        (IsArchivesFault (mboxes (map string_bytes paths.now) archives)) }
+    ensures count { CountsSources (fault_in result) (map S.failures sources.old) (map S.failures sources.new) }
+    ensures output { is_failed_out (fault_in result) ≡ false }
+    ensures early { is_early (fault_in result) ≡ false }
+    ensures kinds { IfErr result IsOfIndexing }
+{
+    let job = match job_of_archives(alloc, paths, sources) {
+        Ok(job) => job,
+        Err(fault) => return Err(fault),
+    };
+    let mut file = MemoryOut::new(alloc, None);
+    match job.finish(&mut file) {
+        Ok(_) => Ok(file),
+        Err(fault) => Err(fault_of_job(0, fault)),
+    }
+}
