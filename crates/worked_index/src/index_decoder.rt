@@ -6,7 +6,7 @@ use std::alloc::{AllocError, AllocFailed, Global};
 use std::str;
 
 /// The table of an index file.
-#[derive(Debug, Drop)]
+#[derive(Drop)]
 pub struct Decoded {
     /// 1 or 2.
     pub version: u64,
@@ -15,7 +15,7 @@ pub struct Decoded {
     pub keys: Vec<DecodedKey>,
 }
 
-#[derive(Debug, Drop)]
+#[derive(Drop)]
 pub struct DecodedArchive {
     pub path: String,
     pub length: u64,
@@ -23,7 +23,7 @@ pub struct DecodedArchive {
     pub digest: Option<[u8; 32]>,
 }
 
-#[derive(Clone, Copy, Debug)]
+#[derive(Clone, Copy)]
 pub struct DecodedMessage {
     pub archive: u64,
     pub offset: u64,
@@ -33,7 +33,7 @@ pub struct DecodedMessage {
     pub flags: u8,
 }
 
-#[derive(Debug, Drop)]
+#[derive(Drop)]
 pub struct DecodedKey {
     /// 1 to 9.
     pub kind: u8,
@@ -42,7 +42,7 @@ pub struct DecodedKey {
 }
 
 /// Why no table was read.
-#[derive(Clone, Copy, Debug, PartialEq, Eq)]
+#[derive(Clone, Copy)]
 pub enum Refusal {
     OutOfMemory,
     Fault(IndexFault),
@@ -273,7 +273,7 @@ fn read_messages(
 }
 
 /// A key with the place of its postings.
-#[derive(Clone, Copy, Debug)]
+#[derive(Clone, Copy)]
 struct Entry<'a> {
     kind: u8,
     text: &'a [u8],

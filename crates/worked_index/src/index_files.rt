@@ -1,18 +1,15 @@
 //! Index files against answers that were worked out by hand, and the reader in place against the second decoder.
-use crate::index_decoder::{Decoded, DecodedKey, DecodedMessage, Refusal, decode};
-use mail_index::{
-    BuildFault, Builder, IndexFault, IndexView, Kind, Postings, Record, Section, Steps, is_path,
-};
+use crate::builders::{written, written_of_none};
+use crate::compared::{found, record_of};
+use crate::index_decoder::{Decoded, decode};
+use mail_index::{IndexFault, IndexView, Kind, Record, Section, Steps};
 use mail_words::{Flags, TextKind};
-use mbox_cutter::MemoryOut;
 use sha2::{Digest, Sha256};
 use std::alloc::{AllocError, Global};
-use std::process::Abort;
-use std::test::Fail;
 
 /// The index file of one archive `m.mbox` of 58 bytes, whose one message has the subject `Hello` and the text `hi`, without its
 /// digest. It is of version 1, which isn't written any more: a builder wrote it when that was the only one.
-pub const BODY: &[u8] = b"MAIRIX\r\n\
+const BODY: &[u8] = b"MAIRIX\r\n\
     \x00\x00\x00\x01\x00\x00\x00\x01\x00\x00\x00\x01\x00\x00\x00\x02\
     \x00\x00\x00\x00\x00\x00\x00\x12\x00\x00\x00\x00\x00\x00\x00\x07\x00\x00\x00\x00\x00\x00\x00\x02\
     \x00\x00\x00\x00\x00\x00\x00\x3a\x00\x00\x00\x06m.mbox\
@@ -28,7 +25,7 @@ const DIGEST: &[u8] = b"\xbe\x22\x1b\xc0\x97\xae\xcd\xe7\x1f\x26\x77\x17\xf7\x2e
     \x9d\x3c\x32\x27\x3e\xe3\x56\xa3\x4b\x24\x92\xd5\x7b\x98\xc0\xc3";
 
 /// A digest of that archive, whose bytes are each another one.
-const ARCHIVE_DIGEST: [u8; 32] = *b"\
+pub const ARCHIVE_DIGEST: [u8; 32] = *b"\
     \xe0\xe1\xe2\xe3\xe4\xe5\xe6\xe7\xe8\xe9\xea\xeb\xec\xed\xee\xef\
     \xf0\xf1\xf2\xf3\xf4\xf5\xf6\xf7\xf8\xf9\xfa\xfb\xfc\xfd\xfe\xff";
 
@@ -126,164 +123,165 @@ const THIRD: Record = Record {
     },
 };
 
-/// The kinds by their numbers, from 1.
-const KINDS: [Kind; 9] = [
-    Kind::Text(TextKind::To),
-    Kind::Text(TextKind::Cc),
-    Kind::Text(TextKind::Bcc),
-    Kind::Text(TextKind::From),
-    Kind::Text(TextKind::Subject),
-    Kind::Text(TextKind::Body),
-    Kind::OwnId,
-    Kind::LinkId,
-    Kind::Text(TextKind::Name),
+/// What a file says, in its order.
+#[derive(Clone, Copy)]
+struct Table {
+    version: u64,
+    archives: &'static [(&'static str, u64, Option<[u8; 32]>)],
+    messages: &'static [Record],
+    keys: &'static [(u8, &'static str, &'static [u32])],
+}
+
+/// Bodies, their digests as far as they are known from outside, the bytes of their files, and what they say.
+const TABLES: [(&[u8], &[u8], usize, Table); 3] = [
+    (
+        BODY,
+        DIGEST,
+        SIZE,
+        Table {
+            version: 1,
+            archives: &[("m.mbox", 58, None)],
+            messages: &[ONLY],
+            keys: &[(5, "hello", &[0]), (6, "hi", &[0])],
+        },
+    ),
+    (
+        NEW_BODY,
+        NEW_DIGEST,
+        227,
+        Table {
+            version: 2,
+            archives: &[("m.mbox", 58, Some(ARCHIVE_DIGEST))],
+            messages: &[ONLY],
+            keys: &[(5, "hello", &[0]), (6, "hi", &[0])],
+        },
+    ),
+    (
+        BODY_OF_TWO,
+        b"",
+        445,
+        Table {
+            version: 1,
+            archives: &[("a.mbox", 200, None), ("b/\u{fc}.mbox", 37, None)],
+            messages: &[FIRST, SECOND, THIRD],
+            keys: &[
+                (1, "bob", &[2]),
+                (2, "ann", &[2]),
+                (4, "ann", &[0]),
+                (6, "hi", &[0, 1, 2]),
+                (6, "hiya", &[1]),
+                (7, "1@x.org", &[0]),
+                (8, "1@x.org", &[1]),
+            ],
+        },
+    ),
 ];
+
+const NOTHING: Table = Table {
+    version: 2,
+    archives: &[],
+    messages: &[],
+    keys: &[],
+};
 
 /// Each bit of a byte.
 const BITS: [u8; 8] = [1, 2, 4, 8, 16, 32, 64, 128];
 
 /// These bytes with their digest.
-pub fn signed(alloc: Global, body: &[u8]) -> Result<Vec<u8>, AllocError> {
-    let mut file = body.to_vec(alloc)?;
-    file.extend_from_slice(&Sha256::digest(body))?;
-    Ok(file)
+fn signed(alloc: Global, body: &[u8]) -> Option<Vec<u8>> {
+    let mut file = body.to_vec(alloc).ok()?;
+    file.extend_from_slice(&Sha256::digest(body)).ok()?;
+    Some(file)
 }
 
 /// The bytes with those from a place on put in place of as many others.
-fn with_bytes_at(
-    alloc: Global,
-    bytes: &[u8],
-    at: usize,
-    new: &[u8],
-) -> Result<Vec<u8>, AllocError> {
-    let mut changed = Vec::new(alloc);
-    for (i, byte) in bytes.iter().enumerate() {
-        let put = i.checked_sub(at).and_then(|k| new.get(k)).unwrap_or(byte);
-        changed.push(*put)?;
+fn with_put(alloc: Global, bytes: &[u8], at: usize, new: &[u8]) -> Option<Vec<u8>> {
+    let mut changed = bytes.to_vec(alloc).ok()?;
+    for (byte, new) in changed.iter_mut().skip(at).zip(new) {
+        *byte = *new;
     }
-    Ok(changed)
+    Some(changed)
 }
 
 /// The bytes with the bits of a mask turned in one of them.
-fn with_turned(alloc: Global, bytes: &[u8], at: usize, mask: u8) -> Result<Vec<u8>, AllocError> {
-    let mut changed = bytes.to_vec(alloc)?;
-    if let Some(byte) = changed.get_mut(at) {
-        *byte ^= mask;
-    }
-    Ok(changed)
+fn with_turned(alloc: Global, bytes: &[u8], at: usize, mask: u8) -> Option<Vec<u8>> {
+    let mut changed = bytes.to_vec(alloc).ok()?;
+    *changed.get_mut(at)? ^= mask;
+    Some(changed)
 }
 
-fn record_of(message: &DecodedMessage) -> Option<Record> {
-    Some(Record {
-        archive: u32::try_from(message.archive).ok()?,
-        offset: message.offset,
-        length: message.length,
-        size: message.size,
-        date: message.date,
-        flags: Flags {
-            seen: message.flags % 2 == 1,
-            replied: message.flags / 2 % 2 == 1,
-            flagged: message.flags / 4 == 1,
-        },
-    })
+/// Whether a decoded file says this.
+fn says(decoded: &Decoded, table: &Table) -> bool {
+    let mut same = decoded.version == table.version
+        && decoded.archives.len() == table.archives.len()
+        && decoded.messages.len() == table.messages.len()
+        && decoded.keys.len() == table.keys.len();
+    for (archive, (path, length, digest)) in decoded.archives.iter().zip(table.archives) {
+        same = archive.path.as_str() == *path
+            && archive.length == *length
+            && archive.digest == *digest
+            && same;
+    }
+    for (message, record) in decoded.messages.iter().zip(table.messages) {
+        same = record_of(message) == Some(*record) && same;
+    }
+    for (key, (kind, text, numbers)) in decoded.keys.iter().zip(table.keys) {
+        same = key.kind == *kind
+            && key.text.as_slice() == text.as_bytes()
+            && key.numbers.as_slice() == *numbers
+            && same;
+    }
+    same
 }
 
-fn check_numbers(rt: &impl Abort, mut postings: Postings<'_>, numbers: &[u32]) {
-    let mut steps = Steps::new();
-    for number in numbers {
-        assert_eq!(rt; postings.next(&mut steps), Some(*number));
-    }
-    assert_eq!(rt; postings.next(&mut steps), None);
-    assert_eq!(rt; steps.count(), numbers.len() as u64);
+/// Whether both readers find this table in a file. It is None where memory is wanting, and so are the answers below.
+fn is_file_of(alloc: Global, file: &[u8], table: &Table) -> Option<bool> {
+    let found = found(alloc, file)?;
+    let decoded = decode(alloc, file).ok()?;
+    Some(found == Ok(()) && says(&decoded, table))
 }
 
-/// Compares the keys of the kind with this number.
-fn check_keys(
-    rt: &impl Abort,
-    view: &IndexView<'_>,
-    number: u8,
-    kind: Kind,
-    decoded: &[DecodedKey],
-) {
-    let mut keys = view.keys(kind);
-    for key in decoded.iter().filter(|key| key.kind == number) {
-        match keys.next() {
-            Some(found) => {
-                assert_eq!(rt; found.text, key.text.as_slice());
-                check_numbers(rt, found.postings, &key.numbers);
-            }
-            None => panic!(rt; "no key {key:?}"),
-        }
-        check_numbers(
-            rt,
-            view.look_up(kind, &key.text, &mut Steps::new()),
-            &key.numbers,
-        );
-    }
-    assert!(rt; keys.next().is_none());
+/// Whether the file of a body has such an end, so many bytes, and this table.
+fn is_body_of(alloc: Global, body: &[u8], end: &[u8], size: usize, table: &Table) -> Option<bool> {
+    let file = signed(alloc, body)?;
+    let has_end = file.as_slice().ends_with(end) && file.len() == size;
+    Some(has_end && is_file_of(alloc, &file, table)?)
 }
 
-fn check_table(rt: &impl Abort, view: &IndexView<'_>, decoded: &Decoded) {
-    assert_eq!(rt; u64::from(view.version()), decoded.version);
-    assert_eq!(rt; view.archive_count() as usize, decoded.archives.len());
-    for n in 0..view.archive_count() {
-        let archive = view.archive(n);
-        let other = decoded.archives.get(n as usize);
-        assert_eq!(rt; other.map(|other| other.path.as_str()), Some(archive.path));
-        assert_eq!(rt; other.map(|other| other.length), Some(archive.length));
-        assert_eq!(rt; other.map(|other| other.digest), Some(archive.digest));
-    }
-    assert_eq!(rt; view.message_count() as usize, decoded.messages.len());
-    for n in 0..view.message_count() {
-        let other = decoded.messages.get(n as usize).and_then(record_of);
-        assert_eq!(rt; other, Some(view.message(n)));
-    }
-    let mut number = 0u8;
-    for kind in KINDS {
-        number = number.wrapping_add(1);
-        check_keys(rt, view, number, kind, &decoded.keys);
+#[test]
+fn tables_are_read(rt: HostRuntime) {
+    for (body, end, size, table) in TABLES {
+        let as_wanted = is_body_of(rt.alloc(), body, end, size, &table);
+        assert!(rt; as_wanted == Some(true), "{size} bytes");
     }
 }
 
-/// Opens the bytes and decodes them. Both find the same table, or the same fault, which is given back.
-fn fault_of(rt: &impl Abort, alloc: Global, bytes: &[u8]) -> Result<Option<IndexFault>, Refusal> {
-    match (IndexView::open(bytes), decode(alloc, bytes)) {
-        (Ok(view), Ok(decoded)) => {
-            check_table(rt, &view, &decoded);
-            Ok(None)
-        }
-        (Err(fault), Err(Refusal::Fault(other))) => {
-            assert_eq!(rt; fault, other);
-            Ok(Some(fault))
-        }
-        (_, Err(Refusal::OutOfMemory)) => Err(Refusal::OutOfMemory),
-        (Ok(_), Err(refusal)) => panic!(rt; "opened, but refused: {refusal:?}"),
-        (Err(fault), Ok(_)) => panic!(rt; "decoded, but refused: {fault:?}"),
+/// Whether a builder writes the file of [`NEW_BODY`] and that of nothing.
+fn are_written(alloc: Global) -> Option<bool> {
+    let none = written_of_none(alloc)?;
+    let as_wanted = written(alloc)? == signed(alloc, NEW_BODY)?;
+    let finds_none = finds(&none, TextKind::Body, "hi", 1, None)?;
+    Some(as_wanted && finds_none && is_file_of(alloc, &none, &NOTHING)?)
+}
+
+#[test]
+fn files_are_written(rt: HostRuntime) {
+    assert!(rt; are_written(rt.alloc()) == Some(true));
+}
+
+/// Whether the file of [`NEW_BODY`] with another digest of its archive tells it.
+fn is_told(alloc: Global, digest: [u8; 32]) -> Option<bool> {
+    let file = signed(alloc, &with_put(alloc, NEW_BODY, 66, &digest)?)?;
+    let found = found(alloc, &file)?;
+    let view = IndexView::open(&file).ok()?;
+    Some(found == Ok(()) && view.archive_count() == 1 && view.archive(0).digest == Some(digest))
+}
+
+#[test]
+fn the_digests_of_archives_are_told(rt: HostRuntime) {
+    for digest in [ARCHIVE_DIGEST, [0; 32], [0xff; 32]] {
+        assert!(rt; is_told(rt.alloc(), digest) == Some(true), "{digest:?}");
     }
-}
-
-/// What a builder writes that is given the archive of `NEW_BODY`.
-fn written(rt: &impl Abort, alloc: Global) -> Result<Vec<u8>, Fail> {
-    let path = "m.mbox";
-    assert!(rt; is_path(path));
-    let mut builder = Builder::new(alloc, 2);
-    builder.begin_archive(path)?;
-    builder.begin_message()?;
-    builder.add(Kind::Text(TextKind::Body), b"hi")?;
-    builder.add(Kind::Text(TextKind::Subject), b"hello")?;
-    builder.add(Kind::Text(TextKind::Body), b"hi")?;
-    builder.end_message(ONLY)?;
-    builder.end_archive(58, ARCHIVE_DIGEST)?;
-    let mut out = MemoryOut::new(alloc, None);
-    assert_eq!(rt; builder.write(&mut out), Ok(227));
-    Ok(out.bytes().to_vec(alloc)?)
-}
-
-/// The file of the table with nothing in it.
-fn written_of_none(rt: &impl Abort, alloc: Global) -> Result<Vec<u8>, Fail> {
-    let mut out = MemoryOut::new(alloc, None);
-    assert_eq!(rt; Builder::new(alloc, 0).write(&mut out), Ok(80));
-    Ok(out.bytes().to_vec(alloc)?)
 }
 
 /// The file, without its digest, of an archive with 130 messages of a byte each, of which the first and the last have a word.
@@ -304,372 +302,286 @@ fn body_of_many(alloc: Global) -> Result<Vec<u8>, AllocError> {
     Ok(body)
 }
 
-/// Checks what a decoded file has, in its order.
-fn check_decoded(
-    rt: &impl Abort,
-    decoded: &Decoded,
-    archives: &[(&str, u64, Option<[u8; 32]>)],
-    messages: &[Record],
-    keys: &[(u8, &str, &[u32])],
-) {
-    assert_eq!(rt; decoded.archives.len(), archives.len());
-    for (archive, (path, length, digest)) in decoded.archives.iter().zip(archives) {
-        assert_eq!(rt; archive.path.as_str(), *path);
-        assert_eq!(rt; archive.length, *length);
-        assert_eq!(rt; archive.digest, *digest);
-    }
-    assert_eq!(rt; decoded.messages.len(), messages.len());
-    for (message, record) in decoded.messages.iter().zip(messages) {
-        assert_eq!(rt; record_of(message), Some(*record));
-    }
-    assert_eq!(rt; decoded.keys.len(), keys.len());
-    for (key, (kind, text, numbers)) in decoded.keys.iter().zip(keys) {
-        assert_eq!(rt; key.kind, *kind);
-        assert_eq!(rt; key.text.as_slice(), text.as_bytes());
-        assert_eq!(rt; key.numbers.as_slice(), *numbers);
-    }
-}
-
-/// Looks up `hello` in subjects, which the one message has.
-fn check_hello(rt: &impl Abort, view: &IndexView<'_>) {
-    let kind = Kind::Text(TextKind::Subject);
-    check_numbers(rt, view.look_up(kind, b"hello", &mut Steps::new()), &[0]);
-}
-
-#[test]
-fn a_file_of_version_1_is_read(rt: HostRuntime) -> Result<(), Fail> {
-    let alloc = rt.alloc();
-    let mut file = BODY.to_vec(alloc)?;
-    file.extend_from_slice(DIGEST)?;
-    assert_eq!(rt; file.len(), 195);
-    assert_eq!(rt; fault_of(&rt, alloc, &file)?, None);
-    let view = IndexView::open(&file)?;
-    assert_eq!(rt; view.version(), 1);
-    check_hello(&rt, &view);
-    Ok(())
-}
-
-#[test]
-fn the_file_of_one_message_is_read(rt: HostRuntime) -> Result<(), Fail> {
-    let alloc = rt.alloc();
-    let file = written(&rt, alloc)?;
-    assert_eq!(rt; file.as_slice(), signed(alloc, NEW_BODY)?.as_slice());
-    assert!(rt; file.as_slice().ends_with(NEW_DIGEST));
-    let view = IndexView::open(&file)?;
-    assert_eq!(rt; view.version(), 2);
-    check_hello(&rt, &view);
-    assert_eq!(rt; fault_of(&rt, alloc, &file)?, None);
-    let keys = [(5, "hello", [0].as_slice()), (6, "hi", [0].as_slice())];
-    check_decoded(
-        &rt,
-        &decode(alloc, &file)?,
-        &[("m.mbox", 58, Some(ARCHIVE_DIGEST))],
-        &[ONLY],
-        &keys,
-    );
-    Ok(())
-}
-
-#[test]
-fn the_digests_of_archives_are_told(rt: HostRuntime) -> Result<(), Fail> {
-    let alloc = rt.alloc();
-    for digest in [ARCHIVE_DIGEST, [0; 32], [0xff; 32]] {
-        let body = with_bytes_at(alloc, NEW_BODY, 66, &digest)?;
-        let file = signed(alloc, &body)?;
-        let view = IndexView::open(&file)?;
-        assert_eq!(rt; view.archive_count(), 1);
-        assert_eq!(rt; view.archive(0).digest, Some(digest));
-        assert_eq!(rt; fault_of(&rt, alloc, &file)?, None);
-    }
-    Ok(())
-}
-
-#[test]
-fn the_file_of_two_archives_is_read(rt: HostRuntime) -> Result<(), Fail> {
-    let alloc = rt.alloc();
-    let file = signed(alloc, BODY_OF_TWO)?;
-    assert_eq!(rt; fault_of(&rt, alloc, &file)?, None);
-    let archives = [("a.mbox", 200, None), ("b/\u{fc}.mbox", 37, None)];
-    let keys = [
-        (1, "bob", [2].as_slice()),
-        (2, "ann", [2].as_slice()),
-        (4, "ann", [0].as_slice()),
-        (6, "hi", [0, 1, 2].as_slice()),
-        (6, "hiya", [1].as_slice()),
-        (7, "1@x.org", [0].as_slice()),
-        (8, "1@x.org", [1].as_slice()),
-    ];
-    check_decoded(
-        &rt,
-        &decode(alloc, &file)?,
-        &archives,
-        &[FIRST, SECOND, THIRD],
-        &keys,
-    );
-    Ok(())
-}
-
-#[test]
-fn long_differences_are_read(rt: HostRuntime) -> Result<(), Fail> {
-    let alloc = rt.alloc();
-    let body = body_of_many(alloc)?;
+/// Whether a long difference is read, and both readers find the same where a bit of its list is turned.
+fn is_long_difference_read(alloc: Global) -> Option<bool> {
+    let body = body_of_many(alloc).ok()?;
     let file = signed(alloc, &body)?;
-    assert_eq!(rt; fault_of(&rt, alloc, &file)?, None);
-    let decoded = decode(alloc, &file)?;
-    assert_eq!(rt; decoded.messages.len(), 130);
-    assert_eq!(rt; decoded.keys.len(), 1);
-    for key in &decoded.keys {
-        assert_eq!(rt; key.numbers.as_slice(), [0, 129].as_slice());
-    }
+    let decoded = decode(alloc, &file).ok()?;
+    let as_wanted = found(alloc, &file)? == Ok(())
+        && decoded.messages.len() == 130
+        && decoded.keys.len() == 1
+        && decoded
+            .keys
+            .iter()
+            .all(|key| key.numbers.as_slice() == [0, 129].as_slice());
     for at in body.len().saturating_sub(4)..body.len() {
         for mask in BITS {
             let changed = with_turned(alloc, &body, at, mask)?;
-            let _ = fault_of(&rt, alloc, &signed(alloc, &changed)?)?;
+            let _ = found(alloc, &signed(alloc, &changed)?)?;
         }
     }
-    Ok(())
+    Some(as_wanted)
 }
 
 #[test]
-fn a_file_of_nothing_is_read(rt: HostRuntime) -> Result<(), Fail> {
-    let alloc = rt.alloc();
-    let file = written_of_none(&rt, alloc)?;
-    assert_eq!(rt; fault_of(&rt, alloc, &file)?, None);
-    check_decoded(&rt, &decode(alloc, &file)?, &[], &[], &[]);
-    let view = IndexView::open(&file)?;
-    let mut steps = Steps::new();
-    let mut postings = view.look_up(Kind::Text(TextKind::Body), b"hi", &mut steps);
-    assert_eq!(rt; postings.next(&mut Steps::new()), None);
-    assert!(rt; steps.count() <= 1);
-    Ok(())
+fn long_differences_are_read(rt: HostRuntime) {
+    assert!(rt; is_long_difference_read(rt.alloc()) == Some(true));
+}
+
+/// The two entries of the directory, exchanged.
+const EXCHANGED: &[u8] = b"\x06\0\0\0\0\0\0\x02\0\0\0\0\0\0\0\x05\0\0\0\0\0\0\0\x01\
+    \x05\0\0\0\0\0\0\x05\0\0\0\0\0\0\0\0\0\0\0\0\0\0\0\0";
+
+/// A body, bytes that are put into it from a place on in place of as many others, and bytes behind it.
+type Change = (
+    &'static [u8],
+    &'static [(usize, &'static [u8])],
+    &'static [u8],
+);
+
+/// What is found of changed bodies, each with its own digest.
+const CHANGED_BODIES: [(&str, Change, Result<(), IndexFault>); 11] = [
+    (
+        "version 9",
+        (BODY, &[(11, b"\x09")], b""),
+        Err(IndexFault::BadVersion),
+    ),
+    (
+        "keys exchanged",
+        (BODY, &[(106, EXCHANGED)], b""),
+        Err(IndexFault::BadLayout(Section::Directory)),
+    ),
+    (
+        "a difference of 0",
+        (BODY, &[(161, b"\0\x01")], b""),
+        Err(IndexFault::BadLayout(Section::Postings)),
+    ),
+    (
+        "a message that there isn't",
+        (BODY, &[(161, b"\x01\x02")], b""),
+        Err(IndexFault::BadLayout(Section::Postings)),
+    ),
+    (
+        "a byte behind",
+        (BODY, &[], b"\0"),
+        Err(IndexFault::BadLayout(Section::Counts)),
+    ),
+    (
+        "a difference that isn't in its shortest form",
+        (BODY, &[(47, b"\x03"), (161, b"\x01\x81")], b"\0"),
+        Err(IndexFault::BadLayout(Section::Postings)),
+    ),
+    (
+        "version 3",
+        (NEW_BODY, &[(11, b"\x03")], b""),
+        Err(IndexFault::BadVersion),
+    ),
+    (
+        "the entries of version 2 in version 1",
+        (NEW_BODY, &[(11, b"\x01")], b""),
+        Err(IndexFault::BadLayout(Section::Archives)),
+    ),
+    (
+        "kind 10",
+        (NEW_BODY, &[(162, b"\x0a")], b""),
+        Err(IndexFault::BadLayout(Section::Directory)),
+    ),
+    (
+        "a name in version 1",
+        (BODY, &[(130, b"\x09")], b""),
+        Err(IndexFault::BadLayout(Section::Directory)),
+    ),
+    ("a name in version 2", NAME_IN_NEW, Ok(())),
+];
+
+/// The second key, whose kind is Body, made one of Name.
+const NAME_IN_NEW: Change = (NEW_BODY, &[(162, b"\x09")], b"");
+
+/// The file of a changed body with its own digest.
+fn changed(alloc: Global, (body, puts, behind): Change) -> Option<Vec<u8>> {
+    let mut changed = body.to_vec(alloc).ok()?;
+    for (at, new) in puts {
+        changed = with_put(alloc, &changed, *at, new)?;
+    }
+    changed.extend_from_slice(behind).ok()?;
+    signed(alloc, &changed)
+}
+
+/// What is found of the file of a changed body.
+fn found_of_change(alloc: Global, change: Change) -> Option<Result<(), IndexFault>> {
+    found(alloc, &changed(alloc, change)?)
 }
 
 #[test]
-fn look_ups_take_few_steps(rt: HostRuntime) -> Result<(), Fail> {
-    let alloc = rt.alloc();
+fn changed_bodies_are_refused(rt: HostRuntime) {
+    for (name, change, wanted) in CHANGED_BODIES {
+        let found = found_of_change(rt.alloc(), change);
+        assert!(rt; found == Some(wanted), "{name}");
+    }
+}
+
+/// Bytes that are put into the file of [`BODY`] under the digest that it had, and what is found.
+const CHANGED_FILES: [(usize, &[u8], IndexFault); 3] = [
+    (0, b"m", IndexFault::BadMagic),
+    (11, b"\x09", IndexFault::BadVersion),
+    (60, b"l", IndexFault::BadDigest),
+];
+
+/// What is found where bytes are put into the file of [`BODY`].
+fn found_with_put(alloc: Global, at: usize, new: &[u8]) -> Option<Result<(), IndexFault>> {
     let file = signed(alloc, BODY)?;
-    let view = IndexView::open(&file)?;
-    for (kind, text, number) in [
-        (TextKind::Subject, "hello", Some(0)),
-        (TextKind::Body, "hi", Some(0)),
-        (TextKind::Body, "hello", None),
-        (TextKind::Subject, "hi", None),
-        (TextKind::To, "hello", None),
-    ] {
-        let mut steps = Steps::new();
-        let mut postings = view.look_up(Kind::Text(kind), text.as_bytes(), &mut steps);
-        assert!(rt; steps.count() <= 3);
-        assert_eq!(rt; postings.next(&mut steps), number, "{text}");
-        assert_eq!(rt; postings.next(&mut steps), None);
-    }
-    Ok(())
+    found(alloc, &with_put(alloc, &file, at, new)?)
 }
 
 #[test]
-fn changed_files_are_refused(rt: HostRuntime) -> Result<(), Fail> {
-    let alloc = rt.alloc();
+fn changed_files_are_refused(rt: HostRuntime) {
+    for (at, new, fault) in CHANGED_FILES {
+        let found = found_with_put(rt.alloc(), at, new);
+        assert!(rt; found == Some(Err(fault)), "at {at}");
+    }
+}
+
+/// What is found where bits of a byte of the file of [`BODY`] are turned.
+fn found_with_turned(alloc: Global, at: usize, mask: u8) -> Option<Result<(), IndexFault>> {
     let file = signed(alloc, BODY)?;
-    for (at, new, fault) in [
-        (0, b"m".as_slice(), IndexFault::BadMagic),
-        (11, b"\x09", IndexFault::BadVersion),
-        (60, b"l", IndexFault::BadDigest),
-    ] {
-        let changed = with_bytes_at(alloc, &file, at, new)?;
-        assert_eq!(rt; fault_of(&rt, alloc, &changed)?, Some(fault));
-    }
-    Ok(())
+    found(alloc, &with_turned(alloc, &file, at, mask)?)
 }
 
-#[test]
-fn changed_bodies_are_refused(rt: HostRuntime) -> Result<(), Fail> {
-    let alloc = rt.alloc();
-    let exchanged = b"\x06\0\0\0\0\0\0\x02\0\0\0\0\0\0\0\x05\0\0\0\0\0\0\0\x01\
-        \x05\0\0\0\0\0\0\x05\0\0\0\0\0\0\0\0\0\0\0\0\0\0\0\0";
-    for (at, new, behind, fault) in [
-        (
-            11,
-            b"\x09".as_slice(),
-            b"".as_slice(),
-            IndexFault::BadVersion,
-        ),
-        (
-            106,
-            exchanged,
-            b"",
-            IndexFault::BadLayout(Section::Directory),
-        ),
-        (
-            161,
-            b"\0\x01",
-            b"",
-            IndexFault::BadLayout(Section::Postings),
-        ),
-        (
-            161,
-            b"\x01\x02",
-            b"",
-            IndexFault::BadLayout(Section::Postings),
-        ),
-        (0, b"", b"\0", IndexFault::BadLayout(Section::Counts)),
-    ] {
-        let mut changed = with_bytes_at(alloc, BODY, at, new)?;
-        changed.extend_from_slice(behind)?;
-        let file = signed(alloc, &changed)?;
-        assert_eq!(rt; fault_of(&rt, alloc, &file)?, Some(fault), "at {at}");
-    }
-    for (at, new, fault) in [
-        // Another version, and the same entries in the other version.
-        (11, b"\x03".as_slice(), IndexFault::BadVersion),
-        (11, b"\x01", IndexFault::BadLayout(Section::Archives)),
-        // Kind 10.
-        (162, b"\x0a", IndexFault::BadLayout(Section::Directory)),
-    ] {
-        let changed = with_bytes_at(alloc, NEW_BODY, at, new)?;
-        let file = signed(alloc, &changed)?;
-        assert_eq!(rt; fault_of(&rt, alloc, &file)?, Some(fault), "at {at}");
-    }
-    let mut longer = with_bytes_at(alloc, BODY, 47, b"\x03")?;
-    longer.truncate(161);
-    longer.extend_from_slice(b"\x01\x81\0")?;
-    let fault = IndexFault::BadLayout(Section::Postings);
-    assert_eq!(rt;
-        fault_of(&rt, alloc, &signed(alloc, &longer)?)?,
-        Some(fault)
-    );
-    Ok(())
-}
+/// The bytes of the file of [`BODY`].
+const SIZE: usize = 195;
 
 #[test]
-fn a_turned_bit_is_refused(rt: HostRuntime) -> Result<(), Fail> {
-    let alloc = rt.alloc();
-    let file = signed(alloc, BODY)?;
-    for at in 0..file.len() {
+fn a_turned_bit_is_refused(rt: HostRuntime) {
+    for at in 0..SIZE {
         let fault = match at {
             0..8 => IndexFault::BadMagic,
             8..12 => IndexFault::BadVersion,
             _ => IndexFault::BadDigest,
         };
         for mask in BITS {
-            let changed = with_turned(alloc, &file, at, mask)?;
-            assert_eq!(rt;
-                fault_of(&rt, alloc, &changed)?,
-                Some(fault),
-                "{mask} at {at}"
-            );
+            let found = found_with_turned(rt.alloc(), at, mask);
+            assert!(rt; found == Some(Err(fault)), "{mask} at {at}");
         }
     }
-    Ok(())
+}
+
+/// What is found of so many bytes of the file of [`BODY`], without its last one at least.
+fn found_of_front(alloc: Global, size: usize) -> Option<Result<(), IndexFault>> {
+    let file = signed(alloc, BODY)?;
+    let (_, all_but_last) = file.as_slice().split_last()?;
+    found(alloc, all_but_last.get(..size)?)
 }
 
 #[test]
-fn a_front_is_refused(rt: HostRuntime) -> Result<(), Fail> {
-    let alloc = rt.alloc();
-    let file = signed(alloc, BODY)?;
-    for size in 0..file.len() {
+fn a_front_is_refused(rt: HostRuntime) {
+    for size in 0..SIZE {
         let fault = if size < 80 {
             IndexFault::TooShort
         } else {
             IndexFault::BadDigest
         };
-        assert_eq!(rt;
-            fault_of(&rt, alloc, &file[..size])?,
-            Some(fault),
-            "{size} bytes"
-        );
+        let found = found_of_front(rt.alloc(), size);
+        assert!(rt; found == Some(Err(fault)), "{size} bytes");
     }
-    Ok(())
 }
 
-/// What is found wrong with each body that has one bit turned, under its own digest.
-fn faults_of_turned_bits(
-    rt: &impl Abort,
-    alloc: Global,
-    body: &[u8],
-) -> Result<Vec<Option<IndexFault>>, Refusal> {
-    let mut faults = Vec::new(alloc);
+/// What is found of a file with one bit turned in its body, as tallies count it.
+const OUTCOMES: [Result<(), IndexFault>; 8] = [
+    Ok(()),
+    Err(IndexFault::BadMagic),
+    Err(IndexFault::BadVersion),
+    Err(IndexFault::BadLayout(Section::Counts)),
+    Err(IndexFault::BadLayout(Section::Archives)),
+    Err(IndexFault::BadLayout(Section::Records)),
+    Err(IndexFault::BadLayout(Section::Directory)),
+    Err(IndexFault::BadLayout(Section::Postings)),
+];
+
+/// Bytes that are put into a body, and how often each outcome is found where one of its bits is turned, under a right digest.
+///
+/// The counts of one message were made by hand, section by section. In version 2 an archive's digest may have any bits. One fault
+/// more, in the postings and in the archive's name, shows that the first one counts, and few bits mend it. The counts of two
+/// archives come from a third reading of the format, in another language.
+const TALLIES: [(&[u8], usize, &[u8], [usize; 8]); 5] = [
+    (BODY, 0, b"", [151, 64, 32, 256, 94, 310, 381, 16]),
+    (NEW_BODY, 0, b"", [407, 64, 32, 256, 94, 310, 381, 16]),
+    (BODY, 161, b"\0", [1, 64, 32, 256, 94, 310, 381, 166]),
+    (BODY, 60, b"\n", [7, 64, 32, 256, 945, 0, 0, 0]),
+    (BODY_OF_TWO, 0, b"", [576, 64, 32, 256, 163, 793, 1355, 65]),
+];
+
+/// What is found of each body that has one bit turned, under its own digest.
+fn found_with_turned_bits(alloc: Global, body: &[u8]) -> Option<Vec<Result<(), IndexFault>>> {
+    let mut all = Vec::new(alloc);
     for at in 0..body.len() {
         for mask in BITS {
             let changed = with_turned(alloc, body, at, mask)?;
-            faults.push(fault_of(rt, alloc, &signed(alloc, &changed)?)?)?;
+            all.push(found(alloc, &signed(alloc, &changed)?)?).ok()?;
         }
     }
-    Ok(faults)
+    Some(all)
 }
 
-/// Checks how often each fault was found: none, in magic, version, and in the sections in their order.
-fn check_tally(rt: &impl Abort, faults: &[Option<IndexFault>], counts: [usize; 8]) {
-    let kinds = [
-        None,
-        Some(IndexFault::BadMagic),
-        Some(IndexFault::BadVersion),
-        Some(IndexFault::BadLayout(Section::Counts)),
-        Some(IndexFault::BadLayout(Section::Archives)),
-        Some(IndexFault::BadLayout(Section::Records)),
-        Some(IndexFault::BadLayout(Section::Directory)),
-        Some(IndexFault::BadLayout(Section::Postings)),
-    ];
-    for (fault, count) in kinds.iter().zip(counts) {
-        let found = faults.iter().filter(|found| *found == fault).count();
-        assert_eq!(rt; found, count, "{fault:?}");
+/// Whether each outcome is found as often as is told.
+fn has_tally(
+    alloc: Global,
+    body: &[u8],
+    at: usize,
+    new: &[u8],
+    counts: [usize; 8],
+) -> Option<bool> {
+    let all = found_with_turned_bits(alloc, &with_put(alloc, body, at, new)?)?;
+    let mut same = true;
+    for (outcome, count) in OUTCOMES.iter().zip(counts) {
+        same = all.iter().filter(|found| *found == outcome).count() == count && same;
+    }
+    Some(same)
+}
+
+#[test]
+fn turned_bits_under_a_right_digest(rt: HostRuntime) {
+    for (body, at, new, counts) in TALLIES {
+        let as_wanted = has_tally(rt.alloc(), body, at, new, counts);
+        assert!(rt; as_wanted == Some(true), "{counts:?}");
     }
 }
 
-// How many there are of each was counted by hand, section by section. In version 2 an archive's digest may have any bits.
-#[test]
-fn turned_bits_under_a_right_digest(rt: HostRuntime) -> Result<(), Fail> {
-    let faults = faults_of_turned_bits(&rt, rt.alloc(), BODY)?;
-    check_tally(&rt, &faults, [151, 64, 32, 256, 94, 310, 381, 16]);
-    let faults = faults_of_turned_bits(&rt, rt.alloc(), NEW_BODY)?;
-    check_tally(&rt, &faults, [407, 64, 32, 256, 94, 310, 381, 16]);
-    Ok(())
+/// Words that are looked up, and the message that has them.
+const LOOKED_UP: [(Change, TextKind, &str, Option<u32>); 7] = [
+    ((BODY, &[], b""), TextKind::Subject, "hello", Some(0)),
+    ((BODY, &[], b""), TextKind::Body, "hi", Some(0)),
+    ((BODY, &[], b""), TextKind::Body, "hello", None),
+    ((BODY, &[], b""), TextKind::Subject, "hi", None),
+    ((BODY, &[], b""), TextKind::To, "hello", None),
+    ((NEW_BODY, &[], b""), TextKind::Subject, "hello", Some(0)),
+    (NAME_IN_NEW, TextKind::Name, "hi", Some(0)),
+];
+
+/// Whether a word's look-up takes so many steps at most, and gives just this message or none.
+fn finds(file: &[u8], kind: TextKind, word: &str, most: u64, number: Option<u32>) -> Option<bool> {
+    let view = IndexView::open(file).ok()?;
+    let mut steps = Steps::new();
+    let mut postings = view.look_up(Kind::Text(kind), word.as_bytes(), &mut steps);
+    let is_short = steps.count() <= most;
+    let first = postings.next(&mut steps);
+    Some(is_short && first == number && postings.next(&mut steps).is_none())
+}
+
+/// Whether a word is found so in a changed file, whose directory of two keys takes three steps at most.
+fn finds_in(
+    alloc: Global,
+    change: Change,
+    kind: TextKind,
+    word: &str,
+    number: Option<u32>,
+) -> Option<bool> {
+    finds(&changed(alloc, change)?, kind, word, 3, number)
 }
 
 #[test]
-fn names_are_keys_of_version_2(rt: HostRuntime) -> Result<(), Fail> {
-    let alloc = rt.alloc();
-    // The kind of the second key, which is Body, made Name.
-    let old = with_bytes_at(alloc, BODY, 130, b"\x09")?;
-    let fault = IndexFault::BadLayout(Section::Directory);
-    assert_eq!(rt; fault_of(&rt, alloc, &signed(alloc, &old)?)?, Some(fault));
-    let new = with_bytes_at(alloc, NEW_BODY, 162, b"\x09")?;
-    let file = signed(alloc, &new)?;
-    assert_eq!(rt; fault_of(&rt, alloc, &file)?, None);
-    let view = IndexView::open(&file)?;
-    let kind = Kind::Text(TextKind::Name);
-    check_numbers(&rt, view.look_up(kind, b"hi", &mut Steps::new()), &[0]);
-    Ok(())
-}
-
-// One fault more, in the postings and in the archive's name: the first counts, and few bits mend it.
-#[test]
-fn the_first_fault_counts(rt: HostRuntime) -> Result<(), Fail> {
-    let alloc = rt.alloc();
-    let zero_difference = with_bytes_at(alloc, BODY, 161, b"\0")?;
-    let faults = faults_of_turned_bits(&rt, alloc, &zero_difference)?;
-    check_tally(&rt, &faults, [1, 64, 32, 256, 94, 310, 381, 166]);
-    let line_feed = with_bytes_at(alloc, BODY, 60, b"\n")?;
-    let faults = faults_of_turned_bits(&rt, alloc, &line_feed)?;
-    check_tally(&rt, &faults, [7, 64, 32, 256, 945, 0, 0, 0]);
-    Ok(())
-}
-
-// The counts come from a third reading of the format, in another language.
-#[test]
-fn turned_bits_of_two_archives(rt: HostRuntime) -> Result<(), Fail> {
-    let faults = faults_of_turned_bits(&rt, rt.alloc(), BODY_OF_TWO)?;
-    check_tally(&rt, &faults, [576, 64, 32, 256, 163, 793, 1355, 65]);
-    Ok(())
-}
-
-#[test]
-fn one_message_more_is_too_many(rt: HostRuntime) -> Result<(), Fail> {
-    let path = "m.mbox";
-    assert!(rt; is_path(path));
-    let mut builder = Builder::new(rt.alloc(), 1);
-    builder.begin_archive(path)?;
-    builder.begin_message()?;
-    builder.end_message(ONLY)?;
-    assert_eq!(rt; builder.begin_message(), Err(BuildFault::TooMany));
-    assert_eq!(rt; builder.begin_message(), Err(BuildFault::Failed));
-    Ok(())
+fn look_ups_take_few_steps(rt: HostRuntime) {
+    for (change, kind, word, number) in LOOKED_UP {
+        let as_wanted = finds_in(rt.alloc(), change, kind, word, number);
+        assert!(rt; as_wanted == Some(true), "{word}");
+    }
 }

@@ -4,6 +4,8 @@
 #[cfg(test)]
 mod builders;
 #[cfg(test)]
+mod compared;
+#[cfg(test)]
 mod index_decoder;
 #[cfg(test)]
 mod index_files;
