@@ -11,8 +11,8 @@ use Rattle.mbox_cutter.specs.Archives.{Message, text}
 use Rattle.mbox_cutter.specs.declared.event.CutFault.{CutFault}
 use Rattle.mbox_cutter.specs.declared.event.CutFault.TheVariants as cut
 use Rattle.mbox_cutter.specs.Events.{Coming}
-use Rattle.index_job.specs.declared.archive_index.Heading.TheVariants as heading
-use Rattle.index_job.specs.declared.archive_index.ReadArchive.{ReadArchive}
+use Rattle.index_job.specs.declared.archive_reading.Heading.TheVariants as heading
+use Rattle.index_job.specs.declared.archive_reading.ReadArchive.{ReadArchive}
 use Rattle.index_job.specs.declared.job_fault.JobFault.{JobFault}
 use Rattle.index_job.specs.declared.job_fault.JobFault.TheVariants as job
 use Rattle.index_job.specs.ArchiveReading.{coming_ahead, Heads, AddsMessages, AddsNamed, HasDone}

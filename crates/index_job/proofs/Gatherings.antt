@@ -18,7 +18,7 @@ use Rattle.mime_text.specs.Texts.{texts_of_message}
 use Rattle.mime_text.specs.Fed.{Feeds, FeedsPart, Finishes, FinishesPart}
 use Rattle.index_job.specs.declared.job_fault.JobFault.{JobFault}
 use Rattle.index_job.specs.declared.job_fault.JobFault.TheVariants as job
-use Rattle.index_job.specs.declared.message_index.Span.{Span}
+use Rattle.index_job.specs.declared.message_end.Span.{Span}
 use Rattle.index_job.specs.declared.term_sink.TermSink.{TermSink}
 use Rattle.index_job.specs.Gathering.{with_texts, HasGathered, IsGatherFault}
 use Rattle.index_job.specs.Indexing.{draft_with_terms, RefusesTerms, IsOpenAt, IsBuilderOpen}

@@ -13,7 +13,7 @@ use Rattle.mime_text.specs.MessageFacts.{facts_of}
 use Rattle.mime_text.specs.Texts.{texts_of_message}
 use Rattle.index_job.specs.declared.job_fault.JobFault.{JobFault}
 use Rattle.index_job.specs.declared.job_fault.JobFault.TheVariants as job
-use Rattle.index_job.specs.declared.message_index.Span.{Span}
+use Rattle.index_job.specs.declared.message_end.Span.{Span}
 use Rattle.index_job.specs.ArchiveReading.{Awaited, HasReadAll, IsMessageFault, AddsMessage}
 use Rattle.index_job.specs.ArchiveTables.{with_terms, date_told}
 use Rattle.index_job.specs.Gathering.{HasGathered, IsGatherFault, with_texts}

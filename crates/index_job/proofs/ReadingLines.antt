@@ -7,7 +7,7 @@ use Rattle.mbox_cutter.specs.Events.{Line, End, Coming, told, told_rest}
 use Rattle.mbox_cutter.specs.Coming.{TakesKnown}
 use Rattle.mime_text.specs.declared.message_text.MessageText.{MessageText}
 use Rattle.mime_text.specs.Texts.{texts_of_message}
-use Rattle.index_job.specs.declared.archive_index.Ended.{Ended}
+use Rattle.index_job.specs.declared.archive_reading.Ended.{Ended}
 use Rattle.index_job.specs.declared.job_fault.JobFault.{JobFault}
 use Rattle.index_job.specs.declared.job_fault.JobFault.TheVariants as job
 use Rattle.index_job.specs.ArchiveReading.{Awaited, coming_inside, coming_between, IsReading, HasReadAll, IsMessageFault}

@@ -11,7 +11,7 @@ use Rattle.mail_index.specs.Tables.{Archive, Key}
 use Rattle.mbox_cutter.specs.Archives.{messages}
 use Rattle.mbox_cutter.specs.declared.event.CutFault.TheVariants as cut
 use Rattle.mbox_cutter.specs.Events.{coming_of, events, refusal_of}
-use Rattle.index_job.specs.declared.archive_index.ReadArchive.{ReadArchive}
+use Rattle.index_job.specs.declared.archive_reading.ReadArchive.{ReadArchive}
 use Rattle.index_job.specs.declared.job_fault.JobFault.{JobFault}
 use Rattle.index_job.specs.declared.job_fault.JobFault.TheVariants as job
 use Rattle.index_job.specs.ArchiveReading.{coming_ahead, AddsNamed}

@@ -10,10 +10,10 @@ use Rattle.mbox_cutter.specs.declared.scan.Phase.TheVariants.{Between, Inside}
 use Rattle.mbox_cutter.specs.Events.{Coming, told, told_rest}
 use Rattle.mbox_cutter.specs.Places.{CutterPlace, left}
 use Rattle.mime_text.specs.declared.message_text.MessageText.{MessageText}
-use Rattle.index_job.specs.declared.archive_index.Ended.{Ended}
-use Rattle.index_job.specs.declared.archive_index.Heading.{Heading}
-use Rattle.index_job.specs.declared.archive_index.Heading.TheVariants.{Message, End}
-use Rattle.index_job.specs.declared.archive_index.ReadArchive.{ReadArchive}
+use Rattle.index_job.specs.declared.archive_reading.Ended.{Ended}
+use Rattle.index_job.specs.declared.archive_reading.Heading.{Heading}
+use Rattle.index_job.specs.declared.archive_reading.Heading.TheVariants.{Message, End}
+use Rattle.index_job.specs.declared.archive_reading.ReadArchive.{ReadArchive}
 use Rattle.index_job.specs.declared.job_fault.JobFault.{JobFault}
 use Rattle.index_job.specs.declared.job_fault.JobFault.TheVariants.{OutOfMemory, TooMany}
 use Rattle.index_job.specs.Gathering.{HasGathered}

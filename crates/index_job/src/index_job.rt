@@ -9,7 +9,7 @@ ghost use Rattle.index_job.specs.IndexJobs.{IsIndexOf, IsAdded, IsAddFault};
 ghost use Rattle.index_job.specs.Indexing.{IsArchiveFault};
 ghost use Rattle.index_job.specs.JobFaults.{is_source_failure, is_output_failure};
 
-use crate::archive_index::{ReadArchive, read_archive};
+use crate::archive_reading::{ReadArchive, read_archive};
 use crate::job_fault::JobFault;
 use mail_index::Builder;
 use mbox_cutter::{Buffer, Digested, Out, Source};
@@ -17,7 +17,7 @@ use std::alloc::Global;
 use std::marker::Model;
 
 /// The most archives, messages and keys of an index.
-const MOST: u32 = 2_147_483_647;
+const MOST_IN_INDEX: u32 = 2_147_483_647;
 
 /// Makes an index of archives, each read once from its source.
 ///
@@ -54,7 +54,7 @@ impl IndexJob {
         Ok(IndexJob {
             alloc,
             buffer: Some(Buffer::new(alloc)?),
-            builder: Some(Builder::new(alloc, MOST)),
+            builder: Some(Builder::new(alloc, MOST_IN_INDEX)),
             archives: 0,
         })
     }

@@ -1,11 +1,11 @@
 //! Indexing: the table of archives, made from one pass over each.
 #![tactic(auto)]
 
-mod archive_index;
+mod archive_reading;
 mod gathering;
 mod index_job;
 mod job_fault;
-mod message_index;
+mod message_end;
 mod term_sink;
 mod waiting_words;
 

@@ -13,7 +13,7 @@ use std::alloc::{AllocError, Global};
 use std::marker::Model;
 
 /// So many words wait: their keys come from memory together, in about the time of one.
-const MOST: usize = 16;
+const MOST_WAITING: usize = 16;
 
 /// Folded words that are still to be added to an index.
 #[derive(Drop)]
@@ -85,7 +85,7 @@ impl WaitingWords {
         ensures err { IfErr result (IsTermFault (option_map (draft_with_terms (word_terms kind self.old)) builder.old)) }
         ensures phase { IfSome builder.new IsInMessage }
     {
-        if self.words.len() >= MOST {
+        if self.words.len() >= MOST_WAITING {
             self.add(builder, kind)?;
         }
         self.fold(kind, word)?;

@@ -2,12 +2,12 @@ use Rattle.std.proofs.Common.{◌≡◌, ◌∙◌, ℕ, List, Option, Some, IfS
 use Rattle.std.specs.Option.{MatchOption}
 use Rattle.mail_index.specs.Builders.{Draft, IsInArchive}
 use Rattle.mbox_cutter.proofs.Sources.{Stays-join}
-use Rattle.index_job.specs.declared.archive_index.Ended.{Ended}
+use Rattle.index_job.specs.declared.archive_reading.Ended.{Ended}
 use Rattle.index_job.specs.ArchiveReading.{IsInside, HasEnded, IsReading, HasReadAll}
 use Rattle.std.proofs.lemmas.Result.{err_from_is_err_and}
 use Rattle.index_job.specs.Indexing.{with_open_message}
 use Rattle.index_job.proofs.MessageSteps.{message-fault, opens, ready-behind, adds-message, own-fault}
-use Rattle.index_job.proofs.archive_index.index_message.Goals as goal
+use Rattle.index_job.proofs.archive_reading.add_message.Goals as goal
 
 pub returns-in_err-length-clause-known : goal.returns-in_err-length-clause-known
 returns-in_err-length-clause-known g c =

@@ -6,7 +6,7 @@ use Rattle.mbox_cutter.specs.Sources.{Stays}
 use Rattle.index_job.specs.ArchiveReading.{Awaited, coming_inside, IsInside, IsReadingSome}
 use Rattle.index_job.specs.Gathering.{HasGathered}
 use Rattle.index_job.specs.Indexing.{with_open_message}
-use Rattle.index_job.proofs.archive_index.index_message.Given as goal
+use Rattle.index_job.proofs.archive_reading.add_message.Given as goal
 
 -- the message is still open, and some of its lines are gathered; where it is known what comes, they are a front of its text
 abbrev pub invariant-lines : goal.invariant-lines

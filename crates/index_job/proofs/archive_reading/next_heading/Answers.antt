@@ -6,7 +6,7 @@ use Rattle.mbox_cutter.specs.Coming.{Answers, TakesKnown}
 use Rattle.mbox_cutter.specs.Events.{Start, Done, Coming}
 use Rattle.mbox_cutter.specs.Progress.{shown_result}
 use Rattle.index_job.proofs.Headings.{heads-message, heads-end}
-use Rattle.index_job.proofs.archive_index.next_heading.Goals as goal
+use Rattle.index_job.proofs.archive_reading.next_heading.Goals as goal
 
 pub returns-in-Start-clause-known : goal.returns-in-Start-clause-known
 returns-in-Start-clause-known g c =

@@ -1,4 +1,4 @@
-//! One archive that is indexed.
+//! The reading of one archive, whose messages are added to a builder.
 ghost use Rattle.std.specs.Prelude.{◌≡◌, ◌<◌, ◌≤◌, ◌+◌, ◌-◌, ◌^◌, ℕ, List, Option, Some, IfOk, IfErr, OnOk, length};
 ghost use Rattle.std.specs.Option.{MatchOption};
 ghost use Rattle.std.specs.Io.KnownBytes.{IsAtEnd};
@@ -18,7 +18,7 @@ ghost use Rattle.index_job.specs.JobFaults.{is_source_failure};
 
 use crate::gathering::feed_line;
 use crate::job_fault::JobFault;
-use crate::message_index::{Span, finish_message};
+use crate::message_end::{Span, finish_message};
 use crate::term_sink::TermSink;
 use mail_index::Builder;
 use mbox_cutter::{Buffer, Cutter, Event, Source};
@@ -26,7 +26,7 @@ use mime_text::MessageText;
 use std::alloc::Global;
 
 /// The most bytes of an archive.
-const MOST_BYTES: u64 = 1_099_511_627_776;
+const MOST_IN_ARCHIVE: u64 = 1_099_511_627_776;
 
 /// The end of a message: how long its span and its text are.
 #[derive(Clone, Copy)]
@@ -52,27 +52,27 @@ pub(crate) struct ReadArchive {
 }
 
 /// Reads on to the next message, or to the archive's end, where no message is open.
-fn next_heading<'a, S: Source>(cutter: &mut Cutter<'a, S>) -> Result<Option<Heading>, JobFault>
+fn next_heading<'a, S: Source>(cutter: &mut Cutter<'a, S>) -> Result<Heading, JobFault>
     requires between { cutter.old.place.phase ≡ Phase.Between }
     requires count { S.failures cutter.old.source.now < 2 ^ 64 - 1 }
     ensures source { cutter.new.source.ghost_name ≡ cutter.old.source.ghost_name }
     ensures stays { Stays S.Source cutter.old.source.now cutter.new.source.now }
     ensures count { Counted (is_source_failure result) (S.failures cutter.old.source.now) (S.failures cutter.new.source.now) }
     ensures most { OnOk result (cutter.new.place.most ≡ cutter.old.place.most) }
-    ensures some { IfOk result (λ h. MatchOption h ⊥ (λ heading. IsHeading heading cutter.old.place cutter.new.place)) }
-    ensures end { IfOk result (λ h. MatchOption h ⊥ (λ heading. ReadsToEnd heading (S.rest cutter.new.source.now))) }
-    ensures known { IfOk result (λ h. (all : ℕ) (ms : Option (List Message)) (refusal : Option CutFault) → cutter.old.coming ≡ Some (coming_ahead all ms refusal)
-        → MatchOption h ⊥ (λ heading. Heads heading all ms refusal cutter.new.coming)) }
+    ensures place { IfOk result (λ heading. IsHeading heading cutter.old.place cutter.new.place) }
+    ensures end { IfOk result (λ heading. ReadsToEnd heading (S.rest cutter.new.source.now)) }
+    ensures known { IfOk result (λ heading. (all : ℕ) (ms : Option (List Message)) (refusal : Option CutFault) → cutter.old.coming ≡ Some (coming_ahead all ms refusal)
+        → Heads heading all ms refusal cutter.new.coming) }
     ensures fault { IfErr result (λ fault. (all : ℕ) (ms : Option (List Message)) (refusal : Option CutFault) → cutter.old.coming ≡ Some (coming_ahead all ms refusal)
         → IsJobFault refusal ⊥ fault) }
     ensures own { IfErr result IsArchiveFault }
 {
     match cutter.next_event()? {
-        Event::Start { offset, .. } => Ok(Some(Heading::Message(offset))),
-        Event::Done { length } => Ok(Some(Heading::End(length))),
+        Event::Start { offset, .. } => Ok(Heading::Message(offset)),
+        Event::Done { length } => Ok(Heading::End(length)),
         // Neither comes between two messages.
-        Event::Line(_) => Ok(None),
-        Event::End { .. } => Ok(None),
+        Event::Line(_) => unreachable!(),
+        Event::End { .. } => unreachable!(),
     }
 }
 
@@ -106,13 +106,13 @@ fn next_line<'a, S: Source>(
         }
         Event::End { length, size } => Ok(Some(Ended { length, size })),
         // Neither comes inside a message.
-        Event::Start { .. } => Ok(None),
-        Event::Done { .. } => Ok(None),
+        Event::Start { .. } => unreachable!(),
+        Event::Done { .. } => unreachable!(),
     }
 }
 
-/// Indexes the message that has just begun.
-fn index_message<'a, S: Source>(
+/// Adds the message that has just begun.
+fn add_message<'a, S: Source>(
     alloc: Global,
     cutter: &mut Cutter<'a, S>,
     builder: Builder,
@@ -148,8 +148,8 @@ fn index_message<'a, S: Source>(
     }
 }
 
-/// Indexes the archive's messages, one after another, and leaves its end in the builder to the caller.
-fn index_messages<'a, S: Source>(
+/// Adds the archive's messages, one after another, and leaves its end in the builder to the caller.
+fn add_messages<'a, S: Source>(
     alloc: Global,
     cutter: &mut Cutter<'a, S>,
     builder: Builder,
@@ -173,24 +173,23 @@ fn index_messages<'a, S: Source>(
     let mut messages: u64 = 0;
     'messages: loop {
         match next_heading(cutter)? {
-            Some(Heading::Message(offset)) => {
-                builder = index_message(alloc, cutter, builder, archive, offset)?;
+            Heading::Message(offset) => {
+                builder = add_message(alloc, cutter, builder, archive, offset)?;
                 messages += 1;
             }
-            Some(Heading::End(length)) => {
+            Heading::End(length) => {
                 return Ok(ReadArchive {
                     builder,
                     messages,
                     length,
                 });
             }
-            None => {}
         }
     }
 }
 
-/// Begins an archive, and indexes its messages.
-fn index_archive<'a, S: Source>(
+/// Begins an archive, and adds its messages.
+fn add_archive<'a, S: Source>(
     alloc: Global,
     cutter: &mut Cutter<'a, S>,
     builder: Builder,
@@ -213,10 +212,10 @@ fn index_archive<'a, S: Source>(
 {
     let mut builder = builder;
     builder.begin_archive(path)?;
-    index_messages(alloc, cutter, builder, archive)
+    add_messages(alloc, cutter, builder, archive)
 }
 
-/// Reads an archive to its end, and indexes its messages. Its end in the builder is left to the caller, who has its digest.
+/// Reads an archive to its end, and adds its messages. Its end in the builder is left to the caller, who has its digest.
 pub(crate) fn read_archive<S: Source>(
     alloc: Global,
     source: &mut S,
@@ -241,8 +240,8 @@ pub(crate) fn read_archive<S: Source>(
         Some(buffer) => buffer,
         None => Buffer::new(alloc)?,
     };
-    let mut cutter = Cutter::over(buffer, source, MOST_BYTES);
-    let read = index_archive(alloc, &mut cutter, builder, path, archive);
+    let mut cutter = Cutter::over(buffer, source, MOST_IN_ARCHIVE);
+    let read = add_archive(alloc, &mut cutter, builder, path, archive);
     let _source = cutter.into_source_keeping(kept);
     read
 }

@@ -1,9 +1,10 @@
-//! One message that is indexed.
-ghost use Rattle.std.specs.Prelude.{◌≡◌, ◌<◌, ◌≤◌, ◌+◌, ◌^◌, false, ℕ, List, Option, IfOk, IfErr, option_map};
+//! The end of a message whose terms are gathered.
+ghost use Rattle.std.specs.Prelude.{◌≡◌, ◌<◌, ◌≤◌, ◌+◌, false, ℕ, List, Option, IfOk, IfErr, option_map};
 ghost use Rattle.header_text.specs.Headers.{fields_of};
 ghost use Rattle.mail_index.specs.Builders.{Draft};
 ghost use Rattle.mime_text.specs.MessageFacts.{HasSizedIds, facts_of};
 ghost use Rattle.mime_text.specs.Texts.{texts_of_message};
+ghost use Rattle.index_job.specs.ArchiveRefusals.{most_in_archive};
 ghost use Rattle.index_job.specs.ArchiveTables.{date_told};
 ghost use Rattle.index_job.specs.Gathering.{HasGathered, IsGathering, IsGatherFault, with_texts};
 ghost use Rattle.index_job.specs.Indexing.{draft_with_terms, IsBuilderOpen};
@@ -42,7 +43,7 @@ fn end_message(mut terms: TermSink, facts: &Facts, span: Span) -> Result<Builder
     requires sizes { HasSizedIds facts.now }
     requires opened { IsBuilderOpen span.archive span.offset terms.builder }
     requires size { span.size < span.length }
-    requires within { span.offset + span.length ≤ 2 ^ 40 }
+    requires within { span.offset + span.length ≤ most_in_archive }
     ensures source { is_source_failure result ≡ false }
     ensures ok { IfOk result (λ b. b ≡ option_map (ended_with facts.now span) terms.builder) }
     ensures err { IfErr result (IsGatherFault (option_map (draft_with_terms (id_terms facts.now)) terms.builder)) }
@@ -66,7 +67,7 @@ pub(crate) fn finish_message(
 ) -> Result<Builder, JobFault>
     requires opened { IsGathering span.archive span.offset text terms.builder }
     requires size { span.size < span.length }
-    requires within { span.offset + span.length ≤ 2 ^ 40 }
+    requires within { span.offset + span.length ≤ most_in_archive }
     ensures source { is_source_failure result ≡ false }
     ensures ok { IfOk result (λ b. (ls : List (List ℕ)) (d : Option Draft) → HasGathered text terms.builder d ls
         → b ≡ option_map (ended_with (facts_of (fields_of ls)) span) (with_texts (texts_of_message ls) d)) }

@@ -1,7 +1,7 @@
 use Rattle.std.proofs.Common.{Some}
 use Rattle.std.proofs.lemmas.Result.{err_from_is_err_and}
 use Rattle.index_job.proofs.Gatherings.{texts-fail, ids-fail, finished-is, open-behind}
-use Rattle.index_job.proofs.message_index.finish_message.Goals as goal
+use Rattle.index_job.proofs.message_end.finish_message.Goals as goal
 
 pub returns-in_err-facts-clause-err : goal.returns-in_err-facts-clause-err
 returns-in_err-facts-clause-err c =

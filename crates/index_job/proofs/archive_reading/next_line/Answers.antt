@@ -7,7 +7,7 @@ use Rattle.mbox_cutter.specs.Coming.{Answers, TakesKnown}
 use Rattle.mbox_cutter.specs.Progress.{shown_result}
 use Rattle.mbox_cutter.specs.Events.{Line, End}
 use Rattle.index_job.proofs.ReadingLines.{reads-line, reads-end, line-is-fault, gather-own}
-use Rattle.index_job.proofs.archive_index.next_line.Goals as goal
+use Rattle.index_job.proofs.archive_reading.next_line.Goals as goal
 
 pub returns-in_err-feed_line-in-Line-clause-fault :
     goal.returns-in_err-feed_line-in-Line-clause-fault

@@ -7,7 +7,7 @@ use Rattle.mbox_cutter.specs.Places.{left}
 use Rattle.mbox_cutter.specs.Sources.{Stays}
 use Rattle.index_job.specs.ArchiveReading.{coming_ahead, HasDone}
 use Rattle.index_job.specs.Indexing.{IsBuilderReady}
-use Rattle.index_job.proofs.archive_index.index_messages.Given as goal
+use Rattle.index_job.proofs.archive_reading.add_messages.Given as goal
 
 -- no message is open; where it is known what comes, some messages are done, and the others come
 abbrev pub invariant-messages : goal.invariant-messages
