@@ -46,5 +46,7 @@ pub(crate) fn split_difference(bytes: &[u8]) -> Option<(u64, &[u8])>
     if 1 <= *second && *second < 128 {
         return Some((u64::from(*first - 128) + 128 * u64::from(*second), behind));
     }
-    split_leb128(MOST, bytes)
+    // Taken apart and put together, so that only this way's result goes through memory.
+    let (long, behind) = split_leb128(MOST, bytes)?;
+    Some((long, behind))
 }
