@@ -1,13 +1,14 @@
 -- Laws of cursors, which give the numbers that satisfy a query.
+pub mod AloneLists
 pub mod Begins
 pub mod Containing
 pub mod Groups
 pub mod Lists
+pub mod MarkedLists
 pub mod MemberLemmas
 pub mod Members
 pub mod NodeQueries
 pub mod Numbers
-pub mod Places
 pub mod Scans
 pub mod TextLemmas
 pub mod Texts

@@ -4,7 +4,7 @@ pub mod CursorBegins
 pub mod CursorFalls
 pub mod CursorHeads
 pub mod CursorLists
-pub mod CursorPlaces
+pub mod CursorMarks
 pub mod CursorScans
 pub mod CursorTexts
 pub mod CursorWalks

@@ -8,13 +8,11 @@ ghost use Rattle.mail_answer.specs.CursorNumbers.{numbers_from, AreWithin, Takes
 mod begin;
 mod fit;
 mod head;
-mod hints;
 mod listed;
-mod queue;
+mod marked;
 mod records;
 mod scanned;
 mod texts;
-mod waits;
 mod walk;
 
 use crate::cursor::begin::walk_of;

@@ -7,7 +7,7 @@ ghost use Rattle.mail_answer.specs.Inside.CursorTexts.{some_has};
 
 use crate::cursor::head::{Head, is_from};
 use crate::cursor::listed::Listed;
-use crate::cursor::queue::Queue;
+use crate::cursor::marked::Marked;
 use crate::cursor::scanned::Scanned;
 use mail_index::Steps;
 use std::alloc::{AllocError, Global};
@@ -16,8 +16,8 @@ use std::marker::Model;
 /// The most members of a walk through what comes in some of many.
 const MOST: usize = 4;
 
-/// A queue has at most so many places for each of its lists, since these take memory too.
-const MOST_PLACES: u32 = 32;
+/// Messages are marked only where there are at most so many for each list. A mark is a byte, so they take no more than the lists do.
+const MOST_MARKS: u32 = 32;
 
 /// A walk through the messages that satisfy a query. It remembers its first number, so it goes on in its members only where it
 /// has to.
@@ -35,7 +35,7 @@ enum Node<'a> {
     /// A posting list.
     Listed(Listed<'a>),
     /// Very many posting lists. They are boxed, since most walks are single lists.
-    Queued(Box<Queue<'a>>),
+    Marked(Box<Marked<'a>>),
     /// The records that are as asked. It is boxed, since it is large and most walks are lists.
     Scanned(Box<Scanned<'a>>),
     /// All messages that don't come in a walk.
@@ -87,8 +87,9 @@ impl<'a> Walk<'a> {
         }
     }
 
-    /// The walk through those of so many messages that come in some of these posting lists: by a queue, where there are enough lists for
-    /// its places, and else by a tree.
+    /// The walk through those of so many messages that come in some of these posting lists: by marks, where there are enough lists for
+    /// them, and else by a tree.
+    #[tactic(auto, using(crate::proofs::CursorLaws::MarkedLists::if_marked))]
     pub(crate) fn along_some(
         alloc: Global,
         count: u32,
@@ -98,22 +99,20 @@ impl<'a> Walk<'a> {
         ensures truths { IfOk result (λ w. (m : ℕ) → truth_at w.truths m ≡ some_has m lists.entry.items) }
         ensures left { IfOk result (λ w. w.left ≡ left_in lists.entry.items) }
     {
-        match u32::try_from(lists.len()) {
-            Ok(number) if lists.len() > MOST && number >= count / MOST_PLACES => {
-                Walk::queued(alloc, Queue::new(alloc, count, lists, number)?)
-            }
-            _ => Walk::united_in_groups(alloc, each_alone(alloc, lists)?),
+        if lists.len() > MOST && lists.len() >= (count / MOST_MARKS) as usize {
+            return Walk::marked(alloc, Marked::new(alloc, count, lists)?);
         }
+        Walk::united_in_groups(alloc, each_alone(alloc, lists)?)
     }
 
-    /// The walk along the lists of a queue.
-    fn queued(alloc: Global, queue: Queue<'a>) -> Result<Self, AllocError>
-        ensures truths { IfOk result (λ w. w.truths ≡ queue.entry.truths) }
-        ensures left { IfOk result (λ w. w.left ≡ queue.entry.left) }
+    /// The walk along lists whose messages are marked.
+    fn marked(alloc: Global, marked: Marked<'a>) -> Result<Self, AllocError>
+        ensures truths { IfOk result (λ w. w.truths ≡ marked.entry.truths) }
+        ensures left { IfOk result (λ w. w.left ≡ marked.entry.left) }
     {
-        let queue = Box::new(alloc, queue)?;
+        let marked = Box::new(alloc, marked)?;
         Ok(Walk {
-            node: Node::Queued(queue),
+            node: Node::Marked(marked),
             head: Head::Unasked,
         })
     }
@@ -215,7 +214,7 @@ impl<'a> Node<'a> {
     {
         match self {
             Node::Listed(list) => list.least_from(n, steps),
-            Node::Queued(queue) => queue.least_from(n, steps),
+            Node::Marked(marked) => marked.least_from(n, steps),
             Node::Scanned(scan) => scan.least_from(n, steps),
             Node::Others(others) => least_other(others, n, steps),
             Node::Common(members) => least_common(members, n, steps),

@@ -1,5 +1,5 @@
 use Rattle.std.proofs.Common.{◌∙◌}
-use Rattle.mail_answer.proofs.CursorLaws.Places.{alone_each, alone_left}
+use Rattle.mail_answer.proofs.CursorLaws.AloneLists.{alone_each, alone_left}
 use Rattle.mail_answer.proofs.cursor.walk.each_alone.Goals as goal
 
 pub loop-list-preserved : goal.loop-list-preserved
