@@ -1,4 +1,5 @@
--- How a call of a cutter changes what still comes.
+-- How a call of a cutter changes what still comes, where it is known: an event is the first of it, a refusal is the archive's, and
+-- a failing device says nothing of it.
 use Rattle.std.specs.Prelude.{◌≡◌, Bool, true, false, [], ◌∷◌, Option, Result, None, Some, Ok, Err, IfSome}
 use Rattle.mbox_cutter.specs.declared.event.CutFault.{CutFault}
 use Rattle.mbox_cutter.specs.declared.event.CutFault.TheVariants.{Device, NotAnMbox, ArchiveTooLong, Failed}

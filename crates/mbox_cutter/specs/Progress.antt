@@ -1,4 +1,5 @@
--- A cutter as its callers see it.
+-- A cutter as its callers see it, and what a call makes of it. What comes of an archive says Events; a caller who follows one
+-- cutter to its end needs of this `answers` and `ends`, and where the bytes aren't known `moves` and `nears`.
 use Rattle.std.specs.Prelude.{◌≡◌, ℕ, ◌≤◌, List, Option, Result, Ok, Err, IfOk, OnErr}
 use Rattle.std.specs.Borrow.{MutBor}
 use Rattle.contract_words.specs.Devices.{Counted}

@@ -5,7 +5,7 @@ ghost use Rattle.mbox_cutter.specs.Lines.{AreLines, is_empty, line_end_of, lines
 use memchr::memchr;
 
 /// The most bytes other than LF that a line has.
-const MOST_IN_LINE: usize = 65_536;
+pub const MOST_IN_LINE: usize = 65_536;
 
 /// LF, or CR LF.
 #[tactic(auto, unfolding(crate::specs::Lines::is_empty))]

@@ -10,7 +10,7 @@ use Rattle.mime_text.specs.declared.frame.Frame.{Frame}
 use Rattle.mime_text.specs.declared.delimiter.Delimiter.{Delimiter}
 use Rattle.mime_text.specs.declared.delimiter.Delimiter.TheVariants.{Next, Closing}
 use Rattle.mime_text.specs.Parts.{are_blanks, is_delimiter, is_closing}
-use Rattle.mime_text.specs.Stream.{Place, Skip, InHeader, or_else, own_hit, hit}
+use Rattle.mime_text.specs.Stream.{StreamPlace, Skip, InHeader, or_else, own_hit, hit}
 use Rattle.mime_text.specs.Frames.{dash_dash, dashes, kind_behind, delimiter_of, led, scan, inside_out, opened, AreNested}
 
 -- ---- a front of some bytes
@@ -48,7 +48,7 @@ after-stripped front bytes (Some x) h = ap (λ (t : List ℕ). Some t) h.1 ∙ s
 
 -- ---- delimiters
 
-abbrev led_by : {A : Type 0} → Option (List ℕ) → Frame → List Frame → Option (List Frame × Place A)
+abbrev led_by : {A : Type 0} → Option (List ℕ) → Frame → List Frame → Option (List Frame × StreamPlace A)
 led_by None f outer = None
 led_by (Some text) f outer = led (delimiter_of f.boundary text) f outer
 
@@ -72,7 +72,7 @@ own_hit-is {A} l f outer =
 
 -- ---- the outermost that a line delimits
 
-abbrev pub scan_by : {A : Type 0} → Option (List ℕ) → List Frame → List Frame → Option (List Frame × Place A)
+abbrev pub scan_by : {A : Type 0} → Option (List ℕ) → List Frame → List Frame → Option (List Frame × StreamPlace A)
 scan_by None outer fs = None
 scan_by (Some text) outer fs = scan outer fs text
 
@@ -92,7 +92,7 @@ hit_inside {A} l [] outer = go (dashes l)
     go (Some text) = sym (or_else-none (hit outer l))
 hit_inside {A} l (f ∷ fs) outer =
     hit_inside l fs (f ∷ outer)
-    ∙ ap (λ (o : Option (List Frame × Place A)). or_else (or_else (hit outer l) o) (scan_by (dashes l) (f ∷ outer) fs)) (own_hit-is l f outer)
+    ∙ ap (λ (o : Option (List Frame × StreamPlace A)). or_else (or_else (hit outer l) o) (scan_by (dashes l) (f ∷ outer) fs)) (own_hit-is l f outer)
     ∙ or_else-assoc (hit outer l) (led_by (dashes l) f outer) (scan_by (dashes l) (f ∷ outer) fs)
     ∙ ap (or_else (hit outer l)) (go (dashes l))
   where
@@ -152,7 +152,7 @@ open-frames fs (suc left) boundary d h =
 
 -- ---- where a delimiter leads
 
-pub or_else-led : {A : Type 0} (k : Delimiter) (f : Frame) (outer : List Frame) (o : Option (List Frame × Place A)) → or_else (led (Some k) f outer) o ≡ led (Some k) f outer
+pub or_else-led : {A : Type 0} (k : Delimiter) (f : Frame) (outer : List Frame) (o : Option (List Frame × StreamPlace A)) → or_else (led (Some k) f outer) o ≡ led (Some k) f outer
 or_else-led Next f outer o = refl
 or_else-led Closing f outer o = refl
 
@@ -163,10 +163,10 @@ got-at fs n f h e = slice_get-get_or fs n f h ∙ ap (λ (x : Frame). Some x) (s
 pub no_dashes : {A : Type 0} (l : List ℕ) (frames : List Frame) → dashes l ≡ None → hit {A = A} frames l ≡ None
 no_dashes l [] e = refl
 no_dashes {A} l (f ∷ outer) e =
-    ap (λ (o : Option (List Frame × Place A)). or_else o (own_hit (is_closing f.boundary l) (is_delimiter f.boundary l) f outer)) (no_dashes l outer e)
+    ap (λ (o : Option (List Frame × StreamPlace A)). or_else o (own_hit (is_closing f.boundary l) (is_delimiter f.boundary l) f outer)) (no_dashes l outer e)
     ∙ own_hit-is l f outer ∙ ap (λ (o : Option (List ℕ)). led_by {A = A} o f outer) e
 
-pub scanned : {A : Type 0} (l text : List ℕ) (frames fs seen : List Frame) (o : Option (List Frame × Place A))
+pub scanned : {A : Type 0} (l text : List ℕ) (frames fs seen : List Frame) (o : Option (List Frame × StreamPlace A))
     → frames ≡ inside_out fs [] → seen ≡ fs → dashes l ≡ Some text → scan [] seen text ≡ o → hit frames l ≡ o
 scanned {A} l text frames fs seen o v q e s =
     ap (λ (x : List Frame). hit {A = A} x l) v ∙ hit-is l fs ∙ ap (λ (t : Option (List ℕ)). scan_by {A = A} t [] fs) e

@@ -2,6 +2,7 @@ mod FlagLemmas
 mod IdSizes
 mod StreamLaws
 mod ParameterLemmas
+mod ParameterLaws
 mod TagLemmas
 mod TagReads
 mod Handing

@@ -7,7 +7,7 @@ use Rattle.header_text.specs.Blanks.{is_blank, split_while, after_blanks, trimme
 use Rattle.header_text.specs.Cuts.{cut_at}
 use Rattle.header_text.proofs.Fronts.{length-split_while, split_while-joined}
 use Rattle.header_text.proofs.CutLemmas.{IsCut, IsCut-from}
-use Rattle.mime_text.specs.Parameters.{Parameter, Piece, quoted, is_token_byte, value_and_rest, is_name_byte, behind_semicolon, piece_of, parameters_within, parameters_behind, first_named, parameter}
+use Rattle.mime_text.specs.Parameters.{Parameter, Piece, quoted, is_token_byte, value_and_rest, is_parameter_name_byte, behind_semicolon, piece_of, parameters_within, parameters_behind, first_named, parameter}
 
 -- ---- quotes
 
@@ -96,8 +96,8 @@ later-shorter_behind name (c ∷ bs) rest h = go (c == 0x3D) refl
 pub later-shorter : (bs rest : List ℕ) → (piece_of bs).later ≡ Some rest → length rest < length bs
 unfolding piece_of piece_behind
 later-shorter bs rest h =
-    let front = length-split_while is_name_byte bs in
-    let less = later-shorter_behind (trimmed (split_while is_name_byte bs).0) (split_while is_name_byte bs).1 rest h in
+    let front = length-split_while is_parameter_name_byte bs in
+    let less = later-shorter_behind (trimmed (split_while is_parameter_name_byte bs).0) (split_while is_parameter_name_byte bs).1 rest h in
     omega (arith, front, less)
 
 -- ---- any number of pieces that is large enough
@@ -167,8 +167,8 @@ later-measure before now a None is e = rw is (omega arith)
 later-measure before now a (Some rest) is e = let less = later-shorter (now a) rest e in rw is (omega (arith, less))
 
 -- a name, `=` and a value
-pub piece-parameter : (text rest : List ℕ) (sign : ℕ) → (split_while is_name_byte text).1 ≡ sign ∷ rest → (sign == 0x3D) ≡ true
-    → (piece_of text).parameter ≡ Some (record { name = trimmed (split_while is_name_byte text).0; value = (value_and_rest (after_blanks rest)).0 })
+pub piece-parameter : (text rest : List ℕ) (sign : ℕ) → (split_while is_parameter_name_byte text).1 ≡ sign ∷ rest → (sign == 0x3D) ≡ true
+    → (piece_of text).parameter ≡ Some (record { name = trimmed (split_while is_parameter_name_byte text).0; value = (value_and_rest (after_blanks rest)).0 })
 unfolding piece_of
 piece-parameter text rest sign e f = rw (e, f, piece_of) refl
 
@@ -218,8 +218,8 @@ size-piece_behind name (c ∷ bs) = go (c == 0x3D) refl
 size-piece : (bs : List ℕ) → size_of (piece_of bs).parameter ≤ length bs
 unfolding piece_of piece_behind
 size-piece bs =
-    let front = length-split_while is_name_byte bs in
-    let behind = size-piece_behind (trimmed (split_while is_name_byte bs).0) (split_while is_name_byte bs).1 in
+    let front = length-split_while is_parameter_name_byte bs in
+    let behind = size-piece_behind (trimmed (split_while is_parameter_name_byte bs).0) (split_while is_parameter_name_byte bs).1 in
     omega (arith, front, behind)
 
 size-within : (n : ℕ) (name bs found : List ℕ) → first_named name (parameters_within n bs) ≡ Some found → length found ≤ length bs

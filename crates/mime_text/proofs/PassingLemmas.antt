@@ -24,7 +24,7 @@ use Rattle.mime_text.specs.Sinks.{Pair, Coming, Gave, Broke, Hands}
 use Rattle.mime_text.specs.Types.{shape_of}
 use Rattle.mime_text.specs.MessageFacts.{facts_of}
 use Rattle.mime_text.specs.LeafReading.{pairs_to_come}
-use Rattle.mime_text.specs.Stream.{Place, Skip, InHeader, InLeaf, hit}
+use Rattle.mime_text.specs.Stream.{StreamPlace, Skip, InHeader, InLeaf, hit}
 use Rattle.mime_text.specs.Frames.{Nest, lead_to}
 use Rattle.mime_text.specs.Inside.Passing.{Passed, Stopped, Passes, IsOver}
 use Rattle.mime_text.specs.Feeding.{given_from, header_texts, ending, given_behind, given_after, ComesAt, Comes, ComesBehindHeader, ComesEndingAt, ComesEnding, KnowsAt, KnowsFacts, Notes}
@@ -69,7 +69,7 @@ whole-ending r fields c f k = go r.state k
     go state.InLeaf k = k []
 
 -- a line that delimits ends the entity
-delimits : (r : PartReader) (n : Nest) (lead : Lead) (l : Line) (h : List Frame × Place Pair) → hit r.nesting.frames l ≡ Some h → ((ms : List Line) → given_from h.0 h.1 ms ≡ given_after lead n ms)
+delimits : (r : PartReader) (n : Nest) (lead : Lead) (l : Line) (h : List Frame × StreamPlace Pair) → hit r.nesting.frames l ≡ Some h → ((ms : List Line) → given_from h.0 h.1 ms ≡ given_after lead n ms)
     → (c : Coming) → Comes r c → ComesEnding (record r { nesting = n }) lead (λ ms. c (l ∷ ms))
 delimits r n lead l h e q c k = go r.state k
   where

@@ -25,7 +25,7 @@ use Rattle.mime_text.specs.Names.{name_texts}
 use Rattle.mime_text.specs.LeafTexts.{leaf_texts}
 use Rattle.mime_text.specs.LeafReading.{body_pairs}
 use Rattle.mime_text.specs.Parts.{Entity, body_lines, pieces, parts, parts_by, is_left}
-use Rattle.mime_text.specs.Stream.{Place, Skip, InHeader, InLeaf, hit, counted_part, header_parts, value, behind_header, inner_step, step_by}
+use Rattle.mime_text.specs.Stream.{StreamPlace, Skip, InHeader, InLeaf, hit, counted_part, header_parts, value, behind_header, inner_step, step_by}
 use Rattle.mime_text.specs.Frames.{Nest, opened}
 use Rattle.mime_text.specs.Texts.{part_texts, texts_of_message}
 use Rattle.mime_text.specs.Feeding.{given_from, counted_texts, header_texts, given_behind}
@@ -136,15 +136,15 @@ value-header c n d held e =
 
 -- ---- one line
 
-pub given-hit : (fs : List Frame) (place : Place Pair) (l : Line) (h : List Frame × Place Pair) (ms : List Line) → hit fs l ≡ Some h
+pub given-hit : (fs : List Frame) (place : StreamPlace Pair) (l : Line) (h : List Frame × StreamPlace Pair) (ms : List Line) → hit fs l ≡ Some h
     → given_from fs place (l ∷ ms) ≡ value shape_of part_texts place [] ++ given_from h.0 h.1 ms
 given-hit fs place l h ms e =
-    ap (λ (o : Option (List Frame × Place Pair)). (step_by shape_of part_texts o fs place l).0 ++ given_from (step_by shape_of part_texts o fs place l).1.0 (step_by shape_of part_texts o fs place l).1.1 ms) e
+    ap (λ (o : Option (List Frame × StreamPlace Pair)). (step_by shape_of part_texts o fs place l).0 ++ given_from (step_by shape_of part_texts o fs place l).1.0 (step_by shape_of part_texts o fs place l).1.1 ms) e
 
-given-inner : (fs : List Frame) (place : Place Pair) (l : Line) (ms : List Line) → hit {A = Pair} fs l ≡ None
+given-inner : (fs : List Frame) (place : StreamPlace Pair) (l : Line) (ms : List Line) → hit {A = Pair} fs l ≡ None
     → given_from fs place (l ∷ ms) ≡ (inner_step shape_of part_texts fs place l).0 ++ given_from (inner_step shape_of part_texts fs place l).1.0 (inner_step shape_of part_texts fs place l).1.1 ms
 given-inner fs place l ms e =
-    ap (λ (o : Option (List Frame × Place Pair)). (step_by shape_of part_texts o fs place l).0 ++ given_from (step_by shape_of part_texts o fs place l).1.0 (step_by shape_of part_texts o fs place l).1.1 ms) e
+    ap (λ (o : Option (List Frame × StreamPlace Pair)). (step_by shape_of part_texts o fs place l).0 ++ given_from (step_by shape_of part_texts o fs place l).1.0 (step_by shape_of part_texts o fs place l).1.1 ms) e
 
 pub given-skip : (fs : List Frame) (l : Line) (ms : List Line) → hit {A = Pair} fs l ≡ None → given_from fs Skip (l ∷ ms) ≡ given_from fs Skip ms
 given-skip fs l ms e = given-inner fs Skip l ms e
@@ -152,7 +152,7 @@ given-skip fs l ms e = given-inner fs Skip l ms e
 pub given-leaf_line : (fs : List Frame) (leaf : Coming) (l : Line) (ms : List Line) → hit {A = Pair} fs l ≡ None → given_from fs (InLeaf leaf) (l ∷ ms) ≡ given_from fs (InLeaf (λ ks. leaf (l ∷ ks))) ms
 given-leaf_line fs leaf l ms e = given-inner fs (InLeaf leaf) l ms e
 
-abbrev header_step : Bool → Nest → Bool → DefaultType → List Line → Line → List Pair × (List Frame × Place Pair)
+abbrev header_step : Bool → Nest → Bool → DefaultType → List Line → Line → List Pair × (List Frame × StreamPlace Pair)
 header_step t nest c d held l = elim t [
   | true ↦ (flat_map part_texts (header_parts c held), behind_header shape_of part_texts (shape_of d (fields_of held)) nest.frames nest.left (fields_of held))
   | false ↦ ([], (nest.frames, InHeader c nest.left d (held ++ l ∷ [])))
@@ -185,7 +185,7 @@ pub given-leaf : (fs : List Frame) (f g : Coming) (qs : List Pair) → ((ms : Li
 given-leaf fs f g qs e [] = e []
 given-leaf fs f g qs e (l ∷ ms) = go (hit fs l) refl (given-leaf fs (λ ks. f (l ∷ ks)) (λ ks. g (l ∷ ks)) qs (λ ks. e (l ∷ ks)) ms)
   where
-    go : (o : Option (List Frame × Place Pair)) → hit fs l ≡ o → given_from fs (InLeaf (λ ks. f (l ∷ ks))) ms ≡ qs ++ given_from fs (InLeaf (λ ks. g (l ∷ ks))) ms
+    go : (o : Option (List Frame × StreamPlace Pair)) → hit fs l ≡ o → given_from fs (InLeaf (λ ks. f (l ∷ ks))) ms ≡ qs ++ given_from fs (InLeaf (λ ks. g (l ∷ ks))) ms
         → given_from fs (InLeaf f) (l ∷ ms) ≡ qs ++ given_from fs (InLeaf g) (l ∷ ms)
     go None q later =
         given-leaf_line fs f l ms q ∙ later

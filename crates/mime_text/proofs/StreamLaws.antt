@@ -12,7 +12,7 @@ use Rattle.mime_text.specs.declared.shape.Shape.{Shape}
 use Rattle.mime_text.specs.declared.shape.Shape.TheVariants.{Multipart, Message, Text, Other}
 use Rattle.mime_text.specs.declared.frame.Frame.{Frame}
 use Rattle.mime_text.specs.Parts.{Part, Entity, Counted, Leaf, body_lines, is_closing, is_delimiter, preamble_and_pieces, pieces, parts, parts_by, is_left}
-use Rattle.mime_text.specs.Stream.{Place, Skip, InHeader, InLeaf, or_else, own_hit, hit, counted_part, header_parts, value, behind_header, inner_step, step_by, given}
+use Rattle.mime_text.specs.Stream.{StreamPlace, Skip, InHeader, InLeaf, or_else, own_hit, hit, counted_part, header_parts, value, behind_header, inner_step, step_by, given}
 
 abbrev Line : Type 0
 Line = List ℕ
@@ -58,10 +58,10 @@ flat_map-none (x ∷ xs) = flat_map-none xs
 
 module _ {A : Type 0} (shape_of : DefaultType → List HeaderField → Shape) (gives : Part → List A) where
   abbrev Lead : Type 0
-  Lead = Option (List Frame × Place A)
+  Lead = Option (List Frame × StreamPlace A)
 
   -- before a header's end no line is empty
-  abbrev pub IsFine : Place A → Type 0
+  abbrev pub IsFine : StreamPlace A → Type 0
   IsFine Skip = Unit {0}
   IsFine (InHeader c n d lines) = IsHeader lines
   IsFine (InLeaf leaf) = Unit {0}
@@ -114,14 +114,14 @@ module _ {A : Type 0} (shape_of : DefaultType → List HeaderField → Shape) (g
   abbrev of_pieces : ℕ → DefaultType → List (List Line) → List A
   of_pieces left d ps = flat_map gives (flat_map (parts shape_of left d) ps)
 
-  abbrev StreamIs : List Line → List Frame → Place A → Type 0
+  abbrev StreamIs : List Line → List Frame → StreamPlace A → Type 0
   StreamIs ls fs place = given shape_of gives fs place ls ≡ value shape_of gives place (before fs ls) ++ later fs ls
 
   abbrev FrameIs : List Line → Frame → List Frame → Type 0
   FrameIs ls f outer = given shape_of gives (f ∷ outer) Skip ls ≡ of_pieces (suc f.left) f.default (pieces f.boundary (before outer ls)) ++ later outer ls
 
   abbrev AllStreams : List Line → Type 0
-  AllStreams ls = (fs : List Frame) (place : Place A) → IsFine place → StreamIs ls fs place
+  AllStreams ls = (fs : List Frame) (place : StreamPlace A) → IsFine place → StreamIs ls fs place
 
   abbrev AllFrames : List Line → Type 0
   AllFrames ls = (f : Frame) (outer : List Frame) → FrameIs ls f outer
@@ -172,14 +172,14 @@ module _ {A : Type 0} (shape_of : DefaultType → List HeaderField → Shape) (g
       → value shape_of gives (InHeader c n d (lines ++ l ∷ [])) rest ≡ value shape_of gives (InHeader c n d lines) (l ∷ rest)
   one_more c n d lines l rest = ap (λ (ks : List Line). flat_map gives (counted_part c ks ++ parts shape_of (suc n) d ks)) (append_assoc lines (l ∷ []) rest)
 
-  by_place : (place : Place A) (ls : List Line) (fs : List Frame) (l : Line) → AllStreams ls → AllFrames ls → IsFine place
+  by_place : (place : StreamPlace A) (ls : List Line) (fs : List Frame) (l : Line) → AllStreams ls → AllFrames ls → IsFine place
       → (inner_step shape_of gives fs place l).0 ++ given shape_of gives (inner_step shape_of gives fs place l).1.0 (inner_step shape_of gives fs place l).1.1 ls
       ≡ value shape_of gives place (l ∷ before fs ls) ++ later fs ls
   by_place Skip ls fs l m g h = m fs Skip tt
   by_place (InLeaf leaf) ls fs l m g h = m fs (InLeaf (λ ms. leaf (l ∷ ms))) tt
   by_place (InHeader c n d lines) ls fs l m g h = by_line (is_empty l) refl
     where
-      stepped : Bool → List A × (List Frame × Place A)
+      stepped : Bool → List A × (List Frame × StreamPlace A)
       stepped t = elim t [
         | true ↦ (flat_map gives (header_parts c lines), behind_header shape_of gives (shape_of d (fields_of lines)) fs n (fields_of lines))
         | false ↦ ([], (fs, InHeader c n d (lines ++ l ∷ [])))
@@ -192,7 +192,7 @@ module _ {A : Type 0} (shape_of : DefaultType → List HeaderField → Shape) (g
           m fs (InHeader c n d (lines ++ l ∷ [])) (IsHeader-push lines l h t)
           ∙ ap (λ (ps : List A). ps ++ later fs ls) (one_more c n d lines l (before fs ls))
 
-  by_hit : (o : Lead) (place : Place A) (ls : List Line) (fs : List Frame) (l : Line) → AllStreams ls → AllFrames ls → IsFine place
+  by_hit : (o : Lead) (place : StreamPlace A) (ls : List Line) (fs : List Frame) (l : Line) → AllStreams ls → AllFrames ls → IsFine place
       → (step_by shape_of gives o fs place l).0 ++ given shape_of gives (step_by shape_of gives o fs place l).1.0 (step_by shape_of gives o fs place l).1.1 ls
       ≡ value shape_of gives place (before_by o l (before fs ls)) ++ later_by o (later fs ls) ls
   by_hit (Some x) place ls fs l m g h = refl
@@ -228,7 +228,7 @@ module _ {A : Type 0} (shape_of : DefaultType → List HeaderField → Shape) (g
   by_outer None ls f outer l m g = by_own (is_closing f.boundary l) (is_delimiter f.boundary l) ls f outer l m g
 
   mutual
-    given_is : (ls : List Line) (fs : List Frame) (place : Place A) → IsFine place → StreamIs ls fs place
+    given_is : (ls : List Line) (fs : List Frame) (place : StreamPlace A) → IsFine place → StreamIs ls fs place
     given_is [] fs place h = sym (append-nil (value shape_of gives place []))
     given_is (l ∷ ls) fs place h = by_hit (hits fs l) place ls fs l (λ gs p k. given_is ls gs p k) (λ f outer. frame_is ls f outer) h
 

@@ -1,4 +1,6 @@
--- What a reader of a message's lines still gives.
+-- What a reader of a message's lines still gives, told by its fields. Clauses of MessageText reach it through Fed, which says
+-- all that a caller has to know: with what was given before it is the texts of the message, whatever lines come. The rest
+-- serves proofs.
 use Rattle.std.specs.Prelude.{◌≡◌, ℕ, Bool, true, false, List, [], ◌++◌, Option, Some, None}
 use Rattle.header_text.specs.Headers.{HeaderField, fields_of}
 use Rattle.header_text.specs.declared.header.Header.{Header}
@@ -21,12 +23,12 @@ use Rattle.mime_text.specs.Names.{name_texts}
 use Rattle.mime_text.specs.LeafReading.{pairs_to_come}
 use Rattle.mime_text.specs.MessageFacts.{facts_of}
 use Rattle.mime_text.specs.Types.{shape_of}
-use Rattle.mime_text.specs.Stream.{Place, Skip, InHeader, InLeaf, behind_header, given}
+use Rattle.mime_text.specs.Stream.{StreamPlace, Skip, InHeader, InLeaf, behind_header, given}
 use Rattle.mime_text.specs.Frames.{Nest}
 use Rattle.mime_text.specs.Texts.{part_texts}
 
 -- what the lines to come give from a place on
-abbrev pub given_from : List Frame → Place Pair → Coming
+abbrev pub given_from : List Frame → StreamPlace Pair → Coming
 given_from frames place ms = given shape_of part_texts frames place ms
 
 -- the texts of a header, if it counts

@@ -1,4 +1,5 @@
--- Delimiter lines and the multiparts that are open, as the code keeps them: the outermost first.
+-- Delimiter lines and the multiparts that are open, as the code keeps them: the outermost first. Which lines delimit, and
+-- what a message's parts are, says Parts; this serves proofs that the code follows it.
 use Rattle.std.specs.Prelude.{◌≡◌, ℕ, zero, suc, Bool, true, false, ◌+◌, ◌≤◌, List, [], ◌∷◌, Option, Some, None, if◌then◌else◌}
 use Rattle.mbox_cutter.specs.Separators.{without_break}
 use Rattle.header_text.specs.EncodedWords.{after}
@@ -9,7 +10,7 @@ use Rattle.mime_text.specs.declared.delimiter.Delimiter.TheVariants.{Next, Closi
 use Rattle.mime_text.specs.declared.nesting.Lead.{Lead}
 use Rattle.mime_text.specs.declared.nesting.Lead.TheVariants.{Nowhere, Piece, Behind}
 use Rattle.mime_text.specs.Parts.{are_blanks}
-use Rattle.mime_text.specs.Stream.{Place, Skip, InHeader, or_else}
+use Rattle.mime_text.specs.Stream.{StreamPlace, Skip, InHeader, or_else}
 
 abbrev pub dash_dash : List ℕ
 dash_dash = 0x2D ∷ 0x2D ∷ []
@@ -27,13 +28,13 @@ unfoldable pub delimiter_of : List ℕ → List ℕ → Option Delimiter
 delimiter_of boundary text = kind_behind (after boundary text)
 
 -- where a delimiter of the innermost multipart leads
-abbrev pub led : {A : Type 0} → Option Delimiter → Frame → List Frame → Option (List Frame × Place A)
+abbrev pub led : {A : Type 0} → Option Delimiter → Frame → List Frame → Option (List Frame × StreamPlace A)
 led None f outer = None
 led (Some Next) f outer = Some (f ∷ outer, InHeader false f.left f.default [])
 led (Some Closing) f outer = Some (outer, Skip)
 
 -- where a line leads that has this behind two dashes: to the outermost multipart that it delimits
-abbrev pub scan : {A : Type 0} → List Frame → List Frame → List ℕ → Option (List Frame × Place A)
+abbrev pub scan : {A : Type 0} → List Frame → List Frame → List ℕ → Option (List Frame × StreamPlace A)
 scan outer [] text = None
 scan outer (f ∷ fs) text = or_else (led (delimiter_of f.boundary text) f outer) (scan (f ∷ outer) fs text)
 
@@ -53,7 +54,7 @@ pub record Nest : Type 0 where
   pub left : ℕ
 
 -- where a lead goes
-abbrev pub lead_to : {A : Type 0} → Lead → Nest → Option (List Frame × Place A)
+abbrev pub lead_to : {A : Type 0} → Lead → Nest → Option (List Frame × StreamPlace A)
 lead_to Nowhere nest = None
 lead_to (Piece d) nest = Some (nest.frames, InHeader false nest.left d [])
 lead_to Behind nest = Some (nest.frames, Skip)

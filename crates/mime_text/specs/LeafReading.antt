@@ -1,4 +1,4 @@
--- What a reader of a leaf still gives.
+-- What a reader of a leaf still gives, told by its fields. It serves proofs: LeafTexts says what a leaf gives.
 use Rattle.std.specs.Prelude.{ℕ, List, ◌++◌, map}
 use Rattle.mail_words.specs.declared.kind.TextKind.TheVariants as kind
 use Rattle.mbox_cutter.specs.Lines.{lines}

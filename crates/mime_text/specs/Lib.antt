@@ -1,5 +1,6 @@
 pub mod FieldTexts
 pub mod MessageFacts
+pub mod Limits
 pub mod Sinks
 pub mod Parts
 pub mod Stream

@@ -1,7 +1,7 @@
 -- What a message's own header says beside its texts.
 use Rattle.std.specs.Prelude.{ℕ, ◌<◌, ◌≤◌, Bool, ◌&&◌, ◌||◌, ◌==◌, List, [], ◌∷◌, length, All, IfSome, map, filter, flat_map, Option, Some, None, option_map, codes}
 use Rattle.std.specs.List.{list_any}
-use Rattle.header_text.specs.Headers.{HeaderField}
+use Rattle.header_text.specs.Headers.{HeaderField, most_in_header}
 use Rattle.header_text.specs.Unfolding.{unfolded}
 use Rattle.header_text.specs.Ids.{ids_of}
 use Rattle.mail_words.specs.declared.flags.Flags.{Flags}
@@ -47,7 +47,7 @@ ids_of_fields fields = flat_map (λ f. ids_of f.body) (filter (λ f. is_linking 
 
 -- an id, or another text of a header, has one to so many bytes
 abbrev pub most_in_id : ℕ
-most_in_id = 262144
+most_in_id = most_in_header
 
 abbrev pub IsSizedId : List ℕ → Type 0
 IsSizedId id = (0 < length id) × (length id ≤ most_in_id)

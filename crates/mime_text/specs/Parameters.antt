@@ -44,8 +44,8 @@ value_and_rest [] = ([], [])
 value_and_rest (b ∷ bs) = elim (b == quote) [ true ↦ quoted bs | false ↦ split_while is_token_byte (b ∷ bs) ]
 
 -- a name ends before `=`; before a semicolon ends what is no parameter
-abbrev pub is_name_byte : ℕ → Bool
-is_name_byte b = not ((b == semicolon) || (b == equals_sign))
+abbrev pub is_parameter_name_byte : ℕ → Bool
+is_parameter_name_byte b = not ((b == semicolon) || (b == equals_sign))
 
 -- what stands between a semicolon and the next: a parameter or nothing that counts; and what follows the next one, if there is
 pub record Piece : Type 0 where
@@ -58,7 +58,7 @@ behind_semicolon bs = option_map (λ parts. parts.1) (cut_at semicolon bs)
 -- A parameter is a name, `=` and a value, with spaces and tabs round each. What has no `=` up to the next semicolon isn't one,
 -- and what stands between a value and the next semicolon doesn't count.
 unfoldable pub piece_of : List ℕ → Piece
-piece_of bs = let front = split_while is_name_byte bs in elim (front.1) [
+piece_of bs = let front = split_while is_parameter_name_byte bs in elim (front.1) [
   | [] ↦ record { parameter = None; later = None }
   | c ∷ rest ↦ elim (c == equals_sign) [
     | false ↦ record { parameter = None; later = Some rest }
@@ -67,12 +67,19 @@ piece_of bs = let front = split_while is_name_byte bs in elim (front.1) [
   ]
 ]
 
+-- These are the parameters of the pieces, the first of which begins these bytes, if there are any: each piece says where the
+-- next one begins.
+pub data AreParameters : Option (List ℕ) → List Parameter → Type 0 where
+  none_left : AreParameters None []
+  piece_first : {bs : List ℕ} {later : List Parameter} → AreParameters (piece_of bs).later later → AreParameters (Some bs) (option_to_list (piece_of bs).parameter ++ later)
+
 -- the parameters of the first pieces of some bytes
 abbrev pub parameters_within : ℕ → List ℕ → List Parameter
 parameters_within zero bs = []
 parameters_within (suc n) bs = option_to_list (piece_of bs).parameter ++ option_map_or (λ rest. parameters_within n rest) (piece_of bs).later []
 
--- the parameters behind a semicolon, where there is one: there are no more pieces than bytes
+-- The parameters behind a semicolon, where there is one: there are no more pieces than bytes. These, and no others, are the
+-- parameters of the pieces, as AreParameters says it.
 abbrev pub parameters_behind : Option (List ℕ) → List Parameter
 parameters_behind None = []
 parameters_behind (Some bs) = parameters_within (length bs) bs

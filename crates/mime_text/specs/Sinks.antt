@@ -3,14 +3,15 @@ use Rattle.std.specs.Prelude.{◌≡◌, ℕ, List, [], ◌∷◌, ◌++◌, Res
 use Rattle.std.specs.Result.{MatchResult}
 use Rattle.mail_words.specs.declared.kind.TextKind.{TextKind}
 use Rattle.mail_words.specs.declared.kind.TextKind.TheVariants as kind
+use Rattle.mime_text.specs.Limits.{most_in_line_text, most_in_header_text}
 use Rattle.mime_text.specs.declared.fault.SinkFault.{SinkFault}
 use Rattle.mime_text.specs.declared.fault.TextFault.{TextFault}
 use Rattle.mime_text.specs.declared.fault.TextFault.TheVariants.{OutOfMemory, Sink, Failed}
 
 -- the most bytes of a text: three for each of a header, or of a line
 abbrev pub most_in_text : TextKind → ℕ
-most_in_text kind.Body = 196611
-most_in_text _ = 786432
+most_in_text kind.Body = most_in_line_text
+most_in_text _ = most_in_header_text
 
 -- a text and its kind
 abbrev pub Pair : Type 0

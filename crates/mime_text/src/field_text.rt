@@ -5,6 +5,7 @@ ghost use Rattle.header_text.specs.Unfolding.{unfolded as unfolded_of};
 ghost use Rattle.std.specs.Char.{to_ascii_lowercase};
 ghost use Rattle.mime_text.specs.Names.{name_text};
 ghost use Rattle.mime_text.specs.FieldTexts.{is_name as is_name_of, kind_of_field as kind_of_field_of, text_of_body};
+ghost use Rattle.mime_text.specs.Limits.{most_in_header_text};
 
 use crate::name::write_name;
 use header_text::{Fields, decode_words_into, unfold_into};
@@ -72,9 +73,9 @@ pub(crate) struct FieldReader {
     unfolded: Vec<u8>,
     scratch: Vec<u8>,
     text: String,
-    ghost unfolded_fits: { length unfolded.items ≤ 262144 },
+    ghost unfolded_fits: { length unfolded.items ≤ most_in_header },
     ghost scratch_is_empty: { length scratch.items ≤ 0 },
-    ghost text_fits: { length (string_bytes text) ≤ 786432 },
+    ghost text_fits: { length (string_bytes text) ≤ most_in_header_text },
 }
 
 impl FieldReader {
@@ -89,7 +90,7 @@ impl FieldReader {
 
     /// Reads a body, and keeps nothing where memory is wanting.
     fn take(&mut self, body: &[u8]) -> Result<(), AllocError>
-        requires { length body.now ≤ 262144 }
+        requires { length body.now ≤ most_in_header }
         ensures text { OnOk result (string_bytes self.new.text ≡ text_of_body body.now) }
         ensures size { OnOk result (length (string_bytes self.new.text) ≤ 3 * length body.now) }
     {
@@ -105,7 +106,7 @@ impl FieldReader {
     /// The text of a body: in one line, its encoded words decoded (RFC 2047). It has at most three bytes for each of the
     /// body's.
     pub(crate) fn read(&mut self, body: &[u8]) -> Result<&str, AllocError>
-        requires { length body.now ≤ 262144 }
+        requires { length body.now ≤ most_in_header }
         ensures text { IfOk result (λ text. text.now ≡ text_of_body body.now) }
         ensures size { IfOk result (λ text. length text.now ≤ 3 * length body.now) }
     {
@@ -136,7 +137,7 @@ impl FieldReader {
     pub(crate) fn read_name(&mut self, fields: Fields<'_>) -> Result<Option<&str>, AllocError>
         requires { fields_size fields ≤ most_in_header }
         ensures text { IfOk result (λ name. option_map (λ text. text.now) name ≡ name_text fields.entry) }
-        ensures size { IfOk result (λ name. IfSome name (λ text. length text.now ≤ 786432)) }
+        ensures size { IfOk result (λ name. IfSome name (λ text. length text.now ≤ most_in_header_text)) }
     {
         if self.take_name(fields)? {
             Ok(Some(self.text.as_str()))

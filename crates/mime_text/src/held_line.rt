@@ -5,6 +5,7 @@ ghost use Rattle.mbox_cutter.specs.Lines.{length_before_feed, line_end_of};
 ghost use Rattle.mime_text.specs.Sinks.{Gave, Broke, Hands};
 ghost use Rattle.mime_text.specs.Decoders.{still_decoded};
 ghost use Rattle.mime_text.specs.LeafReading.{pairs_of_bytes};
+ghost use Rattle.mime_text.specs.Limits.{most_before_feed};
 
 use crate::decoder::Decoder;
 use crate::fault::TextFault;
@@ -39,7 +40,7 @@ fn give_lines<'a, S: TextSink>(
     sink: &mut S,
 ) -> Result<&'a [u8], TextFault>
     requires free { searched ≤ length_before_feed bytes.now }
-    requires few { searched ≤ 65536 }
+    requires few { searched ≤ most_before_feed }
     ensures open { IfOk result (λ rest. line_end_of rest.now ≡ None) }
     ensures fits { IfOk result (λ rest. length rest.now ≤ length bytes.now) }
     ensures rest { IfOk result (λ rest. rest.now ≡ drop (length bytes.now - length rest.now) bytes.now) }
@@ -82,7 +83,7 @@ fn take_lines<S: TextSink>(
     sink: &mut S,
 ) -> Result<(), TextFault>
     requires free { searched ≤ length_before_feed bytes.old.items }
-    requires few { searched ≤ 65536 }
+    requires few { searched ≤ most_before_feed }
     ensures open { OnOk result (line_end_of bytes.new.items ≡ None) }
     ensures hands { Hands S.takes S.refuses (λ ls. pairs_of_bytes texts.old (bytes.old.items ++ concat ls)) (λ ls. pairs_of_bytes texts.new (bytes.new.items ++ concat ls)) result sink.old sink.new }
 {

@@ -3,6 +3,7 @@ ghost use Rattle.std.specs.Prelude.{◌≡◌, ℕ, suc, List, [], ◌++◌, Boo
 ghost use Rattle.header_text.specs.Headers.{HeaderField};
 ghost use Rattle.mime_text.specs.declared.shape.DefaultType.{DefaultType};
 ghost use Rattle.mime_text.specs.declared.shape.Shape.{Shape};
+ghost use Rattle.mime_text.specs.Parameters.{Parameter, AreParameters, behind_semicolon, parameters};
 ghost use Rattle.mime_text.specs.Parts.{Part, parts};
 ghost use Rattle.mime_text.specs.Stream.{given, InHeader, counted_part};
 
@@ -11,4 +12,11 @@ ghost use Rattle.mime_text.specs.Stream.{given, InHeader, counted_part};
 pub fn one_line_at_a_time()
     ensures { (shape_of : DefaultType → List HeaderField → Shape) (gives : Part → List ℕ) (counted : Bool) (left : ℕ) (default : DefaultType) (lines : List (List ℕ))
         → given shape_of gives [] (InHeader counted left default []) lines ≡ flat_map gives (counted_part counted lines ++ parts shape_of (suc left) default lines) }
+{}
+
+/// The parameters of a value are those of its pieces, of which the first begins behind its first semicolon, and no other list
+/// is. It does nothing.
+pub fn parameters_are_of_pieces()
+    ensures some { (value : List ℕ) → AreParameters (behind_semicolon value) (parameters value) }
+    ensures only { (value : List ℕ) (ps : List Parameter) → AreParameters (behind_semicolon value) ps → ps ≡ parameters value }
 {}

@@ -6,6 +6,7 @@ ghost use Rattle.mime_text.specs.Transfer.{ends_in};
 ghost use Rattle.mime_text.specs.LeafTexts.{leaf_texts};
 ghost use Rattle.mime_text.specs.LeafReading.{body_pairs, pairs_to_come};
 ghost use Rattle.mime_text.specs.declared.decoder.Decoder.TheVariants as decoder_of;
+ghost use Rattle.mime_text.specs.Limits.{most_in_line};
 
 use crate::decoder::Decoder;
 use crate::fault::TextFault;
@@ -63,7 +64,7 @@ impl LeafReader {
 
     /// Reads the next line of the body.
     pub fn line<S: TextSink>(&mut self, line: &[u8], sink: &mut S) -> Result<(), TextFault>
-        requires short { length line.now ≤ 65537 }
+        requires short { length line.now ≤ most_in_line }
         requires last { length line.now ≤ length_before_feed line.now + 1 }
         ensures { Hands S.takes S.refuses (λ ls. pairs_to_come self.old (line.now ∷ ls)) (λ ls. pairs_to_come self.new ls) result sink.old sink.new }
     {

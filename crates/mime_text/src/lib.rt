@@ -30,7 +30,7 @@ mod transfer;
 
 pub use facts::Facts;
 pub use fault::{SinkFault, TextFault};
-pub use law::one_line_at_a_time;
+pub use law::{one_line_at_a_time, parameters_are_of_pieces};
 pub use message_text::MessageText;
 pub use owned::{DateText, MessageId, MessageIds};
 pub use sink::TextSink;

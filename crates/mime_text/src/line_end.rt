@@ -1,17 +1,16 @@
 //! Where a line ends whose beginning was searched before.
 ghost use Rattle.std.specs.Prelude.{◌≡◌, ◌≤◌};
 ghost use Rattle.mbox_cutter.specs.Lines.{length_before_feed, line_end_of};
+ghost use Rattle.mime_text.specs.Limits.{most_before_feed};
 
+use mbox_cutter::MOST_IN_LINE;
 use memchr::memchr;
-
-/// The most bytes other than LF that a line has.
-const MOST_IN_LINE: usize = 65_536;
 
 /// The first line's length, where no byte to come can change it, as `mbox_cutter::line_end` has it: so many bytes in front,
 /// which have no LF, aren't searched again.
 pub(crate) fn line_end_behind(searched: usize, bytes: &[u8]) -> Option<usize>
     requires free { searched ≤ length_before_feed bytes.now }
-    requires few { searched ≤ 65536 }
+    requires few { searched ≤ most_before_feed }
     ensures { result ≡ line_end_of bytes.now }
 {
     let head = &bytes[..bytes.len().min(MOST_IN_LINE + 1)];

@@ -4,6 +4,7 @@ ghost use Rattle.mime_text.specs.OpenTags.{line_text, is_open_behind_line};
 ghost use Rattle.mime_text.specs.Sinks.{Hands};
 ghost use Rattle.mime_text.specs.Inside.Showing.{Shows};
 ghost use Rattle.mime_text.specs.LeafReading.{pairs_of_lines};
+ghost use Rattle.mime_text.specs.Limits.{most_in_line};
 
 use crate::fault::TextFault;
 use crate::sink::TextSink;
@@ -49,7 +50,7 @@ impl LineTexts {
 
     /// Gives a sink the text of the next line, and keeps whether a tag is open behind it.
     fn show_line<S: TextSink>(&mut self, line: &[u8], sink: &mut S) -> Result<(), TextFault>
-        requires { length line.now ≤ 65537 }
+        requires { length line.now ≤ most_in_line }
         ensures shows { Shows S.takes S.refuses (line_text self.old.charset self.old.is_html self.old.is_open line.now) result sink.old sink.new }
         ensures charset { self.new.charset ≡ self.old.charset }
         ensures is_html { self.new.is_html ≡ self.old.is_html }
@@ -72,7 +73,7 @@ impl LineTexts {
 
     /// Gives a sink the text of the next line.
     pub(crate) fn give<S: TextSink>(&mut self, line: &[u8], sink: &mut S) -> Result<(), TextFault>
-        requires { length line.now ≤ 65537 }
+        requires { length line.now ≤ most_in_line }
         ensures { Hands S.takes S.refuses (λ ls. pairs_of_lines self.old (line.now ∷ ls)) (λ ls. pairs_of_lines self.new ls) result sink.old sink.new }
     {
         self.show_line(line, sink)

@@ -5,6 +5,7 @@ ghost use Rattle.header_text.specs.Headers.{fields_of};
 ghost use Rattle.mime_text.specs.MessageFacts.{HasSizedIds, facts_of};
 ghost use Rattle.mime_text.specs.Sinks.{Pair};
 ghost use Rattle.mime_text.specs.Fed.{Fed, Feeds, FeedsPart, Finishes, FinishesPart, has_failed};
+ghost use Rattle.mime_text.specs.Limits.{most_in_line};
 
 use crate::facts::Facts;
 use crate::fault::TextFault;
@@ -37,7 +38,7 @@ impl MessageText {
     /// fault every call answers Failed.
     pub fn line<S: TextSink>(&mut self, line: &[u8], sink: &mut S) -> Result<(), TextFault>
         requires some { 0 < length line.now }
-        requires short { length line.now ≤ 65537 }
+        requires short { length line.now ≤ most_in_line }
         requires last { length line.now ≤ length_before_feed line.now + 1 }
         ensures fed { OnOk result (Feeds S.takes S.refuses self.old self.new line.now sink.old sink.new) }
         ensures stopped { has_failed self.old ≡ false → IfErr result (λ fault. FeedsPart S.takes S.refuses self.old line.now fault sink.old sink.new) }

@@ -3,6 +3,7 @@ ghost use Rattle.std.specs.Prelude.{◌≡◌, ◌+◌, ◌≤◌, ℕ, List, []
 ghost use Rattle.header_text.specs.Headers.{most_in_header};
 ghost use Rattle.header_text.specs.Ids.{ids_size};
 ghost use Rattle.mime_text.specs.MessageFacts.{IsSizedId};
+ghost use Rattle.mime_text.specs.Limits.{most_in_header_text};
 
 use std::alloc::{AllocError, Global};
 use std::marker::Model;
@@ -18,16 +19,17 @@ impl Model for DateText {
 
     ghost Value = { List ℕ };
 
+    ghost use Rattle.mime_text.specs.Limits.{most_in_header_text};
     ghost use Rattle.std.specs.Prelude.{◌≤◌, length, string_bytes};
 
     ghost view = { λ t. string_bytes t.text };
 
-    ghost invariant = { λ t. length (string_bytes t.text) ≤ 786432 };
+    ghost invariant = { λ t. length (string_bytes t.text) ≤ most_in_header_text };
 }
 
 impl DateText {
     pub(crate) fn new(alloc: Global, text: &str) -> Result<Self, AllocError>
-        requires { length text.now ≤ 786432 }
+        requires { length text.now ≤ most_in_header_text }
         ensures { IfOk result (λ t. t ≡ text.now) }
     {
         Ok(DateText {

@@ -4,7 +4,7 @@ ghost use Rattle.std.specs.Char.{to_ascii_lowercase};
 ghost use Rattle.std.specs.Option.{option_map_or};
 ghost use Rattle.std.specs.Str.{bytes_eq, str_to_ascii_lowercase};
 ghost use Rattle.header_text.specs.Blanks.{split_while};
-ghost use Rattle.mime_text.specs.Parameters.{quoted, is_token_byte as is_token_byte_of, is_name_byte as is_name_byte_of, value_and_rest, piece_of, behind_semicolon as behind_semicolon_of, parameter as parameter_of};
+ghost use Rattle.mime_text.specs.Parameters.{quoted, is_token_byte as is_token_byte_of, is_parameter_name_byte as is_parameter_name_byte_of, value_and_rest, piece_of, behind_semicolon as behind_semicolon_of, parameter as parameter_of};
 
 use header_text::{after_blanks, cut_at, is_named, trimmed};
 use std::alloc::AllocError;
@@ -17,8 +17,8 @@ fn is_token_byte(b: u8) -> bool
 }
 
 /// Whether a name may have the byte.
-fn is_name_byte(b: u8) -> bool
-    ensures { result ≡ is_name_byte_of b }
+fn is_parameter_name_byte(b: u8) -> bool
+    ensures { result ≡ is_parameter_name_byte_of b }
 {
     !matches!(b, b';' | b'=')
 }
@@ -39,11 +39,11 @@ fn after_token(bytes: &[u8]) -> &[u8]
 
 /// The bytes behind those in front that a name may have.
 fn after_name(bytes: &[u8]) -> &[u8]
-    ensures { result.now ≡ (split_while is_name_byte_of bytes.now).1 }
+    ensures { result.now ≡ (split_while is_parameter_name_byte_of bytes.now).1 }
 {
     let mut rest = bytes;
     while let Some((first, others)) = rest.split_first() {
-        if !is_name_byte(*first) {
+        if !is_parameter_name_byte(*first) {
             break;
         }
         rest = others;

@@ -10,6 +10,7 @@ ghost use Rattle.mime_text.specs.Stream.{hit};
 ghost use Rattle.mime_text.specs.Feeding.{ending, Notes};
 ghost use Rattle.mime_text.specs.Texts.{texts_of_message};
 ghost use Rattle.mime_text.specs.Inside.Passing.{Passes, IsOver};
+ghost use Rattle.mime_text.specs.Limits.{most_in_line};
 
 use crate::content_type::EntityType;
 use crate::facts::Facts;
@@ -101,7 +102,7 @@ impl PartReader {
 
     /// Reads the next line.
     pub(crate) fn line<S: TextSink>(&mut self, line: &[u8], sink: &mut S) -> Result<(), TextFault>
-        requires short { length line.now ≤ 65537 }
+        requires short { length line.now ≤ most_in_line }
         requires last { length line.now ≤ length_before_feed line.now + 1 }
         ensures pairs { Passes S.takes S.refuses (Comes self.old) (Comes self.new) (λ c ms. c (line.now ∷ ms)) result sink.old sink.new }
         ensures facts { OnOk result ((ls : List (List ℕ)) → KnowsFacts self.old ls → KnowsFacts self.new (ls ++ line.now ∷ [])) }
@@ -150,7 +151,7 @@ impl PartReader {
     /// Reads a line that delimits nothing.
     fn inner_line<S: TextSink>(&mut self, line: &[u8], sink: &mut S) -> Result<(), TextFault>
         requires inner { hit {A = Pair} self.old.nesting.frames line.now ≡ None }
-        requires short { length line.now ≤ 65537 }
+        requires short { length line.now ≤ most_in_line }
         requires last { length line.now ≤ length_before_feed line.now + 1 }
         ensures pairs { Passes S.takes S.refuses (Comes self.old) (Comes self.new) (λ c ms. c (line.now ∷ ms)) result sink.old sink.new }
         ensures facts { OnOk result ((ls : List (List ℕ)) → KnowsFacts self.old ls → KnowsFacts self.new (ls ++ line.now ∷ [])) }

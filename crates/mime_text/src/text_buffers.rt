@@ -4,6 +4,7 @@ ghost use Rattle.std.specs.Str.{chars};
 ghost use Rattle.header_text.specs.Charsets.{text_of};
 ghost use Rattle.mime_text.specs.OpenTags.{blanked, is_open_behind};
 ghost use Rattle.mime_text.specs.Inside.Showing.{Shows};
+ghost use Rattle.mime_text.specs.Limits.{most_in_line, most_in_line_text};
 
 use crate::fault::TextFault;
 use crate::own_text::own_text;
@@ -18,13 +19,13 @@ use std::alloc::{AllocError, Global};
 pub(crate) struct TextBuffers {
     text: String,
     blanked: String,
-    ghost text_fits: { length (string_bytes text) ≤ 196611 },
-    ghost blanked_fits: { length (string_bytes blanked) ≤ 196611 },
+    ghost text_fits: { length (string_bytes text) ≤ most_in_line_text },
+    ghost blanked_fits: { length (string_bytes blanked) ≤ most_in_line_text },
 }
 
 /// Gives a sink a text of a body.
 fn show<S: TextSink>(text: &str, sink: &mut S) -> Result<(), TextFault>
-    requires { length text.now ≤ 196611 }
+    requires { length text.now ≤ most_in_line_text }
     ensures { Shows S.takes S.refuses text.now result sink.old sink.new }
 {
     match sink.text(TextKind::Body, text) {
@@ -35,9 +36,9 @@ fn show<S: TextSink>(text: &str, sink: &mut S) -> Result<(), TextFault>
 
 /// Writes the text of a line; nothing where memory is wanting.
 fn write_text(charset: Charset, line: &[u8], into: &mut String) -> Result<(), AllocError>
-    requires { length line.now ≤ 65537 }
+    requires { length line.now ≤ most_in_line }
     ensures text { OnOk result (string_bytes into.new ≡ text_of charset line.now) }
-    ensures size { length (string_bytes into.new) ≤ 196611 }
+    ensures size { length (string_bytes into.new) ≤ most_in_line_text }
 {
     into.clear();
     match decode_into(charset, line, into) {
@@ -51,10 +52,10 @@ fn write_text(charset: Charset, line: &[u8], into: &mut String) -> Result<(), Al
 
 /// Writes a text without its tags; nothing where memory is wanting. The answer is whether a tag is open behind it.
 fn write_blanked(open_before: bool, text: &str, into: &mut String) -> Result<bool, AllocError>
-    requires { length text.now ≤ 196611 }
+    requires { length text.now ≤ most_in_line_text }
     ensures text { OnOk result (string_bytes into.new ≡ encode_utf8_all (blanked open_before (chars text.now))) }
     ensures is_open { IfOk result (λ behind. behind ≡ is_open_behind open_before (chars text.now)) }
-    ensures size { length (string_bytes into.new) ≤ 196611 }
+    ensures size { length (string_bytes into.new) ≤ most_in_line_text }
 {
     into.clear();
     match blank_tags(open_before, text, into) {
@@ -82,7 +83,7 @@ impl TextBuffers {
         line: &[u8],
         sink: &mut S,
     ) -> Result<(), TextFault>
-        requires { length line.now ≤ 65537 }
+        requires { length line.now ≤ most_in_line }
         ensures { Shows S.takes S.refuses (text_of charset line.now) result sink.old sink.new }
     {
         if let Some(text) = own_text(charset, line) {
@@ -101,7 +102,7 @@ impl TextBuffers {
         open_before: bool,
         line: &[u8],
     ) -> Result<bool, AllocError>
-        requires { length line.now ≤ 65537 }
+        requires { length line.now ≤ most_in_line }
         ensures text { OnOk result (string_bytes self.new.blanked ≡ encode_utf8_all (blanked open_before (chars (text_of charset line.now)))) }
         ensures is_open { IfOk result (λ behind. behind ≡ is_open_behind open_before (chars (text_of charset line.now))) }
     {
@@ -122,7 +123,7 @@ impl TextBuffers {
         line: &[u8],
         sink: &mut S,
     ) -> Result<bool, TextFault>
-        requires { length line.now ≤ 65537 }
+        requires { length line.now ≤ most_in_line }
         ensures shows { Shows S.takes S.refuses (encode_utf8_all (blanked open_before (chars (text_of charset line.now)))) result sink.old sink.new }
         ensures is_open { IfOk result (λ behind. behind ≡ is_open_behind open_before (chars (text_of charset line.now))) }
     {

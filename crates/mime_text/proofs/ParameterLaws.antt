@@ -1,0 +1,31 @@
+-- The parameters of a value are those of its pieces, and no others are.
+use Rattle.std.proofs.Common.{◌≡◌, ◌∙◌, ◌≤◌, ◌++◌, ℕ, zero, suc, List, [], ◌∷◌, Option, Some, None, length, refl, sym, ap, subst, arith}
+use Rattle.std.specs.Option.{option_to_list}
+use Rattle.mime_text.specs.Parameters.{Parameter, piece_of, AreParameters, none_left, piece_first, parameters_behind}
+use Rattle.mime_text.proofs.ParameterLemmas.{behind-step, later-shorter}
+
+pub only_parameters : (begin : Option (List ℕ)) (ps : List Parameter) → AreParameters begin ps → ps ≡ parameters_behind begin
+only_parameters None ps none_left = refl
+only_parameters (Some bs) ps (piece_first {later = later} rest) =
+    ap (λ (l : List Parameter). option_to_list (piece_of bs).parameter ++ l) (only_parameters (piece_of bs).later later rest) ∙ sym (behind-step bs)
+
+first_piece : (bs : List ℕ) → AreParameters (piece_of bs).later (parameters_behind (piece_of bs).later) → AreParameters (Some bs) (parameters_behind (Some bs))
+first_piece bs later = subst (λ (ps : List Parameter). AreParameters (Some bs) ps) (sym (behind-step bs)) (piece_first later)
+
+no_bytes : AreParameters (piece_of []).later (parameters_behind (piece_of []).later)
+unfolding piece_of
+no_bytes = none_left
+
+within_bytes : (n : ℕ) (bs : List ℕ) → length bs ≤ n → AreParameters (Some bs) (parameters_behind (Some bs))
+within_bytes n [] few = first_piece [] no_bytes
+within_bytes zero (b ∷ bs) few = absurd (omega arith)
+within_bytes (suc n) (b ∷ bs) few = first_piece (b ∷ bs) (go (piece_of (b ∷ bs)).later refl (within_bytes n))
+  where
+    go : (o : Option (List ℕ)) → (piece_of (b ∷ bs)).later ≡ o → ((rest : List ℕ) → length rest ≤ n → AreParameters (Some rest) (parameters_behind (Some rest)))
+        → AreParameters o (parameters_behind o)
+    go None e later = none_left
+    go (Some rest) e later = let less = later-shorter (b ∷ bs) rest e in later rest (omega (arith, less))
+
+pub are_parameters : (begin : Option (List ℕ)) → AreParameters begin (parameters_behind begin)
+are_parameters None = none_left
+are_parameters (Some bs) = within_bytes (length bs) bs (omega arith)

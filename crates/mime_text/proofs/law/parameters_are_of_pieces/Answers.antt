@@ -1,0 +1,9 @@
+use Rattle.mime_text.specs.Parameters.{behind_semicolon}
+use Rattle.mime_text.proofs.ParameterLaws.{are_parameters, only_parameters}
+use Rattle.mime_text.proofs.law.parameters_are_of_pieces.Goals as goal
+
+pub returns-clause-some : goal.returns-clause-some
+returns-clause-some c value = are_parameters (behind_semicolon value)
+
+pub returns-clause-only : goal.returns-clause-only
+returns-clause-only c value ps = only_parameters (behind_semicolon value) ps
