@@ -1,7 +1,6 @@
 pub mod PieceLemmas
 pub mod ApproximateLemmas
 pub mod EachLemmas
-pub mod Digits
 pub mod FlagLemmas
 pub mod SizeLemmas
 pub mod NodeLemmas

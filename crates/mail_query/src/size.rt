@@ -1,13 +1,11 @@
 //! Sizes, as a pattern names them.
-ghost use Rattle.std.specs.Prelude.{◌≡◌, ◌<◌, ◌≤◌, ◌^◌, length, true, option_map};
-ghost use Rattle.std.specs.Char.{is_ascii_digit};
-ghost use Rattle.std.specs.List.{list_all};
-ghost use Rattle.std.specs.Str.Parse.{digits_value};
+ghost use Rattle.std.specs.Prelude.{◌≡◌, option_map};
 ghost use Rattle.mail_query.specs.Query.{query_of};
 ghost use Rattle.mail_query.specs.Sizes.{factor_of, scaled, size_of, low_of, high_of, sizes_between, sizes_of};
 
 use crate::node::Node;
 use crate::pieces::cut;
+use mail_dates::{are_digits, decimal_value};
 
 /// The greatest size that can be asked.
 const SIZE_LIMIT: u64 = 9_223_372_036_854_775_807;
@@ -85,22 +83,4 @@ fn scaled(factor: u64, digits: &[u8]) -> Option<u64>
         Some(size) if size <= SIZE_LIMIT => Some(size),
         _ => None,
     }
-}
-
-fn are_digits(text: &[u8]) -> bool
-    ensures { result ≡ list_all is_ascii_digit text.now }
-{
-    text.iter().all(|byte| byte.is_ascii_digit())
-}
-
-fn decimal_value(digits: &[u8]) -> u64
-    requires few { length digits.now ≤ 18 }
-    requires digits { list_all is_ascii_digit digits.now ≡ true }
-    ensures { result ≡ digits_value 10 digits.now }
-{
-    let mut value: u64 = 0;
-    for digit in digits {
-        value = value * 10 + u64::from(*digit - b'0');
-    }
-    value
 }
