@@ -11,7 +11,7 @@ use Rattle.mime_text.specs.declared.fault.SinkFault.TheVariants as sink
 use Rattle.mime_text.specs.declared.fault.TextFault.{TextFault}
 use Rattle.mime_text.specs.declared.fault.TextFault.TheVariants as fault
 use Rattle.mime_text.specs.declared.message_text.MessageText.{MessageText}
-use Rattle.mime_text.specs.declared.facts.Facts.{Facts}
+use Rattle.mime_text.specs.declared.header.facts.Facts.{Facts}
 use Rattle.mime_text.specs.MessageFacts.{facts_of}
 use Rattle.mime_text.specs.Sinks.{Pair, TakesAll, Breaks}
 use Rattle.mime_text.specs.Texts.{texts_of_message}

@@ -7,7 +7,7 @@ use Rattle.mail_index.specs.Builders.{Draft, end_of, IsInArchive}
 use Rattle.mbox_cutter.specs.Archives.{Message, text, size, span_length}
 use Rattle.mbox_cutter.specs.declared.event.CutFault.TheVariants as cut
 use Rattle.mbox_cutter.specs.Events.{Coming}
-use Rattle.mime_text.specs.declared.facts.Facts.{Facts}
+use Rattle.mime_text.specs.declared.header.facts.Facts.{Facts}
 use Rattle.mime_text.specs.declared.message_text.MessageText.{MessageText}
 use Rattle.mime_text.specs.MessageFacts.{facts_of}
 use Rattle.mime_text.specs.Texts.{texts_of_message}

@@ -8,7 +8,7 @@ use Rattle.mail_index.specs.Builders.{with_pair}
 use Rattle.mail_index.specs.Versions.{newest}
 use Rattle.mail_index.specs.Tables.{Archive, Key, Table}
 use Rattle.mbox_cutter.specs.Archives.{Message, messages, text, size, span_length}
-use Rattle.mime_text.specs.declared.facts.Facts.{Facts}
+use Rattle.mime_text.specs.declared.header.facts.Facts.{Facts}
 use Rattle.mime_text.specs.MessageFacts.{facts_of}
 use Rattle.index_job.specs.MessageTerms.{Term, message_terms}
 

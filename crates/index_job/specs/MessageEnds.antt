@@ -2,7 +2,7 @@
 use Rattle.std.specs.Prelude.{◌++◌, ◌∷◌, [], false}
 use Rattle.mail_index.specs.declared.record.Record.{Record}
 use Rattle.mail_index.specs.Builders.{Draft}
-use Rattle.mime_text.specs.declared.facts.Facts.{Facts}
+use Rattle.mime_text.specs.declared.header.facts.Facts.{Facts}
 use Rattle.index_job.specs.declared.message_end.Span.{Span}
 use Rattle.index_job.specs.ArchiveTables.{date_told}
 use Rattle.index_job.specs.Indexing.{draft_with_terms}

@@ -6,7 +6,7 @@ use Rattle.mail_words.specs.Words.{words}
 use Rattle.mail_words.specs.Folding.{folding}
 use Rattle.mail_index.specs.declared.kind.Kind.{Kind}
 use Rattle.mail_index.specs.declared.kind.Kind.TheVariants.{Text, OwnId, LinkId}
-use Rattle.mime_text.specs.declared.facts.Facts.{Facts}
+use Rattle.mime_text.specs.declared.header.facts.Facts.{Facts}
 use Rattle.mime_text.specs.MessageFacts.{facts_of}
 use Rattle.mime_text.specs.Sinks.{Pair}
 use Rattle.mime_text.specs.Texts.{texts_of_message}

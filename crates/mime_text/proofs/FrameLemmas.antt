@@ -5,10 +5,10 @@ use Rattle.std.specs.Str.{bytes_eq}
 use Rattle.std.proofs.lemmas.Option.{slice_get-get_or}
 use Rattle.mbox_cutter.specs.Separators.{without_break}
 use Rattle.header_text.specs.EncodedWords.{after}
-use Rattle.mime_text.specs.declared.shape.DefaultType.{DefaultType}
-use Rattle.mime_text.specs.declared.frame.Frame.{Frame}
-use Rattle.mime_text.specs.declared.delimiter.Delimiter.{Delimiter}
-use Rattle.mime_text.specs.declared.delimiter.Delimiter.TheVariants.{Next, Closing}
+use Rattle.mime_text.specs.declared.parts.shape.DefaultType.{DefaultType}
+use Rattle.mime_text.specs.declared.parts.frame.Frame.{Frame}
+use Rattle.mime_text.specs.declared.parts.delimiter.Delimiter.{Delimiter}
+use Rattle.mime_text.specs.declared.parts.delimiter.Delimiter.TheVariants.{Next, Closing}
 use Rattle.mime_text.specs.Parts.{are_blanks, is_delimiter, is_closing}
 use Rattle.mime_text.specs.Stream.{StreamPlace, Skip, InHeader, or_else, own_hit, hit}
 use Rattle.mime_text.specs.Frames.{dash_dash, dashes, kind_behind, delimiter_of, led, scan, inside_out, opened, AreNested}

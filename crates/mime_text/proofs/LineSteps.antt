@@ -14,7 +14,7 @@ use Rattle.mail_words.specs.declared.kind.TextKind.TheVariants as kind
 use Rattle.mime_text.specs.declared.fault.SinkFault.{SinkFault}
 use Rattle.mime_text.specs.declared.fault.TextFault.{TextFault}
 use Rattle.mime_text.specs.declared.fault.TextFault.TheVariants.{OutOfMemory, Sink, Failed}
-use Rattle.mime_text.specs.declared.line_texts.LineTexts.{LineTexts}
+use Rattle.mime_text.specs.declared.leaf.line_texts.LineTexts.{LineTexts}
 use Rattle.mime_text.specs.Sinks.{Pair, Gave, Broke, Hands}
 use Rattle.mime_text.specs.Transfer.{ends_in}
 use Rattle.mime_text.specs.OpenTags.{line_text, is_open_behind_line, texts_behind}

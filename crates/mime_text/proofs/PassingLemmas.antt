@@ -12,14 +12,14 @@ use Rattle.mail_words.specs.declared.kind.TextKind.{TextKind}
 use Rattle.mime_text.specs.declared.fault.SinkFault.{SinkFault}
 use Rattle.mime_text.specs.declared.fault.TextFault.{TextFault}
 use Rattle.mime_text.specs.declared.fault.TextFault.TheVariants.{OutOfMemory}
-use Rattle.mime_text.specs.declared.shape.DefaultType.{DefaultType}
-use Rattle.mime_text.specs.declared.frame.Frame.{Frame}
-use Rattle.mime_text.specs.declared.facts.Facts.{Facts}
-use Rattle.mime_text.specs.declared.part_reader.State.{State}
-use Rattle.mime_text.specs.declared.part_reader.State.TheVariants as state
-use Rattle.mime_text.specs.declared.part_reader.PartReader.{PartReader}
-use Rattle.mime_text.specs.declared.nesting.Lead.{Lead}
-use Rattle.mime_text.specs.declared.nesting.Lead.TheVariants.{Nowhere, Piece, Behind}
+use Rattle.mime_text.specs.declared.parts.shape.DefaultType.{DefaultType}
+use Rattle.mime_text.specs.declared.parts.frame.Frame.{Frame}
+use Rattle.mime_text.specs.declared.header.facts.Facts.{Facts}
+use Rattle.mime_text.specs.declared.parts.part_reader.State.{State}
+use Rattle.mime_text.specs.declared.parts.part_reader.State.TheVariants as state
+use Rattle.mime_text.specs.declared.parts.part_reader.PartReader.{PartReader}
+use Rattle.mime_text.specs.declared.parts.nesting.Lead.{Lead}
+use Rattle.mime_text.specs.declared.parts.nesting.Lead.TheVariants.{Nowhere, Piece, Behind}
 use Rattle.mime_text.specs.Sinks.{Pair, Coming, Gave, Broke, Hands}
 use Rattle.mime_text.specs.Types.{shape_of}
 use Rattle.mime_text.specs.MessageFacts.{facts_of}

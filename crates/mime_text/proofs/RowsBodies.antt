@@ -13,7 +13,7 @@ use Rattle.header_text.specs.declared.charset.Charset.TheVariants.{Utf8, Latin1}
 use Rattle.mime_text.specs.Transfer.{printable_bytes, decoded_bytes}
 use Rattle.mime_text.specs.Tags.{lines_without_tags}
 use Rattle.mime_text.specs.LeafTexts.{leaf_texts}
-use Rattle.mime_text.specs.declared.transfer.TransferEncoding.TheVariants.{Identity, QuotedPrintable, Base64}
+use Rattle.mime_text.specs.declared.leaf.transfer.TransferEncoding.TheVariants.{Identity, QuotedPrintable, Base64}
 
 soft_break : decoded_bytes QuotedPrintable (codes "lunch=\n" ∷ codes "break\n" ∷ []) ≡ codes "lunchbreak\n"
 unfolding is_empty without_break before_blanks unescaped sextet bytes_of_sextets base64_bytes printable_bytes first_length lines charset_of text_of leaf_texts chars encode_utf8

@@ -9,9 +9,9 @@ use Rattle.header_text.specs.Charsets.{charset_of}
 use Rattle.header_text.specs.declared.charset.Charset.TheVariants.{Utf8, Latin1, Unknown}
 use Rattle.mime_text.specs.Parameters.{Parameter, piece_of, parameters, parameter}
 use Rattle.mime_text.specs.Types.{shape_of, shape_of_value, charset_in, charset_of_value, transfer_in, transfer_named}
-use Rattle.mime_text.specs.declared.shape.DefaultType.TheVariants.{TextPlain, MessageRfc822}
-use Rattle.mime_text.specs.declared.shape.Shape.TheVariants.{Multipart, Message, Text, Other}
-use Rattle.mime_text.specs.declared.transfer.TransferEncoding.TheVariants.{Identity, QuotedPrintable, Base64}
+use Rattle.mime_text.specs.declared.parts.shape.DefaultType.TheVariants.{TextPlain, MessageRfc822}
+use Rattle.mime_text.specs.declared.parts.shape.Shape.TheVariants.{Multipart, Message, Text, Other}
+use Rattle.mime_text.specs.declared.leaf.transfer.TransferEncoding.TheVariants.{Identity, QuotedPrintable, Base64}
 
 abbrev typed : List ℕ → List HeaderField
 typed value = record { name = codes "Content-Type"; body = value } ∷ []

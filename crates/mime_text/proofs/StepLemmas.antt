@@ -10,13 +10,13 @@ use Rattle.header_text.specs.Unfolding.{unfolded}
 use Rattle.header_text.specs.Stages.{has_empty}
 use Rattle.header_text.specs.Base64.{base64_bytes, bytes_of_sextets}
 use Rattle.header_text.specs.declared.charset.Charset.{Charset}
-use Rattle.mime_text.specs.declared.shape.DefaultType.{DefaultType}
-use Rattle.mime_text.specs.declared.shape.DefaultType.TheVariants.{TextPlain}
-use Rattle.mime_text.specs.declared.shape.Shape.{Shape}
-use Rattle.mime_text.specs.declared.shape.Shape.TheVariants.{Multipart, Message, Text, Other}
-use Rattle.mime_text.specs.declared.frame.Frame.{Frame}
-use Rattle.mime_text.specs.declared.transfer.TransferEncoding.{TransferEncoding}
-use Rattle.mime_text.specs.declared.transfer.TransferEncoding.TheVariants.{Identity, QuotedPrintable, Base64}
+use Rattle.mime_text.specs.declared.parts.shape.DefaultType.{DefaultType}
+use Rattle.mime_text.specs.declared.parts.shape.DefaultType.TheVariants.{TextPlain}
+use Rattle.mime_text.specs.declared.parts.shape.Shape.{Shape}
+use Rattle.mime_text.specs.declared.parts.shape.Shape.TheVariants.{Multipart, Message, Text, Other}
+use Rattle.mime_text.specs.declared.parts.frame.Frame.{Frame}
+use Rattle.mime_text.specs.declared.leaf.transfer.TransferEncoding.{TransferEncoding}
+use Rattle.mime_text.specs.declared.leaf.transfer.TransferEncoding.TheVariants.{Identity, QuotedPrintable, Base64}
 use Rattle.mime_text.specs.Sinks.{Pair, Coming}
 use Rattle.mime_text.specs.FieldTexts.{texts_of_fields}
 use Rattle.mime_text.specs.Parameters.{piece_of, parameter}

@@ -6,17 +6,17 @@ use Rattle.header_text.specs.Headers.{HeaderField, fields_of}
 use Rattle.header_text.specs.declared.header.Header.{Header}
 use Rattle.header_text.specs.HeldLines.{HasLines}
 use Rattle.header_text.specs.Stages.{has_empty}
-use Rattle.mime_text.specs.declared.shape.DefaultType.{DefaultType}
-use Rattle.mime_text.specs.declared.shape.DefaultType.TheVariants.{TextPlain}
-use Rattle.mime_text.specs.declared.shape.Shape.{Shape}
-use Rattle.mime_text.specs.declared.frame.Frame.{Frame}
-use Rattle.mime_text.specs.declared.facts.Facts.{Facts}
-use Rattle.mime_text.specs.declared.leaf_reader.LeafReader.{LeafReader}
-use Rattle.mime_text.specs.declared.part_reader.State.{State}
-use Rattle.mime_text.specs.declared.part_reader.State.TheVariants as state
-use Rattle.mime_text.specs.declared.part_reader.PartReader.{PartReader}
-use Rattle.mime_text.specs.declared.nesting.Lead.{Lead}
-use Rattle.mime_text.specs.declared.nesting.Lead.TheVariants.{Nowhere, Piece, Behind}
+use Rattle.mime_text.specs.declared.parts.shape.DefaultType.{DefaultType}
+use Rattle.mime_text.specs.declared.parts.shape.DefaultType.TheVariants.{TextPlain}
+use Rattle.mime_text.specs.declared.parts.shape.Shape.{Shape}
+use Rattle.mime_text.specs.declared.parts.frame.Frame.{Frame}
+use Rattle.mime_text.specs.declared.header.facts.Facts.{Facts}
+use Rattle.mime_text.specs.declared.leaf.leaf_reader.LeafReader.{LeafReader}
+use Rattle.mime_text.specs.declared.parts.part_reader.State.{State}
+use Rattle.mime_text.specs.declared.parts.part_reader.State.TheVariants as state
+use Rattle.mime_text.specs.declared.parts.part_reader.PartReader.{PartReader}
+use Rattle.mime_text.specs.declared.parts.nesting.Lead.{Lead}
+use Rattle.mime_text.specs.declared.parts.nesting.Lead.TheVariants.{Nowhere, Piece, Behind}
 use Rattle.mime_text.specs.Sinks.{Pair, Coming}
 use Rattle.mime_text.specs.FieldTexts.{texts_of_fields}
 use Rattle.mime_text.specs.Names.{name_texts}

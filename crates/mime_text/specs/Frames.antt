@@ -3,12 +3,12 @@
 use Rattle.std.specs.Prelude.{◌≡◌, ℕ, zero, suc, Bool, true, false, ◌+◌, ◌≤◌, List, [], ◌∷◌, Option, Some, None, if◌then◌else◌}
 use Rattle.mbox_cutter.specs.Separators.{without_break}
 use Rattle.header_text.specs.EncodedWords.{after}
-use Rattle.mime_text.specs.declared.shape.DefaultType.{DefaultType}
-use Rattle.mime_text.specs.declared.frame.Frame.{Frame}
-use Rattle.mime_text.specs.declared.delimiter.Delimiter.{Delimiter}
-use Rattle.mime_text.specs.declared.delimiter.Delimiter.TheVariants.{Next, Closing}
-use Rattle.mime_text.specs.declared.nesting.Lead.{Lead}
-use Rattle.mime_text.specs.declared.nesting.Lead.TheVariants.{Nowhere, Piece, Behind}
+use Rattle.mime_text.specs.declared.parts.shape.DefaultType.{DefaultType}
+use Rattle.mime_text.specs.declared.parts.frame.Frame.{Frame}
+use Rattle.mime_text.specs.declared.parts.delimiter.Delimiter.{Delimiter}
+use Rattle.mime_text.specs.declared.parts.delimiter.Delimiter.TheVariants.{Next, Closing}
+use Rattle.mime_text.specs.declared.parts.nesting.Lead.{Lead}
+use Rattle.mime_text.specs.declared.parts.nesting.Lead.TheVariants.{Nowhere, Piece, Behind}
 use Rattle.mime_text.specs.Parts.{are_blanks}
 use Rattle.mime_text.specs.Stream.{StreamPlace, Skip, InHeader, or_else}
 

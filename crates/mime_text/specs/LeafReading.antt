@@ -5,8 +5,8 @@ use Rattle.mbox_cutter.specs.Lines.{lines}
 use Rattle.mime_text.specs.Sinks.{Pair}
 use Rattle.mime_text.specs.OpenTags.{texts_behind}
 use Rattle.mime_text.specs.Decoders.{still_decoded}
-use Rattle.mime_text.specs.declared.line_texts.LineTexts.{LineTexts}
-use Rattle.mime_text.specs.declared.leaf_reader.LeafReader.{LeafReader}
+use Rattle.mime_text.specs.declared.leaf.line_texts.LineTexts.{LineTexts}
+use Rattle.mime_text.specs.declared.leaf.leaf_reader.LeafReader.{LeafReader}
 
 -- texts of a body
 abbrev pub body_pairs : List (List ℕ) → List Pair

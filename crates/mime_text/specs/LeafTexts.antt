@@ -6,7 +6,7 @@ use Rattle.header_text.specs.Charsets.{text_of}
 use Rattle.header_text.specs.declared.charset.Charset.{Charset}
 use Rattle.mime_text.specs.Transfer.{decoded_bytes}
 use Rattle.mime_text.specs.Tags.{lines_without_tags}
-use Rattle.mime_text.specs.declared.transfer.TransferEncoding.{TransferEncoding}
+use Rattle.mime_text.specs.declared.leaf.transfer.TransferEncoding.{TransferEncoding}
 
 -- the text of each line; a tag may go on over several
 abbrev pub texts_of_lines : Charset → Bool → List (List ℕ) → List (List ℕ)

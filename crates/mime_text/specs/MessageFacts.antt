@@ -5,7 +5,7 @@ use Rattle.header_text.specs.Headers.{HeaderField, most_in_header}
 use Rattle.header_text.specs.Unfolding.{unfolded}
 use Rattle.header_text.specs.Ids.{ids_of}
 use Rattle.mail_words.specs.declared.flags.Flags.{Flags}
-use Rattle.mime_text.specs.declared.facts.Facts.{Facts}
+use Rattle.mime_text.specs.declared.header.facts.Facts.{Facts}
 use Rattle.mime_text.specs.FieldTexts.{is_name, text_of_body}
 
 -- the bodies of the fields of a name, which is in lower case

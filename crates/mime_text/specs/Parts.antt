@@ -6,10 +6,10 @@ use Rattle.mbox_cutter.specs.Separators.{without_break}
 use Rattle.header_text.specs.Blanks.{is_blank}
 use Rattle.header_text.specs.EncodedWords.{after}
 use Rattle.header_text.specs.Headers.{HeaderField, fields_of}
-use Rattle.mime_text.specs.declared.shape.DefaultType.{DefaultType}
-use Rattle.mime_text.specs.declared.shape.DefaultType.TheVariants.{TextPlain}
-use Rattle.mime_text.specs.declared.shape.Shape.{Shape}
-use Rattle.mime_text.specs.declared.shape.Shape.TheVariants.{Multipart, Message, Text, Other}
+use Rattle.mime_text.specs.declared.parts.shape.DefaultType.{DefaultType}
+use Rattle.mime_text.specs.declared.parts.shape.DefaultType.TheVariants.{TextPlain}
+use Rattle.mime_text.specs.declared.parts.shape.Shape.{Shape}
+use Rattle.mime_text.specs.declared.parts.shape.Shape.TheVariants.{Multipart, Message, Text, Other}
 
 -- what gives texts: an entity, by the fields of its header; a header that counts for the whole message; or a leaf of the tree
 pub data Part : Type 0 where

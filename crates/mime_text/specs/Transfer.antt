@@ -6,8 +6,8 @@ use Rattle.mbox_cutter.specs.Separators.{without_break}
 use Rattle.header_text.specs.Blanks.{before_blanks}
 use Rattle.header_text.specs.Escapes.{unescaped}
 use Rattle.header_text.specs.Base64.{base64_bytes}
-use Rattle.mime_text.specs.declared.transfer.TransferEncoding.{TransferEncoding}
-use Rattle.mime_text.specs.declared.transfer.TransferEncoding.TheVariants.{Identity, QuotedPrintable, Base64}
+use Rattle.mime_text.specs.declared.leaf.transfer.TransferEncoding.{TransferEncoding}
+use Rattle.mime_text.specs.declared.leaf.transfer.TransferEncoding.TheVariants.{Identity, QuotedPrintable, Base64}
 
 -- whether a byte is the last one
 abbrev pub ends_in : ℕ → List ℕ → Bool

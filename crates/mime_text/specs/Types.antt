@@ -8,12 +8,12 @@ use Rattle.header_text.specs.Unfolding.{unfolded}
 use Rattle.header_text.specs.Charsets.{charset_of}
 use Rattle.header_text.specs.declared.charset.Charset.{Charset}
 use Rattle.mime_text.specs.Parameters.{semicolon, parameter}
-use Rattle.mime_text.specs.declared.shape.DefaultType.{DefaultType}
-use Rattle.mime_text.specs.declared.shape.DefaultType.TheVariants.{TextPlain, MessageRfc822}
-use Rattle.mime_text.specs.declared.shape.Shape.{Shape}
-use Rattle.mime_text.specs.declared.shape.Shape.TheVariants.{Multipart, Message, Text, Other}
-use Rattle.mime_text.specs.declared.transfer.TransferEncoding.{TransferEncoding}
-use Rattle.mime_text.specs.declared.transfer.TransferEncoding.TheVariants.{Identity, QuotedPrintable, Base64}
+use Rattle.mime_text.specs.declared.parts.shape.DefaultType.{DefaultType}
+use Rattle.mime_text.specs.declared.parts.shape.DefaultType.TheVariants.{TextPlain, MessageRfc822}
+use Rattle.mime_text.specs.declared.parts.shape.Shape.{Shape}
+use Rattle.mime_text.specs.declared.parts.shape.Shape.TheVariants.{Multipart, Message, Text, Other}
+use Rattle.mime_text.specs.declared.leaf.transfer.TransferEncoding.{TransferEncoding}
+use Rattle.mime_text.specs.declared.leaf.transfer.TransferEncoding.TheVariants.{Identity, QuotedPrintable, Base64}
 
 -- the body of the first field of a name, which is written in lower case
 abbrev pub first_body : List ℕ → List HeaderField → Option (List ℕ)

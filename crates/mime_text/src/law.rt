@@ -1,8 +1,8 @@
 //! What holds of the definitions that the contracts cite.
 ghost use Rattle.std.specs.Prelude.{◌≡◌, ℕ, suc, List, [], ◌++◌, Bool, flat_map};
 ghost use Rattle.header_text.specs.Headers.{HeaderField};
-ghost use Rattle.mime_text.specs.declared.shape.DefaultType.{DefaultType};
-ghost use Rattle.mime_text.specs.declared.shape.Shape.{Shape};
+ghost use Rattle.mime_text.specs.declared.parts.shape.DefaultType.{DefaultType};
+ghost use Rattle.mime_text.specs.declared.parts.shape.Shape.{Shape};
 ghost use Rattle.mime_text.specs.Parameters.{Parameter, AreParameters, behind_semicolon, parameters};
 ghost use Rattle.mime_text.specs.Parts.{Part, parts};
 ghost use Rattle.mime_text.specs.Stream.{given, InHeader, counted_part};

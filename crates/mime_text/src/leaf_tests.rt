@@ -1,10 +1,10 @@
 //! The texts of some bodies, and what a header says of one and of its name.
 use super::*;
-use crate::content_type::EntityType;
-use crate::field_text::FieldReader;
-use crate::leaf_reader::LeafReader;
-use crate::shape::{DefaultType, Shape};
-use crate::transfer::TransferEncoding;
+use crate::header::field_text::FieldReader;
+use crate::leaf::leaf_reader::LeafReader;
+use crate::leaf::transfer::TransferEncoding;
+use crate::parts::content_type::EntityType;
+use crate::parts::shape::{DefaultType, Shape};
 use header_text::{Charset, Header};
 use mail_words::TextKind;
 use std::alloc::Global;

@@ -7,9 +7,9 @@ ghost use Rattle.mime_text.specs.Sinks.{Pair};
 ghost use Rattle.mime_text.specs.Fed.{Fed, Feeds, FeedsPart, Finishes, FinishesPart, has_failed};
 ghost use Rattle.mime_text.specs.Limits.{most_in_line};
 
-use crate::facts::Facts;
 use crate::fault::TextFault;
-use crate::part_reader::PartReader;
+use crate::header::facts::Facts;
+use crate::parts::part_reader::PartReader;
 use crate::sink::TextSink;
 use std::alloc::{AllocError, Global};
 

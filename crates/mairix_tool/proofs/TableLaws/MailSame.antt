@@ -10,7 +10,7 @@ use Rattle.mbox_cutter.specs.Archives.{Message, text}
 use Rattle.mime_text.specs.MessageFacts.{facts_of}
 use Rattle.mime_text.specs.Texts.{texts_of_message}
 use Rattle.mime_text.specs.Sinks.{Pair}
-use Rattle.mime_text.specs.declared.facts.Facts.{Facts}
+use Rattle.mime_text.specs.declared.header.facts.Facts.{Facts}
 use Rattle.mail_words.specs.declared.kind.TextKind.{TextKind}
 use Rattle.mail_words.specs.declared.kind.TextKind.TheVariants.{To, Cc, Bcc, From, Subject, Body, Name}
 use Rattle.mail_words.specs.Words.{words}

@@ -11,7 +11,7 @@ use Rattle.mail_words.specs.Folding.{folding}
 use Rattle.mail_index.specs.declared.kind.Kind.{Kind}
 use Rattle.mail_index.specs.declared.kind.Kind.TheVariants.{Text, OwnId, LinkId}
 use Rattle.mail_index.specs.Kinds.{kind_number}
-use Rattle.mime_text.specs.declared.facts.Facts.{Facts}
+use Rattle.mime_text.specs.declared.header.facts.Facts.{Facts}
 use Rattle.mime_text.specs.Sinks.{Pair}
 use Rattle.index_job.specs.MessageTerms.{Term, text_terms, own_id_terms, link_terms, id_terms}
 use Rattle.mairix_tool.specs.Chosen.{is_kind}

@@ -1,0 +1,20 @@
+use Rattle.std.proofs.Common.{◌≡◌, ◌∙◌, true, sym}
+use Rattle.header_text.specs.Headers.{HeaderField}
+use Rattle.mime_text.specs.MessageFacts.{is_status}
+use Rattle.mime_text.proofs.FlagLemmas.{letter-step}
+use Rattle.mime_text.proofs.header.facts.flags.Goals as goal
+
+pub loop-field-preserved-then-is_status : goal.loop-field-preserved-then-is_status
+loop-field-preserved-then-is_status c =
+    let f : HeaderField = record { name = c.in-Some.field.name.now; body = c.in-Some.field.body.now } in
+    let rest = c.next.new.self in
+    let fields = c.loop-field.field-iterator in
+    let split = c.in-Some.ensures.steps in
+    let sofar = c.loop-field.invariant in
+    let status : is_status c.in-Some.field.name.now ≡ true = sym c.is_status.ensures ∙ c.if-is_status.true in (
+      tt,
+      tt,
+      letter-step 82 f rest fields c.in_ok-value.value.now _ c.loop-field.flags.seen c.has_letter.result split sofar.2 status c.in_ok-value.ensures c.has_letter.ensures,
+      letter-step 65 f rest fields c.in_ok-value.value.now _ c.loop-field.flags.replied c.has_letter-then-is_status.result split sofar.3 status c.in_ok-value.ensures c.has_letter-then-is_status.ensures,
+      letter-step 70 f rest fields c.in_ok-value.value.now _ c.loop-field.flags.flagged c.has_letter-then-is_status-2.result split sofar.4 status c.in_ok-value.ensures c.has_letter-then-is_status-2.ensures,
+    )

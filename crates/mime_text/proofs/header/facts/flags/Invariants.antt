@@ -1,0 +1,13 @@
+use Rattle.std.proofs.Common.{◌≡◌}
+use Rattle.std.specs.Prelude.{◌||◌}
+use Rattle.mime_text.specs.MessageFacts.{has_letter}
+use Rattle.mime_text.proofs.header.facts.flags.Given as goal
+
+-- a letter stood in a field so far, or stands in one of those that are left
+abbrev pub invariant-loop-field : goal.invariant-loop-field
+invariant-loop-field l =
+    (goal.iterator-loop-field).can_next l.field-iterator ×
+    (goal.iterator-loop-field).is_finite l.field-iterator ×
+    (has_letter 0x52 l.fn.fields ≡ (l.flags.seen || has_letter 0x52 l.field-iterator)) ×
+    (has_letter 0x41 l.fn.fields ≡ (l.flags.replied || has_letter 0x41 l.field-iterator)) ×
+    (has_letter 0x46 l.fn.fields ≡ (l.flags.flagged || has_letter 0x46 l.field-iterator))

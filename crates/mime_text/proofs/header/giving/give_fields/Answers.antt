@@ -1,0 +1,36 @@
+use Rattle.std.proofs.Common.{◌≡◌, ◌∙◌, ◌≤◌, ◌++◌, List, [], ◌∷◌, ap, arith}
+use Rattle.header_text.specs.Headers.{HeaderField, fields_size, most_in_header}
+use Rattle.mime_text.specs.FieldTexts.{texts_of_fields}
+use Rattle.mime_text.specs.Sinks.{Coming}
+use Rattle.mime_text.proofs.GivingLemmas.{texts-cons, gave-front, gave-behind, broke-front}
+use Rattle.mime_text.proofs.Handing.{gave-more, broke-later}
+use Rattle.mime_text.proofs.header.giving.give_fields.Goals as goal
+
+abbrev texts : List HeaderField → Coming
+texts fields ms = texts_of_fields fields
+
+pub give_field-requires : goal.give_field-requires
+give_field-requires g c = omega (arith, c.loop-field.invariant.2, ap fields_size c.in-Some.ensures.steps)
+
+pub returns-in-Err : goal.returns-in-Err
+returns-in-Err g c =
+    let f : HeaderField = record { name = c.in-Some.field.name.now; body = c.in-Some.field.body.now } in
+    let e : texts_of_fields c.loop-field.field-iterator ≡ texts_of_fields (f ∷ []) ++ texts_of_fields c.next.new.self = ap texts_of_fields c.in-Some.ensures.steps ∙ texts-cons f c.next.new.self in
+    broke-later g.S.TextSink.takes g.S.TextSink.refuses (texts c.args.fields) (texts c.loop-field.field-iterator) c.in-Err.fault _ _ _ c.loop-field.invariant.3
+    (broke-front g.S.TextSink.takes g.S.TextSink.refuses (texts (f ∷ [])) (texts c.loop-field.field-iterator) (texts c.next.new.self) c.in-Err.fault _ _ (λ ms. e) c.in-Err.ensures)
+
+pub loop-field-preserved : goal.loop-field-preserved
+loop-field-preserved g c =
+    let f : HeaderField = record { name = c.in-Some.field.name.now; body = c.in-Some.field.body.now } in
+    let e : texts_of_fields c.loop-field.field-iterator ≡ texts_of_fields (f ∷ []) ++ texts_of_fields c.next.new.self = ap texts_of_fields c.in-Some.ensures.steps ∙ texts-cons f c.next.new.self in
+    let size : fields_size c.next.new.self ≤ most_in_header = omega (arith, c.loop-field.invariant.2, ap fields_size c.in-Some.ensures.steps) in (
+      tt,
+      tt,
+      size,
+      gave-more g.S.TextSink.takes g.S.TextSink.refuses (texts c.args.fields) (texts c.loop-field.field-iterator) (texts c.next.new.self) _ _ _ c.loop-field.invariant.3
+          (gave-front g.S.TextSink.takes g.S.TextSink.refuses (texts (f ∷ [])) (texts c.loop-field.field-iterator) (texts c.next.new.self) _ _ (λ ms. e) c.in_default.ensures),
+    )
+
+pub returns : goal.returns
+returns g c =
+    gave-behind g.S.TextSink.takes g.S.TextSink.refuses (texts c.args.fields) (texts c.loop-field.field-iterator) (λ _. []) _ _ (λ ms. ap texts_of_fields c.in-None.ensures.steps.0) c.loop-field.invariant.3

@@ -1,0 +1,13 @@
+use Rattle.std.proofs.Common.{◌≤◌}
+use Rattle.header_text.specs.Headers.{fields_size, most_in_header}
+use Rattle.mime_text.specs.FieldTexts.{texts_of_fields}
+use Rattle.mime_text.specs.Sinks.{Gave}
+use Rattle.mime_text.proofs.header.giving.give_fields.Given as goal
+
+-- the texts of the fields so far are given
+abbrev pub invariant-loop-field : goal.invariant-loop-field
+invariant-loop-field g l =
+    (goal.iterator-loop-field g).can_next l.field-iterator ×
+    (goal.iterator-loop-field g).is_finite l.field-iterator ×
+    (fields_size l.field-iterator ≤ most_in_header) ×
+    Gave g.S.TextSink.takes g.S.TextSink.refuses (λ _. texts_of_fields l.fn.fields) (λ _. texts_of_fields l.field-iterator) l.initial.sink l.sink

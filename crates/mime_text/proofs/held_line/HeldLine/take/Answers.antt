@@ -1,4 +1,0 @@
-use Rattle.mime_text.proofs.held_line.HeldLine.take.Goals as goal
-
-pub returns-in-Err : goal.returns-in-Err
-returns-in-Err g c = rw (← c.self.view_is) c.in-Err.ensures.hands

@@ -1,0 +1,53 @@
+use Rattle.std.proofs.Common.{◌++◌, ℕ, List, arith}
+use Rattle.std.specs.List.{concat}
+use Rattle.mbox_cutter.proofs.FirstLines.{line_end-positive, line_end-within, line_end-short}
+use Rattle.mime_text.specs.LeafReading.{pairs_of_bytes}
+use Rattle.mime_text.proofs.Handing.{gave-nothing, gave-more, broke-later}
+use Rattle.mime_text.proofs.LineSteps.{rest-start, rest-step, gave-line, broke-line}
+use Rattle.mime_text.proofs.leaf.held_line.give_lines.Goals as goal
+
+pub loop-len-init : goal.loop-len-init
+loop-len-init g c = record {
+  free = c.requires.free;
+  few = c.requires.few;
+  fits = omega arith;
+  rest = rest-start c.args.bytes.now;
+  gave = gave-nothing g.S.TextSink.takes g.S.TextSink.refuses (λ ls. pairs_of_bytes c.args.texts.now (c.args.bytes.now ++ concat ls)) c.args.sink.now;
+}
+
+pub split_at-requires : goal.split_at-requires
+split_at-requires g c = line_end-within c.loop-len.rest.now c.in-Some.len c.in-Some.ensures
+
+pub give-requires : goal.give-requires
+give-requires g c = omega (arith, line_end-short c.loop-len.rest.now c.in-Some.len c.in-Some.ensures, c.split_at.ensures.front_len)
+
+pub loop-len-smaller : goal.loop-len-smaller
+loop-len-smaller g c =
+    omega (arith, line_end-positive c.loop-len.rest.now c.in-Some.len c.in-Some.ensures, line_end-within c.loop-len.rest.now c.in-Some.len c.in-Some.ensures, c.split_at.ensures.back_len)
+
+pub loop-len-preserved : goal.loop-len-preserved
+loop-len-preserved g c =
+    let rest : List ℕ = c.loop-len.rest.now in
+    let line : List ℕ = c.split_at.result.0.now in
+    let later : List ℕ = c.split_at.result.1.now in
+    let len : ℕ = c.in-Some.len in
+    let before = c.loop-len.invariant in
+    let within = line_end-within rest len c.in-Some.ensures in
+    record {
+      free = omega arith;
+      few = omega arith;
+      fits = omega (arith, before.fits, within, c.split_at.ensures.back_len);
+      rest = rest-step c.args.bytes.now rest later len before.fits before.rest c.split_at.ensures.back within;
+      gave = gave-more g.S.TextSink.takes g.S.TextSink.refuses (λ ls. pairs_of_bytes c.args.texts.now (c.args.bytes.now ++ concat ls)) (λ ls. pairs_of_bytes c.loop-len.texts (rest ++ concat ls))
+          (λ ls. pairs_of_bytes c.give.new.self (later ++ concat ls)) c.args.sink.now c.loop-len.sink c.give.new.sink before.gave
+          (gave-line g.S.TextSink.takes g.S.TextSink.refuses c.loop-len.texts c.give.new.self rest line later len c.loop-len.sink c.give.new.sink c.in-Some.ensures
+          c.split_at.ensures.front c.split_at.ensures.back c.in-Ok.ensures);
+    }
+
+pub returns-in-Err-clause-broke : goal.returns-in-Err-clause-broke
+returns-in-Err-clause-broke g c =
+    let rest : List ℕ = c.loop-len.rest.now in
+    broke-later g.S.TextSink.takes g.S.TextSink.refuses (λ ls. pairs_of_bytes c.args.texts.now (c.args.bytes.now ++ concat ls)) (λ ls. pairs_of_bytes c.loop-len.texts (rest ++ concat ls))
+    c.in-Err.fault c.args.sink.now c.loop-len.sink c.give.new.sink c.loop-len.invariant.gave
+    (broke-line g.S.TextSink.takes g.S.TextSink.refuses c.loop-len.texts rest c.split_at.result.0.now c.in-Some.len c.in-Err.fault c.loop-len.sink c.give.new.sink c.in-Some.ensures
+    c.split_at.ensures.front c.in-Err.ensures)

@@ -1,0 +1,11 @@
+use Rattle.std.proofs.Common.{◌≡◌, length}
+use Rattle.header_text.specs.Blanks.{split_while}
+use Rattle.mime_text.specs.Parameters.{is_token_byte as is_token_byte_of}
+use Rattle.mime_text.proofs.parts.parameter.after_token.Given as goal
+
+-- what is left has the same behind its token
+abbrev pub invariant-loop-first : goal.invariant-loop-first
+invariant-loop-first l = (split_while is_token_byte_of l.rest).1 ≡ (split_while is_token_byte_of l.fn.bytes).1
+
+abbrev pub decreases-loop-first : goal.decreases-loop-first
+decreases-loop-first l = length l.rest

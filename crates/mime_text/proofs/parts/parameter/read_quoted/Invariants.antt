@@ -1,0 +1,13 @@
+use Rattle.std.proofs.Common.{◌≡◌, ◌++◌, length}
+use Rattle.mime_text.specs.Parameters.{quoted}
+use Rattle.mime_text.proofs.parts.parameter.read_quoted.Given as goal
+
+-- what was written, and what comes of the rest
+abbrev pub invariant-loop-first : goal.invariant-loop-first
+invariant-loop-first l = record {
+  value : l.into.items ++ (quoted l.rest).0 ≡ l.fn.into.items ++ (quoted l.fn.text).0;
+  rest : (quoted l.rest).1 ≡ (quoted l.fn.text).1;
+}
+
+abbrev pub decreases-loop-first : goal.decreases-loop-first
+decreases-loop-first l = length l.rest

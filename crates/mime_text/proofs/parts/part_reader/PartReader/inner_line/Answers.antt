@@ -1,0 +1,31 @@
+use Rattle.std.proofs.Common.{◌≡◌, ◌∙◌, ◌++◌, ◌∷◌, ℕ, List, [], refl, sym}
+use Rattle.header_text.specs.HeldLines.{HasLines, taken_of}
+use Rattle.header_text.specs.declared.header.Taken.TheVariants.{More, Ended}
+use Rattle.mime_text.specs.declared.parts.part_reader.PartReader.{PartReader}
+use Rattle.mime_text.specs.Feeding.{Comes, ComesBehindHeader}
+use Rattle.mime_text.proofs.PassingLemmas.{on_ok-map, passes-from, leaf-passes, more-passed, ended-comes, facts-ended}
+use Rattle.mime_text.proofs.parts.part_reader.PartReader.inner_line.Goals as goal
+
+pub returns-in-InLeaf-clause-pairs : goal.returns-in-InLeaf-clause-pairs
+returns-in-InLeaf-clause-pairs g c =
+    let n : PartReader = record c.args.self.now { leaf = c.line.new.self } in
+    leaf-passes g.S.TextSink.takes g.S.TextSink.refuses c.args.self.now n c.args.line.now c.line.result _ _ c.in-InLeaf.is refl refl c.requires.inner c.line.ensures
+
+pub returns-in-Ok-More-clause-pairs : goal.returns-in-Ok-More-clause-pairs
+returns-in-Ok-More-clause-pairs g c =
+    let n : PartReader = record c.args.self.now { header = c.push_line.new.self } in
+    let taken : (ls : List (List ℕ)) → HasLines c.args.self.now.header ls → More ≡ taken_of (ls ++ c.args.line.now ∷ []) = λ ls h. sym c.in-Ok-More.field-0-is ∙ c.in-Ok-More.ensures.taken ls h in
+    more-passed g.S.TextSink.takes g.S.TextSink.refuses c.args.self.now n c.args.line.now c.in-InHeader.counted c.in-InHeader.default _ c.in-InHeader.is refl refl c.requires.inner c.in-Ok-More.ensures.lines taken
+
+pub returns-in-Ok-Ended-clause-pairs : goal.returns-in-Ok-Ended-clause-pairs
+returns-in-Ok-Ended-clause-pairs g c =
+    let n : PartReader = record c.args.self.now { header = c.push_line.new.self } in
+    let taken : (ls : List (List ℕ)) → HasLines c.args.self.now.header ls → Ended ≡ taken_of (ls ++ c.args.line.now ∷ []) = λ ls h. sym c.in-Ok-Ended.field-0-is ∙ c.in-Ok-Ended.ensures.taken ls h in
+    passes-from g.S.TextSink.takes g.S.TextSink.refuses (Comes c.args.self.now) (ComesBehindHeader n c.in-InHeader.counted c.in-InHeader.default) (Comes c.end_header.new.self) (λ k ms. k (c.args.line.now ∷ ms))
+    c.end_header.result _ _ (ended-comes g.S.TextSink.takes g.S.TextSink.refuses c.args.self.now n c.args.line.now c.in-InHeader.counted c.in-InHeader.default c.in-InHeader.is refl c.requires.inner c.in-Ok-Ended.ensures.lines taken)
+    c.end_header.ensures.pairs
+
+pub returns-in-Ok-Ended-clause-facts : goal.returns-in-Ok-Ended-clause-facts
+returns-in-Ok-Ended-clause-facts g c =
+    let taken : (ls : List (List ℕ)) → HasLines c.args.self.now.header ls → Ended ≡ taken_of (ls ++ c.args.line.now ∷ []) = λ ls h. sym c.in-Ok-Ended.field-0-is ∙ c.in-Ok-Ended.ensures.taken ls h in
+    on_ok-map c.end_header.result (λ notes. facts-ended c.args.self.now c.end_header.new.self c.push_line.new.self c.args.line.now c.in-Ok-Ended.ensures.lines taken notes) c.end_header.ensures.facts

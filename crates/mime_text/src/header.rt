@@ -1,0 +1,7 @@
+//! What the headers of entities tell: texts, names and facts.
+
+pub mod facts;
+pub mod field_text;
+pub mod giving;
+pub mod name;
+pub mod owned;

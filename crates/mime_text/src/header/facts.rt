@@ -1,0 +1,166 @@
+//! What a message's own header says beside its texts.
+ghost use Rattle.std.specs.Prelude.{◌≡◌, ◌==◌, ◌<◌, ◌≤◌, ℕ, List, length, map, All, IfOk, IfSome, option_map};
+ghost use Rattle.std.specs.List.{list_any};
+ghost use Rattle.header_text.specs.Headers.{fields_size, most_in_header};
+ghost use Rattle.mime_text.specs.FieldTexts.{is_name as is_name_of};
+ghost use Rattle.mime_text.specs.MessageFacts.{date_text_of, flags_of, own_id_of, ids_of_fields, first_of, is_status as is_status_of, is_linking as is_linking_of, IsSizedId, HasSizedIds};
+ghost use Rattle.header_text.specs.Ids.{ids_of};
+
+use crate::header::field_text::{FieldReader, is_name, unfold_anew};
+use crate::header::owned::{DateText, MessageId, MessageIds};
+use header_text::{Fields, Header, message_ids};
+use mail_words::Flags;
+use std::alloc::{AllocError, Global};
+
+/// What a message's own header says beside its texts.
+#[derive(Debug, Drop)]
+pub struct Facts {
+    /// The text of the first Date field.
+    pub date_text: Option<DateText>,
+    /// The letters R, A and F in the values of the Status and X-Status fields.
+    pub flags: Flags,
+    /// The first id in a Message-ID field (RFC 5322, 3.6.4), 1 to 262,144 bytes.
+    pub own_id: Option<MessageId>,
+    /// All ids in Message-ID, In-Reply-To and References fields, in order, together of fewer than 262,144 bytes.
+    pub ids: MessageIds,
+}
+
+impl Facts {
+    ghost use Rattle.header_text.specs.Headers.{fields_of};
+    ghost use Rattle.header_text.specs.HeldLines.{HasLines};
+    ghost use Rattle.mime_text.specs.MessageFacts.{facts_of};
+
+    /// What this header says.
+    #[tactic(auto, unfolding(crate::specs::MessageFacts::facts_of))]
+    pub(crate) fn of(alloc: Global, header: &Header) -> Result<Facts, AllocError>
+        ensures facts { IfOk result (λ facts. (ls : List (List ℕ)) → HasLines header.now ls → facts ≡ facts_of (fields_of ls)) }
+        ensures sizes { IfOk result HasSizedIds }
+    {
+        Ok(Facts {
+            date_text: date_text(alloc, header.fields())?,
+            flags: flags(alloc, header.fields())?,
+            own_id: own_id(alloc, header.fields())?,
+            ids: linking_ids(alloc, header.fields())?,
+        })
+    }
+
+    /// The same, whose ids are known to be sized.
+    pub(crate) fn with_sizes(self) -> Facts
+        ensures same { result ≡ self }
+        ensures sizes { HasSizedIds result }
+    {
+        know_size(&self.own_id);
+        self.ids.know_sizes();
+        self
+    }
+}
+
+/// An id is sized. It does nothing.
+fn know_size(id: &Option<MessageId>)
+    ensures { IfSome id.now IsSizedId }
+{
+    if let Some(id) = id {
+        let _bytes = id.as_bytes();
+    }
+}
+
+/// The text of the first Date field.
+fn date_text(alloc: Global, fields: Fields<'_>) -> Result<Option<DateText>, AllocError>
+    requires { fields_size fields ≤ most_in_header }
+    ensures { IfOk result (λ text. text ≡ date_text_of fields.entry) }
+{
+    for field in fields {
+        if is_name(field.name, b"date") {
+            let mut reader = FieldReader::new(alloc);
+            let text = reader.read(field.body)?;
+            return Ok(Some(DateText::new(alloc, text)?));
+        }
+    }
+    Ok(None)
+}
+
+/// Whether mail programs note flags in a field of this name.
+fn is_status(name: &[u8]) -> bool
+    ensures { result ≡ is_status_of name.now }
+{
+    is_name(name, b"status") || is_name(name, b"x-status")
+}
+
+/// Whether a letter stands in a value.
+fn has_letter(value: &[u8], letter: u8) -> bool
+    ensures { result ≡ list_any (λ b. b == letter) value.now }
+{
+    value.contains(&letter)
+}
+
+/// The flags that the values of the Status and X-Status fields have together.
+fn flags(alloc: Global, fields: Fields<'_>) -> Result<Flags, AllocError>
+    ensures { IfOk result (λ flags. flags ≡ flags_of fields.entry) }
+{
+    let mut unfolded = Vec::new(alloc);
+    let mut flags = Flags {
+        seen: false,
+        replied: false,
+        flagged: false,
+    };
+    for field in fields {
+        if is_status(field.name) {
+            let value = unfold_anew(field.body, &mut unfolded)?;
+            flags.seen |= has_letter(value, b'R');
+            flags.replied |= has_letter(value, b'A');
+            flags.flagged |= has_letter(value, b'F');
+        }
+    }
+    Ok(flags)
+}
+
+/// The first id of a body.
+fn first_id(alloc: Global, body: &[u8]) -> Result<Option<MessageId>, AllocError>
+    requires { length body.now ≤ most_in_header }
+    ensures id { IfOk result (λ id. id ≡ first_of (ids_of body.now)) }
+    ensures size { IfOk result (λ id. IfSome id IsSizedId) }
+{
+    let ids = message_ids(alloc, body)?;
+    match ids.into_iter().next() {
+        Some(id) => Ok(Some(MessageId::of(id))),
+        None => Ok(None),
+    }
+}
+
+/// The first id of the first Message-ID field that has one.
+fn own_id(alloc: Global, fields: Fields<'_>) -> Result<Option<MessageId>, AllocError>
+    requires { fields_size fields ≤ most_in_header }
+    ensures id { IfOk result (λ id. id ≡ own_id_of fields.entry) }
+    ensures size { IfOk result (λ id. IfSome id IsSizedId) }
+{
+    for field in fields {
+        if is_name(field.name, b"message-id") {
+            if let Some(id) = first_id(alloc, field.body)? {
+                return Ok(Some(id));
+            }
+        }
+    }
+    Ok(None)
+}
+
+/// Whether a field of this name links the message to others.
+fn is_linking(name: &[u8]) -> bool
+    ensures { result ≡ is_linking_of name.now }
+{
+    is_name(name, b"message-id") || is_name(name, b"in-reply-to") || is_name(name, b"references")
+}
+
+/// All ids of the linking fields.
+fn linking_ids(alloc: Global, fields: Fields<'_>) -> Result<MessageIds, AllocError>
+    requires { fields_size fields ≤ most_in_header }
+    ensures ids { IfOk result (λ ids. ids ≡ ids_of_fields fields.entry) }
+    ensures sizes { IfOk result (λ ids. All IsSizedId ids) }
+{
+    let mut ids = MessageIds::new(alloc);
+    for field in fields {
+        if is_linking(field.name) {
+            ids.append(message_ids(alloc, field.body)?)?;
+        }
+    }
+    Ok(ids)
+}

@@ -1,0 +1,148 @@
+//! The texts of a header's fields, and of the name of its entity.
+ghost use Rattle.std.specs.Prelude.{◌≡◌, ◌≤◌, ◌*◌, length, map, option_map, if◌then◌else◌, IfOk, IfSome, OnOk, string_bytes};
+ghost use Rattle.header_text.specs.Headers.{fields_size, most_in_header};
+ghost use Rattle.header_text.specs.Unfolding.{unfolded as unfolded_of};
+ghost use Rattle.std.specs.Char.{to_ascii_lowercase};
+ghost use Rattle.mime_text.specs.Names.{name_text};
+ghost use Rattle.mime_text.specs.FieldTexts.{is_name as is_name_of, kind_of_field as kind_of_field_of, text_of_body};
+ghost use Rattle.mime_text.specs.Limits.{most_in_header_text};
+
+use crate::header::name::write_name;
+use header_text::{Fields, decode_words_into, unfold_into};
+use mail_words::TextKind;
+use std::alloc::{AllocError, Global};
+
+/// Whether a field's name is this one, which is in lower case, in any ASCII case.
+pub(crate) fn is_name(name: &[u8], wanted: &[u8]) -> bool
+    requires { map to_ascii_lowercase wanted.now ≡ wanted.now }
+    ensures { result ≡ is_name_of name.now wanted.now }
+{
+    name.eq_ignore_ascii_case(wanted)
+}
+
+/// The kind of text that a field of this name has, if it is one of the five.
+pub(crate) fn kind_of_field(name: &[u8]) -> Option<TextKind>
+    ensures { result ≡ kind_of_field_of name.now }
+{
+    if is_name(name, b"to") {
+        Some(TextKind::To)
+    } else if is_name(name, b"cc") {
+        Some(TextKind::Cc)
+    } else if is_name(name, b"bcc") {
+        Some(TextKind::Bcc)
+    } else if is_name(name, b"from") {
+        Some(TextKind::From)
+    } else if is_name(name, b"subject") {
+        Some(TextKind::Subject)
+    } else {
+        None
+    }
+}
+
+/// Writes a body in one line (RFC 5322, 2.2.3), and lends it.
+pub(crate) fn unfold_anew<'a>(body: &[u8], into: &'a mut Vec<u8>) -> Result<&'a [u8], AllocError>
+    ensures { IfOk result (λ value. value.now ≡ unfolded_of body.now) }
+{
+    into.clear();
+    unfold_into(body, into)?;
+    Ok(into.as_slice())
+}
+
+/// Writes the text of a body, and before that the body in one line. What the buffers hold after an error isn't said.
+fn write_text(
+    body: &[u8],
+    unfolded: &mut Vec<u8>,
+    scratch: &mut Vec<u8>,
+    into: &mut String,
+) -> Result<(), AllocError>
+    ensures text { OnOk result (string_bytes into.new ≡ text_of_body body.now) }
+    ensures unfolded { OnOk result (length unfolded.new.items ≤ length body.now) }
+    ensures size { OnOk result (length (string_bytes into.new) ≤ 3 * length body.now) }
+{
+    unfolded.clear();
+    unfold_into(body, unfolded)?;
+    into.clear();
+    decode_words_into(unfolded, scratch, into)?;
+    Ok(())
+}
+
+/// Reads the bodies of fields and the names of entities, into memory that is used again for each and bounded by what a header
+/// keeps.
+#[derive(Drop)]
+pub(crate) struct FieldReader {
+    unfolded: Vec<u8>,
+    scratch: Vec<u8>,
+    text: String,
+    ghost unfolded_fits: { length unfolded.items ≤ most_in_header },
+    ghost scratch_is_empty: { length scratch.items ≤ 0 },
+    ghost text_fits: { length (string_bytes text) ≤ most_in_header_text },
+}
+
+impl FieldReader {
+    /// It takes no memory before the first body.
+    pub(crate) fn new(alloc: Global) -> Self {
+        FieldReader {
+            unfolded: Vec::new(alloc),
+            scratch: Vec::new(alloc),
+            text: String::new(alloc),
+        }
+    }
+
+    /// Reads a body, and keeps nothing where memory is wanting.
+    fn take(&mut self, body: &[u8]) -> Result<(), AllocError>
+        requires { length body.now ≤ most_in_header }
+        ensures text { OnOk result (string_bytes self.new.text ≡ text_of_body body.now) }
+        ensures size { OnOk result (length (string_bytes self.new.text) ≤ 3 * length body.now) }
+    {
+        let outcome = write_text(body, &mut self.unfolded, &mut self.scratch, &mut self.text);
+        self.scratch.clear();
+        if outcome.is_err() {
+            self.unfolded.clear();
+            self.text.clear();
+        }
+        outcome
+    }
+
+    /// The text of a body: in one line, its encoded words decoded (RFC 2047). It has at most three bytes for each of the
+    /// body's.
+    pub(crate) fn read(&mut self, body: &[u8]) -> Result<&str, AllocError>
+        requires { length body.now ≤ most_in_header }
+        ensures text { IfOk result (λ text. text.now ≡ text_of_body body.now) }
+        ensures size { IfOk result (λ text. length text.now ≤ 3 * length body.now) }
+    {
+        self.take(body)?;
+        Ok(self.text.as_str())
+    }
+
+    /// Reads the name of a header's entity, and keeps nothing where memory is wanting. The answer is whether it has one.
+    fn take_name(&mut self, fields: Fields<'_>) -> Result<bool, AllocError>
+        requires { fields_size fields ≤ most_in_header }
+        ensures { IfOk result (λ found. (if found then Some (string_bytes self.new.text) else None) ≡ name_text fields.entry) }
+    {
+        let outcome = write_name(
+            fields,
+            &mut self.unfolded,
+            &mut self.scratch,
+            &mut self.text,
+        );
+        self.scratch.clear();
+        if outcome.is_err() {
+            self.unfolded.clear();
+            self.text.clear();
+        }
+        outcome
+    }
+
+    /// The text of the name of a header's entity, if it has one. It has at most three bytes for each of the name's.
+    pub(crate) fn read_name(&mut self, fields: Fields<'_>) -> Result<Option<&str>, AllocError>
+        requires { fields_size fields ≤ most_in_header }
+        ensures text { IfOk result (λ name. option_map (λ text. text.now) name ≡ name_text fields.entry) }
+        ensures size { IfOk result (λ name. IfSome name (λ text. length text.now ≤ most_in_header_text)) }
+    {
+        if self.take_name(fields)? {
+            Ok(Some(self.text.as_str()))
+        } else {
+            Ok(None)
+        }
+    }
+}

@@ -1,0 +1,108 @@
+//! The texts of headers, given to a sink.
+ghost use Rattle.std.specs.Prelude.{◌≡◌, ◌≤◌, [], ◌∷◌, length};
+ghost use Rattle.header_text.specs.Headers.{fields_size, most_in_header};
+ghost use Rattle.mime_text.specs.FieldTexts.{texts_of_fields};
+ghost use Rattle.mime_text.specs.Names.{name_texts};
+ghost use Rattle.mime_text.specs.Sinks.{Hands, most_in_text};
+ghost use Rattle.mime_text.specs.Feeding.{counted_texts, header_texts};
+
+use crate::fault::TextFault;
+use crate::header::field_text::{FieldReader, kind_of_field};
+use crate::sink::TextSink;
+use header_text::{Field, Fields};
+use mail_words::TextKind;
+
+/// Gives a text.
+fn give_text<S: TextSink>(kind: TextKind, text: &str, sink: &mut S) -> Result<(), TextFault>
+    requires { length text.now ≤ most_in_text kind }
+    ensures { Hands S.takes S.refuses (λ _. (kind, text.now) ∷ []) (λ _. []) result sink.old sink.new }
+{
+    match sink.text(kind, text) {
+        Ok(()) => Ok(()),
+        Err(fault) => Err(TextFault::Sink(fault)),
+    }
+}
+
+/// Gives the text of a field, if it is one of the five.
+fn give_field<S: TextSink>(
+    field: Field<'_>,
+    reader: &mut FieldReader,
+    sink: &mut S,
+) -> Result<(), TextFault>
+    requires { length field.body.now ≤ most_in_header }
+    ensures { Hands S.takes S.refuses (λ _. texts_of_fields (record { name = field.entry.name.now; body = field.entry.body.now } ∷ [])) (λ _. []) result sink.old sink.new }
+{
+    let Some(kind) = kind_of_field(field.name) else {
+        return Ok(());
+    };
+    match reader.read(field.body) {
+        Ok(text) => give_text(kind, text, sink),
+        Err(_) => Err(TextFault::OutOfMemory),
+    }
+}
+
+/// Gives the texts of a header's fields, in order.
+fn give_fields<S: TextSink>(
+    fields: Fields<'_>,
+    reader: &mut FieldReader,
+    sink: &mut S,
+) -> Result<(), TextFault>
+    requires { fields_size fields ≤ most_in_header }
+    ensures { Hands S.takes S.refuses (λ _. texts_of_fields fields.entry) (λ _. []) result sink.old sink.new }
+{
+    for field in fields {
+        if let Err(fault) = give_field(field, reader, sink) {
+            return Err(fault);
+        }
+    }
+    Ok(())
+}
+
+/// Gives the texts of a header's fields, if it counts.
+fn give_counted<S: TextSink>(
+    counted: bool,
+    fields: Fields<'_>,
+    reader: &mut FieldReader,
+    sink: &mut S,
+) -> Result<(), TextFault>
+    requires { fields_size fields ≤ most_in_header }
+    ensures { Hands S.takes S.refuses (λ _. counted_texts counted fields.entry) (λ _. []) result sink.old sink.new }
+{
+    if counted {
+        give_fields(fields, reader, sink)
+    } else {
+        Ok(())
+    }
+}
+
+/// Gives the name of a header's entity, if it has one.
+fn give_name<S: TextSink>(
+    fields: Fields<'_>,
+    reader: &mut FieldReader,
+    sink: &mut S,
+) -> Result<(), TextFault>
+    requires { fields_size fields ≤ most_in_header }
+    ensures { Hands S.takes S.refuses (λ _. name_texts fields.entry) (λ _. []) result sink.old sink.new }
+{
+    match reader.read_name(fields) {
+        Ok(Some(text)) => give_text(TextKind::Name, text, sink),
+        Ok(None) => Ok(()),
+        Err(_) => Err(TextFault::OutOfMemory),
+    }
+}
+
+/// Gives the texts of a header, if it counts, and then the name of its entity.
+pub(crate) fn give_header<S: TextSink>(
+    counted: bool,
+    fields: Fields<'_>,
+    reader: &mut FieldReader,
+    sink: &mut S,
+) -> Result<(), TextFault>
+    requires { fields_size fields ≤ most_in_header }
+    ensures { Hands S.takes S.refuses (λ _. header_texts counted fields.entry) (λ _. []) result sink.old sink.new }
+{
+    match give_counted(counted, fields.again(), reader, sink) {
+        Ok(()) => give_name(fields, reader, sink),
+        Err(fault) => Err(fault),
+    }
+}

@@ -1,0 +1,68 @@
+//! Transfer encodings, undone line by line (RFC 2045, 6).
+ghost use Rattle.std.specs.Prelude.{◌≡◌, ℕ, ◌++◌, ◌∷◌, [], List, OnOk};
+ghost use Rattle.mime_text.specs.Transfer.{printable_bytes, decoded_bytes};
+ghost use Rattle.mime_text.specs.Decoders.{still_decoded};
+
+use crate::leaf::transfer::TransferEncoding;
+use header_text::{Base64, before_blanks, unescape_into};
+use mbox_cutter::without_break;
+use std::alloc::AllocError;
+
+/// Undoes a transfer encoding, one line of the body at a time.
+#[derive(Clone, Copy)]
+pub(crate) enum Decoder {
+    Identity,
+    QuotedPrintable,
+    Base64(Base64),
+}
+
+/// Adds the bytes of a line of quoted-printable: without its line break and the spaces and tabs before that; a final `=` takes
+/// the break away, else it is LF where the line has one (RFC 2045, 6.7, rules 3 and 5).
+#[tactic(auto, unfolding(crate::specs::Transfer::printable_bytes))]
+fn push_printable(line: &[u8], into: &mut Vec<u8>) -> Result<(), AllocError>
+    ensures { OnOk result (into.new.items ≡ into.old.items ++ printable_bytes line.now) }
+{
+    let text = before_blanks(without_break(line));
+    if let Some(soft) = text.strip_suffix(b"=") {
+        return unescape_into(soft, into);
+    }
+    unescape_into(text, into)?;
+    if line.strip_suffix(b"\n").is_some() {
+        into.push(b'\n')?;
+    }
+    Ok(())
+}
+
+impl Decoder {
+    /// At the beginning of a body.
+    pub(crate) fn new(transfer: TransferEncoding) -> Self
+        ensures { (ls : List (List ℕ)) → still_decoded result ls ≡ decoded_bytes transfer ls }
+    {
+        match transfer {
+            TransferEncoding::Identity => Decoder::Identity,
+            TransferEncoding::QuotedPrintable => Decoder::QuotedPrintable,
+            TransferEncoding::Base64 => Decoder::Base64(Base64::new()),
+        }
+    }
+
+    /// Adds what the next line gives. What the buffer and the decoder hold after an error isn't said.
+    pub(crate) fn push(&mut self, line: &[u8], into: &mut Vec<u8>) -> Result<(), AllocError>
+        ensures { OnOk result ((later : List (List ℕ)) → into.new.items ++ still_decoded self.new later ≡ into.old.items ++ still_decoded self.old (line.now ∷ later)) }
+    {
+        match self {
+            Decoder::Identity => into.extend_from_slice(line),
+            Decoder::QuotedPrintable => push_printable(line, into),
+            Decoder::Base64(reader) => reader.push(line, into),
+        }
+    }
+
+    /// Adds what is left over at the body's end.
+    pub(crate) fn finish(self, into: &mut Vec<u8>) -> Result<(), AllocError>
+        ensures { OnOk result (into.new.items ≡ into.old.items ++ still_decoded self []) }
+    {
+        match self {
+            Decoder::Identity | Decoder::QuotedPrintable => Ok(()),
+            Decoder::Base64(reader) => reader.finish(into),
+        }
+    }
+}

@@ -1,0 +1,204 @@
+//! The line of a leaf that isn't whole yet.
+ghost use Rattle.std.specs.Prelude.{◌≡◌, ℕ, ◌≤◌, ◌-◌, ◌∷◌, ◌++◌, [], List, None, true, length, drop, OnOk, IfOk, IfErr};
+ghost use Rattle.std.specs.List.{concat};
+ghost use Rattle.mbox_cutter.specs.Lines.{length_before_feed, line_end_of};
+ghost use Rattle.mime_text.specs.Sinks.{Gave, Broke, Hands};
+ghost use Rattle.mime_text.specs.Decoders.{still_decoded};
+ghost use Rattle.mime_text.specs.LeafReading.{pairs_of_bytes};
+ghost use Rattle.mime_text.specs.Limits.{most_before_feed};
+
+use crate::fault::TextFault;
+use crate::leaf::decoder::Decoder;
+use crate::leaf::line_end::line_end_behind;
+use crate::leaf::line_texts::LineTexts;
+use crate::sink::TextSink;
+use std::alloc::Global;
+use std::marker::Model;
+
+/// Decoded bytes that begin a line, where it isn't known yet how long that is: at most 65,536, and no LF.
+#[derive(Drop)]
+pub(crate) struct HeldLine {
+    bytes: Vec<u8>,
+}
+
+impl Model for HeldLine {
+    ghost use Rattle.std.specs.Prelude.{◌≡◌, ℕ, List, None};
+    ghost use Rattle.mbox_cutter.specs.Lines.{line_end_of};
+
+    ghost Value = { List ℕ };
+
+    ghost view = { λ h. h.bytes.items };
+
+    ghost invariant = { λ h. line_end_of h.bytes.items ≡ None };
+}
+
+/// Gives the lines in front that are whole, and answers the bytes behind them. So many bytes in front have no LF.
+fn give_lines<'a, S: TextSink>(
+    searched: usize,
+    bytes: &'a [u8],
+    texts: &mut LineTexts,
+    sink: &mut S,
+) -> Result<&'a [u8], TextFault>
+    requires free { searched ≤ length_before_feed bytes.now }
+    requires few { searched ≤ most_before_feed }
+    ensures open { IfOk result (λ rest. line_end_of rest.now ≡ None) }
+    ensures fits { IfOk result (λ rest. length rest.now ≤ length bytes.now) }
+    ensures rest { IfOk result (λ rest. rest.now ≡ drop (length bytes.now - length rest.now) bytes.now) }
+    ensures gave { IfOk result (λ rest. Gave S.takes S.refuses (λ ls. pairs_of_bytes texts.old (bytes.now ++ concat ls)) (λ ls. pairs_of_bytes texts.new (rest.now ++ concat ls)) sink.old sink.new) }
+    ensures broke { IfErr result (λ fault. Broke S.takes S.refuses (λ ls. pairs_of_bytes texts.old (bytes.now ++ concat ls)) fault sink.old sink.new) }
+{
+    let mut rest = bytes;
+    let mut searched = searched;
+    while let Some(len) = line_end_behind(searched, rest) {
+        let (line, later) = rest.split_at(len);
+        match texts.give(line, sink) {
+            Ok(()) => {
+                rest = later;
+                searched = 0;
+            }
+            Err(fault) => return Err(fault),
+        }
+    }
+    Ok(rest)
+}
+
+/// Drops the bytes up to a place.
+fn drop_front(bytes: &mut Vec<u8>, at: usize)
+    requires { at ≤ length bytes.old.items }
+    ensures { bytes.new.items ≡ drop at bytes.old.items }
+{
+    if at == 0 {
+        return;
+    }
+    let len = bytes.len();
+    bytes.copy_within(at..len, 0);
+    bytes.truncate(len - at);
+}
+
+/// Gives the lines in front that are whole, and drops them. So many bytes in front have no LF.
+fn take_lines<S: TextSink>(
+    searched: usize,
+    bytes: &mut Vec<u8>,
+    texts: &mut LineTexts,
+    sink: &mut S,
+) -> Result<(), TextFault>
+    requires free { searched ≤ length_before_feed bytes.old.items }
+    requires few { searched ≤ most_before_feed }
+    ensures open { OnOk result (line_end_of bytes.new.items ≡ None) }
+    ensures hands { Hands S.takes S.refuses (λ ls. pairs_of_bytes texts.old (bytes.old.items ++ concat ls)) (λ ls. pairs_of_bytes texts.new (bytes.new.items ++ concat ls)) result sink.old sink.new }
+{
+    let left = match give_lines(searched, bytes, texts, sink) {
+        Ok(rest) => rest.len(),
+        Err(fault) => return Err(fault),
+    };
+    let at = bytes.len() - left;
+    drop_front(bytes, at);
+    Ok(())
+}
+
+/// Gives all lines, the last one too, which needn't be whole.
+fn give_all<S: TextSink>(bytes: &[u8], texts: &mut LineTexts, sink: &mut S) -> Result<(), TextFault>
+    ensures { Hands S.takes S.refuses (λ _. pairs_of_bytes texts.old bytes.now) (λ _. []) result sink.old sink.new }
+{
+    match give_lines(0, bytes, texts, sink) {
+        Ok(rest) => {
+            if rest.is_empty() {
+                return Ok(());
+            }
+            texts.give(rest, sink)
+        }
+        Err(fault) => Err(fault),
+    }
+}
+
+/// Decodes the next line of the body behind the bytes that are held, and gives the lines that are whole then.
+fn take_encoded<S: TextSink>(
+    bytes: &mut Vec<u8>,
+    decoder: &mut Decoder,
+    line: &[u8],
+    texts: &mut LineTexts,
+    sink: &mut S,
+) -> Result<(), TextFault>
+    requires { line_end_of bytes.old.items ≡ None }
+    ensures open { OnOk result (line_end_of bytes.new.items ≡ None) }
+    ensures hands { Hands S.takes S.refuses (λ ls. pairs_of_bytes texts.old (bytes.old.items ++ still_decoded decoder.old (line.now ∷ ls))) (λ ls. pairs_of_bytes texts.new (bytes.new.items ++ still_decoded decoder.new ls)) result sink.old sink.new }
+{
+    let held = bytes.len();
+    match decoder.push(line, bytes) {
+        Ok(()) => take_lines(held.min(bytes.len()), bytes, texts, sink),
+        Err(_) => Err(TextFault::OutOfMemory),
+    }
+}
+
+/// Decodes the body's end behind the bytes that are held, and gives all lines.
+fn give_rest<S: TextSink>(
+    bytes: &mut Vec<u8>,
+    decoder: Decoder,
+    texts: &mut LineTexts,
+    sink: &mut S,
+) -> Result<(), TextFault>
+    ensures { Hands S.takes S.refuses (λ _. pairs_of_bytes texts.old (bytes.old.items ++ still_decoded decoder [])) (λ _. []) result sink.old sink.new }
+{
+    match decoder.finish(bytes) {
+        Ok(()) => give_all(bytes, texts, sink),
+        Err(_) => Err(TextFault::OutOfMemory),
+    }
+}
+
+#[tactic(auto, unfolding(mbox_cutter::specs::Lines::line_end_of))]
+impl HeldLine {
+    /// Of no bytes. It takes no memory.
+    pub(crate) fn new(alloc: Global) -> Self
+        ensures { result ≡ [] }
+    {
+        HeldLine {
+            bytes: Vec::new(alloc),
+        }
+    }
+
+    pub(crate) fn is_empty(&self) -> bool
+        ensures { result ≡ true → self.now ≡ [] }
+    {
+        self.bytes.is_empty()
+    }
+
+    pub(crate) fn clear(&mut self)
+        ensures { self.new ≡ [] }
+    {
+        self.bytes.clear();
+    }
+
+    /// Reads the next line of the body, and gives the lines that are whole then. At a fault nothing is held.
+    pub(crate) fn take<S: TextSink>(
+        &mut self,
+        decoder: &mut Decoder,
+        line: &[u8],
+        texts: &mut LineTexts,
+        sink: &mut S,
+    ) -> Result<(), TextFault>
+        ensures { Hands S.takes S.refuses (λ ls. pairs_of_bytes texts.old (self.old ++ still_decoded decoder.old (line.now ∷ ls))) (λ ls. pairs_of_bytes texts.new (self.new ++ still_decoded decoder.new ls)) result sink.old sink.new }
+    {
+        match take_encoded(&mut self.bytes, decoder, line, texts, sink) {
+            Ok(()) => Ok(()),
+            Err(fault) => {
+                self.bytes.clear();
+                Err(fault)
+            }
+        }
+    }
+
+    /// Gives all lines that are left. Then nothing is held.
+    pub(crate) fn finish<S: TextSink>(
+        &mut self,
+        decoder: Decoder,
+        texts: &mut LineTexts,
+        sink: &mut S,
+    ) -> Result<(), TextFault>
+        ensures held { self.new ≡ [] }
+        ensures hands { Hands S.takes S.refuses (λ _. pairs_of_bytes texts.old (self.old ++ still_decoded decoder [])) (λ _. []) result sink.old sink.new }
+    {
+        let result = give_rest(&mut self.bytes, decoder, texts, sink);
+        self.bytes.clear();
+        result
+    }
+}

@@ -1,0 +1,84 @@
+//! The texts of a leaf, read one line at a time.
+ghost use Rattle.std.specs.Prelude.{◌≡◌, ℕ, ◌≤◌, ◌+◌, ◌∷◌, [], List, true, false, length};
+ghost use Rattle.mbox_cutter.specs.Lines.{length_before_feed};
+ghost use Rattle.mime_text.specs.Sinks.{Hands};
+ghost use Rattle.mime_text.specs.Transfer.{ends_in};
+ghost use Rattle.mime_text.specs.LeafTexts.{leaf_texts};
+ghost use Rattle.mime_text.specs.LeafReading.{body_pairs, pairs_to_come};
+ghost use Rattle.mime_text.specs.declared.leaf.decoder.Decoder.TheVariants as decoder_of;
+ghost use Rattle.mime_text.specs.Limits.{most_in_line};
+
+use crate::fault::TextFault;
+use crate::leaf::decoder::Decoder;
+use crate::leaf::held_line::HeldLine;
+use crate::leaf::line_texts::LineTexts;
+use crate::leaf::transfer::TransferEncoding;
+use crate::sink::TextSink;
+use header_text::Charset;
+use std::alloc::Global;
+
+/// Reads the bodies of texts, one after another, and gives their texts to a sink: one for each line of what the body encodes.
+/// Of a body it keeps at most the beginning of one such line.
+#[derive(Drop)]
+pub struct LeafReader {
+    decoder: Decoder,
+    held: HeldLine,
+    texts: LineTexts,
+}
+
+/// Whether a line of the body is a line of what it encodes, and nothing stands before it in that.
+fn is_passed_on(decoder: &Decoder, held: &HeldLine, line: &[u8]) -> bool
+    ensures decoder { result ≡ true → decoder.now ≡ decoder_of.Identity }
+    ensures held { result ≡ true → held.now ≡ [] }
+    ensures feed { result ≡ true → ends_in 0x0A line.now ≡ true }
+{
+    match decoder {
+        Decoder::Identity => held.is_empty() && line.strip_suffix(b"\n").is_some(),
+        _ => false,
+    }
+}
+
+impl LeafReader {
+    /// A reader of a body that is plain text in UTF-8 as it stands. It takes no memory.
+    pub fn new(alloc: Global) -> Self
+        ensures { (ls : List (List ℕ)) → pairs_to_come result ls ≡ body_pairs (leaf_texts TransferEncoding.Identity Charset.Utf8 false ls) }
+    {
+        let decoder = Decoder::new(TransferEncoding::Identity);
+        let held = HeldLine::new(alloc);
+        let texts = LineTexts::new(alloc);
+        LeafReader {
+            decoder,
+            held,
+            texts,
+        }
+    }
+
+    /// Begins a body.
+    pub fn begin(&mut self, transfer: TransferEncoding, charset: Charset, is_html: bool)
+        ensures { (ls : List (List ℕ)) → pairs_to_come self.new ls ≡ body_pairs (leaf_texts transfer charset is_html ls) }
+    {
+        self.decoder = Decoder::new(transfer);
+        self.held.clear();
+        self.texts.begin(charset, is_html);
+    }
+
+    /// Reads the next line of the body.
+    pub fn line<S: TextSink>(&mut self, line: &[u8], sink: &mut S) -> Result<(), TextFault>
+        requires short { length line.now ≤ most_in_line }
+        requires last { length line.now ≤ length_before_feed line.now + 1 }
+        ensures { Hands S.takes S.refuses (λ ls. pairs_to_come self.old (line.now ∷ ls)) (λ ls. pairs_to_come self.new ls) result sink.old sink.new }
+    {
+        if is_passed_on(&self.decoder, &self.held, line) {
+            return self.texts.give(line, sink);
+        }
+        self.held
+            .take(&mut self.decoder, line, &mut self.texts, sink)
+    }
+
+    /// Ends the body: gives what is left of it.
+    pub fn end<S: TextSink>(&mut self, sink: &mut S) -> Result<(), TextFault>
+        ensures { Hands S.takes S.refuses (λ _. pairs_to_come self.old []) (λ _. []) result sink.old sink.new }
+    {
+        self.held.finish(self.decoder, &mut self.texts, sink)
+    }
+}

@@ -1,0 +1,146 @@
+//! The text of a line, in memory that is used again.
+ghost use Rattle.std.specs.Prelude.{◌≡◌, ℕ, ◌≤◌, List, length, IfOk, OnOk, string_bytes, encode_utf8_all};
+ghost use Rattle.std.specs.Str.{chars};
+ghost use Rattle.header_text.specs.Charsets.{text_of};
+ghost use Rattle.mime_text.specs.OpenTags.{blanked, is_open_behind};
+ghost use Rattle.mime_text.specs.Inside.Showing.{Shows};
+ghost use Rattle.mime_text.specs.Limits.{most_in_line, most_in_line_text};
+
+use crate::fault::TextFault;
+use crate::leaf::own_text::own_text;
+use crate::leaf::tags::{blank_tags, is_free_of_tags};
+use crate::sink::TextSink;
+use header_text::{Charset, decode_into};
+use mail_words::TextKind;
+use std::alloc::{AllocError, Global};
+
+/// Memory for the text of a line, and for the same without tags, which is used again for each line.
+#[derive(Drop)]
+pub(crate) struct TextBuffers {
+    text: String,
+    blanked: String,
+    ghost text_fits: { length (string_bytes text) ≤ most_in_line_text },
+    ghost blanked_fits: { length (string_bytes blanked) ≤ most_in_line_text },
+}
+
+/// Gives a sink a text of a body.
+fn show<S: TextSink>(text: &str, sink: &mut S) -> Result<(), TextFault>
+    requires { length text.now ≤ most_in_line_text }
+    ensures { Shows S.takes S.refuses text.now result sink.old sink.new }
+{
+    match sink.text(TextKind::Body, text) {
+        Ok(()) => Ok(()),
+        Err(fault) => Err(TextFault::Sink(fault)),
+    }
+}
+
+/// Writes the text of a line; nothing where memory is wanting.
+fn write_text(charset: Charset, line: &[u8], into: &mut String) -> Result<(), AllocError>
+    requires { length line.now ≤ most_in_line }
+    ensures text { OnOk result (string_bytes into.new ≡ text_of charset line.now) }
+    ensures size { length (string_bytes into.new) ≤ most_in_line_text }
+{
+    into.clear();
+    match decode_into(charset, line, into) {
+        Ok(()) => Ok(()),
+        Err(error) => {
+            into.clear();
+            Err(error)
+        }
+    }
+}
+
+/// Writes a text without its tags; nothing where memory is wanting. The answer is whether a tag is open behind it.
+fn write_blanked(open_before: bool, text: &str, into: &mut String) -> Result<bool, AllocError>
+    requires { length text.now ≤ most_in_line_text }
+    ensures text { OnOk result (string_bytes into.new ≡ encode_utf8_all (blanked open_before (chars text.now))) }
+    ensures is_open { IfOk result (λ behind. behind ≡ is_open_behind open_before (chars text.now)) }
+    ensures size { length (string_bytes into.new) ≤ most_in_line_text }
+{
+    into.clear();
+    match blank_tags(open_before, text, into) {
+        Ok(behind) => Ok(behind),
+        Err(error) => {
+            into.clear();
+            Err(error)
+        }
+    }
+}
+
+impl TextBuffers {
+    /// Without any text. It takes no memory.
+    pub(crate) fn new(alloc: Global) -> Self {
+        TextBuffers {
+            text: String::new(alloc),
+            blanked: String::new(alloc),
+        }
+    }
+
+    /// Gives a sink the text of a line.
+    pub(crate) fn show_plain<S: TextSink>(
+        &mut self,
+        charset: Charset,
+        line: &[u8],
+        sink: &mut S,
+    ) -> Result<(), TextFault>
+        requires { length line.now ≤ most_in_line }
+        ensures { Shows S.takes S.refuses (text_of charset line.now) result sink.old sink.new }
+    {
+        if let Some(text) = own_text(charset, line) {
+            return show(text, sink);
+        }
+        match write_text(charset, line, &mut self.text) {
+            Ok(()) => show(self.text.as_str(), sink),
+            Err(_) => Err(TextFault::OutOfMemory),
+        }
+    }
+
+    /// Writes the text of a line without its tags. The answer is whether a tag is open behind it.
+    fn write_blanked_line(
+        &mut self,
+        charset: Charset,
+        open_before: bool,
+        line: &[u8],
+    ) -> Result<bool, AllocError>
+        requires { length line.now ≤ most_in_line }
+        ensures text { OnOk result (string_bytes self.new.blanked ≡ encode_utf8_all (blanked open_before (chars (text_of charset line.now)))) }
+        ensures is_open { IfOk result (λ behind. behind ≡ is_open_behind open_before (chars (text_of charset line.now))) }
+    {
+        if let Some(text) = own_text(charset, line) {
+            return write_blanked(open_before, text, &mut self.blanked);
+        }
+        match write_text(charset, line, &mut self.text) {
+            Ok(()) => write_blanked(open_before, self.text.as_str(), &mut self.blanked),
+            Err(error) => Err(error),
+        }
+    }
+
+    /// Gives a sink the text of a line without its tags. The answer is whether a tag is open behind it.
+    pub(crate) fn show_html<S: TextSink>(
+        &mut self,
+        charset: Charset,
+        open_before: bool,
+        line: &[u8],
+        sink: &mut S,
+    ) -> Result<bool, TextFault>
+        requires { length line.now ≤ most_in_line }
+        ensures shows { Shows S.takes S.refuses (encode_utf8_all (blanked open_before (chars (text_of charset line.now)))) result sink.old sink.new }
+        ensures is_open { IfOk result (λ behind. behind ≡ is_open_behind open_before (chars (text_of charset line.now))) }
+    {
+        if let Some(text) = own_text(charset, line) {
+            if is_free_of_tags(open_before, text) {
+                return match show(text, sink) {
+                    Ok(()) => Ok(false),
+                    Err(fault) => Err(fault),
+                };
+            }
+        }
+        match self.write_blanked_line(charset, open_before, line) {
+            Ok(behind) => match show(self.blanked.as_str(), sink) {
+                Ok(()) => Ok(behind),
+                Err(fault) => Err(fault),
+            },
+            Err(_) => Err(TextFault::OutOfMemory),
+        }
+    }
+}

@@ -1,0 +1,182 @@
+//! What an entity is, by its header.
+ghost use Rattle.std.specs.Prelude.{◌≡◌, ◌≤◌, ℕ, List, length, map, IfOk, OnOk, option_map};
+ghost use Rattle.std.specs.Char.{to_ascii_lowercase};
+ghost use Rattle.std.specs.Str.{str_to_ascii_lowercase};
+ghost use Rattle.header_text.specs.Headers.{fields_of, fields_size};
+ghost use Rattle.header_text.specs.HeldLines.{HasLines};
+ghost use Rattle.mime_text.specs.Types.{first_body as first_body_of, first_value, type_text as type_text_of, has_slash as has_slash_of, media_type as media_type_of, default_type, default_in as default_in_of, is_multipart as is_multipart_of, shape_of_single as shape_of_single_of, shape_of_value, shape_of, charset_of_value, charset_in, transfer_in};
+
+use crate::leaf::transfer::TransferEncoding;
+use crate::parts::boundary::Boundary;
+use crate::parts::parameter::read_parameter;
+use crate::parts::shape::{DefaultType, Shape};
+use header_text::{Charset, Fields, Header, cut_at, is_named, trimmed, unfold_into};
+use std::alloc::{AllocError, Global};
+
+/// What an entity's header says of its body.
+#[derive(Drop)]
+pub struct EntityType {
+    /// By its first Content-Type field (RFC 2045, 5).
+    pub shape: Shape,
+    /// By that field's first parameter `charset`.
+    pub charset: Charset,
+    /// By its first Content-Transfer-Encoding field (RFC 2045, 6).
+    pub transfer: TransferEncoding,
+}
+
+/// The body of the first field of a name, which is written in lower case.
+fn first_body<'a>(fields: Fields<'a>, name: &[u8]) -> Option<&'a [u8]>
+    requires { map to_ascii_lowercase name.now ≡ name.now }
+    ensures { option_map (λ body. body.now) result ≡ first_body_of name.now fields.entry }
+{
+    for field in fields {
+        if is_named(field.name, name) {
+            return Some(field.body);
+        }
+    }
+    None
+}
+
+/// Writes the unfolded value of the first field of a name, which is written in lower case; nothing where there is none.
+#[tactic(auto, unfolding(header_text::specs::Unfolding::unfolded, header_text::specs::Blanks::before_blanks))]
+pub(crate) fn read_first_value(
+    fields: Fields<'_>,
+    name: &[u8],
+    into: &mut Vec<u8>,
+) -> Result<(), AllocError>
+    requires { map to_ascii_lowercase name.now ≡ name.now }
+    ensures value { OnOk result (into.new.items ≡ first_value name.now fields.entry) }
+    ensures size { OnOk result (length into.new.items ≤ fields_size fields.entry) }
+{
+    into.clear();
+    if let Some(body) = first_body(fields, name) {
+        unfold_into(body, into)?;
+    }
+    Ok(())
+}
+
+/// What stands before the first semicolon, without blanks round it.
+fn type_text(value: &[u8]) -> &[u8]
+    ensures { result.now ≡ type_text_of value.now }
+{
+    match cut_at(b';', value) {
+        Some((front, _)) => trimmed(front),
+        None => trimmed(value),
+    }
+}
+
+fn has_slash(text: &[u8]) -> bool
+    ensures { result ≡ has_slash_of text.now }
+{
+    text.iter().any(|b| *b == b'/')
+}
+
+/// The name of a default.
+fn default_name(default: DefaultType) -> &'static [u8]
+    ensures { str_to_ascii_lowercase result.now ≡ default_type default }
+{
+    match default {
+        DefaultType::TextPlain => b"text/plain",
+        DefaultType::MessageRfc822 => b"message/rfc822",
+    }
+}
+
+/// The type that a Content-Type field's value names, in any ASCII case, or the default where it names none.
+fn media_type(default: DefaultType, value: &[u8]) -> &[u8]
+    ensures { str_to_ascii_lowercase result.now ≡ media_type_of default value.now }
+{
+    let text = type_text(value);
+    if has_slash(text) {
+        text
+    } else {
+        default_name(default)
+    }
+}
+
+/// Whether a type is some kind of multipart.
+fn is_multipart(name: &[u8]) -> bool
+    ensures { result ≡ is_multipart_of (str_to_ascii_lowercase name.now) }
+{
+    is_named(&name[..name.len().min(10)], b"multipart/")
+}
+
+/// The default of the entities in a multipart of this type.
+fn default_in(name: &[u8]) -> DefaultType
+    ensures { result ≡ default_in_of (str_to_ascii_lowercase name.now) }
+{
+    if is_named(name, b"multipart/digest") {
+        DefaultType::MessageRfc822
+    } else {
+        DefaultType::TextPlain
+    }
+}
+
+/// What an entity of a type is that is no multipart.
+fn shape_of_single(name: &[u8]) -> Shape
+    ensures { result ≡ shape_of_single_of (str_to_ascii_lowercase name.now) }
+{
+    if is_named(name, b"message/rfc822") {
+        Shape::Message
+    } else if is_named(name, b"text/plain") {
+        Shape::Text { is_html: false }
+    } else if is_named(name, b"text/html") {
+        Shape::Text { is_html: true }
+    } else {
+        Shape::Other
+    }
+}
+
+/// What an entity is whose Content-Type field has this value.
+#[tactic(auto, unfolding(crate::specs::Types::shape_of_value))]
+fn read_shape(default: DefaultType, value: &[u8], buffer: &mut Vec<u8>) -> Result<Shape, AllocError>
+    ensures { IfOk result (λ shape. shape ≡ shape_of_value default value.now) }
+{
+    let name = media_type(default, value);
+    if !is_multipart(name) {
+        return Ok(shape_of_single(name));
+    }
+    if !read_parameter(value, b"boundary", buffer)? {
+        return Ok(Shape::Text { is_html: false });
+    }
+    match Boundary::new(buffer) {
+        Some(boundary) => Ok(Shape::Multipart {
+            boundary,
+            default: default_in(name),
+        }),
+        None => Ok(Shape::Text { is_html: false }),
+    }
+}
+
+/// The charset that a Content-Type field's value names.
+#[tactic(auto, unfolding(crate::specs::Types::charset_of_value))]
+fn read_charset(value: &[u8], buffer: &mut Vec<u8>) -> Result<Charset, AllocError>
+    ensures { IfOk result (λ charset. charset ≡ charset_of_value value.now) }
+{
+    if read_parameter(value, b"charset", buffer)? {
+        Ok(Charset::of(buffer))
+    } else {
+        Ok(Charset::of(b""))
+    }
+}
+
+impl EntityType {
+    /// What the header of an entity says, where the lines are those that it was given.
+    pub fn of(alloc: Global, default: DefaultType, header: &Header) -> Result<Self, AllocError>
+        ensures shape { IfOk result (λ entity. (ls : List (List ℕ)) → HasLines header.now ls → entity.shape ≡ shape_of default (fields_of ls)) }
+        ensures charset { IfOk result (λ entity. (ls : List (List ℕ)) → HasLines header.now ls → entity.charset ≡ charset_in (fields_of ls)) }
+        ensures transfer { IfOk result (λ entity. (ls : List (List ℕ)) → HasLines header.now ls → entity.transfer ≡ transfer_in (fields_of ls)) }
+    {
+        let mut value = Vec::new(alloc);
+        let mut buffer = Vec::new(alloc);
+        read_first_value(header.fields(), b"content-type", &mut value)?;
+        let shape = read_shape(default, &value, &mut buffer)?;
+        let charset = read_charset(&value, &mut buffer)?;
+        read_first_value(header.fields(), b"content-transfer-encoding", &mut value)?;
+        let transfer = TransferEncoding::named(&value);
+        Ok(EntityType {
+            shape,
+            charset,
+            transfer,
+        })
+    }
+}

@@ -1,0 +1,133 @@
+//! The multipart entities that are open.
+ghost use Rattle.std.specs.Prelude.{◌≡◌, ◌<◌, [], length, take, slice_get, IfSome, IfNone, OnOk};
+ghost use Rattle.mime_text.specs.declared.parts.frame.Frame.{Frame};
+ghost use Rattle.mime_text.specs.Sinks.{Pair};
+ghost use Rattle.mime_text.specs.Stream.{hit};
+ghost use Rattle.mime_text.specs.Frames.{scan, led, inside_out};
+
+use crate::parts::boundary::Boundary;
+use crate::parts::delimiter::{Delimiter, after_dashes, delimiter_behind};
+use crate::parts::frame::Frame;
+use crate::parts::shape::DefaultType;
+use std::alloc::{AllocError, Global};
+use std::marker::Model;
+
+/// The greatest depth at which an entity is read; the message is at depth 0.
+const MOST_DEPTH: usize = 16;
+
+/// The multipart entities that are open, of which there are at most 16, and how deep the entity lies that is read.
+#[derive(Drop)]
+pub(crate) struct Nesting {
+    // The outermost first.
+    frames: Vec<Frame>,
+    // How many depths are left below the entity that is read.
+    left: usize,
+}
+
+impl Model for Nesting {
+    ghost use Rattle.mime_text.specs.Frames.{Nest};
+
+    ghost Value = { Nest };
+
+    ghost use Rattle.std.specs.Prelude.{[], ◌+◌, ◌≤◌, length};
+    ghost use Rattle.mime_text.specs.Frames.{inside_out, AreNested};
+
+    ghost view = { λ s. record { frames = inside_out s.frames.items []; left = s.left } };
+
+    ghost invariant = { λ s. (length s.frames.items + s.left ≤ 16) × AreNested 0 s.frames.items };
+}
+
+/// What a line delimits.
+#[derive(Clone, Copy, Debug, PartialEq, Eq)]
+pub(crate) enum Lead {
+    /// Nothing.
+    Nowhere,
+    /// The next piece of an open multipart begins, which has this type where it doesn't name its own.
+    Piece(DefaultType),
+    /// An open multipart ends.
+    Behind,
+}
+
+/// The outermost multipart that a line delimits, by what follows the line's two dashes.
+fn outermost(frames: &[Frame], text: &[u8]) -> Option<(usize, Delimiter)>
+    ensures within { IfSome result (λ r. r.0 < length frames.now) }
+    ensures none { IfNone result (scan {A = Pair} [] frames.now text.now ≡ None) }
+    ensures some { IfSome result (λ r. (f : Frame) × (slice_get frames.now r.0 ≡ Some f) × (scan {A = Pair} [] frames.now text.now ≡ led (Some r.1) f (inside_out (take r.0 frames.now) []))) }
+{
+    for (at, frame) in frames.iter().enumerate() {
+        if let Some(kind) = delimiter_behind(frame.boundary.as_bytes(), text) {
+            return Some((at, kind));
+        }
+    }
+    None
+}
+
+impl Nesting {
+    ghost use Rattle.mime_text.specs.Frames.{lead_to, opened, below};
+
+    /// The message itself is read, and no multipart is open. It takes no memory.
+    pub(crate) fn new(alloc: Global) -> Self
+        ensures { result ≡ record { frames = []; left = 16 } }
+    {
+        Nesting {
+            frames: Vec::new(alloc),
+            left: MOST_DEPTH,
+        }
+    }
+
+    /// Goes to where a line leads that delimits an open multipart, the outermost first.
+    pub(crate) fn delimit(&mut self, line: &[u8]) -> Lead
+        ensures leads { lead_to {A = Pair} result self.new ≡ hit self.old.frames line.now }
+        ensures none { result ≡ Lead.Nowhere → self.new ≡ self.old }
+    {
+        let Some(text) = after_dashes(line) else {
+            return Lead::Nowhere;
+        };
+        match outermost(&self.frames, text) {
+            None => Lead::Nowhere,
+            Some((at, Delimiter::Closing)) => {
+                self.frames.truncate(at);
+                Lead::Behind
+            }
+            Some((at, Delimiter::Next)) => {
+                let frame = &self.frames[at];
+                let (default, left) = (frame.default, frame.left);
+                self.frames.truncate(at + 1);
+                self.left = left;
+                Lead::Piece(default)
+            }
+        }
+    }
+
+    /// Opens a multipart, the one that is read, where a depth is left for its pieces.
+    pub(crate) fn open(
+        &mut self,
+        boundary: Boundary,
+        default: DefaultType,
+    ) -> Result<(), AllocError>
+        ensures { OnOk result (self.new.frames ≡ opened self.old.left boundary default self.old.frames) }
+    {
+        if self.left == 0 {
+            return Ok(());
+        }
+        let left = self.left - 1;
+        self.frames.push(Frame {
+            boundary,
+            default,
+            left,
+        })?;
+        self.left = left;
+        Ok(())
+    }
+
+    /// Goes down to a message in the entity that is read, if a depth is left for it.
+    pub(crate) fn descend(&mut self) -> bool
+        ensures { below self.old result self.new }
+    {
+        if self.left == 0 {
+            return false;
+        }
+        self.left -= 1;
+        true
+    }
+}

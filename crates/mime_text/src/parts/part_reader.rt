@@ -1,0 +1,267 @@
+//! The parts of a message, read one line at a time.
+ghost use Rattle.std.specs.Prelude.{◌≡◌, ◌≤◌, ◌+◌, ℕ, Some, None, List, [], ◌∷◌, ◌++◌, length, IfOk, OnOk};
+ghost use Rattle.mbox_cutter.specs.Lines.{length_before_feed};
+ghost use Rattle.header_text.specs.Headers.{HeaderField, fields_of, fields_size, most_in_header};
+ghost use Rattle.header_text.specs.HeldLines.{HasLines};
+ghost use Rattle.mime_text.specs.MessageFacts.{HasSizedIds, facts_of};
+ghost use Rattle.mime_text.specs.Sinks.{Pair, Hands};
+ghost use Rattle.mime_text.specs.Types.{shape_of};
+ghost use Rattle.mime_text.specs.Stream.{hit};
+ghost use Rattle.mime_text.specs.Feeding.{ending, Notes};
+ghost use Rattle.mime_text.specs.Texts.{texts_of_message};
+ghost use Rattle.mime_text.specs.Inside.Passing.{Passes, IsOver};
+ghost use Rattle.mime_text.specs.Limits.{most_in_line};
+
+use crate::fault::TextFault;
+use crate::header::facts::Facts;
+use crate::header::field_text::FieldReader;
+use crate::header::giving::give_header;
+use crate::leaf::leaf_reader::LeafReader;
+use crate::parts::content_type::EntityType;
+use crate::parts::nesting::{Lead, Nesting};
+use crate::parts::shape::{DefaultType, Shape};
+use crate::sink::TextSink;
+use header_text::{Fields, Header, Taken};
+use std::alloc::{AllocError, Global};
+
+/// What the next line of a message belongs to.
+#[derive(Clone, Copy, Debug)]
+pub(crate) enum State {
+    /// To nothing that gives texts.
+    Skipping,
+    /// To the header of an entity, which has this type where it doesn't name its own.
+    InHeader { counted: bool, default: DefaultType },
+    /// To the body of a text.
+    InLeaf,
+}
+
+/// Reads the parts of a message one line at a time: of the multiparts that are open it keeps their boundaries, of an entity its
+/// header or the beginning of a line of its text.
+#[derive(Drop)]
+pub(crate) struct PartReader {
+    alloc: Global,
+    state: State,
+    nesting: Nesting,
+    header: Header,
+    leaf: LeafReader,
+    fields: FieldReader,
+    // Of the message's own header, once it has ended.
+    facts: Option<Facts>,
+}
+
+/// Gives what an entity still gives where it ends.
+fn end_entity<S: TextSink>(
+    state: State,
+    fields: Fields<'_>,
+    leaf: &mut LeafReader,
+    reader: &mut FieldReader,
+    sink: &mut S,
+) -> Result<(), TextFault>
+    requires { fields_size fields ≤ most_in_header }
+    ensures { Hands S.takes S.refuses (λ _. ending state fields.entry leaf.old) (λ _. []) result sink.old sink.new }
+{
+    match state {
+        State::Skipping => Ok(()),
+        State::InHeader { counted, .. } => give_header(counted, fields, reader, sink),
+        State::InLeaf => leaf.end(sink),
+    }
+}
+
+/// What a message's own header says: what is known of it, or else what this one says.
+fn facts_behind(alloc: Global, header: &Header, known: Option<Facts>) -> Result<Facts, AllocError>
+    ensures facts { IfOk result (λ facts. Notes known (Some facts) header.now) }
+    ensures sizes { IfOk result HasSizedIds }
+{
+    match known {
+        Some(facts) => Ok(facts.with_sizes()),
+        None => Facts::of(alloc, header),
+    }
+}
+
+impl PartReader {
+    ghost use Rattle.mime_text.specs.Feeding.{Comes, ComesBehindHeader, ComesEnding, KnowsFacts, given_after, given_behind};
+
+    /// A reader of a message, before its first line. It takes no memory.
+    pub(crate) fn new(alloc: Global) -> Self
+        ensures comes { Comes result texts_of_message }
+        ensures facts { KnowsFacts result [] }
+    {
+        PartReader {
+            alloc,
+            state: State::InHeader {
+                counted: true,
+                default: DefaultType::TextPlain,
+            },
+            nesting: Nesting::new(alloc),
+            header: Header::new(alloc),
+            leaf: LeafReader::new(alloc),
+            fields: FieldReader::new(alloc),
+            facts: None,
+        }
+    }
+
+    /// Reads the next line.
+    pub(crate) fn line<S: TextSink>(&mut self, line: &[u8], sink: &mut S) -> Result<(), TextFault>
+        requires short { length line.now ≤ most_in_line }
+        requires last { length line.now ≤ length_before_feed line.now + 1 }
+        ensures pairs { Passes S.takes S.refuses (Comes self.old) (Comes self.new) (λ c ms. c (line.now ∷ ms)) result sink.old sink.new }
+        ensures facts { OnOk result ((ls : List (List ℕ)) → KnowsFacts self.old ls → KnowsFacts self.new (ls ++ line.now ∷ [])) }
+    {
+        match self.nesting.delimit(line) {
+            Lead::Nowhere => self.inner_line(line, sink),
+            lead => self.leave(lead, sink),
+        }
+    }
+
+    /// Ends the entity, and goes on where a delimiter leads.
+    fn leave<S: TextSink>(&mut self, lead: Lead, sink: &mut S) -> Result<(), TextFault>
+        ensures pairs { Passes S.takes S.refuses (ComesEnding self.old lead) (Comes self.new) (λ c. c) result sink.old sink.new }
+        ensures facts { self.new.facts ≡ self.old.facts }
+    {
+        if let Err(fault) = end_entity(
+            self.state,
+            self.header.fields(),
+            &mut self.leaf,
+            &mut self.fields,
+            sink,
+        ) {
+            return Err(fault);
+        }
+        self.follow(lead);
+        Ok(())
+    }
+
+    /// Goes on where a delimiter leads.
+    fn follow(&mut self, lead: Lead)
+        ensures comes { Comes self.new (given_after lead self.old.nesting) }
+        ensures facts { self.new.facts ≡ self.old.facts }
+    {
+        match lead {
+            Lead::Piece(default) => {
+                self.header.clear();
+                self.state = State::InHeader {
+                    counted: false,
+                    default,
+                };
+            }
+            Lead::Behind | Lead::Nowhere => self.state = State::Skipping,
+        }
+    }
+
+    /// Reads a line that delimits nothing.
+    fn inner_line<S: TextSink>(&mut self, line: &[u8], sink: &mut S) -> Result<(), TextFault>
+        requires inner { hit {A = Pair} self.old.nesting.frames line.now ≡ None }
+        requires short { length line.now ≤ most_in_line }
+        requires last { length line.now ≤ length_before_feed line.now + 1 }
+        ensures pairs { Passes S.takes S.refuses (Comes self.old) (Comes self.new) (λ c ms. c (line.now ∷ ms)) result sink.old sink.new }
+        ensures facts { OnOk result ((ls : List (List ℕ)) → KnowsFacts self.old ls → KnowsFacts self.new (ls ++ line.now ∷ [])) }
+    {
+        match self.state {
+            State::Skipping => Ok(()),
+            State::InLeaf => self.leaf.line(line, sink),
+            State::InHeader { counted, default } => match self.header.push_line(line) {
+                Ok(Taken::More) => Ok(()),
+                Ok(Taken::Ended) => self.end_header(counted, default, sink),
+                Err(_) => Err(TextFault::OutOfMemory),
+            },
+        }
+    }
+
+    /// Gives the texts of the header that has ended, if it counts, and the entity's name, and begins its body.
+    fn end_header<S: TextSink>(
+        &mut self,
+        counted: bool,
+        default: DefaultType,
+        sink: &mut S,
+    ) -> Result<(), TextFault>
+        ensures pairs { Passes S.takes S.refuses (ComesBehindHeader self.old counted default) (Comes self.new) (λ c. c) result sink.old sink.new }
+        ensures facts { OnOk result (Notes self.old.facts self.new.facts self.old.header) }
+    {
+        if let Err(fault) = give_header(counted, self.header.fields(), &mut self.fields, sink) {
+            return Err(fault);
+        }
+        if self.note_facts().is_err() {
+            return Err(TextFault::OutOfMemory);
+        }
+        match self.begin_body(default) {
+            Ok(()) => Ok(()),
+            Err(_) => Err(TextFault::OutOfMemory),
+        }
+    }
+
+    /// Keeps what the header says of the message, if it is the first that has ended.
+    fn note_facts(&mut self) -> Result<(), AllocError>
+        ensures kept { self.new ≡ record self.old { facts = self.new.facts } }
+        ensures facts { OnOk result (Notes self.old.facts self.new.facts self.old.header) }
+    {
+        if self.facts.is_none() {
+            let facts = Facts::of(self.alloc, &self.header)?;
+            self.facts = Some(facts);
+        }
+        Ok(())
+    }
+
+    /// Begins the body of the entity whose header has ended.
+    fn begin_body(&mut self, default: DefaultType) -> Result<(), AllocError>
+        ensures comes { OnOk result ((ls : List (List ℕ)) → HasLines self.old.header ls → Comes self.new (given_behind (shape_of default (fields_of ls)) self.old.nesting (fields_of ls))) }
+        ensures facts { self.new.facts ≡ self.old.facts }
+    {
+        let entity = EntityType::of(self.alloc, default, &self.header)?;
+        self.state = State::Skipping;
+        match entity.shape {
+            Shape::Multipart { boundary, default } => self.nesting.open(boundary, default),
+            Shape::Message => {
+                self.begin_message();
+                Ok(())
+            }
+            Shape::Text { is_html } => {
+                self.leaf.begin(entity.transfer, entity.charset, is_html);
+                self.state = State::InLeaf;
+                Ok(())
+            }
+            Shape::Other => Ok(()),
+        }
+    }
+
+    /// Begins a message in the entity, if a depth is left for it.
+    fn begin_message(&mut self)
+        requires { self.old.state ≡ State.Skipping }
+        ensures comes { (fields : List HeaderField) → Comes self.new (given_behind Shape.Message self.old.nesting fields) }
+        ensures facts { self.new.facts ≡ self.old.facts }
+    {
+        if self.nesting.descend() {
+            self.header.clear();
+            self.state = State::InHeader {
+                counted: true,
+                default: DefaultType::TextPlain,
+            };
+        }
+    }
+
+    /// Ends the message: gives what it still gives, and answers what its own header says.
+    pub(crate) fn end<S: TextSink>(mut self, sink: &mut S) -> Result<Facts, TextFault>
+        ensures pairs { Passes S.takes S.refuses (Comes self) IsOver (λ c _. c []) result sink.old sink.new }
+        ensures facts { IfOk result (λ facts. (ls : List (List ℕ)) → KnowsFacts self ls → facts ≡ facts_of (fields_of ls)) }
+        ensures sizes { IfOk result HasSizedIds }
+    {
+        if let Err(fault) = end_entity(
+            self.state,
+            self.header.fields(),
+            &mut self.leaf,
+            &mut self.fields,
+            sink,
+        ) {
+            return Err(fault);
+        }
+        let PartReader {
+            alloc,
+            header,
+            facts,
+            ..
+        } = self;
+        match facts_behind(alloc, &header, facts) {
+            Ok(facts) => Ok(facts),
+            Err(_) => Err(TextFault::OutOfMemory),
+        }
+    }
+}
