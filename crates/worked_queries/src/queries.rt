@@ -1,50 +1,114 @@
 //! What no clause says: that the readers answer where memory is ample, and the texts of faults.
 
 use mail_dates::Moment;
-use mail_query::{Kinds, Node, QueryFault, QueryFaultKind, read_boolean, read_mairix};
-use std::test::Fail;
+use mail_query::{Kinds, Node, Query, QueryFault, QueryFaultKind, read_boolean, read_mairix};
+use std::alloc::Global;
+use std::fmt::InlineText;
 
-#[test]
-fn patterns_are_read(rt: HostRuntime) -> Result<(), Fail> {
-    let now = Moment::new(1_053_259_200).ok_or("a moment")?;
-    let mut patterns = Vec::new(rt.alloc());
-    patterns.push(String::from_str(rt.alloc(), "F:-rs")?)?;
-    patterns.push(String::from_str(rt.alloc(), "s:one/GRÜSSE")?)?;
-    patterns.push(String::from_str(rt.alloc(), "d:mar")?)?;
-    let query = read_mairix(rt.alloc(), patterns.as_slice(), now)?;
-    assert_eq!(rt; query.depth(), 3);
-    assert!(rt; matches!(query.root(), Node::All(_)));
-    Ok(())
+/// Noon of 18 May 2003, UTC.
+const NOW: i64 = 1_053_259_200;
+
+const FROM: Kinds = Kinds {
+    from: true,
+    ..Kinds::NONE
+};
+
+const NAME: Kinds = Kinds {
+    name: true,
+    ..Kinds::NONE
+};
+
+const ADDRESS_OR_NAME: Kinds = Kinds {
+    to: true,
+    cc: true,
+    from: true,
+    ..NAME
+};
+
+const OWN_ID: Kinds = Kinds {
+    own_id: true,
+    ..Kinds::NONE
+};
+
+/// What is known of a reader's answer.
+#[derive(Clone, Copy)]
+enum Wanted {
+    Depth(u32),
+    /// The depth of a query that asks for several things together.
+    AllOf(u32),
+    /// A form of one word, where it is sought, and the word.
+    Sought(&'static str, Kinds, &'static str),
+    UsesNames(bool),
+    /// The number of the item that is refused, and why.
+    Refused(usize, QueryFaultKind),
 }
 
-#[test]
-fn patterns_are_refused(rt: HostRuntime) -> Result<(), Fail> {
-    let now = Moment::new(1_053_259_200).ok_or("a moment")?;
-    let none = read_mairix(rt.alloc(), &[], now).err();
-    assert_eq!(rt;
-        none,
-        Some(QueryFault {
-            number: 1,
-            kind: QueryFaultKind::NoPattern
-        })
-    );
-    let cases = [
-        ("q:x", QueryFaultKind::BadPrefix),
-        ("s:", QueryFaultKind::BadWord),
-        ("mn:report", QueryFaultKind::BadPrefix),
-        ("z:10", QueryFaultKind::BadSize),
-        ("d:31apr", QueryFaultKind::BadDate),
-        ("F:x", QueryFaultKind::BadFlag),
-        ("f:alice=2", QueryFaultKind::Approximate),
-    ];
-    for (text, kind) in cases {
-        let mut patterns = Vec::new(rt.alloc());
-        patterns.push(String::from_str(rt.alloc(), text)?)?;
-        let fault = read_mairix(rt.alloc(), patterns.as_slice(), now).err();
-        assert_eq!(rt; fault, Some(QueryFault { number: 1, kind }), "at {text}");
-    }
-    Ok(())
-}
+/// Patterns, which `, ` parts, and what is read of them.
+const PATTERNS: [(&str, Wanted); 23] = [
+    ("F:-rs, s:one/GRÜSSE, d:mar", Wanted::AllOf(3)),
+    ("", Wanted::Refused(1, QueryFaultKind::NoPattern)),
+    ("q:x", Wanted::Refused(1, QueryFaultKind::BadPrefix)),
+    ("s:", Wanted::Refused(1, QueryFaultKind::BadWord)),
+    ("mn:report", Wanted::Refused(1, QueryFaultKind::BadPrefix)),
+    ("z:10", Wanted::Refused(1, QueryFaultKind::BadSize)),
+    ("d:31apr", Wanted::Refused(1, QueryFaultKind::BadDate)),
+    ("F:x", Wanted::Refused(1, QueryFaultKind::BadFlag)),
+    ("f:alice=2", Wanted::Refused(1, QueryFaultKind::Approximate)),
+    (
+        "f:alice@example.org",
+        Wanted::Sought("word", FROM, "alice@example.org"),
+    ),
+    ("f:Example", Wanted::Sought("word", FROM, "example")),
+    ("f:alic=", Wanted::Sought("part", FROM, "alic")),
+    ("f:xample=", Wanted::Sought("part", FROM, "xample")),
+    ("f:^xample=", Wanted::Sought("prefix", FROM, "xample")),
+    ("f:STRASSE", Wanted::Sought("word", FROM, "strasse")),
+    ("f:Straße", Wanted::Sought("word", FROM, "strasse")),
+    ("n:Report.PDF", Wanted::Sought("word", NAME, "report.pdf")),
+    ("an:rep=", Wanted::Sought("part", ADDRESS_OR_NAME, "rep")),
+    ("m:<1@X>", Wanted::Sought("word", OWN_ID, "1@X")),
+    ("F:s, n:report", Wanted::UsesNames(true)),
+    ("F:s, s:a/~b", Wanted::UsesNames(false)),
+    ("F:s, sn:~rep=/hi", Wanted::UsesNames(true)),
+    ("F:s, report", Wanted::UsesNames(false)),
+];
+
+/// Boolean texts, and what is read of them.
+const BOOLEANS: [(&str, Wanted); 17] = [
+    (DEEPEST, Wanted::Depth(63)),
+    ("subject:hello and not date:2003-02", Wanted::Depth(3)),
+    ("(subject:ho or body:hi) hel*", Wanted::Depth(3)),
+    ("*", Wanted::Depth(1)),
+    ("id:<1@X>", Wanted::Sought("word", OWN_ID, "1@X")),
+    ("from:Exam*", Wanted::Sought("prefix", FROM, "exam")),
+    ("report", Wanted::UsesNames(false)),
+    ("", Wanted::Refused(1, QueryFaultKind::NoPattern)),
+    (
+        "subject:a subject:b",
+        Wanted::Refused(2, QueryFaultKind::NeedsOperator),
+    ),
+    ("a or", Wanted::Refused(3, QueryFaultKind::MissingTerm)),
+    ("(a", Wanted::Refused(3, QueryFaultKind::BadParenthesis)),
+    (
+        "(((((((((((((((((((((((((((((((",
+        Wanted::Refused(31, QueryFaultKind::TooDeep),
+    ),
+    ("not", Wanted::Refused(2, QueryFaultKind::MissingTerm)),
+    ("a b) c", Wanted::Refused(3, QueryFaultKind::BadParenthesis)),
+    ("subject:\"a", Wanted::Refused(1, QueryFaultKind::Phrase)),
+    (
+        "date:2003-02-30",
+        Wanted::Refused(1, QueryFaultKind::BadDate),
+    ),
+    ("id:<>", Wanted::Refused(1, QueryFaultKind::MissingTerm)),
+];
+
+/// Thirty parentheses in one another, which is as many as a text may have.
+const DEEPEST: &str = "\
+    a or b (a or b (a or b (a or b (a or b (a or b (a or b (a or b (a or b (a or b (\
+    a or b (a or b (a or b (a or b (a or b (a or b (a or b (a or b (a or b (a or b (\
+    a or b (a or b (a or b (a or b (a or b (a or b (a or b (a or b (a or b (a or b (\
+    a or b c))))))))))))))))))))))))))))))";
 
 /// What one pattern of words seeks, and in which form.
 fn sought(node: &Node) -> Option<(&str, Kinds, &str)> {
@@ -56,139 +120,68 @@ fn sought(node: &Node) -> Option<(&str, Kinds, &str)> {
     }
 }
 
-#[test]
-fn words_are_sought(rt: HostRuntime) -> Result<(), Fail> {
-    let now = Moment::new(1_053_259_200).ok_or("a moment")?;
-    let from = Kinds {
-        from: true,
-        ..Kinds::NONE
-    };
-    let name = Kinds {
-        name: true,
-        ..Kinds::NONE
-    };
-    let own_id = Kinds {
-        own_id: true,
-        ..Kinds::NONE
-    };
-    let cases = [
-        ("f:alice@example.org", "word", from, "alice@example.org"),
-        ("f:Example", "word", from, "example"),
-        ("f:alic=", "part", from, "alic"),
-        ("f:xample=", "part", from, "xample"),
-        ("f:^xample=", "prefix", from, "xample"),
-        ("f:STRASSE", "word", from, "strasse"),
-        ("f:Straße", "word", from, "strasse"),
-        ("n:Report.PDF", "word", name, "report.pdf"),
-        (
-            "an:rep=",
-            "part",
-            Kinds {
-                to: true,
-                cc: true,
-                from: true,
-                ..name
-            },
-            "rep",
-        ),
-        ("m:<1@X>", "word", own_id, "1@X"),
-    ];
-    for (pattern, form, kinds, text) in cases {
-        let mut patterns = Vec::new(rt.alloc());
-        patterns.push(String::from_str(rt.alloc(), pattern)?)?;
-        let query = read_mairix(rt.alloc(), patterns.as_slice(), now)?;
-        assert_eq!(rt;
-            sought(query.root()),
-            Some((form, kinds, text)),
-            "at {pattern}"
-        );
+/// Whether a query is as wanted.
+fn is_as_wanted(query: &Query, wanted: Wanted) -> bool {
+    match wanted {
+        Wanted::Depth(depth) => query.depth() == depth,
+        Wanted::AllOf(depth) => query.depth() == depth && matches!(query.root(), Node::All(_)),
+        Wanted::Sought(form, kinds, text) => sought(query.root()) == Some((form, kinds, text)),
+        Wanted::UsesNames(uses) => query.uses_names() == uses,
+        Wanted::Refused(..) => false,
     }
-    let query = read_boolean(rt.alloc(), "id:<1@X>", now)?;
-    assert_eq!(rt; sought(query.root()), Some(("word", own_id, "1@X")));
-    let query = read_boolean(rt.alloc(), "from:Exam*", now)?;
-    assert_eq!(rt; sought(query.root()), Some(("prefix", from, "exam")));
-    Ok(())
+}
+
+/// Whether a reader's answer is as wanted.
+fn is_answered(answer: &Result<Query, QueryFault>, wanted: Wanted) -> bool {
+    match answer {
+        Ok(query) => is_as_wanted(query, wanted),
+        Err(fault) => {
+            matches!(wanted, Wanted::Refused(number, kind) if *fault == QueryFault { number, kind })
+        }
+    }
+}
+
+/// Whether patterns, which `, ` parts, are read as wanted. It is None where memory is wanting before they are read.
+fn patterns_are(alloc: Global, text: &str, wanted: Wanted) -> Option<bool> {
+    let now = Moment::new(NOW)?;
+    let mut patterns = Vec::new(alloc);
+    for pattern in text.split(", ") {
+        if !pattern.is_empty() {
+            patterns.push(String::from_str(alloc, pattern).ok()?).ok()?;
+        }
+    }
+    let answer = read_mairix(alloc, patterns.as_slice(), now);
+    Some(is_answered(&answer, wanted))
+}
+
+/// Whether a boolean text is read as wanted.
+fn boolean_is(alloc: Global, text: &str, wanted: Wanted) -> Option<bool> {
+    let now = Moment::new(NOW)?;
+    Some(is_answered(&read_boolean(alloc, text, now), wanted))
 }
 
 #[test]
-fn names_are_used(rt: HostRuntime) -> Result<(), Fail> {
-    let now = Moment::new(1_053_259_200).ok_or("a moment")?;
-    let cases = [
-        ("n:report", true),
-        ("s:a/~b", false),
-        ("sn:~rep=/hi", true),
-        ("report", false),
-    ];
-    for (pattern, uses) in cases {
-        let mut patterns = Vec::new(rt.alloc());
-        patterns.push(String::from_str(rt.alloc(), "F:s")?)?;
-        patterns.push(String::from_str(rt.alloc(), pattern)?)?;
-        let query = read_mairix(rt.alloc(), patterns.as_slice(), now)?;
-        assert_eq!(rt; query.uses_names(), uses, "at {pattern}");
+fn patterns_are_read(rt: HostRuntime) {
+    for (text, wanted) in PATTERNS {
+        let as_wanted = patterns_are(rt.alloc(), text, wanted);
+        assert!(rt; as_wanted == Some(true), "{text}");
     }
-    let query = read_boolean(rt.alloc(), "report", now)?;
-    assert!(rt; !query.uses_names());
-    Ok(())
 }
 
 #[test]
-fn boolean_queries_are_read(rt: HostRuntime) -> Result<(), Fail> {
-    let now = Moment::new(1_053_259_200).ok_or("a moment")?;
-    let mut text = String::new(rt.alloc());
-    for _ in 0..30 {
-        text.push_str("a or b (")?;
+fn boolean_texts_are_read(rt: HostRuntime) {
+    for (text, wanted) in BOOLEANS {
+        let as_wanted = boolean_is(rt.alloc(), text, wanted);
+        assert!(rt; as_wanted == Some(true), "{text}");
     }
-    text.push_str("a or b c")?;
-    for _ in 0..30 {
-        text.push_str(")")?;
-    }
-    let query = read_boolean(rt.alloc(), text.as_str(), now)?;
-    assert_eq!(rt; query.depth(), 63);
-    let cases = [
-        ("subject:hello and not date:2003-02", 3),
-        ("(subject:ho or body:hi) hel*", 3),
-        ("*", 1),
-    ];
-    for (text, depth) in cases {
-        let query = read_boolean(rt.alloc(), text, now)?;
-        assert_eq!(rt; query.depth(), depth, "at {text}");
-    }
-    Ok(())
 }
 
 #[test]
-fn boolean_queries_are_refused(rt: HostRuntime) -> Result<(), Fail> {
-    let now = Moment::new(1_053_259_200).ok_or("a moment")?;
-    let cases = [
-        ("", 1, QueryFaultKind::NoPattern),
-        ("subject:a subject:b", 2, QueryFaultKind::NeedsOperator),
-        ("a or", 3, QueryFaultKind::MissingTerm),
-        ("(a", 3, QueryFaultKind::BadParenthesis),
-        (
-            "(((((((((((((((((((((((((((((((",
-            31,
-            QueryFaultKind::TooDeep,
-        ),
-        ("not", 2, QueryFaultKind::MissingTerm),
-        ("a b) c", 3, QueryFaultKind::BadParenthesis),
-        ("subject:\"a", 1, QueryFaultKind::Phrase),
-        ("date:2003-02-30", 1, QueryFaultKind::BadDate),
-        ("id:<>", 1, QueryFaultKind::MissingTerm),
-    ];
-    for (text, number, kind) in cases {
-        let fault = read_boolean(rt.alloc(), text, now).err();
-        assert_eq!(rt; fault, Some(QueryFault { number, kind }), "at {text}");
-    }
-    Ok(())
-}
-
-#[test]
-fn faults_are_printed(rt: HostRuntime) -> Result<(), Fail> {
+fn faults_are_printed(rt: HostRuntime) {
     let fault = QueryFault {
         number: 3,
         kind: QueryFaultKind::MissingTerm,
     };
-    let text = format!(in rt.alloc(); "{fault}")?;
+    let text: InlineText<64> = InlineText::of(fault);
     assert_eq!(rt; text.as_str(), "query item 3: term missing");
-    Ok(())
 }
