@@ -15,7 +15,7 @@ use Rattle.index_job.specs.declared.archive_reading.Heading.TheVariants as headi
 use Rattle.index_job.specs.declared.archive_reading.ReadArchive.{ReadArchive}
 use Rattle.index_job.specs.declared.job_fault.JobFault.{JobFault}
 use Rattle.index_job.specs.declared.job_fault.JobFault.TheVariants as job
-use Rattle.index_job.specs.ArchiveReading.{coming_ahead, Heads, AddsMessages, AddsNamed, HasDone}
+use Rattle.index_job.specs.Inside.ArchiveReading.{coming_ahead, Heads, AddsMessages, AddsNamed, HasDone}
 use Rattle.index_job.specs.ArchiveTables.{record_of, with_terms, with_messages}
 use Rattle.index_job.specs.Indexing.{with_open_archive, draft_with_messages, HasTooMany, IsJobFault}
 use Rattle.index_job.specs.MessageTerms.{message_terms}

@@ -20,9 +20,9 @@ use Rattle.index_job.specs.declared.job_fault.JobFault.{JobFault}
 use Rattle.index_job.specs.declared.job_fault.JobFault.TheVariants as job
 use Rattle.index_job.specs.declared.message_end.Span.{Span}
 use Rattle.index_job.specs.declared.term_sink.TermSink.{TermSink}
-use Rattle.index_job.specs.Gathering.{with_texts, HasGathered, IsGatherFault}
+use Rattle.index_job.specs.Inside.Gathering.{with_texts, HasGathered, IsGatherFault}
 use Rattle.index_job.specs.Indexing.{draft_with_terms, RefusesTerms, IsOpenAt, IsBuilderOpen}
-use Rattle.index_job.specs.MessageEnds.{ended_with}
+use Rattle.index_job.specs.Inside.MessageEnds.{ended_with}
 use Rattle.index_job.specs.JobFaults.{of_text}
 use Rattle.index_job.specs.MessageTerms.{Term, text_terms, id_terms, message_terms}
 use Rattle.index_job.proofs.Terms.{joined, still-refuses}

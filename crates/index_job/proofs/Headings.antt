@@ -5,7 +5,7 @@ use Rattle.mbox_cutter.specs.declared.event.CutFault.{CutFault}
 use Rattle.mbox_cutter.specs.Events.{Start, Done, Coming, told_rest}
 use Rattle.mbox_cutter.specs.Coming.{TakesKnown}
 use Rattle.index_job.specs.declared.archive_reading.Heading.TheVariants as heading
-use Rattle.index_job.specs.ArchiveReading.{coming_inside, coming_ahead, Heads}
+use Rattle.index_job.specs.Inside.ArchiveReading.{coming_inside, coming_ahead, Heads}
 
 -- a message begins: it is the first that comes
 pub heads-message : (all : ℕ) (ms : Option (List Message)) (refusal : Option CutFault) (at : ℕ) (line : List ℕ) (new : Option Coming)

@@ -14,11 +14,11 @@ use Rattle.mime_text.specs.Texts.{texts_of_message}
 use Rattle.index_job.specs.declared.job_fault.JobFault.{JobFault}
 use Rattle.index_job.specs.declared.job_fault.JobFault.TheVariants as job
 use Rattle.index_job.specs.declared.message_end.Span.{Span}
-use Rattle.index_job.specs.ArchiveReading.{Awaited, HasReadAll, IsMessageFault, AddsMessage}
+use Rattle.index_job.specs.Inside.ArchiveReading.{Awaited, HasReadAll, IsMessageFault, AddsMessage}
 use Rattle.index_job.specs.ArchiveTables.{with_terms, date_told}
-use Rattle.index_job.specs.Gathering.{HasGathered, IsGatherFault, with_texts}
+use Rattle.index_job.specs.Inside.Gathering.{HasGathered, IsGatherFault, with_texts}
 use Rattle.index_job.specs.Indexing.{draft_with_terms, draft_with_messages, with_open_message, HasTooMany, IsReady, IsOpenAt, IsBuilderReady, IsJobFault, IsArchiveFault}
-use Rattle.index_job.specs.MessageEnds.{ended_with, record_at}
+use Rattle.index_job.specs.Inside.MessageEnds.{ended_with, record_at}
 use Rattle.index_job.specs.MessageTerms.{Term, text_terms, id_terms, message_terms}
 use Rattle.index_job.proofs.Terms.{with_terms-append}
 use Rattle.index_job.proofs.ReadingLines.{gather-own, gather-is-job}

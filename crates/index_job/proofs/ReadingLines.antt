@@ -10,8 +10,8 @@ use Rattle.mime_text.specs.Texts.{texts_of_message}
 use Rattle.index_job.specs.declared.archive_reading.Ended.{Ended}
 use Rattle.index_job.specs.declared.job_fault.JobFault.{JobFault}
 use Rattle.index_job.specs.declared.job_fault.JobFault.TheVariants as job
-use Rattle.index_job.specs.ArchiveReading.{Awaited, coming_inside, coming_between, IsReading, HasReadAll, IsMessageFault}
-use Rattle.index_job.specs.Gathering.{HasGathered, IsGatherFault, with_texts}
+use Rattle.index_job.specs.Inside.ArchiveReading.{Awaited, coming_inside, coming_between, IsReading, HasReadAll, IsMessageFault}
+use Rattle.index_job.specs.Inside.Gathering.{HasGathered, IsGatherFault, with_texts}
 use Rattle.index_job.specs.Indexing.{RefusesTerms, IsJobFault, IsArchiveFault}
 use Rattle.index_job.proofs.Gatherings.{texts-fail}
 

@@ -14,7 +14,7 @@ use Rattle.mbox_cutter.specs.Events.{coming_of, events, refusal_of}
 use Rattle.index_job.specs.declared.archive_reading.ReadArchive.{ReadArchive}
 use Rattle.index_job.specs.declared.job_fault.JobFault.{JobFault}
 use Rattle.index_job.specs.declared.job_fault.JobFault.TheVariants as job
-use Rattle.index_job.specs.ArchiveReading.{coming_ahead, AddsNamed}
+use Rattle.index_job.specs.Inside.ArchiveReading.{coming_ahead, AddsNamed}
 use Rattle.index_job.specs.ArchiveRefusals.{most_in_archive, most_in_index, IsTooMuch}
 use Rattle.index_job.specs.ArchiveTables.{Mbox, messages_in, all_messages, record_of, records_from, with_messages, entry_of, table}
 use Rattle.index_job.specs.IndexJobs.{IsAdded, IsAddFault}

@@ -3,7 +3,5 @@ pub mod MessageTerms
 pub mod ArchiveTables
 pub mod ArchiveRefusals
 pub mod Indexing
-pub mod Gathering
 pub mod IndexJobs
-pub mod ArchiveReading
-pub mod MessageEnds
+pub mod Inside

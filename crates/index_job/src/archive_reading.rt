@@ -11,8 +11,8 @@ ghost use Rattle.mbox_cutter.specs.declared.event.CutFault.{CutFault};
 ghost use Rattle.mbox_cutter.specs.Events.{refusal_of};
 ghost use Rattle.mbox_cutter.specs.declared.scan.Phase.TheVariants as Phase;
 ghost use Rattle.index_job.specs.ArchiveRefusals.{most_in_archive};
-ghost use Rattle.index_job.specs.ArchiveReading.{Awaited, AddsMessages, AddsNamed, coming_inside, coming_ahead, IsHeading, Heads, ReadsToEnd, AddsMessage, IsInside, GoesFurther, HasEnded, IsReading, HasReadAll, IsMessageFault};
-ghost use Rattle.index_job.specs.Gathering.{HasGathered};
+ghost use Rattle.index_job.specs.Inside.ArchiveReading.{Awaited, AddsMessages, AddsNamed, coming_inside, coming_ahead, IsHeading, Heads, ReadsToEnd, AddsMessage, IsInside, GoesFurther, HasEnded, IsReading, HasReadAll, IsMessageFault};
+ghost use Rattle.index_job.specs.Inside.Gathering.{HasGathered};
 ghost use Rattle.index_job.specs.Indexing.{IsArchiveFault, IsBuilderIdle, IsJobFault, IsBuilderReady};
 ghost use Rattle.index_job.specs.JobFaults.{is_source_failure};
 

@@ -6,7 +6,7 @@ ghost use Rattle.mbox_cutter.specs.Lines.{IsLine};
 ghost use Rattle.mime_text.specs.MessageFacts.{HasSizedIds, facts_of};
 ghost use Rattle.mime_text.specs.Texts.{texts_of_message};
 ghost use Rattle.index_job.specs.JobFaults.{is_source_failure};
-ghost use Rattle.index_job.specs.Gathering.{HasGathered, IsGatherFault, with_texts};
+ghost use Rattle.index_job.specs.Inside.Gathering.{HasGathered, IsGatherFault, with_texts};
 
 use crate::job_fault::JobFault;
 use crate::term_sink::TermSink;

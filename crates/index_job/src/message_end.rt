@@ -6,10 +6,10 @@ ghost use Rattle.mime_text.specs.MessageFacts.{HasSizedIds, facts_of};
 ghost use Rattle.mime_text.specs.Texts.{texts_of_message};
 ghost use Rattle.index_job.specs.ArchiveRefusals.{most_in_archive};
 ghost use Rattle.index_job.specs.ArchiveTables.{date_told};
-ghost use Rattle.index_job.specs.Gathering.{HasGathered, IsGathering, IsGatherFault, with_texts};
+ghost use Rattle.index_job.specs.Inside.Gathering.{HasGathered, IsGathering, IsGatherFault, with_texts};
 ghost use Rattle.index_job.specs.Indexing.{draft_with_terms, IsBuilderOpen};
 ghost use Rattle.index_job.specs.JobFaults.{is_source_failure};
-ghost use Rattle.index_job.specs.MessageEnds.{ended_with};
+ghost use Rattle.index_job.specs.Inside.MessageEnds.{ended_with};
 ghost use Rattle.index_job.specs.MessageTerms.{id_terms, message_terms};
 
 use crate::gathering::end_text;

@@ -3,7 +3,7 @@ use Rattle.std.specs.Option.{MatchOption}
 use Rattle.mail_index.specs.Builders.{Draft, IsInArchive}
 use Rattle.mbox_cutter.proofs.Sources.{Stays-join}
 use Rattle.index_job.specs.declared.archive_reading.Ended.{Ended}
-use Rattle.index_job.specs.ArchiveReading.{IsInside, HasEnded, IsReading, HasReadAll}
+use Rattle.index_job.specs.Inside.ArchiveReading.{IsInside, HasEnded, IsReading, HasReadAll}
 use Rattle.std.proofs.lemmas.Result.{err_from_is_err_and}
 use Rattle.index_job.specs.Indexing.{with_open_message}
 use Rattle.index_job.proofs.MessageSteps.{message-fault, opens, ready-behind, adds-message, own-fault}

@@ -3,8 +3,8 @@ use Rattle.mail_index.specs.Builders.{Draft}
 use Rattle.mbox_cutter.specs.Archives.{text}
 use Rattle.mbox_cutter.specs.Places.{left}
 use Rattle.mbox_cutter.specs.Sources.{Stays}
-use Rattle.index_job.specs.ArchiveReading.{Awaited, coming_inside, IsInside, IsReadingSome}
-use Rattle.index_job.specs.Gathering.{HasGathered}
+use Rattle.index_job.specs.Inside.ArchiveReading.{Awaited, coming_inside, IsInside, IsReadingSome}
+use Rattle.index_job.specs.Inside.Gathering.{HasGathered}
 use Rattle.index_job.specs.Indexing.{with_open_message}
 use Rattle.index_job.proofs.archive_reading.add_message.Given as goal
 

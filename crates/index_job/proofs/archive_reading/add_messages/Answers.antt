@@ -3,7 +3,7 @@ use Rattle.std.proofs.lemmas.Result.{err_from_is_err_and}
 use Rattle.mbox_cutter.proofs.Sources.{Stays-self, Stays-join}
 use Rattle.index_job.specs.declared.archive_reading.Heading.{Heading}
 use Rattle.index_job.specs.declared.archive_reading.Heading.TheVariants.{Message, End}
-use Rattle.index_job.specs.ArchiveReading.{Heads, IsHeading, Awaited}
+use Rattle.index_job.specs.Inside.ArchiveReading.{Heads, IsHeading, Awaited}
 use Rattle.index_job.specs.Indexing.{draft_with_messages}
 use Rattle.index_job.proofs.ArchiveSteps.{done-none, between-fault, inside-fault, done-more, archive-done}
 use Rattle.index_job.proofs.archive_reading.add_messages.Goals as goal

@@ -5,7 +5,7 @@ use Rattle.mbox_cutter.specs.declared.event.CutFault.{CutFault}
 use Rattle.mbox_cutter.specs.declared.scan.Phase.TheVariants.{Between}
 use Rattle.mbox_cutter.specs.Places.{left}
 use Rattle.mbox_cutter.specs.Sources.{Stays}
-use Rattle.index_job.specs.ArchiveReading.{coming_ahead, HasDone}
+use Rattle.index_job.specs.Inside.ArchiveReading.{coming_ahead, HasDone}
 use Rattle.index_job.specs.Indexing.{IsBuilderReady}
 use Rattle.index_job.proofs.archive_reading.add_messages.Given as goal
 
