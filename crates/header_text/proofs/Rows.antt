@@ -3,7 +3,7 @@ use Rattle.std.proofs.Common.{◌≡◌, ℕ, List, [], ◌∷◌, refl}
 use Rattle.std.specs.Prelude.{codes}
 use Rattle.mbox_cutter.specs.Lines.{is_empty}
 use Rattle.header_text.specs.Blanks.{before_blanks}
-use Rattle.header_text.specs.Headers.{HeaderField, fields_of, lines_within}
+use Rattle.header_text.specs.Headers.{HeaderField, fields_of, lines_within, most_in_header}
 use Rattle.header_text.specs.Unfolding.{unfolded}
 use Rattle.header_text.specs.Ids.{ids_of}
 use Rattle.header_text.specs.Escapes.{q_bytes}
@@ -247,3 +247,7 @@ base64_9 = refl
 base64_10 : base64_bytes (codes "+/+/") ≡ (251 ∷ 255 ∷ 191 ∷ [])
 unfolding is_empty before_blanks fields_of unfolded ids_of q_bytes sextet bytes_of_sextets base64_bytes
 base64_10 = refl
+
+-- what a header keeps is 256 KiB at most
+kept_at_most : most_in_header ≡ 262144
+kept_at_most = refl

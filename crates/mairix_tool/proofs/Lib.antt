@@ -1,3 +1,4 @@
+mod RowsStatuses
 pub mod ArchiveLaws
 pub mod TableLaws
 pub mod ReplyLaws

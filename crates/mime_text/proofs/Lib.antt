@@ -11,6 +11,7 @@ mod LineEnds
 mod RowsTypes
 mod RowsBodies
 mod RowsParts
+mod RowsLimits
 mod RowsNames
 mod FrameLemmas
 mod NameLemmas
