@@ -114,6 +114,12 @@ LONG_NAMES = """\
 fn counters::counter::step: not proved
 logic=not-proved"""
 
+# What a check says of a function that is proved together with those that it calls, where another function isn't proved.
+IN_A_CYCLE = """\
+fn counters::even: no proof: in `counters::odd`, of this cycle of calls: it calls `counters::larger`, which is not proved
+fn counters::odd: no proof: in `counters::odd`, of this cycle of calls: expected answers in ./proofs/+even/Answers.antt
+logic=not-proved"""
+
 TOGETHER, ALONE = "refused: ", "refused (alone): "
 HARMLESS = "NOT refused: the crate is still proved"
 
@@ -167,6 +173,10 @@ def main():
     is_well = not verdict.trouble and not verdict.reasons["counters::counter::step"] and "counters::counter::step" in verdict.by_names
     passed, failed = passed + is_well, failed + (not is_well)
     print(f"the tool on a lost name that is told on two lines: {'well' if is_well else 'WRONG'}")
+    reasons = Verdict(1, IN_A_CYCLE.splitlines()).reasons
+    is_well = not reasons["counters::even"] and reasons["counters::odd"].endswith("expected answers in ./proofs/+even/Answers.antt")
+    passed, failed = passed + is_well, failed + (not is_well)
+    print(f"the tool on functions that call one another: {'well' if is_well else 'WRONG'}")
     print(f"{passed} passed, {failed} failed")
     return 1 if failed else 0
 

@@ -41,6 +41,8 @@ PARTS = ("src", "specs", "proofs")
 ERROR = re.compile(r"(?:\./)?(\S+?):\d+:\d+: error\b")
 # What is said of a proof that names what an edit took away, and of what rests on such a proof.
 LOST_NAME = re.compile(r"has no field|is not in scope|has no `|was not admitted|: module `[^`]*`$|: record `[^`]*` \(nearest: ")
+# What is said of a function that is refused only since another isn't proved, also where it is proved together with those it calls.
+ONLY_CALLS = re.compile(r"(?:in `[^`]*`, of this cycle of calls: )?it calls ")
 CONSTANT = re.compile(r"^(?:pub(?:\([^)]*\))? )?(?:const|static) (\w+)", re.M)
 
 
@@ -231,9 +233,9 @@ class Verdict:
     def take(self, function, verdict, why, errors):
         """Takes what is said of a function."""
         self.reasons[function] = ""
-        if verdict == "no proof" and not why.startswith("it calls "):
+        if verdict == "no proof" and not ONLY_CALLS.match(why):
             self.reasons[function] = why
-        if verdict == "not proved" and not why.startswith("it calls "):
+        if verdict == "not proved" and not ONLY_CALLS.match(why):
             own = "proofs/" + function.partition("::")[2].replace("::", "/") + "/"
             said = [line for path, line in errors if path.startswith(own)]
             self.reasons[function] = next((line for line in said if not LOST_NAME.search(line)), "")
