@@ -1,12 +1,11 @@
 -- Lists whose messages are marked.
-use Rattle.std.proofs.Common.{◌≡◌, ◌∙◌, ◌+◌, ◌<◌, ◌≤◌, ◌^◌, ℕ, Bool, true, false, ◌&&◌, ◌||◌, max, List, [], ◌∷◌, ◌++◌, length, replicate, Option, Some, None, Result, Ok, Err, IfOk, refl, sym, ap, arith, inl, inr}
-use Rattle.std.specs.Prelude.{nat_le}
+use Rattle.std.proofs.Common.{◌≡◌, ◌∙◌, ◌+◌, ◌<◌, ◌≤◌, ℕ, Bool, true, false, ◌&&◌, ◌||◌, max, List, [], ◌∷◌, ◌++◌, length, replicate, Option, Some, None, Result, Ok, Err, IfOk, refl, sym, ap, arith, inl, inr}
 use Rattle.std.proofs.Math.ListN.{set}
 use Rattle.std.proofs.lemmas.List.{length-set, length-replicate, get_or-set_same, get_or-set_other, get_or-replicate, get_or_past}
 use Rattle.std.proofs.lemmas.Bool.{cases_lt, cases_order, both_ways, or_right, lt-leb, le-leb}
 use Rattle.mail_answer.specs.Marks.{truth_at, Adds}
-use Rattle.mail_answer.specs.CursorAhead.{Ahead, Drops, IsFirst, left_in, Spends}
-use Rattle.mail_answer.specs.Inside.CursorMarks.{HaveMarks, IsFirstMark, is_marked, truths_marked}
+use Rattle.mail_answer.specs.CursorAhead.{Ahead, Drops, IsFirst, left_in}
+use Rattle.mail_answer.specs.Inside.CursorMarks.{IsFirstMark, is_marked, truths_marked}
 use Rattle.mail_answer.specs.Inside.CursorTexts.{some_has}
 use Rattle.mail_answer.proofs.CursorLaws.AloneLists.{swap_last}
 use Rattle.mail_answer.proofs.CursorLaws.Members.{some-append}
