@@ -10,7 +10,7 @@ counted before went = min (before + length went) (2 ^ 64 - 1)
 -- The bytes joined the answer: they were gathered behind the others, and some front of all that is gathered went out.
 pub record Joins (taken taken' : Option (List ℕ)) (old new : Sheet) (bytes : List ℕ) : Type 0 where
   pub went : List ℕ
-  pub gathered : old.text.items ++ bytes ≡ went ++ new.text.items
+  pub gathered : old.text ++ bytes ≡ went ++ new.text
   pub appends : Appends taken taken' went
   pub count : new.sent ≡ counted old.sent went
 
@@ -18,7 +18,7 @@ pub record Joins (taken taken' : Option (List ℕ)) (old new : Sheet) (bytes : L
 pub record JoinsFront (taken taken' : Option (List ℕ)) (old new : Sheet) (bytes : List ℕ) : Type 0 where
   pub went : List ℕ
   pub unsent : List ℕ
-  pub front : old.text.items ++ bytes ≡ went ++ unsent
+  pub front : old.text ++ bytes ≡ went ++ unsent
   pub appends : Appends taken taken' went
   pub count : new.sent ≡ counted old.sent went
 

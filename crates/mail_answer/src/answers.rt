@@ -80,7 +80,7 @@ fn write_messages<A: Archives, O: Out>(
     ensures same { places.new.table ≡ places.old.table }
     ensures writes { Writes (O.taken out.old) (O.taken out.new) sheet.old sheet.new (known_answer format places.old.table (A.held archives.old) numbers.old) result }
     ensures messages { IfOk result (λ count. count ≡ length numbers.old) }
-    ensures all { OnOk result (sheet.new.text.items ≡ []) }
+    ensures all { OnOk result (sheet.new.text ≡ []) }
     ensures kept { sheet.new.sent ≡ 0 → has_fault is_of_output result ≡ false → out.new ≡ out.old }
     ensures out_count { Counted (has_fault is_of_output result) (O.failures out.old) (O.failures out.new) }
     ensures archives_count { Counted (has_fault is_of_archives result) (A.failures archives.old) (A.failures archives.new) }

@@ -3,6 +3,7 @@
 pub mod ending;
 pub mod excerpt;
 pub mod header_reads;
+pub mod held_bytes;
 pub mod line_reader;
 pub mod mbox;
 pub mod places;

@@ -1,7 +1,7 @@
 -- Laws of what is read of an archive.
 use Rattle.std.proofs.Common.{◌≡◌, ℕ, ◌+◌, ◌-◌, ◌<◌, ◌≤◌, List, ◌++◌, Option, None, Some, IfSome, Result, Ok, Err, IfOk, length, take, drop, refl, ap, sym, ◌∙◌, append_assoc, append-nil, arith}
 use Rattle.std.proofs.Math.Seq.{take-append-add, take-add}
-use Rattle.std.proofs.lemmas.List.{take-append-le, take_all, length-take-le, drop-drop, drop_all}
+use Rattle.std.proofs.lemmas.List.{take-append-le, length-take-le, drop-drop}
 use borrow.Rule.Slice.PartMut.{put_mid}
 use Rattle.mbox_cutter.specs.declared.device.DeviceFault.{DeviceFault}
 use Rattle.mbox_cutter.specs.Lines.{line_end_of, first_length}
@@ -11,11 +11,6 @@ use Rattle.mail_answer.specs.Inside.Readings.{Reading, coming, ReadsBehind, Read
 
 take_behind : (front into post : List ℕ) (held n : ℕ) → length front ≡ held → n ≤ length into → take (held + n) (front ++ (into ++ post)) ≡ front ++ take n into
 take_behind front into post held n e h = rw (← e) (take-append-add front (into ++ post) n ∙ ap (λ (s : List ℕ). front ++ s) (take-append-le n into post h))
-
--- the room behind the bytes that are held begins with them
-front_of_room : (old zeros : List ℕ) (m : ℕ) → length old ≤ m → take (length old) (take m old ++ zeros) ≡ old
-front_of_room old zeros m h =
-    ap (λ l. take (length old) (l ++ zeros)) (take_all m old h) ∙ take-append-le (length old) old zeros (omega arith) ∙ take_all (length old) old (omega arith)
 
 known_part : (archive offset n : ℕ) (held : Option (List (List ℕ))) (bytes : List ℕ) → length bytes ≡ n → IsRead archive offset bytes held
     → IfSome held (λ archives. bytes ≡ take n (drop offset (archive_at archives archive)))
@@ -36,21 +31,16 @@ pub tail_result : (archive offset from k : ℕ) (held : Option (List (List ℕ))
 tail_result archive offset from k held old into (Ok n) room bound r = tail_read archive offset from n k held old into room bound r
 tail_result archive offset from k held old into (Err e) room bound r = tt
 
--- a slice of a whole vector is written back
-pub written_back : (xs ys : List ℕ) (m : ℕ) → length ys ≡ length xs → m ≡ length xs → take m (ys ++ drop (length ys) xs) ≡ ys
-written_back xs ys m e l = ap (λ s. take m (ys ++ s)) (drop_all (length ys) xs (omega arith)) ∙ ap (take m) (append-nil ys) ∙ take_all m ys (omega arith)
-
-pub behind_read : (archive offset n len m : ℕ) (held : Option (List (List ℕ))) (old zeros resized read new : List ℕ) → len ≡ length old → len ≤ m → resized ≡ take m old ++ zeros → 0 < n
-    → ReadsTail archive offset len n held resized read → new ≡ take (len + n) read → ReadsBehind archive offset n held old new
-behind_read archive offset n len m held old zeros resized read new l h e some r w =
-    let front : take len resized ≡ old = ap (take len) e ∙ ap (λ j. take j (take m old ++ zeros)) l ∙ front_of_room old zeros m (omega arith) in
-    record {
-      bytes = r.bytes;
-      behind = w ∙ r.behind ∙ ap (λ s. s ++ r.bytes) front;
-      number = r.number;
-      some = some;
-      known = known_part archive offset n held r.bytes r.number r.read;
-    }
+-- what was read behind the bytes that are held is held with them
+pub held_read : (archive offset n count : ℕ) (held : Option (List (List ℕ))) (old new room room' : List ℕ) → take count room ≡ old → 0 < n → ReadsTail archive offset count n held room room'
+    → new ≡ take (count + n) room' → ReadsBehind archive offset n held old new
+held_read archive offset n count held old new room room' e some r w = record {
+  bytes = r.bytes;
+  behind = w ∙ r.behind ∙ ap (λ l. l ++ r.bytes) e;
+  number = r.number;
+  some = some;
+  known = known_part archive offset n held r.bytes r.number r.read;
+}
 
 -- what comes is the same before and after a read
 pub coming_read : (archive next left n : ℕ) (held : Option (List (List ℕ))) (unread new : List ℕ) → ReadsBehind archive next n held unread new → n ≤ left

@@ -14,7 +14,7 @@ counted-append n a b = omega (arith, length-append a b)
 pub joins_more : {t u v : Option (List ℕ)} {a b c : Sheet} {x y : List ℕ} → Joins t u a b x → Joins u v b c y → Joins t v a c (x ++ y)
 joins_more {t} {u} {v} {a} {b} {c} {x} {y} h k = record {
   went = h.went ++ k.went;
-  gathered = sym (append_assoc a.text.items x y) ∙ ap (λ l. l ++ y) h.gathered ∙ append_assoc h.went b.text.items y ∙ ap (λ l. h.went ++ l) k.gathered ∙ sym (append_assoc h.went k.went c.text.items);
+  gathered = sym (append_assoc a.text x y) ∙ ap (λ l. l ++ y) h.gathered ∙ append_assoc h.went b.text y ∙ ap (λ l. h.went ++ l) k.gathered ∙ sym (append_assoc h.went k.went c.text);
   appends = appends_join t u v h.went k.went h.appends k.appends;
   count = k.count ∙ ap (λ n. counted n k.went) h.count ∙ counted-append a.sent h.went k.went;
 }
@@ -24,7 +24,7 @@ pub joins_front : {t u v : Option (List ℕ)} {a b c : Sheet} {x y : List ℕ} �
 joins_front {t} {u} {v} {a} {b} {c} {x} {y} h k = record {
   went = h.went ++ k.went;
   unsent = k.unsent;
-  front = sym (append_assoc a.text.items x y) ∙ ap (λ l. l ++ y) h.gathered ∙ append_assoc h.went b.text.items y ∙ ap (λ l. h.went ++ l) k.front ∙ sym (append_assoc h.went k.went k.unsent);
+  front = sym (append_assoc a.text x y) ∙ ap (λ l. l ++ y) h.gathered ∙ append_assoc h.went b.text y ∙ ap (λ l. h.went ++ l) k.front ∙ sym (append_assoc h.went k.went k.unsent);
   appends = appends_join t u v h.went k.went h.appends k.appends;
   count = k.count ∙ ap (λ n. counted n k.went) h.count ∙ counted-append a.sent h.went k.went;
 }
@@ -34,13 +34,13 @@ pub front_more : {t u : Option (List ℕ)} {a b : Sheet} {x : List ℕ} (y : Lis
 front_more {t} {u} {a} {b} {x} y h = record {
   went = h.went;
   unsent = h.unsent ++ y;
-  front = sym (append_assoc a.text.items x y) ∙ ap (λ l. l ++ y) h.front ∙ append_assoc h.went h.unsent y;
+  front = sym (append_assoc a.text x y) ∙ ap (λ l. l ++ y) h.front ∙ append_assoc h.went h.unsent y;
   appends = h.appends;
   count = h.count;
 }
 
 pub joins_as_front : {t u : Option (List ℕ)} {a b : Sheet} {x : List ℕ} → Joins t u a b x → JoinsFront t u a b x
-joins_as_front {t} {u} {a} {b} {x} h = record { went = h.went; unsent = b.text.items; front = h.gathered; appends = h.appends; count = h.count }
+joins_as_front {t} {u} {a} {b} {x} h = record { went = h.went; unsent = b.text; front = h.gathered; appends = h.appends; count = h.count }
 
 -- ---- while a sheet is sent, `at` bytes of it so far
 
@@ -62,22 +62,22 @@ pub counted_step : (before : ℕ) (items : List ℕ) (sent at n sent' : ℕ) →
     → sent' ≡ counted before (take (at + n) items)
 counted_step before items sent at n sent' h p q = omega (arith, length-take at items, length-take (at + n) items)
 
-pub all_went : (t u : Option (List ℕ)) (old new : Sheet) (at : ℕ) → length old.text.items ≤ at → Appends t u (take at old.text.items) → new.sent ≡ counted old.sent (take at old.text.items)
-    → new.text.items ≡ [] → Joins t u old new []
+pub all_went : (t u : Option (List ℕ)) (old new : Sheet) (at : ℕ) → length old.text ≤ at → Appends t u (take at old.text) → new.sent ≡ counted old.sent (take at old.text)
+    → new.text ≡ [] → Joins t u old new []
 all_went t u old new at h p q e = record {
-  went = take at old.text.items;
-  gathered = ap (λ l. l ++ []) (sym (take_all at old.text.items h)) ∙ ap (λ l. take at old.text.items ++ l) (sym e);
+  went = take at old.text;
+  gathered = ap (λ l. l ++ []) (sym (take_all at old.text h)) ∙ ap (λ l. take at old.text ++ l) (sym e);
   appends = p;
   count = q;
 }
 
-pub front_went : (t u v : Option (List ℕ)) (old new : Sheet) (at : ℕ) → Appends t u (take at old.text.items) → new.sent ≡ counted old.sent (take at old.text.items)
+pub front_went : (t u v : Option (List ℕ)) (old new : Sheet) (at : ℕ) → Appends t u (take at old.text) → new.sent ≡ counted old.sent (take at old.text)
     → Keeps u v → JoinsFront t v old new []
 front_went t u v old new at p q e = record {
-  went = take at old.text.items;
-  unsent = drop at old.text.items;
-  front = append-nil old.text.items ∙ sym (take-append-drop at old.text.items);
-  appends = appends_keeps t u v (take at old.text.items) p e;
+  went = take at old.text;
+  unsent = drop at old.text;
+  front = append-nil old.text ∙ sym (take-append-drop at old.text);
+  appends = appends_keeps t u v (take at old.text) p e;
   count = q;
 }
   where
@@ -90,7 +90,7 @@ front_went t u v old new at p q e = record {
 -- ---- while bytes are pushed
 
 -- they are gathered, and nothing goes out
-pub joins_gathered : (t : Option (List ℕ)) (old new : Sheet) (bytes : List ℕ) → new.text.items ≡ old.text.items ++ bytes → new.sent ≡ old.sent → Joins t t old new bytes
+pub joins_gathered : (t : Option (List ℕ)) (old new : Sheet) (bytes : List ℕ) → new.text ≡ old.text ++ bytes → new.sent ≡ old.sent → Joins t t old new bytes
 joins_gathered t old new bytes e s = record {
   went = [];
   gathered = sym e;
@@ -102,21 +102,21 @@ joins_gathered t old new bytes e s = record {
 pub nothing_went : (t : Option (List ℕ)) (old new : Sheet) (bytes : List ℕ) → new.sent ≡ old.sent → JoinsFront t t old new bytes
 nothing_went t old new bytes s = record {
   went = [];
-  unsent = old.text.items ++ bytes;
+  unsent = old.text ++ bytes;
   front = refl;
   appends = appends-nil t;
   count = omega arith;
 }
 
 -- what was gathered is sent
-pub gathered_went : {T E : Type 0} (t u : Option (List ℕ)) (old mid new : Sheet) (bytes : List ℕ) (r : Result T E) → mid.text.items ≡ old.text.items ++ bytes → mid.sent ≡ old.sent
+pub gathered_went : {T E : Type 0} (t u : Option (List ℕ)) (old mid new : Sheet) (bytes : List ℕ) (r : Result T E) → mid.text ≡ old.text ++ bytes → mid.sent ≡ old.sent
     → Writes t u mid new (Some []) r → Writes t u old new (Some bytes) r
 gathered_went t u old mid new bytes (Ok x) e s w = (
   bytes,
   refl,
   record {
     went = w.2.went;
-    gathered = sym e ∙ sym (append-nil mid.text.items) ∙ ap (λ l. mid.text.items ++ l) w.1 ∙ w.2.gathered;
+    gathered = sym e ∙ sym (append-nil mid.text) ∙ ap (λ l. mid.text ++ l) w.1 ∙ w.2.gathered;
     appends = w.2.appends;
     count = w.2.count ∙ ap (λ n. counted n w.2.went) s;
   },
@@ -127,7 +127,7 @@ gathered_went t u old mid new bytes (Err x) e s w = (
   record {
     went = w.2.went;
     unsent = w.2.unsent;
-    front = sym e ∙ sym (append-nil mid.text.items) ∙ ap (λ l. mid.text.items ++ l) w.1 ∙ w.2.front;
+    front = sym e ∙ sym (append-nil mid.text) ∙ ap (λ l. mid.text ++ l) w.1 ∙ w.2.front;
     appends = w.2.appends;
     count = w.2.count ∙ ap (λ n. counted n w.2.went) s;
   },

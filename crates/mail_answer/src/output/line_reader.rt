@@ -1,14 +1,14 @@
 //! Part of an archive, read line by line.
 ghost use Rattle.std.specs.Prelude.{◌≡◌, ◌<◌, ◌≤◌, ◌+◌, ◌-◌, ◌^◌, [], false, nat_eq, length, take, drop, IfOk, OnOk, IfSome};
-ghost use Rattle.contract_words.specs.Devices.{Counted, Counts};
+ghost use Rattle.contract_words.specs.Devices.{Counted};
 ghost use Rattle.mbox_cutter.specs.Lines.{first_length};
-ghost use Rattle.mail_answer.specs.Archives.{archive_at};
 ghost use Rattle.mail_answer.specs.Faults.{has_fault, is_of_output, is_of_archives, is_stale};
-ghost use Rattle.mail_answer.specs.Inside.Readings.{coming, coming_count, IsInside, ReadsBehind, ReadsTail};
+ghost use Rattle.mail_answer.specs.Inside.Readings.{coming, coming_count, IsInside};
 
 use crate::archives::Archives;
 use crate::fault::AnswerFaultKind;
-use mbox_cutter::{DeviceFault, line_end};
+use crate::output::held_bytes::HeldBytes;
+use mbox_cutter::line_end;
 use std::alloc::Global;
 use std::marker::Model;
 
@@ -23,7 +23,7 @@ pub(crate) struct LineReader {
     next: u64,
     left: u64,
     // What was read; the first `from` bytes of it were passed.
-    held: Vec<u8>,
+    held: HeldBytes,
     from: usize,
 }
 
@@ -33,9 +33,9 @@ impl Model for LineReader {
 
     ghost Value = { Reading };
 
-    ghost view = { λ s. record { archive = s.archive; unread = drop s.from s.held.items; next = s.next; left = s.left } };
+    ghost view = { λ s. record { archive = s.archive; unread = drop s.from s.held; next = s.next; left = s.left } };
 
-    ghost invariant = { λ s. s.from ≤ length s.held.items };
+    ghost invariant = { λ s. s.from ≤ length s.held };
 }
 
 impl LineReader {
@@ -47,7 +47,7 @@ impl LineReader {
             archive,
             next: offset,
             left: length,
-            held: Vec::new(alloc),
+            held: HeldBytes::new(alloc),
             from: 0,
         }
     }
@@ -56,7 +56,7 @@ impl LineReader {
     fn unread(&self) -> &[u8]
         ensures { result.now ≡ self.now.unread }
     {
-        &self.held[self.from..]
+        &self.held.as_slice()[self.from..]
     }
 
     /// The next `n` bytes.
@@ -72,6 +72,8 @@ impl LineReader {
         requires { n ≤ length self.old.unread }
         ensures { self.new ≡ record self.old { unread = drop n self.old.unread } }
     {
+        let held = self.held.len();
+        prove!(n <= held - self.from);
         self.from += n;
     }
 
@@ -90,10 +92,10 @@ impl LineReader {
         ensures own { has_fault is_of_output result ≡ false }
         ensures fresh { IfSome (A.held archives.old) (λ _. has_fault is_stale result ≡ false) }
     {
-        drop_front(&mut self.held, self.from);
+        self.held.drop_front(self.from);
         self.from = 0;
         let most = self.left.min(PIECE) as usize;
-        let n = read_behind(archives, self.archive, self.next, most, &mut self.held)?;
+        let n = self.held.read(archives, self.archive, self.next, most)?;
         self.next += n as u64;
         self.left -= n as u64;
         Ok(())
@@ -128,67 +130,4 @@ impl LineReader {
             }
         }
     }
-}
-
-/// Drops the first `n` bytes.
-fn drop_front(held: &mut Vec<u8>, n: usize)
-    requires { n ≤ length held.old.items }
-    ensures { held.new.items ≡ drop n held.old.items }
-{
-    let len = held.len() - n;
-    held.copy_within(n.., 0);
-    held.truncate(len);
-}
-
-/// Reads at most so many bytes of an archive, from an offset on, behind those held. What is held after an error isn't said.
-pub(crate) fn read_behind<A: Archives>(
-    archives: &mut A,
-    archive: u32,
-    offset: u64,
-    most: usize,
-    held: &mut Vec<u8>,
-) -> Result<usize, AnswerFaultKind>
-    requires below { archive < A.number archives.old }
-    requires some { 0 < most }
-    requires few { most ≤ 65536 }
-    requires count { A.failures archives.old < 2 ^ 64 - 1 }
-    ensures held { A.held archives.new ≡ A.held archives.old }
-    ensures number { A.number archives.new ≡ A.number archives.old }
-    ensures bound { IfOk result (λ n. n ≤ most) }
-    ensures grows { length held.old.items ≤ length held.new.items }
-    ensures bytes { IfOk result (λ n. ReadsBehind archive offset n (A.held archives.old) held.old.items held.new.items) }
-    ensures count { Counted (has_fault is_of_archives result) (A.failures archives.old) (A.failures archives.new) }
-    ensures own { has_fault is_of_output result ≡ false }
-    ensures fresh { IfSome (A.held archives.old) (λ bytes. offset < length (archive_at bytes archive) → has_fault is_stale result ≡ false) }
-{
-    let len = held.len();
-    held.resize(len + most, 0)?;
-    match read_tail(archives, archive, offset, len, held.as_mut_slice()) {
-        Ok(0) => Err(AnswerFaultKind::Stale(archive)),
-        Ok(n) => {
-            held.truncate(len + n);
-            Ok(n)
-        }
-        Err(_) => Err(AnswerFaultKind::Device),
-    }
-}
-
-/// Reads an archive from an offset on into the bytes behind the first `from`.
-fn read_tail<A: Archives>(
-    archives: &mut A,
-    archive: u32,
-    offset: u64,
-    from: usize,
-    into: &mut [u8],
-) -> Result<usize, DeviceFault>
-    requires below { archive < A.number archives.old }
-    requires room { from < length into.old }
-    requires count { A.failures archives.old < 2 ^ 64 - 1 }
-    ensures held { A.held archives.new ≡ A.held archives.old }
-    ensures number { A.number archives.new ≡ A.number archives.old }
-    ensures bound { IfOk result (λ n. from + n ≤ length into.new) }
-    ensures bytes { IfOk result (λ n. ReadsTail archive offset from n (A.held archives.old) into.old into.new) }
-    ensures count { Counts result (A.failures archives.old) (A.failures archives.new) }
-{
-    archives.read_at(archive, offset, &mut into[from..])
 }

@@ -14,7 +14,6 @@ ghost use Rattle.mail_answer.specs.declared.format.Format.TheVariants.{Mbox};
 use crate::archives::Archives;
 use crate::fault::AnswerFaultKind;
 use crate::output::ending::Ending;
-use crate::output::line_reader::read_behind;
 use crate::output::sheet::Sheet;
 use mail_index::{IndexView, Record};
 use mbox_cutter::Out;
@@ -83,10 +82,10 @@ impl Part {
     {
         let gathered = sheet.text.len();
         let most = self.left.min(PIECE) as usize;
-        let n = read_behind(archives, self.archive, self.next, most, &mut sheet.text)?;
+        let n = sheet.text.read(archives, self.archive, self.next, most)?;
         self.next += n as u64;
         self.left -= n as u64;
-        let ending = before.with_bytes(&sheet.text[gathered..]);
+        let ending = before.with_bytes(&sheet.text.as_slice()[gathered..]);
         sheet.send_full(out)?;
         Ok(ending)
     }

@@ -4,6 +4,7 @@ ghost use Rattle.contract_words.specs.Devices.{Counted};
 ghost use Rattle.mail_answer.specs.Faults.{has_fault, is_of_output, is_of_archives, is_stale};
 
 use crate::fault::AnswerFaultKind;
+use crate::output::held_bytes::HeldBytes;
 use mbox_cutter::Out;
 use std::alloc::Global;
 
@@ -13,7 +14,7 @@ const FULL: usize = 65_536;
 /// Bytes of an answer that were gathered, and how many went out before them.
 #[derive(Drop)]
 pub(crate) struct Sheet {
-    pub(crate) text: Vec<u8>,
+    pub(crate) text: HeldBytes,
     /// Up to the greatest number of its type.
     pub(crate) sent: u64,
     ghost within: { sent ≤ 2 ^ 64 - 1 },
@@ -23,11 +24,11 @@ impl Sheet {
     ghost use Rattle.mail_answer.specs.Sheets.{Writes};
 
     pub(crate) fn new(alloc: Global) -> Self
-        ensures text { result.text.items ≡ [] }
+        ensures text { result.text ≡ [] }
         ensures sent { result.sent ≡ 0 }
     {
         Sheet {
-            text: Vec::new(alloc),
+            text: HeldBytes::new(alloc),
             sent: 0,
         }
     }
@@ -41,7 +42,7 @@ impl Sheet {
         ensures kept { self.new.sent ≡ 0 → has_fault is_of_output result ≡ false → out.new ≡ out.old }
         ensures own { (has_fault is_of_archives result ≡ false) × (has_fault is_stale result ≡ false) }
     {
-        self.text.extend_from_slice(bytes)?;
+        self.text.extend(bytes)?;
         self.send_full(out)
     }
 
@@ -63,14 +64,14 @@ impl Sheet {
     pub(crate) fn send<O: Out>(&mut self, out: &mut O) -> Result<(), AnswerFaultKind>
         requires { O.failures out.old < 2 ^ 64 - 1 }
         ensures writes { Writes (O.taken out.old) (O.taken out.new) self.old self.new (Some []) result }
-        ensures all { OnOk result (self.new.text.items ≡ []) }
+        ensures all { OnOk result (self.new.text ≡ []) }
         ensures count { Counted (has_fault is_of_output result) (O.failures out.old) (O.failures out.new) }
         ensures kept { self.new.sent ≡ 0 → has_fault is_of_output result ≡ false → out.new ≡ out.old }
         ensures own { IfErr result (λ kind. kind ≡ AnswerFaultKind.OutFailed) }
     {
         let mut at = 0;
         while at < self.text.len() {
-            match out.put(&self.text[at..]) {
+            match out.put(&self.text.as_slice()[at..]) {
                 Ok(n) => {
                     at += n;
                     self.sent = self.sent.saturating_add(n as u64);

@@ -19,7 +19,7 @@ loop-n-init g c = record {
     [],
     joined-nothing (known_answer c.args.format c.args.places.now.table (g.A.Archives.held c.args.archives.now) c.args.numbers.now),
     refl,
-    joins_gathered (g.O.Out.taken c.args.out.now) c.args.sheet.now c.args.sheet.now [] (sym (append-nil c.args.sheet.now.text.items)) refl,
+    joins_gathered (g.O.Out.taken c.args.out.now) c.args.sheet.now c.args.sheet.now [] (sym (append-nil c.args.sheet.now.text)) refl,
   );
   kept = λ unsent. refl;
   out_count = refl;

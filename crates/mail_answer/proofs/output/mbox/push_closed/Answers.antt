@@ -19,7 +19,7 @@ pieces-init g c = record {
     [],
     rw c.of-part.ensures (pieces_none (coming (g.A.Archives.held c.args.archives.now) (span_reading c.args.message))),
     c.new-ending.ensures,
-    joins_gathered (g.O.Out.taken c.args.out.now) c.args.sheet.now c.args.sheet.now [] (sym (append-nil c.args.sheet.now.text.items)) refl,
+    joins_gathered (g.O.Out.taken c.args.out.now) c.args.sheet.now c.args.sheet.now [] (sym (append-nil c.args.sheet.now.text)) refl,
   );
   kept = λ unsent. refl;
   out_count = refl;

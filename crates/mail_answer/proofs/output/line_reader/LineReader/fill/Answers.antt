@@ -6,7 +6,7 @@ use Rattle.mail_answer.proofs.output.line_reader.LineReader.fill.Goals as goal
 pub returns-clause-coming : goal.returns-clause-coming
 returns-clause-coming g c =
     let s = c.self.inside in
-    let unread : List ℕ = drop s.from s.held.items in
-    coming_read s.archive s.next s.left c.in_ok-n.n (g.A.Archives.held c.args.archives.now) unread c.read_behind.new.held.items
-    (subst (λ (old : List ℕ). ReadsBehind s.archive s.next c.in_ok-n.n (g.A.Archives.held c.args.archives.now) old c.read_behind.new.held.items) c.drop_front.ensures c.in_ok-n.ensures.bytes) (omega (arith, c.in_ok-n.ensures.bound))
+    let unread : List ℕ = drop s.from s.held in
+    coming_read s.archive s.next s.left c.in_ok-n.n (g.A.Archives.held c.args.archives.now) unread c.read.new.self
+    (subst (λ (old : List ℕ). ReadsBehind s.archive s.next c.in_ok-n.n (g.A.Archives.held c.args.archives.now) old c.read.new.self) c.drop_front.ensures c.in_ok-n.ensures.bytes) (omega (arith, c.in_ok-n.ensures.bound))
     ∙ ap (λ (r : Reading). coming (g.A.Archives.held c.args.archives.now) r) c.self.view_is

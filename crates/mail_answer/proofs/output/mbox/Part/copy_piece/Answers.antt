@@ -26,7 +26,7 @@ returns-in_err-send_full-clause-copies g c =
     let went = gathered_went taken taken' c.args.sheet.now _ c.send_full.new.self reads.bytes failed reads.behind refl c.in_err-send_full.ensures.writes in
     let behind : Option (List ℕ) = coming held (record { archive = s.archive; unread = []; next = s.next + c.in_ok-n.n; left = s.left - c.in_ok-n.n }) in
     let is : coming held c.args.self.now ≡ option_map (λ bytes. reads.bytes ++ bytes) behind =
-    sym (ap (λ (r : Reading). coming held r) c.self.view_is) ∙ piece_read s.archive s.next s.left c.in_ok-n.n held c.args.sheet.now.text.items c.read_behind.new.held.items reads (omega (arith, c.in_ok-n.ensures.bound)) in
+    sym (ap (λ (r : Reading). coming held r) c.self.view_is) ∙ piece_read s.archive s.next s.left c.in_ok-n.n held c.args.sheet.now.text c.read.new.self reads (omega (arith, c.in_ok-n.ensures.bound)) in
     let rest = some_text behind in
     copies_err taken taken' c.args.sheet.now c.send_full.new.self (coming held c.args.self.now) behind c.args.before c.from_residual-in_err-send_full.result c.from_residual-in_err-send_full.ensures.0
     (reads.bytes ++ rest.0, rw is (tells_behind behind reads.bytes rest.0 rest.1), front_more rest.0 (subst (JoinsFront taken taken' c.args.sheet.now c.send_full.new.self) (sym went.1) went.2))
@@ -41,7 +41,7 @@ returns-clause-copies g c =
     let done : Result ℕ AnswerFaultKind = Ok 0 in
     let went = gathered_went taken taken' c.args.sheet.now _ c.send_full.new.self reads.bytes done reads.behind refl c.in_ok-send_full.ensures.writes in (
       reads.bytes,
-      sym (ap (λ (r : Reading). coming held r) c.self.view_is) ∙ piece_read s.archive s.next s.left c.in_ok-n.n held c.args.sheet.now.text.items c.read_behind.new.held.items reads (omega (arith, c.in_ok-n.ensures.bound)),
+      sym (ap (λ (r : Reading). coming held r) c.self.view_is) ∙ piece_read s.archive s.next s.left c.in_ok-n.n held c.args.sheet.now.text c.read.new.self reads (omega (arith, c.in_ok-n.ensures.bound)),
       subst (Joins taken taken' c.args.sheet.now c.send_full.new.self) (sym went.1) went.2,
-      λ text is. c.with_bytes-ending.ensures text is ∙ ap (λ (l : List ℕ). ending_of (text ++ l)) (behind_gathered c.args.sheet.now.text.items reads.bytes c.deref.result.now c.len-gathered.result (c.deref.ensures.value ∙ reads.behind) (omega arith)),
+      λ text is. c.with_bytes-ending.ensures text is ∙ ap (λ (l : List ℕ). ending_of (text ++ l)) (behind_gathered c.args.sheet.now.text reads.bytes c.as_slice.result.now c.len-gathered.result (c.as_slice.ensures ∙ reads.behind) (omega arith)),
     )

@@ -6,8 +6,8 @@ pub loop-at-init : goal.loop-at-init
 loop-at-init g c = record {
   within = omega arith;
   same = refl;
-  appends = appends-start (g.O.Out.taken c.args.out.now) c.args.self.now.text.items;
-  sent = counted-start c.args.self.now.sent c.args.self.now.text.items c.args.self.now.within;
+  appends = appends-start (g.O.Out.taken c.args.out.now) c.args.self.now.text;
+  sent = counted-start c.args.self.now.sent c.args.self.now.text c.args.self.now.within;
   kept = λ unsent. refl;
   count = refl;
 }
@@ -15,8 +15,8 @@ loop-at-init g c = record {
 pub loop-at-preserved : goal.loop-at-preserved
 loop-at-preserved g c =
     let i = c.loop-at.invariant in
-    let items : List ℕ = c.args.self.now.text.items in
-    let now : c.deref.result.now ≡ items = c.deref.ensures.value ∙ i.same in
+    let items : List ℕ = c.args.self.now.text in
+    let now : c.as_slice.result.now ≡ items = c.as_slice.ensures ∙ i.same in
     let bound : c.loop-at.at + c.in-Ok.n ≤ length items = omega (arith, ap length now, c.in-Ok.ensures.bound) in
     record {
       within = omega (arith, ap length i.same);
@@ -35,7 +35,7 @@ returns-in-Err-clause-writes g c =
 pub returns-clause-writes : goal.returns-clause-writes
 returns-clause-writes g c =
     let i = c.loop-at.invariant in
-    ([], refl, all_went (g.O.Out.taken c.args.out.now) (g.O.Out.taken c.loop-at.out) c.args.self.now _ c.loop-at.at (omega (arith, ap length i.same)) i.appends i.sent c.clear.ensures.items)
+    ([], refl, all_went (g.O.Out.taken c.args.out.now) (g.O.Out.taken c.loop-at.out) c.args.self.now _ c.loop-at.at (omega (arith, ap length i.same)) i.appends i.sent c.clear.ensures)
 
 pub returns-clause-kept : goal.returns-clause-kept
 returns-clause-kept g c = λ unsent own. c.loop-at.invariant.kept unsent

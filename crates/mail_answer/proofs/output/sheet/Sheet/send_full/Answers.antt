@@ -4,4 +4,4 @@ use Rattle.mail_answer.proofs.output.sheet.Sheet.send_full.Goals as goal
 
 pub returns-then-len-lt-FULL-clause-writes : goal.returns-then-len-lt-FULL-clause-writes
 returns-then-len-lt-FULL-clause-writes g c =
-    ([], refl, joins_gathered (g.O.Out.taken c.args.out.now) c.args.self.now c.args.self.now [] (sym (append-nil c.args.self.now.text.items)) refl)
+    ([], refl, joins_gathered (g.O.Out.taken c.args.out.now) c.args.self.now c.args.self.now [] (sym (append-nil c.args.self.now.text)) refl)

@@ -1,0 +1,167 @@
+//! Bytes that are held for a while, in room that stays.
+ghost use Rattle.std.specs.Prelude.{◌≡◌, ◌<◌, ◌≤◌, ◌+◌, ◌-◌, ◌^◌, ◌++◌, [], false, length, take, drop, IfOk, OnOk, OnErr, IfSome};
+ghost use Rattle.contract_words.specs.Devices.{Counted, Counts};
+ghost use Rattle.mail_answer.specs.Archives.{archive_at};
+ghost use Rattle.mail_answer.specs.Faults.{has_fault, is_of_output, is_of_archives, is_stale};
+ghost use Rattle.mail_answer.specs.Inside.Readings.{ReadsBehind, ReadsTail};
+
+use crate::archives::Archives;
+use crate::fault::AnswerFaultKind;
+use mbox_cutter::DeviceFault;
+use std::alloc::{AllocError, Global};
+use std::marker::Model;
+
+/// Bytes one behind another. Their room keeps its length when they go, so that it is cleared only where it grows; what stands in
+/// it behind the bytes is never shown.
+#[derive(Drop)]
+pub(crate) struct HeldBytes {
+    room: Vec<u8>,
+    count: usize,
+}
+
+impl Model for HeldBytes {
+    ghost use Rattle.std.specs.Prelude.{ℕ, List, ◌≤◌, length, take};
+
+    ghost Value = { List ℕ };
+
+    ghost view = { λ s. take s.count s.room.items };
+
+    ghost invariant = { λ s. s.count ≤ length s.room.items };
+}
+
+impl HeldBytes {
+    /// No bytes. It takes no memory.
+    pub(crate) fn new(alloc: Global) -> Self
+        ensures { result ≡ [] }
+    {
+        HeldBytes {
+            room: Vec::new(alloc),
+            count: 0,
+        }
+    }
+
+    pub(crate) fn len(&self) -> usize
+        ensures { result ≡ length self.now }
+    {
+        self.count
+    }
+
+    pub(crate) fn as_slice(&self) -> &[u8]
+        ensures { result.now ≡ self.now }
+    {
+        &self.room[..self.count]
+    }
+
+    /// Drops all of them.
+    pub(crate) fn clear(&mut self)
+        ensures { self.new ≡ [] }
+    {
+        self.count = 0;
+    }
+
+    /// Drops the first `n`.
+    pub(crate) fn drop_front(&mut self, n: usize)
+        requires { n ≤ length self.old }
+        ensures { self.new ≡ drop n self.old }
+    {
+        self.room.copy_within(n..self.count, 0);
+        self.count -= n;
+    }
+
+    /// Adds bytes behind them.
+    pub(crate) fn extend(&mut self, bytes: &[u8]) -> Result<(), AllocError>
+        ensures ok { OnOk result (self.new ≡ self.old ++ bytes.now) }
+        ensures refused { OnErr result (self.new ≡ self.old) }
+    {
+        make_room(&mut self.room, self.count, bytes.len())?;
+        copy_behind(self.room.as_mut_slice(), self.count, bytes);
+        self.count += bytes.len();
+        Ok(())
+    }
+
+    /// Reads at most so many bytes of an archive, from an offset on, behind them.
+    pub(crate) fn read<A: Archives>(
+        &mut self,
+        archives: &mut A,
+        archive: u32,
+        offset: u64,
+        most: usize,
+    ) -> Result<usize, AnswerFaultKind>
+        requires below { archive < A.number archives.old }
+        requires some { 0 < most }
+        requires few { most ≤ 65536 }
+        requires count { A.failures archives.old < 2 ^ 64 - 1 }
+        ensures held { A.held archives.new ≡ A.held archives.old }
+        ensures number { A.number archives.new ≡ A.number archives.old }
+        ensures bound { IfOk result (λ n. n ≤ most) }
+        ensures bytes { IfOk result (λ n. ReadsBehind archive offset n (A.held archives.old) self.old self.new) }
+        ensures refused { OnErr result (self.new ≡ self.old) }
+        ensures count { Counted (has_fault is_of_archives result) (A.failures archives.old) (A.failures archives.new) }
+        ensures own { has_fault is_of_output result ≡ false }
+        ensures fresh { IfSome (A.held archives.old) (λ bytes. offset < length (archive_at bytes archive) → has_fault is_stale result ≡ false) }
+    {
+        make_room(&mut self.room, self.count, most)?;
+        match read_behind(
+            archives,
+            archive,
+            offset,
+            self.count,
+            most,
+            self.room.as_mut_slice(),
+        ) {
+            Ok(0) => Err(AnswerFaultKind::Stale(archive)),
+            Ok(n) => {
+                self.count += n;
+                Ok(n)
+            }
+            Err(_) => Err(AnswerFaultKind::Device),
+        }
+    }
+}
+
+/// Makes room for so many bytes more behind the first `held`, and changes none of these.
+fn make_room(room: &mut Vec<u8>, held: usize, more: usize) -> Result<(), AllocError>
+    requires within { held ≤ length room.old.items }
+    requires few { held + more < 2 ^ 64 }
+    ensures room { OnOk result (held + more ≤ length room.new.items) }
+    ensures within { held ≤ length room.new.items }
+    ensures same { take held room.new.items ≡ take held room.old.items }
+{
+    if room.len() < held + more {
+        room.resize(held + more, 0)?;
+    }
+    Ok(())
+}
+
+/// Copies bytes behind the first `held`.
+fn copy_behind(room: &mut [u8], held: usize, bytes: &[u8])
+    requires { held + length bytes.now ≤ length room.old }
+    ensures bytes { take (held + length bytes.now) room.new ≡ take held room.old ++ bytes.now }
+    ensures room { length room.new ≡ length room.old }
+{
+    room[held..held + bytes.len()].copy_from_slice(bytes);
+}
+
+/// Reads at most so many bytes of an archive, from an offset on, behind the first `held`.
+fn read_behind<A: Archives>(
+    archives: &mut A,
+    archive: u32,
+    offset: u64,
+    held: usize,
+    most: usize,
+    room: &mut [u8],
+) -> Result<usize, DeviceFault>
+    requires below { archive < A.number archives.old }
+    requires some { 0 < most }
+    requires room { held + most ≤ length room.old }
+    requires count { A.failures archives.old < 2 ^ 64 - 1 }
+    ensures held { A.held archives.new ≡ A.held archives.old }
+    ensures number { A.number archives.new ≡ A.number archives.old }
+    ensures bound { IfOk result (λ n. n ≤ most) }
+    ensures room { length room.new ≡ length room.old }
+    ensures same { take held room.new ≡ take held room.old }
+    ensures bytes { IfOk result (λ n. ReadsTail archive offset held n (A.held archives.old) room.old room.new) }
+    ensures count { Counts result (A.failures archives.old) (A.failures archives.new) }
+{
+    archives.read_at(archive, offset, &mut room[held..held + most])
+}
