@@ -1,6 +1,6 @@
 -- Rows of limits: the numbers that their names stand for.
 use Rattle.std.proofs.Common.{◌≡◌, refl}
-use Rattle.mime_text.specs.Limits.{most_before_feed, most_in_line, most_in_line_text, most_in_header_text}
+use Rattle.mime_text.specs.Limits.{most_before_feed, most_in_line, most_in_line_text, most_in_header_text, most_in_boundary}
 
 bytes_before_a_line_feed : most_before_feed ≡ 65536
 bytes_before_a_line_feed = refl
@@ -13,3 +13,6 @@ bytes_of_the_text_of_a_line = refl
 
 bytes_of_a_text_of_a_header : most_in_header_text ≡ 786432
 bytes_of_a_text_of_a_header = refl
+
+bytes_of_a_boundary : most_in_boundary ≡ 70
+bytes_of_a_boundary = refl

@@ -1,7 +1,8 @@
--- How many bytes lines and texts have at most.
+-- How many bytes lines, texts and boundaries have at most.
 use Rattle.std.specs.Prelude.{ℕ, ◌+◌, ◌*◌}
 use Rattle.mbox_cutter.specs.declared.line.TheConstants.{MOST_IN_LINE}
 use Rattle.header_text.specs.Headers.{most_in_header}
+use Rattle.mime_text.specs.declared.parts.boundary.TheConstants.{MOST_IN_BOUNDARY}
 
 -- a line's bytes other than LF
 abbrev pub most_before_feed : ℕ
@@ -18,3 +19,7 @@ most_in_line_text = 3 * most_in_line
 -- a text of a header: three bytes for each that a header keeps
 abbrev pub most_in_header_text : ℕ
 most_in_header_text = 3 * most_in_header
+
+-- a boundary (RFC 2046, 5.1.1)
+abbrev pub most_in_boundary : ℕ
+most_in_boundary = MOST_IN_BOUNDARY

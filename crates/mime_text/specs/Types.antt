@@ -7,6 +7,7 @@ use Rattle.header_text.specs.Headers.{HeaderField}
 use Rattle.header_text.specs.Unfolding.{unfolded}
 use Rattle.header_text.specs.Charsets.{charset_of}
 use Rattle.header_text.specs.declared.charset.Charset.{Charset}
+use Rattle.mime_text.specs.Limits.{most_in_boundary}
 use Rattle.mime_text.specs.Parameters.{semicolon, parameter}
 use Rattle.mime_text.specs.declared.parts.shape.DefaultType.{DefaultType}
 use Rattle.mime_text.specs.declared.parts.shape.DefaultType.TheVariants.{TextPlain, MessageRfc822}
@@ -42,9 +43,9 @@ has_slash text = list_any (λ b. b == 0x2F) text
 abbrev pub media_type : DefaultType → List ℕ → List ℕ
 media_type default value = if has_slash (type_text value) then str_to_ascii_lowercase (type_text value) else default_type default
 
--- a boundary has 1 to 70 bytes (RFC 2046, 5.1.1)
+-- a boundary isn't empty, nor too long
 abbrev pub usable : List ℕ → Option (List ℕ)
-usable boundary = if nat_le 1 (length boundary) && nat_le (length boundary) 70 then Some boundary else None
+usable boundary = if nat_le 1 (length boundary) && nat_le (length boundary) most_in_boundary then Some boundary else None
 
 -- the entities in a multipart/digest are messages, where they don't say what they are (RFC 2046, 5.1.5)
 abbrev pub default_in : List ℕ → DefaultType

@@ -1,27 +1,29 @@
 //! The boundary between the parts of a multipart entity.
 ghost use Rattle.std.specs.Prelude.{◌≡◌, ◌<◌, ◌≤◌, length};
+ghost use Rattle.mime_text.specs.Limits.{most_in_boundary};
 ghost use Rattle.mime_text.specs.Types.{usable};
 
 use std::marker::Model;
 
-/// The most bytes that a boundary has.
+/// The most bytes that a boundary has (RFC 2046, 5.1.1).
 const MOST_IN_BOUNDARY: usize = 70;
 
-/// A boundary: 1 to 70 bytes (RFC 2046, 5.1.1).
+/// A boundary: 1 to 70 bytes.
 #[derive(Drop)]
 pub struct Boundary {
-    bytes: [u8; 70],
+    bytes: [u8; MOST_IN_BOUNDARY],
     count: usize,
 }
 
 impl Model for Boundary {
     ghost use Rattle.std.specs.Prelude.{ℕ, List, take, ◌<◌, ◌≤◌};
+    ghost use Rattle.mime_text.specs.Limits.{most_in_boundary};
 
     ghost Value = { List ℕ };
 
     ghost view = { λ b. take b.count b.bytes };
 
-    ghost invariant = { λ b. (0 < b.count) × (b.count ≤ 70) };
+    ghost invariant = { λ b. (0 < b.count) × (b.count ≤ most_in_boundary) };
 }
 
 impl Boundary {
@@ -42,7 +44,7 @@ impl Boundary {
     pub fn as_bytes(&self) -> &[u8]
         ensures bytes { result.now ≡ self.now }
         ensures some { 0 < length self.now }
-        ensures short { length self.now ≤ 70 }
+        ensures short { length self.now ≤ most_in_boundary }
     {
         &self.bytes[..self.count]
     }
