@@ -2,7 +2,6 @@
 use Rattle.std.proofs.Common.{◌≡◌, ◌==◌, ◌<◌, ℕ, zero, suc, Bool, true, nat_lt, List, [], ◌∷◌, get_or, ap, arith}
 use Rattle.std.specs.Prelude.{if◌then◌else◌, not}
 use Rattle.std.specs.List.{list_all}
-use Rattle.std.specs.Str.{str_to_ascii_lowercase}
 use Rattle.std.proofs.lemmas.Bool.{and_parts, ltb-true}
 use Rattle.header_text.specs.Blanks.{split_while}
 use Rattle.header_text.specs.Charsets.{is_among, utf8_labels, latin1_labels, latin9_labels, windows_1252_labels, charset_named, charset_of}
@@ -13,14 +12,11 @@ use Rattle.header_text.specs.declared.charset.Charset.TheVariants.{Utf8, Latin1,
 abbrev pub chosen : Bool → Bool → Bool → Bool → Charset
 chosen a b c d = if a then Utf8 else if b then Latin1 else if c then Latin9 else if d then Windows1252 else Unknown
 
-abbrev lower : List ℕ → List ℕ
-lower name = str_to_ascii_lowercase name
-
 pub charset_of-chosen : (label name : List ℕ) → name ≡ (split_while (λ b. not (b == 0x2A)) label).0 → (a b c d : Bool)
-    → a ≡ is_among utf8_labels (lower name) → b ≡ is_among latin1_labels (lower name) → c ≡ is_among latin9_labels (lower name) → d ≡ is_among windows_1252_labels (lower name)
+    → a ≡ is_among utf8_labels name → b ≡ is_among latin1_labels name → c ≡ is_among latin9_labels name → d ≡ is_among windows_1252_labels name
     → chosen a b c d ≡ charset_of label
 unfolding charset_of
-charset_of-chosen label name n a b c d p q r s = rw (p, q, r, s) (ap (λ (l : List ℕ). charset_named (lower l)) n)
+charset_of-chosen label name n a b c d p q r s = rw (p, q, r, s) (ap charset_named n)
 
 -- a table's characters have at most three bytes
 pub small-at : (xs : List ℕ) → list_all (λ x. nat_lt x 65536) xs ≡ true → (i : ℕ) → get_or xs i 0 < 65536

@@ -1,18 +1,18 @@
 -- Charsets: their labels, and how each reads bytes.
 use Rattle.std.specs.Prelude.{ℕ, ◌-◌, Bool, not, ◌&&◌, ◌==◌, nat_lt, nat_le, List, [], ◌∷◌, map, if◌then◌else◌, slice_index, codes, encode_utf8_all}
 use Rattle.std.specs.List.{list_any}
-use Rattle.std.specs.Str.{bytes_eq, str_to_ascii_lowercase}
 use Rattle.bstr.specs.Utf8.{lossy_chars}
 use Rattle.header_text.specs.Blanks.{split_while}
+use Rattle.header_text.specs.Names.{is_named}
 use Rattle.header_text.specs.declared.charset.Charset.{Charset}
 use Rattle.header_text.specs.declared.charset.Charset.TheVariants.{Utf8, Latin1, Latin9, Windows1252, Unknown}
 
--- the label before a `*`, in lower case
+-- the label before a `*`
 abbrev pub plain_label : List ℕ → List ℕ
-plain_label label = str_to_ascii_lowercase (split_while (λ b. not (b == 0x2A)) label).0
+plain_label label = (split_while (λ b. not (b == 0x2A)) label).0
 
 abbrev pub is_among : List (List ℕ) → List ℕ → Bool
-is_among labels label = list_any (bytes_eq label) labels
+is_among labels label = list_any (is_named label) labels
 
 abbrev pub utf8_labels : List (List ℕ)
 utf8_labels = [] ∷ codes "us-ascii" ∷ codes "ascii" ∷ codes "utf-8" ∷ codes "utf8" ∷ []

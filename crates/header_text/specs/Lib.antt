@@ -1,6 +1,7 @@
 pub mod Blanks
 pub mod Cuts
 pub mod Headers
+pub mod Names
 pub mod OpenFields
 pub mod Stages
 pub mod HeldLines

@@ -1,11 +1,10 @@
 //! Charsets and how they read bytes.
-ghost use Rattle.std.specs.Prelude.{◌≡◌, ◌<◌, map, not, ◌==◌};
-ghost use Rattle.std.specs.Char.{to_ascii_lowercase};
-ghost use Rattle.std.specs.Str.{bytes_eq, str_to_ascii_lowercase};
+ghost use Rattle.std.specs.Prelude.{◌≡◌, ◌<◌, not, ◌==◌};
 ghost use Rattle.header_text.specs.Blanks.{split_while};
 ghost use Rattle.header_text.specs.Charsets.{charset_of, is_among, utf8_labels, latin1_labels, latin9_labels, windows_1252_labels, character as character_of, latin9_character as latin9_character_of, windows_1252_character as windows_1252_character_of};
 
 use crate::cut::cut_at;
+use crate::names::is_named;
 
 /// A charset that a mail can name.
 #[derive(Clone, Copy, Debug, PartialEq, Eq)]
@@ -58,17 +57,9 @@ fn windows_1252_character(b: u8) -> char
     }
 }
 
-/// Whether a label is this name, in any ASCII case.
-pub fn is_named(label: &[u8], name: &[u8]) -> bool
-    requires { map to_ascii_lowercase name.now ≡ name.now }
-    ensures { result ≡ bytes_eq (str_to_ascii_lowercase label.now) name.now }
-{
-    label.eq_ignore_ascii_case(name)
-}
-
 /// Whether a label is empty or one of UTF-8's.
 fn is_utf8(label: &[u8]) -> bool
-    ensures { result ≡ is_among utf8_labels (str_to_ascii_lowercase label.now) }
+    ensures { result ≡ is_among utf8_labels label.now }
 {
     label.is_empty()
         || is_named(label, b"us-ascii")
@@ -79,21 +70,21 @@ fn is_utf8(label: &[u8]) -> bool
 
 /// Whether a label is one of ISO 8859-1's.
 fn is_latin1(label: &[u8]) -> bool
-    ensures { result ≡ is_among latin1_labels (str_to_ascii_lowercase label.now) }
+    ensures { result ≡ is_among latin1_labels label.now }
 {
     is_named(label, b"iso-8859-1") || is_named(label, b"iso8859-1") || is_named(label, b"latin1")
 }
 
 /// Whether a label is one of ISO 8859-15's.
 fn is_latin9(label: &[u8]) -> bool
-    ensures { result ≡ is_among latin9_labels (str_to_ascii_lowercase label.now) }
+    ensures { result ≡ is_among latin9_labels label.now }
 {
     is_named(label, b"iso-8859-15") || is_named(label, b"iso8859-15")
 }
 
 /// Whether a label is one of Windows-1252's.
 fn is_windows_1252(label: &[u8]) -> bool
-    ensures { result ≡ is_among windows_1252_labels (str_to_ascii_lowercase label.now) }
+    ensures { result ≡ is_among windows_1252_labels label.now }
 {
     is_named(label, b"windows-1252") || is_named(label, b"cp1252")
 }

@@ -1,10 +1,11 @@
 //! Fields, and the line that begins one.
-ghost use Rattle.std.specs.Prelude.{◌≡◌, ◌+◌, ◌<◌, ◌≤◌, ◌↔◌, length, take, drop, map, IsTrue, IfSome, option_map};
-ghost use Rattle.std.specs.Char.{to_ascii_lowercase};
+ghost use Rattle.std.specs.Prelude.{◌≡◌, ◌+◌, ◌<◌, ◌≤◌, length, take, drop, IfSome, option_map};
 ghost use Rattle.header_text.specs.Blanks.{split_while};
+ghost use Rattle.header_text.specs.Names.{is_named as is_named_of};
 ghost use Rattle.header_text.specs.Headers.{HeaderField, field_of_line, named as named_of, is_field_name_byte as is_field_name_byte_of, is_continuation as is_continuation_of};
 
 use crate::blanks::after_blanks;
+use crate::names::is_named;
 
 /// A field of a header: its name, and all bytes after its colon, line breaks and continuation lines included.
 #[derive(Clone, Copy, Debug)]
@@ -18,9 +19,9 @@ pub struct Field<'a> {
 impl Field<'_> {
     /// Whether the field has this name, in any ASCII case.
     pub fn is(&self, name: &[u8]) -> bool
-        ensures { IsTrue result ↔ (map to_ascii_lowercase self.now.name.now ≡ map to_ascii_lowercase name.now) }
+        ensures { result ≡ is_named_of self.now.name.now name.now }
     {
-        self.name.eq_ignore_ascii_case(name)
+        is_named(self.name, name)
     }
 }
 

@@ -1,7 +1,8 @@
 //! Fields kept one behind another, and the iterator over them.
-ghost use Rattle.std.specs.Prelude.{◌≡◌, ℕ, ◌+◌, ◌<◌, ◌≤◌, List, [], ◌∷◌, ◌++◌, length, slice_range, is_ok, OnOk, OnErr, if◌then◌else◌};
+ghost use Rattle.std.specs.Prelude.{◌≡◌, ℕ, ◌+◌, ◌<◌, ◌≤◌, List, [], ◌∷◌, ◌++◌, length, slice_range, is_ok, option_map, IfSome, OnOk, OnErr, if◌then◌else◌};
 ghost use Rattle.std.specs.Iterator.{YieldsFirstBy, item_count};
 ghost use Rattle.header_text.specs.Headers.{HeaderField, fields_size, most_in_header};
+ghost use Rattle.header_text.specs.Names.{first_body as first_body_of};
 ghost use Rattle.header_text.specs.Inside.Places.{next_start as next_start_of};
 
 use crate::field::Field;
@@ -160,6 +161,19 @@ impl<'a> Fields<'a> {
             bytes: self.bytes,
             places: self.places,
         }
+    }
+
+    /// The body of the first field of a name, in any ASCII case.
+    pub fn first_body(self, name: &[u8]) -> Option<&'a [u8]>
+        ensures body { option_map (λ body. body.now) result ≡ first_body_of name.now self.entry }
+        ensures fits { IfSome result (λ body. length body.now ≤ fields_size self.entry) }
+    {
+        for field in self {
+            if field.is(name) {
+                return Some(field.body);
+            }
+        }
+        None
     }
 }
 

@@ -1,16 +1,15 @@
 -- The excerpt of a message.
-use Rattle.std.specs.Prelude.{ℕ, true, false, ◌||◌, ◌==◌, nat_lt, List, [], ◌∷◌, ◌++◌, map, drop, if◌then◌else◌, codes}
+use Rattle.std.specs.Prelude.{ℕ, ◌||◌, ◌==◌, nat_lt, List, [], ◌∷◌, ◌++◌, map, drop, unwrap_or, if◌then◌else◌, codes}
 use Rattle.std.specs.List.{flat_map}
-use Rattle.std.specs.Str.{bytes_eq, str_to_ascii_lowercase}
 use Rattle.mbox_cutter.specs.Lines.{lines}
 use Rattle.header_text.specs.Headers.{HeaderField, fields_of}
+use Rattle.header_text.specs.Names.{first_body}
 use Rattle.header_text.specs.Unfolding.{unfolded}
 use Rattle.header_text.specs.EncodedWords.{decoded}
 
--- the body of the first field of a name, in any ASCII case, empty where it is missing
-abbrev pub first_body : List ℕ → List HeaderField → List ℕ
-first_body name [] = []
-first_body name (f ∷ fs) = elim (bytes_eq (str_to_ascii_lowercase f.name) (str_to_ascii_lowercase name)) [ true ↦ f.body | false ↦ first_body name fs ]
+-- the body of the first field of a name, empty where it is missing
+abbrev pub body_of : List ℕ → List HeaderField → List ℕ
+body_of name fields = unwrap_or (first_body name fields) []
 
 -- each character below U+0020, and U+007F, as a space: in UTF-8 each of them is one byte, and no other character has that byte
 abbrev pub shown_byte : ℕ → ℕ
@@ -26,7 +25,7 @@ spaced (b ∷ bs) = 32 ∷ b ∷ bs
 
 -- the name, a colon, the value, LF
 abbrev pub field_line : List HeaderField → List ℕ → List ℕ
-field_line fields name = name ++ 58 ∷ spaced (without_controls (decoded (unfolded (first_body name fields)))) ++ 10 ∷ []
+field_line fields name = name ++ 58 ∷ spaced (without_controls (decoded (unfolded (body_of name fields)))) ++ 10 ∷ []
 
 abbrev pub excerpt_names : List (List ℕ)
 excerpt_names = codes "To" ∷ codes "Cc" ∷ codes "From" ∷ codes "Subject" ∷ codes "Date" ∷ []

@@ -1,10 +1,11 @@
 -- Parameters piece by piece.
-use Rattle.std.proofs.Common.{◌≡◌, ◌∙◌, ◌<◌, ◌≤◌, ◌++◌, ◌==◌, ℕ, zero, suc, Bool, true, false, List, [], ◌∷◌, Option, Some, None, length, refl, sym, ap, arith, length-append}
+use Rattle.std.proofs.Common.{◌≡◌, ◌∙◌, ◌<◌, ◌≤◌, ◌++◌, ◌==◌, ℕ, zero, suc, Bool, true, false, List, [], ◌∷◌, Option, Some, None, length, cond, refl, sym, ap, arith, length-append}
 use Rattle.std.specs.Prelude.{option_map, unwrap_or}
+use Rattle.std.specs.List.{find}
 use Rattle.std.specs.Option.{option_map_or, option_to_list}
-use Rattle.std.specs.Str.{bytes_eq, str_to_ascii_lowercase}
 use Rattle.header_text.specs.Blanks.{is_blank, split_while, after_blanks, trimmed}
 use Rattle.header_text.specs.Cuts.{cut_at}
+use Rattle.header_text.specs.Names.{is_named}
 use Rattle.header_text.proofs.Fronts.{length-split_while, split_while-joined}
 use Rattle.header_text.proofs.CutLemmas.{IsCut, IsCut-from}
 use Rattle.mime_text.specs.Parameters.{Parameter, Piece, quoted, is_token_byte, value_and_rest, is_parameter_name_byte, behind_semicolon, piece_of, parameters_within, parameters_behind, first_named, parameter}
@@ -139,24 +140,24 @@ behind-step (b ∷ bs) = go (piece_of (b ∷ bs)).later refl
 pub named-none : (name bs : List ℕ) → (piece_of bs).parameter ≡ None → first_named name (parameters_behind (Some bs)) ≡ first_named name (parameters_behind (piece_of bs).later)
 named-none name bs e = ap (first_named name) (behind-step bs) ∙ rw e refl
 
-pub named-other : (name bs : List ℕ) (p : Parameter) → (piece_of bs).parameter ≡ Some p → bytes_eq (str_to_ascii_lowercase p.name) name ≡ false
+pub named-other : (name bs : List ℕ) (p : Parameter) → (piece_of bs).parameter ≡ Some p → is_named p.name name ≡ false
     → first_named name (parameters_behind (Some bs)) ≡ first_named name (parameters_behind (piece_of bs).later)
-named-other name bs p e f = ap (first_named name) (behind-step bs) ∙ rw e (rw (f, first_named) refl)
+named-other name bs p e f = ap (first_named name) (behind-step bs) ∙ rw e (rw f refl)
 
-pub named-found : (name bs : List ℕ) (p : Parameter) → (piece_of bs).parameter ≡ Some p → bytes_eq (str_to_ascii_lowercase p.name) name ≡ true
+pub named-found : (name bs : List ℕ) (p : Parameter) → (piece_of bs).parameter ≡ Some p → is_named p.name name ≡ true
     → first_named name (parameters_behind (Some bs)) ≡ Some p.value
-named-found name bs p e f = ap (first_named name) (behind-step bs) ∙ rw e (rw (f, first_named) refl)
+named-found name bs p e f = ap (first_named name) (behind-step bs) ∙ rw e (rw f refl)
 
 abbrev parameter_of : List ℕ → List ℕ → Parameter
 parameter_of name value = record { name = name; value = value }
 
 pub piece-other : {A : Type 0} (o : Option A) (now : A → List ℕ) (name value bs : List ℕ) → option_map (λ a. parameter_of (now a) value) o ≡ (piece_of bs).parameter
-    → option_map_or (λ a. bytes_eq (str_to_ascii_lowercase (now a)) name) o false ≡ false → first_named name (parameters_behind (Some bs)) ≡ first_named name (parameters_behind (piece_of bs).later)
+    → option_map_or (λ a. is_named (now a) name) o false ≡ false → first_named name (parameters_behind (Some bs)) ≡ first_named name (parameters_behind (piece_of bs).later)
 piece-other None now name value bs e f = named-none name bs (sym e)
 piece-other (Some a) now name value bs e f = named-other name bs (parameter_of (now a) value) (sym e) f
 
 pub piece-found : {A : Type 0} (o : Option A) (now : A → List ℕ) (name value bs : List ℕ) → option_map (λ a. parameter_of (now a) value) o ≡ (piece_of bs).parameter
-    → option_map_or (λ a. bytes_eq (str_to_ascii_lowercase (now a)) name) o false ≡ true → first_named name (parameters_behind (Some bs)) ≡ Some value
+    → option_map_or (λ a. is_named (now a) name) o false ≡ true → first_named name (parameters_behind (Some bs)) ≡ Some value
 piece-found None now name value bs e f = absurd (cc f)
 piece-found (Some a) now name value bs e f = named-found name bs (parameter_of (now a) value) (sym e) f
 
@@ -234,9 +235,9 @@ size-within (suc n) name bs found h = by_piece (piece_of bs).parameter refl (λ 
     by_later None e same h = absurd (cc h)
     by_later (Some rest) e same h = let less = later-shorter bs rest e in let size = same rest h in omega (arith, less, size)
 
-    by_name : (p : Parameter) → (piece_of bs).parameter ≡ Some p → (t : Bool) → bytes_eq (str_to_ascii_lowercase p.name) name ≡ t
+    by_name : (p : Parameter) → (piece_of bs).parameter ≡ Some p → (t : Bool) → is_named p.name name ≡ t
         → ((rest : List ℕ) → first_named name (parameters_within n rest) ≡ Some found → length found ≤ length rest)
-        → elim t [ true ↦ Some p.value | false ↦ first_named name (others (piece_of bs).later) ] ≡ Some found → length found ≤ length bs
+        → option_map (λ (q : Parameter). q.value) (cond t (Some p) (find (λ (q : Parameter). is_named q.name name) (others (piece_of bs).later))) ≡ Some found → length found ≤ length bs
     by_name p e true f same h =
         let here = size-piece bs in
         let size = ap size_of e in
@@ -247,7 +248,7 @@ size-within (suc n) name bs found h = by_piece (piece_of bs).parameter refl (λ 
     by_piece : (o : Option Parameter) → (piece_of bs).parameter ≡ o → ((rest : List ℕ) → first_named name (parameters_within n rest) ≡ Some found → length found ≤ length rest)
         → first_named name (option_to_list o ++ others (piece_of bs).later) ≡ Some found → length found ≤ length bs
     by_piece None e same h = by_later (piece_of bs).later refl same h
-    by_piece (Some p) e same h = by_name p e (bytes_eq (str_to_ascii_lowercase p.name) name) refl same h
+    by_piece (Some p) e same h = by_name p e (is_named p.name name) refl same h
 
 size-behind : (name value found : List ℕ) (o : Option (List ℕ)) → behind_semicolon value ≡ o → first_named name (parameters_behind o) ≡ Some found → length found ≤ length value
 size-behind name value found None e h = absurd (cc h)

@@ -1,25 +1,21 @@
 -- The texts of a header's fields.
-use Rattle.std.specs.Prelude.{ℕ, Bool, List, Option, Some, None, if◌then◌else◌, option_map, codes}
+use Rattle.std.specs.Prelude.{ℕ, List, Option, Some, None, if◌then◌else◌, option_map, codes}
 use Rattle.std.specs.List.{filter_map}
-use Rattle.std.specs.Str.{bytes_eq, str_to_ascii_lowercase}
 use Rattle.header_text.specs.Headers.{HeaderField}
+use Rattle.header_text.specs.Names.{is_named}
 use Rattle.header_text.specs.Unfolding.{unfolded}
 use Rattle.header_text.specs.EncodedWords.{decoded}
 use Rattle.mail_words.specs.declared.kind.TextKind.{TextKind}
 use Rattle.mail_words.specs.declared.kind.TextKind.TheVariants as kind
 
--- the name is this one, which is in lower case; names are compared without regard to ASCII case (RFC 5322, 1.2.2)
-abbrev pub is_name : List ℕ → List ℕ → Bool
-is_name name wanted = bytes_eq (str_to_ascii_lowercase name) wanted
-
 -- the kind of text that a field of this name has
 abbrev pub kind_of_field : List ℕ → Option TextKind
 kind_of_field name =
-    if is_name name (codes "to") then Some kind.To
-    else if is_name name (codes "cc") then Some kind.Cc
-    else if is_name name (codes "bcc") then Some kind.Bcc
-    else if is_name name (codes "from") then Some kind.From
-    else if is_name name (codes "subject") then Some kind.Subject
+    if is_named name (codes "to") then Some kind.To
+    else if is_named name (codes "cc") then Some kind.Cc
+    else if is_named name (codes "bcc") then Some kind.Bcc
+    else if is_named name (codes "from") then Some kind.From
+    else if is_named name (codes "subject") then Some kind.Subject
     else None
 
 -- the text of a field's body, its encoded words decoded

@@ -1,16 +1,13 @@
 -- What a message's own header says beside its texts.
-use Rattle.std.specs.Prelude.{ℕ, ◌<◌, ◌≤◌, Bool, ◌&&◌, ◌||◌, ◌==◌, List, [], ◌∷◌, length, All, IfSome, map, filter, flat_map, Option, Some, None, option_map, codes}
+use Rattle.std.specs.Prelude.{ℕ, ◌<◌, ◌≤◌, Bool, ◌&&◌, ◌||◌, ◌==◌, List, [], ◌∷◌, length, All, IfSome, filter, flat_map, Option, Some, None, option_map, codes}
 use Rattle.std.specs.List.{list_any}
 use Rattle.header_text.specs.Headers.{HeaderField, most_in_header}
+use Rattle.header_text.specs.Names.{is_named, first_body}
 use Rattle.header_text.specs.Unfolding.{unfolded}
 use Rattle.header_text.specs.Ids.{ids_of}
 use Rattle.mail_words.specs.declared.flags.Flags.{Flags}
 use Rattle.mime_text.specs.declared.header.facts.Facts.{Facts}
-use Rattle.mime_text.specs.FieldTexts.{is_name, text_of_body}
-
--- the bodies of the fields of a name, which is in lower case
-abbrev pub bodies_of : List ℕ → List HeaderField → List (List ℕ)
-bodies_of name fields = map (λ f. f.body) (filter (λ f. is_name f.name name) fields)
+use Rattle.mime_text.specs.FieldTexts.{text_of_body}
 
 -- the first, where there is one
 abbrev pub first_of : {A : Type 0} → List A → Option A
@@ -19,11 +16,11 @@ first_of (x ∷ xs) = Some x
 
 -- the text of the first Date field (RFC 5322, 3.6.1)
 abbrev pub date_text_of : List HeaderField → Option (List ℕ)
-date_text_of fields = option_map text_of_body (first_of (bodies_of (codes "date") fields))
+date_text_of fields = option_map text_of_body (first_body (codes "date") fields)
 
 -- the field says what mail programs noted of the message
 abbrev pub is_status : List ℕ → Bool
-is_status name = is_name name (codes "status") || is_name name (codes "x-status")
+is_status name = is_named name (codes "status") || is_named name (codes "x-status")
 
 -- the letter stands in the value of a Status or X-Status field
 abbrev pub has_letter : ℕ → List HeaderField → Bool
@@ -35,11 +32,11 @@ flags_of fields = record { seen = has_letter 0x52 fields; replied = has_letter 0
 
 -- the message's own id: the first in a Message-ID field (RFC 5322, 3.6.4)
 abbrev pub own_id_of : List HeaderField → Option (List ℕ)
-own_id_of fields = first_of (flat_map ids_of (bodies_of (codes "message-id") fields))
+own_id_of fields = first_of (flat_map (λ f. ids_of f.body) (filter (λ f. is_named f.name (codes "message-id")) fields))
 
 -- the field links the message to others
 abbrev pub is_linking : List ℕ → Bool
-is_linking name = is_name name (codes "message-id") || is_name name (codes "in-reply-to") || is_name name (codes "references")
+is_linking name = is_named name (codes "message-id") || is_named name (codes "in-reply-to") || is_named name (codes "references")
 
 -- all ids of the linking fields, in order
 abbrev pub ids_of_fields : List HeaderField → List (List ℕ)

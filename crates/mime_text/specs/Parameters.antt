@@ -1,9 +1,10 @@
 -- The parameters of a Content-Type field (RFC 2045, 5.1) or a Content-Disposition field (RFC 2183, 2), read leniently.
 use Rattle.std.specs.Prelude.{ℕ, zero, suc, Bool, true, false, not, ◌||◌, ◌==◌, if◌then◌else◌, List, [], ◌∷◌, ◌++◌, length, Option, None, Some, option_map}
+use Rattle.std.specs.List.{find}
 use Rattle.std.specs.Option.{option_map_or, option_to_list}
-use Rattle.std.specs.Str.{bytes_eq, str_to_ascii_lowercase}
 use Rattle.header_text.specs.Blanks.{is_blank, split_while, after_blanks, trimmed}
 use Rattle.header_text.specs.Cuts.{cut_at}
+use Rattle.header_text.specs.Names.{is_named}
 
 pub record Parameter : Type 0 where
   pub name : List ℕ
@@ -88,11 +89,10 @@ parameters_behind (Some bs) = parameters_within (length bs) bs
 abbrev pub parameters : List ℕ → List Parameter
 parameters value = parameters_behind (behind_semicolon value)
 
--- the value of the first parameter of a name, which is written in lower case
+-- the value of the first parameter of a name
 abbrev pub first_named : List ℕ → List Parameter → Option (List ℕ)
-first_named name [] = None
-first_named name (p ∷ ps) = elim (bytes_eq (str_to_ascii_lowercase p.name) name) [ true ↦ Some p.value | false ↦ first_named name ps ]
+first_named name ps = option_map (λ p. p.value) (find (λ p. is_named p.name name) ps)
 
--- the parameter of a name: the first one counts, names are compared without regard to case
+-- the parameter of a name: the first one counts
 unfoldable pub parameter : List ℕ → List ℕ → Option (List ℕ)
 parameter name value = first_named name (parameters value)

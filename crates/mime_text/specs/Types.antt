@@ -1,9 +1,9 @@
 -- What an entity is, by the fields of its header (RFC 2045, 5 and 6; RFC 2046).
-use Rattle.std.specs.Prelude.{ℕ, Bool, true, false, not, ◌&&◌, ◌==◌, nat_le, if◌then◌else◌, List, [], ◌∷◌, length, take, Option, None, Some, unwrap_or, codes}
+use Rattle.std.specs.Prelude.{ℕ, Bool, true, false, not, ◌&&◌, ◌==◌, nat_le, if◌then◌else◌, List, [], length, take, Option, None, Some, unwrap_or, codes}
 use Rattle.std.specs.List.{list_any}
-use Rattle.std.specs.Str.{bytes_eq, str_to_ascii_lowercase}
 use Rattle.header_text.specs.Blanks.{split_while, trimmed}
 use Rattle.header_text.specs.Headers.{HeaderField}
+use Rattle.header_text.specs.Names.{is_named, first_body}
 use Rattle.header_text.specs.Unfolding.{unfolded}
 use Rattle.header_text.specs.Charsets.{charset_of}
 use Rattle.header_text.specs.declared.charset.Charset.{Charset}
@@ -16,12 +16,7 @@ use Rattle.mime_text.specs.declared.parts.shape.Shape.TheVariants.{Multipart, Me
 use Rattle.mime_text.specs.declared.leaf.transfer.TransferEncoding.{TransferEncoding}
 use Rattle.mime_text.specs.declared.leaf.transfer.TransferEncoding.TheVariants.{Identity, QuotedPrintable, Base64}
 
--- the body of the first field of a name, which is written in lower case
-abbrev pub first_body : List ℕ → List HeaderField → Option (List ℕ)
-first_body name [] = None
-first_body name (f ∷ fs) = elim (bytes_eq (str_to_ascii_lowercase f.name) name) [ true ↦ Some f.body | false ↦ first_body name fs ]
-
--- its value, empty where it is missing
+-- the value of the first field of a name, empty where it is missing
 abbrev pub first_value : List ℕ → List HeaderField → List ℕ
 first_value name fields = unfolded (unwrap_or (first_body name fields) [])
 
@@ -39,9 +34,9 @@ type_text value = trimmed (split_while (λ b. not (b == semicolon)) value).0
 abbrev pub has_slash : List ℕ → Bool
 has_slash text = list_any (λ b. b == 0x2F) text
 
--- the type that a value names, in lower case, or the default where it has no `/`
+-- the type that a value names, or the default where it has no `/`
 abbrev pub media_type : DefaultType → List ℕ → List ℕ
-media_type default value = if has_slash (type_text value) then str_to_ascii_lowercase (type_text value) else default_type default
+media_type default value = if has_slash (type_text value) then type_text value else default_type default
 
 -- a boundary isn't empty, nor too long
 abbrev pub usable : List ℕ → Option (List ℕ)
@@ -49,7 +44,7 @@ usable boundary = if nat_le 1 (length boundary) && nat_le (length boundary) most
 
 -- the entities in a multipart/digest are messages, where they don't say what they are (RFC 2046, 5.1.5)
 abbrev pub default_in : List ℕ → DefaultType
-default_in type = if bytes_eq type (codes "multipart/digest") then MessageRfc822 else TextPlain
+default_in type = if is_named type (codes "multipart/digest") then MessageRfc822 else TextPlain
 
 -- a multipart with a boundary that is usable; any other is read as text/plain
 abbrev pub shape_of_multipart : List ℕ → Option (List ℕ) → Shape
@@ -57,13 +52,13 @@ shape_of_multipart type None = Text false
 shape_of_multipart type (Some boundary) = elim (usable boundary) [ Some b ↦ Multipart b (default_in type) | None ↦ Text false ]
 
 abbrev pub is_multipart : List ℕ → Bool
-is_multipart type = bytes_eq (take 10 type) (codes "multipart/")
+is_multipart type = is_named (take 10 type) (codes "multipart/")
 
 abbrev pub shape_of_single : List ℕ → Shape
 shape_of_single type =
-    if bytes_eq type (codes "message/rfc822") then Message
-    else if bytes_eq type (codes "text/plain") then Text false
-    else if bytes_eq type (codes "text/html") then Text true else Other
+    if is_named type (codes "message/rfc822") then Message
+    else if is_named type (codes "text/plain") then Text false
+    else if is_named type (codes "text/html") then Text true else Other
 
 -- what an entity of this type is, with this parameter `boundary`
 abbrev pub shape_of_type : List ℕ → Option (List ℕ) → Shape
@@ -86,8 +81,7 @@ charset_in fields = charset_of_value (content_type fields)
 
 -- how an entity's body was encoded, by the value of its Content-Transfer-Encoding field; an unknown encoding changes nothing
 unfoldable pub transfer_named : List ℕ → TransferEncoding
-transfer_named value = let name = str_to_ascii_lowercase value in
-    if bytes_eq name (codes "quoted-printable") then QuotedPrintable else if bytes_eq name (codes "base64") then Base64 else Identity
+transfer_named value = if is_named value (codes "quoted-printable") then QuotedPrintable else if is_named value (codes "base64") then Base64 else Identity
 
 abbrev pub transfer_in : List HeaderField → TransferEncoding
 transfer_in fields = transfer_named (first_value (codes "content-transfer-encoding") fields)

@@ -1,12 +1,11 @@
 //! The excerpt of a message.
 ghost use Rattle.std.specs.Prelude.{◌≡◌, ◌<◌, ◌-◌, ◌^◌, ℕ, List, ◌∷◌, ◌++◌, false, length, None, IfOk, OnOk, IfSome};
-ghost use Rattle.std.specs.Str.{bytes_eq, str_to_ascii_lowercase};
 ghost use Rattle.contract_words.specs.Devices.{Counted};
 ghost use Rattle.header_text.specs.EncodedWords.{decoded};
 ghost use Rattle.header_text.specs.HeldLines.{HasLines};
 ghost use Rattle.header_text.specs.Headers.{fields_of};
 ghost use Rattle.header_text.specs.Unfolding.{unfolded};
-ghost use Rattle.mail_answer.specs.Excerpts.{first_body as first_body_of, shown_byte as shown_byte_of, without_controls, field_line, excerpt_lines};
+ghost use Rattle.mail_answer.specs.Excerpts.{body_of as body_of_name, shown_byte as shown_byte_of, without_controls, field_line, excerpt_lines};
 ghost use Rattle.mail_answer.specs.Faults.{has_fault, is_of_output, is_of_archives, is_stale};
 ghost use Rattle.mail_answer.specs.Shapes.{known_message};
 ghost use Rattle.mail_answer.specs.Sheets.{Writes};
@@ -24,22 +23,13 @@ use mbox_cutter::Out;
 use std::alloc::{AllocError, Global};
 
 /// The body of the first field of a name, empty where it is missing.
-fn first_body<'a>(fields: Fields<'a>, name: &str) -> &'a [u8]
-    ensures { result.now ≡ first_body_of name.now fields.entry }
+fn body_of<'a>(fields: Fields<'a>, name: &str) -> &'a [u8]
+    ensures { result.now ≡ body_of_name name.now fields.entry }
 {
-    for field in fields {
-        if is_named(field.name, name.as_bytes()) {
-            return field.body;
-        }
+    match fields.first_body(name.as_bytes()) {
+        Some(body) => body,
+        None => b"",
     }
-    b""
-}
-
-/// Whether two names are the same, in any ASCII case.
-fn is_named(name: &[u8], wanted: &[u8]) -> bool
-    ensures { result ≡ bytes_eq (str_to_ascii_lowercase name.now) (str_to_ascii_lowercase wanted.now) }
-{
-    name.eq_ignore_ascii_case(wanted)
 }
 
 fn shown_byte(b: u8) -> u8
@@ -76,7 +66,7 @@ fn push_field(
 ) -> Result<(), AllocError>
     ensures { OnOk result ((ls : List (List ℕ)) → HasLines header.now ls → text.new.items ≡ text.old.items ++ field_line (fields_of ls) name.now) }
 {
-    let value = shown_value(alloc, first_body(header.fields(), name))?;
+    let value = shown_value(alloc, body_of(header.fields(), name))?;
     text.extend_from_slice(name.as_bytes())?;
     text.push(b':')?;
     if !value.is_empty() {

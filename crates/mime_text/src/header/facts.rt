@@ -2,13 +2,12 @@
 ghost use Rattle.std.specs.Prelude.{◌≡◌, ◌==◌, ◌<◌, ◌≤◌, ℕ, List, length, map, All, IfOk, IfSome, option_map};
 ghost use Rattle.std.specs.List.{list_any};
 ghost use Rattle.header_text.specs.Headers.{fields_size, most_in_header};
-ghost use Rattle.mime_text.specs.FieldTexts.{is_name as is_name_of};
 ghost use Rattle.mime_text.specs.MessageFacts.{date_text_of, flags_of, own_id_of, ids_of_fields, first_of, is_status as is_status_of, is_linking as is_linking_of, IsSizedId, HasSizedIds};
 ghost use Rattle.header_text.specs.Ids.{ids_of};
 
-use crate::header::field_text::{FieldReader, is_name, unfold_anew};
+use crate::header::field_text::{FieldReader, unfold_anew};
 use crate::header::owned::{DateText, MessageId, MessageIds};
-use header_text::{Fields, Header, message_ids};
+use header_text::{Fields, Header, is_named, message_ids};
 use mail_words::Flags;
 use std::alloc::{AllocError, Global};
 
@@ -69,21 +68,19 @@ fn date_text(alloc: Global, fields: Fields<'_>) -> Result<Option<DateText>, Allo
     requires { fields_size fields ≤ most_in_header }
     ensures { IfOk result (λ text. text ≡ date_text_of fields.entry) }
 {
-    for field in fields {
-        if is_name(field.name, b"date") {
-            let mut reader = FieldReader::new(alloc);
-            let text = reader.read(field.body)?;
-            return Ok(Some(DateText::new(alloc, text)?));
-        }
-    }
-    Ok(None)
+    let Some(body) = fields.first_body(b"date") else {
+        return Ok(None);
+    };
+    let mut reader = FieldReader::new(alloc);
+    let text = reader.read(body)?;
+    Ok(Some(DateText::new(alloc, text)?))
 }
 
 /// Whether mail programs note flags in a field of this name.
 fn is_status(name: &[u8]) -> bool
     ensures { result ≡ is_status_of name.now }
 {
-    is_name(name, b"status") || is_name(name, b"x-status")
+    is_named(name, b"status") || is_named(name, b"x-status")
 }
 
 /// Whether a letter stands in a value.
@@ -134,7 +131,7 @@ fn own_id(alloc: Global, fields: Fields<'_>) -> Result<Option<MessageId>, AllocE
     ensures size { IfOk result (λ id. IfSome id IsSizedId) }
 {
     for field in fields {
-        if is_name(field.name, b"message-id") {
+        if field.is(b"message-id") {
             if let Some(id) = first_id(alloc, field.body)? {
                 return Ok(Some(id));
             }
@@ -147,7 +144,7 @@ fn own_id(alloc: Global, fields: Fields<'_>) -> Result<Option<MessageId>, AllocE
 fn is_linking(name: &[u8]) -> bool
     ensures { result ≡ is_linking_of name.now }
 {
-    is_name(name, b"message-id") || is_name(name, b"in-reply-to") || is_name(name, b"references")
+    is_named(name, b"message-id") || is_named(name, b"in-reply-to") || is_named(name, b"references")
 }
 
 /// All ids of the linking fields.

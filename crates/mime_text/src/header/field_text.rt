@@ -1,38 +1,29 @@
 //! The texts of a header's fields, and of the name of its entity.
-ghost use Rattle.std.specs.Prelude.{◌≡◌, ◌≤◌, ◌*◌, length, map, option_map, if◌then◌else◌, IfOk, IfSome, OnOk, string_bytes};
+ghost use Rattle.std.specs.Prelude.{◌≡◌, ◌≤◌, ◌*◌, length, option_map, if◌then◌else◌, IfOk, IfSome, OnOk, string_bytes};
 ghost use Rattle.header_text.specs.Headers.{fields_size, most_in_header};
 ghost use Rattle.header_text.specs.Unfolding.{unfolded as unfolded_of};
-ghost use Rattle.std.specs.Char.{to_ascii_lowercase};
 ghost use Rattle.mime_text.specs.Names.{name_text};
-ghost use Rattle.mime_text.specs.FieldTexts.{is_name as is_name_of, kind_of_field as kind_of_field_of, text_of_body};
+ghost use Rattle.mime_text.specs.FieldTexts.{kind_of_field as kind_of_field_of, text_of_body};
 ghost use Rattle.mime_text.specs.Limits.{most_in_header_text};
 
 use crate::header::name::write_name;
-use header_text::{Fields, decode_words_into, unfold_into};
+use header_text::{Fields, decode_words_into, is_named, unfold_into};
 use mail_words::TextKind;
 use std::alloc::{AllocError, Global};
-
-/// Whether a field's name is this one, which is in lower case, in any ASCII case.
-pub(crate) fn is_name(name: &[u8], wanted: &[u8]) -> bool
-    requires { map to_ascii_lowercase wanted.now ≡ wanted.now }
-    ensures { result ≡ is_name_of name.now wanted.now }
-{
-    name.eq_ignore_ascii_case(wanted)
-}
 
 /// The kind of text that a field of this name has, if it is one of the five.
 pub(crate) fn kind_of_field(name: &[u8]) -> Option<TextKind>
     ensures { result ≡ kind_of_field_of name.now }
 {
-    if is_name(name, b"to") {
+    if is_named(name, b"to") {
         Some(TextKind::To)
-    } else if is_name(name, b"cc") {
+    } else if is_named(name, b"cc") {
         Some(TextKind::Cc)
-    } else if is_name(name, b"bcc") {
+    } else if is_named(name, b"bcc") {
         Some(TextKind::Bcc)
-    } else if is_name(name, b"from") {
+    } else if is_named(name, b"from") {
         Some(TextKind::From)
-    } else if is_name(name, b"subject") {
+    } else if is_named(name, b"subject") {
         Some(TextKind::Subject)
     } else {
         None

@@ -1,6 +1,5 @@
 //! The name of an entity.
-ghost use Rattle.std.specs.Prelude.{◌≡◌, ◌≤◌, ◌*◌, true, map, length, IfOk, OnOk, if◌then◌else◌, string_bytes};
-ghost use Rattle.std.specs.Char.{to_ascii_lowercase};
+ghost use Rattle.std.specs.Prelude.{◌≡◌, ◌≤◌, ◌*◌, true, length, IfOk, OnOk, if◌then◌else◌, string_bytes};
 ghost use Rattle.header_text.specs.Headers.{fields_size, most_in_header};
 ghost use Rattle.mime_text.specs.Parameters.{parameter};
 ghost use Rattle.mime_text.specs.Types.{first_value};
@@ -11,8 +10,7 @@ use crate::parts::parameter::read_parameter;
 use header_text::{Fields, decode_words_into};
 use std::alloc::AllocError;
 
-/// Whether the first field of a name has a parameter of a name that isn't empty; both names are written in lower case. The
-/// second buffer then holds its value. What the buffers hold else isn't said.
+/// Whether the first field of a name has a parameter of a name that isn't empty. The second buffer then holds its value. What the buffers hold else isn't said.
 fn read_filled(
     fields: Fields<'_>,
     field: &[u8],
@@ -20,8 +18,6 @@ fn read_filled(
     value: &mut Vec<u8>,
     into: &mut Vec<u8>,
 ) -> Result<bool, AllocError>
-    requires field { map to_ascii_lowercase field.now ≡ field.now }
-    requires name { map to_ascii_lowercase name.now ≡ name.now }
     ensures value { IfOk result (λ found. (if found then Some into.new.items else None) ≡ unless_empty (parameter name.now (first_value field.now fields.entry))) }
     ensures size { IfOk result (λ found. found ≡ true → length into.new.items ≤ fields_size fields.entry) }
 {

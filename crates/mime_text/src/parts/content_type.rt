@@ -1,10 +1,8 @@
 //! What an entity is, by its header.
-ghost use Rattle.std.specs.Prelude.{◌≡◌, ◌≤◌, ℕ, List, length, map, IfOk, OnOk, option_map};
-ghost use Rattle.std.specs.Char.{to_ascii_lowercase};
-ghost use Rattle.std.specs.Str.{str_to_ascii_lowercase};
+ghost use Rattle.std.specs.Prelude.{◌≡◌, ◌≤◌, ℕ, List, length, IfOk, OnOk};
 ghost use Rattle.header_text.specs.Headers.{fields_of, fields_size};
 ghost use Rattle.header_text.specs.HeldLines.{HasLines};
-ghost use Rattle.mime_text.specs.Types.{first_body as first_body_of, first_value, type_text as type_text_of, has_slash as has_slash_of, media_type as media_type_of, default_type, default_in as default_in_of, is_multipart as is_multipart_of, shape_of_single as shape_of_single_of, shape_of_value, shape_of, charset_of_value, charset_in, transfer_in};
+ghost use Rattle.mime_text.specs.Types.{first_value, type_text as type_text_of, has_slash as has_slash_of, media_type as media_type_of, default_type, default_in as default_in_of, is_multipart as is_multipart_of, shape_of_single as shape_of_single_of, shape_of_value, shape_of, charset_of_value, charset_in, transfer_in};
 
 use crate::leaf::transfer::TransferEncoding;
 use crate::parts::boundary::Boundary;
@@ -24,32 +22,18 @@ pub struct EntityType {
     pub transfer: TransferEncoding,
 }
 
-/// The body of the first field of a name, which is written in lower case.
-fn first_body<'a>(fields: Fields<'a>, name: &[u8]) -> Option<&'a [u8]>
-    requires { map to_ascii_lowercase name.now ≡ name.now }
-    ensures { option_map (λ body. body.now) result ≡ first_body_of name.now fields.entry }
-{
-    for field in fields {
-        if is_named(field.name, name) {
-            return Some(field.body);
-        }
-    }
-    None
-}
-
-/// Writes the unfolded value of the first field of a name, which is written in lower case; nothing where there is none.
+/// Writes the unfolded value of the first field of a name, in any ASCII case; nothing where there is none.
 #[tactic(auto, unfolding(header_text::specs::Unfolding::unfolded, header_text::specs::Blanks::before_blanks))]
 pub(crate) fn read_first_value(
     fields: Fields<'_>,
     name: &[u8],
     into: &mut Vec<u8>,
 ) -> Result<(), AllocError>
-    requires { map to_ascii_lowercase name.now ≡ name.now }
     ensures value { OnOk result (into.new.items ≡ first_value name.now fields.entry) }
     ensures size { OnOk result (length into.new.items ≤ fields_size fields.entry) }
 {
     into.clear();
-    if let Some(body) = first_body(fields, name) {
+    if let Some(body) = fields.first_body(name) {
         unfold_into(body, into)?;
     }
     Ok(())
@@ -73,7 +57,7 @@ fn has_slash(text: &[u8]) -> bool
 
 /// The name of a default.
 fn default_name(default: DefaultType) -> &'static [u8]
-    ensures { str_to_ascii_lowercase result.now ≡ default_type default }
+    ensures { result.now ≡ default_type default }
 {
     match default {
         DefaultType::TextPlain => b"text/plain",
@@ -81,9 +65,9 @@ fn default_name(default: DefaultType) -> &'static [u8]
     }
 }
 
-/// The type that a Content-Type field's value names, in any ASCII case, or the default where it names none.
+/// The type that a Content-Type field's value names, or the default where it names none.
 fn media_type(default: DefaultType, value: &[u8]) -> &[u8]
-    ensures { str_to_ascii_lowercase result.now ≡ media_type_of default value.now }
+    ensures { result.now ≡ media_type_of default value.now }
 {
     let text = type_text(value);
     if has_slash(text) {
@@ -95,14 +79,14 @@ fn media_type(default: DefaultType, value: &[u8]) -> &[u8]
 
 /// Whether a type is some kind of multipart.
 fn is_multipart(name: &[u8]) -> bool
-    ensures { result ≡ is_multipart_of (str_to_ascii_lowercase name.now) }
+    ensures { result ≡ is_multipart_of name.now }
 {
     is_named(&name[..name.len().min(10)], b"multipart/")
 }
 
 /// The default of the entities in a multipart of this type.
 fn default_in(name: &[u8]) -> DefaultType
-    ensures { result ≡ default_in_of (str_to_ascii_lowercase name.now) }
+    ensures { result ≡ default_in_of name.now }
 {
     if is_named(name, b"multipart/digest") {
         DefaultType::MessageRfc822
@@ -113,7 +97,7 @@ fn default_in(name: &[u8]) -> DefaultType
 
 /// What an entity of a type is that is no multipart.
 fn shape_of_single(name: &[u8]) -> Shape
-    ensures { result ≡ shape_of_single_of (str_to_ascii_lowercase name.now) }
+    ensures { result ≡ shape_of_single_of name.now }
 {
     if is_named(name, b"message/rfc822") {
         Shape::Message

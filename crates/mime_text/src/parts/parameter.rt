@@ -1,9 +1,8 @@
 //! The parameters of a field (RFC 2045, 5.1; RFC 2183, 2), read leniently.
-ghost use Rattle.std.specs.Prelude.{◌≡◌, ◌<◌, ◌≤◌, ◌++◌, true, false, map, length, IfOk, IfSome, option_map, if◌then◌else◌};
-ghost use Rattle.std.specs.Char.{to_ascii_lowercase};
+ghost use Rattle.std.specs.Prelude.{◌≡◌, ◌<◌, ◌≤◌, ◌++◌, true, false, length, IfOk, IfSome, option_map, if◌then◌else◌};
 ghost use Rattle.std.specs.Option.{option_map_or};
-ghost use Rattle.std.specs.Str.{bytes_eq, str_to_ascii_lowercase};
 ghost use Rattle.header_text.specs.Blanks.{split_while};
+ghost use Rattle.header_text.specs.Names.{is_named as is_named_of};
 ghost use Rattle.mime_text.specs.Parameters.{quoted, is_token_byte as is_token_byte_of, is_parameter_name_byte as is_parameter_name_byte_of, value_and_rest, piece_of, behind_semicolon as behind_semicolon_of, parameter as parameter_of};
 
 use header_text::{after_blanks, cut_at, is_named, trimmed};
@@ -145,8 +144,7 @@ fn read_piece<'a>(text: &'a [u8], into: &mut Vec<u8>) -> Result<Piece<'a>, Alloc
 
 /// Whether there is a name, and it is this one, in any ASCII case.
 fn has_name(found: Option<&[u8]>, name: &[u8]) -> bool
-    requires { map to_ascii_lowercase name.now ≡ name.now }
-    ensures { result ≡ option_map_or (λ text. bytes_eq (str_to_ascii_lowercase text.now) name.now) found.entry false }
+    ensures { result ≡ option_map_or (λ text. is_named_of text.now name.now) found.entry false }
 {
     match found {
         Some(text) => is_named(text, name),
@@ -154,10 +152,9 @@ fn has_name(found: Option<&[u8]>, name: &[u8]) -> bool
     }
 }
 
-/// Whether an unfolded value has a parameter of a name, which is written in lower case. The first one counts, and the buffer
-/// then holds its value. What the buffer holds else isn't said.
+/// Whether an unfolded value has a parameter of a name, in any ASCII case. The first one counts, and the buffer then holds its
+/// value. What the buffer holds else isn't said.
 pub fn read_parameter(value: &[u8], name: &[u8], into: &mut Vec<u8>) -> Result<bool, AllocError>
-    requires { map to_ascii_lowercase name.now ≡ name.now }
     ensures value { IfOk result (λ found. (if found then Some into.new.items else None) ≡ parameter_of name.now value.now) }
     ensures size { IfOk result (λ found. found ≡ true → length into.new.items ≤ length value.now) }
 {
