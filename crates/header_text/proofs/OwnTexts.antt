@@ -6,7 +6,7 @@ use Rattle.bstr.proofs.lemmas.EncodeLemmas.{lossy_chars-utf8}
 use Rattle.header_text.specs.Charsets.{text_of}
 use Rattle.header_text.specs.declared.charset.Charset.{Charset}
 use Rattle.header_text.specs.declared.charset.Charset.TheVariants.{Utf8, Latin1, Latin9, Windows1252, Unknown}
-use Rattle.header_text.proofs.CharacterLemmas.{lossy-ascii}
+use Rattle.header_text.proofs.WordLaws.CharacterLemmas.{lossy-ascii}
 
 -- valid UTF-8
 pub text_of-utf8 : (bytes : List ℕ) → IsUtf8 bytes → text_of Utf8 bytes ≡ bytes

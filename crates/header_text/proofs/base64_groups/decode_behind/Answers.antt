@@ -1,5 +1,5 @@
 use Rattle.std.proofs.Common.{◌≡◌, ◌<◌, ◌*◌, ◌/◌, ◌++◌, ℕ, List, length, slice_index, ap₂, arith}
-use Rattle.header_text.proofs.GroupLemmas.{decoded-into}
+use Rattle.header_text.proofs.WordLaws.GroupLemmas.{decoded-into}
 use Rattle.header_text.proofs.base64_groups.decode_behind.Goals as goal
 
 pub returns : goal.returns

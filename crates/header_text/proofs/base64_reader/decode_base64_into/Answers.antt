@@ -1,6 +1,6 @@
 use Rattle.std.proofs.Common.{◌∙◌, ◌++◌, ℕ, List, [], length, ap, arith, length-append, append-nil}
 use Rattle.header_text.specs.Base64.{base64_bytes}
-use Rattle.header_text.proofs.ReaderLemmas.{length-base64_bytes}
+use Rattle.header_text.proofs.WordLaws.ReaderLemmas.{length-base64_bytes}
 use Rattle.header_text.proofs.base64_reader.decode_base64_into.Goals as goal
 
 pub returns-clause-size : goal.returns-clause-size

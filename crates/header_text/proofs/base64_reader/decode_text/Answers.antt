@@ -1,7 +1,7 @@
 use Rattle.std.proofs.Common.{◌∙◌, ◌++◌, ℕ, List, sym, ap, arith}
 use Rattle.std.proofs.lemmas.List.{take_rest}
 use Rattle.header_text.specs.Symbols.{symbols_of}
-use Rattle.header_text.proofs.GroupLemmas.{text-groups, text-other, sextet-other}
+use Rattle.header_text.proofs.WordLaws.GroupLemmas.{text-groups, text-other, sextet-other}
 use Rattle.header_text.proofs.base64_reader.decode_text.Goals as goal
 
 pub loop-first-preserved-then-count-gt0 : goal.loop-first-preserved-then-count-gt0

@@ -2,8 +2,8 @@ use Rattle.std.proofs.Common.{◌≡◌, ◌∙◌, ◌+◌, ◌-◌, ◌++◌, 
 use Rattle.std.proofs.lemmas.List.{length-take}
 use Rattle.header_text.specs.Base64.{bytes_of_symbols}
 use Rattle.header_text.specs.Symbols.{symbols_of}
-use Rattle.header_text.proofs.GroupLemmas.{AreSymbols}
-use Rattle.header_text.proofs.ReaderLemmas.{short-bytes, kept, filled-symbols, held-symbols}
+use Rattle.header_text.proofs.WordLaws.GroupLemmas.{AreSymbols}
+use Rattle.header_text.proofs.WordLaws.ReaderLemmas.{short-bytes, kept, filled-symbols, held-symbols}
 use Rattle.header_text.proofs.base64_reader.finish_text.Goals as goal
 
 pub returns-then-held-lt2 : goal.returns-then-held-lt2

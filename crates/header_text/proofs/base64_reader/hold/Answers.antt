@@ -1,5 +1,5 @@
 use Rattle.std.proofs.Common.{arith}
-use Rattle.header_text.proofs.GroupLemmas.{hold-symbols, hold-bytes}
+use Rattle.header_text.proofs.WordLaws.GroupLemmas.{hold-symbols, hold-bytes}
 use Rattle.header_text.proofs.base64_reader.hold.Goals as goal
 
 pub decode_groups-requires-clause-symbols : goal.decode_groups-requires-clause-symbols

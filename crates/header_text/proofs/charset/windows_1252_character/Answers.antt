@@ -1,6 +1,6 @@
 use Rattle.std.proofs.Common.{refl}
 use Rattle.header_text.specs.Charsets.{windows_1252_upper}
-use Rattle.header_text.proofs.CharsetLemmas.{small-at}
+use Rattle.header_text.proofs.WordLaws.CharsetLemmas.{small-at}
 use Rattle.header_text.proofs.charset.windows_1252_character.Goals as goal
 
 pub returns-in-128-to-159-clause-small : goal.returns-in-128-to-159-clause-small

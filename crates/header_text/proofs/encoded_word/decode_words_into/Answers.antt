@@ -2,7 +2,7 @@ use Rattle.std.proofs.Common.{◌∙◌, ◌++◌, List, ℕ, sym, ap, arith}
 use Rattle.std.specs.Prelude.{string_bytes}
 use Rattle.header_text.specs.EncodedWords.{pieces}
 use Rattle.header_text.specs.Inside.ShownWords.{shown_found}
-use Rattle.header_text.proofs.DecodedLemmas.{decoded-start, decoded-step, decoded-end}
+use Rattle.header_text.proofs.WordLaws.DecodedLemmas.{decoded-start, decoded-step, decoded-end}
 use Rattle.header_text.proofs.encoded_word.decode_words_into.Goals as goal
 
 pub loop-found-init : goal.loop-found-init

@@ -1,7 +1,7 @@
 use Rattle.std.proofs.Common.{◌≡◌, ◌≤◌, ◌+◌, ◌*◌, ◌++◌, length}
 use Rattle.std.specs.Prelude.{string_bytes}
 use Rattle.header_text.specs.EncodedWords.{pieces, plain_text, decoded}
-use Rattle.header_text.proofs.DecodedLemmas.{words_behind}
+use Rattle.header_text.proofs.WordLaws.DecodedLemmas.{words_behind}
 use Rattle.header_text.proofs.encoded_word.decode_words_into.Given as goal
 
 -- what was written, and what comes of the rest

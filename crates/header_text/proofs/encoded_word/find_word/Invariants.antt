@@ -1,5 +1,5 @@
 use Rattle.std.proofs.Common.{length}
-use Rattle.header_text.proofs.WordLemmas.{Seen}
+use Rattle.header_text.proofs.WordLaws.WordLemmas.{Seen}
 use Rattle.header_text.proofs.encoded_word.find_word.Given as goal
 
 -- no word has begun so far

@@ -1,7 +1,7 @@
 use Rattle.std.proofs.Common.{◌∙◌, ◌++◌, ℕ, List, [], ◌∷◌, length, sym, ap, arith, length-append}
 use Rattle.header_text.specs.Escapes.{unescaped, q_bytes}
 use Rattle.header_text.proofs.CutLemmas.{IsCut, IsCut-from, Lacks-from}
-use Rattle.header_text.proofs.EscapeLemmas.{q_bytes-space, q_bytes-free, written, length-q_bytes}
+use Rattle.header_text.proofs.WordLaws.EscapeLemmas.{q_bytes-space, q_bytes-free, written, length-q_bytes}
 use Rattle.header_text.proofs.escape.decode_q_into.Goals as goal
 use Rattle.header_text.proofs.escape.decode_q_into.Goals.{In_ok-push}
 

@@ -2,7 +2,7 @@ use Rattle.std.proofs.Common.{List, ℕ, ◌-◌, ◌∙◌, length, take, ap, a
 use Rattle.header_text.specs.Blanks.{after_blanks}
 use Rattle.header_text.specs.Headers.{is_field_name_byte, named}
 use Rattle.header_text.proofs.Fronts.{length-split_while, take-split_while}
-use Rattle.header_text.proofs.HeaderLemmas.{field_of_line-fits}
+use Rattle.header_text.proofs.HeaderLaws.HeaderLemmas.{field_of_line-fits}
 use Rattle.header_text.proofs.field.field_of_line.Goals as goal
 
 pub slice_bounds-name-count : goal.slice_bounds-name-count

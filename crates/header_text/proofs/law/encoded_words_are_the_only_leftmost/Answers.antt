@@ -1,4 +1,4 @@
-use Rattle.header_text.proofs.PieceLaws.{only_leftmost}
+use Rattle.header_text.proofs.WordLaws.PieceLaws.{only_leftmost}
 use Rattle.header_text.proofs.law.encoded_words_are_the_only_leftmost.Goals as goal
 
 pub returns : goal.returns

@@ -1,7 +1,7 @@
 use Rattle.std.proofs.Common.{◌≡◌, ◌∙◌, ◌+◌, ◌-◌, ◌==◌, ℕ, List, Some, length, take, drop, slice_index, suc, refl, sym, ap, arith, add-one}
 use Rattle.std.proofs.lemmas.List.{take_rest}
 use Rattle.std.proofs.lemmas.Bool.{false_from_ne_true}
-use Rattle.header_text.proofs.IdLemmas.{after_last_open-last, after_last_open-none}
+use Rattle.header_text.proofs.HeaderLaws.IdLemmas.{after_last_open-last, after_last_open-none}
 use Rattle.header_text.proofs.message_id.after_last_open.Goals as goal
 
 pub returns-in_err-at : goal.returns-in_err-at

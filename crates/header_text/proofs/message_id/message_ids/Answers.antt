@@ -1,8 +1,8 @@
 use Rattle.std.proofs.Common.{◌≡◌, ◌∙◌, ◌++◌, ℕ, List, [], ◌∷◌, length, map, sym, ap, arith, length-append, append_assoc, append-nil}
 use Rattle.header_text.specs.Inside.Ids.{ids_in, closed_texts}
 use Rattle.header_text.proofs.CutLemmas.{IsCut, IsCut-from, Lacks-from}
-use Rattle.header_text.proofs.IdLemmas.{closed_texts-cut, closed_texts-free, ids_of-sized, ids_of-size}
-use Rattle.header_text.proofs.IdRanges.{ids_in-cons, ids_of-closed}
+use Rattle.header_text.proofs.HeaderLaws.IdLemmas.{closed_texts-cut, closed_texts-free, ids_of-sized, ids_of-size}
+use Rattle.header_text.proofs.HeaderLaws.IdRanges.{ids_in-cons, ids_of-closed}
 use Rattle.header_text.proofs.message_id.message_ids.Goals as goal
 use Rattle.header_text.proofs.message_id.message_ids.Goals.{In_ok-push_id}
 

@@ -1,5 +1,5 @@
 use Rattle.header_text.specs.Charsets.{text_of}
-use Rattle.header_text.proofs.CharacterLemmas.{text_of-single}
+use Rattle.header_text.proofs.WordLaws.CharacterLemmas.{text_of-single}
 use Rattle.header_text.proofs.text.decode_into.Goals as goal
 
 pub returns-in-Utf8-clause-text : goal.returns-in-Utf8-clause-text

@@ -3,7 +3,7 @@ use Rattle.std.specs.Prelude.{string_bytes}
 use Rattle.std.specs.Char.{encode_utf8}
 use Rattle.std.proofs.lemmas.List.{take_rest}
 use Rattle.header_text.specs.Charsets.{character}
-use Rattle.header_text.proofs.CharacterLemmas.{characters-step, IsAscii-before, IsAscii-all, length-encode_small, lossy-ascii}
+use Rattle.header_text.proofs.WordLaws.CharacterLemmas.{characters-step, IsAscii-before, IsAscii-all, length-encode_small, lossy-ascii}
 use Rattle.header_text.proofs.text.push_characters.Goals as goal
 
 pub loop-at-preserved : goal.loop-at-preserved

@@ -1,7 +1,7 @@
 use Rattle.std.proofs.Common.{arith, ap, length, length-append, refl}
 use Rattle.std.specs.Prelude.{string_bytes, encode_utf8_all}
 use Rattle.bstr.specs.Utf8.{lossy_chars}
-use Rattle.header_text.proofs.LossyBytes.{length-lossy}
+use Rattle.header_text.proofs.WordLaws.LossyBytes.{length-lossy}
 use Rattle.header_text.proofs.text.push_lossy.Goals as goal
 
 pub returns-clause-size : goal.returns-clause-size

@@ -3,8 +3,8 @@ use Rattle.header_text.specs.Blanks.{after_blanks, before_blanks}
 use Rattle.header_text.specs.Unfolding.{without_breaks, unfolded}
 use Rattle.header_text.specs.Inside.Breaks.{led, without_final_cr}
 use Rattle.header_text.proofs.CutLemmas.{IsCut, IsCut-from}
-use Rattle.header_text.proofs.UnfoldSizes.{length-unfolded}
-use Rattle.header_text.proofs.UnfoldLemmas.{unfolds-start, unfolds-line, unfolds-rest, unfolded-trimmed}
+use Rattle.header_text.proofs.HeaderLaws.UnfoldSizes.{length-unfolded}
+use Rattle.header_text.proofs.HeaderLaws.UnfoldLemmas.{unfolds-start, unfolds-line, unfolds-rest, unfolded-trimmed}
 use Rattle.header_text.proofs.unfolding.unfold_into.Goals as goal
 use Rattle.header_text.proofs.unfolding.unfold_into.Goals.{In_ok-add_part, After-trim_end}
 

@@ -1,5 +1,5 @@
 use Rattle.std.proofs.Common.{◌≡◌, length}
-use Rattle.header_text.proofs.UnfoldLemmas.{Unfolds}
+use Rattle.header_text.proofs.HeaderLaws.UnfoldLemmas.{Unfolds}
 use Rattle.header_text.proofs.unfolding.unfold_into.Given as goal
 
 -- what was written, and what comes of the rest

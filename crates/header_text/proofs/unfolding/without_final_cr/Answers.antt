@@ -1,7 +1,7 @@
 use Rattle.std.proofs.Common.{◌≡◌, ◌∙◌, ◌==◌, false, sym, ap, refl}
 use Rattle.std.proofs.lemmas.Bool.{ne_eqb}
 use Rattle.header_text.specs.Inside.Breaks.{without_final_cr}
-use Rattle.header_text.proofs.UnfoldLemmas.{without_final_cr-push}
+use Rattle.header_text.proofs.HeaderLaws.UnfoldLemmas.{without_final_cr-push}
 use Rattle.header_text.proofs.unfolding.without_final_cr.Goals as goal
 
 pub returns-in-Some : goal.returns-in-Some

@@ -9,8 +9,8 @@ use Rattle.mail_query.specs.Refusals.{query_refusal}
 use Rattle.mail_query.specs.Tokens.{tokens}
 use Rattle.mail_query.specs.BooleanGrammar.{Reads}
 use Rattle.mail_query.specs.BooleanFaults.{first_fault}
-use Rattle.mail_query.proofs.BooleanPlaces.{answer_faulty}
-use Rattle.mail_query.proofs.BooleanTrees.{answer_read}
+use Rattle.mail_query.proofs.BooleanLaws.BooleanPlaces.{answer_faulty}
+use Rattle.mail_query.proofs.BooleanLaws.BooleanTrees.{answer_read}
 use Rattle.mail_query.proofs.boolean.read_boolean.Goals as goal
 
 is_read : (text : List ℕ) (r : Result program.Query QueryFault) → Gives meaning query_refusal r (boolean_query text) → IfOk r (λ q. Reads boolean_lexicon (tokens text) (meaning q))

@@ -6,7 +6,7 @@ use Rattle.mail_query.specs.Query.{query_of}
 use Rattle.mail_query.specs.Inside.Shown.{shown}
 use Rattle.mail_query.specs.Tokens.{tokens}
 use Rattle.mail_query.specs.BooleanReading.{run_from, start}
-use Rattle.mail_query.proofs.BooleanDepth.{run_depth}
+use Rattle.mail_query.proofs.BooleanLaws.BooleanDepth.{run_depth}
 use Rattle.mail_query.proofs.boolean.read_tokens.Goals as goal
 
 pub new-requires : goal.new-requires

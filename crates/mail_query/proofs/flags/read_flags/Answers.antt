@@ -2,7 +2,7 @@ use Rattle.std.proofs.Common.{◌≡◌, ◌≤◌, ◌<◌, ◌+◌, ℕ, lengt
 use Rattle.std.proofs.lemmas.Bool.Decides.{nat_tests}
 use Rattle.mail_query.specs.declared.node.Node as node
 use Rattle.mail_query.proofs.NodeLemmas.{query_of-Flag}
-use Rattle.mail_query.proofs.FlagLemmas.{HasRead, reads_letter, dash_read, dash_refused, no_letter, refused, refused_at_end, asked_all}
+use Rattle.mail_query.proofs.MairixLaws.FlagLemmas.{HasRead, reads_letter, dash_read, dash_refused, no_letter, refused, refused_at_end, asked_all}
 use Rattle.mail_query.proofs.flags.read_flags.Goals as goal
 use Rattle.mail_query.proofs.flags.read_flags.Goals.{then-letter-eq45+else-not-wanted, else-letter-eq45+in-Some+in_ok-push, then-not-wanted-2-via-then-not-wanted-2, then-not-wanted-2-via-else-not-wanted-2+then-is_empty}
 

@@ -1,4 +1,4 @@
-use Rattle.mail_query.proofs.FlagLemmas.{HasRead}
+use Rattle.mail_query.proofs.MairixLaws.FlagLemmas.{HasRead}
 use Rattle.mail_query.proofs.flags.read_flags.Given as goal
 
 abbrev pub invariant-loop-letter : goal.invariant-loop-letter

@@ -1,5 +1,5 @@
-use Rattle.mail_query.proofs.BooleanComplete.{reading_answered}
-use Rattle.mail_query.proofs.BooleanTrees.{answer_read}
+use Rattle.mail_query.proofs.BooleanLaws.BooleanComplete.{reading_answered}
+use Rattle.mail_query.proofs.BooleanLaws.BooleanTrees.{answer_read}
 use Rattle.mail_query.proofs.laws.the_answer_is_what_is_read.Goals as goal
 
 pub returns : goal.returns

@@ -1,4 +1,4 @@
-use Rattle.mail_query.proofs.BooleanPlaces.{fault_answered, answer_faulty}
+use Rattle.mail_query.proofs.BooleanLaws.BooleanPlaces.{fault_answered, answer_faulty}
 use Rattle.mail_query.proofs.laws.the_refusal_is_the_first_fault.Goals as goal
 
 pub returns : goal.returns

@@ -1,4 +1,4 @@
-use Rattle.mail_query.proofs.BooleanPlaces.{read_faultless}
+use Rattle.mail_query.proofs.BooleanLaws.BooleanPlaces.{read_faultless}
 use Rattle.mail_query.proofs.laws.what_is_read_shows_no_fault.Goals as goal
 
 pub returns : goal.returns

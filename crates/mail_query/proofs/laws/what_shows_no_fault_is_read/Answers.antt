@@ -1,4 +1,4 @@
-use Rattle.mail_query.proofs.BooleanPlaces.{faultless_read}
+use Rattle.mail_query.proofs.BooleanLaws.BooleanPlaces.{faultless_read}
 use Rattle.mail_query.proofs.laws.what_shows_no_fault_is_read.Goals as goal
 
 pub returns : goal.returns

@@ -1,4 +1,4 @@
-use Rattle.mail_query.proofs.PlainWords.{mail_plain}
+use Rattle.mail_query.proofs.MairixLaws.PlainWords.{mail_plain}
 use Rattle.mail_query.proofs.laws.words_of_mail_have_no_signs.Goals as goal
 
 pub returns : goal.returns

@@ -9,8 +9,8 @@ use Rattle.mail_query.specs.MairixGrammar.{IsAsked}
 use Rattle.mail_query.specs.Meaning.{meaning}
 use Rattle.mail_query.specs.Query.{Query}
 use Rattle.mail_query.specs.Refusals.{query_refusal}
-use Rattle.mail_query.proofs.MairixLaws.{patterns_of_mail, refused_of_mail}
-use Rattle.mail_query.proofs.PatternLemmas.{texts_utf8}
+use Rattle.mail_query.proofs.MairixLaws.PatternGrammarLemmas.{patterns_of_mail, refused_of_mail}
+use Rattle.mail_query.proofs.MairixLaws.PatternLemmas.{texts_utf8}
 use Rattle.mail_query.proofs.mairix.read_mairix.Goals as goal
 
 module _ (patterns : List (List ℕ)) (now : ℕ) (utf8 : All IsUtf8 patterns) where

@@ -4,8 +4,8 @@ use Rattle.std.proofs.lemmas.Bool.Decides.{nat_tests}
 use Rattle.mail_query.specs.Query.{depth, queries_of, all_of}
 use Rattle.mail_query.specs.Mairix.{pattern_query, patterns_query}
 use Rattle.mail_query.specs.Mail.{pattern_lexicon}
-use Rattle.mail_query.proofs.PatternLemmas.{reads_none, reads_more, reads_all, refuses, numbered_refusal, pattern_here}
-use Rattle.mail_query.proofs.DepthLemmas.{patterns_depth}
+use Rattle.mail_query.proofs.MairixLaws.PatternLemmas.{reads_none, reads_more, reads_all, refuses, numbered_refusal, pattern_here}
+use Rattle.mail_query.proofs.MairixLaws.DepthLemmas.{patterns_depth}
 use Rattle.mail_query.proofs.mairix.read_patterns.Goals as goal
 
 pub loop-i-init : goal.loop-i-init

@@ -1,5 +1,5 @@
 use Rattle.std.proofs.Common.{sym, ◌∙◌}
-use Rattle.mail_query.proofs.SizeLemmas.{size_of-letter, size_of-digits, size_of-nothing}
+use Rattle.mail_query.proofs.MairixLaws.SizeLemmas.{size_of-letter, size_of-digits, size_of-nothing}
 use Rattle.mail_query.proofs.size.size_of.Goals as goal
 use Rattle.mail_query.proofs.size.size_of.Goals.{in-Some+in_default-factor_of, in_default}
 

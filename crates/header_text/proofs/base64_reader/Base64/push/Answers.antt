@@ -1,6 +1,6 @@
 use Rattle.std.proofs.Common.{sym}
 use Rattle.header_text.specs.Symbols.{symbols_of}
-use Rattle.header_text.proofs.ReaderLemmas.{read-ended, read-on, held-symbols}
+use Rattle.header_text.proofs.WordLaws.ReaderLemmas.{read-ended, read-on, held-symbols}
 use Rattle.header_text.proofs.base64_reader.Base64.push.Goals as goal
 
 pub returns-in_ok-self-in-Some : goal.returns-in_ok-self-in-Some

@@ -1,5 +1,5 @@
 use Rattle.std.proofs.Common.{true, false, refl}
-use Rattle.header_text.proofs.CharsetLemmas.{charset_of-chosen}
+use Rattle.header_text.proofs.WordLaws.CharsetLemmas.{charset_of-chosen}
 use Rattle.header_text.proofs.charset.Charset.of.Goals as goal
 
 pub returns-then-is_utf8 : goal.returns-then-is_utf8

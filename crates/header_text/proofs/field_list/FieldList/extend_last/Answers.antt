@@ -1,7 +1,7 @@
 use Rattle.std.proofs.Common.{◌≡◌, ◌∙◌, ◌<◌, ◌==◌, ℕ, zero, suc, false, List, sym, ap, subst, arith}
 use Rattle.header_text.specs.Headers.{HeaderField}
 use Rattle.header_text.specs.OpenFields.{onto_last}
-use Rattle.header_text.proofs.PlaceLemmas.{AreKept-more, fields_at-append}
+use Rattle.header_text.proofs.HeaderLaws.PlaceLemmas.{AreKept-more, fields_at-append}
 use Rattle.header_text.proofs.field_list.FieldList.extend_last.Goals as goal
 
 not_zero : (n : ℕ) → (n == 0) ≡ false → 0 < n

@@ -1,7 +1,7 @@
 use Rattle.std.proofs.Common.{List, ◌∷◌, length, subst}
 use Rattle.header_text.specs.declared.field_list.FieldPlace.{FieldPlace}
 use Rattle.header_text.specs.Inside.Places.{AreInOrder}
-use Rattle.header_text.proofs.PlaceLemmas.{next_start-le}
+use Rattle.header_text.proofs.HeaderLaws.PlaceLemmas.{next_start-le}
 use Rattle.header_text.proofs.field_list.FieldsIterator.next.Goals as goal
 
 pub field_at-field-requires-clause-within : goal.field_at-field-requires-clause-within

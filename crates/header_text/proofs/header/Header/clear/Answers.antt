@@ -1,4 +1,4 @@
-use Rattle.header_text.proofs.PushLemmas.{holds-new}
+use Rattle.header_text.proofs.HeaderLaws.PushLemmas.{holds-new}
 use Rattle.header_text.proofs.header.Header.clear.Goals as goal
 
 pub returns : goal.returns

@@ -1,8 +1,8 @@
 use Rattle.std.proofs.Common.{◌≡◌, refl, sym, arith}
 use Rattle.header_text.specs.Stages.{stage_behind}
 use Rattle.header_text.specs.declared.header.Stage.TheVariants.{Open, Full, Ended}
-use Rattle.header_text.proofs.HeaderLemmas.{fields_size-with}
-use Rattle.header_text.proofs.PushLemmas.{holds-counted, holds-skipped, holds-ended, has_empty-ended, never_ended, taken-next_ended, taken-next_more, room-open}
+use Rattle.header_text.proofs.HeaderLaws.HeaderLemmas.{fields_size-with}
+use Rattle.header_text.proofs.HeaderLaws.PushLemmas.{holds-counted, holds-skipped, holds-ended, has_empty-ended, never_ended, taken-next_ended, taken-next_more, room-open}
 use Rattle.header_text.proofs.header.Header.push_line.Goals as goal
 
 pub returns-in-Ended-clause-lines : goal.returns-in-Ended-clause-lines

@@ -1,4 +1,4 @@
-use Rattle.mail_query.proofs.StackLemmas.{open_here, none_open}
+use Rattle.mail_query.proofs.BooleanLaws.StackLemmas.{open_here, none_open}
 use Rattle.mail_query.proofs.boolean.reader.has_open.Goals as goal
 
 pub returns-in-ForClose : goal.returns-in-ForClose

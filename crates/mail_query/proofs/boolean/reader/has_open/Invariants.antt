@@ -1,5 +1,5 @@
 use Rattle.std.proofs.Common.{◌≡◌, drop}
-use Rattle.mail_query.proofs.StackLemmas.{has_open_code}
+use Rattle.mail_query.proofs.BooleanLaws.StackLemmas.{has_open_code}
 use Rattle.mail_query.proofs.boolean.reader.has_open.Given as goal
 
 abbrev pub invariant-all : goal.invariant-all

@@ -2,7 +2,7 @@ use Rattle.std.proofs.Common.{ap, sym}
 use Rattle.std.specs.List.{IsLastAndRest}
 use Rattle.mail_query.specs.declared.boolean.reader.Waiting.TheVariants as waiting
 use Rattle.mail_query.specs.Inside.Shown.{shown_level, shown_waiting}
-use Rattle.mail_query.proofs.StackLemmas.{negated_last, open_last}
+use Rattle.mail_query.proofs.BooleanLaws.StackLemmas.{negated_last, open_last}
 use Rattle.mail_query.proofs.boolean.reader.is_negated.Goals as goal
 
 pub returns-in-ForNot : goal.returns-in-ForNot

@@ -4,7 +4,7 @@ use Rattle.mail_query.specs.Query.{Query, Not, query_of}
 use Rattle.mail_query.specs.Inside.Shown.{shown_level, shown_stack}
 use Rattle.mail_query.specs.BooleanReading.{placed, is_negated}
 use Rattle.mail_query.proofs.NodeLemmas.{query_of-Not}
-use Rattle.mail_query.proofs.StackLemmas.{placed-not}
+use Rattle.mail_query.proofs.BooleanLaws.StackLemmas.{placed-not}
 use Rattle.mail_query.proofs.boolean.reader.placed.Goals as goal
 
 pub nots-preserved : goal.nots-preserved

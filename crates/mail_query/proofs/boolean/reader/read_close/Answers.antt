@@ -2,7 +2,7 @@ use Rattle.std.proofs.Common.{Ok, ap, sym, ◌∙◌}
 use Rattle.mail_query.specs.Query.{Query}
 use Rattle.mail_query.specs.Inside.Shown.{shown_level, shown_stack}
 use Rattle.mail_query.specs.BooleanReading.{placed}
-use Rattle.mail_query.proofs.StackLemmas.{pops-close, pops-not}
+use Rattle.mail_query.proofs.BooleanLaws.StackLemmas.{pops-close, pops-not}
 use Rattle.mail_query.proofs.boolean.reader.read_close.Goals as goal
 
 pub returns-in_ok-placed-in-Some-ForClose : goal.returns-in_ok-placed-in-Some-ForClose

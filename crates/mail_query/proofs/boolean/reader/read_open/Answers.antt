@@ -2,7 +2,7 @@ use Rattle.std.proofs.Common.{◌≤◌, ◌<◌, List, length, true, Ok, ap, sy
 use Rattle.mail_query.specs.Inside.Shown.{shown, shown_level, shown_stack}
 use Rattle.mail_query.specs.BooleanReading.{Level, Waiting, ForClose, State, empty_level}
 use Rattle.mail_query.specs.declared.boolean.reader.Waiting.TheVariants as waiting
-use Rattle.mail_query.proofs.StackLemmas.{deeper-full, deeper-room, length-shown_stack, shown_stack-push}
+use Rattle.mail_query.proofs.BooleanLaws.StackLemmas.{deeper-full, deeper-room, length-shown_stack, shown_stack-push}
 use Rattle.mail_query.proofs.boolean.reader.read_open.Goals as goal
 
 pub returns-then-len-ge-MOST_WAITING : goal.returns-then-len-ge-MOST_WAITING

@@ -1,4 +1,4 @@
-use Rattle.mail_query.proofs.TokenLemmas.{blanks_end, tokens-blanks, no_blank_left}
+use Rattle.mail_query.proofs.BooleanLaws.TokenLemmas.{blanks_end, tokens-blanks, no_blank_left}
 use Rattle.mail_query.proofs.boolean.token.behind_blanks.Goals as goal
 
 pub split_at-requires : goal.split_at-requires

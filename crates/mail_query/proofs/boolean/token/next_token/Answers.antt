@@ -1,6 +1,6 @@
 use Rattle.std.proofs.Common.{◌≡◌, ◌<◌, length, sym, ◌∙◌, arith}
 use Rattle.std.proofs.lemmas.Bool.Decides.{nat_tests}
-use Rattle.mail_query.proofs.TokenLemmas.{tokens-open, tokens-close, tokens-nothing, tokens-run, begins_run, run_end}
+use Rattle.mail_query.proofs.BooleanLaws.TokenLemmas.{tokens-open, tokens-close, tokens-nothing, tokens-run, begins_run, run_end}
 use Rattle.mail_query.proofs.boolean.token.next_token.Goals as goal
 
 pub returns-in-Some-clause-token : goal.returns-in-Some-clause-token

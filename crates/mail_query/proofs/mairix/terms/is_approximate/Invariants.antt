@@ -1,6 +1,6 @@
 use Rattle.std.proofs.Common.{◌≡◌, true, drop}
 use Rattle.mail_query.specs.Mairix.{is_approximate}
-use Rattle.mail_query.proofs.ApproximateLemmas.{approximate_behind}
+use Rattle.mail_query.proofs.MairixLaws.ApproximateLemmas.{approximate_behind}
 use Rattle.mail_query.proofs.mairix.terms.is_approximate.Given as goal
 
 abbrev pub invariant-loop-b : goal.invariant-loop-b

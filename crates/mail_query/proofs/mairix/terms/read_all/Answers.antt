@@ -9,7 +9,7 @@ use Rattle.mail_query.specs.Refusals.{kind_refusal}
 use Rattle.mail_query.specs.Pieces.{is_byte}
 use Rattle.mail_query.specs.Inside.Reading.{forms_of}
 use Rattle.mail_query.specs.Mairix.{term_query, each_read}
-use Rattle.mail_query.proofs.EachLemmas.{reads_none, reads_more, reads_no_more, reads_all, then_refused}
+use Rattle.mail_query.proofs.MairixLaws.EachLemmas.{reads_none, reads_more, reads_no_more, reads_all, then_refused}
 use Rattle.mail_query.proofs.mairix.terms.read_all.Goals as goal
 
 pub loop-part-init : goal.loop-part-init

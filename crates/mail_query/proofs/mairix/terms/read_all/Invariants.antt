@@ -3,7 +3,7 @@ use Rattle.std.specs.List.{slice_split}
 use Rattle.mail_query.specs.Pieces.{is_byte}
 use Rattle.mail_query.specs.Inside.Reading.{forms_of}
 use Rattle.mail_query.specs.Mairix.{term_query, each_read}
-use Rattle.mail_query.proofs.EachLemmas.{HasRead}
+use Rattle.mail_query.proofs.MairixLaws.EachLemmas.{HasRead}
 use Rattle.mail_query.proofs.mairix.terms.read_all.Given as goal
 
 -- those so far, and what comes of the rest

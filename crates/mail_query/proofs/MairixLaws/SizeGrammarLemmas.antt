@@ -10,8 +10,8 @@ use Rattle.mail_query.specs.Pieces.{is_byte, cut}
 use Rattle.mail_query.specs.Sizes.{size_limit, factor_of, scaled, size_of, low_of, high_of, sizes_between, sizes_of}
 use Rattle.mail_query.specs.SizeGrammar.{IsNumber, IsSize, InBytes, InUnits, IsLow, FromZero, FromSize, IsHigh, Unbounded, ToSize, IsSizes, Between}
 use Rattle.mail_query.proofs.PieceLemmas.{other_byte}
-use Rattle.mail_query.proofs.SignLemmas.{Free, any-append, cut_at, cut_is, map_some}
-use Rattle.mail_query.proofs.SizeLemmas.{size_of-letter, size_of-digits, size_of-nothing}
+use Rattle.mail_query.proofs.MairixLaws.SignLemmas.{Free, any-append, cut_at, cut_is, map_some}
+use Rattle.mail_query.proofs.MairixLaws.SizeLemmas.{size_of-letter, size_of-digits, size_of-nothing}
 
 abbrev worth : List ℕ → ℕ
 worth digits = digits_value 10 digits

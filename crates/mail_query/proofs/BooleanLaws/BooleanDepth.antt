@@ -18,7 +18,7 @@ use Rattle.mail_query.specs.Mairix.{date_query}
 use Rattle.mail_query.specs.Tokens.{Token, Open, Close, AndSign, OrSign, NotSign, Term}
 use Rattle.mail_query.specs.BooleanTerms.{Parts, parts_of, has_field, is_phrase, id_query, piece_query, word_query, field_query, parts_query}
 use Rattle.mail_query.specs.BooleanReading.{Level, Waiting, ForNot, ForClose, State, start, empty_level, with_member, noted, run_ended, each_ended, level_query, is_negated, has_open, placed, deeper, joined, parted, popped, closed, ended, cut_term_step, parts_step, term_step, step, run_from}
-use Rattle.mail_query.proofs.DepthLemmas.{AreShallow, IsShallow, depth-all_of, depth-either_of}
+use Rattle.mail_query.proofs.MairixLaws.DepthLemmas.{AreShallow, IsShallow, depth-all_of, depth-either_of}
 
 -- ---- terms have one level
 

@@ -15,10 +15,10 @@ use Rattle.mail_query.specs.Lexicon.{Lexicon}
 use Rattle.mail_query.specs.Query.{Query, Word, Part, Prefix, Date, Not, all_of, either_of}
 use Rattle.mail_query.specs.Mairix.{Forms, plain_kinds, kinds_of, is_approximate, id_forms, word_forms, each_read, word_query, part_query, prefix_query, atom_query, term_query, all_query, rest_query, date_query, size_query, flags_query, prefixed_query, pattern_query, patterns_from, patterns_query}
 use Rattle.mail_query.specs.MairixGrammar.{Separated, Alone, Before, IsAtom, WholeWord, PartOfWord, FrontOfWord, IsTerm, Wanted, Unwanted, IsAll, EachTerm, IsRest, SomeAll, IsPattern, Plain, InKinds, OfId, OfDate, OfSize, OfFlags, ArePatterns, Only, AndAlso, IsAsked, EachPattern}
-use Rattle.mail_query.proofs.KindLemmas.{read_letters}
-use Rattle.mail_query.proofs.FlagGrammarLemmas.{read_flags}
-use Rattle.mail_query.proofs.SizeGrammarLemmas.{read_sizes}
-use Rattle.mail_query.proofs.SignLemmas.{map_some, last_is, first_is, cut_is, uncut_free}
+use Rattle.mail_query.proofs.MairixLaws.KindLemmas.{read_letters}
+use Rattle.mail_query.proofs.MairixLaws.FlagGrammarLemmas.{read_flags}
+use Rattle.mail_query.proofs.MairixLaws.SizeGrammarLemmas.{read_sizes}
+use Rattle.mail_query.proofs.MairixLaws.SignLemmas.{map_some, last_is, first_is, cut_is, uncut_free}
 
 -- ---- steps that did not fail
 

@@ -10,7 +10,7 @@ use Rattle.header_text.specs.HeldLines.{Holds, taken_of}
 use Rattle.header_text.specs.declared.header.Stage.{Stage}
 use Rattle.header_text.specs.declared.header.Stage.TheVariants.{Open, Full, Ended}
 use Rattle.header_text.specs.declared.header.Taken.TheVariants.{More, Ended as HeaderEnded}
-use Rattle.header_text.proofs.HeaderLemmas.{fields_in-push, is_open_behind-push}
+use Rattle.header_text.proofs.HeaderLaws.HeaderLemmas.{fields_in-push, is_open_behind-push}
 
 -- ---- the empty line
 

@@ -7,7 +7,7 @@ use Rattle.std.proofs.lemmas.List.{length-map, get_or-map}
 use Rattle.std.proofs.lemmas.Bool.{ltb-true}
 use Rattle.header_text.specs.Ids.{is_id_byte, ids_of, ids_size}
 use Rattle.header_text.specs.Inside.Ids.{onto_first, closed_texts, after_last_open, ids_in}
-use Rattle.header_text.proofs.IdRanges.{ids_of-closed}
+use Rattle.header_text.proofs.HeaderLaws.IdRanges.{ids_of-closed}
 use Rattle.header_text.proofs.CutLemmas.{Lacks}
 
 -- ---- behind the last `<`

@@ -7,7 +7,7 @@ use Rattle.header_text.specs.Cuts.{cut_at}
 use Rattle.header_text.specs.EncodedWords.{EncodedWord, spelled, is_charset_byte, is_text_byte, is_q, is_b, is_well_formed, question, equals_sign, ◌>>=◌, word_and_later, word_at, WordAfter, Pieces, pieces, BeginsWord, NoneBegins, AreLeftmost}
 use Rattle.header_text.specs.Inside.ShownWords.{no_word, word_first}
 use Rattle.header_text.proofs.CutLemmas.{Lacks, cut_at-is}
-use Rattle.header_text.proofs.WordLemmas.{spells, spelled-append, chain, with_charset, with_encoding, with_text, with_front, in_front, pieces-none, pieces-some, word_at-equals, word_at-other, in_front-append}
+use Rattle.header_text.proofs.WordLaws.WordLemmas.{spells, spelled-append, chain, with_charset, with_encoding, with_text, with_front, in_front, pieces-none, pieces-some, word_at-equals, word_at-other, in_front-append}
 
 -- ---- a word that begins is found
 

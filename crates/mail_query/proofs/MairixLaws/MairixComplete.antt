@@ -16,10 +16,10 @@ use Rattle.mail_query.specs.Query.{Query, Not, all_of, either_of}
 use Rattle.mail_query.specs.Mairix.{Forms, plain_kinds, kinds_of, is_sign, is_id, id_forms, word_forms, some_if, each_read, atom_query, term_query, all_query, rest_query, prefixed_query, pattern_query, patterns_from, patterns_query}
 use Rattle.mail_query.specs.MairixGrammar.{is_among, kinds_named, Separated, Alone, Before, IsAtom, WholeWord, PartOfWord, FrontOfWord, IsTerm, Wanted, Unwanted, IsAll, EachTerm, IsRest, SomeAll, IsPattern, Plain, InKinds, OfId, OfDate, OfSize, OfFlags, ArePatterns, Only, AndAlso, IsAsked, EachPattern, HasNoSigns}
 use Rattle.mail_query.proofs.PieceLemmas.{other_byte, without_last-same}
-use Rattle.mail_query.proofs.KindLemmas.{letters_read}
-use Rattle.mail_query.proofs.FlagGrammarLemmas.{flags_read}
-use Rattle.mail_query.proofs.SizeGrammarLemmas.{sizes_read}
-use Rattle.mail_query.proofs.SignLemmas.{Free, any-append, any-behind, free_of, not_approximate, not_approximate-marked, split_none, split_at, first_free, cut_none, cut_at, utf8_before, utf8_behind}
+use Rattle.mail_query.proofs.MairixLaws.KindLemmas.{letters_read}
+use Rattle.mail_query.proofs.MairixLaws.FlagGrammarLemmas.{flags_read}
+use Rattle.mail_query.proofs.MairixLaws.SizeGrammarLemmas.{sizes_read}
+use Rattle.mail_query.proofs.MairixLaws.SignLemmas.{Free, any-append, any-behind, free_of, not_approximate, not_approximate-marked, split_none, split_at, first_free, cut_none, cut_at, utf8_before, utf8_behind}
 
 -- ---- texts between signs
 

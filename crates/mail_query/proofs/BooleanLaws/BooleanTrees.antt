@@ -15,7 +15,7 @@ use Rattle.mail_query.specs.Tokens.{Token, Open, Close, AndSign, OrSign, NotSign
 use Rattle.mail_query.specs.BooleanTerms.{Parts, parts_of, no_fields, has_field, with_field, is_phrase, parts_query, cut_query, term_query}
 use Rattle.mail_query.specs.BooleanGrammar.{Link, Beside, ByAnd, ByOr, Item, NotOf, Group, Leaf, Chain, Last, Then, link_tokens, item_tokens, chain_tokens, term_prefix, plain_prefix, seen_behind, item_query, chain_queries, tree_query, is_fine_item, is_fine_chain, Reads}
 use Rattle.mail_query.specs.BooleanReading.{Level, Waiting, ForNot, ForClose, State, empty_level, with_member, noted, run_ended, each_ended, level_query, is_negated, has_open, placed, deeper, joined, parted, popped, closed, ended, parts_step, term_step, step, run_from, tokens_query}
-use Rattle.mail_query.proofs.BooleanComplete.{noted-none, state, seen_at, term_fine, with_first, with_first-one, with_first-none}
+use Rattle.mail_query.proofs.BooleanLaws.BooleanComplete.{noted-none, state, seen_at, term_fine, with_first, with_first-one, with_first-none}
 
 -- ---- what was read
 

@@ -13,7 +13,7 @@ use Rattle.mail_query.specs.Tokens.{Token, Close, AndSign, OrSign}
 use Rattle.mail_query.specs.BooleanTerms.{Parts, parts_of, no_fields, has_field, is_phrase, parts_query, cut_query, term_query}
 use Rattle.mail_query.specs.BooleanGrammar.{Link, Beside, ByAnd, ByOr, Item, NotOf, Group, Leaf, Chain, Last, Then, link_tokens, item_tokens, chain_tokens, into_first, query_or_any, term_prefix, plain_prefix, item_query, chain_queries, tree_query, is_fine_item, is_fine_chain, Reads}
 use Rattle.mail_query.specs.BooleanReading.{Level, Waiting, ForNot, ForClose, State, start, empty_level, with_member, noted, run_ended, each_ended, level_query, is_negated, placed, ended, cut_term_step, parts_step, term_step, step, run_from, tokens_query}
-use Rattle.mail_query.proofs.StackLemmas.{placed-settled, deeper-room}
+use Rattle.mail_query.proofs.BooleanLaws.StackLemmas.{placed-settled, deeper-room}
 
 pub and_left : (a b : Bool) → (a && b) ≡ true → a ≡ true
 and_left true b h = refl

@@ -14,8 +14,8 @@ use Rattle.mail_query.specs.BooleanTerms.{Parts, parts_of, no_fields, has_field,
 use Rattle.mail_query.specs.BooleanGrammar.{Link, Beside, ByAnd, ByOr, Item, NotOf, Group, Leaf, Chain, Last, Then, link_tokens, item_tokens, chain_tokens, plain_prefix, seen_behind, Reads}
 use Rattle.mail_query.specs.BooleanFaults.{is_wanted, open_count, waiting_count, is_not, fields_before, needs_operator, err_of, deep_fault, operator_fault, close_fault, end_fault, first_some, parts_fault, term_fault, token_fault, first_fault_from, first_fault}
 use Rattle.mail_query.specs.BooleanReading.{Level, Waiting, ForNot, ForClose, State, empty_level, placed, noted, run_ended, each_ended, level_query, is_negated, has_open, deeper, popped, closed, ended, cut_term_step, parts_step, term_step, step, run_from, tokens_query}
-use Rattle.mail_query.proofs.BooleanComplete.{reading_answered}
-use Rattle.mail_query.proofs.BooleanTrees.{Front, Nothing, Behind, Part, Wait, WaitNot, WaitClose, nothing_read, front_tokens, last_tokens, part_tokens, spelled, seen_front, last_prefix, seen_of, wanted_of, waits_not, wanted_behind, front_wanted, is_closed, level_of, waiting_of, state_of, length-waiting_of, negated-waiting_of, Fine, reach, answer_read}
+use Rattle.mail_query.proofs.BooleanLaws.BooleanComplete.{reading_answered}
+use Rattle.mail_query.proofs.BooleanLaws.BooleanTrees.{Front, Nothing, Behind, Part, Wait, WaitNot, WaitClose, nothing_read, front_tokens, last_tokens, part_tokens, spelled, seen_front, last_prefix, seen_of, wanted_of, waits_not, wanted_behind, front_wanted, is_closed, level_of, waiting_of, state_of, length-waiting_of, negated-waiting_of, Fine, reach, answer_read}
 
 -- the tokens put behind those before, the nearest first
 abbrev behind : List Token → List Token → List Token

@@ -9,7 +9,7 @@ use Rattle.header_text.specs.Inside.Alphabet.{is_symbol}
 use Rattle.header_text.proofs.CutLemmas.{Lacks, IsCut-from, Lacks-from, split_while-lacks}
 use Rattle.std.specs.List.{filter_map}
 use Rattle.header_text.proofs.Fronts.{split_while-joined}
-use Rattle.header_text.proofs.GroupLemmas.{AreSymbols, symbol, below}
+use Rattle.header_text.proofs.WordLaws.GroupLemmas.{AreSymbols, symbol, below}
 use Rattle.std.proofs.Math.Seq.{take-append-add}
 
 -- what stands before the first `=`

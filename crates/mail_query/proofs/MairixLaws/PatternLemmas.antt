@@ -15,7 +15,7 @@ use Rattle.mail_query.specs.Query.{Query, query_of, queries_of, all_of}
 use Rattle.mail_query.specs.Refusals.{kind_refusal, query_refusal, numbered}
 use Rattle.mail_query.specs.Lexicon.{Lexicon}
 use Rattle.mail_query.specs.Mairix.{pattern_query, patterns_from, patterns_query}
-use Rattle.mail_query.proofs.EachLemmas.{queries_of-push, drop-next}
+use Rattle.mail_query.proofs.MairixLaws.EachLemmas.{queries_of-push, drop-next}
 
 module _ (lexicon : Lexicon) (patterns : List (List ℕ)) where
   -- these were read, and what comes of the rest makes the whole

@@ -9,7 +9,7 @@ use Rattle.mail_query.specs.declared.node.Node.{Node}
 use Rattle.mail_query.specs.Query.{Query, HasFlag, all_of, queries_of, query_of}
 use Rattle.mail_query.specs.Flags.{flag_of, with_flag, flags_behind, flags_of}
 use Rattle.mail_query.specs.Mairix.{flags_query}
-use Rattle.mail_query.proofs.EachLemmas.{queries_of-push}
+use Rattle.mail_query.proofs.MairixLaws.EachLemmas.{queries_of-push}
 
 -- these flags, before those to come
 abbrev pub with_flags : List Query → Option (List Query) → Option (List Query)
