@@ -13,4 +13,5 @@ pub mod PostingReadLemmas
 pub mod RecordReads
 pub mod RecordSections
 pub mod RecordWalk
+pub mod RunLemmas
 pub mod StepLemmas

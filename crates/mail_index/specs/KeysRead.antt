@@ -1,8 +1,5 @@
 -- The keys of a file, read in place.
-use Rattle.std.specs.Prelude.{◌≡◌, ℕ, ◌*◌, ◌^◌, ◌<◌, ◌≤◌, List, [], length, map, drop}
-use Rattle.std.specs.declared.cmp.Ordering.TheVariants.{Less}
-use Rattle.mail_index.specs.declared.kind.Kind.{Kind}
-use Rattle.mail_index.specs.LookUps.{lies_to, keys_of}
+use Rattle.std.specs.Prelude.{◌≡◌, ℕ, ◌*◌, ◌^◌, ◌≤◌, List, [], length, map}
 use Rattle.std.specs.List.{slice_index_or}
 use Rattle.mail_index.specs.declared.kind.Kind.TheVariants.{OwnId}
 use Rattle.mail_index.specs.Tables.{Key}
@@ -34,12 +31,3 @@ no_key = record { kind = OwnId; text = []; numbers = [] }
 
 abbrev pub key_at : List Key → ℕ → Key
 key_at keys number = slice_index_or keys number no_key
-
--- the keys of a kind from a number on
-abbrev pub keys_from : Kind → ℕ → List Key → List Key
-keys_from kind number keys = keys_of kind (drop number keys)
-
--- from that number on no key lies before those of the kind
-pub record IsInKind (kind : Kind) (number : ℕ) (keys : List Key) : Type 0 where
-  pub within : number ≤ length keys
-  pub behind : (j : ℕ) → number ≤ j → j < length keys → ¬ (lies_to kind [] (key_at keys j) ≡ Less)

@@ -1,6 +1,7 @@
 -- What a table answers of a key.
 use Rattle.std.specs.Prelude.{◌≡◌, ℕ, ◌^◌, ◌<◌, ◌≤◌, Bool, true, false, ◌&&◌, nat_eq, List, [], ◌∷◌, map, filter}
 use Rattle.std.specs.Str.{bytes_eq}
+use Rattle.std.specs.List.{starts_with}
 use Rattle.mail_index.specs.declared.kind.Kind.{Kind}
 use Rattle.mail_index.specs.Kinds.{kind_number}
 use Rattle.std.specs.declared.cmp.Ordering.{Ordering}
@@ -32,6 +33,10 @@ numbers_at kind text (k ∷ ks) = elim (is_key kind text k) [ true ↦ k.numbers
 -- the keys of a kind
 abbrev pub keys_of : Kind → List Key → List Key
 keys_of kind ks = filter (is_of_kind kind) ks
+
+-- those of them whose texts begin with this one
+abbrev pub keys_beginning : Kind → List ℕ → List Key → List Key
+keys_beginning kind text ks = filter (λ k. starts_with nat_eq k.text text) (keys_of kind ks)
 
 -- a key without its kind
 abbrev pub text_and_numbers : Key → List ℕ × List ℕ

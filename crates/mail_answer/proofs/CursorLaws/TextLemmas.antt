@@ -9,16 +9,17 @@ use Rattle.std.specs.Cmp.Lexicographic.{slice_cmp}
 use Rattle.std.specs.List.Sorted.{IsStrictlySortedBy}
 use Rattle.std.proofs.lemmas.Cmp.{nat_list_cmp_total}
 use Rattle.std.proofs.lemmas.Map.Text.{is_eq-slice_cmp}
-use Rattle.std.proofs.lemmas.Slice.Eq.{bytes_eq-Decides}
 use Rattle.std.proofs.lemmas.Bool.{and_left, and_right, and_from}
-use Rattle.std.proofs.lemmas.Bool.Decides.{same_from_decides, Decides-like}
 use Rattle.mail_index.specs.declared.kind.Kind.{Kind}
 use Rattle.mail_index.specs.Kinds.{kind_number}
 use Rattle.mail_index.specs.Tables.{Key, KeyBefore, AllNext}
 use Rattle.mail_index.specs.LookUps.{is_key, is_of_kind, lies_to, numbers_at, AreSorted, keys_of, text_and_numbers}
 use Rattle.mail_index.proofs.ViewLaws.KeyOrder.{key_less}
 use Rattle.mail_index.proofs.ViewLaws.LookUpLemmas.{key_bytes, is_key-greater}
+use Rattle.mail_index.proofs.ViewLaws.RunLemmas.{bytes_turned}
 use Rattle.mail_answer.specs.TableFacts.{is_among, texts_with}
+use Rattle.mail_answer.specs.Marks.{some_key}
+use Rattle.mail_answer.specs.Inside.CursorTexts.{any_text}
 
 -- ---- keys one after another
 
@@ -41,6 +42,19 @@ fitting_keys passes n (k ∷ ks) = go (is_among n k.numbers) (fitting_keys passe
         ≡ ((passes k.text && among) || list_any (λ key. passes key.0 && is_among n key.1) (map text_and_numbers ks))
     go true e = ap (λ (b : Bool). passes k.text || b) e ∙ sym (ap (λ (b : Bool). b || list_any (λ key. passes key.0 && is_among n key.1) (map text_and_numbers ks)) (and_true (passes k.text)))
     go false e = e ∙ sym (ap (λ (b : Bool). b || list_any (λ key. passes key.0 && is_among n key.1) (map text_and_numbers ks)) (and_false (passes k.text)))
+
+-- of the keys that pass each has a text that does
+pub kept_keys : (passes : List ℕ → Bool) (n : ℕ) (ks : List Key) → some_key passes n (map text_and_numbers ks) ≡ some_key any_text n (map text_and_numbers (filter (λ k. passes k.text) ks))
+kept_keys passes n [] = refl
+kept_keys passes n (k ∷ ks) = go (passes k.text) (kept_keys passes n ks)
+  where
+    kept : List Key
+    kept = filter (λ key. passes key.text) ks
+
+    go : (b : Bool) → some_key passes n (map text_and_numbers ks) ≡ some_key any_text n (map text_and_numbers kept)
+        → ((b && is_among n k.numbers) || some_key passes n (map text_and_numbers ks)) ≡ some_key any_text n (map text_and_numbers (cond b (k ∷ kept) kept))
+    go true e = ap (λ (x : Bool). is_among n k.numbers || x) e
+    go false e = e
 
 -- ---- one key looked up
 
@@ -73,9 +87,6 @@ no_second kind text k (other ∷ ks) this later =
     let here : slice_cmp nat_cmp wanted (key_bytes other) ≡ Less = sym (nat_list_cmp_total.congr (key_bytes k) wanted (key_bytes other) same) ∙ later.0 in
     let greater : lies_to kind text other ≡ Greater = nat_list_cmp_total.antisymm (key_bytes other) wanted ∙ ap ordering_reverse here in
     rw (is_key-greater kind text other greater, numbers_at) (no_second kind text k ks this later.1)
-
-bytes_turned : (xs ys : List ℕ) → bytes_eq xs ys ≡ bytes_eq ys xs
-bytes_turned xs ys = same_from_decides (bytes_eq xs ys) (bytes_eq ys xs) (bytes_eq-Decides xs ys) (Decides-like (bytes_eq ys xs) sym sym (bytes_eq-Decides ys xs))
 
 -- a key more: of another kind, of this kind without the number, or with it
 skipped : (kind : Kind) (n : ℕ) (k : Key) (ks : List Key) → is_of_kind kind k ≡ false → texts_with kind n (k ∷ ks) ≡ texts_with kind n ks

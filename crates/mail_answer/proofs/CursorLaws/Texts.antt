@@ -4,24 +4,21 @@ use Rattle.std.specs.Prelude.{bytes_eq}
 use Rattle.std.specs.List.{list_any, filter, AllByRecursion}
 use Rattle.std.proofs.Math.Nat.{add-mul, suc-mul}
 use Rattle.std.proofs.lemmas.List.{drop_more}
-use Rattle.std.proofs.lemmas.Slice.Eq.{bytes_eq-Decides}
-use Rattle.std.proofs.lemmas.Bool.Decides.{same_from_decides, Decides-like}
 use Rattle.mail_words.specs.declared.kind.TextKind.{TextKind}
 use Rattle.mail_index.specs.declared.kind.Kind.{Kind}
 use Rattle.mail_index.specs.declared.kind.Kind.TheVariants.{Text, OwnId}
 use Rattle.mail_index.specs.Tables.{Key, Table, IsKey, IsWellFormed}
-use Rattle.mail_index.specs.LookUps.{is_key, is_of_kind, numbers_at, keys_of, text_and_numbers, TakesDigits}
+use Rattle.mail_index.specs.LookUps.{is_key, is_of_kind, numbers_at, keys_of, keys_beginning, text_and_numbers, TakesDigits}
+use Rattle.mail_index.proofs.ViewLaws.RunLemmas.{bytes_turned}
 use Rattle.mail_query.specs.declared.kinds.Kinds.{Kinds}
 use Rattle.mail_query.specs.Kinds.{has_kind}
-use Rattle.mail_query.specs.Truth.{some_word, text_kinds}
-use Rattle.mail_answer.specs.declared.cursor.fit.Fit.{Fit}
-use Rattle.mail_answer.specs.declared.cursor.fit.Fit.TheVariants.{Whole, Within, Front}
+use Rattle.mail_query.specs.Truth.{some_word, begins_with, text_kinds}
 use Rattle.mail_answer.specs.TableFacts.{is_among, texts_with, facts_at}
 use Rattle.mail_answer.specs.Marks.{truth_at}
 use Rattle.mail_answer.specs.Cursors.{is_in, kinds_in, numbers_of_keys, numbers_named, LooksUp}
 use Rattle.mail_answer.specs.CursorAhead.{Ahead, left_in}
 use Rattle.mail_answer.specs.Inside.CursorLists.{AreNumbers, truths_among}
-use Rattle.mail_answer.specs.Inside.CursorTexts.{some_has, Joins, HaveNumbers, numbers_passing, numbers_fitting, some_of_kinds, looked_up_by}
+use Rattle.mail_answer.specs.Inside.CursorTexts.{some_has, Joins, HaveNumbers, numbers_passing, numbers_fitting, some_of_kinds, any_text}
 use Rattle.mail_answer.proofs.CursorLaws.Lists.{among-at, past_all}
 use Rattle.mail_answer.proofs.CursorLaws.Members.{some-append}
 
@@ -69,6 +66,22 @@ kind_numbers version count kind (k ∷ ks) all = go (is_of_kind kind k) (kind_nu
     go true rest = (record { rises = all.0.rises; below = all.0.below }, rest)
     go false rest = rest
 
+kept_numbers : (count : ℕ) (passes : List ℕ → Bool) (ks : List Key) → HaveNumbers count (map text_and_numbers ks) → HaveNumbers count (map text_and_numbers (filter (λ k. passes k.text) ks))
+kept_numbers count passes [] all = tt
+kept_numbers count passes (k ∷ ks) all = go (passes k.text) (kept_numbers count passes ks all.1)
+  where
+    kept : List Key
+    kept = filter (λ key. passes key.text) ks
+
+    go : (b : Bool) → HaveNumbers count (map text_and_numbers kept) → HaveNumbers count (map text_and_numbers (cond b (k ∷ kept) kept))
+    go true rest = (all.0, rest)
+    go false rest = rest
+
+pub beginning_numbers : (t : Table) (kind : Kind) (text : List ℕ) (keys : List (List ℕ × List ℕ)) → IsWellFormed t → keys ≡ map text_and_numbers (keys_beginning kind text t.keys)
+    → HaveNumbers (length t.messages) keys
+beginning_numbers t kind text keys well is =
+    subst (HaveNumbers (length t.messages)) (sym is) (kept_numbers (length t.messages) (begins_with text) (keys_of kind t.keys) (kind_numbers t.version (length t.messages) kind t.keys well.keys))
+
 pub keys_numbers : (t : Table) (kind : Kind) (keys : List (List ℕ × List ℕ)) → IsWellFormed t → keys ≡ map text_and_numbers (keys_of kind t.keys) → HaveNumbers (length t.messages) keys
 keys_numbers t kind keys well is = subst (HaveNumbers (length t.messages)) (sym is) (kind_numbers t.version (length t.messages) kind t.keys well.keys)
 
@@ -92,8 +105,9 @@ fitting_left passes (k ∷ ks) = go (passes k.text) (fitting_left passes ks)
     go true rest = omega (arith, rest)
     go false rest = omega (arith, rest)
 
-bytes_turned : (xs ys : List ℕ) → bytes_eq xs ys ≡ bytes_eq ys xs
-bytes_turned xs ys = same_from_decides (bytes_eq xs ys) (bytes_eq ys xs) (bytes_eq-Decides xs ys) (Decides-like (bytes_eq ys xs) sym sym (bytes_eq-Decides ys xs))
+pub all_left : (ks : List Key) → numbers_passing any_text (map text_and_numbers ks) ≡ numbers_of_keys ks
+all_left [] = refl
+all_left (k ∷ ks) = ap (λ (n : ℕ). length k.numbers + n) (all_left ks)
 
 -- the list of a look-up is one of those that are named
 pub found_left : (kind : Kind) (text : List ℕ) (ks : List Key) → length (numbers_at kind text ks) ≤ numbers_fitting (bytes_eq text) ks kind
@@ -153,14 +167,6 @@ looks_up_digits keys old new few takes =
 
 pub looks_up_none : (keys steps : ℕ) → LooksUp keys 0 steps steps
 looks_up_none keys steps = record { rises = omega arith; most = λ digits lt. omega arith }
-
-pub looked_up_by-others : (fit : Fit) → (fit ≡ Whole → ⊥) → looked_up_by fit ≡ 0
-looked_up_by-others Whole other = absurd (other refl)
-looked_up_by-others Within other = refl
-looked_up_by-others Front other = refl
-
-pub looks_up_others : (keys steps : ℕ) (fit : Fit) → (fit ≡ Whole → ⊥) → LooksUp keys (looked_up_by fit) steps steps
-looks_up_others keys steps fit other = subst (λ (n : ℕ). LooksUp keys n steps steps) (sym (looked_up_by-others fit other)) (looks_up_none keys steps)
 
 -- the walks so far, and those of the kinds to come
 pub record HaveKinds (passes : List ℕ → Bool) (keys : List Key) (each_kind : ℕ) (all coming : List Kind) (old new : List Ahead) (steps_old steps_new : ℕ) : Type 0 where

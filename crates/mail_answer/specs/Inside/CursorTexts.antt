@@ -1,5 +1,5 @@
 -- Walks along posting lists while they are gathered.
-use Rattle.std.specs.Prelude.{◌≡◌, ℕ, ◌+◌, ◌≤◌, Bool, false, ◌||◌, cond, List, [], ◌∷◌, length, filter}
+use Rattle.std.specs.Prelude.{◌≡◌, ℕ, ◌+◌, ◌≤◌, Bool, true, false, ◌||◌, cond, List, [], ◌∷◌, length, filter}
 use Rattle.std.specs.List.{list_any, AllByRecursion}
 use Rattle.mail_index.specs.declared.kind.Kind.{Kind}
 use Rattle.mail_index.specs.Tables.{Key}
@@ -21,6 +21,10 @@ some_has m (w ∷ ws) = truth_at w.truths m || some_has m ws
 pub record Joins (test : ℕ → Bool) (most : ℕ) (old new : List Ahead) : Type 0 where
   pub each : (m : ℕ) → some_has m new ≡ (some_has m old || test m)
   pub left : left_in new ≤ left_in old + most
+
+-- each text passes
+abbrev pub any_text : List ℕ → Bool
+any_text text = true
 
 -- how long the lists of those keys are together whose texts pass
 abbrev pub numbers_passing : (List ℕ → Bool) → List (List ℕ × List ℕ) → ℕ

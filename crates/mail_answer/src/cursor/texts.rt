@@ -2,12 +2,12 @@
 ghost use Rattle.std.specs.Prelude.{◌≡◌, ◌≤◌, ◌<◌, ◌+◌, ◌*◌, ◌^◌, ℕ, length, IfOk};
 ghost use Rattle.std.specs.List.{list_any};
 ghost use Rattle.mail_index.specs.Tables.{IsWellFormed};
-ghost use Rattle.mail_query.specs.Truth.{some_word};
+ghost use Rattle.mail_query.specs.Truth.{contains_text, some_word};
 ghost use Rattle.mail_answer.specs.TableFacts.{texts_with, is_among, facts_at};
 ghost use Rattle.mail_answer.specs.Marks.{fits, some_key, truth_at};
 ghost use Rattle.mail_answer.specs.Cursors.{numbers_named, kinds_in, is_in, LooksUp};
 ghost use Rattle.mail_answer.specs.Inside.CursorLists.{AreNumbers};
-ghost use Rattle.mail_answer.specs.Inside.CursorTexts.{Joins, HaveNumbers, numbers_passing, numbers_fitting, some_of_kinds, looked_up_by};
+ghost use Rattle.mail_answer.specs.Inside.CursorTexts.{any_text, Joins, HaveNumbers, numbers_passing, numbers_fitting, some_of_kinds, looked_up_by};
 
 use crate::cursor::fit::Fit;
 use crate::cursor::listed::Listed;
@@ -15,6 +15,7 @@ use crate::cursor::walk::Walk;
 use mail_index::{IndexView, Keys, Kind, Postings, Steps};
 use mail_query::{Kinds, QueryText};
 use mail_words::TextKind;
+use memchr::memmem;
 use std::alloc::{AllocError, Global};
 
 /// The kinds that a query may name.
@@ -53,19 +54,40 @@ fn push_list<'a>(
     Ok(())
 }
 
-/// Adds the lists of those keys in which the text lies so.
-fn push_fitting<'a>(
+/// Adds the lists of all these keys.
+fn push_all<'a>(
     members: &mut Vec<Listed<'a>>,
     count: u32,
     mut keys: Keys<'a>,
-    fit: Fit,
+) -> Result<(), AllocError>
+    requires { HaveNumbers count keys }
+    ensures { IfOk result (λ _. Joins (λ n. some_key any_text n keys.entry) (numbers_passing any_text keys.entry) members.old.items members.new.items) }
+{
+    while let Some(key) = keys.next() {
+        push_list(members, count, key.postings)?;
+    }
+    Ok(())
+}
+
+/// Whether the text stands somewhere in the key.
+fn has_within(key: &[u8], text: &[u8]) -> bool
+    ensures { result ≡ contains_text text.now key.now }
+{
+    memmem::find(key, text).is_some()
+}
+
+/// Adds the lists of those keys in which the text stands somewhere.
+fn push_containing<'a>(
+    members: &mut Vec<Listed<'a>>,
+    count: u32,
+    mut keys: Keys<'a>,
     text: &[u8],
 ) -> Result<(), AllocError>
     requires { HaveNumbers count keys }
-    ensures { IfOk result (λ _. Joins (λ n. some_key (fits fit text.now) n keys.entry) (numbers_passing (fits fit text.now) keys.entry) members.old.items members.new.items) }
+    ensures { IfOk result (λ _. Joins (λ n. some_key (contains_text text.now) n keys.entry) (numbers_passing (contains_text text.now) keys.entry) members.old.items members.new.items) }
 {
     while let Some(key) = keys.next() {
-        if fit.has(text, key.text) {
+        if has_within(key.text, text) {
             push_list(members, count, key.postings)?;
         }
     }
@@ -85,12 +107,11 @@ fn push_kind<'a>(
     ensures joins { IfOk result (λ _. Joins (λ n. list_any (fits fit text.now) (texts_with kind n index.now.keys)) (numbers_fitting (fits fit text.now) index.now.keys kind) members.old.items members.new.items) }
     ensures steps { LooksUp (length index.now.keys) (looked_up_by fit) steps.old steps.new }
 {
+    let count = index.message_count();
     match fit {
-        Fit::Whole => {
-            let postings = index.look_up(kind, text, steps);
-            push_list(members, index.message_count(), postings)
-        }
-        _ => push_fitting(members, index.message_count(), index.keys(kind), fit, text),
+        Fit::Whole => push_list(members, count, index.look_up(kind, text, steps)),
+        Fit::Within => push_containing(members, count, index.keys(kind), text),
+        Fit::Front => push_all(members, count, index.keys_beginning(kind, text)),
     }
 }
 

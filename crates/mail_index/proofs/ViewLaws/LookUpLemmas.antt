@@ -1,22 +1,20 @@
 -- A key looked up among sorted ones.
-use Rattle.std.proofs.Common.{◌≡◌, ◌∙◌, ℕ, zero, suc, ◌-◌, ◌*◌, ◌^◌, ◌<◌, ◌≤◌, Bool, true, false, List, [], ◌∷◌, ◌/◌, length, map, drop, get_or, refl, sym, ap, ap₂, arith}
+use Rattle.std.proofs.Common.{◌≡◌, ◌∙◌, ℕ, zero, suc, ◌-◌, ◌*◌, ◌^◌, ◌<◌, ◌≤◌, Bool, true, false, List, [], ◌∷◌, ◌/◌, length, map, get_or, refl, sym, ap, ap₂, arith}
 use Rattle.std.specs.Prelude.{nat_eq}
 use Rattle.std.specs.declared.cmp.Ordering.{Ordering}
 use Rattle.std.specs.declared.cmp.Ordering.TheVariants.{Less, Equal, Greater}
-use Rattle.std.specs.Ordering.{nat_cmp, is_eq, ordering_reverse, ordering_then}
+use Rattle.std.specs.Ordering.{nat_cmp, is_eq, ordering_reverse}
 use Rattle.std.specs.Cmp.Lexicographic.{slice_cmp}
 use Rattle.std.proofs.lemmas.List.{length-map, get_or-map}
 use Rattle.std.proofs.lemmas.Bool.Decides.{nat_tests}
 use Rattle.std.proofs.Math.Nat.{pow-suc}
-use Rattle.std.proofs.lemmas.Cmp.{nat_list_cmp_total, ranked}
-use Rattle.std.specs.List.{AllByRecursion}
-use Rattle.std.specs.List.Sorted.{IsStrictlySortedBy}
+use Rattle.std.proofs.lemmas.Cmp.{nat_list_cmp_total}
 use Rattle.std.proofs.lemmas.Map.Text.{is_eq-slice_cmp}
 use Rattle.std.proofs.lemmas.Map.Keys.{Less-from_sorted}
 use Rattle.mail_index.specs.declared.kind.Kind.{Kind}
 use Rattle.mail_index.specs.Kinds.{kind_number}
 use Rattle.mail_index.specs.Tables.{Key}
-use Rattle.mail_index.specs.LookUps.{is_key, is_of_kind, lies_to, numbers_at, AreSorted, keys_of}
+use Rattle.mail_index.specs.LookUps.{is_key, lies_to, numbers_at, AreSorted}
 
 -- a key's bytes, by which keys are sorted
 abbrev pub key_bytes : Key → List ℕ
@@ -135,73 +133,3 @@ numbers_at-met kind text ks m d sorted within equal =
     sym (nat_list_cmp_total.congr (key_bytes (get_or ks m d)) wanted (key_bytes (get_or ks j d)) equal)
     ∙ nat_list_cmp_total.antisymm (key_bytes (get_or ks m d)) (key_bytes (get_or ks j d)) ∙ ap ordering_reverse here in
     nat_list_cmp_total.antisymm (key_bytes (get_or ks j d)) wanted ∙ ap ordering_reverse behind) equal
-
--- those behind one that doesn't lie before a key don't either
-pub behind-others : (kind : Kind) (text : List ℕ) (ks : List Key) (d : Key) (m j : ℕ) → AreSorted ks → ¬ (lies_to kind text (get_or ks m d) ≡ Less) → m ≤ j → j < length ks
-    → ¬ (lies_to kind text (get_or ks j d) ≡ Less)
-behind-others kind text ks d m j sorted none le within less =
-    none (before-less kind text ks d j m sorted within less (omega (arith, le)))
-
--- ---- the keys of a kind
-
--- a key before all keys of a kind is not of it
-pub before-kind : (kind : Kind) (k : Key) → lies_to kind [] k ≡ Less → is_of_kind kind k ≡ false
-before-kind kind k h = go (nat_cmp (kind_number k.kind) (kind_number kind)) refl h
-  where
-    over : (text : List ℕ) → slice_cmp nat_cmp text [] ≡ Less → ⊥
-    over [] e = absurd cc
-    over (b ∷ text) e = absurd cc
-
-    go : (o : Ordering) → nat_cmp (kind_number k.kind) (kind_number kind) ≡ o → ordering_then o (slice_cmp nat_cmp k.text []) ≡ Less → is_of_kind kind k ≡ false
-    go Less e less = let lower : kind_number k.kind < kind_number kind = ranked (kind_number k.kind) (kind_number kind) Less (sym e) in grind (arith, nat_tests)
-    go Equal e less = absurd (over k.text less)
-    go Greater e less = absurd cc
-
--- and one that is neither before them nor of the kind has a greater kind
-pub past-kind : (kind : Kind) (k : Key) → ¬ (lies_to kind [] k ≡ Less) → is_of_kind kind k ≡ false → kind_number kind < kind_number k.kind
-past-kind kind k none other = go (nat_cmp (kind_number k.kind) (kind_number kind)) refl
-  where
-    go : (o : Ordering) → nat_cmp (kind_number k.kind) (kind_number kind) ≡ o → kind_number kind < kind_number k.kind
-    go Less e = absurd (none (ap (λ o. ordering_then o (slice_cmp nat_cmp k.text [])) e))
-    go Equal e = let same : kind_number k.kind ≡ kind_number kind = ranked (kind_number k.kind) (kind_number kind) Equal (sym e) in absurd (grind (arith, nat_tests, other, same))
-    go Greater e = ranked (kind_number k.kind) (kind_number kind) Greater (sym e)
-
--- a key behind another has no smaller kind
-rising-kinds : (a b : Key) → slice_cmp nat_cmp (key_bytes a) (key_bytes b) ≡ Less → kind_number a.kind ≤ kind_number b.kind
-rising-kinds a b h = go (nat_cmp (kind_number a.kind) (kind_number b.kind)) refl h
-  where
-    go : (o : Ordering) → nat_cmp (kind_number a.kind) (kind_number b.kind) ≡ o → ordering_then o (slice_cmp nat_cmp a.text b.text) ≡ Less → kind_number a.kind ≤ kind_number b.kind
-    go Less e less = let lower : kind_number a.kind < kind_number b.kind = ranked (kind_number a.kind) (kind_number b.kind) Less (sym e) in omega (arith, lower)
-    go Equal e less = let same : kind_number a.kind ≡ kind_number b.kind = ranked (kind_number a.kind) (kind_number b.kind) Equal (sym e) in omega (arith, same)
-    go Greater e less = absurd cc
-
-none-of-kind : (kind : Kind) (k : Key) → kind_number kind < kind_number k.kind → is_of_kind kind k ≡ false
-none-of-kind kind k h = grind (arith, nat_tests)
-
--- behind a key of a greater kind there is none of the kind
-none-behind : (kind : Kind) (first : List ℕ) (a : Key) (ks : List Key) → kind_number kind < kind_number a.kind
-    → AllByRecursion (λ k. slice_cmp nat_cmp (key_bytes a) k ≡ Less) (map key_bytes ks) → keys_of kind ks ≡ []
-none-behind kind first a [] h later = refl
-none-behind kind first a (k ∷ ks) h later =
-    let greater : kind_number kind < kind_number k.kind = omega (arith, h, rising-kinds a k later.0) in
-    rw (none-of-kind kind k greater) (none-behind kind first a ks h later.1)
-
--- where the key of a number is of a greater kind, none from it on is of the kind
-pub keys_of-past : (kind : Kind) (ks : List Key) (n : ℕ) (d : Key) → AreSorted ks → n < length ks → kind_number kind < kind_number (get_or ks n d).kind → keys_of kind (drop n ks) ≡ []
-unfolding IsStrictlySortedBy
-keys_of-past kind [] n d sorted within h = absurd (omega (arith, within))
-keys_of-past kind (k ∷ ks) zero d sorted within h = rw (none-of-kind kind k h) (none-behind kind [] k ks h sorted.0)
-keys_of-past kind (k ∷ ks) (suc n) d sorted within h = keys_of-past kind ks n d sorted.1 (omega (arith, within)) h
-
--- the keys of a kind stand behind those that lie before all of them
-pub keys_of-behind : (kind : Kind) (ks : List Key) (n : ℕ) (d : Key) → n ≤ length ks → ((j : ℕ) → j < n → lies_to kind [] (get_or ks j d) ≡ Less) → keys_of kind (drop n ks) ≡ keys_of kind ks
-keys_of-behind kind ks zero d within before = refl
-keys_of-behind kind [] (suc n) d within before = absurd (omega (arith, within))
-keys_of-behind kind (k ∷ ks) (suc n) d within before =
-    rw (before-kind kind k (before 0 (omega arith))) (keys_of-behind kind ks n d (omega (arith, within)) (λ j lt. before (suc j) (omega (arith, lt))))
-
--- the next key of the kind, and those behind it
-pub keys_of-next : (kind : Kind) (ks : List Key) (n : ℕ) (d : Key) → n < length ks → is_of_kind kind (get_or ks n d) ≡ true → keys_of kind (drop n ks) ≡ get_or ks n d ∷ keys_of kind (drop (suc n) ks)
-keys_of-next kind [] n d within h = absurd (omega (arith, within))
-keys_of-next kind (k ∷ ks) zero d within h = rw h refl
-keys_of-next kind (k ∷ ks) (suc n) d within h = keys_of-next kind ks n d (omega (arith, within)) h

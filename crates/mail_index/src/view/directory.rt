@@ -1,5 +1,5 @@
 //! The keys of a file, read in place.
-ghost use Rattle.std.specs.Prelude.{◌≡◌, nat_eq, ◌+◌, ◌-◌, ◌<◌, ◌≤◌, ◌^◌, ℕ, length, take, drop};
+ghost use Rattle.std.specs.Prelude.{◌≡◌, ◌+◌, ◌-◌, ◌<◌, ◌≤◌, ◌^◌, ℕ, length, take, drop};
 ghost use Rattle.mail_index.specs.Steps.{add_steps};
 ghost use Rattle.mail_index.specs.Kinds.{kind_number};
 ghost use Rattle.mail_index.specs.Fields.{byte_at, u32_at as u32_in, u64_at as u64_in};
@@ -64,14 +64,6 @@ fn entry_postings<'a>(entries: &[u8], postings: &'a [u8]) -> &'a [u8]
     rest.split_at((end - place) as usize).0
 }
 
-/// Whether the entry in front begins with a number.
-fn has_number(entries: &[u8], number: u8) -> bool
-    requires long { 24 ≤ length entries.now }
-    ensures { result ≡ nat_eq (byte_at entries.now 0) number }
-{
-    entries[0] == number
-}
-
 /// How the key of the entry in front lies to another.
 fn compare_entry(entries: &[u8], texts: &[u8], kind: Kind, text: &[u8]) -> Ordering
     requires long { 24 ≤ length entries.now }
@@ -81,8 +73,20 @@ fn compare_entry(entries: &[u8], texts: &[u8], kind: Kind, text: &[u8]) -> Order
     compare_keys(entries[0], entry_text(entries, texts), kind.number(), text)
 }
 
+/// How the key of the entry in front lies to those of a kind that begin with a text: of its own only so much is compared.
+fn compare_entry_to_run(entries: &[u8], texts: &[u8], kind: Kind, text: &[u8]) -> Ordering
+    requires long { 24 ≤ length entries.now }
+    requires within { u64_in entries.now 8 + u32_in entries.now 4 ≤ length texts.now }
+    ensures { result ≡ key_cmp (byte_at entries.now 0) (take (length text.now) (text_at texts.now entries.now)) (kind_number kind) text.now }
+{
+    let own = entry_text(entries, texts);
+    let front = own.split_at(own.len().min(text.len())).0;
+    compare_keys(entries[0], front, kind.number(), text)
+}
+
 impl<'a> Directory<'a> {
-    ghost use Rattle.mail_index.specs.LookUps.{lies_to, AreSorted, is_of_kind as is_of_kind_of};
+    ghost use Rattle.mail_index.specs.LookUps.{lies_to, AreSorted};
+    ghost use Rattle.mail_index.specs.Inside.KeyRuns.{lies_to_run};
 
     /// The keys of these sections.
     pub(crate) fn of(entries: &'a [u8], texts: &'a [u8], postings: &'a [u8], count: u32) -> Self
@@ -105,15 +109,6 @@ impl<'a> Directory<'a> {
         self.count
     }
 
-    /// Whether the key of this number is of a kind.
-    pub(crate) fn is_of_kind(&self, number: u32, kind: Kind) -> bool
-        requires { number < length self.now }
-        ensures { result ≡ is_of_kind_of kind (key_at self.now number) }
-    {
-        let entries = self.entries.split_at(ENTRY * number as usize).1;
-        has_number(entries, kind.number())
-    }
-
     /// The text of the key of this number.
     pub(crate) fn text(&self, number: u32) -> &'a [u8]
         requires { number < length self.now }
@@ -123,7 +118,7 @@ impl<'a> Directory<'a> {
         entry_text(entries, self.texts)
     }
 
-    /// How the key of this number lies to another: a step. Keys are compared in no other way.
+    /// How the key of this number lies to another: a step.
     pub(crate) fn compare(
         &self,
         number: u32,
@@ -138,6 +133,15 @@ impl<'a> Directory<'a> {
         steps.tick();
         let entries = self.entries.split_at(ENTRY * number as usize).1;
         compare_entry(entries, self.texts, kind, text)
+    }
+
+    /// How the key of this number lies to those of a kind that begin with a text, which stand in a row.
+    pub(crate) fn compare_to_run(&self, number: u32, kind: Kind, text: &[u8]) -> Ordering
+        requires { number < length self.now }
+        ensures { result ≡ lies_to_run kind text.now (key_at self.now number) }
+    {
+        let entries = self.entries.split_at(ENTRY * number as usize).1;
+        compare_entry_to_run(entries, self.texts, kind, text)
     }
 
     /// The numbers of the messages that have the key of this number.

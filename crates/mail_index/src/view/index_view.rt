@@ -40,7 +40,7 @@ impl<'a> Model for IndexView<'a> {
 impl<'a> IndexView<'a> {
     ghost use Rattle.mail_index.specs.Layouts.{archive_of};
     ghost use Rattle.mail_index.specs.Tables.{Table, IsWellFormed};
-    ghost use Rattle.mail_index.specs.LookUps.{numbers_at, TakesDigits, keys_of, text_and_numbers};
+    ghost use Rattle.mail_index.specs.LookUps.{numbers_at, TakesDigits, keys_of, keys_beginning, text_and_numbers};
 
     /// The table whose file these bytes are, in version 1 or 2, or the first thing that is wrong with them. No file of a
     /// well-formed table is refused. Takes no memory.
@@ -174,7 +174,14 @@ impl<'a> IndexView<'a> {
     pub fn keys(&self, kind: Kind) -> Keys<'a>
         ensures { result ≡ map text_and_numbers (keys_of kind self.now.keys) }
     {
-        Keys::of(self.directory(), kind)
+        self.keys_beginning(kind, &[])
+    }
+
+    /// The keys of a kind whose texts begin with this one, in the order of their bytes: two binary searches. It takes no memory.
+    pub fn keys_beginning(&self, kind: Kind, text: &[u8]) -> Keys<'a>
+        ensures { result ≡ map text_and_numbers (keys_beginning kind text.now self.now.keys) }
+    {
+        Keys::of(self.directory(), kind, text)
     }
 
     /// The numbers of the messages that have the key, none where there is no such key. A binary search: it takes at most as

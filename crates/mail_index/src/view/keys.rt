@@ -1,13 +1,13 @@
 //! The keys of a kind.
 ghost use Rattle.std.specs.Prelude.{◌≡◌, ◌<◌, ◌≤◌, ℕ, [], ◌∷◌, length, map, MatchOption};
-ghost use Rattle.std.specs.declared.cmp.Ordering.TheVariants.{Less};
-ghost use Rattle.mail_index.specs.LookUps.{lies_to, keys_of, text_and_numbers};
+ghost use Rattle.std.specs.Ordering.{ordering_index};
+ghost use Rattle.mail_index.specs.LookUps.{keys_beginning, text_and_numbers};
 ghost use Rattle.mail_index.specs.KeysRead.{key_at};
+ghost use Rattle.mail_index.specs.Inside.KeyRuns.{lies_to_run};
 
 use crate::kind::Kind;
 use crate::view::directory::Directory;
 use crate::view::postings::Postings;
-use crate::view::steps::Steps;
 use std::cmp::Ordering;
 use std::marker::Model;
 
@@ -20,56 +20,56 @@ pub struct Key<'a> {
     pub postings: Postings<'a>,
 }
 
-/// The keys of a kind still to come, in the order of their bytes. It takes no memory.
+/// Keys in a row still to come, in the order of their bytes. It takes no memory.
 #[derive(Debug, Drop)]
 pub struct Keys<'a> {
     directory: Directory<'a>,
-    kind: Kind,
     next: u32,
+    end: u32,
 }
 
 impl<'a> Model for Keys<'a> {
     ghost use Rattle.std.specs.Prelude.{ℕ, List, ◌≤◌, length, map};
     ghost use Rattle.mail_index.specs.LookUps.{text_and_numbers};
-    ghost use Rattle.mail_index.specs.KeysRead.{keys_from, IsInKind};
+    ghost use Rattle.mail_index.specs.Inside.KeyRuns.{keys_between};
 
     ghost Value = { List (List ℕ × List ℕ) };
 
-    ghost view = { λ s. map text_and_numbers (keys_from s.kind s.next s.directory) };
+    ghost view = { λ s. map text_and_numbers (keys_between s.next s.end s.directory) };
 
-    ghost invariant = { λ s. IsInKind s.kind s.next s.directory };
+    ghost invariant = { λ s. s.end ≤ length s.directory };
 }
 
-/// The number of the first key that doesn't lie before all keys of the kind: a binary search.
-fn first_of(directory: &Directory<'_>, kind: Kind) -> u32
+/// The number of the first key that lies so to those of a kind that begin with a text, or further behind: a binary search.
+fn first_that_lies(least: Ordering, directory: &Directory<'_>, kind: Kind, text: &[u8]) -> u32
     ensures within { result ≤ length directory.now }
-    ensures below { (j : ℕ) → j < result → lies_to kind [] (key_at directory.now j) ≡ Less }
-    ensures above { (j : ℕ) → result ≤ j → j < length directory.now → ¬ (lies_to kind [] (key_at directory.now j) ≡ Less) }
+    ensures below { (j : ℕ) → j < result → ordering_index (lies_to_run kind text.now (key_at directory.now j)) < ordering_index least }
+    ensures above { (j : ℕ) → result ≤ j → j < length directory.now → ordering_index least ≤ ordering_index (lies_to_run kind text.now (key_at directory.now j)) }
 {
-    let mut steps = Steps::new();
     let mut low = 0;
     let mut high = directory.len();
     while low < high {
         let middle = low + (high - low) / 2;
-        match directory.compare(middle, kind, &[], &mut steps) {
-            Ordering::Less => low = middle + 1,
-            Ordering::Equal => high = middle,
-            Ordering::Greater => high = middle,
+        if directory.compare_to_run(middle, kind, text) < least {
+            low = middle + 1;
+        } else {
+            high = middle;
         }
     }
     low
 }
 
 impl<'a> Keys<'a> {
-    /// The keys of a kind in a directory.
-    pub(crate) fn of(directory: Directory<'a>, kind: Kind) -> Self
-        ensures { result ≡ map text_and_numbers (keys_of kind directory.entry) }
+    /// The keys of a kind in a directory whose texts begin with this one.
+    pub(crate) fn of(directory: Directory<'a>, kind: Kind, text: &[u8]) -> Self
+        ensures { result ≡ map text_and_numbers (keys_beginning kind text.now directory.entry) }
     {
-        let next = first_of(&directory, kind);
+        let next = first_that_lies(Ordering::Equal, &directory, kind, text);
+        let end = first_that_lies(Ordering::Greater, &directory, kind, text);
         Keys {
             directory,
-            kind,
             next,
+            end,
         }
     }
 
@@ -78,10 +78,7 @@ impl<'a> Keys<'a> {
         ensures { MatchOption result ((self.old ≡ []) × (self.new ≡ [])) (λ key. self.old ≡ (key.text.now, key.postings) ∷ self.new) }
     {
         let number = self.next;
-        if number >= self.directory.len() {
-            return None;
-        }
-        if !self.directory.is_of_kind(number, self.kind) {
+        if number >= self.end {
             return None;
         }
         self.next = number + 1;

@@ -1,8 +1,11 @@
-use Rattle.std.proofs.Common.{map, ap}
+use Rattle.std.proofs.Common.{map, ap, sym}
 use Rattle.mail_index.specs.LookUps.{text_and_numbers}
 use Rattle.mail_index.specs.KeysRead.{no_key}
-use Rattle.mail_index.proofs.ViewLaws.LookUpLemmas.{keys_of-behind}
+use Rattle.mail_index.proofs.ViewLaws.RunLemmas.{keys_beginning-between}
 use Rattle.mail_index.proofs.view.keys.Keys.of.Goals as goal
 
 pub returns : goal.returns
-returns c = ap (map text_and_numbers) (keys_of-behind c.args.kind c.args.directory c.first_of-next.result no_key c.first_of-next.ensures.within c.first_of-next.ensures.below)
+returns c =
+    let next = c.first_that_lies-next.ensures in
+    let end = c.first_that_lies-end.ensures in
+    ap (map text_and_numbers) (sym (keys_beginning-between c.args.kind c.args.text.now c.args.directory c.first_that_lies-next.result c.first_that_lies-end.result no_key next.within next.below next.above end.below end.above))

@@ -1,0 +1,17 @@
+use Rattle.std.proofs.Common.{◌≡◌, ◌≤◌, ◌+◌, ◌||◌, ℕ, length}
+use Rattle.mail_query.specs.Truth.{contains_text}
+use Rattle.mail_answer.specs.Marks.{some_key}
+use Rattle.mail_answer.specs.CursorAhead.{left_in}
+use Rattle.mail_answer.specs.Inside.CursorTexts.{some_has, HaveNumbers, numbers_passing}
+use Rattle.mail_answer.proofs.cursor.texts.push_containing.Given as goal
+
+-- the walks so far, and those of the keys to come
+abbrev pub invariant-loop-key : goal.invariant-loop-key
+invariant-loop-key l = record {
+  numbers : HaveNumbers l.count l.keys;
+  each : (n : ℕ) → (some_has n l.members.items || some_key (contains_text l.text) n l.keys) ≡ (some_has n l.initial.members.items || some_key (contains_text l.text) n l.initial.keys);
+  left : left_in l.members.items + numbers_passing (contains_text l.text) l.keys ≤ left_in l.initial.members.items + numbers_passing (contains_text l.text) l.initial.keys;
+}
+
+abbrev pub decreases-loop-key : goal.decreases-loop-key
+decreases-loop-key l = length l.keys

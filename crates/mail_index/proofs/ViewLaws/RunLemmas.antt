@@ -1,0 +1,188 @@
+-- The keys of a kind whose texts begin with one stand in a row.
+use Rattle.std.proofs.Common.{◌≡◌, ◌∙◌, ℕ, zero, suc, ◌+◌, ◌-◌, ◌<◌, ◌≤◌, Bool, true, false, cond, ◌&&◌, List, [], ◌∷◌, length, map, take, drop, get_or, refl, sym, ap, ap₂, subst, arith, length-drop}
+use Rattle.std.specs.Prelude.{nat_eq, bytes_eq}
+use Rattle.std.specs.declared.cmp.Ordering.{Ordering}
+use Rattle.std.specs.declared.cmp.Ordering.TheVariants.{Less, Equal, Greater}
+use Rattle.std.specs.Ordering.{nat_cmp, is_eq, is_lt, ordering_index, ordering_then}
+use Rattle.std.specs.Cmp.Lexicographic.{slice_cmp}
+use Rattle.std.specs.List.{filter, starts_with}
+use Rattle.std.proofs.lemmas.List.{length-map, get_or-map, get_or-drop, drop_more}
+use Rattle.std.proofs.lemmas.Bool.Decides.{nat_tests, same_from_decides, Decides-like}
+use Rattle.std.proofs.lemmas.Cmp.{ranked}
+use Rattle.std.proofs.lemmas.Map.Text.{is_eq-slice_cmp}
+use Rattle.std.proofs.lemmas.Map.Keys.{Less-from_sorted}
+use Rattle.std.proofs.lemmas.Slice.Eq.{bytes_eq-Decides}
+use Rattle.mail_index.specs.declared.kind.Kind.{Kind}
+use Rattle.mail_index.specs.Kinds.{kind_number}
+use Rattle.mail_index.specs.Tables.{Key}
+use Rattle.mail_index.specs.LookUps.{is_of_kind, AreSorted, keys_of, keys_beginning}
+use Rattle.mail_index.specs.Inside.KeyRuns.{lies_to_run, keys_between}
+use Rattle.mail_index.proofs.ViewLaws.KeyOrder.{tied}
+use Rattle.mail_index.proofs.ViewLaws.LookUpLemmas.{key_bytes}
+
+-- ---- sorted keys lie in rising order to a run
+
+-- how the front of a list lies to another list
+abbrev front_lies : List ℕ → List ℕ → Ordering
+front_lies wanted bytes = slice_cmp nat_cmp (take (length wanted) bytes) wanted
+
+most_index : (o : Ordering) → ordering_index o ≤ 2
+most_index Less = omega arith
+most_index Equal = omega arith
+most_index Greater = omega arith
+
+higher : (x y : ℕ) → y < x → nat_cmp x y ≡ Greater
+higher x y h = grind (arith, nat_tests)
+
+fronts-rise : (wanted a b : List ℕ) → slice_cmp nat_cmp a b ≡ Less → ordering_index (front_lies wanted a) ≤ ordering_index (front_lies wanted b)
+fronts-rise [] a b h = omega arith
+fronts-rise (w ∷ ws) [] b h = omega arith
+fronts-rise (w ∷ ws) (x ∷ xs) [] h = absurd cc
+fronts-rise (w ∷ ws) (x ∷ xs) (y ∷ ys) h = go (nat_cmp x y) (nat_cmp x w) refl refl h (λ e. fronts-rise ws xs ys e)
+  where
+    go : (o p : Ordering) → nat_cmp x y ≡ o → nat_cmp x w ≡ p → ordering_then o (slice_cmp nat_cmp xs ys) ≡ Less
+        → (slice_cmp nat_cmp xs ys ≡ Less → ordering_index (front_lies ws xs) ≤ ordering_index (front_lies ws ys))
+        → ordering_index (ordering_then p (front_lies ws xs)) ≤ ordering_index (ordering_then (nat_cmp y w) (front_lies ws ys))
+    go o Less e f less rest = omega arith
+    go Less Equal e f less rest =
+        let below : x < y = ranked x y Less (sym e) in
+        let same : x ≡ w = ranked x w Equal (sym f) in
+        rw (higher y w (omega (arith, below, same))) (most_index (front_lies ws xs))
+    go Equal Equal e f less rest =
+        let equal : x ≡ y = ranked x y Equal (sym e) in
+        let same : x ≡ w = ranked x w Equal (sym f) in
+        rw (tied y w (sym equal ∙ same)) (rest less)
+    go Less Greater e f less rest =
+        let below : x < y = ranked x y Less (sym e) in
+        let behind : w < x = ranked x w Greater (sym f) in
+        rw (higher y w (omega (arith, below, behind))) (omega arith)
+    go Equal Greater e f less rest =
+        let equal : x ≡ y = ranked x y Equal (sym e) in
+        let behind : w < x = ranked x w Greater (sym f) in
+        rw (higher y w (omega (arith, equal, behind))) (omega arith)
+    go Greater p e f less rest = absurd cc
+
+pub runs-rise : (kind : Kind) (text : List ℕ) (ks : List Key) (d : Key) (i j : ℕ) → AreSorted ks → i ≤ j → j < length ks
+    → ordering_index (lies_to_run kind text (get_or ks i d)) ≤ ordering_index (lies_to_run kind text (get_or ks j d))
+runs-rise kind text ks d i j sorted le within = go (nat_eq i j) refl
+  where
+    go : (t : Bool) → nat_eq i j ≡ t → ordering_index (lies_to_run kind text (get_or ks i d)) ≤ ordering_index (lies_to_run kind text (get_or ks j d))
+    go true e =
+        let same : i ≡ j = grind (arith, nat_tests) in
+        let equal : ordering_index (lies_to_run kind text (get_or ks i d)) ≡ ordering_index (lies_to_run kind text (get_or ks j d)) = ap (λ n. ordering_index (lies_to_run kind text (get_or ks n d))) same in
+        omega (arith, equal)
+    go false e =
+        let lower : i < j = grind (arith, nat_tests) in
+        let inside : j < length (map key_bytes ks) = omega (arith, within, length-map ks key_bytes) in
+        fronts-rise (kind_number kind ∷ text) (key_bytes (get_or ks i d)) (key_bytes (get_or ks j d))
+        (ap₂ (slice_cmp nat_cmp) (sym (get_or-map key_bytes ks i d (key_bytes d) (omega (arith, lower, within)))) (sym (get_or-map key_bytes ks j d (key_bytes d) within))
+        ∙ Less-from_sorted (slice_cmp nat_cmp) (map key_bytes ks) i j (key_bytes d) sorted lower inside)
+
+-- what a comparison of two answers says of them
+pub less_index : (o p : Ordering) → is_lt (nat_cmp (ordering_index o) (ordering_index p)) ≡ true → ordering_index o < ordering_index p
+less_index o p h = go (nat_cmp (ordering_index o) (ordering_index p)) refl h
+  where
+    go : (r : Ordering) → nat_cmp (ordering_index o) (ordering_index p) ≡ r → is_lt r ≡ true → ordering_index o < ordering_index p
+    go Less e less = ranked (ordering_index o) (ordering_index p) Less (sym e)
+    go Equal e less = absurd cc
+    go Greater e less = absurd cc
+
+pub no_less_index : (o p : Ordering) → is_lt (nat_cmp (ordering_index o) (ordering_index p)) ≡ false → ordering_index p ≤ ordering_index o
+no_less_index o p h = go (nat_cmp (ordering_index o) (ordering_index p)) refl h
+  where
+    go : (r : Ordering) → nat_cmp (ordering_index o) (ordering_index p) ≡ r → is_lt r ≡ false → ordering_index p ≤ ordering_index o
+    go Less e none = absurd cc
+    go Equal e none = let same : ordering_index o ≡ ordering_index p = ranked (ordering_index o) (ordering_index p) Equal (sym e) in omega (arith, same)
+    go Greater e none = let above : ordering_index p < ordering_index o = ranked (ordering_index o) (ordering_index p) Greater (sym e) in omega (arith, above)
+
+-- ---- the keys of a run
+
+pub bytes_turned : (xs ys : List ℕ) → bytes_eq xs ys ≡ bytes_eq ys xs
+bytes_turned xs ys = same_from_decides (bytes_eq xs ys) (bytes_eq ys xs) (bytes_eq-Decides xs ys) (Decides-like (bytes_eq ys xs) sym sym (bytes_eq-Decides ys xs))
+
+-- a key lies among those of a run exactly where it is one of them
+in_run : (kind : Kind) (text : List ℕ) (k : Key) → (is_of_kind kind k && starts_with nat_eq k.text text) ≡ is_eq (lies_to_run kind text k)
+in_run kind text k =
+    let front : List ℕ = take (length text) k.text in
+    ap (λ (b : Bool). is_of_kind kind k && b) (bytes_turned text front) ∙ sym (is_eq-slice_cmp (kind_number k.kind ∷ front) (kind_number kind ∷ text))
+
+beginning-more : (kind : Kind) (text : List ℕ) (k : Key) (ks : List Key) (b : Bool) → is_eq (lies_to_run kind text k) ≡ b
+    → keys_beginning kind text (k ∷ ks) ≡ cond b (k ∷ keys_beginning kind text ks) (keys_beginning kind text ks)
+beginning-more kind text k ks b e = go (is_of_kind kind k) (in_run kind text k ∙ e)
+  where
+    go : (of : Bool) → (of && starts_with nat_eq k.text text) ≡ b
+        → filter (λ key. starts_with nat_eq key.text text) (cond of (k ∷ keys_of kind ks) (keys_of kind ks)) ≡ cond b (k ∷ keys_beginning kind text ks) (keys_beginning kind text ks)
+    go true f = ap (λ (x : Bool). cond x (k ∷ keys_beginning kind text ks) (keys_beginning kind text ks)) f
+    go false f = ap (λ (x : Bool). cond x (k ∷ keys_beginning kind text ks) (keys_beginning kind text ks)) f
+
+lies_before : (o : Ordering) → ordering_index o < ordering_index Equal → is_eq o ≡ false
+lies_before Less h = refl
+lies_before Equal h = absurd (omega (arith, h))
+lies_before Greater h = refl
+
+lies_behind : (o : Ordering) → ordering_index Greater ≤ ordering_index o → is_eq o ≡ false
+lies_behind Less h = refl
+lies_behind Equal h = absurd (omega (arith, h))
+lies_behind Greater h = refl
+
+lies_among : (o : Ordering) → ordering_index Equal ≤ ordering_index o → ordering_index o < ordering_index Greater → is_eq o ≡ true
+lies_among Less h less = absurd (omega (arith, h))
+lies_among Equal h less = refl
+lies_among Greater h less = absurd (omega (arith, less))
+
+-- none of the run stands before the first of it
+beginning-behind : (kind : Kind) (text : List ℕ) (ks : List Key) (n : ℕ) (d : Key) → n ≤ length ks
+    → ((j : ℕ) → j < n → is_eq (lies_to_run kind text (get_or ks j d)) ≡ false) → keys_beginning kind text ks ≡ keys_beginning kind text (drop n ks)
+beginning-behind kind text ks zero d within before = refl
+beginning-behind kind text [] (suc n) d within before = absurd (omega (arith, within))
+beginning-behind kind text (k ∷ ks) (suc n) d within before =
+    beginning-more kind text k ks false (before 0 (omega arith)) ∙ beginning-behind kind text ks n d (omega (arith, within)) (λ j lt. before (suc j) (omega (arith, lt)))
+
+-- the first keys are the run
+beginning-first : (kind : Kind) (text : List ℕ) (ks : List Key) (n : ℕ) (d : Key) → ((j : ℕ) → j < n → j < length ks → is_eq (lies_to_run kind text (get_or ks j d)) ≡ true)
+    → ((j : ℕ) → n ≤ j → j < length ks → is_eq (lies_to_run kind text (get_or ks j d)) ≡ false) → keys_beginning kind text ks ≡ take n ks
+beginning-first kind text [] zero d among behind = refl
+beginning-first kind text [] (suc n) d among behind = refl
+beginning-first kind text (k ∷ ks) zero d among behind =
+    beginning-more kind text k ks false (behind 0 (omega arith) (omega arith))
+    ∙ beginning-first kind text ks zero d (λ j lt. absurd (omega (arith, lt))) (λ j le lt. behind (suc j) (omega arith) (omega (arith, lt)))
+beginning-first kind text (k ∷ ks) (suc n) d among behind =
+    beginning-more kind text k ks true (among 0 (omega arith) (omega arith))
+    ∙ ap (λ (l : List Key). k ∷ l) (beginning-first kind text ks n d (λ j lt less. among (suc j) (omega (arith, lt)) (omega (arith, less))) (λ j le lt. behind (suc j) (omega (arith, le)) (omega (arith, lt))))
+
+-- the run stands between the first key that doesn't lie before it and the first behind it
+pub keys_beginning-between : (kind : Kind) (text : List ℕ) (ks : List Key) (low high : ℕ) (d : Key) → low ≤ length ks
+    → ((j : ℕ) → j < low → ordering_index (lies_to_run kind text (get_or ks j d)) < ordering_index Equal)
+    → ((j : ℕ) → low ≤ j → j < length ks → ordering_index Equal ≤ ordering_index (lies_to_run kind text (get_or ks j d)))
+    → ((j : ℕ) → j < high → ordering_index (lies_to_run kind text (get_or ks j d)) < ordering_index Greater)
+    → ((j : ℕ) → high ≤ j → j < length ks → ordering_index Greater ≤ ordering_index (lies_to_run kind text (get_or ks j d)))
+    → keys_beginning kind text ks ≡ keys_between low high ks
+keys_beginning-between kind text ks low high d within before from until behind =
+    beginning-behind kind text ks low d within (λ j lt. lies_before (lies_to_run kind text (get_or ks j d)) (before j lt))
+    ∙ beginning-first kind text (drop low ks) (high - low) d
+    (λ j lt less. at j (λ k. is_eq (lies_to_run kind text k) ≡ true)
+    (lies_among (lies_to_run kind text (get_or ks (low + j) d)) (from (low + j) (omega arith) (omega (arith, less, length-drop low ks))) (until (low + j) (omega (arith, lt)))))
+    (λ j le less. at j (λ k. is_eq (lies_to_run kind text k) ≡ false)
+    (lies_behind (lies_to_run kind text (get_or ks (low + j) d)) (behind (low + j) (omega (arith, le)) (omega (arith, less, length-drop low ks)))))
+  where
+    at : (j : ℕ) (P : Key → Type 0) → P (get_or ks (low + j) d) → P (get_or (drop low ks) j d)
+    at j P p = subst P (sym (get_or-drop low ks j d)) p
+
+-- ---- the keys of a kind are those that begin with no byte
+
+all-kept : (ks : List Key) → filter (λ k. true) ks ≡ ks
+all-kept [] = refl
+all-kept (k ∷ ks) = ap (λ (l : List Key). k ∷ l) (all-kept ks)
+
+pub keys_beginning-none : (kind : Kind) (ks : List Key) → keys_beginning kind [] ks ≡ keys_of kind ks
+keys_beginning-none kind ks = all-kept (keys_of kind ks)
+
+-- ---- the next key of a row
+
+pub between-none : (low high : ℕ) (ks : List Key) → high ≤ low → keys_between low high ks ≡ []
+between-none low high ks le = let none : high - low ≡ 0 = omega (arith, le) in ap (λ n. take n (drop low ks)) none
+
+pub between-next : (low high : ℕ) (ks : List Key) (d : Key) → low < high → high ≤ length ks → keys_between low high ks ≡ get_or ks low d ∷ keys_between (low + 1) high ks
+between-next low high ks d less within =
+    let more : high - low ≡ suc (high - (low + 1)) = omega (arith, less) in
+    ap₂ (λ (n : ℕ) (l : List Key). take n l) more (drop_more ks low d (omega (arith, less, within)))
