@@ -12,6 +12,7 @@ pub mod key_search;
 pub mod key_sections;
 pub mod keys_in_order;
 pub mod leb128_out;
+pub mod pending;
 pub mod prefetched;
 pub mod sections;
 pub mod short_bytes;

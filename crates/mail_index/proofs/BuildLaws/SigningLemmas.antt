@@ -1,46 +1,122 @@
 -- Laws of writing in steps.
 use Rattle.std.proofs.Common.{◌≡◌, ℕ, suc, ◌+◌, ◌<◌, List, [], ◌∷◌, ◌++◌, length, drop, get_or, Option, refl, ap, sym, subst, ◌∙◌, append_assoc, append-nil, add-one}
 use Rattle.std.proofs.Math.Seq.{drop-cons}
+use Rattle.std.specs.Io.KnownBytes.{Appends}
 use Rattle.sha2.specs.declared.Sha256.{Sha256}
 use Rattle.sha2.specs.Hashers.{Holds256}
+use Rattle.sha2.specs.Sha256.{sha256}
 use Rattle.contract_words.specs.Devices.{Sends}
 use Rattle.contract_words.proofs.Sending.{appends-nil, appends_join, sends_more}
-use Rattle.mail_index.specs.Inside.Signing.{Signs, IsSigning}
+use Rattle.mail_index.specs.declared.build.file_out.Signer.{Signer}
+use Rattle.mail_index.specs.Inside.Signing.{Absorbs, BreaksOff, Signs, IsSigning}
+
+absorbs-nothing : (h : Sha256) → Absorbs h h []
+absorbs-nothing h m held = subst (λ x. Holds256 h x) (sym (append-nil m)) held
+
+absorbs-join : (h j k : Sha256) (x y : List ℕ) → Absorbs h j x → Absorbs j k y → Absorbs h k (x ++ y)
+absorbs-join h j k x y first second m held = subst (λ z. Holds256 k z) (append_assoc m x y) (second (m ++ x) (first m held))
+
+-- what was only gathered
+pub signs-gathered : {k : Signer} (t : Option (List ℕ)) (s : Signer) (bytes : List ℕ) → k.hasher ≡ s.hasher → k.pending ≡ s.pending ++ bytes → Signs t t s k bytes
+signs-gathered {k} t s bytes same gathered = record {
+  sent = [];
+  split = sym gathered;
+  out = appends-nil t;
+  digest = subst (λ h. Absorbs s.hasher h []) (sym same) (absorbs-nothing s.hasher);
+}
+
+-- all that was gathered
+pub signs-flushed : {t u : Option (List ℕ)} {s k : Signer} → Appends t u s.pending → Absorbs s.hasher k.hasher s.pending → k.pending ≡ [] → Signs t u s k []
+signs-flushed {t} {u} {s} {k} out digest none = record {
+  sent = s.pending;
+  split = ap (λ l. s.pending ++ l) (sym none);
+  out = out;
+  digest = digest;
+}
+
+-- what was sent at once, where nothing was gathered
+pub signs-at-once : {t u : Option (List ℕ)} {s k : Signer} {bytes : List ℕ} → s.pending ≡ [] → Appends t u bytes → Absorbs s.hasher k.hasher bytes → k.pending ≡ [] → Signs t u s k bytes
+signs-at-once {t} {u} {s} {k} {bytes} before out digest none = record {
+  sent = bytes;
+  split = ap (λ l. l ++ bytes) before ∙ sym (append-nil bytes) ∙ ap (λ l. bytes ++ l) (sym none);
+  out = out;
+  digest = digest;
+}
+
+-- one after another
+pub signs-join : {t u v : Option (List ℕ)} {h j k : Signer} (x y : List ℕ) → Signs t u h j x → Signs u v j k y → Signs t v h k (x ++ y)
+signs-join {t} {u} {v} {h} {j} {k} x y first second = record {
+  sent = first.sent ++ second.sent;
+  split = sym (append_assoc h.pending x y) ∙ ap (λ l. l ++ y) first.split ∙ append_assoc first.sent j.pending y ∙ ap (λ l. first.sent ++ l) second.split
+      ∙ sym (append_assoc first.sent second.sent k.pending);
+  out = appends_join t u v first.sent second.sent first.out second.out;
+  digest = absorbs-join h.hasher j.hasher k.hasher first.sent second.sent first.digest second.digest;
+}
+
+-- one after another, where the second breaks off
+pub breaks-off-later : {t u : Option (List ℕ)} {h j : Signer} (v : Option (List ℕ)) (x y : List ℕ) → Signs t u h j x → BreaksOff u v j y → BreaksOff t v h (x ++ y)
+breaks-off-later {t} {u} {h} {j} v x y first second = sends_more t u v (h.pending ++ (x ++ y)) first.sent (j.pending ++ y) []
+    (sym (append_assoc h.pending x y) ∙ ap (λ l. l ++ y) first.split ∙ append_assoc first.sent j.pending y ∙ ap (λ l. first.sent ++ l) (sym (append-nil (j.pending ++ y))))
+    first.out second
+
+-- a front of the bytes is one of more
+pub sends-longer : (t u : Option (List ℕ)) (bytes more : List ℕ) → Sends t u bytes → Sends t u (bytes ++ more)
+sends-longer t u bytes more s = (s.0, s.1 ++ more, ap (λ l. l ++ more) s.2 ∙ append_assoc s.0 s.1 more, s.3)
+
+breaks-off-longer : (t u : Option (List ℕ)) (s : Signer) (bytes more : List ℕ) → BreaksOff t u s bytes → BreaksOff t u s (bytes ++ more)
+breaks-off-longer t u s bytes more fault = subst (λ l. Sends t u l) (append_assoc s.pending bytes more) (sends-longer t u (s.pending ++ bytes) more fault)
+
+-- ---- all that was gathered goes out, where nothing was gathered at first
+
+pub all-sent : {t u : Option (List ℕ)} {s k : Signer} {whole : List ℕ} → s.pending ≡ [] → (signs : Signs t u s k whole) → whole ≡ signs.sent ++ k.pending
+all-sent {t} {u} {s} {k} {whole} none signs = ap (λ l. l ++ whole) (sym none) ∙ signs.split
+
+pub appends-all : {t u : Option (List ℕ)} {s k : Signer} {whole : List ℕ} (v : Option (List ℕ)) → s.pending ≡ [] → Signs t u s k whole → Appends u v k.pending → Appends t v whole
+appends-all {t} {u} {s} {k} {whole} v none signs rest =
+    subst (λ l. Appends t v l) (sym (all-sent none signs)) (appends_join t u v signs.sent k.pending signs.out rest)
+
+pub sends-all : {t u : Option (List ℕ)} {s k : Signer} {whole : List ℕ} (v : Option (List ℕ)) → s.pending ≡ [] → Signs t u s k whole → Sends u v k.pending → Sends t v whole
+sends-all {t} {u} {s} {k} {whole} v none signs rest =
+    sends_more t u v whole signs.sent k.pending [] (all-sent none signs ∙ ap (λ l. signs.sent ++ l) (sym (append-nil k.pending))) signs.out rest
+
+pub digests-all : {t u : Option (List ℕ)} {s k : Signer} {whole : List ℕ} (digest : List ℕ) → s.pending ≡ [] → Holds256 s.hasher [] → Signs t u s k whole
+    → ((m : List ℕ) → Holds256 k.hasher m → digest ≡ sha256 (m ++ k.pending)) → digest ≡ sha256 whole
+digests-all {t} {u} {s} {k} {whole} digest none held signs told = told signs.sent (signs.digest [] held) ∙ ap sha256 (sym (all-sent none signs))
+
+-- ---- of a whole
 
 -- nothing yet
-pub signing-start : (t : Option (List ℕ)) (h : Sha256) (whole : List ℕ) → IsSigning t t h h whole whole
-signing-start t h whole = record {
-  sent = [];
+pub signing-start : (t : Option (List ℕ)) (s : Signer) (whole : List ℕ) → IsSigning t t s s whole whole
+signing-start t s whole = record {
+  front = [];
   split = refl;
-  out = appends-nil t;
-  digest = λ m held. subst (λ x. Holds256 h x) (sym (append-nil m)) held;
+  signs = signs-gathered t s [] refl (sym (append-nil s.pending));
 }
 
 -- the next part
-pub signing-step : {t u v : Option (List ℕ)} {h j k : Sha256} {whole : List ℕ} (part rest : List ℕ) → IsSigning t u h j whole (part ++ rest) → Signs u v j k part → IsSigning t v h k whole rest
+pub signing-step : {t u v : Option (List ℕ)} {h j k : Signer} {whole : List ℕ} (part rest : List ℕ) → IsSigning t u h j whole (part ++ rest) → Signs u v j k part → IsSigning t v h k whole rest
 signing-step {t} {u} {v} {h} {j} {k} part rest so_far next = record {
-  sent = so_far.sent ++ part;
-  split = so_far.split ∙ sym (append_assoc so_far.sent part rest);
-  out = appends_join t u v so_far.sent part so_far.out next.out;
-  digest = λ m held. subst (λ x. Holds256 k x) (append_assoc m so_far.sent part) (next.digest (m ++ so_far.sent) (so_far.digest m held));
+  front = so_far.front ++ part;
+  split = so_far.split ∙ sym (append_assoc so_far.front part rest);
+  signs = signs-join so_far.front part so_far.signs next;
 }
 
 -- all of it
-pub signing-end : {t u : Option (List ℕ)} {h j : Sha256} {whole : List ℕ} → IsSigning t u h j whole [] → Signs t u h j whole
-signing-end {t} {u} {h} {j} {whole} so_far =
-    let all : so_far.sent ≡ whole = sym (so_far.split ∙ append-nil so_far.sent) in
-    subst (λ x. Signs t u h j x) all (record { out = so_far.out; digest = so_far.digest })
+pub signing-end : {t u : Option (List ℕ)} {h j : Signer} {whole : List ℕ} → IsSigning t u h j whole [] → Signs t u h j whole
+signing-end {t} {u} {h} {j} {whole} so_far = subst (λ x. Signs t u h j x) (sym (so_far.split ∙ append-nil so_far.front)) so_far.signs
 
 -- only a front of the next part
-pub signing-fail : {t u : Option (List ℕ)} {h j : Sha256} {whole : List ℕ} (v : Option (List ℕ)) (part rest : List ℕ) → IsSigning t u h j whole (part ++ rest) → Sends u v part → Sends t v whole
-signing-fail {t} {u} {h} {j} {whole} v part rest so_far front = sends_more t u v whole so_far.sent part rest so_far.split so_far.out front
+pub signing-fail : {t u : Option (List ℕ)} {h j : Signer} {whole : List ℕ} (v : Option (List ℕ)) (part rest : List ℕ) → IsSigning t u h j whole (part ++ rest) → BreaksOff u v j part → BreaksOff t v h whole
+signing-fail {t} {u} {h} {j} {whole} v part rest so_far fault =
+    subst (λ x. BreaksOff t v h x) (append_assoc so_far.front part rest ∙ sym so_far.split)
+    (breaks-off-longer t v h (so_far.front ++ part) rest (breaks-off-later v so_far.front part so_far.signs fault))
 
 -- the same, where what is left is a part and what follows it
-pub signing-next : {t u v : Option (List ℕ)} {h j k : Sha256} {whole rest : List ℕ} (part after : List ℕ) → IsSigning t u h j whole rest → rest ≡ part ++ after → Signs u v j k part → IsSigning t v h k whole after
+pub signing-next : {t u v : Option (List ℕ)} {h j k : Signer} {whole rest : List ℕ} (part after : List ℕ) → IsSigning t u h j whole rest → rest ≡ part ++ after → Signs u v j k part → IsSigning t v h k whole after
 signing-next {t} {u} {v} {h} {j} {k} {whole} {rest} part after so_far e next = signing-step part after (subst (λ x. IsSigning t u h j whole x) e so_far) next
 
-pub signing-stop : {t u : Option (List ℕ)} {h j : Sha256} {whole rest : List ℕ} (v : Option (List ℕ)) (part after : List ℕ) → IsSigning t u h j whole rest → rest ≡ part ++ after → Sends u v part → Sends t v whole
-signing-stop {t} {u} {h} {j} {whole} {rest} v part after so_far e front = signing-fail v part after (subst (λ x. IsSigning t u h j whole x) e so_far) front
+pub signing-stop : {t u : Option (List ℕ)} {h j : Signer} {whole rest : List ℕ} (v : Option (List ℕ)) (part after : List ℕ) → IsSigning t u h j whole rest → rest ≡ part ++ after → BreaksOff u v j part → BreaksOff t v h whole
+signing-stop {t} {u} {h} {j} {whole} {rest} v part after so_far e fault = signing-fail v part after (subst (λ x. IsSigning t u h j whole x) e so_far) fault
 
 -- the item at an index, and what follows it
 pub from-item : {A : Type 0} (xs : List A) (i : ℕ) (x : A) → x ≡ get_or xs i x → i < length xs → drop i xs ≡ x ∷ drop (i + 1) xs
@@ -48,7 +124,3 @@ from-item xs i x is low = drop-cons xs i x low ∙ ap (λ y. y ∷ drop (suc i) 
 
 pub from-place : {A : Type 0} (xs : List A) (i : ℕ) (d : A) → i < length xs → drop i xs ≡ get_or xs i d ∷ drop (i + 1) xs
 from-place xs i d low = drop-cons xs i d low ∙ ap (λ n. get_or xs i d ∷ drop n xs) (sym (add-one i))
-
--- a front of the bytes is one of more
-pub sends-longer : (t u : Option (List ℕ)) (bytes more : List ℕ) → Sends t u bytes → Sends t u (bytes ++ more)
-sends-longer t u bytes more s = (s.0, s.1 ++ more, ap (λ l. l ++ more) s.2 ∙ append_assoc s.0 s.1 more, s.3)

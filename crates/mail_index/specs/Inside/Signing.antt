@@ -1,21 +1,28 @@
--- What writing makes of an output and of the digest of what was written.
+-- What writing makes of an output, of the digest of what went out, and of what is gathered to go out.
 use Rattle.std.specs.Prelude.{◌≡◌, ℕ, List, ◌++◌, Option}
 use Rattle.std.specs.Io.KnownBytes.{Appends}
 use Rattle.sha2.specs.declared.Sha256.{Sha256}
 use Rattle.sha2.specs.Hashers.{Holds256}
+use Rattle.contract_words.specs.Devices.{Sends}
+use Rattle.mail_index.specs.declared.build.file_out.Signer.{Signer}
 
 -- these bytes were taken into a digest
 abbrev pub Absorbs : Sha256 → Sha256 → List ℕ → Type 0
 Absorbs old new bytes = (m : List ℕ) → Holds256 old m → Holds256 new (m ++ bytes)
 
--- these bytes went out, and into the digest
-pub record Signs (old new : Option (List ℕ)) (h k : Sha256) (bytes : List ℕ) : Type 0 where
-  pub out : Appends old new bytes
-  pub digest : Absorbs h k bytes
-
--- of the whole, all but the rest went out so far, and into the digest
-pub record IsSigning (old new : Option (List ℕ)) (h k : Sha256) (whole rest : List ℕ) : Type 0 where
+-- of what was gathered and these bytes a front went out, and into the digest, and the rest is gathered
+pub record Signs (old new : Option (List ℕ)) (s t : Signer) (bytes : List ℕ) : Type 0 where
   pub sent : List ℕ
-  pub split : whole ≡ sent ++ rest
+  pub split : s.pending ++ bytes ≡ sent ++ t.pending
   pub out : Appends old new sent
-  pub digest : Absorbs h k sent
+  pub digest : Absorbs s.hasher t.hasher sent
+
+-- of what was gathered and these bytes only some front went out
+abbrev pub BreaksOff : Option (List ℕ) → Option (List ℕ) → Signer → List ℕ → Type 0
+BreaksOff old new s bytes = Sends old new (s.pending ++ bytes)
+
+-- of the whole, all but the rest was written so far
+pub record IsSigning (old new : Option (List ℕ)) (s t : Signer) (whole rest : List ℕ) : Type 0 where
+  pub front : List ℕ
+  pub split : whole ≡ front ++ rest
+  pub signs : Signs old new s t front

@@ -178,8 +178,8 @@ impl Builder {
 
     /// Writes the index file of all archives, in version 2, where none is open. Answers how many bytes it has.
     ///
-    /// Takes no memory, and writes in many small pieces. The builder stays as it is, also where the output fails: some
-    /// front of the file went out then.
+    /// Takes no memory, and writes in pieces of some thousand bytes. The builder stays as it is, also where the output fails:
+    /// some front of the file went out then.
     ///
     /// # Errors
     ///

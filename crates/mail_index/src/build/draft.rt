@@ -2,22 +2,23 @@
 ghost use Rattle.std.specs.Prelude.{None, ◌≡◌, ◌^◌, ◌<◌, ◌≤◌, true, length, IsSome, IfSome, FitsSigned, IfOk, OnOk, OnErr, ◌-◌, string_len};
 ghost use Rattle.std.specs.Int.{w64};
 ghost use Rattle.std.specs.Io.KnownBytes.{Appends};
+ghost use Rattle.sha2.specs.Sha256.{sha256};
 ghost use Rattle.contract_words.specs.Answers.{Gives};
 ghost use Rattle.contract_words.specs.Devices.{Counts as CountsFailures, Sends};
 ghost use Rattle.mail_index.specs.Files.{HasSmallSections, body, index_file};
 ghost use Rattle.mail_index.specs.Inside.SectionCounts.{IsCountOf, counted_length};
-ghost use Rattle.mail_index.specs.Inside.Signing.{Signs};
+ghost use Rattle.mail_index.specs.Inside.Signing.{BreaksOff, Signs};
 ghost use Rattle.mail_index.specs.Tables.{IsPath, IsWellFormed};
 ghost use Rattle.mail_index.specs.Builders.{empty_draft, begun_archive, begun_message, added, ended_message, ended_archive, refusal, archive_count, end_of, IsNext, IsBetweenArchives, IsInMessage, IsWithinMost};
 
 use crate::build::build_fault::BuildFault;
+use crate::build::file_out::Signer;
 use crate::build::key_map::KeyMap;
 use crate::build::prefetched::Prefetched;
 use crate::build::sections::{Counts, archives_length, send_archives, send_counts, send_records};
 use crate::kind::Kind;
 use crate::record::Record;
 use mbox_cutter::{DeviceFault, Out, send};
-use sha2::{Digest, Sha256};
 use std::alloc::Global;
 use std::marker::Model;
 
@@ -163,9 +164,7 @@ impl Draft {
         ensures count { CountsFailures result (O.failures out.old) (O.failures out.new) }
     {
         let counts = self.counts();
-        let mut hasher = Sha256::new();
-        self.send_body(out, &mut hasher, &counts)?;
-        let digest = hasher.finalize();
+        let digest = self.send_undigested(out, &counts)?;
         send(out, digest.as_slice())?;
         Ok(file_length(&counts))
     }
@@ -186,26 +185,41 @@ impl Draft {
         }
     }
 
-    // Writes all but the digest.
+    // Writes all but the digest. Answers that.
+    fn send_undigested<O: Out>(&self, out: &mut O, counts: &Counts) -> Result<[u8; 32], DeviceFault>
+        requires failures { O.failures out.old < 2 ^ 64 - 1 }
+        requires counts { IsCountOf self.now.table counts.now }
+        requires small { counted_length counts.now < 2 ^ 64 }
+        ensures ok { OnOk result (Appends (O.taken out.old) (O.taken out.new) (body self.now.table)) }
+        ensures digest { IfOk result (λ digest. digest ≡ sha256 (body self.now.table)) }
+        ensures err { OnErr result (Sends (O.taken out.old) (O.taken out.new) (body self.now.table)) }
+        ensures count { CountsFailures result (O.failures out.old) (O.failures out.new) }
+    {
+        let mut signer = Signer::new();
+        self.send_body(out, &mut signer, counts)?;
+        signer.finish(out)
+    }
+
+    // The same, as far as it isn't gathered still.
     fn send_body<O: Out>(
         &self,
         out: &mut O,
-        hasher: &mut Sha256,
+        signer: &mut Signer,
         counts: &Counts,
     ) -> Result<(), DeviceFault>
         requires failures { O.failures out.old < 2 ^ 64 - 1 }
         requires counts { IsCountOf self.now.table counts.now }
         requires small { counted_length counts.now < 2 ^ 64 }
-        ensures ok { OnOk result (Signs (O.taken out.old) (O.taken out.new) hasher.old hasher.new (body self.now.table)) }
-        ensures err { OnErr result (Sends (O.taken out.old) (O.taken out.new) (body self.now.table)) }
+        ensures ok { OnOk result (Signs (O.taken out.old) (O.taken out.new) signer.old signer.new (body self.now.table)) }
+        ensures err { OnErr result (BreaksOff (O.taken out.old) (O.taken out.new) signer.old (body self.now.table)) }
         ensures count { CountsFailures result (O.failures out.old) (O.failures out.new) }
     {
-        send_counts(out, hasher, counts)?;
-        send_archives(out, hasher, self.archives.as_slice())?;
-        send_records(out, hasher, self.records.as_slice())?;
-        self.keys.send_directory(out, hasher)?;
-        self.keys.send_texts(out, hasher)?;
-        self.keys.send_postings(out, hasher)?;
+        send_counts(out, signer, counts)?;
+        send_archives(out, signer, self.archives.as_slice())?;
+        send_records(out, signer, self.records.as_slice())?;
+        self.keys.send_directory(out, signer)?;
+        self.keys.send_texts(out, signer)?;
+        self.keys.send_postings(out, signer)?;
         Ok(())
     }
 }

@@ -1,41 +1,114 @@
 //! Writes bytes under a running digest.
-ghost use Rattle.std.specs.Prelude.{◌-◌, ◌^◌, ◌<◌, OnOk, OnErr, map};
+ghost use Rattle.std.specs.Prelude.{◌≡◌, ◌-◌, ◌^◌, ◌<◌, ℕ, List, [], ◌++◌, IfOk, OnOk, OnErr, map};
+ghost use Rattle.std.specs.Io.KnownBytes.{Appends};
 ghost use Rattle.std.specs.List.{concat};
+ghost use Rattle.sha2.specs.Hashers.{Holds256};
+ghost use Rattle.sha2.specs.Sha256.{sha256};
 ghost use Rattle.contract_words.specs.Devices.{Counts, Sends};
-ghost use Rattle.mail_index.specs.Inside.Signing.{Signs};
+ghost use Rattle.mail_index.specs.Inside.Signing.{Absorbs, BreaksOff, Signs};
 
+use crate::build::pending::{Pending, ROOM};
 use mbox_cutter::{DeviceFault, Out, send};
 use sha2::{Digest, Sha256};
 
-/// Writes bytes, and takes them into the digest.
+/// The digest of what went out, and what is gathered to go out after it.
+///
+/// A file is made of fields of few bytes: gathered, they cost an output and a digest one call for some hundred of them.
+#[derive(Drop)]
+pub struct Signer {
+    hasher: Sha256,
+    pending: Pending,
+}
+
+impl Signer {
+    /// Nothing went out yet.
+    pub fn new() -> Self
+        ensures digest { Holds256 result.hasher [] }
+        ensures pending { result.pending ≡ [] }
+    {
+        Signer {
+            hasher: Sha256::new(),
+            pending: Pending::new(),
+        }
+    }
+
+    // Writes what is gathered, and takes it into the digest.
+    fn flush<O: Out>(&mut self, out: &mut O) -> Result<(), DeviceFault>
+        requires { O.failures out.old < 2 ^ 64 - 1 }
+        ensures ok { OnOk result (Appends (O.taken out.old) (O.taken out.new) self.old.pending) }
+        ensures digest { OnOk result (Absorbs self.old.hasher self.new.hasher self.old.pending) }
+        ensures all { OnOk result (self.new.pending ≡ []) }
+        ensures err { OnErr result (Sends (O.taken out.old) (O.taken out.new) self.old.pending) }
+        ensures count { Counts result (O.failures out.old) (O.failures out.new) }
+    {
+        let gathered = self.pending.as_slice();
+        send(out, gathered)?;
+        self.hasher.update(gathered);
+        self.pending.clear();
+        Ok(())
+    }
+
+    /// Writes what is gathered. Answers the digest of all that went out.
+    pub fn finish<O: Out>(mut self, out: &mut O) -> Result<[u8; 32], DeviceFault>
+        requires { O.failures out.old < 2 ^ 64 - 1 }
+        ensures ok { OnOk result (Appends (O.taken out.old) (O.taken out.new) self.pending) }
+        ensures digest { IfOk result (λ digest. (m : List ℕ) → Holds256 self.hasher m → digest ≡ sha256 (m ++ self.pending)) }
+        ensures err { OnErr result (Sends (O.taken out.old) (O.taken out.new) self.pending) }
+        ensures count { Counts result (O.failures out.old) (O.failures out.new) }
+    {
+        self.flush(out)?;
+        Ok(self.hasher.finalize())
+    }
+
+    // Writes what is gathered, and the bytes, unless they have room then.
+    fn send_past<O: Out>(&mut self, out: &mut O, bytes: &[u8]) -> Result<(), DeviceFault>
+        requires { O.failures out.old < 2 ^ 64 - 1 }
+        ensures ok { OnOk result (Signs (O.taken out.old) (O.taken out.new) self.old self.new bytes.now) }
+        ensures err { OnErr result (BreaksOff (O.taken out.old) (O.taken out.new) self.old bytes.now) }
+        ensures count { Counts result (O.failures out.old) (O.failures out.new) }
+    {
+        self.flush(out)?;
+        if bytes.len() <= ROOM {
+            self.pending.append(bytes);
+            return Ok(());
+        }
+        send(out, bytes)?;
+        self.hasher.update(bytes);
+        Ok(())
+    }
+}
+
+/// Writes bytes and takes them into the digest, or gathers them for that.
 pub fn send_signed<O: Out>(
     out: &mut O,
-    hasher: &mut Sha256,
+    signer: &mut Signer,
     bytes: &[u8],
 ) -> Result<(), DeviceFault>
     requires { O.failures out.old < 2 ^ 64 - 1 }
-    ensures ok { OnOk result (Signs (O.taken out.old) (O.taken out.new) hasher.old hasher.new bytes.now) }
-    ensures err { OnErr result (Sends (O.taken out.old) (O.taken out.new) bytes.now) }
+    ensures ok { OnOk result (Signs (O.taken out.old) (O.taken out.new) signer.old signer.new bytes.now) }
+    ensures err { OnErr result (BreaksOff (O.taken out.old) (O.taken out.new) signer.old bytes.now) }
     ensures count { Counts result (O.failures out.old) (O.failures out.new) }
 {
-    send(out, bytes)?;
-    hasher.update(bytes);
+    if bytes.len() > signer.pending.room() {
+        return signer.send_past(out, bytes);
+    }
+    signer.pending.append(bytes);
     Ok(())
 }
 
-/// Writes parts, one after another, and takes them into the digest.
+/// Writes parts, one after another, as `send_signed` does.
 pub fn send_parts<O: Out>(
     out: &mut O,
-    hasher: &mut Sha256,
+    signer: &mut Signer,
     parts: &[&[u8]],
 ) -> Result<(), DeviceFault>
     requires { O.failures out.old < 2 ^ 64 - 1 }
-    ensures ok { OnOk result (Signs (O.taken out.old) (O.taken out.new) hasher.old hasher.new (concat (map (λ part. part.now) parts.now))) }
-    ensures err { OnErr result (Sends (O.taken out.old) (O.taken out.new) (concat (map (λ part. part.now) parts.now))) }
+    ensures ok { OnOk result (Signs (O.taken out.old) (O.taken out.new) signer.old signer.new (concat (map (λ part. part.now) parts.now))) }
+    ensures err { OnErr result (BreaksOff (O.taken out.old) (O.taken out.new) signer.old (concat (map (λ part. part.now) parts.now))) }
     ensures count { Counts result (O.failures out.old) (O.failures out.new) }
 {
     for part in parts {
-        send_signed(out, hasher, part)?;
+        send_signed(out, signer, part)?;
     }
     Ok(())
 }

@@ -2,15 +2,16 @@
 ghost use Rattle.std.specs.Prelude.{◌≡◌, ◌-◌, ◌^◌, ◌<◌, ◌≤◌, [], length, map, set, IfOk, IfErr, OnOk, OnErr, MatchResult};
 ghost use Rattle.std.specs.declared.cmp.Ordering.TheVariants.{Equal};
 ghost use Rattle.std.specs.List.{AllByRecursion, slice_index_or};
-ghost use Rattle.contract_words.specs.Devices.{Counts, Sends};
+ghost use Rattle.contract_words.specs.Devices.{Counts};
 ghost use Rattle.mail_index.specs.Files.{entry_of, directory_from, texts_of, postings_of};
-ghost use Rattle.mail_index.specs.Inside.Signing.{Signs};
+ghost use Rattle.mail_index.specs.Inside.Signing.{BreaksOff, Signs};
 ghost use Rattle.mail_index.specs.Inside.KeyMaps.{rows, numbers_in, place_in, keys_in, with_one, IsOrder, IsGap, IsWantOf};
 ghost use Rattle.mail_index.specs.KeysRead.{key_at};
 ghost use Rattle.mail_index.specs.LookUps.{lies_to};
 ghost use Rattle.mail_index.specs.Builders.{with_pair};
 
 use crate::build::build_fault::BuildFault;
+use crate::build::file_out::Signer;
 use crate::build::key_entry::KeyEntry;
 use crate::build::key_hints::{KeyHints, Slot};
 use crate::build::key_order::{KeyOrder, Place};
@@ -20,7 +21,6 @@ use crate::build::keys_in_order::KeysInOrder;
 use crate::build::prefetched::Prefetched;
 use crate::kind::Kind;
 use mbox_cutter::{DeviceFault, Out};
-use sha2::Sha256;
 use std::alloc::{AllocError, Global};
 use std::marker::Model;
 
@@ -139,36 +139,36 @@ impl KeyMap {
     pub fn send_directory<O: Out>(
         &self,
         out: &mut O,
-        hasher: &mut Sha256,
+        signer: &mut Signer,
     ) -> Result<(), DeviceFault>
         requires count { O.failures out.old < 2 ^ 64 - 1 }
         requires texts { length (texts_of (map entry_of self.now)) < 2 ^ 64 }
         requires postings { length (postings_of (map entry_of self.now)) < 2 ^ 64 }
-        ensures ok { OnOk result (Signs (O.taken out.old) (O.taken out.new) hasher.old hasher.new (directory_from 0 0 (map entry_of self.now))) }
-        ensures err { OnErr result (Sends (O.taken out.old) (O.taken out.new) (directory_from 0 0 (map entry_of self.now))) }
+        ensures ok { OnOk result (Signs (O.taken out.old) (O.taken out.new) signer.old signer.new (directory_from 0 0 (map entry_of self.now))) }
+        ensures err { OnErr result (BreaksOff (O.taken out.old) (O.taken out.new) signer.old (directory_from 0 0 (map entry_of self.now))) }
         ensures count { Counts result (O.failures out.old) (O.failures out.new) }
     {
-        key_sections::send_directory(out, hasher, self.in_order())
+        key_sections::send_directory(out, signer, self.in_order())
     }
 
     /// Writes the keys' texts.
-    pub fn send_texts<O: Out>(&self, out: &mut O, hasher: &mut Sha256) -> Result<(), DeviceFault>
+    pub fn send_texts<O: Out>(&self, out: &mut O, signer: &mut Signer) -> Result<(), DeviceFault>
         requires { O.failures out.old < 2 ^ 64 - 1 }
-        ensures ok { OnOk result (Signs (O.taken out.old) (O.taken out.new) hasher.old hasher.new (texts_of (map entry_of self.now))) }
-        ensures err { OnErr result (Sends (O.taken out.old) (O.taken out.new) (texts_of (map entry_of self.now))) }
+        ensures ok { OnOk result (Signs (O.taken out.old) (O.taken out.new) signer.old signer.new (texts_of (map entry_of self.now))) }
+        ensures err { OnErr result (BreaksOff (O.taken out.old) (O.taken out.new) signer.old (texts_of (map entry_of self.now))) }
         ensures count { Counts result (O.failures out.old) (O.failures out.new) }
     {
-        key_sections::send_texts(out, hasher, self.in_order())
+        key_sections::send_texts(out, signer, self.in_order())
     }
 
     /// Writes the keys' postings.
-    pub fn send_postings<O: Out>(&self, out: &mut O, hasher: &mut Sha256) -> Result<(), DeviceFault>
+    pub fn send_postings<O: Out>(&self, out: &mut O, signer: &mut Signer) -> Result<(), DeviceFault>
         requires { O.failures out.old < 2 ^ 64 - 1 }
-        ensures ok { OnOk result (Signs (O.taken out.old) (O.taken out.new) hasher.old hasher.new (postings_of (map entry_of self.now))) }
-        ensures err { OnErr result (Sends (O.taken out.old) (O.taken out.new) (postings_of (map entry_of self.now))) }
+        ensures ok { OnOk result (Signs (O.taken out.old) (O.taken out.new) signer.old signer.new (postings_of (map entry_of self.now))) }
+        ensures err { OnErr result (BreaksOff (O.taken out.old) (O.taken out.new) signer.old (postings_of (map entry_of self.now))) }
         ensures count { Counts result (O.failures out.old) (O.failures out.new) }
     {
-        key_sections::send_postings(out, hasher, self.in_order())
+        key_sections::send_postings(out, signer, self.in_order())
     }
 }
 

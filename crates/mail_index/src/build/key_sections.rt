@@ -1,14 +1,13 @@
 //! The sections of an index file that tell of its keys: directory, texts and postings.
 ghost use Rattle.std.specs.Prelude.{◌≡◌, ◌-◌, ◌^◌, ◌<◌, length, map, OnOk, OnErr};
-ghost use Rattle.contract_words.specs.Devices.{Counts, Sends};
+ghost use Rattle.contract_words.specs.Devices.{Counts};
 ghost use Rattle.mail_index.specs.Files.{entry_of, entry_bytes, directory_from, texts_of, postings_of};
-ghost use Rattle.mail_index.specs.Inside.Signing.{Signs};
+ghost use Rattle.mail_index.specs.Inside.Signing.{BreaksOff, Signs};
 
-use crate::build::file_out::{send_parts, send_signed};
+use crate::build::file_out::{Signer, send_parts, send_signed};
 use crate::build::key_entry::KeyEntry;
 use crate::build::keys_in_order::KeysInOrder;
 use mbox_cutter::{DeviceFault, Out};
-use sha2::Sha256;
 
 /// How many bytes the keys' texts have.
 pub fn texts_length(keys: KeysInOrder<'_>) -> u64
@@ -37,20 +36,20 @@ pub fn postings_length(keys: KeysInOrder<'_>) -> u64
 /// Writes the directory: an entry for each key.
 pub fn send_directory<O: Out>(
     out: &mut O,
-    hasher: &mut Sha256,
+    signer: &mut Signer,
     keys: KeysInOrder<'_>,
 ) -> Result<(), DeviceFault>
     requires count { O.failures out.old < 2 ^ 64 - 1 }
     requires texts { length (texts_of (map entry_of keys)) < 2 ^ 64 }
     requires postings { length (postings_of (map entry_of keys)) < 2 ^ 64 }
-    ensures ok { OnOk result (Signs (O.taken out.old) (O.taken out.new) hasher.old hasher.new (directory_from 0 0 (map entry_of keys.entry))) }
-    ensures err { OnErr result (Sends (O.taken out.old) (O.taken out.new) (directory_from 0 0 (map entry_of keys.entry))) }
+    ensures ok { OnOk result (Signs (O.taken out.old) (O.taken out.new) signer.old signer.new (directory_from 0 0 (map entry_of keys.entry))) }
+    ensures err { OnErr result (BreaksOff (O.taken out.old) (O.taken out.new) signer.old (directory_from 0 0 (map entry_of keys.entry))) }
     ensures count { Counts result (O.failures out.old) (O.failures out.new) }
 {
     let mut text_place = 0;
     let mut place = 0;
     for key in keys {
-        send_entry(out, hasher, key, text_place, place)?;
+        send_entry(out, signer, key, text_place, place)?;
         text_place += key.text().len() as u64;
         place += key.postings_length() as u64;
     }
@@ -60,14 +59,14 @@ pub fn send_directory<O: Out>(
 // The entry of a key: its kind, the length of its text, and the places of its text and of its postings.
 fn send_entry<O: Out>(
     out: &mut O,
-    hasher: &mut Sha256,
+    signer: &mut Signer,
     key: &KeyEntry,
     text_place: u64,
     place: u64,
 ) -> Result<(), DeviceFault>
     requires { O.failures out.old < 2 ^ 64 - 1 }
-    ensures ok { OnOk result (Signs (O.taken out.old) (O.taken out.new) hasher.old hasher.new (entry_bytes text_place place (entry_of key.now))) }
-    ensures err { OnErr result (Sends (O.taken out.old) (O.taken out.new) (entry_bytes text_place place (entry_of key.now))) }
+    ensures ok { OnOk result (Signs (O.taken out.old) (O.taken out.new) signer.old signer.new (entry_bytes text_place place (entry_of key.now))) }
+    ensures err { OnErr result (BreaksOff (O.taken out.old) (O.taken out.new) signer.old (entry_bytes text_place place (entry_of key.now))) }
     ensures count { Counts result (O.failures out.old) (O.failures out.new) }
 {
     let kind = [key.kind_number(), 0, 0, 0];
@@ -76,7 +75,7 @@ fn send_entry<O: Out>(
     let place = place.to_be_bytes();
     send_parts(
         out,
-        hasher,
+        signer,
         &[
             kind.as_slice(),
             length.as_slice(),
@@ -89,16 +88,16 @@ fn send_entry<O: Out>(
 /// Writes the keys' texts.
 pub fn send_texts<O: Out>(
     out: &mut O,
-    hasher: &mut Sha256,
+    signer: &mut Signer,
     keys: KeysInOrder<'_>,
 ) -> Result<(), DeviceFault>
     requires { O.failures out.old < 2 ^ 64 - 1 }
-    ensures ok { OnOk result (Signs (O.taken out.old) (O.taken out.new) hasher.old hasher.new (texts_of (map entry_of keys.entry))) }
-    ensures err { OnErr result (Sends (O.taken out.old) (O.taken out.new) (texts_of (map entry_of keys.entry))) }
+    ensures ok { OnOk result (Signs (O.taken out.old) (O.taken out.new) signer.old signer.new (texts_of (map entry_of keys.entry))) }
+    ensures err { OnErr result (BreaksOff (O.taken out.old) (O.taken out.new) signer.old (texts_of (map entry_of keys.entry))) }
     ensures count { Counts result (O.failures out.old) (O.failures out.new) }
 {
     for key in keys {
-        send_signed(out, hasher, key.text())?;
+        send_signed(out, signer, key.text())?;
     }
     Ok(())
 }
@@ -106,17 +105,17 @@ pub fn send_texts<O: Out>(
 /// Writes the keys' postings.
 pub fn send_postings<O: Out>(
     out: &mut O,
-    hasher: &mut Sha256,
+    signer: &mut Signer,
     keys: KeysInOrder<'_>,
 ) -> Result<(), DeviceFault>
     requires { O.failures out.old < 2 ^ 64 - 1 }
-    ensures ok { OnOk result (Signs (O.taken out.old) (O.taken out.new) hasher.old hasher.new (postings_of (map entry_of keys.entry))) }
-    ensures err { OnErr result (Sends (O.taken out.old) (O.taken out.new) (postings_of (map entry_of keys.entry))) }
+    ensures ok { OnOk result (Signs (O.taken out.old) (O.taken out.new) signer.old signer.new (postings_of (map entry_of keys.entry))) }
+    ensures err { OnErr result (BreaksOff (O.taken out.old) (O.taken out.new) signer.old (postings_of (map entry_of keys.entry))) }
     ensures count { Counts result (O.failures out.old) (O.failures out.new) }
 {
     for key in keys {
         let (older, recent) = key.postings();
-        send_parts(out, hasher, &[older, recent])?;
+        send_parts(out, signer, &[older, recent])?;
     }
     Ok(())
 }

@@ -1,18 +1,17 @@
 //! The sections of an index file whose entries stand in a list: archives and records.
 ghost use Rattle.std.specs.List.{concat};
 ghost use Rattle.std.specs.Prelude.{length, ◌≡◌, ◌-◌, ◌^◌, ◌<◌, ◌≤◌, OnOk, OnErr, map, flat_map};
-ghost use Rattle.contract_words.specs.Devices.{Counts as CountsFailures, Sends};
+ghost use Rattle.contract_words.specs.Devices.{Counts as CountsFailures};
 ghost use Rattle.mail_index.specs.Files.{archive_bytes, record_bytes, flags_byte, bit, date_number};
 ghost use Rattle.mail_index.specs.Inside.Drafts.{archive_of};
 ghost use Rattle.mail_index.specs.Inside.SectionCounts.{counted};
-ghost use Rattle.mail_index.specs.Inside.Signing.{Signs};
+ghost use Rattle.mail_index.specs.Inside.Signing.{BreaksOff, Signs};
 
 use crate::build::draft::NamedArchive;
-use crate::build::file_out::send_parts;
+use crate::build::file_out::{Signer, send_parts};
 use crate::record::Record;
 use crate::version::Version;
 use mbox_cutter::{DeviceFault, Out};
-use sha2::Sha256;
 
 /// The counts that begin an index file: of archives, messages and keys, and of the bytes of three sections.
 #[derive(Clone, Copy)]
@@ -28,12 +27,12 @@ pub struct Counts {
 /// Writes the counts, behind the magic bytes and the version.
 pub fn send_counts<O: Out>(
     out: &mut O,
-    hasher: &mut Sha256,
+    signer: &mut Signer,
     counts: &Counts,
 ) -> Result<(), DeviceFault>
     requires { O.failures out.old < 2 ^ 64 - 1 }
-    ensures ok { OnOk result (Signs (O.taken out.old) (O.taken out.new) hasher.old hasher.new (concat (counted counts.now))) }
-    ensures err { OnErr result (Sends (O.taken out.old) (O.taken out.new) (concat (counted counts.now))) }
+    ensures ok { OnOk result (Signs (O.taken out.old) (O.taken out.new) signer.old signer.new (concat (counted counts.now))) }
+    ensures err { OnErr result (BreaksOff (O.taken out.old) (O.taken out.new) signer.old (concat (counted counts.now))) }
     ensures count { CountsFailures result (O.failures out.old) (O.failures out.new) }
 {
     let version = Version::newest().number().to_be_bytes();
@@ -45,7 +44,7 @@ pub fn send_counts<O: Out>(
     let posting_bytes = counts.posting_bytes.to_be_bytes();
     send_parts(
         out,
-        hasher,
+        signer,
         &[
             b"MAIRIX\r\n".as_slice(),
             version.as_slice(),
@@ -75,16 +74,16 @@ pub fn archives_length(archives: &[NamedArchive]) -> u64
 /// Writes the archives' entries.
 pub fn send_archives<O: Out>(
     out: &mut O,
-    hasher: &mut Sha256,
+    signer: &mut Signer,
     archives: &[NamedArchive],
 ) -> Result<(), DeviceFault>
     requires { O.failures out.old < 2 ^ 64 - 1 }
-    ensures ok { OnOk result (Signs (O.taken out.old) (O.taken out.new) hasher.old hasher.new (flat_map archive_bytes (map archive_of archives.now))) }
-    ensures err { OnErr result (Sends (O.taken out.old) (O.taken out.new) (flat_map archive_bytes (map archive_of archives.now))) }
+    ensures ok { OnOk result (Signs (O.taken out.old) (O.taken out.new) signer.old signer.new (flat_map archive_bytes (map archive_of archives.now))) }
+    ensures err { OnErr result (BreaksOff (O.taken out.old) (O.taken out.new) signer.old (flat_map archive_bytes (map archive_of archives.now))) }
     ensures count { CountsFailures result (O.failures out.old) (O.failures out.new) }
 {
     for archive in archives {
-        send_archive(out, hasher, archive)?;
+        send_archive(out, signer, archive)?;
     }
     Ok(())
 }
@@ -92,12 +91,12 @@ pub fn send_archives<O: Out>(
 // Its length, the length of its path before the path, and its digest.
 fn send_archive<O: Out>(
     out: &mut O,
-    hasher: &mut Sha256,
+    signer: &mut Signer,
     archive: &NamedArchive,
 ) -> Result<(), DeviceFault>
     requires { O.failures out.old < 2 ^ 64 - 1 }
-    ensures ok { OnOk result (Signs (O.taken out.old) (O.taken out.new) hasher.old hasher.new (archive_bytes (archive_of archive.now))) }
-    ensures err { OnErr result (Sends (O.taken out.old) (O.taken out.new) (archive_bytes (archive_of archive.now))) }
+    ensures ok { OnOk result (Signs (O.taken out.old) (O.taken out.new) signer.old signer.new (archive_bytes (archive_of archive.now))) }
+    ensures err { OnErr result (BreaksOff (O.taken out.old) (O.taken out.new) signer.old (archive_bytes (archive_of archive.now))) }
     ensures count { CountsFailures result (O.failures out.old) (O.failures out.new) }
 {
     let path = archive.path.as_bytes();
@@ -105,7 +104,7 @@ fn send_archive<O: Out>(
     let path_length = (path.len() as u32).to_be_bytes();
     send_parts(
         out,
-        hasher,
+        signer,
         &[
             length.as_slice(),
             path_length.as_slice(),
@@ -118,28 +117,28 @@ fn send_archive<O: Out>(
 /// Writes the messages' records.
 pub fn send_records<O: Out>(
     out: &mut O,
-    hasher: &mut Sha256,
+    signer: &mut Signer,
     messages: &[Record],
 ) -> Result<(), DeviceFault>
     requires { O.failures out.old < 2 ^ 64 - 1 }
-    ensures ok { OnOk result (Signs (O.taken out.old) (O.taken out.new) hasher.old hasher.new (flat_map record_bytes messages.now)) }
-    ensures err { OnErr result (Sends (O.taken out.old) (O.taken out.new) (flat_map record_bytes messages.now)) }
+    ensures ok { OnOk result (Signs (O.taken out.old) (O.taken out.new) signer.old signer.new (flat_map record_bytes messages.now)) }
+    ensures err { OnErr result (BreaksOff (O.taken out.old) (O.taken out.new) signer.old (flat_map record_bytes messages.now)) }
     ensures count { CountsFailures result (O.failures out.old) (O.failures out.new) }
 {
     for message in messages {
-        send_record(out, hasher, message)?;
+        send_record(out, signer, message)?;
     }
     Ok(())
 }
 
 fn send_record<O: Out>(
     out: &mut O,
-    hasher: &mut Sha256,
+    signer: &mut Signer,
     message: &Record,
 ) -> Result<(), DeviceFault>
     requires { O.failures out.old < 2 ^ 64 - 1 }
-    ensures ok { OnOk result (Signs (O.taken out.old) (O.taken out.new) hasher.old hasher.new (record_bytes message.now)) }
-    ensures err { OnErr result (Sends (O.taken out.old) (O.taken out.new) (record_bytes message.now)) }
+    ensures ok { OnOk result (Signs (O.taken out.old) (O.taken out.new) signer.old signer.new (record_bytes message.now)) }
+    ensures err { OnErr result (BreaksOff (O.taken out.old) (O.taken out.new) signer.old (record_bytes message.now)) }
     ensures count { CountsFailures result (O.failures out.old) (O.failures out.new) }
 {
     let archive = message.archive.to_be_bytes();
@@ -150,7 +149,7 @@ fn send_record<O: Out>(
     let date = date_number(message.date).to_be_bytes();
     send_parts(
         out,
-        hasher,
+        signer,
         &[
             archive.as_slice(),
             flags.as_slice(),

@@ -1,6 +1,6 @@
 use Rattle.std.proofs.Common.{◌≡◌, ℕ, ◌+◌, List, [], ◌++◌, map, drop, get_or, Bor, Ok, Err, OnErr, ap, ◌∙◌}
-use Rattle.contract_words.specs.Devices.{Sends}
 use Rattle.std.specs.List.{concat}
+use Rattle.mail_index.specs.Inside.Signing.{BreaksOff}
 use Rattle.mail_index.proofs.BuildLaws.SigningLemmas.{signing-next, signing-stop, from-place}
 use Rattle.mail_index.proofs.build.file_out.send_parts.Goals as goal
 
@@ -11,7 +11,7 @@ returns-in_err-send_signed-clause-err g c =
     let after : List ℕ = concat (map (λ (p : Bor (List ℕ)). p.now) (drop (c.loop-part.part-index + 1) c.args.parts.now)) in
     let front : concat (map (λ (p : Bor (List ℕ)). p.now) (drop c.loop-part.part-index c.args.parts.now)) ≡ part ++ after =
     ap (λ (ps : List (Bor (List ℕ))). concat (map (λ (p : Bor (List ℕ)). p.now) ps)) (from-place c.args.parts.now c.loop-part.part-index nothing c.loop-part-test.true) in
-    elim c.from_residual.result as (λ r. OnErr r (Sends (g.O.Out.taken c.args.out.now) (g.O.Out.taken c.send_signed.new.out) (concat (map (λ (p : Bor (List ℕ)). p.now) c.args.parts.now)))) [
+    elim c.from_residual.result as (λ r. OnErr r (BreaksOff (g.O.Out.taken c.args.out.now) (g.O.Out.taken c.send_signed.new.out) c.args.signer.now (concat (map (λ (p : Bor (List ℕ)). p.now) c.args.parts.now)))) [
       | Ok _ ↦ tt
       | Err _ ↦ signing-stop (g.O.Out.taken c.send_signed.new.out) part after c.loop-part.invariant.0 front c.in_err-send_signed.ensures.err
     ]

@@ -1,14 +1,25 @@
-use Rattle.std.proofs.Common.{◌≡◌, ◌∙◌, ◌+◌, List, length, map, Ok, Err, OnErr, ap, arith, length-append}
-use Rattle.contract_words.specs.Devices.{Sends}
+use Rattle.std.proofs.Common.{◌≡◌, ◌∙◌, ◌+◌, List, length, map, Ok, Err, OnErr, refl, ap, arith, length-append}
 use Rattle.mail_index.specs.Tables.{Key}
 use Rattle.mail_index.specs.Postings.{postings}
 use Rattle.mail_index.specs.Files.{entry_of, entry_bytes, directory_from, texts_of, postings_of}
-use Rattle.mail_index.proofs.BuildLaws.SigningLemmas.{signing-next, signing-stop}
+use Rattle.mail_index.specs.Inside.Signing.{BreaksOff}
+use Rattle.mail_index.proofs.BuildLaws.SigningLemmas.{signing-start, signing-next, signing-stop}
 use Rattle.mail_index.proofs.build.key_sections.send_directory.Goals as goal
+
+pub loop-key-init : goal.loop-key-init
+loop-key-init g c =
+    let all : c.into_iter-key-iterator.result ≡ c.args.keys = c.into_iter-key-iterator.ensures.into_iter_gives in
+    let texts : length (texts_of (map entry_of c.into_iter-key-iterator.result)) ≡ length (texts_of (map entry_of c.args.keys)) = ap (λ (keys : List Key). length (texts_of (map entry_of keys))) all in
+    let places : length (postings_of (map entry_of c.into_iter-key-iterator.result)) ≡ length (postings_of (map entry_of c.args.keys)) = ap (λ (keys : List Key). length (postings_of (map entry_of keys))) all in (
+      rw all (signing-start (g.O.Out.taken c.args.out.now) c.args.signer.now (directory_from 0 0 (map entry_of c.args.keys))),
+      refl,
+      omega (arith, texts),
+      omega (arith, places),
+    )
 
 pub returns-in_err-send_entry-clause-err : goal.returns-in_err-send_entry-clause-err
 returns-in_err-send_entry-clause-err g c =
-    elim c.from_residual.result as (λ r. OnErr r (Sends (g.O.Out.taken c.args.out.now) (g.O.Out.taken c.send_entry.new.out) (directory_from 0 0 (map entry_of c.args.keys)))) [
+    elim c.from_residual.result as (λ r. OnErr r (BreaksOff (g.O.Out.taken c.args.out.now) (g.O.Out.taken c.send_entry.new.out) c.args.signer.now (directory_from 0 0 (map entry_of c.args.keys)))) [
       | Ok _ ↦ tt
       | Err _ ↦ signing-stop (g.O.Out.taken c.send_entry.new.out) (entry_bytes c.loop-key.text_place c.loop-key.place (entry_of c.in-Some.key.now)) _ c.loop-key.invariant.0
           (ap (λ (keys : List Key). directory_from c.loop-key.text_place c.loop-key.place (map entry_of keys)) c.in-Some.ensures.steps) c.in_err-send_entry.ensures.err

@@ -5,5 +5,5 @@ use Rattle.mail_index.proofs.build.key_sections.send_texts.Given as goal
 
 abbrev pub invariant-loop-key : goal.invariant-loop-key
 invariant-loop-key g l =
-    IsSigning (g.O.Out.taken l.fn.out) (g.O.Out.taken l.out) l.fn.hasher l.hasher (texts_of (map entry_of l.fn.keys)) (texts_of (map entry_of l.key-iterator))
+    IsSigning (g.O.Out.taken l.fn.out) (g.O.Out.taken l.out) l.fn.signer l.signer (texts_of (map entry_of l.fn.keys)) (texts_of (map entry_of l.key-iterator))
     × (g.O.Out.failures l.out ≡ g.O.Out.failures l.fn.out)
