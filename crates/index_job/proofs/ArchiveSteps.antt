@@ -120,7 +120,7 @@ module _ (number : ℕ) (d : Draft) (all : ℕ) (ms : Option (List Message)) (re
       }
 
     -- all are done at the archive's end
-    pub archive-done : (bytes : ℕ) → Heads (heading.End bytes) all h.rest refusal coming → AddsMessages number d all ms refusal (Ok (record { builder = builder; messages = count; length = bytes }))
+    pub archive-done : (bytes : ℕ) → Heads (heading.End bytes) all h.rest refusal coming → AddsMessages number d all ms refusal (Ok (record { messages = count; length = bytes })) builder
     archive-done bytes (none, same, sound) =
         let all-is : unwrap_or ms [] ≡ h.done = ap (λ o. unwrap_or o []) (h.whole ∙ ap (option_map (λ l. h.done ++ l)) none) ∙ append-nil h.done in (
           sound,
@@ -131,15 +131,15 @@ module _ (number : ℕ) (d : Draft) (all : ℕ) (ms : Option (List Message)) (re
 
 -- ---- an archive with its path
 
-pub named-adds : (path : List ℕ) (number : ℕ) (d : Draft) (all : ℕ) (ms : Option (List Message)) (refusal : Option CutFault) (mid : Option Draft) (r : Result ReadArchive JobFault)
-    → stepped (begun_archive path) (Some d) ≡ Ok mid → ((e : Draft) → mid ≡ Some e → AddsMessages number e all ms refusal r) → AddsNamed path number d all ms refusal r
-named-adds path number d all ms refusal mid r given adds =
+pub named-adds : (path : List ℕ) (number : ℕ) (d : Draft) (all : ℕ) (ms : Option (List Message)) (refusal : Option CutFault) (mid new : Option Draft) (r : Result ReadArchive JobFault)
+    → stepped (begun_archive path) (Some d) ≡ Ok mid → ((e : Draft) → mid ≡ Some e → AddsMessages number e all ms refusal r new) → AddsNamed path number d all ms refusal r new
+named-adds path number d all ms refusal mid new r given adds =
     (elim (nat_lt (length d.table.archives) d.most)
-    as (λ b. nat_lt (length d.table.archives) d.most ≡ b → ((if b then Ok (with_open_archive path d) else Err TooMany) >>= λ e. Ok (Some e)) ≡ Ok mid → AddsNamed path number d all ms refusal r) [
+    as (λ b. nat_lt (length d.table.archives) d.most ≡ b → ((if b then Ok (with_open_archive path d) else Err TooMany) >>= λ e. Ok (Some e)) ≡ Ok mid → AddsNamed path number d all ms refusal r new) [
       | true ↦ λ few is. named r (grind (arith, nat_tests, few)) (adds (with_open_archive path d) (let same : Some (with_open_archive path d) ≡ mid = cc in sym same))
       | false ↦ λ few is. absurd cc
     ]) refl given
   where
-    named : (r : Result ReadArchive JobFault) → archive_count d < d.most → AddsMessages number (with_open_archive path d) all ms refusal r → AddsNamed path number d all ms refusal r
+    named : (r : Result ReadArchive JobFault) → archive_count d < d.most → AddsMessages number (with_open_archive path d) all ms refusal r new → AddsNamed path number d all ms refusal r new
     named (Ok x) few h = (few, h)
     named (Err f) few h = inr (few, h)

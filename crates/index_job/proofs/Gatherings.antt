@@ -2,9 +2,9 @@
 use Rattle.std.proofs.Common.{◌≡◌, ◌∙◌, ℕ, List, [], ◌∷◌, ◌++◌, Option, None, Some, option_map, flat_map, refl, sym, ap, subst, ⊎_elim, append-nil}
 use Rattle.std.specs.Prelude.{◌⊎◌}
 use Rattle.std.proofs.lemmas.Grind.{flat_map-append}
-use Rattle.std.specs.Prelude.{Result, Ok, Err, IfOk, IfErr}
+use Rattle.std.specs.Prelude.{Result, Ok, Err, IfErr, OnOk, IfSome}
 use Rattle.header_text.specs.Headers.{fields_of}
-use Rattle.mail_index.specs.Builders.{Draft}
+use Rattle.mail_index.specs.Builders.{Draft, IsInMessage}
 use Rattle.mail_words.specs.declared.kind.TextKind.{TextKind}
 use Rattle.mime_text.specs.declared.fault.SinkFault.{SinkFault}
 use Rattle.mime_text.specs.declared.fault.SinkFault.TheVariants as sink
@@ -20,7 +20,7 @@ use Rattle.index_job.specs.declared.job_fault.JobFault.{JobFault}
 use Rattle.index_job.specs.declared.job_fault.JobFault.TheVariants as job
 use Rattle.index_job.specs.declared.message_end.Span.{Span}
 use Rattle.index_job.specs.declared.term_sink.TermSink.{TermSink}
-use Rattle.index_job.specs.Inside.Gathering.{with_texts, HasGathered, IsGatherFault}
+use Rattle.index_job.specs.Inside.Gathering.{with_texts, HasGathered, IsGathering, IsGatherFault}
 use Rattle.index_job.specs.Indexing.{draft_with_terms, RefusesTerms, IsOpenAt, IsBuilderOpen}
 use Rattle.index_job.specs.Inside.MessageEnds.{ended_with}
 use Rattle.index_job.specs.JobFaults.{of_text}
@@ -29,11 +29,11 @@ use Rattle.index_job.proofs.Terms.{joined, still-refuses}
 
 -- what a text makes of a sink, and what one that is refused does
 abbrev pub Takes : TermSink → TextKind → List ℕ → TermSink → Type 0
-Takes old kind text new = new.builder ≡ option_map (draft_with_terms (text_terms (kind, text))) old.builder
+Takes old kind text new = (new.builder.ghost_name ≡ old.builder.ghost_name) × (new.builder.now ≡ option_map (draft_with_terms (text_terms (kind, text))) old.builder.now)
 
 abbrev pub Refuses : TermSink → TextKind → List ℕ → SinkFault → TermSink → Type 0
 Refuses old kind text fault new =
-    (fault ≡ sink.OutOfMemory) ⊎ ((fault ≡ sink.Refused) × RefusesTerms (option_map (draft_with_terms (text_terms (kind, text))) old.builder))
+    (fault ≡ sink.OutOfMemory) ⊎ ((fault ≡ sink.Refused) × RefusesTerms (option_map (draft_with_terms (text_terms (kind, text))) old.builder.now))
 
 with_texts-append : (ps qs : List Pair) (d : Option Draft) → with_texts (ps ++ qs) d ≡ with_texts qs (with_texts ps d)
 with_texts-append ps qs d =
@@ -43,10 +43,15 @@ with_texts-none : (d : Option Draft) → with_texts [] d ≡ d
 with_texts-none None = refl
 with_texts-none (Some d) = refl
 
-taken : (ps : List Pair) (old new : TermSink) → TakesAll Takes Refuses ps old new → new.builder ≡ with_texts ps old.builder
-taken [] old new h = ap (λ (s : TermSink). s.builder) h ∙ sym (with_texts-none old.builder)
+taken : (ps : List Pair) (old new : TermSink) → TakesAll Takes Refuses ps old new → new.builder.now ≡ with_texts ps old.builder.now
+taken [] old new h = ap (λ (s : TermSink). s.builder.now) h ∙ sym (with_texts-none old.builder.now)
 taken (p ∷ ps) old new h =
-    taken ps h.0 new h.2 ∙ ap (with_texts ps) h.1 ∙ sym (joined (text_terms p) (flat_map text_terms ps) old.builder)
+    taken ps h.0 new h.2 ∙ ap (with_texts ps) h.1.1 ∙ sym (joined (text_terms p) (flat_map text_terms ps) old.builder.now)
+
+-- it is the same builder
+same-builder : (ps : List Pair) (old new : TermSink) → TakesAll Takes Refuses ps old new → old.builder.ghost_name ≡ new.builder.ghost_name
+same-builder [] old new h = ap (λ (s : TermSink). s.builder.ghost_name) (sym h)
+same-builder (p ∷ ps) old new h = sym h.1.0 ∙ same-builder ps h.0 new h.2
 
 -- a draft refuses terms where it refuses those of some of the texts
 more-refuse : (ps qs : List Pair) (d : Option Draft) → RefusesTerms (with_texts ps d) → RefusesTerms (with_texts (ps ++ qs) d)
@@ -54,14 +59,14 @@ more-refuse ps qs d h = subst RefusesTerms (sym (with_texts-append ps qs d)) (st
 
 -- these texts were given, and there a fault came
 broken : (f : TextFault) (ps : List Pair) (old new : TermSink) (d : Option Draft) (before later : List Pair)
-    → Breaks Takes Refuses f ps old new → old.builder ≡ with_texts before d → IsGatherFault (with_texts ((before ++ ps) ++ later) d) (of_text f)
+    → Breaks Takes Refuses f ps old new → old.builder.now ≡ with_texts before d → IsGatherFault (with_texts ((before ++ ps) ++ later) d) (of_text f)
 broken fault.OutOfMemory ps old new d before later h same = tt
 broken (fault.Sink sink.OutOfMemory) ps old new d before later h same = tt
 broken (fault.Sink sink.Refused) ps old new d before later (front, last, reached, is, taken-front, refused) same =
     ⊎_elim (λ e. absurd cc)
     (λ r.
-    let reached-is : reached.builder ≡ with_texts front (with_texts before d) = taken front old reached taken-front ∙ ap (with_texts front) same in
-    let whole : option_map (draft_with_terms (text_terms last)) reached.builder ≡ with_texts (before ++ ps) d =
+    let reached-is : reached.builder.now ≡ with_texts front (with_texts before d) = taken front old reached taken-front ∙ ap (with_texts front) same in
+    let whole : option_map (draft_with_terms (text_terms last)) reached.builder.now ≡ with_texts (before ++ ps) d =
     ap (option_map (draft_with_terms (text_terms last))) reached-is
     ∙ last-is front last (with_texts before d)
     ∙ ap (λ l. with_texts l (with_texts before d)) (sym is)
@@ -74,32 +79,34 @@ broken (fault.Sink sink.Refused) ps old new d before later (front, last, reached
         ap (λ ts. option_map (draft_with_terms ts) (with_texts front o)) (sym (append-nil (text_terms last))) ∙ sym (with_texts-append front (last ∷ []) o)
 broken fault.Failed ps old new d before later h same = elim h [ ]
 
--- a line more
-pub gathers-line : (text text' : MessageText) (old new : TermSink) (line : List ℕ) → Feeds Takes Refuses text text' line old new
-    → (ls : List (List ℕ)) (d : Option Draft) → HasGathered text old.builder d ls → HasGathered text' new.builder d (ls ++ line ∷ [])
-gathers-line text text' old new line h ls d g = record {
+-- a line more; the builder is what the sink leaves behind its reference, since it is the same one
+pub gathers-line : (text text' : MessageText) (old new : TermSink) (line : List ℕ) (builder : Option Draft) → Feeds Takes Refuses text text' line old new
+    → (old.builder.ghost_name ≡ new.builder.ghost_name → builder ≡ new.builder.now)
+    → (ls : List (List ℕ)) (d : Option Draft) → HasGathered text old.builder.now d ls → HasGathered text' builder d (ls ++ line ∷ [])
+gathers-line text text' old new line builder h left ls d g = record {
   pairs = g.pairs ++ h.pairs;
   fed = h.fed ls g.pairs g.fed;
-  added = taken h.pairs old new h.taken ∙ ap (with_texts h.pairs) g.added ∙ sym (with_texts-append g.pairs h.pairs d);
+  added = left (same-builder h.pairs old new h.taken) ∙ taken h.pairs old new h.taken ∙ ap (with_texts h.pairs) g.added ∙ sym (with_texts-append g.pairs h.pairs d);
 }
 
 -- a line at which a fault comes
 pub line-fails : (text : MessageText) (old new : TermSink) (line : List ℕ) (f : TextFault) → FeedsPart Takes Refuses text line f old new
-    → (ls ms : List (List ℕ)) (d : Option Draft) → HasGathered text old.builder d ls → IsGatherFault (with_texts (texts_of_message (ls ++ line ∷ ms)) d) (of_text f)
+    → (ls ms : List (List ℕ)) (d : Option Draft) → HasGathered text old.builder.now d ls → IsGatherFault (with_texts (texts_of_message (ls ++ line ∷ ms)) d) (of_text f)
 line-fails text old new line f h ls ms d g =
     let rest = h.front ls g.pairs g.fed ms in
     subst (λ ps. IsGatherFault (with_texts ps d) (of_text f)) (sym rest.1) (broken f h.pairs old new d g.pairs rest.0 h.broken g.added)
 
 -- the end
-pub gathers-end : (text : MessageText) (old new : TermSink) → Finishes Takes Refuses text old new
-    → (ls : List (List ℕ)) (d : Option Draft) → HasGathered text old.builder d ls → new.builder ≡ with_texts (texts_of_message ls) d
-gathers-end text old new h ls d g =
-    taken h.pairs old new h.taken ∙ ap (with_texts h.pairs) g.added ∙ sym (with_texts-append g.pairs h.pairs d)
+pub gathers-end : (text : MessageText) (old new : TermSink) (builder : Option Draft) → Finishes Takes Refuses text old new
+    → (old.builder.ghost_name ≡ new.builder.ghost_name → builder ≡ new.builder.now)
+    → (ls : List (List ℕ)) (d : Option Draft) → HasGathered text old.builder.now d ls → builder ≡ with_texts (texts_of_message ls) d
+gathers-end text old new builder h left ls d g =
+    left (same-builder h.pairs old new h.taken) ∙ taken h.pairs old new h.taken ∙ ap (with_texts h.pairs) g.added ∙ sym (with_texts-append g.pairs h.pairs d)
     ∙ ap (λ ps. with_texts ps d) (sym (h.whole ls g.pairs g.fed))
 
 -- an end at which a fault comes
 pub end-fails : (text : MessageText) (old new : TermSink) (f : TextFault) → FinishesPart Takes Refuses text f old new
-    → (ls : List (List ℕ)) (d : Option Draft) → HasGathered text old.builder d ls → IsGatherFault (with_texts (texts_of_message ls) d) (of_text f)
+    → (ls : List (List ℕ)) (d : Option Draft) → HasGathered text old.builder.now d ls → IsGatherFault (with_texts (texts_of_message ls) d) (of_text f)
 end-fails text old new f h ls d g =
     let rest = h.front ls g.pairs g.fed in
     subst (λ ps. IsGatherFault (with_texts ps d) (of_text f)) (sym rest.1) (broken f h.pairs old new d g.pairs rest.0 h.broken g.added)
@@ -122,6 +129,13 @@ still-gather-fails us o job.Failed h = h
 pub texts-fail : (ls : List (List ℕ)) (d : Option Draft) (f : JobFault) → IsGatherFault (with_texts (texts_of_message ls) d) f → IsGatherFault (option_map (draft_with_terms (message_terms ls)) d) f
 texts-fail ls d f h =
     subst (λ o. IsGatherFault o f) (sym (texts-and-ids ls d)) (still-gather-fails (id_terms (facts_of (fields_of ls))) (with_texts (texts_of_message ls) d) f h)
+
+-- texts leave the message open
+pub in-message : (text : MessageText) (builder : Option Draft) (d : Draft) (ls : List (List ℕ)) → HasGathered text builder (Some d) ls → IsInMessage d → IfSome builder IsInMessage
+in-message text builder d ls g phase = subst (λ (o : Option Draft). IfSome o IsInMessage) (sym g.added) phase
+
+pub gathering-in-message : (archive place : ℕ) (text : MessageText) (builder : Option Draft) → IsGathering archive place text builder → IfSome builder IsInMessage
+gathering-in-message archive place text builder (d, ls, g, at) = in-message text builder d ls g at.phase
 
 -- the message is open still behind its texts
 pub open-behind : (archive place : ℕ) (ls : List (List ℕ)) (d : Draft) (builder : Option Draft) → builder ≡ with_texts (texts_of_message ls) (Some d) → IsOpenAt archive place d → IsBuilderOpen archive place builder
@@ -146,19 +160,19 @@ module _ (facts : Facts) (text : MessageText) (old mid : Option Draft)
       h
 
 -- the message is ended
-pub finished-is : (r : Result (Option Draft) JobFault) (span : Span) (facts : Facts) (text : MessageText) (old mid : Option Draft)
+pub finished-is : {T : Type 0} (r : Result T JobFault) (new : Option Draft) (span : Span) (facts : Facts) (text : MessageText) (old mid : Option Draft)
     → ((ls : List (List ℕ)) (d : Option Draft) → HasGathered text old d ls → facts ≡ facts_of (fields_of ls))
     → ((ls : List (List ℕ)) (d : Option Draft) → HasGathered text old d ls → mid ≡ with_texts (texts_of_message ls) d)
-    → IfOk r (λ b. b ≡ option_map (ended_with facts span) mid)
-    → IfOk r (λ b. (ls : List (List ℕ)) (d : Option Draft) → HasGathered text old d ls → b ≡ option_map (ended_with (facts_of (fields_of ls)) span) (with_texts (texts_of_message ls) d))
-finished-is (Ok b) span facts text old mid facts-are texts-are is = finished-of facts text old mid facts-are texts-are span b is
-finished-is (Err f) span facts text old mid facts-are texts-are is = tt
+    → OnOk r (new ≡ option_map (ended_with facts span) mid)
+    → OnOk r ((ls : List (List ℕ)) (d : Option Draft) → HasGathered text old d ls → new ≡ option_map (ended_with (facts_of (fields_of ls)) span) (with_texts (texts_of_message ls) d))
+finished-is (Ok x) new span facts text old mid facts-are texts-are is = finished-of facts text old mid facts-are texts-are span new is
+finished-is (Err f) new span facts text old mid facts-are texts-are is = tt
 
 -- a fault of its ids
-pub ids-fail : (r : Result (Option Draft) JobFault) (facts : Facts) (text : MessageText) (old mid : Option Draft)
+pub ids-fail : {T : Type 0} (r : Result T JobFault) (facts : Facts) (text : MessageText) (old mid : Option Draft)
     → ((ls : List (List ℕ)) (d : Option Draft) → HasGathered text old d ls → facts ≡ facts_of (fields_of ls))
     → ((ls : List (List ℕ)) (d : Option Draft) → HasGathered text old d ls → mid ≡ with_texts (texts_of_message ls) d)
     → IfErr r (IsGatherFault (option_map (draft_with_terms (id_terms facts)) mid))
     → IfErr r (λ f. (ls : List (List ℕ)) (d : Option Draft) → HasGathered text old d ls → IsGatherFault (option_map (draft_with_terms (message_terms ls)) d) f)
-ids-fail (Ok b) facts text old mid facts-are texts-are h = tt
+ids-fail (Ok x) facts text old mid facts-are texts-are h = tt
 ids-fail (Err f) facts text old mid facts-are texts-are h = ids-fail-of facts text old mid facts-are texts-are f h

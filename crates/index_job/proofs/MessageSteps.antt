@@ -1,6 +1,6 @@
 -- What the reading of a whole message makes of a builder's draft.
 use Rattle.std.proofs.Common.{inr, ◌≡◌, ◌∙◌, ◌+◌, ◌≤◌, ◌++◌, ℕ, Bool, true, false, nat_eq, if◌then◌else◌, List, [], ◌∷◌, length, Option, Some, option_map, refl, sym, ap, arith}
-use Rattle.std.specs.Prelude.{Result, Ok, Err, IfOk, IfErr}
+use Rattle.std.specs.Prelude.{Result, Ok, Err, IfErr, OnOk}
 use Rattle.header_text.specs.Headers.{fields_of}
 use Rattle.mail_index.specs.declared.record.Record.{Record}
 use Rattle.mail_index.specs.Builders.{Draft, end_of, IsInArchive}
@@ -64,12 +64,12 @@ module _ (span : Span) (d : Draft) where
       last true is = omega arith
       last false is = omega arith
 
-  pub ready-behind : (place : ℕ) (r : Result (Option Draft) JobFault) (gathered : MessageText) (builder : Option Draft) (ls : List (List ℕ)) → HasGathered gathered builder (Some (with_open_message d)) ls
+  pub ready-behind : {T : Type 0} (place : ℕ) (r : Result T JobFault) (gathered : MessageText) (builder new : Option Draft) (ls : List (List ℕ)) → HasGathered gathered builder (Some (with_open_message d)) ls
       → IsReady span.archive span.offset d → place ≡ span.offset + span.length
-      → IfOk r (λ b. (ls : List (List ℕ)) (d : Option Draft) → HasGathered gathered builder d ls → b ≡ option_map (ended_with (facts_of (fields_of ls)) span) (with_texts (texts_of_message ls) d))
-      → IfOk r (IsBuilderReady span.archive place)
-  ready-behind place (Err f) gathered builder ls g h at is = tt
-  ready-behind place (Ok b) gathered builder ls g h at is = (
+      → OnOk r ((ls : List (List ℕ)) (d : Option Draft) → HasGathered gathered builder d ls → new ≡ option_map (ended_with (facts_of (fields_of ls)) span) (with_texts (texts_of_message ls) d))
+      → OnOk r (IsBuilderReady span.archive place new)
+  ready-behind place (Err f) gathered builder new ls g h at is = tt
+  ready-behind place (Ok x) gathered builder new ls g h at is = (
     ended_with (facts_of (fields_of ls)) span (draft_with_terms (flat_map text_terms (texts_of_message ls)) (with_open_message d)),
     is ls (Some (with_open_message d)) g,
     rw at (ended-ready (facts_of (fields_of ls)) (flat_map text_terms (texts_of_message ls)) h),
@@ -86,20 +86,20 @@ module _ (span : Span) (d : Draft) where
       rw (sym offset, length-is, size-is, sym phase.1)
       (ap (λ ks. record d { in_message = d.in_message; table = record d.table { messages = d.table.messages ++ record { archive = span.archive; offset = m.offset; length = span_length m; size = size m; date = date_told facts.date_text; flags = facts.flags } ∷ []; keys = ks } }) keys)
 
-  pub adds-message : (w : Awaited) (coming : Option Coming) (r : Result (Option Draft) JobFault) (gathered : MessageText) (builder : Option Draft) → IsInArchive d → w.message.offset ≡ span.offset
+  pub adds-message : {T : Type 0} (w : Awaited) (coming : Option Coming) (r : Result T JobFault) (gathered : MessageText) (builder new : Option Draft) → IsInArchive d → w.message.offset ≡ span.offset
       → HasReadAll (Some (with_open_message d)) w (record { length = span.length; size = span.size }) gathered builder coming
-      → IfOk r (λ b. (ls : List (List ℕ)) (d : Option Draft) → HasGathered gathered builder d ls → b ≡ option_map (ended_with (facts_of (fields_of ls)) span) (with_texts (texts_of_message ls) d))
+      → OnOk r ((ls : List (List ℕ)) (d : Option Draft) → HasGathered gathered builder d ls → new ≡ option_map (ended_with (facts_of (fields_of ls)) span) (with_texts (texts_of_message ls) d))
       → IfErr r (λ f. (ls : List (List ℕ)) (d : Option Draft) → HasGathered gathered builder d ls → IsGatherFault (option_map (draft_with_terms (message_terms ls)) d) f)
-      → AddsMessage span.archive d w r coming
-  adds-message w coming (Ok b) gathered builder phase offset h is fails = (
+      → AddsMessage span.archive d w r new coming
+  adds-message w coming (Ok x) gathered builder new phase offset h is fails = (
     is (text w.message) (Some (with_open_message d)) h.whole ∙ ap Some (ended-is w.message phase offset h.length h.told_size),
     h.comes,
   )
-  adds-message w coming (Err f) gathered builder phase offset h is fails =
+  adds-message w coming (Err f) gathered builder new phase offset h is fails =
       message-fault span.archive d w f (gather-is-job (option_map (draft_with_terms (message_terms (text w.message))) (Some (with_open_message d))) w.refusal f (fails (text w.message) (Some (with_open_message d)) h.whole))
 
 -- a message's own fault, whatever comes
-pub own-fault : (r : Result (Option Draft) JobFault) (gathered : MessageText) (builder d : Option Draft) (ls : List (List ℕ)) → HasGathered gathered builder d ls
+pub own-fault : {T : Type 0} (r : Result T JobFault) (gathered : MessageText) (builder d : Option Draft) (ls : List (List ℕ)) → HasGathered gathered builder d ls
     → IfErr r (λ f. (ls : List (List ℕ)) (d : Option Draft) → HasGathered gathered builder d ls → IsGatherFault (option_map (draft_with_terms (message_terms ls)) d) f) → IfErr r IsArchiveFault
-own-fault (Ok b) gathered builder d ls g fails = tt
+own-fault (Ok x) gathered builder d ls g fails = tt
 own-fault (Err f) gathered builder d ls g fails = gather-own _ f (fails ls d g)

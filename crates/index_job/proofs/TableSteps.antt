@@ -81,11 +81,11 @@ module _ (archives : List Mbox) (a : Mbox) where
       h
 
   -- the archive ended with its length and its digest
-  pub one-added : (number : ℕ) (read : ReadArchive) (digest : List ℕ) (new : Option Draft) → number ≡ length archives
-      → AddsNamed a.path number (draft_of archives) (length a.bytes) (messages a.bytes) (refusal_of most_in_archive a.bytes) (Ok read)
-      → digest ≡ sha256 a.bytes → stepped (ended_archive read.length digest) read.builder ≡ Ok new → IfSome new IsWithinMost → IsAdded archives a read.messages new
-  one-added number read digest new same (few, (sound, is, counted, long)) digest-is gives within =
-      let read-is : read.builder ≡ Some read_draft = is ∙ ap (λ k. Some (draft_with_messages k (messages_in a.bytes) (with_open_archive a.path (draft_of archives)))) same in
+  pub one-added : (number : ℕ) (read : ReadArchive) (builder : Option Draft) (digest : List ℕ) (new : Option Draft) → number ≡ length archives
+      → AddsNamed a.path number (draft_of archives) (length a.bytes) (messages a.bytes) (refusal_of most_in_archive a.bytes) (Ok read) builder
+      → digest ≡ sha256 a.bytes → stepped (ended_archive read.length digest) builder ≡ Ok new → IfSome new IsWithinMost → IsAdded archives a read.messages new
+  one-added number read builder digest new same (few, (sound, is, counted, long)) digest-is gives within =
+      let read-is : builder ≡ Some read_draft = is ∙ ap (λ k. Some (draft_with_messages k (messages_in a.bytes) (with_open_archive a.path (draft_of archives)))) same in
       let ended : stepped (ended_archive read.length digest) (Some read_draft) ≡ Ok new = subst (λ (o : Option Draft). stepped (ended_archive read.length digest) o ≡ Ok new) read-is gives in
       let new-is : Some (draft_ended read.length digest read_draft) ≡ new = cc in
       let whole : new ≡ Some (draft_of (archives ++ a ∷ [])) =
@@ -98,24 +98,24 @@ module _ (archives : List Mbox) (a : Mbox) where
         whole = whole;
       }
 
-  pub add-fault : (number : ℕ) (f : JobFault) → number ≡ length archives
-      → AddsNamed a.path number (draft_of archives) (length a.bytes) (messages a.bytes) (refusal_of most_in_archive a.bytes) (Err f) → IsAddFault archives a f
-  add-fault number (job.Cut cut.Device) same h = tt
-  add-fault number (job.Cut cut.NotAnMbox) same (inl never) = elim never [ ]
-  add-fault number (job.Cut cut.NotAnMbox) same (inr (few, h)) = (omega (arith, few, length-map archives entry_of), h)
-  add-fault number (job.Cut cut.ArchiveTooLong) same (inl never) = elim never [ ]
-  add-fault number (job.Cut cut.ArchiveTooLong) same (inr (few, h)) = (omega (arith, few, length-map archives entry_of), h)
-  add-fault number (job.Cut cut.Failed) same (inl never) = never
-  add-fault number (job.Cut cut.Failed) same (inr (few, h)) = h
-  add-fault number job.OutOfMemory same h = tt
-  add-fault number job.TooMany same (inl full) =
+  pub add-fault : (number : ℕ) (builder : Option Draft) (f : JobFault) → number ≡ length archives
+      → AddsNamed a.path number (draft_of archives) (length a.bytes) (messages a.bytes) (refusal_of most_in_archive a.bytes) (Err f) builder → IsAddFault archives a f
+  add-fault number builder (job.Cut cut.Device) same h = tt
+  add-fault number builder (job.Cut cut.NotAnMbox) same (inl never) = elim never [ ]
+  add-fault number builder (job.Cut cut.NotAnMbox) same (inr (few, h)) = (omega (arith, few, length-map archives entry_of), h)
+  add-fault number builder (job.Cut cut.ArchiveTooLong) same (inl never) = elim never [ ]
+  add-fault number builder (job.Cut cut.ArchiveTooLong) same (inr (few, h)) = (omega (arith, few, length-map archives entry_of), h)
+  add-fault number builder (job.Cut cut.Failed) same (inl never) = never
+  add-fault number builder (job.Cut cut.Failed) same (inr (few, h)) = h
+  add-fault number builder job.OutOfMemory same h = tt
+  add-fault number builder job.TooMany same (inl full) =
       inl (omega (arith, full, length-map archives entry_of, length-map (archives ++ a ∷ []) entry_of, length-append archives (a ∷ [])))
-  add-fault number job.TooMany same (inr (few, h)) =
+  add-fault number builder job.TooMany same (inr (few, h)) =
       too-much (subst (λ k. HasTooMany (draft_with_messages k (messages_in a.bytes) (with_open_archive a.path (draft_of archives)))) same h)
-  add-fault number job.Out same (inl never) = never
-  add-fault number job.Out same (inr (few, h)) = h
-  add-fault number job.Failed same (inl never) = never
-  add-fault number job.Failed same (inr (few, h)) = h
+  add-fault number builder job.Out same (inl never) = never
+  add-fault number builder job.Out same (inr (few, h)) = h
+  add-fault number builder job.Failed same (inl never) = never
+  add-fault number builder job.Failed same (inr (few, h)) = h
 
 -- the number of archives that have ended
 pub number-is : (number : ℕ) (archives : List Mbox) (builder : Option Draft) → builder ≡ Some (draft_of archives) → IsBuilderIdle number builder → number ≡ length archives

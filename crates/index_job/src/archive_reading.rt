@@ -1,9 +1,9 @@
 //! The reading of one archive, whose messages are added to a builder.
-ghost use Rattle.std.specs.Prelude.{◌≡◌, ◌<◌, ◌≤◌, ◌+◌, ◌-◌, ◌^◌, ℕ, List, Option, Some, IfOk, IfErr, OnOk, length};
+ghost use Rattle.std.specs.Prelude.{◌≡◌, ◌<◌, ◌≤◌, ◌+◌, ◌-◌, ◌^◌, ℕ, List, Option, Some, IfOk, IfErr, IfSome, OnOk, length};
 ghost use Rattle.std.specs.Option.{MatchOption};
 ghost use Rattle.std.specs.Io.KnownBytes.{IsAtEnd};
 ghost use Rattle.contract_words.specs.Devices.{Counted};
-ghost use Rattle.mail_index.specs.Builders.{Draft};
+ghost use Rattle.mail_index.specs.Builders.{Draft, IsInMessage};
 ghost use Rattle.mail_index.specs.Tables.{IsPath};
 ghost use Rattle.mbox_cutter.specs.Archives.{Message, messages as messages_of, text as text_of};
 ghost use Rattle.mbox_cutter.specs.Sources.{Stays};
@@ -19,7 +19,7 @@ ghost use Rattle.index_job.specs.JobFaults.{is_source_failure};
 use crate::gathering::feed_line;
 use crate::job_fault::JobFault;
 use crate::message_end::{Span, finish_message};
-use crate::term_sink::TermSink;
+use crate::waiting_words::WaitingWords;
 use mail_index::Builder;
 use mbox_cutter::{Buffer, Cutter, Event, Source};
 use mime_text::MessageText;
@@ -44,9 +44,8 @@ enum Heading {
 }
 
 /// An archive whose messages are indexed, and which hasn't ended in the builder: how many messages and bytes it has.
-#[derive(Drop)]
+#[derive(Clone, Copy)]
 pub(crate) struct ReadArchive {
-    pub(crate) builder: Builder,
     pub(crate) messages: u64,
     pub(crate) length: u64,
 }
@@ -80,28 +79,30 @@ fn next_heading<'a, S: Source>(cutter: &mut Cutter<'a, S>) -> Result<Heading, Jo
 fn next_line<'a, S: Source>(
     cutter: &mut Cutter<'a, S>,
     text: &mut MessageText,
-    terms: &mut TermSink,
+    waiting: &mut WaitingWords,
+    builder: &mut Builder,
     start: u64,
 ) -> Result<Option<Ended>, JobFault>
     requires inside { IsInside start cutter.old.place }
+    requires phase { IfSome builder.old IsInMessage }
     requires count { S.failures cutter.old.source.now < 2 ^ 64 - 1 }
     ensures source { cutter.new.source.ghost_name ≡ cutter.old.source.ghost_name }
     ensures stays { Stays S.Source cutter.old.source.now cutter.new.source.now }
     ensures count { Counted (is_source_failure result) (S.failures cutter.old.source.now) (S.failures cutter.new.source.now) }
     ensures further { OnOk result (GoesFurther cutter.old.place cutter.new.place) }
     ensures place { IfOk result (λ end. MatchOption end (IsInside start cutter.new.place) (λ e. HasEnded start e cutter.new.place)) }
-    ensures gathers { OnOk result ((d : Option Draft) (ls : List (List ℕ)) → HasGathered text.old terms.old.builder d ls
-        → (ms : List (List ℕ)) × HasGathered text.new terms.new.builder d ms) }
-    ensures known { IfOk result (λ end. (d : Option Draft) (w : Awaited) (ls rest : List (List ℕ)) → IsReading d w ls rest text.old terms.old.builder cutter.old.coming
-        → MatchOption end ((more left : List (List ℕ)) × IsReading d w more left text.new terms.new.builder cutter.new.coming)
-        (λ e. HasReadAll d w e text.new terms.new.builder cutter.new.coming)) }
-    ensures fault { IfErr result (λ fault. (d : Option Draft) (w : Awaited) (ls rest : List (List ℕ)) → IsReading d w ls rest text.old terms.old.builder cutter.old.coming
+    ensures gathers { OnOk result ((d : Option Draft) (ls : List (List ℕ)) → HasGathered text.old builder.old d ls
+        → (ms : List (List ℕ)) × HasGathered text.new builder.new d ms) }
+    ensures known { IfOk result (λ end. (d : Option Draft) (w : Awaited) (ls rest : List (List ℕ)) → IsReading d w ls rest text.old builder.old cutter.old.coming
+        → MatchOption end ((more left : List (List ℕ)) × IsReading d w more left text.new builder.new cutter.new.coming)
+        (λ e. HasReadAll d w e text.new builder.new cutter.new.coming)) }
+    ensures fault { IfErr result (λ fault. (d : Option Draft) (w : Awaited) (ls rest : List (List ℕ)) → IsReading d w ls rest text.old builder.old cutter.old.coming
         → IsMessageFault d w fault) }
-    ensures own { IfErr result (λ fault. (d : Option Draft) (ls : List (List ℕ)) → HasGathered text.old terms.old.builder d ls → IsArchiveFault fault) }
+    ensures own { IfErr result (λ fault. (d : Option Draft) (ls : List (List ℕ)) → HasGathered text.old builder.old d ls → IsArchiveFault fault) }
 {
     match cutter.next_event()? {
         Event::Line(line) => {
-            feed_line(text, line, terms)?;
+            feed_line(text, line, waiting, builder)?;
             Ok(None)
         }
         Event::End { length, size } => Ok(Some(Ended { length, size })),
@@ -115,35 +116,42 @@ fn next_line<'a, S: Source>(
 fn add_message<'a, S: Source>(
     alloc: Global,
     cutter: &mut Cutter<'a, S>,
-    builder: Builder,
+    builder: &mut Builder,
     archive: u32,
     offset: u64,
-) -> Result<Builder, JobFault>
+) -> Result<(), JobFault>
     requires inside { IsInside offset cutter.old.place }
     requires most { cutter.old.place.most ≡ most_in_archive }
     requires count { S.failures cutter.old.source.now < 2 ^ 64 - 1 }
-    requires ready { IsBuilderReady archive offset builder }
+    requires ready { IsBuilderReady archive offset builder.old }
     ensures source { cutter.new.source.ghost_name ≡ cutter.old.source.ghost_name }
     ensures stays { Stays S.Source cutter.old.source.now cutter.new.source.now }
     ensures count { Counted (is_source_failure result) (S.failures cutter.old.source.now) (S.failures cutter.new.source.now) }
     ensures further { OnOk result (GoesFurther cutter.old.place cutter.new.place) }
     ensures between { OnOk result (cutter.new.place.phase ≡ Phase.Between) }
-    ensures ready { IfOk result (IsBuilderReady archive cutter.new.place.offset) }
-    ensures known { (d : Draft) (w : Awaited) → builder ≡ Some d → w.message.offset ≡ offset → cutter.old.coming ≡ Some (coming_inside w (text_of w.message))
-        → AddsMessage archive d w result cutter.new.coming }
+    ensures ready { OnOk result (IsBuilderReady archive cutter.new.place.offset builder.new) }
+    ensures known { (d : Draft) (w : Awaited) → builder.old ≡ Some d → w.message.offset ≡ offset → cutter.old.coming ≡ Some (coming_inside w (text_of w.message))
+        → AddsMessage archive d w result builder.new cutter.new.coming }
     ensures own { IfErr result IsArchiveFault }
 {
-    let mut terms = TermSink::begin(alloc, builder)?;
+    builder.begin_message()?;
     let mut text = MessageText::new(alloc)?;
+    let mut waiting = WaitingWords::new(alloc);
     'lines: loop {
-        if let Some(Ended { length, size }) = next_line(cutter, &mut text, &mut terms, offset)? {
+        if let Some(Ended { length, size }) = next_line(
+            cutter,
+            &mut text,
+            &mut waiting,
+            builder,
+            offset,
+        )? {
             let span = Span {
                 archive,
                 offset,
                 length,
                 size,
             };
-            return finish_message(text, terms, span);
+            return finish_message(text, &mut waiting, builder, span);
         }
     }
 }
@@ -152,37 +160,32 @@ fn add_message<'a, S: Source>(
 fn add_messages<'a, S: Source>(
     alloc: Global,
     cutter: &mut Cutter<'a, S>,
-    builder: Builder,
+    builder: &mut Builder,
     archive: u32,
 ) -> Result<ReadArchive, JobFault>
     requires between { cutter.old.place.phase ≡ Phase.Between }
     requires most { cutter.old.place.most ≡ most_in_archive }
     requires count { S.failures cutter.old.source.now < 2 ^ 64 - 1 }
-    requires ready { IsBuilderReady archive cutter.old.place.offset builder }
+    requires ready { IsBuilderReady archive cutter.old.place.offset builder.old }
     ensures source { cutter.new.source.ghost_name ≡ cutter.old.source.ghost_name }
     ensures stays { Stays S.Source cutter.old.source.now cutter.new.source.now }
     ensures count { Counted (is_source_failure result) (S.failures cutter.old.source.now) (S.failures cutter.new.source.now) }
     ensures end { OnOk result (IsAtEnd (S.rest cutter.new.source.now)) }
-    ensures ready { IfOk result (λ read. IsBuilderReady archive read.length read.builder) }
+    ensures ready { IfOk result (λ read. IsBuilderReady archive read.length builder.new) }
     ensures within { IfOk result (λ read. read.length ≤ most_in_archive) }
-    ensures known { (d : Draft) (all : ℕ) (ms : Option (List Message)) (refusal : Option CutFault) → builder ≡ Some d
-        → cutter.old.coming ≡ Some (coming_ahead all ms refusal) → AddsMessages archive d all ms refusal result }
+    ensures known { (d : Draft) (all : ℕ) (ms : Option (List Message)) (refusal : Option CutFault) → builder.old ≡ Some d
+        → cutter.old.coming ≡ Some (coming_ahead all ms refusal) → AddsMessages archive d all ms refusal result builder.new }
     ensures own { IfErr result IsArchiveFault }
 {
-    let mut builder = builder;
     let mut messages: u64 = 0;
     'messages: loop {
         match next_heading(cutter)? {
             Heading::Message(offset) => {
-                builder = add_message(alloc, cutter, builder, archive, offset)?;
+                add_message(alloc, cutter, builder, archive, offset)?;
                 messages += 1;
             }
             Heading::End(length) => {
-                return Ok(ReadArchive {
-                    builder,
-                    messages,
-                    length,
-                });
+                return Ok(ReadArchive { messages, length });
             }
         }
     }
@@ -192,25 +195,24 @@ fn add_messages<'a, S: Source>(
 fn add_archive<'a, S: Source>(
     alloc: Global,
     cutter: &mut Cutter<'a, S>,
-    builder: Builder,
+    builder: &mut Builder,
     path: &str,
     archive: u32,
 ) -> Result<ReadArchive, JobFault>
     requires fresh { cutter.old.place ≡ record { phase = Phase.Between; offset = 0; most = most_in_archive } }
     requires count { S.failures cutter.old.source.now < 2 ^ 64 - 1 }
-    requires idle { IsBuilderIdle archive builder }
+    requires idle { IsBuilderIdle archive builder.old }
     requires path { IsPath path.now }
     ensures source { cutter.new.source.ghost_name ≡ cutter.old.source.ghost_name }
     ensures stays { Stays S.Source cutter.old.source.now cutter.new.source.now }
     ensures count { Counted (is_source_failure result) (S.failures cutter.old.source.now) (S.failures cutter.new.source.now) }
     ensures end { OnOk result (IsAtEnd (S.rest cutter.new.source.now)) }
-    ensures ready { IfOk result (λ read. IsBuilderReady archive read.length read.builder) }
+    ensures ready { IfOk result (λ read. IsBuilderReady archive read.length builder.new) }
     ensures within { IfOk result (λ read. read.length ≤ most_in_archive) }
-    ensures known { (d : Draft) (all : ℕ) (ms : Option (List Message)) (refusal : Option CutFault) → builder ≡ Some d
-        → cutter.old.coming ≡ Some (coming_ahead all ms refusal) → AddsNamed path.now archive d all ms refusal result }
+    ensures known { (d : Draft) (all : ℕ) (ms : Option (List Message)) (refusal : Option CutFault) → builder.old ≡ Some d
+        → cutter.old.coming ≡ Some (coming_ahead all ms refusal) → AddsNamed path.now archive d all ms refusal result builder.new }
     ensures own { IfErr result IsArchiveFault }
 {
-    let mut builder = builder;
     builder.begin_archive(path)?;
     add_messages(alloc, cutter, builder, archive)
 }
@@ -220,20 +222,20 @@ pub(crate) fn read_archive<S: Source>(
     alloc: Global,
     source: &mut S,
     kept: &mut Option<Buffer>,
-    builder: Builder,
+    builder: &mut Builder,
     path: &str,
     archive: u32,
 ) -> Result<ReadArchive, JobFault>
     requires count { S.failures source.old < 2 ^ 64 - 1 }
-    requires idle { IsBuilderIdle archive builder }
+    requires idle { IsBuilderIdle archive builder.old }
     requires path { IsPath path.now }
     ensures stays { Stays S.Source source.old source.new }
     ensures count { Counted (is_source_failure result) (S.failures source.old) (S.failures source.new) }
     ensures end { OnOk result (IsAtEnd (S.rest source.new)) }
-    ensures ready { IfOk result (λ read. IsBuilderReady archive read.length read.builder) }
+    ensures ready { IfOk result (λ read. IsBuilderReady archive read.length builder.new) }
     ensures within { IfOk result (λ read. read.length ≤ most_in_archive) }
-    ensures known { (d : Draft) (bytes : List ℕ) → builder ≡ Some d → S.rest source.old ≡ Some bytes
-        → AddsNamed path.now archive d (length bytes) (messages_of bytes) (refusal_of most_in_archive bytes) result }
+    ensures known { (d : Draft) (bytes : List ℕ) → builder.old ≡ Some d → S.rest source.old ≡ Some bytes
+        → AddsNamed path.now archive d (length bytes) (messages_of bytes) (refusal_of most_in_archive bytes) result builder.new }
     ensures own { IfErr result IsArchiveFault }
 {
     let buffer = match kept.take() {

@@ -80,19 +80,15 @@ impl IndexJob {
         ensures kept { OnOk result (IsSome self.new) }
         ensures failed { self.old ≡ None → (result ≡ Err JobFault.Failed) × (source.new ≡ source.old) }
     {
-        let Some(builder) = self.builder.take() else {
+        let Some(mut builder) = self.builder.take() else {
             return Err(JobFault::Failed);
         };
         let mut digested = Digested::new(source);
-        let ReadArchive {
-            mut builder,
-            messages,
-            length,
-        } = read_archive(
+        let ReadArchive { messages, length } = read_archive(
             self.alloc,
             &mut digested,
             &mut self.buffer,
-            builder,
+            &mut builder,
             path,
             self.archives,
         )?;

@@ -1,5 +1,5 @@
 //! The end of a message whose terms are gathered.
-ghost use Rattle.std.specs.Prelude.{◌≡◌, ◌<◌, ◌≤◌, ◌+◌, false, ℕ, List, Option, IfOk, IfErr, option_map};
+ghost use Rattle.std.specs.Prelude.{◌≡◌, ◌<◌, ◌≤◌, ◌+◌, false, ℕ, List, Option, IfErr, OnOk, option_map};
 ghost use Rattle.header_text.specs.Headers.{fields_of};
 ghost use Rattle.mail_index.specs.Builders.{Draft};
 ghost use Rattle.mime_text.specs.MessageFacts.{HasSizedIds, facts_of};
@@ -14,7 +14,8 @@ ghost use Rattle.index_job.specs.MessageTerms.{id_terms, message_terms};
 
 use crate::gathering::end_text;
 use crate::job_fault::JobFault;
-use crate::term_sink::TermSink;
+use crate::term_sink::add_ids;
+use crate::waiting_words::WaitingWords;
 use mail_dates::read_date;
 use mail_index::{Builder, Record};
 use mime_text::{Facts, MessageText};
@@ -39,17 +40,17 @@ pub(crate) struct Span {
 }
 
 /// Ends a message whose terms are gathered but for its ids.
-fn end_message(mut terms: TermSink, facts: &Facts, span: Span) -> Result<Builder, JobFault>
+fn end_message(builder: &mut Builder, facts: &Facts, span: Span) -> Result<(), JobFault>
     requires sizes { HasSizedIds facts.now }
-    requires opened { IsBuilderOpen span.archive span.offset terms.builder }
+    requires opened { IsBuilderOpen span.archive span.offset builder.old }
     requires size { span.size < span.length }
     requires within { span.offset + span.length ≤ most_in_archive }
     ensures source { is_source_failure result ≡ false }
-    ensures ok { IfOk result (λ b. b ≡ option_map (ended_with facts.now span) terms.builder) }
-    ensures err { IfErr result (IsGatherFault (option_map (draft_with_terms (id_terms facts.now)) terms.builder)) }
+    ensures ok { OnOk result (builder.new ≡ option_map (ended_with facts.now span) builder.old) }
+    ensures err { IfErr result (IsGatherFault (option_map (draft_with_terms (id_terms facts.now)) builder.old)) }
 {
-    terms.add_ids(facts)?;
-    Ok(terms.end(Record {
+    add_ids(builder, facts)?;
+    Ok(builder.end_message(Record {
         archive: span.archive,
         offset: span.offset,
         length: span.length,
@@ -62,18 +63,19 @@ fn end_message(mut terms: TermSink, facts: &Facts, span: Span) -> Result<Builder
 /// Ends the text of a message, and the message.
 pub(crate) fn finish_message(
     text: MessageText,
-    mut terms: TermSink,
+    waiting: &mut WaitingWords,
+    builder: &mut Builder,
     span: Span,
-) -> Result<Builder, JobFault>
-    requires opened { IsGathering span.archive span.offset text terms.builder }
+) -> Result<(), JobFault>
+    requires opened { IsGathering span.archive span.offset text builder.old }
     requires size { span.size < span.length }
     requires within { span.offset + span.length ≤ most_in_archive }
     ensures source { is_source_failure result ≡ false }
-    ensures ok { IfOk result (λ b. (ls : List (List ℕ)) (d : Option Draft) → HasGathered text terms.builder d ls
-        → b ≡ option_map (ended_with (facts_of (fields_of ls)) span) (with_texts (texts_of_message ls) d)) }
-    ensures err { IfErr result (λ fault. (ls : List (List ℕ)) (d : Option Draft) → HasGathered text terms.builder d ls
+    ensures ok { OnOk result ((ls : List (List ℕ)) (d : Option Draft) → HasGathered text builder.old d ls
+        → builder.new ≡ option_map (ended_with (facts_of (fields_of ls)) span) (with_texts (texts_of_message ls) d)) }
+    ensures err { IfErr result (λ fault. (ls : List (List ℕ)) (d : Option Draft) → HasGathered text builder.old d ls
         → IsGatherFault (option_map (draft_with_terms (message_terms ls)) d) fault) }
 {
-    let facts = end_text(text, &mut terms)?;
-    end_message(terms, &facts, span)
+    let facts = end_text(text, waiting, builder)?;
+    end_message(builder, &facts, span)
 }

@@ -96,9 +96,9 @@ abbrev pub IsReadingSome : Option Draft → Awaited → MessageText → Option D
 IsReadingSome draft w gathered builder coming = (lines rest : List (List ℕ)) × IsReading draft w lines rest gathered builder coming
 
 -- the message is added to the draft, or what is wrong with it or with its archive
-abbrev pub AddsMessage : ℕ → Draft → Awaited → Result (Option Draft) JobFault → Option Coming → Type 0
-AddsMessage archive d w (Ok builder) coming = (builder ≡ Some (draft_with_messages archive (w.message ∷ []) d)) × (coming ≡ Some (coming_between w.all w.later w.refusal))
-AddsMessage archive d w (Err fault) coming = IsJobFault w.refusal (HasTooMany (draft_with_messages archive (w.message ∷ []) d)) fault
+abbrev pub AddsMessage : {T : Type 0} → ℕ → Draft → Awaited → Result T JobFault → Option Draft → Option Coming → Type 0
+AddsMessage archive d w (Ok _) builder coming = (builder ≡ Some (draft_with_messages archive (w.message ∷ []) d)) × (coming ≡ Some (coming_between w.all w.later w.refusal))
+AddsMessage archive d w (Err fault) builder coming = IsJobFault w.refusal (HasTooMany (draft_with_messages archive (w.message ∷ []) d)) fault
 
 -- there is no room for one archive more, or no memory
 abbrev pub HasNoRoom : Draft → JobFault → Type 0
@@ -107,17 +107,17 @@ HasNoRoom d TooMany = d.most ≤ archive_count d
 HasNoRoom d _ = ⊥
 
 -- these messages are added to the draft, of an archive of so many bytes; or what is wrong with them
-abbrev pub AddsMessages : ℕ → Draft → ℕ → Option (List archives.Message) → Option CutFault → Result ReadArchive JobFault → Type 0
-AddsMessages number d bytes ms refusal (Ok read) =
-    (refusal ≡ None) × (read.builder ≡ Some (draft_with_messages number (unwrap_or ms []) d)) × (read.messages ≡ length (unwrap_or ms [])) × (read.length ≡ bytes)
-AddsMessages number d bytes ms refusal (Err fault) = IsJobFault refusal (HasTooMany (draft_with_messages number (unwrap_or ms []) d)) fault
+abbrev pub AddsMessages : ℕ → Draft → ℕ → Option (List archives.Message) → Option CutFault → Result ReadArchive JobFault → Option Draft → Type 0
+AddsMessages number d bytes ms refusal (Ok read) builder =
+    (refusal ≡ None) × (builder ≡ Some (draft_with_messages number (unwrap_or ms []) d)) × (read.messages ≡ length (unwrap_or ms [])) × (read.length ≡ bytes)
+AddsMessages number d bytes ms refusal (Err fault) builder = IsJobFault refusal (HasTooMany (draft_with_messages number (unwrap_or ms []) d)) fault
 
 -- the same with the archive's path; where there is room for it
-abbrev pub AddsNamed : List ℕ → ℕ → Draft → ℕ → Option (List archives.Message) → Option CutFault → Result ReadArchive JobFault → Type 0
-AddsNamed path number d bytes ms refusal (Ok read) =
-    (archive_count d < d.most) × AddsMessages number (with_open_archive path d) bytes ms refusal (Ok read)
-AddsNamed path number d bytes ms refusal (Err fault) =
-    HasNoRoom d fault ⊎ ((archive_count d < d.most) × AddsMessages number (with_open_archive path d) bytes ms refusal (Err fault))
+abbrev pub AddsNamed : List ℕ → ℕ → Draft → ℕ → Option (List archives.Message) → Option CutFault → Result ReadArchive JobFault → Option Draft → Type 0
+AddsNamed path number d bytes ms refusal (Ok read) builder =
+    (archive_count d < d.most) × AddsMessages number (with_open_archive path d) bytes ms refusal (Ok read) builder
+AddsNamed path number d bytes ms refusal (Err fault) builder =
+    HasNoRoom d fault ⊎ ((archive_count d < d.most) × AddsMessages number (with_open_archive path d) bytes ms refusal (Err fault) builder)
 
 -- the draft has no room for the message's terms, or the archive is refused
 abbrev pub IsMessageFault : Option Draft → Awaited → JobFault → Type 0

@@ -40,13 +40,13 @@ returns-in-Some-clause-ready g c =
     let more = c.in_ok-length.ensures.gathers (Some (with_open_message d)) gathered.0 gathered.1 in
     let ends : HasEnded start ended place = subst (λ (o : Option Ended). MatchOption o (IsInside start place) (λ e. HasEnded start e place)) c.in-Some.is c.in_ok-length.ensures.place in
     ready-behind (record { archive = c.args.archive; offset = start; length = ended.length; size = ended.size }) d place.offset c.finish_message.result
-    c.next_line.new.text c.next_line.new.terms.builder more.0 more.1 c.requires.ready.2 ends.offset c.finish_message.ensures.ok
+    c.next_line.new.text c.next_line.new.builder c.finish_message.new.builder more.0 more.1 c.requires.ready.2 ends.offset c.finish_message.ensures.ok
 
 pub returns-in-Some-clause-known : goal.returns-in-Some-clause-known
 returns-in-Some-clause-known g c = λ d w is at comes.
     let ended = c.in-Some.field-0 in
     let text = c.next_line.new.text in
-    let builder = c.next_line.new.terms.builder in
+    let builder = c.next_line.new.builder in
     let coming = c.next_line.new.cutter.coming in
     let open_draft = Some (with_open_message d) in
     let same : Some d ≡ Some c.requires.ready.0 = sym is ∙ c.requires.ready.1 in
@@ -56,14 +56,14 @@ returns-in-Some-clause-known g c = λ d w is at comes.
     subst (λ (o : Option Ended). MatchOption o ((more left : List (List ℕ)) × IsReading open_draft w more left text builder coming) (λ e. HasReadAll open_draft w e text builder coming)) c.in-Some.is
     (c.in_ok-length.ensures.known open_draft w r.0 r.1 r.2) in
     adds-message (record { archive = c.args.archive; offset = c.args.offset; length = ended.length; size = ended.size }) d w coming c.finish_message.result
-    text builder phase at all c.finish_message.ensures.ok c.finish_message.ensures.err
+    text builder c.finish_message.new.builder phase at all c.finish_message.ensures.ok c.finish_message.ensures.err
 
 pub returns-in-Some-clause-own : goal.returns-in-Some-clause-own
 returns-in-Some-clause-own g c =
     let d = c.requires.ready.0 in
     let gathered = c.lines.invariant.gathers d c.requires.ready.1 in
     let more = c.in_ok-length.ensures.gathers (Some (with_open_message d)) gathered.0 gathered.1 in
-    own-fault c.finish_message.result c.next_line.new.text c.next_line.new.terms.builder (Some (with_open_message d)) more.0 more.1 c.finish_message.ensures.err
+    own-fault c.finish_message.result c.next_line.new.text c.next_line.new.builder (Some (with_open_message d)) more.0 more.1 c.finish_message.ensures.err
 
 pub lines-preserved : goal.lines-preserved
 lines-preserved g c =
@@ -71,7 +71,7 @@ lines-preserved g c =
     let e = c.in_ok-length.ensures in
     let start = c.args.offset in
     let text = c.next_line.new.text in
-    let builder = c.next_line.new.terms.builder in
+    let builder = c.next_line.new.builder in
     let next = c.next_line.new.cutter in
     let inside : IsInside start next.place = subst (λ (o : Option Ended). MatchOption o (IsInside start next.place) (λ e. HasEnded start e next.place)) c.in_default.is e.place in
     record {

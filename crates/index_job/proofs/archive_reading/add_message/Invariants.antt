@@ -18,9 +18,9 @@ invariant-lines g l = record {
   most : l.cutter.place.most ≡ l.initial.cutter.place.most;
   later : l.initial.cutter.place.offset ≤ l.cutter.place.offset;
   nearer : left l.cutter.place ≤ left l.initial.cutter.place;
-  gathers : (d : Draft) → l.fn.builder ≡ Some d → (ls : List (List ℕ)) × HasGathered l.text l.terms.builder (Some (with_open_message d)) ls;
+  gathers : (d : Draft) → l.fn.builder ≡ Some d → (ls : List (List ℕ)) × HasGathered l.text l.builder (Some (with_open_message d)) ls;
   reads : (d : Draft) (w : Awaited) → l.fn.builder ≡ Some d → l.initial.cutter.coming ≡ Some (coming_inside w (text w.message))
-      → IsReadingSome (Some (with_open_message d)) w l.text l.terms.builder l.cutter.coming;
+      → IsReadingSome (Some (with_open_message d)) w l.text l.builder l.cutter.coming;
 }
 
 abbrev pub decreases-lines : goal.decreases-lines

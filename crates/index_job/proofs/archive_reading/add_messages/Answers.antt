@@ -17,7 +17,7 @@ messages-init g c = record {
   most = refl;
   ready = c.requires.ready;
   few = omega arith;
-  done = λ d all ms refusal is comes. done-none c.args.archive d all ms refusal c.args.builder c.args.cutter.now.coming is comes;
+  done = λ d all ms refusal is comes. done-none c.args.archive d all ms refusal c.args.builder.now c.args.cutter.now.coming is comes;
 }
 
 pub returns-in_err-offset-clause-known : goal.returns-in_err-offset-clause-known
@@ -27,24 +27,24 @@ returns-in_err-offset-clause-known g c =
     let h = c.messages.invariant.done d all ms refusal is comes in
     rw (p.1, p.2) (between-fault c.args.archive d all ms refusal c.messages.messages c.messages.builder c.messages.cutter.coming h c.in_err-offset.field-0.0 (c.in_err-offset.ensures.fault all h.rest refusal h.comes))
 
-pub returns-in_err-builder-in-Message-clause-known :
-    goal.returns-in_err-builder-in-Message-clause-known
-returns-in_err-builder-in-Message-clause-known g c =
-    let p = err_from_is_err_and c.from_residual-in_err-builder-in-Message.result c.from_residual-in_err-builder-in-Message.ensures.1 in
+pub returns-in_err-add_message-in-Message-clause-known :
+    goal.returns-in_err-add_message-in-Message-clause-known
+returns-in_err-add_message-in-Message-clause-known g c =
+    let p = err_from_is_err_and c.from_residual-in_err-add_message-in-Message.result c.from_residual-in_err-add_message-in-Message.ensures.1 in
     let start = c.in-Message.offset in
     λ d all ms refusal is comes.
     let h = c.messages.invariant.done d all ms refusal is comes in
     let heads : Heads (Message start) all h.rest refusal c.next_heading.new.cutter.coming =
     subst (λ (x : Heading). Heads x all h.rest refusal c.next_heading.new.cutter.coming) c.in-Message.is (c.in_ok-offset.ensures.known all h.rest refusal h.comes) in
     let w : Awaited = record { all = all; message = heads.0; later = heads.1; refusal = refusal } in
-    let fails = c.in_err-builder-in-Message.ensures.known (draft_with_messages c.args.archive h.done d) w h.added heads.3 heads.4 in
+    let fails = c.in_err-add_message-in-Message.ensures.known (draft_with_messages c.args.archive h.done d) w h.added heads.3 heads.4 in
     rw (p.1, p.2) (inside-fault c.args.archive d all ms refusal c.messages.messages c.messages.builder c.messages.cutter.coming h start c.next_heading.new.cutter.coming heads.0 heads.1 heads.2
-    c.in_err-builder-in-Message.field-0.0 fails)
+    c.in_err-add_message-in-Message.field-0.0 fails)
 
 pub messages-preserved : goal.messages-preserved
 messages-preserved g c =
     let i = c.messages.invariant in
-    let e = c.in_ok-builder-in-Message.ensures in
+    let e = c.in_ok-add_message-in-Message.ensures in
     let start = c.in-Message.offset in
     let old = c.messages.cutter in
     let mid = c.next_heading.new.cutter in
@@ -64,7 +64,7 @@ messages-preserved g c =
           let w : Awaited = record { all = all; message = heads.0; later = heads.1; refusal = refusal } in
           let adds = e.known (draft_with_messages c.args.archive h.done d) w h.added heads.3 heads.4 in
           done-more c.args.archive d all ms refusal c.messages.messages c.messages.builder old.coming h start mid.coming heads.0 heads.1 heads.2
-          c.in_ok-builder-in-Message.builder c.add_message.new.cutter.coming adds.0 adds.1;
+          c.add_message.new.builder c.add_message.new.cutter.coming adds.0 adds.1;
     }
 
 pub returns-in-End-clause-known : goal.returns-in-End-clause-known

@@ -18,7 +18,7 @@ returns-in_err-feed_line-in-Line-clause-fault g c =
     let next = c.next_event.follows.lender-at-none.coming in
     let answers : Answers now (shown_result c.next_event.result) next = a.answers in
     let takes : TakesKnown (Line c.in-Line.line.now) now next = subst (λ (r : Result Event CutFault). Answers now (shown_result r) next) (c.in_ok-line.was ∙ ap Ok c.in-Line.is) answers in
-    rw (p.1, p.2) (λ d w ls rest r. line-is-fault d w ls rest c.args.text.now c.args.terms.now.builder now next c.in-Line.line.now c.in_err-feed_line-in-Line.field-0.0 r takes
+    rw (p.1, p.2) (λ d w ls rest r. line-is-fault d w ls rest c.args.text.now c.args.builder.now now next c.in-Line.line.now c.in_err-feed_line-in-Line.field-0.0 r takes
     (λ ms. c.in_err-feed_line-in-Line.ensures.err ls ms d r.so_far))
 
 pub returns-in_err-feed_line-in-Line-clause-own : goal.returns-in_err-feed_line-in-Line-clause-own
@@ -38,7 +38,7 @@ returns-in_ok-feed_line-in-Line-clause-known g c =
     let next = c.next_event.follows.lender-at-none.coming in
     let answers : Answers now (shown_result c.next_event.result) next = a.answers in
     let takes : TakesKnown (Line c.in-Line.line.now) now next = subst (λ (r : Result Event CutFault). Answers now (shown_result r) next) (c.in_ok-line.was ∙ ap Ok c.in-Line.is) answers in
-    λ d w ls rest r. reads-line d w ls rest c.args.text.now c.args.terms.now.builder now next c.in-Line.line.now c.feed_line.new.text c.feed_line.new.terms.builder r takes (c.in_ok-feed_line-in-Line.ensures.ok ls d r.so_far)
+    λ d w ls rest r. reads-line d w ls rest c.args.text.now c.args.builder.now now next c.in-Line.line.now c.feed_line.new.text c.feed_line.new.builder r takes (c.in_ok-feed_line-in-Line.ensures.ok ls d r.so_far)
 
 pub returns-in-End-clause-known : goal.returns-in-End-clause-known
 returns-in-End-clause-known g c =
@@ -47,4 +47,4 @@ returns-in-End-clause-known g c =
     let next = c.next_event.follows.lender-at-none.coming in
     let answers : Answers now (shown_result c.next_event.result) next = a.answers in
     let takes : TakesKnown (End c.in-End.length c.in-End.size) now next = subst (λ (r : Result Event CutFault). Answers now (shown_result r) next) (c.in_ok-line.was ∙ ap Ok c.in-End.is) answers in
-    λ d w ls rest r. reads-end d w ls rest c.args.text.now c.args.terms.now.builder now next (record { length = c.in-End.length; size = c.in-End.size }) r takes
+    λ d w ls rest r. reads-end d w ls rest c.args.text.now c.args.builder.now now next (record { length = c.in-End.length; size = c.in-End.size }) r takes

@@ -11,12 +11,12 @@ returns-in_err-facts-clause-err c =
 pub end_message-requires-clause-opened : goal.end_message-requires-clause-opened
 end_message-requires-clause-opened c =
     let o = c.requires.opened in
-    open-behind c.args.span.archive c.args.span.offset o.1 o.0 c.end_text.new.terms.builder (c.in_ok-facts.ensures.ok o.1 (Some o.0) o.2) o.3
+    open-behind c.args.span.archive c.args.span.offset o.1 o.0 c.end_text.new.builder (c.in_ok-facts.ensures.ok o.1 (Some o.0) o.2) o.3
 
 pub returns-clause-ok : goal.returns-clause-ok
 returns-clause-ok c =
-    finished-is c.end_message.result c.args.span c.in_ok-facts.facts c.args.text c.args.terms.builder c.end_text.new.terms.builder c.in_ok-facts.ensures.facts c.in_ok-facts.ensures.ok c.end_message.ensures.ok
+    finished-is c.end_message.result c.end_message.new.builder c.args.span c.in_ok-facts.facts c.args.text c.args.builder.now c.end_text.new.builder c.in_ok-facts.ensures.facts c.in_ok-facts.ensures.ok c.end_message.ensures.ok
 
 pub returns-clause-err : goal.returns-clause-err
 returns-clause-err c =
-    ids-fail c.end_message.result c.in_ok-facts.facts c.args.text c.args.terms.builder c.end_text.new.terms.builder c.in_ok-facts.ensures.facts c.in_ok-facts.ensures.ok c.end_message.ensures.err
+    ids-fail c.end_message.result c.in_ok-facts.facts c.args.text c.args.builder.now c.end_text.new.builder c.in_ok-facts.ensures.facts c.in_ok-facts.ensures.ok c.end_message.ensures.err
