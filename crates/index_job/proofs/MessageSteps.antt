@@ -18,7 +18,7 @@ use Rattle.index_job.specs.Inside.ArchiveReading.{Awaited, HasReadAll, IsMessage
 use Rattle.index_job.specs.ArchiveTables.{with_terms, date_told}
 use Rattle.index_job.specs.Inside.Gathering.{HasGathered, IsGatherFault, with_texts}
 use Rattle.index_job.specs.Indexing.{draft_with_terms, draft_with_messages, with_open_message, HasTooMany, IsReady, IsOpenAt, IsBuilderReady, IsJobFault, IsArchiveFault}
-use Rattle.index_job.specs.Inside.MessageEnds.{ended_with, record_at}
+use Rattle.index_job.specs.Inside.MessageEnds.{ended_with, ended_record}
 use Rattle.index_job.specs.MessageTerms.{Term, text_terms, id_terms, message_terms}
 use Rattle.index_job.proofs.Terms.{with_terms-append}
 use Rattle.index_job.proofs.ReadingLines.{gather-own, gather-is-job}
@@ -57,7 +57,7 @@ module _ (span : Span) (d : Draft) where
     phase = (h.phase.0, refl);
     most = h.most;
     archive = h.archive;
-    behind = rw (end_of-last span.archive d.table.messages (record_at span facts)) (last (nat_eq span.archive span.archive) refl);
+    behind = rw (end_of-last span.archive d.table.messages (ended_record span facts)) (last (nat_eq span.archive span.archive) refl);
   }
     where
       last : (b : Bool) → nat_eq span.archive span.archive ≡ b → (if b then span.offset + span.length else 0) ≤ span.offset + span.length

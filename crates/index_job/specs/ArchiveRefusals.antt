@@ -23,8 +23,8 @@ pub record IsWithinLimit (t : Table) : Type 0 where
   pub keys : length t.keys ≤ most_in_index
 
 -- the archive's bytes are refused
-abbrev pub IsRefusedAs : Mbox → CutFault → Type 0
-IsRefusedAs a fault = refusal_of most_in_archive a.bytes ≡ Some fault
+abbrev pub HasCutFault : Mbox → CutFault → Type 0
+HasCutFault a fault = refusal_of most_in_archive a.bytes ≡ Some fault
 
 -- no archive is refused, and all together they aren't too much
 pub record AreSound (archives : List Mbox) : Type 0 where
@@ -35,7 +35,7 @@ pub record AreSound (archives : List Mbox) : Type 0 where
 pub record IsCutOff (before : List Mbox) (last : Mbox) (fault : CutFault) : Type 0 where
   pub sound : AreSound before
   pub few : length before < most_in_index
-  pub refused : IsRefusedAs last fault
+  pub refused : HasCutFault last fault
 
 -- or because with it they are too much
 pub record IsOneTooMany (before : List Mbox) (last : Mbox) : Type 0 where

@@ -77,7 +77,7 @@ end_of archive (r ∷ []) = if nat_eq r.archive archive then r.offset + r.length
 end_of archive (r ∷ s ∷ rs) = end_of archive (s ∷ rs)
 
 -- the next message of the archive that is open, behind those before it
-pub record IsNext (d : Draft) (r : Record) : Type 0 where
+pub record IsNextMessage (d : Draft) (r : Record) : Type 0 where
   pub archive : r.archive ≡ archive_count d
   pub behind : end_of (archive_count d) d.table.messages ≤ r.offset
   pub within : r.offset + r.length ≤ 2 ^ 40

@@ -80,7 +80,7 @@ is_behind archive place m = nat_lt archive m.archive || (nat_eq archive m.archiv
 
 -- the record may follow in the archive of this number from the place on, or in a later one; the rest is the archives from
 -- this number on
-pub record IsNext (version count archive place : ℕ) (rest : List ℕ) (m : Record) : Type 0 where
+pub record IsNextRecord (version count archive place : ℕ) (rest : List ℕ) (m : Record) : Type 0 where
   pub exists : m.archive < count
   pub follows : is_behind archive place m ≡ true
   pub within : m.offset + m.length ≤ u64_at (behind_archives version (m.archive - archive) rest) 0
@@ -89,5 +89,5 @@ pub record IsNext (version count archive place : ℕ) (rest : List ℕ) (m : Rec
 abbrev pub AreRecords : ℕ → ℕ → ℕ → ℕ → List ℕ → ℕ → List ℕ → Type 0
 AreRecords version count archive place rest zero r = Unit {0}
 AreRecords version count archive place rest (suc n) r =
-    (is_record r ≡ true) × IsNext version count archive place rest (read_record r)
+    (is_record r ≡ true) × IsNextRecord version count archive place rest (read_record r)
     × AreRecords version count (read_record r).archive ((read_record r).offset + (read_record r).length) (behind_archives version ((read_record r).archive - archive) rest) n (drop 40 r)

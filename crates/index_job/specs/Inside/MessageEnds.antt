@@ -8,8 +8,8 @@ use Rattle.index_job.specs.ArchiveTables.{date_told}
 use Rattle.index_job.specs.Indexing.{draft_with_terms}
 use Rattle.index_job.specs.MessageTerms.{id_terms}
 
-abbrev pub record_at : Span → Facts → Record
-record_at span facts = record {
+abbrev pub ended_record : Span → Facts → Record
+ended_record span facts = record {
   archive = span.archive;
   offset = span.offset;
   length = span.length;
@@ -23,4 +23,4 @@ closed_with r d = record d { in_message = false; table = record d.table { messag
 
 -- with the ids, and the message closed
 abbrev pub ended_with : Facts → Span → Draft → Draft
-ended_with facts span d = closed_with (record_at span facts) (draft_with_terms (id_terms facts) d)
+ended_with facts span d = closed_with (ended_record span facts) (draft_with_terms (id_terms facts) d)

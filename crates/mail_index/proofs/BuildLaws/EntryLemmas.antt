@@ -8,7 +8,7 @@ use Rattle.mail_index.specs.Kinds.{kind_number, kind_of_number}
 use Rattle.mail_index.specs.Tables.{Key}
 use Rattle.mail_index.specs.Postings.{leb128}
 use Rattle.mail_index.specs.PostingLists.{end_from, numbers_of}
-use Rattle.mail_index.specs.Inside.KeyMaps.{with_one, key_in, short_front, front_holder, key_bytes, IsEntry}
+use Rattle.mail_index.specs.Inside.KeyMaps.{with_one, key_in, short_front, front_holder, key_bytes, AreEntryBytes}
 use Rattle.mail_index.proofs.ViewLaws.KindNumbers.{kind_of-number}
 use Rattle.mail_index.proofs.BuildLaws.PostingLemmas.{posted-nil, numbers_of-nil, posted-more, numbers_of-more, with_number-low, with_number-new}
 
@@ -22,8 +22,8 @@ behind-none b text =
     let long : length text + 1 ≡ length (b ∷ text) = omega arith in
     ap₂ (λ (n : ℕ) (l : List ℕ). drop n l) long (sym (append-nil (b ∷ text))) ∙ drop-append_seam (b ∷ text) []
 
-pub entry-none : (kind : Kind) (text bytes : List ℕ) → bytes ≡ kind_number kind ∷ text → IsEntry bytes (length text + 1) 0
-entry-none kind text bytes e = subst (λ (l : List ℕ). IsEntry l (length text + 1) 0) (sym e) (record {
+pub entry-none : (kind : Kind) (text bytes : List ℕ) → bytes ≡ kind_number kind ∷ text → AreEntryBytes bytes (length text + 1) 0
+entry-none kind text bytes e = subst (λ (l : List ℕ). AreEntryBytes l (length text + 1) 0) (sym e) (record {
   long = omega arith;
   kind = rw (front-all (kind_number kind) text) (ap (λ (k : Kind). kind_number k ∷ text) (kind_of-number kind));
   posted = rw (behind-none (kind_number kind) text) posted-nil;
@@ -74,7 +74,7 @@ key_bytes-more kept n bytes recent bytes' recent' more e = ap (λ (l : List ℕ)
 
 -- a front alone, kept apart or not, with no postings behind it
 pub record IsNew (kind : Kind) (text kept bytes recent : List ℕ) : Type 0 where
-  pub entry : IsEntry (key_bytes kept (length text + 1) bytes recent) (length text + 1) 0
+  pub entry : AreEntryBytes (key_bytes kept (length text + 1) bytes recent) (length text + 1) 0
   pub key : key_in (take (length text + 1) (key_bytes kept (length text + 1) bytes recent)) (drop (length text + 1) (key_bytes kept (length text + 1) bytes recent)) ≡ record { kind = kind; text = text; numbers = [] }
   pub long : length text + 1 ≤ length (front_holder kept (length text + 1) bytes)
 
@@ -106,7 +106,7 @@ new-long kind text kept bytes recent h front none =
 
 -- ---- one more number
 
-pub entry-more : (bytes : List ℕ) (front next n : ℕ) → IsEntry bytes front next → next ≤ n → n + 1 < 2 ^ 32 → IsEntry (bytes ++ leb128 5 (n + 1 - next)) front (n + 1)
+pub entry-more : (bytes : List ℕ) (front next n : ℕ) → AreEntryBytes bytes front next → next ≤ n → n + 1 < 2 ^ 32 → AreEntryBytes (bytes ++ leb128 5 (n + 1 - next)) front (n + 1)
 entry-more bytes front next n i low high =
     let l : List ℕ = leb128 5 (n + 1 - next) in
     record {
@@ -115,7 +115,7 @@ entry-more bytes front next n i low high =
       posted = rw (drop-append-le front bytes l i.long) (posted-more (drop front bytes) next n i.posted low high);
     }
 
-pub key-more : (bytes : List ℕ) (front next n : ℕ) → IsEntry bytes front next → next ≤ n → n + 1 < 2 ^ 32
+pub key-more : (bytes : List ℕ) (front next n : ℕ) → AreEntryBytes bytes front next → next ≤ n → n + 1 < 2 ^ 32
     → key_in (take front (bytes ++ leb128 5 (n + 1 - next))) (drop front (bytes ++ leb128 5 (n + 1 - next))) ≡ with_one (key_in (take front bytes) (drop front bytes)) n
 key-more bytes front next n i low high =
     let l : List ℕ = leb128 5 (n + 1 - next) in
@@ -125,7 +125,7 @@ key-more bytes front next n i low high =
     (numbers_of-more (drop front bytes) next n i.posted low high ∙ sym (with_number-new (numbers_of (drop front bytes)) n new))
 
 -- a number below the end changes nothing
-pub key-same : (bytes : List ℕ) (front next n : ℕ) → IsEntry bytes front next → n < next → key_in (take front bytes) (drop front bytes) ≡ with_one (key_in (take front bytes) (drop front bytes)) n
+pub key-same : (bytes : List ℕ) (front next n : ℕ) → AreEntryBytes bytes front next → n < next → key_in (take front bytes) (drop front bytes) ≡ with_one (key_in (take front bytes) (drop front bytes)) n
 key-same bytes front next n i low =
     let old : n < end_from 0 (numbers_of (drop front bytes)) = omega (arith, i.posted.ends, low) in
     ap (λ (ns : List ℕ). let key : Key = record { kind = kind_of_number (slice_index (take front bytes) 0); text = drop 1 (take front bytes); numbers = ns } in key) (sym (with_number-low (numbers_of (drop front bytes)) n old))

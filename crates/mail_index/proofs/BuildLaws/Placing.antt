@@ -6,7 +6,7 @@ use Rattle.std.proofs.lemmas.Bool.Decides.{nat_tests}
 use Rattle.mail_index.specs.declared.record.Record.{Record}
 use Rattle.mail_index.specs.Versions.{IsVersion, newest}
 use Rattle.mail_index.specs.Tables.{Archive, archive_length, IsMessage, Follows, AllNext, IsPath, IsArchive, IsKey, IsWellFormed}
-use Rattle.mail_index.specs.Builders.{Draft, end_of, IsNext, IsInMessage, IsBetweenArchives}
+use Rattle.mail_index.specs.Builders.{Draft, end_of, IsNextMessage, IsInMessage, IsBetweenArchives}
 use Rattle.mail_index.specs.Inside.Drafts.{with_open, IsDraft}
 use Rattle.mail_index.proofs.BuildLaws.DraftLemmas.{all-snoc, all-weaker, listed-weaker}
 
@@ -120,7 +120,7 @@ archives-low_open : (archives : List Archive) (path : Option (List ℕ)) (ms : L
 archives-low_open archives None ms all = all-weaker (IsMessage archives) (λ m. m.archive ≤ length archives) (λ m is. omega (arith, is.exists)) ms all
 archives-low_open archives (Some p) ms all = archives-low archives (record { path = p; length = 2 ^ 40; digest = None }) ms all
 
-pub message-ended_draft : (d : Draft) (r : Record) → IsDraft d → IsInMessage d → IsNext d r → IfSome r.date (FitsSigned w64)
+pub message-ended_draft : (d : Draft) (r : Record) → IsDraft d → IsInMessage d → IsNextMessage d r → IfSome r.date (FitsSigned w64)
     → IsDraft (record { most = d.most; path = d.path; in_message = false; table = record { version = d.table.version; archives = d.table.archives; messages = d.table.messages ++ r ∷ []; keys = d.table.keys } })
 message-ended_draft d r is inside next date =
     let low : AllByRecursion (λ m. m.archive ≤ r.archive) d.table.messages =

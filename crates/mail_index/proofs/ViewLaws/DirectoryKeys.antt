@@ -39,13 +39,13 @@ key_at-read texts postings (suc n) d (suc i) h =
     ∙ ap (λ (l : List ℕ). key_of (read_entry texts postings l)) (drop-drop (24 * i) 24 d ∙ ap (λ (k : ℕ). drop k d) place)
 
 -- what holds of each entry
-pub record IsEntry (texts : List ℕ) (total : ℕ) (d : List ℕ) : Type 0 where
+pub record BeginsWithEntry (texts : List ℕ) (total : ℕ) (d : List ℕ) : Type 0 where
   pub kind : kind_number (kind_of_number (byte_at d 0)) ≡ byte_at d 0
   pub text : u64_at d 8 + u32_at d 4 ≤ length texts
   pub begins : u64_at d 16 < end_before (drop 24 d) total
   pub ends : end_before (drop 24 d) total ≤ total
 
-entry_is : (version : ℕ) (texts : List ℕ) (total tp pp number : ℕ) (text d : List ℕ) → IsEntryAt version texts total tp pp number text d → IsEntry texts total d
+entry_is : (version : ℕ) (texts : List ℕ) (total tp pp number : ℕ) (text d : List ℕ) → IsEntryAt version texts total tp pp number text d → BeginsWithEntry texts total d
 unfolding is_entry
 entry_is version texts total tp pp number text d h =
     let k = byte_at d 0 in
@@ -59,12 +59,12 @@ entry_is version texts total tp pp number text d h =
       ends = h.end;
     }
 
-pub entry-at : (version : ℕ) (texts : List ℕ) (total tp pp number : ℕ) (text : List ℕ) (n : ℕ) (d : List ℕ) (i : ℕ) → AreEntries version texts total tp pp number text n d → i < n → IsEntry texts total (drop (24 * i) d)
+pub entry-at : (version : ℕ) (texts : List ℕ) (total tp pp number : ℕ) (text : List ℕ) (n : ℕ) (d : List ℕ) (i : ℕ) → AreEntries version texts total tp pp number text n d → i < n → BeginsWithEntry texts total (drop (24 * i) d)
 entry-at version texts total tp pp number text zero d i h lt = absurd (omega (arith, lt))
 entry-at version texts total tp pp number text (suc n) d zero h lt = entry_is version texts total tp pp number text d h.0
 entry-at version texts total tp pp number text (suc n) d (suc i) h lt =
     let place : 24 + 24 * i ≡ 24 * suc i = omega arith in
-    subst (λ (l : List ℕ). IsEntry texts total l) (drop-drop (24 * i) 24 d ∙ ap (λ (k : ℕ). drop k d) place)
+    subst (λ (l : List ℕ). BeginsWithEntry texts total l) (drop-drop (24 * i) 24 d ∙ ap (λ (k : ℕ). drop k d) place)
     (entry-at version texts total (tp + u32_at d 4) (end_before (drop 24 d) total) (byte_at d 0) (text_at texts d) n (drop 24 d) i h.1 (omega (arith, lt)))
 
 pub list-at : (messages : ℕ) (postings : List ℕ) (n : ℕ) (d : List ℕ) (i : ℕ) → messages ≤ 2 ^ 32 → AreLists messages postings n d → i < n → ArePosted (2 ^ 32) 0 (list_at postings (drop (24 * i) d))
@@ -120,7 +120,7 @@ number-below texts postings count entries keys number view less = omega (arith, 
 -- the directory from the entry of a number on
 pub record IsRest (texts postings : List ℕ) (keys : List Key) (number : ℕ) (rest : List ℕ) : Type 0 where
   pub long : 24 ≤ length rest
-  pub entry : IsEntry texts (length postings) rest
+  pub entry : BeginsWithEntry texts (length postings) rest
   pub posted : ArePosted (2 ^ 32) 0 (list_at postings rest)
   pub key : key_at keys number ≡ key_of (read_entry texts postings rest)
 
@@ -130,7 +130,7 @@ rest-at texts postings count entries keys number rest h view less back =
     let below : number < count = number-below texts postings count entries keys number view less in
     record {
       long = omega (arith, h.long, below, ap length back, length-drop (24 * number) entries);
-      entry = subst (IsEntry texts (length postings)) (sym back) (entry-at h.version texts (length postings) 0 0 0 [] count entries number h.sorted below);
+      entry = subst (BeginsWithEntry texts (length postings)) (sym back) (entry-at h.version texts (length postings) 0 0 0 [] count entries number h.sorted below);
       posted = subst (λ (l : List ℕ). ArePosted (2 ^ 32) 0 (list_at postings l)) (sym back) (list-at h.messages postings count entries number h.few h.lists below);
       key = ap (λ (ks : List Key). key_at ks number) (sym view) ∙ key_at-read texts postings count entries number below
           ∙ ap (λ (l : List ℕ). key_of (read_entry texts postings l)) (sym back);

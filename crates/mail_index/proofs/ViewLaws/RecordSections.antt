@@ -9,7 +9,7 @@ use Rattle.mail_index.specs.declared.record.Record.{Record}
 use Rattle.mail_index.specs.Fields.{byte_at, u64_at}
 use Rattle.mail_index.specs.Files.{record_bytes}
 use Rattle.mail_index.specs.Tables.{Archive, IsArchive, IsMessage, Follows, AllNext, archive_length}
-use Rattle.mail_index.specs.Records.{has_bit, is_behind, behind_archives, read_archives, IsNext, AreRecords, read_record, read_records, is_record}
+use Rattle.mail_index.specs.Records.{has_bit, is_behind, behind_archives, read_archives, IsNextRecord, AreRecords, read_record, read_records, is_record}
 use Rattle.mail_index.proofs.FileLaws.Bytes.{AreBytes, bytes_behind}
 use Rattle.mail_index.proofs.FileLaws.OneTable.{small_archive}
 use Rattle.mail_index.proofs.ViewLaws.RecordReads.{HasSmallFields, record_back, behind_record, record_kept, record_passes}
@@ -102,10 +102,10 @@ records_back version archives (m ∷ ms) l a h =
     let tail : read_records (length ms) (flat_map record_bytes ms) ≡ ms = records_back version archives ms l a h.1 in
     λ i. head i ∷ tail i
 
-one_more : (version count archive place : ℕ) (rest : List ℕ) (n : ℕ) (r behind : List ℕ) (m : Record) → read_record r ≡ m → drop 40 r ≡ behind → is_record r ≡ true → IsNext version count archive place rest m
+one_more : (version count archive place : ℕ) (rest : List ℕ) (n : ℕ) (r behind : List ℕ) (m : Record) → read_record r ≡ m → drop 40 r ≡ behind → is_record r ≡ true → IsNextRecord version count archive place rest m
     → AreRecords version count m.archive (m.offset + m.length) (behind_archives version (m.archive - archive) rest) n behind → AreRecords version count archive place rest (suc n) r
 one_more version count archive place rest n r behind m e d t x h =
-    let P = λ (y : Record). IsNext version count archive place rest y × AreRecords version count y.archive (y.offset + y.length) (behind_archives version (y.archive - archive) rest) n (drop 40 r) in
+    let P = λ (y : Record). IsNextRecord version count archive place rest y × AreRecords version count y.archive (y.offset + y.length) (behind_archives version (y.archive - archive) rest) n (drop 40 r) in
     let k : AreRecords version count m.archive (m.offset + m.length) (behind_archives version (m.archive - archive) rest) n (drop 40 r) =
     subst (AreRecords version count m.archive (m.offset + m.length) (behind_archives version (m.archive - archive) rest) n) (sym d) h in
     let q = subst P (sym e) (x, k) in
@@ -122,6 +122,6 @@ are_records_of version count s archive place rest (m ∷ ms) l a e h b =
     let below : archive ≤ m.archive = not_before archive place m b.0 in
     let later : behind_archives version (m.archive - archive) rest ≡ behind_archives version m.archive s = behind_later version archive m.archive s rest below e in
     let most : archive_length (read_archives version count s) m.archive ≡ u64_at (behind_archives version (m.archive - archive) rest) 0 = length_at version count m.archive s exists ∙ ap (λ (x : List ℕ). u64_at x 0) (sym later) in
-    let next : IsNext version count archive place rest m = record { exists = exists; follows = b.0; within = omega (arith, h.0.within, most); size = h.0.size } in
+    let next : IsNextRecord version count archive place rest m = record { exists = exists; follows = b.0; within = omega (arith, h.0.within, most); size = h.0.size } in
     one_more version count archive place rest (length ms) (record_bytes m ++ r) r m (record_back m r small) (behind_record m r) (record_passes m r small) next
     (are_records_of version count s m.archive (m.offset + m.length) (behind_archives version (m.archive - archive) rest) ms l a later h.1 b.1)

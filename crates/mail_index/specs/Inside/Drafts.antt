@@ -9,15 +9,15 @@ use Rattle.mail_index.specs.Versions.{newest}
 use Rattle.mail_index.specs.Tables.{Archive, Key, IsPath, IsArchive, IsMessage, Follows, AllNext, KeyBefore, IsKey}
 use Rattle.mail_index.specs.Builders.{Draft}
 
-abbrev pub archive_of : NamedArchive → Archive
-archive_of a = record { path = string_bytes a.path; length = a.length; digest = Some a.digest }
+abbrev pub kept_archive : NamedArchive → Archive
+kept_archive a = record { path = string_bytes a.path; length = a.length; digest = Some a.digest }
 
 abbrev pub draft_of : ℕ → Option (String Global) → Bool → List NamedArchive → List Record → List Key → Draft
 draft_of most path in_message archives records keys = record {
   most = most;
   path = option_map string_bytes path;
   in_message = in_message;
-  table = record { version = newest; archives = map archive_of archives; messages = records; keys = keys };
+  table = record { version = newest; archives = map kept_archive archives; messages = records; keys = keys };
 }
 
 -- how many messages there are, with the one that is open

@@ -29,7 +29,7 @@ abbrev pub key_in : List ℕ → List ℕ → Key
 key_in front postings = record { kind = kind_of_number (slice_index front 0); text = drop 1 front; numbers = numbers_of postings }
 
 -- so many of the bytes are the number of a kind and a text, and the others are postings of numbers below next
-pub record IsEntry (bytes : List ℕ) (front next : ℕ) : Type 0 where
+pub record AreEntryBytes (bytes : List ℕ) (front next : ℕ) : Type 0 where
   pub long : front ≤ length bytes
   pub kind : kind_number (kind_of_number (slice_index (take front bytes) 0)) ∷ drop 1 (take front bytes) ≡ take front bytes
   pub posted : IsPosted (drop front bytes) next

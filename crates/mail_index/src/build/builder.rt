@@ -5,7 +5,7 @@ ghost use Rattle.contract_words.specs.Answers.{Gives};
 ghost use Rattle.contract_words.specs.Devices.{Counted, Sends};
 ghost use Rattle.mail_index.specs.Files.{HasSmallSections, index_file};
 ghost use Rattle.mail_index.specs.Tables.{IsPath, IsWellFormed};
-ghost use Rattle.mail_index.specs.Builders.{empty_draft, begun_archive, begun_message, added, ended_message, ended_archive, refusal, is_device, stepped, archive_count, end_of, IsNext, IsBetweenArchives, IsInArchive, IsInMessage, IsWithinMost};
+ghost use Rattle.mail_index.specs.Builders.{empty_draft, begun_archive, begun_message, added, ended_message, ended_archive, refusal, is_device, stepped, archive_count, end_of, IsNextMessage, IsBetweenArchives, IsInArchive, IsInMessage, IsWithinMost};
 
 use crate::build::build_fault::BuildFault;
 use crate::build::draft::Draft;
@@ -145,7 +145,7 @@ impl Builder {
     /// with a text that is shorter than itself.
     pub fn end_message(&mut self, message: Record) -> Result<(), BuildFault>
         requires phase { IfSome self.old IsInMessage }
-        requires next { IfSome self.old (λ d. IsNext d message) }
+        requires next { IfSome self.old (λ d. IsNextMessage d message) }
         ensures gives { Gives (λ _. self.new) refusal result (stepped (ended_message message) self.old) }
         ensures lost { OnErr result (self.new ≡ None) }
         ensures failed { IfNone self.old (result ≡ Err BuildFault.Failed) }

@@ -9,7 +9,7 @@ ghost use Rattle.mail_index.specs.Files.{HasSmallSections, body, index_file};
 ghost use Rattle.mail_index.specs.Inside.SectionCounts.{IsCountOf, counted_length};
 ghost use Rattle.mail_index.specs.Inside.Signing.{BreaksOff, Signs};
 ghost use Rattle.mail_index.specs.Tables.{IsPath, IsWellFormed};
-ghost use Rattle.mail_index.specs.Builders.{empty_draft, begun_archive, begun_message, added, ended_message, ended_archive, refusal, archive_count, end_of, IsNext, IsBetweenArchives, IsInMessage, IsWithinMost};
+ghost use Rattle.mail_index.specs.Builders.{empty_draft, begun_archive, begun_message, added, ended_message, ended_archive, refusal, archive_count, end_of, IsNextMessage, IsBetweenArchives, IsInMessage, IsWithinMost};
 
 use crate::build::build_fault::BuildFault;
 use crate::build::file_out::Signer;
@@ -120,7 +120,7 @@ impl Draft {
     /// Closes the message that is open.
     pub fn end_message(&mut self, message: Record) -> Result<(), BuildFault>
         requires phase { IsInMessage self.old }
-        requires next { IsNext self.old message }
+        requires next { IsNextMessage self.old message }
         ensures { Gives (λ _. self.new) refusal result (ended_message message self.old) }
     {
         fits_date(&message);

@@ -38,13 +38,13 @@ pub struct KeyEntry {
 impl Model for KeyEntry {
     ghost use Rattle.std.specs.Prelude.{◌+◌, ◌≤◌, length, take, drop};
     ghost use Rattle.mail_index.specs.Tables.{Key};
-    ghost use Rattle.mail_index.specs.Inside.KeyMaps.{key_in, front_holder, key_bytes, IsEntry};
+    ghost use Rattle.mail_index.specs.Inside.KeyMaps.{key_in, front_holder, key_bytes, AreEntryBytes};
 
     ghost Value = { Key };
 
     ghost view = { λ s. key_in (take (s.text_length + 1) (key_bytes s.front (s.text_length + 1) s.bytes.items s.recent)) (drop (s.text_length + 1) (key_bytes s.front (s.text_length + 1) s.bytes.items s.recent)) };
 
-    ghost invariant = { λ s. IsEntry (key_bytes s.front (s.text_length + 1) s.bytes.items s.recent) (s.text_length + 1) s.next × (s.text_length + 1 ≤ length (front_holder s.front (s.text_length + 1) s.bytes.items)) };
+    ghost invariant = { λ s. AreEntryBytes (key_bytes s.front (s.text_length + 1) s.bytes.items s.recent) (s.text_length + 1) s.next × (s.text_length + 1 ≤ length (front_holder s.front (s.text_length + 1) s.bytes.items)) };
 }
 
 impl KeyEntry {

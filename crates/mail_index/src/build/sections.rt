@@ -3,7 +3,7 @@ ghost use Rattle.std.specs.List.{concat};
 ghost use Rattle.std.specs.Prelude.{length, ◌≡◌, ◌-◌, ◌^◌, ◌<◌, ◌≤◌, OnOk, OnErr, map, flat_map};
 ghost use Rattle.contract_words.specs.Devices.{Counts as CountsFailures};
 ghost use Rattle.mail_index.specs.Files.{archive_bytes, record_bytes, flags_byte, bit, date_number};
-ghost use Rattle.mail_index.specs.Inside.Drafts.{archive_of};
+ghost use Rattle.mail_index.specs.Inside.Drafts.{kept_archive};
 ghost use Rattle.mail_index.specs.Inside.SectionCounts.{counted};
 ghost use Rattle.mail_index.specs.Inside.Signing.{BreaksOff, Signs};
 
@@ -60,8 +60,8 @@ pub fn send_counts<O: Out>(
 
 /// How many bytes the archives' entries have.
 pub fn archives_length(archives: &[NamedArchive]) -> u64
-    requires { length (flat_map archive_bytes (map archive_of archives.now)) < 2 ^ 64 }
-    ensures { result ≡ length (flat_map archive_bytes (map archive_of archives.now)) }
+    requires { length (flat_map archive_bytes (map kept_archive archives.now)) < 2 ^ 64 }
+    ensures { result ≡ length (flat_map archive_bytes (map kept_archive archives.now)) }
 {
     let mut total = 0;
     for archive in archives {
@@ -78,8 +78,8 @@ pub fn send_archives<O: Out>(
     archives: &[NamedArchive],
 ) -> Result<(), DeviceFault>
     requires { O.failures out.old < 2 ^ 64 - 1 }
-    ensures ok { OnOk result (Signs (O.taken out.old) (O.taken out.new) signer.old signer.new (flat_map archive_bytes (map archive_of archives.now))) }
-    ensures err { OnErr result (BreaksOff (O.taken out.old) (O.taken out.new) signer.old (flat_map archive_bytes (map archive_of archives.now))) }
+    ensures ok { OnOk result (Signs (O.taken out.old) (O.taken out.new) signer.old signer.new (flat_map archive_bytes (map kept_archive archives.now))) }
+    ensures err { OnErr result (BreaksOff (O.taken out.old) (O.taken out.new) signer.old (flat_map archive_bytes (map kept_archive archives.now))) }
     ensures count { CountsFailures result (O.failures out.old) (O.failures out.new) }
 {
     for archive in archives {
@@ -95,8 +95,8 @@ fn send_archive<O: Out>(
     archive: &NamedArchive,
 ) -> Result<(), DeviceFault>
     requires { O.failures out.old < 2 ^ 64 - 1 }
-    ensures ok { OnOk result (Signs (O.taken out.old) (O.taken out.new) signer.old signer.new (archive_bytes (archive_of archive.now))) }
-    ensures err { OnErr result (BreaksOff (O.taken out.old) (O.taken out.new) signer.old (archive_bytes (archive_of archive.now))) }
+    ensures ok { OnOk result (Signs (O.taken out.old) (O.taken out.new) signer.old signer.new (archive_bytes (kept_archive archive.now))) }
+    ensures err { OnErr result (BreaksOff (O.taken out.old) (O.taken out.new) signer.old (archive_bytes (kept_archive archive.now))) }
     ensures count { CountsFailures result (O.failures out.old) (O.failures out.new) }
 {
     let path = archive.path.as_bytes();

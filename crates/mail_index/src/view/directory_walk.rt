@@ -47,7 +47,7 @@ pub(crate) fn end_before(entries: &[u8], total: u64) -> u64
 /// Where the walk has come: where the texts and the postings of the next entry begin, and the key of the last one, which is
 /// of kind 0 before the first.
 #[derive(Clone, Copy)]
-struct Place<'a> {
+struct EntryPlace<'a> {
     text_place: u64,
     place: u64,
     number: u8,
@@ -56,12 +56,12 @@ struct Place<'a> {
 
 /// The place behind the first entry, if it may stand behind the last one. There are `total` bytes of postings.
 fn behind_entry<'a>(
-    place: Place<'a>,
+    place: EntryPlace<'a>,
     entries: &[u8],
     texts: &'a [u8],
     total: u64,
     version: Version,
-) -> Option<Place<'a>>
+) -> Option<EntryPlace<'a>>
     requires long { 24 ≤ length entries.now }
     requires whole { 24 < length entries.now → 48 ≤ length entries.now }
     requires bound { place.text_place ≤ length texts.now }
@@ -96,7 +96,7 @@ fn behind_entry<'a>(
         return None;
     }
     match compare_keys(place.number, place.text, entries[0], text) {
-        Ordering::Less => Some(Place {
+        Ordering::Less => Some(EntryPlace {
             text_place: place.text_place + text_length as u64,
             place: end,
             number: entries[0],
@@ -120,7 +120,7 @@ pub(crate) fn are_entries(
     ensures { IsTrue result ↔ AreEntries (version_number version) texts.now total 0 0 0 [] count directory.now }
 {
     let mut rest = directory;
-    let mut place = Place {
+    let mut place = EntryPlace {
         text_place: 0,
         place: 0,
         number: 0,

@@ -1,7 +1,7 @@
 //! The records of a section, against the archives that they are in.
 ghost use Rattle.std.specs.Prelude.{◌≡◌, ◌↔◌, ◌+◌, ◌-◌, ◌*◌, ◌≤◌, ℕ, length, MatchOption, IsTrue};
 ghost use Rattle.mail_index.specs.Versions.{version_number};
-ghost use Rattle.mail_index.specs.Records.{SpellsArchives, IsNext, AreRecords, is_behind as is_behind_of, behind_archives as behind_archives_of};
+ghost use Rattle.mail_index.specs.Records.{SpellsArchives, IsNextRecord, AreRecords, is_behind as is_behind_of, behind_archives as behind_archives_of};
 
 use crate::record::{Record, is_record};
 use crate::version::Version;
@@ -10,7 +10,7 @@ use crate::view::archive::{behind_archives, first_length};
 /// Where the walk has come: the archive of the last message, the place in it where that one ended, and the archives from
 /// this one on.
 #[derive(Clone, Copy)]
-struct Place<'a> {
+struct RecordPlace<'a> {
     archive: u32,
     offset: u64,
     archives: &'a [u8],
@@ -25,15 +25,15 @@ fn is_behind(archive: u32, offset: u64, message: Record) -> bool
 
 /// The place behind a message, if it may stand behind the last one and lies in its archive. There are `count` archives.
 fn behind_message<'a>(
-    place: Place<'a>,
+    place: RecordPlace<'a>,
     count: u32,
     message: Record,
     version: Version,
-) -> Option<Place<'a>>
+) -> Option<RecordPlace<'a>>
     requires bound { place.archive ≤ count }
     requires spelled { SpellsArchives (version_number version) (count - place.archive) place.archives.now }
-    ensures next { MatchOption result (¬ IsNext (version_number version) count place.entry.archive place.entry.offset place.entry.archives.now message)
-        (λ p. IsNext (version_number version) count place.entry.archive place.entry.offset place.entry.archives.now message × (p.archive ≡ message.archive)
+    ensures next { MatchOption result (¬ IsNextRecord (version_number version) count place.entry.archive place.entry.offset place.entry.archives.now message)
+        (λ p. IsNextRecord (version_number version) count place.entry.archive place.entry.offset place.entry.archives.now message × (p.archive ≡ message.archive)
         × (p.offset ≡ message.offset + message.length)
         × (p.archives.now ≡ behind_archives_of (version_number version) (message.archive - place.entry.archive) place.entry.archives.now)
         × SpellsArchives (version_number version) (count - p.archive) p.archives.now) }
@@ -61,7 +61,7 @@ fn behind_message<'a>(
     if message.size >= message.length {
         return None;
     }
-    Some(Place {
+    Some(RecordPlace {
         archive: message.archive,
         offset,
         archives,
@@ -81,7 +81,7 @@ pub(crate) fn are_records(
     ensures { IsTrue result ↔ AreRecords (version_number version) count 0 0 archives.now messages section.now }
 {
     let mut rest = section;
-    let mut place = Place {
+    let mut place = RecordPlace {
         archive: 0,
         offset: 0,
         archives,

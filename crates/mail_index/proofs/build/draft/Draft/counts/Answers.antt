@@ -1,13 +1,13 @@
 use Rattle.std.proofs.Common.{◌≡◌, ◌<◌, ◌≤◌, ◌^◌, length, map, refl, rules, arith}
 use Rattle.std.proofs.lemmas.Grind.{common_steps}
 use Rattle.mail_index.specs.Builders.{Draft}
-use Rattle.mail_index.specs.Inside.Drafts.{draft_of, archive_of, message_count}
+use Rattle.mail_index.specs.Inside.Drafts.{draft_of, kept_archive, message_count}
 use Rattle.mail_index.proofs.BuildLaws.DraftLemmas.{message_count-within}
 use Rattle.mail_index.proofs.BuildLaws.Sizes.{length-archives, length-texts, length-all_postings, counted_length-small}
 use Rattle.mail_index.proofs.build.draft.Draft.counts.Goals as goal
 
 pub archives_length-requires : goal.archives_length-requires
-archives_length-requires c = rw c.as_slice.ensures.value (omega (arith, length-archives (map archive_of c.self.inside.archives.items) c.self.invariant.named, c.self.invariant.archives, c.self.invariant.limit))
+archives_length-requires c = rw c.as_slice.ensures.value (omega (arith, length-archives (map kept_archive c.self.inside.archives.items) c.self.invariant.named, c.self.invariant.archives, c.self.invariant.limit))
 
 pub texts_length-requires : goal.texts_length-requires
 texts_length-requires c = omega (arith, length-texts _ c.self.inside.keys c.self.invariant.listed, c.self.invariant.keys, c.self.invariant.limit)
@@ -25,7 +25,7 @@ returns-clause-small c =
     let archives : length d.table.archives < 2 ^ 31 = omega (arith, c.self.invariant.archives, c.self.invariant.limit) in
     let messages : length d.table.messages < 2 ^ 31 = omega (arith, c.self.invariant.messages, c.self.invariant.limit) in
     let keys : length d.table.keys < 2 ^ 31 = omega (arith, c.self.invariant.keys, c.self.invariant.limit) in
-    let archive_count : c.len.result ≡ length (map archive_of c.self.inside.archives.items) = first_of (search rules, grind (arith, common_steps)) in
+    let archive_count : c.len.result ≡ length (map kept_archive c.self.inside.archives.items) = first_of (search rules, grind (arith, common_steps)) in
     let message_count_is : c.len-2.result ≡ length c.self.inside.records.items = first_of (search rules, grind (arith, common_steps)) in
     counted_length-small d.table _ (message_count d) (record {
       version = refl;

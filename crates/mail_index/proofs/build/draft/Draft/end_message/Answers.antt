@@ -1,5 +1,5 @@
 use Rattle.std.proofs.Common.{sym, subst}
-use Rattle.mail_index.specs.Builders.{Draft, IsNext, IsInMessage}
+use Rattle.mail_index.specs.Builders.{Draft, IsNextMessage, IsInMessage}
 use Rattle.mail_index.specs.Inside.Drafts.{draft_of}
 use Rattle.mail_index.proofs.BuildLaws.Placing.{message-ended_draft}
 use Rattle.mail_index.proofs.build.draft.Draft.end_message.Goals as goal
@@ -8,5 +8,5 @@ pub invariant_of-self-2 : goal.invariant_of-self-2
 invariant_of-self-2 c =
     let d : Draft = draft_of c.self.inside.most c.self.inside.path c.self.inside.in_message c.self.inside.archives.items c.self.inside.records.items c.self.inside.keys in
     let inside : IsInMessage d = subst (λ (e : Draft). IsInMessage e) (sym c.self.view_is) c.requires.phase in
-    let next : IsNext d c.args.message = subst (λ (e : Draft). IsNext e c.args.message) (sym c.self.view_is) c.requires.next in
+    let next : IsNextMessage d c.args.message = subst (λ (e : Draft). IsNextMessage e c.args.message) (sym c.self.view_is) c.requires.next in
     rw c.in_ok-push.ensures.items (message-ended_draft d c.args.message c.self.invariant inside next c.fits_date.ensures)

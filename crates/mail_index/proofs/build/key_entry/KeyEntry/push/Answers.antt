@@ -1,7 +1,7 @@
 use Rattle.std.proofs.Common.{◌≡◌, ◌∙◌, ℕ, List, ◌+◌, ◌-◌, ◌^◌, ◌<◌, ◌≤◌, ◌++◌, take, drop, ap, sym, subst, arith}
 use Rattle.mail_index.specs.Tables.{Key}
 use Rattle.mail_index.specs.Postings.{leb128}
-use Rattle.mail_index.specs.Inside.KeyMaps.{with_one, key_in, key_bytes, IsEntry}
+use Rattle.mail_index.specs.Inside.KeyMaps.{with_one, key_in, key_bytes, AreEntryBytes}
 use Rattle.mail_index.proofs.BuildLaws.EntryLemmas.{entry-more, key-more, key-same, key_bytes-more, within-more}
 use Rattle.mail_index.proofs.build.key_entry.KeyEntry.push.Goals as goal
 
@@ -21,7 +21,7 @@ invariant_of-self-2 c =
     (c.in_ok-append.ensures.ok ∙ ap (λ (l : List ℕ). (c.self.inside.bytes.items ++ c.self.inside.recent) ++ l) c.leb128_of-difference.ensures.bytes) in
     let low : c.self.inside.next ≤ c.args.number = omega arith in
     let high : c.args.number + 1 < 2 ^ 32 = omega arith in (
-      subst (λ (l : List ℕ). IsEntry l front (c.args.number + 1)) (sym e) (entry-more whole front c.self.inside.next c.args.number c.self.invariant.0 low high),
+      subst (λ (l : List ℕ). AreEntryBytes l front (c.args.number + 1)) (sym e) (entry-more whole front c.self.inside.next c.args.number c.self.invariant.0 low high),
       within-more c.self.inside.front c.self.inside.bytes.items c.append.new.bytes.items front c.self.invariant.1 c.in_ok-append.ensures.kept,
     )
 
