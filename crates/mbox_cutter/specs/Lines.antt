@@ -2,6 +2,11 @@
 use Rattle.std.specs.Prelude.{◌≡◌, ℕ, zero, suc, ◌+◌, ◌<◌, ◌≤◌, ◌==◌, ◌||◌, Bool, nat_lt, if◌then◌else◌, List, [], ◌∷◌, Option, None, Some, length, take, drop}
 use Rattle.std.specs.List.{concat}
 use Rattle.std.specs.Str.{bytes_eq}
+use Rattle.mbox_cutter.specs.declared.line.TheConstants.{MOST_IN_LINE}
+
+-- the most bytes other than LF that a line has
+abbrev pub most_before_feed : ℕ
+most_before_feed = MOST_IN_LINE
 
 -- LF, or CR LF
 unfoldable pub is_empty : List ℕ → Bool
@@ -16,13 +21,13 @@ length_before_feed (b ∷ bytes) = if b == 10 then 0 else suc (length_before_fee
 -- first 65,537 bytes, and after 65,536 bytes if 65,537 are there and have no LF.
 unfoldable pub line_end_of : List ℕ → Option ℕ
 line_end_of bytes =
-    if nat_lt 65536 (length_before_feed bytes) then Some 65536
+    if nat_lt most_before_feed (length_before_feed bytes) then Some most_before_feed
     else if nat_lt (length_before_feed bytes) (length bytes) then Some (length_before_feed bytes + 1) else None
 
 -- the length of the first line, where these are all the bytes
 unfoldable pub first_length : List ℕ → ℕ
 first_length bytes =
-    if nat_lt 65536 (length_before_feed bytes) then 65536
+    if nat_lt most_before_feed (length_before_feed bytes) then most_before_feed
     else if nat_lt (length_before_feed bytes) (length bytes) then length_before_feed bytes + 1 else length bytes
 
 -- the first n lines
@@ -39,13 +44,13 @@ lines bytes = first_lines (length bytes) bytes
 pub record IsLine (line : List ℕ) : Type 0 where
   pub some : 0 < length line
   pub last : length line ≤ length_before_feed line + 1
-  pub short : length_before_feed line ≤ 65536
+  pub short : length_before_feed line ≤ most_before_feed
 
 -- a line without LF that isn't the last has exactly 65,536 bytes and isn't followed by LF
 abbrev pub AreCut : List (List ℕ) → Type 0
 AreCut [] = Unit {0}
 AreCut (l ∷ []) = IsLine l
-AreCut (l ∷ m ∷ ls) = IsLine l × (length_before_feed l ≡ length l → (length l ≡ 65536) × (0 < length_before_feed m)) × AreCut (m ∷ ls)
+AreCut (l ∷ m ∷ ls) = IsLine l × (length_before_feed l ≡ length l → (length l ≡ most_before_feed) × (0 < length_before_feed m)) × AreCut (m ∷ ls)
 
 -- these are lines, and join to the bytes
 pub record AreLines (bytes : List ℕ) (ls : List (List ℕ)) : Type 0 where

@@ -1,8 +1,9 @@
 -- The lines at which a message may start: `From `, an address, and a date (RFC 4155, Appendix A). Any line that begins with
 -- `From ` and has a time and a later year among its words is taken, wherever a zone stands and whatever the address is.
-use Rattle.std.specs.Prelude.{ℕ, ◌-◌, Bool, true, false, ◌||◌, ◌&&◌, ◌==◌, if◌then◌else◌, List, [], ◌∷◌, length, take, drop, codes}
+use Rattle.std.specs.Prelude.{ℕ, ◌-◌, Bool, false, ◌||◌, ◌&&◌, ◌==◌, if◌then◌else◌, List, [], ◌∷◌, length, take, drop, codes}
 use Rattle.std.specs.List.{list_any, slice_split}
 use Rattle.std.specs.Char.{is_ascii_digit}
+use Rattle.std.specs.Cmp.Lexicographic.{pointwise}
 use Rattle.std.specs.Str.{bytes_eq}
 
 -- without a final LF, and a CR directly before it
@@ -15,11 +16,13 @@ without_break line =
 abbrev pub tokens : List ℕ → List (List ℕ)
 tokens text = slice_split (λ byte. byte == 32) text
 
--- whether a text is of a form, in which d stands for any digit and another sign for itself
+-- a sign stands for a byte: d for any digit, another sign for itself
+abbrev pub stands_for : ℕ → ℕ → Bool
+stands_for sign byte = if sign == 100 then is_ascii_digit byte else byte == sign
+
+-- a text is of a form: it has as many bytes as that has signs, and each sign stands for its byte
 unfoldable pub has_form : List ℕ → List ℕ → Bool
-has_form [] [] = true
-has_form (sign ∷ form) (byte ∷ text) = (if sign == 100 then is_ascii_digit byte else byte == sign) && has_form form text
-has_form _ _ = false
+has_form form text = pointwise stands_for form text
 
 abbrev pub is_time : List ℕ → Bool
 is_time token = has_form (codes "dd:dd") token || has_form (codes "dd:dd:dd") token

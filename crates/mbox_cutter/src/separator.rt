@@ -1,6 +1,6 @@
 //! The lines at which a message may start.
 ghost use Rattle.std.specs.Prelude.{◌≡◌};
-ghost use Rattle.mbox_cutter.specs.Separators.{has_form, has_time_then_year, is_separator, is_time, is_year, tokens, without_break};
+ghost use Rattle.mbox_cutter.specs.Separators.{has_form, has_time_then_year, is_separator, is_time, is_year, stands_for, tokens, without_break};
 
 use memchr::memchr;
 
@@ -65,15 +65,24 @@ fn is_year(token: &[u8]) -> bool
     has_form(b"dddd", token)
 }
 
-/// Whether the text is of the form, in which `d` stands for any digit and another sign for itself.
-#[tactic(auto, unfolding(crate::specs::Separators::has_form))]
+/// Whether a sign of a form stands for the byte: `d` for any digit, another sign for itself.
+fn stands_for(sign: u8, byte: u8) -> bool
+    ensures { result ≡ stands_for sign byte }
+{
+    if sign == b'd' {
+        byte.is_ascii_digit()
+    } else {
+        byte == sign
+    }
+}
+
+/// Whether the text is of the form: it has as many bytes as that has signs, and each sign stands for its byte.
 fn has_form(form: &[u8], text: &[u8]) -> bool
     ensures { result ≡ has_form form.now text.now }
 {
-    match (form, text) {
-        ([], []) => true,
-        ([b'd', form @ ..], [byte, text @ ..]) => byte.is_ascii_digit() && has_form(form, text),
-        ([sign, form @ ..], [byte, text @ ..]) => byte == sign && has_form(form, text),
-        _ => false,
-    }
+    form.len() == text.len()
+        && form
+            .iter()
+            .zip(text)
+            .all(|(sign, byte)| stands_for(*sign, *byte))
 }

@@ -1,6 +1,7 @@
 -- Rows of limits: the numbers that their names stand for.
 use Rattle.std.proofs.Common.{◌≡◌, refl}
-use Rattle.mime_text.specs.Limits.{most_before_feed, most_in_line, most_in_line_text, most_in_header_text, most_in_boundary}
+use Rattle.mbox_cutter.specs.Lines.{most_before_feed}
+use Rattle.mime_text.specs.Limits.{most_in_line, most_in_line_text, most_in_header_text, most_in_boundary}
 
 bytes_before_a_line_feed : most_before_feed ≡ 65536
 bytes_before_a_line_feed = refl

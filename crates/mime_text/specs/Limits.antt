@@ -1,12 +1,8 @@
 -- How many bytes lines, texts and boundaries have at most.
 use Rattle.std.specs.Prelude.{ℕ, ◌+◌, ◌*◌}
-use Rattle.mbox_cutter.specs.declared.line.TheConstants.{MOST_IN_LINE}
+use Rattle.mbox_cutter.specs.Lines.{most_before_feed}
 use Rattle.header_text.specs.Headers.{most_in_header}
 use Rattle.mime_text.specs.declared.parts.boundary.TheConstants.{MOST_IN_BOUNDARY}
-
--- a line's bytes other than LF
-abbrev pub most_before_feed : ℕ
-most_before_feed = MOST_IN_LINE
 
 -- a line, its LF with it
 abbrev pub most_in_line : ℕ

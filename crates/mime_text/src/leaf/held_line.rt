@@ -1,11 +1,10 @@
 //! The line of a leaf that isn't whole yet.
 ghost use Rattle.std.specs.Prelude.{◌≡◌, ℕ, ◌≤◌, ◌-◌, ◌∷◌, ◌++◌, [], List, None, true, length, drop, OnOk, IfOk, IfErr};
 ghost use Rattle.std.specs.List.{concat};
-ghost use Rattle.mbox_cutter.specs.Lines.{length_before_feed, line_end_of};
+ghost use Rattle.mbox_cutter.specs.Lines.{length_before_feed, line_end_of, most_before_feed};
 ghost use Rattle.mime_text.specs.Sinks.{Gave, Broke, Hands};
 ghost use Rattle.mime_text.specs.Decoders.{still_decoded};
 ghost use Rattle.mime_text.specs.LeafReading.{pairs_of_bytes};
-ghost use Rattle.mime_text.specs.Limits.{most_before_feed};
 
 use crate::fault::TextFault;
 use crate::leaf::decoder::Decoder;

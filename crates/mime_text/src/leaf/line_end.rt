@@ -1,7 +1,6 @@
 //! Where a line ends whose beginning was searched before.
 ghost use Rattle.std.specs.Prelude.{◌≡◌, ◌≤◌};
-ghost use Rattle.mbox_cutter.specs.Lines.{length_before_feed, line_end_of};
-ghost use Rattle.mime_text.specs.Limits.{most_before_feed};
+ghost use Rattle.mbox_cutter.specs.Lines.{length_before_feed, line_end_of, most_before_feed};
 
 use mbox_cutter::MOST_IN_LINE;
 use memchr::memchr;
