@@ -1,4 +1,4 @@
-//! Spaces and tabs.
+//! Spaces and tabs in the bytes of a header. mairix_options has its own for the texts of an rcfile, since it stands on no mail.
 ghost use Rattle.std.specs.Prelude.{◌≡◌};
 ghost use Rattle.header_text.specs.Blanks.{is_blank as is_blank_of, after_blanks as after_blanks_of, before_blanks as before_blanks_of, trimmed as trimmed_of};
 

@@ -1,4 +1,4 @@
-//! Spaces and tabs at the ends of a text.
+//! Spaces and tabs at the ends of a text: header_text's blanks, but of an rcfile, which has nothing of mail and stays UTF-8.
 ghost use Rattle.std.specs.Prelude.{◌≡◌, ◌≤◌, length};
 ghost use Rattle.std.specs.List.{prefix_len, suffix_len};
 ghost use Rattle.mairix_options.specs.Blanks.{is_blank, trimmed};

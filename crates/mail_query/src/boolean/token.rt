@@ -88,6 +88,7 @@ fn run_length(text: &[u8]) -> usize
     count
 }
 
+/// A space, a tab or, unlike a header's or an rcfile's blanks, a line feed, since a query may have several lines.
 fn is_blank(b: u8) -> bool
     ensures { result ≡ is_blank b }
 {
