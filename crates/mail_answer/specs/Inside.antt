@@ -1,4 +1,5 @@
 -- What private functions say of one another, and views of fields: it serves proofs alone, and no public clause rests on it.
+pub mod Calls
 pub mod Copies
 pub mod CursorBegins
 pub mod CursorFalls

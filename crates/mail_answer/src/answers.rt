@@ -4,6 +4,7 @@ ghost use Rattle.std.specs.Bool.{OnTrue};
 ghost use Rattle.contract_words.specs.Devices.{Counted};
 ghost use Rattle.mail_index.specs.Tables.{IsWellFormed};
 ghost use Rattle.mail_answer.specs.Answers.{SendsKnown, AnswersStale, fails_by};
+ghost use Rattle.mail_answer.specs.Inside.Calls.{KeepsArchives, ReadsArchives, WritesOut};
 ghost use Rattle.mail_answer.specs.Inside.CursorLists.{AreNumbers};
 ghost use Rattle.mail_answer.specs.Faults.{has_fault, is_of_output, is_of_archives, is_stale};
 ghost use Rattle.mail_answer.specs.Shapes.{known_answer, known_message};
@@ -42,14 +43,10 @@ fn push_message<A: Archives, O: Out>(
     requires fresh { IfSome (A.held archives.old) (λ bytes. stale_archive places.old.table.archives bytes ≡ None) }
     requires archives { A.failures archives.old < 2 ^ 64 - 1 }
     requires out { O.failures out.old < 2 ^ 64 - 1 }
-    ensures held { A.held archives.new ≡ A.held archives.old }
-    ensures number { A.number archives.new ≡ A.number archives.old }
+    ensures archives { ReadsArchives A.Archives archives.old archives.new result }
     ensures same { places.new.table ≡ places.old.table }
     ensures writes { Writes (O.taken out.old) (O.taken out.new) sheet.old sheet.new (known_message format places.old.table (A.held archives.old) n) result }
-    ensures kept { sheet.new.sent ≡ 0 → has_fault is_of_output result ≡ false → out.new ≡ out.old }
-    ensures out_count { Counted (has_fault is_of_output result) (O.failures out.old) (O.failures out.new) }
-    ensures archives_count { Counted (has_fault is_of_archives result) (A.failures archives.old) (A.failures archives.new) }
-    ensures fresh { IfSome (A.held archives.old) (λ _. has_fault is_stale result ≡ false) }
+    ensures out { WritesOut O.Out sheet.new.sent out.old out.new result }
     ensures raw { format ≡ Format.Raw → (has_fault is_of_archives result ≡ false) × (has_fault is_stale result ≡ false) }
 {
     match format {
@@ -75,16 +72,12 @@ fn write_messages<A: Archives, O: Out>(
     requires fresh { IfSome (A.held archives.old) (λ bytes. stale_archive places.old.table.archives bytes ≡ None) }
     requires archives { A.failures archives.old < 2 ^ 64 - 1 }
     requires out { O.failures out.old < 2 ^ 64 - 1 }
-    ensures held { A.held archives.new ≡ A.held archives.old }
-    ensures number { A.number archives.new ≡ A.number archives.old }
+    ensures archives { ReadsArchives A.Archives archives.old archives.new result }
     ensures same { places.new.table ≡ places.old.table }
     ensures writes { Writes (O.taken out.old) (O.taken out.new) sheet.old sheet.new (known_answer format places.old.table (A.held archives.old) numbers.old) result }
     ensures messages { IfOk result (λ count. count ≡ length numbers.old) }
     ensures all { OnOk result (sheet.new.text ≡ []) }
-    ensures kept { sheet.new.sent ≡ 0 → has_fault is_of_output result ≡ false → out.new ≡ out.old }
-    ensures out_count { Counted (has_fault is_of_output result) (O.failures out.old) (O.failures out.new) }
-    ensures archives_count { Counted (has_fault is_of_archives result) (A.failures archives.old) (A.failures archives.new) }
-    ensures fresh { IfSome (A.held archives.old) (λ _. has_fault is_stale result ≡ false) }
+    ensures out { WritesOut O.Out sheet.new.sent out.old out.new result }
     ensures raw { format ≡ Format.Raw → (has_fault is_of_archives result ≡ false) × (has_fault is_stale result ≡ false) }
 {
     let mut count: u64 = 0;
@@ -111,8 +104,7 @@ fn write_checked<A: Archives, O: Out>(
     requires fresh { IfSome (A.held archives.old) (λ bytes. stale_archive index.now.archives bytes ≡ None) }
     requires archives { A.failures archives.old < 2 ^ 64 - 1 }
     requires out { O.failures out.old < 2 ^ 64 - 1 }
-    ensures held { A.held archives.new ≡ A.held archives.old }
-    ensures number { A.number archives.new ≡ A.number archives.old }
+    ensures keeps { KeepsArchives A.Archives archives.old archives.new }
     ensures text { SendsKnown (O.taken out.old) (O.taken out.new) (known_answer format index.now (A.held archives.old) numbers.entry) (length numbers.entry) result }
     ensures fresh { IfSome (A.held archives.old) (λ _. fails_by is_stale result ≡ false) }
     ensures out_count { Counted (fails_by is_of_output result) (O.failures out.old) (O.failures out.new) }
@@ -152,8 +144,7 @@ fn write_answer<A: Archives, O: Out>(
     requires table { IsWellFormed index.now }
     requires archives { A.failures archives.old < 2 ^ 64 - 1 }
     requires out { O.failures out.old < 2 ^ 64 - 1 }
-    ensures held { A.held archives.new ≡ A.held archives.old }
-    ensures number { A.number archives.new ≡ A.number archives.old }
+    ensures keeps { KeepsArchives A.Archives archives.old archives.new }
     ensures answered { (a : TableAnswer) → IsTableAnswer index.now (search_of query.now threads format) (A.held archives.old) a → Answers (O.taken out.old) (O.taken out.new) a result }
     ensures stale { IfSome (A.held archives.old) (λ bytes. AnswersStale (O.taken out.old) (O.taken out.new) (stale_archive index.now.archives bytes) result) }
     ensures other_count { A.number archives.old ≢ length index.now.archives → result ≡ Err (record { kind = AnswerFaultKind.Stale (min (A.number archives.old) (length index.now.archives)); sent = 0 }) }

@@ -3,6 +3,7 @@ ghost use Rattle.std.specs.Prelude.{◌≡◌, ◌≢◌, ◌<◌, ◌-◌, ◌^
 ghost use Rattle.contract_words.specs.Devices.{Counted};
 ghost use Rattle.mail_answer.specs.Archives.{archive_at};
 ghost use Rattle.mail_answer.specs.Faults.{has_fault, is_of_archives, is_of_output};
+ghost use Rattle.mail_answer.specs.Inside.Calls.{KeepsArchives};
 ghost use Rattle.mail_answer.specs.Stale.{stale_archive, TellsStale};
 
 use crate::archives::Archives;
@@ -16,8 +17,7 @@ pub(crate) fn check_archives<A: Archives>(
     archives: &mut A,
 ) -> Result<(), AnswerFaultKind>
     requires { A.failures archives.old < 2 ^ 64 - 1 }
-    ensures held { A.held archives.new ≡ A.held archives.old }
-    ensures number { A.number archives.new ≡ A.number archives.old }
+    ensures keeps { KeepsArchives A.Archives archives.old archives.new }
     ensures stale { IfSome (A.held archives.old) (λ bytes. TellsStale (stale_archive index.now.archives bytes) result) }
     ensures same_count { OnOk result (A.number archives.old ≡ length index.now.archives) }
     ensures other_count { A.number archives.old ≢ length index.now.archives → result ≡ Err (AnswerFaultKind.Stale (min (A.number archives.old) (length index.now.archives))) }
@@ -45,8 +45,7 @@ pub(crate) fn check_archives<A: Archives>(
 fn is_as_long<A: Archives>(archives: &mut A, n: u32, indexed: u64) -> Result<bool, AnswerFaultKind>
     requires below { n < A.number archives.old }
     requires count { A.failures archives.old < 2 ^ 64 - 1 }
-    ensures held { A.held archives.new ≡ A.held archives.old }
-    ensures number { A.number archives.new ≡ A.number archives.old }
+    ensures keeps { KeepsArchives A.Archives archives.old archives.new }
     ensures same { IfOk result (λ same. IfSome (A.held archives.old) (λ bytes. same ≡ (length (archive_at bytes n) == indexed))) }
     ensures count { Counted (has_fault is_of_archives result) (A.failures archives.old) (A.failures archives.new) }
     ensures own { IfErr result (λ kind. kind ≡ AnswerFaultKind.Device) }

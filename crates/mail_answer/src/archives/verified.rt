@@ -4,6 +4,7 @@ ghost use Rattle.contract_words.specs.Devices.{Counted};
 ghost use Rattle.mail_index.specs.Tables.{IsWellFormed};
 ghost use Rattle.mail_answer.specs.Answers.{fails_by};
 ghost use Rattle.mail_answer.specs.Archives.{archive_at};
+ghost use Rattle.mail_answer.specs.Inside.Calls.{KeepsArchives};
 ghost use Rattle.mail_answer.specs.Inside.Digests.{front_digest, AbsorbsPart};
 ghost use Rattle.mail_answer.specs.Faults.{has_fault, is_of_archives, is_of_output};
 ghost use Rattle.mail_answer.specs.Stale.{stale_archive, TellsStale};
@@ -30,8 +31,7 @@ fn digest_piece<A: Archives>(
     requires below { archive < A.number archives.old }
     requires room { 0 < length room.old }
     requires count { A.failures archives.old < 2 ^ 64 - 1 }
-    ensures held { A.held archives.new ≡ A.held archives.old }
-    ensures number { A.number archives.new ≡ A.number archives.old }
+    ensures keeps { KeepsArchives A.Archives archives.old archives.new }
     ensures bound { IfOk result (λ count. count ≤ length room.old) }
     ensures part { IfOk result (λ count. AbsorbsPart archive offset count (A.held archives.old) hasher.old hasher.new) }
     ensures count { Counted (has_fault is_of_archives result) (A.failures archives.old) (A.failures archives.new) }
@@ -56,8 +56,7 @@ fn read_digest<A: Archives>(
     requires below { archive < A.number archives.old }
     requires room { 0 < length buffer.old }
     requires count { A.failures archives.old < 2 ^ 64 - 1 }
-    ensures held { A.held archives.new ≡ A.held archives.old }
-    ensures number { A.number archives.new ≡ A.number archives.old }
+    ensures keeps { KeepsArchives A.Archives archives.old archives.new }
     ensures digest { IfOk result (λ digest. IfSome (A.held archives.old) (λ bytes. digest ≡ front_digest indexed_length (archive_at bytes archive))) }
     ensures count { Counted (has_fault is_of_archives result) (A.failures archives.old) (A.failures archives.new) }
     ensures own { IfErr result (λ kind. kind ≡ AnswerFaultKind.Device) }
@@ -87,8 +86,7 @@ fn check_digests<A: Archives>(
     requires fresh { IfSome (A.held archives.old) (λ bytes. stale_archive index.now.archives bytes ≡ None) }
     requires room { 0 < length buffer.old }
     requires count { A.failures archives.old < 2 ^ 64 - 1 }
-    ensures held { A.held archives.new ≡ A.held archives.old }
-    ensures number { A.number archives.new ≡ A.number archives.old }
+    ensures keeps { KeepsArchives A.Archives archives.old archives.new }
     ensures altered { IfSome (A.held archives.old) (λ bytes. TellsStale (first_altered 0 index.now.archives bytes) result) }
     ensures count { Counted (has_fault is_of_archives result) (A.failures archives.old) (A.failures archives.new) }
     ensures own { has_fault is_of_output result ≡ false }
@@ -118,8 +116,7 @@ fn verify_each<A: Archives>(
     requires table { IsWellFormed index.now }
     requires version { index.now.version ≡ 2 }
     requires count { A.failures archives.old < 2 ^ 64 - 1 }
-    ensures held { A.held archives.new ≡ A.held archives.old }
-    ensures number { A.number archives.new ≡ A.number archives.old }
+    ensures keeps { KeepsArchives A.Archives archives.old archives.new }
     ensures verified { IfSome (A.held archives.old) (λ bytes. TellsFound index.now.archives bytes result) }
     ensures same_count { OnOk result (A.number archives.old ≡ length index.now.archives) }
     ensures other_count { A.number archives.old ≢ length index.now.archives → result ≡ Err (AnswerFaultKind.Stale (min (A.number archives.old) (length index.now.archives))) }

@@ -1,12 +1,11 @@
 //! The excerpt of a message.
-ghost use Rattle.std.specs.Prelude.{◌≡◌, ◌<◌, ◌-◌, ◌^◌, ℕ, List, ◌∷◌, ◌++◌, false, length, None, IfOk, OnOk, IfSome};
-ghost use Rattle.contract_words.specs.Devices.{Counted};
+ghost use Rattle.std.specs.Prelude.{◌≡◌, ◌<◌, ◌-◌, ◌^◌, ℕ, List, ◌∷◌, ◌++◌, length, None, IfOk, OnOk, IfSome};
 ghost use Rattle.header_text.specs.EncodedWords.{decoded};
 ghost use Rattle.header_text.specs.HeldLines.{HasLines};
 ghost use Rattle.header_text.specs.Headers.{fields_of};
 ghost use Rattle.header_text.specs.Unfolding.{unfolded};
 ghost use Rattle.mail_answer.specs.Excerpts.{body_of as body_of_name, shown_byte as shown_byte_of, without_controls, field_line, excerpt_lines};
-ghost use Rattle.mail_answer.specs.Faults.{has_fault, is_of_output, is_of_archives, is_stale};
+ghost use Rattle.mail_answer.specs.Inside.Calls.{ReadsArchives, WritesOut};
 ghost use Rattle.mail_answer.specs.Shapes.{known_message};
 ghost use Rattle.mail_answer.specs.Sheets.{Writes};
 ghost use Rattle.mail_answer.specs.Stale.{stale_archive};
@@ -107,14 +106,10 @@ pub(crate) fn push_excerpt<A: Archives, O: Out>(
     requires fresh { IfSome (A.held archives.old) (λ bytes. stale_archive places.old.table.archives bytes ≡ None) }
     requires archives { A.failures archives.old < 2 ^ 64 - 1 }
     requires out { O.failures out.old < 2 ^ 64 - 1 }
-    ensures held { A.held archives.new ≡ A.held archives.old }
-    ensures number { A.number archives.new ≡ A.number archives.old }
+    ensures archives { ReadsArchives A.Archives archives.old archives.new result }
     ensures same { places.new.table ≡ places.old.table }
     ensures writes { Writes (O.taken out.old) (O.taken out.new) sheet.old sheet.new (known_message Excerpt places.old.table (A.held archives.old) n) result }
-    ensures kept { sheet.new.sent ≡ 0 → has_fault is_of_output result ≡ false → out.new ≡ out.old }
-    ensures out_count { Counted (has_fault is_of_output result) (O.failures out.old) (O.failures out.new) }
-    ensures archives_count { Counted (has_fault is_of_archives result) (A.failures archives.old) (A.failures archives.new) }
-    ensures fresh { IfSome (A.held archives.old) (λ _. has_fault is_stale result ≡ false) }
+    ensures out { WritesOut O.Out sheet.new.sent out.old out.new result }
 {
     let message = places.index().message(n);
     let header = read_header(alloc, message, archives)?;

@@ -1,9 +1,9 @@
 //! The header of a message, read from its archive.
-ghost use Rattle.std.specs.Prelude.{◌≡◌, ℕ, ◌<◌, ◌-◌, ◌^◌, List, false, drop, IfOk, OnOk, IfSome};
-ghost use Rattle.contract_words.specs.Devices.{Counted};
+ghost use Rattle.std.specs.Prelude.{◌≡◌, ◌<◌, ◌-◌, ◌^◌, List, false, drop, IfOk, OnOk, IfSome};
 ghost use Rattle.header_text.specs.Headers.{HeaderField, fields_of};
 ghost use Rattle.mbox_cutter.specs.Lines.{lines};
-ghost use Rattle.mail_answer.specs.Faults.{has_fault, is_of_output, is_of_archives, is_stale};
+ghost use Rattle.mail_answer.specs.Faults.{has_fault, is_of_output};
+ghost use Rattle.mail_answer.specs.Inside.Calls.{ReadsArchives};
 ghost use Rattle.mail_answer.specs.Inside.HeaderReads.{HasFields, WillHaveFields, HasFieldsAfter};
 ghost use Rattle.mail_answer.specs.Inside.Readings.{coming, coming_count, span_reading, IsInside};
 ghost use Rattle.mail_answer.specs.Shapes.{span};
@@ -23,14 +23,11 @@ fn read_line<A: Archives>(
 ) -> Result<Taken, AnswerFaultKind>
     requires inside { IsInside (A.number archives.old) (A.held archives.old) reader.old }
     requires count { A.failures archives.old < 2 ^ 64 - 1 }
-    ensures held { A.held archives.new ≡ A.held archives.old }
-    ensures number { A.number archives.new ≡ A.number archives.old }
+    ensures archives { ReadsArchives A.Archives archives.old archives.new result }
     ensures inside { OnOk result (IsInside (A.number archives.old) (A.held archives.old) reader.new) }
     ensures fields { IfOk result (λ taken. (fields : List HeaderField) → WillHaveFields (coming (A.held archives.old) reader.old) header.old fields → HasFieldsAfter taken (coming (A.held archives.old) reader.new) header.new fields) }
     ensures less { IfOk result (λ taken. taken ≡ Taken.More → coming_count reader.new < coming_count reader.old) }
-    ensures count { Counted (has_fault is_of_archives result) (A.failures archives.old) (A.failures archives.new) }
     ensures own { has_fault is_of_output result ≡ false }
-    ensures fresh { IfSome (A.held archives.old) (λ _. has_fault is_stale result ≡ false) }
 {
     let n = reader.first_line(archives)?;
     if n == 0 {
@@ -49,12 +46,9 @@ pub(crate) fn read_header<A: Archives>(
 ) -> Result<Header, AnswerFaultKind>
     requires inside { IsInside (A.number archives.old) (A.held archives.old) (span_reading message) }
     requires count { A.failures archives.old < 2 ^ 64 - 1 }
-    ensures held { A.held archives.new ≡ A.held archives.old }
-    ensures number { A.number archives.new ≡ A.number archives.old }
+    ensures archives { ReadsArchives A.Archives archives.old archives.new result }
     ensures fields { IfOk result (λ header. IfSome (A.held archives.old) (λ bytes. HasFields header (fields_of (drop 1 (lines (span bytes message)))))) }
-    ensures count { Counted (has_fault is_of_archives result) (A.failures archives.old) (A.failures archives.new) }
     ensures own { has_fault is_of_output result ≡ false }
-    ensures fresh { IfSome (A.held archives.old) (λ _. has_fault is_stale result ≡ false) }
 {
     let mut reader = LineReader::over(alloc, message.archive, message.offset, message.length);
     let first = reader.first_line(archives)?;

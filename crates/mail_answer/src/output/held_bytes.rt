@@ -3,6 +3,7 @@ ghost use Rattle.std.specs.Prelude.{◌≡◌, ◌<◌, ◌≤◌, ◌+◌, ◌-
 ghost use Rattle.contract_words.specs.Devices.{Counted, Counts};
 ghost use Rattle.mail_answer.specs.Archives.{archive_at};
 ghost use Rattle.mail_answer.specs.Faults.{has_fault, is_of_output, is_of_archives, is_stale};
+ghost use Rattle.mail_answer.specs.Inside.Calls.{KeepsArchives};
 ghost use Rattle.mail_answer.specs.Inside.Readings.{ReadsBehind, ReadsTail};
 
 use crate::archives::Archives;
@@ -91,8 +92,7 @@ impl HeldBytes {
         requires some { 0 < most }
         requires few { most ≤ 65536 }
         requires count { A.failures archives.old < 2 ^ 64 - 1 }
-        ensures held { A.held archives.new ≡ A.held archives.old }
-        ensures number { A.number archives.new ≡ A.number archives.old }
+        ensures keeps { KeepsArchives A.Archives archives.old archives.new }
         ensures bound { IfOk result (λ n. n ≤ most) }
         ensures bytes { IfOk result (λ n. ReadsBehind archive offset n (A.held archives.old) self.old self.new) }
         ensures refused { OnErr result (self.new ≡ self.old) }
@@ -155,8 +155,7 @@ fn read_behind<A: Archives>(
     requires some { 0 < most }
     requires room { held + most ≤ length room.old }
     requires count { A.failures archives.old < 2 ^ 64 - 1 }
-    ensures held { A.held archives.new ≡ A.held archives.old }
-    ensures number { A.number archives.new ≡ A.number archives.old }
+    ensures keeps { KeepsArchives A.Archives archives.old archives.new }
     ensures bound { IfOk result (λ n. n ≤ most) }
     ensures room { length room.new ≡ length room.old }
     ensures same { take held room.new ≡ take held room.old }

@@ -1,8 +1,8 @@
 //! Part of an archive, read line by line.
-ghost use Rattle.std.specs.Prelude.{◌≡◌, ◌<◌, ◌≤◌, ◌+◌, ◌-◌, ◌^◌, [], false, nat_eq, length, take, drop, IfOk, OnOk, IfSome};
-ghost use Rattle.contract_words.specs.Devices.{Counted};
+ghost use Rattle.std.specs.Prelude.{◌≡◌, ◌<◌, ◌≤◌, ◌+◌, ◌-◌, ◌^◌, [], false, length, take, drop, IfOk, OnOk, IfSome};
 ghost use Rattle.mbox_cutter.specs.Lines.{first_length};
-ghost use Rattle.mail_answer.specs.Faults.{has_fault, is_of_output, is_of_archives, is_stale};
+ghost use Rattle.mail_answer.specs.Faults.{has_fault, is_of_output};
+ghost use Rattle.mail_answer.specs.Inside.Calls.{ReadsArchives};
 ghost use Rattle.mail_answer.specs.Inside.Readings.{coming, coming_count, IsInside};
 
 use crate::archives::Archives;
@@ -82,15 +82,12 @@ impl LineReader {
         requires inside { IsInside (A.number archives.old) (A.held archives.old) self.old }
         requires more { 0 < self.old.left }
         requires count { A.failures archives.old < 2 ^ 64 - 1 }
-        ensures held { A.held archives.new ≡ A.held archives.old }
-        ensures number { A.number archives.new ≡ A.number archives.old }
+        ensures archives { ReadsArchives A.Archives archives.old archives.new result }
         ensures inside { OnOk result (IsInside (A.number archives.old) (A.held archives.old) self.new) }
         ensures coming { OnOk result (coming (A.held archives.old) self.new ≡ coming (A.held archives.old) self.old) }
         ensures as_many { OnOk result (coming_count self.new ≡ coming_count self.old) }
         ensures less { OnOk result (self.new.left < self.old.left) }
-        ensures count { Counted (has_fault is_of_archives result) (A.failures archives.old) (A.failures archives.new) }
         ensures own { has_fault is_of_output result ≡ false }
-        ensures fresh { IfSome (A.held archives.old) (λ _. has_fault is_stale result ≡ false) }
     {
         self.held.drop_front(self.from);
         self.from = 0;
@@ -108,17 +105,14 @@ impl LineReader {
     ) -> Result<usize, AnswerFaultKind>
         requires inside { IsInside (A.number archives.old) (A.held archives.old) self.old }
         requires count { A.failures archives.old < 2 ^ 64 - 1 }
-        ensures held { A.held archives.new ≡ A.held archives.old }
-        ensures number { A.number archives.new ≡ A.number archives.old }
+        ensures archives { ReadsArchives A.Archives archives.old archives.new result }
         ensures inside { OnOk result (IsInside (A.number archives.old) (A.held archives.old) self.new) }
         ensures coming { OnOk result (coming (A.held archives.old) self.new ≡ coming (A.held archives.old) self.old) }
         ensures as_many { OnOk result (coming_count self.new ≡ coming_count self.old) }
         ensures within { IfOk result (λ n. n ≤ length self.new.unread) }
         ensures line { IfOk result (λ n. IfSome (coming (A.held archives.old) self.old) (λ bytes. n ≡ first_length bytes)) }
         ensures some { IfOk result (λ n. n ≡ 0 → coming_count self.old ≡ 0) }
-        ensures count { Counted (has_fault is_of_archives result) (A.failures archives.old) (A.failures archives.new) }
         ensures own { has_fault is_of_output result ≡ false }
-        ensures fresh { IfSome (A.held archives.old) (λ _. has_fault is_stale result ≡ false) }
     {
         'more: loop {
             let rest = self.unread();

@@ -1,10 +1,9 @@
 //! A message in the form of mbox archives.
-ghost use Rattle.std.specs.Prelude.{◌≡◌, ◌<◌, ◌-◌, ◌^◌, false, length, nat_eq, None, OnOk, IfSome};
+ghost use Rattle.std.specs.Prelude.{◌≡◌, ◌<◌, ◌-◌, ◌^◌, length, nat_eq, None, OnOk, IfSome};
 ghost use Rattle.std.specs.Option.{option_map};
-ghost use Rattle.contract_words.specs.Devices.{Counted};
 ghost use Rattle.mail_index.specs.Tables.{IsWellFormed};
+ghost use Rattle.mail_answer.specs.Inside.Calls.{ReadsArchives, WritesOut};
 ghost use Rattle.mail_answer.specs.Inside.Copies.{Copies};
-ghost use Rattle.mail_answer.specs.Faults.{has_fault, is_of_output, is_of_archives, is_stale};
 ghost use Rattle.mail_answer.specs.Inside.Readings.{coming, coming_count, span_reading, IsInside};
 ghost use Rattle.mail_answer.specs.Shapes.{closed, known_message};
 ghost use Rattle.mail_answer.specs.Sheets.{Writes};
@@ -70,15 +69,11 @@ impl Part {
         requires some { 0 < coming_count self.old }
         requires archives { A.failures archives.old < 2 ^ 64 - 1 }
         requires out { O.failures out.old < 2 ^ 64 - 1 }
-        ensures held { A.held archives.new ≡ A.held archives.old }
-        ensures number { A.number archives.new ≡ A.number archives.old }
+        ensures archives { ReadsArchives A.Archives archives.old archives.new result }
         ensures inside { OnOk result (IsInside (A.number archives.old) (A.held archives.old) self.new) }
         ensures copies { Copies (O.taken out.old) (O.taken out.new) sheet.old sheet.new (coming (A.held archives.old) self.old) (coming (A.held archives.old) self.new) before result }
         ensures less { OnOk result (coming_count self.new < coming_count self.old) }
-        ensures kept { sheet.new.sent ≡ 0 → has_fault is_of_output result ≡ false → out.new ≡ out.old }
-        ensures out_count { Counted (has_fault is_of_output result) (O.failures out.old) (O.failures out.new) }
-        ensures archives_count { Counted (has_fault is_of_archives result) (A.failures archives.old) (A.failures archives.new) }
-        ensures fresh { IfSome (A.held archives.old) (λ _. has_fault is_stale result ≡ false) }
+        ensures out { WritesOut O.Out sheet.new.sent out.old out.new result }
     {
         let gathered = sheet.text.len();
         let most = self.left.min(PIECE) as usize;
@@ -102,13 +97,9 @@ fn push_closed<A: Archives, O: Out>(
     requires some { 0 < message.length }
     requires archives { A.failures archives.old < 2 ^ 64 - 1 }
     requires out { O.failures out.old < 2 ^ 64 - 1 }
-    ensures held { A.held archives.new ≡ A.held archives.old }
-    ensures number { A.number archives.new ≡ A.number archives.old }
+    ensures archives { ReadsArchives A.Archives archives.old archives.new result }
     ensures writes { Writes (O.taken out.old) (O.taken out.new) sheet.old sheet.new (option_map closed (coming (A.held archives.old) (span_reading message))) result }
-    ensures kept { sheet.new.sent ≡ 0 → has_fault is_of_output result ≡ false → out.new ≡ out.old }
-    ensures out_count { Counted (has_fault is_of_output result) (O.failures out.old) (O.failures out.new) }
-    ensures archives_count { Counted (has_fault is_of_archives result) (A.failures archives.old) (A.failures archives.new) }
-    ensures fresh { IfSome (A.held archives.old) (λ _. has_fault is_stale result ≡ false) }
+    ensures out { WritesOut O.Out sheet.new.sent out.old out.new result }
 {
     let mut part = Part::of(message);
     let mut ending = Ending::new();
@@ -133,13 +124,9 @@ pub(crate) fn push_mbox<A: Archives, O: Out>(
     requires fresh { IfSome (A.held archives.old) (λ bytes. stale_archive index.now.archives bytes ≡ None) }
     requires archives { A.failures archives.old < 2 ^ 64 - 1 }
     requires out { O.failures out.old < 2 ^ 64 - 1 }
-    ensures held { A.held archives.new ≡ A.held archives.old }
-    ensures number { A.number archives.new ≡ A.number archives.old }
+    ensures archives { ReadsArchives A.Archives archives.old archives.new result }
     ensures writes { Writes (O.taken out.old) (O.taken out.new) sheet.old sheet.new (known_message Mbox index.now (A.held archives.old) n) result }
-    ensures kept { sheet.new.sent ≡ 0 → has_fault is_of_output result ≡ false → out.new ≡ out.old }
-    ensures out_count { Counted (has_fault is_of_output result) (O.failures out.old) (O.failures out.new) }
-    ensures archives_count { Counted (has_fault is_of_archives result) (A.failures archives.old) (A.failures archives.new) }
-    ensures fresh { IfSome (A.held archives.old) (λ _. has_fault is_stale result ≡ false) }
+    ensures out { WritesOut O.Out sheet.new.sent out.old out.new result }
 {
     push_closed(index.message(n), archives, sheet, out)
 }

@@ -1,8 +1,8 @@
 //! A message in an answer of the raw form.
 ghost use Rattle.std.specs.Prelude.{◌≡◌, ◌<◌, ◌-◌, ◌^◌, [], false, length, Some};
-ghost use Rattle.contract_words.specs.Devices.{Counted};
 ghost use Rattle.mail_index.specs.Tables.{IsWellFormed};
-ghost use Rattle.mail_answer.specs.Faults.{has_fault, is_of_output, is_of_archives, is_stale};
+ghost use Rattle.mail_answer.specs.Faults.{has_fault, is_of_archives, is_stale};
+ghost use Rattle.mail_answer.specs.Inside.Calls.{WritesOut};
 ghost use Rattle.mail_answer.specs.Shapes.{message_text};
 ghost use Rattle.mail_answer.specs.Sheets.{Writes};
 ghost use Rattle.mail_answer.specs.TableFacts.{record_at};
@@ -28,8 +28,7 @@ pub(crate) fn push_raw<O: Out>(
     requires out { O.failures out.old < 2 ^ 64 - 1 }
     ensures same { places.new.table ≡ places.old.table }
     ensures writes { Writes (O.taken out.old) (O.taken out.new) sheet.old sheet.new (Some (message_text Raw places.old.table.archives [] (record_at places.old.table.messages n))) result }
-    ensures kept { sheet.new.sent ≡ 0 → has_fault is_of_output result ≡ false → out.new ≡ out.old }
-    ensures count { Counted (has_fault is_of_output result) (O.failures out.old) (O.failures out.new) }
+    ensures out { WritesOut O.Out sheet.new.sent out.old out.new result }
     ensures own { (has_fault is_of_archives result ≡ false) × (has_fault is_stale result ≡ false) }
 {
     let message = places.index().message(n);

@@ -1,7 +1,7 @@
 //! The output of an answer.
-ghost use Rattle.std.specs.Prelude.{◌≡◌, ◌<◌, ◌≤◌, ◌-◌, ◌^◌, [], Some, length, OnOk, IfErr, false};
-ghost use Rattle.contract_words.specs.Devices.{Counted};
-ghost use Rattle.mail_answer.specs.Faults.{has_fault, is_of_output, is_of_archives, is_stale};
+ghost use Rattle.std.specs.Prelude.{◌≡◌, ◌<◌, ◌≤◌, ◌-◌, ◌^◌, [], Some, OnOk, IfErr, false};
+ghost use Rattle.mail_answer.specs.Faults.{has_fault, is_of_archives, is_stale};
+ghost use Rattle.mail_answer.specs.Inside.Calls.{WritesOut};
 
 use crate::fault::AnswerFaultKind;
 use crate::output::held_bytes::HeldBytes;
@@ -37,9 +37,7 @@ impl Sheet {
     pub(crate) fn push<O: Out>(&mut self, out: &mut O, bytes: &[u8]) -> Result<(), AnswerFaultKind>
         requires { O.failures out.old < 2 ^ 64 - 1 }
         ensures writes { Writes (O.taken out.old) (O.taken out.new) self.old self.new (Some bytes.now) result }
-        ensures count { Counted (has_fault is_of_output result) (O.failures out.old) (O.failures out.new) }
-        // Where no byte has gone out and none failed to, the output is as it was.
-        ensures kept { self.new.sent ≡ 0 → has_fault is_of_output result ≡ false → out.new ≡ out.old }
+        ensures out { WritesOut O.Out self.new.sent out.old out.new result }
         ensures own { (has_fault is_of_archives result ≡ false) × (has_fault is_stale result ≡ false) }
     {
         self.text.extend(bytes)?;
@@ -50,8 +48,7 @@ impl Sheet {
     pub(crate) fn send_full<O: Out>(&mut self, out: &mut O) -> Result<(), AnswerFaultKind>
         requires { O.failures out.old < 2 ^ 64 - 1 }
         ensures writes { Writes (O.taken out.old) (O.taken out.new) self.old self.new (Some []) result }
-        ensures count { Counted (has_fault is_of_output result) (O.failures out.old) (O.failures out.new) }
-        ensures kept { self.new.sent ≡ 0 → has_fault is_of_output result ≡ false → out.new ≡ out.old }
+        ensures out { WritesOut O.Out self.new.sent out.old out.new result }
         ensures own { IfErr result (λ kind. kind ≡ AnswerFaultKind.OutFailed) }
     {
         if self.text.len() < FULL {
@@ -65,8 +62,7 @@ impl Sheet {
         requires { O.failures out.old < 2 ^ 64 - 1 }
         ensures writes { Writes (O.taken out.old) (O.taken out.new) self.old self.new (Some []) result }
         ensures all { OnOk result (self.new.text ≡ []) }
-        ensures count { Counted (has_fault is_of_output result) (O.failures out.old) (O.failures out.new) }
-        ensures kept { self.new.sent ≡ 0 → has_fault is_of_output result ≡ false → out.new ≡ out.old }
+        ensures out { WritesOut O.Out self.new.sent out.old out.new result }
         ensures own { IfErr result (λ kind. kind ≡ AnswerFaultKind.OutFailed) }
     {
         let mut at = 0;

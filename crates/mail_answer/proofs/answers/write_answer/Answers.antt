@@ -8,7 +8,7 @@ returns-in-Err-clause-answered g c = λ a is. nothing_sent (g.O.Out.taken c.args
 pub returns-in-Ok-clause-answered : goal.returns-in-Ok-clause-answered
 returns-in-Ok-clause-answered g c =
     answered_sent c.args.index.now (search_of c.args.query.now c.args.threads c.args.format) (g.A.Archives.held c.args.archives.now) (g.O.Out.taken c.args.out.now) (g.O.Out.taken c.write_checked.new.out) c.write_checked.result c.in-Ok.numbers
-    c.in-Ok.ensures.chosen (rw c.check_archives.ensures.held at c.write_checked.ensures.text)
+    c.in-Ok.ensures.chosen (rw c.check_archives.ensures.keeps.held at c.write_checked.ensures.text)
 
 pub returns-in-Err-chosen-clause-answered : goal.returns-in-Err-chosen-clause-answered
 returns-in-Err-chosen-clause-answered g c = λ a is. nothing_sent (g.O.Out.taken c.args.out.now) a.text

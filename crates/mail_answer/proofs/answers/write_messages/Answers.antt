@@ -5,13 +5,13 @@ use Rattle.mail_answer.specs.Sheets.{joined, Tells}
 use Rattle.mail_answer.proofs.ThreadLaws.NumberLists.{numbers_next, few_numbers, known_first, known_none}
 use Rattle.mail_answer.proofs.OutputLaws.SheetLemmas.{joins_gathered, writes_next, writes_stop, writes_less, writes_err, tells-joined, joins_more, unsent_before}
 use Rattle.mail_answer.proofs.OutputLaws.SpanLemmas.{joined-nothing, joined-assoc}
+use Rattle.mail_answer.proofs.ArchiveLaws.CallLemmas.{keeps_self, keeps_join}
 use Rattle.mail_answer.proofs.answers.write_messages.Goals as goal
 
 pub loop-n-init : goal.loop-n-init
 loop-n-init g c = record {
   same = refl;
-  held = refl;
-  number = refl;
+  keeps = keeps_self g.A.Archives c.args.archives.now;
   numbers = c.requires.numbers;
   counted = omega arith;
   joins = (
@@ -37,7 +37,7 @@ returns-in_err-push_message-clause-writes g c =
     let took : c.loop-n.numbers ≡ c.in-Some.n ∷ c.next.new.self = c.in-Some.ensures in
     rw (j.2, ap (known_answer c.args.format t held) took ∙ known_first c.args.format t held c.in-Some.n c.next.new.self)
     (writes_next (g.O.Out.taken c.args.out.now) (g.O.Out.taken c.loop-n.out) (g.O.Out.taken c.push_message.new.out) c.args.sheet.now c.loop-n.sheet c.push_message.new.sheet j.0 (joined next rest) c.from_residual.result (j.1, j.3, j.4)
-    (writes_stop (g.O.Out.taken c.loop-n.out) (g.O.Out.taken c.push_message.new.out) c.loop-n.sheet c.push_message.new.sheet next rest c.from_residual.result c.from_residual.ensures.0 (rw (i.held, i.same) at c.in_err-push_message.ensures.writes)))
+    (writes_stop (g.O.Out.taken c.loop-n.out) (g.O.Out.taken c.push_message.new.out) c.loop-n.sheet c.push_message.new.sheet next rest c.from_residual.result c.from_residual.ensures.0 (rw (i.keeps.held, i.same) at c.in_err-push_message.ensures.writes)))
 
 pub overflow_add-count : goal.overflow_add-count
 overflow_add-count g c =
@@ -55,11 +55,10 @@ loop-n-preserved g c =
     let next : Option (List ℕ) = known_message c.args.format t held c.in-Some.n in
     let rest : Option (List ℕ) = known_answer c.args.format t held c.next.new.self in
     let took : c.loop-n.numbers ≡ c.in-Some.n ∷ c.next.new.self = c.in-Some.ensures in
-    let w = rw (i.held, i.same) at c.in_ok-push_message.ensures.writes in
+    let w = rw (i.keeps.held, i.same) at c.in_ok-push_message.ensures.writes in
     record {
       same = c.in_ok-push_message.ensures.same ∙ i.same;
-      held = c.in_ok-push_message.ensures.held ∙ i.held;
-      number = c.in_ok-push_message.ensures.number ∙ i.number;
+      keeps = keeps_join g.A.Archives _ _ _ i.keeps c.in_ok-push_message.ensures.archives.keeps;
       numbers = numbers_next (length t.messages) c.in-Some.n c.next.new.self (subst (AreNumbers (length t.messages)) took i.numbers);
       counted = omega (arith, i.counted, ap length took);
       joins = (
@@ -69,9 +68,9 @@ loop-n-preserved g c =
         tells-joined j.0 next j.1 w.0 j.3 w.1,
         joins_more j.4 w.2,
       );
-      kept = λ unsent. c.in_ok-push_message.ensures.kept unsent refl ∙ i.kept (unsent_before w.2 unsent);
-      out_count = c.in_ok-push_message.ensures.out_count ∙ i.out_count;
-      archives_count = c.in_ok-push_message.ensures.archives_count ∙ i.archives_count;
+      kept = λ unsent. c.in_ok-push_message.ensures.out.kept unsent refl ∙ i.kept (unsent_before w.2 unsent);
+      out_count = c.in_ok-push_message.ensures.out.count ∙ i.out_count;
+      archives_count = c.in_ok-push_message.ensures.archives.count ∙ i.archives_count;
     }
 
 pub returns-in_err-send-clause-writes : goal.returns-in_err-send-clause-writes

@@ -2,14 +2,14 @@ use Rattle.std.proofs.Common.{◌≡◌, ◌+◌, ℕ, List, length, Option}
 use Rattle.mail_answer.specs.Inside.CursorLists.{AreNumbers}
 use Rattle.mail_answer.specs.Shapes.{known_answer}
 use Rattle.mail_answer.specs.Sheets.{joined, Tells, Joins}
+use Rattle.mail_answer.specs.Inside.Calls.{KeepsArchives}
 use Rattle.mail_answer.proofs.answers.write_messages.Given as goal
 
 -- the messages so far joined the answer, and were counted
 abbrev pub invariant-loop-n : goal.invariant-loop-n
 invariant-loop-n g l = record {
   same : l.places.table ≡ l.fn.places.table;
-  held : g.A.Archives.held l.archives ≡ g.A.Archives.held l.fn.archives;
-  number : g.A.Archives.number l.archives ≡ g.A.Archives.number l.fn.archives;
+  keeps : KeepsArchives g.A.Archives l.fn.archives l.archives;
   numbers : AreNumbers (length l.fn.places.table.messages) l.numbers;
   counted : l.count + length l.numbers ≡ length l.fn.numbers;
   joins : (known : Option (List ℕ)) × (text : List ℕ)

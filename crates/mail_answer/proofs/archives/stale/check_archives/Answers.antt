@@ -1,6 +1,7 @@
 use Rattle.std.proofs.Common.{◌∙◌, sym, arith}
 use Rattle.mail_index.specs.Layouts.{archive_of}
 use Rattle.mail_answer.proofs.ArchiveLaws.StaleLemmas.{goes_on, stops_here, stale_told, next_named, still_named, as_named}
+use Rattle.mail_answer.proofs.ArchiveLaws.CallLemmas.{keeps_join}
 use Rattle.mail_answer.proofs.archives.stale.check_archives.Goals as goal
 
 pub unreachable-requires : goal.unreachable-requires
@@ -12,7 +13,7 @@ returns-then-not-branch-clause-stale g c =
     let named = c.args.index.now.archives in
     let step = next_named named c.loop-n.n (archive_of c.in-Some.archive) c.next.new.self (sym i.coming ∙ c.in-Some.ensures) in
     stale_told named (g.A.Archives.held c.args.archives.now) c.loop-n.n (stops_here named (g.A.Archives.held c.args.archives.now) c.loop-n.n (g.A.Archives.number c.args.archives.now) c.in_ok-is_as_long.field-0 (omega arith) (omega arith) c.count-count.ensures.1 i.so_far
-    (as_named (g.A.Archives.held c.args.archives.now) named c.loop-n.n c.in-Some.archive.length c.in_ok-is_as_long.field-0 step.0 (rw i.held at c.in_ok-is_as_long.ensures.same)) (cc))
+    (as_named (g.A.Archives.held c.args.archives.now) named c.loop-n.n c.in-Some.archive.length c.in_ok-is_as_long.field-0 step.0 (rw i.keeps.held at c.in_ok-is_as_long.ensures.same)) (cc))
 
 pub loop-n-preserved : goal.loop-n-preserved
 loop-n-preserved g c =
@@ -21,9 +22,8 @@ loop-n-preserved g c =
     let step = next_named named c.loop-n.n (archive_of c.in-Some.archive) c.next.new.self (sym i.coming ∙ c.in-Some.ensures) in
     record {
       coming = sym step.1;
-      held = c.in_ok-is_as_long.ensures.held ∙ i.held;
-      number = c.in_ok-is_as_long.ensures.number ∙ i.number;
+      keeps = keeps_join g.A.Archives _ _ _ i.keeps c.in_ok-is_as_long.ensures.keeps;
       count = c.in_ok-is_as_long.ensures.count ∙ i.count;
       so_far = goes_on named (g.A.Archives.held c.args.archives.now) c.loop-n.n (g.A.Archives.number c.args.archives.now) c.in_ok-is_as_long.field-0 (omega arith) (omega arith) c.count-count.ensures.1 i.so_far
-          (as_named (g.A.Archives.held c.args.archives.now) named c.loop-n.n c.in-Some.archive.length c.in_ok-is_as_long.field-0 step.0 (rw i.held at c.in_ok-is_as_long.ensures.same)) (cc);
+          (as_named (g.A.Archives.held c.args.archives.now) named c.loop-n.n c.in-Some.archive.length c.in_ok-is_as_long.field-0 step.0 (rw i.keeps.held at c.in_ok-is_as_long.ensures.same)) (cc);
     }

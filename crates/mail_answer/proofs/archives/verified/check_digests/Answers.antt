@@ -6,6 +6,7 @@ use Rattle.std.specs.Str.{bytes_eq}
 use Rattle.mail_index.specs.Layouts.{archive_of}
 use Rattle.mail_answer.proofs.ArchiveLaws.StaleLemmas.{next_named, still_named}
 use Rattle.mail_answer.proofs.ArchiveLaws.VerifiedLemmas.{passes_on, stops_at, not_early, all_unaltered, nothing_told, has_some_digest}
+use Rattle.mail_answer.proofs.ArchiveLaws.CallLemmas.{keeps_join}
 use Rattle.mail_answer.proofs.archives.verified.check_digests.Goals as goal
 
 pub unreachable-requires : goal.unreachable-requires
@@ -24,7 +25,7 @@ returns-in_err-digest-clause-altered g c =
 pub returns-in_default-2-clause-altered : goal.returns-in_default-2-clause-altered
 returns-in_default-2-clause-altered g c =
     let i = c.loop-n.invariant in
-    let read = rw (i.held, c.in-Some-2.is) at c.in_ok-digest.ensures.digest in
+    let read = rw (i.keeps.held, c.in-Some-2.is) at c.in_ok-digest.ensures.digest in
     stops_at c.args.index.now.archives (g.A.Archives.held c.args.archives.now) c.loop-n.n (archive_of c.in-Some.archive) c.next.new.self c.in-Some-2.digest c.in-Some-digest.indexed (omega (arith, c.loop-n-test.true, c.archive_count-n-end.ensures))
     (sym i.coming ∙ c.in-Some.ensures) c.requires.fresh i.so_far read c.in-Some-digest.is
     (not_from_Decides (bytes_eq c.in-Some-2.digest c.in-Some-digest.indexed) (bytes_eq-Decides c.in-Some-2.digest c.in-Some-digest.indexed) (sym c.eq.ensures ∙ c.if-eq.false))
@@ -32,7 +33,7 @@ returns-in_default-2-clause-altered g c =
 pub returns-in_default-2-2-clause-altered : goal.returns-in_default-2-2-clause-altered
 returns-in_default-2-2-clause-altered g c =
     let i = c.loop-n.invariant in
-    let read = rw (i.held, c.in_default-2.is) at c.in_ok-digest.ensures.digest in
+    let read = rw (i.keeps.held, c.in_default-2.is) at c.in_ok-digest.ensures.digest in
     not_early c.args.index.now.archives (g.A.Archives.held c.args.archives.now) c.loop-n.n (archive_of c.in-Some.archive) c.next.new.self (omega (arith, c.loop-n-test.true, c.archive_count-n-end.ensures))
     (sym i.coming ∙ c.in-Some.ensures) c.requires.fresh read
 
@@ -40,7 +41,7 @@ pub loop-n-preserved : goal.loop-n-preserved
 loop-n-preserved g c =
     let i = c.loop-n.invariant in
     let named = c.args.index.now.archives in
-    let read = rw (i.held, c.in-Some-2.is) at c.in_ok-digest.ensures.digest in
+    let read = rw (i.keeps.held, c.in-Some-2.is) at c.in_ok-digest.ensures.digest in
     let coming = sym i.coming ∙ c.in-Some.ensures in
     let step = next_named named c.loop-n.n (archive_of c.in-Some.archive) c.next.new.self coming in
     let so_far = passes_on named (g.A.Archives.held c.args.archives.now) c.loop-n.n (archive_of c.in-Some.archive) c.next.new.self c.in-Some-2.digest c.in-Some-digest.indexed (omega (arith, c.loop-n-test.true, c.archive_count-n-end.ensures))
@@ -48,8 +49,7 @@ loop-n-preserved g c =
     ((bytes_eq-Decides c.in-Some-2.digest c.in-Some-digest.indexed).0 (sym c.eq.ensures ∙ c.if-eq.true)) in
     record {
       coming = sym step.1;
-      held = c.in_ok-digest.ensures.held ∙ i.held;
-      number = c.in_ok-digest.ensures.number ∙ i.number;
+      keeps = keeps_join g.A.Archives _ _ _ i.keeps c.in_ok-digest.ensures.keeps;
       count = c.in_ok-digest.ensures.count ∙ i.count;
       so_far = rw step.1 so_far;
     }

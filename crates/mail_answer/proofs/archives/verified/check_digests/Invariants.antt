@@ -1,13 +1,13 @@
 use Rattle.std.proofs.Common.{◌≡◌, drop}
 use Rattle.mail_answer.proofs.ArchiveLaws.VerifiedLemmas.{UnalteredTo}
+use Rattle.mail_answer.specs.Inside.Calls.{KeepsArchives}
 use Rattle.mail_answer.proofs.archives.verified.check_digests.Given as goal
 
 -- the archives before this one are those that were indexed
 abbrev pub invariant-loop-n : goal.invariant-loop-n
 invariant-loop-n g l = record {
   coming : l.named ≡ drop l.n l.fn.index.archives;
-  held : g.A.Archives.held l.archives ≡ g.A.Archives.held l.fn.archives;
-  number : g.A.Archives.number l.archives ≡ g.A.Archives.number l.fn.archives;
+  keeps : KeepsArchives g.A.Archives l.fn.archives l.archives;
   count : g.A.Archives.failures l.archives ≡ g.A.Archives.failures l.fn.archives;
   so_far : UnalteredTo l.fn.index.archives (g.A.Archives.held l.fn.archives) l.n (drop l.n l.fn.index.archives);
 }

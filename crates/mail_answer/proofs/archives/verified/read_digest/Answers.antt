@@ -1,11 +1,11 @@
 use Rattle.std.proofs.Common.{◌∙◌, refl, length-take-le, arith}
 use Rattle.mail_answer.proofs.ArchiveLaws.DigestLemmas.{none_absorbed, more_absorbed, ends_early, all_absorbed}
+use Rattle.mail_answer.proofs.ArchiveLaws.CallLemmas.{keeps_self, keeps_join}
 use Rattle.mail_answer.proofs.archives.verified.read_digest.Goals as goal
 
 pub pieces-init : goal.pieces-init
 pieces-init g c = record {
-  held = refl;
-  number = refl;
+  keeps = keeps_self g.A.Archives c.args.archives.now;
   count = refl;
   within = omega arith;
   absorbed = none_absorbed (g.A.Archives.held c.args.archives.now) c.args.archive c.new-hasher.result c.new-hasher.ensures;
@@ -14,17 +14,16 @@ pieces-init g c = record {
 pub returns-then-count-eq0-clause-digest : goal.returns-then-count-eq0-clause-digest
 returns-then-count-eq0-clause-digest g c =
     ends_early (g.A.Archives.held c.args.archives.now) c.args.archive c.pieces.at c.in_ok-count.count c.args.indexed_length c.pieces.hasher c.digest_piece.new.hasher
-    (rw c.pieces.invariant.held at c.in_ok-count.ensures.part) c.if-count-eq0.true c.pieces-test.true
+    (rw c.pieces.invariant.keeps.held at c.in_ok-count.ensures.part) c.if-count-eq0.true c.pieces-test.true
 
 pub pieces-preserved : goal.pieces-preserved
 pieces-preserved g c =
     let i = c.pieces.invariant in
     record {
-      held = c.in_ok-count.ensures.held ∙ i.held;
-      number = c.in_ok-count.ensures.number ∙ i.number;
+      keeps = keeps_join g.A.Archives _ _ _ i.keeps c.in_ok-count.ensures.keeps;
       count = c.in_ok-count.ensures.count ∙ i.count;
       within = omega (arith, c.in_ok-count.ensures.bound, length-take-le c.min-most.result c.pieces.buffer (omega arith));
-      absorbed = more_absorbed (g.A.Archives.held c.args.archives.now) c.args.archive c.pieces.at c.in_ok-count.count c.pieces.hasher c.digest_piece.new.hasher i.absorbed (rw i.held at c.in_ok-count.ensures.part);
+      absorbed = more_absorbed (g.A.Archives.held c.args.archives.now) c.args.archive c.pieces.at c.in_ok-count.count c.pieces.hasher c.digest_piece.new.hasher i.absorbed (rw i.keeps.held at c.in_ok-count.ensures.part);
     }
 
 pub returns-clause-digest : goal.returns-clause-digest

@@ -1,12 +1,12 @@
 use Rattle.std.proofs.Common.{◌≡◌, ◌≤◌, ◌-◌}
 use Rattle.mail_answer.proofs.ArchiveLaws.DigestLemmas.{AbsorbedTo}
+use Rattle.mail_answer.specs.Inside.Calls.{KeepsArchives}
 use Rattle.mail_answer.proofs.archives.verified.read_digest.Given as goal
 
 -- the bytes before this place were taken into the digest
 abbrev pub invariant-pieces : goal.invariant-pieces
 invariant-pieces g l = record {
-  held : g.A.Archives.held l.archives ≡ g.A.Archives.held l.fn.archives;
-  number : g.A.Archives.number l.archives ≡ g.A.Archives.number l.fn.archives;
+  keeps : KeepsArchives g.A.Archives l.fn.archives l.archives;
   count : g.A.Archives.failures l.archives ≡ g.A.Archives.failures l.fn.archives;
   within : l.at ≤ l.fn.indexed_length;
   absorbed : AbsorbedTo (g.A.Archives.held l.fn.archives) l.fn.archive l.at l.hasher;

@@ -5,11 +5,11 @@ use Rattle.mail_answer.proofs.archives.verified.verify_each.Goals as goal
 
 pub check_digests-requires-clause-fresh : goal.check_digests-requires-clause-fresh
 check_digests-requires-clause-fresh g c =
-    subst (λ (h : Option (List (List ℕ))). IfSome h (λ bytes. stale_archive c.args.index.now.archives bytes ≡ None)) (sym c.in_ok-check_archives.ensures.held) c.in_ok-check_archives.ensures.stale
+    subst (λ (h : Option (List (List ℕ))). IfSome h (λ bytes. stale_archive c.args.index.now.archives bytes ≡ None)) (sym c.in_ok-check_archives.ensures.keeps.held) c.in_ok-check_archives.ensures.stale
 
 pub returns-clause-verified : goal.returns-clause-verified
 returns-clause-verified g c =
-    told_by_digests c.args.index.now.archives (g.A.Archives.held c.args.archives.now) c.check_digests.result c.in_ok-check_archives.ensures.stale (rw c.in_ok-check_archives.ensures.held at c.check_digests.ensures.altered)
+    told_by_digests c.args.index.now.archives (g.A.Archives.held c.args.archives.now) c.check_digests.result c.in_ok-check_archives.ensures.stale (rw c.in_ok-check_archives.ensures.keeps.held at c.check_digests.ensures.altered)
 
 pub returns-clause-same_count : goal.returns-clause-same_count
 returns-clause-same_count g c =

@@ -13,11 +13,10 @@ lines-init g c =
     let old : IsInside number held c.over-reader.result = rw c.over-reader.ensures c.requires.inside in
     let inside : IsInside number held c.first_line.new.self = c.in_ok-first.ensures.inside in
     record {
-      held = c.in_ok-first.ensures.held;
-      number = c.in_ok-first.ensures.number;
+      keeps = c.in_ok-first.ensures.archives.keeps;
       inside = rw c.pass.ensures (record { exists = inside.exists; fits = inside.fits; within = inside.within });
       fields = subst (λ (r : Reading). IfSome (coming held r) (λ bytes. WillHaveFields (coming held c.pass.new.self) c.new-header.result (fields_of (drop 1 (lines bytes))))) c.over-reader.ensures
           (first_passed held number c.in_ok-first.first c.over-reader.result c.first_line.new.self c.pass.new.self c.new-header.result old c.in_ok-first.ensures.coming c.in_ok-first.ensures.some c.in_ok-first.ensures.within c.in_ok-first.ensures.line
           c.pass.ensures c.new-header.ensures);
-      count = c.in_ok-first.ensures.count;
+      count = c.in_ok-first.ensures.archives.count;
     }

@@ -3,13 +3,13 @@ use Rattle.mbox_cutter.specs.Lines.{lines}
 use Rattle.header_text.specs.Headers.{fields_of}
 use Rattle.mail_answer.specs.Inside.HeaderReads.{WillHaveFields}
 use Rattle.mail_answer.specs.Inside.Readings.{coming, coming_count, span_reading, IsInside}
+use Rattle.mail_answer.specs.Inside.Calls.{KeepsArchives}
 use Rattle.mail_answer.proofs.output.header_reads.read_header.Given as goal
 
 -- with the lines that are left the header has the fields of the message
 abbrev pub invariant-lines : goal.invariant-lines
 invariant-lines g l = record {
-  held : g.A.Archives.held l.archives ≡ g.A.Archives.held l.fn.archives;
-  number : g.A.Archives.number l.archives ≡ g.A.Archives.number l.fn.archives;
+  keeps : KeepsArchives g.A.Archives l.fn.archives l.archives;
   inside : IsInside (g.A.Archives.number l.fn.archives) (g.A.Archives.held l.fn.archives) l.reader;
   fields : IfSome (coming (g.A.Archives.held l.fn.archives) (span_reading l.fn.message)) (λ bytes. WillHaveFields (coming (g.A.Archives.held l.fn.archives) l.reader) l.header (fields_of (drop 1 (lines bytes))));
   count : g.A.Archives.failures l.archives ≡ g.A.Archives.failures l.fn.archives;

@@ -8,12 +8,12 @@ use Rattle.mail_answer.specs.Shapes.{closed}
 use Rattle.mail_answer.specs.Sheets.{Tells}
 use Rattle.mail_answer.proofs.OutputLaws.CopiedPieces.{pieces_none, pieces_more, front_told, closed_told}
 use Rattle.mail_answer.proofs.OutputLaws.SheetLemmas.{joins_gathered, joins_more, joins_front, front_more, writes_next, writes_less, writes_err, unsent_before, unsent_before_front, unsent_before_writes}
+use Rattle.mail_answer.proofs.ArchiveLaws.CallLemmas.{keeps_self, keeps_join}
 use Rattle.mail_answer.proofs.output.mbox.push_closed.Goals as goal
 
 pub pieces-init : goal.pieces-init
 pieces-init g c = record {
-  held = refl;
-  number = refl;
+  keeps = keeps_self g.A.Archives c.args.archives.now;
   inside = rw c.of-part.ensures c.requires.inside;
   joins = (
     [],
@@ -34,20 +34,19 @@ pieces-preserved g c =
     let held : Option (List ℕ) = coming (g.A.Archives.held c.args.archives.now) c.copy_piece.new.self in
     let i = c.pieces.invariant in
     let j = i.joins in
-    let w = rw i.held at c.in_ok-ending.ensures.copies in
+    let w = rw i.keeps.held at c.in_ok-ending.ensures.copies in
     record {
-      held = c.in_ok-ending.ensures.held ∙ i.held;
-      number = c.in_ok-ending.ensures.number ∙ i.number;
-      inside = rw (i.held, i.number) at c.in_ok-ending.ensures.inside;
+      keeps = keeps_join g.A.Archives _ _ _ i.keeps c.in_ok-ending.ensures.archives.keeps;
+      inside = rw (i.keeps.held, i.keeps.number) at c.in_ok-ending.ensures.inside;
       joins = (
         j.0 ++ w.0,
         j.1 ∙ ap (option_map (λ bytes. j.0 ++ bytes)) w.1 ∙ pieces_more held j.0 w.0,
         w.3 j.0 j.2,
         joins_more j.3 w.2,
       );
-      kept = λ unsent. c.in_ok-ending.ensures.kept unsent refl ∙ i.kept (unsent_before w.2 unsent);
-      out_count = c.in_ok-ending.ensures.out_count ∙ i.out_count;
-      archives_count = c.in_ok-ending.ensures.archives_count ∙ i.archives_count;
+      kept = λ unsent. c.in_ok-ending.ensures.out.kept unsent refl ∙ i.kept (unsent_before w.2 unsent);
+      out_count = c.in_ok-ending.ensures.out.count ∙ i.out_count;
+      archives_count = c.in_ok-ending.ensures.archives.count ∙ i.archives_count;
     }
 
 pub returns-in_err-ending-clause-writes : goal.returns-in_err-ending-clause-writes
@@ -56,15 +55,19 @@ returns-in_err-ending-clause-writes g c =
     let span : Option (List ℕ) = coming held (span_reading c.args.message) in
     let i = c.pieces.invariant in
     let j = i.joins in
-    let w = rw i.held at c.in_err-ending.ensures.copies in
+    let w = rw i.keeps.held at c.in_err-ending.ensures.copies in
     let told = front_told span (coming held c.pieces.part) j.0 w.0 j.1 w.1 in
     writes_err (g.O.Out.taken c.args.out.now) (g.O.Out.taken c.copy_piece.new.out) c.args.sheet.now c.copy_piece.new.sheet (option_map closed span) c.from_residual.result c.from_residual.ensures.0
     ((j.0 ++ w.0) ++ told.0, told.1, front_more told.0 (joins_front j.3 w.2))
 
-pub returns-in_err-ending-clause-kept : goal.returns-in_err-ending-clause-kept
-returns-in_err-ending-clause-kept g c =
+pub returns-in_err-ending-clause-out : goal.returns-in_err-ending-clause-out
+returns-in_err-ending-clause-out g c =
     let p = err_from_is_err_and c.from_residual.result c.from_residual.ensures.1 in
-    λ unsent own. c.in_err-ending.ensures.kept unsent (rw (p.1, p.2) at own) ∙ c.pieces.invariant.kept (unsent_before_front c.in_err-ending.ensures.copies.2 unsent)
+    let i = c.pieces.invariant in
+    record {
+      kept = λ unsent own. c.in_err-ending.ensures.out.kept unsent (rw (p.1, p.2) at own) ∙ i.kept (unsent_before_front c.in_err-ending.ensures.copies.2 unsent);
+      count = rw (p.1, p.2) (rw i.out_count at c.in_err-ending.ensures.out.count);
+    }
 
 pub returns-clause-writes : goal.returns-clause-writes
 returns-clause-writes g c =
@@ -79,6 +82,10 @@ returns-clause-writes g c =
     writes_less (g.O.Out.taken c.args.out.now) (g.O.Out.taken c.push.new.out) c.args.sheet.now c.push.new.self (option_map closed (coming held span)) (j.0 ++ feeds) c.push.result (rw same at told)
     (writes_next (g.O.Out.taken c.args.out.now) (g.O.Out.taken c.pieces.out) (g.O.Out.taken c.push.new.out) c.args.sheet.now c.pieces.sheet c.push.new.self (Some j.0) (Some feeds) c.push.result (j.0, refl, j.3) c.push.ensures.writes)
 
-pub returns-clause-kept : goal.returns-clause-kept
-returns-clause-kept g c =
-    λ unsent own. c.push.ensures.kept unsent own ∙ c.pieces.invariant.kept (unsent_before_writes _ _ c.pieces.sheet c.push.new.self (Some c.feeds.result.now) c.push.result c.push.ensures.writes unsent)
+pub returns-clause-out : goal.returns-clause-out
+returns-clause-out g c =
+    let i = c.pieces.invariant in
+    record {
+      kept = λ unsent own. c.push.ensures.out.kept unsent own ∙ i.kept (unsent_before_writes _ _ c.pieces.sheet c.push.new.self (Some c.feeds.result.now) c.push.result c.push.ensures.writes unsent);
+      count = rw i.out_count at c.push.ensures.out.count;
+    }

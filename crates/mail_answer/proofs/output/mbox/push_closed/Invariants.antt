@@ -3,13 +3,13 @@ use Rattle.std.specs.Option.{option_map}
 use Rattle.mail_answer.specs.Inside.Endings.{ending_of}
 use Rattle.mail_answer.specs.Inside.Readings.{coming, coming_count, span_reading, IsInside}
 use Rattle.mail_answer.specs.Sheets.{Joins}
+use Rattle.mail_answer.specs.Inside.Calls.{KeepsArchives}
 use Rattle.mail_answer.proofs.output.mbox.push_closed.Given as goal
 
 -- some pieces joined the answer; they and what is left are the span
 abbrev pub invariant-pieces : goal.invariant-pieces
 invariant-pieces g l = record {
-  held : g.A.Archives.held l.archives ≡ g.A.Archives.held l.fn.archives;
-  number : g.A.Archives.number l.archives ≡ g.A.Archives.number l.fn.archives;
+  keeps : KeepsArchives g.A.Archives l.fn.archives l.archives;
   inside : IsInside (g.A.Archives.number l.fn.archives) (g.A.Archives.held l.fn.archives) l.part;
   joins : (text : List ℕ)
       × (coming (g.A.Archives.held l.fn.archives) (span_reading l.fn.message) ≡ option_map (λ bytes. text ++ bytes) (coming (g.A.Archives.held l.fn.archives) l.part))

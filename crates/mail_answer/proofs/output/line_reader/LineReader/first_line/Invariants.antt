@@ -1,12 +1,12 @@
 use Rattle.std.proofs.Common.{◌≡◌}
 use Rattle.mail_answer.specs.Inside.Readings.{coming, coming_count, IsInside}
+use Rattle.mail_answer.specs.Inside.Calls.{KeepsArchives}
 use Rattle.mail_answer.proofs.output.line_reader.LineReader.first_line.Given as goal
 
 -- nothing was passed, and the archives are as they were
 abbrev pub invariant-more : goal.invariant-more
 invariant-more g l = record {
-  held : g.A.Archives.held l.archives ≡ g.A.Archives.held l.fn.archives;
-  number : g.A.Archives.number l.archives ≡ g.A.Archives.number l.fn.archives;
+  keeps : KeepsArchives g.A.Archives l.fn.archives l.archives;
   inside : IsInside (g.A.Archives.number l.fn.archives) (g.A.Archives.held l.fn.archives) l.self;
   coming : coming (g.A.Archives.held l.fn.archives) l.self ≡ coming (g.A.Archives.held l.fn.archives) l.fn.self;
   as_many : coming_count l.self ≡ coming_count l.fn.self;

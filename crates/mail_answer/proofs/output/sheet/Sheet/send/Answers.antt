@@ -37,5 +37,5 @@ returns-clause-writes g c =
     let i = c.loop-at.invariant in
     ([], refl, all_went (g.O.Out.taken c.args.out.now) (g.O.Out.taken c.loop-at.out) c.args.self.now _ c.loop-at.at (omega (arith, ap length i.same)) i.appends i.sent c.clear.ensures)
 
-pub returns-clause-kept : goal.returns-clause-kept
-returns-clause-kept g c = λ unsent own. c.loop-at.invariant.kept unsent
+pub returns-clause-out : goal.returns-clause-out
+returns-clause-out g c = record { kept = λ unsent own. c.loop-at.invariant.kept unsent; count = c.loop-at.invariant.count }

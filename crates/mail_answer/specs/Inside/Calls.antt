@@ -1,0 +1,29 @@
+-- What a call does to the archives that it reads and to the output that it writes to.
+use Rattle.std.specs.Prelude.{◌≡◌, ℕ, false, IfSome, Result}
+use Rattle.contract_words.specs.Devices.{Counted}
+use Rattle.mbox_cutter.specs.declared.device.Out.{Ghosts as OutGhosts}
+use Rattle.mail_answer.specs.Faults.{has_fault, is_of_archives, is_of_output, is_stale}
+use Rattle.mail_answer.specs.declared.archives.Archives.{Ghosts}
+use Rattle.mail_answer.specs.declared.fault.AnswerFaultKind.{AnswerFaultKind}
+
+-- after any calls of archives, whether they failed or not
+pub record KeepsArchives {A : Type 0} (g : Ghosts A) (old new : A) : Type 0 where
+  -- each holds the bytes that it held, where they are known
+  pub held : g.held new ≡ g.held old
+  -- they are as many
+  pub number : g.number new ≡ g.number old
+
+-- archives were read that had been found to be as they were indexed
+pub record ReadsArchives {A T : Type 0} (g : Ghosts A) (old new : A) (result : Result T AnswerFaultKind) : Type 0 where
+  pub keeps : KeepsArchives g old new
+  -- their count of failures rises by one where their failure is answered, and else stays
+  pub count : Counted (has_fault is_of_archives result) (g.failures old) (g.failures new)
+  -- none is stale, where their bytes are known
+  pub fresh : IfSome (g.held old) (λ _. has_fault is_stale result ≡ false)
+
+-- an output was written to, and so many bytes have gone out since the answer began
+pub record WritesOut {O T : Type 0} (g : OutGhosts O) (sent : ℕ) (old new : O) (result : Result T AnswerFaultKind) : Type 0 where
+  -- where no byte has gone out and none failed to, it is as it was
+  pub kept : sent ≡ 0 → has_fault is_of_output result ≡ false → new ≡ old
+  -- its count of failures rises by one where its failure is answered, and else stays
+  pub count : Counted (has_fault is_of_output result) (g.failures old) (g.failures new)
