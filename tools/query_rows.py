@@ -1,14 +1,17 @@
 #!/usr/bin/env python3
-"""A second reader of queries, with which the rows of crates/mail_query/proofs/Rows*.antt are compared.
+"""A second reader of queries, with which the rows of crates/mail_query/proofs/Rows*.antt and the tables of
+crates/worked_queries/src are compared.
 
 It filters over the grammars: the readings of a text are all its derivations, and a fault shows at the first token behind
-which nothing leads to a reading. Words and dates are those of the rows' own lexicon, proofs/RowLexicon.antt.
+which nothing leads to a reading. Words and dates are of the rows' own lexicon, proofs/RowLexicon.antt, or of mail's.
 The last line says how many texts were compared; the status is 0 if each row says what this reader does.
 """
 import os, re, sys
 
-PROOFS = os.path.join(os.path.dirname(os.path.abspath(__file__)), "..", "crates", "mail_query", "proofs")
-FEWEST = 300  # texts, in both tables
+CRATES = os.path.join(os.path.dirname(os.path.abspath(__file__)), "..", "crates")
+PROOFS = os.path.join(CRATES, "mail_query", "proofs")
+TABLES = os.path.join(CRATES, "worked_queries", "src")
+FEWEST = 450  # texts, in all
 MOST_WAITING = 30
 SIZE_LIMIT = 2**63 - 1
 KINDS = ["to", "cc", "bcc", "from", "subject", "body", "name", "own_id"]
@@ -18,34 +21,41 @@ class Fault(Exception):
     """Why a pattern or a term is refused: args[0] is the kind."""
 
 
-# ---- the rows' lexicon
+# ---- lexicons
 
 
-def is_word(text):
-    return re.fullmatch("[A-Za-z]{1,6}", text) is not None
+class Lexicon:
+    """Words, pieces of words, and the dates that the rows name."""
+
+    def __init__(self, word, piece, size, dates):
+        self.word, self.piece, self.size, self.dates = word, piece, size, dates
+
+    def is_word(self, text):
+        return len(text.encode()) <= self.size and re.fullmatch(self.word, text) is not None
+
+    def is_piece(self, text):
+        return 1 <= len(text.encode()) <= self.size and re.fullmatch(self.piece, text) is not None
+
+    def date(self, text):
+        if text not in self.dates:
+            raise Fault("BadDate")
+        return ("Date", self.dates[text])
 
 
-def is_piece(text):
-    return re.fullmatch("[A-Za-z-]{1,6}", text) is not None
+ROW_LEXICON = Lexicon("[A-Za-z]+", "[A-Za-z-]*", 6, {"ok": "every_date"})
+# a letter or a digit, and joiners between them; the first and the last second of a month
+MAIL_LEXICON = Lexicon(
+    r"[^\W_]+([-_.+@]+[^\W_]+)*", r"[\w.+@-]*", 128, {"2003-02": "1044057600 1046476799", "mar": "1046476800 1049155199"}
+)
+lexicon = ROW_LEXICON  # main sets the one of the rows that it compares
 
 
-def date(text):
-    if text != "ok":
-        raise Fault("BadDate")
-    return ("Date", "every_date")
-
-
-# ---- queries as the rows write them
+# ---- queries as laws write them
 
 
 def codes(text):
     escapes = {"\\": "\\\\", '"': '\\"', "\n": "\\n", "\t": "\\t"}
     return '(codes "%s")' % "".join(escapes.get(c, c) for c in text) if text else "[]"
-
-
-def sought(name, kinds, text):
-    fields = "; ".join("%s = true" % kind for kind in KINDS if kind in kinds)
-    return (name, "(record no_kinds { %s })" % fields, codes(text))
 
 
 def joined(name, members):
@@ -54,6 +64,11 @@ def joined(name, members):
 
 def shown(query):
     name, *parts = query
+    if name in ("Word", "Part", "Prefix"):
+        fields = "; ".join("%s = true" % kind for kind in KINDS if kind in parts[0])
+        return "%s (record no_kinds { %s }) %s" % (name, fields, codes(parts[1]))
+    if name == "Size":
+        return "Size %s %s" % (parts[0], "None" if parts[1] is None else "(Some %d)" % parts[1])
     if name in ("All", "Either"):
         members = "".join("(More %s " % nested(q) for q in parts[0])
         return "%s %sEnd%s" % (name, members, ")" * len(parts[0]))
@@ -64,12 +79,49 @@ def nested(query):
     return shown(query) if len(query) == 1 else "(%s)" % shown(query)
 
 
-def ok(query):
-    return "Ok " + nested(query)
+def shown_fault(refused):
+    return "(record { number = %d; kind = %s })" % refused
 
 
-def fault(number, kind):
-    return "(record { number = %d; kind = %s })" % (number, kind)
+def shown_answer(query, refused):
+    return "Ok " + nested(query) if query else "Err " + shown_fault(refused)
+
+
+# ---- queries as tables tell them
+
+KIND_LETTERS = {"to": "t", "cc": "c", "bcc": "h", "from": "f", "subject": "s", "body": "b", "name": "n", "own_id": "m"}
+FAULT_TEXTS = {
+    "NoPattern": "no pattern",
+    "BadPrefix": "bad prefix",
+    "BadWord": "bad word",
+    "Approximate": "approximate match not supported",
+    "BadDate": "bad date",
+    "BadSize": "bad size",
+    "BadFlag": "bad flag",
+    "NeedsOperator": "operator needed",
+    "BadParenthesis": "bad parenthesis",
+    "MissingTerm": "term missing",
+    "TooDeep": "too deep",
+    "Phrase": "phrase not supported",
+}
+
+
+def told(query):
+    name, *parts = query
+    if name in ("Word", "Part", "Prefix"):
+        letters = "".join(KIND_LETTERS[kind] for kind in KINDS if kind in parts[0])
+        return "%s %s %s" % (name.lower(), letters, parts[1])
+    if name == "Size":
+        return "size %d %s" % (parts[0], "-" if parts[1] is None else parts[1])
+    if name == "HasFlag":
+        return "flag %s%s" % ("" if parts[1] == "true" else "-", parts[0][0].lower())
+    if name in ("All", "Either"):
+        return "%s(%s)" % (name.lower(), ", ".join(told(q) for q in parts[0]))
+    return " ".join([name.lower()] + [part if isinstance(part, str) else told(part) for part in parts])
+
+
+def told_answer(query, refused):
+    return told(query) if query else "query item %d: %s" % (refused[0], FAULT_TEXTS[refused[1]])
 
 
 # ---- mairix patterns
@@ -85,10 +137,10 @@ class Words:
         self.kinds = kinds
 
     def words(self, text):
-        return [text.lower()] if is_word(text) else []
+        return [text.casefold()] if lexicon.is_word(text) else []
 
     def parts(self, text):
-        return [text.lower()] if is_piece(text) else []
+        return [text.casefold()] if lexicon.is_piece(text) else []
 
 
 class Ids:
@@ -105,11 +157,11 @@ class Ids:
 
 
 def atoms(forms, text):
-    found = [sought("Word", forms.kinds, word) for word in forms.words(text)]
+    found = [("Word", forms.kinds, word) for word in forms.words(text)]
     if text.endswith("="):
-        found += [sought("Part", forms.kinds, part) for part in forms.parts(text[:-1])]
+        found += [("Part", forms.kinds, part) for part in forms.parts(text[:-1])]
         if text.startswith("^"):
-            found += [sought("Prefix", forms.kinds, part) for part in forms.parts(text[1:-1])]
+            found += [("Prefix", forms.kinds, part) for part in forms.parts(text[1:-1])]
     return found
 
 
@@ -148,7 +200,7 @@ def sizes(text):
     if not found:
         raise Fault("BadSize")
     low, high = found.groups()
-    return ("Size", str(size(low) if low else 0), "(Some %d)" % size(high) if high else "None")
+    return ("Size", size(low) if low else 0, size(high) if high else None)
 
 
 def flags(text):
@@ -163,26 +215,27 @@ def pattern(text):
     if not colon:
         return rest(Words(["to", "cc", "from", "subject", "body"]), text)
     if prefix in ("m", "d", "z", "F"):
-        return {"m": lambda part: rest(Ids(), part), "d": date, "z": sizes, "F": flags}[prefix](behind)
+        return {"m": lambda part: rest(Ids(), part), "d": lexicon.date, "z": sizes, "F": flags}[prefix](behind)
     if not prefix or set(prefix) - set(LETTERS):
         raise Fault("BadPrefix")
     return rest(Words([kind for letter in prefix for kind in LETTERS[letter]]), behind)
 
 
 def patterns_answer(texts):
+    """The query of patterns and None, or None and their fault."""
     queries = []
     for number, text in enumerate(texts, 1):
         try:
             queries.append(pattern(text))
         except Fault as refused:
-            return "Err " + fault(number, refused.args[0])
-    return ok(joined("All", queries)) if queries else "Err " + fault(1, "NoPattern")
+            return None, (number, refused.args[0])
+    return (joined("All", queries), None) if queries else (None, (1, "NoPattern"))
 
 
 # ---- boolean queries
 
 FIELDS = {"from": ["from"], "to": ["to", "cc", "bcc"], "subject": ["subject"], "body": ["body"]}
-GOOD_RESTS = {"from": "x", "to": "x", "subject": "x", "body": "x", "id": "x", "date": "ok"}
+PREFIXES = [*FIELDS, "id", "date"]
 SIGNS = ("(", ")", "and", "or", "not")
 
 
@@ -196,10 +249,10 @@ def prefix_of(term):
 
 
 def word(kinds, text):
-    if is_word(text):
-        return sought("Word", kinds, text.lower())
-    if text.endswith("*") and is_piece(text[:-1]):
-        return sought("Prefix", kinds, text[:-1].lower())
+    if lexicon.is_word(text):
+        return ("Word", kinds, text.casefold())
+    if text.endswith("*") and lexicon.is_piece(text[:-1]):
+        return ("Prefix", kinds, text[:-1].casefold())
     raise Fault("BadWord")
 
 
@@ -215,8 +268,8 @@ def term_query(term):
     if not behind or (prefix == "id" and behind == "<>"):
         raise Fault("MissingTerm")
     if prefix == "id":
-        return sought("Word", ["own_id"], behind[1:-1] if re.fullmatch("<.*>", behind) else behind)
-    return date(behind) if prefix == "date" else word(FIELDS[prefix], behind)
+        return ("Word", ["own_id"], behind[1:-1] if re.fullmatch("<.*>", behind) else behind)
+    return lexicon.date(behind) if prefix == "date" else word(FIELDS[prefix], behind)
 
 
 class Grammar:
@@ -309,7 +362,7 @@ def kind_at(before, t):
     prefix = prefix_of(t) if t else None
     if t not in SIGNS and t and '"' in t:
         return "Phrase"
-    if prefix is not None and prefix not in GOOD_RESTS:
+    if prefix is not None and prefix not in PREFIXES:
         return "BadPrefix"
     if t in ("(", "not"):
         return "TooDeep"
@@ -317,7 +370,7 @@ def kind_at(before, t):
         return "BadParenthesis"
     if t in ("and", "or", ")", None):
         return "MissingTerm" if reading(closed(before)) is None else "BadParenthesis"
-    if prefix and not leads_on(before + [prefix + ":" + GOOD_RESTS[prefix]]):
+    if prefix and not leads_on(before + [prefix + ":" + (next(iter(lexicon.dates)) if prefix == "date" else "x")]):
         return "NeedsOperator"
     try:
         raise AssertionError(term_query(t))
@@ -326,19 +379,19 @@ def kind_at(before, t):
 
 
 def is_phrase_or_unknown(t):
-    return t not in SIGNS and ('"' in t or (prefix_of(t) is not None and prefix_of(t) not in GOOD_RESTS))
+    return t not in SIGNS and ('"' in t or (prefix_of(t) is not None and prefix_of(t) not in PREFIXES))
 
 
 def boolean_answer(text):
     """The query of a text and None, or None and its first fault."""
     ts = tokens(text)
     if not ts:
-        return None, fault(1, "NoPattern")
+        return None, (1, "NoPattern")
     for k, t in enumerate(ts):
         if is_phrase_or_unknown(t) or not leads_on(ts[: k + 1]):
-            return None, fault(k + 1, kind_at(ts[:k], t))
+            return None, (k + 1, kind_at(ts[:k], t))
     tree = reading(ts)
-    return (query_of(tree), None) if tree else (None, fault(len(ts) + 1, kind_at(ts, None)))
+    return (query_of(tree), None) if tree else (None, (len(ts) + 1, kind_at(ts, None)))
 
 
 # ---- the rows
@@ -357,7 +410,16 @@ def rows(name, left):
     return [(what[len(head) : len(what) - len(tail)], answer) for _, what, answer in found if what.startswith(head)]
 
 
+def table(name):
+    """The rows of a table: the text, and what is told of it."""
+    with open(os.path.join(TABLES, name), encoding="utf-8") as f:
+        (text,) = re.findall(r'const \w+: &str = "\\\n((?:[^"\\]|\\.|\\\n)*)";', f.read())
+    lines = re.sub(r"\\(?:\n\s*|(.))", lambda found: found[1] or "", text).splitlines()
+    return [tuple(line.split(" => ")) for line in lines]
+
+
 def main():
+    global lexicon
     wrong, texts = [], set()
 
     def compare(text, wanted, answer):
@@ -366,13 +428,17 @@ def main():
             wrong.append((text, wanted, answer))
 
     for text, answer in rows("RowsMairix.antt", "patterns_query toy (..)"):
-        compare("patterns " + text, patterns_answer(unquoted(text)), answer)
+        compare("patterns " + text, shown_answer(*patterns_answer(unquoted(text))), answer)
     for text, answer in rows("RowsBoolean.antt", "tokens_query toy (tokens ..)"):
-        query, refused = boolean_answer("".join(unquoted(text)))
-        compare("boolean " + text, ok(query) if query else "Err " + refused, answer)
+        compare("boolean " + text, shown_answer(*boolean_answer("".join(unquoted(text)))), answer)
     for text, answer in rows("RowsBoolean.antt", "first_fault toy (tokens ..)"):
         query, refused = boolean_answer("".join(unquoted(text)))
-        compare("boolean " + text, "None" if query else "Some " + refused, answer)
+        compare("boolean " + text, "None" if query else "Some " + shown_fault(refused), answer)
+    lexicon = MAIL_LEXICON
+    for text, answer in table("patterns.rt"):
+        compare("patterns %s of mail" % text, told_answer(*patterns_answer(text.split(", ") if text else [])), answer)
+    for text, answer in table("boolean_texts.rt"):
+        compare("boolean %s of mail" % text, told_answer(*boolean_answer(text)), answer)
     for text, wanted, answer in wrong:
         print("%s: %s, and the row says %s" % (text, wanted, answer))
     print("%d texts, %d rows that say something else" % (len(texts), len(wrong)))

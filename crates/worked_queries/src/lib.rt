@@ -2,4 +2,12 @@
 #![tactic(auto)]
 
 #[cfg(test)]
+mod boolean_texts;
+#[cfg(test)]
+mod patterns;
+#[cfg(test)]
 mod queries;
+#[cfg(test)]
+mod reading;
+#[cfg(test)]
+mod told;
