@@ -1,12 +1,10 @@
 //! Answers that were worked out by hand, over archives in memory and their index.
 
 use crate::fixture::{ARCHIVE, INDEX, held, indexed, query_of, text_of};
-use mail_answer::{AnswerFaultKind, Archives, Format, MemoryArchives, answer};
+use mail_answer::{AnswerFault, AnswerFaultKind, Archives, Format, MemoryArchives, answer};
 use mail_index::IndexView;
 use mbox_cutter::MemoryOut;
 use std::alloc::Global;
-use std::process::Abort;
-use std::test::Fail;
 
 const HELLO: &str = "^Subject: Hello||hi||";
 
@@ -19,130 +17,141 @@ const TO_ALICE: &str = "^To: alice@x.org|Cc: bob@x.org||x||";
 
 const FROM_ALICE: &str = "^From: Alice <alice@example.org>||x||";
 
-/// Two messages that refer to a third, which is in neither archive.
-pub const COUSINS: [(&str, &str); 2] = [
-    ("a.mbox", "^Message-ID: <1@x>|References: <0@x>||hi||"),
-    ("b.mbox", "^Message-ID: <2@x>|References: <0@x>||ho||"),
-];
+/// A message that refers to another, which is in no archive.
+pub const COUSIN: (&str, &str) = ("a.mbox", "^Message-ID: <1@x>|References: <0@x>||hi||");
+
+/// A message that refers to the same one.
+pub const OTHER_COUSIN: (&str, &str) = ("b.mbox", "^Message-ID: <2@x>|References: <0@x>||ho||");
+
+pub const COUSINS: [(&str, &str); 2] = [COUSIN, OTHER_COUSIN];
 
 /// Three messages, of which the first and the last share no id, and one without ids.
 const CHAIN: &str =
     "^Message-ID: <1@x>||hi||^Message-ID: <2@x>|References: <1@x>||ho||^Message-ID: <3@x>|In-Reply-To: <2@x>||he||^Subject: x||ha||";
 
-/// Answers a pattern over archives. In the texts `^` stands for the separator line and `|` for LF.
-fn check_answer(
-    rt: &impl Abort,
+const BOTH: &str = "0 75 m.mbox|75 49 m.mbox|";
+
+const EXCERPT_TO_ALICE: &str = "m.mbox|To: alice@x.org|Cc: bob@x.org|From:|Subject:|Date:|";
+
+const EXCERPT_FROM_ALICE: &str = "m.mbox|To:|Cc:|From: Alice <alice@example.org>|Subject:|Date:|";
+
+/// The text of an archive, a pattern, a form, and how many messages are answered with what.
+const OF_ONE_ARCHIVE: [(&str, &str, Format, u64, &str); 19] = [
+    (
+        HELLO_WITHOUT_LAST_LF,
+        "s:hello",
+        Format::Raw,
+        1,
+        "0 57 m.mbox|",
+    ),
+    (HELLO_WITHOUT_LAST_LF, "s:hello", Format::Mbox, 1, HELLO),
+    ("^Subject: Hello||hi", "s:hello", Format::Mbox, 1, HELLO),
+    (HELLO, "bs:hello/hi", Format::Raw, 1, "0 58 m.mbox|"),
+    (HELLO, "s:hello", Format::Mbox, 1, HELLO),
+    (TWO_MESSAGES, "s:~absent", Format::Raw, 2, BOTH),
+    (TWO_MESSAGES, "s:two", Format::Raw, 1, "75 49 m.mbox|"),
+    (TWO_MESSAGES, "s:one/two", Format::Mbox, 2, TWO_MESSAGES),
+    ("", "s:~absent", Format::Raw, 0, ""),
+    ("||", "s:~absent", Format::Mbox, 0, ""),
+    (TO_ALICE, "tc:~bob", Format::Raw, 0, ""),
+    (TO_ALICE, "t:~bob", Format::Raw, 1, "0 72 m.mbox|"),
+    (TO_ALICE, "d:1990-", Format::Raw, 0, ""),
+    (TO_ALICE, "t:alice", Format::Excerpt, 1, EXCERPT_TO_ALICE),
+    (
+        FROM_ALICE,
+        "f:alice@example.org",
+        Format::Raw,
+        1,
+        "0 74 m.mbox|",
+    ),
+    (
+        FROM_ALICE,
+        "f:example",
+        Format::Excerpt,
+        1,
+        EXCERPT_FROM_ALICE,
+    ),
+    (FROM_ALICE, "f:alic=", Format::Raw, 1, "0 74 m.mbox|"),
+    (FROM_ALICE, "f:xample=", Format::Raw, 1, "0 74 m.mbox|"),
+    (FROM_ALICE, "f:^xample=", Format::Excerpt, 0, ""),
+];
+
+const TWICE: [(&str, &str); 2] = [("a.mbox", HELLO_WITHOUT_LAST_LF), ("b.mbox", HELLO)];
+
+const CLOSED: &str = "^Subject: Hello||hi||^Subject: Hello||hi||";
+
+const LINKED: &str = "0 61 m.mbox|61 79 m.mbox|140 80 m.mbox|";
+
+const BOTH_COUSINS: &str =
+    "^Message-ID: <1@x>|References: <0@x>||hi||^Message-ID: <2@x>|References: <0@x>||ho||";
+
+/// Archives, a pattern, whether whole threads are asked for, a form, and how many messages are answered with what.
+const OF_ARCHIVES: [(&[(&str, &str)], &str, bool, Format, u64, &str); 9] = [
+    (&TWICE, "s:hello", false, Format::Mbox, 2, CLOSED),
+    (&[("m.mbox", CHAIN)], "b:hi", true, Format::Raw, 3, LINKED),
+    (&[("m.mbox", CHAIN)], "b:he", true, Format::Raw, 3, LINKED),
+    (
+        &[("m.mbox", CHAIN)],
+        "b:ho",
+        false,
+        Format::Raw,
+        1,
+        "61 79 m.mbox|",
+    ),
+    (
+        &[("m.mbox", CHAIN)],
+        "b:ha",
+        true,
+        Format::Raw,
+        1,
+        "220 54 m.mbox|",
+    ),
+    (&COUSINS, "b:hi", false, Format::Raw, 1, "0 79 a.mbox|"),
+    (&COUSINS, "b:hi", true, Format::Mbox, 2, BOTH_COUSINS),
+    (
+        &COUSINS,
+        "b:ho",
+        true,
+        Format::Raw,
+        2,
+        "0 79 a.mbox|0 79 b.mbox|",
+    ),
+    (&COUSINS, "b:absent", true, Format::Mbox, 0, ""),
+];
+
+/// Whether an answer over archives has so many messages and is this text. It is None where memory is wanting, and so are those below.
+fn is_answered(
     alloc: Global,
     archives: &[(&str, &str)],
-    search: (&str, bool, Format),
-    wanted: (u64, &str),
-) -> Result<(), Fail> {
-    let (pattern, threads, format) = search;
-    let (messages, text) = wanted;
-    let file = indexed(rt, alloc, archives)?;
-    let index = IndexView::open(&file)?;
-    let query = query_of(alloc, &[pattern]).ok_or("a query")?;
-    let mut archives = held(rt, alloc, archives)?;
+    (pattern, threads, format): (&str, bool, Format),
+    (messages, text): (u64, &str),
+) -> Option<bool> {
+    let file = indexed(alloc, archives)?;
+    let index = IndexView::open(&file).ok()?;
+    let query = query_of(alloc, &[pattern])?;
+    let mut held = held(alloc, archives)?;
     let mut out = MemoryOut::new(alloc, None);
-    let told = answer(
-        alloc,
-        &index,
-        &query,
-        threads,
-        format,
-        &mut archives,
-        &mut out,
-    );
+    let told = answer(alloc, &index, &query, threads, format, &mut held, &mut out);
     let text = text_of(alloc, text)?;
-    let as_wanted = told == Ok(messages) && out.bytes() == text.as_slice();
-    assert!(rt; as_wanted, "{pattern}: {told:?}");
-    Ok(())
+    Some(told == Ok(messages) && out.bytes() == text.as_slice())
 }
 
 #[test]
-fn one_archive_is_answered(rt: HostRuntime) -> Result<(), Fail> {
-    let both = "0 75 m.mbox|75 49 m.mbox|";
-    let to_alice = "m.mbox|To: alice@x.org|Cc: bob@x.org|From:|Subject:|Date:|";
-    let from_alice = "m.mbox|To:|Cc:|From: Alice <alice@example.org>|Subject:|Date:|";
-    for (archive, pattern, format, messages, text) in [
-        (
-            HELLO_WITHOUT_LAST_LF,
-            "s:hello",
-            Format::Raw,
-            1,
-            "0 57 m.mbox|",
-        ),
-        (HELLO_WITHOUT_LAST_LF, "s:hello", Format::Mbox, 1, HELLO),
-        ("^Subject: Hello||hi", "s:hello", Format::Mbox, 1, HELLO),
-        (HELLO, "bs:hello/hi", Format::Raw, 1, "0 58 m.mbox|"),
-        (HELLO, "s:hello", Format::Mbox, 1, HELLO),
-        (TWO_MESSAGES, "s:~absent", Format::Raw, 2, both),
-        (TWO_MESSAGES, "s:two", Format::Raw, 1, "75 49 m.mbox|"),
-        (TWO_MESSAGES, "s:one/two", Format::Mbox, 2, TWO_MESSAGES),
-        ("", "s:~absent", Format::Raw, 0, ""),
-        ("||", "s:~absent", Format::Mbox, 0, ""),
-        (TO_ALICE, "tc:~bob", Format::Raw, 0, ""),
-        (TO_ALICE, "t:~bob", Format::Raw, 1, "0 72 m.mbox|"),
-        (TO_ALICE, "d:1990-", Format::Raw, 0, ""),
-        (TO_ALICE, "t:alice", Format::Excerpt, 1, to_alice),
-        (
-            FROM_ALICE,
-            "f:alice@example.org",
-            Format::Raw,
-            1,
-            "0 74 m.mbox|",
-        ),
-        (FROM_ALICE, "f:example", Format::Excerpt, 1, from_alice),
-        (FROM_ALICE, "f:alic=", Format::Raw, 1, "0 74 m.mbox|"),
-        (FROM_ALICE, "f:xample=", Format::Raw, 1, "0 74 m.mbox|"),
-        (FROM_ALICE, "f:^xample=", Format::Excerpt, 0, ""),
-    ] {
-        check_answer(
-            &rt,
-            rt.alloc(),
-            &[("m.mbox", archive)],
-            (pattern, false, format),
-            (messages, text),
-        )?;
+fn one_archive_is_answered(rt: HostRuntime) {
+    for (archive, pattern, format, messages, text) in OF_ONE_ARCHIVE {
+        let search = (pattern, false, format);
+        let as_wanted = is_answered(rt.alloc(), &[("m.mbox", archive)], search, (messages, text));
+        assert!(rt; as_wanted == Some(true), "{pattern}: {text}");
     }
-    Ok(())
 }
 
 #[test]
-fn threads_and_several_archives_are_answered(rt: HostRuntime) -> Result<(), Fail> {
-    let twice = [("a.mbox", HELLO_WITHOUT_LAST_LF), ("b.mbox", HELLO)];
-    let closed = "^Subject: Hello||hi||^Subject: Hello||hi||";
-    let chain = [("m.mbox", CHAIN)];
-    let linked = "0 61 m.mbox|61 79 m.mbox|140 80 m.mbox|";
-    let cousins =
-        "^Message-ID: <1@x>|References: <0@x>||hi||^Message-ID: <2@x>|References: <0@x>||ho||";
-    for (archives, pattern, threads, format, messages, text) in [
-        (twice.as_slice(), "s:hello", false, Format::Mbox, 2, closed),
-        (&chain, "b:hi", true, Format::Raw, 3, linked),
-        (&chain, "b:he", true, Format::Raw, 3, linked),
-        (&chain, "b:ho", false, Format::Raw, 1, "61 79 m.mbox|"),
-        (&chain, "b:ha", true, Format::Raw, 1, "220 54 m.mbox|"),
-        (&COUSINS, "b:hi", false, Format::Raw, 1, "0 79 a.mbox|"),
-        (&COUSINS, "b:hi", true, Format::Mbox, 2, cousins),
-        (
-            &COUSINS,
-            "b:ho",
-            true,
-            Format::Raw,
-            2,
-            "0 79 a.mbox|0 79 b.mbox|",
-        ),
-        (&COUSINS, "b:absent", true, Format::Mbox, 0, ""),
-    ] {
-        check_answer(
-            &rt,
-            rt.alloc(),
-            archives,
-            (pattern, threads, format),
-            (messages, text),
-        )?;
+fn threads_and_several_archives_are_answered(rt: HostRuntime) {
+    for (archives, pattern, threads, format, messages, text) in OF_ARCHIVES {
+        let search = (pattern, threads, format);
+        let as_wanted = is_answered(rt.alloc(), archives, search, (messages, text));
+        assert!(rt; as_wanted == Some(true), "{pattern}: {text}");
     }
-    Ok(())
 }
 
 const FORMS: [(Format, &str); 3] = [
@@ -157,40 +166,54 @@ const FORMS: [(Format, &str); 3] = [
     ),
 ];
 
-/// Adds an archive, and once more where the first call had no memory.
-fn add_again(rt: &impl Abort, archives: &mut MemoryArchives) -> bool {
-    assert!(rt; archives.count() < 10);
+/// The archive of [`INDEX`], added once more where the first call had no memory. It is None where that one left anything, or the
+/// second is refused too.
+fn held_again(alloc: Global) -> Option<MemoryArchives> {
+    let mut archives = MemoryArchives::new(alloc);
     if archives.add(ARCHIVE).is_ok() {
-        return true;
+        return Some(archives);
     }
-    assert_eq!(rt; archives.count(), 0);
-    archives.add(ARCHIVE).is_ok()
+    if archives.count() == 0 && archives.add(ARCHIVE).is_ok() {
+        Some(archives)
+    } else {
+        None
+    }
+}
+
+/// Whether a fault is want of memory, or a failure of the output in memory, with nothing sent.
+fn is_of_memory(fault: AnswerFault) -> bool {
+    let is_wanting = matches!(
+        fault.kind,
+        AnswerFaultKind::OutOfMemory | AnswerFaultKind::OutFailed
+    );
+    is_wanting && fault.sent == 0
+}
+
+/// Whether an answer in a form is whole, or tells that memory is wanting.
+fn is_whole_or_wanting(alloc: Global, format: Format, text: &str) -> Option<bool> {
+    let Ok(index) = IndexView::open(INDEX) else {
+        return Some(false);
+    };
+    let query = query_of(alloc, &["s:~re"])?;
+    let text = text_of(alloc, text)?;
+    let Some(mut archives) = held_again(alloc) else {
+        return Some(false);
+    };
+    let mut out = MemoryOut::new(alloc, None);
+    Some(
+        match answer(alloc, &index, &query, true, format, &mut archives, &mut out) {
+            Ok(messages) => messages == 2 && out.bytes() == text.as_slice(),
+            Err(fault) => is_of_memory(fault) && out.bytes().is_empty(),
+        },
+    )
 }
 
 /// Each refused allocation is answered as want of memory with nothing sent, or as a failure of the output in memory, and else the
 /// answer is whole. An archive that was refused leaves none, and is added by the next call.
 #[test]
-fn sweep_answer_with_threads(rt: HostRuntime) -> Result<(), Fail> {
-    let alloc = rt.alloc();
-    let index = IndexView::open(INDEX)?;
-    let Some(query) = query_of(alloc, &["s:~re"]) else {
-        return Ok(());
-    };
-    let mut archives = MemoryArchives::new(alloc);
-    assert!(rt; add_again(&rt, &mut archives));
+fn sweep_answer_with_threads(rt: HostRuntime) {
     for (format, text) in FORMS {
-        let Ok(text) = text_of(alloc, text) else {
-            return Ok(());
-        };
-        let mut out = MemoryOut::new(alloc, None);
-        match answer(alloc, &index, &query, true, format, &mut archives, &mut out) {
-            Ok(messages) => assert!(rt; messages == 2 && out.bytes() == text.as_slice()),
-            Err(fault) => {
-                let of_memory = fault.kind == AnswerFaultKind::OutOfMemory
-                    || fault.kind == AnswerFaultKind::OutFailed;
-                assert!(rt; of_memory && fault.sent == 0 && out.bytes().is_empty());
-            }
-        }
+        let as_wanted = is_whole_or_wanting(rt.alloc(), format, text);
+        assert!(rt; as_wanted != Some(false), "{format:?}");
     }
-    Ok(())
 }

@@ -1,14 +1,11 @@
 //! Answers over devices that fail, run full or have changed.
 
-use crate::answers::COUSINS;
+use crate::answers::{COUSIN as A, COUSINS, OTHER_COUSIN as B};
 use crate::fixture::{held, indexed, query_of, text_of};
 use mail_answer::{AnswerFault, AnswerFaultKind, FailAt, Format, answer};
 use mail_index::IndexView;
-use mail_query::Query;
 use mbox_cutter::MemoryOut;
 use std::alloc::Global;
-use std::process::Abort;
-use std::test::Fail;
 
 /// Each form's answer to `b:hi` with threads, of two messages, and how many calls of the archives it makes at least: a length of
 /// each, and a read for each message whose bytes it shows.
@@ -29,147 +26,138 @@ pub const FORMS: [(Format, &str, u64); 3] = [
 /// Calls of the archives that no answer to that query gets to.
 const BEYOND: u64 = 20;
 
-/// What is asked of an index with threads.
-#[derive(Drop)]
-struct Search<'a> {
-    index: &'a IndexView<'a>,
-    query: &'a Query,
-    format: Format,
-}
+/// What an answer tells, and what it has written.
+type Told = (Result<u64, AnswerFault>, Vec<u8>);
 
-impl Search<'_> {
-    /// What an answer tells and writes over archives of which this call fails, into so much room.
-    fn told(
-        &self,
-        rt: &impl Abort,
-        alloc: Global,
-        archives: &[(&str, &str)],
-        fail_at: u64,
-        room: Option<u64>,
-    ) -> Result<(Result<u64, AnswerFault>, Vec<u8>), Fail> {
-        let mut archives = FailAt::new(held(rt, alloc, archives)?, fail_at);
-        let mut out = MemoryOut::new(alloc, room);
-        let told = answer(
-            alloc,
-            self.index,
-            self.query,
-            true,
-            self.format,
-            &mut archives,
-            &mut out,
-        );
-        Ok((told, out.bytes().to_vec(alloc)?))
-    }
+/// What an answer to `b:hi` with threads tells and writes, by an index file, over archives of which this call fails, into so
+/// much room. It is None where memory is wanting, and so are those below.
+fn told(
+    alloc: Global,
+    format: Format,
+    file: &[u8],
+    archives: &[(&str, &str)],
+    fail_at: u64,
+    room: Option<u64>,
+) -> Option<Told> {
+    let index = IndexView::open(file).ok()?;
+    let query = query_of(alloc, &["b:hi"])?;
+    let mut archives = FailAt::new(held(alloc, archives)?, fail_at);
+    let mut out = MemoryOut::new(alloc, room);
+    let told = answer(alloc, &index, &query, true, format, &mut archives, &mut out);
+    Some((told, out.bytes().to_vec(alloc).ok()?))
 }
 
 /// Whether an answer failed so, with a front of the text sent and counted.
-fn is_front(
-    told: Result<u64, AnswerFault>,
-    kind: AnswerFaultKind,
-    sent: &[u8],
-    whole: &[u8],
-) -> bool {
+fn is_front((told, sent): &Told, kind: AnswerFaultKind, whole: &[u8]) -> bool {
     let fault = AnswerFault {
         kind,
         sent: sent.len() as u64,
     };
-    told == Err(fault) && whole.starts_with(sent)
+    *told == Err(fault) && whole.starts_with(sent)
 }
 
-/// A failure at one call is answered, and nothing else, where the answer makes that call. A raw answer makes no other calls than
-/// those of the lengths.
+/// Whether an answer is whole.
+fn is_whole((told, sent): &Told, whole: &[u8]) -> bool {
+    *told == Ok(2) && sent.as_slice() == whole
+}
+
+/// Whether a failure at one call is answered, and nothing else, where the answer makes that call. A raw answer makes no other calls
+/// than those of the lengths.
+fn tells_failed_call(
+    alloc: Global,
+    (format, text, least): (Format, &str, u64),
+    fail_at: u64,
+) -> Option<bool> {
+    let whole = text_of(alloc, text)?;
+    let file = indexed(alloc, &COUSINS)?;
+    let told = told(alloc, format, &file, &COUSINS, fail_at, None)?;
+    let failed = is_front(&told, AnswerFaultKind::Device, &whole);
+    let answered = is_whole(&told, &whole);
+    Some(if fail_at <= 2 {
+        failed && told.1.is_empty()
+    } else if fail_at <= least {
+        failed
+    } else if fail_at == BEYOND || format == Format::Raw {
+        answered
+    } else {
+        failed || answered
+    })
+}
+
 #[test]
-fn a_failed_call_leaves_a_front(rt: HostRuntime) -> Result<(), Fail> {
-    let alloc = rt.alloc();
-    let file = indexed(&rt, alloc, &COUSINS)?;
-    let index = &IndexView::open(&file)?;
-    let query = &query_of(alloc, &["b:hi"]).ok_or("a query")?;
-    for (format, text, least) in FORMS {
-        let whole = text_of(alloc, text)?;
-        let search = Search {
-            index,
-            query,
-            format,
-        };
+fn a_failed_call_leaves_a_front(rt: HostRuntime) {
+    for form in FORMS {
         for fail_at in 1..=BEYOND {
-            let (told, sent) = search.told(&rt, alloc, &COUSINS, fail_at, None)?;
-            let failed = is_front(told, AnswerFaultKind::Device, &sent, &whole);
-            let answered = told == Ok(2) && sent == whole;
-            let as_wanted = if fail_at <= 2 {
-                failed && sent.is_empty()
-            } else if fail_at <= least {
-                failed
-            } else if fail_at == BEYOND || format == Format::Raw {
-                answered
-            } else {
-                failed || answered
-            };
-            assert!(rt; as_wanted, "{format:?} at call {fail_at}: {told:?}");
+            let as_wanted = tells_failed_call(rt.alloc(), form, fail_at);
+            assert!(rt; as_wanted == Some(true), "{:?} at call {fail_at}", form.0);
         }
     }
-    Ok(())
+}
+
+/// Whether an output takes just so much of an answer in each room, up to that of the whole. It gives the first room that it doesn't
+/// fill so.
+fn first_unfilled(alloc: Global, (format, text, _): (Format, &str, u64)) -> Option<Option<usize>> {
+    let file = indexed(alloc, &COUSINS)?;
+    let whole = text_of(alloc, text)?;
+    for room in 0..=whole.len() {
+        let told = told(alloc, format, &file, &COUSINS, 0, Some(room as u64))?;
+        let as_wanted = if room == whole.len() {
+            is_whole(&told, &whole)
+        } else {
+            is_front(&told, AnswerFaultKind::OutFailed, &whole) && told.1.len() == room
+        };
+        if !as_wanted {
+            return Some(Some(room));
+        }
+    }
+    Some(None)
 }
 
 /// An output with too little room takes just so much.
 #[test]
-fn a_full_output_has_a_front(rt: HostRuntime) -> Result<(), Fail> {
-    let alloc = rt.alloc();
-    let file = indexed(&rt, alloc, &COUSINS)?;
-    let index = &IndexView::open(&file)?;
-    let query = &query_of(alloc, &["b:hi"]).ok_or("a query")?;
-    for (format, text, _) in FORMS {
-        let whole = text_of(alloc, text)?;
-        let search = Search {
-            index,
-            query,
-            format,
-        };
-        for room in 0..=whole.len() {
-            let (told, sent) = search.told(&rt, alloc, &COUSINS, 0, Some(room as u64))?;
-            let as_wanted = if room == whole.len() {
-                told == Ok(2) && sent == whole
-            } else {
-                is_front(told, AnswerFaultKind::OutFailed, &sent, &whole) && sent.len() == room
-            };
-            assert!(rt; as_wanted, "{format:?} in {room} bytes: {told:?}");
-        }
+fn a_full_output_has_a_front(rt: HostRuntime) {
+    for form in FORMS {
+        let unfilled = first_unfilled(rt.alloc(), form);
+        assert!(rt; unfilled == Some(None), "{:?}: {unfilled:?}", form.0);
     }
-    Ok(())
 }
 
-/// Archives of another count or length are refused in each form before anything is written, those too that have no message of the
-/// answer. Of several that have changed the first is told.
+const OTHER: (&str, &str) = ("m.mbox", "^Subject: x||hi||");
+
+const SHORTER: (&str, &str) = ("a.mbox", "^Message-ID: <1@x>|References: <0@x>||hi|");
+
+const LONGER: (&str, &str) = ("m.mbox", "^Subject: x||ho|||");
+
+/// What has become of the archives A, B and OTHER, and which of them is told. Of several that have changed it is the first.
+const STALE: [(&[(&str, &str)], u32); 9] = [
+    (&[], 0),
+    (&[A], 1),
+    (&[A, B], 2),
+    (&[A, B, OTHER, OTHER], 3),
+    (&[SHORTER, B, OTHER], 0),
+    (&[B, SHORTER, OTHER], 1),
+    (&[A, B, LONGER], 2),
+    (&[SHORTER, B, LONGER], 0),
+    (&[SHORTER, B], 2),
+];
+
+/// Whether an answer over changed archives tells this one, before anything is written.
+fn is_stale(alloc: Global, format: Format, archives: &[(&str, &str)], number: u32) -> Option<bool> {
+    let file = indexed(alloc, &[A, B, OTHER])?;
+    let told = told(alloc, format, &file, archives, 0, None)?;
+    Some(is_front(&told, AnswerFaultKind::Stale(number), &[]))
+}
+
+/// Archives of another count or length are refused in each form, those too that have no message of the answer.
 #[test]
-fn changed_archives_are_stale(rt: HostRuntime) -> Result<(), Fail> {
-    let alloc = rt.alloc();
-    let [a, b] = COUSINS;
-    let other = ("m.mbox", "^Subject: x||hi||");
-    let file = indexed(&rt, alloc, &[a, b, other])?;
-    let index = &IndexView::open(&file)?;
-    let query = &query_of(alloc, &["b:hi"]).ok_or("a query")?;
-    let shorter = ("a.mbox", "^Message-ID: <1@x>|References: <0@x>||hi|");
-    let longer = ("m.mbox", "^Subject: x||ho|||");
-    for (archives, number) in [
-        ([].as_slice(), 0),
-        (&[a], 1),
-        (&[a, b], 2),
-        (&[a, b, other, other], 3),
-        (&[shorter, b, other], 0),
-        (&[b, shorter, other], 1),
-        (&[a, b, longer], 2),
-        (&[shorter, b, longer], 0),
-        (&[shorter, b], 2),
-    ] {
+fn changed_archives_are_stale(rt: HostRuntime) {
+    for (archives, number) in STALE {
         for (format, _, _) in FORMS {
-            let search = Search {
-                index,
-                query,
-                format,
-            };
-            let (told, sent) = search.told(&rt, alloc, archives, 0, None)?;
-            let stale = is_front(told, AnswerFaultKind::Stale(number), &sent, &[]);
-            assert!(rt; stale, "{format:?}: {told:?}");
+            let as_wanted = is_stale(rt.alloc(), format, archives, number);
+            assert!(rt;
+                as_wanted == Some(true),
+                "{format:?}: {number}, {archives:?}"
+            );
         }
     }
-    Ok(())
 }

@@ -6,10 +6,10 @@ ghost use Rattle.mail_answer.specs.Archives.{IsLength, IsRead};
 use crate::answers::COUSINS;
 use crate::devices::FORMS;
 use crate::fixture::{held, indexed, query_of, text_of};
-use mail_answer::{AnswerFaultKind, Archives, Format, MemoryArchives, answer};
+use mail_answer::{AnswerFault, AnswerFaultKind, Archives, Format, MemoryArchives, answer};
 use mail_index::IndexView;
 use mbox_cutter::{DeviceFault, MemoryOut};
-use std::test::Fail;
+use std::alloc::Global;
 
 /// Archives of which each is read as if it ended at an offset, while its length is told as it is.
 #[derive(Drop)]
@@ -43,39 +43,56 @@ impl Archives for EarlyEnd {
     }
 }
 
-/// What is read decides: a raw answer reads nothing, an excerpt no more than the header of 75 bytes, and the form of an mbox each
-/// message of 79 bytes.
-#[test]
-fn an_archive_that_ends_early_is_stale(rt: HostRuntime) -> Result<(), Fail> {
-    let alloc = rt.alloc();
-    let file = indexed(&rt, alloc, &COUSINS)?;
-    let index = IndexView::open(&file)?;
-    let query = query_of(alloc, &["b:hi"]).ok_or("a query")?;
-    for (format, text, _) in FORMS {
-        let whole = text_of(alloc, text)?;
-        for end in 0..=79u64 {
-            let mut archives = EarlyEnd {
-                inner: held(&rt, alloc, &COUSINS)?,
-                end,
-            };
-            let mut out = MemoryOut::new(alloc, None);
-            let told = answer(alloc, &index, &query, true, format, &mut archives, &mut out);
-            let needed = match format {
-                Format::Raw => 0,
-                Format::Excerpt => 75,
-                Format::Mbox => 79,
-            };
-            let as_wanted = match told {
-                Ok(messages) => end >= needed && messages == 2 && out.bytes() == whole.as_slice(),
-                Err(fault) => {
-                    end < needed
-                        && fault.kind == AnswerFaultKind::Stale(0)
-                        && fault.sent == out.bytes().len() as u64
-                        && whole.starts_with(out.bytes())
-                }
-            };
-            assert!(rt; as_wanted, "{format:?} to {end}: {told:?}");
+/// How many bytes of a message are read: a raw answer reads nothing, an excerpt no more than the header of 75 bytes, and the form of
+/// an mbox each message of 79 bytes.
+fn bytes_read(format: Format) -> u64 {
+    match format {
+        Format::Raw => 0,
+        Format::Excerpt => 75,
+        Format::Mbox => 79,
+    }
+}
+
+/// Whether an answer, with what it wrote, tells archives that end so early, just where it reads so far.
+fn is_told(
+    (told, sent): (Result<u64, AnswerFault>, &[u8]),
+    format: Format,
+    whole: &[u8],
+    end: u64,
+) -> bool {
+    match told {
+        Ok(messages) => end >= bytes_read(format) && messages == 2 && sent == whole,
+        Err(fault) => {
+            end < bytes_read(format)
+                && fault.kind == AnswerFaultKind::Stale(0)
+                && fault.sent == sent.len() as u64
+                && whole.starts_with(sent)
         }
     }
-    Ok(())
+}
+
+/// The first end of archives, up to that of a message, that isn't told so. It is None where memory is wanting.
+fn first_untold(alloc: Global, (format, text, _): (Format, &str, u64)) -> Option<Option<u64>> {
+    let file = indexed(alloc, &COUSINS)?;
+    let index = IndexView::open(&file).ok()?;
+    let query = query_of(alloc, &["b:hi"])?;
+    let whole = text_of(alloc, text)?;
+    for end in 0..=79u64 {
+        let inner = held(alloc, &COUSINS)?;
+        let mut archives = EarlyEnd { inner, end };
+        let mut out = MemoryOut::new(alloc, None);
+        let told = answer(alloc, &index, &query, true, format, &mut archives, &mut out);
+        if !is_told((told, out.bytes()), format, &whole, end) {
+            return Some(Some(end));
+        }
+    }
+    Some(None)
+}
+
+#[test]
+fn an_archive_that_ends_early_is_stale(rt: HostRuntime) {
+    for form in FORMS {
+        let untold = first_untold(rt.alloc(), form);
+        assert!(rt; untold == Some(None), "{:?} to {untold:?}", form.0);
+    }
 }

@@ -6,12 +6,13 @@ use mail_dates::Moment;
 use mail_index::is_path;
 use mail_query::{Query, read_mairix};
 use mbox_cutter::{MemoryOut, MemorySource};
-use std::alloc::{AllocError, Global};
-use std::process::Abort;
-use std::test::Fail;
+use std::alloc::Global;
 
 /// Noon of 18 May 2003, UTC.
 pub const NOW: i64 = 1_053_259_200;
+
+/// The most archives that are held.
+const MOST: u32 = 10;
 
 /// The line at which a message of the rows starts.
 const SEPARATOR: &[u8] = b"From a@x.org Thu Jan  2 10:00:00 2003\n";
@@ -47,48 +48,48 @@ pub const INDEX: &[u8] = b"MAIRIX\x0d\x0a\
 pub const ARCHIVE: &[u8] = b"From a\nSubject: =?utf-8?q?h=65llo?=\nTo: x@y\n\nhi to us all\n\
     From b\nSUBJECT: hello\n re\tno\nSubject: other\n\nSubject: highways";
 
-/// A text, where `^` stands for the separator line and `|` for LF.
-pub fn text_of(alloc: Global, text: &str) -> Result<Vec<u8>, AllocError> {
+/// A text, where `^` stands for the separator line and `|` for LF. It is None where memory is wanting, and so are those below.
+pub fn text_of(alloc: Global, text: &str) -> Option<Vec<u8>> {
     let mut bytes = Vec::new(alloc);
     for b in text.as_bytes() {
         match *b {
-            b'^' => bytes.extend_from_slice(SEPARATOR)?,
-            b'|' => bytes.push(b'\n')?,
-            b => bytes.push(b)?,
+            b'^' => bytes.extend_from_slice(SEPARATOR).ok()?,
+            b'|' => bytes.push(b'\n').ok()?,
+            b => bytes.push(b).ok()?,
         }
     }
-    Ok(bytes)
+    Some(bytes)
 }
 
-/// The index file of archives, each given by its path and text.
-pub fn indexed(rt: &impl Abort, alloc: Global, archives: &[(&str, &str)]) -> Result<Vec<u8>, Fail> {
-    let mut job = IndexJob::new(alloc)?;
+/// The index file of archives, each given by its path and text. It is None also where one of them is refused.
+pub fn indexed(alloc: Global, archives: &[(&str, &str)]) -> Option<Vec<u8>> {
+    let mut job = IndexJob::new(alloc).ok()?;
     for (path, text) in archives {
-        assert!(rt; is_path(path));
+        if !is_path(path) {
+            return None;
+        }
         let bytes = text_of(alloc, text)?;
-        let mut source = MemorySource::new(alloc, &bytes, 7, None)?;
-        job.archive(path, &mut source)?;
+        let mut source = MemorySource::new(alloc, &bytes, 7, None).ok()?;
+        job.archive(path, &mut source).ok()?;
     }
     let mut out = MemoryOut::new(alloc, None);
-    job.finish(&mut out)?;
-    Ok(out.bytes().to_vec(alloc)?)
+    job.finish(&mut out).ok()?;
+    out.bytes().to_vec(alloc).ok()
 }
 
-/// The archives of these texts.
-pub fn held(
-    rt: &impl Abort,
-    alloc: Global,
-    archives: &[(&str, &str)],
-) -> Result<MemoryArchives, Fail> {
+/// The archives of these texts, which are at most so many.
+pub fn held(alloc: Global, archives: &[(&str, &str)]) -> Option<MemoryArchives> {
     let mut held = MemoryArchives::new(alloc);
     for (_, text) in archives {
-        assert!(rt; held.count() < 10);
-        held.add(&text_of(alloc, text)?)?;
+        if held.count() >= MOST {
+            return None;
+        }
+        held.add(&text_of(alloc, text)?).ok()?;
     }
-    Ok(held)
+    Some(held)
 }
 
-/// What patterns ask together; None where they are refused.
+/// What patterns ask together; None also where they are refused.
 pub fn query_of(alloc: Global, patterns: &[&str]) -> Option<Query> {
     let now = Moment::new(NOW)?;
     let mut words = Vec::new(alloc);

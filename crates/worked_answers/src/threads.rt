@@ -2,7 +2,7 @@
 
 use mail_answer::with_threads;
 use mail_index::IndexView;
-use std::test::Fail;
+use std::alloc::{AllocError, Global};
 
 // The index of six messages by their link ids alone, with no words. The first has the id 1@x, the second 2@x and refers to 1@x, the
 // third 3@x and answers 2@x. The fourth has no id. The fifth has 5@x, the sixth 6@x, and both refer to 0@x, which no message has.
@@ -36,39 +36,63 @@ const ALONE: &[u8] = b"MAIRIX\x0d\x0a\
     \x00\x00\x00\x00\x00\x00\x00\x00\x00\x00\x00\x00\x00\x00\x00\x00\x00\x00\x00\x00\x00\x00\x00+\x00\x00\x00\x00\x00\x00\x00\x04\x00\x00\x00\x00\x00\x00\x00\x00\
     \xecl\x1c\xa2\x93\xbdl?\xf6SWI\xdb\x94\x888\x93Hd\xf0\x13\x92{/x8\x95_\xfe\xce\x06V";
 
-#[test]
-fn messages_have_threads(rt: HostRuntime) -> Result<(), Fail> {
-    let index = IndexView::open(LINKED)?;
-    assert_eq!(rt; index.message_count(), 6);
-    let none = with_threads(rt.alloc(), &index, &[])?;
-    assert_eq!(rt; none.as_slice(), [].as_slice());
-    let first = with_threads(rt.alloc(), &index, &[0])?;
-    assert_eq!(rt; first.as_slice(), [0, 1, 2].as_slice());
-    let without_ids = with_threads(rt.alloc(), &index, &[3])?;
-    assert_eq!(rt; without_ids.as_slice(), [3].as_slice());
-    let by_strange_id = with_threads(rt.alloc(), &index, &[4])?;
-    assert_eq!(rt; by_strange_id.as_slice(), [4, 5].as_slice());
-    let several = with_threads(rt.alloc(), &index, &[1, 2, 3])?;
-    assert_eq!(rt; several.as_slice(), [0, 1, 2, 3].as_slice());
-    Ok(())
+/// Whether memory sufficed for these threads.
+fn are(threads: Result<Vec<u32>, AllocError>, wanted: &[u32]) -> bool {
+    match threads {
+        Ok(threads) => threads.as_slice() == wanted,
+        Err(_) => false,
+    }
+}
+
+/// Whether each choice among the six messages has its threads.
+fn have_threads(alloc: Global) -> Option<[bool; 5]> {
+    let index = IndexView::open(LINKED).ok()?;
+    if index.message_count() != 6 {
+        return None;
+    }
+    Some([
+        are(with_threads(alloc, &index, &[]), &[]),
+        are(with_threads(alloc, &index, &[0]), &[0, 1, 2]),
+        // Without ids.
+        are(with_threads(alloc, &index, &[3]), &[3]),
+        // By an id that no message has.
+        are(with_threads(alloc, &index, &[4]), &[4, 5]),
+        are(with_threads(alloc, &index, &[1, 2, 3]), &[0, 1, 2, 3]),
+    ])
 }
 
 #[test]
-fn without_link_ids_messages_stay_alone(rt: HostRuntime) -> Result<(), Fail> {
-    let index = IndexView::open(ALONE)?;
-    assert_eq!(rt; index.message_count(), 1);
-    let answer = with_threads(rt.alloc(), &index, &[0])?;
-    assert_eq!(rt; answer.as_slice(), [0].as_slice());
-    Ok(())
+fn messages_have_threads(rt: HostRuntime) {
+    let told = have_threads(rt.alloc());
+    assert!(rt; told == Some([true; 5]), "{told:?}");
+}
+
+/// Whether a message without ids has itself alone.
+fn stays_alone(alloc: Global) -> bool {
+    match IndexView::open(ALONE) {
+        Ok(index) if index.message_count() == 1 => are(with_threads(alloc, &index, &[0]), &[0]),
+        _ => false,
+    }
+}
+
+#[test]
+fn without_link_ids_messages_stay_alone(rt: HostRuntime) {
+    assert!(rt; stays_alone(rt.alloc()));
+}
+
+/// Whether the threads of two messages are whole, or want memory.
+fn are_whole_or_wanting(alloc: Global) -> bool {
+    match IndexView::open(LINKED) {
+        Ok(index) if index.message_count() == 6 => {
+            let threads = with_threads(alloc, &index, &[2, 4]);
+            threads.is_err() || are(threads, &[0, 1, 2, 4, 5])
+        }
+        _ => false,
+    }
 }
 
 // Each refused allocation is answered as want of memory, and nothing else is answered than all or that.
 #[test]
-fn sweep_all_threads_or_want_of_memory(rt: HostRuntime) -> Result<(), Fail> {
-    let index = IndexView::open(LINKED)?;
-    assert_eq!(rt; index.message_count(), 6);
-    if let Ok(answer) = with_threads(rt.alloc(), &index, &[2, 4]) {
-        assert_eq!(rt; answer.as_slice(), [0, 1, 2, 4, 5].as_slice());
-    }
-    Ok(())
+fn sweep_all_threads_or_want_of_memory(rt: HostRuntime) {
+    assert!(rt; are_whole_or_wanting(rt.alloc()));
 }

@@ -1,12 +1,11 @@
 //! Archives that are compared with the digests in their index.
+ghost use Rattle.std.specs.Prelude.{◌<◌, ◌-◌, ◌^◌};
 
 use crate::early_end::EarlyEnd;
 use mail_answer::{AnswerFault, AnswerFaultKind, Archives, FailAt, MemoryArchives, verify};
 use mail_index::{Builder, IndexView, is_path};
 use mbox_cutter::MemoryOut;
 use std::alloc::{AllocError, Global};
-use std::process::Abort;
-use std::test::Fail;
 
 /// The digests of the archives `abc`, a million times `a`, and nothing, which FIPS 180-4 publishes.
 const ABC: [u8; 32] = *b"\xba\x78\x16\xbf\x8f\x01\xcf\xea\x41\x41\x40\xde\x5d\xae\x22\x23\
@@ -30,10 +29,12 @@ enum Change {
     Longer,
 }
 
-/// The index file of these archives, without messages. It is None where memory is wanting, and so are the archives below.
-fn index_file(rt: &impl Abort, alloc: Global) -> Option<Vec<u8>> {
+/// The index file of these archives, without messages. It is None where memory is wanting, and so are the answers below.
+fn index_file(alloc: Global) -> Option<Vec<u8>> {
     let path = "m.mbox";
-    assert!(rt; is_path(path));
+    if !is_path(path) {
+        return None;
+    }
     let mut builder = Builder::new(alloc, 3);
     builder.begin_archive(path).ok()?;
     builder.end_archive(3, ABC).ok()?;
@@ -55,31 +56,42 @@ fn indexed_bytes(alloc: Global, n: usize) -> Result<Vec<u8>, AllocError> {
     }
 }
 
+/// The bytes of the archive of this number, which some changes are of.
+fn changed_bytes(alloc: Global, n: usize, changes: &[(usize, Change)]) -> Option<Vec<u8>> {
+    let mut bytes = indexed_bytes(alloc, n).ok()?;
+    for (archive, change) in changes {
+        match *change {
+            _ if *archive != n => {}
+            Change::Longer => bytes.push(b'a').ok()?,
+            Change::Bit(at) => *bytes.get_mut(at)? ^= 1,
+        }
+    }
+    Some(bytes)
+}
+
 /// So many archives, of which some have changed.
-fn held(
-    rt: &impl Abort,
-    alloc: Global,
-    count: usize,
-    changes: &[(usize, Change)],
-) -> Option<MemoryArchives> {
+fn held(alloc: Global, count: usize, changes: &[(usize, Change)]) -> Option<MemoryArchives> {
     let mut held = MemoryArchives::new(alloc);
     for n in 0..count {
-        let mut bytes = indexed_bytes(alloc, n).ok()?;
-        for (archive, change) in changes {
-            match *change {
-                _ if *archive != n => {}
-                Change::Longer => bytes.push(b'a').ok()?,
-                Change::Bit(at) => {
-                    if let Some(byte) = bytes.get_mut(at) {
-                        *byte ^= 1;
-                    }
-                }
-            }
+        if held.count() >= 10 {
+            return None;
         }
-        assert!(rt; held.count() < 10);
-        held.add(&bytes).ok()?;
+        held.add(&changed_bytes(alloc, n, changes)?).ok()?;
     }
     Some(held)
+}
+
+/// What is told of archives by the index of those that were indexed.
+fn told<A: Archives>(alloc: Global, archives: &mut A) -> Option<Result<(), AnswerFault>>
+    requires { A.failures archives.old < 2 ^ 64 - 1 }
+{
+    let file = index_file(alloc)?;
+    let index = IndexView::open(&file).ok()?;
+    if index.version() == 2 {
+        Some(verify(alloc, &index, archives))
+    } else {
+        None
+    }
 }
 
 /// The answer that tells this archive, or none.
@@ -93,46 +105,53 @@ fn told_of(stale: Option<u32>) -> Result<(), AnswerFault> {
     }
 }
 
-/// The count comes first, then the lengths, then the digests; of each the first archive is told.
-#[test]
-fn changed_archives_are_told(rt: HostRuntime) -> Result<(), Fail> {
-    let alloc = rt.alloc();
-    let file = index_file(&rt, alloc).ok_or("an index")?;
-    let index = IndexView::open(&file)?;
-    assert_eq!(rt; index.version(), 2);
-    let rows: [(usize, &[(usize, Change)], Option<u32>); 14] = [
-        (3, &[], None),
-        (3, &[(0, Change::Bit(0))], Some(0)),
-        (3, &[(0, Change::Bit(2))], Some(0)),
-        (3, &[(1, Change::Bit(0))], Some(1)),
-        (3, &[(1, Change::Bit(131_071))], Some(1)),
-        (3, &[(1, Change::Bit(131_072))], Some(1)),
-        (3, &[(1, Change::Bit(999_999))], Some(1)),
-        (3, &[(0, Change::Bit(1)), (1, Change::Bit(1))], Some(0)),
-        (3, &[(0, Change::Bit(1)), (1, Change::Longer)], Some(1)),
-        (3, &[(0, Change::Bit(1)), (2, Change::Longer)], Some(2)),
-        (3, &[(0, Change::Longer), (2, Change::Longer)], Some(0)),
-        (2, &[(0, Change::Longer)], Some(2)),
-        (4, &[(0, Change::Bit(1))], Some(3)),
-        (0, &[], Some(0)),
-    ];
-    for (count, changes, stale) in rows {
-        let mut archives = held(&rt, alloc, count, changes).ok_or("archives")?;
-        let told = verify(alloc, &index, &mut archives);
-        assert_eq!(rt; told, told_of(stale), "{count} archives, {changes:?}");
-    }
-    Ok(())
+/// How many archives there are by now, their changes, and which is told. The count comes first, then the lengths, then the digests;
+/// of each the first archive is told.
+const CHANGED: [(usize, &[(usize, Change)], Option<u32>); 14] = [
+    (3, &[], None),
+    (3, &[(0, Change::Bit(0))], Some(0)),
+    (3, &[(0, Change::Bit(2))], Some(0)),
+    (3, &[(1, Change::Bit(0))], Some(1)),
+    (3, &[(1, Change::Bit(131_071))], Some(1)),
+    (3, &[(1, Change::Bit(131_072))], Some(1)),
+    (3, &[(1, Change::Bit(999_999))], Some(1)),
+    (3, &[(0, Change::Bit(1)), (1, Change::Bit(1))], Some(0)),
+    (3, &[(0, Change::Bit(1)), (1, Change::Longer)], Some(1)),
+    (3, &[(0, Change::Bit(1)), (2, Change::Longer)], Some(2)),
+    (3, &[(0, Change::Longer), (2, Change::Longer)], Some(0)),
+    (2, &[(0, Change::Longer)], Some(2)),
+    (4, &[(0, Change::Bit(1))], Some(3)),
+    (0, &[], Some(0)),
+];
+
+/// What is told of so many archives with these changes.
+fn told_of_changes(
+    alloc: Global,
+    count: usize,
+    changes: &[(usize, Change)],
+) -> Option<Result<(), AnswerFault>> {
+    told(alloc, &mut held(alloc, count, changes)?)
 }
 
 #[test]
-fn a_failed_call_is_told(rt: HostRuntime) -> Result<(), Fail> {
-    let alloc = rt.alloc();
-    let file = index_file(&rt, alloc).ok_or("an index")?;
-    let index = IndexView::open(&file)?;
-    assert_eq!(rt; index.version(), 2);
+fn changed_archives_are_told(rt: HostRuntime) {
+    for (count, changes, stale) in CHANGED {
+        let told = told_of_changes(rt.alloc(), count, changes);
+        assert!(rt;
+            told == Some(told_of(stale)),
+            "{count} archives, {stale:?}: {told:?}"
+        );
+    }
+}
+
+/// What is told where this call of the archives fails.
+fn told_of_failed_call(alloc: Global, fail_at: u64) -> Option<Result<(), AnswerFault>> {
+    told(alloc, &mut FailAt::new(held(alloc, 3, &[])?, fail_at))
+}
+
+#[test]
+fn a_failed_call_is_told(rt: HostRuntime) {
     for fail_at in 1..=CALLS + 1 {
-        let mut archives = FailAt::new(held(&rt, alloc, 3, &[]).ok_or("archives")?, fail_at);
-        let told = verify(alloc, &index, &mut archives);
         let wanted = if fail_at <= CALLS {
             Err(AnswerFault {
                 kind: AnswerFaultKind::Device,
@@ -141,60 +160,69 @@ fn a_failed_call_is_told(rt: HostRuntime) -> Result<(), Fail> {
         } else {
             Ok(())
         };
-        assert_eq!(rt; told, wanted, "call {fail_at}");
+        let told = told_of_failed_call(rt.alloc(), fail_at);
+        assert!(rt; told == Some(wanted), "call {fail_at}: {told:?}");
     }
-    Ok(())
 }
 
-/// An archive that ends before the length that it tells is told as one that has changed.
+/// Where archives end before the lengths that they tell, and which is told as one that has changed.
+const ENDS: [(u64, Option<u32>); 6] = [
+    (0, Some(0)),
+    (2, Some(0)),
+    (3, Some(1)),
+    (131_072, Some(1)),
+    (999_999, Some(1)),
+    (1_000_000, None),
+];
+
+/// What is told of archives that end so early.
+fn told_of_early_end(alloc: Global, end: u64) -> Option<Result<(), AnswerFault>> {
+    let inner = held(alloc, 3, &[])?;
+    told(alloc, &mut EarlyEnd { inner, end })
+}
+
 #[test]
-fn an_early_end_is_told(rt: HostRuntime) -> Result<(), Fail> {
-    let alloc = rt.alloc();
-    let file = index_file(&rt, alloc).ok_or("an index")?;
-    let index = IndexView::open(&file)?;
-    assert_eq!(rt; index.version(), 2);
-    for (end, stale) in [
-        (0, Some(0)),
-        (2, Some(0)),
-        (3, Some(1)),
-        (131_072, Some(1)),
-        (999_999, Some(1)),
-        (1_000_000, None),
-    ] {
-        let mut archives = EarlyEnd {
-            inner: held(&rt, alloc, 3, &[]).ok_or("archives")?,
-            end,
-        };
-        let told = verify(alloc, &index, &mut archives);
-        assert_eq!(rt; told, told_of(stale), "to {end}");
+fn an_early_end_is_told(rt: HostRuntime) {
+    for (end, stale) in ENDS {
+        let told = told_of_early_end(rt.alloc(), end);
+        assert!(rt; told == Some(told_of(stale)), "to {end}: {told:?}");
     }
-    Ok(())
+}
+
+/// Changes, and which archive is told.
+const SWEPT: [(&[(usize, Change)], Option<u32>); 3] = [
+    (&[], None),
+    (&[(0, Change::Bit(0))], Some(0)),
+    (&[(1, Change::Longer)], Some(1)),
+];
+
+/// Whether just this is told of archives with these changes, or that memory is wanting, where the count and the lengths are those that
+/// were indexed.
+fn is_told_or_wanting(
+    alloc: Global,
+    changes: &[(usize, Change)],
+    stale: Option<u32>,
+) -> Option<bool> {
+    let file = index_file(alloc)?;
+    let Ok(index) = IndexView::open(&file) else {
+        return Some(false);
+    };
+    if index.version() != 2 {
+        return Some(false);
+    }
+    let told = verify(alloc, &index, &mut held(alloc, 3, changes)?);
+    let refused = Err(AnswerFault {
+        kind: AnswerFaultKind::OutOfMemory,
+        sent: 0,
+    });
+    Some(told == told_of(stale) || (told == refused && stale != Some(1)))
 }
 
 /// Each refused allocation is answered as want of memory, and only where the count and the lengths are those that were indexed.
 #[test]
-fn sweep_verify(rt: HostRuntime) -> Result<(), Fail> {
-    let alloc = rt.alloc();
-    let Some(file) = index_file(&rt, alloc) else {
-        return Ok(());
-    };
-    let index = IndexView::open(&file)?;
-    assert_eq!(rt; index.version(), 2);
-    for (changes, stale) in [
-        ([].as_slice(), None),
-        (&[(0, Change::Bit(0))], Some(0)),
-        (&[(1, Change::Longer)], Some(1)),
-    ] {
-        let Some(mut archives) = held(&rt, alloc, 3, changes) else {
-            return Ok(());
-        };
-        let told = verify(alloc, &index, &mut archives);
-        let refused = Err(AnswerFault {
-            kind: AnswerFaultKind::OutOfMemory,
-            sent: 0,
-        });
-        let as_wanted = told == told_of(stale) || (told == refused && stale != Some(1));
-        assert!(rt; as_wanted, "{changes:?}: {told:?}");
+fn sweep_verify(rt: HostRuntime) {
+    for (changes, stale) in SWEPT {
+        let as_wanted = is_told_or_wanting(rt.alloc(), changes, stale);
+        assert!(rt; as_wanted != Some(false), "{stale:?}");
     }
-    Ok(())
 }
