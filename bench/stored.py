@@ -95,6 +95,8 @@ def main(program):
         copied = tell("cat of the answer", measured(["cat", "hits"], folder))
         tell("mairix, mbox", mbox)
         print("  the mbox answer beside the search itself: %.2f times cat" % ((mbox[0] - raw) / copied))
+        streamed = tell("mairix, mbox --stdout", measured(search + ["--stdout", "b:" + word], folder))
+        print("  that to standard output, as cat writes: %.2f times cat" % ((streamed - raw) / copied))
         tell("mairix, part (b:%s=)" % word[0], measured(search + ["-r", "b:%s=" % word[0]], folder))
 
 
