@@ -1,10 +1,10 @@
 //! Answers in each form.
-ghost use Rattle.std.specs.Prelude.{◌≡◌, ◌≢◌, ◌<◌, ◌-◌, ◌^◌, [], false, length, min, None, Err, IfOk, OnOk, IfErr, IfSome};
+ghost use Rattle.std.specs.Prelude.{◌≡◌, ◌≢◌, ◌<◌, ◌-◌, ◌^◌, [], false, length, min, Err, IfOk, OnOk, IfErr, IfSome};
 ghost use Rattle.std.specs.Bool.{OnTrue};
 ghost use Rattle.contract_words.specs.Devices.{Counted};
 ghost use Rattle.mail_index.specs.Tables.{IsWellFormed};
 ghost use Rattle.mail_answer.specs.Answers.{SendsKnown, AnswersStale, fails_by};
-ghost use Rattle.mail_answer.specs.Inside.Calls.{KeepsArchives, ReadsArchives, WritesOut};
+ghost use Rattle.mail_answer.specs.Inside.Calls.{AreAsIndexed, KeepsArchives, ReadsArchives, WritesOut};
 ghost use Rattle.mail_answer.specs.Inside.CursorLists.{AreNumbers};
 ghost use Rattle.mail_answer.specs.Faults.{has_fault, is_of_output, is_of_archives, is_stale};
 ghost use Rattle.mail_answer.specs.Shapes.{known_answer, known_message};
@@ -39,8 +39,7 @@ fn push_message<A: Archives, O: Out>(
 ) -> Result<(), AnswerFaultKind>
     requires table { IsWellFormed places.old.table }
     requires below { n < length places.old.table.messages }
-    requires number { A.number archives.old ≡ length places.old.table.archives }
-    requires fresh { IfSome (A.held archives.old) (λ bytes. stale_archive places.old.table.archives bytes ≡ None) }
+    requires indexed { AreAsIndexed A.Archives places.old.table.archives archives.old }
     requires archives { A.failures archives.old < 2 ^ 64 - 1 }
     requires out { O.failures out.old < 2 ^ 64 - 1 }
     ensures archives { ReadsArchives A.Archives archives.old archives.new result }
@@ -68,8 +67,7 @@ fn write_messages<A: Archives, O: Out>(
 ) -> Result<u64, AnswerFaultKind>
     requires table { IsWellFormed places.old.table }
     requires numbers { AreNumbers (length places.old.table.messages) numbers.old }
-    requires number { A.number archives.old ≡ length places.old.table.archives }
-    requires fresh { IfSome (A.held archives.old) (λ bytes. stale_archive places.old.table.archives bytes ≡ None) }
+    requires indexed { AreAsIndexed A.Archives places.old.table.archives archives.old }
     requires archives { A.failures archives.old < 2 ^ 64 - 1 }
     requires out { O.failures out.old < 2 ^ 64 - 1 }
     ensures archives { ReadsArchives A.Archives archives.old archives.new result }
@@ -100,8 +98,7 @@ fn write_checked<A: Archives, O: Out>(
 ) -> Result<u64, AnswerFault>
     requires table { IsWellFormed index.now }
     requires numbers { AreNumbers (length index.now.messages) numbers }
-    requires number { A.number archives.old ≡ length index.now.archives }
-    requires fresh { IfSome (A.held archives.old) (λ bytes. stale_archive index.now.archives bytes ≡ None) }
+    requires indexed { AreAsIndexed A.Archives index.now.archives archives.old }
     requires archives { A.failures archives.old < 2 ^ 64 - 1 }
     requires out { O.failures out.old < 2 ^ 64 - 1 }
     ensures keeps { KeepsArchives A.Archives archives.old archives.new }

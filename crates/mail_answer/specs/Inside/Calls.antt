@@ -1,10 +1,17 @@
 -- What a call does to the archives that it reads and to the output that it writes to.
-use Rattle.std.specs.Prelude.{◌≡◌, ℕ, false, IfSome, Result}
+use Rattle.std.specs.Prelude.{◌≡◌, ℕ, List, length, false, None, IfSome, Result}
 use Rattle.contract_words.specs.Devices.{Counted}
 use Rattle.mbox_cutter.specs.declared.device.Out.{Ghosts as OutGhosts}
+use Rattle.mail_index.specs.Tables.{Archive}
 use Rattle.mail_answer.specs.Faults.{has_fault, is_of_archives, is_of_output, is_stale}
+use Rattle.mail_answer.specs.Stale.{stale_archive}
 use Rattle.mail_answer.specs.declared.archives.Archives.{Ghosts}
 use Rattle.mail_answer.specs.declared.fault.AnswerFaultKind.{AnswerFaultKind}
+
+-- archives have been found to be as many, and each as long, as those that were indexed
+pub record AreAsIndexed {A : Type 0} (g : Ghosts A) (indexed : List Archive) (a : A) : Type 0 where
+  pub number : g.number a ≡ length indexed
+  pub fresh : IfSome (g.held a) (λ bytes. stale_archive indexed bytes ≡ None)
 
 -- after any calls of archives, whether they failed or not
 pub record KeepsArchives {A : Type 0} (g : Ghosts A) (old new : A) : Type 0 where
@@ -13,7 +20,7 @@ pub record KeepsArchives {A : Type 0} (g : Ghosts A) (old new : A) : Type 0 wher
   -- they are as many
   pub number : g.number new ≡ g.number old
 
--- archives were read that had been found to be as they were indexed
+-- archives were read that are as they were indexed
 pub record ReadsArchives {A T : Type 0} (g : Ghosts A) (old new : A) (result : Result T AnswerFaultKind) : Type 0 where
   pub keeps : KeepsArchives g old new
   -- their count of failures rises by one where their failure is answered, and else stays

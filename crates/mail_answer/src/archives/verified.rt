@@ -4,7 +4,7 @@ ghost use Rattle.contract_words.specs.Devices.{Counted};
 ghost use Rattle.mail_index.specs.Tables.{IsWellFormed};
 ghost use Rattle.mail_answer.specs.Answers.{fails_by};
 ghost use Rattle.mail_answer.specs.Archives.{archive_at};
-ghost use Rattle.mail_answer.specs.Inside.Calls.{KeepsArchives};
+ghost use Rattle.mail_answer.specs.Inside.Calls.{AreAsIndexed, KeepsArchives};
 ghost use Rattle.mail_answer.specs.Inside.Digests.{front_digest, AbsorbsPart};
 ghost use Rattle.mail_answer.specs.Faults.{has_fault, is_of_archives, is_of_output};
 ghost use Rattle.mail_answer.specs.Stale.{stale_archive, TellsStale};
@@ -82,8 +82,7 @@ fn check_digests<A: Archives>(
 ) -> Result<(), AnswerFaultKind>
     requires table { IsWellFormed index.now }
     requires version { index.now.version ≡ 2 }
-    requires number { A.number archives.old ≡ length index.now.archives }
-    requires fresh { IfSome (A.held archives.old) (λ bytes. stale_archive index.now.archives bytes ≡ None) }
+    requires indexed { AreAsIndexed A.Archives index.now.archives archives.old }
     requires room { 0 < length buffer.old }
     requires count { A.failures archives.old < 2 ^ 64 - 1 }
     ensures keeps { KeepsArchives A.Archives archives.old archives.new }

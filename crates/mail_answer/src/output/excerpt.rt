@@ -1,14 +1,13 @@
 //! The excerpt of a message.
-ghost use Rattle.std.specs.Prelude.{◌≡◌, ◌<◌, ◌-◌, ◌^◌, ℕ, List, ◌∷◌, ◌++◌, length, None, IfOk, OnOk, IfSome};
+ghost use Rattle.std.specs.Prelude.{◌≡◌, ◌<◌, ◌-◌, ◌^◌, ℕ, List, ◌∷◌, ◌++◌, length, IfOk, OnOk};
 ghost use Rattle.header_text.specs.EncodedWords.{decoded};
 ghost use Rattle.header_text.specs.HeldLines.{HasLines};
 ghost use Rattle.header_text.specs.Headers.{fields_of};
 ghost use Rattle.header_text.specs.Unfolding.{unfolded};
 ghost use Rattle.mail_answer.specs.Excerpts.{body_of as body_of_name, shown_byte as shown_byte_of, without_controls, field_line, excerpt_lines};
-ghost use Rattle.mail_answer.specs.Inside.Calls.{ReadsArchives, WritesOut};
+ghost use Rattle.mail_answer.specs.Inside.Calls.{AreAsIndexed, ReadsArchives, WritesOut};
 ghost use Rattle.mail_answer.specs.Shapes.{known_message};
 ghost use Rattle.mail_answer.specs.Sheets.{Writes};
-ghost use Rattle.mail_answer.specs.Stale.{stale_archive};
 ghost use Rattle.mail_answer.specs.declared.format.Format.TheVariants.{Excerpt};
 ghost use Rattle.mail_index.specs.Tables.{IsWellFormed};
 
@@ -102,8 +101,7 @@ pub(crate) fn push_excerpt<A: Archives, O: Out>(
 ) -> Result<(), AnswerFaultKind>
     requires table { IsWellFormed places.old.table }
     requires below { n < length places.old.table.messages }
-    requires number { A.number archives.old ≡ length places.old.table.archives }
-    requires fresh { IfSome (A.held archives.old) (λ bytes. stale_archive places.old.table.archives bytes ≡ None) }
+    requires indexed { AreAsIndexed A.Archives places.old.table.archives archives.old }
     requires archives { A.failures archives.old < 2 ^ 64 - 1 }
     requires out { O.failures out.old < 2 ^ 64 - 1 }
     ensures archives { ReadsArchives A.Archives archives.old archives.new result }

@@ -1,13 +1,12 @@
 //! A message in the form of mbox archives.
-ghost use Rattle.std.specs.Prelude.{◌≡◌, ◌<◌, ◌-◌, ◌^◌, length, nat_eq, None, OnOk, IfSome};
+ghost use Rattle.std.specs.Prelude.{◌≡◌, ◌<◌, ◌-◌, ◌^◌, length, nat_eq, OnOk};
 ghost use Rattle.std.specs.Option.{option_map};
 ghost use Rattle.mail_index.specs.Tables.{IsWellFormed};
-ghost use Rattle.mail_answer.specs.Inside.Calls.{ReadsArchives, WritesOut};
+ghost use Rattle.mail_answer.specs.Inside.Calls.{AreAsIndexed, ReadsArchives, WritesOut};
 ghost use Rattle.mail_answer.specs.Inside.Copies.{Copies};
 ghost use Rattle.mail_answer.specs.Inside.Readings.{coming, coming_count, span_reading, IsInside};
 ghost use Rattle.mail_answer.specs.Shapes.{closed, known_message};
 ghost use Rattle.mail_answer.specs.Sheets.{Writes};
-ghost use Rattle.mail_answer.specs.Stale.{stale_archive};
 ghost use Rattle.mail_answer.specs.declared.format.Format.TheVariants.{Mbox};
 
 use crate::archives::Archives;
@@ -120,8 +119,7 @@ pub(crate) fn push_mbox<A: Archives, O: Out>(
 ) -> Result<(), AnswerFaultKind>
     requires table { IsWellFormed index.now }
     requires below { n < length index.now.messages }
-    requires number { A.number archives.old ≡ length index.now.archives }
-    requires fresh { IfSome (A.held archives.old) (λ bytes. stale_archive index.now.archives bytes ≡ None) }
+    requires indexed { AreAsIndexed A.Archives index.now.archives archives.old }
     requires archives { A.failures archives.old < 2 ^ 64 - 1 }
     requires out { O.failures out.old < 2 ^ 64 - 1 }
     ensures archives { ReadsArchives A.Archives archives.old archives.new result }

@@ -27,7 +27,7 @@ returns-in_default-2-clause-altered g c =
     let i = c.loop-n.invariant in
     let read = rw (i.keeps.held, c.in-Some-2.is) at c.in_ok-digest.ensures.digest in
     stops_at c.args.index.now.archives (g.A.Archives.held c.args.archives.now) c.loop-n.n (archive_of c.in-Some.archive) c.next.new.self c.in-Some-2.digest c.in-Some-digest.indexed (omega (arith, c.loop-n-test.true, c.archive_count-n-end.ensures))
-    (sym i.coming ∙ c.in-Some.ensures) c.requires.fresh i.so_far read c.in-Some-digest.is
+    (sym i.coming ∙ c.in-Some.ensures) c.requires.indexed.fresh i.so_far read c.in-Some-digest.is
     (not_from_Decides (bytes_eq c.in-Some-2.digest c.in-Some-digest.indexed) (bytes_eq-Decides c.in-Some-2.digest c.in-Some-digest.indexed) (sym c.eq.ensures ∙ c.if-eq.false))
 
 pub returns-in_default-2-2-clause-altered : goal.returns-in_default-2-2-clause-altered
@@ -35,7 +35,7 @@ returns-in_default-2-2-clause-altered g c =
     let i = c.loop-n.invariant in
     let read = rw (i.keeps.held, c.in_default-2.is) at c.in_ok-digest.ensures.digest in
     not_early c.args.index.now.archives (g.A.Archives.held c.args.archives.now) c.loop-n.n (archive_of c.in-Some.archive) c.next.new.self (omega (arith, c.loop-n-test.true, c.archive_count-n-end.ensures))
-    (sym i.coming ∙ c.in-Some.ensures) c.requires.fresh read
+    (sym i.coming ∙ c.in-Some.ensures) c.requires.indexed.fresh read
 
 pub loop-n-preserved : goal.loop-n-preserved
 loop-n-preserved g c =
@@ -45,7 +45,7 @@ loop-n-preserved g c =
     let coming = sym i.coming ∙ c.in-Some.ensures in
     let step = next_named named c.loop-n.n (archive_of c.in-Some.archive) c.next.new.self coming in
     let so_far = passes_on named (g.A.Archives.held c.args.archives.now) c.loop-n.n (archive_of c.in-Some.archive) c.next.new.self c.in-Some-2.digest c.in-Some-digest.indexed (omega (arith, c.loop-n-test.true, c.archive_count-n-end.ensures))
-    coming c.requires.fresh i.so_far read c.in-Some-digest.is
+    coming c.requires.indexed.fresh i.so_far read c.in-Some-digest.is
     ((bytes_eq-Decides c.in-Some-2.digest c.in-Some-digest.indexed).0 (sym c.eq.ensures ∙ c.if-eq.true)) in
     record {
       coming = sym step.1;

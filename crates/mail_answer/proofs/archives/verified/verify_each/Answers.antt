@@ -1,11 +1,13 @@
-use Rattle.std.proofs.Common.{◌≡◌, ℕ, List, Option, None, Ok, Err, IfSome, OnOk, length, subst, sym}
+use Rattle.std.proofs.Common.{◌≡◌, ◌∙◌, ℕ, List, Option, None, Ok, Err, IfSome, OnOk, length, subst, sym}
 use Rattle.mail_answer.specs.Stale.{stale_archive}
 use Rattle.mail_answer.proofs.ArchiveLaws.VerifiedLemmas.{told_by_digests}
 use Rattle.mail_answer.proofs.archives.verified.verify_each.Goals as goal
 
-pub check_digests-requires-clause-fresh : goal.check_digests-requires-clause-fresh
-check_digests-requires-clause-fresh g c =
-    subst (λ (h : Option (List (List ℕ))). IfSome h (λ bytes. stale_archive c.args.index.now.archives bytes ≡ None)) (sym c.in_ok-check_archives.ensures.keeps.held) c.in_ok-check_archives.ensures.stale
+pub check_digests-requires-clause-indexed : goal.check_digests-requires-clause-indexed
+check_digests-requires-clause-indexed g c = record {
+  number = c.in_ok-check_archives.ensures.keeps.number ∙ c.in_ok-check_archives.ensures.same_count;
+  fresh = subst (λ (h : Option (List (List ℕ))). IfSome h (λ bytes. stale_archive c.args.index.now.archives bytes ≡ None)) (sym c.in_ok-check_archives.ensures.keeps.held) c.in_ok-check_archives.ensures.stale;
+}
 
 pub returns-clause-verified : goal.returns-clause-verified
 returns-clause-verified g c =

@@ -13,7 +13,7 @@ pub read_header-requires-clause-inside : goal.read_header-requires-clause-inside
 read_header-requires-clause-inside g c =
     let t = c.args.places.now.table in
     let is : c.message-message.result ≡ record_at t.messages c.args.n = cc (c.message-message.ensures, c.index.ensures, record_known t.messages c.args.n c.requires.below) in
-    rw is (message_inside t (g.A.Archives.held c.args.archives.now) (g.A.Archives.number c.args.archives.now) c.args.n c.requires.table c.requires.below c.requires.number c.requires.fresh)
+    rw is (message_inside t (g.A.Archives.held c.args.archives.now) (g.A.Archives.number c.args.archives.now) c.args.n c.requires.table c.requires.below c.requires.indexed.number c.requires.indexed.fresh)
 
 pub returns-in_err-header-clause-writes : goal.returns-in_err-header-clause-writes
 returns-in_err-header-clause-writes g c =
@@ -23,9 +23,9 @@ pub path_of-requires : goal.path_of-requires
 path_of-requires g c =
     let t = c.args.places.now.table in
     let is : c.message-message.result ≡ record_at t.messages c.args.n = cc (c.message-message.ensures, c.index.ensures, record_known t.messages c.args.n c.requires.below) in
-    let number : g.A.Archives.number c.args.archives.now ≡ length t.archives = c.requires.number in
+    let number : g.A.Archives.number c.args.archives.now ≡ length t.archives = c.requires.indexed.number in
     let exists : (record_at t.messages c.args.n).archive < g.A.Archives.number c.args.archives.now =
-    (message_inside t (g.A.Archives.held c.args.archives.now) (g.A.Archives.number c.args.archives.now) c.args.n c.requires.table c.requires.below c.requires.number c.requires.fresh).exists in
+    (message_inside t (g.A.Archives.held c.args.archives.now) (g.A.Archives.number c.args.archives.now) c.args.n c.requires.table c.requires.below c.requires.indexed.number c.requires.indexed.fresh).exists in
     rw is (omega (arith, number, exists))
 
 pub returns-in_err-text-clause-writes : goal.returns-in_err-text-clause-writes
