@@ -13,6 +13,7 @@ ghost use Rattle.mail_index.specs.Builders.{with_pair};
 use crate::build::build_fault::BuildFault;
 use crate::build::file_out::Signer;
 use crate::build::key_entry::KeyEntry;
+use crate::build::key_fronts::front_of_key;
 use crate::build::key_hints::{KeyHints, Slot};
 use crate::build::key_order::{KeyOrder, Place};
 use crate::build::key_search::matching;
@@ -299,7 +300,8 @@ fn insert(
     }
     let entry = KeyEntry::new(alloc, key.kind, key.text, key.number)?;
     entries.push(entry)?;
-    match order.insert(alloc, place, number as u32) {
+    let front = front_of_key(key.kind, key.text);
+    match order.insert(alloc, place, number as u32, front) {
         Ok(()) => Ok(number as u32),
         Err(_) => {
             let _removed = entries.pop();

@@ -7,12 +7,13 @@ ghost use Rattle.mail_index.specs.KeysRead.{key_at};
 ghost use Rattle.mail_index.specs.LookUps.{lies_to};
 
 use crate::build::key_entry::KeyEntry;
+use crate::build::key_fronts::{Guess, KeyFronts, front_of_key};
 use crate::build::key_search::search;
 use crate::kind::Kind;
 use std::alloc::{AllocError, Global};
 
-/// A page is split in two once it has so many numbers, and as many as there are pages.
-const PAGE: usize = 256;
+/// A page is split in two once it has so many numbers, and a sixteenth of as many as there are pages.
+const PAGE: usize = 64;
 
 /// The numbers of entries in the order of their keys: pages, and between each and the next one number more, the
 /// head of the next. So a key is found by two binary searches, and a number is inserted by moving those of one page.
@@ -22,6 +23,7 @@ const PAGE: usize = 256;
 pub struct KeyOrder {
     pub heads: Vec<u32>,
     pub pages: Vec<Vec<u32>>,
+    pub fronts: KeyFronts,
 }
 
 /// A place in the order, where a number can be inserted.
@@ -41,6 +43,7 @@ impl KeyOrder {
         KeyOrder {
             heads: Vec::new(alloc),
             pages: Vec::new(alloc),
+            fronts: KeyFronts::new(alloc),
         }
     }
 
@@ -67,18 +70,27 @@ impl KeyOrder {
         ensures at { IfErr result (λ place. place.at ≤ length (slice_index_or (rows self.now.pages.items) place.page [])) }
         ensures gap { IfErr result (λ place. IsGap kind text.now (keys_in entries.now self.now) (place_in self.now place)) }
     {
-        let page = match search(&self.heads, entries, kind, text) {
+        let front = front_of_key(kind, text);
+        let guess = Guess::of(self.fronts.of_heads(), front);
+        let page = match search(&self.heads, entries, guess, kind, text) {
             Ok(number) => return Ok(number),
             Err(page) => page,
         };
-        match search(&self.pages[page], entries, kind, text) {
+        let guess = Guess::of(self.fronts.of_page(page), front);
+        match search(&self.pages[page], entries, guess, kind, text) {
             Ok(number) => Ok(number),
             Err(at) => Err(Place { page, at }),
         }
     }
 
-    /// Inserts a number. A refused growth leaves the numbers as they are.
-    pub fn insert(&mut self, alloc: Global, place: Place, number: u32) -> Result<(), AllocError>
+    /// Inserts a number, with the front of its key. A refused growth leaves the numbers as they are.
+    pub fn insert(
+        &mut self,
+        alloc: Global,
+        place: Place,
+        number: u32,
+        front: u64,
+    ) -> Result<(), AllocError>
         requires between { length self.old.heads.items ≡ length self.old.pages.items - 1 }
         requires page { place.page < length self.old.pages.items }
         requires at { place.at ≤ length (slice_index_or (rows self.old.pages.items) place.page []) }
@@ -87,15 +99,12 @@ impl KeyOrder {
         ensures err { OnErr result (numbers_in self.new ≡ numbers_in self.old) }
     {
         insert_in_page(&mut self.pages, place, number)?;
+        self.fronts.insert(alloc, place, front);
         let length = self.pages[place.page].len();
-        if length >= PAGE && length >= self.pages.len() {
-            let _split = split(
-                alloc,
-                &mut self.heads,
-                &mut self.pages,
-                place.page,
-                length / 2,
-            );
+        if length >= PAGE && length >= self.pages.len() / 16 {
+            let half = length / 2;
+            let _split = split(alloc, &mut self.heads, &mut self.pages, place.page, half);
+            self.fronts.split(alloc, place.page, half);
         }
         Ok(())
     }

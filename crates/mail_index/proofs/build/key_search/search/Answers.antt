@@ -16,24 +16,24 @@ loop-low-init c = record {
 }
 
 pub bounds-numbers-middle : goal.bounds-numbers-middle
-bounds-numbers-middle c = omega (arith, c.loop-low.invariant.within, c.loop-low-test.true)
+bounds-numbers-middle c = omega (arith, c.loop-low.invariant.within, c.next_place-middle.ensures.before)
 
 pub bounds-entries-number : goal.bounds-entries-number
 bounds-entries-number c =
-    let middle : c.loop-low.low + (c.loop-low.high - c.loop-low.low) / 2 < length c.args.numbers.now = omega (arith, c.loop-low.invariant.within, c.loop-low-test.true) in
-    all-at (λ i. i < length c.args.entries.now) c.args.numbers.now (c.loop-low.low + (c.loop-low.high - c.loop-low.low) / 2) 0 c.requires middle
+    let middle : c.next_place-middle.result < length c.args.numbers.now = omega (arith, c.loop-low.invariant.within, c.next_place-middle.ensures.before) in
+    all-at (λ i. i < length c.args.entries.now) c.args.numbers.now c.next_place-middle.result 0 c.requires middle
 
 pub loop-low-preserved-in-Less : goal.loop-low-preserved-in-Less
 loop-low-preserved-in-Less c =
-    let middle : ℕ = c.loop-low.low + (c.loop-low.high - c.loop-low.low) / 2 in
-    let inside : middle < length c.args.numbers.now = omega (arith, c.loop-low.invariant.within, c.loop-low-test.true) in
+    let middle : ℕ = c.next_place-middle.result in
+    let inside : middle < length c.args.numbers.now = omega (arith, c.loop-low.invariant.within, c.next_place-middle.ensures.before) in
     let number : get_or c.args.numbers.now middle 0 < length c.args.entries.now = all-at (λ i. i < length c.args.entries.now) c.args.numbers.now middle 0 c.requires inside in
     let here : c.index-entries-number.result ≡ key_at (placed c.args.entries.now c.args.numbers.now) middle =
     c.index-entries-number.is ∙ get_or_default c.args.entries.now (get_or c.args.numbers.now middle 0) c.index-entries-number.result no_key number ∙ sym (placed-at c.args.entries.now c.args.numbers.now middle inside) in
     let less : lies_to c.args.kind c.args.text.now (key_at (placed c.args.entries.now c.args.numbers.now) middle) ≡ Less =
     ap (lies_to c.args.kind c.args.text.now) (sym here) ∙ sym c.compare.ensures ∙ c.in-Less.is in
     record {
-      order = omega (arith, c.loop-low-test.true);
+      order = omega (arith, c.next_place-middle.ensures.before);
       within = c.loop-low.invariant.within;
       below = λ j e. let same : j ≡ middle = omega (arith, e) in ap (λ (i : ℕ). lies_to c.args.kind c.args.text.now (key_at (placed c.args.entries.now c.args.numbers.now) i)) same ∙ less;
       above = c.loop-low.invariant.above;
@@ -41,15 +41,15 @@ loop-low-preserved-in-Less c =
 
 pub loop-low-preserved : goal.loop-low-preserved
 loop-low-preserved c =
-    let middle : ℕ = c.loop-low.low + (c.loop-low.high - c.loop-low.low) / 2 in
-    let inside : middle < length c.args.numbers.now = omega (arith, c.loop-low.invariant.within, c.loop-low-test.true) in
+    let middle : ℕ = c.next_place-middle.result in
+    let inside : middle < length c.args.numbers.now = omega (arith, c.loop-low.invariant.within, c.next_place-middle.ensures.before) in
     let number : get_or c.args.numbers.now middle 0 < length c.args.entries.now = all-at (λ i. i < length c.args.entries.now) c.args.numbers.now middle 0 c.requires inside in
     let here : c.index-entries-number.result ≡ key_at (placed c.args.entries.now c.args.numbers.now) middle =
     c.index-entries-number.is ∙ get_or_default c.args.entries.now (get_or c.args.numbers.now middle 0) c.index-entries-number.result no_key number ∙ sym (placed-at c.args.entries.now c.args.numbers.now middle inside) in
     let greater : lies_to c.args.kind c.args.text.now (key_at (placed c.args.entries.now c.args.numbers.now) middle) ≡ Greater =
     ap (lies_to c.args.kind c.args.text.now) (sym here) ∙ sym c.compare.ensures ∙ c.in-Greater.is in
     record {
-      order = omega arith;
+      order = c.next_place-middle.ensures.from;
       within = omega (arith, inside);
       below = c.loop-low.invariant.below;
       above = λ lt. greater;
@@ -57,8 +57,8 @@ loop-low-preserved c =
 
 pub returns-in-Equal-clause-found : goal.returns-in-Equal-clause-found
 returns-in-Equal-clause-found c =
-    let middle : ℕ = c.loop-low.low + (c.loop-low.high - c.loop-low.low) / 2 in
-    let inside : middle < length c.args.numbers.now = omega (arith, c.loop-low.invariant.within, c.loop-low-test.true) in
+    let middle : ℕ = c.next_place-middle.result in
+    let inside : middle < length c.args.numbers.now = omega (arith, c.loop-low.invariant.within, c.next_place-middle.ensures.before) in
     let number : get_or c.args.numbers.now middle 0 < length c.args.entries.now = all-at (λ i. i < length c.args.entries.now) c.args.numbers.now middle 0 c.requires inside in
     let here : c.index-entries-number.result ≡ key_at c.args.entries.now (get_or c.args.numbers.now middle 0) =
     c.index-entries-number.is ∙ get_or_default c.args.entries.now (get_or c.args.numbers.now middle 0) c.index-entries-number.result no_key number in
