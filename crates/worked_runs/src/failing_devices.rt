@@ -3,7 +3,6 @@
 use crate::fixture::{Devices, Given, SOUND, bytes_of};
 use std::alloc::Global;
 use std::process::Abort;
-use std::test::Fail;
 
 const RC: &str = "mbox=m.mbox|database=m.idx|mfolder=hits|";
 
@@ -295,20 +294,20 @@ fn a_failed_read_is_told(rt: HostRuntime) {
     }
 }
 
-/// A failed read of the first archive goes before a second one that is no mbox.
-#[test]
-fn the_first_archive_at_fault_is_told(rt: HostRuntime) -> Result<(), Fail> {
-    let alloc = rt.alloc();
+/// Whether the first archive's failed read is told, where the second one is no mbox.
+fn tells_first_fault(rt: &impl Abort, alloc: Global) -> Option<bool> {
     let line = ["-f, rc", "-r, s:hello/two"];
-    let given = Given::of(alloc, line, RC_OF_TWO, "^Subject: Hello||hi|| & x|").ok_or("memory")?;
+    let given = Given::of(alloc, line, RC_OF_TWO, "^Subject: Hello||hi|| & x|")?;
     let devices = Devices {
         failing_reads: [Some(1), Some(1)],
         ..SOUND
     };
-    let told = given.once(&rt, alloc, devices).ok_or("memory")?;
-    assert_eq!(rt;
-        told.as_slice(),
-        b"refused 4: archive 1: read failed".as_slice()
-    );
-    Ok(())
+    let told = given.once(rt, alloc, devices)?;
+    Some(told.as_slice() == b"refused 4: archive 1: read failed".as_slice())
+}
+
+/// A failed read of the first archive goes before a second one that is no mbox.
+#[test]
+fn the_first_archive_at_fault_is_told(rt: HostRuntime) {
+    assert!(rt; tells_first_fault(&rt, rt.alloc()) == Some(true));
 }

@@ -4,9 +4,8 @@ use mail_index::{IndexFault, Section};
 use mail_query::{QueryFault, QueryFaultKind};
 use mairix_tool::{Fault, Name, RcFault, UsageFault, fault_text};
 use mbox_cutter::CutFault;
-use std::alloc::{AllocError, Global};
+use std::alloc::Global;
 use std::fmt::InlineText;
-use std::test::Fail;
 
 /// Faults whose own text is that of the program.
 const SHOWN: [(Fault, u8, &str); 27] = [
@@ -182,9 +181,10 @@ const OTHERS: [(Fault, u8, &str); 8] = [
     (Fault::Device, 4, "archive read failed"),
 ];
 
-/// Whether the program's text for a fault and its status are these.
-fn has_text(alloc: Global, fault: Fault, status: u8, text: &str) -> Result<bool, AllocError> {
-    Ok(fault_text(alloc, &fault)?.as_str() == text && fault.status() == status)
+/// Whether the program's text for a fault and its status are these. It is None where memory is wanting.
+fn has_text(alloc: Global, fault: Fault, status: u8, text: &str) -> Option<bool> {
+    let told = fault_text(alloc, &fault).ok()?;
+    Some(told.as_str() == text && fault.status() == status)
 }
 
 /// Whether a fault's own text is this.
@@ -194,23 +194,26 @@ fn shows(fault: Fault, text: &str) -> bool {
 }
 
 #[test]
-fn faults_have_texts(rt: HostRuntime) -> Result<(), Fail> {
-    let alloc = rt.alloc();
+fn faults_show_their_texts(rt: HostRuntime) {
     for (fault, status, text) in SHOWN {
-        assert!(rt;
-            has_text(alloc, fault, status, text)? && shows(fault, text),
-            "{text}"
-        );
+        let as_wanted = has_text(rt.alloc(), fault, status, text) == Some(true);
+        assert!(rt; as_wanted && shows(fault, text), "{text}");
     }
+}
+
+#[test]
+fn faults_of_items_show_their_texts(rt: HostRuntime) {
     for (kind, text) in OF_SEVENTH_ITEM {
         let fault = Fault::Query(QueryFault { number: 7, kind });
-        assert!(rt;
-            has_text(alloc, fault, 2, text)? && shows(fault, text),
-            "{text}"
-        );
+        let as_wanted = has_text(rt.alloc(), fault, 2, text) == Some(true);
+        assert!(rt; as_wanted && shows(fault, text), "{text}");
     }
+}
+
+#[test]
+fn faults_have_texts(rt: HostRuntime) {
     for (fault, status, text) in OTHERS {
-        assert!(rt; has_text(alloc, fault, status, text)?, "{text}");
+        let as_wanted = has_text(rt.alloc(), fault, status, text);
+        assert!(rt; as_wanted == Some(true), "{text}");
     }
-    Ok(())
 }

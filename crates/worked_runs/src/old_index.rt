@@ -1,7 +1,7 @@
 //! Searches of an index of version 1, which has no names of parts.
 
 use crate::stored_indexes::{CHANGED, HELLO, OF_ANOTHER, RC, is_told};
-use std::test::Fail;
+use std::alloc::Global;
 
 /// The index of the archive [`HELLO`] as `m.mbox`, as it was written before names of parts were indexed.
 pub const OLD_INDEX: &[u8] = b"MAIRIX\r\n\
@@ -42,13 +42,22 @@ const ROWS: [(&str, &str, usize, &str); 11] = [
     ),
 ];
 
+/// Whether a search of so many bytes of the index tells this. It is None where memory is wanting, or the index has fewer.
+fn is_told_of_front(
+    alloc: Global,
+    line: &str,
+    rc: &str,
+    length: usize,
+    wanted: &str,
+) -> Option<bool> {
+    is_told(alloc, line, rc, OLD_INDEX.get(..length)?, HELLO, wanted)
+}
+
 #[test]
-fn an_old_index_is_searched(rt: HostRuntime) -> Result<(), Fail> {
-    assert_eq!(rt; OLD_INDEX.len(), 195);
+fn an_old_index_is_searched(rt: HostRuntime) {
+    assert!(rt; OLD_INDEX.len() == 195);
     for (line, rc, length, wanted) in ROWS {
-        let index = OLD_INDEX.get(..length).ok_or("an index")?;
-        let as_wanted = is_told(rt.alloc(), line, rc, index, HELLO, wanted);
+        let as_wanted = is_told_of_front(rt.alloc(), line, rc, length, wanted);
         assert!(rt; as_wanted == Some(true), "{line}: {wanted}");
     }
-    Ok(())
 }
