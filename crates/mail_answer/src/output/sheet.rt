@@ -1,7 +1,8 @@
 //! The output of an answer.
-ghost use Rattle.std.specs.Prelude.{◌≡◌, ◌<◌, ◌≤◌, ◌-◌, ◌^◌, [], Some, OnOk, IfErr, false};
+ghost use Rattle.std.specs.Prelude.{◌≡◌, ◌<◌, ◌≤◌, ◌-◌, ◌^◌, [], length, Some, OnOk, IfErr, false};
 ghost use Rattle.mail_answer.specs.Faults.{has_fault, is_of_archives, is_stale};
 ghost use Rattle.mail_answer.specs.Inside.Calls.{WritesOut};
+ghost use Rattle.mail_answer.specs.declared.output.sheet.TheConstants.{FULL};
 
 use crate::fault::AnswerFaultKind;
 use crate::output::held_bytes::HeldBytes;
@@ -37,6 +38,7 @@ impl Sheet {
     pub(crate) fn push<O: Out>(&mut self, out: &mut O, bytes: &[u8]) -> Result<(), AnswerFaultKind>
         requires { O.failures out.old < 2 ^ 64 - 1 }
         ensures writes { Writes (O.taken out.old) (O.taken out.new) self.old self.new (Some bytes.now) result }
+        ensures few { OnOk result (length self.new.text < FULL) }
         ensures out { WritesOut O.Out self.new.sent out.old out.new result }
         ensures own { (has_fault is_of_archives result ≡ false) × (has_fault is_stale result ≡ false) }
     {
@@ -48,6 +50,7 @@ impl Sheet {
     pub(crate) fn send_full<O: Out>(&mut self, out: &mut O) -> Result<(), AnswerFaultKind>
         requires { O.failures out.old < 2 ^ 64 - 1 }
         ensures writes { Writes (O.taken out.old) (O.taken out.new) self.old self.new (Some []) result }
+        ensures few { OnOk result (length self.new.text < FULL) }
         ensures out { WritesOut O.Out self.new.sent out.old out.new result }
         ensures own { IfErr result (λ kind. kind ≡ AnswerFaultKind.OutFailed) }
     {
