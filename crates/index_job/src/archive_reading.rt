@@ -1,7 +1,6 @@
 //! The reading of one archive, whose messages are added to a builder.
-ghost use Rattle.std.specs.Prelude.{◌≡◌, ◌<◌, ◌≤◌, ◌+◌, ◌-◌, ◌^◌, ℕ, List, Option, Some, IfOk, IfErr, IfSome, OnOk, length};
+ghost use Rattle.std.specs.Prelude.{◌≡◌, ◌<◌, ◌+◌, ◌-◌, ◌^◌, ℕ, List, Option, Some, IfOk, IfErr, IfSome, OnOk, length};
 ghost use Rattle.std.specs.Option.{MatchOption};
-ghost use Rattle.std.specs.Io.KnownBytes.{IsAtEnd};
 ghost use Rattle.contract_words.specs.Devices.{Counted};
 ghost use Rattle.mail_index.specs.Builders.{Draft, IsInMessage};
 ghost use Rattle.mail_index.specs.Tables.{IsPath};
@@ -11,7 +10,7 @@ ghost use Rattle.mbox_cutter.specs.declared.event.CutFault.{CutFault};
 ghost use Rattle.mbox_cutter.specs.Events.{refusal_of};
 ghost use Rattle.mbox_cutter.specs.declared.scan.Phase.TheVariants as Phase;
 ghost use Rattle.index_job.specs.ArchiveRefusals.{most_in_archive};
-ghost use Rattle.index_job.specs.Inside.ArchiveReading.{Awaited, AddsMessages, AddsNamed, coming_inside, coming_ahead, IsHeading, Heads, ReadsToEnd, AddsMessage, IsInside, GoesFurther, HasEnded, IsReading, HasReadAll, IsMessageFault};
+ghost use Rattle.index_job.specs.Inside.ArchiveReading.{Awaited, AwaitsEnd, AddsMessages, AddsNamed, coming_inside, coming_ahead, IsHeading, Heads, ReadsToEnd, AddsMessage, IsInside, GoesFurther, HasEnded, IsReading, HasReadAll, IsMessageFault, ReadsSource};
 ghost use Rattle.index_job.specs.Inside.Gathering.{HasGathered};
 ghost use Rattle.index_job.specs.Indexing.{IsArchiveFault, IsBuilderIdle, IsJobFault, IsBuilderReady};
 ghost use Rattle.index_job.specs.JobFaults.{is_source_failure};
@@ -54,9 +53,7 @@ pub(crate) struct ReadArchive {
 fn next_heading<'a, S: Source>(cutter: &mut Cutter<'a, S>) -> Result<Heading, JobFault>
     requires between { cutter.old.place.phase ≡ Phase.Between }
     requires count { S.failures cutter.old.source.now < 2 ^ 64 - 1 }
-    ensures source { cutter.new.source.ghost_name ≡ cutter.old.source.ghost_name }
-    ensures stays { Stays S.Source cutter.old.source.now cutter.new.source.now }
-    ensures count { Counted (is_source_failure result) (S.failures cutter.old.source.now) (S.failures cutter.new.source.now) }
+    ensures reads { ReadsSource S.Source (is_source_failure result) cutter.old.source cutter.new.source }
     ensures most { OnOk result (cutter.new.place.most ≡ cutter.old.place.most) }
     ensures place { IfOk result (λ heading. IsHeading heading cutter.old.place cutter.new.place) }
     ensures end { IfOk result (λ heading. ReadsToEnd heading (S.rest cutter.new.source.now)) }
@@ -86,9 +83,7 @@ fn next_line<'a, S: Source>(
     requires inside { IsInside start cutter.old.place }
     requires phase { IfSome builder.old IsInMessage }
     requires count { S.failures cutter.old.source.now < 2 ^ 64 - 1 }
-    ensures source { cutter.new.source.ghost_name ≡ cutter.old.source.ghost_name }
-    ensures stays { Stays S.Source cutter.old.source.now cutter.new.source.now }
-    ensures count { Counted (is_source_failure result) (S.failures cutter.old.source.now) (S.failures cutter.new.source.now) }
+    ensures reads { ReadsSource S.Source (is_source_failure result) cutter.old.source cutter.new.source }
     ensures further { OnOk result (GoesFurther cutter.old.place cutter.new.place) }
     ensures place { IfOk result (λ end. MatchOption end (IsInside start cutter.new.place) (λ e. HasEnded start e cutter.new.place)) }
     ensures gathers { OnOk result ((d : Option Draft) (ls : List (List ℕ)) → HasGathered text.old builder.old d ls
@@ -124,9 +119,7 @@ fn add_message<'a, S: Source>(
     requires most { cutter.old.place.most ≡ most_in_archive }
     requires count { S.failures cutter.old.source.now < 2 ^ 64 - 1 }
     requires ready { IsBuilderReady archive offset builder.old }
-    ensures source { cutter.new.source.ghost_name ≡ cutter.old.source.ghost_name }
-    ensures stays { Stays S.Source cutter.old.source.now cutter.new.source.now }
-    ensures count { Counted (is_source_failure result) (S.failures cutter.old.source.now) (S.failures cutter.new.source.now) }
+    ensures reads { ReadsSource S.Source (is_source_failure result) cutter.old.source cutter.new.source }
     ensures further { OnOk result (GoesFurther cutter.old.place cutter.new.place) }
     ensures between { OnOk result (cutter.new.place.phase ≡ Phase.Between) }
     ensures ready { OnOk result (IsBuilderReady archive cutter.new.place.offset builder.new) }
@@ -167,12 +160,8 @@ fn add_messages<'a, S: Source>(
     requires most { cutter.old.place.most ≡ most_in_archive }
     requires count { S.failures cutter.old.source.now < 2 ^ 64 - 1 }
     requires ready { IsBuilderReady archive cutter.old.place.offset builder.old }
-    ensures source { cutter.new.source.ghost_name ≡ cutter.old.source.ghost_name }
-    ensures stays { Stays S.Source cutter.old.source.now cutter.new.source.now }
-    ensures count { Counted (is_source_failure result) (S.failures cutter.old.source.now) (S.failures cutter.new.source.now) }
-    ensures end { OnOk result (IsAtEnd (S.rest cutter.new.source.now)) }
-    ensures ready { IfOk result (λ read. IsBuilderReady archive read.length builder.new) }
-    ensures within { IfOk result (λ read. read.length ≤ most_in_archive) }
+    ensures reads { ReadsSource S.Source (is_source_failure result) cutter.old.source cutter.new.source }
+    ensures ended { IfOk result (λ read. AwaitsEnd archive (S.rest cutter.new.source.now) read.length builder.new) }
     ensures known { (d : Draft) (all : ℕ) (ms : Option (List Message)) (refusal : Option CutFault) → builder.old ≡ Some d
         → cutter.old.coming ≡ Some (coming_ahead all ms refusal) → AddsMessages archive d all ms refusal result builder.new }
     ensures own { IfErr result IsArchiveFault }
@@ -203,12 +192,8 @@ fn add_archive<'a, S: Source>(
     requires count { S.failures cutter.old.source.now < 2 ^ 64 - 1 }
     requires idle { IsBuilderIdle archive builder.old }
     requires path { IsPath path.now }
-    ensures source { cutter.new.source.ghost_name ≡ cutter.old.source.ghost_name }
-    ensures stays { Stays S.Source cutter.old.source.now cutter.new.source.now }
-    ensures count { Counted (is_source_failure result) (S.failures cutter.old.source.now) (S.failures cutter.new.source.now) }
-    ensures end { OnOk result (IsAtEnd (S.rest cutter.new.source.now)) }
-    ensures ready { IfOk result (λ read. IsBuilderReady archive read.length builder.new) }
-    ensures within { IfOk result (λ read. read.length ≤ most_in_archive) }
+    ensures reads { ReadsSource S.Source (is_source_failure result) cutter.old.source cutter.new.source }
+    ensures ended { IfOk result (λ read. AwaitsEnd archive (S.rest cutter.new.source.now) read.length builder.new) }
     ensures known { (d : Draft) (all : ℕ) (ms : Option (List Message)) (refusal : Option CutFault) → builder.old ≡ Some d
         → cutter.old.coming ≡ Some (coming_ahead all ms refusal) → AddsNamed path.now archive d all ms refusal result builder.new }
     ensures own { IfErr result IsArchiveFault }
@@ -231,9 +216,7 @@ pub(crate) fn read_archive<S: Source>(
     requires path { IsPath path.now }
     ensures stays { Stays S.Source source.old source.new }
     ensures count { Counted (is_source_failure result) (S.failures source.old) (S.failures source.new) }
-    ensures end { OnOk result (IsAtEnd (S.rest source.new)) }
-    ensures ready { IfOk result (λ read. IsBuilderReady archive read.length builder.new) }
-    ensures within { IfOk result (λ read. read.length ≤ most_in_archive) }
+    ensures ended { IfOk result (λ read. AwaitsEnd archive (S.rest source.new) read.length builder.new) }
     ensures known { (d : Draft) (bytes : List ℕ) → builder.old ≡ Some d → S.rest source.old ≡ Some bytes
         → AddsNamed path.now archive d (length bytes) (messages_of bytes) (refusal_of most_in_archive bytes) result builder.new }
     ensures own { IfErr result IsArchiveFault }

@@ -1,14 +1,18 @@
 -- An archive while it is indexed: what still comes of it, and what was gathered.
-use Rattle.std.specs.Prelude.{◌≡◌, ◌⊎◌, ⊤, ℕ, ◌+◌, ◌<◌, ◌≤◌, List, [], ◌∷◌, ◌++◌, Option, None, Some, option_map, unwrap_or, length, Result, Ok, Err}
+use Rattle.std.specs.Prelude.{Bool, ◌≡◌, ◌⊎◌, ⊤, ℕ, ◌+◌, ◌<◌, ◌≤◌, List, [], ◌∷◌, ◌++◌, Option, None, Some, option_map, unwrap_or, length, Result, Ok, Err}
 use Rattle.std.specs.Option.{option_map_or}
+use Rattle.std.specs.Borrow.{MutBor}
 use Rattle.std.specs.Io.KnownBytes.{IsAtEnd}
+use Rattle.contract_words.specs.Devices.{Counted}
 use Rattle.mail_index.specs.Builders.{Draft, archive_count}
 use Rattle.mbox_cutter.specs.Archives as archives
 use Rattle.mbox_cutter.specs.Archives.{text, size, span_length}
+use Rattle.mbox_cutter.specs.declared.device.Source.{Ghosts}
 use Rattle.mbox_cutter.specs.declared.event.CutFault.{CutFault}
 use Rattle.mbox_cutter.specs.declared.scan.Phase.TheVariants.{Between, Inside}
 use Rattle.mbox_cutter.specs.Events.{Coming, told, told_rest}
 use Rattle.mbox_cutter.specs.Places.{CutterPlace, left}
+use Rattle.mbox_cutter.specs.Sources.{Stays}
 use Rattle.mime_text.specs.declared.message_text.MessageText.{MessageText}
 use Rattle.index_job.specs.declared.archive_reading.Ended.{Ended}
 use Rattle.index_job.specs.declared.archive_reading.Heading.{Heading}
@@ -16,8 +20,9 @@ use Rattle.index_job.specs.declared.archive_reading.Heading.TheVariants.{Message
 use Rattle.index_job.specs.declared.archive_reading.ReadArchive.{ReadArchive}
 use Rattle.index_job.specs.declared.job_fault.JobFault.{JobFault}
 use Rattle.index_job.specs.declared.job_fault.JobFault.TheVariants.{OutOfMemory, TooMany}
+use Rattle.index_job.specs.ArchiveRefusals.{most_in_archive}
 use Rattle.index_job.specs.Inside.Gathering.{HasGathered}
-use Rattle.index_job.specs.Indexing.{draft_with_terms, draft_with_messages, with_open_archive, HasTooMany, RefusesTerms, IsJobFault}
+use Rattle.index_job.specs.Indexing.{draft_with_terms, draft_with_messages, with_open_archive, HasTooMany, RefusesTerms, IsBuilderReady, IsJobFault}
 use Rattle.index_job.specs.MessageTerms.{message_terms}
 
 -- ---- what comes
@@ -40,6 +45,17 @@ coming_between all ms refusal = record { events = told all ms; refusal = refusal
 -- what comes of an archive's messages, or of an archive that has none since it is refused
 abbrev pub coming_ahead : ℕ → Option (List archives.Message) → Option CutFault → Coming
 coming_ahead all ms refusal = record { events = option_map_or (told all) ms []; refusal = refusal }
+
+-- ---- the source
+
+-- a cutter has read of its source, and whether that failed
+pub record ReadsSource {S : Type 0} (g : Ghosts S) (failed : Bool) (old new : MutBor S) : Type 0 where
+  -- it is the same
+  pub source : new.ghost_name ≡ old.ghost_name
+  -- what no read changes is as it was
+  pub stays : Stays g old.now new.now
+  -- its count of failures rises by one where it failed, and else stays
+  pub count : Counted failed (g.failures old.now) (g.failures new.now)
 
 -- ---- where a cutter stands
 
@@ -99,6 +115,12 @@ IsReadingSome draft w gathered builder coming = (lines rest : List (List ℕ)) �
 abbrev pub AddsMessage : {T : Type 0} → ℕ → Draft → Awaited → Result T JobFault → Option Draft → Option Coming → Type 0
 AddsMessage archive d w (Ok _) builder coming = (builder ≡ Some (draft_with_messages archive (w.message ∷ []) d)) × (coming ≡ Some (coming_between w.all w.later w.refusal))
 AddsMessage archive d w (Err fault) builder coming = IsJobFault w.refusal (HasTooMany (draft_with_messages archive (w.message ∷ []) d)) fault
+
+-- the archive of this number was read to its end, and only this end is left to be added: behind all its messages, and within the limit
+pub record AwaitsEnd (number : ℕ) (rest : Option (List ℕ)) (bytes : ℕ) (builder : Option Draft) : Type 0 where
+  pub end : IsAtEnd rest
+  pub ready : IsBuilderReady number bytes builder
+  pub within : bytes ≤ most_in_archive
 
 -- there is no room for one archive more, or no memory
 abbrev pub HasNoRoom : Draft → JobFault → Type 0

@@ -1,19 +1,20 @@
-use Rattle.std.proofs.Common.{◌≡◌, ◌∙◌, ℕ, List, Option, Some, IfSome, sym, subst, arith}
+use Rattle.std.proofs.Common.{◌≡◌, ◌∙◌, ℕ, List, Option, Some, Err, false, ap, IfSome, sym, subst, arith}
 use Rattle.std.specs.Option.{MatchOption}
 use Rattle.mail_index.specs.Builders.{Draft, IsInArchive}
-use Rattle.mbox_cutter.proofs.Sources.{Stays-join}
 use Rattle.index_job.specs.declared.archive_reading.Ended.{Ended}
 use Rattle.index_job.specs.Inside.ArchiveReading.{IsInside, HasEnded, IsReading, HasReadAll}
 use Rattle.std.proofs.lemmas.Result.{err_from_is_err_and}
 use Rattle.index_job.specs.Indexing.{with_open_message}
 use Rattle.index_job.proofs.MessageSteps.{message-fault, opens, ready-behind, adds-message, own-fault}
+use Rattle.index_job.proofs.SourceReads.{reads-join, reads-before, reads-passed}
+use Rattle.index_job.specs.JobFaults.{is_source_failure}
 use Rattle.index_job.proofs.archive_reading.add_message.Goals as goal
 
 pub returns-in_err-length-clause-known : goal.returns-in_err-length-clause-known
 returns-in_err-length-clause-known g c =
     let p = err_from_is_err_and c.from_residual-in_err-length.result c.from_residual-in_err-length.ensures.1 in
     λ d w is at comes.
-    let r = c.lines.invariant.reads d w is comes in
+    let r = c.lines.invariant.comes d w is comes in
     rw (p.1, p.2) (message-fault c.args.archive d w c.in_err-length.field-0.0 (c.in_err-length.ensures.fault (Some (with_open_message d)) w r.0 r.1 r.2))
 
 pub returns-in_err-length-clause-own : goal.returns-in_err-length-clause-own
@@ -51,7 +52,7 @@ returns-in-Some-clause-known g c = λ d w is at comes.
     let open_draft = Some (with_open_message d) in
     let same : Some d ≡ Some c.requires.ready.0 = sym is ∙ c.requires.ready.1 in
     let phase : IsInArchive d = subst (λ (o : Option Draft). IfSome o IsInArchive) (sym same) c.requires.ready.2.phase in
-    let r = c.lines.invariant.reads d w is comes in
+    let r = c.lines.invariant.comes d w is comes in
     let all : HasReadAll open_draft w ended text builder coming =
     subst (λ (o : Option Ended). MatchOption o ((more left : List (List ℕ)) × IsReading open_draft w more left text builder coming) (λ e. HasReadAll open_draft w e text builder coming)) c.in-Some.is
     (c.in_ok-length.ensures.known open_draft w r.0 r.1 r.2) in
@@ -75,17 +76,30 @@ lines-preserved g c =
     let next = c.next_line.new.cutter in
     let inside : IsInside start next.place = subst (λ (o : Option Ended). MatchOption o (IsInside start next.place) (λ e. HasEnded start e next.place)) c.in_default.is e.place in
     record {
-      source = e.source ∙ i.source;
-      stays = Stays-join g.S.Source _ _ _ i.stays e.stays;
-      failures = e.count ∙ i.failures;
+      reads = reads-join g.S.Source false c.args.cutter.now.source c.lines.cutter.source next.source i.reads e.reads;
       inside = inside;
       most = e.further.most ∙ i.most;
       later = omega (arith, e.further.later, i.later);
       nearer = omega (arith, e.further.nearer, i.nearer);
       gathers = λ d is. let gathered = i.gathers d is in e.gathers (Some (with_open_message d)) gathered.0 gathered.1;
-      reads = λ d w is comes.
+      comes = λ d w is comes.
           let open_draft = Some (with_open_message d) in
-          let r = i.reads d w is comes in
+          let r = i.comes d w is comes in
           subst (λ (o : Option Ended). MatchOption o ((more left : List (List ℕ)) × IsReading open_draft w more left text builder next.coming) (λ e. HasReadAll open_draft w e text builder next.coming)) c.in_default.is
           (e.known open_draft w r.0 r.1 r.2);
     }
+
+pub returns-in_err-length-clause-reads : goal.returns-in_err-length-clause-reads
+returns-in_err-length-clause-reads g c =
+    let p = err_from_is_err_and c.from_residual-in_err-length.result c.from_residual-in_err-length.ensures.1 in
+    let first = c.args.cutter.now.source in
+    let last = c.next_line.new.cutter.source in
+    reads-passed g.S.Source c.from_residual-in_err-length.result c.next_line.result c.in_err-length.field-0.0 first last c.in_err-length.was (p.1 ∙ ap Err p.2)
+    (reads-join g.S.Source (is_source_failure c.next_line.result) first c.lines.cutter.source last c.lines.invariant.reads c.next_line.ensures.reads)
+
+pub returns-in-Some-clause-reads : goal.returns-in-Some-clause-reads
+returns-in-Some-clause-reads g c =
+    let first = c.args.cutter.now.source in
+    let last = c.next_line.new.cutter.source in
+    reads-before g.S.Source (is_source_failure c.finish_message.result) first last c.finish_message.ensures.source
+    (reads-join g.S.Source false first c.lines.cutter.source last c.lines.invariant.reads c.in_ok-length.ensures.reads)

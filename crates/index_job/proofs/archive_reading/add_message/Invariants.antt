@@ -1,9 +1,8 @@
-use Rattle.std.proofs.Common.{◌≡◌, ◌≤◌, ℕ, List, Some}
+use Rattle.std.proofs.Common.{false, ◌≡◌, ◌≤◌, ℕ, List, Some}
 use Rattle.mail_index.specs.Builders.{Draft}
 use Rattle.mbox_cutter.specs.Archives.{text}
 use Rattle.mbox_cutter.specs.Places.{left}
-use Rattle.mbox_cutter.specs.Sources.{Stays}
-use Rattle.index_job.specs.Inside.ArchiveReading.{Awaited, coming_inside, IsInside, IsReadingSome}
+use Rattle.index_job.specs.Inside.ArchiveReading.{Awaited, coming_inside, IsInside, IsReadingSome, ReadsSource}
 use Rattle.index_job.specs.Inside.Gathering.{HasGathered}
 use Rattle.index_job.specs.Indexing.{with_open_message}
 use Rattle.index_job.proofs.archive_reading.add_message.Given as goal
@@ -11,15 +10,13 @@ use Rattle.index_job.proofs.archive_reading.add_message.Given as goal
 -- the message is still open, and some of its lines are gathered; where it is known what comes, they are a front of its text
 abbrev pub invariant-lines : goal.invariant-lines
 invariant-lines g l = record {
-  source : l.cutter.source.ghost_name ≡ l.initial.cutter.source.ghost_name;
-  stays : Stays g.S.Source l.initial.cutter.source.now l.cutter.source.now;
-  failures : g.S.Source.failures l.cutter.source.now ≡ g.S.Source.failures l.initial.cutter.source.now;
+  reads : ReadsSource g.S.Source false l.initial.cutter.source l.cutter.source;
   inside : IsInside l.offset l.cutter.place;
   most : l.cutter.place.most ≡ l.initial.cutter.place.most;
   later : l.initial.cutter.place.offset ≤ l.cutter.place.offset;
   nearer : left l.cutter.place ≤ left l.initial.cutter.place;
   gathers : (d : Draft) → l.fn.builder ≡ Some d → (ls : List (List ℕ)) × HasGathered l.text l.builder (Some (with_open_message d)) ls;
-  reads : (d : Draft) (w : Awaited) → l.fn.builder ≡ Some d → l.initial.cutter.coming ≡ Some (coming_inside w (text w.message))
+  comes : (d : Draft) (w : Awaited) → l.fn.builder ≡ Some d → l.initial.cutter.coming ≡ Some (coming_inside w (text w.message))
       → IsReadingSome (Some (with_open_message d)) w l.text l.builder l.cutter.coming;
 }
 

@@ -1,18 +1,17 @@
-use Rattle.std.proofs.Common.{◌∙◌, refl, subst, arith}
+use Rattle.std.proofs.Common.{◌∙◌, Err, false, ap, refl, subst, arith}
 use Rattle.std.proofs.lemmas.Result.{err_from_is_err_and}
-use Rattle.mbox_cutter.proofs.Sources.{Stays-self, Stays-join}
 use Rattle.index_job.specs.declared.archive_reading.Heading.{Heading}
 use Rattle.index_job.specs.declared.archive_reading.Heading.TheVariants.{Message, End}
-use Rattle.index_job.specs.Inside.ArchiveReading.{Heads, IsHeading, Awaited}
+use Rattle.index_job.specs.Inside.ArchiveReading.{Heads, IsHeading, Awaited, ReadsToEnd}
 use Rattle.index_job.specs.Indexing.{draft_with_messages}
 use Rattle.index_job.proofs.ArchiveSteps.{done-none, between-fault, inside-fault, done-more, archive-done}
+use Rattle.index_job.proofs.SourceReads.{awaits-end, reads-none, reads-join, reads-passed}
+use Rattle.index_job.specs.JobFaults.{is_source_failure}
 use Rattle.index_job.proofs.archive_reading.add_messages.Goals as goal
 
 pub messages-init : goal.messages-init
 messages-init g c = record {
-  source = refl;
-  stays = Stays-self g.S.Source c.args.cutter.now.source.now;
-  failures = refl;
+  reads = reads-none g.S.Source c.args.cutter.now.source;
   between = c.requires.between;
   most = refl;
   ready = c.requires.ready;
@@ -50,9 +49,8 @@ messages-preserved g c =
     let mid = c.next_heading.new.cutter in
     let placed : IsHeading (Message start) old.place mid.place = subst (λ (x : Heading). IsHeading x old.place mid.place) c.in-Message.is c.in_ok-offset.ensures.place in
     record {
-      source = e.source ∙ c.in_ok-offset.ensures.source ∙ i.source;
-      stays = Stays-join g.S.Source _ _ _ i.stays (Stays-join g.S.Source _ _ _ c.in_ok-offset.ensures.stays e.stays);
-      failures = e.count ∙ c.in_ok-offset.ensures.count ∙ i.failures;
+      reads = reads-join g.S.Source false c.args.cutter.now.source mid.source c.add_message.new.cutter.source
+          (reads-join g.S.Source false c.args.cutter.now.source old.source mid.source i.reads c.in_ok-offset.ensures.reads) e.reads;
       between = e.between;
       most = e.further.most ∙ c.in_ok-offset.ensures.most ∙ i.most;
       ready = e.ready;
@@ -74,3 +72,36 @@ returns-in-End-clause-known g c = λ d all ms refusal is comes.
     let heads : Heads (End bytes) all h.rest refusal c.next_heading.new.cutter.coming =
     subst (λ (x : Heading). Heads x all h.rest refusal c.next_heading.new.cutter.coming) c.in-End.is (c.in_ok-offset.ensures.known all h.rest refusal h.comes) in
     archive-done c.args.archive d all ms refusal c.messages.messages c.messages.builder c.messages.cutter.coming h bytes heads
+
+pub returns-in_err-offset-clause-reads : goal.returns-in_err-offset-clause-reads
+returns-in_err-offset-clause-reads g c =
+    let p = err_from_is_err_and c.from_residual.result c.from_residual.ensures.1 in
+    let first = c.args.cutter.now.source in
+    let last = c.next_heading.new.cutter.source in
+    reads-passed g.S.Source c.from_residual.result c.next_heading.result c.in_err-offset.field-0.0 first last c.in_err-offset.was (p.1 ∙ ap Err p.2)
+    (reads-join g.S.Source (is_source_failure c.next_heading.result) first c.messages.cutter.source last c.messages.invariant.reads c.next_heading.ensures.reads)
+
+pub returns-in_err-add_message-in-Message-clause-reads :
+    goal.returns-in_err-add_message-in-Message-clause-reads
+returns-in_err-add_message-in-Message-clause-reads g c =
+    let p = err_from_is_err_and c.from_residual-in_err-add_message-in-Message.result c.from_residual-in_err-add_message-in-Message.ensures.1 in
+    let first = c.args.cutter.now.source in
+    let mid = c.next_heading.new.cutter.source in
+    let last = c.add_message.new.cutter.source in
+    reads-passed g.S.Source c.from_residual-in_err-add_message-in-Message.result c.add_message.result c.in_err-add_message-in-Message.field-0.0 first last c.in_err-add_message-in-Message.was (p.1 ∙ ap Err p.2)
+    (reads-join g.S.Source (is_source_failure c.add_message.result) first mid last
+    (reads-join g.S.Source false first c.messages.cutter.source mid c.messages.invariant.reads c.in_ok-offset.ensures.reads) c.add_message.ensures.reads)
+
+pub returns-in-End-clause-reads : goal.returns-in-End-clause-reads
+returns-in-End-clause-reads g c =
+    reads-join g.S.Source false c.args.cutter.now.source c.messages.cutter.source c.next_heading.new.cutter.source c.messages.invariant.reads c.in_ok-offset.ensures.reads
+
+pub returns-in-End-clause-ended : goal.returns-in-End-clause-ended
+returns-in-End-clause-ended g c =
+    let bytes = c.in-End.length in
+    let old = c.messages.cutter.place in
+    let new = c.next_heading.new.cutter in
+    let rest = g.S.Source.rest new.source.now in
+    let e = c.in_ok-offset.ensures in
+    awaits-end c.args.archive bytes old new.place rest c.messages.builder (subst (λ (x : Heading). IsHeading x old new.place) c.in-End.is e.place) (e.most ∙ c.messages.invariant.most ∙ c.requires.most)
+    (subst (λ (x : Heading). ReadsToEnd x rest) c.in-End.is e.end) c.messages.invariant.ready

@@ -1,20 +1,17 @@
-use Rattle.std.proofs.Common.{◌≡◌, ◌≤◌, ℕ, List, Option, Some}
+use Rattle.std.proofs.Common.{false, ◌≡◌, ◌≤◌, ℕ, List, Option, Some}
 use Rattle.mail_index.specs.Builders.{Draft}
 use Rattle.mbox_cutter.specs.Archives.{Message}
 use Rattle.mbox_cutter.specs.declared.event.CutFault.{CutFault}
 use Rattle.mbox_cutter.specs.declared.scan.Phase.TheVariants.{Between}
 use Rattle.mbox_cutter.specs.Places.{left}
-use Rattle.mbox_cutter.specs.Sources.{Stays}
-use Rattle.index_job.specs.Inside.ArchiveReading.{coming_ahead, HasDone}
+use Rattle.index_job.specs.Inside.ArchiveReading.{coming_ahead, HasDone, ReadsSource}
 use Rattle.index_job.specs.Indexing.{IsBuilderReady}
 use Rattle.index_job.proofs.archive_reading.add_messages.Given as goal
 
 -- no message is open; where it is known what comes, some messages are done, and the others come
 abbrev pub invariant-messages : goal.invariant-messages
 invariant-messages g l = record {
-  source : l.cutter.source.ghost_name ≡ l.initial.cutter.source.ghost_name;
-  stays : Stays g.S.Source l.initial.cutter.source.now l.cutter.source.now;
-  failures : g.S.Source.failures l.cutter.source.now ≡ g.S.Source.failures l.initial.cutter.source.now;
+  reads : ReadsSource g.S.Source false l.initial.cutter.source l.cutter.source;
   between : l.cutter.place.phase ≡ Between;
   most : l.cutter.place.most ≡ l.initial.cutter.place.most;
   ready : IsBuilderReady l.archive l.cutter.place.offset l.builder;

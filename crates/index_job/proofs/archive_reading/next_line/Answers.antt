@@ -1,5 +1,5 @@
 use Rattle.std.proofs.Common.{◌∙◌, [], ap, subst}
-use Rattle.std.specs.Prelude.{Result, Ok}
+use Rattle.std.specs.Prelude.{Result, Ok, Err}
 use Rattle.std.proofs.lemmas.Result.{err_from_is_err_and}
 use Rattle.mbox_cutter.specs.declared.event.Event.{Event}
 use Rattle.mbox_cutter.specs.declared.event.CutFault.{CutFault}
@@ -7,6 +7,8 @@ use Rattle.mbox_cutter.specs.Coming.{Answers, TakesKnown}
 use Rattle.mbox_cutter.specs.Progress.{shown_result}
 use Rattle.mbox_cutter.specs.Events.{Line, End}
 use Rattle.index_job.proofs.ReadingLines.{reads-line, reads-end, line-is-fault, gather-own}
+use Rattle.index_job.proofs.SourceReads.{event-reads, event-fails, reads-before, reads-passed}
+use Rattle.index_job.specs.JobFaults.{is_source_failure}
 use Rattle.index_job.proofs.archive_reading.next_line.Goals as goal
 
 pub returns-in_err-feed_line-in-Line-clause-fault :
@@ -48,3 +50,27 @@ returns-in-End-clause-known g c =
     let answers : Answers now (shown_result c.next_event.result) next = a.answers in
     let takes : TakesKnown (End c.in-End.length c.in-End.size) now next = subst (λ (r : Result Event CutFault). Answers now (shown_result r) next) (c.in_ok-line.was ∙ ap Ok c.in-End.is) answers in
     λ d w ls rest r. reads-end d w ls rest c.args.text.now c.args.builder.now now next (record { length = c.in-End.length; size = c.in-End.size }) r takes
+
+pub returns-in_err-line-clause-reads : goal.returns-in_err-line-clause-reads
+returns-in_err-line-clause-reads g c =
+    let p = err_from_is_err_and c.from_residual.result c.from_residual.ensures.1 in
+    event-fails g.S.Source c.from_residual.result c.args.cutter.now c.next_event.follows.lender-at-none c.next_event.result c.in_err-line.field-0.0 c.in_err-line.was (p.1 ∙ ap Err p.2) c.next_event.follows.holds-at-none
+
+pub returns-in_err-feed_line-in-Line-clause-reads :
+    goal.returns-in_err-feed_line-in-Line-clause-reads
+returns-in_err-feed_line-in-Line-clause-reads g c =
+    let p = err_from_is_err_and c.from_residual-in_err-feed_line-in-Line.result c.from_residual-in_err-feed_line-in-Line.ensures.1 in
+    let old = c.args.cutter.now in
+    let next = c.next_event.follows.lender-at-none in
+    reads-passed g.S.Source c.from_residual-in_err-feed_line-in-Line.result c.feed_line.result c.in_err-feed_line-in-Line.field-0.0 old.source next.source c.in_err-feed_line-in-Line.was (p.1 ∙ ap Err p.2)
+    (reads-before g.S.Source (is_source_failure c.feed_line.result) old.source next.source c.feed_line.ensures.source
+    (event-reads g.S.Source old next c.next_event.result _ c.in_ok-line.was c.next_event.follows.holds-at-none))
+
+pub returns-in_ok-feed_line-in-Line-clause-reads :
+    goal.returns-in_ok-feed_line-in-Line-clause-reads
+returns-in_ok-feed_line-in-Line-clause-reads g c =
+    event-reads g.S.Source c.args.cutter.now c.next_event.follows.lender-at-none c.next_event.result _ c.in_ok-line.was c.next_event.follows.holds-at-none
+
+pub returns-in-End-clause-reads : goal.returns-in-End-clause-reads
+returns-in-End-clause-reads g c =
+    event-reads g.S.Source c.args.cutter.now c.next_event.follows.lender-at-none c.next_event.result _ c.in_ok-line.was c.next_event.follows.holds-at-none

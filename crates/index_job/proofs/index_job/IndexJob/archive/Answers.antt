@@ -31,6 +31,6 @@ returns-clause-ok g c =
     let comes : g.S.Source.rest (inner c.new-digested.result).now ≡ Some bytes = ap g.S.Source.rest c.new-digested.ensures.same ∙ rest in
     let at_first : AreWhole g.S.Source.rest c.new-digested.result bytes =
     subst (λ (o : Option (List ℕ)). IfSome o (λ b. AreWhole g.S.Source.rest c.new-digested.result b)) rest c.new-digested.ensures.whole in
-    let digest : c.finish.result ≡ sha256 bytes = c.finish.ensures.whole bytes (c.in_ok-messages.ensures.stays.whole bytes at_first) c.in_ok-messages.ensures.end in
+    let digest : c.finish.result ≡ sha256 bytes = c.finish.ensures.whole bytes (c.in_ok-messages.ensures.stays.whole bytes at_first) c.in_ok-messages.ensures.ended.end in
     one-added before a c.self.inside.archives c.in_ok-messages.field-0 c.read_archive.new.builder c.finish.result c.end_archive.new.self (number-is c.self.inside.archives before c.in-Some.builder builder idle)
     (c.in_ok-messages.ensures.known (draft_of before) bytes builder comes) digest c.in_ok-end_archive.ensures.gives c.in_ok-end_archive.ensures.within
