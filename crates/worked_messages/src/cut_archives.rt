@@ -9,7 +9,6 @@ use mbox_cutter::{
 };
 use std::alloc::{AllocError, Global};
 use std::fmt::Write;
-use std::test::Fail;
 
 const ONE: &[u8] = b"From a@x.org Thu Jan  2 10:00:00 2003\nSubject: Hello\n\nhi\n\n";
 
@@ -85,13 +84,27 @@ fn transcript_of(
     transcript(alloc, &mut source, most)
 }
 
+/// Whether this is the transcript of an archive. It is None where memory is wanting, and so are the answers below.
+fn is_told(
+    alloc: Global,
+    bytes: &[u8],
+    piece: usize,
+    fail_at: Option<u64>,
+    most: u64,
+    wanted: &str,
+) -> Option<bool>
+    requires { 0 < piece }
+{
+    let told = transcript_of(alloc, bytes, piece, fail_at, most).ok()?;
+    Some(told.as_str() == wanted)
+}
+
 #[test]
-fn pieces_of_any_size(rt: HostRuntime) -> Result<(), Fail> {
+fn pieces_of_any_size(rt: HostRuntime) {
     for piece in [1, 7, 58, 1000] {
-        let told = transcript_of(rt.alloc(), ONE, piece, None, 58)?;
-        assert_eq!(rt; told.as_str(), TOLD, "in pieces of {piece}");
+        let as_wanted = is_told(rt.alloc(), ONE, piece, None, 58, TOLD);
+        assert!(rt; as_wanted == Some(true), "in pieces of {piece}");
     }
-    Ok(())
 }
 
 /// All lines that are lent, one after another.
@@ -111,99 +124,123 @@ fn lent<S: Source>(alloc: Global, source: &mut S, most: u64) -> Result<Vec<u8>, 
     }
 }
 
-#[test]
-fn all_but_the_closing_line_is_lent(rt: HostRuntime) -> Result<(), Fail> {
-    let mut source = MemorySource::new(rt.alloc(), ONE, 7, None)?;
-    let lines = lent(rt.alloc(), &mut source, 1000)?;
-    assert_eq!(rt; lines.as_slice(), &ONE[..57]);
-    Ok(())
+/// Whether all lines are lent but the one that closes the message.
+fn lends_all_but_closing(alloc: Global) -> Option<bool> {
+    let mut source = MemorySource::new(alloc, ONE, 7, None).ok()?;
+    let lines = lent(alloc, &mut source, 1000).ok()?;
+    Some(lines.as_slice() == &ONE[..57])
 }
 
-// The lines behind the separator, for so many bytes and then an end of the line.
 #[test]
-fn longest_lines(rt: HostRuntime) -> Result<(), Fail> {
-    let table: [(usize, &[u8], &str); 9] = [
-        (65_535, b"\n", "line 65536, end 65574 65536, done 65574"),
-        (65_536, b"\n", "line 65537, end 65575 65537, done 65575"),
-        (
-            65_537,
-            b"\n",
-            "line 65536, line 2, end 65576 65538, done 65576",
-        ),
-        (65_535, b"\r\n", "line 65537, end 65575 65537, done 65575"),
-        (65_536, b"\r\n", "line 65536, end 65576 65536, done 65576"),
-        (
-            65_537,
-            b"\r\n",
-            "line 65536, line 3, end 65577 65539, done 65577",
-        ),
-        (65_535, b"", "line 65535, end 65573 65535, done 65573"),
-        (65_536, b"", "line 65536, end 65574 65536, done 65574"),
-        (
-            65_537,
-            b"",
-            "line 65536, line 1, end 65575 65537, done 65575",
-        ),
-    ];
-    for (n, end, told) in table {
-        let mut archive = ONE[..38].to_vec(rt.alloc())?;
-        archive.resize(38 + n, b'a')?;
-        archive.extend_from_slice(end)?;
-        let got = transcript_of(rt.alloc(), &archive, 4096, None, 1 << 40)?;
-        let want = format!(in rt.alloc(); "start 0 38, {told}")?;
-        assert_eq!(rt; got.as_str(), want.as_str(), "{n} bytes");
+fn all_but_the_closing_line_is_lent(rt: HostRuntime) {
+    assert!(rt; lends_all_but_closing(rt.alloc()) == Some(true));
+}
+
+/// The lines behind the separator, for so many bytes and then an end of the line.
+const LONGEST: [(usize, &[u8], &str); 9] = [
+    (65_535, b"\n", "line 65536, end 65574 65536, done 65574"),
+    (65_536, b"\n", "line 65537, end 65575 65537, done 65575"),
+    (
+        65_537,
+        b"\n",
+        "line 65536, line 2, end 65576 65538, done 65576",
+    ),
+    (65_535, b"\r\n", "line 65537, end 65575 65537, done 65575"),
+    (65_536, b"\r\n", "line 65536, end 65576 65536, done 65576"),
+    (
+        65_537,
+        b"\r\n",
+        "line 65536, line 3, end 65577 65539, done 65577",
+    ),
+    (65_535, b"", "line 65535, end 65573 65535, done 65573"),
+    (65_536, b"", "line 65536, end 65574 65536, done 65574"),
+    (
+        65_537,
+        b"",
+        "line 65536, line 1, end 65575 65537, done 65575",
+    ),
+];
+
+/// Whether a message of one line, of so many bytes and this end, is told so.
+fn is_told_of_line(alloc: Global, length: usize, end: &[u8], told: &str) -> Option<bool> {
+    let mut archive = ONE[..38].to_vec(alloc).ok()?;
+    archive.resize(length.saturating_add(38), b'a').ok()?;
+    archive.extend_from_slice(end).ok()?;
+    let wanted = format!(in alloc; "start 0 38, {told}").ok()?;
+    is_told(alloc, &archive, 4096, None, 1 << 40, wanted.as_str())
+}
+
+#[test]
+fn longest_lines(rt: HostRuntime) {
+    for (length, end, told) in LONGEST {
+        let as_wanted = is_told_of_line(rt.alloc(), length, end, told);
+        assert!(rt; as_wanted == Some(true), "{length} bytes");
     }
-    Ok(())
 }
 
+/// Archives, the most bytes that are taken, and what is told.
+const LIMITS: [(&[u8], u64, &str); 6] = [
+    (ONE, 10, "too long"),
+    (ONE, 57, "start 0 38, line 15, line 1, line 3, too long"),
+    (b"hello\n", 10, "not an mbox"),
+    (b"hello\n", 6, "not an mbox"),
+    (b"hello\n", 3, "too long"),
+    (b"\n\n", 2, "done 2"),
+];
+
 #[test]
-fn limits(rt: HostRuntime) -> Result<(), Fail> {
-    let table: [(&[u8], u64, &str); 6] = [
-        (ONE, 10, "too long"),
-        (ONE, 57, "start 0 38, line 15, line 1, line 3, too long"),
-        (b"hello\n", 10, "not an mbox"),
-        (b"hello\n", 6, "not an mbox"),
-        (b"hello\n", 3, "too long"),
-        (b"\n\n", 2, "done 2"),
-    ];
-    for (archive, most, told) in table {
-        let got = transcript_of(rt.alloc(), archive, 5, None, most)?;
-        assert_eq!(rt; got.as_str(), told, "at most {most}");
+fn limits(rt: HostRuntime) {
+    for (archive, most, told) in LIMITS {
+        let as_wanted = is_told(rt.alloc(), archive, 5, None, most, told);
+        assert!(rt; as_wanted == Some(true), "at most {most}");
     }
-    Ok(())
 }
 
-#[test]
-fn failed_from_then_on(rt: HostRuntime) -> Result<(), Fail> {
-    let mut source = MemorySource::new(rt.alloc(), ONE, 1000, None)?;
-    let mut cutter = Cutter::new(rt.alloc(), &mut source, 10)?;
-    assert!(rt; matches!(cutter.next_event(), Err(CutFault::ArchiveTooLong)));
-    assert!(rt; matches!(cutter.next_event(), Err(CutFault::Failed)));
-    assert!(rt; matches!(cutter.next_event(), Err(CutFault::Failed)));
+/// Whether a cutter tells an archive that is too long once, and has failed from then on.
+fn fails_from_then_on(alloc: Global) -> Option<bool> {
+    let mut source = MemorySource::new(alloc, ONE, 1000, None).ok()?;
+    let mut cutter = Cutter::new(alloc, &mut source, 10).ok()?;
+    let is_too_long = matches!(cutter.next_event(), Err(CutFault::ArchiveTooLong));
+    let has_failed = matches!(cutter.next_event(), Err(CutFault::Failed));
+    let fails_again = matches!(cutter.next_event(), Err(CutFault::Failed));
+    Some(is_too_long && has_failed && fails_again)
+}
+
+/// Whether the texts of both faults of a device are these.
+fn have_texts(alloc: Global) -> Option<bool> {
     let fault = CutFault::Failed;
-    assert_eq!(rt;
-        format!(in rt.alloc(); "{fault}, {DeviceFault}")?.as_str(),
-        "failed before, the device failed"
-    );
-    Ok(())
+    let told = format!(in alloc; "{fault}, {DeviceFault}").ok()?;
+    Some(told.as_str() == "failed before, the device failed")
+}
+
+#[test]
+fn failed_from_then_on(rt: HostRuntime) {
+    assert!(rt; fails_from_then_on(rt.alloc()) == Some(true));
+    assert!(rt; have_texts(rt.alloc()) == Some(true));
+}
+
+/// Whether a read that fails is told after a front of the events.
+fn is_front(alloc: Global, piece: usize, fail_at: u64) -> Option<bool>
+    requires { 0 < piece }
+{
+    let told = transcript_of(alloc, ONE, piece, Some(fail_at), 1000).ok()?;
+    let front = told.as_str().strip_suffix("read failed")?;
+    Some(TOLD.starts_with(front))
 }
 
 // The read that fails is answered, after a front of the events; a read past the last one isn't met.
 #[test]
-fn each_read_fails(rt: HostRuntime) -> Result<(), Fail> {
+fn each_read_fails(rt: HostRuntime) {
     for (piece, reads) in [(1, 59), (7, 10)] {
         for fail_at in 1..reads + 1 {
-            let told = transcript_of(rt.alloc(), ONE, piece, Some(fail_at), 1000)?;
-            let front = told.as_str().strip_suffix("read failed");
             assert!(rt;
-                front.is_some_and(|front| TOLD.starts_with(front)),
-                "read {fail_at}: {told}"
+                is_front(rt.alloc(), piece, fail_at) == Some(true),
+                "read {fail_at}"
             );
         }
-        let told = transcript_of(rt.alloc(), ONE, piece, Some(reads + 1), 1000)?;
-        assert_eq!(rt; told.as_str(), TOLD);
+        let as_wanted = is_told(rt.alloc(), ONE, piece, Some(reads + 1), 1000, TOLD);
+        assert!(rt; as_wanted == Some(true));
     }
-    Ok(())
 }
 
 /// Line feeds without end.
@@ -221,37 +258,63 @@ impl Source for Feeds {
     }
 }
 
-#[test]
-fn a_source_without_end(rt: HostRuntime) -> Result<(), Fail> {
-    let told = transcript(rt.alloc(), &mut Feeds, 10)?;
-    assert_eq!(rt; told.as_str(), "too long");
-    Ok(())
+/// Whether a source that never ends is too long.
+fn is_too_long(alloc: Global) -> Option<bool> {
+    let told = transcript(alloc, &mut Feeds, 10).ok()?;
+    Some(told.as_str() == "too long")
 }
 
 #[test]
-fn one_buffer_for_two(rt: HostRuntime) -> Result<(), Fail> {
-    let mut source = MemorySource::new(rt.alloc(), ONE, 3, None)?;
+fn a_source_without_end(rt: HostRuntime) {
+    assert!(rt; is_too_long(rt.alloc()) == Some(true));
+}
+
+/// How many messages and bytes are counted over a buffer that another cutter had.
+fn tally_of_second(alloc: Global) -> Option<(u64, u64)> {
+    let mut source = MemorySource::new(alloc, ONE, 3, None).ok()?;
     let mut kept = None;
-    let cutter = Cutter::new(rt.alloc(), &mut source, 1000)?;
+    let cutter = Cutter::new(alloc, &mut source, 1000).ok()?;
     let _source = cutter.into_source_keeping(&mut kept);
-    let buffer = kept.ok_or("no buffer")?;
-    let tally = tally_of(buffer, &mut source, 1000)?;
-    assert_eq!(rt; (tally.count, tally.bytes), (1, 19));
-    Ok(())
+    let tally = tally_of(kept?, &mut source, 1000).ok()?;
+    Some((tally.count, tally.bytes))
 }
 
 #[test]
-fn devices_in_memory_and_of_std(rt: HostRuntime) -> Result<(), Fail> {
-    let mut out = MemoryOut::new(rt.alloc(), Some(13));
-    assert!(rt; send(&mut out, ONE).is_err());
-    assert_eq!(rt; out.bytes(), &ONE[..13]);
-    let mut whole = MemoryOut::new(rt.alloc(), None);
-    send(&mut whole, ONE)?;
-    assert_eq!(rt; whole.bytes(), ONE);
-    let mut written = Vec::new(rt.alloc());
-    send(&mut ToWrite::new(&mut written), ONE)?;
-    assert_eq!(rt; written.as_slice(), ONE);
-    let told = transcript(rt.alloc(), &mut FromRead::new(ONE), 1000)?;
-    assert_eq!(rt; told.as_str(), TOLD);
-    Ok(())
+fn one_buffer_for_two(rt: HostRuntime) {
+    assert!(rt; tally_of_second(rt.alloc()) == Some((1, 19)));
+}
+
+/// Whether an output in memory takes just so much as it has room for.
+fn takes_front(alloc: Global) -> bool {
+    let mut out = MemoryOut::new(alloc, Some(13));
+    let is_refused = send(&mut out, ONE).is_err();
+    is_refused && out.bytes() == &ONE[..13]
+}
+
+/// Whether an output in memory without a bound takes all.
+fn takes_whole(alloc: Global) -> bool {
+    let mut whole = MemoryOut::new(alloc, None);
+    let is_sent = send(&mut whole, ONE).is_ok();
+    is_sent && whole.bytes() == ONE
+}
+
+/// Whether a writer of std takes all.
+fn writes_whole(alloc: Global) -> bool {
+    let mut written = Vec::new(alloc);
+    let is_sent = send(&mut ToWrite::new(&mut written), ONE).is_ok();
+    is_sent && written.as_slice() == ONE
+}
+
+/// Whether a reader of std gives all.
+fn reads_whole(alloc: Global) -> Option<bool> {
+    let told = transcript(alloc, &mut FromRead::new(ONE), 1000).ok()?;
+    Some(told.as_str() == TOLD)
+}
+
+#[test]
+fn devices_in_memory_and_of_std(rt: HostRuntime) {
+    assert!(rt; takes_front(rt.alloc()));
+    assert!(rt; takes_whole(rt.alloc()));
+    assert!(rt; writes_whole(rt.alloc()));
+    assert!(rt; reads_whole(rt.alloc()) == Some(true));
 }

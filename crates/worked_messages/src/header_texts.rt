@@ -1,9 +1,8 @@
 //! One happy path for each call that can want memory, and the characters of all bytes.
 use header_text::{
-    Base64, Charset, Header, Taken, decode, decode_words, message_ids, unescape_into, unfold,
+    Base64, Charset, Field, Header, Taken, decode, decode_words, message_ids, unescape_into, unfold,
 };
-use std::alloc::{AllocError, Global};
-use std::test::Fail;
+use std::alloc::Global;
 
 /// ISO 8859-1, ISO 8859-15 and Windows-1252 from 80 to FF, as `tools/charsets.py` prints them.
 const LATIN_1: &str =
@@ -15,93 +14,113 @@ const LATIN_9: &str =
 const WINDOWS_1252: &str =
     "\u{20AC}\u{FFFD}\u{201A}\u{192}\u{201E}\u{2026}\u{2020}\u{2021}\u{2C6}\u{2030}\u{160}\u{2039}\u{152}\u{FFFD}\u{17D}\u{FFFD}\u{FFFD}\u{2018}\u{2019}\u{201C}\u{201D}\u{2022}\u{2013}\u{2014}\u{2DC}\u{2122}\u{161}\u{203A}\u{153}\u{FFFD}\u{17E}\u{178}\u{A0}\u{A1}\u{A2}\u{A3}\u{A4}\u{A5}\u{A6}\u{A7}\u{A8}\u{A9}\u{AA}\u{AB}\u{AC}\u{AD}\u{AE}\u{AF}\u{B0}\u{B1}\u{B2}\u{B3}\u{B4}\u{B5}\u{B6}\u{B7}\u{B8}\u{B9}\u{BA}\u{BB}\u{BC}\u{BD}\u{BE}\u{BF}\u{C0}\u{C1}\u{C2}\u{C3}\u{C4}\u{C5}\u{C6}\u{C7}\u{C8}\u{C9}\u{CA}\u{CB}\u{CC}\u{CD}\u{CE}\u{CF}\u{D0}\u{D1}\u{D2}\u{D3}\u{D4}\u{D5}\u{D6}\u{D7}\u{D8}\u{D9}\u{DA}\u{DB}\u{DC}\u{DD}\u{DE}\u{DF}\u{E0}\u{E1}\u{E2}\u{E3}\u{E4}\u{E5}\u{E6}\u{E7}\u{E8}\u{E9}\u{EA}\u{EB}\u{EC}\u{ED}\u{EE}\u{EF}\u{F0}\u{F1}\u{F2}\u{F3}\u{F4}\u{F5}\u{F6}\u{F7}\u{F8}\u{F9}\u{FA}\u{FB}\u{FC}\u{FD}\u{FE}\u{FF}";
 
-/// The character of a byte.
-fn character(alloc: Global, charset: Charset, byte: u8) -> Result<Option<char>, AllocError> {
-    Ok(decode(alloc, charset, &[byte])?.as_str().chars().next())
+const UPPER: [(Charset, &str); 3] = [
+    (Charset::Latin1, LATIN_1),
+    (Charset::Latin9, LATIN_9),
+    (Charset::Windows1252, WINDOWS_1252),
+];
+
+/// The character of a byte. It is None where memory is wanting, and so are the answers below.
+fn character(alloc: Global, charset: Charset, byte: u8) -> Option<char> {
+    decode(alloc, charset, &[byte])
+        .ok()?
+        .as_str()
+        .chars()
+        .next()
 }
 
 #[test]
-fn all_bytes_of_single_byte_charsets(rt: HostRuntime) -> Result<(), Fail> {
-    let tables = [
-        (Charset::Latin1, LATIN_1),
-        (Charset::Latin9, LATIN_9),
-        (Charset::Windows1252, WINDOWS_1252),
-    ];
-    for (charset, upper) in tables {
+fn all_bytes_of_single_byte_charsets(rt: HostRuntime) {
+    for (charset, upper) in UPPER {
         for byte in 0..0x80 {
-            assert_eq!(rt;
-                character(rt.alloc(), charset, byte)?,
-                Some(char::from(byte))
+            let wanted = char::from(byte);
+            assert!(rt;
+                character(rt.alloc(), charset, byte) == Some(wanted),
+                "{byte}"
             );
         }
-        for (byte, expected) in (0x80..=0xFFu8).zip(upper.chars()) {
-            assert_eq!(rt;
-                character(rt.alloc(), charset, byte)?,
-                Some(expected),
+        for (byte, wanted) in (0x80..=0xFFu8).zip(upper.chars()) {
+            assert!(rt;
+                character(rt.alloc(), charset, byte) == Some(wanted),
                 "{byte}"
             );
         }
     }
-    Ok(())
 }
 
-#[test]
-fn a_header_of_two_lines(rt: HostRuntime) -> Result<(), Fail> {
-    let mut header = Header::new(rt.alloc());
-    assert_eq!(rt; header.push_line(b"A: b\n")?, Taken::More);
-    assert_eq!(rt; header.push_line(b" c\n")?, Taken::More);
-    assert_eq!(rt; header.push_line(b"\n")?, Taken::Ended);
+/// Whether a field is that of the lines below.
+fn is_of_two_lines(alloc: Global, field: Field<'_>) -> Option<bool> {
+    let value = unfold(alloc, field.body).ok()?;
+    let is_same = field.name == b"A".as_slice() && field.body == b" b\n c\n".as_slice();
+    Some(is_same && field.is(b"a") && value.as_slice() == b"b c".as_slice())
+}
+
+/// Whether a header of one field in two lines has just that.
+fn has_two_lines(alloc: Global) -> Option<bool> {
+    let mut header = Header::new(alloc);
+    let taken = [
+        header.push_line(b"A: b\n").ok()?,
+        header.push_line(b" c\n").ok()?,
+        header.push_line(b"\n").ok()?,
+    ];
+    let mut as_wanted = taken == [Taken::More, Taken::More, Taken::Ended];
     let mut count = 0u32;
     for field in header.fields() {
-        assert!(rt; field.is(b"a"));
-        assert_eq!(rt; field.name, b"A".as_slice());
-        assert_eq!(rt; field.body, b" b\n c\n".as_slice());
-        assert_eq!(rt;
-            unfold(rt.alloc(), field.body)?.as_slice(),
-            b"b c".as_slice()
-        );
+        as_wanted = is_of_two_lines(alloc, field)? && as_wanted;
         count = count.saturating_add(1);
     }
-    assert_eq!(rt; count, 1);
-    Ok(())
+    Some(as_wanted && count == 1)
 }
 
 #[test]
-fn texts_of_words_and_charsets(rt: HostRuntime) -> Result<(), Fail> {
+fn a_header_of_two_lines(rt: HostRuntime) {
+    assert!(rt; has_two_lines(rt.alloc()) == Some(true));
+}
+
+/// Whether encoded words in a value are decoded so.
+fn is_decoded(alloc: Global, value: &[u8], text: &str) -> Option<bool> {
+    Some(decode_words(alloc, value).ok()?.as_str() == text)
+}
+
+/// Whether bytes of a charset of this name are decoded so.
+fn is_decoded_by(alloc: Global, name: &[u8], bytes: &[u8], text: &str) -> Option<bool> {
+    Some(decode(alloc, Charset::of(name), bytes).ok()?.as_str() == text)
+}
+
+#[test]
+fn texts_of_words_and_charsets(rt: HostRuntime) {
     let alloc = rt.alloc();
-    assert_eq!(rt;
-        decode_words(alloc, b"a =?utf-8?B?w7w=?= b")?.as_str(),
-        "a \u{FC} b"
-    );
-    assert_eq!(rt; decode_words(alloc, b"=?utf-8*en?q?a_b?=")?.as_str(), "a b");
-    assert_eq!(rt;
-        decode(alloc, Charset::of(b"windows-1252"), b"\x80")?.as_str(),
-        "\u{20AC}"
-    );
-    assert_eq!(rt;
-        decode(alloc, Charset::of(b"utf-8"), b"\xC3")?.as_str(),
-        "\u{FFFD}"
-    );
-    Ok(())
+    assert!(rt; is_decoded(alloc, b"a =?utf-8?B?w7w=?= b", "a \u{FC} b") == Some(true));
+    assert!(rt; is_decoded(alloc, b"=?utf-8*en?q?a_b?=", "a b") == Some(true));
+    assert!(rt; is_decoded_by(alloc, b"windows-1252", b"\x80", "\u{20AC}") == Some(true));
+    assert!(rt; is_decoded_by(alloc, b"utf-8", b"\xC3", "\u{FFFD}") == Some(true));
+}
+
+/// Whether a value has two ids, of which one has a space in it.
+fn has_two_ids(alloc: Global) -> Option<bool> {
+    let ids = message_ids(alloc, b"<a@x> <b @y>").ok()?;
+    let is_first = ids.get(0)?.as_slice() == b"a@x".as_slice();
+    let is_second = ids.get(1)?.as_slice() == b"b@y".as_slice();
+    Some(is_first && is_second && ids.len() == 2)
 }
 
 #[test]
-fn ids_of_a_value(rt: HostRuntime) -> Result<(), Fail> {
-    let ids = message_ids(rt.alloc(), b"<a@x> <b @y>")?;
-    assert_eq!(rt; ids.len(), 2);
-    assert_eq!(rt; ids[0].as_slice(), b"a@x".as_slice());
-    assert_eq!(rt; ids[1].as_slice(), b"b@y".as_slice());
-    Ok(())
+fn ids_of_a_value(rt: HostRuntime) {
+    assert!(rt; has_two_ids(rt.alloc()) == Some(true));
 }
 
-#[test]
-fn base64_and_escapes_in_pieces(rt: HostRuntime) -> Result<(), Fail> {
-    let mut bytes = Vec::new(rt.alloc());
+/// Whether the bytes of base64 and of escapes come one behind the other.
+fn are_read_in_pieces(alloc: Global) -> Option<bool> {
+    let mut bytes = Vec::new(alloc);
     let mut reader = Base64::new();
-    reader.push(b"ZsO\n", &mut bytes)?;
-    reader.push(b"8cg==\n", &mut bytes)?;
-    reader.finish(&mut bytes)?;
-    unescape_into(b"=41=", &mut bytes)?;
-    assert_eq!(rt; bytes.as_slice(), b"f\xC3\xBCrA=".as_slice());
-    Ok(())
+    reader.push(b"ZsO\n", &mut bytes).ok()?;
+    reader.push(b"8cg==\n", &mut bytes).ok()?;
+    reader.finish(&mut bytes).ok()?;
+    unescape_into(b"=41=", &mut bytes).ok()?;
+    Some(bytes.as_slice() == b"f\xC3\xBCrA=".as_slice())
+}
+
+#[test]
+fn base64_and_escapes_in_pieces(rt: HostRuntime) {
+    assert!(rt; are_read_in_pieces(rt.alloc()) == Some(true));
 }

@@ -1,9 +1,7 @@
 //! The texts of a message, and what its header says beside them, read by themselves.
 use mail_words::{Flags, TextKind};
-use mime_text::{MessageText, SinkFault, TextFault, TextSink};
+use mime_text::{Facts, MessageText, SinkFault, TextFault, TextSink};
 use std::alloc::Global;
-use std::process::Abort;
-use std::test::Fail;
 
 /// A sink that keeps the texts that it takes, each with its kind, and refuses one for which it has no room.
 #[derive(Drop)]
@@ -38,35 +36,6 @@ impl TextSink for Kept {
     }
 }
 
-/// The closing empty line of a message in an archive isn't a line of its text, so none is fed.
-#[test]
-fn a_soft_break_joins_two_lines(rt: HostRuntime) -> Result<(), Fail> {
-    let mut sink = Kept::new(rt.alloc(), 9);
-    let mut message = MessageText::new(rt.alloc())?;
-    message.line(b"Content-Transfer-Encoding: quoted-printable\n", &mut sink)?;
-    message.line(b"\n", &mut sink)?;
-    message.line(b"lunch=\n", &mut sink)?;
-    message.line(b"break\n", &mut sink)?;
-    let facts = message.end(&mut sink)?;
-    assert_eq!(rt; sink.texts.len(), 1);
-    for (kind, text) in &sink.texts {
-        assert_eq!(rt; *kind, TextKind::Body);
-        assert_eq!(rt; text.as_str(), "lunchbreak\n");
-    }
-    assert!(rt; facts.date_text.is_none());
-    assert_eq!(rt;
-        facts.flags,
-        Flags {
-            seen: false,
-            replied: false,
-            flagged: false
-        }
-    );
-    assert!(rt; facts.own_id.is_none());
-    assert!(rt; facts.ids.as_slice().is_empty());
-    Ok(())
-}
-
 /// Whether a sink has taken these texts, and no others.
 fn has_taken(sink: &Kept, wanted: &[(TextKind, &str)]) -> bool {
     sink.texts.len() == wanted.len()
@@ -80,11 +49,58 @@ fn goes_on(answer: Result<(), TextFault>, before: bool) -> bool {
     answer.is_ok() && before
 }
 
-/// An attachment is no text, but it has a name.
+/// Whether a message says nothing of itself.
+fn says_nothing(facts: &Facts) -> bool {
+    let Flags {
+        seen,
+        replied,
+        flagged,
+    } = facts.flags;
+    let is_marked = seen || replied || flagged;
+    !is_marked
+        && facts.date_text.is_none()
+        && facts.own_id.is_none()
+        && facts.ids.as_slice().is_empty()
+}
+
+/// Whether a soft break joins two lines of a message that says nothing of itself.
+fn joins_two_lines(alloc: Global) -> Option<bool> {
+    let mut sink = Kept::new(alloc, 9);
+    let mut message = MessageText::new(alloc).ok()?;
+    let mut fed = true;
+    fed = goes_on(
+        message.line(b"Content-Transfer-Encoding: quoted-printable\n", &mut sink),
+        fed,
+    );
+    fed = goes_on(message.line(b"\n", &mut sink), fed);
+    fed = goes_on(message.line(b"lunch=\n", &mut sink), fed);
+    fed = goes_on(message.line(b"break\n", &mut sink), fed);
+    let facts = message.end(&mut sink).ok()?;
+    let is_joined = has_taken(&sink, &[(TextKind::Body, "lunchbreak\n")]);
+    Some(fed && is_joined && says_nothing(&facts))
+}
+
+/// The closing empty line of a message in an archive isn't a line of its text, so none is fed.
 #[test]
-fn an_attachment_has_the_name_of_its_file(rt: HostRuntime) -> Result<(), Fail> {
-    let mut sink = Kept::new(rt.alloc(), 9);
-    let mut message = MessageText::new(rt.alloc())?;
+fn a_soft_break_joins_two_lines(rt: HostRuntime) {
+    assert!(rt; joins_two_lines(rt.alloc()) == Some(true));
+}
+
+/// Whether a message ends where its lines were taken, and a sink has taken just these texts of it.
+fn ends_with(
+    fed: bool,
+    message: MessageText,
+    mut sink: Kept,
+    wanted: &[(TextKind, &str)],
+) -> Option<bool> {
+    message.end(&mut sink).ok()?;
+    Some(fed && has_taken(&sink, wanted))
+}
+
+/// Whether an attachment is told by its name alone.
+fn names_attachment(alloc: Global) -> Option<bool> {
+    let mut sink = Kept::new(alloc, 9);
+    let mut message = MessageText::new(alloc).ok()?;
     let mut fed = true;
     fed = goes_on(
         message.line(b"Content-Type: multipart/mixed; boundary=o\n", &mut sink),
@@ -106,17 +122,19 @@ fn an_attachment_has_the_name_of_its_file(rt: HostRuntime) -> Result<(), Fail> {
     fed = goes_on(message.line(b"\n", &mut sink), fed);
     fed = goes_on(message.line(b"%PDF\n", &mut sink), fed);
     fed = goes_on(message.line(b"--o--\n", &mut sink), fed);
-    message.end(&mut sink)?;
-    assert!(rt; fed);
-    assert!(rt; has_taken(&sink, &[(TextKind::Name, "Annual Report.pdf")]));
-    Ok(())
+    ends_with(fed, message, sink, &[(TextKind::Name, "Annual Report.pdf")])
 }
 
-/// The name of a message itself, which ends in its header: encoded words in it are decoded.
+/// An attachment is no text, but it has a name.
 #[test]
-fn a_name_in_encoded_words(rt: HostRuntime) -> Result<(), Fail> {
-    let mut sink = Kept::new(rt.alloc(), 9);
-    let mut message = MessageText::new(rt.alloc())?;
+fn an_attachment_has_the_name_of_its_file(rt: HostRuntime) {
+    assert!(rt; names_attachment(rt.alloc()) == Some(true));
+}
+
+/// Whether encoded words in a name are decoded, where the message ends.
+fn decodes_name(alloc: Global) -> Option<bool> {
+    let mut sink = Kept::new(alloc, 9);
+    let mut message = MessageText::new(alloc).ok()?;
     let mut fed = true;
     fed = goes_on(message.line(b"Subject: lunch\n", &mut sink), fed);
     fed = goes_on(
@@ -130,26 +148,30 @@ fn a_name_in_encoded_words(rt: HostRuntime) -> Result<(), Fail> {
         ),
         fed,
     );
-    assert!(rt; sink.texts.is_empty());
-    message.end(&mut sink)?;
-    assert!(rt; fed);
-    assert!(rt;
-        has_taken(
-            &sink,
-            &[
-                (TextKind::Subject, "lunch"),
-                (TextKind::Name, "Caf\u{e9}\u{fc}.pdf")
-            ]
-        )
-    );
-    Ok(())
+    fed = sink.texts.is_empty() && fed;
+    ends_with(
+        fed,
+        message,
+        sink,
+        &[
+            (TextKind::Subject, "lunch"),
+            (TextKind::Name, "Caf\u{e9}\u{fc}.pdf"),
+        ],
+    )
 }
 
-/// A file name that is empty leaves the name to the type, and one that decodes to nothing doesn't.
+/// The name of a message itself, which ends in its header: encoded words in it are decoded.
 #[test]
-fn empty_file_names(rt: HostRuntime) -> Result<(), Fail> {
-    let mut sink = Kept::new(rt.alloc(), 9);
-    let mut message = MessageText::new(rt.alloc())?;
+fn a_name_in_encoded_words(rt: HostRuntime) {
+    assert!(rt; decodes_name(rt.alloc()) == Some(true));
+}
+
+const NAMES_OF_EMPTY: [(TextKind, &str); 2] = [(TextKind::Name, "a.pdf"), (TextKind::Name, "")];
+
+/// Whether two parts are told by their names, of which one decodes to nothing.
+fn names_empty_files(alloc: Global) -> Option<bool> {
+    let mut sink = Kept::new(alloc, 9);
+    let mut message = MessageText::new(alloc).ok()?;
     let mut fed = true;
     fed = goes_on(
         message.line(b"Content-Type: multipart/mixed; boundary=o\n", &mut sink),
@@ -183,17 +205,29 @@ fn empty_file_names(rt: HostRuntime) -> Result<(), Fail> {
     );
     fed = goes_on(message.line(b"\n", &mut sink), fed);
     fed = goes_on(message.line(b"--o--\n", &mut sink), fed);
-    message.end(&mut sink)?;
-    assert!(rt; fed);
-    assert!(rt; has_taken(&sink, &[(TextKind::Name, "a.pdf"), (TextKind::Name, "")]));
-    Ok(())
+    ends_with(fed, message, sink, &NAMES_OF_EMPTY)
 }
 
-/// Parts of each type have names, also one whose type isn't said: a name comes before what its part has in it.
+/// A file name that is empty leaves the name to the type, and one that decodes to nothing doesn't.
 #[test]
-fn names_of_parts_of_each_type(rt: HostRuntime) -> Result<(), Fail> {
-    let mut sink = Kept::new(rt.alloc(), 9);
-    let mut message = MessageText::new(rt.alloc())?;
+fn empty_file_names(rt: HostRuntime) {
+    assert!(rt; names_empty_files(rt.alloc()) == Some(true));
+}
+
+const NAMED_PARTS: [(TextKind, &str); 7] = [
+    (TextKind::Name, "all"),
+    (TextKind::Name, "lone.txt"),
+    (TextKind::Body, "lunch\n"),
+    (TextKind::Name, "note.eml"),
+    (TextKind::Subject, "soup"),
+    (TextKind::Name, "in.txt"),
+    (TextKind::Body, "break\n"),
+];
+
+/// Whether each part is told by its name, and then by what it has in it.
+fn names_each_part(alloc: Global) -> Option<bool> {
+    let mut sink = Kept::new(alloc, 9);
+    let mut message = MessageText::new(alloc).ok()?;
     let mut fed = true;
     fed = goes_on(
         message.line(
@@ -224,30 +258,19 @@ fn names_of_parts_of_each_type(rt: HostRuntime) -> Result<(), Fail> {
     fed = goes_on(message.line(b"\n", &mut sink), fed);
     fed = goes_on(message.line(b"break\n", &mut sink), fed);
     fed = goes_on(message.line(b"--o--\n", &mut sink), fed);
-    message.end(&mut sink)?;
-    assert!(rt; fed);
-    assert!(rt;
-        has_taken(
-            &sink,
-            &[
-                (TextKind::Name, "all"),
-                (TextKind::Name, "lone.txt"),
-                (TextKind::Body, "lunch\n"),
-                (TextKind::Name, "note.eml"),
-                (TextKind::Subject, "soup"),
-                (TextKind::Name, "in.txt"),
-                (TextKind::Body, "break\n"),
-            ]
-        )
-    );
-    Ok(())
+    ends_with(fed, message, sink, &NAMED_PARTS)
 }
 
-/// A part at the depth of 16 has its name, and what is in it has none.
+/// Parts of each type have names, also one whose type isn't said: a name comes before what its part has in it.
 #[test]
-fn names_sixteen_deep(rt: HostRuntime) -> Result<(), Fail> {
-    let mut sink = Kept::new(rt.alloc(), 9);
-    let mut message = MessageText::new(rt.alloc())?;
+fn names_of_parts_of_each_type(rt: HostRuntime) {
+    assert!(rt; names_each_part(rt.alloc()) == Some(true));
+}
+
+/// Whether the part at the depth of 16 is told by its name alone.
+fn names_deepest(alloc: Global) -> Option<bool> {
+    let mut sink = Kept::new(alloc, 9);
+    let mut message = MessageText::new(alloc).ok()?;
     let mut fed = true;
     for _ in 0..16 {
         fed = goes_on(
@@ -267,108 +290,114 @@ fn names_sixteen_deep(rt: HostRuntime) -> Result<(), Fail> {
     );
     fed = goes_on(message.line(b"\n", &mut sink), fed);
     fed = goes_on(message.line(b"lunch\n", &mut sink), fed);
-    message.end(&mut sink)?;
-    assert!(rt; fed);
-    assert!(rt; has_taken(&sink, &[(TextKind::Name, "a.eml")]));
-    Ok(())
+    ends_with(fed, message, sink, &[(TextKind::Name, "a.eml")])
+}
+
+/// A part at the depth of 16 has its name, and what is in it has none.
+#[test]
+fn names_sixteen_deep(rt: HostRuntime) {
+    assert!(rt; names_deepest(rt.alloc()) == Some(true));
+}
+
+/// Whether a line that a sink refuses is told so once, and each call behind it has failed.
+fn fails_at_line(alloc: Global) -> Option<bool> {
+    let mut sink = Kept::new(alloc, 0);
+    let mut message = MessageText::new(alloc).ok()?;
+    let is_fed = message.line(b"\n", &mut sink) == Ok(());
+    let refused = message.line(b"lunch\n", &mut sink);
+    sink.room = 9;
+    let failed = message.line(b"break\n", &mut sink);
+    let is_refused = refused == Err(TextFault::Sink(SinkFault::Refused));
+    let ended = message.end(&mut sink).err();
+    let has_failed = failed == Err(TextFault::Failed) && ended == Some(TextFault::Failed);
+    Some(is_fed && is_refused && has_failed && sink.texts.is_empty())
 }
 
 /// A fault comes once, and then each call has failed, which gives the sink nothing.
 #[test]
-fn a_refused_line_fails(rt: HostRuntime) -> Result<(), Fail> {
-    let mut sink = Kept::new(rt.alloc(), 0);
-    let mut message = MessageText::new(rt.alloc())?;
-    message.line(b"\n", &mut sink)?;
-    assert_eq!(rt;
-        message.line(b"lunch\n", &mut sink),
-        Err(TextFault::Sink(SinkFault::Refused))
-    );
-    sink.room = 9;
-    assert_eq!(rt; message.line(b"break\n", &mut sink), Err(TextFault::Failed));
-    assert!(rt; matches!(message.end(&mut sink), Err(TextFault::Failed)));
-    assert!(rt; sink.texts.is_empty());
-    Ok(())
+fn a_refused_line_fails(rt: HostRuntime) {
+    assert!(rt; fails_at_line(rt.alloc()) == Some(true));
+}
+
+/// Whether a sink that has room for the subject alone refuses the body where the message ends.
+fn fails_at_end(alloc: Global) -> Option<bool> {
+    let mut sink = Kept::new(alloc, 1);
+    let mut message = MessageText::new(alloc).ok()?;
+    let mut fed = true;
+    fed = goes_on(message.line(b"Subject: lunch\n", &mut sink), fed);
+    fed = goes_on(message.line(b"\n", &mut sink), fed);
+    fed = goes_on(message.line(b"break", &mut sink), fed);
+    let is_refused = message.end(&mut sink).err() == Some(TextFault::Sink(SinkFault::Refused));
+    Some(fed && is_refused && has_taken(&sink, &[(TextKind::Subject, "lunch")]))
 }
 
 /// A text that has no line feed yet is refused where the message ends.
 #[test]
-fn a_refused_end_fails(rt: HostRuntime) -> Result<(), Fail> {
-    let mut sink = Kept::new(rt.alloc(), 1);
-    let mut message = MessageText::new(rt.alloc())?;
-    message.line(b"Subject: lunch\n", &mut sink)?;
-    message.line(b"\n", &mut sink)?;
-    message.line(b"break", &mut sink)?;
-    assert!(rt;
-        matches!(
-            message.end(&mut sink),
-            Err(TextFault::Sink(SinkFault::Refused))
-        )
-    );
-    assert_eq!(rt; sink.texts.len(), 1);
-    for (kind, text) in &sink.texts {
-        assert_eq!(rt; *kind, TextKind::Subject);
-        assert_eq!(rt; text.as_str(), "lunch");
-    }
-    Ok(())
+fn a_refused_end_fails(rt: HostRuntime) {
+    assert!(rt; fails_at_end(rt.alloc()) == Some(true));
 }
 
-/// Whether a call failed: for want of memory, where none has before it, and else as each does behind such a one.
-fn has_failed(rt: &impl Abort, answer: Result<(), TextFault>, failed: bool) -> bool {
-    let Err(fault) = answer else {
-        assert!(rt; !failed);
-        return false;
-    };
-    if failed {
-        assert_eq!(rt; fault, TextFault::Failed);
-    } else {
-        assert!(rt;
-            fault == TextFault::OutOfMemory || fault == TextFault::Sink(SinkFault::OutOfMemory)
-        );
+/// What the calls of a message have answered.
+#[derive(Clone, Copy, PartialEq, Eq)]
+enum Answered {
+    /// Each in full.
+    InFull,
+    /// One its want of memory, and those behind it that the message has failed.
+    Wanting,
+    /// Anything else.
+    Otherwise,
+}
+
+/// What calls have answered, with one more.
+fn with_answer(before: Answered, answer: Result<(), TextFault>) -> Answered {
+    match (before, answer) {
+        (Answered::InFull, Ok(())) => Answered::InFull,
+        (Answered::InFull, Err(TextFault::OutOfMemory)) => Answered::Wanting,
+        (Answered::InFull, Err(TextFault::Sink(SinkFault::OutOfMemory))) => Answered::Wanting,
+        (Answered::Wanting, Err(TextFault::Failed)) => Answered::Wanting,
+        _ => Answered::Otherwise,
     }
-    true
+}
+
+/// Whether the own id of a message is this, and its only id.
+fn has_only_id(facts: &Facts, wanted: &[u8]) -> bool {
+    match &facts.own_id {
+        Some(id) => id.as_bytes() == wanted && facts.ids.as_slice().len() == 1,
+        None => false,
+    }
+}
+
+/// Whether a message is read in full, or tells that memory is wanting. It is None where a fixture has no memory.
+fn is_read_or_wanting(alloc: Global) -> Option<bool> {
+    let mut sink = Kept::new(alloc, 9);
+    let mut message = MessageText::new(alloc).ok()?;
+    let mut told = Answered::InFull;
+    told = with_answer(told, message.line(b"Message-ID: <a@x>\n", &mut sink));
+    told = with_answer(told, message.line(b"Subject: lunch\n", &mut sink));
+    told = with_answer(
+        told,
+        message.line(
+            b"Content-Disposition: inline; filename=\"=?utf-8?Q?menu?=\"\n",
+            &mut sink,
+        ),
+    );
+    told = with_answer(told, message.line(b"\n", &mut sink));
+    told = with_answer(told, message.line(b"break", &mut sink));
+    let wanted = [
+        (TextKind::Subject, "lunch"),
+        (TextKind::Name, "menu"),
+        (TextKind::Body, "break"),
+    ];
+    Some(match message.end(&mut sink) {
+        Ok(facts) => {
+            told == Answered::InFull && has_taken(&sink, &wanted) && has_only_id(&facts, b"a@x")
+        }
+        Err(fault) => with_answer(told, Err(fault)) == Answered::Wanting,
+    })
 }
 
 /// The gate refuses each allocation of this test in turn.
 #[test]
 fn sweep_message_text(rt: HostRuntime) {
-    let mut sink = Kept::new(rt.alloc(), 9);
-    let Ok(mut message) = MessageText::new(rt.alloc()) else {
-        return;
-    };
-    let mut failed = false;
-    failed = has_failed(&rt, message.line(b"Message-ID: <a@x>\n", &mut sink), failed);
-    failed = has_failed(&rt, message.line(b"Subject: lunch\n", &mut sink), failed);
-    failed = has_failed(
-        &rt,
-        message.line(
-            b"Content-Disposition: inline; filename=\"=?utf-8?Q?menu?=\"\n",
-            &mut sink,
-        ),
-        failed,
-    );
-    failed = has_failed(&rt, message.line(b"\n", &mut sink), failed);
-    failed = has_failed(&rt, message.line(b"break", &mut sink), failed);
-    let facts = match message.end(&mut sink) {
-        Ok(facts) => facts,
-        Err(fault) => {
-            let _ = has_failed(&rt, Err(fault), failed);
-            return;
-        }
-    };
-    assert!(rt; !failed);
-    assert!(rt;
-        has_taken(
-            &sink,
-            &[
-                (TextKind::Subject, "lunch"),
-                (TextKind::Name, "menu"),
-                (TextKind::Body, "break")
-            ]
-        )
-    );
-    assert_eq!(rt;
-        facts.own_id.map(|id| id.as_bytes() == b"a@x".as_slice()),
-        Some(true)
-    );
-    assert_eq!(rt; facts.ids.as_slice().len(), 1);
+    assert!(rt; is_read_or_wanting(rt.alloc()) != Some(false));
 }
