@@ -51,14 +51,37 @@ fn is_key(met: Option<Key<'_>>, key: &DecodedKey) -> bool {
     }
 }
 
-/// Whether the keys of a kind are the decoded ones with its number, met in their order and looked up.
+/// Whether those keys of a kind that begin with a text are the decoded ones with its number that do, met in their order.
+fn has_beginning(
+    view: &IndexView<'_>,
+    number: u8,
+    kind: Kind,
+    decoded: &[DecodedKey],
+    text: &[u8],
+) -> bool {
+    let mut keys = view.keys_beginning(kind, text);
+    let mut same = true;
+    for key in decoded {
+        if key.kind == number && key.text.starts_with(text) {
+            same = is_key(keys.next(), key) && same;
+        }
+    }
+    same && keys.next().is_none()
+}
+
+/// Whether the keys of a kind are the decoded ones with its number, met in their order, looked up, and among those that begin
+/// with the same byte.
 fn has_keys(view: &IndexView<'_>, number: u8, kind: Kind, decoded: &[DecodedKey]) -> bool {
     let mut keys = view.keys(kind);
     let mut same = true;
     for key in decoded {
         if key.kind == number {
             let looked_up = view.look_up(kind, &key.text, &mut Steps::new());
-            same = is_key(keys.next(), key) && have_numbers(looked_up, &key.numbers) && same;
+            let front = key.text.split_at(key.text.len().min(1)).0;
+            same = is_key(keys.next(), key)
+                && have_numbers(looked_up, &key.numbers)
+                && has_beginning(view, number, kind, decoded, front)
+                && same;
         }
     }
     same && keys.next().is_none()
