@@ -15,7 +15,7 @@ use Rattle.mbox_cutter.proofs.Sources.{Stays-self, Stays-join}
 use Rattle.index_job.specs.declared.archive_reading.Heading.TheVariants as heading
 use Rattle.index_job.specs.declared.job_fault.JobFault.{JobFault}
 use Rattle.index_job.specs.declared.job_fault.JobFault.TheVariants as job
-use Rattle.index_job.specs.ArchiveRefusals.{most_in_archive}
+use Rattle.mail_index.specs.Limits.{most_in_archive}
 use Rattle.index_job.specs.Inside.ArchiveReading.{AwaitsEnd, IsHeading, ReadsSource, ReadsToEnd}
 use Rattle.index_job.specs.Indexing.{IsBuilderReady}
 use Rattle.index_job.specs.JobFaults.{is_source_failure, of_build}

@@ -15,7 +15,8 @@ use Rattle.index_job.specs.declared.archive_reading.ReadArchive.{ReadArchive}
 use Rattle.index_job.specs.declared.job_fault.JobFault.{JobFault}
 use Rattle.index_job.specs.declared.job_fault.JobFault.TheVariants as job
 use Rattle.index_job.specs.Inside.ArchiveReading.{coming_ahead, AddsNamed}
-use Rattle.index_job.specs.ArchiveRefusals.{most_in_archive, most_in_index, IsTooMuch}
+use Rattle.mail_index.specs.Limits.{most_in_archive, most_in_index}
+use Rattle.index_job.specs.ArchiveRefusals.{IsTooMuch}
 use Rattle.index_job.specs.ArchiveTables.{Mbox, messages_in, all_messages, record_of, records_from, with_messages, entry_of, table}
 use Rattle.index_job.specs.IndexJobs.{IsAdded, IsAddFault}
 use Rattle.index_job.specs.Indexing.{draft_of, draft_with_messages, draft_ended, with_open_archive, HasTooMany, IsBuilderIdle, IsIdle}

@@ -1,17 +1,10 @@
 -- Which archives are refused, and why.
 use Rattle.std.specs.Prelude.{◌≡◌, ◌⊎◌, ℕ, ◌<◌, ◌≤◌, List, [], ◌∷◌, ◌++◌, length, All, None, Some}
+use Rattle.mail_index.specs.Limits.{most_in_archive, most_in_index}
 use Rattle.mail_index.specs.Tables.{Table}
 use Rattle.mbox_cutter.specs.declared.event.CutFault.{CutFault}
 use Rattle.mbox_cutter.specs.Events.{refusal_of}
 use Rattle.index_job.specs.ArchiveTables.{Mbox, table}
-
--- the most bytes of an archive
-abbrev pub most_in_archive : ℕ
-most_in_archive = 1099511627776
-
--- the most archives, messages and keys
-abbrev pub most_in_index : ℕ
-most_in_index = 2147483647
 
 abbrev pub IsTooMuch : Table → Type 0
 IsTooMuch t = (most_in_index < length t.archives) ⊎ (most_in_index < length t.messages) ⊎ (most_in_index < length t.keys)

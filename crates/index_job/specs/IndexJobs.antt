@@ -6,7 +6,8 @@ use Rattle.mbox_cutter.specs.Events.{refusal_of}
 use Rattle.index_job.specs.declared.job_fault.JobFault.{JobFault}
 use Rattle.index_job.specs.declared.job_fault.JobFault.TheVariants as job
 use Rattle.index_job.specs.ArchiveTables.{Mbox, messages_in, table}
-use Rattle.index_job.specs.ArchiveRefusals.{most_in_archive, most_in_index, IsTooMuch, IsWithinLimit}
+use Rattle.mail_index.specs.Limits.{most_in_archive, most_in_index}
+use Rattle.index_job.specs.ArchiveRefusals.{IsTooMuch, IsWithinLimit}
 use Rattle.index_job.specs.Indexing.{draft_of, IsIdle}
 
 -- what its builder has, if nothing has failed

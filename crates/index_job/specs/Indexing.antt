@@ -10,7 +10,7 @@ use Rattle.mbox_cutter.specs.declared.event.CutFault.TheVariants.{Device, NotAnM
 use Rattle.index_job.specs.declared.job_fault.JobFault.{JobFault}
 use Rattle.index_job.specs.declared.job_fault.JobFault.TheVariants as job
 use Rattle.index_job.specs.ArchiveTables.{Mbox, record_of, with_terms, with_messages, table}
-use Rattle.index_job.specs.ArchiveRefusals.{most_in_index}
+use Rattle.mail_index.specs.Limits.{most_in_index}
 use Rattle.index_job.specs.MessageTerms.{Term}
 
 -- that of archives which have ended

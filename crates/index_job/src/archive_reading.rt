@@ -9,7 +9,7 @@ ghost use Rattle.mbox_cutter.specs.Sources.{Stays};
 ghost use Rattle.mbox_cutter.specs.declared.event.CutFault.{CutFault};
 ghost use Rattle.mbox_cutter.specs.Events.{refusal_of};
 ghost use Rattle.mbox_cutter.specs.declared.scan.Phase.TheVariants as Phase;
-ghost use Rattle.index_job.specs.ArchiveRefusals.{most_in_archive};
+ghost use Rattle.mail_index.specs.Limits.{most_in_archive};
 ghost use Rattle.index_job.specs.Inside.ArchiveReading.{Awaited, AwaitsEnd, AddsMessages, AddsNamed, coming_inside, coming_ahead, IsHeading, Heads, ReadsToEnd, AddsMessage, IsInside, GoesFurther, HasEnded, IsReading, HasReadAll, IsMessageFault, ReadsSource};
 ghost use Rattle.index_job.specs.Inside.Gathering.{HasGathered};
 ghost use Rattle.index_job.specs.Indexing.{IsArchiveFault, IsBuilderIdle, IsJobFault, IsBuilderReady};

@@ -4,7 +4,7 @@ ghost use Rattle.header_text.specs.Headers.{fields_of};
 ghost use Rattle.mail_index.specs.Builders.{Draft};
 ghost use Rattle.mime_text.specs.MessageFacts.{HasSizedIds, facts_of};
 ghost use Rattle.mime_text.specs.Texts.{texts_of_message};
-ghost use Rattle.index_job.specs.ArchiveRefusals.{most_in_archive};
+ghost use Rattle.mail_index.specs.Limits.{most_in_archive};
 ghost use Rattle.index_job.specs.ArchiveTables.{date_told};
 ghost use Rattle.index_job.specs.Inside.Gathering.{HasGathered, IsGathering, IsGatherFault, with_texts};
 ghost use Rattle.index_job.specs.Indexing.{draft_with_terms, IsBuilderOpen};

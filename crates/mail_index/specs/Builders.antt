@@ -1,5 +1,5 @@
 -- The table that an index builder has so far, and what its calls make of it.
-use Rattle.std.specs.Prelude.{◌≡◌, ℕ, ◌+◌, ◌^◌, ◌<◌, ◌≤◌, Bool, true, false, nat_eq, nat_lt, nat_le, if◌then◌else◌, List, [], ◌∷◌, ◌++◌, length, Option, Some, None, IsSome, unwrap_or, Result, Ok, Err}
+use Rattle.std.specs.Prelude.{◌≡◌, ℕ, ◌+◌, ◌<◌, ◌≤◌, Bool, true, false, nat_eq, nat_lt, nat_le, if◌then◌else◌, List, [], ◌∷◌, ◌++◌, length, Option, Some, None, IsSome, unwrap_or, Result, Ok, Err}
 use Rattle.std.specs.Ordering.{match_ordering, nat_cmp}
 use Rattle.std.specs.Cmp.Lexicographic.{slice_cmp}
 use Rattle.contract_words.specs.Answers.{◌>>=◌}
@@ -11,6 +11,7 @@ use Rattle.mail_index.specs.Kinds.{kind_number}
 use Rattle.mail_index.specs.Versions.{newest}
 use Rattle.mail_index.specs.Tables.{Key, Table}
 use Rattle.mail_index.specs.PostingLists.{with_number}
+use Rattle.mail_index.specs.Limits.{most_in_archive}
 
 -- the keys, in the order of kind and text, with n among the numbers of this one
 abbrev pub with_pair : Kind → List ℕ → ℕ → List Key → List Key
@@ -80,7 +81,7 @@ end_of archive (r ∷ s ∷ rs) = end_of archive (s ∷ rs)
 pub record IsNextMessage (d : Draft) (r : Record) : Type 0 where
   pub archive : r.archive ≡ archive_count d
   pub behind : end_of (archive_count d) d.table.messages ≤ r.offset
-  pub within : r.offset + r.length ≤ 2 ^ 40
+  pub within : r.offset + r.length ≤ most_in_archive
   pub size : r.size < r.length
 
 abbrev pub IsBetweenArchives : Draft → Type 0

@@ -1,5 +1,5 @@
 -- Which bytes are an index file, and what is the first thing wrong with others.
-use Rattle.std.specs.Prelude.{◌≡◌, ◌≢◌, ℕ, ◌+◌, ◌-◌, ◌*◌, ◌<◌, ◌≤◌, ◌^◌, List, length, take, drop, map, flat_map, slice_range}
+use Rattle.std.specs.Prelude.{◌≡◌, ◌≢◌, ℕ, ◌+◌, ◌-◌, ◌*◌, ◌<◌, ◌≤◌, List, length, take, drop, map, flat_map, slice_range}
 use Rattle.std.specs.List.{AllByRecursion}
 use Rattle.sha2.specs.Sha256.{sha256}
 use Rattle.mail_index.specs.declared.view.fault.IndexFault.{IndexFault}
@@ -11,13 +11,14 @@ use Rattle.mail_index.specs.Versions.{IsVersion, last_kind}
 use Rattle.mail_index.specs.Fields.{u32_at, u64_at}
 use Rattle.mail_index.specs.Tables.{Archive, Key, Table, IsWellFormed, IsArchive, IsMessage, IsKey, Follows, AllNext, IsBefore}
 use Rattle.mail_index.specs.Files.{magic, archive_bytes, record_bytes, Entry, entry_of, directory_from, texts_of, postings_of, index_file}
+use Rattle.mail_index.specs.Limits.{four_byte_limit}
 
 -- the keys of two entries
 abbrev pub EntryBefore : Entry → Entry → Type 0
 EntryBefore a b = IsBefore a.kind a.text b.kind b.text
 
 abbrev pub IsEntry : ℕ → Entry → Type 0
-IsEntry version e = (kind_number e.kind ≤ last_kind version) × (0 < length e.text) × (length e.text < 2 ^ 32) × (0 < length e.postings)
+IsEntry version e = (kind_number e.kind ≤ last_kind version) × (0 < length e.text) × (length e.text < four_byte_limit) × (0 < length e.postings)
 
 module _ (bytes : List ℕ) where
   abbrev pub version_told : ℕ

@@ -1,5 +1,5 @@
 -- The keys of a file, read in place.
-use Rattle.std.specs.Prelude.{◌≡◌, ℕ, ◌*◌, ◌^◌, ◌≤◌, List, [], length, map}
+use Rattle.std.specs.Prelude.{◌≡◌, ℕ, ◌*◌, ◌≤◌, List, [], length, map}
 use Rattle.std.specs.List.{slice_index_or}
 use Rattle.mail_index.specs.declared.kind.Kind.TheVariants.{OwnId}
 use Rattle.mail_index.specs.Tables.{Key}
@@ -7,6 +7,7 @@ use Rattle.mail_index.specs.Files.{Entry}
 use Rattle.mail_index.specs.PostingReads.{numbers_read}
 use Rattle.mail_index.specs.Directory.{read_entries, AreEntries}
 use Rattle.mail_index.specs.Lists.{AreLists}
+use Rattle.mail_index.specs.Limits.{four_byte_limit}
 
 -- a key with its postings read
 abbrev pub key_of : Entry → Key
@@ -22,7 +23,7 @@ pub record IsDirectory (texts postings : List ℕ) (count : ℕ) (entries : List
   pub version : ℕ
   pub sorted : AreEntries version texts (length postings) 0 0 0 [] count entries
   pub messages : ℕ
-  pub few : messages ≤ 2 ^ 32
+  pub few : messages ≤ four_byte_limit
   pub lists : AreLists messages postings count entries
 
 -- of a place where there is none, any key

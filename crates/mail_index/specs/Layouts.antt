@@ -11,13 +11,14 @@ use Rattle.mail_index.specs.Records.{SpellsArchives, AreRecords, read_archives, 
 use Rattle.mail_index.specs.Directory.{AreEntries}
 use Rattle.mail_index.specs.Lists.{AreLists}
 use Rattle.mail_index.specs.KeysRead.{keys_read}
+use Rattle.mail_index.specs.Limits.{four_byte_limit}
 
 pub record IsLayout (bytes : List ℕ) (l : Layout) : Type 0 where
   pub adds_up : digest_start bytes + 32 ≡ length bytes
   pub few : length bytes < 2 ^ 64
   pub version : version_number l.version ≡ version_told bytes
   pub archive_count : l.archive_count ≡ u32_at bytes 12
-  pub few_messages : l.message_count < 2 ^ 32
+  pub few_messages : l.message_count < four_byte_limit
   pub message_count : l.message_count ≡ u32_at bytes 16
   pub key_count : l.key_count ≡ u32_at bytes 20
   pub archives : l.archives.now ≡ slice_range bytes 48 (records_start bytes)
@@ -44,6 +45,6 @@ pub record IsChecked (l : Layout) : Type 0 where
   pub records : AreRecords (version_number l.version) l.archive_count 0 0 l.archives.now l.message_count l.records.now
   pub directory_bytes : length l.directory.now ≡ 24 * l.key_count
   pub entries : AreEntries (version_number l.version) l.texts.now (length l.postings.now) 0 0 0 [] l.key_count l.directory.now
-  pub few_messages : l.message_count < 2 ^ 32
+  pub few_messages : l.message_count < four_byte_limit
   pub lists : AreLists l.message_count l.postings.now l.key_count l.directory.now
   pub formed : IsWellFormed (table_of l)

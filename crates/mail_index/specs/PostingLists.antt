@@ -1,6 +1,7 @@
 -- A list of postings while it grows: the numbers so far, and how they are read back from its bytes.
-use Rattle.std.specs.Prelude.{◌≡◌, ℕ, suc, ◌+◌, ◌-◌, ◌*◌, ◌^◌, ◌<◌, ◌≤◌, nat_lt, if◌then◌else◌, List, [], ◌∷◌, ◌++◌, length, fold}
+use Rattle.std.specs.Prelude.{◌≡◌, ℕ, suc, ◌+◌, ◌-◌, ◌*◌, ◌<◌, ◌≤◌, nat_lt, if◌then◌else◌, List, [], ◌∷◌, ◌++◌, length, fold}
 use Rattle.mail_index.specs.Postings.{postings}
+use Rattle.mail_index.specs.Limits.{four_byte_limit}
 
 -- one past the last number, or low where there is none
 abbrev pub end_from : ℕ → List ℕ → ℕ
@@ -41,4 +42,4 @@ pub record IsPosted (bytes : List ℕ) (next : ℕ) : Type 0 where
   pub spelled : postings (numbers_of bytes) ≡ bytes
   pub ends : end_from 0 (numbers_of bytes) ≡ next
   pub short : length bytes ≤ next
-  pub small : next < 2 ^ 32
+  pub small : next < four_byte_limit

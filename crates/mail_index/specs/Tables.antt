@@ -1,11 +1,12 @@
 -- What an index says of archives, apart from its file.
-use Rattle.std.specs.Prelude.{◌≡◌, ◌≢◌, ℕ, zero, suc, ◌+◌, ◌^◌, ◌<◌, ◌≤◌, ◌⊎◌, FitsSigned, List, [], ◌∷◌, length, Option, IfSome, IsUtf8}
+use Rattle.std.specs.Prelude.{◌≡◌, ◌≢◌, ℕ, zero, suc, ◌+◌, ◌<◌, ◌≤◌, ◌⊎◌, FitsSigned, List, [], ◌∷◌, length, Option, IfSome, IsUtf8}
 use Rattle.std.specs.Int.{w64}
 use Rattle.std.specs.List.{AllByRecursion}
 use Rattle.mail_index.specs.declared.kind.Kind.{Kind}
 use Rattle.mail_index.specs.declared.record.Record.{Record}
 use Rattle.mail_index.specs.Kinds.{kind_number}
 use Rattle.mail_index.specs.Versions.{IsVersion, last_kind, IsDigest}
+use Rattle.mail_index.specs.Limits.{four_byte_limit, most_in_archive}
 
 pub record Archive : Type 0 where
   pub path : List ℕ
@@ -34,7 +35,7 @@ pub record IsPath (path : List ℕ) : Type 0 where
   pub one_line : AllByRecursion (λ b. (b ≢ 0x0A) × (b ≢ 0)) path
 
 abbrev pub IsArchive : ℕ → Archive → Type 0
-IsArchive version a = IsPath a.path × (a.length ≤ 2 ^ 40) × IsDigest version a.digest
+IsArchive version a = IsPath a.path × (a.length ≤ most_in_archive) × IsDigest version a.digest
 
 -- the length of the archive of that number
 abbrev pub archive_length : List Archive → ℕ → ℕ
@@ -81,16 +82,16 @@ RisesFrom low (n ∷ ns) = (low ≤ n) × RisesFrom (suc n) ns
 pub record IsKey (version count : ℕ) (k : Key) : Type 0 where
   pub kind : kind_number k.kind ≤ last_kind version
   pub some_text : 0 < length k.text
-  pub short : length k.text < 2 ^ 32
+  pub short : length k.text < four_byte_limit
   pub some_number : 0 < length k.numbers
   pub rises : RisesFrom 0 k.numbers
   pub below : AllByRecursion (λ n. n < count) k.numbers
 
 pub record IsWellFormed (t : Table) : Type 0 where
   pub version : IsVersion t.version
-  pub archive_count : length t.archives < 2 ^ 32
-  pub message_count : length t.messages < 2 ^ 32
-  pub key_count : length t.keys < 2 ^ 32
+  pub archive_count : length t.archives < four_byte_limit
+  pub message_count : length t.messages < four_byte_limit
+  pub key_count : length t.keys < four_byte_limit
   pub archives : AllByRecursion (IsArchive t.version) t.archives
   pub messages : AllByRecursion (IsMessage t.archives) t.messages
   pub in_order : AllNext Follows t.messages

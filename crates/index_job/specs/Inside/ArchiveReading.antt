@@ -20,7 +20,7 @@ use Rattle.index_job.specs.declared.archive_reading.Heading.TheVariants.{Message
 use Rattle.index_job.specs.declared.archive_reading.ReadArchive.{ReadArchive}
 use Rattle.index_job.specs.declared.job_fault.JobFault.{JobFault}
 use Rattle.index_job.specs.declared.job_fault.JobFault.TheVariants.{OutOfMemory, TooMany}
-use Rattle.index_job.specs.ArchiveRefusals.{most_in_archive}
+use Rattle.mail_index.specs.Limits.{most_in_archive}
 use Rattle.index_job.specs.Inside.Gathering.{HasGathered}
 use Rattle.index_job.specs.Indexing.{draft_with_terms, draft_with_messages, with_open_archive, HasTooMany, RefusesTerms, IsBuilderReady, IsJobFault}
 use Rattle.index_job.specs.MessageTerms.{message_terms}

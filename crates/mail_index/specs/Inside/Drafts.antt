@@ -1,5 +1,5 @@
 -- A draft as the code keeps it, and what is true of every one.
-use Rattle.std.specs.Prelude.{◌≡◌, ℕ, suc, ◌^◌, ◌<◌, ◌≤◌, Bool, true, if◌then◌else◌, List, [], ◌∷◌, ◌++◌, length, map, Option, None, Some, IfSome, String, string_bytes}
+use Rattle.std.specs.Prelude.{◌≡◌, ℕ, suc, ◌<◌, ◌≤◌, Bool, true, if◌then◌else◌, List, [], ◌∷◌, ◌++◌, length, map, Option, None, Some, IfSome, String, string_bytes}
 use Rattle.std.specs.Global.{Global}
 use Rattle.std.specs.Option.{option_map}
 use Rattle.std.specs.List.{AllByRecursion}
@@ -8,6 +8,7 @@ use Rattle.mail_index.specs.declared.record.Record.{Record}
 use Rattle.mail_index.specs.Versions.{newest}
 use Rattle.mail_index.specs.Tables.{Archive, Key, IsPath, IsArchive, IsMessage, Follows, AllNext, KeyBefore, IsKey}
 use Rattle.mail_index.specs.Builders.{Draft}
+use Rattle.mail_index.specs.Limits.{most_in_archive, most_in_index}
 
 abbrev pub kept_archive : NamedArchive → Archive
 kept_archive a = record { path = string_bytes a.path; length = a.length; digest = Some a.digest }
@@ -27,12 +28,12 @@ message_count d = if d.in_message then suc (length d.table.messages) else length
 -- the archives, with the one that is open, which may become as long as any
 abbrev pub with_open : List Archive → Option (List ℕ) → List Archive
 with_open archives None = archives
-with_open archives (Some path) = archives ++ record { path = path; length = 2 ^ 40; digest = None } ∷ []
+with_open archives (Some path) = archives ++ record { path = path; length = most_in_archive; digest = None } ∷ []
 
 -- no count passes the limit, with what is open counted too, and so far all is as in a well-formed table
 pub record IsDraft (d : Draft) : Type 0 where
   pub version : d.table.version ≡ newest
-  pub limit : d.most < 2 ^ 31
+  pub limit : d.most ≤ most_in_index
   pub archives : length d.table.archives ≤ d.most
   pub open_archive : IfSome d.path (λ p. (length d.table.archives < d.most) × IsPath p)
   pub messages : length d.table.messages ≤ d.most

@@ -6,6 +6,7 @@ ghost use Rattle.contract_words.specs.Devices.{Counted, Sends};
 ghost use Rattle.mail_index.specs.Files.{HasSmallSections, index_file};
 ghost use Rattle.mail_index.specs.Tables.{IsPath, IsWellFormed};
 ghost use Rattle.mail_index.specs.Builders.{empty_draft, begun_archive, begun_message, added, ended_message, ended_archive, refusal, is_device, stepped, archive_count, end_of, IsNextMessage, IsBetweenArchives, IsInArchive, IsInMessage, IsWithinMost};
+ghost use Rattle.mail_index.specs.Limits.{most_in_archive, most_in_index};
 
 use crate::build::build_fault::BuildFault;
 use crate::build::draft::Draft;
@@ -42,7 +43,7 @@ impl Builder {
     ///
     /// Takes no memory.
     pub fn new(alloc: Global, most: u32) -> Self
-        requires { most < 2 ^ 31 }
+        requires { most ≤ most_in_index }
         ensures { result ≡ Some (empty_draft most) }
     {
         Builder {
@@ -162,7 +163,7 @@ impl Builder {
     /// bytes are written as they are.
     pub fn end_archive(&mut self, length: u64, digest: [u8; 32]) -> Result<(), BuildFault>
         requires phase { IfSome self.old IsInArchive }
-        requires within { IfSome self.old (λ _. length ≤ 2 ^ 40) }
+        requires within { IfSome self.old (λ _. length ≤ most_in_archive) }
         requires last { IfSome self.old (λ d. end_of (archive_count d) d.table.messages ≤ length) }
         ensures gives { Gives (λ _. self.new) refusal result (stepped (ended_archive length digest) self.old) }
         ensures within { IfSome self.new IsWithinMost }

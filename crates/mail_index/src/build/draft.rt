@@ -10,6 +10,7 @@ ghost use Rattle.mail_index.specs.Inside.SectionCounts.{IsCountOf, counted_lengt
 ghost use Rattle.mail_index.specs.Inside.Signing.{BreaksOff, Signs};
 ghost use Rattle.mail_index.specs.Tables.{IsPath, IsWellFormed};
 ghost use Rattle.mail_index.specs.Builders.{empty_draft, begun_archive, begun_message, added, ended_message, ended_archive, refusal, archive_count, end_of, IsNextMessage, IsBetweenArchives, IsInMessage, IsWithinMost};
+ghost use Rattle.mail_index.specs.Limits.{four_byte_limit, most_in_archive, most_in_index};
 
 use crate::build::build_fault::BuildFault;
 use crate::build::file_out::Signer;
@@ -28,7 +29,7 @@ pub struct NamedArchive {
     pub path: String,
     pub length: u64,
     pub digest: [u8; 32],
-    pub ghost short: { string_len path < 2 ^ 32 },
+    pub ghost short: { string_len path < four_byte_limit },
 }
 
 /// The archives, messages and keys so far, and which archive and message are open.
@@ -57,7 +58,7 @@ impl Model for Draft {
 impl Draft {
     /// No archive. Takes no memory.
     pub fn new(alloc: Global, most: u32) -> Self
-        requires { most < 2 ^ 31 }
+        requires { most ≤ most_in_index }
         ensures { result ≡ empty_draft most }
     {
         Draft {
@@ -110,7 +111,7 @@ impl Draft {
     ) -> Result<(), BuildFault>
         requires phase { self.old.in_message ≡ true }
         requires some { 0 < length text.now }
-        requires short { length text.now < 2 ^ 32 }
+        requires short { length text.now < four_byte_limit }
         ensures { Gives (λ _. self.new) refusal result (added kind text.now self.old) }
     {
         let number = self.records.len() as u32;
@@ -132,7 +133,7 @@ impl Draft {
     /// Closes the archive that is open.
     pub fn end_archive(&mut self, length: u64, digest: [u8; 32]) -> Result<(), BuildFault>
         requires phase { IsSome self.old.path }
-        requires length { length ≤ 2 ^ 40 }
+        requires length { length ≤ most_in_archive }
         requires last { end_of (archive_count self.old) self.old.table.messages ≤ length }
         ensures gives { Gives (λ _. self.new) refusal result (ended_archive length digest self.old) }
         ensures within { IsWithinMost self.new }

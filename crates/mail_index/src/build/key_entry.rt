@@ -1,10 +1,11 @@
 //! A key of an index while it is built.
-ghost use Rattle.std.specs.Prelude.{◌≡◌, ◌+◌, ◌^◌, ◌<◌, ◌≤◌, [], ◌∷◌, ◌++◌, length, take, OnOk, OnErr, IfOk};
+ghost use Rattle.std.specs.Prelude.{◌≡◌, ◌+◌, ◌<◌, ◌≤◌, [], ◌∷◌, ◌++◌, length, take, OnOk, OnErr, IfOk};
 ghost use Rattle.std.specs.Ordering.{is_eq};
 ghost use Rattle.mail_index.specs.Inside.KeyMaps.{new_key, with_one};
 ghost use Rattle.mail_index.specs.Kinds.{kind_number};
 ghost use Rattle.mail_index.specs.LookUps.{lies_to};
 ghost use Rattle.mail_index.specs.Postings.{postings};
+ghost use Rattle.mail_index.specs.Limits.{four_byte_limit};
 
 use crate::build::leb128_out::leb128_of;
 use crate::build::short_bytes::ShortBytes;
@@ -51,7 +52,7 @@ impl KeyEntry {
     /// A key of one message.
     pub fn new(alloc: Global, kind: Kind, text: &[u8], number: u32) -> Result<Self, AllocError>
         requires number { number < u32.MAX }
-        requires short { length text.now < 2 ^ 32 }
+        requires short { length text.now < four_byte_limit }
         ensures { IfOk result (λ entry. entry ≡ new_key kind text.now number) }
     {
         let mut entry = KeyEntry::without_numbers(alloc, kind, text)?;
@@ -61,7 +62,7 @@ impl KeyEntry {
 
     // A key of no message.
     fn without_numbers(alloc: Global, kind: Kind, text: &[u8]) -> Result<Self, AllocError>
-        requires { length text.now < 2 ^ 32 }
+        requires { length text.now < four_byte_limit }
         ensures { IfOk result (λ entry. entry ≡ record { kind = kind; text = text.now; numbers = [] }) }
     {
         if text.len() < SHORT {
@@ -110,7 +111,7 @@ impl KeyEntry {
     fn number_and_text(&self) -> (u8, &[u8])
         ensures number { result.0 ≡ kind_number self.now.kind }
         ensures text { result.1.now ≡ self.now.text }
-        ensures short { length result.1.now < 2 ^ 32 }
+        ensures short { length result.1.now < four_byte_limit }
     {
         let length = self.text_length as usize + 1;
         let front = if length <= SHORT {
@@ -153,7 +154,7 @@ impl KeyEntry {
     /// Its text.
     pub fn text(&self) -> &[u8]
         ensures text { result.now ≡ self.now.text }
-        ensures short { length result.now < 2 ^ 32 }
+        ensures short { length result.now < four_byte_limit }
     {
         self.number_and_text().1
     }
@@ -161,7 +162,7 @@ impl KeyEntry {
     /// The postings of its numbers, in two parts.
     pub fn postings(&self) -> (&[u8], &[u8])
         ensures bytes { result.0.now ++ result.1.now ≡ postings self.now.numbers }
-        ensures small { length result.0.now + length result.1.now < 2 ^ 32 }
+        ensures small { length result.0.now + length result.1.now < four_byte_limit }
     {
         let length = self.text_length as usize + 1;
         let older = if length <= SHORT {
@@ -209,7 +210,7 @@ fn front_of(kind: Kind, text: &[u8]) -> [u8; SHORT]
 
 // The kind's number and the text.
 fn front_bytes(alloc: Global, kind: Kind, text: &[u8]) -> Result<Vec<u8>, AllocError>
-    requires { length text.now < 2 ^ 32 }
+    requires { length text.now < four_byte_limit }
     ensures { IfOk result (λ bytes. bytes.items ≡ kind_number kind ∷ text.now) }
 {
     let mut bytes = Vec::with_capacity(alloc, text.len() + 1)?;

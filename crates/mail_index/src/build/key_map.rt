@@ -9,6 +9,7 @@ ghost use Rattle.mail_index.specs.Inside.KeyMaps.{rows, numbers_in, place_in, ke
 ghost use Rattle.mail_index.specs.KeysRead.{key_at};
 ghost use Rattle.mail_index.specs.LookUps.{lies_to};
 ghost use Rattle.mail_index.specs.Builders.{with_pair};
+ghost use Rattle.mail_index.specs.Limits.{four_byte_limit};
 
 use crate::build::build_fault::BuildFault;
 use crate::build::file_out::Signer;
@@ -89,7 +90,7 @@ impl KeyMap {
         place: Prefetched,
     ) -> Result<(), BuildFault>
         requires number { number < u32.MAX }
-        requires short { length text.now < 2 ^ 32 }
+        requires short { length text.now < four_byte_limit }
         requires fits { length self.old ≤ most }
         ensures ok { OnOk result (self.new ≡ with_pair kind text.now number self.old) }
         ensures err { OnErr result (self.new ≡ self.old) }
@@ -235,7 +236,7 @@ fn add_at(
     key: &Added<'_>,
 ) -> Result<u32, BuildFault>
     requires number { key.now.number < u32.MAX }
-    requires short { length key.now.text.now < 2 ^ 32 }
+    requires short { length key.now.text.now < four_byte_limit }
     requires fits { length entries.old.items ≤ key.now.most }
     requires between { length order.old.heads.items ≡ length order.old.pages.items - 1 }
     requires order { IsOrder entries.old.items (numbers_in order.old) }
@@ -279,7 +280,7 @@ fn insert(
     key: &Added<'_>,
 ) -> Result<u32, BuildFault>
     requires number { key.now.number < u32.MAX }
-    requires short { length key.now.text.now < 2 ^ 32 }
+    requires short { length key.now.text.now < four_byte_limit }
     requires fits { length entries.old.items ≤ key.now.most }
     requires between { length order.old.heads.items ≡ length order.old.pages.items - 1 }
     requires order { IsOrder entries.old.items (numbers_in order.old) }

@@ -1,9 +1,10 @@
 //! Archives as an index names them.
-ghost use Rattle.std.specs.Prelude.{◌≡◌, ◌↔◌, ◌-◌, ◌≤◌, ◌<◌, ◌^◌, length, MatchOption, IsTrue};
+ghost use Rattle.std.specs.Prelude.{◌≡◌, ◌↔◌, ◌-◌, ◌≤◌, ◌<◌, length, MatchOption, IsTrue};
 ghost use Rattle.mail_index.specs.Fields.{u64_at as u64_in};
 ghost use Rattle.mail_index.specs.Versions.{version_number, IsDigest, read_digest, behind_digest};
 ghost use Rattle.mail_index.specs.Layouts.{archive_of};
 ghost use Rattle.mail_index.specs.Records.{HasArchive, SpellsArchives, read_archive, behind_archive, behind_archives as behind_archives_of};
+ghost use Rattle.mail_index.specs.Limits.{most_in_archive};
 
 use crate::fields::{u32_at, u64_at};
 use crate::path::is_path;
@@ -124,7 +125,7 @@ pub(crate) fn first_length(section: &[u8], count: u32, version: Version) -> u64
     requires some { 0 < count }
     requires spelled { SpellsArchives (version_number version) count section.now }
     ensures value { result ≡ u64_in section.now 0 }
-    ensures bound { result ≤ 2 ^ 40 }
+    ensures bound { result ≤ most_in_archive }
 {
     u64_at(section, 0)
 }

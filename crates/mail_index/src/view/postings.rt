@@ -1,8 +1,9 @@
 //! The numbers of the messages that have a key, read in place.
-ghost use Rattle.std.specs.Prelude.{◌≡◌, ◌↔◌, ◌+◌, ◌-◌, ◌<◌, ◌≤◌, ◌^◌, ℕ, List, [], ◌∷◌, ◌++◌, length, IsTrue, MatchOption};
+ghost use Rattle.std.specs.Prelude.{◌≡◌, ◌↔◌, ◌+◌, ◌-◌, ◌<◌, ◌≤◌, ℕ, List, [], ◌∷◌, ◌++◌, length, IsTrue, MatchOption};
 ghost use Rattle.std.specs.List.{AllByRecursion};
 ghost use Rattle.mail_index.specs.Steps.{add_steps};
 ghost use Rattle.mail_index.specs.PostingReads.{ArePostings, ArePosted};
+ghost use Rattle.mail_index.specs.Limits.{four_byte_limit};
 
 use crate::view::leb128::split_difference;
 use crate::view::steps::Steps;
@@ -17,21 +18,22 @@ pub struct Postings<'a> {
 }
 
 impl<'a> Model for Postings<'a> {
-    ghost use Rattle.std.specs.Prelude.{ℕ, List, ◌^◌};
+    ghost use Rattle.std.specs.Prelude.{ℕ, List};
     ghost use Rattle.mail_index.specs.PostingReads.{numbers_read, ArePostings};
+    ghost use Rattle.mail_index.specs.Limits.{four_byte_limit};
 
     ghost Value = { List ℕ };
 
     ghost view = { λ s. numbers_read s.low s.bytes.now };
 
-    ghost invariant = { λ s. ArePostings (2 ^ 32) s.low s.bytes.now (numbers_read s.low s.bytes.now) };
+    ghost invariant = { λ s. ArePostings four_byte_limit s.low s.bytes.now (numbers_read s.low s.bytes.now) };
 }
 
 impl<'a> Postings<'a> {
     /// The numbers that these bytes are the postings of.
     pub(crate) fn of(bytes: &'a [u8]) -> Self
-        requires { ArePosted (2 ^ 32) 0 bytes.now }
-        ensures { (ns : List ℕ) → ArePostings (2 ^ 32) 0 bytes.now ns → result ≡ ns }
+        requires { ArePosted four_byte_limit 0 bytes.now }
+        ensures { (ns : List ℕ) → ArePostings four_byte_limit 0 bytes.now ns → result ≡ ns }
     {
         Postings { bytes, low: 0 }
     }

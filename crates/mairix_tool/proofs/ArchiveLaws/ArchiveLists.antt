@@ -8,7 +8,8 @@ use Rattle.mbox_cutter.specs.Events.{refusal_of}
 use Rattle.index_job.specs.declared.job_fault.JobFault.{JobFault}
 use Rattle.index_job.specs.declared.job_fault.JobFault.TheVariants as job
 use Rattle.index_job.specs.ArchiveTables.{Mbox}
-use Rattle.index_job.specs.ArchiveRefusals.{most_in_archive, AreSound}
+use Rattle.mail_index.specs.Limits.{most_in_archive}
+use Rattle.index_job.specs.ArchiveRefusals.{AreSound}
 use Rattle.mairix_tool.specs.ArchivesIndexed.{mboxes, Parted, IsArchivesFault, fault_of_job}
 use Rattle.index_job.specs.IndexJobs.{IsAdded, IsAddFault}
 use Rattle.std.specs.Prelude.{Option, Err, ◌≢◌}

@@ -8,7 +8,8 @@ use Rattle.mbox_cutter.specs.declared.event.CutFault.{CutFault}
 use Rattle.mbox_cutter.specs.Events.{refusal_of}
 use Rattle.mairix_tool.specs.declared.fault.Fault.{Fault}
 use Rattle.mairix_tool.specs.declared.fault.Fault.TheVariants.{Archive, TooMany}
-use Rattle.index_job.specs.ArchiveRefusals.{most_in_archive, most_in_index, AreSound, IsTooMuch, IsWithinLimit}
+use Rattle.mail_index.specs.Limits.{most_in_archive, most_in_index}
+use Rattle.index_job.specs.ArchiveRefusals.{AreSound, IsTooMuch, IsWithinLimit}
 use Rattle.index_job.specs.ArchiveTables.{Mbox, table, entry_of}
 use Rattle.mairix_tool.specs.ArchivesIndexed.{Parted, Refuses}
 

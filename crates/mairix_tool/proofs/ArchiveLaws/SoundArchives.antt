@@ -9,7 +9,8 @@ use Rattle.mbox_cutter.specs.declared.event.CutFault.TheVariants as cut
 use Rattle.mbox_cutter.specs.Events.{refusal_of}
 use Rattle.mairix_tool.specs.declared.fault.Fault.{Fault}
 use Rattle.mairix_tool.specs.declared.fault.Fault.TheVariants as of
-use Rattle.index_job.specs.ArchiveRefusals.{most_in_archive, AreSound, IsTooMuch, IsWithinLimit}
+use Rattle.mail_index.specs.Limits.{most_in_archive}
+use Rattle.index_job.specs.ArchiveRefusals.{AreSound, IsTooMuch, IsWithinLimit}
 use Rattle.index_job.specs.ArchiveTables.{Mbox, table, all_messages, messages_in, with_messages, entry_of}
 use Rattle.mairix_tool.specs.ArchivesIndexed.{mboxes, Parted, Refuses, IsArchivesFault}
 use Rattle.mairix_tool.specs.Asked.{Wanted}

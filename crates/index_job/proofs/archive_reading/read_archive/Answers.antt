@@ -3,7 +3,7 @@ use Rattle.std.specs.Option.{option_map}
 use Rattle.mbox_cutter.specs.Archives.{messages}
 use Rattle.mbox_cutter.specs.Events.{coming_of, refusal_of}
 use Rattle.index_job.specs.Inside.ArchiveReading.{coming_ahead}
-use Rattle.index_job.specs.ArchiveRefusals.{most_in_archive}
+use Rattle.mail_index.specs.Limits.{most_in_archive}
 use Rattle.index_job.proofs.TableSteps.{comes-known}
 use Rattle.index_job.proofs.archive_reading.read_archive.Goals as goal
 

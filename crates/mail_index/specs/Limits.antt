@@ -1,0 +1,14 @@
+-- The limits of an index.
+use Rattle.std.specs.Prelude.{ℕ, ◌^◌}
+
+-- the most archives, messages and keys
+abbrev pub most_in_index : ℕ
+most_in_index = 2147483647
+
+-- the most bytes of an archive
+abbrev pub most_in_archive : ℕ
+most_in_archive = 2 ^ 40
+
+-- numbers that a file has in four bytes are below this one
+abbrev pub four_byte_limit : ℕ
+four_byte_limit = 2 ^ 32
