@@ -4,7 +4,6 @@ pub mod DigestReads
 pub mod DirectoryKeys
 pub mod DirectorySections
 pub mod DirectoryWalk
-pub mod KeyOrder
 pub mod KindNumbers
 pub mod ListWalk
 pub mod LookUpLemmas

@@ -1,7 +1,6 @@
 -- The table that an index builder has so far, and what its calls make of it.
 use Rattle.std.specs.Prelude.{◌≡◌, ℕ, ◌+◌, ◌<◌, ◌≤◌, Bool, true, false, nat_eq, nat_lt, nat_le, if◌then◌else◌, List, [], ◌∷◌, ◌++◌, length, Option, Some, None, IsSome, unwrap_or, Result, Ok, Err}
-use Rattle.std.specs.Ordering.{match_ordering, nat_cmp}
-use Rattle.std.specs.Cmp.Lexicographic.{slice_cmp}
+use Rattle.std.specs.Ordering.{match_ordering}
 use Rattle.contract_words.specs.Answers.{◌>>=◌}
 use Rattle.mail_index.specs.declared.build.build_fault.BuildFault.{BuildFault}
 use Rattle.mail_index.specs.declared.build.build_fault.BuildFault.TheVariants.{OutOfMemory, TooMany, Device, Failed}
@@ -12,11 +11,12 @@ use Rattle.mail_index.specs.Versions.{newest}
 use Rattle.mail_index.specs.Tables.{Key, Table}
 use Rattle.mail_index.specs.PostingLists.{with_number}
 use Rattle.mail_index.specs.Limits.{most_in_archive}
+use Rattle.mail_index.specs.OrderOfKeys.{key_cmp}
 
 -- the keys, in the order of kind and text, with n among the numbers of this one
 abbrev pub with_pair : Kind → List ℕ → ℕ → List Key → List Key
 with_pair kind text n [] = record { kind = kind; text = text; numbers = n ∷ [] } ∷ []
-with_pair kind text n (k ∷ ks) = match_ordering (slice_cmp nat_cmp (kind_number kind ∷ text) (kind_number k.kind ∷ k.text))
+with_pair kind text n (k ∷ ks) = match_ordering (key_cmp (kind_number kind) text (kind_number k.kind) k.text)
     (record { kind = kind; text = text; numbers = n ∷ [] } ∷ k ∷ ks)
     (record { kind = k.kind; text = k.text; numbers = with_number k.numbers n } ∷ ks)
     (k ∷ with_pair kind text n ks)

@@ -1,17 +1,11 @@
 -- The directory read entry by entry. Of bytes that no table has this says anything.
 use Rattle.std.specs.Prelude.{◌≡◌, ℕ, zero, suc, ◌+◌, ◌-◌, ◌<◌, ◌≤◌, Bool, true, ◌&&◌, nat_eq, cond, List, [], ◌∷◌, length, take, drop}
-use Rattle.std.specs.declared.cmp.Ordering.{Ordering}
 use Rattle.std.specs.declared.cmp.Ordering.TheVariants.{Less}
-use Rattle.std.specs.Ordering.{nat_cmp, ordering_then}
-use Rattle.std.specs.Cmp.Lexicographic.{slice_cmp}
 use Rattle.mail_index.specs.Kinds.{is_kind_number, kind_of_number}
 use Rattle.mail_index.specs.Versions.{last_kind}
 use Rattle.mail_index.specs.Fields.{byte_at, u32_at, u64_at}
 use Rattle.mail_index.specs.Files.{Entry}
-
--- keys by the number of their kind, then by text
-abbrev pub key_cmp : ℕ → List ℕ → ℕ → List ℕ → Ordering
-key_cmp j xs k ys = ordering_then (nat_cmp j k) (slice_cmp nat_cmp xs ys)
+use Rattle.mail_index.specs.OrderOfKeys.{key_cmp}
 
 -- the kind is one, and zeros follow
 unfoldable pub is_entry : ℕ → List ℕ → Bool

@@ -1,6 +1,7 @@
 -- Which bytes are an index file, and what is the first thing wrong with others.
 use Rattle.std.specs.Prelude.{◌≡◌, ◌≢◌, ℕ, ◌+◌, ◌-◌, ◌*◌, ◌<◌, ◌≤◌, List, length, take, drop, map, flat_map, slice_range}
 use Rattle.std.specs.List.{AllByRecursion}
+use Rattle.std.specs.declared.cmp.Ordering.TheVariants.{Less}
 use Rattle.sha2.specs.Sha256.{sha256}
 use Rattle.mail_index.specs.declared.view.fault.IndexFault.{IndexFault}
 use Rattle.mail_index.specs.declared.view.fault.IndexFault.TheVariants.{TooShort, BadMagic, BadVersion, BadDigest, BadLayout}
@@ -9,13 +10,14 @@ use Rattle.mail_index.specs.declared.record.Record.{Record}
 use Rattle.mail_index.specs.Kinds.{kind_number}
 use Rattle.mail_index.specs.Versions.{IsVersion, last_kind}
 use Rattle.mail_index.specs.Fields.{u32_at, u64_at}
-use Rattle.mail_index.specs.Tables.{Archive, Key, Table, IsWellFormed, IsArchive, IsMessage, IsKey, Follows, AllNext, IsBefore}
+use Rattle.mail_index.specs.Tables.{Archive, Key, Table, IsWellFormed, IsArchive, IsMessage, IsKey, Follows, AllNext}
 use Rattle.mail_index.specs.Files.{magic, archive_bytes, record_bytes, Entry, entry_of, directory_from, texts_of, postings_of, index_file}
 use Rattle.mail_index.specs.Limits.{four_byte_limit}
+use Rattle.mail_index.specs.OrderOfKeys.{key_cmp}
 
 -- the keys of two entries
 abbrev pub EntryBefore : Entry → Entry → Type 0
-EntryBefore a b = IsBefore a.kind a.text b.kind b.text
+EntryBefore a b = key_cmp (kind_number a.kind) a.text (kind_number b.kind) b.text ≡ Less
 
 abbrev pub IsEntry : ℕ → Entry → Type 0
 IsEntry version e = (kind_number e.kind ≤ last_kind version) × (0 < length e.text) × (length e.text < four_byte_limit) × (0 < length e.postings)

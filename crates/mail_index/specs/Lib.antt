@@ -1,6 +1,7 @@
 pub mod Limits
 pub mod Kinds
 pub mod Versions
+pub mod OrderOfKeys
 pub mod Tables
 pub mod Postings
 pub mod PostingReads

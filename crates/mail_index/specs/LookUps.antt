@@ -9,6 +9,7 @@ use Rattle.std.specs.Ordering.{nat_cmp}
 use Rattle.std.specs.Cmp.Lexicographic.{slice_cmp}
 use Rattle.std.specs.List.Sorted.{IsStrictlySortedBy}
 use Rattle.mail_index.specs.Steps.{add_steps}
+use Rattle.mail_index.specs.OrderOfKeys.{key_cmp}
 use Rattle.mail_index.specs.Tables.{Key}
 
 abbrev pub is_of_kind : Kind → Key → Bool
@@ -17,9 +18,9 @@ is_of_kind kind k = nat_eq (kind_number k.kind) (kind_number kind)
 abbrev pub is_key : Kind → List ℕ → Key → Bool
 is_key kind text k = is_of_kind kind k && bytes_eq k.text text
 
--- how a key lies to another: keys are sorted by the number of their kind, then by text, byte by byte
+-- how a key lies to another
 abbrev pub lies_to : Kind → List ℕ → Key → Ordering
-lies_to kind text k = slice_cmp nat_cmp (kind_number k.kind ∷ k.text) (kind_number kind ∷ text)
+lies_to kind text k = key_cmp (kind_number k.kind) k.text (kind_number kind) text
 
 -- the keys stand in that order, each once
 abbrev pub AreSorted : List Key → Type 0

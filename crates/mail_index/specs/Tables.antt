@@ -2,11 +2,13 @@
 use Rattle.std.specs.Prelude.{◌≡◌, ◌≢◌, ℕ, zero, suc, ◌+◌, ◌<◌, ◌≤◌, ◌⊎◌, FitsSigned, List, [], ◌∷◌, length, Option, IfSome, IsUtf8}
 use Rattle.std.specs.Int.{w64}
 use Rattle.std.specs.List.{AllByRecursion}
+use Rattle.std.specs.declared.cmp.Ordering.TheVariants.{Less}
 use Rattle.mail_index.specs.declared.kind.Kind.{Kind}
 use Rattle.mail_index.specs.declared.record.Record.{Record}
 use Rattle.mail_index.specs.Kinds.{kind_number}
 use Rattle.mail_index.specs.Versions.{IsVersion, last_kind, IsDigest}
 use Rattle.mail_index.specs.Limits.{four_byte_limit, most_in_archive}
+use Rattle.mail_index.specs.OrderOfKeys.{key_cmp}
 
 pub record Archive : Type 0 where
   pub path : List ℕ
@@ -60,18 +62,9 @@ AllNext R [] = Unit {0}
 AllNext R (x ∷ []) = Unit {0}
 AllNext R (x ∷ y ∷ ys) = R x y × AllNext R (y ∷ ys)
 
--- the first text comes before the second, byte by byte
-abbrev pub TextBefore : List ℕ → List ℕ → Type 0
-TextBefore xs [] = ⊥
-TextBefore [] (y ∷ ys) = Unit {0}
-TextBefore (x ∷ xs) (y ∷ ys) = (x < y) ⊎ ((x ≡ y) × TextBefore xs ys)
-
--- by kind, then by text
-abbrev pub IsBefore : Kind → List ℕ → Kind → List ℕ → Type 0
-IsBefore j xs k ys = (kind_number j < kind_number k) ⊎ ((j ≡ k) × TextBefore xs ys)
-
+-- the first key comes before the second
 abbrev pub KeyBefore : Key → Key → Type 0
-KeyBefore a b = IsBefore a.kind a.text b.kind b.text
+KeyBefore a b = key_cmp (kind_number a.kind) a.text (kind_number b.kind) b.text ≡ Less
 
 -- strictly rising, and no number below low
 abbrev pub RisesFrom : ℕ → List ℕ → Type 0

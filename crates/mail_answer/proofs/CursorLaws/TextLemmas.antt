@@ -14,7 +14,6 @@ use Rattle.mail_index.specs.declared.kind.Kind.{Kind}
 use Rattle.mail_index.specs.Kinds.{kind_number}
 use Rattle.mail_index.specs.Tables.{Key, KeyBefore, AllNext}
 use Rattle.mail_index.specs.LookUps.{is_key, is_of_kind, lies_to, numbers_at, AreSorted, keys_of, text_and_numbers}
-use Rattle.mail_index.proofs.ViewLaws.KeyOrder.{key_less}
 use Rattle.mail_index.proofs.ViewLaws.LookUpLemmas.{key_bytes, is_key-greater}
 use Rattle.mail_index.proofs.ViewLaws.RunLemmas.{bytes_turned}
 use Rattle.mail_answer.specs.TableFacts.{is_among, texts_with}
@@ -70,7 +69,7 @@ sorted_keys [] h = tt
 sorted_keys (k ∷ []) h = (tt, tt)
 sorted_keys (a ∷ b ∷ ks) h =
     let rest = sorted_keys (b ∷ ks) h.1 in
-    let first : slice_cmp nat_cmp (key_bytes a) (key_bytes b) ≡ Less = key_less a.kind b.kind a.text b.text h.0 in
+    let first : slice_cmp nat_cmp (key_bytes a) (key_bytes b) ≡ Less = h.0 in
     ((first, behind a b ks first rest.0), rest)
 
 equal_from : (o : Ordering) → is_eq o ≡ true → o ≡ Equal

@@ -10,7 +10,7 @@ use Rattle.mail_index.specs.Versions.{IsVersion}
 use Rattle.mail_index.specs.Tables.{Archive, Key, Table, IsArchive, IsMessage, IsKey, IsWellFormed, archive_length}
 use Rattle.mail_index.specs.Files.{zeros, be32, be64, archive_bytes, record_bytes, Entry, entry_of, entry_bytes, directory_from, texts_of, postings_of, archive_section, entries, counts, sections, body, HasSmallSections, index_file}
 use Rattle.mail_index.proofs.FileLaws.Fronts.{split, before, concat_then, same_parts, be32_is, be64_is, front_each, archive_front}
-use Rattle.mail_index.proofs.ViewLaws.KeyOrder.{kind_is}
+use Rattle.mail_index.proofs.ViewLaws.KindNumbers.{kind_is}
 use Rattle.mail_index.proofs.FileLaws.RecordFronts.{same_at, HasFew, message_front, numbers_are}
 
 -- ---- the directory

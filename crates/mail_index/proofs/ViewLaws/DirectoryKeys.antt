@@ -18,7 +18,7 @@ use Rattle.mail_index.specs.Lists.{list_at, AreLists}
 use Rattle.mail_index.specs.KeysRead.{key_of, keys_read, IsDirectory, key_at}
 use Rattle.mail_index.specs.LookUps.{AreSorted}
 use Rattle.mail_index.proofs.FileLaws.Bytes.{both}
-use Rattle.mail_index.proofs.ViewLaws.KeyOrder.{kind_kept, few_kinds}
+use Rattle.mail_index.proofs.ViewLaws.KindNumbers.{kind_kept, few_kinds}
 use Rattle.mail_index.proofs.ViewLaws.LookUpLemmas.{key_bytes}
 
 -- ---- the entry of a number

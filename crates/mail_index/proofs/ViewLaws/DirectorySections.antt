@@ -14,10 +14,11 @@ use Rattle.mail_index.specs.Fields.{byte_at, u32_at, u64_at}
 use Rattle.mail_index.specs.Files.{zeros, be32, be64, Entry, entry_bytes, directory_from, texts_of, postings_of}
 use Rattle.mail_index.specs.Tables.{AllNext}
 use Rattle.mail_index.specs.Faults.{IsEntry, EntryBefore}
-use Rattle.mail_index.specs.Directory.{key_cmp, is_entry, end_before, text_at, read_entry, read_entries, IsEntryAt, AreEntries}
+use Rattle.mail_index.specs.OrderOfKeys.{key_cmp}
+use Rattle.mail_index.specs.Directory.{is_entry, end_before, text_at, read_entry, read_entries, IsEntryAt, AreEntries}
 use Rattle.mail_index.proofs.FileLaws.Fronts.{before, concat_then}
 use Rattle.mail_index.proofs.FileLaws.Bytes.{AreBytes, bytes_behind, bytes_before, u32_back, u64_back, byte_back, both, length_part}
-use Rattle.mail_index.proofs.ViewLaws.KeyOrder.{kind_back, kind_passes, kind_kept, few_kinds, is_before, key_less, first_less}
+use Rattle.mail_index.proofs.ViewLaws.KindNumbers.{kind_of-number, kind_passes, kind_kept, few_kinds, first_less}
 
 -- each entry comes after the one before it, and the first after this key
 abbrev pub AreAfter : ℕ → List ℕ → List Entry → Type 0
@@ -27,11 +28,11 @@ AreAfter number text (e ∷ es) = (key_cmp number text (kind_number e.kind) e.te
 pub sorted : (number : ℕ) (text : List ℕ) (es : List Entry) → AreAfter number text es → AllNext EntryBefore es
 sorted number text [] h = tt
 sorted number text (e ∷ []) h = tt
-sorted number text (e ∷ f ∷ es) h = (is_before e.kind f.kind e.text f.text h.1.0, sorted (kind_number e.kind) e.text (f ∷ es) h.1)
+sorted number text (e ∷ f ∷ es) h = (h.1.0, sorted (kind_number e.kind) e.text (f ∷ es) h.1)
 
 after_first : (e : Entry) (es : List Entry) → AllNext EntryBefore (e ∷ es) → AreAfter (kind_number e.kind) e.text es
 after_first e [] h = tt
-after_first e (f ∷ es) h = (key_less e.kind f.kind e.text f.text h.0, after_first f es h.1)
+after_first e (f ∷ es) h = (h.0, after_first f es h.1)
 
 pub are_after : (es : List Entry) → AllNext EntryBefore es → AreAfter 0 [] es
 are_after [] h = tt
@@ -198,7 +199,7 @@ front_entry version texts postings tp pp e es h a =
 entry_back : (version : ℕ) (texts postings : List ℕ) (tp pp : ℕ) (e : Entry) (es : List Entry) (d : List ℕ) → FrontOf version texts postings tp pp e es d → byte_at d 0 ≡ kind_number e.kind → read_entry texts postings d ≡ e
 unfolding read_entry
 entry_back version texts postings tp pp e es d f k =
-    let kind : kind_of_number (byte_at d 0) ≡ e.kind = ap kind_of_number k ∙ kind_back e.kind in
+    let kind : kind_of_number (byte_at d 0) ≡ e.kind = ap kind_of_number k ∙ kind_of-number e.kind in
     let text = f.text in
     let its = f.its in
     λ i. record { kind = kind i; text = text i; postings = its i }

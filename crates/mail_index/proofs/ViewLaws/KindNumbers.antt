@@ -1,9 +1,15 @@
 -- A kind is told by its number, and the newest version has each.
-use Rattle.std.proofs.Common.{◌≡◌, ◌≤◌, refl, arith}
+use Rattle.std.proofs.Common.{◌≡◌, ℕ, zero, suc, ◌<◌, ◌≤◌, true, false, nat_eq, if◌then◌else◌, List, refl, sym, ap, ◌∙◌, arith}
+use Rattle.std.specs.declared.cmp.Ordering.{Ordering}
+use Rattle.std.specs.declared.cmp.Ordering.TheVariants.{Less, Equal}
+use Rattle.std.specs.Ordering.{nat_cmp, ordering_then}
+use Rattle.std.specs.Cmp.Lexicographic.{slice_cmp}
+use Rattle.std.proofs.lemmas.Bool.Decides.{nat_tests}
 use Rattle.mail_words.specs.declared.kind.TextKind.TheVariants.{To, Cc, Bcc, From, Subject, Body, Name}
 use Rattle.mail_index.specs.declared.kind.Kind.{Kind}
 use Rattle.mail_index.specs.declared.kind.Kind.TheVariants.{Text, OwnId, LinkId}
-use Rattle.mail_index.specs.Kinds.{kind_number, kind_of_number}
+use Rattle.mail_index.specs.Kinds.{kind_number, kind_of_number, is_kind_number}
+use Rattle.mail_index.specs.OrderOfKeys.{key_cmp}
 use Rattle.mail_index.specs.Versions.{newest, last_kind}
 
 pub kind_of-number : (k : Kind) → kind_of_number (kind_number k) ≡ k
@@ -28,3 +34,52 @@ kind_number-known (Text Body) = omega arith
 kind_number-known OwnId = omega arith
 kind_number-known LinkId = omega arith
 kind_number-known (Text Name) = omega arith
+
+-- a number that is one of a kind is the number of that kind
+pub kind_kept : (last n : ℕ) → last ≤ 9 → is_kind_number last n ≡ true → kind_number (kind_of_number n) ≡ n
+kind_kept last zero l h = absurd (let g : false ≡ true = h in cc)
+kind_kept last (suc zero) l h = refl
+kind_kept last (suc (suc zero)) l h = refl
+kind_kept last (suc (suc (suc zero))) l h = refl
+kind_kept last (suc (suc (suc (suc zero)))) l h = refl
+kind_kept last (suc (suc (suc (suc (suc zero))))) l h = refl
+kind_kept last (suc (suc (suc (suc (suc (suc zero)))))) l h = refl
+kind_kept last (suc (suc (suc (suc (suc (suc (suc zero))))))) l h = refl
+kind_kept last (suc (suc (suc (suc (suc (suc (suc (suc zero)))))))) l h = refl
+kind_kept last (suc (suc (suc (suc (suc (suc (suc (suc (suc zero))))))))) l h = refl
+kind_kept last (suc (suc (suc (suc (suc (suc (suc (suc (suc (suc n)))))))))) l h = absurd (grind (arith, nat_tests, l))
+
+pub kind_is : (j k : Kind) → kind_number j ≡ kind_number k → j ≡ k
+kind_is j k e = sym (kind_of-number j) ∙ ap kind_of_number e ∙ kind_of-number k
+
+pub kind_some : (k : Kind) → 0 < kind_number k
+kind_some (Text To) = omega arith
+kind_some (Text Cc) = omega arith
+kind_some (Text Bcc) = omega arith
+kind_some (Text From) = omega arith
+kind_some (Text Subject) = omega arith
+kind_some (Text Body) = omega arith
+kind_some OwnId = omega arith
+kind_some LinkId = omega arith
+kind_some (Text Name) = omega arith
+
+pub kind_passes : (last : ℕ) (k : Kind) → kind_number k ≤ last → is_kind_number last (kind_number k) ≡ true
+kind_passes last k h = let some : 1 ≤ kind_number k = omega (arith, kind_some k) in grind (arith, nat_tests, some, h)
+
+pub few_kinds : (version : ℕ) → last_kind version ≤ 9
+few_kinds version = elim (nat_eq version 1) as (λ b. (if b then 8 else 9) ≤ 9) [
+  | true ↦ omega arith
+  | false ↦ omega arith
+]
+
+-- ---- how numbers lie to one another
+
+pub lower : (x y : ℕ) → x < y → nat_cmp x y ≡ Less
+lower x y h = grind (arith, nat_tests)
+
+pub tied : (x y : ℕ) → x ≡ y → nat_cmp x y ≡ Equal
+tied x y h = grind (arith, nat_tests)
+
+-- a key comes behind kind 0
+pub first_less : (xs : List ℕ) (k : Kind) (ys : List ℕ) → key_cmp 0 xs (kind_number k) ys ≡ Less
+first_less xs k ys = ap (λ (o : Ordering). ordering_then o (slice_cmp nat_cmp xs ys)) (lower 0 (kind_number k) (kind_some k))

@@ -17,7 +17,7 @@ use Rattle.mail_index.specs.Kinds.{kind_number}
 use Rattle.mail_index.specs.Tables.{Key}
 use Rattle.mail_index.specs.LookUps.{is_of_kind, AreSorted, keys_of, keys_beginning}
 use Rattle.mail_index.specs.Inside.KeyRuns.{lies_to_run, keys_between}
-use Rattle.mail_index.proofs.ViewLaws.KeyOrder.{tied}
+use Rattle.mail_index.proofs.ViewLaws.KindNumbers.{tied}
 use Rattle.mail_index.proofs.ViewLaws.LookUpLemmas.{key_bytes}
 
 -- ---- sorted keys lie in rising order to a run

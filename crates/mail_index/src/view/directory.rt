@@ -3,7 +3,8 @@ ghost use Rattle.std.specs.Prelude.{◌≡◌, ◌+◌, ◌-◌, ◌<◌, ◌≤
 ghost use Rattle.mail_index.specs.Steps.{add_steps};
 ghost use Rattle.mail_index.specs.Kinds.{kind_number};
 ghost use Rattle.mail_index.specs.Fields.{byte_at, u32_at as u32_in, u64_at as u64_in};
-ghost use Rattle.mail_index.specs.Directory.{key_cmp, text_at, end_before as end_before_of};
+ghost use Rattle.mail_index.specs.OrderOfKeys.{key_cmp};
+ghost use Rattle.mail_index.specs.Directory.{text_at, end_before as end_before_of};
 ghost use Rattle.mail_index.specs.Lists.{list_at};
 ghost use Rattle.mail_index.specs.KeysRead.{IsDirectory, keys_read, key_at};
 

@@ -2,7 +2,8 @@
 ghost use Rattle.std.specs.Prelude.{◌≡◌, ◌↔◌, ◌+◌, ◌-◌, ◌*◌, ◌≤◌, ◌<◌, ℕ, [], length, take, drop, MatchOption, IsTrue};
 ghost use Rattle.mail_index.specs.Versions.{version_number};
 ghost use Rattle.mail_index.specs.Fields.{byte_at, u32_at as u32_in, u64_at as u64_in};
-ghost use Rattle.mail_index.specs.Directory.{key_cmp, is_entry as is_entry_of, end_before as end_before_of, text_at, IsEntryAt, AreEntries};
+ghost use Rattle.mail_index.specs.OrderOfKeys.{key_cmp};
+ghost use Rattle.mail_index.specs.Directory.{is_entry as is_entry_of, end_before as end_before_of, text_at, IsEntryAt, AreEntries};
 
 use crate::fields::{u32_at, u64_at};
 use crate::version::Version;

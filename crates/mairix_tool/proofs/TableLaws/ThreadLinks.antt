@@ -1,13 +1,16 @@
 -- The table of archives links two messages exactly where they share a link id of their own.
-use Rattle.std.proofs.Common.{◌≡◌, ◌∙◌, ◌<◌, ℕ, Bool, true, false, cond, ◌&&◌, ◌||◌, List, [], ◌∷◌, map, filter, inl, inr, refl, sym, ap, subst, arith}
+use Rattle.std.proofs.Common.{◌≡◌, ◌∙◌, ℕ, Bool, true, false, cond, ◌&&◌, ◌||◌, List, [], ◌∷◌, map, filter, refl, sym, ap, subst}
 use Rattle.std.specs.List.{list_any}
 use Rattle.std.specs.Str.{bytes_eq}
+use Rattle.std.specs.declared.cmp.Ordering.TheVariants.{Less, Equal}
 use Rattle.std.proofs.lemmas.Bool.{eqb-true}
+use Rattle.std.proofs.lemmas.Cmp.{nat_list_cmp_total, tied_itself}
 use Rattle.std.proofs.lemmas.Slice.Eq.{bytes_eq-Decides}
 use Rattle.mail_index.specs.declared.kind.Kind.{Kind}
 use Rattle.mail_index.specs.declared.kind.Kind.TheVariants.{LinkId}
 use Rattle.mail_index.specs.Kinds.{kind_number}
-use Rattle.mail_index.specs.Tables.{Key, TextBefore, KeyBefore, AllNext}
+use Rattle.mail_index.specs.OrderOfKeys.{key_cmp}
+use Rattle.mail_index.specs.Tables.{Key, KeyBefore, AllNext}
 use Rattle.mail_index.specs.LookUps.{is_of_kind, keys_of}
 use Rattle.mail_answer.specs.TableFacts.{is_among, texts_with}
 use Rattle.mairix_tool.specs.MailOfArchives.{share_id}
@@ -94,25 +97,8 @@ both-keys m n (k ∷ ks) apart = go (is_among m k.numbers) (is_among n k.numbers
 
 -- ---- sorted keys of a kind are apart
 
-text-before-itself : (xs : List ℕ) → TextBefore xs xs → ⊥
-text-before-itself [] h = h
-text-before-itself (x ∷ xs) (inl low) = omega (arith, low)
-text-before-itself (x ∷ xs) (inr same) = text-before-itself xs same.1
-
-text-before-through : (xs ys zs : List ℕ) → TextBefore xs ys → TextBefore ys zs → TextBefore xs zs
-text-before-through xs [] zs one two = absurd one
-text-before-through xs (y ∷ ys) [] one two = absurd two
-text-before-through [] (y ∷ ys) (z ∷ zs) one two = tt
-text-before-through (x ∷ xs) (y ∷ ys) (z ∷ zs) (inl a) (inl b) = inl (omega (arith, a, b))
-text-before-through (x ∷ xs) (y ∷ ys) (z ∷ zs) (inl a) (inr b) = inl (omega (arith, a, b.0))
-text-before-through (x ∷ xs) (y ∷ ys) (z ∷ zs) (inr a) (inl b) = inl (omega (arith, a.0, b))
-text-before-through (x ∷ xs) (y ∷ ys) (z ∷ zs) (inr a) (inr b) = inr (a.0 ∙ b.0, text-before-through xs ys zs a.1 b.1)
-
 before-through : (a b c : Key) → KeyBefore a b → KeyBefore b c → KeyBefore a c
-before-through a b c (inl p) (inl q) = inl (omega (arith, p, q))
-before-through a b c (inl p) (inr q) = inl (subst (λ (k : Kind). kind_number a.kind < kind_number k) q.0 p)
-before-through a b c (inr p) (inl q) = inl (subst (λ (k : Kind). kind_number k < kind_number c.kind) (sym p.0) q)
-before-through a b c (inr p) (inr q) = inr (p.0 ∙ q.0, text-before-through a.text b.text c.text p.1 q.1)
+before-through a b c one two = nat_list_cmp_total.trans (kind_number a.kind ∷ a.text) (kind_number b.kind ∷ b.text) (kind_number c.kind ∷ c.text) one two
 
 -- the key lies before each of these
 abbrev BeforeAll : Key → List Key → Type 0
@@ -137,9 +123,12 @@ not-same-text kind a k of_a of_k before = go (bytes_eq a.text k.text) refl
     kinds : kind_number a.kind ≡ kind_number k.kind
     kinds = eqb-true (kind_number a.kind) (kind_number kind) of_a ∙ sym (eqb-true (kind_number k.kind) (kind_number kind) of_k)
 
+    -- a key doesn't come before itself
     never : KeyBefore a k → a.text ≡ k.text → ⊥
-    never (inl low) same = omega (arith, low, kinds)
-    never (inr h) same = text-before-itself k.text (subst (λ (x : List ℕ). TextBefore x k.text) same h.1)
+    never first same =
+        let itself : key_cmp (kind_number k.kind) k.text (kind_number k.kind) k.text ≡ Less = subst (λ (x : List ℕ). key_cmp (kind_number k.kind) x (kind_number k.kind) k.text ≡ Less) same (subst (λ (n : ℕ). key_cmp n a.text (kind_number k.kind) k.text ≡ Less) kinds first) in
+        let tie : key_cmp (kind_number k.kind) k.text (kind_number k.kind) k.text ≡ Equal = tied_itself nat_list_cmp_total (kind_number k.kind ∷ k.text) in
+        cc
 
     go : (b : Bool) → bytes_eq a.text k.text ≡ b → bytes_eq a.text k.text ≡ false
     go false is = is
