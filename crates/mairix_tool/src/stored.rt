@@ -14,6 +14,7 @@ ghost use Rattle.mairix_tool.specs.ArchivesIndexed.{mboxes};
 ghost use Rattle.mairix_tool.specs.Asked.{asked, Wanted as Asked, wanted as wanted_of};
 ghost use Rattle.mairix_tool.specs.OldTables.{but_digests, old_table};
 ghost use Rattle.mairix_tool.specs.Counts.{KeepsRawBack};
+ghost use Rattle.mairix_tool.specs.Inside.Answering.{AsksIndex};
 ghost use Rattle.mairix_tool.specs.Faults.{fault_in, refusal_of, is_failed_out, is_failed_archives, is_of_index, IsOfAnswer, IsSearchFault};
 ghost use Rattle.mairix_tool.specs.Replies.{RefusesAsked, IsConsistent};
 ghost use Rattle.mairix_tool.specs.Runs.{IsReply, IsStoredReply, IsProvedAndTold, IsStaleOr, TellsProved, unproved_archive, RepliesBy, reply_of, IsRefusedAs, IsIndexRefusal, IsThisOrMemory, IsCountedWhere, is_too_old, renamed_archive};
@@ -129,10 +130,7 @@ fn answer_opened<A: Archives, O: Out>(
     ensures told { (held : List (List ℕ)) → A.held archives.old ≡ Some held
         → RepliesBy (IsProvedAndTold (wanted_of found.now.wanted) found.now.view held) (reply_of result) (O.taken out.old) (O.taken out.new) }
     ensures counted { IsCountedWhere found.now.view (wanted_of found.now.wanted).search (A.held archives.old) (reply_of result).fault (reply_of result) (O.taken out.old) (O.taken out.new) }
-    ensures own { IfErr result IsOfAnswer }
-    ensures raw { KeepsRawBack (wanted_of found.now.wanted).search (fault_in result) out.old out.new }
-    ensures archives_failed { Counted (is_failed_archives (fault_in result)) (A.failures archives.old) (A.failures archives.new) }
-    ensures out_failed { Counted (is_failed_out (fault_in result)) (O.failures out.old) (O.failures out.new) }
+    ensures asks { AsksIndex A.Archives O.Out (wanted_of found.now.wanted).search archives.old archives.new out.old out.new result }
 {
     prove_archives(alloc, found, archives)?;
     answer_view(alloc, &found.view, &found.wanted, archives, out)

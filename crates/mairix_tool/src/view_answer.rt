@@ -1,11 +1,9 @@
 //! What an index answers to what is asked.
-ghost use Rattle.std.specs.Prelude.{◌≡◌, ◌<◌, ◌^◌, ◌-◌, ℕ, List, Some, IfErr};
-ghost use Rattle.contract_words.specs.Devices.{Counted};
+ghost use Rattle.std.specs.Prelude.{◌≡◌, ◌<◌, ◌^◌, ◌-◌, ℕ, List, Some};
 ghost use Rattle.mail_index.specs.Faults.{IsFileOf};
 ghost use Rattle.mail_index.specs.Tables.{Table};
 ghost use Rattle.mairix_tool.specs.Asked.{wanted as wanted_of};
-ghost use Rattle.mairix_tool.specs.Counts.{KeepsRawBack};
-ghost use Rattle.mairix_tool.specs.Faults.{fault_in, is_failed_archives, is_failed_out, IsOfAnswer};
+ghost use Rattle.mairix_tool.specs.Inside.Answering.{AsksIndex};
 ghost use Rattle.mairix_tool.specs.Runs.{IsTold, RepliesBy, reply_of, IsCountedWhere, fault_of_answer_kind};
 
 use crate::fault::Fault;
@@ -28,10 +26,7 @@ pub(crate) fn answer_bytes<A: Archives, O: Out>(
     requires out { O.failures out.old < 2 ^ 64 - 1 }
     ensures told { (t : Table) (held : List (List ℕ)) → IsFileOf bytes.now t → A.held archives.old ≡ Some held
         → RepliesBy (IsTold t (wanted_of wanted.now).search held) (reply_of result) (O.taken out.old) (O.taken out.new) }
-    ensures own { IfErr result IsOfAnswer }
-    ensures raw { KeepsRawBack (wanted_of wanted.now).search (fault_in result) out.old out.new }
-    ensures archives_failed { Counted (is_failed_archives (fault_in result)) (A.failures archives.old) (A.failures archives.new) }
-    ensures out_failed { Counted (is_failed_out (fault_in result)) (O.failures out.old) (O.failures out.new) }
+    ensures asks { AsksIndex A.Archives O.Out (wanted_of wanted.now).search archives.old archives.new out.old out.new result }
 {
     match IndexView::open(bytes) {
         Ok(index) => answer_view(alloc, &index, wanted, archives, out),
@@ -52,10 +47,7 @@ pub(crate) fn answer_view<A: Archives, O: Out>(
     ensures told { (held : List (List ℕ)) → A.held archives.old ≡ Some held
         → RepliesBy (IsTold index.now (wanted_of wanted.now).search held) (reply_of result) (O.taken out.old) (O.taken out.new) }
     ensures counted { IsCountedWhere index.now (wanted_of wanted.now).search (A.held archives.old) (reply_of result).fault (reply_of result) (O.taken out.old) (O.taken out.new) }
-    ensures own { IfErr result IsOfAnswer }
-    ensures raw { KeepsRawBack (wanted_of wanted.now).search (fault_in result) out.old out.new }
-    ensures archives_failed { Counted (is_failed_archives (fault_in result)) (A.failures archives.old) (A.failures archives.new) }
-    ensures out_failed { Counted (is_failed_out (fault_in result)) (O.failures out.old) (O.failures out.new) }
+    ensures asks { AsksIndex A.Archives O.Out (wanted_of wanted.now).search archives.old archives.new out.old out.new result }
 {
     match answer(
         alloc,

@@ -11,6 +11,7 @@ use Rattle.mail_answer.specs.declared.fault.AnswerFaultKind.TheVariants as kind
 use Rattle.mail_answer.specs.declared.format.Format.{Format}
 use Rattle.mail_answer.specs.declared.format.Format.TheVariants.{Raw, Excerpt, Mbox}
 use Rattle.mail_answer.specs.Answers.{AnswersStale}
+use Rattle.mail_answer.specs.Faults.{is_of_archives, is_of_output}
 use Rattle.mail_answer.specs.Mail.{Search}
 use Rattle.mail_answer.specs.Shapes.{answer_text, known_answer}
 use Rattle.mail_answer.specs.Sheets.{Tells}
@@ -18,7 +19,7 @@ use Rattle.mail_answer.specs.Stale.{stale_archive}
 use Rattle.mail_answer.specs.TableAnswers.{TableAnswer, IsTableAnswer, Answers, IsBeforeText, is_unwritten, answer_of_numbers}
 use Rattle.mail_answer.proofs.OutputLaws.EveryAnswer.{some-chosen}
 use Rattle.mairix_tool.specs.declared.fault.Fault.TheVariants as of
-use Rattle.mairix_tool.specs.Faults.{is_changed_or_unread}
+use Rattle.mairix_tool.specs.Faults.{is_changed_or_unread, is_failed_archives, is_failed_out, IsOfAnswer}
 use Rattle.mairix_tool.specs.Replies.{Answer, refused, status_of_count}
 use Rattle.mairix_tool.specs.Runs.{answered, IsStaleOr, IsFoundIn, IsTold, RepliesBy, reply_of, fault_of_answer_kind, IsCounted}
 
@@ -92,3 +93,22 @@ raw-unwritten P fault before unwritten = go fault.kind fault.sent before unwritt
     go kind.Device sent none given = subst (λ (s : ℕ). OnTrue ((s == 0) && true) P) none given
     go kind.OutOfMemory sent none given = tt
     go kind.OutFailed sent none given = tt
+
+-- a fault of an answer is told as one, and of the same device
+pub told-own : (k : AnswerFaultKind) → IsOfAnswer (fault_of_answer_kind k)
+told-own (kind.Stale n) = tt
+told-own kind.Device = tt
+told-own kind.OutOfMemory = tt
+told-own kind.OutFailed = tt
+
+pub told-archives : (k : AnswerFaultKind) → is_of_archives k ≡ is_failed_archives (Some (fault_of_answer_kind k))
+told-archives (kind.Stale n) = refl
+told-archives kind.Device = refl
+told-archives kind.OutOfMemory = refl
+told-archives kind.OutFailed = refl
+
+pub told-out : (k : AnswerFaultKind) → is_of_output k ≡ is_failed_out (Some (fault_of_answer_kind k))
+told-out (kind.Stale n) = refl
+told-out kind.Device = refl
+told-out kind.OutOfMemory = refl
+told-out kind.OutFailed = refl

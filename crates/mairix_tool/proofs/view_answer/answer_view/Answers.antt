@@ -1,10 +1,11 @@
-use Rattle.std.proofs.Common.{◌≡◌, ℕ, List, Option, Ok, Err, subst}
+use Rattle.std.proofs.Common.{◌≡◌, ℕ, Bool, List, Option, Ok, Err, subst}
+use Rattle.contract_words.specs.Devices.{Counted}
 use Rattle.mail_answer.specs.Answers.{AnswersStale}
 use Rattle.mail_answer.specs.Stale.{stale_archive}
 use Rattle.mail_answer.specs.TableAnswers.{TableAnswer, IsTableAnswer, Answers}
 use Rattle.std.specs.Prelude.{IfSome}
 use Rattle.mairix_tool.specs.Asked.{wanted}
-use Rattle.mairix_tool.proofs.ReplyLaws.Answers.{ok-told, err-told, ok-counted, raw-unwritten}
+use Rattle.mairix_tool.proofs.ReplyLaws.Answers.{ok-told, err-told, ok-counted, raw-unwritten, told-own, told-archives, told-out}
 use Rattle.mairix_tool.proofs.view_answer.answer_view.Goals as goal
 
 pub returns-in-Ok-clause-told : goal.returns-in-Ok-clause-told
@@ -32,6 +33,21 @@ returns-in-Err-clause-told g c = λ held known.
     (subst (λ (o : Option (List (List ℕ))). (a : TableAnswer) → IsTableAnswer t s o a → Answers old new a (Err c.in-Err.fault)) known c.in-Err.ensures.answered)
     (subst (λ (o : Option (List (List ℕ))). IfSome o (λ bytes. AnswersStale old new (stale_archive t.archives bytes) (Err c.in-Err.fault))) known c.in-Err.ensures.stale))
 
-pub returns-in-Err-clause-raw : goal.returns-in-Err-clause-raw
-returns-in-Err-clause-raw g c = λ format.
-    rw c.fault_of_answer.ensures (raw-unwritten (c.answer.new.out ≡ c.args.out.now) c.in-Err.fault (c.in-Err.ensures.raw format) c.in-Err.ensures.unwritten)
+pub returns-in-Ok-clause-asks : goal.returns-in-Ok-clause-asks
+returns-in-Ok-clause-asks g c = record {
+  own = tt;
+  raw = λ _. tt;
+  archives_failed = c.in-Ok.ensures.archives_count;
+  out_failed = c.in-Ok.ensures.out_count;
+}
+
+pub returns-in-Err-clause-asks : goal.returns-in-Err-clause-asks
+returns-in-Err-clause-asks g c =
+    let k = c.in-Err.fault.kind in
+    rw c.fault_of_answer.ensures
+    (record {
+      own = told-own k;
+      raw = λ format. raw-unwritten (c.answer.new.out ≡ c.args.out.now) c.in-Err.fault (c.in-Err.ensures.raw format) c.in-Err.ensures.unwritten;
+      archives_failed = subst (λ (b : Bool). Counted b (g.A.Archives.failures c.args.archives.now) (g.A.Archives.failures c.answer.new.archives)) (told-archives k) c.in-Err.ensures.archives_count;
+      out_failed = subst (λ (b : Bool). Counted b (g.O.Out.failures c.args.out.now) (g.O.Out.failures c.answer.new.out)) (told-out k) c.in-Err.ensures.out_count;
+    })

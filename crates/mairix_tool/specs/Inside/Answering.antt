@@ -1,0 +1,18 @@
+-- What asking an index does to the archives and to the output.
+use Rattle.std.specs.Prelude.{IfErr, Result}
+use Rattle.contract_words.specs.Devices.{Counted}
+use Rattle.mbox_cutter.specs.declared.device.Out.{Ghosts as OutGhosts}
+use Rattle.mail_answer.specs.Mail.{Search}
+use Rattle.mail_answer.specs.declared.archives.Archives.{Ghosts}
+use Rattle.mairix_tool.specs.Counts.{KeepsRawBack}
+use Rattle.mairix_tool.specs.Faults.{fault_in, is_failed_archives, is_failed_out, IsOfAnswer}
+use Rattle.mairix_tool.specs.declared.fault.Fault.{Fault}
+
+-- an index was asked, over archives and into an output
+pub record AsksIndex {A O T : Type 0} (g : Ghosts A) (h : OutGhosts O) (search : Search) (old new : A) (before after : O) (result : Result T Fault) : Type 0 where
+  -- only a fault of an answer is told
+  pub own : IfErr result IsOfAnswer
+  pub raw : KeepsRawBack search (fault_in result) before after
+  -- each device's count rises by one exactly where its failure is told
+  pub archives_failed : Counted (is_failed_archives (fault_in result)) (g.failures old) (g.failures new)
+  pub out_failed : Counted (is_failed_out (fault_in result)) (h.failures before) (h.failures after)
