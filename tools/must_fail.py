@@ -33,7 +33,7 @@ from pathlib import Path
 
 sys.dont_write_bytecode = True
 from function_bodies import bodies_of_file
-from machine import checks_side_by_side
+from machine import checks_side_by_side, processors
 
 RT = os.environ.get("RT", "rt")
 MOST_IN_A_ROUND = 25
@@ -140,7 +140,7 @@ def read_edit(file, crate):
 
 @dataclass
 class Crate:
-    """A crate whose text is edited: its name, its folder, and the command of a check in a copy of it, but for the folder of kept work."""
+    """A crate whose text is edited: its name, its folder, and the command of a check in a copy of it, but for its jobs and the folder of kept work."""
 
     name: str
     folder: Path
@@ -187,10 +187,10 @@ class Toolchain:
         return found
 
     def crate(self, name):
-        """A crate with the command of its check, one job, over built libraries."""
+        """A crate with the command of its check over built libraries."""
         folder = self.root / "crates" / name
         top = "src/main.rt" if (folder / "src/main.rt").is_file() else "src/lib.rt"
-        command = [self.kit / "bin/rattle", "check", "--crate-name", name, top, "--jobs", "1", "--links", f"{name}="]
+        command = [self.kit / "bin/rattle", "check", "--crate-name", name, top, "--links", f"{name}="]
         command += ["--antt-project", self.kit / "rattle/logic/antt-project.json", "--logic-built", self.kit / "logic_built"]
         for library in ["std", *self.below[name]]:
             of_kit = self.kit / "rlibs" / f"{library}.rlib"
@@ -199,6 +199,11 @@ class Toolchain:
         folders = [self.kit / "rlibs", *[self.root / "crates" / it / "out/rlib" for it in self.all_below(name)]]
         command += [word for it in folders for word in ("-L", f"dependency={it}")]
         return Crate(name, folder, [str(word) for word in command])
+
+
+def idle_processors():
+    """How many jobs a check gets: one, and one more for each processor that idles besides, as far as memory goes."""
+    return max(1, min(processors() - round(os.getloadavg()[0]), checks_side_by_side()))
 
 
 def joined(lines):
@@ -291,7 +296,7 @@ class Room:
         for path, text in texts.items():
             (self.folder / path).write_text(text, "utf-8")
         only = [word for it in sorted(functions) for word in ("--only", it.partition("::")[2])]
-        verdict = Verdict(*Commands.run([*self.crate.command, "--incremental", str(self.kept), *only], self.folder))
+        verdict = Verdict(*Commands.run([*self.crate.command, "--jobs", str(idle_processors()), "--incremental", str(self.kept), *only], self.folder))
         for path in texts:
             (self.folder / path).write_text(self.crate.text(path), "utf-8")
         self.checks += 1
