@@ -7,20 +7,30 @@ installed, over the same 10,000 messages in one run.
 Prints the processor seconds (the least of the runs), the peak memory, and the ratio to what each line is measured by. Past runs are kept
 in bench/results/.
 """
-import collections, os, re, shutil, subprocess, sys, tempfile, time
+import collections, os, re, shutil, statistics, subprocess, sys, tempfile, time
 
 HERE = os.path.dirname(os.path.abspath(__file__))
 RUNS = 15
 
 
+def measured_once(command, folder, environment=None):
+    """The processor seconds and the megabytes of a run."""
+    env = dict(os.environ, **(environment or {}))
+    told = subprocess.run(["./measure", "answer"] + command, cwd=folder, stdin=subprocess.DEVNULL, capture_output=True, check=True, env=env).stdout.split()
+    return float(told[0]), int(told[1]) / 1024
+
+
 def measured(command, folder, environment=None):
     """The least processor seconds and the most megabytes of some runs, and the bytes that went to standard output."""
-    env = dict(os.environ, **(environment or {}))
-    runs = []
-    for _ in range(RUNS):
-        told = subprocess.run(["./measure", "answer"] + command, cwd=folder, stdin=subprocess.DEVNULL, capture_output=True, check=True, env=env).stdout.split()
-        runs.append((float(told[0]), int(told[1]) / 1024))
+    runs = [measured_once(command, folder, environment) for _ in range(RUNS)]
     return max(min(run[0] for run in runs), 5e-4), max(run[1] for run in runs), os.path.getsize(os.path.join(folder, "answer"))
+
+
+def beside_search(answer, search, copy, folder):
+    """How many times a copy of its bytes an answer takes beside the search itself: the median over rounds of the three, one after another, since
+    what a processor gives changes from one second to the next."""
+    rounds = [[measured_once(command, folder)[0] for command in (answer, search, copy)] for _ in range(2 * RUNS)]
+    return statistics.median((one - two) / three for one, two, three in rounds)
 
 
 def frequent_word(path):
@@ -88,15 +98,14 @@ def main(program):
         print("10,000 messages, %.0f MB; index %.1f MB; the word is in %d" % (os.path.getsize(archive) / 1e6, index / 1e6, count))
         digest = tell("sha256sum of the index", measured(["sha256sum", "m.idx"], folder))
         search = [program, "-f", "rc"]
-        raw = tell("mairix, raw", measured(search + ["-r", "b:" + word], folder), ("sha256sum", digest))
+        tell("mairix, raw", measured(search + ["-r", "b:" + word], folder), ("sha256sum", digest))
         told = dict((name, tell(name, measured(command, folder, environment))) for name, command, environment in peers(folder, word))
         tell("mairix, excerpts", measured(search + ["-x", "b:" + word], folder), ("C mairix's", told["C mairix, excerpts"]) if told else None)
-        mbox = measured(search + ["b:" + word], folder)
-        copied = tell("cat of the answer", measured(["cat", "hits"], folder))
-        tell("mairix, mbox", mbox)
-        print("  the mbox answer beside the search itself: %.2f times cat" % ((mbox[0] - raw) / copied))
-        streamed = tell("mairix, mbox --stdout", measured(search + ["--stdout", "b:" + word], folder))
-        print("  that to standard output, as cat writes: %.2f times cat" % ((streamed - raw) / copied))
+        mbox, streamed, copy = search + ["b:" + word], search + ["--stdout", "b:" + word], ["cat", "hits"]
+        tell("mairix, mbox", measured(mbox, folder))
+        tell("cat of the answer", measured(copy, folder))
+        print("  the mbox answer beside the search itself: %.2f times cat" % beside_search(mbox, search + ["-r", "b:" + word], copy, folder))
+        print("  to standard output, as cat writes:        %.2f times cat" % beside_search(streamed, search + ["-r", "b:" + word], copy, folder))
         tell("mairix, part (b:%s=)" % word[0], measured(search + ["-r", "b:%s=" % word[0]], folder))
 
 
