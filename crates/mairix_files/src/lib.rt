@@ -1,13 +1,11 @@
 //! Real files as devices, files that take their names once they are whole, and which names lead to one file.
 #![tactic(auto)]
 
-mod file_archives;
 mod file_source;
 mod new_file;
 mod same_file;
 mod whole_file;
 
-pub use file_archives::FileArchives;
 pub use file_source::{FileSource, sources_of};
 pub use new_file::NewFile;
 pub use same_file::is_same_file;

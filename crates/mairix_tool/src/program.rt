@@ -1,4 +1,5 @@
 //! The program: files in, standard output, standard error and an exit status out.
+mod file_archives;
 mod new_index;
 mod output_file;
 mod read_files;

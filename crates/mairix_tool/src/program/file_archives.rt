@@ -18,7 +18,7 @@ struct OpenArchive {
 /// The files of some paths, of which at most one is open at a time: the one that was read last. A length is known without reading.
 /// What is no file has none, as a folder, or a path that leads nowhere.
 #[derive(Drop)]
-pub struct FileArchives<'p, R: Files<File = File>> {
+pub(crate) struct FileArchives<'p, R: Files<File = File>> {
     rt: &'p R,
     paths: &'p [String],
     open: Option<OpenArchive>,
@@ -28,7 +28,7 @@ pub struct FileArchives<'p, R: Files<File = File>> {
 
 impl<'p, R: Files<File = File>> FileArchives<'p, R> {
     /// Opens no file yet. There are no numbers for more than 4,294,967,295 paths, and for these it answers none.
-    pub fn new(rt: &'p R, paths: &'p [String]) -> Option<FileArchives<'p, R>>
+    pub(crate) fn new(rt: &'p R, paths: &'p [String]) -> Option<FileArchives<'p, R>>
         ensures few { IsSome result ↔ length paths.now < 2 ^ 32 }
         ensures number { IfSome result (λ archives. ⟦<FileArchives<'p, R> as Archives>⟧.number archives ≡ length paths.now) }
         ensures fresh { IfSome result (λ archives. ⟦<FileArchives<'p, R> as Archives>⟧.failures archives ≡ 0) }
