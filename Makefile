@@ -13,9 +13,10 @@ PAGES = man/mairix.1:man/man1/mairix.1 man/mairixrc.5:man/man5/mairixrc.5 man/ma
 
 .PHONY: build run test install uninstall dist
 
-# Leaves the executable at $(PROGRAM). The first time each crate below it is proved, one after another, with as many jobs as processors
-# and memory allow (the crates stand in one long chain, so that side by side most processors would wait); later only what has changed.
+# Leaves the executable at $(PROGRAM). The first time each crate below it is proved, those that don't stand on one another side by side,
+# as far as processors and memory go; later only what has changed.
 build:
+	RT=$(RT) tools/first_build.py --jobs $(JOBS) mairix
 	cd crates/mairix && $(RT) run --jobs $(JOBS) -- -h >/dev/null
 
 run: build

@@ -216,8 +216,8 @@ def files_in(folder):
 
 
 def make(target, *settings):
-    """Runs make without building."""
-    run = subprocess.run(["make", "-C", TOP, target, "RT=true", *settings], capture_output=True, text=True, timeout=300)
+    """Runs make as if all were built."""
+    run = subprocess.run(["make", "-C", TOP, "-o", "build", target, *settings], capture_output=True, text=True, timeout=300)
     return run.stderr.strip() if run.returncode else ""
 
 

@@ -22,7 +22,6 @@ import argparse
 import os
 import re
 import shutil
-import signal
 import subprocess
 import sys
 import tempfile
@@ -32,47 +31,19 @@ from dataclasses import dataclass, field
 from pathlib import Path
 
 sys.dont_write_bytecode = True
+from commands import Commands
+from crates import PARTS, Crates
 from function_bodies import bodies_of_file
 from machine import checks_side_by_side, processors
 
 RT = os.environ.get("RT", "rt")
 MOST_IN_A_ROUND = 25
-PARTS = ("src", "specs", "proofs")
 ERROR = re.compile(r"(?:\./)?(\S+?):\d+:\d+: error\b")
 # What is said of a proof that names what an edit took away, and of what rests on such a proof.
 LOST_NAME = re.compile(r"has no field|is not in scope|has no `|was not admitted|: module `[^`]*`$|: record `[^`]*` \(nearest: ")
 # What is said of a function that is refused only since another isn't proved, also where it is proved together with those it calls.
 ONLY_CALLS = re.compile(r"(?:in `[^`]*`, of this cycle of calls: )?it calls ")
 CONSTANT = re.compile(r"^(?:pub(?:\([^)]*\))? )?(?:const|static) (\w+)", re.M)
-
-
-class Commands:
-    """The commands that run, so that none outlives this program."""
-
-    running = set()
-    stopped = False
-
-    @classmethod
-    def run(cls, words, folder):
-        """Runs a command in a folder, and returns its status and its lines."""
-        if cls.stopped:
-            raise SystemExit(143)
-        how = {"stdin": subprocess.DEVNULL, "stdout": subprocess.PIPE, "stderr": subprocess.STDOUT, "errors": "replace"}
-        with subprocess.Popen(words, cwd=folder, **how) as command:
-            cls.running.add(command)
-            try:
-                said = command.communicate()[0]
-            finally:
-                cls.running.discard(command)
-        return command.returncode, said.rstrip("\n").split("\n")
-
-    @classmethod
-    def stop(cls, *_):
-        """Ends all of them, and then this program, which clears its folders on its way out."""
-        cls.stopped = True
-        for command in list(cls.running):
-            command.kill()
-        raise SystemExit(143)
 
 
 @dataclass(frozen=True)
@@ -140,10 +111,12 @@ def read_edit(file, crate):
 
 @dataclass
 class Crate:
-    """A crate whose text is edited: its name, its folder, and the command of a check in a copy of it, but for its jobs and the folder of kept work."""
+    """A crate whose text is edited: its name, its folder, how many bytes of text it has, and the command of a check in a copy of it, but for its jobs
+    and the folder of kept work."""
 
     name: str
     folder: Path
+    size: int
     command: list
 
     def text(self, path):
@@ -162,43 +135,28 @@ class Crate:
         files = [str(it.relative_to(self.folder)) for it in (self.folder / "src").rglob("*.rt")]
         return {name for path in files for start, end, name in self.bodies(path) if named.search(self.text(path), start, end)}
 
-    def size(self):
-        return sum(it.stat().st_size for part in PARTS for it in (self.folder / part).rglob("*") if it.is_file())
-
 
 class Toolchain:
     """The prover, and the libraries that each crate of a repository stands on."""
 
     def __init__(self, root):
-        self.root = Path(root)
+        self.crates = Crates(root)
         self.kit = Path(subprocess.run([RT, "doc"], capture_output=True, text=True, check=True).stdout.strip()).parent
-        self.below = {}
-        for line in (self.root / "crates.txt").read_text("utf-8").splitlines():
-            name, colon, libraries = line.partition("#")[0].partition(":")
-            if colon:
-                self.below[name.split()[0]] = libraries.split()
-
-    def all_below(self, name):
-        """The repository's own libraries below a crate."""
-        found = []
-        for library in self.below[name]:
-            if library in self.below:
-                found += [it for it in [*self.all_below(library), library] if it not in found]
-        return found
 
     def crate(self, name):
         """A crate with the command of its check over built libraries."""
-        folder = self.root / "crates" / name
+        folder = self.crates.folder(name)
         top = "src/main.rt" if (folder / "src/main.rt").is_file() else "src/lib.rt"
         command = [self.kit / "bin/rattle", "check", "--crate-name", name, top, "--links", f"{name}="]
         command += ["--antt-project", self.kit / "rattle/logic/antt-project.json", "--logic-built", self.kit / "logic_built"]
-        for library in ["std", *self.below[name]]:
+        libraries = self.crates.libraries
+        for library in ["std", *libraries[name]]:
             of_kit = self.kit / "rlibs" / f"{library}.rlib"
-            own = self.root / "crates" / library / "out/rlib" / f"{library}.rlib"
-            command += ["--extern", f"{library}={own if library in self.below else of_kit}"]
-        folders = [self.kit / "rlibs", *[self.root / "crates" / it / "out/rlib" for it in self.all_below(name)]]
+            own = self.crates.folder(library) / "out/rlib" / f"{library}.rlib"
+            command += ["--extern", f"{library}={own if library in libraries else of_kit}"]
+        folders = [self.kit / "rlibs", *[self.crates.folder(it) / "out/rlib" for it in self.crates.below(name)]]
         command += [word for it in folders for word in ("-L", f"dependency={it}")]
-        return Crate(name, folder, [str(word) for word in command])
+        return Crate(name, folder, self.crates.size(name), [str(word) for word in command])
 
 
 def idle_processors():
@@ -397,8 +355,7 @@ def wanted_of(edits, wanted):
 
 
 def main():
-    signal.signal(signal.SIGTERM, Commands.stop)
-    signal.signal(signal.SIGINT, Commands.stop)
+    Commands.stop_with_this()
     asked = argparse.ArgumentParser(description="Tries the edits that the prover must refuse, many of a crate in one check.")
     asked.add_argument("--jobs", type=int, help="how many crates at a time")
     asked.add_argument("--proved", metavar="FOLDER", help="a copy of the repository that rt ci has just proved")
@@ -412,7 +369,7 @@ def main():
     for file in strays:
         print(f"{file}: NOT an edit: an edit stands right in must-fail/, and its name ends in .edit (or in .md, if it is only to be read)")
     with ThreadPoolExecutor(words.jobs or int(os.environ.get("RT_JOBS") or checks_side_by_side())) as pool:
-        largest_first = sorted(crates, key=lambda crate: -crate.size())
+        largest_first = sorted(crates, key=lambda crate: -crate.size)
         running = [pool.submit(try_crate, it, edits[it.name], bool(words.proved)) for it in largest_first]
         for tried, summary in (it.result() for it in running):
             for is_refused, text in tried:
