@@ -9,6 +9,12 @@ use crate::field::Field;
 use std::alloc::{AllocError, Global};
 use std::marker::Model;
 
+/// The bytes of names and bodies that a header usually has at most.
+const USUAL_BYTES: usize = 2_048;
+
+/// The fields that a header usually has at most.
+const USUAL_FIELDS: usize = 24;
+
 /// Where a field's name and its body begin. A name ends where its body begins, and a body where the next name does.
 #[derive(Clone, Copy, Debug)]
 pub struct FieldPlace {
@@ -57,6 +63,18 @@ impl<'a> Model for Fields<'a> {
     ghost invariant = { λ s. AreInOrder (length s.bytes.now) s.places.now };
 }
 
+/// Takes room with the first field for all that a header usually has, so that few buffers grow more than once.
+fn reserve_usual(bytes: &mut Vec<u8>, places: &mut Vec<FieldPlace>) -> Result<(), AllocError>
+    ensures bytes { bytes.new.items ≡ bytes.old.items }
+    ensures places { places.new.items ≡ places.old.items }
+{
+    if places.is_empty() {
+        bytes.reserve(USUAL_BYTES)?;
+        places.reserve(USUAL_FIELDS)?;
+    }
+    Ok(())
+}
+
 /// Adds both at the end, or neither.
 fn append_both(bytes: &mut Vec<u8>, first: &[u8], second: &[u8]) -> Result<(), AllocError>
     ensures { bytes.new.items ≡ (if is_ok result then bytes.old.items ++ (first.now ++ second.now) else bytes.old.items) }
@@ -97,6 +115,7 @@ impl FieldList {
         ensures ok { OnOk result (self.new ≡ self.old ++ record { name = field.entry.name.now; body = field.entry.body.now } ∷ []) }
         ensures err { OnErr result (self.new ≡ self.old) }
     {
+        reserve_usual(&mut self.bytes, &mut self.places)?;
         self.places.reserve(1)?;
         let name = self.bytes.len();
         append_both(&mut self.bytes, field.name, field.body)?;

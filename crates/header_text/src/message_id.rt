@@ -23,14 +23,13 @@ fn is_id_byte(b: u8) -> bool
     !(is_blank(b) || b == b'\r' || b == b'\n')
 }
 
-/// The bytes without spaces, tabs, CRs and LFs.
+/// The bytes without spaces, tabs, CRs and LFs, in memory that is taken at once for all.
 fn id_bytes(alloc: Global, text: &[u8]) -> Result<Vec<u8>, AllocError>
     ensures { IfOk result (λ id. id.items ≡ filter is_id_byte_of text.now) }
 {
-    text.iter()
-        .copied()
-        .filter(|b| is_id_byte(*b))
-        .collect(alloc)
+    let mut id = Vec::from_slice(alloc, text)?;
+    id.retain(|b| is_id_byte(*b));
+    Ok(id)
 }
 
 /// Adds the id that a text before a `>` ends with, if it does.
