@@ -1,11 +1,11 @@
 -- Tags line by line.
-use Rattle.std.proofs.Common.{◌≡◌, ◌∙◌, ◌==◌, ◌||◌, ◌++◌, ℕ, Bool, true, false, List, [], ◌∷◌, map, reverse, refl, sym, ap, ap₂, subst, arith, append_assoc, encode_utf8_all, IsUtf8}
+use Rattle.std.proofs.Common.{◌≡◌, ◌∙◌, ◌<◌, ◌==◌, ◌||◌, ◌++◌, ℕ, Bool, true, false, List, [], ◌∷◌, map, reverse, refl, sym, ap, ap₂, subst, arith, append_assoc, encode_utf8_all, IsUtf8}
 use Rattle.std.specs.Prelude.{if◌then◌else◌}
 use Rattle.std.specs.Char.{encode_utf8}
 use Rattle.std.specs.Str.{chars}
 use Rattle.std.proofs.lemmas.Bool.{eqb-true}
 use Rattle.std.proofs.lemmas.List.{reverse-append}
-use Rattle.std.proofs.lemmas.Str.{encodes-chars}
+use Rattle.std.proofs.lemmas.Str.{encode_ascii, encodes-chars}
 use Rattle.header_text.proofs.CutLemmas.{Lacks}
 use Rattle.header_text.specs.Charsets.{text_of}
 use Rattle.header_text.specs.declared.charset.Charset.{Charset}
@@ -67,38 +67,35 @@ lacks-append : (c : ℕ) (xs ys : List ℕ) → Lacks c (xs ++ ys) → Lacks c x
 lacks-append c [] ys h = (tt, h)
 lacks-append c (x ∷ xs) ys h = let rest = lacks-append c xs ys h.1 in ((h.0, rest.0), rest.1)
 
-opening : encode_utf8 0x3C ≡ 0x3C ∷ []
-unfolding encode_utf8
-opening = refl
-
--- no byte is `<`, so no character is
-lacks-chars : (cs : List ℕ) → Lacks 0x3C (encode_utf8_all cs) → Lacks 0x3C cs
-lacks-chars [] h = tt
-lacks-chars (c ∷ cs) h = let parts = lacks-append 0x3C (encode_utf8 c) (encode_utf8_all cs) h in (go (c == 0x3C) refl parts.0, lacks-chars cs parts.1)
+-- no byte is this ASCII one, so no character is
+lacks-chars : (c : ℕ) → c < 128 → (cs : List ℕ) → Lacks c (encode_utf8_all cs) → Lacks c cs
+lacks-chars c ascii [] h = tt
+lacks-chars c ascii (x ∷ cs) h = let parts = lacks-append c (encode_utf8 x) (encode_utf8_all cs) h in (go (x == c) refl parts.0, lacks-chars c ascii cs parts.1)
   where
-    go : (t : Bool) → (c == 0x3C) ≡ t → Lacks 0x3C (encode_utf8 c) → (c == 0x3C) ≡ false
+    go : (t : Bool) → (x == c) ≡ t → Lacks c (encode_utf8 x) → (x == c) ≡ false
     go true e k =
-        let is : encode_utf8 c ≡ 0x3C ∷ [] = ap encode_utf8 (eqb-true c 0x3C e) ∙ opening in
-        let P : List ℕ → Type 0 = λ l. Lacks 0x3C l in
-        let no : Lacks 0x3C (0x3C ∷ []) = subst P is k in
-        absurd (cc (no.0))
+        let is : encode_utf8 x ≡ c ∷ [] = ap encode_utf8 (eqb-true x c e) ∙ encode_ascii c ascii in
+        let P : List ℕ → Type 0 = λ l. Lacks c l in
+        let no : Lacks c (c ∷ []) = subst P is k in
+        let same : (c == c) ≡ true = grind arith in
+        absurd (cc (no.0, same))
     go false e k = e
 
-blanked-free : (cs : List ℕ) → Lacks 0x3C cs → blanked false cs ≡ cs
+pub lacks-text : (c : ℕ) → c < 128 → (text : List ℕ) → IsUtf8 text → Lacks c text → Lacks c (chars text)
+lacks-text c ascii text utf8 h =
+    let P : List ℕ → Type 0 = λ l. Lacks c l in
+    lacks-chars c ascii (chars text) (subst P (sym (encodes-chars text utf8)) h)
+
+pub blanked-free : (cs : List ℕ) → Lacks 0x3C cs → blanked false cs ≡ cs
 blanked-free [] h = refl
 blanked-free (c ∷ cs) h = rw h.0 (ap (λ (l : List ℕ). c ∷ l) (blanked-free cs h.1))
 
-is_open-free : (cs : List ℕ) → Lacks 0x3C cs → is_open_behind false cs ≡ false
+pub is_open-free : (cs : List ℕ) → Lacks 0x3C cs → is_open_behind false cs ≡ false
 is_open-free [] h = refl
 is_open-free (c ∷ cs) h = rw h.0 (is_open-free cs h.1)
 
-lacks-text : (text : List ℕ) → IsUtf8 text → Lacks 0x3C text → Lacks 0x3C (chars text)
-lacks-text text utf8 h =
-    let P : List ℕ → Type 0 = λ l. Lacks 0x3C l in
-    lacks-chars (chars text) (subst P (sym (encodes-chars text utf8)) h)
-
 pub free-text : (text : List ℕ) (o : Bool) → o ≡ false → IsUtf8 text → Lacks 0x3C text → encode_utf8_all (blanked o (chars text)) ≡ text
-free-text text o e utf8 h = rw e (ap encode_utf8_all (blanked-free (chars text) (lacks-text text utf8 h)) ∙ encodes-chars text utf8)
+free-text text o e utf8 h = rw e (ap encode_utf8_all (blanked-free (chars text) (lacks-text 0x3C (omega arith) text utf8 h)) ∙ encodes-chars text utf8)
 
 pub free-behind : (text : List ℕ) (o : Bool) → o ≡ false → IsUtf8 text → Lacks 0x3C text → is_open_behind o (chars text) ≡ false
-free-behind text o e utf8 h = rw e (is_open-free (chars text) (lacks-text text utf8 h))
+free-behind text o e utf8 h = rw e (is_open-free (chars text) (lacks-text 0x3C (omega arith) text utf8 h))

@@ -1,9 +1,138 @@
--- A loop over the characters of a text that blanks its tags.
-use Rattle.std.proofs.Common.{◌≡◌, ℕ, ◌+◌, ◌≤◌, ◌==◌, Bool, true, false, List, [], ◌∷◌, ◌++◌, length, chars, encode_utf8, encode_utf8_all, IsUtf8, refl, sym, ap, ◌∙◌, arith, length-append, append_assoc, append-nil}
-use Rattle.std.proofs.lemmas.Bool.Decides.{nat_tests}
-use Rattle.std.proofs.lemmas.List.{nil_from_length}
-use Rattle.std.proofs.lemmas.Str.{chars_past_char, IsUtf8-past_char, length-encode, chars-nil}
-use Rattle.mime_text.specs.OpenTags.{is_open_after, is_open_behind, shown_character, blanked}
+-- A loop over the spans of a text that blanks its tags.
+use Rattle.std.proofs.Common.{◌≡◌, ℕ, zero, suc, ◌+◌, ◌≤◌, ◌<◌, Bool, true, false, List, [], ◌∷◌, ◌++◌, length, drop, get_or, replicate, chars, encode_utf8, encode_utf8_all, IsUtf8, refl, sym, ap, ap₂, ◌∙◌, subst, arith, length-append, append_assoc}
+use Rattle.std.specs.Prelude.{not, ◌≢◌, ◌==◌, option_map, if◌then◌else◌, is_ok, Option, Some, None, Result, Ok, Err, OnOk}
+use Rattle.std.proofs.lemmas.Bool.{eqb-true, false_from_ne_true}
+use denote.Ref.{Bor}
+use Rattle.std.specs.Str.{IsAscii}
+use Rattle.std.proofs.lemmas.List.{take_at, drop_at, get_or_at, length_push, length-replicate, replicate-append-replicate}
+use Rattle.std.proofs.lemmas.Str.{IsUtf8-take, IsUtf8-drop, IsUtf8-from_ascii, IsCharBoundary-before_ascii, IsCharBoundary-after_ascii, chars-append, chars-IsAscii, encode_ascii, encodes-append, encodes-chars, length-le-encodes}
+use Rattle.std.proofs.lemmas.Str.Ascii.{IsAscii-nil, IsAscii-cons}
+use Rattle.std.proofs.lemmas.Str.Pattern.{IsSplitOnceResult, split_parts}
+use Rattle.header_text.specs.Cuts.{cut_at}
+use Rattle.header_text.proofs.CutLemmas.{Lacks, IsCut, cut_at-none, cut_at-is}
+use Rattle.mime_text.specs.OpenTags.{is_open_after, is_open_behind, blanked}
+use Rattle.mime_text.specs.Inside.TagSpans.{span_end, shown_span}
+use Rattle.mime_text.proofs.TagLemmas.{lacks-text, blanked-free, is_open-free}
+
+-- ---- characters one behind another
+
+is_open_behind-append : (o : Bool) (xs ys : List ℕ) → is_open_behind o (xs ++ ys) ≡ is_open_behind (is_open_behind o xs) ys
+is_open_behind-append o [] ys = refl
+is_open_behind-append o (x ∷ xs) ys = is_open_behind-append (is_open_after o x) xs ys
+
+blanked-append : (o : Bool) (xs ys : List ℕ) → blanked o (xs ++ ys) ≡ blanked o xs ++ blanked (is_open_behind o xs) ys
+blanked-append o [] ys = refl
+blanked-append o (x ∷ xs) ys = ap (λ (l : List ℕ). blanked o (x ∷ []) ++ l) (blanked-append (is_open_after o x) xs ys)
+
+-- ---- a span, without what ends it
+
+blanked-tag : (cs : List ℕ) → Lacks 0x3E cs → blanked true cs ≡ replicate (length cs) 0x20
+blanked-tag [] h = refl
+blanked-tag (c ∷ cs) h = rw h.0 (ap (λ (l : List ℕ). 0x20 ∷ l) (blanked-tag cs h.1))
+
+is_open-tag : (cs : List ℕ) → Lacks 0x3E cs → is_open_behind true cs ≡ true
+is_open-tag [] h = refl
+is_open-tag (c ∷ cs) h = rw h.0 (is_open-tag cs h.1)
+
+blanked-span : (o : Bool) (cs : List ℕ) → Lacks (span_end o) cs → blanked o cs ≡ shown_span o cs
+blanked-span true cs h = blanked-tag cs h
+blanked-span false cs h = blanked-free cs h
+
+is_open-span : (o : Bool) (cs : List ℕ) → Lacks (span_end o) cs → is_open_behind o cs ≡ o
+is_open-span true cs h = is_open-tag cs h
+is_open-span false cs h = is_open-free cs h
+
+encodes-spaces : (n : ℕ) → encode_utf8_all (replicate n 0x20) ≡ replicate n 0x20
+encodes-spaces zero = refl
+encodes-spaces (suc n) = ap₂ (λ (xs ys : List ℕ). xs ++ ys) (encode_ascii 0x20 (omega arith)) (encodes-spaces n)
+
+-- what a span in a tag or outside of one is written as
+pub written-tag : (text : List ℕ) → replicate (length (chars text)) 0x20 ≡ encode_utf8_all (shown_span true (chars text))
+written-tag text = sym (encodes-spaces (length (chars text)))
+
+pub written-outside : (text : List ℕ) → IsUtf8 text → text ≡ encode_utf8_all (shown_span false (chars text))
+written-outside text utf8 = sym (encodes-chars text utf8)
+
+length-span : (o : Bool) (text : List ℕ) → IsUtf8 text → length (encode_utf8_all (shown_span o (chars text))) ≤ length text
+length-span true text utf8 = omega (arith, ap length (written-tag text), length-replicate {A = ℕ} (length (chars text)) 0x20, length-le-encodes (chars text), ap length (encodes-chars text utf8))
+length-span false text utf8 = omega (arith, ap length (encodes-chars text utf8))
+
+-- ---- spaces
+
+pub spaces-ascii : (n : ℕ) → IsAscii (replicate n 0x20)
+spaces-ascii zero = IsAscii-nil
+spaces-ascii (suc n) = IsAscii-cons 0x20 (replicate n 0x20) (omega arith) (spaces-ascii n)
+
+-- some of those that are left are added
+pub spaces-more : (into new some : List ℕ) (left n rest : ℕ) → some ≡ replicate n 0x20 → n + rest ≡ left → new ≡ into ++ some → new ++ replicate rest 0x20 ≡ into ++ replicate left 0x20
+spaces-more into new some left n rest are parts added =
+    ap (λ (l : List ℕ). l ++ replicate rest 0x20) (added ∙ ap (λ (l : List ℕ). into ++ l) are)
+    ∙ append_assoc into (replicate n 0x20) (replicate rest 0x20)
+    ∙ ap (λ (l : List ℕ). into ++ l) (replicate-append-replicate {A = ℕ} n rest 0x20 ∙ ap (λ (k : ℕ). replicate {A = ℕ} k 0x20) parts)
+
+-- what a call that adds all or nothing has added
+pub on_ok : {X E : Type 0} (r : Result X E) (new all none whole : List ℕ) → new ≡ (if is_ok r then all else none) → all ≡ whole → OnOk r (new ≡ whole)
+on_ok (Ok x) new all none whole h e = h ∙ e
+on_ok (Err x) new all none whole h e = tt
+
+-- ---- what ends a span
+
+span_end-ascii : (o : Bool) → span_end o < 128
+span_end-ascii true = omega arith
+span_end-ascii false = omega arith
+
+blanked-end : (o : Bool) (cs : List ℕ) → blanked o (span_end o ∷ cs) ≡ 0x20 ∷ blanked (not o) cs
+blanked-end true cs = refl
+blanked-end false cs = refl
+
+is_open-end : (o : Bool) (cs : List ℕ) → is_open_behind o (span_end o ∷ cs) ≡ is_open_behind (not o) cs
+is_open-end true cs = refl
+is_open-end false cs = refl
+
+-- ---- a text that is cut at an ASCII character
+
+differs : (a c : ℕ) → a ≢ c → (a == c) ≡ false
+differs a c ne = false_from_ne_true (a == c) (λ e. ne (eqb-true a c e))
+
+lacks-places : (c : ℕ) (bs : List ℕ) → ((i : ℕ) → i < length bs → get_or bs i 0 ≢ c) → Lacks c bs
+lacks-places c [] h = tt
+lacks-places c (b ∷ bs) h = (differs b c (h 0 (omega arith)), lacks-places c bs (λ i lt. h (suc i) (omega arith)))
+
+cut-ascii : (c : ℕ) (bs : List ℕ) (r : Option (Bor (List ℕ) × Bor (List ℕ))) → c < 128 → IsSplitOnceResult c bs r
+    → option_map (λ parts. (parts.0.now, parts.1.now)) r ≡ cut_at c bs
+cut-ascii c bs None ascii h = let none = split_parts c bs None h ascii in sym (cut_at-none c bs (λ k lt. differs (get_or bs k 0) c (none k lt)))
+cut-ascii c bs (Some x) ascii h =
+    let parts = split_parts c bs (Some x) h ascii in
+    sym (ap (cut_at c) parts.0 ∙ cut_at-is c x.0.now x.1.now (lacks-places c x.0.now parts.1))
+
+pub cut_from_split : (o : Bool) (sign : ℕ) (bs : List ℕ) (r : Option (Bor (List ℕ) × Bor (List ℕ))) → sign ≡ span_end o → IsSplitOnceResult sign bs r
+    → option_map (λ parts. (parts.0.now, parts.1.now)) r ≡ cut_at (span_end o) bs
+cut_from_split o sign bs r is h =
+    cut-ascii (span_end o) bs r (span_end-ascii o) (subst (λ (c : ℕ). IsSplitOnceResult c bs r) is h)
+
+record CutText (c : ℕ) (before behind : List ℕ) : Type 0 where
+  utf8_before : IsUtf8 before
+  utf8_behind : IsUtf8 behind
+  characters : chars (before ++ c ∷ behind) ≡ chars before ++ c ∷ chars behind
+
+cut_text : (c : ℕ) (before behind : List ℕ) → c < 128 → IsUtf8 (before ++ c ∷ behind) → CutText c before behind
+cut_text c before behind ascii utf8 =
+    let bs : List ℕ = before ++ c ∷ behind in
+    let n : ℕ = length before in
+    let is : get_or bs n 0 ≡ c = get_or_at before c behind 0 n refl in
+    let lt : n < length bs = omega (arith, length-append before (c ∷ behind)) in
+    let front : IsUtf8 before = subst (λ (l : List ℕ). IsUtf8 l) (take_at before (c ∷ behind) n refl) (IsUtf8-take bs n utf8 (IsCharBoundary-before_ascii bs n lt (omega (arith, is)))) in
+    let rest : drop (n + 1) bs ≡ behind = ap (drop (n + 1)) (sym (append_assoc before (c ∷ []) behind)) ∙ drop_at (before ++ c ∷ []) behind (n + 1) (length_push before c) in
+    let small : IsAscii (c ∷ []) = IsAscii-cons c [] ascii IsAscii-nil in
+    let later : chars (c ∷ behind) ≡ c ∷ chars behind =
+    chars-append (c ∷ []) behind (IsUtf8-from_ascii (c ∷ []) small) ∙ ap (λ (l : List ℕ). l ++ chars behind) (chars-IsAscii (c ∷ []) small) in
+    record {
+      utf8_before = front;
+      utf8_behind = subst (λ (l : List ℕ). IsUtf8 l) rest (IsUtf8-drop bs (n + 1) utf8 (IsCharBoundary-after_ascii bs n utf8 lt (omega (arith, is))));
+      characters = chars-append before (c ∷ behind) front ∙ ap (λ (l : List ℕ). chars before ++ l) later;
+    }
+
+-- ---- the loop
 
 -- a tag was open at the start of the text or wasn't, so much is written, and the rest gives what is left
 pub record TagsRead (text : List ℕ) (start : Bool) (old into : List ℕ) (o : Bool) (rest : List ℕ) : Type 0 where
@@ -12,43 +141,63 @@ pub record TagsRead (text : List ℕ) (start : Bool) (old into : List ℕ) (o : 
   behind : is_open_behind o (chars rest) ≡ is_open_behind start (chars text)
   size : length into + length rest ≤ length old + length text
 
-pub tags_read-start : (text : List ℕ) (start : Bool) (old rest : List ℕ) → IsUtf8 text → rest ≡ text → TagsRead text start old old start rest
-tags_read-start text start old rest utf8 same = rw same (record { utf8 = utf8; sofar = refl; behind = refl; size = omega arith })
+-- all is written
+pub record TagsBlanked (text : List ℕ) (start : Bool) (old into : List ℕ) (o : Bool) : Type 0 where
+  pub whole : into ≡ old ++ encode_utf8_all (blanked start (chars text))
+  pub behind : o ≡ is_open_behind start (chars text)
+  pub size : length into ≤ length old + length text
 
-length-shown : (o : Bool) (c : ℕ) → length (encode_utf8 (shown_character o c)) ≤ length (encode_utf8 c)
-length-shown true c = rw (length-encode 0x20, length-encode c) (grind (arith, nat_tests))
-length-shown false c = go (c == 0x3C) refl
-  where
-    go : (t : Bool) → (c == 0x3C) ≡ t → length (encode_utf8 (shown_character false c)) ≤ length (encode_utf8 c)
-    go true e = rw (e, shown_character) (rw (length-encode 0x20, length-encode c) (grind (arith, nat_tests)))
-    go false e = rw (e, shown_character) (omega arith)
+pub tags_read-start : (text : List ℕ) (start : Bool) (old : List ℕ) → IsUtf8 text → TagsRead text start old old start text
+tags_read-start text start old utf8 = record { utf8 = utf8; sofar = refl; behind = refl; size = omega arith }
 
-pub tags_read-step : (text : List ℕ) (start : Bool) (old into : List ℕ) (o : Bool) (rest : List ℕ) (c : ℕ) (rest' new : List ℕ) → TagsRead text start old into o rest
-    → rest ≡ encode_utf8 c ++ rest' → new ≡ into ++ encode_utf8 (shown_character o c) → TagsRead text start old new (is_open_after o c) rest'
-tags_read-step text start old into o rest c rest' new h parts written =
-    let next : chars rest ≡ c ∷ chars rest' = chars_past_char rest rest' c h.utf8 parts in
-    let shown : List ℕ = encode_utf8 (shown_character o c) in
-    let later : List ℕ = encode_utf8_all (blanked (is_open_after o c) (chars rest')) in
-    let joined : new ++ later ≡ into ++ (shown ++ later) = ap (λ (l : List ℕ). l ++ later) written ∙ append_assoc into shown later in
-    let turned : into ++ encode_utf8_all (blanked o (chars rest)) ≡ into ++ (shown ++ later) = ap (λ (cs : List ℕ). into ++ encode_utf8_all (blanked o cs)) next in
+pub tags_read-step : (text : List ℕ) (start : Bool) (old into : List ℕ) (o : Bool) (rest before behind spanned new : List ℕ) → TagsRead text start old into o rest
+    → IsCut (span_end o) rest before behind → spanned ≡ into ++ encode_utf8_all (shown_span o (chars before)) → new ≡ spanned ++ encode_utf8 0x20
+    → TagsRead text start old new (not o) behind
+tags_read-step text start old into o rest before behind spanned new h cut written ended =
+    let ascii = span_end-ascii o in
+    let parts = cut_text (span_end o) before behind ascii (subst (λ (l : List ℕ). IsUtf8 l) cut.joined h.utf8) in
+    let cs : List ℕ = chars before in
+    let ds : List ℕ = chars behind in
+    let free : Lacks (span_end o) cs = lacks-text (span_end o) ascii before parts.utf8_before cut.free in
+    let split : chars rest ≡ cs ++ span_end o ∷ ds = ap chars cut.joined ∙ parts.characters in
+    let stays : is_open_behind o cs ≡ o = is_open-span o cs free in
+    let shown : blanked o (chars rest) ≡ shown_span o cs ++ 0x20 ∷ blanked (not o) ds =
+    ap (blanked o) split ∙ blanked-append o cs (span_end o ∷ ds)
+    ∙ ap₂ (λ (l : List ℕ) (b : Bool). l ++ blanked b (span_end o ∷ ds)) (blanked-span o cs free) stays
+    ∙ ap (λ (l : List ℕ). shown_span o cs ++ l) (blanked-end o ds) in
+    let span : List ℕ = encode_utf8_all (shown_span o cs) in
+    let space : List ℕ = encode_utf8 0x20 in
+    let later : List ℕ = encode_utf8_all (blanked (not o) ds) in
+    let encoded : encode_utf8_all (blanked o (chars rest)) ≡ span ++ (space ++ later) =
+    ap encode_utf8_all shown ∙ encodes-append (shown_span o cs) (0x20 ∷ blanked (not o) ds) in
+    let added : new ≡ (into ++ span) ++ space = ended ∙ ap (λ (l : List ℕ). l ++ space) written in
+    let turns : is_open_behind o (chars rest) ≡ is_open_behind (not o) ds =
+    ap (is_open_behind o) split ∙ is_open_behind-append o cs (span_end o ∷ ds) ∙ ap (λ (b : Bool). is_open_behind b (span_end o ∷ ds)) stays ∙ is_open-end o ds in
     record {
-      utf8 = IsUtf8-past_char rest rest' c h.utf8 parts;
-      sofar = joined ∙ sym turned ∙ h.sofar;
-      behind = sym (ap (is_open_behind o) next) ∙ h.behind;
-      size = omega (arith, h.size, ap length parts, ap length written, length-append (encode_utf8 c) rest', length-append into shown, length-shown o c);
+      utf8 = parts.utf8_behind;
+      sofar = ap (λ (l : List ℕ). l ++ later) added ∙ append_assoc (into ++ span) space later ∙ append_assoc into span (space ++ later)
+          ∙ sym (ap (λ (l : List ℕ). into ++ l) encoded) ∙ h.sofar;
+      behind = sym turns ∙ h.behind;
+      size = omega (
+        arith,
+        h.size,
+        ap length cut.joined,
+        length-append before (span_end o ∷ behind),
+        ap length added,
+        length-append (into ++ span) space,
+        length-append into span,
+        length-span o before parts.utf8_before,
+        ap length (encode_ascii 0x20 (omega arith)),
+      );
     }
 
-pub tags_read-text : (text : List ℕ) (start : Bool) (old into : List ℕ) (o : Bool) (rest : List ℕ) → TagsRead text start old into o rest → length rest ≡ 0
-    → into ≡ old ++ encode_utf8_all (blanked start (chars text))
-tags_read-text text start old into o rest h none =
-    let done : chars rest ≡ [] = ap chars (nil_from_length rest (omega arith)) ∙ chars-nil in
-    sym (append-nil into) ∙ sym (ap (λ (cs : List ℕ). into ++ encode_utf8_all (blanked o cs)) done) ∙ h.sofar
-
-pub tags_read-behind : (text : List ℕ) (start : Bool) (old into : List ℕ) (o : Bool) (rest : List ℕ) → TagsRead text start old into o rest → length rest ≡ 0
-    → o ≡ is_open_behind start (chars text)
-tags_read-behind text start old into o rest h none =
-    let done : chars rest ≡ [] = ap chars (nil_from_length rest (omega arith)) ∙ chars-nil in
-    sym (ap (is_open_behind o) done) ∙ h.behind
-
-pub tags_read-size : (text : List ℕ) (start : Bool) (old into : List ℕ) (o : Bool) (rest : List ℕ) → TagsRead text start old into o rest → length into ≤ length old + length text
-tags_read-size text start old into o rest h = omega (arith, h.size)
+pub tags_read-end : (text : List ℕ) (start : Bool) (old into : List ℕ) (o : Bool) (rest new : List ℕ) → TagsRead text start old into o rest → Lacks (span_end o) rest
+    → new ≡ into ++ encode_utf8_all (shown_span o (chars rest)) → TagsBlanked text start old new o
+tags_read-end text start old into o rest new h lacks written =
+    let cs : List ℕ = chars rest in
+    let free : Lacks (span_end o) cs = lacks-text (span_end o) (span_end-ascii o) rest h.utf8 lacks in
+    record {
+      whole = written ∙ sym (ap (λ (l : List ℕ). into ++ encode_utf8_all l) (blanked-span o cs free)) ∙ h.sofar;
+      behind = sym (is_open-span o cs free) ∙ h.behind;
+      size = omega (arith, h.size, ap length written, length-append into (encode_utf8_all (shown_span o cs)), length-span o rest h.utf8);
+    }

@@ -1,24 +1,15 @@
 //! The tags of HTML.
-ghost use Rattle.std.specs.Prelude.{◌≡◌, ◌≤◌, ◌+◌, ◌++◌, true, false, length, IfOk, OnOk, string_bytes, encode_utf8_all};
+ghost use Rattle.std.specs.Prelude.{◌≡◌, ◌≤◌, ◌+◌, ◌++◌, true, false, length, replicate, option_map, IfOk, OnOk, string_bytes, encode_utf8_all};
 ghost use Rattle.std.specs.Str.{chars};
-ghost use Rattle.mime_text.specs.OpenTags.{blanked, shown_character as shown_character_of, is_open_after as is_open_after_of, is_open_behind};
+ghost use Rattle.header_text.specs.Cuts.{cut_at as cut_at_of};
+ghost use Rattle.mime_text.specs.OpenTags.{blanked, is_open_behind};
+ghost use Rattle.mime_text.specs.Inside.TagSpans.{span_end, shown_span};
 
 use header_text::cut_at;
 use std::alloc::AllocError;
 
-/// What stands for a character, where a tag is open before it or isn't: a space for one in a tag.
-fn shown_character(open_before: bool, c: char) -> char
-    ensures { result ≡ shown_character_of open_before c }
-{
-    if open_before || c == '<' { ' ' } else { c }
-}
-
-/// Whether a tag is open behind a character.
-fn is_open_after(open_before: bool, c: char) -> bool
-    ensures { result ≡ is_open_after_of open_before c }
-{
-    (open_before || c == '<') && c != '>'
-}
+/// As many spaces as are added at once at most.
+const SPACES: &str = "                                                                ";
 
 /// Whether it is plain to see that no character of a text stands in a tag, of which one may be open before it.
 pub(crate) fn is_free_of_tags(open_before: bool, text: &str) -> bool
@@ -34,6 +25,63 @@ pub(crate) fn is_free_of_tags(open_before: bool, text: &str) -> bool
     }
 }
 
+/// How many characters a text has.
+fn character_count(text: &str) -> usize
+    ensures { result ≡ length (chars text.now) }
+{
+    if text.is_ascii() {
+        text.len()
+    } else {
+        text.chars().count()
+    }
+}
+
+/// So many spaces.
+fn spaces(count: usize) -> &'static str
+    requires { count ≤ 64 }
+    ensures { result.now ≡ replicate count 0x20 }
+{
+    &SPACES[..count]
+}
+
+/// Adds so many spaces.
+fn push_spaces(count: usize, into: &mut String) -> Result<(), AllocError>
+    ensures { OnOk result (string_bytes into.new ≡ string_bytes into.old ++ replicate count 0x20) }
+{
+    let mut left = count;
+    while left > 0 {
+        let some = left.min(SPACES.len());
+        into.push_str(spaces(some))?;
+        left -= some;
+    }
+    Ok(())
+}
+
+/// Adds what stands in a tag or outside of one, with a space for each character in a tag.
+fn push_span(in_tag: bool, span: &str, into: &mut String) -> Result<(), AllocError>
+    ensures { OnOk result (string_bytes into.new ≡ string_bytes into.old ++ encode_utf8_all (shown_span in_tag (chars span.now))) }
+{
+    if in_tag {
+        push_spaces(character_count(span), into)
+    } else {
+        into.push_str(span)
+    }
+}
+
+/// What ends what stands in a tag, or outside of one.
+fn end_of_span(in_tag: bool) -> char
+    ensures { result ≡ span_end in_tag }
+{
+    if in_tag { '>' } else { '<' }
+}
+
+/// What stands before the `>` that ends a tag, or the `<` that begins the next one, and what follows it.
+fn cut_span(in_tag: bool, text: &str) -> Option<(&str, &str)>
+    ensures { option_map (λ parts. (parts.0.now, parts.1.now)) result ≡ cut_at_of (span_end in_tag) text.now }
+{
+    text.split_once(end_of_span(in_tag))
+}
+
 /// Adds a text with a space for each character in a tag: from a `<` through the next `>`, or the end. A tag may be open before
 /// it, and the answer is whether one is behind it.
 pub(crate) fn blank_tags(
@@ -46,9 +94,14 @@ pub(crate) fn blank_tags(
     ensures size { OnOk result (length (string_bytes into.new) ≤ length (string_bytes into.old) + length text.now) }
 {
     let mut is_open = open_before;
-    for c in text.chars() {
-        into.push(shown_character(is_open, c))?;
-        is_open = is_open_after(is_open, c);
+    let mut rest = text;
+    while let Some((span, behind)) = cut_span(is_open, rest) {
+        push_span(is_open, span, into)?;
+        // What was cut at is of the tag too.
+        into.push(' ')?;
+        is_open = !is_open;
+        rest = behind;
     }
+    push_span(is_open, rest, into)?;
     Ok(is_open)
 }

@@ -1,21 +1,23 @@
-use Rattle.std.proofs.Common.{◌∙◌, ◌++◌, string_bytes, encode_utf8, ap}
-use Rattle.std.specs.Str.Iter.{chars_rest}
-use Rattle.mime_text.proofs.TagReads.{tags_read-start, tags_read-step, tags_read-text, tags_read-behind, tags_read-size}
+use Rattle.std.proofs.Common.{◌∷◌, sym, ap, length, length-append, arith, rules}
+use Rattle.header_text.proofs.CutLemmas.{IsCut, IsCut-from, Lacks-from}
+use Rattle.mime_text.specs.Inside.TagSpans.{span_end}
+use Rattle.mime_text.proofs.TagReads.{tags_read-start, tags_read-step, tags_read-end}
 use Rattle.mime_text.proofs.leaf.tags.blank_tags.Goals as goal
+use Rattle.mime_text.proofs.leaf.tags.blank_tags.Goals.{In_ok-push}
 
-pub loop-c-init : goal.loop-c-init
-loop-c-init c = tags_read-start _ _ _ _ c.utf8.text (ap chars_rest c.into_iter-c-iterator.ensures.into_iter_gives ∙ c.chars-c-items.ensures.rest)
+cut : (c : In_ok-push) → IsCut (span_end c.loop-span.is_open) c.loop-span.rest.now c.in-Some.span.now c.in-Some.behind.now
+cut c = IsCut-from (span_end c.loop-span.is_open) c.loop-span.rest.now c.in-Some.span.now c.in-Some.behind.now (sym c.in-Some.ensures)
 
-pub loop-c-preserved : goal.loop-c-preserved
-loop-c-preserved c =
-    rw c.is_open_after-is_open.ensures (tags_read-step _ _ _ _ _ _ _ _ _ c.loop-c.invariant c.in-Some.ensures.steps.0
-    (c.in_ok-push.ensures.bytes ∙ ap (λ s. string_bytes c.loop-c.into ++ encode_utf8 s) c.shown_character.ensures))
+pub loop-span-init : goal.loop-span-init
+loop-span-init c = (search rules, tags_read-start _ _ _ c.utf8.text)
 
-pub returns-clause-text : goal.returns-clause-text
-returns-clause-text c = tags_read-text _ _ _ _ _ _ c.loop-c.invariant c.in-None.ensures.steps.0.0
+pub loop-span-smaller : goal.loop-span-smaller
+loop-span-smaller c = let joined = (cut c).joined in omega (arith, ap length joined, length-append c.in-Some.span.now (span_end c.loop-span.is_open ∷ c.in-Some.behind.now))
 
-pub returns-clause-is_open : goal.returns-clause-is_open
-returns-clause-is_open c = tags_read-behind _ _ _ _ _ _ c.loop-c.invariant c.in-None.ensures.steps.0.0
+pub loop-span-preserved : goal.loop-span-preserved
+loop-span-preserved c = (search rules, tags_read-step _ _ _ _ _ _ _ _ _ _ c.loop-span.invariant.1 (cut c) c.in_ok-push_span.ensures c.in_ok-push.ensures.bytes)
 
-pub returns-clause-size : goal.returns-clause-size
-returns-clause-size c = tags_read-size _ _ _ _ _ _ c.loop-c.invariant
+pub returns : goal.returns
+returns c =
+    let blanked = tags_read-end _ _ _ _ _ _ _ c.loop-span.invariant.1 (Lacks-from (span_end c.loop-span.is_open) c.loop-span.rest.now (sym c.in_default.ensures)) c.in_ok-push_span-2.ensures in
+    record { text = blanked.whole; is_open = blanked.behind; size = blanked.size }
