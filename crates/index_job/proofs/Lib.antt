@@ -1,4 +1,5 @@
 pub mod Terms
+pub mod FoldedWords
 pub mod Gatherings
 pub mod ReadingLines
 pub mod SourceReads

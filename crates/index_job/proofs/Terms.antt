@@ -1,5 +1,5 @@
 -- What adding terms makes of a builder's draft.
-use Rattle.std.proofs.Common.{◌≡◌, ◌<◌, ◌≤◌, ℕ, zero, String, string_bytes, true, false, nat_le, if◌then◌else◌, List, [], ◌∷◌, ◌++◌, length, Option, None, Some, IfSome, Result, Ok, Err, option_map, refl, sym, ap, ◌∙◌, subst, arith, suc, drop, map, append_assoc, get_or, ◌+◌, Vec}
+use Rattle.std.proofs.Common.{◌≡◌, ◌<◌, ◌≤◌, ℕ, zero, Bor, true, false, nat_le, if◌then◌else◌, List, [], ◌∷◌, ◌++◌, length, Option, None, Some, IfSome, Result, Ok, Err, option_map, refl, sym, ap, ◌∙◌, subst, arith, suc, drop, take, map, append_assoc, get_or, ◌+◌, Vec}
 use Rattle.std.specs.declared.cmp.Ordering.TheVariants.{Less, Equal, Greater}
 use Rattle.std.specs.Ordering.{match_ordering, nat_cmp}
 use Rattle.std.specs.Cmp.Lexicographic.{slice_cmp}
@@ -8,9 +8,9 @@ use Rattle.mail_index.specs.declared.build.build_fault.BuildFault.{BuildFault}
 use Rattle.mail_index.specs.declared.build.build_fault.BuildFault.TheVariants.{OutOfMemory, TooMany, Device, Failed}
 use Rattle.mail_index.specs.declared.kind.Kind.{Kind}
 use Rattle.std.specs.Global.{Global}
-use Rattle.std.specs.List.{AllByRecursion, slice_index_or}
+use Rattle.std.specs.List.{AllByRecursion}
 use Rattle.std.proofs.lemmas.Bool.Decides.{nat_tests}
-use Rattle.std.proofs.lemmas.List.{drop_more, map-append}
+use Rattle.std.proofs.lemmas.List.{drop_more, map-append, length-map, length-take-le}
 use Rattle.mail_index.specs.declared.kind.Kind.TheVariants.{LinkId, Text}
 use Rattle.mail_words.specs.declared.kind.TextKind.{TextKind}
 use Rattle.mail_index.specs.Kinds.{kind_number}
@@ -144,17 +144,43 @@ waits-next kind old word new us o n h =
     sym (ap (λ (l : List Term). l ++ us) (map-append (λ w. let t : Term = (Text kind, w) in t) old (word ∷ [])) ∙ append_assoc (word_terms kind old) ((Text kind, word) ∷ []) us) in
     ap (λ (l : List Term). option_map (draft_with_terms l) o) one ∙ joined (word_terms kind (old ++ word ∷ [])) us o ∙ ap (option_map (draft_with_terms us)) h ∙ sym (joined (word_terms kind new) us n)
 
--- the next of the words that are left
-pub next-word : (kind : TextKind) (words : List (String Global)) (i : ℕ) (w : String Global) (word : List ℕ) → i < length words → w ≡ slice_index_or words i w → word ≡ string_bytes w
-    → word_terms kind (map string_bytes (drop i words)) ≡ word_terms kind (word ∷ []) ++ word_terms kind (map string_bytes (drop (i + 1) words))
-next-word kind words i w word below here same =
-    ap (λ l. word_terms kind (map string_bytes l)) (drop_more words i w below)
-    ∙ ap (λ x. (Text kind, x) ∷ word_terms kind (map string_bytes (drop (i + 1) words))) (ap string_bytes (sym here) ∙ sym same)
+-- what a reference to a word shows
+abbrev shown : Bor (List ℕ) → List ℕ
+shown word = word.now
 
-pub word-length : (words : List (String Global)) (i : ℕ) (w : String Global) → AllByRecursion HasTermLength (map string_bytes words) → i < length words → w ≡ slice_index_or words i w → HasTermLength (string_bytes w)
-word-length [] i w a below e = absurd (omega (arith, below))
-word-length (x ∷ xs) zero w a below e = subst (λ s. HasTermLength (string_bytes s)) (sym e) a.0
-word-length (x ∷ xs) (suc i) w a below e = word-length xs i w a.1 (omega (arith, below)) e
+-- a word that waits, of the first n in an array
+word-at : (words : List (Bor (List ℕ))) (n i : ℕ) (none : List ℕ) (nothing : Bor (List ℕ)) → i < n → n ≤ length words
+    → get_or (map shown (take n words)) i none ≡ (get_or words i nothing).now
+word-at [] n i none nothing below within = absurd (omega (arith, below, within))
+word-at (w ∷ ws) zero i none nothing below within = absurd (omega (arith, below))
+word-at (w ∷ ws) (suc n) zero none nothing below within = refl
+word-at (w ∷ ws) (suc n) (suc i) none nothing below within = word-at ws n i none nothing (omega (arith, below)) (omega (arith, within))
+
+waiting-count : (words : List (Bor (List ℕ))) (n : ℕ) → n ≤ length words → length (map shown (take n words)) ≡ n
+waiting-count words n within = length-map (take n words) shown ∙ length-take-le n words within
+
+pub next-waiting : (kind : TextKind) (words : List (Bor (List ℕ))) (n i : ℕ) (nothing : Bor (List ℕ)) (seen : List (List ℕ)) → map shown (take n words) ≡ seen → i < n → n ≤ length words
+    → word_terms kind (drop i seen) ≡ (Text kind, (get_or words i nothing).now) ∷ word_terms kind (drop (i + 1) seen)
+next-waiting kind words n i nothing seen is below within =
+    let all : List (List ℕ) = map shown (take n words) in
+    subst (λ (l : List (List ℕ)). word_terms kind (drop i l) ≡ (Text kind, (get_or words i nothing).now) ∷ word_terms kind (drop (i + 1) l)) is
+    (ap (word_terms kind) (drop_more all i [] (omega (arith, below, waiting-count words n within)))
+    ∙ ap (λ (w : List ℕ). (Text kind, w) ∷ word_terms kind (drop (i + 1) all)) (word-at words n i [] nothing below within))
+
+all-at : (ws : List (List ℕ)) (i : ℕ) → i < length ws → AllByRecursion HasTermLength ws → HasTermLength (get_or ws i [])
+all-at [] i below all = absurd (omega (arith, below))
+all-at (w ∷ ws) zero below all = all.0
+all-at (w ∷ ws) (suc i) below all = all-at ws i (omega (arith, below)) all.1
+
+pub waiting-length : (words : List (Bor (List ℕ))) (n i : ℕ) (nothing : Bor (List ℕ)) → AllByRecursion HasTermLength (map shown (take n words)) → i < n → n ≤ length words
+    → HasTermLength (get_or words i nothing).now
+waiting-length words n i nothing all below within =
+    subst HasTermLength (word-at words n i [] nothing below within) (all-at (map shown (take n words)) i (omega (arith, below, waiting-count words n within)) all)
+
+-- a fact that asks nothing of the draft
+pub of-any-draft : (o : Option Draft) (P : Type 0) → P → IfSome o (λ _. P)
+of-any-draft None P h = tt
+of-any-draft (Some d) P h = h
 
 -- all words that waited are added, and one waits
 pub added-first : (kind : TextKind) (old now : List (List ℕ)) (word : List ℕ) (new : List (List ℕ)) (o n : Option Draft)

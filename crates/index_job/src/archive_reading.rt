@@ -15,10 +15,10 @@ ghost use Rattle.index_job.specs.Inside.Gathering.{HasGathered};
 ghost use Rattle.index_job.specs.Indexing.{IsArchiveFault, IsBuilderIdle, IsJobFault, IsBuilderReady};
 ghost use Rattle.index_job.specs.JobFaults.{is_source_failure};
 
+use crate::folding_room::FoldingRoom;
 use crate::gathering::feed_line;
 use crate::job_fault::JobFault;
 use crate::message_end::{Span, finish_message};
-use crate::waiting_words::WaitingWords;
 use mail_index::Builder;
 use mbox_cutter::{Buffer, Cutter, Event, Source};
 use mime_text::MessageText;
@@ -76,7 +76,7 @@ fn next_heading<'a, S: Source>(cutter: &mut Cutter<'a, S>) -> Result<Heading, Jo
 fn next_line<'a, S: Source>(
     cutter: &mut Cutter<'a, S>,
     text: &mut MessageText,
-    waiting: &mut WaitingWords,
+    room: &mut FoldingRoom,
     builder: &mut Builder,
     start: u64,
 ) -> Result<Option<Ended>, JobFault>
@@ -97,7 +97,7 @@ fn next_line<'a, S: Source>(
 {
     match cutter.next_event()? {
         Event::Line(line) => {
-            feed_line(text, line, waiting, builder)?;
+            feed_line(text, line, room, builder)?;
             Ok(None)
         }
         Event::End { length, size } => Ok(Some(Ended { length, size })),
@@ -111,6 +111,7 @@ fn next_line<'a, S: Source>(
 fn add_message<'a, S: Source>(
     alloc: Global,
     cutter: &mut Cutter<'a, S>,
+    room: &mut FoldingRoom,
     builder: &mut Builder,
     archive: u32,
     offset: u64,
@@ -129,22 +130,15 @@ fn add_message<'a, S: Source>(
 {
     builder.begin_message()?;
     let mut text = MessageText::new(alloc)?;
-    let mut waiting = WaitingWords::new(alloc);
     'lines: loop {
-        if let Some(Ended { length, size }) = next_line(
-            cutter,
-            &mut text,
-            &mut waiting,
-            builder,
-            offset,
-        )? {
+        if let Some(Ended { length, size }) = next_line(cutter, &mut text, room, builder, offset)? {
             let span = Span {
                 archive,
                 offset,
                 length,
                 size,
             };
-            return finish_message(text, &mut waiting, builder, span);
+            return finish_message(text, room, builder, span);
         }
     }
 }
@@ -153,6 +147,7 @@ fn add_message<'a, S: Source>(
 fn add_messages<'a, S: Source>(
     alloc: Global,
     cutter: &mut Cutter<'a, S>,
+    room: &mut FoldingRoom,
     builder: &mut Builder,
     archive: u32,
 ) -> Result<ReadArchive, JobFault>
@@ -170,7 +165,7 @@ fn add_messages<'a, S: Source>(
     'messages: loop {
         match next_heading(cutter)? {
             Heading::Message(offset) => {
-                add_message(alloc, cutter, builder, archive, offset)?;
+                add_message(alloc, cutter, room, builder, archive, offset)?;
                 messages += 1;
             }
             Heading::End(length) => {
@@ -184,6 +179,7 @@ fn add_messages<'a, S: Source>(
 fn add_archive<'a, S: Source>(
     alloc: Global,
     cutter: &mut Cutter<'a, S>,
+    room: &mut FoldingRoom,
     builder: &mut Builder,
     path: &str,
     archive: u32,
@@ -199,7 +195,7 @@ fn add_archive<'a, S: Source>(
     ensures own { IfErr result IsArchiveFault }
 {
     builder.begin_archive(path)?;
-    add_messages(alloc, cutter, builder, archive)
+    add_messages(alloc, cutter, room, builder, archive)
 }
 
 /// Reads an archive to its end, and adds its messages. Its end in the builder is left to the caller, who has its digest.
@@ -207,6 +203,7 @@ pub(crate) fn read_archive<S: Source>(
     alloc: Global,
     source: &mut S,
     kept: &mut Option<Buffer>,
+    room: &mut FoldingRoom,
     builder: &mut Builder,
     path: &str,
     archive: u32,
@@ -226,7 +223,7 @@ pub(crate) fn read_archive<S: Source>(
         None => Buffer::new(alloc)?,
     };
     let mut cutter = Cutter::over(buffer, source, MOST_IN_ARCHIVE);
-    let read = add_archive(alloc, &mut cutter, builder, path, archive);
+    let read = add_archive(alloc, &mut cutter, room, builder, path, archive);
     let _source = cutter.into_source_keeping(kept);
     read
 }

@@ -8,9 +8,9 @@ ghost use Rattle.mime_text.specs.Texts.{texts_of_message};
 ghost use Rattle.index_job.specs.JobFaults.{is_source_failure};
 ghost use Rattle.index_job.specs.Inside.Gathering.{HasGathered, IsGatherFault, with_texts};
 
+use crate::folding_room::FoldingRoom;
 use crate::job_fault::JobFault;
 use crate::term_sink::TermSink;
-use crate::waiting_words::WaitingWords;
 use mail_index::Builder;
 use mime_text::{Facts, MessageText};
 
@@ -18,7 +18,7 @@ use mime_text::{Facts, MessageText};
 pub(crate) fn feed_line(
     text: &mut MessageText,
     line: &[u8],
-    waiting: &mut WaitingWords,
+    room: &mut FoldingRoom,
     builder: &mut Builder,
 ) -> Result<(), JobFault>
     requires line { IsLine line.now }
@@ -29,14 +29,14 @@ pub(crate) fn feed_line(
     ensures err { IfErr result (λ fault. (ls ms : List (List ℕ)) (d : Option Draft) → HasGathered text.old builder.old d ls
         → IsGatherFault (with_texts (texts_of_message (ls ++ line.now ∷ ms)) d) fault) }
 {
-    let mut terms = TermSink { builder, waiting };
+    let mut terms = TermSink { builder, room };
     Ok(text.line(line, &mut terms)?)
 }
 
 /// Gives it the terms that are left, and answers what the message's own header says beside them.
 pub(crate) fn end_text(
     text: MessageText,
-    waiting: &mut WaitingWords,
+    room: &mut FoldingRoom,
     builder: &mut Builder,
 ) -> Result<Facts, JobFault>
     requires { IfSome builder.old IsInMessage }
@@ -48,6 +48,6 @@ pub(crate) fn end_text(
     ensures err { IfErr result (λ fault. (ls : List (List ℕ)) (d : Option Draft) → HasGathered text builder.old d ls
         → IsGatherFault (with_texts (texts_of_message ls) d) fault) }
 {
-    let mut terms = TermSink { builder, waiting };
+    let mut terms = TermSink { builder, room };
     Ok(text.end(&mut terms)?)
 }

@@ -10,6 +10,7 @@ ghost use Rattle.index_job.specs.Indexing.{IsArchiveFault};
 ghost use Rattle.index_job.specs.JobFaults.{is_source_failure, is_output_failure};
 
 use crate::archive_reading::{ReadArchive, read_archive};
+use crate::folding_room::FoldingRoom;
 use crate::job_fault::JobFault;
 use mail_index::Builder;
 use mbox_cutter::{Buffer, Digested, Out, Source};
@@ -25,8 +26,9 @@ const MOST_IN_INDEX: u32 = 2_147_483_647;
 #[derive(Drop)]
 pub struct IndexJob {
     alloc: Global,
-    // Kept from one archive to the next.
+    // Both are kept from one archive to the next.
     buffer: Option<Buffer>,
+    room: FoldingRoom,
     // None once a call has failed.
     builder: Option<Builder>,
     // How many archives have ended.
@@ -54,6 +56,7 @@ impl IndexJob {
         Ok(IndexJob {
             alloc,
             buffer: Some(Buffer::new(alloc)?),
+            room: FoldingRoom::new(alloc),
             builder: Some(Builder::new(alloc, MOST_IN_INDEX)),
             archives: 0,
         })
@@ -88,6 +91,7 @@ impl IndexJob {
             self.alloc,
             &mut digested,
             &mut self.buffer,
+            &mut self.room,
             &mut builder,
             path,
             self.archives,

@@ -2,12 +2,13 @@
 #![tactic(auto)]
 
 mod archive_reading;
+mod batch;
+mod folding_room;
 mod gathering;
 mod index_job;
 mod job_fault;
 mod message_end;
 mod term_sink;
-mod waiting_words;
 
 pub use index_job::IndexJob;
 pub use job_fault::JobFault;

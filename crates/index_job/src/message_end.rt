@@ -12,10 +12,10 @@ ghost use Rattle.index_job.specs.JobFaults.{is_source_failure};
 ghost use Rattle.index_job.specs.Inside.MessageEnds.{ended_with};
 ghost use Rattle.index_job.specs.MessageTerms.{id_terms, message_terms};
 
+use crate::folding_room::FoldingRoom;
 use crate::gathering::end_text;
 use crate::job_fault::JobFault;
 use crate::term_sink::add_ids;
-use crate::waiting_words::WaitingWords;
 use mail_dates::read_date;
 use mail_index::{Builder, Record};
 use mime_text::{Facts, MessageText};
@@ -63,7 +63,7 @@ fn end_message(builder: &mut Builder, facts: &Facts, span: Span) -> Result<(), J
 /// Ends the text of a message, and the message.
 pub(crate) fn finish_message(
     text: MessageText,
-    waiting: &mut WaitingWords,
+    room: &mut FoldingRoom,
     builder: &mut Builder,
     span: Span,
 ) -> Result<(), JobFault>
@@ -76,6 +76,6 @@ pub(crate) fn finish_message(
     ensures err { IfErr result (λ fault. (ls : List (List ℕ)) (d : Option Draft) → HasGathered text builder.old d ls
         → IsGatherFault (option_map (draft_with_terms (message_terms ls)) d) fault) }
 {
-    let facts = end_text(text, waiting, builder)?;
+    let facts = end_text(text, room, builder)?;
     end_message(builder, &facts, span)
 }

@@ -6,16 +6,16 @@ ghost use Rattle.mime_text.specs.MessageFacts.{HasSizedIds, IsSizedId};
 ghost use Rattle.index_job.specs.Indexing.{AddsTerms};
 ghost use Rattle.index_job.specs.MessageTerms.{text_terms, own_id_terms, link_terms, id_terms};
 
-use crate::waiting_words::WaitingWords;
+use crate::folding_room::{FoldingRoom, add_cut_words, add_words_of};
 use mail_index::{BuildFault, Builder, Kind};
-use mail_words::{TextKind, Words};
+use mail_words::{TextKind, fold_into};
 use mime_text::{Facts, MessageId, MessageIds, SinkFault, TextSink};
 
 /// Gives an index the words of the texts of the message that is open, each folded.
 #[derive(Drop)]
 pub(crate) struct TermSink<'a> {
     pub(crate) builder: &'a mut Builder,
-    pub(crate) waiting: &'a mut WaitingWords,
+    pub(crate) room: &'a mut FoldingRoom,
     ghost phase: { ForSome builder.now IsInMessage },
 }
 
@@ -32,7 +32,7 @@ impl<'a> TextSink for TermSink<'a> {
         ⊎ ((fault ≡ Refused) × RefusesTerms (option_map (draft_with_terms (text_terms (kind, text))) old.builder.now)) };
 
     fn text(&mut self, kind: TextKind, text: &str) -> Result<(), SinkFault> {
-        match add_words(self.builder, self.waiting, kind, text) {
+        match add_words(self.builder, self.room, kind, text) {
             Ok(()) => Ok(()),
             Err(BuildFault::OutOfMemory) => Err(SinkFault::OutOfMemory),
             Err(_) => Err(SinkFault::Refused),
@@ -43,7 +43,7 @@ impl<'a> TextSink for TermSink<'a> {
 /// Adds the words of a text, each folded.
 fn add_words(
     builder: &mut Builder,
-    waiting: &mut WaitingWords,
+    room: &mut FoldingRoom,
     kind: TextKind,
     text: &str,
 ) -> Result<(), BuildFault>
@@ -51,11 +51,18 @@ fn add_words(
     ensures terms { AddsTerms (text_terms (kind, text.now)) result builder.old builder.new }
     ensures phase { IfSome builder.new IsInMessage }
 {
-    waiting.forget();
-    for word in Words::of(text) {
-        waiting.push(builder, kind, word)?;
+    if text.is_ascii() {
+        // Its words fold with it: one folding serves them all.
+        fold_into(text, &mut room.folded)?;
+        return add_words_of(builder, kind, &room.folded);
     }
-    waiting.add(builder, kind)
+    room.fold_words(text)?;
+    add_cut_words(
+        builder,
+        kind,
+        room.bytes.as_slice(),
+        room.lengths.as_slice(),
+    )
 }
 
 /// Adds the ids of the message's own header.

@@ -1,3 +1,4 @@
+pub mod AsciiFolding
 pub mod ByteReads
 pub mod Characters
 pub mod FoldingLemmas

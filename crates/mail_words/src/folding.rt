@@ -21,6 +21,9 @@ pub fn fold(alloc: Global, word: &str) -> Result<String, AllocError>
 }
 
 /// The same, in place of what `into` holds, which may be anything after an error.
+///
+/// A whole text of ASCII can be folded at once, since its words stand in the folding, each folded
+/// ([`crate::words_fold_with_their_text`]).
 pub fn fold_into(word: &str, into: &mut String) -> Result<(), AllocError>
     ensures exact { OnOk result (string_bytes into.new ≡ folding word.now) }
     ensures of_word { HasWordLength word.now → OnOk result ((1 ≤ string_len into.new) × (string_len into.new ≤ 1024)) }

@@ -1,36 +1,36 @@
-use Rattle.std.proofs.Common.{◌≡◌, ◌∙◌, ◌∷◌, ◌++◌, List, Option, All, map, option_map, sym, ap, subst}
-use Rattle.std.proofs.lemmas.List.Elements.{All-tail}
-use Rattle.std.proofs.lemmas.Result.{err_from_is_err_and}
-use Rattle.mail_words.specs.Words.{HasWordLength}
+use Rattle.std.proofs.Common.{◌≡◌, ◌≤◌, ◌∙◌, ℕ, List, length, map, sym, ap₂, subst}
+use Rattle.std.specs.Prelude.{sum}
+use Rattle.std.specs.List.{AllByRecursion}
 use Rattle.mail_words.specs.Folding.{folding}
-use Rattle.mail_index.specs.declared.kind.Kind.TheVariants.{Text}
-use Rattle.mail_index.specs.Builders.{Draft}
-use Rattle.index_job.specs.Indexing.{draft_with_terms, IsTermFault}
-use Rattle.index_job.specs.MessageTerms.{Term, word_terms}
-use Rattle.index_job.proofs.Terms.{fails-first, waits-next}
+use Rattle.mail_words.specs.Words.{words}
+use Rattle.index_job.specs.Indexing.{AddsTerms}
+use Rattle.index_job.specs.Inside.FoldedWords.{cut}
+use Rattle.index_job.specs.MessageTerms.{HasTermLength, Term, word_terms, text_terms}
+use Rattle.index_job.proofs.FoldedWords.{held-within, held-sizes, terms-of-ascii, terms-of-held}
 use Rattle.index_job.proofs.term_sink.add_words.Goals as goal
 
-pub loop-word-preserved : goal.loop-word-preserved
-loop-word-preserved c =
-    let kind = c.args.kind in
-    let word = c.in-Some.word.now in
-    let rest = c.next.new.self in
-    let steps : c.loop-word.word-iterator ≡ word ∷ rest = c.in-Some.ensures.steps in
-    let i = c.loop-word.invariant in (
-      i.0,
-      i.1,
-      All-tail HasWordLength word rest (subst (λ l. All HasWordLength l) steps i.2),
-      c.push.ensures.phase,
-      i.4 ∙ ap (λ l. option_map (draft_with_terms (word_terms kind c.loop-word.waiting ++ map (λ w. (Text kind, folding w)) l)) c.loop-word.builder) steps
-          ∙ waits-next kind c.loop-word.waiting (folding word) c.push.new.self (map (λ w. (Text kind, folding w)) rest) c.loop-word.builder c.push.new.builder c.in_ok-push.ensures.ok,
-    )
+pub returns-then-is_ascii-clause-terms : goal.returns-then-is_ascii-clause-terms
+returns-then-is_ascii-clause-terms c =
+    subst (λ (ts : List Term). AddsTerms ts c.add_words_of.result c.args.builder.now c.add_words_of.new.builder)
+    (terms-of-ascii c.args.kind c.args.text.now c.deref.result.now c.if-is_ascii.ensures.cases (c.deref.ensures ∙ c.in_ok-fold_into.ensures.exact))
+    c.add_words_of.ensures.terms
 
-pub returns-in_err-push-clause-terms : goal.returns-in_err-push-clause-terms
-returns-in_err-push-clause-terms c =
+pub add_cut_words-requires-clause-within : goal.add_cut_words-requires-clause-within
+add_cut_words-requires-clause-within c =
+    let room = c.fold_words.new.self in
+    subst (λ (ns : List ℕ). sum ns ≤ length c.as_slice.result.now) (sym c.as_slice-2.ensures.value)
+    (subst (λ (bytes : List ℕ). sum room.lengths.items ≤ length bytes) (sym c.as_slice.ensures.value) (held-within room (map folding (words c.args.text.now)) c.in_ok-fold_words.ensures))
+
+pub add_cut_words-requires-clause-sizes : goal.add_cut_words-requires-clause-sizes
+add_cut_words-requires-clause-sizes c =
+    let room = c.fold_words.new.self in
+    subst (AllByRecursion HasTermLength) (ap₂ cut (sym c.as_slice-2.ensures.value) (sym c.as_slice.ensures.value))
+    (held-sizes room (map folding (words c.args.text.now)) c.in_ok-fold_words.ensures)
+
+pub returns-clause-terms : goal.returns-clause-terms
+returns-clause-terms c =
     let kind = c.args.kind in
-    let now : Option Draft = c.loop-word.builder in
-    let fault = c.in_err-push.field-0.0 in
-    let waiting : List Term = word_terms kind c.loop-word.waiting in
-    let left : List Term = map (λ w. (Text kind, folding w)) c.loop-word.word-iterator in
-    let p = err_from_is_err_and c.from_residual.result c.from_residual.ensures.1 in
-    rw (p.1, p.2) (subst (λ (o : Option Draft). IsTermFault o fault) (sym c.loop-word.invariant.4) (fails-first waiting left now fault c.in_err-push.ensures.err))
+    let room = c.fold_words.new.self in
+    let terms : word_terms kind (cut c.as_slice-2.result.now c.as_slice.result.now) ≡ text_terms (kind, c.args.text.now) =
+    ap₂ (λ (ns bytes : List ℕ). word_terms kind (cut ns bytes)) c.as_slice-2.ensures.value c.as_slice.ensures.value ∙ terms-of-held kind c.args.text.now room c.in_ok-fold_words.ensures in
+    subst (λ (ts : List Term). AddsTerms ts c.add_cut_words.result c.args.builder.now c.add_cut_words.new.builder) terms c.add_cut_words.ensures.terms

@@ -1,0 +1,79 @@
+-- Folded words that lie one behind another, and the terms that they are.
+use Rattle.std.proofs.Common.{◌≡◌, ◌≤◌, ◌<◌, ◌+◌, ℕ, List, [], ◌∷◌, ◌++◌, length, map, take, drop, get_or, refl, sym, ap, ap₂, subst, ◌∙◌, arith, IsAscii, length-append, append-nil}
+use Rattle.std.specs.Global.{Global}
+use Rattle.std.specs.Prelude.{String, string_bytes, string_len, sum}
+use Rattle.std.specs.List.{AllByRecursion, concat}
+use Rattle.std.proofs.Math.Seq.{take-append_seam, drop-append_seam}
+use Rattle.std.proofs.lemmas.List.{drop_more, map-append}
+use Rattle.std.proofs.lemmas.List.Folds.{concat-append}
+use Rattle.std.proofs.lemmas.List.Sums.{sum_by-cons}
+use Rattle.mail_index.specs.declared.kind.Kind.TheVariants.{Text}
+use Rattle.mail_words.specs.declared.kind.TextKind.{TextKind}
+use Rattle.mail_words.specs.Folding.{folding}
+use Rattle.mail_words.specs.Words.{words}
+use Rattle.mail_words.proofs.AsciiFolding.{words-folding-ascii}
+use Rattle.index_job.specs.declared.folding_room.FoldingRoom.{FoldingRoom}
+use Rattle.index_job.specs.Inside.FoldedWords.{cut, HoldsWords}
+use Rattle.index_job.specs.MessageTerms.{HasTermLength, Term, word_terms, text_terms}
+
+-- ---- a room
+
+pub cut-words : (ws : List (List ℕ)) → cut (map length ws) (concat ws) ≡ ws
+cut-words [] = refl
+cut-words (w ∷ ws) =
+    ap₂ (λ (front back : List ℕ). front ∷ cut (map length ws) back) (take-append_seam w (concat ws)) (drop-append_seam w (concat ws)) ∙ ap (λ (l : List (List ℕ)). w ∷ l) (cut-words ws)
+
+sum-lengths : (ws : List (List ℕ)) → sum (map length ws) ≡ length (concat ws)
+sum-lengths [] = refl
+sum-lengths (w ∷ ws) = omega (arith, sum_by-cons (λ n. n) (length w) (map length ws), sum-lengths ws, length-append w (concat ws))
+
+all-push : (ws : List (List ℕ)) (w : List ℕ) → AllByRecursion HasTermLength ws → HasTermLength w → AllByRecursion HasTermLength (ws ++ w ∷ [])
+all-push [] w all sized = (sized, tt)
+all-push (v ∷ ws) w all sized = (all.0, all-push ws w all.1 sized)
+
+-- of a word that was folded
+pub sized : (s : String Global) (word : List ℕ) → string_bytes s ≡ word → (1 ≤ string_len s) × (string_len s ≤ 1024) → HasTermLength word
+sized s word is h = subst HasTermLength is (omega (arith, h.0, s.bytes.ok.0), omega (arith, h.1, s.bytes.ok.0))
+
+pub holds-push : (old new : FoldingRoom) (ws : List (List ℕ)) (w : List ℕ) → HoldsWords old ws → new.bytes.items ≡ old.bytes.items ++ w → new.lengths.items ≡ old.lengths.items ++ length w ∷ []
+    → HasTermLength w → HoldsWords new (ws ++ w ∷ [])
+holds-push old new ws w h bytes lengths sized = record {
+  bytes = bytes ∙ ap₂ ◌++◌ h.bytes (sym (append-nil w)) ∙ sym (concat-append ws (w ∷ []));
+  lengths = lengths ∙ ap (λ (ns : List ℕ). ns ++ length w ∷ []) h.lengths ∙ sym (map-append length ws (w ∷ []));
+  sizes = all-push ws w h.sizes sized;
+}
+
+-- what is in a room, cut to its lengths
+pub held-cut : (room : FoldingRoom) (ws : List (List ℕ)) → HoldsWords room ws → cut room.lengths.items room.bytes.items ≡ ws
+held-cut room ws h = ap₂ cut h.lengths h.bytes ∙ cut-words ws
+
+pub held-within : (room : FoldingRoom) (ws : List (List ℕ)) → HoldsWords room ws → sum room.lengths.items ≤ length room.bytes.items
+held-within room ws h = omega (arith, ap sum h.lengths, sum-lengths ws, ap length h.bytes)
+
+pub held-sizes : (room : FoldingRoom) (ws : List (List ℕ)) → HoldsWords room ws → AllByRecursion HasTermLength (cut room.lengths.items room.bytes.items)
+held-sizes room ws h = subst (AllByRecursion HasTermLength) (sym (held-cut room ws h)) h.sizes
+
+-- ---- the next of the words that are left to cut
+
+pub next-cut : (lengths : List ℕ) (i : ℕ) (rest : List ℕ) → i < length lengths
+    → cut (drop i lengths) rest ≡ take (get_or lengths i 0) rest ∷ cut (drop (i + 1) lengths) (drop (get_or lengths i 0) rest)
+next-cut lengths i rest below = ap (λ (ns : List ℕ). cut ns rest) (drop_more lengths i 0 below)
+
+pub next-sum : (lengths : List ℕ) (i : ℕ) → i < length lengths → sum (drop i lengths) ≡ get_or lengths i 0 + sum (drop (i + 1) lengths)
+next-sum lengths i below = ap sum (drop_more lengths i 0 below) ∙ sum_by-cons (λ n. n) (get_or lengths i 0) (drop (i + 1) lengths)
+
+-- ---- terms
+
+folded-terms : (kind : TextKind) (ws : List (List ℕ)) → word_terms kind (map folding ws) ≡ map (λ w. let t : Term = (Text kind, folding w) in t) ws
+folded-terms kind [] = refl
+folded-terms kind (w ∷ ws) = ap (λ (ts : List Term). (Text kind, folding w) ∷ ts) (folded-terms kind ws)
+
+-- those of a text of ASCII that was folded whole
+pub terms-of-ascii : (kind : TextKind) (text folded : List ℕ) → IsAscii text → folded ≡ folding text → word_terms kind (words folded) ≡ text_terms (kind, text)
+terms-of-ascii kind text folded ascii is =
+    ap (λ (f : List ℕ). word_terms kind (words f)) is ∙ ap (word_terms kind) (words-folding-ascii text ascii) ∙ folded-terms kind (words text)
+
+-- those of a text whose words were folded into a room
+pub terms-of-held : (kind : TextKind) (text : List ℕ) (room : FoldingRoom) → HoldsWords room (map folding (words text))
+    → word_terms kind (cut room.lengths.items room.bytes.items) ≡ text_terms (kind, text)
+terms-of-held kind text room h = ap (word_terms kind) (held-cut room (map folding (words text)) h) ∙ folded-terms kind (words text)

@@ -1,0 +1,52 @@
+use Rattle.std.proofs.Common.{◌≡◌, ◌∙◌, [], ◌∷◌, ◌+◌, ◌<◌, ◌≤◌, ℕ, List, Bor, Option, arith, drop, get_or, length, option_map, sym, ap, subst}
+use Rattle.std.proofs.lemmas.Result.{err_from_is_err_and}
+use Rattle.mail_index.specs.declared.kind.Kind.TheVariants.{Text}
+use Rattle.mail_index.specs.Builders.{Draft}
+use Rattle.index_job.specs.Indexing.{draft_with_terms, IsTermFault}
+use Rattle.index_job.specs.MessageTerms.{HasTermLength, word_terms}
+use Rattle.index_job.proofs.Terms.{added-terms, add-fails, in-message-kept, next-waiting, waiting-length, of-any-draft}
+use Rattle.index_job.proofs.batch.Batch.add_prefetched.Goals as goal
+
+abbrev nothing : Bor (List ℕ)
+nothing = record { ref_ptr = (0, 0); now = [] }
+
+pub add_prefetched-requires-clause-some : goal.add_prefetched-requires-clause-some
+add_prefetched-requires-clause-some c =
+    let words = c.self.inside.words in
+    let i = c.loop-index.index in
+    let sized : HasTermLength (get_or words i nothing).now = waiting-length words c.self.inside.count i nothing c.self.invariant.1 c.loop-index-test.true (omega arith) in
+    of-any-draft c.loop-index.builder (0 < length (get_or words i nothing).now) (omega (arith, sized.0))
+
+pub add_prefetched-requires-clause-short : goal.add_prefetched-requires-clause-short
+add_prefetched-requires-clause-short c =
+    let words = c.self.inside.words in
+    let i = c.loop-index.index in
+    let sized : HasTermLength (get_or words i nothing).now = waiting-length words c.self.inside.count i nothing c.self.invariant.1 c.loop-index-test.true (omega arith) in
+    of-any-draft c.loop-index.builder (length (get_or words i nothing).now ≤ 262144) (omega (arith, sized.1))
+
+pub returns-in_err-add_prefetched-clause-terms : goal.returns-in_err-add_prefetched-clause-terms
+returns-in_err-add_prefetched-clause-terms c =
+    let kind = c.args.kind in
+    let i = c.loop-index.index in
+    let word : List ℕ = (get_or c.self.inside.words i nothing).now in
+    let now : Option Draft = c.loop-index.builder in
+    let fault = c.in_err-add_prefetched.field-0.0 in
+    let rest = word_terms kind (drop (i + 1) c.args.self.now) in
+    let p = err_from_is_err_and c.from_residual.result c.from_residual.ensures.1 in
+    let whole : option_map (draft_with_terms (word_terms kind c.args.self.now)) c.args.builder.now ≡ option_map (draft_with_terms ((Text kind, word) ∷ rest)) now =
+    c.loop-index.invariant.whole ∙ ap (λ l. option_map (draft_with_terms l) now) (next-waiting kind c.self.inside.words c.self.inside.count i nothing c.args.self.now c.self.view_is c.loop-index-test.true (omega arith)) in
+    rw (p.1, p.2) (subst (λ (o : Option Draft). IsTermFault o fault) (sym whole) (add-fails (Text kind) word rest now c.add_prefetched.new.self fault c.in_err-add_prefetched.ensures.gives))
+
+pub loop-index-preserved : goal.loop-index-preserved
+loop-index-preserved c =
+    let kind = c.args.kind in
+    let i = c.loop-index.index in
+    let word : List ℕ = (get_or c.self.inside.words i nothing).now in
+    let now : Option Draft = c.loop-index.builder in
+    let rest = word_terms kind (drop (i + 1) c.args.self.now) in
+    record {
+      phase = in-message-kept (Text kind) word now c.add_prefetched.new.self c.in_ok-add_prefetched.ensures.gives c.loop-index.invariant.phase;
+      whole = c.loop-index.invariant.whole
+          ∙ ap (λ l. option_map (draft_with_terms l) now) (next-waiting kind c.self.inside.words c.self.inside.count i nothing c.args.self.now c.self.view_is c.loop-index-test.true (omega arith))
+          ∙ added-terms (Text kind) word rest now c.add_prefetched.new.self c.in_ok-add_prefetched.ensures.gives;
+    }

@@ -1,0 +1,12 @@
+use Rattle.std.proofs.Common.{◌≡◌, IfSome, drop, option_map}
+use Rattle.mail_index.specs.Builders.{IsInMessage}
+use Rattle.index_job.specs.Indexing.{draft_with_terms}
+use Rattle.index_job.specs.MessageTerms.{word_terms}
+use Rattle.index_job.proofs.batch.Batch.add_prefetched.Given as goal
+
+-- with the words that are left it becomes what it is to become
+abbrev pub invariant-loop-index : goal.invariant-loop-index
+invariant-loop-index l = record {
+  phase : IfSome l.builder IsInMessage;
+  whole : option_map (draft_with_terms (word_terms l.kind l.self)) l.fn.builder ≡ option_map (draft_with_terms (word_terms l.kind (drop l.index l.self))) l.builder;
+}

@@ -1,0 +1,22 @@
+use Rattle.std.proofs.Common.{◌≡◌, ◌∙◌, [], ◌∷◌, ◌++◌, All, map, sym, ap, subst, append_assoc}
+use Rattle.std.proofs.lemmas.List.Elements.{All-tail}
+use Rattle.mail_words.specs.Folding.{folding}
+use Rattle.mail_words.specs.Words.{HasWordLength}
+use Rattle.index_job.proofs.folding_room.FoldingRoom.fold_words.Goals as goal
+
+pub loop-word-preserved : goal.loop-word-preserved
+loop-word-preserved c =
+    let word = c.in-Some.word.now in
+    let rest = c.next.new.self in
+    let steps : c.loop-word.word-iterator ≡ word ∷ rest = c.in-Some.ensures.steps in
+    let i = c.loop-word.invariant in
+    let held = i.3 in (
+      i.0,
+      i.1,
+      All-tail HasWordLength word rest (subst (λ l. All HasWordLength l) steps i.2),
+      (
+        held.0 ++ folding word ∷ [],
+        c.in_ok-fold_word.ensures held.0 held.1,
+        append_assoc held.0 (folding word ∷ []) (map folding rest) ∙ sym (ap (λ l. held.0 ++ map folding l) steps) ∙ held.2,
+      ),
+    )

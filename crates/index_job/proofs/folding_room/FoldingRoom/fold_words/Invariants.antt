@@ -1,0 +1,13 @@
+use Rattle.std.proofs.Common.{◌≡◌, ◌++◌, ℕ, List, All, map}
+use Rattle.mail_words.specs.Folding.{folding}
+use Rattle.mail_words.specs.Words.{HasWordLength, words}
+use Rattle.index_job.specs.Inside.FoldedWords.{HoldsWords}
+use Rattle.index_job.proofs.folding_room.FoldingRoom.fold_words.Given as goal
+
+-- some words are folded, and with those that are left they are all
+abbrev pub invariant-loop-word : goal.invariant-loop-word
+invariant-loop-word l =
+    (goal.iterator-loop-word).can_next l.word-iterator ×
+    (goal.iterator-loop-word).is_finite l.word-iterator ×
+    All HasWordLength l.word-iterator ×
+    ((ws : List (List ℕ)) × HoldsWords l.self ws × (ws ++ map folding l.word-iterator ≡ map folding (words l.text)))

@@ -1,0 +1,17 @@
+use Rattle.std.proofs.Common.{◌≡◌, ◌≤◌, ◌++◌, IfSome, drop, length, option_map}
+use Rattle.std.specs.Prelude.{sum}
+use Rattle.std.specs.List.{AllByRecursion}
+use Rattle.mail_index.specs.Builders.{IsInMessage}
+use Rattle.index_job.specs.Indexing.{draft_with_terms}
+use Rattle.index_job.specs.Inside.FoldedWords.{cut}
+use Rattle.index_job.specs.MessageTerms.{HasTermLength, word_terms}
+use Rattle.index_job.proofs.folding_room.add_cut_words.Given as goal
+
+-- with the words that wait and those that are left it becomes what it is to become
+abbrev pub invariant-loop-length : goal.invariant-loop-length
+invariant-loop-length l = record {
+  phase : IfSome l.builder IsInMessage;
+  within : sum (drop l.length-index l.lengths) ≤ length l.rest;
+  sizes : AllByRecursion HasTermLength (cut (drop l.length-index l.lengths) l.rest);
+  whole : option_map (draft_with_terms (word_terms l.kind (cut l.lengths l.bytes))) l.fn.builder ≡ option_map (draft_with_terms (word_terms l.kind l.batch ++ word_terms l.kind (cut (drop l.length-index l.lengths) l.rest))) l.builder;
+}

@@ -1,0 +1,15 @@
+use Rattle.std.proofs.Common.{◌≡◌, ◌++◌, IfSome, All, option_map}
+use Rattle.mail_words.specs.Words.{HasWordLength, words}
+use Rattle.mail_index.specs.Builders.{IsInMessage}
+use Rattle.index_job.specs.Indexing.{draft_with_terms}
+use Rattle.index_job.specs.MessageTerms.{word_terms}
+use Rattle.index_job.proofs.folding_room.add_words_of.Given as goal
+
+-- with the words that wait and those that are left it becomes what it is to become
+abbrev pub invariant-loop-word : goal.invariant-loop-word
+invariant-loop-word l =
+    (goal.iterator-loop-word).can_next l.word-iterator ×
+    (goal.iterator-loop-word).is_finite l.word-iterator ×
+    All HasWordLength l.word-iterator ×
+    IfSome l.builder IsInMessage ×
+    (option_map (draft_with_terms (word_terms l.kind (words l.folded))) l.fn.builder ≡ option_map (draft_with_terms (word_terms l.kind l.batch ++ word_terms l.kind l.word-iterator)) l.builder)

@@ -1,0 +1,114 @@
+//! Folded words that are added to an index together.
+ghost use Rattle.std.specs.Prelude.{◌≡◌, ◌<◌, nat_le, [], ◌∷◌, ◌++◌, IfSome, IfErr, OnOk, length, option_map};
+ghost use Rattle.mail_index.specs.Builders.{IsInMessage};
+ghost use Rattle.index_job.specs.Indexing.{draft_with_terms, AddsTerms, IsTermFault};
+ghost use Rattle.index_job.specs.MessageTerms.{word_terms, HasTermLength};
+
+use mail_index::{BuildFault, Builder, Kind, Prefetched};
+use mail_words::TextKind;
+use std::marker::Model;
+
+/// So many words wait: their keys come from memory together, in about the time of one.
+const MOST_WAITING: usize = 16;
+
+/// Folded words that wait for the memory of their keys. It takes no memory of its own.
+#[derive(Drop)]
+pub(crate) struct Batch<'a> {
+    words: [&'a [u8]; MOST_WAITING],
+    // Where their keys may stand.
+    places: [Prefetched; MOST_WAITING],
+    // How many wait: those behind them mean nothing.
+    count: usize,
+}
+
+impl<'a> Model for Batch<'a> {
+    ghost use Rattle.std.specs.Prelude.{List, ℕ, ◌≤◌, map, take};
+    ghost use Rattle.std.specs.List.{AllByRecursion};
+    ghost use Rattle.index_job.specs.MessageTerms.{HasTermLength};
+    ghost use Rattle.index_job.specs.declared.batch.TheConstants.{MOST_WAITING};
+
+    ghost Value = { List (List ℕ) };
+
+    ghost view = { λ s. map (λ w. w.now) (take s.count s.words) };
+
+    ghost invariant = { λ s. (s.count ≤ MOST_WAITING) × AllByRecursion HasTermLength (map (λ w. w.now) (take s.count s.words)) };
+}
+
+impl<'a> Batch<'a> {
+    /// No word.
+    pub(crate) fn new() -> Self
+        ensures { result ≡ [] }
+    {
+        Batch {
+            words: [&[]; MOST_WAITING],
+            places: [Prefetched::of(Kind::OwnId, &[]); MOST_WAITING],
+            count: 0,
+        }
+    }
+
+    /// Adds the words that wait.
+    pub(crate) fn add(&mut self, builder: &mut Builder, kind: TextKind) -> Result<(), BuildFault>
+        requires { IfSome builder.old IsInMessage }
+        ensures terms { AddsTerms (word_terms kind self.old) result builder.old builder.new }
+        ensures phase { IfSome builder.new IsInMessage }
+        ensures none { OnOk result (self.new ≡ []) }
+    {
+        let count = self.count;
+        builder.prefetch(&mut self.places[..count]);
+        self.add_prefetched(builder, kind)?;
+        self.count = 0;
+        Ok(())
+    }
+
+    /// Adds each of them, where it may stand.
+    fn add_prefetched(&self, builder: &mut Builder, kind: TextKind) -> Result<(), BuildFault>
+        requires { IfSome builder.old IsInMessage }
+        ensures terms { AddsTerms (word_terms kind self.now) result builder.old builder.new }
+        ensures phase { IfSome builder.new IsInMessage }
+    {
+        for index in 0..self.count {
+            let word = self.words[index];
+            builder.add_prefetched(Kind::Text(kind), word, self.places[index])?;
+        }
+        Ok(())
+    }
+
+    /// A word waits behind the others. Where so many wait already, they are added first.
+    pub(crate) fn push(
+        &mut self,
+        builder: &mut Builder,
+        kind: TextKind,
+        word: &'a [u8],
+    ) -> Result<(), BuildFault>
+        requires phase { IfSome builder.old IsInMessage }
+        requires word { HasTermLength word.now }
+        ensures ok { OnOk result (option_map (draft_with_terms (word_terms kind (self.old ++ word.now ∷ []))) builder.old ≡ option_map (draft_with_terms (word_terms kind self.new)) builder.new) }
+        ensures err { IfErr result (IsTermFault (option_map (draft_with_terms (word_terms kind self.old)) builder.old)) }
+        ensures phase { IfSome builder.new IsInMessage }
+    {
+        if self.is_full() {
+            self.add(builder, kind)?;
+        }
+        self.wait(kind, word);
+        Ok(())
+    }
+
+    /// Whether no other word can wait.
+    fn is_full(&self) -> bool
+        ensures { result ≡ nat_le MOST_WAITING (length self.now) }
+    {
+        self.count >= MOST_WAITING
+    }
+
+    /// A word waits behind the others.
+    fn wait(&mut self, kind: TextKind, word: &'a [u8])
+        requires word { HasTermLength word.now }
+        requires room { length self.old < MOST_WAITING }
+        ensures { self.new ≡ self.old ++ word.now ∷ [] }
+    {
+        let count = self.count;
+        self.words[count] = word;
+        self.places[count] = Prefetched::of(Kind::Text(kind), word);
+        self.count = count + 1;
+    }
+}

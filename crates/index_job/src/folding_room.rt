@@ -1,0 +1,99 @@
+//! The words of a text, folded in memory that is used again for the next one.
+ghost use Rattle.std.specs.Prelude.{◌≡◌, ◌≤◌, ℕ, List, [], ◌∷◌, ◌++◌, IfSome, OnOk, length, map, sum};
+ghost use Rattle.std.specs.List.{AllByRecursion};
+ghost use Rattle.mail_index.specs.Builders.{IsInMessage};
+ghost use Rattle.mail_words.specs.Folding.{folding};
+ghost use Rattle.mail_words.specs.Words.{HasWordLength, words};
+ghost use Rattle.index_job.specs.Indexing.{AddsTerms};
+ghost use Rattle.index_job.specs.Inside.FoldedWords.{cut, HoldsWords};
+ghost use Rattle.index_job.specs.MessageTerms.{word_terms, HasTermLength};
+
+use crate::batch::Batch;
+use mail_index::{BuildFault, Builder};
+use mail_words::{TextKind, Words, fold_into};
+use std::alloc::{AllocError, Global};
+
+/// Memory for the folding of a text. What it holds means nothing to the text that comes next.
+#[derive(Drop)]
+pub(crate) struct FoldingRoom {
+    // Of a text of ASCII, or of one word.
+    pub(crate) folded: String,
+    // The words of any other text, each folded, one behind another.
+    pub(crate) bytes: Vec<u8>,
+    // How many bytes each of them has.
+    pub(crate) lengths: Vec<usize>,
+}
+
+impl FoldingRoom {
+    /// Takes no memory.
+    pub(crate) fn new(alloc: Global) -> Self {
+        FoldingRoom {
+            folded: String::new(alloc),
+            bytes: Vec::new(alloc),
+            lengths: Vec::new(alloc),
+        }
+    }
+
+    /// Folds each word of a text.
+    pub(crate) fn fold_words(&mut self, text: &str) -> Result<(), AllocError>
+        ensures { OnOk result (HoldsWords self.new (map folding (words text.now))) }
+    {
+        self.bytes.clear();
+        self.lengths.clear();
+        for word in Words::of(text) {
+            self.fold_word(word)?;
+        }
+        Ok(())
+    }
+
+    /// Folds a word behind the others.
+    fn fold_word(&mut self, word: &str) -> Result<(), AllocError>
+        requires { HasWordLength word.now }
+        ensures { OnOk result ((ws : List (List ℕ)) → HoldsWords self.old ws → HoldsWords self.new (ws ++ folding word.now ∷ [])) }
+    {
+        fold_into(word, &mut self.folded)?;
+        self.lengths.push(self.folded.len())?;
+        self.bytes.extend_from_slice(self.folded.as_bytes())?;
+        Ok(())
+    }
+}
+
+/// Adds the words of a text that is folded.
+pub(crate) fn add_words_of(
+    builder: &mut Builder,
+    kind: TextKind,
+    folded: &str,
+) -> Result<(), BuildFault>
+    requires { IfSome builder.old IsInMessage }
+    ensures terms { AddsTerms (word_terms kind (words folded.now)) result builder.old builder.new }
+    ensures phase { IfSome builder.new IsInMessage }
+{
+    let mut batch = Batch::new();
+    for word in Words::of(folded) {
+        batch.push(builder, kind, word.as_bytes())?;
+    }
+    batch.add(builder, kind)
+}
+
+/// Adds folded words that lie one behind another, and have these lengths.
+pub(crate) fn add_cut_words(
+    builder: &mut Builder,
+    kind: TextKind,
+    bytes: &[u8],
+    lengths: &[usize],
+) -> Result<(), BuildFault>
+    requires phase { IfSome builder.old IsInMessage }
+    requires within { sum lengths.now ≤ length bytes.now }
+    requires sizes { AllByRecursion HasTermLength (cut lengths.now bytes.now) }
+    ensures terms { AddsTerms (word_terms kind (cut lengths.now bytes.now)) result builder.old builder.new }
+    ensures phase { IfSome builder.new IsInMessage }
+{
+    let mut batch = Batch::new();
+    let mut rest = bytes;
+    for &length in lengths {
+        let (word, behind) = rest.split_at(length);
+        batch.push(builder, kind, word)?;
+        rest = behind;
+    }
+    batch.add(builder, kind)
+}

@@ -1,0 +1,5 @@
+use Rattle.mail_words.proofs.AsciiFolding.{words-folding-ascii}
+use Rattle.mail_words.proofs.laws.words_fold_with_their_text.Goals as goal
+
+pub returns : goal.returns
+returns c text ascii = words-folding-ascii text ascii
