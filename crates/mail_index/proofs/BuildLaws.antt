@@ -8,5 +8,6 @@ pub mod PageLemmas
 pub mod PairLaw
 pub mod Placing
 pub mod PostingLemmas
+pub mod SameTexts
 pub mod SigningLemmas
 pub mod Sizes

@@ -204,13 +204,23 @@ impl Builder {
     }
 
     // After a refusal nothing is kept.
+    #[inline]
     fn settled(&mut self, outcome: Result<(), BuildFault>) -> Result<(), BuildFault>
         ensures same { result ≡ outcome }
         ensures draft { self.new ≡ (if is_ok outcome then self.old else None) }
     {
         if outcome.is_err() {
-            self.draft = None;
+            self.lose();
         }
         outcome
+    }
+
+    // Keeps nothing. It frees all that was built, so it stands apart from the calls that nearly always succeed.
+    #[cold]
+    #[inline(never)]
+    fn lose(&mut self)
+        ensures { self.new ≡ None }
+    {
+        self.draft = None;
     }
 }

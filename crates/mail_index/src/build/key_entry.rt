@@ -1,10 +1,11 @@
 //! A key of an index while it is built.
-ghost use Rattle.std.specs.Prelude.{◌≡◌, ◌+◌, ◌<◌, ◌≤◌, [], ◌∷◌, ◌++◌, length, take, OnOk, OnErr, IfOk};
+ghost use Rattle.std.specs.Prelude.{◌≡◌, ◌+◌, ◌<◌, ◌≤◌, [], ◌∷◌, ◌++◌, length, take, IfSome, OnOk, OnErr, IfOk};
+ghost use Rattle.std.specs.Bool.{Decides};
 ghost use Rattle.std.specs.Ordering.{is_eq};
 ghost use Rattle.mail_index.specs.Inside.KeyMaps.{new_key, with_one};
 ghost use Rattle.mail_index.specs.Kinds.{kind_number};
 ghost use Rattle.mail_index.specs.LookUps.{lies_to};
-ghost use Rattle.mail_index.specs.Postings.{postings};
+ghost use Rattle.mail_index.specs.Postings.{leb128, postings};
 ghost use Rattle.mail_index.specs.Limits.{four_byte_limit};
 
 use crate::build::leb128_out::leb128_of;
@@ -101,8 +102,8 @@ impl KeyEntry {
         if number < self.next {
             return Ok(());
         }
-        let difference = leb128_of(number + 1 - self.next);
-        append(&mut self.bytes, &mut self.recent, &difference)?;
+        let difference = number + 1 - self.next;
+        append(&mut self.bytes, &mut self.recent, difference)?;
         self.next = number + 1;
         Ok(())
     }
@@ -141,7 +142,7 @@ impl KeyEntry {
         ensures { result ≡ is_eq (lies_to kind text.now self.now) }
     {
         let (own_number, own_text) = self.number_and_text();
-        own_number == kind.number() && own_text == text
+        own_number == kind.number() && is_same_text(own_text, text)
     }
 
     /// The number of its kind in the file.
@@ -182,12 +183,62 @@ impl KeyEntry {
     }
 }
 
-// Appends bytes to the recent ones. Where there is no room for them the recent ones go behind the others first.
-fn append(bytes: &mut Vec<u8>, recent: &mut ShortBytes, more: &ShortBytes) -> Result<(), AllocError>
-    ensures ok { OnOk result (bytes.new.items ++ recent.new ≡ bytes.old.items ++ recent.old ++ more.now) }
+// Whether two texts are one. Most have four to sixteen bytes, and need no loop.
+fn is_same_text(own: &[u8], text: &[u8]) -> bool
+    ensures { Decides result (own.now ≡ text.now) }
+{
+    if own.len() != text.len() {
+        return false;
+    }
+    if let Some(same) = have_same_ends::<4>(own, text) {
+        return same;
+    }
+    if let Some(same) = have_same_ends::<8>(own, text) {
+        return same;
+    }
+    own == text
+}
+
+// Whether two texts of the same length are one, by their first bytes and their last ones, N each: where these cover them.
+fn have_same_ends<const N: usize>(own: &[u8], text: &[u8]) -> Option<bool>
+    requires length { length own.now ≡ length text.now }
+    requires few { N ≤ 8 }
+    ensures { IfSome result (λ same. Decides same (own.now ≡ text.now)) }
+{
+    if own.len() > 2 * N {
+        return None;
+    }
+    let first = *own.first_chunk::<N>()? == *text.first_chunk::<N>()?;
+    let last = *own.last_chunk::<N>()? == *text.last_chunk::<N>()?;
+    Some(first && last)
+}
+
+// Appends a difference's bytes to the recent ones. Most differences have one byte, for which there mostly is room.
+fn append(bytes: &mut Vec<u8>, recent: &mut ShortBytes, difference: u32) -> Result<(), AllocError>
+    ensures ok { OnOk result (bytes.new.items ++ recent.new ≡ bytes.old.items ++ recent.old ++ leb128 5 difference) }
     ensures err { OnErr result ((bytes.new.items ≡ bytes.old.items) × (recent.new ≡ recent.old)) }
     ensures kept { length bytes.old.items ≤ length bytes.new.items }
 {
+    if difference < 128 && recent.as_slice().len() < ShortBytes::MOST {
+        recent.push(difference as u8);
+        return Ok(());
+    }
+    append_any(bytes, recent, difference)
+}
+
+// Does that for each difference. Where there is no room for its bytes the recent ones go behind the others first. It stands
+// apart, so that one byte costs no more than its own steps.
+#[inline(never)]
+fn append_any(
+    bytes: &mut Vec<u8>,
+    recent: &mut ShortBytes,
+    difference: u32,
+) -> Result<(), AllocError>
+    ensures ok { OnOk result (bytes.new.items ++ recent.new ≡ bytes.old.items ++ recent.old ++ leb128 5 difference) }
+    ensures err { OnErr result ((bytes.new.items ≡ bytes.old.items) × (recent.new ≡ recent.old)) }
+    ensures kept { length bytes.old.items ≤ length bytes.new.items }
+{
+    let more = leb128_of(difference);
     let more = more.as_slice();
     if recent.as_slice().len() + more.len() > ShortBytes::MOST {
         bytes.extend_from_slice(recent.as_slice())?;

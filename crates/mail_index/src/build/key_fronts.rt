@@ -1,4 +1,5 @@
 //! Fronts of keys, by which a search guesses where a key stands.
+ghost use Rattle.std.specs.Prelude.{◌<◌, ◌≤◌, length};
 
 use crate::build::key_order::Place;
 use crate::kind::Kind;
@@ -7,12 +8,33 @@ use std::alloc::Global;
 /// The kind's number and the first seven bytes of the text, with zeros behind them, as one number: of two keys whose fronts differ
 /// the one of the smaller front comes first.
 pub fn front_of_key(kind: Kind, text: &[u8]) -> u64 {
-    let mut front = kind.number() as u64;
-    for index in 0..7usize {
-        let byte = text.get(index).copied().unwrap_or(0);
-        front = (front << 8) | byte as u64;
+    let first = match text.first_chunk::<8>() {
+        Some(first) => u64::from_be_bytes(*first),
+        None => padded(text),
+    };
+    ((kind.number() as u64) << 56) | (first >> 8)
+}
+
+// The bytes of a text of fewer than eight and zeros behind them, as one number: its first and its last four, which overlap,
+// or its first byte, its middle one and its last. So no loop is needed.
+fn padded(text: &[u8]) -> u64
+    requires { length text.now < 8 }
+{
+    let length = text.len();
+    if length == 0 {
+        return 0;
     }
-    front
+    let zeros = 64 - 8 * length as u32;
+    if let Some(first) = text.first_chunk::<4>() {
+        if let Some(last) = text.last_chunk::<4>() {
+            let last = u32::from_be_bytes(*last) as u64;
+            return ((u32::from_be_bytes(*first) as u64) << 32) | (last << zeros);
+        }
+    }
+    let middle = length / 2;
+    ((text[0] as u64) << 56)
+        | ((text[middle] as u64) << (56 - 8 * middle as u32))
+        | ((text[length - 1] as u64) << zeros)
 }
 
 /// The fronts of an order's keys, in the same pages and with the same heads between them.
@@ -47,13 +69,13 @@ impl KeyFronts {
         }
     }
 
-    /// Takes the front of a key that is inserted at a place.
-    pub fn insert(&mut self, alloc: Global, place: Place, front: u64) {
+    /// Takes the front of a key that is inserted at its place.
+    pub fn insert(&mut self, alloc: Global, place: Place) {
         if self.pages.is_empty() {
             let _begun = self.pages.push(Vec::new(alloc));
         }
         if let Some(fronts) = self.pages.get_mut(place.page) {
-            insert_if_within(fronts, place.at, front);
+            insert_if_within(fronts, place.at, place.front);
         }
     }
 
@@ -96,7 +118,7 @@ impl Guess {
     pub fn of(fronts: &[u64], front: u64) -> Self {
         let from = count_below(fronts, front);
         let to = if fronts.get(from) == Some(&front) {
-            count_below(fronts, front.saturating_add(1))
+            from + count_below(&fronts[from..], front.saturating_add(1))
         } else {
             from
         };
@@ -105,7 +127,9 @@ impl Guess {
 }
 
 // How many of the fronts are smaller than this one. A binary search.
-fn count_below(fronts: &[u64], front: u64) -> usize {
+fn count_below(fronts: &[u64], front: u64) -> usize
+    ensures { result ≤ length fronts.now }
+{
     let mut low = 0;
     let mut high = fronts.len();
     while low < high {

@@ -8,6 +8,13 @@ use std::alloc::{AllocError, Global};
 /// How many hints there are.
 const SLOTS: usize = 1048576;
 
+/// How many bits of a hash stand below the 20 highest, which number its slot.
+const BELOW_SLOT: u32 = 44;
+
+/// 2^64 by the golden ratio: an odd number whose bits have no pattern, so that each bit of a word counts for the highest
+/// of its product.
+const SPREAD: u64 = 0x9E37_79B9_7F4A_7C15;
+
 /// For each value of a hash the number of the entry of a key that came last with it. A hint can be wrong, and is no
 /// more than a guess that saves a search; so nothing is lost where a hint is missing, nor where two keys share one.
 #[derive(Drop)]
@@ -26,15 +33,43 @@ impl Slot {
     pub fn of(kind: Kind, text: &[u8]) -> Self
         ensures { result.index < 2 ^ 20 }
     {
-        // FNV-1a
-        let mut hash = 0x811C_9DC5_u32 ^ kind.number() as u32;
-        for byte in text {
-            hash = (hash ^ *byte as u32).wrapping_mul(0x0100_0193);
-        }
         Slot {
-            index: (hash ^ (hash >> 15)) as usize % SLOTS,
+            index: (hash_of(kind, text) >> BELOW_SLOT) as usize,
         }
     }
+}
+
+// A hash of a key, whose highest bits hang on all bytes. It takes eight at a time: a longer text's last eight come once
+// more than its whole words, so that what fills no word needs no loop of its own.
+fn hash_of(kind: Kind, text: &[u8]) -> u64 {
+    let mut hash = mixed(kind.number() as u64, text.len() as u64);
+    let Some(last) = text.last_chunk::<8>() else {
+        return mixed(hash, short_word(text));
+    };
+    for word in text.as_chunks::<8>().0 {
+        hash = mixed(hash, u64::from_le_bytes(*word));
+    }
+    mixed(hash, u64::from_le_bytes(*last))
+}
+
+// The bytes of a text of fewer than eight, in one word: its first and its last four, which overlap, or its first byte, its
+// middle one and its last. So no loop is needed.
+fn short_word(text: &[u8]) -> u64 {
+    if let Some(first) = text.first_chunk::<4>() {
+        if let Some(last) = text.last_chunk::<4>() {
+            return u32::from_le_bytes(*first) as u64 | ((u32::from_le_bytes(*last) as u64) << 32);
+        }
+    }
+    if text.is_empty() {
+        return 0;
+    }
+    let length = text.len();
+    text[0] as u64 | ((text[length / 2] as u64) << 8) | ((text[length - 1] as u64) << 16)
+}
+
+// A hash, and a word more. The rotation brings the highest bits down, where the product spreads them.
+fn mixed(hash: u64, word: u64) -> u64 {
+    (hash.rotate_left(32) ^ word).wrapping_mul(SPREAD)
 }
 
 impl KeyHints {

@@ -1,5 +1,5 @@
 //! The keys of an index while it is built.
-ghost use Rattle.std.specs.Prelude.{◌≡◌, ◌-◌, ◌^◌, ◌<◌, ◌≤◌, [], length, map, set, IfOk, IfErr, OnOk, OnErr, MatchResult};
+ghost use Rattle.std.specs.Prelude.{◌≡◌, ◌-◌, ◌^◌, ◌<◌, ◌≤◌, [], length, map, set, IfSome, IfOk, IfErr, OnOk, OnErr, MatchResult};
 ghost use Rattle.std.specs.declared.cmp.Ordering.TheVariants.{Equal};
 ghost use Rattle.std.specs.List.{AllByRecursion, slice_index_or};
 ghost use Rattle.contract_words.specs.Devices.{Counts};
@@ -14,7 +14,6 @@ ghost use Rattle.mail_index.specs.Limits.{four_byte_limit};
 use crate::build::build_fault::BuildFault;
 use crate::build::file_out::Signer;
 use crate::build::key_entry::KeyEntry;
-use crate::build::key_fronts::front_of_key;
 use crate::build::key_hints::{KeyHints, Slot};
 use crate::build::key_order::{KeyOrder, Place};
 use crate::build::key_search::matching;
@@ -97,25 +96,37 @@ impl KeyMap {
         ensures fits { length self.new ≤ most }
         ensures fault { IfErr result (IsWantOf most (length (with_pair kind text.now number self.old))) }
     {
-        self.hints.begin()?;
-        self.order.begin(alloc)?;
-        let hint = if place.text_length == text.len() {
-            place.number
-        } else {
-            None
-        };
-        let found = locate(&self.entries, &self.order, hint, kind, text);
         let key = Added {
             kind,
             text,
             number,
             most,
         };
-        let entry = add_at(alloc, &mut self.entries, &mut self.order, found, &key)?;
-        // Most hints stand already: a write of the same number would only send its piece of the table to memory again.
-        if place.number != Some(entry) {
-            self.hints.note(place.slot, entry);
+        // A right guess needs neither the order nor the hints.
+        if let Some(entry) = guessed(&self.entries, place, kind, text) {
+            add_number(&mut self.entries, &self.order, entry, &key)?;
+            return Ok(());
         }
+        self.add_searched(alloc, place.slot, key)
+    }
+
+    // Does what `add` does, by a search, and leaves a hint. It stands apart, so that a right guess costs no more than its own
+    // steps.
+    #[inline(never)]
+    fn add_searched(&mut self, alloc: Global, slot: Slot, key: Added<'_>) -> Result<(), BuildFault>
+        requires number { key.number < u32.MAX }
+        requires short { length key.text.now < four_byte_limit }
+        requires fits { length self.old ≤ key.most }
+        ensures ok { OnOk result (self.new ≡ with_pair key.entry.kind key.entry.text.now key.entry.number self.old) }
+        ensures err { OnErr result (self.new ≡ self.old) }
+        ensures fits { length self.new ≤ key.entry.most }
+        ensures fault { IfErr result (IsWantOf key.entry.most (length (with_pair key.entry.kind key.entry.text.now key.entry.number self.old))) }
+    {
+        self.hints.begin()?;
+        self.order.begin(alloc)?;
+        let found = self.order.find(&self.entries, key.kind, key.text);
+        let entry = add_at(alloc, &mut self.entries, &mut self.order, found, &key)?;
+        self.hints.note(slot, entry);
         Ok(())
     }
 }
@@ -203,28 +214,15 @@ struct Added<'a> {
     most: u32,
 }
 
-// The number of the entry of a key, by a hint or by a search; where none is it, the place for it.
-fn locate(
-    entries: &[KeyEntry],
-    order: &KeyOrder,
-    hint: Option<u32>,
-    kind: Kind,
-    text: &[u8],
-) -> Result<u32, Place>
-    requires page { 0 < length order.now.pages.items }
-    requires between { length order.now.heads.items ≡ length order.now.pages.items - 1 }
-    requires within { AllByRecursion (λ number. number < length entries.now) (numbers_in order.now) }
-    ensures found { IfOk result (λ entry. (entry < length entries.now) × (lies_to kind text.now (key_at entries.now entry) ≡ Equal)) }
-    ensures page { IfErr result (λ place. place.page < length order.now.pages.items) }
-    ensures at { IfErr result (λ place. place.at ≤ length (slice_index_or (rows order.now.pages.items) place.page [])) }
-    ensures gap { IfErr result (λ place. IsGap kind text.now (keys_in entries.now order.now) (place_in order.now place)) }
+// The number of the entry of a key, where the guess was right.
+fn guessed(entries: &[KeyEntry], place: Prefetched, kind: Kind, text: &[u8]) -> Option<u32>
+    ensures { IfSome result (λ entry. (entry < length entries.now) × (lies_to kind text.now (key_at entries.now entry) ≡ Equal)) }
 {
-    if let Some(number) = hint {
-        if let Some(entry) = matching(number, entries, kind, text) {
-            return Ok(entry);
-        }
+    // Mostly the length alone tells another key.
+    if place.text_length != text.len() {
+        return None;
     }
-    order.find(entries, kind, text)
+    matching(place.number?, entries, kind, text)
 }
 
 // Adds a message's number to the key that was found, or inserts the key. Answers the number of its entry.
@@ -254,7 +252,7 @@ fn add_at(
 {
     match found {
         Ok(entry) => {
-            push_number(entries, entry, key.number)?;
+            add_number(entries, order, entry, key)?;
             Ok(entry)
         }
         Err(place) => insert(alloc, entries, order, place, key),
@@ -262,6 +260,26 @@ fn add_at(
 }
 
 // Adds a message's number to the key of an entry.
+fn add_number(
+    entries: &mut Vec<KeyEntry>,
+    order: &KeyOrder,
+    entry: u32,
+    key: &Added<'_>,
+) -> Result<(), AllocError>
+    requires number { key.now.number < u32.MAX }
+    requires order { IsOrder entries.old.items (numbers_in order.now) }
+    requires within { entry < length entries.old.items }
+    requires found { lies_to key.now.kind key.now.text.now (key_at entries.old.items entry) ≡ Equal }
+    ensures order { IsOrder entries.new.items (numbers_in order.now) }
+    ensures ok { OnOk result (keys_in entries.new.items order.now ≡ with_pair key.now.kind key.now.text.now key.now.number (keys_in entries.old.items order.now)) }
+    ensures err { OnErr result (entries.new.items ≡ entries.old.items) }
+    ensures same { length entries.new.items ≡ length entries.old.items }
+{
+    push_number(entries, entry, key.number)?;
+    Ok(())
+}
+
+// Adds a number to the key of an entry.
 fn push_number(entries: &mut Vec<KeyEntry>, entry: u32, number: u32) -> Result<(), AllocError>
     requires within { entry < length entries.old.items }
     requires number { number < u32.MAX }
@@ -301,8 +319,7 @@ fn insert(
     }
     let entry = KeyEntry::new(alloc, key.kind, key.text, key.number)?;
     entries.push(entry)?;
-    let front = front_of_key(key.kind, key.text);
-    match order.insert(alloc, place, number as u32, front) {
+    match order.insert(alloc, place, number as u32) {
         Ok(()) => Ok(number as u32),
         Err(_) => {
             let _removed = entries.pop();

@@ -32,6 +32,8 @@ pub struct Place {
     pub page: usize,
     /// How many of the page's numbers stand before it.
     pub at: usize,
+    /// The front of the key whose place it is.
+    pub front: u64,
 }
 
 impl KeyOrder {
@@ -79,18 +81,12 @@ impl KeyOrder {
         let guess = Guess::of(self.fronts.of_page(page), front);
         match search(&self.pages[page], entries, guess, kind, text) {
             Ok(number) => Ok(number),
-            Err(at) => Err(Place { page, at }),
+            Err(at) => Err(Place { page, at, front }),
         }
     }
 
-    /// Inserts a number, with the front of its key. A refused growth leaves the numbers as they are.
-    pub fn insert(
-        &mut self,
-        alloc: Global,
-        place: Place,
-        number: u32,
-        front: u64,
-    ) -> Result<(), AllocError>
+    /// Inserts a number. A refused growth leaves the numbers as they are.
+    pub fn insert(&mut self, alloc: Global, place: Place, number: u32) -> Result<(), AllocError>
         requires between { length self.old.heads.items ≡ length self.old.pages.items - 1 }
         requires page { place.page < length self.old.pages.items }
         requires at { place.at ≤ length (slice_index_or (rows self.old.pages.items) place.page []) }
@@ -99,7 +95,7 @@ impl KeyOrder {
         ensures err { OnErr result (numbers_in self.new ≡ numbers_in self.old) }
     {
         insert_in_page(&mut self.pages, place, number)?;
-        self.fronts.insert(alloc, place, front);
+        self.fronts.insert(alloc, place);
         let length = self.pages[place.page].len();
         if length >= PAGE && length >= self.pages.len() / 16 {
             let half = length / 2;

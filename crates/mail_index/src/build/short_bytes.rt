@@ -1,5 +1,5 @@
 //! A few bytes that take no memory of their own.
-ghost use Rattle.std.specs.Prelude.{◌≡◌, ◌+◌, ◌≤◌, [], ◌++◌, length};
+ghost use Rattle.std.specs.Prelude.{◌≡◌, ◌+◌, ◌<◌, ◌≤◌, [], ◌∷◌, ◌++◌, length};
 
 use std::marker::Model;
 
@@ -60,6 +60,15 @@ impl ShortBytes {
         let length = self.length as usize;
         self.bytes[length..length + more.len()].copy_from_slice(more);
         self.length += more.len() as u8;
+    }
+
+    /// Appends a byte.
+    pub fn push(&mut self, byte: u8)
+        requires { length self.old < 15 }
+        ensures { self.new ≡ self.old ++ byte ∷ [] }
+    {
+        self.bytes[self.length as usize] = byte;
+        self.length += 1;
     }
 
     /// Leaves no byte.

@@ -1,11 +1,14 @@
-use Rattle.std.proofs.Common.{◌≡◌, ◌∙◌, ℕ, List, ap, sym, nat_cmp}
+use Rattle.std.proofs.Common.{◌≡◌, ◌∙◌, ℕ, List, ap, sym, subst, nat_cmp}
+use Rattle.std.specs.Bool.{Decides}
 use Rattle.std.specs.declared.cmp.Ordering.{Ordering}
 use Rattle.std.specs.declared.cmp.Ordering.TheVariants.{Equal}
 use Rattle.std.specs.Ordering.{is_eq, ordering_then}
 use Rattle.std.specs.Cmp.{nat_cmp_is}
 use Rattle.std.specs.Cmp.Lexicographic.{slice_cmp}
 use Rattle.std.specs.Str.{bytes_eq}
+use Rattle.std.proofs.lemmas.Bool.Decides.{same_from_decides}
 use Rattle.std.proofs.lemmas.Map.Text.{is_eq-slice_cmp}
+use Rattle.std.proofs.lemmas.Slice.Eq.{bytes_eq-Decides}
 use Rattle.mail_index.specs.Kinds.{kind_number}
 use Rattle.mail_index.proofs.build.key_entry.KeyEntry.is_key.Goals as goal
 
@@ -13,5 +16,7 @@ pub returns-then-own_number-number : goal.returns-then-own_number-number
 returns-then-own_number-number c =
     let numbers : kind_number c.args.self.now.kind ≡ kind_number c.args.kind = sym c.number_and_text-own_number.ensures.number ∙ c.if-own_number-number.true ∙ c.number.ensures in
     let same : Equal ≡ nat_cmp (kind_number c.args.self.now.kind) (kind_number c.args.kind) = nat_cmp_is (kind_number c.args.self.now.kind) (kind_number c.args.kind) Equal numbers in
-    c.eq.ensures ∙ ap (λ (l : List ℕ). bytes_eq l c.args.text.now) c.number_and_text-own_number.ensures.text ∙ sym (is_eq-slice_cmp c.args.self.now.text c.args.text.now)
+    let own : Decides c.is_same_text.result (c.args.self.now.text ≡ c.args.text.now) = subst (λ (l : List ℕ). Decides c.is_same_text.result (l ≡ c.args.text.now)) c.number_and_text-own_number.ensures.text c.is_same_text.ensures in
+    same_from_decides c.is_same_text.result (bytes_eq c.args.self.now.text c.args.text.now) own (bytes_eq-Decides c.args.self.now.text c.args.text.now)
+    ∙ sym (is_eq-slice_cmp c.args.self.now.text c.args.text.now)
     ∙ ap (λ (o : Ordering). is_eq (ordering_then o (slice_cmp nat_cmp c.args.self.now.text c.args.text.now))) same

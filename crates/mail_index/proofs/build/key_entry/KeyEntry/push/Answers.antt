@@ -18,7 +18,7 @@ invariant_of-self-2 c =
     let difference : List ℕ = leb128 5 (c.args.number + 1 - c.self.inside.next) in
     let e : key_bytes c.self.inside.front front c.append.new.bytes.items c.append.new.recent ≡ whole ++ difference =
     key_bytes-more c.self.inside.front front c.self.inside.bytes.items c.self.inside.recent c.append.new.bytes.items c.append.new.recent difference
-    (c.in_ok-append.ensures.ok ∙ ap (λ (l : List ℕ). (c.self.inside.bytes.items ++ c.self.inside.recent) ++ l) c.leb128_of-difference.ensures.bytes) in
+    c.in_ok-append.ensures.ok in
     let low : c.self.inside.next ≤ c.args.number = omega arith in
     let high : c.args.number + 1 < 2 ^ 32 = omega arith in (
       subst (λ (l : List ℕ). AreEntryBytes l front (c.args.number + 1)) (sym e) (entry-more whole front c.self.inside.next c.args.number c.self.invariant.0 low high),
@@ -32,7 +32,7 @@ returns-clause-ok c =
     let difference : List ℕ = leb128 5 (c.args.number + 1 - c.self.inside.next) in
     let e : key_bytes c.self.inside.front front c.append.new.bytes.items c.append.new.recent ≡ whole ++ difference =
     key_bytes-more c.self.inside.front front c.self.inside.bytes.items c.self.inside.recent c.append.new.bytes.items c.append.new.recent difference
-    (c.in_ok-append.ensures.ok ∙ ap (λ (l : List ℕ). (c.self.inside.bytes.items ++ c.self.inside.recent) ++ l) c.leb128_of-difference.ensures.bytes) in
+    c.in_ok-append.ensures.ok in
     let low : c.self.inside.next ≤ c.args.number = omega arith in
     let high : c.args.number + 1 < 2 ^ 32 = omega arith in
     ap (λ (l : List ℕ). key_in (take front l) (drop front l)) e

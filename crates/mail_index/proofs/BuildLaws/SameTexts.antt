@@ -1,0 +1,19 @@
+-- Laws of lists that are compared by their ends.
+use Rattle.std.proofs.Common.{◌≡◌, ◌∙◌, ℕ, ◌+◌, ◌-◌, ◌≤◌, List, ◌++◌, length, take, drop, sym, ap, ap₂, arith}
+use Rattle.std.proofs.lemmas.List.{take-append-drop, drop-drop}
+
+-- what is behind the first n, of a list of n to 2 * n: it stands among the last n
+behind-first : (n : ℕ) (l : List ℕ) → n ≤ length l → length l ≤ n + n → drop (n - (length l - n)) (drop (length l - n) l) ≡ drop n l
+behind-first n l low high =
+    let e : (length l - n) + (n - (length l - n)) ≡ n = omega (arith, low, high) in
+    drop-drop (n - (length l - n)) (length l - n) l ∙ ap (λ (k : ℕ). drop k l) e
+
+-- lists of the same length, n to 2 * n, with the same first n and the same last n are one
+pub same-by-ends : (n : ℕ) (a b : List ℕ) → length a ≡ length b → n ≤ length a → length a ≤ n + n
+    → take n a ≡ take n b → drop (length a - n) a ≡ drop (length b - n) b → a ≡ b
+same-by-ends n a b same low high first last =
+    let low' : n ≤ length b = omega (arith, same, low) in
+    let high' : length b ≤ n + n = omega (arith, same, high) in
+    let behind : drop n a ≡ drop n b =
+    sym (behind-first n a low high) ∙ ap₂ (λ (k : ℕ) (l : List ℕ). drop (n - (k - n)) l) same last ∙ behind-first n b low' high' in
+    sym (take-append-drop n a) ∙ ap₂ (λ (x y : List ℕ). x ++ y) first behind ∙ take-append-drop n b
