@@ -2,6 +2,7 @@
 pub mod BuilderSteps
 pub mod DraftLemmas
 pub mod EntryLemmas
+pub mod FrontLemmas
 pub mod KeyMapLemmas
 pub mod KeyPlaces
 pub mod PageLemmas

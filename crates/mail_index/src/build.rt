@@ -5,7 +5,7 @@ pub mod builder;
 pub mod draft;
 pub mod file_out;
 pub mod key_entry;
-pub mod key_fronts;
+pub mod key_front;
 pub mod key_hints;
 pub mod key_map;
 pub mod key_order;

@@ -15,7 +15,8 @@ use Rattle.std.proofs.lemmas.List.Edits.{length-insert}
 use Rattle.mail_index.specs.declared.kind.Kind.{Kind}
 use Rattle.mail_index.specs.Kinds.{kind_number}
 use Rattle.mail_index.specs.Tables.{Key}
-use Rattle.mail_index.specs.Inside.KeyMaps.{new_key, with_one, placed, rows, in_pages, position, IsAmong, IsOrder, IsGap}
+use Rattle.mail_index.specs.declared.build.key_front.Fronted.{Fronted}
+use Rattle.mail_index.specs.Inside.KeyMaps.{new_key, with_one, placed, numbers_of_slots, rows, in_pages, position, IsAmong, IsOrder, IsGap}
 use Rattle.mail_index.specs.KeysRead.{key_at, no_key}
 use Rattle.mail_index.specs.LookUps.{lies_to, AreSorted}
 use Rattle.mail_index.specs.Builders.{with_pair}
@@ -34,78 +35,95 @@ placed-at entries order j h = get_or-map (key_at entries) order j 0 no_key h
 
 -- ---- gaps
 
+-- of a place where there is none, any slot
+abbrev no_slot : Fronted
+no_slot = record { number = 0; front = 0 }
+
+-- the keys of slots
+abbrev pub slot_keys : List Key → List Fronted → List Key
+slot_keys entries slots = placed entries (numbers_of_slots slots)
+
+pub slots-long : (entries : List Key) (slots : List Fronted) → length (slot_keys entries slots) ≡ length slots
+slots-long entries slots = length-map (numbers_of_slots slots) (key_at entries) ∙ length-map slots (λ (slot : Fronted). slot.number)
+
+pub slot-at : (entries : List Key) (slots : List Fronted) (j : ℕ) (d : Fronted) → j < length slots → key_at (slot_keys entries slots) j ≡ key_at entries (get_or slots j d).number
+slot-at entries slots j d h =
+    placed-at entries (numbers_of_slots slots) j (omega (arith, h, length-map slots (λ (slot : Fronted). slot.number)))
+    ∙ ap (key_at entries) (get_or-map (λ (slot : Fronted). slot.number) slots j d 0 h)
+
 -- the gap of the page, found between the heads and then in the page, is the gap of the whole order
-pub gap-in_pages : (kind : Kind) (text : List ℕ) (entries : List Key) (pages : List (List ℕ)) (heads : List ℕ) (page at : ℕ) → length heads ≡ length pages - 1 → page < length pages
-    → IsGap kind text (placed entries heads) page → IsGap kind text (placed entries (get_or pages page [])) at
-    → IsGap kind text (placed entries (in_pages pages heads)) (position pages page at)
+pub gap-in_pages : (kind : Kind) (text : List ℕ) (entries : List Key) (pages : List (List Fronted)) (heads : List Fronted) (page at : ℕ) → length heads ≡ length pages - 1 → page < length pages
+    → IsGap kind text (slot_keys entries heads) page → IsGap kind text (slot_keys entries (get_or pages page [])) at
+    → IsGap kind text (slot_keys entries (in_pages pages heads)) (position pages page at)
 gap-in_pages kind text entries pages heads page at b h outer inner = record {
-  within = omega (arith, length-map flat (key_at entries), position-within pages heads page at b h inside);
+  within = omega (arith, slots-long entries flat, position-within pages heads page at b h inside);
   below = λ j e. below at page j refl refl e;
   above = λ lt. above lt (nat_lt at (length row)) refl (nat_lt page (length heads)) refl;
 }
   where
-    row : List ℕ
+    row : List Fronted
     row = get_or pages page []
 
-    flat : List ℕ
+    flat : List Fronted
     flat = in_pages pages heads
 
     inside : at ≤ length (get_or pages page [])
-    inside = omega (arith, inner.within, length-map (get_or pages page []) (key_at entries))
+    inside = omega (arith, inner.within, slots-long entries (get_or pages page []))
 
-    key-here : (j n : ℕ) → j < length (in_pages pages heads) → get_or (in_pages pages heads) j 0 ≡ n → key_at (placed entries (in_pages pages heads)) j ≡ key_at entries n
-    key-here j n lt e = placed-at entries (in_pages pages heads) j lt ∙ ap (key_at entries) e
+    same-key : (j i : ℕ) (others : List Fronted) → j < length (in_pages pages heads) → i < length others → get_or (in_pages pages heads) j no_slot ≡ get_or others i no_slot
+        → key_at (slot_keys entries (in_pages pages heads)) j ≡ key_at (slot_keys entries others) i
+    same-key j i others lt within e = slot-at entries (in_pages pages heads) j no_slot lt ∙ ap (λ (slot : Fronted). key_at entries slot.number) e ∙ sym (slot-at entries others i no_slot within)
 
-    below : (a p j : ℕ) → at ≡ a → page ≡ p → suc j ≡ position pages page at → lies_to kind text (key_at (placed entries (in_pages pages heads)) j) ≡ Less
+    below : (a p j : ℕ) → at ≡ a → page ≡ p → suc j ≡ position pages page at → lies_to kind text (key_at (slot_keys entries (in_pages pages heads)) j) ≡ Less
     below (suc a) p j ea ep e =
         let step : position pages page (suc a) ≡ suc (position pages page a) = position-step pages page a in
         let place : j ≡ position pages page a = omega (arith, e ∙ ap (position pages page) ea, step) in
         let low : a < length (get_or pages page []) = omega (arith, inside, ea) in
-        let there : get_or (in_pages pages heads) j 0 ≡ get_or (get_or pages page []) a 0 = ap (λ (i : ℕ). get_or (in_pages pages heads) i 0) place ∙ at-page pages heads page a 0 b h low in
+        let there : get_or (in_pages pages heads) j no_slot ≡ get_or (get_or pages page []) a no_slot = ap (λ (i : ℕ). get_or (in_pages pages heads) i no_slot) place ∙ at-page pages heads page a no_slot b h low in
         let lt : j < length (in_pages pages heads) = omega (arith, e, position-within pages heads page at b h inside) in
-        ap (lies_to kind text) (key-here j (get_or (get_or pages page []) a 0) lt there ∙ sym (placed-at entries (get_or pages page []) a low)) ∙ inner.below a (sym ea)
+        ap (lies_to kind text) (same-key j a (get_or pages page []) lt low there) ∙ inner.below a (sym ea)
     below zero (suc p) j ea ep e =
         let more : suc p < length pages = omega (arith, h, ep) in
         let step : position pages (suc p) 0 ≡ suc (position pages p (length (get_or pages p []))) = position-next pages p more in
         let place : j ≡ position pages p (length (get_or pages p [])) = omega (arith, e ∙ ap₂ (position pages) ep ea, step) in
         let low : p < length heads = omega (arith, more, b) in
-        let there : get_or (in_pages pages heads) j 0 ≡ get_or heads p 0 = ap (λ (i : ℕ). get_or (in_pages pages heads) i 0) place ∙ at-head pages heads p 0 b low in
+        let there : get_or (in_pages pages heads) j no_slot ≡ get_or heads p no_slot = ap (λ (i : ℕ). get_or (in_pages pages heads) i no_slot) place ∙ at-head pages heads p no_slot b low in
         let lt : j < length (in_pages pages heads) = omega (arith, e, position-within pages heads page at b h inside) in
-        ap (lies_to kind text) (key-here j (get_or heads p 0) lt there ∙ sym (placed-at entries heads p low)) ∙ outer.below p (sym ep)
+        ap (lies_to kind text) (same-key j p heads lt low there) ∙ outer.below p (sym ep)
     below zero zero j ea ep e = absurd (omega (arith, e ∙ ap₂ (position pages) ep ea, first pages h))
       where
-        first : (ps : List (List ℕ)) → page < length ps → position ps 0 0 ≡ 0
+        first : (ps : List (List Fronted)) → page < length ps → position ps 0 0 ≡ 0
         first [] l = absurd (omega (arith, l))
         first (r ∷ rs) l = refl
 
-    above : position pages page at < length (placed entries (in_pages pages heads)) → (t : Bool) → nat_lt at (length (get_or pages page [])) ≡ t → (u : Bool) → nat_lt page (length heads) ≡ u
-        → lies_to kind text (key_at (placed entries (in_pages pages heads)) (position pages page at)) ≡ Greater
+    above : position pages page at < length (slot_keys entries (in_pages pages heads)) → (t : Bool) → nat_lt at (length (get_or pages page [])) ≡ t → (u : Bool) → nat_lt page (length heads) ≡ u
+        → lies_to kind text (key_at (slot_keys entries (in_pages pages heads)) (position pages page at)) ≡ Greater
     above lt true et u eu =
         let low : at < length (get_or pages page []) = grind (arith, nat_tests) in
-        let far : position pages page at < length (in_pages pages heads) = omega (arith, lt, length-map (in_pages pages heads) (key_at entries)) in
-        ap (lies_to kind text) (key-here (position pages page at) (get_or (get_or pages page []) at 0) far (at-page pages heads page at 0 b h low) ∙ sym (placed-at entries (get_or pages page []) at low))
-        ∙ inner.above (omega (arith, low, length-map (get_or pages page []) (key_at entries)))
+        let far : position pages page at < length (in_pages pages heads) = omega (arith, lt, slots-long entries (in_pages pages heads)) in
+        ap (lies_to kind text) (same-key (position pages page at) at (get_or pages page []) far low (at-page pages heads page at no_slot b h low))
+        ∙ inner.above (omega (arith, low, slots-long entries (get_or pages page [])))
     above lt false et true eu =
         let high : length (get_or pages page []) ≤ at = grind (arith, nat_tests) in
         let end : at ≡ length (get_or pages page []) = omega (arith, high, inside) in
         let low : page < length heads = grind (arith, nat_tests) in
-        let far : position pages page at < length (in_pages pages heads) = omega (arith, lt, length-map (in_pages pages heads) (key_at entries)) in
-        let there : get_or (in_pages pages heads) (position pages page at) 0 ≡ get_or heads page 0 = ap (λ (i : ℕ). get_or (in_pages pages heads) (position pages page i) 0) end ∙ at-head pages heads page 0 b low in
-        ap (lies_to kind text) (key-here (position pages page at) (get_or heads page 0) far there ∙ sym (placed-at entries heads page low))
-        ∙ outer.above (omega (arith, low, length-map heads (key_at entries)))
+        let far : position pages page at < length (in_pages pages heads) = omega (arith, lt, slots-long entries (in_pages pages heads)) in
+        let there : get_or (in_pages pages heads) (position pages page at) no_slot ≡ get_or heads page no_slot = ap (λ (i : ℕ). get_or (in_pages pages heads) (position pages page i) no_slot) end ∙ at-head pages heads page no_slot b low in
+        ap (lies_to kind text) (same-key (position pages page at) page heads far low there)
+        ∙ outer.above (omega (arith, low, slots-long entries heads))
     above lt false et false eu =
         let high : length (get_or pages page []) ≤ at = grind (arith, nat_tests) in
         let end : at ≡ length (get_or pages page []) = omega (arith, high, inside) in
         let last : length heads ≤ page = grind (arith, nat_tests) in
         let all : position pages page at ≡ length (in_pages pages heads) = ap (position pages page) end ∙ position-last pages heads page b h last in
-        absurd (omega (arith, lt, all, length-map (in_pages pages heads) (key_at entries)))
+        absurd (omega (arith, lt, all, slots-long entries (in_pages pages heads)))
 
-pub gap-found : (kind : Kind) (text : List ℕ) (entries : List Key) (pages : List (Vec ℕ Global)) (heads : List ℕ) (page at : ℕ) (row : List ℕ) → length heads ≡ length pages - 1 → page < length pages
-    → row ≡ get_or (rows pages) page [] → IsGap kind text (placed entries heads) page → IsGap kind text (placed entries row) at
-    → IsGap kind text (placed entries (in_pages (rows pages) heads)) (position (rows pages) page at)
+pub gap-found : (kind : Kind) (text : List ℕ) (entries : List Key) (pages : List (Vec Fronted Global)) (heads : List Fronted) (page at : ℕ) (row : List Fronted) → length heads ≡ length pages - 1 → page < length pages
+    → row ≡ get_or (rows pages) page [] → IsGap kind text (slot_keys entries heads) page → IsGap kind text (slot_keys entries row) at
+    → IsGap kind text (slot_keys entries (in_pages (rows pages) heads)) (position (rows pages) page at)
 gap-found kind text entries pages heads page at row b h r outer inner =
-    let long : length (rows pages) ≡ length pages = length-map pages (λ (p : Vec ℕ Global). p.items) in
-    gap-in_pages kind text entries (rows pages) heads page at (omega (arith, b, long)) (omega (arith, h, long)) outer (subst (λ (l : List ℕ). IsGap kind text (placed entries l) at) r inner)
+    let long : length (rows pages) ≡ length pages = length-map pages (λ (p : Vec Fronted Global). p.items) in
+    gap-in_pages kind text entries (rows pages) heads page at (omega (arith, b, long)) (omega (arith, h, long)) outer (subst (λ (l : List Fronted). IsGap kind text (slot_keys entries l) at) r inner)
 
 -- among sorted keys all before a gap lie before the wanted key, and all others behind it
 gap-below : (kind : Kind) (text : List ℕ) (ks : List Key) (place j : ℕ) → AreSorted ks → IsGap kind text ks place → j < place → lies_to kind text (key_at ks j) ≡ Less
@@ -156,11 +174,11 @@ placed-more : (entries : List Key) (k : Key) (order : List ℕ) → AllByRecursi
 placed-more entries k [] all = refl
 placed-more entries k (i ∷ order) all = ap₂ (λ (x : Key) (l : List Key). x ∷ l) (get_or_append_left entries (k ∷ []) no_key i all.0) (placed-more entries k order all.1)
 
-map-insert : (f : ℕ → Key) (order : List ℕ) (place m : ℕ) → map f (insert order place m) ≡ insert (map f order) place (f m)
+pub map-insert : {A B : Type 0} (f : A → B) (order : List A) (place : ℕ) (m : A) → map f (insert order place m) ≡ insert (map f order) place (f m)
 map-insert f [] zero m = refl
 map-insert f [] (suc place) m = refl
 map-insert f (i ∷ order) zero m = refl
-map-insert f (i ∷ order) (suc place) m = ap (λ (l : List Key). f i ∷ l) (map-insert f order place m)
+map-insert {B = B} f (i ∷ order) (suc place) m = ap (λ (l : List B). f i ∷ l) (map-insert f order place m)
 
 pub placed-new : (entries : List Key) (k : Key) (order : List ℕ) (place : ℕ) → AllByRecursion (λ i. i < length entries) order
     → placed (entries ++ k ∷ []) (insert order place (length entries)) ≡ insert (placed entries order) place k
@@ -168,11 +186,11 @@ placed-new entries k order place all =
     map-insert (key_at (entries ++ k ∷ [])) order place (length entries)
     ∙ ap₂ (λ (l : List Key) (x : Key). insert l place x) (placed-more entries k order all) (get_or-append_seam entries k [] no_key)
 
-all-numbers : (P : ℕ → Type 0) (order : List ℕ) (place m : ℕ) → AllByRecursion P order → P m → AllByRecursion P (insert order place m)
-all-numbers P [] zero m all new = (new, tt)
-all-numbers P [] (suc place) m all new = (new, tt)
-all-numbers P (i ∷ order) zero m all new = (new, all)
-all-numbers P (i ∷ order) (suc place) m all new = (all.0, all-numbers P order place m all.1 new)
+pub all-inserted : {A : Type 0} (P : A → Type 0) (order : List A) (place : ℕ) (m : A) → AllByRecursion P order → P m → AllByRecursion P (insert order place m)
+all-inserted P [] zero m all new = (new, tt)
+all-inserted P [] (suc place) m all new = (new, tt)
+all-inserted P (i ∷ order) zero m all new = (new, all)
+all-inserted P (i ∷ order) (suc place) m all new = (all.0, all-inserted P order place m all.1 new)
 
 all-later : (m n : ℕ) (order : List ℕ) → m ≤ n → AllByRecursion (λ i. i < m) order → AllByRecursion (λ i. i < n) order
 all-later m n [] h all = tt
@@ -213,7 +231,7 @@ order-new kind text n entries order place o g =
     record {
       sorted = subst AreSorted (sym (placed-new entries k order place o.within))
           (sorted-new kind text n (placed entries order) place o.sorted g.within (λ j lt. gap-below kind text (placed entries order) place j o.sorted g lt) (λ j le lt. gap-above kind text (placed entries order) place j o.sorted g le lt));
-      within = all-numbers (λ i. i < length (entries ++ k ∷ [])) order place (length entries) (all-later (length entries) (length (entries ++ k ∷ [])) order (omega (arith, long)) o.within) (omega (arith, long));
+      within = all-inserted (λ i. i < length (entries ++ k ∷ [])) order place (length entries) (all-later (length entries) (length (entries ++ k ∷ [])) order (omega (arith, long)) o.within) (omega (arith, long));
       whole = λ i lt. whole i lt (nat_eq i (length entries)) refl;
       count = length-insert order place (length entries) low ∙ omega (arith, o.count, long);
     }
@@ -313,10 +331,14 @@ order-found entries i n order lt o =
       count = o.count ∙ sym long;
     }
 
-pub all-at : (P : ℕ → Type 0) (order : List ℕ) (j d : ℕ) → AllByRecursion P order → j < length order → P (get_or order j d)
+pub all-at : {A : Type 0} (P : A → Type 0) (order : List A) (j : ℕ) (d : A) → AllByRecursion P order → j < length order → P (get_or order j d)
 all-at P [] j d all h = absurd (omega (arith, h))
 all-at P (i ∷ order) zero d all h = all.0
 all-at P (i ∷ order) (suc j) d all h = all-at P order j d all.1 (omega (arith, h))
+
+-- a slot more is a number more
+pub numbers-insert : (slots : List Fronted) (place : ℕ) (slot : Fronted) → numbers_of_slots (insert slots place slot) ≡ insert (numbers_of_slots slots) place slot.number
+numbers-insert slots place slot = map-insert (λ (slot : Fronted). slot.number) slots place slot
 
 pub order-empty : IsOrder [] []
 unfolding IsStrictlySortedBy

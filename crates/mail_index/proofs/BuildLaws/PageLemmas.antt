@@ -2,60 +2,61 @@
 use Rattle.std.proofs.Common.{◌≡◌, ◌∙◌, ℕ, zero, suc, ◌+◌, ◌-◌, ◌<◌, ◌≤◌, List, [], ◌∷◌, ◌++◌, length, take, drop, set, get_or, Vec, refl, sym, ap, ap₂, subst, arith, append-nil, length-append}
 use Rattle.std.specs.Global.{Global}
 use Rattle.std.specs.List.{AllByRecursion, insert}
-use Rattle.std.proofs.lemmas.List.{length-map, get_or-map, append_assoc, get_or_append_left, get_or-append-add, take-map, drop-map, map-append}
+use Rattle.std.proofs.lemmas.List.{length-map, get_or-map, append_assoc, get_or_append_left, get_or-append-add, take-map, drop-map, map-append, take-append-drop}
 use Rattle.std.proofs.Math.Seq.{get_or-append_seam}
 use Rattle.std.proofs.lemmas.List.Edits.{insert-append_left, insert-append_right}
+use Rattle.mail_index.specs.declared.build.key_front.Fronted.{Fronted}
 use Rattle.mail_index.specs.Inside.KeyMaps.{rows, in_pages, left_in_pages, position}
 
-abbrev row_at : List (List ℕ) → ℕ → List ℕ
+abbrev row_at : List (List Fronted) → ℕ → List Fronted
 row_at pages page = get_or pages page []
 
 -- those behind a page
-abbrev behind_page : List (List ℕ) → List ℕ → List ℕ
+abbrev behind_page : List (List Fronted) → List Fronted → List Fronted
 behind_page rest [] = []
 behind_page rest (head ∷ heads) = head ∷ in_pages rest heads
 
 -- a page's own numbers, and those behind them
-pub in_pages-front : (row : List ℕ) (rest : List (List ℕ)) (heads : List ℕ) → in_pages (row ∷ rest) heads ≡ row ++ behind_page rest heads
+pub in_pages-front : (row : List Fronted) (rest : List (List Fronted)) (heads : List Fronted) → in_pages (row ∷ rest) heads ≡ row ++ behind_page rest heads
 in_pages-front row rest [] = refl
 in_pages-front row rest (head ∷ heads) = refl
 
 -- ---- an insertion
 
-insert-behind : (xs : List ℕ) (y : ℕ) (ys : List ℕ) (i n : ℕ) → insert (xs ++ y ∷ ys) (length xs + suc i) n ≡ xs ++ y ∷ insert ys i n
+insert-behind : (xs : List Fronted) (y : Fronted) (ys : List Fronted) (i : ℕ) (n : Fronted) → insert (xs ++ y ∷ ys) (length xs + suc i) n ≡ xs ++ y ∷ insert ys i n
 insert-behind xs y ys i n =
     let behind : length xs + suc i - length xs ≡ suc i = omega arith in
     insert-append_right xs (y ∷ ys) (length xs) (length xs + suc i) n refl (omega arith) ∙ ap (λ k. xs ++ insert (y ∷ ys) k n) behind
 
-pub pages-insert : (pages : List (List ℕ)) (heads : List ℕ) (page at n : ℕ) → length heads ≡ length pages - 1 → page < length pages → at ≤ length (get_or pages page [])
+pub pages-insert : (pages : List (List Fronted)) (heads : List Fronted) (page at : ℕ) (n : Fronted) → length heads ≡ length pages - 1 → page < length pages → at ≤ length (get_or pages page [])
     → in_pages (set pages page (insert (get_or pages page []) at n)) heads ≡ insert (in_pages pages heads) (position pages page at) n
 pages-insert [] heads page at n b h w = absurd (omega (arith, h))
 pages-insert (row ∷ rest) heads zero at n b h w =
     in_pages-front (insert row at n) rest heads
     ∙ sym (insert-append_left row (behind_page rest heads) at n w)
-    ∙ ap (λ (l : List ℕ). insert l at n) (sym (in_pages-front row rest heads))
+    ∙ ap (λ (l : List Fronted). insert l at n) (sym (in_pages-front row rest heads))
 pages-insert (row ∷ rest) [] (suc page) at n b h w = absurd (omega (arith, b, h))
 pages-insert (row ∷ rest) (head ∷ heads) (suc page) at n b h w =
-    ap (λ (l : List ℕ). row ++ head ∷ l) (pages-insert rest heads page at n (omega (arith, b, h)) (omega (arith, h)) w)
+    ap (λ (l : List Fronted). row ++ head ∷ l) (pages-insert rest heads page at n (omega (arith, b, h)) (omega (arith, h)) w)
     ∙ sym (insert-behind row head (in_pages rest heads) (position rest page at) n)
 
 -- ---- positions
 
-pub position-step : (pages : List (List ℕ)) (page at : ℕ) → position pages page (suc at) ≡ suc (position pages page at)
+pub position-step : (pages : List (List Fronted)) (page at : ℕ) → position pages page (suc at) ≡ suc (position pages page at)
 position-step [] page at = refl
 position-step (row ∷ rest) zero at = refl
 position-step (row ∷ rest) (suc page) at = omega (arith, position-step rest page at)
 
-pub position-next : (pages : List (List ℕ)) (page : ℕ) → suc page < length pages → position pages (suc page) 0 ≡ suc (position pages page (length (get_or pages page [])))
+pub position-next : (pages : List (List Fronted)) (page : ℕ) → suc page < length pages → position pages (suc page) 0 ≡ suc (position pages page (length (get_or pages page [])))
 position-next [] page h = absurd (omega (arith, h))
 position-next (row ∷ []) page h = absurd (omega (arith, h))
 position-next (row ∷ next ∷ rest) zero h = omega arith
 position-next (row ∷ next ∷ rest) (suc page) h = omega (arith, position-next (next ∷ rest) page (omega (arith, h)))
 
-length-behind : (xs : List ℕ) (y : ℕ) (ys : List ℕ) → length (xs ++ y ∷ ys) ≡ length xs + suc (length ys)
+length-behind : (xs : List Fronted) (y : Fronted) (ys : List Fronted) → length (xs ++ y ∷ ys) ≡ length xs + suc (length ys)
 length-behind xs y ys = length-append xs (y ∷ ys)
 
-pub position-last : (pages : List (List ℕ)) (heads : List ℕ) (page : ℕ) → length heads ≡ length pages - 1 → page < length pages → length heads ≤ page
+pub position-last : (pages : List (List Fronted)) (heads : List Fronted) (page : ℕ) → length heads ≡ length pages - 1 → page < length pages → length heads ≤ page
     → position pages page (length (get_or pages page [])) ≡ length (in_pages pages heads)
 position-last [] heads page b h l = absurd (omega (arith, h))
 position-last (row ∷ rest) [] zero b h l = ap length (sym (append-nil row))
@@ -65,7 +66,7 @@ position-last (row ∷ rest) (head ∷ heads) (suc page) b h l =
     ap (λ (n : ℕ). length row + suc n) (position-last rest heads page (omega (arith, b, h)) (omega (arith, h)) (omega (arith, l)))
     ∙ sym (length-behind row head (in_pages rest heads))
 
-pub position-within : (pages : List (List ℕ)) (heads : List ℕ) (page at : ℕ) → length heads ≡ length pages - 1 → page < length pages → at ≤ length (get_or pages page [])
+pub position-within : (pages : List (List Fronted)) (heads : List Fronted) (page at : ℕ) → length heads ≡ length pages - 1 → page < length pages → at ≤ length (get_or pages page [])
     → position pages page at ≤ length (in_pages pages heads)
 position-within [] heads page at b h w = absurd (omega (arith, h))
 position-within (row ∷ rest) heads zero at b h w =
@@ -76,18 +77,18 @@ position-within (row ∷ rest) (head ∷ heads) (suc page) at b h w =
     omega (arith, length-behind row head (in_pages rest heads), position-within rest heads page at (omega (arith, b, h)) (omega (arith, h)) w)
 
 -- what stands behind a head
-get_or-behind : (xs : List ℕ) (y : ℕ) (ys : List ℕ) (i d : ℕ) → get_or (xs ++ y ∷ ys) (length xs + suc i) d ≡ get_or ys i d
+get_or-behind : (xs : List Fronted) (y : Fronted) (ys : List Fronted) (i : ℕ) (d : Fronted) → get_or (xs ++ y ∷ ys) (length xs + suc i) d ≡ get_or ys i d
 get_or-behind xs y ys i d = get_or-append-add xs (y ∷ ys) (suc i) d
 
-pub at-page : (pages : List (List ℕ)) (heads : List ℕ) (page at d : ℕ) → length heads ≡ length pages - 1 → page < length pages → at < length (get_or pages page [])
+pub at-page : (pages : List (List Fronted)) (heads : List Fronted) (page at : ℕ) (d : Fronted) → length heads ≡ length pages - 1 → page < length pages → at < length (get_or pages page [])
     → get_or (in_pages pages heads) (position pages page at) d ≡ get_or (get_or pages page []) at d
 at-page [] heads page at d b h w = absurd (omega (arith, h))
-at-page (row ∷ rest) heads zero at d b h w = ap (λ (l : List ℕ). get_or l at d) (in_pages-front row rest heads) ∙ get_or_append_left row (behind_page rest heads) d at w
+at-page (row ∷ rest) heads zero at d b h w = ap (λ (l : List Fronted). get_or l at d) (in_pages-front row rest heads) ∙ get_or_append_left row (behind_page rest heads) d at w
 at-page (row ∷ rest) [] (suc page) at d b h w = absurd (omega (arith, b, h))
 at-page (row ∷ rest) (head ∷ heads) (suc page) at d b h w =
     get_or-behind row head (in_pages rest heads) (position rest page at) d ∙ at-page rest heads page at d (omega (arith, b, h)) (omega (arith, h)) w
 
-pub at-head : (pages : List (List ℕ)) (heads : List ℕ) (page d : ℕ) → length heads ≡ length pages - 1 → page < length heads
+pub at-head : (pages : List (List Fronted)) (heads : List Fronted) (page : ℕ) (d : Fronted) → length heads ≡ length pages - 1 → page < length heads
     → get_or (in_pages pages heads) (position pages page (length (get_or pages page []))) d ≡ get_or heads page d
 at-head [] heads page d b h = absurd (omega (arith, b, h))
 at-head (row ∷ rest) [] page d b h = absurd (omega (arith, h))
@@ -98,11 +99,11 @@ at-head (row ∷ rest) (head ∷ heads) (suc page) d b h =
 
 -- ---- what holds of all numbers
 
-pub all-append : (P : ℕ → Type 0) (xs ys : List ℕ) → AllByRecursion P (xs ++ ys) → AllByRecursion P xs × AllByRecursion P ys
+pub all-append : (P : Fronted → Type 0) (xs ys : List Fronted) → AllByRecursion P (xs ++ ys) → AllByRecursion P xs × AllByRecursion P ys
 all-append P [] ys all = (tt, all)
 all-append P (x ∷ xs) ys all = let both = all-append P xs ys all.1 in ((all.0, both.0), both.1)
 
-pub all-heads : (P : ℕ → Type 0) (pages : List (List ℕ)) (heads : List ℕ) → length heads ≡ length pages - 1 → AllByRecursion P (in_pages pages heads) → AllByRecursion P heads
+pub all-heads : (P : Fronted → Type 0) (pages : List (List Fronted)) (heads : List Fronted) → length heads ≡ length pages - 1 → AllByRecursion P (in_pages pages heads) → AllByRecursion P heads
 all-heads P pages [] b all = tt
 all-heads P [] (head ∷ heads) b all = absurd (omega (arith, b))
 all-heads P (row ∷ []) (head ∷ heads) b all = absurd (omega (arith, b))
@@ -110,7 +111,7 @@ all-heads P (row ∷ next ∷ rest) (head ∷ heads) b all =
     let both = all-append P row (head ∷ in_pages (next ∷ rest) heads) all in
     (both.1.0, all-heads P (next ∷ rest) heads (omega (arith, b)) both.1.1)
 
-pub all-page : (P : ℕ → Type 0) (pages : List (List ℕ)) (heads : List ℕ) (page : ℕ) → length heads ≡ length pages - 1 → page < length pages → AllByRecursion P (in_pages pages heads)
+pub all-page : (P : Fronted → Type 0) (pages : List (List Fronted)) (heads : List Fronted) (page : ℕ) → length heads ≡ length pages - 1 → page < length pages → AllByRecursion P (in_pages pages heads)
     → AllByRecursion P (get_or pages page [])
 all-page P [] heads page b h all = absurd (omega (arith, h))
 all-page P (row ∷ rest) heads zero b h all = (all-append P row (behind_page rest heads) (subst (AllByRecursion P) (in_pages-front row rest heads) all)).0
@@ -120,67 +121,58 @@ all-page P (row ∷ rest) (head ∷ heads) (suc page) b h all =
 
 -- ---- a split
 
-halves : (row : List ℕ) (half d : ℕ) → half < length row → row ≡ take half row ++ get_or row half d ∷ drop (suc half) row
-halves [] half d h = absurd (omega (arith, h))
-halves (n ∷ row) zero d h = refl
-halves (n ∷ row) (suc half) d h = ap (λ (l : List ℕ). n ∷ l) (halves row half d (omega (arith, h)))
-
-pub pages-split : (pages : List (List ℕ)) (heads : List ℕ) (page half d : ℕ) → length heads ≡ length pages - 1 → page < length pages → half < length (get_or pages page [])
-    → in_pages (set (insert pages (suc page) (drop (suc half) (get_or pages page []))) page (take half (get_or (insert pages (suc page) (drop (suc half) (get_or pages page []))) page []))) (insert heads page (get_or (get_or pages page []) half d))
-    ≡ in_pages pages heads
-pages-split [] heads page half d b h w = absurd (omega (arith, h))
-pages-split (row ∷ rest) heads zero half d b h w =
-    ap (λ (l : List ℕ). take half row ++ get_or row half d ∷ l) (in_pages-front (drop (suc half) row) rest heads)
-    ∙ sym (append_assoc (take half row) (get_or row half d ∷ drop (suc half) row) (behind_page rest heads))
-    ∙ ap (λ (l : List ℕ). l ++ behind_page rest heads) (sym (halves row half d w))
+pub pages-split : (pages : List (List Fronted)) (heads : List Fronted) (page half : ℕ) (head : Fronted) (behind : List Fronted) → length heads ≡ length pages - 1 → page < length pages → head ∷ behind ≡ drop half (get_or pages page [])
+    → in_pages (set (insert pages (suc page) behind) page (take half (get_or (insert pages (suc page) behind) page []))) (insert heads page head) ≡ in_pages pages heads
+pages-split [] heads page half head behind b h w = absurd (omega (arith, h))
+pages-split (row ∷ rest) heads zero half head behind b h w =
+    ap (λ (l : List Fronted). take half row ++ head ∷ l) (in_pages-front behind rest heads)
+    ∙ sym (append_assoc (take half row) (head ∷ behind) (behind_page rest heads))
+    ∙ ap (λ (l : List Fronted). (take half row ++ l) ++ behind_page rest heads) w
+    ∙ ap (λ (l : List Fronted). l ++ behind_page rest heads) (take-append-drop half row)
     ∙ sym (in_pages-front row rest heads)
-pages-split (row ∷ rest) [] (suc page) half d b h w = absurd (omega (arith, b, h))
-pages-split (row ∷ rest) (head ∷ heads) (suc page) half d b h w =
-    ap (λ (l : List ℕ). row ++ head ∷ l) (pages-split rest heads page half d (omega (arith, b, h)) (omega (arith, h)) w)
+pages-split (row ∷ rest) [] (suc page) half head behind b h w = absurd (omega (arith, b, h))
+pages-split (row ∷ rest) (next ∷ heads) (suc page) half head behind b h w =
+    ap (λ (l : List Fronted). row ++ next ∷ l) (pages-split rest heads page half head behind (omega (arith, b, h)) (omega (arith, h)) w)
 
 -- ---- the pages' vectors
 
-pub rows-insert : (pages : List (Vec ℕ Global)) (page : ℕ) (v : Vec ℕ Global) → rows (insert pages page v) ≡ insert (rows pages) page v.items
+pub rows-insert : (pages : List (Vec Fronted Global)) (page : ℕ) (v : Vec Fronted Global) → rows (insert pages page v) ≡ insert (rows pages) page v.items
 rows-insert pages page v =
-    map-append (λ (p : Vec ℕ Global). p.items) (take page pages) (v ∷ drop page pages)
-    ∙ ap₂ (λ (a b : List (List ℕ)). a ++ v.items ∷ b) (sym (take-map (λ (p : Vec ℕ Global). p.items) page pages)) (sym (drop-map (λ (p : Vec ℕ Global). p.items) page pages))
+    map-append (λ (p : Vec Fronted Global). p.items) (take page pages) (v ∷ drop page pages)
+    ∙ ap₂ (λ (a b : List (List Fronted)). a ++ v.items ∷ b) (sym (take-map (λ (p : Vec Fronted Global). p.items) page pages)) (sym (drop-map (λ (p : Vec Fronted Global). p.items) page pages))
 
-pub inserted : (pages : List (Vec ℕ Global)) (heads : List ℕ) (page at n : ℕ) → length heads ≡ length pages - 1 → page < length pages → at ≤ length (get_or (rows pages) page [])
+pub inserted : (pages : List (Vec Fronted Global)) (heads : List Fronted) (page at : ℕ) (n : Fronted) → length heads ≡ length pages - 1 → page < length pages → at ≤ length (get_or (rows pages) page [])
     → in_pages (set (rows pages) page (insert (get_or (rows pages) page []) at n)) heads ≡ insert (in_pages (rows pages) heads) (position (rows pages) page at) n
 inserted pages heads page at n b h w =
-    let long : length (rows pages) ≡ length pages = length-map pages (λ (p : Vec ℕ Global). p.items) in
+    let long : length (rows pages) ≡ length pages = length-map pages (λ (p : Vec Fronted Global). p.items) in
     pages-insert (rows pages) heads page at n (omega (arith, b, long)) (omega (arith, h, long)) w
 
-pub parted : (pages : List (Vec ℕ Global)) (heads : List ℕ) (page half d : ℕ) (row : List ℕ) (rest : Vec ℕ Global) (head : ℕ) → length heads ≡ length pages - 1 → page < length pages → half < length (get_or (rows pages) page [])
-    → row ≡ get_or (rows pages) page [] → rest.items ≡ drop (half + 1) row → head ≡ get_or row half d
+pub parted : (pages : List (Vec Fronted Global)) (heads : List Fronted) (page half : ℕ) (row : List Fronted) (rest : Vec Fronted Global) (head : Fronted) → length heads ≡ length pages - 1 → page < length pages
+    → row ≡ get_or (rows pages) page [] → head ∷ rest.items ≡ drop half row
     → in_pages (set (rows (insert pages (page + 1) rest)) page (take half (get_or (rows (insert pages (page + 1) rest)) page []))) (insert heads page head) ≡ in_pages (rows pages) heads
-parted pages heads page half d row rest head b h w r s t =
-    let long : length (rows pages) ≡ length pages = length-map pages (λ (p : Vec ℕ Global). p.items) in
-    let behind : half + 1 ≡ suc half = omega arith in
-    let rest_is : rest.items ≡ drop (suc half) (get_or (rows pages) page []) = s ∙ ap₂ (λ (n : ℕ) (l : List ℕ). drop n l) behind r in
-    let head_is : head ≡ get_or (get_or (rows pages) page []) half d = t ∙ ap (λ (l : List ℕ). get_or l half d) r in
+parted pages heads page half row rest head b h r s =
+    let long : length (rows pages) ≡ length pages = length-map pages (λ (p : Vec Fronted Global). p.items) in
     let next : page + 1 ≡ suc page = omega arith in
-    let rows_are : rows (insert pages (page + 1) rest) ≡ insert (rows pages) (suc page) (drop (suc half) (get_or (rows pages) page [])) =
-    ap (λ (n : ℕ). rows (insert pages n rest)) next ∙ rows-insert pages (suc page) rest ∙ ap (insert (rows pages) (suc page)) rest_is in
-    ap₂ (λ (rs : List (List ℕ)) (k : ℕ). in_pages (set rs page (take half (get_or rs page []))) (insert heads page k)) rows_are head_is
-    ∙ pages-split (rows pages) heads page half d (omega (arith, b, long)) (omega (arith, h, long)) w
+    let rows_are : rows (insert pages (page + 1) rest) ≡ insert (rows pages) (suc page) rest.items = ap (λ (n : ℕ). rows (insert pages n rest)) next ∙ rows-insert pages (suc page) rest in
+    ap (λ (rs : List (List Fronted)). in_pages (set rs page (take half (get_or rs page []))) (insert heads page head)) rows_are
+    ∙ pages-split (rows pages) heads page half head rest.items (omega (arith, b, long)) (omega (arith, h, long)) (s ∙ ap (drop half) r)
 
-pub row-is : (pages : List (Vec ℕ Global)) (page : ℕ) (v : Vec ℕ Global) → page < length pages → v ≡ get_or pages page v → v.items ≡ get_or (rows pages) page []
-row-is pages page v h e = ap (λ (p : Vec ℕ Global). p.items) e ∙ sym (get_or-map (λ (p : Vec ℕ Global). p.items) pages page v [] h)
+pub row-is : (pages : List (Vec Fronted Global)) (page : ℕ) (v : Vec Fronted Global) → page < length pages → v ≡ get_or pages page v → v.items ≡ get_or (rows pages) page []
+row-is pages page v h e = ap (λ (p : Vec Fronted Global). p.items) e ∙ sym (get_or-map (λ (p : Vec Fronted Global). p.items) pages page v [] h)
 
-pub heads-all : (P : ℕ → Type 0) (pages : List (Vec ℕ Global)) (heads : List ℕ) → length heads ≡ length pages - 1 → AllByRecursion P (in_pages (rows pages) heads) → AllByRecursion P heads
+pub heads-all : (P : Fronted → Type 0) (pages : List (Vec Fronted Global)) (heads : List Fronted) → length heads ≡ length pages - 1 → AllByRecursion P (in_pages (rows pages) heads) → AllByRecursion P heads
 heads-all P pages heads b all =
-    let long : length (rows pages) ≡ length pages = length-map pages (λ (p : Vec ℕ Global). p.items) in
+    let long : length (rows pages) ≡ length pages = length-map pages (λ (p : Vec Fronted Global). p.items) in
     all-heads P (rows pages) heads (omega (arith, b, long)) all
 
-pub row-all : (P : ℕ → Type 0) (pages : List (Vec ℕ Global)) (heads : List ℕ) (page : ℕ) (row : List ℕ) → length heads ≡ length pages - 1 → page < length pages → row ≡ get_or (rows pages) page []
+pub row-all : (P : Fronted → Type 0) (pages : List (Vec Fronted Global)) (heads : List Fronted) (page : ℕ) (row : List Fronted) → length heads ≡ length pages - 1 → page < length pages → row ≡ get_or (rows pages) page []
     → AllByRecursion P (in_pages (rows pages) heads) → AllByRecursion P row
 row-all P pages heads page row b h r all =
-    let long : length (rows pages) ≡ length pages = length-map pages (λ (p : Vec ℕ Global). p.items) in
+    let long : length (rows pages) ≡ length pages = length-map pages (λ (p : Vec Fronted Global). p.items) in
     subst (AllByRecursion P) (sym r) (all-page P (rows pages) heads page (omega (arith, b, long)) (omega (arith, h, long)) all)
 
 -- ---- a walk
 
-pub left-all : (row : List ℕ) (heads : List ℕ) (rest : List (List ℕ)) → left_in_pages row heads rest ≡ in_pages (row ∷ rest) heads
+pub left-all : (row : List Fronted) (heads : List Fronted) (rest : List (List Fronted)) → left_in_pages row heads rest ≡ in_pages (row ∷ rest) heads
 left-all row [] rest = refl
 left-all row (head ∷ heads) rest = refl

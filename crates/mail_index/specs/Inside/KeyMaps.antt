@@ -6,6 +6,7 @@ use Rattle.std.specs.List.{AllByRecursion, slice_index}
 use Rattle.mail_index.specs.declared.kind.Kind.{Kind}
 use Rattle.mail_index.specs.declared.build.build_fault.BuildFault.{BuildFault}
 use Rattle.mail_index.specs.declared.build.build_fault.BuildFault.TheVariants.{OutOfMemory, TooMany, Device, Failed}
+use Rattle.mail_index.specs.declared.build.key_front.Fronted.{Fronted}
 use Rattle.mail_index.specs.declared.build.key_order.KeyOrder.{KeyOrder}
 use Rattle.mail_index.specs.declared.build.key_order.Place.{Place}
 use Rattle.mail_index.specs.Tables.{Key}
@@ -73,29 +74,36 @@ pub record IsGap (kind : Kind) (text : List ℕ) (keys : List Key) (place : ℕ)
 -- ---- an order in pages
 
 -- what the pages hold
-abbrev pub rows : List (Vec ℕ Global) → List (List ℕ)
-rows pages = map (λ (page : Vec ℕ Global). page.items) pages
+abbrev pub rows : List (Vec Fronted Global) → List (List Fronted)
+rows pages = map (λ (page : Vec Fronted Global). page.items) pages
 
--- the numbers of the pages one after another, and between each and the next one of the heads
-abbrev pub in_pages : List (List ℕ) → List ℕ → List ℕ
+-- the slots of the pages one after another, and between each and the next one of the heads
+abbrev pub in_pages : List (List Fronted) → List Fronted → List Fronted
 in_pages [] heads = []
 in_pages (row ∷ rest) [] = row ++ []
 in_pages (row ∷ rest) (head ∷ heads) = row ++ head ∷ in_pages rest heads
 
 -- those left of a page, and those behind it: of the heads, and of the pages behind it
-abbrev pub left_in_pages : List ℕ → List ℕ → List (List ℕ) → List ℕ
+abbrev pub left_in_pages : List Fronted → List Fronted → List (List Fronted) → List Fronted
 left_in_pages row [] rest = row ++ []
 left_in_pages row (head ∷ heads) rest = row ++ head ∷ in_pages rest heads
 
--- how many numbers stand before the one at a place of a page
-abbrev pub position : List (List ℕ) → ℕ → ℕ → ℕ
+-- how many slots stand before the one at a place of a page
+abbrev pub position : List (List Fronted) → ℕ → ℕ → ℕ
 position [] page at = at
 position (row ∷ rest) zero at = at
 position (row ∷ rest) (suc page) at = length row + suc (position rest page at)
 
--- the numbers of an order, and how many of them stand before a place
+-- the numbers of slots
+abbrev pub numbers_of_slots : List Fronted → List ℕ
+numbers_of_slots slots = map (λ (slot : Fronted). slot.number) slots
+
+-- the slots of an order and their numbers, and how many of them stand before a place
+abbrev pub slots_in : KeyOrder → List Fronted
+slots_in order = in_pages (rows order.pages.items) order.heads.items
+
 abbrev pub numbers_in : KeyOrder → List ℕ
-numbers_in order = in_pages (rows order.pages.items) order.heads.items
+numbers_in order = numbers_of_slots (slots_in order)
 
 abbrev pub place_in : KeyOrder → Place → ℕ
 place_in order place = position (rows order.pages.items) place.page place.at

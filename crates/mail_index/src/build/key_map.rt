@@ -5,7 +5,8 @@ ghost use Rattle.std.specs.List.{AllByRecursion, slice_index_or};
 ghost use Rattle.contract_words.specs.Devices.{Counts};
 ghost use Rattle.mail_index.specs.Files.{entry_of, directory_from, texts_of, postings_of};
 ghost use Rattle.mail_index.specs.Inside.Signing.{BreaksOff, Signs};
-ghost use Rattle.mail_index.specs.Inside.KeyMaps.{rows, numbers_in, place_in, keys_in, with_one, IsOrder, IsGap, IsWantOf};
+ghost use Rattle.mail_index.specs.Inside.KeyFronts.{IsFrontOf, IsFronted};
+ghost use Rattle.mail_index.specs.Inside.KeyMaps.{rows, slots_in, numbers_in, place_in, keys_in, with_one, IsOrder, IsGap, IsWantOf};
 ghost use Rattle.mail_index.specs.KeysRead.{key_at};
 ghost use Rattle.mail_index.specs.LookUps.{lies_to};
 ghost use Rattle.mail_index.specs.Builders.{with_pair};
@@ -39,13 +40,15 @@ pub struct KeyMap {
 impl Model for KeyMap {
     ghost use Rattle.std.specs.Prelude.{◌≡◌, ◌-◌, List, length};
     ghost use Rattle.mail_index.specs.Tables.{Key};
-    ghost use Rattle.mail_index.specs.Inside.KeyMaps.{numbers_in, keys_in, IsOrder};
+    ghost use Rattle.std.specs.List.{AllByRecursion};
+    ghost use Rattle.mail_index.specs.Inside.KeyFronts.{IsFronted};
+    ghost use Rattle.mail_index.specs.Inside.KeyMaps.{slots_in, numbers_in, keys_in, IsOrder};
 
     ghost Value = { List Key };
 
     ghost view = { λ s. keys_in s.entries.items s.order };
 
-    ghost invariant = { λ s. (length s.order.heads.items ≡ length s.order.pages.items - 1) × IsOrder s.entries.items (numbers_in s.order) };
+    ghost invariant = { λ s. (length s.order.heads.items ≡ length s.order.pages.items - 1) × IsOrder s.entries.items (numbers_in s.order) × AllByRecursion (IsFronted s.entries.items) (slots_in s.order) };
 }
 
 impl KeyMap {
@@ -238,12 +241,15 @@ fn add_at(
     requires fits { length entries.old.items ≤ key.now.most }
     requires between { length order.old.heads.items ≡ length order.old.pages.items - 1 }
     requires order { IsOrder entries.old.items (numbers_in order.old) }
+    requires fronted { AllByRecursion (IsFronted entries.old.items) (slots_in order.old) }
     requires found { IfOk found (λ entry. (entry < length entries.old.items) × (lies_to key.now.kind key.now.text.now (key_at entries.old.items entry) ≡ Equal)) }
     requires page { IfErr found (λ place. place.page < length order.old.pages.items) }
     requires at { IfErr found (λ place. place.at ≤ length (slice_index_or (rows order.old.pages.items) place.page [])) }
     requires gap { IfErr found (λ place. IsGap key.now.kind key.now.text.now (keys_in entries.old.items order.old) (place_in order.old place)) }
+    requires front { IfErr found (λ place. IsFrontOf key.now.kind key.now.text.now place.front) }
     ensures between { length order.new.heads.items ≡ length order.new.pages.items - 1 }
     ensures order { IsOrder entries.new.items (numbers_in order.new) }
+    ensures fronted { AllByRecursion (IsFronted entries.new.items) (slots_in order.new) }
     ensures ok { OnOk result (keys_in entries.new.items order.new ≡ with_pair key.now.kind key.now.text.now key.now.number (keys_in entries.old.items order.old)) }
     ensures err { OnErr result (keys_in entries.new.items order.new ≡ keys_in entries.old.items order.old) }
     ensures entry { IfOk result (λ entry. MatchResult found (λ known. entry ≡ known) (λ _. entry ≡ length entries.old.items)) }
@@ -268,9 +274,11 @@ fn add_number(
 ) -> Result<(), AllocError>
     requires number { key.now.number < u32.MAX }
     requires order { IsOrder entries.old.items (numbers_in order.now) }
+    requires fronted { AllByRecursion (IsFronted entries.old.items) (slots_in order.now) }
     requires within { entry < length entries.old.items }
     requires found { lies_to key.now.kind key.now.text.now (key_at entries.old.items entry) ≡ Equal }
     ensures order { IsOrder entries.new.items (numbers_in order.now) }
+    ensures fronted { AllByRecursion (IsFronted entries.new.items) (slots_in order.now) }
     ensures ok { OnOk result (keys_in entries.new.items order.now ≡ with_pair key.now.kind key.now.text.now key.now.number (keys_in entries.old.items order.now)) }
     ensures err { OnErr result (entries.new.items ≡ entries.old.items) }
     ensures same { length entries.new.items ≡ length entries.old.items }
@@ -302,11 +310,14 @@ fn insert(
     requires fits { length entries.old.items ≤ key.now.most }
     requires between { length order.old.heads.items ≡ length order.old.pages.items - 1 }
     requires order { IsOrder entries.old.items (numbers_in order.old) }
+    requires fronted { AllByRecursion (IsFronted entries.old.items) (slots_in order.old) }
     requires page { place.page < length order.old.pages.items }
     requires at { place.at ≤ length (slice_index_or (rows order.old.pages.items) place.page []) }
     requires gap { IsGap key.now.kind key.now.text.now (keys_in entries.old.items order.old) (place_in order.old place) }
+    requires front { IsFrontOf key.now.kind key.now.text.now place.front }
     ensures between { length order.new.heads.items ≡ length order.new.pages.items - 1 }
     ensures order { IsOrder entries.new.items (numbers_in order.new) }
+    ensures fronted { AllByRecursion (IsFronted entries.new.items) (slots_in order.new) }
     ensures ok { OnOk result (keys_in entries.new.items order.new ≡ with_pair key.now.kind key.now.text.now key.now.number (keys_in entries.old.items order.old)) }
     ensures err { OnErr result (keys_in entries.new.items order.new ≡ keys_in entries.old.items order.old) }
     ensures entry { IfOk result (λ entry. entry ≡ length entries.old.items) }

@@ -2,42 +2,46 @@
 ghost use Rattle.std.specs.Prelude.{◌≡◌, ◌+◌, ◌-◌, ◌<◌, ◌≤◌, [], ◌∷◌, length, take, drop, set, OnOk, OnErr, IfOk, IfErr};
 ghost use Rattle.std.specs.declared.cmp.Ordering.TheVariants.{Equal};
 ghost use Rattle.std.specs.List.{AllByRecursion, insert, slice_index_or};
-ghost use Rattle.mail_index.specs.Inside.KeyMaps.{rows, in_pages, numbers_in, place_in, keys_in, IsGap};
+ghost use Rattle.mail_index.specs.Inside.KeyFronts.{IsFrontOf, IsFronted};
+ghost use Rattle.mail_index.specs.Inside.KeyMaps.{rows, in_pages, slots_in, place_in, keys_in, IsGap};
 ghost use Rattle.mail_index.specs.KeysRead.{key_at};
 ghost use Rattle.mail_index.specs.LookUps.{lies_to};
 
 use crate::build::key_entry::KeyEntry;
-use crate::build::key_fronts::{Guess, KeyFronts, front_of_key};
+use crate::build::key_front::{Fronted, front_of_key};
 use crate::build::key_search::search;
 use crate::kind::Kind;
 use std::alloc::{AllocError, Global};
 
-/// A page is split in two once it has so many numbers, and a sixteenth of as many as there are pages.
-const PAGE: usize = 64;
+/// A page is split in two once it has so many slots, and its share of the pages' number.
+const PAGE: usize = 48;
 
-/// The numbers of entries in the order of their keys: pages, and between each and the next one number more, the
-/// head of the next. So a key is found by two binary searches, and a number is inserted by moving those of one page.
+/// A page has a slot for each so many pages, where that is more.
+const PAGES_FOR_A_SLOT: usize = 20;
+
+/// The numbers of entries in the order of their keys, each with the key's front: pages of such slots, and between each and
+/// the next one slot more, the head of the next. So a key is found by two binary searches, and one is inserted by moving
+/// the slots of one page.
 /// Of very many numbers both the pages and what one of them has grow with the root of their count, and so does what an
 /// insertion moves, in whatever order the keys come.
 #[derive(Drop)]
 pub struct KeyOrder {
-    pub heads: Vec<u32>,
-    pub pages: Vec<Vec<u32>>,
-    pub fronts: KeyFronts,
+    pub heads: Vec<Fronted>,
+    pub pages: Vec<Vec<Fronted>>,
 }
 
-/// A place in the order, where a number can be inserted.
+/// A place in the order, where a key can be inserted.
 #[derive(Clone, Copy)]
 pub struct Place {
     pub page: usize,
-    /// How many of the page's numbers stand before it.
+    /// How many of the page's slots stand before it.
     pub at: usize,
     /// The front of the key whose place it is.
     pub front: u64,
 }
 
 impl KeyOrder {
-    /// No number. Takes no memory.
+    /// No key. Takes no memory.
     pub fn new(alloc: Global) -> Self
         ensures heads { result.heads.items ≡ [] }
         ensures pages { result.pages.items ≡ [] }
@@ -45,7 +49,6 @@ impl KeyOrder {
         KeyOrder {
             heads: Vec::new(alloc),
             pages: Vec::new(alloc),
-            fronts: KeyFronts::new(alloc),
         }
     }
 
@@ -54,7 +57,7 @@ impl KeyOrder {
         requires between { length self.old.heads.items ≡ length self.old.pages.items - 1 }
         ensures page { OnOk result (0 < length self.new.pages.items) }
         ensures between { length self.new.heads.items ≡ length self.new.pages.items - 1 }
-        ensures same { numbers_in self.new ≡ numbers_in self.old }
+        ensures same { slots_in self.new ≡ slots_in self.old }
     {
         if self.pages.is_empty() {
             self.pages.push(Vec::new(alloc))?;
@@ -66,62 +69,72 @@ impl KeyOrder {
     pub fn find(&self, entries: &[KeyEntry], kind: Kind, text: &[u8]) -> Result<u32, Place>
         requires page { 0 < length self.now.pages.items }
         requires between { length self.now.heads.items ≡ length self.now.pages.items - 1 }
-        requires within { AllByRecursion (λ number. number < length entries.now) (numbers_in self.now) }
+        requires fronted { AllByRecursion (IsFronted entries.now) (slots_in self.now) }
         ensures found { IfOk result (λ number. (number < length entries.now) × (lies_to kind text.now (key_at entries.now number) ≡ Equal)) }
         ensures page { IfErr result (λ place. place.page < length self.now.pages.items) }
         ensures at { IfErr result (λ place. place.at ≤ length (slice_index_or (rows self.now.pages.items) place.page [])) }
         ensures gap { IfErr result (λ place. IsGap kind text.now (keys_in entries.now self.now) (place_in self.now place)) }
+        ensures front { IfErr result (λ place. IsFrontOf kind text.now place.front) }
     {
         let front = front_of_key(kind, text);
-        let guess = Guess::of(self.fronts.of_heads(), front);
-        let page = match search(&self.heads, entries, guess, kind, text) {
+        let page = match search(&self.heads, entries, front, kind, text) {
             Ok(number) => return Ok(number),
             Err(page) => page,
         };
-        let guess = Guess::of(self.fronts.of_page(page), front);
-        match search(&self.pages[page], entries, guess, kind, text) {
+        match search(&self.pages[page], entries, front, kind, text) {
             Ok(number) => Ok(number),
             Err(at) => Err(Place { page, at, front }),
         }
     }
 
-    /// Inserts a number. A refused growth leaves the numbers as they are.
+    /// Inserts the number of an entry, with the front that its place has. A refused growth leaves the order as it is.
     pub fn insert(&mut self, alloc: Global, place: Place, number: u32) -> Result<(), AllocError>
         requires between { length self.old.heads.items ≡ length self.old.pages.items - 1 }
         requires page { place.page < length self.old.pages.items }
         requires at { place.at ≤ length (slice_index_or (rows self.old.pages.items) place.page []) }
         ensures between { length self.new.heads.items ≡ length self.new.pages.items - 1 }
-        ensures ok { OnOk result (numbers_in self.new ≡ insert (numbers_in self.old) (place_in self.old place) number) }
-        ensures err { OnErr result (numbers_in self.new ≡ numbers_in self.old) }
+        ensures ok { OnOk result (slots_in self.new ≡ insert (slots_in self.old) (place_in self.old place) (record { number = number; front = place.front })) }
+        ensures err { OnErr result (slots_in self.new ≡ slots_in self.old) }
     {
         insert_in_page(&mut self.pages, place, number)?;
-        self.fronts.insert(alloc, place);
         let length = self.pages[place.page].len();
-        if length >= PAGE && length >= self.pages.len() / 16 {
-            let half = length / 2;
-            let _split = split(alloc, &mut self.heads, &mut self.pages, place.page, half);
-            self.fronts.split(alloc, place.page, half);
+        if length >= PAGE && length >= self.pages.len() / PAGES_FOR_A_SLOT {
+            let _split = split(
+                alloc,
+                &mut self.heads,
+                &mut self.pages,
+                place.page,
+                length / 2,
+            );
         }
         Ok(())
     }
 }
 
-// Inserts a number in a page.
-fn insert_in_page(pages: &mut Vec<Vec<u32>>, place: Place, number: u32) -> Result<(), AllocError>
+// Inserts a slot in a page.
+fn insert_in_page(
+    pages: &mut Vec<Vec<Fronted>>,
+    place: Place,
+    number: u32,
+) -> Result<(), AllocError>
     requires page { place.page < length pages.old.items }
     requires at { place.at ≤ length (slice_index_or (rows pages.old.items) place.page []) }
-    ensures ok { OnOk result (rows pages.new.items ≡ set (rows pages.old.items) place.page (insert (slice_index_or (rows pages.old.items) place.page []) place.at number)) }
+    ensures ok { OnOk result (rows pages.new.items ≡ set (rows pages.old.items) place.page (insert (slice_index_or (rows pages.old.items) place.page []) place.at (record { number = number; front = place.front }))) }
     ensures err { OnErr result (rows pages.new.items ≡ rows pages.old.items) }
 {
-    pages[place.page].insert(place.at, number)?;
+    let slot = Fronted {
+        number,
+        front: place.front,
+    };
+    pages[place.page].insert(place.at, slot)?;
     Ok(())
 }
 
 // Splits a page in two, of which the first has that length. Without memory for that it stays as it is.
 fn split(
     alloc: Global,
-    heads: &mut Vec<u32>,
-    pages: &mut Vec<Vec<u32>>,
+    heads: &mut Vec<Fronted>,
+    pages: &mut Vec<Vec<Fronted>>,
     page: usize,
     half: usize,
 ) -> Result<(), AllocError>
@@ -139,9 +152,13 @@ fn split(
 }
 
 // The head of a page's second half, and the rest of it.
-fn second_half(alloc: Global, row: &[u32], half: usize) -> Result<(u32, Vec<u32>), AllocError>
+fn second_half(
+    alloc: Global,
+    row: &[Fronted],
+    half: usize,
+) -> Result<(Fronted, Vec<Fronted>), AllocError>
     requires { half < length row.now }
-    ensures { IfOk result (λ second. (second.0 ≡ slice_index_or row.now half 0) × (second.1.items ≡ drop (half + 1) row.now)) }
+    ensures { IfOk result (λ second. second.0 ∷ second.1.items ≡ drop half row.now) }
 {
     let rest = Vec::from_slice(alloc, &row[half + 1..])?;
     Ok((row[half], rest))
@@ -149,11 +166,11 @@ fn second_half(alloc: Global, row: &[u32], half: usize) -> Result<(u32, Vec<u32>
 
 // Inserts a page behind another, and its head.
 fn insert_page(
-    heads: &mut Vec<u32>,
-    pages: &mut Vec<Vec<u32>>,
+    heads: &mut Vec<Fronted>,
+    pages: &mut Vec<Vec<Fronted>>,
     page: usize,
-    head: u32,
-    rest: Vec<u32>,
+    head: Fronted,
+    rest: Vec<Fronted>,
 ) -> Result<(), AllocError>
     requires head { page ≤ length heads.old.items }
     requires page { page < length pages.old.items }
@@ -168,7 +185,7 @@ fn insert_page(
 }
 
 // Leaves the first half of a page.
-fn shorten(pages: &mut Vec<Vec<u32>>, page: usize, half: usize)
+fn shorten(pages: &mut Vec<Vec<Fronted>>, page: usize, half: usize)
     requires { page < length pages.old.items }
     ensures { rows pages.new.items ≡ set (rows pages.old.items) page (take half (slice_index_or (rows pages.old.items) page [])) }
 {

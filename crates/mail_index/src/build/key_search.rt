@@ -3,56 +3,54 @@ ghost use Rattle.std.specs.Prelude.{◌≡◌, ◌<◌, ◌≤◌, false, length
 ghost use Rattle.std.specs.Ordering.{is_eq};
 ghost use Rattle.std.specs.declared.cmp.Ordering.TheVariants.{Equal};
 ghost use Rattle.std.specs.List.{AllByRecursion};
-ghost use Rattle.mail_index.specs.Inside.KeyMaps.{placed, IsGap};
+ghost use Rattle.mail_index.specs.Inside.KeyFronts.{IsFrontOf, IsFronted};
+ghost use Rattle.mail_index.specs.Inside.KeyMaps.{placed, numbers_of_slots, IsGap};
 ghost use Rattle.mail_index.specs.KeysRead.{key_at};
 ghost use Rattle.mail_index.specs.LookUps.{lies_to};
 
 use crate::build::key_entry::KeyEntry;
-use crate::build::key_fronts::Guess;
+use crate::build::key_front::Fronted;
 use crate::kind::Kind;
 use std::cmp::Ordering;
 
-/// The number of the entry of this key among those of these numbers, which stand in order; where none of them is it,
-/// the place between them where it would stand. A binary search, which begins beside a guess: of a right one it looks at
-/// an entry on each side, and at those between.
+/// The number of the entry of this key among those of these slots, which stand in order; where none of them is it,
+/// the place between them where it would stand. A binary search.
 pub fn search(
-    numbers: &[u32],
+    slots: &[Fronted],
     entries: &[KeyEntry],
-    guess: Guess,
+    front: u64,
     kind: Kind,
     text: &[u8],
 ) -> Result<u32, usize>
-    requires { AllByRecursion (λ number. number < length entries.now) numbers.now }
+    requires fronted { AllByRecursion (IsFronted entries.now) slots.now }
+    requires front { IsFrontOf kind text.now front }
     ensures found { IfOk result (λ number. (number < length entries.now) × (lies_to kind text.now (key_at entries.now number) ≡ Equal)) }
-    ensures place { IfErr result (IsGap kind text.now (placed entries.now numbers.now)) }
+    ensures place { IfErr result (IsGap kind text.now (placed entries.now (numbers_of_slots slots.now))) }
 {
     let mut low = 0;
-    let mut high = numbers.len();
+    let mut high = slots.len();
     while low < high {
-        let middle = next_place(low, high, guess);
-        let number = numbers[middle];
-        match entries[number as usize].compare(kind, text) {
+        let middle = low + (high - low) / 2;
+        let slot = slots[middle];
+        match compare(slot, entries, front, kind, text) {
             Ordering::Less => low = middle + 1,
-            Ordering::Equal => return Ok(number),
+            Ordering::Equal => return Ok(slot.number),
             Ordering::Greater => high = middle,
         }
     }
     Err(low)
 }
 
-// Where to look next from one place on and before another: on either side of the guess, and then in the middle.
-fn next_place(low: usize, high: usize, guess: Guess) -> usize
-    requires { low < high }
-    ensures from { low ≤ result }
-    ensures before { result < high }
+// How the key of a slot lies to another, of that front. Its entry is read only where the fronts are equal.
+fn compare(slot: Fronted, entries: &[KeyEntry], front: u64, kind: Kind, text: &[u8]) -> Ordering
+    requires slot { IsFronted entries.now slot }
+    requires front { IsFrontOf kind text.now front }
+    ensures { result ≡ lies_to kind text.now (key_at entries.now slot.number) }
 {
-    if low < guess.from && guess.from <= high {
-        return guess.from - 1;
+    match slot.front.cmp(&front) {
+        Ordering::Equal => entries[slot.number as usize].compare(kind, text),
+        other => other,
     }
-    if low <= guess.to && guess.to < high {
-        return guess.to;
-    }
-    low + (high - low) / 2
 }
 
 /// The number of an entry, if it is this key's.

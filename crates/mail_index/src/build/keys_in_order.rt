@@ -2,18 +2,19 @@
 ghost use Rattle.std.specs.Prelude.{◌≡◌, ◌-◌, ◌<◌, [], ◌∷◌, length, IfSome, MatchOption};
 ghost use Rattle.std.specs.Iterator.{YieldsFirstRef, item_count};
 ghost use Rattle.std.specs.List.{AllByRecursion};
-ghost use Rattle.mail_index.specs.Inside.KeyMaps.{placed, rows, in_pages, left_in_pages};
+ghost use Rattle.mail_index.specs.Inside.KeyMaps.{placed, rows, in_pages, left_in_pages, numbers_of_slots};
 
 use crate::build::key_entry::KeyEntry;
+use crate::build::key_front::Fronted;
 use std::marker::Model;
 
-/// The numbers of entries that are left of an order in pages.
+/// The slots that are left of an order in pages.
 #[derive(Clone, Copy)]
 struct Left<'a> {
     // Of the page that is gone over.
-    page: &'a [u32],
-    heads: &'a [u32],
-    pages: &'a [Vec<u32>],
+    page: &'a [Fronted],
+    heads: &'a [Fronted],
+    pages: &'a [Vec<Fronted>],
 }
 
 /// The entries still to come, in the order of their keys. It takes no memory.
@@ -27,21 +28,21 @@ impl<'a> Model for KeysInOrder<'a> {
     ghost use Rattle.std.specs.Prelude.{◌≡◌, ◌<◌, List, length};
     ghost use Rattle.std.specs.List.{AllByRecursion};
     ghost use Rattle.mail_index.specs.Tables.{Key};
-    ghost use Rattle.mail_index.specs.Inside.KeyMaps.{placed, rows, left_in_pages};
+    ghost use Rattle.mail_index.specs.Inside.KeyMaps.{placed, rows, left_in_pages, numbers_of_slots};
 
     ghost Value = { List Key };
 
-    ghost view = { λ s. placed s.entries.now (left_in_pages s.left.page.now s.left.heads.now (rows s.left.pages.now)) };
+    ghost view = { λ s. placed s.entries.now (numbers_of_slots (left_in_pages s.left.page.now s.left.heads.now (rows s.left.pages.now))) };
 
-    ghost invariant = { λ s. (length s.left.heads.now ≡ length s.left.pages.now) × AllByRecursion (λ i. i < length s.entries.now) (left_in_pages s.left.page.now s.left.heads.now (rows s.left.pages.now)) };
+    ghost invariant = { λ s. (length s.left.heads.now ≡ length s.left.pages.now) × AllByRecursion (λ i. i < length s.entries.now) (numbers_of_slots (left_in_pages s.left.page.now s.left.heads.now (rows s.left.pages.now))) };
 }
 
 impl<'a> KeysInOrder<'a> {
     /// All of them, of pages with heads between them.
-    pub fn of(entries: &'a [KeyEntry], heads: &'a [u32], pages: &'a [Vec<u32>]) -> Self
+    pub fn of(entries: &'a [KeyEntry], heads: &'a [Fronted], pages: &'a [Vec<Fronted>]) -> Self
         requires between { length heads.now ≡ length pages.now - 1 }
-        requires within { AllByRecursion (λ i. i < length entries.now) (in_pages (rows pages.now) heads.now) }
-        ensures { result ≡ placed entries.now (in_pages (rows pages.now) heads.now) }
+        requires within { AllByRecursion (λ i. i < length entries.now) (numbers_of_slots (in_pages (rows pages.now) heads.now)) }
+        ensures { result ≡ placed entries.now (numbers_of_slots (in_pages (rows pages.now) heads.now)) }
     {
         let left = match pages {
             [] => Left {
@@ -67,22 +68,22 @@ impl<'a> Iterator for KeysInOrder<'a> {
     ghost remaining = { item_count (λ s. s) };
 
     fn next(&mut self) -> Option<&'a KeyEntry> {
-        let (number, left) = next_number(self.left)?;
+        let (slot, left) = next_slot(self.left)?;
         self.left = left;
-        self.entries.get(number as usize)
+        self.entries.get(slot.number as usize)
     }
 }
 
-// The next number, and those left behind it.
-fn next_number(left: Left<'_>) -> Option<(u32, Left<'_>)>
+// The next slot, and those left behind it.
+fn next_slot(left: Left<'_>) -> Option<(Fronted, Left<'_>)>
     requires { length left.heads.now ≡ length left.pages.now }
-    ensures numbers { MatchOption result (left_in_pages left.entry.page.now left.entry.heads.now (rows left.entry.pages.now) ≡ []) (λ next. left_in_pages left.entry.page.now left.entry.heads.now (rows left.entry.pages.now) ≡ next.0 ∷ left_in_pages next.1.page.now next.1.heads.now (rows next.1.pages.now)) }
+    ensures slots { MatchOption result (left_in_pages left.entry.page.now left.entry.heads.now (rows left.entry.pages.now) ≡ []) (λ next. left_in_pages left.entry.page.now left.entry.heads.now (rows left.entry.pages.now) ≡ next.0 ∷ left_in_pages next.1.page.now next.1.heads.now (rows next.1.pages.now)) }
     ensures between { IfSome result (λ next. length next.1.heads.now ≡ length next.1.pages.now) }
 {
-    if let Some((number, page)) = left.page.split_first() {
-        return Some((*number, Left { page, ..left }));
+    if let Some((slot, page)) = left.page.split_first() {
+        return Some((*slot, Left { page, ..left }));
     }
-    let (number, heads) = left.heads.split_first()?;
+    let (slot, heads) = left.heads.split_first()?;
     let (page, pages) = left.pages.split_first()?;
-    Some((*number, Left { page, heads, pages }))
+    Some((*slot, Left { page, heads, pages }))
 }

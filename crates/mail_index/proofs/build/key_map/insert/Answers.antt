@@ -1,9 +1,13 @@
 use Rattle.std.proofs.Common.{◌≡◌, ◌∙◌, ℕ, List, [], ◌∷◌, ◌++◌, length, ap, ap₂, sym, subst, arith}
-use Rattle.std.specs.List.{insert}
+use Rattle.std.specs.List.{AllByRecursion, insert}
+use Rattle.mail_index.specs.declared.build.key_front.Fronted.{Fronted}
 use Rattle.mail_index.specs.Tables.{Key}
-use Rattle.mail_index.specs.Inside.KeyMaps.{placed, rows, in_pages, position, new_key, IsOrder}
-use Rattle.mail_index.proofs.BuildLaws.KeyMapLemmas.{order-new, with_pair-gap, length-with_pair-gap}
+use Rattle.mail_index.specs.Inside.KeyFronts.{IsFronted}
+use Rattle.mail_index.specs.Inside.KeyMaps.{placed, slots_in, numbers_in, numbers_of_slots, place_in, new_key, IsOrder}
+use Rattle.mail_index.proofs.BuildLaws.FrontLemmas.{fronted-new}
+use Rattle.mail_index.proofs.BuildLaws.KeyMapLemmas.{order-new, with_pair-gap, length-with_pair-gap, numbers-insert}
 use Rattle.mail_index.proofs.build.key_map.insert.Goals as goal
+use Rattle.mail_index.proofs.build.key_map.insert.Goals.{In-Ok}
 
 pub returns-then-number-key-clause-fault : goal.returns-then-number-key-clause-fault
 returns-then-number-key-clause-fault c =
@@ -11,29 +15,43 @@ returns-then-number-key-clause-fault c =
       arith,
       c.if-number-key.true,
       c.len-number.ensures,
-      length-with_pair-gap c.args.key.now.kind c.args.key.now.text.now c.args.key.now.number c.args.entries.now.items
-          (in_pages (rows c.args.order.now.pages.items) c.args.order.now.heads.items) (position (rows c.args.order.now.pages.items) c.args.place.page c.args.place.at) c.requires.order c.requires.gap,
+      length-with_pair-gap c.args.key.now.kind c.args.key.now.text.now c.args.key.now.number c.args.entries.now.items (numbers_in c.args.order.now) (place_in c.args.order.now c.args.place) c.requires.order c.requires.gap,
     )
 
-pub returns-in-Ok-clause-order : goal.returns-in-Ok-clause-order
-returns-in-Ok-clause-order c =
-    let place : ℕ = position (rows c.args.order.now.pages.items) c.args.place.page c.args.place.at in
-    let order : List ℕ = in_pages (rows c.args.order.now.pages.items) c.args.order.now.heads.items in
-    let new : Key = new_key c.args.key.now.kind c.args.key.now.text.now c.args.key.now.number in
-    let entries_new : c.push.new.self.items ≡ c.args.entries.now.items ++ new ∷ [] = c.in_ok-push.ensures.items ∙ ap (λ (k : Key). c.args.entries.now.items ++ k ∷ []) c.in_ok-entry.ensures in
+new_entry : (c : In-Ok) → Key
+new_entry c = new_key c.args.key.now.kind c.args.key.now.text.now c.args.key.now.number
+
+entries-new : (c : In-Ok) → c.push.new.self.items ≡ c.args.entries.now.items ++ new_entry c ∷ []
+unfolding new_entry
+entries-new c = c.in_ok-push.ensures.items ∙ ap (λ (k : Key). c.args.entries.now.items ++ k ∷ []) c.in_ok-entry.ensures
+
+slots-new : (c : In-Ok) → slots_in c.insert.new.self ≡ insert (slots_in c.args.order.now) (place_in c.args.order.now c.args.place) (record { number = length c.args.entries.now.items; front = c.args.place.front })
+slots-new c =
     let number : c.len-number.result ≡ length c.args.entries.now.items = omega (arith, c.len-number.ensures) in
-    let order_new : in_pages (rows c.insert.new.self.pages.items) c.insert.new.self.heads.items ≡ insert order place (length c.args.entries.now.items) = c.in-Ok.ensures.ok ∙ ap (insert order place) number in
-    subst (λ (es : List Key). IsOrder es (in_pages (rows c.insert.new.self.pages.items) c.insert.new.self.heads.items)) (sym entries_new)
-    (subst (λ (l : List ℕ). IsOrder (c.args.entries.now.items ++ new ∷ []) l) (sym order_new)
-    (order-new c.args.key.now.kind c.args.key.now.text.now c.args.key.now.number c.args.entries.now.items order place c.requires.order c.requires.gap))
+    c.in-Ok.ensures.ok ∙ ap (λ (n : ℕ). let slot : Fronted = record { number = n; front = c.args.place.front } in insert (slots_in c.args.order.now) (place_in c.args.order.now c.args.place) slot) number
+
+numbers-new : (c : In-Ok) → numbers_in c.insert.new.self ≡ insert (numbers_in c.args.order.now) (place_in c.args.order.now c.args.place) (length c.args.entries.now.items)
+numbers-new c = ap numbers_of_slots (slots-new c) ∙ numbers-insert (slots_in c.args.order.now) (place_in c.args.order.now c.args.place) (record { number = length c.args.entries.now.items; front = c.args.place.front })
+
+pub returns-in-Ok-clause-order : goal.returns-in-Ok-clause-order
+unfolding new_entry
+returns-in-Ok-clause-order c =
+    let c = (goal.at.returns-in-Ok-clause-order c).In-Ok in
+    subst (λ (es : List Key). IsOrder es (numbers_in c.insert.new.self)) (sym (entries-new c))
+    (subst (λ (l : List ℕ). IsOrder (c.args.entries.now.items ++ new_entry c ∷ []) l) (sym (numbers-new c))
+    (order-new c.args.key.now.kind c.args.key.now.text.now c.args.key.now.number c.args.entries.now.items (numbers_in c.args.order.now) (place_in c.args.order.now c.args.place) c.requires.order c.requires.gap))
+
+pub returns-in-Ok-clause-fronted : goal.returns-in-Ok-clause-fronted
+unfolding new_entry
+returns-in-Ok-clause-fronted c =
+    let c = (goal.at.returns-in-Ok-clause-fronted c).In-Ok in
+    subst (λ (es : List Key). AllByRecursion (IsFronted es) (slots_in c.insert.new.self)) (sym (entries-new c))
+    (subst (λ (l : List Fronted). AllByRecursion (IsFronted (c.args.entries.now.items ++ new_entry c ∷ [])) l) (sym (slots-new c))
+    (fronted-new c.args.key.now.kind c.args.key.now.text.now c.args.key.now.number c.args.entries.now.items (slots_in c.args.order.now) (place_in c.args.order.now c.args.place) c.args.place.front c.requires.front c.requires.fronted))
 
 pub returns-in-Ok-clause-ok : goal.returns-in-Ok-clause-ok
+unfolding new_entry
 returns-in-Ok-clause-ok c =
-    let place : ℕ = position (rows c.args.order.now.pages.items) c.args.place.page c.args.place.at in
-    let order : List ℕ = in_pages (rows c.args.order.now.pages.items) c.args.order.now.heads.items in
-    let new : Key = new_key c.args.key.now.kind c.args.key.now.text.now c.args.key.now.number in
-    let entries_new : c.push.new.self.items ≡ c.args.entries.now.items ++ new ∷ [] = c.in_ok-push.ensures.items ∙ ap (λ (k : Key). c.args.entries.now.items ++ k ∷ []) c.in_ok-entry.ensures in
-    let number : c.len-number.result ≡ length c.args.entries.now.items = omega (arith, c.len-number.ensures) in
-    let order_new : in_pages (rows c.insert.new.self.pages.items) c.insert.new.self.heads.items ≡ insert order place (length c.args.entries.now.items) = c.in-Ok.ensures.ok ∙ ap (insert order place) number in
-    ap₂ placed entries_new order_new
-    ∙ with_pair-gap c.args.key.now.kind c.args.key.now.text.now c.args.key.now.number c.args.entries.now.items order place c.requires.order c.requires.gap
+    let c = (goal.at.returns-in-Ok-clause-ok c).In-Ok in
+    ap₂ placed (entries-new c) (numbers-new c)
+    ∙ with_pair-gap c.args.key.now.kind c.args.key.now.text.now c.args.key.now.number c.args.entries.now.items (numbers_in c.args.order.now) (place_in c.args.order.now c.args.place) c.requires.order c.requires.gap

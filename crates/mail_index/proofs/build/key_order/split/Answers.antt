@@ -1,12 +1,13 @@
-use Rattle.std.proofs.Common.{◌≡◌, ◌∙◌, ◌+◌, ◌≤◌, [], ℕ, suc, List, Vec, length, take, set, get_or, ap, ap₂, sym, arith}
+use Rattle.std.proofs.Common.{◌≡◌, ◌∙◌, ◌+◌, ◌≤◌, [], suc, List, Vec, length, take, set, get_or, ap, ap₂, sym, arith}
 use Rattle.std.specs.Global.{Global}
 use Rattle.std.proofs.lemmas.List.{length-map, length-set}
 use Rattle.std.proofs.lemmas.List.Edits.{length-insert}
+use Rattle.mail_index.specs.declared.build.key_front.Fronted.{Fronted}
 use Rattle.mail_index.specs.Inside.KeyMaps.{rows, in_pages}
 use Rattle.mail_index.proofs.BuildLaws.PageLemmas.{parted, row-is}
 use Rattle.mail_index.proofs.build.key_order.split.Goals as goal
 
-abbrev items_of : Vec ℕ Global → List ℕ
+abbrev items_of : Vec Fronted Global → List Fronted
 items_of v = v.items
 
 pub returns-clause-between : goal.returns-clause-between
@@ -25,9 +26,8 @@ returns-clause-between c =
 pub returns-clause-same : goal.returns-clause-same
 returns-clause-same c =
     let row : c.deref.result.now ≡ get_or (rows c.args.pages.now.items) c.args.page [] = c.deref.ensures.value ∙ row-is c.args.pages.now.items c.args.page c.index.result.now c.requires.page c.index.ensures in
-    ap₂ in_pages (c.shorten.ensures ∙ ap (λ (l : List (Vec ℕ Global)). set (rows l) c.args.page (take c.args.half (get_or (rows l) c.args.page []))) c.in_ok-insert_page.ensures.pages) c.in_ok-insert_page.ensures.heads
-    ∙ parted c.args.pages.now.items c.args.heads.now.items c.args.page c.args.half 0 c.deref.result.now c.in_ok-head.rest c.in_ok-head.head c.requires.between c.requires.page c.requires.half row
-    c.in_ok-head.ensures.1 c.in_ok-head.ensures.0
+    ap₂ in_pages (c.shorten.ensures ∙ ap (λ (l : List (Vec Fronted Global)). set (rows l) c.args.page (take c.args.half (get_or (rows l) c.args.page []))) c.in_ok-insert_page.ensures.pages) c.in_ok-insert_page.ensures.heads
+    ∙ parted c.args.pages.now.items c.args.heads.now.items c.args.page c.args.half c.deref.result.now c.in_ok-head.rest c.in_ok-head.head c.requires.between c.requires.page row c.in_ok-head.ensures
 
 pub returns-clause-more : goal.returns-clause-more
 returns-clause-more c =

@@ -1,0 +1,180 @@
+-- Laws of fronts of keys: keys whose fronts differ lie as their fronts do.
+use Rattle.std.proofs.Common.{◌≡◌, ◌∙◌, ℕ, zero, suc, ◌+◌, ◌-◌, ◌*◌, ◌^◌, ◌<◌, ◌≤◌, Bool, true, false, nat_eq, nat_lt, List, [], ◌∷◌, ◌++◌, length, take, drop, min, replicate, set, get_or, refl, sym, ap, ap₂, subst, arith, length-append, nat_cmp, lit<, Fits, w8}
+use Rattle.std.specs.declared.cmp.Ordering.{Ordering}
+use Rattle.std.specs.declared.cmp.Ordering.TheVariants.{Less, Equal, Greater}
+use Rattle.std.specs.Ordering.{MatchOrdering, ordering_then, ordering_reverse}
+use Rattle.std.specs.Cmp.Lexicographic.{slice_cmp}
+use Rattle.std.specs.Int.{w64, from_be_bytes}
+use Rattle.std.specs.List.{AllByRecursion, insert}
+use Rattle.std.proofs.lemmas.Bool.Decides.{nat_tests}
+use Rattle.std.proofs.lemmas.Cmp.{nat_list_cmp_total, ranked}
+use Rattle.std.proofs.lemmas.List.{length-take-le, get_or_append_left, get_or-append_right, get_or-take, get_or-drop, get_or_past, get_or-set_same, get_or-set_other, length-set}
+use Rattle.std.proofs.Math.Seq.{get_or-append_seam}
+use Rattle.std.proofs.Math.Nat.{mul-le-mul_right, pow-succ'}
+use Rattle.mail_index.specs.declared.kind.Kind.{Kind}
+use Rattle.mail_index.specs.declared.kind.Kind.TheVariants.{Text, OwnId, LinkId}
+use Rattle.mail_words.specs.declared.kind.TextKind.TheVariants.{To, Cc, Bcc, From, Subject, Body, Name}
+use Rattle.mail_index.specs.Tables.{Key}
+use Rattle.mail_index.specs.Kinds.{kind_number}
+use Rattle.mail_index.specs.LookUps.{lies_to}
+use Rattle.mail_index.specs.KeysRead.{key_at, no_key}
+use Rattle.mail_index.specs.declared.build.key_front.Fronted.{Fronted}
+use Rattle.mail_index.specs.Inside.KeyFronts.{number_of_first, IsFrontOf, IsFronted}
+use Rattle.mail_index.specs.Inside.KeyMaps.{new_key, with_one}
+use Rattle.mail_index.proofs.BuildLaws.KeyMapLemmas.{all-inserted}
+
+-- ---- the number of some items
+
+abbrev AreBytes : List ℕ → Type 0
+AreBytes items = AllByRecursion (λ b. b < 256) items
+
+-- it is below the power for so many items
+number-below : (n : ℕ) (items : List ℕ) → AreBytes items → number_of_first n items < 256 ^ n
+unfolding number_of_first
+number-below zero items all = lit< tt
+number-below (suc n) [] all = omega (arith, number-below n [] tt, pow-succ' 256 n)
+number-below (suc n) (item ∷ items) all =
+    omega (arith, number-below n items all.1, pow-succ' 256 n, mul-le-mul_right (256 ^ n) (let h : suc item ≤ 256 = omega (arith, all.0) in h))
+
+-- the one of the lower number comes first
+lower-first : (n : ℕ) (xs ys : List ℕ) → AreBytes xs → AreBytes ys → number_of_first n xs < number_of_first n ys → slice_cmp nat_cmp xs ys ≡ Less
+unfolding number_of_first
+lower-first zero xs ys all others h = absurd (omega (arith, h))
+lower-first (suc n) xs [] all others h = absurd (omega (arith, h))
+lower-first (suc n) [] (y ∷ ys) all others h = refl
+lower-first (suc n) (x ∷ xs) (y ∷ ys) all others h = go (nat_cmp x y) (ranked x y (nat_cmp x y) refl) (lower-first n xs ys all.1 others.1)
+  where
+    go : (o : Ordering) → MatchOrdering o (x < y) (x ≡ y) (y < x) → (number_of_first n xs < number_of_first n ys → slice_cmp nat_cmp xs ys ≡ Less) → ordering_then o (slice_cmp nat_cmp xs ys) ≡ Less
+    go Less r rest = refl
+    go Equal r rest = rest (omega (arith, h, ap (λ (i : ℕ). i * 256 ^ n) r))
+    go Greater r rest = absurd (omega (arith, h, number-below n ys others.1, mul-le-mul_right (256 ^ n) (let le : suc y ≤ x = omega (arith, r) in le)))
+
+-- the same items at each place, and zeros behind them, give the same number
+weighed : ℕ → (ℕ → ℕ) → ℕ
+weighed zero f = 0
+weighed (suc n) f = f 0 * 256 ^ n + weighed n (λ i. f (suc i))
+
+number-weighed : (n : ℕ) (items : List ℕ) → number_of_first n items ≡ weighed n (λ i. get_or items i 0)
+unfolding number_of_first weighed
+number-weighed zero items = refl
+number-weighed (suc n) [] = nothing (suc n)
+  where
+    nothing : (m : ℕ) → 0 ≡ weighed m (λ _. 0)
+    nothing zero = refl
+    nothing (suc m) = omega (arith, nothing m)
+number-weighed (suc n) (item ∷ items) = ap (λ (k : ℕ). item * 256 ^ n + k) (number-weighed n items)
+
+weighed-same : (n : ℕ) (f g : ℕ → ℕ) → ((i : ℕ) → i < n → f i ≡ g i) → weighed n f ≡ weighed n g
+unfolding weighed
+weighed-same zero f g h = refl
+weighed-same (suc n) f g h = ap₂ (λ (a b : ℕ). a * 256 ^ n + b) (h 0 (omega arith)) (weighed-same n (λ i. f (suc i)) (λ i. g (suc i)) (λ i lt. h (suc i) (omega (arith, lt))))
+
+pub eight-bytes : (bytes items : List ℕ) → ((i : ℕ) → i < 8 → get_or bytes i 0 ≡ get_or items i 0) → from_be_bytes w64 bytes ≡ number_of_first 8 items
+unfolding weighed
+eight-bytes bytes items same =
+    let all : weighed 8 (λ i. get_or bytes i 0) ≡ number_of_first 8 items = weighed-same 8 (λ i. get_or bytes i 0) (λ i. get_or items i 0) same ∙ sym (number-weighed 8 items) in
+    omega (arith, all)
+
+abbrev zeros : ℕ → List ℕ
+zeros n = replicate n 0
+
+zeros-alone : (n i : ℕ) → get_or (zeros n) i 0 ≡ 0
+zeros-alone zero i = refl
+zeros-alone (suc n) zero = refl
+zeros-alone (suc n) (suc i) = zeros-alone n i
+
+-- a kind's number, as much of the text as has room, and zeros behind it
+pub padded-front : (kind : ℕ) (text part : List ℕ) (n m : ℕ) → n ≡ min (length text) 7 → part ≡ take n text → from_be_bytes w64 (kind ∷ part ++ drop m (zeros 7)) ≡ number_of_first 8 (kind ∷ text)
+padded-front kind text part n m e p = eight-bytes (kind ∷ part ++ drop m (zeros 7)) (kind ∷ text) same
+  where
+    long : length (take n text) ≡ n
+    long = length-take-le n text (omega (arith, e))
+
+    within : (i : ℕ) → i < 7 → (b : Bool) → nat_lt i n ≡ b → get_or (take n text ++ drop m (zeros 7)) i 0 ≡ get_or text i 0
+    within i lt true t =
+        let low : i < n = grind (arith, nat_tests) in
+        get_or_append_left (take n text) (drop m (zeros 7)) 0 i (omega (arith, low, long)) ∙ get_or-take n text i 0 low
+    within i lt false t =
+        let high : n ≤ i = grind (arith, nat_tests) in
+        get_or-append_right (take n text) (drop m (zeros 7)) n i 0 long high ∙ get_or-drop m (zeros 7) (i - n) 0 ∙ zeros-alone 7 (m + (i - n)) ∙ sym (get_or_past text i 0 (omega (arith, e, high, lt)))
+
+    same : (i : ℕ) → i < 8 → get_or (kind ∷ part ++ drop m (zeros 7)) i 0 ≡ get_or (kind ∷ text) i 0
+    same zero lt = refl
+    same (suc i) lt = ap (λ (l : List ℕ). get_or (l ++ drop m (zeros 7)) i 0) p ∙ within i (omega (arith, lt)) (nat_lt i n) refl
+
+-- ---- the order of keys
+
+kind-byte : (kind : Kind) → kind_number kind < 256
+kind-byte (Text To) = lit< tt
+kind-byte (Text Cc) = lit< tt
+kind-byte (Text Bcc) = lit< tt
+kind-byte (Text From) = lit< tt
+kind-byte (Text Subject) = lit< tt
+kind-byte (Text Body) = lit< tt
+kind-byte OwnId = lit< tt
+kind-byte LinkId = lit< tt
+kind-byte (Text Name) = lit< tt
+
+pub all-bytes : (text : List ℕ) → ((i : ℕ) → Fits w8 (get_or text i 0)) → AreBytes text
+all-bytes [] fits = tt
+all-bytes (b ∷ text) fits = ((fits 0).fits, all-bytes text (λ i. fits (suc i)))
+
+-- keys whose fronts differ lie as these do
+pub lies-as-fronts : (kind : Kind) (text : List ℕ) (front : ℕ) (k : Key) (own : ℕ) → IsFrontOf kind text front → IsFrontOf k.kind k.text own
+    → (o : Ordering) → o ≡ nat_cmp own front → (o ≡ Equal → ⊥) → o ≡ lies_to kind text k
+lies-as-fronts kind text front k own wanted is o e other = go o (ranked own front o e) other
+  where
+    go : (o : Ordering) → MatchOrdering o (own < front) (own ≡ front) (front < own) → (o ≡ Equal → ⊥) → o ≡ lies_to kind text k
+    go Less r other =
+        sym (lower-first 8 (kind_number k.kind ∷ k.text) (kind_number kind ∷ text) (kind-byte k.kind, is.bytes) (kind-byte kind, wanted.bytes) (omega (arith, r, is.value, wanted.value)))
+    go Equal r other = absurd (other refl)
+    go Greater r other =
+        sym (nat_list_cmp_total.antisymm (kind_number k.kind ∷ k.text) (kind_number kind ∷ text)
+        ∙ ap ordering_reverse (lower-first 8 (kind_number kind ∷ text) (kind_number k.kind ∷ k.text) (kind-byte kind, wanted.bytes) (kind-byte k.kind, is.bytes) (omega (arith, r, is.value, wanted.value))))
+
+-- ---- slots
+
+-- an entry keeps its kind and its text
+record IsSameKey (old new : Key) : Type 0 where
+  kind : old.kind ≡ new.kind
+  text : old.text ≡ new.text
+
+-- where the entries keep theirs, the slots keep their fronts
+fronted-kept : (old new : List Key) → length old ≤ length new → ((i : ℕ) → i < length old → IsSameKey (key_at old i) (key_at new i)) → (slots : List Fronted) → AllByRecursion (IsFronted old) slots → AllByRecursion (IsFronted new) slots
+fronted-kept old new more same [] all = tt
+fronted-kept old new more same (slot ∷ slots) all =
+    let is : IsFronted old slot = all.0 in
+    let key = same slot.number is.within in (
+      record {
+        within = omega (arith, is.within, more);
+        front = subst (λ (kind : Kind). IsFrontOf kind (key_at new slot.number).text slot.front) key.kind (subst (λ (text : List ℕ). IsFrontOf (key_at old slot.number).kind text slot.front) key.text is.front);
+      },
+      fronted-kept old new more same slots all.1,
+    )
+
+-- a key more, with its slot
+pub fronted-new : (kind : Kind) (text : List ℕ) (n : ℕ) (entries : List Key) (slots : List Fronted) (place front : ℕ) → IsFrontOf kind text front → AllByRecursion (IsFronted entries) slots
+    → AllByRecursion (IsFronted (entries ++ new_key kind text n ∷ [])) (insert slots place (record { number = length entries; front = front }))
+fronted-new kind text n entries slots place front new all =
+    let k : Key = new_key kind text n in
+    let long : length (entries ++ k ∷ []) ≡ suc (length entries) = length-append entries (k ∷ []) ∙ omega arith in
+    let here : key_at (entries ++ k ∷ []) (length entries) ≡ k = get_or-append_seam entries k [] no_key in
+    all-inserted (IsFronted (entries ++ k ∷ [])) slots place (record { number = length entries; front = front })
+    (fronted-kept entries (entries ++ k ∷ []) (omega (arith, long)) (λ i lt. let e : key_at (entries ++ k ∷ []) i ≡ key_at entries i = get_or_append_left entries (k ∷ []) no_key i lt in record { kind = ap (λ (k : Key). k.kind) (sym e); text = ap (λ (k : Key). k.text) (sym e) }) slots all)
+    (record { within = omega (arith, long); front = subst (λ (k : Key). IsFrontOf k.kind k.text front) (sym here) new })
+
+-- a number more of a key
+pub fronted-found : (entries : List Key) (i n : ℕ) (slots : List Fronted) → i < length entries → AllByRecursion (IsFronted entries) slots → AllByRecursion (IsFronted (set entries i (with_one (key_at entries i) n))) slots
+fronted-found entries i n slots lt all =
+    let k : Key = with_one (key_at entries i) n in
+    fronted-kept entries (set entries i k) (omega (arith, length-set entries i k)) (λ j h. same j (nat_eq j i) refl) slots all
+  where
+    same : (j : ℕ) → (t : Bool) → nat_eq j i ≡ t → IsSameKey (key_at entries j) (key_at (set entries i (with_one (key_at entries i) n)) j)
+    same j true t =
+        let e : j ≡ i = grind (arith, nat_tests) in
+        let here : key_at (set entries i (with_one (key_at entries i) n)) j ≡ with_one (key_at entries j) n =
+        ap (key_at (set entries i (with_one (key_at entries i) n))) e ∙ get_or-set_same entries i (with_one (key_at entries i) n) no_key lt ∙ ap (λ (m : ℕ). with_one (key_at entries m) n) (sym e) in
+        record { kind = ap (λ (k : Key). k.kind) (sym here); text = ap (λ (k : Key). k.text) (sym here) }
+    same j false t =
+        let there : key_at (set entries i (with_one (key_at entries i) n)) j ≡ key_at entries j = get_or-set_other entries i j (with_one (key_at entries i) n) no_key (grind (arith, nat_tests)) in
+        record { kind = ap (λ (k : Key). k.kind) (sym there); text = ap (λ (k : Key). k.text) (sym there) }
