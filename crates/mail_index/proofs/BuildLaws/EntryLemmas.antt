@@ -1,16 +1,16 @@
 -- Laws of an entry's bytes: the number of its kind, its text, and its postings.
 use Rattle.std.proofs.Common.{◌≡◌, ◌∙◌, ℕ, ◌+◌, ◌-◌, ◌^◌, ◌<◌, ◌≤◌, nat_le, Bool, true, false, cond, List, [], ◌∷◌, ◌++◌, length, take, drop, slice_index, refl, sym, ap, ap₂, subst, arith, append-nil, append_assoc, length-append}
 use Rattle.std.proofs.lemmas.Bool.Decides.{nat_tests}
-use Rattle.std.proofs.lemmas.List.{length-take, length-take-le, take-append-le, drop-append-le, drop_at}
+use Rattle.std.proofs.lemmas.List.{length-take-le, take-append-le, drop-append-le, drop_at}
 use Rattle.std.proofs.Math.Seq.{take-length, drop-append_seam}
 use Rattle.mail_index.specs.declared.kind.Kind.{Kind}
 use Rattle.mail_index.specs.Kinds.{kind_number, kind_of_number}
 use Rattle.mail_index.specs.Tables.{Key}
 use Rattle.mail_index.specs.Postings.{leb128}
 use Rattle.mail_index.specs.PostingLists.{end_from, numbers_of}
-use Rattle.mail_index.specs.Inside.KeyMaps.{with_one, key_in, short_front, front_holder, key_bytes, AreEntryBytes}
+use Rattle.mail_index.specs.Inside.KeyMaps.{new_key, with_one, key_in, short_front, front_holder, key_bytes, AreEntryBytes, HoldsFront}
 use Rattle.mail_index.proofs.ViewLaws.KindNumbers.{kind_of-number}
-use Rattle.mail_index.proofs.BuildLaws.PostingLemmas.{posted-nil, numbers_of-nil, posted-more, numbers_of-more, with_number-low, with_number-new}
+use Rattle.mail_index.proofs.BuildLaws.PostingLemmas.{posted-nil, numbers_of-nil, posted-more, numbers_of-more, with_number-low, with_number-new, with_number-nil}
 
 -- ---- no postings
 
@@ -22,14 +22,14 @@ behind-none b text =
     let long : length text + 1 ≡ length (b ∷ text) = omega arith in
     ap₂ (λ (n : ℕ) (l : List ℕ). drop n l) long (sym (append-nil (b ∷ text))) ∙ drop-append_seam (b ∷ text) []
 
-pub entry-none : (kind : Kind) (text bytes : List ℕ) → bytes ≡ kind_number kind ∷ text → AreEntryBytes bytes (length text + 1) 0
+entry-none : (kind : Kind) (text bytes : List ℕ) → bytes ≡ kind_number kind ∷ text → AreEntryBytes bytes (length text + 1) 0
 entry-none kind text bytes e = subst (λ (l : List ℕ). AreEntryBytes l (length text + 1) 0) (sym e) (record {
   long = omega arith;
   kind = rw (front-all (kind_number kind) text) (ap (λ (k : Kind). kind_number k ∷ text) (kind_of-number kind));
   posted = rw (behind-none (kind_number kind) text) posted-nil;
 })
 
-pub key-none : (kind : Kind) (text bytes : List ℕ) → bytes ≡ kind_number kind ∷ text → key_in (take (length text + 1) bytes) (drop (length text + 1) bytes) ≡ record { kind = kind; text = text; numbers = [] }
+key-none : (kind : Kind) (text bytes : List ℕ) → bytes ≡ kind_number kind ∷ text → key_in (take (length text + 1) bytes) (drop (length text + 1) bytes) ≡ record { kind = kind; text = text; numbers = [] }
 key-none kind text bytes e =
     ap₂ key_in (ap (take (length text + 1)) e ∙ front-all (kind_number kind) text) (ap (drop (length text + 1)) e ∙ behind-none (kind_number kind) text)
     ∙ ap₂ (λ (k : Kind) (ns : List ℕ). let key : Key = record { kind = k; text = text; numbers = ns } in key) (kind_of-number kind) numbers_of-nil
@@ -72,38 +72,6 @@ pub key_bytes-more : (kept : List ℕ) (n : ℕ) (bytes recent bytes' recent' mo
     → key_bytes kept n bytes' recent' ≡ key_bytes kept n bytes recent ++ more
 key_bytes-more kept n bytes recent bytes' recent' more e = ap (λ (l : List ℕ). short_front kept n ++ l) e ∙ sym (append_assoc (short_front kept n) (bytes ++ recent) more)
 
--- a front alone, kept apart or not, with no postings behind it
-pub record IsNew (kind : Kind) (text kept bytes recent : List ℕ) : Type 0 where
-  pub entry : AreEntryBytes (key_bytes kept (length text + 1) bytes recent) (length text + 1) 0
-  pub key : key_in (take (length text + 1) (key_bytes kept (length text + 1) bytes recent)) (drop (length text + 1) (key_bytes kept (length text + 1) bytes recent)) ≡ record { kind = kind; text = text; numbers = [] }
-  pub long : length text + 1 ≤ length (front_holder kept (length text + 1) bytes)
-
-pub new-short : (kind : Kind) (text kept bytes recent : List ℕ) → length text < 16 → take (length text + 1) kept ≡ kind_number kind ∷ text → bytes ≡ [] → recent ≡ [] → IsNew kind text kept bytes recent
-new-short kind text kept bytes recent h front none none' =
-    let n : ℕ = length text + 1 in
-    let whole : key_bytes kept n bytes recent ≡ kind_number kind ∷ text =
-    ap₂ (λ (a b : List ℕ). short_front kept n ++ (a ++ b)) none none' ∙ append-nil (short_front kept n) ∙ short-front kept n (omega (arith, h)) ∙ front in
-    let e : nat_le n 16 ≡ true = grind (arith, nat_tests, h) in
-    let within : n ≤ length kept = omega (arith, ap length front, length-take n kept) in
-    record {
-      entry = entry-none kind text (key_bytes kept n bytes recent) whole;
-      key = key-none kind text (key_bytes kept n bytes recent) whole;
-      long = subst (λ (b : Bool). n ≤ length (cond b kept bytes)) (sym e) within;
-    }
-
-pub new-long : (kind : Kind) (text kept bytes recent : List ℕ) → 16 ≤ length text → bytes ≡ kind_number kind ∷ text → recent ≡ [] → IsNew kind text kept bytes recent
-new-long kind text kept bytes recent h front none =
-    let n : ℕ = length text + 1 in
-    let whole : key_bytes kept n bytes recent ≡ kind_number kind ∷ text =
-    ap₂ (λ (a b : List ℕ). a ++ (bytes ++ b)) (long-front kept n (omega (arith, h))) none ∙ append-nil bytes ∙ front in
-    let e : nat_le n 16 ≡ false = grind (arith, nat_tests, h) in
-    let within : n ≤ length bytes = omega (arith, ap length front) in
-    record {
-      entry = entry-none kind text (key_bytes kept n bytes recent) whole;
-      key = key-none kind text (key_bytes kept n bytes recent) whole;
-      long = subst (λ (b : Bool). n ≤ length (cond b kept bytes)) (sym e) within;
-    }
-
 -- ---- one more number
 
 pub entry-more : (bytes : List ℕ) (front next n : ℕ) → AreEntryBytes bytes front next → next ≤ n → n + 1 < 2 ^ 32 → AreEntryBytes (bytes ++ leb128 5 (n + 1 - next)) front (n + 1)
@@ -129,3 +97,27 @@ pub key-same : (bytes : List ℕ) (front next n : ℕ) → AreEntryBytes bytes f
 key-same bytes front next n i low =
     let old : n < end_from 0 (numbers_of (drop front bytes)) = omega (arith, i.posted.ends, low) in
     ap (λ (ns : List ℕ). let key : Key = record { kind = kind_of_number (slice_index (take front bytes) 0); text = drop 1 (take front bytes); numbers = ns } in key) (sym (with_number-low (numbers_of (drop front bytes)) n old))
+
+-- ---- one number
+
+-- with the first posting behind them they are the bytes of a key of one message
+new-whole : (kind : Kind) (text kept bytes recent : List ℕ) (n : ℕ) → HoldsFront kind text kept bytes → recent ≡ leb128 5 (n + 1)
+    → key_bytes kept (length text + 1) bytes recent ≡ (kind_number kind ∷ text) ++ leb128 5 (n + 1 - 0)
+new-whole kind text kept bytes recent n holds e =
+    key_bytes-more kept (length text + 1) bytes [] bytes recent recent (ap (λ (l : List ℕ). l ++ recent) (sym (append-nil bytes)))
+    ∙ ap₂ (λ (a b : List ℕ). a ++ b) holds.whole (e ∙ ap (leb128 5) (let same : n + 1 ≡ n + 1 - 0 = omega arith in same))
+
+pub entry-new : (kind : Kind) (text kept bytes recent : List ℕ) (n : ℕ) → HoldsFront kind text kept bytes → recent ≡ leb128 5 (n + 1) → n + 1 < 2 ^ 32
+    → AreEntryBytes (key_bytes kept (length text + 1) bytes recent) (length text + 1) (n + 1)
+entry-new kind text kept bytes recent n holds e high =
+    subst (λ (l : List ℕ). AreEntryBytes l (length text + 1) (n + 1)) (sym (new-whole kind text kept bytes recent n holds e))
+    (entry-more (kind_number kind ∷ text) (length text + 1) 0 n (entry-none kind text (kind_number kind ∷ text) refl) (omega arith) high)
+
+pub key-new : (kind : Kind) (text kept bytes recent : List ℕ) (n : ℕ) → HoldsFront kind text kept bytes → recent ≡ leb128 5 (n + 1) → n + 1 < 2 ^ 32
+    → key_in (take (length text + 1) (key_bytes kept (length text + 1) bytes recent)) (drop (length text + 1) (key_bytes kept (length text + 1) bytes recent)) ≡ new_key kind text n
+key-new kind text kept bytes recent n holds e high =
+    let front : List ℕ = kind_number kind ∷ text in
+    ap (λ (l : List ℕ). key_in (take (length text + 1) l) (drop (length text + 1) l)) (new-whole kind text kept bytes recent n holds e)
+    ∙ key-more front (length text + 1) 0 n (entry-none kind text front refl) (omega arith) high
+    ∙ ap (λ (k : Key). with_one k n) (key-none kind text front refl)
+    ∙ ap (λ (ns : List ℕ). let key : Key = record { kind = kind; text = text; numbers = ns } in key) (with_number-nil n)

@@ -47,6 +47,11 @@ front_holder kept front bytes = if nat_le front 16 then kept else bytes
 abbrev pub key_bytes : List ℕ → ℕ → List ℕ → List ℕ → List ℕ
 key_bytes kept front bytes recent = short_front kept front ++ (bytes ++ recent)
 
+-- the place that is kept apart and the other bytes hold the number of a kind and a text, with nothing behind them
+pub record HoldsFront (kind : Kind) (text kept bytes : List ℕ) : Type 0 where
+  pub whole : key_bytes kept (length text + 1) bytes [] ≡ kind_number kind ∷ text
+  pub long : length text + 1 ≤ length (front_holder kept (length text + 1) bytes)
+
 -- ---- the order of the entries
 
 -- the keys of these numbers

@@ -2,7 +2,7 @@
 ghost use Rattle.std.specs.Prelude.{◌≡◌, ◌+◌, ◌<◌, ◌≤◌, [], ◌∷◌, ◌++◌, length, take, IfSome, OnOk, OnErr, IfOk};
 ghost use Rattle.std.specs.Bool.{Decides};
 ghost use Rattle.std.specs.Ordering.{is_eq};
-ghost use Rattle.mail_index.specs.Inside.KeyMaps.{new_key, with_one};
+ghost use Rattle.mail_index.specs.Inside.KeyMaps.{new_key, with_one, HoldsFront};
 ghost use Rattle.mail_index.specs.Kinds.{kind_number};
 ghost use Rattle.mail_index.specs.LookUps.{lies_to};
 ghost use Rattle.mail_index.specs.Postings.{leb128, postings};
@@ -56,41 +56,14 @@ impl KeyEntry {
         requires short { length text.now < four_byte_limit }
         ensures { IfOk result (λ entry. entry ≡ new_key kind text.now number) }
     {
-        let mut entry = KeyEntry::without_numbers(alloc, kind, text)?;
-        entry.push(number)?;
-        Ok(entry)
-    }
-
-    // A key of no message.
-    fn without_numbers(alloc: Global, kind: Kind, text: &[u8]) -> Result<Self, AllocError>
-        requires { length text.now < four_byte_limit }
-        ensures { IfOk result (λ entry. entry ≡ record { kind = kind; text = text.now; numbers = [] }) }
-    {
-        if text.len() < SHORT {
-            return Ok(KeyEntry::of_front(alloc, kind, text));
-        }
-        let bytes = front_bytes(alloc, kind, text)?;
+        let (front, bytes) = front_and_bytes(alloc, kind, text)?;
         Ok(KeyEntry {
             text_length: text.len() as u32,
-            next: 0,
-            front: [0; SHORT],
-            recent: ShortBytes::new(),
+            next: number + 1,
+            front,
+            recent: leb128_of(number + 1),
             bytes,
         })
-    }
-
-    // A short key of no message.
-    fn of_front(alloc: Global, kind: Kind, text: &[u8]) -> Self
-        requires { length text.now < 16 }
-        ensures { result ≡ record { kind = kind; text = text.now; numbers = [] } }
-    {
-        KeyEntry {
-            text_length: text.len() as u32,
-            next: 0,
-            front: front_of(kind, text),
-            recent: ShortBytes::new(),
-            bytes: Vec::new(alloc),
-        }
     }
 
     /// Adds a message's number, unless the last is as large. A refused growth changes nothing.
@@ -246,6 +219,22 @@ fn append_any(
     }
     recent.append(more);
     Ok(())
+}
+
+// The kind's number and the text: those that are short apart, and others among the bytes outside the entry.
+fn front_and_bytes(
+    alloc: Global,
+    kind: Kind,
+    text: &[u8],
+) -> Result<([u8; SHORT], Vec<u8>), AllocError>
+    requires { length text.now < four_byte_limit }
+    ensures { IfOk result (λ parts. HoldsFront kind text.now parts.0 parts.1.items) }
+{
+    if text.len() < SHORT {
+        return Ok((front_of(kind, text), Vec::new(alloc)));
+    }
+    let bytes = front_bytes(alloc, kind, text)?;
+    Ok(([0; SHORT], bytes))
 }
 
 // The kind's number and the text, with zeros behind them.

@@ -1,10 +1,13 @@
-use Rattle.std.proofs.Common.{◌∙◌, ℕ, List, ap}
-use Rattle.mail_index.specs.Tables.{Key}
-use Rattle.mail_index.specs.Inside.KeyMaps.{with_one}
-use Rattle.mail_index.proofs.BuildLaws.PostingLemmas.{with_number-nil}
+use Rattle.std.proofs.Common.{◌+◌, ◌^◌, ◌<◌, arith}
+use Rattle.mail_index.proofs.BuildLaws.EntryLemmas.{entry-new, key-new}
 use Rattle.mail_index.proofs.build.key_entry.KeyEntry.new.Goals as goal
+
+pub invariant_of-result : goal.invariant_of-result
+invariant_of-result c =
+    let high : c.args.number + 1 < 2 ^ 32 = omega arith in
+    (entry-new c.args.kind c.args.text.now c.in_ok-front.front c.in_ok-front.bytes.items c.leb128_of.result c.args.number c.in_ok-front.ensures c.leb128_of.ensures.bytes high, c.in_ok-front.ensures.long)
 
 pub returns : goal.returns
 returns c =
-    c.in_ok-push.ensures.ok ∙ ap (λ (k : Key). with_one k c.args.number) c.in_ok-entry.ensures
-    ∙ ap (λ (ns : List ℕ). let key : Key = record { kind = c.args.kind; text = c.args.text.now; numbers = ns } in key) (with_number-nil c.args.number)
+    let high : c.args.number + 1 < 2 ^ 32 = omega arith in
+    key-new c.args.kind c.args.text.now c.in_ok-front.front c.in_ok-front.bytes.items c.leb128_of.result c.args.number c.in_ok-front.ensures c.leb128_of.ensures.bytes high
