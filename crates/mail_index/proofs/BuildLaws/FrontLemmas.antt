@@ -23,7 +23,7 @@ use Rattle.mail_index.specs.Inside.KeyFronts.{number_of_first, IsFrontOf, IsFron
 use Rattle.mail_index.specs.Inside.KeyMaps.{new_key, with_one}
 use Rattle.mail_index.proofs.BuildLaws.KeyMapLemmas.{all-inserted}
 
--- ---- the number of some items
+-- ---- the order of some items
 
 abbrev AreBytes : List ℕ → Type 0
 AreBytes items = AllByRecursion (λ b. b < 256) items
@@ -49,7 +49,9 @@ lower-first (suc n) (x ∷ xs) (y ∷ ys) all others h = go (nat_cmp x y) (ranke
     go Equal r rest = rest (omega (arith, h, ap (λ (i : ℕ). i * 256 ^ n) r))
     go Greater r rest = absurd (omega (arith, h, number-below n ys others.1, mul-le-mul_right (256 ^ n) (let le : suc y ≤ x = omega (arith, r) in le)))
 
--- the same items at each place, and zeros behind them, give the same number
+-- ---- the number of eight bytes
+
+-- n values to the base 256
 weighed : ℕ → (ℕ → ℕ) → ℕ
 weighed zero f = 0
 weighed (suc n) f = f 0 * 256 ^ n + weighed n (λ i. f (suc i))
@@ -69,7 +71,8 @@ unfolding weighed
 weighed-same zero f g h = refl
 weighed-same (suc n) f g h = ap₂ (λ (a b : ℕ). a * 256 ^ n + b) (h 0 (omega arith)) (weighed-same n (λ i. f (suc i)) (λ i. g (suc i)) (λ i lt. h (suc i) (omega (arith, lt))))
 
-pub eight-bytes : (bytes items : List ℕ) → ((i : ℕ) → i < 8 → get_or bytes i 0 ≡ get_or items i 0) → from_be_bytes w64 bytes ≡ number_of_first 8 items
+-- where they are the same items at each place, also behind the end, their numbers are
+eight-bytes : (bytes items : List ℕ) → ((i : ℕ) → i < 8 → get_or bytes i 0 ≡ get_or items i 0) → from_be_bytes w64 bytes ≡ number_of_first 8 items
 unfolding weighed
 eight-bytes bytes items same =
     let all : weighed 8 (λ i. get_or bytes i 0) ≡ number_of_first 8 items = weighed-same 8 (λ i. get_or bytes i 0) (λ i. get_or items i 0) same ∙ sym (number-weighed 8 items) in

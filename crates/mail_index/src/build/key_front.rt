@@ -8,8 +8,8 @@ const TEXT_BYTES: usize = 7;
 
 /// The number of an entry, and the front of its key.
 ///
-/// Those of many keys stand close together, while an entry mostly has to be waited for: a search reads one only where its
-/// front is the wanted one.
+/// The fronts of many keys stand close together, while an entry mostly has to be waited for: so a search reads an entry only
+/// where its front is the wanted one.
 #[derive(Clone, Copy)]
 pub struct Fronted {
     pub number: u32,

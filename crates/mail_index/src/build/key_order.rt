@@ -13,17 +13,16 @@ use crate::build::key_search::search;
 use crate::kind::Kind;
 use std::alloc::{AllocError, Global};
 
-/// A page is split in two once it has so many slots, and its share of the pages' number.
+/// A page is split in two once it has so many slots, and one for each `PAGES_FOR_A_SLOT` of the pages.
 const PAGE: usize = 48;
 
-/// A page has a slot for each so many pages, where that is more.
+/// For so many pages more each page gets a slot more.
 const PAGES_FOR_A_SLOT: usize = 20;
 
 /// The numbers of entries in the order of their keys, each with the key's front: pages of such slots, and between each and
-/// the next one slot more, the head of the next. So a key is found by two binary searches, and one is inserted by moving
-/// the slots of one page.
-/// Of very many numbers both the pages and what one of them has grow with the root of their count, and so does what an
-/// insertion moves, in whatever order the keys come.
+/// the next one slot more, the head of the next. So a key is found by two binary searches, and inserted by moving the
+/// slots of one page. Of very many keys both the pages and what one of them has grow with the root of their count, and
+/// so does what an insertion moves, in whatever order the keys come.
 #[derive(Drop)]
 pub struct KeyOrder {
     pub heads: Vec<Fronted>,

@@ -13,8 +13,8 @@ use crate::build::key_front::Fronted;
 use crate::kind::Kind;
 use std::cmp::Ordering;
 
-/// The number of the entry of this key among those of these slots, which stand in order; where none of them is it,
-/// the place between them where it would stand. A binary search.
+/// The number of the entry of this key, of this front, among those of these slots, which stand in order; where none of
+/// them is it, the place between them where it would stand. A binary search.
 pub fn search(
     slots: &[Fronted],
     entries: &[KeyEntry],
@@ -41,7 +41,7 @@ pub fn search(
     Err(low)
 }
 
-// How the key of a slot lies to another, of that front. Its entry is read only where the fronts are equal.
+// How the key of a slot lies to this one, of this front. Its entry is read only where the fronts are equal.
 fn compare(slot: Fronted, entries: &[KeyEntry], front: u64, kind: Kind, text: &[u8]) -> Ordering
     requires slot { IsFronted entries.now slot }
     requires front { IsFrontOf kind text.now front }
