@@ -108,7 +108,7 @@ def option_checks(known):
 
 def told_texts():
     """The texts in which the program tells of faults. Its match of all faults in explanation.rt is complete, or it wouldn't be built."""
-    code = re.sub(r"(?m)^ *(?:///|ghost|ensures).*$", "", source("mairix_tool/src/explanation.rt"))
+    code = re.sub(r"(?m)^ *(?:///|ghost|ensures).*$", "", source("run_faults/src/explanation.rt"))
     texts = set(re.findall(r'"([^"{}]+)"', code)) - {"archive", "rcfile line", "query item"}
     for path in ("mairix_tool/src/program.rt", "mairix/src/main.rt"):
         texts |= {it.strip() for it in re.findall(r'"mairix: ([^"\\{]+)', source(path))}

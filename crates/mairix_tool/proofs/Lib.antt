@@ -1,4 +1,4 @@
-mod RowsStatuses
+mod RowsVersions
 pub mod ArchiveLaws
 pub mod TableLaws
 pub mod ReplyLaws

@@ -1,8 +1,8 @@
 -- All archives indexed: the file that is made of them, or the first that is at fault.
 use Rattle.std.specs.Prelude.{◌≡◌, ⊤, ℕ, List, [], ◌∷◌, ◌++◌, length}
 use Rattle.mbox_cutter.specs.declared.event.CutFault.TheVariants.{Device, NotAnMbox, ArchiveTooLong, Failed}
-use Rattle.mairix_tool.specs.declared.fault.Fault.{Fault}
-use Rattle.mairix_tool.specs.declared.fault.Fault.TheVariants.{Archive, TooMany, Memory}
+use Rattle.run_faults.specs.declared.fault.Fault.{Fault}
+use Rattle.run_faults.specs.declared.fault.Fault.TheVariants.{Archive, TooMany, Memory}
 use Rattle.index_job.specs.declared.job_fault.JobFault.{JobFault}
 use Rattle.index_job.specs.declared.job_fault.JobFault.TheVariants as job
 use Rattle.index_job.specs.ArchiveTables.{Mbox}

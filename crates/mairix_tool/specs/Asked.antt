@@ -9,8 +9,8 @@ use Rattle.mail_answer.specs.declared.format.Format.TheVariants as format
 use Rattle.mail_query.specs.declared.fault.QueryFault.{QueryFault}
 use Rattle.mail_query.specs.Mail.{mairix_query, boolean_query}
 use Rattle.mail_query.specs.Query.{Query}
-use Rattle.mairix_tool.specs.declared.fault.Fault.{Fault}
-use Rattle.mairix_tool.specs.declared.fault.Fault.TheVariants as of
+use Rattle.run_faults.specs.declared.fault.Fault.{Fault}
+use Rattle.run_faults.specs.declared.fault.Fault.TheVariants as of
 use Rattle.mairix_options.specs.declared.command_line.Plan.{Plan}
 use Rattle.mairix_options.specs.declared.mail_format.MailFormat.{MailFormat}
 use Rattle.mairix_options.specs.declared.mail_format.MailFormat.TheVariants as mail

@@ -4,8 +4,8 @@ use Rattle.std.specs.Bool.{OnTrue}
 use Rattle.contract_words.specs.Devices.{Counted}
 use Rattle.mail_answer.specs.Mail.{Search}
 use Rattle.mail_answer.specs.declared.format.Format.TheVariants.{Raw}
-use Rattle.mairix_tool.specs.declared.fault.Fault.{Fault}
-use Rattle.mairix_tool.specs.Faults.{is_changed_or_unread, is_failed_source}
+use Rattle.run_faults.specs.declared.fault.Fault.{Fault}
+use Rattle.run_faults.specs.Faults.{is_changed_or_unread, is_failed_source}
 
 -- The count of failures of the source that failed rises by one, those of the others stay.
 abbrev pub CountsSources : Option Fault → List ℕ → List ℕ → Type 0

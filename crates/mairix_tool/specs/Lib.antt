@@ -1,5 +1,3 @@
-pub mod Faults
-pub mod FaultTexts
 pub mod ArchivesIndexed
 pub mod Chosen
 pub mod MailOfArchives

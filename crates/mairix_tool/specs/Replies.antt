@@ -1,14 +1,14 @@
 -- The reply of a run and its text, and what each reply keeps to.
 use Rattle.std.specs.Prelude.{◌≡◌, ⊤, ℕ, List, [], take, false, nat_eq, if◌then◌else◌, Option, None, Some, Result, Ok, Err}
 use Rattle.std.specs.Bool.{MatchBool}
-use Rattle.mairix_tool.specs.declared.fault.TheConstants.{DONE, NO_MESSAGE}
-use Rattle.mairix_tool.specs.declared.fault.Fault.{Fault}
-use Rattle.mairix_tool.specs.declared.fault.Fault.TheVariants.{Archive}
-use Rattle.mairix_tool.specs.declared.fault.Reply.{Reply}
+use Rattle.run_faults.specs.declared.fault.TheConstants.{DONE, NO_MESSAGE}
+use Rattle.run_faults.specs.declared.fault.Fault.{Fault}
+use Rattle.run_faults.specs.declared.fault.Fault.TheVariants.{Archive}
+use Rattle.mairix_tool.specs.declared.reply.Reply.{Reply}
 use Rattle.index_job.specs.ArchiveRefusals.{AreSound}
 use Rattle.mairix_tool.specs.ArchivesIndexed.{mboxes}
 use Rattle.mairix_tool.specs.Asked.{Wanted}
-use Rattle.mairix_tool.specs.Faults.{status_of_fault, is_early, is_memory}
+use Rattle.run_faults.specs.Faults.{status_of_fault, is_early, is_memory}
 
 -- ---- the answer
 

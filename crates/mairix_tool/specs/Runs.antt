@@ -16,16 +16,16 @@ use Rattle.mail_index.specs.declared.view.fault.IndexFault.{IndexFault}
 use Rattle.mail_index.specs.Faults.{IsFileOf, IsFirstFault}
 use Rattle.mail_index.specs.Tables.{Archive, Table}
 use Rattle.mail_query.specs.Query.{uses_names}
-use Rattle.mairix_tool.specs.declared.fault.Fault.{Fault}
-use Rattle.mairix_tool.specs.declared.fault.Fault.TheVariants as of
-use Rattle.mairix_tool.specs.declared.fault.Fault.TheVariants.{Index, OldIndex, Stale}
-use Rattle.mairix_tool.specs.declared.fault.Reply.{Reply}
+use Rattle.run_faults.specs.declared.fault.Fault.{Fault}
+use Rattle.run_faults.specs.declared.fault.Fault.TheVariants as of
+use Rattle.run_faults.specs.declared.fault.Fault.TheVariants.{Index, OldIndex, Stale}
+use Rattle.mairix_tool.specs.declared.reply.Reply.{Reply}
 use Rattle.mairix_tool.specs.declared.stored.TheConstants.{FIRST_VERSION}
 use Rattle.index_job.specs.ArchiveRefusals.{AreSound}
 use Rattle.index_job.specs.ArchiveTables.{Mbox, table}
 use Rattle.mairix_tool.specs.ArchivesIndexed.{mboxes, Refuses, IsArchivesFault}
 use Rattle.mairix_tool.specs.Asked.{Wanted}
-use Rattle.mairix_tool.specs.Faults.{is_failure, is_memory, status_of_fault}
+use Rattle.run_faults.specs.Faults.{is_failure, is_memory, status_of_fault}
 use Rattle.mairix_tool.specs.MailOfArchives.{mail_in, shape}
 use Rattle.mairix_tool.specs.Replies.{Answer, refused, status_of_count}
 

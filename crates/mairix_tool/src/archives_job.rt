@@ -7,11 +7,11 @@ ghost use Rattle.index_job.specs.ArchiveRefusals.{AreSound};
 ghost use Rattle.mairix_tool.specs.ArchivesIndexed.{mboxes, fault_of_job, IsArchivesFault};
 ghost use Rattle.index_job.specs.IndexJobs.{IsIndexOf};
 ghost use Rattle.mairix_tool.specs.Counts.{CountsSources};
-ghost use Rattle.mairix_tool.specs.Faults.{fault_in, is_failed_out, is_early, IsOfIndexing};
+ghost use Rattle.run_faults.specs.Faults.{fault_in, is_failed_out, is_early, IsOfIndexing};
 
-use crate::fault::Fault;
 use index_job::{IndexJob, JobFault};
 use mbox_cutter::{CutFault, Source};
+use run_faults::Fault;
 use std::alloc::Global;
 
 /// What a run answers of a job's fault at the archive of this number.

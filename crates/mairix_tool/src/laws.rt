@@ -16,7 +16,7 @@ ghost use Rattle.mail_answer.specs.declared.format.Format.{Format};
 ghost use Rattle.mairix_tool.specs.Runs.{IsOnceReply, IsReply, IsStoredReply};
 ghost use Rattle.mairix_tool.specs.MailOfArchives.{mail_in, shape};
 ghost use Rattle.mairix_tool.specs.Replies.{Answer};
-ghost use Rattle.mairix_tool.specs.declared.fault.Fault.{Fault};
+ghost use Rattle.run_faults.specs.declared.fault.Fault.{Fault};
 
 use mail_index::IndexView;
 

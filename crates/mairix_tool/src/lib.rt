@@ -2,18 +2,15 @@
 #![tactic(auto)]
 
 mod archives_job;
-mod explanation;
-mod fault;
 mod laws;
 mod memory_file;
 mod once;
 mod program;
+mod reply;
 mod stored;
 mod view_answer;
 mod wanted;
 
-pub use explanation::fault_text;
-pub use fault::{Fault, Reply};
 pub use index_job::{IndexJob, JobFault};
 pub use laws::{
     a_table_replies_as_its_archives, an_answer_is_cut_into_its_messages,
@@ -27,4 +24,6 @@ pub use mairix_options::{
 };
 pub use once::once_run;
 pub use program::run_program;
+pub use reply::Reply;
+pub use run_faults::{Fault, fault_text};
 pub use stored::search_run;

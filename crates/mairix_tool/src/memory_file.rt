@@ -8,11 +8,11 @@ ghost use Rattle.index_job.specs.ArchiveRefusals.{AreSound};
 ghost use Rattle.index_job.specs.ArchiveTables.{table};
 ghost use Rattle.mairix_tool.specs.ArchivesIndexed.{mboxes, IsArchivesFault};
 ghost use Rattle.mairix_tool.specs.Counts.{CountsSources};
-ghost use Rattle.mairix_tool.specs.Faults.{fault_in, is_failed_out, is_early, IsOfIndexing};
+ghost use Rattle.run_faults.specs.Faults.{fault_in, is_failed_out, is_early, IsOfIndexing};
 
 use crate::archives_job::{fault_of_job, job_of_archives};
-use crate::fault::Fault;
 use mbox_cutter::{MemoryOut, Source};
+use run_faults::Fault;
 use std::alloc::Global;
 
 /// The index file of the archives, in memory; or the first of them that is at fault.

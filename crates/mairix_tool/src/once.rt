@@ -8,17 +8,18 @@ ghost use Rattle.mail_index.specs.Faults.{IsFileOf};
 ghost use Rattle.mail_index.specs.Tables.{Table};
 ghost use Rattle.mairix_tool.specs.Asked.{asked_rc, asked, wanted as wanted_of};
 ghost use Rattle.mairix_tool.specs.Counts.{CountsSources, KeepsRawBack};
-ghost use Rattle.mairix_tool.specs.Faults.{fault_in, is_failed_out, is_failed_archives, is_early, is_of_indexing, IsOnceFault};
+ghost use Rattle.run_faults.specs.Faults.{fault_in, is_failed_out, is_failed_archives, is_early, is_of_indexing, IsOnceFault};
 ghost use Rattle.mairix_tool.specs.Replies.{RefusesAsked, AreSoundBefore, IsConsistent};
 ghost use Rattle.mairix_tool.specs.Runs.{IsReply, IsOnceReply, RepliesBy, IsIndexed, IsUnindexed};
 
-use crate::fault::{Fault, Reply};
 use crate::memory_file::file_of_archives;
+use crate::reply::Reply;
 use crate::view_answer::answer_bytes;
 use crate::wanted::Wanted;
 use mail_answer::Archives;
 use mail_dates::Moment;
 use mbox_cutter::{MemoryOut, Out, Source};
+use run_faults::Fault;
 use std::alloc::Global;
 
 /// Indexes the archives from their sources in memory, and writes the messages that words and rcfile ask for: those whose own

@@ -6,14 +6,13 @@ mod read_files;
 mod search;
 mod stopped;
 
-use crate::explanation::{CANNOT_OPEN, OUT_OF_MEMORY, fault_text};
-use crate::fault::{FAILED, Fault};
 use crate::program::new_index::replace_index;
 use crate::program::search::{Search, run_search};
 use crate::program::stopped::Stopped;
 use mail_dates::Moment;
 use mairix_files::read_whole;
 use mairix_options::{Plan, UsageFault, plan_of, read_rc, usage_text};
+use run_faults::{CANNOT_OPEN, FAILED, Fault, OUT_OF_MEMORY, fault_text};
 use std::alloc::Global;
 use std::fs;
 use std::fs::File;

@@ -15,17 +15,18 @@ ghost use Rattle.mairix_tool.specs.Asked.{asked, Wanted as Asked, wanted as want
 ghost use Rattle.mairix_tool.specs.OldTables.{but_digests, old_table};
 ghost use Rattle.mairix_tool.specs.Counts.{KeepsRawBack};
 ghost use Rattle.mairix_tool.specs.Inside.Answering.{AsksIndex};
-ghost use Rattle.mairix_tool.specs.Faults.{fault_in, refusal_of, is_failed_out, is_failed_archives, is_of_index, IsOfAnswer, IsSearchFault};
+ghost use Rattle.run_faults.specs.Faults.{fault_in, refusal_of, is_failed_out, is_failed_archives, is_of_index, IsOfAnswer, IsSearchFault};
 ghost use Rattle.mairix_tool.specs.Replies.{RefusesAsked, IsConsistent};
 ghost use Rattle.mairix_tool.specs.Runs.{IsReply, IsStoredReply, IsProvedAndTold, IsStaleOr, TellsProved, unproved_archive, RepliesBy, reply_of, IsRefusedAs, IsIndexRefusal, IsThisOrMemory, IsCountedWhere, is_too_old, renamed_archive};
 
-use crate::fault::{Fault, Reply};
+use crate::reply::Reply;
 use crate::view_answer::{answer_view, fault_of_answer};
 use crate::wanted::Wanted;
 use mail_answer::{Archives, verify};
 use mail_dates::Moment;
 use mail_index::IndexView;
 use mbox_cutter::Out;
+use run_faults::Fault;
 use std::alloc::Global;
 
 /// The version of index files that have neither digests of archives nor names of parts.

@@ -6,11 +6,11 @@ ghost use Rattle.mairix_tool.specs.Asked.{wanted as wanted_of};
 ghost use Rattle.mairix_tool.specs.Inside.Answering.{AsksIndex};
 ghost use Rattle.mairix_tool.specs.Runs.{IsTold, RepliesBy, reply_of, IsCountedWhere, fault_of_answer_kind};
 
-use crate::fault::Fault;
 use crate::wanted::Wanted;
 use mail_answer::{AnswerFault, AnswerFaultKind, Archives, answer};
 use mail_index::IndexView;
 use mbox_cutter::Out;
+use run_faults::Fault;
 use std::alloc::Global;
 
 /// What the index file in these bytes answers.

@@ -5,13 +5,13 @@ ghost use Rattle.contract_words.specs.Answers.{Gives};
 ghost use Rattle.mail_query.specs.Meaning.{meaning};
 ghost use Rattle.mail_query.specs.Refusals.{query_refusal};
 ghost use Rattle.mairix_tool.specs.Asked.{query_asked, format_of_mail};
-ghost use Rattle.mairix_tool.specs.Faults.{refusal_of, IsEarly};
+ghost use Rattle.run_faults.specs.Faults.{refusal_of, IsEarly};
 
-use crate::fault::Fault;
 use mail_answer::Format;
 use mail_dates::Moment;
 use mail_query::{Query, QueryFault, read_boolean, read_mairix};
 use mairix_options::{MailFormat, Texts, answer_format, plan_of, read_rc};
+use run_faults::Fault;
 use std::alloc::Global;
 
 /// What words and rcfile ask for: of which archives, what a message has to satisfy, and whether the archives are proved to be

@@ -15,7 +15,7 @@ use Rattle.index_job.specs.IndexJobs.{IsAdded, IsAddFault}
 use Rattle.std.specs.Prelude.{Option, Err, ◌≢◌}
 use Rattle.std.proofs.lemmas.Bool.Decides.{eqb_tells}
 use Rattle.contract_words.specs.Devices.{Counted}
-use Rattle.mairix_tool.specs.Faults.{is_failed_source}
+use Rattle.run_faults.specs.Faults.{is_failed_source}
 use Rattle.index_job.specs.JobFaults.{is_source_failure}
 
 pub mboxes-length : (paths bytes : List (List ℕ)) → length paths ≡ length bytes → length (mboxes paths bytes) ≡ length paths

@@ -6,8 +6,8 @@ use Rattle.std.proofs.lemmas.List.{length-append, length-map}
 use Rattle.std.proofs.lemmas.List.Elements.{All-append, All-cons, All-nil}
 use Rattle.mbox_cutter.specs.declared.event.CutFault.{CutFault}
 use Rattle.mbox_cutter.specs.Events.{refusal_of}
-use Rattle.mairix_tool.specs.declared.fault.Fault.{Fault}
-use Rattle.mairix_tool.specs.declared.fault.Fault.TheVariants.{Archive, TooMany}
+use Rattle.run_faults.specs.declared.fault.Fault.{Fault}
+use Rattle.run_faults.specs.declared.fault.Fault.TheVariants.{Archive, TooMany}
 use Rattle.mail_index.specs.Limits.{most_in_archive, most_in_index}
 use Rattle.index_job.specs.ArchiveRefusals.{AreSound, IsTooMuch, IsWithinLimit}
 use Rattle.index_job.specs.ArchiveTables.{Mbox, table, entry_of}

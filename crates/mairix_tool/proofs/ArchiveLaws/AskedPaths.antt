@@ -5,8 +5,8 @@ use Rattle.contract_words.specs.Answers.{◌>>=◌, fault_as}
 use Rattle.mail_index.specs.Tables.{IsPath}
 use Rattle.mail_query.specs.Query.{Query}
 use Rattle.mail_query.specs.declared.fault.QueryFault.{QueryFault}
-use Rattle.mairix_tool.specs.declared.fault.Fault.{Fault}
-use Rattle.mairix_tool.specs.declared.fault.Fault.TheVariants as of
+use Rattle.run_faults.specs.declared.fault.Fault.{Fault}
+use Rattle.run_faults.specs.declared.fault.Fault.TheVariants as of
 use Rattle.mairix_options.specs.declared.command_line.Plan.{Plan}
 use Rattle.mairix_options.specs.declared.command_line.UsageFault.{UsageFault}
 use Rattle.mairix_options.specs.declared.rcfile.Rc.{Rc}

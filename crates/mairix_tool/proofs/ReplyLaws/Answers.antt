@@ -18,8 +18,8 @@ use Rattle.mail_answer.specs.Sheets.{Tells}
 use Rattle.mail_answer.specs.Stale.{stale_archive}
 use Rattle.mail_answer.specs.TableAnswers.{TableAnswer, IsTableAnswer, Answers, IsBeforeText, is_unwritten, answer_of_numbers}
 use Rattle.mail_answer.proofs.OutputLaws.EveryAnswer.{some-chosen}
-use Rattle.mairix_tool.specs.declared.fault.Fault.TheVariants as of
-use Rattle.mairix_tool.specs.Faults.{is_changed_or_unread, is_failed_archives, is_failed_out, IsOfAnswer}
+use Rattle.run_faults.specs.declared.fault.Fault.TheVariants as of
+use Rattle.run_faults.specs.Faults.{is_changed_or_unread, is_failed_archives, is_failed_out, IsOfAnswer}
 use Rattle.mairix_tool.specs.Replies.{Answer, refused, status_of_count}
 use Rattle.mairix_tool.specs.Runs.{answered, IsStaleOr, IsFoundIn, IsTold, RepliesBy, reply_of, fault_of_answer_kind, IsCounted}
 

@@ -9,15 +9,15 @@ use Rattle.mail_answer.specs.Mail.{Search}
 use Rattle.mail_answer.specs.Shapes.{answer_text}
 use Rattle.mail_answer.specs.Stale.{stale_archive}
 use Rattle.mail_answer.proofs.OutputLaws.EveryAnswer.{some-chosen}
-use Rattle.mairix_tool.specs.declared.fault.Fault.{Fault}
-use Rattle.mairix_tool.specs.declared.fault.Fault.TheVariants as of
-use Rattle.mairix_tool.specs.declared.fault.Fault.TheVariants.{Stale}
-use Rattle.mairix_tool.specs.declared.fault.Reply.{Reply}
+use Rattle.run_faults.specs.declared.fault.Fault.{Fault}
+use Rattle.run_faults.specs.declared.fault.Fault.TheVariants as of
+use Rattle.run_faults.specs.declared.fault.Fault.TheVariants.{Stale}
+use Rattle.mairix_tool.specs.declared.reply.Reply.{Reply}
 use Rattle.index_job.specs.ArchiveTables.{Mbox, table}
 use Rattle.index_job.specs.ArchiveRefusals.{AreSound}
 use Rattle.mairix_tool.specs.ArchivesIndexed.{mboxes, Refuses, IsArchivesFault}
 use Rattle.mairix_tool.specs.Asked.{Wanted}
-use Rattle.mairix_tool.specs.Faults.{refusal_of, is_failure, is_failed_source, is_early, is_of_index, is_of_indexing, IsEarly, IsOfAnswer, IsOfIndexing, IsOnceFault, IsSearchFault, is_failed_out, is_failed_archives}
+use Rattle.run_faults.specs.Faults.{refusal_of, is_failure, is_failed_source, is_early, is_of_index, is_of_indexing, IsEarly, IsOfAnswer, IsOfIndexing, IsOnceFault, IsSearchFault, is_failed_out, is_failed_archives}
 use Rattle.mairix_tool.specs.Replies.{Answer, refused, IsConsistent, AreSoundBefore}
 use Rattle.mairix_tool.specs.Runs.{IsAnswer, IsTold, IsStaleOr, IsFoundIn, IsReply, IsOnceReply, IsThisOrMemory, IsUnindexed, RepliesBy, reply_of, answered}
 use Rattle.mairix_tool.proofs.TableLaws.MailSame.{chosen-same, chosen-back, shape-same, not-stale}

@@ -18,12 +18,12 @@ use Rattle.mail_index.specs.Versions.{IsVersion}
 use Rattle.mail_query.specs.Query.{uses_names}
 use Rattle.index_job.specs.ArchiveRefusals.{AreSound}
 use Rattle.index_job.specs.ArchiveTables.{Mbox, table, entry_of}
-use Rattle.mairix_tool.specs.declared.fault.Fault.{Fault}
-use Rattle.mairix_tool.specs.declared.fault.Fault.TheVariants as of
-use Rattle.mairix_tool.specs.declared.fault.Reply.{Reply}
+use Rattle.run_faults.specs.declared.fault.Fault.{Fault}
+use Rattle.run_faults.specs.declared.fault.Fault.TheVariants as of
+use Rattle.mairix_tool.specs.declared.reply.Reply.{Reply}
 use Rattle.mairix_tool.specs.ArchivesIndexed.{mboxes}
 use Rattle.mairix_tool.specs.Asked.{Wanted}
-use Rattle.mairix_tool.specs.Faults.{refusal_of, is_failure}
+use Rattle.run_faults.specs.Faults.{refusal_of, is_failure}
 use Rattle.mairix_tool.specs.Altered.{AreToldApart, altered_archive}
 use Rattle.mairix_tool.specs.OldTables.{but_digests, old_table}
 use Rattle.mairix_tool.specs.Replies.{Answer, refused}

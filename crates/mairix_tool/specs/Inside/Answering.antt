@@ -5,8 +5,8 @@ use Rattle.mbox_cutter.specs.declared.device.Out.{Ghosts as OutGhosts}
 use Rattle.mail_answer.specs.Mail.{Search}
 use Rattle.mail_answer.specs.declared.archives.Archives.{Ghosts}
 use Rattle.mairix_tool.specs.Counts.{KeepsRawBack}
-use Rattle.mairix_tool.specs.Faults.{fault_in, is_failed_archives, is_failed_out, IsOfAnswer}
-use Rattle.mairix_tool.specs.declared.fault.Fault.{Fault}
+use Rattle.run_faults.specs.Faults.{fault_in, is_failed_archives, is_failed_out, IsOfAnswer}
+use Rattle.run_faults.specs.declared.fault.Fault.{Fault}
 
 -- an index was asked, over archives and into an output
 pub record AsksIndex {A O T : Type 0} (g : Ghosts A) (h : OutGhosts O) (search : Search) (old new : A) (before after : O) (result : Result T Fault) : Type 0 where

@@ -2,8 +2,8 @@
 use Rattle.std.specs.Prelude.{ℕ, List, Option}
 use Rattle.contract_words.specs.Devices.{Sends}
 use Rattle.mail_index.specs.Files.{index_file}
-use Rattle.mairix_tool.specs.declared.fault.Fault.{Fault}
-use Rattle.mairix_tool.specs.declared.fault.Fault.TheVariants.{Out}
+use Rattle.run_faults.specs.declared.fault.Fault.{Fault}
+use Rattle.run_faults.specs.declared.fault.Fault.TheVariants.{Out}
 use Rattle.index_job.specs.ArchiveRefusals.{AreSound}
 use Rattle.index_job.specs.ArchiveTables.{Mbox, table}
 use Rattle.mairix_tool.specs.ArchivesIndexed.{IsArchivesFault}

@@ -1,10 +1,10 @@
 //! The file that a run makes.
 ghost use Rattle.std.specs.Prelude.{◌≡◌, ◌++◌, codes, IfOk, string_bytes};
 
-use crate::fault::Fault;
 use crate::program::read_files::ReadFiles;
 use crate::program::stopped::Stopped;
 use mairix_files::NewFile;
+use run_faults::Fault;
 use std::alloc::{AllocError, Global};
 use std::fs::File;
 use std::rt::Files;

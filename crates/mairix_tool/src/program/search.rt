@@ -2,17 +2,18 @@
 ghost use Rattle.std.specs.Prelude.{◌≡◌, ◌<◌, ◌^◌, ◌-◌, Ok};
 ghost use Rattle.mairix_options.specs.Rcfile.{rc_of};
 
-use crate::fault::{Fault, Reply};
 use crate::once::once_run;
 use crate::program::file_archives::FileArchives;
 use crate::program::output_file::{create_file, passing_name, settle_file};
 use crate::program::read_files::ReadFiles;
 use crate::program::stopped::Stopped;
+use crate::reply::Reply;
 use crate::stored::search_run;
 use mail_dates::Moment;
 use mairix_files::sources_of;
 use mairix_options::{Plan, Rc, answer_file};
 use mbox_cutter::{Out, ToWrite};
+use run_faults::Fault;
 use std::alloc::Global;
 use std::fs::File;
 use std::io::Write;

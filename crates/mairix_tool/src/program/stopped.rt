@@ -1,7 +1,7 @@
 //! Why a run over files ended before it was done.
 
-use crate::fault::Fault;
 use mairix_options::RcFault;
+use run_faults::Fault;
 use std::alloc::{AllocError, Global};
 use std::io;
 use std::io::ErrorKind;

@@ -7,7 +7,7 @@ use Rattle.mail_index.specs.Tables.{IsPath}
 use Rattle.index_job.specs.ArchiveTables.{Mbox}
 use Rattle.index_job.specs.ArchiveRefusals.{AreSound}
 use Rattle.mairix_tool.specs.ArchivesIndexed.{mboxes, fault_of_job}
-use Rattle.mairix_tool.specs.Faults.{is_failed_source}
+use Rattle.run_faults.specs.Faults.{is_failed_source}
 use Rattle.index_job.specs.IndexJobs.{IsIndexOf, IsAdded, IsAddFault}
 use Rattle.mairix_tool.proofs.ArchiveLaws.ArchiveLists.{mboxes-length, next-taken, parted-here, taken-so-far, sound-more, archive-fault, others-run, here-counts}
 use Rattle.mairix_tool.proofs.archives_job.job_of_archives.Goals as goal

@@ -9,10 +9,10 @@ use Rattle.mairix_options.specs.declared.rcfile.RcFault.TheVariants as rcfile
 use Rattle.mail_query.specs.declared.fault.QueryFault.{QueryFault}
 use Rattle.mail_query.specs.declared.fault.QueryFaultKind.{QueryFaultKind}
 use Rattle.mail_query.specs.declared.fault.QueryFaultKind.TheVariants as query
-use Rattle.mairix_tool.specs.declared.fault.TheConstants.{DONE, REFUSED, WRONG_INDEX, FAILED, NO_ROOM}
-use Rattle.mairix_tool.specs.declared.fault.Fault.{Fault}
-use Rattle.mairix_tool.specs.declared.fault.Fault.TheVariants as of
-use Rattle.mairix_tool.specs.declared.fault.Fault.TheVariants.{Usage, Rc, Query, Archive, Index, OldIndex, Stale, Out, Memory, TooMany}
+use Rattle.run_faults.specs.declared.fault.TheConstants.{DONE, REFUSED, WRONG_INDEX, FAILED, NO_ROOM}
+use Rattle.run_faults.specs.declared.fault.Fault.{Fault}
+use Rattle.run_faults.specs.declared.fault.Fault.TheVariants as of
+use Rattle.run_faults.specs.declared.fault.Fault.TheVariants.{Usage, Rc, Query, Archive, Index, OldIndex, Stale, Out, Memory, TooMany}
 
 -- Help and Version 0; words, rcfile or query refused 2; an index refused 3; a device failed, or no mbox 4; want of memory, an
 -- archive too long, or too many messages or keys 5

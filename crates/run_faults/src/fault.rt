@@ -1,4 +1,4 @@
-//! Why a run has no whole answer, and what it answers then.
+//! Why a run has no whole answer, and the exit status that it has then.
 
 use mail_index::IndexFault;
 use mail_query::{QueryFault, QueryFaultKind};
@@ -8,22 +8,22 @@ use std::alloc::{AllocError, AllocFailed};
 use thiserror::Error;
 
 /// The exit status of a run with messages or with a new index, of help and of version.
-pub(crate) const DONE: u8 = 0;
+pub const DONE: u8 = 0;
 
-/// Of a run without a message.
-pub(crate) const NO_MESSAGE: u8 = 1;
+/// The exit status of a run without a message.
+pub const NO_MESSAGE: u8 = 1;
 
-/// Where words, rcfile or query are refused.
-pub(crate) const REFUSED: u8 = 2;
+/// The exit status where words, rcfile or query are refused.
+pub const REFUSED: u8 = 2;
 
-/// Where the index is refused, or isn't that of the archives.
-pub(crate) const WRONG_INDEX: u8 = 3;
+/// The exit status where the index is refused, or isn't that of the archives.
+pub const WRONG_INDEX: u8 = 3;
 
-/// Where a file can't be opened, read, made or renamed, the output failed or an archive is no mbox.
-pub(crate) const FAILED: u8 = 4;
+/// The exit status where a file can't be opened, read, made or renamed, the output failed or an archive is no mbox.
+pub const FAILED: u8 = 4;
 
-/// With want of memory, too many messages or keys, or an archive that is too long.
-pub(crate) const NO_ROOM: u8 = 5;
+/// The exit status with want of memory, too many messages or keys, or an archive that is too long.
+pub const NO_ROOM: u8 = 5;
 
 /// Why a run has no whole answer. Want of memory in any layer is `Memory`.
 #[derive(Clone, Copy, Debug, PartialEq, Eq, Error)]
@@ -64,43 +64,9 @@ pub enum Fault {
     TooMany,
 }
 
-/// What a run answers beside the text that goes out.
-#[derive(Clone, Copy, Debug, PartialEq, Eq)]
-pub struct Reply {
-    /// The exit status: 0 with messages, 1 without one, and above 1 with a fault (but Help and Version have 0).
-    pub status: u8,
-    /// How many messages were answered, 0 with a fault.
-    pub messages: u64,
-    /// Why the answer isn't whole.
-    pub fault: Option<Fault>,
-}
-
-impl Reply {
-    ghost use Rattle.std.specs.Prelude.{◌≡◌};
-    ghost use Rattle.mairix_tool.specs.Runs.{reply_of};
-
-    /// So many messages, or a fault, with its status.
-    pub(crate) fn of(found: Result<u64, Fault>) -> Reply
-        ensures { result ≡ reply_of found }
-    {
-        match found {
-            Ok(messages) => Reply {
-                status: if messages == 0 { NO_MESSAGE } else { DONE },
-                messages,
-                fault: None,
-            },
-            Err(fault) => Reply {
-                status: fault.status(),
-                messages: 0,
-                fault: Some(fault),
-            },
-        }
-    }
-}
-
 impl Fault {
     ghost use Rattle.std.specs.Prelude.{◌≡◌};
-    ghost use Rattle.mairix_tool.specs.Faults.{status_of_fault};
+    ghost use Rattle.run_faults.specs.Faults.{status_of_fault};
 
     /// The exit status that a run with this fault has.
     pub fn status(self) -> u8
@@ -130,7 +96,7 @@ impl Fault {
 
 impl From<AllocError> for Fault {
     ghost use Rattle.std.specs.Prelude.{◌≡◌};
-    ghost use Rattle.mairix_tool.specs.declared.fault.Fault.TheVariants.{Memory};
+    ghost use Rattle.run_faults.specs.declared.fault.Fault.TheVariants.{Memory};
 
     ghost from_gives = { λ _ e. e ≡ Memory };
 
@@ -141,7 +107,7 @@ impl From<AllocError> for Fault {
 
 impl<T: Drop> From<AllocFailed<T>> for Fault {
     ghost use Rattle.std.specs.Prelude.{◌≡◌};
-    ghost use Rattle.mairix_tool.specs.declared.fault.Fault.TheVariants.{Memory};
+    ghost use Rattle.run_faults.specs.declared.fault.Fault.TheVariants.{Memory};
 
     ghost from_gives = { λ _ e. e ≡ Memory };
 
@@ -152,7 +118,7 @@ impl<T: Drop> From<AllocFailed<T>> for Fault {
 
 impl From<UsageFault> for Fault {
     ghost use Rattle.std.specs.Prelude.{◌≡◌};
-    ghost use Rattle.mairix_tool.specs.Faults.{of_usage};
+    ghost use Rattle.run_faults.specs.Faults.{of_usage};
 
     ghost from_gives = { λ fault e. e ≡ of_usage fault };
 
@@ -166,7 +132,7 @@ impl From<UsageFault> for Fault {
 
 impl From<RcFault> for Fault {
     ghost use Rattle.std.specs.Prelude.{◌≡◌};
-    ghost use Rattle.mairix_tool.specs.Faults.{of_rc};
+    ghost use Rattle.run_faults.specs.Faults.{of_rc};
 
     ghost from_gives = { λ fault e. e ≡ of_rc fault };
 
@@ -180,7 +146,7 @@ impl From<RcFault> for Fault {
 
 impl From<QueryFault> for Fault {
     ghost use Rattle.std.specs.Prelude.{◌≡◌};
-    ghost use Rattle.mairix_tool.specs.Faults.{of_query};
+    ghost use Rattle.run_faults.specs.Faults.{of_query};
 
     ghost from_gives = { λ fault e. e ≡ of_query fault };
 

@@ -1,7 +1,7 @@
 //! What the program says of a fault.
 ghost use Rattle.std.specs.Prelude.{◌≡◌, IfOk, codes};
 ghost use Rattle.std.specs.String.{string_bytes};
-ghost use Rattle.mairix_tool.specs.FaultTexts.{text_of_fault, text_of_usage, text_of_rc, text_of_query, text_of_kind, text_of_cut, text_of_index, text_of_section, numbered};
+ghost use Rattle.run_faults.specs.FaultTexts.{text_of_fault, text_of_usage, text_of_rc, text_of_query, text_of_kind, text_of_cut, text_of_index, text_of_section, numbered};
 
 use crate::fault::Fault;
 use mail_index::{IndexFault, Section};
@@ -11,10 +11,10 @@ use mbox_cutter::CutFault;
 use std::alloc::{AllocError, Global};
 
 /// What is said of a file that can't be opened, read or made, in front of its path.
-pub(crate) const CANNOT_OPEN: &str = "cannot open";
+pub const CANNOT_OPEN: &str = "cannot open";
 
 /// What is said of want of memory, in whatever layer.
-pub(crate) const OUT_OF_MEMORY: &str = "out of memory";
+pub const OUT_OF_MEMORY: &str = "out of memory";
 
 /// The text of a fault, without the program's name and a line's end. Lines of the rcfile and items of a query are counted from
 /// 1 as they are; an archive's number, which is counted from 0, is printed plus 1.

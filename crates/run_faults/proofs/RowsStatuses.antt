@@ -1,7 +1,6 @@
--- Rows of exit statuses, and of the first version of index files: the numbers that their names stand for.
+-- Rows of exit statuses: the numbers that their names stand for.
 use Rattle.std.proofs.Common.{◌≡◌, refl}
-use Rattle.mairix_tool.specs.declared.fault.TheConstants.{DONE, NO_MESSAGE, REFUSED, WRONG_INDEX, FAILED, NO_ROOM}
-use Rattle.mairix_tool.specs.declared.stored.TheConstants.{FIRST_VERSION}
+use Rattle.run_faults.specs.declared.fault.TheConstants.{DONE, NO_MESSAGE, REFUSED, WRONG_INDEX, FAILED, NO_ROOM}
 
 with_messages : DONE ≡ 0
 with_messages = refl
@@ -20,6 +19,3 @@ a_device_or_an_archive = refl
 
 too_much : NO_ROOM ≡ 5
 too_much = refl
-
-an_index_without_names : FIRST_VERSION ≡ 1
-an_index_without_names = refl

@@ -1,0 +1,8 @@
+//! Why a run of mairix has no whole answer, with its exit status and its text.
+#![tactic(auto)]
+
+mod explanation;
+mod fault;
+
+pub use explanation::{CANNOT_OPEN, OUT_OF_MEMORY, fault_text};
+pub use fault::{DONE, FAILED, Fault, NO_MESSAGE, NO_ROOM, REFUSED, WRONG_INDEX};
