@@ -1,3 +1,2 @@
 -- What private functions say of one another: it serves proofs alone, and no public clause rests on it.
 pub mod Answering
-pub mod IndexRuns

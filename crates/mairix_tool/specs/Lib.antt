@@ -1,8 +1,6 @@
-pub mod ArchivesIndexed
 pub mod Chosen
 pub mod MailOfArchives
 pub mod Asked
-pub mod Counts
 pub mod Replies
 pub mod Runs
 pub mod OldTables

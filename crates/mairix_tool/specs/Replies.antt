@@ -1,14 +1,16 @@
 -- The reply of a run and its text, and what each reply keeps to.
 use Rattle.std.specs.Prelude.{◌≡◌, ⊤, ℕ, List, [], take, false, nat_eq, if◌then◌else◌, Option, None, Some, Result, Ok, Err}
-use Rattle.std.specs.Bool.{MatchBool}
+use Rattle.std.specs.Bool.{MatchBool, OnTrue}
+use Rattle.mail_answer.specs.Mail.{Search}
+use Rattle.mail_answer.specs.declared.format.Format.TheVariants.{Raw}
 use Rattle.run_faults.specs.declared.fault.TheConstants.{DONE, NO_MESSAGE}
 use Rattle.run_faults.specs.declared.fault.Fault.{Fault}
 use Rattle.run_faults.specs.declared.fault.Fault.TheVariants.{Archive}
 use Rattle.mairix_tool.specs.declared.reply.Reply.{Reply}
 use Rattle.index_job.specs.ArchiveRefusals.{AreSound}
-use Rattle.mairix_tool.specs.ArchivesIndexed.{mboxes}
+use Rattle.index_run.specs.ArchivesIndexed.{mboxes}
 use Rattle.mairix_tool.specs.Asked.{Wanted}
-use Rattle.run_faults.specs.Faults.{status_of_fault, is_early, is_memory}
+use Rattle.run_faults.specs.Faults.{status_of_fault, is_changed_or_unread, is_early, is_memory}
 
 -- ---- the answer
 
@@ -39,3 +41,7 @@ RefusesAsked (Err refusal) fault = MatchBool (is_memory fault) ⊤ (fault ≡ So
 abbrev pub AreSoundBefore : Result Wanted Fault → List (List ℕ) → Option Fault → Type 0
 AreSoundBefore (Ok w) archives (Some (Archive number fault)) = AreSound (take number (mboxes w.paths archives))
 AreSoundBefore _ archives _ = ⊤
+
+-- Where a raw answer finds the archives changed or can't read them, nothing has gone out.
+abbrev pub KeepsRawBack : {O : Type 0} → Search → Option Fault → O → O → Type 0
+KeepsRawBack s fault old new = s.format ≡ Raw → OnTrue (is_changed_or_unread fault) (new ≡ old)

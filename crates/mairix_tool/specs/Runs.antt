@@ -23,7 +23,7 @@ use Rattle.mairix_tool.specs.declared.reply.Reply.{Reply}
 use Rattle.mairix_tool.specs.declared.stored.TheConstants.{FIRST_VERSION}
 use Rattle.index_job.specs.ArchiveRefusals.{AreSound}
 use Rattle.index_job.specs.ArchiveTables.{Mbox, table}
-use Rattle.mairix_tool.specs.ArchivesIndexed.{mboxes, Refuses, IsArchivesFault}
+use Rattle.index_run.specs.ArchivesIndexed.{mboxes, Refuses, IsArchivesFault}
 use Rattle.mairix_tool.specs.Asked.{Wanted}
 use Rattle.run_faults.specs.Faults.{is_failure, is_memory, status_of_fault}
 use Rattle.mairix_tool.specs.MailOfArchives.{mail_in, shape}

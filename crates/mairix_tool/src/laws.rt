@@ -6,7 +6,7 @@ ghost use Rattle.mail_answer.specs.Shapes.{answer_text, closed};
 ghost use Rattle.mail_answer.specs.declared.format.Format.TheVariants as format;
 ghost use Rattle.index_job.specs.ArchiveTables.{Mbox, table};
 ghost use Rattle.mairix_tool.specs.Altered.{AreToldApart, altered_archive};
-ghost use Rattle.mairix_tool.specs.ArchivesIndexed.{mboxes};
+ghost use Rattle.index_run.specs.ArchivesIndexed.{mboxes};
 ghost use Rattle.mairix_tool.specs.Asked.{Wanted};
 ghost use Rattle.mairix_tool.specs.CutAgain.{bytes_held, spans_at};
 ghost use Rattle.mail_answer.specs.Mail.{Search, AreChosen};

@@ -1,9 +1,7 @@
 //! Runs of mairix: what the words of a command line and an rcfile ask for.
 #![tactic(auto)]
 
-mod archives_job;
 mod laws;
-mod memory_file;
 mod once;
 mod program;
 mod reply;

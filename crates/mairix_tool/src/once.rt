@@ -7,15 +7,15 @@ ghost use Rattle.contract_words.specs.Devices.{Counted};
 ghost use Rattle.mail_index.specs.Faults.{IsFileOf};
 ghost use Rattle.mail_index.specs.Tables.{Table};
 ghost use Rattle.mairix_tool.specs.Asked.{asked_rc, asked, wanted as wanted_of};
-ghost use Rattle.mairix_tool.specs.Counts.{CountsSources, KeepsRawBack};
+ghost use Rattle.index_run.specs.Counts.{CountsSources};
 ghost use Rattle.run_faults.specs.Faults.{fault_in, is_failed_out, is_failed_archives, is_early, is_of_indexing, IsOnceFault};
-ghost use Rattle.mairix_tool.specs.Replies.{RefusesAsked, AreSoundBefore, IsConsistent};
+ghost use Rattle.mairix_tool.specs.Replies.{RefusesAsked, AreSoundBefore, IsConsistent, KeepsRawBack};
 ghost use Rattle.mairix_tool.specs.Runs.{IsReply, IsOnceReply, RepliesBy, IsIndexed, IsUnindexed};
 
-use crate::memory_file::file_of_archives;
 use crate::reply::Reply;
 use crate::view_answer::answer_bytes;
 use crate::wanted::Wanted;
+use index_run::file_of_archives;
 use mail_answer::Archives;
 use mail_dates::Moment;
 use mbox_cutter::{MemoryOut, Out, Source};

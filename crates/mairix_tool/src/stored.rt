@@ -10,13 +10,12 @@ ghost use Rattle.mail_query.specs.Query.{uses_names};
 ghost use Rattle.index_job.specs.ArchiveRefusals.{AreSound};
 ghost use Rattle.index_job.specs.ArchiveTables.{Mbox, table};
 ghost use Rattle.mairix_tool.specs.Altered.{AreToldApart, altered_archive};
-ghost use Rattle.mairix_tool.specs.ArchivesIndexed.{mboxes};
+ghost use Rattle.index_run.specs.ArchivesIndexed.{mboxes};
 ghost use Rattle.mairix_tool.specs.Asked.{asked, Wanted as Asked, wanted as wanted_of};
 ghost use Rattle.mairix_tool.specs.OldTables.{but_digests, old_table};
-ghost use Rattle.mairix_tool.specs.Counts.{KeepsRawBack};
 ghost use Rattle.mairix_tool.specs.Inside.Answering.{AsksIndex};
 ghost use Rattle.run_faults.specs.Faults.{fault_in, refusal_of, is_failed_out, is_failed_archives, is_of_index, IsOfAnswer, IsSearchFault};
-ghost use Rattle.mairix_tool.specs.Replies.{RefusesAsked, IsConsistent};
+ghost use Rattle.mairix_tool.specs.Replies.{RefusesAsked, IsConsistent, KeepsRawBack};
 ghost use Rattle.mairix_tool.specs.Runs.{IsReply, IsStoredReply, IsProvedAndTold, IsStaleOr, TellsProved, unproved_archive, RepliesBy, reply_of, IsRefusedAs, IsIndexRefusal, IsThisOrMemory, IsCountedWhere, is_too_old, renamed_archive};
 
 use crate::reply::Reply;

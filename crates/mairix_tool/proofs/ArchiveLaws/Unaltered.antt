@@ -12,7 +12,7 @@ use Rattle.mail_answer.specs.Verified.{unverified_archive}
 use Rattle.mail_answer.proofs.ArchiveLaws.VerifiedLemmas.{verified_are, are_verified}
 use Rattle.mail_index.specs.Tables.{Archive}
 use Rattle.mairix_tool.specs.Altered.{AreToldApart, altered_archive}
-use Rattle.mairix_tool.specs.ArchivesIndexed.{mboxes}
+use Rattle.index_run.specs.ArchivesIndexed.{mboxes}
 use Rattle.mairix_tool.specs.Runs.{first_renamed, renamed_archive}
 
 -- ---- the digests of a table

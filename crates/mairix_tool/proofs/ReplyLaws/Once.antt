@@ -15,14 +15,15 @@ use Rattle.run_faults.specs.declared.fault.Fault.TheVariants.{Stale}
 use Rattle.mairix_tool.specs.declared.reply.Reply.{Reply}
 use Rattle.index_job.specs.ArchiveTables.{Mbox, table}
 use Rattle.index_job.specs.ArchiveRefusals.{AreSound}
-use Rattle.mairix_tool.specs.ArchivesIndexed.{mboxes, Refuses, IsArchivesFault}
+use Rattle.index_run.specs.ArchivesIndexed.{mboxes, Refuses, IsArchivesFault}
 use Rattle.mairix_tool.specs.Asked.{Wanted}
 use Rattle.run_faults.specs.Faults.{refusal_of, is_failure, is_failed_source, is_early, is_of_index, is_of_indexing, IsEarly, IsOfAnswer, IsOfIndexing, IsOnceFault, IsSearchFault, is_failed_out, is_failed_archives}
 use Rattle.mairix_tool.specs.Replies.{Answer, refused, IsConsistent, AreSoundBefore}
 use Rattle.mairix_tool.specs.Runs.{IsAnswer, IsTold, IsStaleOr, IsFoundIn, IsReply, IsOnceReply, IsThisOrMemory, IsUnindexed, RepliesBy, reply_of, answered}
 use Rattle.mairix_tool.proofs.TableLaws.MailSame.{chosen-same, chosen-back, shape-same, not-stale}
-use Rattle.mairix_tool.proofs.ArchiveLaws.SoundArchives.{sound-not-refused, sound-before}
-use Rattle.mairix_tool.proofs.ArchiveLaws.ArchivesDecided.{decided, none-sound}
+use Rattle.mairix_tool.proofs.ArchiveLaws.SoundBefore.{sound-before}
+use Rattle.index_run.proofs.SoundArchives.{sound-not-refused}
+use Rattle.index_run.proofs.ArchivesDecided.{decided, none-sound}
 
 -- what the table of archives tells over their own bytes is their messages' answer
 pub told-answer : (archives : List Mbox) (s : Search) (answer : Answer) → IsTold (table archives) s (map (λ (a : Mbox). a.bytes) archives) answer → IsAnswer archives s answer

@@ -21,18 +21,18 @@ use Rattle.index_job.specs.ArchiveTables.{Mbox, table, entry_of}
 use Rattle.run_faults.specs.declared.fault.Fault.{Fault}
 use Rattle.run_faults.specs.declared.fault.Fault.TheVariants as of
 use Rattle.mairix_tool.specs.declared.reply.Reply.{Reply}
-use Rattle.mairix_tool.specs.ArchivesIndexed.{mboxes}
+use Rattle.index_run.specs.ArchivesIndexed.{mboxes}
 use Rattle.mairix_tool.specs.Asked.{Wanted}
 use Rattle.run_faults.specs.Faults.{refusal_of, is_failure}
 use Rattle.mairix_tool.specs.Altered.{AreToldApart, altered_archive}
 use Rattle.mairix_tool.specs.OldTables.{but_digests, old_table}
 use Rattle.mairix_tool.specs.Replies.{Answer, refused}
 use Rattle.mairix_tool.specs.Runs.{IsTold, IsToldOf, IsProvedAndTold, unproved_archive, TellsProved, IsStaleOr, IsOldOr, is_too_old, IsReply, IsStoredReply, IsIndexRefusal, IsRefusedAs, RepliesBy, reply_of, renamed_archive, first_renamed, IsCountedWhere}
-use Rattle.mairix_tool.proofs.ArchiveLaws.ArchiveLists.{mboxes-length}
+use Rattle.index_run.proofs.ArchiveLists.{mboxes-length}
 use Rattle.mairix_tool.proofs.TableLaws.OldTables.{told-old, old-told, told-same, same-told, renamed-old}
 use Rattle.mairix_tool.proofs.ArchiveLaws.Unaltered.{own-verified, the-same}
 use Rattle.mairix_tool.proofs.ArchiveLaws.FirstFaults.{one-first-fault}
-use Rattle.mairix_tool.proofs.ArchiveLaws.SoundArchives.{sound-not-refused}
+use Rattle.index_run.proofs.SoundArchives.{sound-not-refused}
 use Rattle.mairix_tool.proofs.ReplyLaws.Once.{replies-as, some-told, unanswered, once-reply, reply-once, bytes-of-mboxes}
 
 -- ---- the table of archives has their paths

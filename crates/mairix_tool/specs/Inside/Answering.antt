@@ -4,7 +4,7 @@ use Rattle.contract_words.specs.Devices.{Counted}
 use Rattle.mbox_cutter.specs.declared.device.Out.{Ghosts as OutGhosts}
 use Rattle.mail_answer.specs.Mail.{Search}
 use Rattle.mail_answer.specs.declared.archives.Archives.{Ghosts}
-use Rattle.mairix_tool.specs.Counts.{KeepsRawBack}
+use Rattle.mairix_tool.specs.Replies.{KeepsRawBack}
 use Rattle.run_faults.specs.Faults.{fault_in, is_failed_archives, is_failed_out, IsOfAnswer}
 use Rattle.run_faults.specs.declared.fault.Fault.{Fault}
 

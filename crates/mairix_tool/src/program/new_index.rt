@@ -1,26 +1,15 @@
 //! The new index that takes the place of an old one: archives in, an index file out.
-ghost use Rattle.std.specs.Prelude.{◌≡◌, ◌<◌, ◌^◌, ◌-◌, ℕ, List, Some, map, length, All, IfErr};
-ghost use Rattle.std.specs.Bool.{OnFalse};
-ghost use Rattle.std.specs.Io.KnownBytes.{Appends};
-ghost use Rattle.std.specs.Result.{MatchResult};
+ghost use Rattle.std.specs.Prelude.{map, All};
 ghost use Rattle.std.specs.String.{string_bytes};
-ghost use Rattle.contract_words.specs.Devices.{Counted};
-ghost use Rattle.mail_index.specs.Files.{index_file};
 ghost use Rattle.mail_index.specs.Tables.{IsPath};
-ghost use Rattle.index_job.specs.ArchiveRefusals.{AreSound};
-ghost use Rattle.index_job.specs.ArchiveTables.{table};
-ghost use Rattle.mairix_tool.specs.ArchivesIndexed.{mboxes};
-ghost use Rattle.mairix_tool.specs.Counts.{CountsSources};
-ghost use Rattle.run_faults.specs.Faults.{fault_in, is_failed_out};
-ghost use Rattle.mairix_tool.specs.Inside.IndexRuns.{IsIndexRunFault};
 
-use crate::archives_job::job_of_archives;
 use crate::program::output_file::{create_file, passing_name, settle_file};
 use crate::program::read_files::ReadFiles;
 use crate::program::stopped::Stopped;
+use index_run::send_index;
 use mairix_files::sources_of;
 use mairix_options::Rc;
-use mbox_cutter::{Out, Source, ToWrite};
+use mbox_cutter::ToWrite;
 use run_faults::{DONE, Fault};
 use std::alloc::Global;
 use std::fs::File;
@@ -78,34 +67,4 @@ fn fill_index_file<R: Files>(
         return Err(Fault::Out);
     }
     Ok(DONE)
-}
-
-/// Indexes the archives from their sources, and sends the index file to the output.
-fn send_index<S: Source, O: Out>(
-    alloc: Global,
-    paths: &[String],
-    sources: &mut [S],
-    out: &mut O,
-) -> Result<(), Fault>
-    requires many { length paths.now ≡ length sources.old }
-    requires paths { All IsPath (map string_bytes paths.now) }
-    requires count { All (λ s. S.failures s < 2 ^ 64 - 1) sources.old }
-    requires out { O.failures out.old < 2 ^ 64 - 1 }
-    ensures known { (archives : List (List ℕ)) → map S.rest sources.old ≡ map Some archives
-        → MatchResult result (λ _. AreSound (mboxes (map string_bytes paths.now) archives)
-        × Appends (O.taken out.old) (O.taken out.new) (index_file (table (mboxes (map string_bytes paths.now) archives))))
-        (IsIndexRunFault (mboxes (map string_bytes paths.now) archives) (O.taken out.old) (O.taken out.new)) }
-    ensures source_failed { CountsSources (fault_in result) (map S.failures sources.old) (map S.failures sources.new) }
-    ensures out_failed { Counted (is_failed_out (fault_in result)) (O.failures out.old) (O.failures out.new) }
-    ensures silent { IfErr result (λ fault. OnFalse (is_failed_out (Some fault)) (out.new ≡ out.old)) }
-{
-    let job = match job_of_archives(alloc, paths, sources) {
-        Ok(job) => job,
-        Err(fault) => return Err(fault),
-    };
-    match job.finish(out) {
-        Ok(_) => Ok(()),
-        // A job that hasn't failed is refused nothing but its output.
-        Err(_) => Err(Fault::Out),
-    }
 }

@@ -2,7 +2,7 @@ use Rattle.std.proofs.Common.{◌≡◌, ℕ, List, map, length, IfOk, sym, subs
 use Rattle.contract_words.proofs.DeviceLists.{known_length}
 use Rattle.mail_index.specs.Faults.{IsFileOf}
 use Rattle.index_job.specs.ArchiveTables.{table}
-use Rattle.mairix_tool.specs.ArchivesIndexed.{mboxes}
+use Rattle.index_run.specs.ArchivesIndexed.{mboxes}
 use Rattle.mairix_tool.specs.Asked.{Wanted, wanted, asked}
 use Rattle.mairix_tool.specs.Runs.{reply_of}
 use Rattle.mairix_tool.proofs.ArchiveLaws.AskedPaths.{asked-many}

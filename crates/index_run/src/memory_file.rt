@@ -6,8 +6,8 @@ ghost use Rattle.mail_index.specs.Faults.{IsFileOf};
 ghost use Rattle.mail_index.specs.Tables.{Table, IsPath};
 ghost use Rattle.index_job.specs.ArchiveRefusals.{AreSound};
 ghost use Rattle.index_job.specs.ArchiveTables.{table};
-ghost use Rattle.mairix_tool.specs.ArchivesIndexed.{mboxes, IsArchivesFault};
-ghost use Rattle.mairix_tool.specs.Counts.{CountsSources};
+ghost use Rattle.index_run.specs.ArchivesIndexed.{mboxes, IsArchivesFault};
+ghost use Rattle.index_run.specs.Counts.{CountsSources};
 ghost use Rattle.run_faults.specs.Faults.{fault_in, is_failed_out, is_early, IsOfIndexing};
 
 use crate::archives_job::{fault_of_job, job_of_archives};
@@ -16,7 +16,7 @@ use run_faults::Fault;
 use std::alloc::Global;
 
 /// The index file of the archives, in memory; or the first of them that is at fault.
-pub(crate) fn file_of_archives<S: Source>(
+pub fn file_of_archives<S: Source>(
     alloc: Global,
     paths: &[String],
     sources: &mut [S],

@@ -6,7 +6,7 @@ use Rattle.run_faults.specs.declared.fault.Fault.{Fault}
 use Rattle.run_faults.specs.declared.fault.Fault.TheVariants.{Out}
 use Rattle.index_job.specs.ArchiveRefusals.{AreSound}
 use Rattle.index_job.specs.ArchiveTables.{Mbox, table}
-use Rattle.mairix_tool.specs.ArchivesIndexed.{IsArchivesFault}
+use Rattle.index_run.specs.ArchivesIndexed.{IsArchivesFault}
 
 -- Out where the archives are sound and a front of their file went out; else what the archives may be refused with.
 abbrev pub IsIndexRunFault : List Mbox → Option (List ℕ) → Option (List ℕ) → Fault → Type 0

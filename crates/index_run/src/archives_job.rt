@@ -4,9 +4,9 @@ ghost use Rattle.std.specs.Result.{MatchResult};
 ghost use Rattle.std.specs.String.{string_bytes};
 ghost use Rattle.mail_index.specs.Tables.{IsPath};
 ghost use Rattle.index_job.specs.ArchiveRefusals.{AreSound};
-ghost use Rattle.mairix_tool.specs.ArchivesIndexed.{mboxes, fault_of_job, IsArchivesFault};
+ghost use Rattle.index_run.specs.ArchivesIndexed.{mboxes, fault_of_job, IsArchivesFault};
 ghost use Rattle.index_job.specs.IndexJobs.{IsIndexOf};
-ghost use Rattle.mairix_tool.specs.Counts.{CountsSources};
+ghost use Rattle.index_run.specs.Counts.{CountsSources};
 ghost use Rattle.run_faults.specs.Faults.{fault_in, is_failed_out, is_early, IsOfIndexing};
 
 use index_job::{IndexJob, JobFault};

@@ -1,24 +1,19 @@
--- Sound archives are refused for nothing, and the archives before a fault are sound.
-use Rattle.std.proofs.Common.{◌≡◌, ◌∙◌, ◌+◌, ◌<◌, ◌≤◌, ◌++◌, ℕ, List, [], ◌∷◌, length, take, All, get_or, None, Some, Ok, sym, ap, subst, arith, append_assoc, ⊎_elim}
+-- Sound archives are refused for nothing.
+use Rattle.std.proofs.Common.{◌≡◌, ◌∙◌, ◌+◌, ◌<◌, ◌≤◌, ◌++◌, List, [], ◌∷◌, length, All, get_or, None, Some, sym, ap, subst, arith, append_assoc, ⊎_elim}
 use Rattle.std.proofs.lemmas.List.{length-append, length-map}
 use Rattle.std.proofs.lemmas.List.Elements.{All-get_or}
-use Rattle.std.proofs.Math.Seq.{get_or-append_seam, take-append_seam}
+use Rattle.std.proofs.Math.Seq.{get_or-append_seam}
 use Rattle.std.proofs.lemmas.Grind.{flat_map-append}
 use Rattle.mbox_cutter.specs.declared.event.CutFault.{CutFault}
-use Rattle.mbox_cutter.specs.declared.event.CutFault.TheVariants as cut
 use Rattle.mbox_cutter.specs.Events.{refusal_of}
 use Rattle.run_faults.specs.declared.fault.Fault.{Fault}
 use Rattle.run_faults.specs.declared.fault.Fault.TheVariants as of
 use Rattle.mail_index.specs.Limits.{most_in_archive}
 use Rattle.index_job.specs.ArchiveRefusals.{AreSound, IsTooMuch, IsWithinLimit}
 use Rattle.index_job.specs.ArchiveTables.{Mbox, table, all_messages, messages_in, with_messages, entry_of}
-use Rattle.mairix_tool.specs.ArchivesIndexed.{mboxes, Parted, Refuses, IsArchivesFault}
-use Rattle.mairix_tool.specs.Asked.{Wanted}
-use Rattle.mairix_tool.specs.Replies.{AreSoundBefore}
+use Rattle.index_run.specs.ArchivesIndexed.{Refuses}
 use Rattle.index_job.proofs.ArchiveSteps.{with_messages-append, with_messages-more}
 use Rattle.index_job.proofs.TableSteps.{records-count}
-
--- ---- sound archives aren't refused
 
 -- the counts of a table only grow with more archives
 messages-grow : (xs ys : List Mbox) → length (table xs).messages ≤ length (table (xs ++ ys)).messages
@@ -70,25 +65,3 @@ sound-not-refused archives (of.Stale n) sound h = h
 sound-not-refused archives of.Device sound h = h
 sound-not-refused archives of.Out sound h = h
 sound-not-refused archives of.Memory sound h = h
-
--- ---- which archives are sound before a fault
-
-taken-before : (archives before : List Mbox) (a : Mbox) (n : ℕ) → Parted archives before a → n ≡ length before → AreSound before → AreSound (take n archives)
-taken-before archives before a n parted same sound =
-    subst AreSound (sym (ap (λ l. take n l) parted.whole ∙ ap (λ k. take k (before ++ a ∷ parted.behind)) same ∙ take-append_seam before (a ∷ parted.behind))) sound
-
-pub sound-before : (w : Wanted) (archives : List (List ℕ)) (f : Fault) → IsArchivesFault (mboxes w.paths archives) f → AreSoundBefore (Ok w) archives (Some f)
-sound-before w archives (of.Archive n cut.Device) (before, a, parted, same, sound) = taken-before (mboxes w.paths archives) before a n parted same sound
-sound-before w archives (of.Archive n cut.NotAnMbox) (before, a, parted, same, h) = taken-before (mboxes w.paths archives) before a n parted same h.sound
-sound-before w archives (of.Archive n cut.ArchiveTooLong) (before, a, parted, same, h) = taken-before (mboxes w.paths archives) before a n parted same h.sound
-sound-before w archives (of.Archive n cut.Failed) h = elim h [ ]
-sound-before w archives of.TooMany h = tt
-sound-before w archives of.Memory h = tt
-sound-before w archives (of.Usage f) h = tt
-sound-before w archives (of.Rc f) h = tt
-sound-before w archives (of.Query f) h = tt
-sound-before w archives (of.Index f) h = tt
-sound-before w archives of.OldIndex h = tt
-sound-before w archives (of.Stale n) h = tt
-sound-before w archives of.Device h = tt
-sound-before w archives of.Out h = tt

@@ -1,8 +1,8 @@
 use Rattle.std.proofs.Common.{◌≡◌, ℕ, List, map, take, drop, Some, IsSome, string_bytes}
 use Rattle.index_job.specs.ArchiveRefusals.{AreSound}
-use Rattle.mairix_tool.specs.ArchivesIndexed.{mboxes}
+use Rattle.index_run.specs.ArchivesIndexed.{mboxes}
 use Rattle.index_job.specs.IndexJobs.{IsIndexOf}
-use Rattle.mairix_tool.proofs.archives_job.job_of_archives.Given as goal
+use Rattle.index_run.proofs.archives_job.job_of_archives.Given as goal
 
 -- the sources from this number on were not asked yet, none has failed, and the job has the archives so far, which are sound
 abbrev pub invariant-loop-number : goal.invariant-loop-number

@@ -6,11 +6,11 @@ use Rattle.contract_words.proofs.DeviceLists.{same_at, same_behind, known_at, kn
 use Rattle.mail_index.specs.Tables.{IsPath}
 use Rattle.index_job.specs.ArchiveTables.{Mbox}
 use Rattle.index_job.specs.ArchiveRefusals.{AreSound}
-use Rattle.mairix_tool.specs.ArchivesIndexed.{mboxes, fault_of_job}
+use Rattle.index_run.specs.ArchivesIndexed.{mboxes, fault_of_job}
 use Rattle.run_faults.specs.Faults.{is_failed_source}
 use Rattle.index_job.specs.IndexJobs.{IsIndexOf, IsAdded, IsAddFault}
-use Rattle.mairix_tool.proofs.ArchiveLaws.ArchiveLists.{mboxes-length, next-taken, parted-here, taken-so-far, sound-more, archive-fault, others-run, here-counts}
-use Rattle.mairix_tool.proofs.archives_job.job_of_archives.Goals as goal
+use Rattle.index_run.proofs.ArchiveLists.{mboxes-length, next-taken, parted-here, taken-so-far, sound-more, archive-fault, others-run, here-counts}
+use Rattle.index_run.proofs.archives_job.job_of_archives.Goals as goal
 
 pub archive-requires-clause-path : goal.archive-requires-clause-path
 archive-requires-clause-path g c =

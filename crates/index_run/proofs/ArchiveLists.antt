@@ -10,7 +10,7 @@ use Rattle.index_job.specs.declared.job_fault.JobFault.TheVariants as job
 use Rattle.index_job.specs.ArchiveTables.{Mbox}
 use Rattle.mail_index.specs.Limits.{most_in_archive}
 use Rattle.index_job.specs.ArchiveRefusals.{AreSound}
-use Rattle.mairix_tool.specs.ArchivesIndexed.{mboxes, Parted, IsArchivesFault, fault_of_job}
+use Rattle.index_run.specs.ArchivesIndexed.{mboxes, Parted, IsArchivesFault, fault_of_job}
 use Rattle.index_job.specs.IndexJobs.{IsAdded, IsAddFault}
 use Rattle.std.specs.Prelude.{Option, Err, ◌≢◌}
 use Rattle.std.proofs.lemmas.Bool.Decides.{eqb_tells}

@@ -5,8 +5,8 @@ use Rattle.mail_index.specs.Files.{index_file, HasSmallSections}
 use Rattle.mail_index.specs.Tables.{IsWellFormed}
 use Rattle.mbox_cutter.specs.Memory.{Taking}
 use Rattle.index_job.specs.ArchiveTables.{table}
-use Rattle.mairix_tool.specs.ArchivesIndexed.{mboxes}
-use Rattle.mairix_tool.proofs.memory_file.file_of_archives.Goals as goal
+use Rattle.index_run.specs.ArchivesIndexed.{mboxes}
+use Rattle.index_run.proofs.memory_file.file_of_archives.Goals as goal
 
 pub returns-in-Ok-finish-clause-known : goal.returns-in-Ok-finish-clause-known
 returns-in-Ok-finish-clause-known g c = λ archives known.

@@ -11,7 +11,7 @@ use Rattle.run_faults.specs.declared.fault.Fault.TheVariants.{Archive, TooMany}
 use Rattle.mail_index.specs.Limits.{most_in_archive, most_in_index}
 use Rattle.index_job.specs.ArchiveRefusals.{AreSound, IsTooMuch, IsWithinLimit}
 use Rattle.index_job.specs.ArchiveTables.{Mbox, table, entry_of}
-use Rattle.mairix_tool.specs.ArchivesIndexed.{Parted, Refuses}
+use Rattle.index_run.specs.ArchivesIndexed.{Parted, Refuses}
 
 -- ---- one archive more
 

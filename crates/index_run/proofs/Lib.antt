@@ -1,0 +1,3 @@
+pub mod ArchiveLists
+pub mod ArchivesDecided
+pub mod SoundArchives

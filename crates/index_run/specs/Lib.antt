@@ -1,0 +1,3 @@
+pub mod ArchivesIndexed
+pub mod Counts
+pub mod IndexRuns
