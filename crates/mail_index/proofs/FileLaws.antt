@@ -3,6 +3,7 @@ pub mod Accepts
 pub mod Bytes
 pub mod FileLemmas
 pub mod Fronts
+pub mod KnownFile
 pub mod LebLemmas
 pub mod OneTable
 pub mod RecordFronts

@@ -28,10 +28,8 @@ pub(crate) fn answer_bytes<A: Archives, O: Out>(
         → RepliesBy (IsTold t (wanted_of wanted.now).search held) (reply_of result) (O.taken out.old) (O.taken out.new) }
     ensures asks { AsksIndex A.Archives O.Out (wanted_of wanted.now).search archives.old archives.new out.old out.new result }
 {
-    match IndexView::open(bytes) {
-        Ok(index) => answer_view(alloc, &index, wanted, archives, out),
-        Err(fault) => Err(Fault::Index(fault)),
-    }
+    let index = IndexView::of_file(bytes);
+    answer_view(alloc, &index, wanted, archives, out)
 }
 
 /// What the index answers, in as many messages as are counted.

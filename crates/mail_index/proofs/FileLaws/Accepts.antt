@@ -129,7 +129,7 @@ same_archives bytes as' bs a b =
     let e : flat_map archive_bytes as' ≡ flat_map archive_bytes bs = sym a.spelled ∙ b.spelled in
     sym (archives_back (version_told bytes) as' a.each) ∙ (λ i. read_archives (version_told bytes) (l i) (e i)) ∙ archives_back (version_told bytes) bs b.each
 
-same_records : (bytes : List ℕ) (archives : List Archive) (ms ns : List Record) → length archives < 2 ^ 32 → HasRecords bytes archives ms → HasRecords bytes archives ns → ms ≡ ns
+pub same_records : (bytes : List ℕ) (archives : List Archive) (ms ns : List Record) → length archives < 2 ^ 32 → HasRecords bytes archives ms → HasRecords bytes archives ns → ms ≡ ns
 same_records bytes archives ms ns few a b =
     let e : flat_map record_bytes ms ≡ flat_map record_bytes ns = sym a.spelled ∙ b.spelled in
     let l : length ms ≡ length ns = omega (arith, ap length e, length_records ms, length_records ns) in

@@ -57,11 +57,12 @@ has_records bytes l f a h =
     (section_bytes (records_start bytes) (directory_start bytes) bytes l.records.now f.layout.records f.are_bytes) (record_section bytes l f) h in
     record { before = has_archives bytes l f a; spelled = sym f.layout.records ∙ s.spelled; each = s.each; in_order = in_order 0 0 (read_records l.message_count l.records.now) s.behind }
 
-pub no_records : (bytes : List ℕ) (l : Layout) → IsLaidOut bytes l → SpellsArchives (version_number l.version) l.archive_count l.archives.now → (AreRecords (version_number l.version) l.archive_count 0 0 l.archives.now l.message_count l.records.now → ⊥)
-    → (ms : List Record) → HasRecords bytes (read_archives (version_number l.version) l.archive_count l.archives.now) ms → ⊥
-no_records bytes l f a refuses ms h =
+-- only the records of the section can be spelled in it
+pub these_records : (bytes : List ℕ) (l : Layout) → IsLaidOut bytes l → SpellsArchives (version_number l.version) l.archive_count l.archives.now
+    → (ms : List Record) → HasRecords bytes (read_archives (version_number l.version) l.archive_count l.archives.now) ms → AreRecords (version_number l.version) l.archive_count 0 0 l.archives.now l.message_count l.records.now
+these_records bytes l f a ms h =
     let e : l.records.now ≡ flat_map record_bytes ms = f.layout.records ∙ h.spelled in
     let n : length ms ≡ l.message_count = omega (arith, ap length e, length_records ms, record_section bytes l f) in
     let r = are_records_of (version_number l.version) l.archive_count l.archives.now 0 0 l.archives.now ms f.few_archives a.each refl h.each (are_behind ms h.in_order) in
     let e' : flat_map record_bytes ms ≡ l.records.now = sym e in
-    refuses (transport (λ i. AreRecords (version_number l.version) l.archive_count 0 0 l.archives.now (n i) (e' i)) r)
+    transport (λ i. AreRecords (version_number l.version) l.archive_count 0 0 l.archives.now (n i) (e' i)) r

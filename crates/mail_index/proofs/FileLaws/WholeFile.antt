@@ -14,14 +14,14 @@ use Rattle.mail_index.specs.Faults.{IsEntry, version_told, IsSigned, records_sta
 use Rattle.mail_index.specs.Records.{SpellsArchives, AreRecords}
 use Rattle.mail_index.specs.Directory.{AreEntries, read_entries}
 use Rattle.mail_index.specs.Lists.{IsList, AreLists}
-use Rattle.mail_index.specs.Layouts.{IsLayout, table_of}
+use Rattle.mail_index.specs.Layouts.{IsLayout, IsChecked, table_of}
 use Rattle.mail_index.specs.KeysRead.{key_of}
 use Rattle.mail_index.proofs.FileLaws.Fronts.{before, concat_then, split}
 use Rattle.mail_index.proofs.FileLaws.Bytes.{AreBytes, length_part, u32_back, u64_back}
 use Rattle.mail_index.proofs.ViewLaws.ArchiveReads.{read_count}
 use Rattle.mail_index.proofs.ViewLaws.DirectorySections.{u32_small, shows_entries, entries_back, are_entries_of, IsAhead, are_after, sorted}
 use Rattle.mail_index.proofs.ViewLaws.Opening.{length_directory, count_records, count_entries, reads_keys, lists_of, are_lists, lists_of_keys, keys_in_order}
-use Rattle.mail_index.proofs.FileLaws.FileLemmas.{IsLaidOut, section_length, section_bytes, directory_section, has_records}
+use Rattle.mail_index.proofs.FileLaws.FileLemmas.{IsLaidOut, section_length, section_bytes, record_section, directory_section, has_records}
 
 pub laid_out : (bytes : List ℕ) (l : Layout) → IsSigned bytes → IsLayout bytes l → AreBytes bytes → IsLaidOut bytes l
 laid_out bytes l s y b = record {
@@ -72,14 +72,14 @@ ahead_of bytes l f es h = record {
 counted : (bytes : List ℕ) (l : Layout) → IsLaidOut bytes l → (es : List Entry) → HasDirectory bytes (table_of l).archives (table_of l).messages es → length es ≡ l.key_count
 counted bytes l f es h = omega (arith, ap length (f.layout.directory ∙ h.spelled), length_directory 0 0 es, directory_section bytes l f)
 
-pub no_directory : (bytes : List ℕ) (l : Layout) → IsLaidOut bytes l → (AreEntries (version_number l.version) l.texts.now (length l.postings.now) 0 0 0 [] l.key_count l.directory.now → ⊥)
-    → (es : List Entry) → HasDirectory bytes (table_of l).archives (table_of l).messages es → ⊥
-no_directory bytes l f refuses es h =
+pub these_entries : (bytes : List ℕ) (l : Layout) → IsLaidOut bytes l → (es : List Entry) → HasDirectory bytes (table_of l).archives (table_of l).messages es
+    → AreEntries (version_number l.version) l.texts.now (length l.postings.now) 0 0 0 [] l.key_count l.directory.now
+these_entries bytes l f es h =
     let e : directory_from 0 0 es ≡ l.directory.now = sym (f.layout.directory ∙ h.spelled) in
     let n = counted bytes l f es h in
     let each = subst (λ (v : ℕ). AllByRecursion (IsEntry v) es) (sym f.layout.version) h.each in
     let a = are_entries_of (version_number l.version) l.texts.now l.postings.now 0 0 0 [] es each (ahead_of bytes l f es h) (are_after es h.sorted) in
-    refuses (transport (λ i. AreEntries (version_number l.version) l.texts.now (length l.postings.now) 0 0 0 [] (n i) (e i)) a)
+    transport (λ i. AreEntries (version_number l.version) l.texts.now (length l.postings.now) 0 0 0 [] (n i) (e i)) a
 
 pub has_postings : (bytes : List ℕ) (l : Layout) → IsLaidOut bytes l → HoldsRecords l → AreEntries (version_number l.version) l.texts.now (length l.postings.now) 0 0 0 [] l.key_count l.directory.now
     → AreLists l.message_count l.postings.now l.key_count l.directory.now → HasPostings bytes (table_of l).archives (table_of l).messages (table_of l).keys
@@ -91,16 +91,16 @@ has_postings bytes l f r h p =
       each = subst (λ (n : ℕ). AllByRecursion (IsKey (version_told bytes) n) (table_of l).keys) (sym (count_records l.message_count l.records.now)) k.each;
     }
 
-pub no_postings : (bytes : List ℕ) (l : Layout) → IsLaidOut bytes l → (AreLists l.message_count l.postings.now l.key_count l.directory.now → ⊥)
-    → (ks : List Key) → HasPostings bytes (table_of l).archives (table_of l).messages ks → ⊥
-no_postings bytes l f refuses ks h =
+pub these_lists : (bytes : List ℕ) (l : Layout) → IsLaidOut bytes l → (ks : List Key) → HasPostings bytes (table_of l).archives (table_of l).messages ks
+    → AreLists l.message_count l.postings.now l.key_count l.directory.now
+these_lists bytes l f ks h =
     let es = map entry_of ks in
     let d = h.before in
     let e : l.directory.now ≡ directory_from 0 0 es = f.layout.directory ∙ d.spelled in
     let n : l.key_count ≡ length es = sym (counted bytes l f es d) in
     let back : entries_of l ≡ es = (λ i. read_entries l.texts.now l.postings.now (n i) (e i)) ∙ entries_back (version_told bytes) l.texts.now l.postings.now 0 0 es d.each (ahead_of bytes l f es d) in
     let each = subst (λ (m : ℕ). AllByRecursion (λ x. IsList m x.postings) es) (count_records l.message_count l.records.now) (lists_of_keys (version_told bytes) (length (table_of l).messages) ks h.each) in
-    refuses (are_lists l.message_count l.texts.now l.postings.now l.key_count l.directory.now (subst (AllByRecursion (λ x. IsList l.message_count x.postings)) (sym back) each))
+    are_lists l.message_count l.texts.now l.postings.now l.key_count l.directory.now (subst (AllByRecursion (λ x. IsList l.message_count x.postings)) (sym back) each)
 
 -- ---- the whole
 
@@ -193,3 +193,16 @@ is_file bytes l f h =
       sorted = keys_in_order t.keys h.before.sorted;
     } in
     (w, signed_whole bytes (body t) (digest_start bytes) f.layout.adds_up f.counts.0.digest (body_front bytes l f h))
+
+pub checked : (bytes : List ℕ) (l : Layout) → IsLaidOut bytes l → HoldsRecords l → AreEntries (version_number l.version) l.texts.now (length l.postings.now) 0 0 0 [] l.key_count l.directory.now
+    → AreLists l.message_count l.postings.now l.key_count l.directory.now → IsChecked l
+checked bytes l f r d p = record {
+  archives = r.archives;
+  record_bytes = record_section bytes l f;
+  records = r.records;
+  directory_bytes = directory_section bytes l f;
+  entries = d;
+  few_messages = f.few_messages;
+  lists = p;
+  formed = (is_file bytes l f (has_postings bytes l f r d p)).0;
+}

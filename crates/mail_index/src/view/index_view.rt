@@ -3,8 +3,10 @@ ghost use Rattle.std.specs.Prelude.{◌≡◌, ◌<◌, length, map, IsOk, IfOk,
 ghost use Rattle.std.specs.List.{slice_get};
 ghost use Rattle.mail_index.specs.Faults.{IsFileOf, IsFirstFault};
 
+use crate::fields::u32_at;
 use crate::kind::Kind;
 use crate::record::Record;
+use crate::version::Version;
 use crate::view::archive::{Archive, are_archives, behind_archives, first_archive};
 use crate::view::archive_list::ArchiveList;
 use crate::view::compared_keys::ComparedKeys;
@@ -89,6 +91,22 @@ impl<'a> IndexView<'a> {
             return Err(IndexFault::BadLayout(Section::Postings));
         }
         Ok(IndexView { layout })
+    }
+
+    /// The table whose file these bytes are, where that is known, as of a file that was written into memory the moment before:
+    /// neither its digest is taken nor a section walked. Takes no memory.
+    pub fn of_file(bytes: &'a [u8]) -> IndexView<'a>
+        requires { (t : Table) × IsFileOf bytes.now t }
+        ensures { (t : Table) → IsFileOf bytes.entry.now t → result ≡ t }
+    {
+        // The file of a table has a version, and sections whose lengths add up to its own.
+        let Some(version) = Version::of(u32_at(bytes, 8)) else {
+            unreachable!();
+        };
+        let Some(layout) = Layout::of(bytes, version) else {
+            unreachable!();
+        };
+        IndexView { layout }
     }
 
     /// The same view once more. Its table keeps the rules of tables, as that of each view.

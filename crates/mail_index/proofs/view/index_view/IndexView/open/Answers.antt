@@ -2,11 +2,11 @@ use Rattle.std.proofs.Common.{◌≡◌, true, false, sym, ◌∙◌}
 use Rattle.std.proofs.Math.Facts.{Fits-lt-pow}
 use Rattle.mail_index.specs.Layouts.{table_of}
 use Rattle.mail_index.proofs.FileLaws.SameTable.{same-table}
-use Rattle.mail_index.proofs.FileLaws.FileLemmas.{these_archives, has_archives, has_records, no_records, record_section, directory_section}
+use Rattle.mail_index.proofs.FileLaws.FileLemmas.{these_archives, has_archives, has_records, these_records}
 use Rattle.mail_index.specs.declared.view.fault.IndexFault.TheVariants.{BadLayout}
 use Rattle.mail_index.specs.declared.view.fault.Section.TheVariants.{Counts, Archives, Records, Directory, Postings}
 use Rattle.mail_index.proofs.FileLaws.Accepts.{no_fault}
-use Rattle.mail_index.proofs.FileLaws.WholeFile.{laid_out, has_directory, no_directory, has_postings, no_postings, is_file}
+use Rattle.mail_index.proofs.FileLaws.WholeFile.{laid_out, has_directory, these_entries, has_postings, these_lists, is_file, checked}
 use Rattle.mail_index.proofs.view.index_view.IndexView.open.Goals as goal
 
 pub returns-then-not-are_archives-clause-fault : goal.returns-then-not-are_archives-clause-fault
@@ -22,7 +22,7 @@ returns-then-not-are_records-clause-fault c =
     let l = c.in-Some.layout in
     let f = laid_out bytes l c.in-Ok.ensures.0 c.in-Some.ensures (record { below = λ i. Fits-lt-pow (c.type_inv.bytes i) }) in
     let a = c.are_archives.ensures.0 c.if-not-are_archives.false in
-    (_, has_archives bytes l f a, no_records bytes l f a (λ h. let g : false ≡ true = sym c.if-not-are_records.true ∙ c.are_records.ensures.1 h in cc))
+    (_, has_archives bytes l f a, λ ms h. let g : false ≡ true = sym c.if-not-are_records.true ∙ c.are_records.ensures.1 (these_records bytes l f a ms h) in cc)
 
 pub returns-then-not-are_entries-clause-fault : goal.returns-then-not-are_entries-clause-fault
 returns-then-not-are_entries-clause-fault c =
@@ -31,7 +31,7 @@ returns-then-not-are_entries-clause-fault c =
     let f = laid_out bytes l c.in-Ok.ensures.0 c.in-Some.ensures (record { below = λ i. Fits-lt-pow (c.type_inv.bytes i) }) in
     let a = c.are_archives.ensures.0 c.if-not-are_archives.false in
     let r = c.are_records.ensures.0 c.if-not-are_records.false in
-    (_, _, has_records bytes l f a r, no_directory bytes l f (λ h. let g : false ≡ true = sym c.if-not-are_entries.true ∙ c.are_entries.ensures.1 h in cc))
+    (_, _, has_records bytes l f a r, λ es h. let g : false ≡ true = sym c.if-not-are_entries.true ∙ c.are_entries.ensures.1 (these_entries bytes l f es h) in cc)
 
 pub returns-then-not-are_lists-clause-fault : goal.returns-then-not-are_lists-clause-fault
 returns-then-not-are_lists-clause-fault c =
@@ -41,7 +41,7 @@ returns-then-not-are_lists-clause-fault c =
     let a = c.are_archives.ensures.0 c.if-not-are_archives.false in
     let r = c.are_records.ensures.0 c.if-not-are_records.false in
     let d = c.are_entries.ensures.0 c.if-not-are_entries.false in
-    (_, _, _, has_directory bytes l f (record { archives = a; records = r }) d, no_postings bytes l f (λ h. let g : false ≡ true = sym c.if-not-are_lists.true ∙ c.are_lists.ensures.1 h in cc))
+    (_, _, _, has_directory bytes l f (record { archives = a; records = r }) d, λ ks h. let g : false ≡ true = sym c.if-not-are_lists.true ∙ c.are_lists.ensures.1 (these_lists bytes l f ks h) in cc)
 
 pub returns-clause-ok : goal.returns-clause-ok
 returns-clause-ok c =
@@ -86,13 +86,4 @@ invariant_of-result c =
     let r = c.are_records.ensures.0 c.if-not-are_records.false in
     let d = c.are_entries.ensures.0 c.if-not-are_entries.false in
     let p = c.are_lists.ensures.0 c.if-not-are_lists.false in
-    record {
-      archives = a;
-      record_bytes = record_section bytes l f;
-      records = r;
-      directory_bytes = directory_section bytes l f;
-      entries = d;
-      few_messages = f.few_messages;
-      lists = p;
-      formed = (is_file bytes l f (has_postings bytes l f (record { archives = a; records = r }) d p)).0;
-    }
+    checked bytes l f (record { archives = a; records = r }) d p
