@@ -102,7 +102,7 @@ impl IndexJob {
         Ok(messages)
     }
 
-    /// Writes the index file of the archives so far, and counts its bytes. It takes no memory, and writes in many small pieces.
+    /// Writes the index file of the archives so far, and counts its bytes. It takes no memory, and writes in pieces of some thousand bytes.
     ///
     /// # Errors
     ///

@@ -15,8 +15,6 @@ const OUTPUT: &str = "Output, else as the rcfile's mformat and mfolder say";
 
 const SEARCHING: &str = "Searching";
 
-const INDEXING: &str = "Indexing";
-
 // What stands behind the options in help: both query languages, in short, and examples.
 const QUERIES_AND_EXAMPLES: &str = "\
 Patterns, of which a message has to fit each:
@@ -243,12 +241,12 @@ fn command<'a>(alloc: Global) -> Result<Command<'a>, AllocError>
     )?;
     let once = with_in_group(
         boolean,
-        INDEXING,
+        SEARCHING,
         long_flag(alloc, "once", "Index in memory, then search"),
     )?;
     let verify = with_in_group(
         once,
-        INDEXING,
+        SEARCHING,
         long_flag(
             alloc,
             "verify",

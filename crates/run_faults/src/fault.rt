@@ -47,7 +47,8 @@ pub enum Fault {
     /// nor digests.
     #[error("index: too old, build it again")]
     OldIndex,
-    /// The archive of this number, counted from 0, isn't the one that was indexed, or there are no more or fewer archives than this.
+    /// The archive of this number, counted from 0, isn't the one that was indexed. Where there are more or
+    /// fewer archives than were indexed it is the smaller of both counts.
     #[error("archive {0} has changed")]
     Stale(u64),
     /// An archive couldn't be read where the answer asked for it.
