@@ -3,7 +3,6 @@
 
 use mail_dates::Moment;
 use std::env::Env;
-use std::io::{ErrorKind, Write};
 use std::process::ExitCode;
 use std::rt::Clock;
 use std::time::{SystemTime, UNIX_EPOCH};
@@ -37,16 +36,6 @@ fn moment<R: Clock>(rt: &R) -> Moment {
     }
 }
 
-/// The status of words that can't be had, after a line on standard error.
-fn tell<E: Write>(kind: ErrorKind, err: &mut E) -> ExitCode {
-    if kind == ErrorKind::OutOfMemory {
-        let _ = err.write_all(b"mairix: out of memory\n");
-        return ExitCode::from(5);
-    }
-    let _ = err.write_all(b"mairix: bad words\n");
-    ExitCode::from(2)
-}
-
 fn main(rt: HostRuntime) -> ExitCode {
     match words_of(&rt) {
         Ok(words) => ExitCode::from(mairix_tool::run_program(
@@ -57,6 +46,10 @@ fn main(rt: HostRuntime) -> ExitCode {
             &mut rt.stdout(),
             &mut rt.stderr(),
         )),
-        Err(error) => tell(error.kind(), &mut rt.stderr()),
+        Err(error) => ExitCode::from(mairix_tool::tell_unread_words(
+            rt.alloc(),
+            error.kind(),
+            &mut rt.stderr(),
+        )),
     }
 }

@@ -21,7 +21,7 @@ pub use mairix_options::{
     plan_of, read_rc, usage_text,
 };
 pub use once::once_run;
-pub use program::run_program;
+pub use program::{run_program, tell_unread_words};
 pub use reply::Reply;
 pub use run_faults::{Fault, fault_text};
 pub use stored::search_run;

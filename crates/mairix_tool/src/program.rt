@@ -16,7 +16,7 @@ use run_faults::{CANNOT_OPEN, FAILED, Fault, OUT_OF_MEMORY, fault_text};
 use std::alloc::Global;
 use std::fs;
 use std::fs::File;
-use std::io::Write;
+use std::io::{ErrorKind, Write};
 use std::rt::Files;
 
 /// Runs the words after the program's name over the files that they name, and answers the exit status.
@@ -48,6 +48,15 @@ pub fn run_program<R: Files<File = File>, W: Write, E: Write>(
         Err(Stopped::CannotOpen(path)) => tell_unopened(path.as_str(), err),
         Err(Stopped::Fault(fault)) => tell_fault(alloc, fault, err),
     }
+}
+
+/// Tells on `err` that the words after the program's name can't be had, as some that are no UTF-8, and answers the exit status.
+pub fn tell_unread_words<E: Write>(alloc: Global, kind: ErrorKind, err: &mut E) -> u8 {
+    let fault = match kind {
+        ErrorKind::OutOfMemory => Fault::Memory,
+        _ => Fault::Usage(UsageFault::Parse),
+    };
+    tell_fault(alloc, fault, err)
 }
 
 /// The status of a run that wasn't stopped.
