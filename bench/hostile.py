@@ -72,7 +72,7 @@ class Tame:
 
     def of(self, size):
         """Of a front of about so many bytes."""
-        if os.path.getsize(self.made) < size if os.path.exists(self.made) else True:
+        if not os.path.exists(self.made) or os.path.getsize(self.made) < size:
             most = max(1, -(-size // 1_000_000))
             subprocess.run([sys.executable, os.path.join(HERE, "make_mbox.py"), str(most), self.made], check=True)
         size = int(float("%.1e" % size))

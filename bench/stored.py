@@ -63,14 +63,15 @@ def peers(folder, word):
         yield "C mairix, raw", ["mairix", "-f", "c-rc", "-r", "b:" + word], None
         yield "C mairix, excerpts", ["mairix", "-f", "c-rc", "-x", "b:" + word], None
         yield "C mairix, mbox", ["mairix", "-f", "c-rc", "b:" + word], None
-    if shutil.which("notmuch"):
+    if shutil.which("notmuch") or shutil.which("mu"):
         make_maildir(os.path.join(folder, "m.mbox"), folder)
+    if shutil.which("notmuch"):
         environment = {"NOTMUCH_CONFIG": os.path.join(folder, "notmuch"), "HOME": folder}
         with open(environment["NOTMUCH_CONFIG"], "w") as out:
             out.write("[database]\npath=%s/maildir\n[user]\nname=x\nprimary_email=a@x.org\n" % folder)
         subprocess.run(["notmuch", "new"], cwd=folder, check=True, capture_output=True, env=dict(os.environ, **environment))
         yield "notmuch, files", ["notmuch", "search", "--output=files", "body:" + word], environment
-    if shutil.which("mu") and os.path.isdir(os.path.join(folder, "maildir")):
+    if shutil.which("mu"):
         environment = {"HOME": folder, "XDG_CACHE_HOME": folder}
         for words in ["init", "--maildir=%s/maildir" % folder], ["index"]:
             subprocess.run(["mu"] + words, cwd=folder, check=True, capture_output=True, env=dict(os.environ, **environment))
@@ -100,7 +101,8 @@ def main(program):
         search = [program, "-f", "rc"]
         tell("mairix, raw", measured(search + ["-r", "b:" + word], folder), ("sha256sum", digest))
         told = dict((name, tell(name, measured(command, folder, environment))) for name, command, environment in peers(folder, word))
-        tell("mairix, excerpts", measured(search + ["-x", "b:" + word], folder), ("C mairix's", told["C mairix, excerpts"]) if told else None)
+        theirs = told.get("C mairix, excerpts")
+        tell("mairix, excerpts", measured(search + ["-x", "b:" + word], folder), ("C mairix's", theirs) if theirs else None)
         mbox, streamed, copy = search + ["b:" + word], search + ["--stdout", "b:" + word], ["cat", "hits"]
         tell("mairix, mbox", measured(mbox, folder))
         tell("cat of the answer", measured(copy, folder))

@@ -12,8 +12,6 @@ from pathlib import Path
 sys.dont_write_bytecode = True
 from page_examples import TOP, Sandbox, checks_of, roff_text
 
-# An option that the pages tell of, and that the program may not know yet.
-COMING = {"--verify"}
 # Texts of faults that no run tells: the first two are answered by texts of the parser, and a job that has failed isn't asked again.
 UNTOLD = {"help", "version", "failed before"}
 # How wide the lines of help are at most, and how many tell of a query language, with their title.
@@ -90,8 +88,7 @@ def completed_by_fish():
     return found
 
 
-def option_checks(known):
-    expected = known | COMING
+def option_checks(expected):
     yield "options of mairix(1)", differences("option", expected, tagged_options())
     yield "its synopsis", differences("option", expected, synopsis_options())
     for shell, completed in (("bash", completed_by_bash), ("zsh", completed_by_zsh), ("fish", completed_by_fish)):
@@ -255,13 +252,12 @@ def dist_checks():
 
 
 def all_checks(program):
-    known = known_options(program)
     for page in MANUAL + MARKDOWN:
         with Sandbox(program) as sandbox:
-            examples = list(checks_of(page, sandbox, COMING - known))
+            examples = list(checks_of(page, sandbox))
         yield from examples
         yield f"examples of {page.name}", "" if examples else "none was found"
-    yield from option_checks(known)
+    yield from option_checks(known_options(program))
     yield "texts of faults", differences("text of a fault", told_texts(), fault_tags())
     yield from prefix_checks()
     yield from help_checks(program)

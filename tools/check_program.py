@@ -136,6 +136,41 @@ def private_file(program):
     return bad
 
 
+def file_of_another(program):
+    """An old file of another owner doesn't say who may read the new one, nor does the group of one of another group. Only root can try that."""
+    bad = []
+    if os.geteuid() != 0:
+        return bad
+    another = 65534
+    for owner, group, old, want in ((another, -1, 0o666, 0o600), (-1, another, 0o640, 0o600), (-1, another, 0o664, 0o604)):
+        for name, words, _ in MADE:
+            with tempfile.TemporaryDirectory() as folder:
+                path = os.path.join(folder, name)
+                write(folder, {"rc": RC, "m.mbox": HELLO, name: b"old"})
+                os.chown(path, owner, group)
+                os.chmod(path, old)
+                p = run(program, words, folder, capture_output=True)
+                if p.returncode != 0 or mode(path) != want:
+                    bad.append("%s of %d:%d, %o: status %d, mode %o, wanted %o" % (name, owner, group, old, p.returncode, mode(path), want))
+    return bad
+
+
+def name_of_a_pipe(program):
+    """A pipe that has the name of the index or of the answer keeps it."""
+    bad = []
+    for name, words, _ in MADE:
+        with tempfile.TemporaryDirectory() as folder:
+            write(folder, {"rc": RC, "m.mbox": HELLO})
+            path = os.path.join(folder, name)
+            os.mkfifo(path)
+            p = run(program, words, folder, capture_output=True)
+            if (p.returncode, p.stdout, p.stderr) != (4, b"", fault(b"cannot open " + name.encode())):
+                bad.append("%s: status %d, %r" % (name, p.returncode, p.stderr))
+            if not stat.S_ISFIFO(os.lstat(path).st_mode) or sorted(os.listdir(folder)) != sorted(["rc", "m.mbox", name]):
+                bad.append("%s: it left %s" % (name, sorted(os.listdir(folder))))
+    return bad
+
+
 def second_name(program):
     """A second name (a hard link) of the archive as the index or the answer: the name is replaced, and the archive isn't touched."""
     bad = []
@@ -326,7 +361,7 @@ def main(program):
     program = os.path.abspath(program)
     passed = failed = 0
     checks = [(name, lambda c=c: case(program, *c)) for name, *c in CASES]
-    others = (killed_run, private_file, second_name, odd_folder, no_room, want_of_memory, large_index, long_answers, index_then_search, full_disk, unreadable, many_archives, clock)
+    others = (killed_run, private_file, file_of_another, name_of_a_pipe, second_name, odd_folder, no_room, want_of_memory, large_index, long_answers, index_then_search, full_disk, unreadable, many_archives, clock)
     checks += [(f.__doc__.split(".")[0], lambda f=f: f(program)) for f in others]
     checks += [("overlapping runs: " + name, lambda bad=bad: bad) for name, _, bad in overlapping_runs.checks(program)]
     for name, check in checks:

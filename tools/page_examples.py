@@ -13,8 +13,7 @@ In Markdown:
 
 The displays of a page are run in their order, in one shell.
 
-A REPLY is the status and, where more is to be said, a comma and the last line that is printed, or `N lines`. A command with an option that the
-program doesn't know yet isn't run.
+A REPLY is the status and, where more is to be said, a comma and the last line that is printed, or `N lines`.
 """
 import os, re, shlex, shutil, subprocess, tempfile
 from pathlib import Path
@@ -193,25 +192,22 @@ def sessions_fit(page, steps, sandbox, folder):
         yield f"{page.name}:{place}: {command}", "" if same_lines(want, got) else f"printed {got!r}"
 
 
-def checks_of(page, sandbox, left_out):
+def checks_of(page, sandbox):
     """Runs the examples of a page, and yields what each is and what is wrong with it."""
     lines = page.read_text(encoding="utf-8").splitlines()
     roff = page.suffix != ".md"
-    knows = lambda command: not any(option in command for option in left_out)
     for name, script in markdown_scripts(lines):
         sandbox.add_tool(name, script)
     steps = []
     for place, session in (roff_sessions if roff else markdown_sessions)(lines):
-        if all(knows(command) for command, _ in session):
-            steps += [(place, step) for step in session]
+        steps += [(place, step) for step in session]
     # The README begins outside demo/.
     yield from sessions_fit(page, steps, sandbox, sandbox.home if page.name == "README.md" else sandbox.demo)
     for place, wrong in rcfile_faults(lines, sandbox):
         yield f"{page.name}:{place}: the rcfile", wrong
     for place, command, reply, paragraph in (roff_replies if roff else markdown_replies)(lines):
-        if knows(command):
-            status, printed = sandbox.shell(command, sandbox.demo)
-            wrong = "" if reply_fits(reply, status, printed) else f"status {status}, printed {printed!r}"
-            if paragraph and not is_told(command, reply, *paragraph):
-                wrong += " its paragraph doesn't speak of it"
-            yield f"{page.name}:{place}: {command}", wrong
+        status, printed = sandbox.shell(command, sandbox.demo)
+        wrong = "" if reply_fits(reply, status, printed) else f"status {status}, printed {printed!r}"
+        if paragraph and not is_told(command, reply, *paragraph):
+            wrong += " its paragraph doesn't speak of it"
+        yield f"{page.name}:{place}: {command}", wrong

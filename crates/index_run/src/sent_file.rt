@@ -1,17 +1,17 @@
 //! The index file that a run sends to an output.
-ghost use Rattle.std.specs.Prelude.{◌≡◌, ◌<◌, ◌^◌, ◌-◌, ℕ, List, Some, map, length, All, IfErr};
-ghost use Rattle.std.specs.Bool.{OnFalse};
+ghost use Rattle.std.specs.Prelude.{◌≡◌, ◌<◌, ◌^◌, ◌-◌, ℕ, List, Some, map, length, All, IfErr, OnOk};
+ghost use Rattle.std.specs.Bool.{OnFalse, OnTrue};
 ghost use Rattle.std.specs.Io.KnownBytes.{Appends};
 ghost use Rattle.std.specs.Result.{MatchResult};
 ghost use Rattle.std.specs.String.{string_bytes};
-ghost use Rattle.contract_words.specs.Devices.{Counted};
+ghost use Rattle.contract_words.specs.Devices.{Counted, Sends};
 ghost use Rattle.mail_index.specs.Files.{index_file};
-ghost use Rattle.mail_index.specs.Tables.{IsPath};
+ghost use Rattle.mail_index.specs.Tables.{IsPath, IsWellFormed, Table};
 ghost use Rattle.index_job.specs.ArchiveRefusals.{AreSound};
 ghost use Rattle.index_job.specs.ArchiveTables.{table};
 ghost use Rattle.index_run.specs.ArchivesIndexed.{mboxes};
 ghost use Rattle.index_run.specs.Counts.{CountsSources};
-ghost use Rattle.run_faults.specs.Faults.{fault_in, is_failed_out};
+ghost use Rattle.run_faults.specs.Faults.{fault_in, is_failed_out, IsOfIndexing};
 ghost use Rattle.index_run.specs.IndexRuns.{IsIndexRunFault};
 
 use crate::archives_job::job_of_archives;
@@ -35,11 +35,14 @@ pub fn send_index<S: Source, O: Out>(
     requires count { All (λ s. S.failures s < 2 ^ 64 - 1) sources.old }
     requires out { O.failures out.old < 2 ^ 64 - 1 }
     ensures known { (archives : List (List ℕ)) → map S.rest sources.old ≡ map Some archives
-        → MatchResult result (λ _. AreSound (mboxes (map string_bytes paths.now) archives)
+        → MatchResult result (λ _. AreSound (mboxes (map string_bytes paths.now) archives) × IsWellFormed (table (mboxes (map string_bytes paths.now) archives))
         × Appends (O.taken out.old) (O.taken out.new) (index_file (table (mboxes (map string_bytes paths.now) archives))))
         (IsIndexRunFault (mboxes (map string_bytes paths.now) archives) (O.taken out.old) (O.taken out.new)) }
     ensures source_failed { CountsSources (fault_in result) (map S.failures sources.old) (map S.failures sources.new) }
     ensures out_failed { Counted (is_failed_out (fault_in result)) (O.failures out.old) (O.failures out.new) }
+    ensures formed { OnOk result ((t : Table) × IsWellFormed t × Appends (O.taken out.old) (O.taken out.new) (index_file t)) }
+    ensures front { OnTrue (is_failed_out (fault_in result)) ((t : Table) × IsWellFormed t × Sends (O.taken out.old) (O.taken out.new) (index_file t)) }
+    ensures kinds { IfErr result (λ fault. OnFalse (is_failed_out (Some fault)) (IsOfIndexing fault)) }
     ensures silent { IfErr result (λ fault. OnFalse (is_failed_out (Some fault)) (out.new ≡ out.old)) }
 {
     let job = match job_of_archives(alloc, paths, sources) {

@@ -13,6 +13,9 @@ const PRIVATE: u32 = 0o600;
 /// The bits of a mode that say who may read, write and run a file.
 const PERMISSION_BITS: u32 = 0o777;
 
+/// Those of them that say what the file's group may do.
+const GROUP_BITS: u32 = 0o070;
+
 /// A file that is written under a name for the time being, and then takes the name that it is for. It is let go only by
 /// `take_name` or `discard`.
 ///
@@ -55,8 +58,8 @@ impl<'p, R: Files<File = File>> NewFile<'p, R> {
         &self.file
     }
 
-    /// Gives the file its name, and the mode of the file that has had this name; without one it stays private. All of it is on the
-    /// disk before.
+    /// Gives the file its name, and the mode of the file that has had this name, as far as its owner and group are this one's too;
+    /// without one it stays private. All of it is on the disk before.
     ///
     /// # Errors
     ///
@@ -83,7 +86,7 @@ impl<'p, R: Files<File = File>> NewFile<'p, R> {
     }
 
     fn rename(&self) -> io::Result<()> {
-        let mode = mode_of(self.rt, self.name);
+        let mode = mode_for(self.rt, &self.file, self.name)?;
         self.file.set_permissions(Permissions::from_mode(mode))?;
         self.file.sync_all()?;
         if !is_named(self.rt, self.passing, &self.file)? {
@@ -157,10 +160,21 @@ fn is_named<R: Files>(rt: &R, name: &str, file: &File) -> io::Result<bool> {
     Ok(named.dev() == open.dev() && named.ino() == open.ino())
 }
 
-/// The mode of a file that takes a name: that of the file that has it.
-fn mode_of<R: Files>(rt: &R, name: &str) -> u32 {
-    match fs::symlink_metadata(rt, name) {
-        Ok(old) if old.is_file() => old.mode() & PERMISSION_BITS,
-        _ => PRIVATE,
+/// The mode of a file that takes a name: that of the file that has it, if the owner is the same, who may have chosen to share it;
+/// what its group might do counts where the group is the same too.
+fn mode_for<R: Files>(rt: &R, file: &File, name: &str) -> io::Result<u32> {
+    let old = match fs::symlink_metadata(rt, name) {
+        Ok(old) if old.is_file() => old,
+        _ => return Ok(PRIVATE),
+    };
+    let new = file.metadata()?;
+    if old.uid() != new.uid() {
+        return Ok(PRIVATE);
+    }
+    let mode = old.mode() & PERMISSION_BITS;
+    if old.gid() == new.gid() {
+        Ok(mode)
+    } else {
+        Ok(mode & !GROUP_BITS)
     }
 }

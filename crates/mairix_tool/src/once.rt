@@ -65,9 +65,11 @@ pub fn once_run<S: Source, A: Archives, O: Out>(
     ensures archives_failed { Counted (is_failed_archives result.fault) (A.failures archives.old) (A.failures archives.new) }
     ensures out_failed { Counted (is_failed_out result.fault) (O.failures out.old) (O.failures out.new) }
 
-    // A refusal of words, rcfile or query is answered whatever the devices hold, and before any of them is asked.
+    // A refusal of words, rcfile or query is answered whatever the devices hold, and before any of them is asked, also where memory
+    // was wanting before it was found.
     ensures asked { RefusesAsked (asked (map string_bytes words.now) rc.now now) result.fault }
     ensures early { OnTrue (is_early result.fault) ((sources.new ≡ sources.old) × (archives.new ≡ archives.old) × (out.new ≡ out.old)) }
+    ensures refused { IfErr (asked (map string_bytes words.now) rc.now now) (λ _. (sources.new ≡ sources.old) × (archives.new ≡ archives.old) × (out.new ≡ out.old)) }
 
     // Where the archives aren't indexed nothing is searched, and nothing has gone out. Nor has it where a raw answer finds them
     // changed or can't read them.
@@ -116,6 +118,7 @@ fn index_wanted<S: Source>(
     ensures out_failed { is_failed_out (fault_in result) ≡ false }
     ensures asked { RefusesAsked (asked (map string_bytes words.now) rc.now now) (fault_in result) }
     ensures early { OnTrue (is_early (fault_in result)) (sources.new ≡ sources.old) }
+    ensures refused { IfErr (asked (map string_bytes words.now) rc.now now) (λ _. sources.new ≡ sources.old) }
     ensures own { IfErr result (λ fault. IsOnceFault fault) }
 {
     let wanted = Wanted::of(alloc, words, rc, now)?;

@@ -21,13 +21,13 @@ const GATHERED: usize = 65_536;
 
 /// Indexes the archives that the rcfile of this path names, puts the index under the name `database`, and answers status 0.
 ///
-/// The index is written to `<database>.new`, which takes the name of the old index once it is whole, and its mode; else it is
-/// removed, and the old index is as it was. What a run that was killed left under `<database>.new` is lost.
+/// The index is written to `<database>.new`, which takes the name of the old index once it is whole, and its mode where the owner
+/// is the same; else it is removed, and the old index is as it was. What a run that was killed left under `<database>.new` is lost.
 ///
 /// # Errors
 ///
-/// `CannotOpen` with nothing touched where either name leads to an archive or to the rcfile, where another run is making an index
-/// of this name, and where the new file can't be made; else the fault of an archive, of the output or of memory.
+/// `CannotOpen` with nothing touched where either name leads to an archive or to the rcfile, where a device, a pipe or a socket has
+/// this name, where another run is making an index of it, and where the new file can't be made; else the fault of an archive, of the output or of memory.
 pub(crate) fn replace_index<'p, R: Files<File = File>>(
     rt: &R,
     alloc: Global,

@@ -3,7 +3,7 @@ ghost use Rattle.std.specs.Prelude.{◌≡◌, ◌++◌, codes, IfOk, string_byt
 
 use crate::program::read_files::ReadFiles;
 use crate::program::stopped::Stopped;
-use mairix_files::NewFile;
+use mairix_files::{NewFile, is_special_file};
 use run_faults::Fault;
 use std::alloc::{AllocError, Global};
 use std::fs::File;
@@ -20,8 +20,8 @@ pub(crate) fn passing_name(alloc: Global, name: &str) -> Result<String, AllocErr
 ///
 /// # Errors
 ///
-/// `CannotOpen` with nothing touched where either name leads to a file that the run reads; and where no file can be made under the
-/// passing name, as while another run makes its own there.
+/// `CannotOpen` with nothing touched where either name leads to a file that the run reads, or the name is a device's, a pipe's or a
+/// socket's, which it would lose; and where no file can be made under the passing name, as while another run makes its own there.
 pub(crate) fn create_file<'p, R: Files<File = File>>(
     rt: &'p R,
     alloc: Global,
@@ -33,6 +33,9 @@ pub(crate) fn create_file<'p, R: Files<File = File>>(
         if read.has(rt, alloc, path)? {
             return Err(Stopped::at(alloc, path));
         }
+    }
+    if is_special_file(rt, name) {
+        return Err(Stopped::at(alloc, name));
     }
     match NewFile::create(rt, passing, name) {
         Ok(new) => Ok(new),
