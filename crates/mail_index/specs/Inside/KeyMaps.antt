@@ -76,6 +76,14 @@ pub record IsGap (kind : Kind) (text : List ℕ) (keys : List Key) (place : ℕ)
   pub below : (j : ℕ) → suc j ≡ place → lies_to kind text (key_at keys j) ≡ Less
   pub above : place < length keys → lies_to kind text (key_at keys place) ≡ Greater
 
+-- the wanted key, if it is one of the keys, stands between these places: what stands before the first lies before it, and what
+-- stands at the second behind it
+pub record AreBounds (kind : Kind) (text : List ℕ) (keys : List Key) (low high : ℕ) : Type 0 where
+  pub order : low ≤ high
+  pub within : high ≤ length keys
+  pub below : (j : ℕ) → suc j ≡ low → lies_to kind text (key_at keys j) ≡ Less
+  pub above : high < length keys → lies_to kind text (key_at keys high) ≡ Greater
+
 -- ---- an order in pages
 
 -- what the pages hold

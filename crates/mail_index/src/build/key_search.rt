@@ -1,10 +1,10 @@
 //! The search for a key among entries in order.
-ghost use Rattle.std.specs.Prelude.{◌≡◌, ◌<◌, ◌≤◌, false, length, IfOk, IfErr, IfSome, IfNone};
+ghost use Rattle.std.specs.Prelude.{◌≡◌, ◌<◌, ◌≤◌, false, ℕ, suc, length, IfOk, IfErr, IfSome, IfNone};
 ghost use Rattle.std.specs.Ordering.{is_eq};
-ghost use Rattle.std.specs.declared.cmp.Ordering.TheVariants.{Equal};
+ghost use Rattle.std.specs.declared.cmp.Ordering.TheVariants.{Less, Equal, Greater};
 ghost use Rattle.std.specs.List.{AllByRecursion};
 ghost use Rattle.mail_index.specs.Inside.KeyFronts.{IsFrontOf, IsFronted};
-ghost use Rattle.mail_index.specs.Inside.KeyMaps.{placed, numbers_of_slots, IsGap};
+ghost use Rattle.mail_index.specs.Inside.KeyMaps.{placed, numbers_of_slots, AreBounds, IsGap};
 ghost use Rattle.mail_index.specs.KeysRead.{key_at};
 ghost use Rattle.mail_index.specs.LookUps.{lies_to};
 
@@ -13,8 +13,11 @@ use crate::build::key_front::Fronted;
 use crate::kind::Kind;
 use std::cmp::Ordering;
 
+/// At so many slots a search looks before it halves what is left.
+const PROBES: usize = 16;
+
 /// The number of the entry of this key, of this front, among those of these slots, which stand in order; where none of
-/// them is it, the place between them where it would stand. A binary search.
+/// them is it, the place between them where it would stand. A binary search, behind a first look at some slots.
 pub fn search(
     slots: &[Fronted],
     entries: &[KeyEntry],
@@ -27,8 +30,7 @@ pub fn search(
     ensures found { IfOk result (λ number. (number < length entries.now) × (lies_to kind text.now (key_at entries.now number) ≡ Equal)) }
     ensures place { IfErr result (IsGap kind text.now (placed entries.now (numbers_of_slots slots.now))) }
 {
-    let mut low = 0;
-    let mut high = slots.len();
+    let (mut low, mut high) = bounds(slots, entries, front, kind, text);
     while low < high {
         let middle = low + (high - low) / 2;
         let slot = slots[middle];
@@ -39,6 +41,89 @@ pub fn search(
         }
     }
     Err(low)
+}
+
+// Two places between which the key stands, if it is one of them: those that were guessed, where they are right.
+fn bounds(
+    slots: &[Fronted],
+    entries: &[KeyEntry],
+    front: u64,
+    kind: Kind,
+    text: &[u8],
+) -> (usize, usize)
+    requires fronted { AllByRecursion (IsFronted entries.now) slots.now }
+    requires front { IsFrontOf kind text.now front }
+    ensures { AreBounds kind text.now (placed entries.now (numbers_of_slots slots.now)) result.0 result.1 }
+{
+    let (smaller, larger) = guessed_bounds(slots, front);
+    let low = bound_behind(slots, entries, front, kind, text, smaller);
+    let high = bound_at(slots, entries, front, kind, text, larger);
+    if low <= high {
+        (low, high)
+    } else {
+        (0, slots.len())
+    }
+}
+
+// The place behind a slot, if its key comes before this one, and else 0.
+fn bound_behind(
+    slots: &[Fronted],
+    entries: &[KeyEntry],
+    front: u64,
+    kind: Kind,
+    text: &[u8],
+    smaller: usize,
+) -> usize
+    requires fronted { AllByRecursion (IsFronted entries.now) slots.now }
+    requires front { IsFrontOf kind text.now front }
+    ensures below { (j : ℕ) → suc j ≡ result → lies_to kind text.now (key_at (placed entries.now (numbers_of_slots slots.now)) j) ≡ Less }
+{
+    if let Some(slot) = slots.get(smaller) {
+        if let Ordering::Less = compare(*slot, entries, front, kind, text) {
+            return smaller + 1;
+        }
+    }
+    0
+}
+
+// The place of a slot, if its key comes behind this one, and else the place behind all slots.
+fn bound_at(
+    slots: &[Fronted],
+    entries: &[KeyEntry],
+    front: u64,
+    kind: Kind,
+    text: &[u8],
+    larger: usize,
+) -> usize
+    requires fronted { AllByRecursion (IsFronted entries.now) slots.now }
+    requires front { IsFrontOf kind text.now front }
+    ensures within { result ≤ length slots.now }
+    ensures above { result < length slots.now → lies_to kind text.now (key_at (placed entries.now (numbers_of_slots slots.now)) result) ≡ Greater }
+{
+    if let Some(slot) = slots.get(larger) {
+        if let Ordering::Greater = compare(*slot, entries, front, kind, text) {
+            return larger;
+        }
+    }
+    slots.len()
+}
+
+// The last slot that was looked at whose front is smaller, and the first whose front is larger. Looks at slots that don't hang
+// on one another, so that the waits for them are one. A guess: nothing hangs on it but time.
+fn guessed_bounds(slots: &[Fronted], front: u64) -> (usize, usize) {
+    let stride = slots.len() / PROBES + 1;
+    let mut smaller: usize = 0;
+    let mut larger_from: usize = 0;
+    for probe in 0..PROBES {
+        if let Some(slot) = slots.get(stride.wrapping_mul(probe)) {
+            smaller = smaller.wrapping_add((slot.front < front) as usize);
+            larger_from = larger_from.wrapping_add((slot.front <= front) as usize);
+        }
+    }
+    (
+        stride.wrapping_mul(smaller.wrapping_sub(1)),
+        stride.wrapping_mul(larger_from),
+    )
 }
 
 // How the key of a slot lies to this one, of this front. Its entry is read only where the fronts are equal.

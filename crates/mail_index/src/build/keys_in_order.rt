@@ -8,6 +8,9 @@ use crate::build::key_entry::KeyEntry;
 use crate::build::key_front::Fronted;
 use std::marker::Model;
 
+/// The entries of so many keys are fetched together.
+const GROUP: usize = 16;
+
 /// The slots that are left of an order in pages.
 #[derive(Clone, Copy)]
 struct Left<'a> {
@@ -22,6 +25,8 @@ struct Left<'a> {
 pub struct KeysInOrder<'a> {
     entries: &'a [KeyEntry],
     left: Left<'a>,
+    // How many of the next entries were fetched. Nothing hangs on it but time.
+    fetched: usize,
 }
 
 impl<'a> Model for KeysInOrder<'a> {
@@ -56,7 +61,11 @@ impl<'a> KeysInOrder<'a> {
                 pages: rest,
             },
         };
-        KeysInOrder { entries, left }
+        KeysInOrder {
+            entries,
+            left,
+            fetched: 0,
+        }
     }
 }
 
@@ -68,10 +77,26 @@ impl<'a> Iterator for KeysInOrder<'a> {
     ghost remaining = { item_count (λ s. s) };
 
     fn next(&mut self) -> Option<&'a KeyEntry> {
+        if self.fetched == 0 {
+            self.fetched = fetch(self.entries, self.left.page);
+        }
+        self.fetched = self.fetched.saturating_sub(1);
         let (slot, left) = next_slot(self.left)?;
         self.left = left;
         self.entries.get(slot.number as usize)
     }
+}
+
+// Fetches the entries of the next slots, and answers how many they are. No text is empty, so that each is counted; to learn that of
+// one needs nothing of another, so that the waits for them are one.
+fn fetch(entries: &[KeyEntry], page: &[Fronted]) -> usize {
+    let mut count: usize = 0;
+    for slot in page.iter().take(GROUP) {
+        if let Some(entry) = entries.get(slot.number as usize) {
+            count = count.wrapping_add(!entry.text().is_empty() as usize);
+        }
+    }
+    count
 }
 
 // The next slot, and those left behind it.

@@ -4,18 +4,11 @@ use Rattle.mail_index.specs.LookUps.{lies_to}
 use Rattle.mail_index.proofs.BuildLaws.KeyMapLemmas.{slot_keys, slots-long, slot-at}
 use Rattle.mail_index.proofs.build.key_search.search.Goals as goal
 
-pub loop-low-init : goal.loop-low-init
-loop-low-init c = record {
-  order = omega arith;
-  within = omega arith;
-  below = λ j e. absurd (omega (arith, e));
-  above = λ lt. absurd (omega (arith, lt));
-}
-
 pub loop-low-preserved-in-Less : goal.loop-low-preserved-in-Less
 loop-low-preserved-in-Less c =
     let middle : ℕ = c.loop-low.low + (c.loop-low.high - c.loop-low.low) / 2 in
-    let inside : middle < length c.args.slots.now = omega arith in
+    let long : length (slot_keys c.args.entries.now c.args.slots.now) ≡ length c.args.slots.now = slots-long c.args.entries.now c.args.slots.now in
+    let inside : middle < length c.args.slots.now = omega (arith, long, c.loop-low.invariant.within) in
     record {
       order = omega arith;
       within = c.loop-low.invariant.within;
@@ -29,10 +22,11 @@ loop-low-preserved-in-Less c =
 pub loop-low-preserved : goal.loop-low-preserved
 loop-low-preserved c =
     let middle : ℕ = c.loop-low.low + (c.loop-low.high - c.loop-low.low) / 2 in
-    let inside : middle < length c.args.slots.now = omega arith in
+    let long : length (slot_keys c.args.entries.now c.args.slots.now) ≡ length c.args.slots.now = slots-long c.args.entries.now c.args.slots.now in
+    let inside : middle < length c.args.slots.now = omega (arith, long, c.loop-low.invariant.within) in
     record {
       order = omega arith;
-      within = omega (arith, inside);
+      within = omega (arith, inside, long);
       below = c.loop-low.invariant.below;
       above = λ lt. ap (lies_to c.args.kind c.args.text.now) (slot-at c.args.entries.now c.args.slots.now middle _ inside) ∙ sym c.in-Greater.ensures;
     }
@@ -40,9 +34,8 @@ loop-low-preserved c =
 pub returns-clause-place : goal.returns-clause-place
 returns-clause-place c =
     let end : c.loop-low.low ≡ c.loop-low.high = omega (arith, c.loop-low.invariant.order, c.loop-low-test.false) in
-    let long : length (slot_keys c.args.entries.now c.args.slots.now) ≡ length c.args.slots.now = slots-long c.args.entries.now c.args.slots.now in
     record {
-      within = omega (arith, long, end, c.loop-low.invariant.within);
+      within = omega (arith, end, c.loop-low.invariant.within);
       below = c.loop-low.invariant.below;
-      above = λ lt. ap (λ (i : ℕ). lies_to c.args.kind c.args.text.now (key_at (slot_keys c.args.entries.now c.args.slots.now) i)) end ∙ c.loop-low.invariant.above (omega (arith, lt, long, end));
+      above = λ lt. ap (λ (i : ℕ). lies_to c.args.kind c.args.text.now (key_at (slot_keys c.args.entries.now c.args.slots.now) i)) end ∙ c.loop-low.invariant.above (omega (arith, lt, end));
     }
