@@ -1,5 +1,5 @@
 -- Which device an answer failed at.
-use Rattle.std.specs.Prelude.{Bool, true, false, Result, Ok, Err}
+use Rattle.std.specs.Prelude.{ℕ, Bool, true, false, Result, Ok, Err}
 use Rattle.mail_answer.specs.declared.fault.AnswerFaultKind.{AnswerFaultKind}
 use Rattle.mail_answer.specs.declared.fault.AnswerFaultKind.TheVariants.{Stale, Device, OutOfMemory, OutFailed}
 
@@ -25,3 +25,10 @@ is_stale OutOfMemory = false
 abbrev pub has_fault : {T : Type 0} → (AnswerFaultKind → Bool) → Result T AnswerFaultKind → Bool
 has_fault kinds (Ok _) = false
 has_fault kinds (Err kind) = kinds kind
+
+-- what holds of the archive that is told as stale
+abbrev pub IfStale : AnswerFaultKind → (ℕ → Type 0) → Type 0
+IfStale OutFailed holds = Unit {0}
+IfStale (Stale n) holds = holds n
+IfStale Device holds = Unit {0}
+IfStale OutOfMemory holds = Unit {0}

@@ -6,10 +6,11 @@ ghost use Rattle.mail_index.specs.Tables.{IsWellFormed};
 ghost use Rattle.mail_answer.specs.Answers.{SendsKnown, AnswersStale, fails_by};
 ghost use Rattle.mail_answer.specs.Inside.Calls.{AreAsIndexed, KeepsArchives, ReadsArchives, WritesOut};
 ghost use Rattle.mail_answer.specs.Inside.CursorLists.{AreNumbers};
-ghost use Rattle.mail_answer.specs.Faults.{has_fault, is_of_output, is_of_archives, is_stale};
+ghost use Rattle.mail_answer.specs.Faults.{has_fault, is_of_output, is_of_archives, is_stale, IfStale};
 ghost use Rattle.mail_answer.specs.Shapes.{known_answer, known_message};
 ghost use Rattle.mail_answer.specs.Sheets.{Writes};
 ghost use Rattle.mail_answer.specs.Stale.{stale_archive};
+ghost use Rattle.mail_answer.specs.TableFacts.{record_at};
 ghost use Rattle.mail_answer.specs.TableAnswers.{TableAnswer, IsTableAnswer, Answers, IsBeforeText, search_of, is_unwritten};
 
 use crate::archives::Archives;
@@ -47,6 +48,7 @@ fn push_message<A: Archives, O: Out>(
     ensures writes { Writes (O.taken out.old) (O.taken out.new) sheet.old sheet.new (known_message format places.old.table (A.held archives.old) n) result }
     ensures out { WritesOut O.Out sheet.new.sent out.old out.new result }
     ensures raw { format ≡ Format.Raw → (has_fault is_of_archives result ≡ false) × (has_fault is_stale result ≡ false) }
+    ensures stale { IfErr result (λ kind. IfStale kind (λ archive. archive ≡ (record_at places.old.table.messages n).archive)) }
 {
     match format {
         Format::Raw => push_raw(alloc, places, n, sheet, out),
@@ -77,6 +79,7 @@ fn write_messages<A: Archives, O: Out>(
     ensures all { OnOk result (sheet.new.text ≡ []) }
     ensures out { WritesOut O.Out sheet.new.sent out.old out.new result }
     ensures raw { format ≡ Format.Raw → (has_fault is_of_archives result ≡ false) × (has_fault is_stale result ≡ false) }
+    ensures below { IfErr result (λ kind. IfStale kind (λ archive. archive < length places.old.table.archives)) }
 {
     let mut count: u64 = 0;
     while let Some(n) = numbers.next() {
@@ -108,6 +111,7 @@ fn write_checked<A: Archives, O: Out>(
     ensures archives_count { Counted (fails_by is_of_archives result) (A.failures archives.old) (A.failures archives.new) }
     ensures raw { format ≡ Format.Raw → IfErr result (λ fault. IsBeforeText fault.kind fault.sent) }
     ensures unwritten { OnTrue (is_unwritten result) (out.new ≡ out.old) }
+    ensures below { IfErr result (λ fault. IfStale fault.kind (λ n. n < length index.now.archives)) }
 {
     let mut places = Places::of(index);
     let mut sheet = Sheet::new(alloc);
@@ -149,6 +153,7 @@ fn write_answer<A: Archives, O: Out>(
     ensures archives_count { Counted (fails_by is_of_archives result) (A.failures archives.old) (A.failures archives.new) }
     ensures raw { format ≡ Format.Raw → IfErr result (λ fault. IsBeforeText fault.kind fault.sent) }
     ensures unwritten { OnTrue (is_unwritten result) (out.new ≡ out.old) }
+    ensures below { A.number archives.old ≡ length index.now.archives → IfErr result (λ fault. IfStale fault.kind (λ n. n < length index.now.archives)) }
 {
     // Want of memory would hide changed archives if the query came first.
     if let Err(kind) = check_archives(index, archives) {
@@ -191,6 +196,8 @@ pub fn answer<A: Archives, O: Out>(
     // Stale exactly where the known bytes have another count or length than was indexed, before anything is written.
     ensures stale { IfSome (A.held archives.old) (λ bytes. AnswersStale (O.taken out.old) (O.taken out.new) (stale_archive index.now.archives bytes) result) }
     ensures other_count { A.number archives.old ≢ length index.now.archives → result ≡ Err (record { kind = AnswerFaultKind.Stale (min (A.number archives.old) (length index.now.archives)); sent = 0 }) }
+    // Of as many archives as were indexed it names one, whether their bytes are known or not.
+    ensures below { A.number archives.old ≡ length index.now.archives → IfErr result (λ fault. IfStale fault.kind (λ n. n < length index.now.archives)) }
     // Each device's count rises by one exactly where its failure is answered.
     ensures out_count { Counted (fails_by is_of_output result) (O.failures out.old) (O.failures out.new) }
     ensures archives_count { Counted (fails_by is_of_archives result) (A.failures archives.old) (A.failures archives.new) }

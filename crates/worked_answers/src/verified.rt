@@ -178,7 +178,14 @@ const ENDS: [(u64, Option<u32>); 6] = [
 /// What is told of archives that end so early.
 fn told_of_early_end(alloc: Global, end: u64) -> Option<Result<(), AnswerFault>> {
     let inner = held(alloc, 3, &[])?;
-    told(alloc, &mut EarlyEnd { inner, end })
+    told(
+        alloc,
+        &mut EarlyEnd {
+            inner,
+            first: 0,
+            end,
+        },
+    )
 }
 
 #[test]

@@ -1,7 +1,7 @@
 -- Laws of archives with other bytes than those that were indexed.
-use Rattle.std.proofs.Common.{◌≡◌, ℕ, zero, suc, ◌+◌, ◌<◌, ◌≤◌, Bool, true, false, ◌==◌, cond, min, List, [], ◌∷◌, map, length, drop, drop-cons, Option, None, Some, IfSome, bytes_eq, refl, ap, sym, ◌∙◌, subst, add-one, Result, Ok, Err, arith}
+use Rattle.std.proofs.Common.{◌≡◌, ℕ, zero, suc, ◌+◌, ◌<◌, ◌≤◌, Bool, true, false, ◌==◌, cond, min, List, [], ◌∷◌, ◌++◌, map, length, take, take-add, take_all, drop, drop-cons, Option, None, Some, IfSome, bytes_eq, refl, ap, ap₂, sym, ◌∙◌, subst, add-one, Result, Ok, Err, arith}
 use Rattle.std.proofs.lemmas.Bool.{eq-eqb, eqb-true, false_from_ne_true}
-use Rattle.std.proofs.lemmas.List.{drop_all, length-map}
+use Rattle.std.proofs.lemmas.List.{drop_all, length-map, map-append}
 use Rattle.std.proofs.lemmas.Slice.Eq.{bytes_eq-Decides}
 use Rattle.std.specs.List.{AllByRecursion}
 use Rattle.std.specs.Option.{option_map_or, option_or}
@@ -9,7 +9,7 @@ use Rattle.sha2.specs.Sha256.{sha256}
 use Rattle.mail_index.specs.Tables.{Archive, IsArchive, archive_length}
 use Rattle.mail_index.specs.Versions.{IsDigest}
 use Rattle.mail_answer.specs.Archives.{archive_at}
-use Rattle.mail_answer.specs.Inside.Digests.{front_digest}
+use Rattle.mail_answer.specs.Inside.Digests.{front_digest, IsDigestOf}
 use Rattle.mail_answer.specs.Stale.{first_changed, stale_archive, TellsStale}
 use Rattle.mail_answer.specs.Verified.{has_digest, first_altered, unverified_archive, AreVerified, TellsFound}
 use Rattle.mail_answer.specs.declared.fault.AnswerFaultKind.{AnswerFaultKind}
@@ -177,6 +177,31 @@ told_by_digests {T} named (Some archives) (Err (Stale n)) fresh h = ap (λ first
 told_by_digests {T} named (Some archives) (Err Device) fresh h = tt
 told_by_digests {T} named (Some archives) (Err OutOfMemory) fresh h = absurd h
 told_by_digests {T} named (Some archives) (Err OutFailed) fresh h = absurd h
+
+-- ---- what was read of each, also where no bytes are known
+
+-- what was read of the archives before this one had the lengths and digests that were indexed
+abbrev pub ReadTo : List Archive → ℕ → Type 0
+ReadTo named n = (read : List (List ℕ)) × AreVerified (take n named) read
+
+pub none_read : (named : List Archive) → ReadTo named 0
+none_read named = ([], record { lengths = refl; digests = refl })
+
+pub more_read : (named : List Archive) (n : ℕ) (a : Archive) (rest : List Archive) (digest indexed : List ℕ) → drop n named ≡ a ∷ rest → a.digest ≡ Some indexed → digest ≡ indexed → IsDigestOf a.length digest
+    → ReadTo named n → ReadTo named (n + 1)
+more_read named n a rest digest indexed e told same read so_far =
+    let more : take (n + 1) named ≡ take n named ++ a ∷ [] = take-add n 1 named ∙ ap (λ xs. take n named ++ take 1 xs) e in
+    let of_bytes : a.digest ≡ Some (sha256 read.0) = told ∙ ap Some (sym same ∙ read.2) in (
+      so_far.0 ++ read.0 ∷ [],
+      record {
+        lengths = ap (map (λ (t : Archive). t.length)) more ∙ map-append (λ (t : Archive). t.length) (take n named) (a ∷ []) ∙ ap₂ (λ xs ys. xs ++ ys) so_far.1.lengths (ap (λ k. k ∷ []) (sym read.1)) ∙ sym (map-append length so_far.0 (read.0 ∷ []));
+        digests = ap (map (λ (t : Archive). t.digest)) more ∙ map-append (λ (t : Archive). t.digest) (take n named) (a ∷ []) ∙ ap₂ (λ xs ys. xs ++ ys) so_far.1.digests (ap (λ d. d ∷ []) of_bytes)
+            ∙ sym (map-append (λ (bytes : List ℕ). Some (sha256 bytes)) so_far.0 (read.0 ∷ []));
+      },
+    )
+
+pub all_read : (named : List Archive) (n : ℕ) → length named ≤ n → ReadTo named n → (read : List (List ℕ)) × AreVerified named read
+all_read named n h so_far = (so_far.0, subst (λ (front : List Archive). AreVerified front so_far.0) (take_all n named h) so_far.1)
 
 -- ---- each archive of version 2 has a digest
 

@@ -2,7 +2,7 @@
 ghost use Rattle.std.specs.Prelude.{◌≡◌, ◌≢◌, ◌<◌, ◌-◌, ◌^◌, ◌==◌, length, min, false, Err, IfOk, IfErr, OnOk, IfSome};
 ghost use Rattle.contract_words.specs.Devices.{Counted};
 ghost use Rattle.mail_answer.specs.Archives.{archive_at};
-ghost use Rattle.mail_answer.specs.Faults.{has_fault, is_of_archives, is_of_output};
+ghost use Rattle.mail_answer.specs.Faults.{has_fault, is_of_archives, is_of_output, IfStale};
 ghost use Rattle.mail_answer.specs.Inside.Calls.{KeepsArchives};
 ghost use Rattle.mail_answer.specs.Stale.{stale_archive, TellsStale};
 
@@ -21,6 +21,7 @@ pub(crate) fn check_archives<A: Archives>(
     ensures stale { IfSome (A.held archives.old) (λ bytes. TellsStale (stale_archive index.now.archives bytes) result) }
     ensures same_count { OnOk result (A.number archives.old ≡ length index.now.archives) }
     ensures other_count { A.number archives.old ≢ length index.now.archives → result ≡ Err (AnswerFaultKind.Stale (min (A.number archives.old) (length index.now.archives))) }
+    ensures below { A.number archives.old ≡ length index.now.archives → IfErr result (λ kind. IfStale kind (λ n. n < length index.now.archives)) }
     ensures count { Counted (has_fault is_of_archives result) (A.failures archives.old) (A.failures archives.new) }
     ensures own { IfErr result (λ kind. (is_of_output kind ≡ false) × (kind ≢ AnswerFaultKind.OutOfMemory)) }
 {

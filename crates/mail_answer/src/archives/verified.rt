@@ -1,14 +1,14 @@
 //! Whether archives have the bytes that were indexed.
-ghost use Rattle.std.specs.Prelude.{◌≡◌, ◌≢◌, ◌<◌, ◌≤◌, ◌-◌, ◌^◌, false, length, min, None, Err, IfOk, IfErr, OnOk, IfSome};
+ghost use Rattle.std.specs.Prelude.{◌≡◌, ◌≢◌, ◌<◌, ◌≤◌, ◌-◌, ◌^◌, ℕ, List, false, length, min, None, Err, IfOk, IfErr, OnOk, IfSome};
 ghost use Rattle.contract_words.specs.Devices.{Counted};
 ghost use Rattle.mail_index.specs.Tables.{IsWellFormed};
 ghost use Rattle.mail_answer.specs.Answers.{fails_by};
 ghost use Rattle.mail_answer.specs.Archives.{archive_at};
 ghost use Rattle.mail_answer.specs.Inside.Calls.{AreAsIndexed, KeepsArchives};
-ghost use Rattle.mail_answer.specs.Inside.Digests.{front_digest, AbsorbsPart};
+ghost use Rattle.mail_answer.specs.Inside.Digests.{front_digest, AbsorbsPart, IsDigestOf};
 ghost use Rattle.mail_answer.specs.Faults.{has_fault, is_of_archives, is_of_output};
 ghost use Rattle.mail_answer.specs.Stale.{stale_archive, TellsStale};
-ghost use Rattle.mail_answer.specs.Verified.{first_altered, TellsFound, TellsVerified};
+ghost use Rattle.mail_answer.specs.Verified.{first_altered, AreVerified, TellsFound, TellsVerified};
 
 use crate::archives::Archives;
 use crate::archives::stale::check_archives;
@@ -58,6 +58,7 @@ fn read_digest<A: Archives>(
     requires count { A.failures archives.old < 2 ^ 64 - 1 }
     ensures keeps { KeepsArchives A.Archives archives.old archives.new }
     ensures digest { IfOk result (λ digest. IfSome (A.held archives.old) (λ bytes. digest ≡ front_digest indexed_length (archive_at bytes archive))) }
+    ensures read { IfOk result (λ digest. IfSome digest (λ digest. IsDigestOf indexed_length digest)) }
     ensures count { Counted (has_fault is_of_archives result) (A.failures archives.old) (A.failures archives.new) }
     ensures own { IfErr result (λ kind. kind ≡ AnswerFaultKind.Device) }
 {
@@ -87,6 +88,7 @@ fn check_digests<A: Archives>(
     requires count { A.failures archives.old < 2 ^ 64 - 1 }
     ensures keeps { KeepsArchives A.Archives archives.old archives.new }
     ensures altered { IfSome (A.held archives.old) (λ bytes. TellsStale (first_altered 0 index.now.archives bytes) result) }
+    ensures read { OnOk result ((read : List (List ℕ)) × AreVerified index.now.archives read) }
     ensures count { Counted (has_fault is_of_archives result) (A.failures archives.old) (A.failures archives.new) }
     ensures own { has_fault is_of_output result ≡ false }
 {
@@ -117,6 +119,7 @@ fn verify_each<A: Archives>(
     requires count { A.failures archives.old < 2 ^ 64 - 1 }
     ensures keeps { KeepsArchives A.Archives archives.old archives.new }
     ensures verified { IfSome (A.held archives.old) (λ bytes. TellsFound index.now.archives bytes result) }
+    ensures read { OnOk result ((read : List (List ℕ)) × AreVerified index.now.archives read) }
     ensures same_count { OnOk result (A.number archives.old ≡ length index.now.archives) }
     ensures other_count { A.number archives.old ≢ length index.now.archives → result ≡ Err (AnswerFaultKind.Stale (min (A.number archives.old) (length index.now.archives))) }
     ensures count { Counted (has_fault is_of_archives result) (A.failures archives.old) (A.failures archives.new) }
@@ -146,6 +149,8 @@ pub fn verify<A: Archives>(
     ensures held { A.held archives.new ≡ A.held archives.old }
     ensures number { A.number archives.new ≡ A.number archives.old }
     ensures verified { IfSome (A.held archives.old) (λ bytes. TellsVerified index.now.archives bytes result) }
+    // Whether the bytes are known or not, what was read of each archive had the length and the digest that were indexed.
+    ensures read { OnOk result ((read : List (List ℕ)) × AreVerified index.now.archives read) }
     ensures same_count { OnOk result (A.number archives.old ≡ length index.now.archives) }
     ensures other_count { A.number archives.old ≢ length index.now.archives → result ≡ Err (record { kind = AnswerFaultKind.Stale (min (A.number archives.old) (length index.now.archives)); sent = 0 }) }
     ensures archives_count { Counted (fails_by is_of_archives result) (A.failures archives.old) (A.failures archives.new) }

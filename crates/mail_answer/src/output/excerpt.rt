@@ -1,13 +1,15 @@
 //! The excerpt of a message.
-ghost use Rattle.std.specs.Prelude.{◌≡◌, ◌<◌, ◌-◌, ◌^◌, ℕ, List, ◌∷◌, ◌++◌, length, IfOk, OnOk};
+ghost use Rattle.std.specs.Prelude.{◌≡◌, ◌<◌, ◌-◌, ◌^◌, ℕ, List, ◌∷◌, ◌++◌, length, IfOk, IfErr, OnOk};
 ghost use Rattle.header_text.specs.EncodedWords.{decoded};
 ghost use Rattle.header_text.specs.HeldLines.{HasLines};
 ghost use Rattle.header_text.specs.Headers.{fields_of};
 ghost use Rattle.header_text.specs.Unfolding.{unfolded};
 ghost use Rattle.mail_answer.specs.Excerpts.{body_of as body_of_name, shown_byte as shown_byte_of, without_controls, field_line, excerpt_lines};
+ghost use Rattle.mail_answer.specs.Faults.{IfStale};
 ghost use Rattle.mail_answer.specs.Inside.Calls.{AreAsIndexed, ReadsArchives, WritesOut};
 ghost use Rattle.mail_answer.specs.Shapes.{known_message};
 ghost use Rattle.mail_answer.specs.Sheets.{Writes};
+ghost use Rattle.mail_answer.specs.TableFacts.{record_at};
 ghost use Rattle.mail_answer.specs.declared.format.Format.TheVariants.{Excerpt};
 ghost use Rattle.mail_index.specs.Tables.{IsWellFormed};
 
@@ -108,6 +110,7 @@ pub(crate) fn push_excerpt<A: Archives, O: Out>(
     ensures same { places.new.table ≡ places.old.table }
     ensures writes { Writes (O.taken out.old) (O.taken out.new) sheet.old sheet.new (known_message Excerpt places.old.table (A.held archives.old) n) result }
     ensures out { WritesOut O.Out sheet.new.sent out.old out.new result }
+    ensures stale { IfErr result (λ kind. IfStale kind (λ archive. archive ≡ (record_at places.old.table.messages n).archive)) }
 {
     let message = places.index().message(n);
     let header = read_header(alloc, message, archives)?;

@@ -1,8 +1,8 @@
 //! The header of a message, read from its archive.
-ghost use Rattle.std.specs.Prelude.{◌≡◌, ◌<◌, ◌-◌, ◌^◌, List, false, drop, IfOk, OnOk, IfSome};
+ghost use Rattle.std.specs.Prelude.{◌≡◌, ◌<◌, ◌-◌, ◌^◌, List, false, drop, IfOk, IfErr, OnOk, IfSome};
 ghost use Rattle.header_text.specs.Headers.{HeaderField, fields_of};
 ghost use Rattle.mbox_cutter.specs.Lines.{lines};
-ghost use Rattle.mail_answer.specs.Faults.{has_fault, is_of_output};
+ghost use Rattle.mail_answer.specs.Faults.{has_fault, is_of_output, IfStale};
 ghost use Rattle.mail_answer.specs.Inside.Calls.{ReadsArchives};
 ghost use Rattle.mail_answer.specs.Inside.HeaderReads.{HasFields, WillHaveFields, HasFieldsAfter};
 ghost use Rattle.mail_answer.specs.Inside.Readings.{coming, coming_count, span_reading, IsInside};
@@ -26,8 +26,10 @@ fn read_line<A: Archives>(
     ensures archives { ReadsArchives A.Archives archives.old archives.new result }
     ensures inside { OnOk result (IsInside (A.number archives.old) (A.held archives.old) reader.new) }
     ensures fields { IfOk result (λ taken. (fields : List HeaderField) → WillHaveFields (coming (A.held archives.old) reader.old) header.old fields → HasFieldsAfter taken (coming (A.held archives.old) reader.new) header.new fields) }
+    ensures archive { OnOk result (reader.new.archive ≡ reader.old.archive) }
     ensures less { IfOk result (λ taken. taken ≡ Taken.More → coming_count reader.new < coming_count reader.old) }
     ensures own { has_fault is_of_output result ≡ false }
+    ensures stale { IfErr result (λ kind. IfStale kind (λ n. n ≡ reader.old.archive)) }
 {
     let n = reader.first_line(archives)?;
     if n == 0 {
@@ -49,6 +51,7 @@ pub(crate) fn read_header<A: Archives>(
     ensures archives { ReadsArchives A.Archives archives.old archives.new result }
     ensures fields { IfOk result (λ header. IfSome (A.held archives.old) (λ bytes. HasFields header (fields_of (drop 1 (lines (span bytes message)))))) }
     ensures own { has_fault is_of_output result ≡ false }
+    ensures stale { IfErr result (λ kind. IfStale kind (λ n. n ≡ message.archive)) }
 {
     let mut reader = LineReader::over(alloc, message.archive, message.offset, message.length);
     let first = reader.first_line(archives)?;

@@ -1,8 +1,8 @@
 //! Bytes that are held for a while, in room that stays.
-ghost use Rattle.std.specs.Prelude.{◌≡◌, ◌<◌, ◌≤◌, ◌+◌, ◌-◌, ◌^◌, ◌++◌, [], false, length, take, drop, IfOk, OnOk, OnErr, IfSome};
+ghost use Rattle.std.specs.Prelude.{◌≡◌, ◌<◌, ◌≤◌, ◌+◌, ◌-◌, ◌^◌, ◌++◌, [], false, length, take, drop, IfOk, IfErr, OnOk, OnErr, IfSome};
 ghost use Rattle.contract_words.specs.Devices.{Counted, Counts};
 ghost use Rattle.mail_answer.specs.Archives.{archive_at};
-ghost use Rattle.mail_answer.specs.Faults.{has_fault, is_of_output, is_of_archives, is_stale};
+ghost use Rattle.mail_answer.specs.Faults.{has_fault, is_of_output, is_of_archives, is_stale, IfStale};
 ghost use Rattle.mail_answer.specs.Inside.Calls.{KeepsArchives};
 ghost use Rattle.mail_answer.specs.Inside.Readings.{ReadsBehind, ReadsTail};
 
@@ -98,6 +98,8 @@ impl HeldBytes {
         ensures refused { OnErr result (self.new ≡ self.old) }
         ensures count { Counted (has_fault is_of_archives result) (A.failures archives.old) (A.failures archives.new) }
         ensures own { has_fault is_of_output result ≡ false }
+        ensures stale { IfErr result (λ kind. IfStale kind (λ n. n ≡ archive)) }
+        ensures unread { IfErr result (λ kind. kind ≡ AnswerFaultKind.OutOfMemory → archives.new ≡ archives.old) }
         ensures fresh { IfSome (A.held archives.old) (λ bytes. offset < length (archive_at bytes archive) → has_fault is_stale result ≡ false) }
     {
         make_room(&mut self.room, self.count, most)?;

@@ -1,7 +1,7 @@
 //! Part of an archive, read line by line.
-ghost use Rattle.std.specs.Prelude.{◌≡◌, ◌<◌, ◌≤◌, ◌+◌, ◌-◌, ◌^◌, [], false, length, take, drop, IfOk, OnOk, IfSome};
+ghost use Rattle.std.specs.Prelude.{◌≡◌, ◌<◌, ◌≤◌, ◌+◌, ◌-◌, ◌^◌, [], false, length, take, drop, IfOk, IfErr, OnOk, IfSome};
 ghost use Rattle.mbox_cutter.specs.Lines.{first_length};
-ghost use Rattle.mail_answer.specs.Faults.{has_fault, is_of_output};
+ghost use Rattle.mail_answer.specs.Faults.{has_fault, is_of_output, IfStale};
 ghost use Rattle.mail_answer.specs.Inside.Calls.{ReadsArchives};
 ghost use Rattle.mail_answer.specs.Inside.Readings.{coming, coming_count, IsInside};
 
@@ -84,10 +84,12 @@ impl LineReader {
         requires count { A.failures archives.old < 2 ^ 64 - 1 }
         ensures archives { ReadsArchives A.Archives archives.old archives.new result }
         ensures inside { OnOk result (IsInside (A.number archives.old) (A.held archives.old) self.new) }
+        ensures archive { OnOk result (self.new.archive ≡ self.old.archive) }
         ensures coming { OnOk result (coming (A.held archives.old) self.new ≡ coming (A.held archives.old) self.old) }
         ensures as_many { OnOk result (coming_count self.new ≡ coming_count self.old) }
         ensures less { OnOk result (self.new.left < self.old.left) }
         ensures own { has_fault is_of_output result ≡ false }
+        ensures stale { IfErr result (λ kind. IfStale kind (λ n. n ≡ self.old.archive)) }
     {
         self.held.drop_front(self.from);
         self.from = 0;
@@ -107,12 +109,14 @@ impl LineReader {
         requires count { A.failures archives.old < 2 ^ 64 - 1 }
         ensures archives { ReadsArchives A.Archives archives.old archives.new result }
         ensures inside { OnOk result (IsInside (A.number archives.old) (A.held archives.old) self.new) }
+        ensures archive { OnOk result (self.new.archive ≡ self.old.archive) }
         ensures coming { OnOk result (coming (A.held archives.old) self.new ≡ coming (A.held archives.old) self.old) }
         ensures as_many { OnOk result (coming_count self.new ≡ coming_count self.old) }
         ensures within { IfOk result (λ n. n ≤ length self.new.unread) }
         ensures line { IfOk result (λ n. IfSome (coming (A.held archives.old) self.old) (λ bytes. n ≡ first_length bytes)) }
         ensures some { IfOk result (λ n. n ≡ 0 → coming_count self.old ≡ 0) }
         ensures own { has_fault is_of_output result ≡ false }
+        ensures stale { IfErr result (λ kind. IfStale kind (λ n. n ≡ self.old.archive)) }
     {
         'more: loop {
             let rest = self.unread();

@@ -1,12 +1,14 @@
 //! A message in the form of mbox archives.
-ghost use Rattle.std.specs.Prelude.{◌≡◌, ◌<◌, ◌-◌, ◌^◌, length, nat_eq, OnOk};
+ghost use Rattle.std.specs.Prelude.{◌≡◌, ◌<◌, ◌-◌, ◌^◌, length, nat_eq, IfErr, OnOk};
 ghost use Rattle.std.specs.Option.{option_map};
 ghost use Rattle.mail_index.specs.Tables.{IsWellFormed};
+ghost use Rattle.mail_answer.specs.Faults.{IfStale};
 ghost use Rattle.mail_answer.specs.Inside.Calls.{AreAsIndexed, ReadsArchives, WritesOut};
 ghost use Rattle.mail_answer.specs.Inside.Copies.{Copies};
 ghost use Rattle.mail_answer.specs.Inside.Readings.{coming, coming_count, span_reading, IsInside};
 ghost use Rattle.mail_answer.specs.Shapes.{closed, known_message};
 ghost use Rattle.mail_answer.specs.Sheets.{Writes};
+ghost use Rattle.mail_answer.specs.TableFacts.{record_at};
 ghost use Rattle.mail_answer.specs.declared.format.Format.TheVariants.{Mbox};
 
 use crate::archives::Archives;
@@ -70,9 +72,11 @@ impl Part {
         requires out { O.failures out.old < 2 ^ 64 - 1 }
         ensures archives { ReadsArchives A.Archives archives.old archives.new result }
         ensures inside { OnOk result (IsInside (A.number archives.old) (A.held archives.old) self.new) }
+        ensures archive { OnOk result (self.new.archive ≡ self.old.archive) }
         ensures copies { Copies (O.taken out.old) (O.taken out.new) sheet.old sheet.new (coming (A.held archives.old) self.old) (coming (A.held archives.old) self.new) before result }
         ensures less { OnOk result (coming_count self.new < coming_count self.old) }
         ensures out { WritesOut O.Out sheet.new.sent out.old out.new result }
+        ensures stale { IfErr result (λ kind. IfStale kind (λ n. n ≡ self.old.archive)) }
     {
         let gathered = sheet.text.len();
         let most = self.left.min(PIECE) as usize;
@@ -99,6 +103,7 @@ fn push_closed<A: Archives, O: Out>(
     ensures archives { ReadsArchives A.Archives archives.old archives.new result }
     ensures writes { Writes (O.taken out.old) (O.taken out.new) sheet.old sheet.new (option_map closed (coming (A.held archives.old) (span_reading message))) result }
     ensures out { WritesOut O.Out sheet.new.sent out.old out.new result }
+    ensures stale { IfErr result (λ kind. IfStale kind (λ n. n ≡ message.archive)) }
 {
     let mut part = Part::of(message);
     let mut ending = Ending::new();
@@ -125,6 +130,7 @@ pub(crate) fn push_mbox<A: Archives, O: Out>(
     ensures archives { ReadsArchives A.Archives archives.old archives.new result }
     ensures writes { Writes (O.taken out.old) (O.taken out.new) sheet.old sheet.new (known_message Mbox index.now (A.held archives.old) n) result }
     ensures out { WritesOut O.Out sheet.new.sent out.old out.new result }
+    ensures stale { IfErr result (λ kind. IfStale kind (λ archive. archive ≡ (record_at index.now.messages n).archive)) }
 {
     push_closed(index.message(n), archives, sheet, out)
 }

@@ -1,11 +1,11 @@
-use Rattle.std.proofs.Common.{◌∙◌, sym, arith}
+use Rattle.std.proofs.Common.{◌≡◌, ◌∙◌, sym, arith}
 use Rattle.std.proofs.lemmas.Bool.Decides.{not_from_Decides}
 use Rattle.std.proofs.lemmas.Result.{err_from_is_err_and}
 use Rattle.std.proofs.lemmas.Slice.Eq.{bytes_eq-Decides}
 use Rattle.std.specs.Str.{bytes_eq}
 use Rattle.mail_index.specs.Layouts.{archive_of}
 use Rattle.mail_answer.proofs.ArchiveLaws.StaleLemmas.{next_named, still_named}
-use Rattle.mail_answer.proofs.ArchiveLaws.VerifiedLemmas.{passes_on, stops_at, not_early, all_unaltered, nothing_told, has_some_digest}
+use Rattle.mail_answer.proofs.ArchiveLaws.VerifiedLemmas.{passes_on, stops_at, not_early, all_unaltered, nothing_told, has_some_digest, more_read, all_read}
 use Rattle.mail_answer.proofs.ArchiveLaws.CallLemmas.{keeps_join}
 use Rattle.mail_answer.proofs.archives.verified.check_digests.Goals as goal
 
@@ -44,16 +44,20 @@ loop-n-preserved g c =
     let read = rw (i.keeps.held, c.in-Some-2.is) at c.in_ok-digest.ensures.digest in
     let coming = sym i.coming ∙ c.in-Some.ensures in
     let step = next_named named c.loop-n.n (archive_of c.in-Some.archive) c.next.new.self coming in
+    let same : c.in-Some-2.digest ≡ c.in-Some-digest.indexed = (bytes_eq-Decides c.in-Some-2.digest c.in-Some-digest.indexed).0 (sym c.eq.ensures ∙ c.if-eq.true) in
     let so_far = passes_on named (g.A.Archives.held c.args.archives.now) c.loop-n.n (archive_of c.in-Some.archive) c.next.new.self c.in-Some-2.digest c.in-Some-digest.indexed (omega (arith, c.loop-n-test.true, c.archive_count-n-end.ensures))
-    coming c.requires.indexed.fresh i.so_far read c.in-Some-digest.is
-    ((bytes_eq-Decides c.in-Some-2.digest c.in-Some-digest.indexed).0 (sym c.eq.ensures ∙ c.if-eq.true)) in
+    coming c.requires.indexed.fresh i.so_far read c.in-Some-digest.is same in
     record {
       coming = sym step.1;
       keeps = keeps_join g.A.Archives _ _ _ i.keeps c.in_ok-digest.ensures.keeps;
       count = c.in_ok-digest.ensures.count ∙ i.count;
+      read = more_read named c.loop-n.n (archive_of c.in-Some.archive) c.next.new.self c.in-Some-2.digest c.in-Some-digest.indexed coming c.in-Some-digest.is same (rw c.in-Some-2.is at c.in_ok-digest.ensures.read) i.read;
       so_far = rw step.1 so_far;
     }
 
 pub returns-clause-altered : goal.returns-clause-altered
 returns-clause-altered g c =
     all_unaltered c.args.index.now.archives (g.A.Archives.held c.args.archives.now) c.loop-n.n (omega (arith, c.loop-n-test.false, c.archive_count-n-end.ensures)) c.loop-n.invariant.so_far
+
+pub returns-clause-read : goal.returns-clause-read
+returns-clause-read g c = all_read c.args.index.now.archives c.loop-n.n (omega (arith, c.loop-n-test.false, c.archive_count-n-end.ensures)) c.loop-n.invariant.read

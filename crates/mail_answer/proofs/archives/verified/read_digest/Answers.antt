@@ -1,5 +1,5 @@
 use Rattle.std.proofs.Common.{◌∙◌, refl, length-take-le, arith}
-use Rattle.mail_answer.proofs.ArchiveLaws.DigestLemmas.{none_absorbed, more_absorbed, ends_early, all_absorbed}
+use Rattle.mail_answer.proofs.ArchiveLaws.DigestLemmas.{none_absorbed, more_absorbed, ends_early, all_absorbed, all_counted}
 use Rattle.mail_answer.proofs.ArchiveLaws.CallLemmas.{keeps_self, keeps_join}
 use Rattle.mail_answer.proofs.archives.verified.read_digest.Goals as goal
 
@@ -29,3 +29,7 @@ pieces-preserved g c =
 pub returns-clause-digest : goal.returns-clause-digest
 returns-clause-digest g c =
     all_absorbed (g.A.Archives.held c.args.archives.now) c.args.archive c.pieces.at c.args.indexed_length c.pieces.hasher c.finalize.result c.pieces.invariant.absorbed (omega (arith, c.pieces-test.false, c.pieces.invariant.within)) c.finalize.ensures
+
+pub returns-clause-read : goal.returns-clause-read
+returns-clause-read g c =
+    all_counted (g.A.Archives.held c.args.archives.now) c.args.archive c.pieces.at c.args.indexed_length c.pieces.hasher c.finalize.result c.pieces.invariant.absorbed (omega (arith, c.pieces-test.false, c.pieces.invariant.within)) c.finalize.ensures

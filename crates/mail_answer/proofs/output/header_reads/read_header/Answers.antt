@@ -1,4 +1,4 @@
-use Rattle.std.proofs.Common.{ℕ, List, Option, IfSome, drop, subst}
+use Rattle.std.proofs.Common.{ℕ, List, Option, IfSome, drop, ap, ◌∙◌, subst}
 use Rattle.mbox_cutter.specs.Lines.{lines}
 use Rattle.header_text.specs.Headers.{fields_of}
 use Rattle.mail_answer.specs.Inside.HeaderReads.{WillHaveFields}
@@ -15,6 +15,7 @@ lines-init g c =
     record {
       keeps = c.in_ok-first.ensures.archives.keeps;
       inside = rw c.pass.ensures (record { exists = inside.exists; fits = inside.fits; within = inside.within });
+      archive = ap (λ (r : Reading). r.archive) c.pass.ensures ∙ c.in_ok-first.ensures.archive ∙ ap (λ (r : Reading). r.archive) c.over-reader.ensures;
       fields = subst (λ (r : Reading). IfSome (coming held r) (λ bytes. WillHaveFields (coming held c.pass.new.self) c.new-header.result (fields_of (drop 1 (lines bytes))))) c.over-reader.ensures
           (first_passed held number c.in_ok-first.first c.over-reader.result c.first_line.new.self c.pass.new.self c.new-header.result old c.in_ok-first.ensures.coming c.in_ok-first.ensures.some c.in_ok-first.ensures.within c.in_ok-first.ensures.line
           c.pass.ensures c.new-header.ensures);

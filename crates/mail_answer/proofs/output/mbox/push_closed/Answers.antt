@@ -15,6 +15,7 @@ pub pieces-init : goal.pieces-init
 pieces-init g c = record {
   keeps = keeps_self g.A.Archives c.args.archives.now;
   inside = rw c.of-part.ensures c.requires.inside;
+  archive = ap (λ (r : Reading). r.archive) c.of-part.ensures;
   joins = (
     [],
     rw c.of-part.ensures (pieces_none (coming (g.A.Archives.held c.args.archives.now) (span_reading c.args.message))),
@@ -38,6 +39,7 @@ pieces-preserved g c =
     record {
       keeps = keeps_join g.A.Archives _ _ _ i.keeps c.in_ok-ending.ensures.archives.keeps;
       inside = rw (i.keeps.held, i.keeps.number) at c.in_ok-ending.ensures.inside;
+      archive = c.in_ok-ending.ensures.archive ∙ i.archive;
       joins = (
         j.0 ++ w.0,
         j.1 ∙ ap (option_map (λ bytes. j.0 ++ bytes)) w.1 ∙ pieces_more held j.0 w.0,

@@ -11,6 +11,7 @@ abbrev pub invariant-pieces : goal.invariant-pieces
 invariant-pieces g l = record {
   keeps : KeepsArchives g.A.Archives l.fn.archives l.archives;
   inside : IsInside (g.A.Archives.number l.fn.archives) (g.A.Archives.held l.fn.archives) l.part;
+  archive : l.part.archive ≡ l.fn.message.archive;
   joins : (text : List ℕ)
       × (coming (g.A.Archives.held l.fn.archives) (span_reading l.fn.message) ≡ option_map (λ bytes. text ++ bytes) (coming (g.A.Archives.held l.fn.archives) l.part))
       × (l.ending ≡ ending_of text) × Joins (g.O.Out.taken l.fn.out) (g.O.Out.taken l.out) l.fn.sheet l.sheet text;

@@ -8,6 +8,7 @@ abbrev pub invariant-more : goal.invariant-more
 invariant-more g l = record {
   keeps : KeepsArchives g.A.Archives l.fn.archives l.archives;
   inside : IsInside (g.A.Archives.number l.fn.archives) (g.A.Archives.held l.fn.archives) l.self;
+  archive : l.self.archive ≡ l.fn.self.archive;
   coming : coming (g.A.Archives.held l.fn.archives) l.self ≡ coming (g.A.Archives.held l.fn.archives) l.fn.self;
   as_many : coming_count l.self ≡ coming_count l.fn.self;
   count : g.A.Archives.failures l.archives ≡ g.A.Archives.failures l.fn.archives;
