@@ -7,7 +7,7 @@ ghost use Rattle.mail_answer.specs.Answers.{fails_by};
 ghost use Rattle.mail_answer.specs.Archives.{archive_at};
 ghost use Rattle.mail_answer.specs.Inside.Calls.{AreAsIndexed, KeepsArchives};
 ghost use Rattle.mail_answer.specs.Inside.Digests.{front_digest, has_front_digest as has_front_digest_of, AbsorbsPart, IsDigestOf};
-ghost use Rattle.mail_answer.specs.Faults.{has_fault, is_of_archives, is_of_output};
+ghost use Rattle.mail_answer.specs.Faults.{has_fault, is_of_archives, is_of_output, IfStale};
 ghost use Rattle.mail_answer.specs.Stale.{stale_archive, TellsStale};
 ghost use Rattle.mail_answer.specs.Verified.{first_altered, AreVerified, TellsFound, TellsVerified};
 
@@ -113,6 +113,7 @@ fn check_digests<A: Archives>(
     ensures keeps { KeepsArchives A.Archives archives.old archives.new }
     ensures altered { IfSome (A.held archives.old) (λ bytes. TellsStale (first_altered 0 index.now.archives bytes) result) }
     ensures read { OnOk result ((read : List (List ℕ)) × AreVerified index.now.archives read) }
+    ensures below { IfErr result (λ kind. IfStale kind (λ n. n < length index.now.archives)) }
     ensures count { Counted (has_fault is_of_archives result) (A.failures archives.old) (A.failures archives.new) }
     ensures own { has_fault is_of_output result ≡ false }
 {
@@ -145,6 +146,7 @@ fn verify_each<A: Archives>(
     ensures read { OnOk result ((read : List (List ℕ)) × AreVerified index.now.archives read) }
     ensures same_count { OnOk result (A.number archives.old ≡ length index.now.archives) }
     ensures other_count { A.number archives.old ≢ length index.now.archives → result ≡ Err (AnswerFaultKind.Stale (min (A.number archives.old) (length index.now.archives))) }
+    ensures below { A.number archives.old ≡ length index.now.archives → IfErr result (λ kind. IfStale kind (λ n. n < length index.now.archives)) }
     ensures count { Counted (has_fault is_of_archives result) (A.failures archives.old) (A.failures archives.new) }
     ensures own { has_fault is_of_output result ≡ false }
 {
@@ -176,6 +178,8 @@ pub fn verify<A: Archives>(
     ensures read { OnOk result ((read : List (List ℕ)) × AreVerified index.now.archives read) }
     ensures same_count { OnOk result (A.number archives.old ≡ length index.now.archives) }
     ensures other_count { A.number archives.old ≢ length index.now.archives → result ≡ Err (record { kind = AnswerFaultKind.Stale (min (A.number archives.old) (length index.now.archives)); sent = 0 }) }
+    // Of as many archives as were indexed Stale names one, whether their bytes are known or not.
+    ensures below { A.number archives.old ≡ length index.now.archives → IfErr result (λ fault. IfStale fault.kind (λ n. n < length index.now.archives)) }
     ensures archives_count { Counted (fails_by is_of_archives result) (A.failures archives.old) (A.failures archives.new) }
     ensures unwritten { IfErr result (λ fault. (fault.sent ≡ 0) × (is_of_output fault.kind ≡ false)) }
 {
