@@ -1,6 +1,6 @@
 -- Laws of archives with other bytes than those that were indexed.
 use Rattle.std.proofs.Common.{◌≡◌, ℕ, zero, suc, ◌+◌, ◌<◌, ◌≤◌, Bool, true, false, ◌==◌, cond, min, List, [], ◌∷◌, ◌++◌, map, length, take, take-add, take_all, drop, drop-cons, Option, None, Some, IfSome, bytes_eq, refl, ap, ap₂, sym, ◌∙◌, subst, add-one, Result, Ok, Err, arith}
-use Rattle.std.proofs.lemmas.Bool.{eq-eqb, eqb-true, false_from_ne_true}
+use Rattle.std.proofs.lemmas.Bool.{eq-eqb, eqb-true}
 use Rattle.std.proofs.lemmas.List.{drop_all, length-map, map-append}
 use Rattle.std.proofs.lemmas.Slice.Eq.{bytes_eq-Decides}
 use Rattle.std.specs.List.{AllByRecursion}
@@ -9,7 +9,7 @@ use Rattle.sha2.specs.Sha256.{sha256}
 use Rattle.mail_index.specs.Tables.{Archive, IsArchive, archive_length}
 use Rattle.mail_index.specs.Versions.{IsDigest}
 use Rattle.mail_answer.specs.Archives.{archive_at}
-use Rattle.mail_answer.specs.Inside.Digests.{front_digest, IsDigestOf}
+use Rattle.mail_answer.specs.Inside.Digests.{has_front_digest, IsDigestOf}
 use Rattle.mail_answer.specs.Stale.{first_changed, stale_archive, TellsStale}
 use Rattle.mail_answer.specs.Verified.{has_digest, first_altered, unverified_archive, AreVerified, TellsFound}
 use Rattle.mail_answer.specs.declared.fault.AnswerFaultKind.{AnswerFaultKind}
@@ -112,50 +112,37 @@ fresh_length named archives n a rest fresh h e =
     let same = same_number named archives fresh in
     (same.0, unchanged_length 0 named archives n same.0 h same.1 ∙ named_length named n a rest e)
 
--- so that its digest, where it was read, is that of its bytes
-digest_of_fresh : (named : List Archive) (archives : List (List ℕ)) (n : ℕ) (a : Archive) (rest : List Archive) (digest : Option (List ℕ)) → stale_archive named archives ≡ None → n < length named
-    → drop n named ≡ a ∷ rest → digest ≡ front_digest a.length (archive_at archives n) → (length archives ≡ length named) × (digest ≡ Some (sha256 (archive_at archives n)))
-digest_of_fresh named archives n a rest digest fresh h e d =
-    let long = fresh_length named archives n a rest fresh h e in
-    (long.0, d ∙ whole_digest (archive_at archives n) a.length long.1)
+-- so that its front has the digest that was indexed where its bytes have
+same_of_fresh : (named : List Archive) (archives : List (List ℕ)) (n : ℕ) (a : Archive) (rest : List Archive) (indexed : List ℕ) (same : Bool) → stale_archive named archives ≡ None → n < length named
+    → drop n named ≡ a ∷ rest → a.digest ≡ Some indexed → same ≡ has_front_digest a.length indexed (archive_at archives n) → (length archives ≡ length named) × (has_digest a (archive_at archives n) ≡ same)
+same_of_fresh named archives n a rest indexed same fresh h e told is =
+    let bytes : List ℕ = archive_at archives n in
+    let long = fresh_length named archives n a rest fresh h e in (
+      long.0,
+      ap (λ (digest : Option (List ℕ)). option_map_or (λ d. bytes_eq d (sha256 bytes)) digest false) told
+          ∙ sym (is ∙ ap (λ (digest : Option (List ℕ)). option_map_or (λ d. bytes_eq indexed d) digest false) (whole_digest bytes a.length long.1)),
+    )
 
-pub passes_on : (named : List Archive) (held : Option (List (List ℕ))) (n : ℕ) (a : Archive) (rest : List Archive) (digest indexed : List ℕ) → n < length named → drop n named ≡ a ∷ rest
-    → IfSome held (λ archives. stale_archive named archives ≡ None) → UnalteredTo named held n (drop n named)
-    → IfSome held (λ archives. Some digest ≡ front_digest a.length (archive_at archives n)) → a.digest ≡ Some indexed → digest ≡ indexed
+pub passes_on : (named : List Archive) (held : Option (List (List ℕ))) (n : ℕ) (a : Archive) (rest : List Archive) (indexed : List ℕ) (same : Bool) → n < length named → drop n named ≡ a ∷ rest
+    → IfSome held (λ archives. stale_archive named archives ≡ None) → UnalteredTo named held n (drop n named) → a.digest ≡ Some indexed
+    → IfSome held (λ archives. same ≡ has_front_digest a.length indexed (archive_at archives n)) → same ≡ true
     → UnalteredTo named held (n + 1) rest
-passes_on named None n a rest digest indexed h e fresh so_far read told same = tt
-passes_on named (Some archives) n a rest digest indexed h e fresh so_far read told same =
-    let found = digest_of_fresh named archives n a rest (Some digest) fresh h e read in
+passes_on named None n a rest indexed same h e fresh so_far told read holds = tt
+passes_on named (Some archives) n a rest indexed same h e fresh so_far told read holds =
+    let found = same_of_fresh named archives n a rest indexed same fresh h e told read in
     so_far ∙ ap (λ t. first_altered n t (drop n archives)) e ∙ altered_next n a rest archives (omega (arith, found.0, h))
-    ∙ ap (λ b. cond b (first_altered (n + 1) rest (drop (n + 1) archives)) (Some n)) (told_digest a.digest (archive_at archives n) (told ∙ ap Some (sym same) ∙ found.1))
-
-other_digest : (told : Option (List ℕ)) (indexed digest bytes : List ℕ) → told ≡ Some indexed → (digest ≡ indexed → ⊥) → Some digest ≡ Some (sha256 bytes)
-    → option_map_or (λ d. bytes_eq d (sha256 bytes)) told false ≡ false
-other_digest told indexed digest bytes e other found =
-    let same : digest ≡ sha256 bytes = cc in
-    ap (λ d. option_map_or (λ (d : List ℕ). bytes_eq d (sha256 bytes)) d false) e
-    ∙ false_from_ne_true (bytes_eq indexed (sha256 bytes)) (λ t. other (same ∙ sym ((bytes_eq-Decides indexed (sha256 bytes)).0 t)))
+    ∙ ap (λ b. cond b (first_altered (n + 1) rest (drop (n + 1) archives)) (Some n)) (found.1 ∙ holds)
 
 -- another digest tells the archive
-pub stops_at : (named : List Archive) (held : Option (List (List ℕ))) (n : ℕ) (a : Archive) (rest : List Archive) (digest indexed : List ℕ) → n < length named → drop n named ≡ a ∷ rest
-    → IfSome held (λ archives. stale_archive named archives ≡ None) → UnalteredTo named held n (drop n named)
-    → IfSome held (λ archives. Some digest ≡ front_digest a.length (archive_at archives n)) → a.digest ≡ Some indexed → (digest ≡ indexed → ⊥)
+pub stops_at : (named : List Archive) (held : Option (List (List ℕ))) (n : ℕ) (a : Archive) (rest : List Archive) (indexed : List ℕ) (same : Bool) → n < length named → drop n named ≡ a ∷ rest
+    → IfSome held (λ archives. stale_archive named archives ≡ None) → UnalteredTo named held n (drop n named) → a.digest ≡ Some indexed
+    → IfSome held (λ archives. same ≡ has_front_digest a.length indexed (archive_at archives n)) → same ≡ false
     → IfSome held (λ archives. TellsStale {T = Unit {0}} (first_altered 0 named archives) (Err (Stale n)))
-stops_at named None n a rest digest indexed h e fresh so_far read told other = tt
-stops_at named (Some archives) n a rest digest indexed h e fresh so_far read told other =
-    let found = digest_of_fresh named archives n a rest (Some digest) fresh h e read in
-    let differs : has_digest a (archive_at archives n) ≡ false = other_digest a.digest indexed digest (archive_at archives n) told other found.1 in
+stops_at named None n a rest indexed same h e fresh so_far told read fails = tt
+stops_at named (Some archives) n a rest indexed same h e fresh so_far told read fails =
+    let found = same_of_fresh named archives n a rest indexed same fresh h e told read in
     so_far ∙ ap (λ t. first_altered n t (drop n archives)) e ∙ altered_next n a rest archives (omega (arith, found.0, h))
-    ∙ ap (λ b. cond b (first_altered (n + 1) rest (drop (n + 1) archives)) (Some n)) differs
-
--- an archive that isn't stale doesn't end early
-pub not_early : (named : List Archive) (held : Option (List (List ℕ))) (n : ℕ) (a : Archive) (rest : List Archive) → n < length named → drop n named ≡ a ∷ rest
-    → IfSome held (λ archives. stale_archive named archives ≡ None) → IfSome held (λ archives. None ≡ front_digest a.length (archive_at archives n))
-    → IfSome held (λ archives. TellsStale {T = Unit {0}} (first_altered 0 named archives) (Err (Stale n)))
-not_early named None n a rest h e fresh read = tt
-not_early named (Some archives) n a rest h e fresh read =
-    let found = digest_of_fresh named archives n a rest None fresh h e read in
-    absurd (cc found.1)
+    ∙ ap (λ b. cond b (first_altered (n + 1) rest (drop (n + 1) archives)) (Some n)) (found.1 ∙ fails)
 
 pub all_unaltered : (named : List Archive) (held : Option (List (List ℕ))) (n : ℕ) → length named ≤ n → UnalteredTo named held n (drop n named)
     → IfSome held (λ archives. TellsStale {T = Unit {0}} (first_altered 0 named archives) (Ok tt))
@@ -187,11 +174,11 @@ ReadTo named n = (read : List (List ℕ)) × AreVerified (take n named) read
 pub none_read : (named : List Archive) → ReadTo named 0
 none_read named = ([], record { lengths = refl; digests = refl })
 
-pub more_read : (named : List Archive) (n : ℕ) (a : Archive) (rest : List Archive) (digest indexed : List ℕ) → drop n named ≡ a ∷ rest → a.digest ≡ Some indexed → digest ≡ indexed → IsDigestOf a.length digest
+pub more_read : (named : List Archive) (n : ℕ) (a : Archive) (rest : List Archive) (indexed : List ℕ) → drop n named ≡ a ∷ rest → a.digest ≡ Some indexed → IsDigestOf a.length indexed
     → ReadTo named n → ReadTo named (n + 1)
-more_read named n a rest digest indexed e told same read so_far =
+more_read named n a rest indexed e told read so_far =
     let more : take (n + 1) named ≡ take n named ++ a ∷ [] = take-add n 1 named ∙ ap (λ xs. take n named ++ take 1 xs) e in
-    let of_bytes : a.digest ≡ Some (sha256 read.0) = told ∙ ap Some (sym same ∙ read.2) in (
+    let of_bytes : a.digest ≡ Some (sha256 read.0) = told ∙ ap Some read.2 in (
       so_far.0 ++ read.0 ∷ [],
       record {
         lengths = ap (map (λ (t : Archive). t.length)) more ∙ map-append (λ (t : Archive). t.length) (take n named) (a ∷ []) ∙ ap₂ (λ xs ys. xs ++ ys) so_far.1.lengths (ap (λ k. k ∷ []) (sym read.1)) ∙ sym (map-append length so_far.0 (read.0 ∷ []));

@@ -1,12 +1,13 @@
 //! Whether archives have the bytes that were indexed.
 ghost use Rattle.std.specs.Prelude.{◌≡◌, ◌≢◌, ◌<◌, ◌≤◌, ◌-◌, ◌^◌, ℕ, List, false, length, min, None, Err, IfOk, IfErr, OnOk, IfSome};
+ghost use Rattle.std.specs.Bool.{OnTrue};
 ghost use Rattle.contract_words.specs.Devices.{Counted};
 ghost use Rattle.mail_index.specs.Tables.{IsWellFormed};
 ghost use Rattle.mail_answer.specs.Answers.{fails_by};
 ghost use Rattle.mail_answer.specs.Archives.{archive_at};
 ghost use Rattle.mail_answer.specs.Inside.Calls.{AreAsIndexed, KeepsArchives};
-ghost use Rattle.mail_answer.specs.Inside.Digests.{front_digest, AbsorbsPart, IsDigestOf};
-ghost use Rattle.mail_answer.specs.Faults.{has_fault, is_of_archives, is_of_output};
+ghost use Rattle.mail_answer.specs.Inside.Digests.{front_digest, has_front_digest as has_front_digest_of, AbsorbsPart, IsDigestOf};
+ghost use Rattle.mail_answer.specs.Faults.{has_fault, is_of_archives, is_of_output, IfStale};
 ghost use Rattle.mail_answer.specs.Stale.{stale_archive, TellsStale};
 ghost use Rattle.mail_answer.specs.Verified.{first_altered, AreVerified, TellsFound, TellsVerified};
 
@@ -75,6 +76,29 @@ fn read_digest<A: Archives>(
     Ok(Some(hasher.finalize()))
 }
 
+/// Whether the first `indexed_length` bytes of an archive have this digest. One that ends before them has none.
+fn has_front_digest<A: Archives>(
+    archives: &mut A,
+    archive: u32,
+    indexed_length: u64,
+    indexed: [u8; 32],
+    buffer: &mut [u8],
+) -> Result<bool, AnswerFaultKind>
+    requires below { archive < A.number archives.old }
+    requires room { 0 < length buffer.old }
+    requires count { A.failures archives.old < 2 ^ 64 - 1 }
+    ensures keeps { KeepsArchives A.Archives archives.old archives.new }
+    ensures same { IfOk result (λ same. IfSome (A.held archives.old) (λ bytes. same ≡ has_front_digest_of indexed_length indexed (archive_at bytes archive))) }
+    ensures read { IfOk result (λ same. OnTrue same (IsDigestOf indexed_length indexed)) }
+    ensures count { Counted (has_fault is_of_archives result) (A.failures archives.old) (A.failures archives.new) }
+    ensures own { IfErr result (λ kind. kind ≡ AnswerFaultKind.Device) }
+{
+    match read_digest(archives, archive, indexed_length, buffer)? {
+        Some(digest) => Ok(indexed == digest),
+        None => Ok(false),
+    }
+}
+
 /// Finds the first archive with another digest than was indexed, through a buffer. All are as long as they were indexed.
 fn check_digests<A: Archives>(
     index: &IndexView<'_>,
@@ -89,6 +113,7 @@ fn check_digests<A: Archives>(
     ensures keeps { KeepsArchives A.Archives archives.old archives.new }
     ensures altered { IfSome (A.held archives.old) (λ bytes. TellsStale (first_altered 0 index.now.archives bytes) result) }
     ensures read { OnOk result ((read : List (List ℕ)) × AreVerified index.now.archives read) }
+    ensures below { IfErr result (λ kind. IfStale kind (λ n. n < length index.now.archives)) }
     ensures count { Counted (has_fault is_of_archives result) (A.failures archives.old) (A.failures archives.new) }
     ensures own { has_fault is_of_output result ≡ false }
 {
@@ -100,9 +125,8 @@ fn check_digests<A: Archives>(
         let Some(indexed) = archive.digest else {
             unreachable!();
         };
-        match read_digest(archives, n, archive.length, buffer)? {
-            Some(digest) if digest == indexed => {}
-            _ => return Err(AnswerFaultKind::Stale(n)),
+        if !has_front_digest(archives, n, archive.length, indexed, buffer)? {
+            return Err(AnswerFaultKind::Stale(n));
         }
     }
     Ok(())
@@ -122,6 +146,7 @@ fn verify_each<A: Archives>(
     ensures read { OnOk result ((read : List (List ℕ)) × AreVerified index.now.archives read) }
     ensures same_count { OnOk result (A.number archives.old ≡ length index.now.archives) }
     ensures other_count { A.number archives.old ≢ length index.now.archives → result ≡ Err (AnswerFaultKind.Stale (min (A.number archives.old) (length index.now.archives))) }
+    ensures below { A.number archives.old ≡ length index.now.archives → IfErr result (λ kind. IfStale kind (λ n. n < length index.now.archives)) }
     ensures count { Counted (has_fault is_of_archives result) (A.failures archives.old) (A.failures archives.new) }
     ensures own { has_fault is_of_output result ≡ false }
 {
@@ -153,6 +178,8 @@ pub fn verify<A: Archives>(
     ensures read { OnOk result ((read : List (List ℕ)) × AreVerified index.now.archives read) }
     ensures same_count { OnOk result (A.number archives.old ≡ length index.now.archives) }
     ensures other_count { A.number archives.old ≢ length index.now.archives → result ≡ Err (record { kind = AnswerFaultKind.Stale (min (A.number archives.old) (length index.now.archives)); sent = 0 }) }
+    // Of as many archives as were indexed Stale names one, whether their bytes are known or not.
+    ensures below { A.number archives.old ≡ length index.now.archives → IfErr result (λ fault. IfStale fault.kind (λ n. n < length index.now.archives)) }
     ensures archives_count { Counted (fails_by is_of_archives result) (A.failures archives.old) (A.failures archives.new) }
     ensures unwritten { IfErr result (λ fault. (fault.sent ≡ 0) × (is_of_output fault.kind ≡ false)) }
 {

@@ -1,5 +1,6 @@
 //! The walk along the records of the messages.
-ghost use Rattle.std.specs.Prelude.{◌≡◌, ◌-◌, ℕ, length};
+ghost use Rattle.std.specs.Prelude.{◌≡◌, ◌-◌, ℕ, max, length};
+ghost use Rattle.mail_index.specs.Steps.{add_steps};
 ghost use Rattle.mail_index.specs.Tables.{Table};
 ghost use Rattle.mail_query.specs.Truth.{is_true};
 ghost use Rattle.mail_answer.specs.TableFacts.{facts_of_record};
@@ -41,6 +42,7 @@ fn is_as_asked(asked: Asked, message: Record) -> bool
 /// Looks at the records from the next one on, a step each, up to the first that is as asked.
 fn next_asked(index: &IndexView<'_>, asked: Asked, next: &mut u32, steps: &mut Steps) -> Option<u32>
     ensures found { Scans (length index.now.messages) (satisfies index.now asked) next.old next.new result }
+    ensures looked { steps.new ≡ add_steps steps.old (next.new - next.old) }
     ensures steps { Spends (length index.now.messages - next.old) (length index.now.messages - next.new) steps.old steps.new }
 {
     while *next < index.message_count() {
@@ -68,6 +70,7 @@ fn cut(
         Drops n (truths_scanned (length index.now.messages) test next.old first.old) (truths_scanned (length index.now.messages) test next.new first.new) }
     ensures number { IsFirst (truths_scanned (length index.now.messages) (satisfies index.now asked) next.new first.new) first.new }
     ensures found { IsFound (length index.now.messages) next.new first.new }
+    ensures looked { steps.new ≡ add_steps steps.old (next.new - max n next.old) }
     ensures steps { Spends (length index.now.messages - next.old) (length index.now.messages - next.new) steps.old steps.new }
 {
     if is_before(*first, n) {

@@ -1,11 +1,8 @@
-use Rattle.std.proofs.Common.{◌≡◌, ◌∙◌, sym, arith}
-use Rattle.std.proofs.lemmas.Bool.Decides.{not_from_Decides}
+use Rattle.std.proofs.Common.{◌≡◌, ◌∙◌, true, sym, arith}
 use Rattle.std.proofs.lemmas.Result.{err_from_is_err_and}
-use Rattle.std.proofs.lemmas.Slice.Eq.{bytes_eq-Decides}
-use Rattle.std.specs.Str.{bytes_eq}
 use Rattle.mail_index.specs.Layouts.{archive_of}
 use Rattle.mail_answer.proofs.ArchiveLaws.StaleLemmas.{next_named, still_named}
-use Rattle.mail_answer.proofs.ArchiveLaws.VerifiedLemmas.{passes_on, stops_at, not_early, all_unaltered, nothing_told, has_some_digest, more_read, all_read}
+use Rattle.mail_answer.proofs.ArchiveLaws.VerifiedLemmas.{passes_on, stops_at, all_unaltered, nothing_told, has_some_digest, more_read, all_read}
 use Rattle.mail_answer.proofs.ArchiveLaws.CallLemmas.{keeps_join}
 use Rattle.mail_answer.proofs.archives.verified.check_digests.Goals as goal
 
@@ -17,41 +14,31 @@ unreachable-requires-in_default-digest g c =
     has_some_digest c.args.index.now.version c.args.index.now.archives c.loop-n.n (archive_of c.in-Some.archive) c.next.new.self c.requires.version c.requires.table.archives (sym c.loop-n.invariant.coming ∙ c.in-Some.ensures)
     c.in_default-digest.is
 
-pub returns-in_err-digest-clause-altered : goal.returns-in_err-digest-clause-altered
-returns-in_err-digest-clause-altered g c =
+pub returns-in_err-has_front_digest-clause-altered : goal.returns-in_err-has_front_digest-clause-altered
+returns-in_err-has_front_digest-clause-altered g c =
     let p = err_from_is_err_and c.from_residual.result c.from_residual.ensures.1 in
-    nothing_told c.args.index.now.archives (g.A.Archives.held c.args.archives.now) c.from_residual.result p.0 p.1 (p.2 ∙ c.in_err-digest.ensures.own)
+    nothing_told c.args.index.now.archives (g.A.Archives.held c.args.archives.now) c.from_residual.result p.0 p.1 (p.2 ∙ c.in_err-has_front_digest.ensures.own)
 
-pub returns-in_default-2-clause-altered : goal.returns-in_default-2-clause-altered
-returns-in_default-2-clause-altered g c =
+pub returns-then-not-branch-clause-altered : goal.returns-then-not-branch-clause-altered
+returns-then-not-branch-clause-altered g c =
     let i = c.loop-n.invariant in
-    let read = rw (i.keeps.held, c.in-Some-2.is) at c.in_ok-digest.ensures.digest in
-    stops_at c.args.index.now.archives (g.A.Archives.held c.args.archives.now) c.loop-n.n (archive_of c.in-Some.archive) c.next.new.self c.in-Some-2.digest c.in-Some-digest.indexed (omega (arith, c.loop-n-test.true, c.archive_count-n-end.ensures))
-    (sym i.coming ∙ c.in-Some.ensures) c.requires.indexed.fresh i.so_far read c.in-Some-digest.is
-    (not_from_Decides (bytes_eq c.in-Some-2.digest c.in-Some-digest.indexed) (bytes_eq-Decides c.in-Some-2.digest c.in-Some-digest.indexed) (sym c.eq.ensures ∙ c.if-eq.false))
-
-pub returns-in_default-2-2-clause-altered : goal.returns-in_default-2-2-clause-altered
-returns-in_default-2-2-clause-altered g c =
-    let i = c.loop-n.invariant in
-    let read = rw (i.keeps.held, c.in_default-2.is) at c.in_ok-digest.ensures.digest in
-    not_early c.args.index.now.archives (g.A.Archives.held c.args.archives.now) c.loop-n.n (archive_of c.in-Some.archive) c.next.new.self (omega (arith, c.loop-n-test.true, c.archive_count-n-end.ensures))
-    (sym i.coming ∙ c.in-Some.ensures) c.requires.indexed.fresh read
+    stops_at c.args.index.now.archives (g.A.Archives.held c.args.archives.now) c.loop-n.n (archive_of c.in-Some.archive) c.next.new.self c.in-Some-digest.indexed c.in_ok-has_front_digest.field-0
+    (omega (arith, c.loop-n-test.true, c.archive_count-n-end.ensures)) (sym i.coming ∙ c.in-Some.ensures) c.requires.indexed.fresh i.so_far c.in-Some-digest.is (rw i.keeps.held at c.in_ok-has_front_digest.ensures.same) (cc)
 
 pub loop-n-preserved : goal.loop-n-preserved
 loop-n-preserved g c =
     let i = c.loop-n.invariant in
     let named = c.args.index.now.archives in
-    let read = rw (i.keeps.held, c.in-Some-2.is) at c.in_ok-digest.ensures.digest in
     let coming = sym i.coming ∙ c.in-Some.ensures in
     let step = next_named named c.loop-n.n (archive_of c.in-Some.archive) c.next.new.self coming in
-    let same : c.in-Some-2.digest ≡ c.in-Some-digest.indexed = (bytes_eq-Decides c.in-Some-2.digest c.in-Some-digest.indexed).0 (sym c.eq.ensures ∙ c.if-eq.true) in
-    let so_far = passes_on named (g.A.Archives.held c.args.archives.now) c.loop-n.n (archive_of c.in-Some.archive) c.next.new.self c.in-Some-2.digest c.in-Some-digest.indexed (omega (arith, c.loop-n-test.true, c.archive_count-n-end.ensures))
-    coming c.requires.indexed.fresh i.so_far read c.in-Some-digest.is same in
+    let same : c.in_ok-has_front_digest.field-0 ≡ true = cc in
+    let so_far = passes_on named (g.A.Archives.held c.args.archives.now) c.loop-n.n (archive_of c.in-Some.archive) c.next.new.self c.in-Some-digest.indexed c.in_ok-has_front_digest.field-0
+    (omega (arith, c.loop-n-test.true, c.archive_count-n-end.ensures)) coming c.requires.indexed.fresh i.so_far c.in-Some-digest.is (rw i.keeps.held at c.in_ok-has_front_digest.ensures.same) same in
     record {
       coming = sym step.1;
-      keeps = keeps_join g.A.Archives _ _ _ i.keeps c.in_ok-digest.ensures.keeps;
-      count = c.in_ok-digest.ensures.count ∙ i.count;
-      read = more_read named c.loop-n.n (archive_of c.in-Some.archive) c.next.new.self c.in-Some-2.digest c.in-Some-digest.indexed coming c.in-Some-digest.is same (rw c.in-Some-2.is at c.in_ok-digest.ensures.read) i.read;
+      keeps = keeps_join g.A.Archives _ _ _ i.keeps c.in_ok-has_front_digest.ensures.keeps;
+      count = c.in_ok-has_front_digest.ensures.count ∙ i.count;
+      read = more_read named c.loop-n.n (archive_of c.in-Some.archive) c.next.new.self c.in-Some-digest.indexed coming c.in-Some-digest.is (rw same at c.in_ok-has_front_digest.ensures.read) i.read;
       so_far = rw step.1 so_far;
     }
 

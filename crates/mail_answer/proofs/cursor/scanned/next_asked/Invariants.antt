@@ -1,4 +1,5 @@
 use Rattle.std.proofs.Common.{◌≡◌, ◌-◌, ◌<◌, ◌≤◌, ℕ, false, length}
+use Rattle.mail_index.specs.Steps.{add_steps}
 use Rattle.mail_answer.specs.CursorAhead.{Spends}
 use Rattle.mail_answer.specs.Inside.CursorScans.{satisfies}
 use Rattle.mail_answer.proofs.cursor.scanned.next_asked.Given as goal
@@ -7,6 +8,7 @@ abbrev pub invariant-loop-next : goal.invariant-loop-next
 invariant-loop-next l = record {
   from : l.initial.next ≤ l.next;
   none : (m : ℕ) → l.initial.next ≤ m → m < l.next → satisfies l.index l.asked m ≡ false;
+  looked : l.steps ≡ add_steps l.initial.steps (l.next - l.initial.next);
   steps : Spends (length l.index.messages - l.initial.next) (length l.index.messages - l.next) l.initial.steps l.steps;
 }
 
