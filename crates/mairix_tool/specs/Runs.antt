@@ -1,6 +1,6 @@
 -- What whole runs reply: by the archives' own messages, by a table, and by a stored index.
 use Rattle.std.specs.Prelude.{◌≡◌, ◌⊎◌, ⊤, ℕ, ◌+◌, ◌==◌, ◌&&◌, ◌||◌, Bool, true, false, min, List, [], ◌∷◌, length, Option, None, Some, Result, Ok, Err, if◌then◌else◌}
-use Rattle.std.specs.Bool.{MatchBool}
+use Rattle.std.specs.Bool.{MatchBool, OnTrue}
 use Rattle.std.specs.Io.KnownBytes.{Appends}
 use Rattle.std.specs.Str.{bytes_eq}
 use Rattle.contract_words.specs.Devices.{Sends}
@@ -11,7 +11,7 @@ use Rattle.mail_answer.specs.Shapes.{answer_text, known_answer}
 use Rattle.mail_answer.specs.Sheets.{Tells}
 use Rattle.mail_answer.specs.Stale.{stale_archive}
 use Rattle.mail_answer.specs.TableAnswers.{mail_told}
-use Rattle.mail_answer.specs.Verified.{unverified_archive}
+use Rattle.mail_answer.specs.Verified.{AreVerified, unverified_archive}
 use Rattle.mail_index.specs.declared.view.fault.IndexFault.{IndexFault}
 use Rattle.mail_index.specs.Faults.{IsFileOf, IsFirstFault}
 use Rattle.mail_index.specs.Tables.{Archive, Table}
@@ -126,6 +126,11 @@ TellsProved unproved (Err (Stale n)) = unproved ≡ Some n
 TellsProved unproved (Err of.Device) = ⊤
 TellsProved unproved (Err of.Memory) = ⊤
 TellsProved unproved (Err _) = ⊥
+
+-- Unless a fault is told, what was read of the archives to verify them had the lengths and digests that were indexed.
+abbrev pub WereVerified : List Archive → Bool → Option Fault → Type 0
+WereVerified named verify (Some fault) = ⊤
+WereVerified named verify None = OnTrue verify ((read : List (List ℕ)) × AreVerified named read)
 
 abbrev pub reply_of : Result ℕ Fault → Reply
 reply_of (Ok messages) = record { status = status_of_count messages; messages = messages; fault = None }

@@ -16,7 +16,7 @@ ghost use Rattle.mairix_tool.specs.OldTables.{but_digests, old_table};
 ghost use Rattle.mairix_tool.specs.Inside.Answering.{AsksIndex};
 ghost use Rattle.run_faults.specs.Faults.{fault_in, refusal_of, is_failed_out, is_failed_archives, is_of_index, IsOfAnswer, IsSearchFault};
 ghost use Rattle.mairix_tool.specs.Replies.{RefusesAsked, IsConsistent, KeepsRawBack};
-ghost use Rattle.mairix_tool.specs.Runs.{IsReply, IsStoredReply, IsProvedAndTold, IsStaleOr, TellsProved, unproved_archive, RepliesBy, reply_of, IsRefusedAs, IsIndexRefusal, IsThisOrMemory, IsCountedWhere, is_too_old, renamed_archive};
+ghost use Rattle.mairix_tool.specs.Runs.{IsReply, IsStoredReply, IsProvedAndTold, IsStaleOr, TellsProved, unproved_archive, RepliesBy, reply_of, IsRefusedAs, IsIndexRefusal, IsThisOrMemory, IsCountedWhere, WereVerified, is_too_old, renamed_archive};
 
 use crate::reply::Reply;
 use crate::view_answer::{answer_view, fault_of_answer};
@@ -86,6 +86,11 @@ pub fn search_run<A: Archives, O: Out>(
     ensures counted { (w : Asked) (t : Table) → asked (map string_bytes words.now) rc.now now ≡ Ok w → IsFileOf index.now t
         → IsCountedWhere t w.search (A.held archives.old) result.fault result (O.taken out.old) (O.taken out.new) }
 
+    // Whatever the archives hold: with `--verify` an answer is given only where what was read of them had the lengths and the
+    // SHA-256 that were indexed.
+    ensures read { (w : Asked) (t : Table) → asked (map string_bytes words.now) rc.now now ≡ Ok w → IsFileOf index.now t
+        → WereVerified t.archives w.verify result.fault }
+
     // Whatever the archives hold: a refusal of words, rcfile, query, index, its version or paths is answered, before any archive
     // is asked; and the first five for no other cause.
     ensures refused { (fault : Fault) → IsRefusedAs (asked (map string_bytes words.now) rc.now now) index.now fault
@@ -130,6 +135,7 @@ fn answer_opened<A: Archives, O: Out>(
     ensures told { (held : List (List ℕ)) → A.held archives.old ≡ Some held
         → RepliesBy (IsProvedAndTold (wanted_of found.now.wanted) found.now.view held) (reply_of result) (O.taken out.old) (O.taken out.new) }
     ensures counted { IsCountedWhere found.now.view (wanted_of found.now.wanted).search (A.held archives.old) (reply_of result).fault (reply_of result) (O.taken out.old) (O.taken out.new) }
+    ensures read { WereVerified found.now.view.archives found.now.wanted.verify (reply_of result).fault }
     ensures asks { AsksIndex A.Archives O.Out (wanted_of found.now.wanted).search archives.old archives.new out.old out.new result }
 {
     prove_archives(alloc, found, archives)?;
@@ -146,6 +152,7 @@ fn prove_archives<A: Archives>(
     requires archives { A.failures archives.old < 2 ^ 64 - 1 }
     ensures held { A.held archives.new ≡ A.held archives.old }
     ensures proved { IfSome (A.held archives.old) (λ held. TellsProved (unproved_archive found.now.wanted.verify found.now.view.archives held) result) }
+    ensures read { WereVerified found.now.view.archives found.now.wanted.verify (fault_in result) }
     ensures own { IfErr result IsOfAnswer }
     ensures archives_failed { Counted (is_failed_archives (fault_in result)) (A.failures archives.old) (A.failures archives.new) }
     ensures out_failed { is_failed_out (fault_in result) ≡ false }

@@ -27,7 +27,7 @@ use Rattle.run_faults.specs.Faults.{refusal_of, is_failure}
 use Rattle.mairix_tool.specs.Altered.{AreToldApart, altered_archive}
 use Rattle.mairix_tool.specs.OldTables.{but_digests, old_table}
 use Rattle.mairix_tool.specs.Replies.{Answer, refused}
-use Rattle.mairix_tool.specs.Runs.{IsTold, IsToldOf, IsProvedAndTold, unproved_archive, TellsProved, IsStaleOr, IsOldOr, is_too_old, IsReply, IsStoredReply, IsIndexRefusal, IsRefusedAs, RepliesBy, reply_of, renamed_archive, first_renamed, IsCountedWhere}
+use Rattle.mairix_tool.specs.Runs.{IsTold, IsToldOf, IsProvedAndTold, unproved_archive, TellsProved, IsStaleOr, IsOldOr, is_too_old, IsReply, IsStoredReply, IsIndexRefusal, IsRefusedAs, RepliesBy, reply_of, renamed_archive, first_renamed, IsCountedWhere, WereVerified}
 use Rattle.index_run.proofs.ArchiveLists.{mboxes-length}
 use Rattle.mairix_tool.proofs.TableLaws.OldTables.{told-old, old-told, told-same, same-told, renamed-old}
 use Rattle.mairix_tool.proofs.ArchiveLaws.Unaltered.{own-verified, the-same}
@@ -115,6 +115,13 @@ module _ (w : Wanted) (index : List ℕ) (few : length index < 2 ^ 64) (t : Tabl
   pub stored-counted : (u : Table) (held : Option (List (List ℕ))) (fault : Option Fault) (reply : Reply) (old new : Option (List ℕ)) → IsFileOf index u
       → IsCountedWhere t w.search held fault reply old new → IsCountedWhere u w.search held fault reply old new
   stored-counted u held fault reply old new f given = subst (λ (v : Table). IsCountedWhere v w.search held fault reply old new) (one-table u f) given
+
+  pub stored-read : (u : Table) (fault : Option Fault) → IsFileOf index u → WereVerified t.archives w.verify fault → WereVerified u.archives w.verify fault
+  stored-read u fault f given = subst (λ (v : Table). WereVerified v.archives w.verify fault) (one-table u f) given
+
+-- archives that were verified before an answer were so whatever comes of it
+pub still-verified : (named : List Archive) (verify : Bool) (fault : Option Fault) → WereVerified named verify None → WereVerified named verify fault
+still-verified named verify fault given = elim fault as (λ o. WereVerified named verify o) [ None ↦ given | Some _ ↦ tt ]
 
 -- over the archives that were indexed
 module _ (w : Wanted) (index : List ℕ) (few : length index < 2 ^ 64) (bytes : List (List ℕ)) (many : length w.paths ≡ length bytes) (sound : AreSound (mboxes w.paths bytes)) where

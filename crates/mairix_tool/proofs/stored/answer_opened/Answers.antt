@@ -2,7 +2,7 @@ use Rattle.std.proofs.Common.{◌≡◌, ◌∙◌, ℕ, List, Option, None, Err
 use Rattle.std.proofs.lemmas.Result.{err_from_is_err_and}
 use Rattle.mairix_tool.specs.Asked.{wanted}
 use Rattle.mairix_tool.specs.Runs.{IsStaleOr, IsTold, RepliesBy, TellsProved, unproved_archive, reply_of}
-use Rattle.mairix_tool.proofs.ReplyLaws.Stored.{unproved-replied}
+use Rattle.mairix_tool.proofs.ReplyLaws.Stored.{unproved-replied, still-verified}
 use Rattle.mairix_tool.proofs.stored.answer_opened.Goals as goal
 
 pub returns-in_err-prove_archives-clause-told : goal.returns-in_err-prove_archives-clause-told
@@ -21,3 +21,6 @@ returns-clause-told g c = λ held holds.
     let none = subst (λ (o : Option (List (List ℕ))). IfSome o (λ bytes. unproved_archive w.verify t.archives bytes ≡ None)) holds c.in_ok-prove_archives.ensures.proved in
     let told = c.answer_view.ensures.told held (c.in_ok-prove_archives.ensures.held ∙ holds) in
     subst (λ (o : Option ℕ). RepliesBy (IsStaleOr o (IsTold t w.search held)) (reply_of c.answer_view.result) (g.O.Out.taken c.args.out.now) (g.O.Out.taken c.answer_view.new.out)) (sym none) told
+
+pub returns-clause-read : goal.returns-clause-read
+returns-clause-read g c = still-verified c.args.found.now.view.archives c.args.found.now.wanted.verify (reply_of c.answer_view.result).fault c.in_ok-prove_archives.ensures.read

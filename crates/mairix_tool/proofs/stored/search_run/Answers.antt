@@ -1,7 +1,7 @@
 use Rattle.std.proofs.Common.{◌≡◌, ◌∙◌, ◌^◌, ◌<◌, map, length, sym, subst, string_bytes, arith}
 use Rattle.mairix_tool.specs.Asked.{Wanted, wanted, asked}
-use Rattle.mairix_tool.specs.Runs.{reply_of, IsCountedWhere}
-use Rattle.mairix_tool.proofs.ReplyLaws.Stored.{refused-stored, has-digests, stored-told, stored-counted, stored-indexed, stored-otherwise, stored-before, stored-verified}
+use Rattle.mairix_tool.specs.Runs.{reply_of, IsCountedWhere, WereVerified}
+use Rattle.mairix_tool.proofs.ReplyLaws.Stored.{refused-stored, has-digests, stored-told, stored-counted, stored-read, stored-indexed, stored-otherwise, stored-before, stored-verified}
 use Rattle.mairix_tool.proofs.stored.search_run.Goals as goal
 
 pub returns-in-Err-clause-reply : goal.returns-in-Err-clause-reply
@@ -77,3 +77,11 @@ returns-in-Ok-clause-counted g c = λ w t is file.
     (g.O.Out.taken c.args.out.now) (g.O.Out.taken c.answer_opened.new.out) file c.answer_opened.ensures.counted in
     rw c.of.ensures
     (subst (λ (v : Wanted). IsCountedWhere t v.search (g.A.Archives.held c.args.archives.now) (reply_of c.answer_opened.result).fault (reply_of c.answer_opened.result) (g.O.Out.taken c.args.out.now) (g.O.Out.taken c.answer_opened.new.out)) same told)
+
+pub returns-in-Ok-clause-read : goal.returns-in-Ok-clause-read
+returns-in-Ok-clause-read g c = λ w t is file.
+    let few : length c.args.index.now < 2 ^ 64 = omega (arith, c.well_formed) in
+    let both = sym c.in-Ok.ensures.wanted ∙ is in
+    let same : wanted c.in-Ok.found.wanted ≡ w = cc both in
+    let told = stored-read (wanted c.in-Ok.found.wanted) c.args.index.now few c.in-Ok.found.view c.in-Ok.ensures.table t (reply_of c.answer_opened.result).fault file c.answer_opened.ensures.read in
+    rw c.of.ensures (subst (λ (v : Wanted). WereVerified t.archives v.verify (reply_of c.answer_opened.result).fault) same told)
