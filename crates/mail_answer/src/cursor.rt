@@ -70,8 +70,8 @@ impl<'a> Cursor<'a> {
 
     /// The messages of an index that satisfy a query.
     ///
-    /// Takes all the memory that the cursor needs. Each Word looks up its text once in each of its kinds, at most as many steps as the number of keys has binary
-    /// digits; a Part or a Prefix also looks at each key of its kinds.
+    /// Takes all the memory that the cursor needs. Each Word looks up its text once in each of its kinds, at most as many steps as the
+    /// number of keys has binary digits; a Part also looks at each key of its kinds, and a Prefix at each that begins with its text.
     ///
     /// # Errors
     ///

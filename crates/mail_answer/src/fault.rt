@@ -7,7 +7,8 @@ use thiserror::Error;
 /// What an answer failed at.
 #[derive(Clone, Copy, Debug, PartialEq, Eq, Error)]
 pub enum AnswerFaultKind {
-    /// The archive of this number isn't the one that was indexed, or there are no more or fewer archives than this.
+    /// The archive of this number isn't the one that was indexed. Where there are more or fewer archives than were indexed it is the
+    /// smaller of both counts.
     #[error("archive {0} has changed")]
     Stale(u32),
     /// An archive couldn't be read.
