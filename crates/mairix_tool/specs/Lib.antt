@@ -1,5 +1,6 @@
 pub mod Chosen
 pub mod MailOfArchives
+pub mod TermsOfArchives
 pub mod Asked
 pub mod Replies
 pub mod Runs

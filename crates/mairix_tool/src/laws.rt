@@ -1,10 +1,13 @@
 //! Laws of the definitions.
-ghost use Rattle.std.specs.Prelude.{◌≡◌, ◌<◌, ◌++◌, ℕ, false, List, None, Result, length, map, IfOk};
+ghost use Rattle.std.specs.Prelude.{◌≡◌, ◌<◌, ◌∷◌, ◌++◌, ℕ, false, List, None, Result, length, map, IfOk};
 ghost use Rattle.std.specs.List.{All};
 ghost use Rattle.mail_answer.specs.CutAgain.{IsCutInto, ends_in_return};
 ghost use Rattle.mail_answer.specs.Shapes.{answer_text, closed};
 ghost use Rattle.mail_answer.specs.declared.format.Format.TheVariants as format;
-ghost use Rattle.index_job.specs.ArchiveTables.{Mbox, table};
+ghost use Rattle.mbox_cutter.specs.Archives.{Message, text};
+ghost use Rattle.mail_index.specs.declared.kind.Kind.{Kind};
+ghost use Rattle.index_job.specs.ArchiveTables.{Mbox, all_messages, table};
+ghost use Rattle.index_job.specs.MessageTerms.{message_terms};
 ghost use Rattle.mairix_tool.specs.Altered.{AreToldApart, altered_archive};
 ghost use Rattle.index_run.specs.ArchivesIndexed.{mboxes};
 ghost use Rattle.mairix_tool.specs.Asked.{Wanted};
@@ -16,6 +19,7 @@ ghost use Rattle.mail_answer.specs.declared.format.Format.{Format};
 ghost use Rattle.mairix_tool.specs.Runs.{IsOnceReply, IsReply, IsStoredReply};
 ghost use Rattle.mairix_tool.specs.MailOfArchives.{mail_in, shape};
 ghost use Rattle.mairix_tool.specs.Replies.{Answer};
+ghost use Rattle.mairix_tool.specs.TermsOfArchives.{has_number, has_term};
 ghost use Rattle.run_faults.specs.declared.fault.Fault.{Fault};
 
 use mail_index::IndexView;
@@ -27,6 +31,13 @@ pub fn an_answer_is_cut_into_its_messages()
     ensures { (archives : List Mbox) (numbers : List ℕ) → All (λ n. n < length (table archives).messages) numbers
         → All (λ text. ends_in_return text ≡ false) (spans_at archives numbers)
         → IsCutInto (answer_text format.Mbox (table archives) (bytes_held archives) numbers) (map closed (spans_at archives numbers)) }
+{}
+
+/// The table of archives has a message's number at a key exactly where the message has that term: a word of one of its texts of that
+/// kind, its own id, or an id that links it to others.
+pub fn the_table_has_the_terms_of_the_messages()
+    ensures { (archives : List Mbox) (before after : List Message) (message : Message) (kind : Kind) (term : List ℕ) → all_messages archives ≡ before ++ message ∷ after
+        → has_number kind term (length before) (table archives).keys ≡ has_term kind term (message_terms (text message)) }
 {}
 
 /// The table of archives links two messages exactly where they share a link id of their own.
