@@ -25,10 +25,8 @@ Output, else as the rcfile's mformat and mfolder say:
 Searching:
   -t             Answer with whole threads
       --boolean  Read the patterns as one query of and, or, not and parentheses
-
-Indexing:
-      --once    Index in memory, then search
-      --verify  Prove first that the archives are those that were indexed
+      --once     Index in memory, then search
+      --verify   Prove first that the archives are those that were indexed
 
 Patterns, of which a message has to fit each:
   s:x b:x n:x         A word of the Subject, of the body, of attachments' names
