@@ -1,6 +1,7 @@
 pub mod Fronts
 pub mod CutLemmas
 pub mod OwnTexts
+pub mod TextFronts
 mod Rows
 pub mod HeaderLaws
 pub mod WordLaws

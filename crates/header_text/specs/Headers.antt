@@ -1,7 +1,6 @@
 -- The fields of a header (RFC 5322, 2.2).
 use Rattle.std.specs.Prelude.{ℕ, ◌+◌, ◌-◌, Bool, true, false, not, ◌&&◌, ◌==◌, nat_le, List, [], ◌∷◌, ◌++◌, length, Option, Some, None}
 use Rattle.header_text.specs.Blanks.{is_blank, split_while, after_blanks}
-use Rattle.header_text.specs.declared.header.TheConstants.{MOST_IN_HEADER}
 use Rattle.mbox_cutter.specs.Lines.{is_empty}
 
 -- a field's name, and all bytes after its colon, those of its continuation lines included
@@ -11,7 +10,7 @@ pub record HeaderField : Type 0 where
 
 -- the most bytes of lines that a header keeps
 abbrev pub most_in_header : ℕ
-most_in_header = MOST_IN_HEADER
+most_in_header = 262144
 
 -- the lines before the first empty line
 abbrev pub lines_before_empty : List (List ℕ) → List (List ℕ)

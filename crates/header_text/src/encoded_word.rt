@@ -2,6 +2,7 @@
 ghost use Rattle.std.specs.Prelude.{◌≡◌, ◌<◌, ◌≤◌, ◌+◌, ◌*◌, ◌∷◌, ◌++◌, [], Some, None, length, option_map, MatchOption, IfSome, IfOk, OnOk, string_bytes, if◌then◌else◌};
 ghost use Rattle.std.specs.Prelude.{◌&&◌, nat_lt};
 ghost use Rattle.std.specs.List.{list_all};
+ghost use Rattle.bstr.specs.Text.{Extends};
 ghost use Rattle.header_text.specs.Blanks.{is_blank as is_blank_of};
 ghost use Rattle.header_text.specs.EncodedWords.{is_charset_byte as is_charset_byte_of, is_text_byte as is_text_byte_of, is_q as is_q_of, is_b as is_b_of, word_of as word_of_parts, after, question, equals_sign, word_and_later, pieces, text_between, plain_text, word_text, decoded};
 ghost use Rattle.header_text.specs.Inside.ShownWords.{shown_word, shown_found, no_word, word_first};
@@ -153,6 +154,8 @@ fn find_word(value: &[u8]) -> Option<Found<'_>>
 fn push_between(bytes: &[u8], follows_word: bool, into: &mut String) -> Result<(), AllocError>
     ensures text { OnOk result (string_bytes into.new ≡ string_bytes into.old ++ (if follows_word then text_between bytes.now else plain_text bytes.now)) }
     ensures size { OnOk result (length (string_bytes into.new) ≤ length (string_bytes into.old) + 3 * length bytes.now) }
+    ensures kept { Extends (string_bytes into.old) (string_bytes into.new) }
+    ensures front { Extends (string_bytes into.new) (string_bytes into.old ++ (if follows_word then text_between bytes.now else plain_text bytes.now)) }
 {
     if follows_word && are_blanks(bytes) {
         return Ok(());
@@ -175,6 +178,8 @@ fn push_word(
 ) -> Result<(), AllocError>
     ensures text { OnOk result (string_bytes into.new ≡ string_bytes into.old ++ word_text (shown_word word.now)) }
     ensures size { OnOk result (length (string_bytes into.new) ≤ length (string_bytes into.old) + 3 * length word.now.text.now) }
+    ensures kept { Extends (string_bytes into.old) (string_bytes into.new) }
+    ensures front { Extends (string_bytes into.new) (string_bytes into.old ++ word_text (shown_word word.now)) }
 {
     scratch.clear();
     if is_q(word.encoding) {
@@ -188,7 +193,7 @@ fn push_word(
 /// Adds the text of an unfolded value (RFC 2047): its encoded words are found anywhere in it, the leftmost first, and each
 /// is decoded alone; spaces and tabs alone between two of them are dropped, and any other stretch is read as UTF-8 with
 /// U+FFFD for each maximal faulty part. It has at most three bytes for each of the value's. An encoded word's bytes are
-/// gathered in `scratch`. After an error the buffer holds its old text and some more.
+/// gathered in `scratch`. After an error the buffer holds its old text and a front of what was to be added.
 pub fn decode_words_into(
     unfolded: &[u8],
     scratch: &mut Vec<u8>,
@@ -196,6 +201,8 @@ pub fn decode_words_into(
 ) -> Result<(), AllocError>
     ensures text { OnOk result (string_bytes into.new ≡ string_bytes into.old ++ decoded unfolded.now) }
     ensures size { OnOk result (length (string_bytes into.new) ≤ length (string_bytes into.old) + 3 * length unfolded.now) }
+    ensures kept { Extends (string_bytes into.old) (string_bytes into.new) }
+    ensures front { Extends (string_bytes into.new) (string_bytes into.old ++ decoded unfolded.now) }
 {
     let mut rest = unfolded;
     let mut follows_word = false;

@@ -8,7 +8,7 @@ use crate::blanks::after_blanks;
 use crate::names::is_named;
 
 /// A field of a header: its name, and all bytes after its colon, line breaks and continuation lines included.
-#[derive(Clone, Copy, Debug)]
+#[derive(Clone, Copy)]
 pub struct Field<'a> {
     /// One or more bytes 33 to 126 other than the colon.
     pub name: &'a [u8],

@@ -16,7 +16,7 @@ const USUAL_BYTES: usize = 2_048;
 const USUAL_FIELDS: usize = 24;
 
 /// Where a field's name and its body begin. A name ends where its body begins, and a body where the next name does.
-#[derive(Clone, Copy, Debug)]
+#[derive(Clone, Copy)]
 pub struct FieldPlace {
     name: usize,
     body: usize,

@@ -13,7 +13,7 @@ use std::alloc::{AllocError, Global};
 const MOST_IN_HEADER: usize = 262_144;
 
 /// What became of a line that was pushed.
-#[derive(Clone, Copy, Debug, PartialEq, Eq)]
+#[derive(Clone, Copy, PartialEq, Eq)]
 pub enum Taken {
     /// The header goes on.
     More,
@@ -22,7 +22,7 @@ pub enum Taken {
 }
 
 /// Which lines still count.
-#[derive(Clone, Copy, Debug, PartialEq, Eq)]
+#[derive(Clone, Copy)]
 enum Stage {
     /// Those to come, while they fit.
     Open,

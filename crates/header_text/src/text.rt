@@ -1,5 +1,6 @@
 //! The text of bytes in a charset.
 ghost use Rattle.std.specs.Prelude.{◌≡◌, ◌≢◌, ◌≤◌, ◌+◌, ◌*◌, ◌++◌, length, map, OnOk, IfOk, string_bytes, encode_utf8_all};
+ghost use Rattle.bstr.specs.Text.{Extends};
 ghost use Rattle.bstr.specs.Utf8.{lossy_chars};
 ghost use Rattle.header_text.specs.Charsets.{character, text_of};
 
@@ -11,6 +12,8 @@ use std::alloc::{AllocError, Global};
 pub fn push_lossy(bytes: &[u8], into: &mut String) -> Result<(), AllocError>
     ensures text { OnOk result (string_bytes into.new ≡ string_bytes into.old ++ encode_utf8_all (lossy_chars bytes.now)) }
     ensures size { OnOk result (length (string_bytes into.new) ≤ length (string_bytes into.old) + 3 * length bytes.now) }
+    ensures kept { Extends (string_bytes into.old) (string_bytes into.new) }
+    ensures front { Extends (string_bytes into.new) (string_bytes into.old ++ encode_utf8_all (lossy_chars bytes.now)) }
 {
     bytes.to_str_lossy_into(into)?;
     Ok(())
@@ -20,6 +23,8 @@ pub fn push_lossy(bytes: &[u8], into: &mut String) -> Result<(), AllocError>
 fn push_characters(charset: Charset, bytes: &[u8], into: &mut String) -> Result<(), AllocError>
     ensures text { OnOk result (string_bytes into.new ≡ string_bytes into.old ++ encode_utf8_all (map (character charset) bytes.now)) }
     ensures size { OnOk result (length (string_bytes into.new) ≤ length (string_bytes into.old) + 3 * length bytes.now) }
+    ensures kept { Extends (string_bytes into.old) (string_bytes into.new) }
+    ensures front { Extends (string_bytes into.new) (string_bytes into.old ++ encode_utf8_all (map (character charset) bytes.now)) }
 {
     let mut rest = bytes;
     while let Some(at) = rest.find_non_ascii_byte() {
@@ -33,10 +38,13 @@ fn push_characters(charset: Charset, bytes: &[u8], into: &mut String) -> Result<
 }
 
 /// Adds the text of bytes in a charset: in UTF-8 each maximal faulty part is one U+FFFD (Unicode, 3.9), elsewhere each byte
-/// is a character. It has at most three bytes for each of theirs. After an error the buffer holds its old text and some more.
+/// is a character. It has at most three bytes for each of theirs. After an error the buffer holds its old text and a front of
+/// what was to be added.
 pub fn decode_into(charset: Charset, bytes: &[u8], into: &mut String) -> Result<(), AllocError>
     ensures text { OnOk result (string_bytes into.new ≡ string_bytes into.old ++ text_of charset bytes.now) }
     ensures size { OnOk result (length (string_bytes into.new) ≤ length (string_bytes into.old) + 3 * length bytes.now) }
+    ensures kept { Extends (string_bytes into.old) (string_bytes into.new) }
+    ensures front { Extends (string_bytes into.new) (string_bytes into.old ++ text_of charset bytes.now) }
 {
     match charset {
         Charset::Utf8 => push_lossy(bytes, into),

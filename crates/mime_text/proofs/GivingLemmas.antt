@@ -1,22 +1,18 @@
 -- Texts of fields that a sink is given.
-use Rattle.std.proofs.Common.{◌≡◌, ◌∙◌, ◌++◌, ℕ, Bool, true, false, List, [], ◌∷◌, Option, Some, None, refl, ap, cond, append_assoc}
+use Rattle.std.proofs.Common.{◌≡◌, ◌∙◌, ◌++◌, ℕ, List, [], ◌∷◌, Option, Some, None, refl, ap, append_assoc}
 use Rattle.std.proofs.lemmas.List.{append-nil}
 use Rattle.std.specs.Prelude.{option_map}
 use Rattle.std.specs.List.{cons_option}
 use Rattle.header_text.specs.Headers.{HeaderField}
 use Rattle.mail_words.specs.declared.kind.TextKind.{TextKind}
-use Rattle.mail_words.specs.declared.kind.TextKind.TheVariants as kind
 use Rattle.mime_text.specs.declared.fault.SinkFault.{SinkFault}
 use Rattle.mime_text.specs.declared.fault.TextFault.{TextFault}
 use Rattle.mime_text.specs.declared.fault.TextFault.TheVariants.{Sink}
-use Rattle.mime_text.specs.Sinks.{Pair, Coming, Gave, Broke, most_in_text}
+use Rattle.mime_text.specs.Sinks.{Pair, Coming, Gave, Broke}
 use Rattle.mime_text.specs.FieldTexts.{kind_of_field, text_of_body, texts_of_fields}
 
 abbrev with_text : HeaderField → TextKind → Pair
 with_text f k = (k, text_of_body f.body)
-
-pub texts-none : (f : HeaderField) → kind_of_field f.name ≡ None → texts_of_fields (f ∷ []) ≡ []
-texts-none f e = ap (λ (o : Option TextKind). cons_option (option_map (with_text f) o) []) e
 
 pub texts-some : (f : HeaderField) (k : TextKind) → kind_of_field f.name ≡ Some k → texts_of_fields (f ∷ []) ≡ (k, text_of_body f.body) ∷ []
 texts-some f k e = ap (λ (o : Option TextKind). cons_option (option_map (with_text f) o) []) e
@@ -27,24 +23,6 @@ texts-cons f fs = go (option_map (with_text f) (kind_of_field f.name))
     go : (o : Option Pair) → cons_option o (texts_of_fields fs) ≡ cons_option o [] ++ texts_of_fields fs
     go None = refl
     go (Some p) = refl
-
--- the text of a field has at most three bytes for each of a header
-pub most-of-field : (name : List ℕ) (k : TextKind) → kind_of_field name ≡ Some k → most_in_text k ≡ 786432
-most-of-field name kind.To e = refl
-most-of-field name kind.Cc e = refl
-most-of-field name kind.Bcc e = refl
-most-of-field name kind.From e = refl
-most-of-field name kind.Subject e = refl
-most-of-field name kind.Name e = refl
-most-of-field name kind.Body e = absurd (no_body _ _ _ _ _ e)
-  where
-    no_body : (a b c d f : Bool) → cond a (Some kind.To) (cond b (Some kind.Cc) (cond c (Some kind.Bcc) (cond d (Some kind.From) (cond f (Some kind.Subject) None)))) ≡ Some kind.Body → ⊥
-    no_body true b c d f e = cc
-    no_body false true c d f e = cc
-    no_body false false true d f e = cc
-    no_body false false false true f e = cc
-    no_body false false false false true e = cc
-    no_body false false false false false e = cc
 
 module _ {S : Type 0} (takes : S → TextKind → List ℕ → S → Type 0) (refuses : S → TextKind → List ℕ → SinkFault → S → Type 0) where
   pub gave-none : (A : Coming) (s t : S) → ((ms : List (List ℕ)) → A ms ≡ []) → t ≡ s → Gave takes refuses A (λ _. []) s t

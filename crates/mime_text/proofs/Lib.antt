@@ -8,6 +8,7 @@ mod TagReads
 mod Handing
 mod LineSteps
 mod LineEnds
+mod RowTables
 mod RowsTypes
 mod RowsBodies
 mod RowsParts

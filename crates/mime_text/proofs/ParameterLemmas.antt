@@ -1,5 +1,5 @@
 -- Parameters piece by piece.
-use Rattle.std.proofs.Common.{◌≡◌, ◌∙◌, ◌<◌, ◌≤◌, ◌++◌, ◌==◌, ℕ, zero, suc, Bool, true, false, List, [], ◌∷◌, Option, Some, None, length, cond, refl, sym, ap, arith, length-append}
+use Rattle.std.proofs.Common.{◌≡◌, ◌∙◌, ◌<◌, ◌≤◌, ◌+◌, ◌++◌, ◌==◌, ℕ, zero, suc, Bool, true, false, List, [], ◌∷◌, Option, Some, None, length, cond, refl, sym, ap, arith, length-append}
 use Rattle.std.specs.Prelude.{option_map, unwrap_or}
 use Rattle.std.specs.List.{find}
 use Rattle.std.specs.Option.{option_map_or, option_to_list}
@@ -9,16 +9,6 @@ use Rattle.header_text.specs.Names.{is_named}
 use Rattle.header_text.proofs.Fronts.{length-split_while, split_while-joined}
 use Rattle.header_text.proofs.CutLemmas.{IsCut, IsCut-from}
 use Rattle.mime_text.specs.Parameters.{Parameter, Piece, quoted, is_token_byte, value_and_rest, is_parameter_name_byte, behind_semicolon, piece_of, parameters_within, parameters_behind, first_named, parameter}
-
--- ---- quotes
-
-pub quoted-end : (bs : List ℕ) → quoted (0x22 ∷ bs) ≡ ([], bs)
-quoted-end [] = refl
-quoted-end (b ∷ bs) = refl
-
-pub quoted-plain : (b : ℕ) (bs : List ℕ) → (b == 0x22) ≡ false → (b == 0x5C) ≡ false → quoted (b ∷ bs) ≡ (b ∷ (quoted bs).0, (quoted bs).1)
-quoted-plain b [] e f = rw (e, f, quoted) refl
-quoted-plain b (c ∷ bs) e f = rw (e, f, quoted) refl
 
 -- ---- what follows is shorter
 
@@ -30,18 +20,19 @@ length-after_blanks (b ∷ bs) = go (is_blank b) refl (length-after_blanks bs)
     go true e h = rw (e, after_blanks) (omega arith)
     go false e h = rw (e, after_blanks) (omega arith)
 
-length-quoted : (bs : List ℕ) → length (quoted bs).1 ≤ length bs
+-- what stands between quotes, and what follows them
+length-quoted : (bs : List ℕ) → length (quoted bs).0 + length (quoted bs).1 ≤ length bs
 length-quoted [] = omega arith
 length-quoted (b ∷ []) = go (b == 0x22) refl (b == 0x5C) refl
   where
-    go : (s : Bool) → (b == 0x22) ≡ s → (t : Bool) → (b == 0x5C) ≡ t → length (quoted (b ∷ [])).1 ≤ length (b ∷ [])
+    go : (s : Bool) → (b == 0x22) ≡ s → (t : Bool) → (b == 0x5C) ≡ t → length (quoted (b ∷ [])).0 + length (quoted (b ∷ [])).1 ≤ length (b ∷ [])
     go true e t f = rw (e, quoted) (omega arith)
     go false e true f = rw (e, f, quoted) (omega arith)
     go false e false f = rw (e, f, quoted) (omega arith)
 length-quoted (b ∷ c ∷ bs) = go (b == 0x22) refl (b == 0x5C) refl (length-quoted bs) (length-quoted (c ∷ bs))
   where
-    go : (s : Bool) → (b == 0x22) ≡ s → (t : Bool) → (b == 0x5C) ≡ t → length (quoted bs).1 ≤ length bs → length (quoted (c ∷ bs)).1 ≤ length (c ∷ bs)
-        → length (quoted (b ∷ c ∷ bs)).1 ≤ length (b ∷ c ∷ bs)
+    go : (s : Bool) → (b == 0x22) ≡ s → (t : Bool) → (b == 0x5C) ≡ t → length (quoted bs).0 + length (quoted bs).1 ≤ length bs
+        → length (quoted (c ∷ bs)).0 + length (quoted (c ∷ bs)).1 ≤ length (c ∷ bs) → length (quoted (b ∷ c ∷ bs)).0 + length (quoted (b ∷ c ∷ bs)).1 ≤ length (b ∷ c ∷ bs)
     go true e t f far near = rw (e, quoted) (omega arith)
     go false e true f far near = rw (e, f, quoted) (omega arith)
     go false e false f far near = rw (e, f, quoted) (omega arith)
@@ -178,28 +169,12 @@ piece-parameter text rest sign e f = rw (e, f, piece_of) refl
 size-front : (p : ℕ → Bool) (bs : List ℕ) → length (split_while p bs).0 ≤ length bs
 size-front p bs = let joined = ap length (split_while-joined p bs) in omega (arith, joined, length-append (split_while p bs).0 (split_while p bs).1)
 
-size-quoted : (bs : List ℕ) → length (quoted bs).0 ≤ length bs
-size-quoted [] = omega arith
-size-quoted (b ∷ []) = go (b == 0x22) refl (b == 0x5C) refl
-  where
-    go : (s : Bool) → (b == 0x22) ≡ s → (t : Bool) → (b == 0x5C) ≡ t → length (quoted (b ∷ [])).0 ≤ length (b ∷ [])
-    go true e t f = rw (e, quoted) (omega arith)
-    go false e true f = rw (e, f, quoted) (omega arith)
-    go false e false f = rw (e, f, quoted) (omega arith)
-size-quoted (b ∷ c ∷ bs) = go (b == 0x22) refl (b == 0x5C) refl (size-quoted bs) (size-quoted (c ∷ bs))
-  where
-    go : (s : Bool) → (b == 0x22) ≡ s → (t : Bool) → (b == 0x5C) ≡ t → length (quoted bs).0 ≤ length bs → length (quoted (c ∷ bs)).0 ≤ length (c ∷ bs)
-        → length (quoted (b ∷ c ∷ bs)).0 ≤ length (b ∷ c ∷ bs)
-    go true e t f far near = rw (e, quoted) (omega arith)
-    go false e true f far near = rw (e, f, quoted) (omega arith)
-    go false e false f far near = rw (e, f, quoted) (omega arith)
-
 size-value : (bs : List ℕ) → length (value_and_rest bs).0 ≤ length bs
 size-value [] = omega arith
 size-value (b ∷ bs) = go (b == 0x22) refl
   where
     go : (t : Bool) → (b == 0x22) ≡ t → length (value_and_rest (b ∷ bs)).0 ≤ length (b ∷ bs)
-    go true e = rw (e, value_and_rest) (omega (arith, size-quoted bs))
+    go true e = rw (e, value_and_rest) (omega (arith, length-quoted bs))
     go false e = rw (e, value_and_rest) (size-front is_token_byte (b ∷ bs))
 
 -- its value's length, where there is a parameter

@@ -25,8 +25,8 @@ use Rattle.mime_text.specs.Names.{name_texts}
 use Rattle.mime_text.specs.LeafTexts.{leaf_texts}
 use Rattle.mime_text.specs.LeafReading.{body_pairs}
 use Rattle.mime_text.specs.Parts.{Entity, body_lines, pieces, parts, parts_by, is_left}
-use Rattle.mime_text.specs.Stream.{StreamPlace, Skip, InHeader, InLeaf, hit, counted_part, header_parts, value, behind_header, inner_step, step_by}
-use Rattle.mime_text.specs.Frames.{Nest, opened}
+use Rattle.mime_text.specs.Stream.{StreamPlace, InHeader, InLeaf, hit, counted_part, header_parts, value, behind_header, inner_step, step_by}
+use Rattle.mime_text.specs.Frames.{Nest}
 use Rattle.mime_text.specs.Texts.{part_texts, texts_of_message}
 use Rattle.mime_text.specs.Feeding.{given_from, counted_texts, header_texts, given_behind}
 use Rattle.mime_text.proofs.StreamLaws.{IsHeader, fields_of-ended, whole_given}
@@ -146,9 +146,6 @@ given-inner : (fs : List Frame) (place : StreamPlace Pair) (l : Line) (ms : List
 given-inner fs place l ms e =
     ap (λ (o : Option (List Frame × StreamPlace Pair)). (step_by shape_of part_texts o fs place l).0 ++ given_from (step_by shape_of part_texts o fs place l).1.0 (step_by shape_of part_texts o fs place l).1.1 ms) e
 
-pub given-skip : (fs : List Frame) (l : Line) (ms : List Line) → hit {A = Pair} fs l ≡ None → given_from fs Skip (l ∷ ms) ≡ given_from fs Skip ms
-given-skip fs l ms e = given-inner fs Skip l ms e
-
 pub given-leaf_line : (fs : List Frame) (leaf : Coming) (l : Line) (ms : List Line) → hit {A = Pair} fs l ≡ None → given_from fs (InLeaf leaf) (l ∷ ms) ≡ given_from fs (InLeaf (λ ks. leaf (l ∷ ks))) ms
 given-leaf_line fs leaf l ms e = given-inner fs (InLeaf leaf) l ms e
 
@@ -194,29 +191,7 @@ given-leaf fs f g qs e (l ∷ ms) = go (hit fs l) refl (given-leaf fs (λ ks. f 
         given-hit fs (InLeaf f) l h ms q ∙ ap (λ (ps : List Pair). ps ++ given_from h.0 h.1 ms) (e []) ∙ append_assoc qs (g []) (given_from h.0 h.1 ms)
         ∙ ap (λ (ps : List Pair). qs ++ ps) (sym (given-hit fs (InLeaf g) l h ms q))
 
--- the same leaf, said otherwise
-pub given-same_leaf : (fs : List Frame) (f g : Coming) → ((ms : List Line) → f ms ≡ g ms) → (ms : List Line) → given_from fs (InLeaf f) ms ≡ given_from fs (InLeaf g) ms
-given-same_leaf fs f g e ms = given-leaf fs f g [] e ms
-
 -- from the message's first line on
 pub given-message : (ms : List Line) → texts_of_message ms ≡ given_from [] (InHeader true 16 TextPlain []) ms
 unfolding texts_of_message
 given-message ms = sym (whole_given shape_of part_texts true 16 TextPlain ms)
-
--- ---- behind a header
-
-pub behind-multipart : (b : Line) (d : DefaultType) (nest : Nest) (fields : List HeaderField) (ms : List Line)
-    → given_behind (Multipart b d) nest fields ms ≡ given_from (opened nest.left b d nest.frames) Skip ms
-behind-multipart b d nest fields ms = go nest.left
-  where
-    go : (n : ℕ) → given_from (behind_header shape_of part_texts (Multipart b d) nest.frames n fields).0 (behind_header shape_of part_texts (Multipart b d) nest.frames n fields).1 ms ≡ given_from (opened n b d nest.frames) Skip ms
-    go zero = refl
-    go (suc n) = refl
-
-pub behind-message_none : (nest : Nest) (fields : List HeaderField) (ms : List Line) → nest.left ≡ 0 → given_behind Message nest fields ms ≡ given_from nest.frames Skip ms
-behind-message_none nest fields ms e =
-    ap (λ (n : ℕ). given_from (behind_header shape_of part_texts Message nest.frames n fields).0 (behind_header shape_of part_texts Message nest.frames n fields).1 ms) e
-
-pub behind-message_some : (nest : Nest) (n : ℕ) (fields : List HeaderField) (ms : List Line) → nest.left ≡ suc n → given_behind Message nest fields ms ≡ given_from nest.frames (InHeader true n TextPlain []) ms
-behind-message_some nest n fields ms e =
-    ap (λ (n : ℕ). given_from (behind_header shape_of part_texts Message nest.frames n fields).0 (behind_header shape_of part_texts Message nest.frames n fields).1 ms) e

@@ -2,7 +2,6 @@
 use Rattle.std.specs.Prelude.{ℕ, ◌+◌, ◌*◌}
 use Rattle.mbox_cutter.specs.Lines.{most_before_feed}
 use Rattle.header_text.specs.Headers.{most_in_header}
-use Rattle.mime_text.specs.declared.parts.boundary.TheConstants.{MOST_IN_BOUNDARY}
 
 -- a line, its LF with it
 abbrev pub most_in_line : ℕ
@@ -18,4 +17,4 @@ most_in_header_text = 3 * most_in_header
 
 -- a boundary (RFC 2046, 5.1.1)
 abbrev pub most_in_boundary : ℕ
-most_in_boundary = MOST_IN_BOUNDARY
+most_in_boundary = 70

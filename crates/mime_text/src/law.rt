@@ -15,7 +15,7 @@ pub fn one_line_at_a_time()
 {}
 
 /// The parameters of a value are those of its pieces, of which the first begins behind its first semicolon, and no other list
-/// is. It does nothing.
+/// is. The function has no code: its contract is the law.
 pub fn parameters_are_of_pieces()
     ensures some { (value : List ℕ) → AreParameters (behind_semicolon value) (parameters value) }
     ensures only { (value : List ℕ) (ps : List Parameter) → AreParameters (behind_semicolon value) ps → ps ≡ parameters value }

@@ -12,7 +12,7 @@ mod sink;
 pub use fault::{SinkFault, TextFault};
 pub use header::facts::Facts;
 pub use header::owned::{DateText, MessageId, MessageIds};
-pub use law::one_line_at_a_time;
+pub use law::{one_line_at_a_time, parameters_are_of_pieces};
 pub use message_text::MessageText;
 pub use sink::TextSink;
 

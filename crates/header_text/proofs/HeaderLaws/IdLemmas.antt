@@ -15,9 +15,6 @@ use Rattle.header_text.proofs.CutLemmas.{Lacks}
 abbrev judged : ℕ → List ℕ → Option (List ℕ) → Option (List ℕ)
 judged b bs o = elim o [ Some id ↦ Some id | None ↦ elim (b == 0x3C) [ true ↦ Some bs | false ↦ None ] ]
 
-after_last_open-cons : (b : ℕ) (bs : List ℕ) → after_last_open (b ∷ bs) ≡ judged b bs (after_last_open bs)
-after_last_open-cons b bs = refl
-
 pub after_last_open-none : (bs : List ℕ) → ((k : ℕ) → k < length bs → (slice_index bs k == 0x3C) ≡ false) → after_last_open bs ≡ None
 after_last_open-none [] h = refl
 after_last_open-none (b ∷ bs) h = ap (judged b bs) (after_last_open-none bs (λ k lt. h (suc k) (omega arith))) ∙ rw (h 0 (omega arith), judged) refl

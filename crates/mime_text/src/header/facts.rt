@@ -12,7 +12,7 @@ use mail_words::Flags;
 use std::alloc::{AllocError, Global};
 
 /// What a message's own header says beside its texts.
-#[derive(Debug, Drop)]
+#[derive(Drop)]
 pub struct Facts {
     /// The text of the first Date field.
     pub date_text: Option<DateText>,
@@ -54,7 +54,7 @@ impl Facts {
     }
 }
 
-/// An id is sized. It does nothing.
+/// Tells the prover that the length of an id is bounded. At run time it has no effect.
 fn know_size(id: &Option<MessageId>)
     ensures { IfSome id.now IsSizedId }
 {

@@ -9,7 +9,7 @@ use std::alloc::{AllocError, Global};
 use std::marker::Model;
 
 /// The text of a Date field, of at most 786,432 bytes, which contracts see as its bytes.
-#[derive(Debug, Drop)]
+#[derive(Drop)]
 pub struct DateText {
     text: String,
 }
@@ -45,7 +45,7 @@ impl DateText {
 }
 
 /// A message id, of 1 to 262,144 bytes, which contracts see as its bytes.
-#[derive(Debug, Drop)]
+#[derive(Drop)]
 pub struct MessageId {
     bytes: Vec<u8>,
 }
@@ -80,7 +80,7 @@ impl MessageId {
 
 /// Message ids, which contracts see as the list of their bytes. Each has 1 to 262,144 bytes; and all together have at most
 /// 262,144 with the `<` and the `>` round each, since no more bytes are kept of the header in which they stand.
-#[derive(Debug, Drop)]
+#[derive(Drop)]
 pub struct MessageIds {
     ids: Vec<Vec<u8>>,
 }
@@ -119,7 +119,7 @@ impl MessageIds {
         Ok(())
     }
 
-    /// Each is sized. It does nothing.
+    /// Tells the prover that the length of each id is bounded. At run time it has no effect.
     pub(crate) fn know_sizes(&self)
         ensures { All IsSizedId self.now }
     {

@@ -9,7 +9,7 @@ ghost use Rattle.mime_text.specs.Frames.{dash_dash, dashes, delimiter_of, kind_b
 use mbox_cutter::without_break;
 
 /// What a delimiter line does to its multipart.
-#[derive(Clone, Copy, Debug, PartialEq, Eq)]
+#[derive(Clone, Copy)]
 pub(crate) enum Delimiter {
     /// The next piece begins.
     Next,

@@ -38,7 +38,7 @@ impl Model for Nesting {
 }
 
 /// What a line delimits.
-#[derive(Clone, Copy, Debug, PartialEq, Eq)]
+#[derive(Clone, Copy)]
 pub(crate) enum Lead {
     /// Nothing.
     Nowhere,

@@ -25,7 +25,7 @@ use header_text::{Fields, Header, Taken};
 use std::alloc::{AllocError, Global};
 
 /// What the next line of a message belongs to.
-#[derive(Clone, Copy, Debug)]
+#[derive(Clone, Copy)]
 pub(crate) enum State {
     /// To nothing that gives texts.
     Skipping,

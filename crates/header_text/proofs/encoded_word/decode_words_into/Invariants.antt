@@ -1,5 +1,6 @@
 use Rattle.std.proofs.Common.{◌≡◌, ◌≤◌, ◌+◌, ◌*◌, ◌++◌, length}
 use Rattle.std.specs.Prelude.{string_bytes}
+use Rattle.bstr.specs.Text.{Extends}
 use Rattle.header_text.specs.EncodedWords.{pieces, plain_text, decoded}
 use Rattle.header_text.proofs.WordLaws.DecodedLemmas.{words_behind}
 use Rattle.header_text.proofs.encoded_word.decode_words_into.Given as goal
@@ -9,6 +10,7 @@ abbrev pub invariant-loop-found : goal.invariant-loop-found
 invariant-loop-found l = record {
   sofar : string_bytes l.into ++ (words_behind l.follows_word (pieces l.rest).words ++ plain_text (pieces l.rest).rest) ≡ string_bytes l.fn.into ++ decoded l.fn.unfolded;
   size : length (string_bytes l.into) + 3 * length l.rest ≤ length (string_bytes l.fn.into) + 3 * length l.fn.unfolded;
+  kept : Extends (string_bytes l.fn.into) (string_bytes l.into);
 }
 
 abbrev pub decreases-loop-found : goal.decreases-loop-found

@@ -8,3 +8,10 @@ returns-in-Utf8-clause-text c = rw c.in-Utf8.is c.push_lossy.ensures.text
 
 pub returns-in_default-clause-text : goal.returns-in_default-clause-text
 returns-in_default-clause-text c = rw (text_of-single c.args.charset c.in_default.not-Utf8 c.args.bytes.now) c.push_characters.ensures.text
+
+pub returns-in-Utf8-clause-front : goal.returns-in-Utf8-clause-front
+unfolding text_of
+returns-in-Utf8-clause-front c = rw c.in-Utf8.is c.push_lossy.ensures.front
+
+pub returns-in_default-clause-front : goal.returns-in_default-clause-front
+returns-in_default-clause-front c = rw (text_of-single c.args.charset c.in_default.not-Utf8 c.args.bytes.now) c.push_characters.ensures.front

@@ -1,10 +1,17 @@
-use Rattle.std.proofs.Common.{◌≡◌, ◌∙◌, ◌≤◌, ◌+◌, ◌-◌, ◌++◌, ℕ, List, length, take, drop, slice_index, ap, arith, length-append, length-drop, length-take}
+use Rattle.std.proofs.Common.{◌≡◌, ◌∙◌, ◌≤◌, ◌+◌, ◌-◌, ◌++◌, ℕ, List, map, length, take, drop, slice_index, encode_utf8_all, ap, sym, subst, refl, arith, append_assoc, length-append, length-drop, length-take}
 use Rattle.std.specs.Prelude.{string_bytes}
 use Rattle.std.specs.Char.{encode_utf8}
 use Rattle.std.proofs.lemmas.List.{take_rest}
+use Rattle.bstr.specs.Text.{Extends}
+use Rattle.bstr.specs.Utf8.{lossy_chars}
+use Rattle.bstr.proofs.lemmas.AppendLemmas.{Extends-refl, Extends-trans, Extends-append, Extends-tried}
 use Rattle.header_text.specs.Charsets.{character}
 use Rattle.header_text.proofs.WordLaws.CharacterLemmas.{characters-step, IsAscii-before, IsAscii-all, length-encode_small, lossy-ascii}
+use Rattle.header_text.proofs.TextFronts.{front-whole, front-more}
 use Rattle.header_text.proofs.text.push_characters.Goals as goal
+
+pub loop-at-init : goal.loop-at-init
+loop-at-init c = record { sofar = refl; size = omega arith; kept = Extends-refl _ }
 
 pub loop-at-preserved : goal.loop-at-preserved
 loop-at-preserved c =
@@ -22,9 +29,51 @@ loop-at-preserved c =
     record {
       sofar = rw behind (step ∙ c.loop-at.invariant.sofar);
       size = rw behind (omega (arith, c.loop-at.invariant.size, c.in_ok-push_lossy.ensures.size, one, front, sizes, left, c.in-Some.ensures.0.high));
+      kept = Extends-append _ _ _ _ _ (Extends-trans _ _ _ c.loop-at.invariant.kept c.push_lossy.ensures.kept) c.push.ensures.bytes;
     }
 
 pub returns-clause-text : goal.returns-clause-text
 returns-clause-text c =
     c.in_ok-push_lossy-2.ensures.text ∙ ap (λ (l : List ℕ). string_bytes c.loop-at.into ++ l) (lossy-ascii c.args.charset c.loop-at.rest.now (IsAscii-all c.loop-at.rest.now c.in_default.ensures))
     ∙ c.loop-at.invariant.sofar
+
+pub returns-in_err-push_lossy-clause-kept : goal.returns-in_err-push_lossy-clause-kept
+returns-in_err-push_lossy-clause-kept c = Extends-trans _ _ _ c.loop-at.invariant.kept c.push_lossy.ensures.kept
+
+pub returns-in_err-push-clause-kept : goal.returns-in_err-push-clause-kept
+returns-in_err-push-clause-kept c = Extends-append _ _ _ _ _ (Extends-trans _ _ _ c.loop-at.invariant.kept c.push_lossy.ensures.kept) c.push.ensures.bytes
+
+pub returns-in_err-push_lossy-2-clause-kept : goal.returns-in_err-push_lossy-2-clause-kept
+returns-in_err-push_lossy-2-clause-kept c = Extends-trans _ _ _ c.loop-at.invariant.kept c.push_lossy-2.ensures.kept
+
+pub returns-clause-kept : goal.returns-clause-kept
+returns-clause-kept c = Extends-trans _ _ _ c.loop-at.invariant.kept c.push_lossy-2.ensures.kept
+
+pub returns-in_err-push_lossy-clause-front : goal.returns-in_err-push_lossy-clause-front
+returns-in_err-push_lossy-clause-front c =
+    let rest = c.loop-at.rest.now in
+    let at = c.in-Some.at in
+    let some = string_bytes c.loop-at.into ++ encode_utf8_all (lossy_chars (take at rest)) in
+    let one = encode_utf8 (character c.args.charset (slice_index rest at)) in
+    let later = encode_utf8_all (map (character c.args.charset) (drop (at + 1) rest)) in
+    let step = characters-step c.args.charset rest (string_bytes c.loop-at.into) some (some ++ one) at c.in-Some.ensures.0.high (IsAscii-before rest at c.in-Some.ensures.0.before) refl refl in
+    front-more _ some (one ++ later) _ c.push_lossy.ensures.front (sym (append_assoc some one later) ∙ step ∙ c.loop-at.invariant.sofar)
+
+pub returns-in_err-push-clause-front : goal.returns-in_err-push-clause-front
+returns-in_err-push-clause-front c =
+    let rest = c.loop-at.rest.now in
+    let at = c.in-Some.at in
+    let before = string_bytes c.push_lossy.new.into in
+    let some = before ++ encode_utf8 c.character.result in
+    let later = encode_utf8_all (map (character c.args.charset) (drop (at + 1) rest)) in
+    let step = characters-step c.args.charset rest (string_bytes c.loop-at.into) before some at c.in-Some.ensures.0.high (IsAscii-before rest at c.in-Some.ensures.0.before)
+    c.in_ok-push_lossy.ensures.text (ap (λ (n : ℕ). before ++ encode_utf8 n) c.character.ensures.value) in
+    front-more _ some later _ (Extends-tried before _ (encode_utf8 c.character.result) _ c.push.ensures.bytes) (step ∙ c.loop-at.invariant.sofar)
+
+pub returns-in_err-push_lossy-2-clause-front : goal.returns-in_err-push_lossy-2-clause-front
+returns-in_err-push_lossy-2-clause-front c =
+    let ascii = lossy-ascii c.args.charset c.loop-at.rest.now (IsAscii-all c.loop-at.rest.now c.in_default.ensures) in
+    subst (λ (l : List ℕ). Extends (string_bytes c.push_lossy-2.new.into) l) (ap (λ (l : List ℕ). string_bytes c.loop-at.into ++ l) ascii ∙ c.loop-at.invariant.sofar) c.push_lossy-2.ensures.front
+
+pub returns-clause-front : goal.returns-clause-front
+returns-clause-front c = front-whole _ _ (returns-clause-text c)

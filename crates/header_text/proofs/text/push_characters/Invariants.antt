@@ -1,5 +1,6 @@
 use Rattle.std.proofs.Common.{◌≡◌, ◌≤◌, ◌+◌, ◌*◌, ◌++◌, map, length, encode_utf8_all}
 use Rattle.std.specs.Prelude.{string_bytes}
+use Rattle.bstr.specs.Text.{Extends}
 use Rattle.header_text.specs.Charsets.{character}
 use Rattle.header_text.proofs.text.push_characters.Given as goal
 
@@ -8,6 +9,7 @@ abbrev pub invariant-loop-at : goal.invariant-loop-at
 invariant-loop-at l = record {
   sofar : string_bytes l.into ++ encode_utf8_all (map (character l.fn.charset) l.rest) ≡ string_bytes l.fn.into ++ encode_utf8_all (map (character l.fn.charset) l.fn.bytes);
   size : length (string_bytes l.into) + 3 * length l.rest ≤ length (string_bytes l.fn.into) + 3 * length l.fn.bytes;
+  kept : Extends (string_bytes l.fn.into) (string_bytes l.into);
 }
 
 abbrev pub decreases-loop-at : goal.decreases-loop-at

@@ -1,0 +1,11 @@
+-- Texts that are a front of what a call was to leave.
+use Rattle.std.proofs.Common.{◌≡◌, ℕ, List, [], ◌++◌, sym, ap, ◌∙◌, append_assoc, append-nil}
+use Rattle.bstr.specs.Text.{Extends}
+
+-- all of it
+pub front-whole : (new whole : List ℕ) → new ≡ whole → Extends new whole
+front-whole new whole same = ([], sym same ∙ sym (append-nil new))
+
+-- a front of what the rest follows
+pub front-more : (new some rest whole : List ℕ) → Extends new some → some ++ rest ≡ whole → Extends new whole
+front-more new some rest whole h joined = (h.0 ++ rest, sym joined ∙ ap (λ (l : List ℕ). l ++ rest) h.1 ∙ append_assoc new h.0 rest)
