@@ -82,10 +82,6 @@ pub first_length-positive : (b : List ℕ) → 0 < length b → 0 < first_length
 unfolding first_length
 first_length-positive b h = grind (arith, nat_tests)
 
-pub first_length-short : (b : List ℕ) → first_length b ≤ 65537
-unfolding first_length
-first_length-short b = let h : length_before_feed b ≤ length b = length_before_feed-le b in grind (arith, nat_tests)
-
 pub line_end-short : (b : List ℕ) (n : ℕ) → Some n ≡ line_end_of b → n ≤ 65537
 unfolding line_end_of
 line_end-short b n e = grind (arith, nat_tests)

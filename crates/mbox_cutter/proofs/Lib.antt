@@ -1,4 +1,3 @@
-pub mod Events
 pub mod FirstLines
 pub mod KnownSteps
 pub mod LineLists
@@ -6,6 +5,7 @@ pub mod LinesAreCut
 pub mod Machine
 pub mod OnlyLines
 pub mod Parts
+mod RowTables
 mod RowsArchives
 mod RowsEvents
 mod RowsLines

@@ -1,62 +1,28 @@
 -- Worked rows: lines at which a message may start, and others.
-use Rattle.std.proofs.Common.{◌≡◌, true, false, [], ◌∷◌, refl}
+use Rattle.std.proofs.Common.{◌≡◌, true, false, [], ◌∷◌, ◌++◌, refl}
 use Rattle.std.specs.Prelude.{codes}
 use Rattle.std.specs.List.{list_all, list_any}
 use Rattle.mbox_cutter.specs.Separators.{is_separator, without_break, has_form}
 
-separators : list_all is_separator (
-    codes "From a@x.org Thu Jan  2 10:00:00 2003\n"
-    ∷ codes "From - Sat Jan  4 12:00:00 2003\n"
-    ∷ codes "From MAILER-DAEMON Fri Jul  8 12:08:34 2011\r\n"
-    ∷ codes "From a Thu Jan  2 10:00 2003 +0100\n"
-    ∷ codes "From a Thu Jan  2 10:00:00 +0100 2003\n"
-    ∷ codes "From a Thu Jan  2 10:00:00 CET 2003"
-    ∷ codes "From 10:00 2003"
-    ∷ codes "From  10:00  2003 "
-    ∷ codes "From a 99:99 0000\n"
-    ∷ codes "From 2003 10:00 2004\n"
-    ∷ codes "From a 10:00 11:00 2003\n"
+rows : (list_all is_separator (codes "From a@x.org Thu Jan  2 10:00:00 2003\n"
+    ∷ codes "From - Sat Jan  4 12:00:00 2003\n" ∷ codes "From MAILER-DAEMON Fri Jul  8 12:08:34 2011\r\n"
+    ∷ codes "From a Thu Jan  2 10:00 2003 +0100\n" ∷ codes "From a Thu Jan  2 10:00:00 +0100 2003\n"
+    ∷ codes "From a Thu Jan  2 10:00:00 CET 2003" ∷ codes "From 10:00 2003" ∷ codes "From  10:00  2003 "
+    ∷ codes "From a 99:99 0000\n" ∷ codes "From 2003 10:00 2004\n" ∷ codes "From a 10:00 11:00 2003\n"
     ∷ codes "From a 10:00 12345 2003\n"
-    ∷ (70 ∷ 114 ∷ 111 ∷ 109 ∷ 32 ∷ 255 ∷ 0 ∷ 32 ∷ 49 ∷ 48 ∷ 58 ∷ 48 ∷ 48 ∷ 32 ∷ 50 ∷ 48 ∷ 48 ∷ 51 ∷ 10 ∷ [])
-    ∷ codes "From a b c 10:00:00 d e 2003 f\n"
-    ∷ []) ≡ true
-unfolding is_separator without_break has_form
-separators = refl
-
-other_lines : list_any is_separator (
-    codes ""
-    ∷ codes "\n"
-    ∷ codes "From"
-    ∷ codes "From "
-    ∷ codes "From \n"
-    ∷ codes "From here on we go\n"
-    ∷ codes "From a 2003 10:00\n"
-    ∷ codes "From a 10:00\n"
-    ∷ codes "From a 2003\n"
-    ∷ codes "From a 1:00 2003\n"
-    ∷ codes "From a 10:0 2003\n"
-    ∷ codes "From a 100:00 2003\n"
-    ∷ codes "From a 10:00: 2003\n"
-    ∷ codes "From a 10:00:0 2003\n"
-    ∷ codes "From a 10:00:00:00 2003\n"
-    ∷ codes "From a 10.00 2003\n"
-    ∷ codes "From a 10:002003\n"
-    ∷ codes "From a 10:00 203\n"
-    ∷ codes "From a 10:00 20033\n"
-    ∷ codes "From a 10:00 2003,\n"
-    ∷ codes "From a 10:00 2003\r"
-    ∷ codes "From a 10:00 2003\r\r\n"
-    ∷ codes "From a 10:00 2003\n\n"
-    ∷ (70 ∷ 114 ∷ 111 ∷ 109 ∷ 32 ∷ 97 ∷ 9 ∷ 49 ∷ 48 ∷ 58 ∷ 48 ∷ 48 ∷ 9 ∷ 50 ∷ 48 ∷ 48 ∷ 51 ∷ 10 ∷ [])
-    ∷ codes "from a 10:00 2003\n"
-    ∷ codes " From a 10:00 2003\n"
-    ∷ codes ">From a 10:00 2003\n"
-    ∷ codes "From: a 10:00 2003\n"
-    ∷ (70 ∷ 114 ∷ 111 ∷ 109 ∷ 9 ∷ 97 ∷ 32 ∷ 49 ∷ 48 ∷ 58 ∷ 48 ∷ 48 ∷ 32 ∷ 50 ∷ 48 ∷ 48 ∷ 51 ∷ 10 ∷ [])
-    ∷ codes "From10:00 2003\n"
+    ∷ (codes "From " ++ (255 ∷ 0 ∷ []) ++ codes " 10:00 2003\n")
+    ∷ codes "From a b c 10:00:00 d e 2003 f\n" ∷ []) ≡ true)
+    × (list_any is_separator (codes "" ∷ codes "\n" ∷ codes "From" ∷ codes "From " ∷ codes "From \n"
+    ∷ codes "From here on we go\n" ∷ codes "From a 2003 10:00\n" ∷ codes "From a 10:00\n" ∷ codes "From a 2003\n"
+    ∷ codes "From a 1:00 2003\n" ∷ codes "From a 10:0 2003\n" ∷ codes "From a 100:00 2003\n"
+    ∷ codes "From a 10:00: 2003\n" ∷ codes "From a 10:00:0 2003\n" ∷ codes "From a 10:00:00:00 2003\n"
+    ∷ codes "From a 10.00 2003\n" ∷ codes "From a 10:002003\n" ∷ codes "From a 10:00 203\n"
+    ∷ codes "From a 10:00 20033\n" ∷ codes "From a 10:00 2003,\n" ∷ codes "From a 10:00 2003\r"
+    ∷ codes "From a 10:00 2003\r\r\n" ∷ codes "From a 10:00 2003\n\n" ∷ codes "From a\t10:00\t2003\n"
+    ∷ codes "from a 10:00 2003\n" ∷ codes " From a 10:00 2003\n" ∷ codes ">From a 10:00 2003\n"
+    ∷ codes "From: a 10:00 2003\n" ∷ codes "From\ta 10:00 2003\n" ∷ codes "From10:00 2003\n"
     ∷ codes "From a dd:dd dddd\n"
-    ∷ (70 ∷ 114 ∷ 111 ∷ 109 ∷ 32 ∷ 97 ∷ 32 ∷ 49 ∷ 217 ∷ 160 ∷ 58 ∷ 48 ∷ 48 ∷ 32 ∷ 50 ∷ 48 ∷ 48 ∷ 51 ∷ 10 ∷ [])
-    ∷ (70 ∷ 114 ∷ 111 ∷ 109 ∷ 32 ∷ 97 ∷ 32 ∷ 49 ∷ 48 ∷ 58 ∷ 48 ∷ 48 ∷ 32 ∷ 239 ∷ 188 ∷ 146 ∷ 48 ∷ 48 ∷ 51 ∷ 10 ∷ [])
-    ∷ []) ≡ false
+    ∷ (codes "From a 1" ++ (217 ∷ 160 ∷ []) ++ codes ":00 2003\n")
+    ∷ (codes "From a 10:00 " ++ (239 ∷ 188 ∷ 146 ∷ []) ++ codes "003\n") ∷ []) ≡ false)
 unfolding is_separator without_break has_form
-other_lines = refl
+rows = (refl, refl)

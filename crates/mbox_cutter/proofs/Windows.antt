@@ -1,5 +1,5 @@
 -- What a window's steps do to the bytes to come.
-use Rattle.std.proofs.Common.{◌≡◌, ℕ, ◌+◌, ◌-◌, ◌<◌, ◌≤◌, Bool, true, false, Ok, Err, Result, List, [], ◌++◌, Option, Some, None, IfSome, IfOk, length, take, drop, append-nil, refl, ap, sym, ◌∙◌, arith, append_assoc, subst}
+use Rattle.std.proofs.Common.{◌≡◌, ℕ, ◌+◌, ◌-◌, ◌<◌, ◌≤◌, Bool, true, false, Ok, Err, Result, List, ◌++◌, Option, Some, None, IfSome, IfOk, length, take, drop, append-nil, ap, sym, ◌∙◌, arith, append_assoc, subst}
 use Rattle.std.specs.Result.{IsErr, is_err}
 use Rattle.std.specs.Io.KnownBytes.{ReadConsumes, IsAtEnd, prepend_known}
 use Rattle.std.proofs.Math.Seq.{take-append-add}
@@ -13,10 +13,6 @@ use Rattle.mbox_cutter.specs.Inside.Ahead.{Ahead, known, ReadsBehind, ReadsOn, E
 use Rattle.mbox_cutter.proofs.FirstLines.{line_end-more, line_end-whole}
 use Rattle.mbox_cutter.proofs.Parts.{take_front}
 use Rattle.mbox_cutter.proofs.Sources.{Stays-join}
-
-pub known_nothing_read : (bytes : Option (List ℕ)) → prepend_known [] bytes ≡ bytes
-known_nothing_read None = refl
-known_nothing_read (Some b) = refl
 
 take_behind : (front into post : List ℕ) (held n : ℕ) → length front ≡ held → n ≤ length into → take (held + n) (front ++ (into ++ post)) ≡ front ++ take n into
 take_behind front into post held n e h = rw (← e) (take-append-add front (into ++ post) n ∙ ap (λ (s : List ℕ). front ++ s) (take-append-le n into post h))
@@ -58,9 +54,6 @@ known_taken n u (Some r) h = ap Some (sym (drop-append-le n u r h))
 pub line_taken : (n : ℕ) (u : List ℕ) (r : Option (List ℕ)) → n ≤ length u → IfSome (prepend_known u r) (λ b. take n u ≡ take n b)
 line_taken n u None h = tt
 line_taken n u (Some r) h = sym (take-append-le n u r h)
-
-pub Extends-self : (u : List ℕ) → Extends u u
-Extends-self u = ([], sym (append-nil u))
 
 pub Extends-join : (a b c : List ℕ) → Extends a b → Extends b c → Extends a c
 Extends-join a b c h k = (h.0 ++ k.0, k.1 ∙ ap (λ (s : List ℕ). s ++ k.0) h.1 ∙ append_assoc a h.0 k.0)

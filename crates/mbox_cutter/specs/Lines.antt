@@ -2,11 +2,10 @@
 use Rattle.std.specs.Prelude.{◌≡◌, ℕ, zero, suc, ◌+◌, ◌<◌, ◌≤◌, ◌==◌, ◌||◌, Bool, nat_lt, if◌then◌else◌, List, [], ◌∷◌, Option, None, Some, length, take, drop}
 use Rattle.std.specs.List.{concat}
 use Rattle.std.specs.Str.{bytes_eq}
-use Rattle.mbox_cutter.specs.declared.line.TheConstants.{MOST_IN_LINE}
 
 -- the most bytes other than LF that a line has
 abbrev pub most_before_feed : ℕ
-most_before_feed = MOST_IN_LINE
+most_before_feed = 65536
 
 -- LF, or CR LF
 unfoldable pub is_empty : List ℕ → Bool

@@ -1,4 +1,6 @@
 //! The memory of a cutter.
+//!
+//! Decision 16 in docs/DECISIONS.md says why it is so.
 ghost use Rattle.std.specs.Prelude.{◌≡◌, vec_len};
 ghost use Rattle.mbox_cutter.specs.declared.buffer.TheConstants.{ROOM};
 

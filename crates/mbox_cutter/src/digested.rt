@@ -1,4 +1,6 @@
 //! A source that takes the digest of what it gives.
+//!
+//! Decision 18 in docs/DECISIONS.md says why it is so.
 ghost use Rattle.std.specs.Prelude.{◌≡◌, ◌<◌, ◌≤◌, ◌-◌, ◌^◌, ℕ, List, [], length, IfOk, IfSome};
 ghost use Rattle.std.specs.Io.KnownBytes.{IsAtEnd, ReadConsumes};
 ghost use Rattle.sha2.specs.Sha256.{sha256};

@@ -19,7 +19,7 @@ pub enum CutFault {
 }
 
 /// A step through an archive. Lines are lent, each with its LF where it has one; all numbers are of bytes.
-#[derive(Clone, Copy, Debug)]
+#[derive(Clone, Copy)]
 pub enum Event<'e> {
     /// A message starts at this offset of the archive, with this separator.
     Start { offset: u64, line: &'e [u8] },

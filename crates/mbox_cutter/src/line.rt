@@ -30,7 +30,7 @@ pub fn line_end(bytes: &[u8]) -> Option<usize>
 
 /// The law of lines: all bytes have a list of lines that joins to them, in which LF stands at most as a line's last byte, no line
 /// has more than 65,536 bytes other than LF, and one without LF that isn't the last has as many and isn't followed by LF; and it
-/// is the only one. It does nothing.
+/// is the only one. The function has no code: its contract is the law.
 pub fn lines_law()
     ensures some { (bytes : List ℕ) → AreLines bytes (lines bytes) }
     ensures only { (bytes : List ℕ) (ls : List (List ℕ)) → AreLines bytes ls → ls ≡ lines bytes }

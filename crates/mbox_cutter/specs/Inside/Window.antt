@@ -1,7 +1,6 @@
 -- A window as its fields are.
 use Rattle.std.specs.Prelude.{◌≡◌, ℕ, ◌-◌, ◌≤◌, List, Option, true, vec_len, slice_range}
 use Rattle.std.specs.Io.KnownBytes.{IsAtEnd}
-use Rattle.mbox_cutter.specs.declared.buffer.TheConstants.{ROOM}
 use Rattle.mbox_cutter.specs.declared.window.Window.TheInside.{Inside}
 use Rattle.mbox_cutter.specs.Inside.Ahead.{Ahead}
 
@@ -17,5 +16,5 @@ pub record IsWindow {S : Type 0} (rest : S → Option (List ℕ)) (w : Inside S)
   pub taken : w.taken ≤ w.from
   pub order : w.from ≤ w.to
   pub room : w.to ≤ vec_len w.buffer
-  pub whole : vec_len w.buffer ≡ ROOM
+  pub whole : vec_len w.buffer ≡ 131072
   pub end : w.ended ≡ true → IsAtEnd (rest w.source.now)
