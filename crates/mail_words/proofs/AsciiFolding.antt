@@ -11,12 +11,12 @@ use Rattle.unicode.proofs.CategoryComputing.{ucd_category}
 use Rattle.unicode.proofs.DerivedComputing.{ucd_derived}
 use Rattle.unicode.proofs.Facts.{same_from_beq}
 use Rattle.unicode.proofs.TrieCheck.{all_below, all_below-at}
+use Rattle.mail_words.specs.Inside.Runs.{is_piece}
 use Rattle.mail_words.specs.Folding.{folding}
 use Rattle.mail_words.specs.Words.{is_word_character, is_joiner, begins, after_joiners, is_word, word_limit, words}
 use Rattle.mail_words.proofs.FoldingLemmas.{folding-ascii}
 use Rattle.mail_words.proofs.Places.{if_word, words_on, words_from, words_behind-places}
 use Rattle.mail_words.proofs.RunLemmas.{after_joiners-joiner, after_joiners-other}
-use Rattle.mail_words.proofs.WordTests.{is_piece}
 
 abbrev low : List ℕ → List ℕ
 low cs = map to_ascii_lowercase cs

@@ -1,5 +1,5 @@
 -- Word characters of ASCII, that no joiner is a word character, and the joiners among bytes.
-use Rattle.std.proofs.Common.{◌≡◌, ℕ, ◌<◌, ◌≤◌, Bool, true, false, not, ◌&&◌, List, [], ◌∷◌, get_or, chars, encode_utf8, encode_utf8_all, IsUtf8, inl, inr, refl, sym, ap, ap₂, ◌∙◌, arith, append-nil}
+use Rattle.std.proofs.Common.{◌≡◌, ℕ, ◌<◌, ◌≤◌, Bool, true, false, not, ◌&&◌, ◌||◌, nat_lt, List, [], ◌∷◌, get_or, chars, encode_utf8, encode_utf8_all, IsUtf8, inl, inr, refl, sym, ap, ap₂, ◌∙◌, arith, append-nil}
 use Rattle.std.proofs.Math.Bool.{and-true}
 use Rattle.std.proofs.lemmas.Bool.{cases_lt}
 use Rattle.std.proofs.lemmas.Bool.Decides.{nat_tests}
@@ -13,6 +13,7 @@ use Rattle.unicode.proofs.DerivedComputing.{ucd_derived}
 use Rattle.unicode.proofs.Facts.{same_from_beq}
 use Rattle.unicode.proofs.TrieCheck.{all_below, all_below-at}
 use Rattle.mail_words.specs.Words.{is_word_character, is_joiner}
+use Rattle.mail_words.specs.Inside.Runs.{is_piece}
 
 pub is_word_character-ascii : (c : ℕ) → c < 128 → is_word_character c ≡ is_ascii_alphanumeric c
 unfolding all_below ucd_derived ucd_category is_word_character
@@ -21,7 +22,7 @@ is_word_character-ascii c below =
 
 pub ruleset ascii_word_characters = is_word_character-ascii
 
-joiner_below : (c : ℕ) → is_joiner c ≡ true → c < 128
+pub joiner_below : (c : ℕ) → is_joiner c ≡ true → c < 128
 unfolding is_joiner
 joiner_below c joins = grind (arith, nat_tests)
 
@@ -41,6 +42,17 @@ word_character_is_no_joiner c of_word = go (is_joiner c) refl
     go : (t : Bool) → is_joiner c ≡ t → is_joiner c ≡ false
     go true joins = let no = joiner_is_no_word_character c joins in cc
     go false apart = apart
+
+-- of a byte that is no word character by itself, the test of joiners is that of pieces
+pub piece_byte : (b : ℕ) → (nat_lt b 128 && is_word_character b) ≡ false → is_joiner b ≡ (nat_lt b 128 && is_piece b)
+piece_byte b other = go (nat_lt b 128) (is_joiner b) refl refl
+  where
+    go : (below joins : Bool) → nat_lt b 128 ≡ below → is_joiner b ≡ joins → is_joiner b ≡ (nat_lt b 128 && is_piece b)
+    go true joins e f =
+        let no_word : is_word_character b ≡ false = ap (λ t. t && is_word_character b) (sym e) ∙ other in
+        sym (ap (λ t. t && is_piece b) e ∙ ap (λ w. w || is_joiner b) no_word)
+    go false true e f = let below = joiner_below b f in absurd (grind (arith, nat_tests))
+    go false false e f = f ∙ sym (ap (λ t. t && is_piece b) e)
 
 -- ---- the joiners among the bytes of a text
 

@@ -1,11 +1,10 @@
 -- Loops over the characters of a text that count the bytes of its front.
-use Rattle.std.proofs.Common.{◌≡◌, ℕ, ◌+◌, ◌≤◌, Bool, true, false, List, [], ◌∷◌, ◌++◌, length, chars, encode_utf8, encode_utf8_all, IsUtf8, refl, sym, ap, ◌∙◌, arith, length-append}
+use Rattle.std.proofs.Common.{◌≡◌, ℕ, ◌+◌, ◌≤◌, Bool, true, false, List, [], ◌∷◌, ◌++◌, length, chars, encode_utf8, encode_utf8_all, IsUtf8, ap, ◌∙◌, arith, length-append}
 use Rattle.std.proofs.lemmas.List.{nil_from_length}
 use Rattle.std.proofs.lemmas.Str.{chars_past_char, IsUtf8-past_char, length-encode, chars-nil}
 use Rattle.std.specs.Char.{len_utf8}
-use Rattle.mail_words.specs.Words.{is_word_character, is_joiner}
-use Rattle.mail_words.specs.Inside.Runs.{front, joined_to, joined_front}
-use Rattle.mail_words.proofs.RunLemmas.{front-pass, front-fail, joined_front-word, joined_front-joiner, joined_front-other}
+use Rattle.mail_words.specs.Inside.Runs.{front}
+use Rattle.mail_words.proofs.RunLemmas.{front-pass, front-fail}
 
 -- the text, read so far by this many bytes up to this rest
 pub record IsRead (text : List ℕ) (len : ℕ) (rest : List ℕ) : Type 0 where
@@ -54,60 +53,3 @@ front_read-end p text len rest h none = omega (arith, h.whole, ap (λ cs. length
 pub front_read-within : (p : ℕ → Bool) (text : List ℕ) (len : ℕ) (rest : List ℕ) (c : ℕ) (rest' : List ℕ) → FrontRead p text len rest → rest ≡ encode_utf8 c ++ rest'
     → len + len_utf8 c ≤ length text
 front_read-within p text len rest c rest' h parts = omega (arith, (is_read-step text len rest c rest' h.read parts).lengths)
-
--- ---- the run of word characters and joiners, of which `len` bytes are kept so far
-
--- how many bytes are kept, where these characters are still to be kept
-abbrev pub kept_len : ℕ → ℕ → List ℕ → ℕ
-kept_len read len [] = len
-kept_len read len (c ∷ cs) = read + length (encode_utf8_all (c ∷ cs))
-
-pub record JoinedRead (text : List ℕ) (read len : ℕ) (rest : List ℕ) : Type 0 where
-  pub place : IsRead text read rest
-  pub whole : length (encode_utf8_all (joined_front (chars text))) ≡ kept_len read len (joined_front (chars rest))
-
-kept_len-all : (cs : List ℕ) → length (encode_utf8_all cs) ≡ kept_len 0 0 cs
-kept_len-all [] = refl
-kept_len-all (c ∷ cs) = omega arith
-
-kept_len-word : (read len c : ℕ) (cs : List ℕ) → kept_len read len (c ∷ cs) ≡ kept_len (read + len_utf8 c) (read + len_utf8 c) cs
-kept_len-word read len c [] = omega (arith, length-append (encode_utf8 c) [], length-encode c)
-kept_len-word read len c (d ∷ ds) = omega (arith, length-append (encode_utf8 c) (encode_utf8_all (d ∷ ds)), length-encode c)
-
-kept_len-joiner : (read len c : ℕ) (cs : List ℕ) → kept_len read len (joined_to c cs) ≡ kept_len (read + len_utf8 c) len cs
-kept_len-joiner read len c [] = refl
-kept_len-joiner read len c (d ∷ ds) = omega (arith, length-append (encode_utf8 c) (encode_utf8_all (d ∷ ds)), length-encode c)
-
-pub joined_read-start : (text rest : List ℕ) → IsUtf8 text → rest ≡ text → JoinedRead text 0 0 rest
-joined_read-start text rest utf8 same =
-    rw same (record { place = record { utf8 = utf8; lengths = omega arith }; whole = kept_len-all (joined_front (chars text)) })
-
-pub joined_read-word : (text : List ℕ) (read len : ℕ) (rest : List ℕ) (c : ℕ) (rest' : List ℕ) → JoinedRead text read len rest → rest ≡ encode_utf8 c ++ rest' → is_word_character c ≡ true
-    → JoinedRead text (read + len_utf8 c) (read + len_utf8 c) rest'
-joined_read-word text read len rest c rest' h parts of_word =
-    record {
-      place = is_read-step text read rest c rest' h.place parts;
-      whole = h.whole ∙ ap (λ cs. kept_len read len (joined_front cs)) (chars_past_char rest rest' c h.place.utf8 parts)
-          ∙ ap (kept_len read len) (joined_front-word c (chars rest') of_word) ∙ kept_len-word read len c (joined_front (chars rest'));
-    }
-
-pub joined_read-joiner : (text : List ℕ) (read len : ℕ) (rest : List ℕ) (c : ℕ) (rest' : List ℕ) → JoinedRead text read len rest → rest ≡ encode_utf8 c ++ rest' → is_joiner c ≡ true
-    → JoinedRead text (read + len_utf8 c) len rest'
-joined_read-joiner text read len rest c rest' h parts joins =
-    record {
-      place = is_read-step text read rest c rest' h.place parts;
-      whole = h.whole ∙ ap (λ cs. kept_len read len (joined_front cs)) (chars_past_char rest rest' c h.place.utf8 parts)
-          ∙ ap (kept_len read len) (joined_front-joiner c (chars rest') joins) ∙ kept_len-joiner read len c (joined_front (chars rest'));
-    }
-
-pub joined_read-stop : (text : List ℕ) (read len : ℕ) (rest : List ℕ) (c : ℕ) (rest' : List ℕ) → JoinedRead text read len rest → rest ≡ encode_utf8 c ++ rest'
-    → is_word_character c ≡ false → is_joiner c ≡ false → len ≡ length (encode_utf8_all (joined_front (chars text)))
-joined_read-stop text read len rest c rest' h parts other ends =
-    sym (h.whole ∙ ap (λ cs. kept_len read len (joined_front cs)) (chars_past_char rest rest' c h.place.utf8 parts) ∙ ap (kept_len read len) (joined_front-other c (chars rest') other ends))
-
-pub joined_read-end : (text : List ℕ) (read len : ℕ) (rest : List ℕ) → JoinedRead text read len rest → length rest ≡ 0 → len ≡ length (encode_utf8_all (joined_front (chars text)))
-joined_read-end text read len rest h none = sym (h.whole ∙ ap (λ cs. kept_len read len (joined_front cs)) (no_chars rest none))
-
-pub joined_read-within : (text : List ℕ) (read len : ℕ) (rest : List ℕ) (c : ℕ) (rest' : List ℕ) → JoinedRead text read len rest → rest ≡ encode_utf8 c ++ rest'
-    → read + len_utf8 c ≤ length text
-joined_read-within text read len rest c rest' h parts = omega (arith, (is_read-step text read rest c rest' h.place parts).lengths)

@@ -3,12 +3,14 @@ pub mod ByteReads
 pub mod Characters
 pub mod FoldingLemmas
 pub mod FrontReads
+pub mod JoinedEnds
 pub mod Kept
 pub mod Lengths
 pub mod OneWord
 pub mod Order
 pub mod Places
 pub mod Reading
+mod RowTables
 mod Rows
 mod RowsFolding
 mod RowsLimits

@@ -7,9 +7,8 @@ use Rattle.std.proofs.lemmas.List.{reverse-append, append-nil}
 use Rattle.std.proofs.lemmas.Str.{encodes-append, encodes-chars, length-le-encodes}
 use Rattle.std.specs.List.{list_all, list_any}
 use Rattle.mail_words.specs.Words.{is_word_character, is_joiner, begins, is_one_word, is_part_of_word, is_word, word_limit}
-use Rattle.mail_words.specs.Inside.Runs.{joined_to, joined_front}
+use Rattle.mail_words.specs.Inside.Runs.{is_piece, joined_to, joined_front}
 use Rattle.mail_words.proofs.RunLemmas.{is_some, joined_front-word, joined_front-joiner, joined_front-other}
-use Rattle.mail_words.proofs.WordTests.{is_piece}
 
 -- ---- the last character
 
@@ -25,7 +24,7 @@ begins-front : (p : ℕ → Bool) (xs ys : List ℕ) → is_some xs ≡ true →
 begins-front p [] ys h = cc
 begins-front p (x ∷ xs) ys h = refl
 
-ends-cons : (p : ℕ → Bool) (c : ℕ) (cs : List ℕ) → is_some cs ≡ true → begins p (reverse (c ∷ cs)) ≡ begins p (reverse cs)
+pub ends-cons : (p : ℕ → Bool) (c : ℕ) (cs : List ℕ) → is_some cs ≡ true → begins p (reverse (c ∷ cs)) ≡ begins p (reverse cs)
 ends-cons p c cs h = ap (begins p) (reverse-append (c ∷ []) cs) ∙ begins-front p (reverse cs) (c ∷ []) (is_some-reverse cs h)
 
 -- ---- what the run at the front is
@@ -69,7 +68,7 @@ ends-joined_to : (c : ℕ) (cs : List ℕ) → (is_some cs ≡ true → begins i
 ends-joined_to c [] h some = some
 ends-joined_to c (d ∷ ds) h some = ends-cons is_word_character c (d ∷ ds) refl ∙ h refl
 
-ends-joined_front : (cs : List ℕ) → is_some (joined_front cs) ≡ true → begins is_word_character (reverse (joined_front cs)) ≡ true
+pub ends-joined_front : (cs : List ℕ) → is_some (joined_front cs) ≡ true → begins is_word_character (reverse (joined_front cs)) ≡ true
 ends-joined_front [] some = some
 ends-joined_front (c ∷ cs) some = go (is_word_character c) (is_joiner c) refl refl (ends-joined_front cs)
   where

@@ -17,48 +17,26 @@ wide n = replicate n 0x10428
 abbrev hyphen : List ℕ
 hyphen = 0x2D ∷ []
 
-unfoldable on_literals : Unit {0}
+-- two words of 64 and 63 bytes with a hyphen between them
+abbrev joined : List ℕ
+joined = wide 16 ++ (hyphen ++ (wide 15 ++ 0x4E00 ∷ []))
+
+abbrev joined_words : List (List ℕ)
+joined_words = encode_utf8_all (wide 16) ∷ encode_utf8_all joined ∷ encode_utf8_all (wide 15 ++ 0x4E00 ∷ []) ∷ []
+
+rows : (words_of (wide 32) ≡ encode_utf8_all (wide 32) ∷ [])
+    -- 129 bytes, and 132
+    × (is_word is_wide [] (0xE9 ∷ 0x4E00 ∷ wide 31) [] ≡ false)
+    × (words_of (wide 33) ≡ [])
+    -- letters of two bytes, and of one
+    × (is_word is_wide [] (replicate 64 0xFC) [] ≡ true)
+    × (is_word is_wide [] (replicate 65 0xFC) [] ≡ false)
+    × (is_word (leb 0x61) [] (replicate 128 0x61) [] ≡ true)
+    × (is_word (leb 0x61) [] (replicate 129 0x61) [] ≡ false)
+    × (words_of joined ≡ joined_words)
+    -- joiners at both ends don't count
+    × (words_of (hyphen ++ (0x2E ∷ (joined ++ 0x5F ∷ []))) ≡ joined_words)
+    -- a long word of 129 bytes is none, but its words are
+    × (words_of (wide 16 ++ (hyphen ++ wide 16)) ≡ encode_utf8_all (wide 16) ∷ encode_utf8_all (wide 16) ∷ [])
 unfolding is_joiner is_word lib.Utf8.encode
-on_literals = tt
-
-plain_word_of_128_bytes : words_of (wide 32) ≡ encode_utf8_all (wide 32) ∷ []
-unfolding on_literals
-plain_word_of_128_bytes = refl
-
-plain_word_of_129_bytes : is_word is_wide [] (0xE9 ∷ 0x4E00 ∷ wide 31) [] ≡ false
-unfolding on_literals
-plain_word_of_129_bytes = refl
-
-plain_word_of_132_bytes : words_of (wide 33) ≡ []
-unfolding on_literals
-plain_word_of_132_bytes = refl
-
-letters_of_two_bytes_up_to_128 : is_word is_wide [] (replicate 64 0xFC) [] ≡ true
-unfolding on_literals
-letters_of_two_bytes_up_to_128 = refl
-
-letters_of_two_bytes_past_128 : is_word is_wide [] (replicate 65 0xFC) [] ≡ false
-unfolding on_literals
-letters_of_two_bytes_past_128 = refl
-
-ascii_letters_up_to_128 : is_word (leb 0x61) [] (replicate 128 0x61) [] ≡ true
-unfolding on_literals
-ascii_letters_up_to_128 = refl
-
-ascii_letters_past_128 : is_word (leb 0x61) [] (replicate 129 0x61) [] ≡ false
-unfolding on_literals
-ascii_letters_past_128 = refl
-
-long_word_of_128_bytes : words_of (wide 16 ++ (hyphen ++ (wide 15 ++ 0x4E00 ∷ [])))
-    ≡ encode_utf8_all (wide 16) ∷ encode_utf8_all (wide 16 ++ (hyphen ++ (wide 15 ++ 0x4E00 ∷ []))) ∷ encode_utf8_all (wide 15 ++ 0x4E00 ∷ []) ∷ []
-unfolding on_literals
-long_word_of_128_bytes = refl
-
-long_word_of_128_bytes_between_joiners : words_of (hyphen ++ (0x2E ∷ (wide 16 ++ (hyphen ++ (wide 15 ++ 0x4E00 ∷ 0x5F ∷ [])))))
-    ≡ encode_utf8_all (wide 16) ∷ encode_utf8_all (wide 16 ++ (hyphen ++ (wide 15 ++ 0x4E00 ∷ []))) ∷ encode_utf8_all (wide 15 ++ 0x4E00 ∷ []) ∷ []
-unfolding on_literals
-long_word_of_128_bytes_between_joiners = refl
-
-short_plain_words_of_a_long_word_of_129_bytes : words_of (wide 16 ++ (hyphen ++ wide 16)) ≡ encode_utf8_all (wide 16) ∷ encode_utf8_all (wide 16) ∷ []
-unfolding on_literals
-short_plain_words_of_a_long_word_of_129_bytes = refl
+rows = (refl, refl, refl, refl, refl, refl, refl, refl, refl, refl)

@@ -6,20 +6,17 @@ use Rattle.std.proofs.lemmas.List.{reverse-append}
 use Rattle.std.proofs.lemmas.List.Folds.{list_all-append, list_any-append}
 use Rattle.std.specs.List.{list_all, list_any}
 use Rattle.mail_words.specs.Words.{is_word_character, is_joiner, begins, after_joiners}
-use Rattle.mail_words.specs.Inside.Runs.{front, behind, joined_to, joined_front, within, joined_on, long_at}
+use Rattle.mail_words.specs.Inside.Runs.{is_piece, front, behind, joined_to, joined_front, within, joined_on, long_at}
 use Rattle.mail_words.proofs.Characters.{joiner_is_no_word_character, word_character_is_no_joiner}
 use Rattle.mail_words.proofs.RunLemmas.{front-pass, front-fail, behind-pass, behind-fail, begins-behind, is_some, nil_from_none, joined_front-word, joined_front-joiner, joined_front-other, is_some-joined_front}
 use Rattle.mail_words.proofs.Places.{words_on}
-use Rattle.mail_words.proofs.WordTests.{is_piece, is_plain, is_long, none_begins, none_inside, none_of_others, none_ends, none_yet, none_in_run, none_before_end}
+use Rattle.mail_words.proofs.WordTests.{is_plain, is_long, none_begins, none_inside, none_of_others, none_ends, none_yet, none_in_run, none_before_end}
 
 -- ---- the front of a word that grows by a character
 
 begins-append : (p : ℕ → Bool) (xs ys : List ℕ) → begins p xs ≡ true → begins p (xs ++ ys) ≡ true
 begins-append p [] ys h = cc
 begins-append p (x ∷ xs) ys h = h
-
-not_begins-append : (p : ℕ → Bool) (x : ℕ) (xs ys : List ℕ) → begins p (x ∷ xs) ≡ false → begins p (x ∷ xs ++ ys) ≡ false
-not_begins-append p x xs ys h = h
 
 ends-push : (p : ℕ → Bool) (xs : List ℕ) (c : ℕ) → begins p (reverse (xs ++ c ∷ [])) ≡ p c
 ends-push p xs c = ap (begins p) (reverse-append xs (c ∷ []))

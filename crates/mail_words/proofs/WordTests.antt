@@ -1,13 +1,10 @@
 -- When three parts of a text make the middle one a word.
-use Rattle.std.proofs.Common.{◌≡◌, ℕ, Bool, true, false, ◌||◌, List, [], reverse, refl}
+use Rattle.std.proofs.Common.{◌≡◌, ℕ, true, false, List, [], reverse, refl}
 use Rattle.std.proofs.Math.Bool.{and-false, or-true}
 use Rattle.std.specs.List.{list_all, list_any}
 use Rattle.mail_words.specs.Words.{is_word_character, is_joiner, begins, after_joiners, is_word}
-use Rattle.mail_words.specs.Inside.Runs.{within}
+use Rattle.mail_words.specs.Inside.Runs.{is_piece, within}
 use Rattle.mail_words.proofs.Places.{if_word}
-
-abbrev pub is_piece : ℕ → Bool
-is_piece c = is_word_character c || is_joiner c
 
 pub is_plain : (before inside behind : List ℕ) → begins is_word_character inside ≡ true → list_all is_word_character inside ≡ true
     → begins is_word_character before ≡ false → begins is_word_character behind ≡ false → if_word before inside behind ≡ within inside

@@ -1,100 +1,129 @@
 //! Runs of word characters and joiners at the front of a text.
-ghost use Rattle.std.specs.Prelude.{◌≡◌, length, chars, encode_utf8_all};
-ghost use Rattle.mail_words.specs.Words.{is_word_character};
-ghost use Rattle.mail_words.specs.Inside.Runs.{front, is_other, joined_front};
+ghost use Rattle.std.specs.Prelude.{◌≡◌, ◌<◌, ◌≤◌, ◌-◌, ◌&&◌, ℕ, Bool, true, false, nat_lt, length, slice_index, chars, encode_utf8_all};
+ghost use Rattle.mail_words.specs.Words.{is_word_character, is_joiner};
+ghost use Rattle.mail_words.specs.Inside.Runs.{front, is_other, is_piece, joined_front};
 
 use crate::ascii::{is_ascii_joiner, is_ascii_word_character};
 use crate::character::{is_joiner, is_word_character};
+
+/// A class of characters, told of a character and of a byte.
+trait CharacterClass {
+    /// Whether a character is in it.
+    ghost holds: { ℕ → Bool };
+
+    fn has(c: char) -> bool
+        ensures { result ≡ holds c };
+
+    /// Whether the byte is in it as a character by itself. A piece of a character beyond ASCII isn't.
+    fn has_ascii(byte: u8) -> bool
+        ensures { result ≡ (nat_lt byte 128 && holds byte) };
+}
+
+/// The word characters.
+struct OfWords;
+
+impl CharacterClass for OfWords {
+    ghost holds = { is_word_character };
+
+    fn has(c: char) -> bool {
+        is_word_character(c)
+    }
+
+    fn has_ascii(byte: u8) -> bool {
+        is_ascii_word_character(byte)
+    }
+}
+
+/// All others.
+struct OfGaps;
+
+impl CharacterClass for OfGaps {
+    ghost holds = { is_other };
+
+    fn has(c: char) -> bool {
+        !is_word_character(c)
+    }
+
+    fn has_ascii(byte: u8) -> bool {
+        byte.is_ascii() && !is_ascii_word_character(byte)
+    }
+}
+
+/// Word characters and joiners.
+struct OfRuns;
+
+impl CharacterClass for OfRuns {
+    ghost holds = { is_piece };
+
+    fn has(c: char) -> bool {
+        is_word_character(c) || is_joiner(c)
+    }
+
+    fn has_ascii(byte: u8) -> bool {
+        is_ascii_word_character(byte) || is_ascii_joiner(byte)
+    }
+}
 
 /// How many bytes the word characters at the front take.
 pub(crate) fn plain_len(text: &str) -> usize
     ensures { result ≡ length (encode_utf8_all (front is_word_character (chars text.now))) }
 {
-    for (len, &byte) in text.as_bytes().iter().enumerate() {
-        if !is_ascii_word_character(byte) {
-            if byte.is_ascii() {
-                return len;
-            }
-            return len + plain_len_by_characters(text.split_at(len).1);
-        }
-    }
-    text.len()
+    front_len::<OfWords>(text)
 }
 
 /// How many bytes the characters before the first word character take.
 pub(crate) fn gap_len(text: &str) -> usize
     ensures { result ≡ length (encode_utf8_all (front is_other (chars text.now))) }
 {
+    front_len::<OfGaps>(text)
+}
+
+/// How many bytes the characters of a class take at the front.
+fn front_len<C: CharacterClass>(text: &str) -> usize
+    ensures { result ≡ length (encode_utf8_all (front C.holds (chars text.now))) }
+{
     for (len, &byte) in text.as_bytes().iter().enumerate() {
-        if is_ascii_word_character(byte) {
-            return len;
-        }
-        if !byte.is_ascii() {
-            return len + gap_len_by_characters(text.split_at(len).1);
+        if !C::has_ascii(byte) {
+            if byte.is_ascii() {
+                return len;
+            }
+            return len + front_len_by_characters::<C>(text.split_at(len).1);
         }
     }
     text.len()
+}
+
+/// The same, character by character.
+fn front_len_by_characters<C: CharacterClass>(text: &str) -> usize
+    ensures { result ≡ length (encode_utf8_all (front C.holds (chars text.now))) }
+{
+    let mut len = 0;
+    for c in text.chars() {
+        if !C::has(c) {
+            return len;
+        }
+        len += c.len_utf8();
+    }
+    len
 }
 
 /// How many bytes the run of word characters and joiners at the front takes, without the joiners at its end.
 pub(crate) fn joined_len(text: &str) -> usize
     ensures { result ≡ length (encode_utf8_all (joined_front (chars text.now))) }
 {
-    let mut len = 0;
-    for (read, &byte) in text.as_bytes().iter().enumerate() {
-        if is_ascii_word_character(byte) {
-            len = read + 1;
-        } else if !byte.is_ascii() {
-            let more = joined_len_by_characters(text.split_at(read).1);
-            return if more == 0 { len } else { read + more };
-        } else if !is_ascii_joiner(byte) {
-            return len;
-        }
-    }
-    len
+    let run = front_len::<OfRuns>(text);
+    len_before_joiners(text.split_at(run).0.as_bytes())
 }
 
-/// The same as [`plain_len`], character by character.
-fn plain_len_by_characters(text: &str) -> usize
-    ensures { result ≡ length (encode_utf8_all (front is_word_character (chars text.now))) }
+/// How many bytes stand before the joiners at the end.
+fn len_before_joiners(bytes: &[u8]) -> usize
+    ensures within { result ≤ length bytes.now }
+    ensures joiners { (k : ℕ) → result ≤ k → k < length bytes.now → is_joiner (slice_index bytes.now k) ≡ true }
+    ensures last { 0 < result → is_joiner (slice_index bytes.now (result - 1)) ≡ false }
 {
-    let mut len = 0;
-    for c in text.chars() {
-        if !is_word_character(c) {
-            return len;
-        }
-        len += c.len_utf8();
-    }
-    len
-}
-
-/// The same as [`gap_len`], character by character.
-fn gap_len_by_characters(text: &str) -> usize
-    ensures { result ≡ length (encode_utf8_all (front is_other (chars text.now))) }
-{
-    let mut len = 0;
-    for c in text.chars() {
-        if is_word_character(c) {
-            return len;
-        }
-        len += c.len_utf8();
-    }
-    len
-}
-
-/// The same as [`joined_len`], character by character.
-fn joined_len_by_characters(text: &str) -> usize
-    ensures { result ≡ length (encode_utf8_all (joined_front (chars text.now))) }
-{
-    let mut read = 0;
-    let mut len = 0;
-    for c in text.chars() {
-        read += c.len_utf8();
-        if is_word_character(c) {
-            len = read;
-        } else if !is_joiner(c) {
-            return len;
-        }
+    let mut len = bytes.len();
+    while len > 0 && is_ascii_joiner(bytes[len - 1]) {
+        len -= 1;
     }
     len
 }

@@ -1,5 +1,5 @@
 -- What a reader of words looks for at the front of the characters that are left.
-use Rattle.std.specs.Prelude.{ℕ, Bool, true, false, not, List, [], ◌∷◌, ◌++◌, length, nat_le, codes, encode_utf8_all, if◌then◌else◌}
+use Rattle.std.specs.Prelude.{ℕ, Bool, true, false, not, ◌||◌, List, [], ◌∷◌, ◌++◌, length, nat_le, codes, encode_utf8_all, if◌then◌else◌}
 use Rattle.mail_words.specs.Words.{is_word_character, is_joiner, word_limit, words_behind}
 
 -- the characters at the front that pass, and what follows them
@@ -14,6 +14,10 @@ behind p (c ∷ cs) = elim (p c) [ true ↦ behind p cs | false ↦ c ∷ cs ]
 -- no word character
 abbrev pub is_other : ℕ → Bool
 is_other c = not (is_word_character c)
+
+-- a word character or a joiner
+abbrev pub is_piece : ℕ → Bool
+is_piece c = is_word_character c || is_joiner c
 
 -- a joiner, where something follows it
 abbrev pub joined_to : ℕ → List ℕ → List ℕ

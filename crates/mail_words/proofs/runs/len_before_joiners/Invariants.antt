@@ -1,0 +1,13 @@
+use Rattle.std.proofs.Common.{◌≡◌, ◌<◌, ◌≤◌, ℕ, true, length, slice_index}
+use Rattle.mail_words.specs.Words.{is_joiner}
+use Rattle.mail_words.proofs.runs.len_before_joiners.Given as goal
+
+-- what was passed is joiners
+abbrev pub invariant-loop-len : goal.invariant-loop-len
+invariant-loop-len l = record {
+  within : l.len ≤ length l.bytes;
+  joiners : (k : ℕ) → l.len ≤ k → k < length l.bytes → is_joiner (slice_index l.bytes k) ≡ true;
+}
+
+abbrev pub decreases-loop-len : goal.decreases-loop-len
+decreases-loop-len l = l.len
