@@ -1,5 +1,5 @@
 -- Rows of index files; the bytes on the right come from a separate reading of the format.
-use Rattle.std.proofs.Common.{◌≡◌, ℕ, List, [], ◌∷◌, refl, length, Some, None, true, false}
+use Rattle.std.proofs.Common.{◌≡◌, ℕ, List, [], ◌∷◌, map, refl, length, Some, None, true, false}
 use Rattle.std.specs.Prelude.{codes, negsuc}
 use Rattle.mail_words.specs.declared.kind.TextKind.TheVariants.{Subject, Body, Name}
 use Rattle.mail_words.specs.declared.flags.Flags.{Flags}
@@ -15,9 +15,6 @@ abbrev pub nothing_bytes : List ℕ
 nothing_bytes =
     0x4d ∷ 0x41 ∷ 0x49 ∷ 0x52 ∷ 0x49 ∷ 0x58 ∷ 0x0d ∷ 0x0a ∷ 0 ∷ 0 ∷ 0 ∷ 2 ∷ 0 ∷ 0 ∷ 0 ∷ 0 ∷ 0 ∷ 0 ∷ 0 ∷ 0 ∷ 0 ∷ 0 ∷ 0 ∷ 0
     ∷ 0 ∷ 0 ∷ 0 ∷ 0 ∷ 0 ∷ 0 ∷ 0 ∷ 0 ∷ 0 ∷ 0 ∷ 0 ∷ 0 ∷ 0 ∷ 0 ∷ 0 ∷ 0 ∷ 0 ∷ 0 ∷ 0 ∷ 0 ∷ 0 ∷ 0 ∷ 0 ∷ 0 ∷ []
-
-nothing_body : body nothing ≡ nothing_bytes
-nothing_body = refl
 
 abbrev plain : Flags
 plain = record { seen = false; replied = false; flagged = false }
@@ -39,12 +36,6 @@ hello_bytes =
     ∷ 5 ∷ 0 ∷ 0 ∷ 0 ∷ 0 ∷ 0 ∷ 0 ∷ 5 ∷ 0 ∷ 0 ∷ 0 ∷ 0 ∷ 0 ∷ 0 ∷ 0 ∷ 0 ∷ 0 ∷ 0 ∷ 0 ∷ 0 ∷ 0 ∷ 0 ∷ 0 ∷ 0
     ∷ 6 ∷ 0 ∷ 0 ∷ 0 ∷ 0 ∷ 0 ∷ 0 ∷ 2 ∷ 0 ∷ 0 ∷ 0 ∷ 0 ∷ 0 ∷ 0 ∷ 0 ∷ 5 ∷ 0 ∷ 0 ∷ 0 ∷ 0 ∷ 0 ∷ 0 ∷ 0 ∷ 1
     ∷ 0x68 ∷ 0x65 ∷ 0x6c ∷ 0x6c ∷ 0x6f ∷ 0x68 ∷ 0x69 ∷ 1 ∷ 1 ∷ []
-
-hello_body : body hello ≡ hello_bytes
-hello_body = refl
-
-hello_length : length (body hello) ≡ 163
-hello_length = refl
 
 -- 32 bytes, each another one
 abbrev some_digest : List ℕ
@@ -68,38 +59,21 @@ new_bytes =
     ∷ 6 ∷ 0 ∷ 0 ∷ 0 ∷ 0 ∷ 0 ∷ 0 ∷ 2 ∷ 0 ∷ 0 ∷ 0 ∷ 0 ∷ 0 ∷ 0 ∷ 0 ∷ 5 ∷ 0 ∷ 0 ∷ 0 ∷ 0 ∷ 0 ∷ 0 ∷ 0 ∷ 1
     ∷ 0x68 ∷ 0x65 ∷ 0x6c ∷ 0x6c ∷ 0x6f ∷ 0x68 ∷ 0x69 ∷ 1 ∷ 1 ∷ []
 
-new_body : body new ≡ new_bytes
-new_body = refl
+files : (body nothing ≡ nothing_bytes) × (body hello ≡ hello_bytes) × (length (body hello) ≡ 163) × (body new ≡ new_bytes) × (length (body new) ≡ 195)
+files = (refl, refl, refl, refl, refl)
 
-new_length : length (body new) ≡ 195
-new_length = refl
-
--- a second before 1970, and all flags
-early_record : record_bytes (record { archive = 258; offset = 1; length = 65536; size = 255; date = Some (negsuc 0); flags = record { seen = true; replied = true; flagged = true } })
+-- a second before 1970, and all flags; then entries of a name and of a link id
+records : (record_bytes (record { archive = 258; offset = 1; length = 65536; size = 255; date = Some (negsuc 0); flags = record { seen = true; replied = true; flagged = true } })
     ≡ 0 ∷ 0 ∷ 1 ∷ 2 ∷ 15 ∷ 0 ∷ 0 ∷ 0 ∷ 0 ∷ 0 ∷ 0 ∷ 0 ∷ 0 ∷ 0 ∷ 0 ∷ 1 ∷ 0 ∷ 0 ∷ 0 ∷ 0 ∷ 0 ∷ 1 ∷ 0 ∷ 0 ∷ 0 ∷ 0 ∷ 0 ∷ 0 ∷ 0 ∷ 0 ∷ 0 ∷ 255
-    ∷ 255 ∷ 255 ∷ 255 ∷ 255 ∷ 255 ∷ 255 ∷ 255 ∷ 255 ∷ []
-early_record = refl
+    ∷ 255 ∷ 255 ∷ 255 ∷ 255 ∷ 255 ∷ 255 ∷ 255 ∷ 255 ∷ [])
+    × (entry_bytes 256 65535 (record { kind = Text Name; text = codes "pdf"; postings = 1 ∷ [] })
+    ≡ 9 ∷ 0 ∷ 0 ∷ 0 ∷ 0 ∷ 0 ∷ 0 ∷ 3 ∷ 0 ∷ 0 ∷ 0 ∷ 0 ∷ 0 ∷ 0 ∷ 1 ∷ 0 ∷ 0 ∷ 0 ∷ 0 ∷ 0 ∷ 0 ∷ 0 ∷ 255 ∷ 255 ∷ [])
+    × (entry_bytes 256 65535 (record { kind = LinkId; text = codes "a@b"; postings = 1 ∷ [] })
+    ≡ 8 ∷ 0 ∷ 0 ∷ 0 ∷ 0 ∷ 0 ∷ 0 ∷ 3 ∷ 0 ∷ 0 ∷ 0 ∷ 0 ∷ 0 ∷ 0 ∷ 1 ∷ 0 ∷ 0 ∷ 0 ∷ 0 ∷ 0 ∷ 0 ∷ 0 ∷ 255 ∷ 255 ∷ [])
+records = (refl, refl, refl)
 
-name_entry : entry_bytes 256 65535 (record { kind = Text Name; text = codes "pdf"; postings = 1 ∷ [] })
-    ≡ 9 ∷ 0 ∷ 0 ∷ 0 ∷ 0 ∷ 0 ∷ 0 ∷ 3 ∷ 0 ∷ 0 ∷ 0 ∷ 0 ∷ 0 ∷ 0 ∷ 1 ∷ 0 ∷ 0 ∷ 0 ∷ 0 ∷ 0 ∷ 0 ∷ 0 ∷ 255 ∷ 255 ∷ []
-name_entry = refl
-
-link_entry : entry_bytes 256 65535 (record { kind = LinkId; text = codes "a@b"; postings = 1 ∷ [] })
-    ≡ 8 ∷ 0 ∷ 0 ∷ 0 ∷ 0 ∷ 0 ∷ 0 ∷ 3 ∷ 0 ∷ 0 ∷ 0 ∷ 0 ∷ 0 ∷ 0 ∷ 1 ∷ 0 ∷ 0 ∷ 0 ∷ 0 ∷ 0 ∷ 0 ∷ 0 ∷ 255 ∷ 255 ∷ []
-link_entry = refl
-
-three_hundred : leb128 5 300 ≡ 0xAC ∷ 2 ∷ []
-three_hundred = refl
-
-one_byte : leb128 5 127 ≡ 0x7F ∷ []
-one_byte = refl
-
-two_bytes : leb128 5 128 ≡ 0x80 ∷ 1 ∷ []
-two_bytes = refl
-
--- the greatest difference, of the number 2 ^ 32 - 1 from none
-greatest : postings (0xFFFF_FFFF ∷ []) ≡ 0x80 ∷ 0x80 ∷ 0x80 ∷ 0x80 ∷ 0x10 ∷ []
-greatest = refl
-
-gaps : postings (0 ∷ 2 ∷ 300 ∷ []) ≡ 1 ∷ 2 ∷ 0xAA ∷ 2 ∷ []
-gaps = refl
+-- the greatest difference is that of the number 2 ^ 32 - 1 from none
+numbers : (map (leb128 5) (300 ∷ 127 ∷ 128 ∷ []) ≡ (0xAC ∷ 2 ∷ []) ∷ (0x7F ∷ []) ∷ (0x80 ∷ 1 ∷ []) ∷ [])
+    × (postings (0xFFFF_FFFF ∷ []) ≡ 0x80 ∷ 0x80 ∷ 0x80 ∷ 0x80 ∷ 0x10 ∷ [])
+    × (postings (0 ∷ 2 ∷ 300 ∷ []) ≡ 1 ∷ 2 ∷ 0xAA ∷ 2 ∷ [])
+numbers = (refl, refl, refl)

@@ -1,5 +1,6 @@
 -- Laws of a file that is read in place.
 pub mod ArchiveReads
+pub mod Comparisons
 pub mod DigestReads
 pub mod DirectoryKeys
 pub mod DirectorySections

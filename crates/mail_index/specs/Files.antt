@@ -1,4 +1,16 @@
 -- The file of a table: counts, archives, records, directory, texts, postings, and the SHA-256 of all these.
+--
+-- Where each field stands, from the first byte of its part, and how many bytes it has. Numbers have the highest byte first.
+--
+--   front, 48 bytes            an archive                 a record, 40 bytes        an entry, 24 bytes
+--    0  8  magic                0  8  its length           0  4  its archive         0  1  the kind of its key
+--    8  4  version              8  4  its path's length    4  1  flags               1  3  zeros
+--   12  4  archives            12  .. its path             5  3  zeros               4  4  its text's length
+--   16  4  messages             .. 32 its digest           8  8  its offset          8  8  its text's place
+--   20  4  keys                    (version 2)            16  8  its length         16  8  its postings' place
+--   24  8  bytes of archives                              24  8  its text's length
+--   32  8  bytes of texts                                 32  8  its date, or 0
+--   40  8  bytes of postings
 use Rattle.std.specs.Prelude.{ℕ, ◌+◌, ◌^◌, ◌<◌, Bool, if◌then◌else◌, ℤ, List, [], ◌∷◌, ◌++◌, length, map, Option, Some, None, flat_map, is_some, unwrap_or}
 use Rattle.std.specs.Int.{w32, w64, to_be_bytes, cast_unsigned}
 use Rattle.std.specs.List.{concat}

@@ -5,6 +5,10 @@ use Rattle.std.specs.Prelude.{ℕ, ◌^◌}
 abbrev pub most_in_index : ℕ
 most_in_index = 2147483647
 
+-- the most bytes of a key
+abbrev pub most_in_key : ℕ
+most_in_key = 262144
+
 -- the most bytes of an archive
 abbrev pub most_in_archive : ℕ
 most_in_archive = 2 ^ 40

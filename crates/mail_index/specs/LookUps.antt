@@ -1,10 +1,11 @@
 -- What a table answers of a key.
-use Rattle.std.specs.Prelude.{◌≡◌, ℕ, ◌^◌, ◌<◌, ◌≤◌, Bool, true, false, ◌&&◌, nat_eq, List, [], ◌∷◌, map, filter}
+use Rattle.std.specs.Prelude.{◌≡◌, ℕ, zero, suc, ◌/◌, ◌^◌, ◌<◌, ◌≤◌, Bool, true, false, ◌&&◌, nat_eq, List, [], ◌∷◌, length, take, drop, map, filter}
 use Rattle.std.specs.Str.{bytes_eq}
 use Rattle.std.specs.List.{starts_with}
 use Rattle.mail_index.specs.declared.kind.Kind.{Kind}
 use Rattle.mail_index.specs.Kinds.{kind_number}
 use Rattle.std.specs.declared.cmp.Ordering.{Ordering}
+use Rattle.std.specs.declared.cmp.Ordering.TheVariants.{Less, Equal, Greater}
 use Rattle.std.specs.Ordering.{nat_cmp}
 use Rattle.std.specs.Cmp.Lexicographic.{slice_cmp}
 use Rattle.std.specs.List.Sorted.{IsStrictlySortedBy}
@@ -42,6 +43,23 @@ keys_beginning kind text ks = filter (λ k. starts_with nat_eq k.text text) (key
 -- a key without its kind
 abbrev pub text_and_numbers : Key → List ℕ × List ℕ
 text_and_numbers k = (k.text, k.numbers)
+
+-- how many comparisons halving makes: of the key in the middle, and where that isn't the sought one, of those of the half in which
+-- it would stand. The keys are halved at most `most` times
+abbrev pub comparisons_within : ℕ → Kind → List ℕ → List Key → ℕ
+comparisons_within zero kind text ks = 0
+comparisons_within (suc most) kind text ks = elim (drop (length ks / 2) ks) [
+  | [] ↦ 0
+  | k ∷ behind ↦ suc (elim (lies_to kind text k) [
+    | Less ↦ comparisons_within most kind text behind
+    | Equal ↦ 0
+    | Greater ↦ comparisons_within most kind text (take (length ks / 2) ks)
+  ])
+]
+
+-- as often as there are keys is enough
+abbrev pub comparisons : Kind → List ℕ → List Key → ℕ
+comparisons kind text ks = comparisons_within (length ks) kind text ks
 
 -- so few steps were taken: at most so many as the number has binary digits, which is the least number of digits that holds it
 abbrev pub TakesDigits : ℕ → ℕ → ℕ → Type 0

@@ -1,8 +1,10 @@
 //! Laws of the definitions.
-ghost use Rattle.std.specs.Prelude.{◌≡◌, ◌<◌, ◌^◌, ℕ, List, length};
+ghost use Rattle.std.specs.Prelude.{◌≡◌, ◌<◌, ◌≤◌, ◌^◌, ℕ, List, length};
+ghost use Rattle.mail_index.specs.declared.kind.Kind.{Kind};
 ghost use Rattle.mail_index.specs.declared.view.fault.IndexFault.{IndexFault};
 ghost use Rattle.mail_index.specs.Faults.{IsFileOf, IsFirstFault};
-ghost use Rattle.mail_index.specs.Tables.{Table, IsWellFormed};
+ghost use Rattle.mail_index.specs.Tables.{Key, Table, IsWellFormed};
+ghost use Rattle.mail_index.specs.LookUps.{comparisons};
 ghost use Rattle.mail_index.specs.Files.{index_file, HasSmallSections};
 
 /// One file is the file of one table: an index file can't mean two things.
@@ -14,4 +16,10 @@ pub fn one_table_for_a_file()
 /// The file of a table that lies in memory has no fault: so the bytes that are opened are exactly the files of tables.
 pub fn the_file_of_a_table_has_no_fault()
     ensures { (bytes : List ℕ) (t : Table) (fault : IndexFault) → length bytes < 2 ^ 64 → IsFileOf bytes t → ¬ IsFirstFault bytes fault }
+{}
+
+/// A look-up makes few comparisons: at most as many as the number of keys has binary digits, which is the least number of digits that
+/// holds it.
+pub fn few_comparisons()
+    ensures { (kind : Kind) (text : List ℕ) (ks : List Key) (digits : ℕ) → length ks < 2 ^ digits → comparisons kind text ks ≤ digits }
 {}

@@ -3,6 +3,10 @@ ghost use Rattle.std.specs.Prelude.{◌≡◌, ◌≤◌, length};
 ghost use Rattle.mail_index.specs.Records.{has_bit as has_bit_of, read_flags as flags_of, read_date as date_of, is_record as is_record_of};
 
 use crate::fields::{u32_at, u64_at};
+use crate::places::{
+    ALL_FLAGS, ARCHIVE_AT, DATE_AT, DATED, FLAGGED, FLAGS_AT, LENGTH_AT, OFFSET_AT, REPLIED, SEEN,
+    SIZE_AT,
+};
 use mail_words::Flags;
 
 /// A message of an archive, as an index keeps it.
@@ -33,16 +37,16 @@ fn read_flags(flags: u8) -> Flags
     ensures { result ≡ flags_of flags }
 {
     Flags {
-        seen: has_bit(flags, 1),
-        replied: has_bit(flags, 2),
-        flagged: has_bit(flags, 4),
+        seen: has_bit(flags, SEEN),
+        replied: has_bit(flags, REPLIED),
+        flagged: has_bit(flags, FLAGGED),
     }
 }
 
 fn read_date(flags: u8, date: u64) -> Option<i64>
     ensures { result ≡ date_of flags date }
 {
-    if has_bit(flags, 8) {
+    if has_bit(flags, DATED) {
         Some(date.cast_signed())
     } else {
         None
@@ -58,13 +62,13 @@ impl Record {
         requires { 40 ≤ length bytes.now }
         ensures { result ≡ read_record bytes.now }
     {
-        let flags = bytes[4];
+        let flags = bytes[FLAGS_AT];
         Record {
-            archive: u32_at(bytes, 0),
-            offset: u64_at(bytes, 8),
-            length: u64_at(bytes, 16),
-            size: u64_at(bytes, 24),
-            date: read_date(flags, u64_at(bytes, 32)),
+            archive: u32_at(bytes, ARCHIVE_AT),
+            offset: u64_at(bytes, OFFSET_AT),
+            length: u64_at(bytes, LENGTH_AT),
+            size: u64_at(bytes, SIZE_AT),
+            date: read_date(flags, u64_at(bytes, DATE_AT)),
             flags: read_flags(flags),
         }
     }
@@ -77,10 +81,10 @@ pub(crate) fn is_record(bytes: &[u8]) -> bool
     requires { 40 ≤ length bytes.now }
     ensures { result ≡ is_record_of bytes.now }
 {
-    let flags = bytes[4];
-    flags <= 15
-        && bytes[5] == 0
-        && bytes[6] == 0
-        && bytes[7] == 0
-        && (has_bit(flags, 8) || u64_at(bytes, 32) == 0)
+    let flags = bytes[FLAGS_AT];
+    flags <= ALL_FLAGS
+        && bytes[FLAGS_AT + 1] == 0
+        && bytes[FLAGS_AT + 2] == 0
+        && bytes[FLAGS_AT + 3] == 0
+        && (has_bit(flags, DATED) || u64_at(bytes, DATE_AT) == 0)
 }

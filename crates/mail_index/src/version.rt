@@ -1,9 +1,10 @@
 //! The versions of index files.
+//!
+//! Decisions 86 and 88 in docs/DECISIONS.md say why it is so.
 ghost use Rattle.std.specs.Prelude.{◌≡◌, MatchOption};
 ghost use Rattle.mail_index.specs.Versions.{IsVersion, version_number};
 
-/// The bytes of an archive's digest.
-pub(crate) const DIGEST: usize = 32;
+use crate::places::DIGEST;
 
 /// A version of index files.
 #[derive(Clone, Copy, Debug, PartialEq, Eq)]

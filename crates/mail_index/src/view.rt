@@ -2,12 +2,10 @@
 
 pub mod archive;
 pub mod archive_list;
-pub mod compared_keys;
 pub mod directory;
 pub mod directory_walk;
 pub mod fault;
 pub mod index_view;
-pub mod keys;
 pub mod layout;
 pub mod leb128;
 pub mod look_up;

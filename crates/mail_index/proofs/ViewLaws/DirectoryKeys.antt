@@ -1,5 +1,5 @@
 -- The keys of a directory, entry by entry.
-use Rattle.std.proofs.Common.{◌≡◌, ◌∙◌, ℕ, zero, suc, ◌+◌, ◌*◌, ◌^◌, ◌<◌, ◌≤◌, ◌&&◌, List, [], ◌∷◌, length, map, drop, refl, sym, ap, subst, arith, length-drop}
+use Rattle.std.proofs.Common.{◌≡◌, ◌∙◌, ℕ, zero, suc, ◌+◌, ◌-◌, ◌*◌, ◌^◌, ◌<◌, ◌≤◌, ◌&&◌, List, [], ◌∷◌, length, map, drop, refl, sym, ap, subst, arith, length-drop}
 use Rattle.std.specs.Prelude.{nat_eq}
 use Rattle.std.specs.List.{AllByRecursion}
 use Rattle.std.specs.declared.cmp.Ordering.TheVariants.{Less}
@@ -17,6 +17,7 @@ use Rattle.mail_index.specs.Directory.{is_entry, end_before, text_at, read_entry
 use Rattle.mail_index.specs.Lists.{list_at, AreLists}
 use Rattle.mail_index.specs.KeysRead.{key_of, keys_read, IsDirectory, key_at}
 use Rattle.mail_index.specs.LookUps.{AreSorted}
+use Rattle.mail_index.specs.Inside.FrontEntries.{IsInFront}
 use Rattle.mail_index.proofs.FileLaws.Bytes.{both}
 use Rattle.mail_index.proofs.ViewLaws.KindNumbers.{kind_kept, few_kinds}
 use Rattle.mail_index.proofs.ViewLaws.LookUpLemmas.{key_bytes}
@@ -39,7 +40,7 @@ key_at-read texts postings (suc n) d (suc i) h =
     ∙ ap (λ (l : List ℕ). key_of (read_entry texts postings l)) (drop-drop (24 * i) 24 d ∙ ap (λ (k : ℕ). drop k d) place)
 
 -- what holds of each entry
-pub record BeginsWithEntry (texts : List ℕ) (total : ℕ) (d : List ℕ) : Type 0 where
+record BeginsWithEntry (texts : List ℕ) (total : ℕ) (d : List ℕ) : Type 0 where
   pub kind : kind_number (kind_of_number (byte_at d 0)) ≡ byte_at d 0
   pub text : u64_at d 8 + u32_at d 4 ≤ length texts
   pub begins : u64_at d 16 < end_before (drop 24 d) total
@@ -59,7 +60,7 @@ entry_is version texts total tp pp number text d h =
       ends = h.end;
     }
 
-pub entry-at : (version : ℕ) (texts : List ℕ) (total tp pp number : ℕ) (text : List ℕ) (n : ℕ) (d : List ℕ) (i : ℕ) → AreEntries version texts total tp pp number text n d → i < n → BeginsWithEntry texts total (drop (24 * i) d)
+entry-at : (version : ℕ) (texts : List ℕ) (total tp pp number : ℕ) (text : List ℕ) (n : ℕ) (d : List ℕ) (i : ℕ) → AreEntries version texts total tp pp number text n d → i < n → BeginsWithEntry texts total (drop (24 * i) d)
 entry-at version texts total tp pp number text zero d i h lt = absurd (omega (arith, lt))
 entry-at version texts total tp pp number text (suc n) d zero h lt = entry_is version texts total tp pp number text d h.0
 entry-at version texts total tp pp number text (suc n) d (suc i) h lt =
@@ -67,7 +68,7 @@ entry-at version texts total tp pp number text (suc n) d (suc i) h lt =
     subst (λ (l : List ℕ). BeginsWithEntry texts total l) (drop-drop (24 * i) 24 d ∙ ap (λ (k : ℕ). drop k d) place)
     (entry-at version texts total (tp + u32_at d 4) (end_before (drop 24 d) total) (byte_at d 0) (text_at texts d) n (drop 24 d) i h.1 (omega (arith, lt)))
 
-pub list-at : (messages : ℕ) (postings : List ℕ) (n : ℕ) (d : List ℕ) (i : ℕ) → messages ≤ 2 ^ 32 → AreLists messages postings n d → i < n → ArePosted (2 ^ 32) 0 (list_at postings (drop (24 * i) d))
+list-at : (messages : ℕ) (postings : List ℕ) (n : ℕ) (d : List ℕ) (i : ℕ) → messages ≤ 2 ^ 32 → AreLists messages postings n d → i < n → ArePosted (2 ^ 32) 0 (list_at postings (drop (24 * i) d))
 list-at messages postings zero d i few h lt = absurd (omega (arith, lt))
 list-at messages postings (suc n) d zero few h lt = (h.0.1.0, record { rises = h.0.1.1.rises; below = wider h.0.1.0 h.0.1.1.below; spelled = h.0.1.1.spelled })
   where
@@ -119,19 +120,25 @@ number-below texts postings count entries keys number view less = omega (arith, 
 
 -- the directory from the entry of a number on
 pub record IsRest (texts postings : List ℕ) (keys : List Key) (number : ℕ) (rest : List ℕ) : Type 0 where
-  pub long : 24 ≤ length rest
-  pub entry : BeginsWithEntry texts (length postings) rest
-  pub posted : ArePosted (2 ^ 32) 0 (list_at postings rest)
+  pub front : IsInFront texts postings rest
   pub key : key_at keys number ≡ key_of (read_entry texts postings rest)
 
 pub rest-at : (texts postings : List ℕ) (count : ℕ) (entries : List ℕ) (keys : List Key) (number : ℕ) (rest : List ℕ) → IsDirectory texts postings count entries
     → keys_read texts postings count entries ≡ keys → number < length keys → rest ≡ drop (24 * number) entries → IsRest texts postings keys number rest
 rest-at texts postings count entries keys number rest h view less back =
     let below : number < count = number-below texts postings count entries keys number view less in
+    let long : length rest ≡ 24 * count - 24 * number = ap length back ∙ length-drop (24 * number) entries ∙ ap (λ (n : ℕ). n - 24 * number) h.long in
+    let entry = subst (BeginsWithEntry texts (length postings)) (sym back) (entry-at h.version texts (length postings) 0 0 0 [] count entries number h.sorted below) in
     record {
-      long = omega (arith, h.long, below, ap length back, length-drop (24 * number) entries);
-      entry = subst (BeginsWithEntry texts (length postings)) (sym back) (entry-at h.version texts (length postings) 0 0 0 [] count entries number h.sorted below);
-      posted = subst (λ (l : List ℕ). ArePosted (2 ^ 32) 0 (list_at postings l)) (sym back) (list-at h.messages postings count entries number h.few h.lists below);
+      front = record {
+        long = omega (arith, long, below);
+        whole = λ more. omega (arith, long, below, more);
+        kind = entry.kind;
+        text = entry.text;
+        begins = entry.begins;
+        ends = entry.ends;
+        posted = subst (λ (l : List ℕ). ArePosted (2 ^ 32) 0 (list_at postings l)) (sym back) (list-at h.messages postings count entries number h.few h.lists below);
+      };
       key = ap (λ (ks : List Key). key_at ks number) (sym view) ∙ key_at-read texts postings count entries number below
           ∙ ap (λ (l : List ℕ). key_of (read_entry texts postings l)) (sym back);
     }

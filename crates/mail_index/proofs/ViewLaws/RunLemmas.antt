@@ -16,6 +16,7 @@ use Rattle.mail_index.specs.declared.kind.Kind.{Kind}
 use Rattle.mail_index.specs.Kinds.{kind_number}
 use Rattle.mail_index.specs.Tables.{Key}
 use Rattle.mail_index.specs.LookUps.{is_of_kind, AreSorted, keys_of, keys_beginning}
+use Rattle.mail_index.specs.KeysRead.{key_at}
 use Rattle.mail_index.specs.Inside.KeyRuns.{lies_to_run, keys_between}
 use Rattle.mail_index.proofs.ViewLaws.KindNumbers.{tied}
 use Rattle.mail_index.proofs.ViewLaws.LookUpLemmas.{key_bytes}
@@ -149,6 +150,12 @@ beginning-first kind text (k ∷ ks) zero d among behind =
 beginning-first kind text (k ∷ ks) (suc n) d among behind =
     beginning-more kind text k ks true (among 0 (omega arith) (omega arith))
     ∙ ap (λ (l : List Key). k ∷ l) (beginning-first kind text ks n d (λ j lt less. among (suc j) (omega (arith, lt)) (omega (arith, less))) (λ j le lt. behind (suc j) (omega (arith, le)) (omega (arith, lt))))
+
+-- the place is that of the first key that lies so to the run, or further behind
+pub record LiesFirst (least : Ordering) (kind : Kind) (text : List ℕ) (ks : List Key) (place : ℕ) : Type 0 where
+  pub within : place ≤ length ks
+  pub below : (j : ℕ) → j < place → ordering_index (lies_to_run kind text (key_at ks j)) < ordering_index least
+  pub above : (j : ℕ) → place ≤ j → j < length ks → ordering_index least ≤ ordering_index (lies_to_run kind text (key_at ks j))
 
 -- the run stands between the first key that doesn't lie before it and the first behind it
 pub keys_beginning-between : (kind : Kind) (text : List ℕ) (ks : List Key) (low high : ℕ) (d : Key) → low ≤ length ks

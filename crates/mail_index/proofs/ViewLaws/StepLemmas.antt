@@ -9,3 +9,7 @@ add_steps-none old = omega arith
 -- one more
 pub add_steps-one : (old n : ℕ) → add_steps (add_steps old n) 1 ≡ add_steps old (suc n)
 add_steps-one old n = omega arith
+
+-- one, and then some more
+pub add_steps-more : (old n : ℕ) → add_steps (add_steps old 1) n ≡ add_steps old (suc n)
+add_steps-more old n = omega arith

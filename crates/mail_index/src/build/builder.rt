@@ -6,7 +6,7 @@ ghost use Rattle.contract_words.specs.Devices.{Counted, Sends};
 ghost use Rattle.mail_index.specs.Files.{HasSmallSections, index_file};
 ghost use Rattle.mail_index.specs.Tables.{IsPath, IsWellFormed};
 ghost use Rattle.mail_index.specs.Builders.{empty_draft, begun_archive, begun_message, added, ended_message, ended_archive, refusal, is_device, stepped, archive_count, end_of, IsNextMessage, IsBetweenArchives, IsInArchive, IsInMessage, IsWithinMost};
-ghost use Rattle.mail_index.specs.Limits.{most_in_archive, most_in_index};
+ghost use Rattle.mail_index.specs.Limits.{most_in_archive, most_in_index, most_in_key};
 
 use crate::build::build_fault::BuildFault;
 use crate::build::draft::Draft;
@@ -99,7 +99,7 @@ impl Builder {
     pub fn add(&mut self, kind: Kind, text: &[u8]) -> Result<(), BuildFault>
         requires phase { IfSome self.old IsInMessage }
         requires some { IfSome self.old (λ _. 0 < length text.now) }
-        requires short { IfSome self.old (λ _. length text.now ≤ 262144) }
+        requires short { IfSome self.old (λ _. length text.now ≤ most_in_key) }
         ensures gives { Gives (λ _. self.new) refusal result (stepped (added kind text.now) self.old) }
         ensures lost { OnErr result (self.new ≡ None) }
         ensures failed { IfNone self.old (result ≡ Err BuildFault.Failed) }
@@ -130,7 +130,7 @@ impl Builder {
     ) -> Result<(), BuildFault>
         requires phase { IfSome self.old IsInMessage }
         requires some { IfSome self.old (λ _. 0 < length text.now) }
-        requires short { IfSome self.old (λ _. length text.now ≤ 262144) }
+        requires short { IfSome self.old (λ _. length text.now ≤ most_in_key) }
         ensures gives { Gives (λ _. self.new) refusal result (stepped (added kind text.now) self.old) }
         ensures lost { OnErr result (self.new ≡ None) }
         ensures failed { IfNone self.old (result ≡ Err BuildFault.Failed) }

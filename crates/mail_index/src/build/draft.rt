@@ -15,9 +15,13 @@ ghost use Rattle.mail_index.specs.Limits.{four_byte_limit, most_in_archive, most
 use crate::build::build_fault::BuildFault;
 use crate::build::file_out::Signer;
 use crate::build::key_map::KeyMap;
+use crate::build::key_sections::{
+    postings_length, send_directory, send_postings, send_texts, texts_length,
+};
 use crate::build::prefetched::Prefetched;
 use crate::build::sections::{Counts, archives_length, send_archives, send_counts, send_records};
 use crate::kind::Kind;
+use crate::places::{ENTRY, LEAST_FILE, RECORD};
 use crate::record::Record;
 use mbox_cutter::{DeviceFault, Out, send};
 use std::alloc::Global;
@@ -181,8 +185,8 @@ impl Draft {
             messages: self.records.len() as u32,
             keys: self.keys.len() as u32,
             archive_bytes: archives_length(self.archives.as_slice()),
-            text_bytes: self.keys.texts_length(),
-            posting_bytes: self.keys.postings_length(),
+            text_bytes: texts_length(self.keys.in_order()),
+            posting_bytes: postings_length(self.keys.in_order()),
         }
     }
 
@@ -218,9 +222,9 @@ impl Draft {
         send_counts(out, signer, counts)?;
         send_archives(out, signer, self.archives.as_slice())?;
         send_records(out, signer, self.records.as_slice())?;
-        self.keys.send_directory(out, signer)?;
-        self.keys.send_texts(out, signer)?;
-        self.keys.send_postings(out, signer)?;
+        send_directory(out, signer, self.keys.in_order())?;
+        send_texts(out, signer, self.keys.in_order())?;
+        send_postings(out, signer, self.keys.in_order())?;
         Ok(())
     }
 }
@@ -237,9 +241,10 @@ fn file_length(counts: &Counts) -> u64
     requires { counted_length counts.now < 2 ^ 64 }
     ensures { result ≡ counted_length counts.now }
 {
-    80 + counts.archive_bytes
-        + 40 * counts.messages as u64
-        + 24 * counts.keys as u64
+    LEAST_FILE as u64
+        + counts.archive_bytes
+        + RECORD as u64 * counts.messages as u64
+        + ENTRY as u64 * counts.keys as u64
         + counts.text_bytes
         + counts.posting_bytes
 }

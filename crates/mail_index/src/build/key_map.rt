@@ -1,10 +1,7 @@
 //! The keys of an index while it is built.
-ghost use Rattle.std.specs.Prelude.{◌≡◌, ◌-◌, ◌^◌, ◌<◌, ◌≤◌, [], length, map, set, IfSome, IfOk, IfErr, OnOk, OnErr, MatchResult};
+ghost use Rattle.std.specs.Prelude.{◌≡◌, ◌-◌, ◌<◌, ◌≤◌, [], length, set, IfSome, IfOk, IfErr, OnOk, OnErr, MatchResult};
 ghost use Rattle.std.specs.declared.cmp.Ordering.TheVariants.{Equal};
 ghost use Rattle.std.specs.List.{AllByRecursion, slice_index_or};
-ghost use Rattle.contract_words.specs.Devices.{Counts};
-ghost use Rattle.mail_index.specs.Files.{entry_of, directory_from, texts_of, postings_of};
-ghost use Rattle.mail_index.specs.Inside.Signing.{BreaksOff, Signs};
 ghost use Rattle.mail_index.specs.Inside.KeyFronts.{IsFrontOf, IsFronted};
 ghost use Rattle.mail_index.specs.Inside.KeyMaps.{rows, slots_in, numbers_in, place_in, keys_in, with_one, IsOrder, IsGap, IsWantOf};
 ghost use Rattle.mail_index.specs.KeysRead.{key_at};
@@ -13,16 +10,13 @@ ghost use Rattle.mail_index.specs.Builders.{with_pair};
 ghost use Rattle.mail_index.specs.Limits.{four_byte_limit};
 
 use crate::build::build_fault::BuildFault;
-use crate::build::file_out::Signer;
 use crate::build::key_entry::KeyEntry;
 use crate::build::key_hints::{KeyHints, Slot};
 use crate::build::key_order::{KeyOrder, Place};
 use crate::build::key_search::matching;
-use crate::build::key_sections;
 use crate::build::keys_in_order::KeysInOrder;
 use crate::build::prefetched::Prefetched;
 use crate::kind::Kind;
-use mbox_cutter::{DeviceFault, Out};
 use std::alloc::{AllocError, Global};
 use std::marker::Model;
 
@@ -135,62 +129,8 @@ impl KeyMap {
 }
 
 impl KeyMap {
-    /// How many bytes the keys' texts have.
-    pub fn texts_length(&self) -> u64
-        requires { length (texts_of (map entry_of self.now)) < 2 ^ 64 }
-        ensures { result ≡ length (texts_of (map entry_of self.now)) }
-    {
-        key_sections::texts_length(self.in_order())
-    }
-
-    /// How many bytes the keys' postings have.
-    pub fn postings_length(&self) -> u64
-        requires { length (postings_of (map entry_of self.now)) < 2 ^ 64 }
-        ensures { result ≡ length (postings_of (map entry_of self.now)) }
-    {
-        key_sections::postings_length(self.in_order())
-    }
-
-    /// Writes the directory.
-    pub fn send_directory<O: Out>(
-        &self,
-        out: &mut O,
-        signer: &mut Signer,
-    ) -> Result<(), DeviceFault>
-        requires count { O.failures out.old < 2 ^ 64 - 1 }
-        requires texts { length (texts_of (map entry_of self.now)) < 2 ^ 64 }
-        requires postings { length (postings_of (map entry_of self.now)) < 2 ^ 64 }
-        ensures ok { OnOk result (Signs (O.taken out.old) (O.taken out.new) signer.old signer.new (directory_from 0 0 (map entry_of self.now))) }
-        ensures err { OnErr result (BreaksOff (O.taken out.old) (O.taken out.new) signer.old (directory_from 0 0 (map entry_of self.now))) }
-        ensures count { Counts result (O.failures out.old) (O.failures out.new) }
-    {
-        key_sections::send_directory(out, signer, self.in_order())
-    }
-
-    /// Writes the keys' texts.
-    pub fn send_texts<O: Out>(&self, out: &mut O, signer: &mut Signer) -> Result<(), DeviceFault>
-        requires { O.failures out.old < 2 ^ 64 - 1 }
-        ensures ok { OnOk result (Signs (O.taken out.old) (O.taken out.new) signer.old signer.new (texts_of (map entry_of self.now))) }
-        ensures err { OnErr result (BreaksOff (O.taken out.old) (O.taken out.new) signer.old (texts_of (map entry_of self.now))) }
-        ensures count { Counts result (O.failures out.old) (O.failures out.new) }
-    {
-        key_sections::send_texts(out, signer, self.in_order())
-    }
-
-    /// Writes the keys' postings.
-    pub fn send_postings<O: Out>(&self, out: &mut O, signer: &mut Signer) -> Result<(), DeviceFault>
-        requires { O.failures out.old < 2 ^ 64 - 1 }
-        ensures ok { OnOk result (Signs (O.taken out.old) (O.taken out.new) signer.old signer.new (postings_of (map entry_of self.now))) }
-        ensures err { OnErr result (BreaksOff (O.taken out.old) (O.taken out.new) signer.old (postings_of (map entry_of self.now))) }
-        ensures count { Counts result (O.failures out.old) (O.failures out.new) }
-    {
-        key_sections::send_postings(out, signer, self.in_order())
-    }
-}
-
-impl KeyMap {
-    // The entries in the order of the keys.
-    fn in_order(&self) -> KeysInOrder<'_>
+    /// The entries in the order of the keys.
+    pub fn in_order(&self) -> KeysInOrder<'_>
         ensures { result ≡ self.now }
     {
         KeysInOrder::of(&self.entries, &self.order.heads, &self.order.pages)

@@ -9,6 +9,7 @@ ghost use Rattle.mail_index.specs.Inside.Signing.{BreaksOff, Signs};
 
 use crate::build::draft::NamedArchive;
 use crate::build::file_out::{Signer, send_parts};
+use crate::places::{ARCHIVE_FRONT, DATED, FLAGGED, MAGIC, REPLIED, SEEN};
 use crate::record::Record;
 use crate::version::Version;
 use mbox_cutter::{DeviceFault, Out};
@@ -46,7 +47,7 @@ pub fn send_counts<O: Out>(
         out,
         signer,
         &[
-            b"MAIRIX\r\n".as_slice(),
+            MAGIC.as_slice(),
             version.as_slice(),
             archives.as_slice(),
             messages.as_slice(),
@@ -66,7 +67,7 @@ pub fn archives_length(archives: &[NamedArchive]) -> u64
     let mut total = 0;
     for archive in archives {
         let digest = archive.digest.as_slice();
-        total += 12 + archive.path.len() as u64 + digest.len() as u64;
+        total += ARCHIVE_FRONT as u64 + archive.path.len() as u64 + digest.len() as u64;
     }
     total
 }
@@ -161,14 +162,14 @@ fn send_record<O: Out>(
     )
 }
 
-// 1 seen, 2 replied, 4 flagged, 8 has a date.
+// What is known of the message, a bit each.
 fn flags_byte(message: &Record) -> u8
     ensures { result ≡ flags_byte message.now }
 {
-    bit(1, message.flags.seen)
-        + bit(2, message.flags.replied)
-        + bit(4, message.flags.flagged)
-        + bit(8, message.date.is_some())
+    bit(SEEN, message.flags.seen)
+        + bit(REPLIED, message.flags.replied)
+        + bit(FLAGGED, message.flags.flagged)
+        + bit(DATED, message.date.is_some())
 }
 
 fn bit(value: u8, set: bool) -> u8

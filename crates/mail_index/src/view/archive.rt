@@ -8,14 +8,15 @@ ghost use Rattle.mail_index.specs.Limits.{most_in_archive};
 
 use crate::fields::{u32_at, u64_at};
 use crate::path::is_path;
-use crate::version::{DIGEST, Version};
+use crate::places::{ARCHIVE_FRONT, ARCHIVE_LENGTH_AT, DIGEST, PATH_LENGTH_AT};
+use crate::version::Version;
 use std::str;
 
 /// The most bytes that an archive has.
 const MOST_LENGTH: u64 = 1 << 40;
 
 /// An archive that an index tells of.
-#[derive(Clone, Copy, Debug)]
+#[derive(Clone, Copy)]
 pub struct Archive<'a> {
     /// Its name.
     pub path: &'a str,
@@ -47,12 +48,12 @@ pub(crate) fn split_archive(bytes: &[u8], version: Version) -> Option<(Archive<'
     ensures { MatchOption result (¬ HasArchive (version_number version) bytes.now) (λ p. HasArchive (version_number version) bytes.now
         × (archive_of p.0 ≡ read_archive (version_number version) bytes.now) × (p.1.now ≡ behind_archive (version_number version) bytes.now)) }
 {
-    if bytes.len() < 12 {
+    if bytes.len() < ARCHIVE_FRONT {
         return None;
     }
-    let length = u64_at(bytes, 0);
-    let size = u32_at(bytes, 8) as usize;
-    let tail = bytes.split_at(12).1;
+    let length = u64_at(bytes, ARCHIVE_LENGTH_AT);
+    let size = u32_at(bytes, PATH_LENGTH_AT) as usize;
+    let tail = bytes.split_at(ARCHIVE_FRONT).1;
     if length > MOST_LENGTH {
         return None;
     }
@@ -115,8 +116,8 @@ pub(crate) fn behind_first(section: &[u8], count: u32, version: Version) -> &[u8
     ensures value { result.now ≡ behind_archive (version_number version) section.now }
     ensures spelled { SpellsArchives (version_number version) (count - 1) result.now }
 {
-    let size = u32_at(section, 8) as usize;
-    let behind = section.split_at(12).1.split_at(size).1;
+    let size = u32_at(section, PATH_LENGTH_AT) as usize;
+    let behind = section.split_at(ARCHIVE_FRONT).1.split_at(size).1;
     behind.split_at(version.digest_length()).1
 }
 
@@ -127,7 +128,7 @@ pub(crate) fn first_length(section: &[u8], count: u32, version: Version) -> u64
     ensures value { result ≡ u64_in section.now 0 }
     ensures bound { result ≤ most_in_archive }
 {
-    u64_at(section, 0)
+    u64_at(section, ARCHIVE_LENGTH_AT)
 }
 
 /// The first of the section's archives, of which there are `count`.

@@ -8,7 +8,7 @@ use crate::view::archive::{Archive, behind_first, first_archive};
 use std::marker::Model;
 
 /// The archives of an index still to come, in order. It takes no memory.
-#[derive(Debug, Drop)]
+#[derive(Drop)]
 pub struct ArchiveList<'a> {
     section: &'a [u8],
     count: u32,

@@ -6,6 +6,7 @@ ghost use Rattle.mail_index.specs.OrderOfKeys.{key_cmp};
 ghost use Rattle.mail_index.specs.Directory.{is_entry as is_entry_of, end_before as end_before_of, text_at, IsEntryAt, AreEntries};
 
 use crate::fields::{u32_at, u64_at};
+use crate::places::{ENTRY, KIND_AT, POSTING_PLACE_AT, TEXT_LENGTH_AT, TEXT_PLACE_AT};
 use crate::version::Version;
 use std::cmp::Ordering;
 
@@ -26,11 +27,11 @@ fn is_entry(entry: &[u8], version: Version) -> bool
     requires { 24 ≤ length entry.now }
     ensures { result ≡ is_entry_of (version_number version) entry.now }
 {
-    1 <= entry[0]
-        && entry[0] <= version.greatest_kind()
-        && entry[1] == 0
-        && entry[2] == 0
-        && entry[3] == 0
+    1 <= entry[KIND_AT]
+        && entry[KIND_AT] <= version.greatest_kind()
+        && entry[KIND_AT + 1] == 0
+        && entry[KIND_AT + 2] == 0
+        && entry[KIND_AT + 3] == 0
 }
 
 /// Where the postings of the entry before these end: where those of the first of them begin, or at the end of all.
@@ -41,7 +42,7 @@ pub(crate) fn end_before(entries: &[u8], total: u64) -> u64
     if entries.is_empty() {
         total
     } else {
-        u64_at(entries, 16)
+        u64_at(entries, POSTING_PLACE_AT)
     }
 }
 
@@ -71,15 +72,15 @@ fn behind_entry<'a>(
         × (p.text_place ≡ place.entry.text_place + u32_in entries.now 4) × (p.place ≡ end_before_of (drop 24 entries.now) total)
         × (p.number ≡ byte_at entries.now 0) × (p.text.now ≡ text_at texts.entry.now entries.now)) }
 {
-    let text_length = u32_at(entries, 4);
-    let end = end_before(entries.split_at(24).1, total);
+    let text_length = u32_at(entries, TEXT_LENGTH_AT);
+    let end = end_before(entries.split_at(ENTRY).1, total);
     if !is_entry(entries, version) {
         return None;
     }
-    if u64_at(entries, 8) != place.text_place {
+    if u64_at(entries, TEXT_PLACE_AT) != place.text_place {
         return None;
     }
-    if u64_at(entries, 16) != place.place {
+    if u64_at(entries, POSTING_PLACE_AT) != place.place {
         return None;
     }
     if text_length == 0 {
@@ -96,11 +97,11 @@ fn behind_entry<'a>(
     if end > total {
         return None;
     }
-    match compare_keys(place.number, place.text, entries[0], text) {
+    match compare_keys(place.number, place.text, entries[KIND_AT], text) {
         Ordering::Less => Some(EntryPlace {
             text_place: place.text_place + text_length as u64,
             place: end,
-            number: entries[0],
+            number: entries[KIND_AT],
             text,
         }),
         Ordering::Equal => None,
@@ -132,7 +133,7 @@ pub(crate) fn are_entries(
             Some(behind) => behind,
             None => return false,
         };
-        rest = rest.split_at(24).1;
+        rest = rest.split_at(ENTRY).1;
     }
     if place.text_place != texts.len() as u64 {
         return false;

@@ -2,18 +2,20 @@
 ghost use Rattle.std.specs.Prelude.{◌≡◌, ◌<◌, length, map, IsOk, IfOk, IfErr};
 ghost use Rattle.std.specs.List.{slice_get};
 ghost use Rattle.mail_index.specs.Faults.{IsFileOf, IsFirstFault};
+ghost use Rattle.mail_index.specs.Steps.{add_steps};
 
 use crate::fields::u32_at;
 use crate::kind::Kind;
+use crate::places::{RECORD, VERSION_AT};
 use crate::record::Record;
 use crate::version::Version;
 use crate::view::archive::{Archive, are_archives, behind_archives, first_archive};
 use crate::view::archive_list::ArchiveList;
-use crate::view::compared_keys::ComparedKeys;
 use crate::view::directory::Directory;
+use crate::view::directory::compared_keys::ComparedKeys;
+use crate::view::directory::keys::Keys;
 use crate::view::directory_walk::are_entries;
 use crate::view::fault::{IndexFault, Section};
-use crate::view::keys::Keys;
 use crate::view::layout::{Layout, signed_version};
 use crate::view::look_up::look_up;
 use crate::view::posting_walk::are_lists;
@@ -42,7 +44,7 @@ impl<'a> Model for IndexView<'a> {
 impl<'a> IndexView<'a> {
     ghost use Rattle.mail_index.specs.Layouts.{archive_of};
     ghost use Rattle.mail_index.specs.Tables.{Table, IsWellFormed};
-    ghost use Rattle.mail_index.specs.LookUps.{numbers_at, TakesDigits, keys_of, keys_beginning, text_and_numbers};
+    ghost use Rattle.mail_index.specs.LookUps.{numbers_at, comparisons, TakesDigits, keys_of, keys_beginning, text_and_numbers};
 
     /// The table whose file these bytes are, in version 1 or 2, or the first thing that is wrong with them. No file of a
     /// well-formed table is refused. Takes no memory.
@@ -100,7 +102,7 @@ impl<'a> IndexView<'a> {
         ensures { (t : Table) → IsFileOf bytes.entry.now t → result ≡ t }
     {
         // The file of a table has a version, and sections whose lengths add up to its own.
-        let Some(version) = Version::of(u32_at(bytes, 8)) else {
+        let Some(version) = Version::of(u32_at(bytes, VERSION_AT)) else {
             unreachable!();
         };
         let Some(layout) = Layout::of(bytes, version) else {
@@ -153,11 +155,13 @@ impl<'a> IndexView<'a> {
     pub fn archives(&self) -> ArchiveList<'a>
         ensures { result ≡ self.now.archives }
     {
-        ArchiveList::of(
-            self.layout.archives,
-            self.layout.archive_count,
-            self.layout.version,
-        )
+        let Layout {
+            archives,
+            archive_count,
+            version,
+            ..
+        } = self.layout;
+        ArchiveList::of(archives, archive_count, version)
     }
 
     /// How many messages there are.
@@ -173,7 +177,7 @@ impl<'a> IndexView<'a> {
         requires { n < length self.now.messages }
         ensures { slice_get self.now.messages n ≡ Some result }
     {
-        Record::read(self.layout.records.split_at(40 * n as usize).1)
+        Record::read(self.layout.records.split_at(RECORD * n as usize).1)
     }
 
     /// The keys in order.
@@ -202,10 +206,11 @@ impl<'a> IndexView<'a> {
         Keys::of(self.directory(), kind, text)
     }
 
-    /// The numbers of the messages that have the key, none where there is no such key. A binary search: it takes at most as
-    /// many steps as the number of keys has binary digits.
+    /// The numbers of the messages that have the key, none where there is no such key. A binary search: each comparison of a key
+    /// is a step, and there are at most as many as the number of keys has binary digits.
     pub fn look_up(&self, kind: Kind, text: &[u8], steps: &mut Steps) -> Postings<'a>
         ensures numbers { result ≡ numbers_at kind text.now self.now.keys }
+        ensures exact { steps.new ≡ add_steps steps.old (comparisons kind text.now self.now.keys) }
         ensures steps { TakesDigits (length self.now.keys) steps.old steps.new }
     {
         let mut keys = ComparedKeys::of(self.directory(), steps.copied());

@@ -5,13 +5,14 @@ ghost use Rattle.sha2.specs.Sha256.{sha256};
 ghost use Rattle.mail_index.specs.Faults.{version_told, HasDigest, IsSigned, IsFirstFault, digest_start};
 
 use crate::fields::{u32_at, u64_at};
+use crate::places::{
+    ARCHIVE_BYTES_AT, ARCHIVE_COUNT_AT, DIGEST, ENTRY, FRONT, KEY_COUNT_AT, LEAST_FILE, MAGIC,
+    MESSAGE_COUNT_AT, POSTING_BYTES_AT, RECORD, TEXT_BYTES_AT, VERSION_AT,
+};
 use crate::version::Version;
 use crate::view::fault::IndexFault;
 use crate::view::posting_walk::part;
 use sha2::{Digest, Sha256};
-
-/// The bytes that a file begins with.
-const MAGIC: [u8; 8] = *b"MAIRIX\r\n";
 
 /// The sections of a file, by the lengths that its counts tell.
 #[derive(Clone, Copy, Debug)]
@@ -33,7 +34,7 @@ fn is_same(bytes: &[u8], other: &[u8]) -> bool
     bytes == other
 }
 
-fn digest_of(bytes: &[u8]) -> [u8; 32]
+fn digest_of(bytes: &[u8]) -> [u8; DIGEST]
     ensures { result ≡ sha256 bytes.now }
 {
     let mut hasher = Sha256::new();
@@ -46,7 +47,7 @@ fn has_digest(bytes: &[u8]) -> bool
     requires { 80 ≤ length bytes.now }
     ensures { IsTrue result ↔ HasDigest bytes.now }
 {
-    let (signed, digest) = bytes.split_at(bytes.len() - 32);
+    let (signed, digest) = bytes.split_at(bytes.len() - DIGEST);
     is_same(digest, &digest_of(signed))
 }
 
@@ -54,13 +55,13 @@ fn has_digest(bytes: &[u8]) -> bool
 pub(crate) fn signed_version(bytes: &[u8]) -> Result<Version, IndexFault>
     ensures { MatchResult result (λ version. IsSigned bytes.now × (version_number version ≡ version_told bytes.now)) (λ fault. IsFirstFault bytes.now fault) }
 {
-    if bytes.len() < 80 {
+    if bytes.len() < LEAST_FILE {
         return Err(IndexFault::TooShort);
     }
-    if !is_same(bytes.split_at(8).0, &MAGIC) {
+    if !is_same(bytes.split_at(MAGIC.len()).0, &MAGIC) {
         return Err(IndexFault::BadMagic);
     }
-    let Some(version) = Version::of(u32_at(bytes, 8)) else {
+    let Some(version) = Version::of(u32_at(bytes, VERSION_AT)) else {
         return Err(IndexFault::BadVersion);
     };
     if !has_digest(bytes) {
@@ -78,23 +79,23 @@ impl<'a> Layout<'a> {
         requires version { version_number version ≡ version_told bytes.now }
         ensures { MatchOption result (¬ (digest_start bytes.entry.now + 32 ≡ length bytes.entry.now)) (λ layout. IsLayout bytes.entry.now layout) }
     {
-        let message_count = u32_at(bytes, 16);
-        let key_count = u32_at(bytes, 20);
-        let records = u64_at(bytes, 24).checked_add(48)?;
-        let directory = records.checked_add(40 * message_count as u64)?;
-        let texts = directory.checked_add(24 * key_count as u64)?;
-        let postings = texts.checked_add(u64_at(bytes, 32))?;
-        let digest = postings.checked_add(u64_at(bytes, 40))?;
-        let total = digest.checked_add(32)?;
+        let message_count = u32_at(bytes, MESSAGE_COUNT_AT);
+        let key_count = u32_at(bytes, KEY_COUNT_AT);
+        let records = u64_at(bytes, ARCHIVE_BYTES_AT).checked_add(FRONT as u64)?;
+        let directory = records.checked_add(RECORD as u64 * message_count as u64)?;
+        let texts = directory.checked_add(ENTRY as u64 * key_count as u64)?;
+        let postings = texts.checked_add(u64_at(bytes, TEXT_BYTES_AT))?;
+        let digest = postings.checked_add(u64_at(bytes, POSTING_BYTES_AT))?;
+        let total = digest.checked_add(DIGEST as u64)?;
         if total != bytes.len() as u64 {
             return None;
         }
         Some(Layout {
             version,
-            archive_count: u32_at(bytes, 12),
+            archive_count: u32_at(bytes, ARCHIVE_COUNT_AT),
             message_count,
             key_count,
-            archives: part(bytes, 48, records),
+            archives: part(bytes, FRONT as u64, records),
             records: part(bytes, records, directory),
             directory: part(bytes, directory, texts),
             texts: part(bytes, texts, postings),

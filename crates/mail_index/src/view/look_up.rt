@@ -1,10 +1,11 @@
 //! The look-up of a key.
 ghost use Rattle.std.specs.Prelude.{◌≡◌, ◌<◌, [], length, MatchOption};
-ghost use Rattle.mail_index.specs.LookUps.{numbers_at, TakesDigits};
+ghost use Rattle.mail_index.specs.Steps.{add_steps};
+ghost use Rattle.mail_index.specs.LookUps.{numbers_at, comparisons, TakesDigits};
 ghost use Rattle.mail_index.specs.KeysRead.{key_at};
 
 use crate::kind::Kind;
-use crate::view::compared_keys::ComparedKeys;
+use crate::view::directory::compared_keys::ComparedKeys;
 use crate::view::postings::Postings;
 use std::cmp::Ordering;
 
@@ -12,6 +13,7 @@ use std::cmp::Ordering;
 fn position(keys: &mut ComparedKeys<'_>, kind: Kind, text: &[u8]) -> Option<u32>
     ensures found { MatchOption result (numbers_at kind text.now keys.old.directory ≡ [])
         (λ number. (number < length keys.old.directory) × (numbers_at kind text.now keys.old.directory ≡ (key_at keys.old.directory number).numbers)) }
+    ensures exact { keys.new.steps ≡ add_steps keys.old.steps (comparisons kind text.now keys.old.directory) }
     ensures steps { TakesDigits (length keys.old.directory) keys.old.steps keys.new.steps }
     ensures keys { keys.new.directory ≡ keys.old.directory }
 {
@@ -31,6 +33,7 @@ fn position(keys: &mut ComparedKeys<'_>, kind: Kind, text: &[u8]) -> Option<u32>
 /// The numbers of the messages that have the key; none where the directory hasn't it.
 pub(crate) fn look_up<'a>(keys: &mut ComparedKeys<'a>, kind: Kind, text: &[u8]) -> Postings<'a>
     ensures numbers { result ≡ numbers_at kind text.now keys.old.directory }
+    ensures exact { keys.new.steps ≡ add_steps keys.old.steps (comparisons kind text.now keys.old.directory) }
     ensures steps { TakesDigits (length keys.old.directory) keys.old.steps keys.new.steps }
 {
     match position(keys, kind, text) {

@@ -3,6 +3,7 @@ ghost use Rattle.std.specs.Prelude.{◌≡◌, ◌↔◌, ◌-◌, ◌*◌, leng
 ghost use Rattle.mail_index.specs.Lists.{AreLists};
 
 use crate::fields::u64_at;
+use crate::places::{ENTRY, POSTING_PLACE_AT};
 use crate::view::directory_walk::end_before;
 use crate::view::postings::are_postings;
 
@@ -23,8 +24,8 @@ pub(crate) fn are_lists(directory: &[u8], count: u32, postings: &[u8], messages:
 {
     let mut rest = directory;
     for number in 0..count {
-        let place = u64_at(rest, 16);
-        let behind = rest.split_at(24).1;
+        let place = u64_at(rest, POSTING_PLACE_AT);
+        let behind = rest.split_at(ENTRY).1;
         let end = end_before(behind, postings.len() as u64);
         if !are_postings(part(postings, place, end), messages) {
             return false;

@@ -3,6 +3,7 @@ ghost use Rattle.std.specs.Prelude.{◌≡◌, ◌↔◌, ◌+◌, ◌-◌, ◌*
 ghost use Rattle.mail_index.specs.Versions.{version_number};
 ghost use Rattle.mail_index.specs.Records.{SpellsArchives, IsNextRecord, AreRecords, is_behind as is_behind_of, behind_archives as behind_archives_of};
 
+use crate::places::RECORD;
 use crate::record::{Record, is_record};
 use crate::version::Version;
 use crate::view::archive::{behind_archives, first_length};
@@ -94,7 +95,7 @@ pub(crate) fn are_records(
             Some(behind) => behind,
             None => return false,
         };
-        rest = rest.split_at(40).1;
+        rest = rest.split_at(RECORD).1;
     }
     true
 }

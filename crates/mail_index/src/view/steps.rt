@@ -6,7 +6,7 @@ use std::marker::Model;
 /// How many steps a search has taken: directory entries compared, postings dropped and records scanned.
 ///
 /// At the greatest value of a `u64` the count stays.
-#[derive(Debug, Drop)]
+#[derive(Drop)]
 pub struct Steps {
     count: u64,
 }
@@ -31,7 +31,9 @@ impl Steps {
     pub fn tick(&mut self)
         ensures { self.new ≡ add_steps self.old 1 }
     {
-        self.count = self.count.saturating_add(1);
+        *self = Steps {
+            count: self.count.saturating_add(1),
+        };
     }
 
     /// The same count once more.

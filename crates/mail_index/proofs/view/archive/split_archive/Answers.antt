@@ -3,8 +3,8 @@ use Rattle.std.proofs.Math.Facts.{Fits-lt-pow}
 use Rattle.mail_index.proofs.ViewLaws.ArchiveReads.{short_has_none, long_has_none, cut_has_none, unnamed_has_none, undigested_has_none, found}
 use Rattle.mail_index.proofs.view.archive.split_archive.Goals as goal
 
-pub returns-then-bytes-lt12 : goal.returns-then-bytes-lt12
-returns-then-bytes-lt12 c = short_has_none _ _ c.if-bytes-lt12.true
+pub returns-then-bytes-lt-ARCHIVE_FRONT : goal.returns-then-bytes-lt-ARCHIVE_FRONT
+returns-then-bytes-lt-ARCHIVE_FRONT c = short_has_none _ _ c.if-bytes-lt-ARCHIVE_FRONT.true
 
 pub returns-then-length-gt-MOST_LENGTH : goal.returns-then-length-gt-MOST_LENGTH
 returns-then-length-gt-MOST_LENGTH c = long_has_none _ _ _ c.u64_at-length.ensures c.if-length-gt-MOST_LENGTH.true
@@ -23,6 +23,6 @@ returns-in_default c = undigested_has_none _ _ _ _ _ c.u32_at-size.ensures c.spl
 
 pub returns : goal.returns
 returns c =
-    found _ _ _ _ _ _ _ _ _ (record { below = λ i. Fits-lt-pow (c.type_inv.bytes i) }) c.if-bytes-lt12.false c.u64_at-length.ensures c.u32_at-size.ensures c.split_at.ensures.back c.if-tail-size.false
+    found _ _ _ _ _ _ _ _ _ (record { below = λ i. Fits-lt-pow (c.type_inv.bytes i) }) c.if-bytes-lt-ARCHIVE_FRONT.false c.u64_at-length.ensures c.u32_at-size.ensures c.split_at.ensures.back c.if-tail-size.false
     (c.in-Ok.ensures.cases.0 ∙ c.split_at-2.ensures.front) c.split_at-2.ensures.back (c.is_path.ensures.0 c.if-not-is_path.false) c.if-length-gt-MOST_LENGTH.false
     c.in-Some.ensures.0 c.in-Some.ensures.1 c.in-Some.ensures.2

@@ -1,10 +1,14 @@
-use Rattle.std.proofs.Common.{◌∙◌, ◌+◌, ◌-◌, ◌/◌, ◌<◌, ℕ, suc, List, length, sym, ap, arith}
+use Rattle.std.proofs.Common.{◌≡◌, ◌∙◌, ◌+◌, ◌-◌, ◌/◌, ◌<◌, ℕ, List, length, sym, ap, arith}
+use Rattle.std.specs.declared.cmp.Ordering.TheVariants.{Less, Equal, Greater}
 use Rattle.mail_index.specs.Steps.{add_steps}
-use Rattle.mail_index.specs.LookUps.{lies_to}
+use Rattle.mail_index.specs.LookUps.{lies_to, comparisons, comparisons_within}
 use Rattle.mail_index.specs.KeysRead.{key_at, no_key}
 use Rattle.mail_index.specs.Tables.{Key}
-use Rattle.mail_index.proofs.ViewLaws.StepLemmas.{add_steps-one}
-use Rattle.mail_index.proofs.ViewLaws.LookUpLemmas.{before-less, behind-greater, halves, numbers_at-met, numbers_at-none}
+use Rattle.mail_index.specs.Inside.KeyRuns.{keys_between}
+use Rattle.mail_index.proofs.ViewLaws.StepLemmas.{add_steps-none, add_steps-more}
+use Rattle.mail_index.proofs.ViewLaws.LookUpLemmas.{before-less, behind-greater, numbers_at-met, numbers_at-none}
+use Rattle.mail_index.proofs.ViewLaws.RunLemmas.{between-none}
+use Rattle.mail_index.proofs.ViewLaws.Comparisons.{compared, comparisons-few, comparisons-none}
 use Rattle.mail_index.proofs.view.look_up.position.Goals as goal
 
 pub loop-low-preserved-in-Less : goal.loop-low-preserved-in-Less
@@ -21,10 +25,14 @@ loop-low-preserved-in-Less c =
       within = i.within;
       below = λ j lt. before-less c.args.kind c.args.text.now keys no_key middle j i.sorted inside lies (omega (arith, lt));
       above = i.above;
-      steps = λ digits h.
-          let s = i.steps digits h in
-          let half = halves (c.loop-low.high - c.loop-low.low) s.0 (omega (arith, c.loop-low-test.true)) s.2 in
-          (half.fewer, suc s.1, omega (arith, half.upper), omega (arith, s.3, half.digits_are), c.compare.ensures.steps ∙ ap (λ (n : ℕ). add_steps n 1) s.4 ∙ add_steps-one c.args.keys.now.steps s.1);
+      steps =
+          let met = compared i.steps.0 c.args.kind c.args.text.now keys c.loop-low.low c.loop-low.high no_key Less c.loop-low-test.true i.within i.steps.1 lies in
+          let rest : ℕ = comparisons_within met.fewer c.args.kind c.args.text.now (keys_between (middle + 1) c.loop-low.high keys) in (
+            met.fewer,
+            omega (arith, met.enough),
+            ap (λ (n : ℕ). add_steps n rest) c.compare.ensures.steps ∙ add_steps-more c.loop-low.keys.steps rest
+                ∙ ap (add_steps c.loop-low.keys.steps) (sym met.counted) ∙ i.steps.2,
+          );
     }
 
 pub loop-low-preserved : goal.loop-low-preserved
@@ -40,10 +48,14 @@ loop-low-preserved c =
       within = omega (arith, i.within, c.loop-low-test.true);
       below = i.below;
       above = λ j le lt. behind-greater c.args.kind c.args.text.now keys no_key middle j i.sorted lies le lt;
-      steps = λ digits h.
-          let s = i.steps digits h in
-          let half = halves (c.loop-low.high - c.loop-low.low) s.0 (omega (arith, c.loop-low-test.true)) s.2 in
-          (half.fewer, suc s.1, omega (arith, half.lower), omega (arith, s.3, half.digits_are), c.compare.ensures.steps ∙ ap (λ (n : ℕ). add_steps n 1) s.4 ∙ add_steps-one c.args.keys.now.steps s.1);
+      steps =
+          let met = compared i.steps.0 c.args.kind c.args.text.now keys c.loop-low.low c.loop-low.high no_key Greater c.loop-low-test.true i.within i.steps.1 lies in
+          let rest : ℕ = comparisons_within met.fewer c.args.kind c.args.text.now (keys_between c.loop-low.low middle keys) in (
+            met.fewer,
+            omega (arith, met.enough),
+            ap (λ (n : ℕ). add_steps n rest) c.compare.ensures.steps ∙ add_steps-more c.loop-low.keys.steps rest
+                ∙ ap (add_steps c.loop-low.keys.steps) (sym met.counted) ∙ i.steps.2,
+          );
     }
 
 pub returns-in-Equal-clause-found : goal.returns-in-Equal-clause-found
@@ -55,14 +67,36 @@ returns-in-Equal-clause-found c =
     let lies = ap (λ (ks : List Key). lies_to c.args.kind c.args.text.now (key_at ks middle)) (sym i.same) ∙ sym c.compare.ensures.order ∙ c.in-Equal.is in
     (inside, numbers_at-met c.args.kind c.args.text.now keys middle no_key i.sorted inside lies)
 
+pub returns-in-Equal-clause-exact : goal.returns-in-Equal-clause-exact
+returns-in-Equal-clause-exact c =
+    let keys : List Key = c.args.keys.now.directory in
+    let middle : ℕ = c.loop-low.low + (c.loop-low.high - c.loop-low.low) / 2 in
+    let i = c.loop-low.invariant in
+    let lies = ap (λ (ks : List Key). lies_to c.args.kind c.args.text.now (key_at ks middle)) (sym i.same) ∙ sym c.compare.ensures.order ∙ c.in-Equal.is in
+    let met = compared i.steps.0 c.args.kind c.args.text.now keys c.loop-low.low c.loop-low.high no_key Equal c.loop-low-test.true i.within i.steps.1 lies in
+    c.compare.ensures.steps ∙ ap (add_steps c.loop-low.keys.steps) (sym met.counted) ∙ i.steps.2
+
 pub returns-in-Equal-clause-steps : goal.returns-in-Equal-clause-steps
 returns-in-Equal-clause-steps c = λ digits h.
-    let s = c.loop-low.invariant.steps digits h in
-    let half = halves (c.loop-low.high - c.loop-low.low) s.0 (omega (arith, c.loop-low-test.true)) s.2 in
-    (suc s.1, omega (arith, s.3, half.digits_are), c.compare.ensures.steps ∙ ap (λ (n : ℕ). add_steps n 1) s.4 ∙ add_steps-one c.args.keys.now.steps s.1)
+    let keys : List Key = c.args.keys.now.directory in
+    (comparisons c.args.kind c.args.text.now keys, comparisons-few (length keys) c.args.kind c.args.text.now keys digits h, returns-in-Equal-clause-exact c)
 
 pub returns-clause-found : goal.returns-clause-found
 returns-clause-found c =
     let i = c.loop-low.invariant in
     numbers_at-none c.args.kind c.args.text.now c.args.keys.now.directory c.loop-low.low no_key i.below
     (λ j le lt. i.above j (omega (arith, le, c.loop-low-test.false)) lt)
+
+pub returns-clause-exact : goal.returns-clause-exact
+returns-clause-exact c =
+    let keys : List Key = c.args.keys.now.directory in
+    let i = c.loop-low.invariant in
+    let none : comparisons_within i.steps.0 c.args.kind c.args.text.now (keys_between c.loop-low.low c.loop-low.high keys) ≡ 0 =
+    ap (comparisons_within i.steps.0 c.args.kind c.args.text.now) (between-none c.loop-low.low c.loop-low.high keys (omega (arith, c.loop-low-test.false)))
+    ∙ comparisons-none i.steps.0 c.args.kind c.args.text.now in
+    add_steps-none c.loop-low.keys.steps ∙ ap (add_steps c.loop-low.keys.steps) (sym none) ∙ i.steps.2
+
+pub returns-clause-steps : goal.returns-clause-steps
+returns-clause-steps c = λ digits h.
+    let keys : List Key = c.args.keys.now.directory in
+    (comparisons c.args.kind c.args.text.now keys, comparisons-few (length keys) c.args.kind c.args.text.now keys digits h, returns-clause-exact c)

@@ -1,11 +1,12 @@
-use Rattle.std.proofs.Common.{◌≡◌, ◌+◌, ◌-◌, ◌^◌, ◌<◌, ◌≤◌, ℕ, length}
+use Rattle.std.proofs.Common.{◌≡◌, ◌-◌, ◌<◌, ◌≤◌, ℕ, length}
 use Rattle.std.specs.declared.cmp.Ordering.TheVariants.{Less, Greater}
 use Rattle.mail_index.specs.Steps.{add_steps}
-use Rattle.mail_index.specs.LookUps.{lies_to, AreSorted}
+use Rattle.mail_index.specs.LookUps.{lies_to, AreSorted, comparisons, comparisons_within}
 use Rattle.mail_index.specs.KeysRead.{key_at}
+use Rattle.mail_index.specs.Inside.KeyRuns.{keys_between}
 use Rattle.mail_index.proofs.view.look_up.position.Given as goal
 
--- the keys before low lie before the wanted one, those from high on behind it, and each step has halved those between
+-- the keys before low lie before the wanted one, those from high on behind it, and the comparisons of those between are left
 abbrev pub invariant-loop-low : goal.invariant-loop-low
 invariant-loop-low l = record {
   same : l.keys.directory ≡ l.fn.keys.directory;
@@ -14,7 +15,8 @@ invariant-loop-low l = record {
   within : l.high ≤ length l.fn.keys.directory;
   below : (j : ℕ) → j < l.low → lies_to l.kind l.text (key_at l.fn.keys.directory j) ≡ Less;
   above : (j : ℕ) → l.high ≤ j → j < length l.fn.keys.directory → lies_to l.kind l.text (key_at l.fn.keys.directory j) ≡ Greater;
-  steps : (digits : ℕ) → length l.fn.keys.directory < 2 ^ digits → (left : ℕ) × (taken : ℕ) × (l.high - l.low < 2 ^ left) × (taken + left ≤ digits) × (l.keys.steps ≡ add_steps l.fn.keys.steps taken);
+  steps : (most : ℕ) × (l.high - l.low ≤ most)
+      × (add_steps l.keys.steps (comparisons_within most l.kind l.text (keys_between l.low l.high l.fn.keys.directory)) ≡ add_steps l.fn.keys.steps (comparisons l.kind l.text l.fn.keys.directory));
 }
 
 abbrev pub decreases-loop-low : goal.decreases-loop-low

@@ -10,13 +10,13 @@ pub archives_length-requires : goal.archives_length-requires
 archives_length-requires c = rw c.as_slice.ensures.value (omega (arith, length-archives (map kept_archive c.self.inside.archives.items) c.self.invariant.named, c.self.invariant.archives, c.self.invariant.limit))
 
 pub texts_length-requires : goal.texts_length-requires
-texts_length-requires c = omega (arith, length-texts _ c.self.inside.keys c.self.invariant.listed, c.self.invariant.keys, c.self.invariant.limit)
+texts_length-requires c = rw c.in_order.ensures (omega (arith, length-texts _ c.self.inside.keys c.self.invariant.listed, c.self.invariant.keys, c.self.invariant.limit))
 
 pub postings_length-requires : goal.postings_length-requires
 postings_length-requires c =
     let d : Draft = draft_of c.self.inside.most c.self.inside.path c.self.inside.in_message c.self.inside.archives.items c.self.inside.records.items c.self.inside.keys in
     let count : message_count d ≤ 2 ^ 31 = omega (arith, message_count-within d c.self.invariant, c.self.invariant.limit) in
-    omega (arith, length-all_postings (message_count d) c.self.inside.keys count c.self.invariant.listed, c.self.invariant.keys, c.self.invariant.limit)
+    rw c.in_order-2.ensures (omega (arith, length-all_postings (message_count d) c.self.inside.keys count c.self.invariant.listed, c.self.invariant.keys, c.self.invariant.limit))
 
 pub returns-clause-small : goal.returns-clause-small
 returns-clause-small c =
@@ -33,6 +33,6 @@ returns-clause-small c =
       messages = message_count_is;
       keys = c.len-3.ensures;
       archive_bytes = rw c.as_slice.ensures.value at c.archives_length.ensures;
-      text_bytes = c.texts_length.ensures;
-      posting_bytes = c.postings_length.ensures;
+      text_bytes = rw c.in_order.ensures at c.texts_length.ensures;
+      posting_bytes = rw c.in_order-2.ensures at c.postings_length.ensures;
     }) archives messages keys count c.self.invariant.named c.self.invariant.listed

@@ -53,7 +53,7 @@ returns-in_err-send_directory-clause-err g c =
     let s1 = signing-next (concat (counts d.table)) ((archive_section d.table) ++ ((flat_map record_bytes d.table.messages) ++ ((directory_from 0 0 (entries d.table)) ++ ((texts_of (entries d.table)) ++ ((postings_of (entries d.table)) ++ []))))) s0 refl (rw same at c.in_ok-send_counts.ensures.ok) in
     let s2 = signing-next (archive_section d.table) ((flat_map record_bytes d.table.messages) ++ ((directory_from 0 0 (entries d.table)) ++ ((texts_of (entries d.table)) ++ ((postings_of (entries d.table)) ++ [])))) s1 refl (rw c.as_slice.ensures.value at c.in_ok-send_archives.ensures.ok) in
     let s3 = signing-next (flat_map record_bytes d.table.messages) ((directory_from 0 0 (entries d.table)) ++ ((texts_of (entries d.table)) ++ ((postings_of (entries d.table)) ++ []))) s2 refl (rw c.as_slice-2.ensures.value at c.in_ok-send_records.ensures.ok) in
-    let fault : BreaksOff (g.O.Out.taken c.args.out.now) (g.O.Out.taken c.send_directory.new.out) c.args.signer.now (body d.table) = signing-stop (g.O.Out.taken c.send_directory.new.out) (directory_from 0 0 (entries d.table)) ((texts_of (entries d.table)) ++ ((postings_of (entries d.table)) ++ [])) s3 refl c.in_err-send_directory.ensures.err in
+    let fault : BreaksOff (g.O.Out.taken c.args.out.now) (g.O.Out.taken c.send_directory.new.out) c.args.signer.now (body d.table) = signing-stop (g.O.Out.taken c.send_directory.new.out) (directory_from 0 0 (entries d.table)) ((texts_of (entries d.table)) ++ ((postings_of (entries d.table)) ++ [])) s3 refl (rw c.in_order.ensures at c.in_err-send_directory.ensures.err) in
     elim c.from_residual-in_err-send_directory.result as (λ r. OnErr r (BreaksOff (g.O.Out.taken c.args.out.now) (g.O.Out.taken c.send_directory.new.out) c.args.signer.now (body c.args.self.now.table))) [
       | Ok _ ↦ tt
       | Err _ ↦ subst (λ (e : Draft). BreaksOff (g.O.Out.taken c.args.out.now) (g.O.Out.taken c.send_directory.new.out) c.args.signer.now (body e.table)) c.self.view_is fault
@@ -67,8 +67,8 @@ returns-in_err-send_texts-clause-err g c =
     let s1 = signing-next (concat (counts d.table)) ((archive_section d.table) ++ ((flat_map record_bytes d.table.messages) ++ ((directory_from 0 0 (entries d.table)) ++ ((texts_of (entries d.table)) ++ ((postings_of (entries d.table)) ++ []))))) s0 refl (rw same at c.in_ok-send_counts.ensures.ok) in
     let s2 = signing-next (archive_section d.table) ((flat_map record_bytes d.table.messages) ++ ((directory_from 0 0 (entries d.table)) ++ ((texts_of (entries d.table)) ++ ((postings_of (entries d.table)) ++ [])))) s1 refl (rw c.as_slice.ensures.value at c.in_ok-send_archives.ensures.ok) in
     let s3 = signing-next (flat_map record_bytes d.table.messages) ((directory_from 0 0 (entries d.table)) ++ ((texts_of (entries d.table)) ++ ((postings_of (entries d.table)) ++ []))) s2 refl (rw c.as_slice-2.ensures.value at c.in_ok-send_records.ensures.ok) in
-    let s4 = signing-next (directory_from 0 0 (entries d.table)) ((texts_of (entries d.table)) ++ ((postings_of (entries d.table)) ++ [])) s3 refl c.in_ok-send_directory.ensures.ok in
-    let fault : BreaksOff (g.O.Out.taken c.args.out.now) (g.O.Out.taken c.send_texts.new.out) c.args.signer.now (body d.table) = signing-stop (g.O.Out.taken c.send_texts.new.out) (texts_of (entries d.table)) ((postings_of (entries d.table)) ++ []) s4 refl c.in_err-send_texts.ensures.err in
+    let s4 = signing-next (directory_from 0 0 (entries d.table)) ((texts_of (entries d.table)) ++ ((postings_of (entries d.table)) ++ [])) s3 refl (rw c.in_order.ensures at c.in_ok-send_directory.ensures.ok) in
+    let fault : BreaksOff (g.O.Out.taken c.args.out.now) (g.O.Out.taken c.send_texts.new.out) c.args.signer.now (body d.table) = signing-stop (g.O.Out.taken c.send_texts.new.out) (texts_of (entries d.table)) ((postings_of (entries d.table)) ++ []) s4 refl (rw c.in_order-2.ensures at c.in_err-send_texts.ensures.err) in
     elim c.from_residual-in_err-send_texts.result as (λ r. OnErr r (BreaksOff (g.O.Out.taken c.args.out.now) (g.O.Out.taken c.send_texts.new.out) c.args.signer.now (body c.args.self.now.table))) [
       | Ok _ ↦ tt
       | Err _ ↦ subst (λ (e : Draft). BreaksOff (g.O.Out.taken c.args.out.now) (g.O.Out.taken c.send_texts.new.out) c.args.signer.now (body e.table)) c.self.view_is fault
@@ -82,9 +82,9 @@ returns-in_err-send_postings-clause-err g c =
     let s1 = signing-next (concat (counts d.table)) ((archive_section d.table) ++ ((flat_map record_bytes d.table.messages) ++ ((directory_from 0 0 (entries d.table)) ++ ((texts_of (entries d.table)) ++ ((postings_of (entries d.table)) ++ []))))) s0 refl (rw same at c.in_ok-send_counts.ensures.ok) in
     let s2 = signing-next (archive_section d.table) ((flat_map record_bytes d.table.messages) ++ ((directory_from 0 0 (entries d.table)) ++ ((texts_of (entries d.table)) ++ ((postings_of (entries d.table)) ++ [])))) s1 refl (rw c.as_slice.ensures.value at c.in_ok-send_archives.ensures.ok) in
     let s3 = signing-next (flat_map record_bytes d.table.messages) ((directory_from 0 0 (entries d.table)) ++ ((texts_of (entries d.table)) ++ ((postings_of (entries d.table)) ++ []))) s2 refl (rw c.as_slice-2.ensures.value at c.in_ok-send_records.ensures.ok) in
-    let s4 = signing-next (directory_from 0 0 (entries d.table)) ((texts_of (entries d.table)) ++ ((postings_of (entries d.table)) ++ [])) s3 refl c.in_ok-send_directory.ensures.ok in
-    let s5 = signing-next (texts_of (entries d.table)) ((postings_of (entries d.table)) ++ []) s4 refl c.in_ok-send_texts.ensures.ok in
-    let fault : BreaksOff (g.O.Out.taken c.args.out.now) (g.O.Out.taken c.send_postings.new.out) c.args.signer.now (body d.table) = signing-stop (g.O.Out.taken c.send_postings.new.out) (postings_of (entries d.table)) ([]) s5 refl c.in_err-send_postings.ensures.err in
+    let s4 = signing-next (directory_from 0 0 (entries d.table)) ((texts_of (entries d.table)) ++ ((postings_of (entries d.table)) ++ [])) s3 refl (rw c.in_order.ensures at c.in_ok-send_directory.ensures.ok) in
+    let s5 = signing-next (texts_of (entries d.table)) ((postings_of (entries d.table)) ++ []) s4 refl (rw c.in_order-2.ensures at c.in_ok-send_texts.ensures.ok) in
+    let fault : BreaksOff (g.O.Out.taken c.args.out.now) (g.O.Out.taken c.send_postings.new.out) c.args.signer.now (body d.table) = signing-stop (g.O.Out.taken c.send_postings.new.out) (postings_of (entries d.table)) ([]) s5 refl (rw c.in_order-3.ensures at c.in_err-send_postings.ensures.err) in
     elim c.from_residual-in_err-send_postings.result as (λ r. OnErr r (BreaksOff (g.O.Out.taken c.args.out.now) (g.O.Out.taken c.send_postings.new.out) c.args.signer.now (body c.args.self.now.table))) [
       | Ok _ ↦ tt
       | Err _ ↦ subst (λ (e : Draft). BreaksOff (g.O.Out.taken c.args.out.now) (g.O.Out.taken c.send_postings.new.out) c.args.signer.now (body e.table)) c.self.view_is fault
@@ -98,7 +98,7 @@ returns-clause-ok g c =
     let s1 = signing-next (concat (counts d.table)) ((archive_section d.table) ++ ((flat_map record_bytes d.table.messages) ++ ((directory_from 0 0 (entries d.table)) ++ ((texts_of (entries d.table)) ++ ((postings_of (entries d.table)) ++ []))))) s0 refl (rw same at c.in_ok-send_counts.ensures.ok) in
     let s2 = signing-next (archive_section d.table) ((flat_map record_bytes d.table.messages) ++ ((directory_from 0 0 (entries d.table)) ++ ((texts_of (entries d.table)) ++ ((postings_of (entries d.table)) ++ [])))) s1 refl (rw c.as_slice.ensures.value at c.in_ok-send_archives.ensures.ok) in
     let s3 = signing-next (flat_map record_bytes d.table.messages) ((directory_from 0 0 (entries d.table)) ++ ((texts_of (entries d.table)) ++ ((postings_of (entries d.table)) ++ []))) s2 refl (rw c.as_slice-2.ensures.value at c.in_ok-send_records.ensures.ok) in
-    let s4 = signing-next (directory_from 0 0 (entries d.table)) ((texts_of (entries d.table)) ++ ((postings_of (entries d.table)) ++ [])) s3 refl c.in_ok-send_directory.ensures.ok in
-    let s5 = signing-next (texts_of (entries d.table)) ((postings_of (entries d.table)) ++ []) s4 refl c.in_ok-send_texts.ensures.ok in
-    let s6 = signing-next (postings_of (entries d.table)) ([]) s5 refl c.in_ok-send_postings.ensures.ok in
+    let s4 = signing-next (directory_from 0 0 (entries d.table)) ((texts_of (entries d.table)) ++ ((postings_of (entries d.table)) ++ [])) s3 refl (rw c.in_order.ensures at c.in_ok-send_directory.ensures.ok) in
+    let s5 = signing-next (texts_of (entries d.table)) ((postings_of (entries d.table)) ++ []) s4 refl (rw c.in_order-2.ensures at c.in_ok-send_texts.ensures.ok) in
+    let s6 = signing-next (postings_of (entries d.table)) ([]) s5 refl (rw c.in_order-3.ensures at c.in_ok-send_postings.ensures.ok) in
     subst (λ (e : Draft). Signs (g.O.Out.taken c.args.out.now) (g.O.Out.taken c.send_postings.new.out) c.args.signer.now c.send_postings.new.signer (body e.table)) c.self.view_is (signing-end s6)

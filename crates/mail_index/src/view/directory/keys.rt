@@ -7,12 +7,14 @@ ghost use Rattle.mail_index.specs.Inside.KeyRuns.{lies_to_run};
 
 use crate::kind::Kind;
 use crate::view::directory::Directory;
+use crate::view::directory::compared_keys::ComparedKeys;
 use crate::view::postings::Postings;
+use crate::view::steps::Steps;
 use std::cmp::Ordering;
 use std::marker::Model;
 
 /// A key of an index, and the messages that have it.
-#[derive(Debug, Drop)]
+#[derive(Drop)]
 pub struct Key<'a> {
     /// A folded word, or an id.
     pub text: &'a [u8],
@@ -21,7 +23,7 @@ pub struct Key<'a> {
 }
 
 /// Keys in a row still to come, in the order of their bytes. It takes no memory.
-#[derive(Debug, Drop)]
+#[derive(Drop)]
 pub struct Keys<'a> {
     directory: Directory<'a>,
     next: u32,
@@ -41,16 +43,17 @@ impl<'a> Model for Keys<'a> {
 }
 
 /// The number of the first key that lies so to those of a kind that begin with a text, or further behind: a binary search.
-fn first_that_lies(least: Ordering, directory: &Directory<'_>, kind: Kind, text: &[u8]) -> u32
-    ensures within { result ≤ length directory.now }
-    ensures below { (j : ℕ) → j < result → ordering_index (lies_to_run kind text.now (key_at directory.now j)) < ordering_index least }
-    ensures above { (j : ℕ) → result ≤ j → j < length directory.now → ordering_index least ≤ ordering_index (lies_to_run kind text.now (key_at directory.now j)) }
+fn first_that_lies(least: Ordering, keys: &mut ComparedKeys<'_>, kind: Kind, text: &[u8]) -> u32
+    ensures within { result ≤ length keys.old.directory }
+    ensures below { (j : ℕ) → j < result → ordering_index (lies_to_run kind text.now (key_at keys.old.directory j)) < ordering_index least }
+    ensures above { (j : ℕ) → result ≤ j → j < length keys.old.directory → ordering_index least ≤ ordering_index (lies_to_run kind text.now (key_at keys.old.directory j)) }
+    ensures keys { keys.new.directory ≡ keys.old.directory }
 {
     let mut low = 0;
-    let mut high = directory.len();
+    let mut high = keys.len();
     while low < high {
         let middle = low + (high - low) / 2;
-        if directory.compare_to_run(middle, kind, text) < least {
+        if keys.compare_to_run(middle, kind, text) < least {
             low = middle + 1;
         } else {
             high = middle;
@@ -60,14 +63,15 @@ fn first_that_lies(least: Ordering, directory: &Directory<'_>, kind: Kind, text:
 }
 
 impl<'a> Keys<'a> {
-    /// The keys of a kind in a directory whose texts begin with this one.
+    /// The keys of a kind in a directory whose texts begin with this one. The steps that finding them takes are told to nobody.
     pub(crate) fn of(directory: Directory<'a>, kind: Kind, text: &[u8]) -> Self
         ensures { result ≡ map text_and_numbers (keys_beginning kind text.now directory.entry) }
     {
-        let next = first_that_lies(Ordering::Equal, &directory, kind, text);
-        let end = first_that_lies(Ordering::Greater, &directory, kind, text);
+        let mut keys = ComparedKeys::of(directory, Steps::new());
+        let next = first_that_lies(Ordering::Equal, &mut keys, kind, text);
+        let end = first_that_lies(Ordering::Greater, &mut keys, kind, text);
         Keys {
-            directory,
+            directory: keys.into_directory(),
             next,
             end,
         }
@@ -82,9 +86,10 @@ impl<'a> Keys<'a> {
             return None;
         }
         self.next = number + 1;
+        let entry = self.directory.entry_at(number);
         Some(Key {
-            text: self.directory.text(number),
-            postings: self.directory.postings(number),
+            text: entry.text(),
+            postings: entry.postings(),
         })
     }
 }

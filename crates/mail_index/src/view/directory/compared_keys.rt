@@ -5,12 +5,14 @@ ghost use Rattle.mail_index.specs.KeysRead.{key_at};
 
 use crate::kind::Kind;
 use crate::view::directory::Directory;
+use crate::view::directory::entry::Entry;
 use crate::view::postings::Postings;
 use crate::view::steps::Steps;
 use std::cmp::Ordering;
 
-/// The keys of a directory, in order, and how many steps were taken. A look-up has them as this alone: it sees no key but by a
-/// step, which is counted here and can't be counted elsewhere.
+/// The keys of a directory, in order, and how many steps were taken.
+///
+/// A search for a key has them as this alone: it sees no key but by a step, which is counted here and can't be counted elsewhere.
 #[derive(Drop)]
 pub(crate) struct ComparedKeys<'a> {
     directory: Directory<'a>,
@@ -19,6 +21,7 @@ pub(crate) struct ComparedKeys<'a> {
 
 impl<'a> ComparedKeys<'a> {
     ghost use Rattle.mail_index.specs.LookUps.{lies_to, AreSorted};
+    ghost use Rattle.mail_index.specs.Inside.KeyRuns.{lies_to_run};
 
     /// The keys of this directory, after so many steps.
     pub(crate) fn of(directory: Directory<'a>, steps: Steps) -> Self
@@ -36,6 +39,17 @@ impl<'a> ComparedKeys<'a> {
         self.directory.len()
     }
 
+    /// The entry of the key of this number, to compare it: a step.
+    fn counted_entry(&mut self, number: u32) -> Entry<'a>
+        requires { number < length self.old.directory }
+        ensures entry { result ≡ key_at self.old.directory number }
+        ensures steps { self.new.steps ≡ add_steps self.old.steps 1 }
+        ensures keys { self.new.directory ≡ self.old.directory }
+    {
+        self.steps.tick();
+        self.directory.entry_at(number)
+    }
+
     /// How the key of this number lies to another: a step.
     pub(crate) fn compare(&mut self, number: u32, kind: Kind, text: &[u8]) -> Ordering
         requires { number < length self.old.directory }
@@ -43,7 +57,17 @@ impl<'a> ComparedKeys<'a> {
         ensures steps { self.new.steps ≡ add_steps self.old.steps 1 }
         ensures keys { self.new.directory ≡ self.old.directory }
     {
-        self.directory.compare(number, kind, text, &mut self.steps)
+        self.counted_entry(number).compare(kind, text)
+    }
+
+    /// How the key of this number lies to those of a kind that begin with a text, which stand in a row: a step.
+    pub(crate) fn compare_to_run(&mut self, number: u32, kind: Kind, text: &[u8]) -> Ordering
+        requires { number < length self.old.directory }
+        ensures order { result ≡ lies_to_run kind text.now (key_at self.old.directory number) }
+        ensures steps { self.new.steps ≡ add_steps self.old.steps 1 }
+        ensures keys { self.new.directory ≡ self.old.directory }
+    {
+        self.counted_entry(number).compare_to_run(kind, text)
     }
 
     /// The numbers of the messages that have the key of this number.
@@ -51,7 +75,7 @@ impl<'a> ComparedKeys<'a> {
         requires { number < length self.now.directory }
         ensures { result ≡ (key_at self.now.directory number).numbers }
     {
-        self.directory.postings(number)
+        self.directory.entry_at(number).postings()
     }
 
     /// The steps that were taken.
@@ -59,5 +83,12 @@ impl<'a> ComparedKeys<'a> {
         ensures { result ≡ self.entry.steps }
     {
         self.steps
+    }
+
+    /// The directory, without the steps.
+    pub(super) fn into_directory(self) -> Directory<'a>
+        ensures { result ≡ self.entry.directory }
+    {
+        self.directory
     }
 }

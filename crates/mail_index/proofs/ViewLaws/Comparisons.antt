@@ -1,0 +1,95 @@
+-- The comparisons of a look-up.
+use Rattle.std.proofs.Common.{◌≡◌, ◌∙◌, ℕ, zero, suc, ◌+◌, ◌-◌, ◌/◌, ◌^◌, ◌<◌, ◌≤◌, List, [], ◌∷◌, length, take, drop, get_or, refl, ap, arith, length-drop, length-take-le, take-take, drop-drop, take_all}
+use Rattle.std.specs.declared.cmp.Ordering.{Ordering}
+use Rattle.std.specs.declared.cmp.Ordering.TheVariants.{Less, Equal, Greater}
+use Rattle.std.proofs.lemmas.List.{drop-take, drop_more}
+use Rattle.mail_index.specs.declared.kind.Kind.{Kind}
+use Rattle.mail_index.specs.Tables.{Key}
+use Rattle.mail_index.specs.LookUps.{lies_to, comparisons_within}
+use Rattle.mail_index.specs.Inside.KeyRuns.{keys_between}
+use Rattle.mail_index.proofs.ViewLaws.LookUpLemmas.{halves}
+use Rattle.mail_index.proofs.ViewLaws.RunLemmas.{between-next}
+
+-- ---- one comparison
+
+-- how many come after that of the key in the middle
+abbrev pub left : ℕ → Kind → List ℕ → Ordering → List Key → List Key → ℕ
+left most kind text Less before behind = comparisons_within most kind text behind
+left most kind text Equal before behind = 0
+left most kind text Greater before behind = comparisons_within most kind text before
+
+pub comparisons-none : (most : ℕ) (kind : Kind) (text : List ℕ) → comparisons_within most kind text [] ≡ 0
+comparisons-none zero kind text = refl
+comparisons-none (suc most) kind text = refl
+
+comparisons-more : (most : ℕ) (kind : Kind) (text : List ℕ) (ks : List Key) (k : Key) (before behind : List Key) (o : Ordering)
+    → drop (length ks / 2) ks ≡ k ∷ behind → take (length ks / 2) ks ≡ before → lies_to kind text k ≡ o
+    → comparisons_within (suc most) kind text ks ≡ suc (left most kind text o before behind)
+comparisons-more most kind text ks k before behind Less from until lies = rw (from, lies, comparisons_within) refl
+comparisons-more most kind text ks k before behind Equal from until lies = rw (from, lies, comparisons_within) refl
+comparisons-more most kind text ks k before behind Greater from until lies = rw (from, lies, until, comparisons_within) refl
+
+-- ---- they are few
+
+left-few : (most : ℕ) (kind : Kind) (text : List ℕ) (o : Ordering) (before behind : List Key) (few : ℕ)
+    → comparisons_within most kind text before ≤ few → comparisons_within most kind text behind ≤ few → left most kind text o before behind ≤ few
+left-few most kind text Less before behind few h g = g
+left-few most kind text Equal before behind few h g = omega arith
+left-few most kind text Greater before behind few h g = h
+
+pub comparisons-few : (most : ℕ) (kind : Kind) (text : List ℕ) (ks : List Key) (digits : ℕ) → length ks < 2 ^ digits → comparisons_within most kind text ks ≤ digits
+comparisons-few zero kind text ks digits h = omega arith
+comparisons-few (suc most) kind text [] digits h = omega arith
+comparisons-few (suc most) kind text (k ∷ ks) digits h =
+    let keys : List Key = k ∷ ks in
+    let n : ℕ = length keys / 2 in
+    let within : n < length keys = omega arith in
+    let half = halves (length keys) digits (omega arith) h in
+    let met : Key = get_or keys n k in
+    let counted = comparisons-more most kind text keys met (take n keys) (drop (n + 1) keys) (lies_to kind text met) (drop_more keys n k within) refl refl in
+    let few = left-few most kind text (lies_to kind text met) (take n keys) (drop (n + 1) keys) half.fewer
+    (comparisons-few most kind text (take n keys) half.fewer (omega (arith, half.lower, length-take-le n keys (omega (arith, within)))))
+    (comparisons-few most kind text (drop (n + 1) keys) half.fewer (omega (arith, half.upper, length-drop (n + 1) keys))) in
+    omega (arith, counted, few, half.digits_are)
+
+-- ---- of keys in a row
+
+length-between : (low high : ℕ) (ks : List Key) → high ≤ length ks → length (keys_between low high ks) ≡ high - low
+length-between low high ks within = length-take-le (high - low) (drop low ks) (omega (arith, within, length-drop low ks))
+
+pub between-all : (ks : List Key) → keys_between 0 (length ks) ks ≡ ks
+between-all ks = let whole : length ks - 0 ≡ length ks = omega arith in ap (λ (n : ℕ). take n ks) whole ∙ take_all (length ks) ks (omega arith)
+
+from_place : (low high n : ℕ) (ks : List Key) (d : Key) → low + n < high → high ≤ length ks
+    → drop n (keys_between low high ks) ≡ get_or ks (low + n) d ∷ keys_between (low + n + 1) high ks
+from_place low high n ks d less within =
+    let rest : high - low ≡ n + (high - (low + n)) = omega (arith, less) in
+    ap (λ (m : ℕ). drop n (take m (drop low ks))) rest ∙ drop-take n (high - (low + n)) (drop low ks) ∙ ap (take (high - (low + n))) (drop-drop n low ks)
+    ∙ between-next (low + n) high ks d less within
+
+before_place : (low high n : ℕ) (ks : List Key) → low + n < high → take n (keys_between low high ks) ≡ keys_between low (low + n) ks
+before_place low high n ks less =
+    let same : n ≡ low + n - low = omega arith in
+    take-take n (high - low) (drop low ks) (omega (arith, less)) ∙ ap (λ (m : ℕ). take m (drop low ks)) same
+
+-- the key in the middle of a row lies so to the sought one
+pub record Compared (most : ℕ) (kind : Kind) (text : List ℕ) (ks : List Key) (low high : ℕ) (o : Ordering) : Type 0 where
+  pub fewer : ℕ
+  pub enough : high - low ≤ suc fewer
+  pub counted : comparisons_within most kind text (keys_between low high ks)
+      ≡ suc (left fewer kind text o (keys_between low (low + (high - low) / 2) ks) (keys_between (low + (high - low) / 2 + 1) high ks))
+
+pub compared : (most : ℕ) (kind : Kind) (text : List ℕ) (ks : List Key) (low high : ℕ) (d : Key) (o : Ordering) → low < high → high ≤ length ks → high - low ≤ most
+    → lies_to kind text (get_or ks (low + (high - low) / 2) d) ≡ o → Compared most kind text ks low high o
+compared zero kind text ks low high d o some within enough lies = absurd (omega (arith, some, enough))
+compared (suc most) kind text ks low high d o some within enough lies =
+    let n : ℕ = (high - low) / 2 in
+    let row : List Key = keys_between low high ks in
+    let half : length row / 2 ≡ n = ap (λ (k : ℕ). k / 2) (length-between low high ks within) in
+    let inside : low + n < high = omega (arith, some) in
+    record {
+      fewer = most;
+      enough = enough;
+      counted = comparisons-more most kind text row (get_or ks (low + n) d) (keys_between low (low + n) ks) (keys_between (low + n + 1) high ks) o
+          (ap (λ (k : ℕ). drop k row) half ∙ from_place low high n ks d inside within) (ap (λ (k : ℕ). take k row) half ∙ before_place low high n ks inside) lies;
+    }

@@ -1,0 +1,86 @@
+//! An entry of a directory, read in place.
+ghost use Rattle.std.specs.Prelude.{◌≡◌};
+ghost use Rattle.mail_index.specs.Directory.{read_entry};
+ghost use Rattle.mail_index.specs.KeysRead.{key_of};
+ghost use Rattle.mail_index.specs.Inside.FrontEntries.{IsInFront};
+
+use crate::fields::{u32_at, u64_at};
+use crate::kind::Kind;
+use crate::places::{ENTRY, KIND_AT, POSTING_PLACE_AT, TEXT_LENGTH_AT, TEXT_PLACE_AT};
+use crate::view::directory_walk::{compare_keys, end_before};
+use crate::view::postings::Postings;
+use std::cmp::Ordering;
+use std::marker::Model;
+
+/// An entry in front of those behind it, with the texts and the postings of its file.
+#[derive(Drop)]
+pub(super) struct Entry<'a> {
+    entries: &'a [u8],
+    texts: &'a [u8],
+    postings: &'a [u8],
+}
+
+impl<'a> Model for Entry<'a> {
+    ghost use Rattle.mail_index.specs.Tables.{Key};
+    ghost use Rattle.mail_index.specs.Directory.{read_entry};
+    ghost use Rattle.mail_index.specs.KeysRead.{key_of};
+    ghost use Rattle.mail_index.specs.Inside.FrontEntries.{IsInFront};
+
+    ghost Value = { Key };
+
+    ghost view = { λ s. key_of (read_entry s.texts.now s.postings.now s.entries.now) };
+
+    ghost invariant = { λ s. IsInFront s.texts.now s.postings.now s.entries.now };
+}
+
+impl<'a> Entry<'a> {
+    ghost use Rattle.mail_index.specs.LookUps.{lies_to};
+    ghost use Rattle.mail_index.specs.Inside.KeyRuns.{lies_to_run};
+
+    /// The first of these entries.
+    pub(super) fn first_of(entries: &'a [u8], texts: &'a [u8], postings: &'a [u8]) -> Self
+        requires { IsInFront texts.now postings.now entries.now }
+        ensures { result ≡ key_of (read_entry texts.entry.now postings.entry.now entries.entry.now) }
+    {
+        Entry {
+            entries,
+            texts,
+            postings,
+        }
+    }
+
+    /// The text of its key.
+    pub(super) fn text(&self) -> &'a [u8]
+        ensures { result.now ≡ self.now.text }
+    {
+        let place = u64_at(self.entries, TEXT_PLACE_AT) as usize;
+        let size = u32_at(self.entries, TEXT_LENGTH_AT) as usize;
+        self.texts.split_at(place).1.split_at(size).0
+    }
+
+    /// The numbers of the messages that have its key.
+    pub(super) fn postings(&self) -> Postings<'a>
+        ensures { result ≡ self.now.numbers }
+    {
+        let place = u64_at(self.entries, POSTING_PLACE_AT);
+        let end = end_before(self.entries.split_at(ENTRY).1, self.postings.len() as u64);
+        let rest = self.postings.split_at(place as usize).1;
+        Postings::of(rest.split_at((end - place) as usize).0)
+    }
+
+    /// How its key lies to another.
+    pub(super) fn compare(&self, kind: Kind, text: &[u8]) -> Ordering
+        ensures { result ≡ lies_to kind text.now self.now }
+    {
+        compare_keys(self.entries[KIND_AT], self.text(), kind.number(), text)
+    }
+
+    /// How its key lies to those of a kind that begin with a text: of its own only so much is compared.
+    pub(super) fn compare_to_run(&self, kind: Kind, text: &[u8]) -> Ordering
+        ensures { result ≡ lies_to_run kind text.now self.now }
+    {
+        let own = self.text();
+        let front = own.split_at(own.len().min(text.len())).0;
+        compare_keys(self.entries[KIND_AT], front, kind.number(), text)
+    }
+}
