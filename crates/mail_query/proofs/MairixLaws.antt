@@ -2,6 +2,8 @@
 pub mod ApproximateLemmas
 pub mod DepthLemmas
 pub mod EachLemmas
+pub mod FaultExact
+pub mod FaultSound
 pub mod FlagGrammarLemmas
 pub mod FlagLemmas
 pub mod KindLemmas

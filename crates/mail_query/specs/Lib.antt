@@ -10,6 +10,7 @@ pub mod Mairix
 pub mod SizeGrammar
 pub mod FlagGrammar
 pub mod MairixGrammar
+pub mod MairixFaults
 pub mod Refusals
 pub mod Mail
 pub mod Tokens

@@ -89,14 +89,16 @@ module _ (forms : Forms) where
   abbrev pub prefix_query : List ℕ → Option Query
   prefix_query sub = option_map (λ part. Prefix forms.kinds part) (forms.part sub)
 
+  -- what stands before the last `=`: sub | "^" sub
+  abbrev pub marked_query : List ℕ → Option Query
+  marked_query sub = option_or (part_query sub) (option_and_then prefix_query (without_first 0x5E sub))
+
+  abbrev pub found_query : List ℕ → Option Query
+  found_query text = option_or (word_query text) (option_and_then marked_query (without_last 0x3D text))
+
   -- atom = word | sub "=" | "^" sub "="
   abbrev pub atom_query : List ℕ → Result Query QueryFaultKind
-  atom_query text =
-      if is_approximate text then Err Approximate
-      else ok_or
-      (option_or (word_query text)
-      (option_and_then (λ sub. option_or (part_query sub) (option_and_then prefix_query (without_first 0x5E sub))) (without_last 0x3D text)))
-      BadWord
+  atom_query text = if is_approximate text then Err Approximate else ok_or (found_query text) BadWord
 
   -- term = ["~"] atom
   abbrev pub term_query : List ℕ → Result Query QueryFaultKind

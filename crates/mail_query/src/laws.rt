@@ -1,5 +1,5 @@
-//! Laws of both languages: a grammar and what its reader answers are one, and of the boolean language its faults by places
-//! too. A query asks nothing of names that it doesn't use.
+//! Laws of both languages: a grammar and what its reader answers are one, and so are the first fault and what is refused. A
+//! query asks nothing of names that it doesn't use.
 ghost use Rattle.std.specs.Prelude.{◌≡◌, ◌↔◌, ℕ, List, Option, false, Some, None, Ok, Err};
 ghost use Rattle.std.specs.List.{All};
 ghost use Rattle.std.specs.Str.{IsUtf8};
@@ -10,6 +10,7 @@ ghost use Rattle.mail_query.specs.Truth.{Facts, without_names, is_true};
 ghost use Rattle.mail_query.specs.Lexicon.{Lexicon};
 ghost use Rattle.mail_query.specs.Mairix.{pattern_query, patterns_query};
 ghost use Rattle.mail_query.specs.MairixGrammar.{IsPattern, IsAsked, HasNoSigns};
+ghost use Rattle.mail_query.specs.MairixFaults.{IsFirstFault};
 ghost use Rattle.mail_query.specs.Mail.{mail_lexicon, pattern_lexicon, mairix_query};
 ghost use Rattle.mail_query.specs.Tokens.{Token};
 ghost use Rattle.mail_query.specs.BooleanGrammar.{Reads};
@@ -51,6 +52,24 @@ pub fn patterns_are_read_as_the_grammar_says()
 pub fn what_is_no_pattern_is_refused()
     ensures { (lexicon : Lexicon) (patterns : List (List ℕ)) → HasNoSigns lexicon → All IsUtf8 patterns
         → ((f : QueryFault) × (patterns_query lexicon patterns ≡ Err f)) ↔ ((q : Query) → IsAsked lexicon patterns q → ⊥) }
+{}
+
+/// Patterns are refused with the first fault that they show.
+pub fn patterns_are_refused_with_their_first_fault()
+    ensures { (lexicon : Lexicon) (patterns : List (List ℕ)) (f : QueryFault) → HasNoSigns lexicon → All IsUtf8 patterns
+        → (patterns_query lexicon patterns ≡ Err f) ↔ IsFirstFault lexicon patterns f }
+{}
+
+/// They show one first fault at most.
+pub fn patterns_show_one_first_fault_at_most()
+    ensures { (lexicon : Lexicon) (patterns : List (List ℕ)) (f g : QueryFault) → HasNoSigns lexicon → All IsUtf8 patterns
+        → IsFirstFault lexicon patterns f → IsFirstFault lexicon patterns g → f ≡ g }
+{}
+
+/// They show one exactly where the grammar relates no query to them.
+pub fn what_is_no_pattern_shows_a_fault()
+    ensures { (lexicon : Lexicon) (patterns : List (List ℕ)) → HasNoSigns lexicon → All IsUtf8 patterns
+        → ((f : QueryFault) × IsFirstFault lexicon patterns f) ↔ ((q : Query) → IsAsked lexicon patterns q → ⊥) }
 {}
 
 /// Neither a word of mail nor a piece of one has a byte that means something in a pattern.

@@ -19,9 +19,11 @@ pub use fault::{QueryFault, QueryFaultKind};
 pub use kinds::Kinds;
 pub use laws::{
     a_pattern_is_read_as_the_grammar_says, names_count_only_where_they_are_asked,
-    patterns_are_read_as_the_grammar_says, patterns_of_mail_are_read_as_the_grammar_says,
+    patterns_are_read_as_the_grammar_says, patterns_are_refused_with_their_first_fault,
+    patterns_of_mail_are_read_as_the_grammar_says, patterns_show_one_first_fault_at_most,
     the_answer_is_what_is_read, the_refusal_is_the_first_fault, what_is_no_pattern_is_refused,
-    what_is_read_shows_no_fault, what_shows_no_fault_is_read, words_of_mail_have_no_signs,
+    what_is_no_pattern_shows_a_fault, what_is_read_shows_no_fault, what_shows_no_fault_is_read,
+    words_of_mail_have_no_signs,
 };
 pub use mairix::read_mairix;
 pub use node::Node;

@@ -7,6 +7,7 @@ ghost use Rattle.mail_query.specs.Meaning.{meaning};
 ghost use Rattle.mail_query.specs.Refusals.{kind_refusal, query_refusal};
 ghost use Rattle.mail_query.specs.Mairix.{kinds_of, kinds_of_letter, prefixed_query, pattern_query};
 ghost use Rattle.mail_query.specs.MairixGrammar.{IsAsked};
+ghost use Rattle.mail_query.specs.MairixFaults.{IsFirstFault};
 ghost use Rattle.mail_query.specs.Mail.{pattern_lexicon, mairix_query};
 
 mod forms;
@@ -42,6 +43,8 @@ pub fn read_mairix(alloc: Global, patterns: &[String], now: Moment) -> Result<Qu
     ensures answer { Gives meaning query_refusal result (mairix_query (map string_bytes patterns.now) now) }
     ensures read { IfOk result (λ q. IsAsked (pattern_lexicon now) (map string_bytes patterns.now) (meaning q)) }
     ensures refused { IfErr result (λ f. IfSome (query_refusal f) (λ _. (q : asked.Query) → ¬ IsAsked (pattern_lexicon now) (map string_bytes patterns.now) q)) }
+    ensures first_fault { IfErr result (λ f. IfSome (query_refusal f)
+        (λ g. IsFirstFault (pattern_lexicon now) (map string_bytes patterns.now) g)) }
     ensures memory { IfErr result (λ f. f.kind ≡ QueryFaultKind.OutOfMemory → f.number ≡ 0) }
 {
     read_patterns(alloc, patterns, now)

@@ -1,4 +1,6 @@
 //! The tree of a query.
+//!
+//! Decision 91 in docs/DECISIONS.md says why it is so.
 ghost use Rattle.std.specs.Prelude.{◌≡◌};
 ghost use Rattle.mail_query.specs.Query.{query_of, queries_of, all_of, either_of};
 

@@ -33,10 +33,6 @@ negated_last ws front h = ap (λ xs. is_negated (shown_stack xs)) h.0 ∙ ap is_
 pub open_last : (ws front : List CodeWaiting) (w : CodeWaiting) (level : Level) → IsLastAndRest ws w front → shown_waiting w ≡ ForClose level → is_negated (shown_stack ws) ≡ false
 open_last ws front w level h e = ap (λ xs. is_negated (shown_stack xs)) h.0 ∙ ap is_negated (shown_stack-push front w) ∙ ap (λ v. is_negated (v ∷ shown_stack front)) e
 
-pub nothing_waits : (ws : List CodeWaiting) → length ws ≡ 0 → shown_stack ws ≡ []
-nothing_waits [] e = refl
-nothing_waits (w ∷ ws) e = absurd (omega (arith, e))
-
 -- a `some` that no `not` waits for is a member
 pub placed-settled : (ws : List Waiting) (level : Level) (q : Query) → is_negated ws ≡ false → placed ws level q ≡ record { waiting = ws; level = with_member level q; wanted = false }
 placed-settled [] level q e = refl

@@ -1,9 +1,11 @@
--- How the test for an approximate match goes over a text.
-use Rattle.std.proofs.Common.{◌≡◌, ℕ, suc, Bool, true, false, ◌||◌, ◌&&◌, eqb, List, ◌∷◌, length, refl, arith}
+-- How the test for an approximate match goes over a text, and what passes it.
+use Rattle.std.proofs.Common.{◌≡◌, ℕ, suc, ◌≤◌, Bool, true, false, ◌||◌, ◌&&◌, eqb, List, [], ◌∷◌, ◌++◌, length, refl, sym, subst, arith}
 use Rattle.std.specs.List.{list_all}
 use Rattle.std.specs.Char.{is_ascii_digit}
+use Rattle.std.proofs.lemmas.Bool.{eqb-true, and_parts, and_from, or_left, or_right}
 use Rattle.mail_query.specs.Pieces.{is_nonempty}
 use Rattle.mail_query.specs.Mairix.{is_approximate}
+use Rattle.mail_query.specs.MairixFaults.{IsApproximate, Digits}
 
 -- an `=` stood before and digits alone since, of which there was one or more, or none
 abbrev pub approximate_behind : Bool → Bool → List ℕ → Bool
@@ -13,31 +15,36 @@ approximate_behind marked counted rest =
 nonempty : (b : ℕ) (bs : List ℕ) → is_nonempty (b ∷ bs) ≡ true
 nonempty b bs = let e : eqb (suc (length bs)) 0 ≡ false = grind arith in rw e refl
 
-or_false : (b : Bool) → (b || false) ≡ b
-or_false true = refl
-or_false false = refl
+-- ---- what is approximate has an `=`, and digits behind it
 
-and_false : (b : Bool) → (b && false) ≡ false
-and_false true = refl
-and_false false = refl
+filled : (bs : List ℕ) → is_nonempty bs ≡ true → 1 ≤ length bs
+filled [] h = absurd cc
+filled (b ∷ bs) h = omega arith
 
-pub at_mark : (marked counted : Bool) (b : ℕ) (bs : List ℕ) → b ≡ 0x3D → approximate_behind marked counted (b ∷ bs) ≡ approximate_behind true false bs
-at_mark marked counted b bs e = rw (e, and_false counted, and_false (is_nonempty (0x3D ∷ bs)), and_false marked) refl
+nonempty_of : (bs : List ℕ) → 1 ≤ length bs → is_nonempty bs ≡ true
+nonempty_of [] h = absurd (omega (arith, h))
+nonempty_of (b ∷ bs) h = nonempty b bs
 
-pub at_digit : (marked counted : Bool) (b : ℕ) (bs : List ℕ) → eqb b 0x3D ≡ false → is_ascii_digit b ≡ true → (counted ≡ true → marked ≡ true)
-    → approximate_behind marked counted (b ∷ bs) ≡ approximate_behind marked marked bs
-at_digit marked counted b bs e d h = rw (nonempty b bs, e, d) (go marked counted (list_all is_ascii_digit bs) (is_nonempty bs) (is_approximate bs) h)
+marked_behind : (b : ℕ) (bs : List ℕ) → IsApproximate bs → IsApproximate (b ∷ bs)
+marked_behind b bs (Digits front digits some only) = Digits (b ∷ front) digits some only
+
+pub approximate_is : (text : List ℕ) → is_approximate text ≡ true → IsApproximate text
+approximate_is [] e = absurd cc
+approximate_is (b ∷ bs) e = go (eqb b 0x3D && (is_nonempty bs && list_all is_ascii_digit bs)) refl e (approximate_is bs)
   where
-    go : (m n a e r : Bool) → (n ≡ true → m ≡ true) → ((n && a) || (m && a)) || r ≡ ((m && a) || (m && (e && a))) || r
-    go true true true e r h = refl
-    go true true false true r h = refl
-    go true true false false r h = refl
-    go true false true e r h = refl
-    go true false false true r h = refl
-    go true false false false r h = refl
-    go false true a e r h = absurd (let f = h refl in cc)
-    go false false a e r h = refl
+    go : (t : Bool) → (eqb b 0x3D && (is_nonempty bs && list_all is_ascii_digit bs)) ≡ t → (t || is_approximate bs) ≡ true → (is_approximate bs ≡ true → IsApproximate bs)
+        → IsApproximate (b ∷ bs)
+    go true h e behind =
+        let mark = and_parts (eqb b 0x3D) (is_nonempty bs && list_all is_ascii_digit bs) h in
+        let rest = and_parts (is_nonempty bs) (list_all is_ascii_digit bs) mark.1 in
+        subst (λ (c : ℕ). IsApproximate (c ∷ bs)) (sym (eqb-true b 0x3D mark.0)) (Digits [] bs (filled bs rest.0) rest.1)
+    go false h e behind = marked_behind b bs (behind e)
 
-pub at_other : (marked counted : Bool) (b : ℕ) (bs : List ℕ) → eqb b 0x3D ≡ false → is_ascii_digit b ≡ false
-    → approximate_behind marked counted (b ∷ bs) ≡ approximate_behind false false bs
-at_other marked counted b bs e d = rw (e, d, and_false counted, and_false (is_nonempty (b ∷ bs)), and_false marked) refl
+marked : (front digits : List ℕ) → 1 ≤ length digits → list_all is_ascii_digit digits ≡ true → is_approximate (front ++ 0x3D ∷ digits) ≡ true
+marked [] digits some only = or_left (is_nonempty digits && list_all is_ascii_digit digits) (is_approximate digits) (and_from (is_nonempty digits) (list_all is_ascii_digit digits) (nonempty_of digits some) only)
+marked (b ∷ front) digits some only =
+    let rest : List ℕ = front ++ 0x3D ∷ digits in
+    or_right (eqb b 0x3D && (is_nonempty rest && list_all is_ascii_digit rest)) (is_approximate rest) (marked front digits some only)
+
+pub is_marked : (text : List ℕ) → IsApproximate text → is_approximate text ≡ true
+is_marked text (Digits front digits some only) = marked front digits some only

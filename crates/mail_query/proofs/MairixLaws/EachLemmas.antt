@@ -3,6 +3,7 @@ use Rattle.std.proofs.Common.{◌≡◌, ℕ, suc, ◌+◌, ◌<◌, List, [], �
 use Rattle.contract_words.specs.Answers.{◌>>=◌, with_front}
 use Rattle.contract_words.proofs.Collecting.{with_front-append, with_front-nil, if_some_map}
 use Rattle.std.proofs.lemmas.List.{drop_all}
+use Rattle.mail_query.specs.declared.fault.QueryFault.{QueryFault}
 use Rattle.mail_query.specs.declared.fault.QueryFaultKind.{QueryFaultKind}
 use Rattle.mail_query.specs.declared.node.Node.{Node}
 use Rattle.mail_query.specs.Query.{Query, query_of, queries_of}
@@ -50,3 +51,7 @@ reads_none read texts nodes e = rw e (with_front-nil (each_read read texts))
 pub then_refused : {A B : Type 0} (r : Result A QueryFaultKind) (f : A → Result B QueryFaultKind) (refusal : Option QueryFaultKind)
     → IfSome refusal (λ kind. r ≡ Err kind) → IfSome refusal (λ kind. (r >>= f) ≡ Err kind)
 then_refused r f refusal h = if_some_map refusal (λ kind. r ≡ Err kind) (λ kind. (r >>= f) ≡ Err kind) (λ kind e. ap (λ x. x >>= f) e) h
+
+-- a fault of the pattern with this number
+abbrev pub at_number : ℕ → QueryFaultKind → QueryFault
+at_number n kind = record { number = n; kind = kind }

@@ -19,9 +19,6 @@ with_flags front rest = option_map (λ qs. front ++ qs) rest
 pub record HasRead (text : List ℕ) (nodes : List Node) (wanted : Bool) (i : ℕ) : Type 0 where
   pub whole : with_flags (queries_of nodes) (flags_behind wanted (drop i text)) ≡ flags_behind true text
 
-abbrev Here : List ℕ → ℕ → ℕ → Type 0
-Here text i b = (i < length text) × (get_or text i 0 ≡ b)
-
 next : (text : List ℕ) (i : ℕ) → i < length text → drop i text ≡ get_or text i 0 ∷ drop (i + 1) text
 next text i h = drop-cons text i 0 h ∙ ap (λ k. get_or text i 0 ∷ drop k text) (sym (add-one i))
 

@@ -16,6 +16,7 @@ use Rattle.mail_query.specs.Query.{Query, Not, all_of, either_of}
 use Rattle.mail_query.specs.Mairix.{Forms, plain_kinds, kinds_of, is_sign, is_id, id_forms, word_forms, some_if, each_read, atom_query, term_query, all_query, rest_query, prefixed_query, pattern_query, patterns_from, patterns_query}
 use Rattle.mail_query.specs.MairixGrammar.{is_among, kinds_named, Separated, Alone, Before, IsAtom, WholeWord, PartOfWord, FrontOfWord, IsTerm, Wanted, Unwanted, IsAll, EachTerm, IsRest, SomeAll, IsPattern, Plain, InKinds, OfId, OfDate, OfSize, OfFlags, ArePatterns, Only, AndAlso, IsAsked, EachPattern, HasNoSigns}
 use Rattle.mail_query.proofs.PieceLemmas.{other_byte, without_last-same}
+use Rattle.mail_query.proofs.MairixLaws.EachLemmas.{at_number}
 use Rattle.mail_query.proofs.MairixLaws.KindLemmas.{letters_read}
 use Rattle.mail_query.proofs.MairixLaws.FlagGrammarLemmas.{flags_read}
 use Rattle.mail_query.proofs.MairixLaws.SizeGrammarLemmas.{sizes_read}
@@ -74,7 +75,7 @@ module _ (forms : Forms) (plain : PlainForms forms) where
   marked_free : (c : ℕ) (sub : List ℕ) → is_sign c ≡ true → eqb 0x3D c ≡ false → list_any is_sign sub ≡ false → Free c (sub ++ 0x3D ∷ [])
   marked_free c sub sign differs h = any-append (is_byte c) sub (0x3D ∷ []) (free_of c sub sign h) (or_from (eqb 0x3D c) false differs refl)
 
-  atom_read : (text : List ℕ) (q : Query) → IsAtom forms text q → IsUtf8 text → AtomRead text q
+  pub atom_read : (text : List ℕ) (q : Query) → IsAtom forms text q → IsUtf8 text → AtomRead text q
   atom_read text q (WholeWord word sought e) utf8 =
       let h = plain.words word sought utf8 e in
       record { read = rw (not_approximate word h, e) refl; tilde = free_of 0x7E word refl h; comma = free_of 0x2C word refl h; slash = free_of 0x2F word refl h }
@@ -109,7 +110,7 @@ module _ (forms : Forms) (plain : PlainForms forms) where
     pub comma : Free 0x2C text
     pub slash : Free 0x2F text
 
-  term_read : (text : List ℕ) (q : Query) → IsTerm forms text q → IsUtf8 text → TermRead text q
+  pub term_read : (text : List ℕ) (q : Query) → IsTerm forms text q → IsUtf8 text → TermRead text q
   term_read text q (Wanted atom asked a) utf8 =
       let h = atom_read atom asked a utf8 in
       record { read = rw (first_free 0x7E atom h.tilde, term_query) h.read; comma = h.comma; slash = h.slash }
@@ -117,7 +118,7 @@ module _ (forms : Forms) (plain : PlainForms forms) where
       let h = atom_read atom asked a (utf8_behind [] atom 0x7E (omega arith) utf8) in
       record { read = ap (λ (r : Result Query QueryFaultKind). r >>= (λ x. Ok (Not x))) h.read; comma = h.comma; slash = h.slash }
 
-  all_read : (text : List ℕ) (q : Query) → IsAll forms text q → IsUtf8 text → (all_query forms text ≡ Ok q) × Free 0x2F text
+  pub all_read : (text : List ℕ) (q : Query) → IsAll forms text q → IsUtf8 text → (all_query forms text ≡ Ok q) × Free 0x2F text
   all_read text q (EachTerm t qs s) utf8 = (
     ap (λ (r : Result (List Query) QueryFaultKind). r >>= (λ xs. Ok (all_of xs)))
         (separated_read 0x2C (IsTerm forms) (term_query forms) (omega arith) (λ u x a v. let h = term_read u x a v in (h.read, h.comma)) t qs s utf8),
@@ -165,13 +166,13 @@ module _ (lexicon : Lexicon) (plain : HasNoSigns lexicon) where
       go false h d = h
 
   -- letters have no `:`
-  letters_free : (letters : List ℕ) → list_all (is_among (codes "tcfsban")) letters ≡ true → Free 0x3A letters
+  pub letters_free : (letters : List ℕ) → list_all (is_among (codes "tcfsban")) letters ≡ true → Free 0x3A letters
   letters_free [] h = refl
   letters_free (letter ∷ letters) h =
       let parts = and_parts (is_among (codes "tcfsban") letter) (list_all (is_among (codes "tcfsban")) letters) h in
       or_from (eqb letter 0x3A) (list_any (is_byte 0x3A) letters) (other_byte letter 0x3A (λ e. let same = ap (is_among (codes "tcfsban")) e in let named = parts.0 in cc)) (letters_free letters parts.1)
 
-  prefixed_letters : (letters rest : List ℕ) (kinds : Kinds) → kinds_of letters ≡ Some kinds → prefixed_query lexicon letters rest ≡ rest_query (word_forms lexicon kinds) rest
+  pub prefixed_letters : (letters rest : List ℕ) (kinds : Kinds) → kinds_of letters ≡ Some kinds → prefixed_query lexicon letters rest ≡ rest_query (word_forms lexicon kinds) rest
   prefixed_letters letters rest kinds e =
       rw (differs letters (codes "m") kinds e refl, differs letters (codes "d") kinds e refl, differs letters (codes "z") kinds e refl, differs letters (codes "F") kinds e refl, e) refl
 
@@ -193,9 +194,6 @@ module _ (lexicon : Lexicon) (plain : HasNoSigns lexicon) where
 
   all_behind : (pattern : List ℕ) (patterns : List (List ℕ)) → All IsUtf8 (pattern ∷ patterns) → All IsUtf8 patterns
   all_behind pattern patterns h = λ k d below. h (suc k) d (omega (arith, below))
-
-  abbrev at_number : ℕ → QueryFaultKind → QueryFault
-  at_number n kind = record { number = n; kind = kind }
 
   from_read : (n : ℕ) (patterns : List (List ℕ)) (qs : List Query) → ArePatterns lexicon patterns qs → All IsUtf8 patterns → patterns_from lexicon n patterns ≡ Ok qs
   from_read n patterns qs (Only pattern q a) utf8 =

@@ -6,15 +6,15 @@ use Rattle.std.specs.List.{slice_split, join_with_byte}
 use Rattle.std.proofs.lemmas.List.Splits.{length-slice_split, join_with_byte-slice_split}
 use Rattle.std.proofs.lemmas.Slice.Eq.{bytes_eq-Decides}
 use Rattle.contract_words.specs.Answers.{◌>>=◌, with_front, fault_as}
-use Rattle.mail_query.specs.declared.fault.QueryFault.{QueryFault}
 use Rattle.mail_query.specs.declared.fault.QueryFaultKind.{QueryFaultKind}
 use Rattle.mail_query.specs.declared.fault.QueryFaultKind.TheVariants.{BadWord, BadPrefix, BadDate, BadSize, BadFlag, Approximate}
 use Rattle.mail_query.specs.declared.kinds.Kinds.{Kinds}
 use Rattle.mail_query.specs.Pieces.{is_byte, cut, without_first, without_last}
 use Rattle.mail_query.specs.Lexicon.{Lexicon}
 use Rattle.mail_query.specs.Query.{Query, Word, Part, Prefix, Date, Not, all_of, either_of}
-use Rattle.mail_query.specs.Mairix.{Forms, plain_kinds, kinds_of, is_approximate, id_forms, word_forms, each_read, word_query, part_query, prefix_query, atom_query, term_query, all_query, rest_query, date_query, size_query, flags_query, prefixed_query, pattern_query, patterns_from, patterns_query}
+use Rattle.mail_query.specs.Mairix.{Forms, plain_kinds, kinds_of, is_approximate, id_forms, word_forms, each_read, word_query, part_query, prefix_query, marked_query, found_query, atom_query, term_query, all_query, rest_query, date_query, size_query, flags_query, prefixed_query, pattern_query, patterns_from, patterns_query}
 use Rattle.mail_query.specs.MairixGrammar.{Separated, Alone, Before, IsAtom, WholeWord, PartOfWord, FrontOfWord, IsTerm, Wanted, Unwanted, IsAll, EachTerm, IsRest, SomeAll, IsPattern, Plain, InKinds, OfId, OfDate, OfSize, OfFlags, ArePatterns, Only, AndAlso, IsAsked, EachPattern}
+use Rattle.mail_query.proofs.MairixLaws.EachLemmas.{at_number}
 use Rattle.mail_query.proofs.MairixLaws.KindLemmas.{read_letters}
 use Rattle.mail_query.proofs.MairixLaws.FlagGrammarLemmas.{read_flags}
 use Rattle.mail_query.proofs.MairixLaws.SizeGrammarLemmas.{read_sizes}
@@ -61,7 +61,7 @@ module _ (sign : ℕ) (Asks : List ℕ → Query → Type 0) (read : List ℕ �
 -- ---- atoms, terms and what they make
 
 module _ (forms : Forms) where
-  atom_read : (text : List ℕ) (q : Query) → atom_query forms text ≡ Ok q → IsAtom forms text q
+  pub atom_read : (text : List ℕ) (q : Query) → atom_query forms text ≡ Ok q → IsAtom forms text q
   atom_read text q e = go (is_approximate text) e
     where
       by_word : word_query forms text ≡ Some q → IsAtom forms text q
@@ -86,24 +86,21 @@ module _ (forms : Forms) where
       marked sub None i h e = behind sub (without_first 0x5E sub) i refl e
       marked sub (Some p) i h e = by_part sub i (h ∙ e)
 
-      unmarked : (o : Option (List ℕ)) → without_last 0x3D text ≡ o → option_and_then (λ sub. option_or (part_query forms sub) (option_and_then (prefix_query forms) (without_first 0x5E sub))) o ≡ Some q
+      unmarked : (o : Option (List ℕ)) → without_last 0x3D text ≡ o → option_and_then (marked_query forms) o ≡ Some q
           → IsAtom forms text q
       unmarked None h e = absurd cc
       unmarked (Some sub) h e = marked sub (part_query forms sub) (last_is 0x3D text sub h) refl e
 
       whole : (o : Option Query) → word_query forms text ≡ o
-          → option_or o (option_and_then (λ sub. option_or (part_query forms sub) (option_and_then (prefix_query forms) (without_first 0x5E sub))) (without_last 0x3D text)) ≡ Some q → IsAtom forms text q
+          → option_or o (option_and_then (marked_query forms) (without_last 0x3D text)) ≡ Some q → IsAtom forms text q
       whole None h e = unmarked (without_last 0x3D text) refl e
       whole (Some p) h e = by_word (h ∙ e)
 
-      go : (t : Bool)
-          → cond t (Err Approximate)
-          (ok_or (option_or (word_query forms text) (option_and_then (λ sub. option_or (part_query forms sub) (option_and_then (prefix_query forms) (without_first 0x5E sub))) (without_last 0x3D text))) BadWord)
-          ≡ Ok q → IsAtom forms text q
+      go : (t : Bool) → cond t (Err Approximate) (ok_or (found_query forms text) BadWord) ≡ Ok q → IsAtom forms text q
       go true e = absurd cc
       go false e = whole (word_query forms text) refl (found _ BadWord q e)
 
-  term_read : (text : List ℕ) (q : Query) → term_query forms text ≡ Ok q → IsTerm forms text q
+  pub term_read : (text : List ℕ) (q : Query) → term_query forms text ≡ Ok q → IsTerm forms text q
   term_read text q e = go (without_first 0x7E text) refl e
     where
       go : (o : Option (List ℕ)) → without_first 0x7E text ≡ o → (let r : Result Query QueryFaultKind = elim o [ None ↦ atom_query forms text | Some atom ↦ atom_query forms atom >>= (λ x. Ok (Not x)) ] in r) ≡ Ok q → IsTerm forms text q
@@ -113,7 +110,7 @@ module _ (forms : Forms) where
           let same : Not a.0 ≡ q = cc in
           subst (λ (t : List ℕ). IsTerm forms t q) (sym (first_is 0x7E text atom h)) (subst (IsTerm forms (0x7E ∷ atom)) same (Unwanted atom a.0 (atom_read atom a.0 a.1)))
 
-  all_read : (text : List ℕ) (q : Query) → all_query forms text ≡ Ok q → IsAll forms text q
+  pub all_read : (text : List ℕ) (q : Query) → all_query forms text ≡ Ok q → IsAll forms text q
   all_read text q e =
       let a = bind_ok (each_read (term_query forms) (slice_split (is_byte 0x2C) text)) (λ qs. Ok (all_of qs)) q e in
       let same : all_of a.0 ≡ q = cc in
@@ -159,9 +156,6 @@ module _ (lexicon : Lexicon) where
       go : (o : Option (List ℕ × List ℕ)) → cut 0x3A text ≡ o → (let r : Result Query QueryFaultKind = elim o [ None ↦ rest_query (word_forms lexicon plain_kinds) text | Some p ↦ prefixed_query lexicon p.0 p.1 ] in r) ≡ Ok q → IsPattern lexicon text q
       go None h e = Plain text q (uncut_free 0x3A text h) (rest_read (word_forms lexicon plain_kinds) text q e)
       go (Some p) h e = subst (λ (t : List ℕ). IsPattern lexicon t q) (sym (cut_is 0x3A text p h)) (prefixed p.0 p.1 q e)
-
-  abbrev at_number : ℕ → QueryFaultKind → QueryFault
-  at_number n kind = record { number = n; kind = kind }
 
   read_from : (n : ℕ) (pattern : List ℕ) (patterns : List (List ℕ)) (qs : List Query) → patterns_from lexicon n (pattern ∷ patterns) ≡ Ok qs → ArePatterns lexicon (pattern ∷ patterns) qs
   read_from n pattern [] qs e =

@@ -10,7 +10,7 @@ use Rattle.std.proofs.lemmas.Str.{encodes-chars, NoCharPasses-byte}
 use Rattle.mail_words.specs.Words.{is_joiner, is_one_word, is_part_of_word, word_limit}
 use Rattle.mail_words.proofs.Characters.{is_word_character-ascii}
 use Rattle.mail_words.proofs.OneWord.{is_one_word-parts}
-use Rattle.mail_words.proofs.WordTests.{is_piece}
+use Rattle.mail_words.specs.Inside.Runs.{is_piece}
 use Rattle.mail_dates.specs.declared.range.Range.{Range}
 use Rattle.mail_query.specs.Mairix.{is_sign}
 use Rattle.mail_query.specs.MairixGrammar.{HasNoSigns}

@@ -118,6 +118,18 @@ cut_is c (b ∷ bs) p e = go (eqb b c) refl e (λ r h. cut_is c bs r h)
         let m = map_some (λ (r : List ℕ × List ℕ). (b ∷ r.0, r.1)) (cut c bs) p e in
         ap (λ (t : List ℕ). b ∷ t) (k m.0 m.1) ∙ ap (λ (r : List ℕ × List ℕ). r.0 ++ c ∷ r.1) m.2
 
+-- the byte cuts first where it stands first
+pub cut_free : (c : ℕ) (text : List ℕ) (p : List ℕ × List ℕ) → cut c text ≡ Some p → Free c p.0
+cut_free c [] p e = absurd cc
+cut_free c (b ∷ bs) p e = go (eqb b c) refl e (λ r h. cut_free c bs r h)
+  where
+    go : (t : Bool) → eqb b c ≡ t → cond t (Some ([], bs)) (option_map (λ (r : List ℕ × List ℕ). (b ∷ r.0, r.1)) (cut c bs)) ≡ Some p
+        → ((r : List ℕ × List ℕ) → cut c bs ≡ Some r → Free c r.0) → Free c p.0
+    go true h e k = let s : ([], bs) ≡ p = cc in subst (λ (r : List ℕ × List ℕ). Free c r.0) s refl
+    go false h e k =
+        let m = map_some (λ (r : List ℕ × List ℕ). (b ∷ r.0, r.1)) (cut c bs) p e in
+        subst (λ (r : List ℕ × List ℕ). Free c r.0) m.2 (or_from (eqb b c) (list_any (is_byte c) m.0.0) h (k m.0 m.1))
+
 pub uncut_free : (c : ℕ) (text : List ℕ) → cut c text ≡ None → list_any (is_byte c) text ≡ false
 uncut_free c [] e = refl
 uncut_free c (b ∷ bs) e = go (eqb b c) (cut c bs) refl refl e (uncut_free c bs)

@@ -1,0 +1,5 @@
+use Rattle.mail_query.proofs.MairixLaws.FaultExact.{faulty_or_asked}
+use Rattle.mail_query.proofs.laws.what_is_no_pattern_shows_a_fault.Goals as goal
+
+pub returns : goal.returns
+returns c = λ lexicon patterns plain utf8. faulty_or_asked lexicon plain patterns utf8
