@@ -1,4 +1,5 @@
 -- Laws of archives that are read at places.
+pub mod AskedLemmas
 pub mod CallLemmas
 pub mod DigestLemmas
 pub mod IndexedLemmas

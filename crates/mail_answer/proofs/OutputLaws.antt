@@ -1,5 +1,6 @@
 -- Laws of what an answer writes.
 pub mod ByteLists
+pub mod ChosenArchives
 pub mod ChosenBelow
 pub mod ClosedLemmas
 pub mod ClosedMessages
@@ -17,3 +18,4 @@ pub mod SentLemmas
 pub mod Separated
 pub mod SheetLemmas
 pub mod SpanLemmas
+pub mod SpanWrites

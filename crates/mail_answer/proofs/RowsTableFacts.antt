@@ -1,5 +1,5 @@
 -- Rows: what a table of two messages says of them, and which of them some queries choose.
-use Rattle.std.specs.Prelude.{◌≡◌, true, false, [], ◌∷◌, replicate, None, Some, codes, refl, pos}
+use Rattle.std.specs.Prelude.{◌≡◌, ℕ, true, false, List, [], ◌∷◌, map, replicate, None, Some, codes, refl, pos}
 use Rattle.mail_words.specs.declared.kind.TextKind.TheVariants.{Subject, Body, Name}
 use Rattle.mail_words.specs.declared.flags.Flag.TheVariants.{Seen}
 use Rattle.mail_index.specs.declared.kind.Kind.TheVariants.{Text, OwnId, LinkId}
@@ -7,7 +7,7 @@ use Rattle.mail_index.specs.Versions.{newest}
 use Rattle.mail_index.specs.Tables.{Table}
 use Rattle.mail_query.specs.declared.kinds.Kinds.{Kinds}
 use Rattle.mail_query.specs.Kinds.{no_kinds}
-use Rattle.mail_query.specs.Query.{Any, Word, Part, Prefix, Date, Size, HasFlag, Not, All, Either, End, More}
+use Rattle.mail_query.specs.Query.{Query, Any, Word, Part, Prefix, Date, Size, HasFlag, Not, All, Either, End, More}
 use Rattle.mail_answer.specs.TableFacts.{texts_with, facts_at, truths, chosen_numbers}
 
 -- the first, without a date and of 19 bytes, has the own id 1@x, the subject hello and the text hi; the second, seen, is of 30 bytes
@@ -44,66 +44,22 @@ subject_name = record no_kinds { subject = true; name = true }
 abbrev own : Kinds
 own = record no_kinds { own_id = true }
 
-subjects_of_the_second : texts_with (Text Subject) 1 two.keys ≡ codes "hello" ∷ codes "re" ∷ []
-subjects_of_the_second = refl
+facts : (texts_with (Text Subject) 1 two.keys ≡ codes "hello" ∷ codes "re" ∷ [])
+    × ((facts_at two 1).size ≡ 30)
+    -- there is no third message
+    × (texts_with (Text Subject) 2 two.keys ≡ [])
+facts = (refl, refl, refl)
 
-size_of_the_second : (facts_at two 1).size ≡ 30
-size_of_the_second = refl
+-- each of these queries chooses just these messages
+abbrev Choose : List ℕ → List Query → Type 0
+Choose numbers queries = map (chosen_numbers two) queries ≡ map (λ _. numbers) queries
 
-no_third_message : texts_with (Text Subject) 2 two.keys ≡ []
-no_third_message = refl
-
-each_has_the_word : chosen_numbers two (Word subject (codes "hello")) ≡ 0 ∷ 1 ∷ []
-each_has_the_word = refl
-
-a_word_of_another_kind : chosen_numbers two (Word subject (codes "hi")) ≡ []
-a_word_of_another_kind = refl
-
-some_kind_of_a_group : chosen_numbers two (Word subject_body (codes "re")) ≡ 1 ∷ []
-some_kind_of_a_group = refl
-
-a_whole_word : chosen_numbers two (Word body (codes "hi")) ≡ 0 ∷ []
-a_whole_word = refl
-
-a_front_of_words : chosen_numbers two (Prefix body (codes "hi")) ≡ 0 ∷ 1 ∷ []
-a_front_of_words = refl
-
-a_part_at_the_end : chosen_numbers two (Part body (codes "gh")) ≡ 1 ∷ []
-a_part_at_the_end = refl
-
-the_name_of_a_part : chosen_numbers two (Word name (codes "re.pdf")) ≡ 1 ∷ []
-the_name_of_a_part = refl
-
-a_name_is_no_subject : chosen_numbers two (Word subject (codes "pdf")) ≡ []
-a_name_is_no_subject = refl
-
-a_front_in_subjects_or_names : chosen_numbers two (Prefix subject_name (codes "h")) ≡ 0 ∷ 1 ∷ []
-a_front_in_subjects_or_names = refl
-
--- a link id is no own id
-the_own_id_alone : chosen_numbers two (Word own (codes "1@x")) ≡ 0 ∷ []
-the_own_id_alone = refl
-
-no_date_is_in_no_range : chosen_numbers two (Date (record { from = None; until = None })) ≡ 1 ∷ []
-no_date_is_in_no_range = refl
-
-an_end_is_included : chosen_numbers two (Size 19 (Some 30)) ≡ 0 ∷ 1 ∷ []
-an_end_is_included = refl
-
-a_flag_that_is_not_wanted : chosen_numbers two (HasFlag Seen false) ≡ 0 ∷ []
-a_flag_that_is_not_wanted = refl
-
-a_complement_over_all_messages : chosen_numbers two (Not (Word body (codes "nobody"))) ≡ 0 ∷ 1 ∷ []
-a_complement_over_all_messages = refl
-
-each_of_none : truths two (All End) ≡ true ∷ true ∷ []
-each_of_none = refl
-
-some_of_none : truths two (Either End) ≡ false ∷ false ∷ []
-some_of_none = refl
-
-some_of_two : chosen_numbers two (Either (More (Word body (codes "hi")) (More (Size 30 None) End))) ≡ 0 ∷ 1 ∷ []
-some_of_two = refl
-
-each_of_two : truths two (All (More Any (More (Not (Word subject (codes "re"))) End))) ≡ true ∷ false ∷ []
-each_of_two = refl
+-- a link id is no own id, and no date is in no range
+chosen : Choose (0 ∷ []) (Word body (codes "hi") ∷ Word own (codes "1@x") ∷ HasFlag Seen false ∷ [])
+    × Choose (1 ∷ []) (Word subject_body (codes "re") ∷ Part body (codes "gh") ∷ Word name (codes "re.pdf") ∷ Date (record { from = None; until = None }) ∷ [])
+    × Choose (0 ∷ 1 ∷ []) (Word subject (codes "hello") ∷ Prefix body (codes "hi") ∷ Prefix subject_name (codes "h") ∷ Size 19 (Some 30)
+    ∷ Not (Word body (codes "nobody")) ∷ Either (More (Word body (codes "hi")) (More (Size 30 None) End)) ∷ [])
+    × Choose [] (Word subject (codes "hi") ∷ Word subject (codes "pdf") ∷ [])
+    × (map (truths two) (All End ∷ Either End ∷ All (More Any (More (Not (Word subject (codes "re"))) End)) ∷ [])
+    ≡ (true ∷ true ∷ []) ∷ (false ∷ false ∷ []) ∷ (true ∷ false ∷ []) ∷ [])
+chosen = (refl, refl, refl, refl, refl)

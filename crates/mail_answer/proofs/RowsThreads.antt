@@ -19,21 +19,10 @@ six = record {
       ∷ record { kind = LinkId; text = codes "6@x"; numbers = 5 ∷ [] } ∷ [];
 }
 
-a_message_and_what_it_answers : are_linked six 2 1 ≡ true
-a_message_and_what_it_answers = refl
+-- a message and what it answers are linked, the first and the third share no id, an id that no message has links, and an own id doesn't
+links : (are_linked six 2 1 ≡ true) × (are_linked six 0 2 ≡ false) × (are_linked six 4 5 ≡ true) × (are_linked six 2 3 ≡ false)
+links = (refl, refl, refl, refl)
 
-the_first_and_the_third_share_no_id : are_linked six 0 2 ≡ false
-the_first_and_the_third_share_no_id = refl
-
-yet_they_are_in_one_thread : IsInThread six 0 2
-yet_they_are_in_one_thread = (1 ∷ 2 ∷ [], (refl, (refl, refl)))
-
-an_id_that_no_message_has : are_linked six 4 5 ≡ true
-an_id_that_no_message_has = refl
-
--- an own id is no link
-own_ids_link_nothing : are_linked six 2 3 ≡ false
-own_ids_link_nothing = refl
-
-without_ids_it_is_in_its_own_thread : IsInThreadOfSome six (3 ∷ []) 3
-without_ids_it_is_in_its_own_thread = (3, refl, ([], refl))
+-- the first and the third are in one thread all the same; without ids a message is in its own thread
+threads : IsInThread six 0 2 × IsInThreadOfSome six (3 ∷ []) 3
+threads = ((1 ∷ 2 ∷ [], (refl, (refl, refl))), (3, refl, ([], refl)))

@@ -1,6 +1,7 @@
 -- What archives that are read at any place tell of their bytes, where these are known.
-use Rattle.std.specs.Prelude.{◌≡◌, ℕ, List, [], Option, IfSome, length, take, drop}
+use Rattle.std.specs.Prelude.{◌≡◌, ℕ, List, [], Option, IfSome, Result, Ok, Err, length, take, drop}
 use Rattle.std.specs.List.{slice_index_or}
+use Rattle.mbox_cutter.specs.declared.device.DeviceFault.{DeviceFault}
 
 -- the bytes of the archive of this number
 abbrev pub archive_at : List (List ℕ) → ℕ → List ℕ
@@ -16,3 +17,8 @@ IsLength n bytes held = IfSome held (λ archives. bytes ≡ length (archive_at a
 abbrev pub IsRead : ℕ → ℕ → List ℕ → Option (List (List ℕ)) → Type 0
 IsRead n offset bytes held = IfSome held (λ archives. (bytes ≡ take (length bytes) (drop offset (archive_at archives n)))
     × (length bytes ≡ 0 → drop offset (archive_at archives n) ≡ []))
+
+-- The bytes that a call answers by their number, in front of a slice.
+abbrev pub bytes_told : Result ℕ DeviceFault → List ℕ → Result (List ℕ) DeviceFault
+bytes_told (Ok count) into = Ok (take count into)
+bytes_told (Err fault) into = Err fault

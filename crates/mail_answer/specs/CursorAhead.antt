@@ -1,11 +1,13 @@
 -- What a walk through the messages of an index still gives, one truth a message.
-use Rattle.std.specs.Prelude.{◌≡◌, ℕ, ◌+◌, ◌<◌, ◌≤◌, nat_le, Bool, true, false, not, ◌&&◌, ◌||◌, max, List, [], ◌∷◌, MatchOption, Option, Some, None, min}
+use Rattle.std.specs.Prelude.{◌≡◌, ℕ, ◌+◌, ◌-◌, ◌<◌, ◌≤◌, nat_le, Bool, true, false, not, ◌&&◌, ◌||◌, max, List, [], ◌∷◌, MatchOption, Option, Some, None, min}
+use Rattle.mail_index.specs.Steps.{add_steps}
 use Rattle.mail_answer.specs.Marks.{truth_at, each_number}
 
--- whether each message is still to come, how many steps are left at most, and how many levels lie below
+-- whether each message is still to come, how many steps are left at most, how many of these are postings, and how many levels lie below
 pub record Ahead : Type 0 where
   pub truths : List Bool
   pub left : ℕ
+  pub postings : ℕ
   pub below : ℕ
 
 -- the messages still to come in both lists
@@ -39,6 +41,10 @@ abbrev pub left_in : List Ahead → ℕ
 left_in [] = 0
 left_in (w ∷ ws) = w.left + left_in ws
 
+abbrev pub postings_in : List Ahead → ℕ
+postings_in [] = 0
+postings_in (w ∷ ws) = w.postings + postings_in ws
+
 -- one level more than the most below some walk
 abbrev pub levels : List Ahead → ℕ
 levels [] = 0
@@ -71,3 +77,13 @@ lesser_of (Some m) (Some n) = Some (min m n)
 pub record Spends (old_left new_left old_steps new_steps : ℕ) : Type 0 where
   pub rises : old_steps ≤ new_steps
   pub most : new_steps + new_left ≤ old_steps + old_left
+
+-- the steps rose by just what is left fewer, up to the greatest value of their count
+pub record Counts (old_left new_left old_steps new_steps : ℕ) : Type 0 where
+  pub fewer : new_left ≤ old_left
+  pub counted : new_steps ≡ add_steps old_steps (old_left - new_left)
+
+-- the steps rose by no less than the postings that are left fewer, up to the greatest value of their count
+pub record CountsPostings (old_postings new_postings old_steps new_steps : ℕ) : Type 0 where
+  pub fewer : new_postings ≤ old_postings
+  pub counted : add_steps old_steps (old_postings - new_postings) ≤ new_steps

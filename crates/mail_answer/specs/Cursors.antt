@@ -9,10 +9,11 @@ use Rattle.mail_query.specs.Kinds.{has_kind}
 use Rattle.mail_query.specs.Query.{Query, Word, Part, Prefix, Not, All, Either, Queries, End, More}
 use Rattle.mail_query.specs.Truth.{text_kinds, contains_text, begins_with}
 
--- the rising numbers of the messages still to come, and how many steps are left at most
+-- the rising numbers of the messages still to come, how many steps are left at most, and how many of these are postings
 pub record ToCome : Type 0 where
   pub numbers : List ℕ
   pub left : ℕ
+  pub postings : ℕ
 
 abbrev pub is_in : Kinds → Kind → Bool
 is_in kinds (Text kind) = has_kind kinds kind

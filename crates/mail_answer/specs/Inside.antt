@@ -16,3 +16,4 @@ pub mod HeaderReads
 pub mod NumbersToCome
 pub mod PassedArchives
 pub mod Readings
+pub mod Spans

@@ -11,6 +11,8 @@ pub mod Sheets
 pub mod Excerpts
 pub mod Shapes
 pub mod Stale
+pub mod Asked
+pub mod Pieces
 pub mod Verified
 pub mod Closing
 pub mod Answers

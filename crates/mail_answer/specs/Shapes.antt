@@ -1,5 +1,5 @@
 -- The three forms of an answer.
-use Rattle.std.specs.Prelude.{ℕ, Bool, List, [], ◌∷◌, ◌++◌, Option, Some, if◌then◌else◌, take, drop, unwrap_or}
+use Rattle.std.specs.Prelude.{◌≡◌, ℕ, Bool, map, length, List, [], ◌∷◌, ◌++◌, Option, Some, if◌then◌else◌, take, drop, unwrap_or}
 use Rattle.std.specs.Fmt.{decimal}
 use Rattle.std.specs.List.{flat_map, slice_get}
 use Rattle.std.specs.Option.{option_map}
@@ -50,6 +50,10 @@ message_text Mbox named archives m = closed (span archives m)
 -- the texts of the messages of these numbers, one behind another
 abbrev pub answer_text : Format → Table → List (List ℕ) → List ℕ → List ℕ
 answer_text format t archives numbers = flat_map (λ n. message_text format t.archives archives (record_at t.messages n)) numbers
+
+-- So many bytes for each of the messages of these numbers as it has.
+abbrev pub AreSpansOf : Table → List ℕ → List (List ℕ) → Type 0
+AreSpansOf t numbers spans = map length spans ≡ map (λ n. (record_at t.messages n).length) numbers
 
 -- What is known of it: a raw answer doesn't ask what bytes the archives hold.
 abbrev pub known_answer : Format → Table → Option (List (List ℕ)) → List ℕ → Option (List ℕ)

@@ -1,17 +1,22 @@
 //! Answers in each form.
-ghost use Rattle.std.specs.Prelude.{◌≡◌, ◌≢◌, ◌<◌, ◌-◌, ◌^◌, [], false, length, min, Err, IfOk, OnOk, IfErr, IfSome};
+//!
+//! Decision 76 in docs/DECISIONS.md says why it is so.
+ghost use Rattle.std.specs.Prelude.{◌≡◌, ◌≢◌, ◌<◌, ◌-◌, ◌^◌, ℕ, List, [], false, length, min, Err, IfOk, OnOk, IfErr, IfSome};
 ghost use Rattle.std.specs.Bool.{OnTrue};
 ghost use Rattle.contract_words.specs.Devices.{Counted};
 ghost use Rattle.mail_index.specs.Tables.{IsWellFormed};
-ghost use Rattle.mail_answer.specs.Answers.{SendsKnown, AnswersStale, fails_by};
-ghost use Rattle.mail_answer.specs.Inside.Calls.{AreAsIndexed, KeepsArchives, ReadsArchives, WritesOut};
+ghost use Rattle.mail_answer.specs.Asked.{AsksFirst, IsArchiveOfSome};
+ghost use Rattle.mail_answer.specs.Answers.{SendsKnown, SendsSpans, AnswersStale, fails_by};
+ghost use Rattle.mail_answer.specs.Inside.Calls.{AreAsIndexed, HoldsArchives, KeepsArchives, ReadsArchives, WritesOut};
 ghost use Rattle.mail_answer.specs.Inside.CursorLists.{AreNumbers};
 ghost use Rattle.mail_answer.specs.Faults.{has_fault, is_of_output, is_of_archives, is_stale, IfStale};
+ghost use Rattle.mail_answer.specs.Inside.Spans.{WritesSpan, WritesSpans};
+ghost use Rattle.mail_answer.specs.Mail.{AreChosen};
 ghost use Rattle.mail_answer.specs.Shapes.{known_answer, known_message};
 ghost use Rattle.mail_answer.specs.Sheets.{Writes};
 ghost use Rattle.mail_answer.specs.Stale.{stale_archive};
 ghost use Rattle.mail_answer.specs.TableFacts.{record_at};
-ghost use Rattle.mail_answer.specs.TableAnswers.{TableAnswer, IsTableAnswer, Answers, IsBeforeText, search_of, is_unwritten};
+ghost use Rattle.mail_answer.specs.TableAnswers.{TableAnswer, IsTableAnswer, Answers, IsBeforeText, mail_told, search_of, is_unwritten};
 
 use crate::archives::Archives;
 use crate::archives::stale::check_archives;
@@ -46,8 +51,9 @@ fn push_message<A: Archives, O: Out>(
     ensures archives { ReadsArchives A.Archives archives.old archives.new result }
     ensures same { places.new.table ≡ places.old.table }
     ensures writes { Writes (O.taken out.old) (O.taken out.new) sheet.old sheet.new (known_message format places.old.table (A.held archives.old) n) result }
+    ensures span { format ≡ Format.Mbox → WritesSpan (O.taken out.old) (O.taken out.new) sheet.old sheet.new (record_at places.old.table.messages n).length result }
     ensures out { WritesOut O.Out sheet.new.sent out.old out.new result }
-    ensures raw { format ≡ Format.Raw → (has_fault is_of_archives result ≡ false) × (has_fault is_stale result ≡ false) }
+    ensures raw { format ≡ Format.Raw → (has_fault is_of_archives result ≡ false) × (has_fault is_stale result ≡ false) × (archives.new ≡ archives.old) }
     ensures stale { IfErr result (λ kind. IfStale kind (λ archive. archive ≡ (record_at places.old.table.messages n).archive)) }
 {
     match format {
@@ -75,11 +81,13 @@ fn write_messages<A: Archives, O: Out>(
     ensures archives { ReadsArchives A.Archives archives.old archives.new result }
     ensures same { places.new.table ≡ places.old.table }
     ensures writes { Writes (O.taken out.old) (O.taken out.new) sheet.old sheet.new (known_answer format places.old.table (A.held archives.old) numbers.old) result }
+    ensures spans { format ≡ Format.Mbox → WritesSpans (O.taken out.old) (O.taken out.new) sheet.old sheet.new places.old.table numbers.old result }
     ensures messages { IfOk result (λ count. count ≡ length numbers.old) }
     ensures all { OnOk result (sheet.new.text ≡ []) }
     ensures out { WritesOut O.Out sheet.new.sent out.old out.new result }
-    ensures raw { format ≡ Format.Raw → (has_fault is_of_archives result ≡ false) × (has_fault is_stale result ≡ false) }
+    ensures raw { format ≡ Format.Raw → (has_fault is_of_archives result ≡ false) × (has_fault is_stale result ≡ false) × (archives.new ≡ archives.old) }
     ensures below { IfErr result (λ kind. IfStale kind (λ archive. archive < length places.old.table.archives)) }
+    ensures stale { IfErr result (λ kind. IfStale kind (IsArchiveOfSome places.old.table numbers.old)) }
 {
     let mut count: u64 = 0;
     while let Some(n) = numbers.next() {
@@ -106,12 +114,14 @@ fn write_checked<A: Archives, O: Out>(
     requires out { O.failures out.old < 2 ^ 64 - 1 }
     ensures keeps { KeepsArchives A.Archives archives.old archives.new }
     ensures text { SendsKnown (O.taken out.old) (O.taken out.new) (known_answer format index.now (A.held archives.old) numbers.entry) (length numbers.entry) result }
+    ensures spans { format ≡ Format.Mbox → SendsSpans (O.taken out.old) (O.taken out.new) index.now numbers.entry result }
     ensures fresh { IfSome (A.held archives.old) (λ _. fails_by is_stale result ≡ false) }
     ensures out_count { Counted (fails_by is_of_output result) (O.failures out.old) (O.failures out.new) }
     ensures archives_count { Counted (fails_by is_of_archives result) (A.failures archives.old) (A.failures archives.new) }
-    ensures raw { format ≡ Format.Raw → IfErr result (λ fault. IsBeforeText fault.kind fault.sent) }
+    ensures raw { format ≡ Format.Raw → (fails_by is_of_archives result ≡ false) × (fails_by is_stale result ≡ false) × (archives.new ≡ archives.old) }
     ensures unwritten { OnTrue (is_unwritten result) (out.new ≡ out.old) }
     ensures below { IfErr result (λ fault. IfStale fault.kind (λ n. n < length index.now.archives)) }
+    ensures stale { IfErr result (λ fault. IfStale fault.kind (IsArchiveOfSome index.now numbers.entry)) }
 {
     let mut places = Places::of(index);
     let mut sheet = Sheet::new(alloc);
@@ -145,10 +155,13 @@ fn write_answer<A: Archives, O: Out>(
     requires table { IsWellFormed index.now }
     requires archives { A.failures archives.old < 2 ^ 64 - 1 }
     requires out { O.failures out.old < 2 ^ 64 - 1 }
-    ensures keeps { KeepsArchives A.Archives archives.old archives.new }
+    ensures keeps { HoldsArchives A.Archives archives.old archives.new }
     ensures answered { (a : TableAnswer) → IsTableAnswer index.now (search_of query.now threads format) (A.held archives.old) a → Answers (O.taken out.old) (O.taken out.new) a result }
+    ensures spans { format ≡ Format.Mbox → (numbers : List ℕ) → AreChosen (mail_told index.now) (search_of query.now threads format) numbers → SendsSpans (O.taken out.old) (O.taken out.new) index.now numbers result }
     ensures stale { IfSome (A.held archives.old) (λ bytes. AnswersStale (O.taken out.old) (O.taken out.new) (stale_archive index.now.archives bytes) result) }
     ensures other_count { A.number archives.old ≢ length index.now.archives → result ≡ Err (record { kind = AnswerFaultKind.Stale (min (A.number archives.old) (length index.now.archives)); sent = 0 }) }
+    ensures asked { A.number archives.old ≡ length index.now.archives → AsksFirst A.Archives index.now (search_of query.now threads format) archives.old archives.new result }
+    ensures unasked { A.number archives.old ≢ length index.now.archives → archives.new ≡ archives.old }
     ensures out_count { Counted (fails_by is_of_output result) (O.failures out.old) (O.failures out.new) }
     ensures archives_count { Counted (fails_by is_of_archives result) (A.failures archives.old) (A.failures archives.new) }
     ensures raw { format ≡ Format.Raw → IfErr result (λ fault. IsBeforeText fault.kind fault.sent) }
@@ -193,9 +206,16 @@ pub fn answer<A: Archives, O: Out>(
     // What the table answers goes out, or a front of it: its number of messages whatever the archives hold, and its text
     // where their bytes are known or aren't asked.
     ensures answered { (a : TableAnswer) → IsTableAnswer index.now (search_of query.now threads format) (A.held archives.old) a → Answers (O.taken out.old) (O.taken out.new) a result }
+    // An mbox answer is bytes for each message, as many as were indexed, and the LFs that close them, whether the archives' bytes
+    // are known or not.
+    ensures spans { format ≡ Format.Mbox → (numbers : List ℕ) → AreChosen (mail_told index.now) (search_of query.now threads format) numbers → SendsSpans (O.taken out.old) (O.taken out.new) index.now numbers result }
     // Stale exactly where the known bytes have another count or length than was indexed, before anything is written.
     ensures stale { IfSome (A.held archives.old) (λ bytes. AnswersStale (O.taken out.old) (O.taken out.new) (stale_archive index.now.archives bytes) result) }
     ensures other_count { A.number archives.old ≢ length index.now.archives → result ≡ Err (record { kind = AnswerFaultKind.Stale (min (A.number archives.old) (length index.now.archives)); sent = 0 }) }
+    // Before anything else each archive is asked for its length, once and in order, up to the first that has another one, which
+    // is Stale, or that fails, which is Device. A raw answer asks nothing more of the archives.
+    ensures asked { A.number archives.old ≡ length index.now.archives → AsksFirst A.Archives index.now (search_of query.now threads format) archives.old archives.new result }
+    ensures unasked { A.number archives.old ≢ length index.now.archives → archives.new ≡ archives.old }
     // Of as many archives as were indexed it names one, whether their bytes are known or not.
     ensures below { A.number archives.old ≡ length index.now.archives → IfErr result (λ fault. IfStale fault.kind (λ n. n < length index.now.archives)) }
     // Each device's count rises by one exactly where its failure is answered.

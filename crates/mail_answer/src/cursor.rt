@@ -1,8 +1,10 @@
 //! Cursors: the messages that satisfy a query, one after another, in the order of their numbers.
+//!
+//! Decisions 74 and 75 in docs/DECISIONS.md say why it is so.
 ghost use Rattle.std.specs.Prelude.{◌≡◌, ◌≤◌, ℕ, Some, length, IfOk};
 ghost use Rattle.mail_query.specs.Meaning.{meaning};
 ghost use Rattle.mail_answer.specs.TableFacts.{chosen_numbers};
-ghost use Rattle.mail_answer.specs.CursorAhead.{Spends};
+ghost use Rattle.mail_answer.specs.CursorAhead.{CountsPostings, Spends};
 ghost use Rattle.mail_answer.specs.CursorNumbers.{numbers_from, AreWithin, TakesFirst, TakesFrom};
 
 mod begin;
@@ -38,7 +40,7 @@ impl<'a> Model for Cursor<'a> {
 
     ghost Value = { ToCome };
 
-    ghost view = { λ s. record { numbers = numbers_from s.low s.count s.walk.truths; left = s.walk.left } };
+    ghost view = { λ s. record { numbers = numbers_from s.low s.count s.walk.truths; left = s.walk.left; postings = s.walk.postings } };
 
     ghost invariant = { λ s. AreWithin s.count s.walk.truths };
 }
@@ -56,6 +58,7 @@ fn take_from(
     ensures least { (k : ℕ) → result ≡ Some k → n ≤ k }
     ensures within { AreWithin count walk.new.truths }
     ensures steps { Spends walk.old.left walk.new.left steps.old steps.new }
+    ensures postings { CountsPostings walk.old.postings walk.new.postings steps.old steps.new }
 {
     let number = match walk.least_from(n, steps) {
         Some(number) => number,
@@ -94,20 +97,24 @@ impl<'a> Cursor<'a> {
         })
     }
 
-    /// The next number. Takes no memory, and at most as many steps as `left` falls by.
+    /// The next number. Takes no memory, at most as many steps as `left` falls by, and at least one for
+    /// each posting that is dropped.
     pub fn next(&mut self, steps: &mut Steps) -> Option<u32>
         ensures number { TakesFirst self.old.numbers self.new.numbers result }
         ensures steps { Spends self.old.left self.new.left steps.old steps.new }
+        ensures postings { CountsPostings self.old.postings self.new.postings steps.old steps.new }
     {
         let from = self.low;
         take_from(&mut self.walk, &mut self.low, self.count, from, steps)
     }
 
-    /// The least number to come that is at least n. It and all before it are dropped, or all where there is none. Takes no memory,
-    /// and at most as many steps as `left` falls by.
+    /// The least number to come that is at least n. It and all before it are dropped, or all where there
+    /// is none. Takes no memory, at most as many steps as `left` falls by, and at least one for each
+    /// posting that is dropped.
     pub fn next_at_least(&mut self, n: u32, steps: &mut Steps) -> Option<u32>
         ensures number { TakesFrom n self.old.numbers self.new.numbers result }
         ensures steps { Spends self.old.left self.new.left steps.old steps.new }
+        ensures postings { CountsPostings self.old.postings self.new.postings steps.old steps.new }
     {
         let from = n.max(self.low);
         take_from(&mut self.walk, &mut self.low, self.count, from, steps)

@@ -1,4 +1,6 @@
 //! The threads of messages: what link ids lead to.
+//!
+//! Decision 73 in docs/DECISIONS.md says why it is so.
 ghost use Rattle.std.specs.Prelude.{◌≡◌, ◌<◌, ◌^◌, ◌↔◌, ℕ, nat_eq, length, filter, slice_index, IfOk, IsTrue};
 ghost use Rattle.std.specs.List.{All, AllByRecursion, list_any, range_with_len};
 ghost use Rattle.mail_index.specs.Tables.{IsWellFormed, RisesFrom};

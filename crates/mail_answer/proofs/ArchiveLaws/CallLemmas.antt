@@ -1,10 +1,13 @@
 -- Laws of what calls do to archives and to an output.
 use Rattle.std.proofs.Common.{◌∙◌, refl}
-use Rattle.mail_answer.specs.Inside.Calls.{KeepsArchives}
+use Rattle.mail_answer.specs.Inside.Calls.{HoldsArchives, KeepsArchives}
 use Rattle.mail_answer.specs.declared.archives.Archives.{Ghosts}
 
 pub keeps_self : {A : Type 0} (g : Ghosts A) (a : A) → KeepsArchives g a a
-keeps_self g a = record { held = refl; number = refl }
+keeps_self g a = record { held = refl; number = refl; asked = refl }
 
 pub keeps_join : {A : Type 0} (g : Ghosts A) (a b c : A) → KeepsArchives g a b → KeepsArchives g b c → KeepsArchives g a c
-keeps_join g a b c h k = record { held = k.held ∙ h.held; number = k.number ∙ h.number }
+keeps_join g a b c h k = record { held = k.held ∙ h.held; number = k.number ∙ h.number; asked = k.asked ∙ h.asked }
+
+pub holds_join : {A : Type 0} (g : Ghosts A) (a b c : A) → HoldsArchives g a b → HoldsArchives g b c → HoldsArchives g a c
+holds_join g a b c h k = record { held = k.held ∙ h.held; number = k.number ∙ h.number }

@@ -1,5 +1,5 @@
 -- Laws of archives with other bytes than those that were indexed.
-use Rattle.std.proofs.Common.{◌≡◌, ℕ, zero, suc, ◌+◌, ◌<◌, ◌≤◌, Bool, true, false, ◌==◌, cond, min, List, [], ◌∷◌, ◌++◌, map, length, take, take-add, take_all, drop, drop-cons, Option, None, Some, IfSome, bytes_eq, refl, ap, ap₂, sym, ◌∙◌, subst, add-one, Result, Ok, Err, arith}
+use Rattle.std.proofs.Common.{◌≡◌, ℕ, zero, suc, ◌+◌, ◌<◌, ◌≤◌, Bool, true, false, ◌==◌, cond, min, List, [], ◌∷◌, ◌++◌, map, length, length-take, take, take-add, take_all, drop, drop-cons, Option, None, Some, IfSome, bytes_eq, refl, ap, ap₂, sym, ◌∙◌, subst, add-one, Result, Ok, Err, OnOk, inl, inr, arith}
 use Rattle.std.proofs.lemmas.Bool.{eq-eqb, eqb-true}
 use Rattle.std.proofs.lemmas.List.{drop_all, length-map, map-append}
 use Rattle.std.proofs.lemmas.Slice.Eq.{bytes_eq-Decides}
@@ -9,9 +9,11 @@ use Rattle.sha2.specs.Sha256.{sha256}
 use Rattle.mail_index.specs.Tables.{Archive, IsArchive, archive_length}
 use Rattle.mail_index.specs.Versions.{IsDigest}
 use Rattle.mail_answer.specs.Archives.{archive_at}
-use Rattle.mail_answer.specs.Inside.Digests.{has_front_digest, IsDigestOf}
+use Rattle.mail_answer.specs.Inside.Digests.{has_front_digest, ComparesDigest}
+use Rattle.mail_answer.specs.Pieces.{ReadsFront}
 use Rattle.mail_answer.specs.Stale.{first_changed, stale_archive, TellsStale}
-use Rattle.mail_answer.specs.Verified.{has_digest, first_altered, unverified_archive, AreVerified, TellsFound}
+use Rattle.mail_answer.specs.Verified.{has_digest, first_altered, unverified_archive, AreVerified, TellsFound, ReadEach, AreRead, ReadsUpTo, ReadsOther, FailsWithin, FindsDigests}
+use Rattle.mail_answer.specs.declared.archives.Archives.{Ghosts}
 use Rattle.mail_answer.specs.declared.fault.AnswerFaultKind.{AnswerFaultKind}
 use Rattle.mail_answer.specs.declared.fault.AnswerFaultKind.TheVariants.{Stale, Device, OutOfMemory, OutFailed}
 use Rattle.mail_answer.proofs.ArchiveLaws.DigestLemmas.{whole_digest}
@@ -167,28 +169,87 @@ told_by_digests {T} named (Some archives) (Err OutFailed) fresh h = absurd h
 
 -- ---- what was read of each, also where no bytes are known
 
--- what was read of the archives before this one had the lengths and digests that were indexed
-abbrev pub ReadTo : List Archive → ℕ → Type 0
-ReadTo named n = (read : List (List ℕ)) × AreVerified (take n named) read
+-- one archive more was read
+more_each : {A : Type 0} (g : Ghosts A) (n : ℕ) (archives : List (List ℕ)) (bytes : List ℕ) (old before new : A) → ReadEach g n archives old before → ReadsFront g (n + length archives) bytes before new
+    → ReadEach g n (archives ++ bytes ∷ []) old new
+more_each {A} g n [] bytes old before new e front =
+    let here : n + 0 ≡ n = omega arith in
+    (new, subst (λ (k : ℕ). ReadsFront g k bytes old new) here (subst (λ (b : A). ReadsFront g (n + 0) bytes b new) e front), refl)
+more_each {A} g n (first ∷ archives) bytes old before new so_far front =
+    let behind : n + length (first ∷ archives) ≡ n + 1 + length archives = omega arith in
+    (so_far.0, so_far.1, more_each g (n + 1) archives bytes so_far.0 before new so_far.2 (subst (λ (k : ℕ). ReadsFront g k bytes before new) behind front))
 
-pub none_read : (named : List Archive) → ReadTo named 0
-none_read named = ([], record { lengths = refl; digests = refl })
+none_of : (held : Option (List (List ℕ))) → IfSome held (λ archives. take 0 archives ≡ [])
+none_of None = tt
+none_of (Some archives) = refl
 
-pub more_read : (named : List Archive) (n : ℕ) (a : Archive) (rest : List Archive) (indexed : List ℕ) → drop n named ≡ a ∷ rest → a.digest ≡ Some indexed → IsDigestOf a.length indexed
-    → ReadTo named n → ReadTo named (n + 1)
-more_read named n a rest indexed e told read so_far =
+pub none_read : {A : Type 0} (g : Ghosts A) (named : List Archive) (a : A) → AreRead g named 0 a a
+none_read g named a = record {
+  archives = [];
+  each = refl;
+  verified = record { lengths = refl; digests = refl };
+  known = none_of (g.held a);
+}
+
+whole_known : (named : List Archive) (held : Option (List (List ℕ))) (n : ℕ) (a : Archive) (rest : List Archive) (bytes : List ℕ) (archives : List (List ℕ)) → IfSome held (λ archives. stale_archive named archives ≡ None)
+    → n < length named → drop n named ≡ a ∷ rest → length bytes ≡ a.length → IfSome held (λ archives. bytes ≡ take (length bytes) (archive_at archives n)) → IfSome held (λ known. take n known ≡ archives)
+    → IfSome held (λ known. take (n + 1) known ≡ archives ++ bytes ∷ [])
+whole_known named None n a rest bytes archives fresh h e long front so_far = tt
+whole_known named (Some known) n a rest bytes archives fresh h e long front so_far =
+    let as_long = fresh_length named known n a rest fresh h e in
+    let whole : bytes ≡ archive_at known n = front ∙ take_all (length bytes) (archive_at known n) (omega (arith, as_long.1, long)) in
+    take-add n 1 known ∙ ap (λ xs. take n known ++ take 1 xs) (drop-cons known n [] (omega (arith, as_long.0, h))) ∙ ap₂ (λ xs x. xs ++ x ∷ []) so_far (sym whole)
+
+-- one archive more has the digest that was indexed
+pub more_read : {A : Type 0} (g : Ghosts A) (named : List Archive) (n : ℕ) (a : Archive) (rest : List Archive) (indexed : List ℕ) (old before new : A) → n < length named → drop n named ≡ a ∷ rest
+    → IfSome (g.held old) (λ archives. stale_archive named archives ≡ None) → g.held before ≡ g.held old → a.digest ≡ Some indexed → ComparesDigest g n a.length indexed before new true
+    → AreRead g named n old before → AreRead g named (n + 1) old new
+more_read {A} g named n a rest indexed old before new h e fresh kept told read so_far =
+    let bytes : List ℕ = read.0 in
+    let archives : List (List ℕ) = so_far.archives in
     let more : take (n + 1) named ≡ take n named ++ a ∷ [] = take-add n 1 named ∙ ap (λ xs. take n named ++ take 1 xs) e in
-    let of_bytes : a.digest ≡ Some (sha256 read.0) = told ∙ ap Some read.2 in (
-      so_far.0 ++ read.0 ∷ [],
-      record {
-        lengths = ap (map (λ (t : Archive). t.length)) more ∙ map-append (λ (t : Archive). t.length) (take n named) (a ∷ []) ∙ ap₂ (λ xs ys. xs ++ ys) so_far.1.lengths (ap (λ k. k ∷ []) (sym read.1)) ∙ sym (map-append length so_far.0 (read.0 ∷ []));
-        digests = ap (map (λ (t : Archive). t.digest)) more ∙ map-append (λ (t : Archive). t.digest) (take n named) (a ∷ []) ∙ ap₂ (λ xs ys. xs ++ ys) so_far.1.digests (ap (λ d. d ∷ []) of_bytes)
-            ∙ sym (map-append (λ (bytes : List ℕ). Some (sha256 bytes)) so_far.0 (read.0 ∷ []));
-      },
-    )
+    let of_bytes : a.digest ≡ Some (sha256 bytes) = told ∙ ap Some read.3 in
+    let as_many : length archives ≡ length (take n named) = sym (length-map archives length) ∙ ap length (sym so_far.verified.lengths) ∙ length-map (take n named) (λ (t : Archive). t.length) in
+    let many : n ≡ 0 + length archives = omega (arith, as_many, length-take n named, h) in
+    record {
+      archives = archives ++ bytes ∷ [];
+      each = more_each g 0 archives bytes old before new so_far.each (subst (λ (k : ℕ). ReadsFront g k bytes before new) many read.1);
+      verified = record {
+        lengths = ap (map (λ (t : Archive). t.length)) more ∙ map-append (λ (t : Archive). t.length) (take n named) (a ∷ []) ∙ ap₂ (λ xs ys. xs ++ ys) so_far.verified.lengths (ap (λ k. k ∷ []) (sym read.2)) ∙ sym (map-append length archives (bytes ∷ []));
+        digests = ap (map (λ (t : Archive). t.digest)) more ∙ map-append (λ (t : Archive). t.digest) (take n named) (a ∷ []) ∙ ap₂ (λ xs ys. xs ++ ys) so_far.verified.digests (ap (λ d. d ∷ []) of_bytes)
+            ∙ sym (map-append (λ (bytes : List ℕ). Some (sha256 bytes)) archives (bytes ∷ []));
+      };
+      known = whole_known named (g.held old) n a rest bytes archives fresh h e read.2 (subst (λ (held : Option (List (List ℕ))). IfSome held (λ archives. bytes ≡ take (length bytes) (archive_at archives n))) kept read.1.known) so_far.known;
+    }
 
-pub all_read : (named : List Archive) (n : ℕ) → length named ≤ n → ReadTo named n → (read : List (List ℕ)) × AreVerified named read
-all_read named n h so_far = (so_far.0, subst (λ (front : List Archive). AreVerified front so_far.0) (take_all n named h) so_far.1)
+pub all_read : {A : Type 0} (g : Ghosts A) (named : List Archive) (n : ℕ) (old new : A) → n ≡ length named → AreRead g named n old new → AreRead g named (length named) old new
+all_read {A} g named n old new e so_far = subst (λ (k : ℕ). AreRead g named k old new) e so_far
+
+-- a read that failed
+pub failure_read : {A T : Type 0} (g : Ghosts A) (named : List Archive) (n : ℕ) (a : Archive) (rest : List Archive) (old before new : A) (r : Result T AnswerFaultKind) (kind : AnswerFaultKind) → r ≡ Err kind → kind ≡ Device
+    → drop n named ≡ a ∷ rest → AreRead g named n old before → FailsWithin g n a before new → FindsDigests g named old new r
+failure_read {A} {T} g named n a rest old before new r kind e d place so_far fails =
+    subst (λ (s : Result T AnswerFaultKind). FindsDigests g named old new s) (sym (e ∙ ap Err d)) (n, record { here = a; behind = rest; place = place; before = before; read = so_far; last = fails })
+
+-- another digest, or an early end
+pub other_read : {A : Type 0} (g : Ghosts A) (named : List Archive) (n : ℕ) (a : Archive) (rest : List Archive) (indexed : List ℕ) (old before new : A) → drop n named ≡ a ∷ rest → a.digest ≡ Some indexed
+    → AreRead g named n old before → ComparesDigest g n a.length indexed before new false → ReadsUpTo g named n (ReadsOther g n) old new
+other_read {A} g named n a rest indexed old before new place told so_far read = record {
+  here = a;
+  behind = rest;
+  place = place;
+  before = before;
+  read = so_far;
+  last = elim read [
+    | inl ended ↦ inl ended
+    | inr whole ↦ inr (whole.0, whole.1, whole.2, ap (λ (digest : Option (List ℕ)). option_map_or (λ d. bytes_eq d (sha256 whole.0)) digest false) told ∙ whole.3)
+  ];
+}
+
+-- what was read of all of them
+pub read_of_all : {A T : Type 0} (g : Ghosts A) (named : List Archive) (old new : A) (r : Result T AnswerFaultKind) → FindsDigests g named old new r → OnOk r ((read : List (List ℕ)) × AreVerified named read)
+read_of_all {A} {T} g named old new (Ok x) found = (found.archives, subst (λ (front : List Archive). AreVerified front found.archives) (take_all (length named) named (omega arith)) found.verified)
+read_of_all {A} {T} g named old new (Err kind) found = tt
 
 -- ---- each archive of version 2 has a digest
 

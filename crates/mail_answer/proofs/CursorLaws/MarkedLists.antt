@@ -1,189 +1,540 @@
--- Lists whose messages are marked.
-use Rattle.std.proofs.Common.{◌≡◌, ◌∙◌, ◌+◌, ◌<◌, ◌≤◌, ℕ, Bool, true, false, ◌&&◌, ◌||◌, max, List, [], ◌∷◌, ◌++◌, length, replicate, Option, Some, None, Result, Ok, Err, IfOk, refl, sym, ap, arith, inl, inr}
+-- Lists whose messages are marked, window by window.
+use Rattle.std.proofs.Common.{◌≡◌, ◌∙◌, ◌+◌, ◌-◌, ◌^◌, ◌<◌, ◌≤◌, ℕ, zero, suc, Bool, true, false, ◌&&◌, ◌||◌, max, List, [], ◌∷◌, ◌++◌, length, take, replicate, get_or, Option, Some, None, Result, Ok, Err, IfOk, refl, sym, ap, subst, arith, inl, inr}
+use Rattle.std.specs.Prelude.{nat_le}
+use Rattle.std.specs.List.{list_any, sum_by, swap_remove}
 use Rattle.std.proofs.Math.ListN.{set}
-use Rattle.std.proofs.lemmas.List.{length-set, length-replicate, get_or-set_same, get_or-set_other, get_or-replicate, get_or_past}
-use Rattle.std.proofs.lemmas.Bool.{cases_lt, cases_order, both_ways, or_right, lt-leb, le-leb}
+use Rattle.std.proofs.lemmas.List.{length-set, length-replicate, get_or-set_same, get_or-set_other, get_or-replicate, get_or_past, get_or_append_left, get_or-append-add, take-set, take-take, take_all, take_more_set}
+use Rattle.std.proofs.lemmas.List.Sorted.{IsPermutation-swap_remove, list_any-IsPermutation}
+use Rattle.std.proofs.lemmas.List.Sums.{sum_by-swap_remove, sum_by-cons}
+use Rattle.std.proofs.lemmas.Bool.{cases_lt, cases_order, both_ways, or_left, or_right, or_from, lt-leb, le-leb}
+use Rattle.mail_index.specs.Steps.{add_steps}
 use Rattle.mail_answer.specs.Marks.{truth_at, Adds}
-use Rattle.mail_answer.specs.CursorAhead.{Ahead, Drops, IsFirst, left_in}
-use Rattle.mail_answer.specs.Inside.CursorMarks.{IsFirstMark, is_marked, truths_marked}
+use Rattle.mail_answer.specs.declared.cursor.head.Head.{Head}
+use Rattle.mail_answer.specs.declared.cursor.head.Head.TheVariants.{Unasked, Asked}
+use Rattle.mail_answer.specs.CursorAhead.{Ahead, Counts, Drops, IsFirst, left_in, united, lesser_of}
+use Rattle.mail_answer.specs.Inside.CursorMarks.{AreFew, HaveMarks, IsFirstMark, marked_or_listed, those_from, truths_marked}
 use Rattle.mail_answer.specs.Inside.CursorTexts.{some_has}
 use Rattle.mail_answer.proofs.CursorLaws.AloneLists.{swap_last}
-use Rattle.mail_answer.proofs.CursorLaws.Members.{some-append}
-use Rattle.mail_answer.proofs.CursorLaws.Texts.{left-append}
-use Rattle.mail_answer.proofs.CursorLaws.TruthReads.{each-at, each-past}
-use Rattle.mail_answer.proofs.CursorLaws.Turns.{first_from}
+use Rattle.mail_answer.proofs.CursorLaws.Members.{Firsts, some-append, united-at, left-set, firsts_same, firsts_lesser}
+use Rattle.mail_answer.proofs.CursorLaws.TruthReads.{each-at, each-past, one_or_other-at}
+
+-- ---- truths
 
 or_with_false : (a b : Bool) → b ≡ false → (a || b) ≡ a
 or_with_false true b lacks = refl
 or_with_false false b lacks = lacks
 
--- ---- the messages of one list
+or_commutes : (a b : Bool) → (a || b) ≡ (b || a)
+or_commutes true true = refl
+or_commutes true false = refl
+or_commutes false true = refl
+or_commutes false false = refl
 
--- those of the list below a number were marked, and none from it on, from where the list is as it was
-pub record HasMarked (list marks : List Bool) (from : ℕ) (rest now : List Bool) : Type 0 where
-  pub long : length now ≡ length marks
-  pub passed : (m : ℕ) → m < from → truth_at now m ≡ (truth_at marks m || truth_at list m)
-  pub unmarked : (m : ℕ) → from ≤ m → truth_at now m ≡ truth_at marks m
-  pub ahead : (m : ℕ) → from ≤ m → truth_at rest m ≡ truth_at list m
+or_assoc : (a b c : Bool) → ((a || b) || c) ≡ (a || (b || c))
+or_assoc true b c = refl
+or_assoc false b c = refl
 
-pub marked_none : (list marks : List Bool) → HasMarked list marks 0 list marks
-marked_none list marks = record {
-  long = refl;
-  passed = λ m lt. absurd (omega (arith, lt));
-  unmarked = λ m le. refl;
-  ahead = λ m le. refl;
-}
+-- what isn't true is false
+lacks : (b : Bool) → (b ≡ true → ⊥) → b ≡ false
+lacks true never = absurd (never refl)
+lacks false never = refl
 
-module _ (list marks : List Bool) (from : ℕ) (rest rest' now : List Bool) (has : HasMarked list marks from rest now) (drops : Drops from rest rest') where
-  was : (m : ℕ) → from ≤ m → truth_at list m ≡ truth_at rest' m
-  was m le = sym (has.ahead m le) ∙ sym (drops.rest m le)
+first_same : (xs ys : List Bool) (r : Option ℕ) → ((m : ℕ) → truth_at ys m ≡ truth_at xs m) → IsFirst xs r → IsFirst ys r
+first_same xs ys None same first = λ m. same m ∙ first m
+first_same xs ys (Some n) same first = (same n ∙ first.0, λ m lt. same m ∙ first.1 m lt)
 
-  lacked : (m : ℕ) → from ≤ m → truth_at rest' m ≡ false → truth_at now m ≡ (truth_at marks m || truth_at list m)
-  lacked m le lacks = has.unmarked m le ∙ sym (or_with_false (truth_at marks m) (truth_at list m) (was m le ∙ lacks))
+-- ---- one list of many changes, or is taken out
 
-  pub marked_all : IsFirst rest' None → Adds (truth_at list) marks now
-  marked_all none = record {
-    long = has.long;
-    each = λ m lt. elim (cases_lt m from) [
-      | inl before ↦ has.passed m before
-      | inr behind ↦ lacked m behind (none m)
-    ];
-  }
+some-set_same : (m : ℕ) (ws : List Ahead) (i : ℕ) (w v : Ahead) → i < length ws → w ≡ get_or ws i w → truth_at v.truths m ≡ truth_at w.truths m → some_has m (set ws i v) ≡ some_has m ws
+some-set_same m [] i w v lt is same = refl
+some-set_same m (x ∷ ws) zero w v lt is same = ap (λ (b : Bool). b || some_has m ws) (same ∙ ap (λ (a : Ahead). truth_at a.truths m) is)
+some-set_same m (x ∷ ws) (suc i) w v lt is same = ap (λ (b : Bool). truth_at x.truths m || b) (some-set_same m ws i w v (omega (arith, lt)) is same)
 
-  module _ (k : ℕ) (first : IsFirst rest' (Some k)) where
-    above : from ≤ k
-    above = first_from from rest rest' k drops first
+-- one that has the message no more
+some-set_gone : (m : ℕ) (ws : List Ahead) (i : ℕ) (w v : Ahead) → i < length ws → w ≡ get_or ws i w → truth_at v.truths m ≡ false → (some_has m (set ws i v) || truth_at w.truths m) ≡ some_has m ws
+some-set_gone m [] i w v lt is gone = absurd (omega (arith, lt))
+some-set_gone m (x ∷ ws) zero w v lt is gone =
+    ap (λ (b : Bool). (b || some_has m ws) || truth_at w.truths m) gone
+    ∙ ap (λ (a : Ahead). some_has m ws || truth_at a.truths m) is
+    ∙ or_commutes (some_has m ws) (truth_at x.truths m)
+some-set_gone m (x ∷ ws) (suc i) w v lt is gone =
+    or_assoc (truth_at x.truths m) (some_has m (set ws i v)) (truth_at w.truths m)
+    ∙ ap (λ (b : Bool). truth_at x.truths m || b) (some-set_gone m ws i w v (omega (arith, lt)) is gone)
 
-    pub marked_here : truth_at list k ≡ true
-    marked_here = was k above ∙ first.0
+some-any : (m : ℕ) (ws : List Ahead) → some_has m ws ≡ list_any (λ (w : Ahead). truth_at w.truths m) ws
+some-any m [] = refl
+some-any m (w ∷ ws) = ap (λ (b : Bool). truth_at w.truths m || b) (some-any m ws)
 
-    pub marked_more : k < length marks → HasMarked list marks (k + 1) rest' (set now k true)
-    marked_more within = record {
-      long = length-set now k true ∙ has.long;
-      passed = λ m lt. elim (cases_order m k) [
-        | inl same ↦
-            rw same (get_or-set_same now k true false (omega (arith, within, has.long)) ∙ sym (or_right (truth_at marks k) (truth_at list k) marked_here))
-        | inr (inl before) ↦
-            get_or-set_other now k m true false (omega (arith, before)) ∙ elim (cases_lt m from) [
-              | inl passed ↦ has.passed m passed
-              | inr behind ↦ lacked m behind (first.1 m before)
-            ]
-        | inr (inr behind) ↦ absurd (omega (arith, behind, lt))
-      ];
-      unmarked = λ m le. get_or-set_other now k m true false (omega (arith, le)) ∙ has.unmarked m (omega (arith, le, above));
-      ahead = λ m le. sym (was m (omega (arith, le, above)));
+some-removed : (m : ℕ) (ws : List Ahead) (i : ℕ) (v : Ahead) → i < length ws → v ≡ get_or ws i v → truth_at v.truths m ≡ false → some_has m (swap_remove ws i v) ≡ some_has m ws
+some-removed m ws i v lt is none =
+    let test : Ahead → Bool = λ (w : Ahead). truth_at w.truths m in
+    some-any m (swap_remove ws i v)
+    ∙ ap (λ (b : Bool). b || list_any test (swap_remove ws i v)) (sym none)
+    ∙ sym (list_any-IsPermutation test ws (v ∷ swap_remove ws i v) (IsPermutation-swap_remove ws i v lt is))
+    ∙ sym (some-any m ws)
+
+left-sum : (ws : List Ahead) → left_in ws ≡ sum_by (λ (w : Ahead). w.left) ws
+left-sum [] = refl
+left-sum (w ∷ ws) = omega (arith, left-sum ws, sum_by-cons (λ (a : Ahead). a.left) w ws)
+
+left-removed : (ws : List Ahead) (i : ℕ) (v : Ahead) → i < length ws → v ≡ get_or ws i v → v.left ≡ 0 → left_in (swap_remove ws i v) ≡ left_in ws
+left-removed ws i v lt is none =
+    let here : (get_or ws i v).left ≡ 0 = sym (ap (λ (a : Ahead). a.left) is) ∙ none in
+    omega (arith, left-sum ws, left-sum (swap_remove ws i v), sum_by-swap_remove (λ (a : Ahead). a.left) ws i v lt, here)
+
+front-removed : (ws : List Ahead) (i : ℕ) (v : Ahead) → i < length ws → take i (swap_remove ws i v) ≡ take i ws
+front-removed ws i v lt =
+    let last : Ahead = get_or ws (length ws - 1) v in
+    take-take i (length ws - 1) (set ws i last) (omega (arith, lt)) ∙ take-set ws i last
+
+-- ---- steps
+
+add_more : (steps a b : ℕ) → add_steps (add_steps steps a) b ≡ add_steps steps (a + b)
+add_more steps a b = omega arith
+
+pub counts_more : (left0 left left1 steps0 steps steps1 : ℕ) → Counts left0 left steps0 steps → Counts left left1 steps steps1 → Counts left0 left1 steps0 steps1
+counts_more left0 left left1 steps0 steps steps1 earlier here =
+    let both : (left0 - left) + (left - left1) ≡ left0 - left1 = omega (arith, earlier.fewer, here.fewer) in
+    record {
+      fewer = omega (arith, earlier.fewer, here.fewer);
+      counted = here.counted ∙ ap (λ (n : ℕ). add_steps n (left - left1)) earlier.counted ∙ add_more steps0 (left0 - left) (left - left1) ∙ ap (add_steps steps0) both;
     }
 
--- ---- the messages of some lists
+pub counts_none : (left steps : ℕ) → Counts left left steps steps
+counts_none left steps = record { fewer = omega arith; counted = omega arith }
 
--- what came in these lists is marked, or comes in those that are left
-pub record HaveMarked (lists : List Ahead) (marks : List Bool) (left : List Ahead) (now : List Bool) : Type 0 where
+pub turn_counts : (ws : List Ahead) (i left0 steps0 steps steps1 : ℕ) (w v : Ahead) → i < length ws → w ≡ get_or ws i w
+    → Counts left0 (left_in ws) steps0 steps → Counts w.left v.left steps steps1 → Counts left0 (left_in (set ws i v)) steps0 steps1
+turn_counts ws i left0 steps0 steps steps1 w v lt is earlier here =
+    counts_more left0 (left_in ws) (left_in (set ws i v)) steps0 steps steps1 earlier
+    (let both : left_in (set ws i v) + w.left ≡ left_in ws + v.left = left-set ws i w v lt is in
+    let fall : w.left - v.left ≡ left_in ws - left_in (set ws i v) = omega (arith, both, here.fewer) in
+    record { fewer = omega (arith, both, here.fewer); counted = here.counted ∙ ap (add_steps steps) fall })
+
+-- ---- the messages of one list
+
+-- those of the list in the window are marked or still to come, and those before it are gone
+pub record HasMarked (start : ℕ) (list marks rest now : List Bool) : Type 0 where
   pub long : length now ≡ length marks
-  pub each : (m : ℕ) → m < length marks → (truth_at now m || some_has m left) ≡ (truth_at marks m || some_has m lists)
-  pub within : (m : ℕ) → some_has m left ≡ true → m < length marks
+  pub moved : (k : ℕ) → k < length marks → (truth_at now k || truth_at rest (start + k)) ≡ (truth_at marks k || truth_at list (start + k))
+  pub behind : (m : ℕ) → start + length marks ≤ m → truth_at rest m ≡ truth_at list m
+  pub before : (m : ℕ) → m < start → truth_at rest m ≡ false
+  pub were : (m : ℕ) → truth_at rest m ≡ true → truth_at list m ≡ true
 
-module _ (lists : List Ahead) (marks : List Bool) (left left' : List Ahead) (list : Ahead) (now now' : List Bool) (have : HaveMarked lists marks left now) (popped : left ≡ left' ++ list ∷ []) where
-  comes : (m : ℕ) → some_has m left ≡ (some_has m left' || truth_at list.truths m)
-  comes m = ap (some_has m) popped ∙ some-append m left' list
+-- how many numbers may still follow the first
+abbrev pub room_behind : Option ℕ → ℕ
+room_behind None = 0
+room_behind (Some n) = 2 ^ 32 - n
 
-  pub popped_within : (m : ℕ) → truth_at list.truths m ≡ true → m < length now
-  popped_within m here =
-      let lt : m < length marks = have.within m (comes m ∙ or_right (some_has m left') (truth_at list.truths m) here) in
-      omega (arith, lt, have.long)
-
-  pub popped_left : left_in left ≡ left_in left' + list.left
-  popped_left = ap left_in popped ∙ left-append left' list
-
-  pub popped_marked : Adds (truth_at list.truths) now now' → HaveMarked lists marks left' now'
-  popped_marked adds = record {
-    long = adds.long ∙ have.long;
-    each = λ m lt.
-        ap (λ (b : Bool). b || some_has m left') (adds.each m (omega (arith, lt, have.long)))
-        ∙ swap_last (truth_at now m) (some_has m left') (truth_at list.truths m)
-        ∙ ap (λ (b : Bool). truth_at now m || b) (sym (comes m))
-        ∙ have.each m lt;
-    within = λ m here. have.within m (comes m ∙ ap (λ (b : Bool). b || truth_at list.truths m) here);
-  }
-
-pub none_left : (lists : List Ahead) (marks : List Bool) (left : List Ahead) (now : List Bool) → HaveMarked lists marks left now → left ≡ [] → Adds (λ m. some_has m lists) marks now
-none_left lists marks left now have none = record {
-  long = have.long;
-  each = λ m lt. sym (or_with_false (truth_at now m) (some_has m left) (ap (some_has m) none)) ∙ have.each m lt;
-}
-
--- ---- what marks and lists say together
-
-marked-at : (low : ℕ) (marks : List Bool) (lists : List Ahead) (m : ℕ) → m < length marks → truth_at (truths_marked low marks lists) m ≡ is_marked low marks lists m
-marked-at low marks lists m lt = each-at (length marks) (is_marked low marks lists) m lt
-
-marked-past : (low : ℕ) (marks : List Bool) (lists : List Ahead) (m : ℕ) → length marks ≤ m → truth_at (truths_marked low marks lists) m ≡ false
-marked-past low marks lists m past = each-past (length marks) (is_marked low marks lists) m past
-
-marked-from : (low : ℕ) (marks : List Bool) (lists : List Ahead) (m : ℕ) → m < length marks → low ≤ m → truth_at (truths_marked low marks lists) m ≡ (truth_at marks m || some_has m lists)
-marked-from low marks lists m lt le = marked-at low marks lists m lt ∙ ap (λ (b : Bool). b && (truth_at marks m || some_has m lists)) (le-leb low m le)
-
-marked-before : (low : ℕ) (marks : List Bool) (lists : List Ahead) (m : ℕ) → m < low → truth_at (truths_marked low marks lists) m ≡ false
-marked-before low marks lists m before = elim (cases_lt m (length marks)) [
-  | inl lt ↦ marked-at low marks lists m lt ∙ ap (λ (b : Bool). b && (truth_at marks m || some_has m lists)) (lt-leb low m before)
-  | inr past ↦ marked-past low marks lists m past
+-- what dropping leaves came before
+kept : (n : ℕ) (xs ys : List Bool) → Drops n xs ys → (m : ℕ) → truth_at ys m ≡ true → truth_at xs m ≡ true
+kept n xs ys drops m here = elim (cases_lt m n) [
+  | inl lt ↦ absurd (both_ways (truth_at ys m) (drops.below m lt) here)
+  | inr le ↦ sym (drops.rest m le) ∙ here
 ]
 
--- none was dropped or marked yet
-pub begins_marked : (count : ℕ) (lists : List Ahead) (marks : List Bool) → marks ≡ replicate count false → ((m : ℕ) → some_has m lists ≡ true → m < count) → (m : ℕ) → truth_at (truths_marked 0 marks lists) m ≡ some_has m lists
-begins_marked count lists marks none within m =
-    let many : length marks ≡ count = ap length none ∙ length-replicate count false in
-    elim (cases_lt m count) [
-      | inl lt ↦
-          marked-from 0 marks lists m (omega (arith, many, lt)) (omega arith)
-          ∙ ap (λ (b : Bool). b || some_has m lists) (ap (λ (xs : List Bool). truth_at xs m) none ∙ get_or-replicate count m false false lt)
-      | inr past ↦ marked-past 0 marks lists m (omega (arith, many, past)) ∙ sym (lacks (some_has m lists) refl past)
-    ]
-  where
-    lacks : (b : Bool) → some_has m lists ≡ b → count ≤ m → some_has m lists ≡ false
-    lacks true here past = absurd (omega (arith, within m here, past))
-    lacks false none past = none
+pub marked_none : (start : ℕ) (list rest marks : List Bool) → Drops start list rest → HasMarked start list marks rest marks
+marked_none start list rest marks drops = record {
+  long = refl;
+  moved = λ k lt. ap (λ (b : Bool). truth_at marks k || b) (drops.rest (start + k) (omega arith));
+  behind = λ m le. drops.rest m (omega (arith, le));
+  before = drops.below;
+  were = kept start list rest drops;
+}
 
-module _ (n low low' : ℕ) (marks now : List Bool) (lists left : List Ahead) (is : low' ≡ max n low) (none : left ≡ []) (adds : Adds (λ m. some_has m lists) marks now) where
-  pub marked_drops : Drops n (truths_marked low marks lists) (truths_marked low' now left)
-  marked_drops = record {
-    rest = λ m le. elim (cases_lt m low) [
-      | inl before ↦ marked-before low' now left m (omega (arith, is, before)) ∙ sym (marked-before low marks lists m before)
-      | inr behind ↦ elim (cases_lt m (length marks)) [
-        | inr past ↦ marked-past low' now left m (omega (arith, past, adds.long)) ∙ sym (marked-past low marks lists m past)
-        | inl lt ↦
-            marked-from low' now left m (omega (arith, lt, adds.long)) (omega (arith, is, le, behind))
-            ∙ or_with_false (truth_at now m) (some_has m left) (ap (some_has m) none)
-            ∙ adds.each m lt
-            ∙ sym (marked-from low marks lists m lt behind)
-      ]
-    ];
-    below = λ m lt. marked-before low' now left m (omega (arith, is, lt));
+module _ (start : ℕ) (list marks rest now : List Bool) (has : HasMarked start list marks rest now) where
+  ended : ((m : ℕ) → m < start + length marks → truth_at rest m ≡ false) → Adds (λ k. truth_at list (start + k)) marks now
+  ended none = record {
+    long = has.long;
+    each = λ k lt. sym (or_with_false (truth_at now k) (truth_at rest (start + k)) (none (start + k) (omega (arith, lt)))) ∙ has.moved k lt;
   }
 
-pub marked_first : (low : ℕ) (marks : List Bool) (left : List Ahead) (number : Option ℕ) → left ≡ [] → IsFirstMark low marks number → IsFirst (truths_marked low marks left) number
-marked_first low marks left number none first = go number first
-  where
-    told : (m : ℕ) → low ≤ m → m < length marks → truth_at (truths_marked low marks left) m ≡ truth_at marks m
-    told m le lt = marked-from low marks left m lt le ∙ or_with_false (truth_at marks m) (some_has m left) (ap (some_has m) none)
+  passed : ((m : ℕ) → m < start + length marks → truth_at rest m ≡ false) → Drops (start + length marks) list rest
+  passed none = record { rest = has.behind; below = none }
 
-    lacks : (m : ℕ) → (low ≤ m → truth_at marks m ≡ false) → truth_at (truths_marked low marks left) m ≡ false
-    lacks m unmarked = elim (cases_lt m low) [
-      | inl before ↦ marked-before low marks left m before
-      | inr behind ↦ elim (cases_lt m (length marks)) [
-        | inl lt ↦ told m behind lt ∙ unmarked behind
-        | inr past ↦ marked-past low marks left m past
+  pub ended_marks : IsFirst rest None → Adds (λ k. truth_at list (start + k)) marks now
+  ended_marks none = ended (λ m lt. none m)
+
+  pub ended_drops : IsFirst rest None → Drops (start + length marks) list rest
+  ended_drops none = passed (λ m lt. none m)
+
+  module _ (number : ℕ) (first : IsFirst rest (Some number)) where
+    pub from_start : start ≤ number
+    from_start = elim (cases_lt number start) [
+      | inl lt ↦ absurd (both_ways (truth_at rest number) (has.before number lt) first.0)
+      | inr le ↦ le
+    ]
+
+    pub past_marks : start + length marks ≤ number → Adds (λ k. truth_at list (start + k)) marks now
+    past_marks past = ended (λ m lt. first.1 m (omega (arith, lt, past)))
+
+    pub past_drops : start + length marks ≤ number → Drops (start + length marks) list rest
+    past_drops past = passed (λ m lt. first.1 m (omega (arith, lt, past)))
+
+    pub marked_more : (place : ℕ) (rest' : List Bool) → place + start ≡ number → place < length marks → Drops (number + 1) rest rest' → HasMarked start list marks rest' (set now place true)
+    marked_more place rest' at within drops =
+        let inside : place < length now = omega (arith, within, has.long) in
+        record {
+          long = length-set now place true ∙ has.long;
+          moved = λ k lt. elim (cases_order k place) [
+            | inl same ↦
+                let here : start + k ≡ number = omega (arith, same, at) in
+                ap (λ (b : Bool). b || truth_at rest' (start + k)) (ap (λ (n : ℕ). truth_at (set now place true) n) same ∙ get_or-set_same now place true false inside)
+                ∙ sym (or_right (truth_at now k) (truth_at rest (start + k)) (ap (truth_at rest) here ∙ first.0))
+                ∙ has.moved k lt
+            | inr (inl under) ↦
+                ap (λ (b : Bool). b || truth_at rest' (start + k)) (get_or-set_other now place k true false (omega (arith, under)))
+                ∙ ap (λ (b : Bool). truth_at now k || b) (drops.below (start + k) (omega (arith, under, at)) ∙ sym (first.1 (start + k) (omega (arith, under, at))))
+                ∙ has.moved k lt
+            | inr (inr over) ↦
+                ap (λ (b : Bool). b || truth_at rest' (start + k)) (get_or-set_other now place k true false (omega (arith, over)))
+                ∙ ap (λ (b : Bool). truth_at now k || b) (drops.rest (start + k) (omega (arith, over, at)))
+                ∙ has.moved k lt
+          ];
+          behind = λ m le. drops.rest m (omega (arith, le, at, within)) ∙ has.behind m le;
+          before = λ m lt. drops.below m (omega (arith, lt, at));
+          were = λ m here. has.were m (kept (number + 1) rest rest' drops m here);
+        }
+
+-- ---- the messages of all lists
+
+-- those of the lists in the window are marked or still to come; those of the first lists up to its end are gone
+pub record HaveMarked (start : ℕ) (lists : List Ahead) (marks : List Bool) (place : ℕ) (now_lists : List Ahead) (now : List Bool) (least : Option ℕ) : Type 0 where
+  pub long : length now ≡ length marks
+  pub moved : (k : ℕ) → k < length marks → (truth_at now k || some_has (start + k) now_lists) ≡ (truth_at marks k || some_has (start + k) lists)
+  pub behind : (m : ℕ) → start + length marks ≤ m → some_has m now_lists ≡ some_has m lists
+  pub gone : (m : ℕ) → m < start + length marks → some_has m (take place now_lists) ≡ false
+  pub first : Firsts (λ m. some_has m (take place now_lists)) least
+  pub few : AreFew now_lists
+
+pub none_marked : (start : ℕ) (lists : List Ahead) (marks : List Bool) → AreFew lists → HaveMarked start lists marks 0 lists marks None
+none_marked start lists marks few = record {
+  long = refl;
+  moved = λ k lt. refl;
+  behind = λ m le. refl;
+  gone = λ m lt. refl;
+  first = λ m. refl;
+  few = few;
+}
+
+module _ (start : ℕ) (lists : List Ahead) (marks : List Bool) (place : ℕ) (ws : List Ahead) (now : List Bool) (least : Option ℕ) (have : HaveMarked start lists marks place ws now least) (w : Ahead) (lt : place < length ws) (is : w ≡ get_or ws place w) where
+  pub list_few : (m : ℕ) → truth_at w.truths m ≡ true → m + 1 < 2 ^ 32
+  list_few m here = have.few m (has_some ws place lt is)
+    where
+      has_some : (vs : List Ahead) (i : ℕ) → i < length vs → w ≡ get_or vs i w → some_has m vs ≡ true
+      has_some [] i less same = absurd (omega (arith, less))
+      has_some (x ∷ vs) zero less same = or_left (truth_at x.truths m) (some_has m vs) (sym (ap (λ (a : Ahead). truth_at a.truths m) same) ∙ here)
+      has_some (x ∷ vs) (suc i) less same = or_right (truth_at x.truths m) (some_has m vs) (has_some vs i (omega (arith, less)) same)
+
+  module _ (v : Ahead) (now' : List Bool) (dropped : Drops (start + length now) w.truths v.truths) (adds : Adds (λ k. truth_at w.truths (start + k)) now now') where
+    drops : Drops (start + length marks) w.truths v.truths
+    drops = subst (λ (n : ℕ). Drops (start + n) w.truths v.truths) have.long dropped
+
+    some_before : (m : ℕ) → m < start + length marks → (some_has m (set ws place v) || truth_at w.truths m) ≡ some_has m ws
+    some_before m less = some-set_gone m ws place w v lt is (drops.below m less)
+
+    some_behind : (m : ℕ) → start + length marks ≤ m → some_has m (set ws place v) ≡ some_has m ws
+    some_behind m le = some-set_same m ws place w v lt is (drops.rest m le)
+
+    -- as of a list that stays, or of one that has come to its end
+    after : (vs : List Ahead) (place' : ℕ) (least' : Option ℕ) → ((m : ℕ) → some_has m vs ≡ some_has m (set ws place v))
+        → ((m : ℕ) → m < start + length marks → some_has m (take place' vs) ≡ false) → Firsts (λ m. some_has m (take place' vs)) least' → HaveMarked start lists marks place' vs now' least'
+    after vs place' least' same gone first = record {
+      long = adds.long ∙ have.long;
+      moved = λ k less.
+          ap (λ (b : Bool). b || some_has (start + k) vs) (adds.each k (omega (arith, less, have.long)))
+          ∙ ap (λ (b : Bool). (truth_at now k || truth_at w.truths (start + k)) || b) (same (start + k))
+          ∙ swap_last (truth_at now k) (some_has (start + k) (set ws place v)) (truth_at w.truths (start + k))
+          ∙ ap (λ (b : Bool). truth_at now k || b) (some_before (start + k) (omega (arith, less)))
+          ∙ have.moved k less;
+      behind = λ m le. same m ∙ some_behind m le ∙ have.behind m le;
+      gone = gone;
+      first = first;
+      few = λ m here.
+          let set_here : some_has m (set ws place v) ≡ true = sym (same m) ∙ here in
+          have.few m (elim (cases_lt m (start + length marks)) [
+            | inl less ↦ sym (some_before m less) ∙ or_left (some_has m (set ws place v)) (truth_at w.truths m) set_here
+            | inr le ↦ sym (some_behind m le) ∙ set_here
+          ]);
+    }
+
+    front : take (place + 1) (set ws place v) ≡ take place ws ++ v ∷ []
+    front = take_more_set ws place v lt
+
+    front-at : (m : ℕ) → some_has m (take (place + 1) (set ws place v)) ≡ (some_has m (take place ws) || truth_at v.truths m)
+    front-at m = ap (some_has m) front ∙ some-append m (take place ws) v
+
+    pub marked_on : (number least' : Option ℕ) → IsFirst v.truths number → least' ≡ lesser_of least number → HaveMarked start lists marks (place + 1) (set ws place v) now' least'
+    marked_on number least' first is' =
+        after (set ws place v) (place + 1) least' (λ m. refl)
+        (λ m less. front-at m ∙ or_from (some_has m (take place ws)) (truth_at v.truths m) (have.gone m less) (drops.below m less))
+        (rw is' (firsts_same (λ m. some_has m (take place ws) || truth_at v.truths m) (λ m. some_has m (take (place + 1) (set ws place v))) (lesser_of least number) front-at
+        (firsts_lesser (λ m. some_has m (take place ws)) (truth_at v.truths) least number have.first first)))
+
+    within : place < length (set ws place v)
+    within = omega (arith, lt, length-set ws place v)
+
+    front_kept : take place (swap_remove (set ws place v) place v) ≡ take place ws
+    front_kept = front-removed (set ws place v) place v within ∙ take-set ws place v
+
+    marked_out : IsFirst v.truths None → HaveMarked start lists marks place (swap_remove (set ws place v) place v) now' least
+    marked_out none =
+        after (swap_remove (set ws place v) place v) place least
+        (λ m. some-removed m (set ws place v) place v within (sym (get_or-set_same ws place v v lt)) (none m))
+        (λ m less. ap (some_has m) front_kept ∙ have.gone m less)
+        (firsts_same (λ m. some_has m (take place ws)) (λ m. some_has m (take place (swap_remove (set ws place v) place v))) least (λ m. ap (some_has m) front_kept) have.first)
+
+    left_out : v.left ≡ 0 → left_in (swap_remove (set ws place v) place v) ≡ left_in (set ws place v)
+    left_out none = left-removed (set ws place v) place v within (sym (get_or-set_same ws place v v lt)) none
+
+    -- the list that is taken out is the one that has come to its end
+    module _ (x : Ahead) (vs : List Ahead) (out : x ≡ get_or (set ws place v) place x) (removed : vs ≡ swap_remove (set ws place v) place x) where
+      same_out : swap_remove (set ws place v) place v ≡ vs
+      same_out = sym (removed ∙ ap (λ (y : Ahead). swap_remove (set ws place v) place y) (out ∙ get_or-set_same ws place v x lt))
+
+      pub goes_out : IsFirst v.truths None → HaveMarked start lists marks place vs now' least
+      goes_out none = subst (λ (us : List Ahead). HaveMarked start lists marks place us now' least) same_out (marked_out none)
+
+      pub goes_out_steps : v.left ≡ 0 → (left0 steps0 steps steps1 : ℕ) → Counts left0 (left_in ws) steps0 steps → Counts w.left v.left steps steps1 → Counts left0 (left_in vs) steps0 steps1
+      goes_out_steps none left0 steps0 steps steps1 earlier here =
+          subst (λ (n : ℕ). Counts left0 n steps0 steps1) (sym (left_out none) ∙ ap left_in same_out) (turn_counts ws place left0 steps0 steps steps1 w v lt is earlier here)
+
+module _ (start : ℕ) (lists : List Ahead) (marks : List Bool) (place : ℕ) (ws : List Ahead) (now : List Bool) (least : Option ℕ) (have : HaveMarked start lists marks place ws now least) (past : length ws ≤ place) where
+  whole : (m : ℕ) → some_has m ws ≡ some_has m (take place ws)
+  whole m = ap (some_has m) (sym (take_all place ws past))
+
+  none_before : (m : ℕ) → m < start + length marks → some_has m ws ≡ false
+  none_before m lt = whole m ∙ have.gone m lt
+
+  pub all_drops : Drops (start + length marks) (united lists) (united ws)
+  all_drops = record {
+    rest = λ m le. united-at m ws ∙ have.behind m le ∙ sym (united-at m lists);
+    below = λ m lt. united-at m ws ∙ none_before m lt;
+  }
+
+  pub all_first : IsFirst (united ws) least
+  all_first = firsts_same (λ m. some_has m (take place ws)) (truth_at (united ws)) least (λ m. united-at m ws ∙ whole m) have.first
+
+  pub all_marks : Adds (λ k. truth_at (united lists) (start + k)) marks now
+  all_marks = record {
+    long = have.long;
+    each = λ k lt.
+        sym (or_with_false (truth_at now k) (some_has (start + k) ws) (none_before (start + k) (omega (arith, lt))))
+        ∙ have.moved k lt
+        ∙ ap (λ (b : Bool). truth_at marks k || b) (sym (united-at (start + k) lists));
+  }
+
+-- ---- marks in their window
+
+padded-before : (start : ℕ) (marks : List Bool) (m : ℕ) → m < start → truth_at (replicate start false ++ marks) m ≡ false
+padded-before start marks m lt =
+    get_or_append_left (replicate start false) marks false m (omega (arith, lt, length-replicate start false)) ∙ get_or-replicate start m false false lt
+
+padded-at : (start : ℕ) (marks : List Bool) (k : ℕ) → truth_at (replicate start false ++ marks) (start + k) ≡ truth_at marks k
+padded-at start marks k =
+    ap (λ (n : ℕ). truth_at (replicate start false ++ marks) (n + k)) (sym (length-replicate start false)) ∙ get_or-append-add (replicate start false) marks k false
+
+padded-from : (start : ℕ) (marks : List Bool) (m : ℕ) → start ≤ m → truth_at (replicate start false ++ marks) m ≡ truth_at marks (m - start)
+padded-from start marks m le =
+    let at : m ≡ start + (m - start) = omega (arith, le) in
+    ap (truth_at (replicate start false ++ marks)) at ∙ padded-at start marks (m - start)
+
+both-at : (start : ℕ) (marks : List Bool) (lists : List Ahead) (m : ℕ) → truth_at (marked_or_listed start marks lists) m ≡ (truth_at (replicate start false ++ marks) m || some_has m lists)
+both-at start marks lists m =
+    one_or_other-at (replicate start false ++ marks) (united lists) m ∙ ap (λ (b : Bool). truth_at (replicate start false ++ marks) m || b) (united-at m lists)
+
+-- where the marks from a number on are false, those of the lists are left
+unmarked-at : (start low : ℕ) (marks : List Bool) (lists : List Ahead) → ((k : ℕ) → low ≤ start + k → truth_at marks k ≡ false) → (m : ℕ) → low ≤ m → truth_at (marked_or_listed start marks lists) m ≡ truth_at (united lists) m
+unmarked-at start low marks lists none m le =
+    both-at start marks lists m
+    ∙ ap (λ (b : Bool). b || some_has m lists) (elim (cases_lt m start) [
+      | inl lt ↦ padded-before start marks m lt
+      | inr from ↦ padded-from start marks m from ∙ none (m - start) (omega (arith, le, from))
+    ])
+    ∙ sym (united-at m lists)
+
+-- ---- a window begins anew
+
+none_at : (marks : List Bool) → marks ≡ replicate 4096 false → (k : ℕ) → truth_at marks k ≡ false
+none_at marks none k = ap (λ (xs : List Bool). truth_at xs k) none ∙ elim (cases_lt k 4096) [
+  | inl lt ↦ get_or-replicate 4096 k false false lt
+  | inr past ↦ get_or_past (replicate 4096 false) k false (omega (arith, past, length-replicate 4096 false))
+]
+
+-- a window of no messages
+pub drops_at_once : (n : ℕ) (old new : List Bool) → Drops (n + 0) old new → Drops n old new
+drops_at_once n old new drops = let same : n + 0 ≡ n = omega arith in subst (λ (k : ℕ). Drops k old new) same drops
+
+few_kept : (n : ℕ) (old new : List Ahead) → AreFew old → Drops n (united old) (united new) → AreFew new
+few_kept n old new few drops = λ m here. few m (sym (united-at m old) ∙ kept n (united old) (united new) drops m (united-at m new ∙ here))
+
+module _ (n start : ℕ) (cleared : List Bool) (lists cut : List Ahead) (few : AreFew lists) (drops : Drops n (united lists) (united cut)) (clear : cleared ≡ replicate 4096 false) where
+  unmarked : (k : ℕ) → truth_at cleared k ≡ false
+  unmarked = none_at cleared clear
+
+  long : length cleared ≡ 4096
+  long = ap length clear ∙ length-replicate 4096 false
+
+  pub few_cut : AreFew cut
+  few_cut = few_kept n lists cut few drops
+
+  same_as_cut : (m : ℕ) → truth_at (marked_or_listed start cleared cut) m ≡ truth_at (united cut) m
+  same_as_cut m = unmarked-at start 0 cleared cut (λ k le. unmarked k) m (omega arith)
+
+  pub none_marks : (number : Option ℕ) → IsFirst (united cut) number → HaveMarks start cleared cut (Asked number)
+  none_marks number first = record {
+    window = long;
+    listed = few_cut;
+    next = first;
+    marked = λ k here. absurd (both_ways (truth_at cleared k) (unmarked k) here);
+    before = λ k m here there. absurd (both_ways (truth_at cleared k) (unmarked k) here);
+  }
+
+  pub none_drops : Drops n (united lists) (marked_or_listed start cleared cut)
+  none_drops = record {
+    rest = λ m le. same_as_cut m ∙ drops.rest m le;
+    below = λ m lt. same_as_cut m ∙ drops.below m lt;
+  }
+
+  pub none_first : (number : Option ℕ) → IsFirst (united cut) number → IsFirst (marked_or_listed start cleared cut) number
+  none_first number none = first_same (united cut) (marked_or_listed start cleared cut) number same_as_cut none
+
+  module _ (first : ℕ) (now : List Bool) (left : List Ahead) (is : IsFirst (united cut) (Some first)) (taken : Drops (first + length cleared) (united cut) (united left)) (adds : Adds (λ k. truth_at (united cut) (first + k)) cleared now) where
+    marked-as : (k : ℕ) → k < length cleared → truth_at now k ≡ truth_at (united cut) (first + k)
+    marked-as k lt = adds.each k lt ∙ ap (λ (b : Bool). b || truth_at (united cut) (first + k)) (unmarked k)
+
+    left-in : (m : ℕ) → m < first + length cleared → some_has m left ≡ false
+    left-in m lt = sym (united-at m left) ∙ taken.below m lt
+
+    same_as_moved : (m : ℕ) → truth_at (marked_or_listed first now left) m ≡ truth_at (united cut) m
+    same_as_moved m = both-at first now left m ∙ elim (cases_lt m first) [
+      | inl under ↦
+          ap (λ (b : Bool). b || some_has m left) (padded-before first now m under)
+          ∙ left-in m (omega (arith, under))
+          ∙ sym (is.1 m under)
+      | inr from ↦ ap (λ (b : Bool). b || some_has m left) (padded-from first now m from) ∙ elim (cases_lt m (first + length cleared)) [
+        | inl inside ↦
+            let at : first + (m - first) ≡ m = omega (arith, from) in
+            or_with_false (truth_at now (m - first)) (some_has m left) (left-in m inside)
+            ∙ marked-as (m - first) (omega (arith, inside, from))
+            ∙ ap (truth_at (united cut)) at
+        | inr past ↦
+            ap (λ (b : Bool). b || some_has m left) (get_or_past now (m - first) false (omega (arith, past, adds.long)))
+            ∙ sym (united-at m left)
+            ∙ taken.rest m past
       ]
     ]
 
-    within : (k : ℕ) → truth_at marks k ≡ true → k < length marks
-    within k here = elim (cases_lt k (length marks)) [
+    inside_marks : (k : ℕ) → truth_at now k ≡ true → k < length cleared
+    inside_marks k here = elim (cases_lt k (length cleared)) [
       | inl lt ↦ lt
-      | inr past ↦ absurd (both_ways (truth_at marks k) (get_or_past marks k false past) here)
+      | inr past ↦ absurd (both_ways (truth_at now k) (get_or_past now k false (omega (arith, past, adds.long))) here)
     ]
 
-    go : (r : Option ℕ) → IsFirstMark low marks r → IsFirst (truths_marked low marks left) r
-    go None first = λ m. lacks m (first m)
-    go (Some k) first = (told k first.0 (within k first.1) ∙ first.1, λ m lt. lacks m (λ le. first.2 m le lt))
+    pub begun_marks : (number : Option ℕ) → IsFirst (united left) number → HaveMarks first now left (Asked number)
+    begun_marks number next = record {
+      window = adds.long ∙ long;
+      listed = few_kept (first + length cleared) cut left few_cut taken;
+      next = next;
+      marked = λ k here.
+          let fits : (first + k) + 1 < 2 ^ 32 = few_cut (first + k) (sym (united-at (first + k) cut) ∙ sym (marked-as k (inside_marks k here)) ∙ here) in
+          omega (arith, fits);
+      before = λ k m here there.
+          let inside : k < length cleared = inside_marks k here in
+          elim (cases_lt m (first + length cleared)) [
+            | inl lt ↦ absurd (both_ways (some_has m left) (left-in m lt) there)
+            | inr past ↦ omega (arith, inside, past)
+          ];
+    }
+
+    pub begun_drops : Drops n (united lists) (marked_or_listed first now left)
+    begun_drops = record {
+      rest = λ m le. same_as_moved m ∙ drops.rest m le;
+      below = λ m lt. same_as_moved m ∙ drops.below m lt;
+    }
+
+    pub begun_first : IsFirst (marked_or_listed first now left) (Some first)
+    begun_first = first_same (united cut) (marked_or_listed first now left) (Some first) same_as_moved is
+
+-- ---- those from a number on
+
+those-from : (low : ℕ) (xs : List Bool) (m : ℕ) → low ≤ m → truth_at (those_from low xs) m ≡ truth_at xs m
+those-from low xs m le = elim (cases_lt m (length xs)) [
+  | inl lt ↦ each-at (length xs) (λ n. nat_le low n && truth_at xs n) m lt ∙ ap (λ (b : Bool). b && truth_at xs m) (le-leb low m le)
+  | inr past ↦ each-past (length xs) (λ n. nat_le low n && truth_at xs n) m past ∙ sym (get_or_past xs m false past)
+]
+
+those-before : (low : ℕ) (xs : List Bool) (m : ℕ) → m < low → truth_at (those_from low xs) m ≡ false
+those-before low xs m before = elim (cases_lt m (length xs)) [
+  | inl lt ↦ each-at (length xs) (λ n. nat_le low n && truth_at xs n) m lt ∙ ap (λ (b : Bool). b && truth_at xs m) (lt-leb low m before)
+  | inr past ↦ each-past (length xs) (λ n. nat_le low n && truth_at xs n) m past
+]
+
+-- of which those below n are dropped
+drops_from : (n low low' : ℕ) (xs ys : List Bool) → low' ≡ max n low → ((m : ℕ) → low' ≤ m → truth_at ys m ≡ truth_at xs m) → Drops n (those_from low xs) (those_from low' ys)
+drops_from n low low' xs ys is same = record {
+  rest = λ m le. elim (cases_lt m low) [
+    | inl before ↦ those-before low' ys m (omega (arith, is, before)) ∙ sym (those-before low xs m before)
+    | inr from ↦ those-from low' ys m (omega (arith, is, le, from)) ∙ same m (omega (arith, is, le, from)) ∙ sym (those-from low xs m from)
+  ];
+  below = λ m lt. those-before low' ys m (omega (arith, is, lt));
+}
+
+module _ (n low low' start : ℕ) (marks : List Bool) (lists : List Ahead) (ahead : Head) (have : HaveMarks start marks lists ahead) (is : low' ≡ max n low) where
+  pub found_drops : Drops n (truths_marked low start marks lists) (truths_marked low' start marks lists)
+  found_drops = drops_from n low low' (marked_or_listed start marks lists) (marked_or_listed start marks lists) is (λ m le. refl)
+
+  pub found_first : (number : ℕ) → IsFirstMark start low' marks (Some number) → IsFirst (truths_marked low' start marks lists) (Some number)
+  found_first number found =
+      let xs : List Bool = marked_or_listed start marks lists in
+      let k : ℕ = found.1.0 in
+      let at : number ≡ start + k = found.1.1 in (
+        those-from low' xs number found.0
+            ∙ both-at start marks lists number
+            ∙ or_left (truth_at (replicate start false ++ marks) number) (some_has number lists) (ap (truth_at (replicate start false ++ marks)) at ∙ padded-at start marks k ∙ found.1.2),
+        λ m lt. elim (cases_lt m low') [
+          | inl before ↦ those-before low' xs m before
+          | inr from ↦
+              those-from low' xs m from
+              ∙ both-at start marks lists m
+              ∙ or_from (truth_at (replicate start false ++ marks) m) (some_has m lists) (elim (cases_lt m start) [
+                | inl under ↦ padded-before start marks m under
+                | inr over ↦ padded-from start marks m over ∙ found.1.3 (m - start) (omega (arith, over, from)) (omega (arith, over, lt, at))
+              ]) (lacks (some_has m lists) (λ here. let later : start + k < m = have.before k m found.1.2 here in omega (arith, later, lt, at)))
+        ],
+      )
+
+  module _ (start' : ℕ) (now : List Bool) (left : List Ahead) (none : IsFirstMark start low' marks None) (drops : Drops low' (united lists) (marked_or_listed start' now left)) where
+    pub windowed_drops : Drops n (truths_marked low start marks lists) (truths_marked low' start' now left)
+    windowed_drops =
+        drops_from n low low' (marked_or_listed start marks lists) (marked_or_listed start' now left) is
+        (λ m le. drops.rest m le ∙ sym (unmarked-at start low' marks lists none m le))
+
+    pub windowed_first : (number : Option ℕ) → IsFirst (marked_or_listed start' now left) number → IsFirst (truths_marked low' start' now left) number
+    windowed_first number first =
+        let ys : List Bool = marked_or_listed start' now left in
+        first_same ys (those_from low' ys) number
+        (λ m. elim (cases_lt m low') [
+          | inl before ↦ those-before low' ys m before ∙ sym (drops.below m before)
+          | inr from ↦ those-from low' ys m from
+        ]) first
+
+-- ---- a walk begins
+
+pub begins_marked : (lists : List Ahead) (marks : List Bool) → marks ≡ replicate 4096 false → (m : ℕ) → truth_at (truths_marked 0 0 marks lists) m ≡ some_has m lists
+begins_marked lists marks none m =
+    those-from 0 (marked_or_listed 0 marks lists) m (omega arith)
+    ∙ unmarked-at 0 0 marks lists (λ k le. none_at marks none k) m (omega arith)
+    ∙ united-at m lists
+
+pub begins_window : (lists : List Ahead) (marks : List Bool) → marks ≡ replicate 4096 false → AreFew lists → HaveMarks 0 marks lists Unasked
+begins_window lists marks none few = record {
+  window = ap length none ∙ length-replicate 4096 false;
+  listed = few;
+  next = tt;
+  marked = λ k here. absurd (both_ways (truth_at marks k) (none_at marks none k) here);
+  before = λ k m here there. absurd (both_ways (truth_at marks k) (none_at marks none k) here);
+}
 
 pub if_marked : {E : Type 0} (r : Result Ahead E) (xs : List Bool) (ws : List Ahead) → ((m : ℕ) → truth_at xs m ≡ some_has m ws) → IfOk r (λ w. w.truths ≡ xs) → IfOk r (λ w. (m : ℕ) → truth_at w.truths m ≡ some_has m ws)
 if_marked (Ok w) xs ws told is = λ m. ap (λ (ys : List Bool). truth_at ys m) is ∙ told m

@@ -1,11 +1,12 @@
 -- What the members of a node have done, member by member.
-use Rattle.std.proofs.Common.{◌≡◌, ◌≢◌, ◌∙◌, ◌+◌, ◌<◌, ◌≤◌, ℕ, zero, suc, Bool, true, false, ◌&&◌, ◌||◌, max, List, [], ◌∷◌, ◌++◌, length, take, get_or, Option, Some, None, refl, sym, ap, subst, arith, inl, inr}
+use Rattle.std.proofs.Common.{◌≡◌, ◌≢◌, ◌∙◌, ◌+◌, ◌-◌, ◌<◌, ◌≤◌, ℕ, zero, suc, Bool, true, false, ◌&&◌, ◌||◌, max, List, [], ◌∷◌, ◌++◌, length, take, get_or, Option, Some, None, refl, sym, ap, subst, arith, inl, inr}
 use Rattle.std.specs.Prelude.{MatchOption, min}
 use Rattle.std.proofs.Math.ListN.{set}
 use Rattle.std.proofs.lemmas.Bool.{cases_lt, or_left, or_right, or_from, and_left, and_right, and_from}
 use Rattle.std.proofs.lemmas.List.{take_all, take_more, take_more_set, length-set, get_or-set_same, get_or-set_other}
+use Rattle.mail_index.specs.Steps.{add_steps}
 use Rattle.mail_answer.specs.Marks.{truth_at}
-use Rattle.mail_answer.specs.CursorAhead.{Ahead, common, united, left_in, levels, Drops, IsFirst, Reaches, Spends, lesser_of}
+use Rattle.mail_answer.specs.CursorAhead.{Ahead, common, united, left_in, postings_in, levels, CountsPostings, Drops, IsFirst, Reaches, Spends, lesser_of}
 use Rattle.mail_answer.specs.Inside.CursorTexts.{some_has}
 use Rattle.mail_answer.proofs.CursorLaws.TruthReads.{both-at, one_or_other-at}
 use Rattle.mail_answer.proofs.CursorLaws.Turns.{first_from}
@@ -33,6 +34,29 @@ turn_steps ws i left0 steps0 steps steps1 w v lt is before now = record {
   rises = omega (arith, before.rises, now.rises);
   most = omega (arith, before.most, now.most, left-set ws i w v lt is);
 }
+
+postings-set : (ws : List Ahead) (i : ℕ) (w v : Ahead) → i < length ws → w ≡ get_or ws i w → postings_in (set ws i v) + w.postings ≡ postings_in ws + v.postings
+postings-set [] i w v lt is = absurd (omega (arith, lt))
+postings-set (x ∷ ws) zero w v lt is = let same : w.postings ≡ x.postings = ap (λ (a : Ahead). a.postings) is in omega (arith, same)
+postings-set (x ∷ ws) (suc i) w v lt is = omega (arith, postings-set ws i w v (omega (arith, lt)) is)
+
+pub none_counted : (postings steps : ℕ) → CountsPostings postings postings steps steps
+none_counted postings steps = record { fewer = omega arith; counted = omega arith }
+
+pub more_counted : (postings0 postings postings1 steps0 steps steps1 : ℕ) → CountsPostings postings0 postings steps0 steps → CountsPostings postings postings1 steps steps1
+    → CountsPostings postings0 postings1 steps0 steps1
+more_counted postings0 postings postings1 steps0 steps steps1 before now = record {
+  fewer = omega (arith, before.fewer, now.fewer);
+  counted = omega (arith, before.fewer, before.counted, now.fewer, now.counted);
+}
+
+pub turn_postings : (ws : List Ahead) (i postings0 steps0 steps steps1 : ℕ) (w v : Ahead) → i < length ws → w ≡ get_or ws i w
+    → CountsPostings postings0 (postings_in ws) steps0 steps → CountsPostings w.postings v.postings steps steps1 → CountsPostings postings0 (postings_in (set ws i v)) steps0 steps1
+turn_postings ws i postings0 steps0 steps steps1 w v lt is before now =
+    let both : postings_in (set ws i v) + w.postings ≡ postings_in ws + v.postings = postings-set ws i w v lt is in
+    let fall : w.postings - v.postings ≡ postings_in ws - postings_in (set ws i v) = omega (arith, both, now.fewer) in
+    more_counted postings0 (postings_in ws) (postings_in (set ws i v)) steps0 steps steps1 before
+    (record { fewer = omega (arith, both, now.fewer); counted = subst (λ (n : ℕ). add_steps steps n ≤ steps1) fall now.counted })
 
 -- ---- each and some
 
@@ -104,11 +128,11 @@ abbrev pub Firsts : (ℕ → Bool) → Option ℕ → Type 0
 Firsts test number =
     MatchOption number ((m : ℕ) → test m ≡ false) (λ n. (test n ≡ true) × ((m : ℕ) → m < n → test m ≡ false))
 
-firsts_same : (f g : ℕ → Bool) (r : Option ℕ) → ((m : ℕ) → g m ≡ f m) → Firsts f r → Firsts g r
+pub firsts_same : (f g : ℕ → Bool) (r : Option ℕ) → ((m : ℕ) → g m ≡ f m) → Firsts f r → Firsts g r
 firsts_same f g None same first = λ m. same m ∙ first m
 firsts_same f g (Some n) same first = (same n ∙ first.0, λ m lt. same m ∙ first.1 m lt)
 
-firsts_lesser : (f g : ℕ → Bool) (r s : Option ℕ) → Firsts f r → Firsts g s → Firsts (λ m. f m || g m) (lesser_of r s)
+pub firsts_lesser : (f g : ℕ → Bool) (r s : Option ℕ) → Firsts f r → Firsts g s → Firsts (λ m. f m || g m) (lesser_of r s)
 firsts_lesser f g None None p q = λ m. or_from (f m) (g m) (p m) (q m)
 firsts_lesser f g None (Some b) p q = (or_right (f b) (g b) q.0, λ m lt. or_from (f m) (g m) (p m) (q.1 m lt))
 firsts_lesser f g (Some a) None p q = (or_left (f a) (g a) p.0, λ m lt. or_from (f m) (g m) (p.1 m lt) (q m))

@@ -1,5 +1,5 @@
 -- Laws of spans that are copied piece by piece.
-use Rattle.std.proofs.Common.{◌≡◌, ◌∙◌, ℕ, zero, suc, ◌+◌, ◌-◌, ◌<◌, ◌≤◌, Bool, true, false, cond, List, [], ◌∷◌, ◌++◌, Option, None, Some, Result, Ok, Err, IsErr, length, take, drop, refl, ap, sym, append_assoc, append-nil, arith, inl, inr}
+use Rattle.std.proofs.Common.{◌≡◌, ◌∙◌, ℕ, zero, suc, ◌+◌, ◌-◌, ◌<◌, ◌≤◌, Bool, true, false, cond, List, [], ◌∷◌, ◌++◌, Option, None, Some, IfSome, Result, Ok, Err, IsErr, length, take, drop, refl, ap, sym, append_assoc, append-nil, arith, inl, inr}
 use Rattle.std.specs.Option.{option_map}
 use Rattle.std.proofs.lemmas.Bool.{cases_lt}
 use Rattle.std.proofs.lemmas.List.{drop-append-le, drop_all, length-drop, take-append-drop, take_rest}
@@ -22,10 +22,33 @@ use Rattle.mail_answer.proofs.OutputLaws.ReadingLemmas.{coming_read}
 
 -- ---- calls that fail
 
-pub copies_err : (t u : Option (List ℕ)) (a b : Sheet) (coming rest : Option (List ℕ)) (before : Ending) (r : Result Ending AnswerFaultKind) → IsErr r
-    → ((text : List ℕ) × Tells coming text × JoinsFront t u a b text) → Copies t u a b coming rest before r
-copies_err t u a b coming rest before (Ok ending) err went = absurd (cc err)
-copies_err t u a b coming rest before (Err kind) err went = went
+pub copies_err : (t u : Option (List ℕ)) (a b : Sheet) (coming rest : Option (List ℕ)) (count left : ℕ) (before : Ending) (r : Result Ending AnswerFaultKind) → IsErr r
+    → ((text : List ℕ) × Tells coming text × JoinsFront t u a b text × (length text ≡ count)) → Copies t u a b coming rest count left before r
+copies_err t u a b coming rest count left before (Ok ending) err went = absurd (cc err)
+copies_err t u a b coming rest count left before (Err kind) err went = went
+
+-- so many bytes
+pub some_bytes : (count : ℕ) → (bytes : List ℕ) × (length bytes ≡ count)
+some_bytes zero = ([], refl)
+some_bytes (suc count) = let bytes = some_bytes count in (0 ∷ bytes.0, omega (arith, bytes.1))
+
+-- what comes, or some bytes, as many as come
+pub some_coming : (held : Option (List (List ℕ))) (number : ℕ) (r : Reading) → IsInside number held r → (text : List ℕ) × Tells (coming held r) text × (length text ≡ coming_count r)
+some_coming None number r inside = let bytes = some_bytes (coming_count r) in (bytes.0, tt, bytes.1)
+some_coming (Some archives) number r inside = (r.unread ++ take r.left (drop r.next (archive_at archives r.archive)), refl, count_known archives number r inside)
+
+-- a part behind a piece of it
+pub inside_behind : (number : ℕ) (held : Option (List (List ℕ))) (archive next left n : ℕ) → n ≤ left → IsInside number held (record { archive = archive; unread = []; next = next; left = left })
+    → IsInside number held (record { archive = archive; unread = []; next = next + n; left = left - n })
+inside_behind number held archive next left n le h = record {
+  exists = h.exists;
+  fits = omega (arith, h.fits, le);
+  within = known held h.within;
+}
+  where
+    known : (held : Option (List (List ℕ))) → IfSome held (λ archives. next + left ≤ length (archive_at archives archive)) → IfSome held (λ archives. next + n + (left - n) ≤ length (archive_at archives archive))
+    known None within = tt
+    known (Some archives) within = omega (arith, le, within)
 
 -- ---- what closes some bytes closes their last line
 
@@ -50,11 +73,11 @@ closed_by_last-from (suc most) b le some =
           one_line b some whole ∙ ap (λ (ls : List (List ℕ)). b ++ feeds_behind (last_of ls)) (sym (lines_single b some whole))
     ]
 
-closed_by_last : (b : List ℕ) → 0 < length b → closed b ≡ b ++ feeds_of (ending_of b)
+pub closed_by_last : (b : List ℕ) → 0 < length b → closed b ≡ b ++ feeds_of (ending_of b)
 closed_by_last b some = closed_by_last-from (length b) b (omega arith) some ∙ ap (λ (l : List ℕ). b ++ l) (sym (feeds_told (last_of (lines b))))
 
 -- they are a front of what is closed
-closed_begins : (b : List ℕ) → (feeds : List ℕ) × (closed b ≡ b ++ feeds)
+pub closed_begins : (b : List ℕ) → (feeds : List ℕ) × (closed b ≡ b ++ feeds)
 unfolding closed
 closed_begins b = go (is_closed b) (is_closed (b ++ feed))
   where

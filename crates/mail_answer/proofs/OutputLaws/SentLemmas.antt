@@ -1,15 +1,17 @@
 -- Laws of what went out of an answer.
 use Rattle.std.proofs.Common.{◌≡◌, ℕ, List, [], Option, Result, length, refl, sym, ◌∙◌, ap, subst, arith}
+use Rattle.std.specs.List.{flat_map}
 use Rattle.contract_words.proofs.Sending.{appends-nil}
 use Rattle.mail_index.specs.Tables.{Table}
-use Rattle.mail_answer.specs.Answers.{SendsFront, SendsKnown}
+use Rattle.mail_answer.specs.Answers.{SendsFront, SendsKnown, SendsSpans}
 use Rattle.mail_answer.specs.Mail.{Search, AreChosen}
-use Rattle.mail_answer.specs.Shapes.{known_answer}
+use Rattle.mail_answer.specs.Shapes.{known_answer, closed, AreSpansOf}
 use Rattle.mail_answer.specs.Sheets.{Tells}
 use Rattle.mail_answer.specs.TableAnswers.{mail_told, TableAnswer, IsTableAnswer, Answers, answer_of_numbers}
 use Rattle.mail_answer.specs.declared.fault.AnswerFault.{AnswerFault}
 use Rattle.mail_answer.proofs.OutputLaws.EveryAnswer.{one-choice}
 use Rattle.mail_answer.proofs.OutputLaws.SheetLemmas.{some_text}
+use Rattle.mail_answer.proofs.OutputLaws.SpanWrites.{some_spans}
 
 -- nothing went out
 pub nothing_sent : (taken known : Option (List ℕ)) → (text : List ℕ) × Tells known text × SendsFront taken taken text 0
@@ -23,3 +25,14 @@ pub answered_sent : (t : Table) (s : Search) (held : Option (List (List ℕ))) (
 answered_sent t s held taken taken' r xs are sent a is =
     let same : a ≡ answer_of_numbers t s held xs = is.2 ∙ ap (answer_of_numbers t s held) (one-choice t s.threads s.query is.0 xs is.1 are) in
     subst (λ (b : TableAnswer). Answers taken taken' b r) (sym same) sent
+
+-- nothing went out of an mbox answer
+pub no_spans_sent : (taken : Option (List ℕ)) (t : Table) (numbers : List ℕ) → (spans : List (List ℕ)) × AreSpansOf t numbers spans × SendsFront taken taken (flat_map closed spans) 0
+no_spans_sent taken t numbers =
+    let spans = some_spans t numbers in
+    (spans.0, spans.1, record { went = []; unsent = flat_map closed spans.0; front = refl; appends = appends-nil taken; counted = omega arith })
+
+-- the spans that were written are those of the numbers that are chosen
+pub spans_sent : (t : Table) (s : Search) (taken taken' : Option (List ℕ)) (r : Result ℕ AnswerFault) (xs : List ℕ) → AreChosen (mail_told t) s xs → SendsSpans taken taken' t xs r
+    → (numbers : List ℕ) → AreChosen (mail_told t) s numbers → SendsSpans taken taken' t numbers r
+spans_sent t s taken taken' r xs are sent numbers chosen = subst (λ (ns : List ℕ). SendsSpans taken taken' t ns r) (one-choice t s.threads s.query xs numbers are chosen) sent

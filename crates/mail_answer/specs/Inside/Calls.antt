@@ -14,11 +14,18 @@ pub record AreAsIndexed {A : Type 0} (g : Ghosts A) (indexed : List Archive) (a 
   pub fresh : IfSome (g.held a) (λ bytes. stale_archive indexed bytes ≡ None)
 
 -- after any calls of archives, whether they failed or not
-pub record KeepsArchives {A : Type 0} (g : Ghosts A) (old new : A) : Type 0 where
+pub record HoldsArchives {A : Type 0} (g : Ghosts A) (old new : A) : Type 0 where
   -- each holds the bytes that it held, where they are known
   pub held : g.held new ≡ g.held old
   -- they are as many
   pub number : g.number new ≡ g.number old
+
+-- after reads alone
+pub record KeepsArchives {A : Type 0} (g : Ghosts A) (old new : A) : Type 0 where
+  pub held : g.held new ≡ g.held old
+  pub number : g.number new ≡ g.number old
+  -- none was asked for its length
+  pub asked : g.lengths_asked new ≡ g.lengths_asked old
 
 -- archives were read that are as they were indexed
 pub record ReadsArchives {A T : Type 0} (g : Ghosts A) (old new : A) (result : Result T AnswerFaultKind) : Type 0 where

@@ -1,5 +1,5 @@
 -- What a call that copies a piece of an archive does to an answer.
-use Rattle.std.specs.Prelude.{◌≡◌, ℕ, List, ◌++◌, Option, Result, Ok, Err}
+use Rattle.std.specs.Prelude.{◌≡◌, ℕ, ◌+◌, List, ◌++◌, length, Option, Result, Ok, Err}
 use Rattle.std.specs.Option.{option_map}
 use Rattle.mail_answer.specs.Inside.Endings.{ending_of}
 use Rattle.mail_answer.specs.Sheets.{Tells, Joins, JoinsFront}
@@ -7,8 +7,9 @@ use Rattle.mail_answer.specs.declared.output.ending.Ending.{Ending}
 use Rattle.mail_answer.specs.declared.fault.AnswerFaultKind.{AnswerFaultKind}
 use Rattle.mail_answer.specs.declared.output.sheet.Sheet.{Sheet}
 
--- A front of what comes joined the answer, and it is told how the last line stands with it; of a fault, a front of it went out.
-abbrev pub Copies : Option (List ℕ) → Option (List ℕ) → Sheet → Sheet → Option (List ℕ) → Option (List ℕ) → Ending → Result Ending AnswerFaultKind → Type 0
-Copies taken taken' old new coming rest before (Ok ending) =
-    (piece : List ℕ) × (coming ≡ option_map (λ bytes. piece ++ bytes) rest) × Joins taken taken' old new piece × ((text : List ℕ) → before ≡ ending_of text → ending ≡ ending_of (text ++ piece))
-Copies taken taken' old new coming rest before (Err _) = (text : List ℕ) × Tells coming text × JoinsFront taken taken' old new text
+-- A front of what comes joined the answer, and it is told how the last line stands with it; of a fault, a front of it went out. So
+-- many bytes came, and so many are left.
+abbrev pub Copies : Option (List ℕ) → Option (List ℕ) → Sheet → Sheet → Option (List ℕ) → Option (List ℕ) → ℕ → ℕ → Ending → Result Ending AnswerFaultKind → Type 0
+Copies taken taken' old new coming rest count left before (Ok ending) =
+    (piece : List ℕ) × (coming ≡ option_map (λ bytes. piece ++ bytes) rest) × Joins taken taken' old new piece × ((text : List ℕ) → before ≡ ending_of text → ending ≡ ending_of (text ++ piece)) × (count ≡ length piece + left)
+Copies taken taken' old new coming rest count left before (Err _) = (text : List ℕ) × Tells coming text × JoinsFront taken taken' old new text × (length text ≡ count)

@@ -1,23 +1,36 @@
--- The messages of some lists, of which some were read: those of these are marked.
-use Rattle.std.specs.Prelude.{◌≡◌, ℕ, ◌^◌, ◌<◌, ◌≤◌, nat_le, Bool, true, false, ◌&&◌, ◌||◌, List, length, Option, MatchOption}
+-- A window over the messages of some lists: those that lie in it are marked, and the others are left in the lists.
+use Rattle.std.specs.Prelude.{◌≡◌, ℕ, ◌+◌, ◌^◌, ◌<◌, ◌≤◌, nat_le, Bool, true, false, ◌&&◌, List, ◌++◌, length, replicate, Option, MatchOption}
 use Rattle.mail_answer.specs.Marks.{truth_at, each_number}
-use Rattle.mail_answer.specs.CursorAhead.{Ahead}
+use Rattle.mail_answer.specs.CursorAhead.{Ahead, one_or_other, united}
+use Rattle.mail_answer.specs.declared.cursor.head.Head.{Head}
+use Rattle.mail_answer.specs.Inside.CursorHeads.{IsHead}
 use Rattle.mail_answer.specs.Inside.CursorTexts.{some_has}
 
--- from a number on those that are marked, or come in a list that wasn't read yet
-abbrev pub is_marked : ℕ → List Bool → List Ahead → ℕ → Bool
-is_marked low marks lists n = nat_le low n && (truth_at marks n || some_has n lists)
+-- the messages that are marked, from the window's first one on, or come in a list
+abbrev pub marked_or_listed : ℕ → List Bool → List Ahead → List Bool
+marked_or_listed start marks lists = one_or_other (replicate start false ++ marks) (united lists)
 
-abbrev pub truths_marked : ℕ → List Bool → List Ahead → List Bool
-truths_marked low marks lists = each_number (length marks) (is_marked low marks lists)
+-- those that are true, from a number on
+abbrev pub those_from : ℕ → List Bool → List Bool
+those_from low truths = each_number (length truths) (λ n. nat_le low n && truth_at truths n)
 
--- there is a mark for each number of the lists
-pub record HaveMarks (marks : List Bool) (lists : List Ahead) : Type 0 where
-  pub few : length marks < 2 ^ 32
-  pub within : (m : ℕ) → some_has m lists ≡ true → m < length marks
+abbrev pub truths_marked : ℕ → ℕ → List Bool → List Ahead → List Bool
+truths_marked low start marks lists = those_from low (marked_or_listed start marks lists)
+
+-- each number of the lists has one behind it that fits
+abbrev pub AreFew : List Ahead → Type 0
+AreFew lists = (m : ℕ) → some_has m lists ≡ true → m + 1 < 2 ^ 32
+
+-- there are no more marks than a window covers, and each comes before all that is left of the lists, of which the first is known
+pub record HaveMarks (start : ℕ) (marks : List Bool) (lists : List Ahead) (ahead : Head) : Type 0 where
+  pub window : length marks ≡ 4096
+  pub listed : AreFew lists
+  pub next : IsHead (united lists) ahead
+  pub marked : (k : ℕ) → truth_at marks k ≡ true → start + k < 2 ^ 32
+  pub before : (k m : ℕ) → truth_at marks k ≡ true → some_has m lists ≡ true → start + k < m
 
 -- the first from a number on that is marked, if there is one
-abbrev pub IsFirstMark : ℕ → List Bool → Option ℕ → Type 0
-IsFirstMark low marks number =
-    MatchOption number ((m : ℕ) → low ≤ m → truth_at marks m ≡ false)
-    (λ k. (low ≤ k) × (truth_at marks k ≡ true) × ((m : ℕ) → low ≤ m → m < k → truth_at marks m ≡ false))
+abbrev pub IsFirstMark : ℕ → ℕ → List Bool → Option ℕ → Type 0
+IsFirstMark start low marks number =
+    MatchOption number ((k : ℕ) → low ≤ start + k → truth_at marks k ≡ false)
+    (λ n. (low ≤ n) × ((k : ℕ) × (n ≡ start + k) × (truth_at marks k ≡ true) × ((j : ℕ) → low ≤ start + j → j < k → truth_at marks j ≡ false)))

@@ -1,7 +1,7 @@
 //! Archives that fail once, for tests.
 ghost use Rattle.std.specs.Prelude.{◌≡◌, ◌≢◌, ◌<◌, ◌≤◌, ◌-◌, ◌+◌, ◌^◌, length, take, nat_eq, IfOk, IsErr};
 ghost use Rattle.contract_words.specs.Devices.{Counted, Counts};
-ghost use Rattle.mail_answer.specs.Archives.{IsCount, IsLength, IsRead};
+ghost use Rattle.mail_answer.specs.Archives.{IsCount, IsLength, IsRead, bytes_told};
 
 use crate::archives::Archives;
 use mbox_cutter::DeviceFault;
@@ -53,6 +53,12 @@ impl<A: Archives + Drop> Archives for FailAt<A> {
 
     ghost failures = { λ s. A.failures s.inner + s.failures };
 
+    ghost lengths_asked = { λ s. A.lengths_asked s.inner };
+
+    ghost measures = { λ s n told t. (s.fail_at ≡ 1 → IsErr told × (t.inner ≡ s.inner)) × (s.fail_at ≢ 1 → A.measures s.inner n told t.inner) × (t.fail_at ≡ s.fail_at - 1) };
+
+    ghost reads = { λ s n offset told t. (s.fail_at ≡ 1 → IsErr told × (t.inner ≡ s.inner)) × (s.fail_at ≢ 1 → A.reads s.inner n offset told t.inner) × (t.fail_at ≡ s.fail_at - 1) };
+
     fn count(&self) -> u32 {
         self.inner.count()
     }
@@ -66,6 +72,7 @@ impl<A: Archives + Drop> Archives for FailAt<A> {
         ensures count { Counts result (A.failures self.old.inner + self.old.failures) (A.failures self.new.inner + self.new.failures) }
         ensures fails { self.old.fail_at ≡ 1 → IsErr result × (self.new.inner ≡ self.old.inner) }
         ensures passes { self.old.fail_at ≢ 1 → Counts result (A.failures self.old.inner) (A.failures self.new.inner) }
+        ensures measured { self.old.fail_at ≢ 1 → A.measures self.old.inner n result self.new.inner }
         ensures next { self.new.fail_at ≡ self.old.fail_at - 1 }
     {
         if self.fails() {
@@ -85,6 +92,8 @@ impl<A: Archives + Drop> Archives for FailAt<A> {
         ensures count { Counts result (A.failures self.old.inner + self.old.failures) (A.failures self.new.inner + self.new.failures) }
         ensures fails { self.old.fail_at ≡ 1 → IsErr result × (self.new.inner ≡ self.old.inner) }
         ensures passes { self.old.fail_at ≢ 1 → Counts result (A.failures self.old.inner) (A.failures self.new.inner) }
+        ensures asked { A.lengths_asked self.new.inner ≡ A.lengths_asked self.old.inner }
+        ensures read { self.old.fail_at ≢ 1 → A.reads self.old.inner n offset (bytes_told result into.new) self.new.inner }
         ensures next { self.new.fail_at ≡ self.old.fail_at - 1 }
     {
         if self.fails() {

@@ -55,6 +55,12 @@ impl Archives for MemoryArchives {
 
     ghost failures = { λ s. 0 };
 
+    ghost lengths_asked = { λ _. 0 };
+
+    ghost measures = { λ _ _ _ _. Unit {0} };
+
+    ghost reads = { λ _ _ _ _ _. Unit {0} };
+
     fn count(&self) -> u32 {
         self.archives.len() as u32
     }

@@ -1,15 +1,16 @@
 //! Whether archives have the bytes that were indexed.
-ghost use Rattle.std.specs.Prelude.{◌≡◌, ◌≢◌, ◌<◌, ◌≤◌, ◌-◌, ◌^◌, ℕ, List, false, length, min, None, Err, IfOk, IfErr, OnOk, IfSome};
-ghost use Rattle.std.specs.Bool.{OnTrue};
+ghost use Rattle.std.specs.Prelude.{◌≡◌, ◌≢◌, ◌<◌, ◌≤◌, ◌-◌, ◌^◌, ℕ, List, false, length, min, None, Err, IfOk, IfErr, OnOk, OnErr, IfSome};
 ghost use Rattle.contract_words.specs.Devices.{Counted};
+ghost use Rattle.mbox_cutter.specs.declared.device.DeviceFault.{DeviceFault};
 ghost use Rattle.mail_index.specs.Tables.{IsWellFormed};
-ghost use Rattle.mail_answer.specs.Answers.{fails_by};
+ghost use Rattle.mail_answer.specs.Answers.{fails_by, kind_of};
 ghost use Rattle.mail_answer.specs.Archives.{archive_at};
-ghost use Rattle.mail_answer.specs.Inside.Calls.{AreAsIndexed, KeepsArchives};
-ghost use Rattle.mail_answer.specs.Inside.Digests.{front_digest, has_front_digest as has_front_digest_of, AbsorbsPart, IsDigestOf};
+ghost use Rattle.mail_answer.specs.Inside.Calls.{AreAsIndexed, HoldsArchives, KeepsArchives};
+ghost use Rattle.mail_answer.specs.Inside.Digests.{front_digest, has_front_digest as has_front_digest_of, AbsorbsPart, ReadsDigest, ComparesDigest};
 ghost use Rattle.mail_answer.specs.Faults.{has_fault, is_of_archives, is_of_output, IfStale};
 ghost use Rattle.mail_answer.specs.Stale.{stale_archive, TellsStale};
-ghost use Rattle.mail_answer.specs.Verified.{first_altered, AreVerified, TellsFound, TellsVerified};
+ghost use Rattle.mail_answer.specs.Pieces.{StopsWithin};
+ghost use Rattle.mail_answer.specs.Verified.{first_altered, AreVerified, TellsFound, TellsVerified, FindsDigests, LooksThrough};
 
 use crate::archives::Archives;
 use crate::archives::stale::check_archives;
@@ -34,7 +35,8 @@ fn digest_piece<A: Archives>(
     requires count { A.failures archives.old < 2 ^ 64 - 1 }
     ensures keeps { KeepsArchives A.Archives archives.old archives.new }
     ensures bound { IfOk result (λ count. count ≤ length room.old) }
-    ensures part { IfOk result (λ count. AbsorbsPart archive offset count (A.held archives.old) hasher.old hasher.new) }
+    ensures part { IfOk result (λ count. AbsorbsPart A.Archives archive offset count (A.held archives.old) archives.old archives.new hasher.old hasher.new) }
+    ensures failed { OnErr result ((fault : DeviceFault) × A.reads archives.old archive offset (Err fault) archives.new) }
     ensures count { Counted (has_fault is_of_archives result) (A.failures archives.old) (A.failures archives.new) }
     ensures own { IfErr result (λ kind. kind ≡ AnswerFaultKind.Device) }
 {
@@ -59,7 +61,8 @@ fn read_digest<A: Archives>(
     requires count { A.failures archives.old < 2 ^ 64 - 1 }
     ensures keeps { KeepsArchives A.Archives archives.old archives.new }
     ensures digest { IfOk result (λ digest. IfSome (A.held archives.old) (λ bytes. digest ≡ front_digest indexed_length (archive_at bytes archive))) }
-    ensures read { IfOk result (λ digest. IfSome digest (λ digest. IsDigestOf indexed_length digest)) }
+    ensures read { IfOk result (λ digest. ReadsDigest A.Archives archive indexed_length archives.old archives.new digest) }
+    ensures failed { OnErr result ((fault : DeviceFault) × StopsWithin A.Archives archive indexed_length (Err fault) archives.old archives.new) }
     ensures count { Counted (has_fault is_of_archives result) (A.failures archives.old) (A.failures archives.new) }
     ensures own { IfErr result (λ kind. kind ≡ AnswerFaultKind.Device) }
 {
@@ -89,7 +92,8 @@ fn has_front_digest<A: Archives>(
     requires count { A.failures archives.old < 2 ^ 64 - 1 }
     ensures keeps { KeepsArchives A.Archives archives.old archives.new }
     ensures same { IfOk result (λ same. IfSome (A.held archives.old) (λ bytes. same ≡ has_front_digest_of indexed_length indexed (archive_at bytes archive))) }
-    ensures read { IfOk result (λ same. OnTrue same (IsDigestOf indexed_length indexed)) }
+    ensures read { IfOk result (λ same. ComparesDigest A.Archives archive indexed_length indexed archives.old archives.new same) }
+    ensures failed { OnErr result ((fault : DeviceFault) × StopsWithin A.Archives archive indexed_length (Err fault) archives.old archives.new) }
     ensures count { Counted (has_fault is_of_archives result) (A.failures archives.old) (A.failures archives.new) }
     ensures own { IfErr result (λ kind. kind ≡ AnswerFaultKind.Device) }
 {
@@ -112,7 +116,7 @@ fn check_digests<A: Archives>(
     requires count { A.failures archives.old < 2 ^ 64 - 1 }
     ensures keeps { KeepsArchives A.Archives archives.old archives.new }
     ensures altered { IfSome (A.held archives.old) (λ bytes. TellsStale (first_altered 0 index.now.archives bytes) result) }
-    ensures read { OnOk result ((read : List (List ℕ)) × AreVerified index.now.archives read) }
+    ensures found { FindsDigests A.Archives index.now.archives archives.old archives.new result }
     ensures below { IfErr result (λ kind. IfStale kind (λ n. n < length index.now.archives)) }
     ensures count { Counted (has_fault is_of_archives result) (A.failures archives.old) (A.failures archives.new) }
     ensures own { has_fault is_of_output result ≡ false }
@@ -141,8 +145,10 @@ fn verify_each<A: Archives>(
     requires table { IsWellFormed index.now }
     requires version { index.now.version ≡ 2 }
     requires count { A.failures archives.old < 2 ^ 64 - 1 }
-    ensures keeps { KeepsArchives A.Archives archives.old archives.new }
+    ensures keeps { HoldsArchives A.Archives archives.old archives.new }
     ensures verified { IfSome (A.held archives.old) (λ bytes. TellsFound index.now.archives bytes result) }
+    ensures found { A.number archives.old ≡ length index.now.archives → LooksThrough A.Archives index.now.archives archives.old archives.new result }
+    ensures unasked { A.number archives.old ≢ length index.now.archives → archives.new ≡ archives.old }
     ensures read { OnOk result ((read : List (List ℕ)) × AreVerified index.now.archives read) }
     ensures same_count { OnOk result (A.number archives.old ≡ length index.now.archives) }
     ensures other_count { A.number archives.old ≢ length index.now.archives → result ≡ Err (AnswerFaultKind.Stale (min (A.number archives.old) (length index.now.archives))) }
@@ -178,6 +184,10 @@ pub fn verify<A: Archives>(
     ensures read { OnOk result ((read : List (List ℕ)) × AreVerified index.now.archives read) }
     ensures same_count { OnOk result (A.number archives.old ≡ length index.now.archives) }
     ensures other_count { A.number archives.old ≢ length index.now.archives → result ≡ Err (record { kind = AnswerFaultKind.Stale (min (A.number archives.old) (length index.now.archives)); sent = 0 }) }
+    // The lengths are asked first, each once and in order, and then the archives are read, each once and in order, up to the first
+    // that isn't the one that was indexed. Device is answered where a call fails before.
+    ensures found { A.number archives.old ≡ length index.now.archives → LooksThrough A.Archives index.now.archives archives.old archives.new (kind_of result) }
+    ensures unasked { A.number archives.old ≢ length index.now.archives → archives.new ≡ archives.old }
     // Of as many archives as were indexed Stale names one, whether their bytes are known or not.
     ensures below { A.number archives.old ≡ length index.now.archives → IfErr result (λ fault. IfStale fault.kind (λ n. n < length index.now.archives)) }
     ensures archives_count { Counted (fails_by is_of_archives result) (A.failures archives.old) (A.failures archives.new) }

@@ -1,5 +1,6 @@
 //! What a walk remembers of its first number.
 ghost use Rattle.std.specs.Prelude.{◌≡◌};
+ghost use Rattle.mail_answer.specs.CursorAhead.{lesser_of};
 ghost use Rattle.mail_answer.specs.Inside.CursorHeads.{is_from as is_from_of};
 
 /// What a walk remembers of the first number that is still to come.
@@ -18,5 +19,16 @@ pub(crate) fn is_from(first: Option<u32>, n: u32) -> bool
     match first {
         Some(number) => n <= number,
         None => true,
+    }
+}
+
+/// The lesser of two numbers, as far as there are any.
+pub(crate) fn lesser_of(one: Option<u32>, other: Option<u32>) -> Option<u32>
+    ensures { result ≡ lesser_of one other }
+{
+    match (one, other) {
+        (Some(a), Some(b)) => Some(a.min(b)),
+        (Some(a), None) => Some(a),
+        (None, number) => number,
     }
 }

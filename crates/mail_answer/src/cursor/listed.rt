@@ -1,7 +1,7 @@
 //! The walk along a posting list.
-ghost use Rattle.std.specs.Prelude.{◌≡◌, ℕ, ◌-◌, ◌≤◌, length};
+ghost use Rattle.std.specs.Prelude.{◌≡◌, ℕ, ◌-◌, ◌≤◌, length, IfNone};
 ghost use Rattle.mail_index.specs.Steps.{add_steps};
-ghost use Rattle.mail_answer.specs.CursorAhead.{Drops, IsFirst, Spends};
+ghost use Rattle.mail_answer.specs.CursorAhead.{Counts, Drops, IsFirst};
 ghost use Rattle.mail_answer.specs.Inside.CursorLists.{numbers_ahead, truths_among, AreNumbers, AreCut, first_of, is_before as is_before_of};
 ghost use Rattle.mail_index.specs.Tables.{RisesFrom};
 
@@ -23,7 +23,7 @@ impl<'a> Model for Listed<'a> {
 
     ghost Value = { Ahead };
 
-    ghost view = { λ s. record { truths = truths_among s.count (numbers_ahead s.first s.postings); left = length s.postings; below = 0 } };
+    ghost view = { λ s. record { truths = truths_among s.count (numbers_ahead s.first s.postings); left = length s.postings; postings = length s.postings; below = 0 } };
 
     ghost invariant = { λ s. AreNumbers s.count (numbers_ahead s.first s.postings) };
 }
@@ -69,7 +69,8 @@ impl<'a> Listed<'a> {
     pub(crate) fn least_from(&mut self, n: u32, steps: &mut Steps) -> Option<u32>
         ensures rest { Drops n self.old.truths self.new.truths }
         ensures number { IsFirst self.new.truths result }
-        ensures steps { Spends self.old.left self.new.left steps.old steps.new }
+        ensures steps { Counts self.old.left self.new.left steps.old steps.new }
+        ensures ended { IfNone result (self.new.left ≡ 0) }
         ensures below { self.new.below ≡ self.old.below }
     {
         cut(&mut self.first, &mut self.postings, n, steps);

@@ -1,23 +1,34 @@
-//! The walk along very many posting lists.
-ghost use Rattle.std.specs.Prelude.{◌≡◌, ◌<◌, ◌≤◌, ◌^◌, ℕ, [], true, length, IfOk};
-ghost use Rattle.mail_answer.specs.CursorAhead.{Drops, IsFirst, Spends, left_in};
-ghost use Rattle.mail_answer.specs.Inside.CursorMarks.{HaveMarks, IsFirstMark, truths_marked};
+//! The walk along many posting lists.
+//!
+//! Decision 74 in docs/DECISIONS.md says why it is so.
+ghost use Rattle.std.specs.Prelude.{◌≡◌, ◌<◌, ◌^◌, ◌+◌, ℕ, true, length, IfNone};
+ghost use Rattle.mail_answer.specs.CursorAhead.{Counts, Drops, IsFirst, left_in, united};
+ghost use Rattle.mail_answer.specs.Inside.CursorHeads.{IsHead};
+ghost use Rattle.mail_answer.specs.Inside.CursorMarks.{AreFew, HaveMarks, IsFirstMark, marked_or_listed, truths_marked};
 ghost use Rattle.mail_answer.specs.Inside.CursorTexts.{some_has};
 ghost use Rattle.mail_answer.specs.Marks.{Adds, truth_at};
 
+use crate::cursor::head::{Head, is_from, lesser_of};
 use crate::cursor::listed::Listed;
 use mail_index::Steps;
-use std::alloc::{AllocError, Global};
 use std::marker::Model;
 
-/// The messages that come in some of many posting lists. Before the first number is given each list is read from its front to its end,
-/// and the messages in it are marked: going from list to list at each number would wait for memory at each step.
+/// How many messages a window covers.
+const WINDOW: usize = 4096;
+
+/// The messages that come in some of many posting lists. Those that lie in a window are marked: going
+/// from list to list at each number would wait for memory at each step. Where no mark is left, the
+/// window begins anew at the least number of the lists.
 #[derive(Debug, Drop)]
 pub(crate) struct Marked<'a> {
-    // The lists that weren't read yet.
+    // The lists, each from the first number behind the window on. Those at their end are taken out.
     lists: Vec<Listed<'a>>,
-    // Whether each message came in a list that was read.
-    marks: Vec<bool>,
+    // The least number of the lists.
+    ahead: Head,
+    // Whether each message of the window comes in a list.
+    marks: [bool; WINDOW],
+    // The first message of the window.
+    start: u32,
     // All messages below are dropped.
     low: u32,
 }
@@ -28,98 +39,172 @@ impl<'a> Model for Marked<'a> {
 
     ghost Value = { Ahead };
 
-    ghost view = { λ s. record { truths = truths_marked s.low s.marks.items s.lists.items; left = left_in s.lists.items; below = 0 } };
+    ghost view = { λ s. record { truths = truths_marked s.low s.start s.marks s.lists.items; left = left_in s.lists.items; postings = left_in s.lists.items; below = 0 } };
 
-    ghost invariant = { λ s. HaveMarks s.marks.items s.lists.items };
+    ghost invariant = { λ s. HaveMarks s.start s.marks s.lists.items s.ahead };
 }
 
-/// Marks the messages of a list.
-fn mark(mut list: Listed<'_>, marks: &mut [bool], steps: &mut Steps)
-    requires few { length marks.old < 2 ^ 32 }
-    requires within { (m : ℕ) → truth_at list.truths m ≡ true → m < length marks.old }
-    ensures marks { Adds (truth_at list.entry.truths) marks.old marks.new }
-    ensures steps { Spends list.entry.left 0 steps.old steps.new }
+/// Marks the messages of a list that lie in the window from `start` on, drops them and all before
+/// them, and answers the first of the others.
+fn mark(list: &mut Listed<'_>, start: u32, marks: &mut [bool], steps: &mut Steps) -> Option<u32>
+    requires { (m : ℕ) → truth_at list.old.truths m ≡ true → m + 1 < 2 ^ 32 }
+    ensures rest { Drops (start + length marks.old) list.old.truths list.new.truths }
+    ensures number { IsFirst list.new.truths result }
+    ensures marks { Adds (λ k. truth_at list.old.truths (start + k)) marks.old marks.new }
+    ensures steps { Counts list.old.left list.new.left steps.old steps.new }
+    ensures ended { IfNone result (list.new.left ≡ 0) }
 {
-    let mut from = 0;
-    while let Some(number) = list.least_from(from, steps) {
-        marks[number as usize] = true;
-        from = number + 1;
-    }
-}
-
-/// Marks the messages of all lists, of which none is left.
-fn mark_all(lists: &mut Vec<Listed<'_>>, marks: &mut [bool], steps: &mut Steps)
-    requires { HaveMarks marks.old lists.old.items }
-    ensures none { lists.new.items ≡ [] }
-    ensures marks { Adds (λ m. some_has m lists.old.items) marks.old marks.new }
-    ensures steps { Spends (left_in lists.old.items) 0 steps.old steps.new }
-{
-    while let Some(list) = lists.pop() {
-        mark(list, marks, steps);
-    }
-}
-
-/// The number of the first mark from one on.
-fn first_mark(marks: &[bool], low: u32) -> Option<u32>
-    requires { length marks.now < 2 ^ 32 }
-    ensures { IsFirstMark low marks.now result }
-{
-    let mut number = low;
-    while (number as usize) < marks.len() {
-        if marks[number as usize] {
-            return Some(number);
+    let mut least = list.least_from(start, steps);
+    while let Some(number) = least {
+        let place = (number - start) as usize;
+        if place >= marks.len() {
+            return least;
         }
-        number += 1;
+        marks[place] = true;
+        least = list.least_from(number + 1, steps);
     }
     None
 }
 
-/// Marks what is left of the lists, drops the messages below n, and answers the first of the others.
-#[tactic(auto, using(crate::proofs::CursorLaws::MarkedLists::marked_drops, crate::proofs::CursorLaws::MarkedLists::marked_first))]
+/// Marks the messages of all lists that lie in the window from `start` on, drops them and all before
+/// them, and answers the first of the others. A list that comes to its end is taken out.
+fn mark_all(
+    lists: &mut Vec<Listed<'_>>,
+    start: u32,
+    marks: &mut [bool],
+    steps: &mut Steps,
+) -> Option<u32>
+    requires { AreFew lists.old.items }
+    ensures rest { Drops (start + length marks.old) (united lists.old.items) (united lists.new.items) }
+    ensures number { IsFirst (united lists.new.items) result }
+    ensures marks { Adds (λ k. truth_at (united lists.old.items) (start + k)) marks.old marks.new }
+    ensures steps { Counts (left_in lists.old.items) (left_in lists.new.items) steps.old steps.new }
+{
+    let mut least = None;
+    let mut place = 0;
+    while place < lists.len() {
+        match mark(&mut lists[place], start, marks, steps) {
+            Some(number) => {
+                least = lesser_of(least, Some(number));
+                place += 1;
+            }
+            None => {
+                lists.swap_remove(place);
+            }
+        }
+    }
+    least
+}
+
+/// The first message from n on that comes in a list; all before it are dropped.
+#[tactic(auto, using(crate::proofs::CursorLaws::MarkedLists::drops_at_once))]
+fn least_ahead(lists: &mut Vec<Listed<'_>>, ahead: Head, n: u32, steps: &mut Steps) -> Option<u32>
+    requires few { AreFew lists.old.items }
+    requires ahead { IsHead (united lists.old.items) ahead }
+    ensures rest { Drops n (united lists.old.items) (united lists.new.items) }
+    ensures number { IsFirst (united lists.new.items) result }
+    ensures steps { Counts (left_in lists.old.items) (left_in lists.new.items) steps.old steps.new }
+{
+    if let Head::Asked(first) = ahead
+        && is_from(first, n)
+    {
+        return first;
+    }
+    mark_all(lists, n, &mut [], steps)
+}
+
+/// Begins the window anew at the first message from n on that comes in a list, and answers it. Where
+/// there is none, no message is left.
+fn begin_window(
+    lists: &mut Vec<Listed<'_>>,
+    ahead: &mut Head,
+    marks: &mut [bool; WINDOW],
+    start: &mut u32,
+    n: u32,
+    steps: &mut Steps,
+) -> Option<u32>
+    requires { HaveMarks start.old marks.old lists.old.items ahead.old }
+    ensures marks { HaveMarks start.new marks.new lists.new.items ahead.new }
+    ensures rest { Drops n (united lists.old.items) (marked_or_listed start.new marks.new lists.new.items) }
+    ensures number { IsFirst (marked_or_listed start.new marks.new lists.new.items) result }
+    ensures steps { Counts (left_in lists.old.items) (left_in lists.new.items) steps.old steps.new }
+{
+    let number = least_ahead(lists, *ahead, n, steps);
+    *ahead = Head::Asked(number);
+    *marks = [false; WINDOW];
+    if let Some(first) = number {
+        *start = first;
+        *ahead = Head::Asked(mark_all(lists, first, marks.as_mut_slice(), steps));
+    }
+    number
+}
+
+/// The number of the first mark from one on.
+fn first_mark(marks: &[bool], start: u32, low: u32) -> Option<u32>
+    requires { (k : ℕ) → truth_at marks.now k ≡ true → start + k < 2 ^ 32 }
+    ensures { IsFirstMark start low marks.now result }
+{
+    let mut place = low.saturating_sub(start) as usize;
+    while place < marks.len() {
+        if marks[place] {
+            return Some(start + place as u32);
+        }
+        place += 1;
+    }
+    None
+}
+
+/// Drops the messages below n, and answers the first of the others.
 fn least_marked(
     lists: &mut Vec<Listed<'_>>,
-    marks: &mut [bool],
+    ahead: &mut Head,
+    marks: &mut [bool; WINDOW],
+    start: &mut u32,
     low: &mut u32,
     n: u32,
     steps: &mut Steps,
 ) -> Option<u32>
-    requires { HaveMarks marks.old lists.old.items }
-    ensures marks { HaveMarks marks.new lists.new.items }
-    ensures rest { Drops n (truths_marked low.old marks.old lists.old.items) (truths_marked low.new marks.new lists.new.items) }
-    ensures number { IsFirst (truths_marked low.new marks.new lists.new.items) result }
-    ensures steps { Spends (left_in lists.old.items) (left_in lists.new.items) steps.old steps.new }
+    requires { HaveMarks start.old marks.old lists.old.items ahead.old }
+    ensures marks { HaveMarks start.new marks.new lists.new.items ahead.new }
+    ensures rest { Drops n (truths_marked low.old start.old marks.old lists.old.items) (truths_marked low.new start.new marks.new lists.new.items) }
+    ensures number { IsFirst (truths_marked low.new start.new marks.new lists.new.items) result }
+    ensures steps { Counts (left_in lists.old.items) (left_in lists.new.items) steps.old steps.new }
 {
-    mark_all(lists, marks, steps);
     *low = n.max(*low);
-    first_mark(marks, *low)
+    if let Some(number) = first_mark(marks.as_slice(), *start, *low) {
+        return Some(number);
+    }
+    begin_window(lists, ahead, marks, start, *low, steps)
 }
 
 impl<'a> Marked<'a> {
-    /// The walk through those of so many messages that come in some of these lists. Takes all the memory that it needs.
-    #[tactic(auto, using(crate::proofs::CursorLaws::MarkedLists::begins_marked))]
-    pub(crate) fn new(alloc: Global, count: u32, lists: Vec<Listed<'a>>) -> Result<Self, AllocError>
-        requires { (m : ℕ) → some_has m lists.items ≡ true → m < count }
-        ensures truths { IfOk result (λ w. (m : ℕ) → truth_at w.truths m ≡ some_has m lists.entry.items) }
-        ensures left { IfOk result (λ w. w.left ≡ left_in lists.entry.items) }
+    /// The walk through the messages that come in some of these lists.
+    pub(crate) fn new(lists: Vec<Listed<'a>>) -> Self
+        requires { AreFew lists.items }
+        ensures truths { (m : ℕ) → truth_at result.truths m ≡ some_has m lists.entry.items }
+        ensures left { result.left ≡ left_in lists.entry.items }
     {
-        let marks = vec![in alloc; false; count as usize]?;
-        Ok(Marked {
+        Marked {
             lists,
-            marks,
+            ahead: Head::Unasked,
+            marks: [false; WINDOW],
+            start: 0,
             low: 0,
-        })
+        }
     }
 
     /// The least number still to come that is at least n; all before it are dropped.
     pub(crate) fn least_from(&mut self, n: u32, steps: &mut Steps) -> Option<u32>
         ensures rest { Drops n self.old.truths self.new.truths }
         ensures number { IsFirst self.new.truths result }
-        ensures steps { Spends self.old.left self.new.left steps.old steps.new }
+        ensures steps { Counts self.old.left self.new.left steps.old steps.new }
         ensures below { self.new.below ≡ self.old.below }
     {
         least_marked(
             &mut self.lists,
-            self.marks.as_mut_slice(),
+            &mut self.ahead,
+            &mut self.marks,
+            &mut self.start,
             &mut self.low,
             n,
             steps,

@@ -95,7 +95,7 @@ impl<'a> Model for Scanned<'a> {
 
     ghost Value = { Ahead };
 
-    ghost view = { λ s. record { truths = truths_scanned (length s.index.messages) (satisfies s.index s.asked) s.next s.first; left = length s.index.messages - s.next; below = 0 } };
+    ghost view = { λ s. record { truths = truths_scanned (length s.index.messages) (satisfies s.index s.asked) s.next s.first; left = length s.index.messages - s.next; postings = 0; below = 0 } };
 
     ghost invariant = { λ s. IsFound (length s.index.messages) s.next s.first };
 }

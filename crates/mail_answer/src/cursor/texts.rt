@@ -152,5 +152,5 @@ pub(crate) fn with_text<'a>(
 {
     let mut members = Vec::new(alloc);
     push_kinds(&mut members, index, kinds, fit, text.as_bytes(), steps)?;
-    Walk::along_some(alloc, index.message_count(), members)
+    Walk::along_some(alloc, members)
 }

@@ -2,10 +2,11 @@
 ghost use Rattle.std.specs.Prelude.{◌≡◌, ◌↔◌, ◌<◌, ℕ, true, IsTrue, IfOk, length};
 ghost use Rattle.std.specs.Vec.{vec_len};
 ghost use Rattle.mail_answer.specs.Marks.{truth_at};
-ghost use Rattle.mail_answer.specs.CursorAhead.{Drops, IsFirst, Reaches, Spends, lesser_of, common, united, others, left_in, levels};
+ghost use Rattle.mail_answer.specs.CursorAhead.{CountsPostings, Drops, IsFirst, Reaches, Spends, common, united, others, left_in, postings_in, levels};
+ghost use Rattle.mail_answer.specs.Inside.CursorMarks.{AreFew};
 ghost use Rattle.mail_answer.specs.Inside.CursorTexts.{some_has};
 
-use crate::cursor::head::{Head, is_from};
+use crate::cursor::head::{Head, is_from, lesser_of};
 use crate::cursor::listed::Listed;
 use crate::cursor::marked::Marked;
 use crate::cursor::scanned::Scanned;
@@ -15,9 +16,6 @@ use std::marker::Model;
 
 /// The most members of a walk through what comes in some of many.
 const MOST: usize = 4;
-
-/// Messages are marked only where there are at most so many for each list. A mark is a byte, so they take no more than the lists do.
-const MOST_MARKS: u32 = 32;
 
 /// A walk through the messages that satisfy a query. It remembers its first number, so it goes on in its members only where it
 /// has to.
@@ -34,7 +32,7 @@ pub(crate) struct Walk<'a> {
 enum Node<'a> {
     /// A posting list.
     Listed(Listed<'a>),
-    /// Very many posting lists. They are boxed, since most walks are single lists.
+    /// Many posting lists. They are boxed, since most walks are single lists.
     Marked(Box<Marked<'a>>),
     /// The records that are as asked. It is boxed, since it is large and most walks are lists.
     Scanned(Box<Scanned<'a>>),
@@ -87,22 +85,17 @@ impl<'a> Walk<'a> {
         }
     }
 
-    /// The walk through those of so many messages that come in some of these posting lists: by marks, where there are enough lists for
-    /// them, and else by a tree.
+    /// The walk through the messages that come in some of these posting lists: by marks, if there are many of them.
     #[tactic(auto, using(crate::proofs::CursorLaws::MarkedLists::if_marked))]
-    pub(crate) fn along_some(
-        alloc: Global,
-        count: u32,
-        lists: Vec<Listed<'a>>,
-    ) -> Result<Self, AllocError>
-        requires { (m : ℕ) → some_has m lists.items ≡ true → m < count }
+    pub(crate) fn along_some(alloc: Global, lists: Vec<Listed<'a>>) -> Result<Self, AllocError>
+        requires { AreFew lists.items }
         ensures truths { IfOk result (λ w. (m : ℕ) → truth_at w.truths m ≡ some_has m lists.entry.items) }
         ensures left { IfOk result (λ w. w.left ≡ left_in lists.entry.items) }
     {
-        if lists.len() > MOST && lists.len() >= (count / MOST_MARKS) as usize {
-            return Walk::marked(alloc, Marked::new(alloc, count, lists)?);
+        if lists.len() > MOST {
+            return Walk::marked(alloc, Marked::new(lists));
         }
-        Walk::united_in_groups(alloc, each_alone(alloc, lists)?)
+        Ok(Walk::united(each_alone(alloc, lists)?))
     }
 
     /// The walk along lists whose messages are marked.
@@ -188,6 +181,7 @@ impl<'a> Walk<'a> {
         ensures rest { Drops n self.old.truths self.new.truths }
         ensures number { IsFirst self.new.truths result }
         ensures steps { Spends self.old.left self.new.left steps.old steps.new }
+        ensures postings { CountsPostings self.old.postings self.new.postings steps.old steps.new }
         ensures below { self.new.below ≡ self.old.below }
     {
         if let Head::Asked(first) = self.head
@@ -210,6 +204,7 @@ impl<'a> Node<'a> {
         ensures rest { Drops n (ahead self.old).truths (ahead self.new).truths }
         ensures number { IsFirst (ahead self.new).truths result }
         ensures steps { Spends (ahead self.old).left (ahead self.new).left steps.old steps.new }
+        ensures postings { CountsPostings (ahead self.old).postings (ahead self.new).postings steps.old steps.new }
         ensures below { (ahead self.new).below ≡ (ahead self.old).below }
     {
         match self {
@@ -235,7 +230,7 @@ fn each_alone<'a>(alloc: Global, mut lists: Vec<Listed<'a>>) -> Result<Vec<Walk<
     Ok(walks)
 }
 
-/// The walks, so many at a time made one.
+/// Unites walks in groups of at most four, so that fewer are left.
 fn grouped<'a>(alloc: Global, mut walks: Vec<Walk<'a>>) -> Result<Vec<Walk<'a>>, AllocError>
     requires { 4 < vec_len walks }
     ensures each { IfOk result (λ v. (m : ℕ) → some_has m v.items ≡ some_has m walks.entry.items) }
@@ -266,6 +261,7 @@ fn least_other(walk: &mut Others<'_>, n: u32, steps: &mut Steps) -> Option<u32>
     ensures rest { Drops n (others walk.old.count walk.old.low walk.old.inner.value.truths) (others walk.new.count walk.new.low walk.new.inner.value.truths) }
     ensures number { IsFirst (others walk.new.count walk.new.low walk.new.inner.value.truths) result }
     ensures steps { Spends walk.old.inner.value.left walk.new.inner.value.left steps.old steps.new }
+    ensures postings { CountsPostings walk.old.inner.value.postings walk.new.inner.value.postings steps.old steps.new }
     ensures below { walk.new.inner.value.below ≡ walk.old.inner.value.below }
 {
     let count = walk.count;
@@ -289,6 +285,7 @@ fn least_common(members: &mut [Walk<'_>], n: u32, steps: &mut Steps) -> Option<u
     ensures rest { Drops n (common members.old) (common members.new) }
     ensures number { IsFirst (common members.new) result }
     ensures steps { Spends (left_in members.old) (left_in members.new) steps.old steps.new }
+    ensures postings { CountsPostings (postings_in members.old) (postings_in members.new) steps.old steps.new }
     ensures below { levels members.new ≡ levels members.old }
 {
     if members.is_empty() {
@@ -314,6 +311,7 @@ fn reach_common(members: &mut [Walk<'_>], n: u32, steps: &mut Steps) -> Option<u
     ensures rest { Drops n (common members.old) (common members.new) }
     ensures number { Reaches n (common members.new) result }
     ensures steps { Spends (left_in members.old) (left_in members.new) steps.old steps.new }
+    ensures postings { CountsPostings (postings_in members.old) (postings_in members.new) steps.old steps.new }
     ensures below { levels members.new ≡ levels members.old }
 {
     let mut number = n;
@@ -326,23 +324,13 @@ fn reach_common(members: &mut [Walk<'_>], n: u32, steps: &mut Steps) -> Option<u
     Some(number)
 }
 
-/// The lesser of two numbers, as far as there are any.
-fn lesser_of(one: Option<u32>, other: Option<u32>) -> Option<u32>
-    ensures { result ≡ lesser_of one other }
-{
-    match (one, other) {
-        (Some(a), Some(b)) => Some(a.min(b)),
-        (Some(a), None) => Some(a),
-        (None, number) => number,
-    }
-}
-
 /// The least number from n on that comes in some member.
 #[cycle(least)]
 fn least_united(members: &mut [Walk<'_>], n: u32, steps: &mut Steps) -> Option<u32>
     ensures rest { Drops n (united members.old) (united members.new) }
     ensures number { IsFirst (united members.new) result }
     ensures steps { Spends (left_in members.old) (left_in members.new) steps.old steps.new }
+    ensures postings { CountsPostings (postings_in members.old) (postings_in members.new) steps.old steps.new }
     ensures below { levels members.new ≡ levels members.old }
 {
     let mut least = None;

@@ -6,6 +6,7 @@ ghost use Rattle.mail_answer.specs.Faults.{IfStale};
 ghost use Rattle.mail_answer.specs.Inside.Calls.{AreAsIndexed, ReadsArchives, WritesOut};
 ghost use Rattle.mail_answer.specs.Inside.Copies.{Copies};
 ghost use Rattle.mail_answer.specs.Inside.Readings.{coming, coming_count, span_reading, IsInside};
+ghost use Rattle.mail_answer.specs.Inside.Spans.{WritesSpan};
 ghost use Rattle.mail_answer.specs.Shapes.{closed, known_message};
 ghost use Rattle.mail_answer.specs.Sheets.{Writes};
 ghost use Rattle.mail_answer.specs.TableFacts.{record_at};
@@ -73,7 +74,7 @@ impl Part {
         ensures archives { ReadsArchives A.Archives archives.old archives.new result }
         ensures inside { OnOk result (IsInside (A.number archives.old) (A.held archives.old) self.new) }
         ensures archive { OnOk result (self.new.archive ≡ self.old.archive) }
-        ensures copies { Copies (O.taken out.old) (O.taken out.new) sheet.old sheet.new (coming (A.held archives.old) self.old) (coming (A.held archives.old) self.new) before result }
+        ensures copies { Copies (O.taken out.old) (O.taken out.new) sheet.old sheet.new (coming (A.held archives.old) self.old) (coming (A.held archives.old) self.new) (coming_count self.old) (coming_count self.new) before result }
         ensures less { OnOk result (coming_count self.new < coming_count self.old) }
         ensures out { WritesOut O.Out sheet.new.sent out.old out.new result }
         ensures stale { IfErr result (λ kind. IfStale kind (λ n. n ≡ self.old.archive)) }
@@ -102,6 +103,7 @@ fn push_closed<A: Archives, O: Out>(
     requires out { O.failures out.old < 2 ^ 64 - 1 }
     ensures archives { ReadsArchives A.Archives archives.old archives.new result }
     ensures writes { Writes (O.taken out.old) (O.taken out.new) sheet.old sheet.new (option_map closed (coming (A.held archives.old) (span_reading message))) result }
+    ensures span { WritesSpan (O.taken out.old) (O.taken out.new) sheet.old sheet.new message.length result }
     ensures out { WritesOut O.Out sheet.new.sent out.old out.new result }
     ensures stale { IfErr result (λ kind. IfStale kind (λ n. n ≡ message.archive)) }
 {
@@ -129,6 +131,7 @@ pub(crate) fn push_mbox<A: Archives, O: Out>(
     requires out { O.failures out.old < 2 ^ 64 - 1 }
     ensures archives { ReadsArchives A.Archives archives.old archives.new result }
     ensures writes { Writes (O.taken out.old) (O.taken out.new) sheet.old sheet.new (known_message Mbox index.now (A.held archives.old) n) result }
+    ensures span { WritesSpan (O.taken out.old) (O.taken out.new) sheet.old sheet.new (record_at index.now.messages n).length result }
     ensures out { WritesOut O.Out sheet.new.sent out.old out.new result }
     ensures stale { IfErr result (λ kind. IfStale kind (λ archive. archive ≡ (record_at index.now.messages n).archive)) }
 {

@@ -1,9 +1,12 @@
-use Rattle.std.proofs.Common.{◌≡◌, ◌≤◌, ℕ, ◌+◌, List, [], ◌∷◌, ◌++◌, length, Option, Some, Result, Ok, refl, ap, subst, sym, ◌∙◌, append-nil, arith}
+use Rattle.std.proofs.Common.{◌≡◌, ◌≤◌, ℕ, ◌+◌, List, [], ◌∷◌, ◌++◌, length, Option, Some, Result, Ok, refl, ap, subst, sym, ◌∙◌, append_assoc, append-nil, arith}
+use Rattle.std.proofs.lemmas.Result.{err_from_is_err_and}
 use Rattle.mail_answer.specs.Inside.CursorLists.{AreNumbers}
 use Rattle.mail_answer.specs.Shapes.{known_answer, known_message}
 use Rattle.mail_answer.specs.Sheets.{joined, Tells}
 use Rattle.mail_answer.proofs.ThreadLaws.NumberLists.{numbers_next, few_numbers, known_first, known_none}
 use Rattle.mail_answer.proofs.OutputLaws.SheetLemmas.{joins_gathered, writes_next, writes_stop, writes_less, writes_err, tells-joined, joins_more, unsent_before}
+use Rattle.mail_answer.proofs.OutputLaws.ChosenArchives.{is_among_behind, stale_of_some}
+use Rattle.mail_answer.proofs.OutputLaws.SpanWrites.{spans_more, spans_stop, spans_end}
 use Rattle.mail_answer.proofs.OutputLaws.SpanLemmas.{joined-nothing, joined-assoc}
 use Rattle.mail_answer.proofs.ArchiveLaws.CallLemmas.{keeps_self, keeps_join}
 use Rattle.mail_answer.proofs.answers.write_messages.Goals as goal
@@ -23,6 +26,8 @@ loop-n-init g c = record {
   );
   kept = λ unsent. refl;
   out_count = refl;
+  passed = ([], refl, λ mbox. ([], refl, joins_gathered (g.O.Out.taken c.args.out.now) c.args.sheet.now c.args.sheet.now [] (sym (append-nil c.args.sheet.now.text)) refl));
+  unasked = λ raw. refl;
   archives_count = refl;
 }
 
@@ -38,6 +43,25 @@ returns-in_err-push_message-clause-writes g c =
     rw (j.2, ap (known_answer c.args.format t held) took ∙ known_first c.args.format t held c.in-Some.n c.next.new.self)
     (writes_next (g.O.Out.taken c.args.out.now) (g.O.Out.taken c.loop-n.out) (g.O.Out.taken c.push_message.new.out) c.args.sheet.now c.loop-n.sheet c.push_message.new.sheet j.0 (joined next rest) c.from_residual.result (j.1, j.3, j.4)
     (writes_stop (g.O.Out.taken c.loop-n.out) (g.O.Out.taken c.push_message.new.out) c.loop-n.sheet c.push_message.new.sheet next rest c.from_residual.result c.from_residual.ensures.0 (rw (i.keeps.held, i.same) at c.in_err-push_message.ensures.writes)))
+
+pub returns-in_err-push_message-clause-spans : goal.returns-in_err-push_message-clause-spans
+returns-in_err-push_message-clause-spans g c = λ mbox.
+    let t = c.args.places.now.table in
+    let i = c.loop-n.invariant in
+    let took : c.loop-n.numbers ≡ c.in-Some.n ∷ c.next.new.self = c.in-Some.ensures in
+    let all : c.args.numbers.now ≡ i.passed.0 ++ c.in-Some.n ∷ c.next.new.self = i.passed.1 ∙ ap (λ (ns : List ℕ). i.passed.0 ++ ns) took in
+    rw all
+    (spans_stop (g.O.Out.taken c.args.out.now) (g.O.Out.taken c.loop-n.out) (g.O.Out.taken c.push_message.new.out) c.args.sheet.now c.loop-n.sheet c.push_message.new.sheet t i.passed.0 c.in-Some.n c.next.new.self c.from_residual.result
+    c.from_residual.ensures.0 (i.passed.2 mbox) (rw i.same at (c.in_err-push_message.ensures.span mbox)))
+
+pub returns-in_err-push_message-clause-stale : goal.returns-in_err-push_message-clause-stale
+returns-in_err-push_message-clause-stale g c =
+    let t = c.args.places.now.table in
+    let i = c.loop-n.invariant in
+    let took : c.loop-n.numbers ≡ c.in-Some.n ∷ c.next.new.self = c.in-Some.ensures in
+    let all : c.args.numbers.now ≡ i.passed.0 ++ c.in-Some.n ∷ c.next.new.self = i.passed.1 ∙ ap (λ (ns : List ℕ). i.passed.0 ++ ns) took in
+    let p = err_from_is_err_and c.from_residual.result c.from_residual.ensures.1 in
+    rw (p.1, p.2) (stale_of_some t c.args.numbers.now c.in-Some.n _ (rw all (is_among_behind c.in-Some.n i.passed.0 c.next.new.self)) (rw i.same at c.in_err-push_message.ensures.stale))
 
 pub overflow_add-count : goal.overflow_add-count
 overflow_add-count g c =
@@ -70,6 +94,12 @@ loop-n-preserved g c =
       );
       kept = λ unsent. c.in_ok-push_message.ensures.out.kept unsent refl ∙ i.kept (unsent_before w.2 unsent);
       out_count = c.in_ok-push_message.ensures.out.count ∙ i.out_count;
+      passed = (
+        i.passed.0 ++ c.in-Some.n ∷ [],
+        i.passed.1 ∙ ap (λ (ns : List ℕ). i.passed.0 ++ ns) took ∙ sym (append_assoc i.passed.0 (c.in-Some.n ∷ []) c.next.new.self),
+        λ mbox. spans_more t i.passed.0 c.in-Some.n (i.passed.2 mbox) (rw i.same at (c.in_ok-push_message.ensures.span mbox)),
+      );
+      unasked = λ raw. (c.in_ok-push_message.ensures.raw raw).2 ∙ i.unasked raw;
       archives_count = c.in_ok-push_message.ensures.archives.count ∙ i.archives_count;
     }
 
@@ -86,6 +116,25 @@ returns-in_err-send-clause-writes g c =
     (writes_next (g.O.Out.taken c.args.out.now) (g.O.Out.taken c.loop-n.out) (g.O.Out.taken c.send.new.out) c.args.sheet.now c.loop-n.sheet c.send.new.self j.0 rest c.from_residual-in_err-send.result (j.1, j.3, j.4)
     (writes_less (g.O.Out.taken c.loop-n.out) (g.O.Out.taken c.send.new.out) c.loop-n.sheet c.send.new.self rest [] c.from_residual-in_err-send.result nothing
     (writes_err (g.O.Out.taken c.loop-n.out) (g.O.Out.taken c.send.new.out) c.loop-n.sheet c.send.new.self (Some []) c.from_residual-in_err-send.result c.from_residual-in_err-send.ensures.0 c.in_err-send.ensures.writes)))
+
+pub returns-in_err-send-clause-spans : goal.returns-in_err-send-clause-spans
+returns-in_err-send-clause-spans g c = λ mbox.
+    let t = c.args.places.now.table in
+    let i = c.loop-n.invariant in
+    let ended : c.loop-n.numbers ≡ [] = c.in_default.ensures.0 in
+    let all : i.passed.0 ≡ c.args.numbers.now = sym (i.passed.1 ∙ ap (λ (ns : List ℕ). i.passed.0 ++ ns) ended ∙ append-nil i.passed.0) in
+    spans_end (g.O.Out.taken c.args.out.now) (g.O.Out.taken c.loop-n.out) (g.O.Out.taken c.send.new.out) c.args.sheet.now c.loop-n.sheet c.send.new.self t c.args.numbers.now c.from_residual-in_err-send.result
+    (rw all at (i.passed.2 mbox))
+    (writes_err (g.O.Out.taken c.loop-n.out) (g.O.Out.taken c.send.new.out) c.loop-n.sheet c.send.new.self (Some []) c.from_residual-in_err-send.result c.from_residual-in_err-send.ensures.0 c.in_err-send.ensures.writes)
+
+pub returns-clause-spans : goal.returns-clause-spans
+returns-clause-spans g c = λ mbox.
+    let t = c.args.places.now.table in
+    let i = c.loop-n.invariant in
+    let ended : c.loop-n.numbers ≡ [] = c.in_default.ensures.0 in
+    let all : i.passed.0 ≡ c.args.numbers.now = sym (i.passed.1 ∙ ap (λ (ns : List ℕ). i.passed.0 ++ ns) ended ∙ append-nil i.passed.0) in
+    let done : Result ℕ ℕ = Ok 0 in
+    spans_end (g.O.Out.taken c.args.out.now) (g.O.Out.taken c.loop-n.out) (g.O.Out.taken c.send.new.out) c.args.sheet.now c.loop-n.sheet c.send.new.self t c.args.numbers.now done (rw all at (i.passed.2 mbox)) c.in_ok-send.ensures.writes
 
 pub returns-clause-writes : goal.returns-clause-writes
 returns-clause-writes g c =

@@ -1,7 +1,9 @@
-use Rattle.std.proofs.Common.{◌≡◌, ◌+◌, ℕ, List, length, Option}
+use Rattle.std.proofs.Common.{◌≡◌, ◌+◌, ◌++◌, ℕ, List, length, Option}
+use Rattle.std.specs.List.{flat_map}
 use Rattle.mail_answer.specs.Inside.CursorLists.{AreNumbers}
-use Rattle.mail_answer.specs.Shapes.{known_answer}
+use Rattle.mail_answer.specs.Shapes.{known_answer, closed, AreSpansOf}
 use Rattle.mail_answer.specs.Sheets.{joined, Tells, Joins}
+use Rattle.mail_answer.specs.declared.format.Format.TheVariants.{Raw, Mbox}
 use Rattle.mail_answer.specs.Inside.Calls.{KeepsArchives}
 use Rattle.mail_answer.proofs.answers.write_messages.Given as goal
 
@@ -17,6 +19,9 @@ invariant-loop-n g l = record {
       × Tells known text × Joins (g.O.Out.taken l.fn.out) (g.O.Out.taken l.out) l.fn.sheet l.sheet text;
   kept : l.sheet.sent ≡ 0 → l.out ≡ l.fn.out;
   out_count : g.O.Out.failures l.out ≡ g.O.Out.failures l.fn.out;
+  passed : (done : List ℕ) × (l.fn.numbers ≡ done ++ l.numbers)
+      × (l.format ≡ Mbox → (spans : List (List ℕ)) × AreSpansOf l.fn.places.table done spans × Joins (g.O.Out.taken l.fn.out) (g.O.Out.taken l.out) l.fn.sheet l.sheet (flat_map closed spans));
+  unasked : l.format ≡ Raw → l.archives ≡ l.fn.archives;
   archives_count : g.A.Archives.failures l.archives ≡ g.A.Archives.failures l.fn.archives;
 }
 

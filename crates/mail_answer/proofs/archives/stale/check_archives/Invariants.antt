@@ -1,13 +1,15 @@
 use Rattle.std.proofs.Common.{◌≡◌, drop, IfSome}
+use Rattle.mail_answer.specs.Asked.{Agree}
 use Rattle.mail_answer.specs.Stale.{first_changed}
-use Rattle.mail_answer.specs.Inside.Calls.{KeepsArchives}
+use Rattle.mail_answer.specs.Inside.Calls.{HoldsArchives}
 use Rattle.mail_answer.proofs.archives.stale.check_archives.Given as goal
 
 -- the archives before this one are as they were
 abbrev pub invariant-loop-n : goal.invariant-loop-n
 invariant-loop-n g l = record {
   coming : l.named ≡ drop l.n l.fn.index.archives;
-  keeps : KeepsArchives g.A.Archives l.fn.archives l.archives;
+  keeps : HoldsArchives g.A.Archives l.fn.archives l.archives;
   count : g.A.Archives.failures l.archives ≡ g.A.Archives.failures l.fn.archives;
+  agree : Agree g.A.Archives l.fn.index.archives l.n l.fn.archives l.archives;
   so_far : IfSome (g.A.Archives.held l.fn.archives) (λ bytes. first_changed 0 l.fn.index.archives bytes ≡ first_changed l.n (drop l.n l.fn.index.archives) (drop l.n bytes));
 }

@@ -1,5 +1,6 @@
 use Rattle.std.proofs.Common.{◌≡◌, drop}
-use Rattle.mail_answer.proofs.ArchiveLaws.VerifiedLemmas.{UnalteredTo, ReadTo}
+use Rattle.mail_answer.proofs.ArchiveLaws.VerifiedLemmas.{UnalteredTo}
+use Rattle.mail_answer.specs.Verified.{AreRead}
 use Rattle.mail_answer.specs.Inside.Calls.{KeepsArchives}
 use Rattle.mail_answer.proofs.archives.verified.check_digests.Given as goal
 
@@ -9,6 +10,6 @@ invariant-loop-n g l = record {
   coming : l.named ≡ drop l.n l.fn.index.archives;
   keeps : KeepsArchives g.A.Archives l.fn.archives l.archives;
   count : g.A.Archives.failures l.archives ≡ g.A.Archives.failures l.fn.archives;
-  read : ReadTo l.fn.index.archives l.n;
+  read : AreRead g.A.Archives l.fn.index.archives l.n l.fn.archives l.archives;
   so_far : UnalteredTo l.fn.index.archives (g.A.Archives.held l.fn.archives) l.n (drop l.n l.fn.index.archives);
 }

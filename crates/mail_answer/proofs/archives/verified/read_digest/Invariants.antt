@@ -9,7 +9,7 @@ invariant-pieces g l = record {
   keeps : KeepsArchives g.A.Archives l.fn.archives l.archives;
   count : g.A.Archives.failures l.archives ≡ g.A.Archives.failures l.fn.archives;
   within : l.at ≤ l.fn.indexed_length;
-  absorbed : AbsorbedTo (g.A.Archives.held l.fn.archives) l.fn.archive l.at l.hasher;
+  absorbed : AbsorbedTo g.A.Archives l.fn.archive l.at l.fn.archives l.archives l.hasher;
 }
 
 abbrev pub decreases-pieces : goal.decreases-pieces

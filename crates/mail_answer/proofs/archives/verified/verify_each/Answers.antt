@@ -1,6 +1,6 @@
 use Rattle.std.proofs.Common.{◌≡◌, ◌∙◌, ℕ, List, Option, None, Ok, Err, IfSome, OnOk, length, subst, sym}
 use Rattle.mail_answer.specs.Stale.{stale_archive}
-use Rattle.mail_answer.proofs.ArchiveLaws.VerifiedLemmas.{told_by_digests}
+use Rattle.mail_answer.proofs.ArchiveLaws.VerifiedLemmas.{told_by_digests, read_of_all}
 use Rattle.mail_answer.proofs.archives.verified.verify_each.Goals as goal
 
 pub check_digests-requires-clause-indexed : goal.check_digests-requires-clause-indexed
@@ -19,3 +19,9 @@ returns-clause-same_count g c =
       | Ok _ ↦ c.in_ok-check_archives.ensures.same_count
       | Err _ ↦ tt
     ]
+
+pub returns-clause-found : goal.returns-clause-found
+returns-clause-found g c = λ same. (c.check_archives.new.archives, Ok tt, c.in_ok-check_archives.ensures.asked same, c.check_digests.ensures.found)
+
+pub returns-clause-read : goal.returns-clause-read
+returns-clause-read g c = read_of_all g.A.Archives c.args.index.now.archives c.check_archives.new.archives c.check_digests.new.archives c.check_digests.result c.check_digests.ensures.found

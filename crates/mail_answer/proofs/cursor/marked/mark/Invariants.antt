@@ -1,13 +1,16 @@
-use Rattle.std.proofs.Common.{◌-◌, ◌^◌}
-use Rattle.mail_answer.specs.CursorAhead.{Spends}
-use Rattle.mail_answer.proofs.CursorLaws.MarkedLists.{HasMarked}
+use Rattle.std.proofs.Common.{◌≡◌}
+use Rattle.std.specs.Prelude.{IfNone}
+use Rattle.mail_answer.specs.CursorAhead.{IsFirst, Counts}
+use Rattle.mail_answer.proofs.CursorLaws.MarkedLists.{HasMarked, room_behind}
 use Rattle.mail_answer.proofs.cursor.marked.mark.Given as goal
 
-abbrev pub invariant-loop-number : goal.invariant-loop-number
-invariant-loop-number l = record {
-  marked : HasMarked l.initial.list.truths l.initial.marks l.from l.list.truths l.marks;
-  steps : Spends l.initial.list.left l.list.left l.initial.steps l.steps;
+abbrev pub invariant-loop-least : goal.invariant-loop-least
+invariant-loop-least l = record {
+  marked : HasMarked l.start l.fn.list.truths l.fn.marks l.list.truths l.marks;
+  first : IsFirst l.list.truths l.least;
+  ended : IfNone l.least (l.list.left ≡ 0);
+  steps : Counts l.fn.list.left l.list.left l.fn.steps l.steps;
 }
 
-abbrev pub decreases-loop-number : goal.decreases-loop-number
-decreases-loop-number l = 2 ^ 32 - l.from
+abbrev pub decreases-loop-least : goal.decreases-loop-least
+decreases-loop-least l = room_behind l.least

@@ -1,13 +1,13 @@
-use Rattle.std.proofs.Common.{length}
-use Rattle.mail_answer.specs.CursorAhead.{Spends, left_in}
+use Rattle.std.proofs.Common.{◌-◌, length}
+use Rattle.mail_answer.specs.CursorAhead.{Counts, left_in}
 use Rattle.mail_answer.proofs.CursorLaws.MarkedLists.{HaveMarked}
 use Rattle.mail_answer.proofs.cursor.marked.mark_all.Given as goal
 
-abbrev pub invariant-loop-list : goal.invariant-loop-list
-invariant-loop-list l = record {
-  marked : HaveMarked l.initial.lists.items l.initial.marks l.lists.items l.marks;
-  steps : Spends (left_in l.initial.lists.items) (left_in l.lists.items) l.initial.steps l.steps;
+abbrev pub invariant-loop-place : goal.invariant-loop-place
+invariant-loop-place l = record {
+  marked : HaveMarked l.start l.fn.lists.items l.fn.marks l.place l.lists.items l.marks l.least;
+  steps : Counts (left_in l.fn.lists.items) (left_in l.lists.items) l.fn.steps l.steps;
 }
 
-abbrev pub decreases-loop-list : goal.decreases-loop-list
-decreases-loop-list l = length l.lists.items
+abbrev pub decreases-loop-place : goal.decreases-loop-place
+decreases-loop-place l = length l.lists.items - l.place

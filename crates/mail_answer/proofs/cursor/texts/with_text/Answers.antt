@@ -29,6 +29,6 @@ along_some-requires c =
     ∙ some_of_all c.args.kinds passes c.args.index.now m
     ∙ word_past c.args.kinds passes c.args.index.now m c.requires le in
     λ m here. elim (cases_lt m (length c.args.index.now.messages)) [
-      | inl lt ↦ omega (arith, lt, c.message_count.ensures)
+      | inl lt ↦ omega (arith, lt, c.requires.message_count)
       | inr le ↦ absurd (both_ways (some_has m c.push_kinds.new.members.items) (past m le) here)
     ]

@@ -1,9 +1,9 @@
 use Rattle.std.proofs.Common.{◌≡◌, ◌∙◌, ◌<◌, ◌+◌, ◌*◌, refl, ℕ, List, length, get_or, subst, arith}
 use Rattle.std.proofs.lemmas.Bool.{both_ways}
 use Rattle.std.proofs.lemmas.List.{get_or_default}
-use Rattle.mail_answer.specs.CursorAhead.{Ahead, Drops, IsFirst, left_in}
+use Rattle.mail_answer.specs.CursorAhead.{Ahead, Drops, IsFirst, left_in, postings_in}
 use Rattle.mail_answer.proofs.CursorLaws.Turns.{passed_same, passed_drops, passed_first, passed_all}
-use Rattle.mail_answer.proofs.CursorLaws.Members.{below-levels, turn_steps, levels-set, dropped_none, dropped_more, dropped_drops, dropped_first, reached_none, reached_more, reached_drops, reached_number, ended_none, ended_drops, unvisited_more, whole_dropped, whole_reached}
+use Rattle.mail_answer.proofs.CursorLaws.Members.{below-levels, turn_steps, turn_postings, none_counted, levels-set, dropped_none, dropped_more, dropped_drops, dropped_first, reached_none, reached_more, reached_drops, reached_number, ended_none, ended_drops, unvisited_more, whole_dropped, whole_reached}
 use Rattle.mail_answer.proofs.cursor.walk.+least.Goals as goal
 
 pub least_other-returns-then-not-is_number-clause-rest : goal.least_other-returns-then-not-is_number-clause-rest
@@ -33,6 +33,7 @@ least_united-loop-member-init t c = record {
   unvisited = (refl, λ k d le. refl);
   dropped = dropped_none c.args.n;
   steps = record { rises = omega arith; most = omega arith };
+  postings = none_counted (postings_in c.args.members.now) c.args.steps.now;
   levels = refl;
 }
 
@@ -62,6 +63,7 @@ least_united-loop-member-preserved t c =
       unvisited = unvisited_more old xs i v c.loop-member.invariant.unvisited;
       dropped = dropped_more c.args.n old xs i c.loop-member.least c.least_from-number.result c.lesser_of-least.result w v lt long was c.loop-member.invariant.dropped c.least_from-number.ensures.rest c.least_from-number.ensures.number c.lesser_of-least.ensures;
       steps = turn_steps xs i (left_in old) c.args.steps.now c.loop-member.steps c.least_from-number.new.steps w v within is c.loop-member.invariant.steps c.least_from-number.ensures.steps;
+      postings = turn_postings xs i (postings_in old) c.args.steps.now c.loop-member.steps c.least_from-number.new.steps w v within is c.loop-member.invariant.postings c.least_from-number.ensures.postings;
       levels = levels-set xs i w v within is c.least_from-number.ensures.below ∙ c.loop-member.invariant.levels;
     }
 
@@ -80,6 +82,7 @@ reach_common-loop-member-init t c = record {
   unvisited = (refl, λ k d le. refl);
   reached = reached_none c.args.n;
   steps = record { rises = omega arith; most = omega arith };
+  postings = none_counted (postings_in c.args.members.now) c.args.steps.now;
   levels = refl;
 }
 
@@ -119,6 +122,15 @@ reach_common-returns-in-None-clause-steps t c =
     let is : w ≡ get_or xs i w = get_or_default xs i c.member-item.result w within in
     turn_steps xs i (left_in c.args.members.now) c.args.steps.now c.loop-member.steps c.least_from.new.steps w c.least_from.new.self within is c.loop-member.invariant.steps c.least_from.ensures.steps
 
+pub reach_common-returns-in-None-clause-postings : goal.reach_common-returns-in-None-clause-postings
+reach_common-returns-in-None-clause-postings t c =
+    let xs : List Ahead = c.loop-member.members in
+    let i : ℕ = c.loop-member.member-index in
+    let w : Ahead = get_or xs i c.member-item.result in
+    let within : i < length xs = omega (arith, c.loop-member-test.true, c.loop-member.auto.members) in
+    let is : w ≡ get_or xs i w = get_or_default xs i c.member-item.result w within in
+    turn_postings xs i (postings_in c.args.members.now) c.args.steps.now c.loop-member.steps c.least_from.new.steps w c.least_from.new.self within is c.loop-member.invariant.postings c.least_from.ensures.postings
+
 pub reach_common-returns-in-None-clause-below : goal.reach_common-returns-in-None-clause-below
 reach_common-returns-in-None-clause-below t c =
     let xs : List Ahead = c.loop-member.members in
@@ -144,6 +156,7 @@ reach_common-loop-member-preserved t c =
       unvisited = unvisited_more old xs i v c.loop-member.invariant.unvisited;
       reached = reached_more c.args.n old xs i c.loop-member.number c.in-Some.least w v lt long was c.loop-member.invariant.reached c.least_from.ensures.rest (subst (IsFirst v.truths) c.in-Some.is c.least_from.ensures.number);
       steps = turn_steps xs i (left_in old) c.args.steps.now c.loop-member.steps c.least_from.new.steps w v within is c.loop-member.invariant.steps c.least_from.ensures.steps;
+      postings = turn_postings xs i (postings_in old) c.args.steps.now c.loop-member.steps c.least_from.new.steps w v within is c.loop-member.invariant.postings c.least_from.ensures.postings;
       levels = levels-set xs i w v within is c.least_from.ensures.below ∙ c.loop-member.invariant.levels;
     }
 

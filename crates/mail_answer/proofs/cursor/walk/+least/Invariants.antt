@@ -1,5 +1,5 @@
 use Rattle.std.proofs.Common.{◌-◌, ◌^◌, ◌≡◌, ◌+◌, ◌*◌, ◌<◌, length, take}
-use Rattle.mail_answer.specs.CursorAhead.{Spends, common, left_in, levels}
+use Rattle.mail_answer.specs.CursorAhead.{CountsPostings, Spends, common, left_in, postings_in, levels}
 use Rattle.mail_answer.specs.Inside.CursorWalks.{ahead}
 use Rattle.mail_answer.proofs.CursorLaws.Turns.{HasPassed}
 use Rattle.mail_answer.proofs.CursorLaws.Members.{HaveDropped, HaveReached, HasRisen}
@@ -10,6 +10,7 @@ invariant-least_common-loop-reached l = record {
   some : 0 < length l.members;
   risen : HasRisen l.n (common l.initial.members) l.number (common l.members);
   steps : Spends (left_in l.initial.members) (left_in l.members) l.initial.steps l.steps;
+  postings : CountsPostings (postings_in l.initial.members) (postings_in l.members) l.initial.steps l.steps;
   levels : levels l.members ≡ levels l.initial.members;
 }
 
@@ -22,6 +23,7 @@ invariant-least_other-loop-number l = record {
   low : l.walk.low ≡ l.initial.walk.low;
   below : l.walk.inner.value.below ≡ l.initial.walk.inner.value.below;
   steps : Spends l.initial.walk.inner.value.left l.walk.inner.value.left l.initial.steps l.steps;
+  postings : CountsPostings l.initial.walk.inner.value.postings l.walk.inner.value.postings l.initial.steps l.steps;
   passed : HasPassed l.n l.initial.walk.low l.initial.walk.inner.value.truths l.number l.walk.inner.value.truths;
 }
 
@@ -33,6 +35,7 @@ invariant-least_united-loop-member l = record {
   unvisited : goal.unvisited-least_united-loop-member l;
   dropped : HaveDropped l.n (take l.member-index l.initial.members) (take l.member-index l.members) l.least;
   steps : Spends (left_in l.initial.members) (left_in l.members) l.initial.steps l.steps;
+  postings : CountsPostings (postings_in l.initial.members) (postings_in l.members) l.initial.steps l.steps;
   levels : levels l.members ≡ levels l.initial.members;
 }
 
@@ -41,6 +44,7 @@ invariant-reach_common-loop-member l = record {
   unvisited : goal.unvisited-reach_common-loop-member l;
   reached : HaveReached l.n (take l.member-index l.initial.members) (take l.member-index l.members) l.number;
   steps : Spends (left_in l.initial.members) (left_in l.members) l.initial.steps l.steps;
+  postings : CountsPostings (postings_in l.initial.members) (postings_in l.members) l.initial.steps l.steps;
   levels : levels l.members ≡ levels l.initial.members;
 }
 

@@ -1,4 +1,4 @@
-use Rattle.std.proofs.Common.{◌≡◌, ◌∙◌, ℕ, List, [], ◌++◌, Option, Some, ap, sym, refl, append-nil, arith}
+use Rattle.std.proofs.Common.{◌≡◌, ◌∙◌, ℕ, List, [], ◌++◌, length, length-append, Option, Some, ap, sym, refl, append-nil, arith}
 use Rattle.std.proofs.lemmas.Bool.Decides.{nat_tests}
 use Rattle.std.proofs.lemmas.Result.{err_from_is_err_and}
 use Rattle.std.specs.Option.{option_map}
@@ -6,7 +6,7 @@ use Rattle.mail_answer.specs.Inside.Endings.{ending_of, feeds_of}
 use Rattle.mail_answer.specs.Inside.Readings.{Reading, coming, coming_count, span_reading}
 use Rattle.mail_answer.specs.Shapes.{closed}
 use Rattle.mail_answer.specs.Sheets.{Tells}
-use Rattle.mail_answer.proofs.OutputLaws.CopiedPieces.{pieces_none, pieces_more, front_told, closed_told}
+use Rattle.mail_answer.proofs.OutputLaws.CopiedPieces.{pieces_none, pieces_more, front_told, closed_told, closed_begins, closed_by_last}
 use Rattle.mail_answer.proofs.OutputLaws.SheetLemmas.{joins_gathered, joins_more, joins_front, front_more, writes_next, writes_less, writes_err, unsent_before, unsent_before_front, unsent_before_writes}
 use Rattle.mail_answer.proofs.ArchiveLaws.CallLemmas.{keeps_self, keeps_join}
 use Rattle.mail_answer.proofs.output.mbox.push_closed.Goals as goal
@@ -21,6 +21,7 @@ pieces-init g c = record {
     rw c.of-part.ensures (pieces_none (coming (g.A.Archives.held c.args.archives.now) (span_reading c.args.message))),
     c.new-ending.ensures,
     joins_gathered (g.O.Out.taken c.args.out.now) c.args.sheet.now c.args.sheet.now [] (sym (append-nil c.args.sheet.now.text)) refl,
+    omega (arith, ap coming_count c.of-part.ensures),
   );
   kept = λ unsent. refl;
   out_count = refl;
@@ -45,6 +46,7 @@ pieces-preserved g c =
         j.1 ∙ ap (option_map (λ bytes. j.0 ++ bytes)) w.1 ∙ pieces_more held j.0 w.0,
         w.3 j.0 j.2,
         joins_more j.3 w.2,
+        omega (arith, j.4, w.4, length-append j.0 w.0),
       );
       kept = λ unsent. c.in_ok-ending.ensures.out.kept unsent refl ∙ i.kept (unsent_before w.2 unsent);
       out_count = c.in_ok-ending.ensures.out.count ∙ i.out_count;
@@ -83,6 +85,34 @@ returns-clause-writes g c =
     let same : feeds_of (ending_of j.0) ≡ feeds = ap feeds_of (sym j.2) ∙ sym c.feeds.ensures in
     writes_less (g.O.Out.taken c.args.out.now) (g.O.Out.taken c.push.new.out) c.args.sheet.now c.push.new.self (option_map closed (coming held span)) (j.0 ++ feeds) c.push.result (rw same at told)
     (writes_next (g.O.Out.taken c.args.out.now) (g.O.Out.taken c.pieces.out) (g.O.Out.taken c.push.new.out) c.args.sheet.now c.pieces.sheet c.push.new.self (Some j.0) (Some feeds) c.push.result (j.0, refl, j.3) c.push.ensures.writes)
+
+pub returns-in_err-ending-clause-span : goal.returns-in_err-ending-clause-span
+returns-in_err-ending-clause-span g c =
+    let i = c.pieces.invariant in
+    let j = i.joins in
+    let w = rw i.keeps.held at c.in_err-ending.ensures.copies in
+    let bytes : List ℕ = j.0 ++ w.0 in
+    let begins = closed_begins bytes in (
+      bytes,
+      omega (arith, length-append j.0 w.0, j.4, w.3),
+      writes_err (g.O.Out.taken c.args.out.now) (g.O.Out.taken c.copy_piece.new.out) c.args.sheet.now c.copy_piece.new.sheet (Some (closed bytes)) c.from_residual.result c.from_residual.ensures.0
+          (bytes ++ begins.0, begins.1, front_more begins.0 (joins_front j.3 w.2)),
+    )
+
+pub returns-clause-span : goal.returns-clause-span
+returns-clause-span g c =
+    let i = c.pieces.invariant in
+    let j = i.joins in
+    let feeds : List ℕ = c.feeds.result.now in
+    let none : coming_count c.pieces.part ≡ 0 = grind (arith, nat_tests) in
+    let long : length j.0 ≡ c.args.message.length = omega (arith, j.4, none) in
+    let same : feeds_of (ending_of j.0) ≡ feeds = ap feeds_of (sym j.2) ∙ sym c.feeds.ensures in
+    let is : closed j.0 ≡ j.0 ++ feeds = closed_by_last j.0 (omega (arith, long, c.requires.some)) ∙ ap (λ (l : List ℕ). j.0 ++ l) same in (
+      j.0,
+      long,
+      writes_less (g.O.Out.taken c.args.out.now) (g.O.Out.taken c.push.new.out) c.args.sheet.now c.push.new.self (Some (closed j.0)) (j.0 ++ feeds) c.push.result is
+          (writes_next (g.O.Out.taken c.args.out.now) (g.O.Out.taken c.pieces.out) (g.O.Out.taken c.push.new.out) c.args.sheet.now c.pieces.sheet c.push.new.self (Some j.0) (Some feeds) c.push.result (j.0, refl, j.3) c.push.ensures.writes),
+    )
 
 pub returns-clause-out : goal.returns-clause-out
 returns-clause-out g c =

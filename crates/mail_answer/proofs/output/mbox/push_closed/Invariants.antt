@@ -1,4 +1,4 @@
-use Rattle.std.proofs.Common.{◌≡◌, ℕ, List, ◌++◌}
+use Rattle.std.proofs.Common.{◌≡◌, ◌+◌, ℕ, List, ◌++◌, length}
 use Rattle.std.specs.Option.{option_map}
 use Rattle.mail_answer.specs.Inside.Endings.{ending_of}
 use Rattle.mail_answer.specs.Inside.Readings.{coming, coming_count, span_reading, IsInside}
@@ -14,7 +14,8 @@ invariant-pieces g l = record {
   archive : l.part.archive ≡ l.fn.message.archive;
   joins : (text : List ℕ)
       × (coming (g.A.Archives.held l.fn.archives) (span_reading l.fn.message) ≡ option_map (λ bytes. text ++ bytes) (coming (g.A.Archives.held l.fn.archives) l.part))
-      × (l.ending ≡ ending_of text) × Joins (g.O.Out.taken l.fn.out) (g.O.Out.taken l.out) l.fn.sheet l.sheet text;
+      × (l.ending ≡ ending_of text) × Joins (g.O.Out.taken l.fn.out) (g.O.Out.taken l.out) l.fn.sheet l.sheet text
+      × (coming_count (span_reading l.fn.message) ≡ length text + coming_count l.part);
   kept : l.sheet.sent ≡ 0 → l.out ≡ l.fn.out;
   out_count : g.O.Out.failures l.out ≡ g.O.Out.failures l.fn.out;
   archives_count : g.A.Archives.failures l.archives ≡ g.A.Archives.failures l.fn.archives;

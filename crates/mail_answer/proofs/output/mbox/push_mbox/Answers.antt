@@ -25,3 +25,9 @@ returns-clause-writes g c =
     let is : c.message.result ≡ record_at t.messages c.args.n = cc (c.message.ensures, record_known t.messages c.args.n c.requires.below) in
     subst (λ (k : Option (List ℕ)). Writes (g.O.Out.taken c.args.out.now) (g.O.Out.taken c.push_closed.new.out) c.args.sheet.now c.push_closed.new.sheet k c.push_closed.result)
     (mbox_known t held c.args.n c.message.result is) c.push_closed.ensures.writes
+
+pub returns-clause-span : goal.returns-clause-span
+returns-clause-span g c =
+    let t = c.args.index.now in
+    let is : c.message.result ≡ record_at t.messages c.args.n = cc (c.message.ensures, record_known t.messages c.args.n c.requires.below) in
+    rw is at c.push_closed.ensures.span

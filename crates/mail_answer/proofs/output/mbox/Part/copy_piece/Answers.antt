@@ -1,19 +1,19 @@
-use Rattle.std.proofs.Common.{◌≡◌, ◌∙◌, ℕ, List, [], ◌++◌, ◌+◌, ◌-◌, Option, Result, Ok, Err, refl, ap, sym, subst, arith}
+use Rattle.std.proofs.Common.{◌≡◌, ◌∙◌, ℕ, List, [], ◌++◌, ◌+◌, ◌-◌, ◌≤◌, length-append, Option, Result, Ok, Err, refl, ap, sym, subst, arith}
 use Rattle.std.specs.Option.{option_map}
 use Rattle.mail_answer.specs.Inside.Endings.{ending_of}
-use Rattle.mail_answer.specs.Inside.Readings.{Reading, coming}
+use Rattle.mail_answer.specs.Inside.Readings.{Reading, coming, coming_count, IsInside}
 use Rattle.mail_answer.specs.Sheets.{Joins, JoinsFront}
 use Rattle.mail_answer.specs.declared.fault.AnswerFaultKind.{AnswerFaultKind}
-use Rattle.mail_answer.proofs.OutputLaws.CopiedPieces.{copies_err, piece_read, behind_gathered, tells_behind}
-use Rattle.mail_answer.proofs.OutputLaws.SheetLemmas.{nothing_went, gathered_went, some_text, front_more}
+use Rattle.mail_answer.proofs.OutputLaws.CopiedPieces.{copies_err, piece_read, behind_gathered, tells_behind, some_coming, inside_behind}
+use Rattle.mail_answer.proofs.OutputLaws.SheetLemmas.{nothing_went, gathered_went, front_more}
 use Rattle.mail_answer.proofs.output.mbox.Part.copy_piece.Goals as goal
 
 pub returns-in_err-n-clause-copies : goal.returns-in_err-n-clause-copies
 returns-in_err-n-clause-copies g c =
     let taken : Option (List ℕ) = g.O.Out.taken c.args.out.now in
     let known : Option (List ℕ) = coming (g.A.Archives.held c.args.archives.now) c.args.self.now in
-    let some = some_text known in
-    copies_err taken taken c.args.sheet.now _ known _ c.args.before c.from_residual.result c.from_residual.ensures.0 (some.0, some.1, nothing_went taken c.args.sheet.now _ some.0 refl)
+    let some = some_coming (g.A.Archives.held c.args.archives.now) (g.A.Archives.number c.args.archives.now) c.args.self.now c.requires.inside in
+    copies_err taken taken c.args.sheet.now _ known _ _ _ c.args.before c.from_residual.result c.from_residual.ensures.0 (some.0, some.1, nothing_went taken c.args.sheet.now _ some.0 refl, some.2)
 
 pub returns-in_err-send_full-clause-copies : goal.returns-in_err-send_full-clause-copies
 returns-in_err-send_full-clause-copies g c =
@@ -27,9 +27,16 @@ returns-in_err-send_full-clause-copies g c =
     let behind : Option (List ℕ) = coming held (record { archive = s.archive; unread = []; next = s.next + c.in_ok-n.n; left = s.left - c.in_ok-n.n }) in
     let is : coming held c.args.self.now ≡ option_map (λ bytes. reads.bytes ++ bytes) behind =
     sym (ap (λ (r : Reading). coming held r) c.self.view_is) ∙ piece_read s.archive s.next s.left c.in_ok-n.n held c.args.sheet.now.text c.read.new.self reads (omega (arith, c.in_ok-n.ensures.bound)) in
-    let rest = some_text behind in
-    copies_err taken taken' c.args.sheet.now c.send_full.new.self (coming held c.args.self.now) behind c.args.before c.from_residual-in_err-send_full.result c.from_residual-in_err-send_full.ensures.0
-    (reads.bytes ++ rest.0, rw is (tells_behind behind reads.bytes rest.0 rest.1), front_more rest.0 (subst (JoinsFront taken taken' c.args.sheet.now c.send_full.new.self) (sym went.1) went.2))
+    let few : c.in_ok-n.n ≤ s.left = omega (arith, c.in_ok-n.ensures.bound) in
+    let inside = inside_behind (g.A.Archives.number c.args.archives.now) held s.archive s.next s.left c.in_ok-n.n few (subst (IsInside (g.A.Archives.number c.args.archives.now) held) (sym c.self.view_is) c.requires.inside) in
+    let rest = some_coming held (g.A.Archives.number c.args.archives.now) _ inside in
+    let whole : coming_count c.args.self.now ≡ s.left = omega (arith, ap coming_count c.self.view_is) in
+    copies_err taken taken' c.args.sheet.now c.send_full.new.self (coming held c.args.self.now) behind _ _ c.args.before c.from_residual-in_err-send_full.result c.from_residual-in_err-send_full.ensures.0 (
+      reads.bytes ++ rest.0,
+      rw is (tells_behind behind reads.bytes rest.0 rest.1),
+      front_more rest.0 (subst (JoinsFront taken taken' c.args.sheet.now c.send_full.new.self) (sym went.1) went.2),
+      omega (arith, length-append reads.bytes rest.0, reads.number, rest.2, few, whole),
+    )
 
 pub returns-clause-copies : goal.returns-clause-copies
 returns-clause-copies g c =
@@ -44,4 +51,5 @@ returns-clause-copies g c =
       sym (ap (λ (r : Reading). coming held r) c.self.view_is) ∙ piece_read s.archive s.next s.left c.in_ok-n.n held c.args.sheet.now.text c.read.new.self reads (omega (arith, c.in_ok-n.ensures.bound)),
       subst (Joins taken taken' c.args.sheet.now c.send_full.new.self) (sym went.1) went.2,
       λ text is. c.with_bytes-ending.ensures text is ∙ ap (λ (l : List ℕ). ending_of (text ++ l)) (behind_gathered c.args.sheet.now.text reads.bytes c.as_slice.result.now c.len-gathered.result (c.as_slice.ensures ∙ reads.behind) (omega arith)),
+      omega (arith, reads.number, c.in_ok-n.ensures.bound, ap coming_count c.self.view_is),
     )

@@ -1,0 +1,72 @@
+-- Laws of archives that are asked for their lengths in order.
+use Rattle.std.proofs.Common.{◌≡◌, ℕ, ◌+◌, ◌<◌, Bool, true, false, ◌==◌, List, [], ◌∷◌, ◌++◌, map, length, length-take, take, take-add, drop, drop-cons, Option, None, Some, IfSome, Result, Ok, Err, OnErr, refl, ap, ap₂, sym, ◌∙◌, subst, arith}
+use Rattle.std.proofs.lemmas.Bool.{eqb-true, eq-eqb}
+use Rattle.std.proofs.lemmas.List.{length-map, map-append}
+use Rattle.mbox_cutter.specs.declared.device.DeviceFault.{DeviceFault}
+use Rattle.mail_index.specs.Tables.{Archive}
+use Rattle.mail_answer.specs.Archives.{archive_at}
+use Rattle.mail_answer.specs.Asked.{TellLengths, indexed_lengths, Agree, AsksUpTo, FindsLengths}
+use Rattle.mail_answer.specs.declared.archives.Archives.{Ghosts}
+use Rattle.mail_answer.specs.declared.fault.AnswerFaultKind.{AnswerFaultKind}
+use Rattle.mail_answer.specs.declared.fault.AnswerFaultKind.TheVariants.{Device}
+
+-- one archive more was asked
+tell_more : {A : Type 0} (g : Ghosts A) (n : ℕ) (lengths : List ℕ) (l : ℕ) (old before new : A) → TellLengths g n lengths old before → g.measures before (n + length lengths) (Ok l) new → TellLengths g n (lengths ++ l ∷ []) old new
+tell_more {A} g n [] l old before new e m =
+    let here : n + 0 ≡ n = omega arith in
+    (new, subst (λ (k : ℕ). g.measures old k (Ok l) new) here (subst (λ (b : A). g.measures b (n + 0) (Ok l) new) e m), refl)
+tell_more {A} g n (k ∷ lengths) l old before new told m =
+    let behind : n + length (k ∷ lengths) ≡ n + 1 + length lengths = omega arith in
+    (told.0, told.1, tell_more g (n + 1) lengths l told.0 before new told.2 (subst (λ (i : ℕ). g.measures before i (Ok l) new) behind m))
+
+map_one_more : {X : Type 0} (f : X → ℕ) (xs : List X) (n : ℕ) (x : X) (rest : List X) → drop n xs ≡ x ∷ rest → map f (take (n + 1) xs) ≡ map f (take n xs) ++ f x ∷ []
+map_one_more {X} f xs n x rest e = ap (map f) (take-add n 1 xs ∙ ap (λ ys. take n xs ++ take 1 ys) e) ∙ map-append f (take n xs) (x ∷ [])
+
+none_known : (held : Option (List (List ℕ))) (named : List Archive) → IfSome held (λ archives. map length (take 0 archives) ≡ indexed_lengths (take 0 named))
+none_known None named = tt
+none_known (Some archives) named = refl
+
+pub none_asked : {A : Type 0} (g : Ghosts A) (named : List Archive) (a : A) → Agree g named 0 a a
+none_asked g named a = record { told = refl; known = none_known (g.held a) named }
+
+known_more : (held : Option (List (List ℕ))) (named : List Archive) (n number : ℕ) (a : Archive) (rest : List Archive) (same : Bool) → n < number → drop n named ≡ a ∷ rest
+    → IfSome held (λ archives. length archives ≡ number) → IfSome held (λ archives. same ≡ (length (archive_at archives n) == a.length)) → same ≡ true
+    → IfSome held (λ archives. map length (take n archives) ≡ indexed_lengths (take n named)) → IfSome held (λ archives. map length (take (n + 1) archives) ≡ indexed_lengths (take (n + 1) named))
+known_more None named n number a rest same h e count is holds so_far = tt
+known_more (Some archives) named n number a rest same h e count is holds so_far =
+    let long : length (archive_at archives n) ≡ a.length = eqb-true (length (archive_at archives n)) a.length (sym is ∙ holds) in
+    map_one_more length archives n (archive_at archives n) _ (drop-cons archives n [] (omega arith))
+    ∙ ap₂ (λ xs k. xs ++ k ∷ []) so_far long
+    ∙ sym (map_one_more (λ (t : Archive). t.length) named n a rest e)
+
+-- one archive more agrees
+pub agree_more : {A : Type 0} (g : Ghosts A) (named : List Archive) (n number : ℕ) (a : Archive) (rest : List Archive) (told : ℕ) (same : Bool) (old before new : A) → n < number → number ≡ length named → drop n named ≡ a ∷ rest
+    → IfSome (g.held old) (λ archives. length archives ≡ number) → IfSome (g.held old) (λ archives. same ≡ (length (archive_at archives n) == a.length)) → same ≡ (told == a.length) → same ≡ true
+    → g.measures before n (Ok told) new → Agree g named n old before → Agree g named (n + 1) old new
+agree_more {A} g named n number a rest told same old before new h as_many e count is asked holds measured so_far =
+    let many : 0 + length (indexed_lengths (take n named)) ≡ n = omega (arith, length-map (take n named) (λ (t : Archive). t.length), length-take n named, h, as_many) in
+    let as_indexed : told ≡ a.length = eqb-true told a.length (sym asked ∙ holds) in
+    let next : g.measures before (0 + length (indexed_lengths (take n named))) (Ok a.length) new =
+    subst (λ (k : ℕ). g.measures before k (Ok a.length) new) (sym many) (subst (λ (k : ℕ). g.measures before n (Ok k) new) as_indexed measured) in
+    record {
+      told = subst (λ (lengths : List ℕ). TellLengths g 0 lengths old new) (sym (map_one_more (λ (t : Archive). t.length) named n a rest e)) (tell_more g 0 (indexed_lengths (take n named)) a.length old before new so_far.told next);
+      known = known_more (g.held old) named n number a rest same h e count is holds so_far.known;
+    }
+
+-- another length was told
+pub other_told : (told indexed : ℕ) (same : Bool) → same ≡ (told == indexed) → same ≡ false → told ≡ indexed → ⊥
+other_told told indexed same asked fails e = absurd (cc (sym fails ∙ asked ∙ eq-eqb told indexed e))
+
+-- a call that failed
+pub failure_found : {A T : Type 0} (g : Ghosts A) (named : List Archive) (n : ℕ) (fault : DeviceFault) (old new : A) (r : Result T AnswerFaultKind) (kind : AnswerFaultKind) → r ≡ Err kind → kind ≡ Device
+    → AsksUpTo g named n (Err fault) old new → FindsLengths g named old new r
+failure_found {A} {T} g named n fault old new r kind e d last = subst (λ (s : Result T AnswerFaultKind). FindsLengths g named old new s) (sym (e ∙ ap Err d)) (n, fault, last)
+
+-- no archive is left
+pub all_agree : {A : Type 0} (g : Ghosts A) (named : List Archive) (n : ℕ) (old new : A) → n ≡ length named → Agree g named n old new → Agree g named (length named) old new
+all_agree g named n old new e so_far = subst (λ (k : ℕ). Agree g named k old new) e so_far
+
+-- what holds of any error
+pub on_error : {T E : Type 0} (r : Result T E) (P : Type 0) → P → OnErr r P
+on_error (Ok x) P holds = tt
+on_error (Err e) P holds = holds

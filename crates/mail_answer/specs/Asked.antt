@@ -1,0 +1,69 @@
+-- In which order the lengths of archives are asked, and what is found of them.
+use Rattle.std.specs.Prelude.{◌≡◌, ◌≢◌, ℕ, ◌+◌, ◌<◌, false, List, [], ◌∷◌, length, map, take, IfSome, IfErr, IsTrue, Result, Ok, Err}
+use Rattle.mbox_cutter.specs.declared.device.DeviceFault.{DeviceFault}
+use Rattle.mail_index.specs.Tables.{Archive, Table}
+use Rattle.mail_answer.specs.Answers.{fails_by}
+use Rattle.mail_answer.specs.Faults.{is_of_archives, is_stale, IfStale}
+use Rattle.mail_answer.specs.Mail.{Search, AreChosen}
+use Rattle.mail_answer.specs.Stale.{length_at}
+use Rattle.mail_answer.specs.TableAnswers.{mail_told}
+use Rattle.mail_answer.specs.TableFacts.{is_among, record_at}
+use Rattle.mail_answer.specs.declared.archives.Archives.{Ghosts}
+use Rattle.mail_answer.specs.declared.fault.AnswerFault.{AnswerFault}
+use Rattle.mail_answer.specs.declared.fault.AnswerFaultKind.{AnswerFaultKind}
+use Rattle.mail_answer.specs.declared.fault.AnswerFaultKind.TheVariants.{Stale, Device, OutOfMemory, OutFailed}
+use Rattle.mail_answer.specs.declared.format.Format.TheVariants.{Raw}
+
+-- The archives from this number on were asked for their lengths, each once and in order, and told these.
+abbrev pub TellLengths : {A : Type 0} → Ghosts A → ℕ → List ℕ → A → A → Type 0
+TellLengths g n [] old new = new ≡ old
+TellLengths {A} g n (l ∷ lengths) old new = (next : A) × g.measures old n (Ok l) next × TellLengths g (n + 1) lengths next new
+
+abbrev pub indexed_lengths : List Archive → List ℕ
+indexed_lengths named = map (λ a. a.length) named
+
+-- So many archives were asked, and each told the length that was indexed. Where their bytes are known, they are so long.
+pub record Agree {A : Type 0} (g : Ghosts A) (named : List Archive) (count : ℕ) (old new : A) : Type 0 where
+  pub told : TellLengths g 0 (indexed_lengths (take count named)) old new
+  pub known : IfSome (g.held old) (λ archives. map length (take count archives) ≡ indexed_lengths (take count named))
+
+-- The archives before this one were asked, and agree; then it was asked, as the last one, and answered this.
+pub record AsksUpTo {A : Type 0} (g : Ghosts A) (named : List Archive) (n : ℕ) (answer : Result ℕ DeviceFault) (old new : A) : Type 0 where
+  pub exists : n < length named
+  pub before : A
+  pub agree : Agree g named n old before
+  pub last : g.measures before n answer new
+
+-- Of as many archives as were indexed each is asked, in order, up to the first that has another length or fails.
+abbrev pub FindsLengths : {A T : Type 0} → Ghosts A → List Archive → A → A → Result T AnswerFaultKind → Type 0
+FindsLengths g named old new (Ok _) = Agree g named (length named) old new
+FindsLengths g named old new (Err (Stale n)) = (other : ℕ) × (other ≢ length_at named n) × AsksUpTo g named n (Ok other) old new
+FindsLengths g named old new (Err Device) = (n : ℕ) × (fault : DeviceFault) × AsksUpTo g named n (Err fault) old new
+FindsLengths g named old new (Err OutOfMemory) = ⊥
+FindsLengths g named old new (Err OutFailed) = ⊥
+
+-- the archive of a message of these numbers
+abbrev pub IsArchiveOfSome : Table → List ℕ → ℕ → Type 0
+IsArchiveOfSome t numbers archive = (n : ℕ) × IsTrue (is_among n numbers) × (archive ≡ (record_at t.messages n).archive)
+
+-- the archive of a message that is chosen
+abbrev pub IsArchiveOfChosen : Table → Search → ℕ → Type 0
+IsArchiveOfChosen t s archive = (numbers : List ℕ) × AreChosen (mail_told t) s numbers × IsArchiveOfSome t numbers archive
+
+-- behind lengths that agree
+pub record GoesOnBehind {A : Type 0} (g : Ghosts A) (t : Table) (s : Search) (found new : A) (result : Result ℕ AnswerFault) : Type 0 where
+  -- no length is asked again
+  pub once : g.lengths_asked new ≡ g.lengths_asked found
+  -- a raw answer asks nothing more of the archives, and none of them is at fault
+  pub raw : s.format ≡ Raw → (new ≡ found) × (fails_by is_of_archives result ≡ false) × (fails_by is_stale result ≡ false)
+  -- an archive that a read finds to end early is that of a message that is chosen
+  pub stale : IfErr result (λ fault. IfStale fault.kind (IsArchiveOfChosen t s))
+
+-- Another length or a failure is the answer, and no byte goes out.
+abbrev pub GoesOnWith : {A : Type 0} → Ghosts A → Table → Search → Result (Unit {0}) AnswerFaultKind → A → A → Result ℕ AnswerFault → Type 0
+GoesOnWith g t s (Err kind) found new result = (new ≡ found) × (result ≡ Err (record { kind = kind; sent = 0 }))
+GoesOnWith g t s (Ok _) found new result = GoesOnBehind g t s found new result
+
+-- What a search makes of as many archives as were indexed: it first asks their lengths.
+abbrev pub AsksFirst : {A : Type 0} → Ghosts A → Table → Search → A → A → Result ℕ AnswerFault → Type 0
+AsksFirst {A} g t s old new result = (found : A) × (told : Result (Unit {0}) AnswerFaultKind) × FindsLengths g t.archives old found told × GoesOnWith g t s told found new result
