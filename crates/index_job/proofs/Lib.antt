@@ -7,3 +7,4 @@ pub mod Headings
 pub mod ArchiveSteps
 pub mod TableSteps
 pub mod MessageSteps
+pub mod SoundTables

@@ -1,5 +1,5 @@
 -- Which archives are refused, and why.
-use Rattle.std.specs.Prelude.{◌≡◌, ◌⊎◌, ℕ, ◌<◌, ◌≤◌, List, [], ◌∷◌, ◌++◌, length, All, None, Some}
+use Rattle.std.specs.Prelude.{◌≡◌, ◌⊎◌, ◌<◌, ◌≤◌, List, [], ◌∷◌, ◌++◌, length, All, None, Some}
 use Rattle.mail_index.specs.Limits.{most_in_archive, most_in_index}
 use Rattle.mail_index.specs.Tables.{Table}
 use Rattle.mbox_cutter.specs.declared.event.CutFault.{CutFault}

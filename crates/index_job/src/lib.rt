@@ -7,8 +7,10 @@ mod folding_room;
 mod gathering;
 mod index_job;
 mod job_fault;
+mod laws;
 mod message_end;
 mod term_sink;
 
 pub use index_job::IndexJob;
 pub use job_fault::JobFault;
+pub use laws::the_table_of_sound_archives_is_well_formed;

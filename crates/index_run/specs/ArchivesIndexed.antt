@@ -39,7 +39,7 @@ IsArchivesFault archives TooMany = Refuses archives TooMany
 IsArchivesFault archives Memory = ⊤
 IsArchivesFault archives _ = ⊥
 
--- what a run answers of a job's fault at the archive of this number; the file in memory fails only for want of memory
+-- what a run answers of a job's fault at the archive of this number; no archive has the last two
 abbrev pub fault_of_job : ℕ → JobFault → Fault
 fault_of_job number (job.Cut fault) = Archive number fault
 fault_of_job number job.OutOfMemory = Memory

@@ -14,15 +14,15 @@ use mbox_cutter::{CutFault, Source};
 use run_faults::Fault;
 use std::alloc::Global;
 
-/// What a run answers of a job's fault at the archive of this number.
-pub(crate) fn fault_of_job(number: u64, fault: JobFault) -> Fault
+/// What a run answers of a job's fault at the archive of this number. No archive has the last two, of the output and of a job that
+/// has failed.
+fn fault_of_job(number: u64, fault: JobFault) -> Fault
     ensures { result ≡ fault_of_job number fault }
 {
     match fault {
         JobFault::Cut(fault) => Fault::Archive { number, fault },
         JobFault::OutOfMemory => Fault::Memory,
         JobFault::TooMany => Fault::TooMany,
-        // The file in memory fails only for want of memory.
         JobFault::Out => Fault::Memory,
         JobFault::Failed => Fault::Archive {
             number,
@@ -51,7 +51,8 @@ pub(crate) fn job_of_archives<S: Source>(
 {
     let mut job = match IndexJob::new(alloc) {
         Ok(job) => job,
-        Err(fault) => return Err(fault_of_job(0, fault)),
+        // A job that begins wants nothing but memory.
+        Err(_) => return Err(Fault::Memory),
     };
     for number in 0..sources.len() {
         if let Err(fault) = job.archive(paths[number].as_str(), &mut sources[number]) {

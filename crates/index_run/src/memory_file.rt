@@ -10,7 +10,7 @@ ghost use Rattle.index_run.specs.ArchivesIndexed.{mboxes, IsArchivesFault};
 ghost use Rattle.index_run.specs.Counts.{CountsSources};
 ghost use Rattle.run_faults.specs.Faults.{fault_in, is_failed_out, is_early, IsOfIndexing};
 
-use crate::archives_job::{fault_of_job, job_of_archives};
+use crate::archives_job::job_of_archives;
 use mbox_cutter::{MemoryOut, Source};
 use run_faults::Fault;
 use std::alloc::Global;
@@ -40,6 +40,7 @@ pub fn file_of_archives<S: Source>(
     let mut file = MemoryOut::new(alloc, None);
     match job.finish(&mut file) {
         Ok(_) => Ok(file),
-        Err(fault) => Err(fault_of_job(0, fault)),
+        // A job that hasn't failed is refused nothing but its output, and a file in memory fails only for want of memory.
+        Err(_) => Err(Fault::Memory),
     }
 }

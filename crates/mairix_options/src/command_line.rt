@@ -37,7 +37,7 @@ Examples:
   mairix -f ~/.mairixrc -r --boolean 'from:alice or subject:rep*'  # lines";
 
 /// What the words of a command line ask for.
-#[derive(Debug, Drop)]
+#[derive(Drop)]
 pub struct Plan {
     /// The rcfile's path, as written.
     pub rcfile: Text,

@@ -16,7 +16,7 @@ use std::fmt;
 use thiserror::Error;
 
 /// What an rcfile says.
-#[derive(Debug, Drop)]
+#[derive(Drop)]
 pub struct Rc {
     /// The folder that names of archives and of answers are in, where they don't say another.
     pub base: Option<Text>,
@@ -31,7 +31,7 @@ pub struct Rc {
 }
 
 /// What all lines of an rcfile say of each option: each line of `mbox`, and of the others the last.
-#[derive(Debug, Drop)]
+#[derive(Drop)]
 struct Said {
     base: Option<Text>,
     archives: Vec<ArchivesLine>,

@@ -48,7 +48,7 @@ impl Keyword {
 }
 
 /// A line that names archives.
-#[derive(Debug, Drop)]
+#[derive(Drop)]
 pub(crate) struct ArchivesLine {
     pub(crate) number: u64,
     /// As written.
@@ -56,7 +56,7 @@ pub(crate) struct ArchivesLine {
 }
 
 /// A line that names the file that answers go to.
-#[derive(Debug, Drop)]
+#[derive(Drop)]
 pub(crate) struct MfolderLine {
     pub(crate) number: u64,
     /// As written.
@@ -64,7 +64,7 @@ pub(crate) struct MfolderLine {
 }
 
 /// What one line of an rcfile says.
-#[derive(Debug, Drop)]
+#[derive(Drop)]
 pub(crate) enum Setting {
     Base(Text),
     Archives(ArchivesLine),

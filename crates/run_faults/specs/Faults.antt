@@ -9,7 +9,6 @@ use Rattle.mairix_options.specs.declared.rcfile.RcFault.TheVariants as rcfile
 use Rattle.mail_query.specs.declared.fault.QueryFault.{QueryFault}
 use Rattle.mail_query.specs.declared.fault.QueryFaultKind.{QueryFaultKind}
 use Rattle.mail_query.specs.declared.fault.QueryFaultKind.TheVariants as query
-use Rattle.run_faults.specs.declared.fault.TheConstants.{DONE, REFUSED, WRONG_INDEX, FAILED, NO_ROOM}
 use Rattle.run_faults.specs.declared.fault.Fault.{Fault}
 use Rattle.run_faults.specs.declared.fault.Fault.TheVariants as of
 use Rattle.run_faults.specs.declared.fault.Fault.TheVariants.{Usage, Rc, Query, Archive, Index, OldIndex, Stale, Out, Memory, TooMany}
@@ -17,38 +16,38 @@ use Rattle.run_faults.specs.declared.fault.Fault.TheVariants.{Usage, Rc, Query, 
 -- Help and Version 0; words, rcfile or query refused 2; an index refused 3; a device failed, or no mbox 4; want of memory, an
 -- archive too long, or too many messages or keys 5
 abbrev pub status_of_usage : UsageFault → ℕ
-status_of_usage usage.Help = DONE
-status_of_usage usage.Version = DONE
-status_of_usage usage.OutOfMemory = NO_ROOM
-status_of_usage usage.Parse = REFUSED
-status_of_usage usage.TwoFormats = REFUSED
+status_of_usage usage.Help = 0
+status_of_usage usage.Version = 0
+status_of_usage usage.OutOfMemory = 5
+status_of_usage usage.Parse = 2
+status_of_usage usage.TwoFormats = 2
 
 abbrev pub status_of_rc : RcFault → ℕ
-status_of_rc rcfile.OutOfMemory = NO_ROOM
-status_of_rc _ = REFUSED
+status_of_rc rcfile.OutOfMemory = 5
+status_of_rc _ = 2
 
 abbrev pub status_of_query : QueryFaultKind → ℕ
-status_of_query query.OutOfMemory = NO_ROOM
-status_of_query _ = REFUSED
+status_of_query query.OutOfMemory = 5
+status_of_query _ = 2
 
 abbrev pub status_of_cut : CutFault → ℕ
-status_of_cut ArchiveTooLong = NO_ROOM
-status_of_cut Device = FAILED
-status_of_cut NotAnMbox = FAILED
-status_of_cut Failed = FAILED
+status_of_cut ArchiveTooLong = 5
+status_of_cut Device = 4
+status_of_cut NotAnMbox = 4
+status_of_cut Failed = 4
 
 abbrev pub status_of_fault : Fault → ℕ
 status_of_fault (Usage fault) = status_of_usage fault
 status_of_fault (Rc fault) = status_of_rc fault
 status_of_fault (Query fault) = status_of_query fault.kind
 status_of_fault (Archive number fault) = status_of_cut fault
-status_of_fault (Index fault) = WRONG_INDEX
-status_of_fault OldIndex = WRONG_INDEX
-status_of_fault (Stale number) = WRONG_INDEX
-status_of_fault of.Device = FAILED
-status_of_fault Out = FAILED
-status_of_fault Memory = NO_ROOM
-status_of_fault TooMany = NO_ROOM
+status_of_fault (Index fault) = 3
+status_of_fault OldIndex = 3
+status_of_fault (Stale number) = 3
+status_of_fault of.Device = 4
+status_of_fault Out = 4
+status_of_fault Memory = 5
+status_of_fault TooMany = 5
 
 -- an OutOfMemory of any layer becomes Memory
 abbrev pub of_usage : UsageFault → Fault

@@ -1,4 +1,6 @@
 //! Why a run has no whole answer, and the exit status that it has then.
+//!
+//! Decision 90 in docs/DECISIONS.md says why it is so.
 
 use mail_index::IndexFault;
 use mail_query::{QueryFault, QueryFaultKind};
@@ -38,7 +40,7 @@ pub enum Fault {
     #[error("{0}")]
     Query(QueryFault),
     /// The archive of this number, counted from 0, couldn't be read or is refused.
-    #[error("archive: {fault}")]
+    #[error("archive {}: {fault}", u128::from(*.number) + 1)]
     Archive { number: u64, fault: CutFault },
     /// The index is refused.
     #[error("index: {0}")]
@@ -49,7 +51,7 @@ pub enum Fault {
     OldIndex,
     /// The archive of this number, counted from 0, isn't the one that was indexed. Where there are more or
     /// fewer archives than were indexed it is the smaller of both counts.
-    #[error("archive {0} has changed")]
+    #[error("archive {}: changed since it was indexed", u128::from(*.0) + 1)]
     Stale(u64),
     /// An archive couldn't be read where the answer asked for it.
     #[error("archive read failed")]

@@ -41,14 +41,14 @@ returns-in-Err-archive-clause-known g c = λ archives known.
     let fails : IsAddFault (take i (mboxes paths archives)) (record { path = get_or paths i []; bytes = get_or archives i [] }) c.in-Err-archive.fault =
     subst (λ (t : List ℕ). IsAddFault (take i (mboxes paths archives)) (record { path = t; bytes = get_or archives i [] }) c.in-Err-archive.fault) text
     (c.in-Err-archive.ensures.err (take i (mboxes paths archives)) (get_or archives i []) found.0 rest) in
-    rw c.fault_of_job-in-Err-archive.ensures (archive-fault (mboxes paths archives) (take i (mboxes paths archives)) (record { path = get_or paths i []; bytes = get_or archives i [] }) i c.in-Err-archive.fault
+    rw c.fault_of_job.ensures (archive-fault (mboxes paths archives) (take i (mboxes paths archives)) (record { path = get_or paths i []; bytes = get_or archives i [] }) i c.in-Err-archive.fault
     (parted-here paths archives i many within) (sym (taken-so-far paths archives i many within)) found.1 fails)
 
 pub returns-in-Err-archive-clause-count : goal.returns-in-Err-archive-clause-count
 returns-in-Err-archive-clause-count g c =
     let i = c.loop-number.number in
     let fault = c.in-Err-archive.fault in
-    rw c.fault_of_job-in-Err-archive.ensures (counted_at g.S.Source.failures (λ n. is_failed_source n (Some (fault_of_job i fault))) c.loop-number.sources c.args.sources.now i c.archive.new.source c.index-sources-number.result (omega arith) c.loop-number.invariant.counts
+    rw c.fault_of_job.ensures (counted_at g.S.Source.failures (λ n. is_failed_source n (Some (fault_of_job i fault))) c.loop-number.sources c.args.sources.now i c.archive.new.source c.index-sources-number.result (omega arith) c.loop-number.invariant.counts
     (others-run i fault) (here-counts i fault _ _ c.in-Err-archive.ensures.count))
 
 pub loop-number-preserved : goal.loop-number-preserved

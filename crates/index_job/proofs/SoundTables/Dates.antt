@@ -1,0 +1,161 @@
+-- The second that a Date field tells fits in 64 bits.
+use Rattle.std.proofs.Common.{◌≡◌, ℕ, ◌+◌, ◌*◌, ◌/◌, ◌%◌, ◌≤◌, ℤ, pos, neg_ℤ, ◌+ℤ◌, ◌-ℤ◌, Bool, true, false, cond, nat_le, ◌&&◌, ◌==◌, List, [], ◌∷◌, Option, Some, None, IfSome, FitsSigned, w64, refl, sym, subst, arith}
+use Rattle.std.specs.List.{AllByRecursion, find, slice_split}
+use Rattle.std.specs.Option.{option_map, option_map_or}
+use Rattle.std.specs.Str.{bytes_eq, str_to_ascii_lowercase}
+use Rattle.std.specs.Prelude.{unwrap_or}
+use Rattle.std.proofs.lemmas.Bool.{and_parts, leb-true}
+use Rattle.jiff_core.specs.Calendar.{IsEpochDay, IsWithin, days_from_civil}
+use Rattle.jiff_core.proofs.CalendarLemmas.{days_from_civil-day_count, day_count_bounds}
+use Rattle.jiff_core.proofs.SignedLemmas.{signed_arith, fits_between}
+use Rattle.mail_dates.specs.Calendar.{day_number, month_of, start_of_day}
+use Rattle.mail_dates.specs.Numbers.{number_in, ◌>>=◌}
+use Rattle.mail_dates.specs.HeaderDates.{zones, hours_west, offset_size, numeric_offset, offset_of, zone_offset, second_of_day, time_by, time_of_parts, is_colon, time_of, year_of, date_of_parts_by, date_of_tokens_by, date_of, tokens, without_comments, without_day_name}
+use Rattle.mail_dates.proofs.CivilDays.{IsCivilDay, numbered, year_within}
+use Rattle.index_job.specs.ArchiveTables.{date_told}
+
+-- what holds of what comes of each value that there may be
+bound : {A B : Type 0} (Q : A → Type 0) (P : B → Type 0) (o : Option A) (f : A → Option B) → IfSome o Q → ((a : A) → Q a → IfSome (f a) P) → IfSome (o >>= f) P
+bound Q P None f has each = tt
+bound Q P (Some a) f has each = each a has
+
+any-of : {A : Type 0} (o : Option A) → IfSome o (λ _. Unit {0})
+any-of None = tt
+any-of (Some a) = tt
+
+-- ---- the zone
+
+-- less than a day east or west
+abbrev IsOffset : ℤ → Type 0
+IsOffset z = IsWithin 86400 z
+
+offset_size-small : (digits : List ℕ) → IfSome (offset_size digits) (λ n. n ≤ 86400)
+offset_size-small digits = bound (λ _. Unit {0}) (λ n. n ≤ 86400) (number_in 4 4 digits) _ (any-of (number_in 4 4 digits)) (λ n _. sum n (nat_le (n / 100) 23 && nat_le (n % 100) 59) refl)
+  where
+    sum : (n : ℕ) (ok : Bool) → (nat_le (n / 100) 23 && nat_le (n % 100) 59) ≡ ok → IfSome (cond ok (Some (n / 100 * 3600 + n % 100 * 60)) None) (λ s. s ≤ 86400)
+    sum n true e =
+        let both = and_parts (nat_le (n / 100) 23) (nat_le (n % 100) 59) e in
+        let hours : n / 100 ≤ 23 = leb-true (n / 100) 23 both.0 in
+        let minutes : n % 100 ≤ 59 = leb-true (n % 100) 59 both.1 in
+        omega (arith, hours, minutes)
+    sum n false e = tt
+
+east : (o : Option ℕ) → IfSome o (λ n. n ≤ 86400) → IfSome (option_map pos o) IsOffset
+east None h = tt
+east (Some n) h = omega (arith, signed_arith, h)
+
+west : (o : Option ℕ) → IfSome o (λ n. n ≤ 86400) → IfSome (option_map (λ n. neg_ℤ (pos n)) o) IsOffset
+west None h = tt
+west (Some n) h = omega (arith, signed_arith, h)
+
+numeric_offset-small : (token : List ℕ) → IfSome (numeric_offset token) IsOffset
+numeric_offset-small [] = tt
+numeric_offset-small (sign ∷ digits) = go (sign == 0x2B) (sign == 0x2D)
+  where
+    go : (plus minus : Bool) → IfSome (cond plus (option_map pos (offset_size digits)) (cond minus (option_map (λ n. neg_ℤ (pos n)) (offset_size digits)) None)) IsOffset
+    go true minus = east (offset_size digits) (offset_size-small digits)
+    go false true = west (offset_size digits) (offset_size-small digits)
+    go false false = tt
+
+found-small : (p : List ℕ × ℕ → Bool) (zs : List (List ℕ × ℕ)) → AllByRecursion (λ z. z.1 ≤ 24) zs → option_map_or (λ (z : List ℕ × ℕ). z.1) (find p zs) 0 ≤ 24
+found-small p [] all = omega arith
+found-small p (z ∷ zs) all = go (p z) (found-small p zs all.1)
+  where
+    go : (b : Bool) → option_map_or (λ (z : List ℕ × ℕ). z.1) (find p zs) 0 ≤ 24 → option_map_or (λ (z : List ℕ × ℕ). z.1) (cond b (Some z) (find p zs)) 0 ≤ 24
+    go true rest = all.0
+    go false rest = rest
+
+zones-small : AllByRecursion (λ z. z.1 ≤ 24) zones
+zones-small = (omega arith, (omega arith, (omega arith, (omega arith, (omega arith, (omega arith, (omega arith, (omega arith, tt))))))))
+
+hours_west-small : (token : List ℕ) → hours_west token ≤ 24
+unfolding hours_west
+hours_west-small [] = omega arith
+hours_west-small (a ∷ []) = omega arith
+hours_west-small (a ∷ b ∷ []) = omega arith
+hours_west-small (a ∷ b ∷ c ∷ []) = found-small (λ zone. bytes_eq zone.0 (str_to_ascii_lowercase (a ∷ b ∷ c ∷ []))) zones zones-small
+hours_west-small (a ∷ b ∷ c ∷ d ∷ rest) = omega arith
+
+offset_of-small : (token : List ℕ) → IsOffset (offset_of token)
+unfolding offset_of
+offset_of-small token = go (numeric_offset token) (numeric_offset-small token)
+  where
+    named : (hours : ℕ) → hours ≤ 24 → IsOffset (neg_ℤ (pos (hours * 3600)))
+    named hours few = omega (arith, signed_arith, few)
+
+    go : (o : Option ℤ) → IfSome o IsOffset → IsOffset (unwrap_or o (neg_ℤ (pos (hours_west token * 3600))))
+    go None h = named (hours_west token) (hours_west-small token)
+    go (Some z) h = h
+
+zone_offset-small : (rest : List (List ℕ)) → IsOffset (zone_offset rest)
+zone_offset-small [] = omega (arith, signed_arith)
+zone_offset-small (token ∷ rest) = offset_of-small token
+
+-- ---- the time of day
+
+second_of_day-small : (hour minute second : ℕ) → IfSome (second_of_day hour minute second) (λ n. n ≤ 86400)
+second_of_day-small hour minute second = go (nat_le hour 23 && nat_le minute 59 && nat_le second 60) refl
+  where
+    go : (ok : Bool) → (nat_le hour 23 && nat_le minute 59 && nat_le second 60) ≡ ok → IfSome (cond ok (Some (hour * 3600 + minute * 60 + second)) None) (λ n. n ≤ 86400)
+    go true e =
+        let both = and_parts (nat_le hour 23 && nat_le minute 59) (nat_le second 60) e in
+        let first = and_parts (nat_le hour 23) (nat_le minute 59) both.0 in
+        omega (arith, leb-true hour 23 first.0, leb-true minute 59 first.1, leb-true second 60 both.1)
+    go false e = tt
+
+time_by-small : (hour minute : List ℕ) (second : Option ℕ) → IfSome (time_by hour minute second) (λ n. n ≤ 86400)
+time_by-small hour minute second =
+    bound (λ _. Unit {0}) (λ n. n ≤ 86400) (number_in 1 2 hour) _ (any-of (number_in 1 2 hour)) (λ h _.
+    bound (λ _. Unit {0}) (λ n. n ≤ 86400) (number_in 2 2 minute) _ (any-of (number_in 2 2 minute)) (λ m _.
+    bound (λ _. Unit {0}) (λ n. n ≤ 86400) second _ (any-of second) (λ s _. second_of_day-small h m s)))
+
+time_of_parts-small : (parts : List (List ℕ)) → IfSome (time_of_parts parts) (λ n. n ≤ 86400)
+time_of_parts-small [] = tt
+time_of_parts-small (a ∷ []) = tt
+time_of_parts-small (a ∷ b ∷ []) = time_by-small a b (Some 0)
+time_of_parts-small (a ∷ b ∷ c ∷ []) = time_by-small a b (number_in 2 2 c)
+time_of_parts-small (a ∷ b ∷ c ∷ d ∷ rest) = tt
+
+time_of-small : (token : List ℕ) → IfSome (time_of token) (λ n. n ≤ 86400)
+unfolding time_of
+time_of-small token = time_of_parts-small (slice_split is_colon token)
+
+-- ---- the date
+
+civil-small : (year : ℤ) (month day : ℕ) → IsCivilDay year month day → IsEpochDay (days_from_civil year month day)
+civil-small year month day h =
+    omega (arith, signed_arith, days_from_civil-day_count, day_count_bounds year month day (year_within year h.year_in, (h.month_low, h.month_high), (h.day_low, h.day_high)))
+
+day_number-small : (year : ℤ) (month day : ℕ) → IfSome (day_number year month day) IsEpochDay
+day_number-small year month day = go (day_number year month day) refl
+  where
+    go : (o : Option ℤ) → day_number year month day ≡ o → IfSome o IsEpochDay
+    go None e = tt
+    go (Some number) e = let is = numbered year month day number e in subst IsEpochDay (sym is.is) (civil-small year month day is.civil)
+
+-- no sum leaves 64 bits
+fits : (date offset : ℤ) (second : ℕ) → IsEpochDay date → second ≤ 86400 → IsOffset offset → FitsSigned w64 ((start_of_day date +ℤ pos second) -ℤ offset)
+fits date offset second day few small = fits_between w64 _ (omega (arith, signed_arith))
+
+parts-fit : (day month year time : List ℕ) (offset : ℤ) → IsOffset offset → IfSome (date_of_parts_by day_number day month year time offset) (FitsSigned w64)
+parts-fit day month year time offset small =
+    bound (λ _. Unit {0}) (FitsSigned w64) (number_in 1 2 day) _ (any-of (number_in 1 2 day)) (λ d _.
+    bound (λ _. Unit {0}) (FitsSigned w64) (month_of month) _ (any-of (month_of month)) (λ m _.
+    bound (λ _. Unit {0}) (FitsSigned w64) (year_of year) _ (any-of (year_of year)) (λ y _.
+    bound IsEpochDay (FitsSigned w64) (day_number (pos y) m d) _ (day_number-small (pos y) m d) (λ date is.
+    bound (λ n. n ≤ 86400) (FitsSigned w64) (time_of time) _ (time_of-small time) (λ second few. fits date offset second is few small)))))
+
+tokens-fit : (ts : List (List ℕ)) → IfSome (date_of_tokens_by day_number ts) (FitsSigned w64)
+tokens-fit [] = tt
+tokens-fit (a ∷ []) = tt
+tokens-fit (a ∷ b ∷ []) = tt
+tokens-fit (a ∷ b ∷ c ∷ []) = tt
+tokens-fit (day ∷ month ∷ year ∷ time ∷ rest) = parts-fit day month year time (zone_offset rest) (zone_offset-small rest)
+
+date-fits : (text : List ℕ) → IfSome (date_of text) (FitsSigned w64)
+unfolding date_of
+date-fits text = tokens-fit (without_day_name (tokens (without_comments text)))
+
+pub told-fits : (text : Option (List ℕ)) → IfSome (date_told text) (FitsSigned w64)
+told-fits None = tt
+told-fits (Some value) = date-fits value

@@ -1,0 +1,124 @@
+-- The folding of a word has some bytes, and not too many for a key, whatever bytes the word's text has.
+use Rattle.std.proofs.Common.{◌≡◌, ℕ, zero, suc, ◌+◌, ◌-◌, ◌*◌, ◌/◌, ◌%◌, ◌^◌, ◌<◌, ◌≤◌, Bool, true, false, cond, nat_lt, List, [], ◌∷◌, ◌++◌, length, map, encode_utf8_all, inl, inr, refl, ap, arith, length-append}
+use Rattle.std.specs.Prelude.{slice_range}
+use Rattle.std.specs.Char.{encode_utf8}
+use Rattle.std.specs.List.{AllByRecursion}
+use Rattle.std.specs.Str.{chars, chars_after, continuation_len, lead_bits}
+use Rattle.std.proofs.lemmas.Bool.{cases_lt}
+use Rattle.std.proofs.lemmas.Bool.Decides.{nat_tests}
+use Rattle.std.proofs.lemmas.List.Elements.{recursion_from_All}
+use Rattle.std.proofs.lemmas.Str.{len_utf8_bounds, length-encode, length-le-encodes}
+use Rattle.caseless.specs.Caseless.{default_case_fold}
+use Rattle.caseless.proofs.CaselessLemmas.{default_case_fold-cons, length-default_case_fold, full_fold-none, full_fold-some}
+use Rattle.unicode.specs.CaseFolding.{full_fold, full_folding}
+use Rattle.mail_words.specs.Folding.{folding}
+use Rattle.mail_words.specs.Words.{range_bytes, word_ranges, words, HasWordLength}
+use Rattle.mail_words.proofs.Lengths.{all-words}
+
+-- a text that a key may have
+abbrev pub IsKeyText : List ℕ → Type 0
+IsKeyText text = (0 < length text) × (length text < 2 ^ 32)
+
+-- ---- characters of bytes
+
+after-some : (n c : ℕ) (bs : List ℕ) → n ≤ length bs → 1 ≤ length (chars_after n c bs)
+after-some zero c [] few = omega arith
+after-some zero c (b ∷ bs) few = omega arith
+after-some (suc n) c [] few = absurd (omega (arith, few))
+after-some (suc n) c (b ∷ bs) few = after-some n _ bs (omega (arith, few))
+
+after-few : (n c : ℕ) (bs : List ℕ) → length (chars_after n c bs) ≤ suc (length bs)
+after-few zero c [] = omega arith
+after-few zero c (b ∷ bs) = omega (arith, after-few (continuation_len b) (lead_bits b) bs)
+after-few (suc n) c [] = omega arith
+after-few (suc n) c (b ∷ bs) = omega (arith, after-few n (c * 64 + (b - 128)) bs)
+
+-- bytes have at most as many characters
+chars-few : (bs : List ℕ) → length (chars bs) ≤ length bs
+unfolding chars
+chars-few [] = omega arith
+chars-few (b ∷ bs) = after-few (continuation_len b) (lead_bits b) bs
+
+-- and some, where those are there that the first byte asks for
+led-some : (b : ℕ) (bs : List ℕ) → continuation_len b ≤ length bs → 1 ≤ length (chars (b ∷ bs))
+unfolding chars
+led-some b bs few = after-some (continuation_len b) (lead_bits b) bs few
+
+led-one : (b : ℕ) → b < 128 → continuation_len b ≤ 0
+led-one b h = grind (arith, nat_tests)
+
+led-two : (b : ℕ) → b < 224 → continuation_len b ≤ 1
+led-two b h = grind (arith, nat_tests)
+
+led-three : (b : ℕ) → b < 240 → continuation_len b ≤ 2
+led-three b h = grind (arith, nat_tests)
+
+led-four : (b : ℕ) → continuation_len b ≤ 3
+led-four b = grind (arith, nat_tests)
+
+-- the bytes that are written for a number have those that their first byte asks for
+encoded-some : (c : ℕ) (rest : List ℕ) → 1 ≤ length (chars (encode_utf8 c ++ rest))
+unfolding encode_utf8
+encoded-some c rest = go (nat_lt c 128) refl (nat_lt c 2048) refl (nat_lt c 65536) refl
+  where
+    go : (one : Bool) → nat_lt c 128 ≡ one → (two : Bool) → nat_lt c 2048 ≡ two → (three : Bool) → nat_lt c 65536 ≡ three
+        → 1 ≤ length (chars (cond one (c ∷ []) (cond two ((192 + c / 64) ∷ (128 + c % 64) ∷ []) (cond three ((224 + c / 4096) ∷ (128 + c / 64 % 64) ∷ (128 + c % 64) ∷ []) ((240 + c / 262144) ∷ (128 + c / 4096 % 64) ∷ (128 + c / 64 % 64) ∷ (128 + c % 64) ∷ []))) ++ rest))
+    go true e two f three g =
+        let small : c < 128 = grind (arith, nat_tests) in
+        led-some c rest (omega (arith, led-one c small))
+    go false e true f three g =
+        let small : c < 2048 = grind (arith, nat_tests) in
+        let low : 192 + c / 64 < 224 = omega (arith, small) in
+        led-some (192 + c / 64) ((128 + c % 64) ∷ rest) (omega (arith, led-two (192 + c / 64) low))
+    go false e false f true g =
+        let small : c < 65536 = grind (arith, nat_tests) in
+        let low : 224 + c / 4096 < 240 = omega (arith, small) in
+        led-some (224 + c / 4096) ((128 + c / 64 % 64) ∷ (128 + c % 64) ∷ rest) (omega (arith, led-three (224 + c / 4096) low))
+    go false e false f false g =
+        led-some (240 + c / 262144) ((128 + c / 4096 % 64) ∷ (128 + c / 64 % 64) ∷ (128 + c % 64) ∷ rest) (omega (arith, led-four (240 + c / 262144)))
+
+chars-some : (cs : List ℕ) → 1 ≤ length (encode_utf8_all cs) → 1 ≤ length (chars (encode_utf8_all cs))
+chars-some [] some = absurd (omega (arith, some))
+chars-some (c ∷ cs) some = encoded-some c (encode_utf8_all cs)
+
+-- ---- their folding
+
+full_fold-has : (c : ℕ) → 1 ≤ length (full_fold c)
+full_fold-has c =
+    elim (cases_lt (length (full_folding c)) 1) [
+      | inl none ↦ rw (full_fold-none c (full_folding c) refl none) (omega arith)
+      | inr some ↦ rw (full_fold-some c (full_folding c) refl some) some
+    ]
+
+folded-some : (cs : List ℕ) → 1 ≤ length cs → 1 ≤ length (encode_utf8_all (default_case_fold cs))
+folded-some [] some = absurd (omega (arith, some))
+folded-some (c ∷ cs) some =
+    omega (arith, ap length (default_case_fold-cons c cs), length-append (full_fold c) (default_case_fold cs), full_fold-has c, length-le-encodes (default_case_fold (c ∷ cs)))
+
+encoded-few : (cs : List ℕ) → length (encode_utf8_all cs) ≤ 4 * length cs
+encoded-few [] = omega arith
+encoded-few (c ∷ cs) = omega (arith, length-append (encode_utf8 c) (encode_utf8_all cs), length-encode c, (len_utf8_bounds c).1, encoded-few cs)
+
+folding-few : (text : List ℕ) → length (folding text) ≤ 32 * length text
+folding-few text =
+    omega (arith, encoded-few (default_case_fold (chars text)), length-default_case_fold (chars text), encoded-few (chars text), chars-few text)
+
+-- ---- words
+
+word-folds : (cs : List ℕ) → HasWordLength (encode_utf8_all cs) → IsKeyText (folding (encode_utf8_all cs))
+word-folds cs h = (
+  omega (arith, folded-some (chars (encode_utf8_all cs)) (chars-some cs h.0)),
+  omega (arith, folding-few (encode_utf8_all cs), h.1),
+)
+
+ranges-fold : (cs : List ℕ) (rs : List (ℕ × ℕ)) → AllByRecursion HasWordLength (map (range_bytes cs) rs) → AllByRecursion (λ w. IsKeyText (folding w)) (map (range_bytes cs) rs)
+ranges-fold cs [] all = tt
+ranges-fold cs (r ∷ rs) all = (word-folds (slice_range cs r.0 r.1) all.0, ranges-fold cs rs all.1)
+
+words-range : (text : List ℕ) → words text ≡ map (range_bytes (chars text)) (word_ranges text)
+unfolding words
+words-range text = refl
+
+pub words-fold : (text : List ℕ) → AllByRecursion (λ w. IsKeyText (folding w)) (words text)
+unfolding words
+words-fold text = ranges-fold (chars text) (word_ranges text) (recursion_from_All HasWordLength (words text) (all-words text))

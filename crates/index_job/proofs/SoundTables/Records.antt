@@ -1,0 +1,88 @@
+-- The records of archives are those of a well-formed table.
+use Rattle.std.proofs.Common.{◌≡◌, ◌∙◌, ◌⊎◌, inl, inr, ℕ, suc, ◌+◌, ◌<◌, ◌≤◌, ◌++◌, List, [], ◌∷◌, length, map, refl, sym, ap, subst, arith, append_assoc, length-append}
+use Rattle.std.specs.List.{AllByRecursion}
+use Rattle.std.proofs.lemmas.List.{length-map}
+use Rattle.header_text.specs.Headers.{fields_of}
+use Rattle.mail_index.specs.declared.record.Record.{Record}
+use Rattle.mail_index.specs.Tables.{Archive, archive_length, IsMessage, Follows, AllNext}
+use Rattle.mbox_cutter.specs.Archives.{Message, text, span_length}
+use Rattle.mime_text.specs.MessageFacts.{facts_of}
+use Rattle.index_job.specs.ArchiveTables.{Mbox, messages_in, record_of, records_from, entry_of}
+use Rattle.index_job.proofs.SoundTables.Dates.{told-fits}
+use Rattle.index_job.proofs.SoundTables.Spans.{AreSpanned, messages-spanned}
+
+-- ---- in order
+
+-- the record lies behind this place of the archive of this number
+abbrev LiesBehind : ℕ → ℕ → Record → Type 0
+LiesBehind archive at r = (archive < r.archive) ⊎ ((archive ≡ r.archive) × (at ≤ r.offset))
+
+-- and each behind the one before
+abbrev AreBehind : ℕ → ℕ → List Record → Type 0
+AreBehind archive at [] = Unit {0}
+AreBehind archive at (r ∷ rs) = LiesBehind archive at r × AreBehind r.archive (r.offset + r.length) rs
+
+each-next : (archive at : ℕ) (rs : List Record) → AreBehind archive at rs → AllNext Follows rs
+each-next archive at [] h = tt
+each-next archive at (r ∷ []) h = tt
+each-next archive at (r ∷ s ∷ rs) h = (h.1.0, each-next r.archive (r.offset + r.length) (s ∷ rs) h.1)
+
+-- those of one archive's messages, and others of later archives
+one-behind : (n at end : ℕ) (ms : List Message) (rest : List Record) → AreSpanned at end ms → ((place : ℕ) → AreBehind n place rest) → AreBehind n at (map (record_of n) ms ++ rest)
+one-behind n at end [] rest spanned later = later at
+one-behind n at end (m ∷ ms) rest spanned later = (inr (refl, spanned.0), one-behind n (m.offset + span_length m) end ms rest spanned.3 later)
+
+-- those of archives of which the first has this number, where what lies before them is of an earlier one, or nothing
+all-behind : (n : ℕ) (archives : List Mbox) (archive at : ℕ) → (archive < n) ⊎ ((archive ≡ n) × (at ≡ 0)) → AreBehind archive at (records_from n archives)
+all-behind n [] archive at before = tt
+all-behind n (a ∷ archives) archive at before =
+    go (messages_in a.bytes) (messages-spanned a.bytes) (λ k place low. all-behind (suc n) archives k place (inl (omega (arith, low)))) before
+  where
+    go : (ms : List Message) → AreSpanned 0 (length a.bytes) ms → ((k place : ℕ) → k ≤ n → AreBehind k place (records_from (suc n) archives)) → (archive < n) ⊎ ((archive ≡ n) × (at ≡ 0))
+        → AreBehind archive at (map (record_of n) ms ++ records_from (suc n) archives)
+    go [] spanned later (inl low) = later archive at (omega (arith, low))
+    go [] spanned later (inr same) = later archive at (omega (arith, same.0))
+    go (m ∷ ms) spanned later (inl low) =
+        (inl low, one-behind n (m.offset + span_length m) (length a.bytes) ms (records_from (suc n) archives) spanned.3 (λ place. later n place (omega arith)))
+    go (m ∷ ms) spanned later (inr same) =
+        (inr (same.0, omega (arith, same.1)), one-behind n (m.offset + span_length m) (length a.bytes) ms (records_from (suc n) archives) spanned.3 (λ place. later n place (omega arith)))
+
+pub records-in-order : (archives : List Mbox) → AllNext Follows (records_from 0 archives)
+records-in-order archives = each-next 0 0 (records_from 0 archives) (all-behind 0 archives 0 0 (inr (refl, refl)))
+
+-- ---- within their archives
+
+joined-records : (P : Record → Type 0) (rs ss : List Record) → AllByRecursion P rs → AllByRecursion P ss → AllByRecursion P (rs ++ ss)
+joined-records P [] ss here there = there
+joined-records P (r ∷ rs) ss here there = (here.0, joined-records P rs ss here.1 there)
+
+length-of : (before : List Mbox) (a : Mbox) (archives : List Mbox) → archive_length (map entry_of (before ++ a ∷ archives)) (length before) ≡ length a.bytes
+length-of [] a archives = refl
+length-of (b ∷ before) a archives = length-of before a archives
+
+one-placed : (named : List Archive) (n end : ℕ) → n < length named → archive_length named n ≡ end → (at : ℕ) (ms : List Message) → AreSpanned at end ms → AllByRecursion (IsMessage named) (map (record_of n) ms)
+one-placed named n end there long at [] spanned = tt
+one-placed named n end there long at (m ∷ ms) spanned = (
+  record {
+    exists = there;
+    within = subst (λ (k : ℕ). m.offset + span_length m ≤ k) (sym long) spanned.1;
+    size = spanned.2;
+    date = told-fits (facts_of (fields_of (text m))).date_text;
+  },
+  one-placed named n end there long (m.offset + span_length m) ms spanned.3,
+)
+
+all-placed : (n : ℕ) (before archives : List Mbox) → length before ≡ n → AllByRecursion (IsMessage (map entry_of (before ++ archives))) (records_from n archives)
+all-placed n before [] long = tt
+all-placed n before (a ∷ archives) long =
+    let all : List Mbox = before ++ a ∷ archives in
+    let there : n < length (map entry_of all) = omega (arith, length-map all entry_of, length-append before (a ∷ archives), long) in
+    let ends : archive_length (map entry_of all) n ≡ length a.bytes = ap (archive_length (map entry_of all)) (sym long) ∙ length-of before a archives in
+    let rest : AllByRecursion (IsMessage (map entry_of ((before ++ a ∷ []) ++ archives))) (records_from (suc n) archives) =
+    all-placed (suc n) (before ++ a ∷ []) archives (omega (arith, length-append before (a ∷ []), long)) in
+    joined-records (IsMessage (map entry_of all)) (map (record_of n) (messages_in a.bytes)) (records_from (suc n) archives)
+    (one-placed (map entry_of all) n (length a.bytes) there ends 0 (messages_in a.bytes) (messages-spanned a.bytes))
+    (subst (λ (l : List Mbox). AllByRecursion (IsMessage (map entry_of l)) (records_from (suc n) archives)) (append_assoc before (a ∷ []) archives) rest)
+
+pub records-placed : (archives : List Mbox) → AllByRecursion (IsMessage (map entry_of archives)) (records_from 0 archives)
+records-placed archives = all-placed 0 [] archives refl
