@@ -1,14 +1,19 @@
-//! Real files as devices, files that take their names once they are whole, and what names lead to.
+//! Real files as devices, what tells whether they have changed, files that take their names once they are whole, and what names
+//! lead to.
 #![tactic(auto)]
 
 mod file_source;
+mod file_state;
+mod leftover;
 mod new_file;
 mod same_file;
 mod special_file;
 mod whole_file;
 
-pub use file_source::{FileSource, sources_of};
+pub use file_source::{FileSource, sources_in, sources_of};
+pub use file_state::FileState;
+pub use leftover::Beginning;
 pub use new_file::NewFile;
 pub use same_file::is_same_file;
 pub use special_file::is_special_file;
-pub use whole_file::read_whole;
+pub use whole_file::{read_rest, read_whole};

@@ -1,14 +1,17 @@
 //! A file that takes its name once it is whole.
+//!
+//! Decisions 53 to 56 in docs/DECISIONS.md say why it is so.
 
+use crate::leftover::{Beginning, remove_leftover};
+use std::alloc::Global;
 use std::fs::{File, OpenOptions, Permissions};
 use std::io::ErrorKind;
 use std::os::unix::fs::{MetadataExt, OpenOptionsExt, PermissionsExt};
-use std::path::Path;
 use std::rt::Files;
 use std::{fs, io};
 
 /// The mode of a file that tells of mail: its owner alone reads and writes it.
-const PRIVATE: u32 = 0o600;
+pub(crate) const PRIVATE: u32 = 0o600;
 
 /// The bits of a mode that say who may read, write and run a file.
 const PERMISSION_BITS: u32 = 0o777;
@@ -22,6 +25,8 @@ const GROUP_BITS: u32 = 0o070;
 /// It is locked while it is open, and a lock ends with its process, however that ends. So of two runs that want one file the
 /// second is refused, and what a killed run left is nobody's. Only who has the lock of the file under a passing name renames or
 /// removes it. A lock is believed once the name is seen to lead to the file that was locked, which may have lost its name before.
+///
+/// It is private until it has its name, by which the next run knows what a killed one left.
 pub struct NewFile<'p, R: Files<File = File>> {
     rt: &'p R,
     passing: &'p str,
@@ -30,27 +35,41 @@ pub struct NewFile<'p, R: Files<File = File>> {
 }
 
 impl<'p, R: Files<File = File>> NewFile<'p, R> {
-    /// A new and empty file under a passing name, which only its owner may read. A link or a file of a run that was killed, where
-    /// one lies there, is removed first, so that nothing is written through a link.
+    /// A new and empty file under a passing name, which only its owner may read, and which is to begin so. The file of a run that was
+    /// killed, where one lies there, is removed first.
     ///
     /// # Errors
     ///
-    /// Where another run has made its own file there and is still at work, that file is untouched. So is a folder. Else what the
-    /// system refused.
-    pub fn create(rt: &'p R, passing: &'p str, name: &'p str) -> io::Result<NewFile<'p, R>> {
-        remove_leftover(rt, passing)?;
+    /// Where another run has made its own file there and is still at work, or anything lies there that no killed run left: that is
+    /// untouched. Else what the system refused, or want of memory, of the kind `OutOfMemory`.
+    pub fn create(
+        rt: &'p R,
+        alloc: Global,
+        passing: &'p str,
+        name: &'p str,
+        beginning: Beginning<'_>,
+    ) -> io::Result<NewFile<'p, R>> {
+        remove_leftover(rt, alloc, passing, beginning)?;
         let file = OpenOptions::new()
             .write(true)
             .create_new(true)
             .mode(PRIVATE)
             .open(rt, passing)?;
         lock(rt, &file, passing)?;
-        Ok(NewFile {
+        let new = NewFile {
             rt,
             passing,
             name,
             file,
-        })
+        };
+        // The process may have been told to make files with less than this mode.
+        match new.set_mode(PRIVATE) {
+            Ok(()) => Ok(new),
+            Err(error) => {
+                new.discard();
+                Err(error)
+            }
+        }
     }
 
     /// The file, to be written from its front.
@@ -58,8 +77,8 @@ impl<'p, R: Files<File = File>> NewFile<'p, R> {
         &self.file
     }
 
-    /// Gives the file its name, and the mode of the file that has had this name, as far as its owner and group are this one's too;
-    /// without one it stays private. All of it is on the disk before.
+    /// Gives the file its name, once all of it is on the disk, and then the mode of the file that has had this name, as far as its
+    /// owner and group are this one's too; without one, and where the system refuses that, it stays private.
     ///
     /// # Errors
     ///
@@ -86,13 +105,18 @@ impl<'p, R: Files<File = File>> NewFile<'p, R> {
     }
 
     fn rename(&self) -> io::Result<()> {
-        let mode = mode_for(self.rt, &self.file, self.name)?;
-        self.file.set_permissions(Permissions::from_mode(mode))?;
         self.file.sync_all()?;
+        let mode = mode_for(self.rt, &self.file, self.name)?;
         if !is_named(self.rt, self.passing, &self.file)? {
             return Err(ErrorKind::NotFound.into());
         }
-        fs::rename(self.rt, self.passing, self.name)
+        fs::rename(self.rt, self.passing, self.name)?;
+        let _ = self.set_mode(mode);
+        Ok(())
+    }
+
+    fn set_mode(&self, mode: u32) -> io::Result<()> {
+        self.file.set_permissions(Permissions::from_mode(mode))
     }
 
     fn close(self) {
@@ -105,46 +129,8 @@ impl<'p, R: Files<File = File>> NewFile<'p, R> {
     }
 }
 
-/// Removes what lies under a passing name, unless it is the file of a run at work, or a folder.
-fn remove_leftover<R: Files<File = File>>(rt: &R, passing: &str) -> io::Result<()> {
-    let found = match fs::symlink_metadata(rt, passing) {
-        Ok(found) => found,
-        Err(error) if error.kind() == ErrorKind::NotFound => return Ok(()),
-        Err(error) => return Err(error),
-    };
-    if !found.is_file() {
-        return remove_unlocked(rt, passing);
-    }
-    // Its lock is held until its name is gone.
-    let left = open_leftover(rt, passing)?;
-    lock(rt, &left, passing)?;
-    fs::remove_file(rt, passing)
-}
-
-/// Removes what no run made, as a link. It has no lock, so that of its folder stands in: of two runs that saw it, the later one
-/// doesn't remove the file that the other has made there since.
-fn remove_unlocked<R: Files<File = File>>(rt: &R, passing: &str) -> io::Result<()> {
-    let folder = match Path::new(passing).parent() {
-        Some(folder) if !folder.as_str().is_empty() => fs::open(rt, folder)?,
-        _ => fs::open(rt, ".")?,
-    };
-    folder.try_lock()?;
-    if fs::symlink_metadata(rt, passing)?.is_file() {
-        return Err(ErrorKind::WouldBlock.into());
-    }
-    fs::remove_file(rt, passing)
-}
-
-/// Opens a file to lock it: for writing, which some file systems ask of a lock, where its mode allows that.
-fn open_leftover<R: Files<File = File>>(rt: &R, passing: &str) -> io::Result<File> {
-    match OpenOptions::new().write(true).open(rt, passing) {
-        Err(error) if error.kind() == ErrorKind::PermissionDenied => fs::open(rt, passing),
-        opened => opened,
-    }
-}
-
 /// Locks a file that a name leads to, unless another run has its lock, or has renamed or removed it since it was opened.
-fn lock<R: Files>(rt: &R, file: &File, name: &str) -> io::Result<()> {
+pub(crate) fn lock<R: Files>(rt: &R, file: &File, name: &str) -> io::Result<()> {
     file.try_lock()?;
     if is_named(rt, name, file)? {
         Ok(())

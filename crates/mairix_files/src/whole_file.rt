@@ -1,5 +1,5 @@
 //! A whole file in memory.
-ghost use Rattle.std.specs.Prelude.{◌≡◌, IfOk, IfSome};
+ghost use Rattle.std.specs.Prelude.{◌≡◌, ◌++◌, IfOk, IfSome, OnOk};
 
 use std::alloc::Global;
 use std::fs::File;
@@ -22,11 +22,24 @@ pub fn read_whole<R: Files<File = File>>(rt: &R, alloc: Global, path: &str) -> i
 fn read_to_end<R: Read>(alloc: Global, reader: &mut R, expected: u64) -> io::Result<Vec<u8>>
     ensures { IfOk result (λ v. IfSome (R.remaining reader.old) (λ bytes. v.items ≡ bytes)) }
 {
+    let mut bytes = Vec::new(alloc);
+    read_rest(reader, &mut bytes, expected)?;
+    Ok(bytes)
+}
+
+/// All that a reader still has, behind these bytes, which grow at most once where that is as long as expected.
+///
+/// # Errors
+///
+/// What the system refuses, and want of memory, of the kind `OutOfMemory`.
+pub fn read_rest<R: Read>(reader: &mut R, bytes: &mut Vec<u8>, expected: u64) -> io::Result<()>
+    ensures { OnOk result (IfSome (R.remaining reader.old) (λ rest. bytes.new.items ≡ bytes.old.items ++ rest)) }
+{
     let Ok(expected) = usize::try_from(expected) else {
         return Err(io::ErrorKind::OutOfMemory.into());
     };
     // With room for one byte more the end is seen without growing.
-    let mut bytes = Vec::with_capacity(alloc, expected.saturating_add(1))?;
-    reader.read_to_end(&mut bytes)?;
-    Ok(bytes)
+    bytes.reserve_exact(expected.saturating_add(1))?;
+    reader.read_to_end(bytes)?;
+    Ok(())
 }

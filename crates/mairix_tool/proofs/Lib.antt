@@ -1,4 +1,4 @@
-mod RowsVersions
 pub mod ArchiveLaws
 pub mod TableLaws
 pub mod ReplyLaws
+pub mod IndexFronts

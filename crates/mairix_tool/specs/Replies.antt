@@ -3,7 +3,6 @@ use Rattle.std.specs.Prelude.{◌≡◌, ⊤, ℕ, List, [], take, false, nat_eq
 use Rattle.std.specs.Bool.{MatchBool, OnTrue}
 use Rattle.mail_answer.specs.Mail.{Search}
 use Rattle.mail_answer.specs.declared.format.Format.TheVariants.{Raw}
-use Rattle.run_faults.specs.declared.fault.TheConstants.{DONE, NO_MESSAGE}
 use Rattle.run_faults.specs.declared.fault.Fault.{Fault}
 use Rattle.run_faults.specs.declared.fault.Fault.TheVariants.{Archive}
 use Rattle.mairix_tool.specs.declared.reply.Reply.{Reply}
@@ -20,7 +19,7 @@ pub record Answer : Type 0 where
   pub reply : Reply
 
 abbrev pub status_of_count : ℕ → ℕ
-status_of_count messages = if nat_eq messages 0 then NO_MESSAGE else DONE
+status_of_count messages = if nat_eq messages 0 then 1 else 0
 
 abbrev pub refused : Fault → Answer
 refused fault = record { text = []; reply = record { status = status_of_fault fault; messages = 0; fault = Some fault } }

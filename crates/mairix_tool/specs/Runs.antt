@@ -20,7 +20,6 @@ use Rattle.run_faults.specs.declared.fault.Fault.{Fault}
 use Rattle.run_faults.specs.declared.fault.Fault.TheVariants as of
 use Rattle.run_faults.specs.declared.fault.Fault.TheVariants.{Index, OldIndex, Stale}
 use Rattle.mairix_tool.specs.declared.reply.Reply.{Reply}
-use Rattle.mairix_tool.specs.declared.stored.TheConstants.{FIRST_VERSION}
 use Rattle.index_job.specs.ArchiveRefusals.{AreSound}
 use Rattle.index_job.specs.ArchiveTables.{Mbox, table}
 use Rattle.index_run.specs.ArchivesIndexed.{mboxes, Refuses, IsArchivesFault}
@@ -84,7 +83,7 @@ renamed_archive named paths = if length paths == length named then first_renamed
 
 -- the index is of the first version, which has neither digests of archives nor names of parts, and they are asked for
 abbrev pub is_too_old : Table → Wanted → Bool
-is_too_old t w = (t.version == FIRST_VERSION) && (w.verify || uses_names w.search.query)
+is_too_old t w = (t.version == 1) && (w.verify || uses_names w.search.query)
 
 abbrev pub IsOldOr : Bool → (Answer → Type 0) → Answer → Type 0
 IsOldOr true IsFound answer = answer ≡ refused OldIndex

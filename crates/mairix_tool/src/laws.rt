@@ -6,6 +6,8 @@ ghost use Rattle.mail_answer.specs.Shapes.{answer_text, closed};
 ghost use Rattle.mail_answer.specs.declared.format.Format.TheVariants as format;
 ghost use Rattle.mbox_cutter.specs.Archives.{Message, text};
 ghost use Rattle.mail_index.specs.declared.kind.Kind.{Kind};
+ghost use Rattle.mail_index.specs.Tables.{IsPath, IsWellFormed, Table};
+ghost use Rattle.index_job.specs.ArchiveRefusals.{AreSound};
 ghost use Rattle.index_job.specs.ArchiveTables.{Mbox, all_messages, table};
 ghost use Rattle.index_job.specs.MessageTerms.{message_terms};
 ghost use Rattle.mairix_tool.specs.Altered.{AreToldApart, altered_archive};
@@ -19,6 +21,7 @@ ghost use Rattle.mail_answer.specs.declared.format.Format.{Format};
 ghost use Rattle.mairix_tool.specs.Runs.{IsOnceReply, IsReply, IsStoredReply};
 ghost use Rattle.mairix_tool.specs.MailOfArchives.{mail_in, shape};
 ghost use Rattle.mairix_tool.specs.Replies.{Answer};
+ghost use Rattle.mairix_tool.specs.OldTables.{HasDigests, but_digests, old_table};
 ghost use Rattle.mairix_tool.specs.TermsOfArchives.{has_number, has_term};
 ghost use Rattle.run_faults.specs.declared.fault.Fault.{Fault};
 
@@ -80,4 +83,12 @@ pub fn a_table_replies_as_its_archives()
 pub fn unaltered_archives_are_those_indexed()
     ensures only { (before : List Mbox) (paths bytes : List (List ℕ)) → AreToldApart (map (λ a. a.bytes) before ++ bytes) → altered_archive before paths bytes ≡ None → before ≡ mboxes paths bytes }
     ensures all { (paths bytes : List (List ℕ)) → length paths ≡ length bytes → altered_archive (mboxes paths bytes) paths bytes ≡ None }
+{}
+
+/// What an index of version 1 has of sound archives is well-formed, as their own table is
+/// ([`index_job::the_table_of_sound_archives_is_well_formed`]); and so is that table with any other digests.
+pub fn other_tables_of_sound_archives_are_well_formed()
+    ensures before { (archives : List Mbox) → All (λ a. IsPath a.path) archives → AreSound archives → IsWellFormed (old_table (table archives)) }
+    ensures otherwise { (archives : List Mbox) (t : Table) → All (λ a. IsPath a.path) archives → AreSound archives
+        → but_digests t ≡ but_digests (table archives) → HasDigests t → IsWellFormed t }
 {}

@@ -9,10 +9,11 @@ mod stored;
 mod view_answer;
 mod wanted;
 
-pub use index_job::{IndexJob, JobFault};
+pub use index_job::{IndexJob, JobFault, the_table_of_sound_archives_is_well_formed};
 pub use laws::{
     a_table_replies_as_its_archives, an_answer_is_cut_into_its_messages,
-    every_once_run_has_a_reply, every_stored_run_has_a_reply, the_table_chooses_as_the_messages,
+    every_once_run_has_a_reply, every_stored_run_has_a_reply,
+    other_tables_of_sound_archives_are_well_formed, the_table_chooses_as_the_messages,
     the_table_has_the_terms_of_the_messages, the_table_links_as_the_messages,
     the_table_shows_the_messages, unaltered_archives_are_those_indexed,
 };

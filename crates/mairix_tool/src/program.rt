@@ -1,11 +1,16 @@
 //! The program: files in, standard output, standard error and an exit status out.
 mod file_archives;
+mod first_look;
+mod index_file;
+mod kept_mail;
 mod new_index;
 mod output_file;
 mod read_files;
 mod search;
 mod stopped;
 
+use crate::program::first_look::first_states;
+use crate::program::index_file::read_index;
 use crate::program::new_index::replace_index;
 use crate::program::search::{Search, run_search};
 use crate::program::stopped::Stopped;
@@ -14,7 +19,6 @@ use mairix_files::read_whole;
 use mairix_options::{Plan, UsageFault, plan_of, read_rc, usage_text};
 use run_faults::{CANNOT_OPEN, FAILED, Fault, OUT_OF_MEMORY, fault_text};
 use std::alloc::Global;
-use std::fs;
 use std::fs::File;
 use std::io::{ErrorKind, Write};
 use std::rt::Files;
@@ -69,44 +73,42 @@ fn run_plan<R: Files<File = File>, W: Write>(
     out: &mut W,
 ) -> Result<u8, Stopped> {
     let rcfile = plan.rcfile.as_str();
-    let text = bytes_of(rt, alloc, rcfile)?;
+    let text = match read_whole(rt, alloc, rcfile) {
+        Ok(text) => text,
+        Err(error) => return Err(Stopped::by(alloc, rcfile, &error)),
+    };
     let rc = read_rc(alloc, &text)?;
-    open_each(rt, alloc, rc.paths.as_slice())?;
+    let states = first_states(rt, alloc, rc.paths.as_slice())?;
     if plan.patterns.as_slice().is_empty() && !plan.once {
         return replace_index(rt, alloc, rcfile, &rc);
     }
-    let index = if plan.once {
-        None
-    } else {
-        Some(bytes_of(rt, alloc, rc.database.as_str())?)
-    };
+    let index = index_of(rt, alloc, plan, rc.database.as_str())?;
     let index = index.as_deref();
     let search = Search {
         words,
         text: &text,
         rc: &rc,
+        states: &states,
         index,
         now,
     };
     run_search(rt, alloc, plan, &search, out)
 }
 
-/// The bytes of the file of this path.
-fn bytes_of<R: Files<File = File>>(rt: &R, alloc: Global, path: &str) -> Result<Vec<u8>, Stopped> {
-    match read_whole(rt, alloc, path) {
-        Ok(bytes) => Ok(bytes),
+/// The bytes of the stored index, where the plan says that it is searched.
+fn index_of<R: Files<File = File>>(
+    rt: &R,
+    alloc: Global,
+    plan: &Plan,
+    path: &str,
+) -> Result<Option<Vec<u8>>, Stopped> {
+    if plan.once {
+        return Ok(None);
+    }
+    match read_index(rt, alloc, path) {
+        Ok(bytes) => Ok(Some(bytes)),
         Err(error) => Err(Stopped::by(alloc, path, &error)),
     }
-}
-
-/// Opens each archive in its order, which tells whether it can be opened, and closes it again.
-fn open_each<R: Files>(rt: &R, alloc: Global, paths: &[String]) -> Result<(), Stopped> {
-    for path in paths {
-        if let Err(error) = fs::open(rt, path.as_str()) {
-            return Err(Stopped::by(alloc, path.as_str(), &error));
-        }
-    }
-    Ok(())
 }
 
 /// Prints the parser's own text of words that it refuses, help and version on standard output.

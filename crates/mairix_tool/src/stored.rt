@@ -1,10 +1,11 @@
 //! A run over a stored index.
-ghost use Rattle.std.specs.Prelude.{◌≡◌, ◌<◌, ◌^◌, ◌-◌, ◌++◌, ℕ, List, true, false, Some, None, Ok, Err, length, map, IfOk, IfErr, IfSome};
+ghost use Rattle.std.specs.Prelude.{◌≡◌, ◌<◌, ◌^◌, ◌-◌, ◌++◌, ℕ, List, true, false, Some, None, Ok, Err, All, length, map, IfOk, IfErr, IfSome};
 ghost use Rattle.std.specs.Bool.{OnTrue};
 ghost use Rattle.std.specs.String.{string_bytes};
 ghost use Rattle.contract_words.specs.Devices.{Counted};
 ghost use Rattle.mail_index.specs.Faults.{IsFileOf};
-ghost use Rattle.mail_index.specs.Tables.{Table};
+ghost use Rattle.mail_index.specs.Files.{index_file};
+ghost use Rattle.mail_index.specs.Tables.{IsPath, Table};
 ghost use Rattle.mail_index.specs.Versions.{newest};
 ghost use Rattle.mail_query.specs.Query.{uses_names};
 ghost use Rattle.index_job.specs.ArchiveRefusals.{AreSound};
@@ -12,7 +13,7 @@ ghost use Rattle.index_job.specs.ArchiveTables.{Mbox, table};
 ghost use Rattle.mairix_tool.specs.Altered.{AreToldApart, altered_archive};
 ghost use Rattle.index_run.specs.ArchivesIndexed.{mboxes};
 ghost use Rattle.mairix_tool.specs.Asked.{asked, Wanted as Asked, wanted as wanted_of};
-ghost use Rattle.mairix_tool.specs.OldTables.{but_digests, old_table};
+ghost use Rattle.mairix_tool.specs.OldTables.{HasDigests, but_digests, old_table};
 ghost use Rattle.mairix_tool.specs.Inside.Answering.{AsksIndex};
 ghost use Rattle.run_faults.specs.Faults.{fault_in, refusal_of, is_failed_out, is_failed_archives, is_of_index, IsOfAnswer, IsSearchFault};
 ghost use Rattle.mairix_tool.specs.Replies.{RefusesAsked, IsConsistent, KeepsRawBack};
@@ -63,23 +64,23 @@ pub fn search_run<A: Archives, O: Out>(
 
     // Where the index is that of sound archives, under the rcfile's paths, and the archives hold them: by their own messages.
     ensures indexed { (w : Asked) (bytes : List (List ℕ)) → asked (map string_bytes words.now) rc.now now ≡ Ok w → length w.paths ≡ length bytes
-        → AreSound (mboxes w.paths bytes) → IsFileOf index.now (table (mboxes w.paths bytes)) → A.held archives.old ≡ Some bytes
+        → AreSound (mboxes w.paths bytes) → index.now ≡ index_file (table (mboxes w.paths bytes)) → A.held archives.old ≡ Some bytes
         → RepliesBy (IsReply (Ok w) bytes) result (O.taken out.old) (O.taken out.new) }
 
-    // So too, unless they are to be verified, where it has other digests of them.
+    // So too, unless they are to be verified, where it has other digests of them, of 32 bytes each.
     ensures indexed_otherwise { (w : Asked) (bytes : List (List ℕ)) (t : Table) → asked (map string_bytes words.now) rc.now now ≡ Ok w → w.verify ≡ false → length w.paths ≡ length bytes
-        → AreSound (mboxes w.paths bytes) → but_digests t ≡ but_digests (table (mboxes w.paths bytes)) → IsFileOf index.now t → A.held archives.old ≡ Some bytes
+        → AreSound (mboxes w.paths bytes) → but_digests t ≡ but_digests (table (mboxes w.paths bytes)) → HasDigests t → index.now ≡ index_file t → A.held archives.old ≡ Some bytes
         → RepliesBy (IsReply (Ok w) bytes) result (O.taken out.old) (O.taken out.new) }
 
     // And where it is their index in version 1, which has no names of parts either, and the query uses none.
     ensures indexed_before { (w : Asked) (bytes : List (List ℕ)) → asked (map string_bytes words.now) rc.now now ≡ Ok w → w.verify ≡ false → length w.paths ≡ length bytes
-        → AreSound (mboxes w.paths bytes) → IsFileOf index.now (old_table (table (mboxes w.paths bytes))) → uses_names w.search.query ≡ false → A.held archives.old ≡ Some bytes
+        → AreSound (mboxes w.paths bytes) → index.now ≡ index_file (old_table (table (mboxes w.paths bytes))) → uses_names w.search.query ≡ false → A.held archives.old ≡ Some bytes
         → RepliesBy (IsReply (Ok w) bytes) result (O.taken out.old) (O.taken out.new) }
 
     // With `--verify`, where it is the index of whatever sound archives, and SHA-256 tells these from those that there are now:
     // unless one of them is told to have been altered, the answer is by their own messages.
     ensures verified { (w : Asked) (before : List Mbox) (bytes : List (List ℕ)) → asked (map string_bytes words.now) rc.now now ≡ Ok w → w.verify ≡ true
-        → AreSound before → IsFileOf index.now (table before) → A.held archives.old ≡ Some bytes → AreToldApart (map (λ a. a.bytes) before ++ bytes)
+        → All (λ a. IsPath a.path) before → AreSound before → index.now ≡ index_file (table before) → A.held archives.old ≡ Some bytes → AreToldApart (map (λ a. a.bytes) before ++ bytes)
         → RepliesBy (IsStaleOr (altered_archive before w.paths bytes) (IsReply (Ok w) bytes)) result (O.taken out.old) (O.taken out.new) }
 
     // Whatever the archives hold: an answer has the number of messages that the table chooses.

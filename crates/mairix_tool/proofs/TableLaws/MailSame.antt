@@ -19,8 +19,7 @@ use Rattle.mail_index.specs.declared.kind.Kind.TheVariants.{Text, LinkId}
 use Rattle.mail_index.specs.declared.record.Record.{Record}
 use Rattle.mail_index.specs.Kinds.{kind_number}
 use Rattle.mail_index.specs.LookUps.{keys_of}
-use Rattle.mail_index.specs.Tables.{Archive, Key, Table, KeyBefore, AllNext}
-use Rattle.mail_index.proofs.BuildLaws.KeyPlaces.{with_pair-sorted}
+use Rattle.mail_index.specs.Tables.{Archive, Key, Table}
 use Rattle.mail_query.specs.Query.{Query}
 use Rattle.mail_query.specs.Truth.{is_true}
 use Rattle.mail_answer.specs.declared.format.Format.{Format}
@@ -31,7 +30,8 @@ use Rattle.mail_answer.specs.Stale.{first_changed, stale_archive}
 use Rattle.mail_answer.specs.TableAnswers.{mail_told}
 use Rattle.mail_answer.specs.TableFacts.{facts_at, record_at, texts_with, is_among}
 use Rattle.mail_answer.specs.Threads.{are_linked}
-use Rattle.index_job.specs.ArchiveTables.{Mbox as Archived, table, entry_of, with_terms, with_messages}
+use Rattle.index_job.specs.ArchiveTables.{Mbox as Archived, table, entry_of, with_messages}
+use Rattle.index_job.proofs.SoundTables.Keys.{messages-sorted}
 use Rattle.index_job.specs.MessageTerms.{Term, message_terms, text_terms, own_id_terms, link_terms}
 use Rattle.mairix_tool.specs.MailOfArchives.{Numbered, numbered_messages, numbered_at, nobody, link_ids, share_id, mail_in, shape, shape_of}
 use Rattle.mairix_tool.proofs.TableLaws.Truth.{any-same}
@@ -40,16 +40,6 @@ use Rattle.mairix_tool.proofs.TableLaws.Terms.{term_says, parts-say}
 use Rattle.mairix_tool.proofs.TableLaws.Messages.{keys-say, messages_say, with_messages-says, other-says}
 use Rattle.mairix_tool.proofs.TableLaws.Numbers.{messages-numbered, records-numbered, message_in, record_in, passes_in, AllTell, tells-from}
 use Rattle.mairix_tool.proofs.TableLaws.ThreadLinks.{linked-by-texts}
-
--- ---- the keys of a table are sorted
-
-terms-sorted : (n : ℕ) (ts : List Term) (ks : List Key) → AllNext KeyBefore ks → AllNext KeyBefore (with_terms n ts ks)
-terms-sorted n [] ks sorted = sorted
-terms-sorted n (t ∷ ts) ks sorted = terms-sorted n ts _ (with_pair-sorted t.0 t.1 n ks sorted)
-
-messages-sorted : (n : ℕ) (ms : List Message) (ks : List Key) → AllNext KeyBefore ks → AllNext KeyBefore (with_messages n ms ks)
-messages-sorted n [] ks sorted = sorted
-messages-sorted n (m ∷ ms) ks sorted = messages-sorted (suc n) ms _ (terms-sorted n (message_terms (text m)) ks sorted)
 
 -- ---- the link ids of a message are those among its terms
 

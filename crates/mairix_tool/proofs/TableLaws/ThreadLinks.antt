@@ -101,7 +101,7 @@ before-through : (a b c : Key) → KeyBefore a b → KeyBefore b c → KeyBefore
 before-through a b c one two = nat_list_cmp_total.trans (kind_number a.kind ∷ a.text) (kind_number b.kind ∷ b.text) (kind_number c.kind ∷ c.text) one two
 
 -- the key lies before each of these
-abbrev BeforeAll : Key → List Key → Type 0
+abbrev pub BeforeAll : Key → List Key → Type 0
 BeforeAll a [] = Unit {0}
 BeforeAll a (k ∷ ks) = KeyBefore a k × BeforeAll a ks
 
@@ -109,11 +109,11 @@ before-all : (a b : Key) (ks : List Key) → KeyBefore a b → AllNext KeyBefore
 before-all a b [] first next = (first, tt)
 before-all a b (k ∷ ks) first next = (first, before-all a k ks (before-through a b k first next.0) next.1)
 
-below-all : (a : Key) (ks : List Key) → AllNext KeyBefore (a ∷ ks) → BeforeAll a ks
+pub below-all : (a : Key) (ks : List Key) → AllNext KeyBefore (a ∷ ks) → BeforeAll a ks
 below-all a [] next = tt
 below-all a (k ∷ ks) next = before-all a k ks next.0 next.1
 
-rest-sorted : (a : Key) (ks : List Key) → AllNext KeyBefore (a ∷ ks) → AllNext KeyBefore ks
+pub rest-sorted : (a : Key) (ks : List Key) → AllNext KeyBefore (a ∷ ks) → AllNext KeyBefore ks
 rest-sorted a [] next = tt
 rest-sorted a (k ∷ ks) next = next.1
 

@@ -2,8 +2,10 @@
 ghost use Rattle.std.specs.Prelude.{None, ◌≡◌, ◌≤◌, ◌<◌, ◌-◌, ◌^◌, ◌↔◌, IsSome, IfSome, IfOk, length};
 
 use mail_answer::Archives;
+use mairix_files::FileState;
 use mbox_cutter::DeviceFault;
 use std::fs::File;
+use std::io::ErrorKind;
 use std::os::unix::fs::FileExt;
 use std::rt::Files;
 use std::{fs, io};
@@ -17,18 +19,28 @@ struct OpenArchive {
 
 /// The files of some paths, of which at most one is open at a time: the one that was read last. A length is known without reading.
 /// What is no file has none, as a folder, or a path that leads nowhere.
+///
+/// Each file has to be in the state in which it was when the run first looked at it. One that isn't has failed.
 #[derive(Drop)]
 pub(crate) struct FileArchives<'p, R: Files<File = File>> {
     rt: &'p R,
     paths: &'p [String],
+    /// The state of each.
+    states: &'p [FileState],
     open: Option<OpenArchive>,
     failures: u64,
     ghost few: { length paths.now < 2 ^ 32 },
+    ghost each: { length states.now ≡ length paths.now },
 }
 
 impl<'p, R: Files<File = File>> FileArchives<'p, R> {
     /// Opens no file yet. There are no numbers for more than 4,294,967,295 paths, and for these it answers none.
-    pub(crate) fn new(rt: &'p R, paths: &'p [String]) -> Option<FileArchives<'p, R>>
+    pub(crate) fn new(
+        rt: &'p R,
+        paths: &'p [String],
+        states: &'p [FileState],
+    ) -> Option<FileArchives<'p, R>>
+        requires { length states.now ≡ length paths.now }
         ensures few { IsSome result ↔ length paths.now < 2 ^ 32 }
         ensures number { IfSome result (λ archives. ⟦<FileArchives<'p, R> as Archives>⟧.number archives ≡ length paths.now) }
         ensures fresh { IfSome result (λ archives. ⟦<FileArchives<'p, R> as Archives>⟧.failures archives ≡ 0) }
@@ -39,9 +51,22 @@ impl<'p, R: Files<File = File>> FileArchives<'p, R> {
         Some(FileArchives {
             rt,
             paths,
+            states,
             open: None,
             failures: 0,
         })
+    }
+
+    /// The length of the file of this number.
+    fn known_length(&self, n: u32) -> io::Result<u64>
+        requires { n < length self.now.paths.now }
+    {
+        let found = fs::metadata(self.rt, self.paths[n as usize].as_str())?;
+        if !found.is_file() {
+            return Err(ErrorKind::InvalidInput.into());
+        }
+        self.states[n as usize].check_told(&found)?;
+        Ok(found.len())
     }
 
     /// Reads from the file of this number. Where another one is open that is closed first.
@@ -51,17 +76,27 @@ impl<'p, R: Files<File = File>> FileArchives<'p, R> {
         ensures failures { self.new.failures ≡ self.old.failures }
         ensures bound { IfOk result (λ bytes. bytes ≤ length into.new) }
     {
+        let state = self.states[n as usize];
         if let Some(last) = &self.open
             && last.number == n
         {
-            return last.file.read_at(into, offset);
+            return read_in(&last.file, state, offset, into);
         }
         self.open = None;
         let file = fs::open(self.rt, self.paths[n as usize].as_str())?;
-        let read = file.read_at(into, offset);
+        let read = read_in(&file, state, offset, into);
         self.open = Some(OpenArchive { number: n, file });
         read
     }
+}
+
+/// Reads from a file that is in this state, looked at behind the read: what was read while it changed goes nowhere.
+fn read_in(file: &File, state: FileState, offset: u64, into: &mut [u8]) -> io::Result<usize>
+    ensures bound { IfOk result (λ bytes. bytes ≤ length into.new) }
+{
+    let read = file.read_at(into, offset)?;
+    state.check(file)?;
+    Ok(read)
 }
 
 impl<'p, R: Files<File = File>> Archives for FileArchives<'p, R> {
@@ -71,14 +106,20 @@ impl<'p, R: Files<File = File>> Archives for FileArchives<'p, R> {
 
     ghost failures = { λ archives. archives.failures };
 
+    ghost lengths_asked = { λ _. 0 };
+
+    ghost measures = { λ _ _ _ _. Unit {0} };
+
+    ghost reads = { λ _ _ _ _ _. Unit {0} };
+
     fn count(&self) -> u32 {
         self.paths.len() as u32
     }
 
     fn length(&mut self, n: u32) -> Result<u64, DeviceFault> {
-        match fs::metadata(self.rt, self.paths[n as usize].as_str()) {
-            Ok(found) if found.is_file() => Ok(found.len()),
-            _ => {
+        match self.known_length(n) {
+            Ok(length) => Ok(length),
+            Err(_) => {
                 self.failures += 1;
                 Err(DeviceFault)
             }

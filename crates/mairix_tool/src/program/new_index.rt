@@ -1,13 +1,15 @@
 //! The new index that takes the place of an old one: archives in, an index file out.
-ghost use Rattle.std.specs.Prelude.{map, All};
+ghost use Rattle.std.specs.Prelude.{◌≡◌, map, All};
 ghost use Rattle.std.specs.String.{string_bytes};
+ghost use Rattle.mail_index.specs.Files.{magic};
 ghost use Rattle.mail_index.specs.Tables.{IsPath};
 
+use crate::program::kept_mail::is_mail;
 use crate::program::output_file::{create_file, passing_name, settle_file};
 use crate::program::read_files::ReadFiles;
 use crate::program::stopped::Stopped;
 use index_run::send_index;
-use mairix_files::sources_of;
+use mairix_files::{Beginning, sources_of};
 use mairix_options::Rc;
 use mbox_cutter::ToWrite;
 use run_faults::{DONE, Fault};
@@ -26,8 +28,9 @@ const GATHERED: usize = 65_536;
 ///
 /// # Errors
 ///
-/// `CannotOpen` with nothing touched where either name leads to an archive or to the rcfile, where a device, a pipe or a socket has
-/// this name, where another run is making an index of it, and where the new file can't be made; else the fault of an archive, of the output or of memory.
+/// `CannotOpen` with nothing touched where either name leads to an archive or to the rcfile, where `database` leads to an mbox, a
+/// device, a pipe or a socket, where another run is making an index of it, and where the new file can't be made; else the fault of
+/// an archive, of the output or of memory.
 pub(crate) fn replace_index<'p, R: Files<File = File>>(
     rt: &R,
     alloc: Global,
@@ -43,10 +46,21 @@ pub(crate) fn replace_index<'p, R: Files<File = File>>(
         archives,
         database: None,
     };
+    if is_mail(rt, alloc, name)? {
+        return Err(Stopped::at(alloc, name));
+    }
     let passing = passing_name(alloc, name)?;
-    let new = create_file(rt, alloc, passing.as_str(), name, &read)?;
+    let beginning = Beginning::Bytes(index_beginning());
+    let new = create_file(rt, alloc, passing.as_str(), name, beginning, &read)?;
     let indexed = fill_index_file(rt, alloc, archives, new.file());
     Ok(settle_file(new, indexed)?)
+}
+
+/// What each index begins with.
+fn index_beginning() -> &'static [u8]
+    ensures { result.now ≡ magic }
+{
+    b"MAIRIX\r\n"
 }
 
 /// Indexes the archives from their files, one open at a time, into a file, and answers the status.

@@ -3,7 +3,7 @@ ghost use Rattle.std.specs.Prelude.{◌≡◌, ◌++◌, codes, IfOk, string_byt
 
 use crate::program::read_files::ReadFiles;
 use crate::program::stopped::Stopped;
-use mairix_files::{NewFile, is_special_file};
+use mairix_files::{Beginning, NewFile, is_special_file};
 use run_faults::Fault;
 use std::alloc::{AllocError, Global};
 use std::fs::File;
@@ -16,17 +16,19 @@ pub(crate) fn passing_name(alloc: Global, name: &str) -> Result<String, AllocErr
     format!(in alloc; "{name}.new")
 }
 
-/// A new file that is to have a name, under a passing name for the time being.
+/// A new file that is to have a name, and to begin so, under a passing name for the time being.
 ///
 /// # Errors
 ///
-/// `CannotOpen` with nothing touched where either name leads to a file that the run reads, or the name is a device's, a pipe's or a
-/// socket's, which it would lose; and where no file can be made under the passing name, as while another run makes its own there.
+/// `CannotOpen` with nothing touched where either name leads to a file that the run reads, or the name to a device, a pipe or a
+/// socket, which would lose it; and where no file can be made under the passing name, as while another run makes its own there, or
+/// where anything lies there that no killed run left.
 pub(crate) fn create_file<'p, R: Files<File = File>>(
     rt: &'p R,
     alloc: Global,
     passing: &'p str,
     name: &'p str,
+    beginning: Beginning<'_>,
     read: &ReadFiles<'_>,
 ) -> Result<NewFile<'p, R>, Stopped> {
     for path in [name, passing] {
@@ -34,10 +36,10 @@ pub(crate) fn create_file<'p, R: Files<File = File>>(
             return Err(Stopped::at(alloc, path));
         }
     }
-    if is_special_file(rt, name) {
+    if is_special_file(rt, alloc, name)? {
         return Err(Stopped::at(alloc, name));
     }
-    match NewFile::create(rt, passing, name) {
+    match NewFile::create(rt, alloc, passing, name, beginning) {
         Ok(new) => Ok(new),
         Err(error) => Err(Stopped::by(alloc, passing, &error)),
     }

@@ -1,5 +1,5 @@
 //! A search of archives' files.
-ghost use Rattle.std.specs.Prelude.{◌≡◌, ◌<◌, ◌^◌, ◌-◌, Ok};
+ghost use Rattle.std.specs.Prelude.{◌≡◌, ◌<◌, ◌^◌, ◌-◌, Ok, length};
 ghost use Rattle.mairix_options.specs.Rcfile.{rc_of};
 
 use crate::once::once_run;
@@ -10,7 +10,7 @@ use crate::program::stopped::Stopped;
 use crate::reply::Reply;
 use crate::stored::search_run;
 use mail_dates::Moment;
-use mairix_files::sources_of;
+use mairix_files::{Beginning, FileState, sources_in};
 use mairix_options::{Plan, Rc, answer_file};
 use mbox_cutter::{Out, ToWrite};
 use run_faults::Fault;
@@ -28,15 +28,18 @@ pub(crate) struct Search<'a> {
     pub(crate) text: &'a [u8],
     /// What the rcfile says.
     pub(crate) rc: &'a Rc,
+    /// How the file of each of its archives was when the run first looked at it.
+    pub(crate) states: &'a [FileState],
     /// The stored index, without which the archives are indexed in memory.
     pub(crate) index: Option<&'a [u8]>,
     /// What ages and days without a year are reckoned from.
     pub(crate) now: Moment,
     ghost said: { rc_of text.now ≡ Ok rc.now },
+    ghost each: { length states.now ≡ length rc.now.paths },
 }
 
 /// Searches the archives' files, and answers the status, 0 or 1: to `out`, or to the file that the plan and the rcfile name,
-/// which then takes the place of an older answer.
+/// which then takes the place of an older answer. An archive's file that isn't in its first state has failed.
 ///
 /// # Errors
 ///
@@ -58,7 +61,14 @@ pub(crate) fn run_search<R: Files<File = File>, W: Write>(
         database: Some(search.rc.database.as_str()),
     };
     let passing = passing_name(alloc, name.as_str())?;
-    let new = create_file(rt, alloc, passing.as_str(), name.as_str(), &read)?;
+    let new = create_file(
+        rt,
+        alloc,
+        passing.as_str(),
+        name.as_str(),
+        Beginning::Separator,
+        &read,
+    )?;
     let answered = answer_to(rt, alloc, search, &mut new.file());
     Ok(settle_file(new, answered)?)
 }
@@ -91,15 +101,16 @@ fn reply_to<R: Files<File = File>, O: Out>(
         words,
         text,
         rc,
+        states,
         index,
         now,
     } = *search;
     let paths = rc.paths.as_slice();
-    let Some(mut archives) = FileArchives::new(rt, paths) else {
+    let Some(mut archives) = FileArchives::new(rt, paths, states) else {
         return Err(Fault::TooMany);
     };
     let Some(index) = index else {
-        let mut sources = sources_of(rt, alloc, paths)?;
+        let mut sources = sources_in(rt, alloc, paths, states)?;
         return Ok(once_run(alloc, words, text, &mut sources, &mut archives, now, out));
     };
     Ok(search_run(alloc, words, text, index, &mut archives, now, out))

@@ -1,6 +1,8 @@
 use Rattle.std.proofs.Common.{◌≡◌, ◌∙◌, ◌^◌, ◌<◌, map, length, sym, subst, string_bytes, arith}
 use Rattle.mairix_tool.specs.Asked.{Wanted, wanted, asked}
 use Rattle.mairix_tool.specs.Runs.{reply_of, IsCountedWhere, WereVerified}
+use Rattle.mairix_tool.proofs.ArchiveLaws.AskedPaths.{asked-paths}
+use Rattle.mairix_tool.proofs.TableLaws.Formed.{before-file, indexed-file, otherwise-file, whole-file}
 use Rattle.mairix_tool.proofs.ReplyLaws.Stored.{refused-stored, has-digests, stored-told, stored-counted, stored-read, stored-indexed, stored-otherwise, stored-before, stored-verified}
 use Rattle.mairix_tool.proofs.stored.search_run.Goals as goal
 
@@ -10,26 +12,30 @@ returns-in-Err-clause-reply g c = λ held holds.
     (refused-stored (asked (map string_bytes c.args.words.now) c.args.rc.now c.args.now) c.args.index.now held c.in-Err.fault (g.O.Out.taken c.args.out.now) c.in-Err.ensures.refused)
 
 pub returns-in-Err-clause-indexed : goal.returns-in-Err-clause-indexed
-returns-in-Err-clause-indexed g c = λ w bytes is many sound file holds.
+returns-in-Err-clause-indexed g c = λ w bytes is many sound whole holds.
     let few : length c.args.index.now < 2 ^ 64 = omega (arith, c.well_formed) in
+    let file = indexed-file w.paths bytes c.args.index.now (asked-paths (map string_bytes c.args.words.now) c.args.rc.now c.args.now w is) sound whole in
     stored-indexed w c.args.index.now few bytes many sound file c.of-in-Err.result (g.O.Out.taken c.args.out.now) (g.O.Out.taken c.args.out.now)
     (rw is at (returns-in-Err-clause-reply g c bytes holds))
 
 pub returns-in-Err-clause-indexed_otherwise : goal.returns-in-Err-clause-indexed_otherwise
-returns-in-Err-clause-indexed_otherwise g c = λ w bytes t is off many sound same file holds.
+returns-in-Err-clause-indexed_otherwise g c = λ w bytes t is off many sound same digests whole holds.
     let few : length c.args.index.now < 2 ^ 64 = omega (arith, c.well_formed) in
+    let file = otherwise-file w.paths bytes c.args.index.now (asked-paths (map string_bytes c.args.words.now) c.args.rc.now c.args.now w is) sound t same digests whole in
     stored-otherwise w c.args.index.now few bytes many sound t off same file c.of-in-Err.result (g.O.Out.taken c.args.out.now) (g.O.Out.taken c.args.out.now)
     (rw is at (returns-in-Err-clause-reply g c bytes holds))
 
 pub returns-in-Err-clause-indexed_before : goal.returns-in-Err-clause-indexed_before
-returns-in-Err-clause-indexed_before g c = λ w bytes is off many sound file none holds.
+returns-in-Err-clause-indexed_before g c = λ w bytes is off many sound whole none holds.
     let few : length c.args.index.now < 2 ^ 64 = omega (arith, c.well_formed) in
+    let file = before-file w.paths bytes c.args.index.now (asked-paths (map string_bytes c.args.words.now) c.args.rc.now c.args.now w is) sound whole in
     stored-before w c.args.index.now few bytes many sound off file none c.of-in-Err.result (g.O.Out.taken c.args.out.now) (g.O.Out.taken c.args.out.now)
     (rw is at (returns-in-Err-clause-reply g c bytes holds))
 
 pub returns-in-Err-clause-verified : goal.returns-in-Err-clause-verified
-returns-in-Err-clause-verified g c = λ w before bytes is verify sound file holds apart.
+returns-in-Err-clause-verified g c = λ w before bytes is verify paths sound whole holds apart.
     let few : length c.args.index.now < 2 ^ 64 = omega (arith, c.well_formed) in
+    let file = whole-file before c.args.index.now paths sound whole in
     stored-verified w c.args.index.now few before bytes verify sound file apart c.of-in-Err.result (g.O.Out.taken c.args.out.now) (g.O.Out.taken c.args.out.now)
     (rw is at (returns-in-Err-clause-reply g c bytes holds))
 
@@ -45,26 +51,30 @@ returns-in-Ok-clause-reply g c = λ held holds.
     (c.answer_opened.ensures.told held holds))
 
 pub returns-in-Ok-clause-indexed : goal.returns-in-Ok-clause-indexed
-returns-in-Ok-clause-indexed g c = λ w bytes is many sound file holds.
+returns-in-Ok-clause-indexed g c = λ w bytes is many sound whole holds.
     let few : length c.args.index.now < 2 ^ 64 = omega (arith, c.well_formed) in
+    let file = indexed-file w.paths bytes c.args.index.now (asked-paths (map string_bytes c.args.words.now) c.args.rc.now c.args.now w is) sound whole in
     stored-indexed w c.args.index.now few bytes many sound file c.of.result (g.O.Out.taken c.args.out.now) (g.O.Out.taken c.answer_opened.new.out)
     (rw is at (returns-in-Ok-clause-reply g c bytes holds))
 
 pub returns-in-Ok-clause-indexed_otherwise : goal.returns-in-Ok-clause-indexed_otherwise
-returns-in-Ok-clause-indexed_otherwise g c = λ w bytes t is off many sound same file holds.
+returns-in-Ok-clause-indexed_otherwise g c = λ w bytes t is off many sound same digests whole holds.
     let few : length c.args.index.now < 2 ^ 64 = omega (arith, c.well_formed) in
+    let file = otherwise-file w.paths bytes c.args.index.now (asked-paths (map string_bytes c.args.words.now) c.args.rc.now c.args.now w is) sound t same digests whole in
     stored-otherwise w c.args.index.now few bytes many sound t off same file c.of.result (g.O.Out.taken c.args.out.now) (g.O.Out.taken c.answer_opened.new.out)
     (rw is at (returns-in-Ok-clause-reply g c bytes holds))
 
 pub returns-in-Ok-clause-indexed_before : goal.returns-in-Ok-clause-indexed_before
-returns-in-Ok-clause-indexed_before g c = λ w bytes is off many sound file none holds.
+returns-in-Ok-clause-indexed_before g c = λ w bytes is off many sound whole none holds.
     let few : length c.args.index.now < 2 ^ 64 = omega (arith, c.well_formed) in
+    let file = before-file w.paths bytes c.args.index.now (asked-paths (map string_bytes c.args.words.now) c.args.rc.now c.args.now w is) sound whole in
     stored-before w c.args.index.now few bytes many sound off file none c.of.result (g.O.Out.taken c.args.out.now) (g.O.Out.taken c.answer_opened.new.out)
     (rw is at (returns-in-Ok-clause-reply g c bytes holds))
 
 pub returns-in-Ok-clause-verified : goal.returns-in-Ok-clause-verified
-returns-in-Ok-clause-verified g c = λ w before bytes is verify sound file holds apart.
+returns-in-Ok-clause-verified g c = λ w before bytes is verify paths sound whole holds apart.
     let few : length c.args.index.now < 2 ^ 64 = omega (arith, c.well_formed) in
+    let file = whole-file before c.args.index.now paths sound whole in
     stored-verified w c.args.index.now few before bytes verify sound file apart c.of.result (g.O.Out.taken c.args.out.now) (g.O.Out.taken c.answer_opened.new.out)
     (rw is at (returns-in-Ok-clause-reply g c bytes holds))
 

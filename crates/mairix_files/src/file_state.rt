@@ -1,0 +1,61 @@
+//! Whether a file is still what it was.
+//!
+//! Decision 95 in docs/DECISIONS.md says why it is so.
+
+use std::fs::{Metadata, OpenFile};
+use std::io;
+use std::io::ErrorKind;
+use std::os::unix::fs::MetadataExt;
+
+/// A time by the system's clock.
+#[derive(Clone, Copy, PartialEq, Eq)]
+struct Moment {
+    seconds: i64,
+    nanoseconds: i64,
+}
+
+/// What the system tells of a file: which it is, how long it is, and when its bytes and what else is known of it were changed last.
+///
+/// Two readings of a file in one state give the same bytes, as far as the system tells of changes: of two within one tick of its
+/// clock that leave the length, it doesn't.
+#[derive(Clone, Copy, PartialEq, Eq)]
+pub struct FileState {
+    device: u64,
+    inode: u64,
+    length: u64,
+    written: Moment,
+    changed: Moment,
+}
+
+impl FileState {
+    /// The state of the file of which the system tells this.
+    pub fn of(found: &Metadata) -> FileState {
+        FileState {
+            device: found.dev(),
+            inode: found.ino(),
+            length: found.len(),
+            written: Moment {
+                seconds: found.mtime(),
+                nanoseconds: found.mtime_nsec(),
+            },
+            changed: Moment {
+                seconds: found.ctime(),
+                nanoseconds: found.ctime_nsec(),
+            },
+        }
+    }
+
+    /// Fails where an open file is in another state.
+    pub fn check<F: OpenFile>(&self, file: &F) -> io::Result<()> {
+        self.check_told(&file.metadata()?)
+    }
+
+    /// Fails where the system tells another state of a file.
+    pub fn check_told(&self, found: &Metadata) -> io::Result<()> {
+        if FileState::of(found) == *self {
+            Ok(())
+        } else {
+            Err(ErrorKind::InvalidData.into())
+        }
+    }
+}

@@ -1,0 +1,99 @@
+//! What lies under a name that a run wants for a new file.
+//!
+//! Decision 93 in docs/DECISIONS.md says why it is so.
+
+use crate::new_file::{PRIVATE, lock};
+use mbox_cutter::{MOST_IN_LINE, is_separator, line_end};
+use std::alloc::Global;
+use std::fs::{File, OpenOptions};
+use std::io::{ErrorKind, Read};
+use std::os::unix::fs::MetadataExt;
+use std::rt::Files;
+use std::{fs, io};
+
+/// The bits of a mode that say who may do what with a file, and as whom it runs.
+const MODE_BITS: u32 = 0o7777;
+
+/// What has the owner of what this process makes.
+const THIS_PROCESS: &str = "/proc/self";
+
+/// What each separator begins with.
+const SEPARATOR_BEGINS: &[u8] = b"From ";
+
+/// How a file begins that a run makes.
+#[derive(Clone, Copy)]
+pub enum Beginning<'a> {
+    /// With these bytes.
+    Bytes(&'a [u8]),
+    /// With the separator of a message, as an mbox.
+    Separator,
+}
+
+impl<'a> Beginning<'a> {
+    /// How many bytes tell whether a file begins so.
+    fn length(self) -> u64 {
+        match self {
+            Beginning::Bytes(bytes) => bytes.len() as u64,
+            Beginning::Separator => MOST_IN_LINE as u64 + 1,
+        }
+    }
+
+    /// Whether a file of which these are the first bytes, or all, begins so as far as it goes.
+    fn agrees_with(self, front: &[u8]) -> bool {
+        match self {
+            Beginning::Bytes(bytes) => bytes.starts_with(front),
+            Beginning::Separator => match line_end(front) {
+                Some(end) => is_separator(&front[..end]),
+                None if front.len() < SEPARATOR_BEGINS.len() => {
+                    SEPARATOR_BEGINS.starts_with(front)
+                }
+                None => front.starts_with(SEPARATOR_BEGINS),
+            },
+        }
+    }
+}
+
+/// Removes what a killed run left under a name: a file of this process's owner, private, that no other run has locked, and that
+/// is empty or begins as such a file does. Anything else stays.
+///
+/// # Errors
+///
+/// Where anything else lies there, and what the system refused.
+pub(crate) fn remove_leftover<R: Files<File = File>>(
+    rt: &R,
+    alloc: Global,
+    name: &str,
+    beginning: Beginning<'_>,
+) -> io::Result<()> {
+    match fs::symlink_metadata(rt, name) {
+        Ok(found) if found.is_file() => {}
+        Ok(_) => return Err(ErrorKind::AlreadyExists.into()),
+        Err(error) if error.kind() == ErrorKind::NotFound => return Ok(()),
+        Err(error) => return Err(error),
+    }
+    // Its lock is held until its name is gone. For a lock some file systems ask that a file is open for writing.
+    let mut left = OpenOptions::new().read(true).write(true).open(rt, name)?;
+    lock(rt, &left, name)?;
+    if is_private(rt, &left)? && begins_so(alloc, &mut left, beginning)? {
+        fs::remove_file(rt, name)
+    } else {
+        Err(ErrorKind::AlreadyExists.into())
+    }
+}
+
+/// Whether a file is of this process's owner, who alone reads and writes it.
+fn is_private<R: Files>(rt: &R, file: &File) -> io::Result<bool> {
+    let found = file.metadata()?;
+    let owner = fs::metadata(rt, THIS_PROCESS)?.uid();
+    Ok(found.uid() == owner && found.mode() & MODE_BITS == PRIVATE)
+}
+
+/// Whether what a reader still has is nothing, or begins so.
+fn begins_so<F: Read>(alloc: Global, reader: &mut F, beginning: Beginning<'_>) -> io::Result<bool> {
+    let mut front = Vec::new(alloc);
+    reader
+        .by_ref()
+        .take(beginning.length())
+        .read_to_end(&mut front)?;
+    Ok(beginning.agrees_with(&front))
+}

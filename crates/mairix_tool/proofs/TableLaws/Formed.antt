@@ -1,0 +1,180 @@
+-- The tables that an index of sound archives may have are well-formed: theirs, one with other digests, and that of version 1.
+use Rattle.std.proofs.Common.{◌≡◌, ◌∙◌, ℕ, zero, suc, ◌+◌, ◌<◌, ◌≤◌, Bool, true, false, not, cond, All, List, [], ◌∷◌, length, map, refl, sym, ap, subst, arith, inl, inr}
+use Rattle.std.specs.List.{AllByRecursion}
+use Rattle.std.proofs.lemmas.Bool.Decides.{nat_tests}
+use Rattle.std.proofs.lemmas.List.{length-map}
+use Rattle.std.proofs.lemmas.List.Elements.{All-nil, All-cons, All-head, All-tail, recursion_from_All}
+use Rattle.mail_words.specs.declared.kind.TextKind.TheVariants.{Name}
+use Rattle.mail_index.specs.declared.kind.Kind.TheVariants.{Text}
+use Rattle.mail_index.specs.declared.record.Record.{Record}
+use Rattle.mail_index.specs.Faults.{IsFileOf}
+use Rattle.mail_index.specs.Files.{index_file}
+use Rattle.mail_index.specs.Kinds.{kind_number}
+use Rattle.mail_index.specs.Limits.{most_in_archive}
+use Rattle.mail_index.specs.LookUps.{is_of_kind}
+use Rattle.mail_index.specs.Tables.{Archive, Key, Table, archive_length, IsPath, IsArchive, IsMessage, IsKey, IsWellFormed, Follows, KeyBefore, AllNext}
+use Rattle.mail_index.specs.Versions.{newest, IsDigest}
+use Rattle.mail_index.proofs.BuildLaws.DraftLemmas.{all-weaker}
+use Rattle.index_job.specs.ArchiveRefusals.{AreSound}
+use Rattle.index_job.specs.ArchiveTables.{Mbox, table}
+use Rattle.index_job.proofs.SoundTables.Whole.{sound-table}
+use Rattle.index_run.specs.ArchivesIndexed.{mboxes}
+use Rattle.mairix_tool.specs.OldTables.{without_digest, keys_but_names, but_digests, old_table, HasDigests}
+use Rattle.mairix_tool.proofs.TableLaws.ThreadLinks.{BeforeAll, below-all, rest-sorted}
+
+-- ---- archives without digests
+
+named-old : (archives : List Archive) → AllByRecursion (IsArchive newest) archives → AllByRecursion (IsArchive 1) (map without_digest archives)
+named-old [] all = tt
+named-old (a ∷ archives) all = ((all.0.0, all.0.1, refl), named-old archives all.1)
+
+length-old : (archives : List Archive) (n : ℕ) → archive_length (map without_digest archives) n ≡ archive_length archives n
+length-old [] n = refl
+length-old (a ∷ archives) zero = refl
+length-old (a ∷ archives) (suc n) = length-old archives n
+
+-- messages of archives are those of any others that differ in digests alone
+placed-same : (xs ys : List Archive) → map without_digest xs ≡ map without_digest ys → (m : Record) → IsMessage xs m → IsMessage ys m
+placed-same xs ys same m is =
+    let many : length xs ≡ length ys = sym (length-map xs without_digest) ∙ ap length same ∙ length-map ys without_digest in
+    let long : archive_length xs m.archive ≡ archive_length ys m.archive =
+    sym (length-old xs m.archive) ∙ ap (λ (l : List Archive). archive_length l m.archive) same ∙ length-old ys m.archive in
+    record {
+      exists = subst (λ (n : ℕ). m.archive < n) many is.exists;
+      within = subst (λ (n : ℕ). m.offset + m.length ≤ n) long is.within;
+      size = is.size;
+      date = is.date;
+    }
+
+without-twice : (archives : List Archive) → map without_digest archives ≡ map without_digest (map without_digest archives)
+without-twice [] = refl
+without-twice (a ∷ archives) = ap (λ (l : List Archive). without_digest a ∷ l) (without-twice archives)
+
+-- archives that differ in digests alone from others that a table may have, and have digests, may be had too
+named-otherwise : (xs ys : List Archive) → map without_digest xs ≡ map without_digest ys → AllByRecursion (IsArchive newest) xs → AllByRecursion (λ (a : Archive). IsDigest newest a.digest) ys
+    → AllByRecursion (IsArchive newest) ys
+named-otherwise [] [] same all digests = tt
+named-otherwise [] (y ∷ ys) same all digests = absurd cc
+named-otherwise (x ∷ xs) [] same all digests = absurd cc
+named-otherwise (x ∷ xs) (y ∷ ys) same all digests =
+    let first : without_digest x ≡ without_digest y = cc in
+    let rest : map without_digest xs ≡ map without_digest ys = cc in
+    let path : x.path ≡ y.path = ap (λ (a : Archive). a.path) first in
+    let long : x.length ≡ y.length = ap (λ (a : Archive). a.length) first in
+    ((subst IsPath path all.0.0, subst (λ (n : ℕ). n ≤ most_in_archive) long all.0.1, digests.0), named-otherwise xs ys rest all.1 digests.1)
+
+-- ---- keys without names
+
+few-kept : (ks : List Key) → length (keys_but_names ks) ≤ length ks
+few-kept [] = omega arith
+few-kept (k ∷ ks) = go (is_of_kind (Text Name) k) (few-kept ks)
+  where
+    go : (named : Bool) → length (keys_but_names ks) ≤ length ks → length (cond (not named) (k ∷ keys_but_names ks) (keys_but_names ks)) ≤ length (k ∷ ks)
+    go true rest = omega (arith, rest)
+    go false rest = omega (arith, rest)
+
+keys-old : (count : ℕ) (ks : List Key) → AllByRecursion (IsKey newest count) ks → AllByRecursion (IsKey 1 count) (keys_but_names ks)
+keys-old count [] all = tt
+keys-old count (k ∷ ks) all = go (is_of_kind (Text Name) k) refl (keys-old count ks all.1)
+  where
+    go : (named : Bool) → is_of_kind (Text Name) k ≡ named → AllByRecursion (IsKey 1 count) (keys_but_names ks)
+        → AllByRecursion (IsKey 1 count) (cond (not named) (k ∷ keys_but_names ks) (keys_but_names ks))
+    go true is rest = rest
+    go false is rest =
+        let known : kind_number k.kind ≤ 9 = all.0.kind in
+        let low : kind_number k.kind ≤ 8 = grind (arith, nat_tests) in (
+          record { kind = low; some_text = all.0.some_text; short = all.0.short; some_number = all.0.some_number; rises = all.0.rises; below = all.0.below },
+          rest,
+        )
+
+before-kept : (a : Key) (ks : List Key) → BeforeAll a ks → BeforeAll a (keys_but_names ks)
+before-kept a [] before = tt
+before-kept a (k ∷ ks) before = go (is_of_kind (Text Name) k) (before-kept a ks before.1)
+  where
+    go : (named : Bool) → BeforeAll a (keys_but_names ks) → BeforeAll a (cond (not named) (k ∷ keys_but_names ks) (keys_but_names ks))
+    go true rest = rest
+    go false rest = (before.0, rest)
+
+next-sorted : (a : Key) (ks : List Key) → BeforeAll a ks → AllNext KeyBefore ks → AllNext KeyBefore (a ∷ ks)
+next-sorted a [] before sorted = tt
+next-sorted a (k ∷ ks) before sorted = (before.0, sorted)
+
+sorted-old : (ks : List Key) → AllNext KeyBefore ks → AllNext KeyBefore (keys_but_names ks)
+sorted-old [] sorted = tt
+sorted-old (k ∷ ks) sorted = go (is_of_kind (Text Name) k) (sorted-old ks (rest-sorted k ks sorted))
+  where
+    go : (named : Bool) → AllNext KeyBefore (keys_but_names ks) → AllNext KeyBefore (cond (not named) (k ∷ keys_but_names ks) (keys_but_names ks))
+    go true rest = rest
+    go false rest = next-sorted k (keys_but_names ks) (before-kept k ks (below-all k ks sorted)) rest
+
+-- ---- the tables
+
+module _ (archives : List Mbox) (paths : All (λ (a : Mbox). IsPath a.path) archives) (sound : AreSound archives) where
+  abbrev whole : Table
+  whole = table archives
+
+  formed : IsWellFormed whole
+  formed = sound-table archives paths sound
+
+  pub old-formed : IsWellFormed (old_table whole)
+  old-formed = record {
+    version = inl refl;
+    archive_count = omega (arith, length-map whole.archives without_digest, formed.archive_count);
+    message_count = formed.message_count;
+    key_count = omega (arith, few-kept whole.keys, formed.key_count);
+    archives = named-old whole.archives formed.archives;
+    messages = all-weaker (IsMessage whole.archives) (IsMessage (map without_digest whole.archives)) (placed-same whole.archives (map without_digest whole.archives) (without-twice whole.archives)) whole.messages formed.messages;
+    in_order = formed.in_order;
+    keys = keys-old (length whole.messages) whole.keys formed.keys;
+    sorted = sorted-old whole.keys formed.sorted;
+  }
+
+  -- one that differs in digests alone
+  pub otherwise-formed : (t : Table) → but_digests t ≡ but_digests whole → HasDigests t → IsWellFormed t
+  otherwise-formed t same digests =
+      let back : but_digests whole ≡ but_digests t = sym same in
+      let version : newest ≡ t.version = ap (λ (u : Table). u.version) back in
+      let named : map without_digest whole.archives ≡ map without_digest t.archives = ap (λ (u : Table). u.archives) back in
+      let messages : whole.messages ≡ t.messages = ap (λ (u : Table). u.messages) back in
+      let keys : whole.keys ≡ t.keys = ap (λ (u : Table). u.keys) back in
+      let listed : AllByRecursion (IsKey newest (length t.messages)) whole.keys =
+      subst (λ (ms : List Record). AllByRecursion (IsKey newest (length ms)) whole.keys) messages formed.keys in
+      let placed : AllByRecursion (IsMessage t.archives) whole.messages =
+      all-weaker (IsMessage whole.archives) (IsMessage t.archives) (placed-same whole.archives t.archives named) whole.messages formed.messages in
+      record {
+        version = inr (sym version);
+        archive_count = omega (arith, length-map whole.archives without_digest, length-map t.archives without_digest, ap length named, formed.archive_count);
+        message_count = omega (arith, ap length messages, formed.message_count);
+        key_count = omega (arith, ap length keys, formed.key_count);
+        archives = subst (λ (v : ℕ). AllByRecursion (IsArchive v) t.archives) version
+            (named-otherwise whole.archives t.archives named formed.archives (recursion_from_All (λ (a : Archive). IsDigest newest a.digest) t.archives digests));
+        messages = subst (λ (ms : List Record). AllByRecursion (IsMessage t.archives) ms) messages placed;
+        in_order = subst (λ (ms : List Record). AllNext Follows ms) messages formed.in_order;
+        keys = subst (λ (v : ℕ). AllByRecursion (IsKey v (length t.messages)) t.keys) version (subst (λ (ks : List Key). AllByRecursion (IsKey newest (length t.messages)) ks) keys listed);
+        sorted = subst (λ (ks : List Key). AllNext KeyBefore ks) keys formed.sorted;
+      }
+
+-- ---- the files
+
+-- archives that were indexed under paths have them
+named-paths : (paths bytes : List (List ℕ)) → All IsPath paths → All (λ (a : Mbox). IsPath a.path) (mboxes paths bytes)
+named-paths [] bytes all = All-nil (λ (a : Mbox). IsPath a.path)
+named-paths (p ∷ paths) [] all = All-nil (λ (a : Mbox). IsPath a.path)
+named-paths (p ∷ paths) (b ∷ bytes) all =
+    All-cons (λ (a : Mbox). IsPath a.path) (record { path = p; bytes = b }) (mboxes paths bytes) (All-head IsPath p paths all) (named-paths paths bytes (All-tail IsPath p paths all))
+
+pub whole-file : (archives : List Mbox) (index : List ℕ) → All (λ (a : Mbox). IsPath a.path) archives → AreSound archives → index ≡ index_file (table archives) → IsFileOf index (table archives)
+whole-file archives index paths sound is = (sound-table archives paths sound, is)
+
+module _ (paths bytes : List (List ℕ)) (index : List ℕ) (are : All IsPath paths) (sound : AreSound (mboxes paths bytes)) where
+  abbrev indexed : Table
+  indexed = table (mboxes paths bytes)
+
+  pub indexed-file : index ≡ index_file indexed → IsFileOf index indexed
+  indexed-file is = whole-file (mboxes paths bytes) index (named-paths paths bytes are) sound is
+
+  pub otherwise-file : (t : Table) → but_digests t ≡ but_digests indexed → HasDigests t → index ≡ index_file t → IsFileOf index t
+  otherwise-file t same digests is = (otherwise-formed (mboxes paths bytes) (named-paths paths bytes are) sound t same digests, is)
+
+  pub before-file : index ≡ index_file (old_table indexed) → IsFileOf index (old_table indexed)
+  before-file is = (old-formed (mboxes paths bytes) (named-paths paths bytes are) sound, is)

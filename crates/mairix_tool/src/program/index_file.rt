@@ -1,0 +1,56 @@
+//! The index that a search reads.
+//!
+//! Decision 96 in docs/DECISIONS.md says why it is so.
+ghost use Rattle.std.specs.Prelude.{◌≤◌, ◌++◌, ℕ, List, length, IfSome};
+ghost use Rattle.mail_index.specs.Faults.{IsFirstFault};
+
+use mail_index::{IndexFault, IndexView};
+use mairix_files::read_rest;
+use std::alloc::Global;
+use std::fs::File;
+use std::io::Read;
+use std::rt::Files;
+use std::{fs, io};
+
+/// How many bytes the shortest index has. So many tell its version, or that the file is none.
+const SHORTEST: usize = 80;
+
+/// The bytes of the index of this path. Where the first of them tell that it is none, or of no known version, they are all: a
+/// search refuses them as it would refuse the whole file, however long that is.
+///
+/// # Errors
+///
+/// What the system refuses, and want of memory, of the kind `OutOfMemory`.
+pub(crate) fn read_index<R: Files<File = File>>(
+    rt: &R,
+    alloc: Global,
+    path: &str,
+) -> io::Result<Vec<u8>> {
+    let mut file = fs::open(rt, path)?;
+    let length = file.metadata()?.len();
+    index_bytes(alloc, &mut file, length)
+}
+
+/// The bytes of an index of this length, as far as they count.
+fn index_bytes<F: Read>(alloc: Global, file: &mut F, length: u64) -> io::Result<Vec<u8>> {
+    let mut bytes = Vec::with_capacity(alloc, SHORTEST)?;
+    file.by_ref().take(SHORTEST as u64).read_to_end(&mut bytes)?;
+    if fault_of_front(&bytes).is_none() {
+        read_rest(file, &mut bytes, length.saturating_sub(SHORTEST as u64))?;
+    }
+    Ok(bytes)
+}
+
+/// What is wrong with the first bytes of an index. Of as many as the shortest has that is wrong with the whole, whatever follows.
+#[tactic(auto, using(crate::proofs::IndexFronts::marked_otherwise, crate::proofs::IndexFronts::unknown_version))]
+fn fault_of_front(front: &[u8]) -> Option<IndexFault>
+    ensures own { IfSome result (λ fault. IsFirstFault front.now fault) }
+    ensures whole { (rest : List ℕ) → 80 ≤ length front.now → IfSome result (λ fault. IsFirstFault (front.now ++ rest) fault) }
+{
+    match IndexView::open(front) {
+        Err(IndexFault::TooShort) => Some(IndexFault::TooShort),
+        Err(IndexFault::BadMagic) => Some(IndexFault::BadMagic),
+        Err(IndexFault::BadVersion) => Some(IndexFault::BadVersion),
+        _ => None,
+    }
+}
