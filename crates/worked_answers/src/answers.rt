@@ -10,7 +10,7 @@ const HELLO: &str = "^Subject: Hello||hi||";
 
 const HELLO_WITHOUT_LAST_LF: &str = "^Subject: Hello||hi|";
 
-const TWO_MESSAGES: &str =
+pub const TWO_MESSAGES: &str =
     "^Subject: one||a||From here on we go||From - Sat Jan  4 12:00:00 2003|Subject: two||b||";
 
 const TO_ALICE: &str = "^To: alice@x.org|Cc: bob@x.org||x||";
@@ -36,7 +36,7 @@ const EXCERPT_TO_ALICE: &str = "m.mbox|To: alice@x.org|Cc: bob@x.org|From:|Subje
 const EXCERPT_FROM_ALICE: &str = "m.mbox|To:|Cc:|From: Alice <alice@example.org>|Subject:|Date:|";
 
 /// The text of an archive, a pattern, a form, and how many messages are answered with what.
-const OF_ONE_ARCHIVE: [(&str, &str, Format, u64, &str); 19] = [
+const OF_ONE_ARCHIVE: [(&str, &str, Format, u64, &str); 20] = [
     (
         HELLO_WITHOUT_LAST_LF,
         "s:hello",
@@ -47,6 +47,14 @@ const OF_ONE_ARCHIVE: [(&str, &str, Format, u64, &str); 19] = [
     (HELLO_WITHOUT_LAST_LF, "s:hello", Format::Mbox, 1, HELLO),
     ("^Subject: Hello||hi", "s:hello", Format::Mbox, 1, HELLO),
     (HELLO, "bs:hello/hi", Format::Raw, 1, "0 58 m.mbox|"),
+    // The answer over two archives, below, is cut into its messages.
+    (
+        CLOSED,
+        "s:hello",
+        Format::Raw,
+        2,
+        "0 58 m.mbox|58 58 m.mbox|",
+    ),
     (HELLO, "s:hello", Format::Mbox, 1, HELLO),
     (TWO_MESSAGES, "s:~absent", Format::Raw, 2, BOTH),
     (TWO_MESSAGES, "s:two", Format::Raw, 1, "75 49 m.mbox|"),

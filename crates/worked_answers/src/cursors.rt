@@ -98,6 +98,39 @@ fn a_choice_takes_few_steps(rt: HostRuntime) {
     assert!(rt; matches!(steps, Some((1..=10, 1..=2))), "{steps:?}");
 }
 
+// A message with five words, in each of which stands the same letter, and how many of them there are: more than a window covers.
+const FIVE_WORDS: &str = "^|ea eb ec ed ee||";
+
+const MANY: u32 = 4_200;
+
+/// How many steps the union of five words' lists takes for its first number, and then for all others, if it gives each message.
+fn steps_of_union(alloc: Global) -> Option<(u64, u64)> {
+    let text = FIVE_WORDS.repeat(alloc, MANY as usize).ok()?;
+    let file = indexed(alloc, &[("m.mbox", text.as_str())])?;
+    let index = IndexView::open(&file).ok()?;
+    let query = query_of(alloc, &["b:e="])?;
+    let mut steps = Steps::new();
+    let mut cursor = Cursor::new(alloc, &index, &query, &mut steps).ok()?;
+    let begun = steps.count();
+    let mut all = cursor.next(&mut steps) == Some(0);
+    let first = steps.count().saturating_sub(begun);
+    for number in 1..MANY {
+        all = cursor.next(&mut steps) == Some(number) && all;
+    }
+    if all && cursor.next(&mut steps).is_none() {
+        Some((first, steps.count().saturating_sub(begun)))
+    } else {
+        None
+    }
+}
+
+// Five lists of 4,200 numbers: for the first number a window of 4,096 messages is marked, and no list is read to its end.
+#[test]
+fn a_union_reads_its_lists_window_by_window(rt: HostRuntime) {
+    let steps = steps_of_union(rt.alloc());
+    assert!(rt; matches!(steps, Some((1..=20_500, 21_000))), "{steps:?}");
+}
+
 // Each refused allocation is answered as want of memory, and nothing else is answered than all or that.
 #[test]
 fn sweep_all_matches_or_want_of_memory(rt: HostRuntime) {

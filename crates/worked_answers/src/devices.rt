@@ -141,23 +141,43 @@ const STALE: [(&[(&str, &str)], u32); 9] = [
     (&[SHORTER, B], 2),
 ];
 
-/// Whether an answer over changed archives tells this one, before anything is written.
-fn is_stale(alloc: Global, format: Format, archives: &[(&str, &str)], number: u32) -> Option<bool> {
+/// Whether an answer over changed archives tells this one, or a failure of this call, where the call is made. Each length is asked in
+/// order up to the first other one, and none of another count of archives. Nothing is written.
+fn is_stale(
+    alloc: Global,
+    format: Format,
+    archives: &[(&str, &str)],
+    number: u32,
+    fail_at: u64,
+) -> Option<bool> {
     let file = indexed(alloc, &[A, B, OTHER])?;
-    let told = told(alloc, format, &file, archives, 0, None)?;
-    Some(is_front(&told, AnswerFaultKind::Stale(number), &[]))
+    let told = told(alloc, format, &file, archives, fail_at, None)?;
+    let asked = if archives.len() == 3 {
+        u64::from(number) + 1
+    } else {
+        0
+    };
+    let kind = if 1 <= fail_at && fail_at <= asked {
+        AnswerFaultKind::Device
+    } else {
+        AnswerFaultKind::Stale(number)
+    };
+    Some(is_front(&told, kind, &[]))
 }
 
-/// Archives of another count or length are refused in each form, those too that have no message of the answer.
+/// Archives of another count or length are refused in each form, those too that have no message of the answer; a failure is told
+/// exactly where it comes before.
 #[test]
 fn changed_archives_are_stale(rt: HostRuntime) {
     for (archives, number) in STALE {
         for (format, _, _) in FORMS {
-            let as_wanted = is_stale(rt.alloc(), format, archives, number);
-            assert!(rt;
-                as_wanted == Some(true),
-                "{format:?}: {number}, {archives:?}"
-            );
+            for fail_at in 0..=4 {
+                let as_wanted = is_stale(rt.alloc(), format, archives, number, fail_at);
+                assert!(rt;
+                    as_wanted == Some(true),
+                    "{format:?}: {number}, {archives:?}, call {fail_at}"
+                );
+            }
         }
     }
 }

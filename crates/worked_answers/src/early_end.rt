@@ -26,6 +26,12 @@ impl Archives for EarlyEnd {
 
     ghost failures = { λ _. 0 };
 
+    ghost lengths_asked = { λ _. 0 };
+
+    ghost measures = { λ _ _ _ _. Unit {0} };
+
+    ghost reads = { λ _ _ _ _ _. Unit {0} };
+
     fn count(&self) -> u32 {
         self.inner.count()
     }

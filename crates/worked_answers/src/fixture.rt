@@ -12,7 +12,7 @@ use std::alloc::Global;
 pub const NOW: i64 = 1_053_259_200;
 
 /// The most archives that are held.
-const MOST: u32 = 10;
+const MOST: u32 = 20;
 
 /// The line at which a message of the rows starts.
 const SEPARATOR: &[u8] = b"From a@x.org Thu Jan  2 10:00:00 2003\n";

@@ -6,6 +6,8 @@ mod answers;
 #[cfg(test)]
 mod booleans;
 #[cfg(test)]
+mod chosen;
+#[cfg(test)]
 mod cursors;
 #[cfg(test)]
 mod devices;
@@ -13,6 +15,8 @@ mod devices;
 mod early_end;
 #[cfg(test)]
 mod fixture;
+#[cfg(test)]
+mod sent_pieces;
 #[cfg(test)]
 mod threads;
 #[cfg(test)]

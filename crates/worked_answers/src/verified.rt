@@ -105,62 +105,64 @@ fn told_of(stale: Option<u32>) -> Result<(), AnswerFault> {
     }
 }
 
-/// How many archives there are by now, their changes, and which is told. The count comes first, then the lengths, then the digests;
-/// of each the first archive is told.
-const CHANGED: [(usize, &[(usize, Change)], Option<u32>); 14] = [
-    (3, &[], None),
-    (3, &[(0, Change::Bit(0))], Some(0)),
-    (3, &[(0, Change::Bit(2))], Some(0)),
-    (3, &[(1, Change::Bit(0))], Some(1)),
-    (3, &[(1, Change::Bit(131_071))], Some(1)),
-    (3, &[(1, Change::Bit(131_072))], Some(1)),
-    (3, &[(1, Change::Bit(999_999))], Some(1)),
-    (3, &[(0, Change::Bit(1)), (1, Change::Bit(1))], Some(0)),
-    (3, &[(0, Change::Bit(1)), (1, Change::Longer)], Some(1)),
-    (3, &[(0, Change::Bit(1)), (2, Change::Longer)], Some(2)),
-    (3, &[(0, Change::Longer), (2, Change::Longer)], Some(0)),
-    (2, &[(0, Change::Longer)], Some(2)),
-    (4, &[(0, Change::Bit(1))], Some(3)),
-    (0, &[], Some(0)),
+/// How many archives there are by now, their changes, which is told, and how many calls of the archives are made. The count comes
+/// first, then the lengths, then the digests; of each the first archive is told, and none behind it is asked.
+const CHANGED: [(usize, &[(usize, Change)], Option<u32>, u64); 15] = [
+    (3, &[], None, CALLS),
+    (3, &[(0, Change::Bit(0))], Some(0), 4),
+    (3, &[(0, Change::Bit(2))], Some(0), 4),
+    (3, &[(1, Change::Bit(0))], Some(1), CALLS),
+    (3, &[(1, Change::Bit(131_071))], Some(1), CALLS),
+    (3, &[(1, Change::Bit(131_072))], Some(1), CALLS),
+    (3, &[(1, Change::Bit(999_999))], Some(1), CALLS),
+    (3, &[(0, Change::Bit(1)), (1, Change::Bit(1))], Some(0), 4),
+    (3, &[(0, Change::Bit(1)), (1, Change::Longer)], Some(1), 2),
+    (3, &[(0, Change::Bit(1)), (2, Change::Longer)], Some(2), 3),
+    (3, &[(0, Change::Longer), (2, Change::Longer)], Some(0), 1),
+    (3, &[(2, Change::Longer)], Some(2), 3),
+    (2, &[(0, Change::Longer)], Some(2), 0),
+    (4, &[(0, Change::Bit(1))], Some(3), 0),
+    (0, &[], Some(0), 0),
 ];
 
-/// What is told of so many archives with these changes.
+/// What is told of so many archives with these changes, of which this call fails, and none where it is 0.
 fn told_of_changes(
     alloc: Global,
     count: usize,
     changes: &[(usize, Change)],
+    fail_at: u64,
 ) -> Option<Result<(), AnswerFault>> {
-    told(alloc, &mut held(alloc, count, changes)?)
+    told(
+        alloc,
+        &mut FailAt::new(held(alloc, count, changes)?, fail_at),
+    )
 }
 
+/// The answer that tells a failure.
+const FAILED: Result<(), AnswerFault> = Err(AnswerFault {
+    kind: AnswerFaultKind::Device,
+    sent: 0,
+});
+
+/// Changed archives are told where a call behind the last one would fail, and a failure where the last one fails.
 #[test]
 fn changed_archives_are_told(rt: HostRuntime) {
-    for (count, changes, stale) in CHANGED {
-        let told = told_of_changes(rt.alloc(), count, changes);
+    for (count, changes, stale, calls) in CHANGED {
+        let told = told_of_changes(rt.alloc(), count, changes, calls + 1);
+        let failed = told_of_changes(rt.alloc(), count, changes, calls);
+        let wanted = if calls == 0 { told_of(stale) } else { FAILED };
         assert!(rt;
-            told == Some(told_of(stale)),
-            "{count} archives, {stale:?}: {told:?}"
+            told == Some(told_of(stale)) && failed == Some(wanted),
+            "{count} archives, {stale:?}: {told:?}, {failed:?}"
         );
     }
-}
-
-/// What is told where this call of the archives fails.
-fn told_of_failed_call(alloc: Global, fail_at: u64) -> Option<Result<(), AnswerFault>> {
-    told(alloc, &mut FailAt::new(held(alloc, 3, &[])?, fail_at))
 }
 
 #[test]
 fn a_failed_call_is_told(rt: HostRuntime) {
     for fail_at in 1..=CALLS + 1 {
-        let wanted = if fail_at <= CALLS {
-            Err(AnswerFault {
-                kind: AnswerFaultKind::Device,
-                sent: 0,
-            })
-        } else {
-            Ok(())
-        };
-        let told = told_of_failed_call(rt.alloc(), fail_at);
+        let wanted = if fail_at <= CALLS { FAILED } else { Ok(()) };
+        let told = told_of_changes(rt.alloc(), 3, &[], fail_at);
         assert!(rt; told == Some(wanted), "call {fail_at}: {told:?}");
     }
 }

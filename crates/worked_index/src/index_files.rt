@@ -441,47 +441,59 @@ fn changed_files_are_refused(rt: HostRuntime) {
     }
 }
 
-/// What is found where bits of a byte of the file of [`BODY`] are turned.
-fn found_with_turned(alloc: Global, at: usize, mask: u8) -> Option<Result<(), IndexFault>> {
-    let file = signed(alloc, BODY)?;
-    found(alloc, &with_turned(alloc, &file, at, mask)?)
-}
-
 /// The bytes of the file of [`BODY`].
 const SIZE: usize = 195;
 
+/// The files of both versions, each by its body and its bytes.
+const FILES: [(&[u8], usize); 2] = [(BODY, SIZE), (NEW_BODY, 227)];
+
+/// What is found where bits of a byte of the file of a body are turned.
+fn found_with_turned(
+    alloc: Global,
+    body: &[u8],
+    at: usize,
+    mask: u8,
+) -> Option<Result<(), IndexFault>> {
+    let file = signed(alloc, body)?;
+    found(alloc, &with_turned(alloc, &file, at, mask)?)
+}
+
 #[test]
 fn a_turned_bit_is_refused(rt: HostRuntime) {
-    for at in 0..SIZE {
-        let fault = match at {
-            0..8 => IndexFault::BadMagic,
-            8..12 => IndexFault::BadVersion,
-            _ => IndexFault::BadDigest,
-        };
-        for mask in BITS {
-            let found = found_with_turned(rt.alloc(), at, mask);
-            assert!(rt; found == Some(Err(fault)), "{mask} at {at}");
+    for (body, size) in FILES {
+        for at in 0..size {
+            let fault = match at {
+                0..8 => IndexFault::BadMagic,
+                8..12 => IndexFault::BadVersion,
+                _ => IndexFault::BadDigest,
+            };
+            for mask in BITS {
+                let found = found_with_turned(rt.alloc(), body, at, mask);
+                assert!(rt; found == Some(Err(fault)), "{mask} at {at} of {size}");
+            }
         }
     }
 }
 
-/// What is found of so many bytes of the file of [`BODY`], without its last one at least.
-fn found_of_front(alloc: Global, size: usize) -> Option<Result<(), IndexFault>> {
-    let file = signed(alloc, BODY)?;
+/// What is found of so many bytes of the file of a body, without its last one at least.
+fn found_of_front(alloc: Global, body: &[u8], size: usize) -> Option<Result<(), IndexFault>> {
+    let file = signed(alloc, body)?;
     let (_, all_but_last) = file.as_slice().split_last()?;
     found(alloc, all_but_last.get(..size)?)
 }
 
 #[test]
 fn a_front_is_refused(rt: HostRuntime) {
-    for size in 0..SIZE {
-        let fault = if size < 80 {
-            IndexFault::TooShort
-        } else {
-            IndexFault::BadDigest
-        };
-        let found = found_of_front(rt.alloc(), size);
-        assert!(rt; found == Some(Err(fault)), "{size} bytes");
+    for (body, whole) in FILES {
+        for size in 0..whole {
+            let fault = if size < 80 {
+                IndexFault::TooShort
+            } else {
+                IndexFault::BadDigest
+            };
+            let found = found_of_front(rt.alloc(), body, size);
+            assert!(rt; found == Some(Err(fault)), "{size} bytes of {whole}");
+        }
     }
 }
 

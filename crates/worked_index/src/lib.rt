@@ -6,6 +6,10 @@ mod builders;
 #[cfg(test)]
 mod compared;
 #[cfg(test)]
+mod counted;
+#[cfg(test)]
 mod index_decoder;
 #[cfg(test)]
 mod index_files;
+#[cfg(test)]
+mod sweeps;

@@ -6,9 +6,8 @@ use Rattle.std.specs.Option.{option_map}
 use Rattle.mbox_cutter.specs.declared.scan.Phase.{Phase}
 use Rattle.mbox_cutter.specs.declared.scan.Phase.TheVariants.{Between, Inside, Ended, Failed}
 use Rattle.mbox_cutter.specs.Archives.{Message, messages, text, size, span_length}
-use Rattle.mbox_cutter.specs.Events.{ArchiveEvent, Start, Line, End, Done, told, Coming, coming_of}
+use Rattle.mbox_cutter.specs.Events.{ArchiveEvent, Start, Line, End, Done, told, events, Coming, coming_of}
 use Rattle.mbox_cutter.specs.Coming.{TakesKnown}
-use Rattle.mbox_cutter.proofs.Events.{events-accepted}
 use Rattle.mbox_cutter.proofs.KnownSteps.{each_some}
 
 abbrev pub starts : List ArchiveEvent → ℕ
@@ -53,6 +52,10 @@ sizes-told : (all : ℕ) (ms : List Message) → sizes (told all ms) ≡ sum_by 
 sizes-told all [] = refl
 sizes-told all (m ∷ ms) =
     sizes-lines (text m) (End (span_length m) (size m) ∷ told all ms) ∙ ap (λ (n : ℕ). size m + n) (sizes-told all ms) ∙ sym (sum_by-cons size m ms)
+
+events-accepted : (b : List ℕ) (ms : List Message) → messages b ≡ Some ms → events b ≡ told (length b) ms
+unfolding events
+events-accepted b ms e = rw e refl
 
 counted-at : (most : ℕ) (b : List ℕ) (ms : List Message) (before now after : Option Coming) (count bytes all : ℕ) → messages b ≡ Some ms → before ≡ Some (coming_of most b) →
     Tallied before count bytes now → TakesKnown (Done all) now after → (count ≡ length ms) × (bytes ≡ sum_by size ms)

@@ -1,7 +1,10 @@
 //! The texts of a message, and what its header says beside them, read by themselves.
+ghost use Rattle.std.specs.Prelude.{◌-◌, ◌^◌, ◌<◌};
+
 use mail_words::{Flags, TextKind};
+use mbox_cutter::{Cutter, Event, MemorySource, Source};
 use mime_text::{Facts, MessageText, SinkFault, TextFault, TextSink};
-use std::alloc::Global;
+use std::alloc::{AllocError, Global};
 
 /// A sink that keeps the texts that it takes, each with its kind, and refuses one for which it has no room.
 #[derive(Drop)]
@@ -84,6 +87,79 @@ fn joins_two_lines(alloc: Global) -> Option<bool> {
 #[test]
 fn a_soft_break_joins_two_lines(rt: HostRuntime) {
     assert!(rt; joins_two_lines(rt.alloc()) == Some(true));
+}
+
+/// Feeds a message the lines that an archive has, and answers whether each was taken.
+fn is_fed<S: Source>(
+    alloc: Global,
+    source: &mut S,
+    message: &mut MessageText,
+    sink: &mut Kept,
+) -> Option<bool>
+    requires { S.failures source.old < 2 ^ 64 - 1 }
+{
+    let mut cutter = Cutter::new(alloc, source, 1 << 20).ok()?;
+    let mut fed = true;
+    'events: loop {
+        match cutter.next_event() {
+            Ok(Event::Line(line)) => fed = goes_on(message.line(line, sink), fed),
+            Ok(Event::Done { .. }) => return Some(fed),
+            Ok(_) => {}
+            Err(_) => return None,
+        }
+    }
+}
+
+/// Transfer encodings, four bytes of one, what they stand for, and how a text of one line ends that has nothing else.
+const LONGEST: [(&str, &str, &str, &str); 2] = [
+    ("quoted-printable", "a=41", "aA", "\n"),
+    ("base64", "YWFh", "aaa", ""),
+];
+
+/// Adds a text so often that four bytes of it are 65,536.
+fn add_often(text: &str, into: &mut String) -> Result<(), AllocError> {
+    for _ in 0..16_384 {
+        into.push_str(text)?;
+    }
+    Ok(())
+}
+
+/// An archive of a message whose text is one line of 65,537 bytes in a transfer encoding.
+fn archive_of_line(alloc: Global, encoding: &str, bytes: &str) -> Result<String, AllocError> {
+    let mut archive = format!(in alloc;
+        "From a@x.org Thu Jan  2 10:00:00 2003\nContent-Transfer-Encoding: {encoding}\n\n"
+    )?;
+    add_often(bytes, &mut archive)?;
+    archive.push('\n')?;
+    Ok(archive)
+}
+
+/// Whether a longest line in a transfer encoding is told as one text.
+fn decodes_longest(
+    alloc: Global,
+    encoding: &str,
+    bytes: &str,
+    text: &str,
+    end: &str,
+) -> Option<bool> {
+    let archive = archive_of_line(alloc, encoding, bytes).ok()?;
+    let mut wanted = String::new(alloc);
+    add_often(text, &mut wanted).ok()?;
+    wanted.push_str(end).ok()?;
+    let mut source = MemorySource::new(alloc, archive.as_bytes(), 4096, None).ok()?;
+    let mut message = MessageText::new(alloc).ok()?;
+    let mut sink = Kept::new(alloc, 9);
+    let fed = is_fed(alloc, &mut source, &mut message, &mut sink)?;
+    ends_with(fed, message, sink, &[(TextKind::Body, wanted.as_str())])
+}
+
+/// A line that has to be decoded may be as long as any.
+#[test]
+fn longest_encoded_lines(rt: HostRuntime) {
+    for (encoding, bytes, text, end) in LONGEST {
+        let as_wanted = decodes_longest(rt.alloc(), encoding, bytes, text, end);
+        assert!(rt; as_wanted == Some(true), "{encoding}");
+    }
 }
 
 /// Whether a message ends where its lines were taken, and a sink has taken just these texts of it.

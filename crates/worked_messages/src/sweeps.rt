@@ -1,7 +1,7 @@
 //! Calls of which each allocation is refused in turn: the gate runs these tests with a library that refuses the first
 //! allocation, then the second, and so on. Each call answers in full, or its own want of memory with what that leaves. Where a
 //! fixture has no memory the test ends well.
-use header_text::{Header, Taken, decode_words, message_ids, unfold};
+use header_text::{Charset, Header, Taken, decode, decode_words, message_ids, unfold};
 use mail_words::fold;
 use mbox_cutter::{Cutter, Event, MemorySource};
 use std::alloc::Global;
@@ -55,6 +55,13 @@ fn is_decoded(alloc: Global) -> Option<bool> {
     Some(text.as_str() == "a \u{fc} b")
 }
 
+/// Whether bytes of two charsets are decoded, each with a character that is longer than its byte.
+fn are_charsets_decoded(alloc: Global) -> Option<bool> {
+    let euro = decode(alloc, Charset::Windows1252, b"\x80").ok()?;
+    let unknown = decode(alloc, Charset::of(b"utf-8"), b"\xC3").ok()?;
+    Some(euro.as_str() == "\u{20AC}" && unknown.as_str() == "\u{FFFD}")
+}
+
 fn has_two_ids(alloc: Global) -> Option<bool> {
     let ids = message_ids(alloc, b"<a@x> <b @y>").ok()?;
     Some(ids.len() == 2)
@@ -69,6 +76,7 @@ fn is_folded(alloc: Global) -> Option<bool> {
 fn sweep_values(rt: HostRuntime) {
     assert!(rt; is_unfolded(rt.alloc()) != Some(false));
     assert!(rt; is_decoded(rt.alloc()) != Some(false));
+    assert!(rt; are_charsets_decoded(rt.alloc()) != Some(false));
     assert!(rt; has_two_ids(rt.alloc()) != Some(false));
     assert!(rt; is_folded(rt.alloc()) != Some(false));
 }

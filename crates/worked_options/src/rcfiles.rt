@@ -19,7 +19,7 @@ fn an_rcfile_is_accepted(rt: HostRuntime) -> Result<(), Fail> {
         rt.alloc(),
         b"mbox=a.mbox:b.mbox\ndatabase=m.idx\nmfolder=hits\n",
     )?;
-    assert!(rt; says(&rc, ["a.mbox", "b.mbox"], "m.idx", "hits"), "{rc:?}");
+    assert!(rt; says(&rc, ["a.mbox", "b.mbox"], "m.idx", "hits"));
     Ok(())
 }
 

@@ -29,8 +29,8 @@ const OUTPUT_FAILED: &[u8] = b"refused 4: output failed";
 
 const READ_FAILED: &[u8] = b"refused 4: archive read failed";
 
-/// A run with what it tells where nothing fails, and how many calls of the archives it makes at least: a length of each, and a read
-/// for each message whose bytes it shows. With `--verify` a stored search makes more.
+/// What runs tell where nothing fails, and how many archives there are. The length of each is asked, and then a read is made for each
+/// message whose bytes are shown. `--verify` has each length asked and each archive read before that, in one read of these.
 #[derive(Clone, Copy)]
 struct Answered {
     rc: &'static str,
@@ -38,17 +38,19 @@ struct Answered {
     words: &'static str,
     found: &'static str,
     answer: &'static str,
-    calls: u64,
+    lengths: u64,
+    shown: u64,
 }
 
-const ANSWERED: [Answered; 7] = [
+const ANSWERED: [Answered; 5] = [
     Answered {
         rc: RC_OF_TWO,
         archives: COUSINS,
         words: "-t, -r, b:hi",
         found: "found 2: ",
         answer: "0 79 a.mbox|0 79 b.mbox|",
-        calls: 2,
+        lengths: 2,
+        shown: 0,
     },
     Answered {
         rc: RC_OF_TWO,
@@ -56,7 +58,8 @@ const ANSWERED: [Answered; 7] = [
         words: "-t, -x, b:hi",
         found: "found 2: ",
         answer: EXCERPTS,
-        calls: 4,
+        lengths: 2,
+        shown: 2,
     },
     Answered {
         rc: RC_OF_TWO,
@@ -64,7 +67,8 @@ const ANSWERED: [Answered; 7] = [
         words: "-t, --stdout, b:hi",
         found: "found 2: ",
         answer: BOTH_COUSINS,
-        calls: 4,
+        lengths: 2,
+        shown: 2,
     },
     Answered {
         rc: RC,
@@ -72,7 +76,8 @@ const ANSWERED: [Answered; 7] = [
         words: "-r, s:one",
         found: "found 1: ",
         answer: "0 75 m.mbox|",
-        calls: 1,
+        lengths: 1,
+        shown: 0,
     },
     Answered {
         rc: RC,
@@ -80,28 +85,13 @@ const ANSWERED: [Answered; 7] = [
         words: "--stdout, s:one/two",
         found: "found 2: ",
         answer: TWO_MESSAGES,
-        calls: 3,
-    },
-    Answered {
-        rc: RC_OF_TWO,
-        archives: COUSINS,
-        words: "-t, -x, --verify, b:hi",
-        found: "found 2: ",
-        answer: EXCERPTS,
-        calls: 4,
-    },
-    Answered {
-        rc: RC_OF_TWO,
-        archives: COUSINS,
-        words: "-t, --stdout, --verify, b:hi",
-        found: "found 2: ",
-        answer: BOTH_COUSINS,
-        calls: 4,
+        lengths: 1,
+        shown: 2,
     },
 ];
 
-/// A call of the archives that no answer gets to.
-const BEYOND: u64 = 20;
+/// A call of the archives that no run gets to.
+const BEYOND: u64 = 10;
 
 /// A run beside what it tells and sends where nothing fails.
 #[derive(Drop)]
@@ -121,24 +111,26 @@ impl Answered {
         })
     }
 
-    /// Whether a run that tells this has made so many calls of the archives, of which the last failed, or has answered with fewer.
-    /// A raw answer makes no calls but those of the lengths, before which nothing is sent.
-    fn tells(&self, expected: &Expected, failing_call: u64, told: &[u8]) -> bool {
-        let sent = expected.sent_before(READ_FAILED, told);
-        let answers = told == expected.told.as_slice();
-        let lengths = if self.rc == RC { 1 } else { 2 };
-        if failing_call <= lengths {
-            sent == Some(0)
-        } else if failing_call <= self.calls {
-            sent.is_some()
-        } else if self.calls == lengths || failing_call == BEYOND {
-            answers
-        } else {
-            sent.is_some() || answers
-        }
+    /// How many calls of the archives each run makes: the one that indexes them itself, the search of their stored index, and that with
+    /// `--verify`.
+    fn calls(&self) -> [u64; 3] {
+        let searched = self.lengths.saturating_add(self.shown);
+        let verified = self.lengths.saturating_mul(2).saturating_add(searched);
+        [searched, searched, verified]
     }
 
-    /// Whether both runs tell each failing call of the archives, with a front of the answer.
+    /// Whether a run that makes so many calls of the archives tells this where one of them fails, or where none does. Nothing is sent
+    /// before the first read of what is shown.
+    fn tells(&self, expected: &Expected, calls: u64, failing_call: u64, told: &[u8]) -> bool {
+        if failing_call > calls {
+            return told == expected.told.as_slice();
+        }
+        let sent = expected.sent_before(READ_FAILED, told);
+        let shown = calls.saturating_sub(failing_call) < self.shown;
+        sent == Some(0) || (shown && sent.is_some())
+    }
+
+    /// Whether all runs tell each failing call of the archives, with a front of the answer, and go on at the calls behind the last.
     fn tells_failing_calls(&self, rt: &impl Abort, alloc: Global) -> Option<bool> {
         let expected = self.expected(alloc)?;
         let mut as_wanted = true;
@@ -147,14 +139,15 @@ impl Answered {
                 failing_call,
                 ..SOUND
             };
-            for told in expected.given.both(rt, alloc, devices)? {
-                as_wanted = self.tells(&expected, failing_call, &told) && as_wanted;
+            let told = expected.given.all(rt, alloc, devices)?;
+            for (told, calls) in told.iter().zip(self.calls()) {
+                as_wanted = self.tells(&expected, calls, failing_call, told) && as_wanted;
             }
         }
         Some(as_wanted)
     }
 
-    /// Whether both runs fill an output of each room, up to that of the whole answer.
+    /// Whether all runs fill an output of each room, up to that of the whole answer.
     fn fills_each_room(&self, rt: &impl Abort, alloc: Global) -> Option<bool> {
         let expected = self.expected(alloc)?;
         let mut as_wanted = true;
@@ -163,7 +156,7 @@ impl Answered {
                 room: Some(room as u64),
                 ..SOUND
             };
-            for told in expected.given.both(rt, alloc, devices)? {
+            for told in expected.given.all(rt, alloc, devices)? {
                 as_wanted = expected.fills(room, &told) && as_wanted;
             }
         }

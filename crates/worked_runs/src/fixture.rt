@@ -11,7 +11,7 @@ use std::alloc::Global;
 use std::process::Abort;
 
 /// The second of the runs: noon of 18 May 2003, UTC.
-const NOW: i64 = 1_053_259_200;
+pub const NOW: i64 = 1_053_259_200;
 
 /// The line at which a message of the rows starts.
 const SEPARATOR: &[u8] = b"From a@x.org Thu Jan  2 10:00:00 2003\n";
@@ -19,8 +19,8 @@ const SEPARATOR: &[u8] = b"From a@x.org Thu Jan  2 10:00:00 2003\n";
 /// The most archives of a run.
 const MOST: usize = 2;
 
-/// The words of two parts of a command line, which `, ` parts.
-fn words(alloc: Global, parts: [&str; 2]) -> Option<Vec<String>> {
+/// The words of some parts of a command line, which `, ` parts.
+pub fn words(alloc: Global, parts: &[&str]) -> Option<Vec<String>> {
     let mut words = Vec::new(alloc);
     for part in parts {
         for word in part.split(", ") {
@@ -83,6 +83,8 @@ pub const SOUND: Devices = Devices {
 #[derive(Drop)]
 pub struct Given {
     words: Vec<String>,
+    /// The same with `--verify` behind them.
+    verifying: Vec<String>,
     rc: Vec<u8>,
     archives: Vec<Vec<u8>>,
     /// The index file of the archives, if they have one.
@@ -98,8 +100,10 @@ impl Given {
         for text in texts.split(" & ") {
             archives.push(bytes_of(alloc, text)?).ok()?;
         }
+        let [first, second] = line;
         Some(Given {
-            words: words(alloc, line)?,
+            words: words(alloc, &[first, second])?,
+            verifying: words(alloc, &[first, second, "--verify"])?,
             index: indexed(alloc, &rc, &archives),
             rc,
             archives,
@@ -125,27 +129,36 @@ impl Given {
 
     /// What a search of an index over the archives tells. It is None where memory is wanting before it begins or behind it.
     pub fn stored(&self, alloc: Global, index: &[u8], devices: Devices) -> Option<Vec<u8>> {
+        self.searched(alloc, &self.words, index, devices)
+    }
+
+    /// The same with `--verify`.
+    pub fn verified(&self, alloc: Global, index: &[u8], devices: Devices) -> Option<Vec<u8>> {
+        self.searched(alloc, &self.verifying, index, devices)
+    }
+
+    fn searched(
+        &self,
+        alloc: Global,
+        words: &[String],
+        index: &[u8],
+        devices: Devices,
+    ) -> Option<Vec<u8>> {
         let mut held = FailAt::new(held(alloc, &self.archives)?, devices.failing_call);
         let mut out = MemoryOut::new(alloc, devices.room);
         let now = Moment::new(NOW)?;
-        let reply = search_run(
-            alloc,
-            &self.words,
-            &self.rc,
-            index,
-            &mut held,
-            now,
-            &mut out,
-        );
+        let reply = search_run(alloc, words, &self.rc, index, &mut held, now, &mut out);
         told(alloc, &reply, &out)
     }
 
-    /// What both runs over the archives tell. It is None also where they have no index.
-    pub fn both(&self, rt: &impl Abort, alloc: Global, devices: Devices) -> Option<[Vec<u8>; 2]> {
+    /// What a run tells that indexes the archives itself, a search of their stored index, and one with `--verify`. It is None also
+    /// where they have no index.
+    pub fn all(&self, rt: &impl Abort, alloc: Global, devices: Devices) -> Option<[Vec<u8>; 3]> {
         let index = self.index.as_ref()?;
         Some([
             self.once(rt, alloc, devices)?,
             self.stored(alloc, index, devices)?,
+            self.verified(alloc, index, devices)?,
         ])
     }
 }
@@ -208,7 +221,7 @@ fn indexed(alloc: Global, rc: &[u8], archives: &[Vec<u8>]) -> Option<Vec<u8>> {
     match read_rc(alloc, rc) {
         Ok(rc) => indexed_as(alloc, rc.paths.as_slice(), archives),
         Err(RcFault::OutOfMemory) => None,
-        Err(_) => indexed_as(alloc, &words(alloc, ["m.mbox", ""])?, archives),
+        Err(_) => indexed_as(alloc, &words(alloc, &["m.mbox"])?, archives),
     }
 }
 

@@ -16,6 +16,8 @@ mod old_index;
 #[cfg(test)]
 mod pattern_rows;
 #[cfg(test)]
+mod program_runs;
+#[cfg(test)]
 mod refusal_rows;
 #[cfg(test)]
 mod rows;

@@ -47,14 +47,17 @@ impl<'a> Setting<'a> {
         Some(Setting { archives, ..self })
     }
 
-    /// Whether a run that indexes the archives itself, in pieces of each size, and a search of their stored index both tell what
-    /// a row says. Archives that are refused have no index. It is None where memory is wanting.
+    /// Whether a run that indexes the archives itself, in pieces of each size, and a search of their stored index, also with
+    /// `--verify`, tell what a row says. Archives that are refused have no index. It is None where memory is wanting.
     fn is_told(self, rt: &impl Abort, alloc: Global, row: &str) -> Option<bool> {
         let (words, wanted) = row.split_once(" => ")?;
         let given = Given::of(alloc, [self.words, words], self.rcfile, self.archives)?;
         let wanted = bytes_of(alloc, wanted)?;
         let mut as_wanted = match &given.index {
-            Some(index) => given.stored(alloc, index, SOUND)? == wanted,
+            Some(index) => {
+                let stored = given.stored(alloc, index, SOUND)?;
+                stored == wanted && given.verified(alloc, index, SOUND)? == wanted
+            }
             None => wanted.starts_with(b"refused 4: archive "),
         };
         for piece in PIECES {

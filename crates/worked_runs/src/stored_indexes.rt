@@ -149,6 +149,60 @@ fn what_is_no_index_is_refused(rt: HostRuntime) {
     }
 }
 
+/// The bytes of the index.
+const SIZE: usize = 227;
+
+/// Each bit of a byte.
+const BITS: [u8; 8] = [1, 2, 4, 8, 16, 32, 64, 128];
+
+/// Whether a search of an index and one with `--verify` tell this.
+fn are_told(alloc: Global, given: &Given, index: &[u8], wanted: &str) -> Option<bool> {
+    let stored = given.stored(alloc, index, SOUND)?;
+    let verified = given.verified(alloc, index, SOUND)?;
+    Some(stored.as_slice() == wanted.as_bytes() && verified.as_slice() == wanted.as_bytes())
+}
+
+/// Whether searches of the index with this bit of a byte turned tell this.
+fn are_told_of_bit(
+    alloc: Global,
+    given: &Given,
+    at: usize,
+    mask: u8,
+    wanted: &str,
+) -> Option<bool> {
+    let index = given.index.as_ref()?;
+    let turned = changed(alloc, index, at, &[index.get(at)? ^ mask], false)?;
+    are_told(alloc, given, &turned, wanted)
+}
+
+/// Whether searches of the bytes of the index before this one, and of the index with each of its bits turned, are refused.
+fn are_refused_at(alloc: Global, at: usize) -> Option<bool> {
+    let given = Given::of(alloc, ["-f, rc", "-r, s:hello"], RC, HELLO)?;
+    let front = given.index.as_ref()?.get(..at)?;
+    let wanted = match at {
+        0..80 => "refused 3: index: too short",
+        _ => "refused 3: index: bad digest",
+    };
+    let mut as_wanted = are_told(alloc, &given, front, wanted)?;
+    let wanted = match at {
+        0..8 => "refused 3: index: bad magic",
+        8..12 => "refused 3: index: unknown version",
+        _ => "refused 3: index: bad digest",
+    };
+    for mask in BITS {
+        as_wanted = are_told_of_bit(alloc, &given, at, mask, wanted) == Some(true) && as_wanted;
+    }
+    Some(as_wanted)
+}
+
+#[test]
+fn a_front_and_a_turned_bit_are_refused(rt: HostRuntime) {
+    for at in 0..SIZE {
+        let as_wanted = are_refused_at(rt.alloc(), at) == Some(true);
+        assert!(rt; as_wanted, "at {at}");
+    }
+}
+
 /// Whether a search of so many bytes of the index tells this.
 fn is_told_of_front(
     alloc: Global,

@@ -43,8 +43,8 @@ fn is_answered_or_wanting(told: &Option<Vec<u8>>, found: &str, answer: &[u8]) ->
     }
 }
 
-/// Whether a run that indexes the archives itself, and then a search of their stored index, are answered so. It is None where a
-/// fixture has no memory.
+/// Whether a run that indexes the archives itself, then a search of their stored index, and then one that first reads the archives
+/// through, are answered so. It is None where a fixture has no memory.
 fn are_answered(
     rt: &impl Abort,
     alloc: Global,
@@ -59,8 +59,13 @@ fn are_answered(
     if !is_answered_or_wanting(&once, found, &answer) {
         return Some(false);
     }
-    let told = given.stored(alloc, given.index.as_ref()?, SOUND)?;
-    Some(is_answered(&told, found, &answer))
+    let index = given.index.as_ref()?;
+    let stored = given.stored(alloc, index, SOUND);
+    let verified = given.verified(alloc, index, SOUND);
+    Some(
+        is_answered_or_wanting(&stored, found, &answer)
+            && is_answered_or_wanting(&verified, found, &answer),
+    )
 }
 
 #[test]
@@ -119,26 +124,10 @@ fn sweep_runs_with_threads(rt: HostRuntime) {
     assert!(rt; as_wanted != Some(false));
 }
 
-/// With `--verify` the search of the stored index reads its archives through first.
 #[test]
-fn sweep_runs_that_verify(rt: HostRuntime) {
-    let told = ["found 1: ", "0 58 m.mbox|"];
-    let as_wanted = are_answered(&rt, rt.alloc(), "--verify, -r, s:hello", RC, HELLO, told);
-    assert!(rt; as_wanted != Some(false));
-}
-
-#[test]
-fn sweep_runs_that_verify_and_write_an_excerpt(rt: HostRuntime) {
-    let told = ["found 1: ", "m.mbox|To:|Cc:|From:|Subject: Hello|Date:|"];
-    let as_wanted = are_answered(&rt, rt.alloc(), "--verify, -x, s:hello", RC, HELLO, told);
-    assert!(rt; as_wanted != Some(false));
-}
-
-#[test]
-fn sweep_runs_that_verify_and_write_an_mbox(rt: HostRuntime) {
-    let words = "--verify, --stdout, -t, s:hello";
+fn sweep_runs_that_write_threads_as_an_mbox(rt: HostRuntime) {
     let told = ["found 1: ", HELLO];
-    let as_wanted = are_answered(&rt, rt.alloc(), words, RC, HELLO, told);
+    let as_wanted = are_answered(&rt, rt.alloc(), "--stdout, -t, s:hello", RC, HELLO, told);
     assert!(rt; as_wanted != Some(false));
 }
 
