@@ -1,14 +1,15 @@
 #!/usr/bin/env python3
 """Writes a made mbox of about so many megabytes, or of so many messages, to a file: always the same bytes for the same words.
 
-    make_mbox.py [--lists] MEGABYTES FILE
-    make_mbox.py [--lists] --messages COUNT FILE
+    make_mbox.py [--lists|--scripts] MEGABYTES FILE
+    make_mbox.py [--lists|--scripts] --messages COUNT FILE
 
 Its mail is letters of plain text, one in twenty in base64, over a vocabulary that is there from the start. With --lists it is mail as
 mailing lists send it: a third of the messages is multipart with HTML, a fifth has base64, one in ten has quoted-printable, fields stand
-as lists write them, and words are new the more rarely the longer the text is (Heaps' law).
+as lists write them, and words are new the more rarely the longer the text is (Heaps' law). With --scripts it is mail in four scripts over a
+vocabulary of 300,000 words by Zipf's law, with HTML, attachments in base64, quoted-printable, and threads of up to 200 messages.
 """
-import base64, itertools, math, random, sys, textwrap
+import base64, itertools, math, quopri, random, sys, textwrap
 
 LETTERS = "abcdefghijklmnopqrstuvwxyz"
 SEPARATOR = "From %s Thu Jan  2 10:00:00 2003"
@@ -117,6 +118,65 @@ def list_mail(rng):
         yield lines
 
 
+# The first letters of Latin, Greek, Cyrillic and Devanagari that words are made of, and how many of them.
+SCRIPTS = ((0x61, 26), (0x3B1, 25), (0x430, 32), (0x915, 37))
+
+
+def script_words(rng):
+    """300,000 words, most of them Latin."""
+    found = []
+    for number in range(300_000):
+        first, count = SCRIPTS[number % 8 if number % 8 < 4 else 0]
+        found.append("".join(chr(first + rng.randrange(count)) for _ in range(rng.randint(2, 10))))
+    return found
+
+
+def transferred(text, transfer):
+    """The lines of a text in a transfer encoding."""
+    if transfer == "base64":
+        return textwrap.wrap(base64.b64encode(text.encode()).decode(), 76)
+    if transfer == "quoted-printable":
+        return quopri.encodestring(text.encode()).decode("ascii").splitlines()
+    return text.splitlines()
+
+
+def script_mail(rng):
+    """Messages in four scripts, in threads."""
+    vocabulary = script_words(rng)
+    people = ["%s@%s.example" % (new_word(rng), new_word(rng)) for _ in range(3_000)]
+    words = lambda least, most: " ".join(vocabulary[int(len(vocabulary) ** rng.random()) - 1] for _ in range(rng.randint(least, most)))
+    ids, subject = [], ""
+    for number in itertools.count(1):
+        sender = rng.choice(people)
+        if not ids or len(ids) >= 200 or rng.random() < 0.15:
+            ids, subject = [], words(2, 7)
+        own = "<%d.%x@%s>" % (number, rng.getrandbits(48), sender.partition("@")[2])
+        lines = [SEPARATOR % sender, "From: =?utf-8?Q?%s?= <%s>" % (quopri.encodestring(words(2, 2).encode(), header=True).decode("ascii").replace("\n", ""), sender),
+                 "To: %s" % ", ".join(rng.sample(people, rng.randint(1, 4))),
+                 "Subject: =?utf-8?B?%s?=" % base64.b64encode((("Re: " if ids else "") + subject).encode()).decode(),
+                 "Date: Thu, 2 Jan 2003 10:00:00 +0000", "Message-ID: %s" % own, "MIME-Version: 1.0"]
+        if ids:
+            lines += ["In-Reply-To: %s" % ids[-1], "References: %s" % "\n\t".join(ids[-20:])]
+        ids.append(own)
+        text = "\n".join(words(4, 14) for _ in range(rng.randint(3, 50))) + "\n"
+        transfer = ("8bit", "quoted-printable", "base64")[number % 3]
+        plain = ["Content-Type: text/plain; charset=utf-8", "Content-Transfer-Encoding: " + transfer, "", *transferred(text, transfer)]
+        if number % 4:
+            yield lines + plain
+            continue
+        border = "=_%x" % rng.getrandbits(64)
+        page = "<html><body>" + "".join('<p class="x%d">%s</p>\n' % (at, line) for at, line in enumerate(text.splitlines())) + "</body></html>\n"
+        parts = [plain, ["Content-Type: text/html; charset=utf-8", "Content-Transfer-Encoding: quoted-printable", "", *transferred(page, "quoted-printable")]]
+        if number % 12 == 0:
+            data = textwrap.wrap(base64.b64encode(rng.randbytes(rng.randint(2_000, 40_000))).decode(), 76)
+            parts.append(['Content-Type: application/pdf; name="%s.pdf"' % new_word(rng), "Content-Transfer-Encoding: base64",
+                          'Content-Disposition: attachment; filename="%s %s.pdf"' % (new_word(rng), new_word(rng)), "", *data])
+        lines += ['Content-Type: multipart/mixed; boundary="%s"' % border, ""]
+        for part_lines in parts:
+            lines += ["--" + border, *part_lines]
+        yield lines + ["--%s--" % border]
+
+
 def main(messages, most_bytes, most_messages, path):
     written = 0
     with open(path, "wb") as out:
@@ -131,8 +191,8 @@ def main(messages, most_bytes, most_messages, path):
 if __name__ == "__main__":
     asked = sys.argv[1:]
     kind = letters
-    if asked[:1] == ["--lists"]:
-        kind, asked = list_mail, asked[1:]
+    if asked[:1] in (["--lists"], ["--scripts"]):
+        kind, asked = list_mail if asked[0] == "--lists" else script_mail, asked[1:]
     if len(asked) == 3 and asked[0] == "--messages":
         main(kind, math.inf, int(asked[1]), asked[2])
     elif len(asked) == 2:
