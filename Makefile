@@ -1,5 +1,6 @@
-# `make run` builds the program and answers a small archive with it; `make test` is the whole gate; `make install` puts the program, its
-# pages and completions below PREFIX, and `make uninstall` takes them away; `make dist` makes a release of the last commit.
+# `make try` searches small archives before anything is proved; `make run` proves and builds the program, and searches them with it; `make check
+# CRATE=name` proves one crate and what stands on it; `make test` is the whole gate; `make install` puts the program, its pages and
+# completions below PREFIX, and `make uninstall` takes them away; `make dist` makes a release of the last commit.
 RT ?= rt
 PREFIX ?= /usr/local
 JOBS ?= $(shell python3 tools/machine.py)
@@ -11,16 +12,27 @@ PAGES = man/mairix.1:man/man1/mairix.1 man/mairixrc.5:man/man5/mairixrc.5 man/ma
 	completions/mairix.bash:bash-completion/completions/mairix completions/_mairix:zsh/site-functions/_mairix \
 	completions/mairix.fish:fish/vendor_completions.d/mairix.fish
 
-.PHONY: build run test install uninstall dist
+# The files of demo/, as `rt try` takes them.
+DEMO = $(foreach file,mairixrc m.mbox lists.mbox work.mbox,--data $(file)=../../demo/$(file))
+
+.PHONY: try build run check test install uninstall dist
+
+# The kit's interpreter runs the program's text as it stands: nothing is proved by it.
+try:
+	@cd crates/mairix && $(RT) try $(DEMO) -- -f mairixrc --once -r s:lunch
+	@echo "not proved yet: make run proves it"
 
 # Leaves the executable at $(PROGRAM). The first time each crate below it is proved, those that don't stand on one another side by side,
 # as far as processors and memory go; later only what has changed.
 build:
 	RT=$(RT) tools/first_build.py --jobs $(JOBS) mairix
-	cd crates/mairix && $(RT) run --jobs $(JOBS) -- -h >/dev/null
 
 run: build
 	cd demo && ../$(PROGRAM) -f mairixrc --once -r s:hello
+
+# One crate while one works on it: its proofs, its edits and, without ALONE=1, the crates that stand on it. What was proved is kept.
+check:
+	RT=$(RT) tools/check_crate.py --jobs $(JOBS) $(if $(ALONE),--alone) $(CRATE)
 
 # Every proof and test from nothing, every edit that the prover must refuse, each refused allocation in turn, and the built
 # program on real files. It works on a copy, and leaves nothing here.

@@ -1,12 +1,15 @@
-/* Preloaded into the program, counts its calls on files, and at one of them does what it is told:
+/* Preloaded into the program, counts its calls on files and of the clock, and at one of them does what it is told:
 
    COUNTED    the names of the calls that count, a space behind each: open, create, statx, realpath, flock, read, read_at, write, print,
-              fchmod, fsync, unlink, rename. A print is a write to standard output; one to standard error never counts.
+              fchmod, fsync, unlink, rename, clock. A print is a write to standard output; one to standard error never counts.
    AT         the number of the call, counted from 1, or its name; `each` is every call, and a number with a dash behind it that
               call and all later ones
    HOW        `stop` stops the process before the call until it is told to go on; `kill`, `terminate` and `interrupt` send it
               SIGKILL, SIGTERM or SIGINT before the call; `fail` lets the call fail with EIO, and `full` with ENOSPC; `short` lets a
-              read or a write move one byte alone, and `none` a write none at all
+              read or a write move one byte alone, and `none` a write none at all; `append`, `cut`, `rewrite`, `exchange`, `remove`
+              and `touch` change the file CHANGED before the call: by WITH behind its end, to the length of WITH, by WITH over its
+              front, by giving WITH its name, by taking its name away, or in its times alone
+   WITHIN     where a read meets such a change: how many bytes it takes before it, and the others behind it
    AGAIN      the number of another call at which it does so
    CALLS_LOG  a file to which each call's name, and the last name of its path, are appended as a line before it */
 #define _GNU_SOURCE
@@ -20,10 +23,11 @@
 #include <string.h>
 #include <sys/stat.h>
 #include <sys/syscall.h>
+#include <time.h>
 #include <unistd.h>
 
 static const char *counted, *wanted_name, *how;
-static long wanted, again, seen;
+static long wanted, again, seen, within;
 static int from_then_on;
 static int log_fd = -1;
 
@@ -42,6 +46,7 @@ __attribute__((constructor)) static void arm(void)
     from_then_on = wanted > 0 && *behind == '-';
     again = atol(told("AGAIN"));
     how = told("HOW");
+    within = atol(told("WITHIN"));
     if (*told("CALLS_LOG"))
         log_fd = syscall(SYS_openat, AT_FDCWD, told("CALLS_LOG"), O_WRONLY | O_CREAT | O_APPEND | O_CLOEXEC, 0644);
 }
@@ -66,6 +71,52 @@ static int signal_told(void)
     return 0;
 }
 
+/* Whether HOW says that a file is changed. */
+static int changes(void)
+{
+    static const char *const names[] = {"append", "cut", "rewrite", "exchange", "remove", "touch"};
+    for (size_t n = 0; n < sizeof names / sizeof *names; ++n)
+        if (!strcmp(how, names[n]))
+            return 1;
+    return 0;
+}
+
+/* Aborts where a call of this library itself has failed. */
+static long done_by(long result)
+{
+    if (result < 0)
+        abort();
+    return result;
+}
+
+/* Writes the bytes of WITH into CHANGED, behind its end or over its front; or cuts it to their length. */
+static void change_bytes(void)
+{
+    static char bytes[1 << 20];
+    int from = done_by(syscall(SYS_openat, AT_FDCWD, told("WITH"), O_RDONLY | O_CLOEXEC));
+    int to = done_by(syscall(SYS_openat, AT_FDCWD, told("CHANGED"), O_WRONLY | O_CLOEXEC | (!strcmp(how, "append") ? O_APPEND : 0)));
+    long length = done_by(syscall(SYS_read, from, bytes, sizeof bytes));
+    if (!strcmp(how, "cut"))
+        done_by(syscall(SYS_ftruncate, to, length));
+    else if (done_by(syscall(SYS_write, to, bytes, length)) != length)
+        abort();
+    done_by(syscall(SYS_close, from));
+    done_by(syscall(SYS_close, to));
+}
+
+/* Changes the file CHANGED as HOW says. */
+static void change(void)
+{
+    if (!strcmp(how, "exchange"))
+        done_by(syscall(SYS_renameat2, AT_FDCWD, told("WITH"), AT_FDCWD, told("CHANGED"), 0));
+    else if (!strcmp(how, "remove"))
+        done_by(syscall(SYS_unlinkat, AT_FDCWD, told("CHANGED"), 0));
+    else if (!strcmp(how, "touch"))
+        done_by(syscall(SYS_utimensat, AT_FDCWD, told("CHANGED"), NULL, 0));
+    else
+        change_bytes();
+}
+
 /* Whether the call of this name, which was the last one counted, is one of those that are wanted. */
 static int is_wanted(const char *name)
 {
@@ -85,7 +136,15 @@ static const char *met(const char *name, const char *path)
         return "";
     if (signal_told())
         kill(getpid(), signal_told());
+    if (changes() && !(within && !strncmp(name, "read", 4)))
+        change();
     return how;
+}
+
+/* Whether a read is to take some bytes before a change and the others behind it. */
+static int is_torn(const char *done, size_t count)
+{
+    return within && *done && changes() && count > (size_t)within;
 }
 
 /* Whether what is done with a call lets it fail. */
@@ -149,6 +208,12 @@ int flock(int fd, int operation)
 ssize_t read(int fd, void *bytes, size_t count)
 {
     const char *done = met("read", path_of(fd));
+    if (is_torn(done, count)) {
+        ssize_t first = REAL(read)(fd, bytes, within);
+        change();
+        ssize_t rest = first == within ? REAL(read)(fd, (char *)bytes + first, count - first) : 0;
+        return first < 0 || rest < 0 ? -1 : first + rest;
+    }
     return fails(done) ? -1 : REAL(read)(fd, bytes, moved(done, count));
 }
 
@@ -156,6 +221,12 @@ ssize_t read(int fd, void *bytes, size_t count)
     ssize_t name(int fd, void *bytes, size_t count, place offset)                                                                \
     {                                                                                                                            \
         const char *done = met("read_at", path_of(fd));                                                                          \
+        if (is_torn(done, count)) {                                                                                              \
+            ssize_t first = REAL(name)(fd, bytes, within, offset);                                                               \
+            change();                                                                                                            \
+            ssize_t rest = first == within ? REAL(name)(fd, (char *)bytes + first, count - first, offset + first) : 0;           \
+            return first < 0 || rest < 0 ? -1 : first + rest;                                                                    \
+        }                                                                                                                        \
         return fails(done) ? -1 : REAL(name)(fd, bytes, moved(done, count), offset);                                             \
     }
 
@@ -188,4 +259,9 @@ int unlink(const char *path)
 int rename(const char *old, const char *new)
 {
     return fails(met("rename", old)) ? -1 : REAL(rename)(old, new);
+}
+
+int clock_gettime(clockid_t clock, struct timespec *now)
+{
+    return fails(met("clock", "")) ? -1 : REAL(clock_gettime)(clock, now);
 }

@@ -19,7 +19,13 @@ WIDTH, LINES_OF_LANGUAGE = 80, 6
 
 COMMANDS, RCFILE, QUERIES = (TOP / "man" / name for name in ("mairix.1", "mairixrc.5", "mairix-query.7"))
 MANUAL = (COMMANDS, RCFILE, QUERIES)
-MARKDOWN = (TOP / "README.md", TOP / "docs" / "RECIPES.md")
+README, PROGRESS = TOP / "README.md", TOP / "docs" / "PROGRESS.md"
+MARKDOWN = (README, TOP / "docs" / "RECIPES.md")
+PAGES = (*sorted((TOP / "docs").glob("*.md")), README, *sorted((TOP / "crates").glob("*/README.md")))
+# How wide a line of a page is at most, but of a table, and how many words some pages have.
+PAGE_WIDTH, MOST_WORDS = 120, {README: 900, PROGRESS: 900}
+# How many lines a crate's page has at most.
+MOST_LINES = 80
 BASH, ZSH, FISH = (TOP / "completions" / name for name in ("mairix.bash", "_mairix", "mairix.fish"))
 COMPLETIONS = {BASH: "bash-completion/completions/mairix", ZSH: "zsh/site-functions/_mairix", FISH: "fish/vendor_completions.d/mairix.fish"}
 
@@ -140,10 +146,24 @@ def rcfile_options():
     return set(re.findall(r'option == "(\w+)"', source("mairix_options/src/setting.rt")))
 
 
+def bash_matches(*words):
+    """What bash is given to choose from, of which the last word is to be completed."""
+    script = f'source "{BASH}"; COMP_WORDS=(mairix "$@"); COMP_CWORD=$#; _mairix; printf "%s\\n" "${{COMPREPLY[@]}}"'
+    run = subprocess.run(["bash", "--norc", "-c", script, "bash", *words], capture_output=True, text=True, timeout=60)
+    return run.stdout.split()
+
+
 def bash_words(*words):
-    script = f'source "{BASH}"; COMP_WORDS=(mairix {" ".join(words)} ""); COMP_CWORD={len(words) + 1}; _mairix; printf "%s\\n" "${{COMPREPLY[@]}}"'
-    run = subprocess.run(["bash", "--norc", "-c", script], capture_output=True, text=True, timeout=60)
-    return {it.rstrip(":") for it in run.stdout.split() if it.endswith(":")}
+    return {it.rstrip(":") for it in bash_matches(*words, "") if it.endswith(":")}
+
+
+def quotes_left_open():
+    """Behind a lone match bash closes a quote that was begun; of several it takes what they share, and closes none."""
+    for typed, matches in (("'su", 2), ('"su', 2), ("su", 1), ("'zz", 0)):
+        found = bash_matches("--boolean", typed)
+        if len(found) != matches or (found and os.path.commonprefix(found) != "subject:"):
+            return f"{typed} has {found}"
+    return ""
 
 
 def prefix_checks():
@@ -151,6 +171,7 @@ def prefix_checks():
     yield "prefixes of boolean queries", differences("prefix", boolean_prefixes(), tagged_prefixes("BOOLEAN QUERIES"))
     yield "prefixes of patterns that bash completes", differences("prefix", pattern_prefixes(), bash_words())
     yield "prefixes of boolean queries that bash completes", differences("prefix", boolean_prefixes(), bash_words("--boolean"))
+    yield "a quote in bash", quotes_left_open()
     for path in (ZSH, FISH):
         text = path.read_text(encoding="utf-8")
         missing = [it for it in sorted(pattern_prefixes() | boolean_prefixes()) if not re.search(rf"['( \n]{it}\\?:", text)]
@@ -183,6 +204,39 @@ def help_checks(program):
             yield f"help: {example}", "" if status == 0 else f"status {status}, printed {printed!r}"
 
 
+# ---- the index file
+
+FORMAT = TOP / "docs" / "INDEX-FORMAT.md"
+
+
+def format_checks(program):
+    """The table of bytes in the page on index files is the file that the program writes, and its fields follow one another."""
+    rows = re.findall(r"(?m)^\| (\d+) \| `([0-9a-f]+)` \|", FORMAT.read_text(encoding="utf-8"))
+    told = bytes.fromhex("".join(row for _, row in rows))
+    places = [sum(len(row) // 2 for _, row in rows[:number]) for number in range(len(rows))]
+    yield "offsets in INDEX-FORMAT.md", "" if [int(place) for place, _ in rows] == places else "they don't follow one another"
+    with Sandbox(program) as sandbox:
+        (sandbox.home / "rc").write_text("mbox=m.mbox\ndatabase=index\nmfolder=found\n")
+        (sandbox.home / "m.mbox").write_bytes((sandbox.demo / "m.mbox").read_bytes())
+        status, printed = sandbox.shell("mairix -f rc", sandbox.home)
+        written = (sandbox.home / "index").read_bytes() if status == 0 else b""
+        yield "bytes in INDEX-FORMAT.md", "" if told == written else f"status {status}, printed {printed!r}: the program writes {written.hex()}"
+
+
+# ---- callers
+
+
+def caller_checks():
+    """What a crate's page shows of a caller stands so in the file that it names."""
+    for page in sorted((TOP / "crates").glob("*/README.md")):
+        text = page.read_text(encoding="utf-8")
+        shown = re.findall(r"From `([^`]+)`:\n\n```rust\n(.*?)\n```", text, re.S)
+        other = [f"a piece of {path}" for path, block in shown for piece in block.split("\n\n") if piece not in (TOP / path).read_text(encoding="utf-8")]
+        yield f"callers of {page.parent.name}", ", ".join(other)
+        lines = text.count("\n")
+        yield f"length of the page of {page.parent.name}", "" if lines <= MOST_LINES else f"{lines} lines"
+
+
 # ---- form
 
 
@@ -193,9 +247,14 @@ def versions(program):
 
 def form_checks(program):
     yield "versions in the manual pages", ", ".join(versions(program))
-    for page in MARKDOWN:
+    for page in PAGES:
         links = re.findall(r"\]\(([^)#:]+)\)", page.read_text(encoding="utf-8"))
         yield f"links of {page.name}", ", ".join(it for it in links if not (page.parent / it).exists())
+        wide = [f"line {number}" for number, line in enumerate(page.read_text(encoding="utf-8").splitlines(), 1) if len(line) > PAGE_WIDTH and line[:1] != "|"]
+        yield f"width of {page.name}", ", ".join(wide)
+    for page, most in MOST_WORDS.items():
+        count = len(page.read_text(encoding="utf-8").split())
+        yield f"words of {page.name}", "" if count <= most else f"{count} words, more than {most}"
     # Those that are there have a look; none of them has to be.
     tries = [(["groff", "-man", "-Tutf8", "-ww"], page) for page in MANUAL]
     tries += [([shell, "-n"], path) for shell, path in (("bash", BASH), ("zsh", ZSH), ("fish", FISH))]
@@ -261,6 +320,8 @@ def all_checks(program):
     yield "texts of faults", differences("text of a fault", told_texts(), fault_tags())
     yield from prefix_checks()
     yield from help_checks(program)
+    yield from format_checks(program)
+    yield from caller_checks()
     yield from form_checks(program)
     yield from install_checks(program)
     yield from dist_checks()

@@ -8,8 +8,8 @@ The last line is `N passed, M failed`.
 import hashlib, os, stat, subprocess, sys, tempfile, time
 
 import overlapping_runs
-from overlapping_runs import HELLO, SEPARATOR
-from program_cases import CASES, CHANGED, HELLO_INDEX, INDEX, LINK, ONCE, RAW, RC, STORED, TWO, fault
+from overlapping_runs import HELLO, SEPARATOR, hello_index, shim
+from program_cases import CASES, CHANGED, HELLO_INDEX, INDEX, LEFT, LINK, ONCE, RAW, RC, STORED, TWO, fault
 
 
 def write(folder, files):
@@ -22,6 +22,8 @@ def write(folder, files):
         else:
             with open(path, "wb") as f:
                 f.write(body)
+            if isinstance(body, LEFT):
+                os.chmod(path, 0o600)
 
 
 def same(want, got):
@@ -156,30 +158,118 @@ def file_of_another(program):
 
 
 def name_of_a_pipe(program):
-    """A pipe that has the name of the index or of the answer keeps it."""
+    """A pipe that has the name of the index or of the answer keeps it, and so does a link to one."""
     bad = []
-    for name, words, _ in MADE:
+    for pipe in ("m.idx", "hits", "pipe"):
+        for name, words, _ in MADE:
+            with tempfile.TemporaryDirectory() as folder:
+                write(folder, {"rc": RC, "m.mbox": HELLO})
+                os.mkfifo(os.path.join(folder, pipe))
+                if pipe != name:
+                    write(folder, {name: LINK([pipe])})
+                before = sorted(os.listdir(folder))
+                p = run(program, words, folder, capture_output=True)
+                if (p.returncode, p.stdout, p.stderr) != (4, b"", fault(b"cannot open " + name.encode())):
+                    bad.append("%s: status %d, %r" % (name, p.returncode, p.stderr))
+                if not stat.S_ISFIFO(os.stat(os.path.join(folder, name)).st_mode) or sorted(os.listdir(folder)) != before:
+                    bad.append("%s: it left %s" % (name, sorted(os.listdir(folder))))
+    return bad
+
+
+def foreign_leftovers(program):
+    """A file under the passing name that begins as a run's, but of another mode or owner, stays, and the run is refused."""
+    bad = []
+    another = [(0o600, 65534)] if os.geteuid() == 0 else []
+    for mode_left, owner in [(0o400, -1), (0o640, -1), (0o644, -1), (0o700, -1), (0o4600, -1), *another]:
+        for name, words, whole in MADE:
+            with tempfile.TemporaryDirectory() as folder:
+                write(folder, {"rc": RC, "m.mbox": HELLO, name: b"old", name + ".new": whole})
+                path = os.path.join(folder, name + ".new")
+                os.chown(path, owner, -1)
+                os.chmod(path, mode_left)
+                before, number = contents(folder), os.lstat(path).st_ino
+                p = run(program, words, folder, capture_output=True)
+                kept = contents(folder) == before and os.lstat(path).st_ino == number and mode(path) == mode_left
+                if (p.returncode, p.stderr) != (4, fault(b"cannot open %s.new" % name.encode())) or not kept:
+                    bad.append("%s, mode %o of %d: status %d, %r" % (name, mode_left, owner, p.returncode, p.stderr))
+    return bad
+
+
+def link_to_a_file(program):
+    """A link to what standard output is, where that is a file, keeps its name, as /dev/stdout does."""
+    with tempfile.TemporaryDirectory() as folder:
+        write(folder, {"rc": RC, "m.mbox": HELLO, "l": LINK(["/proc/self/fd/1"])})
+        before = contents(folder)
+        with tempfile.TemporaryFile() as out:
+            p = run(program, ONCE + ["-o", "l", "s:hello"], folder, stdout=out, stderr=subprocess.PIPE)
+            printed = os.fstat(out.fileno()).st_size
+        good = (p.returncode, p.stderr, printed, contents(folder)) == (4, fault(b"cannot open l"), 0, before)
+        return [] if good else ["status %d, %r" % (p.returncode, p.stderr)]
+
+
+def large_no_index(program):
+    """A large file or a device that is no index, or one of another version, is refused by its first bytes; what begins as an index is read."""
+    bad = []
+    texts = {b"": (3, b"index: bad magic"), HELLO_INDEX[:8] + bytes(4): (3, b"index: unknown version"), HELLO_INDEX[:99]: (5, b"out of memory")}
+    for front, (status, text) in texts.items():
         with tempfile.TemporaryDirectory() as folder:
-            write(folder, {"rc": RC, "m.mbox": HELLO})
-            path = os.path.join(folder, name)
-            os.mkfifo(path)
-            p = run(program, words, folder, capture_output=True)
-            if (p.returncode, p.stdout, p.stderr) != (4, b"", fault(b"cannot open " + name.encode())):
-                bad.append("%s: status %d, %r" % (name, p.returncode, p.stderr))
-            if not stat.S_ISFIFO(os.lstat(path).st_mode) or sorted(os.listdir(folder)) != sorted(["rc", "m.mbox", name]):
-                bad.append("%s: it left %s" % (name, sorted(os.listdir(folder))))
+            write(folder, {"rc": RC, "m.mbox": HELLO, "m.idx": front, "hits": b"old"})
+            # Without blocks of its own, so that it costs nothing.
+            os.truncate(os.path.join(folder, "m.idx"), 1 << 30)
+            for words in (["s:hello"], ["-r", "s:hello"]):
+                p = limited(program, "ulimit -v 200000", INDEX + words, folder)
+                with open(os.path.join(folder, "hits"), "rb") as f:
+                    left = f.read()
+                if (p.returncode, p.stdout, p.stderr, left, len(os.listdir(folder))) != (status, b"", fault(text), b"old", 4):
+                    bad.append("%r: status %d, %r" % (front, p.returncode, p.stderr))
+    for pattern, status, text in (("s:hello", 3, b"index: bad magic"), ("q:x", 2, b"query item 1: bad prefix")):
+        with tempfile.TemporaryDirectory() as folder:
+            write(folder, {"rc": RC, "m.mbox": HELLO, "m.idx": LINK(["/dev/zero"])})
+            p = limited(program, "ulimit -v 200000", STORED + [pattern], folder)
+            if (p.returncode, p.stdout, p.stderr) != (status, b"", fault(text)):
+                bad.append("/dev/zero, %s: status %d, %r" % (pattern, p.returncode, p.stderr))
+    return bad
+
+
+LIMITS = {
+    "ulimit -n 5": (INDEX, INDEX + ["s:hello"], INDEX + ["--verify", "s:hello"], ONCE + ["s:hello"], ONCE + ["-x", "s:hello"], STORED + ["-t", "s:hello"]),
+    "ulimit -n 4": (STORED + ["s:hello"], INDEX + ["-x", "s:hello"], INDEX + ["--verify", "--stdout", "s:hello"], RAW + ["-t", "s:hello"]),
+    "ulimit -s 64": (INDEX, STORED + ["s:hello"], INDEX + ["s:hello"], INDEX + ["--verify", "-x", "s:hello"], ONCE + ["-t", "--boolean", "subject:hel* or (hi and not x)"], ["-h"], ["-z"]),
+}
+
+
+def low_limits(program):
+    """Five descriptors are enough for any run and four for any that makes no file, also where a killed one left its file, and so is a stack
+    of 64 kB."""
+    bad = []
+    for limit, runs in LIMITS.items():
+        for words in runs:
+            with tempfile.TemporaryDirectory() as folder:
+                write(folder, {"rc": TWO, "m.mbox": HELLO, "n": HELLO * 3000})
+                run(program, INDEX, folder)
+                write(folder, {"m.idx.new": LEFT(HELLO_INDEX[:99]), "hits.new": LEFT(HELLO[:50])})
+                before = contents(folder)
+                want = run(program, words, folder, capture_output=True)
+                made = contents(folder)
+                for name in set(made) - set(before):
+                    os.remove(os.path.join(folder, name))
+                write(folder, {name: LEFT(body) if name.endswith(".new") else body for name, body in before.items()})
+                got = limited(program, limit, words, folder)
+                if (got.returncode, got.stdout, got.stderr, contents(folder)) != (want.returncode, want.stdout, want.stderr, made):
+                    bad.append("%s: %s: status %d, %r" % (limit, words, got.returncode, got.stderr))
     return bad
 
 
 def second_name(program):
-    """A second name (a hard link) of the archive as the index or the answer: the name is replaced, and the archive isn't touched."""
+    """A second name (a hard link) of the archive as the answer is replaced, and the archive isn't touched; as the index it is mail."""
     bad = []
-    for name, words, whole in MADE:
+    for name, words, status, left in (("m.idx", INDEX, 4, HELLO), ("hits", ONCE + ["s:hello"], 0, HELLO)):
         with tempfile.TemporaryDirectory() as folder:
             write(folder, {"rc": RC, "m.mbox": HELLO})
-            os.link(os.path.join(folder, "m.mbox"), os.path.join(folder, name))
+            archive, made = os.path.join(folder, "m.mbox"), os.path.join(folder, name)
+            os.link(archive, made)
             p = run(program, words, folder, capture_output=True)
-            if p.returncode != 0 or contents(folder) != {"rc": RC, "m.mbox": HELLO, name: whole}:
+            if p.returncode != status or contents(folder) != {"rc": RC, "m.mbox": HELLO, name: left} or os.path.samefile(archive, made) != (status == 4):
                 bad.append("%s: status %d, %r" % (name, p.returncode, p.stderr))
     return bad
 
@@ -218,7 +308,7 @@ def want_of_memory(program):
     bad = []
     for name in ("rc", "m.idx"):
         with tempfile.TemporaryDirectory() as folder:
-            write(folder, {"rc": RC, "m.mbox": HELLO, "m.idx": b"", "hits": b"old"})
+            write(folder, {"rc": RC, "m.mbox": HELLO, "m.idx": HELLO_INDEX, "hits": b"old"})
             # Without blocks of its own, so that it costs nothing.
             os.truncate(os.path.join(folder, name), 1 << 40)
             p = limited(program, "ulimit -v 1000000", INDEX + ["s:hello"], folder)
@@ -357,11 +447,40 @@ def clock(program):
     return bad
 
 
+def failing_clock(program):
+    """A range of days that ends now ends at second 0 where the clock fails."""
+    bad = []
+    with tempfile.TemporaryDirectory() as folder:
+        write(folder, {"rc": RC, "m.mbox": SEPARATOR + b"Date: 31 Dec 1969 23:59:59 +0000\n\nx\n\n"})
+        clock = dict(os.environ, LD_PRELOAD=shim(folder, "at_call"), COUNTED="clock ", AT="each")
+        for how, days, status in (("fail", "d:10d-", 0), ("fail", "d:1970", 1), ("none", "d:10d-", 1)):
+            p = run(program, RAW + [days], folder, capture_output=True, env=dict(clock, HOW=how))
+            if p.returncode != status or p.stderr:
+                bad.append("%s, %s: status %d, %r" % (how, days, p.returncode, p.stderr))
+    return bad
+
+
+def far_message(program):
+    """A message that begins past 4 GiB of its archive, whose bytes before that lie nowhere, by an index that was laid out by hand."""
+    begins = (1 << 32) + 29
+    bad = []
+    with tempfile.TemporaryDirectory() as folder:
+        write(folder, {"rc": RC, "m.idx": hello_index("m.mbox", begins=begins)})
+        with open(os.path.join(folder, "m.mbox"), "wb") as f:
+            f.seek(begins)
+            f.write(HELLO)
+        for option, answer in (("-r", b"%d 58 m.mbox\n" % begins), ("-x", b"m.mbox\nTo:\nCc:\nFrom:\nSubject: Hello\nDate:\n"), ("--stdout", HELLO)):
+            p = run(program, INDEX + [option, "s:hello"], folder, capture_output=True)
+            if (p.returncode, p.stdout, p.stderr) != (0, answer, b""):
+                bad.append("%s: status %d, %r, %r" % (option, p.returncode, p.stdout[:200], p.stderr))
+    return bad
+
+
 def main(program):
     program = os.path.abspath(program)
     passed = failed = 0
     checks = [(name, lambda c=c: case(program, *c)) for name, *c in CASES]
-    others = (killed_run, private_file, file_of_another, name_of_a_pipe, second_name, odd_folder, no_room, want_of_memory, large_index, long_answers, index_then_search, full_disk, unreadable, many_archives, clock)
+    others = (killed_run, private_file, file_of_another, name_of_a_pipe, foreign_leftovers, link_to_a_file, large_no_index, low_limits, second_name, odd_folder, no_room, want_of_memory, large_index, long_answers, index_then_search, full_disk, unreadable, many_archives, clock, failing_clock, far_message)
     checks += [(f.__doc__.split(".")[0], lambda f=f: f(program)) for f in others]
     checks += [("overlapping runs: " + name, lambda bad=bad: bad) for name, _, bad in overlapping_runs.checks(program)]
     for name, check in checks:

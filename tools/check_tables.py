@@ -1,10 +1,14 @@
 #!/usr/bin/env python3
 """Compares tables of this repository with outside sources: charsets with Python's codecs, header dates with email.utils, and
-the rows of queries with a second reader.
+the rows of queries with a second reader. And looks for code that counts its steps for itself, which a clause can't always refuse.
 
 The last line is `N passed, M failed`.
 """
-import os, subprocess, sys
+import os, re, subprocess, sys
+from pathlib import Path
+
+sys.dont_write_bytecode = True
+from function_bodies import blanked, bodies_of_file
 
 TOOLS = os.path.dirname(os.path.abspath(__file__))
 DATES = os.path.join(TOOLS, "..", "crates", "worked_messages", "src", "header_dates.rt")
@@ -27,9 +31,27 @@ def same_query_rows():
     return subprocess.run([sys.executable, os.path.join(TOOLS, "query_rows.py")]).returncode == 0
 
 
+# The functions that begin a count of steps: `matches`, `with_threads` and `answer` have no caller's count.
+COUNTING = {"mail_answer::cursor::matches", "mail_answer::threads::join_threads", "mail_answer::numbers::Numbers::walked"}
+
+
+def only_whole_searches_begin_counts():
+    """A cursor, and all below it, looks at postings and records only on the count that its caller hands it."""
+    crate, found = Path(TOOLS, "..", "crates", "mail_answer"), set()
+    for file in sorted(crate.glob("src/**/*.rt")):
+        text, path = blanked(file.read_text(encoding="utf-8")), file.relative_to(crate).as_posix()
+        named = [it.start() for it in re.finditer(r"\bSteps\s*(?:::\s*new\b|\{|\bas\b)", text)]
+        bodies = bodies_of_file(crate.name, path, text)
+        for place in named:
+            found.add(next((name for start, end, name in bodies if start <= place < end), path))
+    for name in sorted(found - COUNTING):
+        print("tables: %s begins a count of steps" % name)
+    return found == COUNTING
+
+
 def main():
     passed = failed = 0
-    for check in (same_charsets, same_header_dates, same_query_rows):
+    for check in (same_charsets, same_header_dates, same_query_rows, only_whole_searches_begin_counts):
         good = check()
         passed, failed = passed + good, failed + (not good)
         print("tables: %s: %s" % (check.__name__, "yes" if good else "NO"))

@@ -12,9 +12,9 @@ import os, signal, subprocess, sys, tempfile
 from dataclasses import dataclass
 
 from check_program import contents, mode, run, write
-from overlapping_runs import SEPARATOR
+from overlapping_runs import SEPARATOR, shim
 from program_cases import INDEX, RC, fault
-from sweep_program import COUNTED, shim
+from sweep_program import COUNTED
 
 # How many calls of a run, or sizes of a disk, are tried for each fault.
 POINTS = 50

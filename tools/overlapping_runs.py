@@ -13,21 +13,21 @@ from dataclasses import dataclass
 SEPARATOR = b"From a@x.org Thu Jan  2 10:00:00 2003\n"
 HELLO = SEPARATOR + b"Subject: Hello\n\nhi\n\n"
 FIRST, SECOND = "m.mbox", "n.mbox"
-LINK = "a link to another file"
 COUNTED = "open create statx flock write fchmod fsync unlink rename "
 
 
-def hello_index(path, version=2, digest=hashlib.sha256(HELLO).digest()):
-    """The index file of HELLO as the archive of this path, laid out by hand: counts, the archive, its message, the keys `hello` of
-    subjects and `hi` of texts, and the digest of all that. Behind an archive's path version 2 has the digest of its bytes."""
+def hello_index(path, version=2, digest=hashlib.sha256(HELLO).digest(), begins=0):
+    """The index file of an archive of this path that has HELLO from an offset on, to its end, laid out by hand: counts, the archive, its
+    message, the keys `hello` of subjects and `hi` of texts, and the digest of all that. Behind an archive's path version 2 has the digest
+    of its bytes."""
     behind = digest if version == 2 else b""
     index = (
         b"MAIRIX\r\n"
         + struct.pack(">IIIIQQQ", version, 1, 1, 2, 12 + len(path) + len(behind), 7, 2)
-        + struct.pack(">QI", 58, len(path))
+        + struct.pack(">QI", begins + 58, len(path))
         + path.encode()
         + behind
-        + struct.pack(">IIQQQq", 0, 0, 0, 58, 19, 0)
+        + struct.pack(">IIQQQq", 0, 0, begins, 58, 19, 0)
         + struct.pack(">IIQQ", 5 << 24, 5, 0, 0)
         + struct.pack(">IIQQ", 6 << 24, 2, 5, 1)
         + b"hellohi"
@@ -43,13 +43,14 @@ def rcfile(archive):
 @dataclass(frozen=True)
 class Made:
     """A file that two runs want to make: its name, the words of such a run behind the rcfile's name, by the archive of a run what that
-    holds and what the whole file is, and how many pairs of calls in eleven are tried."""
+    holds and what the whole file is, what a killed run may leave, and how many pairs of calls in eleven are tried."""
 
     what: str
     name: str
     words: tuple
     mail: dict
     whole: dict
+    half: bytes
     pairs: int
 
     @property
@@ -63,10 +64,19 @@ class Made:
         return b"mairix: cannot open %s\n" % self.passing.encode()
 
 
-AN_INDEX = Made("index", "m.idx", (), {FIRST: HELLO, SECOND: HELLO}, {it: hello_index(it) for it in (FIRST, SECOND)}, 3)
+AN_INDEX = Made("index", "m.idx", (), {FIRST: HELLO, SECOND: HELLO}, {it: hello_index(it) for it in (FIRST, SECOND)}, hello_index(FIRST)[:99], 3)
 TWO_ANSWERS = {FIRST: HELLO, SECOND: HELLO + HELLO}
 # Both files are made by the same steps, so that fewer pairs of calls of a search tell enough.
-AN_ANSWER = Made("answer", "hits", ("--once", "s:hello"), TWO_ANSWERS, TWO_ANSWERS, 1)
+AN_ANSWER = Made("answer", "hits", ("--once", "s:hello"), TWO_ANSWERS, TWO_ANSWERS, HELLO[:50], 1)
+
+
+def shim(room, name):
+    """A library that is loaded before the program's."""
+    built = os.path.join(room, name + ".so")
+    if not os.path.exists(built):
+        source = os.path.join(os.path.dirname(os.path.abspath(__file__)), name + ".c")
+        subprocess.run(["cc", "-O2", "-fPIC", "-shared", "-o", built, source, "-ldl"], check=True)
+    return built
 
 
 def read(path):
@@ -90,7 +100,7 @@ class Run:
             stdout=subprocess.DEVNULL,
             stderr=subprocess.PIPE,
         )
-        self.ended = False
+        self.ended = self.has_made = False
         self.wait(room.file())
 
     def go_on(self):
@@ -128,9 +138,11 @@ class Run:
         file, bad = self.room.file(), self.room.bad
         if file not in (before, self.whole):
             bad.append("the file became %r" % file)
+        # Another run may replace it once it is made.
+        self.has_made = self.has_made or file == self.whole
         if not self.ended:
             return
-        if self.status == 0 and (file != self.whole or self.text):
+        if self.status == 0 and (not self.has_made or self.text):
             bad.append("a run of status 0 left %r and told %r" % (file, self.text))
         elif self.status not in (0, 4, -signal.SIGKILL):
             bad.append("status %d" % self.status)
@@ -140,7 +152,7 @@ class Run:
 
 class Room:
     """A folder with two archives and an rcfile for each, both of one index and one answer, with what has the file's name, and its
-    passing name: nothing, the bytes of a file, or LINK."""
+    passing name: nothing, or the bytes of a file that is private there."""
 
     def __init__(self, program, shim, top, made, old, left):
         self.program, self.shim, self.made, self.bad = program, shim, made, []
@@ -148,11 +160,9 @@ class Room:
         files = {**made.mail, "rc." + FIRST: rcfile(FIRST), "rc." + SECOND: rcfile(SECOND), "other": b"mine"}
         self.at_end = sorted([*files, made.name])
         for name, body in {**files, made.name: old, made.passing: left}.items():
-            path = os.path.join(self.folder, name)
-            if body == LINK:
-                os.symlink("other", path)
-            elif body is not None:
-                with open(path, "wb") as f:
+            if body is not None:
+                with open(os.path.join(self.folder, name), "wb") as f:
+                    os.chmod(f.fileno(), 0o600 if name == made.passing else 0o644)
                     f.write(body)
 
     def file(self):
@@ -217,8 +227,10 @@ def first_fails(room, names, n):
     """Call n of the first fails, and it tells of it, but for calls whose failure says nothing; the second makes its file."""
     first = Run(room, FIRST, n, "fail")
     told = {"create": room.made.busy, "flock": room.made.busy, "write": b"mairix: output failed\n"}
-    told.update({name: told["write"] for name in ("fchmod", "fsync", "rename")})
-    want = told.get(names[n - 1])
+    told.update({name: told["write"] for name in ("fsync", "rename")})
+    # The first makes the file private, and the second, once it has its name, gives it the old file's mode.
+    told["fchmod"] = room.made.busy if names.index("fchmod") == n - 1 else None
+    want = told.get(names[n - 1]) if n <= len(names) else None
     if want and (first.status, first.text) != (4, want):
         room.bad.append("the first has status %d and tells %r" % (first.status, first.text))
     second = Run(room, SECOND)
@@ -273,37 +285,37 @@ PAIRS = (both_wait, second_ends_first, second_is_killed, second_fails, waiting_i
 
 
 def order(names):
-    """All of a file is on the disk, with its mode, before it takes its name."""
-    last_write = len(names) - 1 - names[::-1].index("write")
-    ok = last_write < names.index("fchmod") < names.index("fsync") < names.index("rename")
+    """A file is private before anything is written, all of it is on the disk before it takes its name, and it has the old file's mode after
+    that."""
+    last_write, last_mode = (len(names) - 1 - names[::-1].index(name) for name in ("write", "fchmod"))
+    ok = names.index("fchmod") < names.index("write") <= last_write < names.index("fsync") < names.index("rename") < last_mode
     return [] if ok else ["the calls were %s" % " ".join(names)]
 
 
-def overlaps_of(names, pairs):
+def overlaps_of(names, made):
     """Each overlap of two runs with these calls: what the two do, what was left, and at which calls; of pairs of calls so many in eleven."""
-    # What was left adds calls: it is opened, locked, looked at by name and as it is open, and removed.
-    each = range(1, len(names) + 6)
-    lefts = (None, b"half", LINK)
+    # What was left adds calls: it is opened, locked, looked at by name, as it is open and again, as is its owner, and it is removed.
+    each = range(1, len(names) + 8)
+    lefts = (None, b"", made.half)
     yield from ((second_runs, None, (n,)) for n in each[: len(names)])
     yield from ((first_fails, None, (n,)) for n in each[: len(names)])
     yield from ((f, left, (n,)) for f in (second_clears_too, first_is_killed, first_waits_twice) for left in lefts for n in each)
     # What was left is each in turn.
-    yield from ((f, lefts[(n + m) // 11 % 3], (n, m)) for f in PAIRS for n in each for m in each if (n + 3 * m) % 11 < pairs)
+    yield from ((f, lefts[(n + m) // 11 % 3], (n, m)) for f in PAIRS for n in each for m in each if (n + 3 * m) % 11 < made.pairs)
 
 
 def checks(program):
     """Each check, by its name: how many overlaps it tried, and what was wrong in them."""
-    here = os.path.dirname(os.path.abspath(__file__))
     with tempfile.TemporaryDirectory() as top:
-        shim = os.path.join(top, "at_call.so")
-        subprocess.run(["cc", "-O2", "-fPIC", "-shared", "-o", shim, os.path.join(here, "at_call.c"), "-ldl"], check=True)
+        library = shim(top, "at_call")
         for made in (AN_INDEX, AN_ANSWER):
-            names = calls(Room(program, shim, top, made, None, None))
-            yield made.what + ": order of the calls", 1, order(names)
+            names = {old: calls(Room(program, library, top, made, old, None)) for old in (None, b"old")}
+            yield made.what + ": order of the calls", 2, [text for it in names.values() for text in order(it)]
             found = {}
-            for number, (f, left, at) in enumerate(overlaps_of(names, made.pairs)):
-                room = Room(program, shim, top, made, b"old" if number % 2 else None, left)
-                f(room, names, *at)
+            for number, (f, left, at) in enumerate(overlaps_of(max(names.values(), key=len), made)):
+                old = b"old" if number % 2 else None
+                room = Room(program, library, top, made, old, left)
+                f(room, names[old], *at)
                 tried, bad = found.setdefault(f, (0, []))
                 found[f] = tried + 1, bad + ["at %s: %s" % (at, text) for text in room.close()]
             for f, (tried, bad) in found.items():

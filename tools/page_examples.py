@@ -8,6 +8,8 @@ In a manual page:
 
 In Markdown:
 - a block ```console, read like a display; a line `> ..` goes on with the command before it, and `...` stands for any lines;
+- a block ```sh is run whole, and prints the block ```text that stands behind it and before the next one, or nothing; one that begins with
+  `make` is left out;
 - a block ```sh that begins with `#!` and `# NAME` is a script of that name;
 - a row of a table whose last two columns are a command in backquotes and a REPLY.
 
@@ -133,10 +135,28 @@ def rcfile_faults(lines, sandbox):
 
 
 def markdown_sessions(lines):
-    for place, line in enumerate(lines):
-        if line == "```console":
-            end = lines.index("```", place)
-            yield place + 1, steps_of(lines[place + 1 : end])
+    for place, kind, block in blocks_of(lines):
+        if kind == "console":
+            yield place, steps_of(block)
+        if kind == "sh" and not block[0].startswith(("#!", "make ")):
+            yield place, [("\n".join(block), text_behind(lines, place))]
+
+
+def blocks_of(lines):
+    """Each block of a page: its line, its kind and its lines."""
+    place = 0
+    while place < len(lines):
+        if lines[place].startswith("```"):
+            end = lines.index("```", place + 1)
+            yield place + 1, lines[place][3:], lines[place + 1 : end]
+            place = end
+        place += 1
+
+
+def text_behind(lines, place):
+    """The lines of the first block behind the one at this line, if it is of text."""
+    behind = next((it for it in blocks_of(lines) if it[0] > place), None)
+    return behind[2] if behind and behind[1] == "text" else []
 
 
 def markdown_scripts(lines):

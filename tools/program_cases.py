@@ -1,6 +1,6 @@
 """What the built program is run on, and what it has to answer, worked out by hand.
 
-Each case: its name, the files (None: a folder; a LINK: a link), the words, the status, standard output, standard error, and the files
+Each case: its name, the files (None: a folder; a LINK: a link; a LEFT: a private file, as a run makes it), the words, the status, standard output, standard error, and the files
 that it changes (None: no such file any more). An Ellipsis stands for anything that isn't empty.
 """
 import hashlib
@@ -8,6 +8,12 @@ import hashlib
 from overlapping_runs import HELLO, SEPARATOR, hello_index
 
 LINK = tuple
+
+
+class LEFT(bytes):
+    """What a killed run may have left."""
+
+
 RC = b"mbox=m.mbox\ndatabase=m.idx\nmfolder=hits\n"
 TWO = b"mbox=m.mbox:n\ndatabase=m.idx\nmfolder=hits\n"
 INDEX = ["-f", "rc"]
@@ -129,10 +135,12 @@ INDEX_CASES = [
     ("an index with a second archive that is no mbox", {"m.mbox": HELLO, "n": b"x\n", "m.idx": b"old", "rc": b"mbox=m.mbox:n\ndatabase=m.idx\nmfolder=h\n"}, INDEX, 4, b"", fault(b"archive 2: not an mbox")),
     ("an index of a missing archive", {"m.idx": b"old"}, INDEX, 4, b"", fault(b"cannot open m.mbox")),
     ("an index of a folder", {"m.mbox": None, "m.idx": b"old"}, INDEX, 4, b"", fault(b"archive 1: read failed")),
-    ("an index where a killed run left a file", {"m.mbox": HELLO, "m.idx.new": b"half"}, INDEX, 0, b"", b"", {"m.idx": HELLO_INDEX, "m.idx.new": None}),
-    ("no index where a killed run left a file", {"m.mbox": b"hello\n", "m.idx": b"old", "m.idx.new": b"half"}, INDEX, 4, b"", fault(b"archive 1: not an mbox"), {"m.idx.new": None}),
-    ("an index where a link was left", {"m.mbox": HELLO, "other": b"mine", "m.idx.new": LINK(["other"])}, INDEX, 0, b"", b"", {"m.idx": HELLO_INDEX, "m.idx.new": None}),
-    ("an index where a link to nothing was left", {"m.mbox": HELLO, "m.idx.new": LINK(["nowhere"])}, INDEX, 0, b"", b"", {"m.idx": HELLO_INDEX, "m.idx.new": None}),
+    *(("an index where a killed run left %d bytes" % len(left), {"m.mbox": HELLO, "m.idx.new": LEFT(left)}, INDEX, 0, b"", b"", {"m.idx": HELLO_INDEX, "m.idx.new": None}) for left in (b"", b"M", HELLO_INDEX[:8], HELLO_INDEX[:99], HELLO_INDEX)),
+    ("no index where a killed run left a file", {"m.mbox": b"hello\n", "m.idx": b"old", "m.idx.new": LEFT(HELLO_INDEX[:99])}, INDEX, 4, b"", fault(b"archive 1: not an mbox"), {"m.idx.new": None}),
+    *(("an index where no run left %r" % (left[:4],), {"m.mbox": HELLO, "other": LEFT(HELLO_INDEX), "m.idx.new": left}, INDEX, 4, b"", fault(b"cannot open m.idx.new")) for left in (LEFT(b"half"), LEFT(b"MAIL"), LEFT(HELLO), LEFT(b"\n"), HELLO_INDEX[:99], LINK(["other"]), LINK(["nowhere"]))),
+    *(("an index in place of mail", {"m.mbox": HELLO, "m.idx": mail}, INDEX, 4, b"", fault(b"cannot open m.idx")) for mail in (GOODBYE, b"\n\r\n" + GOODBYE, GOODBYE * 4000, SEPARATOR[:-1])),
+    ("an index in place of a link to mail", {"m.mbox": HELLO, "other": GOODBYE, "m.idx": LINK(["other"])}, INDEX, 4, b"", fault(b"cannot open m.idx")),
+    *(("an index in place of what is no mail", {"m.mbox": HELLO, "m.idx": other}, INDEX, 0, b"", b"", {"m.idx": HELLO_INDEX}) for other in (b"", b"\n\n", b"From here on\n", b"x\n\n" + GOODBYE, HELLO_INDEX[:50])),
     ("a folder under the new name", {"m.mbox": HELLO, "m.idx": b"old", "m.idx.new": None}, INDEX, 4, b"", fault(b"cannot open m.idx.new")),
     ("a folder under the index's name", {"m.mbox": HELLO, "m.idx": None}, INDEX, 4, b"", fault(b"output failed")),
     ("an index in a missing folder", {"m.mbox": HELLO, "rc": b"mbox=m.mbox\ndatabase=d/m.idx\nmfolder=h\n"}, INDEX, 4, b"", fault(b"cannot open d/m.idx.new")),
@@ -247,9 +255,12 @@ STORED_CASES = [
 REFUSED_ANSWERS = [
     ("a bad query leaves an old answer", {"m.mbox": HELLO, "hits": b"old"}, ONCE + ["q:x"], 2, b"", fault(b"query item 1: bad prefix")),
     ("no mbox leaves an old answer", {"m.mbox": b"hello\n", "hits": b"old"}, ONCE + ["s:hello"], 4, b"", fault(b"archive 1: not an mbox")),
-    ("an answer where a killed run left a file", {"m.mbox": HELLO, "hits.new": b"half"}, ONCE + ["s:hello"], 0, b"", b"", {"hits": HELLO, "hits.new": None}),
-    ("no answer where a killed run left a file", {"m.mbox": HELLO, "hits": b"old", "hits.new": b"half"}, ONCE + ["q:x"], 2, b"", fault(b"query item 1: bad prefix"), {"hits.new": None}),
-    ("an answer where a link was left", {"m.mbox": HELLO, "other": b"mine", "hits.new": LINK(["other"])}, ONCE + ["s:hello"], 0, b"", b"", {"hits": HELLO, "hits.new": None}),
+    *(("an answer where a killed run left %d bytes" % len(left), {"m.mbox": HELLO, "hits.new": LEFT(left)}, ONCE + ["s:hello"], 0, b"", b"", {"hits": HELLO, "hits.new": None}) for left in (b"", b"Fro", SEPARATOR[:20], SEPARATOR, GOODBYE * 3000)),
+    ("no answer where a killed run left a file", {"m.mbox": HELLO, "hits": b"old", "hits.new": LEFT(HELLO[:50])}, ONCE + ["q:x"], 2, b"", fault(b"query item 1: bad prefix"), {"hits.new": None}),
+    *(("an answer where no run left %r" % (left[:4],), {"m.mbox": HELLO, "other": LEFT(HELLO), "hits.new": left}, ONCE + ["s:hello"], 4, b"", fault(b"cannot open hits.new")) for left in (LEFT(b"half"), LEFT(b"From here on\n"), LEFT(b"\n" + HELLO), LEFT(HELLO_INDEX), HELLO, LINK(["other"]), LINK(["nowhere"]))),
+    *(("an answer in place of a link to %s" % place, {"m.mbox": HELLO, "hits": LINK([place])}, ONCE + ["s:hello"], 4, b"", fault(b"cannot open hits")) for place in ("/dev/null", "/proc/self/fd/1", "/proc/self/fd/0")),
+    ("an index in place of a link to a device", {"m.mbox": HELLO, "m.idx": LINK(["/dev/null"])}, INDEX, 4, b"", fault(b"cannot open m.idx")),
+    ("no index in a device", {"m.mbox": HELLO, "m.idx": LINK(["/dev/null"]), "hits": b"old"}, INDEX + ["s:hello"], 3, b"", fault(b"index: too short")),
     ("an answer in place of a link", {"m.mbox": HELLO, "other": b"mine", "hits": LINK(["other"])}, ONCE + ["s:hello"], 0, b"", b"", {"hits": HELLO}),
     ("a folder under an answer's new name", {"m.mbox": HELLO, "hits.new": None}, ONCE + ["s:hello"], 4, b"", fault(b"cannot open hits.new")),
     ("a folder under an answer's name", {"m.mbox": HELLO, "hits": None}, ONCE + ["s:hello"], 4, b"", fault(b"output failed")),

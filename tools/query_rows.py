@@ -11,7 +11,7 @@ import os, re, sys
 CRATES = os.path.join(os.path.dirname(os.path.abspath(__file__)), "..", "crates")
 PROOFS = os.path.join(CRATES, "mail_query", "proofs")
 TABLES = os.path.join(CRATES, "worked_queries", "src")
-FEWEST = 450  # texts, in all
+FEWEST = 490  # texts, in all
 MOST_WAITING = 30
 SIZE_LIMIT = 2**63 - 1
 KINDS = ["to", "cc", "bcc", "from", "subject", "body", "name", "own_id"]
@@ -79,12 +79,8 @@ def nested(query):
     return shown(query) if len(query) == 1 else "(%s)" % shown(query)
 
 
-def shown_fault(refused):
-    return "(record { number = %d; kind = %s })" % refused
-
-
-def shown_answer(query, refused):
-    return "Ok " + nested(query) if query else "Err " + shown_fault(refused)
+def row_answer(query, refused):
+    return "Asks " + nested(query) if query else "Shows %d %s" % refused
 
 
 # ---- queries as tables tell them
@@ -399,15 +395,14 @@ def boolean_answer(text):
 
 def unquoted(text):
     return [re.sub(r"\\(.)", lambda found: {"n": "\n", "t": "\t"}.get(found[1], found[1]), quoted)
-            for quoted in re.findall(r'\(codes "((?:[^"\\]|\\.)*)"\)|\[\](?= ∷)', text)]
+            for quoted in re.findall(r'codes "((?:[^"\\]|\\.)*)"|\[\](?= ∷)', text)]
 
 
-def rows(name, left):
-    """The rows of a file: what stands in place of the dots of `left`, and the answer."""
+def rows(name):
+    """The rows of a file: a text, or the list of patterns, and what it asks, or the fault that it shows."""
+    row = r'^(?:rows :|    ×) (Asks|Shows) (\[\]|\((?:codes "(?:[^"\\]|\\.)*"|\[\]| ∷ )+\)) (.*)$'
     with open(os.path.join(PROOFS, name), encoding="utf-8") as f:
-        found = re.findall(r"^(\w+) : (.*) ≡ (.*)$", f.read(), re.M)
-    head, tail = left.split("..")
-    return [(what[len(head) : len(what) - len(tail)], answer) for _, what, answer in found if what.startswith(head)]
+        return [(text, "%s %s" % (word, answer)) for word, text, answer in re.findall(row, f.read(), re.M)]
 
 
 def table(name):
@@ -427,13 +422,10 @@ def main():
         if wanted != answer:
             wrong.append((text, wanted, answer))
 
-    for text, answer in rows("RowsMairix.antt", "patterns_query toy (..)"):
-        compare("patterns " + text, shown_answer(*patterns_answer(unquoted(text))), answer)
-    for text, answer in rows("RowsBoolean.antt", "tokens_query toy (tokens ..)"):
-        compare("boolean " + text, shown_answer(*boolean_answer("".join(unquoted(text)))), answer)
-    for text, answer in rows("RowsBoolean.antt", "first_fault toy (tokens ..)"):
-        query, refused = boolean_answer("".join(unquoted(text)))
-        compare("boolean " + text, "None" if query else "Some " + shown_fault(refused), answer)
+    for text, answer in rows("RowsMairix.antt"):
+        compare("patterns " + text, row_answer(*patterns_answer(unquoted(text))), answer)
+    for text, answer in rows("RowsBoolean.antt"):
+        compare("boolean " + text, row_answer(*boolean_answer("".join(unquoted(text)))), answer)
     lexicon = MAIL_LEXICON
     for text, answer in table("patterns.rt"):
         compare("patterns %s of mail" % text, told_answer(*patterns_answer(text.split(", ") if text else [])), answer)

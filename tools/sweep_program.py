@@ -11,7 +11,7 @@ import os, subprocess, sys, tempfile
 from dataclasses import dataclass, field
 
 from check_program import contents, run, write
-from overlapping_runs import HELLO
+from overlapping_runs import HELLO, shim
 from program_cases import ALICE, ALICE_EXCERPT, CHANGED, FIRST_OF_THREAD, HELLO_INDEX, INDEX, ONCE, RC, SECOND_OF_THREAD, STORED, THREAD, fault
 
 MOST = 20_000
@@ -37,31 +37,38 @@ def whole(name):
 
 
 def searched(name):
-    """The calls on an archive of a stored index: it is opened and closed, its length is asked, and it is read where a message stands."""
-    return {"open " + name: [unopened(name), UNREAD], "statx " + name: [UNREAD], "read_at " + name: [UNREAD]}
+    """The calls on an archive of a stored index: it is opened, looked at and closed, its length is asked, and it is read where a message
+    stands, and looked at again."""
+    return {"open " + name: [unopened(name), UNREAD], "statx " + name: [unopened(name), UNREAD], "read_at " + name: [UNREAD]}
 
 
 def indexed(name):
-    """The calls on an archive that is indexed: it is opened and closed, and read to its end."""
-    return {"open " + name: [unopened(name), UNINDEXED], "read " + name: [UNINDEXED]}
+    """The calls on an archive that is indexed: it is opened, looked at and closed, and read to its end."""
+    return {"open " + name: [unopened(name), UNINDEXED], "statx " + name: [unopened(name)], "read " + name: [UNINDEXED]}
+
+
+def looked_at(name):
+    """The calls on an old index that is to be replaced: its beginning is read."""
+    return {call + name: [unopened(name)] for call in ("open ", "read ")}
 
 
 def found(name):
-    """The calls that come before a file is written: what was left is looked for, it is made, locked, and seen to be the one that was
-    locked."""
+    """The calls that come before a file is written: what was left is looked for, it is made, locked, seen to be the one that was locked,
+    and made private."""
     new = name + ".new"
-    return {"create " + new: [unopened(new)], "flock " + new: [unopened(new)], "statx " + new: [unopened(new)] * 3 + [None]}
+    told = {call + new: [unopened(new)] for call in ("create ", "flock ", "fchmod ")}
+    return {**told, "statx " + new: [unopened(new)] * 3 + [None]}
 
 
 def made(name):
-    """And those after that, which give it its name."""
+    """And those after that, which give it its name. Without the old mode it stays private."""
     new = name + ".new"
-    told = {call + new: [UNWRITTEN] for call in ("write ", "fchmod ", "fsync ", "rename ")}
+    told = {call + new: [UNWRITTEN] for call in ("write ", "fsync ", "rename ")}
     return {**found(name), **told, "statx " + new: [unopened(new)] * 3 + [UNWRITTEN]}
 
 
 STORED_CALLS = {**whole("rc"), **whole("m.idx"), **searched("m.mbox")}
-ONCE_CALLS = {**whole("rc"), **indexed("m.mbox"), "open m.mbox": [unopened("m.mbox"), UNINDEXED, UNREAD], "statx m.mbox": [UNREAD], "read_at m.mbox": [UNREAD]}
+ONCE_CALLS = {**whole("rc"), **indexed("m.mbox"), "open m.mbox": [unopened("m.mbox"), UNINDEXED, UNREAD], "statx m.mbox": [unopened("m.mbox"), UNINDEXED, UNINDEXED, UNREAD], "read_at m.mbox": [UNREAD]}
 PRINT_CALLS = {"print output": [UNWRITTEN]}
 
 
@@ -122,14 +129,14 @@ def swept_runs(program):
     thread = {**THREAD, "m.idx": index_of(THREAD, program), "hits": b"old"}
     threads = FIRST_OF_THREAD + SECOND_OF_THREAD
     return [
-        Swept("an index run", {**hello, "m.idx": b"old"}, INDEX, changes={"m.idx": HELLO_INDEX}, told={**whole("rc"), **indexed("m.mbox"), **made("m.idx")}),
+        Swept("an index run", {**hello, "m.idx": b"old"}, INDEX, changes={"m.idx": HELLO_INDEX}, told={**whole("rc"), **indexed("m.mbox"), **looked_at("m.idx"), **made("m.idx")}),
         Swept("lines", hello, STORED + ["s:hello"], out=b"0 58 m.mbox\n", told={**STORED_CALLS, **PRINT_CALLS}),
         Swept("excerpts", alice, INDEX + ["-x", "t:alice"], out=ALICE_EXCERPT, told={**STORED_CALLS, **PRINT_CALLS}),
         Swept("threads", thread, INDEX + ["--stdout", "-t", "b:hi"], out=threads, told={**STORED_CALLS, **searched("n"), **PRINT_CALLS}),
         Swept("an mbox", hello, INDEX + ["s:hello"], changes={"hits": HELLO}, told={**STORED_CALLS, **made("hits")}),
         Swept("no message", hello, INDEX + ["s:goodbye"], 1, changes={"hits": b""}, told={**STORED_CALLS, **made("hits")}),
         Swept("an index in memory", {"m.mbox": HELLO, "hits": b"old"}, ONCE + ["--boolean", "hi"], changes={"hits": HELLO}, told={**ONCE_CALLS, **made("hits")}),
-        Swept("a bad query", hello, INDEX + ["q:x"], 2, err=fault(b"query item 1: bad prefix"), told={**whole("rc"), **whole("m.idx"), "open m.mbox": [unopened("m.mbox")], **found("hits")}),
+        Swept("a bad query", hello, INDEX + ["q:x"], 2, err=fault(b"query item 1: bad prefix"), told={**whole("rc"), **whole("m.idx"), "open m.mbox": [unopened("m.mbox")], "statx m.mbox": [unopened("m.mbox")], **found("hits")}),
         Swept("an archive that has grown", {**hello, "m.mbox": HELLO + HELLO}, INDEX + ["s:hello"], 3, err=CHANGED, told={**STORED_CALLS, **found("hits")}),
         Swept("bad words", {}, ["-z"], 2, err=Swept("", {}, ["-z"]).run(program)[2]),
         Swept("help", {}, ["-h"], out=Swept("", {}, ["-h"]).run(program)[1], told=PRINT_CALLS),
@@ -183,15 +190,6 @@ def met(how, swept, program, room, moves):
 def one_byte(swept, program, room):
     """Every call moves one byte alone."""
     return 1, swept.wrong(swept.run(program, LD_PRELOAD=shim(room, "at_call"), COUNTED=COUNTED, AT="each", HOW="short"))
-
-
-def shim(room, name):
-    """A library that is loaded before the program's."""
-    built = os.path.join(room, name + ".so")
-    if not os.path.exists(built):
-        source = os.path.join(os.path.dirname(os.path.abspath(__file__)), name + ".c")
-        subprocess.run(["cc", "-O2", "-fPIC", "-shared", "-o", built, source, "-ldl"], check=True)
-    return built
 
 
 SWEEPS = (
