@@ -21,6 +21,9 @@ _mairix() {
     [[ " ${COMP_WORDS[*]:0:COMP_CWORD} " == *' --boolean '* ]] && prefixes='from: to: subject: body: id: date:'
     compopt -o nospace 2>/dev/null
     mapfile -t COMPREPLY < <(compgen -W "$prefixes" -- "$word")
+    # Behind a lone match bash would close a quote that the pattern has begun. Of two it takes what they share.
+    [[ $word == [\'\"]* && ${#COMPREPLY[@]} == 1 ]] && COMPREPLY+=("${COMPREPLY[0]}WORD")
+    return 0
 }
 
 complete -F _mairix mairix
