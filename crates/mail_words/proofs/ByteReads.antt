@@ -1,5 +1,5 @@
 -- Loops over the bytes of a text, each a character by itself up to the first beyond ASCII, that count the bytes of its front.
-use Rattle.std.proofs.Common.{◌≡◌, ℕ, ◌+◌, ◌<◌, ◌≤◌, Bool, true, false, ◌&&◌, nat_lt, List, ◌++◌, length, drop, get_or, chars, encode_utf8, encode_utf8_all, IsUtf8, refl, sym, ap, subst, ◌∙◌, arith, add-one, drop-cons}
+use Rattle.std.proofs.Common.{◌≡◌, ℕ, zero, suc, ◌+◌, ◌<◌, ◌≤◌, Bool, true, false, ◌&&◌, nat_lt, List, ◌++◌, length, drop, get_or, chars, encode_utf8, encode_utf8_all, IsUtf8, refl, sym, ap, subst, ◌∙◌, arith, add-one, drop-cons}
 use Rattle.std.proofs.lemmas.Bool.{and_parts, ltb-true}
 use Rattle.std.proofs.lemmas.Str.{encode_ascii, len_utf8_ascii, IsCharBoundary-from_drop}
 use Rattle.std.specs.Char.{is_ascii}
@@ -22,7 +22,7 @@ other_byte p b of_class ascii test fails ascii_test holds =
     (ltb-true b 128 below, ap (λ t. t && p b) (sym below) ∙ sym test ∙ fails)
 
 -- such a byte is the next character
-next_byte : (text : List ℕ) (i : ℕ) → i < length text → get_or text i 0 < 128 → drop i text ≡ encode_utf8 (get_or text i 0) ++ drop (i + 1) text
+pub next_byte : (text : List ℕ) (i : ℕ) → i < length text → get_or text i 0 < 128 → drop i text ≡ encode_utf8 (get_or text i 0) ++ drop (i + 1) text
 next_byte text i within ascii = rw (add-one, encode_ascii (get_or text i 0) ascii) (drop-cons text i 0 within)
 
 -- the text may be cut where it was read to
@@ -41,6 +41,16 @@ front_bytes-pass p text bytes i h same =
     (λ within ascii passes.
     subst (λ n. FrontRead p text (i + n) (drop (i + 1) text)) (len_utf8_ascii (get_or text i 0) ascii)
     (front_read-pass p text i (drop i text) (get_or text i 0) (drop (i + 1) text) h (next_byte text i within ascii) passes))
+
+-- the same over so many bytes
+pub front_bytes-passed : (p : ℕ → Bool) (text bytes : List ℕ) (n : ℕ) → IsUtf8 text → bytes ≡ text → n ≤ length bytes
+    → ((k : ℕ) → k < n → (nat_lt (get_or bytes k 0) 128 && p (get_or bytes k 0)) ≡ true) → FrontRead p text n (drop n text)
+front_bytes-passed p text bytes zero utf8 same within passed = front_bytes-start p text utf8
+front_bytes-passed p text bytes (suc n) utf8 same within passed =
+    let byte = class_byte p (get_or bytes n 0) _ refl (passed n (omega arith)) in
+    let next : n + 1 ≡ suc n = omega arith in
+    subst (λ m. FrontRead p text m (drop m text)) next
+    (front_bytes-pass p text bytes n (front_bytes-passed p text bytes n utf8 same (omega (arith, within)) (λ k below. passed k (omega (arith, below)))) same (omega (arith, within)) byte.0 byte.1)
 
 pub front_bytes-stop : (p : ℕ → Bool) (text bytes : List ℕ) (i : ℕ) → FrontRead p text i (drop i text) → bytes ≡ text → i < length bytes → get_or bytes i 0 < 128
     → p (get_or bytes i 0) ≡ false → i ≡ length (encode_utf8_all (front p (chars text)))

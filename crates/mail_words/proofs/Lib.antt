@@ -5,6 +5,7 @@ pub mod FoldingLemmas
 pub mod FrontReads
 pub mod JoinedEnds
 pub mod Kept
+pub mod LaneRuns
 pub mod Lengths
 pub mod OneWord
 pub mod Order
@@ -17,5 +18,6 @@ mod RowsLimits
 mod RowsUnicode
 pub mod RunLemmas
 pub mod Seams
+pub mod SpacedWords
 pub mod Steps
 pub mod WordTests

@@ -51,6 +51,10 @@ joined_front-joiner c cs e = let no = joiner_is_no_word_character c e in rw (no,
 pub joined_front-other : (c : ℕ) (cs : List ℕ) → is_word_character c ≡ false → is_joiner c ≡ false → joined_front (c ∷ cs) ≡ []
 joined_front-other c cs e f = rw (e, f, joined_front) refl
 
+pub joined_front-none : (cs : List ℕ) → begins is_word_character cs ≡ false → begins is_joiner cs ≡ false → joined_front cs ≡ []
+joined_front-none [] e f = refl
+joined_front-none (c ∷ cs) e f = joined_front-other c cs e f
+
 pub after_joiners-joiner : (c : ℕ) (cs : List ℕ) → is_joiner c ≡ true → after_joiners (c ∷ cs) ≡ after_joiners cs
 after_joiners-joiner c cs e = rw (e, after_joiners) refl
 

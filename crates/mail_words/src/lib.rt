@@ -7,6 +7,7 @@ mod character;
 mod flags;
 mod folding;
 mod kind;
+mod lanes;
 mod laws;
 mod one_word;
 mod runs;

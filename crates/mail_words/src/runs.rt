@@ -5,6 +5,7 @@ ghost use Rattle.mail_words.specs.Inside.Runs.{front, is_other, is_piece, joined
 
 use crate::ascii::{is_ascii_joiner, is_ascii_word_character};
 use crate::character::{is_joiner, is_word_character};
+use crate::lanes::len_by_lanes;
 
 /// A class of characters, told of a character and of a byte.
 trait CharacterClass {
@@ -68,7 +69,8 @@ impl CharacterClass for OfRuns {
 pub(crate) fn plain_len(text: &str) -> usize
     ensures { result ≡ length (encode_utf8_all (front is_word_character (chars text.now))) }
 {
-    front_len::<OfWords>(text)
+    let len = len_by_lanes(text.as_bytes());
+    len + front_len::<OfWords>(text.split_at(len).1)
 }
 
 /// How many bytes the characters before the first word character take.
@@ -93,7 +95,8 @@ fn front_len<C: CharacterClass>(text: &str) -> usize
     text.len()
 }
 
-/// The same, character by character.
+/// The same, character by character. It stands apart, so that it isn't copied into each loop over words.
+#[inline(never)]
 fn front_len_by_characters<C: CharacterClass>(text: &str) -> usize
     ensures { result ≡ length (encode_utf8_all (front C.holds (chars text.now))) }
 {
@@ -107,7 +110,9 @@ fn front_len_by_characters<C: CharacterClass>(text: &str) -> usize
     len
 }
 
-/// How many bytes the run of word characters and joiners at the front takes, without the joiners at its end.
+/// How many bytes the run of word characters and joiners at the front takes, without the joiners at its end. Such runs are rare, so
+/// it stands apart too.
+#[inline(never)]
 pub(crate) fn joined_len(text: &str) -> usize
     ensures { result ≡ length (encode_utf8_all (joined_front (chars text.now))) }
 {

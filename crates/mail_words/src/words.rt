@@ -4,9 +4,10 @@ ghost use Rattle.std.specs.Iterator.{YieldsFirstRef, item_count};
 ghost use Rattle.std.specs.List.{list_all};
 ghost use Rattle.std.specs.Option.{option_copied};
 ghost use Rattle.mail_words.specs.Words.{words, HasWordLength, is_word_character, is_joiner, begins};
-ghost use Rattle.mail_words.specs.Inside.Runs.{words_left, front, behind, long_at};
+ghost use Rattle.mail_words.specs.Inside.Runs.{words_left, front, behind, is_parted, long_at};
 
-use crate::ascii::are_ascii_joiners;
+use crate::ascii::{are_ascii_joiners, is_ascii_word_character};
+use crate::character::is_joiner;
 use crate::runs::{gap_len, joined_len, plain_len};
 use std::marker::Model;
 
@@ -60,6 +61,8 @@ impl<'a> Iterator for Words<'a> {
 
     ghost remaining = { item_count (λ s. s) };
 
+    // Inlined, so that each loop over words keeps what is left of the text in registers.
+    #[inline(always)]
     fn next(&mut self) -> Option<&'a str> {
         if let Some(long) = self.long.take() {
             return Some(long);
@@ -83,6 +86,7 @@ struct WordPlace<'a> {
 }
 
 /// The next place of a text where a word is kept. The text may go on with a run whose long word was looked at.
+#[inline(always)]
 fn next_place(text: &str, in_run: bool) -> Option<WordPlace<'_>>
     ensures { MatchOption result (words_left in_run (chars text.now) ≡ []) (λ p. words_left in_run (chars text.now) ≡ p.plain.now ∷ (option_to_list (option_copied p.long) ++ words_left true (chars p.behind.now))) }
 {
@@ -109,8 +113,18 @@ fn behind_gap(text: &str, in_run: bool) -> (&str, bool)
     ensures begins { 0 < length result.0.now → begins is_word_character (chars result.0.now) ≡ true }
     ensures bound { length result.0.now ≤ length text.now }
 {
+    if is_parted_by_a_space(text.as_bytes()) {
+        return (text.split_at(1).1, false);
+    }
     let (gap, start) = text.split_at(gap_len(text));
     (start, in_run && has_joiners_alone(gap))
+}
+
+/// Whether a space and then a word character of ASCII stand first, as behind most words.
+fn is_parted_by_a_space(bytes: &[u8]) -> bool
+    ensures { result ≡ is_parted bytes.now }
+{
+    bytes.len() > 1 && bytes[0] == b' ' && is_ascii_word_character(bytes[1])
 }
 
 /// Whether each character is a joiner.
@@ -143,7 +157,11 @@ fn long_word(text: &str, plain: usize) -> Option<&str>
     requires { plain ≡ length (encode_utf8_all (front is_word_character (chars text.now))) }
     ensures { option_to_list (option_copied result) ≡ long_at false (chars text.now) }
 {
-    let joined = joined_len(text.split_at(plain).1);
+    let behind = text.split_at(plain).1;
+    if !begins_in_joiner(behind) {
+        return None;
+    }
+    let joined = joined_len(behind);
     if joined == 0 {
         return None;
     }
@@ -152,4 +170,11 @@ fn long_word(text: &str, plain: usize) -> Option<&str>
         return None;
     }
     Some(text.split_at(len).0)
+}
+
+/// Whether there is a first character, and it is a joiner.
+fn begins_in_joiner(text: &str) -> bool
+    ensures { result ≡ begins is_joiner (chars text.now) }
+{
+    text.chars().next().is_some_and(is_joiner)
 }

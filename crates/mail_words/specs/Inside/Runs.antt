@@ -1,5 +1,5 @@
 -- What a reader of words looks for at the front of the characters that are left.
-use Rattle.std.specs.Prelude.{ℕ, Bool, true, false, not, ◌||◌, List, [], ◌∷◌, ◌++◌, length, nat_le, codes, encode_utf8_all, if◌then◌else◌}
+use Rattle.std.specs.Prelude.{ℕ, Bool, true, false, not, ◌&&◌, ◌||◌, ◌==◌, List, [], ◌∷◌, ◌++◌, length, slice_index, nat_le, nat_lt, codes, encode_utf8_all, if◌then◌else◌}
 use Rattle.mail_words.specs.Words.{is_word_character, is_joiner, word_limit, words_behind}
 
 -- the characters at the front that pass, and what follows them
@@ -14,6 +14,14 @@ behind p (c ∷ cs) = elim (p c) [ true ↦ behind p cs | false ↦ c ∷ cs ]
 -- no word character
 abbrev pub is_other : ℕ → Bool
 is_other c = not (is_word_character c)
+
+-- a byte that is a word character by itself
+abbrev pub is_ascii_word : ℕ → Bool
+is_ascii_word b = nat_lt b 128 && is_word_character b
+
+-- the bytes begin with a space and a word character of ASCII
+abbrev pub is_parted : List ℕ → Bool
+is_parted bytes = nat_lt 1 (length bytes) && (slice_index bytes 0 == 0x20 && is_ascii_word (slice_index bytes 1))
 
 -- a word character or a joiner
 abbrev pub is_piece : ℕ → Bool

@@ -1,12 +1,19 @@
 use Rattle.std.proofs.Common.{◌+◌, chars, sym, ap, ◌∙◌, arith}
-use Rattle.mail_words.specs.Words.{is_word_character}
+use Rattle.mail_words.specs.Words.{is_word_character, is_joiner, begins}
 use Rattle.mail_words.specs.Inside.Runs.{front, behind, joined_front, joined_on}
-use Rattle.mail_words.proofs.Seams.{front_seam, seam_boundary, nil_from_bytes}
+use Rattle.mail_words.proofs.Seams.{front_seam, seam_boundary, chars_back, nil_from_bytes}
 use Rattle.mail_words.proofs.Kept.{joined_on-long, length-long_front, long_seam, joined_is, long_at-short}
+use Rattle.mail_words.proofs.RunLemmas.{begins-behind, joined_front-none}
 use Rattle.mail_words.proofs.words.long_word.Goals as goal
 
 pub split_at-requires : goal.split_at-requires
 split_at-requires c = seam_boundary _ _ _ _ (front_seam is_word_character c.args.text.now c.utf8.text) c.requires
+
+pub returns-then-not-begins_in_joiner : goal.returns-then-not-begins_in_joiner
+returns-then-not-begins_in_joiner c =
+    let back = chars_back _ _ _ _ _ (front_seam is_word_character c.args.text.now c.utf8.text) c.requires c.split_at.ensures.back in
+    let apart = ap (begins is_joiner) (sym back) ∙ sym c.begins_in_joiner.ensures ∙ c.if-not-begins_in_joiner.true in
+    sym (ap (joined_on (front is_word_character (chars c.args.text.now))) (joined_front-none (behind is_word_character (chars c.args.text.now)) (begins-behind is_word_character (chars c.args.text.now)) apart))
 
 pub returns-then-joined-eq0 : goal.returns-then-joined-eq0
 returns-then-joined-eq0 c =

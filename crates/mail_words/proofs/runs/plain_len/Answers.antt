@@ -1,0 +1,21 @@
+use Rattle.std.proofs.Common.{arith}
+use Rattle.mail_words.specs.Words.{is_word_character}
+use Rattle.mail_words.proofs.ByteReads.{front_bytes-passed, front_bytes-boundary, front_bytes-more, length-front}
+use Rattle.mail_words.proofs.runs.plain_len.Goals as goal
+
+pub split_at-requires : goal.split_at-requires
+split_at-requires c =
+    let told = c.len_by_lanes-len.ensures in
+    front_bytes-boundary _ _ _ (front_bytes-passed is_word_character c.args.text.now _ _ c.utf8.text c.as_bytes.ensures.value told.within told.passed)
+
+pub overflow_add-result : goal.overflow_add-result
+overflow_add-result c =
+    let told = c.len_by_lanes-len.ensures in
+    let read = front_bytes-passed is_word_character c.args.text.now _ _ c.utf8.text c.as_bytes.ensures.value told.within told.passed in
+    omega (arith, front_bytes-more _ _ _ _ _ read c.split_at.ensures.back c.front_len.ensures, length-front is_word_character _ c.utf8.text, c.as_bytes.ensures.len, c.as_bytes.type_inv.0)
+
+pub returns : goal.returns
+returns c =
+    let told = c.len_by_lanes-len.ensures in
+    let read = front_bytes-passed is_word_character c.args.text.now _ _ c.utf8.text c.as_bytes.ensures.value told.within told.passed in
+    front_bytes-more _ _ _ _ _ read c.split_at.ensures.back c.front_len.ensures
