@@ -70,12 +70,7 @@ IsCut-from c (b ∷ bs) before behind e = go (b == c) refl (cut_at c bs) refl (I
 
 pub Lacks-from : (c : ℕ) (bytes : List ℕ) → cut_at c bytes ≡ None → Lacks c bytes
 Lacks-from c [] e = tt
-Lacks-from c (b ∷ bs) e = go (b == c) refl (cut_at c bs) refl (Lacks-from c bs)
-  where
-    go : (t : Bool) → (b == c) ≡ t → (o : Option (List ℕ × List ℕ)) → cut_at c bs ≡ o → (cut_at c bs ≡ None → Lacks c bs) → Lacks c (b ∷ bs)
-    go true t o f later = absurd (cc (sym (cut_at-yes c b bs t) ∙ e))
-    go false t None f later = (t, later f)
-    go false t (Some p) f later = absurd (cc (sym (cut_at-no c b bs t ∙ ap (put b) f) ∙ e))
+Lacks-from c (b ∷ bs) e = grind (arith, Lacks-from c bs)
 
 -- the front up to a byte is what stands before it
 pub split_while-lacks : (c : ℕ) (before behind : List ℕ) → Lacks c before → split_while (λ b. not (b == c)) (before ++ c ∷ behind) ≡ (before, c ∷ behind)

@@ -6,11 +6,7 @@ use Rattle.header_text.specs.Blanks.{is_blank, split_while, after_blanks, before
 -- the two parts join to the whole
 pub split_while-joined : (p : ℕ → Bool) (bs : List ℕ) → (split_while p bs).0 ++ (split_while p bs).1 ≡ bs
 split_while-joined p [] = refl
-split_while-joined p (b ∷ bs) = go (p b) refl (split_while-joined p bs)
-  where
-    go : (t : Bool) → p b ≡ t → (split_while p bs).0 ++ (split_while p bs).1 ≡ bs → (split_while p (b ∷ bs)).0 ++ (split_while p (b ∷ bs)).1 ≡ b ∷ bs
-    go true e h = rw (e, split_while) (ap (λ (x : List ℕ). b ∷ x) h)
-    go false e h = rw (e, split_while) refl
+split_while-joined p (b ∷ bs) = grind (arith, split_while-joined p bs)
 
 -- the first part is what stands before the second
 pub take-split_while : (p : ℕ → Bool) (bs : List ℕ) → take (length bs - length (split_while p bs).1) bs ≡ (split_while p bs).0

@@ -13,7 +13,7 @@ abbrev field : List ℕ → List ℕ → HeaderField
 field name body = record { name = name; body = body }
 
 -- what is read, and what of it
-abbrev Each : {A B : Type 0} → (A → B) → List (A × B) → Type 0
+abbrev pub Each : {A B : Type 0} → (A → B) → List (A × B) → Type 0
 Each read rows = map (λ row. read row.0) rows ≡ map (λ row. row.1) rows
 
 rows : Each fields_of ((codes "A: b\n" ∷ codes " c\n" ∷ codes "\n" ∷ [], field (codes "A") (codes " b\n c\n") ∷ [])

@@ -1,9 +1,9 @@
 -- The fields of lines, and one line more.
-use Rattle.std.proofs.Common.{◌≡◌, ◌∙◌, ◌+◌, ◌≤◌, ◌<◌, ◌++◌, ◌==◌, ℕ, suc, Bool, true, false, List, [], ◌∷◌, Option, Some, None, length, refl, sym, ap, subst, arith, length-append, append_assoc, append-nil}
+use Rattle.std.proofs.Common.{◌≡◌, ◌∙◌, ◌+◌, ◌≤◌, ◌<◌, ◌++◌, ℕ, Bool, true, false, List, [], ◌∷◌, Option, Some, None, length, refl, sym, ap, subst, arith, length-append, append_assoc, append-nil}
 use Rattle.std.specs.Prelude.{is_some, option_map, IfSome}
 use Rattle.std.specs.Option.{option_to_list}
 use Rattle.header_text.specs.Headers.{HeaderField, is_continuation, field_of_line, with_continuations, continued_and_fields, fields_in, fields_size, named, is_field_name_byte}
-use Rattle.header_text.specs.Blanks.{is_blank, split_while, after_blanks}
+use Rattle.header_text.specs.Blanks.{split_while, after_blanks}
 use Rattle.header_text.specs.OpenFields.{onto_last, is_open_after, is_open_behind, fields_with}
 use Rattle.header_text.proofs.Fronts.{split_while-joined}
 
@@ -123,20 +123,12 @@ fields_size-onto_last l (f ∷ g ∷ fs) = let later = fields_size-onto_last l (
 
 length-after_blanks : (bs : List ℕ) → length (after_blanks bs) ≤ length bs
 length-after_blanks [] = omega arith
-length-after_blanks (b ∷ bs) = go (is_blank b) refl (length-after_blanks bs)
-  where
-    go : (t : Bool) → is_blank b ≡ t → length (after_blanks bs) ≤ length bs → length (after_blanks (b ∷ bs)) ≤ suc (length bs)
-    go true e later = rw (e, after_blanks) (omega arith)
-    go false e later = rw (e, after_blanks) (omega arith)
+length-after_blanks (b ∷ bs) = grind (arith, length-after_blanks bs)
 
 named-size : (name rest : List ℕ) → fields_size (option_to_list (named name rest)) ≤ length name + length rest
 named-size [] rest = omega arith
 named-size (b ∷ name) [] = omega arith
-named-size (b ∷ name) (c ∷ rest) = go (c == 0x3A) refl
-  where
-    go : (t : Bool) → (c == 0x3A) ≡ t → fields_size (option_to_list (named (b ∷ name) (c ∷ rest))) ≤ length (b ∷ name) + length (c ∷ rest)
-    go true e = rw (e, named) (omega arith)
-    go false e = rw (e, named) (omega arith)
+named-size (b ∷ name) (c ∷ rest) = grind arith
 
 field_of_line-size : (l : List ℕ) → fields_size (option_to_list (field_of_line l)) ≤ length l
 field_of_line-size l =
@@ -154,9 +146,4 @@ field_of_line-fits name body (Some f) l e =
 
 -- a line adds no more bytes than it has
 pub fields_size-with : (b : Bool) (l : List ℕ) (fs : List HeaderField) → fields_size (fields_with b l fs) ≤ fields_size fs + length l
-fields_size-with b l fs = go (is_continuation l) refl b
-  where
-    go : (t : Bool) → is_continuation l ≡ t → (u : Bool) → fields_size (fields_with u l fs) ≤ fields_size fs + length l
-    go false e u = rw e (omega (arith, fields_size-append fs (option_to_list (field_of_line l)), field_of_line-size l))
-    go true e true = rw e (fields_size-onto_last l fs)
-    go true e false = rw e (omega arith)
+fields_size-with b l fs = grind (arith, fields_size-append fs (option_to_list (field_of_line l)), field_of_line-size l, fields_size-onto_last l fs)

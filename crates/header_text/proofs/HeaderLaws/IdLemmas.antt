@@ -24,8 +24,7 @@ pub after_last_open-last : (bs : List ℕ) (at : ℕ) → at < length bs → (sl
 after_last_open-last [] at lt is after = absurd (omega arith)
 after_last_open-last (b ∷ bs) zero lt is after =
     ap (judged b bs) (after_last_open-none bs (λ k l. after (suc k) (omega arith) (omega arith))) ∙ rw (is, judged) refl
-after_last_open-last (b ∷ bs) (suc at) lt is after =
-    ap (judged b bs) (after_last_open-last bs at (omega arith) is (λ k low high. after (suc k) (omega arith) (omega arith)))
+after_last_open-last (b ∷ bs) (suc at) lt is after = grind (arith, after_last_open-last bs at (omega arith) is (λ k low high. after (suc k) (omega arith) (omega arith)))
 
 -- ---- text by text
 
@@ -59,29 +58,15 @@ onto_first-short n b (t ∷ ts) h = (omega (arith, h.0), AreShort-more n (suc n)
 
 closed_texts-short : (bs : List ℕ) → AreShort (length bs) (closed_texts bs)
 closed_texts-short [] = tt
-closed_texts-short (b ∷ bs) = go (b == 0x3E) refl (closed_texts-short bs)
-  where
-    go : (t : Bool) → (b == 0x3E) ≡ t → AreShort (length bs) (closed_texts bs) → AreShort (suc (length bs)) (closed_texts (b ∷ bs))
-    go true e h = rw (e, closed_texts) (omega arith, AreShort-more (length bs) (suc (length bs)) (closed_texts bs) (omega arith) h)
-    go false e h = rw (e, closed_texts) (onto_first-short (length bs) b (closed_texts bs) h)
+closed_texts-short (b ∷ bs) = grind (arith, closed_texts-short bs, AreShort-more (length bs) (suc (length bs)) (closed_texts bs), onto_first-short (length bs) b (closed_texts bs))
 
 after_last_open-short : (bs : List ℕ) → IfSome (after_last_open bs) (λ t. length t < length bs)
 after_last_open-short [] = tt
-after_last_open-short (b ∷ bs) = go (after_last_open bs) refl (after_last_open-short bs) (b == 0x3C) refl
-  where
-    go : (o : Option (List ℕ)) → after_last_open bs ≡ o → IfSome (after_last_open bs) (λ t. length t < length bs) → (u : Bool) → (b == 0x3C) ≡ u
-        → IfSome (judged b bs (after_last_open bs)) (λ t. length t < suc (length bs))
-    go (Some t) e h u f = let short : length t < length bs = rw e at h in rw e (omega arith)
-    go None e h true f = rw (e, judged, f) (omega arith)
-    go None e h false f = rw (e, judged, f) tt
+after_last_open-short (b ∷ bs) = grind (arith, after_last_open-short bs)
 
 filter-short : (p : ℕ → Bool) (xs : List ℕ) → length (filter p xs) ≤ length xs
 filter-short p [] = omega arith
-filter-short p (x ∷ xs) = go (p x) refl (filter-short p xs)
-  where
-    go : (t : Bool) → p x ≡ t → length (filter p xs) ≤ length xs → length (filter p (x ∷ xs)) ≤ suc (length xs)
-    go true e h = rw e (omega arith)
-    go false e h = rw e (omega arith)
+filter-short p (x ∷ xs) = grind (arith, filter-short p xs)
 
 ids_in-sized : (n : ℕ) (ts : List (List ℕ)) → AreShort n ts → AreSized n (ids_in ts)
 ids_in-sized n [] h = tt
@@ -103,34 +88,13 @@ abbrev closed_size : List (List ℕ) → ℕ
 closed_size [] = 0
 closed_size (t ∷ ts) = length t + 1 + closed_size ts
 
-onto_first-size : (b : ℕ) (ts : List (List ℕ)) → closed_size (onto_first b ts) ≤ suc (closed_size ts)
-onto_first-size b [] = omega arith
-onto_first-size b (t ∷ ts) = omega arith
-
 closed_texts-size : (bs : List ℕ) → closed_size (closed_texts bs) ≤ length bs
 closed_texts-size [] = omega arith
-closed_texts-size (b ∷ bs) = go (b == 0x3E) refl (closed_texts-size bs)
-  where
-    go : (t : Bool) → (b == 0x3E) ≡ t → closed_size (closed_texts bs) ≤ length bs → closed_size (closed_texts (b ∷ bs)) ≤ suc (length bs)
-    go true e h = rw (e, closed_texts) (omega arith)
-    go false e h = rw (e, closed_texts) (omega (arith, onto_first-size b (closed_texts bs)))
+closed_texts-size (b ∷ bs) = grind (arith, closed_texts-size bs)
 
 ids_in-size : (ts : List (List ℕ)) → ids_size (ids_in ts) ≤ closed_size ts
 ids_in-size [] = omega arith
-ids_in-size (t ∷ ts) = go (after_last_open t) refl (after_last_open-short t) (ids_in-size ts)
-  where
-    go : (o : Option (List ℕ)) → after_last_open t ≡ o → IfSome (after_last_open t) (λ u. length u < length t)
-        → ids_size (filter (λ x. nat_lt 0 (length x)) (map (filter is_id_byte) (filter_map after_last_open ts))) ≤ closed_size ts
-        → ids_size (ids_in (t ∷ ts)) ≤ closed_size (t ∷ ts)
-    go None e short later = rw e (omega (arith, later))
-    go (Some u) e short later = rw e (last (nat_lt 0 (length (filter is_id_byte u))) refl)
-      where
-        last : (v : Bool) → nat_lt 0 (length (filter is_id_byte u)) ≡ v
-            → ids_size (filter (λ x. nat_lt 0 (length x)) (filter is_id_byte u ∷ map (filter is_id_byte) (filter_map after_last_open ts))) ≤ closed_size (t ∷ ts)
-        last true f =
-            let fits : length u < length t = rw e at short in
-            rw f (omega (arith, fits, filter-short is_id_byte u, later))
-        last false f = rw f (omega (arith, later))
+ids_in-size (t ∷ ts) = grind (arith, after_last_open-short t, ids_in-size ts, filter-short)
 
 pub ids_of-size : (value : List ℕ) (ids : List (Vec ℕ Global)) → map (λ (id : Vec ℕ Global). id.items) ids ≡ ids_of value → ids_size (map (λ (id : Vec ℕ Global). id.items) ids) ≤ length value
 ids_of-size value ids e =

@@ -1,13 +1,12 @@
 -- Ids by place are those of the texts up to each `>`.
-use Rattle.std.proofs.Common.{◌≡◌, ◌∙◌, ◌++◌, ◌&&◌, ◌==◌, ℕ, Bool, true, false, cond, List, [], ◌∷◌, Option, Some, None, map, refl, sym, ap, ap₂, append_assoc, append-nil, inl, inr, ◌⊎◌, nat_lt, length, subst}
-use Rattle.std.specs.Prelude.{filter}
-use Rattle.std.specs.List.{list_all, filter_map}
+use Rattle.std.proofs.Common.{◌≡◌, ◌∙◌, ◌++◌, ◌&&◌, ◌==◌, ℕ, Bool, true, false, cond, List, [], ◌∷◌, Option, Some, None, refl, sym, ap, ap₂, append_assoc, append-nil, inl, inr, ◌⊎◌, nat_lt, arith}
+use Rattle.std.specs.List.{list_all}
 use Rattle.std.proofs.lemmas.List.{map-append}
 use Rattle.std.proofs.lemmas.List.Elements.{filter-append, filter_map-append}
 use Rattle.std.proofs.lemmas.List.Folds.{list_all-append}
 use Rattle.std.proofs.lemmas.Bool.{eqb-true}
 use Rattle.contract_words.proofs.RangePlaces.{seen_on, seen_from, if_passes, seen_behind-places}
-use Rattle.header_text.specs.Ids.{open_sign, close_sign, begins_with, is_inside_id, is_id, is_id_byte, kept_ids, ids_of}
+use Rattle.header_text.specs.Ids.{open_sign, close_sign, begins_with, is_inside_id, is_id, kept_ids, ids_of}
 use Rattle.header_text.specs.Inside.Ids.{onto_first, closed_texts, after_last_open, ids_in}
 use Rattle.header_text.proofs.CutLemmas.{Lacks}
 
@@ -65,18 +64,13 @@ is_inside b e f = rw (e, f) refl
 -- no `<` stands before them
 on-unopened : (before inside rest : List ℕ) → begins_with open_sign before ≡ false → ids_on before inside rest ≡ []
 on-unopened before inside [] e = refl
-on-unopened before inside (c ∷ cs) e =
-    ap₂ ◌++◌
-    (refused before (inside ++ c ∷ []) cs (not_first (begins_with open_sign before) (list_all is_inside_id (inside ++ c ∷ [])) (begins_with close_sign cs) e))
-    (on-unopened before (inside ++ c ∷ []) cs e)
+on-unopened before inside (c ∷ cs) e = grind (arith, refused, before, not_first, on-unopened before (inside ++ c ∷ []) cs e)
 
 refused_broken : (before inside behind : List ℕ) → list_all is_inside_id inside ≡ false → one before inside behind ≡ []
-refused_broken before inside behind e =
-    refused before inside behind (not_mid (begins_with open_sign before) (list_all is_inside_id inside) (begins_with close_sign behind) e)
+refused_broken before inside behind e = grind (arith, refused, before, behind, not_mid)
 
 refused_open : (before inside behind : List ℕ) → begins_with close_sign behind ≡ false → one before inside behind ≡ []
-refused_open before inside behind e =
-    refused before inside behind (not_last (begins_with open_sign before) (list_all is_inside_id inside) (begins_with close_sign behind) e)
+refused_open before inside behind e = grind (arith, refused, before, behind, not_last)
 
 -- a `<` or a `>` is among them
 on-broken : (before inside rest : List ℕ) → list_all is_inside_id inside ≡ false → ids_on before inside rest ≡ []
@@ -85,8 +79,7 @@ on-broken before inside (c ∷ cs) e =
     ap₂ ◌++◌ (refused_broken before (inside ++ c ∷ []) cs (broken_more inside c e)) (on-broken before (inside ++ c ∷ []) cs (broken_more inside c e))
 
 on-sign : (before inside rest : List ℕ) (c : ℕ) → is_inside_id c ≡ false → ids_on before inside (c ∷ rest) ≡ []
-on-sign before inside rest c e =
-    ap₂ ◌++◌ (refused_broken before (inside ++ c ∷ []) rest (broken_by inside c e)) (on-broken before (inside ++ c ∷ []) rest (broken_by inside c e))
+on-sign before inside rest c e = grind (arith, refused_broken, before, broken_by, on-broken)
 
 not_closed : (x rest : List ℕ) → Lacks close_sign x → begins_with close_sign rest ≡ false → begins_with close_sign (x ++ rest) ≡ false
 not_closed [] rest free e = e
@@ -95,15 +88,12 @@ not_closed (b ∷ x) rest free e = free.0
 -- a `<` comes before any `>`
 on-reopened : (before inside x rest : List ℕ) → Lacks close_sign x → ids_on before inside (x ++ open_sign ∷ rest) ≡ []
 on-reopened before inside [] rest free = on-sign before inside rest open_sign refl
-on-reopened before inside (b ∷ x) rest free =
-    ap₂ ◌++◌ (refused_open before (inside ++ b ∷ []) (x ++ open_sign ∷ rest) (not_closed x (open_sign ∷ rest) free.1 refl)) (on-reopened before (inside ++ b ∷ []) x rest free.1)
+on-reopened before inside (b ∷ x) rest free = grind (arith, refused_open, before, not_closed, on-reopened before (inside ++ b ∷ []) x rest free.1)
 
 -- no `>` comes
 on-end : (before inside x : List ℕ) → Lacks close_sign x → ids_on before inside x ≡ []
 on-end before inside [] free = refl
-on-end before inside (b ∷ x) free =
-    let last : begins_with close_sign x ≡ false = subst (λ (l : List ℕ). begins_with close_sign l ≡ false) (append-nil x) (not_closed x [] free.1 refl) in
-    ap₂ ◌++◌ (refused_open before (inside ++ b ∷ []) x last) (on-end before (inside ++ b ∷ []) x free.1)
+on-end before inside (b ∷ x) free = grind (arith, append-nil, not_closed, refused_open, before, on-end before (inside ++ b ∷ []) x free.1)
 
 -- a text, unless these bytes are none
 abbrev unless_none : List ℕ → List ℕ → List (List ℕ)
@@ -113,9 +103,7 @@ unless_none (b ∷ bs) text = text ∷ []
 on-found : (before inside u rest : List ℕ) → begins_with open_sign before ≡ true → list_all is_inside_id inside ≡ true → Lacks open_sign u → Lacks close_sign u
     → ids_on before inside (u ++ close_sign ∷ rest) ≡ unless_none u (inside ++ u)
 on-found before inside [] rest e f unopened unclosed = on-sign before inside rest close_sign refl
-on-found before inside (b ∷ []) rest e f unopened unclosed =
-    let more : list_all is_inside_id (inside ++ b ∷ []) ≡ true = inside_more inside b f (is_inside b unopened.0 unclosed.0) in
-    ap₂ ◌++◌ (taken before (inside ++ b ∷ []) (close_sign ∷ rest) (all_three (begins_with open_sign before) (list_all is_inside_id (inside ++ b ∷ [])) true e more refl)) (on-sign before (inside ++ b ∷ []) rest close_sign refl)
+on-found before inside (b ∷ []) rest e f unopened unclosed = grind (arith, inside_more, is_inside, unopened, unclosed, taken, before, all_three, on-sign)
 on-found before inside (b ∷ c ∷ u) rest e f unopened unclosed =
     let more : list_all is_inside_id (inside ++ b ∷ []) ≡ true = inside_more inside b f (is_inside b unopened.0 unclosed.0) in
     ap₂ ◌++◌ (refused_open before (inside ++ b ∷ []) (c ∷ (u ++ close_sign ∷ rest)) unclosed.1.0) (on-found before (inside ++ b ∷ []) (c ∷ u) rest e more unopened.1 unclosed.1)
@@ -125,8 +113,7 @@ on-found before inside (b ∷ c ∷ u) rest e f unopened unclosed =
 
 on-same : (x y inside rest : List ℕ) → begins_with open_sign x ≡ begins_with open_sign y → ids_on x inside rest ≡ ids_on y inside rest
 on-same x y inside [] e = refl
-on-same x y inside (c ∷ cs) e =
-    ap₂ ◌++◌ (ap (λ (t : Bool). cond (t && list_all is_inside_id (inside ++ c ∷ []) && begins_with close_sign cs) ((inside ++ c ∷ []) ∷ []) []) e) (on-same x y (inside ++ c ∷ []) cs e)
+on-same x y inside (c ∷ cs) e = grind (arith, on-same x y (inside ++ c ∷ []) cs e)
 
 from-same : (x y rest : List ℕ) → begins_with open_sign x ≡ begins_with open_sign y → ids_from x rest ≡ ids_from y rest
 from-same x y [] e = refl
@@ -143,8 +130,7 @@ from-unopened before (b ∷ u) rest e free = ap₂ ◌++◌ (on-unopened before 
 from-found : (u rest : List ℕ) → Lacks open_sign u → Lacks close_sign u → ids_from (open_sign ∷ []) (u ++ close_sign ∷ rest) ≡ unless_none u u ++ ids_from [] rest
 from-found [] rest unopened unclosed =
     ap₂ ◌++◌ (on-found (open_sign ∷ []) [] [] rest refl refl tt tt) (from-same (close_sign ∷ open_sign ∷ []) [] rest refl)
-from-found (b ∷ u) rest unopened unclosed =
-    ap₂ ◌++◌ (on-found (open_sign ∷ []) [] (b ∷ u) rest refl refl unopened unclosed) (from-unopened (b ∷ open_sign ∷ []) u rest unopened.0 unopened.1)
+from-found (b ∷ u) rest unopened unclosed = grind (arith, on-found, unopened, unclosed, from-unopened)
 
 from-end : (before x : List ℕ) → Lacks close_sign x → ids_from before x ≡ []
 from-end before [] free = refl
@@ -153,13 +139,10 @@ from-end before (b ∷ x) free = ap₂ ◌++◌ (on-end before [] (b ∷ x) free
 -- ---- a text up to its `>`
 
 kept-append : (xs ys : List (List ℕ)) → kept_ids (xs ++ ys) ≡ kept_ids xs ++ kept_ids ys
-kept-append xs ys =
-    let some : List ℕ → Bool = λ id. nat_lt 0 (length id) in
-    ap (filter some) (map-append (filter is_id_byte) xs ys) ∙ filter-append some (map (filter is_id_byte) xs) (map (filter is_id_byte) ys)
+kept-append xs ys = grind (arith, nat_lt, map-append, filter-append)
 
 pub ids_in-cons : (text : List ℕ) (texts : List (List ℕ)) → ids_in (text ∷ texts) ≡ ids_in (text ∷ []) ++ ids_in texts
-ids_in-cons text texts =
-    ap kept_ids (filter_map-append after_last_open (text ∷ []) texts) ∙ kept-append (filter_map after_last_open (text ∷ [])) (filter_map after_last_open texts)
+ids_in-cons text texts = grind (arith, filter_map-append, kept-append)
 
 kept-unless_none : (u : List ℕ) → kept_ids (unless_none u u) ≡ kept_ids (u ∷ [])
 kept-unless_none [] = refl

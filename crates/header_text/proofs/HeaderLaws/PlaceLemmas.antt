@@ -12,19 +12,11 @@ length-slice_range xs i j low high = let left : length (drop i xs) ≡ length xs
 
 -- a range within the front
 pub slice_range-append : (xs ys : List ℕ) (i j : ℕ) → i ≤ j → j ≤ length xs → slice_range (xs ++ ys) i j ≡ slice_range xs i j
-slice_range-append xs ys i j low high =
-    let short : i ≤ length xs = omega arith in
-    let room : j - i ≤ length (drop i xs) = omega (arith, length-drop i xs) in
-    ap (λ (l : List ℕ). take (j - i) l) (drop-append-le i xs ys short) ∙ take-append-le (j - i) (drop i xs) ys room
+slice_range-append xs ys i j low high = grind (arith, length-drop, drop-append-le, take-append-le)
 
 -- a range up to the end, with more bytes
 pub slice_range-append_end : (xs ys : List ℕ) (i : ℕ) → i ≤ length xs → slice_range (xs ++ ys) i (length (xs ++ ys)) ≡ slice_range xs i (length xs) ++ ys
-slice_range-append_end xs ys i low =
-    let both : length (xs ++ ys) ≡ length xs + length ys = length-append xs ys in
-    let left : length (drop i xs) ≡ length xs - i = length-drop i xs in
-    let all : length (drop i xs ++ ys) ≤ length (xs ++ ys) - i = omega (arith, length-append (drop i xs) ys) in
-    ap (λ (l : List ℕ). take (length (xs ++ ys) - i) l) (drop-append-le i xs ys low) ∙ take_all (length (xs ++ ys) - i) (drop i xs ++ ys) all
-    ∙ ap (λ (l : List ℕ). l ++ ys) (sym (take_all (length xs - i) (drop i xs) (omega arith)))
+slice_range-append_end xs ys i low = grind (arith, length-append, length-drop, drop-append-le, take_all)
 
 pub next_start-le : (end : ℕ) (ps : List FieldPlace) → AreInOrder end ps → next_start ps end ≤ end
 next_start-le end [] h = omega arith
@@ -73,28 +65,14 @@ last_field bytes name body at from e f =
 pub fields_at-push : (bytes name body : List ℕ) (ps : List FieldPlace) (p : FieldPlace) → AreInOrder (length bytes) ps → p.name ≡ length bytes → p.body ≡ length bytes + length name
     → fields_at (bytes ++ (name ++ body)) (ps ++ p ∷ []) ≡ fields_at bytes ps ++ one name body ∷ []
 fields_at-push bytes name body [] p h e f = ap (λ (x : HeaderField). x ∷ []) (last_field bytes name body p.name p.body e f)
-fields_at-push bytes name body (q ∷ []) p h e f =
-    let more : List ℕ = name ++ body in
-    let stays : slice_range (bytes ++ more) q.body p.name ≡ slice_range bytes q.body (length bytes) = rw e (slice_range-append bytes more q.body (length bytes) h.1 (omega arith)) in
-    ap₂ (λ (x y : HeaderField). x ∷ y ∷ []) (ap₂ (λ (x y : List ℕ). one x y) (slice_range-append bytes more q.name q.body (omega (arith, h.0)) h.1) stays)
-    (last_field bytes name body p.name p.body e f)
-fields_at-push bytes name body (q ∷ r ∷ ps) p h e f =
-    let more : List ℕ = name ++ body in
-    let top = next_start-le (length bytes) (r ∷ ps) h.2 in
-    let first = slice_range-append bytes more q.name q.body (omega (arith, h.0)) (omega (arith, h.1, top)) in
-    let second = slice_range-append bytes more q.body r.name h.1 top in
-    ap₂ (λ (x : HeaderField) (y : List HeaderField). x ∷ y) (ap₂ (λ (x y : List ℕ). one x y) first second) (fields_at-push bytes name body (r ∷ ps) p h.2 e f)
+fields_at-push bytes name body (q ∷ []) p h e f = grind (arith, slice_range-append, last_field)
+fields_at-push bytes name body (q ∷ r ∷ ps) p h e f = grind (arith, next_start-le, slice_range-append, fields_at-push bytes name body (r ∷ ps) p h.2 e f)
 
 -- more bytes for the last field
 pub fields_at-append : (bytes more : List ℕ) (ps : List FieldPlace) → AreInOrder (length bytes) ps → fields_at (bytes ++ more) ps ≡ onto_last more (fields_at bytes ps)
 fields_at-append bytes more [] h = refl
-fields_at-append bytes more (q ∷ []) h =
-    ap₂ (λ (x y : List ℕ). one x y ∷ []) (slice_range-append bytes more q.name q.body (omega (arith, h.0)) h.1) (slice_range-append_end bytes more q.body h.1)
-fields_at-append bytes more (q ∷ r ∷ ps) h =
-    let top = next_start-le (length bytes) (r ∷ ps) h.2 in
-    let name = slice_range-append bytes more q.name q.body (omega (arith, h.0)) (omega (arith, h.1, top)) in
-    let body = slice_range-append bytes more q.body r.name h.1 top in
-    ap₂ (λ (x : HeaderField) (y : List HeaderField). x ∷ y) (ap₂ (λ (x y : List ℕ). one x y) name body) (fields_at-append bytes more (r ∷ ps) h.2)
+fields_at-append bytes more (q ∷ []) h = grind (arith, slice_range-append, slice_range-append_end)
+fields_at-append bytes more (q ∷ r ∷ ps) h = grind (arith, next_start-le, slice_range-append, fields_at-append bytes more (r ∷ ps) h.2)
 
 -- names and bodies are the bytes from the first name on
 fields_size-at : (bytes : List ℕ) (ps : List FieldPlace) → AreInOrder (length bytes) ps → fields_size (fields_at bytes ps) + next_start ps (length bytes) ≡ length bytes

@@ -16,27 +16,15 @@ use Rattle.header_text.proofs.HeaderLaws.HeaderLemmas.{fields_in-push, is_open_b
 
 before_empty-none : (ls : List (List ℕ)) → has_empty ls ≡ false → lines_before_empty ls ≡ ls
 before_empty-none [] h = refl
-before_empty-none (l ∷ ls) h = go (is_empty l) refl (before_empty-none ls)
-  where
-    go : (t : Bool) → is_empty l ≡ t → (has_empty ls ≡ false → lines_before_empty ls ≡ ls) → lines_before_empty (l ∷ ls) ≡ l ∷ ls
-    go true e later = absurd (cc (rw e at h))
-    go false e later = rw (e, lines_before_empty) (ap (λ (ks : List (List ℕ)). l ∷ ks) (later (rw e at h)))
+before_empty-none (l ∷ ls) h = grind (arith, before_empty-none ls)
 
 before_empty-push_some : (ls : List (List ℕ)) (l : List ℕ) → has_empty ls ≡ true → lines_before_empty (ls ++ l ∷ []) ≡ lines_before_empty ls
 before_empty-push_some [] l h = absurd (cc)
-before_empty-push_some (k ∷ ks) l h = go (is_empty k) refl (before_empty-push_some ks l)
-  where
-    go : (t : Bool) → is_empty k ≡ t → (has_empty ks ≡ true → lines_before_empty (ks ++ l ∷ []) ≡ lines_before_empty ks) → lines_before_empty (k ∷ (ks ++ l ∷ [])) ≡ lines_before_empty (k ∷ ks)
-    go true e later = rw (e, lines_before_empty) refl
-    go false e later = rw (e, lines_before_empty) (ap (λ (ms : List (List ℕ)). k ∷ ms) (later (rw e at h)))
+before_empty-push_some (k ∷ ks) l h = grind (arith, before_empty-push_some ks l)
 
 before_empty-push_end : (ls : List (List ℕ)) (l : List ℕ) → is_empty l ≡ true → lines_before_empty (ls ++ l ∷ []) ≡ lines_before_empty ls
 before_empty-push_end [] l h = rw (h, lines_before_empty) refl
-before_empty-push_end (k ∷ ks) l h = go (is_empty k) refl (before_empty-push_end ks l h)
-  where
-    go : (t : Bool) → is_empty k ≡ t → lines_before_empty (ks ++ l ∷ []) ≡ lines_before_empty ks → lines_before_empty (k ∷ (ks ++ l ∷ [])) ≡ lines_before_empty (k ∷ ks)
-    go true e later = rw (e, lines_before_empty) refl
-    go false e later = rw (e, lines_before_empty) (ap (λ (ms : List (List ℕ)). k ∷ ms) later)
+before_empty-push_end (k ∷ ks) l h = grind (arith, before_empty-push_end ks l h)
 
 pub has_empty-push : (ls : List (List ℕ)) (l : List ℕ) → has_empty (ls ++ l ∷ []) ≡ (has_empty ls || is_empty l)
 has_empty-push [] l = or_false (is_empty l)
@@ -58,9 +46,7 @@ lines_size-push (k ∷ ks) l = let later = lines_size-push ks l in omega arith
 
 within-all : (room : ℕ) (ls : List (List ℕ)) → lines_size ls ≤ room → lines_within room ls ≡ ls
 within-all room [] h = refl
-within-all room (l ∷ ls) h =
-    let fits : nat_le (length l) room ≡ true = grind (arith, nat_tests) in
-    rw (fits, lines_within) (ap (λ (ks : List (List ℕ)). l ∷ ks) (within-all (room - length l) ls (omega arith)))
+within-all room (l ∷ ls) h = grind (arith, nat_le, within-all (room - length l) ls (omega arith))
 
 -- once a line didn't fit, no later one counts
 record Stops (room : ℕ) (ls more : List (List ℕ)) : Type 0 where
@@ -69,29 +55,16 @@ record Stops (room : ℕ) (ls more : List (List ℕ)) : Type 0 where
 
 stops : (room : ℕ) (ls more : List (List ℕ)) → room < lines_size ls → Stops room ls more
 stops room [] more h = absurd (omega arith)
-stops room (l ∷ ls) more h = go (nat_le (length l) room) refl (stops (room - length l) ls more)
-  where
-    go : (t : Bool) → nat_le (length l) room ≡ t → (room - length l < lines_size ls → Stops (room - length l) ls more) → Stops room (l ∷ ls) more
-    go false e later = record { same = rw (e, lines_within) refl; fewer = rw (e, lines_within) (omega arith) }
-    go true e later =
-        let le : length l ≤ room = grind (arith, nat_tests, e) in
-        let next = later (omega arith) in
-        record { same = rw (e, lines_within) (ap (λ (ks : List (List ℕ)). l ∷ ks) next.same); fewer = rw (e, lines_within) (omega (arith, next.fewer)) }
+stops room (l ∷ ls) more h = grind (arith, stops (room - length l) ls more)
 
 -- a line that doesn't fit
 overflow : (room : ℕ) (ls : List (List ℕ)) (l : List ℕ) → lines_size ls ≤ room → room - lines_size ls < length l → lines_within room (ls ++ l ∷ []) ≡ ls
 overflow room [] l h over = let none : nat_le (length l) room ≡ false = grind (arith, nat_tests) in rw (none, lines_within) refl
-overflow room (k ∷ ks) l h over =
-    let fits : nat_le (length k) room ≡ true = grind (arith, nat_tests) in
-    rw (fits, lines_within) (ap (λ (ms : List (List ℕ)). k ∷ ms) (overflow (room - length k) ks l (omega arith) (omega arith)))
+overflow room (k ∷ ks) l h over = grind (arith, nat_le, overflow (room - length k) ks l (omega arith) (omega arith))
 
 pub size-within : (room : ℕ) (ls : List (List ℕ)) → lines_size (lines_within room ls) ≤ room
 size-within room [] = omega arith
-size-within room (l ∷ ls) = go (nat_le (length l) room) refl (size-within (room - length l) ls)
-  where
-    go : (t : Bool) → nat_le (length l) room ≡ t → lines_size (lines_within (room - length l) ls) ≤ room - length l → lines_size (lines_within room (l ∷ ls)) ≤ room
-    go false e later = rw (e, lines_within) (omega arith)
-    go true e later = let le : length l ≤ room = grind (arith, nat_tests, e) in rw (e, lines_within) (omega arith)
+size-within room (l ∷ ls) = grind (arith, size-within (room - length l) ls)
 
 -- ---- the stages
 
@@ -105,9 +78,7 @@ stage_of-full ls h less = let short : nat_lt (length (header ls)) (length ls) �
 
 stage_of-open : (ls : List (List ℕ)) → has_empty ls ≡ false → header ls ≡ ls → stage_of ls ≡ Open
 unfolding stage_of
-stage_of-open ls h same =
-    let size : length (header ls) ≡ length ls = ap length same in
-    let whole : nat_lt (length (header ls)) (length ls) ≡ false = grind (arith, nat_tests) in rw (h, whole) refl
+stage_of-open ls h same = grind (arith, same, nat_lt)
 
 -- what a line does to the stage, and whether it counts
 pub record Steps (ls : List (List ℕ)) (l : List ℕ) (stage : Stage) (size : ℕ) : Type 0 where
@@ -217,22 +188,13 @@ steps ls l stage size s n = go (has_empty ls) refl (is_empty l) refl (cases_lt m
 
 stage_of-ended_only : (ls : List (List ℕ)) → stage_of ls ≡ Ended → has_empty ls ≡ true
 unfolding stage_of
-stage_of-ended_only ls e = go (has_empty ls) refl (nat_lt (length (header ls)) (length ls)) refl
-  where
-    go : (t : Bool) → has_empty ls ≡ t → (u : Bool) → nat_lt (length (header ls)) (length ls) ≡ u → has_empty ls ≡ true
-    go true t u f = t
-    go false t true f = absurd (cc (rw (t, f) at e))
-    go false t false f = absurd (cc (rw (t, f) at e))
+stage_of-ended_only ls e = grind arith
 
 taken-ended : (ls : List (List ℕ)) → has_empty ls ≡ true → HeaderEnded ≡ taken_of ls
 taken-ended ls h = rw h refl
 
 taken-more : (ls : List (List ℕ)) → (stage_of ls ≡ Ended → ⊥) → More ≡ taken_of ls
-taken-more ls goes_on = go (has_empty ls) refl
-  where
-    go : (t : Bool) → has_empty ls ≡ t → More ≡ taken_of ls
-    go true h = absurd (goes_on (stage_of-ended ls h))
-    go false h = rw h refl
+taken-more ls goes_on = grind (arith, stage_of-ended ls)
 
 -- ---- one line more
 
@@ -292,14 +254,5 @@ module _ (fs : List HeaderField) (size : ℕ) (in_field : Bool) (stage : Stage) 
 
 pub room-open : (stage : Stage) (size : ℕ) (l : List ℕ) → size ≤ most_in_header → stage_behind stage size l ≡ Open → size + length l ≤ most_in_header
 room-open Ended size l le e = absurd (cc)
-room-open Full size l le e = go (is_empty l) refl
-  where
-    go : (t : Bool) → is_empty l ≡ t → size + length l ≤ most_in_header
-    go true t = absurd (cc (rw t at e))
-    go false t = absurd (cc (rw t at e))
-room-open Open size l le e = go (is_empty l) refl (cases_lt (most_in_header - size) (length l))
-  where
-    go : (t : Bool) → is_empty l ≡ t → (most_in_header - size < length l) ⊎ (length l ≤ most_in_header - size) → size + length l ≤ most_in_header
-    go true t c = absurd (cc (rw t at e))
-    go false t (inl over) = let test : nat_lt (most_in_header - size) (length l) ≡ true = grind (arith, nat_tests) in absurd (cc (rw (t, test) at e))
-    go false t (inr room) = omega arith
+room-open Full size l le e = grind arith
+room-open Open size l le e = grind arith

@@ -1,10 +1,10 @@
 -- Unfolding part by part.
-use Rattle.std.proofs.Common.{◌≡◌, ◌∙◌, ◌<◌, ◌++◌, ◌==◌, ◌||◌, ◌&&◌, ℕ, Bool, true, false, nat_lt, List, [], ◌∷◌, None, length, take, drop, refl, sym, ap, ap₂, arith, length-append, append_assoc, append-nil}
+use Rattle.std.proofs.Common.{◌≡◌, ◌∙◌, ◌<◌, ◌++◌, ◌==◌, ◌&&◌, ℕ, Bool, true, false, nat_lt, List, [], ◌∷◌, None, length, take, drop, refl, sym, ap, ap₂, arith, length-append, append_assoc, append-nil}
 use Rattle.std.specs.Prelude.{if◌then◌else◌}
 use Rattle.std.proofs.lemmas.Bool.Decides.{nat_tests}
 use Rattle.std.proofs.lemmas.Bool.{lt-ltb}
 use Rattle.std.proofs.lemmas.List.{take_at, drop_at}
-use Rattle.header_text.specs.Blanks.{is_blank, after_blanks, before_blanks}
+use Rattle.header_text.specs.Blanks.{after_blanks, before_blanks}
 use Rattle.header_text.specs.Unfolding.{without_breaks, unfolded}
 use Rattle.header_text.specs.Inside.Breaks.{without_final_cr, led}
 use Rattle.header_text.proofs.CutLemmas.{Lacks, IsCut, Lacks-from}
@@ -14,17 +14,8 @@ use Rattle.header_text.specs.Cuts.{cut_at}
 
 pub without_final_cr-push : (bs : List ℕ) (b : ℕ) → without_final_cr (bs ++ b ∷ []) ≡ (if b == 0x0D then bs else bs ++ b ∷ [])
 without_final_cr-push [] b = refl
-without_final_cr-push (c ∷ []) b = go (b == 0x0D) refl
-  where
-    go : (t : Bool) → (b == 0x0D) ≡ t → c ∷ (if b == 0x0D then [] else b ∷ []) ≡ (if b == 0x0D then c ∷ [] else c ∷ b ∷ [])
-    go true e = rw e refl
-    go false e = rw e refl
-without_final_cr-push (c ∷ d ∷ bs) b = go (b == 0x0D) refl (without_final_cr-push (d ∷ bs) b)
-  where
-    go : (t : Bool) → (b == 0x0D) ≡ t → without_final_cr (d ∷ (bs ++ b ∷ [])) ≡ (if b == 0x0D then d ∷ bs else d ∷ (bs ++ b ∷ []))
-        → c ∷ without_final_cr (d ∷ (bs ++ b ∷ [])) ≡ (if b == 0x0D then c ∷ d ∷ bs else c ∷ d ∷ (bs ++ b ∷ []))
-    go true e later = rw e (ap (λ (l : List ℕ). c ∷ l) (later ∙ rw e refl))
-    go false e later = rw e (ap (λ (l : List ℕ). c ∷ l) (later ∙ rw e refl))
+without_final_cr-push (c ∷ []) b = grind arith
+without_final_cr-push (c ∷ d ∷ bs) b = grind (arith, without_final_cr-push (d ∷ bs) b)
 
 -- ---- breaks
 
@@ -44,23 +35,15 @@ breaks-feed (b ∷ later) = refl
 breaks-cut : (line later : List ℕ) → Lacks 0x0A line → without_breaks (line ++ 0x0A ∷ later) ≡ without_final_cr line ++ without_breaks later
 unfolding chosen
 breaks-cut [] later free = breaks-feed later
-breaks-cut (b ∷ []) later free = go (b == 0x0D) refl
-  where
-    go : (t : Bool) → (b == 0x0D) ≡ t → without_breaks (b ∷ 0x0A ∷ later) ≡ without_final_cr (b ∷ []) ++ without_breaks later
-    go true e = rw (free.0, e, without_breaks) (breaks-feed later)
-    go false e = rw (free.0, e, without_breaks) (ap (λ (l : List ℕ). b ∷ l) (breaks-feed later))
-breaks-cut (b ∷ c ∷ line) later free =
-    let kept : ((b == 0x0A) || ((b == 0x0D) && (c == 0x0A))) ≡ false = rw (free.0, free.1.0) (and_false (b == 0x0D)) in
-    ap (chosen b (c ∷ (line ++ 0x0A ∷ later))) kept ∙ ap (λ (l : List ℕ). b ∷ l) (breaks-cut (c ∷ line) later free.1)
+breaks-cut (b ∷ []) later free = grind arith
+breaks-cut (b ∷ c ∷ line) later free = grind (arith, and_false, chosen, breaks-cut (c ∷ line) later free.1)
 
 -- nothing is a break
 breaks-free : (line : List ℕ) → Lacks 0x0A line → without_breaks line ≡ line
 unfolding chosen
 breaks-free [] free = refl
 breaks-free (b ∷ []) free = rw (free.0, without_breaks) refl
-breaks-free (b ∷ c ∷ line) free =
-    let kept : ((b == 0x0A) || ((b == 0x0D) && (c == 0x0A))) ≡ false = rw (free.0, free.1.0) (and_false (b == 0x0D)) in
-    ap (chosen b (c ∷ line)) kept ∙ ap (λ (l : List ℕ). b ∷ l) (breaks-free (c ∷ line) free.1)
+breaks-free (b ∷ c ∷ line) free = grind (arith, and_false, chosen, breaks-free (c ∷ line) free.1)
 
 -- ---- blanks in front
 
@@ -70,12 +53,7 @@ is_some_bytes (b ∷ bs) = true
 
 after_blanks-append : (p w : List ℕ) → after_blanks p ++ led (is_some_bytes (after_blanks p)) w ≡ after_blanks (p ++ w)
 after_blanks-append [] w = refl
-after_blanks-append (b ∷ p) w = go (is_blank b) refl (after_blanks-append p w)
-  where
-    go : (t : Bool) → is_blank b ≡ t → after_blanks p ++ led (is_some_bytes (after_blanks p)) w ≡ after_blanks (p ++ w)
-        → after_blanks (b ∷ p) ++ led (is_some_bytes (after_blanks (b ∷ p))) w ≡ after_blanks (b ∷ (p ++ w))
-    go true e later = rw (e, after_blanks) later
-    go false e later = rw (e, after_blanks) refl
+after_blanks-append (b ∷ p) w = grind (arith, after_blanks-append p w)
 
 -- one part more
 led-append : (done p w : List ℕ) → (done ++ led (is_some_bytes done) p) ++ led (is_some_bytes (done ++ led (is_some_bytes done) p)) w ≡ done ++ led (is_some_bytes done) (p ++ w)
@@ -121,8 +99,7 @@ unfolds-end old body items rest new h free e =
 -- the end is trimmed
 pub unfolded-trimmed : (old body items : List ℕ) → items ≡ old ++ after_blanks (without_breaks body) → take (length old) items ++ before_blanks (drop (length old) items) ≡ old ++ unfolded body
 unfolding unfolded
-unfolded-trimmed old body items e =
-    rw e (ap₂ (λ (x y : List ℕ). x ++ before_blanks y) (take_at old (after_blanks (without_breaks body)) (length old) refl) (drop_at old (after_blanks (without_breaks body)) (length old) refl))
+unfolded-trimmed old body items e = grind (arith, take_at, drop_at)
 
 -- the rest has no break
 pub unfolds-rest : (old body items rest new : List ℕ) (start : ℕ) → start ≡ length old → Unfolds old body items rest → cut_at 0x0A rest ≡ None

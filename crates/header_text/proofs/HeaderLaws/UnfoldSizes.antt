@@ -1,5 +1,5 @@
 -- An unfolded body is no longer than the body.
-use Rattle.std.proofs.Common.{◌≤◌, ◌==◌, ◌||◌, ◌&&◌, ℕ, suc, Bool, true, false, List, [], ◌∷◌, length, ap, arith, length-append}
+use Rattle.std.proofs.Common.{◌≤◌, ◌==◌, ℕ, suc, Bool, true, false, List, [], ◌∷◌, length, ap, arith, length-append}
 use Rattle.header_text.specs.Blanks.{after_blanks, before_blanks}
 use Rattle.header_text.specs.Unfolding.{without_breaks, unfolded}
 use Rattle.header_text.proofs.Fronts.{after_blanks-joined, before_blanks-joined}
@@ -17,8 +17,7 @@ length-without_breaks : (bs : List ℕ) → length (without_breaks bs) ≤ lengt
 unfolding kept
 length-without_breaks [] = omega arith
 length-without_breaks (b ∷ []) = length-kept b [] (b == 0x0A) 0 (omega arith)
-length-without_breaks (b ∷ c ∷ bs) =
-    length-kept b (without_breaks (c ∷ bs)) ((b == 0x0A) || ((b == 0x0D) && (c == 0x0A))) (length (c ∷ bs)) (length-without_breaks (c ∷ bs))
+length-without_breaks (b ∷ c ∷ bs) = grind (arith, length-kept, length-without_breaks (c ∷ bs))
 
 length-after_blanks : (bs : List ℕ) → length (after_blanks bs) ≤ length bs
 length-after_blanks bs =
@@ -32,5 +31,4 @@ length-before_blanks bs =
 
 pub length-unfolded : (body : List ℕ) → length (unfolded body) ≤ length body
 unfolding unfolded
-length-unfolded body =
-    omega (arith, length-before_blanks (after_blanks (without_breaks body)), length-after_blanks (without_breaks body), length-without_breaks body)
+length-unfolded body = grind (arith, length-before_blanks, length-after_blanks, length-without_breaks)

@@ -16,16 +16,7 @@ use Rattle.header_text.specs.declared.charset.Charset.TheVariants.{Utf8, Latin1,
 -- an ASCII byte is its own character in each charset
 character-ascii : (c : Charset) (b : ℕ) → b < 128 → character c b ≡ b
 character-ascii Latin1 b lt = refl
-character-ascii Latin9 b lt =
-    let a4 = ne_eqb b 0xA4 (λ e. absurd (omega arith)) in
-    let a6 = ne_eqb b 0xA6 (λ e. absurd (omega arith)) in
-    let a8 = ne_eqb b 0xA8 (λ e. absurd (omega arith)) in
-    let b4 = ne_eqb b 0xB4 (λ e. absurd (omega arith)) in
-    let b8 = ne_eqb b 0xB8 (λ e. absurd (omega arith)) in
-    let bc = ne_eqb b 0xBC (λ e. absurd (omega arith)) in
-    let bd = ne_eqb b 0xBD (λ e. absurd (omega arith)) in
-    let be = ne_eqb b 0xBE (λ e. absurd (omega arith)) in
-    rw (a4, a6, a8, b4, b8, bc, bd, be) refl
+character-ascii Latin9 b lt = grind (arith, ne_eqb)
 character-ascii Windows1252 b lt = let below : nat_le 0x80 b ≡ false = grind (arith, nat_tests) in rw below refl
 character-ascii Utf8 b lt = let below : nat_lt b 0x80 ≡ true = grind (arith, nat_tests) in rw below refl
 character-ascii Unknown b lt = let below : nat_lt b 0x80 ≡ true = grind (arith, nat_tests) in rw below refl
@@ -56,12 +47,7 @@ length-encode_small c lt = rw length-encode (grind (arith, nat_tests))
 pub characters-step : (c : Charset) (bs old new newer : List ℕ) (at : ℕ) → at < length bs → IsAscii (take at bs)
     → new ≡ old ++ encode_utf8_all (lossy_chars (take at bs)) → newer ≡ new ++ encode_utf8 (character c (slice_index bs at))
     → newer ++ encode_utf8_all (map (character c) (drop (at + 1) bs)) ≡ old ++ encode_utf8_all (map (character c) bs)
-characters-step c bs old new newer at lt h e f =
-    let ascii : List ℕ = encode_utf8_all (lossy_chars (take at bs)) in
-    let one : List ℕ = encode_utf8 (character c (slice_index bs at)) in
-    let rest : List ℕ = encode_utf8_all (map (character c) (drop (at + 1) bs)) in
-    ap (λ (l : List ℕ). l ++ rest) (f ∙ ap (λ (l : List ℕ). l ++ one) e) ∙ append_assoc (old ++ ascii) one rest ∙ append_assoc old ascii (one ++ rest)
-    ∙ ap (λ (l : List ℕ). old ++ l) (sym (characters-split c bs at lt h))
+characters-step c bs old new newer at lt h e f = grind (arith, encode_utf8_all, slice_index, append_assoc, characters-split)
 
 -- a byte alone is a character in any charset but UTF-8
 pub text_of-single : (c : Charset) → (c ≡ Utf8 → ⊥) → (bs : List ℕ) → text_of c bs ≡ encode_utf8_all (map (character c) bs)

@@ -1,5 +1,5 @@
 -- The text of a value, word by word.
-use Rattle.std.proofs.Common.{◌≡◌, ◌∙◌, ◌++◌, ℕ, Bool, true, false, List, refl, sym, ap, append_assoc}
+use Rattle.std.proofs.Common.{◌≡◌, ◌++◌, ℕ, Bool, true, false, List, refl, ap, append_assoc, arith}
 use Rattle.std.specs.Prelude.{if◌then◌else◌}
 use Rattle.header_text.specs.EncodedWords.{WordAfter, Pieces, pieces, word_text, plain_text, text_between, later_words_text, words_text, decoded}
 use Rattle.header_text.specs.Inside.ShownWords.{no_word, word_first}
@@ -22,17 +22,7 @@ regroup old b text ws plain = simp append_assoc
 pub decoded-step : (follows : Bool) (w : WordAfter) (p : Pieces) (later old new newer : List ℕ) → p ≡ word_first w later
     → new ≡ old ++ (if follows then text_between w.between else plain_text w.between) → newer ≡ new ++ word_text w.word
     → newer ++ rest_text true (pieces later) ≡ old ++ rest_text follows p
-decoded-step follows w p later old new newer e f g = go follows f
-  where
-    go : (t : Bool) → new ≡ old ++ (if t then text_between w.between else plain_text w.between) → newer ++ rest_text true (pieces later) ≡ old ++ rest_text t p
-    go true f =
-        ap (λ (l : List ℕ). l ++ rest_text true (pieces later)) (g ∙ ap (λ (l : List ℕ). l ++ word_text w.word) f)
-        ∙ regroup old (text_between w.between) (word_text w.word) (later_words_text (pieces later).words) (plain_text (pieces later).rest)
-        ∙ ap (λ (q : Pieces). old ++ rest_text true q) (sym e)
-    go false f =
-        ap (λ (l : List ℕ). l ++ rest_text true (pieces later)) (g ∙ ap (λ (l : List ℕ). l ++ word_text w.word) f)
-        ∙ regroup old (plain_text w.between) (word_text w.word) (later_words_text (pieces later).words) (plain_text (pieces later).rest)
-        ∙ ap (λ (q : Pieces). old ++ rest_text false q) (sym e)
+decoded-step follows w p later old new newer e f g = grind (arith, append_assoc)
 
 -- no word more
 pub decoded-end : (follows : Bool) (p : Pieces) (value : List ℕ) → p ≡ no_word value → rest_text follows p ≡ plain_text value

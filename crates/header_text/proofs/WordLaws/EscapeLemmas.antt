@@ -1,7 +1,7 @@
 -- Escapes stretch by stretch.
-use Rattle.std.proofs.Common.{◌≡◌, ◌∙◌, ◌==◌, ◌≤◌, ◌++◌, ℕ, Bool, true, false, List, [], ◌∷◌, Option, Some, None, length, refl, sym, ap, arith, append_assoc, append-nil}
+use Rattle.std.proofs.Common.{◌≡◌, ◌∙◌, ◌==◌, ◌≤◌, ◌++◌, ℕ, false, List, [], ◌∷◌, Option, Some, None, length, refl, sym, ap, arith, append_assoc, append-nil}
 use Rattle.std.specs.Prelude.{if◌then◌else◌}
-use Rattle.header_text.specs.Escapes.{hex_value, escaped, unescaped_by, unescaped, q_bytes, behind_equals}
+use Rattle.header_text.specs.Escapes.{escaped, unescaped_by, unescaped, q_bytes, behind_equals}
 use Rattle.header_text.proofs.CutLemmas.{Lacks, IsCut}
 
 module _ (other : ℕ → ℕ) where
@@ -55,20 +55,12 @@ pub unescaped-equals : (bytes : List ℕ) → unescaped (0x3D ∷ bytes) ≡ (be
 unfolding unescaped
 unescaped-equals [] = refl
 unescaped-equals (b ∷ []) = refl
-unescaped-equals (b ∷ c ∷ bytes) = go (escaped 0x3D b c) refl
-  where
-    go : (o : Option ℕ) → escaped 0x3D b c ≡ o → unescaped (0x3D ∷ b ∷ c ∷ bytes) ≡ (behind_equals (b ∷ c ∷ bytes)).0 ∷ unescaped (behind_equals (b ∷ c ∷ bytes)).1
-    go (Some n) e = u-some (λ b. b) 0x3D b c n bytes e ∙ rw (e, behind_equals) refl
-    go None e = u-none (λ b. b) 0x3D b c bytes e ∙ rw (e, behind_equals) refl
+unescaped-equals (b ∷ c ∷ bytes) = grind arith
 
 pub length-behind_equals : (bytes : List ℕ) → length (behind_equals bytes).1 ≤ length bytes
 length-behind_equals [] = omega arith
 length-behind_equals (b ∷ []) = omega arith
-length-behind_equals (b ∷ c ∷ bytes) = go (escaped 0x3D b c) refl
-  where
-    go : (o : Option ℕ) → escaped 0x3D b c ≡ o → length (behind_equals (b ∷ c ∷ bytes)).1 ≤ length (b ∷ c ∷ bytes)
-    go (Some n) e = rw (e, behind_equals) (omega arith)
-    go None e = rw (e, behind_equals) (omega arith)
+length-behind_equals (b ∷ c ∷ bytes) = grind arith
 
 -- ---- Q
 
@@ -76,58 +68,32 @@ abbrev q : ℕ → ℕ
 q b = if b == 0x5F then 0x20 else b
 
 no_digit : (a b : ℕ) → escaped a b 0x5F ≡ None
-no_digit a b = go (a == 0x3D) refl (hex_value b) refl
-  where
-    go : (t : Bool) → (a == 0x3D) ≡ t → (o : Option ℕ) → hex_value b ≡ o → escaped a b 0x5F ≡ None
-    go false e o f = rw e refl
-    go true e None f = rw (e, f) refl
-    go true e (Some n) f = rw (e, f) refl
-
-no_first_digit : (a c : ℕ) → escaped a 0x5F c ≡ None
-no_first_digit a c = go (a == 0x3D) refl
-  where
-    go : (t : Bool) → (a == 0x3D) ≡ t → escaped a 0x5F c ≡ None
-    go false e = rw e refl
-    go true e = rw e refl
+no_digit a b = grind arith
 
 -- a `_` in front, behind a byte that isn't one
 q-then_space : (a : ℕ) (later : List ℕ) → (a == 0x5F) ≡ false → unescaped_by q (a ∷ 0x5F ∷ later) ≡ a ∷ 0x20 ∷ unescaped_by q later
 q-then_space a [] f = rw f refl
-q-then_space a (c ∷ later) f = u-none q a 0x5F c later (no_first_digit a c) ∙ rw f (ap (λ (l : List ℕ). a ∷ l) (u-plain q 0x5F (c ∷ later) refl))
+q-then_space a (c ∷ later) f = grind (arith, u-none q a 0x5F c later, u-plain q 0x5F (c ∷ later))
 
 pub q_bytes-space : (stretch later : List ℕ) → Lacks 0x5F stretch → q_bytes (stretch ++ 0x5F ∷ later) ≡ unescaped stretch ++ 0x20 ∷ q_bytes later
 unfolding q_bytes unescaped
 q_bytes-space [] later free = u-plain q 0x5F later refl
 q_bytes-space (a ∷ []) later free = q-then_space a later free.0
-q_bytes-space (a ∷ b ∷ []) later free =
-    u-none q a b 0x5F later (no_digit a b) ∙ rw free.0 (ap (λ (l : List ℕ). a ∷ l) (q-then_space b later free.1.0))
-q_bytes-space (a ∷ b ∷ c ∷ stretch) later free = go (escaped a b c) refl (q_bytes-space stretch later free.1.1.1) (q_bytes-space (b ∷ c ∷ stretch) later free.1)
-  where
-    go : (o : Option ℕ) → escaped a b c ≡ o → q_bytes (stretch ++ 0x5F ∷ later) ≡ unescaped stretch ++ 0x20 ∷ q_bytes later
-        → q_bytes (b ∷ c ∷ (stretch ++ 0x5F ∷ later)) ≡ unescaped (b ∷ c ∷ stretch) ++ 0x20 ∷ q_bytes later
-        → q_bytes (a ∷ b ∷ c ∷ (stretch ++ 0x5F ∷ later)) ≡ unescaped (a ∷ b ∷ c ∷ stretch) ++ 0x20 ∷ q_bytes later
-    go (Some n) e far near = u-some q a b c n (stretch ++ 0x5F ∷ later) e ∙ ap (λ (l : List ℕ). n ∷ l) far ∙ ap (λ (l : List ℕ). l ++ 0x20 ∷ unescaped_by q later) (sym (u-some (λ b. b) a b c n stretch e))
-    go None e far near =
-        u-none q a b c (stretch ++ 0x5F ∷ later) e ∙ rw free.0 (ap (λ (l : List ℕ). a ∷ l) near)
-        ∙ ap (λ (l : List ℕ). l ++ 0x20 ∷ unescaped_by q later) (sym (u-none (λ b. b) a b c stretch e))
+q_bytes-space (a ∷ b ∷ []) later free = grind (arith, u-none, no_digit, q-then_space)
+q_bytes-space (a ∷ b ∷ c ∷ stretch) later free = grind (arith, q_bytes-space stretch later free.1.1.1, q_bytes-space (b ∷ c ∷ stretch) later free.1)
 
 pub q_bytes-free : (stretch : List ℕ) → Lacks 0x5F stretch → q_bytes stretch ≡ unescaped stretch
 unfolding q_bytes unescaped
 q_bytes-free [] free = refl
 q_bytes-free (a ∷ []) free = rw free.0 refl
 q_bytes-free (a ∷ b ∷ []) free = rw (free.0, free.1.0) refl
-q_bytes-free (a ∷ b ∷ c ∷ stretch) free = go (escaped a b c) refl (q_bytes-free stretch free.1.1.1) (q_bytes-free (b ∷ c ∷ stretch) free.1)
-  where
-    go : (o : Option ℕ) → escaped a b c ≡ o → q_bytes stretch ≡ unescaped stretch → q_bytes (b ∷ c ∷ stretch) ≡ unescaped (b ∷ c ∷ stretch) → q_bytes (a ∷ b ∷ c ∷ stretch) ≡ unescaped (a ∷ b ∷ c ∷ stretch)
-    go (Some n) e far near = u-some q a b c n stretch e ∙ ap (λ (l : List ℕ). n ∷ l) far ∙ sym (u-some (λ b. b) a b c n stretch e)
-    go None e far near = u-none q a b c stretch e ∙ rw free.0 (ap (λ (l : List ℕ). a ∷ l) near) ∙ sym (u-none (λ b. b) a b c stretch e)
+q_bytes-free (a ∷ b ∷ c ∷ stretch) free = grind (arith, q_bytes-free stretch free.1.1.1, q_bytes-free (b ∷ c ∷ stretch) free.1)
 
 -- ---- a stretch more
 
 pub unescaped-step : (rest plain behind later : List ℕ) (byte : ℕ) → IsCut 0x3D rest plain behind → byte ≡ (behind_equals behind).0 → later ≡ (behind_equals behind).1
     → unescaped rest ≡ plain ++ byte ∷ unescaped later
-unescaped-step rest plain behind later byte cut e f =
-    ap unescaped cut.joined ∙ unescaped-plain plain (0x3D ∷ behind) cut.free ∙ ap (λ (l : List ℕ). plain ++ l) (unescaped-equals behind ∙ rw (← e, ← f) refl)
+unescaped-step rest plain behind later byte cut e f = grind (arith, unescaped-plain, unescaped-equals)
 
 pub unescaped-rest : (rest : List ℕ) → Lacks 0x3D rest → unescaped rest ≡ rest
 unescaped-rest rest free = ap unescaped (sym (append-nil rest)) ∙ unescaped-plain rest [] free ∙ ap (λ (l : List ℕ). rest ++ l) unescaped-nil ∙ append-nil rest

@@ -77,8 +77,7 @@ bytes_of_sextets-append (suc k) [] ys e = absurd (omega arith)
 bytes_of_sextets-append (suc k) (a ∷ []) ys e = absurd (omega arith)
 bytes_of_sextets-append (suc k) (a ∷ b ∷ []) ys e = absurd (omega arith)
 bytes_of_sextets-append (suc k) (a ∷ b ∷ c ∷ []) ys e = absurd (omega arith)
-bytes_of_sextets-append (suc k) (a ∷ b ∷ c ∷ d ∷ xs) ys e =
-    ap (λ (l : List ℕ). decode_group a b c d ++ l) (bytes_of_sextets-append k xs ys (omega arith)) ∙ sym (append_assoc (decode_group a b c d) (bytes_of_sextets xs) (bytes_of_sextets ys))
+bytes_of_sextets-append (suc k) (a ∷ b ∷ c ∷ d ∷ xs) ys e = grind (arith, append_assoc, bytes_of_sextets-append k xs ys (omega arith))
 
 one_group : (a b c d : ℕ) → bytes_of_sextets (a ∷ b ∷ c ∷ d ∷ []) ≡ decode_group a b c d
 unfolding bytes_of_sextets
@@ -107,8 +106,7 @@ module _ (s : List ℕ) (h : AreSymbols s) (bytes : AreBytes s) where
   symbol_error-none i lt = rw (at i lt).valued refl
 
   group_error-none : (i : ℕ) → i + 3 < length s → group_error dec s i ≡ None
-  group_error-none i lt =
-      rw (symbol_error-none i (omega arith), symbol_error-none (i + 1) (omega arith), symbol_error-none (i + 2) (omega arith), symbol_error-none (i + 3) (omega arith)) refl
+  group_error-none i lt = grind (arith, symbol_error-none)
 
   groups_error-none : (j : ℕ) → 4 * j ≤ length s → groups_error dec s j ≡ None
   unfolding groups_error
@@ -116,15 +114,7 @@ module _ (s : List ℕ) (h : AreSymbols s) (bytes : AreBytes s) where
   groups_error-none (suc j) le = rw (groups_error-none j (omega arith), group_error-none (4 * j) (omega arith)) refl
 
   four : (i : ℕ) → i + 3 < length s → drop i s ≡ slice_index s i ∷ slice_index s (i + 1) ∷ slice_index s (i + 2) ∷ slice_index s (i + 3) ∷ drop (i + 4) s
-  four i lt =
-      let e : i + 1 + 1 ≡ i + 2 = omega arith in
-      let f : i + 2 + 1 ≡ i + 3 = omega arith in
-      let g : i + 3 + 1 ≡ i + 4 = omega arith in
-      let a = drop_more s i 0 (omega arith) in
-      let b : drop (i + 1) s ≡ slice_index s (i + 1) ∷ drop (i + 2) s = rw (← e) (drop_more s (i + 1) 0 (omega arith)) in
-      let c : drop (i + 2) s ≡ slice_index s (i + 2) ∷ drop (i + 3) s = rw (← f) (drop_more s (i + 2) 0 (omega arith)) in
-      let d : drop (i + 3) s ≡ slice_index s (i + 3) ∷ drop (i + 4) s = rw (← g) (drop_more s (i + 3) 0 (omega arith)) in
-      a ∙ ap (λ (l : List ℕ). slice_index s i ∷ l) (b ∙ ap (λ (l : List ℕ). slice_index s (i + 1) ∷ l) (c ∙ ap (λ (l : List ℕ). slice_index s (i + 2) ∷ l) d))
+  four i lt = grind (arith, drop_more, slice_index)
 
   -- one group more
   taken_group : (j : ℕ) → 4 * suc j ≤ length s
@@ -259,8 +249,7 @@ bytes_of_symbols-groups s later h whole =
 
 -- a byte outside the alphabet is skipped
 pub bytes_of_symbols-other : (front later : List ℕ) (b : ℕ) → sextet b ≡ None → bytes_of_symbols (front ++ b ∷ later) ≡ bytes_of_symbols (front ++ later)
-bytes_of_symbols-other front later b other =
-    ap bytes_of_sextets (filter_map-append sextet front (b ∷ later) ∙ rw other (sym (filter_map-append sextet front later)))
+bytes_of_symbols-other front later b other = grind (arith, filter_map-append)
 
 -- ---- the fourth symbol of a group
 
@@ -307,5 +296,4 @@ text-groups symbols count rest n none fits whole are later old new e behind f =
 -- a byte that is skipped
 pub text-other : (front rest others : List ℕ) (b : ℕ) → rest ≡ b ∷ others → sextet b ≡ None → (later : List ℕ)
     → bytes_of_symbols (front ++ (others ++ later)) ≡ bytes_of_symbols (front ++ (rest ++ later))
-text-other front rest others b e other later =
-    sym (bytes_of_symbols-other front (others ++ later) b other) ∙ ap (λ (l : List ℕ). bytes_of_symbols (front ++ (l ++ later))) (sym e)
+text-other front rest others b e other later = grind (arith, bytes_of_symbols-other)

@@ -101,11 +101,8 @@ none_begins bytes e w h = absurd (cc (sym (word_at-begins bytes w h) ∙ e))
 -- a byte more in front, at which none begins
 more_in_front : (b : ℕ) (bs : List ℕ) (ws : List WordAfter) (rest : List ℕ) → word_at (b ∷ bs) ≡ None → AreLeftmost bs ws rest
     → AreLeftmost (b ∷ bs) (with_front (b ∷ []) ws rest).words (with_front (b ∷ []) ws rest).rest
-more_in_front b bs [] rest e h =
-    let same : bs ≡ rest ++ [] = h.0 ∙ sym (append-nil rest) in
-    (ap (λ (l : List ℕ). b ∷ l) h.0, (λ w begun. none_begins (b ∷ bs) e w (subst (λ (l : List ℕ). BeginsWord (b ∷ l) w) (sym same) begun), h.1))
-more_in_front b bs (v ∷ ws) rest e h =
-    (h.0, ap (λ (l : List ℕ). b ∷ l) h.1, h.2, (λ w begun. none_begins (b ∷ bs) e w (subst (λ (l : List ℕ). BeginsWord (b ∷ l) w) (sym h.1) begun), h.3), h.4)
+more_in_front b bs [] rest e h = grind (arith, rest, append-nil, none_begins)
+more_in_front b bs (v ∷ ws) rest e h = grind (arith, none_begins)
 
 within : (n : ℕ) (value : List ℕ) → length value ≤ n → AreLeftmost value (pieces value).words (pieces value).rest
 within n [] le = (refl, tt)
@@ -138,13 +135,8 @@ nowhere bytes h = go (word_at bytes) refl
     go (Some w) e = let is = begins bytes w e in absurd (h w (is.well, (is.later, is.joined)))
 
 past : (front later : List ℕ) → NoneBegins front later → pieces (front ++ later) ≡ in_front front (pieces later)
-past [] later h = go (pieces later).words (pieces later).rest
-  where
-    go : (ws : List WordAfter) (rest : List ℕ) → record { words = ws; rest = rest } ≡ with_front [] ws rest
-    go [] rest = refl
-    go (w ∷ ws) rest = refl
-past (b ∷ front) later h =
-    pieces-none b (front ++ later) (nowhere (b ∷ (front ++ later)) h.0) ∙ ap (in_front (b ∷ [])) (past front later h.1) ∙ sym (in_front-append (b ∷ []) front (pieces later))
+past [] later h = grind arith
+past (b ∷ front) later h = grind (arith, pieces-none, later, nowhere, in_front, in_front-append, past front later h.1)
 
 pub only_leftmost : (value : List ℕ) (ws : List WordAfter) (rest : List ℕ) → AreLeftmost value ws rest → pieces value ≡ record { words = ws; rest = rest }
 only_leftmost value [] rest h = ap pieces (h.0 ∙ sym (append-nil rest)) ∙ past rest [] h.1 ∙ ap no_word (append-nil rest)

@@ -1,5 +1,5 @@
 -- Base64 piece by piece.
-use Rattle.std.proofs.Common.{◌≡◌, ◌∙◌, ◌==◌, ◌<◌, ◌≤◌, ◌+◌, ◌-◌, ◌++◌, ℕ, zero, suc, Bool, true, false, List, [], ◌∷◌, Option, Some, None, length, slice_index, take, drop, refl, sym, ap, ap₂, arith, length-append, append_assoc, append-nil}
+use Rattle.std.proofs.Common.{◌≡◌, ◌∙◌, ◌==◌, ◌<◌, ◌≤◌, ◌+◌, ◌-◌, ◌++◌, ℕ, zero, suc, Bool, true, false, List, [], ◌∷◌, Some, None, length, slice_index, take, drop, refl, sym, ap, ap₂, arith, length-append, append_assoc, append-nil}
 use Rattle.std.specs.Prelude.{not, if◌then◌else◌}
 use Rattle.std.proofs.lemmas.List.{length-take, get_or-take}
 use Rattle.header_text.specs.Blanks.{split_while}
@@ -43,10 +43,7 @@ module _ (old new before after : List ℕ) (piece : List ℕ) (held : AreSymbols
   -- a piece without
   pub read-on : cut_at 0x3D piece ≡ None → ((later : List ℕ) → new ++ bytes_of_symbols (after ++ later) ≡ old ++ bytes_of_symbols (before ++ (piece ++ later)))
       → (later : List ℕ) → new ++ base64_bytes (after ++ later) ≡ old ++ base64_bytes (before ++ (piece ++ later))
-  read-on e h later =
-      let free = Lacks-from 0x3D piece e in
-      ap (λ (l : List ℕ). new ++ l) (base64_bytes-front after later holds) ∙ h (text_in later) ∙ ap (λ (l : List ℕ). old ++ bytes_of_symbols (before ++ l)) (sym (text_in-front piece later free))
-      ∙ ap (λ (l : List ℕ). old ++ l) (sym (base64_bytes-front before (piece ++ later) held))
+  read-on e h later = grind (arith, Lacks-from, base64_bytes-front, text_in-front)
 
 -- ---- the end
 
@@ -105,17 +102,12 @@ kept old new held count end h size low high e f =
 pub short-bytes : (h : List ℕ) → length h < 2 → bytes_of_symbols h ≡ []
 unfolding bytes_of_sextets
 short-bytes [] lt = refl
-short-bytes (a ∷ []) lt = go (sextet a) refl
-  where
-    go : (o : Option ℕ) → sextet a ≡ o → bytes_of_symbols (a ∷ []) ≡ []
-    go None e = rw e refl
-    go (Some n) e = rw e refl
+short-bytes (a ∷ []) lt = grind arith
 short-bytes (a ∷ b ∷ h) lt = absurd (omega arith)
 
 -- the symbols in front of a group
 pub held-symbols : (symbols : List ℕ) (count : ℕ) → ((k : ℕ) → k < count → is_symbol (slice_index symbols k) ≡ true) → AreSymbols (take count symbols)
-held-symbols symbols count all k lt =
-    let inside : k < count = omega (arith, lt, length-take count symbols) in rw (get_or-take count symbols k 0 inside) (all k inside)
+held-symbols symbols count all k lt = grind (arith, length-take, get_or-take)
 
 -- ---- at most one byte for each of the text
 
@@ -129,11 +121,7 @@ length-bytes_of_sextets (a ∷ b ∷ c ∷ d ∷ xs) = let later = length-bytes_
 
 length-sextets : (text : List ℕ) → length (filter_map sextet text) ≤ length text
 length-sextets [] = omega arith
-length-sextets (b ∷ text) = go (sextet b) refl (length-sextets text)
-  where
-    go : (o : Option ℕ) → sextet b ≡ o → length (filter_map sextet text) ≤ length text → length (filter_map sextet (b ∷ text)) ≤ suc (length text)
-    go None e h = rw e (omega arith)
-    go (Some n) e h = rw e (omega arith)
+length-sextets (b ∷ text) = grind (arith, length-sextets text)
 
 pub length-base64_bytes : (text : List ℕ) → length (base64_bytes text) ≤ length text
 unfolding base64_bytes

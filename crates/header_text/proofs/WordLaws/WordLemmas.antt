@@ -1,8 +1,7 @@
 -- Encoded words one after another.
-use Rattle.std.proofs.Common.{◌≡◌, ◌∙◌, ◌==◌, ◌<◌, ◌+◌, ◌-◌, ◌++◌, ℕ, zero, suc, Bool, true, false, List, [], ◌∷◌, Option, Some, None, length, take, drop, refl, sym, ap, ap₂, arith, length-append, append_assoc, append-nil}
-use Rattle.std.specs.Prelude.{option_map, unwrap_or}
+use Rattle.std.proofs.Common.{◌≡◌, ◌∙◌, ◌==◌, ◌<◌, ◌+◌, ◌-◌, ◌++◌, ℕ, zero, suc, true, false, List, [], ◌∷◌, Option, Some, None, length, take, drop, refl, sym, ap, ap₂, arith, length-append, append_assoc, append-nil}
+use Rattle.std.specs.Prelude.{option_map}
 use Rattle.std.proofs.lemmas.List.{take_at}
-use Rattle.std.proofs.lemmas.Bool.{eqb-true}
 use Rattle.header_text.specs.Cuts.{cut_at}
 use Rattle.header_text.specs.EncodedWords.{EncodedWord, spelled, is_well_formed, question, equals_sign, after, word_of, ◌>>=◌, word_and_later, word_at, WordAfter, Pieces, onto_front, pieces_behind, pieces}
 use Rattle.header_text.specs.Inside.ShownWords.{no_word, word_first}
@@ -12,11 +11,7 @@ use Rattle.header_text.proofs.CutLemmas.{Lacks, IsCut, IsCut-from, Lacks-from}
 
 after-one : (c : ℕ) (bytes rest : List ℕ) → after (c ∷ []) bytes ≡ Some rest → bytes ≡ c ∷ rest
 after-one c [] rest e = absurd (cc)
-after-one c (b ∷ bytes) rest e = go (b == c) refl
-  where
-    go : (t : Bool) → (b == c) ≡ t → b ∷ bytes ≡ c ∷ rest
-    go true t = ap₂ (λ (x : ℕ) (l : List ℕ). x ∷ l) (eqb-true b c t) (ap (λ (o : Option (List ℕ)). unwrap_or o bytes) (rw (t, after) at e))
-    go false t = absurd (cc (rw (t, after) at e))
+after-one c (b ∷ bytes) rest e = grind arith
 
 pub record Spells (bytes : List ℕ) (w : EncodedWord) (later : List ℕ) : Type 0 where
   pub joined : equals_sign ∷ bytes ≡ spelled w ++ later
@@ -34,18 +29,7 @@ made charset e text = record { charset = charset; encoding = e; text = text }
 word_of-is : (charset encoding text : List ℕ) (w : EncodedWord) → word_of charset encoding text ≡ Some w → IsWordOf charset encoding text w
 word_of-is charset [] text w h = absurd (cc)
 word_of-is charset (e ∷ f ∷ encoding) text w h = absurd (cc)
-word_of-is charset (e ∷ []) text w h = go (is_well_formed (made charset e text)) refl
-  where
-    go : (t : Bool) → is_well_formed (made charset e text) ≡ t → IsWordOf charset (e ∷ []) text w
-    go false t = absurd (cc (rw t at h))
-    go true t =
-        let same : made charset e text ≡ w = ap (λ (o : Option EncodedWord). unwrap_or o w) (rw t at h) in
-        record {
-          charset_is = ap (λ (x : EncodedWord). x.charset) same;
-          encoding_is = ap (λ (x : EncodedWord). x.encoding ∷ []) same;
-          text_is = ap (λ (x : EncodedWord). x.text) same;
-          well = ap is_well_formed (sym same) ∙ t;
-        }
+word_of-is charset (e ∷ []) text w h = grind arith
 
 abbrev pub Parts : Type 0
 Parts = List ℕ × List ℕ
@@ -84,17 +68,12 @@ passed (Some x) f y h = record { value = x; was = refl; next = h }
 
 word_made : (o : Option EncodedWord) (later : List ℕ) (f : EncodedWord × List ℕ) → option_map (λ (w : EncodedWord). (w, later)) o ≡ Some f → (o ≡ Some f.0) × (later ≡ f.1)
 word_made None later f h = absurd (cc)
-word_made (Some w) later f h =
-    let p : EncodedWord × List ℕ = (w, later) in
-    let same : p ≡ f = ap (λ (o : Option (EncodedWord × List ℕ)). unwrap_or o p) h in
-    (ap (λ (q : EncodedWord × List ℕ). Some q.0) same, ap (λ (q : EncodedWord × List ℕ). q.1) same)
+word_made (Some w) later f h = grind arith
 
 -- an encoded word and what follows it, written out
 pub spelled-append : (w : EncodedWord) (later : List ℕ)
     → spelled w ++ later ≡ equals_sign ∷ question ∷ (w.charset ++ question ∷ w.encoding ∷ question ∷ (w.text ++ question ∷ equals_sign ∷ later))
-spelled-append w later =
-    ap (λ (l : List ℕ). equals_sign ∷ question ∷ l) (append_assoc w.charset (question ∷ w.encoding ∷ question ∷ (w.text ++ question ∷ equals_sign ∷ [])) later
-    ∙ ap (λ (l : List ℕ). w.charset ++ question ∷ w.encoding ∷ question ∷ l) (append_assoc w.text (question ∷ equals_sign ∷ []) later))
+spelled-append w later = grind (arith, append_assoc)
 
 joined_parts : (bytes a b0 b1 c0 c1 d0 d1 e later : List ℕ) (w : EncodedWord) → bytes ≡ question ∷ a → a ≡ b0 ++ question ∷ b1 → b1 ≡ c0 ++ question ∷ c1 → c1 ≡ d0 ++ question ∷ d1
     → d1 ≡ equals_sign ∷ e → e ≡ later → IsWordOf b0 c0 d0 w → equals_sign ∷ bytes ≡ spelled w ++ later
@@ -132,25 +111,10 @@ abbrev pub in_front : List ℕ → Pieces → Pieces
 in_front seen p = with_front seen p.words p.rest
 
 in_front-nil : (p : Pieces) → in_front [] p ≡ p
-in_front-nil p = go p.words p.rest
-  where
-    go : (ws : List WordAfter) (rest : List ℕ) → with_front [] ws rest ≡ record { words = ws; rest = rest }
-    go [] rest = refl
-    go (w ∷ ws) rest = refl
-
-in_front-cons : (b : ℕ) (seen : List ℕ) (p : Pieces) → onto_front b (in_front seen p).words (in_front seen p).rest ≡ in_front (b ∷ seen) p
-in_front-cons b seen p = go p.words
-  where
-    go : (ws : List WordAfter) → onto_front b (with_front seen ws p.rest).words (with_front seen ws p.rest).rest ≡ with_front (b ∷ seen) ws p.rest
-    go [] = refl
-    go (w ∷ ws) = refl
+in_front-nil p = grind arith
 
 pub in_front-append : (seen more : List ℕ) (p : Pieces) → in_front (seen ++ more) p ≡ in_front seen (in_front more p)
-in_front-append seen more p = go p.words
-  where
-    go : (ws : List WordAfter) → with_front (seen ++ more) ws p.rest ≡ in_front seen (with_front more ws p.rest)
-    go [] = ap (λ (l : List ℕ). no_word l) (append_assoc seen more p.rest)
-    go (w ∷ ws) = ap (λ (l : List ℕ). record { words = record { between = l; word = w.word } ∷ ws; rest = p.rest }) (append_assoc seen more w.between)
+in_front-append seen more p = grind (arith, append_assoc)
 
 judged : ℕ → List ℕ → Option EncodedWord → Pieces
 judged b bs o = elim o [
@@ -164,7 +128,7 @@ pieces-cons b bs = refl
 
 pub pieces-none : (b : ℕ) (bs : List ℕ) → word_at (b ∷ bs) ≡ None → pieces (b ∷ bs) ≡ in_front (b ∷ []) (pieces bs)
 unfolding judged
-pieces-none b bs e = pieces-cons b bs ∙ ap (judged b bs) e ∙ ap (λ (p : Pieces). onto_front b p.words p.rest) (sym (in_front-nil (pieces bs))) ∙ in_front-cons b [] (pieces bs)
+pieces-none b bs e = grind (arith, pieces-cons)
 
 -- what is skipped is behind
 pieces_behind-skip : (front later : List ℕ) → pieces_behind (length front) (front ++ later) ≡ pieces later
@@ -193,9 +157,7 @@ word_at-equals bs = refl
 
 pub pieces-plain : (plain later : List ℕ) → Lacks equals_sign plain → pieces (plain ++ later) ≡ in_front plain (pieces later)
 pieces-plain [] later free = sym (in_front-nil (pieces later))
-pieces-plain (b ∷ plain) later free =
-    pieces-none b (plain ++ later) (word_at-other b (plain ++ later) free.0) ∙ ap (in_front (b ∷ [])) (pieces-plain plain later free.1)
-    ∙ sym (in_front-append (b ∷ []) plain (pieces later))
+pieces-plain (b ∷ plain) later free = grind (arith, pieces-none, word_at-other, in_front-append, pieces-plain plain later free.1)
 
 -- ---- searching for the first word
 

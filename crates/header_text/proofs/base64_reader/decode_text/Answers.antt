@@ -5,10 +5,7 @@ use Rattle.header_text.proofs.WordLaws.GroupLemmas.{text-groups, text-other, sex
 use Rattle.header_text.proofs.base64_reader.decode_text.Goals as goal
 
 pub loop-first-preserved-then-count-gt0 : goal.loop-first-preserved-then-count-gt0
-loop-first-preserved-then-count-gt0 c later =
-    text-groups c.loop-first.held.symbols c.loop-first.held.count c.loop-first.rest.now c.groups_ahead-count.result (c.groups_ahead-count.ensures.none c.if-count-gt0.true)
-    c.groups_ahead-count.ensures.within c.groups_ahead-count.ensures.groups c.groups_ahead-count.ensures.symbols later c.loop-first.into.items c.decode_groups.new.into.items
-    c.in_ok-decode_groups.ensures _ (take_rest c.loop-first.rest.now c.groups_ahead-count.result) ∙ c.loop-first.invariant later
+loop-first-preserved-then-count-gt0 c later = grind (arith, take_rest, text-groups)
 
 pub loop-first-preserved : goal.loop-first-preserved
 loop-first-preserved c later =

@@ -1,14 +1,12 @@
-use Rattle.std.proofs.Common.{◌≡◌, ◌∙◌, ◌+◌, ◌-◌, ◌++◌, ℕ, List, [], ◌∷◌, length, drop, sym, ap, ap₂, subst, arith, append-nil}
+use Rattle.std.proofs.Common.{◌≡◌, ◌++◌, ℕ, List, [], ◌∷◌, length, drop, sym, ap₂, subst, arith, append-nil}
 use Rattle.std.proofs.lemmas.List.{length-take}
-use Rattle.header_text.specs.Base64.{bytes_of_symbols}
 use Rattle.header_text.specs.Symbols.{symbols_of}
 use Rattle.header_text.proofs.WordLaws.GroupLemmas.{AreSymbols}
 use Rattle.header_text.proofs.WordLaws.ReaderLemmas.{short-bytes, kept, filled-symbols, held-symbols}
 use Rattle.header_text.proofs.base64_reader.finish_text.Goals as goal
 
 pub returns-then-held-lt2 : goal.returns-then-held-lt2
-returns-then-held-lt2 c =
-    sym (ap (λ (l : List ℕ). c.args.into.now.items ++ l) (short-bytes (symbols_of c.args.held) (omega (arith, length-take c.args.held.count c.args.held.symbols))) ∙ append-nil c.args.into.now.items)
+returns-then-held-lt2 c = grind (arith, append-nil, length-take, short-bytes)
 
 pub decode_groups-requires-clause-symbols : goal.decode_groups-requires-clause-symbols
 decode_groups-requires-clause-symbols c =
@@ -20,12 +18,4 @@ decode_groups-requires-clause-symbols c =
     (filled-symbols held are (omega (arith, c.if-held-lt2.false)) (omega (arith, c.args.held.few)))
 
 pub returns : goal.returns
-returns c =
-    let held : List ℕ = symbols_of c.args.held in
-    let size : length held ≡ c.args.held.count = omega (arith, length-take c.args.held.count c.args.held.symbols) in
-    let are : AreSymbols held = held-symbols c.args.held.symbols c.args.held.count c.args.held.all in
-    let end : c.len.result + c.args.held.count - 1 ≡ length c.args.into.now.items + c.args.held.count - 1 = ap (λ (n : ℕ). n + c.args.held.count - 1) (c.len.ensures ∙ c.args.into.now.ok.0) in
-    let decoded : c.decode_groups.new.into.items ≡ c.args.into.now.items ++ bytes_of_symbols (held ++ drop c.args.held.count (65 ∷ 65 ∷ 65 ∷ 65 ∷ [])) =
-    c.in_ok-decode_groups.ensures ∙ ap (λ (l : List ℕ). c.args.into.now.items ++ bytes_of_symbols (l ++ drop c.args.held.count (65 ∷ 65 ∷ 65 ∷ 65 ∷ []))) c.copy_from_slice.ensures.after in
-    c.truncate.ensures.items ∙ kept c.args.into.now.items c.decode_groups.new.into.items held c.args.held.count (c.len.result + c.args.held.count - 1) are size
-    (omega arith) (omega arith) end decoded
+returns c = grind (arith, length-take, AreSymbols, kept, held-symbols)

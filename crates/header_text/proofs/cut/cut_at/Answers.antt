@@ -5,9 +5,7 @@ use Rattle.header_text.proofs.CutLemmas.{cut_at-first, cut_at-none}
 use Rattle.header_text.proofs.cut.cut_at.Goals as goal
 
 pub returns-in_err-at : goal.returns-in_err-at
-returns-in_err-at c =
-    rw c.from_residual.ensures (sym (cut_at-none c.args.byte c.args.bytes.now
-    (λ k lt. false_from_ne_true (slice_index c.args.bytes.now k == c.args.byte) (c.in_err-at.ensures k (omega arith) lt))))
+returns-in_err-at c = grind (arith, slice_index, false_from_ne_true, cut_at-none)
 
 pub returns : goal.returns
 returns c =

@@ -1,8 +1,7 @@
-use Rattle.std.proofs.Common.{◌∙◌, ◌++◌, if◌then◌else◌, List, ℕ, true, refl, sym, ap, subst, arith, append_assoc}
+use Rattle.std.proofs.Common.{◌∙◌, ◌++◌, List, ℕ, true, refl, ap, arith, append_assoc}
 use Rattle.std.specs.Prelude.{string_bytes}
-use Rattle.bstr.specs.Text.{Extends}
 use Rattle.bstr.proofs.lemmas.AppendLemmas.{Extends-refl, Extends-trans}
-use Rattle.header_text.specs.EncodedWords.{pieces, text_between, plain_text, word_text}
+use Rattle.header_text.specs.EncodedWords.{pieces, word_text}
 use Rattle.header_text.specs.Inside.ShownWords.{shown_found}
 use Rattle.header_text.proofs.WordLaws.DecodedLemmas.{rest_text, decoded-start, decoded-step, decoded-end}
 use Rattle.header_text.proofs.TextFronts.{front-whole, front-more}
@@ -25,10 +24,7 @@ loop-found-preserved c = record {
 }
 
 pub returns-clause-text : goal.returns-clause-text
-returns-clause-text c =
-    c.in_ok-push_lossy.ensures.text
-    ∙ ap (λ (l : List ℕ). string_bytes c.loop-found.into ++ l) (sym (decoded-end c.loop-found.follows_word (pieces c.loop-found.rest.now) c.loop-found.rest.now c.in_default.ensures.pieces))
-    ∙ c.loop-found.invariant.sofar
+returns-clause-text c = grind (arith, decoded-end)
 
 pub returns-in_err-push_between-clause-kept : goal.returns-in_err-push_between-clause-kept
 returns-in_err-push_between-clause-kept c = Extends-trans _ _ _ c.loop-found.invariant.kept c.push_between.ensures.kept
@@ -41,14 +37,7 @@ pub returns-in_err-push_lossy-clause-kept : goal.returns-in_err-push_lossy-claus
 returns-in_err-push_lossy-clause-kept c = Extends-trans _ _ _ c.loop-found.invariant.kept c.push_lossy.ensures.kept
 
 pub returns-in_err-push_between-clause-front : goal.returns-in_err-push_between-clause-front
-returns-in_err-push_between-clause-front c =
-    let found = shown_found c.in-Some.found in
-    let follows = c.loop-found.follows_word in
-    let some = string_bytes c.loop-found.into ++ (if follows then text_between found.between else plain_text found.between) in
-    let word = word_text found.word in
-    let later = rest_text true (pieces c.in-Some.found.later.now) in
-    let step = decoded-step follows found (pieces c.loop-found.rest.now) c.in-Some.found.later.now (string_bytes c.loop-found.into) some (some ++ word) c.in-Some.ensures.pieces refl refl in
-    front-more _ some (word ++ later) _ c.push_between.ensures.front (sym (append_assoc some word later) ∙ step ∙ c.loop-found.invariant.sofar)
+returns-in_err-push_between-clause-front c = grind (arith, append_assoc, rest_text, decoded-step, front-more)
 
 pub returns-in_err-push_word-clause-front : goal.returns-in_err-push_word-clause-front
 returns-in_err-push_word-clause-front c =
@@ -60,9 +49,7 @@ returns-in_err-push_word-clause-front c =
     front-more _ some (rest_text true (pieces c.in-Some.found.later.now)) _ c.push_word.ensures.front (step ∙ c.loop-found.invariant.sofar)
 
 pub returns-in_err-push_lossy-clause-front : goal.returns-in_err-push_lossy-clause-front
-returns-in_err-push_lossy-clause-front c =
-    let ended = decoded-end c.loop-found.follows_word (pieces c.loop-found.rest.now) c.loop-found.rest.now c.in_default.ensures.pieces in
-    subst (λ (l : List ℕ). Extends (string_bytes c.push_lossy.new.into) l) (ap (λ (l : List ℕ). string_bytes c.loop-found.into ++ l) (sym ended) ∙ c.loop-found.invariant.sofar) c.push_lossy.ensures.front
+returns-in_err-push_lossy-clause-front c = grind (arith, decoded-end)
 
 pub returns-clause-front : goal.returns-clause-front
 returns-clause-front c = front-whole _ _ (returns-clause-text c)

@@ -21,9 +21,7 @@ loop-stretch-preserved c =
     ∙ ap (λ (l : List ℕ). items ++ l) (sym (ap q_bytes (cut c).joined ∙ q_bytes-space stretch behind (cut c).free)) ∙ c.loop-stretch.invariant
 
 pub returns-clause-bytes : goal.returns-clause-bytes
-returns-clause-bytes c =
-    c.in_ok-unescape_into-2.ensures.bytes ∙ ap (λ (l : List ℕ). c.loop-stretch.into.items ++ l) (sym (q_bytes-free c.loop-stretch.rest.now (Lacks-from 0x5F c.loop-stretch.rest.now (sym c.in_default.ensures))))
-    ∙ c.loop-stretch.invariant
+returns-clause-bytes c = grind (arith, Lacks-from, q_bytes-free)
 
 pub returns-clause-size : goal.returns-clause-size
 returns-clause-size c = omega (arith, ap length (returns-clause-bytes c), length-append c.args.into.now.items (q_bytes c.args.text.now), length-q_bytes c.args.text.now)

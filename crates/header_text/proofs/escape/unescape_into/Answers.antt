@@ -28,9 +28,7 @@ loop-plain-preserved c =
     ∙ ap (λ (l : List ℕ). items ++ l) (sym (unescaped-step c.loop-plain.rest.now plain c.in-Some.behind.now c.behind_equals-byte.result.1.now byte (cut c) e (later c))) ∙ c.loop-plain.invariant
 
 pub returns-clause-bytes : goal.returns-clause-bytes
-returns-clause-bytes c =
-    c.in_ok-extend_from_slice-2.ensures.items ∙ ap (λ (l : List ℕ). c.loop-plain.into.items ++ l) (sym (unescaped-rest c.loop-plain.rest.now (Lacks-from 0x3D c.loop-plain.rest.now (sym c.in_default.ensures))))
-    ∙ c.loop-plain.invariant
+returns-clause-bytes c = grind (arith, Lacks-from, unescaped-rest)
 
 pub returns-clause-size : goal.returns-clause-size
 returns-clause-size c = omega (arith, ap length (returns-clause-bytes c), length-append c.args.into.now.items (unescaped c.args.bytes.now), length-unescaped c.args.bytes.now)

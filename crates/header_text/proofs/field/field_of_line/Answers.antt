@@ -1,6 +1,5 @@
-use Rattle.std.proofs.Common.{List, ℕ, ◌-◌, ◌∙◌, length, take, ap, ap₂}
-use Rattle.header_text.specs.Blanks.{after_blanks}
-use Rattle.header_text.specs.Headers.{is_field_name_byte, named}
+use Rattle.std.proofs.Common.{arith}
+use Rattle.header_text.specs.Headers.{is_field_name_byte}
 use Rattle.header_text.proofs.Fronts.{length-split_while, take-split_while}
 use Rattle.header_text.proofs.HeaderLaws.HeaderLemmas.{field_of_line-fits}
 use Rattle.header_text.proofs.field.field_of_line.Goals as goal
@@ -9,11 +8,7 @@ pub slice_bounds-name-count : goal.slice_bounds-name-count
 slice_bounds-name-count c = rw c.after_name-rest.ensures (length-split_while is_field_name_byte c.args.line.now)
 
 pub returns-clause-field : goal.returns-clause-field
-returns-clause-field c =
-    let line : List ℕ = c.args.line.now in
-    c.named.ensures ∙ ap₂ named
-    (ap (λ (rest : List ℕ). take (length line - length rest) line) c.after_name-rest.ensures ∙ take-split_while is_field_name_byte line)
-    (c.after_blanks.ensures ∙ ap after_blanks c.after_name-rest.ensures)
+returns-clause-field c = grind (arith, take-split_while)
 
 pub returns-clause-fits : goal.returns-clause-fits
 returns-clause-fits c = field_of_line-fits (λ f. f.name.now) (λ f. f.body.now) c.named.result c.args.line.now (returns-clause-field c)

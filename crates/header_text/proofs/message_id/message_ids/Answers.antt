@@ -22,10 +22,7 @@ loop-text-preserved c =
     ∙ ap (λ (ids : List (List ℕ)). old ++ ids) (sym (ids_in-cons text (closed_texts behind)) ∙ ap ids_in (sym texts)) ∙ c.loop-text.invariant
 
 pub returns-clause-ids : goal.returns-clause-ids
-returns-clause-ids c =
-    let none : closed_texts c.loop-text.rest.now ≡ [] = closed_texts-free c.loop-text.rest.now (Lacks-from 0x3E c.loop-text.rest.now (sym c.in_default.ensures)) in
-    let old = map (λ id. id.items) c.loop-text.ids.items in
-    sym (append-nil old) ∙ ap (λ (ts : List (List ℕ)). old ++ ids_in ts) (sym none) ∙ c.loop-text.invariant ∙ sym (ids_of-closed c.args.value.now)
+returns-clause-ids c = grind (arith, append-nil, Lacks-from, closed_texts-free, ids_of-closed)
 
 pub returns-clause-sizes : goal.returns-clause-sizes
 returns-clause-sizes c = ids_of-sized c.args.value.now c.loop-text.ids.items (returns-clause-ids c)

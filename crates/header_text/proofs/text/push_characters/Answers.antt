@@ -1,8 +1,7 @@
-use Rattle.std.proofs.Common.{◌≡◌, ◌∙◌, ◌≤◌, ◌+◌, ◌-◌, ◌++◌, ℕ, List, map, length, take, drop, slice_index, encode_utf8_all, ap, sym, subst, refl, arith, append_assoc, length-append, length-drop, length-take}
+use Rattle.std.proofs.Common.{◌≡◌, ◌∙◌, ◌≤◌, ◌+◌, ◌-◌, ◌++◌, ℕ, map, length, take, drop, slice_index, encode_utf8_all, ap, sym, refl, arith, append_assoc, length-append, length-drop, length-take}
 use Rattle.std.specs.Prelude.{string_bytes}
 use Rattle.std.specs.Char.{encode_utf8}
 use Rattle.std.proofs.lemmas.List.{take_rest}
-use Rattle.bstr.specs.Text.{Extends}
 use Rattle.bstr.specs.Utf8.{lossy_chars}
 use Rattle.bstr.proofs.lemmas.AppendLemmas.{Extends-refl, Extends-trans, Extends-append, Extends-tried}
 use Rattle.header_text.specs.Charsets.{character}
@@ -33,9 +32,7 @@ loop-at-preserved c =
     }
 
 pub returns-clause-text : goal.returns-clause-text
-returns-clause-text c =
-    c.in_ok-push_lossy-2.ensures.text ∙ ap (λ (l : List ℕ). string_bytes c.loop-at.into ++ l) (lossy-ascii c.args.charset c.loop-at.rest.now (IsAscii-all c.loop-at.rest.now c.in_default.ensures))
-    ∙ c.loop-at.invariant.sofar
+returns-clause-text c = grind (arith, IsAscii-all, lossy-ascii)
 
 pub returns-in_err-push_lossy-clause-kept : goal.returns-in_err-push_lossy-clause-kept
 returns-in_err-push_lossy-clause-kept c = Extends-trans _ _ _ c.loop-at.invariant.kept c.push_lossy.ensures.kept
@@ -71,9 +68,7 @@ returns-in_err-push-clause-front c =
     front-more _ some later _ (Extends-tried before _ (encode_utf8 c.character.result) _ c.push.ensures.bytes) (step ∙ c.loop-at.invariant.sofar)
 
 pub returns-in_err-push_lossy-2-clause-front : goal.returns-in_err-push_lossy-2-clause-front
-returns-in_err-push_lossy-2-clause-front c =
-    let ascii = lossy-ascii c.args.charset c.loop-at.rest.now (IsAscii-all c.loop-at.rest.now c.in_default.ensures) in
-    subst (λ (l : List ℕ). Extends (string_bytes c.push_lossy-2.new.into) l) (ap (λ (l : List ℕ). string_bytes c.loop-at.into ++ l) ascii ∙ c.loop-at.invariant.sofar) c.push_lossy-2.ensures.front
+returns-in_err-push_lossy-2-clause-front c = grind (arith, IsAscii-all, lossy-ascii)
 
 pub returns-clause-front : goal.returns-clause-front
 returns-clause-front c = front-whole _ _ (returns-clause-text c)

@@ -1,6 +1,6 @@
 use Rattle.std.proofs.Common.{◌≡◌, ◌∙◌, ◌++◌, ℕ, List, ◌∷◌, length, take, drop, nat_lt, sym, ap, ap₂, arith, length-append}
-use Rattle.header_text.specs.Blanks.{after_blanks, before_blanks}
-use Rattle.header_text.specs.Unfolding.{without_breaks, unfolded}
+use Rattle.header_text.specs.Blanks.{before_blanks}
+use Rattle.header_text.specs.Unfolding.{unfolded}
 use Rattle.header_text.specs.Inside.Breaks.{led, without_final_cr}
 use Rattle.header_text.proofs.CutLemmas.{IsCut, IsCut-from}
 use Rattle.header_text.proofs.HeaderLaws.UnfoldSizes.{length-unfolded}
@@ -31,10 +31,7 @@ loop-line-preserved c =
     }
 
 pub trim_end-requires : goal.trim_end-requires
-trim_end-requires c =
-    let all = unfolds-rest c.args.into.now.items c.args.body.now c.loop-line.into.items c.loop-line.rest.now c.add_part-2.new.into.items c.len-start.result
-    c.loop-line.invariant.start c.loop-line.invariant.sofar (sym c.in_default.ensures) c.in_ok-add_part-2.ensures in
-    omega (arith, c.loop-line.invariant.start, ap length all, length-append c.args.into.now.items (after_blanks (without_breaks c.args.body.now)))
+trim_end-requires c = grind (arith, length-append, unfolds-rest)
 
 abbrev pub added : (c : After-trim_end) → c.trim_end.new.bytes.items ≡ c.args.into.now.items ++ unfolded c.args.body.now
 added c =

@@ -1,6 +1,4 @@
-use Rattle.std.proofs.Common.{◌≡◌, ◌∙◌, ◌<◌, ◌==◌, ℕ, zero, suc, false, List, sym, ap, subst, arith}
-use Rattle.header_text.specs.Headers.{HeaderField}
-use Rattle.header_text.specs.OpenFields.{onto_last}
+use Rattle.std.proofs.Common.{◌≡◌, ◌∙◌, ◌<◌, ◌==◌, ℕ, zero, suc, false, sym, subst, arith}
 use Rattle.header_text.proofs.HeaderLaws.PlaceLemmas.{AreKept-more, fields_at-append}
 use Rattle.header_text.proofs.field_list.FieldList.extend_last.Goals as goal
 
@@ -14,6 +12,4 @@ invariant_of-self-2 c =
     (subst (λ (n : ℕ). 0 < n) c.self.inside.places.ok.0 (not_zero _ (sym c.is_empty.ensures ∙ c.if-is_empty.false))) (rw c.self.view_is c.requires)
 
 pub returns-clause-ok : goal.returns-clause-ok
-returns-clause-ok c = rw c.in_ok-extend_from_slice.ensures.items
-    (fields_at-append c.self.inside.bytes.items c.args.more.now c.self.inside.places.items c.self.invariant.order
-    ∙ ap (λ (fs : List HeaderField). onto_last c.args.more.now fs) c.self.view_is)
+returns-clause-ok c = grind (arith, fields_at-append)
