@@ -1,5 +1,5 @@
 -- The test of a day of the calendar, and the fact.
-use Rattle.std.proofs.Common.{◌≡◌, ℕ, ◌≤◌, Bool, true, false, ◌&&◌, Some, None, refl, ap, sym, ◌∙◌, arith, ℤ, pos, negsuc, ◌≤ℤ◌, ◌<ℤ◌, unsigned_abs, nat_le, to_z, w8}
+use Rattle.std.proofs.Common.{◌≡◌, ℕ, ◌≤◌, Bool, true, false, Some, None, refl, ap, sym, ◌∙◌, arith, ℤ, pos, negsuc, ◌≤ℤ◌, ◌<ℤ◌, unsigned_abs, to_z, w8}
 use Rattle.std.specs.Prelude.{if◌then◌else◌}
 use Rattle.std.proofs.lemmas.Bool.Decides.{nat_tests}
 use Rattle.std.proofs.lemmas.Int.{ints}
@@ -18,22 +18,17 @@ pub record IsCivilDay (year : ℤ) (month day : ℕ) : Type 0 where
   pub day_low : 1 ≤ day
   pub day_high : day ≤ days_in_month year month
 
-abbrev within : ℕ → ℕ → ℕ → ℕ → Bool
-within year month day last = nat_le year 9999 && nat_le 1 month && nat_le month 12 && nat_le 1 day && nat_le day last
-
-within_parts : (y m d last : ℕ) → within y m d last ≡ true → (y ≤ 9999) × (1 ≤ m) × (m ≤ 12) × (1 ≤ d) × (d ≤ last)
-within_parts y m d last e = (grind (arith, nat_tests), grind (arith, nat_tests), grind (arith, nat_tests), grind (arith, nat_tests), grind (arith, nat_tests))
-
-parts_within : (y m d last : ℕ) → y ≤ 9999 → 1 ≤ m → m ≤ 12 → 1 ≤ d → d ≤ last → within y m d last ≡ true
-parts_within y m d last a b c e f = grind (arith, nat_tests)
-
 pub civil_parts : (year : ℤ) (month day : ℕ) → is_civil_day year month day ≡ true → IsCivilDay year month day
-civil_parts year month day e =
-    let p = within_parts (unsigned_abs year) month day (days_in_month year month) e in
-    record { year_in = p.0; month_low = p.1; month_high = p.2; day_low = p.3; day_high = p.4 }
+civil_parts year month day e = record {
+  year_in = grind (arith, nat_tests);
+  month_low = grind (arith, nat_tests);
+  month_high = grind (arith, nat_tests);
+  day_low = grind (arith, nat_tests);
+  day_high = grind (arith, nat_tests);
+}
 
 pub civil_test : (year : ℤ) (month day : ℕ) → IsCivilDay year month day → is_civil_day year month day ≡ true
-civil_test year month day h = parts_within (unsigned_abs year) month day (days_in_month year month) h.year_in h.month_low h.month_high h.day_low h.day_high
+civil_test year month day h = grind (arith, nat_tests, h.year_in, h.month_low, h.month_high, h.day_low, h.day_high)
 
 pub day_number_some : (year : ℤ) (month day : ℕ) → IsCivilDay year month day → day_number year month day ≡ Some (days_from_civil year month day)
 unfolding day_number

@@ -12,10 +12,11 @@ use Rattle.mail_dates.specs.Calendar.{is_civil_day, day_number}
 use Rattle.mail_dates.proofs.CivilDays.{IsCivilDay, civil_parts}
 
 -- through years that begin in March, counted from the year -10000
+abbrev march_count : ℤ → ℕ → ℕ → ℤ
+march_count years month day = pos (march_days (unsigned_abs years) + march_months month + day + 59) -ℤ pos 4371953
+
 abbrev pub march_number : ℤ → ℕ → ℕ → ℤ
-march_number year month day =
-    if nat_le month 2 then pos (march_days (unsigned_abs (year +ℤ pos 9999)) + march_months (month + 12) + day + 59) -ℤ pos 4371953
-    else pos (march_days (unsigned_abs (year +ℤ pos 10000)) + march_months month + day + 59) -ℤ pos 4371953
+march_number year month day = if nat_le month 2 then march_count (year +ℤ pos 9999) (month + 12) day else march_count (year +ℤ pos 10000) month day
 
 abbrev pub number_by_formula : ℤ → ℕ → ℕ → Option ℤ
 number_by_formula year month day = if is_civil_day year month day then Some (march_number year month day) else None
@@ -24,12 +25,12 @@ shifted : (year : ℤ) (k : ℕ) → unsigned_abs year ≤ k → year +ℤ pos k
 shifted (pos n) k h = omega (arith, ints)
 shifted (negsuc n) k h = omega (arith, ints)
 
-early : (year : ℤ) (month day : ℕ) → IsCivilDay year month day → month ≤ 2 → days_from_civil year month day ≡ pos (march_days (unsigned_abs (year +ℤ pos 9999)) + march_months (month + 12) + day + 59) -ℤ pos 4371953
+early : (year : ℤ) (month day : ℕ) → IsCivilDay year month day → month ≤ 2 → days_from_civil year month day ≡ march_count (year +ℤ pos 9999) (month + 12) day
 early year month day h low =
     let place : year +ℤ pos 10000 ≡ pos (suc (unsigned_abs (year +ℤ pos 9999))) = omega (arith, signed_arith, shifted year 9999 h.year_in) in
     omega (arith, signed_arith, days_from_civil-day_count, day_count-early year (unsigned_abs (year +ℤ pos 9999)) month day place h.month_low low h.day_low)
 
-late : (year : ℤ) (month day : ℕ) → IsCivilDay year month day → 3 ≤ month → days_from_civil year month day ≡ pos (march_days (unsigned_abs (year +ℤ pos 10000)) + march_months month + day + 59) -ℤ pos 4371953
+late : (year : ℤ) (month day : ℕ) → IsCivilDay year month day → 3 ≤ month → days_from_civil year month day ≡ march_count (year +ℤ pos 10000) month day
 late year month day h high =
     let place : year +ℤ pos 10000 ≡ pos (unsigned_abs (year +ℤ pos 10000)) = shifted year 10000 (omega (arith, h.year_in)) in
     omega (arith, signed_arith, days_from_civil-day_count, day_count-late year (unsigned_abs (year +ℤ pos 10000)) month day place high h.month_high h.day_low)
@@ -37,7 +38,7 @@ late year month day h high =
 march_number_is : (year : ℤ) (month day : ℕ) → IsCivilDay year month day → days_from_civil year month day ≡ march_number year month day
 march_number_is year month day h = go (nat_le month 2) refl
   where
-    go : (t : Bool) → nat_le month 2 ≡ t → days_from_civil year month day ≡ (if t then pos (march_days (unsigned_abs (year +ℤ pos 9999)) + march_months (month + 12) + day + 59) -ℤ pos 4371953 else pos (march_days (unsigned_abs (year +ℤ pos 10000)) + march_months month + day + 59) -ℤ pos 4371953)
+    go : (t : Bool) → nat_le month 2 ≡ t → days_from_civil year month day ≡ (if t then march_count (year +ℤ pos 9999) (month + 12) day else march_count (year +ℤ pos 10000) month day)
     go true e = early year month day h (grind (arith, nat_tests))
     go false e = late year month day h (grind (arith, nat_tests))
 

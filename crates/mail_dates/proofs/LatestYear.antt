@@ -17,22 +17,26 @@ place year = unsigned_abs (year +ℤ pos 10000)
 abbrev pub latest_up_to : ℤ → (ℤ → Bool) → Option ℤ
 latest_up_to year passes = option_map year_at (greatest_below (place year) (λ n. passes (year_at n)))
 
-place_suc : (year : ℤ) → negsuc 9998 ≤ℤ year → (n : ℕ) × (place year ≡ suc n) × (year_at n ≡ year) × (place (year -ℤ pos 1) ≡ n)
-place_suc (pos k) low = (k + 9999, omega (arith, ints), omega (arith, ints), omega (arith, ints))
-place_suc (negsuc k) low = (9998 - k, omega (arith, ints), omega (arith, ints), omega (arith, ints))
+record IsPlaced (year : ℤ) : Type 0 where
+  n : ℕ
+  at : place year ≡ suc n
+  is : year_at n ≡ year
+  before : place (year -ℤ pos 1) ≡ n
+
+placed : (year : ℤ) → negsuc 9998 ≤ℤ year → IsPlaced year
+placed (pos k) low = record { n = k + 9999; at = omega (arith, ints); is = omega (arith, ints); before = omega (arith, ints) }
+placed (negsuc k) low = record { n = 9998 - k; at = omega (arith, ints); is = omega (arith, ints); before = omega (arith, ints) }
 
 module _ (passes : ℤ → Bool) where
   pub latest_found : (year : ℤ) → negsuc 9998 ≤ℤ year → passes year ≡ true → latest_up_to year passes ≡ Some year
-  latest_found year low e = go (place_suc year low)
-    where
-      go : (n : ℕ) × (place year ≡ suc n) × (year_at n ≡ year) × (place (year -ℤ pos 1) ≡ n) → latest_up_to year passes ≡ Some year
-      go (n, at, is, before) = let here : passes (year_at n) ≡ true = rw is e in rw (at, here) (ap Some is)
+  latest_found year low e =
+      let p = placed year low in
+      let here : passes (year_at p.n) ≡ true = rw p.is e in rw (p.at, here) (ap Some p.is)
 
   pub latest_skipped : (year : ℤ) → negsuc 9998 ≤ℤ year → passes year ≡ false → latest_up_to year passes ≡ latest_up_to (year -ℤ pos 1) passes
-  latest_skipped year low e = go (place_suc year low)
-    where
-      go : (n : ℕ) × (place year ≡ suc n) × (year_at n ≡ year) × (place (year -ℤ pos 1) ≡ n) → latest_up_to year passes ≡ latest_up_to (year -ℤ pos 1) passes
-      go (n, at, is, before) = let here : passes (year_at n) ≡ false = rw is e in rw (at, before, here) refl
+  latest_skipped year low e =
+      let p = placed year low in
+      let here : passes (year_at p.n) ≡ false = rw p.is e in rw (p.at, p.before, here) refl
 
   pub latest_none : latest_up_to (negsuc 9999) passes ≡ None
   latest_none = refl
@@ -137,14 +141,15 @@ latest_is passes year calendar e =
     let g = greatest_is 19999 (λ n. passes (year_at n)) f.0 f.1 in
     record {
       has = subst (λ (y : ℤ). passes y ≡ true) f.2 g.has;
-      latest = λ other h. go other h (place_suc other (calendar other h).0) f.0 f.2 g;
+      latest = λ other h. go other h (placed other (calendar other h).0) f.0 f.2 g;
     }
   where
-    go : (other : ℤ) → passes other ≡ true → (n : ℕ) × (place other ≡ suc n) × (year_at n ≡ other) × (place (other -ℤ pos 1) ≡ n) → (m : ℕ) → year_at m ≡ year → IsGreatest (λ n. passes (year_at n)) 19999 m → other ≤ℤ year
-    go other h (n, at, is, before) m same g =
+    go : (other : ℤ) → passes other ≡ true → IsPlaced other → (m : ℕ) → year_at m ≡ year → IsGreatest (λ n. passes (year_at n)) 19999 m → other ≤ℤ year
+    go other h p m same g =
         let high : other ≤ℤ pos 9999 = (calendar other h).1 in
-        let small : n < 19999 = omega (arith, ints) in
-        let most : n ≤ m = g.most n small (subst (λ (y : ℤ). passes y ≡ true) (sym is) h) in
+        let at : place other ≡ suc p.n = p.at in
+        let is : year_at p.n ≡ other = p.is in
+        let most : p.n ≤ m = g.most p.n (omega (arith, ints)) (subst (λ (y : ℤ). passes y ≡ true) (sym is) h) in
         omega (arith, ints)
 
 pub is_latest : (passes : ℤ → Bool) (year : ℤ) → AreOfCalendar passes → IsLatestYear passes year → latest_year passes ≡ Some year

@@ -3,6 +3,7 @@ pub mod Cuts
 pub mod Digits
 pub mod Formula
 pub mod LatestYear
+mod RowTables
 mod RowsCalendar
 mod RowsHeaderDates
 mod RowsRanges

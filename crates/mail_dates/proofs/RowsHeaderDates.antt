@@ -1,24 +1,16 @@
--- Worked rows of header dates. The seconds were computed outside.
-use Rattle.std.proofs.Common.{◌≡◌, ℕ, List, [], ◌∷◌, ◌++◌, map, refl, Option, Some, None, ℤ, pos, negsuc, ◌∙◌, ap}
+-- Worked rows of header dates: fields, and the second that each says.
+use Rattle.std.proofs.Common.{ℕ, List, [], ◌∷◌, ◌++◌, map, refl, Option, Some, None, ℤ, pos, negsuc}
 use Rattle.std.specs.Prelude.{codes}
 use Rattle.mail_dates.specs.Calendar.{month_of}
 use Rattle.mail_dates.specs.HeaderDates.{date_of, date_by, tokens, time_of, offset_of, hours_west}
-use Rattle.mail_dates.proofs.Formula.{number_by_formula, day_number-formula}
-
--- fields, and the second that each says
-record Holds (rows : List (List ℕ × Option ℤ)) : Type 0 where
-  each : map (λ row. date_of row.0) rows ≡ map (λ row. row.1) rows
-
-hold : {rows : List (List ℕ × Option ℤ)} → map (λ row. date_by number_by_formula row.0) rows ≡ map (λ row. row.1) rows → Holds rows
-unfolding date_of
-hold {rows} e = record { each = ap (λ number. map (λ row. date_by number row.0) rows) day_number-formula ∙ e }
+use Rattle.mail_dates.proofs.RowTables.{Holds, hold, all_say}
 
 abbrev Dated : List (List ℕ × ℤ) → Type 0
-Dated rows = Holds (map (λ row. (row.0, Some row.1)) rows)
+Dated rows = Holds date_of (map (λ row. (row.0, Some row.1)) rows)
 
 -- each of these fields says this
 abbrev Say : Option ℤ → List (List ℕ) → Type 0
-Say date fields = Holds (map (λ field. (field, date)) fields)
+Say date fields = Holds date_of (all_say date fields)
 
 rows : Dated ((codes "Thu, 2 Jan 2003 10:00:00 +0100 (CET)", pos 1041498000)
     ∷ (codes "2 Jan 03 10:00 EST", pos 1041519600)
@@ -78,5 +70,5 @@ rows : Dated ((codes "Thu, 2 Jan 2003 10:00:00 +0100 (CET)", pos 1041498000)
     ∷ codes "2 Jan 2003 10::00" ∷ (codes "D" ++ (0xC3 ∷ 0xB6 ∷ []) ++ codes ", 2 Jan 2003 10:00")
     ∷ (codes "2 J" ++ (0xC3 ∷ 0xA4 ∷ []) ++ codes "n 2003 10:00")
     ∷ ((0xD9 ∷ 0xA2 ∷ []) ++ codes " Jan 2003 10:00") ∷ (codes "2 Jan 2003 10:00" ++ (0x00 ∷ [])) ∷ [])
-unfolding tokens time_of offset_of hours_west month_of
-rows = (hold refl, hold refl, hold refl)
+unfolding date_of tokens time_of offset_of hours_west month_of
+rows = (hold date_by refl, hold date_by refl, hold date_by refl)

@@ -1,5 +1,5 @@
--- Worked rows of ranges of days. The seconds were computed outside.
-use Rattle.std.proofs.Common.{◌≡◌, ℕ, List, [], ◌∷◌, ◌++◌, map, refl, Option, Some, None, Result, Ok, Err, ℤ, pos, negsuc, ◌∙◌, ap}
+-- Worked rows of ranges of days.
+use Rattle.std.proofs.Common.{◌≡◌, ℕ, List, [], ◌∷◌, ◌++◌, map, refl, Some, None, Result, Err, pos, negsuc}
 use Rattle.std.specs.Prelude.{codes}
 use Rattle.mail_dates.specs.declared.fault.DateFault.{DateFault}
 use Rattle.mail_dates.specs.declared.fault.DateFault.TheVariants.{BadDate, BadNumber}
@@ -7,28 +7,16 @@ use Rattle.mail_dates.specs.declared.range.Range.{Range}
 use Rattle.mail_dates.specs.Calendar.{month_of}
 use Rattle.mail_dates.specs.Periods.{period_of, latest_days_by}
 use Rattle.mail_dates.specs.Ranges.{range_at, range_by}
-use Rattle.mail_dates.proofs.Formula.{number_by_formula, day_number-formula}
+use Rattle.mail_dates.proofs.Formula.{number_by_formula}
+use Rattle.mail_dates.proofs.RowTables.{Holds, hold, all_say, between, days}
 
-abbrev between : Option ℤ → Option ℤ → Result Range DateFault
-between from until = Ok (record { from = from; until = until })
+-- what texts mean at this second
+record Mean (now : ℕ) (rows : List (List ℕ × Result Range DateFault)) : Type 0 where
+  each : Holds (λ text. range_at text now) rows
 
-abbrev days : ℕ → ℕ → Result Range DateFault
-days from until = between (Some (pos from)) (Some (pos until))
-
--- texts, and the range that each names at a second
-abbrev Rows : Type 0
-Rows = List (List ℕ × Result Range DateFault)
-
-record Holds (now : ℕ) (rows : Rows) : Type 0 where
-  each : map (λ row. range_at row.0 now) rows ≡ map (λ row. row.1) rows
-
-hold : {now : ℕ} {rows : Rows} → map (λ row. range_by number_by_formula now row.0) rows ≡ map (λ row. row.1) rows → Holds now rows
+mean : {now : ℕ} {rows : List (List ℕ × Result Range DateFault)} → map (λ row. range_by number_by_formula now row.0) rows ≡ map (λ row. row.1) rows → Mean now rows
 unfolding range_at
-hold {now} {rows} e = record { each = ap (λ number. map (λ row. range_by number now row.0) rows) day_number-formula ∙ e }
-
--- each of these texts is refused so
-abbrev Refuses : ℕ → List (List ℕ) → DateFault → Type 0
-Refuses now texts fault = Holds now (map (λ text. (text, Err fault)) texts)
+mean {now} e = record { each = hold (λ number text. range_by number now text) e }
 
 -- a day in May 2003, one in May 9603, and the last second of 9999
 abbrev in_2003 : ℕ
@@ -41,16 +29,13 @@ abbrev at_last : ℕ
 at_last = 253402300799
 
 -- periods and their ends
-periods : Holds in_2003 ((codes "mar", days 1046476800 1049155199) ∷ (codes "oct", days 1033430400 1036108799)
+written : Mean in_2003 ((codes "mar", days 1046476800 1049155199) ∷ (codes "oct", days 1033430400 1036108799)
     ∷ (codes "21oct-mar", days 1035158400 1049155199) ∷ (codes "21apr-mar", days 1019347200 1049155199)
     ∷ (codes "6w-2w", days 1049587200 1052092799) ∷ (codes "21apr-1w", days 1050883200 1052697599)
     ∷ (codes "21apr-", days 1050883200 1053259200) ∷ [])
-    × Holds 1046476800 ((codes "29feb", days 951782400 951868799) ∷ [])
-unfolding period_of month_of latest_days_by
-periods = (hold refl, hold refl)
-
--- counts of days, weeks, months and years before today
-counts : Holds in_2003 ((codes "0d", days 1053216000 1053302399) ∷ (codes "1d", days 1053129600 1053215999)
+    × Mean 1046476800 ((codes "29feb", days 951782400 951868799) ∷ [])
+    -- counts of days, weeks, months and years before today
+    × Mean in_2003 ((codes "0d", days 1053216000 1053302399) ∷ (codes "1d", days 1053129600 1053215999)
     ∷ (codes "1D", days 1053129600 1053215999) ∷ (codes "2w", days 1052006400 1052092799)
     ∷ (codes "3W", days 1051401600 1051487999) ∷ (codes "1m", days 1050624000 1050710399)
     ∷ (codes "1M", days 1050624000 1050710399) ∷ (codes "1y", days 1021680000 1021766399)
@@ -58,31 +43,26 @@ counts : Holds in_2003 ((codes "0d", days 1053216000 1053302399) ∷ (codes "1d"
     ∷ (codes "9999y", between (Some (negsuc 314275247999)) (Some (negsuc 314275161600)))
     ∷ (codes "9999d", days 189302400 189388799) ∷ (codes "0000y", days 1053216000 1053302399)
     ∷ (codes "1d-0d", days 1053129600 1053302399) ∷ [])
-unfolding period_of month_of latest_days_by
-counts = hold refl
-
--- dates and years that are written out
-dates : Holds in_2003 ((codes "20030518", days 1053216000 1053302399) ∷ (codes "20030228", days 1046390400 1046476799)
-    ∷ (codes "20000229", days 951782400 951868799)
+    -- dates and years that are written out
+    × Mean in_2003 ((codes "20030518", days 1053216000 1053302399)
+    ∷ (codes "20030228", days 1046390400 1046476799) ∷ (codes "20000229", days 951782400 951868799)
     ∷ (codes "00000101", between (Some (negsuc 62167219199)) (Some (negsuc 62167132800)))
     ∷ (codes "99991231", days 253402214400 253402300799) ∷ (codes "2003", days 1041379200 1072915199)
     ∷ (codes "0000", between (Some (negsuc 62167219199)) (Some (negsuc 62135596800)))
     ∷ (codes "9999", days 253370764800 253402300799) ∷ [])
 unfolding period_of month_of latest_days_by
-dates = hold refl
+written = (mean refl, mean refl, mean refl, mean refl)
 
 -- months and days of the latest year
-months : Holds in_9603 ((codes "MAR", days 240879312000 240881990399) ∷ (codes "jAn", days 240874214400 240876892799)
-    ∷ (codes "may", days 240884582400 240887260799) ∷ (codes "jun", days 240855724800 240858316799)
-    ∷ (codes "18may", days 240886051200 240886137599) ∷ (codes "may18", days 240886051200 240886137599)
-    ∷ (codes "19may", days 240854601600 240854687999) ∷ (codes "may19", days 240854601600 240854687999)
-    ∷ (codes "MAY1", days 240884582400 240884668799) ∷ (codes "1May", days 240884582400 240884668799)
-    ∷ (codes "31dec", days 240874128000 240874214399) ∷ (codes "dec31", days 240874128000 240874214399) ∷ [])
-unfolding period_of month_of latest_days_by
-months = hold refl
-
--- a start is taken against its end, and may lie before year 0
-starts : Holds in_9603 ((codes "dec-jan", days 240871536000 240876892799)
+without_year : Mean in_9603 ((codes "MAR", days 240879312000 240881990399)
+    ∷ (codes "jAn", days 240874214400 240876892799) ∷ (codes "may", days 240884582400 240887260799)
+    ∷ (codes "jun", days 240855724800 240858316799) ∷ (codes "18may", days 240886051200 240886137599)
+    ∷ (codes "may18", days 240886051200 240886137599) ∷ (codes "19may", days 240854601600 240854687999)
+    ∷ (codes "may19", days 240854601600 240854687999) ∷ (codes "MAY1", days 240884582400 240884668799)
+    ∷ (codes "1May", days 240884582400 240884668799) ∷ (codes "31dec", days 240874128000 240874214399)
+    ∷ (codes "dec31", days 240874128000 240874214399) ∷ [])
+    -- a start is taken against its end, and may lie before year 0
+    × Mean in_9603 ((codes "dec-jan", days 240871536000 240876892799)
     ∷ (codes "may-apr", days 240853046400 240884582399) ∷ (codes "19may-18may", days 240854601600 240886137599)
     ∷ (codes "18may-18may", days 240886051200 240886137599) ∷ (codes "jun-may", days 240855724800 240887260799)
     ∷ (codes "29feb-96000228", days 240658387200 240784617599)
@@ -92,12 +72,9 @@ starts : Holds in_9603 ((codes "dec-jan", days 240871536000 240876892799)
     ∷ (codes "2jan-96030101", days 240842764800 240874300799) ∷ (codes "may-", days 240884582400 240886094400)
     ∷ (codes "jun-", days 240855724800 240886094400) ∷ (codes "19may-", days 240854601600 240886094400)
     ∷ (codes "29feb-", days 240784617600 240886094400) ∷ [])
-    × Holds in_2003 ((codes "29feb-00000101", between (Some (negsuc 62288351999)) (Some (negsuc 62167132800))) ∷ [])
-unfolding period_of month_of latest_days_by
-starts = (hold refl, hold refl)
-
--- an end is not cut to today, and an empty one is now
-ends : Holds in_9603 ((codes "-may", between None (Some (pos 240887260799)))
+    × Mean in_2003 ((codes "29feb-00000101", between (Some (negsuc 62288351999)) (Some (negsuc 62167132800))) ∷ [])
+    -- an end is not cut to today, and an empty one is now
+    × Mean in_9603 ((codes "-may", between None (Some (pos 240887260799)))
     ∷ (codes "may-may", days 240884582400 240887260799)
     ∷ (codes "-18may", between None (Some (pos 240886137599)))
     ∷ (codes "-19may", between None (Some (pos 240854687999)))
@@ -107,68 +84,51 @@ ends : Holds in_9603 ((codes "-may", between None (Some (pos 240887260799)))
     ∷ (codes "0d-", days 240886051200 240886094400) ∷ (codes "-0d", between None (Some (pos 240886137599)))
     ∷ (codes "9999-0000", between (Some (pos 253370764800)) (Some (negsuc 62135596800))) ∷ [])
 unfolding period_of month_of latest_days_by
-ends = hold refl
+without_year = (mean refl, mean refl, mean refl, mean refl)
 
 -- today is in the first year
-early : Holds 0 ((codes "jan", days 0 2678399)
+days_of_today : Mean 0 ((codes "jan", days 0 2678399)
     ∷ (codes "2jan", between (Some (negsuc 31449599)) (Some (negsuc 31363200)))
     ∷ (codes "1d", between (Some (negsuc 86399)) (Some (negsuc 0))) ∷ (codes "1970-", days 0 0)
-    ∷ (codes "29feb", between (Some (negsuc 58060799)) (Some (negsuc 57974400))) ∷ [])
-    × Holds 86399 ((codes "0d", days 0 86399) ∷ [])
-    × Holds 86400 ((codes "0d", days 86400 172799) ∷ [])
-    × Refuses 0 (codes "-" ∷ []) BadDate
-unfolding period_of month_of latest_days_by
-early = (hold refl, hold refl, hold refl, hold refl)
-
--- today is the last day
-late : Holds at_last ((codes "dec", days 253399622400 253402300799) ∷ (codes "jan", days 253370764800 253373443199)
+    ∷ (codes "29feb", between (Some (negsuc 58060799)) (Some (negsuc 57974400))) ∷ (codes "-", Err BadDate) ∷ [])
+    × Mean 86399 ((codes "0d", days 0 86399) ∷ []) × Mean 86400 ((codes "0d", days 86400 172799) ∷ [])
+    -- today is the last day
+    × Mean at_last ((codes "dec", days 253399622400 253402300799) ∷ (codes "jan", days 253370764800 253373443199)
     ∷ (codes "31dec", days 253402214400 253402300799) ∷ (codes "29feb", days 253281168000 253281254399)
     ∷ (codes "0d", days 253402214400 253402300799) ∷ (codes "9999-", days 253370764800 253402300799)
     ∷ (codes "-1d", between None (Some (pos 253402214399))) ∷ [])
-unfolding period_of month_of latest_days_by
-late = hold refl
-
--- leap days
-leap_days : Holds 240784617599 ((codes "29feb", days 240658387200 240658473599) ∷ [])
-    × Holds 240784617600 ((codes "29feb", days 240784617600 240784703999)
+    -- today is about a leap day
+    × Mean 240784617599 ((codes "29feb", days 240658387200 240658473599) ∷ [])
+    × Mean 240784617600 ((codes "29feb", days 240784617600 240784703999)
     ∷ (codes "28feb-29feb", days 240784531200 240784703999) ∷ [])
-    × Holds 243940377600 ((codes "29feb", days 243814147200 243814233599) ∷ [])
-    × Holds 244066435200 ((codes "29feb", days 243814147200 243814233599) ∷ [])
-    × Holds 244066521600 ((codes "29feb", days 244066521600 244066607999) ∷ [])
-    × Holds 240782198400 ((codes "feb", days 240782198400 240784703999) ∷ [])
-    × Holds 240813820800 ((codes "feb", days 240813820800 240816239999) ∷ [])
-    × Holds 240813820799 ((codes "feb", days 240782198400 240784703999) ∷ [])
+    × Mean 243940377600 ((codes "29feb", days 243814147200 243814233599) ∷ [])
+    × Mean 244066435200 ((codes "29feb", days 243814147200 243814233599) ∷ [])
+    × Mean 244066521600 ((codes "29feb", days 244066521600 244066607999) ∷ [])
+    × Mean 240782198400 ((codes "feb", days 240782198400 240784703999) ∷ [])
+    × Mean 240813820800 ((codes "feb", days 240813820800 240816239999) ∷ [])
+    × Mean 240813820799 ((codes "feb", days 240782198400 240784703999) ∷ [])
 unfolding period_of month_of latest_days_by
-leap_days = (hold refl, hold refl, hold refl, hold refl, hold refl, hold refl, hold refl, hold refl)
+days_of_today = (mean refl, mean refl, mean refl, mean refl, mean refl, mean refl, mean refl, mean refl, mean refl, mean refl, mean refl, mean refl)
 
 -- texts of no form; of two faulty ends the end is told
-no_ranges : Refuses in_2003 (codes "31apr" ∷ codes "01oct" ∷ [] ∷ codes "-" ∷ codes "--" ∷ codes "1d-2d-3d"
+refused : Mean in_2003 (all_say (Err BadDate) (codes "31apr" ∷ codes "01oct" ∷ [] ∷ codes "-" ∷ codes "--" ∷ codes "1d-2d-3d"
     ∷ codes "mar-apr-may" ∷ codes "a-b-" ∷ codes "x" ∷ codes "d" ∷ codes "-d" ∷ codes "1x" ∷ codes "1dd"
     ∷ codes "1 d" ∷ codes "12345x" ∷ codes "12345" ∷ codes "12345d " ∷ codes "1_2d" ∷ codes "12345d-31apr"
-    ∷ codes "12345d-1-2" ∷ codes "12345w-x" ∷ codes "1d-31apr" ∷ codes "31apr-1d" ∷ []) BadDate
-unfolding period_of month_of latest_days_by
-no_ranges = hold refl
-
--- texts of no form, and days that no year has
-no_days : Refuses in_2003 (codes "20030229" ∷ codes "19000229" ∷ codes "20031301" ∷ codes "20030001"
+    ∷ codes "12345d-1-2" ∷ codes "12345w-x" ∷ codes "1d-31apr" ∷ codes "31apr-1d" ∷ []))
+    -- days that no year has
+    × Mean in_2003 (all_say (Err BadDate) (codes "20030229" ∷ codes "19000229" ∷ codes "20031301" ∷ codes "20030001"
     ∷ codes "20030100" ∷ codes "200305" ∷ codes "2003051" ∷ codes "200305188" ∷ codes "0may" ∷ codes "00may"
     ∷ codes "may0" ∷ codes "may01" ∷ codes "001may" ∷ codes "32may" ∷ codes "may32" ∷ codes "30feb" ∷ codes "feb30"
     ∷ codes "31nov" ∷ codes "octo" ∷ codes "october" ∷ codes "1oct1" ∷ codes "oct1oct" ∷ codes "1 may"
-    ∷ codes "1.may" ∷ codes "ma" ∷ codes "m18" ∷ []) BadDate
-unfolding period_of month_of latest_days_by
-no_days = hold refl
-
--- text beyond ASCII, and white space
-beyond_ascii : Refuses in_2003 ((codes "m" ++ (0xC3 ∷ 0xA4 ∷ []) ++ codes "r")
+    ∷ codes "1.may" ∷ codes "ma" ∷ codes "m18" ∷ []))
+    -- text beyond ASCII, and white space
+    × Mean in_2003 (all_say (Err BadDate) ((codes "m" ++ (0xC3 ∷ 0xA4 ∷ []) ++ codes "r")
     ∷ (codes "1" ++ (0xC5 ∷ 0xBF ∷ []) ++ codes "ep") ∷ ((0xD9 ∷ 0xA1 ∷ []) ++ codes "d")
     ∷ (codes "mar" ++ (0x0D ∷ [])) ∷ (codes "mar" ++ (0x0A ∷ [])) ∷ codes " mar"
-    ∷ (codes "mar-" ++ (0xC2 ∷ 0xA0 ∷ [])) ∷ (codes "12345" ++ (0xC3 ∷ 0xA4 ∷ [])) ∷ []) BadDate
+    ∷ (codes "mar-" ++ (0xC2 ∷ 0xA0 ∷ [])) ∷ (codes "12345" ++ (0xC3 ∷ 0xA4 ∷ [])) ∷ []))
+    -- counts that are too long
+    × Mean in_2003 (all_say (Err BadNumber) (codes "12345d" ∷ codes "10000d" ∷ codes "00001d"
+    ∷ codes "99999999999999999999y" ∷ codes "12345D" ∷ codes "12345d-" ∷ codes "-12345d" ∷ codes "31apr-12345d"
+    ∷ codes "x-12345w" ∷ codes "12345d-12345d" ∷ []))
 unfolding period_of month_of latest_days_by
-beyond_ascii = hold refl
-
--- counts that are too long
-long_counts : Refuses in_2003 (codes "12345d" ∷ codes "10000d" ∷ codes "00001d" ∷ codes "99999999999999999999y"
-    ∷ codes "12345D" ∷ codes "12345d-" ∷ codes "-12345d" ∷ codes "31apr-12345d" ∷ codes "x-12345w"
-    ∷ codes "12345d-12345d" ∷ []) BadNumber
-unfolding period_of month_of latest_days_by
-long_counts = hold refl
+refused = (mean refl, mean refl, mean refl, mean refl)

@@ -5,7 +5,9 @@ ghost use Rattle.std.specs.List.{slice_split};
 
 /// What stands before the first such byte, and behind it.
 pub fn cut(text: &[u8], byte: u8) -> Option<(&[u8], &[u8])>
-    ensures { MatchOption result (slice_split (λ b. b == byte) text.now ≡ text.now ∷ []) (λ parts. slice_split (λ b. b == byte) text.now ≡ parts.0.now ∷ slice_split (λ b. b == byte) parts.1.now) }
+    ensures { MatchOption result (slice_split (λ b. b == byte) text.now ≡ text.now ∷ [])
+        (λ parts. slice_split (λ b. b == byte) text.now
+        ≡ parts.0.now ∷ slice_split (λ b. b == byte) parts.1.now) }
 {
     match place_of(text, byte) {
         Some(at) => Some((&text[..at], &text[at + 1..])),

@@ -19,7 +19,8 @@ pub fn without_comments(text: &[u8]) -> &[u8]
 
 /// The first token, and what stands behind it.
 pub fn next_token(text: &[u8]) -> Option<(&[u8], &[u8])>
-    ensures { MatchOption result (tokens text.now ≡ []) (λ parts. tokens text.now ≡ parts.0.now ∷ tokens parts.1.now) }
+    ensures { MatchOption result (tokens text.now ≡ [])
+        (λ parts. tokens text.now ≡ parts.0.now ∷ tokens parts.1.now) }
 {
     let mut rest = text;
     while let Some((front, back)) = cut_at_gap(rest) {
@@ -44,7 +45,8 @@ pub fn are_letters(token: &[u8]) -> bool
 
 fn cut_at_gap(text: &[u8]) -> Option<(&[u8], &[u8])>
     ensures shorter { IfSome result (λ parts. length parts.1.now < length text.now) }
-    ensures parts { MatchOption result (slice_split is_gap text.now ≡ text.now ∷ []) (λ parts. slice_split is_gap text.now ≡ parts.0.now ∷ slice_split is_gap parts.1.now) }
+    ensures parts { MatchOption result (slice_split is_gap text.now ≡ text.now ∷ [])
+        (λ parts. slice_split is_gap text.now ≡ parts.0.now ∷ slice_split is_gap parts.1.now) }
 {
     match place_of_gap(text) {
         Some(at) => Some((&text[..at], &text[at + 1..])),

@@ -71,7 +71,8 @@ fn hours_west(name: &[u8]) -> u8
 }
 
 fn hours_of_zone(lower: [u8; 3]) -> u8
-    ensures { result ≡ option_map_or (λ zone. zone.1) (find (λ zone. bytes_eq zone.0 lower) zones) 0 }
+    ensures { result
+        ≡ option_map_or (λ zone. zone.1) (find (λ zone. bytes_eq zone.0 lower) zones) 0 }
 {
     match zone_named(lower) {
         Some(zone) => zone.1,

@@ -1,17 +1,17 @@
 -- The steps of a cutter where it may be known what comes.
-use Rattle.std.proofs.Common.{◌≡◌, ℕ, ◌+◌, ◌-◌, ◌<◌, ◌≤◌, true, false, List, Option, Some, None, IfSome, take, drop, refl, ap, sym, ◌∙◌, subst}
+use Rattle.std.proofs.Common.{◌≡◌, ℕ, ◌+◌, ◌<◌, List, Option, Some, None, IfSome, take, refl, ap, sym, subst}
 use Rattle.std.specs.Option.{option_map}
 use Rattle.mbox_cutter.specs.declared.event.CutFault.{CutFault}
 use Rattle.mbox_cutter.specs.declared.event.CutFault.TheVariants.{Device, NotAnMbox, ArchiveTooLong, Failed}
 use Rattle.mbox_cutter.specs.declared.scan.Phase.{Phase}
-use Rattle.mbox_cutter.specs.declared.scan.Phase.TheVariants.{Between, Inside, Ended}
-use Rattle.mbox_cutter.specs.Lines.{first_length, is_empty}
-use Rattle.mbox_cutter.specs.Separators.{is_separator}
-use Rattle.mbox_cutter.specs.Events.{Start, Line, End, Done, Coming, coming_of}
+use Rattle.mbox_cutter.specs.declared.scan.Phase.TheVariants.{Between}
+use Rattle.mbox_cutter.specs.Lines.{first_length}
+use Rattle.mbox_cutter.specs.Events.{ArchiveEvent, Coming, coming_of}
 use Rattle.mbox_cutter.specs.Coming.{Takes, TakesKnown, Refuses}
-use Rattle.mbox_cutter.specs.Inside.Scan.{FailsFirst, closes_at}
-use Rattle.mbox_cutter.specs.Inside.Resume.{resume}
-use Rattle.mbox_cutter.proofs.Steps.{step-done, step-start, step-empty, step-refused, step-long, step-end, step-line, step-open, step-closed, step-long_inside, ended-stays, resume-beginning}
+use Rattle.mbox_cutter.specs.Places.{CutterPlace}
+use Rattle.mbox_cutter.specs.Inside.Scan.{FailsFirst}
+use Rattle.mbox_cutter.specs.Inside.Resume.{coming_at, resume}
+use Rattle.mbox_cutter.proofs.Steps.{resume-beginning}
 
 -- ---- facts of known values
 
@@ -28,113 +28,38 @@ pub at_same : {A : Type 0} (o o' : Option A) (P : A → Type 0) → IfSome o (λ
 at_same None o' P same h = tt
 at_same (Some x) o' P same h = if_at o' P x same h
 
--- what holds of what comes of all known bytes holds of what comes
-from_known : (bytes : Option (List ℕ)) (f : List ℕ → Coming) (P : Coming → Type 0) → ((b : List ℕ) → bytes ≡ Some b → P (f b)) → IfSome (option_map f bytes) P
-from_known None f P each = tt
-from_known (Some b) f P each = each b refl
+pub both : {A : Type 0} (o : Option A) (P Q : A → Type 0) → IfSome o P → IfSome o Q → IfSome o (λ x. P x × Q x)
+both None P Q h k = tt
+both (Some x) P Q h k = (h, k)
 
--- ---- a first line of n bytes: bytes are those to come, and after are those left behind the step
+-- ---- what comes, where P is known of the bytes to come
 
-from_first : (bytes : Option (List ℕ)) (at most n : ℕ) (was phase : Phase) → phase ≡ was → IfSome bytes (λ b. n ≡ first_length b) →
-    (P : Coming → Type 0) → ((b : List ℕ) → bytes ≡ Some b → n ≡ first_length b → P (resume was at most b)) → IfSome (option_map (resume phase at most) bytes) P
-from_first bytes at most n was phase is first P each = from_known bytes (resume phase at most) P
-    (λ b e. subst (λ (p : Phase). P (resume p at most b)) (sym is) (each b e (if_at bytes (λ b. n ≡ first_length b) b e first)))
+-- the line is the first one of the bytes, and has n of them
+abbrev pub IsFirst : ℕ → List ℕ → List ℕ → Type 0
+IsFirst n line b = (n ≡ first_length b) × (line ≡ take n b)
 
-module _ (bytes after : Option (List ℕ)) (at most n : ℕ) (phase : Phase) (first : IfSome bytes (λ b. n ≡ first_length b)) where
-  stays-at : (b : List ℕ) → bytes ≡ Some b → IfSome bytes (λ b. after ≡ Some b) → after ≡ Some b
-  stays-at b e same = if_at bytes (λ b. after ≡ Some b) b e same
+pub known-coming : (bytes : Option (List ℕ)) (p : CutterPlace) (was : Phase) (P : List ℕ → Type 0) (Q : Coming → Type 0) → p.phase ≡ was →
+    IfSome bytes P → ((b : List ℕ) → P b → Q (resume was p.offset p.most b)) → IfSome (coming_at p bytes) Q
+known-coming None p was P Q is h each = tt
+known-coming (Some b) p was P Q is h each = subst (λ (phase : Phase). Q (resume phase p.offset p.most b)) (sym is) (each b h)
 
-  moved-at : (b : List ℕ) → bytes ≡ Some b → IfSome bytes (λ b. after ≡ Some (drop n b)) → after ≡ Some (drop n b)
-  moved-at b e moved = if_at bytes (λ b. after ≡ Some (drop n b)) b e moved
+-- a step that takes the event and leaves these bytes
+pub known-step : (bytes after : Option (List ℕ)) (old new : CutterPlace) (was : Phase) (event : ArchiveEvent) (P : List ℕ → Type 0) (left : List ℕ → List ℕ) → old.phase ≡ was →
+    IfSome bytes P → IfSome bytes (λ b. after ≡ Some (left b)) → ((b : List ℕ) → P b → Takes event (resume was old.offset old.most b) (resume new.phase new.offset new.most (left b))) →
+    TakesKnown event (coming_at old bytes) (coming_at new after)
+known-step bytes after old new was event P left is h leaves each =
+    known-coming bytes old was (λ b. P b × (after ≡ Some (left b))) (λ before. (k : Coming) × (coming_at new after ≡ Some k) × Takes event before k) is
+    (both bytes P (λ b. after ≡ Some (left b)) h leaves) (λ b k. (resume new.phase new.offset new.most (left b), ap (coming_at new) k.1, each b k.0))
 
-  lent-at : (line b : List ℕ) → bytes ≡ Some b → IfSome bytes (λ b. line ≡ take n b) → line ≡ take n b
-  lent-at line b e lent = if_at bytes (λ b. line ≡ take n b) b e lent
-
-  -- between two messages
-  module _ (is_between : phase ≡ Between) where
-    pub known-done : n ≡ 0 → at ≤ most → IfSome bytes (λ b. after ≡ Some b) → TakesKnown (Done at) (option_map (resume phase at most) bytes) (option_map (resume Ended at most) after)
-    known-done none fits same = from_first bytes at most n Between phase is_between first _ (λ b e f.
-        (resume Ended at most b, ap (option_map (resume Ended at most)) (stays-at b e same), step-done at most b (sym none ∙ f) fits))
-
-    module _ (some : 0 < n) (line : List ℕ) (lent : IfSome bytes (λ b. line ≡ take n b)) where
-      pub known-start : is_separator line ≡ true → IfSome bytes (λ b. after ≡ Some (drop n b)) →
-          TakesKnown (Start at line) (option_map (resume phase at most) bytes) (option_map (resume (Inside at 0) (at + n) most) after)
-      known-start starts moved = from_first bytes at most n Between phase is_between first _ (λ b e f.
-          let l : line ≡ take n b = lent-at line b e lent in
-          (resume (Inside at 0) (at + n) most (drop n b), ap (option_map (resume (Inside at 0) (at + n) most)) (moved-at b e moved), rw l (step-start at most n b f some (sym (ap is_separator l) ∙ starts))))
-
-      pub known-empty : is_separator line ≡ false → is_empty line ≡ true → IfSome bytes (λ b. after ≡ Some (drop n b)) →
-          IfSome (option_map (resume phase at most) bytes) (λ k. option_map (resume Between (at + n) most) after ≡ Some k)
-      known-empty other empty moved = from_first bytes at most n Between phase is_between first _ (λ b e f.
-          let l : line ≡ take n b = lent-at line b e lent in
-          ap (option_map (resume Between (at + n) most)) (moved-at b e moved) ∙ ap Some (sym (step-empty at most n b f some (sym (ap is_separator l) ∙ other) (sym (ap is_empty l) ∙ empty))))
-
-      pub known-refused : is_separator line ≡ false → is_empty line ≡ false → at + n ≤ most → IfSome (option_map (resume phase at most) bytes) (Refuses NotAnMbox)
-      known-refused other full fits = from_first bytes at most n Between phase is_between first _ (λ b e f.
-          let l : line ≡ take n b = lent-at line b e lent in
-          step-refused at most n b f some (sym (ap is_separator l) ∙ other) (sym (ap is_empty l) ∙ full) fits)
-
-  -- inside a message
-  module _ (start size : ℕ) (is_inside : phase ≡ Inside start size) where
-    pub known-end : n ≡ 0 → IfSome bytes (λ b. after ≡ Some b) → TakesKnown (End (at - start) size) (option_map (resume phase at most) bytes) (option_map (resume Between at most) after)
-    known-end none same = from_first bytes at most n (Inside start size) phase is_inside first _ (λ b e f.
-        (resume Between at most b, ap (option_map (resume Between at most)) (stays-at b e same), step-end at most start size b (sym none ∙ f)))
-
-    module _ (some : 0 < n) (line : List ℕ) (lent : IfSome bytes (λ b. line ≡ take n b)) (moved : IfSome bytes (λ b. after ≡ Some (drop n b))) where
-      pub known-line : is_empty line ≡ false → TakesKnown (Line line) (option_map (resume phase at most) bytes) (option_map (resume (Inside start (size + n)) (at + n) most) after)
-      known-line full = from_first bytes at most n (Inside start size) phase is_inside first _ (λ b e f.
-          let l : line ≡ take n b = lent-at line b e lent in
-          (resume (Inside start (size + n)) (at + n) most (drop n b), ap (option_map (resume (Inside start (size + n)) (at + n) most)) (moved-at b e moved), rw l (step-line at most n b f some start size (sym (ap is_empty l) ∙ full))))
-
-      pub known-open : is_empty line ≡ true → IfSome bytes (λ b. false ≡ closes_at n b) →
-          TakesKnown (Line line) (option_map (resume phase at most) bytes) (option_map (resume (Inside start (size + n)) (at + n) most) after)
-      known-open empty opens = from_first bytes at most n (Inside start size) phase is_inside first _ (λ b e f.
-          let l : line ≡ take n b = lent-at line b e lent in (
-            resume (Inside start (size + n)) (at + n) most (drop n b),
-            ap (option_map (resume (Inside start (size + n)) (at + n) most)) (moved-at b e moved),
-            rw l (step-open at most n b f some start size (sym (ap is_empty l) ∙ empty) (sym (if_at bytes (λ b. false ≡ closes_at n b) b e opens))),
-          ))
-
-      pub known-closed : is_empty line ≡ true → IfSome bytes (λ b. true ≡ closes_at n b) →
-          TakesKnown (End ((at + n) - start) size) (option_map (resume phase at most) bytes) (option_map (resume Between (at + n) most) after)
-      known-closed empty closes = from_first bytes at most n (Inside start size) phase is_inside first _ (λ b e f.
-          let l : line ≡ take n b = lent-at line b e lent in (
-            resume Between (at + n) most (drop n b),
-            ap (option_map (resume Between (at + n) most)) (moved-at b e moved),
-            step-closed at most n b f some start size (sym (ap is_empty l) ∙ empty) (sym (if_at bytes (λ b. true ≡ closes_at n b) b e closes)),
-          ))
-
--- ---- no first line is told
-
-module _ (bytes : Option (List ℕ)) (at most : ℕ) (phase : Phase) where
-  pub known-fault : (fault : CutFault) → phase ≡ Between → at ≤ most → FailsFirst at most bytes fault → IfSome (option_map (resume phase at most) bytes) (Refuses fault)
-  known-fault Device is fits f = from_known bytes (resume phase at most) (Refuses Device) (λ b e. tt)
-  known-fault NotAnMbox is fits f = absurd f
-  known-fault ArchiveTooLong is fits f = from_known bytes (resume phase at most) (Refuses ArchiveTooLong)
-      (λ b e. subst (λ (p : Phase). Refuses ArchiveTooLong (resume p at most b)) (sym is) (step-long at most b fits (if_at bytes (λ b. most < at + first_length b) b e f)))
-  known-fault Failed is fits f = absurd f
-
-  pub known-fault_inside : (start size : ℕ) (fault : CutFault) → phase ≡ Inside start size → FailsFirst at most bytes fault → IfSome (option_map (resume phase at most) bytes) (Refuses fault)
-  known-fault_inside start size Device is f = from_known bytes (resume phase at most) (Refuses Device) (λ b e. tt)
-  known-fault_inside start size NotAnMbox is f = absurd f
-  known-fault_inside start size ArchiveTooLong is f = from_known bytes (resume phase at most) (Refuses ArchiveTooLong)
-      (λ b e. subst (λ (p : Phase). Refuses ArchiveTooLong (resume p at most b)) (sym is) (step-long_inside at most start size b (if_at bytes (λ b. most < at + first_length b) b e f)))
-  known-fault_inside start size Failed is f = absurd f
-
-  -- the source failed
-  pub known-device : IfSome (option_map (resume phase at most) bytes) (Refuses Device)
-  known-device = from_known bytes (resume phase at most) (Refuses Device) (λ b e. tt)
-
--- ---- the end and the beginning
-
-pub known-ended : (bytes : Option (List ℕ)) (at most : ℕ) (phase : Phase) → phase ≡ Ended → TakesKnown (Done at) (option_map (resume phase at most) bytes) (option_map (resume phase at most) bytes)
-known-ended None at most phase e = tt
-known-ended (Some b) at most phase e = (resume phase at most b, refl, subst (λ (p : Phase). Takes (Done at) (resume p at most b) (resume p at most b)) (sym e) (ended-stays at most b))
-
-coming-beginning : (bytes : Option (List ℕ)) (most : ℕ) → option_map (resume Between 0 most) bytes ≡ option_map (coming_of most) bytes
-coming-beginning None most = refl
-coming-beginning (Some b) most = ap Some (resume-beginning most b)
+-- no first line is told
+pub known-fault : (bytes : Option (List ℕ)) (p : CutterPlace) (was : Phase) (fault : CutFault) → p.phase ≡ was → FailsFirst p.offset p.most bytes fault →
+    ((b : List ℕ) → p.most < p.offset + first_length b → Refuses ArchiveTooLong (resume was p.offset p.most b)) → IfSome (coming_at p bytes) (Refuses fault)
+known-fault bytes p was Device is f long = each_some (coming_at p bytes) (Refuses Device) (λ x e. tt)
+known-fault bytes p was NotAnMbox is f long = absurd f
+known-fault bytes p was ArchiveTooLong is f long = known-coming bytes p was (λ b. p.most < p.offset + first_length b) (Refuses ArchiveTooLong) is f long
+known-fault bytes p was Failed is f long = absurd f
 
 -- what comes at the beginning
 pub known-beginning : (bytes window : Option (List ℕ)) (most : ℕ) → window ≡ bytes → option_map (resume Between 0 most) window ≡ option_map (coming_of most) bytes
-known-beginning bytes window most e = rw e (coming-beginning bytes most)
+known-beginning None window most e = rw e refl
+known-beginning (Some b) window most e = rw e (ap Some (resume-beginning most b))

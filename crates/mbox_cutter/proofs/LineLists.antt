@@ -4,6 +4,20 @@ use Rattle.std.proofs.lemmas.List.{length-drop}
 use Rattle.mbox_cutter.specs.Lines.{lines, first_lines, first_length}
 use Rattle.mbox_cutter.proofs.FirstLines.{first_length-positive}
 
+-- behind their first line there are fewer bytes
+behind-fewer : (b : List ℕ) (n : ℕ) → 0 < length b → length b ≤ suc n → length (drop (first_length b) b) ≤ n
+behind-fewer b n some h =
+    let positive : 0 < first_length b = first_length-positive b some in
+    let left : length (drop (first_length b) b) ≡ length b - first_length b = length-drop (first_length b) b in
+    omega arith
+
+-- what holds of no bytes, and of bytes if it holds of those behind their first line, holds of all
+pub by_lines : (P : List ℕ → Type 0) → P [] → ((b : List ℕ) → 0 < length b → P (drop (first_length b) b) → P b) → (n : ℕ) (b : List ℕ) → length b ≤ n → P b
+by_lines P none each n [] h = none
+by_lines P none each zero (x ∷ xs) h = absurd (omega arith)
+by_lines P none each (suc n) (x ∷ xs) h =
+    each (x ∷ xs) (omega arith) (by_lines P none each n (drop (first_length (x ∷ xs)) (x ∷ xs)) (behind-fewer (x ∷ xs) n (omega arith) h))
+
 -- more turns than bytes change nothing
 first_lines-enough : (n m : ℕ) (b : List ℕ) → length b ≤ n → length b ≤ m → first_lines n b ≡ first_lines m b
 first_lines-enough zero zero b p q = refl
@@ -13,17 +27,15 @@ first_lines-enough (suc n) zero [] p q = refl
 first_lines-enough (suc n) zero (x ∷ xs) p q = absurd (omega arith)
 first_lines-enough (suc n) (suc m) [] p q = refl
 first_lines-enough (suc n) (suc m) (x ∷ xs) p q =
-    let positive : 0 < first_length (x ∷ xs) = first_length-positive (x ∷ xs) (omega arith) in
-    let len : length (drop (first_length (x ∷ xs)) (x ∷ xs)) ≡ length (x ∷ xs) - first_length (x ∷ xs) = length-drop (first_length (x ∷ xs)) (x ∷ xs) in
-    ap (λ (ls : List (List ℕ)). take (first_length (x ∷ xs)) (x ∷ xs) ∷ ls) (first_lines-enough n m (drop (first_length (x ∷ xs)) (x ∷ xs)) (omega arith) (omega arith))
+    ap (λ (ls : List (List ℕ)). take (first_length (x ∷ xs)) (x ∷ xs) ∷ ls)
+    (first_lines-enough n m (drop (first_length (x ∷ xs)) (x ∷ xs)) (behind-fewer (x ∷ xs) n (omega arith) p) (behind-fewer (x ∷ xs) m (omega arith) q))
 
 pub lines-cons : (b : List ℕ) → 0 < length b → lines b ≡ take (first_length b) b ∷ lines (drop (first_length b) b)
 unfolding lines
 lines-cons [] h = absurd (omega arith)
 lines-cons (x ∷ xs) h =
-    let positive : 0 < first_length (x ∷ xs) = first_length-positive (x ∷ xs) (omega arith) in
-    let len : length (drop (first_length (x ∷ xs)) (x ∷ xs)) ≡ length (x ∷ xs) - first_length (x ∷ xs) = length-drop (first_length (x ∷ xs)) (x ∷ xs) in
-    ap (λ (ls : List (List ℕ)). take (first_length (x ∷ xs)) (x ∷ xs) ∷ ls) (first_lines-enough (length xs) _ (drop (first_length (x ∷ xs)) (x ∷ xs)) (omega arith) (omega arith))
+    ap (λ (ls : List (List ℕ)). take (first_length (x ∷ xs)) (x ∷ xs) ∷ ls)
+    (first_lines-enough (length xs) _ (drop (first_length (x ∷ xs)) (x ∷ xs)) (behind-fewer (x ∷ xs) (length xs) h (omega arith)) (omega arith))
 
 pub lines-nil : lines [] ≡ []
 unfolding lines

@@ -5,7 +5,7 @@ use Rattle.std.proofs.lemmas.Bool.Decides.{nat_tests}
 use Rattle.std.proofs.lemmas.List.{length-drop, length-take-le, take-append-drop, take_all}
 use Rattle.mbox_cutter.specs.Lines.{line_end_of, length_before_feed, first_length, lines, IsLine, AreCut, AreLines}
 use Rattle.mbox_cutter.proofs.FirstLines.{line_end-within, line_end-whole, length_before_feed-le, length_before_feed-take, first_length-le, first_length-positive}
-use Rattle.mbox_cutter.proofs.LineLists.{lines-cons, lines-nil}
+use Rattle.mbox_cutter.proofs.LineLists.{by_lines, lines-cons, lines-nil}
 
 length_before_feed-drop : (k : ℕ) (b : List ℕ) → k ≤ length_before_feed b → length_before_feed (drop k b) ≡ length_before_feed b - k
 length_before_feed-drop zero b h = omega arith
@@ -50,28 +50,13 @@ joined_cut l (y ∷ ys) is full cut =
     let e : lines (y ∷ ys) ≡ take (first_length (y ∷ ys)) (y ∷ ys) ∷ lines (drop (first_length (y ∷ ys)) (y ∷ ys)) = lines-cons (y ∷ ys) (omega arith) in
     rw e (is, full (omega arith), subst AreCut e cut)
 
-lines-AreCut : (n : ℕ) (b : List ℕ) → length b ≤ n → AreCut (lines b)
-lines-AreCut n [] h = rw lines-nil tt
-lines-AreCut zero (x ∷ xs) h = absurd (omega arith)
-lines-AreCut (suc n) (x ∷ xs) h =
-    let positive : 0 < first_length (x ∷ xs) = first_length-positive (x ∷ xs) (omega arith) in
-    let left : length (drop (first_length (x ∷ xs)) (x ∷ xs)) ≡ length (x ∷ xs) - first_length (x ∷ xs) = length-drop (first_length (x ∷ xs)) (x ∷ xs) in
-    rw (lines-cons (x ∷ xs) (omega arith))
-    (joined_cut (take (first_length (x ∷ xs)) (x ∷ xs)) (drop (first_length (x ∷ xs)) (x ∷ xs)) (first_line-IsLine (x ∷ xs) (omega arith)) (first_line-full (x ∷ xs))
-    (lines-AreCut n (drop (first_length (x ∷ xs)) (x ∷ xs)) (omega arith)))
-
-concat-lines : (n : ℕ) (b : List ℕ) → length b ≤ n → concat (lines b) ≡ b
-concat-lines n [] h = rw lines-nil refl
-concat-lines zero (x ∷ xs) h = absurd (omega arith)
-concat-lines (suc n) (x ∷ xs) h =
-    let positive : 0 < first_length (x ∷ xs) = first_length-positive (x ∷ xs) (omega arith) in
-    let left : length (drop (first_length (x ∷ xs)) (x ∷ xs)) ≡ length (x ∷ xs) - first_length (x ∷ xs) = length-drop (first_length (x ∷ xs)) (x ∷ xs) in
-    ap concat (lines-cons (x ∷ xs) (omega arith))
-    ∙ ap (λ (rest : List ℕ). take (first_length (x ∷ xs)) (x ∷ xs) ++ rest) (concat-lines n (drop (first_length (x ∷ xs)) (x ∷ xs)) (omega arith))
-    ∙ take-append-drop (first_length (x ∷ xs)) (x ∷ xs)
-
 pub lines-AreLines : (b : List ℕ) → AreLines b (lines b)
-lines-AreLines b = record { joined = concat-lines (length b) b (omega arith); each = lines-AreCut (length b) b (omega arith) }
+lines-AreLines b = record {
+  joined = by_lines (λ b. concat (lines b) ≡ b) (rw lines-nil refl) (λ b some rest. ap concat (lines-cons b some)
+      ∙ ap (λ (behind : List ℕ). take (first_length b) b ++ behind) rest ∙ take-append-drop (first_length b) b) (length b) b (omega arith);
+  each = by_lines (λ b. AreCut (lines b)) (rw lines-nil tt) (λ b some rest. rw (lines-cons b some)
+      (joined_cut (take (first_length b) b) (drop (first_length b) b) (first_line-IsLine b some) (first_line-full b) rest)) (length b) b (omega arith);
+}
 
 -- bytes whose first line's end is known begin with a line
 pub line_end-IsLine : (b : List ℕ) (n : ℕ) → Some n ≡ line_end_of b → IsLine (take n b)

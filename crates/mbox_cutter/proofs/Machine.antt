@@ -18,36 +18,35 @@ without_closing-full l (m ∷ ls) e = refl
 sub_front : (a b : ℕ) → (a + b) - a ≡ b
 sub_front a b = omega arith
 
-module _ (l : List ℕ) (ls : List (List ℕ)) where
+-- a line of k bytes, and those behind it
+module _ (l : List ℕ) (ls : List (List ℕ)) (k : ℕ) (len : length l ≡ k) where
   -- an empty line between two messages
-  pub between-empty : (all at : ℕ) → is_empty l ≡ true → is_separator l ≡ false → told_between all at (l ∷ ls) ≡ told_between all (at + length l) ls
-  between-empty all at e s = rw (e, s) (ap (λ (n : ℕ). cond (is_refused (marked true ls)) [] (told all (messages_from n (grouped (marked true ls)).1))) (sym (add_assoc at (length l) (total (grouped (marked true ls)).0))))
+  pub between-empty : (all at : ℕ) → is_empty l ≡ true → is_separator l ≡ false → told_between all at (l ∷ ls) ≡ told_between all (at + k) ls
+  between-empty all at e s =
+      rw (← len) (rw (e, s) (ap (λ (n : ℕ). cond (is_refused (marked true ls)) [] (told all (messages_from n (grouped (marked true ls)).1)))
+      (sym (add_assoc at (length l) (total (grouped (marked true ls)).0)))))
 
   -- a start
-  pub between-start : (all at : ℕ) → is_separator l ≡ true → is_empty l ≡ false → told_between all at (l ∷ ls) ≡ Start at l ∷ told_inside all (at + length l) at 0 ls
-  between-start all at s e = rw (s, e) (simp (add-zero, zero-add, add_assoc, sub_front))
+  pub between-start : (all at : ℕ) → is_separator l ≡ true → is_empty l ≡ false → told_between all at (l ∷ ls) ≡ Start at l ∷ told_inside all (at + k) at 0 ls
+  between-start all at s e = rw (← len) (rw (s, e) (simp (add-zero, zero-add, add_assoc, sub_front)))
 
-  -- no mbox
-  pub between-refused : (all at : ℕ) → is_separator l ≡ false → is_empty l ≡ false → told_between all at (l ∷ ls) ≡ []
-  between-refused all at s e = rw (s, e)
+  pub inside-line : (all at start size : ℕ) → is_empty l ≡ false → told_inside all at start size (l ∷ ls) ≡ Line l ∷ told_inside all (at + k) start (size + k) ls
+  inside-line all at start size e = rw (← len) (rw e (rw (without_closing-full l (grouped (marked false ls)).0 e) (simp add_assoc)))
 
-  pub inside-line : (all at start size : ℕ) → is_empty l ≡ false → told_inside all at start size (l ∷ ls) ≡ Line l ∷ told_inside all (at + length l) start (size + length l) ls
-  inside-line all at start size e = rw e (rw (without_closing-full l (grouped (marked false ls)).0 e) (simp add_assoc))
+  -- the archive ends with an empty line
+  pub inside-closing_last : (all at start size : ℕ) → is_empty l ≡ true → ls ≡ [] → told_inside all at start size (l ∷ ls) ≡ End ((at + k) - start) size ∷ told_between all (at + k) ls
+  inside-closing_last all at start size e none = rw (← len, none) (rw e (simp add-zero))
 
--- the archive ends with an empty line
-pub inside-closing_last : (l : List ℕ) (all at start size : ℕ) → is_empty l ≡ true → told_inside all at start size (l ∷ []) ≡ End ((at + length l) - start) size ∷ told_between all (at + length l) []
-inside-closing_last l all at start size e = rw e (simp add-zero)
+  module _ (m : List ℕ) (behind : List (List ℕ)) (next : ls ≡ m ∷ behind) where
+    -- an empty line before a start
+    pub inside-closing : (all at start size : ℕ) → is_empty l ≡ true → is_separator m ≡ true → is_empty m ≡ false →
+        told_inside all at start size (l ∷ ls) ≡ End ((at + k) - start) size ∷ told_between all (at + k) ls
+    inside-closing all at start size e s f = rw (← len, next) (rw (e, s, f) (rw e (simp add-zero)))
 
-module _ (l m : List ℕ) (ls : List (List ℕ)) where
-  -- an empty line before a start
-  pub inside-closing : (all at start size : ℕ) → is_empty l ≡ true → is_separator m ≡ true → is_empty m ≡ false →
-      told_inside all at start size (l ∷ m ∷ ls) ≡ End ((at + length l) - start) size ∷ told_between all (at + length l) (m ∷ ls)
-  inside-closing all at start size e s f = rw (e, s, f) (rw e (simp add-zero))
-
-  -- another empty line
-  pub inside-empty : (all at start size : ℕ) → is_empty l ≡ true → is_separator m ≡ false →
-      told_inside all at start size (l ∷ m ∷ ls) ≡ Line l ∷ told_inside all (at + length l) start (size + length l) (m ∷ ls)
-  inside-empty all at start size e s = rw (e, s) (simp add_assoc)
+    -- another empty line
+    pub inside-empty : (all at start size : ℕ) → is_empty l ≡ true → is_separator m ≡ false →
+        told_inside all at start size (l ∷ ls) ≡ Line l ∷ told_inside all (at + k) start (size + k) ls
+    inside-empty all at start size e s = rw (← len, next) (rw (e, s) (simp add_assoc))
 
 pub inside-nil : (all at start size : ℕ) → told_inside all at start size [] ≡ End (at - start) size ∷ told_between all at []
 inside-nil all at start size = simp add-zero

@@ -2,7 +2,6 @@
 use Rattle.std.proofs.Common.{◌≡◌, ℕ, ◌+◌, ◌-◌, ◌<◌, ◌≤◌, Bool, true, false, List, Option, Some, None, Result, Ok, Err, IfSome, IfOk, length, take, drop, inl, inr, refl, ap, sym, ◌∙◌, subst, arith}
 use Rattle.std.specs.Borrow.{MutBor}
 use Rattle.std.specs.Io.KnownBytes.{IsAtEnd, prepend_known}
-use Rattle.contract_words.specs.Devices.{Counted}
 use Rattle.std.proofs.lemmas.List.{length-take-le}
 use Rattle.mbox_cutter.specs.declared.device.Source.{Ghosts}
 use Rattle.mbox_cutter.specs.declared.event.CutFault.{CutFault}
@@ -15,16 +14,16 @@ use Rattle.mbox_cutter.specs.declared.scan.Step.TheVariants as step
 use Rattle.mbox_cutter.specs.Lines.{first_length, is_empty, IsLine}
 use Rattle.mbox_cutter.specs.Separators.{is_separator}
 use Rattle.mbox_cutter.specs.Events.{ArchiveEvent, Start, Line, End, Done, Coming}
-use Rattle.mbox_cutter.specs.Coming.{Answers, Refuses, TakesKnown, is_device, is_device_fault}
-use Rattle.mbox_cutter.specs.Places.{CutterPlace, Moves, Nears, ReadsAll, HasLine, Ends, Finishes, open_events}
+use Rattle.mbox_cutter.specs.Coming.{Answers, Refuses, Takes, TakesKnown, is_device, is_device_fault}
+use Rattle.mbox_cutter.specs.Places.{CutterPlace, Moves, Nears, ReadsAll, HasLine, open_events}
 use Rattle.mbox_cutter.specs.Progress.{Progress, Advances}
-use Rattle.mbox_cutter.specs.Sources.{Stays}
 use Rattle.mbox_cutter.specs.Inside.Ahead.{known, ReadsOn}
-use Rattle.mbox_cutter.specs.Inside.Resume.{coming_at}
+use Rattle.mbox_cutter.specs.Inside.Resume.{coming_at, resume}
 use Rattle.mbox_cutter.specs.Inside.Scan.{closes_at, coming, place_of, told_at, told_result, IsPlace, IsWithin, IsScan, IsFresh, FailsFirst, FindsLine, Passes, Steps}
-use Rattle.mbox_cutter.proofs.KnownSteps.{each_some, at_same, known-done, known-start, known-empty, known-refused, known-end, known-line, known-open, known-closed, known-fault, known-fault_inside, known-device, known-ended}
-use Rattle.mbox_cutter.proofs.Sources.{Stays-self, Stays-join}
-use Rattle.mbox_cutter.proofs.Windows.{known_taken, line_taken, length-Extends, take-Extends}
+use Rattle.mbox_cutter.proofs.KnownSteps.{each_some, at_same, both, IsFirst, known-coming, known-step, known-fault}
+use Rattle.mbox_cutter.proofs.Sources.{Serves, Serves-none, Serves-join, served}
+use Rattle.mbox_cutter.proofs.Steps.{step-done, step-start, step-empty, step-refused, step-long, step-end, step-line, step-open, step-closed, step-long_inside, ended-stays}
+use Rattle.mbox_cutter.proofs.Windows.{known_taken, line_taken, length-Extends, take-Extends, ReadsOn-join}
 
 -- a place, n bytes further and in this phase
 abbrev further : Phase → ℕ → CutterPlace → CutterPlace
@@ -36,12 +35,8 @@ further phase n p = record { phase = phase; offset = p.offset + n; most = p.most
 pub record Found {S : Type 0} (g : Ghosts S) (old now : Scan S) (n : ℕ) (line : List ℕ) : Type 0 where
   pub some : 0 < n
   pub place : place_of now ≡ place_of old
-  pub source : now.window.source.ghost_name ≡ old.window.source.ghost_name
-  pub count : g.failures now.window.source.now ≡ g.failures old.window.source.now
-  pub stays : Stays g old.window.source.now now.window.source.now
-  pub bytes : IfSome (known g.rest old.window) (λ b. known g.rest now.window ≡ Some b)
-  pub first : IfSome (known g.rest old.window) (λ b. n ≡ first_length b)
-  pub lent : IfSome (known g.rest old.window) (λ b. line ≡ take n b)
+  pub reads : ReadsOn g false old.window now.window
+  pub first : IfSome (known g.rest old.window) (IsFirst n line)
   pub fits : old.offset + n ≤ old.most
   pub within : n ≤ length now.window.unread
   pub is : take n now.window.unread ≡ line
@@ -51,12 +46,9 @@ pub record Found {S : Type 0} (g : Ghosts S) (old now : Scan S) (n : ℕ) (line 
 pub record Taken {S : Type 0} (g : Ghosts S) (old new : Scan S) (n : ℕ) (phase : Phase) (line : List ℕ) : Type 0 where
   pub some : 0 < n
   pub place : place_of new ≡ further phase n (place_of old)
-  pub source : new.window.source.ghost_name ≡ old.window.source.ghost_name
-  pub count : g.failures new.window.source.now ≡ g.failures old.window.source.now
-  pub stays : Stays g old.window.source.now new.window.source.now
+  pub reads : Serves g false old.window.source new.window.source
   pub moved : IfSome (known g.rest old.window) (λ b. known g.rest new.window ≡ Some (drop n b))
-  pub first : IfSome (known g.rest old.window) (λ b. n ≡ first_length b)
-  pub lent : IfSome (known g.rest old.window) (λ b. line ≡ take n b)
+  pub first : IfSome (known g.rest old.window) (IsFirst n line)
   pub fits : old.offset + n ≤ old.most
   pub is : new.window.line ≡ line
   pub is_line : IsLine line
@@ -69,13 +61,10 @@ module _ {S : Type 0} (g : Ghosts S) (old mid : Scan S) (n : ℕ) (line : List �
       record {
         some = some;
         place = f.place;
-        source = f.reads.source;
-        count = f.reads.count;
-        stays = f.reads.stays;
-        bytes = f.reads.bytes;
-        first = f.first.first;
-        lent = at_same (known g.rest old.window) (known g.rest mid.window) (λ b. line ≡ take n b) f.reads.bytes
-            (subst (λ (l : List ℕ). IfSome (known g.rest mid.window) (λ b. l ≡ take n b)) (sym is) (line_taken n mid.window.unread (g.rest mid.window.source.now) within));
+        reads = f.reads;
+        first = both (known g.rest old.window) (λ b. n ≡ first_length b) (λ b. line ≡ take n b) f.first.first
+            (at_same (known g.rest old.window) (known g.rest mid.window) (λ b. line ≡ take n b) f.reads.bytes
+            (subst (λ (l : List ℕ). IfSome (known g.rest mid.window) (λ b. l ≡ take n b)) (sym is) (line_taken n mid.window.unread (g.rest mid.window.source.now) within)));
         fits = f.fits;
         within = within;
         is = sym is;
@@ -87,12 +76,8 @@ module _ {S : Type 0} (g : Ghosts S) (old mid : Scan S) (n : ℕ) (line : List �
   found-on far h same r = record {
     some = h.some;
     place = same ∙ h.place;
-    source = r.source ∙ h.source;
-    count = r.count ∙ h.count;
-    stays = Stays-join g old.window.source.now mid.window.source.now far.window.source.now h.stays r.stays;
-    bytes = at_same (known g.rest old.window) (known g.rest mid.window) (λ b. known g.rest far.window ≡ Some b) h.bytes r.bytes;
+    reads = ReadsOn-join g false old.window mid.window far.window h.reads r;
     first = h.first;
-    lent = h.lent;
     fits = h.fits;
     within = let more : length mid.window.unread ≤ length far.window.unread = length-Extends mid.window.unread far.window.unread r.keeps in omega (arith, h.within);
     is = take-Extends n mid.window.unread far.window.unread h.within r.keeps ∙ h.is;
@@ -113,13 +98,10 @@ module _ {S : Type 0} (g : Ghosts S) (old mid : Scan S) (n : ℕ) (line : List �
       record {
         some = h.some;
         place = p.place ∙ ap (further phase n) h.place;
-        source = ap (λ (r : MutBor S). r.ghost_name) p.taken.source ∙ h.source;
-        count = ap (λ (r : MutBor S). g.failures r.now) p.taken.source ∙ h.count;
-        stays = subst (λ (r : MutBor S). Stays g old.window.source.now r.now) (sym p.taken.source) h.stays;
-        moved = at_same (known g.rest old.window) (known g.rest mid.window) (λ b. known g.rest new.window ≡ Some (drop n b)) h.bytes
+        reads = subst (λ (r : MutBor S). Serves g false old.window.source r) (sym p.taken.source) (served g false old.window mid.window h.reads);
+        moved = at_same (known g.rest old.window) (known g.rest mid.window) (λ b. known g.rest new.window ≡ Some (drop n b)) h.reads.bytes
             (subst (λ (o : Option (List ℕ)). IfSome (known g.rest mid.window) (λ b. o ≡ Some (drop n b))) (sym is) (known_taken n mid.window.unread (g.rest mid.window.source.now) h.within));
         first = h.first;
-        lent = h.lent;
         fits = h.fits;
         is = p.taken.line ∙ h.is;
         is_line = h.is_line;
@@ -133,30 +115,46 @@ taken-nearer g old new n phase line t =
     let same : new.most ≡ old.most = ap (λ (p : CutterPlace). p.most) t.place in
     omega (arith, t.some, t.fits)
 
--- ---- steps that take a line
+itself : {A : Type 0} (o : Option A) → IfSome o (λ x. o ≡ Some x)
+itself o = each_some o (λ x. o ≡ Some x) (λ x e. e)
 
+-- ---- steps that tell something
+
+-- what is told, from a phase, leaves the scan at this place
+told-steps : {S : Type 0} (g : Ghosts S) (old new : Scan S) (was : Phase) (p : CutterPlace) (s : Step) (line : List ℕ) (P : List ℕ → Type 0) (left : List ℕ → List ℕ) →
+    Serves g false old.window.source new.window.source → place_of new ≡ p → new.window.line ≡ line → old.phase ≡ was → p.most ≡ old.most → IsPlace p →
+    (p.phase ≡ Ended → IsAtEnd (g.rest new.window.source.now)) →
+    IfSome (known g.rest old.window) P → IfSome (known g.rest old.window) (λ b. known g.rest new.window ≡ Some (left b)) →
+    ((b : List ℕ) → P b → Takes (told_at s line) (resume was old.offset old.most b) (resume p.phase p.offset p.most (left b))) →
+    Moves (told_at s line) (place_of old) p → HasLine (told_at s line) → Steps g old (Ok s) new
+told-steps g old new was p s line P left reads at is before most place end h leaves takes moves lends = record {
+  source = reads.source;
+  count = reads.count;
+  stays = reads.stays;
+  scan = record { place = subst IsPlace (sym at) place; end = subst (λ (q : CutterPlace). q.phase ≡ Ended → IsAtEnd (g.rest new.window.source.now)) (sym at) end };
+  most = ap (λ (q : CutterPlace). q.most) at ∙ most;
+  answers = subst (λ (l : List ℕ). TakesKnown (told_at s l) (coming g.rest old) (coming g.rest new)) (sym is)
+      (subst (λ (q : CutterPlace). TakesKnown (told_at s line) (coming g.rest old) (coming_at q (known g.rest new.window))) (sym at)
+      (known-step (known g.rest old.window) (known g.rest new.window) (place_of old) p was (told_at s line) P left before h leaves takes));
+  moves = subst (λ (l : List ℕ). Moves (told_at s l) (place_of old) (place_of new)) (sym is) (subst (λ (q : CutterPlace). Moves (told_at s line) (place_of old) q) (sym at) moves);
+  line = subst (λ (l : List ℕ). HasLine (told_at s l)) (sym is) lends;
+  fresh = tt;
+}
+
+-- steps that take a line
 module _ {S : Type 0} (g : Ghosts S) (old new : Scan S) (n : ℕ) (line : List ℕ) where
-  taken-steps : (phase : Phase) (s : Step) → Taken g old new n phase line → IsPlace (further phase n (place_of old)) → (phase ≡ Ended → ⊥) →
-      TakesKnown (told_at s line) (coming g.rest old) (coming_at (further phase n (place_of old)) (known g.rest new.window)) →
+  taken-steps : (was phase : Phase) (s : Step) (P : List ℕ → Type 0) → old.phase ≡ was → Taken g old new n phase line → IsWithin phase (old.offset + n) → (phase ≡ Ended → ⊥) →
+      IfSome (known g.rest old.window) P → ((b : List ℕ) → P b → Takes (told_at s line) (resume was old.offset old.most b) (resume phase (old.offset + n) old.most (drop n b))) →
       Moves (told_at s line) (place_of old) (further phase n (place_of old)) → HasLine (told_at s line) → Steps g old (Ok s) new
-  taken-steps phase s t place not_ended takes moves lends = record {
-    source = t.source;
-    count = t.count;
-    stays = t.stays;
-    scan = record { place = subst IsPlace (sym t.place) place; end = λ e. absurd (not_ended (sym (ap (λ (p : CutterPlace). p.phase) t.place) ∙ e)) };
-    most = ap (λ (p : CutterPlace). p.most) t.place;
-    answers = subst (λ (l : List ℕ). TakesKnown (told_at s l) (coming g.rest old) (coming g.rest new)) (sym t.is)
-        (subst (λ (p : CutterPlace). TakesKnown (told_at s line) (coming g.rest old) (coming_at p (known g.rest new.window))) (sym t.place) takes);
-    moves = subst (λ (l : List ℕ). Moves (told_at s l) (place_of old) (place_of new)) (sym t.is) (subst (λ (p : CutterPlace). Moves (told_at s line) (place_of old) p) (sym t.place) moves);
-    line = subst (λ (l : List ℕ). HasLine (told_at s l)) (sym t.is) lends;
-    fresh = tt;
-  }
+  taken-steps was phase s P before t within not_ended h takes moves lends =
+      told-steps g old new was (further phase n (place_of old)) s line P (drop n) t.reads t.place t.is before refl (record { most = t.fits; phase = within })
+      (λ e. absurd (not_ended e)) h t.moved takes moves lends
 
   -- a message starts
   pub start-steps : (at : ℕ) → old.phase ≡ Between → at ≡ old.offset → is_separator line ≡ true → Taken g old new n (Inside at 0) line → Steps g old (Ok (step.Start at)) new
   start-steps at between is starts t = subst (λ (a : ℕ). Taken g old new n (Inside a 0) line → Steps g old (Ok (step.Start a)) new) (sym is) (λ t.
-      taken-steps (Inside old.offset 0) (step.Start old.offset) t (record { most = t.fits; phase = omega (arith, t.some) }) (λ e. cc)
-      (known-start (known g.rest old.window) (known g.rest new.window) old.offset old.most n old.phase t.first between t.some line t.lent starts t.moved)
+      taken-steps Between (Inside old.offset 0) (step.Start old.offset) (IsFirst n line) between t (omega (arith, t.some)) (λ e. cc) t.first
+      (λ b f. rw f.1 (step-start old.offset old.most n b f.0 t.some (sym (ap is_separator f.1) ∙ starts)))
       (record { was = between; now = refl; later = omega arith; offset = ap (λ (k : ℕ). old.offset + k) (sym t.size) }) t.is_line) t
 
   module _ (start size : ℕ) (inside : old.phase ≡ Inside start size) (was : IsScan g.rest old) where
@@ -164,77 +162,62 @@ module _ {S : Type 0} (g : Ghosts S) (old new : Scan S) (n : ℕ) (line : List �
     begun = subst (λ (p : Phase). IsWithin p old.offset) inside was.place.phase
 
     -- a line of the open message's text
-    text-steps : Taken g old new n (Inside start (size + n)) line →
-        TakesKnown (Line line) (coming g.rest old) (coming_at (further (Inside start (size + n)) n (place_of old)) (known g.rest new.window)) → Steps g old (Ok step.Line) new
-    text-steps t takes = taken-steps (Inside start (size + n)) step.Line t (record { most = t.fits; phase = omega (arith, begun) }) (λ e. cc) takes
+    text-steps : (P : List ℕ → Type 0) → Taken g old new n (Inside start (size + n)) line → IfSome (known g.rest old.window) P →
+        ((b : List ℕ) → P b → Takes (Line line) (resume (Inside start size) old.offset old.most b) (resume (Inside start (size + n)) (old.offset + n) old.most (drop n b))) →
+        Steps g old (Ok step.Line) new
+    text-steps P t h takes = taken-steps (Inside start size) (Inside start (size + n)) step.Line P inside t (omega (arith, begun)) (λ e. cc) h takes
         (record { start = start; size = size; was = inside; now = ap (λ (k : ℕ). Inside start (size + k)) (sym t.size); offset = ap (λ (k : ℕ). old.offset + k) (sym t.size) }) t.is_line
 
     pub line-steps : is_empty line ≡ false → Taken g old new n (Inside start (size + n)) line → Steps g old (Ok step.Line) new
-    line-steps full t = text-steps t (known-line (known g.rest old.window) (known g.rest new.window) old.offset old.most n old.phase t.first start size inside t.some line t.lent t.moved full)
+    line-steps full t = text-steps (IsFirst n line) t t.first (λ b f. rw f.1 (step-line old.offset old.most n b f.0 t.some start size (sym (ap is_empty f.1) ∙ full)))
 
     -- an empty line that doesn't close it
     pub open-steps : is_empty line ≡ true → IfSome (known g.rest old.window) (λ b. false ≡ closes_at n b) → Taken g old new n (Inside start (size + n)) line → Steps g old (Ok step.Line) new
-    open-steps empty opens t = text-steps t (known-open (known g.rest old.window) (known g.rest new.window) old.offset old.most n old.phase t.first start size inside t.some line t.lent t.moved empty opens)
+    open-steps empty opens t =
+        text-steps (λ b. IsFirst n line b × (false ≡ closes_at n b)) t (both (known g.rest old.window) (IsFirst n line) (λ b. false ≡ closes_at n b) t.first opens)
+        (λ b f. rw f.0.1 (step-open old.offset old.most n b f.0.0 t.some start size (sym (ap is_empty f.0.1) ∙ empty) (sym f.1)))
 
     -- the one that closes it
     pub closed-steps : is_empty line ≡ true → IfSome (known g.rest old.window) (λ b. true ≡ closes_at n b) → Taken g old new n Between line → Steps g old (Ok (step.End (new.offset - start) size)) new
     closed-steps empty closes t =
         let h : start + size < old.offset = begun in
         subst (λ (k : ℕ). Steps g old (Ok (step.End (k - start) size)) new) (sym (ap (λ (p : CutterPlace). p.offset) t.place))
-        (taken-steps Between (step.End ((old.offset + n) - start) size) t (record { most = t.fits; phase = tt }) (λ e. cc)
-        (known-closed (known g.rest old.window) (known g.rest new.window) old.offset old.most n old.phase t.first start size inside t.some line t.lent t.moved empty closes)
+        (taken-steps (Inside start size) Between (step.End ((old.offset + n) - start) size) (λ b. IsFirst n line b × (true ≡ closes_at n b)) inside t tt (λ e. cc)
+        (both (known g.rest old.window) (IsFirst n line) (λ b. true ≡ closes_at n b) t.first closes)
+        (λ b f. step-closed old.offset old.most n b f.0.0 t.some start size (sym (ap is_empty f.0.1) ∙ empty) (sym f.1))
         (record { start = start; was = inside; now = refl; smaller = omega arith; later = omega arith; offset = omega arith }) tt)
 
--- ---- steps at the end of the archive
-
+-- steps at the end of the archive
 module _ {S : Type 0} (g : Ghosts S) (old mid : Scan S) (n : ℕ) (found_none : FindsLine g old (Ok n) mid) (none : n ≡ 0) (was : IsScan g.rest old) where
-  in_phase : (phase : Phase) → ◌≡◌ {A = CutterPlace} (record { phase = phase; offset = mid.offset; most = mid.most }) (record { phase = phase; offset = old.offset; most = old.most })
-  in_phase phase = ap (λ (p : CutterPlace). record { phase = phase; offset = p.offset; most = p.most }) found_none.place
+  none-steps : (before phase : Phase) (s : Step) → old.phase ≡ before → IsWithin phase old.offset →
+      ((b : List ℕ) → 0 ≡ first_length b → Takes (told_at s mid.window.line) (resume before old.offset old.most b) (resume phase old.offset old.most b)) →
+      Moves (told_at s mid.window.line) (place_of old) (record { phase = phase; offset = old.offset; most = old.most }) → HasLine (told_at s mid.window.line) →
+      Steps g old (Ok s) (record mid { phase = phase })
+  none-steps before phase s is within takes moves lends =
+      told-steps g old (record mid { phase = phase }) before (record { phase = phase; offset = old.offset; most = old.most }) s mid.window.line (λ b. n ≡ first_length b) (λ b. b)
+      (served g false old.window mid.window found_none.reads) (ap (λ (p : CutterPlace). record { phase = phase; offset = p.offset; most = p.most }) found_none.place) refl is refl
+      (record { most = was.place.most; phase = within }) (λ e. found_none.first.end none) found_none.first.first found_none.reads.bytes (λ b f. takes b (sym none ∙ f)) moves lends
+
+  same_offset : mid.offset ≡ old.offset
+  same_offset = ap (λ (p : CutterPlace). p.offset) found_none.place
 
   pub done-steps : old.phase ≡ Between → Steps g old (Ok (step.Done mid.offset)) (record mid { phase = Ended })
-  done-steps between = record {
-    source = found_none.reads.source;
-    count = found_none.reads.count;
-    stays = found_none.reads.stays;
-    scan = record { place = subst IsPlace (sym (in_phase Ended)) (record { most = was.place.most; phase = tt }); end = λ e. found_none.first.end none };
-    most = ap (λ (p : CutterPlace). p.most) found_none.place;
-    answers = subst (λ (p : CutterPlace). TakesKnown (Done p.offset) (coming g.rest old) (coming_at p (known g.rest mid.window))) (sym (in_phase Ended))
-        (known-done (known g.rest old.window) (known g.rest mid.window) old.offset old.most n old.phase found_none.first.first between none was.place.most found_none.reads.bytes);
-    moves = subst (λ (p : CutterPlace). Finishes p.offset (place_of old) p) (sym (in_phase Ended)) (record { was = inl between; now = refl; later = omega arith; offset = refl });
-    line = tt;
-    fresh = tt;
-  }
+  done-steps between = subst (λ (k : ℕ). Steps g old (Ok (step.Done k)) (record mid { phase = Ended })) (sym same_offset)
+      (none-steps Between Ended (step.Done old.offset) between tt (λ b f. step-done old.offset old.most b f was.place.most) (record { was = inl between; now = refl; later = omega arith; offset = refl }) tt)
 
   pub end-steps : (start size : ℕ) → old.phase ≡ Inside start size → Steps g old (Ok (step.End (mid.offset - start) size)) (record mid { phase = Between })
   end-steps start size inside =
       let begun : start + size < old.offset = subst (λ (p : Phase). IsWithin p old.offset) inside was.place.phase in
-      record {
-        source = found_none.reads.source;
-        count = found_none.reads.count;
-        stays = found_none.reads.stays;
-        scan = record { place = subst IsPlace (sym (in_phase Between)) (record { most = was.place.most; phase = tt }); end = λ e. cc };
-        most = ap (λ (p : CutterPlace). p.most) found_none.place;
-        answers = subst (λ (p : CutterPlace). TakesKnown (End (p.offset - start) size) (coming g.rest old) (coming_at p (known g.rest mid.window))) (sym (in_phase Between))
-            (known-end (known g.rest old.window) (known g.rest mid.window) old.offset old.most n old.phase found_none.first.first start size inside none found_none.reads.bytes);
-        moves = subst (λ (p : CutterPlace). Ends (p.offset - start) size (place_of old) p) (sym (in_phase Between))
-            (record { start = start; was = inside; now = refl; smaller = omega arith; later = omega arith; offset = omega arith });
-        line = tt;
-        fresh = tt;
-      }
+      subst (λ (k : ℕ). Steps g old (Ok (step.End (k - start) size)) (record mid { phase = Between })) (sym same_offset)
+      (none-steps (Inside start size) Between (step.End (old.offset - start) size) inside tt (λ b f. step-end old.offset old.most start size b f)
+      (record { start = start; was = inside; now = refl; smaller = omega arith; later = omega arith; offset = omega arith }) tt)
 
 -- the end is told again
 pub ended-steps : {S : Type 0} (g : Ghosts S) (old : Scan S) → old.phase ≡ Ended → IsScan g.rest old → Steps g old (Ok (step.Done old.offset)) old
-ended-steps g old ended was = record {
-  source = refl;
-  count = refl;
-  stays = Stays-self g old.window.source.now;
-  scan = was;
-  most = refl;
-  answers = known-ended (known g.rest old.window) old.offset old.most old.phase ended;
-  moves = record { was = inr ended; now = ended; later = omega arith; offset = refl };
-  line = tt;
-  fresh = tt;
-}
+ended-steps g old ended was =
+    told-steps g old old Ended (place_of old) (step.Done old.offset) old.window.line (λ b. known g.rest old.window ≡ Some b) (λ b. b) (Serves-none g old.window.source) refl refl ended refl
+    was.place was.end (itself (known g.rest old.window)) (itself (known g.rest old.window))
+    (λ b f. rw ended (ended-stays old.offset old.most b)) (record { was = inr ended; now = ended; later = omega arith; offset = refl }) tt
 
 -- ---- steps that fail
 
@@ -245,65 +228,53 @@ is_fresh at most bytes ArchiveTooLong f = tt
 is_fresh at most bytes Failed f = f
 
 module _ {S : Type 0} (g : Ghosts S) (old mid : Scan S) (fault : CutFault) (was : IsScan g.rest old) where
-  fails-scan : (old.phase ≡ Ended → ⊥) → place_of mid ≡ place_of old → IsScan g.rest mid
-  fails-scan not_ended same = record { place = subst IsPlace (sym same) was.place; end = λ e. absurd (not_ended (sym (ap (λ (p : CutterPlace). p.phase) same) ∙ e)) }
-
-  fails-steps : (old.phase ≡ Ended → ⊥) → IfSome (coming g.rest old) (Refuses fault) → FindsLine g old (Err fault) mid → Steps g old (Err fault) mid
-  fails-steps not_ended refuses f = record {
-    source = f.reads.source;
-    count = f.reads.count;
-    stays = f.reads.stays;
-    scan = fails-scan not_ended f.place;
-    most = ap (λ (p : CutterPlace). p.most) f.place;
+  -- what fails leaves the scan where it was
+  fails-steps : (old.phase ≡ Ended → ⊥) → Serves g (is_device fault) old.window.source mid.window.source → place_of mid ≡ place_of old →
+      IfSome (coming g.rest old) (Refuses fault) → IsFresh fault → Steps g old (Err fault) mid
+  fails-steps not_ended reads same refuses fresh = record {
+    source = reads.source;
+    count = reads.count;
+    stays = reads.stays;
+    scan = record { place = subst IsPlace (sym same) was.place; end = λ e. absurd (not_ended (sym (ap (λ (p : CutterPlace). p.phase) same) ∙ e)) };
+    most = ap (λ (p : CutterPlace). p.most) same;
     answers = refuses;
     moves = tt;
     line = tt;
-    fresh = is_fresh old.offset old.most (known g.rest old.window) fault f.fails;
+    fresh = fresh;
   }
+
+  -- no line was found
+  unfound-steps : (before : Phase) → old.phase ≡ before → (old.phase ≡ Ended → ⊥) → ((b : List ℕ) → old.most < old.offset + first_length b → Refuses ArchiveTooLong (resume before old.offset old.most b)) →
+      FindsLine g old (Err fault) mid → Steps g old (Err fault) mid
+  unfound-steps before is not_ended long f = fails-steps not_ended (served g (is_device fault) old.window mid.window f.reads) f.place
+      (known-fault (known g.rest old.window) (place_of old) before fault is f.fails long) (is_fresh old.offset old.most (known g.rest old.window) fault f.fails)
 
   pub fault-steps : old.phase ≡ Between → FindsLine g old (Err fault) mid → Steps g old (Err fault) mid
-  fault-steps between f = fails-steps (λ e. cc) (known-fault (known g.rest old.window) old.offset old.most old.phase fault between was.place.most f.fails) f
+  fault-steps between f = unfound-steps Between between (λ e. cc) (λ b. step-long old.offset old.most b was.place.most) f
 
   pub fault_inside-steps : (start size : ℕ) → old.phase ≡ Inside start size → FindsLine g old (Err fault) mid → Steps g old (Err fault) mid
-  fault_inside-steps start size inside f = fails-steps (λ e. cc) (known-fault_inside (known g.rest old.window) old.offset old.most old.phase start size fault inside f.fails) f
+  fault_inside-steps start size inside f = unfound-steps (Inside start size) inside (λ e. cc) (λ b. step-long_inside old.offset old.most start size b) f
 
-  -- what closes a message can't be read
-  pub unread-steps : (n start size : ℕ) (line : List ℕ) (far : Scan S) → old.phase ≡ Inside start size → Found g old mid n line → place_of far ≡ place_of mid →
-      ReadsOn g (is_device fault) mid.window far.window → fault ≡ Device → Steps g old (Err fault) far
-  unread-steps n start size line far inside h same r device = record {
-    source = r.source ∙ h.source;
-    count = subst (λ (k : ℕ). Counted (is_device fault) k (g.failures far.window.source.now)) h.count r.count;
-    stays = Stays-join g old.window.source.now mid.window.source.now far.window.source.now h.stays r.stays;
-    scan = record { place = subst IsPlace (sym (same ∙ h.place)) was.place; end = λ e. let p : far.phase ≡ old.phase = ap (λ (p : CutterPlace). p.phase) (same ∙ h.place) in cc };
-    most = ap (λ (p : CutterPlace). p.most) (same ∙ h.place);
-    answers = subst (λ (f : CutFault). IfSome (coming g.rest old) (Refuses f)) (sym device) (known-device (known g.rest old.window) old.offset old.most old.phase);
-    moves = tt;
-    line = tt;
-    fresh = subst IsFresh (sym device) tt;
-  }
+-- what closes a message can't be read
+pub unread-steps : {S : Type 0} (g : Ghosts S) (old mid : Scan S) (fault : CutFault) → IsScan g.rest old → (n start size : ℕ) (line : List ℕ) (far : Scan S) →
+    old.phase ≡ Inside start size → Found g old mid n line → place_of far ≡ place_of mid → ReadsOn g (is_device fault) mid.window far.window → fault ≡ Device → Steps g old (Err fault) far
+unread-steps g old mid fault was n start size line far inside h same r device =
+    fails-steps g old far fault was (λ e. cc) (served g (is_device fault) old.window far.window (ReadsOn-join g (is_device fault) old.window mid.window far.window h.reads r)) (same ∙ h.place)
+    (subst (λ (f : CutFault). IfSome (coming g.rest old) (Refuses f)) (sym device) (each_some (coming g.rest old) (Refuses Device) (λ x e. tt))) (subst IsFresh (sym device) tt)
 
 -- the first line that isn't empty starts no message
 pub refused-steps : {S : Type 0} (g : Ghosts S) (old mid : Scan S) (n : ℕ) (line : List ℕ) → IsScan g.rest old → old.phase ≡ Between → Found g old mid n line →
     is_separator line ≡ false → is_empty line ≡ false → Steps g old (Err NotAnMbox) mid
-refused-steps g old mid n line was between h other full = record {
-  source = h.source;
-  count = h.count;
-  stays = h.stays;
-  scan = fails-scan g old mid NotAnMbox was (λ e. cc) h.place;
-  most = ap (λ (p : CutterPlace). p.most) h.place;
-  answers = known-refused (known g.rest old.window) None old.offset old.most n old.phase h.first between h.some line h.lent other full h.fits;
-  moves = tt;
-  line = tt;
-  fresh = tt;
-}
+refused-steps g old mid n line was between h other full =
+    fails-steps g old mid NotAnMbox was (λ e. cc) (served g false old.window mid.window h.reads) h.place
+    (known-coming (known g.rest old.window) (place_of old) Between (IsFirst n line) (Refuses NotAnMbox) between h.first
+    (λ b f. step-refused old.offset old.most n b f.0 h.some (sym (ap is_separator f.1) ∙ other) (sym (ap is_empty f.1) ∙ full) h.fits)) tt
 
 -- ---- empty lines before a step
 
 -- empty lines between two messages were taken
 pub record Skipped {S : Type 0} (g : Ghosts S) (old now : Scan S) : Type 0 where
-  pub source : now.window.source.ghost_name ≡ old.window.source.ghost_name
-  pub count : g.failures now.window.source.now ≡ g.failures old.window.source.now
-  pub stays : Stays g old.window.source.now now.window.source.now
+  pub reads : Serves g false old.window.source now.window.source
   pub was : old.phase ≡ Between
   pub phase : now.phase ≡ Between
   pub scan : IsScan g.rest now
@@ -311,21 +282,16 @@ pub record Skipped {S : Type 0} (g : Ghosts S) (old now : Scan S) : Type 0 where
   pub most : now.most ≡ old.most
   pub still : IfSome (coming g.rest old) (λ k. coming g.rest now ≡ Some k)
 
-itself : {A : Type 0} (o : Option A) → IfSome o (λ x. o ≡ Some x)
-itself o = each_some o (λ x. o ≡ Some x) (λ x e. e)
-
 pub skipped-none : {S : Type 0} (g : Ghosts S) (old : Scan S) → old.phase ≡ Between → IsScan g.rest old → Skipped g old old
 skipped-none g old between was =
-    record { source = refl; count = refl; stays = Stays-self g old.window.source.now; was = between; phase = between; scan = was; later = omega arith; most = refl; still = itself (coming g.rest old) }
+    record { reads = Serves-none g old.window.source; was = between; phase = between; scan = was; later = omega arith; most = refl; still = itself (coming g.rest old) }
 
 pub skipped-one : {S : Type 0} (g : Ghosts S) (old now new : Scan S) (n : ℕ) (line : List ℕ) → Skipped g old now → Taken g now new n Between line →
     is_separator line ≡ false → is_empty line ≡ true → Skipped g old new
 skipped-one g old now new n line k t other empty =
     let further_on : new.offset ≡ now.offset + n = ap (λ (p : CutterPlace). p.offset) t.place in
     record {
-      source = t.source ∙ k.source;
-      count = t.count ∙ k.count;
-      stays = Stays-join g old.window.source.now now.window.source.now new.window.source.now k.stays t.stays;
+      reads = Serves-join g false old.window.source now.window.source new.window.source k.reads t.reads;
       was = k.was;
       phase = ap (λ (p : CutterPlace). p.phase) t.place;
       scan = record { place = subst IsPlace (sym t.place) (record { most = t.fits; phase = tt }); end = λ e. let p : new.phase ≡ Between = ap (λ (p : CutterPlace). p.phase) t.place in cc };
@@ -333,7 +299,11 @@ skipped-one g old now new n line k t other empty =
       most = ap (λ (p : CutterPlace). p.most) t.place ∙ k.most;
       still = at_same (coming g.rest old) (coming g.rest now) (λ x. coming g.rest new ≡ Some x) k.still
           (subst (λ (p : CutterPlace). IfSome (coming g.rest now) (λ x. coming_at p (known g.rest new.window) ≡ Some x)) (sym t.place)
-          (known-empty (known g.rest now.window) (known g.rest new.window) now.offset now.most n now.phase t.first k.phase t.some line t.lent other empty t.moved));
+          (known-coming (known g.rest now.window) (place_of now) Between (λ b. IsFirst n line b × (known g.rest new.window ≡ Some (drop n b)))
+          (λ x. coming_at (further Between n (place_of now)) (known g.rest new.window) ≡ Some x) k.phase
+          (both (known g.rest now.window) (IsFirst n line) (λ b. known g.rest new.window ≡ Some (drop n b)) t.first t.moved)
+          (λ b f. ap (coming_at (further Between n (place_of now))) f.1
+          ∙ ap Some (sym (step-empty now.offset now.most n b f.0.0 t.some (sym (ap is_separator f.0.1) ∙ other) (sym (ap is_empty f.0.1) ∙ empty))))));
     }
 
 answers-behind : (before now after : Option Coming) (r : Result ArchiveEvent CutFault) → IfSome before (λ k. now ≡ Some k) → Answers now r after → Answers before r after
@@ -353,17 +323,20 @@ moves-skipped (Ok s) line old now new was is later m = moves-behind (told_at s l
 moves-skipped (Err f) line old now new was is later m = tt
 
 pub skipped-steps : {S : Type 0} (g : Ghosts S) (old now new : Scan S) (result : Result Step CutFault) → Skipped g old now → Steps g now result new → Steps g old result new
-skipped-steps g old now new result k s = record {
-  source = s.source ∙ k.source;
-  count = subst (λ (c : ℕ). Counted (is_device_fault result) c (g.failures new.window.source.now)) k.count s.count;
-  stays = Stays-join g old.window.source.now now.window.source.now new.window.source.now k.stays s.stays;
-  scan = s.scan;
-  most = s.most ∙ k.most;
-  answers = answers-behind (coming g.rest old) (coming g.rest now) (coming g.rest new) (told_result new.window.line result) k.still s.answers;
-  moves = moves-skipped result new.window.line (place_of old) (place_of now) (place_of new) k.was k.phase k.later s.moves;
-  line = s.line;
-  fresh = s.fresh;
-}
+skipped-steps g old now new result k s =
+    let step_reads : Serves g (is_device_fault result) now.window.source new.window.source = record { source = s.source; count = s.count; stays = s.stays } in
+    let reads : Serves g (is_device_fault result) old.window.source new.window.source = Serves-join g (is_device_fault result) old.window.source now.window.source new.window.source k.reads step_reads in
+    record {
+      source = reads.source;
+      count = reads.count;
+      stays = reads.stays;
+      scan = s.scan;
+      most = s.most ∙ k.most;
+      answers = answers-behind (coming g.rest old) (coming g.rest now) (coming g.rest new) (told_result new.window.line result) k.still s.answers;
+      moves = moves-skipped result new.window.line (place_of old) (place_of now) (place_of new) k.was k.phase k.later s.moves;
+      line = s.line;
+      fresh = s.fresh;
+    }
 
 -- ---- what follows of a step, for callers
 

@@ -1,6 +1,9 @@
 -- Reads of a source, one after another, leave what each leaves.
-use Rattle.std.proofs.Common.{refl, ◌∙◌}
+use Rattle.std.proofs.Common.{◌≡◌, ℕ, Bool, false, refl, ◌∙◌, subst}
+use Rattle.std.specs.Borrow.{MutBor}
+use Rattle.contract_words.specs.Devices.{Counted}
 use Rattle.mbox_cutter.specs.declared.device.Source.{Ghosts}
+use Rattle.mbox_cutter.specs.Inside.Ahead.{Ahead, ReadsOn}
 use Rattle.mbox_cutter.specs.Sources.{Stays}
 
 pub Stays-self : {S : Type 0} (g : Ghosts S) (s : S) → Stays g s s
@@ -8,3 +11,22 @@ Stays-self g s = record { whole = λ bytes h. h; through = refl }
 
 pub Stays-join : {S : Type 0} (g : Ghosts S) (a b c : S) → Stays g a b → Stays g b c → Stays g a c
 Stays-join g a b c h k = record { whole = λ bytes w. k.whole bytes (h.whole bytes w); through = k.through ∙ h.through }
+
+-- reads leave the source the same, its count of failures risen by one where they failed, and what no read changes as it was
+pub record Serves {S : Type 0} (g : Ghosts S) (failed : Bool) (old new : MutBor S) : Type 0 where
+  pub source : new.ghost_name ≡ old.ghost_name
+  pub count : Counted failed (g.failures old.now) (g.failures new.now)
+  pub stays : Stays g old.now new.now
+
+pub Serves-none : {S : Type 0} (g : Ghosts S) (s : MutBor S) → Serves g false s s
+Serves-none g s = record { source = refl; count = refl; stays = Stays-self g s.now }
+
+pub Serves-join : {S : Type 0} (g : Ghosts S) (failed : Bool) (a b c : MutBor S) → Serves g false a b → Serves g failed b c → Serves g failed a c
+Serves-join g failed a b c h k = record {
+  source = k.source ∙ h.source;
+  count = subst (λ (n : ℕ). Counted failed n (g.failures c.now)) h.count k.count;
+  stays = Stays-join g a.now b.now c.now h.stays k.stays;
+}
+
+pub served : {S : Type 0} (g : Ghosts S) (failed : Bool) (old new : Ahead S) → ReadsOn g failed old new → Serves g failed old.source new.source
+served g failed old new r = record { source = r.source; count = r.count; stays = r.stays }

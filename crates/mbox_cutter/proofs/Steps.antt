@@ -22,16 +22,15 @@ use Rattle.mbox_cutter.proofs.Machine.{between-empty, between-start, inside-line
 pub too_long-beyond : (most all : ℕ) → most < all → too_long most all ≡ Some ArchiveTooLong
 too_long-beyond most all h = let t : nat_lt most all ≡ true = grind (arith, nat_tests) in rw t
 
-refusal-start : (at most rest : ℕ) (l : List ℕ) (ls : List (List ℕ)) → is_separator l ≡ true → is_empty l ≡ false → refusal_between at most (l ∷ ls) rest ≡ too_long most (at + rest)
-refusal-start at most rest l ls s e = rw (s, e) refl
+module _ (at most rest : ℕ) (l : List ℕ) (ls lines : List (List ℕ)) (first : lines ≡ l ∷ ls) where
+  refusal-start : is_separator l ≡ true → is_empty l ≡ false → refusal_between at most lines rest ≡ too_long most (at + rest)
+  refusal-start s e = rw first (rw (s, e) refl)
 
-refusal-empty : (at most rest rest' : ℕ) (l : List ℕ) (ls : List (List ℕ)) → is_separator l ≡ false → is_empty l ≡ true → rest ≡ length l + rest' →
-    refusal_between at most (l ∷ ls) rest ≡ refusal_between (at + length l) most ls rest'
-refusal-empty at most rest rest' l ls s e h = rw (h, s, e) (simp add_assoc)
+  refusal-empty : (k rest' : ℕ) → length l ≡ k → is_separator l ≡ false → is_empty l ≡ true → rest ≡ k + rest' → refusal_between at most lines rest ≡ refusal_between (at + k) most ls rest'
+  refusal-empty k rest' len s e h = rw (first, h, ← len) (rw (s, e) (simp add_assoc))
 
-refusal-none : (at most rest : ℕ) (l : List ℕ) (ls : List (List ℕ)) → is_separator l ≡ false → is_empty l ≡ false → at + length l ≤ most →
-    refusal_between at most (l ∷ ls) rest ≡ Some NotAnMbox
-refusal-none at most rest l ls s e h = let t : nat_le (at + length l) most ≡ true = grind (arith, nat_tests) in rw (s, e) (rw t refl)
+  refusal-none : is_separator l ≡ false → is_empty l ≡ false → at + length l ≤ most → refusal_between at most lines rest ≡ Some NotAnMbox
+  refusal-none s e h = let t : nat_le (at + length l) most ≡ true = grind (arith, nat_tests) in rw first (rw (s, e) (rw t refl))
 
 first_full_end-le : (l : List ℕ) (ls : List (List ℕ)) → length l ≤ first_full_end (l ∷ ls)
 first_full_end-le l ls = elim (is_empty l) as (λ v. length l ≤ cond v (length l + first_full_end ls) (length l)) [ true ↦ omega arith | false ↦ omega arith ]
@@ -105,56 +104,52 @@ step-long_inside at most start size b h = too_long-beyond most (at + length b) (
 -- ---- a first line
 
 module _ (at most n : ℕ) (b : List ℕ) (e : n ≡ first_length b) (h : 0 < n) where
+  len : length (take n b) ≡ n
+  len = first-taken b n e
+
+  -- what comes of all the lines comes of the first one and of those behind it
+  front : (f : ℕ → List (List ℕ) → List ArchiveEvent) → f (at + length b) (lines b) ≡ f ((at + n) + length (drop n b)) (take n b ∷ lines (drop n b))
+  front f = ap (f (at + length b)) (first-lines b n e h) ∙ ap (λ (all : ℕ). f all (take n b ∷ lines (drop n b))) (first-all b n e at)
+
+  all-same : too_long most ((at + n) + length (drop n b)) ≡ too_long most (at + length b)
+  all-same = ap (too_long most) (sym (first-all b n e at))
+
   pub step-start : is_separator (take n b) ≡ true → Takes (Start at (take n b)) (resume Between at most b) (resume (Inside at 0) (at + n) most (drop n b))
   unfolding resume
   step-start s =
       let full : is_empty (take n b) ≡ false = separator-full (take n b) s in (
-        ap (told_between (at + length b) at) (first-lines b n e h) ∙ between-start (take n b) (lines (drop n b)) (at + length b) at s full
-            ∙ ap (λ (k : ℕ). Start at (take n b) ∷ told_inside (at + length b) (at + k) at 0 (lines (drop n b))) (first-taken b n e)
-            ∙ ap (λ (k : ℕ). Start at (take n b) ∷ told_inside k (at + n) at 0 (lines (drop n b))) (first-all b n e at),
-        sym (ap (λ (ls : List (List ℕ)). refusal_between at most ls (length b)) (first-lines b n e h) ∙ refusal-start at most (length b) (take n b) (lines (drop n b)) s full ∙ ap (too_long most) (first-all b n e at)),
+        front (λ all ls. told_between all at ls) ∙ between-start (take n b) (lines (drop n b)) n len ((at + n) + length (drop n b)) at s full,
+        all-same ∙ sym (refusal-start at most (length b) (take n b) (lines (drop n b)) (lines b) (first-lines b n e h) s full),
       )
 
   pub step-empty : is_separator (take n b) ≡ false → is_empty (take n b) ≡ true → resume Between at most b ≡ resume Between (at + n) most (drop n b)
   unfolding resume
   step-empty s f =
       same_coming
-      (ap (told_between (at + length b) at) (first-lines b n e h) ∙ between-empty (take n b) (lines (drop n b)) (at + length b) at f s
-      ∙ ap (λ (k : ℕ). told_between (at + length b) (at + k) (lines (drop n b))) (first-taken b n e)
-      ∙ ap (λ (k : ℕ). told_between k (at + n) (lines (drop n b))) (first-all b n e at))
-      (ap (λ (ls : List (List ℕ)). refusal_between at most ls (length b)) (first-lines b n e h)
-      ∙ refusal-empty at most (length b) (length (drop n b)) (take n b) (lines (drop n b)) s f (rw (first-taken b n e) (first-rest b n e))
-      ∙ ap (λ (k : ℕ). refusal_between (at + k) most (lines (drop n b)) (length (drop n b))) (first-taken b n e))
+      (front (λ all ls. told_between all at ls) ∙ between-empty (take n b) (lines (drop n b)) n len ((at + n) + length (drop n b)) at f s)
+      (refusal-empty at most (length b) (take n b) (lines (drop n b)) (lines b) (first-lines b n e h) n (length (drop n b)) len s f (first-rest b n e))
 
   pub step-refused : is_separator (take n b) ≡ false → is_empty (take n b) ≡ false → at + n ≤ most → Refuses NotAnMbox (resume Between at most b)
   unfolding resume
-  step-refused s f fits = rw (first-lines b n e h) (refusal-none at most (length b) (take n b) (lines (drop n b)) s f (rw (first-taken b n e) fits))
+  step-refused s f fits = refusal-none at most (length b) (take n b) (lines (drop n b)) (lines b) (first-lines b n e h) s f (rw len fits)
 
   -- ---- inside a message
 
   module _ (start size : ℕ) where
     pub step-line : is_empty (take n b) ≡ false → Takes (Line (take n b)) (resume (Inside start size) at most b) (resume (Inside start (size + n)) (at + n) most (drop n b))
     unfolding resume
-    step-line f = (
-      ap (told_inside (at + length b) at start size) (first-lines b n e h) ∙ inside-line (take n b) (lines (drop n b)) (at + length b) at start size f
-          ∙ ap (λ (k : ℕ). Line (take n b) ∷ told_inside (at + length b) (at + k) start (size + k) (lines (drop n b))) (first-taken b n e)
-          ∙ ap (λ (k : ℕ). Line (take n b) ∷ told_inside k (at + n) start (size + n) (lines (drop n b))) (first-all b n e at),
-      ap (too_long most) (sym (first-all b n e at)),
-    )
+    step-line f =
+        (front (λ all ls. told_inside all at start size ls) ∙ inside-line (take n b) (lines (drop n b)) n len ((at + n) + length (drop n b)) at start size f, all-same)
 
     -- another empty line
     step-kept : (m : ℕ) → is_empty (take n b) ≡ true → m ≡ first_length (drop n b) → 0 < m → is_separator (take m (drop n b)) ≡ false →
         Takes (Line (take n b)) (resume (Inside start size) at most b) (resume (Inside start (size + n)) (at + n) most (drop n b))
     unfolding resume
-    step-kept m f d k s =
-        let next : lines (drop n b) ≡ take m (drop n b) ∷ lines (drop m (drop n b)) = first-lines (drop n b) m d k in (
-          ap (told_inside (at + length b) at start size) (first-lines b n e h ∙ ap (λ (ls : List (List ℕ)). take n b ∷ ls) next)
-              ∙ inside-empty (take n b) (take m (drop n b)) (lines (drop m (drop n b))) (at + length b) at start size f s
-              ∙ ap (λ (ls : List (List ℕ)). Line (take n b) ∷ told_inside (at + length b) (at + length (take n b)) start (size + length (take n b)) ls) (sym next)
-              ∙ ap (λ (k : ℕ). Line (take n b) ∷ told_inside (at + length b) (at + k) start (size + k) (lines (drop n b))) (first-taken b n e)
-              ∙ ap (λ (k : ℕ). Line (take n b) ∷ told_inside k (at + n) start (size + n) (lines (drop n b))) (first-all b n e at),
-          ap (too_long most) (sym (first-all b n e at)),
-        )
+    step-kept m f d k s = (
+      front (λ all ls. told_inside all at start size ls)
+          ∙ inside-empty (take n b) (lines (drop n b)) n len (take m (drop n b)) (lines (drop m (drop n b))) (first-lines (drop n b) m d k) ((at + n) + length (drop n b)) at start size f s,
+      all-same,
+    )
 
     -- an empty line before a start
     step-closing : (m : ℕ) → is_empty (take n b) ≡ true → m ≡ first_length (drop n b) → 0 < m → is_separator (take m (drop n b)) ≡ true →
@@ -163,14 +158,9 @@ module _ (at most n : ℕ) (b : List ℕ) (e : n ≡ first_length b) (h : 0 < n)
     step-closing m f d k s =
         let full : is_empty (take m (drop n b)) ≡ false = separator-full (take m (drop n b)) s in
         let next : lines (drop n b) ≡ take m (drop n b) ∷ lines (drop m (drop n b)) = first-lines (drop n b) m d k in (
-          ap (told_inside (at + length b) at start size) (first-lines b n e h ∙ ap (λ (ls : List (List ℕ)). take n b ∷ ls) next)
-              ∙ inside-closing (take n b) (take m (drop n b)) (lines (drop m (drop n b))) (at + length b) at start size f s full
-              ∙ ap (λ (ls : List (List ℕ)). End ((at + length (take n b)) - start) size ∷ told_between (at + length b) (at + length (take n b)) ls) (sym next)
-              ∙ ap (λ (k : ℕ). End ((at + k) - start) size ∷ told_between (at + length b) (at + k) (lines (drop n b))) (first-taken b n e)
-              ∙ ap (λ (k : ℕ). End ((at + n) - start) size ∷ told_between k (at + n) (lines (drop n b))) (first-all b n e at),
-          ap (λ (ls : List (List ℕ)). refusal_between (at + n) most ls (length (drop n b))) next
-              ∙ refusal-start (at + n) most (length (drop n b)) (take m (drop n b)) (lines (drop m (drop n b))) s full
-              ∙ ap (too_long most) (sym (first-all b n e at)),
+          front (λ all ls. told_inside all at start size ls)
+              ∙ inside-closing (take n b) (lines (drop n b)) n len (take m (drop n b)) (lines (drop m (drop n b))) next ((at + n) + length (drop n b)) at start size f s full,
+          refusal-start (at + n) most (length (drop n b)) (take m (drop n b)) (lines (drop m (drop n b))) (lines (drop n b)) next s full ∙ all-same,
         )
 
     -- an empty line at the end
@@ -178,13 +168,9 @@ module _ (at most n : ℕ) (b : List ℕ) (e : n ≡ first_length b) (h : 0 < n)
         Takes (End ((at + n) - start) size) (resume (Inside start size) at most b) (resume Between (at + n) most (drop n b))
     unfolding resume
     step-closing_last f d =
-        let next : lines (drop n b) ≡ [] = ap lines (no_bytes (drop n b) d) ∙ lines-nil in (
-          ap (told_inside (at + length b) at start size) (first-lines b n e h ∙ ap (λ (ls : List (List ℕ)). take n b ∷ ls) next)
-              ∙ inside-closing_last (take n b) (at + length b) at start size f
-              ∙ ap (λ (ls : List (List ℕ)). End ((at + length (take n b)) - start) size ∷ told_between (at + length b) (at + length (take n b)) ls) (sym next)
-              ∙ ap (λ (k : ℕ). End ((at + k) - start) size ∷ told_between (at + length b) (at + k) (lines (drop n b))) (first-taken b n e)
-              ∙ ap (λ (k : ℕ). End ((at + n) - start) size ∷ told_between k (at + n) (lines (drop n b))) (first-all b n e at),
-          ap (λ (ls : List (List ℕ)). refusal_between (at + n) most ls (length (drop n b))) next ∙ ap (too_long most) (sym (first-all b n e at)),
+        let none : lines (drop n b) ≡ [] = ap lines (no_bytes (drop n b) d) ∙ lines-nil in (
+          front (λ all ls. told_inside all at start size ls) ∙ inside-closing_last (take n b) (lines (drop n b)) n len ((at + n) + length (drop n b)) at start size f none,
+          ap (λ (ls : List (List ℕ)). refusal_between (at + n) most ls (length (drop n b))) none ∙ all-same,
         )
 
     closed-cases : (m : ℕ) → is_empty (take n b) ≡ true → m ≡ first_length (drop n b) → (nat_eq m 0 || is_separator (take m (drop n b))) ≡ true →

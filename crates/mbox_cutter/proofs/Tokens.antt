@@ -25,11 +25,6 @@ and-or true false true false r e = refl
 and-or true false false false r e = refl
 and-or false y t a r e = refl
 
--- a token that isn't the year
-pub turn : (ts : List (List ℕ)) (token : List ℕ) (rest : List (List ℕ)) (timed : Bool) → ts ≡ token ∷ rest → (timed && is_year token) ≡ false →
-    ((timed && list_any is_year ts) || has_time_then_year ts) ≡ (((timed || is_time token) && list_any is_year rest) || has_time_then_year rest)
-turn ts token rest timed e no_year = rw e (and-or timed (is_year token) (is_time token) (list_any is_year rest) (has_time_then_year rest) no_year)
-
 found-year : (y a r : Bool) → y ≡ true → ((true && (y || a)) || r) ≡ true
 found-year y a r e = rw e
 
@@ -52,6 +47,7 @@ pub tokens-split : (rest token more after : List ℕ) (k : ℕ) → IsFirstByte 
 tokens-split rest token more after k f t m a =
     tokens-at rest k f ∙ cc (ap tokens (sym (drop-drop 1 k rest)), ap (λ (x : List ℕ). tokens (drop 1 x)) m, ap tokens a)
 
+-- a token that isn't the year, before a time and behind one
 pub turn_untimed : (ts : List (List ℕ)) (token : List ℕ) (rest : List (List ℕ)) (timed next : Bool) → ts ≡ token ∷ rest → timed ≡ false → next ≡ is_time token →
     ((timed && list_any is_year ts) || has_time_then_year ts) ≡ ((next && list_any is_year rest) || has_time_then_year rest)
 turn_untimed ts token rest timed next e t n = rw (e, t, n) refl

@@ -1,6 +1,6 @@
 //! The memory of a cutter.
 //!
-//! Decision 16 in docs/DECISIONS.md says why it is so.
+//! It is taken once, and a cutter over it takes none (decision 16 in docs/DECISIONS.md).
 ghost use Rattle.std.specs.Prelude.{◌≡◌, vec_len};
 ghost use Rattle.mbox_cutter.specs.declared.buffer.TheConstants.{ROOM};
 

@@ -34,17 +34,19 @@ impl<'a, S: Source> Model for Cutter<'a, S> {
 
 impl<'a, S: Source> Cutter<'a, S> {
     ghost use Rattle.mbox_cutter.specs.Events.{coming_of};
-    ghost use Rattle.mbox_cutter.specs.NextEvent.{TellsNext};
+    ghost use Rattle.mbox_cutter.specs.NextEvent.{OnceLetGo};
     ghost use Rattle.mbox_cutter.specs.Places.{is_failed, HasLine};
-    ghost use Rattle.mbox_cutter.specs.Progress.{Advances, LendsLine, shown};
+    ghost use Rattle.mbox_cutter.specs.Progress.{Advances, LendsLine, shown, shown_result};
     ghost use Rattle.mbox_cutter.specs.Inside.Scan.{told_at, told_result};
 
     /// A cutter of what the source still gives, of which at most `most` bytes are allowed. It takes all memory that it needs.
     pub fn new(alloc: Global, source: &'a mut S, most: u64) -> Result<Self, AllocError>
         ensures source { IfOk result (λ c. c.source.ghost_name ≡ source.entry.ghost_name) }
         ensures same { IfOk result (λ c. c.source.now ≡ source.old) }
-        ensures place { IfOk result (λ c. c.place ≡ record { phase = Phase.Between; offset = 0; most = most }) }
-        ensures coming { IfOk result (λ c. c.coming ≡ option_map (coming_of most) (S.rest source.old)) }
+        ensures place { IfOk result (λ c.
+            c.place ≡ record { phase = Phase.Between; offset = 0; most = most }) }
+        ensures coming { IfOk result (λ c.
+            c.coming ≡ option_map (coming_of most) (S.rest source.old)) }
     {
         let buffer = Buffer::new(alloc)?;
         Ok(Cutter::over(buffer, source, most))
@@ -101,14 +103,17 @@ impl<'a, S: Source> Cutter<'a, S> {
     /// Events come as Start, the lines of the text, End, for each message, and then Done, which every later call answers again.
     /// A fault ends them: Device, where the source failed in this call; NotAnMbox, where the first line that isn't empty starts no
     /// message and ends within `most` bytes; else ArchiveTooLong, where the archive has more. Every later call answers Failed.
-    /// What the cutter is once the event is let go says `after`, by `TellsNext`.
+    /// Once the event is let go, the cutter has told it and stands behind it, as `Advances` says.
     pub fn next_event(&mut self) -> Result<Event<'_>, CutFault>
-        requires count { is_failed self.old.place.phase ≡ false → S.failures self.old.source.now < 2 ^ 64 - 1 }
+        requires count { is_failed self.old.place.phase ≡ false →
+            S.failures self.old.source.now < 2 ^ 64 - 1 }
         ensures again { self.old.place.phase ≡ Phase.Failed → result ≡ Err CutFault.Failed }
         ensures once { result ≡ Err CutFault.Failed → self.old.place.phase ≡ Phase.Failed }
-        ensures done { self.old.place.phase ≡ Phase.Ended → result ≡ Ok (Event.Done self.old.place.offset) }
+        ensures done { self.old.place.phase ≡ Phase.Ended →
+            result ≡ Ok (Event.Done self.old.place.offset) }
         ensures line { IfOk result LendsLine }
-        ensures* after { sem 𝓛 (TellsNext S.row S.Source self.entry result) }
+        ensures* after { sem 𝓛 (OnceLetGo S.row S.Source self.entry (λ after.
+            Advances S.Source self.old (shown_result result) after)) }
     {
         let step = self.step()?;
         Ok(self.event(step))
@@ -116,10 +121,12 @@ impl<'a, S: Source> Cutter<'a, S> {
 
     /// The next step, or a fault, after which each call has failed.
     fn step(&mut self) -> Result<Step, CutFault>
-        requires count { is_failed self.old.place.phase ≡ false → S.failures self.old.source.now < 2 ^ 64 - 1 }
+        requires count { is_failed self.old.place.phase ≡ false →
+            S.failures self.old.source.now < 2 ^ 64 - 1 }
         ensures again { self.old.place.phase ≡ Phase.Failed → result ≡ Err CutFault.Failed }
         ensures once { result ≡ Err CutFault.Failed → self.old.place.phase ≡ Phase.Failed }
-        ensures done { self.old.place.phase ≡ Phase.Ended → result ≡ Ok (Step.Done self.old.place.offset) }
+        ensures done { self.old.place.phase ≡ Phase.Ended →
+            result ≡ Ok (Step.Done self.old.place.offset) }
         ensures line { IfOk result (λ step. HasLine (told_at step self.new.line)) }
         ensures advances { Advances S.Source self.old (told_result self.new.line result) self.new }
     {

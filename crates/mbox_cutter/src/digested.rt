@@ -1,6 +1,6 @@
 //! A source that takes the digest of what it gives.
 //!
-//! Decision 18 in docs/DECISIONS.md says why it is so.
+//! One read of an archive both cuts it and takes its digest (decision 18 in docs/DECISIONS.md).
 ghost use Rattle.std.specs.Prelude.{◌≡◌, ◌<◌, ◌≤◌, ◌-◌, ◌^◌, ℕ, List, [], length, IfOk, IfSome};
 ghost use Rattle.std.specs.Io.KnownBytes.{IsAtEnd, ReadConsumes};
 ghost use Rattle.sha2.specs.Sha256.{sha256};
@@ -39,7 +39,8 @@ impl<'a, S: Source> Digested<'a, S> {
     /// what was read.
     pub fn finish(self) -> [u8; 32]
         ensures given { (given : List ℕ) → HasGiven self.entry given → result ≡ sha256 given }
-        ensures whole { (bytes : List ℕ) → AreWhole S.rest self.entry bytes → IsAtEnd (S.rest (inner self.entry).now) → result ≡ sha256 bytes }
+        ensures whole { (bytes : List ℕ) → AreWhole S.rest self.entry bytes →
+            IsAtEnd (S.rest (inner self.entry).now) → result ≡ sha256 bytes }
         ensures same { self.exit.0.now ≡ (inner self.entry).now }
     {
         self.hasher.finalize()
@@ -61,9 +62,12 @@ impl<'a, S: Source> Source for Digested<'a, S> {
         requires room { 0 < length into.old }
         requires count { S.failures (inner self.old).now < 2 ^ 64 - 1 }
         ensures bound { IfOk result (λ n. n ≤ length into.new) }
-        ensures bytes { ReadConsumes (S.rest (inner self.old).now) (S.rest (inner self.new).now) result into.new }
-        ensures count { Counts result (S.failures (inner self.old).now) (S.failures (inner self.new).now) }
-        ensures whole { (bytes : List ℕ) → AreWhole S.rest self.old bytes → AreWhole S.rest self.new bytes }
+        ensures bytes { ReadConsumes (S.rest (inner self.old).now) (S.rest (inner self.new).now)
+            result into.new }
+        ensures count { Counts result
+            (S.failures (inner self.old).now) (S.failures (inner self.new).now) }
+        ensures whole { (bytes : List ℕ) →
+            AreWhole S.rest self.old bytes → AreWhole S.rest self.new bytes }
         ensures through { (inner self.new).ghost_name ≡ (inner self.old).ghost_name }
         ensures gives { Gives self.old result into.new self.new }
     {

@@ -39,7 +39,8 @@ impl MemorySource {
         fail_at: Option<u64>,
     ) -> Result<Self, AllocError>
         requires { 0 < piece }
-        ensures { IfOk result (λ s. s ≡ record { rest = bytes.now; piece = piece; fail_at = fail_at; failures = 0 }) }
+        ensures { IfOk result (λ s.
+            s ≡ record { rest = bytes.now; piece = piece; fail_at = fail_at; failures = 0 }) }
     {
         Ok(MemorySource {
             bytes: bytes.to_vec(alloc)?,
@@ -66,7 +67,8 @@ impl Source for MemorySource {
         ensures count { Counts result self.old.failures self.new.failures }
         ensures fails { IsErr result ↔ (self.old.fail_at ≡ Some 1) }
         ensures piece { IfOk result (λ n. n ≡ piece_length self.old (length into.old)) }
-        ensures next { (self.new.fail_at ≡ next_failure self.old.fail_at) × (self.new.piece ≡ self.old.piece) }
+        ensures next { (self.new.fail_at ≡ next_failure self.old.fail_at)
+            × (self.new.piece ≡ self.old.piece) }
     {
         let fails = self.fail_at == Some(1);
         self.fail_at = match self.fail_at {
@@ -136,7 +138,8 @@ impl Out for MemoryOut {
         ensures bound { IfOk result (λ n. (0 < n) × (n ≤ length bytes.now)) }
         ensures bytes { WriteAppends (Some self.old.taken) (Some self.new.taken) result bytes.now }
         ensures count { Counts result self.old.failures self.new.failures }
-        ensures takes { IfOk result (λ n. (n ≡ room_for self.old.room (length bytes.now)) × (self.new.room ≡ room_after self.old.room n)) }
+        ensures takes { IfOk result (λ n. (n ≡ room_for self.old.room (length bytes.now))
+            × (self.new.room ≡ room_after self.old.room n)) }
         ensures full { OnErr result (self.new.room ≡ self.old.room) }
     {
         let fitting = match self.room {

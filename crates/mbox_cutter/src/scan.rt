@@ -145,7 +145,8 @@ impl<'a, S: Source> Scan<'a, S> {
         requires count { S.failures self.old.window.source.now < 2 ^ 64 - 1 }
         ensures place { place_of self.new ≡ place_of self.old }
         ensures reads { ReadsOn S.Source (is_device_fault result) self.old.window self.new.window }
-        ensures closes { IfOk result (λ is. IfSome (known S.rest self.old.window) (λ bytes. is ≡ closes_at n bytes)) }
+        ensures closes { IfOk result (λ is.
+            IfSome (known S.rest self.old.window) (λ bytes. is ≡ closes_at n bytes)) }
         ensures err { IfErr result (λ fault. fault ≡ CutFault.Device) }
     {
         let m = self.window.line_length_after(n)?;

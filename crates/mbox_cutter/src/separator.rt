@@ -1,6 +1,6 @@
 //! The lines at which a message may start.
 //!
-//! Decision 23 in docs/DECISIONS.md says why it is so.
+//! `From ` alone isn't enough: a time and then a year must follow (decision 23 in docs/DECISIONS.md).
 ghost use Rattle.std.specs.Prelude.{◌≡◌};
 ghost use Rattle.mbox_cutter.specs.Separators.{has_form, has_time_then_year, is_separator, is_time, is_year, stands_for, tokens, without_break};
 

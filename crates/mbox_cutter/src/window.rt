@@ -95,7 +95,8 @@ impl<'a, S: Source> Window<'a, S> {
     pub(crate) fn part(&self, skip: usize, n: usize) -> &[u8]
         requires { skip + n ≤ length self.now.unread }
         ensures unread { result.now ≡ take n (drop skip self.now.unread) }
-        ensures known { IfSome (known S.rest self.now) (λ bytes. result.now ≡ take n (drop skip bytes)) }
+        ensures known { IfSome (known S.rest self.now)
+            (λ bytes. result.now ≡ take n (drop skip bytes)) }
         ensures length { length result.now ≡ n }
     {
         self.unread_after(skip).split_at(n).0
@@ -126,7 +127,8 @@ impl<'a, S: Source> Window<'a, S> {
         requires open { self.old.ended ≡ false }
         requires count { S.failures self.old.source.now < 2 ^ 64 - 1 }
         ensures reads { ReadsOn S.Source (is_err result) self.old self.new }
-        ensures grows { OnOk result ((self.new.ended ≡ true) ⊎ (length self.old.unread < length self.new.unread)) }
+        ensures grows { OnOk result
+            ((self.new.ended ≡ true) ⊎ (length self.old.unread < length self.new.unread)) }
         ensures bound { length self.new.unread ≤ ROOM }
     {
         let held = self.to - self.from;
@@ -160,7 +162,8 @@ fn read_behind<S: Source>(
     requires count { S.failures source.old < 2 ^ 64 - 1 }
     ensures count { Counts result (S.failures source.old) (S.failures source.new) }
     ensures stays { Stays S.Source source.old source.new }
-    ensures bytes { ReadsBehind held (S.rest source.old) (S.rest source.new) result buffer.old buffer.new }
+    ensures bytes { ReadsBehind held (S.rest source.old) (S.rest source.new)
+        result buffer.old buffer.new }
 {
     source.read_next(&mut buffer[held..])
 }

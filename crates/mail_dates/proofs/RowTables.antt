@@ -1,0 +1,24 @@
+-- Tables of worked rows, which compute by the formula of day numbers. The seconds were computed outside.
+use Rattle.std.proofs.Common.{◌≡◌, ℕ, List, map, Option, Some, Result, Ok, ℤ, pos, ap, ◌∙◌}
+use Rattle.mail_dates.specs.declared.fault.DateFault.{DateFault}
+use Rattle.mail_dates.specs.declared.range.Range.{Range}
+use Rattle.mail_dates.specs.Calendar.{day_number}
+use Rattle.mail_dates.proofs.Formula.{number_by_formula, day_number-formula}
+
+-- what is read, and what it says
+pub record Holds {A B : Type 0} (read : A → B) (rows : List (A × B)) : Type 0 where
+  pub each : map (λ row. read row.0) rows ≡ map (λ row. row.1) rows
+
+pub hold : {A B : Type 0} (by : (ℤ → ℕ → ℕ → Option ℤ) → A → B) {rows : List (A × B)} →
+    map (λ row. by number_by_formula row.0) rows ≡ map (λ row. row.1) rows → Holds (by day_number) rows
+hold by {rows} e = record { each = ap (λ number. map (λ row. by number row.0) rows) day_number-formula ∙ e }
+
+-- each of these says the same
+abbrev pub all_say : {A B : Type 0} → B → List A → List (A × B)
+all_say said texts = map (λ text. (text, said)) texts
+
+abbrev pub between : Option ℤ → Option ℤ → Result Range DateFault
+between from until = Ok (record { from = from; until = until })
+
+abbrev pub days : ℕ → ℕ → Result Range DateFault
+days from until = between (Some (pos from)) (Some (pos until))
