@@ -1,5 +1,5 @@
 -- Lines fed and pairs given.
-use Rattle.std.proofs.Common.{◌≡◌, ◌∙◌, ◌++◌, ℕ, List, [], ◌∷◌, sym, ap, append_assoc}
+use Rattle.std.proofs.Common.{◌≡◌, ◌∙◌, ◌++◌, ℕ, List, [], ◌∷◌, sym, ap, append_assoc, arith}
 use Rattle.std.specs.Prelude.{Result, Ok, Err, OnOk, IfErr}
 use Rattle.std.proofs.lemmas.List.{append-nil}
 use Rattle.mail_words.specs.declared.kind.TextKind.{TextKind}
@@ -18,19 +18,7 @@ Line = List ℕ
 module _ {S : Type 0} (takes : S → TextKind → List ℕ → S → Type 0) (refuses : S → TextKind → List ℕ → SinkFault → S → Type 0) where
   pub feeds : (m n : MessageText) (l : Line) (s t : S) → n.failed ≡ m.failed → Passed takes refuses (Comes m.reader) (Comes n.reader) (λ c ms. c (l ∷ ms)) s t
       → ((ls : List Line) → KnowsFacts m.reader ls → KnowsFacts n.reader (ls ++ l ∷ [])) → Feeds takes refuses m n l s t
-  feeds m n l s t q h k =
-      record {
-        pairs = h.pairs;
-        taken = h.taken;
-        fed = λ ls ps f. record {
-          live = q ∙ f.live;
-          coming = (h.rest f.coming f.comes).0;
-          comes = (h.rest f.coming f.comes).1;
-          texts = λ ms. ap texts_of_message (append_assoc ls (l ∷ []) ms) ∙ f.texts (l ∷ ms) ∙ ap (λ (x : List Pair). ps ++ x) ((h.rest f.coming f.comes).2 ms)
-              ∙ sym (append_assoc ps h.pairs ((h.rest f.coming f.comes).0 ms));
-          facts = k ls f.facts;
-        };
-      }
+  feeds m n l s t q h k = grind (arith, append_assoc)
 
   pub feeds-part : (m : MessageText) (l : Line) (fault : TextFault) (s t : S) → Stopped takes refuses (Comes m.reader) (λ c ms. c (l ∷ ms)) fault s t → FeedsPart takes refuses m l fault s t
   feeds-part m l fault s t h =

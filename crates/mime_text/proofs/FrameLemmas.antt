@@ -1,5 +1,5 @@
 -- Delimiter lines, and the multiparts that are open.
-use Rattle.std.proofs.Common.{◌≡◌, ◌∙◌, ◌≤◌, ◌<◌, ◌+◌, ◌-◌, ◌++◌, ◌==◌, ℕ, zero, suc, Bool, true, false, cond, List, [], ◌∷◌, Option, Some, None, length, take, drop, refl, sym, ap, arith, add-one, get_or, Bor}
+use Rattle.std.proofs.Common.{◌≡◌, ◌∙◌, ◌≤◌, ◌<◌, ◌+◌, ◌-◌, ◌++◌, ℕ, zero, suc, Bool, true, false, cond, List, [], ◌∷◌, Option, Some, None, length, take, drop, refl, sym, ap, arith, add-one, get_or, Bor}
 use Rattle.std.specs.Prelude.{slice_get, option_map, MatchOption}
 use Rattle.std.specs.Str.{bytes_eq}
 use Rattle.std.proofs.lemmas.Option.{slice_get-get_or}
@@ -23,21 +23,12 @@ then_after (Some rest) b = after b rest
 after-append : (a b bytes : List ℕ) → after (a ++ b) bytes ≡ then_after (after a bytes) b
 after-append [] b bytes = refl
 after-append (c ∷ a) b [] = refl
-after-append (c ∷ a) b (x ∷ bytes) = go (x == c) refl (after-append a b bytes)
-  where
-    go : (t : Bool) → (x == c) ≡ t → after (a ++ b) bytes ≡ then_after (after a bytes) b → after ((c ∷ a) ++ b) (x ∷ bytes) ≡ then_after (after (c ∷ a) (x ∷ bytes)) b
-    go true e later = rw (e, after) later
-    go false e later = rw (e, after) refl
+after-append (c ∷ a) b (x ∷ bytes) = grind (arith, after-append a b bytes)
 
 after-tested : (front bytes : List ℕ) → after front bytes ≡ cond (bytes_eq (take (length front) bytes) front) (Some (drop (length front) bytes)) None
 after-tested [] bytes = refl
 after-tested (c ∷ front) [] = refl
-after-tested (c ∷ front) (x ∷ bytes) = go (x == c) refl (after-tested front bytes)
-  where
-    go : (t : Bool) → (x == c) ≡ t → after front bytes ≡ cond (bytes_eq (take (length front) bytes) front) (Some (drop (length front) bytes)) None
-        → after (c ∷ front) (x ∷ bytes) ≡ cond (bytes_eq (take (length (c ∷ front)) (x ∷ bytes)) (c ∷ front)) (Some (drop (length (c ∷ front)) (x ∷ bytes))) None
-    go true e later = rw (e, after) later
-    go false e later = rw (e, after) refl
+after-tested (c ∷ front) (x ∷ bytes) = grind (arith, after-tested front bytes)
 
 -- what `strip_prefix` answers
 pub after-stripped : (front bytes : List ℕ) (r : Option (Bor (List ℕ)))
@@ -80,16 +71,8 @@ or_else-assoc : {A : Type 0} (a b c : Option A) → or_else (or_else a b) c ≡ 
 or_else-assoc None b c = refl
 or_else-assoc (Some x) b c = refl
 
-or_else-none : {A : Type 0} (a : Option A) → or_else a None ≡ a
-or_else-none None = refl
-or_else-none (Some x) = refl
-
 hit_inside : {A : Type 0} (l : List ℕ) (fs outer : List Frame) → hit {A = A} (inside_out fs outer) l ≡ or_else (hit outer l) (scan_by (dashes l) outer fs)
-hit_inside {A} l [] outer = go (dashes l)
-  where
-    go : (o : Option (List ℕ)) → hit {A = A} outer l ≡ or_else (hit outer l) (scan_by o outer [])
-    go None = sym (or_else-none (hit outer l))
-    go (Some text) = sym (or_else-none (hit outer l))
+hit_inside {A} l [] outer = grind arith
 hit_inside {A} l (f ∷ fs) outer =
     hit_inside l fs (f ∷ outer)
     ∙ ap (λ (o : Option (List Frame × StreamPlace A)). or_else (or_else (hit outer l) o) (scan_by (dashes l) (f ∷ outer) fs)) (own_hit-is l f outer)
@@ -108,16 +91,12 @@ pub scan-at : {A : Type 0} (text : List ℕ) (fs : List Frame) (n : ℕ) (outer 
     → scan {A = A} (inside_out (take n fs) outer) (drop n fs) text
     ≡ or_else (led (delimiter_of f.boundary text) f (inside_out (take n fs) outer)) (scan (inside_out (take (suc n) fs) outer) (drop (suc n) fs) text)
 scan-at text [] n outer f e = absurd (cc)
-scan-at {A} text (g ∷ gs) zero outer f e =
-    let same : g ≡ f = cc in
-    ap (λ (x : Frame). or_else (led {A = A} (delimiter_of x.boundary text) x outer) (scan (g ∷ outer) gs text)) same
+scan-at {A} text (g ∷ gs) zero outer f e = grind (arith)
 scan-at text (g ∷ gs) (suc n) outer f e = scan-at text gs n (g ∷ outer) f e
 
 pub inside_out-at : (fs : List Frame) (n : ℕ) (outer : List Frame) (f : Frame) → slice_get fs n ≡ Some f → inside_out (take (suc n) fs) outer ≡ f ∷ inside_out (take n fs) outer
 inside_out-at [] n outer f e = absurd (cc)
-inside_out-at (g ∷ gs) zero outer f e =
-    let same : g ≡ f = cc in
-    ap (λ (x : Frame). x ∷ outer) same
+inside_out-at (g ∷ gs) zero outer f e = grind (arith)
 inside_out-at (g ∷ gs) (suc n) outer f e = inside_out-at gs n (g ∷ outer) f e
 
 pub inside_out-push : (fs outer : List Frame) (f : Frame) → inside_out (fs ++ f ∷ []) outer ≡ f ∷ inside_out fs outer
@@ -137,18 +116,14 @@ AreNested-take above (g ∷ gs) (suc n) h = (h.0, AreNested-take (above + 1) gs 
 
 pub AreNested-at : (above : ℕ) (fs : List Frame) (n : ℕ) (f : Frame) → AreNested above fs → slice_get fs n ≡ Some f → above + n + 1 + f.left ≤ 16
 AreNested-at above [] n f h e = absurd (cc)
-AreNested-at above (g ∷ gs) zero f h e =
-    let same : g.left ≡ f.left = cc in
-    omega (arith, h.0, same)
+AreNested-at above (g ∷ gs) zero f h e = grind (arith)
 AreNested-at above (g ∷ gs) (suc n) f h e = omega (arith, AreNested-at (above + 1) gs n f h.1 e)
 
 -- a multipart more
 pub open-frames : (fs : List Frame) (left : ℕ) (boundary : List ℕ) (d : DefaultType) → 0 < left
     → inside_out (fs ++ record { boundary = boundary; default = d; left = left - 1 } ∷ []) [] ≡ opened left boundary d (inside_out fs [])
 open-frames fs zero boundary d h = absurd (omega arith)
-open-frames fs (suc left) boundary d h =
-    inside_out-push fs [] (record { boundary = boundary; default = d; left = suc left - 1 })
-    ∙ (let e : suc left - 1 ≡ left = omega arith in ap (λ (n : ℕ). record { boundary = boundary; default = d; left = n } ∷ inside_out fs []) e)
+open-frames fs (suc left) boundary d h = grind (arith, inside_out-push)
 
 -- ---- where a delimiter leads
 
@@ -168,9 +143,7 @@ no_dashes {A} l (f ∷ outer) e =
 
 pub scanned : {A : Type 0} (l text : List ℕ) (frames fs seen : List Frame) (o : Option (List Frame × StreamPlace A))
     → frames ≡ inside_out fs [] → seen ≡ fs → dashes l ≡ Some text → scan [] seen text ≡ o → hit frames l ≡ o
-scanned {A} l text frames fs seen o v q e s =
-    ap (λ (x : List Frame). hit {A = A} x l) v ∙ hit-is l fs ∙ ap (λ (t : Option (List ℕ)). scan_by {A = A} t [] fs) e
-    ∙ ap (λ (x : List Frame). scan {A = A} [] x text) (sym q) ∙ s
+scanned {A} l text frames fs seen o v q e s = grind (arith, hit-is)
 
 -- what is found of the multipart that a line delimits
 abbrev pub Found : (A : Type 0) → List Frame → List ℕ → ℕ → Delimiter → Type 0
@@ -179,19 +152,9 @@ Found A seen text n k = (f : Frame) × (slice_get seen n ≡ Some f) × (scan {A
 pub closing-leads : {A : Type 0} (l text : List ℕ) (frames fs seen kept : List Frame) (n : ℕ) (k : Delimiter)
     → frames ≡ inside_out fs [] → seen ≡ fs → dashes l ≡ Some text → k ≡ Closing → Found A seen text n k → kept ≡ take n fs
     → Some (inside_out kept [], Skip) ≡ hit {A = A} frames l
-closing-leads {A} l text frames fs seen kept n k v q e is found t =
-    let here : kept ≡ take n seen = t ∙ ap (take n) (sym q) in
-    sym (scanned l text frames fs seen (Some (inside_out kept [], Skip)) v q e
-    (found.2 ∙ ap (λ (x : Delimiter). led {A = A} (Some x) found.0 (inside_out (take n seen) [])) is ∙ ap (λ (x : List Frame). Some (inside_out x [], Skip)) (sym here)))
+closing-leads {A} l text frames fs seen kept n k v q e is found t = grind (arith, scanned)
 
 pub next-leads : {A : Type 0} (l text : List ℕ) (frames fs seen kept : List Frame) (n : ℕ) (k : Delimiter) (g : Frame)
     → frames ≡ inside_out fs [] → seen ≡ fs → dashes l ≡ Some text → k ≡ Next → Found A seen text n k → slice_get fs n ≡ Some g → kept ≡ take (n + 1) fs
     → Some (inside_out kept [], InHeader false g.left g.default []) ≡ hit {A = A} frames l
-next-leads {A} l text frames fs seen kept n k g v q e is found got t =
-    let here : kept ≡ take (suc n) seen = t ∙ rw add-one (ap (take (suc n)) (sym q)) in
-    let same : found.0 ≡ g = let a : slice_get fs n ≡ Some found.0 = ap (λ (x : List Frame). slice_get x n) (sym q) ∙ found.1 in cc in
-    let inner : List Frame = inside_out (take n seen) [] in
-    sym (scanned l text frames fs seen (Some (inside_out kept [], InHeader false g.left g.default [])) v q e
-    (found.2 ∙ ap (λ (x : Delimiter). led {A = A} (Some x) found.0 inner) is
-    ∙ ap (λ (x : List Frame). Some (x, InHeader false found.0.left found.0.default [])) (sym (inside_out-at seen n [] found.0 found.1) ∙ ap (λ (x : List Frame). inside_out x []) (sym here))
-    ∙ ap (λ (f : Frame). Some (inside_out kept [], InHeader false f.left f.default [])) same))
+next-leads {A} l text frames fs seen kept n k g v q e is found got t = grind (arith, add-one, scanned, inside_out-at)

@@ -1,5 +1,5 @@
 -- Texts of fields that a sink is given.
-use Rattle.std.proofs.Common.{◌≡◌, ◌∙◌, ◌++◌, ℕ, List, [], ◌∷◌, Option, Some, None, refl, ap, append_assoc}
+use Rattle.std.proofs.Common.{◌≡◌, ◌∙◌, ◌++◌, ℕ, List, [], ◌∷◌, Option, Some, refl, ap, append_assoc, arith}
 use Rattle.std.proofs.lemmas.List.{append-nil}
 use Rattle.std.specs.Prelude.{option_map}
 use Rattle.std.specs.List.{cons_option}
@@ -18,16 +18,9 @@ pub texts-some : (f : HeaderField) (k : TextKind) → kind_of_field f.name ≡ S
 texts-some f k e = ap (λ (o : Option TextKind). cons_option (option_map (with_text f) o) []) e
 
 pub texts-cons : (f : HeaderField) (fs : List HeaderField) → texts_of_fields (f ∷ fs) ≡ texts_of_fields (f ∷ []) ++ texts_of_fields fs
-texts-cons f fs = go (option_map (with_text f) (kind_of_field f.name))
-  where
-    go : (o : Option Pair) → cons_option o (texts_of_fields fs) ≡ cons_option o [] ++ texts_of_fields fs
-    go None = refl
-    go (Some p) = refl
+texts-cons f fs = grind arith
 
 module _ {S : Type 0} (takes : S → TextKind → List ℕ → S → Type 0) (refuses : S → TextKind → List ℕ → SinkFault → S → Type 0) where
-  pub gave-none : (A : Coming) (s t : S) → ((ms : List (List ℕ)) → A ms ≡ []) → t ≡ s → Gave takes refuses A (λ _. []) s t
-  gave-none A s t e q = record { pairs = []; taken = q; rest = e }
-
   pub gave-one : (A : Coming) (p : Pair) (s t : S) → ((ms : List (List ℕ)) → A ms ≡ p ∷ []) → takes s p.0 p.1 t → Gave takes refuses A (λ _. []) s t
   gave-one A p s t e h = record { pairs = p ∷ []; taken = (t, h, refl); rest = e }
 
@@ -36,8 +29,7 @@ module _ {S : Type 0} (takes : S → TextKind → List ℕ → S → Type 0) (re
 
   -- in front of more
   pub gave-front : (A B R : Coming) (s t : S) → ((ms : List (List ℕ)) → B ms ≡ A ms ++ R ms) → Gave takes refuses A (λ _. []) s t → Gave takes refuses B R s t
-  gave-front A B R s t e h =
-      record { pairs = h.pairs; taken = h.taken; rest = λ ms. e ms ∙ ap (λ (ps : List Pair). ps ++ R ms) (h.rest ms ∙ append-nil h.pairs) }
+  gave-front A B R s t e h = grind (arith, append-nil)
 
   pub broke-front : (A B R : Coming) (fault : TextFault) (s t : S) → ((ms : List (List ℕ)) → B ms ≡ A ms ++ R ms) → Broke takes refuses A fault s t → Broke takes refuses B fault s t
   broke-front A B R fault s t e h =

@@ -1,5 +1,5 @@
 -- What a sink was given, call by call.
-use Rattle.std.proofs.Common.{◌≡◌, ◌∙◌, ◌++◌, ℕ, List, [], ◌∷◌, refl, sym, ap, subst, append_assoc}
+use Rattle.std.proofs.Common.{◌≡◌, ◌∙◌, ◌++◌, ℕ, List, [], ◌∷◌, refl, sym, ap, subst, append_assoc, arith}
 use Rattle.std.specs.Prelude.{Result, Ok, Err}
 use Rattle.mail_words.specs.declared.kind.TextKind.{TextKind}
 use Rattle.mime_text.specs.declared.fault.SinkFault.{SinkFault}
@@ -22,18 +22,9 @@ module _ {S : Type 0} (takes : S → TextKind → List ℕ → S → Type 0) (re
   pub gave-nothing : (A : Coming) (s : S) → Gave takes refuses A A s s
   gave-nothing A s = record { pairs = []; taken = refl; rest = λ ms. refl }
 
-  -- memory is wanting before anything is given
-  pub broke-memory : (A : Coming) (s : S) → Broke takes refuses A OutOfMemory s s
-  broke-memory A s = record { pairs = []; broken = refl; front = λ ms. (A ms, refl) }
-
   -- one call behind another
   pub gave-more : (A B C : Coming) (s t u : S) → Gave takes refuses A B s t → Gave takes refuses B C t u → Gave takes refuses A C s u
-  gave-more A B C s t u h k =
-      record {
-        pairs = h.pairs ++ k.pairs;
-        taken = taken-append h.pairs k.pairs s t u h.taken k.taken;
-        rest = λ ms. h.rest ms ∙ ap (λ (l : List Pair). h.pairs ++ l) (k.rest ms) ∙ sym (append_assoc h.pairs k.pairs (C ms));
-      }
+  gave-more A B C s t u h k = grind (arith, taken-append, append_assoc)
 
   pub broke-later : (A B : Coming) (fault : TextFault) (s t u : S) → Gave takes refuses A B s t → Broke takes refuses B fault t u → Broke takes refuses A fault s u
   broke-later A B fault s t u h k =
@@ -50,8 +41,7 @@ module _ {S : Type 0} (takes : S → TextKind → List ℕ → S → Type 0) (re
   -- the same, said of other lines to come
   pub gave-along : (A B A' B' : Coming) (to : List (List ℕ) → List (List ℕ)) (s t : S) → ((ms : List (List ℕ)) → A' ms ≡ A (to ms)) → ((ms : List (List ℕ)) → B' ms ≡ B (to ms))
       → Gave takes refuses A B s t → Gave takes refuses A' B' s t
-  gave-along A B A' B' to s t p q h =
-      record { pairs = h.pairs; taken = h.taken; rest = λ ms. p ms ∙ h.rest (to ms) ∙ ap (λ (l : List Pair). h.pairs ++ l) (sym (q ms)) }
+  gave-along A B A' B' to s t p q h = grind arith
 
   pub broke-along : (A A' : Coming) (to : List (List ℕ) → List (List ℕ)) (fault : TextFault) (s t : S) → ((ms : List (List ℕ)) → A' ms ≡ A (to ms))
       → Broke takes refuses A fault s t → Broke takes refuses A' fault s t

@@ -1,5 +1,5 @@
 -- How many bytes ids have together.
-use Rattle.std.proofs.Common.{◌≡◌, ◌∙◌, ◌+◌, ◌≤◌, ◌++◌, ℕ, true, All, List, [], ◌∷◌, length, map, refl, sym, ap, arith, append_assoc}
+use Rattle.std.proofs.Common.{◌≡◌, ◌∙◌, ◌+◌, ◌≤◌, ◌++◌, ℕ, true, All, List, [], ◌∷◌, length, map, ap, arith, append_assoc}
 use Rattle.std.specs.Prelude.{Vec}
 use Rattle.std.specs.Global.{Global}
 use Rattle.std.proofs.lemmas.List.{map-append}
@@ -30,14 +30,7 @@ sized_append ids more new old each room e =
 -- the ids of a linking field behind others: they are those of the fields so far, and there is still room for the fields that are left
 module _ (f : HeaderField) (rest fields : List HeaderField) (ids more new : List (List ℕ)) (split : fields ≡ f ∷ rest) (behind : new ≡ ids ++ more) where
   pub ids_step : (all : List (List ℕ)) → is_linking f.name ≡ true → more ≡ ids_of f.body → all ≡ ids ++ ids_of_fields fields → all ≡ new ++ ids_of_fields rest
-  ids_step all links here sofar =
-      let first : ids_of_fields (f ∷ rest) ≡ ids_of f.body ++ ids_of_fields rest = rw links refl in
-      let now : new ≡ ids ++ ids_of f.body = behind ∙ ap (λ (l : List (List ℕ)). ids ++ l) here in
-      sofar ∙ ap (λ (fs : List HeaderField). ids ++ ids_of_fields fs) split ∙ ap (λ (l : List (List ℕ)). ids ++ l) first
-      ∙ sym (append_assoc ids (ids_of f.body) (ids_of_fields rest)) ∙ ap (λ (l : List (List ℕ)). l ++ ids_of_fields rest) (sym now)
+  ids_step all links here sofar = grind (arith, append_assoc)
 
   pub room_step : ids_size more ≤ length f.body → ids_size ids + fields_size fields ≤ most_in_header → ids_size new + fields_size rest ≤ most_in_header
-  room_step small room =
-      let all : ids_size new ≡ ids_size ids + ids_size more = ap ids_size behind ∙ ids_size_append ids more in
-      let left : fields_size fields ≡ length f.name + length f.body + fields_size rest = ap fields_size split in
-      omega arith
+  room_step small room = grind (arith, ids_size_append)

@@ -22,16 +22,7 @@ searched-fits b n s e free few = omega (arith, front-free b n s e free few, leng
 pub behind-found : (b rest : List ℕ) (n s at : ℕ) → n ≡ min (length b) 65537 → s ≤ length_before_feed b → s ≤ 65536 → rest ≡ drop s (take n b)
     → IsFirstByte (is_byte 10) rest (Some at) → Some (s + at + 1) ≡ line_end_of b
 unfolding line_end_of
-behind-found b rest n s at e free few is h =
-    let front : length_before_feed (take n b) ≡ s + length_before_feed (drop s (take n b)) = before_feed-drop s (take n b) (front-free b n s e free few) in
-    let found : length_before_feed rest ≡ at = length_before_feed-found rest at h in
-    let same : length_before_feed rest ≡ length_before_feed (drop s (take n b)) = ap length_before_feed is in
-    let below : at < length rest = h.0.high in
-    let sizes : length rest ≡ length (drop s (take n b)) = ap length is in
-    let place : length_before_feed b ≡ s + at = omega (arith, length_before_feed-take n b, length-drop s (take n b), length-take n b) in
-    let short : s + at < 65537 = omega (arith, length-drop s (take n b), length-take n b) in
-    let within : s + at < length b = omega (arith, length-drop s (take n b), length-take n b) in
-    rw place (let small : nat_lt 65536 (s + at) ≡ false = grind (arith, nat_tests) in let inside : nat_lt (s + at) (length b) ≡ true = grind (arith, nat_tests) in rw (small, inside))
+behind-found b rest n s at e free few is h = grind (arith, before_feed-drop, front-free, length_before_feed-found, length_before_feed-take, length-drop, length-take, nat_lt)
 
 none-before : (b rest : List ℕ) (n s : ℕ) → n ≡ min (length b) 65537 → s ≤ length_before_feed b → s ≤ 65536 → rest ≡ drop s (take n b)
     → IsFirstByte (is_byte 10) rest None → min n (length_before_feed b) ≡ length (take n b)
@@ -60,7 +51,7 @@ behind-open b rest n s e free few is h short =
     let le = length_before_feed-le b in
     let place : length_before_feed b ≡ length b = omega (arith, r, size, le) in
     let below : length b ≤ 65536 = omega (arith, size) in
-    rw place (let a : nat_lt 65536 (length b) ≡ false = grind (arith, nat_tests) in let c : nat_lt (length b) (length b) ≡ false = grind (arith, nat_tests) in rw (a, c))
+    rw place (let a : nat_lt 65536 (length b) ≡ false = grind arith in let c : nat_lt (length b) (length b) ≡ false = grind arith in rw (a, c))
 
 -- ---- bytes that are held
 

@@ -6,7 +6,7 @@ use Rattle.std.proofs.lemmas.Bool.{eqb-true}
 use Rattle.std.proofs.lemmas.Bool.Decides.{nat_tests}
 use Rattle.std.proofs.lemmas.List.{length-drop, drop-drop, take-append-le, drop-append-le, take_all, drop_all, take-append-drop}
 use Rattle.std.proofs.lemmas.Slice.Eq.{bytes_eq-Decides}
-use Rattle.mbox_cutter.specs.Lines.{length_before_feed, line_end_of, first_length, lines}
+use Rattle.mbox_cutter.specs.Lines.{length_before_feed, line_end_of, lines}
 use Rattle.mbox_cutter.proofs.FirstLines.{line_end-more, line_end-positive, line_end-within, line_end-whole}
 use Rattle.mbox_cutter.proofs.LineLists.{lines-cons, lines-nil}
 use Rattle.mail_words.specs.declared.kind.TextKind.{TextKind}
@@ -29,20 +29,14 @@ concat-one bytes = append-nil bytes
 
 -- the first line of some bytes, where none to come can change it
 pub lines-first : (b more : List ℕ) (n : ℕ) → Some n ≡ line_end_of b → lines (b ++ more) ≡ take n b ∷ lines (drop n b ++ more)
-lines-first b more n e =
-    let is : n ≡ first_length (b ++ more) = line_end-more b more n e in
-    let fits : n ≤ length b = line_end-within b n e in
-    let some : 0 < length (b ++ more) = omega (arith, line_end-positive b n e, fits, length-append b more) in
-    lines-cons (b ++ more) some ∙ rw (← is) (ap₂ (λ (x y : List ℕ). x ∷ lines y) (take-append-le n b more fits) (drop-append-le n b more fits))
+lines-first b more n e = grind (arith, line_end-more, line_end-within, line_end-positive, length-append, lines-cons, take-append-le, drop-append-le)
 
 pub lines-parts : (b line later more : List ℕ) (n : ℕ) → Some n ≡ line_end_of b → line ≡ take n b → later ≡ drop n b → lines (b ++ more) ≡ line ∷ lines (later ++ more)
 lines-parts b line later more n e f g = lines-first b more n e ∙ ap₂ (λ (x y : List ℕ). x ∷ lines (y ++ more)) (sym f) (sym g)
 
 -- the last one
 pub lines-last : (b : List ℕ) → None ≡ line_end_of b → 0 < length b → lines b ≡ b ∷ []
-lines-last b e some =
-    let is : first_length b ≡ length b = line_end-whole b e in
-    lines-cons b some ∙ rw is (ap₂ (λ (x y : List ℕ). x ∷ lines y) (take_all (length b) b (omega arith)) (drop_all (length b) b (omega arith)) ∙ ap (λ (ls : List (List ℕ)). b ∷ ls) lines-nil)
+lines-last b e some = grind (arith, line_end-whole, lines-cons, take_all, drop_all, lines-nil)
 
 before_feed-last : (front : List ℕ) → length_before_feed (front ++ 10 ∷ []) ≤ length front
 before_feed-last [] = omega arith
@@ -81,10 +75,7 @@ rest-start b = let none : length b - length b ≡ 0 = omega arith in rw none ref
 
 pub rest-step : (b rest later : List ℕ) (n : ℕ) → length rest ≤ length b → rest ≡ drop (length b - length rest) b → later ≡ drop n rest → n ≤ length rest
     → later ≡ drop (length b - length later) b
-rest-step b rest later n fits is next within =
-    let size : length later ≡ length rest - n = ap length next ∙ length-drop n rest in
-    let places : length b - length rest + n ≡ length b - length later = omega arith in
-    next ∙ ap (drop n) is ∙ drop-drop n (length b - length rest) b ∙ ap (λ (k : ℕ). drop k b) places
+rest-step b rest later n fits is next within = grind (arith, length-drop, drop-drop)
 
 module _ {S : Type 0} (takes : S → TextKind → List ℕ → S → Type 0) (refuses : S → TextKind → List ℕ → SinkFault → S → Type 0) where
   -- a line that is given
@@ -94,8 +85,7 @@ module _ {S : Type 0} (takes : S → TextKind → List ℕ → S → Type 0) (re
   hands-line old new line (Ok x) s t h e f g =
       let p : Pair = (kind.Body, line_text old.charset old.is_html old.is_open line) in
       record { pairs = p ∷ []; taken = (t, h, refl); rest = λ ls. ap (λ (l : List Pair). p ∷ l) (rw (e, f, g) refl) }
-  hands-line old new line (Err OutOfMemory) s t h e f g =
-      record { pairs = []; broken = h; front = λ ls. (pairs_of_lines old (line ∷ ls), refl) }
+  hands-line old new line (Err OutOfMemory) s t h e f g = grind arith
   hands-line old new line (Err (Sink fault)) s t h e f g =
       let p : Pair = (kind.Body, line_text old.charset old.is_html old.is_open line) in
       record {

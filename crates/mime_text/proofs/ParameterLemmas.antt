@@ -3,62 +3,38 @@ use Rattle.std.proofs.Common.{◌≡◌, ◌∙◌, ◌<◌, ◌≤◌, ◌+◌,
 use Rattle.std.specs.Prelude.{option_map, unwrap_or}
 use Rattle.std.specs.List.{find}
 use Rattle.std.specs.Option.{option_map_or, option_to_list}
-use Rattle.header_text.specs.Blanks.{is_blank, split_while, after_blanks, trimmed}
+use Rattle.header_text.specs.Blanks.{split_while, after_blanks, trimmed}
 use Rattle.header_text.specs.Cuts.{cut_at}
 use Rattle.header_text.specs.Names.{is_named}
 use Rattle.header_text.proofs.Fronts.{length-split_while, split_while-joined}
-use Rattle.header_text.proofs.CutLemmas.{IsCut, IsCut-from}
+use Rattle.header_text.proofs.CutLemmas.{IsCut-from}
 use Rattle.mime_text.specs.Parameters.{Parameter, Piece, quoted, is_token_byte, value_and_rest, is_parameter_name_byte, behind_semicolon, piece_of, parameters_within, parameters_behind, first_named, parameter}
 
 -- ---- what follows is shorter
 
 length-after_blanks : (bs : List ℕ) → length (after_blanks bs) ≤ length bs
 length-after_blanks [] = omega arith
-length-after_blanks (b ∷ bs) = go (is_blank b) refl (length-after_blanks bs)
-  where
-    go : (t : Bool) → is_blank b ≡ t → length (after_blanks bs) ≤ length bs → length (after_blanks (b ∷ bs)) ≤ length (b ∷ bs)
-    go true e h = rw (e, after_blanks) (omega arith)
-    go false e h = rw (e, after_blanks) (omega arith)
+length-after_blanks (b ∷ bs) = grind (arith, length-after_blanks bs)
 
 -- what stands between quotes, and what follows them
 length-quoted : (bs : List ℕ) → length (quoted bs).0 + length (quoted bs).1 ≤ length bs
 length-quoted [] = omega arith
-length-quoted (b ∷ []) = go (b == 0x22) refl (b == 0x5C) refl
-  where
-    go : (s : Bool) → (b == 0x22) ≡ s → (t : Bool) → (b == 0x5C) ≡ t → length (quoted (b ∷ [])).0 + length (quoted (b ∷ [])).1 ≤ length (b ∷ [])
-    go true e t f = rw (e, quoted) (omega arith)
-    go false e true f = rw (e, f, quoted) (omega arith)
-    go false e false f = rw (e, f, quoted) (omega arith)
-length-quoted (b ∷ c ∷ bs) = go (b == 0x22) refl (b == 0x5C) refl (length-quoted bs) (length-quoted (c ∷ bs))
-  where
-    go : (s : Bool) → (b == 0x22) ≡ s → (t : Bool) → (b == 0x5C) ≡ t → length (quoted bs).0 + length (quoted bs).1 ≤ length bs
-        → length (quoted (c ∷ bs)).0 + length (quoted (c ∷ bs)).1 ≤ length (c ∷ bs) → length (quoted (b ∷ c ∷ bs)).0 + length (quoted (b ∷ c ∷ bs)).1 ≤ length (b ∷ c ∷ bs)
-    go true e t f far near = rw (e, quoted) (omega arith)
-    go false e true f far near = rw (e, f, quoted) (omega arith)
-    go false e false f far near = rw (e, f, quoted) (omega arith)
+length-quoted (b ∷ []) = grind arith
+length-quoted (b ∷ c ∷ bs) = grind (arith, length-quoted bs, length-quoted (c ∷ bs))
 
 length-value_and_rest : (bs : List ℕ) → length (value_and_rest bs).1 ≤ length bs
 length-value_and_rest [] = omega arith
-length-value_and_rest (b ∷ bs) = go (b == 0x22) refl
-  where
-    go : (t : Bool) → (b == 0x22) ≡ t → length (value_and_rest (b ∷ bs)).1 ≤ length (b ∷ bs)
-    go true e = rw (e, value_and_rest) (omega (arith, length-quoted bs))
-    go false e = rw (e, value_and_rest) (length-split_while is_token_byte (b ∷ bs))
+length-value_and_rest (b ∷ bs) = grind (arith, length-quoted bs, length-split_while is_token_byte (b ∷ bs))
 
 same_some : (x y : List ℕ) → Some x ≡ Some y → x ≡ y
 same_some x y h = ap (λ (o : Option (List ℕ)). unwrap_or o x) h
 
+length-behind : (bs rest : List ℕ) (o : Option (List ℕ × List ℕ)) → cut_at 0x3B bs ≡ o → option_map (λ parts. parts.1) o ≡ Some rest → length rest < length bs
+length-behind bs rest None e h = absurd (cc h)
+length-behind bs rest (Some (x, y)) e h = grind (arith, (IsCut-from 0x3B bs x y e).joined, length-append x (0x3B ∷ y))
+
 length-behind_semicolon : (bs rest : List ℕ) → behind_semicolon bs ≡ Some rest → length rest < length bs
-length-behind_semicolon bs rest h = go (cut_at 0x3B bs) refl
-  where
-    go : (o : Option (List ℕ × List ℕ)) → cut_at 0x3B bs ≡ o → length rest < length bs
-    go None e = absurd (cc (sym (ap (λ (p : Option (List ℕ × List ℕ)). option_map (λ parts. parts.1) p) e) ∙ h))
-    go (Some (x, y)) e =
-        let cut : IsCut 0x3B bs x y = IsCut-from 0x3B bs x y e in
-        let joined = ap length cut.joined in
-        let same : y ≡ rest = same_some y rest (sym (ap (λ (p : Option (List ℕ × List ℕ)). option_map (λ parts. parts.1) p) e) ∙ h) in
-        let size = ap length same in
-        omega (arith, joined, size, length-append x (0x3B ∷ y))
+length-behind_semicolon bs rest h = length-behind bs rest (cut_at 0x3B bs) refl h
 
 piece_behind : List ℕ → List ℕ → Piece
 piece_behind name behind = elim behind [
@@ -72,25 +48,11 @@ piece_behind name behind = elim behind [
 later-shorter_behind : (name behind rest : List ℕ) → (piece_behind name behind).later ≡ Some rest → length rest < length behind
 unfolding piece_behind
 later-shorter_behind name [] rest h = absurd (cc h)
-later-shorter_behind name (c ∷ bs) rest h = go (c == 0x3D) refl
-  where
-    go : (t : Bool) → (c == 0x3D) ≡ t → length rest < length (c ∷ bs)
-    go false e =
-        let here : Some bs ≡ Some rest = rw (e, piece_behind) at h in
-        let size = ap length (same_some bs rest here) in omega (arith, size)
-    go true e =
-        let here : behind_semicolon (value_and_rest (after_blanks bs)).1 ≡ Some rest = rw (e, piece_behind) at h in
-        let one = length-behind_semicolon (value_and_rest (after_blanks bs)).1 rest here in
-        let two = length-value_and_rest (after_blanks bs) in
-        let three = length-after_blanks bs in
-        omega (arith, one, two, three)
+later-shorter_behind name (c ∷ bs) rest h = grind (arith, length-behind_semicolon (value_and_rest (after_blanks bs)).1 rest, length-value_and_rest (after_blanks bs), length-after_blanks bs)
 
 pub later-shorter : (bs rest : List ℕ) → (piece_of bs).later ≡ Some rest → length rest < length bs
 unfolding piece_of piece_behind
-later-shorter bs rest h =
-    let front = length-split_while is_parameter_name_byte bs in
-    let less = later-shorter_behind (trimmed (split_while is_parameter_name_byte bs).0) (split_while is_parameter_name_byte bs).1 rest h in
-    omega (arith, front, less)
+later-shorter bs rest h = grind (arith, length-split_while is_parameter_name_byte bs, later-shorter_behind (trimmed (split_while is_parameter_name_byte bs).0) (split_while is_parameter_name_byte bs).1 rest h)
 
 -- ---- any number of pieces that is large enough
 
@@ -103,14 +65,7 @@ within-enough : (n m : ℕ) (bs : List ℕ) → length bs ≤ n → length bs �
 within-enough n m [] h k = within-nil n ∙ sym (within-nil m)
 within-enough zero m (b ∷ bs) h k = absurd (omega arith)
 within-enough (suc n) zero (b ∷ bs) h k = absurd (omega arith)
-within-enough (suc n) (suc m) (b ∷ bs) h k = go (piece_of (b ∷ bs)).later refl (within-enough n m)
-  where
-    go : (o : Option (List ℕ)) → (piece_of (b ∷ bs)).later ≡ o → ((rest : List ℕ) → length rest ≤ n → length rest ≤ m → parameters_within n rest ≡ parameters_within m rest)
-        → parameters_within (suc n) (b ∷ bs) ≡ parameters_within (suc m) (b ∷ bs)
-    go None e same = rw e refl
-    go (Some rest) e same =
-        let less = later-shorter (b ∷ bs) rest e in
-        rw e (ap (λ (ps : List Parameter). option_to_list (piece_of (b ∷ bs)).parameter ++ ps) (same rest (omega (arith, less)) (omega (arith, less))))
+within-enough (suc n) (suc m) (b ∷ bs) h k = grind (arith, later-shorter (b ∷ bs), within-enough n m)
 
 behind-nil : [] ≡ option_to_list (piece_of []).parameter ++ parameters_behind (piece_of []).later
 unfolding piece_of
@@ -119,13 +74,7 @@ behind-nil = refl
 -- a piece more
 pub behind-step : (bs : List ℕ) → parameters_behind (Some bs) ≡ option_to_list (piece_of bs).parameter ++ parameters_behind (piece_of bs).later
 behind-step [] = behind-nil
-behind-step (b ∷ bs) = go (piece_of (b ∷ bs)).later refl
-  where
-    go : (o : Option (List ℕ)) → (piece_of (b ∷ bs)).later ≡ o → parameters_behind (Some (b ∷ bs)) ≡ option_to_list (piece_of (b ∷ bs)).parameter ++ parameters_behind (piece_of (b ∷ bs)).later
-    go None e = rw e refl
-    go (Some rest) e =
-        let less = later-shorter (b ∷ bs) rest e in
-        rw e (ap (λ (ps : List Parameter). option_to_list (piece_of (b ∷ bs)).parameter ++ ps) (within-enough (length bs) (length rest) rest (omega (arith, less)) (omega arith)))
+behind-step (b ∷ bs) = grind (arith, later-shorter (b ∷ bs), within-enough)
 
 -- a piece that is no parameter, a parameter of another name, and one of the name
 pub named-none : (name bs : List ℕ) → (piece_of bs).parameter ≡ None → first_named name (parameters_behind (Some bs)) ≡ first_named name (parameters_behind (piece_of bs).later)
@@ -156,7 +105,7 @@ piece-found (Some a) now name value bs e f = named-found name bs (parameter_of (
 pub later-measure : {A : Type 0} (before : Option A) (now : A → List ℕ) (a : A) (o : Option (List ℕ)) → before ≡ Some a → (piece_of (now a)).later ≡ o
     → option_map_or (λ rest. suc (length rest)) o 0 < option_map_or (λ rest. suc (length rest)) (option_map now before) 0
 later-measure before now a None is e = rw is (omega arith)
-later-measure before now a (Some rest) is e = let less = later-shorter (now a) rest e in rw is (omega (arith, less))
+later-measure before now a (Some rest) is e = grind (arith, later-shorter (now a) rest)
 
 -- a name, `=` and a value
 pub piece-parameter : (text rest : List ℕ) (sign : ℕ) → (split_while is_parameter_name_byte text).1 ≡ sign ∷ rest → (sign == 0x3D) ≡ true
@@ -171,11 +120,7 @@ size-front p bs = let joined = ap length (split_while-joined p bs) in omega (ari
 
 size-value : (bs : List ℕ) → length (value_and_rest bs).0 ≤ length bs
 size-value [] = omega arith
-size-value (b ∷ bs) = go (b == 0x22) refl
-  where
-    go : (t : Bool) → (b == 0x22) ≡ t → length (value_and_rest (b ∷ bs)).0 ≤ length (b ∷ bs)
-    go true e = rw (e, value_and_rest) (omega (arith, length-quoted bs))
-    go false e = rw (e, value_and_rest) (size-front is_token_byte (b ∷ bs))
+size-value (b ∷ bs) = grind (arith, length-quoted bs, size-front is_token_byte (b ∷ bs))
 
 -- its value's length, where there is a parameter
 abbrev size_of : Option Parameter → ℕ
@@ -185,18 +130,11 @@ size_of (Some p) = length p.value
 size-piece_behind : (name behind : List ℕ) → size_of (piece_behind name behind).parameter ≤ length behind
 unfolding piece_behind
 size-piece_behind name [] = omega arith
-size-piece_behind name (c ∷ bs) = go (c == 0x3D) refl
-  where
-    go : (t : Bool) → (c == 0x3D) ≡ t → size_of (piece_behind name (c ∷ bs)).parameter ≤ length (c ∷ bs)
-    go false e = rw (e, piece_behind) (omega arith)
-    go true e = rw (e, piece_behind) (omega (arith, size-value (after_blanks bs), length-after_blanks bs))
+size-piece_behind name (c ∷ bs) = grind (arith, size-value (after_blanks bs), length-after_blanks bs)
 
 size-piece : (bs : List ℕ) → size_of (piece_of bs).parameter ≤ length bs
 unfolding piece_of piece_behind
-size-piece bs =
-    let front = length-split_while is_parameter_name_byte bs in
-    let behind = size-piece_behind (trimmed (split_while is_parameter_name_byte bs).0) (split_while is_parameter_name_byte bs).1 in
-    omega (arith, front, behind)
+size-piece bs = grind (arith, length-split_while is_parameter_name_byte bs, size-piece_behind (trimmed (split_while is_parameter_name_byte bs).0) (split_while is_parameter_name_byte bs).1)
 
 size-within : (n : ℕ) (name bs found : List ℕ) → first_named name (parameters_within n bs) ≡ Some found → length found ≤ length bs
 size-within zero name bs found h = absurd (cc h)
@@ -227,10 +165,7 @@ size-within (suc n) name bs found h = by_piece (piece_of bs).parameter refl (λ 
 
 size-behind : (name value found : List ℕ) (o : Option (List ℕ)) → behind_semicolon value ≡ o → first_named name (parameters_behind o) ≡ Some found → length found ≤ length value
 size-behind name value found None e h = absurd (cc h)
-size-behind name value found (Some bs) e h =
-    let less = length-behind_semicolon value bs e in
-    let size = size-within (length bs) name bs found h in
-    omega (arith, less, size)
+size-behind name value found (Some bs) e h = grind (arith, length-behind_semicolon, size-within)
 
 pub parameter-size : (name value found : List ℕ) → parameter name value ≡ Some found → length found ≤ length value
 unfolding parameter

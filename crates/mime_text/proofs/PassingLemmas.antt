@@ -1,5 +1,5 @@
 -- What comes of a reader's calls.
-use Rattle.std.proofs.Common.{◌≡◌, ◌∙◌, ◌++◌, ℕ, Bool, true, false, List, [], ◌∷◌, Option, Some, None, refl, sym, ap, subst, append_assoc, if◌then◌else◌}
+use Rattle.std.proofs.Common.{◌≡◌, ◌∙◌, ◌++◌, ℕ, Bool, true, false, List, [], ◌∷◌, Option, Some, None, refl, sym, ap, subst, append_assoc, arith, if◌then◌else◌}
 use Rattle.std.specs.Prelude.{Result, Ok, Err, OnOk}
 use Rattle.std.proofs.lemmas.List.{append-nil}
 use Rattle.mbox_cutter.specs.Lines.{is_empty}
@@ -13,6 +13,7 @@ use Rattle.mime_text.specs.declared.fault.SinkFault.{SinkFault}
 use Rattle.mime_text.specs.declared.fault.TextFault.{TextFault}
 use Rattle.mime_text.specs.declared.fault.TextFault.TheVariants.{OutOfMemory}
 use Rattle.mime_text.specs.declared.parts.shape.DefaultType.{DefaultType}
+use Rattle.mime_text.specs.declared.parts.shape.DefaultType.TheVariants.{TextPlain}
 use Rattle.mime_text.specs.declared.parts.frame.Frame.{Frame}
 use Rattle.mime_text.specs.declared.header.facts.Facts.{Facts}
 use Rattle.mime_text.specs.declared.parts.part_reader.State.{State}
@@ -26,9 +27,10 @@ use Rattle.mime_text.specs.MessageFacts.{facts_of}
 use Rattle.mime_text.specs.LeafReading.{pairs_to_come}
 use Rattle.mime_text.specs.Stream.{StreamPlace, Skip, InHeader, InLeaf, hit}
 use Rattle.mime_text.specs.Frames.{Nest, lead_to}
+use Rattle.mime_text.specs.Texts.{texts_of_message}
 use Rattle.mime_text.specs.Inside.Passing.{Passed, Stopped, Passes, IsOver}
 use Rattle.mime_text.specs.Feeding.{given_from, header_texts, ending, given_behind, given_after, ComesAt, Comes, ComesBehindHeader, ComesEndingAt, ComesEnding, KnowsAt, KnowsFacts, Notes}
-use Rattle.mime_text.proofs.StepLemmas.{value-header, given-hit, given-leaf_line, given-more, given-ended, given-leaf, empty_ends, fields-on}
+use Rattle.mime_text.proofs.StepLemmas.{value-header, given-hit, given-leaf_line, given-more, given-ended, given-leaf, empty_ends, fields-on, given-message}
 
 abbrev Line : Type 0
 Line = List ℕ
@@ -42,12 +44,15 @@ on_ok-pure (Ok x) h = h
 on_ok-pure (Err e) h = tt
 
 more-open : (b : Bool) → More ≡ (if b then Ended else More) → b ≡ false
-more-open true e = absurd (cc)
-more-open false e = refl
+more-open b e = grind arith
 
 ended-empty : (b : Bool) → Ended ≡ (if b then Ended else More) → b ≡ true
-ended-empty true e = refl
-ended-empty false e = absurd (cc)
+ended-empty b e = grind arith
+
+-- before a message's first line
+pub comes-first : (nest : Nest) (header : Header) → nest ≡ record { frames = []; left = 16 } → HasLines header []
+    → (held : List Line) × HasLines header held × (has_empty held ≡ false) × ((ms : List Line) → texts_of_message ms ≡ given_from nest.frames (InHeader true nest.left TextPlain held) ms)
+comes-first nest header e h = ([], h, refl, λ ms. given-message ms ∙ ap (λ (n : Nest). given_from n.frames (InHeader true n.left TextPlain []) ms) (sym e))
 
 -- what an entity gives that ends here
 ending-is : (r : PartReader) (lead : Lead) (fields : List HeaderField) (c : Coming) → ((ls : List Line) → HasLines r.header ls → fields ≡ fields_of ls) → ComesEnding r lead c
@@ -130,6 +135,14 @@ facts-whole r f notes ls k = go r.facts notes k
     go None e k = let q = e ls k.lines in cc
     go (Some g) e k = let q : f ≡ g = cc in q ∙ k [] ∙ ap (λ (ks : List Line). facts_of (fields_of ks)) (append-nil ls)
 
+-- what comes behind the header of these lines, and all that comes with it
+abbrev behind_lines : PartReader → DefaultType → List Line → Coming
+behind_lines r d ls = given_behind (shape_of d (fields_of ls)) r.nesting (fields_of ls)
+
+header-is_first : (r : PartReader) (counted : Bool) (d : DefaultType) (fields : List HeaderField) → ((ls : List Line) → HasLines r.header ls → fields ≡ fields_of ls)
+    → (c : Coming) (k : ComesBehindHeader r counted d c) (ms : List Line) → c ms ≡ header_texts counted fields ++ behind_lines r d k.0 ms
+header-is_first r counted d fields f c k ms = k.2 ms ∙ ap (λ (fs : List HeaderField). header_texts counted fs ++ behind_lines r d k.0 ms) (sym (f k.0 k.1))
+
 module _ {S : Type 0} (takes : S → TextKind → List ℕ → S → Type 0) (refuses : S → TextKind → List ℕ → SinkFault → S → Type 0) where
   -- what comes before, said otherwise
   pub passes-from : {T : Type 0} (A A' B : Coming → Type 0) (seen : Coming → Coming) (result : Result T TextFault) (s t : S) → ((c : Coming) → A c → A' (seen c))
@@ -142,6 +155,21 @@ module _ {S : Type 0} (takes : S → TextKind → List ℕ → S → Type 0) (re
   passes-before A A' B seen (Ok x) s t f h = record { pairs = h.pairs; taken = h.taken; rest = λ c k. h.rest c (f c k) }
   passes-before A A' B seen (Err fault) s t f h = record { pairs = h.pairs; broken = h.broken; front = λ c k. h.front c (f c k) }
 
+  -- a call that gives all that comes in front of something
+  passed-front : (before after : Coming → Type 0) (A : Coming) (s t : S) (R : (c : Coming) → before c → Coming) → ((c : Coming) (k : before c) → after (R c k))
+      → ((c : Coming) (k : before c) (ms : List Line) → c ms ≡ A ms ++ R c k ms) → Gave takes refuses A (λ _. []) s t → Passed takes refuses before after (λ c. c) s t
+  passed-front before after A s t R a e h =
+      record { pairs = h.pairs; taken = h.taken; rest = λ c k. (R c k, a c k, λ ms. e c k ms ∙ ap (λ (ps : List Pair). ps ++ R c k ms) (h.rest ms ∙ append-nil h.pairs)) }
+
+  stopped-front : (before : Coming → Type 0) (A : Coming) (fault : TextFault) (s t : S) (R : (c : Coming) → before c → Coming)
+      → ((c : Coming) (k : before c) (ms : List Line) → c ms ≡ A ms ++ R c k ms) → Broke takes refuses A fault s t → Stopped takes refuses before (λ c. c) fault s t
+  stopped-front before A fault s t R e h =
+      record {
+        pairs = h.pairs;
+        broken = h.broken;
+        front = λ c k ms. ((h.front ms).0 ++ R c k ms, e c k ms ∙ ap (λ (ps : List Pair). ps ++ R c k ms) (h.front ms).1 ∙ append_assoc h.pairs (h.front ms).0 (R c k ms));
+      }
+
   -- ---- behind a header
 
   pub header-passed : (r : PartReader) (counted : Bool) (d : DefaultType) (fields : List HeaderField) (after : Coming → Type 0) (s t : S)
@@ -149,29 +177,13 @@ module _ {S : Type 0} (takes : S → TextKind → List ℕ → S → Type 0) (re
       → ((ls : List Line) → HasLines r.header ls → after (given_behind (shape_of d (fields_of ls)) r.nesting (fields_of ls)))
       → Passed takes refuses (ComesBehindHeader r counted d) after (λ c. c) s t
   header-passed r counted d fields after s t f h a =
-      record {
-        pairs = h.pairs;
-        taken = h.taken;
-        rest = λ c k. (
-          given_behind (shape_of d (fields_of k.0)) r.nesting (fields_of k.0),
-          a k.0 k.1,
-          λ ms. k.2 ms ∙ ap (λ (ps : List Pair). ps ++ given_behind (shape_of d (fields_of k.0)) r.nesting (fields_of k.0) ms) (ap (header_texts counted) (sym (f k.0 k.1)) ∙ h.rest ms ∙ append-nil h.pairs),
-        );
-      }
+      passed-front (ComesBehindHeader r counted d) after (λ _. header_texts counted fields) s t (λ c k. behind_lines r d k.0) (λ c k. a k.0 k.1) (header-is_first r counted d fields f) h
 
   pub header-stopped : (r : PartReader) (counted : Bool) (d : DefaultType) (fields : List HeaderField) (fault : TextFault) (s t : S)
       → ((ls : List Line) → HasLines r.header ls → fields ≡ fields_of ls) → Broke takes refuses (λ _. header_texts counted fields) fault s t
       → Stopped takes refuses (ComesBehindHeader r counted d) (λ c. c) fault s t
   header-stopped r counted d fields fault s t f h =
-      record {
-        pairs = h.pairs;
-        broken = h.broken;
-        front = λ c k ms. (
-          (h.front ms).0 ++ given_behind (shape_of d (fields_of k.0)) r.nesting (fields_of k.0) ms,
-          k.2 ms ∙ ap (λ (ps : List Pair). ps ++ given_behind (shape_of d (fields_of k.0)) r.nesting (fields_of k.0) ms) (ap (header_texts counted) (sym (f k.0 k.1)) ∙ (h.front ms).1)
-              ∙ append_assoc h.pairs (h.front ms).0 (given_behind (shape_of d (fields_of k.0)) r.nesting (fields_of k.0) ms),
-        );
-      }
+      stopped-front (ComesBehindHeader r counted d) (λ _. header_texts counted fields) fault s t (λ c k. behind_lines r d k.0) (header-is_first r counted d fields f) h
 
   -- all was given, and then memory is wanting
   pub broke-memory_behind : (A : Coming) (s t : S) → Gave takes refuses A (λ _. []) s t → Broke takes refuses A OutOfMemory s t
@@ -248,24 +260,12 @@ module _ {S : Type 0} (takes : S → TextKind → List ℕ → S → Type 0) (re
   pub leave-passed : (r n : PartReader) (lead : Lead) (fields : List HeaderField) (s t : S) → ((ls : List Line) → HasLines r.header ls → fields ≡ fields_of ls)
       → Gave takes refuses (λ _. ending r.state fields r.leaf) (λ _. []) s t → Comes n (given_after lead r.nesting) → Passed takes refuses (ComesEnding r lead) (Comes n) (λ c. c) s t
   leave-passed r n lead fields s t f h a =
-      record {
-        pairs = h.pairs;
-        taken = h.taken;
-        rest = λ c k. (given_after lead r.nesting, a, λ ms. ending-is r lead fields c f k ms ∙ ap (λ (ps : List Pair). ps ++ given_after lead r.nesting ms) (h.rest ms ∙ append-nil h.pairs));
-      }
+      passed-front (ComesEnding r lead) (Comes n) (λ _. ending r.state fields r.leaf) s t (λ c k. given_after lead r.nesting) (λ c k. a) (λ c. ending-is r lead fields c f) h
 
   pub leave-stopped : (r : PartReader) (lead : Lead) (fields : List HeaderField) (fault : TextFault) (s t : S) → ((ls : List Line) → HasLines r.header ls → fields ≡ fields_of ls)
       → Broke takes refuses (λ _. ending r.state fields r.leaf) fault s t → Stopped takes refuses (ComesEnding r lead) (λ c. c) fault s t
   leave-stopped r lead fields fault s t f h =
-      record {
-        pairs = h.pairs;
-        broken = h.broken;
-        front = λ c k ms. (
-          (h.front ms).0 ++ given_after lead r.nesting ms,
-          ending-is r lead fields c f k ms ∙ ap (λ (ps : List Pair). ps ++ given_after lead r.nesting ms) (h.front ms).1
-              ∙ append_assoc h.pairs (h.front ms).0 (given_after lead r.nesting ms),
-        );
-      }
+      stopped-front (ComesEnding r lead) (λ _. ending r.state fields r.leaf) fault s t (λ c k. given_after lead r.nesting) (λ c. ending-is r lead fields c f) h
 
   pub end-passed : (r : PartReader) (fields : List HeaderField) (s t : S) → ((ls : List Line) → HasLines r.header ls → fields ≡ fields_of ls)
       → Gave takes refuses (λ _. ending r.state fields r.leaf) (λ _. []) s t → Passed takes refuses (Comes r) IsOver (λ c _. c []) s t

@@ -1,10 +1,10 @@
 -- The places of a reader of lines, one line on.
-use Rattle.std.proofs.Common.{◌≡◌, ◌∙◌, ◌++◌, ℕ, zero, suc, Bool, true, false, ◌||◌, List, [], ◌∷◌, Option, Some, None, refl, sym, ap, append_assoc}
+use Rattle.std.proofs.Common.{◌≡◌, ◌∙◌, ◌++◌, ℕ, zero, suc, Bool, true, false, ◌||◌, List, [], ◌∷◌, Option, Some, None, refl, sym, ap, append_assoc, arith}
 use Rattle.std.specs.Prelude.{flat_map}
 use Rattle.std.proofs.lemmas.List.{append-nil}
 use Rattle.std.proofs.lemmas.Grind.{flat_map-append}
 use Rattle.mbox_cutter.specs.Lines.{is_empty, lines}
-use Rattle.header_text.specs.Headers.{HeaderField, fields_of}
+use Rattle.header_text.specs.Headers.{fields_of}
 use Rattle.header_text.specs.Blanks.{before_blanks}
 use Rattle.header_text.specs.Unfolding.{unfolded}
 use Rattle.header_text.specs.Stages.{has_empty}
@@ -24,8 +24,8 @@ use Rattle.mime_text.specs.Types.{shape_of, charset_in, transfer_in}
 use Rattle.mime_text.specs.Names.{name_texts}
 use Rattle.mime_text.specs.LeafTexts.{leaf_texts}
 use Rattle.mime_text.specs.LeafReading.{body_pairs}
-use Rattle.mime_text.specs.Parts.{Entity, body_lines, pieces, parts, parts_by, is_left}
-use Rattle.mime_text.specs.Stream.{StreamPlace, InHeader, InLeaf, hit, counted_part, header_parts, value, behind_header, inner_step, step_by}
+use Rattle.mime_text.specs.Parts.{body_lines, pieces, parts, parts_by, is_left}
+use Rattle.mime_text.specs.Stream.{StreamPlace, InHeader, InLeaf, hit, counted_part, header_parts, value, behind_header, inner_step}
 use Rattle.mime_text.specs.Frames.{Nest}
 use Rattle.mime_text.specs.Texts.{part_texts, texts_of_message}
 use Rattle.mime_text.specs.Feeding.{given_from, counted_texts, header_texts, given_behind}
@@ -38,23 +38,11 @@ Line = List ℕ
 
 pub IsHeader-of : (ls : List Line) → has_empty ls ≡ false → IsHeader ls
 IsHeader-of [] e = tt
-IsHeader-of (l ∷ ls) e = go (is_empty l) refl e (λ q. IsHeader-of ls q)
-  where
-    go : (t : Bool) → is_empty l ≡ t → (t || has_empty ls) ≡ false → (has_empty ls ≡ false → IsHeader ls) → (is_empty l ≡ false) × IsHeader ls
-    go true q e later = absurd (cc)
-    go false q e later = (q, later e)
+IsHeader-of (l ∷ ls) e = (grind arith, IsHeader-of ls (grind arith))
 
 pub has_empty-push : (ls : List Line) (l : Line) → has_empty (ls ++ l ∷ []) ≡ (has_empty ls || is_empty l)
-has_empty-push [] l = go (is_empty l)
-  where
-    go : (t : Bool) → (t || false) ≡ t
-    go true = refl
-    go false = refl
-has_empty-push (k ∷ ls) l = go (is_empty k) (has_empty-push ls l)
-  where
-    go : (t : Bool) → has_empty (ls ++ l ∷ []) ≡ (has_empty ls || is_empty l) → (t || has_empty (ls ++ l ∷ [])) ≡ ((t || has_empty ls) || is_empty l)
-    go true e = refl
-    go false e = e
+has_empty-push [] l = grind arith
+has_empty-push (k ∷ ls) l = grind (arith, has_empty-push ls l)
 
 -- a line that ends a header, and one that doesn't
 pub empty_ends : (ls : List Line) (l : Line) (t : Bool) → has_empty ls ≡ false → has_empty (ls ++ l ∷ []) ≡ t → is_empty l ≡ t
@@ -71,20 +59,13 @@ counted-is true ls = append-nil (texts_of_fields (fields_of ls))
 counted-is false ls = refl
 
 header-is : (c : Bool) (ls : List Line) → flat_map part_texts (header_parts c ls) ≡ header_texts c (fields_of ls)
-header-is c ls =
-    flat_map-append part_texts (counted_part c ls) (Entity (fields_of ls) ∷ [])
-    ∙ ap (λ (ps : List Pair). ps ++ flat_map part_texts (Entity (fields_of ls) ∷ [])) (counted-is c ls)
-    ∙ ap (λ (ps : List Pair). counted_texts c (fields_of ls) ++ ps) (append-nil (name_texts (fields_of ls)))
+header-is c ls = grind (arith, flat_map-append, counted-is, append-nil)
 
 -- ---- an entity without a body gives its name alone
 
 body-none : (ls : List Line) → has_empty ls ≡ false → body_lines ls ≡ []
 body-none [] e = refl
-body-none (l ∷ ls) e = go (is_empty l) refl e (λ q. body-none ls q)
-  where
-    go : (t : Bool) → is_empty l ≡ t → (t || has_empty ls) ≡ false → (has_empty ls ≡ false → body_lines ls ≡ []) → body_lines (l ∷ ls) ≡ []
-    go true q e later = absurd (cc)
-    go false q e later = rw (q, body_lines) (later e)
+body-none (l ∷ ls) e = grind (arith, body-none ls)
 
 fields-none : texts_of_fields (fields_of []) ≡ []
 unfolding fields_of
@@ -138,13 +119,11 @@ value-header c n d held e =
 
 pub given-hit : (fs : List Frame) (place : StreamPlace Pair) (l : Line) (h : List Frame × StreamPlace Pair) (ms : List Line) → hit fs l ≡ Some h
     → given_from fs place (l ∷ ms) ≡ value shape_of part_texts place [] ++ given_from h.0 h.1 ms
-given-hit fs place l h ms e =
-    ap (λ (o : Option (List Frame × StreamPlace Pair)). (step_by shape_of part_texts o fs place l).0 ++ given_from (step_by shape_of part_texts o fs place l).1.0 (step_by shape_of part_texts o fs place l).1.1 ms) e
+given-hit fs place l h ms e = grind arith
 
 given-inner : (fs : List Frame) (place : StreamPlace Pair) (l : Line) (ms : List Line) → hit {A = Pair} fs l ≡ None
     → given_from fs place (l ∷ ms) ≡ (inner_step shape_of part_texts fs place l).0 ++ given_from (inner_step shape_of part_texts fs place l).1.0 (inner_step shape_of part_texts fs place l).1.1 ms
-given-inner fs place l ms e =
-    ap (λ (o : Option (List Frame × StreamPlace Pair)). (step_by shape_of part_texts o fs place l).0 ++ given_from (step_by shape_of part_texts o fs place l).1.0 (step_by shape_of part_texts o fs place l).1.1 ms) e
+given-inner fs place l ms e = grind arith
 
 pub given-leaf_line : (fs : List Frame) (leaf : Coming) (l : Line) (ms : List Line) → hit {A = Pair} fs l ≡ None → given_from fs (InLeaf leaf) (l ∷ ms) ≡ given_from fs (InLeaf (λ ks. leaf (l ∷ ks))) ms
 given-leaf_line fs leaf l ms e = given-inner fs (InLeaf leaf) l ms e
@@ -158,9 +137,7 @@ header_step t nest c d held l = elim t [
 given-header : (nest : Nest) (c : Bool) (d : DefaultType) (held : List Line) (l : Line) (ms : List Line) (t : Bool) → hit {A = Pair} nest.frames l ≡ None → is_empty l ≡ t
     → given_from nest.frames (InHeader c nest.left d held) (l ∷ ms)
     ≡ (header_step t nest c d held l).0 ++ given_from (header_step t nest c d held l).1.0 (header_step t nest c d held l).1.1 ms
-given-header nest c d held l ms t e q =
-    given-inner nest.frames (InHeader c nest.left d held) l ms e
-    ∙ ap (λ (b : Bool). (header_step b nest c d held l).0 ++ given_from (header_step b nest c d held l).1.0 (header_step b nest c d held l).1.1 ms) q
+given-header nest c d held l ms t e q = grind (arith, given-inner)
 
 -- the header goes on
 pub given-more : (nest : Nest) (c : Bool) (d : DefaultType) (held : List Line) (l : Line) (ms : List Line) → hit {A = Pair} nest.frames l ≡ None → is_empty l ≡ false
@@ -171,11 +148,7 @@ given-more nest c d held l ms e t = given-header nest c d held l ms false e t
 pub given-ended : (nest : Nest) (c : Bool) (d : DefaultType) (held : List Line) (l : Line) (ms : List Line) → hit {A = Pair} nest.frames l ≡ None → has_empty held ≡ false → is_empty l ≡ true
     → given_from nest.frames (InHeader c nest.left d held) (l ∷ ms)
     ≡ header_texts c (fields_of (held ++ l ∷ [])) ++ given_behind (shape_of d (fields_of (held ++ l ∷ []))) nest (fields_of (held ++ l ∷ [])) ms
-given-ended nest c d held l ms e q t =
-    let rest : List HeaderField → List Pair = λ fields. given_behind (shape_of d fields) nest fields ms in
-    given-header nest c d held l ms true e t
-    ∙ ap (λ (ps : List Pair). ps ++ rest (fields_of held)) (header-is c held)
-    ∙ ap (λ (fields : List HeaderField). header_texts c fields ++ rest fields) (sym (fields-ended held l q t))
+given-ended nest c d held l ms e q t = grind (arith, given-header, header-is, fields-ended)
 
 -- a leaf that has given some pairs
 pub given-leaf : (fs : List Frame) (f g : Coming) (qs : List Pair) → ((ms : List Line) → f ms ≡ qs ++ g ms) → (ms : List Line) → given_from fs (InLeaf f) ms ≡ qs ++ given_from fs (InLeaf g) ms

@@ -1,17 +1,16 @@
 -- One line at a time gives what the parts of the outermost split first give.
-use Rattle.std.proofs.Common.{◌≡◌, ℕ, zero, suc, Bool, true, false, cond, List, [], ◌∷◌, ◌++◌, Option, Some, None, refl, sym, ap, ◌∙◌, append_assoc}
+use Rattle.std.proofs.Common.{◌≡◌, ℕ, zero, suc, Bool, true, false, cond, List, [], ◌∷◌, ◌++◌, Option, Some, None, refl, sym, ap, ◌∙◌, append_assoc, arith}
 use Rattle.std.specs.Prelude.{flat_map}
 use Rattle.std.specs.List.{AllByRecursion}
 use Rattle.std.proofs.lemmas.List.{append-nil}
 use Rattle.std.proofs.lemmas.Grind.{flat_map-append}
 use Rattle.mbox_cutter.specs.Lines.{is_empty}
-use Rattle.header_text.specs.Headers.{HeaderField, lines_before_empty, lines_within, fields_in, fields_of, most_in_header}
+use Rattle.header_text.specs.Headers.{HeaderField, lines_before_empty, fields_of}
 use Rattle.mime_text.specs.declared.parts.shape.DefaultType.{DefaultType}
-use Rattle.mime_text.specs.declared.parts.shape.DefaultType.TheVariants.{TextPlain}
 use Rattle.mime_text.specs.declared.parts.shape.Shape.{Shape}
 use Rattle.mime_text.specs.declared.parts.shape.Shape.TheVariants.{Multipart, Message, Text, Other}
 use Rattle.mime_text.specs.declared.parts.frame.Frame.{Frame}
-use Rattle.mime_text.specs.Parts.{Part, Entity, Counted, Leaf, body_lines, is_closing, is_delimiter, preamble_and_pieces, pieces, parts, parts_by, is_left}
+use Rattle.mime_text.specs.Parts.{Part, Entity, Counted, body_lines, is_closing, is_delimiter, preamble_and_pieces, pieces, parts, parts_by, is_left}
 use Rattle.mime_text.specs.Stream.{StreamPlace, Skip, InHeader, InLeaf, or_else, own_hit, hit, counted_part, header_parts, value, behind_header, inner_step, step_by, given}
 
 abbrev Line : Type 0
@@ -32,8 +31,7 @@ before_empty_all (k ∷ ls) h = rw (h.0, lines_before_empty) (ap (λ (t : List L
 -- a header's fields are there once it has ended
 pub fields_of-ended : (ls : List Line) (l : Line) (rest : List Line) → IsHeader ls → is_empty l ≡ true → fields_of (ls ++ l ∷ rest) ≡ fields_of ls
 unfolding fields_of
-fields_of-ended ls l rest h e =
-    ap (λ (ks : List Line). fields_in (lines_within most_in_header ks)) (before_empty_of ls l rest h e ∙ sym (before_empty_all ls h))
+fields_of-ended ls l rest h e = grind (arith, before_empty_of, before_empty_all)
 
 pub body_of : (ls : List Line) (l : Line) (rest : List Line) → IsHeader ls → is_empty l ≡ true → body_lines (ls ++ l ∷ rest) ≡ rest
 body_of [] l rest h e = rw (e, body_lines) refl
@@ -48,9 +46,7 @@ counted_part-ended true lines l rest h e = ap (λ (fs : List HeaderField). Count
 counted_part-ended false lines l rest h e = refl
 
 header_parts-ended : (c : Bool) (lines : List Line) (l : Line) (rest : List Line) → IsHeader lines → is_empty l ≡ true → header_parts c (lines ++ l ∷ rest) ≡ header_parts c lines
-header_parts-ended c lines l rest h e =
-    ap (λ (ps : List Part). ps ++ Entity (fields_of (lines ++ l ∷ rest)) ∷ []) (counted_part-ended c lines l rest h e)
-    ∙ ap (λ (fs : List HeaderField). counted_part c lines ++ Entity fs ∷ []) (fields_of-ended lines l rest h e)
+header_parts-ended c lines l rest h e = grind (arith, counted_part-ended, fields_of-ended)
 
 flat_map-none : {A : Type 0} (xs : List (List Line)) → flat_map {A = A} (λ (x : List Line). []) xs ≡ []
 flat_map-none [] = refl
@@ -136,20 +132,10 @@ module _ {A : Type 0} (shape_of : DefaultType → List HeaderField → Shape) (g
       → AllStreams ls → AllFrames ls → IsHeader lines → is_empty l ≡ true → EntityIs sh ls fs left lines l
   by_shape (Multipart b e) ls fs zero lines l m g h t =
       m fs Skip tt ∙ ap (λ (ps : List Part). flat_map gives ps ++ later fs ls) (sym (flat_map-none {A = Part} (pieces b (body_lines (lines ++ l ∷ before fs ls)))))
-  by_shape (Multipart b e) ls fs (suc left) lines l m g h t =
-      let f : Frame = record { boundary = b; default = e; left = left } in
-      g f fs ∙ ap (λ (ks : List Line). of_pieces (suc left) e (pieces b ks) ++ later fs ls) (sym (body_of lines l (before fs ls) h t))
+  by_shape (Multipart b e) ls fs (suc left) lines l m g h t = grind (arith, body_of)
   by_shape Message ls fs zero lines l m g h t = m fs Skip tt
-  by_shape Message ls fs (suc left) lines l m g h t =
-      let inside : List Line → List A = λ ks. flat_map gives (Counted (fields_of ks) ∷ parts shape_of (suc left) TextPlain ks) in
-      m fs (InHeader true left TextPlain []) tt
-      ∙ ap (λ (ks : List Line). inside ks ++ later fs ls) (sym (body_of lines l (before fs ls) h t))
-  by_shape (Text is_html) ls fs left lines l m g h t =
-      let x = before fs ls in
-      m fs (InLeaf (λ body. gives (Leaf is_html (fields_of lines) body))) tt
-      ∙ ap (λ (ps : List A). ps ++ later fs ls) (sym (append-nil (gives (Leaf is_html (fields_of lines) x))))
-      ∙ ap (λ (k : List HeaderField). (gives (Leaf is_html k x) ++ []) ++ later fs ls) (sym (fields_of-ended lines l x h t))
-      ∙ ap (λ (ks : List Line). (gives (Leaf is_html (fields_of (lines ++ l ∷ x)) ks) ++ []) ++ later fs ls) (sym (body_of lines l x h t))
+  by_shape Message ls fs (suc left) lines l m g h t = grind (arith, body_of)
+  by_shape (Text is_html) ls fs left lines l m g h t = grind (arith, append-nil, fields_of-ended, body_of)
   by_shape Other ls fs left lines l m g h t = m fs Skip tt
 
   by_end : (ls : List Line) (fs : List Frame) (c : Bool) (left : ℕ) (d : DefaultType) (lines : List Line) (l : Line)
@@ -207,16 +193,7 @@ module _ {A : Type 0} (shape_of : DefaultType → List HeaderField → Shape) (g
             (l ∷ (preamble_and_pieces f.boundary (before outer ls)).0, (preamble_and_pieces f.boundary (before outer ls)).1)
       ]).1 ++ later outer ls
   by_own true d ls f outer l m g = m outer Skip tt
-  by_own false true ls f outer l m g =
-      let p = preamble_and_pieces f.boundary (before outer ls) in
-      let here : List Line → List A = λ ks. flat_map gives (parts shape_of (suc f.left) f.default ks) in
-      let others : later (f ∷ outer) ls ≡ of_pieces (suc f.left) f.default p.1 ++ later outer ls = sym (m (f ∷ outer) Skip tt) ∙ g f outer in
-      m (f ∷ outer) (InHeader false f.left f.default []) tt
-      ∙ ap (λ (ps : List A). here (before (f ∷ outer) ls) ++ ps) others
-      ∙ ap (λ (ks : List Line). here ks ++ (of_pieces (suc f.left) f.default p.1 ++ later outer ls)) (sym (preamble_is f outer ls))
-      ∙ sym (append_assoc (here p.0) (of_pieces (suc f.left) f.default p.1) (later outer ls))
-      ∙ ap (λ (ps : List A). ps ++ later outer ls)
-      (sym (flat_map-append gives (parts shape_of (suc f.left) f.default p.0) (flat_map (parts shape_of (suc f.left) f.default) p.1)))
+  by_own false true ls f outer l m g = grind (arith, preamble_is, append_assoc, flat_map-append)
   by_own false false ls f outer l m g = g f outer
 
   by_outer : (o : Lead) (ls : List Line) (f : Frame) (outer : List Frame) (l : Line) → AllStreams ls → AllFrames ls
@@ -239,7 +216,4 @@ module _ {A : Type 0} (shape_of : DefaultType → List HeaderField → Shape) (g
   -- from the front of an entity on, with nothing open
   pub whole_given : (c : Bool) (n : ℕ) (d : DefaultType) (ls : List Line)
       → given shape_of gives [] (InHeader c n d []) ls ≡ flat_map gives (counted_part c ls ++ parts shape_of (suc n) d ls)
-  whole_given c n d ls =
-      let whole : List Line → List A = λ ks. flat_map gives (counted_part c ks ++ parts shape_of (suc n) d ks) in
-      given_is ls [] (InHeader c n d []) tt
-      ∙ ap (λ (ps : List A). whole (before [] ls) ++ ps) (later_none ls) ∙ append-nil (whole (before [] ls)) ∙ ap whole (before_all ls)
+  whole_given c n d ls = grind (arith, given_is, later_none, append-nil, before_all)

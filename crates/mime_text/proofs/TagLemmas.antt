@@ -1,6 +1,5 @@
 -- Tags line by line.
-use Rattle.std.proofs.Common.{◌≡◌, ◌∙◌, ◌<◌, ◌==◌, ◌||◌, ◌++◌, ℕ, Bool, true, false, List, [], ◌∷◌, map, reverse, refl, sym, ap, ap₂, subst, arith, append_assoc, encode_utf8_all, IsUtf8}
-use Rattle.std.specs.Prelude.{if◌then◌else◌}
+use Rattle.std.proofs.Common.{◌≡◌, ◌∙◌, ◌<◌, ◌==◌, ◌++◌, ℕ, Bool, true, false, List, [], ◌∷◌, map, reverse, refl, sym, ap, ap₂, subst, arith, append_assoc, encode_utf8_all, IsUtf8}
 use Rattle.std.specs.Char.{encode_utf8}
 use Rattle.std.specs.Str.{chars}
 use Rattle.std.proofs.lemmas.Bool.{eqb-true}
@@ -9,34 +8,18 @@ use Rattle.std.proofs.lemmas.Str.{encode_ascii, encodes-chars}
 use Rattle.header_text.proofs.CutLemmas.{Lacks}
 use Rattle.header_text.specs.Charsets.{text_of}
 use Rattle.header_text.specs.declared.charset.Charset.{Charset}
-use Rattle.mime_text.specs.Tags.{is_open, is_in_tag, without_tags, lines_without_tags}
+use Rattle.mime_text.specs.Tags.{is_open, without_tags, lines_without_tags}
 use Rattle.mime_text.specs.LeafTexts.{texts_of_lines}
 use Rattle.mime_text.specs.OpenTags.{is_open_after, is_open_behind, blanked, texts_behind}
 
 -- ---- of what stands before, whether a tag is open is all that counts
 
 is_open-step : (before : List ℕ) (c : ℕ) → is_open (c ∷ before) ≡ is_open_after (is_open before) c
-is_open-step before c = go (is_open before) refl (c == 0x3C) refl (c == 0x3E) refl
-  where
-    go : (o : Bool) → is_open before ≡ o → (s : Bool) → (c == 0x3C) ≡ s → (t : Bool) → (c == 0x3E) ≡ t → is_open (c ∷ before) ≡ is_open_after (is_open before) c
-    go o h true e true f =
-        let is : c ≡ 0x3C = eqb-true c 0x3C e in
-        let other : c ≡ 0x3E = eqb-true c 0x3E f in
-        absurd (omega arith)
-    go true h true e false f = rw (h, e, f, is_open) refl
-    go false h true e false f = rw (h, e, f, is_open) refl
-    go true h false e true f = rw (h, e, f, is_open) refl
-    go false h false e true f = rw (h, e, f, is_open) refl
-    go true h false e false f = rw (e, f, h, is_open) refl
-    go false h false e false f = rw (e, f, h, is_open) refl
+is_open-step before c = grind arith
 
 without_tags-blanked : (before cs : List ℕ) (o : Bool) → is_open before ≡ o → without_tags before cs ≡ blanked o cs
 without_tags-blanked before [] o h = refl
-without_tags-blanked before (c ∷ cs) o h =
-    let here : is_in_tag before c ≡ (o || (c == 0x3C)) = ap (λ (b : Bool). b || (c == 0x3C)) h in
-    let later : without_tags (c ∷ before) cs ≡ blanked (is_open_after o c) cs =
-    without_tags-blanked (c ∷ before) cs (is_open_after o c) (is_open-step before c ∙ ap (λ (b : Bool). is_open_after b c) h) in
-    ap₂ (λ (b : Bool) (l : List ℕ). (if b then 0x20 else c) ∷ l) here later
+without_tags-blanked before (c ∷ cs) o h = grind (arith, is_open-step, without_tags-blanked (c ∷ before) cs (is_open_after o c))
 
 is_open-line : (before cs : List ℕ) → is_open (reverse cs ++ before) ≡ is_open_behind (is_open before) cs
 is_open-line before [] = refl
@@ -82,9 +65,7 @@ lacks-chars c ascii (x ∷ cs) h = let parts = lacks-append c (encode_utf8 x) (e
     go false e k = e
 
 pub lacks-text : (c : ℕ) → c < 128 → (text : List ℕ) → IsUtf8 text → Lacks c text → Lacks c (chars text)
-lacks-text c ascii text utf8 h =
-    let P : List ℕ → Type 0 = λ l. Lacks c l in
-    lacks-chars c ascii (chars text) (subst P (sym (encodes-chars text utf8)) h)
+lacks-text c ascii text utf8 h = grind (arith, Lacks, lacks-chars, encodes-chars)
 
 pub blanked-free : (cs : List ℕ) → Lacks 0x3C cs → blanked false cs ≡ cs
 blanked-free [] h = refl

@@ -65,10 +65,7 @@ spaces-ascii (suc n) = IsAscii-cons 0x20 (replicate n 0x20) (omega arith) (space
 
 -- some of those that are left are added
 pub spaces-more : (into new some : List ℕ) (left n rest : ℕ) → some ≡ replicate n 0x20 → n + rest ≡ left → new ≡ into ++ some → new ++ replicate rest 0x20 ≡ into ++ replicate left 0x20
-spaces-more into new some left n rest are parts added =
-    ap (λ (l : List ℕ). l ++ replicate rest 0x20) (added ∙ ap (λ (l : List ℕ). into ++ l) are)
-    ∙ append_assoc into (replicate n 0x20) (replicate rest 0x20)
-    ∙ ap (λ (l : List ℕ). into ++ l) (replicate-append-replicate {A = ℕ} n rest 0x20 ∙ ap (λ (k : ℕ). replicate {A = ℕ} k 0x20) parts)
+spaces-more into new some left n rest are parts added = grind (arith, append_assoc, replicate-append-replicate)
 
 -- what a call that adds all or nothing has added
 pub on_ok : {X E : Type 0} (r : Result X E) (new all none whole : List ℕ) → new ≡ (if is_ok r then all else none) → all ≡ whole → OnOk r (new ≡ whole)
@@ -107,8 +104,7 @@ cut-ascii c bs (Some x) ascii h =
 
 pub cut_from_split : (o : Bool) (sign : ℕ) (bs : List ℕ) (r : Option (Bor (List ℕ) × Bor (List ℕ))) → sign ≡ span_end o → IsSplitOnceResult sign bs r
     → option_map (λ parts. (parts.0.now, parts.1.now)) r ≡ cut_at (span_end o) bs
-cut_from_split o sign bs r is h =
-    cut-ascii (span_end o) bs r (span_end-ascii o) (subst (λ (c : ℕ). IsSplitOnceResult c bs r) is h)
+cut_from_split o sign bs r is h = grind (arith, cut-ascii, span_end-ascii, IsSplitOnceResult)
 
 record CutText (c : ℕ) (before behind : List ℕ) : Type 0 where
   utf8_before : IsUtf8 before
@@ -124,8 +120,7 @@ cut_text c before behind ascii utf8 =
     let front : IsUtf8 before = subst (λ (l : List ℕ). IsUtf8 l) (take_at before (c ∷ behind) n refl) (IsUtf8-take bs n utf8 (IsCharBoundary-before_ascii bs n lt (omega (arith, is)))) in
     let rest : drop (n + 1) bs ≡ behind = ap (drop (n + 1)) (sym (append_assoc before (c ∷ []) behind)) ∙ drop_at (before ++ c ∷ []) behind (n + 1) (length_push before c) in
     let small : IsAscii (c ∷ []) = IsAscii-cons c [] ascii IsAscii-nil in
-    let later : chars (c ∷ behind) ≡ c ∷ chars behind =
-    chars-append (c ∷ []) behind (IsUtf8-from_ascii (c ∷ []) small) ∙ ap (λ (l : List ℕ). l ++ chars behind) (chars-IsAscii (c ∷ []) small) in
+    let later : chars (c ∷ behind) ≡ c ∷ chars behind = grind (arith, chars-append (c ∷ []) behind (IsUtf8-from_ascii (c ∷ []) small), chars-IsAscii (c ∷ []) small) in
     record {
       utf8_before = front;
       utf8_behind = subst (λ (l : List ℕ). IsUtf8 l) rest (IsUtf8-drop bs (n + 1) utf8 (IsCharBoundary-after_ascii bs n utf8 lt (omega (arith, is))));
@@ -161,22 +156,16 @@ tags_read-step text start old into o rest before behind spanned new h cut writte
     let free : Lacks (span_end o) cs = lacks-text (span_end o) ascii before parts.utf8_before cut.free in
     let split : chars rest ≡ cs ++ span_end o ∷ ds = ap chars cut.joined ∙ parts.characters in
     let stays : is_open_behind o cs ≡ o = is_open-span o cs free in
-    let shown : blanked o (chars rest) ≡ shown_span o cs ++ 0x20 ∷ blanked (not o) ds =
-    ap (blanked o) split ∙ blanked-append o cs (span_end o ∷ ds)
-    ∙ ap₂ (λ (l : List ℕ) (b : Bool). l ++ blanked b (span_end o ∷ ds)) (blanked-span o cs free) stays
-    ∙ ap (λ (l : List ℕ). shown_span o cs ++ l) (blanked-end o ds) in
+    let shown : blanked o (chars rest) ≡ shown_span o cs ++ 0x20 ∷ blanked (not o) ds = grind (arith, split, blanked-append, blanked-span o cs free, stays, blanked-end) in
     let span : List ℕ = encode_utf8_all (shown_span o cs) in
     let space : List ℕ = encode_utf8 0x20 in
     let later : List ℕ = encode_utf8_all (blanked (not o) ds) in
-    let encoded : encode_utf8_all (blanked o (chars rest)) ≡ span ++ (space ++ later) =
-    ap encode_utf8_all shown ∙ encodes-append (shown_span o cs) (0x20 ∷ blanked (not o) ds) in
+    let encoded : encode_utf8_all (blanked o (chars rest)) ≡ span ++ (space ++ later) = ap encode_utf8_all shown ∙ encodes-append (shown_span o cs) (0x20 ∷ blanked (not o) ds) in
     let added : new ≡ (into ++ span) ++ space = ended ∙ ap (λ (l : List ℕ). l ++ space) written in
-    let turns : is_open_behind o (chars rest) ≡ is_open_behind (not o) ds =
-    ap (is_open_behind o) split ∙ is_open_behind-append o cs (span_end o ∷ ds) ∙ ap (λ (b : Bool). is_open_behind b (span_end o ∷ ds)) stays ∙ is_open-end o ds in
+    let turns : is_open_behind o (chars rest) ≡ is_open_behind (not o) ds = grind (arith, split, is_open_behind-append, stays, is_open-end) in
     record {
       utf8 = parts.utf8_behind;
-      sofar = ap (λ (l : List ℕ). l ++ later) added ∙ append_assoc (into ++ span) space later ∙ append_assoc into span (space ++ later)
-          ∙ sym (ap (λ (l : List ℕ). into ++ l) encoded) ∙ h.sofar;
+      sofar = grind (arith, added, append_assoc, encoded, h.sofar);
       behind = sym turns ∙ h.behind;
       size = omega (
         arith,

@@ -8,7 +8,7 @@ use Rattle.mime_text.specs.Sinks.{Pair, Coming, TakesAll, Breaks}
 use Rattle.mime_text.specs.Texts.{texts_of_message}
 use Rattle.mime_text.specs.Feeding.{Comes, KnowsFacts}
 
--- an earlier call has failed
+-- an earlier call has failed, or the message has ended
 abbrev pub has_failed : MessageText → Bool
 has_failed m = m.failed
 

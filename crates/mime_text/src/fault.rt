@@ -33,7 +33,7 @@ pub enum TextFault {
     /// The sink refused a text.
     #[error("text refused: {0}")]
     Sink(SinkFault),
-    /// An earlier call has failed.
+    /// An earlier call has failed, or the message has ended.
     #[error("failed before")]
     Failed,
 }

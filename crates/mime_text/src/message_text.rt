@@ -12,6 +12,7 @@ use crate::header::facts::Facts;
 use crate::parts::part_reader::PartReader;
 use crate::sink::TextSink;
 use std::alloc::{AllocError, Global};
+use std::mem::replace;
 
 /// Reads a message one line at a time, and gives its texts to a sink as they come: of each header that counts the texts of its
 /// To, Cc, Bcc, From and Subject fields in order; of each part of any type, the message too, the name of the file in which it is
@@ -20,6 +21,7 @@ use std::alloc::{AllocError, Global};
 #[derive(Drop)]
 pub struct MessageText {
     reader: PartReader,
+    // No more may come: an earlier call has failed, or the message has ended.
     failed: bool,
 }
 
@@ -35,15 +37,19 @@ impl MessageText {
     }
 
     /// Reads the next line of the message's text, with its LF where it has one: 1 to 65,537 bytes, LF at most the last. After a
-    /// fault every call answers Failed.
+    /// fault, and after `finish`, every call but `begin_again` answers Failed.
     pub fn line<S: TextSink>(&mut self, line: &[u8], sink: &mut S) -> Result<(), TextFault>
         requires some { 0 < length line.now }
         requires short { length line.now ≤ most_in_line }
         requires last { length line.now ≤ length_before_feed line.now + 1 }
-        ensures fed { OnOk result (Feeds S.takes S.refuses self.old self.new line.now sink.old sink.new) }
-        ensures stopped { has_failed self.old ≡ false → IfErr result (λ fault. FeedsPart S.takes S.refuses self.old line.now fault sink.old sink.new) }
+        ensures fed { OnOk result
+            (Feeds S.takes S.refuses self.old self.new line.now sink.old sink.new) }
+        ensures stopped { has_failed self.old ≡ false
+            → IfErr result
+            (λ fault. FeedsPart S.takes S.refuses self.old line.now fault sink.old sink.new) }
         ensures fails { OnErr result (has_failed self.new ≡ true) }
-        ensures again { has_failed self.old ≡ true → (result ≡ Err TextFault.Failed) × (sink.new ≡ sink.old) }
+        ensures again { has_failed self.old ≡ true
+            → (result ≡ Err TextFault.Failed) × (sink.new ≡ sink.old) }
     {
         if self.failed {
             return Err(TextFault::Failed);
@@ -57,17 +63,46 @@ impl MessageText {
         }
     }
 
-    /// Ends the message, gives the texts that are left, and answers what its own header says beside its texts.
-    pub fn end<S: TextSink>(self, sink: &mut S) -> Result<Facts, TextFault>
-        ensures texts { OnOk result (Finishes S.takes S.refuses self sink.old sink.new) }
-        ensures facts { IfOk result (λ facts. (ls : List (List ℕ)) (ps : List Pair) → Fed self ls ps → facts ≡ facts_of (fields_of ls)) }
+    /// Ends the message, gives the texts that are left, and answers what its own header says beside its texts. From then on every
+    /// call answers Failed, until `begin_again`.
+    pub fn finish<S: TextSink>(&mut self, sink: &mut S) -> Result<Facts, TextFault>
+        ensures texts { OnOk result (Finishes S.takes S.refuses self.old sink.old sink.new) }
+        ensures facts { IfOk result (λ facts. (ls : List (List ℕ)) (ps : List Pair)
+            → Fed self.old ls ps → facts ≡ facts_of (fields_of ls)) }
         ensures sizes { IfOk result HasSizedIds }
-        ensures stopped { has_failed self ≡ false → IfErr result (λ fault. FinishesPart S.takes S.refuses self fault sink.old sink.new) }
-        ensures again { has_failed self ≡ true → (result ≡ Err TextFault.Failed) × (sink.new ≡ sink.old) }
+        ensures stopped { has_failed self.old ≡ false
+            → IfErr result
+            (λ fault. FinishesPart S.takes S.refuses self.old fault sink.old sink.new) }
+        ensures again { has_failed self.old ≡ true
+            → (result ≡ Err TextFault.Failed) × (sink.new ≡ sink.old) }
+        ensures over { has_failed self.new ≡ true }
     {
-        if self.failed {
+        if replace(&mut self.failed, true) {
             return Err(TextFault::Failed);
         }
         self.reader.end(sink)
+    }
+
+    /// Goes to before the first line of another message, and keeps the memory. Whatever was read before, and whether a call failed
+    /// or not, it then tells what a new reader would.
+    pub fn begin_again(&mut self)
+        ensures { Fed self.new [] [] }
+    {
+        self.reader.begin_again();
+        self.failed = false;
+    }
+
+    /// Ends the last message that is read, as `finish` does.
+    pub fn end<S: TextSink>(mut self, sink: &mut S) -> Result<Facts, TextFault>
+        ensures texts { OnOk result (Finishes S.takes S.refuses self sink.old sink.new) }
+        ensures facts { IfOk result (λ facts. (ls : List (List ℕ)) (ps : List Pair)
+            → Fed self ls ps → facts ≡ facts_of (fields_of ls)) }
+        ensures sizes { IfOk result HasSizedIds }
+        ensures stopped { has_failed self ≡ false
+            → IfErr result (λ fault. FinishesPart S.takes S.refuses self fault sink.old sink.new) }
+        ensures again { has_failed self ≡ true
+            → (result ≡ Err TextFault.Failed) × (sink.new ≡ sink.old) }
+    {
+        self.finish(sink)
     }
 }

@@ -477,3 +477,78 @@ fn is_read_or_wanting(alloc: Global) -> Option<bool> {
 fn sweep_message_text(rt: HostRuntime) {
     assert!(rt; is_read_or_wanting(rt.alloc()) != Some(false));
 }
+
+/// Archives of one message, the texts that it has, and whether it says nothing of itself. The first message ends in a multipart, in
+/// a tag and in a group of base64; the second has a line that would delimit the first; the third ends in its header.
+const SEVERAL: [(&str, &[(TextKind, &str)], bool); 3] = [
+    (
+        "From a@x.org Thu Jan  2 10:00:00 2003\nMessage-ID: <a@x>\nContent-Type: multipart/mixed; boundary=o\n\n--o\nContent-Type: text/html\nContent-Transfer-Encoding: base64\n\nYTxiYw\n",
+        &[(TextKind::Body, "a   ")],
+        false,
+    ),
+    (
+        "From a@x.org Thu Jan  2 10:00:00 2003\n\n--o\nb>c\n",
+        &[(TextKind::Body, "--o\n"), (TextKind::Body, "b>c\n")],
+        true,
+    ),
+    (
+        "From a@x.org Thu Jan  2 10:00:00 2003\nSubject: soup\nStatus: R\nContent-Disposition: attachment; filename=a.pdf\n",
+        &[(TextKind::Subject, "soup"), (TextKind::Name, "a.pdf")],
+        false,
+    ),
+];
+
+/// Whether a reader tells of an archive's one message what it is to tell.
+fn tells(
+    alloc: Global,
+    reader: &mut MessageText,
+    archive: &str,
+    wanted: &[(TextKind, &str)],
+    is_silent: bool,
+) -> Option<bool> {
+    let mut source = MemorySource::new(alloc, archive.as_bytes(), 4096, None).ok()?;
+    let mut sink = Kept::new(alloc, 9);
+    let fed = is_fed(alloc, &mut source, reader, &mut sink)?;
+    let facts = reader.finish(&mut sink).ok()?;
+    Some(fed && has_taken(&sink, wanted) && says_nothing(&facts) == is_silent)
+}
+
+/// Whether a reader that has read other messages tells the same as a new one.
+fn tells_again(
+    alloc: Global,
+    reader: &mut MessageText,
+    archive: &str,
+    wanted: &[(TextKind, &str)],
+    is_silent: bool,
+) -> Option<bool> {
+    let mut fresh = MessageText::new(alloc).ok()?;
+    reader.begin_again();
+    let is_told = tells(alloc, reader, archive, wanted, is_silent)?;
+    Some(is_told && tells(alloc, &mut fresh, archive, wanted, is_silent)?)
+}
+
+/// A reader whose sink has refused a text.
+fn refused_reader(alloc: Global) -> Option<MessageText> {
+    let mut sink = Kept::new(alloc, 0);
+    let mut reader = MessageText::new(alloc).ok()?;
+    let fed = goes_on(reader.line(b"Subject: a\n", &mut sink), true);
+    let is_refused = !goes_on(reader.line(b"\n", &mut sink), fed);
+    is_refused.then_some(reader)
+}
+
+/// Whether one reader, which has failed before, reads several messages.
+fn reads_many(alloc: Global) -> Option<bool> {
+    let mut reader = refused_reader(alloc)?;
+    let mut as_wanted = true;
+    for (archive, wanted, is_silent) in SEVERAL {
+        let told = tells_again(alloc, &mut reader, archive, wanted, is_silent);
+        as_wanted = told == Some(true) && as_wanted;
+    }
+    Some(as_wanted)
+}
+
+/// Nothing of one message is left where the next begins.
+#[test]
+fn one_reader_reads_many_messages(rt: HostRuntime) {
+    assert!(rt; reads_many(rt.alloc()) == Some(true));
+}

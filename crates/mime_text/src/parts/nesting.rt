@@ -75,6 +75,14 @@ impl Nesting {
         }
     }
 
+    /// Goes back to the message itself, and keeps the memory.
+    pub(crate) fn clear(&mut self)
+        ensures { self.new ≡ record { frames = []; left = 16 } }
+    {
+        self.frames.clear();
+        self.left = MOST_DEPTH;
+    }
+
     /// Goes to where a line leads that delimits an open multipart, the outermost first.
     pub(crate) fn delimit(&mut self, line: &[u8]) -> Lead
         ensures leads { lead_to {A = Pair} result self.new ≡ hit self.old.frames line.now }

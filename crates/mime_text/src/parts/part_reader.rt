@@ -58,7 +58,8 @@ fn end_entity<S: TextSink>(
     sink: &mut S,
 ) -> Result<(), TextFault>
     requires { fields_size fields ≤ most_in_header }
-    ensures { Hands S.takes S.refuses (λ _. ending state fields.entry leaf.old) (λ _. []) result sink.old sink.new }
+    ensures { Hands S.takes S.refuses (λ _. ending state fields.entry leaf.old) (λ _. []) result
+        sink.old sink.new }
 {
     match state {
         State::Skipping => Ok(()),
@@ -104,8 +105,10 @@ impl PartReader {
     pub(crate) fn line<S: TextSink>(&mut self, line: &[u8], sink: &mut S) -> Result<(), TextFault>
         requires short { length line.now ≤ most_in_line }
         requires last { length line.now ≤ length_before_feed line.now + 1 }
-        ensures pairs { Passes S.takes S.refuses (Comes self.old) (Comes self.new) (λ c ms. c (line.now ∷ ms)) result sink.old sink.new }
-        ensures facts { OnOk result ((ls : List (List ℕ)) → KnowsFacts self.old ls → KnowsFacts self.new (ls ++ line.now ∷ [])) }
+        ensures pairs { Passes S.takes S.refuses (Comes self.old) (Comes self.new)
+            (λ c ms. c (line.now ∷ ms)) result sink.old sink.new }
+        ensures facts { OnOk result ((ls : List (List ℕ)) → KnowsFacts self.old ls
+            → KnowsFacts self.new (ls ++ line.now ∷ [])) }
     {
         match self.nesting.delimit(line) {
             Lead::Nowhere => self.inner_line(line, sink),
@@ -115,7 +118,8 @@ impl PartReader {
 
     /// Ends the entity, and goes on where a delimiter leads.
     fn leave<S: TextSink>(&mut self, lead: Lead, sink: &mut S) -> Result<(), TextFault>
-        ensures pairs { Passes S.takes S.refuses (ComesEnding self.old lead) (Comes self.new) (λ c. c) result sink.old sink.new }
+        ensures pairs { Passes S.takes S.refuses (ComesEnding self.old lead) (Comes self.new)
+            (λ c. c) result sink.old sink.new }
         ensures facts { self.new.facts ≡ self.old.facts }
     {
         if let Err(fault) = end_entity(
@@ -153,8 +157,10 @@ impl PartReader {
         requires inner { hit {A = Pair} self.old.nesting.frames line.now ≡ None }
         requires short { length line.now ≤ most_in_line }
         requires last { length line.now ≤ length_before_feed line.now + 1 }
-        ensures pairs { Passes S.takes S.refuses (Comes self.old) (Comes self.new) (λ c ms. c (line.now ∷ ms)) result sink.old sink.new }
-        ensures facts { OnOk result ((ls : List (List ℕ)) → KnowsFacts self.old ls → KnowsFacts self.new (ls ++ line.now ∷ [])) }
+        ensures pairs { Passes S.takes S.refuses (Comes self.old) (Comes self.new)
+            (λ c ms. c (line.now ∷ ms)) result sink.old sink.new }
+        ensures facts { OnOk result ((ls : List (List ℕ)) → KnowsFacts self.old ls
+            → KnowsFacts self.new (ls ++ line.now ∷ [])) }
     {
         match self.state {
             State::Skipping => Ok(()),
@@ -174,7 +180,8 @@ impl PartReader {
         default: DefaultType,
         sink: &mut S,
     ) -> Result<(), TextFault>
-        ensures pairs { Passes S.takes S.refuses (ComesBehindHeader self.old counted default) (Comes self.new) (λ c. c) result sink.old sink.new }
+        ensures pairs { Passes S.takes S.refuses (ComesBehindHeader self.old counted default)
+            (Comes self.new) (λ c. c) result sink.old sink.new }
         ensures facts { OnOk result (Notes self.old.facts self.new.facts self.old.header) }
     {
         if let Err(fault) = give_header(counted, self.header.fields(), &mut self.fields, sink) {
@@ -203,7 +210,9 @@ impl PartReader {
 
     /// Begins the body of the entity whose header has ended.
     fn begin_body(&mut self, default: DefaultType) -> Result<(), AllocError>
-        ensures comes { OnOk result ((ls : List (List ℕ)) → HasLines self.old.header ls → Comes self.new (given_behind (shape_of default (fields_of ls)) self.old.nesting (fields_of ls))) }
+        ensures comes { OnOk result ((ls : List (List ℕ)) → HasLines self.old.header ls
+            → Comes self.new
+            (given_behind (shape_of default (fields_of ls)) self.old.nesting (fields_of ls))) }
         ensures facts { self.new.facts ≡ self.old.facts }
     {
         let entity = EntityType::of(self.alloc, default, &self.header)?;
@@ -226,7 +235,8 @@ impl PartReader {
     /// Begins a message in the entity, if a depth is left for it.
     fn begin_message(&mut self)
         requires { self.old.state ≡ State.Skipping }
-        ensures comes { (fields : List HeaderField) → Comes self.new (given_behind Shape.Message self.old.nesting fields) }
+        ensures comes { (fields : List HeaderField)
+            → Comes self.new (given_behind Shape.Message self.old.nesting fields) }
         ensures facts { self.new.facts ≡ self.old.facts }
     {
         if self.nesting.descend() {
@@ -239,9 +249,11 @@ impl PartReader {
     }
 
     /// Ends the message: gives what it still gives, and answers what its own header says.
-    pub(crate) fn end<S: TextSink>(mut self, sink: &mut S) -> Result<Facts, TextFault>
-        ensures pairs { Passes S.takes S.refuses (Comes self) IsOver (λ c _. c []) result sink.old sink.new }
-        ensures facts { IfOk result (λ facts. (ls : List (List ℕ)) → KnowsFacts self ls → facts ≡ facts_of (fields_of ls)) }
+    pub(crate) fn end<S: TextSink>(&mut self, sink: &mut S) -> Result<Facts, TextFault>
+        ensures pairs { Passes S.takes S.refuses (Comes self.old) IsOver (λ c _. c []) result
+            sink.old sink.new }
+        ensures facts { IfOk result (λ facts. (ls : List (List ℕ)) → KnowsFacts self.old ls
+            → facts ≡ facts_of (fields_of ls)) }
         ensures sizes { IfOk result HasSizedIds }
     {
         if let Err(fault) = end_entity(
@@ -253,15 +265,23 @@ impl PartReader {
         ) {
             return Err(fault);
         }
-        let PartReader {
-            alloc,
-            header,
-            facts,
-            ..
-        } = self;
-        match facts_behind(alloc, &header, facts) {
+        match facts_behind(self.alloc, &self.header, self.facts.take()) {
             Ok(facts) => Ok(facts),
             Err(_) => Err(TextFault::OutOfMemory),
         }
+    }
+
+    /// Before the first line of another message. Nothing of the message before it counts, and the memory is kept.
+    pub(crate) fn begin_again(&mut self)
+        ensures comes { Comes self.new texts_of_message }
+        ensures facts { KnowsFacts self.new [] }
+    {
+        self.state = State::InHeader {
+            counted: true,
+            default: DefaultType::TextPlain,
+        };
+        self.nesting.clear();
+        self.header.clear();
+        self.facts = None;
     }
 }

@@ -22,8 +22,7 @@ pub give-requires : goal.give-requires
 give-requires g c = omega (arith, line_end-short c.loop-len.rest.now c.in-Some.len c.in-Some.ensures, c.split_at.ensures.front_len)
 
 pub loop-len-smaller : goal.loop-len-smaller
-loop-len-smaller g c =
-    omega (arith, line_end-positive c.loop-len.rest.now c.in-Some.len c.in-Some.ensures, line_end-within c.loop-len.rest.now c.in-Some.len c.in-Some.ensures, c.split_at.ensures.back_len)
+loop-len-smaller g c = grind (arith, line_end-positive, line_end-within)
 
 pub loop-len-preserved : goal.loop-len-preserved
 loop-len-preserved g c =

@@ -1,4 +1,4 @@
-use Rattle.std.proofs.Common.{◌≡◌, ◌∙◌, ◌+◌, ◌<◌, ℕ, List, Option, Some, None, length, sym, ap, arith, Bor}
+use Rattle.std.proofs.Common.{◌≡◌, ◌∙◌, ◌<◌, ℕ, List, Option, Some, length, sym, ap, arith, Bor}
 use Rattle.std.specs.Prelude.{slice_get, option_map}
 use Rattle.std.proofs.lemmas.List.{length-take}
 use Rattle.mime_text.specs.Frames.{Nest, dashes}
@@ -12,14 +12,10 @@ pub returns-in_default-clause-leads : goal.returns-in_default-clause-leads
 returns-in_default-clause-leads c = sym (no_dashes c.args.line.now c.args.self.now.frames (sym c.after_dashes.ensures ∙ ap bytes_of c.in_default.is))
 
 pub returns-in-None-clause-leads : goal.returns-in-None-clause-leads
-returns-in-None-clause-leads c =
-    let e : dashes c.args.line.now ≡ Some c.in-Some.text.now = sym c.after_dashes.ensures ∙ ap bytes_of c.in-Some.is in
-    sym (scanned c.args.line.now c.in-Some.text.now c.args.self.now.frames c.self.inside.frames.items c.deref.result.now None
-    (ap (λ (n : Nest). n.frames) (sym c.self.view_is)) c.deref.ensures.value e c.in-None.ensures.none)
+returns-in-None-clause-leads c = grind (arith, scanned)
 
 pub invariant_of-self : goal.invariant_of-self
-invariant_of-self c =
-    rw c.truncate.ensures.items (omega (arith, c.self.invariant.0, ap length c.truncate.ensures.items), AreNested-take 0 c.self.inside.frames.items c.in-Some-default-Closing.at c.self.invariant.1)
+invariant_of-self c = grind (arith, AreNested-take)
 
 pub returns-in-Some-default-Closing-clause-leads : goal.returns-in-Some-default-Closing-clause-leads
 returns-in-Some-default-Closing-clause-leads c =
@@ -29,17 +25,10 @@ returns-in-Some-default-Closing-clause-leads c =
     c.in-Some-default-Closing.field-0-1-is c.in-Some-default-Closing.ensures.some c.truncate.ensures.items
 
 pub overflow_add-at : goal.overflow_add-at
-overflow_add-at c =
-    let h : c.in-Some-default-Next.at < length c.deref.result.now = c.in-Some-default-Next.ensures.within in
-    omega (arith, h, ap length c.deref.ensures.value, c.self.invariant.0)
+overflow_add-at c = grind arith
 
 pub invariant_of-self-in-Some-default-Next : goal.invariant_of-self-in-Some-default-Next
-invariant_of-self-in-Some-default-Next c =
-    let got : slice_get c.self.inside.frames.items c.in-Some-default-Next.at ≡ Some c.index-frame.result.now =
-    (let h : c.in-Some-default-Next.at < length c.deref.result.now = c.in-Some-default-Next.ensures.within in
-    got-at c.self.inside.frames.items c.in-Some-default-Next.at c.index-frame.result.now (omega (arith, h, ap length c.deref.ensures.value)) c.index-frame.ensures) in
-    let deep = AreNested-at 0 c.self.inside.frames.items c.in-Some-default-Next.at c.index-frame.result.now c.self.invariant.1 got in
-    rw c.truncate-in-Some-default-Next.ensures.items (omega (arith, deep, length-take (c.in-Some-default-Next.at + 1) c.self.inside.frames.items), AreNested-take 0 c.self.inside.frames.items (c.in-Some-default-Next.at + 1) c.self.invariant.1)
+invariant_of-self-in-Some-default-Next c = grind (arith, length-take, AreNested-take, AreNested-at, got-at)
 
 pub returns-in-Some-default-Next-clause-leads : goal.returns-in-Some-default-Next-clause-leads
 returns-in-Some-default-Next-clause-leads c =

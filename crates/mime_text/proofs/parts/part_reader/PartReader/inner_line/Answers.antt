@@ -1,4 +1,4 @@
-use Rattle.std.proofs.Common.{◌≡◌, ◌∙◌, ◌++◌, ◌∷◌, ℕ, List, [], refl, sym}
+use Rattle.std.proofs.Common.{◌≡◌, ◌∙◌, ◌++◌, ◌∷◌, ℕ, List, [], refl, sym, arith}
 use Rattle.header_text.specs.HeldLines.{HasLines, taken_of}
 use Rattle.header_text.specs.declared.header.Taken.TheVariants.{More, Ended}
 use Rattle.mime_text.specs.declared.parts.part_reader.PartReader.{PartReader}
@@ -26,6 +26,4 @@ returns-in-Ok-Ended-clause-pairs g c =
     c.end_header.ensures.pairs
 
 pub returns-in-Ok-Ended-clause-facts : goal.returns-in-Ok-Ended-clause-facts
-returns-in-Ok-Ended-clause-facts g c =
-    let taken : (ls : List (List ℕ)) → HasLines c.args.self.now.header ls → Ended ≡ taken_of (ls ++ c.args.line.now ∷ []) = λ ls h. sym c.in-Ok-Ended.field-0-is ∙ c.in-Ok-Ended.ensures.taken ls h in
-    on_ok-map c.end_header.result (λ notes. facts-ended c.args.self.now c.end_header.new.self c.push_line.new.self c.args.line.now c.in-Ok-Ended.ensures.lines taken notes) c.end_header.ensures.facts
+returns-in-Ok-Ended-clause-facts g c = grind (arith, on_ok-map, facts-ended)

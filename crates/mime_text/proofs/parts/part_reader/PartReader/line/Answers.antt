@@ -1,7 +1,7 @@
-use Rattle.std.proofs.Common.{◌≡◌, ◌∷◌, sym, subst}
+use Rattle.std.proofs.Common.{◌≡◌, ◌∷◌, sym, subst, arith}
 use Rattle.mime_text.specs.declared.parts.part_reader.PartReader.{PartReader}
 use Rattle.mime_text.specs.Frames.{Nest}
-use Rattle.mime_text.specs.Feeding.{Comes, ComesEnding}
+use Rattle.mime_text.specs.Feeding.{Comes}
 use Rattle.mime_text.proofs.PassingLemmas.{on_ok-pure, passes-from, passes-before, delimited, facts-delimited}
 use Rattle.mime_text.proofs.parts.part_reader.PartReader.line.Goals as goal
 
@@ -13,11 +13,4 @@ returns-in-Nowhere-clause-pairs g c =
     (λ k h. let P : Nest → Type 0 = λ x. Comes (record c.args.self.now { nesting = x }) k in subst P (sym same) h) c.inner_line.ensures.pairs
 
 pub returns-in_default : goal.returns-in_default
-returns-in_default g c =
-    let n : PartReader = record c.args.self.now { nesting = c.delimit.new.self } in
-    record {
-      pairs = passes-from g.S.TextSink.takes g.S.TextSink.refuses (Comes c.args.self.now) (ComesEnding n c.delimit.result) (Comes c.leave.new.self) (λ k ms. k (c.args.line.now ∷ ms)) c.leave.result _ _
-          (delimited c.args.self.now c.delimit.new.self c.delimit.result c.args.line.now c.delimit.ensures.leads c.in_default.not-Nowhere) c.leave.ensures.pairs;
-      facts = on_ok-pure c.leave.result
-          (facts-delimited c.args.self.now c.leave.new.self c.delimit.new.self c.delimit.result c.args.line.now c.delimit.ensures.leads c.in_default.not-Nowhere c.leave.ensures.facts);
-    }
+returns-in_default g c = grind (arith, on_ok-pure, passes-from, delimited, facts-delimited)

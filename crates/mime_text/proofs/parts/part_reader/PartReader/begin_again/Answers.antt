@@ -1,0 +1,5 @@
+use Rattle.mime_text.proofs.PassingLemmas.{comes-first}
+use Rattle.mime_text.proofs.parts.part_reader.PartReader.begin_again.Goals as goal
+
+pub returns-clause-comes : goal.returns-clause-comes
+returns-clause-comes c = comes-first c.clear.new.self c.clear-2.new.self c.clear.ensures c.clear-2.ensures
