@@ -1,9 +1,16 @@
 -- Laws of the pieces of a text.
-use Rattle.std.proofs.Common.{◌≡◌, ◌≢◌, ℕ, suc, ◌<◌, true, false, eqb, List, [], ◌∷◌, ◌++◌, length, get_or, Option, Some, None, option_map, MatchOption, refl, sym, ap, ◌∙◌, arith}
+use Rattle.std.proofs.Common.{◌≡◌, ◌≢◌, ℕ, suc, ◌-◌, ◌<◌, Bool, true, false, eqb, List, [], ◌∷◌, ◌++◌, length, length-append, take, get_or, Option, Some, None, option_map, MatchOption, refl, sym, ap, ◌∙◌, arith}
 use Rattle.std.specs.Option.{option_copied}
+use Rattle.std.proofs.Math.Seq.{take-append_seam}
+use Rattle.std.specs.List.{list_any}
+use Rattle.std.proofs.lemmas.Bool.{or_parts, or_from}
 use Rattle.std.proofs.lemmas.Bool.Decides.{nat_tests}
-use Rattle.mail_query.specs.Pieces.{cut, without_first, without_last}
+use Rattle.mail_query.specs.Pieces.{is_byte, cut, without_first, without_last}
 use denote.Ref.{Bor}
+
+pub none_unless : {A : Type 0} (o : Option A) → ((x : A) → o ≡ Some x → ⊥) → o ≡ None
+none_unless None h = refl
+none_unless (Some x) h = absurd (h x refl)
 
 pub same_byte : (b : ℕ) → eqb b b ≡ true
 same_byte b = grind (arith, nat_tests)
@@ -34,30 +41,42 @@ without_last-other c (b ∷ d ∷ bs) h =
     ap (option_map (λ (front : List ℕ). b ∷ front)) (without_last-other c (d ∷ bs) (λ front e. h (b ∷ front) (ap (λ (t : List ℕ). b ∷ t) e)))
 
 -- the byte stands nowhere
-pub Lacks : ℕ → List ℕ → Type 0
-Lacks c bs = (i : ℕ) → i < length bs → get_or bs i 0 ≢ c
+abbrev pub Free : ℕ → List ℕ → Type 0
+Free c text = list_any (is_byte c) text ≡ false
 
-lacks_first : (c b : ℕ) (bs : List ℕ) → Lacks c (b ∷ bs) → b ≢ c
-unfolding Lacks
-lacks_first c b bs h = h 0 (omega arith)
+-- no byte passes where none at a place does
+pub none_passes : (p : ℕ → Bool) (text : List ℕ) → ((i : ℕ) → i < length text → p (get_or text i 0) ≡ false) → list_any p text ≡ false
+none_passes p [] h = refl
+none_passes p (b ∷ bs) h = or_from (p b) (list_any p bs) (h 0 (omega arith)) (none_passes p bs (λ i below. h (suc i) (omega (arith, below))))
 
-lacks_rest : (c b : ℕ) (bs : List ℕ) → Lacks c (b ∷ bs) → Lacks c bs
-unfolding Lacks
-lacks_rest c b bs h i below = h (suc i) (omega (arith, below))
+free_at : (c : ℕ) (text : List ℕ) → ((i : ℕ) → i < length text → get_or text i 0 ≢ c) → Free c text
+free_at c text h = none_passes (is_byte c) text (λ i below. other_byte (get_or text i 0) c (h i below))
 
-pub cut-lacking : (c : ℕ) (bs : List ℕ) → ((i : ℕ) → i < length bs → get_or bs i 0 ≢ c) → cut c bs ≡ None
-unfolding Lacks
-cut-lacking c [] h = refl
-cut-lacking c (b ∷ bs) h =
-    rw (other_byte b c (lacks_first c b bs h))
-    (ap (option_map (λ (p : List ℕ × List ℕ). (b ∷ p.0, p.1))) (cut-lacking c bs (lacks_rest c b bs h)))
+onto_front : ℕ → Option (List ℕ × List ℕ) → Option (List ℕ × List ℕ)
+onto_front b o = option_map (λ (p : List ℕ × List ℕ). (b ∷ p.0, p.1)) o
 
-pub cut-at : (c : ℕ) (front rest : List ℕ) → ((i : ℕ) → i < length front → get_or front i 0 ≢ c) → cut c (front ++ c ∷ rest) ≡ Some (front, rest)
-unfolding Lacks
-cut-at c [] rest h = rw same_byte refl
-cut-at c (b ∷ front) rest h =
-    rw (other_byte b c (lacks_first c b front h))
-    (ap (option_map (λ (p : List ℕ × List ℕ). (b ∷ p.0, p.1))) (cut-at c front rest (lacks_rest c b front h)))
+pub cut_none : (c : ℕ) (text : List ℕ) → Free c text → cut c text ≡ None
+unfolding onto_front
+cut_none c [] h = refl
+cut_none c (b ∷ bs) h = let parts = or_parts (eqb b c) (list_any (is_byte c) bs) h in rw parts.0 (ap (onto_front b) (cut_none c bs parts.1))
+
+pub cut_at : (c : ℕ) (text rest : List ℕ) → Free c text → cut c (text ++ c ∷ rest) ≡ Some (text, rest)
+unfolding onto_front
+cut_at c [] rest h = rw same_byte refl
+cut_at c (b ∷ bs) rest h = let parts = or_parts (eqb b c) (list_any (is_byte c) bs) h in rw parts.0 (ap (onto_front b) (cut_at c bs rest parts.1))
+
+-- ---- the last element
+
+-- a list that isn't empty has a last element
+pub last_of : {A : Type 0} (xs : List A) → 0 < length xs → (front : List A) × (x : A) × (xs ≡ front ++ x ∷ [])
+last_of [] h = absurd (omega (arith, h))
+last_of (x ∷ []) h = ([], x, refl)
+last_of {A} (x ∷ y ∷ xs) h = let l = last_of (y ∷ xs) (omega arith) in (x ∷ l.0, l.1, ap (λ (ys : List A). x ∷ ys) l.2)
+
+pub before_last : {A : Type 0} (front : List A) (x : A) → take (length (front ++ x ∷ []) - 1) (front ++ x ∷ []) ≡ front
+before_last {A} front x =
+    let place : length (front ++ x ∷ []) - 1 ≡ length front = omega (arith, length-append front (x ∷ [])) in
+    ap (λ n. take n (front ++ x ∷ [])) place ∙ take-append_seam front (x ∷ [])
 
 -- ---- the same of what a call answers
 
@@ -72,5 +91,5 @@ last_answer c bs (Some x) h = sym (ap (without_last c) h ∙ without_last-same c
 pub cut_answer : (c : ℕ) (bs : List ℕ) (r : Option (Bor (List ℕ) × Bor (List ℕ)))
     → MatchOption r ((i : ℕ) → i < length bs → get_or bs i 0 ≢ c) (λ x. (bs ≡ x.0.now ++ c ∷ x.1.now) × ((i : ℕ) → i < length x.0.now → get_or x.0.now i 0 ≢ c))
     → option_map {T = Bor (List ℕ) × Bor (List ℕ)} {U = List ℕ × List ℕ} (λ p. (p.0.now, p.1.now)) r ≡ cut c bs
-cut_answer c bs None h = sym (cut-lacking c bs h)
-cut_answer c bs (Some x) h = sym (ap (cut c) h.0 ∙ cut-at c x.0.now x.1.now h.1)
+cut_answer c bs None h = sym (cut_none c bs (free_at c bs h))
+cut_answer c bs (Some x) h = sym (ap (cut c) h.0 ∙ cut_at c x.0.now x.1.now (free_at c x.0.now h.1))

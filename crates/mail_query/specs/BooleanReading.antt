@@ -67,10 +67,11 @@ placed [] level q = record { waiting = []; level = with_member level q; wanted =
 placed (ForNot ∷ waiting) level q = placed waiting level (Not q)
 placed (ForClose outer ∷ waiting) level q = record { waiting = ForClose outer ∷ waiting; level = with_member level q; wanted = false }
 
-abbrev pub deeper : State → Waiting → Level → Result State QueryFaultKind
-deeper s what level =
-    if nat_le 30 (length s.waiting) then Err TooDeep
-    else Ok (record { waiting = what ∷ s.waiting; level = level; wanted = true })
+-- one more `(` or `not` waits, if fewer than 30 do
+abbrev pub deeper : List Waiting → Waiting → Level → Result State QueryFaultKind
+deeper waiting what level =
+    if nat_le 30 (length waiting) then Err TooDeep
+    else Ok (record { waiting = what ∷ waiting; level = level; wanted = true })
 
 abbrev pub joined : State → Result State QueryFaultKind
 joined s = if s.wanted then Err MissingTerm else Ok (record { waiting = s.waiting; level = run_ended s.level; wanted = true })
@@ -107,8 +108,8 @@ module _ (lexicon : Lexicon) where
 
   abbrev pub step : State → Token → Result State QueryFaultKind
   step s (Term t) = term_step s t
-  step s NotSign = deeper s ForNot s.level
-  step s Open = deeper s (ForClose s.level) empty_level
+  step s NotSign = deeper s.waiting ForNot s.level
+  step s Open = deeper s.waiting (ForClose s.level) empty_level
   step s Close = closed s
   step s AndSign = joined s
   step s OrSign = parted s

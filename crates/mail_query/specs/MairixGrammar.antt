@@ -79,6 +79,10 @@ pub data ArePatterns (lexicon : Lexicon) : List (List ℕ) → List Query → Ty
 pub data IsAsked (lexicon : Lexicon) : List (List ℕ) → Query → Type 0 where
   EachPattern : (patterns : List (List ℕ)) (qs : List Query) → ArePatterns lexicon patterns qs → IsAsked lexicon patterns (all_of qs)
 
+-- they ask nothing: one of them is no pattern, or the list is empty
+abbrev pub AskNothing : Lexicon → List (List ℕ) → Type 0
+AskNothing lexicon patterns = (q : Query) → IsAsked lexicon patterns q → ⊥
+
 -- no word, and no piece of one, has a byte that means something in a pattern
 pub record HasNoSigns (lexicon : Lexicon) : Type 0 where
   pub words : (text : List ℕ) → IsUtf8 text → lexicon.is_word text ≡ true → list_any is_sign text ≡ false

@@ -1,8 +1,8 @@
 //! The boolean language.
-ghost use Rattle.std.specs.Prelude.{◌≡◌, IfOk, IfErr, IfSome};
+ghost use Rattle.std.specs.Prelude.{◌≡◌, Some, IfOk, IfErr};
 ghost use Rattle.contract_words.specs.Answers.{Gives};
 ghost use Rattle.mail_query.specs.Meaning.{meaning};
-ghost use Rattle.mail_query.specs.Refusals.{query_refusal};
+ghost use Rattle.mail_query.specs.Refusals.{query_refusal, IfRefused};
 ghost use Rattle.mail_query.specs.Mail.{boolean_lexicon, boolean_query};
 ghost use Rattle.mail_query.specs.Tokens.{tokens};
 ghost use Rattle.mail_query.specs.BooleanGrammar.{Reads};
@@ -28,7 +28,8 @@ use std::alloc::Global;
 pub fn read_boolean(alloc: Global, text: &str, _now: Moment) -> Result<Query, QueryFault>
     ensures answer { Gives meaning query_refusal result (boolean_query text.now) }
     ensures read { IfOk result (λ q. Reads boolean_lexicon (tokens text.now) (meaning q)) }
-    ensures fault { IfErr result (λ f. IfSome (query_refusal f) (λ g. first_fault boolean_lexicon (tokens text.now) ≡ Some g)) }
+    ensures fault { IfRefused result
+        (λ f. first_fault boolean_lexicon (tokens text.now) ≡ Some f) }
     ensures memory { IfErr result (λ f. f.kind ≡ QueryFaultKind.OutOfMemory → f.number ≡ 0) }
 {
     read_tokens(alloc, text)

@@ -1,7 +1,7 @@
 //! Why a query is refused.
 ghost use Rattle.std.specs.Prelude.{◌≡◌};
 
-use std::alloc::{AllocError, AllocFailed};
+use std::alloc::AllocError;
 use thiserror::Error;
 
 /// What is wrong with a query.
@@ -58,16 +58,6 @@ impl From<AllocError> for QueryFaultKind {
     }
 }
 
-impl<T: Drop> From<AllocFailed<T>> for QueryFaultKind {
-    ghost use Rattle.mail_query.specs.declared.fault.QueryFaultKind.TheVariants.{OutOfMemory};
-
-    ghost from_gives = { λ _ kind. kind ≡ OutOfMemory };
-
-    fn from(_: AllocFailed<T>) -> Self {
-        QueryFaultKind::OutOfMemory
-    }
-}
-
 /// Why a query is refused, and where.
 #[derive(Clone, Copy, Debug, PartialEq, Eq, Error)]
 #[error("query item {number}: {kind}")]
@@ -94,25 +84,5 @@ impl QueryFault {
             QueryFaultKind::OutOfMemory => QueryFault::OUT_OF_MEMORY,
             _ => QueryFault { number, kind },
         }
-    }
-}
-
-impl From<AllocError> for QueryFault {
-    ghost use Rattle.mail_query.specs.Refusals.{out_of_memory};
-
-    ghost from_gives = { λ _ fault. fault ≡ out_of_memory };
-
-    fn from(_: AllocError) -> Self {
-        QueryFault::OUT_OF_MEMORY
-    }
-}
-
-impl<T: Drop> From<AllocFailed<T>> for QueryFault {
-    ghost use Rattle.mail_query.specs.Refusals.{out_of_memory};
-
-    ghost from_gives = { λ _ fault. fault ≡ out_of_memory };
-
-    fn from(_: AllocFailed<T>) -> Self {
-        QueryFault::OUT_OF_MEMORY
     }
 }

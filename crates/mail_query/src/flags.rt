@@ -7,7 +7,7 @@ ghost use Rattle.mail_query.specs.Flags.{flag_of};
 ghost use Rattle.mail_query.specs.Mairix.{flags_query};
 
 use crate::fault::QueryFaultKind;
-use crate::node::{Node, all_of};
+use crate::node::{Node, add, all_of};
 use mail_words::Flag;
 use std::alloc::Global;
 
@@ -27,7 +27,7 @@ pub(crate) fn read_flags(alloc: Global, text: &[u8]) -> Result<Node, QueryFaultK
             let Some(flag) = flag_of(*letter) else {
                 return Err(QueryFaultKind::BadFlag);
             };
-            members.push(Node::Flag { flag, wanted })?;
+            add(&mut members, Node::Flag { flag, wanted })?;
             wanted = true;
         }
     }

@@ -4,7 +4,7 @@ ghost use Rattle.std.specs.Prelude.{◌≡◌};
 use mail_words::TextKind;
 
 /// A set of the seven kinds of text and a message's own id.
-#[derive(Clone, Copy, Debug, PartialEq, Eq)]
+#[derive(Clone, Copy, PartialEq, Eq)]
 pub struct Kinds {
     pub to: bool,
     pub cc: bool,

@@ -1,12 +1,12 @@
 //! Patterns as mairix writes them.
-ghost use Rattle.std.specs.Prelude.{◌≡◌, map, string_bytes, IfOk, IfErr, IfSome};
+ghost use Rattle.std.specs.Prelude.{◌≡◌, map, string_bytes, IfOk, IfErr};
 ghost use Rattle.contract_words.specs.Answers.{Gives};
-ghost use Rattle.mail_query.specs.Query.{query_of};
-ghost use Rattle.mail_query.specs.Query as asked;
+ghost use Rattle.mail_query.specs.Query.{query_of, queries_of};
 ghost use Rattle.mail_query.specs.Meaning.{meaning};
-ghost use Rattle.mail_query.specs.Refusals.{kind_refusal, query_refusal};
+ghost use Rattle.mail_query.specs.Refusals.{kind_refusal, query_refusal, IfRefused};
+ghost use Rattle.mail_query.specs.Inside.Reading.{followed_by};
 ghost use Rattle.mail_query.specs.Mairix.{kinds_of, kinds_of_letter, prefixed_query, pattern_query};
-ghost use Rattle.mail_query.specs.MairixGrammar.{IsAsked};
+ghost use Rattle.mail_query.specs.MairixGrammar.{IsAsked, AskNothing};
 ghost use Rattle.mail_query.specs.MairixFaults.{IsFirstFault};
 ghost use Rattle.mail_query.specs.Mail.{pattern_lexicon, mairix_query};
 
@@ -18,7 +18,7 @@ use crate::flags::read_flags;
 use crate::kinds::Kinds;
 use crate::mairix::forms::Target;
 use crate::mairix::terms::read_rest;
-use crate::node::{Node, all_of};
+use crate::node::{Node, add, all_of};
 use crate::pieces::cut;
 use crate::query::Query;
 use crate::size::sizes_of;
@@ -40,11 +40,14 @@ const PLAIN_KINDS: Kinds = Kinds {
 /// A pattern is a prefix, `:` and a rest, cut at the first `:`, or a rest alone. The first faulty pattern is
 /// reported, and in it the first fault from the left; an error changes nothing.
 pub fn read_mairix(alloc: Global, patterns: &[String], now: Moment) -> Result<Query, QueryFault>
-    ensures answer { Gives meaning query_refusal result (mairix_query (map string_bytes patterns.now) now) }
-    ensures read { IfOk result (λ q. IsAsked (pattern_lexicon now) (map string_bytes patterns.now) (meaning q)) }
-    ensures refused { IfErr result (λ f. IfSome (query_refusal f) (λ _. (q : asked.Query) → ¬ IsAsked (pattern_lexicon now) (map string_bytes patterns.now) q)) }
-    ensures first_fault { IfErr result (λ f. IfSome (query_refusal f)
-        (λ g. IsFirstFault (pattern_lexicon now) (map string_bytes patterns.now) g)) }
+    ensures answer { Gives meaning query_refusal result
+        (mairix_query (map string_bytes patterns.now) now) }
+    ensures read { IfOk result
+        (λ q. IsAsked (pattern_lexicon now) (map string_bytes patterns.now) (meaning q)) }
+    ensures refused { IfRefused result
+        (λ _. AskNothing (pattern_lexicon now) (map string_bytes patterns.now)) }
+    ensures first_fault { IfRefused result
+        (IsFirstFault (pattern_lexicon now) (map string_bytes patterns.now)) }
     ensures memory { IfErr result (λ f. f.kind ≡ QueryFaultKind.OutOfMemory → f.number ≡ 0) }
 {
     read_patterns(alloc, patterns, now)
@@ -52,7 +55,8 @@ pub fn read_mairix(alloc: Global, patterns: &[String], now: Moment) -> Result<Qu
 
 /// What the patterns ask, one after another.
 fn read_patterns(alloc: Global, patterns: &[String], now: Moment) -> Result<Query, QueryFault>
-    ensures answer { Gives meaning query_refusal result (mairix_query (map string_bytes patterns.now) now) }
+    ensures answer { Gives meaning query_refusal result
+        (mairix_query (map string_bytes patterns.now) now) }
     ensures memory { IfErr result (λ f. f.kind ≡ QueryFaultKind.OutOfMemory → f.number ≡ 0) }
 {
     if patterns.is_empty() {
@@ -63,12 +67,28 @@ fn read_patterns(alloc: Global, patterns: &[String], now: Moment) -> Result<Quer
     }
     let mut members = Vec::new(alloc);
     for (i, pattern) in patterns.iter().enumerate() {
-        match read_pattern(alloc, pattern.as_str(), now) {
-            Ok(node) => members.push(node)?,
-            Err(kind) => return Err(QueryFault::at(i + 1, kind)),
+        if let Err(kind) = add_pattern(alloc, &mut members, pattern.as_str(), now) {
+            return Err(QueryFault::at(i + 1, kind));
         }
     }
     Ok(Query::new(all_of(members)))
+}
+
+/// Adds what a pattern asks.
+fn add_pattern(
+    alloc: Global,
+    members: &mut Vec<Node>,
+    pattern: &str,
+    now: Moment,
+) -> Result<(), QueryFaultKind>
+    ensures { Gives (λ _. queries_of members.new.items) kind_refusal result
+        (followed_by (queries_of members.old.items)
+        (pattern_query (pattern_lexicon now) pattern.now)) }
+{
+    match read_pattern(alloc, pattern, now) {
+        Ok(node) => Ok(add(members, node)?),
+        Err(kind) => Err(kind),
+    }
 }
 
 /// What a pattern asks.
@@ -88,7 +108,8 @@ fn read_prefixed(
     rest: &str,
     now: Moment,
 ) -> Result<Node, QueryFaultKind>
-    ensures { Gives query_of kind_refusal result (prefixed_query (pattern_lexicon now) prefix.now rest.now) }
+    ensures { Gives query_of kind_refusal result
+        (prefixed_query (pattern_lexicon now) prefix.now rest.now) }
 {
     match prefix {
         "m" => read_rest(alloc, Target::OwnId, rest),

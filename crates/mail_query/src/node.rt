@@ -1,18 +1,18 @@
-//! The tree of a query.
-//!
-//! Decision 91 in docs/DECISIONS.md says why it is so.
-ghost use Rattle.std.specs.Prelude.{◌≡◌};
+//! The tree of a query. The members of a node are a plain `Vec` (decision 91 in docs/DECISIONS.md).
+ghost use Rattle.std.specs.Prelude.{◌≡◌, ◌++◌, [], ◌∷◌, IfOk, OnOk};
 ghost use Rattle.mail_query.specs.Query.{query_of, queries_of, all_of, either_of};
+ghost use Rattle.mail_query.specs.Query as asked;
 
 use crate::kinds::Kinds;
 use crate::query_text::QueryText;
 use mail_dates::Range;
 use mail_words::Flag;
+use std::alloc::{AllocError, Global};
 
 /// What a query asks of a message.
 ///
 /// Texts of words are folded, those of ids are as written.
-#[derive(Debug, Drop)]
+#[derive(Drop)]
 pub enum Node {
     /// Nothing: every message satisfies it.
     Any,
@@ -34,6 +34,22 @@ pub enum Node {
     All(Vec<Node>),
     /// Some of them is satisfied.
     Either(Vec<Node>),
+}
+
+/// Adds a member.
+pub(crate) fn add(members: &mut Vec<Node>, node: Node) -> Result<(), AllocError>
+    ensures { OnOk result
+        (queries_of members.new.items ≡ queries_of members.old.items ++ query_of node ∷ []) }
+{
+    members.push(node)?;
+    Ok(())
+}
+
+/// The query that is satisfied where this one isn't.
+pub(crate) fn negated(alloc: Global, node: Node) -> Result<Node, AllocError>
+    ensures { IfOk result (λ other. query_of other ≡ asked.Not (query_of node)) }
+{
+    Ok(Node::Not(Box::new(alloc, node)?))
 }
 
 /// Each of the members, where one alone stands for itself.

@@ -5,7 +5,7 @@ ghost use Rattle.mail_query.specs.Query.{query_of, depth, uses_names};
 use crate::node::Node;
 
 /// A query: a tree of at most 64 levels.
-#[derive(Debug, Drop)]
+#[derive(Drop)]
 pub struct Query {
     root: Node,
     ghost bounded: { depth (query_of root) ≤ 64 },

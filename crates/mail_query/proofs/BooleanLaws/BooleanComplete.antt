@@ -1,6 +1,7 @@
 -- What the grammar reads is what the reader answers: the steps over a tree's tokens.
 use Rattle.std.proofs.Common.{◌≡◌, ℕ, suc, ◌+◌, ◌<◌, Bool, true, false, not, cond, ltb, ltb-true, List, [], ◌∷◌, ◌++◌, length, map, Option, None, Some, Result, Ok, Err, refl, sym, ap, ◌∙◌, append_assoc, append-nil, add-one}
 use Rattle.std.specs.Prelude.{◌&&◌, is_ok, option_and_then}
+use Rattle.std.proofs.lemmas.Bool.{not-true}
 use Rattle.contract_words.specs.Answers.{◌>>=◌, fault_as}
 use Rattle.mail_query.specs.declared.boolean.field.Field.{Field}
 use Rattle.mail_query.specs.declared.boolean.field.Fields.{Fields}
@@ -50,6 +51,10 @@ pub with_first-one : (members : List Query) (q : Query) (qss : List (List Query)
 with_first-one members q [] = refl
 with_first-one members q (qs ∷ qss) = ap (λ (first : List Query). first ∷ qss) (append_assoc members (q ∷ []) qs)
 
+with_first-into : (q : Query) (qss : List (List Query)) → with_first [] (into_first q qss) ≡ into_first q qss
+with_first-into q [] = refl
+with_first-into q (qs ∷ qss) = refl
+
 abbrev linked_level : Link → Level → Level
 linked_level Beside level = level
 linked_level ByAnd level = run_ended level
@@ -68,16 +73,8 @@ module _ (lexicon : Lexicon) where
 
   pub with_first-none : (c : Chain) → with_first [] (chain_queries lexicon c) ≡ chain_queries lexicon c
   with_first-none (Last i) = refl
-  with_first-none (Then i Beside c) = go (chain_queries lexicon c)
-    where
-      go : (qss : List (List Query)) → with_first [] (into_first (item_query lexicon i) qss) ≡ into_first (item_query lexicon i) qss
-      go [] = refl
-      go (qs ∷ qss) = refl
-  with_first-none (Then i ByAnd c) = go (chain_queries lexicon c)
-    where
-      go : (qss : List (List Query)) → with_first [] (into_first (item_query lexicon i) qss) ≡ into_first (item_query lexicon i) qss
-      go [] = refl
-      go (qs ∷ qss) = refl
+  with_first-none (Then i Beside c) = with_first-into (item_query lexicon i) (chain_queries lexicon c)
+  with_first-none (Then i ByAnd c) = with_first-into (item_query lexicon i) (chain_queries lexicon c)
   with_first-none (Then i ByOr c) = refl
 
   chain_eaches : (c : Chain) (level : Level) → level_eaches (chain_level c level) ≡ level.eaches ++ map all_of (with_first level.members (chain_queries lexicon c))
@@ -102,11 +99,7 @@ module _ (lexicon : Lexicon) where
 
   no_seen_prefix : (negated : Bool) (seen : Fields) (prefix : Option Field) → not (has_field (cond negated no_fields seen) prefix) ≡ true → (not negated && has_field seen prefix) ≡ false
   no_seen_prefix true seen prefix h = refl
-  no_seen_prefix false seen prefix h = go (has_field seen prefix) h
-    where
-      go : (b : Bool) → not b ≡ true → b ≡ false
-      go true h = absurd cc
-      go false h = refl
+  no_seen_prefix false seen prefix h = not-true (has_field seen prefix) h
 
   cut_term_fine : (s : State) (prefix : Option Field) (rest : List ℕ) → (not (has_field (seen_at s.waiting s.level) prefix) && is_ok (parts_query lexicon prefix rest)) ≡ true
       → cut_term_step lexicon s prefix rest ≡ Ok (placed s.waiting (noted (is_negated s.waiting) prefix s.level) (query_or_any (parts_query lexicon prefix rest)))
@@ -163,14 +156,14 @@ module _ (lexicon : Lexicon) where
         let room : length waiting < 30 = ltb-true (length waiting) 30 (and_left (ltb (length waiting) 30) _ h) in
         let fine : is_fine_item lexicon i (suc (length waiting)) no_fields ≡ true =
         ap (λ n. is_fine_item lexicon i n no_fields) (sym (add-one (length waiting))) ∙ and_right (ltb (length waiting) 30) _ h in
-        then_steps _ (state (ForNot ∷ waiting) level true) (item_tokens i ++ ts) (deeper-room (state waiting level wanted) ForNot level room)
+        then_steps _ (state (ForNot ∷ waiting) level true) (item_tokens i ++ ts) (deeper-room waiting ForNot level room)
         ∙ item_steps i (ForNot ∷ waiting) level true ts fine
         ∙ ap (λ (l : Level). steps (placed waiting l (Not (item_query lexicon i))) ts) (sym (noted-none (is_negated waiting) level))
     item_steps (Group c) waiting level wanted ts h =
         let room : length waiting < 30 = ltb-true (length waiting) 30 (and_left (ltb (length waiting) 30) _ h) in
         let fine : is_fine_chain lexicon c (suc (length waiting)) no_fields ≡ true =
         ap (λ n. is_fine_chain lexicon c n no_fields) (sym (add-one (length waiting))) ∙ and_right (ltb (length waiting) 30) _ h in
-        then_steps _ (state (ForClose level ∷ waiting) empty_level true) ((chain_tokens c ++ Close ∷ []) ++ ts) (deeper-room (state waiting level wanted) (ForClose level) empty_level room)
+        then_steps _ (state (ForClose level ∷ waiting) empty_level true) ((chain_tokens c ++ Close ∷ []) ++ ts) (deeper-room waiting (ForClose level) empty_level room)
         ∙ ap (steps (state (ForClose level ∷ waiting) empty_level true)) (append_assoc (chain_tokens c) (Close ∷ []) ts)
         ∙ chain_steps c (ForClose level ∷ waiting) empty_level true (Close ∷ ts) refl fine
         ∙ ap (λ (q : Query). steps (placed waiting level q) ts) (chain_asks c)

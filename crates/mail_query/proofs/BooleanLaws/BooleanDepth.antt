@@ -1,224 +1,118 @@
 -- How deep the queries of the boolean language are.
-use Rattle.std.proofs.Common.{◌≡◌, ℕ, suc, ◌+◌, ◌*◌, ◌-◌, ◌<◌, ◌≤◌, Bool, true, false, not, cond, leb, List, [], ◌∷◌, ◌++◌, length, Option, None, Some, Result, Ok, Err, refl, subst, arith}
-use Rattle.std.specs.Prelude.{◌&&◌, bytes_eq, codes}
-use Rattle.std.proofs.lemmas.Bool.Decides.{nat_tests}
+use Rattle.std.proofs.Common.{◌≡◌, ℕ, suc, ◌+◌, ◌*◌, ◌-◌, ◌<◌, ◌≤◌, Bool, true, false, cond, ltb, ltb-true, List, [], ◌∷◌, map, Option, None, Some, Result, Err, subst, arith}
+use Rattle.std.specs.Prelude.{bytes_eq, codes}
 use Rattle.std.specs.Str.{str_eq_ignore_ascii_case}
-use Rattle.contract_words.specs.Answers.{◌>>=◌, fault_as}
 use Rattle.mail_dates.specs.declared.range.Range.{Range}
 use Rattle.mail_query.specs.declared.boolean.field.Field.{Field}
 use Rattle.mail_query.specs.declared.boolean.field.Field.TheVariants as field
+use Rattle.mail_query.specs.declared.boolean.field.Fields.{Fields}
 use Rattle.mail_query.specs.declared.kinds.Kinds.{Kinds}
-use Rattle.mail_query.specs.declared.fault.QueryFault.{QueryFault}
 use Rattle.mail_query.specs.declared.fault.QueryFaultKind.{QueryFaultKind}
-use Rattle.mail_query.specs.declared.fault.QueryFaultKind.TheVariants.{BadWord, MissingTerm, BadParenthesis, TooDeep, Phrase, NeedsOperator}
-use Rattle.mail_query.specs.Query.{Query, Not, depth, all_of}
+use Rattle.mail_query.specs.declared.fault.QueryFaultKind.TheVariants.{BadWord, Phrase}
+use Rattle.mail_query.specs.Query.{Query, depth, all_of, either_of}
 use Rattle.mail_query.specs.Pieces.{without_last, without_angles}
 use Rattle.mail_query.specs.Lexicon.{Lexicon}
 use Rattle.mail_query.specs.Mairix.{date_query}
-use Rattle.mail_query.specs.Tokens.{Token, Open, Close, AndSign, OrSign, NotSign, Term}
-use Rattle.mail_query.specs.BooleanTerms.{Parts, parts_of, has_field, is_phrase, id_query, piece_query, word_query, field_query, parts_query}
-use Rattle.mail_query.specs.BooleanReading.{Level, Waiting, ForNot, ForClose, State, start, empty_level, with_member, noted, run_ended, each_ended, level_query, is_negated, has_open, placed, deeper, joined, parted, popped, closed, ended, cut_term_step, parts_step, term_step, step, run_from}
-use Rattle.mail_query.proofs.MairixLaws.DepthLemmas.{AreShallow, IsShallow, depth-all_of, depth-either_of}
+use Rattle.mail_query.specs.Tokens.{Token}
+use Rattle.mail_query.specs.BooleanTerms.{Parts, parts_of, no_fields, is_phrase, id_query, piece_query, word_query, field_query, parts_query, cut_query, term_query}
+use Rattle.mail_query.specs.BooleanGrammar.{Link, Beside, ByAnd, ByOr, Item, NotOf, Group, Leaf, Chain, Last, Then, linked, query_or_any, seen_behind, item_query, chain_queries, is_fine_item, is_fine_chain, Reads}
+use Rattle.mail_query.proofs.BooleanLaws.BooleanComplete.{and_left, and_right}
+use Rattle.mail_query.proofs.MairixLaws.DepthLemmas.{AreShallow, depth-all_of, depth-either_of}
 
 -- ---- terms have one level
 
-if_one : {E : Type 0} (b : Bool) (r s : Result Query E) → IsShallow 1 r → IsShallow 1 s → IsShallow 1 (cond b r s)
-if_one true r s h k = h
-if_one false r s h k = k
+IsFlat : Result Query QueryFaultKind → Type 0
+IsFlat r = depth (query_or_any r) ≤ 1
 
-id_one : (id : List ℕ) → IsShallow 1 (id_query id)
-unfolding IsShallow
-id_one [] = tt
-id_one (b ∷ bs) = omega arith
+if_flat : (b : Bool) (r s : Result Query QueryFaultKind) → IsFlat r → IsFlat s → IsFlat (cond b r s)
+if_flat true r s h k = h
+if_flat false r s h k = k
 
-date_one : (dates : Option Range) → IsShallow 1 (date_query dates)
-unfolding IsShallow
-date_one None = tt
-date_one (Some range) = omega arith
+id_flat : (id : List ℕ) → IsFlat (id_query id)
+unfolding IsFlat
+id_flat [] = omega arith
+id_flat (b ∷ bs) = omega arith
+
+date_flat : (dates : Option Range) → IsFlat (date_query dates)
+unfolding IsFlat
+date_flat None = omega arith
+date_flat (Some range) = omega arith
 
 module _ (lexicon : Lexicon) where
-  piece_one : (kinds : Kinds) (o : Option (List ℕ)) → IsShallow 1 (piece_query lexicon kinds o)
-  unfolding IsShallow
-  piece_one kinds None = tt
-  piece_one kinds (Some piece) = if_one (lexicon.is_piece piece) _ (Err BadWord) (omega arith) tt
+  piece_flat : (kinds : Kinds) (o : Option (List ℕ)) → IsFlat (piece_query lexicon kinds o)
+  unfolding IsFlat
+  piece_flat kinds None = omega arith
+  piece_flat kinds (Some piece) = if_flat (lexicon.is_piece piece) _ (Err BadWord) (omega arith) (omega arith)
 
-  word_one : (kinds : Kinds) (text : List ℕ) → IsShallow 1 (word_query lexicon kinds text)
-  unfolding IsShallow
-  word_one kinds text = if_one (lexicon.is_word text) _ _ (omega arith) (piece_one kinds (without_last 0x2A text))
+  word_flat : (kinds : Kinds) (text : List ℕ) → IsFlat (word_query lexicon kinds text)
+  unfolding IsFlat
+  word_flat kinds text = if_flat (lexicon.is_word text) _ _ (omega arith) (piece_flat kinds (without_last 0x2A text))
 
-  field_one : (f : Field) (rest : List ℕ) → IsShallow 1 (field_query lexicon f rest)
-  field_one field.From rest = word_one _ rest
-  field_one field.To rest = word_one _ rest
-  field_one field.Subject rest = word_one _ rest
-  field_one field.Body rest = word_one _ rest
-  field_one field.Id rest = id_one (without_angles rest)
-  field_one field.Date rest = date_one (lexicon.dates rest)
+  field_flat : (f : Field) (rest : List ℕ) → IsFlat (field_query lexicon f rest)
+  field_flat field.From rest = word_flat _ rest
+  field_flat field.To rest = word_flat _ rest
+  field_flat field.Subject rest = word_flat _ rest
+  field_flat field.Body rest = word_flat _ rest
+  field_flat field.Id rest = id_flat (without_angles rest)
+  field_flat field.Date rest = date_flat (lexicon.dates rest)
 
-  parts_one : (prefix : Option Field) (rest : List ℕ) → IsShallow 1 (parts_query lexicon prefix rest)
-  unfolding IsShallow
-  parts_one None rest = if_one (bytes_eq rest (codes "*")) _ _ (omega arith) (if_one (str_eq_ignore_ascii_case rest (codes "xor")) (Err BadWord) _ tt (word_one _ rest))
-  parts_one (Some f) [] = tt
-  parts_one (Some f) (b ∷ bs) = field_one f (b ∷ bs)
+  parts_flat : (prefix : Option Field) (rest : List ℕ) → IsFlat (parts_query lexicon prefix rest)
+  unfolding IsFlat
+  parts_flat None rest =
+      if_flat (bytes_eq rest (codes "*")) _ _ (omega arith) (if_flat (str_eq_ignore_ascii_case rest (codes "xor")) (Err BadWord) _ (omega arith) (word_flat _ rest))
+  parts_flat (Some f) [] = omega arith
+  parts_flat (Some f) (b ∷ bs) = field_flat f (b ∷ bs)
+
+  term_flat : (t : List ℕ) → IsFlat (term_query lexicon t)
+  unfolding IsFlat
+  term_flat t = if_flat (is_phrase t) (Err Phrase) _ (omega arith) (go (parts_of t))
+    where
+      go : (o : Option Parts) → IsFlat (cut_query lexicon o)
+      go None = omega arith
+      go (Some parts) = parts_flat parts.prefix parts.rest
 
 -- ---- what stands where this many wait
 
-append_shallow : (n : ℕ) (qs : List Query) (q : Query) → AreShallow n qs → depth q ≤ n → AreShallow n (qs ++ q ∷ [])
-unfolding AreShallow
-append_shallow n [] q h k = (k, tt)
-append_shallow n (p ∷ qs) q h k = (h.0, append_shallow n qs q h.1 k)
+AllShallow : ℕ → List (List Query) → Type 0
+AllShallow m [] = Unit {0}
+AllShallow m (qs ∷ qss) = AreShallow m qs × AllShallow m qss
+
+eaches_shallow : (m : ℕ) (qss : List (List Query)) → AllShallow m qss → AreShallow (suc m) (map all_of qss)
+unfolding AreShallow AllShallow
+eaches_shallow m [] h = tt
+eaches_shallow m (qs ∷ qss) h = (depth-all_of m qs h.0, eaches_shallow m qss h.1)
+
+linked_shallow : (m : ℕ) (l : Link) (q : Query) (qss : List (List Query)) → depth q ≤ m → AllShallow m qss → AllShallow m (linked l q qss)
+unfolding AreShallow AllShallow
+linked_shallow m Beside q [] h k = ((h, tt), tt)
+linked_shallow m Beside q (qs ∷ qss) h k = ((h, k.0), k.1)
+linked_shallow m ByAnd q [] h k = ((h, tt), tt)
+linked_shallow m ByAnd q (qs ∷ qss) h k = ((h, k.0), k.1)
+linked_shallow m ByOr q qss h k = ((h, tt), k)
 
 -- the members of an `each` have at most 61 levels less two for each that waits, and its `either` two more
-record LevelFits (waits : ℕ) (level : Level) : Type 0 where
-  eaches : AreShallow (62 - 2 * waits) level.eaches
-  members : AreShallow (61 - 2 * waits) level.members
-
-Fits : List Waiting → Level → Type 0
-Fits [] level = LevelFits 0 level
-Fits (ForNot ∷ ws) level = Fits ws level × (length ws < 30)
-Fits (ForClose outer ∷ ws) level = Fits ws outer × (length ws < 30) × LevelFits (suc (length ws)) level
-
-StateFits : State → Type 0
-StateFits s = Fits s.waiting s.level
-
-ResultFits : Result State QueryFaultKind → Type 0
-ResultFits (Ok s) = StateFits s
-ResultFits (Err kind) = Unit {0}
-
-few : (ws : List Waiting) (level : Level) → Fits ws level → length ws ≤ 30
-unfolding Fits
-few [] level h = omega arith
-few (ForNot ∷ ws) level h = omega (arith, h.1)
-few (ForClose outer ∷ ws) level h = omega (arith, h.1)
-
-member_fits : (waits : ℕ) (level : Level) (q : Query) → LevelFits waits level → depth q ≤ 61 - 2 * waits → LevelFits waits (with_member level q)
-member_fits waits level q h k = record { eaches = h.eaches; members = append_shallow (61 - 2 * waits) level.members q h.members k }
-
-placed_fits : (ws : List Waiting) (level : Level) (q : Query) → Fits ws level → depth q ≤ 61 - 2 * length ws → StateFits (placed ws level q)
-unfolding Fits StateFits
-placed_fits [] level q h k = member_fits 0 level q h k
-placed_fits (ForNot ∷ ws) level q h k = placed_fits ws level (Not q) h.0 (omega (arith, h.1, k))
-placed_fits (ForClose outer ∷ ws) level q h k = (h.0, h.1, member_fits (suc (length ws)) level q h.2 k)
-
-each_fits : (waits : ℕ) (level : Level) → waits ≤ 30 → LevelFits waits level → AreShallow (62 - 2 * waits) (level.eaches ++ all_of level.members ∷ [])
-each_fits waits level few h =
-    append_shallow (62 - 2 * waits) level.eaches (all_of level.members) h.eaches (omega (arith, few, depth-all_of (61 - 2 * waits) level.members h.members))
-
-query_fits : (waits : ℕ) (level : Level) → waits ≤ 30 → LevelFits waits level → depth (level_query level) ≤ 63 - 2 * waits
-query_fits waits level few h =
-    omega (arith, few, depth-either_of (62 - 2 * waits) (level.eaches ++ all_of level.members ∷ []) (each_fits waits level few h))
-
--- what holds of the level where nothing but `not` waits nearest
-same_members : (ws : List Waiting) (level next : Level) → ((waits : ℕ) → waits ≤ 30 → LevelFits waits level → LevelFits waits next) → Fits ws level → Fits ws next
-unfolding Fits
-same_members [] level next h k = h 0 (omega arith) k
-same_members (ForNot ∷ ws) level next h k = (same_members ws level next h k.0, k.1)
-same_members (ForClose outer ∷ ws) level next h k = (k.0, k.1, h (suc (length ws)) (omega (arith, k.1)) k.2)
-
-deeper_fits : (s : State) (what : Waiting) (level : Level) → (length s.waiting < 30 → Fits (what ∷ s.waiting) level) → ResultFits (deeper s what level)
-unfolding ResultFits StateFits
-deeper_fits s what level h = go (leb 30 (length s.waiting)) refl
-  where
-    go : (t : Bool) → leb 30 (length s.waiting) ≡ t → ResultFits (cond t (Err TooDeep) (Ok (record { waiting = what ∷ s.waiting; level = level; wanted = true })))
-    go true e = tt
-    go false e = h (grind (arith, nat_tests, e))
-
-joined_fits : (s : State) → StateFits s → ResultFits (joined s)
-unfolding ResultFits StateFits
-joined_fits s h = go s.wanted
-  where
-    go : (t : Bool) → ResultFits (cond t (Err MissingTerm) (Ok (record { waiting = s.waiting; level = run_ended s.level; wanted = true })))
-    go true = tt
-    go false = same_members s.waiting s.level (run_ended s.level) (λ waits few k. record { eaches = k.eaches; members = k.members }) h
-
-parted_fits : (s : State) → StateFits s → ResultFits (parted s)
-unfolding ResultFits StateFits AreShallow
-parted_fits s h = go s.wanted
-  where
-    go : (t : Bool) → ResultFits (cond t (Err MissingTerm) (Ok (record { waiting = s.waiting; level = each_ended s.level; wanted = true })))
-    go true = tt
-    go false = same_members s.waiting s.level (each_ended s.level) (λ waits few k. record { eaches = each_fits waits s.level few k; members = tt }) h
-
-popped_fits : (ws : List Waiting) (level : Level) → Fits ws level → ResultFits (popped ws level)
-unfolding ResultFits StateFits Fits
-popped_fits [] level h = tt
-popped_fits (ForNot ∷ ws) level h = tt
-popped_fits (ForClose outer ∷ ws) level h =
-    placed_fits ws outer (level_query level) h.0 (omega (arith, h.1, query_fits (suc (length ws)) level (omega (arith, h.1)) h.2))
-
-closed_fits : (s : State) → StateFits s → ResultFits (closed s)
-unfolding ResultFits StateFits
-closed_fits s h = go s.wanted (has_open s.waiting)
-  where
-    go : (t o : Bool) → ResultFits (cond t (cond o (Err MissingTerm) (Err BadParenthesis)) (popped s.waiting s.level))
-    go true true = tt
-    go true false = tt
-    go false o = popped_fits s.waiting s.level h
+made_depth : (n : ℕ) (qss : List (List Query)) → n ≤ 30 → AllShallow (61 - 2 * n) qss → depth (either_of (map all_of qss)) ≤ 63 - 2 * n
+made_depth n qss few h = omega (arith, few, depth-either_of (suc (61 - 2 * n)) (map all_of qss) (eaches_shallow (61 - 2 * n) qss h))
 
 module _ (lexicon : Lexicon) where
-  cut_term_fits : (s : State) (prefix : Option Field) (rest : List ℕ) → StateFits s → ResultFits (cut_term_step lexicon s prefix rest)
-  unfolding ResultFits StateFits IsShallow
-  cut_term_fits s prefix rest h = go (not (is_negated s.waiting) && has_field s.level.seen prefix) (parts_query lexicon prefix rest) (parts_one lexicon prefix rest)
-    where
-      level : Level
-      level = noted (is_negated s.waiting) prefix s.level
+  mutual
+    unfolding IsFlat AreShallow AllShallow
 
-      fits : Fits s.waiting level
-      fits = same_members s.waiting s.level level (λ waits few k. record { eaches = k.eaches; members = k.members }) h
+    item_depth : (i : Item) (n : ℕ) (seen : Fields) → n ≤ 30 → is_fine_item lexicon i n seen ≡ true → depth (item_query lexicon i) ≤ 61 - 2 * n
+    item_depth (Leaf t) n seen few h = omega (arith, few, term_flat lexicon t)
+    item_depth (NotOf i) n seen few h =
+        let room : n < 30 = ltb-true n 30 (and_left (ltb n 30) _ h) in
+        omega (arith, room, item_depth i (n + 1) no_fields (omega (arith, room)) (and_right (ltb n 30) _ h))
+    item_depth (Group c) n seen few h =
+        let room : n < 30 = ltb-true n 30 (and_left (ltb n 30) _ h) in
+        omega (arith, room, made_depth (n + 1) (chain_queries lexicon c) (omega (arith, room)) (chain_shallow c (n + 1) no_fields (omega (arith, room)) (and_right (ltb n 30) _ h)))
 
-      go : (t : Bool) (r : Result Query QueryFaultKind) → IsShallow 1 r → ResultFits (cond t (Err NeedsOperator) (r >>= (λ q. Ok (placed s.waiting (noted (is_negated s.waiting) prefix s.level) q))))
-      go true r k = tt
-      go false (Err kind) k = tt
-      go false (Ok q) k = placed_fits s.waiting (noted (is_negated s.waiting) prefix s.level) q fits (omega (arith, k, few s.waiting s.level h))
+    chain_shallow : (c : Chain) (n : ℕ) (seen : Fields) → n ≤ 30 → is_fine_chain lexicon c n seen ≡ true → AllShallow (61 - 2 * n) (chain_queries lexicon c)
+    chain_shallow (Last i) n seen few h = ((item_depth i n seen few h, tt), tt)
+    chain_shallow (Then i l c) n seen few h =
+        linked_shallow (61 - 2 * n) l (item_query lexicon i) (chain_queries lexicon c) (item_depth i n seen few (and_left (is_fine_item lexicon i n seen) _ h))
+        (chain_shallow c n (seen_behind i l seen) few (and_right (is_fine_item lexicon i n seen) _ h))
 
-  term_fits : (s : State) (t : List ℕ) → StateFits s → ResultFits (term_step lexicon s t)
-  unfolding ResultFits
-  term_fits s t h = go (is_phrase t) (parts_of t)
-    where
-      go : (b : Bool) (o : Option Parts) → ResultFits (cond b (Err Phrase) (parts_step lexicon s o))
-      go true o = tt
-      go false None = tt
-      go false (Some parts) = cut_term_fits s parts.prefix parts.rest h
-
-  step_fits : (s : State) (t : Token) → StateFits s → ResultFits (step lexicon s t)
-  unfolding StateFits Fits AreShallow
-  step_fits s (Term t) h = term_fits s t h
-  step_fits s NotSign h = deeper_fits s ForNot s.level (λ room. (h, room))
-  step_fits s Open h = deeper_fits s (ForClose s.level) empty_level (λ room. (h, room, record { eaches = tt; members = tt }))
-  step_fits s Close h = closed_fits s h
-  step_fits s AndSign h = joined_fits s h
-  step_fits s OrSign h = parted_fits s h
-
-  outermost : (ws : List Waiting) (level : Level) → Fits ws level → has_open ws ≡ false → LevelFits 0 level
-  unfolding Fits
-  outermost [] level h e = h
-  outermost (ForNot ∷ ws) level h e = outermost ws level h.0 e
-  outermost (ForClose outer ∷ ws) level h e = absurd cc
-
-  ended_fits : (s : State) → StateFits s → IsShallow 63 (ended s)
-  unfolding StateFits IsShallow
-  ended_fits s h = go s.wanted (has_open s.waiting) refl
-    where
-      go : (t o : Bool) → has_open s.waiting ≡ o → IsShallow 63 (cond t (Err MissingTerm) (cond o (Err BadParenthesis) (Ok (level_query s.level))))
-      go true o e = tt
-      go false true e = tt
-      go false false e = query_fits 0 s.level (omega arith) (outermost s.waiting s.level h e)
-
-  numbered : (n : ℕ) (r : Result Query QueryFaultKind) → IsShallow 63 r → IsShallow 63 (fault_as (λ kind. let f : QueryFault = record { number = n; kind = kind } in f) r)
-  unfolding IsShallow
-  numbered n (Ok q) h = h
-  numbered n (Err kind) h = tt
-
-  run_fits : (n : ℕ) (s : State) (ts : List Token) → StateFits s → IsShallow 63 (run_from lexicon n s ts)
-  unfolding IsShallow ResultFits
-  run_fits n s [] h = numbered n (ended s) (ended_fits s h)
-  run_fits n s (t ∷ ts) h = go (step lexicon s t) (step_fits s t h) (λ next k. run_fits (n + 1) next ts k)
-    where
-      go : (r : Result State QueryFaultKind) → ResultFits r → ((next : State) → StateFits next → IsShallow 63 (run_from lexicon (n + 1) next ts))
-          → IsShallow 63 (fault_as (λ kind. let f : QueryFault = record { number = n; kind = kind } in f) r >>= (λ next. run_from lexicon (n + 1) next ts))
-      go (Ok next) k h = h next k
-      go (Err kind) k h = tt
-
-  -- a query that is read from the start has at most 63 levels
-  pub run_depth : (n : ℕ) (ts : List Token) (q : Query) → run_from lexicon n start ts ≡ Ok q → depth q ≤ 63
-  unfolding IsShallow StateFits Fits AreShallow
-  run_depth n ts q e = subst (λ (r : Result Query QueryFault). IsShallow 63 r) e (run_fits n start ts (record { eaches = tt; members = tt }))
+  -- what the grammar reads has at most 63 levels
+  pub reads_depth : (ts : List Token) (q : Query) → Reads lexicon ts q → depth q ≤ 63
+  reads_depth ts q r = subst (λ (asked : Query). depth asked ≤ 63) r.asked (made_depth 0 (chain_queries lexicon r.tree) (omega arith) (chain_shallow r.tree 0 no_fields (omega arith) r.fine))

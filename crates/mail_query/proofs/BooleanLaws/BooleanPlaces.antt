@@ -1,6 +1,6 @@
 -- The reader's fault at a token is the one that the tokens before it show.
 use Rattle.std.proofs.Common.{◌≡◌, ℕ, zero, suc, ◌+◌, Bool, true, false, not, cond, eqb, leb, List, [], ◌∷◌, ◌++◌, length, Option, None, Some, Result, Ok, Err, refl, sym, ap, subst, ◌∙◌, append-nil, arith}
-use Rattle.std.specs.Prelude.{◌&&◌, is_none}
+use Rattle.std.specs.Prelude.{◌&&◌, ◌||◌, is_none}
 use Rattle.contract_words.specs.Answers.{◌>>=◌, fault_as}
 use Rattle.mail_query.specs.declared.boolean.field.Field.{Field}
 use Rattle.mail_query.specs.declared.boolean.field.Fields.{Fields}
@@ -178,13 +178,14 @@ record Shows (ws : List Wait) (p : Part) (back : List Token) : Type 0 where
   opens : open_count zero back ≡ open_of ws
   waits : waiting_count true zero back ≡ length ws
 
-first_of : {A B : Type 0} → (A → B) → Option A → Option B
-first_of f None = None
-first_of f (Some x) = Some (f x)
-
-pub fault_of : {T E : Type 0} → Result T E → Option E
+-- the fault, where there is one
+abbrev pub fault_of : {T E : Type 0} → Result T E → Option E
 fault_of (Ok x) = None
 fault_of (Err e) = Some e
+
+guarded : {T E : Type 0} (b : Bool) (fault : E) (r : Result T E) → fault_of (cond b (Err fault) r) ≡ cond b (Some fault) (fault_of r)
+guarded true fault r = refl
+guarded false fault r = refl
 
 module _ (lexicon : Lexicon) where
   shows : (ws : List Wait) (p : Part) → Fine lexicon ws p → Shows ws p (back_of ws p)
@@ -209,47 +210,31 @@ module _ (lexicon : Lexicon) where
 
   -- ---- the fault at a token
 
-  same_deep : (ws : List Wait) (p : Part) (back : List Token) (what : Waiting) (level : Level) → Shows ws p back → deep_fault back ≡ fault_of (deeper (state_of lexicon ws p) what level)
-  unfolding fault_of
-  same_deep ws p back what level s = rw (s.waits, length-waiting_of lexicon ws) (go (leb 30 (length ws)))
-    where
-      go : (b : Bool) → cond b (Some TooDeep) None ≡ fault_of {T = State} (cond b (Err TooDeep) (Ok (record { waiting = what ∷ waiting_of lexicon ws; level = level; wanted = true })))
-      go true = refl
-      go false = refl
+  same_deep : (ws : List Wait) (p : Part) (back : List Token) (what : Waiting) (level : Level) → Shows ws p back → deep_fault back ≡ fault_of (deeper (waiting_of lexicon ws) what level)
+  same_deep ws p back what level s =
+      ap (λ n. cond (leb 30 n) (Some TooDeep) None) (s.waits ∙ sym (length-waiting_of lexicon ws))
+      ∙ sym (guarded {T = State} (leb 30 (length (waiting_of lexicon ws))) TooDeep (Ok (record { waiting = what ∷ waiting_of lexicon ws; level = level; wanted = true })))
 
   same_operator : (ws : List Wait) (p : Part) (back : List Token) (next : State) → Shows ws p back
       → operator_fault back ≡ fault_of {T = State} (cond (wanted_of ws p) (Err MissingTerm) (Ok next))
-  unfolding fault_of
-  same_operator ws p back next s = rw s.wanted (go (wanted_of ws p))
-    where
-      go : (b : Bool) → cond b (Some MissingTerm) None ≡ fault_of {T = State} (cond b (Err MissingTerm) (Ok next))
-      go true = refl
-      go false = refl
+  same_operator ws p back next s = ap (λ b. cond b (Some MissingTerm) None) s.wanted ∙ sym (guarded {T = State} (wanted_of ws p) MissingTerm (Ok next))
 
   same_close : (ws : List Wait) (p : Part) (back : List Token) → Shows ws p back → close_fault back ≡ fault_of (closed (state_of lexicon ws p))
-  unfolding fault_of
-  same_close ws p back s = rw (s.opens, s.wanted, open-has_open ws) (go ws)
+  same_close ws p back s = rw (s.opens, s.wanted, open-has_open ws) (go ws (is_none p.last))
     where
-      at : (w : Bool) (outer : Part) (vs : List Wait) → cond w (Some MissingTerm) None ≡ fault_of (cond w (Err MissingTerm) (popped (ForClose (level_of lexicon outer) ∷ waiting_of lexicon vs) (level_of lexicon p)))
-      at true outer vs = refl
-      at false outer vs = refl
-
-      none : (w : Bool) → Some BadParenthesis ≡ fault_of {T = State} (cond w (Err BadParenthesis) (Err BadParenthesis))
-      none true = refl
-      none false = refl
-
       under : (o : Bool) → cond (not o) (Some BadParenthesis) (Some MissingTerm) ≡ fault_of {T = State} (cond o (Err MissingTerm) (Err BadParenthesis))
       under true = refl
       under false = refl
 
-      go : (vs : List Wait) → cond (not (has_open (waiting_of lexicon vs))) (Some BadParenthesis) (cond (wanted_of vs p) (Some MissingTerm) None)
-          ≡ fault_of (cond (wanted_of vs p) (cond (has_open (waiting_of lexicon vs)) (Err MissingTerm) (Err BadParenthesis)) (popped (waiting_of lexicon vs) (level_of lexicon p)))
-      go [] = none (is_none p.last)
-      go (WaitNot ∷ vs) = under (has_open (waiting_of lexicon vs))
-      go (WaitClose outer ∷ vs) = at (is_none p.last) outer vs
+      go : (vs : List Wait) (none : Bool) → cond (not (has_open (waiting_of lexicon vs))) (Some BadParenthesis) (cond (waits_not vs || none) (Some MissingTerm) None)
+          ≡ fault_of (cond (waits_not vs || none) (cond (has_open (waiting_of lexicon vs)) (Err MissingTerm) (Err BadParenthesis)) (popped (waiting_of lexicon vs) (level_of lexicon p)))
+      go [] true = refl
+      go [] false = refl
+      go (WaitNot ∷ vs) none = under (has_open (waiting_of lexicon vs))
+      go (WaitClose outer ∷ vs) true = refl
+      go (WaitClose outer ∷ vs) false = refl
 
   same_end : (ws : List Wait) (p : Part) (back : List Token) → Shows ws p back → end_fault back ≡ fault_of (ended (state_of lexicon ws p))
-  unfolding fault_of
   same_end ws p back s = rw (s.opens, s.wanted, open-has_open ws) (go (wanted_of ws p) (has_open (waiting_of lexicon ws)))
     where
       go : (w o : Bool) → cond w (Some MissingTerm) (cond (not o) None (Some BadParenthesis)) ≡ fault_of (cond w (Err MissingTerm) (cond o (Err BadParenthesis) (Ok (level_query (level_of lexicon p)))))
@@ -259,7 +244,6 @@ module _ (lexicon : Lexicon) where
 
   same_parts : (s : State) (back : List Token) (prefix : Option Field) (rest : List ℕ) → is_not back ≡ is_negated s.waiting → fields_before zero back ≡ s.level.seen
       → cond (needs_operator back prefix) (Some NeedsOperator) (err_of (parts_query lexicon prefix rest)) ≡ fault_of (cut_term_step lexicon s prefix rest)
-  unfolding fault_of
   same_parts s back prefix rest e h = rw (e, h) (go (not (is_negated s.waiting) && has_field s.level.seen prefix) (parts_query lexicon prefix rest))
     where
       go : (b : Bool) (r : Result Query QueryFaultKind) → cond b (Some NeedsOperator) (err_of r)
@@ -269,7 +253,6 @@ module _ (lexicon : Lexicon) where
       go false (Err kind) = refl
 
   same_term : (s : State) (back : List Token) (t : List ℕ) → is_not back ≡ is_negated s.waiting → fields_before zero back ≡ s.level.seen → term_fault lexicon back t ≡ fault_of (term_step lexicon s t)
-  unfolding fault_of
   same_term s back t e h = go (is_phrase t) (parts_of t)
     where
       go : (b : Bool) (o : Option Parts) → cond b (Some Phrase) (parts_fault lexicon back o) ≡ fault_of (cond b (Err Phrase) (parts_step lexicon s o))
@@ -291,7 +274,6 @@ module _ (lexicon : Lexicon) where
   at_number n kind = record { number = n; kind = kind }
 
   same_first : (n : ℕ) (ws : List Wait) (p : Part) (ts : List Token) → Fine lexicon ws p → first_fault_from lexicon n (back_of ws p) ts ≡ fault_of (run_from lexicon n (state_of lexicon ws p) ts)
-  unfolding fault_of
   same_first n ws p [] fine = ap (λ (o : Option QueryFaultKind). first_some (at_number n) o None) (same_end ws p (back_of ws p) (shows ws p fine)) ∙ go (ended (state_of lexicon ws p))
     where
       go : (r : Result Query QueryFaultKind) → first_some (at_number n) (fault_of r) None ≡ fault_of (fault_as (at_number n) r)
@@ -313,12 +295,11 @@ module _ (lexicon : Lexicon) where
 
   -- the reader's fault is the first one that the places show
   first_fault_is : (ts : List Token) → first_fault lexicon ts ≡ fault_of (tokens_query lexicon ts)
-  unfolding fault_of Fine
+  unfolding Fine
   first_fault_is [] = refl
   first_fault_is (t ∷ ts) = same_first 1 [] nothing_read (t ∷ ts) (record { front = refl; last = refl; closed = refl })
 
   pub fault_answered : (ts : List Token) (f : QueryFault) → first_fault lexicon ts ≡ Some f → tokens_query lexicon ts ≡ Err f
-  unfolding fault_of
   fault_answered ts f e = go (tokens_query lexicon ts) (sym (first_fault_is ts) ∙ e)
     where
       go : (r : Result Query QueryFault) → fault_of r ≡ Some f → r ≡ Err f
@@ -326,17 +307,14 @@ module _ (lexicon : Lexicon) where
       go (Err g) e = cc
 
   pub answer_faulty : (ts : List Token) (f : QueryFault) → tokens_query lexicon ts ≡ Err f → first_fault lexicon ts ≡ Some f
-  unfolding fault_of
   answer_faulty ts f e = first_fault_is ts ∙ ap fault_of e
 
   -- what is read shows no fault
   pub read_faultless : (ts : List Token) (q : Query) → Reads lexicon ts q → first_fault lexicon ts ≡ None
-  unfolding fault_of
   read_faultless ts q r = first_fault_is ts ∙ ap fault_of (reading_answered lexicon ts q r)
 
   -- what shows no fault is read
   pub faultless_read : (ts : List Token) → first_fault lexicon ts ≡ None → (q : Query) × Reads lexicon ts q
-  unfolding fault_of
   faultless_read ts e = go (tokens_query lexicon ts) refl (sym (first_fault_is ts) ∙ e)
     where
       go : (r : Result Query QueryFault) → tokens_query lexicon ts ≡ r → fault_of r ≡ None → (q : Query) × Reads lexicon ts q

@@ -1,7 +1,7 @@
 -- The tree that was read so far, and what the reader has of it.
-use Rattle.std.proofs.Common.{◌≡◌, ℕ, suc, ◌+◌, ◌<◌, Bool, true, false, not, cond, ltb, leb, List, [], ◌∷◌, ◌++◌, length, map, Option, None, Some, Result, Ok, Err, refl, sym, ap, subst, ◌∙◌, append_assoc, append-nil, arith, add-one}
-use Rattle.std.specs.Prelude.{◌&&◌, is_ok, is_none, option_and_then}
-use Rattle.std.proofs.lemmas.Bool.Decides.{nat_tests}
+use Rattle.std.proofs.Common.{◌≡◌, ℕ, suc, ◌+◌, ◌<◌, Bool, true, false, not, cond, leb, List, [], ◌∷◌, ◌++◌, length, map, Option, None, Some, Result, Ok, Err, refl, sym, ap, subst, ◌∙◌, append_assoc, append-nil, arith, add-one}
+use Rattle.std.specs.Prelude.{◌&&◌, ◌||◌, is_ok, is_none, option_and_then}
+use Rattle.std.proofs.lemmas.Bool.{and_from, or_parts, or_right, leb-false, lt-ltb}
 use Rattle.contract_words.specs.Answers.{◌>>=◌, fault_as}
 use Rattle.mail_query.specs.declared.boolean.field.Field.{Field}
 use Rattle.mail_query.specs.declared.boolean.field.Field.TheVariants as field
@@ -14,7 +14,7 @@ use Rattle.mail_query.specs.Query.{Query, Not, all_of, either_of}
 use Rattle.mail_query.specs.Tokens.{Token, Open, Close, AndSign, OrSign, NotSign, Term}
 use Rattle.mail_query.specs.BooleanTerms.{Parts, parts_of, no_fields, has_field, with_field, is_phrase, parts_query, cut_query, term_query}
 use Rattle.mail_query.specs.BooleanGrammar.{Link, Beside, ByAnd, ByOr, Item, NotOf, Group, Leaf, Chain, Last, Then, link_tokens, item_tokens, chain_tokens, term_prefix, plain_prefix, seen_behind, item_query, chain_queries, tree_query, is_fine_item, is_fine_chain, Reads}
-use Rattle.mail_query.specs.BooleanReading.{Level, Waiting, ForNot, ForClose, State, empty_level, with_member, noted, run_ended, each_ended, level_query, is_negated, has_open, placed, deeper, joined, parted, popped, closed, ended, parts_step, term_step, step, run_from, tokens_query}
+use Rattle.mail_query.specs.BooleanReading.{Level, Waiting, ForNot, ForClose, State, start, empty_level, with_member, noted, run_ended, each_ended, level_query, is_negated, has_open, placed, deeper, joined, parted, popped, closed, ended, parts_step, term_step, step, run_from, tokens_query}
 use Rattle.mail_query.proofs.BooleanLaws.BooleanComplete.{noted-none, state, seen_at, term_fine, with_first, with_first-one, with_first-none}
 
 -- ---- what was read
@@ -32,6 +32,9 @@ pub record Part : Type 0 where
 pub data Wait : Type 0 where
   WaitNot : Wait
   WaitClose : Part → Wait
+
+abbrev pub ended_by : Front → Item → Part
+ended_by f i = record { front = f; last = Some i }
 
 abbrev pub nothing_read : Part
 nothing_read = record { front = Nothing; last = None }
@@ -68,10 +71,13 @@ last_prefix (Some i) = plain_prefix i
 abbrev pub seen_of : Part → Fields
 seen_of p = with_field (last_prefix p.last) (seen_front p.front)
 
+-- a `not` waits nearest
+abbrev pub waits_not : List Wait → Bool
+waits_not (WaitNot ∷ ws) = true
+waits_not _ = false
+
 abbrev pub wanted_of : List Wait → Part → Bool
-wanted_of (WaitNot ∷ ws) p = true
-wanted_of [] p = is_none p.last
-wanted_of (WaitClose outer ∷ ws) p = is_none p.last
+wanted_of ws p = waits_not ws || is_none p.last
 
 -- one item more
 abbrev pub beside : Front → Option Item → Front
@@ -90,6 +96,19 @@ abbrev pub put_part : List Wait → Part → Item → Part
 put_part [] p i = put p i
 put_part (WaitNot ∷ ws) p i = put_part ws p (NotOf i)
 put_part (WaitClose outer ∷ ws) p i = put p i
+
+-- where nothing is wanted, an item stands last, and no `not` waits nearest
+where_ended : (ws : List Wait) (p : Part) (P : Part → Type 0) → wanted_of ws p ≡ false → (waits_not ws ≡ false → (f : Front) (i : Item) → P (ended_by f i)) → P p
+where_ended ws p P e h = let parts = or_parts (waits_not ws) (is_none p.last) e in go p.front p.last parts.1 (h parts.0)
+  where
+    go : (f : Front) (last : Option Item) → is_none last ≡ false → ((g : Front) (i : Item) → P (ended_by g i)) → P (record { front = f; last = last })
+    go f None e k = absurd cc
+    go f (Some i) e k = k f i
+
+-- what a test lets pass
+unguarded : {A E : Type 0} (b : Bool) (fault : E) (r : Result A E) (x : A) → cond b (Err fault) r ≡ Ok x → (b ≡ false) × (r ≡ Ok x)
+unguarded true fault r x e = absurd cc
+unguarded false fault r x e = (refl, e)
 
 -- ---- how it is spelled
 
@@ -120,11 +139,6 @@ operator_wanted Beside t e = absurd cc
 operator_wanted ByAnd t e = refl
 operator_wanted ByOr t e = refl
 
--- a `not` waits nearest
-abbrev pub waits_not : List Wait → Bool
-waits_not (WaitNot ∷ ws) = true
-waits_not _ = false
-
 -- what follows in the innermost part follows the whole, where no `not` waits nearest
 spelled-more : (ws : List Wait) (p next : Part) (ts : List Token) → waits_not ws ≡ false → part_tokens next ≡ part_tokens p ++ ts → spelled ws next ≡ spelled ws p ++ ts
 spelled-more [] p next ts e h = h
@@ -143,9 +157,6 @@ chain_tokens-onto (Behind f i l) c =
     chain_tokens-onto f (Then i l c)
     ∙ ap (λ (ts : List Token). front_tokens f ++ ts) (sym (append_assoc (item_tokens i) (link_tokens l) (chain_tokens c)))
     ∙ sym (append_assoc (front_tokens f) (item_tokens i ++ link_tokens l) (chain_tokens c))
-
-and_true : (a b : Bool) → a ≡ true → b ≡ true → (a && b) ≡ true
-and_true a b h k = rw h k
 
 and_assoc : (a b c : Bool) → ((a && b) && c) ≡ (a && (b && c))
 and_assoc true b c = refl
@@ -218,7 +229,7 @@ module _ (lexicon : Lexicon) where
       ∙ ap (λ (qss : List (List Query)). (eaches_front f ++ all_of (members_front f ++ item_query lexicon i ∷ []) ∷ []) ++ map all_of qss) (sym (with_first-none lexicon c))
 
   -- what a level asks is what its tree asks
-  pub level_asks : (f : Front) (i : Item) → level_query (level_of (record { front = f; last = Some i })) ≡ tree_query lexicon (onto f (Last i))
+  pub level_asks : (f : Front) (i : Item) → level_query (level_of (ended_by f i)) ≡ tree_query lexicon (onto f (Last i))
   level_asks f i = ap either_of (sym (eaches-onto f (Last i)))
 
   -- ---- that it is allowed
@@ -251,12 +262,11 @@ module _ (lexicon : Lexicon) where
       go : (f : Front) (last : Option Item) → is_fine_front f n ≡ true → is_fine_last f last n ≡ true → is_fine_item lexicon i n (with_field (last_prefix last) (seen_front f)) ≡ true
           → FinePart (put (record { front = f; last = last }) i) n
       go f None h k e = record { front = h; last = e; closed = refl }
-      go f (Some j) h k e = record { front = and_true (is_fine_front f n) (is_fine_item lexicon j n (seen_front f)) h k; last = e; closed = refl }
+      go f (Some j) h k e = record { front = and_from (is_fine_front f n) (is_fine_item lexicon j n (seen_front f)) h k; last = e; closed = refl }
 
   negate_fine : (i : Item) (n : ℕ) (seen : Fields) → n < 30 → is_fine_item lexicon i (suc n) no_fields ≡ true → is_fine_item lexicon (NotOf i) n seen ≡ true
   negate_fine i n seen room h =
-      let below : ltb n 30 ≡ true = grind (arith, nat_tests) in
-      rw below (ap (λ m. is_fine_item lexicon i m no_fields) (add-one n) ∙ h)
+      rw (lt-ltb n 30 room) (ap (λ m. is_fine_item lexicon i m no_fields) (add-one n) ∙ h)
 
   put_fine : (ws : List Wait) (p : Part) (i : Item) → Fine ws p → is_fine_item lexicon i (length ws) (cond (waits_not ws) no_fields (seen_of p)) ≡ true → Fine (put_waits ws) (put_part ws p i)
   unfolding Fine
@@ -304,7 +314,7 @@ module _ (lexicon : Lexicon) where
           → (not (has_field (cond (is_negated s.waiting) no_fields s.level.seen) prefix) && is_ok r) ≡ true
       cut_ok prefix true i r e = absurd cc
       cut_ok prefix false i (Err kind) e = absurd cc
-      cut_ok prefix false i (Ok q) e = and_true _ true (new_prefix (is_negated s.waiting) s.level.seen prefix i) refl
+      cut_ok prefix false i (Ok q) e = and_from _ true (new_prefix (is_negated s.waiting) s.level.seen prefix i) refl
 
       go : (b : Bool) (o : Option Parts) → cond b (Err Phrase) (parts_step lexicon s o) ≡ Ok next
           → (not (has_field (cond (is_negated s.waiting) no_fields s.level.seen) (option_and_then (λ (p : Parts). p.prefix) o)) && is_ok {T = Query} (cond b (Err Phrase) (cut_query lexicon o))) ≡ true
@@ -328,169 +338,91 @@ module _ (lexicon : Lexicon) where
         fine = put_fine ws p (Leaf t) fine leaf;
       }
 
-  -- there is room, where one more waits
-  deeper_is : (s next : State) (what : Waiting) (level : Level) → deeper s what level ≡ Ok next → (length s.waiting < 30) × (next ≡ state (what ∷ s.waiting) level true)
+  reach_deeper : (ws : List Wait) (s : State) (what : Waiting) (level : Level) → deeper (waiting_of ws) what level ≡ Ok s
+      → (length ws < 30) × (s ≡ state (what ∷ waiting_of ws) level true)
   unfolding state
-  deeper_is s next what level e = go (leb 30 (length s.waiting)) refl e
-    where
-      go : (b : Bool) → leb 30 (length s.waiting) ≡ b → cond b (Err TooDeep) (Ok (record { waiting = what ∷ s.waiting; level = level; wanted = true })) ≡ Ok next
-          → (length s.waiting < 30) × (next ≡ record { waiting = what ∷ s.waiting; level = level; wanted = true })
-      go true i e = absurd cc
-      go false i e = (grind (arith, nat_tests, i), cc)
+  reach_deeper ws s what level e =
+      let room = unguarded (leb 30 (length (waiting_of ws))) TooDeep (Ok (record { waiting = what ∷ waiting_of ws; level = level; wanted = true })) s e in
+      let few = leb-false 30 (length (waiting_of ws)) room.0 in
+      let same = room.1 in
+      (omega (arith, few, length-waiting_of ws), cc)
 
-  reach_not : (ws : List Wait) (p : Part) (s : State) → Fine ws p → deeper (state_of ws p) ForNot (level_of p) ≡ Ok s → Reaches ws p NotSign s
+  reach_not : (ws : List Wait) (p : Part) (s : State) → Fine ws p → deeper (waiting_of ws) ForNot (level_of p) ≡ Ok s → Reaches ws p NotSign s
   unfolding Fine state
   reach_not ws p s fine e =
-      let d = deeper_is (state_of ws p) s ForNot (level_of p) e in
-      record { waits = WaitNot ∷ ws; part = p; shown = d.1; tokens = refl; fine = (fine, omega (arith, d.0, length-waiting_of ws)) }
+      let d = reach_deeper ws s ForNot (level_of p) e in
+      record { waits = WaitNot ∷ ws; part = p; shown = d.1; tokens = refl; fine = (fine, d.0) }
 
-  reach_open : (ws : List Wait) (p : Part) (s : State) → Fine ws p → deeper (state_of ws p) (ForClose (level_of p)) empty_level ≡ Ok s → Reaches ws p Open s
+  reach_open : (ws : List Wait) (p : Part) (s : State) → Fine ws p → deeper (waiting_of ws) (ForClose (level_of p)) empty_level ≡ Ok s → Reaches ws p Open s
   unfolding Fine state
   reach_open ws p s fine e =
-      let d = deeper_is (state_of ws p) s (ForClose (level_of p)) empty_level e in
-      record {
-        waits = WaitClose p ∷ ws;
-        part = nothing_read;
-        shown = d.1;
-        tokens = refl;
-        fine = (fine, omega (arith, d.0, length-waiting_of ws), record { front = refl; last = refl; closed = refl });
-      }
-
-  -- where nothing is wanted, there is a last item, and no `not` waits nearest
-  record Ends (ws : List Wait) (p : Part) : Type 0 where
-    item : Item
-    last : p.last ≡ Some item
-    no_not : waits_not ws ≡ false
-
-  ends : (ws : List Wait) (p : Part) → wanted_of ws p ≡ false → Ends ws p
-  ends [] p e = go p.last refl e
-    where
-      go : (last : Option Item) → p.last ≡ last → is_none last ≡ false → Ends [] p
-      go None i e = absurd cc
-      go (Some j) i e = record { item = j; last = i; no_not = refl }
-  ends (WaitNot ∷ ws) p e = absurd cc
-  ends (WaitClose outer ∷ ws) p e = go p.last refl e
-    where
-      go : (last : Option Item) → p.last ≡ last → is_none last ≡ false → Ends (WaitClose outer ∷ ws) p
-      go None i e = absurd cc
-      go (Some j) i e = record { item = j; last = i; no_not = refl }
-
-  wanted-none : (ws : List Wait) (f : Front) → wanted_of ws (record { front = f; last = None }) ≡ true
-  wanted-none [] f = refl
-  wanted-none (WaitNot ∷ ws) f = refl
-  wanted-none (WaitClose outer ∷ ws) f = refl
+      let d = reach_deeper ws s (ForClose (level_of p)) empty_level e in
+      record { waits = WaitClose p ∷ ws; part = nothing_read; shown = d.1; tokens = refl; fine = (fine, d.0, record { front = refl; last = refl; closed = refl }) }
 
   -- an operator stands behind the last item
-  reach_operator : (ws : List Wait) (p : Part) (l : Link) (t : Token) (level : Level) (s : State) → Fine ws p → link_tokens l ≡ t ∷ [] → (en : Ends ws p)
-      → level ≡ level_of (record { front = Behind p.front en.item l; last = None }) → s ≡ state (waiting_of ws) level true → Reaches ws p t s
+  reach_operator : (ws : List Wait) (f : Front) (i : Item) (l : Link) (t : Token) (s : State) → waits_not ws ≡ false → Fine ws (ended_by f i) → link_tokens l ≡ t ∷ []
+      → s ≡ state (waiting_of ws) (level_of (record { front = Behind f i l; last = None })) true → Reaches ws (ended_by f i) t s
   unfolding state
-  reach_operator ws p l t level s fine spelled_so en is shown =
-      let next : Part = record { front = Behind p.front en.item l; last = None } in
+  reach_operator ws f i l t s no_not fine spelled_so shown =
+      let next : Part = record { front = Behind f i l; last = None } in
       record {
         waits = ws;
         part = next;
-        shown = shown ∙ ap (λ (v : Level). state (waiting_of ws) v true) is ∙ ap (state (waiting_of ws) (level_of next)) (sym (wanted-none ws (Behind p.front en.item l)));
-        tokens = spelled-more ws p next (t ∷ []) en.no_not (more p.last en.last);
-        fine = part_fine ws p next en.no_not (λ n h. record { front = and_true _ _ h.front (allowed p.last en.last n h.last); last = refl; closed = operator_wanted l t spelled_so }) fine;
+        shown = shown ∙ ap (state (waiting_of ws) (level_of next)) (sym (or_right (waits_not ws) true refl));
+        tokens = spelled-more ws (ended_by f i) next (t ∷ []) no_not
+            (append-nil (front_tokens f ++ (item_tokens i ++ link_tokens l)) ∙ ap (λ (ts : List Token). front_tokens f ++ (item_tokens i ++ ts)) spelled_so
+            ∙ sym (append_assoc (front_tokens f) (item_tokens i) (t ∷ [])));
+        fine = part_fine ws (ended_by f i) next no_not (λ n h. record { front = and_from (is_fine_front f n) _ h.front h.last; last = refl; closed = operator_wanted l t spelled_so }) fine;
       }
-    where
-      more : (last : Option Item) → last ≡ Some en.item → (front_tokens p.front ++ (item_tokens en.item ++ link_tokens l)) ++ [] ≡ (front_tokens p.front ++ last_tokens last) ++ t ∷ []
-      more last e =
-          append-nil (front_tokens p.front ++ (item_tokens en.item ++ link_tokens l))
-          ∙ ap (λ (ts : List Token). front_tokens p.front ++ (item_tokens en.item ++ ts)) spelled_so
-          ∙ sym (append_assoc (front_tokens p.front) (item_tokens en.item) (t ∷ []))
-          ∙ ap (λ (o : Option Item). (front_tokens p.front ++ last_tokens o) ++ t ∷ []) (sym e)
-
-      allowed : (last : Option Item) → last ≡ Some en.item → (n : ℕ) → is_fine_last p.front last n ≡ true → is_fine_item lexicon en.item n (seen_front p.front) ≡ true
-      allowed last e n h = ap (λ (o : Option Item). is_fine_last p.front o n) (sym e) ∙ h
-
-  joined_is : (s next : State) → joined s ≡ Ok next → (s.wanted ≡ false) × (next ≡ state s.waiting (run_ended s.level) true)
-  unfolding state
-  joined_is s next e = go s.wanted refl e
-    where
-      go : (b : Bool) → s.wanted ≡ b → cond b (Err MissingTerm) (Ok (record { waiting = s.waiting; level = run_ended s.level; wanted = true })) ≡ Ok next
-          → (s.wanted ≡ false) × (next ≡ record { waiting = s.waiting; level = run_ended s.level; wanted = true })
-      go true i e = absurd cc
-      go false i e = (i, cc)
-
-  parted_is : (s next : State) → parted s ≡ Ok next → (s.wanted ≡ false) × (next ≡ state s.waiting (each_ended s.level) true)
-  unfolding state
-  parted_is s next e = go s.wanted refl e
-    where
-      go : (b : Bool) → s.wanted ≡ b → cond b (Err MissingTerm) (Ok (record { waiting = s.waiting; level = each_ended s.level; wanted = true })) ≡ Ok next
-          → (s.wanted ≡ false) × (next ≡ record { waiting = s.waiting; level = each_ended s.level; wanted = true })
-      go true i e = absurd cc
-      go false i e = (i, cc)
 
   reach_and : (ws : List Wait) (p : Part) (s : State) → Fine ws p → joined (state_of ws p) ≡ Ok s → Reaches ws p AndSign s
+  unfolding state
   reach_and ws p s fine e =
-      let j = joined_is (state_of ws p) s e in
-      let en = ends ws p j.0 in
-      reach_operator ws p ByAnd AndSign (run_ended (level_of p)) s fine refl en (same p.front p.last en.item en.last) j.1
-    where
-      same : (f : Front) (last : Option Item) (i : Item) → last ≡ Some i → run_ended (level_of (record { front = f; last = last })) ≡ level_of (record { front = Behind f i ByAnd; last = None })
-      same f last i e =
-          ap (λ (o : Option Item). run_ended (level_of (record { front = f; last = o }))) e
-          ∙ ap (λ (ms : List Query). let l : Level = record { eaches = eaches_front f; members = ms; seen = no_fields } in l) (sym (append-nil (members_front f ++ item_query lexicon i ∷ [])))
+      let passed = unguarded (wanted_of ws p) MissingTerm (Ok (state (waiting_of ws) (run_ended (level_of p)) true)) s e in
+      where_ended ws p (λ r. Fine ws r → state (waiting_of ws) (run_ended (level_of r)) true ≡ s → Reaches ws r AndSign s) passed.0
+      (λ no_not f i h same. reach_operator ws f i ByAnd AndSign s no_not h refl
+      (sym same ∙ ap (λ (ms : List Query). let l : Level = record { eaches = eaches_front f; members = ms; seen = no_fields } in state (waiting_of ws) l true) (sym (append-nil (members_front f ++ item_query lexicon i ∷ [])))))
+      fine (let same = passed.1 in cc)
 
   reach_or : (ws : List Wait) (p : Part) (s : State) → Fine ws p → parted (state_of ws p) ≡ Ok s → Reaches ws p OrSign s
+  unfolding state
   reach_or ws p s fine e =
-      let j = parted_is (state_of ws p) s e in
-      let en = ends ws p j.0 in
-      reach_operator ws p ByOr OrSign (each_ended (level_of p)) s fine refl en (same p.front p.last en.item en.last) j.1
-    where
-      same : (f : Front) (last : Option Item) (i : Item) → last ≡ Some i → each_ended (level_of (record { front = f; last = last })) ≡ level_of (record { front = Behind f i ByOr; last = None })
-      same f last i e = ap (λ (o : Option Item). each_ended (level_of (record { front = f; last = o }))) e
+      let passed = unguarded (wanted_of ws p) MissingTerm (Ok (state (waiting_of ws) (each_ended (level_of p)) true)) s e in
+      where_ended ws p (λ r. Fine ws r → state (waiting_of ws) (each_ended (level_of r)) true ≡ s → Reaches ws r OrSign s) passed.0
+      (λ no_not f i h same. reach_operator ws f i ByOr OrSign s no_not h refl (sym same)) fine (let same = passed.1 in cc)
 
   -- a group is closed
-  closed_is : (s next : State) → closed s ≡ Ok next → (s.wanted ≡ false) × (popped s.waiting s.level ≡ Ok next)
-  closed_is s next e = go s.wanted (has_open s.waiting) refl e
-    where
-      go : (b o : Bool) → s.wanted ≡ b → cond b (cond o (Err MissingTerm) (Err BadParenthesis)) (popped s.waiting s.level) ≡ Ok next → (s.wanted ≡ false) × (popped s.waiting s.level ≡ Ok next)
-      go true true i e = absurd cc
-      go true false i e = absurd cc
-      go false o i e = (i, e)
-
-  group_fine : (f : Front) (i : Item) (n : ℕ) (seen : Fields) → n < 30 → FinePart (record { front = f; last = Some i }) (suc n) → is_fine_item lexicon (Group (onto f (Last i))) n seen ≡ true
+  group_fine : (f : Front) (i : Item) (n : ℕ) (seen : Fields) → n < 30 → FinePart (ended_by f i) (suc n) → is_fine_item lexicon (Group (onto f (Last i))) n seen ≡ true
   group_fine f i n seen room h =
-      let below : ltb n 30 ≡ true = grind (arith, nat_tests) in
-      rw below (ap (λ m. is_fine_chain lexicon (onto f (Last i)) m no_fields) (add-one n) ∙ fine-onto f (Last i) (suc n) ∙ and_true (is_fine_front f (suc n)) _ h.front h.last)
+      rw (lt-ltb n 30 room) (ap (λ m. is_fine_chain lexicon (onto f (Last i)) m no_fields) (add-one n) ∙ fine-onto f (Last i) (suc n) ∙ and_from (is_fine_front f (suc n)) _ h.front h.last)
 
   reach_close : (ws : List Wait) (p : Part) (s : State) → Fine ws p → closed (state_of ws p) ≡ Ok s → Reaches ws p Close s
   unfolding Fine
   reach_close ws p s fine e =
-      let d = closed_is (state_of ws p) s e in
-      go ws (ends ws p d.0) fine d.1
+      let passed = closed_is (wanted_of ws p) (has_open (waiting_of ws)) (popped (waiting_of ws) (level_of p)) e in
+      where_ended ws p (λ r. Fine ws r → popped (waiting_of ws) (level_of r) ≡ Ok s → Reaches ws r Close s) passed.0 (λ no_not f i. go ws f i) fine passed.1
     where
-      whole : (f : Front) (last : Option Item) (i : Item) → last ≡ Some i → record { front = f; last = last } ≡ (let r : Part = record { front = f; last = Some i } in r)
-      whole f last i e = ap (λ (o : Option Item). let r : Part = record { front = f; last = o } in r) e
+      closed_is : (b o : Bool) (r : Result State QueryFaultKind) → cond b (cond o (Err MissingTerm) (Err BadParenthesis)) r ≡ Ok s → (b ≡ false) × (r ≡ Ok s)
+      closed_is true true r e = absurd cc
+      closed_is true false r e = absurd cc
+      closed_is false o r e = (refl, e)
 
-      go : (vs : List Wait) → Ends vs p → Fine vs p → popped (waiting_of vs) (level_of p) ≡ Ok s → Reaches vs p Close s
-      go [] en h e = absurd cc
-      go (WaitNot ∷ vs) en h e = absurd cc
-      go (WaitClose outer ∷ vs) en h e =
-          let i = en.item in
-          let c : Chain = onto p.front (Last i) in
-          let part : p ≡ record { front = p.front; last = Some i } = whole p.front p.last i en.last in
-          let asks : level_query (level_of p) ≡ item_query lexicon (Group c) = ap (λ (r : Part). level_query (level_of r)) part ∙ level_asks p.front i in
-          let is : s ≡ placed (waiting_of vs) (noted (is_negated (waiting_of vs)) None (level_of outer)) (item_query lexicon (Group c)) =
-          let popped_so : placed (waiting_of vs) (level_of outer) (level_query (level_of p)) ≡ s = cc in
-          sym popped_so ∙ ap (placed (waiting_of vs) (level_of outer)) asks
-          ∙ ap (λ (l : Level). placed (waiting_of vs) l (item_query lexicon (Group c))) (sym (noted-none (is_negated (waiting_of vs)) (level_of outer))) in
-          let fine_here : FinePart (record { front = p.front; last = Some i }) (suc (length vs)) = subst (λ (r : Part). FinePart r (suc (length vs))) part h.2 in
+      go : (vs : List Wait) (f : Front) (i : Item) → Fine vs (ended_by f i) → popped (waiting_of vs) (level_of (ended_by f i)) ≡ Ok s → Reaches vs (ended_by f i) Close s
+      go [] f i h e = absurd cc
+      go (WaitNot ∷ vs) f i h e = absurd cc
+      go (WaitClose outer ∷ vs) f i h e =
+          let c : Chain = onto f (Last i) in
+          let popped_so : placed (waiting_of vs) (level_of outer) (level_query (level_of (ended_by f i))) ≡ s = cc in
           record {
             waits = put_waits vs;
             part = put_part vs outer (Group c);
-            shown = is ∙ placed_is vs outer (Group c);
-            tokens = spelled-put vs outer (Group c) ∙ tokens_close vs outer i en.last;
-            fine = put_fine vs outer (Group c) h.0 (group_fine p.front i (length vs) (cond (waits_not vs) no_fields (seen_of outer)) h.1 fine_here);
+            shown = sym popped_so ∙ ap (placed (waiting_of vs) (level_of outer)) (level_asks f i)
+                ∙ ap (λ (l : Level). placed (waiting_of vs) l (item_query lexicon (Group c))) (sym (noted-none (is_negated (waiting_of vs)) (level_of outer)))
+                ∙ placed_is vs outer (Group c);
+            tokens = spelled-put vs outer (Group c) ∙ ap (λ (ts : List Token). spelled vs outer ++ (Open ∷ (ts ++ Close ∷ []))) (chain_tokens-onto f (Last i))
+                ∙ sym (append_assoc (spelled vs outer) (Open ∷ part_tokens (ended_by f i)) (Close ∷ []));
+            fine = put_fine vs outer (Group c) h.0 (group_fine f i (length vs) (cond (waits_not vs) no_fields (seen_of outer)) h.1 h.2);
           }
-        where
-          tokens_close : (us : List Wait) (out : Part) (j : Item) → p.last ≡ Some j
-              → spelled us out ++ (Open ∷ (chain_tokens (onto p.front (Last j)) ++ Close ∷ [])) ≡ (spelled us out ++ (Open ∷ part_tokens p)) ++ Close ∷ []
-          tokens_close us out j e =
-              ap (λ (ts : List Token). spelled us out ++ (Open ∷ (ts ++ Close ∷ []))) (chain_tokens-onto p.front (Last j) ∙ ap (λ (o : Option Item). front_tokens p.front ++ last_tokens o) (sym e))
-              ∙ sym (append_assoc (spelled us out) (Open ∷ part_tokens p) (Close ∷ []))
 
   pub reach : (ws : List Wait) (p : Part) (t : Token) (s : State) → Fine ws p → step lexicon (state_of ws p) t ≡ Ok s → Reaches ws p t s
   reach ws p (Term t) s fine e = reach_term ws p t s fine e
@@ -502,36 +434,23 @@ module _ (lexicon : Lexicon) where
 
   -- ---- the whole
 
-  ended_is : (s : State) (q : Query) → ended s ≡ Ok q → (s.wanted ≡ false) × (has_open s.waiting ≡ false) × (level_query s.level ≡ q)
-  ended_is s q e = go s.wanted (has_open s.waiting) refl refl e
-    where
-      go : (b o : Bool) → s.wanted ≡ b → has_open s.waiting ≡ o → cond b (Err MissingTerm) (cond o (Err BadParenthesis) (Ok (level_query s.level))) ≡ Ok q
-          → (s.wanted ≡ false) × (has_open s.waiting ≡ false) × (level_query s.level ≡ q)
-      go true o i j e = absurd cc
-      go false true i j e = absurd cc
-      go false false i j e = (i, j, cc)
-
   end_reads : (ws : List Wait) (p : Part) (q : Query) → Fine ws p → ended (state_of ws p) ≡ Ok q → Reads lexicon (spelled ws p) q
   unfolding Fine
   end_reads ws p q fine e =
-      let d = ended_is (state_of ws p) q e in
-      go ws (ends ws p d.0) d.1 fine d.2
+      let passed = unguarded (wanted_of ws p) MissingTerm (cond (has_open (waiting_of ws)) (Err BadParenthesis) (Ok (level_query (level_of p)))) q e in
+      let shut = unguarded (has_open (waiting_of ws)) BadParenthesis (Ok (level_query (level_of p))) q passed.1 in
+      where_ended ws p (λ r. Fine ws r → level_query (level_of r) ≡ q → Reads lexicon (spelled ws r) q) passed.0 (λ no_not f i. go ws f i no_not shut.0) fine (let same = shut.1 in cc)
     where
-      whole : (f : Front) (last : Option Item) (i : Item) → last ≡ Some i → record { front = f; last = last } ≡ (let r : Part = record { front = f; last = Some i } in r)
-      whole f last i e = ap (λ (o : Option Item). let r : Part = record { front = f; last = o } in r) e
-
-      go : (vs : List Wait) → Ends vs p → has_open (waiting_of vs) ≡ false → Fine vs p → level_query (level_of p) ≡ q → Reads lexicon (spelled vs p) q
-      go (WaitNot ∷ vs) en o h e = let no = en.no_not in absurd cc
-      go (WaitClose outer ∷ vs) en o h e = absurd cc
-      go [] en o h e =
-          let part : p ≡ record { front = p.front; last = Some en.item } = whole p.front p.last en.item en.last in
-          let fine_here : FinePart (record { front = p.front; last = Some en.item }) 0 = subst (λ (r : Part). FinePart r 0) part h in
-          record {
-            tree = onto p.front (Last en.item);
-            spelled = chain_tokens-onto p.front (Last en.item) ∙ ap (λ (o : Option Item). front_tokens p.front ++ last_tokens o) (sym en.last);
-            fine = fine-onto p.front (Last en.item) 0 ∙ and_true (is_fine_front p.front 0) _ fine_here.front fine_here.last;
-            asked = sym (level_asks p.front en.item) ∙ ap (λ (r : Part). level_query (level_of r)) (sym part) ∙ e;
-          }
+      go : (vs : List Wait) (f : Front) (i : Item) → waits_not vs ≡ false → has_open (waiting_of vs) ≡ false → Fine vs (ended_by f i) → level_query (level_of (ended_by f i)) ≡ q
+          → Reads lexicon (spelled vs (ended_by f i)) q
+      go (WaitNot ∷ vs) f i no_not o h e = absurd cc
+      go (WaitClose outer ∷ vs) f i no_not o h e = absurd cc
+      go [] f i no_not o h e = record {
+        tree = onto f (Last i);
+        spelled = chain_tokens-onto f (Last i);
+        fine = fine-onto f (Last i) 0 ∙ and_from (is_fine_front f 0) _ h.front h.last;
+        asked = sym (level_asks f i) ∙ e;
+      }
 
   run_reads : (n : ℕ) (ws : List Wait) (p : Part) (ts : List Token) (q : Query) → Fine ws p → run_from lexicon n (state_of ws p) ts ≡ Ok q → Reads lexicon (spelled ws p ++ ts) q
   run_reads n ws p [] q fine e = subst (λ (xs : List Token). Reads lexicon xs q) (sym (append-nil (spelled ws p))) (end_reads ws p q fine (unnumbered (ended (state_of ws p)) e))
@@ -551,7 +470,10 @@ module _ (lexicon : Lexicon) where
           subst (λ (xs : List Token). Reads lexicon xs q) (ap (λ (xs : List Token). xs ++ ts) reached.tokens ∙ append_assoc (spelled ws p) (t ∷ []) ts) rest
 
   -- what the reader answers is read by the grammar
-  pub answer_read : (ts : List Token) (q : Query) → tokens_query lexicon ts ≡ Ok q → Reads lexicon ts q
+  pub start_read : (ts : List Token) (q : Query) → run_from lexicon 1 start ts ≡ Ok q → Reads lexicon ts q
   unfolding Fine
+  start_read ts q e = run_reads 1 [] nothing_read ts q (record { front = refl; last = refl; closed = refl }) e
+
+  pub answer_read : (ts : List Token) (q : Query) → tokens_query lexicon ts ≡ Ok q → Reads lexicon ts q
   answer_read [] q e = absurd cc
-  answer_read (t ∷ ts) q e = run_reads 1 [] nothing_read (t ∷ ts) q (record { front = refl; last = refl; closed = refl }) e
+  answer_read (t ∷ ts) q e = start_read (t ∷ ts) q e

@@ -1,16 +1,17 @@
 -- What waits, the nearest first.
-use Rattle.std.proofs.Common.{◌≡◌, ℕ, suc, ◌+◌, ◌-◌, ◌<◌, ◌≤◌, Bool, true, false, ◌||◌, leb, Ok, Err, List, [], ◌∷◌, ◌++◌, length, take, drop, get_or, drop-cons, length-append, refl, sym, ap, ◌∙◌, arith}
+use Rattle.std.proofs.Common.{◌≡◌, ℕ, suc, ◌+◌, ◌-◌, ◌<◌, ◌≤◌, Bool, true, false, ◌||◌, Ok, Err, List, [], ◌∷◌, ◌++◌, length, take, drop, get_or, drop-cons, refl, sym, ap, ◌∙◌, arith}
 use Rattle.std.specs.List.{IsLastAndRest}
-use Rattle.std.proofs.Math.Seq.{take-append_seam}
 use Rattle.std.proofs.lemmas.List.{drop_all}
-use Rattle.std.proofs.lemmas.Bool.Decides.{nat_tests}
+use Rattle.std.proofs.Math.Bool.{or-false}
+use Rattle.std.proofs.lemmas.Bool.{or_right, le-leb, lt-leb}
 use Rattle.mail_query.specs.declared.fault.QueryFaultKind.TheVariants.{TooDeep, BadParenthesis}
 use Rattle.mail_query.specs.declared.boolean.level.Level.{Level as CodeLevel}
 use Rattle.mail_query.specs.declared.boolean.reader.Waiting.{Waiting as CodeWaiting}
 use Rattle.mail_query.specs.declared.boolean.reader.Waiting.TheVariants as code_waiting
 use Rattle.mail_query.specs.Query.{Query, Not}
+use Rattle.mail_query.proofs.PieceLemmas.{last_of, before_last}
 use Rattle.mail_query.specs.Inside.Shown.{shown_level, shown_waiting, nearest_first, shown_stack}
-use Rattle.mail_query.specs.BooleanReading.{Level, Waiting, ForNot, ForClose, State, with_member, is_negated, has_open, placed, deeper, popped, level_query}
+use Rattle.mail_query.specs.BooleanReading.{Level, Waiting, ForNot, ForClose, with_member, is_negated, has_open, placed, deeper, popped, level_query}
 
 nearest_first-push : (ws : List CodeWaiting) (w : CodeWaiting) (behind : List Waiting) → nearest_first (ws ++ w ∷ []) behind ≡ shown_waiting w ∷ nearest_first ws behind
 nearest_first-push [] w behind = refl
@@ -46,42 +47,23 @@ has_open_code [] = false
 has_open_code (code_waiting.ForNot ∷ ws) = has_open_code ws
 has_open_code (code_waiting.ForClose level ∷ ws) = true
 
-or_true : (b : Bool) → (b || true) ≡ true
-or_true true = refl
-or_true false = refl
-
-or_false : (b : Bool) → (b || false) ≡ b
-or_false true = refl
-or_false false = refl
-
 has_open-nearest_first : (ws : List CodeWaiting) (behind : List Waiting) → has_open (nearest_first ws behind) ≡ (has_open_code ws || has_open behind)
 has_open-nearest_first [] behind = refl
 has_open-nearest_first (code_waiting.ForNot ∷ ws) behind = has_open-nearest_first ws (ForNot ∷ behind)
-has_open-nearest_first (code_waiting.ForClose level ∷ ws) behind = has_open-nearest_first ws (shown_waiting (code_waiting.ForClose level) ∷ behind) ∙ or_true (has_open_code ws)
+has_open-nearest_first (code_waiting.ForClose level ∷ ws) behind = has_open-nearest_first ws (shown_waiting (code_waiting.ForClose level) ∷ behind) ∙ or_right (has_open_code ws) true refl
 
 pub has_open-shown_stack : (ws : List CodeWaiting) → has_open (shown_stack ws) ≡ has_open_code ws
-has_open-shown_stack ws = has_open-nearest_first ws [] ∙ or_false (has_open_code ws)
+has_open-shown_stack ws = has_open-nearest_first ws [] ∙ or-false (has_open_code ws)
 
 -- ---- whether there is room to wait
 
-pub deeper-full : (s : State) (what : Waiting) (level : Level) → 30 ≤ length s.waiting → deeper s what level ≡ Err TooDeep
-deeper-full s what level h = let e : leb 30 (length s.waiting) ≡ true = grind (arith, nat_tests) in rw e refl
+pub deeper-full : (waiting : List Waiting) (what : Waiting) (level : Level) → 30 ≤ length waiting → deeper waiting what level ≡ Err TooDeep
+deeper-full waiting what level h = rw (le-leb 30 (length waiting) h) refl
 
-pub deeper-room : (s : State) (what : Waiting) (level : Level) → length s.waiting < 30 → deeper s what level ≡ Ok (record { waiting = what ∷ s.waiting; level = level; wanted = true })
-deeper-room s what level h = let e : leb 30 (length s.waiting) ≡ false = grind (arith, nat_tests) in rw e refl
+pub deeper-room : (waiting : List Waiting) (what : Waiting) (level : Level) → length waiting < 30 → deeper waiting what level ≡ Ok (record { waiting = what ∷ waiting; level = level; wanted = true })
+deeper-room waiting what level h = rw (lt-leb 30 (length waiting) h) refl
 
 -- ---- what the last leaves
-
--- a list that isn't empty has a last element
-last_of : {A : Type 0} (xs : List A) → 0 < length xs → (front : List A) × (x : A) × (xs ≡ front ++ x ∷ [])
-last_of [] h = absurd (omega (arith, h))
-last_of (x ∷ []) h = ([], x, refl)
-last_of {A} (x ∷ y ∷ xs) h = let l = last_of (y ∷ xs) (omega arith) in (x ∷ l.0, l.1, ap (λ (ys : List A). x ∷ ys) l.2)
-
-without_last : {A : Type 0} (front : List A) (x : A) → take (length (front ++ x ∷ []) - 1) (front ++ x ∷ []) ≡ front
-without_last {A} front x =
-    let place : length (front ++ x ∷ []) - 1 ≡ length front = omega (arith, length-append front (x ∷ [])) in
-    ap (λ n. take n (front ++ x ∷ [])) place ∙ take-append_seam front (x ∷ [])
 
 pub negated_some : (ws : List CodeWaiting) → is_negated (shown_stack ws) ≡ true → 0 < length ws
 negated_some [] e = absurd cc
@@ -96,7 +78,7 @@ placed-not ws level q e =
     let l = last_of ws (negated_some ws e) in
     let stack : shown_stack ws ≡ shown_waiting l.1 ∷ shown_stack l.0 = ap shown_stack l.2 ∙ shown_stack-push l.0 l.1 in
     let is : shown_waiting l.1 ≡ ForNot = negated_is l.1 (shown_stack l.0) (sym (ap is_negated stack) ∙ e) in
-    let front : take (length ws - 1) ws ≡ l.0 = ap (λ (xs : List CodeWaiting). take (length xs - 1) xs) l.2 ∙ without_last l.0 l.1 in
+    let front : take (length ws - 1) ws ≡ l.0 = ap (λ (xs : List CodeWaiting). take (length xs - 1) xs) l.2 ∙ before_last l.0 l.1 in
     ap (λ (xs : List Waiting). placed xs level q) (stack ∙ ap (λ (w : Waiting). w ∷ shown_stack l.0) is) ∙ sym (ap (λ xs. placed (shown_stack xs) level (Not q)) front)
 
 pub pops-close : (ws rest : List CodeWaiting) (outer : CodeLevel) (level : Level) → ws ≡ rest ++ code_waiting.ForClose outer ∷ []

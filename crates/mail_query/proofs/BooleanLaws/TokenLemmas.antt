@@ -1,6 +1,7 @@
 -- How a text is cut into tokens from its front.
 use Rattle.std.proofs.Common.{◌≡◌, ℕ, zero, suc, ◌<◌, ◌≤◌, Bool, true, false, ◌||◌, cond, eqb, List, [], ◌∷◌, length, take, drop, get_or, None, Some, refl, sym, ap, subst, ◌∙◌, arith, add-one}
 use Rattle.std.proofs.lemmas.Bool.Decides.{nat_tests}
+use Rattle.std.proofs.lemmas.Option.{cond_some}
 use Rattle.std.specs.Str.{IsUtf8, IsCharBoundary}
 use Rattle.std.proofs.lemmas.Str.{IsCharBoundary-start, IsCharBoundary-after_ascii}
 use Rattle.mail_query.specs.Tokens.{Open, Close, Cut, token_of, is_blank, closed_run, all_tokens, cut_tokens, tokens}
@@ -123,27 +124,21 @@ begins_run (b ∷ bs) h e f g = go (is_blank b) (eqb b 0x28) (eqb b 0x29) e f g
 pub tokens-open : (text rest : List ℕ) → without_first 0x28 text ≡ Some rest → tokens text ≡ Open ∷ tokens rest
 unfolding tokens
 tokens-open [] rest e = absurd cc
-tokens-open (b ∷ bs) rest e = go (eqb b 0x28) refl e
-  where
-    go : (o : Bool) → eqb b 0x28 ≡ o → cond o (Some bs) None ≡ Some rest → tokens (b ∷ bs) ≡ Open ∷ tokens rest
-    go false f e = absurd cc
-    go true f e =
-        let same : bs ≡ rest = cc in
-        let blank : is_blank b ≡ false = grind (arith, nat_tests, f) in
-        rw (blank, f) (ap (λ (t : List ℕ). Open ∷ all_tokens (cut_tokens t)) same)
+tokens-open (b ∷ bs) rest e =
+    let same = cond_some (eqb b 0x28) bs rest e in
+    let is = same.0 in
+    let blank : is_blank b ≡ false = grind (arith, nat_tests, is) in
+    rw (blank, is) (ap (λ (t : List ℕ). Open ∷ all_tokens (cut_tokens t)) same.1)
 
 pub tokens-close : (text rest : List ℕ) → without_first 0x29 text ≡ Some rest → tokens text ≡ Close ∷ tokens rest
 unfolding tokens
 tokens-close [] rest e = absurd cc
-tokens-close (b ∷ bs) rest e = go (eqb b 0x29) refl e
-  where
-    go : (o : Bool) → eqb b 0x29 ≡ o → cond o (Some bs) None ≡ Some rest → tokens (b ∷ bs) ≡ Close ∷ tokens rest
-    go false f e = absurd cc
-    go true f e =
-        let same : bs ≡ rest = cc in
-        let blank : is_blank b ≡ false = grind (arith, nat_tests, f) in
-        let other : eqb b 0x28 ≡ false = grind (arith, nat_tests, f) in
-        rw (blank, other, f) (ap (λ (t : List ℕ). Close ∷ all_tokens (cut_tokens t)) same)
+tokens-close (b ∷ bs) rest e =
+    let same = cond_some (eqb b 0x29) bs rest e in
+    let is = same.0 in
+    let blank : is_blank b ≡ false = grind (arith, nat_tests, is) in
+    let other : eqb b 0x28 ≡ false = grind (arith, nat_tests, is) in
+    rw (blank, other, is) (ap (λ (t : List ℕ). Close ∷ all_tokens (cut_tokens t)) same.1)
 
 pub tokens-nothing : (text : List ℕ) → length text ≡ 0 → tokens text ≡ []
 unfolding tokens

@@ -1,61 +1,58 @@
--- How flags are read letter by letter.
-use Rattle.std.proofs.Common.{◌≡◌, ℕ, ◌+◌, ◌<◌, Bool, true, false, eqb, List, [], ◌∷◌, ◌++◌, length, get_or, drop, Option, None, Some, Ok, Err, option_map, refl, sym, ap, ◌∙◌, append_assoc, append-nil, arith, add-one, drop-cons}
+-- How flags are read letter by letter, which is as their grammar says.
+use Rattle.std.proofs.Common.{◌≡◌, ℕ, ◌+◌, ◌<◌, Bool, true, false, eqb, List, [], ◌∷◌, ◌++◌, length, get_or, drop, Option, None, Some, Ok, Err, option_map, refl, sym, ap, ◌∙◌, append_assoc, append-nil, arith, add-one, drop-cons, inl, inr, not, cond, subst}
 use Rattle.std.specs.Prelude.{option_and_then, ◌⊎◌}
-use Rattle.std.proofs.Common.{inl, inr}
 use Rattle.std.proofs.lemmas.List.{drop_all}
 use Rattle.mail_words.specs.declared.flags.Flag.{Flag}
 use Rattle.mail_query.specs.declared.fault.QueryFaultKind.TheVariants.{BadFlag}
-use Rattle.mail_query.specs.declared.node.Node.{Node}
-use Rattle.mail_query.specs.Query.{Query, HasFlag, all_of, queries_of, query_of}
-use Rattle.mail_query.specs.Flags.{flag_of, with_flag, flags_behind, flags_of}
+use Rattle.mail_query.specs.Query.{Query, HasFlag, all_of}
+use Rattle.mail_query.specs.Flags.{flag_of, with_flag, flags_behind, flags_of, some_of}
 use Rattle.mail_query.specs.Mairix.{flags_query}
-use Rattle.mail_query.proofs.MairixLaws.EachLemmas.{queries_of-push}
+use Rattle.std.proofs.lemmas.Bool.{eqb-true, false_from_ne_true}
+use Rattle.std.proofs.lemmas.Option.{none-some, option_and_then_some}
+use Rattle.mail_query.proofs.MairixLaws.SignLemmas.{map_some}
+use Rattle.mail_query.specs.FlagGrammar.{AreFlags, NoFlag, Wanted, Unwanted, IsFlags, EachFlag}
 
 -- these flags, before those to come
 abbrev pub with_flags : List Query → Option (List Query) → Option (List Query)
 with_flags front rest = option_map (λ qs. front ++ qs) rest
 
 -- the flags so far, and those that the letters from a place on give, are all
-pub record HasRead (text : List ℕ) (nodes : List Node) (wanted : Bool) (i : ℕ) : Type 0 where
-  pub whole : with_flags (queries_of nodes) (flags_behind wanted (drop i text)) ≡ flags_behind true text
+pub record HasRead (text : List ℕ) (qs : List Query) (wanted : Bool) (i : ℕ) : Type 0 where
+  pub whole : with_flags qs (flags_behind wanted (drop i text)) ≡ flags_behind true text
 
 next : (text : List ℕ) (i : ℕ) → i < length text → drop i text ≡ get_or text i 0 ∷ drop (i + 1) text
 next text i h = drop-cons text i 0 h ∙ ap (λ k. get_or text i 0 ∷ drop k text) (sym (add-one i))
 
-nothing : (front : List Query) (rest : Option (List Query)) → rest ≡ None → with_flags front rest ≡ None
-nothing front rest e = ap (with_flags front) e
-
-pub reads_none : (text : List ℕ) (nodes : List Node) → nodes ≡ [] → HasRead text nodes true 0
-reads_none text nodes e = record { whole = rw e (same (flags_behind true text)) }
+pub reads_none : (text : List ℕ) (qs : List Query) → qs ≡ [] → HasRead text qs true 0
+reads_none text qs e = record { whole = rw e (same (flags_behind true text)) }
   where
     same : (o : Option (List Query)) → with_flags [] o ≡ o
     same None = refl
     same (Some qs) = refl
 
-pub reads_dash : (text : List ℕ) (nodes : List Node) (i : ℕ) → HasRead text nodes true i → i < length text → get_or text i 0 ≡ 0x2D → HasRead text nodes false (i + 1)
-reads_dash text nodes i h below is =
-    let e : drop i text ≡ 0x2D ∷ drop (i + 1) text = next text i below ∙ ap (λ b. b ∷ drop (i + 1) text) is in
-    record { whole = sym (ap (λ bs. with_flags (queries_of nodes) (flags_behind true bs)) e) ∙ h.whole }
+-- a dash in front
+at_dash : (text : List ℕ) (qs : List Query) (wanted w : Bool) (i : ℕ) → HasRead text qs wanted i → wanted ≡ w → i < length text → get_or text i 0 ≡ 0x2D
+    → with_flags qs (flags_behind w (0x2D ∷ drop (i + 1) text)) ≡ flags_behind true text
+at_dash text qs wanted w i h e below is =
+    ap (λ x. with_flags qs (flags_behind x (0x2D ∷ drop (i + 1) text))) (sym e)
+    ∙ sym (ap (λ bs. with_flags qs (flags_behind wanted bs)) (next text i below ∙ ap (λ b. b ∷ drop (i + 1) text) is)) ∙ h.whole
 
-pub no_second_dash : (text : List ℕ) (nodes : List Node) (i : ℕ) → HasRead text nodes false i → i < length text → get_or text i 0 ≡ 0x2D → flags_behind true text ≡ None
-no_second_dash text nodes i h below is =
-    let e : drop i text ≡ 0x2D ∷ drop (i + 1) text = next text i below ∙ ap (λ b. b ∷ drop (i + 1) text) is in
-    sym h.whole ∙ ap (λ bs. with_flags (queries_of nodes) (flags_behind false bs)) e
+pub dash_read : (text : List ℕ) (qs : List Query) (wanted : Bool) (i : ℕ) → HasRead text qs wanted i → wanted ≡ true → i < length text → get_or text i 0 ≡ 0x2D → HasRead text qs false (i + 1)
+dash_read text qs wanted i h e below is = record { whole = at_dash text qs wanted true i h e below is }
 
 at_letter : (wanted : Bool) (b : ℕ) (bs : List ℕ) → eqb b 0x2D ≡ false → flags_behind wanted (b ∷ bs) ≡ with_flag wanted b (flags_behind true bs)
 at_letter wanted b bs e = rw e refl
 
-pub reads_letter : (text : List ℕ) (nodes : List Node) (wanted : Bool) (i : ℕ) (flag : Flag) (node : Node) → HasRead text nodes wanted i → i < length text
-    → eqb (get_or text i 0) 0x2D ≡ false → flag_of (get_or text i 0) ≡ Some flag → query_of node ≡ HasFlag flag wanted → HasRead text (nodes ++ node ∷ []) true (i + 1)
-reads_letter text nodes wanted i flag node h below other is asks =
+pub reads_letter : (text : List ℕ) (qs : List Query) (wanted : Bool) (i : ℕ) (flag : Flag) → HasRead text qs wanted i → i < length text
+    → eqb (get_or text i 0) 0x2D ≡ false → flag_of (get_or text i 0) ≡ Some flag → HasRead text (qs ++ HasFlag flag wanted ∷ []) true (i + 1)
+reads_letter text qs wanted i flag h below other is =
     let b = get_or text i 0 in
     let rest = flags_behind true (drop (i + 1) text) in
     record {
-      whole = ap (λ qs. with_flags qs rest) (queries_of-push nodes node ∙ ap (λ q. queries_of nodes ++ q ∷ []) asks)
-          ∙ joined (queries_of nodes) (HasFlag flag wanted) rest
-          ∙ sym (ap (λ o. with_flags (queries_of nodes) (option_and_then (λ f. option_map (λ (qs : List Query). HasFlag f wanted ∷ qs) rest) o)) is)
-          ∙ sym (ap (with_flags (queries_of nodes)) (at_letter wanted b (drop (i + 1) text) other))
-          ∙ sym (ap (λ bs. with_flags (queries_of nodes) (flags_behind wanted bs)) (next text i below))
+      whole = joined qs (HasFlag flag wanted) rest
+          ∙ sym (ap (λ o. with_flags qs (option_and_then (λ f. option_map (λ (xs : List Query). HasFlag f wanted ∷ xs) rest) o)) is)
+          ∙ sym (ap (with_flags qs) (at_letter wanted b (drop (i + 1) text) other))
+          ∙ sym (ap (λ bs. with_flags qs (flags_behind wanted bs)) (next text i below))
           ∙ h.whole;
     }
   where
@@ -63,25 +60,25 @@ reads_letter text nodes wanted i flag node h below other is asks =
     joined front q None = refl
     joined front q (Some qs) = ap Some (append_assoc front (q ∷ []) qs)
 
-pub no_letter : (text : List ℕ) (nodes : List Node) (wanted : Bool) (i : ℕ) → HasRead text nodes wanted i → i < length text
+pub no_letter : (text : List ℕ) (qs : List Query) (wanted : Bool) (i : ℕ) → HasRead text qs wanted i → i < length text
     → eqb (get_or text i 0) 0x2D ≡ false → flag_of (get_or text i 0) ≡ None → flags_behind true text ≡ None
-no_letter text nodes wanted i h below other is =
+no_letter text qs wanted i h below other is =
     let b = get_or text i 0 in
     let rest = flags_behind true (drop (i + 1) text) in
-    sym h.whole ∙ ap (λ bs. with_flags (queries_of nodes) (flags_behind wanted bs)) (next text i below)
-    ∙ ap (with_flags (queries_of nodes)) (at_letter wanted b (drop (i + 1) text) other)
-    ∙ ap (λ o. with_flags (queries_of nodes) (option_and_then (λ f. option_map (λ (qs : List Query). HasFlag f wanted ∷ qs) rest) o)) is
+    sym h.whole ∙ ap (λ bs. with_flags qs (flags_behind wanted bs)) (next text i below)
+    ∙ ap (with_flags qs) (at_letter wanted b (drop (i + 1) text) other)
+    ∙ ap (λ o. with_flags qs (option_and_then (λ f. option_map (λ (xs : List Query). HasFlag f wanted ∷ xs) rest) o)) is
 
 at_end : (text : List ℕ) (i : ℕ) → length text ≡ i → drop i text ≡ []
 at_end text i e = drop_all i text (omega (arith, e))
 
-pub reads_all : (text : List ℕ) (nodes : List Node) (i : ℕ) → HasRead text nodes true i → length text ≡ i → flags_behind true text ≡ Some (queries_of nodes)
-reads_all text nodes i h e =
-    sym h.whole ∙ ap (λ bs. with_flags (queries_of nodes) (flags_behind true bs)) (at_end text i e) ∙ ap Some (append-nil (queries_of nodes))
+pub reads_all : (text : List ℕ) (qs : List Query) (i : ℕ) → HasRead text qs true i → length text ≡ i → flags_behind true text ≡ Some qs
+reads_all text qs i h e =
+    sym h.whole ∙ ap (λ bs. with_flags qs (flags_behind true bs)) (at_end text i e) ∙ ap Some (append-nil qs)
 
-pub no_last_letter : (text : List ℕ) (nodes : List Node) (i : ℕ) → HasRead text nodes false i → length text ≡ i → flags_behind true text ≡ None
-no_last_letter text nodes i h e =
-    sym h.whole ∙ ap (λ bs. with_flags (queries_of nodes) (flags_behind false bs)) (at_end text i e)
+pub no_last_letter : (text : List ℕ) (qs : List Query) (i : ℕ) → HasRead text qs false i → length text ≡ i → flags_behind true text ≡ None
+no_last_letter text qs i h e =
+    sym h.whole ∙ ap (λ bs. with_flags qs (flags_behind false bs)) (at_end text i e)
 
 -- ---- what the whole text asks
 
@@ -97,19 +94,87 @@ pub asked : (text : List ℕ) (q : Query) (qs : List Query) → flags_behind tru
 unfolding flags_of
 asked text q qs e = rw e refl
 
-pub asked_all : (text : List ℕ) (nodes : List Node) (i : ℕ) → HasRead text nodes true i → length text ≡ i → 0 < length nodes → flags_query text ≡ Ok (all_of (queries_of nodes))
+pub asked_all : (text : List ℕ) (qs : List Query) (i : ℕ) → HasRead text qs true i → length text ≡ i → 0 < length qs → flags_query text ≡ Ok (all_of qs)
 asked_all text [] i h e some = absurd (omega (arith, some))
-asked_all text (node ∷ nodes) i h e some = asked text (query_of node) (queries_of nodes) (reads_all text (node ∷ nodes) i h e)
+asked_all text (q ∷ qs) i h e some = asked text q qs (reads_all text (q ∷ qs) i h e)
 
-pub refused_at_end : (text : List ℕ) (nodes : List Node) (wanted : Bool) (i : ℕ) → HasRead text nodes wanted i → length text ≡ i → (wanted ≡ false) ⊎ (length nodes ≡ 0) → flags_query text ≡ Err BadFlag
-refused_at_end text nodes false i h e why = refused text (no_last_letter text nodes i h e)
-refused_at_end text nodes true i h e (inl unwanted) = absurd cc
+pub refused_at_end : (text : List ℕ) (qs : List Query) (wanted : Bool) (i : ℕ) → HasRead text qs wanted i → length text ≡ i → (wanted ≡ false) ⊎ (length qs ≡ 0) → flags_query text ≡ Err BadFlag
+refused_at_end text qs false i h e why = refused text (no_last_letter text qs i h e)
+refused_at_end text qs true i h e (inl unwanted) = absurd cc
 refused_at_end text [] true i h e (inr none) = none_refused text (reads_all text [] i h e)
-refused_at_end text (node ∷ nodes) true i h e (inr none) = absurd (omega (arith, none))
+refused_at_end text (q ∷ qs) true i h e (inr none) = absurd (omega (arith, none))
 
--- the same where the flag that is wanted is known only to be one or the other
-pub dash_read : (text : List ℕ) (nodes : List Node) (wanted : Bool) (i : ℕ) → HasRead text nodes wanted i → wanted ≡ true → i < length text → get_or text i 0 ≡ 0x2D → HasRead text nodes false (i + 1)
-dash_read text nodes wanted i h e below is = reads_dash text nodes i (rw e at h) below is
+pub dash_refused : (text : List ℕ) (qs : List Query) (wanted : Bool) (i : ℕ) → HasRead text qs wanted i → wanted ≡ false → i < length text → get_or text i 0 ≡ 0x2D → flags_query text ≡ Err BadFlag
+dash_refused text qs wanted i h e below is = refused text (sym (at_dash text qs wanted false i h e below is))
 
-pub dash_refused : (text : List ℕ) (nodes : List Node) (wanted : Bool) (i : ℕ) → HasRead text nodes wanted i → wanted ≡ false → i < length text → get_or text i 0 ≡ 0x2D → flags_query text ≡ Err BadFlag
-dash_refused text nodes wanted i h e below is = refused text (no_second_dash text nodes i (rw e at h) below is)
+-- ---- the grammar
+
+-- a letter is no dash
+no_dash : (letter : ℕ) (flag : Flag) → flag_of letter ≡ Some flag → eqb letter 0x2D ≡ false
+no_dash letter flag e = false_from_ne_true (eqb letter 0x2D) (λ h. none-some flag (ap flag_of (sym (eqb-true letter 0x2D h)) ∙ e))
+
+are_read : (text : List ℕ) (qs : List Query) → AreFlags text qs → flags_behind true text ≡ Some qs
+are_read text qs NoFlag = refl
+are_read text qs (Wanted letter flag rest more e f) = rw (no_dash letter flag e, e, are_read rest more f) refl
+are_read text qs (Unwanted letter flag rest more e f) = rw (no_dash letter flag e, e, are_read rest more f) refl
+
+pub flags_read : (text : List ℕ) (q : Query) → IsFlags text q → flags_of text ≡ Some q
+unfolding flags_of
+flags_read text q (EachFlag t first qs f) = ap (option_and_then some_of) (are_read t (first ∷ qs) f)
+
+-- what stands behind a dash
+record Behind (text : List ℕ) (qs : List Query) : Type 0 where
+  letter : ℕ
+  flag : Flag
+  rest : List ℕ
+  more : List Query
+  named : flag_of letter ≡ Some flag
+  text_is : text ≡ letter ∷ rest
+  queries : qs ≡ HasFlag flag false ∷ more
+  flags : AreFlags rest more
+
+record Named (wanted : Bool) (letter : ℕ) (rest : Option (List Query)) (qs : List Query) : Type 0 where
+  flag : Flag
+  more : List Query
+  named : flag_of letter ≡ Some flag
+  behind : rest ≡ Some more
+  queries : qs ≡ HasFlag flag wanted ∷ more
+
+with_flag_is : (wanted : Bool) (letter : ℕ) (rest : Option (List Query)) (qs : List Query) → with_flag wanted letter rest ≡ Some qs → Named wanted letter rest qs
+with_flag_is wanted letter rest qs e =
+    option_and_then_some (λ flag. option_map (λ (xs : List Query). HasFlag flag wanted ∷ xs) rest) (flag_of letter) qs e (λ flag h k.
+    let m = map_some (λ (xs : List Query). HasFlag flag wanted ∷ xs) rest qs k in
+    record { flag = flag; more = m.0; named = h; behind = m.1; queries = sym m.2 })
+
+record Read (text : List ℕ) : Type 0 where
+  wanted : (qs : List Query) → flags_behind true text ≡ Some qs → AreFlags text qs
+  unwanted : (qs : List Query) → flags_behind false text ≡ Some qs → Behind text qs
+
+read_are : (text : List ℕ) → Read text
+read_are [] = record { wanted = λ qs e. let none : [] ≡ qs = cc in subst (AreFlags []) none NoFlag; unwanted = λ qs e. absurd cc }
+read_are (b ∷ bs) = record { wanted = λ qs e. first qs (eqb b 0x2D) refl e (read_are bs); unwanted = λ qs e. behind qs (eqb b 0x2D) refl e (read_are bs) }
+  where
+    first : (qs : List Query) (t : Bool) → eqb b 0x2D ≡ t → cond t (flags_behind (not t) bs) (with_flag true b (flags_behind (not t) bs)) ≡ Some qs → Read bs → AreFlags (b ∷ bs) qs
+    first qs true h e r =
+        let d = r.unwanted qs e in
+        let text : 0x2D ∷ d.letter ∷ d.rest ≡ b ∷ bs = let dash = eqb-true b 0x2D h in let rest = d.text_is in cc in
+        subst (λ (t : List ℕ). AreFlags t qs) text (subst (AreFlags (0x2D ∷ d.letter ∷ d.rest)) (sym d.queries) (Unwanted d.letter d.flag d.rest d.more d.named d.flags))
+    first qs false h e r =
+        let n = with_flag_is true b (flags_behind true bs) qs e in
+        subst (AreFlags (b ∷ bs)) (sym n.queries) (Wanted b n.flag bs n.more n.named (r.wanted n.more n.behind))
+
+    behind : (qs : List Query) (t : Bool) → eqb b 0x2D ≡ t → cond {A = Option (List Query)} t None (with_flag false b (flags_behind (not t) bs)) ≡ Some qs → Read bs → Behind (b ∷ bs) qs
+    behind qs true h e r = absurd cc
+    behind qs false h e r =
+        let n = with_flag_is false b (flags_behind true bs) qs e in
+        record { letter = b; flag = n.flag; rest = bs; more = n.more; named = n.named; text_is = refl; queries = n.queries; flags = r.wanted n.more n.behind }
+
+pub read_flags : (text : List ℕ) (q : Query) → flags_of text ≡ Some q → IsFlags text q
+unfolding flags_of
+read_flags text q e = go (flags_behind true text) refl e
+  where
+    go : (o : Option (List Query)) → flags_behind true text ≡ o → option_and_then some_of o ≡ Some q → IsFlags text q
+    go None h e = absurd cc
+    go (Some []) h e = absurd cc
+    go (Some (first ∷ qs)) h e =
+        let same : all_of (first ∷ qs) ≡ q = cc in let r = read_are text in subst (IsFlags text) same (EachFlag text first qs (r.wanted (first ∷ qs) h))

@@ -4,6 +4,7 @@ use Rattle.std.specs.Prelude.{◌||◌, ◌&&◌, codes, option_and_then}
 use Rattle.std.specs.List.{list_all, list_any}
 use Rattle.std.proofs.Math.Bool.{or-false}
 use Rattle.std.proofs.lemmas.Bool.Decides.{eqb_tells}
+use Rattle.std.proofs.lemmas.Option.{cond_some}
 use Rattle.mail_query.specs.declared.kinds.Kinds.{Kinds}
 use Rattle.mail_query.specs.Kinds.{no_kinds, union}
 use Rattle.mail_query.specs.Mairix.{kinds_of_letter, kinds_with, kinds_of}
@@ -88,8 +89,6 @@ pub record Named (letters : List ℕ) (kinds : Kinds) : Type 0 where
 
 pub read_letters : (letters : List ℕ) (kinds : Kinds) → kinds_of letters ≡ Some kinds → Named letters kinds
 read_letters [] kinds e = absurd cc
-read_letters (letter ∷ letters) kinds e = go (are_letters (letter ∷ letters)) refl (sym (some_named letter letters) ∙ e)
-  where
-    go : (t : Bool) → are_letters (letter ∷ letters) ≡ t → cond t (Some (kinds_named (letter ∷ letters))) None ≡ Some kinds → Named (letter ∷ letters) kinds
-    go true h e = record { letters_are = record { some = omega arith; letters = h }; kinds_are = cc }
-    go false h e = absurd cc
+read_letters (letter ∷ letters) kinds e =
+    let named = cond_some (are_letters (letter ∷ letters)) (kinds_named (letter ∷ letters)) kinds (sym (some_named letter letters) ∙ e) in
+    record { letters_are = record { some = omega arith; letters = named.0 }; kinds_are = named.1 }

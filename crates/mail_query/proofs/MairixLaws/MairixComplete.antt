@@ -1,9 +1,10 @@
 -- What the grammar of patterns relates is what is read.
-use Rattle.std.proofs.Common.{◌≡◌, ℕ, suc, ◌+◌, ◌<◌, Bool, true, false, not, eqb, List, [], ◌∷◌, ◌++◌, Option, None, Some, Result, Ok, refl, ap, ◌∙◌, arith, IsUtf8}
+use Rattle.std.proofs.Common.{◌≡◌, ℕ, ◌+◌, ◌<◌, true, false, eqb, List, [], ◌∷◌, ◌++◌, Option, None, Some, Result, Ok, ap, refl, sym, ◌∙◌, arith, IsUtf8}
 use Rattle.std.specs.Prelude.{◌&&◌, bytes_eq, codes, ok_or}
-use Rattle.std.specs.Bool.{Decides}
 use Rattle.std.specs.List.{list_any, list_all, slice_split, All}
-use Rattle.std.proofs.lemmas.Bool.{and_parts, or_from, not-true}
+use Rattle.std.proofs.lemmas.Bool.{and_parts, or_from, not-true, both_ways, false_from_ne_true}
+use Rattle.std.proofs.lemmas.List.Elements.{All-head, All-tail}
+use Rattle.std.proofs.lemmas.Option.{cond_some, none-some}
 use Rattle.std.proofs.lemmas.Slice.Eq.{bytes_eq-Decides}
 use Rattle.contract_words.specs.Answers.{◌>>=◌, with_front, fault_as}
 use Rattle.mail_query.specs.declared.fault.QueryFault.{QueryFault}
@@ -13,14 +14,14 @@ use Rattle.mail_query.specs.declared.kinds.Kinds.{Kinds}
 use Rattle.mail_query.specs.Pieces.{is_byte, without_angles, is_nonempty}
 use Rattle.mail_query.specs.Lexicon.{Lexicon}
 use Rattle.mail_query.specs.Query.{Query, Not, all_of, either_of}
-use Rattle.mail_query.specs.Mairix.{Forms, plain_kinds, kinds_of, is_sign, is_id, id_forms, word_forms, some_if, each_read, atom_query, term_query, all_query, rest_query, prefixed_query, pattern_query, patterns_from, patterns_query}
+use Rattle.mail_query.specs.Mairix.{Forms, plain_kinds, kinds_of, is_sign, is_id, id_forms, word_forms, each_read, atom_query, term_query, all_query, rest_query, prefixed_query, pattern_query, patterns_from, patterns_query}
 use Rattle.mail_query.specs.MairixGrammar.{is_among, kinds_named, Separated, Alone, Before, IsAtom, WholeWord, PartOfWord, FrontOfWord, IsTerm, Wanted, Unwanted, IsAll, EachTerm, IsRest, SomeAll, IsPattern, Plain, InKinds, OfId, OfDate, OfSize, OfFlags, ArePatterns, Only, AndAlso, IsAsked, EachPattern, HasNoSigns}
-use Rattle.mail_query.proofs.PieceLemmas.{other_byte, without_last-same}
+use Rattle.mail_query.proofs.PieceLemmas.{other_byte, without_last-same, none_unless, Free, cut_none, cut_at}
 use Rattle.mail_query.proofs.MairixLaws.EachLemmas.{at_number}
 use Rattle.mail_query.proofs.MairixLaws.KindLemmas.{letters_read}
-use Rattle.mail_query.proofs.MairixLaws.FlagGrammarLemmas.{flags_read}
-use Rattle.mail_query.proofs.MairixLaws.SizeGrammarLemmas.{sizes_read}
-use Rattle.mail_query.proofs.MairixLaws.SignLemmas.{Free, any-append, any-behind, free_of, not_approximate, not_approximate-marked, split_none, split_at, first_free, cut_none, cut_at, utf8_before, utf8_behind}
+use Rattle.mail_query.proofs.MairixLaws.FlagLemmas.{flags_read}
+use Rattle.mail_query.proofs.MairixLaws.SizeLemmas.{sizes_read}
+use Rattle.mail_query.proofs.MairixLaws.SignLemmas.{any-append, any-behind, free_of, not_approximate, not_approximate-marked, split_none, split_at, first_free, utf8_before, utf8_behind}
 
 -- ---- texts between signs
 
@@ -37,7 +38,7 @@ separated_read sign Asks read below one text qs (Before t rest q more a s) utf8 
     ∙ ap (λ (r : Result Query QueryFaultKind). r >>= (λ x. with_front (x ∷ []) (each_read read (slice_split (is_byte sign) rest)))) h.0
     ∙ ap (with_front (q ∷ [])) k
 
-pub separated_free : (sign c : ℕ) (Asks : List ℕ → Query → Type 0) → sign < 128 → eqb sign c ≡ false
+separated_free : (sign c : ℕ) (Asks : List ℕ → Query → Type 0) → sign < 128 → eqb sign c ≡ false
     → ((text : List ℕ) (q : Query) → Asks text q → IsUtf8 text → Free c text) → (text : List ℕ) (qs : List Query) → Separated sign Asks text qs → IsUtf8 text → Free c text
 separated_free sign c Asks below differs one text qs (Alone t q a) utf8 = one t q a utf8
 separated_free sign c Asks below differs one text qs (Before t rest q more a s) utf8 =
@@ -53,39 +54,28 @@ pub record PlainForms (forms : Forms) : Type 0 where
 
 module _ (forms : Forms) (plain : PlainForms forms) where
   no_word : (text : List ℕ) → IsUtf8 text → list_any is_sign text ≡ true → forms.word text ≡ None
-  no_word text utf8 h = go (forms.word text) refl
-    where
-      go : (o : Option (List ℕ)) → forms.word text ≡ o → forms.word text ≡ None
-      go None e = e
-      go (Some sought) e = let k = plain.words text sought utf8 e in absurd cc
+  no_word text utf8 h = none_unless (forms.word text) (λ sought e. both_ways (list_any is_sign text) (plain.words text sought utf8 e) h)
 
   no_part : (text : List ℕ) → IsUtf8 text → list_any is_sign text ≡ true → forms.part text ≡ None
-  no_part text utf8 h = go (forms.part text) refl
-    where
-      go : (o : Option (List ℕ)) → forms.part text ≡ o → forms.part text ≡ None
-      go None e = e
-      go (Some sought) e = let k = plain.parts text sought utf8 e in absurd cc
+  no_part text utf8 h = none_unless (forms.part text) (λ sought e. both_ways (list_any is_sign text) (plain.parts text sought utf8 e) h)
 
+  -- it asks that, and has no sign but `^` and `=`
   pub record AtomRead (text : List ℕ) (q : Query) : Type 0 where
     pub read : atom_query forms text ≡ Ok q
-    pub tilde : Free 0x7E text
-    pub comma : Free 0x2C text
-    pub slash : Free 0x2F text
+    pub free : (c : ℕ) → is_sign c ≡ true → eqb 0x5E c ≡ false → eqb 0x3D c ≡ false → Free c text
 
-  marked_free : (c : ℕ) (sub : List ℕ) → is_sign c ≡ true → eqb 0x3D c ≡ false → list_any is_sign sub ≡ false → Free c (sub ++ 0x3D ∷ [])
-  marked_free c sub sign differs h = any-append (is_byte c) sub (0x3D ∷ []) (free_of c sub sign h) (or_from (eqb 0x3D c) false differs refl)
+  marked_free : (sub : List ℕ) → list_any is_sign sub ≡ false → (c : ℕ) → is_sign c ≡ true → eqb 0x3D c ≡ false → Free c (sub ++ 0x3D ∷ [])
+  marked_free sub h c sign differs = any-append (is_byte c) sub (0x3D ∷ []) (free_of c sub sign h) (or_from (eqb 0x3D c) false differs refl)
 
   pub atom_read : (text : List ℕ) (q : Query) → IsAtom forms text q → IsUtf8 text → AtomRead text q
   atom_read text q (WholeWord word sought e) utf8 =
       let h = plain.words word sought utf8 e in
-      record { read = rw (not_approximate word h, e) refl; tilde = free_of 0x7E word refl h; comma = free_of 0x2C word refl h; slash = free_of 0x2F word refl h }
+      record { read = rw (not_approximate word h, e) refl; free = λ c sign front mark. free_of c word sign h }
   atom_read text q (PartOfWord sub sought e) utf8 =
       let h = plain.parts sub sought (utf8_before sub [] 0x3D (omega arith) utf8) e in
       record {
         read = rw (not_approximate-marked sub h, no_word (sub ++ 0x3D ∷ []) utf8 (any-behind is_sign sub [] 0x3D refl), without_last-same 0x3D sub, e) refl;
-        tilde = marked_free 0x7E sub refl refl h;
-        comma = marked_free 0x2C sub refl refl h;
-        slash = marked_free 0x2F sub refl refl h;
+        free = λ c sign front mark. marked_free sub h c sign mark;
       }
   atom_read text q (FrontOfWord sub sought e) utf8 =
       let behind : IsUtf8 (sub ++ 0x3D ∷ []) = utf8_behind [] (sub ++ 0x3D ∷ []) 0x5E (omega arith) utf8 in
@@ -100,9 +90,7 @@ module _ (forms : Forms) (plain : PlainForms forms) where
               e,
             )
             refl;
-        tilde = marked_free 0x7E sub refl refl h;
-        comma = marked_free 0x2C sub refl refl h;
-        slash = marked_free 0x2F sub refl refl h;
+        free = λ c sign front mark. or_from (eqb 0x5E c) (list_any (is_byte c) (sub ++ 0x3D ∷ [])) front (marked_free sub h c sign mark);
       }
 
   pub record TermRead (text : List ℕ) (q : Query) : Type 0 where
@@ -113,10 +101,10 @@ module _ (forms : Forms) (plain : PlainForms forms) where
   pub term_read : (text : List ℕ) (q : Query) → IsTerm forms text q → IsUtf8 text → TermRead text q
   term_read text q (Wanted atom asked a) utf8 =
       let h = atom_read atom asked a utf8 in
-      record { read = rw (first_free 0x7E atom h.tilde, term_query) h.read; comma = h.comma; slash = h.slash }
+      record { read = rw (first_free 0x7E atom (h.free 0x7E refl refl refl), term_query) h.read; comma = h.free 0x2C refl refl refl; slash = h.free 0x2F refl refl refl }
   term_read text q (Unwanted atom asked a) utf8 =
       let h = atom_read atom asked a (utf8_behind [] atom 0x7E (omega arith) utf8) in
-      record { read = ap (λ (r : Result Query QueryFaultKind). r >>= (λ x. Ok (Not x))) h.read; comma = h.comma; slash = h.slash }
+      record { read = ap (λ (r : Result Query QueryFaultKind). r >>= (λ x. Ok (Not x))) h.read; comma = h.free 0x2C refl refl refl; slash = h.free 0x2F refl refl refl }
 
   pub all_read : (text : List ℕ) (q : Query) → IsAll forms text q → IsUtf8 text → (all_query forms text ≡ Ok q) × Free 0x2F text
   all_read text q (EachTerm t qs s) utf8 = (
@@ -132,38 +120,30 @@ module _ (forms : Forms) (plain : PlainForms forms) where
 
 -- ---- patterns
 
-id_test : (passes filled : Bool) (text sought : List ℕ) → some_if (passes && filled) text ≡ Some sought → passes ≡ true
-id_test true filled text sought e = refl
-id_test false filled text sought e = absurd cc
-
-test : (passes : Bool) (text sought : List ℕ) → some_if passes text ≡ Some sought → passes ≡ true
-test true text sought e = refl
-test false text sought e = absurd cc
-
-unsigned : (filled signs : Bool) → (filled && not signs) ≡ true → signs ≡ false
-unsigned true signs h = not-true signs h
-unsigned false signs h = absurd cc
+id_unsigned : (text : List ℕ) → is_id text ≡ true → list_any is_sign text ≡ false
+id_unsigned text h = let parts = and_parts (is_nonempty text) _ h in not-true (list_any is_sign text) parts.1
 
 pub id_plain : PlainForms id_forms
 id_plain = record {
-  words = λ text sought utf8 e. unsigned (is_nonempty text) (list_any is_sign text) (id_test (is_id text) (is_nonempty (without_angles text)) (without_angles text) sought e);
-  parts = λ text sought utf8 e. unsigned (is_nonempty text) (list_any is_sign text) (test (is_id text) text sought e);
+  words = λ text sought utf8 e.
+      let both = cond_some (is_id text && is_nonempty (without_angles text)) (without_angles text) sought e in
+      let parts = and_parts (is_id text) (is_nonempty (without_angles text)) both.0 in
+      id_unsigned text parts.0;
+  parts = λ text sought utf8 e. let test = cond_some (is_id text) text sought e in id_unsigned text test.0;
 }
 
 module _ (lexicon : Lexicon) (plain : HasNoSigns lexicon) where
   pub word_plain : (kinds : Kinds) → PlainForms (word_forms lexicon kinds)
   word_plain kinds = record {
-    words = λ text sought utf8 e. plain.words text utf8 (test (lexicon.is_word text) (lexicon.folded text) sought e);
-    parts = λ text sought utf8 e. plain.pieces text utf8 (test (lexicon.is_piece text) (lexicon.folded text) sought e);
+    words = λ text sought utf8 e. let test = cond_some (lexicon.is_word text) (lexicon.folded text) sought e in plain.words text utf8 test.0;
+    parts = λ text sought utf8 e. let test = cond_some (lexicon.is_piece text) (lexicon.folded text) sought e in plain.pieces text utf8 test.0;
   }
 
   -- what names kinds is no other prefix
   differs : (letters other : List ℕ) (kinds : Kinds) → kinds_of letters ≡ Some kinds → kinds_of other ≡ None → bytes_eq letters other ≡ false
-  differs letters other kinds e n = go (bytes_eq letters other) refl (bytes_eq-Decides letters other)
-    where
-      go : (t : Bool) → bytes_eq letters other ≡ t → Decides (bytes_eq letters other) (letters ≡ other) → bytes_eq letters other ≡ false
-      go true h d = let same = d.0 h in let none = ap kinds_of same ∙ n in absurd cc
-      go false h d = h
+  differs letters other kinds e n =
+      let d = bytes_eq-Decides letters other in
+      false_from_ne_true (bytes_eq letters other) (λ h. none-some kinds (sym n ∙ sym (ap kinds_of (d.0 h)) ∙ e))
 
   -- letters have no `:`
   pub letters_free : (letters : List ℕ) → list_all (is_among (codes "tcfsban")) letters ≡ true → Free 0x3A letters
@@ -189,18 +169,12 @@ module _ (lexicon : Lexicon) (plain : HasNoSigns lexicon) where
 
   -- ---- lists of patterns
 
-  all_first : (pattern : List ℕ) (patterns : List (List ℕ)) → All IsUtf8 (pattern ∷ patterns) → IsUtf8 pattern
-  all_first pattern patterns h = h 0 pattern (omega arith)
-
-  all_behind : (pattern : List ℕ) (patterns : List (List ℕ)) → All IsUtf8 (pattern ∷ patterns) → All IsUtf8 patterns
-  all_behind pattern patterns h = λ k d below. h (suc k) d (omega (arith, below))
-
   from_read : (n : ℕ) (patterns : List (List ℕ)) (qs : List Query) → ArePatterns lexicon patterns qs → All IsUtf8 patterns → patterns_from lexicon n patterns ≡ Ok qs
   from_read n patterns qs (Only pattern q a) utf8 =
-      ap (λ (r : Result Query QueryFaultKind). fault_as (at_number n) r >>= (λ x. with_front (x ∷ []) (Ok []))) (pattern_read pattern q a (all_first pattern [] utf8))
+      ap (λ (r : Result Query QueryFaultKind). fault_as (at_number n) r >>= (λ x. with_front (x ∷ []) (Ok []))) (pattern_read pattern q a (All-head IsUtf8 pattern [] utf8))
   from_read n patterns qs (AndAlso pattern rest q more a s) utf8 =
-      ap (λ (r : Result Query QueryFaultKind). fault_as (at_number n) r >>= (λ x. with_front (x ∷ []) (patterns_from lexicon (n + 1) rest))) (pattern_read pattern q a (all_first pattern rest utf8))
-      ∙ ap (with_front (q ∷ [])) (from_read (n + 1) rest more s (all_behind pattern rest utf8))
+      ap (λ (r : Result Query QueryFaultKind). fault_as (at_number n) r >>= (λ x. with_front (x ∷ []) (patterns_from lexicon (n + 1) rest))) (pattern_read pattern q a (All-head IsUtf8 pattern rest utf8))
+      ∙ ap (with_front (q ∷ [])) (from_read (n + 1) rest more s (All-tail IsUtf8 pattern rest utf8))
 
   first_read : (patterns : List (List ℕ)) (qs : List Query) → ArePatterns lexicon patterns qs → patterns_query lexicon patterns ≡ patterns_from lexicon 1 patterns >>= (λ xs. Ok (all_of xs))
   first_read patterns qs (Only pattern q a) = refl

@@ -1,10 +1,10 @@
 -- The words of mail, and the pieces of them, have no signs of the grammar of patterns.
-use Rattle.std.proofs.Common.{◌≡◌, ℕ, suc, ◌<◌, ◌≤◌, Bool, true, false, List, [], ◌∷◌, length, get_or, chars, IsUtf8, Option, inl, inr, refl, sym, ap, ◌∙◌, arith}
+use Rattle.std.proofs.Common.{◌≡◌, ℕ, ◌<◌, ◌≤◌, true, false, List, [], ◌∷◌, length, get_or, chars, IsUtf8, Option, inl, inr, refl, sym, ap, ◌∙◌, arith}
 use Rattle.std.specs.Prelude.{◌&&◌, ◌||◌, nat_le}
 use Rattle.std.specs.Char.{is_ascii_alphanumeric}
 use Rattle.std.specs.List.{list_all, list_any}
 use Rattle.std.specs.Str.{NonePass, NoCharPasses}
-use Rattle.std.proofs.lemmas.Bool.{and_parts, or_from, agree_below_at, cases_lt}
+use Rattle.std.proofs.lemmas.Bool.{and_parts, and_from, both_ways, false_from_ne_true, agree_below_at, cases_lt}
 use Rattle.std.proofs.lemmas.Bool.Decides.{nat_tests}
 use Rattle.std.proofs.lemmas.Str.{encodes-chars, NoCharPasses-byte}
 use Rattle.mail_words.specs.Words.{is_joiner, is_one_word, is_part_of_word, word_limit}
@@ -15,6 +15,7 @@ use Rattle.mail_dates.specs.declared.range.Range.{Range}
 use Rattle.mail_query.specs.Mairix.{is_sign}
 use Rattle.mail_query.specs.MairixGrammar.{HasNoSigns}
 use Rattle.mail_query.specs.Mail.{mail_lexicon}
+use Rattle.mail_query.proofs.PieceLemmas.{none_passes}
 
 sign_below : (b : ℕ) → is_sign b ≡ true → b < 128
 sign_below b h = grind (arith, nat_tests)
@@ -25,34 +26,18 @@ apart c below = agree_below_at (λ n. is_sign n && (is_ascii_alphanumeric n || i
 
 -- a character of a word is no sign
 piece_is_no_sign : (c : ℕ) → is_piece c ≡ true → is_sign c ≡ false
-piece_is_no_sign c piece = go (is_sign c) refl
-  where
-    both : (s p : Bool) → (s && p) ≡ false → s ≡ true → p ≡ true → s ≡ false
-    both true true h i j = h
-    both true false h i j = absurd cc
-    both false p h i j = refl
-
-    go : (t : Bool) → is_sign c ≡ t → is_sign c ≡ false
-    go true h =
-        let below : c < 128 = sign_below c h in
-        let plain : (is_ascii_alphanumeric c || is_joiner c) ≡ true = ap (λ w. w || is_joiner c) (sym (is_word_character-ascii c below)) ∙ piece in
-        both (is_sign c) (is_ascii_alphanumeric c || is_joiner c) (apart c below) h plain
-    go false h = h
+piece_is_no_sign c piece =
+    false_from_ne_true (is_sign c) (λ h.
+    let below : c < 128 = sign_below c h in
+    let plain : (is_ascii_alphanumeric c || is_joiner c) ≡ true = ap (λ w. w || is_joiner c) (sym (is_word_character-ascii c below)) ∙ piece in
+    both_ways (is_sign c && (is_ascii_alphanumeric c || is_joiner c)) (apart c below) (and_from (is_sign c) (is_ascii_alphanumeric c || is_joiner c) h plain))
 
 none_pass : (cs : List ℕ) → list_all is_piece cs ≡ true → NonePass is_sign cs
 none_pass [] h = tt
 none_pass (c ∷ cs) h = let parts = and_parts (is_piece c) (list_all is_piece cs) h in (piece_is_no_sign c parts.0, none_pass cs parts.1)
 
-any_of_none : (text : List ℕ) → ((i : ℕ) → i < length text → is_sign (get_or text i 0) ≡ false) → list_any is_sign text ≡ false
-any_of_none [] h = refl
-any_of_none (b ∷ bs) h = or_from (is_sign b) (list_any is_sign bs) (h 0 (omega arith)) (any_of_none bs (λ i below. h (suc i) (omega (arith, below))))
-
 large_is_no_sign : (b : ℕ) → 128 ≤ b → is_sign b ≡ false
-large_is_no_sign b h = go (is_sign b) refl
-  where
-    go : (t : Bool) → is_sign b ≡ t → is_sign b ≡ false
-    go true i = absurd (omega (arith, sign_below b i, h))
-    go false i = i
+large_is_no_sign b h = false_from_ne_true (is_sign b) (λ i. absurd (omega (arith, sign_below b i, h)))
 
 byte_is_no_sign : (text : List ℕ) → NoCharPasses is_sign text → (i : ℕ) → i < length text → is_sign (get_or text i 0) ≡ false
 byte_is_no_sign text none i below =
@@ -62,7 +47,7 @@ piece_plain : (text : List ℕ) → IsUtf8 text → is_part_of_word text ≡ tru
 unfolding is_part_of_word
 piece_plain text utf8 h =
     let parts = and_parts (nat_le 1 (length text) && nat_le (length text) word_limit) (list_all is_piece (chars text)) h in
-    any_of_none text (byte_is_no_sign text (chars text, encodes-chars text utf8, none_pass (chars text) parts.1))
+    none_passes is_sign text (byte_is_no_sign text (chars text, encodes-chars text utf8, none_pass (chars text) parts.1))
 
 word_plain : (text : List ℕ) → IsUtf8 text → is_one_word text ≡ true → list_any is_sign text ≡ false
 word_plain text utf8 h =

@@ -3,15 +3,12 @@ use Rattle.std.proofs.Common.{◌≡◌, ℕ, ◌+◌, ◌<◌, Bool, true, fals
 use Rattle.std.specs.Prelude.{option_map}
 use Rattle.std.specs.List.{list_any, slice_split, onto_first}
 use Rattle.std.proofs.Math.Seq.{get_or-append_seam, take-append_seam, drop-append-add}
-use Rattle.std.proofs.lemmas.Bool.{eqb-true, or_parts, or_from, or_left, or_right}
+use Rattle.std.proofs.lemmas.Bool.{eqb-true, or_parts, or_from, or_left, or_right, both_ways, false_from_ne_true}
+use Rattle.std.proofs.lemmas.Option.{cond_some}
 use Rattle.std.proofs.lemmas.Str.{IsCharBoundary-before_ascii, IsCharBoundary-after_ascii, IsUtf8-take, IsUtf8-drop}
 use Rattle.mail_query.specs.Pieces.{is_byte, cut, without_first, without_last}
 use Rattle.mail_query.specs.Mairix.{is_sign, is_approximate}
-use Rattle.mail_query.proofs.PieceLemmas.{same_byte}
-
--- the byte stands nowhere
-abbrev pub Free : ℕ → List ℕ → Type 0
-Free c text = list_any (is_byte c) text ≡ false
+use Rattle.mail_query.proofs.PieceLemmas.{same_byte, Free}
 
 pub any-append : (p : ℕ → Bool) (xs ys : List ℕ) → list_any p xs ≡ false → list_any p ys ≡ false → list_any p (xs ++ ys) ≡ false
 any-append p [] ys h k = k
@@ -24,15 +21,8 @@ any-behind p (x ∷ xs) ys y h = or_right (p x) (list_any p (xs ++ y ∷ ys)) (a
 
 -- ---- signs
 
-no_both : (b : Bool) {A : Type 0} → b ≡ true → b ≡ false → A
-no_both b h k = absurd cc
-
 pub other_sign : (c b : ℕ) → is_sign c ≡ true → is_sign b ≡ false → eqb b c ≡ false
-other_sign c b h k = go (eqb b c) refl
-  where
-    go : (t : Bool) → eqb b c ≡ t → eqb b c ≡ false
-    go true e = no_both (is_sign b) (ap is_sign (eqb-true b c e) ∙ h) k
-    go false e = e
+other_sign c b h k = false_from_ne_true (eqb b c) (λ e. both_ways (is_sign b) k (ap is_sign (eqb-true b c e) ∙ h))
 
 -- a text without signs is without each of them
 pub free_of : (c : ℕ) (text : List ℕ) → is_sign c ≡ true → list_any is_sign text ≡ false → Free c text
@@ -67,19 +57,6 @@ pub first_free : (c : ℕ) (text : List ℕ) → Free c text → without_first c
 first_free c [] h = refl
 first_free c (b ∷ bs) h = let parts = or_parts (eqb b c) (list_any (is_byte c) bs) h in rw parts.0 refl
 
-onto_front : ℕ → Option (List ℕ × List ℕ) → Option (List ℕ × List ℕ)
-onto_front b o = option_map (λ (p : List ℕ × List ℕ). (b ∷ p.0, p.1)) o
-
-pub cut_none : (c : ℕ) (text : List ℕ) → Free c text → cut c text ≡ None
-unfolding onto_front
-cut_none c [] h = refl
-cut_none c (b ∷ bs) h = let parts = or_parts (eqb b c) (list_any (is_byte c) bs) h in rw parts.0 (ap (onto_front b) (cut_none c bs parts.1))
-
-pub cut_at : (c : ℕ) (text rest : List ℕ) → Free c text → cut c (text ++ c ∷ rest) ≡ Some (text, rest)
-unfolding onto_front
-cut_at c [] rest h = rw same_byte refl
-cut_at c (b ∷ bs) rest h = let parts = or_parts (eqb b c) (list_any (is_byte c) bs) h in rw parts.0 (ap (onto_front b) (cut_at c bs rest parts.1))
-
 -- ---- where a text was cut
 
 pub map_some : {A B : Type 0} (f : A → B) (o : Option A) (y : B) → option_map f o ≡ Some y → (x : A) × (o ≡ Some x) × (f x ≡ y)
@@ -88,47 +65,29 @@ map_some f (Some x) y e = (x, refl, cc)
 
 pub last_is : (c : ℕ) (text sub : List ℕ) → without_last c text ≡ Some sub → text ≡ sub ++ c ∷ []
 last_is c [] sub e = absurd cc
-last_is c (b ∷ []) sub e = go (eqb b c) refl e
-  where
-    go : (t : Bool) → eqb b c ≡ t → cond t (Some []) None ≡ Some sub → b ∷ [] ≡ sub ++ c ∷ []
-    go true h e = let s : [] ≡ sub = cc in ap (λ x. x ∷ []) (eqb-true b c h) ∙ ap (λ (t : List ℕ). t ++ c ∷ []) s
-    go false h e = absurd cc
+last_is c (b ∷ []) sub e =
+    let one = cond_some (eqb b c) [] sub e in ap (λ x. x ∷ []) (eqb-true b c one.0) ∙ ap (λ (t : List ℕ). t ++ c ∷ []) one.1
 last_is c (b ∷ d ∷ bs) sub e =
     let m = map_some (λ (t : List ℕ). b ∷ t) (without_last c (d ∷ bs)) sub e in
     ap (λ (t : List ℕ). b ∷ t) (last_is c (d ∷ bs) m.0 m.1) ∙ ap (λ (t : List ℕ). t ++ c ∷ []) m.2
 
 pub first_is : (c : ℕ) (text sub : List ℕ) → without_first c text ≡ Some sub → text ≡ c ∷ sub
 first_is c [] sub e = absurd cc
-first_is c (b ∷ bs) sub e = go (eqb b c) refl e
-  where
-    go : (t : Bool) → eqb b c ≡ t → cond t (Some bs) None ≡ Some sub → b ∷ bs ≡ c ∷ sub
-    go true h e = let s : bs ≡ sub = cc in let same : b ≡ c = eqb-true b c h in cc
-    go false h e = absurd cc
+first_is c (b ∷ bs) sub e = let same = cond_some (eqb b c) bs sub e in let first = eqb-true b c same.0 in let rest = same.1 in cc
 
-pub cut_is : (c : ℕ) (text : List ℕ) (p : List ℕ × List ℕ) → cut c text ≡ Some p → text ≡ p.0 ++ c ∷ p.1
-cut_is c [] p e = absurd cc
-cut_is c (b ∷ bs) p e = go (eqb b c) refl e (λ r h. cut_is c bs r h)
+pub cut_parts : (c : ℕ) (text : List ℕ) (p : List ℕ × List ℕ) → cut c text ≡ Some p → (text ≡ p.0 ++ c ∷ p.1) × Free c p.0
+cut_parts c [] p e = absurd cc
+cut_parts c (b ∷ bs) p e = go (eqb b c) refl e (λ r h. cut_parts c bs r h)
   where
     go : (t : Bool) → eqb b c ≡ t → cond t (Some ([], bs)) (option_map (λ (r : List ℕ × List ℕ). (b ∷ r.0, r.1)) (cut c bs)) ≡ Some p
-        → ((r : List ℕ × List ℕ) → cut c bs ≡ Some r → bs ≡ r.0 ++ c ∷ r.1) → b ∷ bs ≡ p.0 ++ c ∷ p.1
+        → ((r : List ℕ × List ℕ) → cut c bs ≡ Some r → (bs ≡ r.0 ++ c ∷ r.1) × Free c r.0) → (b ∷ bs ≡ p.0 ++ c ∷ p.1) × Free c p.0
     go true h e k =
         let s : ([], bs) ≡ p = cc in
-        ap (λ x. x ∷ bs) (eqb-true b c h) ∙ ap (λ (r : List ℕ × List ℕ). r.0 ++ c ∷ r.1) s
+        subst (λ (r : List ℕ × List ℕ). (b ∷ bs ≡ r.0 ++ c ∷ r.1) × Free c r.0) s (ap (λ x. x ∷ bs) (eqb-true b c h), refl)
     go false h e k =
         let m = map_some (λ (r : List ℕ × List ℕ). (b ∷ r.0, r.1)) (cut c bs) p e in
-        ap (λ (t : List ℕ). b ∷ t) (k m.0 m.1) ∙ ap (λ (r : List ℕ × List ℕ). r.0 ++ c ∷ r.1) m.2
-
--- the byte cuts first where it stands first
-pub cut_free : (c : ℕ) (text : List ℕ) (p : List ℕ × List ℕ) → cut c text ≡ Some p → Free c p.0
-cut_free c [] p e = absurd cc
-cut_free c (b ∷ bs) p e = go (eqb b c) refl e (λ r h. cut_free c bs r h)
-  where
-    go : (t : Bool) → eqb b c ≡ t → cond t (Some ([], bs)) (option_map (λ (r : List ℕ × List ℕ). (b ∷ r.0, r.1)) (cut c bs)) ≡ Some p
-        → ((r : List ℕ × List ℕ) → cut c bs ≡ Some r → Free c r.0) → Free c p.0
-    go true h e k = let s : ([], bs) ≡ p = cc in subst (λ (r : List ℕ × List ℕ). Free c r.0) s refl
-    go false h e k =
-        let m = map_some (λ (r : List ℕ × List ℕ). (b ∷ r.0, r.1)) (cut c bs) p e in
-        subst (λ (r : List ℕ × List ℕ). Free c r.0) m.2 (or_from (eqb b c) (list_any (is_byte c) m.0.0) h (k m.0 m.1))
+        let rest = k m.0 m.1 in
+        subst (λ (r : List ℕ × List ℕ). (b ∷ bs ≡ r.0 ++ c ∷ r.1) × Free c r.0) m.2 (ap (λ (t : List ℕ). b ∷ t) rest.0, or_from (eqb b c) (list_any (is_byte c) m.0.0) h rest.1)
 
 pub uncut_free : (c : ℕ) (text : List ℕ) → cut c text ≡ None → list_any (is_byte c) text ≡ false
 uncut_free c [] e = refl

@@ -1,10 +1,18 @@
--- The last byte of a text, and those before it.
-use Rattle.std.proofs.Common.{◌≡◌, ℕ, ◌-◌, ◌<◌, List, [], ◌∷◌, ◌++◌, length, take, Option, Some, None, refl, sym, ap, ◌∙◌, arith, length-append}
-use Rattle.std.specs.Prelude.{slice_get, option_and_then}
-use Rattle.std.specs.List.{IsLastAndRest}
-use Rattle.std.proofs.Math.Seq.{get_or-append_seam, take-append_seam}
-use Rattle.std.proofs.lemmas.Option.{slice_get-get_or}
-use Rattle.mail_query.specs.Sizes.{last_byte, before_last_byte, factor_of, scaled, size_with, size_of}
+-- How sizes are read, which is as their grammar says.
+use Rattle.std.proofs.Common.{◌≡◌, ℕ, ◌-◌, ◌<◌, List, [], ◌∷◌, ◌++◌, length, Option, Some, None, refl, sym, ap, ◌∙◌, arith, length-append, ◌*◌, ◌≤◌, Bool, true, false, cond, eqb, leb, option_map, subst}
+use Rattle.std.specs.Prelude.{slice_get, option_and_then, ◌&&◌}
+use Rattle.std.specs.List.{IsLastAndRest, list_all, list_any}
+use Rattle.std.proofs.Math.Seq.{get_or-append_seam}
+use Rattle.std.proofs.lemmas.Option.{slice_get-get_or, cond_some, option_and_then_some}
+use Rattle.mail_query.specs.Sizes.{last_byte, before_last_byte, factor_of, scaled, size_with, size_of, size_limit, low_of, high_of, sizes_between, sizes_of}
+use Rattle.std.specs.Char.{is_ascii_digit}
+use Rattle.std.specs.Str.Parse.{digits_value}
+use Rattle.std.proofs.lemmas.Bool.{leb-true, le-leb, and_parts, and_from, or_from}
+use Rattle.mail_query.specs.Query.{Query, Size}
+use Rattle.mail_query.specs.Pieces.{is_byte, cut}
+use Rattle.mail_query.specs.SizeGrammar.{IsNumber, IsSize, InBytes, InUnits, IsLow, FromZero, FromSize, IsHigh, Unbounded, ToSize, IsSizes, Between}
+use Rattle.mail_query.proofs.PieceLemmas.{last_of, before_last, other_byte, Free, cut_at}
+use Rattle.mail_query.proofs.MairixLaws.SignLemmas.{any-append, cut_parts, map_some}
 
 last_place : (front : List ℕ) (letter : ℕ) → length (front ++ letter ∷ []) - 1 ≡ length front
 last_place front letter = omega (arith, length-append front (letter ∷ []))
@@ -16,7 +24,7 @@ last_byte-last front letter =
     ∙ ap Some (get_or-append_seam front letter [] 0)
 
 before_last_byte-last : (front : List ℕ) (letter : ℕ) → before_last_byte (front ++ letter ∷ []) ≡ front
-before_last_byte-last front letter = ap (λ n. take n (front ++ letter ∷ [])) (last_place front letter) ∙ take-append_seam front (letter ∷ [])
+before_last_byte-last front letter = before_last front letter
 
 with_last : (front : List ℕ) (letter : ℕ) (o : Option ℕ) → factor_of letter ≡ o → size_of (front ++ letter ∷ []) ≡ size_with o (front ++ letter ∷ [])
 unfolding size_of
@@ -35,3 +43,152 @@ pub size_of-nothing : (text : List ℕ) → length text ≡ 0 → size_of text �
 unfolding size_of
 size_of-nothing [] e = refl
 size_of-nothing (b ∷ bs) e = absurd (omega (arith, e))
+
+-- ---- the grammar
+
+abbrev worth : List ℕ → ℕ
+worth digits = digits_value 10 digits
+
+-- ---- numbers
+
+abbrev is_number : List ℕ → Bool
+is_number digits = leb 1 (length digits) && leb (length digits) 18
+
+record Scaled (factor : ℕ) (digits : List ℕ) (size : ℕ) : Type 0 where
+  number : IsNumber digits
+  small : worth digits * factor ≤ size_limit
+  size_is : worth digits * factor ≡ size
+
+scaled_is : (factor : ℕ) (digits : List ℕ) (size : ℕ) → scaled factor digits ≡ Some size → Scaled factor digits size
+scaled_is factor digits size e =
+    let test = cond_some ((is_number digits) && (list_all is_ascii_digit digits && leb (worth digits * factor) size_limit)) (worth digits * factor) size e in
+    let parts = and_parts (is_number digits) (list_all is_ascii_digit digits && leb (worth digits * factor) size_limit) test.0 in
+    let long = and_parts (leb 1 (length digits)) (leb (length digits) 18) parts.0 in
+    let rest = and_parts (list_all is_ascii_digit digits) (leb (worth digits * factor) size_limit) parts.1 in
+    record {
+      number = record { some = leb-true 1 (length digits) long.0; few = leb-true (length digits) 18 long.1; digits = rest.0 };
+      small = leb-true (worth digits * factor) size_limit rest.1;
+      size_is = test.1;
+    }
+
+number_scaled : (factor : ℕ) (digits : List ℕ) → IsNumber digits → worth digits * factor ≤ size_limit → scaled factor digits ≡ Some (worth digits * factor)
+number_scaled factor digits n small =
+    ap (λ t. cond t (Some (worth digits * factor)) None)
+    (and_from (is_number digits) (list_all is_ascii_digit digits && leb (worth digits * factor) size_limit)
+    (and_from (leb 1 (length digits)) (leb (length digits) 18) (le-leb 1 (length digits) n.some) (le-leb (length digits) 18 n.few))
+    (and_from (list_all is_ascii_digit digits) (leb (worth digits * factor) size_limit) n.digits (le-leb (worth digits * factor) size_limit small)))
+
+-- ---- the last byte
+
+last_and_rest : (text front : List ℕ) (last : ℕ) → text ≡ front ++ last ∷ [] → IsLastAndRest text last front
+last_and_rest text front last e = (e, omega (arith, ap length e, length-append front (last ∷ [])))
+
+last_digit : (front : List ℕ) (last : ℕ) → list_all is_ascii_digit (front ++ last ∷ []) ≡ true → is_ascii_digit last ≡ true
+last_digit [] last h = let parts = and_parts (is_ascii_digit last) true h in parts.0
+last_digit (b ∷ bs) last h = let parts = and_parts (is_ascii_digit b) (list_all is_ascii_digit (bs ++ last ∷ [])) h in last_digit bs last parts.1
+
+digit_differs : (b c : ℕ) → is_ascii_digit b ≡ true → is_ascii_digit c ≡ false → eqb b c ≡ false
+digit_differs b c h k = other_byte b c (λ e. let same = ap is_ascii_digit e in cc)
+
+no_unit : (b : ℕ) → is_ascii_digit b ≡ true → factor_of b ≡ None
+no_unit b h = rw (digit_differs b 0x6B h refl, digit_differs b 0x4B h refl, digit_differs b 0x6D h refl, digit_differs b 0x4D h refl) refl
+
+-- ---- sizes
+
+same_worth : (digits : List ℕ) → worth digits * 1 ≡ worth digits
+same_worth digits = omega arith
+
+in_bytes : (digits : List ℕ) (size : ℕ) → Scaled 1 digits size → IsSize digits size
+in_bytes digits size s = subst (IsSize digits) (sym (same_worth digits) ∙ s.size_is) (InBytes digits s.number (omega (arith, same_worth digits, s.small)))
+
+read_size : (text : List ℕ) (size : ℕ) → size_of text ≡ Some size → IsSize text size
+read_size [] size e = let none : scaled 1 [] ≡ Some size = sym (size_of-nothing [] refl) ∙ e in absurd cc
+read_size (b ∷ bs) size e = go (last_of (b ∷ bs) (omega arith))
+  where
+    go : (front : List ℕ) × (x : ℕ) × (b ∷ bs ≡ front ++ x ∷ []) → IsSize (b ∷ bs) size
+    go s = unit (factor_of s.1) refl
+      where
+        split : IsLastAndRest (b ∷ bs) s.1 s.0
+        split = last_and_rest (b ∷ bs) s.0 s.1 s.2
+
+        unit : (o : Option ℕ) → factor_of s.1 ≡ o → IsSize (b ∷ bs) size
+        unit None h = in_bytes (b ∷ bs) size (scaled_is 1 (b ∷ bs) size (sym (size_of-digits (b ∷ bs) s.0 s.1 split h) ∙ e))
+        unit (Some factor) h =
+            let d = scaled_is factor s.0 size (sym (size_of-letter (b ∷ bs) s.0 s.1 factor split h) ∙ e) in
+            subst (λ (t : List ℕ). IsSize t size) (sym s.2) (subst (IsSize (s.0 ++ s.1 ∷ [])) d.size_is (InUnits s.0 s.1 factor d.number h d.small))
+
+digits_read : (digits : List ℕ) → IsNumber digits → size_of digits ≡ scaled 1 digits
+digits_read [] n = size_of-nothing [] refl
+digits_read (b ∷ bs) n =
+    let s = last_of (b ∷ bs) (omega arith) in
+    size_of-digits (b ∷ bs) s.0 s.1 (last_and_rest (b ∷ bs) s.0 s.1 s.2) (no_unit s.1 (last_digit s.0 s.1 (ap (list_all is_ascii_digit) (sym s.2) ∙ n.digits)))
+
+size_read : (text : List ℕ) (size : ℕ) → IsSize text size → size_of text ≡ Some size
+size_read text size (InBytes digits n small) =
+    digits_read digits n ∙ number_scaled 1 digits n (omega (arith, same_worth digits, small)) ∙ ap Some (same_worth digits)
+size_read text size (InUnits digits letter factor n e small) = size_of-letter (digits ++ letter ∷ []) digits letter factor (last_and_rest (digits ++ letter ∷ []) digits letter refl) e ∙ number_scaled factor digits n small
+
+-- ---- both ends
+
+digits_free : (digits : List ℕ) → list_all is_ascii_digit digits ≡ true → Free 0x2D digits
+digits_free [] h = refl
+digits_free (b ∷ bs) h =
+    let parts = and_parts (is_ascii_digit b) (list_all is_ascii_digit bs) h in
+    or_from (eqb b 0x2D) (list_any (is_byte 0x2D) bs) (digit_differs b 0x2D parts.0 refl) (digits_free bs parts.1)
+
+unit_differs : (letter factor : ℕ) → factor_of letter ≡ Some factor → eqb letter 0x2D ≡ false
+unit_differs letter factor e = other_byte letter 0x2D (λ h. let none : None ≡ Some factor = ap factor_of (sym h) ∙ e in cc)
+
+size_free : (text : List ℕ) (size : ℕ) → IsSize text size → Free 0x2D text
+size_free text size (InBytes digits n small) = digits_free digits n.digits
+size_free text size (InUnits digits letter factor n e small) = any-append (is_byte 0x2D) digits (letter ∷ []) (digits_free digits n.digits) (or_from (eqb letter 0x2D) false (unit_differs letter factor e) refl)
+
+low_free : (text : List ℕ) (least : ℕ) → IsLow text least → Free 0x2D text
+low_free text least FromZero = refl
+low_free text least (FromSize low size s) = size_free low size s
+
+nonempty_low : (text : List ℕ) (size : ℕ) → size_of text ≡ Some size → low_of text ≡ Some size
+nonempty_low [] size e = let none : scaled 1 [] ≡ Some size = sym (size_of-nothing [] refl) ∙ e in absurd cc
+nonempty_low (b ∷ bs) size e = e
+
+nonempty_high : (text : List ℕ) (size : ℕ) → size_of text ≡ Some size → high_of text ≡ Some (Some size)
+nonempty_high [] size e = let none : scaled 1 [] ≡ Some size = sym (size_of-nothing [] refl) ∙ e in absurd cc
+nonempty_high (b ∷ bs) size e = ap (option_map Some) e
+
+low_read : (text : List ℕ) (least : ℕ) → IsLow text least → low_of text ≡ Some least
+low_read text least FromZero = refl
+low_read text least (FromSize low size s) = nonempty_low low size (size_read low size s)
+
+high_read : (text : List ℕ) (most : Option ℕ) → IsHigh text most → high_of text ≡ Some most
+high_read text most Unbounded = refl
+high_read text most (ToSize high size s) = nonempty_high high size (size_read high size s)
+
+between_read : (low high : List ℕ) (least : ℕ) (most : Option ℕ) → low_of low ≡ Some least → high_of high ≡ Some most → sizes_between low high ≡ Some (Size least most)
+between_read low high least most h k = rw (h, k) refl
+
+pub sizes_read : (text : List ℕ) (q : Query) → IsSizes text q → sizes_of text ≡ Some q
+unfolding sizes_of
+sizes_read text q (Between low high least most l h) =
+    rw (cut_at 0x2D low high (low_free low least l), sizes_of) (between_read low high least most (low_read low least l) (high_read high most h))
+
+read_low : (text : List ℕ) (least : ℕ) → low_of text ≡ Some least → IsLow text least
+read_low [] least e = let zero : 0 ≡ least = cc in subst (IsLow []) zero FromZero
+read_low (b ∷ bs) least e = FromSize (b ∷ bs) least (read_size (b ∷ bs) least e)
+
+read_high : (text : List ℕ) (most : Option ℕ) → high_of text ≡ Some most → IsHigh text most
+read_high [] most e = let none : None ≡ most = cc in subst (IsHigh []) none Unbounded
+read_high (b ∷ bs) most e = let m = map_some Some (size_of (b ∷ bs)) most e in subst (IsHigh (b ∷ bs)) m.2 (ToSize (b ∷ bs) m.0 (read_size (b ∷ bs) m.0 m.1))
+
+read_between : (low high : List ℕ) (q : Query) → sizes_between low high ≡ Some q → IsSizes (low ++ 0x2D ∷ high) q
+read_between low high q e =
+    option_and_then_some (λ least. option_map (λ most. Size least most) (high_of high)) (low_of low) q e (λ least i k.
+    let m = map_some (λ most. Size least most) (high_of high) q k in
+    subst (IsSizes (low ++ 0x2D ∷ high)) m.2 (Between low high least m.0 (read_low low least i) (read_high high m.0 m.1)))
+
+pub read_sizes : (text : List ℕ) (q : Query) → sizes_of text ≡ Some q → IsSizes text q
+unfolding sizes_of
+read_sizes text q e = go (cut 0x2D text) refl e
+  where
+    go : (o : Option (List ℕ × List ℕ)) → cut 0x2D text ≡ o → (let r : Option Query = elim o [ None ↦ None | Some p ↦ sizes_between p.0 p.1 ] in r) ≡ Some q → IsSizes text q
+    go None h e = absurd cc
+    go (Some p) h e = subst (λ (t : List ℕ). IsSizes t q) (sym (let parts = cut_parts 0x2D text p h in parts.0)) (read_between p.0 p.1 q e)

@@ -46,7 +46,8 @@ impl Level {
     }
 
     pub(crate) fn with_member(mut self, node: Node) -> Result<Level, AllocError>
-        ensures { IfOk result (λ level. shown_level level ≡ with_member (shown_level self) (query_of node)) }
+        ensures { IfOk result
+            (λ level. shown_level level ≡ with_member (shown_level self) (query_of node)) }
     {
         self.members.push(node)?;
         Ok(self)

@@ -1,18 +1,18 @@
 //! How far a boolean query was read.
-ghost use Rattle.std.specs.Prelude.{◌≡◌, IfOk};
+ghost use Rattle.std.specs.Prelude.{◌≡◌, ◌∷◌, IfOk, OnOk};
 ghost use Rattle.contract_words.specs.Answers.{Gives};
 ghost use Rattle.mail_query.specs.Query.{query_of};
 ghost use Rattle.mail_query.specs.Refusals.{kind_refusal};
 ghost use Rattle.mail_query.specs.Mail.{boolean_lexicon};
-ghost use Rattle.mail_query.specs.Inside.Shown.{shown, shown_level, shown_stack, shown_token};
-ghost use Rattle.mail_query.specs.BooleanReading.{start, placed, deeper, joined, parted, closed, ended, step, term_step, cut_term_step, is_negated, has_open, ForNot, ForClose, empty_level};
+ghost use Rattle.mail_query.specs.Inside.Shown.{shown, shown_level, shown_waiting, shown_stack, shown_token};
+ghost use Rattle.mail_query.specs.BooleanReading.{start, placed, deeper, joined, parted, closed, ended, step, term_step, cut_term_step, is_negated, has_open};
 
 use crate::boolean::field::{Field, field_of};
 use crate::boolean::level::Level;
 use crate::boolean::term::{is_phrase, read_parts};
 use crate::boolean::token::Token;
 use crate::fault::QueryFaultKind;
-use crate::node::Node;
+use crate::node::{Node, negated};
 use crate::pieces::cut;
 use std::alloc::{AllocError, Global};
 
@@ -51,12 +51,17 @@ pub(crate) fn read_token(
     reader: Reader,
     token: Token<'_>,
 ) -> Result<Reader, QueryFaultKind>
-    ensures { Gives shown kind_refusal result (step boolean_lexicon (shown reader) (shown_token token.entry)) }
+    ensures { Gives shown kind_refusal result
+        (step boolean_lexicon (shown reader) (shown_token token.entry)) }
 {
     match token {
         Token::Term(term) => read_term(alloc, reader, term),
-        Token::Not => read_not(reader),
-        Token::Open => read_open(alloc, reader),
+        Token::Not => deeper(reader.waiting, Waiting::ForNot, reader.level),
+        Token::Open => deeper(
+            reader.waiting,
+            Waiting::ForClose(reader.level),
+            Level::empty(alloc),
+        ),
         Token::Close => read_close(alloc, reader),
         Token::And => read_and(reader),
         Token::Or => read_or(alloc, reader),
@@ -97,7 +102,8 @@ fn read_cut_term(
     prefix: Option<Field>,
     rest: &str,
 ) -> Result<Reader, QueryFaultKind>
-    ensures { Gives shown kind_refusal result (cut_term_step boolean_lexicon (shown reader) prefix rest.now) }
+    ensures { Gives shown kind_refusal result
+        (cut_term_step boolean_lexicon (shown reader) prefix rest.now) }
 {
     let negated = is_negated(reader.waiting.as_slice());
     if !negated && reader.level.has_seen(prefix) {
@@ -114,34 +120,29 @@ fn read_cut_term(
     }
 }
 
-fn read_not(reader: Reader) -> Result<Reader, QueryFaultKind>
-    ensures { Gives shown kind_refusal result (deeper (shown reader) ForNot (shown reader).level) }
+/// Lets one more `(` or `not` wait, if fewer than 30 do.
+fn deeper(mut waiting: Vec<Waiting>, what: Waiting, level: Level) -> Result<Reader, QueryFaultKind>
+    ensures { Gives shown kind_refusal result
+        (deeper (shown_stack waiting.items) (shown_waiting what) (shown_level level)) }
 {
-    let mut waiting = reader.waiting;
     if waiting.len() >= MOST_WAITING {
         return Err(QueryFaultKind::TooDeep);
     }
-    waiting.push(Waiting::ForNot)?;
+    wait(&mut waiting, what)?;
     Ok(Reader {
         waiting,
-        level: reader.level,
+        level,
         wanted: true,
     })
 }
 
-fn read_open(alloc: Global, reader: Reader) -> Result<Reader, QueryFaultKind>
-    ensures { Gives shown kind_refusal result (deeper (shown reader) (ForClose (shown reader).level) empty_level) }
+/// Puts it in front of the others that wait.
+fn wait(waiting: &mut Vec<Waiting>, what: Waiting) -> Result<(), AllocError>
+    ensures { OnOk result
+        (shown_stack waiting.new.items ≡ shown_waiting what ∷ shown_stack waiting.old.items) }
 {
-    let mut waiting = reader.waiting;
-    if waiting.len() >= MOST_WAITING {
-        return Err(QueryFaultKind::TooDeep);
-    }
-    waiting.push(Waiting::ForClose(reader.level))?;
-    Ok(Reader {
-        waiting,
-        level: Level::empty(alloc),
-        wanted: true,
-    })
+    waiting.push(what)?;
+    Ok(())
 }
 
 fn read_close(alloc: Global, reader: Reader) -> Result<Reader, QueryFaultKind>
@@ -198,13 +199,14 @@ fn placed(
     level: Level,
     node: Node,
 ) -> Result<Reader, AllocError>
-    ensures { IfOk result (λ reader. shown reader ≡ placed (shown_stack waiting.items) (shown_level level) (query_of node)) }
+    ensures { IfOk result (λ reader. shown reader
+        ≡ placed (shown_stack waiting.items) (shown_level level) (query_of node)) }
 {
     let mut waiting = waiting;
     let mut node = node;
     'nots: while is_negated(waiting.as_slice()) {
         waiting.truncate(waiting.len() - 1);
-        node = Node::Not(Box::new(alloc, node)?);
+        node = negated(alloc, node)?;
     }
     Ok(Reader {
         waiting,

@@ -18,7 +18,8 @@ pub(crate) enum Token<'a> {
 
 /// The first token, and the text behind it.
 pub(crate) fn next_token(text: &str) -> Option<(Token<'_>, &str)>
-    ensures token { MatchOption result (tokens text.now ≡ []) (λ p. tokens text.now ≡ shown_token p.0 ∷ tokens p.1.now) }
+    ensures token { MatchOption result (tokens text.now ≡ [])
+        (λ p. tokens text.now ≡ shown_token p.0 ∷ tokens p.1.now) }
     ensures shorter { IfSome result (λ p. length p.1.now < length text.now) }
 {
     let text = behind_blanks(text);

@@ -8,7 +8,7 @@ ghost use Rattle.mail_query.specs.Mairix.{atom_query, term_query, all_query, res
 
 use crate::fault::QueryFaultKind;
 use crate::mairix::forms::{Target, part_of, word_of};
-use crate::node::{Node, all_of, either_of};
+use crate::node::{Node, add, all_of, either_of, negated};
 use crate::pieces::{without_first, without_last};
 use std::alloc::Global;
 
@@ -19,7 +19,7 @@ pub(crate) fn read_rest(alloc: Global, target: Target, text: &str) -> Result<Nod
     let mut members = Vec::new(alloc);
     for part in text.split('/') {
         match read_all(alloc, target, part) {
-            Ok(node) => members.push(node)?,
+            Ok(node) => add(&mut members, node)?,
             Err(kind) => return Err(kind),
         }
     }
@@ -33,7 +33,7 @@ fn read_all(alloc: Global, target: Target, text: &str) -> Result<Node, QueryFaul
     let mut members = Vec::new(alloc);
     for part in text.split(',') {
         match read_term(alloc, target, part) {
-            Ok(node) => members.push(node)?,
+            Ok(node) => add(&mut members, node)?,
             Err(kind) => return Err(kind),
         }
     }
@@ -47,7 +47,7 @@ fn read_term(alloc: Global, target: Target, text: &str) -> Result<Node, QueryFau
     match without_first(text, '~') {
         None => read_atom(alloc, target, text),
         Some(atom) => match read_atom(alloc, target, atom) {
-            Ok(node) => Ok(Node::Not(Box::new(alloc, node)?)),
+            Ok(node) => Ok(negated(alloc, node)?),
             Err(kind) => Err(kind),
         },
     }

@@ -6,7 +6,8 @@ use Rattle.mail_query.specs.Query.{query_of}
 use Rattle.mail_query.specs.Inside.Shown.{shown}
 use Rattle.mail_query.specs.Tokens.{tokens}
 use Rattle.mail_query.specs.BooleanReading.{run_from, start}
-use Rattle.mail_query.proofs.BooleanLaws.BooleanDepth.{run_depth}
+use Rattle.mail_query.proofs.BooleanLaws.BooleanDepth.{reads_depth}
+use Rattle.mail_query.proofs.BooleanLaws.BooleanTrees.{start_read}
 use Rattle.mail_query.proofs.boolean.read_tokens.Goals as goal
 
 pub new-requires : goal.new-requires
@@ -17,4 +18,6 @@ new-requires c =
     let asked : run_from lexicon 1 start (tokens c.args.text.now) ≡ Ok (query_of c.in-Ok-read_end.node) =
     sym c.tokens.invariant.whole ∙ ap (run_from lexicon number reader) c.in_default.ensures.token
     ∙ ap (fault_as (λ kind. let f : QueryFault = record { number = number; kind = kind } in f)) c.in-Ok-read_end.ensures in
-    omega (arith, run_depth lexicon 1 (tokens c.args.text.now) (query_of c.in-Ok-read_end.node) asked)
+    let ts = tokens c.args.text.now in
+    let q = query_of c.in-Ok-read_end.node in
+    omega (arith, reads_depth lexicon ts q (start_read lexicon ts q asked))

@@ -1,5 +1,6 @@
+use Rattle.mail_query.specs.Query.{queries_of}
 use Rattle.mail_query.proofs.MairixLaws.FlagLemmas.{HasRead}
 use Rattle.mail_query.proofs.flags.read_flags.Given as goal
 
 abbrev pub invariant-loop-letter : goal.invariant-loop-letter
-invariant-loop-letter l = HasRead l.text l.members.items l.wanted l.letter-index
+invariant-loop-letter l = HasRead l.text (queries_of l.members.items) l.wanted l.letter-index

@@ -1,4 +1,4 @@
-use Rattle.mail_query.proofs.MairixLaws.PatternGrammarLemmas.{pattern_exact}
+use Rattle.mail_query.proofs.MairixLaws.MairixExact.{pattern_exact}
 use Rattle.mail_query.proofs.laws.a_pattern_is_read_as_the_grammar_says.Goals as goal
 
 pub returns : goal.returns

@@ -1,5 +1,5 @@
-use Rattle.mail_query.proofs.MairixLaws.PatternGrammarLemmas.{patterns_exact}
+use Rattle.mail_query.proofs.MairixLaws.MairixExact.{patterns_exact}
 use Rattle.mail_query.proofs.laws.patterns_are_read_as_the_grammar_says.Goals as goal
 
 pub returns : goal.returns
-returns c = λ lexicon patterns q plain utf8. patterns_exact lexicon plain patterns q utf8
+returns c = λ lexicon patterns q plain utf8. patterns_exact lexicon plain patterns utf8 q

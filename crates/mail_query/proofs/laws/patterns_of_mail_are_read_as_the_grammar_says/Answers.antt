@@ -1,4 +1,4 @@
-use Rattle.mail_query.proofs.MairixLaws.PatternGrammarLemmas.{patterns_of_mail}
+use Rattle.mail_query.proofs.MairixLaws.MairixExact.{patterns_of_mail}
 use Rattle.mail_query.proofs.laws.patterns_of_mail_are_read_as_the_grammar_says.Goals as goal
 
 pub returns : goal.returns

@@ -1,5 +1,5 @@
-use Rattle.mail_query.proofs.MairixLaws.FaultExact.{one_fault}
+use Rattle.mail_query.proofs.MairixLaws.MairixExact.{one_fault}
 use Rattle.mail_query.proofs.laws.patterns_show_one_first_fault_at_most.Goals as goal
 
 pub returns : goal.returns
-returns c = λ lexicon patterns f g plain utf8. one_fault lexicon plain patterns f g utf8
+returns c = λ lexicon patterns f g plain utf8. one_fault lexicon plain patterns utf8 f g

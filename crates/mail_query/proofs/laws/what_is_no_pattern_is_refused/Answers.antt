@@ -1,4 +1,4 @@
-use Rattle.mail_query.proofs.MairixLaws.PatternGrammarLemmas.{refused_exact}
+use Rattle.mail_query.proofs.MairixLaws.MairixExact.{refused_exact}
 use Rattle.mail_query.proofs.laws.what_is_no_pattern_is_refused.Goals as goal
 
 pub returns : goal.returns

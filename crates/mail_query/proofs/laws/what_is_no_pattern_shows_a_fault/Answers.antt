@@ -1,4 +1,4 @@
-use Rattle.mail_query.proofs.MairixLaws.FaultExact.{faulty_or_asked}
+use Rattle.mail_query.proofs.MairixLaws.MairixExact.{faulty_or_asked}
 use Rattle.mail_query.proofs.laws.what_is_no_pattern_shows_a_fault.Goals as goal
 
 pub returns : goal.returns

@@ -1,9 +1,7 @@
 use Rattle.std.proofs.Common.{◌≡◌, ◌-◌, true, length, take, arith, ap, sym, ◌∙◌}
-use Rattle.mail_query.specs.declared.node.Node as node
 use Rattle.mail_query.specs.Query.{Query, Not, query_of}
 use Rattle.mail_query.specs.Inside.Shown.{shown_level, shown_stack}
 use Rattle.mail_query.specs.BooleanReading.{placed, is_negated}
-use Rattle.mail_query.proofs.NodeLemmas.{query_of-Not}
 use Rattle.mail_query.proofs.BooleanLaws.StackLemmas.{placed-not}
 use Rattle.mail_query.proofs.boolean.reader.placed.Goals as goal
 
@@ -11,11 +9,9 @@ pub nots-preserved : goal.nots-preserved
 nots-preserved c =
     let level = shown_level c.args.level in
     let waiting = c.nots.waiting.items in
-    let asks : query_of (node.Not c.in_ok-new.field-0) ≡ Not (query_of c.nots.node) =
-    query_of-Not c.in_ok-new.field-0 ∙ ap (λ n. Not (query_of n)) c.in_ok-new.ensures.ok in
     let count : c.len.result ≡ length waiting = omega arith in
     let negated : is_negated (shown_stack waiting) ≡ true = cc in
-    ap (λ (q : Query). placed (shown_stack c.truncate.new.self.items) level q) asks
+    ap (λ (q : Query). placed (shown_stack c.truncate.new.self.items) level q) c.in_ok-node.ensures
     ∙ ap (λ ws. placed (shown_stack ws) level (Not (query_of c.nots.node))) (c.truncate.ensures.items ∙ ap (λ n. take (n - 1) waiting) count)
     ∙ sym (placed-not waiting level (query_of c.nots.node) negated)
     ∙ c.nots.invariant

@@ -1,9 +1,10 @@
 use Rattle.std.proofs.Common.{length}
 use Rattle.std.specs.List.{slice_split}
+use Rattle.mail_query.specs.Query.{queries_of}
 use Rattle.mail_query.specs.Pieces.{is_byte}
 use Rattle.mail_query.specs.Inside.Reading.{forms_of}
-use Rattle.mail_query.specs.Mairix.{term_query, each_read}
-use Rattle.mail_query.proofs.MairixLaws.EachLemmas.{HasRead}
+use Rattle.mail_query.specs.Mairix.{term_query}
+use Rattle.mail_query.proofs.MairixLaws.EachLemmas.{HasRead, unnumbered}
 use Rattle.mail_query.proofs.mairix.terms.read_all.Given as goal
 
 -- those so far, and what comes of the rest
@@ -11,4 +12,4 @@ abbrev pub invariant-loop-part : goal.invariant-loop-part
 invariant-loop-part l =
     let read = term_query (forms_of l.target) in
     let parts = slice_split (is_byte 0x2C) l.text in
-    HasRead read parts (each_read read parts) l.members.items (length l.yielded)
+    HasRead unnumbered read parts (queries_of l.members.items) (length l.yielded)

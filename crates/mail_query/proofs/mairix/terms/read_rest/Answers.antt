@@ -3,39 +3,36 @@ use Rattle.std.specs.List.{slice_split}
 use Rattle.std.proofs.lemmas.List.{length_push}
 use Rattle.std.proofs.lemmas.Iterator.Consumers.{YieldsList-turn, YieldsList-end}
 use Rattle.std.proofs.lemmas.Iterator.Splits.{YieldsList-from_str_split}
-use Rattle.contract_words.specs.Answers.{◌>>=◌}
-use Rattle.mail_query.specs.Query.{either_of}
+use Rattle.mail_query.specs.Query.{either_of, query_of, queries_of}
 use Rattle.mail_query.specs.Refusals.{kind_refusal}
 use Rattle.mail_query.specs.Pieces.{is_byte}
 use Rattle.mail_query.specs.Inside.Reading.{forms_of}
-use Rattle.mail_query.specs.Mairix.{all_query, each_read}
-use Rattle.mail_query.proofs.MairixLaws.EachLemmas.{reads_none, reads_more, reads_no_more, reads_all, then_refused}
+use Rattle.mail_query.specs.Mairix.{all_query}
+use Rattle.mail_query.proofs.MairixLaws.EachLemmas.{unnumbered, reads_none, reads_more, part_refused, parts_read}
 use Rattle.mail_query.proofs.mairix.terms.read_rest.Goals as goal
 
 pub loop-part-init : goal.loop-part-init
 loop-part-init c =
-    reads_none (all_query (forms_of c.args.target)) (slice_split (is_byte 0x2F) c.args.text.now) c.new-members.result.items c.new-members.ensures.items
+    reads_none unnumbered (all_query (forms_of c.args.target)) (slice_split (is_byte 0x2F) c.args.text.now) (queries_of c.new-members.result.items) (ap queries_of c.new-members.ensures.items)
 
 pub loop-part-preserved : goal.loop-part-preserved
 loop-part-preserved c =
     let turn = YieldsList-turn (YieldsList-from_str_split 0x2F c.args.text.now (lit< tt) (cc) (cc) (cc)) c.loop-part.yielded _ c.loop-part.yielded_by _ _ c.in-Some.part c.in-Some.is c.next.ensures.steps in
     let read = all_query (forms_of c.args.target) in
     let parts = slice_split (is_byte 0x2F) c.args.text.now in
-    rw (c.in_ok-push-in-Ok.ensures.items, length_push c.loop-part.yielded c.in-Some.part)
-    (reads_more read parts (each_read read parts) c.loop-part.members.items (length c.loop-part.yielded) c.in-Some.part.now c.in-Ok.node c.loop-part.invariant turn c.in-Ok.ensures)
+    rw (c.in_ok-add-in-Ok.ensures, length_push c.loop-part.yielded c.in-Some.part)
+    (reads_more unnumbered read parts (queries_of c.loop-part.members.items) (length c.loop-part.yielded) c.in-Some.part.now (query_of c.in-Ok.node) c.loop-part.invariant turn c.in-Ok.ensures)
 
 pub returns-in-Err : goal.returns-in-Err
 returns-in-Err c =
     let turn = YieldsList-turn (YieldsList-from_str_split 0x2F c.args.text.now (lit< tt) (cc) (cc) (cc)) c.loop-part.yielded _ c.loop-part.yielded_by _ _ c.in-Some.part c.in-Some.is c.next.ensures.steps in
     let read = all_query (forms_of c.args.target) in
     let parts = slice_split (is_byte 0x2F) c.args.text.now in
-    then_refused (each_read read parts) (λ qs. Ok (either_of qs)) (kind_refusal c.in-Err.kind)
-    (reads_no_more read parts (each_read read parts) c.loop-part.members.items (length c.loop-part.yielded) c.in-Some.part.now (kind_refusal c.in-Err.kind) c.loop-part.invariant turn c.in-Err.ensures)
+    part_refused read parts either_of (queries_of c.loop-part.members.items) (length c.loop-part.yielded) c.in-Some.part.now (kind_refusal c.in-Err.kind) c.loop-part.invariant turn c.in-Err.ensures
 
 pub returns : goal.returns
 returns c =
     let end = YieldsList-end (YieldsList-from_str_split 0x2F c.args.text.now (lit< tt) (cc) (cc) (cc)) c.loop-part.yielded _ c.loop-part.yielded_by _ _ c.in-None.is c.next.ensures.steps in
     let read = all_query (forms_of c.args.target) in
     let parts = slice_split (is_byte 0x2F) c.args.text.now in
-    let all = reads_all read parts (each_read read parts) c.loop-part.members.items (length c.loop-part.yielded) c.loop-part.invariant end.1 in
-    ap (λ r. r >>= (λ qs. Ok (either_of qs))) all ∙ ap Ok (sym c.either_of.ensures)
+    parts_read read parts either_of (queries_of c.loop-part.members.items) (length c.loop-part.yielded) c.loop-part.invariant end.1 ∙ ap Ok (sym c.either_of.ensures)
