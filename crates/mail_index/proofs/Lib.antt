@@ -1,3 +1,5 @@
+pub mod Words
+pub mod Items
 mod Rows
 mod RowsDigest
 pub mod BuildLaws

@@ -6,3 +6,4 @@ pub mod KeyMaps
 pub mod KeyRuns
 pub mod SectionCounts
 pub mod Signing
+pub mod Walks

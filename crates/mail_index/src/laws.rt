@@ -9,17 +9,20 @@ ghost use Rattle.mail_index.specs.Files.{index_file, HasSmallSections};
 
 /// One file is the file of one table: an index file can't mean two things.
 pub fn one_table_for_a_file()
-    ensures { (t u : Table) → IsWellFormed t → IsWellFormed u → HasSmallSections t → HasSmallSections u
+    ensures { (t u : Table) → IsWellFormed t → IsWellFormed u
+        → HasSmallSections t → HasSmallSections u
         → index_file t ≡ index_file u → t ≡ u }
 {}
 
 /// The file of a table that lies in memory has no fault: so the bytes that are opened are exactly the files of tables.
 pub fn the_file_of_a_table_has_no_fault()
-    ensures { (bytes : List ℕ) (t : Table) (fault : IndexFault) → length bytes < 2 ^ 64 → IsFileOf bytes t → ¬ IsFirstFault bytes fault }
+    ensures { (bytes : List ℕ) (t : Table) (fault : IndexFault)
+        → length bytes < 2 ^ 64 → IsFileOf bytes t → ¬ IsFirstFault bytes fault }
 {}
 
 /// A look-up makes few comparisons: at most as many as the number of keys has binary digits, which is the least number of digits that
 /// holds it.
 pub fn few_comparisons()
-    ensures { (kind : Kind) (text : List ℕ) (ks : List Key) (digits : ℕ) → length ks < 2 ^ digits → comparisons kind text ks ≤ digits }
+    ensures { (kind : Kind) (text : List ℕ) (ks : List Key) (digits : ℕ)
+        → length ks < 2 ^ digits → comparisons kind text ks ≤ digits }
 {}

@@ -8,8 +8,11 @@ ghost use Rattle.mail_index.specs.Builders.{with_pair};
 
 /// With a pair more, keys tell this pair and all that they told, and nothing else.
 pub fn pairs_law()
-    ensures added { (version n : ℕ) (kind : Kind) (text : List ℕ) (ks : List Key) → AllByRecursion (IsKey version (suc n)) ks → Tells (with_pair kind text n ks) kind text n }
-    ensures kept { (n : ℕ) (kind : Kind) (text : List ℕ) (ks : List Key) (k : Kind) (t : List ℕ) (m : ℕ) → Tells ks k t m → Tells (with_pair kind text n ks) k t m }
-    ensures only { (n : ℕ) (kind : Kind) (text : List ℕ) (ks : List Key) (k : Kind) (t : List ℕ) (m : ℕ)
-        → Tells (with_pair kind text n ks) k t m → Tells ks k t m ⊎ ((kind ≡ k) × (text ≡ t) × (n ≡ m)) }
+    ensures added { (version n : ℕ) (kind : Kind) (text : List ℕ) (ks : List Key)
+        → AllByRecursion (IsKey version (suc n)) ks → Tells (with_pair kind text n ks) kind text n }
+    ensures kept { (n : ℕ) (kind : Kind) (text : List ℕ) (ks : List Key)
+        (k : Kind) (t : List ℕ) (m : ℕ) → Tells ks k t m → Tells (with_pair kind text n ks) k t m }
+    ensures only { (n : ℕ) (kind : Kind) (text : List ℕ) (ks : List Key)
+        (k : Kind) (t : List ℕ) (m : ℕ) → Tells (with_pair kind text n ks) k t m
+        → Tells ks k t m ⊎ ((kind ≡ k) × (text ≡ t) × (n ≡ m)) }
 {}

@@ -27,7 +27,8 @@ impl Version {
 
     /// The version of this number, None where it isn't known.
     pub(crate) fn of(number: u32) -> Option<Self>
-        ensures { MatchOption result (¬ IsVersion number) (λ version. version_number version ≡ number) }
+        ensures { MatchOption result (¬ IsVersion number)
+            (λ version. version_number version ≡ number) }
     {
         match number {
             1 => Some(Version::One),

@@ -1,28 +1,9 @@
 -- Laws of drafts: each call keeps archives and keys well-formed.
-use Rattle.std.proofs.Common.{◌≡◌, ℕ, suc, ◌+◌, ◌-◌, ◌^◌, ◌<◌, ◌≤◌, true, false, nat_lt, if◌then◌else◌, List, [], ◌∷◌, ◌++◌, length, Result, Ok, Err, OnOk, OnErr, subst, refl, sym, length-append, arith}
-use Rattle.std.specs.declared.cmp.Ordering.TheVariants.{Less, Equal, Greater}
-use Rattle.std.specs.Ordering.{match_ordering, nat_cmp}
-use Rattle.std.specs.Cmp.Lexicographic.{slice_cmp}
-use Rattle.std.specs.List.{AllByRecursion}
-use Rattle.std.proofs.lemmas.Bool.Decides.{nat_tests}
-use Rattle.mail_index.specs.declared.kind.Kind.{Kind}
-use Rattle.mail_index.specs.Kinds.{kind_number}
-use Rattle.mail_index.specs.Versions.{newest}
-use Rattle.mail_index.specs.Postings.{leb128, postings_from}
-use Rattle.mail_index.specs.PostingLists.{end_from, with_number}
-use Rattle.mail_index.specs.Tables.{Key, RisesFrom, IsKey}
-use Rattle.mail_index.specs.Builders.{Draft, with_pair}
+use Rattle.mail_index.proofs.Words.{◌≡◌, ℕ, suc, ◌+◌, ◌-◌, ◌^◌, ◌<◌, ◌≤◌, true, false, nat_lt, if◌then◌else◌, List, [], ◌∷◌, ◌++◌, length, Result, Ok, Err, OnOk, OnErr, subst, refl, sym, length-append, arith, Less, Equal, Greater, match_ordering, nat_cmp, slice_cmp, AllByRecursion, nat_tests, Kind, kind_number, newest, leb128, postings_from, end_from, with_number, Key, RisesFrom, IsKey, Draft, with_pair}
 use Rattle.mail_index.specs.Inside.Drafts.{IsDraft, message_count}
 use Rattle.mail_index.proofs.ViewLaws.KindNumbers.{kind_number-known}
 use Rattle.mail_index.proofs.BuildLaws.PostingLemmas.{length-leb128}
-
-pub all-snoc : {A : Type 0} (P : A → Type 0) (xs : List A) (x : A) → AllByRecursion P xs → P x → AllByRecursion P (xs ++ x ∷ [])
-all-snoc P [] x all p = (p, tt)
-all-snoc P (y ∷ ys) x all p = (all.0, all-snoc P ys x all.1 p)
-
-pub all-weaker : {A : Type 0} (P Q : A → Type 0) → ((x : A) → P x → Q x) → (xs : List A) → AllByRecursion P xs → AllByRecursion Q xs
-all-weaker P Q f [] all = tt
-all-weaker P Q f (x ∷ xs) all = (f x all.0, all-weaker P Q f xs all.1)
+pub use Rattle.mail_index.proofs.Items.{all-snoc, all-weaker}
 
 rises-snoc : (low : ℕ) (ns : List ℕ) (n : ℕ) → RisesFrom low ns → end_from low ns ≤ n → RisesFrom low (ns ++ n ∷ [])
 rises-snoc low [] n r e = (e, tt)

@@ -1,13 +1,5 @@
 -- Laws of an entry's bytes: the number of its kind, its text, and its postings.
-use Rattle.std.proofs.Common.{◌≡◌, ◌∙◌, ℕ, ◌+◌, ◌-◌, ◌^◌, ◌<◌, ◌≤◌, nat_le, Bool, true, false, cond, List, [], ◌∷◌, ◌++◌, length, take, drop, slice_index, refl, sym, ap, ap₂, subst, arith, append-nil, append_assoc, length-append}
-use Rattle.std.proofs.lemmas.Bool.Decides.{nat_tests}
-use Rattle.std.proofs.lemmas.List.{length-take-le, take-append-le, drop-append-le, drop_at}
-use Rattle.std.proofs.Math.Seq.{take-length, drop-append_seam}
-use Rattle.mail_index.specs.declared.kind.Kind.{Kind}
-use Rattle.mail_index.specs.Kinds.{kind_number, kind_of_number}
-use Rattle.mail_index.specs.Tables.{Key}
-use Rattle.mail_index.specs.Postings.{leb128}
-use Rattle.mail_index.specs.PostingLists.{end_from, numbers_of}
+use Rattle.mail_index.proofs.Words.{◌≡◌, ◌∙◌, ℕ, ◌+◌, ◌-◌, ◌^◌, ◌<◌, ◌≤◌, nat_le, Bool, true, false, cond, List, [], ◌∷◌, ◌++◌, length, take, drop, slice_index, refl, sym, ap, ap₂, subst, arith, append-nil, append_assoc, length-append, nat_tests, length-take-le, take-append-le, drop-append-le, drop_at, take-length, drop-append_seam, Kind, kind_number, kind_of_number, Key, leb128, end_from, numbers_of}
 use Rattle.mail_index.specs.Inside.KeyMaps.{new_key, with_one, key_in, short_front, front_holder, key_bytes, AreEntryBytes, HoldsFront}
 use Rattle.mail_index.proofs.ViewLaws.KindNumbers.{kind_of-number}
 use Rattle.mail_index.proofs.BuildLaws.PostingLemmas.{posted-nil, numbers_of-nil, posted-more, numbers_of-more, with_number-low, with_number-new, with_number-nil}

@@ -1,23 +1,6 @@
 -- Laws of fronts of keys: keys whose fronts differ lie as their fronts do.
-use Rattle.std.proofs.Common.{◌≡◌, ◌∙◌, ℕ, zero, suc, ◌+◌, ◌-◌, ◌*◌, ◌^◌, ◌<◌, ◌≤◌, Bool, true, false, nat_eq, nat_lt, List, [], ◌∷◌, ◌++◌, length, take, drop, min, replicate, set, get_or, refl, sym, ap, ap₂, subst, arith, length-append, nat_cmp, lit<, Fits, w8}
-use Rattle.std.specs.declared.cmp.Ordering.{Ordering}
-use Rattle.std.specs.declared.cmp.Ordering.TheVariants.{Less, Equal, Greater}
-use Rattle.std.specs.Ordering.{MatchOrdering, ordering_then, ordering_reverse}
-use Rattle.std.specs.Cmp.Lexicographic.{slice_cmp}
-use Rattle.std.specs.Int.{w64, from_be_bytes}
-use Rattle.std.specs.List.{AllByRecursion, insert}
-use Rattle.std.proofs.lemmas.Bool.Decides.{nat_tests}
-use Rattle.std.proofs.lemmas.Cmp.{nat_list_cmp_total, ranked}
-use Rattle.std.proofs.lemmas.List.{length-take-le, get_or_append_left, get_or-append_right, get_or-take, get_or-drop, get_or_past, get_or-set_same, get_or-set_other, length-set}
-use Rattle.std.proofs.Math.Seq.{get_or-append_seam}
-use Rattle.std.proofs.Math.Nat.{mul-le-mul_right, pow-succ'}
-use Rattle.mail_index.specs.declared.kind.Kind.{Kind}
-use Rattle.mail_index.specs.declared.kind.Kind.TheVariants.{Text, OwnId, LinkId}
+use Rattle.mail_index.proofs.Words.{◌≡◌, ◌∙◌, ℕ, zero, suc, ◌+◌, ◌-◌, ◌*◌, ◌^◌, ◌<◌, ◌≤◌, Bool, true, false, nat_eq, nat_lt, List, [], ◌∷◌, ◌++◌, length, take, drop, min, replicate, set, get_or, refl, sym, ap, ap₂, subst, arith, length-append, nat_cmp, lit<, Fits, w8, Ordering, Less, Equal, Greater, MatchOrdering, ordering_then, ordering_reverse, slice_cmp, w64, from_be_bytes, AllByRecursion, insert, nat_tests, nat_list_cmp_total, ranked, length-take-le, get_or_append_left, get_or-append_right, get_or-take, get_or-drop, get_or_past, get_or-set_same, get_or-set_other, length-set, get_or-append_seam, mul-le-mul_right, pow-succ', Kind, Text, OwnId, LinkId, Key, kind_number, lies_to, key_at, no_key}
 use Rattle.mail_words.specs.declared.kind.TextKind.TheVariants.{To, Cc, Bcc, From, Subject, Body, Name}
-use Rattle.mail_index.specs.Tables.{Key}
-use Rattle.mail_index.specs.Kinds.{kind_number}
-use Rattle.mail_index.specs.LookUps.{lies_to}
-use Rattle.mail_index.specs.KeysRead.{key_at, no_key}
 use Rattle.mail_index.specs.declared.build.key_front.Fronted.{Fronted}
 use Rattle.mail_index.specs.Inside.KeyFronts.{number_of_first, IsFrontOf, IsFronted}
 use Rattle.mail_index.specs.Inside.KeyMaps.{new_key, with_one}

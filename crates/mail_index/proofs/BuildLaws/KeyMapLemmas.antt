@@ -1,27 +1,10 @@
 -- Laws of the keys' map: what one more number and one more entry make of the keys in order.
-use Rattle.std.proofs.Common.{◌≡◌, ◌∙◌, ℕ, zero, suc, ◌-◌, ◌<◌, ◌≤◌, inl, inr, Bool, true, false, nat_eq, nat_lt, List, [], ◌∷◌, ◌++◌, length, map, set, get_or, refl, sym, ap, ap₂, subst, arith, length-append, Vec}
-use Rattle.std.specs.Global.{Global}
-use Rattle.std.specs.declared.cmp.Ordering.{Ordering}
-use Rattle.std.specs.declared.cmp.Ordering.TheVariants.{Less, Equal, Greater}
-use Rattle.std.specs.Ordering.{match_ordering, ordering_reverse, nat_cmp}
-use Rattle.std.specs.Cmp.Lexicographic.{slice_cmp}
-use Rattle.std.specs.List.{AllByRecursion, insert}
-use Rattle.std.specs.List.Sorted.{IsStrictlySortedBy}
-use Rattle.std.proofs.lemmas.Bool.Decides.{nat_tests}
-use Rattle.std.proofs.lemmas.Cmp.{nat_list_cmp_total}
-use Rattle.std.proofs.lemmas.List.{length-map, length-set, get_or-map, get_or_append_left, get_or-set_same, get_or-set_other}
-use Rattle.std.proofs.Math.Seq.{get_or-append_seam}
-use Rattle.std.proofs.lemmas.List.Edits.{length-insert}
-use Rattle.mail_index.specs.declared.kind.Kind.{Kind}
-use Rattle.mail_index.specs.Kinds.{kind_number}
-use Rattle.mail_index.specs.Tables.{Key}
+use Rattle.mail_index.proofs.Words.{◌≡◌, ◌∙◌, ℕ, zero, suc, ◌-◌, ◌<◌, ◌≤◌, inl, inr, Bool, true, false, nat_eq, nat_lt, List, [], ◌∷◌, ◌++◌, length, map, set, get_or, refl, sym, ap, ap₂, subst, arith, length-append, Vec, Global, Ordering, Less, Equal, Greater, match_ordering, ordering_reverse, nat_cmp, slice_cmp, AllByRecursion, insert, IsStrictlySortedBy, nat_tests, nat_list_cmp_total, length-map, length-set, get_or-map, get_or_append_left, get_or-set_same, get_or-set_other, get_or-append_seam, length-insert, Kind, kind_number, Key, key_at, no_key, lies_to, AreSorted, with_pair}
 use Rattle.mail_index.specs.declared.build.key_front.Fronted.{Fronted}
-use Rattle.mail_index.specs.Inside.KeyMaps.{new_key, with_one, placed, numbers_of_slots, rows, in_pages, position, IsAmong, IsOrder, IsGap}
-use Rattle.mail_index.specs.KeysRead.{key_at, no_key}
-use Rattle.mail_index.specs.LookUps.{lies_to, AreSorted}
-use Rattle.mail_index.specs.Builders.{with_pair}
+use Rattle.mail_index.specs.Inside.KeyMaps.{new_key, with_one, placed, numbers_of_slots, slot_keys, rows, in_pages, position, IsAmong, IsOrder, IsGap}
 use Rattle.mail_index.proofs.ViewLaws.LookUpLemmas.{key_bytes, before-less, behind-greater}
 use Rattle.mail_index.proofs.BuildLaws.PageLemmas.{position-step, position-next, position-last, position-within, at-page, at-head}
+use Rattle.mail_index.proofs.Items.{all-weaker}
 
 abbrev bytes_of : Kind → List ℕ → List ℕ
 bytes_of kind text = kind_number kind ∷ text
@@ -38,10 +21,6 @@ placed-at entries order j h = get_or-map (key_at entries) order j 0 no_key h
 -- of a place where there is none, any slot
 abbrev no_slot : Fronted
 no_slot = record { number = 0; front = 0 }
-
--- the keys of slots
-abbrev pub slot_keys : List Key → List Fronted → List Key
-slot_keys entries slots = placed entries (numbers_of_slots slots)
 
 pub slots-long : (entries : List Key) (slots : List Fronted) → length (slot_keys entries slots) ≡ length slots
 slots-long entries slots = length-map (numbers_of_slots slots) (key_at entries) ∙ length-map slots (λ (slot : Fronted). slot.number)
@@ -192,10 +171,6 @@ all-inserted P [] (suc place) m all new = (new, tt)
 all-inserted P (i ∷ order) zero m all new = (new, all)
 all-inserted P (i ∷ order) (suc place) m all new = (all.0, all-inserted P order place m all.1 new)
 
-all-later : (m n : ℕ) (order : List ℕ) → m ≤ n → AllByRecursion (λ i. i < m) order → AllByRecursion (λ i. i < n) order
-all-later m n [] h all = tt
-all-later m n (i ∷ order) h all = (omega (arith, h, all.0), all-later m n order h all.1)
-
 among-new : (order : List ℕ) (place m : ℕ) → IsAmong m (insert order place m)
 among-new [] zero m = inl refl
 among-new [] (suc place) m = inl refl
@@ -231,7 +206,7 @@ order-new kind text n entries order place o g =
     record {
       sorted = subst AreSorted (sym (placed-new entries k order place o.within))
           (sorted-new kind text n (placed entries order) place o.sorted g.within (λ j lt. gap-below kind text (placed entries order) place j o.sorted g lt) (λ j le lt. gap-above kind text (placed entries order) place j o.sorted g le lt));
-      within = all-inserted (λ i. i < length (entries ++ k ∷ [])) order place (length entries) (all-later (length entries) (length (entries ++ k ∷ [])) order (omega (arith, long)) o.within) (omega (arith, long));
+      within = all-inserted (λ i. i < length (entries ++ k ∷ [])) order place (length entries) (all-weaker (λ m. m < length entries) (λ m. m < length (entries ++ k ∷ [])) (λ m low. omega (arith, long, low)) order o.within) (omega (arith, long));
       whole = λ i lt. whole i lt (nat_eq i (length entries)) refl;
       count = length-insert order place (length entries) low ∙ omega (arith, o.count, long);
     }
@@ -326,7 +301,7 @@ order-found entries i n order lt o =
     let long : length (set entries i (with_one (key_at entries i) n)) ≡ length entries = length-set entries i (with_one (key_at entries i) n) in
     record {
       sorted = subst (λ (l : List (List ℕ)). IsStrictlySortedBy (slice_cmp nat_cmp) l) (sym (bytes-same entries i n order lt)) o.sorted;
-      within = all-later (length entries) (length (set entries i (with_one (key_at entries i) n))) order (omega (arith, long)) o.within;
+      within = all-weaker (λ m. m < length entries) (λ m. m < length (set entries i (with_one (key_at entries i) n))) (λ m low. omega (arith, long, low)) order o.within;
       whole = λ m h. o.whole m (omega (arith, h, long));
       count = o.count ∙ sym long;
     }

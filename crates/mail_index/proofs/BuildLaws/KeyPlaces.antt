@@ -1,14 +1,5 @@
 -- A pair that goes to its place keeps the keys in order.
-use Rattle.std.proofs.Common.{◌≡◌, ℕ, List, [], ◌∷◌, Result, Ok, Err, OnOk, OnErr, subst, refl, sym, ap, ◌∙◌}
-use Rattle.std.specs.declared.cmp.Ordering.TheVariants.{Less, Equal, Greater}
-use Rattle.std.specs.Ordering.{match_ordering, ordering_reverse}
-use Rattle.std.proofs.lemmas.Cmp.{nat_list_cmp_total}
-use Rattle.mail_index.specs.declared.kind.Kind.{Kind}
-use Rattle.mail_index.specs.Kinds.{kind_number}
-use Rattle.mail_index.specs.OrderOfKeys.{key_cmp}
-use Rattle.mail_index.specs.Tables.{Key, KeyBefore, AllNext}
-use Rattle.mail_index.specs.PostingLists.{with_number}
-use Rattle.mail_index.specs.Builders.{with_pair}
+use Rattle.mail_index.proofs.Words.{◌≡◌, ℕ, List, [], ◌∷◌, Result, Ok, Err, OnOk, OnErr, subst, refl, sym, ap, ◌∙◌, Less, Equal, Greater, match_ordering, ordering_reverse, nat_list_cmp_total, Kind, kind_number, key_cmp, Key, KeyBefore, AllNext, with_number, with_pair}
 
 -- keys one of which comes after another lie the other way round
 turned : (j k : Kind) (xs ys : List ℕ) → key_cmp (kind_number j) xs (kind_number k) ys ≡ Greater → key_cmp (kind_number k) ys (kind_number j) xs ≡ Less

@@ -1,12 +1,7 @@
 -- Laws of an order that stands in pages, with a head between each and the next.
-use Rattle.std.proofs.Common.{◌≡◌, ◌∙◌, ℕ, zero, suc, ◌+◌, ◌-◌, ◌<◌, ◌≤◌, List, [], ◌∷◌, ◌++◌, length, take, drop, set, get_or, Vec, refl, sym, ap, ap₂, subst, arith, append-nil, length-append}
-use Rattle.std.specs.Global.{Global}
-use Rattle.std.specs.List.{AllByRecursion, insert}
-use Rattle.std.proofs.lemmas.List.{length-map, get_or-map, append_assoc, get_or_append_left, get_or-append-add, take-map, drop-map, map-append, take-append-drop}
-use Rattle.std.proofs.Math.Seq.{get_or-append_seam}
-use Rattle.std.proofs.lemmas.List.Edits.{insert-append_left, insert-append_right}
+use Rattle.mail_index.proofs.Words.{◌≡◌, ◌∙◌, ℕ, zero, suc, ◌+◌, ◌-◌, ◌<◌, ◌≤◌, List, [], ◌∷◌, ◌++◌, length, take, drop, set, get_or, Vec, refl, sym, ap, ap₂, subst, arith, append-nil, length-append, Global, AllByRecursion, insert, length-map, get_or-map, append_assoc, get_or_append_left, get_or-append-add, take-map, drop-map, map-append, take-append-drop, get_or-append_seam, insert-append_left, insert-append_right}
 use Rattle.mail_index.specs.declared.build.key_front.Fronted.{Fronted}
-use Rattle.mail_index.specs.Inside.KeyMaps.{rows, in_pages, left_in_pages, position}
+use Rattle.mail_index.specs.Inside.KeyMaps.{rows, in_pages, position}
 
 abbrev row_at : List (List Fronted) → ℕ → List Fronted
 row_at pages page = get_or pages page []
@@ -172,7 +167,3 @@ row-all P pages heads page row b h r all =
     subst (AllByRecursion P) (sym r) (all-page P (rows pages) heads page (omega (arith, b, long)) (omega (arith, h, long)) all)
 
 -- ---- a walk
-
-pub left-all : (row : List Fronted) (heads : List Fronted) (rest : List (List Fronted)) → left_in_pages row heads rest ≡ in_pages (row ∷ rest) heads
-left-all row [] rest = refl
-left-all row (head ∷ heads) rest = refl

@@ -1,19 +1,5 @@
 -- What the keys tell once they have a pair more.
-use Rattle.std.proofs.Common.{◌≡◌, ℕ, suc, ◌<◌, ◌≤◌, true, false, nat_lt, if◌then◌else◌, List, [], ◌∷◌, ◌++◌, refl, ap, sym, ◌∙◌, inl, inr, arith}
-use Rattle.std.specs.Prelude.{◌⊎◌}
-use Rattle.std.specs.declared.cmp.Ordering.{Ordering}
-use Rattle.std.specs.declared.cmp.Ordering.TheVariants.{Less, Equal, Greater}
-use Rattle.std.specs.Ordering.{match_ordering, ordering_then, nat_cmp}
-use Rattle.std.specs.Cmp.Lexicographic.{slice_cmp}
-use Rattle.std.specs.List.{AllByRecursion}
-use Rattle.std.proofs.lemmas.Bool.Decides.{nat_tests}
-use Rattle.std.proofs.lemmas.Cmp.{ranked}
-use Rattle.mail_index.specs.declared.kind.Kind.{Kind}
-use Rattle.mail_index.specs.Kinds.{kind_number, kind_of_number}
-use Rattle.mail_index.specs.Tables.{Key, RisesFrom, IsKey}
-use Rattle.mail_index.specs.PostingLists.{end_from, with_number}
-use Rattle.mail_index.specs.Builders.{with_pair}
-use Rattle.mail_index.specs.Pairs.{IsIn, Tells}
+use Rattle.mail_index.proofs.Words.{◌≡◌, ℕ, suc, ◌<◌, ◌≤◌, true, false, nat_lt, if◌then◌else◌, List, [], ◌∷◌, ◌++◌, refl, ap, sym, ◌∙◌, inl, inr, arith, ◌⊎◌, Ordering, Less, Equal, Greater, match_ordering, ordering_then, nat_cmp, slice_cmp, AllByRecursion, nat_tests, ranked, Kind, kind_number, kind_of_number, Key, RisesFrom, IsKey, end_from, with_number, with_pair, IsIn, Tells}
 use Rattle.mail_index.proofs.BuildLaws.DraftLemmas.{by-number, end_from-below}
 use Rattle.mail_index.proofs.ViewLaws.KindNumbers.{kind_of-number}
 

@@ -1,12 +1,5 @@
 -- Messages that are added behind one another are those of a well-formed table.
-use Rattle.std.proofs.Common.{◌≡◌, ℕ, zero, suc, ◌+◌, ◌^◌, ◌<◌, ◌≤◌, Bool, true, false, nat_eq, nat_lt, if◌then◌else◌, List, [], ◌∷◌, ◌++◌, length, Option, None, Some, IsSome, IfSome, FitsSigned, refl, ap, sym, subst, ◌∙◌, inl, inr, length-append, arith}
-use Rattle.std.specs.Int.{w64}
-use Rattle.std.specs.List.{AllByRecursion}
-use Rattle.std.proofs.lemmas.Bool.Decides.{nat_tests}
-use Rattle.mail_index.specs.declared.record.Record.{Record}
-use Rattle.mail_index.specs.Versions.{IsVersion, newest}
-use Rattle.mail_index.specs.Tables.{Archive, archive_length, IsMessage, Follows, AllNext, IsPath, IsArchive, IsKey, IsWellFormed}
-use Rattle.mail_index.specs.Builders.{Draft, end_of, IsNextMessage, IsInMessage, IsBetweenArchives}
+use Rattle.mail_index.proofs.Words.{◌≡◌, ℕ, zero, suc, ◌+◌, ◌^◌, ◌<◌, ◌≤◌, Bool, true, false, nat_eq, nat_lt, if◌then◌else◌, List, [], ◌∷◌, ◌++◌, length, Option, None, Some, IsSome, IfSome, FitsSigned, refl, ap, sym, subst, ◌∙◌, inl, inr, length-append, arith, w64, AllByRecursion, nat_tests, Record, IsVersion, newest, Archive, archive_length, IsMessage, Follows, AllNext, IsPath, IsArchive, IsKey, IsWellFormed, Draft, end_of, IsNextMessage, IsInMessage, IsBetweenArchives}
 use Rattle.mail_index.specs.Inside.Drafts.{with_open, IsDraft}
 use Rattle.mail_index.proofs.BuildLaws.DraftLemmas.{all-snoc, all-weaker, listed-weaker}
 

@@ -1,11 +1,5 @@
 -- Laws of posting lists: one more number is one more difference, and the bytes tell it back.
-use Rattle.std.proofs.Common.{◌≡◌, ℕ, zero, suc, ◌+◌, ◌-◌, ◌*◌, ◌/◌, ◌%◌, ◌^◌, ◌<◌, ◌≤◌, true, false, nat_lt, if◌then◌else◌, List, [], ◌∷◌, ◌++◌, length, fold, flat_map, refl, ap, sym, ◌∙◌, append-nil, length-append, arith}
-use Rattle.std.proofs.lemmas.Bool.Decides.{nat_tests}
-use Rattle.std.proofs.lemmas.List.Sums.{fold-append}
-use Rattle.std.proofs.lemmas.Grind.{flat_map-append}
-use Rattle.std.proofs.Math.Nat.{add-mul, mul_assoc, pow-suc}
-use Rattle.mail_index.specs.Postings.{leb128, differences_from, postings}
-use Rattle.mail_index.specs.PostingLists.{end_from, with_number, Told, told_whole, told_more, told, numbers_of, IsPosted}
+use Rattle.mail_index.proofs.Words.{◌≡◌, ℕ, zero, suc, ◌+◌, ◌-◌, ◌*◌, ◌/◌, ◌%◌, ◌^◌, ◌<◌, ◌≤◌, true, false, nat_lt, if◌then◌else◌, List, [], ◌∷◌, ◌++◌, length, fold, flat_map, refl, ap, sym, ◌∙◌, append-nil, length-append, arith, nat_tests, fold-append, flat_map-append, add-mul, mul_assoc, pow-suc, leb128, differences_from, postings, end_from, with_number, Told, told_whole, told_more, told, numbers_of, IsPosted}
 
 end_from-snoc : (low : ℕ) (ns : List ℕ) (n : ℕ) → end_from low (ns ++ n ∷ []) ≡ suc n
 end_from-snoc low [] n = refl

@@ -1,6 +1,5 @@
 -- Laws of lists that are compared by their ends.
-use Rattle.std.proofs.Common.{◌≡◌, ◌∙◌, ℕ, ◌+◌, ◌-◌, ◌≤◌, List, ◌++◌, length, take, drop, sym, ap, ap₂, arith}
-use Rattle.std.proofs.lemmas.List.{take-append-drop, drop-drop}
+use Rattle.mail_index.proofs.Words.{◌≡◌, ◌∙◌, ℕ, ◌+◌, ◌-◌, ◌≤◌, List, ◌++◌, length, take, drop, sym, ap, ap₂, arith, take-append-drop, drop-drop}
 
 -- what is behind the first n, of a list of n to 2 * n: it stands among the last n
 behind-first : (n : ℕ) (l : List ℕ) → n ≤ length l → length l ≤ n + n → drop (n - (length l - n)) (drop (length l - n) l) ≡ drop n l

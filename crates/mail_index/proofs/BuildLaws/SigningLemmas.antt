@@ -1,14 +1,12 @@
 -- Laws of writing in steps.
-use Rattle.std.proofs.Common.{◌≡◌, ℕ, suc, ◌+◌, ◌<◌, List, [], ◌∷◌, ◌++◌, length, drop, get_or, Option, refl, ap, sym, subst, ◌∙◌, append_assoc, append-nil, add-one}
-use Rattle.std.proofs.Math.Seq.{drop-cons}
-use Rattle.std.specs.Io.KnownBytes.{Appends}
+use Rattle.mail_index.proofs.Words.{◌≡◌, ℕ, suc, ◌+◌, ◌<◌, List, [], ◌∷◌, ◌++◌, length, flat_map, drop, get_or, Option, Result, Ok, Err, IsErr, OnErr, refl, ap, sym, subst, ◌∙◌, append_assoc, append-nil, add-one, drop-cons, Appends}
 use Rattle.sha2.specs.declared.Sha256.{Sha256}
 use Rattle.sha2.specs.Hashers.{Holds256}
 use Rattle.sha2.specs.Sha256.{sha256}
 use Rattle.contract_words.specs.Devices.{Sends}
 use Rattle.contract_words.proofs.Sending.{appends-nil, appends_join, sends_more}
 use Rattle.mail_index.specs.declared.build.file_out.Signer.{Signer}
-use Rattle.mail_index.specs.Inside.Signing.{Absorbs, BreaksOff, Signs, IsSigning}
+use Rattle.mail_index.specs.Inside.Signing.{Absorbs, BreaksOff, Signs, Writes, IsSigning}
 
 absorbs-nothing : (h : Sha256) → Absorbs h h []
 absorbs-nothing h m held = subst (λ x. Holds256 h x) (sym (append-nil m)) held
@@ -66,6 +64,15 @@ sends-longer t u bytes more s = (s.0, s.1 ++ more, ap (λ l. l ++ more) s.2 ∙ 
 breaks-off-longer : (t u : Option (List ℕ)) (s : Signer) (bytes more : List ℕ) → BreaksOff t u s bytes → BreaksOff t u s (bytes ++ more)
 breaks-off-longer t u s bytes more fault = subst (λ l. Sends t u l) (append_assoc s.pending bytes more) (sends-longer t u (s.pending ++ bytes) more fault)
 
+-- a call that failed
+pub on-failure : {T E : Type 0} {A : Type 0} (r : Result T E) → A → OnErr r A
+on-failure (Ok _) a = tt
+on-failure (Err _) a = a
+
+pub writes-failed : {T E : Type 0} (r : Result T E) (t u : Option (List ℕ)) (s k : Signer) (bytes : List ℕ) → IsErr r → BreaksOff t u s bytes → Writes r t u s k bytes
+writes-failed (Ok _) t u s k bytes failed fault = absurd cc
+writes-failed (Err _) t u s k bytes failed fault = fault
+
 -- ---- all that was gathered goes out, where nothing was gathered at first
 
 pub all-sent : {t u : Option (List ℕ)} {s k : Signer} {whole : List ℕ} → s.pending ≡ [] → (signs : Signs t u s k whole) → whole ≡ signs.sent ++ k.pending
@@ -101,12 +108,8 @@ signing-step {t} {u} {v} {h} {j} {k} part rest so_far next = record {
   signs = signs-join so_far.front part so_far.signs next;
 }
 
--- all of it
-pub signing-end : {t u : Option (List ℕ)} {h j : Signer} {whole : List ℕ} → IsSigning t u h j whole [] → Signs t u h j whole
-signing-end {t} {u} {h} {j} {whole} so_far = subst (λ x. Signs t u h j x) (sym (so_far.split ∙ append-nil so_far.front)) so_far.signs
-
 -- only a front of the next part
-pub signing-fail : {t u : Option (List ℕ)} {h j : Signer} {whole : List ℕ} (v : Option (List ℕ)) (part rest : List ℕ) → IsSigning t u h j whole (part ++ rest) → BreaksOff u v j part → BreaksOff t v h whole
+signing-fail : {t u : Option (List ℕ)} {h j : Signer} {whole : List ℕ} (v : Option (List ℕ)) (part rest : List ℕ) → IsSigning t u h j whole (part ++ rest) → BreaksOff u v j part → BreaksOff t v h whole
 signing-fail {t} {u} {h} {j} {whole} v part rest so_far fault =
     subst (λ x. BreaksOff t v h x) (append_assoc so_far.front part rest ∙ sym so_far.split)
     (breaks-off-longer t v h (so_far.front ++ part) rest (breaks-off-later v so_far.front part so_far.signs fault))
@@ -115,8 +118,10 @@ signing-fail {t} {u} {h} {j} {whole} v part rest so_far fault =
 pub signing-next : {t u v : Option (List ℕ)} {h j k : Signer} {whole rest : List ℕ} (part after : List ℕ) → IsSigning t u h j whole rest → rest ≡ part ++ after → Signs u v j k part → IsSigning t v h k whole after
 signing-next {t} {u} {v} {h} {j} {k} {whole} {rest} part after so_far e next = signing-step part after (subst (λ x. IsSigning t u h j whole x) e so_far) next
 
-pub signing-stop : {t u : Option (List ℕ)} {h j : Signer} {whole rest : List ℕ} (v : Option (List ℕ)) (part after : List ℕ) → IsSigning t u h j whole rest → rest ≡ part ++ after → BreaksOff u v j part → BreaksOff t v h whole
-signing-stop {t} {u} {h} {j} {whole} {rest} v part after so_far e fault = signing-fail v part after (subst (λ x. IsSigning t u h j whole x) e so_far) fault
+pub signing-stop : {T E : Type 0} {t u : Option (List ℕ)} {h j : Signer} {whole rest : List ℕ} (r : Result T E) (v : Option (List ℕ)) (k : Signer) (part after : List ℕ)
+    → IsErr r → IsSigning t u h j whole rest → rest ≡ part ++ after → BreaksOff u v j part → Writes r t v h k whole
+signing-stop {T} {E} {t} {u} {h} {j} {whole} {rest} r v k part after failed so_far e fault =
+    writes-failed r t v h k whole failed (signing-fail v part after (subst (λ x. IsSigning t u h j whole x) e so_far) fault)
 
 -- the item at an index, and what follows it
 pub from-item : {A : Type 0} (xs : List A) (i : ℕ) (x : A) → x ≡ get_or xs i x → i < length xs → drop i xs ≡ x ∷ drop (i + 1) xs
@@ -124,3 +129,7 @@ from-item xs i x is low = drop-cons xs i x low ∙ ap (λ y. y ∷ drop (suc i) 
 
 pub from-place : {A : Type 0} (xs : List A) (i : ℕ) (d : A) → i < length xs → drop i xs ≡ get_or xs i d ∷ drop (i + 1) xs
 from-place xs i d low = drop-cons xs i d low ∙ ap (λ n. get_or xs i d ∷ drop n xs) (sym (add-one i))
+
+-- the bytes of the items from an index on
+pub bytes-from : {A : Type 0} (f : A → List ℕ) (xs : List A) (i : ℕ) (d : A) → i < length xs → flat_map f (drop i xs) ≡ f (get_or xs i d) ++ flat_map f (drop (i + 1) xs)
+bytes-from f xs i d low = ap (flat_map f) (from-place xs i d low)

@@ -1,19 +1,11 @@
 -- How many bytes the sections of an index file have.
-use Rattle.std.proofs.Common.{◌≡◌, ℕ, ◌+◌, ◌*◌, ◌^◌, ◌<◌, ◌≤◌, List, [], ◌∷◌, ◌++◌, length, map, flat_map, Option, None, Some, refl, sym, ap, ◌∙◌, length-append, arith}
-use Rattle.std.specs.Prelude.{unwrap_or}
-use Rattle.std.specs.List.{AllByRecursion, concat}
-use Rattle.std.proofs.lemmas.List.{length-map}
+use Rattle.mail_index.proofs.Words.{◌≡◌, ℕ, ◌+◌, ◌*◌, ◌^◌, ◌<◌, ◌≤◌, List, [], ◌∷◌, ◌++◌, length, map, flat_map, Option, None, Some, refl, sym, ap, ◌∙◌, length-append, arith, unwrap_or, AllByRecursion, concat, length-map, newest, IsDigest, Archive, Key, Table, IsArchive, IsKey, postings, archive_bytes, record_bytes, entry_of, directory_from, texts_of, postings_of, entries, archive_section, counts, body, index_file, HasSmallSections, magic, be32, be64}
 use Rattle.sha2.specs.Sha256.{sha256}
 use Rattle.sha2.proofs.Facts256.{length-sha256}
-use Rattle.mail_index.specs.declared.record.Record.{Record}
-use Rattle.mail_index.specs.Versions.{newest, IsDigest}
-use Rattle.mail_index.specs.Tables.{Archive, Key, Table, IsArchive, IsKey}
-use Rattle.mail_index.specs.Postings.{postings}
-use Rattle.mail_index.specs.Files.{archive_bytes, record_bytes, Entry, entry_of, entry_bytes, directory_from, texts_of, postings_of, entries, archive_section, counts, body, index_file, HasSmallSections}
 use Rattle.mail_index.specs.declared.build.sections.Counts.{Counts}
 use Rattle.mail_index.specs.Inside.SectionCounts.{counted, IsCountOf, counted_length}
-use Rattle.mail_index.specs.Files.{magic, be32, be64}
 use Rattle.mail_index.proofs.ViewLaws.DigestReads.{digest_size}
+use Rattle.mail_index.proofs.ViewLaws.Opening.{length_records, length_directory}
 use Rattle.mail_index.proofs.BuildLaws.DraftLemmas.{length-postings}
 
 pub length-archive_bytes : (a : Archive) → length (archive_bytes a) ≡ 12 + length a.path + length (unwrap_or a.digest [])
@@ -26,14 +18,6 @@ most-digest (Some d) h = omega (arith, digest_size newest d h)
 pub length-archives : (archives : List Archive) → AllByRecursion (IsArchive newest) archives → length (flat_map archive_bytes archives) ≤ 4140 * length archives
 length-archives [] all = omega arith
 length-archives (a ∷ archives) all = omega (arith, length-append (archive_bytes a) (flat_map archive_bytes archives), length-archive_bytes a, all.0.0.most, most-digest a.digest all.0.2, length-archives archives all.1)
-
-length-records : (ms : List Record) → length (flat_map record_bytes ms) ≡ 40 * length ms
-length-records [] = refl
-length-records (m ∷ ms) = omega (arith, length-append (record_bytes m) (flat_map record_bytes ms), length-records ms)
-
-length-directory : (a b : ℕ) (es : List Entry) → length (directory_from a b es) ≡ 24 * length es
-length-directory a b [] = refl
-length-directory a b (e ∷ es) = omega (arith, length-append (entry_bytes a b e) (directory_from (a + length e.text) (b + length e.postings) es), length-directory (a + length e.text) (b + length e.postings) es)
 
 pub length-texts : (count : ℕ) (ks : List Key) → AllByRecursion (IsKey newest count) ks → length (texts_of (map entry_of ks)) ≤ 2 ^ 32 * length ks
 length-texts count [] all = omega arith
@@ -52,8 +36,8 @@ length-body t =
     omega (
       arith,
       length-counts t,
-      length-records t.messages,
-      length-directory 0 0 (entries t),
+      length_records t.messages,
+      length_directory 0 0 (entries t),
       length-map t.keys entry_of,
       length-append (concat (counts t)) (archive_section t ++ (flat_map record_bytes t.messages ++ (directory_from 0 0 (entries t) ++ (texts_of (entries t) ++ (postings_of (entries t) ++ []))))),
       length-append (archive_section t) (flat_map record_bytes t.messages ++ (directory_from 0 0 (entries t) ++ (texts_of (entries t) ++ (postings_of (entries t) ++ [])))),

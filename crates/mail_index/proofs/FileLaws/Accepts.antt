@@ -1,22 +1,10 @@
 -- The file of a table keeps every rule, so it has no fault.
-use Rattle.std.proofs.Common.{◌≡◌, ℕ, suc, ◌+◌, ◌-◌, ◌*◌, ◌^◌, ◌<◌, List, [], ◌∷◌, ◌++◌, length, map, take, drop, refl, sym, ap, subst, ◌∙◌, arith, length-append}
-use Rattle.std.specs.Prelude.{flat_map, slice_range}
-use Rattle.std.specs.List.{AllByRecursion, concat}
-use Rattle.std.proofs.Math.Seq.{take-append_seam, drop-append_seam}
-use Rattle.std.proofs.lemmas.List.{drop-drop}
-use Rattle.std.proofs.lemmas.Nat.{from_be_bytes-to_be_bytes_4, from_be_bytes-to_be_bytes_8}
+use Rattle.mail_index.proofs.Words.{◌≡◌, ℕ, suc, ◌+◌, ◌-◌, ◌*◌, ◌^◌, ◌<◌, List, [], ◌∷◌, ◌++◌, length, map, take, drop, refl, sym, ap, subst, ◌∙◌, arith, length-append, flat_map, slice_range, AllByRecursion, concat, take-append_seam, drop-append_seam, drop-drop, from_be_bytes-to_be_bytes_4, from_be_bytes-to_be_bytes_8, Record, IsVersion, u32_at, u64_at, magic, entry_of, entries, archive_bytes, archive_section, record_bytes, directory_from, texts_of, postings_of, counts, sections, body, index_file, Archive, Key, Table, IsWellFormed, IsArchive, IsKey, AllNext, KeyBefore, version_told, IsFirstFault, EntryBefore, IsEntry, records_start, directory_start, texts_start, postings_start, digest_start, HasDigest, IsSigned, HasArchives, HasRecords, HasDirectory, HasPostings, IsFileOf, read_archives, read_records}
 use Rattle.sha2.specs.Sha256.{sha256}
 use Rattle.sha2.proofs.Facts256.{length-sha256}
-use Rattle.mail_index.specs.declared.record.Record.{Record}
-use Rattle.mail_index.specs.Versions.{IsVersion}
-use Rattle.mail_index.specs.Fields.{u32_at, u64_at}
-use Rattle.mail_index.specs.Files.{magic, entry_of, entries, archive_bytes, archive_section, record_bytes, directory_from, texts_of, postings_of, counts, sections, body, index_file}
-use Rattle.mail_index.specs.Tables.{Archive, Key, Table, IsWellFormed, IsArchive, IsKey, AllNext, KeyBefore}
-use Rattle.mail_index.specs.Faults.{version_told, IsFirstFault, EntryBefore, IsEntry, records_start, directory_start, texts_start, postings_start, digest_start, HasDigest, IsSigned, HasArchives, HasRecords, HasDirectory, HasPostings, IsFileOf}
 use Rattle.mail_index.specs.declared.view.fault.IndexFault.{IndexFault}
 use Rattle.mail_index.specs.declared.view.fault.IndexFault.TheVariants.{TooShort, BadMagic, BadVersion, BadDigest, BadLayout}
 use Rattle.mail_index.specs.declared.view.fault.Section.TheVariants.{Counts, Archives, Records, Directory, Postings}
-use Rattle.mail_index.specs.Records.{read_archives, read_records}
 use Rattle.mail_index.proofs.ViewLaws.ArchiveReads.{archives_back}
 use Rattle.mail_index.proofs.ViewLaws.RecordSections.{records_back}
 use Rattle.mail_index.proofs.FileLaws.Fronts.{before, concat_then}

@@ -1,9 +1,5 @@
 -- Numbers read from bytes and written back.
-use Rattle.std.proofs.Common.{◌≡◌, ℕ, zero, suc, ◌+◌, ◌<◌, ◌≤◌, List, [], ◌∷◌, ◌++◌, length, take, drop, get_or, refl, Bool, true, false, ◌&&◌, sym, ap, ◌∙◌, arith, length-drop}
-use Rattle.std.proofs.lemmas.List.{take-append-drop, drop-drop}
-use Rattle.std.proofs.lemmas.Nat.{be_bytes_4, be_bytes_8}
-use Rattle.mail_index.specs.Fields.{byte_at, u32_at, u64_at}
-use Rattle.mail_index.specs.Files.{be32, be64}
+use Rattle.mail_index.proofs.Words.{length-take-le, ◌≡◌, ℕ, zero, suc, ◌+◌, ◌<◌, ◌≤◌, List, [], ◌∷◌, ◌++◌, length, take, drop, get_or, refl, Bool, true, false, ◌&&◌, sym, ap, ◌∙◌, arith, length-drop, take-append-drop, drop-drop, be_bytes_4, be_bytes_8, byte_at, u32_at, u64_at, be32, be64}
 
 pub record AreBytes (bytes : List ℕ) : Type 0 where
   pub below : (i : ℕ) → get_or bytes i 0 < 256
@@ -29,9 +25,7 @@ pub bytes_before : (n : ℕ) (bytes : List ℕ) → AreBytes bytes → AreBytes 
 bytes_before n bytes h = record { below = take_below n bytes h.below }
 
 pub length_part : (k : ℕ) (bytes : List ℕ) → k ≤ length bytes → length (take k bytes) ≡ k
-length_part zero bytes h = refl
-length_part (suc k) [] h = absurd (omega (arith, h))
-length_part (suc k) (b ∷ bs) h = ap suc (length_part k bs (omega (arith, h)))
+length_part k bytes h = length-take-le k bytes h
 
 -- four bytes, and what follows them
 pub u32_back : (bytes : List ℕ) (i j : ℕ) → AreBytes bytes → i + 4 ≤ length bytes → j ≡ i + 4 → be32 (u32_at bytes i) ++ drop j bytes ≡ drop i bytes
@@ -58,6 +52,3 @@ pub both : (a b : Bool) → (a && b) ≡ true → (a ≡ true) × (b ≡ true)
 both true true e = (refl, refl)
 both true false e = absurd cc
 both false b e = absurd cc
-
-pub both_true : (a b : Bool) → a ≡ true → b ≡ true → (a && b) ≡ true
-both_true a b p q = rw (p, q) refl

@@ -1,16 +1,6 @@
 -- The file that a layout is of: what each walk shows of it, and what each refuses.
-use Rattle.std.proofs.Common.{◌≡◌, ℕ, ◌-◌, ◌*◌, ◌^◌, ◌<◌, ◌≤◌, List, length, drop, refl, sym, ap, subst, ◌∙◌, arith, length-drop}
-use Rattle.std.proofs.Math.Path.{transport}
-use Rattle.std.specs.Prelude.{flat_map, slice_range}
-use Rattle.std.specs.List.{AllByRecursion}
+use Rattle.mail_index.proofs.Words.{◌≡◌, ℕ, ◌-◌, ◌*◌, ◌^◌, ◌<◌, ◌≤◌, List, length, drop, refl, sym, ap, subst, ◌∙◌, arith, length-drop, transport, flat_map, slice_range, AllByRecursion, Record, record_bytes, version_number, Archive, IsArchive, records_start, directory_start, texts_start, HasCounts, HasArchives, HasRecords, read_archives, SpellsArchives, AreRecords, read_records, IsLayout}
 use Rattle.mail_index.specs.declared.view.layout.Layout.{Layout}
-use Rattle.mail_index.specs.declared.record.Record.{Record}
-use Rattle.mail_index.specs.Files.{record_bytes}
-use Rattle.mail_index.specs.Versions.{version_number}
-use Rattle.mail_index.specs.Tables.{Archive, IsArchive}
-use Rattle.mail_index.specs.Faults.{records_start, directory_start, texts_start, HasCounts, HasArchives, HasRecords}
-use Rattle.mail_index.specs.Records.{read_archives, SpellsArchives, AreRecords, read_records}
-use Rattle.mail_index.specs.Layouts.{IsLayout}
 use Rattle.mail_index.proofs.FileLaws.Bytes.{AreBytes, bytes_behind, bytes_before, length_part}
 use Rattle.mail_index.proofs.ViewLaws.ArchiveReads.{read_count}
 use Rattle.mail_index.proofs.ViewLaws.RecordSections.{shows_records, are_records_of, are_behind, in_order}

@@ -1,11 +1,5 @@
 -- What stands at the front of equal bytes is equal.
-use Rattle.std.proofs.Common.{◌≡◌, ℕ, zero, suc, ◌+◌, ◌*◌, ◌^◌, ◌<◌, ◌≤◌, Bool, true, false, cond, List, [], ◌∷◌, ◌++◌, length, map, Option, Some, None, refl, sym, ap, subst, ◌∙◌, append_assoc, arith, inl, inr, ℤ}
-use Rattle.std.specs.Prelude.{flat_map, unwrap_or}
-use Rattle.std.specs.List.{concat, AllByRecursion}
-use Rattle.std.specs.Int.{w32, w64, from_be_bytes}
-use Rattle.std.proofs.lemmas.Nat.{from_be_bytes-to_be_bytes_4, from_be_bytes-to_be_bytes_8}
-use Rattle.mail_index.specs.Tables.{Archive, IsArchive}
-use Rattle.mail_index.specs.Files.{be32, be64, archive_bytes}
+use Rattle.mail_index.proofs.Words.{◌≡◌, ℕ, ◌^◌, ◌<◌, List, [], ◌∷◌, ◌++◌, length, map, refl, sym, ap, ◌∙◌, append_assoc, arith, flat_map, unwrap_or, concat, AllByRecursion, w32, w64, from_be_bytes, from_be_bytes-to_be_bytes_4, from_be_bytes-to_be_bytes_8, Archive, IsArchive, be32, be64, archive_bytes}
 use Rattle.mail_index.proofs.ViewLaws.DigestReads.{same_size, digest_is}
 
 pub split : (a b x y : List ℕ) → length a ≡ length b → a ++ x ≡ b ++ y → (a ≡ b) × (x ≡ y)

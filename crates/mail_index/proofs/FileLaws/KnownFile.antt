@@ -1,11 +1,6 @@
 -- A layout of bytes that are known to be a table's file keeps the rules of sections.
-use Rattle.std.proofs.Common.{◌≡◌, ◌<◌, ◌^◌, ℕ, List, length, map, sym, ap, subst, arith}
+use Rattle.mail_index.proofs.Words.{◌≡◌, ◌<◌, ◌^◌, ℕ, List, length, map, sym, ap, subst, arith, Record, entry_of, Archive, Table, HasCounts, HasPostings, IsFileOf, IsLayout, IsChecked, table_of}
 use Rattle.mail_index.specs.declared.view.layout.Layout.{Layout}
-use Rattle.mail_index.specs.declared.record.Record.{Record}
-use Rattle.mail_index.specs.Files.{entry_of}
-use Rattle.mail_index.specs.Tables.{Archive, Table}
-use Rattle.mail_index.specs.Faults.{HasCounts, HasPostings, IsFileOf}
-use Rattle.mail_index.specs.Layouts.{IsLayout, IsChecked, table_of}
 use Rattle.mail_index.proofs.FileLaws.Accepts.{keeps_rules, same_records}
 use Rattle.mail_index.proofs.FileLaws.Bytes.{AreBytes}
 use Rattle.mail_index.proofs.FileLaws.FileLemmas.{these_archives, these_records, has_records}

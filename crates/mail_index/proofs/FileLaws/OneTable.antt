@@ -1,14 +1,6 @@
 -- The whole file: each section in its turn.
-use Rattle.std.proofs.Common.{◌≡◌, ℕ, zero, suc, ◌+◌, ◌^◌, ◌<◌, ◌≤◌, List, [], ◌∷◌, ◌++◌, length, map, get_or, refl, sym, ap, subst, ◌∙◌, append_assoc, inl, inr, arith}
-use Rattle.std.specs.Prelude.{flat_map}
-use Rattle.std.specs.List.{AllByRecursion}
-use Rattle.std.proofs.lemmas.List.{length-append}
+use Rattle.mail_index.proofs.Words.{◌≡◌, ℕ, zero, suc, ◌+◌, ◌^◌, ◌<◌, ◌≤◌, List, [], ◌∷◌, ◌++◌, length, map, get_or, refl, sym, ap, subst, ◌∙◌, append_assoc, inl, inr, arith, flat_map, AllByRecursion, length-append, length-map, Record, kind_number, IsVersion, Archive, Key, Table, IsArchive, IsMessage, IsKey, IsWellFormed, archive_length, zeros, be32, be64, archive_bytes, record_bytes, Entry, entry_of, entry_bytes, directory_from, texts_of, postings_of, archive_section, entries, counts, sections, body, HasSmallSections, index_file}
 use Rattle.sha2.specs.Sha256.{sha256}
-use Rattle.mail_index.specs.declared.record.Record.{Record}
-use Rattle.mail_index.specs.Kinds.{kind_number}
-use Rattle.mail_index.specs.Versions.{IsVersion}
-use Rattle.mail_index.specs.Tables.{Archive, Key, Table, IsArchive, IsMessage, IsKey, IsWellFormed, archive_length}
-use Rattle.mail_index.specs.Files.{zeros, be32, be64, archive_bytes, record_bytes, Entry, entry_of, entry_bytes, directory_from, texts_of, postings_of, archive_section, entries, counts, sections, body, HasSmallSections, index_file}
 use Rattle.mail_index.proofs.FileLaws.Fronts.{split, before, concat_then, same_parts, be32_is, be64_is, front_each, archive_front}
 use Rattle.mail_index.proofs.ViewLaws.KindNumbers.{kind_is}
 use Rattle.mail_index.proofs.FileLaws.RecordFronts.{same_at, HasFew, message_front, numbers_are}
@@ -95,10 +87,6 @@ short_texts : (version count : ℕ) (ks : List Key) → AllByRecursion (IsKey ve
 short_texts version count [] p = tt
 short_texts version count (k ∷ ks) p = (p.0.short, short_texts version count ks p.1)
 
-length_map : (ks : List Key) → length (map entry_of ks) ≡ length ks
-length_map [] = refl
-length_map (k ∷ ks) = ap suc (length_map ks)
-
 pub small_version : (n : ℕ) → IsVersion n → n < 2 ^ 32
 small_version n (inl e) = omega (arith, e)
 small_version n (inr e) = omega (arith, e)
@@ -122,7 +110,7 @@ one_table t u x y p q a b e =
     let same : t.archives ≡ u.archives = r.0 in
     let their : AllByRecursion (IsMessage t.archives) u.messages = subst (λ (l : List Archive). AllByRecursion (IsMessage l) u.messages) (sym same) q.messages in
     let m = front_each record_bytes (HasFew t.archives) (message_front t.archives) t.messages u.messages _ _ n_messages (with_few t.version t.archives t.messages p.archive_count p.archives p.messages) (with_few t.version t.archives u.messages p.archive_count p.archives their) r.1 in
-    let d = directory_is (entries t) (entries u) 0 0 0 0 _ _ (length_map t.keys ∙ n_keys ∙ sym (length_map u.keys)) (short_texts t.version (length t.messages) t.keys p.keys) (short_texts u.version (length u.messages) u.keys q.keys)
+    let d = directory_is (entries t) (entries u) 0 0 0 0 _ _ (length-map t.keys entry_of ∙ n_keys ∙ sym (length-map u.keys entry_of)) (short_texts t.version (length t.messages) t.keys p.keys) (short_texts u.version (length u.messages) u.keys q.keys)
     (omega (arith, a.texts)) (omega (arith, a.postings)) (omega (arith, n_texts)) (omega (arith, n_postings)) m.1 in
     let g = split (texts_of (entries t)) (texts_of (entries u)) _ _ n_texts d.2 in
     let o = split (postings_of (entries t)) (postings_of (entries u)) x y n_postings g.1 in

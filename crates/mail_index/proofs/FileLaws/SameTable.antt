@@ -1,8 +1,5 @@
 -- Bytes that lie in memory are the file of one table at most.
-use Rattle.std.proofs.Common.{◌≡◌, ◌∙◌, ◌^◌, ◌<◌, ℕ, List, length, sym, ap, arith}
-use Rattle.mail_index.specs.Tables.{Table}
-use Rattle.mail_index.specs.Files.{HasSmallSections}
-use Rattle.mail_index.specs.Faults.{IsFileOf}
+use Rattle.mail_index.proofs.Words.{◌≡◌, ◌∙◌, ◌^◌, ◌<◌, ℕ, List, length, sym, ap, arith, Table, HasSmallSections, IsFileOf}
 use Rattle.mail_index.proofs.BuildLaws.Sizes.{length-body, length-index_file}
 use Rattle.mail_index.proofs.FileLaws.OneTable.{one_file}
 

@@ -1,21 +1,7 @@
 -- A file whose sections are those of a table is the file of that table.
-use Rattle.std.proofs.Common.{◌≡◌, ℕ, suc, ◌+◌, ◌-◌, ◌^◌, ◌<◌, ◌≤◌, List, [], ◌∷◌, ◌++◌, length, map, take, drop, refl, sym, ap, subst, ◌∙◌, arith, length-drop, length-append}
-use Rattle.std.proofs.Math.Path.{transport}
-use Rattle.std.specs.Prelude.{flat_map, slice_range}
-use Rattle.std.specs.List.{AllByRecursion, concat}
-use Rattle.std.proofs.lemmas.List.{take-append-drop, drop-drop}
+use Rattle.mail_index.proofs.Words.{◌≡◌, ℕ, ◌+◌, ◌-◌, ◌^◌, ◌<◌, ◌≤◌, List, [], ◌∷◌, ◌++◌, length, map, take, drop, refl, sym, ap, subst, ◌∙◌, arith, length-drop, length-append, length-map, transport, flat_map, slice_range, AllByRecursion, concat, take-append-drop, drop-drop, version_number, IsVersion, u32_at, u64_at, magic, be32, be64, Entry, entry_of, entries, archive_section, record_bytes, directory_from, texts_of, postings_of, counts, sections, body, index_file, Key, IsArchive, IsKey, IsWellFormed, IsEntry, version_told, IsSigned, records_start, directory_start, texts_start, postings_start, digest_start, HasDigest, HasDirectory, HasPostings, IsFileOf, SpellsArchives, AreRecords, AreEntries, read_entries, IsList, AreLists, IsLayout, IsChecked, table_of, key_of}
 use Rattle.sha2.specs.Sha256.{sha256}
 use Rattle.mail_index.specs.declared.view.layout.Layout.{Layout}
-use Rattle.mail_index.specs.Versions.{version_number, IsVersion}
-use Rattle.mail_index.specs.Fields.{u32_at, u64_at}
-use Rattle.mail_index.specs.Files.{magic, be32, be64, Entry, entry_of, entries, archive_section, record_bytes, directory_from, texts_of, postings_of, counts, sections, body, index_file}
-use Rattle.mail_index.specs.Tables.{Key, IsArchive, IsKey, IsWellFormed}
-use Rattle.mail_index.specs.Faults.{IsEntry, version_told, IsSigned, records_start, directory_start, texts_start, postings_start, digest_start, HasDigest, HasDirectory, HasPostings, IsFileOf}
-use Rattle.mail_index.specs.Records.{SpellsArchives, AreRecords}
-use Rattle.mail_index.specs.Directory.{AreEntries, read_entries}
-use Rattle.mail_index.specs.Lists.{IsList, AreLists}
-use Rattle.mail_index.specs.Layouts.{IsLayout, IsChecked, table_of}
-use Rattle.mail_index.specs.KeysRead.{key_of}
 use Rattle.mail_index.proofs.FileLaws.Fronts.{before, concat_then, split}
 use Rattle.mail_index.proofs.FileLaws.Bytes.{AreBytes, length_part, u32_back, u64_back}
 use Rattle.mail_index.proofs.ViewLaws.ArchiveReads.{read_count}
@@ -104,10 +90,6 @@ these_lists bytes l f ks h =
 
 -- ---- the whole
 
-count_keys : (es : List Entry) → length (map key_of es) ≡ length es
-count_keys [] = refl
-count_keys (e ∷ es) = ap suc (count_keys es)
-
 then_rest : (i j : ℕ) (xs ys : List ℕ) → slice_range xs i j ≡ ys → i ≤ j → ys ++ drop j xs ≡ drop i xs
 then_rest i j xs ys e l =
     let k : i + (j - i) ≡ j = omega (arith, l) in
@@ -120,7 +102,7 @@ counts_front bytes l f h =
     let long : 80 ≤ length bytes = f.counts.0.long in
     let archives : length t.archives ≡ u32_at bytes 12 = read_count (version_number l.version) l.archive_count l.archives.now ∙ f.layout.archive_count in
     let messages : length t.messages ≡ u32_at bytes 16 = count_records l.message_count l.records.now ∙ f.layout.message_count in
-    let keys : length t.keys ≡ u32_at bytes 20 = count_keys (entries_of l) ∙ count_entries l.texts.now l.postings.now l.key_count l.directory.now ∙ f.layout.key_count in
+    let keys : length t.keys ≡ u32_at bytes 20 = length-map (entries_of l) key_of ∙ count_entries l.texts.now l.postings.now l.key_count l.directory.now ∙ f.layout.key_count in
     let size₁ : length (archive_section t) ≡ u64_at bytes 24 = omega (arith, ap length h.before.before.before.spelled, section_length 48 (records_start bytes) bytes (omega arith) (omega (arith, f.layout.adds_up))) in
     let size₂ : length (texts_of (entries t)) ≡ u64_at bytes 32 = omega (arith, ap length h.before.texts, section_length (texts_start bytes) (postings_start bytes) bytes (omega arith) (omega (arith, f.layout.adds_up))) in
     let size₃ : length (postings_of (entries t)) ≡ u64_at bytes 40 = omega (arith, ap length h.before.postings, section_length (postings_start bytes) (digest_start bytes) bytes (omega arith) (omega (arith, f.layout.adds_up))) in
@@ -179,7 +161,7 @@ is_file bytes l f h =
     let t = table_of l in
     let archives : length t.archives ≡ l.archive_count = read_count (version_number l.version) l.archive_count l.archives.now in
     let messages : length t.messages ≡ l.message_count = count_records l.message_count l.records.now in
-    let keys : length t.keys ≡ l.key_count = count_keys (entries_of l) ∙ count_entries l.texts.now l.postings.now l.key_count l.directory.now in
+    let keys : length t.keys ≡ l.key_count = length-map (entries_of l) key_of ∙ count_entries l.texts.now l.postings.now l.key_count l.directory.now in
     let told : version_told bytes ≡ t.version = sym f.layout.version in
     let w : IsWellFormed t = record {
       version = subst IsVersion told f.counts.0.known;

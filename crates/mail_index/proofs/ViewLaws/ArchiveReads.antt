@@ -1,17 +1,5 @@
 -- Archives read back from their bytes, and the bytes of archives that were read.
-use Rattle.std.proofs.Common.{Some, slice_get}
-use Rattle.std.proofs.Common.{◌≡◌, ◌↔◌, ℕ, zero, suc, ◌+◌, ◌-◌, ◌^◌, ◌<◌, ◌≤◌, List, [], ◌∷◌, ◌++◌, length, take, drop, Option, refl, sym, ap, subst, ◌∙◌, arith, length-append, length-drop, append_assoc}
-use Rattle.std.specs.Prelude.{unwrap_or, flat_map, IsTrue, nat_eq, Bool, true, false}
-use Rattle.std.proofs.lemmas.Bool.Decides.{nat_tests}
-use Rattle.std.proofs.Math.Seq.{take-append_seam, drop-append_seam}
-use Rattle.std.proofs.lemmas.List.{take-append-drop, append-nil}
-use Rattle.std.specs.List.{AllByRecursion}
-use Rattle.std.proofs.lemmas.Nat.{from_be_bytes-to_be_bytes_4, from_be_bytes-to_be_bytes_8}
-use Rattle.mail_index.specs.Fields.{u32_at, u64_at}
-use Rattle.mail_index.specs.Files.{be32, be64, archive_bytes}
-use Rattle.mail_index.specs.Versions.{IsDigest, digest_length, read_digest, behind_digest}
-use Rattle.mail_index.specs.Tables.{Archive, IsArchive, IsPath, archive_length}
-use Rattle.mail_index.specs.Records.{behind_path, read_archive, behind_archive, read_archives, behind_archives, HasArchive, SpellsArchives}
+use Rattle.mail_index.proofs.Words.{Some, slice_get, ◌≡◌, ◌↔◌, ℕ, zero, suc, ◌+◌, ◌-◌, ◌^◌, ◌<◌, ◌≤◌, List, [], ◌∷◌, ◌++◌, length, take, drop, Option, refl, sym, ap, subst, ◌∙◌, arith, length-append, length-drop, append_assoc, unwrap_or, flat_map, IsTrue, nat_eq, Bool, true, false, nat_tests, take-append_seam, drop-append_seam, take-append-drop, append-nil, AllByRecursion, from_be_bytes-to_be_bytes_4, from_be_bytes-to_be_bytes_8, u32_at, u64_at, be32, be64, archive_bytes, IsDigest, digest_length, read_digest, behind_digest, Archive, IsArchive, IsPath, archive_length, behind_path, read_archive, behind_archive, read_archives, behind_archives, HasArchive, SpellsArchives}
 use Rattle.mail_index.proofs.ViewLaws.DigestReads.{digest_back, digest_kept, digest_room}
 use Rattle.mail_index.proofs.FileLaws.Fronts.{concat_then}
 use Rattle.mail_index.proofs.FileLaws.Bytes.{AreBytes, u32_back, u64_back, length_part}
@@ -54,14 +42,7 @@ has_archive version r h l n p s t =
 length_archive : (a : Archive) (x : List ℕ) → length (archive_bytes a ++ x) ≡ 12 + length a.path + length (unwrap_or a.digest []) + length x
 length_archive a x =
     let d = unwrap_or a.digest [] in
-    let e : length (archive_bytes a ++ x) ≡ length (archive_bytes a) + length x = length-append (archive_bytes a) x in
-    let f : length (archive_bytes a) ≡ length (be64 a.length) + length (be32 (length a.path) ++ (a.path ++ (d ++ []))) = length-append (be64 a.length) (be32 (length a.path) ++ (a.path ++ (d ++ []))) in
-    let g : length (be32 (length a.path) ++ (a.path ++ (d ++ []))) ≡ length (be32 (length a.path)) + length (a.path ++ (d ++ [])) = length-append (be32 (length a.path)) (a.path ++ (d ++ [])) in
-    let i : length (a.path ++ (d ++ [])) ≡ length a.path + length (d ++ []) = length-append a.path (d ++ []) in
-    let j : length (be64 a.length) ≡ 8 = refl in
-    let k : length (be32 (length a.path)) ≡ 4 = refl in
-    let l : length (d ++ []) ≡ length d = ap length (append-nil d) in
-    omega (arith, e, f, g, i, j, k, l)
+    omega (arith, length-append (archive_bytes a) x, length-append a.path (d ++ []), length-append d [])
 
 -- what bytes that begin with an archive can be relied on for
 pub record ArchiveFront (version : ℕ) (r : List ℕ) : Type 0 where
@@ -81,20 +62,15 @@ archive_front_of version r h =
     let path : u32_at r 8 ≤ length (drop 12 r) = omega (arith, n, size, length-drop 12 r) in
     record { long = omega (arith, n); path = path; valid = h.valid.0; size = h.valid.1; digest = h.valid.2; room = digest_room version (behind_path r) h.valid.2 }
 
--- the first of some archives
+-- the first of some archives, and the others
+behind_spelled : (version n : ℕ) (r : List ℕ) → SpellsArchives version (suc n) r → behind_archive version r ≡ flat_map archive_bytes (read_archives version n (behind_archive version r))
+behind_spelled version n r h = ap (behind_archive version) h.spelled ∙ (archive_back version (read_archive version r) (flat_map archive_bytes (read_archives version n (behind_archive version r))) h.each.0).1
+
 pub spells_front : (version n : ℕ) (r : List ℕ) → SpellsArchives version (suc n) r → HasArchive version r
-spells_front version n r h =
-    let rest = flat_map archive_bytes (read_archives version n (behind_archive version r)) in
-    let a = read_archive version r in
-    let e : behind_archive version r ≡ rest = ap (behind_archive version) h.spelled ∙ (archive_back version a rest h.each.0).1 in
-    record { spelled = h.spelled ∙ ap (λ (x : List ℕ). archive_bytes a ++ x) (sym e); valid = h.each.0 }
+spells_front version n r h = record { spelled = h.spelled ∙ ap (λ (x : List ℕ). archive_bytes (read_archive version r) ++ x) (sym (behind_spelled version n r h)); valid = h.each.0 }
 
 pub spells_rest : (version n : ℕ) (r : List ℕ) → SpellsArchives version (suc n) r → SpellsArchives version n (behind_archive version r)
-spells_rest version n r h =
-    let rest = flat_map archive_bytes (read_archives version n (behind_archive version r)) in
-    let a = read_archive version r in
-    let e : behind_archive version r ≡ rest = ap (behind_archive version) h.spelled ∙ (archive_back version a rest h.each.0).1 in
-    record { spelled = e; each = h.each.1 }
+spells_rest version n r h = record { spelled = behind_spelled version n r h; each = h.each.1 }
 
 pub spells_more : (version n : ℕ) (r : List ℕ) → HasArchive version r → SpellsArchives version n (behind_archive version r) → SpellsArchives version (suc n) r
 spells_more version n r h s = record { spelled = h.spelled ∙ ap (λ (x : List ℕ). archive_bytes (read_archive version r) ++ x) s.spelled; each = (h.valid, s.each) }

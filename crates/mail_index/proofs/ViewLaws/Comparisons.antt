@@ -1,11 +1,5 @@
 -- The comparisons of a look-up.
-use Rattle.std.proofs.Common.{◌≡◌, ◌∙◌, ℕ, zero, suc, ◌+◌, ◌-◌, ◌/◌, ◌^◌, ◌<◌, ◌≤◌, List, [], ◌∷◌, length, take, drop, get_or, refl, ap, arith, length-drop, length-take-le, take-take, drop-drop, take_all}
-use Rattle.std.specs.declared.cmp.Ordering.{Ordering}
-use Rattle.std.specs.declared.cmp.Ordering.TheVariants.{Less, Equal, Greater}
-use Rattle.std.proofs.lemmas.List.{drop-take, drop_more}
-use Rattle.mail_index.specs.declared.kind.Kind.{Kind}
-use Rattle.mail_index.specs.Tables.{Key}
-use Rattle.mail_index.specs.LookUps.{lies_to, comparisons_within}
+use Rattle.mail_index.proofs.Words.{◌≡◌, ◌∙◌, ℕ, zero, suc, ◌+◌, ◌-◌, ◌/◌, ◌^◌, ◌<◌, ◌≤◌, List, [], ◌∷◌, length, take, drop, get_or, refl, ap, arith, length-drop, length-take-le, take-take, drop-drop, Ordering, Less, Equal, Greater, drop-take, drop_more, Kind, Key, lies_to, comparisons_within}
 use Rattle.mail_index.specs.Inside.KeyRuns.{keys_between}
 use Rattle.mail_index.proofs.ViewLaws.LookUpLemmas.{halves}
 use Rattle.mail_index.proofs.ViewLaws.RunLemmas.{between-next}
@@ -56,9 +50,6 @@ comparisons-few (suc most) kind text (k ∷ ks) digits h =
 
 length-between : (low high : ℕ) (ks : List Key) → high ≤ length ks → length (keys_between low high ks) ≡ high - low
 length-between low high ks within = length-take-le (high - low) (drop low ks) (omega (arith, within, length-drop low ks))
-
-pub between-all : (ks : List Key) → keys_between 0 (length ks) ks ≡ ks
-between-all ks = let whole : length ks - 0 ≡ length ks = omega arith in ap (λ (n : ℕ). take n ks) whole ∙ take_all (length ks) ks (omega arith)
 
 from_place : (low high n : ℕ) (ks : List Key) (d : Key) → low + n < high → high ≤ length ks
     → drop n (keys_between low high ks) ≡ get_or ks (low + n) d ∷ keys_between (low + n + 1) high ks

@@ -1,11 +1,7 @@
 -- Digests of archives read back from their bytes, and the bytes of digests that were read.
-use Rattle.std.proofs.Common.{◌≡◌, ℕ, ◌+◌, ◌<◌, ◌≤◌, true, false, nat_eq, if◌then◌else◌, List, [], ◌++◌, length, take, drop, Option, None, Some, refl, sym, ap, ◌∙◌, arith}
-use Rattle.std.specs.Prelude.{unwrap_or}
-use Rattle.std.proofs.Math.Seq.{take-append_seam, drop-append_seam}
-use Rattle.std.proofs.lemmas.List.{take-append-drop, length-take}
+use Rattle.mail_index.proofs.Words.{◌≡◌, ℕ, ◌+◌, ◌<◌, ◌≤◌, true, false, nat_eq, if◌then◌else◌, List, [], ◌++◌, length, take, drop, Option, None, Some, refl, sym, ap, ◌∙◌, arith, unwrap_or, take-append_seam, drop-append_seam, take-append-drop, length-take, version_number, IsDigest, digest_length, read_digest, behind_digest}
 use Rattle.mail_index.specs.declared.version.Version.{Version}
 use Rattle.mail_index.specs.declared.version.Version.TheVariants.{Two}
-use Rattle.mail_index.specs.Versions.{version_number, IsDigest, digest_length, read_digest, behind_digest}
 
 pub digest_size : (version : ℕ) (d : List ℕ) → IsDigest version (Some d) → length d ≡ 32
 digest_size version d h = h.1

@@ -1,35 +1,16 @@
 -- The keys of a directory, entry by entry.
-use Rattle.std.proofs.Common.{◌≡◌, ◌∙◌, ℕ, zero, suc, ◌+◌, ◌-◌, ◌*◌, ◌^◌, ◌<◌, ◌≤◌, ◌&&◌, List, [], ◌∷◌, length, map, drop, refl, sym, ap, subst, arith, length-drop}
-use Rattle.std.specs.Prelude.{nat_eq}
-use Rattle.std.specs.List.{AllByRecursion}
-use Rattle.std.specs.declared.cmp.Ordering.TheVariants.{Less}
-use Rattle.std.specs.Ordering.{nat_cmp}
-use Rattle.std.specs.Cmp.Lexicographic.{slice_cmp}
-use Rattle.std.specs.List.Sorted.{IsStrictlySortedBy}
-use Rattle.std.proofs.lemmas.Cmp.{nat_list_cmp_total}
-use Rattle.std.proofs.lemmas.List.{drop-drop, length-map}
-use Rattle.mail_index.specs.Kinds.{kind_number, kind_of_number, is_kind_number}
-use Rattle.mail_index.specs.Versions.{last_kind}
-use Rattle.mail_index.specs.Fields.{byte_at, u32_at, u64_at}
-use Rattle.mail_index.specs.Tables.{Key}
-use Rattle.mail_index.specs.PostingReads.{ArePosted}
-use Rattle.mail_index.specs.Directory.{is_entry, end_before, text_at, read_entry, read_entries, IsEntryAt, AreEntries}
-use Rattle.mail_index.specs.Lists.{list_at, AreLists}
-use Rattle.mail_index.specs.KeysRead.{key_of, keys_read, IsDirectory, key_at}
-use Rattle.mail_index.specs.LookUps.{AreSorted}
+use Rattle.mail_index.proofs.Words.{◌≡◌, ◌∙◌, ℕ, zero, suc, ◌+◌, ◌-◌, ◌*◌, ◌^◌, ◌<◌, ◌≤◌, List, [], ◌∷◌, length, map, drop, refl, sym, ap, subst, arith, length-drop, AllByRecursion, Less, nat_cmp, slice_cmp, IsStrictlySortedBy, nat_list_cmp_total, drop-drop, length-map, kind_number, kind_of_number, last_kind, byte_at, u32_at, u64_at, Key, ArePosted, end_before, text_at, read_entry, read_entries, IsEntryAt, AreEntries, list_at, AreLists, key_of, keys_read, IsDirectory, key_at, AreSorted}
 use Rattle.mail_index.specs.Inside.FrontEntries.{IsInFront}
-use Rattle.mail_index.proofs.FileLaws.Bytes.{both}
+use Rattle.mail_index.proofs.Items.{all-weaker}
 use Rattle.mail_index.proofs.ViewLaws.KindNumbers.{kind_kept, few_kinds}
 use Rattle.mail_index.proofs.ViewLaws.LookUpLemmas.{key_bytes}
+use Rattle.mail_index.proofs.ViewLaws.DirectorySections.{entry_kind}
+use Rattle.mail_index.proofs.ViewLaws.Opening.{count_entries}
 
 -- ---- the entry of a number
 
-length-read_entries : (texts postings : List ℕ) (n : ℕ) (d : List ℕ) → length (read_entries texts postings n d) ≡ n
-length-read_entries texts postings zero d = refl
-length-read_entries texts postings (suc n) d = ap suc (length-read_entries texts postings n (drop 24 d))
-
 pub length-keys_read : (texts postings : List ℕ) (n : ℕ) (d : List ℕ) → length (keys_read texts postings n d) ≡ n
-length-keys_read texts postings n d = length-map (read_entries texts postings n d) key_of ∙ length-read_entries texts postings n d
+length-keys_read texts postings n d = length-map (read_entries texts postings n d) key_of ∙ count_entries texts postings n d
 
 pub key_at-read : (texts postings : List ℕ) (n : ℕ) (d : List ℕ) (i : ℕ) → i < n → key_at (keys_read texts postings n d) i ≡ key_of (read_entry texts postings (drop (24 * i) d))
 key_at-read texts postings zero d i h = absurd (omega (arith, h))
@@ -47,18 +28,12 @@ record BeginsWithEntry (texts : List ℕ) (total : ℕ) (d : List ℕ) : Type 0 
   pub ends : end_before (drop 24 d) total ≤ total
 
 entry_is : (version : ℕ) (texts : List ℕ) (total tp pp number : ℕ) (text d : List ℕ) → IsEntryAt version texts total tp pp number text d → BeginsWithEntry texts total d
-unfolding is_entry
-entry_is version texts total tp pp number text d h =
-    let k = byte_at d 0 in
-    let t₃ = both (is_kind_number (last_kind version) k && nat_eq (byte_at d 1) 0 && nat_eq (byte_at d 2) 0) (nat_eq (byte_at d 3) 0) h.spelled in
-    let t₂ = both (is_kind_number (last_kind version) k && nat_eq (byte_at d 1) 0) (nat_eq (byte_at d 2) 0) t₃.0 in
-    let t₁ = both (is_kind_number (last_kind version) k) (nat_eq (byte_at d 1) 0) t₂.0 in
-    record {
-      kind = kind_kept (last_kind version) k (few_kinds version) t₁.0;
-      text = omega (arith, h.text_begins, h.within);
-      begins = omega (arith, h.begins, h.some);
-      ends = h.end;
-    }
+entry_is version texts total tp pp number text d h = record {
+  kind = kind_kept (last_kind version) (byte_at d 0) (few_kinds version) (entry_kind version d h.spelled);
+  text = omega (arith, h.text_begins, h.within);
+  begins = omega (arith, h.begins, h.some);
+  ends = h.end;
+}
 
 entry-at : (version : ℕ) (texts : List ℕ) (total tp pp number : ℕ) (text : List ℕ) (n : ℕ) (d : List ℕ) (i : ℕ) → AreEntries version texts total tp pp number text n d → i < n → BeginsWithEntry texts total (drop (24 * i) d)
 entry-at version texts total tp pp number text zero d i h lt = absurd (omega (arith, lt))
@@ -70,11 +45,7 @@ entry-at version texts total tp pp number text (suc n) d (suc i) h lt =
 
 list-at : (messages : ℕ) (postings : List ℕ) (n : ℕ) (d : List ℕ) (i : ℕ) → messages ≤ 2 ^ 32 → AreLists messages postings n d → i < n → ArePosted (2 ^ 32) 0 (list_at postings (drop (24 * i) d))
 list-at messages postings zero d i few h lt = absurd (omega (arith, lt))
-list-at messages postings (suc n) d zero few h lt = (h.0.1.0, record { rises = h.0.1.1.rises; below = wider h.0.1.0 h.0.1.1.below; spelled = h.0.1.1.spelled })
-  where
-    wider : (ns : List ℕ) → AllByRecursion (λ k. k < messages) ns → AllByRecursion (λ k. k < 2 ^ 32) ns
-    wider [] b = tt
-    wider (m ∷ ns) b = (omega (arith, b.0, few), wider ns b.1)
+list-at messages postings (suc n) d zero few h lt = (h.0.1.0, record { rises = h.0.1.1.rises; below = all-weaker (λ k. k < messages) (λ k. k < 2 ^ 32) (λ k low. omega (arith, low, few)) h.0.1.0 h.0.1.1.below; spelled = h.0.1.1.spelled })
 list-at messages postings (suc n) d (suc i) few h lt =
     let place : 24 + 24 * i ≡ 24 * suc i = omega arith in
     subst (λ (l : List ℕ). ArePosted (2 ^ 32) 0 (list_at postings l)) (drop-drop (24 * i) 24 d ∙ ap (λ (k : ℕ). drop k d) place)

@@ -1,21 +1,6 @@
 -- What the walk over a directory shows of its section, and that it accepts the directory of a table.
-use Rattle.std.proofs.Common.{◌≡◌, ℕ, zero, suc, ◌+◌, ◌-◌, ◌*◌, ◌^◌, ◌<◌, ◌≤◌, Bool, true, false, cond, ◌&&◌, List, [], ◌∷◌, ◌++◌, length, take, drop, refl, sym, ap, subst, ◌∙◌, arith, length-drop, length-append}
-use Rattle.std.specs.Prelude.{nat_eq}
-use Rattle.std.specs.declared.cmp.Ordering.TheVariants.{Less}
-use Rattle.std.specs.List.{AllByRecursion}
-use Rattle.std.proofs.Math.Path.{transport}
-use Rattle.std.proofs.Math.Seq.{take-append_seam, drop-append_seam}
-use Rattle.std.proofs.lemmas.List.{take-append-drop, drop-drop}
-use Rattle.std.proofs.lemmas.Bool.Decides.{nat_tests}
-use Rattle.std.proofs.lemmas.Nat.{from_be_bytes-to_be_bytes_4, from_be_bytes-to_be_bytes_8}
-use Rattle.mail_index.specs.Kinds.{kind_number, kind_of_number, is_kind_number}
-use Rattle.mail_index.specs.Versions.{last_kind}
-use Rattle.mail_index.specs.Fields.{byte_at, u32_at, u64_at}
-use Rattle.mail_index.specs.Files.{zeros, be32, be64, Entry, entry_bytes, directory_from, texts_of, postings_of}
-use Rattle.mail_index.specs.Tables.{AllNext}
-use Rattle.mail_index.specs.Faults.{IsEntry, EntryBefore}
-use Rattle.mail_index.specs.OrderOfKeys.{key_cmp}
-use Rattle.mail_index.specs.Directory.{is_entry, end_before, text_at, read_entry, read_entries, IsEntryAt, AreEntries}
+use Rattle.mail_index.proofs.Words.{◌≡◌, ℕ, zero, suc, ◌+◌, ◌-◌, ◌*◌, ◌^◌, ◌<◌, ◌≤◌, Bool, true, false, cond, ◌&&◌, List, [], ◌∷◌, ◌++◌, length, take, drop, refl, sym, ap, subst, ◌∙◌, arith, length-drop, length-append, nat_eq, Less, AllByRecursion, transport, take-append_seam, drop-append_seam, take-append-drop, drop-drop, nat_tests, from_be_bytes-to_be_bytes_4, from_be_bytes-to_be_bytes_8, kind_number, kind_of_number, is_kind_number, last_kind, byte_at, u32_at, u64_at, zeros, be32, be64, Entry, entry_bytes, directory_from, texts_of, postings_of, AllNext, IsEntry, EntryBefore, key_cmp, is_entry, end_before, text_at, read_entry, read_entries, IsEntryAt, AreEntries}
+use Rattle.mail_index.proofs.Items.{empty_list}
 use Rattle.mail_index.proofs.FileLaws.Fronts.{before, concat_then}
 use Rattle.mail_index.proofs.FileLaws.Bytes.{AreBytes, bytes_behind, bytes_before, u32_back, u64_back, byte_back, both, length_part}
 use Rattle.mail_index.proofs.ViewLaws.KindNumbers.{kind_of-number, kind_passes, kind_kept, few_kinds, first_less}
@@ -46,10 +31,6 @@ pub record ShowsEntries (version : ℕ) (texts postings : List ℕ) (tp pp numbe
   pub postings_spelled : drop pp postings ≡ postings_of (read_entries texts postings n d)
   pub each : AllByRecursion (IsEntry version) (read_entries texts postings n d)
   pub after : AreAfter number text (read_entries texts postings n d)
-
-empty_list : (r : List ℕ) → length r ≡ 0 → r ≡ []
-empty_list [] e = refl
-empty_list (x ∷ r) e = absurd (omega (arith, e))
 
 pub u32_small : (d : List ℕ) (i : ℕ) → AreBytes d → u32_at d i < 2 ^ 32
 u32_small d i h =
@@ -88,7 +69,7 @@ part_then a b c xs e = ap (λ (k : List ℕ). take b (drop a xs) ++ k) (ap (λ (
 past_all : (n : ℕ) (xs : List ℕ) → n ≡ length xs → drop n xs ≡ []
 past_all n xs e = empty_list (drop n xs) (omega (arith, e, length-drop n xs))
 
-entry_kind : (version : ℕ) (d : List ℕ) → is_entry version d ≡ true → is_kind_number (last_kind version) (byte_at d 0) ≡ true
+pub entry_kind : (version : ℕ) (d : List ℕ) → is_entry version d ≡ true → is_kind_number (last_kind version) (byte_at d 0) ≡ true
 unfolding is_entry
 entry_kind version d t =
     let k = byte_at d 0 in

@@ -1,8 +1,5 @@
 -- The walk over a directory: what its steps keep.
-use Rattle.std.proofs.Common.{◌≡◌, ◌↔◌, ℕ, suc, ◌+◌, ◌-◌, ◌<◌, ◌≤◌, List, length, drop, refl, sym, subst, arith}
-use Rattle.std.proofs.Math.Path.{transport}
-use Rattle.mail_index.specs.Fields.{byte_at, u32_at}
-use Rattle.mail_index.specs.Directory.{end_before, text_at, IsEntryAt, AreEntries}
+use Rattle.mail_index.proofs.Words.{◌≡◌, ◌↔◌, ℕ, suc, ◌+◌, ◌-◌, ◌<◌, List, drop, refl, sym, subst, arith, transport, byte_at, u32_at, end_before, text_at, IsEntryAt, AreEntries}
 
 first_of : (version : ℕ) (texts : List ℕ) (total tp pp number : ℕ) (text : List ℕ) (n i : ℕ) (d : List ℕ) → i < n → AreEntries version texts total tp pp number text (n - i) d → AreEntries version texts total tp pp number text (suc (n - (i + 1))) d
 first_of version texts total tp pp number text n i d l h = let e : n - i ≡ suc (n - (i + 1)) = omega (arith, l) in subst (λ (k : ℕ). AreEntries version texts total tp pp number text k d) e h
@@ -22,9 +19,3 @@ entries_step P version texts total tp pp number text n i d tp' pp' number' text'
 pub entries_stop : (P : Type 0) (version : ℕ) (texts : List ℕ) (total tp pp number : ℕ) (text : List ℕ) (n i : ℕ) (d : List ℕ) → i < n
     → (P ↔ AreEntries version texts total tp pp number text (n - i) d) → (IsEntryAt version texts total tp pp number text d → ⊥) → P → ⊥
 entries_stop P version texts total tp pp number text n i d l h refuses q = refuses (first_of version texts total tp pp number text n i d l (h.0 q)).0
-
-pub entries_end : (P : Type 0) (version : ℕ) (texts : List ℕ) (total tp pp number : ℕ) (text : List ℕ) (n i : ℕ) (d : List ℕ) → n ≤ i
-    → (P ↔ AreEntries version texts total tp pp number text (n - i) d) → P ↔ ((tp ≡ length texts) × (pp ≡ total))
-entries_end P version texts total tp pp number text n i d l h =
-    let e : n - i ≡ 0 = omega (arith, l) in
-    (λ q. subst (λ (k : ℕ). AreEntries version texts total tp pp number text k d) e (h.0 q), λ q. h.1 (subst (λ (k : ℕ). AreEntries version texts total tp pp number text k d) (sym e) q))

@@ -1,16 +1,6 @@
 -- A kind is told by its number, and the newest version has each.
-use Rattle.std.proofs.Common.{◌≡◌, ℕ, zero, suc, ◌<◌, ◌≤◌, true, false, nat_eq, if◌then◌else◌, List, refl, sym, ap, ◌∙◌, arith}
-use Rattle.std.specs.declared.cmp.Ordering.{Ordering}
-use Rattle.std.specs.declared.cmp.Ordering.TheVariants.{Less, Equal}
-use Rattle.std.specs.Ordering.{nat_cmp, ordering_then}
-use Rattle.std.specs.Cmp.Lexicographic.{slice_cmp}
-use Rattle.std.proofs.lemmas.Bool.Decides.{nat_tests}
+use Rattle.mail_index.proofs.Words.{◌≡◌, ℕ, zero, suc, ◌<◌, ◌≤◌, true, false, nat_eq, if◌then◌else◌, List, refl, sym, ap, ◌∙◌, arith, Ordering, Less, Equal, nat_cmp, ordering_then, slice_cmp, nat_tests, Kind, Text, OwnId, LinkId, kind_number, kind_of_number, is_kind_number, key_cmp, newest, last_kind}
 use Rattle.mail_words.specs.declared.kind.TextKind.TheVariants.{To, Cc, Bcc, From, Subject, Body, Name}
-use Rattle.mail_index.specs.declared.kind.Kind.{Kind}
-use Rattle.mail_index.specs.declared.kind.Kind.TheVariants.{Text, OwnId, LinkId}
-use Rattle.mail_index.specs.Kinds.{kind_number, kind_of_number, is_kind_number}
-use Rattle.mail_index.specs.OrderOfKeys.{key_cmp}
-use Rattle.mail_index.specs.Versions.{newest, last_kind}
 
 pub kind_of-number : (k : Kind) → kind_of_number (kind_number k) ≡ k
 kind_of-number (Text To) = refl

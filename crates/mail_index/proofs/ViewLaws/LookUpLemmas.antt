@@ -1,20 +1,5 @@
 -- A key looked up among sorted ones.
-use Rattle.std.proofs.Common.{◌≡◌, ◌∙◌, ℕ, zero, suc, ◌-◌, ◌*◌, ◌^◌, ◌<◌, ◌≤◌, Bool, true, false, List, [], ◌∷◌, ◌/◌, length, map, get_or, refl, sym, ap, ap₂, arith}
-use Rattle.std.specs.Prelude.{nat_eq}
-use Rattle.std.specs.declared.cmp.Ordering.{Ordering}
-use Rattle.std.specs.declared.cmp.Ordering.TheVariants.{Less, Equal, Greater}
-use Rattle.std.specs.Ordering.{nat_cmp, is_eq, ordering_reverse}
-use Rattle.std.specs.Cmp.Lexicographic.{slice_cmp}
-use Rattle.std.proofs.lemmas.List.{length-map, get_or-map}
-use Rattle.std.proofs.lemmas.Bool.Decides.{nat_tests}
-use Rattle.std.proofs.Math.Nat.{pow-suc}
-use Rattle.std.proofs.lemmas.Cmp.{nat_list_cmp_total}
-use Rattle.std.proofs.lemmas.Map.Text.{is_eq-slice_cmp}
-use Rattle.std.proofs.lemmas.Map.Keys.{Less-from_sorted}
-use Rattle.mail_index.specs.declared.kind.Kind.{Kind}
-use Rattle.mail_index.specs.Kinds.{kind_number}
-use Rattle.mail_index.specs.Tables.{Key}
-use Rattle.mail_index.specs.LookUps.{is_key, lies_to, numbers_at, AreSorted}
+use Rattle.mail_index.proofs.Words.{◌≡◌, ◌∙◌, ℕ, zero, suc, ◌-◌, ◌*◌, ◌^◌, ◌<◌, ◌≤◌, Bool, true, false, List, [], ◌∷◌, ◌/◌, length, map, get_or, refl, sym, ap, ap₂, arith, nat_eq, Ordering, Less, Equal, Greater, nat_cmp, is_eq, ordering_reverse, slice_cmp, length-map, get_or-map, nat_tests, pow-suc, nat_list_cmp_total, is_eq-slice_cmp, Less-from_sorted, Kind, kind_number, Key, is_key, lies_to, numbers_at, AreSorted}
 
 -- a key's bytes, by which keys are sorted
 abbrev pub key_bytes : Key → List ℕ
@@ -24,14 +9,11 @@ key_bytes k = kind_number k.kind ∷ k.text
 is_key-lies : (kind : Kind) (text : List ℕ) (k : Key) → is_eq (lies_to kind text k) ≡ is_key kind text k
 is_key-lies kind text k = is_eq-slice_cmp (key_bytes k) (kind_number kind ∷ text)
 
-pub is_key-equal : (kind : Kind) (text : List ℕ) (k : Key) → lies_to kind text k ≡ Equal → is_key kind text k ≡ true
-is_key-equal kind text k h = sym (is_key-lies kind text k) ∙ ap is_eq h
-
-pub is_key-less : (kind : Kind) (text : List ℕ) (k : Key) → lies_to kind text k ≡ Less → is_key kind text k ≡ false
-is_key-less kind text k h = sym (is_key-lies kind text k) ∙ ap is_eq h
+is_key-as : (kind : Kind) (text : List ℕ) (k : Key) (o : Ordering) → lies_to kind text k ≡ o → is_key kind text k ≡ is_eq o
+is_key-as kind text k o h = sym (is_key-lies kind text k) ∙ ap is_eq h
 
 pub is_key-greater : (kind : Kind) (text : List ℕ) (k : Key) → lies_to kind text k ≡ Greater → is_key kind text k ≡ false
-is_key-greater kind text k h = sym (is_key-lies kind text k) ∙ ap is_eq h
+is_key-greater kind text k h = is_key-as kind text k Greater h
 
 -- no key so far, and the rest
 numbers_at-other : (kind : Kind) (text : List ℕ) (k : Key) (ks : List Key) → is_key kind text k ≡ false → numbers_at kind text (k ∷ ks) ≡ numbers_at kind text ks
@@ -44,9 +26,9 @@ numbers_at-this kind text k ks e = rw (e, numbers_at) refl
 pub numbers_at-found : (kind : Kind) (text : List ℕ) (ks : List Key) (i : ℕ) (d : Key) → i < length ks
     → ((j : ℕ) → j < i → lies_to kind text (get_or ks j d) ≡ Less) → lies_to kind text (get_or ks i d) ≡ Equal → numbers_at kind text ks ≡ (get_or ks i d).numbers
 numbers_at-found kind text [] i d h below here = absurd (omega (arith, h))
-numbers_at-found kind text (k ∷ ks) zero d h below here = numbers_at-this kind text k ks (is_key-equal kind text k here)
+numbers_at-found kind text (k ∷ ks) zero d h below here = numbers_at-this kind text k ks (is_key-as kind text k Equal here)
 numbers_at-found kind text (k ∷ ks) (suc i) d h below here =
-    numbers_at-other kind text k ks (is_key-less kind text k (below 0 (omega arith)))
+    numbers_at-other kind text k ks (is_key-as kind text k Less (below 0 (omega arith)))
     ∙ numbers_at-found kind text ks i d (omega (arith, h)) (λ j lt. below (suc j) (omega (arith, lt))) here
 
 -- the first keys lie before it, and all others behind it
@@ -57,7 +39,7 @@ numbers_at-none kind text (k ∷ ks) zero d below above =
     numbers_at-other kind text k ks (is_key-greater kind text k (above 0 (omega arith) (omega arith)))
     ∙ numbers_at-none kind text ks 0 d (λ j lt. absurd (omega (arith, lt))) (λ j le lt. above (suc j) (omega arith) (omega (arith, lt)))
 numbers_at-none kind text (k ∷ ks) (suc i) d below above =
-    numbers_at-other kind text k ks (is_key-less kind text k (below 0 (omega arith)))
+    numbers_at-other kind text k ks (is_key-as kind text k Less (below 0 (omega arith)))
     ∙ numbers_at-none kind text ks i d (λ j lt. below (suc j) (omega (arith, lt))) (λ j le lt. above (suc j) (omega (arith, le)) (omega (arith, lt)))
 
 -- ---- among sorted keys

@@ -1,19 +1,6 @@
 -- What the walks over the sections show of a file, and what they refuse.
-use Rattle.std.proofs.Common.{◌≡◌, ℕ, zero, suc, ◌+◌, ◌-◌, ◌*◌, ◌^◌, ◌<◌, ◌≤◌, List, [], ◌∷◌, ◌++◌, length, map, drop, refl, sym, ap, subst, ◌∙◌, arith, length-append}
-use Rattle.std.specs.Prelude.{flat_map}
-use Rattle.std.specs.List.{AllByRecursion}
-use Rattle.std.proofs.Common.{Some, slice_get}
-use Rattle.std.proofs.lemmas.List.{drop-drop}
-use Rattle.mail_index.specs.declared.record.Record.{Record}
-use Rattle.mail_index.specs.Files.{Entry, entry_of, entry_bytes, archive_bytes, record_bytes, directory_from}
-use Rattle.mail_index.specs.Tables.{Archive, Key, IsArchive, IsKey, AllNext, KeyBefore, RisesFrom}
-use Rattle.mail_index.specs.Postings.{postings, postings_from}
-use Rattle.mail_index.specs.Faults.{IsEntry, EntryBefore}
-use Rattle.mail_index.specs.Records.{read_archives, SpellsArchives, read_record, read_records}
-use Rattle.mail_index.specs.Directory.{read_entry, read_entries}
-use Rattle.mail_index.specs.PostingReads.{numbers_read}
-use Rattle.mail_index.specs.Lists.{IsList, AreLists}
-use Rattle.mail_index.specs.KeysRead.{key_of}
+use Rattle.mail_index.proofs.Words.{◌≡◌, ℕ, zero, suc, ◌+◌, ◌-◌, ◌*◌, ◌^◌, ◌<◌, List, [], ◌∷◌, length, map, drop, refl, sym, ap, subst, ◌∙◌, arith, length-append, flat_map, AllByRecursion, Some, slice_get, drop-drop, Record, Entry, entry_of, entry_bytes, archive_bytes, record_bytes, directory_from, Archive, Key, IsArchive, IsKey, AllNext, KeyBefore, RisesFrom, postings, postings_from, IsEntry, EntryBefore, read_archives, SpellsArchives, read_record, read_records, read_entry, read_entries, numbers_read, IsList, AreLists, key_of}
+use Rattle.mail_index.proofs.Items.{all-weaker}
 use Rattle.mail_index.proofs.ViewLaws.ArchiveReads.{archives_back}
 use Rattle.mail_index.proofs.FileLaws.RecordFronts.{leb_some}
 use Rattle.mail_index.proofs.ViewLaws.PostingReadLemmas.{read-posted}
@@ -30,18 +17,13 @@ spells_these version count s archives e l h =
 
 pub length_records : (ms : List Record) → length (flat_map record_bytes ms) ≡ 40 * length ms
 length_records [] = refl
-length_records (m ∷ ms) =
-    let e : length (record_bytes m ++ flat_map record_bytes ms) ≡ length (record_bytes m) + length (flat_map record_bytes ms) = length-append (record_bytes m) (flat_map record_bytes ms) in
-    let f : length (record_bytes m) ≡ 40 = refl in
-    omega (arith, e, f, length_records ms)
+length_records (m ∷ ms) = omega (arith, length-append (record_bytes m) (flat_map record_bytes ms), length_records ms)
 
 pub length_directory : (tp pp : ℕ) (es : List Entry) → length (directory_from tp pp es) ≡ 24 * length es
 length_directory tp pp [] = refl
 length_directory tp pp (e ∷ es) =
     let d = directory_from (tp + length e.text) (pp + length e.postings) es in
-    let f : length (entry_bytes tp pp e ++ d) ≡ length (entry_bytes tp pp e) + length d = length-append (entry_bytes tp pp e) d in
-    let g : length (entry_bytes tp pp e) ≡ 24 = refl in
-    omega (arith, f, g, length_directory (tp + length e.text) (pp + length e.postings) es)
+    omega (arith, length-append (entry_bytes tp pp e) d, length_directory (tp + length e.text) (pp + length e.postings) es)
 
 pub count_records : (n : ℕ) (r : List ℕ) → length (read_records n r) ≡ n
 count_records zero r = refl
@@ -52,10 +34,6 @@ count_entries texts postings zero d = refl
 count_entries texts postings (suc n) d = ap suc (count_entries texts postings n (drop 24 d))
 
 -- ---- keys
-
-below_all : (m : ℕ) (ns : List ℕ) → m ≤ 2 ^ 32 → AllByRecursion (λ n. n < m) ns → AllByRecursion (λ n. n < 2 ^ 32) ns
-below_all m [] l h = tt
-below_all m (n ∷ ns) l h = (omega (arith, l, h.0), below_all m ns l h.1)
 
 some_numbers : (bytes ns : List ℕ) → bytes ≡ postings_from 0 ns → 0 < length bytes → 0 < length ns
 some_numbers bytes [] e l = absurd (omega (arith, ap length e, l))
@@ -72,7 +50,7 @@ pub reads_list : (messages : ℕ) (list : List ℕ) → messages < 2 ^ 32 → Is
 reads_list messages list l h =
     let p = h.1.1 in
     let ns = h.1.0 in
-    let r : numbers_read 0 list ≡ ns = read-posted 0 list ns (record { rises = p.rises; below = below_all messages ns (omega (arith, l)) p.below; spelled = p.spelled }) in
+    let r : numbers_read 0 list ≡ ns = read-posted 0 list ns (record { rises = p.rises; below = all-weaker (λ n. n < messages) (λ n. n < 2 ^ 32) (λ n low. omega (arith, l, low)) ns p.below; spelled = p.spelled }) in
     record {
       spelled = ap postings r ∙ sym p.spelled;
       some = subst (λ (xs : List ℕ). 0 < length xs) (sym r) (some_numbers list ns p.spelled h.0);

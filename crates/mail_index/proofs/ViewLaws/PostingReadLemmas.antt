@@ -1,13 +1,5 @@
 -- Postings read back: the bytes of rising numbers tell these numbers.
-use Rattle.std.proofs.Common.{◌≡◌, ◌∙◌, ℕ, zero, suc, ◌+◌, ◌-◌, ◌*◌, ◌/◌, ◌%◌, ◌^◌, ◌<◌, ◌≤◌, Bool, true, false, cond, nat_lt, List, [], ◌∷◌, ◌++◌, length, Option, Some, None, refl, sym, ap, ap₂, subst, arith, length-append}
-use Rattle.std.specs.List.{AllByRecursion}
-use Rattle.std.specs.Prelude.{is_some}
-use Rattle.std.proofs.lemmas.Bool.{false≢true}
-use Rattle.std.proofs.lemmas.Bool.Decides.{nat_tests}
-use Rattle.std.proofs.Math.Nat.{add-mul, mul_assoc}
-use Rattle.mail_index.specs.Tables.{RisesFrom}
-use Rattle.mail_index.specs.Postings.{leb128, postings_from}
-use Rattle.mail_index.specs.PostingReads.{IsShort, numbers_behind, numbers_read, ArePostings, ArePosted}
+use Rattle.mail_index.proofs.Words.{◌≡◌, ◌∙◌, ℕ, zero, suc, ◌+◌, ◌-◌, ◌*◌, ◌/◌, ◌%◌, ◌^◌, ◌<◌, ◌≤◌, Bool, true, false, cond, nat_lt, List, [], ◌∷◌, ◌++◌, length, Option, Some, None, refl, sym, ap, ap₂, subst, arith, length-append, AllByRecursion, is_some, false≢true, nat_tests, add-mul, mul_assoc, RisesFrom, leb128, postings_from, IsShort, numbers_behind, numbers_read, ArePostings, ArePosted}
 use Rattle.mail_index.proofs.FileLaws.RecordFronts.{leb_front, leb_some}
 
 -- ---- a difference
@@ -133,10 +125,6 @@ posted-shorter d bytes behind split = go (nat_lt d 128) split
     go true e = omega (arith, ap length e)
     go false e = omega (arith, ap length e, length-append (leb128 4 (d / 128)) behind)
 
--- nothing is the postings of no number
-pub posted-nothing : (limit low : ℕ) → ArePosted limit low []
-posted-nothing limit low = ([], record { rises = tt; below = tt; spelled = refl })
-
 -- what bytes tell that aren't nothing and begin with no difference
 pub posted-refused : (limit low : ℕ) (bytes : List ℕ) (r : Option (ℕ × List ℕ)) → limit ≤ 2 ^ 32
     → ((k : ℕ) (rest : List ℕ) → IsShort 5 k → bytes ≡ leb128 5 k ++ rest → r ≡ Some (k, rest)) → r ≡ None → 0 < length bytes → ArePosted limit low bytes → ⊥
@@ -144,9 +132,3 @@ posted-refused limit low bytes r le only none some h =
     let nothing : h.0 ≡ [] = posted-none limit low bytes h.0 r le only none h.1 in
     let bare : bytes ≡ [] = h.1.spelled ∙ ap (postings_from low) nothing in
     absurd (omega (arith, ap length bare, some))
-
--- ---- numbers dropped
-
-pub All-more : (n m : ℕ) (dropped : List ℕ) → AllByRecursion (λ k. k < n) dropped → m < n → AllByRecursion (λ k. k < n) (dropped ++ m ∷ [])
-All-more n m [] h less = (less, tt)
-All-more n m (k ∷ dropped) h less = (h.0, All-more n m dropped h.1 less)

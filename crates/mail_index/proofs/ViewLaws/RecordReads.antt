@@ -1,18 +1,6 @@
 -- A record read back from its bytes, and the bytes of a record that was read.
-use Rattle.std.proofs.Common.{◌≡◌, ℕ, zero, suc, ◌+◌, ◌^◌, ◌<◌, ◌≤◌, Bool, true, false, cond, ◌&&◌, ◌||◌, List, [], ◌∷◌, ◌++◌, length, drop, Option, Some, None, refl, ap, ◌∙◌, arith, ℤ}
-use Rattle.std.specs.Prelude.{IfSome, FitsSigned, is_some, nat_eq, nat_le}
-use Rattle.std.specs.Int.{w64, cast_signed}
-use Rattle.std.proofs.lemmas.Int.{to_z-of_z}
-use Rattle.std.proofs.Math.Facts.{Fits-of_z, Fits-lt-pow}
-use Rattle.std.proofs.lemmas.Nat.{from_be_bytes-to_be_bytes_4, from_be_bytes-to_be_bytes_8}
-use Rattle.mail_index.specs.declared.record.Record.{Record}
-use Rattle.mail_index.specs.Fields.{byte_at, u32_at, u64_at}
-use Rattle.mail_index.specs.Files.{be32, be64, zeros, bit, flags_byte, date_number, record_bytes}
-use Rattle.mail_index.specs.Records.{has_bit, read_flags, read_date, read_record, is_record}
+use Rattle.mail_index.proofs.Words.{◌≡◌, ℕ, zero, suc, ◌+◌, ◌^◌, ◌<◌, ◌≤◌, Bool, true, false, cond, ◌&&◌, ◌||◌, List, [], ◌∷◌, ◌++◌, length, drop, Option, Some, None, refl, ap, ◌∙◌, arith, ℤ, IfSome, FitsSigned, is_some, nat_eq, nat_le, w64, cast_signed, to_z-of_z, Fits-of_z, Fits-lt-pow, from_be_bytes-to_be_bytes_4, from_be_bytes-to_be_bytes_8, Record, byte_at, u32_at, u64_at, be32, be64, zeros, bit, flags_byte, date_number, record_bytes, has_bit, read_flags, read_date, read_record, is_record, of_z-to_z, leb-true, nat_tests}
 use Rattle.mail_index.proofs.FileLaws.Fronts.{before, concat_then}
-use Rattle.std.proofs.lemmas.Int.{of_z-to_z}
-use Rattle.std.proofs.lemmas.Bool.{leb-true}
-use Rattle.std.proofs.lemmas.Bool.Decides.{nat_tests}
 use Rattle.mail_index.proofs.FileLaws.Bytes.{AreBytes, u32_back, u64_back, byte_back, both, bytes_behind, bytes_before}
 
 -- the numbers of a record fit their fields
@@ -23,41 +11,23 @@ pub record HasSmallFields (m : Record) : Type 0 where
   pub size : m.size < 2 ^ 64
   pub date : IfSome m.date (FitsSigned w64)
 
-flags_back : (a b c d : Bool) → read_flags (bit 1 a + bit 2 b + bit 4 c + bit 8 d) ≡ record { seen = a; replied = b; flagged = c }
-flags_back true true true true = refl
-flags_back true true true false = refl
-flags_back true true false true = refl
-flags_back true true false false = refl
-flags_back true false true true = refl
-flags_back true false true false = refl
-flags_back true false false true = refl
-flags_back true false false false = refl
-flags_back false true true true = refl
-flags_back false true true false = refl
-flags_back false true false true = refl
-flags_back false true false false = refl
-flags_back false false true true = refl
-flags_back false false true false = refl
-flags_back false false false true = refl
-flags_back false false false false = refl
-
-dated_back : (a b c d : Bool) → has_bit (bit 1 a + bit 2 b + bit 4 c + bit 8 d) 8 ≡ d
-dated_back true true true true = refl
-dated_back true true true false = refl
-dated_back true true false true = refl
-dated_back true true false false = refl
-dated_back true false true true = refl
-dated_back true false true false = refl
-dated_back true false false true = refl
-dated_back true false false false = refl
-dated_back false true true true = refl
-dated_back false true true false = refl
-dated_back false true false true = refl
-dated_back false true false false = refl
-dated_back false false true true = refl
-dated_back false false true false = refl
-dated_back false false false true = refl
-dated_back false false false false = refl
+bits_back : (a b c d : Bool) → (read_flags (bit 1 a + bit 2 b + bit 4 c + bit 8 d) ≡ record { seen = a; replied = b; flagged = c }) × (has_bit (bit 1 a + bit 2 b + bit 4 c + bit 8 d) 8 ≡ d)
+bits_back true true true true = (refl, refl)
+bits_back true true true false = (refl, refl)
+bits_back true true false true = (refl, refl)
+bits_back true true false false = (refl, refl)
+bits_back true false true true = (refl, refl)
+bits_back true false true false = (refl, refl)
+bits_back true false false true = (refl, refl)
+bits_back true false false false = (refl, refl)
+bits_back false true true true = (refl, refl)
+bits_back false true true false = (refl, refl)
+bits_back false true false true = (refl, refl)
+bits_back false true false false = (refl, refl)
+bits_back false false true true = (refl, refl)
+bits_back false false true false = (refl, refl)
+bits_back false false false true = (refl, refl)
+bits_back false false false false = (refl, refl)
 
 date_back : (f : ℕ) (date : Option ℤ) → IfSome date (FitsSigned w64) → has_bit f 8 ≡ is_some date → (n : ℕ) → n ≡ date_number date → read_date f n ≡ date
 date_back f None h e n d = rw e refl
@@ -75,8 +45,9 @@ record_back m x h =
     let offset = from_be_bytes-to_be_bytes_8 m.offset h.offset in
     let span = from_be_bytes-to_be_bytes_8 m.length h.span in
     let size = from_be_bytes-to_be_bytes_8 m.size h.size in
-    let date = date_back (flags_byte m) m.date h.date (dated_back m.flags.seen m.flags.replied m.flags.flagged (is_some m.date)) _ (from_be_bytes-to_be_bytes_8 (date_number m.date) (date_small m.date h.date)) in
-    let flags = flags_back m.flags.seen m.flags.replied m.flags.flagged (is_some m.date) in
+    let bits = bits_back m.flags.seen m.flags.replied m.flags.flagged (is_some m.date) in
+    let flags = bits.0 in
+    let date = date_back (flags_byte m) m.date h.date bits.1 _ (from_be_bytes-to_be_bytes_8 (date_number m.date) (date_small m.date h.date)) in
     λ i. record { archive = archive i; offset = offset i; length = span i; size = size i; date = date i; flags = flags i }
 
 pub behind_record : (m : Record) (x : List ℕ) → drop 40 (record_bytes m ++ x) ≡ x

@@ -1,15 +1,7 @@
 -- What the walk over records shows of a section, and that it accepts the records of a table.
-use Rattle.std.proofs.Common.{◌≡◌, ℕ, zero, suc, ◌+◌, ◌-◌, ◌*◌, ◌^◌, ◌<◌, ◌≤◌, Bool, true, false, cond, List, [], ◌∷◌, ◌++◌, length, drop, Some, None, refl, sym, ap, subst, ◌∙◌, arith, inl, inr, length-drop}
-use Rattle.std.specs.Prelude.{flat_map, IfSome, FitsSigned}
-use Rattle.std.specs.Int.{w64, cast_signed}
-use Rattle.std.specs.List.{AllByRecursion}
-use Rattle.std.proofs.lemmas.Bool.Decides.{nat_tests}
+use Rattle.mail_index.proofs.Words.{◌≡◌, ℕ, zero, suc, ◌+◌, ◌-◌, ◌*◌, ◌^◌, ◌<◌, ◌≤◌, Bool, true, false, cond, List, [], ◌∷◌, ◌++◌, length, drop, Some, None, refl, sym, ap, subst, ◌∙◌, arith, inl, inr, length-drop, flat_map, IfSome, FitsSigned, w64, cast_signed, AllByRecursion, nat_tests, Record, byte_at, u64_at, record_bytes, Archive, IsArchive, IsMessage, Follows, AllNext, archive_length, has_bit, is_behind, behind_archives, read_archives, IsNextRecord, AreRecords, read_record, read_records, is_record}
+use Rattle.mail_index.proofs.Items.{empty_list}
 use borrow.Author.Gap.{read_sfits}
-use Rattle.mail_index.specs.declared.record.Record.{Record}
-use Rattle.mail_index.specs.Fields.{byte_at, u64_at}
-use Rattle.mail_index.specs.Files.{record_bytes}
-use Rattle.mail_index.specs.Tables.{Archive, IsArchive, IsMessage, Follows, AllNext, archive_length}
-use Rattle.mail_index.specs.Records.{has_bit, is_behind, behind_archives, read_archives, IsNextRecord, AreRecords, read_record, read_records, is_record}
 use Rattle.mail_index.proofs.FileLaws.Bytes.{AreBytes, bytes_behind}
 use Rattle.mail_index.proofs.FileLaws.OneTable.{small_archive}
 use Rattle.mail_index.proofs.ViewLaws.RecordReads.{HasSmallFields, record_back, behind_record, record_kept, record_passes}
@@ -65,10 +57,6 @@ not_before archive place m h = grind (arith, nat_tests)
 date_of_read : (r : List ℕ) → IfSome (read_record r).date (FitsSigned w64)
 unfolding read_record
 date_of_read r = date_fits (has_bit (byte_at r 4) 8) (u64_at r 32)
-
-empty_list : (r : List ℕ) → length r ≡ 0 → r ≡ []
-empty_list [] e = refl
-empty_list (x ∷ r) e = absurd (omega (arith, e))
 
 pub shows_records : (version count : ℕ) (s : List ℕ) (archive place : ℕ) (rest : List ℕ) (n : ℕ) (r : List ℕ) → rest ≡ behind_archives version archive s → AreBytes r → length r ≡ 40 * n
     → AreRecords version count archive place rest n r → ShowsRecords (read_archives version count s) archive place n r

@@ -1,6 +1,5 @@
 -- Steps added up.
-use Rattle.std.proofs.Common.{◌≡◌, ℕ, suc, arith}
-use Rattle.mail_index.specs.Steps.{add_steps}
+use Rattle.mail_index.proofs.Words.{◌≡◌, ℕ, suc, arith, add_steps}
 
 -- none
 pub add_steps-none : (old : ℕ) → old ≡ add_steps old 0

@@ -1,23 +1,31 @@
 -- Keys as a builder holds them: entries in the order of their arrival, and their numbers in the order of their keys.
-use Rattle.std.specs.Prelude.{◌≡◌, ℕ, zero, suc, ◌+◌, ◌<◌, ◌≤◌, ◌⊎◌, nat_le, if◌then◌else◌, List, [], ◌∷◌, ◌++◌, length, map, take, drop, Vec}
+use Rattle.std.specs.Prelude.{◌≡◌, ℕ, zero, suc, ◌+◌, ◌-◌, ◌<◌, ◌≤◌, ◌⊎◌, nat_le, if◌then◌else◌, List, [], ◌∷◌, ◌++◌, length, map, take, drop, Vec}
 use Rattle.std.specs.Global.{Global}
-use Rattle.std.specs.declared.cmp.Ordering.TheVariants.{Less, Greater}
-use Rattle.std.specs.List.{AllByRecursion, slice_index}
+use Rattle.std.specs.declared.cmp.Ordering.TheVariants.{Less, Equal, Greater}
+use Rattle.std.specs.List.{AllByRecursion, slice_index, slice_index_or}
 use Rattle.mail_index.specs.declared.kind.Kind.{Kind}
 use Rattle.mail_index.specs.declared.build.build_fault.BuildFault.{BuildFault}
 use Rattle.mail_index.specs.declared.build.build_fault.BuildFault.TheVariants.{OutOfMemory, TooMany, Device, Failed}
 use Rattle.mail_index.specs.declared.build.key_front.Fronted.{Fronted}
 use Rattle.mail_index.specs.declared.build.key_order.KeyOrder.{KeyOrder}
 use Rattle.mail_index.specs.declared.build.key_order.Place.{Place}
+use Rattle.mail_index.specs.declared.build.key_map.Added.{Added}
+use Rattle.mail_index.specs.declared.build.keys_in_order.Left.{Left}
 use Rattle.mail_index.specs.Tables.{Key}
+use Rattle.mail_index.specs.Builders.{with_pair}
 use Rattle.mail_index.specs.PostingLists.{with_number, numbers_of, IsPosted}
 use Rattle.mail_index.specs.Kinds.{kind_number, kind_of_number}
 use Rattle.mail_index.specs.LookUps.{lies_to, AreSorted}
 use Rattle.mail_index.specs.KeysRead.{key_at}
+use Rattle.mail_index.specs.Inside.KeyFronts.{IsFrontOf, IsFronted}
 
 -- a key of one message
 abbrev pub new_key : Kind → List ℕ → ℕ → Key
 new_key kind text n = record { kind = kind; text = text; numbers = n ∷ [] }
+
+-- the keys with the pair that is added
+abbrev pub with_added : Added → List Key → List Key
+with_added key keys = with_pair key.kind key.text.now key.number keys
 
 -- the key with n among its numbers
 abbrev pub with_one : Key → ℕ → Key
@@ -28,6 +36,10 @@ with_one k n = record { kind = k.kind; text = k.text; numbers = with_number k.nu
 -- the key of the number of a kind and a text, and of postings
 abbrev pub key_in : List ℕ → List ℕ → Key
 key_in front postings = record { kind = kind_of_number (slice_index front 0); text = drop 1 front; numbers = numbers_of postings }
+
+-- the key of an entry's bytes, of which so many stand before its postings
+abbrev pub key_of_bytes : List ℕ → ℕ → Key
+key_of_bytes bytes front = key_in (take front bytes) (drop front bytes)
 
 -- so many of the bytes are the number of a kind and a text, and the others are postings of numbers below next
 pub record AreEntryBytes (bytes : List ℕ) (front next : ℕ) : Type 0 where
@@ -53,6 +65,10 @@ pub record HoldsFront (kind : Kind) (text kept bytes : List ℕ) : Type 0 where
   pub long : length text + 1 ≤ length (front_holder kept (length text + 1) bytes)
 
 -- ---- the order of the entries
+
+-- the number is that of an entry, and its key is the wanted one
+abbrev pub IsEntryOf : Kind → List ℕ → List Key → ℕ → Type 0
+IsEntryOf kind text entries number = (number < length entries) × (lies_to kind text (key_at entries number) ≡ Equal)
 
 -- the keys of these numbers
 abbrev pub placed : List Key → List ℕ → List Key
@@ -90,6 +106,10 @@ pub record AreBounds (kind : Kind) (text : List ℕ) (keys : List Key) (low high
 abbrev pub rows : List (Vec Fronted Global) → List (List Fronted)
 rows pages = map (λ (page : Vec Fronted Global). page.items) pages
 
+-- what the page of this number holds
+abbrev pub row_at : List (Vec Fronted Global) → ℕ → List Fronted
+row_at pages page = slice_index_or (rows pages) page []
+
 -- the slots of the pages one after another, and between each and the next one of the heads
 abbrev pub in_pages : List (List Fronted) → List Fronted → List Fronted
 in_pages [] heads = []
@@ -101,15 +121,25 @@ abbrev pub left_in_pages : List Fronted → List Fronted → List (List Fronted)
 left_in_pages row [] rest = row ++ []
 left_in_pages row (head ∷ heads) rest = row ++ head ∷ in_pages rest heads
 
+abbrev pub slots_left : Left → List Fronted
+slots_left left = left_in_pages left.page.now left.heads.now (rows left.pages.now)
+
 -- how many slots stand before the one at a place of a page
 abbrev pub position : List (List Fronted) → ℕ → ℕ → ℕ
 position [] page at = at
 position (row ∷ rest) zero at = at
 position (row ∷ rest) (suc page) at = length row + suc (position rest page at)
 
--- the numbers of slots
+-- the numbers of slots, and the keys of these
 abbrev pub numbers_of_slots : List Fronted → List ℕ
 numbers_of_slots slots = map (λ (slot : Fronted). slot.number) slots
+
+abbrev pub slot_keys : List Key → List Fronted → List Key
+slot_keys entries slots = placed entries (numbers_of_slots slots)
+
+-- the slot of this number, at a place
+abbrev pub slot_for : ℕ → Place → Fronted
+slot_for number place = record { number = number; front = place.front }
 
 -- the slots of an order and their numbers, and how many of them stand before a place
 abbrev pub slots_in : KeyOrder → List Fronted
@@ -124,6 +154,23 @@ place_in order place = position (rows order.pages.items) place.page place.at
 -- the keys in that order
 abbrev pub keys_in : List Key → KeyOrder → List Key
 keys_in entries order = placed entries (numbers_in order)
+
+-- there is a head between each page and the next, and the order has the number of each entry, beside its key's front
+pub record AreInStep (entries : List Key) (order : KeyOrder) : Type 0 where
+  pub between : length order.heads.items ≡ length order.pages.items - 1
+  pub sorts : IsOrder entries (numbers_in order)
+  pub fronted : AllByRecursion (IsFronted entries) (slots_in order)
+
+-- one of the pages has the place
+pub record IsPlaceIn (pages : List (Vec Fronted Global)) (place : Place) : Type 0 where
+  pub page : place.page < length pages
+  pub at : place.at ≤ length (row_at pages place.page)
+
+-- the wanted key, which none of the entries has, would stand at the place, which has its front
+pub record IsPlaceFor (kind : Kind) (text : List ℕ) (entries : List Key) (order : KeyOrder) (place : Place) : Type 0 where
+  pub inside : IsPlaceIn order.pages.items place
+  pub gap : IsGap kind text (keys_in entries order) (place_in order place)
+  pub front : IsFrontOf kind text place.front
 
 -- ---- faults
 

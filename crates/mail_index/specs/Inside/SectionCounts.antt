@@ -1,9 +1,12 @@
--- The counts that begin an index file.
-use Rattle.std.specs.Prelude.{◌≡◌, ℕ, ◌+◌, ◌*◌, List, [], ◌∷◌, length}
+-- The sections of an index file, and the counts that begin it.
+use Rattle.std.specs.List.{concat}
+use Rattle.std.specs.Prelude.{◌≡◌, ℕ, ◌+◌, ◌*◌, List, [], ◌∷◌, length, flat_map}
 use Rattle.mail_index.specs.declared.build.sections.Counts.{Counts}
 use Rattle.mail_index.specs.Tables.{Table}
 use Rattle.mail_index.specs.Versions.{newest}
-use Rattle.mail_index.specs.Files.{magic, be32, be64, archive_section, texts_of, postings_of, entries}
+use Rattle.mail_index.specs.declared.build.sections.FileSection.{FileSection}
+use Rattle.mail_index.specs.declared.build.sections.FileSection.TheVariants.{Counts as CountSection, Archives, Records, Directory, Texts, Postings}
+use Rattle.mail_index.specs.Files.{magic, be32, be64, archive_section, record_bytes, directory_from, texts_of, postings_of, entries, counts}
 
 -- as they are written
 abbrev pub counted : Counts → List (List ℕ)
@@ -22,3 +25,12 @@ pub record IsCountOf (t : Table) (c : Counts) : Type 0 where
 -- the length of a file with these counts
 abbrev pub counted_length : Counts → ℕ
 counted_length c = 80 + c.archive_bytes + 40 * c.messages + 24 * c.keys + c.text_bytes + c.posting_bytes
+
+-- the bytes of a section
+abbrev pub section_of : Table → FileSection → List ℕ
+section_of t CountSection = concat (counts t)
+section_of t Archives = archive_section t
+section_of t Records = flat_map record_bytes t.messages
+section_of t Directory = directory_from 0 0 (entries t)
+section_of t Texts = texts_of (entries t)
+section_of t Postings = postings_of (entries t)

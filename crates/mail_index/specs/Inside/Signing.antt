@@ -1,5 +1,5 @@
 -- What writing makes of an output, of the digest of what went out, and of what is gathered to go out.
-use Rattle.std.specs.Prelude.{◌≡◌, ℕ, List, ◌++◌, Option}
+use Rattle.std.specs.Prelude.{◌≡◌, ℕ, List, ◌++◌, Option, Result, Ok, Err}
 use Rattle.std.specs.Io.KnownBytes.{Appends}
 use Rattle.sha2.specs.declared.Sha256.{Sha256}
 use Rattle.sha2.specs.Hashers.{Holds256}
@@ -20,6 +20,11 @@ pub record Signs (old new : Option (List ℕ)) (s t : Signer) (bytes : List ℕ)
 -- of what was gathered and these bytes only some front went out
 abbrev pub BreaksOff : Option (List ℕ) → Option (List ℕ) → Signer → List ℕ → Type 0
 BreaksOff old new s bytes = Sends old new (s.pending ++ bytes)
+
+-- what a call that writes these bytes does: it signs them, and where the output fails they break off
+abbrev pub Writes : {T E : Type 0} → Result T E → Option (List ℕ) → Option (List ℕ) → Signer → Signer → List ℕ → Type 0
+Writes (Ok _) old new s t bytes = Signs old new s t bytes
+Writes (Err _) old new s t bytes = BreaksOff old new s bytes
 
 -- of the whole, all but the rest was written so far
 pub record IsSigning (old new : Option (List ℕ)) (s t : Signer) (whole rest : List ℕ) : Type 0 where

@@ -60,7 +60,8 @@ impl Builder {
     pub fn begin_archive(&mut self, path: &str) -> Result<(), BuildFault>
         requires phase { IfSome self.old IsBetweenArchives }
         requires path { IfSome self.old (λ _. IsPath path.now) }
-        ensures gives { Gives (λ _. self.new) refusal result (stepped (begun_archive path.now) self.old) }
+        ensures gives { Gives (λ _. self.new) refusal result
+            (stepped (begun_archive path.now) self.old) }
         ensures empty { IfSome self.new (λ d. end_of (archive_count d) d.table.messages ≡ 0) }
         ensures lost { OnErr result (self.new ≡ None) }
         ensures failed { IfNone self.old (result ≡ Err BuildFault.Failed) }
@@ -100,7 +101,8 @@ impl Builder {
         requires phase { IfSome self.old IsInMessage }
         requires some { IfSome self.old (λ _. 0 < length text.now) }
         requires short { IfSome self.old (λ _. length text.now ≤ most_in_key) }
-        ensures gives { Gives (λ _. self.new) refusal result (stepped (added kind text.now) self.old) }
+        ensures gives { Gives (λ _. self.new) refusal result
+            (stepped (added kind text.now) self.old) }
         ensures lost { OnErr result (self.new ≡ None) }
         ensures failed { IfNone self.old (result ≡ Err BuildFault.Failed) }
     {
@@ -131,7 +133,8 @@ impl Builder {
         requires phase { IfSome self.old IsInMessage }
         requires some { IfSome self.old (λ _. 0 < length text.now) }
         requires short { IfSome self.old (λ _. length text.now ≤ most_in_key) }
-        ensures gives { Gives (λ _. self.new) refusal result (stepped (added kind text.now) self.old) }
+        ensures gives { Gives (λ _. self.new) refusal result
+            (stepped (added kind text.now) self.old) }
         ensures lost { OnErr result (self.new ≡ None) }
         ensures failed { IfNone self.old (result ≡ Err BuildFault.Failed) }
     {
@@ -147,7 +150,8 @@ impl Builder {
     pub fn end_message(&mut self, message: Record) -> Result<(), BuildFault>
         requires phase { IfSome self.old IsInMessage }
         requires next { IfSome self.old (λ d. IsNextMessage d message) }
-        ensures gives { Gives (λ _. self.new) refusal result (stepped (ended_message message) self.old) }
+        ensures gives { Gives (λ _. self.new) refusal result
+            (stepped (ended_message message) self.old) }
         ensures lost { OnErr result (self.new ≡ None) }
         ensures failed { IfNone self.old (result ≡ Err BuildFault.Failed) }
     {
@@ -165,7 +169,8 @@ impl Builder {
         requires phase { IfSome self.old IsInArchive }
         requires within { IfSome self.old (λ _. length ≤ most_in_archive) }
         requires last { IfSome self.old (λ d. end_of (archive_count d) d.table.messages ≤ length) }
-        ensures gives { Gives (λ _. self.new) refusal result (stepped (ended_archive length digest) self.old) }
+        ensures gives { Gives (λ _. self.new) refusal result
+            (stepped (ended_archive length digest) self.old) }
         ensures within { IfSome self.new IsWithinMost }
         ensures lost { OnErr result (self.new ≡ None) }
         ensures failed { IfNone self.old (result ≡ Err BuildFault.Failed) }
@@ -190,8 +195,10 @@ impl Builder {
         requires phase { IfSome self.now IsBetweenArchives }
         ensures formed { IfSome self.now (λ d. IsWellFormed d.table × HasSmallSections d.table) }
         ensures failed { IfNone self.now ((result ≡ Err BuildFault.Failed) × (out.new ≡ out.old)) }
-        ensures ok { IfSome self.now (λ d. IfOk result (λ n. (n ≡ length (index_file d.table)) × Appends (O.taken out.old) (O.taken out.new) (index_file d.table))) }
-        ensures err { IfSome self.now (λ d. IfErr result (λ e. (e ≡ BuildFault.Device) × Sends (O.taken out.old) (O.taken out.new) (index_file d.table))) }
+        ensures ok { IfSome self.now (λ d. IfOk result (λ n. (n ≡ length (index_file d.table))
+            × Appends (O.taken out.old) (O.taken out.new) (index_file d.table))) }
+        ensures err { IfSome self.now (λ d. IfErr result (λ e. (e ≡ BuildFault.Device)
+            × Sends (O.taken out.old) (O.taken out.new) (index_file d.table))) }
         ensures count { Counted (is_device result) (O.failures out.old) (O.failures out.new) }
     {
         let Some(draft) = &self.draft else {
@@ -203,7 +210,7 @@ impl Builder {
         }
     }
 
-    // After a refusal nothing is kept.
+    /// After a refusal nothing is kept.
     #[inline]
     fn settled(&mut self, outcome: Result<(), BuildFault>) -> Result<(), BuildFault>
         ensures same { result ≡ outcome }
@@ -215,7 +222,7 @@ impl Builder {
         outcome
     }
 
-    // Keeps nothing. It frees all that was built, so it stands apart from the calls that nearly always succeed.
+    /// Keeps nothing. It frees all that was built, so it stands apart from the calls that nearly always succeed.
     #[cold]
     #[inline(never)]
     fn lose(&mut self)

@@ -1,13 +1,13 @@
 //! The table that is being built.
-ghost use Rattle.std.specs.Prelude.{None, ◌≡◌, ◌^◌, ◌<◌, ◌≤◌, true, length, IsSome, IfSome, FitsSigned, IfOk, OnOk, OnErr, ◌-◌, string_len};
+ghost use Rattle.std.specs.Prelude.{None, ◌≡◌, ◌^◌, ◌<◌, ◌≤◌, true, length, IsSome, IfSome, FitsSigned, IfOk, OnOk, OnErr, ◌-◌, flat_map, string_len};
 ghost use Rattle.std.specs.Int.{w64};
 ghost use Rattle.std.specs.Io.KnownBytes.{Appends};
 ghost use Rattle.sha2.specs.Sha256.{sha256};
 ghost use Rattle.contract_words.specs.Answers.{Gives};
 ghost use Rattle.contract_words.specs.Devices.{Counts as CountsFailures, Sends};
 ghost use Rattle.mail_index.specs.Files.{HasSmallSections, body, index_file};
-ghost use Rattle.mail_index.specs.Inside.SectionCounts.{IsCountOf, counted_length};
-ghost use Rattle.mail_index.specs.Inside.Signing.{BreaksOff, Signs};
+ghost use Rattle.mail_index.specs.Inside.SectionCounts.{IsCountOf, counted_length, section_of};
+ghost use Rattle.mail_index.specs.Inside.Signing.{Writes};
 ghost use Rattle.mail_index.specs.Tables.{IsPath, IsWellFormed};
 ghost use Rattle.mail_index.specs.Builders.{empty_draft, begun_archive, begun_message, added, ended_message, ended_archive, refusal, archive_count, end_of, IsNextMessage, IsBetweenArchives, IsInMessage, IsWithinMost};
 ghost use Rattle.mail_index.specs.Limits.{four_byte_limit, most_in_archive, most_in_index};
@@ -19,7 +19,9 @@ use crate::build::key_sections::{
     postings_length, send_directory, send_postings, send_texts, texts_length,
 };
 use crate::build::prefetched::Prefetched;
-use crate::build::sections::{Counts, archives_length, send_archives, send_counts, send_records};
+use crate::build::sections::{
+    Counts, FILE_SECTIONS, FileSection, archives_length, send_archives, send_counts, send_records,
+};
 use crate::kind::Kind;
 use crate::places::{ENTRY, LEAST_FILE, RECORD};
 use crate::record::Record;
@@ -29,7 +31,7 @@ use std::marker::Model;
 
 /// An archive that has ended.
 #[derive(Drop)]
-pub struct NamedArchive {
+pub(crate) struct NamedArchive {
     pub path: String,
     pub length: u64,
     pub digest: [u8; 32],
@@ -38,7 +40,7 @@ pub struct NamedArchive {
 
 /// The archives, messages and keys so far, and which archive and message are open.
 #[derive(Drop)]
-pub struct Draft {
+pub(crate) struct Draft {
     most: u32,
     // The path of the archive that is open.
     path: Option<String>,
@@ -54,14 +56,16 @@ impl Model for Draft {
 
     ghost Value = { Drafted };
 
-    ghost view = { λ s. draft_of s.most s.path s.in_message s.archives.items s.records.items s.keys };
+    ghost view = { λ s.
+        draft_of s.most s.path s.in_message s.archives.items s.records.items s.keys };
 
-    ghost invariant = { λ s. IsDraft (draft_of s.most s.path s.in_message s.archives.items s.records.items s.keys) };
+    ghost invariant = { λ s.
+        IsDraft (draft_of s.most s.path s.in_message s.archives.items s.records.items s.keys) };
 }
 
 impl Draft {
     /// No archive. Takes no memory.
-    pub fn new(alloc: Global, most: u32) -> Self
+    pub(crate) fn new(alloc: Global, most: u32) -> Self
         requires { most ≤ most_in_index }
         ensures { result ≡ empty_draft most }
     {
@@ -76,7 +80,7 @@ impl Draft {
     }
 
     /// Opens an archive.
-    pub fn begin_archive(&mut self, alloc: Global, path: &str) -> Result<(), BuildFault>
+    pub(crate) fn begin_archive(&mut self, alloc: Global, path: &str) -> Result<(), BuildFault>
         requires phase { self.old.path ≡ None }
         requires path { IsPath path.now }
         ensures gives { Gives (λ _. self.new) refusal result (begun_archive path.now self.old) }
@@ -90,7 +94,7 @@ impl Draft {
     }
 
     /// Opens a message.
-    pub fn begin_message(&mut self) -> Result<(), BuildFault>
+    pub(crate) fn begin_message(&mut self) -> Result<(), BuildFault>
         ensures { Gives (λ _. self.new) refusal result (begun_message self.old) }
     {
         if self.records.len() >= self.most as usize {
@@ -101,12 +105,12 @@ impl Draft {
     }
 
     /// Guesses where keys stand.
-    pub fn prefetch(&self, places: &mut [Prefetched]) {
+    pub(crate) fn prefetch(&self, places: &mut [Prefetched]) {
         self.keys.prefetch(places);
     }
 
     /// Adds a key to the message that is open.
-    pub fn add(
+    pub(crate) fn add(
         &mut self,
         alloc: Global,
         kind: Kind,
@@ -123,7 +127,7 @@ impl Draft {
     }
 
     /// Closes the message that is open.
-    pub fn end_message(&mut self, message: Record) -> Result<(), BuildFault>
+    pub(crate) fn end_message(&mut self, message: Record) -> Result<(), BuildFault>
         requires phase { IsInMessage self.old }
         requires next { IsNextMessage self.old message }
         ensures { Gives (λ _. self.new) refusal result (ended_message message self.old) }
@@ -135,11 +139,12 @@ impl Draft {
     }
 
     /// Closes the archive that is open.
-    pub fn end_archive(&mut self, length: u64, digest: [u8; 32]) -> Result<(), BuildFault>
+    pub(crate) fn end_archive(&mut self, length: u64, digest: [u8; 32]) -> Result<(), BuildFault>
         requires phase { IsSome self.old.path }
         requires length { length ≤ most_in_archive }
         requires last { end_of (archive_count self.old) self.old.table.messages ≤ length }
-        ensures gives { Gives (λ _. self.new) refusal result (ended_archive length digest self.old) }
+        ensures gives { Gives (λ _. self.new) refusal result
+            (ended_archive length digest self.old) }
         ensures within { IsWithinMost self.new }
     {
         let path = self.path.take().unwrap();
@@ -160,12 +165,14 @@ impl Draft {
     ghost use Rattle.mail_index.specs.Inside.Drafts.{IsDraft};
 
     /// Writes the index file of the table. Answers how many bytes it has.
-    pub fn write<O: Out>(&self, out: &mut O) -> Result<u64, DeviceFault>
+    pub(crate) fn write<O: Out>(&self, out: &mut O) -> Result<u64, DeviceFault>
         requires failures { O.failures out.old < 2 ^ 64 - 1 }
         requires phase { IsBetweenArchives self.now }
         ensures formed { IsWellFormed self.now.table × HasSmallSections self.now.table }
-        ensures ok { IfOk result (λ n. (n ≡ length (index_file self.now.table)) × Appends (O.taken out.old) (O.taken out.new) (index_file self.now.table)) }
-        ensures err { OnErr result (Sends (O.taken out.old) (O.taken out.new) (index_file self.now.table)) }
+        ensures ok { IfOk result (λ n. (n ≡ length (index_file self.now.table))
+            × Appends (O.taken out.old) (O.taken out.new) (index_file self.now.table)) }
+        ensures err { OnErr result
+            (Sends (O.taken out.old) (O.taken out.new) (index_file self.now.table)) }
         ensures count { CountsFailures result (O.failures out.old) (O.failures out.new) }
     {
         let counts = self.counts();
@@ -174,7 +181,7 @@ impl Draft {
         Ok(file_length(&counts))
     }
 
-    // What the counts section tells.
+    /// What the counts section tells.
     fn counts(&self) -> Counts
         ensures draft { IsDraft self.now }
         ensures counts { IsCountOf self.now.table result }
@@ -190,53 +197,78 @@ impl Draft {
         }
     }
 
-    // Writes all but the digest. Answers that.
+    /// Writes all but the digest. Answers that.
     fn send_undigested<O: Out>(&self, out: &mut O, counts: &Counts) -> Result<[u8; 32], DeviceFault>
         requires failures { O.failures out.old < 2 ^ 64 - 1 }
         requires counts { IsCountOf self.now.table counts.now }
         requires small { counted_length counts.now < 2 ^ 64 }
-        ensures ok { OnOk result (Appends (O.taken out.old) (O.taken out.new) (body self.now.table)) }
+        ensures ok { OnOk result
+            (Appends (O.taken out.old) (O.taken out.new) (body self.now.table)) }
         ensures digest { IfOk result (λ digest. digest ≡ sha256 (body self.now.table)) }
-        ensures err { OnErr result (Sends (O.taken out.old) (O.taken out.new) (body self.now.table)) }
+        ensures err { OnErr result
+            (Sends (O.taken out.old) (O.taken out.new) (body self.now.table)) }
         ensures count { CountsFailures result (O.failures out.old) (O.failures out.new) }
     {
         let mut signer = Signer::new();
-        self.send_body(out, &mut signer, counts)?;
+        self.send_sections(out, &mut signer, counts, FILE_SECTIONS.as_slice())?;
         signer.finish(out)
     }
 
-    // The same, as far as it isn't gathered still.
-    fn send_body<O: Out>(
+    /// Writes some sections, one after another, or gathers them for that.
+    fn send_sections<O: Out>(
         &self,
         out: &mut O,
         signer: &mut Signer,
         counts: &Counts,
+        sections: &[FileSection],
     ) -> Result<(), DeviceFault>
         requires failures { O.failures out.old < 2 ^ 64 - 1 }
         requires counts { IsCountOf self.now.table counts.now }
         requires small { counted_length counts.now < 2 ^ 64 }
-        ensures ok { OnOk result (Signs (O.taken out.old) (O.taken out.new) signer.old signer.new (body self.now.table)) }
-        ensures err { OnErr result (BreaksOff (O.taken out.old) (O.taken out.new) signer.old (body self.now.table)) }
+        ensures written { Writes result (O.taken out.old) (O.taken out.new) signer.old signer.new
+            (flat_map (section_of self.now.table) sections.now) }
         ensures count { CountsFailures result (O.failures out.old) (O.failures out.new) }
     {
-        send_counts(out, signer, counts)?;
-        send_archives(out, signer, self.archives.as_slice())?;
-        send_records(out, signer, self.records.as_slice())?;
-        send_directory(out, signer, self.keys.in_order())?;
-        send_texts(out, signer, self.keys.in_order())?;
-        send_postings(out, signer, self.keys.in_order())?;
+        for section in sections {
+            self.send_section(out, signer, counts, *section)?;
+        }
         Ok(())
+    }
+
+    /// Writes one section, or gathers it.
+    fn send_section<O: Out>(
+        &self,
+        out: &mut O,
+        signer: &mut Signer,
+        counts: &Counts,
+        section: FileSection,
+    ) -> Result<(), DeviceFault>
+        requires failures { O.failures out.old < 2 ^ 64 - 1 }
+        requires counts { IsCountOf self.now.table counts.now }
+        requires small { counted_length counts.now < 2 ^ 64 }
+        ensures written { Writes result (O.taken out.old) (O.taken out.new) signer.old signer.new
+            (section_of self.now.table section) }
+        ensures count { CountsFailures result (O.failures out.old) (O.failures out.new) }
+    {
+        match section {
+            FileSection::Counts => send_counts(out, signer, counts),
+            FileSection::Archives => send_archives(out, signer, self.archives.as_slice()),
+            FileSection::Records => send_records(out, signer, self.records.as_slice()),
+            FileSection::Directory => send_directory(out, signer, self.keys.in_order()),
+            FileSection::Texts => send_texts(out, signer, self.keys.in_order()),
+            FileSection::Postings => send_postings(out, signer, self.keys.in_order()),
+        }
     }
 }
 
-// A date is a number of 64 bits, as its type says.
+/// A date is a number of 64 bits, as its type says.
 fn fits_date(message: &Record)
     ensures { IfSome message.now.date (FitsSigned w64) }
 {
     if let Some(_second) = message.date {}
 }
 
-// The length of a file with these counts.
+/// The length of a file with these counts.
 fn file_length(counts: &Counts) -> u64
     requires { counted_length counts.now < 2 ^ 64 }
     ensures { result ≡ counted_length counts.now }

@@ -5,7 +5,7 @@ ghost use Rattle.std.specs.List.{concat};
 ghost use Rattle.sha2.specs.Hashers.{Holds256};
 ghost use Rattle.sha2.specs.Sha256.{sha256};
 ghost use Rattle.contract_words.specs.Devices.{Counts, Sends};
-ghost use Rattle.mail_index.specs.Inside.Signing.{Absorbs, BreaksOff, Signs};
+ghost use Rattle.mail_index.specs.Inside.Signing.{Absorbs, Writes};
 
 use crate::build::pending::{Pending, ROOM};
 use mbox_cutter::{DeviceFault, Out, send};
@@ -15,14 +15,14 @@ use sha2::{Digest, Sha256};
 ///
 /// A file is made of fields of few bytes: gathered, they cost an output and a digest one call for some hundred of them.
 #[derive(Drop)]
-pub struct Signer {
+pub(crate) struct Signer {
     hasher: Sha256,
     pending: Pending,
 }
 
 impl Signer {
     /// Nothing went out yet.
-    pub fn new() -> Self
+    pub(crate) fn new() -> Self
         ensures digest { Holds256 result.hasher [] }
         ensures pending { result.pending ≡ [] }
     {
@@ -32,7 +32,7 @@ impl Signer {
         }
     }
 
-    // Writes what is gathered, and takes it into the digest.
+    /// Writes what is gathered, and takes it into the digest.
     fn flush<O: Out>(&mut self, out: &mut O) -> Result<(), DeviceFault>
         requires { O.failures out.old < 2 ^ 64 - 1 }
         ensures ok { OnOk result (Appends (O.taken out.old) (O.taken out.new) self.old.pending) }
@@ -49,10 +49,11 @@ impl Signer {
     }
 
     /// Writes what is gathered. Answers the digest of all that went out.
-    pub fn finish<O: Out>(mut self, out: &mut O) -> Result<[u8; 32], DeviceFault>
+    pub(crate) fn finish<O: Out>(mut self, out: &mut O) -> Result<[u8; 32], DeviceFault>
         requires { O.failures out.old < 2 ^ 64 - 1 }
         ensures ok { OnOk result (Appends (O.taken out.old) (O.taken out.new) self.pending) }
-        ensures digest { IfOk result (λ digest. (m : List ℕ) → Holds256 self.hasher m → digest ≡ sha256 (m ++ self.pending)) }
+        ensures digest { IfOk result (λ digest. (m : List ℕ) → Holds256 self.hasher m
+            → digest ≡ sha256 (m ++ self.pending)) }
         ensures err { OnErr result (Sends (O.taken out.old) (O.taken out.new) self.pending) }
         ensures count { Counts result (O.failures out.old) (O.failures out.new) }
     {
@@ -60,11 +61,11 @@ impl Signer {
         Ok(self.hasher.finalize())
     }
 
-    // Writes what is gathered, and the bytes, unless they have room then.
+    /// Writes what is gathered, and the bytes, unless they have room then.
     fn send_past<O: Out>(&mut self, out: &mut O, bytes: &[u8]) -> Result<(), DeviceFault>
         requires { O.failures out.old < 2 ^ 64 - 1 }
-        ensures ok { OnOk result (Signs (O.taken out.old) (O.taken out.new) self.old self.new bytes.now) }
-        ensures err { OnErr result (BreaksOff (O.taken out.old) (O.taken out.new) self.old bytes.now) }
+        ensures written { Writes result (O.taken out.old) (O.taken out.new) self.old self.new
+            bytes.now }
         ensures count { Counts result (O.failures out.old) (O.failures out.new) }
     {
         self.flush(out)?;
@@ -79,14 +80,14 @@ impl Signer {
 }
 
 /// Writes bytes and takes them into the digest, or gathers them for that.
-pub fn send_signed<O: Out>(
+pub(crate) fn send_signed<O: Out>(
     out: &mut O,
     signer: &mut Signer,
     bytes: &[u8],
 ) -> Result<(), DeviceFault>
     requires { O.failures out.old < 2 ^ 64 - 1 }
-    ensures ok { OnOk result (Signs (O.taken out.old) (O.taken out.new) signer.old signer.new bytes.now) }
-    ensures err { OnErr result (BreaksOff (O.taken out.old) (O.taken out.new) signer.old bytes.now) }
+    ensures written { Writes result (O.taken out.old) (O.taken out.new) signer.old signer.new
+        bytes.now }
     ensures count { Counts result (O.failures out.old) (O.failures out.new) }
 {
     if bytes.len() > signer.pending.room() {
@@ -97,14 +98,14 @@ pub fn send_signed<O: Out>(
 }
 
 /// Writes parts, one after another, as `send_signed` does.
-pub fn send_parts<O: Out>(
+pub(crate) fn send_parts<O: Out>(
     out: &mut O,
     signer: &mut Signer,
     parts: &[&[u8]],
 ) -> Result<(), DeviceFault>
     requires { O.failures out.old < 2 ^ 64 - 1 }
-    ensures ok { OnOk result (Signs (O.taken out.old) (O.taken out.new) signer.old signer.new (concat (map (λ part. part.now) parts.now))) }
-    ensures err { OnErr result (BreaksOff (O.taken out.old) (O.taken out.new) signer.old (concat (map (λ part. part.now) parts.now))) }
+    ensures written { Writes result (O.taken out.old) (O.taken out.new) signer.old signer.new
+        (concat (map (λ part. part.now) parts.now)) }
     ensures count { Counts result (O.failures out.old) (O.failures out.new) }
 {
     for part in parts {

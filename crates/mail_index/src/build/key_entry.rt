@@ -24,7 +24,7 @@ const SHORT: usize = 16;
 /// itself, of 64 bytes: mostly a number is added to a key by a look at its entry alone, and a rare key takes no more
 /// memory than that.
 #[derive(Drop)]
-pub struct KeyEntry {
+pub(crate) struct KeyEntry {
     text_length: u32,
     // One past the last number.
     next: u32,
@@ -38,20 +38,28 @@ pub struct KeyEntry {
 }
 
 impl Model for KeyEntry {
-    ghost use Rattle.std.specs.Prelude.{◌+◌, ◌≤◌, length, take, drop};
+    ghost use Rattle.std.specs.Prelude.{◌+◌, ◌≤◌, length};
     ghost use Rattle.mail_index.specs.Tables.{Key};
-    ghost use Rattle.mail_index.specs.Inside.KeyMaps.{key_in, front_holder, key_bytes, AreEntryBytes};
+    ghost use Rattle.mail_index.specs.Inside.KeyMaps.{key_of_bytes, front_holder, key_bytes, AreEntryBytes};
 
     ghost Value = { Key };
 
-    ghost view = { λ s. key_in (take (s.text_length + 1) (key_bytes s.front (s.text_length + 1) s.bytes.items s.recent)) (drop (s.text_length + 1) (key_bytes s.front (s.text_length + 1) s.bytes.items s.recent)) };
+    ghost view = { λ s. key_of_bytes
+        (key_bytes s.front (s.text_length + 1) s.bytes.items s.recent) (s.text_length + 1) };
 
-    ghost invariant = { λ s. AreEntryBytes (key_bytes s.front (s.text_length + 1) s.bytes.items s.recent) (s.text_length + 1) s.next × (s.text_length + 1 ≤ length (front_holder s.front (s.text_length + 1) s.bytes.items)) };
+    ghost invariant = { λ s. AreEntryBytes
+        (key_bytes s.front (s.text_length + 1) s.bytes.items s.recent) (s.text_length + 1) s.next
+        × (s.text_length + 1 ≤ length (front_holder s.front (s.text_length + 1) s.bytes.items)) };
 }
 
 impl KeyEntry {
     /// A key of one message.
-    pub fn new(alloc: Global, kind: Kind, text: &[u8], number: u32) -> Result<Self, AllocError>
+    pub(crate) fn new(
+        alloc: Global,
+        kind: Kind,
+        text: &[u8],
+        number: u32,
+    ) -> Result<Self, AllocError>
         requires number { number < u32.MAX }
         requires short { length text.now < four_byte_limit }
         ensures { IfOk result (λ entry. entry ≡ new_key kind text.now number) }
@@ -67,7 +75,7 @@ impl KeyEntry {
     }
 
     /// Adds a message's number, unless the last is as large. A refused growth changes nothing.
-    pub fn push(&mut self, number: u32) -> Result<(), AllocError>
+    pub(crate) fn push(&mut self, number: u32) -> Result<(), AllocError>
         requires { number < u32.MAX }
         ensures ok { OnOk result (self.new ≡ with_one self.old number) }
         ensures err { OnErr result (self.new ≡ self.old) }
@@ -81,7 +89,7 @@ impl KeyEntry {
         Ok(())
     }
 
-    // The number of its kind in the file, and its text.
+    /// The number of its kind in the file, and its text.
     fn number_and_text(&self) -> (u8, &[u8])
         ensures number { result.0 ≡ kind_number self.now.kind }
         ensures text { result.1.now ≡ self.now.text }
@@ -100,7 +108,7 @@ impl KeyEntry {
     }
 
     /// How the key lies to another: by the kind's number, then by the text.
-    pub fn compare(&self, kind: Kind, text: &[u8]) -> Ordering
+    pub(crate) fn compare(&self, kind: Kind, text: &[u8]) -> Ordering
         ensures { result ≡ lies_to kind text.now self.now }
     {
         let (own_number, own_text) = self.number_and_text();
@@ -111,7 +119,7 @@ impl KeyEntry {
     }
 
     /// Whether it is this key.
-    pub fn is_key(&self, kind: Kind, text: &[u8]) -> bool
+    pub(crate) fn is_key(&self, kind: Kind, text: &[u8]) -> bool
         ensures { result ≡ is_eq (lies_to kind text.now self.now) }
     {
         let (own_number, own_text) = self.number_and_text();
@@ -119,14 +127,14 @@ impl KeyEntry {
     }
 
     /// The number of its kind in the file.
-    pub fn kind_number(&self) -> u8
+    pub(crate) fn kind_number(&self) -> u8
         ensures { result ≡ kind_number self.now.kind }
     {
         self.number_and_text().0
     }
 
     /// Its text.
-    pub fn text(&self) -> &[u8]
+    pub(crate) fn text(&self) -> &[u8]
         ensures text { result.now ≡ self.now.text }
         ensures short { length result.now < four_byte_limit }
     {
@@ -134,7 +142,7 @@ impl KeyEntry {
     }
 
     /// The postings of its numbers, in two parts.
-    pub fn postings(&self) -> (&[u8], &[u8])
+    pub(crate) fn postings(&self) -> (&[u8], &[u8])
         ensures bytes { result.0.now ++ result.1.now ≡ postings self.now.numbers }
         ensures small { length result.0.now + length result.1.now < four_byte_limit }
     {
@@ -148,7 +156,7 @@ impl KeyEntry {
     }
 
     /// How many bytes its postings have.
-    pub fn postings_length(&self) -> usize
+    pub(crate) fn postings_length(&self) -> usize
         ensures { result ≡ length (postings self.now.numbers) }
     {
         let (older, recent) = self.postings();
@@ -156,7 +164,7 @@ impl KeyEntry {
     }
 }
 
-// Whether two texts are one. Most have four to sixteen bytes, and need no loop.
+/// Whether two texts are one. Most have four to sixteen bytes, and need no loop.
 fn is_same_text(own: &[u8], text: &[u8]) -> bool
     ensures { Decides result (own.now ≡ text.now) }
 {
@@ -172,7 +180,7 @@ fn is_same_text(own: &[u8], text: &[u8]) -> bool
     own == text
 }
 
-// Whether two texts of the same length are one, by their first bytes and their last ones, N each: where these cover them.
+/// Whether two texts of the same length are one, by their first bytes and their last ones, N each: where these cover them.
 fn have_same_ends<const N: usize>(own: &[u8], text: &[u8]) -> Option<bool>
     requires length { length own.now ≡ length text.now }
     requires few { N ≤ 8 }
@@ -186,9 +194,10 @@ fn have_same_ends<const N: usize>(own: &[u8], text: &[u8]) -> Option<bool>
     Some(first && last)
 }
 
-// Appends a difference's bytes to the recent ones. Most differences have one byte, for which there mostly is room.
+/// Appends a difference's bytes to the recent ones. Most differences have one byte, for which there mostly is room.
 fn append(bytes: &mut Vec<u8>, recent: &mut ShortBytes, difference: u32) -> Result<(), AllocError>
-    ensures ok { OnOk result (bytes.new.items ++ recent.new ≡ bytes.old.items ++ recent.old ++ leb128 5 difference) }
+    ensures ok { OnOk result
+        (bytes.new.items ++ recent.new ≡ bytes.old.items ++ recent.old ++ leb128 5 difference) }
     ensures err { OnErr result ((bytes.new.items ≡ bytes.old.items) × (recent.new ≡ recent.old)) }
     ensures kept { length bytes.old.items ≤ length bytes.new.items }
 {
@@ -199,15 +208,16 @@ fn append(bytes: &mut Vec<u8>, recent: &mut ShortBytes, difference: u32) -> Resu
     append_any(bytes, recent, difference)
 }
 
-// Does that for each difference. Where there is no room for its bytes the recent ones go behind the others first. It stands
-// apart, so that one byte costs no more than its own steps.
+/// Does that for each difference. Where there is no room for its bytes the recent ones go behind the others first. It stands
+/// apart, so that one byte costs no more than its own steps.
 #[inline(never)]
 fn append_any(
     bytes: &mut Vec<u8>,
     recent: &mut ShortBytes,
     difference: u32,
 ) -> Result<(), AllocError>
-    ensures ok { OnOk result (bytes.new.items ++ recent.new ≡ bytes.old.items ++ recent.old ++ leb128 5 difference) }
+    ensures ok { OnOk result
+        (bytes.new.items ++ recent.new ≡ bytes.old.items ++ recent.old ++ leb128 5 difference) }
     ensures err { OnErr result ((bytes.new.items ≡ bytes.old.items) × (recent.new ≡ recent.old)) }
     ensures kept { length bytes.old.items ≤ length bytes.new.items }
 {
@@ -221,7 +231,7 @@ fn append_any(
     Ok(())
 }
 
-// The kind's number and the text: those that are short apart, and others among the bytes outside the entry.
+/// The kind's number and the text: those that are short apart, and others among the bytes outside the entry.
 fn front_and_bytes(
     alloc: Global,
     kind: Kind,
@@ -237,7 +247,7 @@ fn front_and_bytes(
     Ok(([0; SHORT], bytes))
 }
 
-// The kind's number and the text, with zeros behind them.
+/// The kind's number and the text, with zeros behind them.
 fn front_of(kind: Kind, text: &[u8]) -> [u8; SHORT]
     requires { length text.now < 16 }
     ensures { take (length text.now + 1) result ≡ kind_number kind ∷ text.now }
@@ -248,7 +258,7 @@ fn front_of(kind: Kind, text: &[u8]) -> [u8; SHORT]
     front
 }
 
-// The kind's number and the text.
+/// The kind's number and the text.
 fn front_bytes(alloc: Global, kind: Kind, text: &[u8]) -> Result<Vec<u8>, AllocError>
     requires { length text.now < four_byte_limit }
     ensures { IfOk result (λ bytes. bytes.items ≡ kind_number kind ∷ text.now) }

@@ -11,13 +11,13 @@ const TEXT_BYTES: usize = 7;
 /// The fronts of many keys stand close together, while an entry mostly has to be waited for: so a search reads an entry only
 /// where its front is the wanted one.
 #[derive(Clone, Copy)]
-pub struct Fronted {
+pub(crate) struct Fronted {
     pub number: u32,
     pub front: u64,
 }
 
 /// The kind's number and the first seven bytes of the text, with zeros behind them, as one number.
-pub fn front_of_key(kind: Kind, text: &[u8]) -> u64
+pub(crate) fn front_of_key(kind: Kind, text: &[u8]) -> u64
     ensures { IsFrontOf kind text.now result }
 {
     let length = text.len().min(TEXT_BYTES);

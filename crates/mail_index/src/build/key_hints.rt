@@ -1,5 +1,5 @@
 //! Where the keys that came last stand among the entries.
-ghost use Rattle.std.specs.Prelude.{◌≡◌, ◌^◌, ◌<◌, [], length, set, OnOk, OnErr};
+ghost use Rattle.std.specs.Prelude.{◌≡◌, ◌^◌, ◌<◌, [], length, set, OnOk};
 ghost use Rattle.std.specs.List.{slice_get};
 
 use crate::kind::Kind;
@@ -18,19 +18,19 @@ const SPREAD: u64 = 0x9E37_79B9_7F4A_7C15;
 /// For each value of a hash the number of the entry of a key that came last with it. A hint can be wrong, and is no
 /// more than a guess that saves a search; so nothing is lost where a hint is missing, nor where two keys share one.
 #[derive(Drop)]
-pub struct KeyHints {
+pub(crate) struct KeyHints {
     numbers: Vec<u32>,
 }
 
 /// A slot of the hints.
 #[derive(Clone, Copy)]
-pub struct Slot {
+pub(crate) struct Slot {
     index: usize,
 }
 
 impl Slot {
     /// The slot of a key.
-    pub fn of(kind: Kind, text: &[u8]) -> Self
+    pub(crate) fn of(kind: Kind, text: &[u8]) -> Self
         ensures { result.index < 2 ^ 20 }
     {
         Slot {
@@ -39,8 +39,8 @@ impl Slot {
     }
 }
 
-// A hash of a key, whose highest bits hang on all bytes. It takes eight at a time: a longer text's last eight come once
-// more than its whole words, so that what fills no word needs no loop of its own.
+/// A hash of a key, whose highest bits hang on all bytes. It takes eight at a time: a longer text's last eight come once
+/// more than its whole words, so that what fills no word needs no loop of its own.
 fn hash_of(kind: Kind, text: &[u8]) -> u64 {
     let mut hash = mixed(kind.number() as u64, text.len() as u64);
     let Some(last) = text.last_chunk::<8>() else {
@@ -52,8 +52,8 @@ fn hash_of(kind: Kind, text: &[u8]) -> u64 {
     mixed(hash, u64::from_le_bytes(*last))
 }
 
-// The bytes of a text of fewer than eight, in one word: its first and its last four, which overlap, or its first byte, its
-// middle one and its last. So no loop is needed.
+/// The bytes of a text of fewer than eight, in one word: its first and its last four, which overlap, or its first byte, its
+/// middle one and its last. So no loop is needed.
 fn short_word(text: &[u8]) -> u64 {
     if let Some(first) = text.first_chunk::<4>() {
         if let Some(last) = text.last_chunk::<4>() {
@@ -67,14 +67,14 @@ fn short_word(text: &[u8]) -> u64 {
     text[0] as u64 | ((text[length / 2] as u64) << 8) | ((text[length - 1] as u64) << 16)
 }
 
-// A hash, and a word more. The rotation brings the highest bits down, where the product spreads them.
+/// A hash, and a word more. The rotation brings the highest bits down, where the product spreads them.
 fn mixed(hash: u64, word: u64) -> u64 {
     (hash.rotate_left(32) ^ word).wrapping_mul(SPREAD)
 }
 
 impl KeyHints {
     /// No hint. Takes no memory.
-    pub fn new(alloc: Global) -> Self
+    pub(crate) fn new(alloc: Global) -> Self
         ensures { result.numbers.items ≡ [] }
     {
         KeyHints {
@@ -83,8 +83,9 @@ impl KeyHints {
     }
 
     /// Makes room for the hints, if there is none.
-    pub fn begin(&mut self) -> Result<(), AllocError>
-        ensures room { OnOk result (length self.old.numbers.items ≡ 0 → length self.new.numbers.items ≡ 2 ^ 20) }
+    pub(crate) fn begin(&mut self) -> Result<(), AllocError>
+        ensures room { OnOk result
+            (length self.old.numbers.items ≡ 0 → length self.new.numbers.items ≡ 2 ^ 20) }
         ensures kept { 0 < length self.old.numbers.items → self.new ≡ self.old }
     {
         if self.numbers.is_empty() {
@@ -94,14 +95,14 @@ impl KeyHints {
     }
 
     /// The number that stands in a slot.
-    pub fn get(&self, slot: Slot) -> Option<u32>
+    pub(crate) fn get(&self, slot: Slot) -> Option<u32>
         ensures { result ≡ slice_get self.now.numbers.items slot.index }
     {
         self.numbers.get(slot.index).copied()
     }
 
     /// Leaves a number in a slot.
-    pub fn note(&mut self, slot: Slot, number: u32)
+    pub(crate) fn note(&mut self, slot: Slot, number: u32)
         ensures { self.new.numbers.items ≡ set self.old.numbers.items slot.index number }
     {
         if let Some(hint) = self.numbers.get_mut(slot.index) {

@@ -1,11 +1,7 @@
 //! The keys of an index while it is built.
 ghost use Rattle.std.specs.Prelude.{◌≡◌, ◌-◌, ◌<◌, ◌≤◌, [], length, set, IfSome, IfOk, IfErr, OnOk, OnErr, MatchResult};
-ghost use Rattle.std.specs.declared.cmp.Ordering.TheVariants.{Equal};
-ghost use Rattle.std.specs.List.{AllByRecursion, slice_index_or};
-ghost use Rattle.mail_index.specs.Inside.KeyFronts.{IsFrontOf, IsFronted};
-ghost use Rattle.mail_index.specs.Inside.KeyMaps.{rows, slots_in, numbers_in, place_in, keys_in, with_one, IsOrder, IsGap, IsWantOf};
+ghost use Rattle.mail_index.specs.Inside.KeyMaps.{keys_in, with_added, with_one, IsEntryOf, AreInStep, IsPlaceFor, IsWantOf};
 ghost use Rattle.mail_index.specs.KeysRead.{key_at};
-ghost use Rattle.mail_index.specs.LookUps.{lies_to};
 ghost use Rattle.mail_index.specs.Builders.{with_pair};
 ghost use Rattle.mail_index.specs.Limits.{four_byte_limit};
 
@@ -25,29 +21,27 @@ use std::marker::Model;
 /// The keys' entries stay where they came, and their numbers stand in the order of the keys. A key that stands there
 /// already is mostly found by a hint, and is copied nowhere.
 #[derive(Drop)]
-pub struct KeyMap {
+pub(crate) struct KeyMap {
     entries: Vec<KeyEntry>,
     order: KeyOrder,
     hints: KeyHints,
 }
 
 impl Model for KeyMap {
-    ghost use Rattle.std.specs.Prelude.{◌≡◌, ◌-◌, List, length};
+    ghost use Rattle.std.specs.Prelude.{List};
     ghost use Rattle.mail_index.specs.Tables.{Key};
-    ghost use Rattle.std.specs.List.{AllByRecursion};
-    ghost use Rattle.mail_index.specs.Inside.KeyFronts.{IsFronted};
-    ghost use Rattle.mail_index.specs.Inside.KeyMaps.{slots_in, numbers_in, keys_in, IsOrder};
+    ghost use Rattle.mail_index.specs.Inside.KeyMaps.{keys_in, AreInStep};
 
     ghost Value = { List Key };
 
     ghost view = { λ s. keys_in s.entries.items s.order };
 
-    ghost invariant = { λ s. (length s.order.heads.items ≡ length s.order.pages.items - 1) × IsOrder s.entries.items (numbers_in s.order) × AllByRecursion (IsFronted s.entries.items) (slots_in s.order) };
+    ghost invariant = { λ s. AreInStep s.entries.items s.order };
 }
 
 impl KeyMap {
     /// No key. Takes no memory.
-    pub fn new(alloc: Global) -> Self
+    pub(crate) fn new(alloc: Global) -> Self
         ensures { result ≡ [] }
     {
         KeyMap {
@@ -58,15 +52,15 @@ impl KeyMap {
     }
 
     /// How many keys there are.
-    pub fn len(&self) -> usize
+    pub(crate) fn len(&self) -> usize
         ensures { result ≡ length self.now }
     {
         self.entries.len()
     }
 
     /// Guesses where keys stand.
-    pub fn prefetch(&self, places: &mut [Prefetched]) {
-        // A loop of its own for each step: its reads need nothing of each other, so that their waits are one.
+    pub(crate) fn prefetch(&self, places: &mut [Prefetched]) {
+        // Two loops: within each one no read needs what another has read, so the processor waits for all of them at once.
         for place in places.iter_mut() {
             place.number = self.hints.get(place.slot);
         }
@@ -76,7 +70,7 @@ impl KeyMap {
     }
 
     /// Adds a message's number to a key's numbers, unless it stands there, and the key where it is new.
-    pub fn add(
+    pub(crate) fn add(
         &mut self,
         alloc: Global,
         kind: Kind,
@@ -91,7 +85,8 @@ impl KeyMap {
         ensures ok { OnOk result (self.new ≡ with_pair kind text.now number self.old) }
         ensures err { OnErr result (self.new ≡ self.old) }
         ensures fits { length self.new ≤ most }
-        ensures fault { IfErr result (IsWantOf most (length (with_pair kind text.now number self.old))) }
+        ensures fault { IfErr result
+            (IsWantOf most (length (with_pair kind text.now number self.old))) }
     {
         let key = Added {
             kind,
@@ -107,17 +102,19 @@ impl KeyMap {
         self.add_searched(alloc, place.slot, key)
     }
 
-    // Does what `add` does, by a search, and leaves a hint. It stands apart, so that a right guess costs no more than its own
-    // steps.
+    /// Does what `add` does, by a search, and leaves a hint. It stands apart, so that a right guess costs no more than its own
+    /// steps.
     #[inline(never)]
     fn add_searched(&mut self, alloc: Global, slot: Slot, key: Added<'_>) -> Result<(), BuildFault>
         requires number { key.number < u32.MAX }
         requires short { length key.text.now < four_byte_limit }
         requires fits { length self.old ≤ key.most }
-        ensures ok { OnOk result (self.new ≡ with_pair key.entry.kind key.entry.text.now key.entry.number self.old) }
+        ensures ok { OnOk result
+            (self.new ≡ with_added key.entry self.old) }
         ensures err { OnErr result (self.new ≡ self.old) }
         ensures fits { length self.new ≤ key.entry.most }
-        ensures fault { IfErr result (IsWantOf key.entry.most (length (with_pair key.entry.kind key.entry.text.now key.entry.number self.old))) }
+        ensures fault { IfErr result
+            (IsWantOf key.entry.most (length (with_added key.entry self.old))) }
     {
         self.hints.begin()?;
         self.order.begin(alloc)?;
@@ -130,14 +127,14 @@ impl KeyMap {
 
 impl KeyMap {
     /// The entries in the order of the keys.
-    pub fn in_order(&self) -> KeysInOrder<'_>
+    pub(crate) fn in_order(&self) -> KeysInOrder<'_>
         ensures { result ≡ self.now }
     {
         KeysInOrder::of(&self.entries, &self.order.heads, &self.order.pages)
     }
 }
 
-// How long the text of an entry is, where there is that entry.
+/// How long the text of an entry is, where there is that entry.
 fn text_length_at(entries: &[KeyEntry], number: Option<u32>) -> usize {
     let Some(number) = number else {
         return 0;
@@ -148,7 +145,7 @@ fn text_length_at(entries: &[KeyEntry], number: Option<u32>) -> usize {
     }
 }
 
-// A key that is added, with the number of a message that has it, and how many keys there may be.
+/// A key that is added, with the number of a message that has it, and how many keys there may be.
 #[derive(Clone, Copy)]
 struct Added<'a> {
     kind: Kind,
@@ -157,9 +154,9 @@ struct Added<'a> {
     most: u32,
 }
 
-// The number of the entry of a key, where the guess was right.
+/// The number of the entry of a key, where the guess was right.
 fn guessed(entries: &[KeyEntry], place: Prefetched, kind: Kind, text: &[u8]) -> Option<u32>
-    ensures { IfSome result (λ entry. (entry < length entries.now) × (lies_to kind text.now (key_at entries.now entry) ≡ Equal)) }
+    ensures { IfSome result (IsEntryOf kind text.now entries.now) }
 {
     // Mostly the length alone tells another key.
     if place.text_length != text.len() {
@@ -168,7 +165,7 @@ fn guessed(entries: &[KeyEntry], place: Prefetched, kind: Kind, text: &[u8]) -> 
     matching(place.number?, entries, kind, text)
 }
 
-// Adds a message's number to the key that was found, or inserts the key. Answers the number of its entry.
+/// Adds a message's number to the key that was found, or inserts the key. Answers the number of its entry.
 fn add_at(
     alloc: Global,
     entries: &mut Vec<KeyEntry>,
@@ -179,22 +176,20 @@ fn add_at(
     requires number { key.now.number < u32.MAX }
     requires short { length key.now.text.now < four_byte_limit }
     requires fits { length entries.old.items ≤ key.now.most }
-    requires between { length order.old.heads.items ≡ length order.old.pages.items - 1 }
-    requires order { IsOrder entries.old.items (numbers_in order.old) }
-    requires fronted { AllByRecursion (IsFronted entries.old.items) (slots_in order.old) }
-    requires found { IfOk found (λ entry. (entry < length entries.old.items) × (lies_to key.now.kind key.now.text.now (key_at entries.old.items entry) ≡ Equal)) }
-    requires page { IfErr found (λ place. place.page < length order.old.pages.items) }
-    requires at { IfErr found (λ place. place.at ≤ length (slice_index_or (rows order.old.pages.items) place.page [])) }
-    requires gap { IfErr found (λ place. IsGap key.now.kind key.now.text.now (keys_in entries.old.items order.old) (place_in order.old place)) }
-    requires front { IfErr found (λ place. IsFrontOf key.now.kind key.now.text.now place.front) }
-    ensures between { length order.new.heads.items ≡ length order.new.pages.items - 1 }
-    ensures order { IsOrder entries.new.items (numbers_in order.new) }
-    ensures fronted { AllByRecursion (IsFronted entries.new.items) (slots_in order.new) }
-    ensures ok { OnOk result (keys_in entries.new.items order.new ≡ with_pair key.now.kind key.now.text.now key.now.number (keys_in entries.old.items order.old)) }
-    ensures err { OnErr result (keys_in entries.new.items order.new ≡ keys_in entries.old.items order.old) }
-    ensures entry { IfOk result (λ entry. MatchResult found (λ known. entry ≡ known) (λ _. entry ≡ length entries.old.items)) }
+    requires step { AreInStep entries.old.items order.old }
+    requires found { IfOk found (IsEntryOf key.now.kind key.now.text.now entries.old.items) }
+    requires place { IfErr found
+        (IsPlaceFor key.now.kind key.now.text.now entries.old.items order.old) }
+    ensures step { AreInStep entries.new.items order.new }
+    ensures ok { OnOk result (keys_in entries.new.items order.new
+        ≡ with_added key.now (keys_in entries.old.items order.old)) }
+    ensures err { OnErr result
+        (keys_in entries.new.items order.new ≡ keys_in entries.old.items order.old) }
+    ensures entry { IfOk result (λ entry.
+        MatchResult found (λ known. entry ≡ known) (λ _. entry ≡ length entries.old.items)) }
     ensures fits { length entries.new.items ≤ key.now.most }
-    ensures fault { IfErr result (IsWantOf key.now.most (length (with_pair key.now.kind key.now.text.now key.now.number (keys_in entries.old.items order.old)))) }
+    ensures fault { IfErr result (IsWantOf key.now.most
+        (length (with_added key.now (keys_in entries.old.items order.old)))) }
 {
     match found {
         Ok(entry) => {
@@ -205,7 +200,7 @@ fn add_at(
     }
 }
 
-// Adds a message's number to the key of an entry.
+/// Adds a message's number to the key of an entry.
 fn add_number(
     entries: &mut Vec<KeyEntry>,
     order: &KeyOrder,
@@ -213,13 +208,11 @@ fn add_number(
     key: &Added<'_>,
 ) -> Result<(), AllocError>
     requires number { key.now.number < u32.MAX }
-    requires order { IsOrder entries.old.items (numbers_in order.now) }
-    requires fronted { AllByRecursion (IsFronted entries.old.items) (slots_in order.now) }
-    requires within { entry < length entries.old.items }
-    requires found { lies_to key.now.kind key.now.text.now (key_at entries.old.items entry) ≡ Equal }
-    ensures order { IsOrder entries.new.items (numbers_in order.now) }
-    ensures fronted { AllByRecursion (IsFronted entries.new.items) (slots_in order.now) }
-    ensures ok { OnOk result (keys_in entries.new.items order.now ≡ with_pair key.now.kind key.now.text.now key.now.number (keys_in entries.old.items order.now)) }
+    requires step { AreInStep entries.old.items order.now }
+    requires found { IsEntryOf key.now.kind key.now.text.now entries.old.items entry }
+    ensures step { AreInStep entries.new.items order.now }
+    ensures ok { OnOk result (keys_in entries.new.items order.now
+        ≡ with_added key.now (keys_in entries.old.items order.now)) }
     ensures err { OnErr result (entries.new.items ≡ entries.old.items) }
     ensures same { length entries.new.items ≡ length entries.old.items }
 {
@@ -227,17 +220,18 @@ fn add_number(
     Ok(())
 }
 
-// Adds a number to the key of an entry.
+/// Adds a number to the key of an entry.
 fn push_number(entries: &mut Vec<KeyEntry>, entry: u32, number: u32) -> Result<(), AllocError>
     requires within { entry < length entries.old.items }
     requires number { number < u32.MAX }
-    ensures ok { OnOk result (entries.new.items ≡ set entries.old.items entry (with_one (key_at entries.old.items entry) number)) }
+    ensures ok { OnOk result (entries.new.items
+        ≡ set entries.old.items entry (with_one (key_at entries.old.items entry) number)) }
     ensures err { OnErr result (entries.new.items ≡ entries.old.items) }
 {
     entries[entry as usize].push(number)
 }
 
-// Inserts a key at its place. Answers the number of its entry.
+/// Inserts a key at its place. Answers the number of its entry.
 fn insert(
     alloc: Global,
     entries: &mut Vec<KeyEntry>,
@@ -248,21 +242,17 @@ fn insert(
     requires number { key.now.number < u32.MAX }
     requires short { length key.now.text.now < four_byte_limit }
     requires fits { length entries.old.items ≤ key.now.most }
-    requires between { length order.old.heads.items ≡ length order.old.pages.items - 1 }
-    requires order { IsOrder entries.old.items (numbers_in order.old) }
-    requires fronted { AllByRecursion (IsFronted entries.old.items) (slots_in order.old) }
-    requires page { place.page < length order.old.pages.items }
-    requires at { place.at ≤ length (slice_index_or (rows order.old.pages.items) place.page []) }
-    requires gap { IsGap key.now.kind key.now.text.now (keys_in entries.old.items order.old) (place_in order.old place) }
-    requires front { IsFrontOf key.now.kind key.now.text.now place.front }
-    ensures between { length order.new.heads.items ≡ length order.new.pages.items - 1 }
-    ensures order { IsOrder entries.new.items (numbers_in order.new) }
-    ensures fronted { AllByRecursion (IsFronted entries.new.items) (slots_in order.new) }
-    ensures ok { OnOk result (keys_in entries.new.items order.new ≡ with_pair key.now.kind key.now.text.now key.now.number (keys_in entries.old.items order.old)) }
-    ensures err { OnErr result (keys_in entries.new.items order.new ≡ keys_in entries.old.items order.old) }
+    requires step { AreInStep entries.old.items order.old }
+    requires place { IsPlaceFor key.now.kind key.now.text.now entries.old.items order.old place }
+    ensures step { AreInStep entries.new.items order.new }
+    ensures ok { OnOk result (keys_in entries.new.items order.new
+        ≡ with_added key.now (keys_in entries.old.items order.old)) }
+    ensures err { OnErr result
+        (keys_in entries.new.items order.new ≡ keys_in entries.old.items order.old) }
     ensures entry { IfOk result (λ entry. entry ≡ length entries.old.items) }
     ensures fits { length entries.new.items ≤ key.now.most }
-    ensures fault { IfErr result (IsWantOf key.now.most (length (with_pair key.now.kind key.now.text.now key.now.number (keys_in entries.old.items order.old)))) }
+    ensures fault { IfErr result (IsWantOf key.now.most
+        (length (with_added key.now (keys_in entries.old.items order.old)))) }
 {
     let number = entries.len();
     if number >= key.most as usize {

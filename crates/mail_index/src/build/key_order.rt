@@ -1,11 +1,8 @@
 //! The order of the keys of an index while it is built.
 ghost use Rattle.std.specs.Prelude.{◌≡◌, ◌+◌, ◌-◌, ◌<◌, ◌≤◌, [], ◌∷◌, length, take, drop, set, OnOk, OnErr, IfOk, IfErr};
-ghost use Rattle.std.specs.declared.cmp.Ordering.TheVariants.{Equal};
-ghost use Rattle.std.specs.List.{AllByRecursion, insert, slice_index_or};
-ghost use Rattle.mail_index.specs.Inside.KeyFronts.{IsFrontOf, IsFronted};
-ghost use Rattle.mail_index.specs.Inside.KeyMaps.{rows, in_pages, slots_in, place_in, keys_in, IsGap};
-ghost use Rattle.mail_index.specs.KeysRead.{key_at};
-ghost use Rattle.mail_index.specs.LookUps.{lies_to};
+ghost use Rattle.std.specs.List.{AllByRecursion, insert};
+ghost use Rattle.mail_index.specs.Inside.KeyFronts.{IsFronted};
+ghost use Rattle.mail_index.specs.Inside.KeyMaps.{rows, row_at, in_pages, slots_in, slot_for, place_in, IsEntryOf, IsPlaceIn, IsPlaceFor};
 
 use crate::build::key_entry::KeyEntry;
 use crate::build::key_front::{Fronted, front_of_key};
@@ -24,14 +21,14 @@ const PAGES_FOR_A_SLOT: usize = 20;
 /// slots of one page. Of very many keys both the pages and what one of them has grow with the root of their count, and
 /// so does what an insertion moves, in whatever order the keys come.
 #[derive(Drop)]
-pub struct KeyOrder {
+pub(crate) struct KeyOrder {
     pub heads: Vec<Fronted>,
     pub pages: Vec<Vec<Fronted>>,
 }
 
 /// A place in the order, where a key can be inserted.
 #[derive(Clone, Copy)]
-pub struct Place {
+pub(crate) struct Place {
     pub page: usize,
     /// How many of the page's slots stand before it.
     pub at: usize,
@@ -41,7 +38,7 @@ pub struct Place {
 
 impl KeyOrder {
     /// No key. Takes no memory.
-    pub fn new(alloc: Global) -> Self
+    pub(crate) fn new(alloc: Global) -> Self
         ensures heads { result.heads.items ≡ [] }
         ensures pages { result.pages.items ≡ [] }
     {
@@ -52,7 +49,7 @@ impl KeyOrder {
     }
 
     /// Makes the first page, if there is none.
-    pub fn begin(&mut self, alloc: Global) -> Result<(), AllocError>
+    pub(crate) fn begin(&mut self, alloc: Global) -> Result<(), AllocError>
         requires between { length self.old.heads.items ≡ length self.old.pages.items - 1 }
         ensures page { OnOk result (0 < length self.new.pages.items) }
         ensures between { length self.new.heads.items ≡ length self.new.pages.items - 1 }
@@ -65,15 +62,12 @@ impl KeyOrder {
     }
 
     /// The number of the entry of this key; where none is it, the place for it.
-    pub fn find(&self, entries: &[KeyEntry], kind: Kind, text: &[u8]) -> Result<u32, Place>
+    pub(crate) fn find(&self, entries: &[KeyEntry], kind: Kind, text: &[u8]) -> Result<u32, Place>
         requires page { 0 < length self.now.pages.items }
         requires between { length self.now.heads.items ≡ length self.now.pages.items - 1 }
         requires fronted { AllByRecursion (IsFronted entries.now) (slots_in self.now) }
-        ensures found { IfOk result (λ number. (number < length entries.now) × (lies_to kind text.now (key_at entries.now number) ≡ Equal)) }
-        ensures page { IfErr result (λ place. place.page < length self.now.pages.items) }
-        ensures at { IfErr result (λ place. place.at ≤ length (slice_index_or (rows self.now.pages.items) place.page [])) }
-        ensures gap { IfErr result (λ place. IsGap kind text.now (keys_in entries.now self.now) (place_in self.now place)) }
-        ensures front { IfErr result (λ place. IsFrontOf kind text.now place.front) }
+        ensures found { IfOk result (IsEntryOf kind text.now entries.now) }
+        ensures place { IfErr result (IsPlaceFor kind text.now entries.now self.now) }
     {
         let front = front_of_key(kind, text);
         let page = match search(&self.heads, entries, front, kind, text) {
@@ -87,12 +81,17 @@ impl KeyOrder {
     }
 
     /// Inserts the number of an entry, with the front that its place has. A refused growth leaves the order as it is.
-    pub fn insert(&mut self, alloc: Global, place: Place, number: u32) -> Result<(), AllocError>
+    pub(crate) fn insert(
+        &mut self,
+        alloc: Global,
+        place: Place,
+        number: u32,
+    ) -> Result<(), AllocError>
         requires between { length self.old.heads.items ≡ length self.old.pages.items - 1 }
-        requires page { place.page < length self.old.pages.items }
-        requires at { place.at ≤ length (slice_index_or (rows self.old.pages.items) place.page []) }
+        requires place { IsPlaceIn self.old.pages.items place }
         ensures between { length self.new.heads.items ≡ length self.new.pages.items - 1 }
-        ensures ok { OnOk result (slots_in self.new ≡ insert (slots_in self.old) (place_in self.old place) (record { number = number; front = place.front })) }
+        ensures ok { OnOk result (slots_in self.new
+            ≡ insert (slots_in self.old) (place_in self.old place) (slot_for number place)) }
         ensures err { OnErr result (slots_in self.new ≡ slots_in self.old) }
     {
         insert_in_page(&mut self.pages, place, number)?;
@@ -110,15 +109,16 @@ impl KeyOrder {
     }
 }
 
-// Inserts a slot in a page.
+/// Inserts a slot in a page.
 fn insert_in_page(
     pages: &mut Vec<Vec<Fronted>>,
     place: Place,
     number: u32,
 ) -> Result<(), AllocError>
-    requires page { place.page < length pages.old.items }
-    requires at { place.at ≤ length (slice_index_or (rows pages.old.items) place.page []) }
-    ensures ok { OnOk result (rows pages.new.items ≡ set (rows pages.old.items) place.page (insert (slice_index_or (rows pages.old.items) place.page []) place.at (record { number = number; front = place.front }))) }
+    requires { IsPlaceIn pages.old.items place }
+    ensures ok { OnOk result (rows pages.new.items
+        ≡ set (rows pages.old.items) place.page
+        (insert (row_at pages.old.items place.page) place.at (slot_for number place))) }
     ensures err { OnErr result (rows pages.new.items ≡ rows pages.old.items) }
 {
     let slot = Fronted {
@@ -129,7 +129,7 @@ fn insert_in_page(
     Ok(())
 }
 
-// Splits a page in two, of which the first has that length. Without memory for that it stays as it is.
+/// Splits a page in two, of which the first has that length. Without memory for that it stays as it is.
 fn split(
     alloc: Global,
     heads: &mut Vec<Fronted>,
@@ -139,9 +139,10 @@ fn split(
 ) -> Result<(), AllocError>
     requires between { length heads.old.items ≡ length pages.old.items - 1 }
     requires page { page < length pages.old.items }
-    requires half { half < length (slice_index_or (rows pages.old.items) page []) }
+    requires half { half < length (row_at pages.old.items page) }
     ensures between { length heads.new.items ≡ length pages.new.items - 1 }
-    ensures same { in_pages (rows pages.new.items) heads.new.items ≡ in_pages (rows pages.old.items) heads.old.items }
+    ensures same { in_pages (rows pages.new.items) heads.new.items
+        ≡ in_pages (rows pages.old.items) heads.old.items }
     ensures more { OnOk result (length pages.new.items ≡ length pages.old.items + 1) }
 {
     let (head, rest) = second_half(alloc, &pages[page], half)?;
@@ -150,7 +151,7 @@ fn split(
     Ok(())
 }
 
-// The head of a page's second half, and the rest of it.
+/// The head of a page's second half, and the rest of it.
 fn second_half(
     alloc: Global,
     row: &[Fronted],
@@ -163,7 +164,7 @@ fn second_half(
     Ok((row[half], rest))
 }
 
-// Inserts a page behind another, and its head.
+/// Inserts a page behind another, and its head.
 fn insert_page(
     heads: &mut Vec<Fronted>,
     pages: &mut Vec<Vec<Fronted>>,
@@ -175,7 +176,8 @@ fn insert_page(
     requires page { page < length pages.old.items }
     ensures heads { OnOk result (heads.new.items ≡ insert heads.old.items page head) }
     ensures pages { OnOk result (pages.new.items ≡ insert pages.old.items (page + 1) rest) }
-    ensures err { OnErr result ((heads.new.items ≡ heads.old.items) × (pages.new.items ≡ pages.old.items)) }
+    ensures err { OnErr result
+        ((heads.new.items ≡ heads.old.items) × (pages.new.items ≡ pages.old.items)) }
 {
     heads.reserve(1)?;
     pages.insert(page + 1, rest)?;
@@ -183,10 +185,11 @@ fn insert_page(
     Ok(())
 }
 
-// Leaves the first half of a page.
+/// Leaves the first half of a page.
 fn shorten(pages: &mut Vec<Vec<Fronted>>, page: usize, half: usize)
     requires { page < length pages.old.items }
-    ensures { rows pages.new.items ≡ set (rows pages.old.items) page (take half (slice_index_or (rows pages.old.items) page [])) }
+    ensures { rows pages.new.items
+        ≡ set (rows pages.old.items) page (take half (row_at pages.old.items page)) }
 {
     pages[page].truncate(half);
 }

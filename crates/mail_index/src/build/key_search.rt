@@ -4,7 +4,7 @@ ghost use Rattle.std.specs.Ordering.{is_eq};
 ghost use Rattle.std.specs.declared.cmp.Ordering.TheVariants.{Less, Equal, Greater};
 ghost use Rattle.std.specs.List.{AllByRecursion};
 ghost use Rattle.mail_index.specs.Inside.KeyFronts.{IsFrontOf, IsFronted};
-ghost use Rattle.mail_index.specs.Inside.KeyMaps.{placed, numbers_of_slots, AreBounds, IsGap};
+ghost use Rattle.mail_index.specs.Inside.KeyMaps.{slot_keys, IsEntryOf, AreBounds, IsGap};
 ghost use Rattle.mail_index.specs.KeysRead.{key_at};
 ghost use Rattle.mail_index.specs.LookUps.{lies_to};
 
@@ -18,7 +18,7 @@ const PROBES: usize = 16;
 
 /// The number of the entry of this key, of this front, among those of these slots, which stand in order; where none of
 /// them is it, the place between them where it would stand. A binary search, behind a first look at some slots.
-pub fn search(
+pub(crate) fn search(
     slots: &[Fronted],
     entries: &[KeyEntry],
     front: u64,
@@ -27,8 +27,8 @@ pub fn search(
 ) -> Result<u32, usize>
     requires fronted { AllByRecursion (IsFronted entries.now) slots.now }
     requires front { IsFrontOf kind text.now front }
-    ensures found { IfOk result (λ number. (number < length entries.now) × (lies_to kind text.now (key_at entries.now number) ≡ Equal)) }
-    ensures place { IfErr result (IsGap kind text.now (placed entries.now (numbers_of_slots slots.now))) }
+    ensures found { IfOk result (IsEntryOf kind text.now entries.now) }
+    ensures place { IfErr result (IsGap kind text.now (slot_keys entries.now slots.now)) }
 {
     let (mut low, mut high) = bounds(slots, entries, front, kind, text);
     while low < high {
@@ -43,7 +43,7 @@ pub fn search(
     Err(low)
 }
 
-// Two places between which the key stands, if it is one of them: those that were guessed, where they are right.
+/// Two places between which the key stands, if it is one of them: those that were guessed, where they are right.
 fn bounds(
     slots: &[Fronted],
     entries: &[KeyEntry],
@@ -53,7 +53,7 @@ fn bounds(
 ) -> (usize, usize)
     requires fronted { AllByRecursion (IsFronted entries.now) slots.now }
     requires front { IsFrontOf kind text.now front }
-    ensures { AreBounds kind text.now (placed entries.now (numbers_of_slots slots.now)) result.0 result.1 }
+    ensures { AreBounds kind text.now (slot_keys entries.now slots.now) result.0 result.1 }
 {
     let (smaller, larger) = guessed_bounds(slots, front);
     let low = bound_behind(slots, entries, front, kind, text, smaller);
@@ -65,7 +65,7 @@ fn bounds(
     }
 }
 
-// The place behind a slot, if its key comes before this one, and else 0.
+/// The place behind a slot, if its key comes before this one, and else 0.
 fn bound_behind(
     slots: &[Fronted],
     entries: &[KeyEntry],
@@ -76,7 +76,8 @@ fn bound_behind(
 ) -> usize
     requires fronted { AllByRecursion (IsFronted entries.now) slots.now }
     requires front { IsFrontOf kind text.now front }
-    ensures below { (j : ℕ) → suc j ≡ result → lies_to kind text.now (key_at (placed entries.now (numbers_of_slots slots.now)) j) ≡ Less }
+    ensures below { (j : ℕ) → suc j ≡ result
+        → lies_to kind text.now (key_at (slot_keys entries.now slots.now) j) ≡ Less }
 {
     if let Some(slot) = slots.get(smaller) {
         if let Ordering::Less = compare(*slot, entries, front, kind, text) {
@@ -86,7 +87,7 @@ fn bound_behind(
     0
 }
 
-// The place of a slot, if its key comes behind this one, and else the place behind all slots.
+/// The place of a slot, if its key comes behind this one, and else the place behind all slots.
 fn bound_at(
     slots: &[Fronted],
     entries: &[KeyEntry],
@@ -98,7 +99,8 @@ fn bound_at(
     requires fronted { AllByRecursion (IsFronted entries.now) slots.now }
     requires front { IsFrontOf kind text.now front }
     ensures within { result ≤ length slots.now }
-    ensures above { result < length slots.now → lies_to kind text.now (key_at (placed entries.now (numbers_of_slots slots.now)) result) ≡ Greater }
+    ensures above { result < length slots.now
+        → lies_to kind text.now (key_at (slot_keys entries.now slots.now) result) ≡ Greater }
 {
     if let Some(slot) = slots.get(larger) {
         if let Ordering::Greater = compare(*slot, entries, front, kind, text) {
@@ -108,8 +110,8 @@ fn bound_at(
     slots.len()
 }
 
-// The last slot that was looked at whose front is smaller, and the first whose front is larger. Looks at slots that don't hang
-// on one another, so that the waits for them are one. A guess: nothing hangs on it but time.
+/// The last slot that was looked at whose front is smaller, and the first whose front is larger. Looks at slots that don't hang
+/// on one another, so that the waits for them are one. A guess: nothing hangs on it but time.
 fn guessed_bounds(slots: &[Fronted], front: u64) -> (usize, usize) {
     let stride = slots.len() / PROBES + 1;
     let mut smaller: usize = 0;
@@ -126,7 +128,7 @@ fn guessed_bounds(slots: &[Fronted], front: u64) -> (usize, usize) {
     )
 }
 
-// How the key of a slot lies to this one, of this front. Its entry is read only where the fronts are equal.
+/// How the key of a slot lies to this one, of this front. Its entry is read only where the fronts are equal.
 fn compare(slot: Fronted, entries: &[KeyEntry], front: u64, kind: Kind, text: &[u8]) -> Ordering
     requires slot { IsFronted entries.now slot }
     requires front { IsFrontOf kind text.now front }
@@ -139,9 +141,11 @@ fn compare(slot: Fronted, entries: &[KeyEntry], front: u64, kind: Kind, text: &[
 }
 
 /// The number of an entry, if it is this key's.
-pub fn matching(number: u32, entries: &[KeyEntry], kind: Kind, text: &[u8]) -> Option<u32>
-    ensures found { IfSome result (λ found. (found ≡ number) × (found < length entries.now) × (lies_to kind text.now (key_at entries.now found) ≡ Equal)) }
-    ensures other { IfNone result (number < length entries.now → is_eq (lies_to kind text.now (key_at entries.now number)) ≡ false) }
+pub(crate) fn matching(number: u32, entries: &[KeyEntry], kind: Kind, text: &[u8]) -> Option<u32>
+    ensures found { IfSome result (λ found.
+        (found ≡ number) × IsEntryOf kind text.now entries.now found) }
+    ensures other { IfNone result (number < length entries.now
+        → is_eq (lies_to kind text.now (key_at entries.now number)) ≡ false) }
 {
     let entry = entries.get(number as usize)?;
     if entry.is_key(kind, text) {

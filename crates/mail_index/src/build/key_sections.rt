@@ -1,8 +1,8 @@
 //! The sections of an index file that tell of its keys: directory, texts and postings.
-ghost use Rattle.std.specs.Prelude.{◌≡◌, ◌-◌, ◌^◌, ◌<◌, length, map, OnOk, OnErr};
+ghost use Rattle.std.specs.Prelude.{◌≡◌, ◌-◌, ◌^◌, ◌<◌, length, map};
 ghost use Rattle.contract_words.specs.Devices.{Counts};
 ghost use Rattle.mail_index.specs.Files.{entry_of, entry_bytes, directory_from, texts_of, postings_of};
-ghost use Rattle.mail_index.specs.Inside.Signing.{BreaksOff, Signs};
+ghost use Rattle.mail_index.specs.Inside.Signing.{Writes};
 
 use crate::build::file_out::{Signer, send_parts, send_signed};
 use crate::build::key_entry::KeyEntry;
@@ -10,7 +10,7 @@ use crate::build::keys_in_order::KeysInOrder;
 use mbox_cutter::{DeviceFault, Out};
 
 /// How many bytes the keys' texts have.
-pub fn texts_length(keys: KeysInOrder<'_>) -> u64
+pub(crate) fn texts_length(keys: KeysInOrder<'_>) -> u64
     requires { length (texts_of (map entry_of keys)) < 2 ^ 64 }
     ensures { result ≡ length (texts_of (map entry_of keys.entry)) }
 {
@@ -22,7 +22,7 @@ pub fn texts_length(keys: KeysInOrder<'_>) -> u64
 }
 
 /// How many bytes the keys' postings have.
-pub fn postings_length(keys: KeysInOrder<'_>) -> u64
+pub(crate) fn postings_length(keys: KeysInOrder<'_>) -> u64
     requires { length (postings_of (map entry_of keys)) < 2 ^ 64 }
     ensures { result ≡ length (postings_of (map entry_of keys.entry)) }
 {
@@ -34,7 +34,7 @@ pub fn postings_length(keys: KeysInOrder<'_>) -> u64
 }
 
 /// Writes the directory: an entry for each key.
-pub fn send_directory<O: Out>(
+pub(crate) fn send_directory<O: Out>(
     out: &mut O,
     signer: &mut Signer,
     keys: KeysInOrder<'_>,
@@ -42,8 +42,8 @@ pub fn send_directory<O: Out>(
     requires count { O.failures out.old < 2 ^ 64 - 1 }
     requires texts { length (texts_of (map entry_of keys)) < 2 ^ 64 }
     requires postings { length (postings_of (map entry_of keys)) < 2 ^ 64 }
-    ensures ok { OnOk result (Signs (O.taken out.old) (O.taken out.new) signer.old signer.new (directory_from 0 0 (map entry_of keys.entry))) }
-    ensures err { OnErr result (BreaksOff (O.taken out.old) (O.taken out.new) signer.old (directory_from 0 0 (map entry_of keys.entry))) }
+    ensures written { Writes result (O.taken out.old) (O.taken out.new) signer.old signer.new
+        (directory_from 0 0 (map entry_of keys.entry)) }
     ensures count { Counts result (O.failures out.old) (O.failures out.new) }
 {
     let mut text_place = 0;
@@ -56,7 +56,7 @@ pub fn send_directory<O: Out>(
     Ok(())
 }
 
-// The entry of a key: its kind, the length of its text, and the places of its text and of its postings.
+/// The entry of a key: its kind, the length of its text, and the places of its text and of its postings.
 fn send_entry<O: Out>(
     out: &mut O,
     signer: &mut Signer,
@@ -65,8 +65,8 @@ fn send_entry<O: Out>(
     place: u64,
 ) -> Result<(), DeviceFault>
     requires { O.failures out.old < 2 ^ 64 - 1 }
-    ensures ok { OnOk result (Signs (O.taken out.old) (O.taken out.new) signer.old signer.new (entry_bytes text_place place (entry_of key.now))) }
-    ensures err { OnErr result (BreaksOff (O.taken out.old) (O.taken out.new) signer.old (entry_bytes text_place place (entry_of key.now))) }
+    ensures written { Writes result (O.taken out.old) (O.taken out.new) signer.old signer.new
+        (entry_bytes text_place place (entry_of key.now)) }
     ensures count { Counts result (O.failures out.old) (O.failures out.new) }
 {
     let kind = [key.kind_number(), 0, 0, 0];
@@ -86,14 +86,14 @@ fn send_entry<O: Out>(
 }
 
 /// Writes the keys' texts.
-pub fn send_texts<O: Out>(
+pub(crate) fn send_texts<O: Out>(
     out: &mut O,
     signer: &mut Signer,
     keys: KeysInOrder<'_>,
 ) -> Result<(), DeviceFault>
     requires { O.failures out.old < 2 ^ 64 - 1 }
-    ensures ok { OnOk result (Signs (O.taken out.old) (O.taken out.new) signer.old signer.new (texts_of (map entry_of keys.entry))) }
-    ensures err { OnErr result (BreaksOff (O.taken out.old) (O.taken out.new) signer.old (texts_of (map entry_of keys.entry))) }
+    ensures written { Writes result (O.taken out.old) (O.taken out.new) signer.old signer.new
+        (texts_of (map entry_of keys.entry)) }
     ensures count { Counts result (O.failures out.old) (O.failures out.new) }
 {
     for key in keys {
@@ -103,14 +103,14 @@ pub fn send_texts<O: Out>(
 }
 
 /// Writes the keys' postings.
-pub fn send_postings<O: Out>(
+pub(crate) fn send_postings<O: Out>(
     out: &mut O,
     signer: &mut Signer,
     keys: KeysInOrder<'_>,
 ) -> Result<(), DeviceFault>
     requires { O.failures out.old < 2 ^ 64 - 1 }
-    ensures ok { OnOk result (Signs (O.taken out.old) (O.taken out.new) signer.old signer.new (postings_of (map entry_of keys.entry))) }
-    ensures err { OnErr result (BreaksOff (O.taken out.old) (O.taken out.new) signer.old (postings_of (map entry_of keys.entry))) }
+    ensures written { Writes result (O.taken out.old) (O.taken out.new) signer.old signer.new
+        (postings_of (map entry_of keys.entry)) }
     ensures count { Counts result (O.failures out.old) (O.failures out.new) }
 {
     for key in keys {

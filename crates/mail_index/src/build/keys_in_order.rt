@@ -2,7 +2,7 @@
 ghost use Rattle.std.specs.Prelude.{◌≡◌, ◌-◌, ◌<◌, [], ◌∷◌, length, IfSome, MatchOption};
 ghost use Rattle.std.specs.Iterator.{YieldsFirstRef, item_count};
 ghost use Rattle.std.specs.List.{AllByRecursion};
-ghost use Rattle.mail_index.specs.Inside.KeyMaps.{placed, rows, in_pages, left_in_pages, numbers_of_slots};
+ghost use Rattle.mail_index.specs.Inside.KeyMaps.{rows, in_pages, slot_keys, slots_left, numbers_of_slots};
 
 use crate::build::key_entry::KeyEntry;
 use crate::build::key_front::Fronted;
@@ -22,7 +22,7 @@ struct Left<'a> {
 
 /// The entries still to come, in the order of their keys. It takes no memory.
 #[derive(Drop)]
-pub struct KeysInOrder<'a> {
+pub(crate) struct KeysInOrder<'a> {
     entries: &'a [KeyEntry],
     left: Left<'a>,
     // How many of the next entries were fetched. Nothing hangs on it but time.
@@ -33,21 +33,27 @@ impl<'a> Model for KeysInOrder<'a> {
     ghost use Rattle.std.specs.Prelude.{◌≡◌, ◌<◌, List, length};
     ghost use Rattle.std.specs.List.{AllByRecursion};
     ghost use Rattle.mail_index.specs.Tables.{Key};
-    ghost use Rattle.mail_index.specs.Inside.KeyMaps.{placed, rows, left_in_pages, numbers_of_slots};
+    ghost use Rattle.mail_index.specs.Inside.KeyMaps.{slot_keys, slots_left, numbers_of_slots};
 
     ghost Value = { List Key };
 
-    ghost view = { λ s. placed s.entries.now (numbers_of_slots (left_in_pages s.left.page.now s.left.heads.now (rows s.left.pages.now))) };
+    ghost view = { λ s. slot_keys s.entries.now (slots_left s.left) };
 
-    ghost invariant = { λ s. (length s.left.heads.now ≡ length s.left.pages.now) × AllByRecursion (λ i. i < length s.entries.now) (numbers_of_slots (left_in_pages s.left.page.now s.left.heads.now (rows s.left.pages.now))) };
+    ghost invariant = { λ s. (length s.left.heads.now ≡ length s.left.pages.now)
+        × AllByRecursion (λ i. i < length s.entries.now) (numbers_of_slots (slots_left s.left)) };
 }
 
 impl<'a> KeysInOrder<'a> {
     /// All of them, of pages with heads between them.
-    pub fn of(entries: &'a [KeyEntry], heads: &'a [Fronted], pages: &'a [Vec<Fronted>]) -> Self
+    pub(crate) fn of(
+        entries: &'a [KeyEntry],
+        heads: &'a [Fronted],
+        pages: &'a [Vec<Fronted>],
+    ) -> Self
         requires between { length heads.now ≡ length pages.now - 1 }
-        requires within { AllByRecursion (λ i. i < length entries.now) (numbers_of_slots (in_pages (rows pages.now) heads.now)) }
-        ensures { result ≡ placed entries.now (numbers_of_slots (in_pages (rows pages.now) heads.now)) }
+        requires within { AllByRecursion (λ i. i < length entries.now)
+            (numbers_of_slots (in_pages (rows pages.now) heads.now)) }
+        ensures { result ≡ slot_keys entries.now (in_pages (rows pages.now) heads.now) }
     {
         let left = match pages {
             [] => Left {
@@ -87,8 +93,8 @@ impl<'a> Iterator for KeysInOrder<'a> {
     }
 }
 
-// Fetches the entries of the next slots, and answers how many they are. No text is empty, so that each is counted; to learn that of
-// one needs nothing of another, so that the waits for them are one.
+/// Fetches the entries of the next slots, and answers how many they are. No text is empty, so that each is counted; to learn that of
+/// one needs nothing of another, so that the waits for them are one.
 fn fetch(entries: &[KeyEntry], page: &[Fronted]) -> usize {
     let mut count: usize = 0;
     for slot in page.iter().take(GROUP) {
@@ -99,10 +105,11 @@ fn fetch(entries: &[KeyEntry], page: &[Fronted]) -> usize {
     count
 }
 
-// The next slot, and those left behind it.
+/// The next slot, and those left behind it.
 fn next_slot(left: Left<'_>) -> Option<(Fronted, Left<'_>)>
     requires { length left.heads.now ≡ length left.pages.now }
-    ensures slots { MatchOption result (left_in_pages left.entry.page.now left.entry.heads.now (rows left.entry.pages.now) ≡ []) (λ next. left_in_pages left.entry.page.now left.entry.heads.now (rows left.entry.pages.now) ≡ next.0 ∷ left_in_pages next.1.page.now next.1.heads.now (rows next.1.pages.now)) }
+    ensures slots { MatchOption result (slots_left left.entry ≡ [])
+        (λ next. slots_left left.entry ≡ next.0 ∷ slots_left next.1) }
     ensures between { IfSome result (λ next. length next.1.heads.now ≡ length next.1.pages.now) }
 {
     if let Some((slot, page)) = left.page.split_first() {

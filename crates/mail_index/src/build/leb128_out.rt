@@ -5,7 +5,7 @@ ghost use Rattle.mail_index.specs.Postings.{leb128};
 use crate::build::short_bytes::ShortBytes;
 
 /// The shortest unsigned LEB128 of a number, seven bits a byte from the lowest on.
-pub fn leb128_of(value: u32) -> ShortBytes
+pub(crate) fn leb128_of(value: u32) -> ShortBytes
     ensures bytes { result ≡ leb128 5 value }
     ensures short { length result ≤ 5 }
 {
@@ -38,7 +38,7 @@ pub fn leb128_of(value: u32) -> ShortBytes
     ])
 }
 
-// The lowest seven bits, marked as followed by more.
+/// The lowest seven bits, marked as followed by more.
 fn followed(value: u32) -> u8
     ensures { result ≡ 128 + value % 128 }
 {

@@ -9,7 +9,7 @@ pub(crate) const ROOM: usize = 4096;
 
 /// At most 4,096 bytes.
 #[derive(Drop)]
-pub struct Pending {
+pub(crate) struct Pending {
     bytes: [u8; ROOM],
     length: usize,
 }
@@ -27,7 +27,7 @@ impl Model for Pending {
 
 impl Pending {
     /// No byte.
-    pub fn new() -> Self
+    pub(crate) fn new() -> Self
         ensures { result ≡ [] }
     {
         Pending {
@@ -37,21 +37,21 @@ impl Pending {
     }
 
     /// The bytes.
-    pub fn as_slice(&self) -> &[u8]
+    pub(crate) fn as_slice(&self) -> &[u8]
         ensures { result.now ≡ self.now }
     {
         self.bytes.split_at(self.length).0
     }
 
     /// How many more there can be.
-    pub fn room(&self) -> usize
+    pub(crate) fn room(&self) -> usize
         ensures { length self.now + result ≡ ROOM }
     {
         ROOM - self.length
     }
 
     /// Appends some bytes.
-    pub fn append(&mut self, more: &[u8])
+    pub(crate) fn append(&mut self, more: &[u8])
         requires { length self.old + length more.now ≤ ROOM }
         ensures { self.new ≡ self.old ++ more.now }
     {
@@ -61,7 +61,7 @@ impl Pending {
     }
 
     /// Leaves no byte.
-    pub fn clear(&mut self)
+    pub(crate) fn clear(&mut self)
         ensures { self.new ≡ [] }
     {
         self.length = 0;

@@ -1,11 +1,11 @@
-//! The sections of an index file whose entries stand in a list: archives and records.
+//! The sections of an index file and their order, and the writers of counts, archives and records.
 ghost use Rattle.std.specs.List.{concat};
-ghost use Rattle.std.specs.Prelude.{length, ◌≡◌, ◌-◌, ◌^◌, ◌<◌, ◌≤◌, OnOk, OnErr, map, flat_map};
+ghost use Rattle.std.specs.Prelude.{length, ◌≡◌, ◌-◌, ◌^◌, ◌<◌, ◌≤◌, map, flat_map};
 ghost use Rattle.contract_words.specs.Devices.{Counts as CountsFailures};
 ghost use Rattle.mail_index.specs.Files.{archive_bytes, record_bytes, flags_byte, bit, date_number};
 ghost use Rattle.mail_index.specs.Inside.Drafts.{kept_archive};
 ghost use Rattle.mail_index.specs.Inside.SectionCounts.{counted};
-ghost use Rattle.mail_index.specs.Inside.Signing.{BreaksOff, Signs};
+ghost use Rattle.mail_index.specs.Inside.Signing.{Writes};
 
 use crate::build::draft::NamedArchive;
 use crate::build::file_out::{Signer, send_parts};
@@ -14,9 +14,31 @@ use crate::record::Record;
 use crate::version::Version;
 use mbox_cutter::{DeviceFault, Out};
 
+/// A part of the file that is written at once. The file's digest stands behind all parts, and is none of them. (`Section` names
+/// what a reader blames.)
+#[derive(Clone, Copy)]
+pub(crate) enum FileSection {
+    Counts,
+    Archives,
+    Records,
+    Directory,
+    Texts,
+    Postings,
+}
+
+/// The order of the file. A loop writes them: a proof of six calls with `?` would tell the chain seven times.
+pub(crate) const FILE_SECTIONS: [FileSection; 6] = [
+    FileSection::Counts,
+    FileSection::Archives,
+    FileSection::Records,
+    FileSection::Directory,
+    FileSection::Texts,
+    FileSection::Postings,
+];
+
 /// The counts that begin an index file: of archives, messages and keys, and of the bytes of three sections.
 #[derive(Clone, Copy)]
-pub struct Counts {
+pub(crate) struct Counts {
     pub archives: u32,
     pub messages: u32,
     pub keys: u32,
@@ -26,14 +48,14 @@ pub struct Counts {
 }
 
 /// Writes the counts, behind the magic bytes and the version.
-pub fn send_counts<O: Out>(
+pub(crate) fn send_counts<O: Out>(
     out: &mut O,
     signer: &mut Signer,
     counts: &Counts,
 ) -> Result<(), DeviceFault>
     requires { O.failures out.old < 2 ^ 64 - 1 }
-    ensures ok { OnOk result (Signs (O.taken out.old) (O.taken out.new) signer.old signer.new (concat (counted counts.now))) }
-    ensures err { OnErr result (BreaksOff (O.taken out.old) (O.taken out.new) signer.old (concat (counted counts.now))) }
+    ensures written { Writes result (O.taken out.old) (O.taken out.new) signer.old signer.new
+        (concat (counted counts.now)) }
     ensures count { CountsFailures result (O.failures out.old) (O.failures out.new) }
 {
     let version = Version::newest().number().to_be_bytes();
@@ -60,7 +82,7 @@ pub fn send_counts<O: Out>(
 }
 
 /// How many bytes the archives' entries have.
-pub fn archives_length(archives: &[NamedArchive]) -> u64
+pub(crate) fn archives_length(archives: &[NamedArchive]) -> u64
     requires { length (flat_map archive_bytes (map kept_archive archives.now)) < 2 ^ 64 }
     ensures { result ≡ length (flat_map archive_bytes (map kept_archive archives.now)) }
 {
@@ -73,14 +95,14 @@ pub fn archives_length(archives: &[NamedArchive]) -> u64
 }
 
 /// Writes the archives' entries.
-pub fn send_archives<O: Out>(
+pub(crate) fn send_archives<O: Out>(
     out: &mut O,
     signer: &mut Signer,
     archives: &[NamedArchive],
 ) -> Result<(), DeviceFault>
     requires { O.failures out.old < 2 ^ 64 - 1 }
-    ensures ok { OnOk result (Signs (O.taken out.old) (O.taken out.new) signer.old signer.new (flat_map archive_bytes (map kept_archive archives.now))) }
-    ensures err { OnErr result (BreaksOff (O.taken out.old) (O.taken out.new) signer.old (flat_map archive_bytes (map kept_archive archives.now))) }
+    ensures written { Writes result (O.taken out.old) (O.taken out.new) signer.old signer.new
+        (flat_map archive_bytes (map kept_archive archives.now)) }
     ensures count { CountsFailures result (O.failures out.old) (O.failures out.new) }
 {
     for archive in archives {
@@ -89,15 +111,15 @@ pub fn send_archives<O: Out>(
     Ok(())
 }
 
-// Its length, the length of its path before the path, and its digest.
+/// Its length, the length of its path before the path, and its digest.
 fn send_archive<O: Out>(
     out: &mut O,
     signer: &mut Signer,
     archive: &NamedArchive,
 ) -> Result<(), DeviceFault>
     requires { O.failures out.old < 2 ^ 64 - 1 }
-    ensures ok { OnOk result (Signs (O.taken out.old) (O.taken out.new) signer.old signer.new (archive_bytes (kept_archive archive.now))) }
-    ensures err { OnErr result (BreaksOff (O.taken out.old) (O.taken out.new) signer.old (archive_bytes (kept_archive archive.now))) }
+    ensures written { Writes result (O.taken out.old) (O.taken out.new) signer.old signer.new
+        (archive_bytes (kept_archive archive.now)) }
     ensures count { CountsFailures result (O.failures out.old) (O.failures out.new) }
 {
     let path = archive.path.as_bytes();
@@ -116,14 +138,14 @@ fn send_archive<O: Out>(
 }
 
 /// Writes the messages' records.
-pub fn send_records<O: Out>(
+pub(crate) fn send_records<O: Out>(
     out: &mut O,
     signer: &mut Signer,
     messages: &[Record],
 ) -> Result<(), DeviceFault>
     requires { O.failures out.old < 2 ^ 64 - 1 }
-    ensures ok { OnOk result (Signs (O.taken out.old) (O.taken out.new) signer.old signer.new (flat_map record_bytes messages.now)) }
-    ensures err { OnErr result (BreaksOff (O.taken out.old) (O.taken out.new) signer.old (flat_map record_bytes messages.now)) }
+    ensures written { Writes result (O.taken out.old) (O.taken out.new) signer.old signer.new
+        (flat_map record_bytes messages.now) }
     ensures count { CountsFailures result (O.failures out.old) (O.failures out.new) }
 {
     for message in messages {
@@ -138,8 +160,8 @@ fn send_record<O: Out>(
     message: &Record,
 ) -> Result<(), DeviceFault>
     requires { O.failures out.old < 2 ^ 64 - 1 }
-    ensures ok { OnOk result (Signs (O.taken out.old) (O.taken out.new) signer.old signer.new (record_bytes message.now)) }
-    ensures err { OnErr result (BreaksOff (O.taken out.old) (O.taken out.new) signer.old (record_bytes message.now)) }
+    ensures written { Writes result (O.taken out.old) (O.taken out.new) signer.old signer.new
+        (record_bytes message.now) }
     ensures count { CountsFailures result (O.failures out.old) (O.failures out.new) }
 {
     let archive = message.archive.to_be_bytes();
@@ -162,7 +184,7 @@ fn send_record<O: Out>(
     )
 }
 
-// What is known of the message, a bit each.
+/// What is known of the message, a bit each.
 fn flags_byte(message: &Record) -> u8
     ensures { result ≡ flags_byte message.now }
 {
@@ -179,7 +201,7 @@ fn bit(value: u8, set: bool) -> u8
     if set { value } else { 0 }
 }
 
-// In two's complement, and 0 without a date.
+/// In two's complement, and 0 without a date.
 fn date_number(date: Option<i64>) -> u64
     ensures { result ≡ date_number date }
 {

@@ -5,7 +5,7 @@ use std::marker::Model;
 
 /// At most fifteen bytes.
 #[derive(Drop)]
-pub struct ShortBytes {
+pub(crate) struct ShortBytes {
     bytes: [u8; 15],
     length: u8,
 }
@@ -22,10 +22,10 @@ impl Model for ShortBytes {
 
 impl ShortBytes {
     /// How many there can be.
-    pub const MOST: usize = 15;
+    pub(crate) const MOST: usize = 15;
 
     /// No byte.
-    pub fn new() -> Self
+    pub(crate) fn new() -> Self
         ensures { result ≡ [] }
     {
         ShortBytes {
@@ -35,7 +35,7 @@ impl ShortBytes {
     }
 
     /// These bytes.
-    pub fn of(bytes: &[u8]) -> Self
+    pub(crate) fn of(bytes: &[u8]) -> Self
         requires { length bytes.now ≤ 15 }
         ensures { result ≡ bytes.now }
     {
@@ -45,7 +45,7 @@ impl ShortBytes {
     }
 
     /// The bytes.
-    pub fn as_slice(&self) -> &[u8]
+    pub(crate) fn as_slice(&self) -> &[u8]
         ensures bytes { result.now ≡ self.now }
         ensures short { length result.now ≤ 15 }
     {
@@ -53,7 +53,7 @@ impl ShortBytes {
     }
 
     /// Appends some bytes.
-    pub fn append(&mut self, more: &[u8])
+    pub(crate) fn append(&mut self, more: &[u8])
         requires { length self.old + length more.now ≤ 15 }
         ensures { self.new ≡ self.old ++ more.now }
     {
@@ -63,7 +63,7 @@ impl ShortBytes {
     }
 
     /// Appends a byte.
-    pub fn push(&mut self, byte: u8)
+    pub(crate) fn push(&mut self, byte: u8)
         requires { length self.old < 15 }
         ensures { self.new ≡ self.old ++ byte ∷ [] }
     {
@@ -72,7 +72,7 @@ impl ShortBytes {
     }
 
     /// Leaves no byte.
-    pub fn clear(&mut self)
+    pub(crate) fn clear(&mut self)
         ensures { self.new ≡ [] }
     {
         self.length = 0;

@@ -28,9 +28,11 @@ pub struct Archive<'a> {
 
 /// The digest that the bytes begin with in a file of the version, and the bytes behind it; None where they begin with none.
 fn split_digest(bytes: &[u8], version: Version) -> Option<(Option<[u8; DIGEST]>, &[u8])>
-    ensures { MatchOption result (¬ IsDigest (version_number version) (read_digest (version_number version) bytes.now))
+    ensures { MatchOption result
+        (¬ IsDigest (version_number version) (read_digest (version_number version) bytes.now))
         (λ p. IsDigest (version_number version) (read_digest (version_number version) bytes.now)
-        × (p.0 ≡ read_digest (version_number version) bytes.now) × (p.1.now ≡ behind_digest (version_number version) bytes.now)) }
+        × (p.0 ≡ read_digest (version_number version) bytes.now)
+        × (p.1.now ≡ behind_digest (version_number version) bytes.now)) }
 {
     match version {
         Version::One => Some((None, bytes)),
@@ -45,8 +47,10 @@ fn split_digest(bytes: &[u8], version: Version) -> Option<(Option<[u8; DIGEST]>,
 
 /// The archive that the bytes begin with in a file of the version, and the bytes behind it; None where they begin with none.
 pub(crate) fn split_archive(bytes: &[u8], version: Version) -> Option<(Archive<'_>, &[u8])>
-    ensures { MatchOption result (¬ HasArchive (version_number version) bytes.now) (λ p. HasArchive (version_number version) bytes.now
-        × (archive_of p.0 ≡ read_archive (version_number version) bytes.now) × (p.1.now ≡ behind_archive (version_number version) bytes.now)) }
+    ensures { MatchOption result (¬ HasArchive (version_number version) bytes.now)
+        (λ p. HasArchive (version_number version) bytes.now
+        × (archive_of p.0 ≡ read_archive (version_number version) bytes.now)
+        × (p.1.now ≡ behind_archive (version_number version) bytes.now)) }
 {
     if bytes.len() < ARCHIVE_FRONT {
         return None;

@@ -45,7 +45,8 @@ impl<'a> ArchiveList<'a> {
 
     /// The next archive.
     pub fn next(&mut self) -> Option<Archive<'a>>
-        ensures { MatchOption result ((self.old ≡ []) × (self.new ≡ [])) (λ archive. self.old ≡ archive_of archive ∷ self.new) }
+        ensures { MatchOption result ((self.old ≡ []) × (self.new ≡ []))
+            (λ archive. self.old ≡ archive_of archive ∷ self.new) }
     {
         if self.count == 0 {
             return None;

@@ -1,9 +1,9 @@
 //! The directory of a file, against the texts and the postings that its entries name.
-ghost use Rattle.std.specs.Prelude.{◌≡◌, ◌↔◌, ◌+◌, ◌-◌, ◌*◌, ◌≤◌, ◌<◌, ℕ, [], length, take, drop, MatchOption, IsTrue};
+ghost use Rattle.std.specs.Prelude.{◌≡◌, ◌↔◌, ◌+◌, ◌-◌, ◌*◌, ◌≤◌, ◌<◌, [], length, MatchOption, IsTrue};
 ghost use Rattle.mail_index.specs.Versions.{version_number};
-ghost use Rattle.mail_index.specs.Fields.{byte_at, u32_at as u32_in, u64_at as u64_in};
 ghost use Rattle.mail_index.specs.OrderOfKeys.{key_cmp};
-ghost use Rattle.mail_index.specs.Directory.{is_entry as is_entry_of, end_before as end_before_of, text_at, IsEntryAt, AreEntries};
+ghost use Rattle.mail_index.specs.Directory.{is_entry as is_entry_of, end_before as end_before_of, AreEntries};
+ghost use Rattle.mail_index.specs.Inside.Walks.{MayStandAt, IsBehindEntry};
 
 use crate::fields::{u32_at, u64_at};
 use crate::places::{ENTRY, KIND_AT, POSTING_PLACE_AT, TEXT_LENGTH_AT, TEXT_PLACE_AT};
@@ -67,10 +67,10 @@ fn behind_entry<'a>(
     requires long { 24 ≤ length entries.now }
     requires whole { 24 < length entries.now → 48 ≤ length entries.now }
     requires bound { place.text_place ≤ length texts.now }
-    ensures { MatchOption result (¬ IsEntryAt (version_number version) texts.entry.now total place.entry.text_place place.entry.place place.entry.number place.entry.text.now entries.now)
-        (λ p. IsEntryAt (version_number version) texts.entry.now total place.entry.text_place place.entry.place place.entry.number place.entry.text.now entries.now
-        × (p.text_place ≡ place.entry.text_place + u32_in entries.now 4) × (p.place ≡ end_before_of (drop 24 entries.now) total)
-        × (p.number ≡ byte_at entries.now 0) × (p.text.now ≡ text_at texts.entry.now entries.now)) }
+    ensures { MatchOption result
+        (¬ MayStandAt (version_number version) texts.entry.now total place.entry entries.now)
+        (λ p. MayStandAt (version_number version) texts.entry.now total place.entry entries.now
+        × IsBehindEntry texts.entry.now total place.entry entries.now p) }
 {
     let text_length = u32_at(entries, TEXT_LENGTH_AT);
     let end = end_before(entries.split_at(ENTRY).1, total);
@@ -119,7 +119,8 @@ pub(crate) fn are_entries(
     version: Version,
 ) -> bool
     requires { length directory.now ≡ 24 * count }
-    ensures { IsTrue result ↔ AreEntries (version_number version) texts.now total 0 0 0 [] count directory.now }
+    ensures { IsTrue result
+        ↔ AreEntries (version_number version) texts.now total 0 0 0 [] count directory.now }
 {
     let mut rest = directory;
     let mut place = EntryPlace {

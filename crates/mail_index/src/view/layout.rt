@@ -53,7 +53,9 @@ fn has_digest(bytes: &[u8]) -> bool
 
 /// The version of a file, or what is wrong with its bytes before any section is looked at.
 pub(crate) fn signed_version(bytes: &[u8]) -> Result<Version, IndexFault>
-    ensures { MatchResult result (λ version. IsSigned bytes.now × (version_number version ≡ version_told bytes.now)) (λ fault. IsFirstFault bytes.now fault) }
+    ensures { MatchResult result
+        (λ version. IsSigned bytes.now × (version_number version ≡ version_told bytes.now))
+        (λ fault. IsFirstFault bytes.now fault) }
 {
     if bytes.len() < LEAST_FILE {
         return Err(IndexFault::TooShort);
@@ -77,7 +79,9 @@ impl<'a> Layout<'a> {
     pub(crate) fn of(bytes: &'a [u8], version: Version) -> Option<Layout<'a>>
         requires long { 80 ≤ length bytes.now }
         requires version { version_number version ≡ version_told bytes.now }
-        ensures { MatchOption result (¬ (digest_start bytes.entry.now + 32 ≡ length bytes.entry.now)) (λ layout. IsLayout bytes.entry.now layout) }
+        ensures { MatchOption result
+            (¬ (digest_start bytes.entry.now + 32 ≡ length bytes.entry.now))
+            (λ layout. IsLayout bytes.entry.now layout) }
     {
         let message_count = u32_at(bytes, MESSAGE_COUNT_AT);
         let key_count = u32_at(bytes, KEY_COUNT_AT);

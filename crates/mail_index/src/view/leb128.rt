@@ -10,7 +10,8 @@ pub(crate) fn split_leb128(most: u32, bytes: &[u8]) -> Option<(u64, &[u8])>
     ensures small { IfSome result (λ p. p.0 < 34359738368) }
     ensures short { IfSome result (λ p. IsShort most p.0) }
     ensures some { IfSome result (λ p. bytes.now ≡ leb128 most p.0 ++ p.1.now) }
-    ensures only { (k : ℕ) (rest : List ℕ) → IsShort most k → bytes.now ≡ leb128 most k ++ rest → shown_split result ≡ Some (k, rest) }
+    ensures only { (k : ℕ) (rest : List ℕ) → IsShort most k
+        → bytes.now ≡ leb128 most k ++ rest → shown_split result ≡ Some (k, rest) }
 {
     if most == 0 {
         return Some((0, bytes));
@@ -36,7 +37,8 @@ pub(crate) fn split_difference(bytes: &[u8]) -> Option<(u64, &[u8])>
     ensures small { IfSome result (λ p. p.0 < 34359738368) }
     ensures short { IfSome result (λ p. IsShort 5 p.0) }
     ensures some { IfSome result (λ p. bytes.now ≡ leb128 5 p.0 ++ p.1.now) }
-    ensures only { (k : ℕ) (rest : List ℕ) → IsShort 5 k → bytes.now ≡ leb128 5 k ++ rest → shown_split result ≡ Some (k, rest) }
+    ensures only { (k : ℕ) (rest : List ℕ) → IsShort 5 k
+        → bytes.now ≡ leb128 5 k ++ rest → shown_split result ≡ Some (k, rest) }
 {
     let (first, tail) = bytes.split_first()?;
     if *first < 128 {

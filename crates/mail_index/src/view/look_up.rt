@@ -12,8 +12,10 @@ use std::cmp::Ordering;
 /// Where the key stands in the directory, if it does: a binary search.
 fn position(keys: &mut ComparedKeys<'_>, kind: Kind, text: &[u8]) -> Option<u32>
     ensures found { MatchOption result (numbers_at kind text.now keys.old.directory ≡ [])
-        (λ number. (number < length keys.old.directory) × (numbers_at kind text.now keys.old.directory ≡ (key_at keys.old.directory number).numbers)) }
-    ensures exact { keys.new.steps ≡ add_steps keys.old.steps (comparisons kind text.now keys.old.directory) }
+        (λ number. (number < length keys.old.directory) × (numbers_at kind text.now
+        keys.old.directory ≡ (key_at keys.old.directory number).numbers)) }
+    ensures exact { keys.new.steps
+        ≡ add_steps keys.old.steps (comparisons kind text.now keys.old.directory) }
     ensures steps { TakesDigits (length keys.old.directory) keys.old.steps keys.new.steps }
     ensures keys { keys.new.directory ≡ keys.old.directory }
 {
@@ -33,7 +35,8 @@ fn position(keys: &mut ComparedKeys<'_>, kind: Kind, text: &[u8]) -> Option<u32>
 /// The numbers of the messages that have the key; none where the directory hasn't it.
 pub(crate) fn look_up<'a>(keys: &mut ComparedKeys<'a>, kind: Kind, text: &[u8]) -> Postings<'a>
     ensures numbers { result ≡ numbers_at kind text.now keys.old.directory }
-    ensures exact { keys.new.steps ≡ add_steps keys.old.steps (comparisons kind text.now keys.old.directory) }
+    ensures exact { keys.new.steps
+        ≡ add_steps keys.old.steps (comparisons kind text.now keys.old.directory) }
     ensures steps { TakesDigits (length keys.old.directory) keys.old.steps keys.new.steps }
 {
     match position(keys, kind, text) {

@@ -26,7 +26,8 @@ impl<'a> Model for Postings<'a> {
 
     ghost view = { λ s. numbers_read s.low s.bytes.now };
 
-    ghost invariant = { λ s. ArePostings four_byte_limit s.low s.bytes.now (numbers_read s.low s.bytes.now) };
+    ghost invariant = { λ s.
+        ArePostings four_byte_limit s.low s.bytes.now (numbers_read s.low s.bytes.now) };
 }
 
 impl<'a> Postings<'a> {
@@ -45,7 +46,7 @@ impl<'a> Postings<'a> {
         Postings { bytes: &[], low: 0 }
     }
 
-    /// The next number, which is dropped: a step.
+    /// The next number, which is dropped: one step. Where no number is left nothing is dropped, and no step is counted.
     pub fn next(&mut self, steps: &mut Steps) -> Option<u32>
         ensures { MatchOption result ((self.old ≡ []) × (self.new ≡ []) × (steps.new ≡ steps.old))
             (λ n. (self.old ≡ n ∷ self.new) × (steps.new ≡ add_steps steps.old 1)) }
@@ -57,10 +58,12 @@ impl<'a> Postings<'a> {
         Some((self.low - 1) as u32)
     }
 
-    /// The least number to come that is at least n. It and all before it are dropped, or all where there is none: a step each.
+    /// The least number to come that is at least n. It is dropped with all before it; where there is none, all numbers are. Each
+    /// number that is dropped is one step.
     pub fn next_at_least(&mut self, n: u32, steps: &mut Steps) -> Option<u32>
         ensures number { MatchOption result (AllByRecursion (λ m. m < n) self.old × (self.new ≡ []))
-            (λ m. (n ≤ m) × ((dropped : List ℕ) × AllByRecursion (λ m. m < n) dropped × (self.old ≡ dropped ++ m ∷ self.new))) }
+            (λ m. (n ≤ m) × ((dropped : List ℕ) × AllByRecursion (λ m. m < n) dropped
+            × (self.old ≡ dropped ++ m ∷ self.new))) }
         ensures steps { steps.new ≡ add_steps steps.old (length self.old - length self.new) }
     {
         while let Some(number) = self.next(steps) {

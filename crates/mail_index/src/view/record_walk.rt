@@ -1,7 +1,8 @@
 //! The records of a section, against the archives that they are in.
-ghost use Rattle.std.specs.Prelude.{◌≡◌, ◌↔◌, ◌+◌, ◌-◌, ◌*◌, ◌≤◌, ℕ, length, MatchOption, IsTrue};
+ghost use Rattle.std.specs.Prelude.{◌≡◌, ◌↔◌, ◌-◌, ◌*◌, ◌≤◌, length, MatchOption, IsTrue};
 ghost use Rattle.mail_index.specs.Versions.{version_number};
-ghost use Rattle.mail_index.specs.Records.{SpellsArchives, IsNextRecord, AreRecords, is_behind as is_behind_of, behind_archives as behind_archives_of};
+ghost use Rattle.mail_index.specs.Records.{SpellsArchives, AreRecords, is_behind as is_behind_of};
+ghost use Rattle.mail_index.specs.Inside.Walks.{MayFollow, IsBehindMessage};
 
 use crate::places::RECORD;
 use crate::record::{Record, is_record};
@@ -32,12 +33,12 @@ fn behind_message<'a>(
     version: Version,
 ) -> Option<RecordPlace<'a>>
     requires bound { place.archive ≤ count }
-    requires spelled { SpellsArchives (version_number version) (count - place.archive) place.archives.now }
-    ensures next { MatchOption result (¬ IsNextRecord (version_number version) count place.entry.archive place.entry.offset place.entry.archives.now message)
-        (λ p. IsNextRecord (version_number version) count place.entry.archive place.entry.offset place.entry.archives.now message × (p.archive ≡ message.archive)
-        × (p.offset ≡ message.offset + message.length)
-        × (p.archives.now ≡ behind_archives_of (version_number version) (message.archive - place.entry.archive) place.entry.archives.now)
-        × SpellsArchives (version_number version) (count - p.archive) p.archives.now) }
+    requires spelled { SpellsArchives (version_number version)
+        (count - place.archive) place.archives.now }
+    ensures next { MatchOption result
+        (¬ MayFollow (version_number version) count place.entry message)
+        (λ p. MayFollow (version_number version) count place.entry message
+        × IsBehindMessage (version_number version) count place.entry message p) }
 {
     if !is_behind(place.archive, place.offset, message) {
         return None;
@@ -79,7 +80,8 @@ pub(crate) fn are_records(
 ) -> bool
     requires whole { length section.now ≡ 40 * messages }
     requires spelled { SpellsArchives (version_number version) count archives.now }
-    ensures { IsTrue result ↔ AreRecords (version_number version) count 0 0 archives.now messages section.now }
+    ensures { IsTrue result
+        ↔ AreRecords (version_number version) count 0 0 archives.now messages section.now }
 {
     let mut rest = section;
     let mut place = RecordPlace {

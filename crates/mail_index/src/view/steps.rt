@@ -1,11 +1,12 @@
 //! A count of work done.
-ghost use Rattle.std.specs.Prelude.{◌≡◌, ℕ, ◌+◌, ◌-◌, ◌^◌, ◌<◌};
+ghost use Rattle.std.specs.Prelude.{◌≡◌, ℕ, ◌-◌};
 
 use std::marker::Model;
 
-/// How many steps a search has taken: directory entries compared, postings dropped and records scanned.
+/// How many steps a search has taken.
 ///
-/// At the greatest value of a `u64` the count stays.
+/// One step is the comparison of one entry of the directory, the reading of one number of a key's messages, or the look at one
+/// record. The count stops at the greatest value of a `u64`.
 #[derive(Drop)]
 pub struct Steps {
     count: u64,

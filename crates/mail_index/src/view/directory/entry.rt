@@ -40,7 +40,8 @@ impl<'a> Entry<'a> {
     /// The first of these entries.
     pub(super) fn first_of(entries: &'a [u8], texts: &'a [u8], postings: &'a [u8]) -> Self
         requires { IsInFront texts.now postings.now entries.now }
-        ensures { result ≡ key_of (read_entry texts.entry.now postings.entry.now entries.entry.now) }
+        ensures { result
+            ≡ key_of (read_entry texts.entry.now postings.entry.now entries.entry.now) }
     {
         Entry {
             entries,

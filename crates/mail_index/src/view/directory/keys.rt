@@ -42,11 +42,18 @@ impl<'a> Model for Keys<'a> {
     ghost invariant = { λ s. s.end ≤ length s.directory };
 }
 
-/// The number of the first key that lies so to those of a kind that begin with a text, or further behind: a binary search.
+/// Where a part of the keys begins, by a binary search.
+///
+/// A run is the keys of one kind that begin with one text. Of the keys in order, some stand before the run (`Less`), then come
+/// those of the run (`Equal`), then those behind it (`Greater`). The answer is the number of the first key that stands at `least`
+/// or further behind; where there is none, it is how many keys there are.
 fn first_that_lies(least: Ordering, keys: &mut ComparedKeys<'_>, kind: Kind, text: &[u8]) -> u32
     ensures within { result ≤ length keys.old.directory }
-    ensures below { (j : ℕ) → j < result → ordering_index (lies_to_run kind text.now (key_at keys.old.directory j)) < ordering_index least }
-    ensures above { (j : ℕ) → result ≤ j → j < length keys.old.directory → ordering_index least ≤ ordering_index (lies_to_run kind text.now (key_at keys.old.directory j)) }
+    ensures below { (j : ℕ) → j < result
+        → ordering_index (lies_to_run kind text.now (key_at keys.old.directory j))
+        < ordering_index least }
+    ensures above { (j : ℕ) → result ≤ j → j < length keys.old.directory → ordering_index least
+        ≤ ordering_index (lies_to_run kind text.now (key_at keys.old.directory j)) }
     ensures keys { keys.new.directory ≡ keys.old.directory }
 {
     let mut low = 0;
@@ -79,7 +86,8 @@ impl<'a> Keys<'a> {
 
     /// The next key.
     pub fn next(&mut self) -> Option<Key<'a>>
-        ensures { MatchOption result ((self.old ≡ []) × (self.new ≡ [])) (λ key. self.old ≡ (key.text.now, key.postings) ∷ self.new) }
+        ensures { MatchOption result ((self.old ≡ []) × (self.new ≡ []))
+            (λ key. self.old ≡ (key.text.now, key.postings) ∷ self.new) }
     {
         let number = self.next;
         if number >= self.end {

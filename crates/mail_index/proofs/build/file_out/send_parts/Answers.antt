@@ -1,26 +1,23 @@
-use Rattle.std.proofs.Common.{◌≡◌, ℕ, ◌+◌, List, [], ◌++◌, map, drop, get_or, Bor, Ok, Err, OnErr, ap, ◌∙◌}
-use Rattle.std.specs.List.{concat}
-use Rattle.mail_index.specs.Inside.Signing.{BreaksOff}
+use Rattle.mail_index.proofs.Words.{◌≡◌, ℕ, ◌+◌, ◌<◌, List, [], ◌++◌, length, map, drop, get_or, Bor, ap, ◌∙◌, concat}
 use Rattle.mail_index.proofs.BuildLaws.SigningLemmas.{signing-next, signing-stop, from-place}
 use Rattle.mail_index.proofs.build.file_out.send_parts.Goals as goal
 
-pub returns-in_err-send_signed-clause-err : goal.returns-in_err-send_signed-clause-err
-returns-in_err-send_signed-clause-err g c =
-    let nothing : Bor (List ℕ) = record { ref_ptr = (0, 0); now = [] } in
-    let part : List ℕ = (get_or c.args.parts.now c.loop-part.part-index nothing).now in
-    let after : List ℕ = concat (map (λ (p : Bor (List ℕ)). p.now) (drop (c.loop-part.part-index + 1) c.args.parts.now)) in
-    let front : concat (map (λ (p : Bor (List ℕ)). p.now) (drop c.loop-part.part-index c.args.parts.now)) ≡ part ++ after =
-    ap (λ (ps : List (Bor (List ℕ))). concat (map (λ (p : Bor (List ℕ)). p.now) ps)) (from-place c.args.parts.now c.loop-part.part-index nothing c.loop-part-test.true) in
-    elim c.from_residual.result as (λ r. OnErr r (BreaksOff (g.O.Out.taken c.args.out.now) (g.O.Out.taken c.send_signed.new.out) c.args.signer.now (concat (map (λ (p : Bor (List ℕ)). p.now) c.args.parts.now)))) [
-      | Ok _ ↦ tt
-      | Err _ ↦ signing-stop (g.O.Out.taken c.send_signed.new.out) part after c.loop-part.invariant.0 front c.in_err-send_signed.ensures.err
-    ]
+-- the parts from one on
+abbrev told : List (Bor (List ℕ)) → List ℕ
+told parts = concat (map (λ p. p.now) parts)
+
+abbrev nothing : Bor (List ℕ)
+nothing = record { ref_ptr = (0, 0); now = [] }
+
+front : (parts : List (Bor (List ℕ))) (i : ℕ) → i < length parts → told (drop i parts) ≡ (get_or parts i nothing).now ++ told (drop (i + 1) parts)
+front parts i low = ap told (from-place parts i nothing low)
+
+pub returns-in_err-send_signed-clause-written : goal.returns-in_err-send_signed-clause-written
+returns-in_err-send_signed-clause-written g c =
+    signing-stop c.from_residual.result _ _ (get_or c.args.parts.now c.loop-part.part-index nothing).now _ c.from_residual.ensures.0 c.loop-part.invariant.0 (front c.args.parts.now c.loop-part.part-index c.loop-part-test.true) c.in_err-send_signed.ensures.written
 
 pub loop-part-preserved : goal.loop-part-preserved
-loop-part-preserved g c =
-    let nothing : Bor (List ℕ) = record { ref_ptr = (0, 0); now = [] } in
-    let part : List ℕ = (get_or c.args.parts.now c.loop-part.part-index nothing).now in
-    let after : List ℕ = concat (map (λ (p : Bor (List ℕ)). p.now) (drop (c.loop-part.part-index + 1) c.args.parts.now)) in
-    let front : concat (map (λ (p : Bor (List ℕ)). p.now) (drop c.loop-part.part-index c.args.parts.now)) ≡ part ++ after =
-    ap (λ (ps : List (Bor (List ℕ))). concat (map (λ (p : Bor (List ℕ)). p.now) ps)) (from-place c.args.parts.now c.loop-part.part-index nothing c.loop-part-test.true) in
-    (signing-next part after c.loop-part.invariant.0 front c.in_ok-send_signed.ensures.ok, c.in_ok-send_signed.ensures.count ∙ c.loop-part.invariant.1)
+loop-part-preserved g c = (
+  signing-next (get_or c.args.parts.now c.loop-part.part-index nothing).now _ c.loop-part.invariant.0 (front c.args.parts.now c.loop-part.part-index c.loop-part-test.true) c.in_ok-send_signed.ensures.written,
+  c.in_ok-send_signed.ensures.count ∙ c.loop-part.invariant.1,
+)

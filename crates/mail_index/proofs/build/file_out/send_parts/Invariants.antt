@@ -1,5 +1,4 @@
-use Rattle.std.proofs.Common.{◌≡◌, map, drop}
-use Rattle.std.specs.List.{concat}
+use Rattle.mail_index.proofs.Words.{◌≡◌, map, drop, concat}
 use Rattle.mail_index.specs.Inside.Signing.{IsSigning}
 use Rattle.mail_index.proofs.build.file_out.send_parts.Given as goal
 

@@ -1,6 +1,4 @@
-use Rattle.std.proofs.Common.{◌∙◌, ◌-◌, ℕ, List, length, drop, ap, sym, arith}
-use Rattle.std.proofs.lemmas.Bool.Decides.{Decides-eqb}
-use Rattle.std.proofs.lemmas.Slice.Eq.{slice_eq-Decides}
+use Rattle.mail_index.proofs.Words.{◌∙◌, ◌-◌, ℕ, List, length, drop, ap, sym, arith, Decides-eqb, slice_eq-Decides}
 use Rattle.mail_index.proofs.BuildLaws.SameTexts.{same-by-ends}
 use Rattle.mail_index.proofs.build.key_entry.have_same_ends.Goals as goal
 

@@ -1,9 +1,7 @@
-use Rattle.std.proofs.Common.{◌≡◌, ◌∙◌, ℕ, List, [], ◌∷◌, ◌++◌, length, ap, ap₂, sym, subst, arith}
-use Rattle.std.specs.List.{AllByRecursion, insert}
+use Rattle.mail_index.proofs.Words.{◌≡◌, ◌∙◌, ℕ, List, [], ◌∷◌, ◌++◌, length, ap, ap₂, sym, subst, arith, AllByRecursion, insert, Key}
 use Rattle.mail_index.specs.declared.build.key_front.Fronted.{Fronted}
-use Rattle.mail_index.specs.Tables.{Key}
 use Rattle.mail_index.specs.Inside.KeyFronts.{IsFronted}
-use Rattle.mail_index.specs.Inside.KeyMaps.{placed, slots_in, numbers_in, numbers_of_slots, place_in, new_key, IsOrder}
+use Rattle.mail_index.specs.Inside.KeyMaps.{placed, slots_in, numbers_in, numbers_of_slots, place_in, new_key, IsOrder, AreInStep}
 use Rattle.mail_index.proofs.BuildLaws.FrontLemmas.{fronted-new}
 use Rattle.mail_index.proofs.BuildLaws.KeyMapLemmas.{order-new, with_pair-gap, length-with_pair-gap, numbers-insert}
 use Rattle.mail_index.proofs.build.key_map.insert.Goals as goal
@@ -15,7 +13,7 @@ returns-then-number-key-clause-fault c =
       arith,
       c.if-number-key.true,
       c.len-number.ensures,
-      length-with_pair-gap c.args.key.now.kind c.args.key.now.text.now c.args.key.now.number c.args.entries.now.items (numbers_in c.args.order.now) (place_in c.args.order.now c.args.place) c.requires.order c.requires.gap,
+      length-with_pair-gap c.args.key.now.kind c.args.key.now.text.now c.args.key.now.number c.args.entries.now.items (numbers_in c.args.order.now) (place_in c.args.order.now c.args.place) c.requires.step.sorts c.requires.place.gap,
     )
 
 new_entry : (c : In-Ok) → Key
@@ -33,25 +31,21 @@ slots-new c =
 numbers-new : (c : In-Ok) → numbers_in c.insert.new.self ≡ insert (numbers_in c.args.order.now) (place_in c.args.order.now c.args.place) (length c.args.entries.now.items)
 numbers-new c = ap numbers_of_slots (slots-new c) ∙ numbers-insert (slots_in c.args.order.now) (place_in c.args.order.now c.args.place) (record { number = length c.args.entries.now.items; front = c.args.place.front })
 
-pub returns-in-Ok-clause-order : goal.returns-in-Ok-clause-order
+pub returns-in-Ok-clause-step : goal.returns-in-Ok-clause-step
 unfolding new_entry
-returns-in-Ok-clause-order c =
-    let c = (goal.at.returns-in-Ok-clause-order c).In-Ok in
-    subst (λ (es : List Key). IsOrder es (numbers_in c.insert.new.self)) (sym (entries-new c))
-    (subst (λ (l : List ℕ). IsOrder (c.args.entries.now.items ++ new_entry c ∷ []) l) (sym (numbers-new c))
-    (order-new c.args.key.now.kind c.args.key.now.text.now c.args.key.now.number c.args.entries.now.items (numbers_in c.args.order.now) (place_in c.args.order.now c.args.place) c.requires.order c.requires.gap))
-
-pub returns-in-Ok-clause-fronted : goal.returns-in-Ok-clause-fronted
-unfolding new_entry
-returns-in-Ok-clause-fronted c =
-    let c = (goal.at.returns-in-Ok-clause-fronted c).In-Ok in
-    subst (λ (es : List Key). AllByRecursion (IsFronted es) (slots_in c.insert.new.self)) (sym (entries-new c))
-    (subst (λ (l : List Fronted). AllByRecursion (IsFronted (c.args.entries.now.items ++ new_entry c ∷ [])) l) (sym (slots-new c))
-    (fronted-new c.args.key.now.kind c.args.key.now.text.now c.args.key.now.number c.args.entries.now.items (slots_in c.args.order.now) (place_in c.args.order.now c.args.place) c.args.place.front c.requires.front c.requires.fronted))
+returns-in-Ok-clause-step c =
+    let c = (goal.at.returns-in-Ok-clause-step c).In-Ok in
+    let sorted : IsOrder (c.args.entries.now.items ++ new_entry c ∷ []) (numbers_in c.insert.new.self) =
+    subst (λ (l : List ℕ). IsOrder (c.args.entries.now.items ++ new_entry c ∷ []) l) (sym (numbers-new c))
+    (order-new c.args.key.now.kind c.args.key.now.text.now c.args.key.now.number c.args.entries.now.items (numbers_in c.args.order.now) (place_in c.args.order.now c.args.place) c.requires.step.sorts c.requires.place.gap) in
+    let fronted : AllByRecursion (IsFronted (c.args.entries.now.items ++ new_entry c ∷ [])) (slots_in c.insert.new.self) =
+    subst (λ (l : List Fronted). AllByRecursion (IsFronted (c.args.entries.now.items ++ new_entry c ∷ [])) l) (sym (slots-new c))
+    (fronted-new c.args.key.now.kind c.args.key.now.text.now c.args.key.now.number c.args.entries.now.items (slots_in c.args.order.now) (place_in c.args.order.now c.args.place) c.args.place.front c.requires.place.front c.requires.step.fronted) in
+    subst (λ (es : List Key). AreInStep es c.insert.new.self) (sym (entries-new c)) (record { between = c.insert.ensures.between; sorts = sorted; fronted = fronted })
 
 pub returns-in-Ok-clause-ok : goal.returns-in-Ok-clause-ok
 unfolding new_entry
 returns-in-Ok-clause-ok c =
     let c = (goal.at.returns-in-Ok-clause-ok c).In-Ok in
     ap₂ placed (entries-new c) (numbers-new c)
-    ∙ with_pair-gap c.args.key.now.kind c.args.key.now.text.now c.args.key.now.number c.args.entries.now.items (numbers_in c.args.order.now) (place_in c.args.order.now c.args.place) c.requires.order c.requires.gap
+    ∙ with_pair-gap c.args.key.now.kind c.args.key.now.text.now c.args.key.now.number c.args.entries.now.items (numbers_in c.args.order.now) (place_in c.args.order.now c.args.place) c.requires.step.sorts c.requires.place.gap

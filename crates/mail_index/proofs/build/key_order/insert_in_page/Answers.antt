@@ -1,7 +1,4 @@
-use Rattle.std.proofs.Common.{◌≡◌, ◌∙◌, [], List, Vec, set, Ok, Err, OnErr, ap, sym}
-use Rattle.std.specs.Global.{Global}
-use Rattle.std.specs.List.{insert}
-use Rattle.std.proofs.lemmas.List.{map-set, set-get_or, get_or-map}
+use Rattle.mail_index.proofs.Words.{◌≡◌, ◌∙◌, [], List, Vec, set, Ok, Err, OnErr, ap, sym, Global, insert, map-set, set-get_or, get_or-map}
 use Rattle.mail_index.specs.declared.build.key_front.Fronted.{Fronted}
 use Rattle.mail_index.specs.Inside.KeyMaps.{rows}
 use Rattle.mail_index.proofs.build.key_order.insert_in_page.Goals as goal

@@ -1,5 +1,4 @@
-use Rattle.std.proofs.Common.{◌∙◌, ◌+◌, ◌∷◌, List, get_or, ap, sym}
-use Rattle.std.proofs.lemmas.List.{take_rest, drop_more}
+use Rattle.mail_index.proofs.Words.{◌∙◌, ◌+◌, ◌∷◌, List, get_or, ap, sym, take_rest, drop_more}
 use Rattle.mail_index.specs.declared.build.key_front.Fronted.{Fronted}
 use Rattle.mail_index.proofs.build.key_order.second_half.Goals as goal
 

@@ -1,6 +1,4 @@
-use Rattle.std.proofs.Common.{◌∙◌, [], List, Vec, take, set, ap, sym}
-use Rattle.std.specs.Global.{Global}
-use Rattle.std.proofs.lemmas.List.{map-set, get_or-map}
+use Rattle.mail_index.proofs.Words.{◌∙◌, [], List, Vec, take, set, ap, sym, Global, map-set, get_or-map}
 use Rattle.mail_index.specs.declared.build.key_front.Fronted.{Fronted}
 use Rattle.mail_index.specs.Inside.KeyMaps.{rows}
 use Rattle.mail_index.proofs.build.key_order.shorten.Goals as goal

@@ -1,7 +1,5 @@
-use Rattle.std.proofs.Common.{◌∙◌, sym, ap}
+use Rattle.mail_index.proofs.Words.{◌∙◌, sym, ap, key_at, lies_to}
 use Rattle.mail_index.specs.declared.build.key_front.Fronted.{Fronted}
-use Rattle.mail_index.specs.KeysRead.{key_at}
-use Rattle.mail_index.specs.LookUps.{lies_to}
 use Rattle.mail_index.proofs.BuildLaws.KeyMapLemmas.{slot-at}
 use Rattle.mail_index.proofs.build.key_search.bound_at.Goals as goal
 

@@ -1,8 +1,7 @@
-use Rattle.std.proofs.Common.{◌≡◌, ◌∙◌, ℕ, sym, ap, arith}
+use Rattle.mail_index.proofs.Words.{◌≡◌, ◌∙◌, ℕ, sym, ap, arith, key_at, lies_to}
 use Rattle.mail_index.specs.declared.build.key_front.Fronted.{Fronted}
-use Rattle.mail_index.specs.KeysRead.{key_at}
-use Rattle.mail_index.specs.LookUps.{lies_to}
-use Rattle.mail_index.proofs.BuildLaws.KeyMapLemmas.{slot_keys, slot-at}
+use Rattle.mail_index.specs.Inside.KeyMaps.{slot_keys}
+use Rattle.mail_index.proofs.BuildLaws.KeyMapLemmas.{slot-at}
 use Rattle.mail_index.proofs.build.key_search.bound_behind.Goals as goal
 
 pub returns-in-Less : goal.returns-in-Less

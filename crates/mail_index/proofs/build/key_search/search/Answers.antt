@@ -1,7 +1,6 @@
-use Rattle.std.proofs.Common.{◌≡◌, ◌∙◌, ◌+◌, ◌-◌, ◌/◌, ◌<◌, ℕ, length, sym, ap, arith}
-use Rattle.mail_index.specs.KeysRead.{key_at}
-use Rattle.mail_index.specs.LookUps.{lies_to}
-use Rattle.mail_index.proofs.BuildLaws.KeyMapLemmas.{slot_keys, slots-long, slot-at}
+use Rattle.mail_index.proofs.Words.{◌≡◌, ◌∙◌, ◌+◌, ◌-◌, ◌/◌, ◌<◌, ℕ, length, sym, ap, arith, key_at, lies_to}
+use Rattle.mail_index.specs.Inside.KeyMaps.{slot_keys}
+use Rattle.mail_index.proofs.BuildLaws.KeyMapLemmas.{slots-long, slot-at}
 use Rattle.mail_index.proofs.build.key_search.search.Goals as goal
 
 pub loop-low-preserved-in-Less : goal.loop-low-preserved-in-Less

@@ -1,6 +1,5 @@
 use Rattle.std.proofs.Common.{◌-◌}
-use Rattle.mail_index.specs.Inside.KeyMaps.{AreBounds}
-use Rattle.mail_index.proofs.BuildLaws.KeyMapLemmas.{slot_keys}
+use Rattle.mail_index.specs.Inside.KeyMaps.{slot_keys, AreBounds}
 use Rattle.mail_index.proofs.build.key_search.search.Given as goal
 
 abbrev pub invariant-loop-low : goal.invariant-loop-low

@@ -1,5 +1,4 @@
-use Rattle.std.proofs.Common.{◌≡◌, ◌+◌, length, map}
-use Rattle.mail_index.specs.Files.{entry_of, postings_of}
+use Rattle.mail_index.proofs.Words.{◌≡◌, ◌+◌, length, map, entry_of, postings_of}
 use Rattle.mail_index.proofs.build.key_sections.postings_length.Given as goal
 
 abbrev pub invariant-loop-key : goal.invariant-loop-key

@@ -1,8 +1,4 @@
-use Rattle.std.proofs.Common.{◌≡◌, ◌∙◌, ◌+◌, List, length, map, Ok, Err, OnErr, refl, ap, arith, length-append}
-use Rattle.mail_index.specs.Tables.{Key}
-use Rattle.mail_index.specs.Postings.{postings}
-use Rattle.mail_index.specs.Files.{entry_of, entry_bytes, directory_from, texts_of, postings_of}
-use Rattle.mail_index.specs.Inside.Signing.{BreaksOff}
+use Rattle.mail_index.proofs.Words.{◌≡◌, ◌∙◌, ◌+◌, List, length, map, refl, ap, arith, length-append, Key, postings, entry_of, entry_bytes, directory_from, texts_of, postings_of}
 use Rattle.mail_index.proofs.BuildLaws.SigningLemmas.{signing-start, signing-next, signing-stop}
 use Rattle.mail_index.proofs.build.key_sections.send_directory.Goals as goal
 
@@ -17,13 +13,10 @@ loop-key-init g c =
       omega (arith, places),
     )
 
-pub returns-in_err-send_entry-clause-err : goal.returns-in_err-send_entry-clause-err
-returns-in_err-send_entry-clause-err g c =
-    elim c.from_residual.result as (λ r. OnErr r (BreaksOff (g.O.Out.taken c.args.out.now) (g.O.Out.taken c.send_entry.new.out) c.args.signer.now (directory_from 0 0 (map entry_of c.args.keys)))) [
-      | Ok _ ↦ tt
-      | Err _ ↦ signing-stop (g.O.Out.taken c.send_entry.new.out) (entry_bytes c.loop-key.text_place c.loop-key.place (entry_of c.in-Some.key.now)) _ c.loop-key.invariant.0
-          (ap (λ (keys : List Key). directory_from c.loop-key.text_place c.loop-key.place (map entry_of keys)) c.in-Some.ensures.steps) c.in_err-send_entry.ensures.err
-    ]
+pub returns-in_err-send_entry-clause-written : goal.returns-in_err-send_entry-clause-written
+returns-in_err-send_entry-clause-written g c =
+    signing-stop c.from_residual.result _ _ (entry_bytes c.loop-key.text_place c.loop-key.place (entry_of c.in-Some.key.now)) _ c.from_residual.ensures.0 c.loop-key.invariant.0
+    (ap (λ (keys : List Key). directory_from c.loop-key.text_place c.loop-key.place (map entry_of keys)) c.in-Some.ensures.steps) c.in_err-send_entry.ensures.written
 
 pub loop-key-preserved : goal.loop-key-preserved
 loop-key-preserved g c =
@@ -35,7 +28,7 @@ loop-key-preserved g c =
     ap (λ (keys : List Key). length (postings_of (map entry_of keys))) c.in-Some.ensures.steps ∙ length-append (postings c.in-Some.key.now.numbers) (postings_of (map entry_of c.next.new.self)) in
     rw (text, numbers) (
       signing-next (entry_bytes c.loop-key.text_place c.loop-key.place (entry_of c.in-Some.key.now)) _ c.loop-key.invariant.0
-          (ap (λ (keys : List Key). directory_from c.loop-key.text_place c.loop-key.place (map entry_of keys)) c.in-Some.ensures.steps) c.in_ok-send_entry.ensures.ok,
+          (ap (λ (keys : List Key). directory_from c.loop-key.text_place c.loop-key.place (map entry_of keys)) c.in-Some.ensures.steps) c.in_ok-send_entry.ensures.written,
       c.in_ok-send_entry.ensures.count ∙ c.loop-key.invariant.1,
       omega (arith, texts, c.loop-key.invariant.2),
       omega (arith, places, c.loop-key.invariant.3),

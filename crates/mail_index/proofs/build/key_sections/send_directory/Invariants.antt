@@ -1,5 +1,4 @@
-use Rattle.std.proofs.Common.{◌≡◌, ◌+◌, length, map}
-use Rattle.mail_index.specs.Files.{entry_of, directory_from, texts_of, postings_of}
+use Rattle.mail_index.proofs.Words.{◌≡◌, ◌+◌, length, map, entry_of, directory_from, texts_of, postings_of}
 use Rattle.mail_index.specs.Inside.Signing.{IsSigning}
 use Rattle.mail_index.proofs.build.key_sections.send_directory.Given as goal
 

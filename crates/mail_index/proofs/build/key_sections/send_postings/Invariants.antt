@@ -1,5 +1,4 @@
-use Rattle.std.proofs.Common.{◌≡◌, map}
-use Rattle.mail_index.specs.Files.{entry_of, postings_of}
+use Rattle.mail_index.proofs.Words.{◌≡◌, map, entry_of, postings_of}
 use Rattle.mail_index.specs.Inside.Signing.{IsSigning}
 use Rattle.mail_index.proofs.build.key_sections.send_postings.Given as goal
 

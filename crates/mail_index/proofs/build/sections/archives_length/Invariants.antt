@@ -1,5 +1,4 @@
-use Rattle.std.proofs.Common.{◌≡◌, ◌+◌, map, flat_map, length, drop}
-use Rattle.mail_index.specs.Files.{archive_bytes}
+use Rattle.mail_index.proofs.Words.{◌≡◌, ◌+◌, map, flat_map, length, drop, archive_bytes}
 use Rattle.mail_index.specs.Inside.Drafts.{kept_archive}
 use Rattle.mail_index.proofs.build.sections.archives_length.Given as goal
 

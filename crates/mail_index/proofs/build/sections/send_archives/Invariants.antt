@@ -1,5 +1,4 @@
-use Rattle.std.proofs.Common.{◌≡◌, map, drop, flat_map}
-use Rattle.mail_index.specs.Files.{archive_bytes}
+use Rattle.mail_index.proofs.Words.{◌≡◌, map, drop, flat_map, archive_bytes}
 use Rattle.mail_index.specs.Inside.Drafts.{kept_archive}
 use Rattle.mail_index.specs.Inside.Signing.{IsSigning}
 use Rattle.mail_index.proofs.build.sections.send_archives.Given as goal

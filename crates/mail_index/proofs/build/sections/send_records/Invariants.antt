@@ -1,5 +1,4 @@
-use Rattle.std.proofs.Common.{◌≡◌, drop, flat_map}
-use Rattle.mail_index.specs.Files.{record_bytes}
+use Rattle.mail_index.proofs.Words.{◌≡◌, drop, flat_map, record_bytes}
 use Rattle.mail_index.specs.Inside.Signing.{IsSigning}
 use Rattle.mail_index.proofs.build.sections.send_records.Given as goal
 

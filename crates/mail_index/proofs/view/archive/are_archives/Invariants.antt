@@ -1,6 +1,4 @@
-use Rattle.std.proofs.Common.{◌↔◌, ◌-◌}
-use Rattle.mail_index.specs.Versions.{version_number}
-use Rattle.mail_index.specs.Records.{SpellsArchives}
+use Rattle.mail_index.proofs.Words.{◌↔◌, ◌-◌, version_number, SpellsArchives}
 use Rattle.mail_index.proofs.view.archive.are_archives.Given as goal
 
 abbrev pub invariant-loop-number : goal.invariant-loop-number

@@ -1,7 +1,4 @@
-use Rattle.std.proofs.Common.{◌≡◌, ◌∙◌, ℕ, length, drop, ap, arith}
-use Rattle.mail_index.specs.Versions.{version_number}
-use Rattle.mail_index.specs.Fields.{u32_at}
-use Rattle.mail_index.specs.Records.{behind_path}
+use Rattle.mail_index.proofs.Words.{◌≡◌, ◌∙◌, ℕ, length, drop, ap, arith, version_number, u32_at, behind_path}
 use Rattle.mail_index.proofs.ViewLaws.ArchiveReads.{front_of_some, behind_value, behind_some}
 use Rattle.mail_index.proofs.view.archive.behind_first.Goals as goal
 

@@ -1,5 +1,4 @@
-use Rattle.std.proofs.Common.{arith}
-use Rattle.mail_index.specs.Versions.{version_number}
+use Rattle.mail_index.proofs.Words.{arith, version_number}
 use Rattle.mail_index.proofs.ViewLaws.ArchiveReads.{front_of_some}
 use Rattle.mail_index.proofs.view.archive.first_length.Goals as goal
 

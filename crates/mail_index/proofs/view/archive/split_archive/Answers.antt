@@ -1,5 +1,4 @@
-use Rattle.std.proofs.Common.{◌≡◌, ◌∙◌, true, false, sym}
-use Rattle.std.proofs.Math.Facts.{Fits-lt-pow}
+use Rattle.mail_index.proofs.Words.{◌≡◌, ◌∙◌, true, false, sym, Fits-lt-pow}
 use Rattle.mail_index.proofs.ViewLaws.ArchiveReads.{short_has_none, long_has_none, cut_has_none, unnamed_has_none, undigested_has_none, found}
 use Rattle.mail_index.proofs.view.archive.split_archive.Goals as goal
 

@@ -1,6 +1,4 @@
-use Rattle.std.proofs.Common.{◌≡◌, ◌↔◌, ◌-◌, ◌*◌, ◌≤◌, [], length}
-use Rattle.mail_index.specs.Versions.{version_number}
-use Rattle.mail_index.specs.Directory.{AreEntries}
+use Rattle.mail_index.proofs.Words.{◌≡◌, ◌↔◌, ◌-◌, ◌*◌, ◌≤◌, [], length, version_number, AreEntries}
 use Rattle.mail_index.proofs.view.directory_walk.are_entries.Given as goal
 
 abbrev pub invariant-loop-number : goal.invariant-loop-number

@@ -1,9 +1,4 @@
-use Rattle.std.proofs.Common.{◌≡◌, ◌∙◌, ◌+◌, ◌-◌, ◌/◌, ◌<◌, ℕ, List, length, sym, ap, arith}
-use Rattle.std.specs.declared.cmp.Ordering.TheVariants.{Less, Equal, Greater}
-use Rattle.mail_index.specs.Steps.{add_steps}
-use Rattle.mail_index.specs.LookUps.{lies_to, comparisons, comparisons_within}
-use Rattle.mail_index.specs.KeysRead.{key_at, no_key}
-use Rattle.mail_index.specs.Tables.{Key}
+use Rattle.mail_index.proofs.Words.{◌≡◌, ◌∙◌, ◌+◌, ◌-◌, ◌/◌, ◌<◌, ℕ, List, length, sym, ap, arith, Less, Equal, Greater, add_steps, lies_to, comparisons, comparisons_within, key_at, no_key, Key}
 use Rattle.mail_index.specs.Inside.KeyRuns.{keys_between}
 use Rattle.mail_index.proofs.ViewLaws.StepLemmas.{add_steps-none, add_steps-more}
 use Rattle.mail_index.proofs.ViewLaws.LookUpLemmas.{before-less, behind-greater, numbers_at-met, numbers_at-none}

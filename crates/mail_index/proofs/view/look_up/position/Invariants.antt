@@ -1,8 +1,4 @@
-use Rattle.std.proofs.Common.{◌≡◌, ◌-◌, ◌<◌, ◌≤◌, ℕ, length}
-use Rattle.std.specs.declared.cmp.Ordering.TheVariants.{Less, Greater}
-use Rattle.mail_index.specs.Steps.{add_steps}
-use Rattle.mail_index.specs.LookUps.{lies_to, AreSorted, comparisons, comparisons_within}
-use Rattle.mail_index.specs.KeysRead.{key_at}
+use Rattle.mail_index.proofs.Words.{◌≡◌, ◌-◌, ◌<◌, ◌≤◌, ℕ, length, Less, Greater, add_steps, lies_to, AreSorted, comparisons, comparisons_within, key_at}
 use Rattle.mail_index.specs.Inside.KeyRuns.{keys_between}
 use Rattle.mail_index.proofs.view.look_up.position.Given as goal
 

@@ -1,5 +1,4 @@
-use Rattle.std.proofs.Common.{◌≡◌, ◌↔◌, ◌-◌, ◌*◌, length}
-use Rattle.mail_index.specs.Lists.{AreLists}
+use Rattle.mail_index.proofs.Words.{◌≡◌, ◌↔◌, ◌-◌, ◌*◌, length, AreLists}
 use Rattle.mail_index.proofs.view.posting_walk.are_lists.Given as goal
 
 abbrev pub invariant-loop-number : goal.invariant-loop-number

@@ -1,7 +1,4 @@
-use Rattle.std.proofs.Common.{◌<◌, length, ap, arith}
-use Rattle.std.proofs.lemmas.Bool.{false≢true}
-use Rattle.std.proofs.lemmas.Bool.Decides.{nat_tests}
-use Rattle.mail_index.specs.PostingReads.{shown_split}
+use Rattle.mail_index.proofs.Words.{◌<◌, length, ap, arith, false≢true, nat_tests, shown_split}
 use Rattle.mail_index.proofs.ViewLaws.PostingReadLemmas.{posted-refused, posted-front, posted-back, posted-shorter}
 use Rattle.mail_index.proofs.view.postings.are_postings.Goals as goal
 

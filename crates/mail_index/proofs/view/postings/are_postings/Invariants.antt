@@ -1,5 +1,4 @@
-use Rattle.std.proofs.Common.{◌≤◌, length}
-use Rattle.mail_index.specs.PostingReads.{ArePosted}
+use Rattle.mail_index.proofs.Words.{◌≤◌, length, ArePosted}
 use Rattle.mail_index.proofs.view.postings.are_postings.Given as goal
 
 -- all bytes are postings exactly where the rest is, from the number that was reached on

@@ -1,5 +1,4 @@
-use Rattle.std.proofs.Common.{◌≡◌, true, false, arith}
-use Rattle.mail_index.specs.Versions.{version_number}
+use Rattle.mail_index.proofs.Words.{◌≡◌, true, false, arith, version_number}
 use Rattle.mail_index.proofs.ViewLaws.RecordWalk.{records_step, records_stop, records_stray}
 use Rattle.mail_index.proofs.view.record_walk.are_records.Goals as goal
 
@@ -22,8 +21,8 @@ loop-number-preserved c =
     let x = c.in-Some.ensures.next in
     record {
       left = omega (arith, c.split_at.ensures.back_len, c.loop-number.invariant.left, c.loop-number-test.true);
-      bound = omega (arith, x.0.exists, x.1);
-      spelled = x.4;
+      bound = omega (arith, x.0.exists, x.1.0);
+      spelled = x.1.3;
       same = records_step _ (version_number c.args.version) c.args.count c.loop-number.place.archive c.loop-number.place.offset c.loop-number.place.archives.now c.args.messages c.loop-number.number c.loop-number.rest.now c.read.result
-          _ _ _ _ c.loop-number-test.true c.loop-number.invariant.same (let e : c.is_record.result ≡ true = c.if-not-is_record.false in cc) c.read.ensures x.0 x.1 x.2 x.3 c.split_at.ensures.back;
+          _ _ _ _ c.loop-number-test.true c.loop-number.invariant.same (let e : c.is_record.result ≡ true = c.if-not-is_record.false in cc) c.read.ensures x.0 x.1.0 x.1.1 x.1.2 c.split_at.ensures.back;
     }

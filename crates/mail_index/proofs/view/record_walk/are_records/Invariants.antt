@@ -1,6 +1,4 @@
-use Rattle.std.proofs.Common.{◌≡◌, ◌↔◌, ◌-◌, ◌*◌, ◌≤◌, length}
-use Rattle.mail_index.specs.Versions.{version_number}
-use Rattle.mail_index.specs.Records.{SpellsArchives, AreRecords}
+use Rattle.mail_index.proofs.Words.{◌≡◌, ◌↔◌, ◌-◌, ◌*◌, ◌≤◌, length, version_number, SpellsArchives, AreRecords}
 use Rattle.mail_index.proofs.view.record_walk.are_records.Given as goal
 
 abbrev pub invariant-loop-number : goal.invariant-loop-number

@@ -1,8 +1,4 @@
-use Rattle.std.proofs.Common.{◌≡◌, ◌<◌, ℕ, List, Option, length, None, string_bytes, ap, sym, subst, rules, ◌∙◌, arith}
-use Rattle.std.proofs.lemmas.Grind.{common_steps}
-use Rattle.std.specs.List.{AllByRecursion}
-use Rattle.mail_index.specs.Tables.{IsPath, IsMessage}
-use Rattle.mail_index.specs.Builders.{Draft}
+use Rattle.mail_index.proofs.Words.{◌≡◌, ◌<◌, ℕ, List, Option, length, None, string_bytes, ap, sym, subst, rules, ◌∙◌, arith, common_steps, AllByRecursion, IsPath, IsMessage, Draft}
 use Rattle.mail_index.specs.Inside.Drafts.{draft_of, with_open}
 use Rattle.mail_index.proofs.BuildLaws.Placing.{archive-opened, none-of-next}
 use Rattle.mail_index.proofs.build.draft.Draft.begin_archive.Goals as goal

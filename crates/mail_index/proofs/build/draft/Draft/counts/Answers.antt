@@ -1,6 +1,4 @@
-use Rattle.std.proofs.Common.{◌≡◌, ◌<◌, ◌≤◌, ◌^◌, length, map, refl, rules, arith}
-use Rattle.std.proofs.lemmas.Grind.{common_steps}
-use Rattle.mail_index.specs.Builders.{Draft}
+use Rattle.mail_index.proofs.Words.{◌≡◌, ◌<◌, ◌≤◌, ◌^◌, length, map, refl, rules, arith, common_steps, Draft}
 use Rattle.mail_index.specs.Inside.Drafts.{draft_of, kept_archive, message_count}
 use Rattle.mail_index.proofs.BuildLaws.DraftLemmas.{message_count-within}
 use Rattle.mail_index.proofs.BuildLaws.Sizes.{length-archives, length-texts, length-all_postings, counted_length-small}

@@ -1,7 +1,4 @@
-use Rattle.std.proofs.Common.{◌≡◌, ◌≤◌, [], ◌∷◌, ◌++◌, length, map, Some, string_bytes, ap, sym, subst, ◌∙◌}
-use Rattle.std.specs.Option.{option_map}
-use Rattle.std.proofs.lemmas.List.{map-append}
-use Rattle.mail_index.specs.Builders.{Draft, end_of, archive_count}
+use Rattle.mail_index.proofs.Words.{◌≡◌, ◌≤◌, [], ◌∷◌, ◌++◌, length, map, Some, string_bytes, ap, sym, subst, ◌∙◌, option_map, map-append, Draft, end_of, archive_count}
 use Rattle.mail_index.specs.Inside.Drafts.{draft_of, kept_archive}
 use Rattle.mail_index.proofs.BuildLaws.Placing.{archive-ended_draft}
 use Rattle.mail_index.proofs.build.draft.Draft.end_archive.Goals as goal

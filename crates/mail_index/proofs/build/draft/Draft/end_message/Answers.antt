@@ -1,5 +1,4 @@
-use Rattle.std.proofs.Common.{sym, subst}
-use Rattle.mail_index.specs.Builders.{Draft, IsNextMessage, IsInMessage}
+use Rattle.mail_index.proofs.Words.{sym, subst, Draft, IsNextMessage, IsInMessage}
 use Rattle.mail_index.specs.Inside.Drafts.{draft_of}
 use Rattle.mail_index.proofs.BuildLaws.Placing.{message-ended_draft}
 use Rattle.mail_index.proofs.build.draft.Draft.end_message.Goals as goal

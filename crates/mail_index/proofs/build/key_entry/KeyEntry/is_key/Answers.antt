@@ -1,15 +1,4 @@
-use Rattle.std.proofs.Common.{◌≡◌, ◌∙◌, ℕ, List, ap, sym, subst, nat_cmp}
-use Rattle.std.specs.Bool.{Decides}
-use Rattle.std.specs.declared.cmp.Ordering.{Ordering}
-use Rattle.std.specs.declared.cmp.Ordering.TheVariants.{Equal}
-use Rattle.std.specs.Ordering.{is_eq, ordering_then}
-use Rattle.std.specs.Cmp.{nat_cmp_is}
-use Rattle.std.specs.Cmp.Lexicographic.{slice_cmp}
-use Rattle.std.specs.Str.{bytes_eq}
-use Rattle.std.proofs.lemmas.Bool.Decides.{same_from_decides}
-use Rattle.std.proofs.lemmas.Map.Text.{is_eq-slice_cmp}
-use Rattle.std.proofs.lemmas.Slice.Eq.{bytes_eq-Decides}
-use Rattle.mail_index.specs.Kinds.{kind_number}
+use Rattle.mail_index.proofs.Words.{◌≡◌, ◌∙◌, ℕ, List, ap, sym, subst, nat_cmp, Decides, Ordering, Equal, is_eq, ordering_then, nat_cmp_is, slice_cmp, bytes_eq, same_from_decides, is_eq-slice_cmp, bytes_eq-Decides, kind_number}
 use Rattle.mail_index.proofs.build.key_entry.KeyEntry.is_key.Goals as goal
 
 pub returns-then-own_number-number : goal.returns-then-own_number-number

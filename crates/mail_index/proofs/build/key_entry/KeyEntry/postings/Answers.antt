@@ -1,6 +1,4 @@
-use Rattle.std.proofs.Common.{◌≡◌, ◌∙◌, ℕ, List, ◌+◌, ◌++◌, length, drop, ap, ap₂, sym, arith, length-append, Bor}
-use Rattle.mail_index.specs.Tables.{Key}
-use Rattle.mail_index.specs.Postings.{postings}
+use Rattle.mail_index.proofs.Words.{◌≡◌, ◌∙◌, ℕ, List, ◌+◌, ◌++◌, length, drop, ap, ap₂, sym, arith, length-append, Bor, Key, postings}
 use Rattle.mail_index.specs.Inside.KeyMaps.{key_bytes}
 use Rattle.mail_index.proofs.BuildLaws.EntryLemmas.{behind-short, behind-long}
 use Rattle.mail_index.proofs.build.key_entry.KeyEntry.postings.Goals as goal

@@ -1,6 +1,4 @@
-use Rattle.std.proofs.Common.{◌≡◌, ◌∙◌, ℕ, List, ◌+◌, ◌-◌, ◌^◌, ◌<◌, ◌≤◌, ◌++◌, take, drop, ap, sym, subst, arith}
-use Rattle.mail_index.specs.Tables.{Key}
-use Rattle.mail_index.specs.Postings.{leb128}
+use Rattle.mail_index.proofs.Words.{◌≡◌, ◌∙◌, ℕ, List, ◌+◌, ◌-◌, ◌^◌, ◌<◌, ◌≤◌, ◌++◌, take, drop, ap, sym, subst, arith, Key, leb128}
 use Rattle.mail_index.specs.Inside.KeyMaps.{with_one, key_in, key_bytes, AreEntryBytes}
 use Rattle.mail_index.proofs.BuildLaws.EntryLemmas.{entry-more, key-more, key-same, key_bytes-more, within-more}
 use Rattle.mail_index.proofs.build.key_entry.KeyEntry.push.Goals as goal

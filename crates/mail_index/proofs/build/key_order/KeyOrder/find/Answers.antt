@@ -1,10 +1,9 @@
-use Rattle.std.proofs.Common.{◌≡◌, ◌∙◌, ◌<◌, ◌≤◌, [], List, length, get_or, ap, sym, subst, arith}
-use Rattle.std.specs.List.{AllByRecursion}
+use Rattle.mail_index.proofs.Words.{◌≡◌, ◌∙◌, ◌<◌, ◌≤◌, [], List, length, get_or, ap, sym, subst, arith, AllByRecursion}
 use Rattle.mail_index.specs.declared.build.key_front.Fronted.{Fronted}
 use Rattle.mail_index.specs.Inside.KeyFronts.{IsFronted}
-use Rattle.mail_index.specs.Inside.KeyMaps.{rows, IsGap}
+use Rattle.mail_index.specs.Inside.KeyMaps.{slot_keys, rows, IsGap}
 use Rattle.mail_index.proofs.BuildLaws.PageLemmas.{heads-all, row-all, row-is}
-use Rattle.mail_index.proofs.BuildLaws.KeyMapLemmas.{slot_keys, slots-long, gap-found}
+use Rattle.mail_index.proofs.BuildLaws.KeyMapLemmas.{slots-long, gap-found}
 use Rattle.mail_index.proofs.build.key_order.KeyOrder.find.Goals as goal
 
 pub search-requires-clause-fronted : goal.search-requires-clause-fronted
@@ -18,12 +17,19 @@ search-requires-2-clause-fronted c =
     let row : c.deref-2.result.now ≡ get_or (rows c.args.self.now.pages.items) c.in-Err.page [] = c.deref-2.ensures.value ∙ row-is c.args.self.now.pages.items c.in-Err.page c.index.result.now inside c.index.ensures in
     row-all (IsFronted c.args.entries.now) c.args.self.now.pages.items c.args.self.now.heads.items c.in-Err.page c.deref-2.result.now c.requires.between inside row c.requires.fronted
 
-pub returns-in-Err-search-clause-gap : goal.returns-in-Err-search-clause-gap
-returns-in-Err-search-clause-gap c =
+pub returns-in-Err-search-clause-place : goal.returns-in-Err-search-clause-place
+returns-in-Err-search-clause-place c =
     let low : c.in-Err.page ≤ length c.deref.result.now = omega (arith, c.in-Err.ensures.place.within, slots-long c.args.entries.now c.deref.result.now) in
     let inside : c.in-Err.page < length c.args.self.now.pages.items = omega (arith, low, ap length c.deref.ensures.value, c.requires.between, c.requires.page) in
     let row : c.deref-2.result.now ≡ get_or (rows c.args.self.now.pages.items) c.in-Err.page [] = c.deref-2.ensures.value ∙ row-is c.args.self.now.pages.items c.in-Err.page c.index.result.now inside c.index.ensures in
     let outer : IsGap c.args.kind c.args.text.now (slot_keys c.args.entries.now c.args.self.now.heads.items) c.in-Err.page =
     subst (λ (l : List Fronted). IsGap c.args.kind c.args.text.now (slot_keys c.args.entries.now l) c.in-Err.page) c.deref.ensures.value c.in-Err.ensures.place in
-    gap-found c.args.kind c.args.text.now c.args.entries.now c.args.self.now.pages.items c.args.self.now.heads.items c.in-Err.page c.in-Err-search.at c.deref-2.result.now
-    c.requires.between inside row outer c.in-Err-search.ensures.place
+    record {
+      inside = record {
+        page = inside;
+        at = omega (arith, c.in-Err-search.ensures.place.within, slots-long c.args.entries.now c.deref-2.result.now, ap length row);
+      };
+      gap = gap-found c.args.kind c.args.text.now c.args.entries.now c.args.self.now.pages.items c.args.self.now.heads.items c.in-Err.page c.in-Err-search.at c.deref-2.result.now
+          c.requires.between inside row outer c.in-Err-search.ensures.place;
+      front = c.front_of_key-front.ensures;
+    }

@@ -1,5 +1,4 @@
-use Rattle.std.proofs.Common.{◌∙◌, length, sym, ap, subst}
-use Rattle.mail_index.specs.LookUps.{AreSorted}
+use Rattle.mail_index.proofs.Words.{◌∙◌, length, sym, ap, subst, AreSorted}
 use Rattle.mail_index.proofs.ViewLaws.DirectoryKeys.{length-keys_read, directory-sorted}
 use Rattle.mail_index.proofs.view.directory.Directory.len.Goals as goal
 

@@ -1,8 +1,4 @@
-use Rattle.std.proofs.Common.{◌∙◌, ◌+◌, ◌-◌, ◌/◌, ◌<◌, ◌≤◌, ℕ, List, length, sym, ap, subst, arith}
-use Rattle.std.specs.declared.cmp.Ordering.{Ordering}
-use Rattle.std.specs.Ordering.{ordering_index}
-use Rattle.mail_index.specs.Tables.{Key}
-use Rattle.mail_index.specs.KeysRead.{no_key, key_at}
+use Rattle.mail_index.proofs.Words.{◌∙◌, ◌+◌, ◌-◌, ◌/◌, ◌<◌, ◌≤◌, ℕ, List, length, sym, ap, subst, arith, Ordering, ordering_index, Key, no_key, key_at}
 use Rattle.mail_index.specs.Inside.KeyRuns.{lies_to_run}
 use Rattle.mail_index.proofs.ViewLaws.RunLemmas.{runs-rise, less_index, no_less_index}
 use Rattle.mail_index.proofs.view.directory.keys.first_that_lies.Goals as goal

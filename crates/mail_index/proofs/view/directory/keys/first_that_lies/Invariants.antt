@@ -1,7 +1,4 @@
-use Rattle.std.proofs.Common.{◌≡◌, ◌-◌, ◌<◌, ◌≤◌, ℕ, length}
-use Rattle.std.specs.Ordering.{ordering_index}
-use Rattle.mail_index.specs.LookUps.{AreSorted}
-use Rattle.mail_index.specs.KeysRead.{key_at}
+use Rattle.mail_index.proofs.Words.{◌≡◌, ◌-◌, ◌<◌, ◌≤◌, ℕ, length, ordering_index, AreSorted, key_at}
 use Rattle.mail_index.specs.Inside.KeyRuns.{lies_to_run}
 use Rattle.mail_index.proofs.view.directory.keys.first_that_lies.Given as goal
 

@@ -1,7 +1,4 @@
-use Rattle.std.proofs.Common.{◌<◌, length, slice_get, Some, ap, sym, ◌∙◌, arith}
-use Rattle.mail_index.specs.Tables.{Table, Archive}
-use Rattle.mail_index.specs.Versions.{version_number}
-use Rattle.mail_index.specs.Records.{read_archive}
+use Rattle.mail_index.proofs.Words.{◌<◌, length, slice_get, Some, ap, sym, ◌∙◌, arith, Table, Archive, version_number, read_archive}
 use Rattle.mail_index.proofs.ViewLaws.ArchiveReads.{read_count, archive_at}
 use Rattle.mail_index.proofs.view.index_view.IndexView.archive.Goals as goal
 

@@ -1,6 +1,4 @@
-use Rattle.std.proofs.Common.{ap, ◌∙◌, arith}
-use Rattle.mail_index.specs.Versions.{version_number}
-use Rattle.mail_index.specs.Tables.{Table}
+use Rattle.mail_index.proofs.Words.{ap, ◌∙◌, arith, version_number, Table}
 use Rattle.mail_index.proofs.view.index_view.IndexView.directory.Goals as goal
 
 pub of-requires : goal.of-requires

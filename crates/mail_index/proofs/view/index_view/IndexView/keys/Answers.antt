@@ -1,5 +1,4 @@
-use Rattle.std.proofs.Common.{◌∙◌, map, ap}
-use Rattle.mail_index.specs.LookUps.{text_and_numbers}
+use Rattle.mail_index.proofs.Words.{◌∙◌, map, ap, text_and_numbers}
 use Rattle.mail_index.proofs.ViewLaws.RunLemmas.{keys_beginning-none}
 use Rattle.mail_index.proofs.view.index_view.IndexView.keys.Goals as goal
 

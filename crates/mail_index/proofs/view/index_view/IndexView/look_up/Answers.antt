@@ -1,6 +1,4 @@
-use Rattle.std.proofs.Common.{rules, ◌^◌, ◌<◌, ℕ, length, ap, ◌∙◌, arith}
-use Rattle.std.proofs.lemmas.Grind.{common_steps}
-use Rattle.mail_index.specs.Steps.{add_steps}
+use Rattle.mail_index.proofs.Words.{rules, ◌^◌, ◌<◌, ℕ, length, ap, ◌∙◌, arith, common_steps, add_steps}
 use Rattle.mail_index.proofs.view.index_view.IndexView.look_up.Goals as goal
 
 pub returns-clause-steps : goal.returns-clause-steps

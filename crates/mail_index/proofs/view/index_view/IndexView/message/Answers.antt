@@ -1,7 +1,4 @@
-use Rattle.std.proofs.Common.{◌<◌, length, slice_get, Some, ap, sym, ◌∙◌, arith}
-use Rattle.mail_index.specs.Tables.{Table}
-use Rattle.mail_index.specs.declared.record.Record.{Record}
-use Rattle.mail_index.specs.Records.{read_record}
+use Rattle.mail_index.proofs.Words.{◌<◌, length, slice_get, Some, ap, sym, ◌∙◌, arith, Table, Record, read_record}
 use Rattle.mail_index.proofs.ViewLaws.Opening.{count_records, message_at}
 use Rattle.mail_index.proofs.view.index_view.IndexView.message.Goals as goal
 

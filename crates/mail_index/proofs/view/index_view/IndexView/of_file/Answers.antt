@@ -1,7 +1,4 @@
-use Rattle.std.proofs.Common.{sym, subst, arith}
-use Rattle.std.proofs.Math.Facts.{Fits-lt-pow}
-use Rattle.mail_index.specs.Versions.{IsVersion}
-use Rattle.mail_index.specs.Layouts.{table_of}
+use Rattle.mail_index.proofs.Words.{sym, subst, arith, Fits-lt-pow, IsVersion, table_of}
 use Rattle.mail_index.proofs.FileLaws.KnownFile.{has_counts, known_file}
 use Rattle.mail_index.proofs.FileLaws.SameTable.{same-table}
 use Rattle.mail_index.proofs.view.index_view.IndexView.of_file.Goals as goal

@@ -1,6 +1,4 @@
-use Rattle.std.proofs.Common.{◌≡◌, true, false, sym, ◌∙◌}
-use Rattle.std.proofs.Math.Facts.{Fits-lt-pow}
-use Rattle.mail_index.specs.Layouts.{table_of}
+use Rattle.mail_index.proofs.Words.{◌≡◌, true, false, sym, ◌∙◌, Fits-lt-pow, table_of}
 use Rattle.mail_index.proofs.FileLaws.SameTable.{same-table}
 use Rattle.mail_index.proofs.FileLaws.FileLemmas.{these_archives, has_archives, has_records, these_records}
 use Rattle.mail_index.specs.declared.view.fault.IndexFault.TheVariants.{BadLayout}
@@ -11,48 +9,38 @@ use Rattle.mail_index.proofs.view.index_view.IndexView.open.Goals as goal
 
 pub returns-then-not-are_archives-clause-fault : goal.returns-then-not-are_archives-clause-fault
 returns-then-not-are_archives-clause-fault c =
-    let bytes = c.args.bytes.now in
-    let l = c.in-Some.layout in
-    let f = laid_out bytes l c.in-Ok.ensures.0 c.in-Some.ensures (record { below = λ i. Fits-lt-pow (c.type_inv.bytes i) }) in
-    (f.counts, λ archives h. let g : false ≡ true = sym c.if-not-are_archives.true ∙ c.are_archives.ensures.1 (these_archives bytes l f archives h).1 in cc)
+    let f = laid_out _ _ c.in-Ok.ensures.0 c.in-Some.ensures (record { below = λ i. Fits-lt-pow (c.type_inv.bytes i) }) in
+    (f.counts, λ archives h. let g : false ≡ true = sym c.if-not-are_archives.true ∙ c.are_archives.ensures.1 (these_archives _ _ f archives h).1 in cc)
 
 pub returns-then-not-are_records-clause-fault : goal.returns-then-not-are_records-clause-fault
 returns-then-not-are_records-clause-fault c =
-    let bytes = c.args.bytes.now in
-    let l = c.in-Some.layout in
-    let f = laid_out bytes l c.in-Ok.ensures.0 c.in-Some.ensures (record { below = λ i. Fits-lt-pow (c.type_inv.bytes i) }) in
+    let f = laid_out _ _ c.in-Ok.ensures.0 c.in-Some.ensures (record { below = λ i. Fits-lt-pow (c.type_inv.bytes i) }) in
     let a = c.are_archives.ensures.0 c.if-not-are_archives.false in
-    (_, has_archives bytes l f a, λ ms h. let g : false ≡ true = sym c.if-not-are_records.true ∙ c.are_records.ensures.1 (these_records bytes l f a ms h) in cc)
+    (_, has_archives _ _ f a, λ ms h. let g : false ≡ true = sym c.if-not-are_records.true ∙ c.are_records.ensures.1 (these_records _ _ f a ms h) in cc)
 
 pub returns-then-not-are_entries-clause-fault : goal.returns-then-not-are_entries-clause-fault
 returns-then-not-are_entries-clause-fault c =
-    let bytes = c.args.bytes.now in
-    let l = c.in-Some.layout in
-    let f = laid_out bytes l c.in-Ok.ensures.0 c.in-Some.ensures (record { below = λ i. Fits-lt-pow (c.type_inv.bytes i) }) in
+    let f = laid_out _ _ c.in-Ok.ensures.0 c.in-Some.ensures (record { below = λ i. Fits-lt-pow (c.type_inv.bytes i) }) in
     let a = c.are_archives.ensures.0 c.if-not-are_archives.false in
     let r = c.are_records.ensures.0 c.if-not-are_records.false in
-    (_, _, has_records bytes l f a r, λ es h. let g : false ≡ true = sym c.if-not-are_entries.true ∙ c.are_entries.ensures.1 (these_entries bytes l f es h) in cc)
+    (_, _, has_records _ _ f a r, λ es h. let g : false ≡ true = sym c.if-not-are_entries.true ∙ c.are_entries.ensures.1 (these_entries _ _ f es h) in cc)
 
 pub returns-then-not-are_lists-clause-fault : goal.returns-then-not-are_lists-clause-fault
 returns-then-not-are_lists-clause-fault c =
-    let bytes = c.args.bytes.now in
-    let l = c.in-Some.layout in
-    let f = laid_out bytes l c.in-Ok.ensures.0 c.in-Some.ensures (record { below = λ i. Fits-lt-pow (c.type_inv.bytes i) }) in
+    let f = laid_out _ _ c.in-Ok.ensures.0 c.in-Some.ensures (record { below = λ i. Fits-lt-pow (c.type_inv.bytes i) }) in
     let a = c.are_archives.ensures.0 c.if-not-are_archives.false in
     let r = c.are_records.ensures.0 c.if-not-are_records.false in
     let d = c.are_entries.ensures.0 c.if-not-are_entries.false in
-    (_, _, _, has_directory bytes l f (record { archives = a; records = r }) d, λ ks h. let g : false ≡ true = sym c.if-not-are_lists.true ∙ c.are_lists.ensures.1 (these_lists bytes l f ks h) in cc)
+    (_, _, _, has_directory _ _ f (record { archives = a; records = r }) d, λ ks h. let g : false ≡ true = sym c.if-not-are_lists.true ∙ c.are_lists.ensures.1 (these_lists _ _ f ks h) in cc)
 
 pub returns-clause-ok : goal.returns-clause-ok
 returns-clause-ok c =
-    let bytes = c.args.bytes.now in
-    let l = c.in-Some.layout in
-    let f = laid_out bytes l c.in-Ok.ensures.0 c.in-Some.ensures (record { below = λ i. Fits-lt-pow (c.type_inv.bytes i) }) in
+    let f = laid_out _ _ c.in-Ok.ensures.0 c.in-Some.ensures (record { below = λ i. Fits-lt-pow (c.type_inv.bytes i) }) in
     let a = c.are_archives.ensures.0 c.if-not-are_archives.false in
     let r = c.are_records.ensures.0 c.if-not-are_records.false in
     let d = c.are_entries.ensures.0 c.if-not-are_entries.false in
     let p = c.are_lists.ensures.0 c.if-not-are_lists.false in
-    is_file bytes l f (has_postings bytes l f (record { archives = a; records = r }) d p)
+    is_file _ _ f (has_postings _ _ f (record { archives = a; records = r }) d p)
 
 -- ---- bytes with a fault are the file of no table
 
@@ -79,11 +67,9 @@ returns-clause-same c t f = same-table c.args.bytes.now t (table_of c.in-Some.la
 
 pub invariant_of-result : goal.invariant_of-result
 invariant_of-result c =
-    let bytes = c.args.bytes.now in
-    let l = c.in-Some.layout in
-    let f = laid_out bytes l c.in-Ok.ensures.0 c.in-Some.ensures (record { below = λ i. Fits-lt-pow (c.type_inv.bytes i) }) in
+    let f = laid_out _ _ c.in-Ok.ensures.0 c.in-Some.ensures (record { below = λ i. Fits-lt-pow (c.type_inv.bytes i) }) in
     let a = c.are_archives.ensures.0 c.if-not-are_archives.false in
     let r = c.are_records.ensures.0 c.if-not-are_records.false in
     let d = c.are_entries.ensures.0 c.if-not-are_entries.false in
     let p = c.are_lists.ensures.0 c.if-not-are_lists.false in
-    checked bytes l f (record { archives = a; records = r }) d p
+    checked _ _ f (record { archives = a; records = r }) d p

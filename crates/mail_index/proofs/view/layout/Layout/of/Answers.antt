@@ -1,7 +1,4 @@
-use Rattle.std.proofs.Common.{rules, ◌≡◌, ◌∙◌, ap, ap₂, arith}
-use Rattle.std.specs.Prelude.{slice_range}
-use Rattle.std.proofs.lemmas.Grind.{common_steps}
-use Rattle.mail_index.specs.Faults.{records_start, directory_start, texts_start, postings_start, digest_start}
+use Rattle.mail_index.proofs.Words.{rules, ◌≡◌, ◌∙◌, ap, ap₂, arith, slice_range, common_steps, records_start, directory_start, texts_start, postings_start, digest_start}
 use Rattle.mail_index.proofs.view.layout.Layout.of.Goals as goal
 
 pub returns : goal.returns

@@ -1,6 +1,4 @@
-use Rattle.std.proofs.Common.{◌≡◌, ◌∙◌, ◌+◌, ◌-◌, ◌^◌, ◌++◌, ℕ, List, [], ◌∷◌, refl, sym, ap, subst, arith}
-use Rattle.mail_index.specs.Postings.{leb128}
-use Rattle.mail_index.specs.PostingReads.{IsShort, ArePostings, numbers_read, shown_split}
+use Rattle.mail_index.proofs.Words.{◌≡◌, ◌∙◌, ◌+◌, ◌-◌, ◌^◌, ◌++◌, ℕ, List, [], ◌∷◌, refl, sym, ap, subst, arith, leb128, IsShort, ArePostings, numbers_read, shown_split}
 use Rattle.mail_index.proofs.ViewLaws.PostingReadLemmas.{read-posted, posted-none, posted-front, Front}
 use Rattle.mail_index.proofs.view.postings.Postings.next.Goals as goal
 
@@ -18,14 +16,10 @@ module _ (low d : ℕ) (bytes behind : List ℕ) (short : IsShort 5 d) (split : 
   numbers = front.numbers ∙ ap (λ (ns : List ℕ). (low + d - 1) ∷ ns) later
 
 pub overflow_add-self : goal.overflow_add-self
-overflow_add-self c =
-    let f = front c.self.inside.low c.in_ok-difference.difference c.self.inside.bytes.now c.in_ok-difference.behind.now c.in_ok-difference.ensures.short c.in_ok-difference.ensures.some c.self.invariant in
-    omega (arith, f.below)
+overflow_add-self c = omega (arith, (front c.self.inside.low c.in_ok-difference.difference c.self.inside.bytes.now c.in_ok-difference.behind.now c.in_ok-difference.ensures.short c.in_ok-difference.ensures.some c.self.invariant).below)
 
 pub overflow_sub-result : goal.overflow_sub-result
-overflow_sub-result c =
-    let f = front c.self.inside.low c.in_ok-difference.difference c.self.inside.bytes.now c.in_ok-difference.behind.now c.in_ok-difference.ensures.short c.in_ok-difference.ensures.some c.self.invariant in
-    omega (arith, f.some)
+overflow_sub-result c = omega (arith, (front c.self.inside.low c.in_ok-difference.difference c.self.inside.bytes.now c.in_ok-difference.behind.now c.in_ok-difference.ensures.short c.in_ok-difference.ensures.some c.self.invariant).some)
 
 pub overflow_cast-result : goal.overflow_cast-result
 overflow_cast-result c =

@@ -1,7 +1,6 @@
-use Rattle.std.proofs.Common.{◌≡◌, ◌∙◌, ◌-◌, ◌++◌, ℕ, suc, List, [], ◌∷◌, length, refl, sym, ap, arith, append_assoc, length-append}
-use Rattle.mail_index.specs.Steps.{add_steps}
+use Rattle.mail_index.proofs.Words.{◌<◌, ◌≡◌, ◌∙◌, ◌-◌, ◌++◌, ℕ, suc, List, [], ◌∷◌, length, refl, sym, ap, arith, append_assoc, length-append, add_steps}
 use Rattle.mail_index.proofs.ViewLaws.StepLemmas.{add_steps-none, add_steps-one}
-use Rattle.mail_index.proofs.ViewLaws.PostingReadLemmas.{All-more}
+use Rattle.mail_index.proofs.Items.{all-snoc}
 use Rattle.mail_index.proofs.view.postings.Postings.next_at_least.Goals as goal
 
 pub loop-number-init : goal.loop-number-init
@@ -18,7 +17,7 @@ loop-number-preserved c =
     let count : suc (length c.args.self.now - length c.loop-number.self) ≡ length c.args.self.now - length rest =
     omega (arith, ap length sofar.2, ap length c.in-Some.ensures.0, length-append sofar.0 c.loop-number.self) in
     record {
-      split = (sofar.0 ++ n ∷ [], All-more c.args.n n sofar.0 sofar.1 (omega (arith, c.if-number-n.false)), all);
+      split = (sofar.0 ++ n ∷ [], all-snoc (λ m. m < c.args.n) sofar.0 n sofar.1 (omega (arith, c.if-number-n.false)), all);
       steps = c.in-Some.ensures.1 ∙ ap (λ (s : ℕ). add_steps s 1) c.loop-number.invariant.steps
           ∙ add_steps-one c.args.steps.now (length c.args.self.now - length c.loop-number.self) ∙ ap (add_steps c.args.steps.now) count;
     }

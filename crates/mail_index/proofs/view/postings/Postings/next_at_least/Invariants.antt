@@ -1,6 +1,4 @@
-use Rattle.std.proofs.Common.{◌≡◌, ◌<◌, ◌-◌, ◌++◌, ℕ, List, length}
-use Rattle.std.specs.List.{AllByRecursion}
-use Rattle.mail_index.specs.Steps.{add_steps}
+use Rattle.mail_index.proofs.Words.{◌≡◌, ◌<◌, ◌-◌, ◌++◌, ℕ, List, length, AllByRecursion, add_steps}
 use Rattle.mail_index.proofs.view.postings.Postings.next_at_least.Given as goal
 
 -- numbers below n were dropped, each with a step

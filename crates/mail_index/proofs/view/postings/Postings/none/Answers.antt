@@ -1,5 +1,4 @@
-use Rattle.std.proofs.Common.{refl}
-use Rattle.mail_index.specs.PostingReads.{numbers_read}
+use Rattle.mail_index.proofs.Words.{refl, numbers_read}
 use Rattle.mail_index.proofs.view.postings.Postings.none.Goals as goal
 
 pub invariant_of-result : goal.invariant_of-result

@@ -1,5 +1,4 @@
-use Rattle.std.proofs.Common.{◌^◌, ℕ, List, sym, subst}
-use Rattle.mail_index.specs.PostingReads.{ArePostings}
+use Rattle.mail_index.proofs.Words.{◌^◌, ℕ, List, sym, subst, ArePostings}
 use Rattle.mail_index.proofs.ViewLaws.PostingReadLemmas.{read-posted}
 use Rattle.mail_index.proofs.view.postings.Postings.of.Goals as goal
 

@@ -1,9 +1,4 @@
-use Rattle.std.proofs.Common.{rules, ◌≡◌, ◌∙◌, ℕ, List, sym, ap, ap₂}
-use Rattle.mail_index.specs.Tables.{Key}
-use Rattle.mail_index.specs.Kinds.{kind_number}
-use Rattle.mail_index.specs.Fields.{byte_at}
-use Rattle.mail_index.specs.OrderOfKeys.{key_cmp}
-use Rattle.mail_index.specs.Directory.{read_entry}
+use Rattle.mail_index.proofs.Words.{rules, ◌≡◌, ◌∙◌, ℕ, List, sym, ap, ap₂, Key, kind_number, byte_at, key_cmp, read_entry}
 use Rattle.mail_index.proofs.view.directory.entry.Entry.compare.Goals as goal
 
 pub returns : goal.returns

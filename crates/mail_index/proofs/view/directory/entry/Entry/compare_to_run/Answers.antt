@@ -1,10 +1,4 @@
-use Rattle.std.proofs.Common.{◌≡◌, ◌∙◌, ℕ, List, length, take, sym, ap, ap₂, arith}
-use Rattle.std.proofs.lemmas.Grind.{common_steps}
-use Rattle.mail_index.specs.Tables.{Key}
-use Rattle.mail_index.specs.Kinds.{kind_number}
-use Rattle.mail_index.specs.Fields.{byte_at}
-use Rattle.mail_index.specs.OrderOfKeys.{key_cmp}
-use Rattle.mail_index.specs.Directory.{read_entry}
+use Rattle.mail_index.proofs.Words.{◌≡◌, ◌∙◌, ℕ, List, length, take, sym, ap, ap₂, arith, common_steps, Key, kind_number, byte_at, key_cmp, read_entry}
 use Rattle.mail_index.proofs.view.directory.entry.Entry.compare_to_run.Goals as goal
 
 pub returns : goal.returns

@@ -1,8 +1,4 @@
-use Rattle.std.proofs.Common.{rules, ◌≡◌, ◌∙◌, ◌^◌, ℕ, List, sym, ap, subst}
-use Rattle.mail_index.specs.Tables.{Key}
-use Rattle.mail_index.specs.Directory.{read_entry}
-use Rattle.mail_index.specs.Lists.{list_at}
-use Rattle.mail_index.specs.PostingReads.{ArePostings}
+use Rattle.mail_index.proofs.Words.{rules, ◌≡◌, ◌∙◌, ◌^◌, ℕ, List, sym, ap, subst, Key, read_entry, list_at, ArePostings}
 use Rattle.mail_index.proofs.ViewLaws.PostingReadLemmas.{read-posted}
 use Rattle.mail_index.proofs.view.directory.entry.Entry.postings.Goals as goal
 

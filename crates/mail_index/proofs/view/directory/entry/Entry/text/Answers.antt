@@ -1,6 +1,4 @@
-use Rattle.std.proofs.Common.{rules, ◌≡◌, ◌∙◌, ap}
-use Rattle.mail_index.specs.Tables.{Key}
-use Rattle.mail_index.specs.Directory.{text_at, read_entry}
+use Rattle.mail_index.proofs.Words.{rules, ◌≡◌, ◌∙◌, ap, Key, text_at, read_entry}
 use Rattle.mail_index.proofs.view.directory.entry.Entry.text.Goals as goal
 
 pub returns : goal.returns

@@ -1,7 +1,4 @@
-use Rattle.std.proofs.Common.{◌∙◌, ◌+◌, ℕ, List, ◌∷◌, map, ap, ap₂, sym, arith}
-use Rattle.mail_index.specs.Tables.{Key}
-use Rattle.mail_index.specs.LookUps.{text_and_numbers}
-use Rattle.mail_index.specs.KeysRead.{no_key}
+use Rattle.mail_index.proofs.Words.{◌∙◌, ◌+◌, ℕ, List, ◌∷◌, map, ap, ap₂, sym, arith, Key, text_and_numbers, no_key}
 use Rattle.mail_index.specs.Inside.KeyRuns.{keys_between}
 use Rattle.mail_index.proofs.ViewLaws.RunLemmas.{between-next}
 use Rattle.mail_index.proofs.view.directory.keys.Keys.next.Goals as goal

@@ -1,8 +1,4 @@
-use Rattle.std.proofs.Common.{◌∙◌, ℕ, List, map, ap, sym, subst}
-use Rattle.std.specs.declared.cmp.Ordering.TheVariants.{Greater}
-use Rattle.mail_index.specs.Tables.{Key}
-use Rattle.mail_index.specs.LookUps.{keys_beginning, text_and_numbers}
-use Rattle.mail_index.specs.KeysRead.{no_key}
+use Rattle.mail_index.proofs.Words.{◌∙◌, ℕ, List, map, ap, sym, subst, Greater, Key, keys_beginning, text_and_numbers, no_key}
 use Rattle.mail_index.specs.Inside.KeyRuns.{keys_between}
 use Rattle.mail_index.proofs.ViewLaws.RunLemmas.{LiesFirst, keys_beginning-between}
 use Rattle.mail_index.proofs.view.directory.keys.Keys.of.Goals as goal
