@@ -109,7 +109,7 @@ fn next_line<'a, S: Source>(
 
 /// Adds the message that has just begun.
 fn add_message<'a, S: Source>(
-    alloc: Global,
+    text: &mut MessageText,
     cutter: &mut Cutter<'a, S>,
     room: &mut FoldingRoom,
     builder: &mut Builder,
@@ -129,9 +129,9 @@ fn add_message<'a, S: Source>(
     ensures own { IfErr result IsArchiveFault }
 {
     builder.begin_message()?;
-    let mut text = MessageText::new(alloc)?;
+    text.begin_again();
     'lines: loop {
-        if let Some(Ended { length, size }) = next_line(cutter, &mut text, room, builder, offset)? {
+        if let Some(Ended { length, size }) = next_line(cutter, text, room, builder, offset)? {
             let span = Span {
                 archive,
                 offset,
@@ -145,7 +145,7 @@ fn add_message<'a, S: Source>(
 
 /// Adds the archive's messages, one after another, and leaves its end in the builder to the caller.
 fn add_messages<'a, S: Source>(
-    alloc: Global,
+    text: &mut MessageText,
     cutter: &mut Cutter<'a, S>,
     room: &mut FoldingRoom,
     builder: &mut Builder,
@@ -165,7 +165,7 @@ fn add_messages<'a, S: Source>(
     'messages: loop {
         match next_heading(cutter)? {
             Heading::Message(offset) => {
-                add_message(alloc, cutter, room, builder, archive, offset)?;
+                add_message(text, cutter, room, builder, archive, offset)?;
                 messages += 1;
             }
             Heading::End(length) => {
@@ -175,7 +175,7 @@ fn add_messages<'a, S: Source>(
     }
 }
 
-/// Begins an archive, and adds its messages.
+/// Begins an archive, and adds its messages, whose texts one reader reads.
 fn add_archive<'a, S: Source>(
     alloc: Global,
     cutter: &mut Cutter<'a, S>,
@@ -195,7 +195,8 @@ fn add_archive<'a, S: Source>(
     ensures own { IfErr result IsArchiveFault }
 {
     builder.begin_archive(path)?;
-    add_messages(alloc, cutter, room, builder, archive)
+    let mut text = MessageText::new(alloc)?;
+    add_messages(&mut text, cutter, room, builder, archive)
 }
 
 /// Reads an archive to its end, and adds its messages. Its end in the builder is left to the caller, who has its digest.

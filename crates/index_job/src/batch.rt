@@ -73,7 +73,8 @@ impl<'a> Batch<'a> {
         Ok(())
     }
 
-    /// A word waits behind the others. Where so many wait already, they are added first.
+    /// A word waits behind the others. Where so many wait already, they are added first. (Inlined, since it is called for each word.)
+    #[inline]
     pub(crate) fn push(
         &mut self,
         builder: &mut Builder,

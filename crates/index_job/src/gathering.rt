@@ -24,9 +24,11 @@ pub(crate) fn feed_line(
     requires line { IsLine line.now }
     requires phase { IfSome builder.old IsInMessage }
     ensures source { is_source_failure result ≡ false }
-    ensures ok { OnOk result ((ls : List (List ℕ)) (d : Option Draft) → HasGathered text.old builder.old d ls
+    ensures ok { OnOk result ((ls : List (List ℕ)) (d : Option Draft)
+        → HasGathered text.old builder.old d ls
         → HasGathered text.new builder.new d (ls ++ line.now ∷ [])) }
-    ensures err { IfErr result (λ fault. (ls ms : List (List ℕ)) (d : Option Draft) → HasGathered text.old builder.old d ls
+    ensures err { IfErr result (λ fault. (ls ms : List (List ℕ)) (d : Option Draft)
+        → HasGathered text.old builder.old d ls
         → IsGatherFault (with_texts (texts_of_message (ls ++ line.now ∷ ms)) d) fault) }
 {
     let mut terms = TermSink { builder, room };
@@ -35,19 +37,23 @@ pub(crate) fn feed_line(
 
 /// Gives it the terms that are left, and answers what the message's own header says beside them.
 pub(crate) fn end_text(
-    text: MessageText,
+    text: &mut MessageText,
     room: &mut FoldingRoom,
     builder: &mut Builder,
 ) -> Result<Facts, JobFault>
     requires { IfSome builder.old IsInMessage }
     ensures source { is_source_failure result ≡ false }
     ensures sizes { IfOk result HasSizedIds }
-    ensures facts { IfOk result (λ facts. (ls : List (List ℕ)) (d : Option Draft) → HasGathered text builder.old d ls → facts ≡ facts_of (fields_of ls)) }
-    ensures ok { OnOk result ((ls : List (List ℕ)) (d : Option Draft) → HasGathered text builder.old d ls
+    ensures facts { IfOk result (λ facts. (ls : List (List ℕ)) (d : Option Draft)
+        → HasGathered text.old builder.old d ls
+        → facts ≡ facts_of (fields_of ls)) }
+    ensures ok { OnOk result ((ls : List (List ℕ)) (d : Option Draft)
+        → HasGathered text.old builder.old d ls
         → builder.new ≡ with_texts (texts_of_message ls) d) }
-    ensures err { IfErr result (λ fault. (ls : List (List ℕ)) (d : Option Draft) → HasGathered text builder.old d ls
+    ensures err { IfErr result (λ fault. (ls : List (List ℕ)) (d : Option Draft)
+        → HasGathered text.old builder.old d ls
         → IsGatherFault (with_texts (texts_of_message ls) d) fault) }
 {
     let mut terms = TermSink { builder, room };
-    Ok(text.end(&mut terms)?)
+    Ok(text.finish(&mut terms)?)
 }

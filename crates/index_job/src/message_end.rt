@@ -47,7 +47,8 @@ fn end_message(builder: &mut Builder, facts: &Facts, span: Span) -> Result<(), J
     requires within { span.offset + span.length ≤ most_in_archive }
     ensures source { is_source_failure result ≡ false }
     ensures ok { OnOk result (builder.new ≡ option_map (ended_with facts.now span) builder.old) }
-    ensures err { IfErr result (IsGatherFault (option_map (draft_with_terms (id_terms facts.now)) builder.old)) }
+    ensures err { IfErr result
+        (IsGatherFault (option_map (draft_with_terms (id_terms facts.now)) builder.old)) }
 {
     add_ids(builder, facts)?;
     Ok(builder.end_message(Record {
@@ -62,18 +63,21 @@ fn end_message(builder: &mut Builder, facts: &Facts, span: Span) -> Result<(), J
 
 /// Ends the text of a message, and the message.
 pub(crate) fn finish_message(
-    text: MessageText,
+    text: &mut MessageText,
     room: &mut FoldingRoom,
     builder: &mut Builder,
     span: Span,
 ) -> Result<(), JobFault>
-    requires opened { IsGathering span.archive span.offset text builder.old }
+    requires opened { IsGathering span.archive span.offset text.old builder.old }
     requires size { span.size < span.length }
     requires within { span.offset + span.length ≤ most_in_archive }
     ensures source { is_source_failure result ≡ false }
-    ensures ok { OnOk result ((ls : List (List ℕ)) (d : Option Draft) → HasGathered text builder.old d ls
-        → builder.new ≡ option_map (ended_with (facts_of (fields_of ls)) span) (with_texts (texts_of_message ls) d)) }
-    ensures err { IfErr result (λ fault. (ls : List (List ℕ)) (d : Option Draft) → HasGathered text builder.old d ls
+    ensures ok { OnOk result ((ls : List (List ℕ)) (d : Option Draft)
+        → HasGathered text.old builder.old d ls
+        → builder.new ≡ option_map (ended_with (facts_of (fields_of ls)) span)
+        (with_texts (texts_of_message ls) d)) }
+    ensures err { IfErr result (λ fault. (ls : List (List ℕ)) (d : Option Draft)
+        → HasGathered text.old builder.old d ls
         → IsGatherFault (option_map (draft_with_terms (message_terms ls)) d) fault) }
 {
     let facts = end_text(text, room, builder)?;

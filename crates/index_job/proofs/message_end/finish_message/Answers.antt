@@ -15,8 +15,8 @@ end_message-requires-clause-opened c =
 
 pub returns-clause-ok : goal.returns-clause-ok
 returns-clause-ok c =
-    finished-is c.end_message.result c.end_message.new.builder c.args.span c.in_ok-facts.facts c.args.text c.args.builder.now c.end_text.new.builder c.in_ok-facts.ensures.facts c.in_ok-facts.ensures.ok c.end_message.ensures.ok
+    finished-is c.end_message.result c.end_message.new.builder c.args.span c.in_ok-facts.facts c.args.text.now c.args.builder.now c.end_text.new.builder c.in_ok-facts.ensures.facts c.in_ok-facts.ensures.ok c.end_message.ensures.ok
 
 pub returns-clause-err : goal.returns-clause-err
 returns-clause-err c =
-    ids-fail c.end_message.result c.in_ok-facts.facts c.args.text c.args.builder.now c.end_text.new.builder c.in_ok-facts.ensures.facts c.in_ok-facts.ensures.ok c.end_message.ensures.err
+    ids-fail c.end_message.result c.in_ok-facts.facts c.args.text.now c.args.builder.now c.end_text.new.builder c.in_ok-facts.ensures.facts c.in_ok-facts.ensures.ok c.end_message.ensures.err
