@@ -7,9 +7,11 @@ use Rattle.clap.specs.declared.error.kind.ErrorKind.TheVariants as kind
 use Rattle.clap.specs.declared.parser.matches.ArgMatches.{ArgMatches}
 use Rattle.contract_words.proofs.Collecting.{if_some_map}
 use Rattle.contract_words.specs.Answers.{Gives, ◌>>=◌}
-use Rattle.mairix_options.specs.CommandLine.{command, parse, parse_by, plan, plan_of_rows, plan_in, one_format, refusal_of_kind, kind_refusal, error_refusal, fault_of_kind, usage_refusal}
+use Rattle.mairix_options.specs.CommandLine.{command, parse, parse_by, plan, plan_of_rows, plan_in, one_format, refusal_of_kind, kind_refusal, error_refusal, fault_of_kind}
+use Rattle.mairix_options.specs.Refusals.{refusal}
 use Rattle.mairix_options.specs.declared.command_line.Plan.{Plan}
 use Rattle.mairix_options.specs.declared.command_line.UsageFault.{UsageFault}
+use Rattle.mairix_options.specs.declared.or_memory.OrMemory.{OrMemory}
 use Rattle.mairix_options.proofs.OneKind.{One, one_fault, only_kind}
 
 -- the command is one of those whose parse clap states
@@ -55,21 +57,21 @@ Gives-parsed words (Ok m) matches none = parse-taken words m none (matches simpl
 Gives-parsed words (Err e) matches has = parse-refused words (kind_of e) has
 
 -- what the parser takes, with one format
-pub Gives-one : (words : List Text) (p : Plan) (r : Result Plan UsageFault) → parse words ≡ Ok p → Gives (λ p. p) usage_refusal r (one_format p)
-    → Gives (λ p. p) usage_refusal r (plan words)
+pub Gives-one : (words : List Text) (p : Plan) (r : Result Plan (OrMemory UsageFault)) → parse words ≡ Ok p → Gives (λ p. p) refusal r (one_format p)
+    → Gives (λ p. p) refusal r (plan words)
 unfolding plan
-Gives-one words p r takes gives = subst (Gives (λ p. p) usage_refusal r) (ap (λ t. t >>= one_format) (sym takes)) gives
+Gives-one words p r takes gives = subst (Gives (λ p. p) refusal r) (ap (λ t. t >>= one_format) (sym takes)) gives
 
 -- a kind is told as its refusal
-told : (k : ErrorKind) (P : UsageFault → Type 0) → IfSome (kind_refusal k) P → IfSome (usage_refusal (fault_of_kind k)) P
+told : (k : ErrorKind) (P : UsageFault → Type 0) → IfSome (kind_refusal k) P → IfSome (refusal (fault_of_kind k)) P
 told kind.OutOfMemory P is = tt
 told _ P is = is
 
 -- what the parser refuses
-pub Gives-refused : (words : List Text) (k : ErrorKind) (fault : UsageFault) → fault ≡ fault_of_kind k → IfSome (kind_refusal k) (λ f. parse words ≡ Err f)
-    → IfSome (usage_refusal fault) (λ f. plan words ≡ Err f)
+pub Gives-refused : (words : List Text) (k : ErrorKind) (fault : OrMemory UsageFault) → fault ≡ fault_of_kind k → IfSome (kind_refusal k) (λ f. parse words ≡ Err f)
+    → IfSome (refusal fault) (λ f. plan words ≡ Err f)
 unfolding plan
 Gives-refused words k fault is refuses =
-    subst (λ (g : UsageFault). IfSome (usage_refusal g) (λ f. (parse words >>= one_format) ≡ Err f)) (sym is)
+    subst (λ (g : OrMemory UsageFault). IfSome (refusal g) (λ f. (parse words >>= one_format) ≡ Err f)) (sym is)
     (told k (λ f. (parse words >>= one_format) ≡ Err f)
     (if_some_map (kind_refusal k) (λ f. parse words ≡ Err f) (λ f. (parse words >>= one_format) ≡ Err f) (λ f same. ap (λ t. t >>= one_format) same) refuses))

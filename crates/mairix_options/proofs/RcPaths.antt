@@ -15,13 +15,15 @@ use Rattle.mail_dates.proofs.Cuts.{split_none}
 use Rattle.mail_index.specs.Tables.{IsPath}
 use Rattle.mairix_options.specs.Blanks.{is_blank, trimmed}
 use Rattle.mairix_options.specs.Path.{is_path, has_expansion, has_wildcard, under, archive_path, mfolder_path}
-use Rattle.mairix_options.specs.Rcfile.{keyword_of, archives_of, names_in, paths_in, expanded_in, wild_in, format_of, setting_of, supported, assigned, entry, is_skipped, text_settings, line_settings, base_in, archives_in, database_in, mfolder_in, format_in, last_of, lines_in, settings_from, archives_misfit, mfolder_misfit, earlier, first_misfit, all_fit, required, if_any, all_paths, rc_fitting, rc_with, rc_from, rc_of, rc_refusal}
+use Rattle.mairix_options.specs.Rcfile.{keyword_of, archives_of, names_in, paths_in, expanded_in, wild_in, format_of, setting_of, supported, assigned, entry, is_skipped, text_settings, line_settings, base_in, archives_in, database_in, mfolder_in, format_in, last_of, lines_in, settings_from, archives_misfit, mfolder_misfit, earlier, first_misfit, all_fit, required, if_any, all_paths, rc_fitting, rc_with, rc_from, rc_of}
+use Rattle.mairix_options.specs.Refusals.{refusal}
 use Rattle.mairix_options.specs.declared.setting.ArchivesLine.{ArchivesLine}
 use Rattle.mairix_options.specs.declared.setting.Keyword.{Keyword}
 use Rattle.mairix_options.specs.declared.setting.Keyword.TheVariants as keyword
 use Rattle.mairix_options.specs.declared.mail_format.MailFormat.{MailFormat}
 use Rattle.mairix_options.specs.declared.mail_format.MailFormat.TheVariants as mail
 use Rattle.mairix_options.specs.declared.setting.MfolderLine.{MfolderLine}
+use Rattle.mairix_options.specs.declared.or_memory.OrMemory.{OrMemory}
 use Rattle.mairix_options.specs.declared.rcfile.Name.{Name}
 use Rattle.mairix_options.specs.declared.rcfile.Name.TheVariants as name
 use Rattle.mairix_options.specs.declared.rcfile.Rc.{Rc}
@@ -329,22 +331,22 @@ paths-are-paths rc r is = let all = rc-all-paths rc r is in all.paths
 
 -- the same of what reads it
 module _ (rc : List ℕ) (settings : List Setting) (collects : settings_from [] 1 (lines_in rc) ≡ Ok settings) where
-  read-all : (result : Result Rc RcFault) → Gives (λ r. r) rc_refusal result (rc_from settings) → IfOk result AllPaths
+  read-all : (result : Result Rc (OrMemory RcFault)) → Gives (λ r. r) refusal result (rc_from settings) → IfOk result AllPaths
   read-all (Ok r) gives = rc-all-paths rc r (ap (λ s. s >>= rc_from) collects ∙ gives)
   read-all (Err fault) gives = tt
 
-  read-each : (P : Rc → Type 0) → ((r : Rc) → AllPaths r → P r) → (result : Result Rc RcFault) → Gives (λ r. r) rc_refusal result (rc_from settings) → IfOk result P
+  read-each : (P : Rc → Type 0) → ((r : Rc) → AllPaths r → P r) → (result : Result Rc (OrMemory RcFault)) → Gives (λ r. r) refusal result (rc_from settings) → IfOk result P
   read-each P each (Ok r) gives = each r (read-all (Ok r) gives)
   read-each P each (Err fault) gives = tt
 
-  pub read-base : (result : Result Rc RcFault) → Gives (λ r. r) rc_refusal result (rc_from settings) → IfOk result (λ r. IfSome r.base IsPath)
+  pub read-base : (result : Result Rc (OrMemory RcFault)) → Gives (λ r. r) refusal result (rc_from settings) → IfOk result (λ r. IfSome r.base IsPath)
   read-base result gives = read-each (λ r. IfSome r.base IsPath) (λ r all. all.base) result gives
 
-  pub read-paths : (result : Result Rc RcFault) → Gives (λ r. r) rc_refusal result (rc_from settings) → IfOk result (λ r. All IsPath r.paths)
+  pub read-paths : (result : Result Rc (OrMemory RcFault)) → Gives (λ r. r) refusal result (rc_from settings) → IfOk result (λ r. All IsPath r.paths)
   read-paths result gives = read-each (λ r. All IsPath r.paths) (λ r all. all.paths) result gives
 
-  pub read-database : (result : Result Rc RcFault) → Gives (λ r. r) rc_refusal result (rc_from settings) → IfOk result (λ r. IsPath r.database)
+  pub read-database : (result : Result Rc (OrMemory RcFault)) → Gives (λ r. r) refusal result (rc_from settings) → IfOk result (λ r. IsPath r.database)
   read-database result gives = read-each (λ r. IsPath r.database) (λ r all. all.database) result gives
 
-  pub read-mfolder : (result : Result Rc RcFault) → Gives (λ r. r) rc_refusal result (rc_from settings) → IfOk result (λ r. IsPath r.mfolder)
+  pub read-mfolder : (result : Result Rc (OrMemory RcFault)) → Gives (λ r. r) refusal result (rc_from settings) → IfOk result (λ r. IsPath r.mfolder)
   read-mfolder result gives = read-each (λ r. IsPath r.mfolder) (λ r all. all.mfolder) result gives

@@ -12,7 +12,9 @@ use Rattle.clap.specs.declared.parser.matches.ArgMatches.{ArgMatches}
 use Rattle.contract_words.specs.Answers.{◌>>=◌}
 use Rattle.mairix_options.specs.declared.command_line.Plan.{Plan}
 use Rattle.mairix_options.specs.declared.command_line.UsageFault.{UsageFault}
-use Rattle.mairix_options.specs.declared.command_line.UsageFault.TheVariants.{Parse, TwoFormats, Help, Version, OutOfMemory}
+use Rattle.mairix_options.specs.declared.command_line.UsageFault.TheVariants.{Parse, TwoFormats, Help, Version}
+use Rattle.mairix_options.specs.declared.or_memory.OrMemory.{OrMemory}
+use Rattle.mairix_options.specs.declared.or_memory.OrMemory.TheVariants.{Refused, Memory}
 
 -- ---- the command
 
@@ -108,11 +110,6 @@ plan words = parse words >>= one_format
 
 -- ---- refusals
 
--- the refusals that the words determine: all but want of memory
-abbrev pub usage_refusal : UsageFault → Option UsageFault
-usage_refusal OutOfMemory = None
-usage_refusal fault = Some fault
-
 -- the refusal that a parser's error is: want of memory is none
 abbrev pub kind_refusal : ErrorKind → Option UsageFault
 kind_refusal kind.OutOfMemory = None
@@ -122,6 +119,6 @@ abbrev pub error_refusal : Error → Option UsageFault
 error_refusal error = kind_refusal (kind_of error)
 
 -- what a parser's error is answered as
-abbrev pub fault_of_kind : ErrorKind → UsageFault
-fault_of_kind kind.OutOfMemory = OutOfMemory
-fault_of_kind k = refusal_of_kind k
+abbrev pub fault_of_kind : ErrorKind → OrMemory UsageFault
+fault_of_kind kind.OutOfMemory = Memory
+fault_of_kind k = Refused (refusal_of_kind k)

@@ -3,3 +3,4 @@ pub mod Blanks
 pub mod CommandLine
 pub mod Path
 pub mod Rcfile
+pub mod Refusals

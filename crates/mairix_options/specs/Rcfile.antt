@@ -15,7 +15,7 @@ use Rattle.mairix_options.specs.declared.rcfile.Name.{Name}
 use Rattle.mairix_options.specs.declared.rcfile.Name.TheVariants as name
 use Rattle.mairix_options.specs.declared.rcfile.Rc.{Rc}
 use Rattle.mairix_options.specs.declared.rcfile.RcFault.{RcFault}
-use Rattle.mairix_options.specs.declared.rcfile.RcFault.TheVariants.{BadLine, NotSupported, Wildcard, Expansion, Missing, BadFormat, OutOfMemory}
+use Rattle.mairix_options.specs.declared.rcfile.RcFault.TheVariants.{BadLine, NotSupported, Wildcard, Expansion, Missing, BadFormat}
 use Rattle.mairix_options.specs.declared.setting.ArchivesLine.{ArchivesLine}
 use Rattle.mairix_options.specs.declared.setting.MfolderLine.{MfolderLine}
 use Rattle.mairix_options.specs.declared.setting.Setting.{Setting}
@@ -200,8 +200,3 @@ rc_from settings =
 -- lacks
 abbrev pub rc_of : List ℕ → Result Rc RcFault
 rc_of rc = settings_from [] 1 (lines_in rc) >>= rc_from
-
--- the refusals that the rcfile determines: all but want of memory
-abbrev pub rc_refusal : RcFault → Option RcFault
-rc_refusal OutOfMemory = None
-rc_refusal fault = Some fault

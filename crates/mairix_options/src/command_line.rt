@@ -2,39 +2,52 @@
 ghost use Rattle.std.specs.Prelude.{◌≡◌, [], true, false, map, option_map, unwrap_or, is_ok, IfOk, codes, string_bytes};
 ghost use Rattle.clap.specs.Words.{app_of, rule_of, with_rule, found_of, rows_of, first_of, all_of};
 ghost use Rattle.contract_words.specs.Answers.{Gives};
-ghost use Rattle.mairix_options.specs.CommandLine.{short_flag, long_flag, rcfile_option, mfolder_option, pattern_argument, bare_command, command_of_formats, command, flag, parse, plan, plan_in, one_format, fault_of_kind, error_refusal, usage_refusal};
+ghost use Rattle.mairix_options.specs.CommandLine.{short_flag, long_flag, rcfile_option, mfolder_option, pattern_argument, bare_command, command_of_formats, command, flag, parse, plan, plan_in, one_format, fault_of_kind, error_refusal};
+ghost use Rattle.mairix_options.specs.Refusals.{refusal};
 
+use crate::or_memory::OrMemory;
 use crate::owned_text::{Text, Texts};
 use clap::error::ErrorKind;
 use clap::{Arg, ArgAction, ArgMatches, Command};
-use std::alloc::{AllocError, AllocFailed, Global};
-use thiserror::Error;
+use std::alloc::{AllocError, Global};
 
 // The headings of the options' groups in help. An option without one stands below `Options`, as the parser's own do.
-const OUTPUT: &str = "Output, else as the rcfile's mformat and mfolder say";
+const OUTPUT: &str = "Output";
 
 const SEARCHING: &str = "Searching";
 
-// What stands behind the options in help: both query languages, in short, and examples.
-const QUERIES_AND_EXAMPLES: &str = "\
-Patterns, of which a message has to fit each:
+// What stands behind the options in help: where an answer goes, both query languages, in short, examples, and the pages.
+const ANSWERS_AND_QUERIES: &str = "\
+Where the answer goes:
+  An mbox goes to the file that -o or the rcfile's mfolder names. Lines (-r),
+  excerpts (-x) and an mbox with --stdout are printed, and no file is written.
+  Without -r and -x the rcfile's mformat says which of the three it is.
+
+Patterns (a message must match all of them):
   s:x b:x n:x         A word of the Subject, of the body, of attachments' names
   t:x c:x f:x a:x     A word of To, Cc, From, any of the three; tc:x is To or Cc
   x                   A word of To, Cc, From, the Subject or the body
-  x,y x/y ~x x= ^x=   Both, either, not this; a part of a word, its beginning
-  d:2w- z:10k- F:-s   Dates, sizes, flags (seen, replied, flagged); m: an id
+  m:x                 The message whose Message-ID is x
+  d:2003 d:2w-        Dated in 2003; within the last two weeks
+  z:10k- z:-1M        At least 10 kilobytes; at most 1 megabyte
+  F:s F:-r F:f        Seen; not replied to; flagged
+  x,y x/y ~x          Both words; one of them; not this word
+  x= ^x=              A word that contains x; a word that begins with x
 
 Boolean queries, with --boolean:
   from:x to:x         A word of From; of To, Cc or Bcc
   subject:x body:x    A word of the Subject; of the body
-  x x* *              A word of any of these; one that begins so; every message
-  id:x date:2003-02   The Message-ID; a month or day, or two with .. between
+  x x* *              A word of any of these; one beginning with x; any message
+  id:x                The message whose Message-ID is x
+  date:2003-02        Dated in that month; so 2003-02-17 and 2003-02..2003-04
   (x or y) and not z  not binds closest, then and, then or
 
 Examples:
-  mairix -f ~/.mairixrc                                            # index
+  mairix -f ~/.mairixrc                                            # make index
   mairix -f ~/.mairixrc -x s:lunch d:2003                          # excerpts
-  mairix -f ~/.mairixrc -r --boolean 'from:alice or subject:rep*'  # lines";
+  mairix -f ~/.mairixrc -r --boolean 'from:alice or subject:rep*'  # lines
+
+Manual pages: mairix(1); mairixrc(5), the rcfile; mairix-query(7), queries";
 
 /// What the words of a command line ask for.
 #[derive(Drop)]
@@ -62,45 +75,16 @@ pub struct Plan {
 }
 
 /// Why the words of a command line ask for nothing.
-#[derive(Clone, Copy, Debug, PartialEq, Eq, Error)]
+#[derive(Clone, Copy, Debug, PartialEq, Eq)]
 pub enum UsageFault {
     /// The parser refuses the words.
-    #[error("bad words")]
     Parse,
     /// Both raw and excerpt are asked for.
-    #[error("-r and -x exclude each other")]
     TwoFormats,
     /// Help is asked for.
-    #[error("help")]
     Help,
     /// The version is asked for.
-    #[error("version")]
     Version,
-    /// A growth was refused.
-    #[error("out of memory")]
-    OutOfMemory,
-}
-
-impl From<AllocError> for UsageFault {
-    ghost use Rattle.std.specs.Prelude.{◌≡◌};
-    ghost use Rattle.mairix_options.specs.declared.command_line.UsageFault.TheVariants.{OutOfMemory};
-
-    ghost from_gives = { λ _ fault. fault ≡ OutOfMemory };
-
-    fn from(_: AllocError) -> Self {
-        UsageFault::OutOfMemory
-    }
-}
-
-impl<T: Drop> From<AllocFailed<T>> for UsageFault {
-    ghost use Rattle.std.specs.Prelude.{◌≡◌};
-    ghost use Rattle.mairix_options.specs.declared.command_line.UsageFault.TheVariants.{OutOfMemory};
-
-    ghost from_gives = { λ _ fault. fault ≡ OutOfMemory };
-
-    fn from(_: AllocFailed<T>) -> Self {
-        UsageFault::OutOfMemory
-    }
 }
 
 /// What the words after the program's name ask for.
@@ -114,8 +98,8 @@ impl<T: Drop> From<AllocFailed<T>> for UsageFault {
 ///
 /// `Help` and `Version` where that is what the parser answers first, and `Parse` for any other refusal of it; `TwoFormats`
 /// where the parser takes the words and both `-r` and `-x` are among them.
-pub fn plan_of(alloc: Global, words: &[String]) -> Result<Plan, UsageFault>
-    ensures { Gives (λ p. p) usage_refusal result (plan (map string_bytes words.now)) }
+pub fn plan_of(alloc: Global, words: &[String]) -> Result<Plan, OrMemory<UsageFault>>
+    ensures { Gives (λ p. p) refusal result (plan (map string_bytes words.now)) }
 {
     match parsed(alloc, words)? {
         Ok(matches) => with_one_format(planned(alloc, &matches)?),
@@ -137,11 +121,11 @@ pub fn usage_text(alloc: Global, words: &[String]) -> Result<String, AllocError>
 }
 
 /// The plan, unless it asks for two formats of the answer.
-fn with_one_format(plan: Plan) -> Result<Plan, UsageFault>
-    ensures { Gives (λ p. p) usage_refusal result (one_format plan) }
+fn with_one_format(plan: Plan) -> Result<Plan, OrMemory<UsageFault>>
+    ensures { Gives (λ p. p) refusal result (one_format plan) }
 {
     if plan.raw && plan.excerpt {
-        return Err(UsageFault::TwoFormats);
+        return Err(OrMemory::Refused(UsageFault::TwoFormats));
     }
     Ok(plan)
 }
@@ -209,14 +193,14 @@ fn texts_of(alloc: Global, matches: &ArgMatches<'_>, id: &str) -> Result<Texts, 
     }
 }
 
-fn fault_of_kind(kind: ErrorKind) -> UsageFault
+fn fault_of_kind(kind: ErrorKind) -> OrMemory<UsageFault>
     ensures { result ≡ fault_of_kind kind }
 {
     match kind {
-        ErrorKind::DisplayHelp => UsageFault::Help,
-        ErrorKind::DisplayVersion => UsageFault::Version,
-        ErrorKind::OutOfMemory => UsageFault::OutOfMemory,
-        _ => UsageFault::Parse,
+        ErrorKind::DisplayHelp => OrMemory::Refused(UsageFault::Help),
+        ErrorKind::DisplayVersion => OrMemory::Refused(UsageFault::Version),
+        ErrorKind::OutOfMemory => OrMemory::Memory,
+        _ => OrMemory::Refused(UsageFault::Parse),
     }
 }
 
@@ -236,13 +220,17 @@ fn command<'a>(alloc: Global) -> Result<Command<'a>, AllocError>
         long_flag(
             alloc,
             "boolean",
-            "Read the patterns as one query of and, or, not and parentheses",
+            "Read the patterns as one query with and, or, not and ( )",
         ),
     )?;
     let once = with_in_group(
         boolean,
         SEARCHING,
-        long_flag(alloc, "once", "Index in memory, then search"),
+        long_flag(
+            alloc,
+            "once",
+            "Index the archives in memory, and search that index",
+        ),
     )?;
     let verify = with_in_group(
         once,
@@ -250,7 +238,7 @@ fn command<'a>(alloc: Global) -> Result<Command<'a>, AllocError>
         long_flag(
             alloc,
             "verify",
-            "Prove first that the archives are those that were indexed",
+            "Check first that no archive has changed since it was indexed",
         ),
     )?;
     with(verify, pattern_argument(alloc))
@@ -264,7 +252,12 @@ fn command_of_formats<'a>(alloc: Global) -> Result<Command<'a>, AllocError>
     let raw = with_in_group(
         rcfile,
         OUTPUT,
-        short_flag(alloc, "raw", 'r', "Print offsets, lengths and archives"),
+        short_flag(
+            alloc,
+            "raw",
+            'r',
+            "Print a line for each message: offset, length, archive",
+        ),
     )?;
     let excerpt = with_in_group(
         raw,
@@ -273,13 +266,18 @@ fn command_of_formats<'a>(alloc: Global) -> Result<Command<'a>, AllocError>
             alloc,
             "excerpt",
             'x',
-            "Print archives and the main header lines",
+            "Print the archive and the main header lines of each message",
         ),
     )?;
     with_in_group(
         excerpt,
         SEARCHING,
-        short_flag(alloc, "threads", 't', "Answer with whole threads"),
+        short_flag(
+            alloc,
+            "threads",
+            't',
+            "Find whole threads: also all messages linked to a match",
+        ),
     )
 }
 
@@ -308,7 +306,7 @@ fn bare_command<'a>(alloc: Global) -> Command<'a>
     Command::new(alloc, "mairix")
         .version("0.1.0")
         .about("Index and search mbox archives")
-        .after_help(QUERIES_AND_EXAMPLES)
+        .after_help(ANSWERS_AND_QUERIES)
         .no_binary_name(true)
 }
 
@@ -332,7 +330,7 @@ fn mfolder_option<'a>(alloc: Global) -> Arg<'a>
         .short('o')
         .value_name("NAME")
         .action(ArgAction::Set)
-        .help("The mbox to write, in place of the rcfile's mfolder")
+        .help("Write the mbox to this file, not to the rcfile's mfolder")
 }
 
 fn pattern_argument<'a>(alloc: Global) -> Arg<'a>
@@ -342,7 +340,7 @@ fn pattern_argument<'a>(alloc: Global) -> Arg<'a>
     Arg::new(alloc, "pattern")
         .value_name("PATTERN")
         .action(ArgAction::Append)
-        .help("What to search for; without one the index is made")
+        .help("What to look for; without a pattern the index is made")
 }
 
 fn short_flag<'a>(alloc: Global, id: &'a str, letter: char, help: &'a str) -> Arg<'a>

@@ -5,13 +5,16 @@ mod answer;
 mod blanks;
 mod command_line;
 mod mail_format;
+mod or_memory;
 mod owned_text;
 mod path;
 mod rcfile;
 mod setting;
+mod texts;
 
 pub use answer::{answer_file, answer_format};
 pub use command_line::{Plan, UsageFault, plan_of, usage_text};
 pub use mail_format::MailFormat;
+pub use or_memory::OrMemory;
 pub use owned_text::{Text, Texts};
 pub use rcfile::{Name, Rc, RcFault, read_rc};

@@ -4,16 +4,16 @@ ghost use Rattle.std.specs.List.{All, filter_map, last_or, slice_get};
 ghost use Rattle.std.specs.Option.{option_to_list};
 ghost use Rattle.contract_words.specs.Answers.{Gives};
 ghost use Rattle.mail_index.specs.Tables.{IsPath};
-ghost use Rattle.mairix_options.specs.Rcfile.{base_in, lines_in, settings_from, archives_misfit, mfolder_misfit, earlier, first_misfit, all_paths, rc_fitting, rc_with, rc_from, rc_of, rc_refusal};
+ghost use Rattle.mairix_options.specs.Rcfile.{base_in, lines_in, settings_from, archives_misfit, mfolder_misfit, earlier, first_misfit, all_paths, rc_fitting, rc_with, rc_from, rc_of};
+ghost use Rattle.mairix_options.specs.Refusals.{refusal};
 
 use crate::mail_format::MailFormat;
+use crate::or_memory::OrMemory;
 use crate::owned_text::{Text, Texts};
 use crate::path::{archive_paths, is_path, mfolder_path};
 use crate::setting::{ArchivesLine, MfolderLine, Setting, all_are_paths, line_setting};
 use bstr::ByteSlice;
-use std::alloc::{AllocError, AllocFailed, Global};
-use std::fmt;
-use thiserror::Error;
+use std::alloc::{AllocError, Global};
 
 /// What an rcfile says.
 #[derive(Drop)]
@@ -48,63 +48,22 @@ pub enum Name {
     Mfolder,
 }
 
-impl fmt::Display for Name {
-    fn fmt<W: fmt::Write>(&self, f: &mut fmt::Formatter<W>) -> fmt::Result {
-        f.write_str(match self {
-            Name::Mbox => "mbox",
-            Name::Database => "database",
-            Name::Mfolder => "mfolder",
-        })
-    }
-}
-
 /// Why an rcfile is refused. Lines are numbered from 1.
-#[derive(Clone, Copy, Debug, PartialEq, Eq, Error)]
+#[derive(Clone, Copy, Debug, PartialEq, Eq)]
 pub enum RcFault {
     /// Not UTF-8, no `=`, an empty option or value, or a value (of `mbox`, one of its names) that is no path, or none under the
     /// base.
-    #[error("rcfile line {0}: not option=value")]
     BadLine(u64),
     /// Another option than `base`, `mbox`, `database`, `mfolder` and `mformat`.
-    #[error("rcfile line {0}: option not supported")]
     NotSupported(u64),
     /// `*`, `?`, `[` or `...` in `mbox`.
-    #[error("rcfile line {0}: wildcard not supported")]
     Wildcard(u64),
     /// `$` anywhere, or a name or value that begins with `~`; not looked for in `mformat`.
-    #[error("rcfile line {0}: expansion not supported")]
     Expansion(u64),
     /// No line sets the option, or `mbox` names no archive.
-    #[error("rcfile: {0} missing")]
     Missing(Name),
     /// Another `mformat` than `mbox`, `raw` and `excerpt`.
-    #[error("rcfile line {0}: unknown format")]
     BadFormat(u64),
-    /// A growth was refused.
-    #[error("out of memory")]
-    OutOfMemory,
-}
-
-impl From<AllocError> for RcFault {
-    ghost use Rattle.std.specs.Prelude.{◌≡◌};
-    ghost use Rattle.mairix_options.specs.declared.rcfile.RcFault.TheVariants.{OutOfMemory};
-
-    ghost from_gives = { λ _ fault. fault ≡ OutOfMemory };
-
-    fn from(_: AllocError) -> Self {
-        RcFault::OutOfMemory
-    }
-}
-
-impl<T: Drop> From<AllocFailed<T>> for RcFault {
-    ghost use Rattle.std.specs.Prelude.{◌≡◌};
-    ghost use Rattle.mairix_options.specs.declared.rcfile.RcFault.TheVariants.{OutOfMemory};
-
-    ghost from_gives = { λ _ fault. fault ≡ OutOfMemory };
-
-    fn from(_: AllocFailed<T>) -> Self {
-        RcFault::OutOfMemory
-    }
 }
 
 /// What an rcfile says, where it has lines `option=value` alone, comments and empty lines.
@@ -120,8 +79,8 @@ impl<T: Drop> From<AllocFailed<T>> for RcFault {
 /// Wildcard, BadFormat, where a path is taken under the last base before its line. Then BadLine of the first line of `mbox`, or
 /// of the `mfolder` that counts, with a path that is none under the base that counts. Then the first of `mbox`, `database` and
 /// `mfolder` that no line sets.
-pub fn read_rc(alloc: Global, rc: &[u8]) -> Result<Rc, RcFault>
-    ensures given { Gives (λ r. r) rc_refusal result (rc_of rc.now) }
+pub fn read_rc(alloc: Global, rc: &[u8]) -> Result<Rc, OrMemory<RcFault>>
+    ensures given { Gives (λ r. r) refusal result (rc_of rc.now) }
     ensures base { IfOk result (λ r. IfSome r.base IsPath) }
     ensures paths { IfOk result (λ r. All IsPath r.paths) }
     ensures database { IfOk result (λ r. IsPath r.database) }
@@ -131,8 +90,8 @@ pub fn read_rc(alloc: Global, rc: &[u8]) -> Result<Rc, RcFault>
     rc_from(alloc, settings)
 }
 
-fn settings_in(alloc: Global, rc: &[u8]) -> Result<Vec<Setting>, RcFault>
-    ensures { Gives (λ v. v.items) rc_refusal result (settings_from [] 1 (lines_in rc.now)) }
+fn settings_in(alloc: Global, rc: &[u8]) -> Result<Vec<Setting>, OrMemory<RcFault>>
+    ensures { Gives (λ v. v.items) refusal result (settings_from [] 1 (lines_in rc.now)) }
 {
     let mut settings = Vec::new(alloc);
     let mut base = None;
@@ -163,8 +122,8 @@ fn base_behind(
     }
 }
 
-fn rc_from(alloc: Global, settings: Vec<Setting>) -> Result<Rc, RcFault>
-    ensures { Gives (λ r. r) rc_refusal result (rc_from settings.items) }
+fn rc_from(alloc: Global, settings: Vec<Setting>) -> Result<Rc, OrMemory<RcFault>>
+    ensures { Gives (λ r. r) refusal result (rc_from settings.items) }
 {
     let mut archives = Vec::new(alloc);
     let mut base = None;
@@ -192,17 +151,17 @@ fn rc_from(alloc: Global, settings: Vec<Setting>) -> Result<Rc, RcFault>
     )
 }
 
-fn rc_with(alloc: Global, said: Said) -> Result<Rc, RcFault>
-    ensures { Gives (λ r. r) rc_refusal result (rc_with said.base said.archives.items said.database said.mfolder said.format) }
+fn rc_with(alloc: Global, said: Said) -> Result<Rc, OrMemory<RcFault>>
+    ensures { Gives (λ r. r) refusal result (rc_with said.base said.archives.items said.database said.mfolder said.format) }
 {
     if let Some(number) = first_misfit(alloc, &said.base, &said.archives, &said.mfolder)? {
-        return Err(RcFault::BadLine(number));
+        return Err(OrMemory::Refused(RcFault::BadLine(number)));
     }
     rc_fitting(alloc, said)
 }
 
-fn rc_fitting(alloc: Global, said: Said) -> Result<Rc, RcFault>
-    ensures { Gives (λ r. r) rc_refusal result (rc_fitting said.base said.archives.items said.database said.mfolder said.format) }
+fn rc_fitting(alloc: Global, said: Said) -> Result<Rc, OrMemory<RcFault>>
+    ensures { Gives (λ r. r) refusal result (rc_fitting said.base said.archives.items said.database said.mfolder said.format) }
 {
     let Said {
         base,
@@ -213,13 +172,13 @@ fn rc_fitting(alloc: Global, said: Said) -> Result<Rc, RcFault>
     } = said;
     let paths = all_paths(alloc, &base, &archives)?;
     if paths.as_slice().is_empty() {
-        return Err(RcFault::Missing(Name::Mbox));
+        return Err(OrMemory::Refused(RcFault::Missing(Name::Mbox)));
     }
     let Some(database) = database else {
-        return Err(RcFault::Missing(Name::Database));
+        return Err(OrMemory::Refused(RcFault::Missing(Name::Database)));
     };
     let Some(mfolder) = mfolder else {
-        return Err(RcFault::Missing(Name::Mfolder));
+        return Err(OrMemory::Refused(RcFault::Missing(Name::Mfolder)));
     };
     let mfolder = mfolder_path(alloc, &base, mfolder.name.as_str())?;
     Ok(Rc {

@@ -4,10 +4,12 @@ ghost use Rattle.std.specs.List.{list_any, list_all};
 ghost use Rattle.std.specs.Option.{option_to_list};
 ghost use Rattle.contract_words.specs.Answers.{Gives};
 ghost use Rattle.mairix_options.specs.Path.{is_path, has_expansion, has_wildcard};
-ghost use Rattle.mairix_options.specs.Rcfile.{keyword_of, archives_of, names_in, paths_in, supported, unexpanded, assigned, entry, is_skipped, line_settings, rc_refusal};
+ghost use Rattle.mairix_options.specs.Rcfile.{keyword_of, archives_of, names_in, paths_in, supported, unexpanded, assigned, entry, is_skipped, line_settings};
+ghost use Rattle.mairix_options.specs.Refusals.{refusal};
 
 use crate::blanks::{trimmed, trimmed_text};
 use crate::mail_format::MailFormat;
+use crate::or_memory::OrMemory;
 use crate::owned_text::{Text, Texts};
 use crate::path::{archive_paths, has_expansion, has_wildcard, is_path, mfolder_path};
 use crate::rcfile::RcFault;
@@ -79,8 +81,8 @@ pub(crate) fn line_setting(
     base: &Option<Text>,
     number: u64,
     line: &[u8],
-) -> Result<Option<Setting>, RcFault>
-    ensures { Gives option_to_list rc_refusal result (line_settings base.now number line.now) }
+) -> Result<Option<Setting>, OrMemory<RcFault>>
+    ensures { Gives option_to_list refusal result (line_settings base.now number line.now) }
 {
     let text = trimmed(line);
     if is_skipped(text) {
@@ -99,11 +101,16 @@ fn is_skipped(text: &[u8]) -> bool
     }
 }
 
-fn entry(alloc: Global, base: &Option<Text>, number: u64, text: &[u8]) -> Result<Setting, RcFault>
-    ensures { Gives (λ s. s) rc_refusal result (entry base.now number text.now) }
+fn entry(
+    alloc: Global,
+    base: &Option<Text>,
+    number: u64,
+    text: &[u8],
+) -> Result<Setting, OrMemory<RcFault>>
+    ensures { Gives (λ s. s) refusal result (entry base.now number text.now) }
 {
     let Ok(text) = str::from_utf8(text) else {
-        return Err(RcFault::BadLine(number));
+        return Err(OrMemory::Refused(RcFault::BadLine(number)));
     };
     match text.split_once('=') {
         Some((option, value)) => assigned(
@@ -113,7 +120,7 @@ fn entry(alloc: Global, base: &Option<Text>, number: u64, text: &[u8]) -> Result
             trimmed_text(option),
             trimmed_text(value),
         ),
-        None => Err(RcFault::BadLine(number)),
+        None => Err(OrMemory::Refused(RcFault::BadLine(number))),
     }
 }
 
@@ -123,16 +130,16 @@ fn assigned(
     number: u64,
     option: &str,
     value: &str,
-) -> Result<Setting, RcFault>
-    ensures { Gives (λ s. s) rc_refusal result (assigned base.now number option.now value.now) }
+) -> Result<Setting, OrMemory<RcFault>>
+    ensures { Gives (λ s. s) refusal result (assigned base.now number option.now value.now) }
 {
     let keyword = Keyword::of(option);
     if option.is_empty() || value.is_empty() || !has_paths(alloc, base, keyword, value)? {
-        return Err(RcFault::BadLine(number));
+        return Err(OrMemory::Refused(RcFault::BadLine(number)));
     }
     match keyword {
         Some(keyword) => supported(alloc, number, keyword, value),
-        None => Err(RcFault::NotSupported(number)),
+        None => Err(OrMemory::Refused(RcFault::NotSupported(number))),
     }
 }
 
@@ -159,8 +166,13 @@ fn has_paths(
     }
 }
 
-fn supported(alloc: Global, number: u64, keyword: Keyword, value: &str) -> Result<Setting, RcFault>
-    ensures { Gives (λ s. s) rc_refusal result (supported number keyword value.now) }
+fn supported(
+    alloc: Global,
+    number: u64,
+    keyword: Keyword,
+    value: &str,
+) -> Result<Setting, OrMemory<RcFault>>
+    ensures { Gives (λ s. s) refusal result (supported number keyword value.now) }
 {
     match keyword {
         Keyword::Base => Ok(Setting::Base(unexpanded(alloc, number, value)?)),
@@ -172,30 +184,30 @@ fn supported(alloc: Global, number: u64, keyword: Keyword, value: &str) -> Resul
         })),
         Keyword::Mformat => match MailFormat::of(value) {
             Some(format) => Ok(Setting::Format(format)),
-            None => Err(RcFault::BadFormat(number)),
+            None => Err(OrMemory::Refused(RcFault::BadFormat(number))),
         },
     }
 }
 
 /// The text of a value that a shell would leave as it is.
-fn unexpanded(alloc: Global, number: u64, value: &str) -> Result<Text, RcFault>
-    ensures { Gives (λ t. t) rc_refusal result (unexpanded number value.now) }
+fn unexpanded(alloc: Global, number: u64, value: &str) -> Result<Text, OrMemory<RcFault>>
+    ensures { Gives (λ t. t) refusal result (unexpanded number value.now) }
 {
     if has_expansion(value) {
-        return Err(RcFault::Expansion(number));
+        return Err(OrMemory::Refused(RcFault::Expansion(number)));
     }
     Ok(Text::new(alloc, value)?)
 }
 
-fn archives_line(alloc: Global, number: u64, value: &str) -> Result<ArchivesLine, RcFault>
-    ensures { Gives (λ line. Setting.Archives line) rc_refusal result (supported number Keyword.Mbox value.now) }
+fn archives_line(alloc: Global, number: u64, value: &str) -> Result<ArchivesLine, OrMemory<RcFault>>
+    ensures { Gives (λ line. Setting.Archives line) refusal result (supported number Keyword.Mbox value.now) }
 {
     let names = archives_of(alloc, value)?;
     if some_has_expansion(&names) {
-        return Err(RcFault::Expansion(number));
+        return Err(OrMemory::Refused(RcFault::Expansion(number)));
     }
     if some_has_wildcard(&names) {
-        return Err(RcFault::Wildcard(number));
+        return Err(OrMemory::Refused(RcFault::Wildcard(number)));
     }
     Ok(ArchivesLine { number, names })
 }

@@ -3,12 +3,7 @@ use Rattle.std.specs.Prelude.{ℕ, ◌+◌, List, ◌∷◌, ◌++◌, codes}
 use Rattle.std.specs.Fmt.{decimal}
 use Rattle.mbox_cutter.specs.declared.event.CutFault.{CutFault}
 use Rattle.mbox_cutter.specs.declared.event.CutFault.TheVariants.{Device, NotAnMbox, ArchiveTooLong, Failed}
-use Rattle.mairix_options.specs.declared.command_line.UsageFault.{UsageFault}
-use Rattle.mairix_options.specs.declared.command_line.UsageFault.TheVariants as usage
-use Rattle.mairix_options.specs.declared.rcfile.RcFault.{RcFault}
-use Rattle.mairix_options.specs.declared.rcfile.RcFault.TheVariants as rcfile
-use Rattle.mairix_options.specs.declared.rcfile.Name.{Name}
-use Rattle.mairix_options.specs.declared.rcfile.Name.TheVariants as name
+use Rattle.mairix_options.specs.Refusals.{text_of_usage, text_of_rc}
 use Rattle.mail_query.specs.declared.fault.QueryFault.{QueryFault}
 use Rattle.mail_query.specs.declared.fault.QueryFaultKind.{QueryFaultKind}
 use Rattle.mail_query.specs.declared.fault.QueryFaultKind.TheVariants as query
@@ -27,27 +22,6 @@ out_of_memory = codes "out of memory"
 -- as `query item 2: bad word`
 abbrev pub numbered : List ℕ → ℕ → List ℕ → List ℕ
 numbered what number reason = what ++ 32 ∷ decimal number ++ 58 ∷ 32 ∷ reason
-
-abbrev pub text_of_usage : UsageFault → List ℕ
-text_of_usage usage.Parse = codes "bad words"
-text_of_usage usage.TwoFormats = codes "-r and -x exclude each other"
-text_of_usage usage.Help = codes "help"
-text_of_usage usage.Version = codes "version"
-text_of_usage usage.OutOfMemory = out_of_memory
-
-abbrev pub text_of_missing : Name → List ℕ
-text_of_missing name.Mbox = codes "rcfile: mbox missing"
-text_of_missing name.Database = codes "rcfile: database missing"
-text_of_missing name.Mfolder = codes "rcfile: mfolder missing"
-
-abbrev pub text_of_rc : RcFault → List ℕ
-text_of_rc (rcfile.BadLine line) = numbered (codes "rcfile line") line (codes "not option=value")
-text_of_rc (rcfile.NotSupported line) = numbered (codes "rcfile line") line (codes "option not supported")
-text_of_rc (rcfile.Wildcard line) = numbered (codes "rcfile line") line (codes "wildcard not supported")
-text_of_rc (rcfile.Expansion line) = numbered (codes "rcfile line") line (codes "expansion not supported")
-text_of_rc (rcfile.Missing name) = text_of_missing name
-text_of_rc (rcfile.BadFormat line) = numbered (codes "rcfile line") line (codes "unknown format")
-text_of_rc rcfile.OutOfMemory = out_of_memory
 
 abbrev pub text_of_kind : QueryFaultKind → List ℕ
 text_of_kind query.NoPattern = codes "no pattern"

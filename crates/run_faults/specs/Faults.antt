@@ -1,11 +1,12 @@
 -- The faults of a run: the exit status of each, which of them words, rcfile and archives determine, and which are a device's.
-use Rattle.std.specs.Prelude.{◌≢◌, ⊤, ℕ, Bool, true, false, nat_eq, Option, None, Some, Result, Ok, Err}
+use Rattle.std.specs.Prelude.{◌≡◌, ◌≢◌, ⊤, ℕ, Bool, true, false, nat_eq, Option, None, Some, Result, Ok, Err}
 use Rattle.mbox_cutter.specs.declared.event.CutFault.{CutFault}
 use Rattle.mbox_cutter.specs.declared.event.CutFault.TheVariants.{Device, NotAnMbox, ArchiveTooLong, Failed}
 use Rattle.mairix_options.specs.declared.command_line.UsageFault.{UsageFault}
 use Rattle.mairix_options.specs.declared.command_line.UsageFault.TheVariants as usage
-use Rattle.mairix_options.specs.declared.rcfile.RcFault.{RcFault}
-use Rattle.mairix_options.specs.declared.rcfile.RcFault.TheVariants as rcfile
+use Rattle.mairix_options.specs.declared.or_memory.OrMemory.{OrMemory}
+use Rattle.mairix_options.specs.declared.or_memory.OrMemory.TheVariants.{Refused}
+use Rattle.mairix_options.specs.declared.or_memory.OrMemory.TheVariants as given
 use Rattle.mail_query.specs.declared.fault.QueryFault.{QueryFault}
 use Rattle.mail_query.specs.declared.fault.QueryFaultKind.{QueryFaultKind}
 use Rattle.mail_query.specs.declared.fault.QueryFaultKind.TheVariants as query
@@ -18,13 +19,8 @@ use Rattle.run_faults.specs.declared.fault.Fault.TheVariants.{Usage, Rc, Query, 
 abbrev pub status_of_usage : UsageFault → ℕ
 status_of_usage usage.Help = 0
 status_of_usage usage.Version = 0
-status_of_usage usage.OutOfMemory = 5
 status_of_usage usage.Parse = 2
 status_of_usage usage.TwoFormats = 2
-
-abbrev pub status_of_rc : RcFault → ℕ
-status_of_rc rcfile.OutOfMemory = 5
-status_of_rc _ = 2
 
 abbrev pub status_of_query : QueryFaultKind → ℕ
 status_of_query query.OutOfMemory = 5
@@ -38,7 +34,7 @@ status_of_cut Failed = 4
 
 abbrev pub status_of_fault : Fault → ℕ
 status_of_fault (Usage fault) = status_of_usage fault
-status_of_fault (Rc fault) = status_of_rc fault
+status_of_fault (Rc fault) = 2
 status_of_fault (Query fault) = status_of_query fault.kind
 status_of_fault (Archive number fault) = status_of_cut fault
 status_of_fault (Index fault) = 3
@@ -49,15 +45,12 @@ status_of_fault Out = 4
 status_of_fault Memory = 5
 status_of_fault TooMany = 5
 
--- an OutOfMemory of any layer becomes Memory
-abbrev pub of_usage : UsageFault → Fault
-of_usage usage.OutOfMemory = Memory
-of_usage fault = Usage fault
+-- a refusal becomes a fault as `gives` says, and want of memory becomes Memory
+abbrev pub IsOrMemory : {E : Type 0} → (E → Fault → Type 0) → OrMemory E → Fault → Type 0
+IsOrMemory gives (Refused refusal) fault = gives refusal fault
+IsOrMemory gives given.Memory fault = fault ≡ Memory
 
-abbrev pub of_rc : RcFault → Fault
-of_rc rcfile.OutOfMemory = Memory
-of_rc fault = Rc fault
-
+-- a query's want of memory becomes Memory too
 abbrev pub of_kind : QueryFault → QueryFaultKind → Fault
 of_kind fault query.OutOfMemory = Memory
 of_kind fault _ = Query fault
@@ -114,8 +107,8 @@ is_memory _ = false
 
 -- want of memory under its own name, or a refusal of words, rcfile or query
 abbrev pub IsEarly : Fault → Type 0
-IsEarly (Usage fault) = fault ≢ usage.OutOfMemory
-IsEarly (Rc fault) = fault ≢ rcfile.OutOfMemory
+IsEarly (Usage fault) = ⊤
+IsEarly (Rc fault) = ⊤
 IsEarly (Query fault) = fault.kind ≢ query.OutOfMemory
 IsEarly Memory = ⊤
 IsEarly _ = ⊥
@@ -157,8 +150,6 @@ IsOfIndexing _ = ⊥
 
 -- those of a run over archives that it indexes itself: never of an index, and no source is asked again once it failed
 abbrev pub IsOnceFault : Fault → Type 0
-IsOnceFault (Usage fault) = fault ≢ usage.OutOfMemory
-IsOnceFault (Rc fault) = fault ≢ rcfile.OutOfMemory
 IsOnceFault (Query fault) = fault.kind ≢ query.OutOfMemory
 IsOnceFault (Archive number fault) = fault ≢ Failed
 IsOnceFault (Index fault) = ⊥
@@ -167,8 +158,6 @@ IsOnceFault _ = ⊤
 
 -- those of a run over a stored index: no archive is cut, and nothing is counted
 abbrev pub IsSearchFault : Fault → Type 0
-IsSearchFault (Usage fault) = fault ≢ usage.OutOfMemory
-IsSearchFault (Rc fault) = fault ≢ rcfile.OutOfMemory
 IsSearchFault (Query fault) = fault.kind ≢ query.OutOfMemory
 IsSearchFault (Archive number fault) = ⊥
 IsSearchFault TooMany = ⊥

@@ -1,14 +1,15 @@
 //! What the program says of a fault.
-ghost use Rattle.std.specs.Prelude.{◌≡◌, IfOk, codes};
+ghost use Rattle.std.specs.Prelude.{◌≡◌, IfOk};
 ghost use Rattle.std.specs.String.{string_bytes};
-ghost use Rattle.run_faults.specs.FaultTexts.{text_of_fault, text_of_usage, text_of_rc, text_of_query, text_of_kind, text_of_cut, text_of_index, text_of_section, numbered};
+ghost use Rattle.run_faults.specs.FaultTexts.{text_of_fault, text_of_kind, text_of_cut, text_of_index, text_of_section};
 
 use crate::fault::Fault;
 use mail_index::{IndexFault, Section};
 use mail_query::{QueryFault, QueryFaultKind};
-use mairix_options::{Name, RcFault, UsageFault};
 use mbox_cutter::CutFault;
 use std::alloc::{AllocError, Global};
+use std::error::Error;
+use std::fmt;
 
 /// What is said of a file that can't be opened, read or made, in front of its path.
 pub const CANNOT_OPEN: &str = "cannot open";
@@ -21,84 +22,47 @@ pub const OUT_OF_MEMORY: &str = "out of memory";
 pub fn fault_text(alloc: Global, fault: &Fault) -> Result<String, AllocError>
     ensures { IfOk result (λ text. string_bytes text ≡ text_of_fault fault.now) }
 {
-    match *fault {
-        Fault::Usage(fault) => String::from_str(alloc, usage_fault_text(fault)),
-        Fault::Rc(fault) => rc_text(alloc, fault),
-        Fault::Query(fault) => query_text(alloc, fault),
-        Fault::Archive { number, fault } => {
-            numbered(alloc, "archive", u128::from(number) + 1, cut_text(fault))
-        }
-        Fault::Index(fault) => String::from_str(alloc, index_text(fault)),
-        Fault::OldIndex => String::from_str(alloc, "index: too old, build it again"),
-        Fault::Stale(number) => numbered(
-            alloc,
-            "archive",
-            u128::from(number) + 1,
-            "changed since it was indexed",
-        ),
-        Fault::Device => String::from_str(alloc, "archive read failed"),
-        Fault::Out => String::from_str(alloc, "output failed"),
-        Fault::Memory => String::from_str(alloc, OUT_OF_MEMORY),
-        Fault::TooMany => String::from_str(alloc, "too many messages or keys"),
+    fault.to_string(alloc)
+}
+
+impl fmt::Display for Fault {
+    ghost use Rattle.std.specs.Prelude.{Some};
+
+    ghost output = { λ fault. Some (text_of_fault fault) };
+
+    fn fmt<W: fmt::Write>(&self, f: &mut fmt::Formatter<W>) -> fmt::Result {
+        let (what, number, reason) = match *self {
+            Fault::Usage(fault) => return fault.fmt(f),
+            Fault::Rc(fault) => return fault.fmt(f),
+            Fault::Query(
+                QueryFault {
+                    kind: QueryFaultKind::OutOfMemory,
+                    ..
+                },
+            ) => return f.write_str(OUT_OF_MEMORY),
+            Fault::Query(QueryFault { number, kind }) => {
+                ("query item", number as u128, kind_text(kind))
+            }
+            Fault::Archive { number, fault } => {
+                ("archive", u128::from(number) + 1, cut_text(fault))
+            }
+            Fault::Index(fault) => return f.write_str(index_text(fault)),
+            Fault::OldIndex => return f.write_str("index: too old, build it again"),
+            Fault::Stale(number) => (
+                "archive",
+                u128::from(number) + 1,
+                "changed since it was indexed",
+            ),
+            Fault::Device => return f.write_str("archive read failed"),
+            Fault::Out => return f.write_str("output failed"),
+            Fault::Memory => return f.write_str(OUT_OF_MEMORY),
+            Fault::TooMany => return f.write_str("too many messages or keys"),
+        };
+        write!(f, "{what} {number}: {reason}")
     }
 }
 
-fn numbered(alloc: Global, what: &str, number: u128, reason: &str) -> Result<String, AllocError>
-    ensures { IfOk result (λ text. string_bytes text ≡ numbered what.now number reason.now) }
-{
-    format!(in alloc; "{what} {number}: {reason}")
-}
-
-fn usage_fault_text(fault: UsageFault) -> &'static str
-    ensures { result.now ≡ text_of_usage fault }
-{
-    match fault {
-        UsageFault::Parse => "bad words",
-        UsageFault::TwoFormats => "-r and -x exclude each other",
-        UsageFault::Help => "help",
-        UsageFault::Version => "version",
-        UsageFault::OutOfMemory => OUT_OF_MEMORY,
-    }
-}
-
-fn rc_text(alloc: Global, fault: RcFault) -> Result<String, AllocError>
-    ensures { IfOk result (λ text. string_bytes text ≡ text_of_rc fault) }
-{
-    match fault {
-        RcFault::BadLine(line) => line_text(alloc, line, "not option=value"),
-        RcFault::NotSupported(line) => line_text(alloc, line, "option not supported"),
-        RcFault::Wildcard(line) => line_text(alloc, line, "wildcard not supported"),
-        RcFault::Expansion(line) => line_text(alloc, line, "expansion not supported"),
-        RcFault::BadFormat(line) => line_text(alloc, line, "unknown format"),
-        RcFault::Missing(name) => String::from_str(alloc, missing_text(name)),
-        RcFault::OutOfMemory => String::from_str(alloc, OUT_OF_MEMORY),
-    }
-}
-
-fn line_text(alloc: Global, line: u64, reason: &str) -> Result<String, AllocError>
-    ensures { IfOk result (λ text. string_bytes text ≡ numbered (codes "rcfile line") line reason.now) }
-{
-    numbered(alloc, "rcfile line", u128::from(line), reason)
-}
-
-fn missing_text(name: Name) -> &'static str
-    ensures { result.now ≡ text_of_rc (RcFault.Missing name) }
-{
-    match name {
-        Name::Mbox => "rcfile: mbox missing",
-        Name::Database => "rcfile: database missing",
-        Name::Mfolder => "rcfile: mfolder missing",
-    }
-}
-
-fn query_text(alloc: Global, fault: QueryFault) -> Result<String, AllocError>
-    ensures { IfOk result (λ text. string_bytes text ≡ text_of_query fault) }
-{
-    match fault.kind {
-        QueryFaultKind::OutOfMemory => String::from_str(alloc, OUT_OF_MEMORY),
-        kind => numbered(alloc, "query item", fault.number as u128, kind_text(kind)),
-    }
-}
+impl Error for Fault {}
 
 fn kind_text(kind: QueryFaultKind) -> &'static str
     ensures { result.now ≡ text_of_kind kind }

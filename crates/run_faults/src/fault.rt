@@ -1,13 +1,10 @@
-//! Why a run has no whole answer, and the exit status that it has then.
-//!
-//! Decision 90 in docs/DECISIONS.md says why it is so.
+//! Why a run has no whole answer. Each fault has its status here and its text in `explanation` (decision 90 in docs/DECISIONS.md).
 
 use mail_index::IndexFault;
 use mail_query::{QueryFault, QueryFaultKind};
-use mairix_options::{RcFault, UsageFault};
+use mairix_options::{OrMemory, RcFault, UsageFault};
 use mbox_cutter::CutFault;
 use std::alloc::{AllocError, AllocFailed};
-use thiserror::Error;
 
 /// The exit status of a run with messages or with a new index, of help and of version.
 pub const DONE: u8 = 0;
@@ -28,42 +25,31 @@ pub const FAILED: u8 = 4;
 pub const NO_ROOM: u8 = 5;
 
 /// Why a run has no whole answer. Want of memory in any layer is `Memory`.
-#[derive(Clone, Copy, Debug, PartialEq, Eq, Error)]
+#[derive(Clone, Copy, Debug, PartialEq, Eq)]
 pub enum Fault {
     /// The words of the command line are refused.
-    #[error("{0}")]
     Usage(UsageFault),
     /// The rcfile is refused.
-    #[error("{0}")]
     Rc(RcFault),
     /// The query is refused.
-    #[error("{0}")]
     Query(QueryFault),
     /// The archive of this number, counted from 0, couldn't be read or is refused.
-    #[error("archive {}: {fault}", u128::from(*.number) + 1)]
     Archive { number: u64, fault: CutFault },
     /// The index is refused.
-    #[error("index: {0}")]
     Index(IndexFault),
     /// The query uses names of parts, or the archives are to be verified, and the index is of version 1, which has neither names
     /// nor digests.
-    #[error("index: too old, build it again")]
     OldIndex,
     /// The archive of this number, counted from 0, isn't the one that was indexed. Where there are more or
     /// fewer archives than were indexed it is the smaller of both counts.
-    #[error("archive {}: changed since it was indexed", u128::from(*.0) + 1)]
     Stale(u64),
     /// An archive couldn't be read where the answer asked for it.
-    #[error("archive read failed")]
     Device,
     /// The output failed.
-    #[error("output failed")]
     Out,
     /// There was no memory left.
-    #[error("out of memory")]
     Memory,
     /// There are more archives, messages or keys than an index has room for.
-    #[error("too many messages or keys")]
     TooMany,
 }
 
@@ -77,8 +63,6 @@ impl Fault {
     {
         match self {
             Fault::Usage(UsageFault::Help | UsageFault::Version) => DONE,
-            Fault::Usage(UsageFault::OutOfMemory) => NO_ROOM,
-            Fault::Rc(RcFault::OutOfMemory) => NO_ROOM,
             Fault::Query(
                 QueryFault {
                     kind: QueryFaultKind::OutOfMemory,
@@ -121,28 +105,38 @@ impl<T: Drop> From<AllocFailed<T>> for Fault {
 
 impl From<UsageFault> for Fault {
     ghost use Rattle.std.specs.Prelude.{◌≡◌};
-    ghost use Rattle.run_faults.specs.Faults.{of_usage};
+    ghost use Rattle.run_faults.specs.declared.fault.Fault.TheVariants.{Usage};
 
-    ghost from_gives = { λ fault e. e ≡ of_usage fault };
+    ghost from_gives = { λ fault e. e ≡ Usage fault };
 
     fn from(fault: UsageFault) -> Self {
-        match fault {
-            UsageFault::OutOfMemory => Fault::Memory,
-            fault => Fault::Usage(fault),
-        }
+        Fault::Usage(fault)
     }
 }
 
 impl From<RcFault> for Fault {
     ghost use Rattle.std.specs.Prelude.{◌≡◌};
-    ghost use Rattle.run_faults.specs.Faults.{of_rc};
+    ghost use Rattle.run_faults.specs.declared.fault.Fault.TheVariants.{Rc};
 
-    ghost from_gives = { λ fault e. e ≡ of_rc fault };
+    ghost from_gives = { λ fault e. e ≡ Rc fault };
 
     fn from(fault: RcFault) -> Self {
-        match fault {
-            RcFault::OutOfMemory => Fault::Memory,
-            fault => Fault::Rc(fault),
+        Fault::Rc(fault)
+    }
+}
+
+impl<E> From<OrMemory<E>> for Fault
+where
+    Fault: From<E>,
+{
+    ghost use Rattle.run_faults.specs.Faults.{IsOrMemory};
+
+    ghost from_gives = { λ given e. IsOrMemory ⟦<Fault as From<E>>⟧.from_gives given e };
+
+    fn from(given: OrMemory<E>) -> Self {
+        match given {
+            OrMemory::Refused(refusal) => Fault::from(refusal),
+            OrMemory::Memory => Fault::Memory,
         }
     }
 }

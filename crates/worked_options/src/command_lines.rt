@@ -1,6 +1,6 @@
 //! What the words of a command line say, and the parser's own texts.
 
-use mairix_options::{UsageFault, plan_of, usage_text};
+use mairix_options::{OrMemory, UsageFault, plan_of, usage_text};
 use std::alloc::{AllocError, Global};
 use std::test::Fail;
 
@@ -9,43 +9,55 @@ const HELP: &str = "Index and search mbox archives
 Usage: mairix [OPTIONS] -f <RCFILE> [PATTERN]...
 
 Arguments:
-  [PATTERN]...  What to search for; without one the index is made
+  [PATTERN]...  What to look for; without a pattern the index is made
 
 Options:
   -f <RCFILE>    The file that names the archives and the index
   -h, --help     Print help
   -V, --version  Print version
 
-Output, else as the rcfile's mformat and mfolder say:
-  -r            Print offsets, lengths and archives
-  -x            Print archives and the main header lines
-  -o <NAME>     The mbox to write, in place of the rcfile's mfolder
+Output:
+  -r            Print a line for each message: offset, length, archive
+  -x            Print the archive and the main header lines of each message
+  -o <NAME>     Write the mbox to this file, not to the rcfile's mfolder
       --stdout  Print the mbox, and write no file
 
 Searching:
-  -t             Answer with whole threads
-      --boolean  Read the patterns as one query of and, or, not and parentheses
-      --once     Index in memory, then search
-      --verify   Prove first that the archives are those that were indexed
+  -t             Find whole threads: also all messages linked to a match
+      --boolean  Read the patterns as one query with and, or, not and ( )
+      --once     Index the archives in memory, and search that index
+      --verify   Check first that no archive has changed since it was indexed
 
-Patterns, of which a message has to fit each:
+Where the answer goes:
+  An mbox goes to the file that -o or the rcfile's mfolder names. Lines (-r),
+  excerpts (-x) and an mbox with --stdout are printed, and no file is written.
+  Without -r and -x the rcfile's mformat says which of the three it is.
+
+Patterns (a message must match all of them):
   s:x b:x n:x         A word of the Subject, of the body, of attachments' names
   t:x c:x f:x a:x     A word of To, Cc, From, any of the three; tc:x is To or Cc
   x                   A word of To, Cc, From, the Subject or the body
-  x,y x/y ~x x= ^x=   Both, either, not this; a part of a word, its beginning
-  d:2w- z:10k- F:-s   Dates, sizes, flags (seen, replied, flagged); m: an id
+  m:x                 The message whose Message-ID is x
+  d:2003 d:2w-        Dated in 2003; within the last two weeks
+  z:10k- z:-1M        At least 10 kilobytes; at most 1 megabyte
+  F:s F:-r F:f        Seen; not replied to; flagged
+  x,y x/y ~x          Both words; one of them; not this word
+  x= ^x=              A word that contains x; a word that begins with x
 
 Boolean queries, with --boolean:
   from:x to:x         A word of From; of To, Cc or Bcc
   subject:x body:x    A word of the Subject; of the body
-  x x* *              A word of any of these; one that begins so; every message
-  id:x date:2003-02   The Message-ID; a month or day, or two with .. between
+  x x* *              A word of any of these; one beginning with x; any message
+  id:x                The message whose Message-ID is x
+  date:2003-02        Dated in that month; so 2003-02-17 and 2003-02..2003-04
   (x or y) and not z  not binds closest, then and, then or
 
 Examples:
-  mairix -f ~/.mairixrc                                            # index
+  mairix -f ~/.mairixrc                                            # make index
   mairix -f ~/.mairixrc -x s:lunch d:2003                          # excerpts
   mairix -f ~/.mairixrc -r --boolean 'from:alice or subject:rep*'  # lines
+
+Manual pages: mairix(1); mairixrc(5), the rcfile; mairix-query(7), queries
 ";
 
 /// Words, and what they plan: the rcfile, then each option, then the patterns. Accepted words have no text of the parser.
@@ -133,7 +145,7 @@ fn words_are_refused(rt: HostRuntime) -> Result<(), Fail> {
         let words = words(alloc, line)?;
         let told = plan_of(alloc, &words).err();
         let text = usage_text(alloc, &words)?;
-        let as_wanted = told == Some(fault) && text.as_str().starts_with(front);
+        let as_wanted = told == Some(OrMemory::Refused(fault)) && text.as_str().starts_with(front);
         assert!(rt; as_wanted, "{line}: {told:?}: {text}");
     }
     Ok(())
@@ -153,7 +165,7 @@ fn sweep_plan_of(rt: HostRuntime) {
                 && plan.once
                 && plan.patterns.as_slice().len() == 2
         }
-        Err(fault) => fault == UsageFault::OutOfMemory,
+        Err(fault) => fault == OrMemory::Memory,
     };
     assert!(rt; as_wanted);
 }

@@ -3,15 +3,14 @@
 use mairix_options::{Name, RcFault, UsageFault};
 use std::fmt::InlineText;
 
-const USAGE_FAULTS: [(UsageFault, &str); 5] = [
+const USAGE_FAULTS: [(UsageFault, &str); 4] = [
     (UsageFault::Parse, "bad words"),
     (UsageFault::TwoFormats, "-r and -x exclude each other"),
     (UsageFault::Help, "help"),
     (UsageFault::Version, "version"),
-    (UsageFault::OutOfMemory, "out of memory"),
 ];
 
-const RC_FAULTS: [(RcFault, &str); 9] = [
+const RC_FAULTS: [(RcFault, &str); 8] = [
     (RcFault::BadLine(1), "rcfile line 1: not option=value"),
     (
         RcFault::NotSupported(20),
@@ -29,7 +28,6 @@ const RC_FAULTS: [(RcFault, &str); 9] = [
     (RcFault::Missing(Name::Mbox), "rcfile: mbox missing"),
     (RcFault::Missing(Name::Database), "rcfile: database missing"),
     (RcFault::Missing(Name::Mfolder), "rcfile: mfolder missing"),
-    (RcFault::OutOfMemory, "out of memory"),
 ];
 
 #[test]

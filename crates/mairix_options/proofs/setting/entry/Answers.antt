@@ -3,7 +3,7 @@ use Rattle.std.specs.List.{before_first, after_first}
 use Rattle.std.proofs.lemmas.Str.Pattern.{split_once_first}
 use Rattle.contract_words.specs.Answers.{Gives}
 use Rattle.mairix_options.specs.Blanks.{trimmed}
-use Rattle.mairix_options.specs.Rcfile.{rc_refusal}
+use Rattle.mairix_options.specs.Refusals.{refusal}
 use Rattle.mairix_options.specs.declared.rcfile.RcFault.{RcFault}
 use Rattle.mairix_options.specs.declared.setting.Setting.{Setting}
 use Rattle.mairix_options.proofs.Entries.{entry-not_utf8, entry-assigned, entry-no_value}
@@ -19,7 +19,7 @@ returns-in-Some c =
     let says = entry-assigned c.args.base.now c.args.number c.args.text.now c.trimmed_text.result.now c.trimmed_text-in-Some.result.now text.1
     (c.trimmed_text.ensures ∙ ap trimmed (parts.1 ∙ ap (before_first (λ b. b == 61)) text.0))
     (c.trimmed_text-in-Some.ensures ∙ ap trimmed (parts.2 ∙ ap (after_first (λ b. b == 61)) text.0)) in
-    subst (λ (r : Result Setting RcFault). Gives (λ s. s) rc_refusal c.assigned.result r) (sym says) c.assigned.ensures
+    subst (λ (r : Result Setting RcFault). Gives (λ s. s) refusal c.assigned.result r) (sym says) c.assigned.ensures
 
 pub returns-in-None : goal.returns-in-None
 returns-in-None c =

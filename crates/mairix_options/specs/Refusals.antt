@@ -1,0 +1,41 @@
+-- What a reader refuses, and what is told of it.
+use Rattle.std.specs.Prelude.{ℕ, List, ◌∷◌, ◌++◌, codes, Option, Some, None}
+use Rattle.std.specs.Fmt.{decimal}
+use Rattle.mairix_options.specs.declared.command_line.UsageFault.{UsageFault}
+use Rattle.mairix_options.specs.declared.command_line.UsageFault.TheVariants.{Parse, TwoFormats, Help, Version}
+use Rattle.mairix_options.specs.declared.or_memory.OrMemory.{OrMemory}
+use Rattle.mairix_options.specs.declared.or_memory.OrMemory.TheVariants.{Refused, Memory}
+use Rattle.mairix_options.specs.declared.rcfile.Name.{Name}
+use Rattle.mairix_options.specs.declared.rcfile.Name.TheVariants as name
+use Rattle.mairix_options.specs.declared.rcfile.RcFault.{RcFault}
+use Rattle.mairix_options.specs.declared.rcfile.RcFault.TheVariants.{BadLine, NotSupported, Wildcard, Expansion, Missing, BadFormat}
+
+-- the refusal that what is read determines: want of memory is none
+abbrev pub refusal : {E : Type 0} → OrMemory E → Option E
+refusal (Refused fault) = Some fault
+refusal Memory = None
+
+-- ---- texts
+
+abbrev pub text_of_usage : UsageFault → List ℕ
+text_of_usage Parse = codes "bad words"
+text_of_usage TwoFormats = codes "-r and -x exclude each other"
+text_of_usage Help = codes "help"
+text_of_usage Version = codes "version"
+
+-- as `rcfile line 2: unknown format`
+abbrev pub text_of_line : ℕ → List ℕ → List ℕ
+text_of_line line reason = codes "rcfile line " ++ decimal line ++ 58 ∷ 32 ∷ reason
+
+abbrev pub text_of_missing : Name → List ℕ
+text_of_missing name.Mbox = codes "rcfile: mbox missing"
+text_of_missing name.Database = codes "rcfile: database missing"
+text_of_missing name.Mfolder = codes "rcfile: mfolder missing"
+
+abbrev pub text_of_rc : RcFault → List ℕ
+text_of_rc (BadLine line) = text_of_line line (codes "not option=value")
+text_of_rc (NotSupported line) = text_of_line line (codes "option not supported")
+text_of_rc (Wildcard line) = text_of_line line (codes "wildcard not supported")
+text_of_rc (Expansion line) = text_of_line line (codes "expansion not supported")
+text_of_rc (Missing option) = text_of_missing option
+text_of_rc (BadFormat line) = text_of_line line (codes "unknown format")
