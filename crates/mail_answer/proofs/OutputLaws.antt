@@ -19,3 +19,4 @@ pub mod Separated
 pub mod SheetLemmas
 pub mod SpanLemmas
 pub mod SpanWrites
+pub mod WriterLemmas

@@ -1,5 +1,5 @@
 -- In which order the lengths of archives are asked, and what is found of them.
-use Rattle.std.specs.Prelude.{◌≡◌, ◌≢◌, ℕ, ◌+◌, ◌<◌, false, List, [], ◌∷◌, length, map, take, IfSome, IfErr, IsTrue, Result, Ok, Err}
+use Rattle.std.specs.Prelude.{◌≡◌, ◌≢◌, ℕ, ◌+◌, ◌<◌, min, false, List, [], ◌∷◌, length, map, take, IfSome, IfErr, IsTrue, Result, Ok, Err}
 use Rattle.mbox_cutter.specs.declared.device.DeviceFault.{DeviceFault}
 use Rattle.mail_index.specs.Tables.{Archive, Table}
 use Rattle.mail_answer.specs.Answers.{fails_by}
@@ -13,6 +13,17 @@ use Rattle.mail_answer.specs.declared.fault.AnswerFault.{AnswerFault}
 use Rattle.mail_answer.specs.declared.fault.AnswerFaultKind.{AnswerFaultKind}
 use Rattle.mail_answer.specs.declared.fault.AnswerFaultKind.TheVariants.{Stale, Device, OutOfMemory, OutFailed}
 use Rattle.mail_answer.specs.declared.format.Format.TheVariants.{Raw}
+
+-- after any calls of archives, whether they failed or not
+pub record HoldsArchives {A : Type 0} (g : Ghosts A) (old new : A) : Type 0 where
+  -- each holds the bytes that it held, where they are known
+  pub held : g.held new ≡ g.held old
+  -- they are as many
+  pub number : g.number new ≡ g.number old
+
+-- There are more or fewer archives than were indexed: Stale has the smaller count, and none is asked.
+abbrev pub RefusesCount : {A T : Type 0} → Ghosts A → List Archive → A → A → Result T AnswerFault → Type 0
+RefusesCount g named old new result = (result ≡ Err (record { kind = Stale (min (g.number old) (length named)); sent = 0 })) × (new ≡ old)
 
 -- The archives from this number on were asked for their lengths, each once and in order, and told these.
 abbrev pub TellLengths : {A : Type 0} → Ghosts A → ℕ → List ℕ → A → A → Type 0
@@ -67,3 +78,9 @@ GoesOnWith g t s (Ok _) found new result = GoesOnBehind g t s found new result
 -- What a search makes of as many archives as were indexed: it first asks their lengths.
 abbrev pub AsksFirst : {A : Type 0} → Ghosts A → Table → Search → A → A → Result ℕ AnswerFault → Type 0
 AsksFirst {A} g t s old new result = (found : A) × (told : Result (Unit {0}) AnswerFaultKind) × FindsLengths g t.archives old found told × GoesOnWith g t s told found new result
+
+-- What a search makes of as many archives as were indexed, whether their bytes are known or not.
+pub record SearchesArchives {A : Type 0} (g : Ghosts A) (t : Table) (s : Search) (old new : A) (result : Result ℕ AnswerFault) : Type 0 where
+  pub lengths : AsksFirst g t s old new result
+  -- stale is one of them
+  pub below : IfErr result (λ fault. IfStale fault.kind (λ n. n < length t.archives))

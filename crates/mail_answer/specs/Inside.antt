@@ -17,3 +17,4 @@ pub mod NumbersToCome
 pub mod PassedArchives
 pub mod Readings
 pub mod Spans
+pub mod Writing

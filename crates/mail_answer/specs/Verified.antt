@@ -1,11 +1,13 @@
 -- Which archive has other bytes than those that were indexed.
-use Rattle.std.specs.Prelude.{◌≡◌, ◌⊎◌, ℕ, ◌+◌, List, [], ◌∷◌, length, map, take, drop, Bool, false, Option, None, Some, IfSome, Result, Ok, Err, if◌then◌else◌}
+use Rattle.std.specs.Prelude.{◌≡◌, ◌⊎◌, ℕ, ◌+◌, ◌<◌, List, [], ◌∷◌, length, map, take, drop, Bool, false, Option, None, Some, IfSome, IfErr, Result, Ok, Err, if◌then◌else◌}
 use Rattle.std.specs.Option.{option_map_or, option_or}
 use Rattle.std.specs.Str.{bytes_eq}
 use Rattle.sha2.specs.Sha256.{sha256}
 use Rattle.mail_index.specs.Tables.{Archive}
 use Rattle.mbox_cutter.specs.declared.device.DeviceFault.{DeviceFault}
+use Rattle.mail_answer.specs.Answers.{kind_of}
 use Rattle.mail_answer.specs.Asked.{FindsLengths}
+use Rattle.mail_answer.specs.Faults.{IfStale}
 use Rattle.mail_answer.specs.Pieces.{ReadsFront, StopsWithin}
 use Rattle.mail_answer.specs.Stale.{stale_archive}
 use Rattle.mail_answer.specs.declared.archives.Archives.{Ghosts}
@@ -97,3 +99,9 @@ GoesOnToDigests g named (Ok _) found new result = FindsDigests g named found new
 -- What a call makes of as many archives as were indexed: it asks all lengths, and then it reads.
 abbrev pub LooksThrough : {A T : Type 0} → Ghosts A → List Archive → A → A → Result T AnswerFaultKind → Type 0
 LooksThrough {A} g named old new result = (found : A) × (told : Result (Unit {0}) AnswerFaultKind) × FindsLengths g named old found told × GoesOnToDigests g named told found new result
+
+-- What `verify` makes of as many archives as were indexed, whether their bytes are known or not.
+pub record VerifiesArchives {A T : Type 0} (g : Ghosts A) (named : List Archive) (old new : A) (result : Result T AnswerFault) : Type 0 where
+  pub through : LooksThrough g named old new (kind_of result)
+  -- stale is one of them
+  pub below : IfErr result (λ fault. IfStale fault.kind (λ n. n < length named))

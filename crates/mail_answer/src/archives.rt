@@ -1,6 +1,7 @@
 //! Archives that are read at any place.
 //!
-//! Decision 92 in docs/DECISIONS.md says why it is so.
+//! Two relations, `measures` and `reads`, tell what a call makes of them. So a contract can say in which order archives are asked,
+//! whether their bytes are known or not (decision 92 in docs/DECISIONS.md).
 ghost use Rattle.std.specs.Prelude.{◌≡◌, ◌<◌, ◌≤◌, ◌-◌, ◌^◌, ℕ, List, Option, Result, length, take, IfOk};
 ghost use Rattle.contract_words.specs.Devices.{Counts};
 ghost use Rattle.mbox_cutter.specs.declared.device.DeviceFault.{DeviceFault};

@@ -1,6 +1,7 @@
 //! Cursors: the messages that satisfy a query, one after another, in the order of their numbers.
 //!
-//! Decisions 74 and 75 in docs/DECISIONS.md say why it is so.
+//! A cursor is a tree of walks (decision 74 in docs/DECISIONS.md), and it counts each posting and record that it looks at
+//! (decision 75).
 ghost use Rattle.std.specs.Prelude.{◌≡◌, ◌≤◌, ℕ, Some, length, IfOk};
 ghost use Rattle.mail_query.specs.Meaning.{meaning};
 ghost use Rattle.mail_answer.specs.TableFacts.{chosen_numbers};

@@ -7,9 +7,9 @@ use thiserror::Error;
 /// What an answer failed at.
 #[derive(Clone, Copy, Debug, PartialEq, Eq, Error)]
 pub enum AnswerFaultKind {
-    /// The archive of this number isn't the one that was indexed. Where there are more or fewer archives than were indexed it is the
-    /// smaller of both counts.
-    #[error("archive {0} has changed")]
+    /// The archive of this number, counted from 0, isn't the one that was indexed. Where there are more or fewer archives than were
+    /// indexed it is the smaller of both counts.
+    #[error("archive {} has changed", u64::from(*.0) + 1)]
     Stale(u32),
     /// An archive couldn't be read.
     #[error("read failed")]

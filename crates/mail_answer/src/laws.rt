@@ -11,7 +11,7 @@ ghost use Rattle.mail_answer.specs.Threads.{AreThreads};
 ghost use Rattle.mail_answer.specs.Verified.{unverified_archive, AreVerified};
 ghost use Rattle.mail_query.specs.Query.{Query};
 
-/// What is asked of a list of threads leaves no choice: there is one such list.
+/// A list of numbers has no two different lists of threads.
 pub fn one_list_of_threads()
     ensures { (t : Table) (numbers members others : List ℕ) → AreThreads t numbers members → AreThreads t numbers others → members ≡ others }
 {}
@@ -29,12 +29,12 @@ pub fn chosen_numbers_are_those_of_messages()
     ensures threads { (t : Table) (numbers members : List ℕ) → AreThreads t numbers members → All (λ n. n < length t.messages) members }
 {}
 
-/// Every table answers every search: so what is said of all answers of a table is never said of none.
+/// A table has an answer to each search. So a clause that speaks of each answer of a table always speaks of one.
 pub fn every_table_answers()
     ensures { (t : Table) (s : Search) (held : Option (List (List ℕ))) → (a : TableAnswer) × IsTableAnswer t s held a }
 {}
 
-/// And it has one answer.
+/// A table has no two different answers to one search.
 pub fn one_answer_of_a_table()
     ensures { (t : Table) (s : Search) (held : Option (List (List ℕ))) (a b : TableAnswer) → IsTableAnswer t s held a → IsTableAnswer t s held b → a ≡ b }
 {}

@@ -1,5 +1,6 @@
 //! The forms of an answer: lines, excerpts and an mbox, and the sheet on which their bytes are gathered.
 
+pub mod answer_writer;
 pub mod ending;
 pub mod excerpt;
 pub mod header_reads;

@@ -1,6 +1,7 @@
 //! The threads of messages: what link ids lead to.
 //!
-//! Decision 73 in docs/DECISIONS.md says why it is so.
+//! They are found by union-find over the messages, in one pass over the link ids, since an index has no map from a message to its
+//! ids (decision 73 in docs/DECISIONS.md).
 ghost use Rattle.std.specs.Prelude.{◌≡◌, ◌<◌, ◌^◌, ◌↔◌, ℕ, nat_eq, length, filter, slice_index, IfOk, IsTrue};
 ghost use Rattle.std.specs.List.{All, AllByRecursion, list_any, range_with_len};
 ghost use Rattle.mail_index.specs.Tables.{IsWellFormed, RisesFrom};
@@ -18,7 +19,7 @@ use crate::threads::marks::same_truths;
 use mail_index::{IndexView, Kind, Steps};
 use std::alloc::{AllocError, Global};
 
-/// Joins single messages by all link ids, until to each stands the message that stands for its thread.
+/// Joins the messages of each link id. Afterwards `roots` has for each message the one that stands for its thread.
 fn join_threads(roots: &mut [u32], index: &IndexView<'_>)
     requires table { IsWellFormed index.now }
     requires single { roots.old ≡ range_with_len 0 (length index.now.messages) }

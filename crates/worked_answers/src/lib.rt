@@ -14,6 +14,8 @@ mod devices;
 #[cfg(test)]
 mod early_end;
 #[cfg(test)]
+mod fault_texts;
+#[cfg(test)]
 mod fixture;
 #[cfg(test)]
 mod sent_pieces;

@@ -2,7 +2,7 @@
 use Rattle.std.proofs.Common.{◌≡◌, ◌∙◌, ◌+◌, ◌*◌, ◌^◌, ◌<◌, ◌≤◌, ℕ, Bool, false, not, ◌&&◌, ◌||◌, List, [], ◌∷◌, ◌++◌, length, append_assoc, refl, sym, ap, subst, arith, inl, inr, Result, Ok, Err, IfOk, Vec, Global, rules, eqb}
 use Rattle.std.specs.Prelude.{Option, nat_le}
 use Rattle.std.proofs.Math.Nat.{add-mul}
-use Rattle.std.proofs.lemmas.Bool.{cases_lt, cases_order, both_ways, le-leb, eqb-false}
+use Rattle.std.proofs.lemmas.Bool.{cases_order, le-leb, eqb-false}
 use Rattle.std.proofs.lemmas.List.{get_or_past, append-nil}
 use Rattle.mail_dates.specs.declared.range.Range.{Range}
 use Rattle.mail_index.specs.Tables.{Table}
@@ -16,7 +16,7 @@ use Rattle.mail_answer.specs.Cursors.{most_left, most_left_of_all, look_ups, loo
 use Rattle.mail_answer.specs.CursorAhead.{Ahead, common, united, others, left_in}
 use Rattle.mail_answer.specs.Inside.CursorTexts.{some_has}
 use Rattle.mail_answer.specs.Inside.CursorBegins.{Tells, TellAll}
-use Rattle.mail_answer.specs.CursorNumbers.{numbers_from, AreWithin}
+use Rattle.mail_answer.specs.CursorNumbers.{numbers_from}
 use Rattle.mail_answer.proofs.CursorLaws.Numbers.{filter_alike}
 use Rattle.mail_answer.proofs.CursorLaws.MemberLemmas.{truths_at, truths_long}
 use Rattle.mail_answer.proofs.CursorLaws.Members.{each_has, united-at, common-at}
@@ -49,12 +49,6 @@ tells_text t q asked (Ok w) is past all = record {
 tells_text t q asked (Err e) is past all = tt
 
 -- ---- the cursor of a walk
-
-pub tells_within : (t : Table) (q : Query) (count : ℕ) (xs : List Bool) → count ≡ length t.messages → Tells t q xs → AreWithin count xs
-tells_within t q count xs long tells m here = elim (cases_lt m count) [
-  | inl lt ↦ lt
-  | inr past ↦ absurd (both_ways (truth_at xs m) (tells.past m (omega (arith, long, past))) here)
-]
 
 pub tells_chosen : (t : Table) (q : Query) (count : ℕ) (xs : List Bool) → count ≡ length t.messages → Tells t q xs → numbers_from 0 count xs ≡ chosen_numbers t q
 tells_chosen t q count xs long tells =
@@ -206,9 +200,3 @@ module _ (t : Table) (all : List Query) (steps0 : ℕ) where
   walks_told last ws steps1 given none =
       let have : HaveWalks t all [] ws steps0 steps1 = subst (λ (qs : List Query). HaveWalks t all qs ws steps0 steps1) none given in
       subst (TellAll t all) (append-nil ws) (have.told [] tt)
-
-  pub walks_left : (last : List Query) (ws : List Ahead) (steps1 : ℕ) → HaveWalks t all last ws steps0 steps1 → left_in ws ≤ most_left_of_all t (members_of all)
-  walks_left last ws steps1 have = omega (arith, have.left)
-
-  pub walks_looks : (last : List Query) (ws : List Ahead) (steps1 : ℕ) → HaveWalks t all last ws steps0 steps1 → LooksUp (length t.keys) (look_ups_of_all (members_of all)) steps0 steps1
-  walks_looks last ws steps1 have = record { rises = have.rises; most = λ digits lt. omega (arith, have.most digits lt) }

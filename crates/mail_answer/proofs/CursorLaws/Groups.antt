@@ -1,19 +1,12 @@
 -- Walks made one, group by group.
 use Rattle.std.proofs.Common.{◌≡◌, ◌∙◌, ◌+◌, ◌-◌, ◌*◌, ◌<◌, ◌≤◌, ℕ, Bool, true, false, ◌||◌, List, [], ◌∷◌, ◌++◌, length, take, drop, refl, sym, ap, arith, length-append, Result, Ok, Err, IfOk}
 use Rattle.std.proofs.lemmas.List.{take-append-drop, length-take-le}
+use Rattle.std.proofs.Math.Bool.{or_assoc}
 use Rattle.mail_answer.specs.Marks.{truth_at}
 use Rattle.mail_answer.specs.CursorAhead.{Ahead, united, left_in}
 use Rattle.mail_answer.specs.Inside.CursorTexts.{some_has}
 use Rattle.mail_answer.proofs.CursorLaws.Members.{united-at, some-append}
 use Rattle.mail_answer.proofs.CursorLaws.Texts.{left-append}
-
-or_false : (b : Bool) → (b || false) ≡ b
-or_false true = refl
-or_false false = refl
-
-or_assoc : (a b c : Bool) → ((a || b) || c) ≡ (a || (b || c))
-or_assoc true b c = refl
-or_assoc false b c = refl
 
 or_swap : (a b c : Bool) → ((a || c) || b) ≡ (a || (b || c))
 or_swap true b c = refl
@@ -36,9 +29,6 @@ pub record HaveGrouped (all groups walks : List Ahead) : Type 0 where
   pub left : left_in groups + left_in walks ≡ left_in all
   pub few : 4 * length groups + length walks ≤ length all + 3
   pub whole : 0 < length walks → 4 * length groups + length walks ≤ length all
-
-pub grouped_none : (all : List Ahead) → HaveGrouped all [] all
-grouped_none all = record { each = λ m. refl; left = omega arith; few = omega arith; whole = λ some. omega arith }
 
 pub grouped_more : (all groups walks : List Ahead) (at : ℕ) (w : Ahead) → at ≡ length walks - 4 → 0 < length walks
     → w.truths ≡ united (drop at walks) → w.left ≡ left_in (drop at walks) → HaveGrouped all groups walks → HaveGrouped all (groups ++ w ∷ []) (take at walks)

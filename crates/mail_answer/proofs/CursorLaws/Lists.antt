@@ -1,9 +1,9 @@
 -- A posting list whose front is gone.
-use Rattle.std.proofs.Common.{◌≡◌, ◌∙◌, ◌<◌, ◌≤◌, ℕ, suc, Bool, true, false, ◌||◌, List, [], ◌∷◌, ◌++◌, length, append_assoc, Option, Some, None, refl, sym, ap, subst, arith, inl, inr}
+use Rattle.std.proofs.Common.{◌≡◌, ◌∙◌, ◌<◌, ◌≤◌, ℕ, suc, Bool, true, false, ◌||◌, List, [], ◌∷◌, ◌++◌, append_assoc, Option, Some, None, refl, sym, ap, subst, arith, inl, inr}
 use Rattle.std.specs.Prelude.{nat_eq, MatchOption}
 use Rattle.std.specs.List.{AllByRecursion}
 use Rattle.std.specs.Option.{option_to_list}
-use Rattle.std.proofs.lemmas.List.{append-nil, length-append}
+use Rattle.std.proofs.lemmas.List.{append-nil}
 use Rattle.std.proofs.lemmas.Bool.{ltb-true, ltb-false, cases_lt, ne_eqb, eq-eqb}
 use Rattle.mail_index.specs.Tables.{RisesFrom}
 use Rattle.mail_answer.specs.TableFacts.{is_among}
@@ -93,20 +93,6 @@ cut_more first n old new (Some m) before rises gave =
       below = all_joined (λ k. k < n) (option_to_list first) dropped (before_all first n before) gave.1.1;
       rises = (gave.0, behind.1);
     }
-
-pub gave_fewer : (n : ℕ) (old new : List ℕ) (number : Option ℕ) → Gave n old new number → length new ≤ length old
-gave_fewer n old new None gave = let none : length new ≡ 0 = ap length gave.1 in omega (arith, none)
-gave_fewer n old new (Some m) gave =
-    let long : length old ≡ length (gave.1.0 ++ m ∷ new) = ap length gave.1.2 in
-    omega (arith, long, length-append gave.1.0 (m ∷ new))
-
-pub gave_first : (n : ℕ) (old new : List ℕ) (number : Option ℕ) → Gave n old new number → number ≡ first_of (numbers_ahead number new)
-gave_first n old new None gave = rw gave.1
-gave_first n old new (Some m) gave = refl
-
-pub first_stays : (first : Option ℕ) (n : ℕ) (ns : List ℕ) → is_before first n ≡ false → first ≡ first_of (numbers_ahead first ns)
-first_stays None n ns before = absurd cc
-first_stays (Some f) n ns before = refl
 
 -- ---- what is still to come of it
 

@@ -3,10 +3,11 @@ use Rattle.std.proofs.Common.{◌≡◌, ◌∙◌, ◌+◌, ◌-◌, ◌^◌, �
 use Rattle.std.specs.Prelude.{nat_le}
 use Rattle.std.specs.List.{list_any, sum_by, swap_remove}
 use Rattle.std.proofs.Math.ListN.{set}
-use Rattle.std.proofs.lemmas.List.{length-set, length-replicate, get_or-set_same, get_or-set_other, get_or-replicate, get_or_past, get_or_append_left, get_or-append-add, take-set, take-take, take_all, take_more_set}
+use Rattle.std.proofs.lemmas.List.{length-set, length-replicate, get_or-set_same, get_or-replicate, get_or_past, get_or_append_left, get_or-append-add, take-set, take-take, take_all, take_more_set}
 use Rattle.std.proofs.lemmas.List.Sorted.{IsPermutation-swap_remove, list_any-IsPermutation}
 use Rattle.std.proofs.lemmas.List.Sums.{sum_by-swap_remove, sum_by-cons}
-use Rattle.std.proofs.lemmas.Bool.{cases_lt, cases_order, both_ways, or_left, or_right, or_from, lt-leb, le-leb}
+use Rattle.std.proofs.lemmas.Bool.{cases_lt, both_ways, or_left, or_right, or_from, lt-leb, le-leb}
+use Rattle.std.proofs.Math.Bool.{or_assoc, or_comm}
 use Rattle.mail_index.specs.Steps.{add_steps}
 use Rattle.mail_answer.specs.Marks.{truth_at, Adds}
 use Rattle.mail_answer.specs.declared.cursor.head.Head.{Head}
@@ -24,24 +25,10 @@ or_with_false : (a b : Bool) → b ≡ false → (a || b) ≡ a
 or_with_false true b lacks = refl
 or_with_false false b lacks = lacks
 
-or_commutes : (a b : Bool) → (a || b) ≡ (b || a)
-or_commutes true true = refl
-or_commutes true false = refl
-or_commutes false true = refl
-or_commutes false false = refl
-
-or_assoc : (a b c : Bool) → ((a || b) || c) ≡ (a || (b || c))
-or_assoc true b c = refl
-or_assoc false b c = refl
-
 -- what isn't true is false
 lacks : (b : Bool) → (b ≡ true → ⊥) → b ≡ false
 lacks true never = absurd (never refl)
 lacks false never = refl
-
-first_same : (xs ys : List Bool) (r : Option ℕ) → ((m : ℕ) → truth_at ys m ≡ truth_at xs m) → IsFirst xs r → IsFirst ys r
-first_same xs ys None same first = λ m. same m ∙ first m
-first_same xs ys (Some n) same first = (same n ∙ first.0, λ m lt. same m ∙ first.1 m lt)
 
 -- ---- one list of many changes, or is taken out
 
@@ -56,7 +43,7 @@ some-set_gone m [] i w v lt is gone = absurd (omega (arith, lt))
 some-set_gone m (x ∷ ws) zero w v lt is gone =
     ap (λ (b : Bool). (b || some_has m ws) || truth_at w.truths m) gone
     ∙ ap (λ (a : Ahead). some_has m ws || truth_at a.truths m) is
-    ∙ or_commutes (some_has m ws) (truth_at x.truths m)
+    ∙ or_comm (some_has m ws) (truth_at x.truths m)
 some-set_gone m (x ∷ ws) (suc i) w v lt is gone =
     or_assoc (truth_at x.truths m) (some_has m (set ws i v)) (truth_at w.truths m)
     ∙ ap (λ (b : Bool). truth_at x.truths m || b) (some-set_gone m ws i w v (omega (arith, lt)) is gone)
@@ -100,9 +87,6 @@ counts_more left0 left left1 steps0 steps steps1 earlier here =
       counted = here.counted ∙ ap (λ (n : ℕ). add_steps n (left - left1)) earlier.counted ∙ add_more steps0 (left0 - left) (left - left1) ∙ ap (add_steps steps0) both;
     }
 
-pub counts_none : (left steps : ℕ) → Counts left left steps steps
-counts_none left steps = record { fewer = omega arith; counted = omega arith }
-
 pub turn_counts : (ws : List Ahead) (i left0 steps0 steps steps1 : ℕ) (w v : Ahead) → i < length ws → w ≡ get_or ws i w
     → Counts left0 (left_in ws) steps0 steps → Counts w.left v.left steps steps1 → Counts left0 (left_in (set ws i v)) steps0 steps1
 turn_counts ws i left0 steps0 steps steps1 w v lt is earlier here =
@@ -133,15 +117,6 @@ kept n xs ys drops m here = elim (cases_lt m n) [
   | inr le ↦ sym (drops.rest m le) ∙ here
 ]
 
-pub marked_none : (start : ℕ) (list rest marks : List Bool) → Drops start list rest → HasMarked start list marks rest marks
-marked_none start list rest marks drops = record {
-  long = refl;
-  moved = λ k lt. ap (λ (b : Bool). truth_at marks k || b) (drops.rest (start + k) (omega arith));
-  behind = λ m le. drops.rest m (omega (arith, le));
-  before = drops.below;
-  were = kept start list rest drops;
-}
-
 module _ (start : ℕ) (list marks rest now : List Bool) (has : HasMarked start list marks rest now) where
   ended : ((m : ℕ) → m < start + length marks → truth_at rest m ≡ false) → Adds (λ k. truth_at list (start + k)) marks now
   ended none = record {
@@ -151,9 +126,6 @@ module _ (start : ℕ) (list marks rest now : List Bool) (has : HasMarked start 
 
   passed : ((m : ℕ) → m < start + length marks → truth_at rest m ≡ false) → Drops (start + length marks) list rest
   passed none = record { rest = has.behind; below = none }
-
-  pub ended_marks : IsFirst rest None → Adds (λ k. truth_at list (start + k)) marks now
-  ended_marks none = ended (λ m lt. none m)
 
   pub ended_drops : IsFirst rest None → Drops (start + length marks) list rest
   ended_drops none = passed (λ m lt. none m)
@@ -165,37 +137,6 @@ module _ (start : ℕ) (list marks rest now : List Bool) (has : HasMarked start 
       | inr le ↦ le
     ]
 
-    pub past_marks : start + length marks ≤ number → Adds (λ k. truth_at list (start + k)) marks now
-    past_marks past = ended (λ m lt. first.1 m (omega (arith, lt, past)))
-
-    pub past_drops : start + length marks ≤ number → Drops (start + length marks) list rest
-    past_drops past = passed (λ m lt. first.1 m (omega (arith, lt, past)))
-
-    pub marked_more : (place : ℕ) (rest' : List Bool) → place + start ≡ number → place < length marks → Drops (number + 1) rest rest' → HasMarked start list marks rest' (set now place true)
-    marked_more place rest' at within drops =
-        let inside : place < length now = omega (arith, within, has.long) in
-        record {
-          long = length-set now place true ∙ has.long;
-          moved = λ k lt. elim (cases_order k place) [
-            | inl same ↦
-                let here : start + k ≡ number = omega (arith, same, at) in
-                ap (λ (b : Bool). b || truth_at rest' (start + k)) (ap (λ (n : ℕ). truth_at (set now place true) n) same ∙ get_or-set_same now place true false inside)
-                ∙ sym (or_right (truth_at now k) (truth_at rest (start + k)) (ap (truth_at rest) here ∙ first.0))
-                ∙ has.moved k lt
-            | inr (inl under) ↦
-                ap (λ (b : Bool). b || truth_at rest' (start + k)) (get_or-set_other now place k true false (omega (arith, under)))
-                ∙ ap (λ (b : Bool). truth_at now k || b) (drops.below (start + k) (omega (arith, under, at)) ∙ sym (first.1 (start + k) (omega (arith, under, at))))
-                ∙ has.moved k lt
-            | inr (inr over) ↦
-                ap (λ (b : Bool). b || truth_at rest' (start + k)) (get_or-set_other now place k true false (omega (arith, over)))
-                ∙ ap (λ (b : Bool). truth_at now k || b) (drops.rest (start + k) (omega (arith, over, at)))
-                ∙ has.moved k lt
-          ];
-          behind = λ m le. drops.rest m (omega (arith, le, at, within)) ∙ has.behind m le;
-          before = λ m lt. drops.below m (omega (arith, lt, at));
-          were = λ m here. has.were m (kept (number + 1) rest rest' drops m here);
-        }
-
 -- ---- the messages of all lists
 
 -- those of the lists in the window are marked or still to come; those of the first lists up to its end are gone
@@ -206,16 +147,6 @@ pub record HaveMarked (start : ℕ) (lists : List Ahead) (marks : List Bool) (pl
   pub gone : (m : ℕ) → m < start + length marks → some_has m (take place now_lists) ≡ false
   pub first : Firsts (λ m. some_has m (take place now_lists)) least
   pub few : AreFew now_lists
-
-pub none_marked : (start : ℕ) (lists : List Ahead) (marks : List Bool) → AreFew lists → HaveMarked start lists marks 0 lists marks None
-none_marked start lists marks few = record {
-  long = refl;
-  moved = λ k lt. refl;
-  behind = λ m le. refl;
-  gone = λ m lt. refl;
-  first = λ m. refl;
-  few = few;
-}
 
 module _ (start : ℕ) (lists : List Ahead) (marks : List Bool) (place : ℕ) (ws : List Ahead) (now : List Bool) (least : Option ℕ) (have : HaveMarked start lists marks place ws now least) (w : Ahead) (lt : place < length ws) (is : w ≡ get_or ws place w) where
   pub list_few : (m : ℕ) → truth_at w.truths m ≡ true → m + 1 < 2 ^ 32
@@ -397,7 +328,7 @@ module _ (n start : ℕ) (cleared : List Bool) (lists cut : List Ahead) (few : A
   }
 
   pub none_first : (number : Option ℕ) → IsFirst (united cut) number → IsFirst (marked_or_listed start cleared cut) number
-  none_first number none = first_same (united cut) (marked_or_listed start cleared cut) number same_as_cut none
+  none_first number none = firsts_same (truth_at (united cut)) (truth_at (marked_or_listed start cleared cut)) number same_as_cut none
 
   module _ (first : ℕ) (now : List Bool) (left : List Ahead) (is : IsFirst (united cut) (Some first)) (taken : Drops (first + length cleared) (united cut) (united left)) (adds : Adds (λ k. truth_at (united cut) (first + k)) cleared now) where
     marked-as : (k : ℕ) → k < length cleared → truth_at now k ≡ truth_at (united cut) (first + k)
@@ -454,7 +385,7 @@ module _ (n start : ℕ) (cleared : List Bool) (lists cut : List Ahead) (few : A
     }
 
     pub begun_first : IsFirst (marked_or_listed first now left) (Some first)
-    begun_first = first_same (united cut) (marked_or_listed first now left) (Some first) same_as_moved is
+    begun_first = firsts_same (truth_at (united cut)) (truth_at (marked_or_listed first now left)) (Some first) same_as_moved is
 
 -- ---- those from a number on
 
@@ -513,7 +444,7 @@ module _ (n low low' start : ℕ) (marks : List Bool) (lists : List Ahead) (ahea
     pub windowed_first : (number : Option ℕ) → IsFirst (marked_or_listed start' now left) number → IsFirst (truths_marked low' start' now left) number
     windowed_first number first =
         let ys : List Bool = marked_or_listed start' now left in
-        first_same ys (those_from low' ys) number
+        firsts_same (truth_at ys) (truth_at (those_from low' ys)) number
         (λ m. elim (cases_lt m low') [
           | inl before ↦ those-before low' ys m before ∙ sym (drops.below m before)
           | inr from ↦ those-from low' ys m from

@@ -4,6 +4,7 @@ use Rattle.std.specs.Prelude.{MatchOption, min}
 use Rattle.std.proofs.Math.ListN.{set}
 use Rattle.std.proofs.lemmas.Bool.{cases_lt, or_left, or_right, or_from, and_left, and_right, and_from}
 use Rattle.std.proofs.lemmas.List.{take_all, take_more, take_more_set, length-set, get_or-set_same, get_or-set_other}
+use Rattle.std.proofs.Math.Bool.{and-true, and_assoc, or-false, or_assoc}
 use Rattle.mail_index.specs.Steps.{add_steps}
 use Rattle.mail_answer.specs.Marks.{truth_at}
 use Rattle.mail_answer.specs.CursorAhead.{Ahead, common, united, left_in, postings_in, levels, CountsPostings, Drops, IsFirst, Reaches, Spends, lesser_of}
@@ -64,26 +65,6 @@ unfoldable pub each_has : ℕ → List Ahead → Bool
 each_has m [] = true
 each_has m (w ∷ ws) = truth_at w.truths m && each_has m ws
 
-or_false : (b : Bool) → (b || false) ≡ b
-or_false true = refl
-or_false false = refl
-
-and_true : (b : Bool) → (b && true) ≡ b
-and_true true = refl
-and_true false = refl
-
-and_false : (b : Bool) → (b && false) ≡ false
-and_false true = refl
-and_false false = refl
-
-or_assoc : (a b c : Bool) → ((a || b) || c) ≡ (a || (b || c))
-or_assoc true b c = refl
-or_assoc false b c = refl
-
-and_assoc : (a b c : Bool) → ((a && b) && c) ≡ (a && (b && c))
-and_assoc true b c = refl
-and_assoc false b c = refl
-
 pub united-at : (m : ℕ) (ws : List Ahead) → truth_at (united ws) m ≡ some_has m ws
 united-at m [] = refl
 united-at m (w ∷ ws) = one_or_other-at w.truths (united ws) m ∙ ap (λ (b : Bool). truth_at w.truths m || b) (united-at m ws)
@@ -91,16 +72,16 @@ united-at m (w ∷ ws) = one_or_other-at w.truths (united ws) m ∙ ap (λ (b : 
 pub common-at : (m : ℕ) (ws : List Ahead) → 0 < length ws → truth_at (common ws) m ≡ each_has m ws
 unfolding each_has
 common-at m [] some = absurd (omega (arith, some))
-common-at m (w ∷ []) some = sym (and_true (truth_at w.truths m))
+common-at m (w ∷ []) some = sym (and-true (truth_at w.truths m))
 common-at m (w ∷ v ∷ ws) some = both-at w.truths (common (v ∷ ws)) m ∙ ap (λ (b : Bool). truth_at w.truths m && b) (common-at m (v ∷ ws) (omega arith))
 
 pub some-append : (m : ℕ) (ws : List Ahead) (w : Ahead) → some_has m (ws ++ w ∷ []) ≡ (some_has m ws || truth_at w.truths m)
-some-append m [] w = or_false (truth_at w.truths m)
+some-append m [] w = or-false (truth_at w.truths m)
 some-append m (v ∷ ws) w = ap (λ (b : Bool). truth_at v.truths m || b) (some-append m ws w) ∙ sym (or_assoc (truth_at v.truths m) (some_has m ws) (truth_at w.truths m))
 
 each-append : (m : ℕ) (ws : List Ahead) (w : Ahead) → each_has m (ws ++ w ∷ []) ≡ (each_has m ws && truth_at w.truths m)
 unfolding each_has
-each-append m [] w = and_true (truth_at w.truths m)
+each-append m [] w = and-true (truth_at w.truths m)
 each-append m (v ∷ ws) w = ap (λ (b : Bool). truth_at v.truths m && b) (each-append m ws w) ∙ sym (and_assoc (truth_at v.truths m) (each_has m ws) (truth_at w.truths m))
 
 front_lacks : (b front whole : Bool) → (front ≡ false → whole ≡ false) → (b && front) ≡ false → (b && whole) ≡ false
@@ -269,42 +250,6 @@ pub record HasRisen (n : ℕ) (old : List Bool) (number : ℕ) (xs : List Bool) 
   pub from : n ≤ number
   pub rest : (m : ℕ) → number ≤ m → truth_at xs m ≡ truth_at old m
   pub lacking : (m : ℕ) → n ≤ m → m < number → truth_at old m ≡ false
-
-pub risen_none : (n : ℕ) (old : List Bool) → HasRisen n old n old
-risen_none n old = record { from = omega arith; rest = λ m le. refl; lacking = λ m le lt. absurd (omega (arith, le, lt)) }
-
-pub risen_more : (n : ℕ) (old : List Bool) (number reached : ℕ) (xs ys : List Bool) → HasRisen n old number xs → Drops number xs ys → Reaches number ys (Some reached) → HasRisen n old reached ys
-risen_more n old number reached xs ys has drops reaches = record {
-  from = omega (arith, has.from, reaches.0);
-  rest = λ m le. let above : number ≤ m = omega (arith, le, reaches.0) in drops.rest m above ∙ has.rest m above;
-  lacking = λ m le lt. elim (cases_lt m number) [
-    | inl before ↦ has.lacking m le before
-    | inr after ↦ sym (has.rest m after) ∙ sym (drops.rest m after) ∙ reaches.1 m lt
-  ];
-}
-
-pub risen_drops : (n : ℕ) (old : List Bool) (number : ℕ) (xs ys : List Bool) → HasRisen n old number xs → Drops number xs ys → Drops n old ys
-risen_drops n old number xs ys has drops = record {
-  rest = λ m le. elim (cases_lt m number) [
-    | inl before ↦ drops.below m before ∙ sym (has.lacking m le before)
-    | inr after ↦ drops.rest m after ∙ has.rest m after
-  ];
-  below = λ m lt. drops.below m (omega (arith, lt, has.from));
-}
-
-pub risen_first : (number reached : ℕ) (ys : List Bool) → Reaches number ys (Some reached) → reached ≡ number → IsFirst ys (Some number)
-risen_first number reached ys reaches same = (reaches.2 same, λ m lt. reaches.1 m (omega (arith, lt, same)))
-
-pub no_members : (ws : List Ahead) (n : ℕ) → length ws ≡ 0 → Drops n (common ws) (common ws)
-no_members [] n none = record { rest = λ m le. refl; below = λ m lt. refl }
-no_members (w ∷ ws) n none = absurd (omega (arith, none))
-
-pub no_first : (ws : List Ahead) → length ws ≡ 0 → IsFirst (common ws) None
-no_first [] none = λ m. refl
-no_first (w ∷ ws) none = absurd (omega (arith, none))
-
-pub spends_more : (left0 left left1 steps0 steps steps1 : ℕ) → Spends left0 left steps0 steps → Spends left left1 steps steps1 → Spends left0 left1 steps0 steps1
-spends_more left0 left left1 steps0 steps steps1 p q = record { rises = omega (arith, p.rises, q.rises); most = omega (arith, p.most, q.most) }
 
 -- ---- the loop over members
 

@@ -1,31 +1,12 @@
 -- A walk along records.
-use Rattle.std.proofs.Common.{◌≡◌, ◌≢◌, ◌∙◌, ◌<◌, ◌≤◌, ℕ, zero, suc, Bool, true, false, ◌&&◌, ◌||◌, max, List, [], ◌∷◌, Option, Some, None, refl, sym, ap, arith, inl, inr}
+use Rattle.std.proofs.Common.{◌≡◌, ◌≢◌, ◌∙◌, ◌<◌, ◌≤◌, ℕ, suc, Bool, true, false, ◌&&◌, ◌||◌, max, Option, Some, None, refl, sym, ap, arith, inl, inr}
 use Rattle.std.specs.Prelude.{nat_le}
-use Rattle.std.specs.List.{slice_get}
 use Rattle.std.proofs.lemmas.Bool.{ltb-true, ltb-false, cases_lt, cases_order, ne_eqb, eq-eqb, lt-leb, le-leb}
-use Rattle.mail_index.specs.declared.record.Record.{Record}
-use Rattle.mail_index.specs.Tables.{Table}
-use Rattle.mail_query.specs.Truth.{is_true}
-use Rattle.mail_answer.specs.declared.cursor.scanned.Asked.{Asked}
-use Rattle.mail_answer.specs.TableFacts.{record_at, facts_of_record}
 use Rattle.mail_answer.specs.Marks.{truth_at}
 use Rattle.mail_answer.specs.CursorAhead.{Drops, IsFirst}
 use Rattle.mail_answer.specs.Inside.CursorLists.{is_before}
-use Rattle.mail_answer.specs.Inside.CursorScans.{asked_query, satisfies, is_ahead, truths_scanned, IsFound, Scans}
+use Rattle.mail_answer.specs.Inside.CursorScans.{is_ahead, truths_scanned, IsFound, Scans}
 use Rattle.mail_answer.proofs.CursorLaws.TruthReads.{each-at, each-past}
-
-record_is : (messages : List Record) (n : ℕ) (m : Record) → slice_get messages n ≡ Some m → record_at messages n ≡ m
-record_is [] n m known = absurd cc
-record_is (r ∷ rs) zero m known = cc
-record_is (r ∷ rs) (suc n) m known = record_is rs n m known
-
--- what the record of a number answers
-pub record_told : (t : Table) (asked : Asked) (n : ℕ) (m : Record) (answer : Bool) → slice_get t.messages n ≡ Some m → answer ≡ is_true (asked_query asked) (facts_of_record t n m) → satisfies t asked n ≡ answer
-record_told t asked n m answer known is = ap (λ (r : Record). is_true (asked_query asked) (facts_of_record t n r)) (record_is t.messages n m known) ∙ sym is
-
-or_false : (b : Bool) → (b || false) ≡ b
-or_false true = refl
-or_false false = refl
 
 module _ (count : ℕ) (test : ℕ → Bool) where
   -- what is told of a number that was found, of another below the next, of one behind it and of one past the last
@@ -83,10 +64,6 @@ module _ (count : ℕ) (test : ℕ → Bool) where
   scan_first start next (Some k) scans =
       let here : next ≡ suc k = scans.2 in
       (told_found next k scans.1, λ m lt. told_other next k m (omega (arith, lt)) ∙ told_none next m (omega (arith, lt, here)))
-
-  pub scan_found : (start next : ℕ) (found : Option ℕ) → Scans count test start next found → IsFound count next found
-  scan_found start next None scans = tt
-  scan_found start next (Some k) scans = let here : next ≡ suc k = scans.2 in (omega (arith, here), scans.1)
 
   -- from n on nothing is lost
   scan_rest : (n old start next : ℕ) (found : Option ℕ) → start ≡ max n old → Scans count test start next found → (m : ℕ) → n ≤ m

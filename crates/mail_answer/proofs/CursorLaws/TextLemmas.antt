@@ -10,6 +10,7 @@ use Rattle.std.specs.List.Sorted.{IsStrictlySortedBy}
 use Rattle.std.proofs.lemmas.Cmp.{nat_list_cmp_total}
 use Rattle.std.proofs.lemmas.Map.Text.{is_eq-slice_cmp}
 use Rattle.std.proofs.lemmas.Bool.{and_left, and_right, and_from}
+use Rattle.std.proofs.Math.Bool.{and-false, and-true}
 use Rattle.mail_index.specs.declared.kind.Kind.{Kind}
 use Rattle.mail_index.specs.Kinds.{kind_number}
 use Rattle.mail_index.specs.Tables.{Key, KeyBefore, AllNext}
@@ -22,14 +23,6 @@ use Rattle.mail_answer.specs.Inside.CursorTexts.{any_text}
 
 -- ---- keys one after another
 
-and_true : (b : Bool) → (b && true) ≡ b
-and_true true = refl
-and_true false = refl
-
-and_false : (b : Bool) → (b && false) ≡ false
-and_false true = refl
-and_false false = refl
-
 -- some key passes and has the number: some text of those with the number passes
 pub fitting_keys : (passes : List ℕ → Bool) (n : ℕ) (ks : List Key)
     → list_any passes (map (λ (k : Key). k.text) (filter (λ k. is_among n k.numbers) ks)) ≡ list_any (λ k. passes k.0 && is_among n k.1) (map text_and_numbers ks)
@@ -39,8 +32,8 @@ fitting_keys passes n (k ∷ ks) = go (is_among n k.numbers) (fitting_keys passe
     go : (among : Bool) → list_any passes (map (λ (key : Key). key.text) (filter (λ key. is_among n key.numbers) ks)) ≡ list_any (λ key. passes key.0 && is_among n key.1) (map text_and_numbers ks)
         → list_any passes (map (λ (key : Key). key.text) (cond among (k ∷ filter (λ key. is_among n key.numbers) ks) (filter (λ key. is_among n key.numbers) ks)))
         ≡ ((passes k.text && among) || list_any (λ key. passes key.0 && is_among n key.1) (map text_and_numbers ks))
-    go true e = ap (λ (b : Bool). passes k.text || b) e ∙ sym (ap (λ (b : Bool). b || list_any (λ key. passes key.0 && is_among n key.1) (map text_and_numbers ks)) (and_true (passes k.text)))
-    go false e = e ∙ sym (ap (λ (b : Bool). b || list_any (λ key. passes key.0 && is_among n key.1) (map text_and_numbers ks)) (and_false (passes k.text)))
+    go true e = ap (λ (b : Bool). passes k.text || b) e ∙ sym (ap (λ (b : Bool). b || list_any (λ key. passes key.0 && is_among n key.1) (map text_and_numbers ks)) (and-true (passes k.text)))
+    go false e = e ∙ sym (ap (λ (b : Bool). b || list_any (λ key. passes key.0 && is_among n key.1) (map text_and_numbers ks)) (and-false (passes k.text)))
 
 -- of the keys that pass each has a text that does
 pub kept_keys : (passes : List ℕ → Bool) (n : ℕ) (ks : List Key) → some_key passes n (map text_and_numbers ks) ≡ some_key any_text n (map text_and_numbers (filter (λ k. passes k.text) ks))

@@ -4,6 +4,7 @@ use Rattle.std.specs.Prelude.{bytes_eq}
 use Rattle.std.specs.List.{list_any, filter, AllByRecursion}
 use Rattle.std.proofs.Math.Nat.{add-mul, suc-mul}
 use Rattle.std.proofs.lemmas.List.{drop_more}
+use Rattle.std.proofs.Math.Bool.{or-false, or_assoc}
 use Rattle.mail_words.specs.declared.kind.TextKind.{TextKind}
 use Rattle.mail_index.specs.declared.kind.Kind.{Kind}
 use Rattle.mail_index.specs.declared.kind.Kind.TheVariants.{Text, OwnId}
@@ -22,14 +23,6 @@ use Rattle.mail_answer.specs.Inside.CursorTexts.{some_has, Joins, HaveNumbers, n
 use Rattle.mail_answer.proofs.CursorLaws.Lists.{among-at, past_all}
 use Rattle.mail_answer.proofs.CursorLaws.Members.{some-append}
 
-or_false : (b : Bool) → (b || false) ≡ b
-or_false true = refl
-or_false false = refl
-
-or_assoc : (a b c : Bool) → ((a || b) || c) ≡ (a || (b || c))
-or_assoc true b c = refl
-or_assoc false b c = refl
-
 pub left-append : (ws : List Ahead) (w : Ahead) → left_in (ws ++ w ∷ []) ≡ left_in ws + w.left
 left-append [] w = omega arith
 left-append (v ∷ ws) w = omega (arith, left-append ws w)
@@ -40,9 +33,6 @@ joins_list count ns w old new are told left is = record {
   each = λ m. ap (some_has m) is ∙ some-append m old w ∙ ap (λ (b : Bool). some_has m old || b) (ap (λ (xs : List Bool). truth_at xs m) told ∙ among-at count m ns are);
   left = omega (arith, ap left_in is, left-append old w, left);
 }
-
-pub joins_none : (ws : List Ahead) → Joins (λ n. false) 0 ws ws
-joins_none ws = record { each = λ m. sym (or_false (some_has m ws)); left = omega arith }
 
 pub joins_more : (f g : ℕ → Bool) (p q : ℕ) (ws bs cs : List Ahead) → Joins f p ws bs → Joins g q bs cs → Joins (λ n. f n || g n) (p + q) ws cs
 joins_more f g p q ws bs cs first then = record {
@@ -132,7 +122,7 @@ some_filter : (kinds : Kinds) (passes : List ℕ → Bool) (t : Table) (m : ℕ)
 some_filter kinds passes t m [] = go kinds.own_id
   where
     go : (b : Bool) → some_of_kinds (cond b (OwnId ∷ []) []) passes t.keys m ≡ (b && list_any passes (texts_with OwnId m t.keys))
-    go true = or_false (list_any passes (texts_with OwnId m t.keys))
+    go true = or-false (list_any passes (texts_with OwnId m t.keys))
     go false = refl
 some_filter kinds passes t m (kind ∷ ts) = go (has_kind kinds kind) (some_filter kinds passes t m ts)
   where
@@ -201,12 +191,6 @@ module _ (passes : List ℕ → Bool) (keys : List Key) (a : ℕ) (all : List Ki
     rises = omega (arith, have.rises, looks.rises);
     most = λ digits lt. omega (arith, have.most digits lt, looks.most digits lt, more_times (length coming) a digits);
   }
-
-  pub kinds_joins : (ws : List Ahead) (steps1 : ℕ) → HaveKinds passes keys a all [] old ws steps0 steps1 → Joins (some_of_kinds all passes keys) (numbers_named passes keys all) old ws
-  kinds_joins ws steps1 have = record { each = λ m. sym (or_false (some_has m ws)) ∙ have.each m; left = omega (arith, have.left) }
-
-  pub kinds_looks : (ws : List Ahead) (steps1 : ℕ) → HaveKinds passes keys a all [] old ws steps0 steps1 → LooksUp (length keys) (length all * a) steps0 steps1
-  kinds_looks ws steps1 have = record { rises = have.rises; most = λ digits lt. omega (arith, have.most digits lt) }
 
 pub next_kind : (kinds : Kinds) (kind : Kind) (rest : List Kind) (b : Bool) → is_in kinds kind ≡ b → filter (is_in kinds) (kind ∷ rest) ≡ cond b (kind ∷ filter (is_in kinds) rest) (filter (is_in kinds) rest)
 next_kind kinds kind rest b e = ap (λ (x : Bool). cond x (kind ∷ filter (is_in kinds) rest) (filter (is_in kinds) rest)) e

@@ -13,11 +13,6 @@ record_known [] n lt = absurd (omega (arith, lt))
 record_known (m ∷ ms) zero lt = refl
 record_known (m ∷ ms) (suc n) lt = record_known ms n (omega (arith, lt))
 
-pub record_within : (messages : List Record) (n : ℕ) (m : Record) → slice_get messages n ≡ Some m → n < length messages
-record_within [] n m known = absurd cc
-record_within (r ∷ rs) zero m known = omega arith
-record_within (r ∷ rs) (suc n) m known = let rest : n < length rs = record_within rs n m known in omega arith
-
 -- as many truths as messages, each of which the test tells
 pub told : (count : ℕ) (test : ℕ → Bool) (xs : List Bool) → length xs ≡ count → ((n : ℕ) → n < count → truth_at xs n ≡ test n) → xs ≡ each_number count test
 told count test xs long each = fill_by_all test xs count false long each

@@ -1,7 +1,8 @@
 -- What lists of truths say at a number.
-use Rattle.std.proofs.Common.{◌≡◌, ◌<◌, ◌≤◌, ℕ, zero, suc, Bool, true, false, ◌&&◌, ◌||◌, List, [], ◌∷◌, refl, sym, arith}
+use Rattle.std.proofs.Common.{◌≡◌, ◌<◌, ◌≤◌, ℕ, zero, suc, Bool, false, ◌&&◌, ◌||◌, List, [], ◌∷◌, refl, sym, arith}
 use Rattle.std.proofs.lemmas.List.{get_or_past}
 use Rattle.std.proofs.lemmas.List.FromFn.{length-map-range_with_len, get_or-map-range_with_len}
+use Rattle.std.proofs.Math.Bool.{and-false, or-false}
 use Rattle.mail_answer.specs.Marks.{truth_at, each_number}
 use Rattle.mail_answer.specs.CursorAhead.{both, one_or_other}
 
@@ -11,22 +12,14 @@ each-at count test n lt = get_or-map-range_with_len test 0 count n n false lt (o
 pub each-past : (count : ℕ) (test : ℕ → Bool) (n : ℕ) → count ≤ n → truth_at (each_number count test) n ≡ false
 each-past count test n past = get_or_past (each_number count test) n false (omega (arith, past, length-map-range_with_len test 0 count))
 
-and_false : (b : Bool) → (b && false) ≡ false
-and_false true = refl
-and_false false = refl
-
-or_false : (b : Bool) → (b || false) ≡ b
-or_false true = refl
-or_false false = refl
-
 pub both-at : (xs ys : List Bool) (n : ℕ) → truth_at (both xs ys) n ≡ (truth_at xs n && truth_at ys n)
 both-at [] ys n = refl
-both-at (x ∷ xs) [] n = sym (and_false (truth_at (x ∷ xs) n))
+both-at (x ∷ xs) [] n = sym (and-false (truth_at (x ∷ xs) n))
 both-at (x ∷ xs) (y ∷ ys) zero = refl
 both-at (x ∷ xs) (y ∷ ys) (suc n) = both-at xs ys n
 
 pub one_or_other-at : (xs ys : List Bool) (n : ℕ) → truth_at (one_or_other xs ys) n ≡ (truth_at xs n || truth_at ys n)
 one_or_other-at [] ys n = refl
-one_or_other-at (x ∷ xs) [] n = sym (or_false (truth_at (x ∷ xs) n))
+one_or_other-at (x ∷ xs) [] n = sym (or-false (truth_at (x ∷ xs) n))
 one_or_other-at (x ∷ xs) (y ∷ ys) zero = refl
 one_or_other-at (x ∷ xs) (y ∷ ys) (suc n) = one_or_other-at xs ys n

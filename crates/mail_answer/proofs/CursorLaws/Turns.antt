@@ -1,5 +1,5 @@
 -- What the walks of a tree have done, turn by turn.
-use Rattle.std.proofs.Common.{◌≡◌, ◌≢◌, ◌∙◌, ◌+◌, ◌<◌, ◌≤◌, ℕ, Bool, true, false, not, ◌&&◌, max, List, Option, Some, None, refl, sym, ap, subst, arith, inl, inr}
+use Rattle.std.proofs.Common.{◌≡◌, ◌≢◌, ◌∙◌, ◌+◌, ◌<◌, ◌≤◌, ℕ, Bool, true, false, not, ◌&&◌, List, Option, Some, None, sym, ap, subst, arith, inl, inr}
 use Rattle.std.specs.Prelude.{nat_le}
 use Rattle.std.proofs.lemmas.Bool.{cases_lt, both_ways, lt-leb, le-leb}
 use Rattle.mail_answer.specs.Marks.{truth_at}
@@ -30,14 +30,6 @@ pub record HasPassed (n low : ℕ) (old : List Bool) (number : ℕ) (xs : List B
   pub above : low ≤ number
   pub passed : (m : ℕ) → n ≤ m → low ≤ m → m < number → truth_at old m ≡ true
   pub rest : (m : ℕ) → number ≤ m → truth_at xs m ≡ truth_at old m
-
-pub passed_none : (n low number : ℕ) (old : List Bool) → number ≡ max n low → HasPassed n low old number old
-passed_none n low number old is = record {
-  from = omega (arith, is);
-  above = omega (arith, is);
-  passed = λ m a b lt. absurd (omega (arith, is, a, b, lt));
-  rest = λ m le. refl;
-}
 
 pub passed_same : (n low : ℕ) (old : List Bool) (number : ℕ) (xs ys : List Bool) → HasPassed n low old number xs → Drops number xs ys → HasPassed n low old number ys
 passed_same n low old number xs ys has drops = record {

@@ -13,13 +13,6 @@ pub record AreAsIndexed {A : Type 0} (g : Ghosts A) (indexed : List Archive) (a 
   pub number : g.number a ≡ length indexed
   pub fresh : IfSome (g.held a) (λ bytes. stale_archive indexed bytes ≡ None)
 
--- after any calls of archives, whether they failed or not
-pub record HoldsArchives {A : Type 0} (g : Ghosts A) (old new : A) : Type 0 where
-  -- each holds the bytes that it held, where they are known
-  pub held : g.held new ≡ g.held old
-  -- they are as many
-  pub number : g.number new ≡ g.number old
-
 -- after reads alone
 pub record KeepsArchives {A : Type 0} (g : Ghosts A) (old new : A) : Type 0 where
   pub held : g.held new ≡ g.held old

@@ -2,10 +2,9 @@
 ghost use Rattle.std.specs.Prelude.{◌≡◌, ◌≢◌, ◌<◌, ◌-◌, ◌^◌, ◌==◌, ℕ, length, min, false, Ok, Err, IfOk, IfErr, OnOk, OnErr, IfSome};
 ghost use Rattle.contract_words.specs.Devices.{Counted};
 ghost use Rattle.mbox_cutter.specs.declared.device.DeviceFault.{DeviceFault};
-ghost use Rattle.mail_answer.specs.Asked.{FindsLengths};
+ghost use Rattle.mail_answer.specs.Asked.{FindsLengths, HoldsArchives};
 ghost use Rattle.mail_answer.specs.Archives.{archive_at};
 ghost use Rattle.mail_answer.specs.Faults.{has_fault, is_of_archives, is_of_output, IfStale};
-ghost use Rattle.mail_answer.specs.Inside.Calls.{HoldsArchives};
 ghost use Rattle.mail_answer.specs.Stale.{stale_archive, TellsStale};
 
 use crate::archives::Archives;

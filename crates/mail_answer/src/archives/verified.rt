@@ -3,14 +3,15 @@ ghost use Rattle.std.specs.Prelude.{◌≡◌, ◌≢◌, ◌<◌, ◌≤◌, �
 ghost use Rattle.contract_words.specs.Devices.{Counted};
 ghost use Rattle.mbox_cutter.specs.declared.device.DeviceFault.{DeviceFault};
 ghost use Rattle.mail_index.specs.Tables.{IsWellFormed};
-ghost use Rattle.mail_answer.specs.Answers.{fails_by, kind_of};
+ghost use Rattle.mail_answer.specs.Answers.{fails_by};
 ghost use Rattle.mail_answer.specs.Archives.{archive_at};
-ghost use Rattle.mail_answer.specs.Inside.Calls.{AreAsIndexed, HoldsArchives, KeepsArchives};
+ghost use Rattle.mail_answer.specs.Asked.{HoldsArchives, RefusesCount};
+ghost use Rattle.mail_answer.specs.Inside.Calls.{AreAsIndexed, KeepsArchives};
 ghost use Rattle.mail_answer.specs.Inside.Digests.{front_digest, has_front_digest as has_front_digest_of, AbsorbsPart, ReadsDigest, ComparesDigest};
 ghost use Rattle.mail_answer.specs.Faults.{has_fault, is_of_archives, is_of_output, IfStale};
 ghost use Rattle.mail_answer.specs.Stale.{stale_archive, TellsStale};
 ghost use Rattle.mail_answer.specs.Pieces.{StopsWithin};
-ghost use Rattle.mail_answer.specs.Verified.{first_altered, AreVerified, TellsFound, TellsVerified, FindsDigests, LooksThrough};
+ghost use Rattle.mail_answer.specs.Verified.{first_altered, AreVerified, TellsFound, TellsVerified, FindsDigests, LooksThrough, VerifiesArchives};
 
 use crate::archives::Archives;
 use crate::archives::stale::check_archives;
@@ -35,9 +36,13 @@ fn digest_piece<A: Archives>(
     requires count { A.failures archives.old < 2 ^ 64 - 1 }
     ensures keeps { KeepsArchives A.Archives archives.old archives.new }
     ensures bound { IfOk result (λ count. count ≤ length room.old) }
-    ensures part { IfOk result (λ count. AbsorbsPart A.Archives archive offset count (A.held archives.old) archives.old archives.new hasher.old hasher.new) }
-    ensures failed { OnErr result ((fault : DeviceFault) × A.reads archives.old archive offset (Err fault) archives.new) }
-    ensures count { Counted (has_fault is_of_archives result) (A.failures archives.old) (A.failures archives.new) }
+    ensures part { IfOk result
+        (λ count. AbsorbsPart A.Archives archive offset count (A.held archives.old) archives.old
+        archives.new hasher.old hasher.new) }
+    ensures failed { OnErr result
+        ((fault : DeviceFault) × A.reads archives.old archive offset (Err fault) archives.new) }
+    ensures count { Counted (has_fault is_of_archives result)
+        (A.failures archives.old) (A.failures archives.new) }
     ensures own { IfErr result (λ kind. kind ≡ AnswerFaultKind.Device) }
 {
     match archives.read_at(archive, offset, room) {
@@ -60,10 +65,16 @@ fn read_digest<A: Archives>(
     requires room { 0 < length buffer.old }
     requires count { A.failures archives.old < 2 ^ 64 - 1 }
     ensures keeps { KeepsArchives A.Archives archives.old archives.new }
-    ensures digest { IfOk result (λ digest. IfSome (A.held archives.old) (λ bytes. digest ≡ front_digest indexed_length (archive_at bytes archive))) }
-    ensures read { IfOk result (λ digest. ReadsDigest A.Archives archive indexed_length archives.old archives.new digest) }
-    ensures failed { OnErr result ((fault : DeviceFault) × StopsWithin A.Archives archive indexed_length (Err fault) archives.old archives.new) }
-    ensures count { Counted (has_fault is_of_archives result) (A.failures archives.old) (A.failures archives.new) }
+    ensures digest { IfOk result
+        (λ digest. IfSome (A.held archives.old)
+        (λ bytes. digest ≡ front_digest indexed_length (archive_at bytes archive))) }
+    ensures read { IfOk result
+        (λ digest. ReadsDigest A.Archives archive indexed_length archives.old archives.new digest) }
+    ensures failed { OnErr result
+        ((fault : DeviceFault) × StopsWithin A.Archives archive indexed_length (Err fault)
+        archives.old archives.new) }
+    ensures count { Counted (has_fault is_of_archives result)
+        (A.failures archives.old) (A.failures archives.new) }
     ensures own { IfErr result (λ kind. kind ≡ AnswerFaultKind.Device) }
 {
     let mut hasher = Sha256::new();
@@ -91,10 +102,17 @@ fn has_front_digest<A: Archives>(
     requires room { 0 < length buffer.old }
     requires count { A.failures archives.old < 2 ^ 64 - 1 }
     ensures keeps { KeepsArchives A.Archives archives.old archives.new }
-    ensures same { IfOk result (λ same. IfSome (A.held archives.old) (λ bytes. same ≡ has_front_digest_of indexed_length indexed (archive_at bytes archive))) }
-    ensures read { IfOk result (λ same. ComparesDigest A.Archives archive indexed_length indexed archives.old archives.new same) }
-    ensures failed { OnErr result ((fault : DeviceFault) × StopsWithin A.Archives archive indexed_length (Err fault) archives.old archives.new) }
-    ensures count { Counted (has_fault is_of_archives result) (A.failures archives.old) (A.failures archives.new) }
+    ensures same { IfOk result
+        (λ same. IfSome (A.held archives.old)
+        (λ bytes. same ≡ has_front_digest_of indexed_length indexed (archive_at bytes archive))) }
+    ensures read { IfOk result
+        (λ same. ComparesDigest A.Archives archive indexed_length indexed archives.old
+        archives.new same) }
+    ensures failed { OnErr result
+        ((fault : DeviceFault) × StopsWithin A.Archives archive indexed_length (Err fault)
+        archives.old archives.new) }
+    ensures count { Counted (has_fault is_of_archives result)
+        (A.failures archives.old) (A.failures archives.new) }
     ensures own { IfErr result (λ kind. kind ≡ AnswerFaultKind.Device) }
 {
     match read_digest(archives, archive, indexed_length, buffer)? {
@@ -115,10 +133,12 @@ fn check_digests<A: Archives>(
     requires room { 0 < length buffer.old }
     requires count { A.failures archives.old < 2 ^ 64 - 1 }
     ensures keeps { KeepsArchives A.Archives archives.old archives.new }
-    ensures altered { IfSome (A.held archives.old) (λ bytes. TellsStale (first_altered 0 index.now.archives bytes) result) }
+    ensures altered { IfSome (A.held archives.old)
+        (λ bytes. TellsStale (first_altered 0 index.now.archives bytes) result) }
     ensures found { FindsDigests A.Archives index.now.archives archives.old archives.new result }
     ensures below { IfErr result (λ kind. IfStale kind (λ n. n < length index.now.archives)) }
-    ensures count { Counted (has_fault is_of_archives result) (A.failures archives.old) (A.failures archives.new) }
+    ensures count { Counted (has_fault is_of_archives result)
+        (A.failures archives.old) (A.failures archives.new) }
     ensures own { has_fault is_of_output result ≡ false }
 {
     let mut named = index.archives();
@@ -146,14 +166,21 @@ fn verify_each<A: Archives>(
     requires version { index.now.version ≡ 2 }
     requires count { A.failures archives.old < 2 ^ 64 - 1 }
     ensures keeps { HoldsArchives A.Archives archives.old archives.new }
-    ensures verified { IfSome (A.held archives.old) (λ bytes. TellsFound index.now.archives bytes result) }
-    ensures found { A.number archives.old ≡ length index.now.archives → LooksThrough A.Archives index.now.archives archives.old archives.new result }
-    ensures unasked { A.number archives.old ≢ length index.now.archives → archives.new ≡ archives.old }
+    ensures verified { IfSome (A.held archives.old)
+        (λ bytes. TellsFound index.now.archives bytes result) }
+    ensures found { A.number archives.old ≡ length index.now.archives
+        → LooksThrough A.Archives index.now.archives archives.old archives.new result }
+    ensures unasked { A.number archives.old ≢ length index.now.archives
+        → archives.new ≡ archives.old }
     ensures read { OnOk result ((read : List (List ℕ)) × AreVerified index.now.archives read) }
     ensures same_count { OnOk result (A.number archives.old ≡ length index.now.archives) }
-    ensures other_count { A.number archives.old ≢ length index.now.archives → result ≡ Err (AnswerFaultKind.Stale (min (A.number archives.old) (length index.now.archives))) }
-    ensures below { A.number archives.old ≡ length index.now.archives → IfErr result (λ kind. IfStale kind (λ n. n < length index.now.archives)) }
-    ensures count { Counted (has_fault is_of_archives result) (A.failures archives.old) (A.failures archives.new) }
+    ensures other_count { A.number archives.old ≢ length index.now.archives
+        → result ≡ Err (AnswerFaultKind.Stale
+        (min (A.number archives.old) (length index.now.archives))) }
+    ensures below { A.number archives.old ≡ length index.now.archives
+        → IfErr result (λ kind. IfStale kind (λ n. n < length index.now.archives)) }
+    ensures count { Counted (has_fault is_of_archives result)
+        (A.failures archives.old) (A.failures archives.new) }
     ensures own { has_fault is_of_output result ≡ false }
 {
     // Want of memory would hide changed archives if the buffer came first.
@@ -177,21 +204,23 @@ pub fn verify<A: Archives>(
 ) -> Result<(), AnswerFault>
     requires version { index.now.version ≡ 2 }
     requires archives { A.failures archives.old < 2 ^ 64 - 1 }
-    ensures held { A.held archives.new ≡ A.held archives.old }
-    ensures number { A.number archives.new ≡ A.number archives.old }
-    ensures verified { IfSome (A.held archives.old) (λ bytes. TellsVerified index.now.archives bytes result) }
+    ensures keeps { HoldsArchives A.Archives archives.old archives.new }
+    ensures verified { IfSome (A.held archives.old)
+        (λ bytes. TellsVerified index.now.archives bytes result) }
     // Whether the bytes are known or not, what was read of each archive had the length and the digest that were indexed.
     ensures read { OnOk result ((read : List (List ℕ)) × AreVerified index.now.archives read) }
     ensures same_count { OnOk result (A.number archives.old ≡ length index.now.archives) }
-    ensures other_count { A.number archives.old ≢ length index.now.archives → result ≡ Err (record { kind = AnswerFaultKind.Stale (min (A.number archives.old) (length index.now.archives)); sent = 0 }) }
-    // The lengths are asked first, each once and in order, and then the archives are read, each once and in order, up to the first
-    // that isn't the one that was indexed. Device is answered where a call fails before.
-    ensures found { A.number archives.old ≡ length index.now.archives → LooksThrough A.Archives index.now.archives archives.old archives.new (kind_of result) }
-    ensures unasked { A.number archives.old ≢ length index.now.archives → archives.new ≡ archives.old }
-    // Of as many archives as were indexed Stale names one, whether their bytes are known or not.
-    ensures below { A.number archives.old ≡ length index.now.archives → IfErr result (λ fault. IfStale fault.kind (λ n. n < length index.now.archives)) }
-    ensures archives_count { Counted (fails_by is_of_archives result) (A.failures archives.old) (A.failures archives.new) }
-    ensures unwritten { IfErr result (λ fault. (fault.sent ≡ 0) × (is_of_output fault.kind ≡ false)) }
+    // Of another count the smaller one is stale, and no archive is asked.
+    ensures other_count { A.number archives.old ≢ length index.now.archives
+        → RefusesCount A.Archives index.now.archives archives.old archives.new result }
+    // Of as many archives as were indexed the lengths are asked first, each once and in order, and then the archives are read,
+    // each once and in order, up to the first that isn't the one that was indexed. Device is answered where a call fails before.
+    ensures found { A.number archives.old ≡ length index.now.archives
+        → VerifiesArchives A.Archives index.now.archives archives.old archives.new result }
+    ensures archives_count { Counted (fails_by is_of_archives result)
+        (A.failures archives.old) (A.failures archives.new) }
+    ensures unwritten { IfErr result
+        (λ fault. (fault.sent ≡ 0) × (is_of_output fault.kind ≡ false)) }
 {
     match verify_each(alloc, &index.again(), archives) {
         Ok(()) => Ok(()),

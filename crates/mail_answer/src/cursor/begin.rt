@@ -54,7 +54,8 @@ pub(crate) fn walk_of<'a>(
         Node::All(members) => {
             let walks = walks_of(alloc, index, members, steps)?;
             if walks.is_empty() {
-                // Each of no members is satisfied by all messages: all but those of none.
+                // Where there are no members, every message satisfies each of them. No message comes in a union of no walks, so
+                // all messages are those that don't come in it.
                 return Walk::others(alloc, index.message_count(), Walk::united(walks));
             }
             Ok(Walk::common(walks))

@@ -1,6 +1,7 @@
 //! The walk along many posting lists.
 //!
-//! Decision 74 in docs/DECISIONS.md says why it is so.
+//! A union of many lists marks the messages of a window, and walks along the marks. Going from list to list at each number would
+//! wait for memory at nearly every step (decision 74 in docs/DECISIONS.md).
 ghost use Rattle.std.specs.Prelude.{◌≡◌, ◌<◌, ◌^◌, ◌+◌, ℕ, true, length, IfNone};
 ghost use Rattle.mail_answer.specs.CursorAhead.{Counts, Drops, IsFirst, left_in, united};
 ghost use Rattle.mail_answer.specs.Inside.CursorHeads.{IsHead};

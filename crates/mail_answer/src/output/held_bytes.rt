@@ -12,8 +12,8 @@ use mbox_cutter::DeviceFault;
 use std::alloc::{AllocError, Global};
 use std::marker::Model;
 
-/// Bytes one behind another. Their room keeps its length when they go, so that it is cleared only where it grows; what stands in
-/// it behind the bytes is never shown.
+/// A buffer of bytes: the first `count` bytes of `room`. Bytes that are dropped leave `room` as long as it is, so it is filled
+/// with zeros only where it grows. What stands in it behind the first `count` is never shown.
 #[derive(Drop)]
 pub(crate) struct HeldBytes {
     room: Vec<u8>,

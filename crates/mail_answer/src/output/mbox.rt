@@ -115,8 +115,8 @@ fn push_closed<A: Archives, O: Out>(
     sheet.push(out, ending.feeds())
 }
 
-/// Adds the bytes of the message of this number to an answer, and what closes them. They go through one buffer, and out of it in
-/// pieces of at least as many bytes as a full sheet has.
+/// Adds the bytes of the message of this number to an answer, and what closes them. They are read piece by piece onto the sheet,
+/// which is written whenever it is full: so the memory doesn't grow with the message.
 pub(crate) fn push_mbox<A: Archives, O: Out>(
     index: &IndexView<'_>,
     n: u32,

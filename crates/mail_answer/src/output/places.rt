@@ -1,5 +1,6 @@
 //! Where the messages of an index stand.
 ghost use Rattle.std.specs.Prelude.{◌≡◌, ◌+◌, ◌-◌, ◌<◌, length};
+ghost use Rattle.mail_index.specs.Tables.{IsWellFormed};
 ghost use Rattle.mail_answer.specs.Shapes.{path_at};
 
 use mail_index::{ArchiveList, IndexView};
@@ -28,7 +29,8 @@ impl<'a> Model for Places<'a> {
 impl<'a> Places<'a> {
     /// Before the first archive.
     pub(crate) fn of(index: &IndexView<'a>) -> Self
-        ensures { result ≡ record { table = index.now; passed = 0 } }
+        ensures before { result ≡ record { table = index.now; passed = 0 } }
+        ensures formed { IsWellFormed index.now }
     {
         let index = index.again();
         let rest = index.archives();

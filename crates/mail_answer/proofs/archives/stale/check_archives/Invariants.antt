@@ -1,7 +1,7 @@
 use Rattle.std.proofs.Common.{◌≡◌, drop, IfSome}
 use Rattle.mail_answer.specs.Asked.{Agree}
 use Rattle.mail_answer.specs.Stale.{first_changed}
-use Rattle.mail_answer.specs.Inside.Calls.{HoldsArchives}
+use Rattle.mail_answer.specs.Asked.{HoldsArchives}
 use Rattle.mail_answer.proofs.archives.stale.check_archives.Given as goal
 
 -- the archives before this one are as they were

@@ -1,0 +1,66 @@
+-- An answer while it is written.
+use Rattle.std.specs.Prelude.{◌≡◌, ℕ, ◌<◌, ◌-◌, ◌^◌, List, [], Option, false, length, IfSome, Result}
+use Rattle.contract_words.specs.Devices.{Counted}
+use Rattle.mbox_cutter.specs.declared.device.Out.{Ghosts as OutGhosts}
+use Rattle.mail_index.specs.Tables.{IsWellFormed}
+use Rattle.mail_answer.specs.Answers.{SendsKnown, SendsSpans, fails_by}
+use Rattle.mail_answer.specs.Faults.{has_fault, is_of_archives, is_stale}
+use Rattle.mail_answer.specs.Inside.Calls.{AreAsIndexed, KeepsArchives}
+use Rattle.mail_answer.specs.Inside.Spans.{WritesSpan, WritesSpans}
+use Rattle.mail_answer.specs.Shapes.{known_answer, known_message}
+use Rattle.mail_answer.specs.Sheets.{Writes}
+use Rattle.mail_answer.specs.TableFacts.{record_at}
+use Rattle.mail_answer.specs.declared.archives.Archives.{Ghosts}
+use Rattle.mail_answer.specs.declared.fault.AnswerFault.{AnswerFault}
+use Rattle.mail_answer.specs.declared.fault.AnswerFaultKind.{AnswerFaultKind}
+use Rattle.mail_answer.specs.declared.format.Format.{Format}
+use Rattle.mail_answer.specs.declared.format.Format.TheVariants.{Raw, Mbox}
+use Rattle.mail_answer.specs.declared.output.answer_writer.AnswerWriter.{AnswerWriter}
+
+-- the archives were found to be as they were indexed, and each device's failures can still be counted
+pub record IsReady {A O : Type 0} (g : Ghosts A) (h : OutGhosts O) (w : AnswerWriter) (a : A) (o : O) : Type 0 where
+  pub table : IsWellFormed w.places.table
+  pub indexed : AreAsIndexed g w.places.table.archives a
+  pub archives : g.failures a < 2 ^ 64 - 1
+  pub out : h.failures o < 2 ^ 64 - 1
+
+-- it is the same answer: of the same index, in the same form
+pub record IsSameAnswer (old new : AnswerWriter) : Type 0 where
+  pub table : new.places.table ≡ old.places.table
+  pub format : new.format ≡ old.format
+
+-- nothing of it is written yet
+pub record IsBegun (w : AnswerWriter) : Type 0 where
+  pub text : w.sheet.text ≡ []
+  pub sent : w.sheet.sent ≡ 0
+
+-- The message of this number joined the answer; where the call fails, only a front of it.
+pub record WritesMessage {T : Type 0} (taken taken' : Option (List ℕ)) (held : Option (List (List ℕ))) (n : ℕ) (old new : AnswerWriter) (result : Result T AnswerFaultKind) : Type 0 where
+  -- by its text, where that is known
+  pub text : Writes taken taken' old.sheet new.sheet (known_message old.format old.places.table held n) result
+  -- whatever the archives hold, by so many bytes as it has
+  pub span : old.format ≡ Mbox → WritesSpan taken taken' old.sheet new.sheet (record_at old.places.table.messages n).length result
+
+-- The messages of these numbers joined it; where the call fails, only a front of them.
+pub record WritesMessages {T : Type 0} (taken taken' : Option (List ℕ)) (held : Option (List (List ℕ))) (numbers : List ℕ) (old new : AnswerWriter) (result : Result T AnswerFaultKind) : Type 0 where
+  pub text : Writes taken taken' old.sheet new.sheet (known_answer old.format old.places.table held numbers) result
+  pub spans : old.format ≡ Mbox → WritesSpans taken taken' old.sheet new.sheet old.places.table numbers result
+
+-- The messages of these numbers went out and were counted; where the call fails, only a front of them went out.
+pub record SendsMessages (taken taken' : Option (List ℕ)) (held : Option (List (List ℕ))) (numbers : List ℕ) (w : AnswerWriter) (result : Result ℕ AnswerFault) : Type 0 where
+  pub text : SendsKnown taken taken' (known_answer w.format w.places.table held numbers) (length numbers) result
+  pub spans : w.format ≡ Mbox → SendsSpans taken taken' w.places.table numbers result
+
+-- A raw message asks nothing of the archives, and none of them is at fault.
+abbrev pub LeavesArchives : {A T : Type 0} → Format → A → A → Result T AnswerFaultKind → Type 0
+LeavesArchives format old new result = format ≡ Raw → (has_fault is_of_archives result ≡ false) × (has_fault is_stale result ≡ false) × (new ≡ old)
+
+-- what an answer does to archives that are as they were indexed
+pub record AnswersOver {A : Type 0} (g : Ghosts A) (format : Format) (old new : A) (result : Result ℕ AnswerFault) : Type 0 where
+  pub keeps : KeepsArchives g old new
+  -- none is stale, where their bytes are known
+  pub fresh : IfSome (g.held old) (λ _. fails_by is_stale result ≡ false)
+  -- their count of failures rises by one where their failure is answered, and else stays
+  pub count : Counted (fails_by is_of_archives result) (g.failures old) (g.failures new)
+  -- a raw answer asks nothing of them, and none is at fault
+  pub raw : format ≡ Raw → (fails_by is_of_archives result ≡ false) × (fails_by is_stale result ≡ false) × (new ≡ old)
