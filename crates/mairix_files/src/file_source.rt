@@ -1,6 +1,6 @@
 //! An archive's file as a source, open only while it is read.
 //!
-//! Decision 19 in docs/DECISIONS.md says why it is so.
+//! One archive is open at a time, so few descriptors are enough (decision 19 in docs/DECISIONS.md).
 ghost use Rattle.std.specs.Prelude.{◌≡◌, ◌≤◌, length, None, All, IfOk, OnOk, vec_len};
 ghost use Rattle.std.specs.Io.KnownBytes.{ReadConsumes};
 

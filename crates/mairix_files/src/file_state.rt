@@ -1,6 +1,6 @@
 //! Whether a file is still what it was.
 //!
-//! Decision 95 in docs/DECISIONS.md says why it is so.
+//! A search sees each archive in one state, or fails (decision 95 in docs/DECISIONS.md).
 
 use std::fs::{Metadata, OpenFile};
 use std::io;

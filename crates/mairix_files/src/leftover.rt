@@ -1,6 +1,6 @@
 //! What lies under a name that a run wants for a new file.
 //!
-//! Decision 93 in docs/DECISIONS.md says why it is so.
+//! A run removes only what is its own (decision 93 in docs/DECISIONS.md).
 
 use crate::new_file::{PRIVATE, lock};
 use mbox_cutter::{MOST_IN_LINE, is_separator, line_end};

@@ -1,6 +1,6 @@
 //! Whether a name leads to a device, a pipe or a socket.
 //!
-//! Decision 58 in docs/DECISIONS.md says why it is so.
+//! No run replaces one of these, nor a link to one (decision 58 in docs/DECISIONS.md).
 
 use std::alloc::{AllocError, Global};
 use std::fs;

@@ -1,6 +1,7 @@
 -- What words and rcfile ask for, before any archive is looked at.
-use Rattle.std.specs.Prelude.{ℕ, Bool, true, false, List, Result, Ok}
+use Rattle.std.specs.Prelude.{ℕ, Bool, true, false, List, map, String, string_bytes, Result, Ok}
 use Rattle.std.specs.List.{join_with_byte}
+use Rattle.std.specs.declared.alloc.Global.{Global}
 use Rattle.contract_words.specs.Answers.{◌>>=◌, fault_as}
 use Rattle.mail_answer.specs.Mail.{Search}
 use Rattle.mail_answer.specs.TableAnswers.{search_of}
@@ -53,3 +54,7 @@ wanted_by p r q = record { paths = r.paths; search = record { query = q; threads
 abbrev pub asked : List (List ℕ) → List ℕ → ℕ → Result Wanted Fault
 asked words rc now =
     fault_as of.Usage (plan words) >>= λ p. fault_as of.Rc (rc_of rc) >>= λ r. fault_as of.Query (query_asked p.boolean p.patterns now) >>= λ q. Ok (wanted_by p r q)
+
+-- the same of the words as they lie in memory
+abbrev pub asks : List (String Global) → List ℕ → ℕ → Result Wanted Fault
+asks words rc now = asked (map string_bytes words) rc now

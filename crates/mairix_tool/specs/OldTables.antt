@@ -1,10 +1,13 @@
 -- Tables without what some index files lack: those of version 1 have neither digests of archives nor names of parts, and some of version 2 zeros for digests.
-use Rattle.std.specs.Prelude.{not, List, All, map, filter, None}
+use Rattle.std.specs.Prelude.{◌≡◌, ◌⊎◌, ℕ, not, false, List, All, map, filter, None}
 use Rattle.mail_words.specs.declared.kind.TextKind.TheVariants.{Name}
 use Rattle.mail_index.specs.declared.kind.Kind.TheVariants.{Text}
+use Rattle.mail_index.specs.Files.{index_file}
 use Rattle.mail_index.specs.LookUps.{is_of_kind}
 use Rattle.mail_index.specs.Tables.{Archive, Key, Table}
 use Rattle.mail_index.specs.Versions.{newest, IsDigest}
+use Rattle.mail_query.specs.Query.{uses_names}
+use Rattle.mairix_tool.specs.Asked.{Wanted}
 
 abbrev pub without_digest : Archive → Archive
 without_digest a = record a { digest = None }
@@ -23,3 +26,15 @@ old_table t = record { version = 1; archives = map without_digest t.archives; me
 -- each archive has a digest, of 32 bytes, whatever they are
 abbrev pub HasDigests : Table → Type 0
 HasDigests t = All (λ a. IsDigest newest a.digest) t.archives
+
+-- the file of this table, but with whatever digests
+abbrev pub IsFileOtherwise : Table → List ℕ → Type 0
+IsFileOtherwise whole index = (t : Table) × (but_digests t ≡ but_digests whole) × HasDigests t × (index ≡ index_file t)
+
+-- Such an index tells what this table tells of what is wanted: it is its file; or, where the archives aren't to be verified, one
+-- with other digests, or one of version 1 and the query uses no names of parts.
+abbrev pub ServesFor : Wanted → Table → List ℕ → Type 0
+ServesFor w whole index =
+    (index ≡ index_file whole)
+    ⊎ ((w.verify ≡ false)
+    × (IsFileOtherwise whole index ⊎ ((uses_names w.search.query ≡ false) × (index ≡ index_file (old_table whole)))))

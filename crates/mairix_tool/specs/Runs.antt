@@ -24,7 +24,7 @@ use Rattle.index_job.specs.ArchiveRefusals.{AreSound}
 use Rattle.index_job.specs.ArchiveTables.{Mbox, table}
 use Rattle.index_run.specs.ArchivesIndexed.{mboxes, Refuses, IsArchivesFault}
 use Rattle.mairix_tool.specs.Asked.{Wanted}
-use Rattle.run_faults.specs.Faults.{is_failure, is_memory, status_of_fault}
+use Rattle.run_faults.specs.Faults.{is_early, is_failure, is_memory, is_of_index, status_of_fault}
 use Rattle.mairix_tool.specs.MailOfArchives.{mail_in, shape}
 use Rattle.mairix_tool.specs.Replies.{Answer, refused, status_of_count}
 
@@ -167,6 +167,10 @@ IsIndexRefusal w index _ = ⊥
 abbrev pub IsRefusedAs : Result Wanted Fault → List ℕ → Fault → Type 0
 IsRefusedAs (Err refusal) index fault = fault ≡ refusal
 IsRefusedAs (Ok w) index fault = IsIndexRefusal w index fault
+
+-- a fault of words, rcfile, query, index or its version is answered only where that is refused with it
+abbrev pub IsForNoOtherCause : Result Wanted Fault → List ℕ → Fault → Type 0
+IsForNoOtherCause asked index fault = OnTrue (is_early (Some fault) || is_of_index (Some fault)) (IsRefusedAs asked index fault)
 
 -- The number of messages that the table chooses is replied, and a text went out: the whole, where it is known.
 abbrev pub IsCounted : Table → Search → Option (List (List ℕ)) → Reply → Option (List ℕ) → Option (List ℕ) → Type 0

@@ -18,8 +18,8 @@ pub use laws::{
     the_table_shows_the_messages, unaltered_archives_are_those_indexed,
 };
 pub use mairix_options::{
-    MailFormat, Name, Plan, Rc, RcFault, Text, Texts, UsageFault, answer_file, answer_format,
-    plan_of, read_rc, usage_text,
+    MailFormat, Name, OrMemory, Plan, Rc, RcFault, Text, Texts, UsageFault, answer_file,
+    answer_format, plan_of, read_rc, usage_text,
 };
 pub use once::once_run;
 pub use program::{run_program, tell_unread_words};

@@ -1,12 +1,12 @@
 //! A run over archives that it indexes itself.
-ghost use Rattle.std.specs.Prelude.{◌≡◌, ◌<◌, ◌^◌, ◌-◌, ℕ, List, false, Some, Ok, length, map, All, IfOk, IfErr, IfSome};
+ghost use Rattle.std.specs.Prelude.{◌≡◌, ◌<◌, ◌^◌, ◌-◌, ◌||◌, ℕ, List, false, Some, Ok, is_err, length, map, All, IfOk, IfErr, IfSome};
 ghost use Rattle.std.specs.Bool.{OnTrue};
 ghost use Rattle.std.specs.Result.{MatchResult};
 ghost use Rattle.std.specs.String.{string_bytes};
 ghost use Rattle.contract_words.specs.Devices.{Counted};
 ghost use Rattle.mail_index.specs.Faults.{IsFileOf};
 ghost use Rattle.mail_index.specs.Tables.{Table};
-ghost use Rattle.mairix_tool.specs.Asked.{asked_rc, asked, wanted as wanted_of};
+ghost use Rattle.mairix_tool.specs.Asked.{asked_rc, asks, wanted as wanted_of};
 ghost use Rattle.index_run.specs.Counts.{CountsSources};
 ghost use Rattle.run_faults.specs.Faults.{fault_in, is_failed_out, is_failed_archives, is_early, is_of_indexing, IsOnceFault};
 ghost use Rattle.mairix_tool.specs.Replies.{RefusesAsked, AreSoundBefore, IsConsistent, KeepsRawBack};
@@ -42,43 +42,54 @@ pub fn once_run<S: Source, A: Archives, O: Out>(
     now: Moment,
     out: &mut O,
 ) -> Reply
-    requires many { IfOk (asked_rc (map string_bytes words.now) rc.now) (λ r. (length r.paths ≡ length sources.old) × (A.number archives.old ≡ length sources.old)) }
+    requires many { IfOk (asked_rc (map string_bytes words.now) rc.now)
+        (λ r. (length r.paths ≡ length sources.old)
+        × (A.number archives.old ≡ length sources.old)) }
     requires sources { All (λ s. S.failures s < 2 ^ 64 - 1) sources.old }
     requires archives { A.failures archives.old < 2 ^ 64 - 1 }
     requires out { O.failures out.old < 2 ^ 64 - 1 }
 
     // Where sources and archives hold the same known bytes: the whole reply and its text, by the messages themselves, or a
     // fault of a device or of memory and a front of it.
-    ensures reply { (bytes : List (List ℕ)) → map S.rest sources.old ≡ map Some bytes → A.held archives.old ≡ Some bytes
-        → RepliesBy (IsReply (asked (map string_bytes words.now) rc.now now) bytes) result (O.taken out.old) (O.taken out.new) }
+    ensures reply { (bytes : List (List ℕ)) → map S.rest sources.old ≡ map Some bytes
+        → A.held archives.old ≡ Some bytes
+        → RepliesBy (IsReply (asks words.now rc.now now) bytes) result
+        (O.taken out.old) (O.taken out.new) }
 
     // Where the archives hold other bytes than were indexed: what the table of those says over these.
-    ensures changed { (bytes held : List (List ℕ)) → map S.rest sources.old ≡ map Some bytes → A.held archives.old ≡ Some held
-        → RepliesBy (IsOnceReply (asked (map string_bytes words.now) rc.now now) bytes held) result (O.taken out.old) (O.taken out.new) }
+    ensures changed { (bytes held : List (List ℕ)) → map S.rest sources.old ≡ map Some bytes
+        → A.held archives.old ≡ Some held
+        → RepliesBy (IsOnceReply (asks words.now rc.now now) bytes held) result
+        (O.taken out.old) (O.taken out.new) }
 
     // Where an archive's fault is answered, no archive before it has one.
     ensures first { (bytes : List (List ℕ)) → map S.rest sources.old ≡ map Some bytes
-        → AreSoundBefore (asked (map string_bytes words.now) rc.now now) bytes result.fault }
+        → AreSoundBefore (asks words.now rc.now now) bytes result.fault }
 
-    // Each device's count rises by one exactly where its failure is answered.
-    ensures source_failed { CountsSources result.fault (map S.failures sources.old) (map S.failures sources.new) }
-    ensures archives_failed { Counted (is_failed_archives result.fault) (A.failures archives.old) (A.failures archives.new) }
-    ensures out_failed { Counted (is_failed_out result.fault) (O.failures out.old) (O.failures out.new) }
-
-    // A refusal of words, rcfile or query is answered whatever the devices hold, and before any of them is asked, also where memory
-    // was wanting before it was found.
-    ensures asked { RefusesAsked (asked (map string_bytes words.now) rc.now now) result.fault }
-    ensures early { OnTrue (is_early result.fault) ((sources.new ≡ sources.old) × (archives.new ≡ archives.old) × (out.new ≡ out.old)) }
-    ensures refused { IfErr (asked (map string_bytes words.now) rc.now now) (λ _. (sources.new ≡ sources.old) × (archives.new ≡ archives.old) × (out.new ≡ out.old)) }
+    // No device is asked where words, rcfile or query are refused, also where memory was wanting before that was found.
+    ensures refused { OnTrue (is_early result.fault || is_err (asks words.now rc.now now))
+        ((sources.new ≡ sources.old) × (archives.new ≡ archives.old) × (out.new ≡ out.old)) }
 
     // Where the archives aren't indexed nothing is searched, and nothing has gone out. Nor has it where a raw answer finds them
     // changed or can't read them.
-    ensures silent { OnTrue (is_of_indexing result.fault) ((archives.new ≡ archives.old) × (out.new ≡ out.old)) }
-    ensures raw { IfOk (asked (map string_bytes words.now) rc.now now) (λ w. KeepsRawBack w.search result.fault out.old out.new) }
+    ensures silent { OnTrue (is_of_indexing result.fault)
+        ((archives.new ≡ archives.old) × (out.new ≡ out.old)) }
+    ensures raw { IfOk (asks words.now rc.now now)
+        (λ w. KeepsRawBack w.search result.fault out.old out.new) }
 
-    // Only faults that such a run has; each has its status and no messages, an answer 0 with messages and 1 without one.
+    // A refusal of words, rcfile or query is answered whatever the devices hold. Each fault is one that such a run can have; it
+    // has its status and no messages. An answer has 0 with messages and 1 without.
+    ensures asked { RefusesAsked (asks words.now rc.now now) result.fault }
     ensures kinds { IfSome result.fault IsOnceFault }
     ensures status { IsConsistent result result.fault }
+
+    // Each device's count rises by one exactly where its failure is answered.
+    ensures source_failed { CountsSources result.fault
+        (map S.failures sources.old) (map S.failures sources.new) }
+    ensures archives_failed { Counted (is_failed_archives result.fault)
+        (A.failures archives.old) (A.failures archives.new) }
+    ensures out_failed { Counted (is_failed_out result.fault)
+        (O.failures out.old) (O.failures out.new) }
 {
     match index_wanted(alloc, words, rc, sources, now) {
         Ok(found) => Reply::of(answer_bytes(
@@ -107,19 +118,22 @@ fn index_wanted<S: Source>(
     sources: &mut [S],
     now: Moment,
 ) -> Result<Indexed, Fault>
-    requires many { IfOk (asked_rc (map string_bytes words.now) rc.now) (λ r. length r.paths ≡ length sources.old) }
+    requires many { IfOk (asked_rc (map string_bytes words.now) rc.now)
+        (λ r. length r.paths ≡ length sources.old) }
     requires sources { All (λ s. S.failures s < 2 ^ 64 - 1) sources.old }
-    ensures wanted { IfOk result (λ i. asked (map string_bytes words.now) rc.now now ≡ Ok (wanted_of i.wanted)) }
+    ensures wanted { IfOk result (λ i. asks words.now rc.now now ≡ Ok (wanted_of i.wanted)) }
     ensures formed { IfOk result (λ i. (t : Table) × IsFileOf i.file.taken t) }
     ensures known { (bytes : List (List ℕ)) → map S.rest sources.old ≡ map Some bytes
-        → MatchResult result (λ i. IsIndexed (wanted_of i.wanted) bytes i.file.taken) (IsUnindexed (asked (map string_bytes words.now) rc.now now) bytes) }
-    ensures source_failed { CountsSources (fault_in result) (map S.failures sources.old) (map S.failures sources.new) }
+        → MatchResult result (λ i. IsIndexed (wanted_of i.wanted) bytes i.file.taken)
+        (IsUnindexed (asks words.now rc.now now) bytes) }
+    ensures refused { OnTrue (is_early (fault_in result) || is_err (asks words.now rc.now now))
+        (sources.new ≡ sources.old) }
+    ensures asked { RefusesAsked (asks words.now rc.now now) (fault_in result) }
+    ensures own { IfErr result (λ fault. IsOnceFault fault) }
+    ensures source_failed { CountsSources (fault_in result)
+        (map S.failures sources.old) (map S.failures sources.new) }
     ensures archives_failed { is_failed_archives (fault_in result) ≡ false }
     ensures out_failed { is_failed_out (fault_in result) ≡ false }
-    ensures asked { RefusesAsked (asked (map string_bytes words.now) rc.now now) (fault_in result) }
-    ensures early { OnTrue (is_early (fault_in result)) (sources.new ≡ sources.old) }
-    ensures refused { IfErr (asked (map string_bytes words.now) rc.now now) (λ _. sources.new ≡ sources.old) }
-    ensures own { IfErr result (λ fault. IsOnceFault fault) }
 {
     let wanted = Wanted::of(alloc, words, rc, now)?;
     let file = file_of_archives(alloc, wanted.paths.as_slice(), sources)?;

@@ -16,7 +16,7 @@ use crate::program::search::{Search, run_search};
 use crate::program::stopped::Stopped;
 use mail_dates::Moment;
 use mairix_files::read_whole;
-use mairix_options::{Plan, UsageFault, plan_of, read_rc, usage_text};
+use mairix_options::{OrMemory, Plan, UsageFault, plan_of, read_rc, usage_text};
 use run_faults::{CANNOT_OPEN, FAILED, Fault, OUT_OF_MEMORY, fault_text};
 use std::alloc::Global;
 use std::fs::File;
@@ -45,7 +45,8 @@ pub fn run_program<R: Files<File = File>, W: Write, E: Write>(
 ) -> u8 {
     let plan = match plan_of(alloc, words) {
         Ok(plan) => plan,
-        Err(fault) => return tell_usage(alloc, words, fault, out, err),
+        Err(OrMemory::Refused(fault)) => return tell_usage(alloc, words, fault, out, err),
+        Err(OrMemory::Memory) => return tell_fault(alloc, Fault::Memory, err),
     };
     match run_plan(rt, alloc, words, &plan, now, out) {
         Ok(status) => status,
@@ -111,7 +112,8 @@ fn index_of<R: Files<File = File>>(
     }
 }
 
-/// Prints the parser's own text of words that it refuses, help and version on standard output.
+/// Prints the parser's own text: of refused words on standard error, of help and version on standard output. `-r` with `-x`, which
+/// the parser accepts, is told as a fault.
 fn tell_usage<W: Write, E: Write>(
     alloc: Global,
     words: &[String],
@@ -119,9 +121,9 @@ fn tell_usage<W: Write, E: Write>(
     out: &mut W,
     err: &mut E,
 ) -> u8 {
-    let (UsageFault::Parse | UsageFault::Help | UsageFault::Version) = fault else {
-        return tell_fault(alloc, Fault::from(fault), err);
-    };
+    if let UsageFault::TwoFormats = fault {
+        return tell_fault(alloc, Fault::Usage(fault), err);
+    }
     let Ok(text) = usage_text(alloc, words) else {
         return tell_fault(alloc, Fault::Memory, err);
     };
@@ -130,7 +132,7 @@ fn tell_usage<W: Write, E: Write>(
     } else if out.write_all(text.as_bytes()).is_err() || out.flush().is_err() {
         return tell_fault(alloc, Fault::Out, err);
     }
-    Fault::from(fault).status()
+    Fault::Usage(fault).status()
 }
 
 /// Tells of a file that can't be opened or read.

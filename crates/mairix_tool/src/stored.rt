@@ -1,23 +1,21 @@
 //! A run over a stored index.
-ghost use Rattle.std.specs.Prelude.{◌≡◌, ◌<◌, ◌^◌, ◌-◌, ◌++◌, ℕ, List, true, false, Some, None, Ok, Err, All, length, map, IfOk, IfErr, IfSome};
-ghost use Rattle.std.specs.Bool.{OnTrue};
+ghost use Rattle.std.specs.Prelude.{◌≡◌, ◌<◌, ◌^◌, ◌-◌, ◌++◌, ℕ, List, true, false, Some, None, Ok, All, length, map, IfOk, IfErr, IfSome};
 ghost use Rattle.std.specs.String.{string_bytes};
 ghost use Rattle.contract_words.specs.Devices.{Counted};
 ghost use Rattle.mail_index.specs.Faults.{IsFileOf};
 ghost use Rattle.mail_index.specs.Files.{index_file};
 ghost use Rattle.mail_index.specs.Tables.{IsPath, Table};
 ghost use Rattle.mail_index.specs.Versions.{newest};
-ghost use Rattle.mail_query.specs.Query.{uses_names};
 ghost use Rattle.index_job.specs.ArchiveRefusals.{AreSound};
 ghost use Rattle.index_job.specs.ArchiveTables.{Mbox, table};
 ghost use Rattle.mairix_tool.specs.Altered.{AreToldApart, altered_archive};
 ghost use Rattle.index_run.specs.ArchivesIndexed.{mboxes};
-ghost use Rattle.mairix_tool.specs.Asked.{asked, Wanted as Asked, wanted as wanted_of};
-ghost use Rattle.mairix_tool.specs.OldTables.{HasDigests, but_digests, old_table};
+ghost use Rattle.mairix_tool.specs.Asked.{asks, Wanted as Asked, wanted as wanted_of};
+ghost use Rattle.mairix_tool.specs.OldTables.{ServesFor};
 ghost use Rattle.mairix_tool.specs.Inside.Answering.{AsksIndex};
-ghost use Rattle.run_faults.specs.Faults.{fault_in, refusal_of, is_failed_out, is_failed_archives, is_of_index, IsOfAnswer, IsSearchFault};
-ghost use Rattle.mairix_tool.specs.Replies.{RefusesAsked, IsConsistent, KeepsRawBack};
-ghost use Rattle.mairix_tool.specs.Runs.{IsReply, IsStoredReply, IsProvedAndTold, IsStaleOr, TellsProved, unproved_archive, RepliesBy, reply_of, IsRefusedAs, IsIndexRefusal, IsThisOrMemory, IsCountedWhere, WereVerified, is_too_old, renamed_archive};
+ghost use Rattle.run_faults.specs.Faults.{fault_in, refusal_of, is_failed_out, is_failed_archives, IsOfAnswer, IsSearchFault};
+ghost use Rattle.mairix_tool.specs.Replies.{IsConsistent, KeepsRawBack};
+ghost use Rattle.mairix_tool.specs.Runs.{IsReply, IsStoredReply, IsProvedAndTold, IsStaleOr, TellsProved, unproved_archive, RepliesBy, reply_of, IsRefusedAs, IsIndexRefusal, IsForNoOtherCause, IsThisOrMemory, IsCountedWhere, WereVerified, is_too_old, renamed_archive};
 
 use crate::reply::Reply;
 use crate::view_answer::{answer_view, fault_of_answer};
@@ -60,55 +58,53 @@ pub fn search_run<A: Archives, O: Out>(
     // Where the archives' bytes are known: the whole reply and its text, by the index's table, or a fault of a device or of
     // memory and a front of it.
     ensures reply { (held : List (List ℕ)) → A.held archives.old ≡ Some held
-        → RepliesBy (IsStoredReply (asked (map string_bytes words.now) rc.now now) index.now held) result (O.taken out.old) (O.taken out.new) }
+        → RepliesBy (IsStoredReply (asks words.now rc.now now) index.now held) result
+        (O.taken out.old) (O.taken out.new) }
 
-    // Where the index is that of sound archives, under the rcfile's paths, and the archives hold them: by their own messages.
-    ensures indexed { (w : Asked) (bytes : List (List ℕ)) → asked (map string_bytes words.now) rc.now now ≡ Ok w → length w.paths ≡ length bytes
-        → AreSound (mboxes w.paths bytes) → index.now ≡ index_file (table (mboxes w.paths bytes)) → A.held archives.old ≡ Some bytes
-        → RepliesBy (IsReply (Ok w) bytes) result (O.taken out.old) (O.taken out.new) }
-
-    // So too, unless they are to be verified, where it has other digests of them, of 32 bytes each.
-    ensures indexed_otherwise { (w : Asked) (bytes : List (List ℕ)) (t : Table) → asked (map string_bytes words.now) rc.now now ≡ Ok w → w.verify ≡ false → length w.paths ≡ length bytes
-        → AreSound (mboxes w.paths bytes) → but_digests t ≡ but_digests (table (mboxes w.paths bytes)) → HasDigests t → index.now ≡ index_file t → A.held archives.old ≡ Some bytes
-        → RepliesBy (IsReply (Ok w) bytes) result (O.taken out.old) (O.taken out.new) }
-
-    // And where it is their index in version 1, which has no names of parts either, and the query uses none.
-    ensures indexed_before { (w : Asked) (bytes : List (List ℕ)) → asked (map string_bytes words.now) rc.now now ≡ Ok w → w.verify ≡ false → length w.paths ≡ length bytes
-        → AreSound (mboxes w.paths bytes) → index.now ≡ index_file (old_table (table (mboxes w.paths bytes))) → uses_names w.search.query ≡ false → A.held archives.old ≡ Some bytes
+    // Where the archives are sound, under the rcfile's paths, and the index is theirs, or says the same of them: the reply is that
+    // of their own messages.
+    ensures indexed { (w : Asked) (bytes : List (List ℕ)) → asks words.now rc.now now ≡ Ok w
+        → length w.paths ≡ length bytes → AreSound (mboxes w.paths bytes)
+        → ServesFor w (table (mboxes w.paths bytes)) index.now → A.held archives.old ≡ Some bytes
         → RepliesBy (IsReply (Ok w) bytes) result (O.taken out.old) (O.taken out.new) }
 
     // With `--verify`, where it is the index of whatever sound archives, and SHA-256 tells these from those that there are now:
     // unless one of them is told to have been altered, the answer is by their own messages.
-    ensures verified { (w : Asked) (before : List Mbox) (bytes : List (List ℕ)) → asked (map string_bytes words.now) rc.now now ≡ Ok w → w.verify ≡ true
-        → All (λ a. IsPath a.path) before → AreSound before → index.now ≡ index_file (table before) → A.held archives.old ≡ Some bytes → AreToldApart (map (λ a. a.bytes) before ++ bytes)
-        → RepliesBy (IsStaleOr (altered_archive before w.paths bytes) (IsReply (Ok w) bytes)) result (O.taken out.old) (O.taken out.new) }
+    ensures verified { (w : Asked) (before : List Mbox) (bytes : List (List ℕ))
+        → asks words.now rc.now now ≡ Ok w → w.verify ≡ true
+        → All (λ a. IsPath a.path) before → AreSound before → index.now ≡ index_file (table before)
+        → A.held archives.old ≡ Some bytes → AreToldApart (map (λ a. a.bytes) before ++ bytes)
+        → RepliesBy (IsStaleOr (altered_archive before w.paths bytes) (IsReply (Ok w) bytes)) result
+        (O.taken out.old) (O.taken out.new) }
 
-    // Whatever the archives hold: an answer has the number of messages that the table chooses.
-    ensures counted { (w : Asked) (t : Table) → asked (map string_bytes words.now) rc.now now ≡ Ok w → IsFileOf index.now t
-        → IsCountedWhere t w.search (A.held archives.old) result.fault result (O.taken out.old) (O.taken out.new) }
-
-    // Whatever the archives hold: with `--verify` an answer is given only where what was read of them had the lengths and the
-    // SHA-256 that were indexed.
-    ensures read { (w : Asked) (t : Table) → asked (map string_bytes words.now) rc.now now ≡ Ok w → IsFileOf index.now t
-        → WereVerified t.archives w.verify result.fault }
+    // Whatever the archives hold: an answer has the number of messages that the table chooses, and with `--verify` it is given
+    // only where what was read of them had the lengths and the SHA-256 that were indexed.
+    ensures counted { (w : Asked) (t : Table) → asks words.now rc.now now ≡ Ok w
+        → IsFileOf index.now t
+        → IsCountedWhere t w.search (A.held archives.old) result.fault result
+        (O.taken out.old) (O.taken out.new) }
+    ensures read { (w : Asked) (t : Table) → asks words.now rc.now now ≡ Ok w
+        → IsFileOf index.now t → WereVerified t.archives w.verify result.fault }
 
     // Whatever the archives hold: a refusal of words, rcfile, query, index, its version or paths is answered, before any archive
-    // is asked; and the first five for no other cause.
-    ensures refused { (fault : Fault) → IsRefusedAs (asked (map string_bytes words.now) rc.now now) index.now fault
+    // is asked. Nothing has gone out either where a raw answer finds the archives changed or can't read them.
+    ensures refused { (fault : Fault) → IsRefusedAs (asks words.now rc.now now) index.now fault
         → IsThisOrMemory fault result.fault × (archives.new ≡ archives.old) × (out.new ≡ out.old) }
-    ensures asked { RefusesAsked (asked (map string_bytes words.now) rc.now now) result.fault }
-    ensures opened { IfSome result.fault (λ fault. OnTrue (is_of_index (Some fault)) (IsRefusedAs (asked (map string_bytes words.now) rc.now now) index.now fault)) }
+    ensures raw { IfOk (asks words.now rc.now now)
+        (λ w. KeepsRawBack w.search result.fault out.old out.new) }
 
-    // Nothing has gone out where a raw answer finds the archives changed or can't read them.
-    ensures raw { IfOk (asked (map string_bytes words.now) rc.now now) (λ w. KeepsRawBack w.search result.fault out.old out.new) }
-
-    // Each device's count rises by one exactly where its failure is answered.
-    ensures archives_failed { Counted (is_failed_archives result.fault) (A.failures archives.old) (A.failures archives.new) }
-    ensures out_failed { Counted (is_failed_out result.fault) (O.failures out.old) (O.failures out.new) }
-
-    // Only faults that such a run has; each has its status and no messages, an answer 0 with messages and 1 without one.
+    // A fault of words, rcfile, query, index or its version is answered only where that is refused with it. Each fault is one that
+    // a search can have; it has its status and no messages. An answer has 0 with messages and 1 without.
+    ensures opened { IfSome result.fault
+        (IsForNoOtherCause (asks words.now rc.now now) index.now) }
     ensures kinds { IfSome result.fault IsSearchFault }
     ensures status { IsConsistent result result.fault }
+
+    // Each device's count rises by one exactly where its failure is answered.
+    ensures archives_failed { Counted (is_failed_archives result.fault)
+        (A.failures archives.old) (A.failures archives.new) }
+    ensures out_failed { Counted (is_failed_out result.fault)
+        (O.failures out.old) (O.failures out.new) }
 {
     match open_wanted(alloc, words, rc, index, now) {
         Ok(found) => Reply::of(answer_opened(alloc, &found, archives, out)),
@@ -134,10 +130,15 @@ fn answer_opened<A: Archives, O: Out>(
     requires archives { A.failures archives.old < 2 ^ 64 - 1 }
     requires out { O.failures out.old < 2 ^ 64 - 1 }
     ensures told { (held : List (List ℕ)) → A.held archives.old ≡ Some held
-        → RepliesBy (IsProvedAndTold (wanted_of found.now.wanted) found.now.view held) (reply_of result) (O.taken out.old) (O.taken out.new) }
-    ensures counted { IsCountedWhere found.now.view (wanted_of found.now.wanted).search (A.held archives.old) (reply_of result).fault (reply_of result) (O.taken out.old) (O.taken out.new) }
-    ensures read { WereVerified found.now.view.archives found.now.wanted.verify (reply_of result).fault }
-    ensures asks { AsksIndex A.Archives O.Out (wanted_of found.now.wanted).search archives.old archives.new out.old out.new result }
+        → RepliesBy (IsProvedAndTold (wanted_of found.now.wanted) found.now.view held)
+        (reply_of result) (O.taken out.old) (O.taken out.new) }
+    ensures counted { IsCountedWhere found.now.view (wanted_of found.now.wanted).search
+        (A.held archives.old) (reply_of result).fault (reply_of result)
+        (O.taken out.old) (O.taken out.new) }
+    ensures read { WereVerified found.now.view.archives found.now.wanted.verify
+        (reply_of result).fault }
+    ensures asks { AsksIndex A.Archives O.Out (wanted_of found.now.wanted).search
+        archives.old archives.new out.old out.new result }
 {
     prove_archives(alloc, found, archives)?;
     answer_view(alloc, &found.view, &found.wanted, archives, out)
@@ -152,10 +153,12 @@ fn prove_archives<A: Archives>(
     requires digests { found.now.wanted.verify ≡ true → found.now.view.version ≡ newest }
     requires archives { A.failures archives.old < 2 ^ 64 - 1 }
     ensures held { A.held archives.new ≡ A.held archives.old }
-    ensures proved { IfSome (A.held archives.old) (λ held. TellsProved (unproved_archive found.now.wanted.verify found.now.view.archives held) result) }
+    ensures proved { IfSome (A.held archives.old) (λ held. TellsProved
+        (unproved_archive found.now.wanted.verify found.now.view.archives held) result) }
     ensures read { WereVerified found.now.view.archives found.now.wanted.verify (fault_in result) }
     ensures own { IfErr result IsOfAnswer }
-    ensures archives_failed { Counted (is_failed_archives (fault_in result)) (A.failures archives.old) (A.failures archives.new) }
+    ensures archives_failed { Counted (is_failed_archives (fault_in result))
+        (A.failures archives.old) (A.failures archives.new) }
     ensures out_failed { is_failed_out (fault_in result) ≡ false }
 {
     if !found.wanted.verify {
@@ -175,12 +178,15 @@ fn open_wanted<'a>(
     index: &'a [u8],
     now: Moment,
 ) -> Result<Opened<'a>, Fault>
-    ensures wanted { IfOk result (λ o. asked (map string_bytes words.now) rc.now now ≡ Ok (wanted_of o.wanted)) }
+    ensures wanted { IfOk result (λ o. asks words.now rc.now now ≡ Ok (wanted_of o.wanted)) }
     ensures table { IfOk result (λ o. IsFileOf index.entry.now o.view) }
     ensures fresh { IfOk result (λ o. is_too_old o.view (wanted_of o.wanted) ≡ false) }
-    ensures paths { IfOk result (λ o. renamed_archive o.view.archives (wanted_of o.wanted).paths ≡ None) }
-    ensures refused { IfErr result (λ fault. IfSome (refusal_of fault) (IsRefusedAs (asked (map string_bytes words.now) rc.now now) index.entry.now)) }
-    ensures each { (fault : Fault) → IsRefusedAs (asked (map string_bytes words.now) rc.now now) index.entry.now fault → IsThisOrMemory fault (fault_in result) }
+    ensures paths { IfOk result (λ o.
+        renamed_archive o.view.archives (wanted_of o.wanted).paths ≡ None) }
+    ensures refused { IfErr result (λ fault.
+        IfSome (refusal_of fault) (IsRefusedAs (asks words.now rc.now now) index.entry.now)) }
+    ensures each { (fault : Fault) → IsRefusedAs (asks words.now rc.now now) index.entry.now fault
+        → IsThisOrMemory fault (fault_in result) }
     ensures archives_failed { is_failed_archives (fault_in result) ≡ false }
     ensures out_failed { is_failed_out (fault_in result) ≡ false }
     ensures own { IfErr result (λ fault. IsSearchFault fault) }
@@ -194,9 +200,11 @@ fn open_wanted<'a>(
 fn open_for<'a>(index: &'a [u8], wanted: &Wanted) -> Result<IndexView<'a>, Fault>
     ensures table { IfOk result (λ view. IsFileOf index.entry.now view) }
     ensures fresh { IfOk result (λ view. is_too_old view (wanted_of wanted.now) ≡ false) }
-    ensures paths { IfOk result (λ view. renamed_archive view.archives (wanted_of wanted.now).paths ≡ None) }
-    ensures refused { IfErr result (λ fault. IsIndexRefusal (wanted_of wanted.now) index.entry.now fault) }
-    ensures each { (fault : Fault) → IsIndexRefusal (wanted_of wanted.now) index.entry.now fault → fault_in result ≡ Some fault }
+    ensures paths { IfOk result (λ view.
+        renamed_archive view.archives (wanted_of wanted.now).paths ≡ None) }
+    ensures refused { IfErr result (IsIndexRefusal (wanted_of wanted.now) index.entry.now) }
+    ensures each { (fault : Fault) → IsIndexRefusal (wanted_of wanted.now) index.entry.now fault
+        → fault_in result ≡ Some fault }
 {
     let view = match IndexView::open(index) {
         Ok(view) => view,

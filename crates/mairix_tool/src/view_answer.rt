@@ -24,9 +24,12 @@ pub(crate) fn answer_bytes<A: Archives, O: Out>(
     requires file { (t : Table) × IsFileOf bytes.now t }
     requires archives { A.failures archives.old < 2 ^ 64 - 1 }
     requires out { O.failures out.old < 2 ^ 64 - 1 }
-    ensures told { (t : Table) (held : List (List ℕ)) → IsFileOf bytes.now t → A.held archives.old ≡ Some held
-        → RepliesBy (IsTold t (wanted_of wanted.now).search held) (reply_of result) (O.taken out.old) (O.taken out.new) }
-    ensures asks { AsksIndex A.Archives O.Out (wanted_of wanted.now).search archives.old archives.new out.old out.new result }
+    ensures told { (t : Table) (held : List (List ℕ)) → IsFileOf bytes.now t
+        → A.held archives.old ≡ Some held
+        → RepliesBy (IsTold t (wanted_of wanted.now).search held)
+        (reply_of result) (O.taken out.old) (O.taken out.new) }
+    ensures asks { AsksIndex A.Archives O.Out (wanted_of wanted.now).search
+        archives.old archives.new out.old out.new result }
 {
     let index = IndexView::of_file(bytes);
     answer_view(alloc, &index, wanted, archives, out)
@@ -43,9 +46,13 @@ pub(crate) fn answer_view<A: Archives, O: Out>(
     requires archives { A.failures archives.old < 2 ^ 64 - 1 }
     requires out { O.failures out.old < 2 ^ 64 - 1 }
     ensures told { (held : List (List ℕ)) → A.held archives.old ≡ Some held
-        → RepliesBy (IsTold index.now (wanted_of wanted.now).search held) (reply_of result) (O.taken out.old) (O.taken out.new) }
-    ensures counted { IsCountedWhere index.now (wanted_of wanted.now).search (A.held archives.old) (reply_of result).fault (reply_of result) (O.taken out.old) (O.taken out.new) }
-    ensures asks { AsksIndex A.Archives O.Out (wanted_of wanted.now).search archives.old archives.new out.old out.new result }
+        → RepliesBy (IsTold index.now (wanted_of wanted.now).search held)
+        (reply_of result) (O.taken out.old) (O.taken out.new) }
+    ensures counted { IsCountedWhere index.now (wanted_of wanted.now).search
+        (A.held archives.old) (reply_of result).fault (reply_of result)
+        (O.taken out.old) (O.taken out.new) }
+    ensures asks { AsksIndex A.Archives O.Out (wanted_of wanted.now).search
+        archives.old archives.new out.old out.new result }
 {
     match answer(
         alloc,

@@ -9,7 +9,7 @@ ghost use Rattle.run_faults.specs.Faults.{refusal_of, IsEarly};
 
 use mail_answer::Format;
 use mail_dates::Moment;
-use mail_query::{Query, QueryFault, read_boolean, read_mairix};
+use mail_query::{Query, QueryFault, QueryFaultKind, read_boolean, read_mairix};
 use mairix_options::{MailFormat, Texts, answer_format, plan_of, read_rc};
 use run_faults::Fault;
 use std::alloc::Global;
@@ -61,11 +61,17 @@ fn read_query(
     boolean: bool,
     now: Moment,
 ) -> Result<Query, QueryFault>
-    ensures { Gives meaning query_refusal result (query_asked boolean (map string_bytes patterns.now) now) }
+    ensures { Gives meaning query_refusal result
+        (query_asked boolean (map string_bytes patterns.now) now) }
 {
     if boolean {
-        let text = patterns.join(alloc, " ")?;
-        read_boolean(alloc, text.as_str(), now)
+        match patterns.join(alloc, " ") {
+            Ok(text) => read_boolean(alloc, text.as_str(), now),
+            Err(_) => Err(QueryFault {
+                number: 0,
+                kind: QueryFaultKind::OutOfMemory,
+            }),
+        }
     } else {
         read_mairix(alloc, patterns, now)
     }

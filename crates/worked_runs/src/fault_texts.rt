@@ -7,8 +7,8 @@ use mbox_cutter::CutFault;
 use std::alloc::Global;
 use std::fmt::InlineText;
 
-/// Faults whose own text is that of the program.
-const SHOWN: [(Fault, u8, &str); 27] = [
+/// Each fault, with its status and its text. Of a query's items only the largest number and want of memory are here.
+const SHOWN: [(Fault, u8, &str); 33] = [
     (Fault::Usage(UsageFault::Parse), 2, "bad words"),
     (
         Fault::Usage(UsageFault::TwoFormats),
@@ -17,7 +17,6 @@ const SHOWN: [(Fault, u8, &str); 27] = [
     ),
     (Fault::Usage(UsageFault::Help), 0, "help"),
     (Fault::Usage(UsageFault::Version), 0, "version"),
-    (Fault::Usage(UsageFault::OutOfMemory), 5, "out of memory"),
     (
         Fault::Rc(RcFault::BadLine(3)),
         2,
@@ -58,7 +57,6 @@ const SHOWN: [(Fault, u8, &str); 27] = [
         2,
         "rcfile: mfolder missing",
     ),
-    (Fault::Rc(RcFault::OutOfMemory), 5, "out of memory"),
     (Fault::Index(IndexFault::TooShort), 3, "index: too short"),
     (Fault::Index(IndexFault::BadMagic), 3, "index: bad magic"),
     (
@@ -96,35 +94,6 @@ const SHOWN: [(Fault, u8, &str); 27] = [
     (Fault::Out, 4, "output failed"),
     (Fault::Memory, 5, "out of memory"),
     (Fault::TooMany, 5, "too many messages or keys"),
-];
-
-/// Faults of the query's seventh item, whose own text is that of the program, of status 2.
-const OF_SEVENTH_ITEM: [(QueryFaultKind, &str); 12] = [
-    (QueryFaultKind::NoPattern, "query item 7: no pattern"),
-    (QueryFaultKind::BadPrefix, "query item 7: bad prefix"),
-    (QueryFaultKind::BadWord, "query item 7: bad word"),
-    (
-        QueryFaultKind::Approximate,
-        "query item 7: approximate match not supported",
-    ),
-    (QueryFaultKind::BadDate, "query item 7: bad date"),
-    (QueryFaultKind::BadSize, "query item 7: bad size"),
-    (QueryFaultKind::BadFlag, "query item 7: bad flag"),
-    (
-        QueryFaultKind::NeedsOperator,
-        "query item 7: operator needed",
-    ),
-    (
-        QueryFaultKind::BadParenthesis,
-        "query item 7: bad parenthesis",
-    ),
-    (QueryFaultKind::MissingTerm, "query item 7: term missing"),
-    (QueryFaultKind::TooDeep, "query item 7: too deep"),
-    (QueryFaultKind::Phrase, "query item 7: phrase not supported"),
-];
-
-/// Faults whose own text isn't asked for.
-const OTHERS: [(Fault, u8, &str); 8] = [
     (
         Fault::Query(QueryFault {
             number: usize::MAX,
@@ -181,6 +150,31 @@ const OTHERS: [(Fault, u8, &str); 8] = [
     (Fault::Device, 4, "archive read failed"),
 ];
 
+/// Faults of the query's seventh item, of status 2, with their texts.
+const OF_SEVENTH_ITEM: [(QueryFaultKind, &str); 12] = [
+    (QueryFaultKind::NoPattern, "query item 7: no pattern"),
+    (QueryFaultKind::BadPrefix, "query item 7: bad prefix"),
+    (QueryFaultKind::BadWord, "query item 7: bad word"),
+    (
+        QueryFaultKind::Approximate,
+        "query item 7: approximate match not supported",
+    ),
+    (QueryFaultKind::BadDate, "query item 7: bad date"),
+    (QueryFaultKind::BadSize, "query item 7: bad size"),
+    (QueryFaultKind::BadFlag, "query item 7: bad flag"),
+    (
+        QueryFaultKind::NeedsOperator,
+        "query item 7: operator needed",
+    ),
+    (
+        QueryFaultKind::BadParenthesis,
+        "query item 7: bad parenthesis",
+    ),
+    (QueryFaultKind::MissingTerm, "query item 7: term missing"),
+    (QueryFaultKind::TooDeep, "query item 7: too deep"),
+    (QueryFaultKind::Phrase, "query item 7: phrase not supported"),
+];
+
 /// Whether the program's text for a fault and its status are these. It is None where memory is wanting.
 fn has_text(alloc: Global, fault: Fault, status: u8, text: &str) -> Option<bool> {
     let told = fault_text(alloc, &fault).ok()?;
@@ -207,13 +201,5 @@ fn faults_of_items_show_their_texts(rt: HostRuntime) {
         let fault = Fault::Query(QueryFault { number: 7, kind });
         let as_wanted = has_text(rt.alloc(), fault, 2, text) == Some(true);
         assert!(rt; as_wanted && shows(fault, text), "{text}");
-    }
-}
-
-#[test]
-fn faults_have_texts(rt: HostRuntime) {
-    for (fault, status, text) in OTHERS {
-        let as_wanted = has_text(rt.alloc(), fault, status, text);
-        assert!(rt; as_wanted == Some(true), "{text}");
     }
 }

@@ -5,7 +5,7 @@ use crate::told::told;
 use mail_answer::{Archives, FailAt, MemoryArchives};
 use mail_dates::Moment;
 use mail_index::is_path;
-use mairix_tool::{IndexJob, RcFault, Reply, once_run, read_rc, search_run};
+use mairix_tool::{IndexJob, OrMemory, Reply, once_run, read_rc, search_run};
 use mbox_cutter::{MemoryOut, MemorySource};
 use std::alloc::Global;
 use std::process::Abort;
@@ -184,7 +184,7 @@ fn run(
             assert_eq!(rt; rc.paths.as_slice().len(), sources.len());
             assert_eq!(rt; held.count() as usize, sources.len());
         }
-        Err(RcFault::OutOfMemory) => return None,
+        Err(OrMemory::Memory) => return None,
         Err(_) => {}
     }
     let now = Moment::new(NOW)?;
@@ -220,7 +220,7 @@ fn held(alloc: Global, archives: &[Vec<u8>]) -> Option<MemoryArchives> {
 fn indexed(alloc: Global, rc: &[u8], archives: &[Vec<u8>]) -> Option<Vec<u8>> {
     match read_rc(alloc, rc) {
         Ok(rc) => indexed_as(alloc, rc.paths.as_slice(), archives),
-        Err(RcFault::OutOfMemory) => None,
+        Err(OrMemory::Memory) => None,
         Err(_) => indexed_as(alloc, &words(alloc, &["m.mbox"])?, archives),
     }
 }

@@ -1,5 +1,5 @@
 -- A run over a stored index replies what its table tells; over the archives that were indexed, what their own messages say.
-use Rattle.std.proofs.Common.{◌≡◌, ◌∙◌, ◌<◌, ◌^◌, ◌+◌, ◌++◌, ℕ, Bool, true, false, cond, IfSome, IfOk, IfErr, List, [], ◌∷◌, map, length, None, Some, Option, Result, Ok, Err, refl, sym, ap, subst, arith, inl, inr, eq-eqb, min}
+use Rattle.std.proofs.Common.{◌≡◌, ◌∙◌, ◌<◌, ◌^◌, ◌+◌, ◌++◌, ℕ, Bool, true, false, cond, All, IfSome, IfOk, IfErr, List, [], ◌∷◌, map, length, None, Some, Option, Result, Ok, Err, refl, sym, ap, subst, arith, inl, inr, eq-eqb, min}
 use Rattle.std.specs.Prelude.{◌==◌, ◌&&◌, ◌||◌}
 use Rattle.std.proofs.lemmas.Bool.{false≢true}
 use Rattle.std.proofs.lemmas.List.{length-map}
@@ -11,7 +11,7 @@ use Rattle.mail_answer.specs.Verified.{unverified_archive}
 use Rattle.mail_index.specs.declared.view.fault.IndexFault.{IndexFault}
 use Rattle.mail_index.specs.Faults.{IsFileOf, IsFirstFault}
 use Rattle.mail_index.proofs.FileLaws.Bytes.{AreBytes}
-use Rattle.mail_index.specs.Tables.{Archive, Table}
+use Rattle.mail_index.specs.Tables.{Archive, IsPath, Table}
 use Rattle.mail_index.proofs.FileLaws.Accepts.{no_fault}
 use Rattle.mail_index.proofs.FileLaws.SameTable.{same-table}
 use Rattle.mail_index.specs.Versions.{IsVersion}
@@ -23,12 +23,13 @@ use Rattle.run_faults.specs.declared.fault.Fault.TheVariants as of
 use Rattle.mairix_tool.specs.declared.reply.Reply.{Reply}
 use Rattle.index_run.specs.ArchivesIndexed.{mboxes}
 use Rattle.mairix_tool.specs.Asked.{Wanted}
-use Rattle.run_faults.specs.Faults.{refusal_of, is_failure}
+use Rattle.run_faults.specs.Faults.{refusal_of, is_failure, IsOfAnswer}
 use Rattle.mairix_tool.specs.Altered.{AreToldApart, altered_archive}
-use Rattle.mairix_tool.specs.OldTables.{but_digests, old_table}
+use Rattle.mairix_tool.specs.OldTables.{ServesFor, but_digests, old_table}
 use Rattle.mairix_tool.specs.Replies.{Answer, refused}
-use Rattle.mairix_tool.specs.Runs.{IsTold, IsToldOf, IsProvedAndTold, unproved_archive, TellsProved, IsStaleOr, IsOldOr, is_too_old, IsReply, IsStoredReply, IsIndexRefusal, IsRefusedAs, RepliesBy, reply_of, renamed_archive, first_renamed, IsCountedWhere, WereVerified}
+use Rattle.mairix_tool.specs.Runs.{IsTold, IsToldOf, IsProvedAndTold, unproved_archive, TellsProved, IsStaleOr, IsOldOr, is_too_old, IsReply, IsStoredReply, IsForNoOtherCause, IsIndexRefusal, IsRefusedAs, RepliesBy, reply_of, renamed_archive, first_renamed, IsCountedWhere, WereVerified}
 use Rattle.index_run.proofs.ArchiveLists.{mboxes-length}
+use Rattle.mairix_tool.proofs.TableLaws.Formed.{before-file, indexed-file, otherwise-file}
 use Rattle.mairix_tool.proofs.TableLaws.OldTables.{told-old, old-told, told-same, same-told, renamed-old}
 use Rattle.mairix_tool.proofs.ArchiveLaws.Unaltered.{own-verified, the-same}
 use Rattle.mairix_tool.proofs.ArchiveLaws.FirstFaults.{one-first-fault}
@@ -150,12 +151,12 @@ module _ (w : Wanted) (index : List ℕ) (few : length index < 2 ^ 64) (bytes : 
       reply old new given
 
   -- by the version that is written now
-  pub stored-indexed : IsFileOf index whole → (reply : Reply) (old new : Option (List ℕ)) → RepliesBy (IsStoredReply (Ok w) index bytes) reply old new → RepliesBy (IsReply (Ok w) bytes) reply old new
+  stored-indexed : IsFileOf index whole → (reply : Reply) (old new : Option (List ℕ)) → RepliesBy (IsStoredReply (Ok w) index bytes) reply old new → RepliesBy (IsReply (Ok w) bytes) reply old new
   stored-indexed file =
       stored-alike whole file refl (named-as w.paths bytes many) (proved-as w.verify w.paths bytes many) (λ answer told. told) (λ answer told. told)
 
   -- with other digests
-  pub stored-otherwise : (t : Table) → w.verify ≡ false → but_digests t ≡ but_digests whole → IsFileOf index t → (reply : Reply) (old new : Option (List ℕ)) → RepliesBy (IsStoredReply (Ok w) index bytes) reply old new
+  stored-otherwise : (t : Table) → w.verify ≡ false → but_digests t ≡ but_digests whole → IsFileOf index t → (reply : Reply) (old new : Option (List ℕ)) → RepliesBy (IsStoredReply (Ok w) index bytes) reply old new
       → RepliesBy (IsReply (Ok w) bytes) reply old new
   stored-otherwise t off same file =
       let fresh : is_too_old t w ≡ false = ap (λ (u : Table). is_too_old u w) same in
@@ -164,13 +165,20 @@ module _ (w : Wanted) (index : List ℕ) (few : length index < 2 ^ 64) (bytes : 
       stored-alike t file fresh named (ap (λ (b : Bool). unproved_archive b t.archives bytes) off) (λ answer. told-same t whole same w.search bytes answer) (λ answer. same-told t whole same w.search bytes answer)
 
   -- by version 1
-  pub stored-before : w.verify ≡ false → IsFileOf index (old_table whole) → uses_names w.search.query ≡ false → (reply : Reply) (old new : Option (List ℕ)) → RepliesBy (IsStoredReply (Ok w) index bytes) reply old new
+  stored-before : w.verify ≡ false → IsFileOf index (old_table whole) → uses_names w.search.query ≡ false → (reply : Reply) (old new : Option (List ℕ)) → RepliesBy (IsStoredReply (Ok w) index bytes) reply old new
       → RepliesBy (IsReply (Ok w) bytes) reply old new
   stored-before off file none =
       let fresh : is_too_old (old_table whole) w ≡ false = ap (λ (b : Bool). b || uses_names w.search.query) off ∙ none in
       stored-alike (old_table whole) file fresh (renamed-old whole.archives w.paths ∙ named-as w.paths bytes many)
       (ap (λ (b : Bool). unproved_archive b (old_table whole).archives bytes) off)
       (λ answer told. told-old whole w.search bytes answer none told) (λ answer told. old-told whole w.search bytes answer none told)
+
+  -- by an index that serves for them
+  pub stored-serving : All IsPath w.paths → ServesFor w whole index → (reply : Reply) (old new : Option (List ℕ)) → RepliesBy (IsStoredReply (Ok w) index bytes) reply old new
+      → RepliesBy (IsReply (Ok w) bytes) reply old new
+  stored-serving are (inl is) = stored-indexed (indexed-file w.paths bytes index are sound is)
+  stored-serving are (inr (off, inl (t, same, digests, is))) = stored-otherwise t off same (otherwise-file w.paths bytes index are sound t same digests is)
+  stored-serving are (inr (off, inr (none, is))) = stored-before off (before-file w.paths bytes index are sound is) none
 
 -- where they are verified, by the index of whatever archives
 module _ (w : Wanted) (index : List ℕ) (few : length index < 2 ^ 64) (before : List Mbox) (bytes : List (List ℕ)) (verify : w.verify ≡ true) (sound : AreSound before) (file : IsFileOf index (table before))
@@ -291,6 +299,39 @@ unproved-replied unproved IsFound f old tells = unanswered (IsStaleOr unproved I
     go (of.Query g) tells other = elim tells [ ]
     go (of.Archive n g) tells other = elim tells [ ]
     go (of.Index g) tells other = elim tells [ ]
+
+-- ---- a refusal is told for no other cause
+
+pub refused-for : (asked : Result Wanted Fault) (index : List ℕ) (f : Fault) → IfSome (refusal_of f) (IsRefusedAs asked index) → IsForNoOtherCause asked index f
+refused-for asked index (of.Usage f) is = is
+refused-for asked index (of.Rc f) is = is
+refused-for asked index (of.Query f) is = is
+refused-for asked index (of.Archive n f) is = tt
+refused-for asked index (of.Index f) is = is
+refused-for asked index of.OldIndex is = is
+refused-for asked index (of.Stale n) is = tt
+refused-for asked index of.Device is = tt
+refused-for asked index of.Out is = tt
+refused-for asked index of.Memory is = tt
+refused-for asked index of.TooMany is = tt
+
+-- an answer's fault is none of these
+pub answered-for : (asked : Result Wanted Fault) (index : List ℕ) (r : Result ℕ Fault) → IfErr r IsOfAnswer → IfSome (reply_of r).fault (IsForNoOtherCause asked index)
+answered-for asked index (Ok messages) own = tt
+answered-for asked index (Err f) own = go f own
+  where
+    go : (g : Fault) → IsOfAnswer g → IsForNoOtherCause asked index g
+    go (of.Stale n) own = tt
+    go of.Device own = tt
+    go of.Out own = tt
+    go of.Memory own = tt
+    go of.OldIndex own = elim own [ ]
+    go of.TooMany own = elim own [ ]
+    go (of.Usage g) own = elim own [ ]
+    go (of.Rc g) own = elim own [ ]
+    go (of.Query g) own = elim own [ ]
+    go (of.Archive n g) own = elim own [ ]
+    go (of.Index g) own = elim own [ ]
 
 -- ---- an index is refused in one way
 

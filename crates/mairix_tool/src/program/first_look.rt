@@ -1,6 +1,6 @@
 //! The first look at the archives' files.
 //!
-//! Decision 95 in docs/DECISIONS.md says why it is so.
+//! Every later look at an archive has to find what this one found (decision 95 in docs/DECISIONS.md).
 ghost use Rattle.std.specs.Prelude.{◌≡◌, IfOk, length, vec_len};
 
 use crate::program::stopped::Stopped;

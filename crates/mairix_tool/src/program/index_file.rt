@@ -1,6 +1,6 @@
 //! The index that a search reads.
 //!
-//! Decision 96 in docs/DECISIONS.md says why it is so.
+//! Of a file that is no index only the first 80 bytes are read (decision 96 in docs/DECISIONS.md).
 ghost use Rattle.std.specs.Prelude.{◌≤◌, ◌++◌, ℕ, List, length, IfSome};
 ghost use Rattle.mail_index.specs.Faults.{IsFirstFault};
 

@@ -1,6 +1,6 @@
 //! Mail that an index run must not replace.
 //!
-//! Decision 94 in docs/DECISIONS.md says why it is so.
+//! What begins with a separator is somebody's mail (decision 94 in docs/DECISIONS.md).
 
 use crate::program::stopped::Stopped;
 use mairix_files::FileSource;

@@ -1,6 +1,6 @@
 //! Why a run over files ended before it was done.
 
-use mairix_options::RcFault;
+use mairix_options::{OrMemory, RcFault};
 use run_faults::Fault;
 use std::alloc::{AllocError, AllocFailed, Global};
 use std::io;
@@ -45,9 +45,9 @@ impl<T: Drop> From<AllocFailed<T>> for Stopped {
     }
 }
 
-impl From<RcFault> for Stopped {
-    fn from(fault: RcFault) -> Self {
-        Stopped::Fault(Fault::from(fault))
+impl From<OrMemory<RcFault>> for Stopped {
+    fn from(fault: OrMemory<RcFault>) -> Self {
+        Stopped::Fault(fault.into())
     }
 }
 

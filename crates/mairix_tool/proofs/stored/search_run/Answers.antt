@@ -2,8 +2,8 @@ use Rattle.std.proofs.Common.{◌≡◌, ◌∙◌, ◌^◌, ◌<◌, map, lengt
 use Rattle.mairix_tool.specs.Asked.{Wanted, wanted, asked}
 use Rattle.mairix_tool.specs.Runs.{reply_of, IsCountedWhere, WereVerified}
 use Rattle.mairix_tool.proofs.ArchiveLaws.AskedPaths.{asked-paths}
-use Rattle.mairix_tool.proofs.TableLaws.Formed.{before-file, indexed-file, otherwise-file, whole-file}
-use Rattle.mairix_tool.proofs.ReplyLaws.Stored.{refused-stored, has-digests, stored-told, stored-counted, stored-read, stored-indexed, stored-otherwise, stored-before, stored-verified}
+use Rattle.mairix_tool.proofs.TableLaws.Formed.{whole-file}
+use Rattle.mairix_tool.proofs.ReplyLaws.Stored.{answered-for, refused-for, refused-stored, has-digests, stored-told, stored-counted, stored-read, stored-serving, stored-verified}
 use Rattle.mairix_tool.proofs.stored.search_run.Goals as goal
 
 pub returns-in-Err-clause-reply : goal.returns-in-Err-clause-reply
@@ -12,24 +12,10 @@ returns-in-Err-clause-reply g c = λ held holds.
     (refused-stored (asked (map string_bytes c.args.words.now) c.args.rc.now c.args.now) c.args.index.now held c.in-Err.fault (g.O.Out.taken c.args.out.now) c.in-Err.ensures.refused)
 
 pub returns-in-Err-clause-indexed : goal.returns-in-Err-clause-indexed
-returns-in-Err-clause-indexed g c = λ w bytes is many sound whole holds.
+returns-in-Err-clause-indexed g c = λ w bytes is many sound serves holds.
     let few : length c.args.index.now < 2 ^ 64 = omega (arith, c.well_formed) in
-    let file = indexed-file w.paths bytes c.args.index.now (asked-paths (map string_bytes c.args.words.now) c.args.rc.now c.args.now w is) sound whole in
-    stored-indexed w c.args.index.now few bytes many sound file c.of-in-Err.result (g.O.Out.taken c.args.out.now) (g.O.Out.taken c.args.out.now)
-    (rw is at (returns-in-Err-clause-reply g c bytes holds))
-
-pub returns-in-Err-clause-indexed_otherwise : goal.returns-in-Err-clause-indexed_otherwise
-returns-in-Err-clause-indexed_otherwise g c = λ w bytes t is off many sound same digests whole holds.
-    let few : length c.args.index.now < 2 ^ 64 = omega (arith, c.well_formed) in
-    let file = otherwise-file w.paths bytes c.args.index.now (asked-paths (map string_bytes c.args.words.now) c.args.rc.now c.args.now w is) sound t same digests whole in
-    stored-otherwise w c.args.index.now few bytes many sound t off same file c.of-in-Err.result (g.O.Out.taken c.args.out.now) (g.O.Out.taken c.args.out.now)
-    (rw is at (returns-in-Err-clause-reply g c bytes holds))
-
-pub returns-in-Err-clause-indexed_before : goal.returns-in-Err-clause-indexed_before
-returns-in-Err-clause-indexed_before g c = λ w bytes is off many sound whole none holds.
-    let few : length c.args.index.now < 2 ^ 64 = omega (arith, c.well_formed) in
-    let file = before-file w.paths bytes c.args.index.now (asked-paths (map string_bytes c.args.words.now) c.args.rc.now c.args.now w is) sound whole in
-    stored-before w c.args.index.now few bytes many sound off file none c.of-in-Err.result (g.O.Out.taken c.args.out.now) (g.O.Out.taken c.args.out.now)
+    let are = asked-paths (map string_bytes c.args.words.now) c.args.rc.now c.args.now w is in
+    stored-serving w c.args.index.now few bytes many sound are serves c.of-in-Err.result (g.O.Out.taken c.args.out.now) (g.O.Out.taken c.args.out.now)
     (rw is at (returns-in-Err-clause-reply g c bytes holds))
 
 pub returns-in-Err-clause-verified : goal.returns-in-Err-clause-verified
@@ -38,6 +24,10 @@ returns-in-Err-clause-verified g c = λ w before bytes is verify paths sound who
     let file = whole-file before c.args.index.now paths sound whole in
     stored-verified w c.args.index.now few before bytes verify sound file apart c.of-in-Err.result (g.O.Out.taken c.args.out.now) (g.O.Out.taken c.args.out.now)
     (rw is at (returns-in-Err-clause-reply g c bytes holds))
+
+pub returns-in-Err-clause-opened : goal.returns-in-Err-clause-opened
+returns-in-Err-clause-opened g c =
+    rw c.of-in-Err.ensures (refused-for (asked (map string_bytes c.args.words.now) c.args.rc.now c.args.now) c.args.index.now c.in-Err.fault c.in-Err.ensures.refused)
 
 pub answer_opened-requires-clause-digests : goal.answer_opened-requires-clause-digests
 answer_opened-requires-clause-digests g c = has-digests (wanted c.in-Ok.found.wanted) c.in-Ok.found.view c.in-Ok.ensures.table.0.version c.in-Ok.ensures.fresh
@@ -51,24 +41,10 @@ returns-in-Ok-clause-reply g c = λ held holds.
     (c.answer_opened.ensures.told held holds))
 
 pub returns-in-Ok-clause-indexed : goal.returns-in-Ok-clause-indexed
-returns-in-Ok-clause-indexed g c = λ w bytes is many sound whole holds.
+returns-in-Ok-clause-indexed g c = λ w bytes is many sound serves holds.
     let few : length c.args.index.now < 2 ^ 64 = omega (arith, c.well_formed) in
-    let file = indexed-file w.paths bytes c.args.index.now (asked-paths (map string_bytes c.args.words.now) c.args.rc.now c.args.now w is) sound whole in
-    stored-indexed w c.args.index.now few bytes many sound file c.of.result (g.O.Out.taken c.args.out.now) (g.O.Out.taken c.answer_opened.new.out)
-    (rw is at (returns-in-Ok-clause-reply g c bytes holds))
-
-pub returns-in-Ok-clause-indexed_otherwise : goal.returns-in-Ok-clause-indexed_otherwise
-returns-in-Ok-clause-indexed_otherwise g c = λ w bytes t is off many sound same digests whole holds.
-    let few : length c.args.index.now < 2 ^ 64 = omega (arith, c.well_formed) in
-    let file = otherwise-file w.paths bytes c.args.index.now (asked-paths (map string_bytes c.args.words.now) c.args.rc.now c.args.now w is) sound t same digests whole in
-    stored-otherwise w c.args.index.now few bytes many sound t off same file c.of.result (g.O.Out.taken c.args.out.now) (g.O.Out.taken c.answer_opened.new.out)
-    (rw is at (returns-in-Ok-clause-reply g c bytes holds))
-
-pub returns-in-Ok-clause-indexed_before : goal.returns-in-Ok-clause-indexed_before
-returns-in-Ok-clause-indexed_before g c = λ w bytes is off many sound whole none holds.
-    let few : length c.args.index.now < 2 ^ 64 = omega (arith, c.well_formed) in
-    let file = before-file w.paths bytes c.args.index.now (asked-paths (map string_bytes c.args.words.now) c.args.rc.now c.args.now w is) sound whole in
-    stored-before w c.args.index.now few bytes many sound off file none c.of.result (g.O.Out.taken c.args.out.now) (g.O.Out.taken c.answer_opened.new.out)
+    let are = asked-paths (map string_bytes c.args.words.now) c.args.rc.now c.args.now w is in
+    stored-serving w c.args.index.now few bytes many sound are serves c.of.result (g.O.Out.taken c.args.out.now) (g.O.Out.taken c.answer_opened.new.out)
     (rw is at (returns-in-Ok-clause-reply g c bytes holds))
 
 pub returns-in-Ok-clause-verified : goal.returns-in-Ok-clause-verified
@@ -95,3 +71,8 @@ returns-in-Ok-clause-read g c = λ w t is file.
     let same : wanted c.in-Ok.found.wanted ≡ w = cc both in
     let told = stored-read (wanted c.in-Ok.found.wanted) c.args.index.now few c.in-Ok.found.view c.in-Ok.ensures.table t (reply_of c.answer_opened.result).fault file c.answer_opened.ensures.read in
     rw c.of.ensures (subst (λ (v : Wanted). WereVerified t.archives v.verify (reply_of c.answer_opened.result).fault) same told)
+
+pub returns-in-Ok-clause-opened : goal.returns-in-Ok-clause-opened
+returns-in-Ok-clause-opened g c =
+    rw c.of.ensures
+    (answered-for (asked (map string_bytes c.args.words.now) c.args.rc.now c.args.now) c.args.index.now c.answer_opened.result c.answer_opened.ensures.asks.own)
