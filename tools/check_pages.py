@@ -1,29 +1,35 @@
 #!/usr/bin/env python3
-"""Holds the manual pages, README.md, docs/RECIPES.md, the completions and the program's help to the built program: their examples are run
-(page_examples.py says how they are written), and each option, each text of a fault and each prefix stands where it is looked for, and no others.
+"""Compares the pages, the completions and the program's help with the built program and its source. The examples of the manual pages, README.md
+and docs/RECIPES.md are run (page_examples.py says how they are written). Each option, text of a fault and prefix stands where readers look for it, and
+no others do. Code that a page quotes stands in the file that it names. No page is too wide, and some aren't too long.
 
     check_pages.py PROGRAM
 
 The last line is `N passed, M failed`.
 """
-import os, re, shutil, subprocess, sys, tarfile, tempfile
+import itertools, os, re, shutil, subprocess, sys, tarfile, tempfile
 from pathlib import Path
 
 sys.dont_write_bytecode = True
 from page_examples import TOP, Sandbox, checks_of, roff_text
 
-# Texts of faults that no run tells: the first two are answered by texts of the parser, and a job that has failed isn't asked again.
-UNTOLD = {"help", "version", "failed before"}
+# Texts of faults that no run prints: the parser answers the first two itself, and a job that has failed isn't asked again.
+UNTOLD = {"help", "version", "archive N: failed before", "query item N: out of memory"}
 # How wide the lines of help are at most, and how many tell of a query language, with their title.
-WIDTH, LINES_OF_LANGUAGE = 80, 6
+WIDTH, LINES_OF_LANGUAGE = 80, 10
 
 COMMANDS, RCFILE, QUERIES = (TOP / "man" / name for name in ("mairix.1", "mairixrc.5", "mairix-query.7"))
 MANUAL = (COMMANDS, RCFILE, QUERIES)
-README, PROGRESS = TOP / "README.md", TOP / "docs" / "PROGRESS.md"
+README, PROGRESS, NEWS = TOP / "README.md", TOP / "docs" / "PROGRESS.md", TOP / "NEWS"
 MARKDOWN = (README, TOP / "docs" / "RECIPES.md")
-PAGES = (*sorted((TOP / "docs").glob("*.md")), README, *sorted((TOP / "crates").glob("*/README.md")))
-# How wide a line of a page is at most, but of a table, and how many words some pages have.
+# Pages that quote contracts, definitions and edits.
+CONTRIBUTING, PROVED = TOP / "docs" / "CONTRIBUTING.md", TOP / "docs" / "PROVED.md"
+QUOTING = (PROVED, CONTRIBUTING)
+CRATE_PAGES = sorted((TOP / "crates").glob("*/README.md"))
+PAGES = (*sorted((TOP / "docs").glob("*.md")), README, *CRATE_PAGES)
+# How wide a line of a page is at most, except in tables and checks (NARROW_EXCEPT), and how many words some pages have.
 PAGE_WIDTH, MOST_WORDS = 120, {README: 900, PROGRESS: 900}
+NARROW_EXCEPT = ("|", r'.\" run: ')
 # How many lines a crate's page has at most.
 MOST_LINES = 80
 BASH, ZSH, FISH = (TOP / "completions" / name for name in ("mairix.bash", "_mairix", "mairix.fish"))
@@ -109,20 +115,63 @@ def option_checks(expected):
 # ---- texts of faults
 
 
+FAULT_TEXTS = "run_faults/specs/FaultTexts.antt"
+
+
+def equations(path, name):
+    """The file that defines a function of texts, and its equations there: parameters, and what stands behind `=`."""
+    text = source(path)
+    found = re.findall(rf"(?m)^{name}((?: .*?)?) =((?:.|\n(?= ))*)", text)
+    if found:
+        return path, [(atoms(front), behind) for front, behind in found]
+    other = re.search(rf"(?m)^use Rattle\.(\w+)\.specs\.([\w.]+)\.\{{[^}}]*\b{name}\b", text)
+    return equations(f"{other[1]}/specs/{other[2].replace('.', '/')}.antt", name)
+
+
+def atoms(expression):
+    """The parts of an expression: names, operators, texts, and what stands in parentheses."""
+    return re.findall(r'codes "[^"]*"|\((?:[^()]|\([^()]*\))*\)|[^\s()]+', expression)
+
+
+def printed(path, expression, bound):
+    """All texts that an expression of a file of definitions may be. N stands for any number."""
+    terms = [[]]
+    for part in atoms(expression):
+        terms.append([]) if part in ("++", "∷") else terms[-1].append(part)
+    return {"".join(it) for it in itertools.product(*(term_texts(path, term, bound) for term in terms))}
+
+
+def term_texts(path, term, bound):
+    """The same of one term: a text, a character by its number, a parameter, or a function with its arguments."""
+    head, *arguments = term
+    if head.startswith("codes "):
+        return {head[len('codes "') : -1]}
+    if head == "decimal" or head.isdigit():
+        return {"N" if head == "decimal" else chr(int(head))}
+    if head.startswith("("):
+        return printed(path, head[1:-1], bound)
+    if head in bound:
+        return printed(*bound[head])
+    file, cases = equations(path, head)
+    given = [(path, it, bound) for it in arguments]
+    return set().union(*(printed(file, behind, dict(zip(front, given))) for front, behind in cases))
+
+
 def told_texts():
-    """The texts in which the program tells of faults. Its match of all faults in explanation.rt is complete, or it wouldn't be built."""
-    code = re.sub(r"(?m)^ *(?:///|ghost|ensures).*$", "", source("run_faults/src/explanation.rt"))
-    texts = set(re.findall(r'"([^"{}]+)"', code)) - {"archive", "rcfile line", "query item"}
+    """The texts in which the program tells of faults: what the definition that `fault_text` is proved to meet says of any fault, and the program's
+    own texts."""
+    texts = printed(FAULT_TEXTS, "text_of_fault fault", {})
+    for path in sorted((TOP / "crates/run_faults/src").glob("*.rt")):
+        texts |= set(re.findall(r'(?m)^pub const \w+: &str = "([^"]+)";', path.read_text(encoding="utf-8")))
     for path in ("mairix_tool/src/program.rt", "mairix/src/main.rt"):
         texts |= {it.strip() for it in re.findall(r'"mairix: ([^"\\{]+)', source(path))}
     return texts - UNTOLD
 
 
 def fault_tags():
-    """The tags of all DIAGNOSTICS, without the number of an archive, a line or an item, and the parser's lines."""
+    """The tags of all DIAGNOSTICS, but for the parser's own lines."""
     found = [tag for page in MANUAL for tag in tags(section(page, "DIAGNOSTICS")) if not tag.startswith("error:")]
-    bare = [re.sub(r"^(?:archive|rcfile line|query item) N: ", "", tag) for tag in found]
-    return {re.sub(r" FILE$", "", tag) for tag in bare}
+    return {re.sub(r" FILE$", "", tag) for tag in found}
 
 
 # ---- prefixes and rcfile options
@@ -223,18 +272,70 @@ def format_checks(program):
         yield "bytes in INDEX-FORMAT.md", "" if told == written else f"status {status}, printed {printed!r}: the program writes {written.hex()}"
 
 
-# ---- callers
+# ---- quotes
+
+
+def plain(text):
+    """A text with each run of white space as one space."""
+    return " ".join(text.split())
+
+
+def caller_faults(page):
+    """What is wrong with the code on a crate's page: each block stands behind `From FILE:`, and each of its pieces stands in that file."""
+    text = page.read_text(encoding="utf-8")
+    shown = re.findall(r"From `([^`]+)`:\n\n```\w+\n(.*?)\n```", text, re.S)
+    if not shown or len(shown) != len(re.findall(r"(?m)^```\w+$", text)):
+        yield f"{len(shown)} blocks of code name their file"
+    for path, block in shown:
+        file = plain((TOP / path).read_text(encoding="utf-8")) if (TOP / path).exists() else ""
+        yield from (f"{path} has no {piece.splitlines()[0]!r}" for piece in block.split("\n\n") if plain(piece) not in file)
 
 
 def caller_checks():
-    """What a crate's page shows of a caller stands so in the file that it names."""
-    for page in sorted((TOP / "crates").glob("*/README.md")):
-        text = page.read_text(encoding="utf-8")
-        shown = re.findall(r"From `([^`]+)`:\n\n```rust\n(.*?)\n```", text, re.S)
-        other = [f"a piece of {path}" for path, block in shown for piece in block.split("\n\n") if piece not in (TOP / path).read_text(encoding="utf-8")]
-        yield f"callers of {page.parent.name}", ", ".join(other)
-        lines = text.count("\n")
+    for page in CRATE_PAGES:
+        yield f"callers of {page.parent.name}", ", ".join(caller_faults(page))
+        lines = page.read_text(encoding="utf-8").count("\n")
         yield f"length of the page of {page.parent.name}", "" if lines <= MOST_LINES else f"{lines} lines"
+
+
+def quotes_in(page):
+    """Each block ```text behind a paragraph that names a file of a crate: the last file that it names, and the block."""
+    for told, block in re.findall(r"((?:.+\n)+)\n```text\n((?:.*\n)*?)```", page.read_text(encoding="utf-8")):
+        paths = re.findall(r"crates/[\w/.-]+\w", told)
+        if paths:
+            yield paths[-1], block.rstrip()
+
+
+def quote_checks():
+    """What pages quote of a file that they name stands in it, where `..` stands for anything."""
+    for page in QUOTING:
+        quotes = list(quotes_in(page))
+        wrong = [] if quotes else ["none was found"]
+        for path, block in quotes:
+            file = plain((TOP / path).read_text(encoding="utf-8")) if (TOP / path).exists() else ""
+            pieces = [plain(it) for unit in re.split(r"\n+(?! )", block) for it in re.split(r" \.\.(?= |$)", plain(unit))]
+            wrong += [f"{path} has no {it!r}" for it in pieces if it not in file]
+        yield f"quotes of {page.name}", "; ".join(wrong)
+
+
+def claim_checks():
+    """The calls, clauses and definitions that the tables of claims name are there."""
+    files = [*(TOP / "crates").glob("*/src/**/*.rt"), *(TOP / "crates").glob("*/specs/**/*.antt")]
+    text = "\n".join(it.read_text(encoding="utf-8") for it in files)
+    declared = set(re.findall(r"(?=\b(?:fn|ensures\*?|struct|enum|trait|record|ghost|pub) (\w+))", text)) | {it.name for it in (TOP / "crates").iterdir()}
+    cells = re.findall(r"(?m)^\|.*\| ([^|]*) \|$", PROVED.read_text(encoding="utf-8"))
+    named = {part for cell in cells for it in re.findall(r"`([\w:]+)`", cell) for part in it.split("::")}
+    yield "names in PROVED.md", ", ".join(f"nothing is called {it}" for it in sorted(named - declared))
+
+
+# ---- tools
+
+
+def tool_checks():
+    """CONTRIBUTING has a line for each script of tools/ and bench/."""
+    written = {str(it.relative_to(TOP)) for folder in ("tools", "bench") for it in (TOP / folder).iterdir() if it.is_file()}
+    named = re.findall(r"(?m)^\| ((?:tools|bench)/[^|]+?) \|", CONTRIBUTING.read_text(encoding="utf-8"))
+    yield "tools in CONTRIBUTING.md", differences("file", written, {it for names in named for it in names.split(", ")})
 
 
 # ---- form
@@ -250,8 +351,10 @@ def form_checks(program):
     for page in PAGES:
         links = re.findall(r"\]\(([^)#:]+)\)", page.read_text(encoding="utf-8"))
         yield f"links of {page.name}", ", ".join(it for it in links if not (page.parent / it).exists())
-        wide = [f"line {number}" for number, line in enumerate(page.read_text(encoding="utf-8").splitlines(), 1) if len(line) > PAGE_WIDTH and line[:1] != "|"]
-        yield f"width of {page.name}", ", ".join(wide)
+    for page in (*PAGES, *MANUAL, NEWS):
+        lines = enumerate(page.read_text(encoding="utf-8").splitlines(), 1)
+        wide = [f"line {number}" for number, line in lines if len(line) > PAGE_WIDTH and not line.startswith(NARROW_EXCEPT)]
+        yield f"width of {page.relative_to(TOP)}", ", ".join(wide)
     for page, most in MOST_WORDS.items():
         count = len(page.read_text(encoding="utf-8").split())
         yield f"words of {page.name}", "" if count <= most else f"{count} words, more than {most}"
@@ -322,6 +425,9 @@ def all_checks(program):
     yield from help_checks(program)
     yield from format_checks(program)
     yield from caller_checks()
+    yield from quote_checks()
+    yield from claim_checks()
+    yield from tool_checks()
     yield from form_checks(program)
     yield from install_checks(program)
     yield from dist_checks()
