@@ -12,7 +12,7 @@ _mairix() {
         return
         ;;
     esac
-    # Behind a colon stands what is sought, which nobody knows but who seeks it.
+    # The word after a colon can't be guessed.
     [[ $word == *:* || $before == : ]] && return
     if [[ $word == -* && " ${COMP_WORDS[*]:0:COMP_CWORD} " != *' -- '* ]]; then
         mapfile -t COMPREPLY < <(compgen -W "$options" -- "$word")
@@ -21,7 +21,7 @@ _mairix() {
     [[ " ${COMP_WORDS[*]:0:COMP_CWORD} " == *' --boolean '* ]] && prefixes='from: to: subject: body: id: date:'
     compopt -o nospace 2>/dev/null
     mapfile -t COMPREPLY < <(compgen -W "$prefixes" -- "$word")
-    # Behind a lone match bash would close a quote that the pattern has begun. Of two it takes what they share.
+    # After a single match, bash would close a quote that the user has opened. With two matches it takes what they share.
     [[ $word == [\'\"]* && ${#COMPREPLY[@]} == 1 ]] && COMPREPLY+=("${COMPREPLY[0]}WORD")
     return 0
 }
