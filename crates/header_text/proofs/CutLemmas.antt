@@ -1,8 +1,9 @@
 -- Where bytes are cut.
-use Rattle.std.proofs.Common.{◌≡◌, ◌∙◌, ◌<◌, ◌++◌, ◌==◌, ℕ, zero, suc, Bool, true, false, List, [], ◌∷◌, Option, Some, None, length, take, drop, slice_index, refl, sym, ap, arith}
+use Rattle.std.proofs.Common.{◌≡◌, ◌∙◌, ◌<◌, ◌≤◌, ◌-◌, ◌++◌, ◌==◌, ℕ, zero, suc, Bool, true, false, List, [], ◌∷◌, Option, Some, None, length, take, drop, get_or, slice_index, refl, sym, ap, arith}
 use Rattle.std.specs.Prelude.{option_map, unwrap_or, not}
 use Rattle.header_text.specs.Blanks.{split_while}
-use Rattle.std.proofs.lemmas.Bool.{eqb-true}
+use Rattle.std.proofs.lemmas.Bool.{eq-eqb, eqb-true}
+use Rattle.std.proofs.lemmas.List.{take_rest}
 use Rattle.header_text.specs.Cuts.{cut_at}
 
 -- the byte isn't among the bytes
@@ -23,6 +24,11 @@ cut_at-yes c b bs e = rw (e, cut_at) refl
 
 cut_at-no : (c b : ℕ) (bs : List ℕ) → (b == c) ≡ false → cut_at c (b ∷ bs) ≡ put b (cut_at c bs)
 cut_at-no c b bs e = rw (e, cut_at) refl
+
+-- what begins with it is cut before its first byte
+pub cut_at-begins : (c : ℕ) (bs : List ℕ) → 1 ≤ length bs → get_or bs 0 0 ≡ c → Some ([], take (length bs - 1) (drop 1 bs)) ≡ cut_at c bs
+cut_at-begins c [] some is = absurd (omega arith)
+cut_at-begins c (b ∷ bs) some is = ap (λ (rest : List ℕ). Some ([], rest)) (take_rest (b ∷ bs) 1) ∙ sym (cut_at-yes c b bs (eq-eqb b c is))
 
 -- by places
 pub cut_at-first : (c : ℕ) (bs : List ℕ) (at : ℕ) → at < length bs → (slice_index bs at == c) ≡ true → ((k : ℕ) → k < at → (slice_index bs k == c) ≡ false)
