@@ -1,12 +1,13 @@
 //! Archives' files, read at any place.
 ghost use Rattle.std.specs.Prelude.{None, ◌≡◌, ◌≤◌, ◌<◌, ◌-◌, ◌^◌, ◌↔◌, IsSome, IfSome, IfOk, length};
 
+use crate::program::read_ahead::ReadAhead;
 use mail_answer::Archives;
 use mairix_files::FileState;
 use mbox_cutter::DeviceFault;
+use std::alloc::Global;
 use std::fs::File;
 use std::io::ErrorKind;
-use std::os::unix::fs::FileExt;
 use std::rt::Files;
 use std::{fs, io};
 
@@ -28,6 +29,8 @@ pub(crate) struct FileArchives<'p, R: Files<File = File>> {
     /// The state of each.
     states: &'p [FileState],
     open: Option<OpenArchive>,
+    /// What was read of the open one.
+    ahead: ReadAhead,
     failures: u64,
     ghost few: { length paths.now < 2 ^ 32 },
     ghost each: { length states.now ≡ length paths.now },
@@ -37,6 +40,7 @@ impl<'p, R: Files<File = File>> FileArchives<'p, R> {
     /// Opens no file yet. There are no numbers for more than 4,294,967,295 paths, and for these it answers none.
     pub(crate) fn new(
         rt: &'p R,
+        alloc: Global,
         paths: &'p [String],
         states: &'p [FileState],
     ) -> Option<FileArchives<'p, R>>
@@ -53,6 +57,7 @@ impl<'p, R: Files<File = File>> FileArchives<'p, R> {
             paths,
             states,
             open: None,
+            ahead: ReadAhead::new(alloc),
             failures: 0,
         })
     }
@@ -80,23 +85,15 @@ impl<'p, R: Files<File = File>> FileArchives<'p, R> {
         if let Some(last) = &self.open
             && last.number == n
         {
-            return read_in(&last.file, state, offset, into);
+            return self.ahead.read(&last.file, state, offset, into);
         }
         self.open = None;
+        self.ahead.forget();
         let file = fs::open(self.rt, self.paths[n as usize].as_str())?;
-        let read = read_in(&file, state, offset, into);
+        let read = self.ahead.read(&file, state, offset, into);
         self.open = Some(OpenArchive { number: n, file });
         read
     }
-}
-
-/// Reads from a file that is in this state, looked at behind the read: what was read while it changed goes nowhere.
-fn read_in(file: &File, state: FileState, offset: u64, into: &mut [u8]) -> io::Result<usize>
-    ensures bound { IfOk result (λ bytes. bytes ≤ length into.new) }
-{
-    let read = file.read_at(into, offset)?;
-    state.check(file)?;
-    Ok(read)
 }
 
 impl<'p, R: Files<File = File>> Archives for FileArchives<'p, R> {

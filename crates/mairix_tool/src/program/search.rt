@@ -106,7 +106,7 @@ fn reply_to<R: Files<File = File>, O: Out>(
         now,
     } = *search;
     let paths = rc.paths.as_slice();
-    let Some(mut archives) = FileArchives::new(rt, paths, states) else {
+    let Some(mut archives) = FileArchives::new(rt, alloc, paths, states) else {
         return Err(Fault::TooMany);
     };
     let Some(index) = index else {
