@@ -476,11 +476,39 @@ def far_message(program):
     return bad
 
 
+def neighbours(program):
+    """Messages of many lengths, with and without gaps between them: each answer has just their bytes, and those side by side are read together."""
+    lengths = [200, 3_000, 200, 20_000, 5, 70_000, 1_500, 65_400, 900, 140_000]
+    texts = []
+    for number in range(400):
+        words = " ".join("w%d" % of for of in (1, 2, 3, 7, 50) if number // of % 2 or of == 1)
+        line = b"%07d\n" % number
+        texts.append(SEPARATOR + b"Subject: %s\n\n" % words.encode() + line * (lengths[number * 7 % 10] // 8) + b"\n")
+    bad = []
+    with tempfile.TemporaryDirectory() as folder:
+        write(folder, {"rc": RC, "m.mbox": b"".join(texts)})
+        if run(program, INDEX, folder).returncode != 0:
+            bad.append("no index")
+        log = os.path.join(folder, "calls")
+        for of in (1, 2, 3, 7, 50):
+            chosen = [text for number, text in enumerate(texts) if number // of % 2 or of == 1]
+            told = {**os.environ, "LD_PRELOAD": shim(folder, "at_call"), "COUNTED": "read_at ", "CALLS_LOG": log}
+            p = run(program, INDEX + ["--stdout", "s:w%d" % of], folder, capture_output=True, env=told)
+            if (p.returncode, p.stderr) != (0, b"") or p.stdout != b"".join(chosen):
+                bad.append("every %d: status %d, %r, %d bytes" % (of, p.returncode, p.stderr, len(p.stdout)))
+            with open(log) as f:
+                reads = len(f.readlines())
+            os.remove(log)
+            if of == 1 and reads > 2 * sum(map(len, texts)) / 65_536:
+                bad.append("%d reads" % reads)
+    return bad
+
+
 def main(program):
     program = os.path.abspath(program)
     passed = failed = 0
     checks = [(name, lambda c=c: case(program, *c)) for name, *c in CASES]
-    others = (killed_run, private_file, file_of_another, name_of_a_pipe, foreign_leftovers, link_to_a_file, large_no_index, low_limits, second_name, odd_folder, no_room, want_of_memory, large_index, long_answers, index_then_search, full_disk, unreadable, many_archives, clock, failing_clock, far_message)
+    others = (killed_run, private_file, file_of_another, name_of_a_pipe, foreign_leftovers, link_to_a_file, large_no_index, low_limits, second_name, odd_folder, no_room, want_of_memory, large_index, long_answers, index_then_search, full_disk, unreadable, many_archives, clock, failing_clock, far_message, neighbours)
     checks += [(f.__doc__.split(".")[0], lambda f=f: f(program)) for f in others]
     checks += [("overlapping runs: " + name, lambda bad=bad: bad) for name, _, bad in overlapping_runs.checks(program)]
     for name, check in checks:
