@@ -6,8 +6,7 @@ use Rattle.memchr.specs.Find.{IsFirstByte, is_byte}
 use Rattle.mbox_cutter.specs.Lines.{length_before_feed, line_end_of, first_length}
 
 pub not_true : (b : Bool) → (b ≡ true → ⊥) → b ≡ false
-not_true true h = absurd (h refl)
-not_true false h = refl
+not_true b h = grind arith
 
 pub length_before_feed-le : (b : List ℕ) → length_before_feed b ≤ length b
 length_before_feed-le [] = omega arith

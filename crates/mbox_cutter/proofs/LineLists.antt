@@ -1,22 +1,18 @@
 -- The lines of bytes: the first one, and the lines of what follows it.
-use Rattle.std.proofs.Common.{◌≡◌, ℕ, zero, suc, ◌-◌, ◌<◌, ◌≤◌, List, [], ◌∷◌, length, take, drop, refl, ap, arith}
+use Rattle.std.proofs.Common.{◌≡◌, ℕ, zero, suc, ◌<◌, ◌≤◌, List, [], ◌∷◌, length, take, drop, refl, ap, arith}
 use Rattle.std.proofs.lemmas.List.{length-drop}
 use Rattle.mbox_cutter.specs.Lines.{lines, first_lines, first_length}
 use Rattle.mbox_cutter.proofs.FirstLines.{first_length-positive}
 
 -- behind their first line there are fewer bytes
 behind-fewer : (b : List ℕ) (n : ℕ) → 0 < length b → length b ≤ suc n → length (drop (first_length b) b) ≤ n
-behind-fewer b n some h =
-    let positive : 0 < first_length b = first_length-positive b some in
-    let left : length (drop (first_length b) b) ≡ length b - first_length b = length-drop (first_length b) b in
-    omega arith
+behind-fewer b n some h = grind (arith, first_length-positive, length-drop)
 
 -- what holds of no bytes, and of bytes if it holds of those behind their first line, holds of all
 pub by_lines : (P : List ℕ → Type 0) → P [] → ((b : List ℕ) → 0 < length b → P (drop (first_length b) b) → P b) → (n : ℕ) (b : List ℕ) → length b ≤ n → P b
 by_lines P none each n [] h = none
 by_lines P none each zero (x ∷ xs) h = absurd (omega arith)
-by_lines P none each (suc n) (x ∷ xs) h =
-    each (x ∷ xs) (omega arith) (by_lines P none each n (drop (first_length (x ∷ xs)) (x ∷ xs)) (behind-fewer (x ∷ xs) n (omega arith) h))
+by_lines P none each (suc n) (x ∷ xs) h = grind (arith, behind-fewer, by_lines P none each n (drop (first_length (x ∷ xs)) (x ∷ xs)) (behind-fewer (x ∷ xs) n (omega arith) h))
 
 -- more turns than bytes change nothing
 first_lines-enough : (n m : ℕ) (b : List ℕ) → length b ≤ n → length b ≤ m → first_lines n b ≡ first_lines m b
@@ -26,9 +22,7 @@ first_lines-enough zero (suc m) (x ∷ xs) p q = absurd (omega arith)
 first_lines-enough (suc n) zero [] p q = refl
 first_lines-enough (suc n) zero (x ∷ xs) p q = absurd (omega arith)
 first_lines-enough (suc n) (suc m) [] p q = refl
-first_lines-enough (suc n) (suc m) (x ∷ xs) p q =
-    ap (λ (ls : List (List ℕ)). take (first_length (x ∷ xs)) (x ∷ xs) ∷ ls)
-    (first_lines-enough n m (drop (first_length (x ∷ xs)) (x ∷ xs)) (behind-fewer (x ∷ xs) n (omega arith) p) (behind-fewer (x ∷ xs) m (omega arith) q))
+first_lines-enough (suc n) (suc m) (x ∷ xs) p q = grind (arith, behind-fewer, first_lines-enough n m (drop (first_length (x ∷ xs)) (x ∷ xs)) (behind-fewer (x ∷ xs) n (omega arith) p) (behind-fewer (x ∷ xs) m (omega arith) q))
 
 pub lines-cons : (b : List ℕ) → 0 < length b → lines b ≡ take (first_length b) b ∷ lines (drop (first_length b) b)
 unfolding lines

@@ -46,9 +46,7 @@ first_line-full b some no_feed =
 
 joined_cut : (l rest : List ℕ) → IsLine l → (0 < length rest → length_before_feed l ≡ length l → (length l ≡ 65536) × (0 < length_before_feed (take (first_length rest) rest))) → AreCut (lines rest) → AreCut (l ∷ lines rest)
 joined_cut l [] is full cut = rw lines-nil is
-joined_cut l (y ∷ ys) is full cut =
-    let e : lines (y ∷ ys) ≡ take (first_length (y ∷ ys)) (y ∷ ys) ∷ lines (drop (first_length (y ∷ ys)) (y ∷ ys)) = lines-cons (y ∷ ys) (omega arith) in
-    rw e (is, full (omega arith), subst AreCut e cut)
+joined_cut l (y ∷ ys) is full cut = grind (arith, lines-cons)
 
 pub lines-AreLines : (b : List ℕ) → AreLines b (lines b)
 lines-AreLines b = record {

@@ -1,18 +1,17 @@
 -- How what is told goes on from line to line.
-use Rattle.std.proofs.Common.{◌≡◌, ℕ, ◌+◌, ◌-◌, ◌≤◌, Bool, true, false, cond, ◌||◌, ◌⊎◌, inl, inr, List, [], ◌∷◌, length, refl, ap, sym, arith, add_assoc, add-zero, zero-add}
+use Rattle.std.proofs.Common.{◌≡◌, ℕ, ◌+◌, ◌-◌, ◌≤◌, Bool, true, false, ◌||◌, ◌⊎◌, inl, inr, List, [], ◌∷◌, length, refl, ap, arith, add_assoc, add-zero, zero-add}
 use Rattle.std.specs.Str.{bytes_eq}
 use Rattle.std.proofs.lemmas.Slice.Eq.{bytes_eq-Decides}
 use Rattle.mbox_cutter.specs.Lines.{is_empty}
 use Rattle.mbox_cutter.specs.Separators.{is_separator}
-use Rattle.mbox_cutter.specs.Archives.{marked, grouped, is_refused, total, messages_from, without_closing}
-use Rattle.mbox_cutter.specs.Events.{Start, Line, End, told}
+use Rattle.mbox_cutter.specs.Archives.{marked, grouped, without_closing}
+use Rattle.mbox_cutter.specs.Events.{Start, Line, End}
 use Rattle.mbox_cutter.specs.Inside.Resume.{told_between, told_inside}
 use Rattle.mbox_cutter.proofs.FirstLines.{not_true}
 
 -- a line that isn't empty is never the closing one
 without_closing-full : (l : List ℕ) (ls : List (List ℕ)) → is_empty l ≡ false → without_closing (l ∷ ls) ≡ l ∷ without_closing ls
-without_closing-full l [] e = rw e
-without_closing-full l (m ∷ ls) e = refl
+without_closing-full l ls h = grind arith
 
 -- what is taken since
 sub_front : (a b : ℕ) → (a + b) - a ≡ b
@@ -22,9 +21,7 @@ sub_front a b = omega arith
 module _ (l : List ℕ) (ls : List (List ℕ)) (k : ℕ) (len : length l ≡ k) where
   -- an empty line between two messages
   pub between-empty : (all at : ℕ) → is_empty l ≡ true → is_separator l ≡ false → told_between all at (l ∷ ls) ≡ told_between all (at + k) ls
-  between-empty all at e s =
-      rw (← len) (rw (e, s) (ap (λ (n : ℕ). cond (is_refused (marked true ls)) [] (told all (messages_from n (grouped (marked true ls)).1)))
-      (sym (add_assoc at (length l) (total (grouped (marked true ls)).0)))))
+  between-empty all at e s = grind (arith, add_assoc)
 
   -- a start
   pub between-start : (all at : ℕ) → is_separator l ≡ true → is_empty l ≡ false → told_between all at (l ∷ ls) ≡ Start at l ∷ told_inside all (at + k) at 0 ls
@@ -53,8 +50,7 @@ inside-nil all at start size = simp add-zero
 
 -- a separator isn't empty
 either : (a b : Bool) → (a || b) ≡ true → (a ≡ true) ⊎ (b ≡ true)
-either true b e = inl refl
-either false b e = inr e
+either a b h = grind arith
 
 no_separator : (l m : List ℕ) → bytes_eq l m ≡ true → is_separator m ≡ false → is_separator l ≡ true → ⊥
 no_separator l m h none s = let is : l ≡ m = (bytes_eq-Decides l m).0 h in let c : is_separator l ≡ is_separator m = ap is_separator is in cc

@@ -51,22 +51,14 @@ first-is l (m ∷ ls) c = elim (either-way l) as (λ (_ : _). first_length (l ++
 ]
 
 is_line : (l : List ℕ) (ls : List (List ℕ)) → AreCut (l ∷ ls) → IsLine l
-is_line l [] c = c
-is_line l (m ∷ ls) c = c.0
+is_line l ls h = grind arith
 
 rest_cut : (l : List ℕ) (ls : List (List ℕ)) → AreCut (l ∷ ls) → AreCut ls
-rest_cut l [] c = tt
-rest_cut l (m ∷ ls) c = c.2
+rest_cut l ls h = grind arith
 
 only : (ls : List (List ℕ)) → AreCut ls → ls ≡ lines (concat ls)
 only [] c = sym lines-nil
-only (l ∷ ls) c =
-    let n : first_length (l ++ concat ls) ≡ length l = first-is l ls c in
-    let some : 0 < length l = (is_line l ls c).some in
-    let positive : 0 < length (l ++ concat ls) = omega (arith, length-append l (concat ls)) in
-    let step : lines (l ++ concat ls) ≡ l ∷ lines (concat ls) =
-    lines-cons (l ++ concat ls) positive ∙ rw n (rw (take-append_seam l (concat ls), drop-append_seam l (concat ls)) refl) in
-    ap (λ (x : List (List ℕ)). l ∷ x) (only ls (rest_cut l ls c)) ∙ sym step
+only (l ∷ ls) c = grind (arith, first-is, is_line, length-append, lines-cons, take-append_seam, drop-append_seam, rest_cut, only ls (rest_cut l ls c))
 
 pub only_lines : (b : List ℕ) (ls : List (List ℕ)) → AreLines b ls → ls ≡ lines b
 only_lines b ls h = only ls h.each ∙ ap lines h.joined

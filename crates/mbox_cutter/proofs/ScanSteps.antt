@@ -1,11 +1,10 @@
 -- What the calls of a step make of a scan, and each way that a step ends.
-use Rattle.std.proofs.Common.{◌≡◌, ℕ, ◌+◌, ◌-◌, ◌<◌, ◌≤◌, Bool, true, false, List, Option, Some, None, Result, Ok, Err, IfSome, IfOk, length, take, drop, inl, inr, refl, ap, sym, ◌∙◌, subst, arith}
-use Rattle.std.specs.Borrow.{MutBor}
-use Rattle.std.specs.Io.KnownBytes.{IsAtEnd, prepend_known}
+use Rattle.std.proofs.Common.{◌≡◌, ℕ, ◌+◌, ◌-◌, ◌<◌, ◌≤◌, Bool, true, false, List, Option, Some, Result, Ok, Err, IfSome, IfOk, length, take, drop, ap, sym, ◌∙◌, subst, arith}
+use Rattle.std.specs.Io.KnownBytes.{IsAtEnd}
 use Rattle.std.proofs.lemmas.List.{length-take-le}
 use Rattle.mbox_cutter.specs.declared.device.Source.{Ghosts}
 use Rattle.mbox_cutter.specs.declared.event.CutFault.{CutFault}
-use Rattle.mbox_cutter.specs.declared.event.CutFault.TheVariants.{Device, NotAnMbox, ArchiveTooLong, Failed}
+use Rattle.mbox_cutter.specs.declared.event.CutFault.TheVariants.{Device, NotAnMbox, ArchiveTooLong}
 use Rattle.mbox_cutter.specs.declared.scan.Phase.{Phase}
 use Rattle.mbox_cutter.specs.declared.scan.Phase.TheVariants.{Between, Inside, Ended}
 use Rattle.mbox_cutter.specs.declared.scan.Scan.{Scan}
@@ -13,13 +12,13 @@ use Rattle.mbox_cutter.specs.declared.scan.Step.{Step}
 use Rattle.mbox_cutter.specs.declared.scan.Step.TheVariants as step
 use Rattle.mbox_cutter.specs.Lines.{first_length, is_empty, IsLine}
 use Rattle.mbox_cutter.specs.Separators.{is_separator}
-use Rattle.mbox_cutter.specs.Events.{ArchiveEvent, Start, Line, End, Done, Coming}
-use Rattle.mbox_cutter.specs.Coming.{Answers, Refuses, Takes, TakesKnown, is_device, is_device_fault}
-use Rattle.mbox_cutter.specs.Places.{CutterPlace, Moves, Nears, ReadsAll, HasLine, open_events}
+use Rattle.mbox_cutter.specs.Events.{ArchiveEvent, Line, Coming}
+use Rattle.mbox_cutter.specs.Coming.{Answers, Refuses, Takes, is_device}
+use Rattle.mbox_cutter.specs.Places.{CutterPlace, Moves, Nears, ReadsAll, HasLine}
 use Rattle.mbox_cutter.specs.Progress.{Progress, Advances}
 use Rattle.mbox_cutter.specs.Inside.Ahead.{known, ReadsOn}
-use Rattle.mbox_cutter.specs.Inside.Resume.{coming_at, resume}
-use Rattle.mbox_cutter.specs.Inside.Scan.{closes_at, coming, place_of, told_at, told_result, IsPlace, IsWithin, IsScan, IsFresh, FailsFirst, FindsLine, Passes, Steps}
+use Rattle.mbox_cutter.specs.Inside.Resume.{resume}
+use Rattle.mbox_cutter.specs.Inside.Scan.{closes_at, coming, place_of, told_at, IsPlace, IsWithin, IsScan, IsFresh, FailsFirst, FindsLine, Passes, Steps}
 use Rattle.mbox_cutter.proofs.KnownSteps.{each_some, at_same, both, IsFirst, known-coming, known-step, known-fault}
 use Rattle.mbox_cutter.proofs.Sources.{Serves, Serves-none, Serves-join, served}
 use Rattle.mbox_cutter.proofs.Steps.{step-done, step-start, step-empty, step-refused, step-long, step-end, step-line, step-open, step-closed, step-long_inside, ended-stays}
@@ -87,33 +86,14 @@ module _ {S : Type 0} (g : Ghosts S) (old mid : Scan S) (n : ℕ) (line : List �
   -- what closes says, of the bytes at the call
   pub closes-known : (is wanted : Bool) → IfSome (known g.rest old.window) (λ b. known g.rest mid.window ≡ Some b) → IfSome (known g.rest mid.window) (λ b. is ≡ closes_at n b) →
       is ≡ wanted → IfSome (known g.rest old.window) (λ b. wanted ≡ closes_at n b)
-  closes-known is wanted same h e = subst (λ (w : Bool). IfSome (known g.rest old.window) (λ b. w ≡ closes_at n b)) e
-      (at_same (known g.rest old.window) (known g.rest mid.window) (λ b. is ≡ closes_at n b) same h)
+  closes-known is wanted same h e = grind (arith, at_same)
 
   pub taken : (new : Scan S) (phase : Phase) → Found g old mid n line → Passes n phase mid new → Taken g old new n phase line
-  taken new phase h p =
-      let is : known g.rest new.window ≡ prepend_known (drop n mid.window.unread) (g.rest mid.window.source.now) =
-      ap (λ (u : List ℕ). prepend_known u (g.rest new.window.source.now)) p.taken.unread
-      ∙ ap (λ (r : MutBor S). prepend_known (drop n mid.window.unread) (g.rest r.now)) p.taken.source in
-      record {
-        some = h.some;
-        place = p.place ∙ ap (further phase n) h.place;
-        reads = subst (λ (r : MutBor S). Serves g false old.window.source r) (sym p.taken.source) (served g false old.window mid.window h.reads);
-        moved = at_same (known g.rest old.window) (known g.rest mid.window) (λ b. known g.rest new.window ≡ Some (drop n b)) h.reads.bytes
-            (subst (λ (o : Option (List ℕ)). IfSome (known g.rest mid.window) (λ b. o ≡ Some (drop n b))) (sym is) (known_taken n mid.window.unread (g.rest mid.window.source.now) h.within));
-        first = h.first;
-        fits = h.fits;
-        is = p.taken.line ∙ h.is;
-        is_line = h.is_line;
-        size = ap length (sym h.is) ∙ length-take-le n mid.window.unread h.within;
-      }
+  taken new phase h p = grind (arith, served, at_same, known_taken, length-take-le)
 
 -- less is left
 pub taken-nearer : {S : Type 0} (g : Ghosts S) (old new : Scan S) (n : ℕ) (phase : Phase) (line : List ℕ) → Taken g old new n phase line → new.most - new.offset < old.most - old.offset
-taken-nearer g old new n phase line t =
-    let at : new.offset ≡ old.offset + n = ap (λ (p : CutterPlace). p.offset) t.place in
-    let same : new.most ≡ old.most = ap (λ (p : CutterPlace). p.most) t.place in
-    omega (arith, t.some, t.fits)
+taken-nearer g old new n phase line t = grind arith
 
 itself : {A : Type 0} (o : Option A) → IfSome o (λ x. o ≡ Some x)
 itself o = each_some o (λ x. o ≡ Some x) (λ x e. e)
@@ -127,35 +107,18 @@ told-steps : {S : Type 0} (g : Ghosts S) (old new : Scan S) (was : Phase) (p : C
     IfSome (known g.rest old.window) P → IfSome (known g.rest old.window) (λ b. known g.rest new.window ≡ Some (left b)) →
     ((b : List ℕ) → P b → Takes (told_at s line) (resume was old.offset old.most b) (resume p.phase p.offset p.most (left b))) →
     Moves (told_at s line) (place_of old) p → HasLine (told_at s line) → Steps g old (Ok s) new
-told-steps g old new was p s line P left reads at is before most place end h leaves takes moves lends = record {
-  source = reads.source;
-  count = reads.count;
-  stays = reads.stays;
-  scan = record { place = subst IsPlace (sym at) place; end = subst (λ (q : CutterPlace). q.phase ≡ Ended → IsAtEnd (g.rest new.window.source.now)) (sym at) end };
-  most = ap (λ (q : CutterPlace). q.most) at ∙ most;
-  answers = subst (λ (l : List ℕ). TakesKnown (told_at s l) (coming g.rest old) (coming g.rest new)) (sym is)
-      (subst (λ (q : CutterPlace). TakesKnown (told_at s line) (coming g.rest old) (coming_at q (known g.rest new.window))) (sym at)
-      (known-step (known g.rest old.window) (known g.rest new.window) (place_of old) p was (told_at s line) P left before h leaves takes));
-  moves = subst (λ (l : List ℕ). Moves (told_at s l) (place_of old) (place_of new)) (sym is) (subst (λ (q : CutterPlace). Moves (told_at s line) (place_of old) q) (sym at) moves);
-  line = subst (λ (l : List ℕ). HasLine (told_at s l)) (sym is) lends;
-  fresh = tt;
-}
+told-steps g old new was p s line P left reads at is before most place end h leaves takes moves lends = grind (arith, known-step)
 
 -- steps that take a line
 module _ {S : Type 0} (g : Ghosts S) (old new : Scan S) (n : ℕ) (line : List ℕ) where
   taken-steps : (was phase : Phase) (s : Step) (P : List ℕ → Type 0) → old.phase ≡ was → Taken g old new n phase line → IsWithin phase (old.offset + n) → (phase ≡ Ended → ⊥) →
       IfSome (known g.rest old.window) P → ((b : List ℕ) → P b → Takes (told_at s line) (resume was old.offset old.most b) (resume phase (old.offset + n) old.most (drop n b))) →
       Moves (told_at s line) (place_of old) (further phase n (place_of old)) → HasLine (told_at s line) → Steps g old (Ok s) new
-  taken-steps was phase s P before t within not_ended h takes moves lends =
-      told-steps g old new was (further phase n (place_of old)) s line P (drop n) t.reads t.place t.is before refl (record { most = t.fits; phase = within })
-      (λ e. absurd (not_ended e)) h t.moved takes moves lends
+  taken-steps was phase s P before t within not_ended h takes moves lends = grind (arith, told-steps)
 
   -- a message starts
   pub start-steps : (at : ℕ) → old.phase ≡ Between → at ≡ old.offset → is_separator line ≡ true → Taken g old new n (Inside at 0) line → Steps g old (Ok (step.Start at)) new
-  start-steps at between is starts t = subst (λ (a : ℕ). Taken g old new n (Inside a 0) line → Steps g old (Ok (step.Start a)) new) (sym is) (λ t.
-      taken-steps Between (Inside old.offset 0) (step.Start old.offset) (IsFirst n line) between t (omega (arith, t.some)) (λ e. cc) t.first
-      (λ b f. rw f.1 (step-start old.offset old.most n b f.0 t.some (sym (ap is_separator f.1) ∙ starts)))
-      (record { was = between; now = refl; later = omega arith; offset = ap (λ (k : ℕ). old.offset + k) (sym t.size) }) t.is_line) t
+  start-steps at between is starts t = grind (arith, taken-steps, step-start)
 
   module _ (start size : ℕ) (inside : old.phase ≡ Inside start size) (was : IsScan g.rest old) where
     begun : start + size < old.offset
@@ -165,27 +128,18 @@ module _ {S : Type 0} (g : Ghosts S) (old new : Scan S) (n : ℕ) (line : List �
     text-steps : (P : List ℕ → Type 0) → Taken g old new n (Inside start (size + n)) line → IfSome (known g.rest old.window) P →
         ((b : List ℕ) → P b → Takes (Line line) (resume (Inside start size) old.offset old.most b) (resume (Inside start (size + n)) (old.offset + n) old.most (drop n b))) →
         Steps g old (Ok step.Line) new
-    text-steps P t h takes = taken-steps (Inside start size) (Inside start (size + n)) step.Line P inside t (omega (arith, begun)) (λ e. cc) h takes
-        (record { start = start; size = size; was = inside; now = ap (λ (k : ℕ). Inside start (size + k)) (sym t.size); offset = ap (λ (k : ℕ). old.offset + k) (sym t.size) }) t.is_line
+    text-steps P t h takes = grind (arith, taken-steps, begun)
 
     pub line-steps : is_empty line ≡ false → Taken g old new n (Inside start (size + n)) line → Steps g old (Ok step.Line) new
     line-steps full t = text-steps (IsFirst n line) t t.first (λ b f. rw f.1 (step-line old.offset old.most n b f.0 t.some start size (sym (ap is_empty f.1) ∙ full)))
 
     -- an empty line that doesn't close it
     pub open-steps : is_empty line ≡ true → IfSome (known g.rest old.window) (λ b. false ≡ closes_at n b) → Taken g old new n (Inside start (size + n)) line → Steps g old (Ok step.Line) new
-    open-steps empty opens t =
-        text-steps (λ b. IsFirst n line b × (false ≡ closes_at n b)) t (both (known g.rest old.window) (IsFirst n line) (λ b. false ≡ closes_at n b) t.first opens)
-        (λ b f. rw f.0.1 (step-open old.offset old.most n b f.0.0 t.some start size (sym (ap is_empty f.0.1) ∙ empty) (sym f.1)))
+    open-steps empty opens t = grind (arith, text-steps, both, step-open)
 
     -- the one that closes it
     pub closed-steps : is_empty line ≡ true → IfSome (known g.rest old.window) (λ b. true ≡ closes_at n b) → Taken g old new n Between line → Steps g old (Ok (step.End (new.offset - start) size)) new
-    closed-steps empty closes t =
-        let h : start + size < old.offset = begun in
-        subst (λ (k : ℕ). Steps g old (Ok (step.End (k - start) size)) new) (sym (ap (λ (p : CutterPlace). p.offset) t.place))
-        (taken-steps (Inside start size) Between (step.End ((old.offset + n) - start) size) (λ b. IsFirst n line b × (true ≡ closes_at n b)) inside t tt (λ e. cc)
-        (both (known g.rest old.window) (IsFirst n line) (λ b. true ≡ closes_at n b) t.first closes)
-        (λ b f. step-closed old.offset old.most n b f.0.0 t.some start size (sym (ap is_empty f.0.1) ∙ empty) (sym f.1))
-        (record { start = start; was = inside; now = refl; smaller = omega arith; later = omega arith; offset = omega arith }) tt)
+    closed-steps empty closes t = grind (arith, begun, taken-steps, both, step-closed)
 
 -- steps at the end of the archive
 module _ {S : Type 0} (g : Ghosts S) (old mid : Scan S) (n : ℕ) (found_none : FindsLine g old (Ok n) mid) (none : n ≡ 0) (was : IsScan g.rest old) where
@@ -193,61 +147,36 @@ module _ {S : Type 0} (g : Ghosts S) (old mid : Scan S) (n : ℕ) (found_none : 
       ((b : List ℕ) → 0 ≡ first_length b → Takes (told_at s mid.window.line) (resume before old.offset old.most b) (resume phase old.offset old.most b)) →
       Moves (told_at s mid.window.line) (place_of old) (record { phase = phase; offset = old.offset; most = old.most }) → HasLine (told_at s mid.window.line) →
       Steps g old (Ok s) (record mid { phase = phase })
-  none-steps before phase s is within takes moves lends =
-      told-steps g old (record mid { phase = phase }) before (record { phase = phase; offset = old.offset; most = old.most }) s mid.window.line (λ b. n ≡ first_length b) (λ b. b)
-      (served g false old.window mid.window found_none.reads) (ap (λ (p : CutterPlace). record { phase = phase; offset = p.offset; most = p.most }) found_none.place) refl is refl
-      (record { most = was.place.most; phase = within }) (λ e. found_none.first.end none) found_none.first.first found_none.reads.bytes (λ b f. takes b (sym none ∙ f)) moves lends
+  none-steps before phase s is within takes moves lends = grind (arith, told-steps, served)
 
   same_offset : mid.offset ≡ old.offset
   same_offset = ap (λ (p : CutterPlace). p.offset) found_none.place
 
   pub done-steps : old.phase ≡ Between → Steps g old (Ok (step.Done mid.offset)) (record mid { phase = Ended })
-  done-steps between = subst (λ (k : ℕ). Steps g old (Ok (step.Done k)) (record mid { phase = Ended })) (sym same_offset)
-      (none-steps Between Ended (step.Done old.offset) between tt (λ b f. step-done old.offset old.most b f was.place.most) (record { was = inl between; now = refl; later = omega arith; offset = refl }) tt)
+  done-steps between = grind (arith, same_offset, none-steps, step-done)
 
   pub end-steps : (start size : ℕ) → old.phase ≡ Inside start size → Steps g old (Ok (step.End (mid.offset - start) size)) (record mid { phase = Between })
-  end-steps start size inside =
-      let begun : start + size < old.offset = subst (λ (p : Phase). IsWithin p old.offset) inside was.place.phase in
-      subst (λ (k : ℕ). Steps g old (Ok (step.End (k - start) size)) (record mid { phase = Between })) (sym same_offset)
-      (none-steps (Inside start size) Between (step.End (old.offset - start) size) inside tt (λ b f. step-end old.offset old.most start size b f)
-      (record { start = start; was = inside; now = refl; smaller = omega arith; later = omega arith; offset = omega arith }) tt)
+  end-steps start size inside = grind (arith, same_offset, none-steps, step-end)
 
 -- the end is told again
 pub ended-steps : {S : Type 0} (g : Ghosts S) (old : Scan S) → old.phase ≡ Ended → IsScan g.rest old → Steps g old (Ok (step.Done old.offset)) old
-ended-steps g old ended was =
-    told-steps g old old Ended (place_of old) (step.Done old.offset) old.window.line (λ b. known g.rest old.window ≡ Some b) (λ b. b) (Serves-none g old.window.source) refl refl ended refl
-    was.place was.end (itself (known g.rest old.window)) (itself (known g.rest old.window))
-    (λ b f. rw ended (ended-stays old.offset old.most b)) (record { was = inr ended; now = ended; later = omega arith; offset = refl }) tt
+ended-steps g old ended was = grind (arith, told-steps, Serves-none, itself, ended-stays)
 
 -- ---- steps that fail
 
 is_fresh : (at most : ℕ) (bytes : Option (List ℕ)) (fault : CutFault) → FailsFirst at most bytes fault → IsFresh fault
-is_fresh at most bytes Device f = tt
-is_fresh at most bytes NotAnMbox f = tt
-is_fresh at most bytes ArchiveTooLong f = tt
-is_fresh at most bytes Failed f = f
+is_fresh at most bytes fault h = grind arith
 
 module _ {S : Type 0} (g : Ghosts S) (old mid : Scan S) (fault : CutFault) (was : IsScan g.rest old) where
   -- what fails leaves the scan where it was
   fails-steps : (old.phase ≡ Ended → ⊥) → Serves g (is_device fault) old.window.source mid.window.source → place_of mid ≡ place_of old →
       IfSome (coming g.rest old) (Refuses fault) → IsFresh fault → Steps g old (Err fault) mid
-  fails-steps not_ended reads same refuses fresh = record {
-    source = reads.source;
-    count = reads.count;
-    stays = reads.stays;
-    scan = record { place = subst IsPlace (sym same) was.place; end = λ e. absurd (not_ended (sym (ap (λ (p : CutterPlace). p.phase) same) ∙ e)) };
-    most = ap (λ (p : CutterPlace). p.most) same;
-    answers = refuses;
-    moves = tt;
-    line = tt;
-    fresh = fresh;
-  }
+  fails-steps not_ended reads same refuses fresh = grind arith
 
   -- no line was found
   unfound-steps : (before : Phase) → old.phase ≡ before → (old.phase ≡ Ended → ⊥) → ((b : List ℕ) → old.most < old.offset + first_length b → Refuses ArchiveTooLong (resume before old.offset old.most b)) →
       FindsLine g old (Err fault) mid → Steps g old (Err fault) mid
-  unfound-steps before is not_ended long f = fails-steps not_ended (served g (is_device fault) old.window mid.window f.reads) f.place
-      (known-fault (known g.rest old.window) (place_of old) before fault is f.fails long) (is_fresh old.offset old.most (known g.rest old.window) fault f.fails)
+  unfound-steps before is not_ended long f = grind (arith, fails-steps, served, known-fault, is_fresh)
 
   pub fault-steps : old.phase ≡ Between → FindsLine g old (Err fault) mid → Steps g old (Err fault) mid
   fault-steps between f = unfound-steps Between between (λ e. cc) (λ b. step-long old.offset old.most b was.place.most) f
@@ -258,17 +187,12 @@ module _ {S : Type 0} (g : Ghosts S) (old mid : Scan S) (fault : CutFault) (was 
 -- what closes a message can't be read
 pub unread-steps : {S : Type 0} (g : Ghosts S) (old mid : Scan S) (fault : CutFault) → IsScan g.rest old → (n start size : ℕ) (line : List ℕ) (far : Scan S) →
     old.phase ≡ Inside start size → Found g old mid n line → place_of far ≡ place_of mid → ReadsOn g (is_device fault) mid.window far.window → fault ≡ Device → Steps g old (Err fault) far
-unread-steps g old mid fault was n start size line far inside h same r device =
-    fails-steps g old far fault was (λ e. cc) (served g (is_device fault) old.window far.window (ReadsOn-join g (is_device fault) old.window mid.window far.window h.reads r)) (same ∙ h.place)
-    (subst (λ (f : CutFault). IfSome (coming g.rest old) (Refuses f)) (sym device) (each_some (coming g.rest old) (Refuses Device) (λ x e. tt))) (subst IsFresh (sym device) tt)
+unread-steps g old mid fault was n start size line far inside h same r device = grind (arith, fails-steps, served, ReadsOn-join, each_some)
 
 -- the first line that isn't empty starts no message
 pub refused-steps : {S : Type 0} (g : Ghosts S) (old mid : Scan S) (n : ℕ) (line : List ℕ) → IsScan g.rest old → old.phase ≡ Between → Found g old mid n line →
     is_separator line ≡ false → is_empty line ≡ false → Steps g old (Err NotAnMbox) mid
-refused-steps g old mid n line was between h other full =
-    fails-steps g old mid NotAnMbox was (λ e. cc) (served g false old.window mid.window h.reads) h.place
-    (known-coming (known g.rest old.window) (place_of old) Between (IsFirst n line) (Refuses NotAnMbox) between h.first
-    (λ b f. step-refused old.offset old.most n b f.0 h.some (sym (ap is_separator f.1) ∙ other) (sym (ap is_empty f.1) ∙ full) h.fits)) tt
+refused-steps g old mid n line was between h other full = grind (arith, fails-steps, served, known-coming, step-refused)
 
 -- ---- empty lines before a step
 
@@ -283,77 +207,32 @@ pub record Skipped {S : Type 0} (g : Ghosts S) (old now : Scan S) : Type 0 where
   pub still : IfSome (coming g.rest old) (λ k. coming g.rest now ≡ Some k)
 
 pub skipped-none : {S : Type 0} (g : Ghosts S) (old : Scan S) → old.phase ≡ Between → IsScan g.rest old → Skipped g old old
-skipped-none g old between was =
-    record { reads = Serves-none g old.window.source; was = between; phase = between; scan = was; later = omega arith; most = refl; still = itself (coming g.rest old) }
+skipped-none g old between was = grind (arith, Serves-none, itself)
 
 pub skipped-one : {S : Type 0} (g : Ghosts S) (old now new : Scan S) (n : ℕ) (line : List ℕ) → Skipped g old now → Taken g now new n Between line →
     is_separator line ≡ false → is_empty line ≡ true → Skipped g old new
-skipped-one g old now new n line k t other empty =
-    let further_on : new.offset ≡ now.offset + n = ap (λ (p : CutterPlace). p.offset) t.place in
-    record {
-      reads = Serves-join g false old.window.source now.window.source new.window.source k.reads t.reads;
-      was = k.was;
-      phase = ap (λ (p : CutterPlace). p.phase) t.place;
-      scan = record { place = subst IsPlace (sym t.place) (record { most = t.fits; phase = tt }); end = λ e. let p : new.phase ≡ Between = ap (λ (p : CutterPlace). p.phase) t.place in cc };
-      later = omega (arith, k.later);
-      most = ap (λ (p : CutterPlace). p.most) t.place ∙ k.most;
-      still = at_same (coming g.rest old) (coming g.rest now) (λ x. coming g.rest new ≡ Some x) k.still
-          (subst (λ (p : CutterPlace). IfSome (coming g.rest now) (λ x. coming_at p (known g.rest new.window) ≡ Some x)) (sym t.place)
-          (known-coming (known g.rest now.window) (place_of now) Between (λ b. IsFirst n line b × (known g.rest new.window ≡ Some (drop n b)))
-          (λ x. coming_at (further Between n (place_of now)) (known g.rest new.window) ≡ Some x) k.phase
-          (both (known g.rest now.window) (IsFirst n line) (λ b. known g.rest new.window ≡ Some (drop n b)) t.first t.moved)
-          (λ b f. ap (coming_at (further Between n (place_of now))) f.1
-          ∙ ap Some (sym (step-empty now.offset now.most n b f.0.0 t.some (sym (ap is_separator f.0.1) ∙ other) (sym (ap is_empty f.0.1) ∙ empty))))));
-    }
+skipped-one g old now new n line k t other empty = grind (arith, Serves-join, at_same, known-coming, both, step-empty)
 
 answers-behind : (before now after : Option Coming) (r : Result ArchiveEvent CutFault) → IfSome before (λ k. now ≡ Some k) → Answers now r after → Answers before r after
-answers-behind None now after (Ok e) same h = tt
-answers-behind None now after (Err f) same h = tt
-answers-behind (Some k) now after r same h = subst (λ (o : Option Coming). Answers o r after) same h
+answers-behind before now after r h h2 = grind arith
 
 moves-behind : (e : ArchiveEvent) (old now new : CutterPlace) → old.phase ≡ Between → now.phase ≡ Between → old.offset ≤ now.offset → Moves e now new → Moves e old new
-moves-behind (Start at line) old now new was is later m = record { was = was; now = m.now; later = omega (arith, m.later); offset = m.offset }
-moves-behind (Line line) old now new was is later m = let no : now.phase ≡ Inside m.start m.size = m.was in absurd (cc)
-moves-behind (End span size) old now new was is later m = let no : now.phase ≡ Inside m.start size = m.was in absurd (cc)
-moves-behind (Done all) old now new was is later m = record { was = inl was; now = m.now; later = omega (arith, m.later); offset = m.offset }
+moves-behind e old now new h h2 h3 h4 = grind arith
 
 moves-skipped : (result : Result Step CutFault) (line : List ℕ) (old now new : CutterPlace) → old.phase ≡ Between → now.phase ≡ Between → old.offset ≤ now.offset →
     IfOk result (λ s. Moves (told_at s line) now new) → IfOk result (λ s. Moves (told_at s line) old new)
-moves-skipped (Ok s) line old now new was is later m = moves-behind (told_at s line) old now new was is later m
-moves-skipped (Err f) line old now new was is later m = tt
+moves-skipped result line old now new h h2 h3 h4 = grind (arith, moves-behind)
 
 pub skipped-steps : {S : Type 0} (g : Ghosts S) (old now new : Scan S) (result : Result Step CutFault) → Skipped g old now → Steps g now result new → Steps g old result new
-skipped-steps g old now new result k s =
-    let step_reads : Serves g (is_device_fault result) now.window.source new.window.source = record { source = s.source; count = s.count; stays = s.stays } in
-    let reads : Serves g (is_device_fault result) old.window.source new.window.source = Serves-join g (is_device_fault result) old.window.source now.window.source new.window.source k.reads step_reads in
-    record {
-      source = reads.source;
-      count = reads.count;
-      stays = reads.stays;
-      scan = s.scan;
-      most = s.most ∙ k.most;
-      answers = answers-behind (coming g.rest old) (coming g.rest now) (coming g.rest new) (told_result new.window.line result) k.still s.answers;
-      moves = moves-skipped result new.window.line (place_of old) (place_of now) (place_of new) k.was k.phase k.later s.moves;
-      line = s.line;
-      fresh = s.fresh;
-    }
+skipped-steps g old now new result k s = grind (arith, Serves-join, answers-behind, moves-skipped)
 
 -- ---- what follows of a step, for callers
 
 pub nears : (e : ArchiveEvent) (old new : CutterPlace) → Moves e old new → HasLine e → new.offset ≤ new.most → new.most ≡ old.most → Nears e old new
-nears (Start at line) old new m h within most =
-    let o : open_events old.phase ≡ 1 = ap open_events m.was in let n : open_events new.phase ≡ 2 = ap open_events m.now in omega (arith, h.some, m.later, m.offset)
-nears (Line line) old new m h within most =
-    let o : open_events old.phase ≡ 2 = ap open_events m.was in let n : open_events new.phase ≡ 2 = ap open_events m.now in omega (arith, h.some, m.offset)
-nears (End span size) old new m h within most =
-    let o : open_events old.phase ≡ 2 = ap open_events m.was in let n : open_events new.phase ≡ 1 = ap open_events m.now in omega (arith, m.later)
-nears (Done all) old new m h within most = let n : open_events new.phase ≡ 0 = ap open_events m.now in omega (arith, m.later)
+nears e old new h h2 h3 h4 = grind arith
 
 pub reads_all : (e : ArchiveEvent) (old new : CutterPlace) (bytes : Option (List ℕ)) → Moves e old new → (new.phase ≡ Ended → IsAtEnd bytes) → ReadsAll e bytes
-reads_all (Start at line) old new bytes m end = tt
-reads_all (Line line) old new bytes m end = tt
-reads_all (End span size) old new bytes m end = tt
-reads_all (Done all) old new bytes m end = end m.now
+reads_all e old new bytes h h2 = grind arith
 
 -- a cutter over this scan, as its callers see it
 abbrev pub shown_as : {S : Type 0} → Ghosts S → Scan S → Progress S
@@ -361,15 +240,4 @@ shown_as g s = record { coming = coming g.rest s; place = place_of s; line = s.w
 
 -- a step that tells something advances the cutter
 pub steps-advance : {S : Type 0} (g : Ghosts S) (old new : Scan S) (s : Step) → Steps g old (Ok s) new → Advances g (shown_as g old) (Ok (told_at s new.window.line)) (shown_as g new)
-steps-advance g old new s h = record {
-  source = h.source;
-  count = h.count;
-  stays = h.stays;
-  answers = h.answers;
-  moves = h.moves;
-  nears = nears (told_at s new.window.line) (place_of old) (place_of new) h.moves h.line h.scan.place.most h.most;
-  fails = tt;
-  most = h.most;
-  within = h.scan.place.most;
-  ends = reads_all (told_at s new.window.line) (place_of old) (place_of new) (g.rest new.window.source.now) h.moves h.scan.end;
-}
+steps-advance g old new s h = grind (arith, nears, reads_all)

@@ -1,5 +1,5 @@
 -- Reads of a source, one after another, leave what each leaves.
-use Rattle.std.proofs.Common.{◌≡◌, ℕ, Bool, false, refl, ◌∙◌, subst}
+use Rattle.std.proofs.Common.{◌≡◌, Bool, false, refl, ◌∙◌, arith}
 use Rattle.std.specs.Borrow.{MutBor}
 use Rattle.contract_words.specs.Devices.{Counted}
 use Rattle.mbox_cutter.specs.declared.device.Source.{Ghosts}
@@ -22,11 +22,7 @@ pub Serves-none : {S : Type 0} (g : Ghosts S) (s : MutBor S) → Serves g false 
 Serves-none g s = record { source = refl; count = refl; stays = Stays-self g s.now }
 
 pub Serves-join : {S : Type 0} (g : Ghosts S) (failed : Bool) (a b c : MutBor S) → Serves g false a b → Serves g failed b c → Serves g failed a c
-Serves-join g failed a b c h k = record {
-  source = k.source ∙ h.source;
-  count = subst (λ (n : ℕ). Counted failed n (g.failures c.now)) h.count k.count;
-  stays = Stays-join g a.now b.now c.now h.stays k.stays;
-}
+Serves-join g failed a b c h k = grind (arith, Stays-join)
 
 pub served : {S : Type 0} (g : Ghosts S) (failed : Bool) (old new : Ahead S) → ReadsOn g failed old new → Serves g failed old.source new.source
 served g failed old new r = record { source = r.source; count = r.count; stays = r.stays }

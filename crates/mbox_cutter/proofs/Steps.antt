@@ -36,14 +36,10 @@ first_full_end-le : (l : List ℕ) (ls : List (List ℕ)) → length l ≤ first
 first_full_end-le l ls = elim (is_empty l) as (λ v. length l ≤ cond v (length l + first_full_end ls) (length l)) [ true ↦ omega arith | false ↦ omega arith ]
 
 and-no : (a : Bool) → (a && false) ≡ false
-and-no true = refl
-and-no false = refl
+and-no a = grind arith
 
 refusal-long : (at most rest : ℕ) (l : List ℕ) (ls : List (List ℕ)) → most < at + length l → length l ≤ rest → refusal_between at most (l ∷ ls) rest ≡ Some ArchiveTooLong
-refusal-long at most rest l ls h k =
-    let end : length l ≤ first_full_end (l ∷ ls) = first_full_end-le l ls in
-    let f : nat_le (at + first_full_end (l ∷ ls)) most ≡ false = grind (arith, nat_tests) in
-    rw f (rw and-no (too_long-beyond most (at + rest) (omega arith)))
+refusal-long at most rest l ls h k = grind (arith, first_full_end-le, nat_tests, and-no, too_long-beyond)
 
 same_coming : {a b : List ArchiveEvent} {r q : Option CutFault} → a ≡ b → r ≡ q → ◌≡◌ {A = Coming} (record { events = a; refusal = r }) (record { events = b; refusal = q })
 same_coming e f = cc
@@ -82,10 +78,7 @@ module _ (b : List ℕ) (n : ℕ) (e : n ≡ first_length b) where
   first-taken = let le : first_length b ≤ length b = first_length-le b in length-take-le n b (omega arith)
 
   first-rest : length b ≡ n + length (drop n b)
-  first-rest =
-      let le : first_length b ≤ length b = first_length-le b in
-      let d : length (drop n b) ≡ length b - n = length-drop n b in
-      omega arith
+  first-rest = grind (arith, first_length-le, length-drop)
 
   first-all : (at : ℕ) → at + length b ≡ (at + n) + length (drop n b)
   first-all at = let rest : length b ≡ n + length (drop n b) = first-rest in omega arith
@@ -187,14 +180,12 @@ module _ (at most n : ℕ) (b : List ℕ) (e : n ≡ first_length b) (h : 0 < n)
         step-kept (first_length (drop n b)) f refl k.0 k.1
       where
         split_closes : (m : ℕ) (t : Bool) → (nat_eq m 0 || t) ≡ false → (0 < m) × (t ≡ false)
-        split_closes zero t c = cc
-        split_closes (suc m) t c = (omega arith, let z : nat_eq (suc m) 0 ≡ false = grind (arith, nat_tests) in rw z at c)
+        split_closes m t h = grind (arith, nat_tests)
 
 -- ---- the beginning
 
 accepted : (t : Bool) (all : ℕ) (ms : List Message) → cond t [] (told all ms) ≡ option_map_or (told all) (cond t None (Some ms)) []
-accepted true all ms = refl
-accepted false all ms = refl
+accepted t all ms = grind arith
 
 events-beginning : (b : List ℕ) → told_between (0 + length b) 0 (lines b) ≡ events b
 unfolding events messages

@@ -1,6 +1,6 @@
 -- The tokens of a text, one after another.
-use Rattle.std.proofs.Common.{◌≡◌, ℕ, ◌+◌, ◌<◌, Bool, true, false, ◌&&◌, ◌||◌, ◌==◌, List, [], ◌∷◌, Some, None, length, take, drop, get_or, refl, ap, sym, ◌∙◌, subst, arith}
-use Rattle.std.specs.List.{list_any, position_or_len}
+use Rattle.std.proofs.Common.{◌≡◌, ℕ, ◌+◌, Bool, true, false, ◌&&◌, ◌||◌, ◌==◌, List, [], ◌∷◌, Some, None, take, drop, get_or, refl, ap, sym, ◌∙◌, subst, arith}
+use Rattle.std.specs.List.{list_any}
 use Rattle.std.proofs.lemmas.List.{get_or_default, drop-drop}
 use Rattle.std.proofs.lemmas.List.Sums.{position_or_len_is}
 use Rattle.std.proofs.lemmas.List.Splits.{slice_split_first, slice_split_none}
@@ -9,21 +9,13 @@ use Rattle.mbox_cutter.specs.Separators.{tokens, has_time_then_year, is_time, is
 use Rattle.mbox_cutter.proofs.FirstLines.{not_true}
 
 pub tokens-at : (rest : List ℕ) (k : ℕ) → IsFirstByte (is_byte 32) rest (Some k) → tokens rest ≡ take k rest ∷ tokens (drop (k + 1) rest)
-tokens-at rest k f =
-    let e : position_or_len (λ (x : ℕ). x == 32) rest ≡ k = position_or_len_is (λ (x : ℕ). x == 32) rest k 0 (omega (arith, f.0.high)) (λ j l. not_true _ (f.0.before j (omega arith) l)) (λ _. f.1) in
-    let h : position_or_len (λ (x : ℕ). x == 32) rest < length rest = omega (arith, f.0.high) in
-    rw e at (slice_split_first (λ (x : ℕ). x == 32) rest 0 h)
+tokens-at rest k f = grind (arith, position_or_len_is, not_true, slice_split_first)
 
 pub tokens-none : (rest : List ℕ) → IsFirstByte (is_byte 32) rest None → tokens rest ≡ rest ∷ []
 tokens-none rest f = slice_split_none (λ (x : ℕ). x == 32) rest (λ k d l. not_true (get_or rest k d == 32) (λ e. f k (omega arith) l (subst (λ (x : ℕ). (x == 32) ≡ true) (get_or_default rest k d 0 l) e)))
 
 and-or : (b y t a r : Bool) → (b && y) ≡ false → ((b && (y || a)) || ((t && a) || r)) ≡ (((b || t) && a) || r)
-and-or true true t a r e = cc
-and-or true false t true true e = elim t as (λ v. (true || ((v && true) || true)) ≡ true) [ true ↦ refl | false ↦ refl ]
-and-or true false t true false e = refl
-and-or true false true false r e = refl
-and-or true false false false r e = refl
-and-or false y t a r e = refl
+and-or b y t a r h = grind arith
 
 found-year : (y a r : Bool) → y ≡ true → ((true && (y || a)) || r) ≡ true
 found-year y a r e = rw e
@@ -33,12 +25,7 @@ pub found : (ts : List (List ℕ)) (token : List ℕ) (rest : List (List ℕ)) (
 found ts token rest timed e t y = rw (e, t) (sym (found-year (is_year token) (list_any is_year rest) _ y))
 
 last-or : (b y t : Bool) → ((b && (y || false)) || ((t && false) || false)) ≡ (b && y)
-last-or true true true = refl
-last-or true true false = refl
-last-or true false true = refl
-last-or true false false = refl
-last-or false y true = refl
-last-or false y false = refl
+last-or b y t = grind arith
 
 pub last_token : (ts : List (List ℕ)) (token : List ℕ) (timed : Bool) → ts ≡ token ∷ [] → ((timed && list_any is_year ts) || has_time_then_year ts) ≡ (timed && is_year token)
 last_token ts token timed e = rw e (last-or timed (is_year token) (is_time token))

@@ -1,5 +1,5 @@
 -- What a window's steps do to the bytes to come.
-use Rattle.std.proofs.Common.{◌≡◌, ℕ, ◌+◌, ◌-◌, ◌<◌, ◌≤◌, Bool, true, false, Ok, Err, Result, List, ◌++◌, Option, Some, None, IfSome, IfOk, length, take, drop, append-nil, ap, sym, ◌∙◌, arith, append_assoc, subst}
+use Rattle.std.proofs.Common.{◌≡◌, ℕ, ◌+◌, ◌-◌, ◌<◌, ◌≤◌, Bool, true, false, Result, List, ◌++◌, Option, Some, None, IfSome, IfOk, length, take, drop, append-nil, ap, ◌∙◌, arith, append_assoc, subst}
 use Rattle.std.specs.Result.{IsErr, is_err}
 use Rattle.std.specs.Io.KnownBytes.{ReadConsumes, IsAtEnd, prepend_known}
 use Rattle.std.proofs.Math.Seq.{take-append-add}
@@ -20,40 +20,24 @@ take_behind front into post held n e h = rw (← e) (take-append-add front (into
 pub reads_behind : (held : ℕ) (old new : Option (List ℕ)) (result : Result ℕ DeviceFault) (before into : List ℕ) →
     held < length before → length into ≡ length before - held → IfOk result (λ n. n ≤ length into) → ReadConsumes old new result into →
     ReadsBehind held old new result before (put_mid held (length before - held) before into)
-reads_behind held old new (Ok n) before into room len bound h =
-    let front : length (take held before) ≡ held = length-take-le held before (omega arith) in
-    (take n into, omega arith, length-take-le n into bound, take_behind (take held before) into _ held n front bound, h.0, λ zero. h.1 zero (omega arith))
-reads_behind held old new (Err fault) before into room len bound h =
-    let front : length (take held before) ≡ held = length-take-le held before (omega arith) in
-    (h, take_front (take held before) _ held front)
+reads_behind held old new result before into h h2 h3 h4 = grind (arith, length-take-le, take_behind, take_front)
 
 -- the line's end is found in what was read
 pub at_some : (skip n : ℕ) (u : List ℕ) (old now : Option (List ℕ)) → skip ≤ length u → Some n ≡ line_end_of (drop skip u) →
     IfSome old (λ b. prepend_known u now ≡ Some b) → IfSome old (λ b. n ≡ first_length (drop skip b))
-at_some skip n u None now fits e h = tt
-at_some skip n u (Some b) None fits e h = cc
-at_some skip n u (Some b) (Some r) fits e h =
-    let is : u ++ r ≡ b = cc in
-    line_end-more (drop skip u) r n e ∙ ap first_length (sym (drop-append-le skip u r fits) ∙ ap (drop skip) is)
+at_some skip n u old now h h2 h3 = grind (arith, line_end-more, drop-append-le)
 
 -- nothing is to come, so that what was read is the line
 pub at_end : (skip : ℕ) (u : List ℕ) (old now : Option (List ℕ)) → None ≡ line_end_of (drop skip u) → IsAtEnd now →
     IfSome old (λ b. prepend_known u now ≡ Some b) → IfSome old (λ b. length (drop skip u) ≡ first_length (drop skip b))
-at_end skip u None now e over h = tt
-at_end skip u (Some b) None e over h = cc
-at_end skip u (Some b) (Some r) e over h =
-    let is : u ++ r ≡ b = cc in
-    let same : u ≡ b = sym (append-nil u) ∙ ap (λ (s : List ℕ). u ++ s) (sym over) ∙ is in
-    sym (line_end-whole (drop skip u) e) ∙ ap (λ (s : List ℕ). first_length (drop skip s)) same
+at_end skip u old now h h2 h3 = grind (arith, append-nil, line_end-whole)
 
 pub known_taken : (n : ℕ) (u : List ℕ) (r : Option (List ℕ)) → n ≤ length u →
     IfSome (prepend_known u r) (λ b. prepend_known (drop n u) r ≡ Some (drop n b))
-known_taken n u None h = tt
-known_taken n u (Some r) h = ap Some (sym (drop-append-le n u r h))
+known_taken n u r h = grind (arith, drop-append-le)
 
 pub line_taken : (n : ℕ) (u : List ℕ) (r : Option (List ℕ)) → n ≤ length u → IfSome (prepend_known u r) (λ b. take n u ≡ take n b)
-line_taken n u None h = tt
-line_taken n u (Some r) h = sym (take-append-le n u r h)
+line_taken n u r h = grind (arith, take-append-le)
 
 pub Extends-join : (a b c : List ℕ) → Extends a b → Extends b c → Extends a c
 Extends-join a b c h k = (h.0 ++ k.0, k.1 ∙ ap (λ (s : List ℕ). s ++ k.0) h.1 ∙ append_assoc a h.0 k.0)
@@ -65,12 +49,10 @@ pub take-Extends : (n : ℕ) (a b : List ℕ) → n ≤ length a → Extends a b
 take-Extends n a b fits h = ap (take n) h.1 ∙ take-append-le n a h.0 fits
 
 join_known : (a b c : Option (List ℕ)) → IfSome a (λ x. b ≡ Some x) → IfSome b (λ x. c ≡ Some x) → IfSome a (λ x. c ≡ Some x)
-join_known None b c h k = tt
-join_known (Some x) b c h k = (subst (λ (o : Option (List ℕ)). IfSome o (λ y. c ≡ Some y) → c ≡ Some x) (sym h) (λ k. k)) k
+join_known a b c h h2 = grind arith
 
 pub ReadsOn-failed : {S T E : Type 0} (g : Ghosts S) (r : Result T E) (old new : Ahead S) → IsErr r → ReadsOn g true old new → ReadsOn g (is_err r) old new
-ReadsOn-failed g (Ok x) old new h k = cc
-ReadsOn-failed g (Err e) old new h k = k
+ReadsOn-failed g r old new h h2 = grind arith
 
 -- one read after another
 pub ReadsOn-join : {S : Type 0} (g : Ghosts S) (failed : Bool) (a b c : Ahead S) → ReadsOn g false a b → ReadsOn g failed b c → ReadsOn g failed a c

@@ -19,9 +19,7 @@ returns-then-not-is_empty_line g c =
     (taken g.S.Source old _ c.in-Ok.n c.part-line.result.now _ _ (found g.S.Source old _ c.in-Ok.n c.part-line.result.now c.in-Ok.ensures some c.part-line.ensures.unread) c.pass.ensures)
 
 pub closes-requires-clause-near : goal.closes-requires-clause-near
-closes-requires-clause-near g c =
-    let empty : is_empty c.part-line.result.now ≡ true = cc in
-    omega (arith, empty-short c.part-line.result.now empty, c.part-line.ensures.length)
+closes-requires-clause-near g c = grind (arith, empty-short)
 
 pub returns-in-Ok-true : goal.returns-in-Ok-true
 returns-in-Ok-true g c =
@@ -44,9 +42,4 @@ returns-in-Ok-false g c =
     (taken g.S.Source old c.closes.new.self c.in-Ok.n line _ _ (found-on g.S.Source old _ c.in-Ok.n line c.closes.new.self (found g.S.Source old _ c.in-Ok.n line c.in-Ok.ensures some c.part-line.ensures.unread) c.in-Ok-false.ensures.place c.in-Ok-false.ensures.reads) c.pass-in-Ok-false.ensures)
 
 pub returns-in-Err-closes : goal.returns-in-Err-closes
-returns-in-Err-closes g c =
-    let some : 0 < c.in-Ok.n = omega arith in
-    let old = c.args.self.now in
-    let line = c.part-line.result.now in
-    unread-steps g.S.Source old _ c.in-Err-closes.fault c.requires.scan c.in-Ok.n c.args.start c.args.size line c.closes.new.self c.requires.phase
-    (found g.S.Source old _ c.in-Ok.n line c.in-Ok.ensures some c.part-line.ensures.unread) c.in-Err-closes.ensures.place c.in-Err-closes.ensures.reads c.in-Err-closes.ensures.err
+returns-in-Err-closes g c = grind (arith, unread-steps, found)

@@ -8,16 +8,10 @@ pub empties-init : goal.empties-init
 empties-init g c = skipped-none g.S.Source c.args.self.now c.requires.phase c.requires.scan
 
 pub returns-in-Err : goal.returns-in-Err
-returns-in-Err g c =
-    let now = c.empties.self in
-    let k = c.empties.invariant in
-    skipped-steps g.S.Source c.args.self.now now _ _ k (fault-steps g.S.Source now _ c.in-Err.fault k.scan k.phase c.in-Err.ensures)
+returns-in-Err g c = grind (arith, skipped-steps, fault-steps)
 
 pub returns-then-n-eq0 : goal.returns-then-n-eq0
-returns-then-n-eq0 g c =
-    let now = c.empties.self in
-    let k = c.empties.invariant in
-    skipped-steps g.S.Source c.args.self.now now _ _ k (done-steps g.S.Source now _ c.in-Ok.n c.in-Ok.ensures c.if-n-eq0.true k.scan k.phase)
+returns-then-n-eq0 g c = grind (arith, skipped-steps, done-steps)
 
 pub returns-then-is_separator : goal.returns-then-is_separator
 returns-then-is_separator g c =
@@ -53,8 +47,4 @@ empties-preserved g c =
     (taken g.S.Source now _ c.in-Ok.n line _ _ (found g.S.Source now _ c.in-Ok.n line c.in-Ok.ensures some c.part-line.ensures.unread) c.pass-in-empties.ensures) other empty
 
 pub empties-smaller : goal.empties-smaller
-empties-smaller g c =
-    let now = c.empties.self in
-    let line = c.part-line.result.now in
-    let some : 0 < c.in-Ok.n = omega arith in
-    taken-nearer g.S.Source now _ c.in-Ok.n _ line (taken g.S.Source now _ c.in-Ok.n line _ _ (found g.S.Source now _ c.in-Ok.n line c.in-Ok.ensures some c.part-line.ensures.unread) c.pass-in-empties.ensures)
+empties-smaller g c = grind (arith, taken-nearer, taken, found)
