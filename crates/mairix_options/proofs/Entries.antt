@@ -1,33 +1,24 @@
 -- What a line with an assignment says, by what a reader finds in it.
-use Rattle.std.proofs.Common.{◌≡◌, ℕ, ◌+◌, ◌≤◌, ◌==◌, Bool, true, false, not, nat_eq, ◌&&◌, ◌||◌, Option, List, [], length, Err, refl, sym, ap, ap₂, ◌∙◌, arith}
-use Rattle.std.specs.List.{list_all, before_first, after_first, position_or_len}
-use Rattle.std.specs.Str.{IsUtf8, is_utf8}
+use Rattle.std.proofs.Common.{◌≡◌, ℕ, ◌+◌, ◌≤◌, ◌==◌, Option, List, [], length, Err, refl, sym, ap, ◌∙◌, arith}
+use Rattle.std.specs.List.{before_first, after_first, position_or_len}
+use Rattle.std.specs.Str.{IsUtf8}
 use Rattle.std.proofs.lemmas.Bool.{or_right, false_from_ne_true}
 use Rattle.std.proofs.lemmas.List.{drop_all}
 use Rattle.std.proofs.lemmas.Str.{is_utf8-from_IsUtf8, IsUtf8-from_is_utf8}
 use Rattle.mairix_options.specs.Blanks.{trimmed}
-use Rattle.mairix_options.specs.Path.{is_path}
-use Rattle.mairix_options.specs.Rcfile.{entry, assigned, keyword_of, names_in, paths_in}
+use Rattle.mairix_options.specs.Rcfile.{entry, assigned}
 use Rattle.mairix_options.specs.declared.rcfile.RcFault.TheVariants.{BadLine}
 
 pub entry-not_utf8 : (base : Option (List ℕ)) (n : ℕ) (text : List ℕ) → ¬ (IsUtf8 text) → entry base n text ≡ Err (BadLine n)
-entry-not_utf8 base n text broken =
-    let e : is_utf8 text ≡ false = false_from_ne_true (is_utf8 text) (λ yes. broken (IsUtf8-from_is_utf8 text yes)) in
-    rw e
+entry-not_utf8 base n text broken = grind (arith, false_from_ne_true, IsUtf8-from_is_utf8)
 
 pub entry-assigned : (base : Option (List ℕ)) (n : ℕ) (text option value : List ℕ) → IsUtf8 text
     → option ≡ trimmed (before_first (λ b. b == 61) text) → value ≡ trimmed (after_first (λ b. b == 61) text)
     → entry base n text ≡ assigned base n option value
-entry-assigned base n text option value whole is_option is_value =
-    let e : is_utf8 text ≡ true = is_utf8-from_IsUtf8 text whole in
-    rw e (ap₂ (assigned base n) (sym is_option) (sym is_value))
+entry-assigned base n text option value whole is_option is_value = grind (arith, is_utf8-from_IsUtf8)
 
 assigned-nothing : (base : Option (List ℕ)) (n : ℕ) (option : List ℕ) → assigned base n option [] ≡ Err (BadLine n)
-assigned-nothing base n option =
-    let empty : Bool = nat_eq (length option) 0 in
-    let bad : Bool = not (list_all is_path (names_in (keyword_of option) []) && list_all is_path (paths_in base (keyword_of option) [])) in
-    let e : (empty || (true || bad)) ≡ true = or_right empty (true || bad) refl in
-    rw e
+assigned-nothing base n option = grind (arith, or_right)
 
 trimmed-nil : trimmed [] ≡ []
 unfolding trimmed

@@ -1,6 +1,6 @@
 -- The first line that a base makes no path.
-use Rattle.std.proofs.Common.{◌≡◌, ℕ, ◌+◌, ◌<◌, suc, Bool, true, false, if◌then◌else◌, List, [], ◌∷◌, ◌++◌, Option, None, Some, Err, map, length, take, drop, get_or, drop-cons, add-one, sym, ap, ◌∙◌}
-use Rattle.std.specs.List.{list_all, filter_map, cons_option, slice_get}
+use Rattle.std.proofs.Common.{◌≡◌, ℕ, ◌+◌, ◌<◌, suc, true, false, List, [], ◌∷◌, ◌++◌, Option, None, Some, Err, map, length, take, drop, get_or, drop-cons, add-one, sym, ap, ◌∙◌, arith}
+use Rattle.std.specs.List.{list_all, filter_map, slice_get}
 use Rattle.std.proofs.lemmas.List.{take_more}
 use Rattle.std.proofs.lemmas.List.{flat_map_more}
 use Rattle.contract_words.specs.Answers.{◌>>=◌}
@@ -23,15 +23,11 @@ module _ (base : Option (List ℕ)) where
 
     -- a line that fits
     pub fits : list_all is_path (map (archive_path base) line.names) ≡ true → first (drop i archives) ≡ first (drop (i + 1) archives)
-    fits fit =
-        ap first from-here
-        ∙ ap (λ (b : Bool). slice_get (cons_option (if b then None else Some line.number) (filter_map (archives_misfit base) (drop (i + 1) archives))) 0) fit
+    fits fit = grind (arith, from-here)
 
     -- one that doesn't
     pub misfits : list_all is_path (map (archive_path base) line.names) ≡ false → first (drop i archives) ≡ Some line.number
-    misfits misfit =
-        ap first from-here
-        ∙ ap (λ (b : Bool). slice_get (cons_option (if b then None else Some line.number) (filter_map (archives_misfit base) (drop (i + 1) archives))) 0) misfit
+    misfits misfit = grind (arith, from-here)
 
     -- the paths of one more line
     pub more-paths : all_paths base (take (i + 1) archives) ≡ all_paths base (take i archives) ++ map (archive_path base) line.names

@@ -1,20 +1,17 @@
 -- A command with no subcommand has at most one kind of refusal at any words.
-use Rattle.std.proofs.Common.{◌≡◌, ◌==◌, ◌&&◌, ◌||◌, ◌+◌, ℕ, zero, suc, Bool, true, false, not, List, [], ◌∷◌, Option, Some, None, length, drop, min, slice_get, encode_utf8, refl, sym, subst, ap, inl, inr, nat_lt}
+use Rattle.std.proofs.Common.{◌≡◌, ◌&&◌, ℕ, zero, suc, Bool, true, false, List, [], ◌∷◌, Option, Some, None, length, drop, slice_get, encode_utf8, sym, subst, arith}
 use Rattle.std.specs.Prelude.{if◌then◌else◌, is_some}
 use Rattle.std.specs.Option.{option_map_or}
 use Rattle.std.specs.Str.{chars, bytes_eq}
 use Rattle.clap.specs.Lexer.{long_of, short_of}
-use Rattle.clap.specs.Matches.{count_text}
 use Rattle.clap.specs.Values.{refused_kind}
 use Rattle.clap.specs.ValueTests.{accepts}
-use Rattle.clap.specs.Facts.{parser_of_value, unwrap_or_range}
-use Rattle.clap.specs.Walk.{Held, Row, Rule, Step, Text, Waiting, Walk, action_of, arg_by_id, arg_by_index, arg_by_long, arg_by_short, attached_value, count_of, has_row, is_empty, is_pending, most_values, nothing_held, reacted, settled, subcommand_met, takes_several, takes_values, values_or_missing, walk, walk_from, walked, with_default, word_met}
-use Rattle.clap.specs.Walk.{next, trailing, subcommand, value, idle, option, positional}
-use Rattle.clap.specs.Simple.{App, Shape, argument_words, built}
+use Rattle.clap.specs.Walk.{Held, Row, Rule, Step, Text, Waiting, Walk, arg_by_index, arg_by_long, attached_value, is_pending, reacted, settled, subcommand_met, takes_several, takes_values, walk, walk_from, walked, with_default}
+use Rattle.clap.specs.Walk.{next, trailing, subcommand, value}
+use Rattle.clap.specs.Simple.{App, Shape, built}
 use Rattle.clap.specs.Kinds.{Kinds, IsAmong, check_kinds, or_else, range_kinds, request_kinds, value_kinds, values_kinds}
-use Rattle.clap.specs.Faults.{values_fault, count_fault, repeat_fault, set_fault, action_fault, use_fault, settle_fault, react_fault, option_fault, long_fault, short_fault, bundle_step_fault, flags_fault, bundle_fault, flag_word_fault, other_fault, word_fault, positional_fault, stray_fault, step_fault, turn_fault, walk_fault, default_fault, defaults_fault, level_fault, fault_of}
+use Rattle.clap.specs.Faults.{count_fault, set_fault, action_fault, use_fault, settle_fault, react_fault, option_fault, long_fault, short_fault, bundle_step_fault, flags_fault, bundle_fault, flag_word_fault, other_fault, word_fault, positional_fault, stray_fault, step_fault, turn_fault, walk_fault, default_fault, defaults_fault, level_fault, fault_of}
 use Rattle.clap.specs.declared.builder.action.ArgAction.{ArgAction}
-use Rattle.clap.specs.declared.builder.action.ArgAction.TheVariants.{Set, Append, SetTrue, SetFalse, Count, Help, HelpShort, HelpLong, Version}
 use Rattle.clap.specs.declared.builder.value_parser.ValueParser.{ValueParser}
 use Rattle.clap.specs.declared.error.kind.ErrorKind.{ErrorKind}
 use Rattle.clap.specs.declared.error.kind.ErrorKind.TheVariants as kind
@@ -27,17 +24,13 @@ One (k ∷ []) = Unit {0}
 One (k ∷ l ∷ ks) = ⊥
 
 pub one_or_else : (a b : Kinds) → One a → One b → One (or_else a b)
-one_or_else [] b x y = y
-one_or_else (k ∷ []) b x y = tt
-one_or_else (k ∷ l ∷ ks) b x y = x
+one_or_else a b h h2 = grind arith
 
 pub one_if : (b : Bool) (x y : Kinds) → One x → One y → One (if b then x else y)
-one_if true x y p q = p
-one_if false x y p q = q
+one_if b x y h h2 = grind arith
 
 pub one_option : {X : Type 0} (f : X → Kinds) (o : Option X) → ((x : X) → One (f x)) → One (option_map_or f o [])
-one_option f None p = tt
-one_option f (Some x) p = p x
+one_option f o h = grind arith
 
 one_value : (i : Bool) (p : ValueParser) (t : Text) → One (value_kinds i p t)
 one_value i p t = one_if (accepts i p t) [] (refused_kind p ∷ []) tt tt
@@ -47,58 +40,28 @@ one_values i p [] = tt
 one_values i p (t ∷ ts) = one_or_else (value_kinds i p t) (values_kinds i p ts) (one_value i p t) (one_values i p ts)
 
 one_request : (x : ArgAction) → One (request_kinds x)
-one_request Help = tt
-one_request HelpShort = tt
-one_request HelpLong = tt
-one_request Version = tt
-one_request Set = tt
-one_request Append = tt
-one_request SetTrue = tt
-one_request SetFalse = tt
-one_request Count = tt
+one_request x = grind arith
 
 one_count : (a : Rule) (vs : List Text) (rows : List Row) → One (count_fault a vs rows)
-one_count a [] rows = one_value a.ignore_case (parser_of_value a.parser) (count_text (min (count_of a.id rows + 1) 255))
-one_count a (v ∷ vs) rows = one_values a.ignore_case (parser_of_value a.parser) (v ∷ vs)
+one_count a vs rows = grind (arith, one_value, one_values)
 
 one_set : (again : Bool) (a : Rule) (vs : List Text) (rows : List Row) → One (set_fault again a vs rows)
-one_set again a vs rows =
-    one_or_else (repeat_fault again a.id rows) (values_fault a vs)
-    (one_if (has_row a.id rows && not again) (kind.ArgumentConflict ∷ []) [] tt tt)
-    (one_values a.ignore_case (parser_of_value a.parser) vs)
+one_set again a vs rows = grind (arith, one_or_else, one_if, one_values)
 
 one_action : (x : ArgAction) (again : Bool) (a : Rule) (vs : List Text) (rows : List Row) → One (action_fault x again a vs rows)
-one_action Set again a vs rows = one_set again a vs rows
-one_action SetTrue again a vs rows = one_set again a vs rows
-one_action SetFalse again a vs rows = one_set again a vs rows
-one_action Append again a vs rows = one_values a.ignore_case (parser_of_value a.parser) vs
-one_action Count again a vs rows = one_count a vs rows
-one_action Help again a vs rows = tt
-one_action HelpShort again a vs rows = tt
-one_action HelpLong again a vs rows = tt
-one_action Version again a vs rows = tt
+one_action x again a vs rows = grind (arith, one_set, one_values, one_count)
 
 one_range : (least most n : ℕ) → One (range_kinds least most n)
-one_range least most n =
-    one_if (nat_lt 0 least && n == 0) (kind.InvalidValue ∷ []) _ tt
-    (one_if (least == most) _ _ (one_if (least == n) [] (kind.WrongNumberOfValues ∷ []) tt tt)
-    (one_if (nat_lt n least) (kind.TooFewValues ∷ []) _ tt (one_if (nat_lt most n) (kind.TooManyValues ∷ []) [] tt tt)))
+one_range least most n = grind (arith, one_if)
 
 one_use : (again : Bool) (a : Rule) (vs : List Text) (rows : List Row) → One (use_fault again a vs rows)
-one_use again a vs rows =
-    one_or_else (range_kinds (unwrap_or_range a.range).start_inclusive (most_values a) (length vs))
-    (action_fault (action_of a) again a (values_or_missing a vs) rows)
-    (one_range (unwrap_or_range a.range).start_inclusive (most_values a) (length vs))
-    (one_action (action_of a) again a (values_or_missing a vs) rows)
+one_use again a vs rows = grind (arith, one_or_else, one_range, one_action)
 
 one_settle : (c : List Rule) (again : Bool) (h : Held) → One (settle_fault c again h)
-one_settle c again h =
-    one_option (λ p. option_map_or (λ a. use_fault again a p.1 h.rows) (arg_by_id c p.0) []) h.pending
-    (λ p. one_option (λ a. use_fault again a p.1 h.rows) (arg_by_id c p.0) (λ a. one_use again a p.1 h.rows))
+one_settle c again h = grind (arith, one_option, one_use)
 
 one_react : (c : List Rule) (again : Bool) (a : Rule) (vs : List Text) (h : Held) → One (react_fault c again a vs h)
-one_react c again a vs h =
-    one_or_else (settle_fault c again h) (use_fault again a vs (settled c h).rows) (one_settle c again h) (one_use again a vs (settled c h).rows)
+one_react c again a vs h = grind (arith, one_or_else, one_settle, one_use)
 
 one_opt : (c : List Rule) (again : Bool) (a : Rule) (v : Option Text) (h : Held) → One (option_fault c again a v h)
 one_opt c again a (Some v) h = one_react c again a (v ∷ []) h
@@ -120,9 +83,7 @@ one_short c again (Some a) rest h go all =
 one_step : (c : List Rule) (again : Bool) (o : Option ℕ) (flags : Text) (skip : ℕ) (h : Held) (go : Text → ℕ → Held → Kinds)
     → ((t : Text) (n : ℕ) (g : Held) → One (go t n g)) → One (bundle_step_fault c again o flags skip h go)
 one_step c again None flags skip h go all = tt
-one_step c again (Some x) flags zero h go all =
-    let rest = drop (length (encode_utf8 x)) flags in
-    one_short c again (arg_by_short c x) rest h (go rest 0) (all rest 0)
+one_step c again (Some x) flags zero h go all = grind (arith, encode_utf8, one_short)
 one_step c again (Some x) flags (suc skip) h go all = all (drop (length (encode_utf8 x)) flags) skip h
 
 one_flags : (c : List Rule) (again : Bool) (k : ℕ) (flags : Text) (skip : ℕ) (h : Held) → One (flags_fault c again k flags skip h)
@@ -141,9 +102,7 @@ one_other : (s : Shape) (word : Text) (h : Held) → One (other_fault s None wor
 one_other s word h = one_if (bytes_eq word (45 ∷ 45 ∷ [])) [] _ tt (one_flag_word s.rules s.args_override_self (long_of word) word h)
 
 none_met : (waiting : Waiting) (word : Text) → subcommand_met [] waiting word ≡ None
-none_met idle word = refl
-none_met (option t) word = refl
-none_met positional word = refl
+none_met waiting word = grind arith
 
 one_word : (s : Shape) (trail : Bool) (waiting : Waiting) (word : Text) (h : Held) → One (word_fault s [] trail waiting word h)
 one_word s trail waiting word h =
@@ -168,11 +127,7 @@ one_stepped s position h (trailing n) leaf = tt
 one_stepped s position h (subcommand t) leaf = tt
 
 one_turn : (s : Shape) (w : Walk) (word : Text) → s.is_leaf ≡ true → One (turn_fault s [] w word)
-one_turn s w word leaf =
-    let met = word_met s.rules [] w.is_trailing w.waiting w.position word w.held in
-    one_if (is_some w.stopped) [] _ tt
-    (one_or_else (word_fault s [] w.is_trailing w.waiting word w.held) (step_fault s w.position met.0 met.1)
-    (one_word s w.is_trailing w.waiting word w.held) (one_stepped s w.position met.0 met.1 leaf))
+one_turn s w word leaf = grind (arith, one_if, one_or_else, one_word, one_stepped)
 
 one_walk : (s : Shape) (w : Walk) (words : List Text) → s.is_leaf ≡ true → One (walk_fault s [] w words)
 unfolding walk_fault
@@ -182,10 +137,7 @@ one_walk s w (word ∷ rest) leaf =
     (one_turn s w word leaf) (one_walk s (walked s.rules [] w word) rest leaf)
 
 one_default : (rows : List Row) (a : Rule) → One (default_fault rows a)
-one_default rows a =
-    one_if (has_row a.id rows || is_empty a.defaults) [] _ tt
-    (one_or_else (request_kinds (action_of a)) (values_fault a a.defaults) (one_request (action_of a))
-    (one_values a.ignore_case (parser_of_value a.parser) a.defaults))
+one_default rows a = grind (arith, one_if, one_or_else, one_request, one_values)
 
 one_defaults : (rows : List Row) (c : List Rule) → One (defaults_fault rows c)
 unfolding defaults_fault
@@ -194,9 +146,7 @@ one_defaults rows (a ∷ rest) =
     one_or_else (default_fault rows a) (defaults_fault (with_default rows a) rest) (one_default rows a) (one_defaults (with_default rows a) rest)
 
 one_check : (x y z : Bool) → One (check_kinds x y z)
-one_check x y z =
-    one_if x (kind.DisplayHelpOnMissingArgumentOrSubcommand ∷ []) _ tt
-    (one_if y (kind.MissingSubcommand ∷ []) _ tt (one_if z (kind.MissingRequiredArgument ∷ []) [] tt tt))
+one_check x y z = grind (arith, one_if)
 
 one_level : (s : Shape) (h : Held) (words : List Text) → s.is_leaf ≡ true → One (level_fault s [] h words false [])
 one_level s h words leaf =
@@ -208,13 +158,8 @@ one_level s h words leaf =
 
 -- the kinds of a leaf
 pub one_fault : (a : App) (words : List Text) → (built a).subs ≡ [] → (built a).top.is_leaf ≡ true → One (fault_of a words)
-one_fault a words none leaf =
-    subst One (sym (leaf_fault (built a) nothing_held (argument_words a words) none))
-    (one_level (built a).top nothing_held (argument_words a words) leaf)
+one_fault a words none leaf = grind (arith, leaf_fault, one_level)
 
 -- such a kind is the whole list
 pub only_kind : (k : ErrorKind) (ks : Kinds) → One ks → IsAmong k ks → ks ≡ k ∷ []
-only_kind k [] one among = absurd among
-only_kind k (x ∷ []) one (inl e) = ap (λ (y : ErrorKind). y ∷ []) (sym e)
-only_kind k (x ∷ []) one (inr e) = absurd e
-only_kind k (x ∷ y ∷ ks) one among = absurd one
+only_kind k ks h h2 = grind arith

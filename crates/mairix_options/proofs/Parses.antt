@@ -1,5 +1,5 @@
 -- What a parse of the words says of the plan.
-use Rattle.std.proofs.Common.{◌≡◌, ◌⊎◌, true, List, [], ◌∷◌, Result, Ok, Err, IfOk, IfSome, refl, sym, subst, ap, inl, inr}
+use Rattle.std.proofs.Common.{◌≡◌, ◌⊎◌, true, List, [], Result, Ok, Err, IfOk, IfSome, refl, sym, subst, ap, arith}
 use Rattle.clap.specs.Words.{Kinds, IsAmong, FailsBy, Row, Text, HasMatchesOf, fault_of, matches_of, is_simple, is_simple_and_free, built, rows_of, found_of, kind_of}
 use Rattle.clap.specs.declared.error.Error.{Error}
 use Rattle.clap.specs.declared.error.kind.ErrorKind.{ErrorKind}
@@ -29,15 +29,11 @@ leaf = refl
 
 -- a kind of error is its refusal, and want of memory is none
 refused : (k : ErrorKind) → IfSome (kind_refusal k) (λ f. refusal_of_kind k ≡ f)
-refused kind.OutOfMemory = tt
-refused _ = refl
+refused k = grind arith
 
 refused_by : (k : ErrorKind) (ks : Kinds) (rows : List Row) → One ks → (k ≡ kind.OutOfMemory) ⊎ IsAmong k ks
     → IfSome (kind_refusal k) (λ f. parse_by ks rows ≡ Err f)
-refused_by k ks rows one (inl memory) = subst (λ (l : ErrorKind). IfSome (kind_refusal l) (λ f. parse_by ks rows ≡ Err f)) (sym memory) tt
-refused_by k ks rows one (inr among) =
-    subst (λ (all : Kinds). IfSome (kind_refusal k) (λ f. parse_by all rows ≡ Err f)) (sym (only_kind k ks one among))
-    (if_some_map (kind_refusal k) (λ f. refusal_of_kind k ≡ f) (λ f. parse_by (k ∷ []) rows ≡ Err f) (λ f same. ap Err same) (refused k))
+refused_by k ks rows h h2 = grind (arith, only_kind, if_some_map, refused)
 
 parse-taken : (words : List Text) (m : ArgMatches) → fault_of command words ≡ [] → rows_of (found_of m) ≡ matches_of command words
     → parse words ≡ Ok (plan_in m)
@@ -64,8 +60,7 @@ Gives-one words p r takes gives = subst (Gives (λ p. p) refusal r) (ap (λ t. t
 
 -- a kind is told as its refusal
 told : (k : ErrorKind) (P : UsageFault → Type 0) → IfSome (kind_refusal k) P → IfSome (refusal (fault_of_kind k)) P
-told kind.OutOfMemory P is = tt
-told _ P is = is
+told k P h = grind arith
 
 -- what the parser refuses
 pub Gives-refused : (words : List Text) (k : ErrorKind) (fault : OrMemory UsageFault) → fault ≡ fault_of_kind k → IfSome (kind_refusal k) (λ f. parse words ≡ Err f)

@@ -1,6 +1,6 @@
 -- The paths that an accepted rcfile names are paths of an index.
 use Rattle.std.proofs.Common.{◌≡◌, ℕ, zero, suc, ◌+◌, ◌-◌, ◌<◌, ◌==◌, Bool, true, false, not, nat_eq, nat_lt, ◌||◌, ◌&&◌, if◌then◌else◌, lit<, List, [], ◌∷◌, ◌++◌, length, map, drop, get_or, codes, Option, None, Some, unwrap_or, Result, Ok, Err, IfOk, IfSome, refl, sym, ap, ◌∙◌, subst, arith, ⊎_elim}
-use Rattle.std.specs.List.{All, list_any, list_all, filter_map, cons_option, last_or, slice_get, slice_index, starts_with, prefix_len, suffix_len, position_or_len, before_first, after_first, slice_split}
+use Rattle.std.specs.List.{All, list_all, filter_map, cons_option, last_or, slice_get, slice_index, starts_with, prefix_len, suffix_len, position_or_len, before_first, after_first, slice_split}
 use Rattle.std.specs.Option.{option_and_then}
 use Rattle.std.specs.Str.{IsUtf8, is_utf8}
 use Rattle.std.proofs.lemmas.Bool.{cases_lt, and_parts, or_parts, not-false}
@@ -14,8 +14,8 @@ use Rattle.contract_words.specs.Answers.{Gives, ◌>>=◌}
 use Rattle.mail_dates.proofs.Cuts.{split_none}
 use Rattle.mail_index.specs.Tables.{IsPath}
 use Rattle.mairix_options.specs.Blanks.{is_blank, trimmed}
-use Rattle.mairix_options.specs.Path.{is_path, has_expansion, has_wildcard, under, archive_path, mfolder_path}
-use Rattle.mairix_options.specs.Rcfile.{keyword_of, archives_of, names_in, paths_in, expanded_in, wild_in, format_of, setting_of, supported, assigned, entry, is_skipped, text_settings, line_settings, base_in, archives_in, database_in, mfolder_in, format_in, last_of, lines_in, settings_from, archives_misfit, mfolder_misfit, earlier, first_misfit, all_fit, required, if_any, all_paths, rc_fitting, rc_with, rc_from, rc_of}
+use Rattle.mairix_options.specs.Path.{is_path, under, archive_path, mfolder_path}
+use Rattle.mairix_options.specs.Rcfile.{keyword_of, archives_of, names_in, paths_in, format_of, setting_of, supported, assigned, entry, is_skipped, text_settings, line_settings, base_in, archives_in, database_in, mfolder_in, format_in, last_of, lines_in, settings_from, archives_misfit, mfolder_misfit, earlier, first_misfit, all_fit, required, if_any, all_paths, rc_fitting, rc_with, rc_from, rc_of}
 use Rattle.mairix_options.specs.Refusals.{refusal}
 use Rattle.mairix_options.specs.declared.setting.ArchivesLine.{ArchivesLine}
 use Rattle.mairix_options.specs.declared.setting.Keyword.{Keyword}
@@ -28,7 +28,7 @@ use Rattle.mairix_options.specs.declared.rcfile.Name.{Name}
 use Rattle.mairix_options.specs.declared.rcfile.Name.TheVariants as name
 use Rattle.mairix_options.specs.declared.rcfile.Rc.{Rc}
 use Rattle.mairix_options.specs.declared.rcfile.RcFault.{RcFault}
-use Rattle.mairix_options.specs.declared.rcfile.RcFault.TheVariants.{BadLine, NotSupported, Expansion, Wildcard, BadFormat}
+use Rattle.mairix_options.specs.declared.rcfile.RcFault.TheVariants.{BadLine, NotSupported, BadFormat}
 use Rattle.mairix_options.specs.declared.setting.Setting.{Setting}
 use Rattle.mairix_options.specs.declared.setting.Setting.TheVariants.{Base, Archives, Database, Mfolder, Format}
 use Rattle.mairix_options.proofs.Paths.{path-from}
@@ -47,15 +47,10 @@ trimmed-utf8 text utf8 =
 module _ (c : ℕ) (ascii : c < 128) where
   -- the byte at which a text is cut
   first-is : (text : List ℕ) → position_or_len (λ b. b == c) text < length text → get_or text (position_or_len (λ b. b == c) text) 0 < 128
-  first-is text here =
-      let byte : ℕ = get_or text (position_or_len (λ b. b == c) text) 0 in
-      let same : (byte == c) ≡ true = passes_at_first (λ b. b == c) text 0 here in
-      grind (arith, nat_tests)
+  first-is text here = grind (arith, passes_at_first, nat_tests)
 
   before-utf8 : (text : List ℕ) → position_or_len (λ b. b == c) text < length text → IsUtf8 text → IsUtf8 (before_first (λ b. b == c) text)
-  before-utf8 text here utf8 =
-      let at : ℕ = position_or_len (λ b. b == c) text in
-      IsUtf8-take text at utf8 (IsCharBoundary-before_ascii text at here (first-is text here))
+  before-utf8 text here utf8 = grind (arith, IsUtf8-take, IsCharBoundary-before_ascii, first-is)
 
   after-utf8 : (text : List ℕ) → IsUtf8 text → IsUtf8 (after_first (λ b. b == c) text)
   after-utf8 text utf8 =
@@ -106,37 +101,26 @@ NamesTexts (Format _) = Unit {0}
 module _ {A F : Type 0} where
   -- where a fault would be answered, nothing is
   passed : (bad : Bool) (fault : F) (r : Result A F) (a : A) → (if bad then Err fault else r) ≡ Ok a → (bad ≡ false) × (r ≡ Ok a)
-  passed true fault r a is = absurd cc
-  passed false fault r a is = (refl, is)
+  passed bad fault r a h = grind arith
 
   given : {B : Type 0} (r : Result A F) (f : A → Result B F) (b : B) → (r >>= f) ≡ Ok b → (a : A) × (r ≡ Ok a) × (f a ≡ Ok b)
-  given (Ok a) f b is = (a, refl, is)
-  given (Err fault) f b is = absurd cc
+  given r f b h = grind arith
 
 format-names : (n : ℕ) (o : Option MailFormat) (s : Setting)
     → ◌≡◌ {A = Result Setting RcFault} (elim o [ Some format ↦ Ok (Format format) | None ↦ Err (BadFormat n) ]) (Ok s) → NamesTexts s
-format-names n None s is = absurd cc
-format-names n (Some format) s is = let same : Format format ≡ s = cc in subst NamesTexts same tt
+format-names n o s h = grind arith
 
 set-names : (n : ℕ) (k : Keyword) (value : List ℕ) (s : Setting) → IsUtf8 value → list_all is_path (names_in (Some k) value) ≡ true
     → setting_of n k value ≡ Ok s → NamesTexts s
-set-names n keyword.Base value s utf8 pass is =
-    let same : Base value ≡ s = cc in subst NamesTexts same (path-from value utf8 (and_parts (is_path value) true pass).0)
-set-names n keyword.Mbox value s utf8 pass is =
-    let same : Archives (record { number = n; names = archives_of value }) ≡ s = cc in subst NamesTexts same (names-utf8 value utf8)
-set-names n keyword.Database value s utf8 pass is =
-    let same : Database value ≡ s = cc in subst NamesTexts same (path-from value utf8 (and_parts (is_path value) true pass).0)
-set-names n keyword.Mfolder value s utf8 pass is =
-    let same : Mfolder (record { number = n; name = value }) ≡ s = cc in subst NamesTexts same utf8
+set-names n keyword.Base value s utf8 pass is = grind (arith, path-from, and_parts)
+set-names n keyword.Mbox value s utf8 pass is = grind (arith, names-utf8)
+set-names n keyword.Database value s utf8 pass is = grind (arith, path-from, and_parts)
+set-names n keyword.Mfolder value s utf8 pass is = grind arith
 set-names n keyword.Mformat value s utf8 pass is = format-names n (format_of value) s is
 
 keyword-names : (n : ℕ) (o : Option Keyword) (value : List ℕ) (s : Setting) → IsUtf8 value → list_all is_path (names_in o value) ≡ true
     → ◌≡◌ {A = Result Setting RcFault} (elim o [ None ↦ Err (NotSupported n) | Some k ↦ supported n k value ]) (Ok s) → NamesTexts s
-keyword-names n None value s utf8 pass is = absurd cc
-keyword-names n (Some k) value s utf8 pass is =
-    let expanded = passed (list_any has_expansion (expanded_in k value)) (Expansion n) (if list_any has_wildcard (wild_in k value) then Err (Wildcard n) else setting_of n k value) s is in
-    let wild = passed (list_any has_wildcard (wild_in k value)) (Wildcard n) (setting_of n k value) s expanded.1 in
-    set-names n k value s utf8 pass wild.1
+keyword-names n o value s h h2 h3 = grind (arith, passed, set-names)
 
 assigned-names : (base : Option (List ℕ)) (n : ℕ) (option value : List ℕ) (s : Setting) → IsUtf8 value → assigned base n option value ≡ Ok s → NamesTexts s
 assigned-names base n option value s utf8 is =
@@ -177,12 +161,7 @@ settings-names before n (line ∷ lines) ss all is =
 module _ {X : Type 0} (P : X → Type 0) (value : Setting → Option X) (names : (s : Setting) → NamesTexts s → IfSome (value s) P) where
   all-values : (ss : List Setting) → All NamesTexts ss → All P (filter_map value ss)
   all-values [] all = All-nil P
-  all-values (s ∷ ss) all =
-      let later : All P (filter_map value ss) = all-values ss (All-tail NamesTexts s ss all) in
-      (elim (value s) as (λ o. IfSome o P → All P (cons_option o (filter_map value ss))) [
-        | None ↦ λ _. later
-        | Some x ↦ λ here. All-cons P x (filter_map value ss) here later
-      ]) (names s (All-head NamesTexts s ss all))
+  all-values (s ∷ ss) all = grind (arith, All-tail, All-cons, All-head, all-values ss (All-tail NamesTexts s ss all))
 
   last-of : (o : Option X) (xs : List X) → IfSome o P → All P xs → IfSome (last_or o xs) P
   last-of o [] before all = before
@@ -192,41 +171,24 @@ module _ {X : Type 0} (P : X → Type 0) (value : Setting → Option X) (names :
   last-value ss all = last-of None (filter_map value ss) tt (all-values ss all)
 
 base-names : (s : Setting) → NamesTexts s → IfSome (base_in s) IsPath
-base-names (Base path) is = is
-base-names (Archives line) is = tt
-base-names (Database path) is = tt
-base-names (Mfolder line) is = tt
-base-names (Format f) is = tt
+base-names s h = grind arith
 
 abbrev HasTexts : ArchivesLine → Type 0
 HasTexts line = All IsUtf8 line.names
 
 archives-names : (s : Setting) → NamesTexts s → IfSome (archives_in s) HasTexts
-archives-names (Base path) is = tt
-archives-names (Archives line) is = is
-archives-names (Database path) is = tt
-archives-names (Mfolder line) is = tt
-archives-names (Format f) is = tt
+archives-names s h = grind arith
 
 database-names : (s : Setting) → NamesTexts s → IfSome (database_in s) IsPath
-database-names (Base path) is = tt
-database-names (Archives line) is = tt
-database-names (Database path) is = is
-database-names (Mfolder line) is = tt
-database-names (Format f) is = tt
+database-names s h = grind arith
 
 mfolder-names : (s : Setting) → NamesTexts s → IfSome (mfolder_in s) (λ line. IsUtf8 line.name)
-mfolder-names (Base path) is = tt
-mfolder-names (Archives line) is = tt
-mfolder-names (Database path) is = tt
-mfolder-names (Mfolder line) is = is
-mfolder-names (Format f) is = tt
+mfolder-names s h = grind arith
 
 -- ---- under the base that counts
 
 slash-ascii : (i : ℕ) → slice_index (codes "/") i < 128
-slash-ascii zero = lit< tt
-slash-ascii (suc i) = lit< tt
+slash-ascii i = grind arith
 
 under-utf8 : (base : Option (List ℕ)) (as_written : Bool) (name : List ℕ) → IfSome base IsPath → IsUtf8 name → IsUtf8 (under base as_written name)
 under-utf8 None as_written name is utf8 = utf8
@@ -257,33 +219,21 @@ module _ (base : Option (List ℕ)) (is_base : IfSome base IsPath) where
       ]) refl none
 
   fitting-mfolder : (line : MfolderLine) → IsUtf8 line.name → mfolder_misfit base line ≡ None → IsPath (mfolder_path base line.name)
-  fitting-mfolder line utf8 none =
-      let path : List ℕ = mfolder_path base line.name in
-      (elim (is_path path) as (λ fit. is_path path ≡ fit → (if fit then None else Some line.number) ≡ None → IsPath path) [
-        | true ↦ λ fit _. path-from path
-            (under-utf8 base (starts_with nat_eq line.name (codes "/") || starts_with nat_eq line.name (codes ".")) line.name is_base utf8) fit
-        | false ↦ λ _ none. absurd cc
-      ]) refl none
+  fitting-mfolder line utf8 none = grind (arith, path-from, under-utf8)
 
 -- ---- the whole
 
 neither : (a b : Option ℕ) → earlier a b ≡ None → (a ≡ None) × (b ≡ None)
-neither None None none = (refl, refl)
-neither None (Some b) none = absurd cc
-neither (Some a) None none = absurd cc
-neither (Some a) (Some b) none = absurd cc
+neither a b h = grind arith
 
 all-fit : (o : Option ℕ) → all_fit o ≡ Ok tt → o ≡ None
-all-fit None is = refl
-all-fit (Some n) is = absurd cc
+all-fit o h = grind arith
 
 required-is : {A : Type 0} (option : Name) (o : Option A) (a : A) → required option o ≡ Ok a → o ≡ Some a
-required-is option None a is = absurd cc
-required-is option (Some x) a is = let same : x ≡ a = cc in ap (λ x. Some x) same
+required-is option o a h = grind arith
 
 any-is : (paths some : List (List ℕ)) → if_any paths ≡ Some some → paths ≡ some
-any-is [] some is = absurd cc
-any-is (path ∷ paths) some is = cc
+any-is paths some h = grind arith
 
 -- all that an rcfile names are paths
 record AllPaths (r : Rc) : Type 0 where
@@ -336,8 +286,7 @@ module _ (rc : List ℕ) (settings : List Setting) (collects : settings_from [] 
   read-all (Err fault) gives = tt
 
   read-each : (P : Rc → Type 0) → ((r : Rc) → AllPaths r → P r) → (result : Result Rc (OrMemory RcFault)) → Gives (λ r. r) refusal result (rc_from settings) → IfOk result P
-  read-each P each (Ok r) gives = each r (read-all (Ok r) gives)
-  read-each P each (Err fault) gives = tt
+  read-each P h result h2 = grind (arith, read-all)
 
   pub read-base : (result : Result Rc (OrMemory RcFault)) → Gives (λ r. r) refusal result (rc_from settings) → IfOk result (λ r. IfSome r.base IsPath)
   read-base result gives = read-each (λ r. IfSome r.base IsPath) (λ r all. all.base) result gives

@@ -1,5 +1,5 @@
 -- What a search for bytes tells of the whole list.
-use Rattle.std.proofs.Common.{◌≡◌, ◌↔◌, ℕ, Bool, true, false, List, [], ◌∷◌, ◌++◌, map, ◌&&◌, ◌||◌, ◌≤◌, length, take, drop, codes, nat_eq, get_or, Option, Some, None, refl, sym, ap, ◌∙◌, subst, arith, is_some, ⊎_elim}
+use Rattle.std.proofs.Common.{◌≡◌, ◌↔◌, ℕ, Bool, true, List, [], ◌∷◌, ◌++◌, map, ◌&&◌, ◌||◌, ◌≤◌, length, take, drop, codes, nat_eq, Option, refl, sym, ap, ◌∙◌, arith, is_some, ⊎_elim}
 use Rattle.std.specs.List.{list_any, list_all, starts_with}
 use Rattle.std.specs.Str.Iter.{HasSubslice}
 use Rattle.std.proofs.lemmas.Bool.{or_cases, or_right, false_from_ne_true, false≢true}
@@ -12,10 +12,7 @@ use Rattle.memchr.specs.Find.{IsFirstByte}
 use Rattle.mairix_options.specs.Path.{has_three_dots}
 
 list_any-searched : (test : ℕ → Bool) (hay : List ℕ) (r : Option ℕ) → IsFirstByte test hay r → list_any test hay ≡ is_some r
-list_any-searched test hay None h =
-    list_any_none test hay (λ k d below. false_from_ne_true (test (get_or hay k d))
-    (λ passes. h k (omega arith) below (subst (λ (b : ℕ). test b ≡ true) (get_or_default_zero hay k d below) passes)))
-list_any-searched test hay (Some k) h = list_any_at test hay k 0 (h.0.high) h.1
+list_any-searched test hay r h = grind (arith, list_any_none, false_from_ne_true, get_or_default_zero, list_any_at)
 
 -- a search of a text finds a byte exactly where some byte passes
 pub list_any-found : (test : ℕ → Bool) (hay text : List ℕ) (r : Option ℕ) → hay ≡ text → IsFirstByte test hay r → list_any test text ≡ is_some r
@@ -38,9 +35,7 @@ HasSubslice-three_dots (x ∷ text) e =
 
 -- a search for the three dots
 pub has_three_dots-found : (text : List ℕ) (r : Bool) → ((r ≡ true) ↔ HasSubslice text dots) → r ≡ has_three_dots text
-has_three_dots-found text r h =
-    same_from_decides r (has_three_dots text) (h.0, h.1)
-    (HasSubslice-three_dots text, λ s. subst (λ (l : List ℕ). has_three_dots l ≡ true) (sym s.2) (has_three_dots-inside s.0 s.1))
+has_three_dots-found text r h = grind (arith, same_from_decides, HasSubslice-three_dots, has_three_dots-inside)
 
 -- a test of each text's bytes
 pub list_any-map : {X Y : Type 0} (f : X → Y) (test : Y → Bool) (xs : List X) → list_any test (map f xs) ≡ list_any (λ x. test (f x)) xs
@@ -58,5 +53,4 @@ map-each f g (x ∷ xs) = ap (λ l. g (f x) ∷ l) (map-each f g xs)
 -- what a loop made of each of xs, which f shows as ys
 pub map-each-taken : {X Y Z : Type 0} (f : X → Y) (g : Y → Z) (n : ℕ) (xs : List X) (ys : List Y) (made : List Z) → length xs ≤ n → map f xs ≡ ys
     → made ≡ map (λ x. g (f x)) (take n xs) → made ≡ map g ys
-map-each-taken f g n xs ys made all shown is =
-    is ∙ ap (λ l. map (λ x. g (f x)) l) (take_all n xs all) ∙ sym (map-each f g xs) ∙ ap (map g) shown
+map-each-taken f g n xs ys made all shown is = grind (arith, take_all, map-each)

@@ -1,5 +1,5 @@
 -- What one more setting says.
-use Rattle.std.proofs.Common.{◌≡◌, ℕ, ◌+◌, List, [], ◌∷◌, ◌++◌, Option, Some, None, Result, Ok, Err, IfSome, refl, sym, ap, ◌∙◌}
+use Rattle.std.proofs.Common.{◌≡◌, ℕ, ◌+◌, List, [], ◌∷◌, ◌++◌, Option, Some, None, Result, Ok, Err, IfSome, refl, sym, ap, ◌∙◌, arith}
 use Rattle.std.specs.List.{filter_map, last_or}
 use Rattle.std.proofs.lemmas.List.Elements.{filter_map-append}
 use Rattle.contract_words.specs.Answers.{◌>>=◌}
@@ -30,8 +30,7 @@ base-behind before said base next counts is = is ∙ ap (λ o. last_or o (filter
 module _ (before : List Setting) (base : Option (List ℕ)) (n : ℕ) (line : List ℕ) (lines : List (List ℕ)) (all : Result (List Setting) RcFault)
     (same : settings_from before n (line ∷ lines) ≡ all) (counts : base ≡ last_of base_in before) where
   here : (r : Result (List Setting) RcFault) → line_settings base n line ≡ r → (r >>= (λ s. settings_from (before ++ s) (n + 1) lines)) ≡ all
-  here r is =
-      ap (λ x. x >>= (λ s. settings_from (before ++ s) (n + 1) lines)) (sym is ∙ ap (λ b. line_settings b n line) counts) ∙ same
+  here r is = grind arith
 
   -- a line that says something, or nothing
   pub settings-more : (said : List Setting) → line_settings base n line ≡ Ok said → settings_from (before ++ said) (n + 1) lines ≡ all
@@ -58,16 +57,4 @@ pub says-next : (before : List Setting) (s t : Setting) {base : Option (List ℕ
     → Says before base archives database mfolder format → s ≡ t → more ≡ archives ++ filter_map archives_in (t ∷ [])
     → Says (before ++ s ∷ []) (last_or base (filter_map base_in (t ∷ []))) more (last_or database (filter_map database_in (t ∷ [])))
     (last_or mfolder (filter_map mfolder_in (t ∷ []))) (last_or format (filter_map format_in (t ∷ [])))
-says-next before s t says is grows = (
-  last base_in says.0,
-  grows ∙ ap (λ l. l ++ filter_map archives_in (t ∷ [])) says.1 ∙ ap (λ x. filter_map archives_in before ++ filter_map archives_in (x ∷ [])) (sym is)
-      ∙ sym (filter_map-append archives_in before (s ∷ [])),
-  last database_in says.2,
-  last mfolder_in says.3,
-  last format_in says.4,
-)
-  where
-    last : {X : Type 0} (value : Setting → Option X) {o : Option X} → o ≡ last_of value before → last_or o (filter_map value (t ∷ [])) ≡ last_of value (before ++ s ∷ [])
-    last value counts =
-        ap (λ p. last_or p (filter_map value (t ∷ []))) counts ∙ ap (λ x. last_or (last_of value before) (filter_map value (x ∷ []))) (sym is)
-        ∙ sym (last_of-append value before (s ∷ []))
+says-next before s t says is grows = grind (arith, filter_map-append, last_of-append)
