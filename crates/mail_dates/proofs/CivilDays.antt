@@ -1,5 +1,5 @@
 -- The test of a day of the calendar, and the fact.
-use Rattle.std.proofs.Common.{◌≡◌, ℕ, ◌≤◌, Bool, true, false, Some, None, refl, ap, sym, ◌∙◌, arith, ℤ, pos, negsuc, ◌≤ℤ◌, ◌<ℤ◌, unsigned_abs, to_z, w8}
+use Rattle.std.proofs.Common.{◌≡◌, ℕ, ◌≤◌, Bool, true, Some, None, refl, ap, sym, ◌∙◌, arith, ℤ, pos, negsuc, ◌≤ℤ◌, ◌<ℤ◌, unsigned_abs, to_z, w8}
 use Rattle.std.specs.Prelude.{if◌then◌else◌}
 use Rattle.std.proofs.lemmas.Bool.Decides.{nat_tests}
 use Rattle.std.proofs.lemmas.Int.{ints}
@@ -19,13 +19,7 @@ pub record IsCivilDay (year : ℤ) (month day : ℕ) : Type 0 where
   pub day_high : day ≤ days_in_month year month
 
 pub civil_parts : (year : ℤ) (month day : ℕ) → is_civil_day year month day ≡ true → IsCivilDay year month day
-civil_parts year month day e = record {
-  year_in = grind (arith, nat_tests);
-  month_low = grind (arith, nat_tests);
-  month_high = grind (arith, nat_tests);
-  day_low = grind (arith, nat_tests);
-  day_high = grind (arith, nat_tests);
-}
+civil_parts year month day e = grind (arith, nat_tests)
 
 pub civil_test : (year : ℤ) (month day : ℕ) → IsCivilDay year month day → is_civil_day year month day ≡ true
 civil_test year month day h = grind (arith, nat_tests, h.year_in, h.month_low, h.month_high, h.day_low, h.day_high)
@@ -39,17 +33,14 @@ unfolding day_number
 day_number_none year month day not_civil = go (is_civil_day year month day) refl
   where
     go : (t : Bool) → is_civil_day year month day ≡ t → (if t then Some (days_from_civil year month day) else None) ≡ None
-    go true e = absurd (not_civil (civil_parts year month day e))
-    go false e = refl
+    go t h = grind (arith, civil_parts)
 
 -- the same, as the calendar's own constructor asks it
 pub year_within : (year : ℤ) → unsigned_abs year ≤ 9999 → (negsuc 9998 ≤ℤ year) × (year ≤ℤ pos 9999)
-year_within (pos n) h = (omega (arith, ints), omega (arith, ints))
-year_within (negsuc n) h = (omega (arith, ints), omega (arith, ints))
+year_within year h = grind (arith, ints)
 
 within_year : (year : ℤ) → negsuc 9998 ≤ℤ year → year ≤ℤ pos 9999 → unsigned_abs year ≤ 9999
-within_year (pos n) low high = omega (arith, ints)
-within_year (negsuc n) low high = omega (arith, ints)
+within_year year h h2 = grind (arith, ints)
 
 pub civil_date : (year : ℤ) (month day : ℕ) → IsCivilDay year month day → IsDate year (to_z w8 month) (to_z w8 day)
 civil_date year month day h =
@@ -59,17 +50,7 @@ civil_date year month day h =
     rw (m, d) (year_within year h.year_in, (omega (arith, ints, h.month_low), omega (arith, ints, h.month_high)), (omega (arith, ints, h.day_low), omega (arith, ints, h.day_high)))
 
 pub date_civil : (year : ℤ) (month day : ℕ) → month ≤ 12 → day ≤ 31 → IsDate year (to_z w8 month) (to_z w8 day) → IsCivilDay year month day
-date_civil year month day few short h =
-    let m : to_z w8 month ≡ pos month = omega (arith, ints) in
-    let d : to_z w8 day ≡ pos day = omega (arith, ints) in
-    let is : IsDate year (pos month) (pos day) = rw (m, d) at h in
-    record {
-      year_in = within_year year is.0.0 is.0.1;
-      month_low = omega (arith, ints, is.1.0);
-      month_high = few;
-      day_low = omega (arith, ints, is.2.0);
-      day_high = omega (arith, ints, is.2.1);
-    }
+date_civil year month day few short h = grind (arith, to_z, ints, within_year)
 
 -- what a date with these parts says
 pub day_number_at : (year : ℤ) (month day : ℕ) (date : Date) (number : ℤ) → IsCivilDay year month day → IsYmd year (to_z w8 month) (to_z w8 day) date → number ≡ epoch_day date → Some number ≡ day_number year month day
@@ -89,8 +70,7 @@ unfolding day_number
 numbered year month day number e = go (is_civil_day year month day) refl e
   where
     go : (t : Bool) → is_civil_day year month day ≡ t → (if t then Some (days_from_civil year month day) else None) ≡ Some number → IsNumbered year month day number
-    go true h e = record { civil = civil_parts year month day h; is = cc }
-    go false h e = absurd cc
+    go t h h2 = grind (arith, civil, civil_parts)
 
 -- a day of a later year has a greater number
 pub later_number : (date : Date) (next : ℤ) (month day : ℕ) (number : ℤ) → date.year <ℤ next → day_number next month day ≡ Some number → epoch_day date <ℤ number

@@ -1,5 +1,5 @@
 -- Lists that are cut where a test passes.
-use Rattle.std.proofs.Common.{◌≡◌, ◌<◌, ◌≤◌, ◌+◌, ℕ, Bool, true, false, cond, List, [], ◌∷◌, length, take, drop, Some, None, nat_lt, refl, arith}
+use Rattle.std.proofs.Common.{◌≡◌, ◌<◌, ◌≤◌, ◌+◌, ℕ, Bool, true, false, cond, List, [], ◌∷◌, length, take, drop, Some, None, refl, arith}
 use Rattle.std.specs.List.{slice_split, onto_first, position, position_or_len}
 use Rattle.std.proofs.lemmas.Bool.Decides.{nat_tests}
 use Rattle.std.proofs.lemmas.List.Splits.{slice_split_first}
@@ -7,19 +7,11 @@ use Rattle.std.proofs.lemmas.List.Splits.{slice_split_first}
 module _ (p : ℕ → Bool) where
   whole : (xs : List ℕ) → length xs ≤ position_or_len p xs → slice_split p xs ≡ xs ∷ []
   whole [] h = refl
-  whole (x ∷ xs) h = go (p x) refl (whole xs)
-    where
-      go : (t : Bool) → p x ≡ t → (length xs ≤ position_or_len p xs → slice_split p xs ≡ xs ∷ []) → cond t ([] ∷ slice_split p xs) (onto_first x (slice_split p xs)) ≡ (x ∷ xs) ∷ []
-      go true e r = absurd (omega (arith, rw e at h))
-      go false e r = rw (r (omega (arith, rw e at h))) refl
+  whole (x ∷ xs) h = grind (arith, whole xs)
 
   -- a list where no element passes is its one part
   pub split_none : (xs : List ℕ) → None ≡ position p xs → slice_split p xs ≡ xs ∷ []
-  split_none xs e = go (nat_lt (position_or_len p xs) (length xs)) refl e
-    where
-      go : (t : Bool) → nat_lt (position_or_len p xs) (length xs) ≡ t → None ≡ cond t (Some (position_or_len p xs)) None → slice_split p xs ≡ xs ∷ []
-      go true h e = absurd cc
-      go false h e = whole xs (grind (arith, nat_tests))
+  split_none xs e = grind (arith, whole, nat_tests)
 
   -- what stands before the first element that passes, and the parts behind it
   pub record IsCut (xs : List ℕ) (at : ℕ) : Type 0 where
@@ -27,14 +19,7 @@ module _ (p : ℕ → Bool) where
     pub parts : slice_split p xs ≡ take at xs ∷ slice_split p (drop (at + 1) xs)
 
   pub split_some : (xs : List ℕ) (at : ℕ) → Some at ≡ position p xs → IsCut xs at
-  split_some xs at e = go (nat_lt (position_or_len p xs) (length xs)) refl e
-    where
-      go : (t : Bool) → nat_lt (position_or_len p xs) (length xs) ≡ t → Some at ≡ cond t (Some (position_or_len p xs)) None → IsCut xs at
-      go true h e =
-          let same : at ≡ position_or_len p xs = cc in
-          let within : position_or_len p xs < length xs = grind (arith, nat_tests) in
-          record { within = rw same within; parts = rw same (slice_split_first p xs 0 within) }
-      go false h e = absurd cc
+  split_some xs at e = grind (arith, nat_tests, slice_split_first)
 
   -- there is always a first part
   pub split_front : (xs : List ℕ) → (part : List ℕ) × (parts : List (List ℕ)) × (slice_split p xs ≡ part ∷ parts)

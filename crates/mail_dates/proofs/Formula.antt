@@ -1,5 +1,5 @@
 -- Day numbers in closed form, in which long rows compute.
-use Rattle.std.proofs.Common.{◌≡◌, ℕ, suc, ◌+◌, ◌≤◌, Bool, true, false, Option, Some, None, refl, ap, arith, ℤ, pos, negsuc, ◌+ℤ◌, ◌-ℤ◌, unsigned_abs, nat_le}
+use Rattle.std.proofs.Common.{◌≡◌, ℕ, suc, ◌+◌, ◌≤◌, Bool, true, false, Option, Some, None, refl, arith, ℤ, pos, ◌+ℤ◌, ◌-ℤ◌, unsigned_abs, nat_le}
 use Rattle.std.specs.Prelude.{if◌then◌else◌}
 use Rattle.std.proofs.lemmas.Bool.Decides.{nat_tests}
 use Rattle.std.proofs.lemmas.Int.{ints}
@@ -22,8 +22,7 @@ abbrev pub number_by_formula : ℤ → ℕ → ℕ → Option ℤ
 number_by_formula year month day = if is_civil_day year month day then Some (march_number year month day) else None
 
 shifted : (year : ℤ) (k : ℕ) → unsigned_abs year ≤ k → year +ℤ pos k ≡ pos (unsigned_abs (year +ℤ pos k))
-shifted (pos n) k h = omega (arith, ints)
-shifted (negsuc n) k h = omega (arith, ints)
+shifted year k h = grind (arith, ints)
 
 early : (year : ℤ) (month day : ℕ) → IsCivilDay year month day → month ≤ 2 → days_from_civil year month day ≡ march_count (year +ℤ pos 9999) (month + 12) day
 early year month day h low =
@@ -47,8 +46,7 @@ unfolding day_number
 day_number_is year month day = go (is_civil_day year month day) refl
   where
     go : (t : Bool) → is_civil_day year month day ≡ t → (if t then Some (days_from_civil year month day) else None) ≡ (if t then Some (march_number year month day) else None)
-    go true e = ap Some (march_number_is year month day (civil_parts year month day e))
-    go false e = refl
+    go t h = grind (arith, march_number_is, civil_parts)
 
 pub day_number-formula : day_number ≡ number_by_formula
 day_number-formula = λ i. λ year month day. day_number_is year month day i

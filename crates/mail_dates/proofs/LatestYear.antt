@@ -1,5 +1,5 @@
 -- The latest year that passes, from a year on down.
-use Rattle.std.proofs.Common.{◌≡◌, ℕ, zero, suc, ◌+◌, ◌-◌, ◌<◌, ◌≤◌, Bool, true, false, Option, Some, None, refl, sym, ap, ◌∙◌, subst, arith, ℤ, pos, negsuc, ◌+ℤ◌, ◌-ℤ◌, ◌≤ℤ◌, ◌<ℤ◌, unsigned_abs}
+use Rattle.std.proofs.Common.{◌≡◌, ℕ, zero, suc, ◌<◌, ◌≤◌, Bool, true, false, Option, Some, None, refl, sym, ap, ◌∙◌, subst, arith, ℤ, pos, negsuc, ◌+ℤ◌, ◌-ℤ◌, ◌≤ℤ◌, ◌<ℤ◌, unsigned_abs}
 use Rattle.std.specs.Prelude.{◌↔◌, option_map, IsTrue, int_le}
 use Rattle.std.proofs.lemmas.Int.{ints}
 use Rattle.mail_dates.specs.declared.days.DaysOfYear.{DaysOfYear}
@@ -24,14 +24,11 @@ record IsPlaced (year : ℤ) : Type 0 where
   before : place (year -ℤ pos 1) ≡ n
 
 placed : (year : ℤ) → negsuc 9998 ≤ℤ year → IsPlaced year
-placed (pos k) low = record { n = k + 9999; at = omega (arith, ints); is = omega (arith, ints); before = omega (arith, ints) }
-placed (negsuc k) low = record { n = 9998 - k; at = omega (arith, ints); is = omega (arith, ints); before = omega (arith, ints) }
+placed year h = grind (arith, ints)
 
 module _ (passes : ℤ → Bool) where
   pub latest_found : (year : ℤ) → negsuc 9998 ≤ℤ year → passes year ≡ true → latest_up_to year passes ≡ Some year
-  latest_found year low e =
-      let p = placed year low in
-      let here : passes (year_at p.n) ≡ true = rw p.is e in rw (p.at, here) (ap Some p.is)
+  latest_found year low e = grind (arith, placed)
 
   pub latest_skipped : (year : ℤ) → negsuc 9998 ≤ℤ year → passes year ≡ false → latest_up_to year passes ≡ latest_up_to (year -ℤ pos 1) passes
   latest_skipped year low e =
@@ -56,8 +53,7 @@ module _ (passes : ℤ → Bool) where
       rw top at (latest_from k year low no_later)
     where
       rest : (year : ℤ) → year ≤ℤ pos 9999 → year +ℤ pos (unsigned_abs (pos 9999 -ℤ year)) ≡ pos 9999
-      rest (pos n) h = omega (arith, ints)
-      rest (negsuc n) h = omega (arith, ints)
+      rest year h = grind (arith, ints)
 
 -- days that lie in a later year than this day don't begin by it
 begins_later : (by year next : ℤ) (month date : ℕ) (last : Option ℤ) → HasNoLater by year → year <ℤ next → begin_by by (days_from_to (day_number next month date) last) ≡ false
@@ -118,18 +114,10 @@ record IsGreatest (passes : ℕ → Bool) (limit found : ℕ) : Type 0 where
 
 greatest_is : (limit : ℕ) (passes : ℕ → Bool) (found : ℕ) → greatest_below limit passes ≡ Some found → IsGreatest passes limit found
 greatest_is zero passes found e = absurd cc
-greatest_is (suc n) passes found e = go (passes n) refl e (greatest_is n passes found)
-  where
-    go : (t : Bool) → passes n ≡ t → elim t as (λ _. Option ℕ) [ true ↦ Some n | false ↦ greatest_below n passes ] ≡ Some found → (greatest_below n passes ≡ Some found → IsGreatest passes n found) → IsGreatest passes (suc n) found
-    go true h e r = let same : n ≡ found = cc in record { has = subst (λ (k : ℕ). passes k ≡ true) same h; below = omega (arith, same); most = λ k lt g. omega (arith, same, lt) }
-    go false h e r = let g = r e in record { has = g.has; below = omega (arith, g.below); most = λ k lt q. at_most k lt q g }
-      where
-        at_most : (k : ℕ) → k < suc n → passes k ≡ true → IsGreatest passes n found → k ≤ found
-        at_most k lt q g = grind (arith, lt, q, h, g.most k)
+greatest_is (suc n) passes found e = grind (arith, greatest_is n passes found)
 
 found_year : (o : Option ℕ) (year : ℤ) → option_map year_at o ≡ Some year → (n : ℕ) × (o ≡ Some n) × (year_at n ≡ year)
-found_year None year e = absurd cc
-found_year (Some n) year e = (n, refl, cc)
+found_year o year h = grind arith
 
 -- only years of the calendar pass
 abbrev pub AreOfCalendar : (ℤ → Bool) → Type 0
@@ -163,11 +151,7 @@ is_latest passes year calendar h =
 
 -- days that a year has lie in a year of the calendar
 of_calendar : (by year : ℤ) (month date : ℕ) (last : Option ℤ) → begin_by by (days_from_to (day_number year month date) last) ≡ true → (negsuc 9998 ≤ℤ year) × (year ≤ℤ pos 9999)
-of_calendar by year month date last h = go (day_number year month date) refl h
-  where
-    go : (first : Option ℤ) → day_number year month date ≡ first → begin_by by (days_from_to first last) ≡ true → (negsuc 9998 ≤ℤ year) × (year ≤ℤ pos 9999)
-    go None e h = absurd cc
-    go (Some first) e h = year_within year (numbered year month date first e).civil.year_in
+of_calendar by year month date last h = grind (arith, year_within, numbered)
 
 pub fits_are_of_calendar : (which : DaysOfYear) (by : ℤ) → AreOfCalendar (fit_by day_number which by)
 fits_are_of_calendar days.All by year h = of_calendar by year 1 1 _ h

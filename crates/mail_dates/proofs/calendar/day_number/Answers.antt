@@ -1,4 +1,4 @@
-use Rattle.std.proofs.Common.{◌≡◌, ap, sym, ◌∙◌, arith, rules, refl, w8, w16, w32, to_z, of_z, FitsSigned}
+use Rattle.std.proofs.Common.{◌≡◌, ap, ◌∙◌, arith, rules, refl, w8, w16, w32, to_z, of_z, FitsSigned}
 use Rattle.std.proofs.lemmas.Int.{to_z-of_z}
 use Rattle.jiff_core.specs.Calendar.{IsDate}
 use Rattle.jiff_core.specs.Date.{IsYmd, epoch_day}
@@ -8,13 +8,7 @@ use Rattle.mail_dates.proofs.calendar.day_number.Goals as goal
 use Rattle.mail_dates.proofs.calendar.day_number.Goals.{then-month-gt12-via-then-month-gt12, then-month-gt12-via-else-month-gt12+then-day-gt31}
 
 pub returns-then-month-gt12-clause-value : goal.returns-then-month-gt12-clause-value
-returns-then-month-gt12-clause-value c =
-    let long = days_in_month_bounds c.args.year c.args.month in
-    sym (day_number_none c.args.year c.args.month c.args.day (λ h.
-    elim c.then-month-gt12.branch [
-      | then-month-gt12-via-then-month-gt12 w ↦ omega (arith, h.month_high)
-      | then-month-gt12-via-else-month-gt12+then-day-gt31 w ↦ omega (arith, h.day_high)
-    ]))
+returns-then-month-gt12-clause-value c = grind (arith, days_in_month_bounds, day_number_none, then-month-gt12-via-then-month-gt12, then-month-gt12-via-else-month-gt12+then-day-gt31)
 
 pub returns-in-Ok-clause-value : goal.returns-in-Ok-clause-value
 returns-in-Ok-clause-value c =
@@ -28,6 +22,4 @@ returns-in-Ok-clause-value c =
     day_number_at c.args.year c.args.month c.args.day c.in-Ok.date _ civil is number
 
 pub returns-in-Err-clause-value : goal.returns-in-Err-clause-value
-returns-in-Err-clause-value c =
-    let year : to_z w16 (of_z w16 c.args.year) ≡ c.args.year = to_z-of_z w16 c.args.year c.ranges.year in
-    sym (day_number_none c.args.year c.args.month c.args.day (λ h. let k : IsDate (to_z w16 (of_z w16 c.args.year)) (to_z w8 c.args.month) (to_z w8 c.args.day) = rw year (civil_date c.args.year c.args.month c.args.day h) in let e = c.in-Err.ensures.succeeds.1 k in cc))
+returns-in-Err-clause-value c = grind (arith, to_z, of_z, to_z-of_z, day_number_none, civil_date)

@@ -1,4 +1,4 @@
-use Rattle.std.proofs.Common.{◌≡◌, ℕ, List, [], ◌∷◌, None, refl, sym, ap, ◌∙◌}
+use Rattle.std.proofs.Common.{◌≡◌, ℕ, List, ◌∷◌, None, sym, ap, ◌∙◌, arith}
 use Rattle.std.specs.List.{slice_split}
 use Rattle.mail_dates.specs.Calendar.{day_number}
 use Rattle.mail_dates.specs.IsoRanges.{is_dot, iso_range_of_parts_by}
@@ -6,8 +6,7 @@ use Rattle.mail_dates.proofs.Cuts.{split_front}
 use Rattle.mail_dates.proofs.iso_dates.range_of_text.Goals as goal
 
 four : (since between third fourth : List ℕ) (rest : List (List ℕ)) → None ≡ iso_range_of_parts_by day_number (since ∷ between ∷ third ∷ fourth ∷ rest)
-four since [] third fourth rest = refl
-four since (b ∷ bs) third fourth rest = refl
+four since between third fourth rest = grind arith
 
 -- four parts and more are of no form
 too_many : (text since rest between until third fourth : List ℕ) → slice_split is_dot text ≡ since ∷ slice_split is_dot rest → slice_split is_dot rest ≡ between ∷ slice_split is_dot until → slice_split is_dot until ≡ third ∷ slice_split is_dot fourth → None ≡ iso_range_of_parts_by day_number (slice_split is_dot text)

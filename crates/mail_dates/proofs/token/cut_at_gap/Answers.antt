@@ -1,12 +1,11 @@
-use Rattle.std.proofs.Common.{◌+◌}
+use Rattle.std.proofs.Common.{arith}
 use Rattle.std.proofs.lemmas.List.{take_rest}
 use Rattle.mail_dates.specs.HeaderDates.{is_gap}
 use Rattle.mail_dates.proofs.Cuts.{split_none, split_some}
 use Rattle.mail_dates.proofs.token.cut_at_gap.Goals as goal
 
 pub returns-in-Some-clause-parts : goal.returns-in-Some-clause-parts
-returns-in-Some-clause-parts c =
-    rw (take_rest c.args.text.now (c.in-Some.at + 1)) ((split_some is_gap c.args.text.now c.in-Some.at c.in-Some.ensures).parts)
+returns-in-Some-clause-parts c = grind (arith, take_rest, split_some)
 
 pub returns-in-None-clause-parts : goal.returns-in-None-clause-parts
 returns-in-None-clause-parts c = split_none is_gap c.args.text.now c.in-None.ensures

@@ -1,4 +1,4 @@
-use Rattle.std.proofs.Common.{◌≡◌, ℤ, negsuc, ◌≤ℤ◌, ◌<ℤ◌, true, false, of_z, to_z, w16, w32, FitsSigned, arith, rules, sym, ap, ◌∙◌}
+use Rattle.std.proofs.Common.{◌≡◌, ℤ, negsuc, ◌≤ℤ◌, ◌<ℤ◌, true, false, of_z, to_z, w16, w32, arith, sym, ap, ◌∙◌}
 use Rattle.std.proofs.lemmas.Int.{ints, to_z-of_z}
 use Rattle.mail_dates.specs.Calendar.{day_number}
 use Rattle.mail_dates.specs.Periods.{days_in_by, begin_by}
@@ -13,17 +13,10 @@ below : (year : ℤ) → le_z (negsuc 9998) year ≡ false → year <ℤ negsuc 
 below year e = grind (arith, ints)
 
 pub loop-year-init : goal.loop-year-init
-loop-year-init c =
-    let fits : FitsSigned w16 c.year_of_day-year.result = search rules in
-    rw (to_z-of_z w16 c.year_of_day-year.result fits) (search_start c.args.self (to_z w32 (of_z w32 c.args.by)) c.year_of_day-year.result c.year_of_day-year.ensures)
+loop-year-init c = grind (arith, to_z-of_z, search_start, to_z, of_z)
 
 pub returns-then-begin_by : goal.returns-then-begin_by
-returns-then-begin_by c =
-    let by : to_z w32 (of_z w32 c.args.by) ≡ c.args.by = to_z-of_z w32 c.args.by c.ranges.by in
-    let year : ℤ = to_z w16 c.loop-year.year-bits in
-    let found : begin_by c.args.by (days_in_by day_number c.args.self year) ≡ true =
-    rw by at (ap (begin_by (to_z w32 (of_z w32 c.args.by))) (sym c.in_year-days.ensures) ∙ sym c.begin_by.ensures ∙ c.if-begin_by.true) in
-    c.in_year-days.ensures ∙ search_found c.args.self c.args.by year (rw by at c.loop-year.invariant) (at_least year c.loop-year-test.true) found
+returns-then-begin_by c = grind (arith, to_z, of_z, to_z-of_z, search_found, at_least)
 
 pub loop-year-preserved : goal.loop-year-preserved
 loop-year-preserved c =
@@ -34,7 +27,4 @@ loop-year-preserved c =
     search_next c.args.self (to_z w32 (of_z w32 c.args.by)) year _ c.loop-year.invariant low missed (let high = c.loop-year.invariant.high in omega (arith, ints))
 
 pub returns : goal.returns
-returns c =
-    let by : to_z w32 (of_z w32 c.args.by) ≡ c.args.by = to_z-of_z w32 c.args.by c.ranges.by in
-    let year : ℤ = to_z w16 c.loop-year.year-bits in
-    search_over c.args.self c.args.by year (rw by at c.loop-year.invariant) (below year c.loop-year-test.false)
+returns c = grind (arith, to_z, of_z, to_z-of_z, search_over, below)
