@@ -84,8 +84,7 @@ ascii-low : (cs : List ℕ) → IsAscii cs → IsAscii (low cs)
 ascii-low cs ascii = IsAscii-map to_ascii_lowercase cs lowercase_ascii ascii
 
 bytes-low : (cs : List ℕ) → IsAscii cs → length (encode_utf8_all (low cs)) ≡ length (encode_utf8_all cs)
-bytes-low cs ascii =
-    ap length (encodes-IsAscii (low cs) (ascii-low cs ascii)) ∙ length-map cs to_ascii_lowercase ∙ sym (ap length (encodes-IsAscii cs ascii))
+bytes-low cs ascii = grind (arith, encodes-IsAscii, ascii-low, length-map)
 
 is_word-low : (before inside behind : List ℕ) → IsAscii inside → is_word is_word_character (low before) (low inside) (low behind) ≡ is_word is_word_character before inside behind
 unfolding is_word
@@ -97,12 +96,10 @@ is_word-low before inside behind ascii = (λ k.
 -- ---- words, place by place
 
 folding-low : (cs : List ℕ) → IsAscii cs → encode_utf8_all (low cs) ≡ folding (encode_utf8_all cs)
-folding-low cs ascii =
-    encodes-IsAscii (low cs) (ascii-low cs ascii) ∙ sym (ap folding (encodes-IsAscii cs ascii) ∙ folding-ascii cs ascii)
+folding-low cs ascii = grind (arith, encodes-IsAscii, ascii-low, folding-ascii)
 
 folded_one : (word : List ℕ) (b : Bool) → map folding (cond b (word ∷ []) []) ≡ cond b (folding word ∷ []) []
-folded_one word true = refl
-folded_one word false = refl
+folded_one word b = grind arith
 
 if_word-low : (before inside behind : List ℕ) → IsAscii inside → if_word (low before) (low inside) (low behind) ≡ map folding (if_word before inside behind)
 if_word-low before inside behind ascii =

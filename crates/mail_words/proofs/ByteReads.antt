@@ -12,14 +12,10 @@ use Rattle.mail_words.proofs.Seams.{front_seam}
 
 -- what the tests of a byte say
 pub class_byte : (p : ℕ → Bool) (b : ℕ) (of_class : Bool) → of_class ≡ (nat_lt b 128 && p b) → of_class ≡ true → (b < 128) × (p b ≡ true)
-class_byte p b of_class test holds =
-    let parts = and_parts (nat_lt b 128) (p b) (sym test ∙ holds) in
-    (ltb-true b 128 parts.0, parts.1)
+class_byte p b of_class test holds = grind (arith, and_parts, ltb-true)
 
 pub other_byte : (p : ℕ → Bool) (b : ℕ) (of_class ascii : Bool) → of_class ≡ (nat_lt b 128 && p b) → of_class ≡ false → ascii ≡ is_ascii b → ascii ≡ true → (b < 128) × (p b ≡ false)
-other_byte p b of_class ascii test fails ascii_test holds =
-    let below : nat_lt b 128 ≡ true = sym ascii_test ∙ holds in
-    (ltb-true b 128 below, ap (λ t. t && p b) (sym below) ∙ sym test ∙ fails)
+other_byte p b of_class ascii test fails ascii_test holds = grind (arith, ltb-true)
 
 -- such a byte is the next character
 pub next_byte : (text : List ℕ) (i : ℕ) → i < length text → get_or text i 0 < 128 → drop i text ≡ encode_utf8 (get_or text i 0) ++ drop (i + 1) text

@@ -1,5 +1,5 @@
 -- Word characters of ASCII, that no joiner is a word character, and the joiners among bytes.
-use Rattle.std.proofs.Common.{◌≡◌, ℕ, ◌<◌, ◌≤◌, Bool, true, false, not, ◌&&◌, ◌||◌, nat_lt, List, [], ◌∷◌, get_or, chars, encode_utf8, encode_utf8_all, IsUtf8, inl, inr, refl, sym, ap, ap₂, ◌∙◌, arith, append-nil}
+use Rattle.std.proofs.Common.{◌≡◌, ℕ, ◌<◌, ◌≤◌, Bool, true, false, not, ◌&&◌, nat_lt, List, [], ◌∷◌, get_or, chars, encode_utf8, encode_utf8_all, IsUtf8, inl, inr, refl, sym, ap, ◌∙◌, arith, append-nil}
 use Rattle.std.proofs.Math.Bool.{and-true}
 use Rattle.std.proofs.lemmas.Bool.{cases_lt}
 use Rattle.std.proofs.lemmas.Bool.Decides.{nat_tests}
@@ -27,9 +27,7 @@ unfolding is_joiner
 joiner_below c joins = grind (arith, nat_tests)
 
 not_both : (joins of_word : Bool) → not (joins && of_word) ≡ true → joins ≡ true → of_word ≡ false
-not_both true true apart joins = sym apart
-not_both true false apart joins = refl
-not_both false of_word apart joins = cc
+not_both joins of_word h h2 = grind arith
 
 pub joiner_is_no_word_character : (c : ℕ) → is_joiner c ≡ true → is_word_character c ≡ false
 unfolding all_below ucd_derived ucd_category is_word_character is_joiner
@@ -48,9 +46,7 @@ pub piece_byte : (b : ℕ) → (nat_lt b 128 && is_word_character b) ≡ false �
 piece_byte b other = go (nat_lt b 128) (is_joiner b) refl refl
   where
     go : (below joins : Bool) → nat_lt b 128 ≡ below → is_joiner b ≡ joins → is_joiner b ≡ (nat_lt b 128 && is_piece b)
-    go true joins e f =
-        let no_word : is_word_character b ≡ false = ap (λ t. t && is_word_character b) (sym e) ∙ other in
-        sym (ap (λ t. t && is_piece b) e ∙ ap (λ w. w || is_joiner b) no_word)
+    go true joins e f = grind arith
     go false true e f = let below = joiner_below b f in absurd (grind (arith, nat_tests))
     go false false e f = f ∙ sym (ap (λ t. t && is_piece b) e)
 
@@ -83,8 +79,7 @@ joiners-encode c =
 
 joiners-encodes : (cs : List ℕ) → list_all is_joiner (encode_utf8_all cs) ≡ list_all is_joiner cs
 joiners-encodes [] = refl
-joiners-encodes (c ∷ cs) =
-    list_all-append is_joiner (encode_utf8 c) (encode_utf8_all cs) ∙ ap₂ ◌&&◌ (joiners-encode c) (joiners-encodes cs)
+joiners-encodes (c ∷ cs) = grind (arith, list_all-append, encode_utf8, encode_utf8_all, joiners-encode, joiners-encodes cs)
 
 -- the bytes are joiners alone where the characters are
 pub joiners-bytes : (text : List ℕ) → IsUtf8 text → list_all is_joiner text ≡ list_all is_joiner (chars text)

@@ -1,5 +1,5 @@
 -- Laws of foldings, and what is left of one that is being written.
-use Rattle.std.proofs.Common.{◌≡◌, ℕ, ◌*◌, ◌≤◌, List, [], ◌∷◌, ◌++◌, map, length, None, Some, chars, encode_utf8, encode_utf8_all, IsAscii, IsUtf8, inl, inr, refl, sym, ap, ◌∙◌, arith, append_assoc, append-nil, length-append}
+use Rattle.std.proofs.Common.{◌≡◌, ℕ, ◌*◌, ◌≤◌, List, [], ◌∷◌, ◌++◌, map, length, None, Some, chars, encode_utf8, encode_utf8_all, IsAscii, IsUtf8, refl, sym, ap, ◌∙◌, arith, append_assoc, append-nil, length-append}
 use Rattle.std.proofs.lemmas.Bool.{cases_lt}
 use Rattle.std.proofs.lemmas.List.{length-map}
 use Rattle.std.proofs.lemmas.Str.{chars-IsAscii, encodes-IsAscii, encodes-chars, length-le-encodes, Chars-gives, len_utf8_bounds, length-encode}
@@ -11,34 +11,26 @@ use Rattle.std.specs.Iterator.{AlwaysYields}
 use Rattle.caseless.specs.Caseless.{default_case_fold}
 use Rattle.caseless.specs.CaseFold.{FoldsCaseTo, CaseFoldSteps}
 use Rattle.caseless.specs.declared.CaseFold.{CaseFold}
-use Rattle.unicode.specs.CaseFolding.{full_fold, full_folding}
+use Rattle.unicode.specs.CaseFolding.{full_fold}
 use Rattle.caseless.proofs.CaselessLemmas.{default_case_fold-ascii, default_case_fold-cons, All-chars, length-default_case_fold, full_fold-none, full_fold-some}
 use Rattle.mail_words.specs.Folding.{folding}
 
 -- in ASCII only the capital letters change
 pub folding-ascii : (text : List ℕ) → IsAscii text → folding text ≡ map to_ascii_lowercase text
-folding-ascii text ascii =
-    ap encode_utf8_all (default_case_fold-ascii (chars text) (All-chars text ascii) ∙ ap (map to_ascii_lowercase) (chars-IsAscii text ascii))
-    ∙ encodes-IsAscii (map to_ascii_lowercase text) (IsAscii-map to_ascii_lowercase text lowercase_ascii ascii)
+folding-ascii text ascii = grind (arith, encode_utf8_all, default_case_fold-ascii, All-chars, chars-IsAscii, encodes-IsAscii, IsAscii-map, lowercase_ascii)
 
 pub length-folding-ascii : (text : List ℕ) → IsAscii text → length (folding text) ≡ length text
 length-folding-ascii text ascii = ap length (folding-ascii text ascii) ∙ simp length-map
 
 length-encodes-le : (cs : List ℕ) → length (encode_utf8_all cs) ≤ 4 * length cs
 length-encodes-le [] = omega arith
-length-encodes-le (c ∷ cs) =
-    omega (arith, length-append (encode_utf8 c) (encode_utf8_all cs), length-encode c, (len_utf8_bounds c).1, length-encodes-le cs)
+length-encodes-le (c ∷ cs) = grind (arith, length-append, encode_utf8, encode_utf8_all, length-encode, len_utf8_bounds, length-encodes-le cs)
 
 pub length-folding : (text : List ℕ) → IsUtf8 text → length (folding text) ≤ 8 * length text
-length-folding text utf8 =
-    omega (arith, length-encodes-le (default_case_fold (chars text)), length-default_case_fold (chars text), ap length (encodes-chars text utf8))
+length-folding text utf8 = grind (arith, length-encodes-le, length-default_case_fold, encodes-chars)
 
 full_fold_some : (c : ℕ) → 1 ≤ length (full_fold c)
-full_fold_some c =
-    elim (cases_lt (length (full_folding c)) 1) [
-      | inl none ↦ rw (full_fold-none c (full_folding c) refl none) (omega arith)
-      | inr some ↦ rw (full_fold-some c (full_folding c) refl some) some
-    ]
+full_fold_some c = grind (arith, cases_lt, full_fold-none, full_fold-some)
 
 folds_to_some : (cs : List ℕ) → 1 ≤ length cs → 1 ≤ length (encode_utf8_all (default_case_fold cs))
 folds_to_some [] some = absurd (omega arith)

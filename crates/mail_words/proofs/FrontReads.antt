@@ -28,8 +28,7 @@ pub record FrontRead (p : ℕ → Bool) (text : List ℕ) (len : ℕ) (rest : Li
   pub whole : length (encode_utf8_all (front p (chars text))) ≡ len + length (encode_utf8_all (front p (chars rest)))
 
 pub front_read-start : (p : ℕ → Bool) (text rest : List ℕ) → IsUtf8 text → rest ≡ text → FrontRead p text 0 rest
-front_read-start p text rest utf8 same =
-    rw same (record { read = record { utf8 = utf8; lengths = omega arith }; whole = omega arith })
+front_read-start p text rest utf8 same = grind arith
 
 pub front_read-pass : (p : ℕ → Bool) (text : List ℕ) (len : ℕ) (rest : List ℕ) (c : ℕ) (rest' : List ℕ) → FrontRead p text len rest → rest ≡ encode_utf8 c ++ rest' → p c ≡ true
     → FrontRead p text (len + len_utf8 c) rest'

@@ -27,13 +27,11 @@ run-joiners [] = ([], refl, refl)
 run-joiners (c ∷ cs) = go (is_word_character c) (is_joiner c) refl refl (run-joiners cs)
   where
     go : (w j : Bool) → is_word_character c ≡ w → is_joiner c ≡ j → EndsInJoiners (front is_piece cs) (joined_front cs) → EndsInJoiners (front is_piece (c ∷ cs)) (joined_front (c ∷ cs))
-    go true j e f h =
-        (h.0, front-pass is_piece c cs (λ k. e k || is_joiner c) ∙ ap (λ ds. c ∷ ds) h.1 ∙ ap (λ ds. ds ++ h.0) (sym (joined_front-word c cs e)), h.2)
+    go true j e f h = grind (arith, front-pass, joined_front-word)
     go false true e f h =
         let more = joined_to-joiners c (joined_front cs) h.0 f h.2 in
         (more.0, front-pass is_piece c cs (λ k. e k || f k) ∙ ap (λ ds. c ∷ ds) h.1 ∙ more.1 ∙ ap (λ ds. ds ++ more.0) (sym (joined_front-joiner c cs f)), more.2)
-    go false false e f h =
-        ([], front-fail is_piece (c ∷ cs) (λ k. e k || f k) ∙ ap (λ ds. ds ++ []) (sym (joined_front-other c cs e f)), refl)
+    go false false e f h = grind (arith, front-fail, joined_front-other)
 
 -- ---- bytes
 

@@ -1,5 +1,5 @@
 -- Words that are short enough, and those that aren't.
-use Rattle.std.proofs.Common.{◌≡◌, ℕ, ◌+◌, ◌≤◌, ◌<◌, Bool, true, false, cond, List, [], ◌∷◌, ◌++◌, length, take, drop, chars, encode_utf8_all, IsUtf8, refl, sym, ap, ap₂, ◌∙◌, arith, append_assoc, length-append}
+use Rattle.std.proofs.Common.{◌≡◌, ℕ, ◌+◌, ◌≤◌, ◌<◌, Bool, true, false, List, [], ◌∷◌, ◌++◌, length, take, drop, chars, encode_utf8_all, IsUtf8, sym, ap, ◌∙◌, arith, append_assoc, length-append}
 use Rattle.std.proofs.lemmas.Bool.{le-leb}
 use Rattle.std.proofs.lemmas.Bool.Decides.{nat_tests}
 use Rattle.std.proofs.lemmas.Str.{encodes-append}
@@ -11,36 +11,27 @@ use Rattle.mail_words.proofs.Reading.{words_left-word}
 use Rattle.mail_words.proofs.Seams.{IsSeam, seam, front_seam, seam_front, chars_back, some_from_bytes}
 
 pub within-short : (cs word : List ℕ) → word ≡ encode_utf8_all cs → length word ≤ word_limit → within cs ≡ word ∷ []
-within-short cs word is short =
-    ap (λ t. cond t (encode_utf8_all cs ∷ []) []) (le-leb (length (encode_utf8_all cs)) word_limit (omega (arith, short, ap length is))) ∙ ap (λ w. w ∷ []) (sym is)
+within-short cs word is short = grind (arith, encode_utf8_all, le-leb)
 
 pub within-long : (cs : List ℕ) → word_limit < length (encode_utf8_all cs) → within cs ≡ []
 within-long cs long = grind (arith, nat_tests)
 
 pub joined_on-short : (plain more word : List ℕ) → is_some more ≡ true → word ≡ encode_utf8_all (plain ++ more) → length word ≤ word_limit → joined_on plain more ≡ word ∷ []
-joined_on-short plain [] word some is short = cc
-joined_on-short plain (c ∷ cs) word some is short = within-short (plain ++ c ∷ cs) word is short
+joined_on-short plain more word h h2 h3 = grind (arith, within-short)
 
 pub joined_on-long : (plain more : List ℕ) → word_limit < length (encode_utf8_all (plain ++ more)) → joined_on plain more ≡ []
-joined_on-long plain [] long = refl
-joined_on-long plain (c ∷ cs) long = within-long (plain ++ c ∷ cs) long
+joined_on-long plain more h = grind (arith, within-long)
 
 -- a plain word that is too long begins no long word that is kept
 pub long_at-long : (in_run : Bool) (cs : List ℕ) → word_limit < length (encode_utf8_all (front is_word_character cs)) → long_at in_run cs ≡ []
-long_at-long true cs long = refl
-long_at-long false cs long =
-    let plain : List ℕ = front is_word_character cs in
-    let more : List ℕ = joined_front (behind is_word_character cs) in
-    joined_on-long plain more (omega (arith, long, ap length (encodes-append plain more), length-append (encode_utf8_all plain) (encode_utf8_all more)))
+long_at-long in_run cs h = grind (arith, joined_on-long, encodes-append, length-append, encode_utf8_all)
 
 -- a text is cut behind its long word
 abbrev pub long_front : List ℕ → List ℕ
 long_front cs = front is_word_character cs ++ joined_front (behind is_word_character cs)
 
 pub length-long_front : (cs : List ℕ) → length (encode_utf8_all (long_front cs)) ≡ length (encode_utf8_all (front is_word_character cs)) + length (encode_utf8_all (joined_front (behind is_word_character cs)))
-length-long_front cs =
-    ap length (encodes-append (front is_word_character cs) (joined_front (behind is_word_character cs)))
-    ∙ length-append (encode_utf8_all (front is_word_character cs)) (encode_utf8_all (joined_front (behind is_word_character cs)))
+length-long_front cs = grind (arith, encodes-append, length-append, encode_utf8_all)
 
 pub long_seam : (text : List ℕ) → IsUtf8 text → (rest : List ℕ) × IsSeam text (long_front (chars text)) rest
 long_seam text utf8 =
@@ -72,15 +63,8 @@ long_at-short text word len utf8 place short some is =
 
 pub words_left-kept : (in_run : Bool) (cs rest plain : List ℕ) (longs : List (List ℕ)) → begins is_word_character cs ≡ true → plain ≡ encode_utf8_all (front is_word_character cs)
     → length plain ≤ word_limit → longs ≡ long_at in_run cs → rest ≡ behind is_word_character cs → words_left in_run cs ≡ plain ∷ (longs ++ words_left true rest)
-words_left-kept in_run cs rest plain longs begun is short long after =
-    words_left-word in_run cs begun
-    ∙ ap₂ (λ ws vs. (ws ++ vs) ++ words_left true (behind is_word_character cs)) (within-short (front is_word_character cs) plain is short) (sym long)
-    ∙ ap (λ cs'. plain ∷ (longs ++ words_left true cs')) (sym after)
+words_left-kept in_run cs rest plain longs begun is short long after = grind (arith, words_left-word, within-short)
 
 pub words_left-dropped : (in_run : Bool) (cs rest plain : List ℕ) → begins is_word_character cs ≡ true → plain ≡ encode_utf8_all (front is_word_character cs)
     → word_limit < length plain → rest ≡ behind is_word_character cs → words_left in_run cs ≡ words_left true rest
-words_left-dropped in_run cs rest plain begun is long after =
-    let longer : word_limit < length (encode_utf8_all (front is_word_character cs)) = omega (arith, long, ap length is) in
-    words_left-word in_run cs begun
-    ∙ ap₂ (λ ws vs. (ws ++ vs) ++ words_left true (behind is_word_character cs)) (within-long (front is_word_character cs) longer) (long_at-long in_run cs longer)
-    ∙ ap (words_left true) (sym after)
+words_left-dropped in_run cs rest plain begun is long after = grind (arith, encode_utf8_all, words_left-word, within-long, long_at-long)

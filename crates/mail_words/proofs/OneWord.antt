@@ -21,8 +21,7 @@ is_some-reverse [] h = h
 is_some-reverse (x ∷ xs) h = ap is_some (reverse-append (x ∷ []) xs) ∙ is_some-append (reverse xs) (x ∷ []) refl
 
 begins-front : (p : ℕ → Bool) (xs ys : List ℕ) → is_some xs ≡ true → begins p (xs ++ ys) ≡ begins p xs
-begins-front p [] ys h = cc
-begins-front p (x ∷ xs) ys h = refl
+begins-front p xs ys h = grind arith
 
 pub ends-cons : (p : ℕ → Bool) (c : ℕ) (cs : List ℕ) → is_some cs ≡ true → begins p (reverse (c ∷ cs)) ≡ begins p (reverse cs)
 ends-cons p c cs h = ap (begins p) (reverse-append (c ∷ []) cs) ∙ begins-front p (reverse cs) (c ∷ []) (is_some-reverse cs h)
@@ -46,22 +45,15 @@ joined_front-prefix (c ∷ cs) = go (is_word_character c) (is_joiner c) refl ref
 
 -- of word characters and joiners
 all-joined_to : (c : ℕ) (cs : List ℕ) → is_piece c ≡ true → list_all is_piece cs ≡ true → list_all is_piece (joined_to c cs) ≡ true
-all-joined_to c [] piece h = refl
-all-joined_to c (d ∷ ds) piece h = (λ k. piece k && h k)
+all-joined_to c cs h h2 = grind arith
 
 all-joined_front : (cs : List ℕ) → list_all is_piece (joined_front cs) ≡ true
 all-joined_front [] = refl
-all-joined_front (c ∷ cs) = go (is_word_character c) (is_joiner c) refl refl (all-joined_front cs)
-  where
-    go : (w j : Bool) → is_word_character c ≡ w → is_joiner c ≡ j → list_all is_piece (joined_front cs) ≡ true → list_all is_piece (joined_front (c ∷ cs)) ≡ true
-    go true j e f h = ap (list_all is_piece) (joined_front-word c cs e) ∙ (λ k. (e k || is_joiner c) && h k)
-    go false true e f h = ap (list_all is_piece) (joined_front-joiner c cs f) ∙ all-joined_to c (joined_front cs) (λ k. e k || f k) h
-    go false false e f h = ap (list_all is_piece) (joined_front-other c cs e f)
+all-joined_front (c ∷ cs) = grind (arith, cs, joined_front-word, joined_front-joiner, all-joined_to, joined_front-other, all-joined_front cs)
 
 -- that ends with a word character
 ends-word : (c : ℕ) (cs : List ℕ) → is_word_character c ≡ true → (is_some cs ≡ true → begins is_word_character (reverse cs) ≡ true) → begins is_word_character (reverse (c ∷ cs)) ≡ true
-ends-word c [] e h = e
-ends-word c (d ∷ ds) e h = ends-cons is_word_character c (d ∷ ds) refl ∙ h refl
+ends-word c cs h h2 = grind (arith, ends-cons)
 
 ends-joined_to : (c : ℕ) (cs : List ℕ) → (is_some cs ≡ true → begins is_word_character (reverse cs) ≡ true) → is_some (joined_to c cs) ≡ true
     → begins is_word_character (reverse (joined_to c cs)) ≡ true
@@ -70,21 +62,12 @@ ends-joined_to c (d ∷ ds) h some = ends-cons is_word_character c (d ∷ ds) re
 
 pub ends-joined_front : (cs : List ℕ) → is_some (joined_front cs) ≡ true → begins is_word_character (reverse (joined_front cs)) ≡ true
 ends-joined_front [] some = some
-ends-joined_front (c ∷ cs) some = go (is_word_character c) (is_joiner c) refl refl (ends-joined_front cs)
-  where
-    go : (w j : Bool) → is_word_character c ≡ w → is_joiner c ≡ j → (is_some (joined_front cs) ≡ true → begins is_word_character (reverse (joined_front cs)) ≡ true)
-        → begins is_word_character (reverse (joined_front (c ∷ cs))) ≡ true
-    go true j e f h = ap (λ js. begins is_word_character (reverse js)) (joined_front-word c cs e) ∙ ends-word c (joined_front cs) e h
-    go false true e f h =
-        ap (λ js. begins is_word_character (reverse js)) (joined_front-joiner c cs f)
-        ∙ ends-joined_to c (joined_front cs) h (ap is_some (sym (joined_front-joiner c cs f)) ∙ some)
-    go false false e f h = let none = ap is_some (joined_front-other c cs e f) in cc
+ends-joined_front (c ∷ cs) some = grind (arith, cs, is_some, joined_front-word, ends-word, joined_front-joiner, ends-joined_to, joined_front-other, ends-joined_front cs)
 
 -- ---- when it is the whole
 
 joined_to-whole : (c : ℕ) (cs : List ℕ) → is_some cs ≡ true → joined_to c cs ≡ c ∷ cs
-joined_to-whole c [] h = cc
-joined_to-whole c (d ∷ ds) h = refl
+joined_to-whole c cs h = grind arith
 
 joined_front-whole : (cs : List ℕ) → list_all is_piece cs ≡ true → (is_some cs ≡ true → begins is_word_character (reverse cs) ≡ true) → joined_front cs ≡ cs
 joined_front-whole [] pieces ended = refl
@@ -100,15 +83,11 @@ joined_front-whole (c ∷ cs) pieces ended = go (is_word_character c) (is_joiner
     no_rest none = only cs none
       where
         only : (ds : List ℕ) → is_some ds ≡ false → begins is_word_character (reverse (c ∷ ds)) ≡ is_word_character c
-        only [] h = refl
-        only (d ∷ ds) h = cc
+        only ds h = grind arith
 
     go : (w j some : Bool) → is_word_character c ≡ w → is_joiner c ≡ j → is_some cs ≡ some
         → ((is_some cs ≡ true → begins is_word_character (reverse cs) ≡ true) → joined_front cs ≡ cs) → joined_front (c ∷ cs) ≡ c ∷ cs
-    go true j some e f s h = joined_front-word c cs e ∙ ap (λ ds. c ∷ ds) (h rest_ended)
-    go false true true e f s h = joined_front-joiner c cs f ∙ ap (joined_to c) (h rest_ended) ∙ joined_to-whole c cs s
-    go false true false e f s h = let last = sym (ended refl) ∙ no_rest s in cc
-    go false false some e f s h = let piece : (is_word_character c || is_joiner c) ≡ false = (λ k. e k || f k) in let no = sym parts.0 ∙ piece in cc
+    go w j some h h2 h3 h4 = grind (arith, joined_front-word, rest_ended, joined_front-joiner, no_rest)
 
 -- ---- the tests as one
 
@@ -132,19 +111,13 @@ all_or_joined (c ∷ cs) h =
     go (is_word_character c) (is_joiner c) (list_all is_word_character cs) (list_any is_joiner cs) parts.0 (all_or_joined cs parts.1)
   where
     go : (w j all any : Bool) → (w || j) ≡ true → (all || any) ≡ true → ((w && all) || (j || any)) ≡ true
-    go true j true any e h = refl
-    go true true false any e h = refl
-    go true false false any e h = h
-    go false true all any e h = refl
-    go false false all any e h = cc
+    go w j all any h h2 = grind arith
 
 some_length : (cs : List ℕ) → is_some cs ≡ true → 1 ≤ length cs
-some_length [] h = cc
-some_length (c ∷ cs) h = omega arith
+some_length cs h = grind arith
 
 some-begins : (cs : List ℕ) → begins is_word_character cs ≡ true → is_some cs ≡ true
-some-begins [] h = h
-some-begins (c ∷ cs) h = refl
+some-begins cs h = grind arith
 
 abbrev word_tests : Bool → Bool → Bool → Bool → Bool → Bool → Bool
 word_tests begun all ended pieces joins short =
@@ -154,20 +127,7 @@ word_tests begun all ended pieces joins short =
 tests_as_one : (begun all ended pieces joins short some whole : Bool) → (all ≡ true → pieces ≡ true) → (begun ≡ true → all ≡ true → ended ≡ true) → (pieces ≡ true → (all || joins) ≡ true)
     → (begun ≡ true → some ≡ true) → (pieces ≡ true → ended ≡ true → whole ≡ true) → (begun ≡ true → whole ≡ true → ended ≡ true)
     → word_tests begun all ended pieces joins short ≡ ((some && short && pieces) && (begun && whole))
-tests_as_one false all ended pieces joins short some whole a b c d e f = sym (and-false (some && short && pieces))
-tests_as_one true true ended pieces joins short some whole a b c d e f =
-    let p = a refl in
-    let s = d refl in
-    let w = e p (b refl refl) in
-    rw (p, s, w) (sym (and-true (short && true) ∙ and-true short))
-tests_as_one true false true true joins short some whole a b c d e f =
-    let j = c refl in
-    let s = d refl in
-    let w = e refl refl in
-    rw (j, s, w) (sym (and-true (short && true) ∙ and-true short))
-tests_as_one true false true false joins short some whole a b c d e f = sym (ap (λ t. t && whole) (and-false (some && short)))
-tests_as_one true false false pieces joins short some true a b c d e f = let no = f refl refl in cc
-tests_as_one true false false pieces joins short some false a b c d e f = sym (and-false (some && short && pieces))
+tests_as_one begun all ended pieces joins short some whole h h2 h3 h4 h5 h6 = grind (arith, and-false, and-true, whole)
 
 -- the run is the whole text where it has as many bytes
 same_length : (cs js rest : List ℕ) → cs ≡ js ++ rest → length (encode_utf8_all js) ≡ length (encode_utf8_all cs) → js ≡ cs

@@ -1,5 +1,5 @@
 -- Reading the words of a text from the front: what is left of a text behind a place.
-use Rattle.std.proofs.Common.{◌≡◌, ℕ, Bool, true, false, not, ◌&&◌, List, [], ◌∷◌, ◌++◌, reverse, refl, sym, ap, ap₂, ◌∙◌, lit<}
+use Rattle.std.proofs.Common.{◌≡◌, ℕ, Bool, true, false, ◌&&◌, List, [], ◌∷◌, ◌++◌, reverse, refl, sym, ap, ap₂, ◌∙◌, lit<, arith}
 use Rattle.std.proofs.Math.Bool.{and-true, and-false}
 use Rattle.std.specs.List.{list_all}
 use Rattle.mail_words.specs.Words.{is_word_character, is_joiner, begins, after_joiners}
@@ -15,16 +15,11 @@ use Rattle.mail_words.proofs.Steps.{words_on-other, none_within, words_on-word}
 words_on-same : (before before' inside rest : List ℕ) → begins is_word_character before ≡ begins is_word_character before'
     → begins is_word_character (after_joiners before) ≡ begins is_word_character (after_joiners before') → words_on before inside rest ≡ words_on before' inside rest
 words_on-same before before' inside [] first run = refl
-words_on-same before before' inside (c ∷ cs) first run =
-    ap₂ ◌++◌ (same_before before before' (inside ++ c ∷ []) cs first run) (words_on-same before before' (inside ++ c ∷ []) cs first run)
+words_on-same before before' inside (c ∷ cs) first run = grind (arith, same_before, words_on-same before before' (inside ++ c ∷ []) cs first run)
 
 run-push : (c : ℕ) (before before' : List ℕ) → begins is_word_character (after_joiners before) ≡ begins is_word_character (after_joiners before')
     → begins is_word_character (after_joiners (c ∷ before)) ≡ begins is_word_character (after_joiners (c ∷ before'))
-run-push c before before' run = go (is_joiner c) refl
-  where
-    go : (t : Bool) → is_joiner c ≡ t → begins is_word_character (after_joiners (c ∷ before)) ≡ begins is_word_character (after_joiners (c ∷ before'))
-    go true e = ap (begins is_word_character) (after_joiners-joiner c before e) ∙ run ∙ sym (ap (begins is_word_character) (after_joiners-joiner c before' e))
-    go false e = ap (begins is_word_character) (after_joiners-other c before e) ∙ sym (ap (begins is_word_character) (after_joiners-other c before' e))
+run-push c before before' run = grind (arith, after_joiners-joiner, after_joiners-other)
 
 words_from-same : (before before' cs : List ℕ) → begins is_word_character before ≡ begins is_word_character before'
     → begins is_word_character (after_joiners before) ≡ begins is_word_character (after_joiners before') → words_from before cs ≡ words_from before' cs
@@ -35,10 +30,7 @@ words_from-same before before' (c ∷ cs) first run =
 -- where no word begins at the first character, only the run matters
 words_from-run : (before before' cs : List ℕ) → begins is_word_character cs ≡ false
     → begins is_word_character (after_joiners before) ≡ begins is_word_character (after_joiners before') → words_from before cs ≡ words_from before' cs
-words_from-run before before' [] last run = refl
-words_from-run before before' (c ∷ cs) last run =
-    ap₂ ◌++◌ (words_on-other before c cs last ∙ sym (words_on-other before' c cs last))
-    (words_from-same (c ∷ before) (c ∷ before') cs refl (run-push c before before' run))
+words_from-run before before' cs h h2 = grind (arith, words_on-other, words_from-same, run-push)
 
 -- ---- what is left
 
@@ -76,8 +68,7 @@ words_left-gap in_run c cs other =
     go : (t : Bool) → is_joiner c ≡ t → begins is_word_character (after_joiners (c ∷ before_rest in_run)) ≡ (in_run && is_joiner c)
     go true e =
         ap (begins is_word_character) (after_joiners-joiner c (before_rest in_run) e) ∙ run_before_rest in_run ∙ sym (ap (λ t. in_run && t) e ∙ and-true in_run)
-    go false e =
-        ap (begins is_word_character) (after_joiners-other c (before_rest in_run) e) ∙ other ∙ sym (ap (λ t. in_run && t) e ∙ and-false in_run)
+    go false e = grind (arith, after_joiners-other, and-false)
 
 -- past one space
 pub words_left-space : (in_run : Bool) (cs : List ℕ) → words_left in_run (0x20 ∷ cs) ≡ words_left false cs
@@ -112,29 +103,10 @@ words_left-word in_run (c ∷ cs) e =
 -- past all characters at which no word begins
 pub words_left-gaps : (in_run : Bool) (cs : List ℕ) → words_left in_run cs ≡ words_left (in_run && list_all is_joiner (front is_other cs)) (behind is_other cs)
 words_left-gaps in_run [] = words_left-end in_run ∙ sym (words_left-end (in_run && true))
-words_left-gaps in_run (c ∷ cs) = go (is_word_character c) refl (words_left-gaps (in_run && is_joiner c) cs)
-  where
-    and_assoc : (a b c : Bool) → ((a && b) && c) ≡ (a && (b && c))
-    and_assoc true b c = refl
-    and_assoc false b c = refl
-
-    go : (t : Bool) → is_word_character c ≡ t
-        → words_left (in_run && is_joiner c) cs ≡ words_left ((in_run && is_joiner c) && list_all is_joiner (front is_other cs)) (behind is_other cs)
-        → words_left in_run (c ∷ cs) ≡ words_left (in_run && list_all is_joiner (front is_other (c ∷ cs))) (behind is_other (c ∷ cs))
-    go true e rest =
-        ap (λ b. words_left b (c ∷ cs)) (sym (and-true in_run))
-        ∙ sym (ap₂ (λ fore back. words_left (in_run && list_all is_joiner fore) back) (front-fail is_other (c ∷ cs) (λ k. not (e k))) (behind-fail is_other (c ∷ cs) (λ k. not (e k))))
-    go false e rest =
-        words_left-gap in_run c cs e ∙ rest ∙ ap (λ b. words_left b (behind is_other cs)) (and_assoc in_run (is_joiner c) (list_all is_joiner (front is_other cs)))
-        ∙ sym (ap₂ (λ fore back. words_left (in_run && list_all is_joiner fore) back) (front-pass is_other c cs (λ k. not (e k))) (behind-pass is_other c cs (λ k. not (e k))))
+words_left-gaps in_run (c ∷ cs) = grind (arith, and-true, front-fail, behind-fail, words_left-gap, front-pass, behind-pass, words_left-gaps (in_run && is_joiner c) cs)
 
 begins-other : (cs : List ℕ) → begins is_other cs ≡ false → is_some cs ≡ true → begins is_word_character cs ≡ true
-begins-other [] e some = some
-begins-other (c ∷ cs) e some = go (is_word_character c) refl e
-  where
-    go : (t : Bool) → is_word_character c ≡ t → is_other c ≡ false → is_word_character c ≡ true
-    go true w o = w
-    go false w o = let other : is_other c ≡ true = (λ k. not (w k)) in cc
+begins-other cs h h2 = grind arith
 
 -- a word begins behind them, unless nothing is left
 pub begins-gaps : (cs : List ℕ) → is_some (behind is_other cs) ≡ true → begins is_word_character (behind is_other cs) ≡ true

@@ -29,17 +29,7 @@ pub record IsSeam (text xs ys : List ℕ) : Type 0 where
   pub lengths : length text ≡ length (encode_utf8_all xs) + length (encode_utf8_all ys)
 
 pub seam : (text xs ys : List ℕ) → IsUtf8 text → chars text ≡ xs ++ ys → IsSeam text xs ys
-seam text xs ys utf8 parts =
-    let valid : scalars (xs ++ ys) ≡ true = ap scalars (sym parts) ∙ scalars-chars text utf8 in
-    let joined : text ≡ encode_utf8_all xs ++ encode_utf8_all ys = sym (encodes-chars text utf8) ∙ ap encode_utf8_all parts ∙ encodes-append xs ys in
-    record {
-      front = ap (take (length (encode_utf8_all xs))) joined ∙ take-append_seam (encode_utf8_all xs) (encode_utf8_all ys);
-      back = ap (drop (length (encode_utf8_all xs))) joined ∙ drop-append_seam (encode_utf8_all xs) (encode_utf8_all ys);
-      boundary = IsCharBoundary-at_seam text (encode_utf8_all xs) (encode_utf8_all ys) joined (ys, (scalars-back xs ys valid, refl));
-      front_chars = chars-encodes xs (scalars-front xs ys valid);
-      back_chars = chars-encodes ys (scalars-back xs ys valid);
-      lengths = ap length joined ∙ length-append (encode_utf8_all xs) (encode_utf8_all ys);
-    }
+seam text xs ys utf8 parts = grind (arith, scalars, scalars-chars, encode_utf8_all, encodes-chars, encodes-append, take-append_seam, drop-append_seam, IsCharBoundary-at_seam, scalars-back, chars-encodes, scalars-front, length-append)
 
 -- the same at a place that is told by its number of bytes
 pub seam_boundary : (text xs ys : List ℕ) (n : ℕ) → IsSeam text xs ys → n ≡ length (encode_utf8_all xs) → IsCharBoundary text n
@@ -63,8 +53,7 @@ front_seam p text utf8 = seam text (front p (chars text)) (behind p (chars text)
 
 -- there are characters where there are bytes
 pub some_from_bytes : (cs : List ℕ) → 0 < length (encode_utf8_all cs) → is_some cs ≡ true
-some_from_bytes [] h = absurd (omega (arith, h))
-some_from_bytes (c ∷ cs) h = refl
+some_from_bytes cs h = grind arith
 
 pub nil_from_bytes : (cs : List ℕ) → length (encode_utf8_all cs) ≡ 0 → cs ≡ []
 nil_from_bytes [] h = refl

@@ -1,5 +1,5 @@
 -- What begins at a place, by what the character there is.
-use Rattle.std.proofs.Common.{◌≡◌, ℕ, Bool, true, false, ◌&&◌, ◌||◌, List, [], ◌∷◌, ◌++◌, reverse, refl, sym, ap, ap₂, ◌∙◌, append_assoc, append-nil}
+use Rattle.std.proofs.Common.{◌≡◌, ℕ, Bool, true, false, ◌&&◌, ◌||◌, List, [], ◌∷◌, ◌++◌, reverse, refl, sym, ap, ap₂, ◌∙◌, append_assoc, append-nil, arith}
 use Rattle.std.proofs.Math.Bool.{and-false, or-true}
 use Rattle.std.proofs.lemmas.Bool.{and_parts}
 use Rattle.std.proofs.lemmas.List.{reverse-append}
@@ -15,8 +15,7 @@ use Rattle.mail_words.proofs.WordTests.{is_plain, is_long, none_begins, none_ins
 -- ---- the front of a word that grows by a character
 
 begins-append : (p : ℕ → Bool) (xs ys : List ℕ) → begins p xs ≡ true → begins p (xs ++ ys) ≡ true
-begins-append p [] ys h = cc
-begins-append p (x ∷ xs) ys h = h
+begins-append p xs ys h = grind arith
 
 ends-push : (p : ℕ → Bool) (xs : List ℕ) (c : ℕ) → begins p (reverse (xs ++ c ∷ [])) ≡ p c
 ends-push p xs c = ap (begins p) (reverse-append xs (c ∷ []))
@@ -41,8 +40,7 @@ words_on-other before c cs other = ap₂ ◌++◌ (none_begins before (c ∷ [])
 -- within a run of word characters
 pub none_within : (before inside rest : List ℕ) → begins is_word_character before ≡ true → begins is_word_character (after_joiners before) ≡ true → words_on before inside rest ≡ []
 none_within before inside [] first run = refl
-none_within before inside (c ∷ cs) first run =
-    ap₂ ◌++◌ (none_inside before (inside ++ c ∷ []) cs first run) (none_within before (inside ++ c ∷ []) cs first run)
+none_within before inside (c ∷ cs) first run = grind (arith, none_inside, none_within before (inside ++ c ∷ []) cs first run)
 
 -- with a character that is neither a word character nor a joiner
 none_with_other : (before inside rest : List ℕ) → list_all is_word_character inside ≡ false → list_all is_piece inside ≡ false → words_on before inside rest ≡ []
@@ -62,16 +60,8 @@ none_again before inside (c ∷ cs) all run =
 -- ---- a plain word
 
 begins-all : (p : ℕ → Bool) (xs : List ℕ) (c : ℕ) → list_all p (xs ++ c ∷ []) ≡ true → begins p (xs ++ c ∷ []) ≡ true
-begins-all p [] c h = go (p c) h
-  where
-    go : (t : Bool) → (t && true) ≡ true → t ≡ true
-    go true e = refl
-    go false e = e
-begins-all p (x ∷ xs) c h = go (p x) (list_all p (xs ++ c ∷ [])) h
-  where
-    go : (t u : Bool) → (t && u) ≡ true → t ≡ true
-    go true u e = refl
-    go false u e = e
+begins-all p [] c h = grind arith
+begins-all p (x ∷ xs) c h = grind arith
 
 -- the words that begin with these word characters and end in the rest, which begins with one: first the plain word
 abbrev plain_first : List ℕ → List ℕ → List ℕ → List ℕ → List (List ℕ)
@@ -96,9 +86,7 @@ words_on-plain before inside (c ∷ cs) all joins first e =
     go : (t : Bool) → begins is_word_character cs ≡ t
         → (begins is_word_character cs ≡ true → words_on before longer cs ≡ plain_first before longer (front is_word_character cs) (behind is_word_character cs))
         → words_on before inside (c ∷ cs) ≡ plain_first before inside (c ∷ front is_word_character cs) (behind is_word_character cs)
-    go true more rest =
-        ap₂ ◌++◌ (none_yet before longer cs more joins') (rest more)
-        ∙ ap (λ whole. within whole ++ words_on before whole (behind is_word_character cs)) (append_assoc inside (c ∷ []) (front is_word_character cs))
+    go true more rest = grind (arith, none_yet, longer, joins', words_on, append_assoc)
     go false last rest =
         ap (λ ws. ws ++ words_on before longer cs) (is_plain before longer cs (begins-all is_word_character inside c all') all' first last)
         ∙ sym (ap₂ (λ fore rest. plain_first before inside (c ∷ fore) rest) (front-fail is_word_character cs last) (behind-fail is_word_character cs last))
@@ -106,12 +94,10 @@ words_on-plain before inside (c ∷ cs) all joins first e =
 -- ---- a long word
 
 joined_on-push : (inside : List ℕ) (c : ℕ) (cs : List ℕ) → is_some cs ≡ true → joined_on (inside ++ c ∷ []) cs ≡ joined_on inside (c ∷ cs)
-joined_on-push inside c [] some = cc
-joined_on-push inside c (d ∷ ds) some = ap within (append_assoc inside (c ∷ []) (d ∷ ds))
+joined_on-push inside c cs h = grind (arith, append_assoc)
 
 joined_on-joined_to : (inside : List ℕ) (c : ℕ) (cs : List ℕ) → joined_on (inside ++ c ∷ []) cs ≡ joined_on inside (joined_to c cs)
-joined_on-joined_to inside c [] = refl
-joined_on-joined_to inside c (d ∷ ds) = ap within (append_assoc inside (c ∷ []) (d ∷ ds))
+joined_on-joined_to inside c cs = grind (arith, append_assoc)
 
 -- what is so of the front of a long word
 record BeginsLong (before inside : List ℕ) : Type 0 where
@@ -120,12 +106,7 @@ record BeginsLong (before inside : List ℕ) : Type 0 where
   first : begins is_word_character (after_joiners before) ≡ false
 
 begins_long-push : (before inside : List ℕ) (c : ℕ) → BeginsLong before inside → is_piece c ≡ true → BeginsLong before (inside ++ c ∷ [])
-begins_long-push before inside c h piece =
-    record {
-      begun = begins-append is_word_character inside (c ∷ []) h.begun;
-      pieces = all-push is_piece inside c ∙ (λ k. h.pieces k && (piece k && true));
-      first = h.first;
-    }
+begins_long-push before inside c h piece = grind (arith, begins-append, all-push)
 
 -- some joiner stands in it
 record IsJoined (inside : List ℕ) : Type 0 where
@@ -133,28 +114,13 @@ record IsJoined (inside : List ℕ) : Type 0 where
   all : list_all is_word_character inside ≡ false
 
 is_joined-push : (inside : List ℕ) (c : ℕ) → IsJoined inside → IsJoined (inside ++ c ∷ [])
-is_joined-push inside c h =
-    record {
-      joins = any-push is_joiner inside c ∙ (λ k. h.joins k || (is_joiner c || false));
-      all = all-push is_word_character inside c ∙ (λ k. h.all k && (is_word_character c && true));
-    }
+is_joined-push inside c h = grind (arith, any-push, all-push)
 
 is_joined-joiner : (inside : List ℕ) (c : ℕ) → is_joiner c ≡ true → IsJoined (inside ++ c ∷ [])
-is_joined-joiner inside c e =
-    record {
-      joins = any-push is_joiner inside c ∙ (λ k. list_any is_joiner inside || (e k || false)) ∙ or-true (list_any is_joiner inside);
-      all = all-push is_word_character inside c ∙ (λ k. list_all is_word_character inside && (joiner_is_no_word_character c e k && true)) ∙ and-false (list_all is_word_character inside);
-    }
+is_joined-joiner inside c e = grind (arith, any-push, or-true, all-push, joiner_is_no_word_character, and-false)
 
 none_past_other : (before inside : List ℕ) (c : ℕ) (cs : List ℕ) → is_word_character c ≡ false → is_joiner c ≡ false → words_on before inside (c ∷ cs) ≡ []
-none_past_other before inside c cs e f =
-    ap₂ ◌++◌ (none_of_others before (inside ++ c ∷ []) cs all' pieces') (none_with_other before (inside ++ c ∷ []) cs all' pieces')
-  where
-    all' : list_all is_word_character (inside ++ c ∷ []) ≡ false
-    all' = all-push is_word_character inside c ∙ (λ k. list_all is_word_character inside && (e k && true)) ∙ and-false (list_all is_word_character inside)
-
-    pieces' : list_all is_piece (inside ++ c ∷ []) ≡ false
-    pieces' = all-push is_piece inside c ∙ (λ k. list_all is_piece inside && ((e k || f k) && true)) ∙ and-false (list_all is_piece inside)
+none_past_other before inside c cs e f = grind (arith, none_of_others, none_with_other, all-push, and-false)
 
 words_on-joined : (before inside cs : List ℕ) → BeginsLong before inside → IsJoined inside → words_on before inside cs ≡ joined_on inside (joined_front cs)
 words_on-joined before inside [] h j = refl
@@ -195,54 +161,21 @@ all_pieces (c ∷ cs) h =
 
 all-front : (p : ℕ → Bool) (cs : List ℕ) → list_all p (front p cs) ≡ true
 all-front p [] = refl
-all-front p (c ∷ cs) = go (p c) refl (all-front p cs)
-  where
-    go : (t : Bool) → p c ≡ t → list_all p (front p cs) ≡ true → list_all p (front p (c ∷ cs)) ≡ true
-    go true e rest = ap (list_all p) (front-pass p c cs e) ∙ (λ k. e k && rest k)
-    go false e rest = ap (list_all p) (front-fail p (c ∷ cs) e)
+all-front p (c ∷ cs) = grind (arith, front-pass, front-fail, all-front p cs)
 
 begins-front : (p : ℕ → Bool) (cs : List ℕ) → begins p cs ≡ true → begins p (front p cs) ≡ true
-begins-front p [] e = e
-begins-front p (c ∷ cs) e = ap (begins p) (front-pass p c cs e) ∙ e
+begins-front p cs h = grind (arith, front-pass)
 
 -- the long word, behind the plain one with which it begins
 long_behind : (before plain rest : List ℕ) → begins is_word_character plain ≡ true → list_all is_word_character plain ≡ true → begins is_word_character rest ≡ false
     → begins is_word_character (after_joiners before) ≡ false → words_on before plain rest ≡ joined_on plain (joined_front rest)
-long_behind before plain [] begun all last first = refl
-long_behind before plain (c ∷ cs) begun all last first = go (is_joiner c) refl
-  where
-    longer : List ℕ
-    longer = plain ++ c ∷ []
-
-    go : (t : Bool) → is_joiner c ≡ t → words_on before plain (c ∷ cs) ≡ joined_on plain (joined_front (c ∷ cs))
-    go true e =
-        let joined = is_joined-joiner plain c e in
-        let h = begins_long-push before plain c (record { begun = begun; pieces = all_pieces plain all; first = first }) (λ k. last k || e k) in
-        ap₂ ◌++◌ (none_ends before longer cs joined.all (ends-push is_word_character plain c ∙ last)) (words_on-joined before longer cs h joined)
-        ∙ joined_on-joined_to plain c (joined_front cs) ∙ ap (joined_on plain) (sym (joined_front-joiner c cs e))
-    go false e = none_past_other before plain c cs last e ∙ ap (joined_on plain) (sym (joined_front-other c cs last e))
+long_behind before plain rest h h2 h3 h4 = grind (arith, words_on, is_joined-joiner, begins_long-push, all_pieces, none_ends, ends-push, words_on-joined, joined_on-joined_to, joined_front-joiner, none_past_other, joined_front-other)
 
 -- no long word, where its run began earlier
 no_long_behind : (before plain rest : List ℕ) → begins is_word_character rest ≡ false → begins is_word_character (after_joiners before) ≡ true → words_on before plain rest ≡ []
-no_long_behind before plain [] last run = refl
-no_long_behind before plain (c ∷ cs) last run =
-    ap₂ ◌++◌ (none_in_run before (plain ++ c ∷ []) cs all' run) (none_again before (plain ++ c ∷ []) cs all' run)
-  where
-    all' : list_all is_word_character (plain ++ c ∷ []) ≡ false
-    all' = all-push is_word_character plain c ∙ (λ k. list_all is_word_character plain && (last k && true)) ∙ and-false (list_all is_word_character plain)
+no_long_behind before plain rest h h2 = grind (arith, none_in_run, none_again, all-push, and-false)
 
 -- the plain word and the long one that begin at a word character
 pub words_on-word : (in_run : Bool) (before cs : List ℕ) → begins is_word_character before ≡ false → begins is_word_character (after_joiners before) ≡ in_run → begins is_word_character cs ≡ true
     → words_on before [] cs ≡ within (front is_word_character cs) ++ long_at in_run cs
-words_on-word in_run before cs first run e =
-    words_on-plain before [] cs refl refl first e ∙ ap (λ ws. within plain ++ ws) (go in_run run)
-  where
-    plain : List ℕ
-    plain = front is_word_character cs
-
-    rest : List ℕ
-    rest = behind is_word_character cs
-
-    go : (t : Bool) → begins is_word_character (after_joiners before) ≡ t → words_on before plain rest ≡ long_at t cs
-    go true run = no_long_behind before plain rest (begins-behind is_word_character cs) run
-    go false run = long_behind before plain rest (begins-front is_word_character cs e) (all-front is_word_character cs) (begins-behind is_word_character cs) run
+words_on-word in_run before cs first run e = grind (arith, words_on-plain, words_on, no_long_behind, begins-behind, long_behind, begins-front, all-front)

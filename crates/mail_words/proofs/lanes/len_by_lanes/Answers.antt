@@ -8,15 +8,9 @@ overflow_add-len c =
     let few = run_bound is_ascii_word c.args.bytes.now c.loop-len.len _ (omega (arith, c.loop-len-test.true)) c.run_at-run.ensures in
     omega (arith, few, c.loop-len-test.true)
 
-pub returns-then-run-lt-LANES-clause-within : goal.returns-then-run-lt-LANES-clause-within
-returns-then-run-lt-LANES-clause-within c = omega (arith, c.if-run-lt-LANES.true, c.loop-len-test.true)
-
 pub returns-then-run-lt-LANES-clause-passed : goal.returns-then-run-lt-LANES-clause-passed
 returns-then-run-lt-LANES-clause-passed c =
     passed_on is_ascii_word _ _ _ (omega (arith, c.loop-len-test.true)) c.run_at-run.ensures c.loop-len.invariant.passed
-
-pub loop-len-smaller : goal.loop-len-smaller
-loop-len-smaller c = omega (arith, c.if-run-lt-LANES.false, c.loop-len-test.true)
 
 pub loop-len-preserved : goal.loop-len-preserved
 loop-len-preserved c =

@@ -9,13 +9,7 @@ split_at-requires c =
     front_bytes-boundary _ _ _ (front_bytes-passed is_word_character c.args.text.now _ _ c.utf8.text c.as_bytes.ensures.value told.within told.passed)
 
 pub overflow_add-result : goal.overflow_add-result
-overflow_add-result c =
-    let told = c.len_by_lanes-len.ensures in
-    let read = front_bytes-passed is_word_character c.args.text.now _ _ c.utf8.text c.as_bytes.ensures.value told.within told.passed in
-    omega (arith, front_bytes-more _ _ _ _ _ read c.split_at.ensures.back c.front_len.ensures, length-front is_word_character _ c.utf8.text, c.as_bytes.ensures.len, c.as_bytes.type_inv.0)
+overflow_add-result c = grind (arith, front_bytes-passed, front_bytes-more, length-front)
 
 pub returns : goal.returns
-returns c =
-    let told = c.len_by_lanes-len.ensures in
-    let read = front_bytes-passed is_word_character c.args.text.now _ _ c.utf8.text c.as_bytes.ensures.value told.within told.passed in
-    front_bytes-more _ _ _ _ _ read c.split_at.ensures.back c.front_len.ensures
+returns c = grind (arith, front_bytes-passed, front_bytes-more)
