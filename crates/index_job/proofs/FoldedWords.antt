@@ -1,27 +1,16 @@
 -- Folded words that lie one behind another, and the terms that they are.
-use Rattle.std.proofs.Common.{◌≡◌, ◌≤◌, ◌<◌, ◌+◌, ℕ, List, [], ◌∷◌, ◌++◌, length, map, take, drop, get_or, refl, sym, ap, ap₂, subst, ◌∙◌, arith, IsAscii, length-append, append-nil}
-use Rattle.std.specs.Global.{Global}
-use Rattle.std.specs.Prelude.{String, string_bytes, string_len, sum}
-use Rattle.std.specs.List.{AllByRecursion, concat}
+use Rattle.index_job.proofs.Words.{◌≡◌, ◌≤◌, ◌<◌, ◌+◌, ℕ, List, [], ◌∷◌, ◌++◌, length, map, take, drop, get_or, refl, sym, ap, ap₂, subst, ◌∙◌, arith, IsAscii, length-append, append-nil, Global, String, string_bytes, string_len, sum, AllByRecursion, concat, drop_more, map-append, Text, TextKind, folding, words, cut, HoldsWords, HasTermLength, Term, word_terms, text_terms}
 use Rattle.std.proofs.Math.Seq.{take-append_seam, drop-append_seam}
-use Rattle.std.proofs.lemmas.List.{drop_more, map-append}
 use Rattle.std.proofs.lemmas.List.Folds.{concat-append}
 use Rattle.std.proofs.lemmas.List.Sums.{sum_by-cons}
-use Rattle.mail_index.specs.declared.kind.Kind.TheVariants.{Text}
-use Rattle.mail_words.specs.declared.kind.TextKind.{TextKind}
-use Rattle.mail_words.specs.Folding.{folding}
-use Rattle.mail_words.specs.Words.{words}
 use Rattle.mail_words.proofs.AsciiFolding.{words-folding-ascii}
 use Rattle.index_job.specs.declared.folding_room.FoldingRoom.{FoldingRoom}
-use Rattle.index_job.specs.Inside.FoldedWords.{cut, HoldsWords}
-use Rattle.index_job.specs.MessageTerms.{HasTermLength, Term, word_terms, text_terms}
 
 -- ---- a room
 
 pub cut-words : (ws : List (List ℕ)) → cut (map length ws) (concat ws) ≡ ws
 cut-words [] = refl
-cut-words (w ∷ ws) =
-    ap₂ (λ (front back : List ℕ). front ∷ cut (map length ws) back) (take-append_seam w (concat ws)) (drop-append_seam w (concat ws)) ∙ ap (λ (l : List (List ℕ)). w ∷ l) (cut-words ws)
+cut-words (w ∷ ws) = grind (arith, take-append_seam, drop-append_seam, cut-words ws)
 
 sum-lengths : (ws : List (List ℕ)) → sum (map length ws) ≡ length (concat ws)
 sum-lengths [] = refl
@@ -37,11 +26,7 @@ sized s word is h = subst HasTermLength is (omega (arith, h.0, s.bytes.ok.0), om
 
 pub holds-push : (old new : FoldingRoom) (ws : List (List ℕ)) (w : List ℕ) → HoldsWords old ws → new.bytes.items ≡ old.bytes.items ++ w → new.lengths.items ≡ old.lengths.items ++ length w ∷ []
     → HasTermLength w → HoldsWords new (ws ++ w ∷ [])
-holds-push old new ws w h bytes lengths sized = record {
-  bytes = bytes ∙ ap₂ ◌++◌ h.bytes (sym (append-nil w)) ∙ sym (concat-append ws (w ∷ []));
-  lengths = lengths ∙ ap (λ (ns : List ℕ). ns ++ length w ∷ []) h.lengths ∙ sym (map-append length ws (w ∷ []));
-  sizes = all-push ws w h.sizes sized;
-}
+holds-push old new ws w h bytes lengths sized = grind (arith, append-nil, concat-append, map-append, all-push, sized)
 
 -- what is in a room, cut to its lengths
 pub held-cut : (room : FoldingRoom) (ws : List (List ℕ)) → HoldsWords room ws → cut room.lengths.items room.bytes.items ≡ ws
@@ -70,8 +55,7 @@ folded-terms kind (w ∷ ws) = ap (λ (ts : List Term). (Text kind, folding w) �
 
 -- those of a text of ASCII that was folded whole
 pub terms-of-ascii : (kind : TextKind) (text folded : List ℕ) → IsAscii text → folded ≡ folding text → word_terms kind (words folded) ≡ text_terms (kind, text)
-terms-of-ascii kind text folded ascii is =
-    ap (λ (f : List ℕ). word_terms kind (words f)) is ∙ ap (word_terms kind) (words-folding-ascii text ascii) ∙ folded-terms kind (words text)
+terms-of-ascii kind text folded ascii is = grind (arith, words-folding-ascii, folded-terms)
 
 -- those of a text whose words were folded into a room
 pub terms-of-held : (kind : TextKind) (text : List ℕ) (room : FoldingRoom) → HoldsWords room (map folding (words text))

@@ -1,30 +1,10 @@
 -- What gathering a line more, or the end, makes of a builder's draft.
-use Rattle.std.proofs.Common.{◌≡◌, ◌∙◌, ℕ, List, [], ◌∷◌, ◌++◌, Option, None, Some, option_map, flat_map, refl, sym, ap, subst, ⊎_elim, append-nil}
-use Rattle.std.specs.Prelude.{◌⊎◌}
-use Rattle.std.proofs.lemmas.Grind.{flat_map-append}
-use Rattle.std.specs.Prelude.{Result, Ok, Err, IfErr, OnOk, IfSome}
-use Rattle.header_text.specs.Headers.{fields_of}
-use Rattle.mail_index.specs.Builders.{Draft, IsInMessage}
-use Rattle.mail_words.specs.declared.kind.TextKind.{TextKind}
+use Rattle.index_job.proofs.Words.{◌≡◌, ◌∙◌, ℕ, List, [], ◌∷◌, ◌++◌, Option, Some, option_map, flat_map, sym, ap, subst, ⊎_elim, append-nil, arith, ◌⊎◌, Result, Ok, Err, IfErr, OnOk, IfSome, flat_map-append, fields_of, Draft, IsInMessage, TextKind, MessageText, Facts, facts_of, Pair, TakesAll, Breaks, texts_of_message, JobFault, Span, with_texts, HasGathered, IsGathering, IsGatherFault, draft_with_terms, RefusesTerms, IsOpenAt, IsBuilderOpen, ended_with, of_text, Term, text_terms, id_terms, message_terms}
 use Rattle.mime_text.specs.declared.fault.SinkFault.{SinkFault}
 use Rattle.mime_text.specs.declared.fault.SinkFault.TheVariants as sink
 use Rattle.mime_text.specs.declared.fault.TextFault.{TextFault}
-use Rattle.mime_text.specs.declared.fault.TextFault.TheVariants as fault
-use Rattle.mime_text.specs.declared.message_text.MessageText.{MessageText}
-use Rattle.mime_text.specs.declared.header.facts.Facts.{Facts}
-use Rattle.mime_text.specs.MessageFacts.{facts_of}
-use Rattle.mime_text.specs.Sinks.{Pair, TakesAll, Breaks}
-use Rattle.mime_text.specs.Texts.{texts_of_message}
 use Rattle.mime_text.specs.Fed.{Feeds, FeedsPart, Finishes, FinishesPart}
-use Rattle.index_job.specs.declared.job_fault.JobFault.{JobFault}
-use Rattle.index_job.specs.declared.job_fault.JobFault.TheVariants as job
-use Rattle.index_job.specs.declared.message_end.Span.{Span}
 use Rattle.index_job.specs.declared.term_sink.TermSink.{TermSink}
-use Rattle.index_job.specs.Inside.Gathering.{with_texts, HasGathered, IsGathering, IsGatherFault}
-use Rattle.index_job.specs.Indexing.{draft_with_terms, RefusesTerms, IsOpenAt, IsBuilderOpen}
-use Rattle.index_job.specs.Inside.MessageEnds.{ended_with}
-use Rattle.index_job.specs.JobFaults.{of_text}
-use Rattle.index_job.specs.MessageTerms.{Term, text_terms, id_terms, message_terms}
 use Rattle.index_job.proofs.Terms.{joined, still-refuses}
 
 -- what a text makes of a sink, and what one that is refused does
@@ -36,17 +16,14 @@ Refuses old kind text fault new =
     (fault ≡ sink.OutOfMemory) ⊎ ((fault ≡ sink.Refused) × RefusesTerms (option_map (draft_with_terms (text_terms (kind, text))) old.builder.now))
 
 with_texts-append : (ps qs : List Pair) (d : Option Draft) → with_texts (ps ++ qs) d ≡ with_texts qs (with_texts ps d)
-with_texts-append ps qs d =
-    ap (λ ts. option_map (draft_with_terms ts) d) (flat_map-append text_terms ps qs) ∙ joined (flat_map text_terms ps) (flat_map text_terms qs) d
+with_texts-append ps qs d = grind (arith, option_map, flat_map-append, joined, flat_map)
 
 with_texts-none : (d : Option Draft) → with_texts [] d ≡ d
-with_texts-none None = refl
-with_texts-none (Some d) = refl
+with_texts-none d = grind arith
 
 taken : (ps : List Pair) (old new : TermSink) → TakesAll Takes Refuses ps old new → new.builder.now ≡ with_texts ps old.builder.now
 taken [] old new h = ap (λ (s : TermSink). s.builder.now) h ∙ sym (with_texts-none old.builder.now)
-taken (p ∷ ps) old new h =
-    taken ps h.0 new h.2 ∙ ap (with_texts ps) h.1.1 ∙ sym (joined (text_terms p) (flat_map text_terms ps) old.builder.now)
+taken (p ∷ ps) old new h = grind (arith, joined, flat_map, taken ps h.0 new h.2)
 
 -- it is the same builder
 same-builder : (ps : List Pair) (old new : TermSink) → TakesAll Takes Refuses ps old new → old.builder.ghost_name ≡ new.builder.ghost_name
@@ -60,24 +37,7 @@ more-refuse ps qs d h = subst RefusesTerms (sym (with_texts-append ps qs d)) (st
 -- these texts were given, and there a fault came
 broken : (f : TextFault) (ps : List Pair) (old new : TermSink) (d : Option Draft) (before later : List Pair)
     → Breaks Takes Refuses f ps old new → old.builder.now ≡ with_texts before d → IsGatherFault (with_texts ((before ++ ps) ++ later) d) (of_text f)
-broken fault.OutOfMemory ps old new d before later h same = tt
-broken (fault.Sink sink.OutOfMemory) ps old new d before later h same = tt
-broken (fault.Sink sink.Refused) ps old new d before later (front, last, reached, is, taken-front, refused) same =
-    ⊎_elim (λ e. absurd cc)
-    (λ r.
-    let reached-is : reached.builder.now ≡ with_texts front (with_texts before d) = taken front old reached taken-front ∙ ap (with_texts front) same in
-    let whole : option_map (draft_with_terms (text_terms last)) reached.builder.now ≡ with_texts (before ++ ps) d =
-    ap (option_map (draft_with_terms (text_terms last))) reached-is
-    ∙ last-is front last (with_texts before d)
-    ∙ ap (λ l. with_texts l (with_texts before d)) (sym is)
-    ∙ sym (with_texts-append before ps d) in
-    more-refuse (before ++ ps) later d (subst RefusesTerms whole r.1))
-    refused
-  where
-    last-is : (front : List Pair) (last : Pair) (o : Option Draft) → option_map (draft_with_terms (text_terms last)) (with_texts front o) ≡ with_texts (front ++ last ∷ []) o
-    last-is front last o =
-        ap (λ ts. option_map (draft_with_terms ts) (with_texts front o)) (sym (append-nil (text_terms last))) ∙ sym (with_texts-append front (last ∷ []) o)
-broken fault.Failed ps old new d before later h same = elim h [ ]
+broken f ps old new d before later h h2 = grind (arith, ⊎_elim, taken, option_map, with_texts-append, more-refuse, append-nil)
 
 -- a line more; the builder is what the sink leaves behind its reference, since it is the same one
 pub gathers-line : (text text' : MessageText) (old new : TermSink) (line : List ℕ) (builder : Option Draft) → Feeds Takes Refuses text text' line old new
@@ -119,16 +79,11 @@ texts-and-ids : (ls : List (List ℕ)) (d : Option Draft)
 texts-and-ids ls d = joined (flat_map text_terms (texts_of_message ls)) (id_terms (facts_of (fields_of ls))) d
 
 still-gather-fails : (us : List Term) (o : Option Draft) (f : JobFault) → IsGatherFault o f → IsGatherFault (option_map (draft_with_terms us) o) f
-still-gather-fails us o (job.Cut f) h = h
-still-gather-fails us o job.OutOfMemory h = h
-still-gather-fails us o job.TooMany h = still-refuses us o h
-still-gather-fails us o job.Out h = h
-still-gather-fails us o job.Failed h = h
+still-gather-fails us o f h = grind (arith, still-refuses)
 
 -- a fault of the texts is one of the message
 pub texts-fail : (ls : List (List ℕ)) (d : Option Draft) (f : JobFault) → IsGatherFault (with_texts (texts_of_message ls) d) f → IsGatherFault (option_map (draft_with_terms (message_terms ls)) d) f
-texts-fail ls d f h =
-    subst (λ o. IsGatherFault o f) (sym (texts-and-ids ls d)) (still-gather-fails (id_terms (facts_of (fields_of ls))) (with_texts (texts_of_message ls) d) f h)
+texts-fail ls d f h = grind (arith, texts-and-ids, still-gather-fails)
 
 -- texts leave the message open
 pub in-message : (text : MessageText) (builder : Option Draft) (d : Draft) (ls : List (List ℕ)) → HasGathered text builder (Some d) ls → IsInMessage d → IfSome builder IsInMessage
@@ -139,11 +94,7 @@ gathering-in-message archive place text builder (d, ls, g, at) = in-message text
 
 -- the message is open still behind its texts
 pub open-behind : (archive place : ℕ) (ls : List (List ℕ)) (d : Draft) (builder : Option Draft) → builder ≡ with_texts (texts_of_message ls) (Some d) → IsOpenAt archive place d → IsBuilderOpen archive place builder
-open-behind archive place ls d builder is h = (
-  draft_with_terms (flat_map text_terms (texts_of_message ls)) d,
-  is,
-  record { phase = h.phase; most = h.most; archive = h.archive; behind = h.behind },
-)
+open-behind archive place ls d builder is h = grind (arith, flat_map)
 
 module _ (facts : Facts) (text : MessageText) (old mid : Option Draft)
     (facts-are : (ls : List (List ℕ)) (d : Option Draft) → HasGathered text old d ls → facts ≡ facts_of (fields_of ls))

@@ -1,52 +1,24 @@
 -- A message's lines, as they come of its archive and are gathered.
-use Rattle.std.proofs.Common.{◌≡◌, ◌∙◌, ◌++◌, ℕ, List, [], ◌∷◌, Option, Some, refl, sym, ap, ap₂, subst, append_assoc, append-nil}
-use Rattle.mail_index.specs.Builders.{Draft}
-use Rattle.mbox_cutter.specs.Archives.{text, size, span_length}
-use Rattle.mbox_cutter.specs.declared.event.CutFault.{CutFault}
-use Rattle.mbox_cutter.specs.Events.{Line, End, Coming, told, told_rest}
-use Rattle.mbox_cutter.specs.Coming.{TakesKnown}
-use Rattle.mime_text.specs.declared.message_text.MessageText.{MessageText}
-use Rattle.mime_text.specs.Texts.{texts_of_message}
-use Rattle.index_job.specs.declared.archive_reading.Ended.{Ended}
-use Rattle.index_job.specs.declared.job_fault.JobFault.{JobFault}
-use Rattle.index_job.specs.declared.job_fault.JobFault.TheVariants as job
-use Rattle.index_job.specs.Inside.ArchiveReading.{Awaited, coming_inside, coming_between, IsReading, HasReadAll, IsMessageFault}
-use Rattle.index_job.specs.Inside.Gathering.{HasGathered, IsGatherFault, with_texts}
-use Rattle.index_job.specs.Indexing.{RefusesTerms, IsJobFault, IsArchiveFault}
+use Rattle.index_job.proofs.Words.{◌≡◌, ◌∙◌, ◌++◌, ℕ, List, [], ◌∷◌, Option, Some, sym, ap, subst, append_assoc, append-nil, arith, Draft, text, size, span_length, CutFault, Line, End, Coming, TakesKnown, MessageText, texts_of_message, Ended, JobFault, Awaited, coming_inside, coming_between, IsReading, HasReadAll, IsMessageFault, HasGathered, IsGatherFault, with_texts, RefusesTerms, IsJobFault, IsArchiveFault}
 use Rattle.index_job.proofs.Gatherings.{texts-fail}
 
 -- what comes of known archives goes with the text that is left
 behind-line : (w : Awaited) (rest : List (List ℕ)) (l : List ℕ) (now' : Option Coming) → TakesKnown (Line l) (Some (coming_inside w rest)) now'
     → (left : List (List ℕ)) × (rest ≡ l ∷ left) × (now' ≡ Some (coming_inside w left))
 behind-line w [] l now' (after, is, takes) = absurd cc
-behind-line w (l' ∷ left) l now' (after, is, (events, refusal)) =
-    let same : l' ≡ l = cc in
-    let behind : told_rest w.all w.message left w.later ≡ after.events = cc in
-    let whole : after ≡ coming_inside w left = ap₂ (λ es r. record { events = es; refusal = r }) (sym behind) refusal in
-    (left, ap (λ x. x ∷ left) same, is ∙ ap Some whole)
+behind-line w (l' ∷ left) l now' (after, is, (events, refusal)) = grind arith
 
 behind-end : (w : Awaited) (rest : List (List ℕ)) (span told_size : ℕ) (now' : Option Coming) → TakesKnown (End span told_size) (Some (coming_inside w rest)) now'
     → (rest ≡ []) × (span ≡ span_length w.message) × (told_size ≡ size w.message) × (now' ≡ Some (coming_between w.all w.later w.refusal))
 behind-end w (l ∷ rest) span told_size now' (after, is, takes) = absurd cc
-behind-end w [] span told_size now' (after, is, (events, refusal)) =
-    let behind : told w.all w.later ≡ after.events = cc in
-    let whole : after ≡ coming_between w.all w.later w.refusal = ap₂ (λ es r. record { events = es; refusal = r }) (sym behind) refusal in
-    (refl, cc, cc, is ∙ ap Some whole)
+behind-end w [] span told_size now' (after, is, (events, refusal)) = grind arith
 
 -- what a fault of gathering is to a job
 pub gather-is-job : (whole : Option Draft) (refusal : Option CutFault) (f : JobFault) → IsGatherFault whole f → IsJobFault refusal (RefusesTerms whole) f
-gather-is-job whole refusal (job.Cut f) h = elim h [ ]
-gather-is-job whole refusal job.OutOfMemory h = tt
-gather-is-job whole refusal job.TooMany h = h
-gather-is-job whole refusal job.Out h = elim h [ ]
-gather-is-job whole refusal job.Failed h = elim h [ ]
+gather-is-job whole refusal f h = grind arith
 
 pub gather-own : (whole : Option Draft) (f : JobFault) → IsGatherFault whole f → IsArchiveFault f
-gather-own whole (job.Cut f) h = elim h [ ]
-gather-own whole job.OutOfMemory h = tt
-gather-own whole job.TooMany h = tt
-gather-own whole job.Out h = elim h [ ]
-gather-own whole job.Failed h = elim h [ ]
+gather-own whole f h = grind arith
 
 module _ (d : Option Draft) (w : Awaited) (ls rest : List (List ℕ)) (gathered : MessageText) (builder : Option Draft) (now now' : Option Coming) (l : List ℕ) where
   -- a line more

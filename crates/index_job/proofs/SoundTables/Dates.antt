@@ -1,10 +1,6 @@
 -- The second that a Date field tells fits in 64 bits.
-use Rattle.std.proofs.Common.{◌≡◌, ℕ, ◌+◌, ◌*◌, ◌/◌, ◌%◌, ◌≤◌, ℤ, pos, neg_ℤ, ◌+ℤ◌, ◌-ℤ◌, Bool, true, false, cond, nat_le, ◌&&◌, ◌==◌, List, [], ◌∷◌, Option, Some, None, IfSome, FitsSigned, w64, refl, sym, subst, arith}
-use Rattle.std.specs.List.{AllByRecursion, find, slice_split}
-use Rattle.std.specs.Option.{option_map, option_map_or}
-use Rattle.std.specs.Str.{bytes_eq, str_to_ascii_lowercase}
-use Rattle.std.specs.Prelude.{unwrap_or}
-use Rattle.std.proofs.lemmas.Bool.{and_parts, leb-true}
+use Rattle.index_job.proofs.Words.{◌≡◌, ℕ, ◌+◌, ◌*◌, ◌≤◌, ℤ, pos, neg_ℤ, ◌+ℤ◌, ◌-ℤ◌, Bool, cond, nat_le, ◌&&◌, ◌==◌, List, [], ◌∷◌, Option, Some, None, IfSome, FitsSigned, w64, refl, sym, subst, arith, AllByRecursion, find, slice_split, option_map_or, bytes_eq, str_to_ascii_lowercase, unwrap_or, and_parts, leb-true, date_told}
+use Rattle.std.specs.Option.{option_map}
 use Rattle.jiff_core.specs.Calendar.{IsEpochDay, IsWithin, days_from_civil}
 use Rattle.jiff_core.proofs.CalendarLemmas.{days_from_civil-day_count, day_count_bounds}
 use Rattle.jiff_core.proofs.SignedLemmas.{signed_arith, fits_between}
@@ -12,16 +8,13 @@ use Rattle.mail_dates.specs.Calendar.{day_number, month_of, start_of_day}
 use Rattle.mail_dates.specs.Numbers.{number_in, ◌>>=◌}
 use Rattle.mail_dates.specs.HeaderDates.{zones, hours_west, offset_size, numeric_offset, offset_of, zone_offset, second_of_day, time_by, time_of_parts, is_colon, time_of, year_of, date_of_parts_by, date_of_tokens_by, date_of, tokens, without_comments, without_day_name}
 use Rattle.mail_dates.proofs.CivilDays.{IsCivilDay, numbered, year_within}
-use Rattle.index_job.specs.ArchiveTables.{date_told}
 
 -- what holds of what comes of each value that there may be
 bound : {A B : Type 0} (Q : A → Type 0) (P : B → Type 0) (o : Option A) (f : A → Option B) → IfSome o Q → ((a : A) → Q a → IfSome (f a) P) → IfSome (o >>= f) P
-bound Q P None f has each = tt
-bound Q P (Some a) f has each = each a has
+bound Q P o f h h2 = grind arith
 
 any-of : {A : Type 0} (o : Option A) → IfSome o (λ _. Unit {0})
-any-of None = tt
-any-of (Some a) = tt
+any-of o = grind arith
 
 -- ---- the zone
 
@@ -30,40 +23,27 @@ abbrev IsOffset : ℤ → Type 0
 IsOffset z = IsWithin 86400 z
 
 offset_size-small : (digits : List ℕ) → IfSome (offset_size digits) (λ n. n ≤ 86400)
-offset_size-small digits = bound (λ _. Unit {0}) (λ n. n ≤ 86400) (number_in 4 4 digits) _ (any-of (number_in 4 4 digits)) (λ n _. sum n (nat_le (n / 100) 23 && nat_le (n % 100) 59) refl)
-  where
-    sum : (n : ℕ) (ok : Bool) → (nat_le (n / 100) 23 && nat_le (n % 100) 59) ≡ ok → IfSome (cond ok (Some (n / 100 * 3600 + n % 100 * 60)) None) (λ s. s ≤ 86400)
-    sum n true e =
-        let both = and_parts (nat_le (n / 100) 23) (nat_le (n % 100) 59) e in
-        let hours : n / 100 ≤ 23 = leb-true (n / 100) 23 both.0 in
-        let minutes : n % 100 ≤ 59 = leb-true (n % 100) 59 both.1 in
-        omega (arith, hours, minutes)
-    sum n false e = tt
+offset_size-small digits = grind (arith, bound, any-of, and_parts, leb-true)
 
 east : (o : Option ℕ) → IfSome o (λ n. n ≤ 86400) → IfSome (option_map pos o) IsOffset
-east None h = tt
-east (Some n) h = omega (arith, signed_arith, h)
+east o h = grind (arith, signed_arith)
 
 west : (o : Option ℕ) → IfSome o (λ n. n ≤ 86400) → IfSome (option_map (λ n. neg_ℤ (pos n)) o) IsOffset
-west None h = tt
-west (Some n) h = omega (arith, signed_arith, h)
+west o h = grind (arith, signed_arith)
 
 numeric_offset-small : (token : List ℕ) → IfSome (numeric_offset token) IsOffset
 numeric_offset-small [] = tt
 numeric_offset-small (sign ∷ digits) = go (sign == 0x2B) (sign == 0x2D)
   where
     go : (plus minus : Bool) → IfSome (cond plus (option_map pos (offset_size digits)) (cond minus (option_map (λ n. neg_ℤ (pos n)) (offset_size digits)) None)) IsOffset
-    go true minus = east (offset_size digits) (offset_size-small digits)
-    go false true = west (offset_size digits) (offset_size-small digits)
-    go false false = tt
+    go plus minus = grind arith
 
 found-small : (p : List ℕ × ℕ → Bool) (zs : List (List ℕ × ℕ)) → AllByRecursion (λ z. z.1 ≤ 24) zs → option_map_or (λ (z : List ℕ × ℕ). z.1) (find p zs) 0 ≤ 24
 found-small p [] all = omega arith
 found-small p (z ∷ zs) all = go (p z) (found-small p zs all.1)
   where
     go : (b : Bool) → option_map_or (λ (z : List ℕ × ℕ). z.1) (find p zs) 0 ≤ 24 → option_map_or (λ (z : List ℕ × ℕ). z.1) (cond b (Some z) (find p zs)) 0 ≤ 24
-    go true rest = all.0
-    go false rest = rest
+    go b h = grind arith
 
 zones-small : AllByRecursion (λ z. z.1 ≤ 24) zones
 zones-small = (omega arith, (omega arith, (omega arith, (omega arith, (omega arith, (omega arith, (omega arith, (omega arith, tt))))))))
@@ -97,24 +77,13 @@ second_of_day-small : (hour minute second : ℕ) → IfSome (second_of_day hour 
 second_of_day-small hour minute second = go (nat_le hour 23 && nat_le minute 59 && nat_le second 60) refl
   where
     go : (ok : Bool) → (nat_le hour 23 && nat_le minute 59 && nat_le second 60) ≡ ok → IfSome (cond ok (Some (hour * 3600 + minute * 60 + second)) None) (λ n. n ≤ 86400)
-    go true e =
-        let both = and_parts (nat_le hour 23 && nat_le minute 59) (nat_le second 60) e in
-        let first = and_parts (nat_le hour 23) (nat_le minute 59) both.0 in
-        omega (arith, leb-true hour 23 first.0, leb-true minute 59 first.1, leb-true second 60 both.1)
-    go false e = tt
+    go ok h = grind (arith, and_parts, leb-true)
 
 time_by-small : (hour minute : List ℕ) (second : Option ℕ) → IfSome (time_by hour minute second) (λ n. n ≤ 86400)
-time_by-small hour minute second =
-    bound (λ _. Unit {0}) (λ n. n ≤ 86400) (number_in 1 2 hour) _ (any-of (number_in 1 2 hour)) (λ h _.
-    bound (λ _. Unit {0}) (λ n. n ≤ 86400) (number_in 2 2 minute) _ (any-of (number_in 2 2 minute)) (λ m _.
-    bound (λ _. Unit {0}) (λ n. n ≤ 86400) second _ (any-of second) (λ s _. second_of_day-small h m s)))
+time_by-small hour minute second = grind (arith, bound, any-of, second_of_day-small)
 
 time_of_parts-small : (parts : List (List ℕ)) → IfSome (time_of_parts parts) (λ n. n ≤ 86400)
-time_of_parts-small [] = tt
-time_of_parts-small (a ∷ []) = tt
-time_of_parts-small (a ∷ b ∷ []) = time_by-small a b (Some 0)
-time_of_parts-small (a ∷ b ∷ c ∷ []) = time_by-small a b (number_in 2 2 c)
-time_of_parts-small (a ∷ b ∷ c ∷ d ∷ rest) = tt
+time_of_parts-small parts = grind (arith, time_by-small)
 
 time_of-small : (token : List ℕ) → IfSome (time_of token) (λ n. n ≤ 86400)
 unfolding time_of
@@ -146,11 +115,7 @@ parts-fit day month year time offset small =
     bound (λ n. n ≤ 86400) (FitsSigned w64) (time_of time) _ (time_of-small time) (λ second few. fits date offset second is few small)))))
 
 tokens-fit : (ts : List (List ℕ)) → IfSome (date_of_tokens_by day_number ts) (FitsSigned w64)
-tokens-fit [] = tt
-tokens-fit (a ∷ []) = tt
-tokens-fit (a ∷ b ∷ []) = tt
-tokens-fit (a ∷ b ∷ c ∷ []) = tt
-tokens-fit (day ∷ month ∷ year ∷ time ∷ rest) = parts-fit day month year time (zone_offset rest) (zone_offset-small rest)
+tokens-fit ts = grind (arith, parts-fit, zone_offset-small)
 
 date-fits : (text : List ℕ) → IfSome (date_of text) (FitsSigned w64)
 unfolding date_of

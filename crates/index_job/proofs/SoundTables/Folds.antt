@@ -1,18 +1,10 @@
 -- The folding of a word has some bytes, and not too many for a key, whatever bytes the word's text has.
-use Rattle.std.proofs.Common.{◌≡◌, ℕ, zero, suc, ◌+◌, ◌-◌, ◌*◌, ◌/◌, ◌%◌, ◌^◌, ◌<◌, ◌≤◌, Bool, true, false, cond, nat_lt, List, [], ◌∷◌, ◌++◌, length, map, encode_utf8_all, inl, inr, refl, ap, arith, length-append}
-use Rattle.std.specs.Prelude.{slice_range}
+use Rattle.index_job.proofs.Words.{◌≡◌, ℕ, zero, suc, ◌+◌, ◌-◌, ◌*◌, ◌/◌, ◌%◌, ◌^◌, ◌<◌, ◌≤◌, Bool, true, false, cond, nat_lt, List, [], ◌∷◌, ◌++◌, length, map, encode_utf8_all, refl, ap, arith, length-append, slice_range, AllByRecursion, chars, chars_after, continuation_len, lead_bits, cases_lt, nat_tests, recursion_from_All, folding, range_bytes, word_ranges, words, HasWordLength}
 use Rattle.std.specs.Char.{encode_utf8}
-use Rattle.std.specs.List.{AllByRecursion}
-use Rattle.std.specs.Str.{chars, chars_after, continuation_len, lead_bits}
-use Rattle.std.proofs.lemmas.Bool.{cases_lt}
-use Rattle.std.proofs.lemmas.Bool.Decides.{nat_tests}
-use Rattle.std.proofs.lemmas.List.Elements.{recursion_from_All}
 use Rattle.std.proofs.lemmas.Str.{len_utf8_bounds, length-encode, length-le-encodes}
 use Rattle.caseless.specs.Caseless.{default_case_fold}
 use Rattle.caseless.proofs.CaselessLemmas.{default_case_fold-cons, length-default_case_fold, full_fold-none, full_fold-some}
-use Rattle.unicode.specs.CaseFolding.{full_fold, full_folding}
-use Rattle.mail_words.specs.Folding.{folding}
-use Rattle.mail_words.specs.Words.{range_bytes, word_ranges, words, HasWordLength}
+use Rattle.unicode.specs.CaseFolding.{full_fold}
 use Rattle.mail_words.proofs.Lengths.{all-words}
 
 -- a text that a key may have
@@ -84,11 +76,7 @@ chars-some (c ∷ cs) some = encoded-some c (encode_utf8_all cs)
 -- ---- their folding
 
 full_fold-has : (c : ℕ) → 1 ≤ length (full_fold c)
-full_fold-has c =
-    elim (cases_lt (length (full_folding c)) 1) [
-      | inl none ↦ rw (full_fold-none c (full_folding c) refl none) (omega arith)
-      | inr some ↦ rw (full_fold-some c (full_folding c) refl some) some
-    ]
+full_fold-has c = grind (arith, cases_lt, full_fold-none, full_fold-some)
 
 folded-some : (cs : List ℕ) → 1 ≤ length cs → 1 ≤ length (encode_utf8_all (default_case_fold cs))
 folded-some [] some = absurd (omega (arith, some))
@@ -106,10 +94,7 @@ folding-few text =
 -- ---- words
 
 word-folds : (cs : List ℕ) → HasWordLength (encode_utf8_all cs) → IsKeyText (folding (encode_utf8_all cs))
-word-folds cs h = (
-  omega (arith, folded-some (chars (encode_utf8_all cs)) (chars-some cs h.0)),
-  omega (arith, folding-few (encode_utf8_all cs), h.1),
-)
+word-folds cs h = grind (arith, folded-some, encode_utf8_all, chars-some, folding-few)
 
 ranges-fold : (cs : List ℕ) (rs : List (ℕ × ℕ)) → AllByRecursion HasWordLength (map (range_bytes cs) rs) → AllByRecursion (λ w. IsKeyText (folding w)) (map (range_bytes cs) rs)
 ranges-fold cs [] all = tt

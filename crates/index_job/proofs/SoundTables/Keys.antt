@@ -1,21 +1,7 @@
 -- The keys of archives are those of a well-formed table.
-use Rattle.std.proofs.Common.{ℕ, suc, ◌+◌, ◌<◌, ◌≤◌, ◌++◌, List, [], ◌∷◌, length, map, flat_map, Option, Some, None, IfSome, arith}
-use Rattle.std.specs.List.{AllByRecursion}
-use Rattle.header_text.specs.Headers.{fields_of}
-use Rattle.mail_words.specs.declared.kind.TextKind.{TextKind}
-use Rattle.mail_words.specs.Words.{words}
-use Rattle.mail_words.specs.Folding.{folding}
-use Rattle.mail_index.specs.declared.kind.Kind.TheVariants.{Text}
-use Rattle.mail_index.specs.Tables.{Key, IsKey, KeyBefore, AllNext}
-use Rattle.mail_index.specs.Versions.{newest}
+use Rattle.index_job.proofs.Words.{ℕ, suc, ◌+◌, ◌<◌, ◌≤◌, ◌++◌, List, [], ◌∷◌, length, map, flat_map, Option, IfSome, arith, AllByRecursion, TextKind, words, folding, Text, Key, IsKey, KeyBefore, AllNext, newest, Message, text, Pair, with_terms, with_messages, Term, text_terms, own_id_terms, link_terms, message_terms}
 use Rattle.mail_index.proofs.BuildLaws.DraftLemmas.{with_pair-listed}
 use Rattle.mail_index.proofs.BuildLaws.KeyPlaces.{with_pair-sorted}
-use Rattle.mbox_cutter.specs.Archives.{Message, text}
-use Rattle.mime_text.specs.MessageFacts.{facts_of}
-use Rattle.mime_text.specs.Sinks.{Pair}
-use Rattle.mime_text.specs.Texts.{texts_of_message}
-use Rattle.index_job.specs.ArchiveTables.{with_terms, with_messages}
-use Rattle.index_job.specs.MessageTerms.{Term, text_terms, own_id_terms, link_terms, id_terms, message_terms}
 use Rattle.index_job.proofs.SoundTables.Folds.{IsKeyText, words-fold}
 use Rattle.index_job.proofs.SoundTables.Ids.{own-id-sized, links-sized}
 
@@ -37,30 +23,24 @@ terms-of-texts [] = tt
 terms-of-texts (p ∷ ps) = joined-terms (text_terms p) (flat_map text_terms ps) (terms-of-words p.0 (words p.1) (words-fold p.1)) (terms-of-texts ps)
 
 own-term : (own : Option (List ℕ)) → IfSome own IsKeyText → AllByRecursion IsKeyTerm (own_id_terms own)
-own-term None h = tt
-own-term (Some id) h = (h, tt)
+own-term own h = grind arith
 
 links-terms : (ids : List (List ℕ)) → AllByRecursion IsKeyText ids → AllByRecursion IsKeyTerm (link_terms ids)
 links-terms [] all = tt
 links-terms (id ∷ ids) all = (all.0, links-terms ids all.1)
 
 message-terms : (ls : List (List ℕ)) → AllByRecursion IsKeyTerm (message_terms ls)
-message-terms ls =
-    joined-terms (flat_map text_terms (texts_of_message ls)) (id_terms (facts_of (fields_of ls))) (terms-of-texts (texts_of_message ls))
-    (joined-terms (own_id_terms (facts_of (fields_of ls)).own_id) (link_terms (facts_of (fields_of ls)).ids)
-    (own-term (facts_of (fields_of ls)).own_id (own-id-sized ls)) (links-terms (facts_of (fields_of ls)).ids (links-sized ls)))
+message-terms ls = grind (arith, joined-terms, flat_map, terms-of-texts, own-term, own-id-sized, links-terms, links-sized)
 
 -- ---- the keys
 
 terms-listed : (count n : ℕ) → n < count → (ts : List Term) → AllByRecursion IsKeyTerm ts → (ks : List Key) → AllByRecursion (IsKey newest count) ks → AllByRecursion (IsKey newest count) (with_terms n ts ks)
 terms-listed count n below [] sized ks listed = listed
-terms-listed count n below (t ∷ ts) sized ks listed =
-    terms-listed count n below ts sized.1 _ (with_pair-listed count n t.0 t.1 sized.0.0 sized.0.1 below ks listed)
+terms-listed count n below (t ∷ ts) sized ks listed = grind (arith, with_pair-listed, terms-listed count n below ts sized.1 _ (with_pair-listed count n t.0 t.1 sized.0.0 sized.0.1 below ks listed))
 
 pub messages-listed : (count n : ℕ) (ms : List Message) → n + length ms ≤ count → (ks : List Key) → AllByRecursion (IsKey newest count) ks → AllByRecursion (IsKey newest count) (with_messages n ms ks)
 messages-listed count n [] within ks listed = listed
-messages-listed count n (m ∷ ms) within ks listed =
-    messages-listed count (suc n) ms (omega (arith, within)) _ (terms-listed count n (omega (arith, within)) (message_terms (text m)) (message-terms (text m)) ks listed)
+messages-listed count n (m ∷ ms) within ks listed = grind (arith, terms-listed, message-terms, messages-listed count (suc n) ms (omega (arith, within)) _ (terms-listed count n (omega (arith, within)) (message_terms (text m)) (message-terms (text m)) ks listed))
 
 terms-sorted : (n : ℕ) (ts : List Term) (ks : List Key) → AllNext KeyBefore ks → AllNext KeyBefore (with_terms n ts ks)
 terms-sorted n [] ks sorted = sorted

@@ -1,13 +1,5 @@
 -- The records of archives are those of a well-formed table.
-use Rattle.std.proofs.Common.{◌≡◌, ◌∙◌, ◌⊎◌, inl, inr, ℕ, suc, ◌+◌, ◌<◌, ◌≤◌, ◌++◌, List, [], ◌∷◌, length, map, refl, sym, ap, subst, arith, append_assoc, length-append}
-use Rattle.std.specs.List.{AllByRecursion}
-use Rattle.std.proofs.lemmas.List.{length-map}
-use Rattle.header_text.specs.Headers.{fields_of}
-use Rattle.mail_index.specs.declared.record.Record.{Record}
-use Rattle.mail_index.specs.Tables.{Archive, archive_length, IsMessage, Follows, AllNext}
-use Rattle.mbox_cutter.specs.Archives.{Message, text, span_length}
-use Rattle.mime_text.specs.MessageFacts.{facts_of}
-use Rattle.index_job.specs.ArchiveTables.{Mbox, messages_in, record_of, records_from, entry_of}
+use Rattle.index_job.proofs.Words.{◌≡◌, ◌∙◌, ◌⊎◌, inl, inr, ℕ, suc, ◌+◌, ◌<◌, ◌≤◌, ◌++◌, List, [], ◌∷◌, length, map, refl, sym, ap, subst, arith, append_assoc, length-append, AllByRecursion, length-map, Record, Archive, archive_length, IsMessage, Follows, AllNext, Message, span_length, Mbox, messages_in, record_of, records_from, entry_of}
 use Rattle.index_job.proofs.SoundTables.Dates.{told-fits}
 use Rattle.index_job.proofs.SoundTables.Spans.{AreSpanned, messages-spanned}
 
@@ -62,15 +54,7 @@ length-of (b ∷ before) a archives = length-of before a archives
 
 one-placed : (named : List Archive) (n end : ℕ) → n < length named → archive_length named n ≡ end → (at : ℕ) (ms : List Message) → AreSpanned at end ms → AllByRecursion (IsMessage named) (map (record_of n) ms)
 one-placed named n end there long at [] spanned = tt
-one-placed named n end there long at (m ∷ ms) spanned = (
-  record {
-    exists = there;
-    within = subst (λ (k : ℕ). m.offset + span_length m ≤ k) (sym long) spanned.1;
-    size = spanned.2;
-    date = told-fits (facts_of (fields_of (text m))).date_text;
-  },
-  one-placed named n end there long (m.offset + span_length m) ms spanned.3,
-)
+one-placed named n end there long at (m ∷ ms) spanned = grind (arith, told-fits, one-placed named n end there long (m.offset + span_length m) ms spanned.3)
 
 all-placed : (n : ℕ) (before archives : List Mbox) → length before ≡ n → AllByRecursion (IsMessage (map entry_of (before ++ archives))) (records_from n archives)
 all-placed n before [] long = tt

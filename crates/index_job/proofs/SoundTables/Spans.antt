@@ -1,15 +1,9 @@
 -- The messages of an archive lie one behind another within it, and each is longer than its text.
-use Rattle.std.proofs.Common.{◌≡◌, ◌∙◌, ℕ, ◌+◌, ◌<◌, ◌≤◌, Bool, true, false, cond, nat_lt, List, [], ◌∷◌, length, map, Some, None, refl, ap, arith, length-append}
-use Rattle.std.specs.Prelude.{unwrap_or}
-use Rattle.std.specs.List.{AllByRecursion, concat}
-use Rattle.std.proofs.lemmas.Bool.{and_parts, ltb-false}
-use Rattle.mbox_cutter.specs.Archives.{Message, total, marked, grouped, is_refused, without_closing, size, span_length, messages_from, messages}
-use Rattle.mbox_cutter.specs.Events.{refusal_of}
+use Rattle.index_job.proofs.Words.{◌≡◌, ◌∙◌, ℕ, ◌+◌, ◌<◌, ◌≤◌, Bool, true, false, cond, nat_lt, List, [], ◌∷◌, length, map, Some, None, refl, ap, arith, length-append, unwrap_or, AllByRecursion, concat, and_parts, ltb-false, Message, total, marked, grouped, is_refused, without_closing, size, span_length, messages_from, messages, refusal_of, messages_in}
 use Rattle.mbox_cutter.specs.Lines.{lines, is_empty}
 use Rattle.mbox_cutter.specs.Separators.{is_separator}
 use Rattle.mbox_cutter.specs.declared.event.CutFault.TheVariants.{NotAnMbox, ArchiveTooLong}
 use Rattle.mbox_cutter.proofs.LinesAreCut.{lines-AreLines}
-use Rattle.index_job.specs.ArchiveTables.{messages_in}
 
 -- the messages lie one behind another from the first place up to the second, and each is longer than its text
 abbrev pub AreSpanned : ℕ → ℕ → List Message → Type 0
@@ -23,8 +17,7 @@ closing-fewer [] = omega arith
 closing-fewer (l ∷ []) = go (is_empty l)
   where
     go : (b : Bool) → total (cond b [] (l ∷ [])) ≤ total (l ∷ [])
-    go true = omega arith
-    go false = omega arith
+    go b = grind arith
 closing-fewer (l ∷ m ∷ ls) = omega (arith, closing-fewer (m ∷ ls))
 
 total-joined : (ls : List (List ℕ)) → total ls ≡ length (concat ls)
@@ -68,8 +61,7 @@ grouped-total (mark ∷ marks) = go mark.0 (grouped-total marks)
     go : (starts : Bool) → total (grouped marks).0 + groups_total (grouped marks).1 ≡ total (map (λ (mark : Bool × List ℕ). mark.1) marks)
         → (let gs : List (List ℕ) × List Group = cond starts ([], (mark.1, (grouped marks).0) ∷ (grouped marks).1) (mark.1 ∷ (grouped marks).0, (grouped marks).1) in total gs.0 + groups_total gs.1)
         ≡ length mark.1 + total (map (λ (mark : Bool × List ℕ). mark.1) marks)
-    go true rest = omega (arith, rest)
-    go false rest = omega (arith, rest)
+    go starts h = grind arith
 
 grouped-some : (marks : List (Bool × List ℕ)) → AllByRecursion StartsSome marks → AllByRecursion (λ (g : Group). 0 < length g.0) (grouped marks).1
 grouped-some [] all = tt
@@ -77,8 +69,7 @@ grouped-some (mark ∷ marks) all = go mark.0 refl (grouped-some marks all.1)
   where
     go : (starts : Bool) → mark.0 ≡ starts → AllByRecursion (λ (g : Group). 0 < length g.0) (grouped marks).1
         → AllByRecursion (λ (g : Group). 0 < length g.0) (let gs : List (List ℕ) × List Group = cond starts ([], (mark.1, (grouped marks).0) ∷ (grouped marks).1) (mark.1 ∷ (grouped marks).0, (grouped marks).1) in gs.1)
-    go true is rest = (all.0 is, rest)
-    go false is rest = rest
+    go starts h h2 = grind arith
 
 -- ---- messages
 
@@ -110,6 +101,4 @@ unfolding refusal_of
 unrefused-short most bytes = go _ (nat_lt most (length bytes)) refl
   where
     go : (no_mbox long : Bool) → nat_lt most (length bytes) ≡ long → cond no_mbox (Some NotAnMbox) (cond long (Some ArchiveTooLong) None) ≡ None → length bytes ≤ most
-    go true long is none = absurd cc
-    go false true is none = absurd cc
-    go false false is none = ltb-false most (length bytes) is
+    go no_mbox long h h2 = grind (arith, ltb-false)

@@ -1,7 +1,5 @@
-use Rattle.std.proofs.Common.{◌≡◌, ◌∙◌, Option, Ok, Err, ap, subst}
-use Rattle.mail_index.specs.Builders.{Draft, begun_archive, stepped}
+use Rattle.index_job.proofs.Words.{◌≡◌, Option, Ok, subst, arith, Draft, begun_archive, stepped, err_from_is_err_and}
 use Rattle.index_job.proofs.ArchiveSteps.{named-adds}
-use Rattle.std.proofs.lemmas.Result.{err_from_is_err_and}
 use Rattle.index_job.proofs.SourceReads.{builder-fails}
 use Rattle.index_job.proofs.archive_reading.add_archive.Goals as goal
 
@@ -12,6 +10,4 @@ returns-clause-known g c = λ d all ms refusal is comes.
     (λ e opened. c.add_messages.ensures.known e all ms refusal opened comes)
 
 pub returns-in_err-begin_archive-clause-reads : goal.returns-in_err-begin_archive-clause-reads
-returns-in_err-begin_archive-clause-reads g c =
-    let p = err_from_is_err_and c.from_residual.result c.from_residual.ensures.1 in
-    builder-fails g.S.Source c.from_residual.result c.in_err-begin_archive.field-0.0 c.args.cutter.now.source (p.1 ∙ ap Err p.2)
+returns-in_err-begin_archive-clause-reads g c = grind (arith, err_from_is_err_and, builder-fails)

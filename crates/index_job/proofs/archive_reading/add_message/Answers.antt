@@ -1,13 +1,6 @@
-use Rattle.std.proofs.Common.{◌≡◌, ◌∙◌, ℕ, List, Option, Some, Err, false, ap, IfSome, sym, subst, arith}
-use Rattle.std.specs.Option.{MatchOption}
-use Rattle.mail_index.specs.Builders.{Draft, IsInArchive}
-use Rattle.index_job.specs.declared.archive_reading.Ended.{Ended}
-use Rattle.index_job.specs.Inside.ArchiveReading.{IsInside, HasEnded, IsReading, HasReadAll}
-use Rattle.std.proofs.lemmas.Result.{err_from_is_err_and}
-use Rattle.index_job.specs.Indexing.{with_open_message}
+use Rattle.index_job.proofs.Words.{◌≡◌, ◌∙◌, ℕ, List, Option, Some, false, IfSome, sym, subst, arith, MatchOption, Draft, IsInArchive, Ended, IsInside, HasEnded, IsReading, HasReadAll, err_from_is_err_and, with_open_message}
 use Rattle.index_job.proofs.MessageSteps.{message-fault, opens, ready-behind, adds-message, own-fault}
-use Rattle.index_job.proofs.SourceReads.{reads-join, reads-before, reads-passed}
-use Rattle.index_job.specs.JobFaults.{is_source_failure}
+use Rattle.index_job.proofs.SourceReads.{reads-join}
 use Rattle.index_job.proofs.archive_reading.add_message.Goals as goal
 
 pub returns-in_err-length-clause-known : goal.returns-in_err-length-clause-known
@@ -88,18 +81,3 @@ lines-preserved g c =
           subst (λ (o : Option Ended). MatchOption o ((more left : List (List ℕ)) × IsReading open_draft w more left text builder next.coming) (λ e. HasReadAll open_draft w e text builder next.coming)) c.in_default.is
           (e.known open_draft w r.0 r.1 r.2);
     }
-
-pub returns-in_err-length-clause-reads : goal.returns-in_err-length-clause-reads
-returns-in_err-length-clause-reads g c =
-    let p = err_from_is_err_and c.from_residual-in_err-length.result c.from_residual-in_err-length.ensures.1 in
-    let first = c.args.cutter.now.source in
-    let last = c.next_line.new.cutter.source in
-    reads-passed g.S.Source c.from_residual-in_err-length.result c.next_line.result c.in_err-length.field-0.0 first last c.in_err-length.was (p.1 ∙ ap Err p.2)
-    (reads-join g.S.Source (is_source_failure c.next_line.result) first c.lines.cutter.source last c.lines.invariant.reads c.next_line.ensures.reads)
-
-pub returns-in-Some-clause-reads : goal.returns-in-Some-clause-reads
-returns-in-Some-clause-reads g c =
-    let first = c.args.cutter.now.source in
-    let last = c.next_line.new.cutter.source in
-    reads-before g.S.Source (is_source_failure c.finish_message.result) first last c.finish_message.ensures.source
-    (reads-join g.S.Source false first c.lines.cutter.source last c.lines.invariant.reads c.in_ok-length.ensures.reads)

@@ -1,10 +1,4 @@
-use Rattle.std.proofs.Common.{false, ◌≡◌, ◌≤◌, ℕ, List, Some}
-use Rattle.mail_index.specs.Builders.{Draft}
-use Rattle.mbox_cutter.specs.Archives.{text}
-use Rattle.mbox_cutter.specs.Places.{left}
-use Rattle.index_job.specs.Inside.ArchiveReading.{Awaited, coming_inside, IsInside, IsReadingSome, ReadsSource}
-use Rattle.index_job.specs.Inside.Gathering.{HasGathered}
-use Rattle.index_job.specs.Indexing.{with_open_message}
+use Rattle.index_job.proofs.Words.{false, ◌≡◌, ◌≤◌, ℕ, List, Some, Draft, text, left, Awaited, coming_inside, IsInside, IsReadingSome, ReadsSource, HasGathered, with_open_message}
 use Rattle.index_job.proofs.archive_reading.add_message.Given as goal
 
 -- the message is still open, and some of its lines are gathered; where it is known what comes, they are a front of its text

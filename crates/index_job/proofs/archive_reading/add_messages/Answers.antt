@@ -1,23 +1,12 @@
-use Rattle.std.proofs.Common.{◌∙◌, Err, false, ap, refl, subst, arith}
-use Rattle.std.proofs.lemmas.Result.{err_from_is_err_and}
+use Rattle.index_job.proofs.Words.{◌∙◌, Err, false, ap, subst, arith, err_from_is_err_and, Heads, IsHeading, Awaited, draft_with_messages, is_source_failure}
 use Rattle.index_job.specs.declared.archive_reading.Heading.{Heading}
 use Rattle.index_job.specs.declared.archive_reading.Heading.TheVariants.{Message, End}
-use Rattle.index_job.specs.Inside.ArchiveReading.{Heads, IsHeading, Awaited, ReadsToEnd}
-use Rattle.index_job.specs.Indexing.{draft_with_messages}
 use Rattle.index_job.proofs.ArchiveSteps.{done-none, between-fault, inside-fault, done-more, archive-done}
 use Rattle.index_job.proofs.SourceReads.{awaits-end, reads-none, reads-join, reads-passed}
-use Rattle.index_job.specs.JobFaults.{is_source_failure}
 use Rattle.index_job.proofs.archive_reading.add_messages.Goals as goal
 
 pub messages-init : goal.messages-init
-messages-init g c = record {
-  reads = reads-none g.S.Source c.args.cutter.now.source;
-  between = c.requires.between;
-  most = refl;
-  ready = c.requires.ready;
-  few = omega arith;
-  done = λ d all ms refusal is comes. done-none c.args.archive d all ms refusal c.args.builder.now c.args.cutter.now.coming is comes;
-}
+messages-init g c = grind (arith, reads-none, done-none)
 
 pub returns-in_err-offset-clause-known : goal.returns-in_err-offset-clause-known
 returns-in_err-offset-clause-known g c =
@@ -74,12 +63,7 @@ returns-in-End-clause-known g c = λ d all ms refusal is comes.
     archive-done c.args.archive d all ms refusal c.messages.messages c.messages.builder c.messages.cutter.coming h bytes heads
 
 pub returns-in_err-offset-clause-reads : goal.returns-in_err-offset-clause-reads
-returns-in_err-offset-clause-reads g c =
-    let p = err_from_is_err_and c.from_residual.result c.from_residual.ensures.1 in
-    let first = c.args.cutter.now.source in
-    let last = c.next_heading.new.cutter.source in
-    reads-passed g.S.Source c.from_residual.result c.next_heading.result c.in_err-offset.field-0.0 first last c.in_err-offset.was (p.1 ∙ ap Err p.2)
-    (reads-join g.S.Source (is_source_failure c.next_heading.result) first c.messages.cutter.source last c.messages.invariant.reads c.next_heading.ensures.reads)
+returns-in_err-offset-clause-reads g c = grind (arith, err_from_is_err_and, reads-passed, reads-join)
 
 pub returns-in_err-add_message-in-Message-clause-reads :
     goal.returns-in_err-add_message-in-Message-clause-reads
@@ -93,15 +77,7 @@ returns-in_err-add_message-in-Message-clause-reads g c =
     (reads-join g.S.Source false first c.messages.cutter.source mid c.messages.invariant.reads c.in_ok-offset.ensures.reads) c.add_message.ensures.reads)
 
 pub returns-in-End-clause-reads : goal.returns-in-End-clause-reads
-returns-in-End-clause-reads g c =
-    reads-join g.S.Source false c.args.cutter.now.source c.messages.cutter.source c.next_heading.new.cutter.source c.messages.invariant.reads c.in_ok-offset.ensures.reads
+returns-in-End-clause-reads g c = grind (arith, reads-join)
 
 pub returns-in-End-clause-ended : goal.returns-in-End-clause-ended
-returns-in-End-clause-ended g c =
-    let bytes = c.in-End.length in
-    let old = c.messages.cutter.place in
-    let new = c.next_heading.new.cutter in
-    let rest = g.S.Source.rest new.source.now in
-    let e = c.in_ok-offset.ensures in
-    awaits-end c.args.archive bytes old new.place rest c.messages.builder (subst (λ (x : Heading). IsHeading x old new.place) c.in-End.is e.place) (e.most ∙ c.messages.invariant.most ∙ c.requires.most)
-    (subst (λ (x : Heading). ReadsToEnd x rest) c.in-End.is e.end) c.messages.invariant.ready
+returns-in-End-clause-ended g c = grind (arith, awaits-end)

@@ -1,11 +1,5 @@
-use Rattle.std.proofs.Common.{false, ◌≡◌, ◌≤◌, ℕ, List, Option, Some}
-use Rattle.mail_index.specs.Builders.{Draft}
-use Rattle.mbox_cutter.specs.Archives.{Message}
-use Rattle.mbox_cutter.specs.declared.event.CutFault.{CutFault}
+use Rattle.index_job.proofs.Words.{false, ◌≡◌, ◌≤◌, ℕ, List, Option, Some, Draft, Message, CutFault, left, coming_ahead, HasDone, ReadsSource, IsBuilderReady}
 use Rattle.mbox_cutter.specs.declared.scan.Phase.TheVariants.{Between}
-use Rattle.mbox_cutter.specs.Places.{left}
-use Rattle.index_job.specs.Inside.ArchiveReading.{coming_ahead, HasDone, ReadsSource}
-use Rattle.index_job.specs.Indexing.{IsBuilderReady}
 use Rattle.index_job.proofs.archive_reading.add_messages.Given as goal
 
 -- no message is open; where it is known what comes, some messages are done, and the others come

@@ -1,14 +1,6 @@
-use Rattle.std.proofs.Common.{◌∙◌, [], ap, subst}
-use Rattle.std.specs.Prelude.{Result, Ok, Err}
-use Rattle.std.proofs.lemmas.Result.{err_from_is_err_and}
-use Rattle.mbox_cutter.specs.declared.event.Event.{Event}
-use Rattle.mbox_cutter.specs.declared.event.CutFault.{CutFault}
-use Rattle.mbox_cutter.specs.Coming.{Answers, TakesKnown}
-use Rattle.mbox_cutter.specs.Progress.{shown_result}
-use Rattle.mbox_cutter.specs.Events.{Line, End}
+use Rattle.index_job.proofs.Words.{◌∙◌, [], ap, subst, Result, Ok, Err, err_from_is_err_and, Event, CutFault, Answers, TakesKnown, shown_result, Line, End, is_source_failure}
 use Rattle.index_job.proofs.ReadingLines.{reads-line, reads-end, line-is-fault, gather-own}
-use Rattle.index_job.proofs.SourceReads.{event-reads, event-fails, reads-before, reads-passed}
-use Rattle.index_job.specs.JobFaults.{is_source_failure}
+use Rattle.index_job.proofs.SourceReads.{event-reads, reads-before, reads-passed}
 use Rattle.index_job.proofs.archive_reading.next_line.Goals as goal
 
 pub returns-in_err-feed_line-in-Line-clause-fault :
@@ -51,11 +43,6 @@ returns-in-End-clause-known g c =
     let takes : TakesKnown (End c.in-End.length c.in-End.size) now next = subst (λ (r : Result Event CutFault). Answers now (shown_result r) next) (c.in_ok-line.was ∙ ap Ok c.in-End.is) answers in
     λ d w ls rest r. reads-end d w ls rest c.args.text.now c.args.builder.now now next (record { length = c.in-End.length; size = c.in-End.size }) r takes
 
-pub returns-in_err-line-clause-reads : goal.returns-in_err-line-clause-reads
-returns-in_err-line-clause-reads g c =
-    let p = err_from_is_err_and c.from_residual.result c.from_residual.ensures.1 in
-    event-fails g.S.Source c.from_residual.result c.args.cutter.now c.next_event.follows.lender-at-none c.next_event.result c.in_err-line.field-0.0 c.in_err-line.was (p.1 ∙ ap Err p.2) c.next_event.follows.holds-at-none
-
 pub returns-in_err-feed_line-in-Line-clause-reads :
     goal.returns-in_err-feed_line-in-Line-clause-reads
 returns-in_err-feed_line-in-Line-clause-reads g c =
@@ -69,8 +56,4 @@ returns-in_err-feed_line-in-Line-clause-reads g c =
 pub returns-in_ok-feed_line-in-Line-clause-reads :
     goal.returns-in_ok-feed_line-in-Line-clause-reads
 returns-in_ok-feed_line-in-Line-clause-reads g c =
-    event-reads g.S.Source c.args.cutter.now c.next_event.follows.lender-at-none c.next_event.result _ c.in_ok-line.was c.next_event.follows.holds-at-none
-
-pub returns-in-End-clause-reads : goal.returns-in-End-clause-reads
-returns-in-End-clause-reads g c =
     event-reads g.S.Source c.args.cutter.now c.next_event.follows.lender-at-none c.next_event.result _ c.in_ok-line.was c.next_event.follows.holds-at-none

@@ -1,22 +1,10 @@
-use Rattle.std.proofs.Common.{◌≡◌, ◌∙◌, ◌∷◌, ◌++◌, ◌+◌, ℕ, List, Option, arith, drop, get_or, option_map, sym, ap, ap₂, subst}
-use Rattle.std.specs.List.{AllByRecursion}
-use Rattle.std.proofs.lemmas.Result.{err_from_is_err_and}
-use Rattle.mail_index.specs.Builders.{Draft}
-use Rattle.index_job.specs.Indexing.{draft_with_terms, IsTermFault}
-use Rattle.index_job.specs.Inside.FoldedWords.{cut}
-use Rattle.index_job.specs.MessageTerms.{HasTermLength, word_terms}
+use Rattle.index_job.proofs.Words.{◌≡◌, ◌∙◌, ◌∷◌, ◌++◌, ◌+◌, ℕ, List, arith, drop, get_or, option_map, sym, ap, ap₂, subst, AllByRecursion, err_from_is_err_and, draft_with_terms, cut, HasTermLength, word_terms}
 use Rattle.index_job.proofs.FoldedWords.{next-cut, next-sum}
 use Rattle.index_job.proofs.Terms.{fails-first, waits-next}
 use Rattle.index_job.proofs.folding_room.add_cut_words.Goals as goal
 
 pub returns-in_err-push-clause-terms : goal.returns-in_err-push-clause-terms
-returns-in_err-push-clause-terms c =
-    let kind = c.args.kind in
-    let now : Option Draft = c.loop-length.builder in
-    let fault = c.in_err-push.field-0.0 in
-    let left = word_terms kind (cut (drop c.loop-length.length-index c.args.lengths.now) c.loop-length.rest.now) in
-    let p = err_from_is_err_and c.from_residual.result c.from_residual.ensures.1 in
-    rw (p.1, p.2) (subst (λ (o : Option Draft). IsTermFault o fault) (sym c.loop-length.invariant.whole) (fails-first (word_terms kind c.loop-length.batch) left now fault c.in_err-push.ensures.err))
+returns-in_err-push-clause-terms c = grind (arith, err_from_is_err_and, fails-first)
 
 pub loop-length-preserved : goal.loop-length-preserved
 loop-length-preserved c =

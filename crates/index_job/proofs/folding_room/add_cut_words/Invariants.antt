@@ -1,10 +1,4 @@
-use Rattle.std.proofs.Common.{◌≡◌, ◌≤◌, ◌++◌, IfSome, drop, length, option_map}
-use Rattle.std.specs.Prelude.{sum}
-use Rattle.std.specs.List.{AllByRecursion}
-use Rattle.mail_index.specs.Builders.{IsInMessage}
-use Rattle.index_job.specs.Indexing.{draft_with_terms}
-use Rattle.index_job.specs.Inside.FoldedWords.{cut}
-use Rattle.index_job.specs.MessageTerms.{HasTermLength, word_terms}
+use Rattle.index_job.proofs.Words.{◌≡◌, ◌≤◌, ◌++◌, IfSome, drop, length, option_map, sum, AllByRecursion, IsInMessage, draft_with_terms, cut, HasTermLength, word_terms}
 use Rattle.index_job.proofs.folding_room.add_cut_words.Given as goal
 
 -- with the words that wait and those that are left it becomes what it is to become

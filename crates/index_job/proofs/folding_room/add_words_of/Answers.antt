@@ -1,10 +1,4 @@
-use Rattle.std.proofs.Common.{◌≡◌, ◌∙◌, ◌∷◌, ◌++◌, [], ℕ, List, Option, All, option_map, sym, ap, subst}
-use Rattle.std.proofs.lemmas.List.Elements.{All-tail}
-use Rattle.std.proofs.lemmas.Result.{err_from_is_err_and}
-use Rattle.mail_words.specs.Words.{HasWordLength}
-use Rattle.mail_index.specs.Builders.{Draft}
-use Rattle.index_job.specs.Indexing.{draft_with_terms, IsTermFault}
-use Rattle.index_job.specs.MessageTerms.{word_terms}
+use Rattle.index_job.proofs.Words.{◌≡◌, ◌∙◌, ◌∷◌, ◌++◌, [], ℕ, List, All, option_map, ap, subst, arith, All-tail, err_from_is_err_and, HasWordLength, draft_with_terms, word_terms}
 use Rattle.index_job.proofs.Terms.{fails-first, waits-next}
 use Rattle.index_job.proofs.folding_room.add_words_of.Goals as goal
 
@@ -27,9 +21,4 @@ loop-word-preserved c =
     )
 
 pub returns-in_err-push-clause-terms : goal.returns-in_err-push-clause-terms
-returns-in_err-push-clause-terms c =
-    let kind = c.args.kind in
-    let now : Option Draft = c.loop-word.builder in
-    let fault = c.in_err-push.field-0.0 in
-    let p = err_from_is_err_and c.from_residual.result c.from_residual.ensures.1 in
-    rw (p.1, p.2) (subst (λ (o : Option Draft). IsTermFault o fault) (sym c.loop-word.invariant.4) (fails-first (word_terms kind c.loop-word.batch) (word_terms kind c.loop-word.word-iterator) now fault c.in_err-push.ensures.err))
+returns-in_err-push-clause-terms c = grind (arith, err_from_is_err_and, fails-first)

@@ -1,8 +1,4 @@
-use Rattle.std.proofs.Common.{◌≡◌, ◌++◌, IfSome, All, option_map}
-use Rattle.mail_words.specs.Words.{HasWordLength, words}
-use Rattle.mail_index.specs.Builders.{IsInMessage}
-use Rattle.index_job.specs.Indexing.{draft_with_terms}
-use Rattle.index_job.specs.MessageTerms.{word_terms}
+use Rattle.index_job.proofs.Words.{◌≡◌, ◌++◌, IfSome, All, option_map, HasWordLength, words, IsInMessage, draft_with_terms, word_terms}
 use Rattle.index_job.proofs.folding_room.add_words_of.Given as goal
 
 -- with the words that wait and those that are left it becomes what it is to become

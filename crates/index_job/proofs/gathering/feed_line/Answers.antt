@@ -1,5 +1,4 @@
-use Rattle.std.proofs.Common.{rules}
-use Rattle.std.proofs.lemmas.Result.{err_from_is_err_and}
+use Rattle.index_job.proofs.Words.{rules, err_from_is_err_and}
 use Rattle.index_job.proofs.Gatherings.{gathers-line, line-fails}
 use Rattle.index_job.proofs.gathering.feed_line.Goals as goal
 

@@ -1,6 +1,5 @@
-use Rattle.std.proofs.Common.{Some}
-use Rattle.std.proofs.lemmas.Result.{err_from_is_err_and}
-use Rattle.index_job.proofs.Gatherings.{texts-fail, ids-fail, finished-is, open-behind}
+use Rattle.index_job.proofs.Words.{Some, err_from_is_err_and}
+use Rattle.index_job.proofs.Gatherings.{texts-fail, ids-fail, open-behind}
 use Rattle.index_job.proofs.message_end.finish_message.Goals as goal
 
 pub returns-in_err-facts-clause-err : goal.returns-in_err-facts-clause-err
@@ -12,10 +11,6 @@ pub end_message-requires-clause-opened : goal.end_message-requires-clause-opened
 end_message-requires-clause-opened c =
     let o = c.requires.opened in
     open-behind c.args.span.archive c.args.span.offset o.1 o.0 c.end_text.new.builder (c.in_ok-facts.ensures.ok o.1 (Some o.0) o.2) o.3
-
-pub returns-clause-ok : goal.returns-clause-ok
-returns-clause-ok c =
-    finished-is c.end_message.result c.end_message.new.builder c.args.span c.in_ok-facts.facts c.args.text.now c.args.builder.now c.end_text.new.builder c.in_ok-facts.ensures.facts c.in_ok-facts.ensures.ok c.end_message.ensures.ok
 
 pub returns-clause-err : goal.returns-clause-err
 returns-clause-err c =

@@ -1,10 +1,5 @@
-use Rattle.std.proofs.Common.{◌≡◌, ◌∙◌, ◌∷◌, ◌+◌, arith, Option, drop, map, option_map, sym, ap, subst}
-use Rattle.std.proofs.lemmas.Result.{err_from_is_err_and}
-use Rattle.mail_index.specs.declared.kind.Kind.TheVariants.{LinkId}
-use Rattle.mail_index.specs.Builders.{Draft}
-use Rattle.index_job.specs.Indexing.{draft_with_terms, IsTermFault}
-use Rattle.index_job.specs.MessageTerms.{link_terms}
-use Rattle.index_job.proofs.Terms.{added-terms, add-fails, in-message-kept, next-link}
+use Rattle.index_job.proofs.Words.{◌≡◌, ◌∙◌, ◌∷◌, ◌+◌, arith, Option, drop, map, option_map, sym, ap, subst, err_from_is_err_and, LinkId, Draft, draft_with_terms, IsTermFault, link_terms}
+use Rattle.index_job.proofs.Terms.{add-fails, next-link}
 use Rattle.index_job.proofs.term_sink.add_links.Goals as goal
 
 pub returns-in_err-add-clause-terms : goal.returns-in_err-add-clause-terms
@@ -19,16 +14,3 @@ returns-in_err-add-clause-terms c =
     let whole : option_map (draft_with_terms (link_terms c.args.ids.now)) c.args.builder.now ≡ option_map (draft_with_terms ((LinkId, id) ∷ link_terms (map (λ id. id.items) (drop (i + 1) ids)))) now =
     c.loop-id.invariant.whole ∙ ap (λ l. option_map (draft_with_terms l) now) next in
     rw (p.1, p.2) (subst (λ (o : Option Draft). IsTermFault o fault) (sym whole) (add-fails LinkId id (link_terms (map (λ id. id.items) (drop (i + 1) ids))) now c.add.new.self fault c.in_err-add.ensures.gives))
-
-pub loop-id-preserved : goal.loop-id-preserved
-loop-id-preserved c =
-    let id = c.deref.result.now in
-    let ids = c.as_slice-id-items.result.now in
-    let i = c.loop-id.id-index in
-    let now : Option Draft = c.loop-id.builder in
-    let next = next-link ids i c.id-item.result id (omega arith, c.id-item.is) c.deref.ensures.value in
-    record {
-      phase = in-message-kept LinkId id now c.add.new.self c.in_ok-add.ensures.gives c.loop-id.invariant.phase;
-      whole = c.loop-id.invariant.whole ∙ ap (λ l. option_map (draft_with_terms l) now) next
-          ∙ added-terms LinkId id (link_terms (map (λ id. id.items) (drop (i + 1) ids))) now c.add.new.self c.in_ok-add.ensures.gives;
-    }

@@ -1,7 +1,4 @@
-use Rattle.std.proofs.Common.{◌≡◌, IfSome, drop, map, option_map}
-use Rattle.mail_index.specs.Builders.{IsInMessage}
-use Rattle.index_job.specs.Indexing.{draft_with_terms}
-use Rattle.index_job.specs.MessageTerms.{link_terms}
+use Rattle.index_job.proofs.Words.{◌≡◌, IfSome, drop, map, option_map, IsInMessage, draft_with_terms, link_terms}
 use Rattle.index_job.proofs.term_sink.add_links.Given as goal
 
 -- with the ids that are left it becomes what it is to become

@@ -1,9 +1,4 @@
-use Rattle.std.proofs.Common.{◌≡◌, ◌∙◌, [], ◌∷◌, ◌+◌, ◌<◌, ◌≤◌, ℕ, List, Bor, Option, arith, drop, get_or, length, option_map, sym, ap, subst}
-use Rattle.std.proofs.lemmas.Result.{err_from_is_err_and}
-use Rattle.mail_index.specs.declared.kind.Kind.TheVariants.{Text}
-use Rattle.mail_index.specs.Builders.{Draft}
-use Rattle.index_job.specs.Indexing.{draft_with_terms, IsTermFault}
-use Rattle.index_job.specs.MessageTerms.{HasTermLength, word_terms}
+use Rattle.index_job.proofs.Words.{◌≡◌, ◌∙◌, [], ◌∷◌, ◌+◌, ℕ, List, Bor, Option, arith, drop, get_or, option_map, sym, ap, subst, err_from_is_err_and, Text, Draft, draft_with_terms, IsTermFault, word_terms}
 use Rattle.index_job.proofs.Terms.{added-terms, add-fails, in-message-kept, next-waiting, waiting-length, of-any-draft}
 use Rattle.index_job.proofs.batch.Batch.add_prefetched.Goals as goal
 
@@ -11,18 +6,10 @@ abbrev nothing : Bor (List ℕ)
 nothing = record { ref_ptr = (0, 0); now = [] }
 
 pub add_prefetched-requires-clause-some : goal.add_prefetched-requires-clause-some
-add_prefetched-requires-clause-some c =
-    let words = c.self.inside.words in
-    let i = c.loop-index.index in
-    let sized : HasTermLength (get_or words i nothing).now = waiting-length words c.self.inside.count i nothing c.self.invariant.1 c.loop-index-test.true (omega arith) in
-    of-any-draft c.loop-index.builder (0 < length (get_or words i nothing).now) (omega (arith, sized.0))
+add_prefetched-requires-clause-some c = grind (arith, waiting-length, of-any-draft)
 
 pub add_prefetched-requires-clause-short : goal.add_prefetched-requires-clause-short
-add_prefetched-requires-clause-short c =
-    let words = c.self.inside.words in
-    let i = c.loop-index.index in
-    let sized : HasTermLength (get_or words i nothing).now = waiting-length words c.self.inside.count i nothing c.self.invariant.1 c.loop-index-test.true (omega arith) in
-    of-any-draft c.loop-index.builder (length (get_or words i nothing).now ≤ 262144) (omega (arith, sized.1))
+add_prefetched-requires-clause-short c = grind (arith, waiting-length, of-any-draft)
 
 pub returns-in_err-add_prefetched-clause-terms : goal.returns-in_err-add_prefetched-clause-terms
 returns-in_err-add_prefetched-clause-terms c =

@@ -1,7 +1,4 @@
-use Rattle.std.proofs.Common.{◌≡◌, IfSome, drop, option_map}
-use Rattle.mail_index.specs.Builders.{IsInMessage}
-use Rattle.index_job.specs.Indexing.{draft_with_terms}
-use Rattle.index_job.specs.MessageTerms.{word_terms}
+use Rattle.index_job.proofs.Words.{◌≡◌, IfSome, drop, option_map, IsInMessage, draft_with_terms, word_terms}
 use Rattle.index_job.proofs.batch.Batch.add_prefetched.Given as goal
 
 -- with the words that are left it becomes what it is to become

@@ -1,7 +1,4 @@
-use Rattle.std.proofs.Common.{◌∙◌, [], ◌∷◌, ◌++◌, ℕ, List, Option, option_map, sym, ap}
-use Rattle.mail_index.specs.Builders.{Draft}
-use Rattle.index_job.specs.Indexing.{draft_with_terms}
-use Rattle.index_job.specs.MessageTerms.{word_terms}
+use Rattle.index_job.proofs.Words.{◌∙◌, [], ◌∷◌, ◌++◌, ℕ, List, Option, option_map, sym, ap, Draft, draft_with_terms, word_terms}
 use Rattle.index_job.proofs.Terms.{added-first}
 use Rattle.index_job.proofs.batch.Batch.push.Goals.{then-is_full+in_ok-add, else-is_full}
 use Rattle.index_job.proofs.batch.Batch.push.Goals as goal

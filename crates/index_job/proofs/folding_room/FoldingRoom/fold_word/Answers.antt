@@ -1,5 +1,4 @@
-use Rattle.std.proofs.Common.{◌∙◌, [], ◌∷◌, ◌++◌, ℕ, List, length, ap}
-use Rattle.mail_words.specs.Folding.{folding}
+use Rattle.index_job.proofs.Words.{◌∙◌, [], ◌∷◌, ◌++◌, ℕ, List, length, ap, folding}
 use Rattle.index_job.proofs.FoldedWords.{holds-push, sized}
 use Rattle.index_job.proofs.folding_room.FoldingRoom.fold_word.Goals as goal
 

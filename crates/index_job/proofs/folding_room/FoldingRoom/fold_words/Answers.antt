@@ -1,7 +1,4 @@
-use Rattle.std.proofs.Common.{◌≡◌, ◌∙◌, [], ◌∷◌, ◌++◌, All, map, sym, ap, subst, append_assoc}
-use Rattle.std.proofs.lemmas.List.Elements.{All-tail}
-use Rattle.mail_words.specs.Folding.{folding}
-use Rattle.mail_words.specs.Words.{HasWordLength}
+use Rattle.index_job.proofs.Words.{◌≡◌, ◌∙◌, [], ◌∷◌, ◌++◌, All, map, sym, ap, subst, append_assoc, All-tail, folding, HasWordLength}
 use Rattle.index_job.proofs.folding_room.FoldingRoom.fold_words.Goals as goal
 
 pub loop-word-preserved : goal.loop-word-preserved

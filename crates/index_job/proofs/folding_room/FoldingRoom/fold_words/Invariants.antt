@@ -1,7 +1,4 @@
-use Rattle.std.proofs.Common.{◌≡◌, ◌++◌, ℕ, List, All, map}
-use Rattle.mail_words.specs.Folding.{folding}
-use Rattle.mail_words.specs.Words.{HasWordLength, words}
-use Rattle.index_job.specs.Inside.FoldedWords.{HoldsWords}
+use Rattle.index_job.proofs.Words.{◌≡◌, ◌++◌, ℕ, List, All, map, folding, HasWordLength, words, HoldsWords}
 use Rattle.index_job.proofs.folding_room.FoldingRoom.fold_words.Given as goal
 
 -- some words are folded, and with those that are left they are all

@@ -1,11 +1,5 @@
-use Rattle.std.proofs.Common.{◌≡◌, ◌∙◌, ℕ, List, Option, Some, IfSome, sym, ap, subst}
-use Rattle.std.proofs.lemmas.Result.{err_from_is_err_and}
-use Rattle.sha2.specs.Sha256.{sha256}
-use Rattle.mail_index.specs.Builders.{Draft}
+use Rattle.index_job.proofs.Words.{◌≡◌, ◌∙◌, ℕ, List, Option, Some, IfSome, sym, ap, subst, err_from_is_err_and, sha256, Draft, Mbox, draft_of, IsBuilderIdle, draft_in, IsJobBuilder}
 use Rattle.mbox_cutter.specs.Digests.{inner, AreWhole}
-use Rattle.index_job.specs.ArchiveTables.{Mbox}
-use Rattle.index_job.specs.Indexing.{draft_of, IsBuilderIdle}
-use Rattle.index_job.specs.IndexJobs.{draft_in, IsJobBuilder}
 use Rattle.index_job.proofs.TableSteps.{number-is, one-added, add-fault}
 use Rattle.index_job.proofs.index_job.IndexJob.archive.Goals as goal
 
