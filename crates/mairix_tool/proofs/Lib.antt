@@ -1,3 +1,4 @@
+pub mod Words
 pub mod ArchiveLaws
 pub mod TableLaws
 pub mod ReplyLaws

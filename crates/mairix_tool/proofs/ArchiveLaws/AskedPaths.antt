@@ -1,17 +1,12 @@
 -- The paths of archives that are asked for are paths, and as many as the rcfile has.
-use Rattle.std.proofs.Common.{◌≡◌, ◌++◌, ℕ, List, [], ◌∷◌, length, map, append-nil, All, IfOk, Result, Ok, Err, refl, sym, ap, subst}
-use Rattle.std.specs.List.{join_by, join_with_byte}
+use Rattle.mairix_tool.proofs.Words.{◌≡◌, ◌++◌, ℕ, List, [], ◌∷◌, length, map, append-nil, All, IfOk, Result, Ok, refl, sym, ap, subst, arith, join_by, join_with_byte, IsPath, Query, Fault, Wanted, asked, asked_rc, query_asked, wanted_by}
 use Rattle.contract_words.specs.Answers.{◌>>=◌, fault_as}
-use Rattle.mail_index.specs.Tables.{IsPath}
-use Rattle.mail_query.specs.Query.{Query}
 use Rattle.mail_query.specs.declared.fault.QueryFault.{QueryFault}
-use Rattle.run_faults.specs.declared.fault.Fault.{Fault}
 use Rattle.run_faults.specs.declared.fault.Fault.TheVariants as of
 use Rattle.mairix_options.specs.declared.command_line.Plan.{Plan}
 use Rattle.mairix_options.specs.declared.command_line.UsageFault.{UsageFault}
 use Rattle.mairix_options.specs.declared.rcfile.Rc.{Rc}
 use Rattle.mairix_options.specs.declared.rcfile.RcFault.{RcFault}
-use Rattle.mairix_tool.specs.Asked.{Wanted, asked, asked_rc, query_asked, wanted_by}
 use Rattle.mairix_options.specs.CommandLine.{plan}
 use Rattle.mairix_options.specs.Rcfile.{rc_of}
 use Rattle.mairix_options.proofs.RcPaths.{paths-are-paths}
@@ -21,13 +16,7 @@ abbrev asked-by : Result Plan UsageFault → Result Rc RcFault → (Plan → Res
 asked-by planned read queried = fault_as of.Usage planned >>= λ p. fault_as of.Rc read >>= λ r. fault_as of.Query (queried p) >>= λ q. Ok (wanted_by p r q)
 
 paths-by : (planned : Result Plan UsageFault) (read : Result Rc RcFault) (queried : Plan → Result Query QueryFault) (w : Wanted) → asked-by planned read queried ≡ Ok w → (r : Rc) × (read ≡ Ok r) × (w.paths ≡ r.paths)
-paths-by (Err f) read queried w is = absurd cc
-paths-by (Ok p) (Err f) queried w is = absurd cc
-paths-by (Ok p) (Ok r) queried w is = (r, refl, go (queried p) is)
-  where
-    go : (asks : Result Query QueryFault) → (fault_as of.Query asks >>= λ q. Ok (wanted_by p r q)) ≡ Ok w → w.paths ≡ r.paths
-    go (Err f) is = absurd cc
-    go (Ok q) is = let same : wanted_by p r q ≡ w = cc in sym (ap (λ (v : Wanted). v.paths) same)
+paths-by planned read queried w h = grind arith
 
 pub asked-paths : (words : List (List ℕ)) (rc : List ℕ) (now : ℕ) (w : Wanted) → asked words rc now ≡ Ok w → All IsPath w.paths
 asked-paths words rc now w is =
@@ -37,20 +26,13 @@ asked-paths words rc now w is =
 -- where words, rcfile and query are accepted, the rcfile has so many paths
 many-by : (planned : Result Plan UsageFault) (read : Result Rc RcFault) (queried : Plan → Result Query QueryFault) (n : ℕ) (more : Rc → Type 0)
     → IfOk (fault_as of.Usage planned >>= λ p. fault_as of.Rc read) (λ r. (length r.paths ≡ n) × more r) → IfOk (asked-by planned read queried) (λ w. length w.paths ≡ n)
-many-by (Err f) read queried n more given = tt
-many-by (Ok p) (Err f) queried n more given = tt
-many-by (Ok p) (Ok r) queried n more given = go (queried p)
-  where
-    go : (asks : Result Query QueryFault) → IfOk (fault_as of.Query asks >>= λ q. Ok (wanted_by p r q)) (λ w. length w.paths ≡ n)
-    go (Err f) = tt
-    go (Ok q) = given.0
+many-by planned read queried n more h = grind arith
 
 pub asked-many : (words : List (List ℕ)) (rc : List ℕ) (now n : ℕ) (more : Rc → Type 0) → IfOk (asked_rc words rc) (λ r. (length r.paths ≡ n) × more r) → IfOk (asked words rc now) (λ w. length w.paths ≡ n)
 asked-many words rc now n more given = many-by (plan words) (rc_of rc) (λ p. query_asked p.boolean p.patterns now) n more given
 
 pub rc-many : (read : Result Rc Fault) (n : ℕ) (more : Rc → Type 0) → IfOk read (λ r. (length r.paths ≡ n) × more r) → IfOk read (λ r. length r.paths ≡ n)
-rc-many (Ok r) n more given = given.0
-rc-many (Err f) n more given = tt
+rc-many read n more h = grind arith
 
 -- what is asked for is as many as there are archives
 pub asked-as-many : (read : Result Wanted Fault) (w : Wanted) (n : ℕ) → read ≡ Ok w → IfOk read (λ v. length v.paths ≡ n) → length w.paths ≡ n

@@ -1,18 +1,8 @@
 -- Some bytes have one first fault: each comes where all before it are past, and isn't past itself.
-use Rattle.std.proofs.Common.{◌≡◌, ◌∙◌, ℕ, zero, suc, ◌<◌, ◌≤◌, ◌^◌, ◌+◌, List, length, take, flat_map, refl, sym, ap, subst, arith, inl, inr}
-use Rattle.std.specs.Prelude.{◌⊎◌, ⊤}
-use Rattle.std.proofs.lemmas.Bool.Decides.{leb_tells, eqb_tells}
-use Rattle.mail_index.specs.declared.view.fault.IndexFault.{IndexFault}
-use Rattle.mail_index.specs.declared.view.fault.IndexFault.TheVariants.{TooShort, BadMagic, BadVersion, BadDigest, BadLayout}
+use Rattle.mairix_tool.proofs.Words.{◌≡◌, ◌∙◌, ℕ, zero, suc, ◌<◌, ◌≤◌, ◌^◌, ◌+◌, List, length, take, flat_map, sym, ap, subst, arith, inl, inr, ◌⊎◌, ⊤, leb_tells, eqb_tells, IndexFault, TooShort, BadMagic, BadVersion, BadDigest, BadLayout, Record, IsFirstFault, HasDigest, IsSigned, HasCounts, HasArchives, HasRecords, HasDirectory, digest_start, version_told, IsVersion, magic, record_bytes, Entry, Archive, AreBytes}
 use Rattle.mail_index.specs.declared.view.fault.Section.TheVariants.{Counts, Archives, Records, Directory, Postings}
-use Rattle.mail_index.specs.declared.record.Record.{Record}
-use Rattle.mail_index.specs.Faults.{IsFirstFault, HasDigest, IsSigned, HasCounts, HasArchives, HasRecords, HasDirectory, digest_start, version_told}
-use Rattle.mail_index.specs.Versions.{IsVersion}
-use Rattle.mail_index.specs.Files.{magic, archive_bytes, record_bytes, Entry}
-use Rattle.mail_index.specs.Records.{read_archives, read_records}
-use Rattle.mail_index.specs.Tables.{Archive}
+use Rattle.mail_index.specs.Records.{read_records}
 use Rattle.mail_index.proofs.ViewLaws.ArchiveReads.{archives_back}
-use Rattle.mail_index.proofs.FileLaws.Bytes.{AreBytes}
 use Rattle.mail_index.proofs.ViewLaws.DirectorySections.{u32_small}
 use Rattle.mail_index.proofs.ViewLaws.Opening.{length_records}
 use Rattle.mail_index.proofs.ViewLaws.RecordSections.{records_back}
@@ -41,24 +31,13 @@ at-rank (suc (suc (suc (suc (suc (suc (suc zero))))))) = BadLayout Directory
 at-rank _ = BadLayout Postings
 
 at-its-rank : (f : IndexFault) → at-rank (rank f) ≡ f
-at-its-rank TooShort = refl
-at-its-rank BadMagic = refl
-at-its-rank BadVersion = refl
-at-its-rank BadDigest = refl
-at-its-rank (BadLayout Counts) = refl
-at-its-rank (BadLayout Archives) = refl
-at-its-rank (BadLayout Records) = refl
-at-its-rank (BadLayout Directory) = refl
-at-its-rank (BadLayout Postings) = refl
+at-its-rank f = grind arith
 
 module _ (bytes : List ℕ) (are : AreBytes bytes) where
   -- ---- what the sections hold is determined
 
   same-archives : (as' bs : List Archive) → HasArchives bytes as' → HasArchives bytes bs → as' ≡ bs
-  same-archives as' bs a b =
-      let l : length as' ≡ length bs = a.counted ∙ sym b.counted in
-      let e : flat_map archive_bytes as' ≡ flat_map archive_bytes bs = sym a.spelled ∙ b.spelled in
-      sym (archives_back (version_told bytes) as' a.each) ∙ (λ i. read_archives (version_told bytes) (l i) (e i)) ∙ archives_back (version_told bytes) bs b.each
+  same-archives as' bs a b = grind (arith, flat_map, archives_back)
 
   same-records : (archives : List Archive) (ms ns : List Record) → HasRecords bytes archives ms → HasRecords bytes archives ns → ms ≡ ns
   same-records archives ms ns a b =
@@ -93,8 +72,7 @@ module _ (bytes : List ℕ) (are : AreBytes bytes) where
       nearer = elim (eqb_tells n m) [ inl p ↦ inr p.1 | inr p ↦ inl (omega (arith, below, p.1)) ]
 
       go : (n < m → IsKept n) → (n < m) ⊎ (n ≡ m) → IsKept n
-      go before (inl less) = before less
-      go before (inr same) = subst IsKept (sym same) kept.1
+      go h h2 = grind arith
 
   signed : IsSigned bytes → AreKept 4
   signed s = ((((tt, s.long), s.marked), s.known), s.digest)
@@ -113,15 +91,7 @@ module _ (bytes : List ℕ) (are : AreBytes bytes) where
 
   -- all rules before a first fault are kept
   kept-before : (f : IndexFault) → IsFirstFault bytes f → AreKept (rank f)
-  kept-before TooShort h = tt
-  kept-before BadMagic h = (tt, h.0)
-  kept-before BadVersion h = ((tt, h.0), h.1)
-  kept-before BadDigest h = (((tt, h.0), h.1), h.2)
-  kept-before (BadLayout Counts) h = signed h.0
-  kept-before (BadLayout Archives) h = counted h.0
-  kept-before (BadLayout Records) h = listed h.0 h.1
-  kept-before (BadLayout Directory) h = recorded h.0 h.1 h.2
-  kept-before (BadLayout Postings) h = filed h.0 h.1 h.2 h.3
+  kept-before f h = grind (arith, signed, counted, listed, recorded, filed)
 
   -- and its own isn't, unless it is the last
   not-kept : (f : IndexFault) → rank f < 8 → IsFirstFault bytes f → IsKept (rank f) → ⊥
@@ -133,34 +103,17 @@ module _ (bytes : List ℕ) (are : AreBytes bytes) where
   not-kept (BadLayout Archives) last h k = h.1 k.0 k.1
   not-kept (BadLayout Records) last h k =
       h.2 k.1 (subst (λ (archives : List Archive). HasRecords bytes archives k.1) (same-archives k.0 h.0 k.2.before h.1) k.2)
-  not-kept (BadLayout Directory) last h k =
-      let here = subst (λ (archives : List Archive). HasDirectory bytes archives k.1 k.2) (same-archives k.0 h.0 k.3.before.before h.2.before) k.3 in
-      h.3 k.2 (subst (λ (ms : List Record). HasDirectory bytes h.0 ms k.2) (same-records h.0 k.1 h.1 here.before h.2) here)
+  not-kept (BadLayout Directory) last h k = grind (arith, same-archives, same-records)
   not-kept (BadLayout Postings) last h k = absurd (omega (arith, last))
 
   never-before : (f g : IndexFault) → rank f < rank g → IsFirstFault bytes f → IsFirstFault bytes g → ⊥
-  never-before f g less h k = not-kept f (omega (arith, less, at-most g)) h (kept-below (rank f) (rank g) less (kept-before g k))
-    where
-      at-most : (g : IndexFault) → rank g ≤ 8
-      at-most TooShort = omega arith
-      at-most BadMagic = omega arith
-      at-most BadVersion = omega arith
-      at-most BadDigest = omega arith
-      at-most (BadLayout Counts) = omega arith
-      at-most (BadLayout Archives) = omega arith
-      at-most (BadLayout Records) = omega arith
-      at-most (BadLayout Directory) = omega arith
-      at-most (BadLayout Postings) = omega arith
+  never-before f g less h k = grind (arith, not-kept, kept-below, kept-before)
 
   pub one-first-fault : (f g : IndexFault) → IsFirstFault bytes f → IsFirstFault bytes g → f ≡ g
   one-first-fault f g h k = go by-rank
     where
       by-rank : (rank f < rank g) ⊎ ((rank g < rank f) ⊎ (rank f ≡ rank g))
-      by-rank =
-          elim (eqb_tells (rank f) (rank g)) [
-            | inl p ↦ inr (inr p.1)
-            | inr p ↦ elim (leb_tells (rank f) (rank g)) [ inl q ↦ inl (omega (arith, p.1, q.1)) | inr q ↦ inr (inl q.1) ]
-          ]
+      by-rank = grind (arith, eqb_tells, leb_tells)
 
       go : (rank f < rank g) ⊎ ((rank g < rank f) ⊎ (rank f ≡ rank g)) → f ≡ g
       go (inl less) = absurd (never-before f g less h k)

@@ -1,20 +1,13 @@
 -- Laws of the first archive with another path than was indexed.
-use Rattle.std.proofs.Common.{◌≡◌, ◌∙◌, ◌+◌, ◌<◌, ℕ, zero, suc, Bool, cond, List, [], ◌∷◌, length, drop, drop-cons, get_or, Some, min, sym, ap, arith, add-one, eq-eqb, inl, inr}
+use Rattle.mairix_tool.proofs.Words.{◌≡◌, ◌∙◌, ◌+◌, ◌<◌, ℕ, zero, suc, Bool, cond, List, [], ◌∷◌, length, drop, drop-cons, get_or, Some, min, ap, arith, add-one, eq-eqb, eqb_tells, Archive, first_renamed, renamed_archive}
 use Rattle.std.specs.Str.{bytes_eq}
 use Rattle.std.proofs.lemmas.List.{length-drop}
-use Rattle.std.proofs.lemmas.Bool.Decides.{eqb_tells}
-use Rattle.mail_index.specs.Tables.{Archive}
-use Rattle.mairix_tool.specs.Runs.{first_renamed, renamed_archive}
 
 pub as-many : (named : List Archive) (paths : List (List ℕ)) → length paths ≡ length named → renamed_archive named paths ≡ first_renamed 0 named paths
 as-many named paths same = ap (λ (t : Bool). cond t (first_renamed 0 named paths) (Some (min (length paths) (length named)))) (eq-eqb _ _ same)
 
 pub other-many : (named : List Archive) (paths : List (List ℕ)) → (length paths ≡ length named → ⊥) → renamed_archive named paths ≡ Some (min (length paths) (length named))
-other-many named paths other =
-    elim (eqb_tells (length paths) (length named)) [
-      | inl p ↦ absurd (other p.1)
-      | inr p ↦ ap (λ (t : Bool). cond t (first_renamed 0 named paths) (Some (min (length paths) (length named)))) p.0
-    ]
+other-many named paths other = grind (arith, eqb_tells)
 
 -- what follows an archive that was indexed
 pub behind : (named : List Archive) (n : ℕ) (a : Archive) (rest : List Archive) → drop n named ≡ a ∷ rest → drop (n + 1) named ≡ rest
@@ -26,11 +19,7 @@ behind (b ∷ named) (suc n) a rest e = let more : suc n + 1 ≡ suc (n + 1) = o
 -- the answer at an archive
 pub at-archive : (named : List Archive) (paths : List (List ℕ)) (n : ℕ) (a : Archive) (rest : List Archive) → drop n named ≡ a ∷ rest → n < length paths
     → first_renamed n (drop n named) (drop n paths) ≡ cond (bytes_eq a.path (get_or paths n [])) (first_renamed (n + 1) (drop (n + 1) named) (drop (n + 1) paths)) (Some n)
-at-archive named paths n a rest here below =
-    ap (λ (l : List Archive). first_renamed n l (drop n paths)) here
-    ∙ ap (λ (ps : List (List ℕ)). first_renamed n (a ∷ rest) ps) (drop-cons paths n [] below)
-    ∙ ap (λ (l : List Archive). cond (bytes_eq a.path (get_or paths n [])) (first_renamed (n + 1) l (drop (suc n) paths)) (Some n)) (sym (behind named n a rest here))
-    ∙ ap (λ (k : ℕ). cond (bytes_eq a.path (get_or paths n [])) (first_renamed (n + 1) (drop (n + 1) named) (drop k paths)) (Some n)) (sym (add-one n))
+at-archive named paths n a rest here below = grind (arith, drop-cons, behind, add-one)
 
 pub still-named : (named : List Archive) (n : ℕ) → n < length named → drop n named ≡ [] → ⊥
 still-named named n below none = omega (arith, length-drop n named, ap length none)

@@ -1,19 +1,7 @@
 -- Archives that aren't altered hold what was indexed, where SHA-256 tells them apart.
-use Rattle.std.proofs.Common.{◌≡◌, ◌∙◌, ◌+◌, ◌++◌, ◌==◌, ℕ, suc, Bool, true, false, cond, min, List, [], ◌∷◌, map, length, bytes_eq, Option, None, Some, refl, sym, ap, ap₂, arith}
-use Rattle.std.specs.Prelude.{Contains}
-use Rattle.std.specs.Option.{option_or}
-use Rattle.std.proofs.lemmas.Bool.{eqb-true}
-use Rattle.std.proofs.lemmas.List.{length-map}
-use Rattle.std.proofs.lemmas.List.Elements.{Contains-append_left, Contains-append_right}
-use Rattle.std.proofs.lemmas.Slice.Eq.{bytes_eq-Decides}
+use Rattle.mairix_tool.proofs.Words.{◌≡◌, ◌∙◌, ◌+◌, ◌++◌, ℕ, suc, Bool, true, cond, List, [], ◌∷◌, map, length, bytes_eq, Option, None, Some, refl, sym, ap, ap₂, arith, Contains, option_or, eqb-true, length-map, Contains-append_left, Contains-append_right, bytes_eq-Decides, Mbox, table, entry_of, unverified_archive, Archive, AreToldApart, altered_archive, mboxes, first_renamed, renamed_archive}
 use Rattle.sha2.specs.Sha256.{sha256}
-use Rattle.index_job.specs.ArchiveTables.{Mbox, table, entry_of}
-use Rattle.mail_answer.specs.Verified.{unverified_archive}
 use Rattle.mail_answer.proofs.ArchiveLaws.VerifiedLemmas.{verified_are, are_verified}
-use Rattle.mail_index.specs.Tables.{Archive}
-use Rattle.mairix_tool.specs.Altered.{AreToldApart, altered_archive}
-use Rattle.index_run.specs.ArchivesIndexed.{mboxes}
-use Rattle.mairix_tool.specs.Runs.{first_renamed, renamed_archive}
 
 -- ---- the digests of a table
 
@@ -30,14 +18,12 @@ own-digests (a ∷ archives) = ap₂ (λ (d : Option (List ℕ)) (l : List (Opti
 
 -- archives that were indexed hold what was indexed
 pub own-verified : (archives : List Mbox) → unverified_archive (table archives).archives (map (λ (a : Mbox). a.bytes) archives) ≡ None
-own-verified archives =
-    are_verified (map entry_of archives) (map (λ (a : Mbox). a.bytes) archives) (record { lengths = own-lengths archives; digests = own-digests archives })
+own-verified archives = grind (arith, are_verified, own-lengths, own-digests)
 
 -- ---- no path is another
 
 tested : (b : Bool) (next : Option ℕ) (n : ℕ) → cond b next (Some n) ≡ None → (b ≡ true) × (next ≡ None)
-tested true next n none = (refl, none)
-tested false next n none = absurd cc
+tested b next n h = grind arith
 
 paths-from : (n : ℕ) (before : List Mbox) (paths : List (List ℕ)) → length paths ≡ length (map entry_of before) → first_renamed n (map entry_of before) paths ≡ None
     → map (λ (a : Mbox). a.path) before ≡ paths
@@ -50,10 +36,7 @@ paths-from n (a ∷ before) (p ∷ paths) many none =
     ap₂ (λ (q : List ℕ) (l : List (List ℕ)). q ∷ l) ((bytes_eq-Decides a.path p).0 both.0) (paths-from (n + 1) before paths fewer both.1)
 
 same-paths : (before : List Mbox) (paths : List (List ℕ)) → renamed_archive (table before).archives paths ≡ None → map (λ (a : Mbox). a.path) before ≡ paths
-same-paths before paths none =
-    let named : List Archive = map entry_of before in
-    let both = tested (length paths == length named) (first_renamed 0 named paths) (min (length paths) (length named)) none in
-    paths-from 0 before paths (eqb-true (length paths) (length named) both.0) both.1
+same-paths before paths none = grind (arith, tested, paths-from, eqb-true)
 
 -- ---- no archive holds other bytes
 
@@ -92,16 +75,9 @@ made-again [] = refl
 made-again (a ∷ before) = ap (λ (l : List Mbox). a ∷ l) (made-again before)
 
 neither-of : (o p : Option ℕ) → option_or o p ≡ None → (o ≡ None) × (p ≡ None)
-neither-of None p none = (refl, none)
-neither-of (Some n) p none = absurd cc
+neither-of o p h = grind arith
 
 -- archives of which none is altered are those that were indexed
 pub the-same : (before : List Mbox) (paths bytes : List (List ℕ)) → AreToldApart (map (λ a. a.bytes) before ++ bytes) → altered_archive before paths bytes ≡ None
     → (length paths ≡ length bytes) × (before ≡ mboxes paths bytes)
-the-same before paths bytes apart none =
-    let both = neither-of (renamed_archive (table before).archives paths) (unverified_archive (table before).archives bytes) none in
-    let named : map (λ (a : Mbox). a.path) before ≡ paths = same-paths before paths both.0 in
-    let held : map (λ (a : Mbox). a.bytes) before ≡ bytes = same-bytes before bytes apart both.1 in
-    let many : length paths ≡ length bytes =
-    sym (ap length named) ∙ length-map before (λ (a : Mbox). a.path) ∙ sym (length-map before (λ (a : Mbox). a.bytes)) ∙ ap length held in
-    (many, made-again before ∙ ap₂ mboxes named held)
+the-same before paths bytes apart none = grind (arith, neither-of, same-paths, same-bytes, length-map, made-again)

@@ -1,27 +1,11 @@
 -- What a run replies of what a table answered.
-use Rattle.std.proofs.Common.{◌≡◌, ◌∙◌, ℕ, true, List, [], length, Option, None, Some, Ok, Err, refl, sym, ap, subst, append-nil}
-use Rattle.std.specs.Prelude.{◌==◌, ◌&&◌}
-use Rattle.std.specs.Bool.{OnTrue}
-use Rattle.std.specs.Io.KnownBytes.{Appends, Keeps}
-use Rattle.contract_words.specs.Devices.{Sends}
-use Rattle.mail_index.specs.Tables.{Table}
+use Rattle.mairix_tool.proofs.Words.{◌≡◌, ◌∙◌, ℕ, List, [], length, Option, None, Some, Ok, Err, refl, sym, ap, subst, append-nil, arith, OnTrue, Appends, Keeps, Sends, Table, Format, Raw, Excerpt, AnswersStale, Search, answer_text, known_answer, stale_archive, TableAnswer, IsTableAnswer, Answers, IsBeforeText, is_unwritten, answer_of_numbers, some-chosen, is_changed_or_unread, is_failed_archives, is_failed_out, IsOfAnswer, Answer, status_of_count, answered, IsStaleOr, IsFoundIn, IsTold, RepliesBy, reply_of, fault_of_answer_kind, IsCounted}
+use Rattle.mail_answer.specs.declared.format.Format.TheVariants.{Mbox}
 use Rattle.mail_answer.specs.declared.fault.AnswerFault.{AnswerFault}
 use Rattle.mail_answer.specs.declared.fault.AnswerFaultKind.{AnswerFaultKind}
 use Rattle.mail_answer.specs.declared.fault.AnswerFaultKind.TheVariants as kind
-use Rattle.mail_answer.specs.declared.format.Format.{Format}
-use Rattle.mail_answer.specs.declared.format.Format.TheVariants.{Raw, Excerpt, Mbox}
-use Rattle.mail_answer.specs.Answers.{AnswersStale}
 use Rattle.mail_answer.specs.Faults.{is_of_archives, is_of_output}
-use Rattle.mail_answer.specs.Mail.{Search}
-use Rattle.mail_answer.specs.Shapes.{answer_text, known_answer}
 use Rattle.mail_answer.specs.Sheets.{Tells}
-use Rattle.mail_answer.specs.Stale.{stale_archive}
-use Rattle.mail_answer.specs.TableAnswers.{TableAnswer, IsTableAnswer, Answers, IsBeforeText, is_unwritten, answer_of_numbers}
-use Rattle.mail_answer.proofs.OutputLaws.EveryAnswer.{some-chosen}
-use Rattle.run_faults.specs.declared.fault.Fault.TheVariants as of
-use Rattle.run_faults.specs.Faults.{is_changed_or_unread, is_failed_archives, is_failed_out, IsOfAnswer}
-use Rattle.mairix_tool.specs.Replies.{Answer, refused, status_of_count}
-use Rattle.mairix_tool.specs.Runs.{answered, IsStaleOr, IsFoundIn, IsTold, RepliesBy, reply_of, fault_of_answer_kind, IsCounted}
 
 -- the text that is known is the answer's
 known-text : (format : Format) (t : Table) (h : List (List ℕ)) (ns : List ℕ) (text : List ℕ) → Tells (known_answer format t (Some h) ns) text → answer_text format t h ns ≡ text
@@ -30,9 +14,7 @@ known-text Excerpt t h ns text tells = tells
 known-text Mbox t h ns text tells = tells
 
 keeps-appends : (a b : Option (List ℕ)) → Keeps a b → Appends a b []
-keeps-appends None b k = tt
-keeps-appends (Some xs) None k = k
-keeps-appends (Some xs) (Some ys) k = k ∙ sym (append-nil xs)
+keeps-appends a b h = grind (arith, append-nil)
 
 keeps-sends : (a b : Option (List ℕ)) (text : List ℕ) → Keeps a b → Sends a b text
 keeps-sends a b text k = ([], text, refl, keeps-appends a b k)
@@ -64,10 +46,7 @@ err-by F None (kind.Stale n) sent old new stale sends = absurd (cc stale)
 err-by F None kind.Device sent old new stale sends = sends
 err-by F None kind.OutOfMemory sent old new stale sends = sends
 err-by F None kind.OutFailed sent old new stale sends = sends
-err-by F (Some m) (kind.Stale n) sent old new stale sends =
-    let kinds : kind.Stale n ≡ kind.Stale m = ap (λ (f : AnswerFault). f.kind) stale.0 in
-    let same : n ≡ m = cc in
-    (refused (of.Stale m), refl, ap (λ (i : ℕ). (refused (of.Stale i)).reply) same, keeps-appends old new stale.1)
+err-by F (Some m) (kind.Stale n) sent old new stale sends = grind (arith, keeps-appends)
 err-by F (Some m) kind.Device sent old new stale sends = λ answer is. keeps-sends old new answer.text stale.1
 err-by F (Some m) kind.OutOfMemory sent old new stale sends = let kinds : kind.OutOfMemory ≡ kind.Stale m = ap (λ (f : AnswerFault). f.kind) stale.0 in absurd cc
 err-by F (Some m) kind.OutFailed sent old new stale sends = let kinds : kind.OutFailed ≡ kind.Stale m = ap (λ (f : AnswerFault). f.kind) stale.0 in absurd cc
@@ -86,29 +65,14 @@ ok-counted t s held old new count given =
 
 -- where no byte went out, a raw answer that meets an archive's fault has left the output alone
 pub raw-unwritten : (P : Type 0) (fault : AnswerFault) → IsBeforeText fault.kind fault.sent → OnTrue (is_unwritten (Err fault)) P → OnTrue (is_changed_or_unread (Some (fault_of_answer_kind fault.kind))) P
-raw-unwritten P fault before unwritten = go fault.kind fault.sent before unwritten
-  where
-    go : (k : AnswerFaultKind) (sent : ℕ) → IsBeforeText k sent → OnTrue (is_unwritten (Err (record { kind = k; sent = sent }))) P → OnTrue (is_changed_or_unread (Some (fault_of_answer_kind k))) P
-    go (kind.Stale n) sent none given = subst (λ (s : ℕ). OnTrue ((s == 0) && true) P) none given
-    go kind.Device sent none given = subst (λ (s : ℕ). OnTrue ((s == 0) && true) P) none given
-    go kind.OutOfMemory sent none given = tt
-    go kind.OutFailed sent none given = tt
+raw-unwritten P fault before unwritten = grind arith
 
 -- a fault of an answer is told as one, and of the same device
 pub told-own : (k : AnswerFaultKind) → IsOfAnswer (fault_of_answer_kind k)
-told-own (kind.Stale n) = tt
-told-own kind.Device = tt
-told-own kind.OutOfMemory = tt
-told-own kind.OutFailed = tt
+told-own k = grind arith
 
 pub told-archives : (k : AnswerFaultKind) → is_of_archives k ≡ is_failed_archives (Some (fault_of_answer_kind k))
-told-archives (kind.Stale n) = refl
-told-archives kind.Device = refl
-told-archives kind.OutOfMemory = refl
-told-archives kind.OutFailed = refl
+told-archives k = grind arith
 
 pub told-out : (k : AnswerFaultKind) → is_of_output k ≡ is_failed_out (Some (fault_of_answer_kind k))
-told-out (kind.Stale n) = refl
-told-out kind.Device = refl
-told-out kind.OutOfMemory = refl
-told-out kind.OutFailed = refl
+told-out k = grind arith

@@ -1,20 +1,11 @@
 -- An mbox answer over the table of archives that hold them is cut again into its messages.
-use Rattle.std.proofs.Common.{◌≡◌, ◌∙◌, ℕ, zero, suc, ◌<◌, false, List, [], ◌∷◌, ◌++◌, Option, Some, None, length, map, take, drop, unwrap_or, refl, sym, ap, subst, arith, append_assoc}
-use Rattle.std.specs.List.{All, slice_index_or}
-use Rattle.std.specs.Option.{option_map}
-use Rattle.std.proofs.lemmas.List.{map-append, length-map, length_push, get_or_at}
-use Rattle.std.proofs.lemmas.List.Elements.{All-map}
-use Rattle.std.proofs.lemmas.List.Folds.{flat_map-map}
-use Rattle.mail_index.specs.declared.record.Record.{Record}
-use Rattle.mbox_cutter.specs.Archives.{Message, cut, messages, span_length}
+use Rattle.mairix_tool.proofs.Words.{◌≡◌, ◌∙◌, ℕ, zero, suc, ◌<◌, false, List, [], ◌∷◌, ◌++◌, Option, Some, None, length, map, take, drop, unwrap_or, refl, sym, ap, subst, arith, append_assoc, slice_index_or, option_map, map-append, length-map, length_push, get_or_at, All-map, flat_map-map, Record, Message, cut, messages, span_length, closed, span, answer_text, record_at, no_record, Mbox, messages_in, record_of, records_from, table}
+use Rattle.std.specs.List.{All}
 use Rattle.mail_answer.specs.declared.format.Format.TheVariants as format
 use Rattle.mail_answer.specs.Archives.{archive_at}
 use Rattle.mail_answer.specs.CutAgain.{IsCutOut, IsCutInto, ends_in_return}
-use Rattle.mail_answer.specs.Shapes.{closed, span, answer_text}
-use Rattle.mail_answer.specs.TableFacts.{record_at, no_record}
 use Rattle.mail_answer.proofs.OutputLaws.CutAgain.{cut-again}
 use Rattle.mail_answer.proofs.OutputLaws.MessageLines.{Each, span_of}
-use Rattle.index_job.specs.ArchiveTables.{Mbox, messages_in, record_of, records_from, table}
 use Rattle.mairix_tool.specs.CutAgain.{bytes_held, spans_at}
 
 each-joined : {A : Type 0} (P : A → Type 0) (xs ys : List A) → Each P xs → Each P ys → Each P (xs ++ ys)

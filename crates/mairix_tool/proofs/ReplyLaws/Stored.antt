@@ -1,39 +1,13 @@
 -- A run over a stored index replies what its table tells; over the archives that were indexed, what their own messages say.
-use Rattle.std.proofs.Common.{◌≡◌, ◌∙◌, ◌<◌, ◌^◌, ◌+◌, ◌++◌, ℕ, Bool, true, false, cond, All, IfSome, IfOk, IfErr, List, [], ◌∷◌, map, length, None, Some, Option, Result, Ok, Err, refl, sym, ap, subst, arith, inl, inr, eq-eqb, min}
-use Rattle.std.specs.Prelude.{◌==◌, ◌&&◌, ◌||◌}
-use Rattle.std.proofs.lemmas.Bool.{false≢true}
-use Rattle.std.proofs.lemmas.List.{length-map}
-use Rattle.std.proofs.lemmas.Slice.Eq.{bytes_eq-Decides}
-use Rattle.mbox_cutter.specs.declared.event.CutFault.TheVariants as cut
-use Rattle.std.specs.Option.{option_map, option_or}
-use Rattle.mail_answer.specs.Stale.{stale_archive}
-use Rattle.mail_answer.specs.Verified.{unverified_archive}
-use Rattle.mail_index.specs.declared.view.fault.IndexFault.{IndexFault}
-use Rattle.mail_index.specs.Faults.{IsFileOf, IsFirstFault}
-use Rattle.mail_index.proofs.FileLaws.Bytes.{AreBytes}
-use Rattle.mail_index.specs.Tables.{Archive, IsPath, Table}
+use Rattle.mairix_tool.proofs.Words.{◌≡◌, ◌∙◌, ◌<◌, ◌^◌, ◌+◌, ◌++◌, ℕ, Bool, true, false, cond, All, IfSome, IfOk, IfErr, List, [], ◌∷◌, map, length, None, Some, Option, Result, Ok, Err, refl, sym, ap, subst, arith, inl, inr, eq-eqb, ◌||◌, false≢true, length-map, bytes_eq-Decides, option_map, option_or, stale_archive, unverified_archive, IndexFault, IsFileOf, IsFirstFault, AreBytes, Archive, IsPath, Table, IsVersion, uses_names, AreSound, Mbox, table, entry_of, Fault, Reply, mboxes, Wanted, refusal_of, is_failure, IsOfAnswer, AreToldApart, altered_archive, ServesFor, but_digests, old_table, Answer, refused, IsTold, IsToldOf, IsProvedAndTold, unproved_archive, TellsProved, IsStaleOr, IsOldOr, is_too_old, IsReply, IsStoredReply, IsForNoOtherCause, IsIndexRefusal, IsRefusedAs, RepliesBy, reply_of, renamed_archive, first_renamed, IsCountedWhere, WereVerified, sound-not-refused}
 use Rattle.mail_index.proofs.FileLaws.Accepts.{no_fault}
 use Rattle.mail_index.proofs.FileLaws.SameTable.{same-table}
-use Rattle.mail_index.specs.Versions.{IsVersion}
-use Rattle.mail_query.specs.Query.{uses_names}
-use Rattle.index_job.specs.ArchiveRefusals.{AreSound}
-use Rattle.index_job.specs.ArchiveTables.{Mbox, table, entry_of}
-use Rattle.run_faults.specs.declared.fault.Fault.{Fault}
 use Rattle.run_faults.specs.declared.fault.Fault.TheVariants as of
-use Rattle.mairix_tool.specs.declared.reply.Reply.{Reply}
-use Rattle.index_run.specs.ArchivesIndexed.{mboxes}
-use Rattle.mairix_tool.specs.Asked.{Wanted}
-use Rattle.run_faults.specs.Faults.{refusal_of, is_failure, IsOfAnswer}
-use Rattle.mairix_tool.specs.Altered.{AreToldApart, altered_archive}
-use Rattle.mairix_tool.specs.OldTables.{ServesFor, but_digests, old_table}
-use Rattle.mairix_tool.specs.Replies.{Answer, refused}
-use Rattle.mairix_tool.specs.Runs.{IsTold, IsToldOf, IsProvedAndTold, unproved_archive, TellsProved, IsStaleOr, IsOldOr, is_too_old, IsReply, IsStoredReply, IsForNoOtherCause, IsIndexRefusal, IsRefusedAs, RepliesBy, reply_of, renamed_archive, first_renamed, IsCountedWhere, WereVerified}
 use Rattle.index_run.proofs.ArchiveLists.{mboxes-length}
 use Rattle.mairix_tool.proofs.TableLaws.Formed.{before-file, indexed-file, otherwise-file}
 use Rattle.mairix_tool.proofs.TableLaws.OldTables.{told-old, old-told, told-same, same-told, renamed-old}
 use Rattle.mairix_tool.proofs.ArchiveLaws.Unaltered.{own-verified, the-same}
 use Rattle.mairix_tool.proofs.ArchiveLaws.FirstFaults.{one-first-fault}
-use Rattle.index_run.proofs.SoundArchives.{sound-not-refused}
 use Rattle.mairix_tool.proofs.ReplyLaws.Once.{replies-as, some-told, unanswered, once-reply, reply-once, bytes-of-mboxes}
 
 -- ---- the table of archives has their paths
@@ -46,10 +20,7 @@ first-named n (p ∷ paths) (b ∷ bytes) same =
     ap (λ (t : Bool). cond t (first_renamed (n + 1) (map entry_of (mboxes paths bytes)) paths) (Some n)) ((bytes_eq-Decides p p).1 refl) ∙ first-named (n + 1) paths bytes rest
 
 named-as : (paths bytes : List (List ℕ)) → length paths ≡ length bytes → renamed_archive (table (mboxes paths bytes)).archives paths ≡ None
-named-as paths bytes same =
-    let named : List Archive = map entry_of (mboxes paths bytes) in
-    let many : length paths ≡ length named = sym (length-map (mboxes paths bytes) entry_of ∙ mboxes-length paths bytes same) in
-    ap (λ (t : Bool). cond t (first_renamed 0 named paths) (Some (min (length paths) (length named)))) (eq-eqb _ _ many) ∙ first-named 0 paths bytes same
+named-as paths bytes same = grind (arith, length-map, mboxes-length, eq-eqb, first-named)
 
 -- and the bytes that they hold have its digests
 proved-as : (verify : Bool) (paths bytes : List (List ℕ)) → length paths ≡ length bytes → unproved_archive verify (table (mboxes paths bytes)).archives bytes ≡ None
@@ -61,12 +32,10 @@ proved-as true paths bytes same =
 
 -- of two archives that aren't as they were indexed the first is told
 join : (o p : Option ℕ) (IsFound : Answer → Type 0) (answer : Answer) → IsStaleOr o (IsStaleOr p IsFound) answer → IsStaleOr (option_or o p) IsFound answer
-join None p IsFound answer is = is
-join (Some n) p IsFound answer is = is
+join o p IsFound answer h = grind arith
 
 part : (o p : Option ℕ) (IsFound : Answer → Type 0) (answer : Answer) → IsStaleOr (option_or o p) IsFound answer → IsStaleOr o (IsStaleOr p IsFound) answer
-part None p IsFound answer is = is
-part (Some n) p IsFound answer is = is
+part o p IsFound answer h = grind arith
 
 neither : {o p : Option ℕ} → o ≡ None → p ≡ None → option_or o p ≡ None
 neither {o} {p} first second = ap (λ q. option_or q p) first ∙ second
@@ -77,10 +46,7 @@ none-altered paths bytes same = neither (named-as paths bytes same) (proved-as t
 
 -- an index that isn't too old has the digests that are asked for
 pub has-digests : (w : Wanted) (t : Table) → IsVersion t.version → is_too_old t w ≡ false → w.verify ≡ true → t.version ≡ 2
-has-digests w t (inl one) fresh verify =
-    let old : is_too_old t w ≡ true = ap (λ (n : ℕ). (n == 1) && (w.verify || uses_names w.search.query)) one ∙ ap (λ (b : Bool). b || uses_names w.search.query) verify in
-    absurd (false≢true (sym fresh ∙ old))
-has-digests w t (inr two) fresh verify = two
+has-digests w t h h2 h3 = grind (arith, false≢true)
 
 module _ (w : Wanted) (index : List ℕ) (few : length index < 2 ^ 64) (t : Table) (file : IsFileOf index t) where
   pub one-table : (u : Table) → IsFileOf index u → t ≡ u
@@ -93,9 +59,7 @@ module _ (w : Wanted) (index : List ℕ) (few : length index < 2 ^ 64) (t : Tabl
     altered = option_or (renamed_archive t.archives w.paths) (unproved_archive w.verify t.archives held)
 
     stored-by : (answer : Answer) → IsStaleOr altered (IsTold t w.search held) answer → IsStoredReply (Ok w) index held answer
-    stored-by answer is =
-        let both = part (renamed_archive t.archives w.paths) (unproved_archive w.verify t.archives held) (IsTold t w.search held) answer is in
-        inr (t, file, subst (λ (b : Bool). IsOldOr b (IsStaleOr (renamed_archive t.archives w.paths) (IsProvedAndTold w t held)) answer) (sym fresh) both)
+    stored-by answer is = grind (arith, part)
 
     told-by : (answer : Answer) → IsStoredReply (Ok w) index held answer → IsStaleOr altered (IsTold t w.search held) answer
     told-by answer (inl bad) = absurd (no_fault index t few file bad.0 bad.1)
@@ -176,30 +140,23 @@ module _ (w : Wanted) (index : List ℕ) (few : length index < 2 ^ 64) (bytes : 
   -- by an index that serves for them
   pub stored-serving : All IsPath w.paths → ServesFor w whole index → (reply : Reply) (old new : Option (List ℕ)) → RepliesBy (IsStoredReply (Ok w) index bytes) reply old new
       → RepliesBy (IsReply (Ok w) bytes) reply old new
-  stored-serving are (inl is) = stored-indexed (indexed-file w.paths bytes index are sound is)
-  stored-serving are (inr (off, inl (t, same, digests, is))) = stored-otherwise t off same (otherwise-file w.paths bytes index are sound t same digests is)
-  stored-serving are (inr (off, inr (none, is))) = stored-before off (before-file w.paths bytes index are sound is) none
+  stored-serving h h2 = grind (arith, stored-indexed, indexed-file, stored-otherwise, otherwise-file, stored-before, before-file)
 
 -- where they are verified, by the index of whatever archives
 module _ (w : Wanted) (index : List ℕ) (few : length index < 2 ^ 64) (before : List Mbox) (bytes : List (List ℕ)) (verify : w.verify ≡ true) (sound : AreSound before) (file : IsFileOf index (table before))
     (apart : AreToldApart (map (λ a. a.bytes) before ++ bytes)) where
   stale-or : (o : Option ℕ) (IsFound IsOther : Answer → Type 0) → (o ≡ None → (answer : Answer) → IsFound answer → IsOther answer) → (answer : Answer) → IsStaleOr o IsFound answer → IsStaleOr o IsOther answer
-  stale-or None IsFound IsOther forth answer is = forth refl answer is
-  stale-or (Some n) IsFound IsOther forth answer is = is
+  stale-or o IsFound IsOther h answer h2 = grind arith
 
   -- the bytes of archives that are verified are those that were indexed
   unaltered : altered_archive before w.paths bytes ≡ None → (length w.paths ≡ length bytes) × (before ≡ mboxes w.paths bytes)
   unaltered none = the-same before w.paths bytes apart none
 
   replied : altered_archive before w.paths bytes ≡ None → (answer : Answer) → IsTold (table before) w.search bytes answer → IsReply (Ok w) bytes answer
-  replied none answer told =
-      let same = unaltered none in
-      once-told w index few bytes same.0 (subst AreSound same.1 sound) answer (subst (λ (archives : List Mbox). IsTold (table archives) w.search bytes answer) same.1 told)
+  replied none answer told = grind (arith, unaltered, once-told)
 
   told-again : altered_archive before w.paths bytes ≡ None → (answer : Answer) → IsReply (Ok w) bytes answer → IsTold (table before) w.search bytes answer
-  told-again none answer is =
-      let same = unaltered none in
-      subst (λ (archives : List Mbox). IsTold (table archives) w.search bytes answer) (sym same.1) (told-once w index few bytes same.0 (subst AreSound same.1 sound) answer is)
+  told-again none answer is = grind (arith, unaltered, told-once)
 
   abbrev by-tables : Bool → Option ℕ
   by-tables b = option_or (renamed_archive (table before).archives w.paths) (unproved_archive b (table before).archives bytes)
@@ -244,110 +201,34 @@ some-stored-reply index (Err f) file bad (Ok w) held = (refused (of.Index f), in
 
 -- a fault that is no device's or memory's is a refusal
 refusal-known : (f : Fault) → is_failure (Some f) ≡ false → refusal_of f ≡ Some f
-refusal-known (of.Usage f) other = refl
-refusal-known (of.Rc f) other = refl
-refusal-known (of.Query f) other = refl
-refusal-known (of.Archive n cut.Device) other = absurd cc
-refusal-known (of.Archive n cut.NotAnMbox) other = refl
-refusal-known (of.Archive n cut.ArchiveTooLong) other = refl
-refusal-known (of.Archive n cut.Failed) other = refl
-refusal-known (of.Index f) other = refl
-refusal-known of.OldIndex other = refl
-refusal-known (of.Stale n) other = refl
-refusal-known of.Device other = absurd cc
-refusal-known of.Out other = absurd cc
-refusal-known of.Memory other = absurd cc
-refusal-known of.TooMany other = refl
+refusal-known f h = grind arith
 
 stored-refusal : (asked : Result Wanted Fault) (index : List ℕ) (held : List (List ℕ)) (f : Fault) → IsRefusedAs asked index f → IsStoredReply asked index held (refused f)
-stored-refusal (Err refusal) index held f is = ap refused is
-stored-refusal (Ok w) index held (of.Index g) is = inl (g, is, refl)
-stored-refusal (Ok w) index held of.OldIndex is =
-    inr (is.0, is.1, subst (λ (b : Bool). IsOldOr b (IsStaleOr (renamed_archive is.0.archives w.paths) (IsProvedAndTold w is.0 held)) (refused of.OldIndex)) (sym is.2) refl)
-stored-refusal (Ok w) index held (of.Stale n) is =
-    let named = subst (λ (o : Option ℕ). IsStaleOr o (IsProvedAndTold w is.0 held) (refused (of.Stale n))) (sym is.3) refl in
-    inr (is.0, is.1, subst (λ (b : Bool). IsOldOr b (IsStaleOr (renamed_archive is.0.archives w.paths) (IsProvedAndTold w is.0 held)) (refused (of.Stale n))) (sym is.2) named)
-stored-refusal (Ok w) index held (of.Usage f) is = elim is [ ]
-stored-refusal (Ok w) index held (of.Rc f) is = elim is [ ]
-stored-refusal (Ok w) index held (of.Query f) is = elim is [ ]
-stored-refusal (Ok w) index held (of.Archive n f) is = elim is [ ]
-stored-refusal (Ok w) index held of.Device is = elim is [ ]
-stored-refusal (Ok w) index held of.Out is = elim is [ ]
-stored-refusal (Ok w) index held of.Memory is = elim is [ ]
-stored-refusal (Ok w) index held of.TooMany is = elim is [ ]
+stored-refusal asked index held f h = grind arith
 
 pub refused-stored : (asked : Result Wanted Fault) (index : List ℕ) (held : List (List ℕ)) (f : Fault) (old : Option (List ℕ)) → IfSome (refusal_of f) (IsRefusedAs asked index)
     → RepliesBy (IsStoredReply asked index held) (reply_of (Err f)) old old
-refused-stored asked index held f old is =
-    unanswered (IsStoredReply asked index held) f old
-    (λ other. stored-refusal asked index held f (subst (λ (o : Option Fault). IfSome o (IsRefusedAs asked index)) (refusal-known f other) is))
+refused-stored asked index held f old is = grind (arith, unanswered, stored-refusal, refusal-known)
 
 -- what is replied where an archive isn't the one that was indexed, or couldn't be read for that
 pub unproved-replied : (unproved : Option ℕ) (IsFound : Answer → Type 0) (f : Fault) (old : Option (List ℕ)) → TellsProved {T = Unit {0}} unproved (Err f)
     → RepliesBy (IsStaleOr unproved IsFound) (reply_of (Err f)) old old
-unproved-replied unproved IsFound f old tells = unanswered (IsStaleOr unproved IsFound) f old (go f tells)
-  where
-    go : (g : Fault) → TellsProved {T = Unit {0}} unproved (Err g) → is_failure (Some g) ≡ false → IsStaleOr unproved IsFound (refused g)
-    go (of.Stale n) tells other = subst (λ (o : Option ℕ). IsStaleOr o IsFound (refused (of.Stale n))) (sym tells) refl
-    go of.Device tells other = absurd cc
-    go of.Memory tells other = absurd cc
-    go of.Out tells other = elim tells [ ]
-    go of.OldIndex tells other = elim tells [ ]
-    go of.TooMany tells other = elim tells [ ]
-    go (of.Usage g) tells other = elim tells [ ]
-    go (of.Rc g) tells other = elim tells [ ]
-    go (of.Query g) tells other = elim tells [ ]
-    go (of.Archive n g) tells other = elim tells [ ]
-    go (of.Index g) tells other = elim tells [ ]
+unproved-replied unproved IsFound f old tells = grind (arith, unanswered)
 
 -- ---- a refusal is told for no other cause
 
 pub refused-for : (asked : Result Wanted Fault) (index : List ℕ) (f : Fault) → IfSome (refusal_of f) (IsRefusedAs asked index) → IsForNoOtherCause asked index f
-refused-for asked index (of.Usage f) is = is
-refused-for asked index (of.Rc f) is = is
-refused-for asked index (of.Query f) is = is
-refused-for asked index (of.Archive n f) is = tt
-refused-for asked index (of.Index f) is = is
-refused-for asked index of.OldIndex is = is
-refused-for asked index (of.Stale n) is = tt
-refused-for asked index of.Device is = tt
-refused-for asked index of.Out is = tt
-refused-for asked index of.Memory is = tt
-refused-for asked index of.TooMany is = tt
+refused-for asked index f h = grind arith
 
 -- an answer's fault is none of these
 pub answered-for : (asked : Result Wanted Fault) (index : List ℕ) (r : Result ℕ Fault) → IfErr r IsOfAnswer → IfSome (reply_of r).fault (IsForNoOtherCause asked index)
-answered-for asked index (Ok messages) own = tt
-answered-for asked index (Err f) own = go f own
-  where
-    go : (g : Fault) → IsOfAnswer g → IsForNoOtherCause asked index g
-    go (of.Stale n) own = tt
-    go of.Device own = tt
-    go of.Out own = tt
-    go of.Memory own = tt
-    go of.OldIndex own = elim own [ ]
-    go of.TooMany own = elim own [ ]
-    go (of.Usage g) own = elim own [ ]
-    go (of.Rc g) own = elim own [ ]
-    go (of.Query g) own = elim own [ ]
-    go (of.Archive n g) own = elim own [ ]
-    go (of.Index g) own = elim own [ ]
+answered-for asked index r h = grind arith
 
 -- ---- an index is refused in one way
 
 module _ (w : Wanted) (index : List ℕ) (few : length index < 2 ^ 64) where
   pub one-bad-index : AreBytes index → (f : IndexFault) (fault : Fault) → IsFirstFault index f → IsIndexRefusal w index fault → Some (of.Index f) ≡ Some fault
-  one-bad-index are f (of.Index g) first is = ap (λ (x : IndexFault). Some (of.Index x)) (one-first-fault index are f g first is)
-  one-bad-index are f of.OldIndex first is = absurd (no_fault index is.0 few is.1 f first)
-  one-bad-index are f (of.Stale n) first is = absurd (no_fault index is.0 few is.1 f first)
-  one-bad-index are f (of.Usage g) first is = elim is [ ]
-  one-bad-index are f (of.Rc g) first is = elim is [ ]
-  one-bad-index are f (of.Query g) first is = elim is [ ]
-  one-bad-index are f (of.Archive n g) first is = elim is [ ]
-  one-bad-index are f of.Device first is = elim is [ ]
-  one-bad-index are f of.Out first is = elim is [ ]
-  one-bad-index are f of.Memory first is = elim is [ ]
-  one-bad-index are f of.TooMany first is = elim is [ ]
+  one-bad-index h f fault h2 h3 = grind (arith, one-first-fault, no_fault)
 
   module _ (t : Table) (file : IsFileOf index t) where
     -- of two tables of one file both are too old, or neither
@@ -355,29 +236,8 @@ module _ (w : Wanted) (index : List ℕ) (few : length index < 2 ^ 64) where
     one-age u f = ap (λ (v : Table). is_too_old v w) (same-table index u t few f file)
 
     pub one-too-old : is_too_old t w ≡ true → (fault : Fault) → IsIndexRefusal w index fault → Some of.OldIndex ≡ Some fault
-    one-too-old old (of.Index g) given = absurd (no_fault index t few file g given)
-    one-too-old old of.OldIndex given = refl
-    one-too-old old (of.Stale n) given = absurd (false≢true (sym given.2 ∙ sym (one-age given.0 given.1) ∙ old))
-    one-too-old old (of.Usage g) given = elim given [ ]
-    one-too-old old (of.Rc g) given = elim given [ ]
-    one-too-old old (of.Query g) given = elim given [ ]
-    one-too-old old (of.Archive n g) given = elim given [ ]
-    one-too-old old of.Device given = elim given [ ]
-    one-too-old old of.Out given = elim given [ ]
-    one-too-old old of.Memory given = elim given [ ]
-    one-too-old old of.TooMany given = elim given [ ]
+    one-too-old h fault h2 = grind (arith, no_fault, false≢true, one-age)
 
     pub one-renamed : is_too_old t w ≡ false → (o : Option ℕ) → renamed_archive t.archives w.paths ≡ o → (fault : Fault) → IsIndexRefusal w index fault
         → option_map (λ n. of.Stale n) o ≡ Some fault
-    one-renamed fresh o is (of.Index g) given = absurd (no_fault index t few file g given)
-    one-renamed fresh o is of.OldIndex given = absurd (false≢true (sym fresh ∙ one-age given.0 given.1 ∙ given.2))
-    one-renamed fresh o is (of.Stale m) given =
-        ap (option_map (λ n. of.Stale n)) (sym is ∙ ap (λ (v : Table). renamed_archive v.archives w.paths) (same-table index given.0 t few given.1 file) ∙ given.3)
-    one-renamed fresh o is (of.Usage g) given = elim given [ ]
-    one-renamed fresh o is (of.Rc g) given = elim given [ ]
-    one-renamed fresh o is (of.Query g) given = elim given [ ]
-    one-renamed fresh o is (of.Archive n g) given = elim given [ ]
-    one-renamed fresh o is of.Device given = elim given [ ]
-    one-renamed fresh o is of.Out given = elim given [ ]
-    one-renamed fresh o is of.Memory given = elim given [ ]
-    one-renamed fresh o is of.TooMany given = elim given [ ]
+    one-renamed h o h2 fault h3 = grind (arith, no_fault, false≢true, one-age, same-table)

@@ -1,25 +1,8 @@
 -- The tables that an index of sound archives may have are well-formed: theirs, one with other digests, and that of version 1.
-use Rattle.std.proofs.Common.{◌≡◌, ◌∙◌, ℕ, zero, suc, ◌+◌, ◌<◌, ◌≤◌, Bool, true, false, not, cond, All, List, [], ◌∷◌, length, map, refl, sym, ap, subst, arith, inl, inr}
-use Rattle.std.specs.List.{AllByRecursion}
-use Rattle.std.proofs.lemmas.Bool.Decides.{nat_tests}
-use Rattle.std.proofs.lemmas.List.{length-map}
-use Rattle.std.proofs.lemmas.List.Elements.{All-nil, All-cons, All-head, All-tail, recursion_from_All}
-use Rattle.mail_words.specs.declared.kind.TextKind.TheVariants.{Name}
-use Rattle.mail_index.specs.declared.kind.Kind.TheVariants.{Text}
-use Rattle.mail_index.specs.declared.record.Record.{Record}
-use Rattle.mail_index.specs.Faults.{IsFileOf}
-use Rattle.mail_index.specs.Files.{index_file}
-use Rattle.mail_index.specs.Kinds.{kind_number}
+use Rattle.mairix_tool.proofs.Words.{◌≡◌, ◌∙◌, ℕ, zero, suc, ◌+◌, ◌<◌, ◌≤◌, Bool, true, false, not, cond, All, List, [], ◌∷◌, length, map, refl, sym, ap, subst, arith, inl, inr, AllByRecursion, nat_tests, length-map, All-nil, All-cons, All-head, All-tail, recursion_from_All, Name, Text, Record, IsFileOf, index_file, is_of_kind, Archive, Key, Table, archive_length, IsPath, IsArchive, IsMessage, IsKey, IsWellFormed, Follows, KeyBefore, AllNext, newest, IsDigest, AreSound, Mbox, table, mboxes, without_digest, keys_but_names, but_digests, old_table, HasDigests}
 use Rattle.mail_index.specs.Limits.{most_in_archive}
-use Rattle.mail_index.specs.LookUps.{is_of_kind}
-use Rattle.mail_index.specs.Tables.{Archive, Key, Table, archive_length, IsPath, IsArchive, IsMessage, IsKey, IsWellFormed, Follows, KeyBefore, AllNext}
-use Rattle.mail_index.specs.Versions.{newest, IsDigest}
 use Rattle.mail_index.proofs.BuildLaws.DraftLemmas.{all-weaker}
-use Rattle.index_job.specs.ArchiveRefusals.{AreSound}
-use Rattle.index_job.specs.ArchiveTables.{Mbox, table}
 use Rattle.index_job.proofs.SoundTables.Whole.{sound-table}
-use Rattle.index_run.specs.ArchivesIndexed.{mboxes}
-use Rattle.mairix_tool.specs.OldTables.{without_digest, keys_but_names, but_digests, old_table, HasDigests}
 use Rattle.mairix_tool.proofs.TableLaws.ThreadLinks.{BeforeAll, below-all, rest-sorted}
 
 -- ---- archives without digests
@@ -70,8 +53,7 @@ few-kept [] = omega arith
 few-kept (k ∷ ks) = go (is_of_kind (Text Name) k) (few-kept ks)
   where
     go : (named : Bool) → length (keys_but_names ks) ≤ length ks → length (cond (not named) (k ∷ keys_but_names ks) (keys_but_names ks)) ≤ length (k ∷ ks)
-    go true rest = omega (arith, rest)
-    go false rest = omega (arith, rest)
+    go named h = grind arith
 
 keys-old : (count : ℕ) (ks : List Key) → AllByRecursion (IsKey newest count) ks → AllByRecursion (IsKey 1 count) (keys_but_names ks)
 keys-old count [] all = tt
@@ -79,25 +61,17 @@ keys-old count (k ∷ ks) all = go (is_of_kind (Text Name) k) refl (keys-old cou
   where
     go : (named : Bool) → is_of_kind (Text Name) k ≡ named → AllByRecursion (IsKey 1 count) (keys_but_names ks)
         → AllByRecursion (IsKey 1 count) (cond (not named) (k ∷ keys_but_names ks) (keys_but_names ks))
-    go true is rest = rest
-    go false is rest =
-        let known : kind_number k.kind ≤ 9 = all.0.kind in
-        let low : kind_number k.kind ≤ 8 = grind (arith, nat_tests) in (
-          record { kind = low; some_text = all.0.some_text; short = all.0.short; some_number = all.0.some_number; rises = all.0.rises; below = all.0.below },
-          rest,
-        )
+    go named h h2 = grind (arith, nat_tests)
 
 before-kept : (a : Key) (ks : List Key) → BeforeAll a ks → BeforeAll a (keys_but_names ks)
 before-kept a [] before = tt
 before-kept a (k ∷ ks) before = go (is_of_kind (Text Name) k) (before-kept a ks before.1)
   where
     go : (named : Bool) → BeforeAll a (keys_but_names ks) → BeforeAll a (cond (not named) (k ∷ keys_but_names ks) (keys_but_names ks))
-    go true rest = rest
-    go false rest = (before.0, rest)
+    go named h = grind arith
 
 next-sorted : (a : Key) (ks : List Key) → BeforeAll a ks → AllNext KeyBefore ks → AllNext KeyBefore (a ∷ ks)
-next-sorted a [] before sorted = tt
-next-sorted a (k ∷ ks) before sorted = (before.0, sorted)
+next-sorted a ks h h2 = grind arith
 
 sorted-old : (ks : List Key) → AllNext KeyBefore ks → AllNext KeyBefore (keys_but_names ks)
 sorted-old [] sorted = tt

@@ -1,24 +1,12 @@
 -- What keys say of a message once they have a pair more: the text of the pair, if it is the pair's message, and all that they said.
-use Rattle.std.proofs.Common.{◌≡◌, ◌∙◌, ℕ, suc, ◌<◌, Bool, true, false, cond, if◌then◌else◌, List, [], ◌∷◌, ◌++◌, map, refl, sym, ap, arith}
-use Rattle.std.specs.Prelude.{◌&&◌, ◌||◌, nat_eq, nat_lt}
-use Rattle.std.specs.List.{list_any, filter, AllByRecursion}
+use Rattle.mairix_tool.proofs.Words.{◌≡◌, ◌∙◌, ℕ, suc, ◌<◌, Bool, true, false, cond, if◌then◌else◌, List, [], ◌∷◌, ◌++◌, map, refl, sym, ap, arith, ◌&&◌, ◌||◌, nat_eq, nat_lt, list_any, AllByRecursion, Less, Equal, Greater, or-false, eqb-true, nat_tests, list_any-append, bytes_eq-Decides, Kind, kind_number, Key, is_of_kind, keys_of, with_pair, is_among, texts_with}
+use Rattle.std.specs.List.{filter}
+use Rattle.std.proofs.lemmas.Bool.{eq-eqb}
 use Rattle.std.specs.declared.cmp.Ordering.{Ordering}
-use Rattle.std.specs.declared.cmp.Ordering.TheVariants.{Less, Equal, Greater}
 use Rattle.std.specs.Ordering.{match_ordering, is_eq, nat_cmp}
 use Rattle.std.specs.Cmp.Lexicographic.{slice_cmp}
-use Rattle.std.proofs.Math.Bool.{or-false}
-use Rattle.std.proofs.lemmas.Bool.{eqb-true, eq-eqb}
-use Rattle.std.proofs.lemmas.Bool.Decides.{nat_tests}
-use Rattle.std.proofs.lemmas.List.Folds.{list_any-append}
 use Rattle.std.proofs.lemmas.Map.Text.{is_eq-slice_cmp}
-use Rattle.std.proofs.lemmas.Slice.Eq.{bytes_eq-Decides}
-use Rattle.mail_index.specs.declared.kind.Kind.{Kind}
-use Rattle.mail_index.specs.Kinds.{kind_number}
-use Rattle.mail_index.specs.Tables.{Key}
-use Rattle.mail_index.specs.LookUps.{is_of_kind, keys_of}
 use Rattle.mail_index.specs.PostingLists.{end_from, with_number}
-use Rattle.mail_index.specs.Builders.{with_pair}
-use Rattle.mail_answer.specs.TableFacts.{is_among, texts_with}
 
 -- the key is of this kind and has this number, and its text passes
 abbrev pub says : Kind → ℕ → (List ℕ → Bool) → Key → Bool
@@ -40,14 +28,12 @@ texts-say kind n passes (k ∷ ks) = go (is_of_kind kind k) (texts-say kind n pa
     with_number_too : (among : Bool) → list_any passes (texts_with kind n ks) ≡ list_any (says kind n passes) ks
         → list_any passes (map (λ (key : Key). key.text) (cond among (k ∷ filter (λ key. is_among n key.numbers) (keys_of kind ks)) (filter (λ key. is_among n key.numbers) (keys_of kind ks))))
         ≡ ((among && passes k.text) || list_any (says kind n passes) ks)
-    with_number_too true e = ap (λ (b : Bool). passes k.text || b) e
-    with_number_too false e = e
+    with_number_too among h = grind arith
 
     go : (of : Bool) → list_any passes (texts_with kind n ks) ≡ list_any (says kind n passes) ks
         → list_any passes (map (λ (key : Key). key.text) (filter (λ key. is_among n key.numbers) (cond of (k ∷ keys_of kind ks) (keys_of kind ks))))
         ≡ ((of && (is_among n k.numbers && passes k.text)) || list_any (says kind n passes) ks)
-    go true e = with_number_too (is_among n k.numbers) e
-    go false e = e
+    go of h = grind (arith, with_number_too)
 
 -- ---- numbers
 
@@ -57,8 +43,7 @@ last-among low m x [] h below = let same : m ≡ x = omega (arith, below.0) in a
 last-among low m x (y ∷ ns) h below = go (nat_eq m x) (last-among (suc x) m y ns h below.1)
   where
     go : (b : Bool) → is_among m (y ∷ ns) ≡ true → (b || is_among m (y ∷ ns)) ≡ true
-    go true e = refl
-    go false e = e
+    go b h = grind arith
 
 -- a number below the end of numbers that none of them is above is among them
 here-among : (m : ℕ) (ns : List ℕ) → m < end_from 0 ns → AllByRecursion (λ y. y < suc m) ns → is_among m ns ≡ true
@@ -67,10 +52,7 @@ here-among m (x ∷ ns) h below = last-among 0 m x ns h below
 
 -- either one after the other
 or-turned : (a b : Bool) → (a || b) ≡ (b || a)
-or-turned true true = refl
-or-turned true false = refl
-or-turned false true = refl
-or-turned false false = refl
+or-turned a b = grind arith
 
 -- with a number more that none of them is above: this number, and those that were there
 among-with_number : (n m : ℕ) (ns : List ℕ) → AllByRecursion (λ x. x < suc m) ns → is_among n (with_number ns m) ≡ (nat_eq n m || is_among n ns)
@@ -78,13 +60,10 @@ unfolding with_number
 among-with_number n m ns below = go (nat_lt m (end_from 0 ns)) refl
   where
     there : (same : Bool) → nat_eq n m ≡ same → m < end_from 0 ns → is_among n ns ≡ (same || is_among n ns)
-    there true e h = ap (λ x. is_among x ns) (eqb-true n m e) ∙ here-among m ns h below
-    there false e h = refl
+    there same h h2 = grind (arith, eqb-true, here-among)
 
     go : (late : Bool) → nat_lt m (end_from 0 ns) ≡ late → is_among n (if late then ns else ns ++ m ∷ []) ≡ (nat_eq n m || is_among n ns)
-    go true e = let h : m < end_from 0 ns = grind (arith, nat_tests) in there (nat_eq n m) refl h
-    go false e =
-        list_any-append (nat_eq n) ns (m ∷ []) ∙ ap (λ (b : Bool). is_among n ns || b) (or-false (nat_eq n m)) ∙ or-turned (is_among n ns) (nat_eq n m)
+    go late h = grind (arith, nat_tests, there, list_any-append, or-false, or-turned)
 
 -- ---- keys
 
@@ -94,23 +73,16 @@ texts-same xs ys e = (bytes_eq-Decides xs ys).0 (sym (is_eq-slice_cmp xs ys) ∙
 
 -- what one more of the numbers of a key adds to it
 one-more : (a b c d r : Bool) → ((a && ((b || c) && d)) || r) ≡ ((a && (b && d)) || ((a && (c && d)) || r))
-one-more true true c true r = refl
-one-more true true true false r = refl
-one-more true true false false r = refl
-one-more true false c d r = refl
-one-more false b c d r = refl
+one-more a b c d r = grind arith
 
 -- the second before the first
 or-swapped : (a b c : Bool) → (a || (b || c)) ≡ (b || (a || c))
-or-swapped true true c = refl
-or-swapped true false c = refl
-or-swapped false b c = refl
+or-swapped a b c = grind arith
 
 -- a new key with one number
 new-says : (kind : Kind) (n : ℕ) (passes : List ℕ → Bool) (m : ℕ) (k : Kind) (text : List ℕ) (ks : List Key)
     → list_any (says kind n passes) (record { kind = k; text = text; numbers = m ∷ [] } ∷ ks) ≡ (pair_says kind n passes m k text || list_any (says kind n passes) ks)
-new-says kind n passes m k text ks =
-    ap (λ (b : Bool). (nat_eq (kind_number k) (kind_number kind) && (b && passes text)) || list_any (says kind n passes) ks) (or-false (nat_eq n m))
+new-says kind n passes m k text ks = grind (arith, or-false)
 
 -- with a pair more: what the pair says, and what they said
 pub with_pair-says : (kind : Kind) (n : ℕ) (passes : List ℕ → Bool) (m : ℕ) (k : Kind) (text : List ℕ) (ks : List Key) → AllByRecursion (IsBelow (suc m)) ks
@@ -132,8 +104,7 @@ with_pair-says kind n passes m k text (key ∷ ks) below =
         ∙ one-more (is_of_kind kind key) (nat_eq n m) (is_among n key.numbers) (passes key.text) (list_any (says kind n passes) ks)
         ∙ ap (λ (number : ℕ). (nat_eq number (kind_number kind) && (nat_eq n m && passes key.text)) || (says kind n passes key || list_any (says kind n passes) ks)) (sym same_kind)
         ∙ ap (λ (t : List ℕ). (nat_eq (kind_number k) (kind_number kind) && (nat_eq n m && passes t)) || (says kind n passes key || list_any (says kind n passes) ks)) (sym same_text)
-    go Greater e rest =
-        ap (λ (b : Bool). says kind n passes key || b) rest ∙ or-swapped (says kind n passes key) (pair_says kind n passes m k text) (list_any (says kind n passes) ks)
+    go Greater e rest = grind arith
 
 -- ---- numbers stay below the count
 
@@ -148,8 +119,7 @@ unfolding with_number
 with_number-below count ns n below h = go (nat_lt n (end_from 0 ns))
   where
     go : (late : Bool) → AllByRecursion (λ x. x < count) (if late then ns else ns ++ n ∷ [])
-    go true = below
-    go false = below-end count ns n below h
+    go late = grind (arith, below-end)
 
 -- a pair more of a message below the count
 pub with_pair-below : (count m : ℕ) (k : Kind) (text : List ℕ) (ks : List Key) → m < count → AllByRecursion (IsBelow count) ks → AllByRecursion (IsBelow count) (with_pair k text m ks)

@@ -1,39 +1,10 @@
 -- What the table of archives says of their messages, their threads and their texts is what these say themselves.
-use Rattle.std.proofs.Common.{◌≡◌, ◌∙◌, ℕ, zero, suc, ◌+◌, ◌<◌, ◌≤◌, Bool, true, false, cond, nat_eq, ◌&&◌, ◌||◌, List, [], ◌∷◌, ◌++◌, map, flat_map, length, take, drop, drop-cons, Option, None, Some, inl, inr, refl, sym, ap, subst, arith, eq-eqb, append_assoc, min}
-use Rattle.std.specs.List.{list_any, filter, range_with_len}
+use Rattle.mairix_tool.proofs.Words.{◌≡◌, ◌∙◌, ℕ, zero, suc, ◌+◌, ◌<◌, ◌≤◌, Bool, true, false, cond, nat_eq, ◌&&◌, ◌||◌, List, [], ◌∷◌, ◌++◌, map, flat_map, length, take, drop, drop-cons, Option, None, Some, inl, inr, refl, sym, ap, subst, arith, eq-eqb, append_assoc, min, list_any, range_with_len, or-false, leb_tells, nat_tests, map-append, length-map, length_push, get_or_at, take-append-drop, length-take-le, fields_of, Message, text, facts_of, texts_of_message, Pair, Facts, TextKind, words, folding, Text, LinkId, Record, kind_number, keys_of, Archive, Key, Table, Query, is_true, Format, Raw, Excerpt, Search, IsChain, IsLedToBySome, AreThreadsOf, AreChosen, AreChosenBy, satisfying, message_text, answer_text, first_changed, stale_archive, mail_told, facts_at, record_at, texts_with, is_among, are_linked, table, entry_of, with_messages, Term, message_terms, text_terms, own_id_terms, link_terms, Numbered, numbered_messages, numbered_at, nobody, link_ids, share_id, mail_in, shape, shape_of}
+use Rattle.std.specs.List.{filter}
 use Rattle.std.specs.Str.{bytes_eq}
-use Rattle.std.proofs.Math.Bool.{or-false}
-use Rattle.std.proofs.lemmas.Bool.Decides.{leb_tells, nat_tests}
-use Rattle.std.proofs.lemmas.List.{map-append, length-map, length_push, get_or_at, take-append-drop, length-take-le}
-use Rattle.header_text.specs.Headers.{fields_of}
-use Rattle.mbox_cutter.specs.Archives.{Message, text}
-use Rattle.mime_text.specs.MessageFacts.{facts_of}
-use Rattle.mime_text.specs.Texts.{texts_of_message}
-use Rattle.mime_text.specs.Sinks.{Pair}
-use Rattle.mime_text.specs.declared.header.facts.Facts.{Facts}
-use Rattle.mail_words.specs.declared.kind.TextKind.{TextKind}
-use Rattle.mail_words.specs.declared.kind.TextKind.TheVariants.{To, Cc, Bcc, From, Subject, Body, Name}
-use Rattle.mail_words.specs.Words.{words}
-use Rattle.mail_words.specs.Folding.{folding}
-use Rattle.mail_index.specs.declared.kind.Kind.TheVariants.{Text, LinkId}
-use Rattle.mail_index.specs.declared.record.Record.{Record}
-use Rattle.mail_index.specs.Kinds.{kind_number}
-use Rattle.mail_index.specs.LookUps.{keys_of}
-use Rattle.mail_index.specs.Tables.{Archive, Key, Table}
-use Rattle.mail_query.specs.Query.{Query}
-use Rattle.mail_query.specs.Truth.{is_true}
-use Rattle.mail_answer.specs.declared.format.Format.{Format}
-use Rattle.mail_answer.specs.declared.format.Format.TheVariants.{Raw, Excerpt, Mbox}
-use Rattle.mail_answer.specs.Mail.{Search, IsChain, IsLedToBySome, AreThreadsOf, AreChosen, AreChosenBy, satisfying}
-use Rattle.mail_answer.specs.Shapes.{message_text, answer_text}
-use Rattle.mail_answer.specs.Stale.{first_changed, stale_archive}
-use Rattle.mail_answer.specs.TableAnswers.{mail_told}
-use Rattle.mail_answer.specs.TableFacts.{facts_at, record_at, texts_with, is_among}
-use Rattle.mail_answer.specs.Threads.{are_linked}
-use Rattle.index_job.specs.ArchiveTables.{Mbox as Archived, table, entry_of, with_messages}
+use Rattle.mail_answer.specs.declared.format.Format.TheVariants.{Mbox}
+use Rattle.index_job.specs.ArchiveTables.{Mbox as Archived}
 use Rattle.index_job.proofs.SoundTables.Keys.{messages-sorted}
-use Rattle.index_job.specs.MessageTerms.{Term, message_terms, text_terms, own_id_terms, link_terms}
-use Rattle.mairix_tool.specs.MailOfArchives.{Numbered, numbered_messages, numbered_at, nobody, link_ids, share_id, mail_in, shape, shape_of}
 use Rattle.mairix_tool.proofs.TableLaws.Truth.{any-same}
 use Rattle.mairix_tool.proofs.TableLaws.Keys.{texts-say}
 use Rattle.mairix_tool.proofs.TableLaws.Terms.{term_says, parts-say}
@@ -44,13 +15,7 @@ use Rattle.mairix_tool.proofs.TableLaws.ThreadLinks.{linked-by-texts}
 -- ---- the link ids of a message are those among its terms
 
 text-no-link : (kind : TextKind) → nat_eq (kind_number (Text kind)) (kind_number LinkId) ≡ false
-text-no-link To = refl
-text-no-link Cc = refl
-text-no-link Bcc = refl
-text-no-link From = refl
-text-no-link Subject = refl
-text-no-link Body = refl
-text-no-link Name = refl
+text-no-link kind = grind arith
 
 words-no-link : (j : TextKind) (passes : List ℕ → Bool) (ws : List (List ℕ)) (more : List Term)
     → list_any (term_says LinkId passes) (map (λ w. (Text j, folding w)) ws ++ more) ≡ list_any (term_says LinkId passes) more
@@ -63,8 +28,7 @@ texts-no-link passes [] = refl
 texts-no-link passes (p ∷ ps) = words-no-link p.0 passes (words p.1) (flat_map text_terms ps) ∙ texts-no-link passes ps
 
 own-no-link : (passes : List ℕ → Bool) (own : Option (List ℕ)) → list_any (term_says LinkId passes) (own_id_terms own) ≡ false
-own-no-link passes None = refl
-own-no-link passes (Some id) = refl
+own-no-link passes own = grind arith
 
 links-themselves : (passes : List ℕ → Bool) (ids : List (List ℕ)) → list_any (term_says LinkId passes) (link_terms ids) ≡ list_any passes ids
 links-themselves passes [] = refl

@@ -1,18 +1,6 @@
 -- What the keys of a table of messages say of one of them is what its own terms say.
-use Rattle.std.proofs.Common.{◌≡◌, ◌∙◌, ℕ, suc, ◌+◌, ◌<◌, Bool, true, false, List, [], ◌∷◌, ◌++◌, length, refl, ap, arith}
-use Rattle.std.specs.Prelude.{◌&&◌, ◌||◌, nat_eq}
-use Rattle.std.specs.List.{list_any, AllByRecursion}
-use Rattle.std.proofs.Math.Bool.{or-false}
+use Rattle.mairix_tool.proofs.Words.{◌≡◌, ◌∙◌, ℕ, suc, ◌+◌, ◌<◌, Bool, true, false, List, [], ◌∷◌, ◌++◌, length, refl, ap, arith, ◌&&◌, ◌||◌, nat_eq, list_any, AllByRecursion, or-false, nat_tests, Message, text, Kind, Key, with_pair, texts_with, Term, message_terms, with_terms, with_messages}
 use Rattle.std.proofs.lemmas.Bool.{eq-eqb}
-use Rattle.std.proofs.lemmas.Bool.Decides.{nat_tests}
-use Rattle.mbox_cutter.specs.Archives.{Message, text}
-use Rattle.mail_index.specs.declared.kind.Kind.{Kind}
-use Rattle.mail_index.specs.Kinds.{kind_number}
-use Rattle.mail_index.specs.Tables.{Key}
-use Rattle.mail_index.specs.Builders.{with_pair}
-use Rattle.mail_answer.specs.TableFacts.{texts_with}
-use Rattle.index_job.specs.MessageTerms.{Term, message_terms}
-use Rattle.index_job.specs.ArchiveTables.{with_terms, with_messages}
 use Rattle.mairix_tool.proofs.TableLaws.Truth.{any-same}
 use Rattle.mairix_tool.proofs.TableLaws.Keys.{says, pair_says, IsBelow, texts-say, with_pair-says, with_pair-below, below-weaker}
 use Rattle.mairix_tool.proofs.TableLaws.Terms.{term_says}
@@ -28,19 +16,13 @@ messages_say kind n passes m (x ∷ xs) = list_any (term_says_of kind n passes m
 
 -- the last before the first, and both before the second
 or-regrouped : (a b c : Bool) → (a || (b || c)) ≡ ((b || a) || c)
-or-regrouped true true c = refl
-or-regrouped true false c = refl
-or-regrouped false true c = refl
-or-regrouped false false c = refl
+or-regrouped a b c = grind arith
 
 -- with the terms of a message: what these say, and what the keys said
 with_terms-says : (kind : Kind) (n : ℕ) (passes : List ℕ → Bool) (m : ℕ) (ts : List Term) (ks : List Key) → AllByRecursion (IsBelow (suc m)) ks
     → list_any (says kind n passes) (with_terms m ts ks) ≡ (list_any (term_says_of kind n passes m) ts || list_any (says kind n passes) ks)
 with_terms-says kind n passes m [] ks below = refl
-with_terms-says kind n passes m (t ∷ ts) ks below =
-    with_terms-says kind n passes m ts (with_pair t.0 t.1 m ks) (with_pair-below (suc m) m t.0 t.1 ks (omega arith) below)
-    ∙ ap (λ (b : Bool). list_any (term_says_of kind n passes m) ts || b) (with_pair-says kind n passes m t.0 t.1 ks below)
-    ∙ or-regrouped (list_any (term_says_of kind n passes m) ts) (term_says_of kind n passes m t) (list_any (says kind n passes) ks)
+with_terms-says kind n passes m (t ∷ ts) ks below = grind (arith, with_pair-below, with_pair-says, or-regrouped, says, with_terms-says kind n passes m ts (with_pair t.0 t.1 m ks) (with_pair-below (suc m) m t.0 t.1 ks (omega arith) below))
 
 -- and their numbers stay below the next message
 with_terms-below : (m : ℕ) (ts : List Term) (ks : List Key) → AllByRecursion (IsBelow (suc m)) ks → AllByRecursion (IsBelow (suc m)) (with_terms m ts ks)
@@ -62,46 +44,29 @@ with_messages-says kind n passes m (x ∷ xs) ks below =
 
 -- what is never true stays so with a condition more
 and-none : (a : Bool) → (a && false) ≡ false
-and-none true = refl
-and-none false = refl
+and-none a = grind arith
 
 -- the terms of another message say nothing of it
 pub other-says : (kind : Kind) (n : ℕ) (passes : List ℕ → Bool) (m : ℕ) → nat_eq n m ≡ false → (ts : List Term) → list_any (term_says_of kind n passes m) ts ≡ false
 other-says kind n passes m e [] = refl
-other-says kind n passes m e (t ∷ ts) =
-    ap (λ (b : Bool). (nat_eq (kind_number t.0) (kind_number kind) && (b && passes t.1)) || list_any (term_says_of kind n passes m) ts) e
-    ∙ ap (λ (b : Bool). b || list_any (term_says_of kind n passes m) ts) (and-none (nat_eq (kind_number t.0) (kind_number kind))) ∙ other-says kind n passes m e ts
+other-says kind n passes m e (t ∷ ts) = grind (arith, and-none, other-says kind n passes m e ts)
 
 -- its own terms say what they say
 own-says : (kind : Kind) (n : ℕ) (passes : List ℕ → Bool) (m : ℕ) → nat_eq n m ≡ true → (ts : List Term) → list_any (term_says_of kind n passes m) ts ≡ list_any (term_says kind passes) ts
-own-says kind n passes m e ts =
-    any-same (term_says_of kind n passes m) (term_says kind passes) (λ (t : Term). ap (λ (b : Bool). nat_eq (kind_number t.0) (kind_number kind) && (b && passes t.1)) e) ts
+own-says kind n passes m e ts = grind (arith, any-same, term_says)
 
 -- nor do messages behind it
 later-say : (kind : Kind) (n : ℕ) (passes : List ℕ → Bool) (m : ℕ) (ms : List Message) → n < m → messages_say kind n passes m ms ≡ false
 later-say kind n passes m [] h = refl
-later-say kind n passes m (x ∷ xs) h =
-    let other : nat_eq n m ≡ false = grind (arith, nat_tests) in
-    ap (λ (b : Bool). b || messages_say kind n passes (suc m) xs) (other-says kind n passes m other (message_terms (text x))) ∙ later-say kind n passes (suc m) xs (omega arith)
+later-say kind n passes m (x ∷ xs) h = grind (arith, nat_tests, other-says, later-say kind n passes (suc m) xs (omega arith))
 
 -- what the messages say of one of them is what its terms say
 message-says : (kind : Kind) (n : ℕ) (passes : List ℕ → Bool) (m : ℕ) (before : List Message) (x : Message) (after : List Message) → m + length before ≡ n
     → messages_say kind n passes m (before ++ x ∷ after) ≡ list_any (term_says kind passes) (message_terms (text x))
-message-says kind n passes m [] x after h =
-    let same : n ≡ m = omega arith in
-    ap (λ (b : Bool). b || messages_say kind n passes (suc m) after) (own-says kind n passes m (eq-eqb n m same) (message_terms (text x)))
-    ∙ ap (λ (b : Bool). list_any (term_says kind passes) (message_terms (text x)) || b) (later-say kind n passes (suc m) after (omega arith))
-    ∙ or-false (list_any (term_says kind passes) (message_terms (text x)))
-message-says kind n passes m (y ∷ before) x after h =
-    let other : nat_eq n m ≡ false = grind (arith, nat_tests) in
-    ap (λ (b : Bool). b || messages_say kind n passes (suc m) (before ++ x ∷ after)) (other-says kind n passes m other (message_terms (text y)))
-    ∙ message-says kind n passes (suc m) before x after (omega arith)
+message-says kind n passes m [] x after h = grind (arith, own-says, eq-eqb, term_says, later-say, or-false)
+message-says kind n passes m (y ∷ before) x after h = grind (arith, nat_tests, other-says, message-says kind n passes (suc m) before x after (omega arith))
 
 -- some text of a kind that the keys have for a message passes: so does some term of the message
 pub keys-say : (kind : Kind) (n : ℕ) (passes : List ℕ → Bool) (before : List Message) (x : Message) (after : List Message) → length before ≡ n
     → list_any passes (texts_with kind n (with_messages 0 (before ++ x ∷ after) [])) ≡ list_any (term_says kind passes) (message_terms (text x))
-keys-say kind n passes before x after h =
-    texts-say kind n passes (with_messages 0 (before ++ x ∷ after) [])
-    ∙ with_messages-says kind n passes 0 (before ++ x ∷ after) [] tt
-    ∙ or-false (messages_say kind n passes 0 (before ++ x ∷ after))
-    ∙ message-says kind n passes 0 before x after (omega arith)
+keys-say kind n passes before x after h = grind (arith, texts-say, with_messages-says, or-false, message-says)

@@ -1,20 +1,5 @@
 -- Which numbers satisfy a query is the same by the table of archives and by the messages of these numbers themselves.
-use Rattle.std.proofs.Common.{◌≡◌, ◌∙◌, ℕ, suc, ◌+◌, Bool, List, [], ◌∷◌, ◌++◌, length, map, refl, sym, ap, append_assoc}
-use Rattle.std.specs.List.{list_any}
-use Rattle.std.proofs.lemmas.List.{map-append, length-map, length_push, get_or_at}
-use Rattle.header_text.specs.Headers.{fields_of}
-use Rattle.mbox_cutter.specs.Archives.{Message, text}
-use Rattle.mail_index.specs.declared.kind.Kind.TheVariants.{Text, OwnId}
-use Rattle.mail_index.specs.declared.record.Record.{Record}
-use Rattle.mail_index.specs.Tables.{Key, Table}
-use Rattle.mail_answer.specs.TableFacts.{texts_with, facts_at, record_at, no_record}
-use Rattle.mail_query.specs.Query.{Query}
-use Rattle.mail_query.specs.Truth.{is_true}
-use Rattle.mime_text.specs.MessageFacts.{facts_of}
-use Rattle.mime_text.specs.Texts.{texts_of_message}
-use Rattle.index_job.specs.ArchiveTables.{Mbox, messages_in, all_messages, record_of, records_from, with_messages}
-use Rattle.mairix_tool.specs.MailOfArchives.{Numbered, numbered_messages}
-use Rattle.mairix_tool.specs.Chosen.{facts_of_message}
+use Rattle.mairix_tool.proofs.Words.{◌≡◌, ◌∙◌, ℕ, suc, ◌+◌, Bool, List, [], ◌∷◌, ◌++◌, length, map, refl, sym, ap, append_assoc, list_any, map-append, length-map, length_push, get_or_at, fields_of, Message, text, Text, OwnId, Record, Key, Table, texts_with, facts_at, record_at, no_record, Query, is_true, facts_of, texts_of_message, Mbox, messages_in, all_messages, record_of, records_from, with_messages, Numbered, numbered_messages, facts_of_message}
 use Rattle.mairix_tool.proofs.TableLaws.Truth.{SaysTheSame, truth-same}
 use Rattle.mairix_tool.proofs.TableLaws.Terms.{terms-say-words, terms-say-own}
 use Rattle.mairix_tool.proofs.TableLaws.Messages.{keys-say}

@@ -1,35 +1,10 @@
 -- A table without digests answers as the whole table does, and so does that of version 1 where a query doesn't use names of parts.
-use Rattle.std.proofs.Common.{◌≡◌, ◌∙◌, ℕ, ◌+◌, Bool, true, false, not, cond, List, [], ◌∷◌, map, flat_map, length, Option, Some, None, refl, sym, ap, inl, inr, min, unwrap_or}
-use Rattle.std.specs.Prelude.{◌&&◌, ◌==◌, nat_eq, filter}
-use Rattle.std.specs.List.{list_any, range_with_len, slice_get}
-use Rattle.std.specs.Option.{option_map}
+use Rattle.mairix_tool.proofs.Words.{◌≡◌, ◌∙◌, ℕ, ◌+◌, Bool, false, not, cond, List, [], ◌∷◌, map, flat_map, length, Option, Some, refl, sym, ap, inl, inr, min, unwrap_or, arith, ◌&&◌, ◌==◌, nat_eq, filter, list_any, range_with_len, slice_get, option_map, eqb_tells, length-map, TextKind, Name, Kind, Text, OwnId, LinkId, kind_number, is_of_kind, keys_of, Archive, Key, Table, Query, uses_names, is_true, words_but_names, without_names, Format, Raw, Excerpt, Search, AreChosen, AreChosenBy, satisfying, path_at, answer_text, first_changed, stale_archive, mail_told, is_among, texts_with, facts_at, record_at, are_linked, without_digest, keys_but_names, but_digests, old_table, Answer, IsTold, IsStaleOr, answered, first_renamed, renamed_archive}
 use Rattle.std.specs.Str.{bytes_eq}
+use Rattle.mail_answer.specs.declared.format.Format.TheVariants.{Mbox}
 use Rattle.std.proofs.Math.Path.{transport, transport⁻¹}
-use Rattle.std.proofs.lemmas.Bool.Decides.{eqb_tells}
-use Rattle.std.proofs.lemmas.List.{length-map}
 use Rattle.std.proofs.lemmas.Option.{slice_get-map}
-use Rattle.mail_words.specs.declared.kind.TextKind.{TextKind}
-use Rattle.mail_words.specs.declared.kind.TextKind.TheVariants.{To, Cc, Bcc, From, Subject, Body, Name}
-use Rattle.mail_index.specs.declared.kind.Kind.{Kind}
-use Rattle.mail_index.specs.declared.kind.Kind.TheVariants.{Text, OwnId, LinkId}
-use Rattle.mail_index.specs.Kinds.{kind_number}
-use Rattle.mail_index.specs.LookUps.{is_of_kind, keys_of}
-use Rattle.mail_index.specs.Tables.{Archive, Key, Table}
-use Rattle.mail_query.specs.Query.{Query, uses_names}
-use Rattle.mail_query.specs.Truth.{is_true, words_but_names, without_names}
 use Rattle.mail_query.proofs.NameLemmas.{true-without}
-use Rattle.mail_answer.specs.declared.format.Format.{Format}
-use Rattle.mail_answer.specs.declared.format.Format.TheVariants.{Raw, Excerpt, Mbox}
-use Rattle.mail_answer.specs.Mail.{Search, AreChosen, AreChosenBy, AreThreadsOf, satisfying}
-use Rattle.mail_answer.specs.Shapes.{path_at, answer_text, span, raw_line}
-use Rattle.mail_answer.specs.Excerpts.{excerpt}
-use Rattle.mail_answer.specs.Stale.{first_changed, stale_archive}
-use Rattle.mail_answer.specs.TableAnswers.{mail_told}
-use Rattle.mail_answer.specs.TableFacts.{is_among, texts_with, facts_at, record_at}
-use Rattle.mail_answer.specs.Threads.{are_linked}
-use Rattle.mairix_tool.specs.OldTables.{without_digest, keys_but_names, but_digests, old_table}
-use Rattle.mairix_tool.specs.Replies.{Answer}
-use Rattle.mairix_tool.specs.Runs.{IsTold, IsStaleOr, answered, first_renamed, renamed_archive}
 
 -- ---- keys
 
@@ -53,11 +28,7 @@ no-names [] = refl
 no-names (k ∷ ks) = go (is_of_kind (Text Name) k) refl (no-names ks)
   where
     go : (b : Bool) → is_of_kind (Text Name) k ≡ b → keys_of (Text Name) (keys_but_names ks) ≡ [] → keys_of (Text Name) (cond (not (is_of_kind (Text Name) k)) (k ∷ keys_but_names ks) (keys_but_names ks)) ≡ []
-    go true e rest = ap (λ (b : Bool). keys_of (Text Name) (cond (not b) (k ∷ keys_but_names ks) (keys_but_names ks))) e ∙ rest
-    go false e rest =
-        ap (λ (b : Bool). keys_of (Text Name) (cond (not b) (k ∷ keys_but_names ks) (keys_but_names ks))) e
-        ∙ ap (λ (b : Bool). cond b (k ∷ keys_of (Text Name) (keys_but_names ks)) (keys_of (Text Name) (keys_but_names ks))) e
-        ∙ rest
+    go b h h2 = grind arith
 
 -- ---- what a message says
 
@@ -65,13 +36,7 @@ texts-of : (n : ℕ) (ks ls : List Key) → ks ≡ ls → map (λ (k : Key). k.t
 texts-of n ks ls e = ap (λ (keys : List Key). map (λ (k : Key). k.text) (filter (λ k. is_among n k.numbers) keys)) e
 
 texts-old : (t : Table) (n : ℕ) (kind : TextKind) → texts_with (Text kind) n (keys_but_names t.keys) ≡ words_but_names (λ k. texts_with (Text k) n t.keys) kind
-texts-old t n To = texts-of n _ _ (others-stay (Text To) refl t.keys)
-texts-old t n Cc = texts-of n _ _ (others-stay (Text Cc) refl t.keys)
-texts-old t n Bcc = texts-of n _ _ (others-stay (Text Bcc) refl t.keys)
-texts-old t n From = texts-of n _ _ (others-stay (Text From) refl t.keys)
-texts-old t n Subject = texts-of n _ _ (others-stay (Text Subject) refl t.keys)
-texts-old t n Body = texts-of n _ _ (others-stay (Text Body) refl t.keys)
-texts-old t n Name = texts-of n _ _ (no-names t.keys)
+texts-old t n kind = grind (arith, texts-of, others-stay, no-names)
 
 facts-old : (t : Table) (n : ℕ) → facts_at (old_table t) n ≡ without_names (facts_at t n)
 facts-old t n = λ i. record {
@@ -94,8 +59,7 @@ satisfying-old : (t : Table) (q : Query) → uses_names q ≡ false → satisfyi
 satisfying-old t q none = λ i. filter (λ n. truth-old t q none n i) (range_with_len 0 (length t.messages))
 
 chosen-by-old : (t : Table) (threads : Bool) (q : Query) (numbers : List ℕ) → uses_names q ≡ false → AreChosenBy threads (mail_told (old_table t)) q numbers ≡ AreChosenBy threads (mail_told t) q numbers
-chosen-by-old t false q numbers none = λ i. numbers ≡ satisfying-old t q none i
-chosen-by-old t true q numbers none = λ i. AreThreadsOf (length t.messages) (λ m n. linked-old t m n i) (satisfying-old t q none i) numbers
+chosen-by-old t threads q numbers h = grind (arith, satisfying-old, linked-old)
 
 -- ---- how they are told
 
@@ -103,13 +67,10 @@ path-old : (named : List Archive) (n : ℕ) → path_at (map without_digest name
 path-old named n = ap (λ (o : Option Archive). unwrap_or (option_map (λ a. a.path) o) []) (slice_get-map without_digest named n) ∙ go (slice_get named n)
   where
     go : (o : Option Archive) → unwrap_or (option_map (λ a. a.path) (option_map without_digest o)) [] ≡ unwrap_or (option_map (λ a. a.path) o) []
-    go None = refl
-    go (Some a) = refl
+    go o = grind arith
 
 text-undigested : (t : Table) (format : Format) (held : List (List ℕ)) (numbers : List ℕ) → answer_text format (but_digests t) held numbers ≡ answer_text format t held numbers
-text-undigested t Raw held numbers = λ i. flat_map (λ n. let m = record_at t.messages n in raw_line m.offset m.length (path-old t.archives m.archive i)) numbers
-text-undigested t Excerpt held numbers = λ i. flat_map (λ n. let m = record_at t.messages n in excerpt (path-old t.archives m.archive i) (span held m)) numbers
-text-undigested t Mbox held numbers = refl
+text-undigested t format held numbers = grind (arith, flat_map, path-old)
 
 -- names don't show in it
 text-old : (t : Table) (format : Format) (held : List (List ℕ)) (numbers : List ℕ) → answer_text format (old_table t) held numbers ≡ answer_text format t held numbers

@@ -1,19 +1,8 @@
 -- The table of archives links two messages exactly where they share a link id of their own.
-use Rattle.std.proofs.Common.{◌≡◌, ◌∙◌, ℕ, Bool, true, false, cond, ◌&&◌, ◌||◌, List, [], ◌∷◌, map, filter, refl, sym, ap, subst}
-use Rattle.std.specs.List.{list_any}
+use Rattle.mairix_tool.proofs.Words.{◌≡◌, ◌∙◌, ℕ, Bool, true, false, cond, ◌&&◌, ◌||◌, List, [], ◌∷◌, map, filter, refl, sym, ap, subst, arith, list_any, Less, Equal, eqb-true, bytes_eq-Decides, Kind, LinkId, kind_number, Key, KeyBefore, AllNext, is_of_kind, keys_of, is_among, texts_with, share_id}
 use Rattle.std.specs.Str.{bytes_eq}
-use Rattle.std.specs.declared.cmp.Ordering.TheVariants.{Less, Equal}
-use Rattle.std.proofs.lemmas.Bool.{eqb-true}
 use Rattle.std.proofs.lemmas.Cmp.{nat_list_cmp_total, tied_itself}
-use Rattle.std.proofs.lemmas.Slice.Eq.{bytes_eq-Decides}
-use Rattle.mail_index.specs.declared.kind.Kind.{Kind}
-use Rattle.mail_index.specs.declared.kind.Kind.TheVariants.{LinkId}
-use Rattle.mail_index.specs.Kinds.{kind_number}
 use Rattle.mail_index.specs.OrderOfKeys.{key_cmp}
-use Rattle.mail_index.specs.Tables.{Key, KeyBefore, AllNext}
-use Rattle.mail_index.specs.LookUps.{is_of_kind, keys_of}
-use Rattle.mail_answer.specs.TableFacts.{is_among, texts_with}
-use Rattle.mairix_tool.specs.MailOfArchives.{share_id}
 
 -- ---- a text of no other key
 
@@ -37,12 +26,10 @@ bytes-turned : (xs ys : List ℕ) → bytes_eq xs ys ≡ false → bytes_eq ys x
 bytes-turned xs ys e = go (bytes_eq ys xs) refl
   where
     go : (b : Bool) → bytes_eq ys xs ≡ b → bytes_eq ys xs ≡ false
-    go false is = is
-    go true is = let back : xs ≡ ys = sym ((bytes_eq-Decides ys xs).0 is) in absurd (cc (sym e ∙ (bytes_eq-Decides xs ys).1 back))
+    go b h = grind (arith, bytes_eq-Decides)
 
 or-none : (a b : Bool) → (a || b) ≡ false → (a ≡ false) × (b ≡ false)
-or-none true b e = absurd (cc e)
-or-none false b e = (refl, e)
+or-none a b h = grind arith
 
 -- a new text is none of the texts of these keys
 new-of : (n : ℕ) (text : List ℕ) (ks : List Key) → IsNew text ks → list_any (bytes_eq text) (texts_of n ks) ≡ false
@@ -110,12 +97,10 @@ before-all a b [] first next = (first, tt)
 before-all a b (k ∷ ks) first next = (first, before-all a k ks (before-through a b k first next.0) next.1)
 
 pub below-all : (a : Key) (ks : List Key) → AllNext KeyBefore (a ∷ ks) → BeforeAll a ks
-below-all a [] next = tt
-below-all a (k ∷ ks) next = before-all a k ks next.0 next.1
+below-all a ks h = grind (arith, before-all)
 
 pub rest-sorted : (a : Key) (ks : List Key) → AllNext KeyBefore (a ∷ ks) → AllNext KeyBefore ks
-rest-sorted a [] next = tt
-rest-sorted a (k ∷ ks) next = next.1
+rest-sorted a ks h = grind arith
 
 not-same-text : (kind : Kind) (a k : Key) → is_of_kind kind a ≡ true → is_of_kind kind k ≡ true → KeyBefore a k → bytes_eq a.text k.text ≡ false
 not-same-text kind a k of_a of_k before = go (bytes_eq a.text k.text) refl
@@ -131,8 +116,7 @@ not-same-text kind a k of_a of_k before = go (bytes_eq a.text k.text) refl
         cc
 
     go : (b : Bool) → bytes_eq a.text k.text ≡ b → bytes_eq a.text k.text ≡ false
-    go false is = is
-    go true is = absurd (never before ((bytes_eq-Decides a.text k.text).0 is))
+    go b h = grind (arith, never, bytes_eq-Decides)
 
 new-among : (kind : Kind) (a : Key) (ks : List Key) → is_of_kind kind a ≡ true → BeforeAll a ks → IsNew a.text (keys_of kind ks)
 new-among kind a [] of_a before = refl

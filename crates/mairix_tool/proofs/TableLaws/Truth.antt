@@ -1,15 +1,10 @@
 -- What the truth of a query rests on: which tests the words and ids of a message pass, and its date, size and flags.
-use Rattle.std.proofs.Common.{◌≡◌, ◌∙◌, ℕ, Bool, true, not, List, [], ◌∷◌, refl, ap}
-use Rattle.std.specs.Prelude.{◌&&◌, ◌||◌, nat_le, bytes_eq}
-use Rattle.std.specs.List.{list_any}
-use Rattle.std.specs.Option.{option_map_or}
-use Rattle.mail_words.specs.declared.kind.TextKind.{TextKind}
+use Rattle.mairix_tool.proofs.Words.{◌≡◌, ◌∙◌, ℕ, Bool, true, not, List, [], ◌∷◌, refl, ap, arith, ◌&&◌, ◌||◌, nat_le, bytes_eq, list_any, option_map_or, TextKind, Query, Any, Word, Part, Prefix, Date, Size, HasFlag, Not, Either, Queries, End, More, some_word, contains_text, begins_with, has_flag, is_same, is_true, each_is_true, some_is_true}
 use Rattle.mail_words.specs.declared.flags.Flags.{Flags}
 use Rattle.mail_dates.specs.Ranges.{has_date}
 use Rattle.mail_query.specs.declared.kinds.Kinds.{Kinds}
-use Rattle.mail_query.specs.Kinds.{has_kind}
-use Rattle.mail_query.specs.Query.{Query, Any, Word, Part, Prefix, Date, Size, HasFlag, Not, All, Either, Queries, End, More}
-use Rattle.mail_query.specs.Truth.{Facts, text_kinds, some_word, contains_text, begins_with, has_flag, is_same, is_true, each_is_true, some_is_true}
+use Rattle.mail_query.specs.Query.{All}
+use Rattle.mail_query.specs.Truth.{Facts}
 
 -- both pass the same tests by some word of a kind and by some own id, and have the same date, size and flags
 pub record SaysTheSame (a b : Facts) : Type 0 where
@@ -26,12 +21,7 @@ any-same f g same (x ∷ xs) = ap (λ (b : Bool). b || list_any f xs) (same x) �
 
 -- some word of these kinds passes in both, or in neither
 some_word-same : (passes : List ℕ → Bool) (kinds : Kinds) (a b : Facts) → SaysTheSame a b → some_word passes kinds a ≡ some_word passes kinds b
-some_word-same passes kinds a b same =
-    let kinds-same : list_any (λ kind. has_kind kinds kind && list_any passes (a.words kind)) text_kinds ≡ list_any (λ kind. has_kind kinds kind && list_any passes (b.words kind)) text_kinds =
-    any-same (λ (kind : TextKind). has_kind kinds kind && list_any passes (a.words kind)) (λ (kind : TextKind). has_kind kinds kind && list_any passes (b.words kind))
-    (λ (kind : TextKind). ap (λ (v : Bool). has_kind kinds kind && v) (same.words kind passes)) text_kinds in
-    ap (λ (v : Bool). v || (kinds.own_id && list_any passes a.own_ids)) kinds-same
-    ∙ ap (λ (v : Bool). list_any (λ kind. has_kind kinds kind && list_any passes (b.words kind)) text_kinds || (kinds.own_id && v)) (same.own_ids passes)
+some_word-same passes kinds a b same = grind (arith, any-same)
 
 mutual
   -- a query is true of both, or of neither

@@ -1,5 +1,4 @@
-use Rattle.std.proofs.Common.{map, string_bytes}
-use Rattle.mairix_tool.specs.Asked.{wanted}
+use Rattle.mairix_tool.proofs.Words.{map, string_bytes, wanted}
 use Rattle.mairix_tool.proofs.ArchiveLaws.AskedPaths.{asked-paths}
 use Rattle.mairix_tool.proofs.once.index_wanted.Goals as goal
 

@@ -1,18 +1,11 @@
-use Rattle.std.proofs.Common.{◌≡◌, ℕ, List, map, length, IfOk, sym, subst, string_bytes}
+use Rattle.mairix_tool.proofs.Words.{◌≡◌, ℕ, List, map, length, IfOk, sym, subst, string_bytes, arith, IsFileOf, table, mboxes, Wanted, wanted, asked, reply_of}
 use Rattle.contract_words.proofs.DeviceLists.{known_length}
-use Rattle.mail_index.specs.Faults.{IsFileOf}
-use Rattle.index_job.specs.ArchiveTables.{table}
-use Rattle.index_run.specs.ArchivesIndexed.{mboxes}
-use Rattle.mairix_tool.specs.Asked.{Wanted, wanted, asked}
-use Rattle.mairix_tool.specs.Runs.{reply_of}
 use Rattle.mairix_tool.proofs.ArchiveLaws.AskedPaths.{asked-many}
 use Rattle.mairix_tool.proofs.ReplyLaws.Once.{refused-once, sound-once, same-bytes}
 use Rattle.mairix_tool.proofs.once.once_run.Goals as goal
 
 pub returns-in-Err-clause-changed : goal.returns-in-Err-clause-changed
-returns-in-Err-clause-changed g c = λ bytes held known holds.
-    rw c.of-in-Err.ensures
-    (refused-once (asked (map string_bytes c.args.words.now) c.args.rc.now c.args.now) bytes held c.in-Err.fault (g.O.Out.taken c.args.out.now) (c.in-Err.ensures.known bytes known))
+returns-in-Err-clause-changed g c = grind (arith, refused-once, string_bytes)
 
 pub returns-in-Err-clause-reply : goal.returns-in-Err-clause-reply
 returns-in-Err-clause-reply g c = λ bytes known holds.
@@ -30,9 +23,4 @@ returns-in-Ok-clause-changed g c = λ bytes held known holds.
     rw (c.of.ensures, c.in-Ok.ensures.wanted) (sound-once w bytes held (reply_of c.answer_bytes.result) (g.O.Out.taken c.args.out.now) (g.O.Out.taken c.answer_bytes.new.out) indexed.0 told)
 
 pub returns-in-Ok-clause-reply : goal.returns-in-Ok-clause-reply
-returns-in-Ok-clause-reply g c = λ bytes known holds.
-    let long = known_length g.S.Source.rest c.args.sources.now bytes known in
-    same-bytes (asked (map string_bytes c.args.words.now) c.args.rc.now c.args.now) bytes c.of.result (g.O.Out.taken c.args.out.now) (g.O.Out.taken c.answer_bytes.new.out)
-    (subst (λ (n : ℕ). IfOk (asked (map string_bytes c.args.words.now) c.args.rc.now c.args.now) (λ w. length w.paths ≡ n)) (sym long)
-    (asked-many (map string_bytes c.args.words.now) c.args.rc.now c.args.now (length c.args.sources.now) (λ r. g.A.Archives.number c.args.archives.now ≡ length c.args.sources.now) c.requires.many))
-    (returns-in-Ok-clause-changed g c bytes bytes known holds)
+returns-in-Ok-clause-reply g c = grind (arith, known_length, same-bytes, string_bytes, asked-many, returns-in-Ok-clause-changed)

@@ -1,7 +1,5 @@
-use Rattle.std.proofs.Common.{◌≡◌, ◌∙◌, ℕ, List, Option, None, Err, IfSome, sym, subst}
+use Rattle.mairix_tool.proofs.Words.{◌≡◌, ◌∙◌, ℕ, List, Option, None, Err, IfSome, sym, subst, wanted, IsStaleOr, IsTold, RepliesBy, TellsProved, unproved_archive, reply_of}
 use Rattle.std.proofs.lemmas.Result.{err_from_is_err_and}
-use Rattle.mairix_tool.specs.Asked.{wanted}
-use Rattle.mairix_tool.specs.Runs.{IsStaleOr, IsTold, RepliesBy, TellsProved, unproved_archive, reply_of}
 use Rattle.mairix_tool.proofs.ReplyLaws.Stored.{unproved-replied, still-verified}
 use Rattle.mairix_tool.proofs.stored.answer_opened.Goals as goal
 

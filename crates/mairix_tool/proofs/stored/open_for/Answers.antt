@@ -1,13 +1,10 @@
-use Rattle.std.proofs.Common.{◌∙◌, Some, None, sym, ap}
+use Rattle.mairix_tool.proofs.Words.{◌∙◌, Some, None, sym, ap, arith, wanted, renamed_archive}
 use Rattle.std.proofs.Math.Facts.{Fits-lt-pow}
-use Rattle.mairix_tool.specs.Asked.{wanted}
-use Rattle.mairix_tool.specs.Runs.{renamed_archive}
 use Rattle.mairix_tool.proofs.ReplyLaws.Stored.{one-bad-index, one-too-old, one-renamed}
 use Rattle.mairix_tool.proofs.stored.open_for.Goals as goal
 
 pub returns-in-Err-clause-each : goal.returns-in-Err-clause-each
-returns-in-Err-clause-each c = λ fault is.
-    one-bad-index (wanted c.args.wanted.now) c.args.index.now c.well_formed.0.0 (record { below = λ i. Fits-lt-pow (c.type_inv.index i) }) c.in-Err.fault fault c.in-Err.ensures.fault is
+returns-in-Err-clause-each c = grind (arith, one-bad-index, Fits-lt-pow)
 
 pub returns-then-is_too_old-clause-each : goal.returns-then-is_too_old-clause-each
 returns-then-is_too_old-clause-each c = λ fault is.

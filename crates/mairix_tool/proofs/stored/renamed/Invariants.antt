@@ -1,5 +1,4 @@
-use Rattle.std.proofs.Common.{◌≡◌, map, drop, string_bytes}
-use Rattle.mairix_tool.specs.Runs.{first_renamed, renamed_archive}
+use Rattle.mairix_tool.proofs.Words.{◌≡◌, map, drop, string_bytes, first_renamed, renamed_archive}
 use Rattle.mairix_tool.proofs.stored.renamed.Given as goal
 
 -- the archives before this one have the paths that were indexed

@@ -1,15 +1,11 @@
-use Rattle.std.proofs.Common.{◌≡◌, ◌∙◌, ◌^◌, ◌<◌, map, length, sym, subst, string_bytes, arith}
-use Rattle.mairix_tool.specs.Asked.{Wanted, wanted, asked}
-use Rattle.mairix_tool.specs.Runs.{reply_of, IsCountedWhere, WereVerified}
+use Rattle.mairix_tool.proofs.Words.{◌^◌, ◌<◌, map, length, string_bytes, arith, Wanted, wanted, reply_of}
 use Rattle.mairix_tool.proofs.ArchiveLaws.AskedPaths.{asked-paths}
 use Rattle.mairix_tool.proofs.TableLaws.Formed.{whole-file}
 use Rattle.mairix_tool.proofs.ReplyLaws.Stored.{answered-for, refused-for, refused-stored, has-digests, stored-told, stored-counted, stored-read, stored-serving, stored-verified}
 use Rattle.mairix_tool.proofs.stored.search_run.Goals as goal
 
 pub returns-in-Err-clause-reply : goal.returns-in-Err-clause-reply
-returns-in-Err-clause-reply g c = λ held holds.
-    rw c.of-in-Err.ensures
-    (refused-stored (asked (map string_bytes c.args.words.now) c.args.rc.now c.args.now) c.args.index.now held c.in-Err.fault (g.O.Out.taken c.args.out.now) c.in-Err.ensures.refused)
+returns-in-Err-clause-reply g c = grind (arith, refused-stored, string_bytes)
 
 pub returns-in-Err-clause-indexed : goal.returns-in-Err-clause-indexed
 returns-in-Err-clause-indexed g c = λ w bytes is many sound serves holds.
@@ -26,8 +22,7 @@ returns-in-Err-clause-verified g c = λ w before bytes is verify paths sound who
     (rw is at (returns-in-Err-clause-reply g c bytes holds))
 
 pub returns-in-Err-clause-opened : goal.returns-in-Err-clause-opened
-returns-in-Err-clause-opened g c =
-    rw c.of-in-Err.ensures (refused-for (asked (map string_bytes c.args.words.now) c.args.rc.now c.args.now) c.args.index.now c.in-Err.fault c.in-Err.ensures.refused)
+returns-in-Err-clause-opened g c = grind (arith, refused-for, string_bytes)
 
 pub answer_opened-requires-clause-digests : goal.answer_opened-requires-clause-digests
 answer_opened-requires-clause-digests g c = has-digests (wanted c.in-Ok.found.wanted) c.in-Ok.found.view c.in-Ok.ensures.table.0.version c.in-Ok.ensures.fresh
@@ -55,24 +50,10 @@ returns-in-Ok-clause-verified g c = λ w before bytes is verify paths sound whol
     (rw is at (returns-in-Ok-clause-reply g c bytes holds))
 
 pub returns-in-Ok-clause-counted : goal.returns-in-Ok-clause-counted
-returns-in-Ok-clause-counted g c = λ w t is file.
-    let few : length c.args.index.now < 2 ^ 64 = omega (arith, c.well_formed) in
-    let both = sym c.in-Ok.ensures.wanted ∙ is in
-    let same : wanted c.in-Ok.found.wanted ≡ w = cc both in
-    let told = stored-counted (wanted c.in-Ok.found.wanted) c.args.index.now few c.in-Ok.found.view c.in-Ok.ensures.table t (g.A.Archives.held c.args.archives.now) (reply_of c.answer_opened.result).fault (reply_of c.answer_opened.result)
-    (g.O.Out.taken c.args.out.now) (g.O.Out.taken c.answer_opened.new.out) file c.answer_opened.ensures.counted in
-    rw c.of.ensures
-    (subst (λ (v : Wanted). IsCountedWhere t v.search (g.A.Archives.held c.args.archives.now) (reply_of c.answer_opened.result).fault (reply_of c.answer_opened.result) (g.O.Out.taken c.args.out.now) (g.O.Out.taken c.answer_opened.new.out)) same told)
+returns-in-Ok-clause-counted g c = grind (arith, stored-counted)
 
 pub returns-in-Ok-clause-read : goal.returns-in-Ok-clause-read
-returns-in-Ok-clause-read g c = λ w t is file.
-    let few : length c.args.index.now < 2 ^ 64 = omega (arith, c.well_formed) in
-    let both = sym c.in-Ok.ensures.wanted ∙ is in
-    let same : wanted c.in-Ok.found.wanted ≡ w = cc both in
-    let told = stored-read (wanted c.in-Ok.found.wanted) c.args.index.now few c.in-Ok.found.view c.in-Ok.ensures.table t (reply_of c.answer_opened.result).fault file c.answer_opened.ensures.read in
-    rw c.of.ensures (subst (λ (v : Wanted). WereVerified t.archives v.verify (reply_of c.answer_opened.result).fault) same told)
+returns-in-Ok-clause-read g c = grind (arith, stored-read)
 
 pub returns-in-Ok-clause-opened : goal.returns-in-Ok-clause-opened
-returns-in-Ok-clause-opened g c =
-    rw c.of.ensures
-    (answered-for (asked (map string_bytes c.args.words.now) c.args.rc.now c.args.now) c.args.index.now c.answer_opened.result c.answer_opened.ensures.asks.own)
+returns-in-Ok-clause-opened g c = grind (arith, answered-for, string_bytes)

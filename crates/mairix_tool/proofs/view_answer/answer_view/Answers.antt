@@ -1,10 +1,4 @@
-use Rattle.std.proofs.Common.{◌≡◌, ℕ, Bool, List, Option, Ok, Err, subst}
-use Rattle.contract_words.specs.Devices.{Counted}
-use Rattle.mail_answer.specs.Answers.{AnswersStale}
-use Rattle.mail_answer.specs.Stale.{stale_archive}
-use Rattle.mail_answer.specs.TableAnswers.{TableAnswer, IsTableAnswer, Answers}
-use Rattle.std.specs.Prelude.{IfSome}
-use Rattle.mairix_tool.specs.Asked.{wanted}
+use Rattle.mairix_tool.proofs.Words.{◌≡◌, ℕ, Bool, List, Option, Ok, Err, subst, Counted, AnswersStale, stale_archive, TableAnswer, IsTableAnswer, Answers, IfSome, wanted}
 use Rattle.mairix_tool.proofs.ReplyLaws.Answers.{ok-told, err-told, ok-counted, raw-unwritten, told-own, told-archives, told-out}
 use Rattle.mairix_tool.proofs.view_answer.answer_view.Goals as goal
 

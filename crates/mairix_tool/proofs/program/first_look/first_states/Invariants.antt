@@ -1,4 +1,4 @@
-use Rattle.std.proofs.Common.{◌≡◌, vec_len}
+use Rattle.mairix_tool.proofs.Words.{◌≡◌, vec_len}
 use Rattle.mairix_tool.proofs.program.first_look.first_states.Given as goal
 
 -- a state for each path so far
