@@ -1,3 +1,4 @@
+pub mod Words
 mod RowsTableFacts
 mod RowsThreads
 mod RowsShapes

@@ -1,12 +1,5 @@
 -- Worked rows: messages that are closed and joined, and their cut.
-use Rattle.std.proofs.Common.{◌≡◌, ℕ, List, [], ◌∷◌, Some, map, refl}
-use Rattle.std.specs.Prelude.{codes}
-use Rattle.std.specs.List.{concat}
-use Rattle.mbox_cutter.specs.Archives.{cut, messages}
-use Rattle.mbox_cutter.specs.Lines.{lines, first_length, is_empty}
-use Rattle.mbox_cutter.specs.Separators.{is_separator, without_break, has_form}
-use Rattle.mail_answer.specs.CutAgain.{places_from}
-use Rattle.mail_answer.specs.Shapes.{closed}
+use Rattle.mail_answer.proofs.Words.{◌≡◌, ℕ, List, [], ◌∷◌, Some, map, refl, codes, concat, cut, messages, lines, first_length, is_empty, is_separator, without_break, has_form, places_from, closed}
 
 -- no LF, one LF, and an empty line at the end
 abbrev three : List (List ℕ)

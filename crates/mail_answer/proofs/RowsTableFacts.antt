@@ -1,14 +1,7 @@
 -- Rows: what a table of two messages says of them, and which of them some queries choose.
-use Rattle.std.specs.Prelude.{◌≡◌, ℕ, true, false, List, [], ◌∷◌, map, replicate, None, Some, codes, refl, pos}
-use Rattle.mail_words.specs.declared.kind.TextKind.TheVariants.{Subject, Body, Name}
+use Rattle.mail_answer.proofs.Words.{◌≡◌, ℕ, true, false, List, [], ◌∷◌, map, replicate, None, Some, codes, refl, pos, Subject, Body, Name, Text, OwnId, LinkId, newest, Table, Kinds, no_kinds, Query, Any, Word, Part, Prefix, Date, Size, HasFlag, Not, All, Either, End, texts_with, facts_at, truths, chosen_numbers}
 use Rattle.mail_words.specs.declared.flags.Flag.TheVariants.{Seen}
-use Rattle.mail_index.specs.declared.kind.Kind.TheVariants.{Text, OwnId, LinkId}
-use Rattle.mail_index.specs.Versions.{newest}
-use Rattle.mail_index.specs.Tables.{Table}
-use Rattle.mail_query.specs.declared.kinds.Kinds.{Kinds}
-use Rattle.mail_query.specs.Kinds.{no_kinds}
-use Rattle.mail_query.specs.Query.{Query, Any, Word, Part, Prefix, Date, Size, HasFlag, Not, All, Either, End, More}
-use Rattle.mail_answer.specs.TableFacts.{texts_with, facts_at, truths, chosen_numbers}
+use Rattle.mail_query.specs.Query.{More}
 
 -- the first, without a date and of 19 bytes, has the own id 1@x, the subject hello and the text hi; the second, seen, is of 30 bytes
 -- and of second 1000, has the own id 2@x and the link id 1@x, the subjects hello and re, the text high,

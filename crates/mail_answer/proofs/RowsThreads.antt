@@ -1,10 +1,5 @@
 -- Rows: threads of a table of six messages, whose keys are link ids alone.
-use Rattle.std.specs.Prelude.{◌≡◌, true, false, [], ◌∷◌, replicate, Some, codes, refl}
-use Rattle.mail_index.specs.declared.kind.Kind.TheVariants.{OwnId, LinkId}
-use Rattle.mail_index.specs.Versions.{newest}
-use Rattle.mail_index.specs.Tables.{Table}
-use Rattle.mail_answer.specs.TableFacts.{no_record}
-use Rattle.mail_answer.specs.Threads.{are_linked, IsInThread, IsInThreadOfSome}
+use Rattle.mail_answer.proofs.Words.{◌≡◌, true, false, [], ◌∷◌, replicate, Some, codes, refl, OwnId, LinkId, newest, Table, no_record, are_linked, IsInThread, IsInThreadOfSome}
 
 -- the second refers to the first, and the third answers the second; the fourth has no id; the fifth and the sixth refer to 0@x, which
 -- no message has

@@ -1,20 +1,10 @@
 -- Laws of archives that are asked for their lengths in order.
-use Rattle.std.proofs.Common.{◌≡◌, ℕ, ◌+◌, ◌<◌, Bool, true, false, ◌==◌, List, [], ◌∷◌, ◌++◌, map, length, length-take, take, take-add, drop, drop-cons, Option, None, Some, IfSome, Result, Ok, Err, OnErr, refl, ap, ap₂, sym, ◌∙◌, subst, arith}
-use Rattle.std.proofs.lemmas.Bool.{eqb-true, eq-eqb}
-use Rattle.std.proofs.lemmas.List.{length-map, map-append}
-use Rattle.mbox_cutter.specs.declared.device.DeviceFault.{DeviceFault}
-use Rattle.mail_index.specs.Tables.{Archive}
-use Rattle.mail_answer.specs.Archives.{archive_at}
-use Rattle.mail_answer.specs.Asked.{TellLengths, indexed_lengths, Agree, AsksUpTo, FindsLengths}
-use Rattle.mail_answer.specs.declared.archives.Archives.{Ghosts}
-use Rattle.mail_answer.specs.declared.fault.AnswerFaultKind.{AnswerFaultKind}
-use Rattle.mail_answer.specs.declared.fault.AnswerFaultKind.TheVariants.{Device}
+use Rattle.mail_answer.proofs.Words.{◌≡◌, ℕ, ◌+◌, ◌<◌, Bool, true, false, ◌==◌, List, [], ◌∷◌, ◌++◌, map, length, length-take, take, take-add, drop, drop-cons, Option, IfSome, Result, Ok, Err, OnErr, refl, ap, sym, ◌∙◌, subst, arith, eqb-true, length-map, map-append, DeviceFault, Archive, archive_at, TellLengths, indexed_lengths, Agree, AsksUpTo, FindsLengths, Ghosts, AnswerFaultKind, Device}
+use Rattle.std.proofs.lemmas.Bool.{eq-eqb}
 
 -- one archive more was asked
 tell_more : {A : Type 0} (g : Ghosts A) (n : ℕ) (lengths : List ℕ) (l : ℕ) (old before new : A) → TellLengths g n lengths old before → g.measures before (n + length lengths) (Ok l) new → TellLengths g n (lengths ++ l ∷ []) old new
-tell_more {A} g n [] l old before new e m =
-    let here : n + 0 ≡ n = omega arith in
-    (new, subst (λ (k : ℕ). g.measures old k (Ok l) new) here (subst (λ (b : A). g.measures b (n + 0) (Ok l) new) e m), refl)
+tell_more {A} g n [] l old before new e m = grind arith
 tell_more {A} g n (k ∷ lengths) l old before new told m =
     let behind : n + length (k ∷ lengths) ≡ n + 1 + length lengths = omega arith in
     (told.0, told.1, tell_more g (n + 1) lengths l told.0 before new told.2 (subst (λ (i : ℕ). g.measures before i (Ok l) new) behind m))
@@ -23,8 +13,7 @@ map_one_more : {X : Type 0} (f : X → ℕ) (xs : List X) (n : ℕ) (x : X) (res
 map_one_more {X} f xs n x rest e = ap (map f) (take-add n 1 xs ∙ ap (λ ys. take n xs ++ take 1 ys) e) ∙ map-append f (take n xs) (x ∷ [])
 
 none_known : (held : Option (List (List ℕ))) (named : List Archive) → IfSome held (λ archives. map length (take 0 archives) ≡ indexed_lengths (take 0 named))
-none_known None named = tt
-none_known (Some archives) named = refl
+none_known held named = grind arith
 
 pub none_asked : {A : Type 0} (g : Ghosts A) (named : List Archive) (a : A) → Agree g named 0 a a
 none_asked g named a = record { told = refl; known = none_known (g.held a) named }
@@ -32,12 +21,7 @@ none_asked g named a = record { told = refl; known = none_known (g.held a) named
 known_more : (held : Option (List (List ℕ))) (named : List Archive) (n number : ℕ) (a : Archive) (rest : List Archive) (same : Bool) → n < number → drop n named ≡ a ∷ rest
     → IfSome held (λ archives. length archives ≡ number) → IfSome held (λ archives. same ≡ (length (archive_at archives n) == a.length)) → same ≡ true
     → IfSome held (λ archives. map length (take n archives) ≡ indexed_lengths (take n named)) → IfSome held (λ archives. map length (take (n + 1) archives) ≡ indexed_lengths (take (n + 1) named))
-known_more None named n number a rest same h e count is holds so_far = tt
-known_more (Some archives) named n number a rest same h e count is holds so_far =
-    let long : length (archive_at archives n) ≡ a.length = eqb-true (length (archive_at archives n)) a.length (sym is ∙ holds) in
-    map_one_more length archives n (archive_at archives n) _ (drop-cons archives n [] (omega arith))
-    ∙ ap₂ (λ xs k. xs ++ k ∷ []) so_far long
-    ∙ sym (map_one_more (λ (t : Archive). t.length) named n a rest e)
+known_more held named n number a rest same h h2 h3 h4 h5 h6 = grind (arith, eqb-true, map_one_more, drop-cons)
 
 -- one archive more agrees
 pub agree_more : {A : Type 0} (g : Ghosts A) (named : List Archive) (n number : ℕ) (a : Archive) (rest : List Archive) (told : ℕ) (same : Bool) (old before new : A) → n < number → number ≡ length named → drop n named ≡ a ∷ rest
@@ -68,5 +52,4 @@ all_agree g named n old new e so_far = subst (λ (k : ℕ). Agree g named k old 
 
 -- what holds of any error
 pub on_error : {T E : Type 0} (r : Result T E) (P : Type 0) → P → OnErr r P
-on_error (Ok x) P holds = tt
-on_error (Err e) P holds = holds
+on_error r P h = grind arith

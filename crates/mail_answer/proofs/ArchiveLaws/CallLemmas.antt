@@ -1,8 +1,5 @@
 -- Laws of what calls do to archives and to an output.
-use Rattle.std.proofs.Common.{◌∙◌, refl}
-use Rattle.mail_answer.specs.Asked.{HoldsArchives}
-use Rattle.mail_answer.specs.Inside.Calls.{KeepsArchives}
-use Rattle.mail_answer.specs.declared.archives.Archives.{Ghosts}
+use Rattle.mail_answer.proofs.Words.{◌∙◌, refl, HoldsArchives, KeepsArchives, Ghosts}
 
 pub keeps_self : {A : Type 0} (g : Ghosts A) (a : A) → KeepsArchives g a a
 keeps_self g a = record { held = refl; number = refl; asked = refl }

@@ -1,22 +1,10 @@
 -- The messages of an index lie inside archives that are as they were indexed.
-use Rattle.std.proofs.Common.{◌≡◌, ℕ, zero, suc, ◌+◌, ◌<◌, ◌≤◌, ◌^◌, Bool, true, false, cond, ◌==◌, List, [], ◌∷◌, length, Option, None, Some, IfSome, refl, arith}
-use Rattle.std.proofs.lemmas.Bool.{eqb-true}
-use Rattle.std.specs.List.{AllByRecursion}
-use Rattle.mail_index.specs.declared.record.Record.{Record}
-use Rattle.mail_index.specs.Tables.{Archive, Table, IsArchive, IsMessage, IsWellFormed, archive_length}
-use Rattle.mail_answer.specs.Archives.{archive_at}
-use Rattle.mail_answer.specs.Inside.Readings.{IsInside, span_reading}
-use Rattle.mail_answer.specs.Stale.{first_changed, stale_archive}
-use Rattle.mail_answer.specs.TableFacts.{record_at}
+use Rattle.mail_answer.proofs.Words.{◌≡◌, ℕ, zero, suc, ◌+◌, ◌<◌, ◌≤◌, ◌^◌, List, [], ◌∷◌, length, Option, None, Some, IfSome, arith, eqb-true, AllByRecursion, Record, Archive, Table, IsArchive, IsMessage, IsWellFormed, archive_length, archive_at, IsInside, span_reading, first_changed, stale_archive, record_at}
 
 -- the first archive hasn't changed, nor those behind it
 head_unchanged : (n : ℕ) (a : Archive) (named : List Archive) (bytes : List ℕ) (archives : List (List ℕ)) → first_changed n (a ∷ named) (bytes ∷ archives) ≡ None
     → (length bytes ≡ a.length) × (first_changed (n + 1) named archives ≡ None)
-head_unchanged n a named bytes archives u = go (length bytes == a.length) refl u
-  where
-    go : (v : Bool) → (length bytes == a.length) ≡ v → cond v (first_changed (n + 1) named archives) (Some n) ≡ None → (length bytes ≡ a.length) × (first_changed (n + 1) named archives ≡ None)
-    go true t u = (eqb-true (length bytes) a.length t, u)
-    go false t u = absurd (cc u)
+head_unchanged n a named bytes archives u = grind (arith, eqb-true)
 
 -- an archive that hasn't changed is as long as it was
 pub unchanged_length : (n : ℕ) (named : List Archive) (archives : List (List ℕ)) (k : ℕ) → length archives ≡ length named → k < length named → first_changed n named archives ≡ None
@@ -28,11 +16,7 @@ unchanged_length n (a ∷ named) (bytes ∷ archives) (suc k) e h u = unchanged_
 
 -- as many archives as there were
 pub same_number : (named : List Archive) (archives : List (List ℕ)) → stale_archive named archives ≡ None → (length archives ≡ length named) × (first_changed 0 named archives ≡ None)
-same_number named archives s = go (length archives == length named) refl s
-  where
-    go : (v : Bool) → (length archives == length named) ≡ v → cond v (first_changed 0 named archives) (Some (Prim.Native.Nat.min (length archives) (length named))) ≡ None → (length archives ≡ length named) × (first_changed 0 named archives ≡ None)
-    go true t u = (eqb-true (length archives) (length named) t, u)
-    go false t u = absurd (cc u)
+same_number named archives s = grind (arith, eqb-true)
 
 message_in : (archives : List Archive) (messages : List Record) (n : ℕ) → n < length messages → AllByRecursion (IsMessage archives) messages → IsMessage archives (record_at messages n)
 message_in archives [] n h all = absurd (omega arith)

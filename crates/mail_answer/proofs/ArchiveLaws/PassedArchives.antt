@@ -1,8 +1,5 @@
 -- Laws of archives that are passed one after another.
-use Rattle.std.proofs.Common.{◌≡◌, ◌∙◌, ℕ, zero, suc, ◌+◌, ◌-◌, List, [], ◌∷◌, drop, ap, sym, arith}
-use Rattle.mail_index.specs.Tables.{Archive}
-use Rattle.mail_answer.specs.Inside.PassedArchives.{ArePassed}
-use Rattle.mail_answer.specs.Shapes.{path_at}
+use Rattle.mail_answer.proofs.Words.{◌≡◌, ℕ, zero, suc, ◌+◌, List, [], ◌∷◌, drop, ap, arith, Archive, ArePassed, path_at}
 use Rattle.mail_answer.proofs.ArchiveLaws.StaleLemmas.{next_named}
 
 next_path : (archives : List Archive) (n : ℕ) (a : Archive) (rest : List Archive) → drop n archives ≡ a ∷ rest → path_at archives n ≡ a.path
@@ -14,11 +11,4 @@ next_path (b ∷ archives) (suc n) a rest e = next_path archives n a rest e
 -- one archive more was passed
 pub passed_more : (archives : List Archive) (passed : ℕ) (rest : List Archive) (last : List ℕ) (a : Archive) (behind : List Archive) → ArePassed archives passed rest last → rest ≡ a ∷ behind
     → ArePassed archives (passed + 1) behind a.path
-passed_more archives passed rest last a behind are e =
-    let more : drop passed archives ≡ a ∷ behind = sym are.behind ∙ e in
-    let same : passed ≡ passed + 1 - 1 = omega arith in
-    record {
-      few = are.few;
-      behind = sym (next_named archives passed a behind more).1;
-      path = λ some. sym (next_path archives passed a behind more) ∙ ap (path_at archives) same;
-    }
+passed_more archives passed rest last a behind are e = grind (arith, next_named, next_path)

@@ -1,36 +1,18 @@
 -- Laws of archives with other bytes than those that were indexed.
-use Rattle.std.proofs.Common.{◌≡◌, ℕ, zero, suc, ◌+◌, ◌<◌, ◌≤◌, Bool, true, false, ◌==◌, cond, min, List, [], ◌∷◌, ◌++◌, map, length, length-take, take, take-add, take_all, drop, drop-cons, Option, None, Some, IfSome, bytes_eq, refl, ap, ap₂, sym, ◌∙◌, subst, add-one, Result, Ok, Err, OnOk, inl, inr, arith}
-use Rattle.std.proofs.lemmas.Bool.{eq-eqb, eqb-true}
-use Rattle.std.proofs.lemmas.List.{drop_all, length-map, map-append}
-use Rattle.std.proofs.lemmas.Slice.Eq.{bytes_eq-Decides}
-use Rattle.std.specs.List.{AllByRecursion}
-use Rattle.std.specs.Option.{option_map_or, option_or}
-use Rattle.sha2.specs.Sha256.{sha256}
-use Rattle.mail_index.specs.Tables.{Archive, IsArchive, archive_length}
-use Rattle.mail_index.specs.Versions.{IsDigest}
-use Rattle.mail_answer.specs.Archives.{archive_at}
-use Rattle.mail_answer.specs.Inside.Digests.{has_front_digest, ComparesDigest}
-use Rattle.mail_answer.specs.Pieces.{ReadsFront}
-use Rattle.mail_answer.specs.Stale.{first_changed, stale_archive, TellsStale}
-use Rattle.mail_answer.specs.Verified.{has_digest, first_altered, unverified_archive, AreVerified, TellsFound, ReadEach, AreRead, ReadsUpTo, ReadsOther, FailsWithin, FindsDigests}
-use Rattle.mail_answer.specs.declared.archives.Archives.{Ghosts}
-use Rattle.mail_answer.specs.declared.fault.AnswerFaultKind.{AnswerFaultKind}
-use Rattle.mail_answer.specs.declared.fault.AnswerFaultKind.TheVariants.{Stale, Device, OutOfMemory, OutFailed}
+use Rattle.mail_answer.proofs.Words.{◌≡◌, ℕ, zero, suc, ◌+◌, ◌<◌, ◌≤◌, Bool, true, false, ◌==◌, cond, List, [], ◌∷◌, ◌++◌, map, length, length-take, take, take-add, take_all, drop, drop-cons, Option, None, Some, IfSome, bytes_eq, refl, ap, ap₂, sym, ◌∙◌, subst, add-one, Result, Ok, Err, OnOk, arith, eqb-true, drop_all, length-map, map-append, bytes_eq-Decides, AllByRecursion, option_map_or, option_or, sha256, Archive, IsArchive, archive_length, IsDigest, archive_at, has_front_digest, ComparesDigest, ReadsFront, first_changed, stale_archive, TellsStale, has_digest, first_altered, unverified_archive, AreVerified, TellsFound, ReadEach, AreRead, ReadsUpTo, ReadsOther, FailsWithin, FindsDigests, Ghosts, AnswerFaultKind, Stale, Device, OutOfMemory, OutFailed}
+use Rattle.std.proofs.lemmas.Bool.{eq-eqb}
 use Rattle.mail_answer.proofs.ArchiveLaws.DigestLemmas.{whole_digest}
 use Rattle.mail_answer.proofs.ArchiveLaws.IndexedLemmas.{same_number, unchanged_length}
 
 -- what a test that went well lets follow
 tested : (b : Bool) (next : Option ℕ) (n : ℕ) → cond b next (Some n) ≡ None → (b ≡ true) × (next ≡ None)
-tested true next n h = (refl, h)
-tested false next n h = absurd cc
+tested b next n h = grind arith
 
 neither : (first second : Option ℕ) → option_or first second ≡ None → (first ≡ None) × (second ≡ None)
-neither None second h = (refl, h)
-neither (Some n) second h = absurd cc
+neither first second h = grind arith
 
 digest_told : (digest : Option (List ℕ)) (bytes : List ℕ) → option_map_or (λ d. bytes_eq d (sha256 bytes)) digest false ≡ true → digest ≡ Some (sha256 bytes)
-digest_told None bytes h = absurd cc
-digest_told (Some d) bytes h = ap Some ((bytes_eq-Decides d (sha256 bytes)).0 h)
+digest_told digest bytes h = grind (arith, bytes_eq-Decides)
 
 told_digest : (digest : Option (List ℕ)) (bytes : List ℕ) → digest ≡ Some (sha256 bytes) → option_map_or (λ d. bytes_eq d (sha256 bytes)) digest false ≡ true
 told_digest digest bytes e = ap (λ told. option_map_or (λ d. bytes_eq d (sha256 bytes)) told false) e ∙ (bytes_eq-Decides (sha256 bytes) (sha256 bytes)).1 refl
@@ -72,17 +54,11 @@ from_digests n (a ∷ named) (bytes ∷ archives) h =
 
 -- archives that are verified are those that were indexed
 pub verified_are : (named : List Archive) (archives : List (List ℕ)) → unverified_archive named archives ≡ None → AreVerified named archives
-verified_are named archives h =
-    let both = neither (stale_archive named archives) (first_altered 0 named archives) h in
-    let same = same_number named archives both.0 in
-    record { lengths = lengths_from 0 named archives same.0 same.1; digests = digests_from 0 named archives same.0 both.1 }
+verified_are named archives h = grind (arith, neither, same_number, lengths_from, digests_from)
 
 -- and those that were indexed are verified
 pub are_verified : (named : List Archive) (archives : List (List ℕ)) → AreVerified named archives → unverified_archive named archives ≡ None
-are_verified named archives are =
-    let same : length archives ≡ length named = sym (sym (length-map named (λ (a : Archive). a.length)) ∙ ap length are.lengths ∙ length-map archives length) in
-    let fresh : stale_archive named archives ≡ None = ap (λ b. cond b (first_changed 0 named archives) (Some (min (length archives) (length named)))) (eq-eqb (length archives) (length named) same) ∙ from_lengths 0 named archives are.lengths in
-    ap (λ first. option_or first (first_altered 0 named archives)) fresh ∙ from_digests 0 named archives are.digests
+are_verified named archives are = grind (arith, length-map, eq-eqb, from_lengths, from_digests)
 
 -- verified archives aren't stale
 pub verified_fresh : (named : List Archive) (archives : List (List ℕ)) → unverified_archive named archives ≡ None → stale_archive named archives ≡ None
@@ -110,20 +86,12 @@ named_length (b ∷ named) (suc n) a rest e = named_length named n a rest e
 -- an archive that isn't stale is as long as it was indexed
 fresh_length : (named : List Archive) (archives : List (List ℕ)) (n : ℕ) (a : Archive) (rest : List Archive) → stale_archive named archives ≡ None → n < length named → drop n named ≡ a ∷ rest
     → (length archives ≡ length named) × (length (archive_at archives n) ≡ a.length)
-fresh_length named archives n a rest fresh h e =
-    let same = same_number named archives fresh in
-    (same.0, unchanged_length 0 named archives n same.0 h same.1 ∙ named_length named n a rest e)
+fresh_length named archives n a rest fresh h e = grind (arith, same_number, unchanged_length, named_length)
 
 -- so that its front has the digest that was indexed where its bytes have
 same_of_fresh : (named : List Archive) (archives : List (List ℕ)) (n : ℕ) (a : Archive) (rest : List Archive) (indexed : List ℕ) (same : Bool) → stale_archive named archives ≡ None → n < length named
     → drop n named ≡ a ∷ rest → a.digest ≡ Some indexed → same ≡ has_front_digest a.length indexed (archive_at archives n) → (length archives ≡ length named) × (has_digest a (archive_at archives n) ≡ same)
-same_of_fresh named archives n a rest indexed same fresh h e told is =
-    let bytes : List ℕ = archive_at archives n in
-    let long = fresh_length named archives n a rest fresh h e in (
-      long.0,
-      ap (λ (digest : Option (List ℕ)). option_map_or (λ d. bytes_eq d (sha256 bytes)) digest false) told
-          ∙ sym (is ∙ ap (λ (digest : Option (List ℕ)). option_map_or (λ d. bytes_eq indexed d) digest false) (whole_digest bytes a.length long.1)),
-    )
+same_of_fresh named archives n a rest indexed same fresh h e told is = grind (arith, fresh_length, bytes_eq, whole_digest)
 
 pub passes_on : (named : List Archive) (held : Option (List (List ℕ))) (n : ℕ) (a : Archive) (rest : List Archive) (indexed : List ℕ) (same : Bool) → n < length named → drop n named ≡ a ∷ rest
     → IfSome held (λ archives. stale_archive named archives ≡ None) → UnalteredTo named held n (drop n named) → a.digest ≡ Some indexed
@@ -148,8 +116,7 @@ stops_at named (Some archives) n a rest indexed same h e fresh so_far told read 
 
 pub all_unaltered : (named : List Archive) (held : Option (List (List ℕ))) (n : ℕ) → length named ≤ n → UnalteredTo named held n (drop n named)
     → IfSome held (λ archives. TellsStale {T = Unit {0}} (first_altered 0 named archives) (Ok tt))
-all_unaltered named None n h so_far = tt
-all_unaltered named (Some archives) n h so_far = so_far ∙ ap (λ rest. first_altered n rest (drop n archives)) (drop_all n named h)
+all_unaltered named held n h h2 = grind (arith, drop_all)
 
 -- a device that fails tells nothing
 pub nothing_told : {T : Type 0} (named : List Archive) (held : Option (List (List ℕ))) (r : Result T AnswerFaultKind) (kind : AnswerFaultKind) → r ≡ Err kind → kind ≡ Device
@@ -172,24 +139,16 @@ told_by_digests {T} named (Some archives) (Err OutFailed) fresh h = absurd h
 -- one archive more was read
 more_each : {A : Type 0} (g : Ghosts A) (n : ℕ) (archives : List (List ℕ)) (bytes : List ℕ) (old before new : A) → ReadEach g n archives old before → ReadsFront g (n + length archives) bytes before new
     → ReadEach g n (archives ++ bytes ∷ []) old new
-more_each {A} g n [] bytes old before new e front =
-    let here : n + 0 ≡ n = omega arith in
-    (new, subst (λ (k : ℕ). ReadsFront g k bytes old new) here (subst (λ (b : A). ReadsFront g (n + 0) bytes b new) e front), refl)
+more_each {A} g n [] bytes old before new e front = grind arith
 more_each {A} g n (first ∷ archives) bytes old before new so_far front =
     let behind : n + length (first ∷ archives) ≡ n + 1 + length archives = omega arith in
     (so_far.0, so_far.1, more_each g (n + 1) archives bytes so_far.0 before new so_far.2 (subst (λ (k : ℕ). ReadsFront g k bytes before new) behind front))
 
 none_of : (held : Option (List (List ℕ))) → IfSome held (λ archives. take 0 archives ≡ [])
-none_of None = tt
-none_of (Some archives) = refl
+none_of held = grind arith
 
 pub none_read : {A : Type 0} (g : Ghosts A) (named : List Archive) (a : A) → AreRead g named 0 a a
-none_read g named a = record {
-  archives = [];
-  each = refl;
-  verified = record { lengths = refl; digests = refl };
-  known = none_of (g.held a);
-}
+none_read g named a = grind (arith, none_of)
 
 whole_known : (named : List Archive) (held : Option (List (List ℕ))) (n : ℕ) (a : Archive) (rest : List Archive) (bytes : List ℕ) (archives : List (List ℕ)) → IfSome held (λ archives. stale_archive named archives ≡ None)
     → n < length named → drop n named ≡ a ∷ rest → length bytes ≡ a.length → IfSome held (λ archives. bytes ≡ take (length bytes) (archive_at archives n)) → IfSome held (λ known. take n known ≡ archives)
@@ -228,23 +187,12 @@ all_read {A} g named n old new e so_far = subst (λ (k : ℕ). AreRead g named k
 -- a read that failed
 pub failure_read : {A T : Type 0} (g : Ghosts A) (named : List Archive) (n : ℕ) (a : Archive) (rest : List Archive) (old before new : A) (r : Result T AnswerFaultKind) (kind : AnswerFaultKind) → r ≡ Err kind → kind ≡ Device
     → drop n named ≡ a ∷ rest → AreRead g named n old before → FailsWithin g n a before new → FindsDigests g named old new r
-failure_read {A} {T} g named n a rest old before new r kind e d place so_far fails =
-    subst (λ (s : Result T AnswerFaultKind). FindsDigests g named old new s) (sym (e ∙ ap Err d)) (n, record { here = a; behind = rest; place = place; before = before; read = so_far; last = fails })
+failure_read {A} {T} g named n a rest old before new r kind e d place so_far fails = grind arith
 
 -- another digest, or an early end
 pub other_read : {A : Type 0} (g : Ghosts A) (named : List Archive) (n : ℕ) (a : Archive) (rest : List Archive) (indexed : List ℕ) (old before new : A) → drop n named ≡ a ∷ rest → a.digest ≡ Some indexed
     → AreRead g named n old before → ComparesDigest g n a.length indexed before new false → ReadsUpTo g named n (ReadsOther g n) old new
-other_read {A} g named n a rest indexed old before new place told so_far read = record {
-  here = a;
-  behind = rest;
-  place = place;
-  before = before;
-  read = so_far;
-  last = elim read [
-    | inl ended ↦ inl ended
-    | inr whole ↦ inr (whole.0, whole.1, whole.2, ap (λ (digest : Option (List ℕ)). option_map_or (λ d. bytes_eq d (sha256 whole.0)) digest false) told ∙ whole.3)
-  ];
-}
+other_read {A} g named n a rest indexed old before new place told so_far read = grind (arith, bytes_eq)
 
 -- what was read of all of them
 pub read_of_all : {A T : Type 0} (g : Ghosts A) (named : List Archive) (old new : A) (r : Result T AnswerFaultKind) → FindsDigests g named old new r → OnOk r ((read : List (List ℕ)) × AreVerified named read)
@@ -260,12 +208,8 @@ named_archive version (b ∷ named) zero a rest all e = let first : b ≡ a = cc
 named_archive version (b ∷ named) (suc n) a rest all e = named_archive version named n a rest all.1 e
 
 without_digest : (version : ℕ) (digest : Option (List ℕ)) → IsDigest version digest → digest ≡ None → version ≡ 1
-without_digest version None is e = is
-without_digest version (Some d) is e = absurd (cc e)
+without_digest version digest h h2 = grind arith
 
 pub has_some_digest : (version : ℕ) (named : List Archive) (n : ℕ) (a : Archive) (rest : List Archive) → version ≡ 2 → AllByRecursion (IsArchive version) named → drop n named ≡ a ∷ rest
     → a.digest ≡ None → ⊥
-has_some_digest version named n a rest second all e none =
-    let is : IsArchive version a = named_archive version named n a rest all e in
-    let first : version ≡ 1 = without_digest version a.digest is.2 none in
-    omega (arith, first, second)
+has_some_digest version named n a rest second all e none = grind (arith, named_archive, without_digest)

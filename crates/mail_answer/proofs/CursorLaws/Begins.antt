@@ -1,22 +1,10 @@
 -- What the walks of queries tell, node by node.
-use Rattle.std.proofs.Common.{◌≡◌, ◌∙◌, ◌+◌, ◌*◌, ◌^◌, ◌<◌, ◌≤◌, ℕ, Bool, false, not, ◌&&◌, ◌||◌, List, [], ◌∷◌, ◌++◌, length, append_assoc, refl, sym, ap, subst, arith, inl, inr, Result, Ok, Err, IfOk, Vec, Global, rules, eqb}
-use Rattle.std.specs.Prelude.{Option, nat_le}
-use Rattle.std.proofs.Math.Nat.{add-mul}
-use Rattle.std.proofs.lemmas.Bool.{cases_order, le-leb, eqb-false}
-use Rattle.std.proofs.lemmas.List.{get_or_past, append-nil}
+use Rattle.mail_answer.proofs.Words.{◌≡◌, ◌∙◌, ◌+◌, ◌*◌, ◌^◌, ◌<◌, ◌≤◌, ℕ, Bool, false, not, ◌&&◌, ◌||◌, List, [], ◌∷◌, ◌++◌, length, append_assoc, refl, sym, ap, subst, arith, Result, Ok, Err, IfOk, Vec, Global, rules, eqb, Option, add-mul, cases_order, eqb-false, get_or_past, Table, Node, the_lemmas, Query, Date, Size, Not, All, Either, query_of, queries_of, members_of, is_true, each_is_true, some_is_true, facts_at, truths, chosen_numbers, truth_at, most_left, most_left_of_all, look_ups, look_ups_of_all, LooksUp, Ahead, common, united, others, left_in, some_has, numbers_from}
+use Rattle.std.proofs.lemmas.Bool.{le-leb}
+use Rattle.std.proofs.lemmas.List.{append-nil}
 use Rattle.mail_dates.specs.declared.range.Range.{Range}
-use Rattle.mail_index.specs.Tables.{Table}
 use Rattle.mail_query.specs.declared.node.Node as node
-use Rattle.mail_query.specs.declared.node.Node.{Node, the_lemmas}
-use Rattle.mail_query.specs.Query.{Query, Date, Size, Not, All, Either, query_of, queries_of, members_of}
-use Rattle.mail_query.specs.Truth.{is_true, each_is_true, some_is_true}
-use Rattle.mail_answer.specs.TableFacts.{facts_at, truths, chosen_numbers}
-use Rattle.mail_answer.specs.Marks.{truth_at}
-use Rattle.mail_answer.specs.Cursors.{most_left, most_left_of_all, look_ups, look_ups_of_all, LooksUp}
-use Rattle.mail_answer.specs.CursorAhead.{Ahead, common, united, others, left_in}
-use Rattle.mail_answer.specs.Inside.CursorTexts.{some_has}
 use Rattle.mail_answer.specs.Inside.CursorBegins.{Tells, TellAll}
-use Rattle.mail_answer.specs.CursorNumbers.{numbers_from}
 use Rattle.mail_answer.proofs.CursorLaws.Numbers.{filter_alike}
 use Rattle.mail_answer.proofs.CursorLaws.MemberLemmas.{truths_at, truths_long}
 use Rattle.mail_answer.proofs.CursorLaws.Members.{each_has, united-at, common-at}
@@ -35,61 +23,40 @@ query_of-All members = search (rules, the_lemmas)
 -- ---- leaves
 
 pub tells_scan : (t : Table) (q asked : Query) (xs : List Bool) → q ≡ asked → xs ≡ truths t asked → Tells t q xs
-tells_scan t q asked xs is all = record {
-  each = λ m lt. ap (λ (bs : List Bool). truth_at bs m) all ∙ truths_at t asked m lt ∙ sym (ap (λ (r : Query). is_true r (facts_at t m)) is);
-  past = λ m le. ap (λ (bs : List Bool). truth_at bs m) all ∙ get_or_past (truths t asked) m false (omega (arith, truths_long t asked, le));
-}
+tells_scan t q asked xs is all = grind (arith, truths_at, get_or_past, truths_long)
 
 pub tells_text : {E : Type 0} (t : Table) (q asked : Query) (r : Result Ahead E) → q ≡ asked → ((m : ℕ) → length t.messages ≤ m → is_true asked (facts_at t m) ≡ false)
     → IfOk r (λ w. (m : ℕ) → truth_at w.truths m ≡ is_true asked (facts_at t m)) → IfOk r (λ w. Tells t q w.truths)
-tells_text t q asked (Ok w) is past all = record {
-  each = λ m lt. all m ∙ sym (ap (λ (p : Query). is_true p (facts_at t m)) is);
-  past = λ m le. all m ∙ past m le;
-}
-tells_text t q asked (Err e) is past all = tt
+tells_text t q asked r h h2 h3 = grind arith
 
 -- ---- the cursor of a walk
 
 pub tells_chosen : (t : Table) (q : Query) (count : ℕ) (xs : List Bool) → count ≡ length t.messages → Tells t q xs → numbers_from 0 count xs ≡ chosen_numbers t q
-tells_chosen t q count xs long tells =
-    ap (λ (n : ℕ). numbers_from 0 n xs) long
-    ∙ filter_alike (λ n. nat_le 0 n && truth_at xs n) (λ n. is_true q (facts_at t n)) 0 (length t.messages) (λ m above lt.
-    ap (λ (b : Bool). b && truth_at xs m) (le-leb 0 m (omega arith)) ∙ tells.each m (omega (arith, lt)))
+tells_chosen t q count xs long tells = grind (arith, filter_alike, le-leb)
 
 pub some_walk : (len long : ℕ) → len ≡ long → eqb len 0 ≡ false → 0 < long
-some_walk len long same other = elim (cases_order 0 long) [
-  | inl none ↦ absurd (eqb-false len 0 other (omega (arith, same, none)))
-  | inr (inl less) ↦ less
-  | inr (inr more) ↦ absurd (omega (arith, more))
-]
+some_walk len long same other = grind (arith, cases_order, eqb-false)
 
 pub tells_scanned : {E : Type 0} (t : Table) (q p : Query) (scan : List Bool) (r : Result Ahead E) → q ≡ p → scan ≡ truths t p → IfOk r (λ w. w.truths ≡ scan) → IfOk r (λ w. Tells t q w.truths)
-tells_scanned t q p scan (Ok w) is all given = tells_scan t q p w.truths is (given ∙ all)
-tells_scanned t q p scan (Err e) is all given = tt
+tells_scanned t q p scan r h h2 h3 = grind (arith, tells_scan)
 
 pub scanned_left : {E : Type 0} (t : Table) (q p : Query) (left : ℕ) (r : Result Ahead E) → q ≡ p → left ≡ most_left t p → IfOk r (λ w. w.left ≡ left) → IfOk r (λ w. w.left ≤ most_left t q)
-scanned_left t q p left (Ok w) is most given = subst (λ (x : Query). w.left ≤ most_left t x) (sym is) (omega (arith, given, most))
-scanned_left t q p left (Err e) is most given = tt
+scanned_left t q p left r h h2 h3 = grind arith
 
 -- ---- inner nodes
 
 tells_others : (t : Table) (q : Query) (count : ℕ) (inner xs : List Bool) → count ≡ length t.messages → xs ≡ others count 0 inner → Tells t q inner → Tells t (Not q) xs
-tells_others t q count inner xs long is tells = record {
-  each = λ m lt. ap (λ (bs : List Bool). truth_at bs m) is ∙ others-from count 0 inner m (omega (arith, long, lt)) (omega arith) ∙ ap not (tells.each m lt);
-  past = λ m le. ap (λ (bs : List Bool). truth_at bs m) is ∙ others-past count 0 inner m (omega (arith, long, le));
-}
+tells_others t q count inner xs long is tells = grind (arith, others-from, others-past)
 
 pub tells_not : {E : Type 0} (t : Table) (q p : Query) (count : ℕ) (inner : List Bool) (r : Result Ahead E) → q ≡ Not p → count ≡ length t.messages → Tells t p inner
     → IfOk r (λ w. w.truths ≡ others count 0 inner) → IfOk r (λ w. Tells t q w.truths)
-tells_not t q p count inner (Ok w) is long tells all = subst (λ (x : Query). Tells t x w.truths) (sym is) (tells_others t p count inner w.truths long all tells)
-tells_not t q p count inner (Err e) is long tells all = tt
+tells_not t q p count inner r h h2 h3 h4 = grind (arith, tells_others)
 
 some_told : (t : Table) (qs : List Query) (ws : List Ahead) (m : ℕ) → TellAll t qs ws → m < length t.messages → some_has m ws ≡ some_is_true (members_of qs) (facts_at t m)
 some_told t [] [] m tells lt = refl
 some_told t [] (w ∷ ws) m tells lt = absurd tells
 some_told t (q ∷ qs) [] m tells lt = absurd tells
-some_told t (q ∷ qs) (w ∷ ws) m tells lt =
-    ap (λ (b : Bool). b || some_has m ws) (tells.0.each m lt) ∙ ap (λ (b : Bool). is_true q (facts_at t m) || b) (some_told t qs ws m tells.1 lt)
+some_told t (q ∷ qs) (w ∷ ws) m tells lt = grind (arith, some_told t qs ws m tells.1 lt)
 
 some_past : (t : Table) (qs : List Query) (ws : List Ahead) (m : ℕ) → TellAll t qs ws → length t.messages ≤ m → some_has m ws ≡ false
 some_past t [] [] m tells le = refl
@@ -113,29 +80,19 @@ each_past t (q ∷ qs) [] m some tells le = absurd tells
 each_past t (q ∷ qs) (w ∷ ws) m some tells le = ap (λ (b : Bool). b && each_has m ws) (tells.0.past m le)
 
 tells_united : (t : Table) (qs : List Query) (ws : List Ahead) → TellAll t qs ws → Tells t (Either (members_of qs)) (united ws)
-tells_united t qs ws tells = record {
-  each = λ m lt. united-at m ws ∙ some_told t qs ws m tells lt;
-  past = λ m le. united-at m ws ∙ some_past t qs ws m tells le;
-}
+tells_united t qs ws tells = grind (arith, united-at, some_told, some_past)
 
 pub tells_either : (t : Table) (q : Query) (qs : List Query) (ws : List Ahead) (xs : List Bool) → q ≡ Either (members_of qs) → xs ≡ united ws → TellAll t qs ws → Tells t q xs
-tells_either t q qs ws xs is all tells =
-    subst (λ (x : Query). Tells t x xs) (sym is) (subst (Tells t (Either (members_of qs))) (sym all) (tells_united t qs ws tells))
+tells_either t q qs ws xs is all tells = grind (arith, tells_united)
 
 -- the same where they are joined in groups
 pub tells_grouped : {E : Type 0} (t : Table) (q : Query) (qs : List Query) (ws : List Ahead) (r : Result Ahead E) → q ≡ Either (members_of qs) → TellAll t qs ws
     → IfOk r (λ w. (m : ℕ) → truth_at w.truths m ≡ some_has m ws) → IfOk r (λ w. Tells t q w.truths)
-tells_grouped t q qs ws (Err e) is tells has = tt
-tells_grouped t q qs ws (Ok w) is tells has =
-    subst (λ (x : Query). Tells t x w.truths) (sym is) (record {
-      each = λ m lt. has m ∙ some_told t qs ws m tells lt;
-      past = λ m le. has m ∙ some_past t qs ws m tells le;
-    })
+tells_grouped t q qs ws r h h2 h3 = grind (arith, some_told, some_past)
 
 pub grouped_left : {E : Type 0} (t : Table) (q : Query) (qs : List Query) (ws : List Ahead) (r : Result Ahead E) → q ≡ Either (members_of qs) → left_in ws ≤ most_left_of_all t (members_of qs)
     → IfOk r (λ w. w.left ≡ left_in ws) → IfOk r (λ w. w.left ≤ most_left t q)
-grouped_left t q qs ws (Err e) is most same = tt
-grouped_left t q qs ws (Ok w) is most same = subst (λ (x : Query). w.left ≤ most_left t x) (sym is) (omega (arith, same, most))
+grouped_left t q qs ws r h h2 h3 = grind arith
 
 pub tells_common : (t : Table) (q : Query) (qs : List Query) (ws : List Ahead) (xs : List Bool) → q ≡ All (members_of qs) → 0 < length ws → xs ≡ common ws → TellAll t qs ws → Tells t q xs
 tells_common t q qs ws xs is some all tells = record {
@@ -171,30 +128,15 @@ pub record HaveWalks (t : Table) (all coming : List Query) (ws : List Ahead) (st
 
 module _ (t : Table) (all : List Query) (steps0 : ℕ) where
   pub walks_begin : (ws : List Ahead) → ws ≡ [] → HaveWalks t all all ws steps0 steps0
-  walks_begin ws none =
-      subst (λ (vs : List Ahead). HaveWalks t all all vs steps0 steps0) (sym none)
-      (record { told = λ rest tells. tells; left = omega arith; rises = omega arith; most = λ digits lt. omega arith })
+  walks_begin ws none = grind arith
 
   pub walks_more : (q : Query) (last coming : List Query) (ws vs : List Ahead) (w : Ahead) (steps1 steps2 : ℕ) → HaveWalks t all last ws steps0 steps1 → last ≡ q ∷ coming → vs ≡ ws ++ w ∷ []
       → Tells t q w.truths → w.left ≤ most_left t q → LooksUp (length t.keys) (look_ups q) steps1 steps2 → HaveWalks t all coming vs steps0 steps2
-  walks_more q last coming ws vs w steps1 steps2 given split joined tells left looks =
-      let have : HaveWalks t all (q ∷ coming) ws steps0 steps1 = subst (λ (qs : List Query). HaveWalks t all qs ws steps0 steps1) split given in
-      record {
-        told = λ rest more.
-            subst (TellAll t all) (sym (append_assoc ws (w ∷ []) rest) ∙ sym (ap (λ (us : List Ahead). us ++ rest) joined)) (have.told (w ∷ rest) (tells, more));
-        left = omega (arith, have.left, left, ap left_in joined, left-append ws w);
-        rises = omega (arith, have.rises, looks.rises);
-        most = λ digits lt. omega (arith, have.most digits lt, looks.most digits lt, add-mul (look_ups q) (look_ups_of_all (members_of coming)) digits);
-      }
+  walks_more q last coming ws vs w steps1 steps2 given split joined tells left looks = grind (arith, append_assoc, left-append, add-mul)
 
   pub walks_steps : (q : Query) (last coming : List Query) (ws : List Ahead) (steps1 steps2 : ℕ) → HaveWalks t all last ws steps0 steps1 → last ≡ q ∷ coming
       → LooksUp (length t.keys) (look_ups q) steps1 steps2 → LooksUp (length t.keys) (look_ups_of_all (members_of all)) steps0 steps2
-  walks_steps q last coming ws steps1 steps2 given split looks =
-      let have : HaveWalks t all (q ∷ coming) ws steps0 steps1 = subst (λ (qs : List Query). HaveWalks t all qs ws steps0 steps1) split given in
-      record {
-        rises = omega (arith, have.rises, looks.rises);
-        most = λ digits lt. omega (arith, have.most digits lt, looks.most digits lt, add-mul (look_ups q) (look_ups_of_all (members_of coming)) digits);
-      }
+  walks_steps q last coming ws steps1 steps2 given split looks = grind (arith, add-mul)
 
   pub walks_told : (last : List Query) (ws : List Ahead) (steps1 : ℕ) → HaveWalks t all last ws steps0 steps1 → last ≡ [] → TellAll t all ws
   walks_told last ws steps1 given none =

@@ -1,12 +1,7 @@
 -- A text within another.
-use Rattle.std.proofs.Common.{◌≡◌, ◌∙◌, ◌+◌, ◌<◌, ◌≤◌, ℕ, zero, suc, true, false, List, [], ◌∷◌, length, take, Option, Some, None, sym, ap, arith}
-use Rattle.std.specs.Prelude.{nat_eq, is_some}
-use Rattle.std.specs.List.{starts_with, slice_index}
-use Rattle.std.proofs.lemmas.List.{ext_get_or, length-take-le, length-take, get_or-take}
-use Rattle.std.proofs.lemmas.Bool.{false_from_ne_true, or_left, or_right, or_from}
-use Rattle.std.proofs.lemmas.Slice.Eq.{bytes_eq-Decides}
+use Rattle.mail_answer.proofs.Words.{◌≡◌, ◌∙◌, ◌+◌, ◌<◌, ◌≤◌, ℕ, zero, suc, true, false, List, [], ◌∷◌, length, take, Option, Some, None, sym, ap, arith, nat_eq, is_some, starts_with, slice_index, ext_get_or, get_or-take, false_from_ne_true, or_left, or_right, or_from, bytes_eq-Decides, contains_text}
+use Rattle.std.proofs.lemmas.List.{length-take-le, length-take}
 use Rattle.memchr.specs.Find.{OccursAt, FindsNeedle}
-use Rattle.mail_query.specs.Truth.{contains_text}
 
 begins_from : (hay needle : List ℕ) → OccursAt hay needle 0 → starts_with nat_eq hay needle ≡ true
 begins_from hay needle at =
@@ -19,28 +14,14 @@ begins_from hay needle at =
     sym (get_or-take (length needle) hay i 0 lt ∙ ap (slice_index hay) (sym plain) ∙ here)))
 
 begins_at : (hay needle : List ℕ) → starts_with nat_eq hay needle ≡ true → OccursAt hay needle 0
-begins_at hay needle begins =
-    let same : needle ≡ take (length needle) hay = (bytes_eq-Decides needle (take (length needle) hay)).0 begins in
-    let long : length needle ≡ length (take (length needle) hay) = ap length same in
-    record {
-      fits = omega (arith, long, length-take (length needle) hay);
-      reads = λ j lt.
-          let plain : 0 + j ≡ j = omega arith in
-          ap (slice_index hay) plain ∙ sym (get_or-take (length needle) hay j 0 lt) ∙ sym (ap (λ (xs : List ℕ). slice_index xs j) same);
-    }
+begins_at hay needle begins = grind (arith, bytes_eq-Decides, length-take, get_or-take)
 
 -- one byte on
 later : (b : ℕ) (hay needle : List ℕ) (k : ℕ) → OccursAt hay needle k → OccursAt (b ∷ hay) needle (suc k)
-later b hay needle k at = record {
-  fits = omega (arith, at.fits);
-  reads = λ j lt. let step : suc k + j ≡ suc (k + j) = omega arith in ap (slice_index (b ∷ hay)) step ∙ at.reads j lt;
-}
+later b hay needle k at = grind arith
 
 earlier : (b : ℕ) (hay needle : List ℕ) (k : ℕ) → OccursAt (b ∷ hay) needle (suc k) → OccursAt hay needle k
-earlier b hay needle k at = record {
-  fits = omega (arith, at.fits);
-  reads = λ j lt. let step : suc k + j ≡ suc (k + j) = omega arith in ap (slice_index (b ∷ hay)) (sym step) ∙ at.reads j lt;
-}
+earlier b hay needle k at = grind arith
 
 contained : (text hay : List ℕ) (k : ℕ) → OccursAt hay text k → contains_text text hay ≡ true
 contained text [] zero at = begins_from [] text at

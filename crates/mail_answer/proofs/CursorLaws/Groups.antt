@@ -1,19 +1,11 @@
 -- Walks made one, group by group.
-use Rattle.std.proofs.Common.{◌≡◌, ◌∙◌, ◌+◌, ◌-◌, ◌*◌, ◌<◌, ◌≤◌, ℕ, Bool, true, false, ◌||◌, List, [], ◌∷◌, ◌++◌, length, take, drop, refl, sym, ap, arith, length-append, Result, Ok, Err, IfOk}
-use Rattle.std.proofs.lemmas.List.{take-append-drop, length-take-le}
-use Rattle.std.proofs.Math.Bool.{or_assoc}
-use Rattle.mail_answer.specs.Marks.{truth_at}
-use Rattle.mail_answer.specs.CursorAhead.{Ahead, united, left_in}
-use Rattle.mail_answer.specs.Inside.CursorTexts.{some_has}
+use Rattle.mail_answer.proofs.Words.{◌≡◌, ◌∙◌, ◌+◌, ◌-◌, ◌*◌, ◌<◌, ◌≤◌, ℕ, Bool, ◌||◌, List, [], ◌∷◌, ◌++◌, length, take, drop, refl, sym, ap, arith, length-append, Result, IfOk, take-append-drop, or_assoc, truth_at, Ahead, united, left_in, some_has}
+use Rattle.std.proofs.lemmas.List.{length-take-le}
 use Rattle.mail_answer.proofs.CursorLaws.Members.{united-at, some-append}
 use Rattle.mail_answer.proofs.CursorLaws.Texts.{left-append}
 
 or_swap : (a b c : Bool) → ((a || c) || b) ≡ (a || (b || c))
-or_swap true b c = refl
-or_swap false true true = refl
-or_swap false true false = refl
-or_swap false false true = refl
-or_swap false false false = refl
+or_swap a b c = grind arith
 
 some-joined : (m : ℕ) (xs ys : List Ahead) → some_has m (xs ++ ys) ≡ (some_has m xs || some_has m ys)
 some-joined m [] ys = refl
@@ -50,5 +42,4 @@ grouped_more all groups walks at w is some told left have =
 
 pub if_told : {E : Type 0} (r : Result Ahead E) (ws : List Ahead) (test : ℕ → Bool) → ((m : ℕ) → some_has m ws ≡ test m) → IfOk r (λ w. (m : ℕ) → truth_at w.truths m ≡ some_has m ws)
     → IfOk r (λ w. (m : ℕ) → truth_at w.truths m ≡ test m)
-if_told (Ok w) ws test same told = λ m. told m ∙ same m
-if_told (Err e) ws test same told = tt
+if_told r ws test h h2 = grind arith

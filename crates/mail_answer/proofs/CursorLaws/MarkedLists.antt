@@ -1,20 +1,11 @@
 -- Lists whose messages are marked, window by window.
-use Rattle.std.proofs.Common.{◌≡◌, ◌∙◌, ◌+◌, ◌-◌, ◌^◌, ◌<◌, ◌≤◌, ℕ, zero, suc, Bool, true, false, ◌&&◌, ◌||◌, max, List, [], ◌∷◌, ◌++◌, length, take, replicate, get_or, Option, Some, None, Result, Ok, Err, IfOk, refl, sym, ap, subst, arith, inl, inr}
-use Rattle.std.specs.Prelude.{nat_le}
-use Rattle.std.specs.List.{list_any, sum_by, swap_remove}
-use Rattle.std.proofs.Math.ListN.{set}
-use Rattle.std.proofs.lemmas.List.{length-set, length-replicate, get_or-set_same, get_or-replicate, get_or_past, get_or_append_left, get_or-append-add, take-set, take-take, take_all, take_more_set}
+use Rattle.mail_answer.proofs.Words.{◌≡◌, ◌∙◌, ◌+◌, ◌-◌, ◌^◌, ◌<◌, ◌≤◌, ℕ, zero, suc, Bool, true, false, ◌||◌, max, List, [], ◌∷◌, ◌++◌, length, take, replicate, get_or, Option, Some, None, Result, IfOk, refl, sym, ap, subst, arith, inl, inr, list_any, sum_by, swap_remove, set, length-set, length-replicate, get_or-set_same, get_or-replicate, get_or_past, get_or_append_left, get_or-append-add, take-set, take-take, take_more_set, cases_lt, both_ways, or_left, or_right, or_from, lt-leb, or_assoc, or_comm, add_steps, truth_at, Adds, Ahead, Counts, Drops, IsFirst, left_in, united, lesser_of, AreFew, HaveMarks, IsFirstMark, marked_or_listed, those_from, truths_marked, some_has}
+use Rattle.std.proofs.lemmas.List.{take_all}
 use Rattle.std.proofs.lemmas.List.Sorted.{IsPermutation-swap_remove, list_any-IsPermutation}
 use Rattle.std.proofs.lemmas.List.Sums.{sum_by-swap_remove, sum_by-cons}
-use Rattle.std.proofs.lemmas.Bool.{cases_lt, both_ways, or_left, or_right, or_from, lt-leb, le-leb}
-use Rattle.std.proofs.Math.Bool.{or_assoc, or_comm}
-use Rattle.mail_index.specs.Steps.{add_steps}
-use Rattle.mail_answer.specs.Marks.{truth_at, Adds}
+use Rattle.std.proofs.lemmas.Bool.{le-leb}
 use Rattle.mail_answer.specs.declared.cursor.head.Head.{Head}
 use Rattle.mail_answer.specs.declared.cursor.head.Head.TheVariants.{Unasked, Asked}
-use Rattle.mail_answer.specs.CursorAhead.{Ahead, Counts, Drops, IsFirst, left_in, united, lesser_of}
-use Rattle.mail_answer.specs.Inside.CursorMarks.{AreFew, HaveMarks, IsFirstMark, marked_or_listed, those_from, truths_marked}
-use Rattle.mail_answer.specs.Inside.CursorTexts.{some_has}
 use Rattle.mail_answer.proofs.CursorLaws.AloneLists.{swap_last}
 use Rattle.mail_answer.proofs.CursorLaws.Members.{Firsts, some-append, united-at, left-set, firsts_same, firsts_lesser}
 use Rattle.mail_answer.proofs.CursorLaws.TruthReads.{each-at, each-past, one_or_other-at}
@@ -27,8 +18,7 @@ or_with_false false b lacks = lacks
 
 -- what isn't true is false
 lacks : (b : Bool) → (b ≡ true → ⊥) → b ≡ false
-lacks true never = absurd (never refl)
-lacks false never = refl
+lacks b h = grind arith
 
 -- ---- one list of many changes, or is taken out
 
@@ -40,13 +30,8 @@ some-set_same m (x ∷ ws) (suc i) w v lt is same = ap (λ (b : Bool). truth_at 
 -- one that has the message no more
 some-set_gone : (m : ℕ) (ws : List Ahead) (i : ℕ) (w v : Ahead) → i < length ws → w ≡ get_or ws i w → truth_at v.truths m ≡ false → (some_has m (set ws i v) || truth_at w.truths m) ≡ some_has m ws
 some-set_gone m [] i w v lt is gone = absurd (omega (arith, lt))
-some-set_gone m (x ∷ ws) zero w v lt is gone =
-    ap (λ (b : Bool). (b || some_has m ws) || truth_at w.truths m) gone
-    ∙ ap (λ (a : Ahead). some_has m ws || truth_at a.truths m) is
-    ∙ or_comm (some_has m ws) (truth_at x.truths m)
-some-set_gone m (x ∷ ws) (suc i) w v lt is gone =
-    or_assoc (truth_at x.truths m) (some_has m (set ws i v)) (truth_at w.truths m)
-    ∙ ap (λ (b : Bool). truth_at x.truths m || b) (some-set_gone m ws i w v (omega (arith, lt)) is gone)
+some-set_gone m (x ∷ ws) zero w v lt is gone = grind (arith, or_comm)
+some-set_gone m (x ∷ ws) (suc i) w v lt is gone = grind (arith, or_assoc, set, some-set_gone m ws i w v (omega (arith, lt)) is gone)
 
 some-any : (m : ℕ) (ws : List Ahead) → some_has m ws ≡ list_any (λ (w : Ahead). truth_at w.truths m) ws
 some-any m [] = refl
@@ -65,14 +50,10 @@ left-sum [] = refl
 left-sum (w ∷ ws) = omega (arith, left-sum ws, sum_by-cons (λ (a : Ahead). a.left) w ws)
 
 left-removed : (ws : List Ahead) (i : ℕ) (v : Ahead) → i < length ws → v ≡ get_or ws i v → v.left ≡ 0 → left_in (swap_remove ws i v) ≡ left_in ws
-left-removed ws i v lt is none =
-    let here : (get_or ws i v).left ≡ 0 = sym (ap (λ (a : Ahead). a.left) is) ∙ none in
-    omega (arith, left-sum ws, left-sum (swap_remove ws i v), sum_by-swap_remove (λ (a : Ahead). a.left) ws i v lt, here)
+left-removed ws i v lt is none = grind (arith, left-sum, sum_by-swap_remove)
 
 front-removed : (ws : List Ahead) (i : ℕ) (v : Ahead) → i < length ws → take i (swap_remove ws i v) ≡ take i ws
-front-removed ws i v lt =
-    let last : Ahead = get_or ws (length ws - 1) v in
-    take-take i (length ws - 1) (set ws i last) (omega (arith, lt)) ∙ take-set ws i last
+front-removed ws i v lt = grind (arith, take-take, set, take-set)
 
 -- ---- steps
 
@@ -80,20 +61,11 @@ add_more : (steps a b : ℕ) → add_steps (add_steps steps a) b ≡ add_steps s
 add_more steps a b = omega arith
 
 pub counts_more : (left0 left left1 steps0 steps steps1 : ℕ) → Counts left0 left steps0 steps → Counts left left1 steps steps1 → Counts left0 left1 steps0 steps1
-counts_more left0 left left1 steps0 steps steps1 earlier here =
-    let both : (left0 - left) + (left - left1) ≡ left0 - left1 = omega (arith, earlier.fewer, here.fewer) in
-    record {
-      fewer = omega (arith, earlier.fewer, here.fewer);
-      counted = here.counted ∙ ap (λ (n : ℕ). add_steps n (left - left1)) earlier.counted ∙ add_more steps0 (left0 - left) (left - left1) ∙ ap (add_steps steps0) both;
-    }
+counts_more left0 left left1 steps0 steps steps1 earlier here = grind (arith, add_more)
 
 pub turn_counts : (ws : List Ahead) (i left0 steps0 steps steps1 : ℕ) (w v : Ahead) → i < length ws → w ≡ get_or ws i w
     → Counts left0 (left_in ws) steps0 steps → Counts w.left v.left steps steps1 → Counts left0 (left_in (set ws i v)) steps0 steps1
-turn_counts ws i left0 steps0 steps steps1 w v lt is earlier here =
-    counts_more left0 (left_in ws) (left_in (set ws i v)) steps0 steps steps1 earlier
-    (let both : left_in (set ws i v) + w.left ≡ left_in ws + v.left = left-set ws i w v lt is in
-    let fall : w.left - v.left ≡ left_in ws - left_in (set ws i v) = omega (arith, both, here.fewer) in
-    record { fewer = omega (arith, both, here.fewer); counted = here.counted ∙ ap (add_steps steps) fall })
+turn_counts ws i left0 steps0 steps steps1 w v lt is earlier here = grind (arith, counts_more, set, left-set)
 
 -- ---- the messages of one list
 
@@ -112,10 +84,7 @@ room_behind (Some n) = 2 ^ 32 - n
 
 -- what dropping leaves came before
 kept : (n : ℕ) (xs ys : List Bool) → Drops n xs ys → (m : ℕ) → truth_at ys m ≡ true → truth_at xs m ≡ true
-kept n xs ys drops m here = elim (cases_lt m n) [
-  | inl lt ↦ absurd (both_ways (truth_at ys m) (drops.below m lt) here)
-  | inr le ↦ sym (drops.rest m le) ∙ here
-]
+kept n xs ys drops m here = grind (arith, cases_lt, both_ways)
 
 module _ (start : ℕ) (list marks rest now : List Bool) (has : HasMarked start list marks rest now) where
   ended : ((m : ℕ) → m < start + length marks → truth_at rest m ≡ false) → Adds (λ k. truth_at list (start + k)) marks now
@@ -132,10 +101,7 @@ module _ (start : ℕ) (list marks rest now : List Bool) (has : HasMarked start 
 
   module _ (number : ℕ) (first : IsFirst rest (Some number)) where
     pub from_start : start ≤ number
-    from_start = elim (cases_lt number start) [
-      | inl lt ↦ absurd (both_ways (truth_at rest number) (has.before number lt) first.0)
-      | inr le ↦ le
-    ]
+    from_start = grind (arith, cases_lt, both_ways)
 
 -- ---- the messages of all lists
 
@@ -238,10 +204,7 @@ module _ (start : ℕ) (lists : List Ahead) (marks : List Bool) (place : ℕ) (w
   none_before m lt = whole m ∙ have.gone m lt
 
   pub all_drops : Drops (start + length marks) (united lists) (united ws)
-  all_drops = record {
-    rest = λ m le. united-at m ws ∙ have.behind m le ∙ sym (united-at m lists);
-    below = λ m lt. united-at m ws ∙ none_before m lt;
-  }
+  all_drops = grind (arith, united-at, none_before)
 
   pub all_first : IsFirst (united ws) least
   all_first = firsts_same (λ m. some_has m (take place ws)) (truth_at (united ws)) least (λ m. united-at m ws ∙ whole m) have.first
@@ -258,31 +221,20 @@ module _ (start : ℕ) (lists : List Ahead) (marks : List Bool) (place : ℕ) (w
 -- ---- marks in their window
 
 padded-before : (start : ℕ) (marks : List Bool) (m : ℕ) → m < start → truth_at (replicate start false ++ marks) m ≡ false
-padded-before start marks m lt =
-    get_or_append_left (replicate start false) marks false m (omega (arith, lt, length-replicate start false)) ∙ get_or-replicate start m false false lt
+padded-before start marks m lt = grind (arith, get_or_append_left, length-replicate, get_or-replicate)
 
 padded-at : (start : ℕ) (marks : List Bool) (k : ℕ) → truth_at (replicate start false ++ marks) (start + k) ≡ truth_at marks k
-padded-at start marks k =
-    ap (λ (n : ℕ). truth_at (replicate start false ++ marks) (n + k)) (sym (length-replicate start false)) ∙ get_or-append-add (replicate start false) marks k false
+padded-at start marks k = grind (arith, length-replicate, get_or-append-add)
 
 padded-from : (start : ℕ) (marks : List Bool) (m : ℕ) → start ≤ m → truth_at (replicate start false ++ marks) m ≡ truth_at marks (m - start)
-padded-from start marks m le =
-    let at : m ≡ start + (m - start) = omega (arith, le) in
-    ap (truth_at (replicate start false ++ marks)) at ∙ padded-at start marks (m - start)
+padded-from start marks m le = grind (arith, padded-at)
 
 both-at : (start : ℕ) (marks : List Bool) (lists : List Ahead) (m : ℕ) → truth_at (marked_or_listed start marks lists) m ≡ (truth_at (replicate start false ++ marks) m || some_has m lists)
-both-at start marks lists m =
-    one_or_other-at (replicate start false ++ marks) (united lists) m ∙ ap (λ (b : Bool). truth_at (replicate start false ++ marks) m || b) (united-at m lists)
+both-at start marks lists m = grind (arith, one_or_other-at, united-at)
 
 -- where the marks from a number on are false, those of the lists are left
 unmarked-at : (start low : ℕ) (marks : List Bool) (lists : List Ahead) → ((k : ℕ) → low ≤ start + k → truth_at marks k ≡ false) → (m : ℕ) → low ≤ m → truth_at (marked_or_listed start marks lists) m ≡ truth_at (united lists) m
-unmarked-at start low marks lists none m le =
-    both-at start marks lists m
-    ∙ ap (λ (b : Bool). b || some_has m lists) (elim (cases_lt m start) [
-      | inl lt ↦ padded-before start marks m lt
-      | inr from ↦ padded-from start marks m from ∙ none (m - start) (omega (arith, le, from))
-    ])
-    ∙ sym (united-at m lists)
+unmarked-at start low marks lists none m le = grind (arith, both-at, cases_lt, padded-before, padded-from, united-at)
 
 -- ---- a window begins anew
 
@@ -313,19 +265,10 @@ module _ (n start : ℕ) (cleared : List Bool) (lists cut : List Ahead) (few : A
   same_as_cut m = unmarked-at start 0 cleared cut (λ k le. unmarked k) m (omega arith)
 
   pub none_marks : (number : Option ℕ) → IsFirst (united cut) number → HaveMarks start cleared cut (Asked number)
-  none_marks number first = record {
-    window = long;
-    listed = few_cut;
-    next = first;
-    marked = λ k here. absurd (both_ways (truth_at cleared k) (unmarked k) here);
-    before = λ k m here there. absurd (both_ways (truth_at cleared k) (unmarked k) here);
-  }
+  none_marks number first = grind (arith, long, few_cut, both_ways, unmarked)
 
   pub none_drops : Drops n (united lists) (marked_or_listed start cleared cut)
-  none_drops = record {
-    rest = λ m le. same_as_cut m ∙ drops.rest m le;
-    below = λ m lt. same_as_cut m ∙ drops.below m lt;
-  }
+  none_drops = grind (arith, same_as_cut)
 
   pub none_first : (number : Option ℕ) → IsFirst (united cut) number → IsFirst (marked_or_listed start cleared cut) number
   none_first number none = firsts_same (truth_at (united cut)) (truth_at (marked_or_listed start cleared cut)) number same_as_cut none
@@ -338,29 +281,10 @@ module _ (n start : ℕ) (cleared : List Bool) (lists cut : List Ahead) (few : A
     left-in m lt = sym (united-at m left) ∙ taken.below m lt
 
     same_as_moved : (m : ℕ) → truth_at (marked_or_listed first now left) m ≡ truth_at (united cut) m
-    same_as_moved m = both-at first now left m ∙ elim (cases_lt m first) [
-      | inl under ↦
-          ap (λ (b : Bool). b || some_has m left) (padded-before first now m under)
-          ∙ left-in m (omega (arith, under))
-          ∙ sym (is.1 m under)
-      | inr from ↦ ap (λ (b : Bool). b || some_has m left) (padded-from first now m from) ∙ elim (cases_lt m (first + length cleared)) [
-        | inl inside ↦
-            let at : first + (m - first) ≡ m = omega (arith, from) in
-            or_with_false (truth_at now (m - first)) (some_has m left) (left-in m inside)
-            ∙ marked-as (m - first) (omega (arith, inside, from))
-            ∙ ap (truth_at (united cut)) at
-        | inr past ↦
-            ap (λ (b : Bool). b || some_has m left) (get_or_past now (m - first) false (omega (arith, past, adds.long)))
-            ∙ sym (united-at m left)
-            ∙ taken.rest m past
-      ]
-    ]
+    same_as_moved m = grind (arith, both-at, cases_lt, padded-before, left-in, padded-from, or_with_false, marked-as, get_or_past, united-at)
 
     inside_marks : (k : ℕ) → truth_at now k ≡ true → k < length cleared
-    inside_marks k here = elim (cases_lt k (length cleared)) [
-      | inl lt ↦ lt
-      | inr past ↦ absurd (both_ways (truth_at now k) (get_or_past now k false (omega (arith, past, adds.long))) here)
-    ]
+    inside_marks k here = grind (arith, cases_lt, both_ways, get_or_past)
 
     pub begun_marks : (number : Option ℕ) → IsFirst (united left) number → HaveMarks first now left (Asked number)
     begun_marks number next = record {
@@ -379,10 +303,7 @@ module _ (n start : ℕ) (cleared : List Bool) (lists cut : List Ahead) (few : A
     }
 
     pub begun_drops : Drops n (united lists) (marked_or_listed first now left)
-    begun_drops = record {
-      rest = λ m le. same_as_moved m ∙ drops.rest m le;
-      below = λ m lt. same_as_moved m ∙ drops.below m lt;
-    }
+    begun_drops = grind (arith, same_as_moved)
 
     pub begun_first : IsFirst (marked_or_listed first now left) (Some first)
     begun_first = firsts_same (truth_at (united cut)) (truth_at (marked_or_listed first now left)) (Some first) same_as_moved is
@@ -390,65 +311,28 @@ module _ (n start : ℕ) (cleared : List Bool) (lists cut : List Ahead) (few : A
 -- ---- those from a number on
 
 those-from : (low : ℕ) (xs : List Bool) (m : ℕ) → low ≤ m → truth_at (those_from low xs) m ≡ truth_at xs m
-those-from low xs m le = elim (cases_lt m (length xs)) [
-  | inl lt ↦ each-at (length xs) (λ n. nat_le low n && truth_at xs n) m lt ∙ ap (λ (b : Bool). b && truth_at xs m) (le-leb low m le)
-  | inr past ↦ each-past (length xs) (λ n. nat_le low n && truth_at xs n) m past ∙ sym (get_or_past xs m false past)
-]
+those-from low xs m le = grind (arith, cases_lt, each-at, le-leb, each-past, get_or_past)
 
 those-before : (low : ℕ) (xs : List Bool) (m : ℕ) → m < low → truth_at (those_from low xs) m ≡ false
-those-before low xs m before = elim (cases_lt m (length xs)) [
-  | inl lt ↦ each-at (length xs) (λ n. nat_le low n && truth_at xs n) m lt ∙ ap (λ (b : Bool). b && truth_at xs m) (lt-leb low m before)
-  | inr past ↦ each-past (length xs) (λ n. nat_le low n && truth_at xs n) m past
-]
+those-before low xs m before = grind (arith, cases_lt, each-at, lt-leb, each-past)
 
 -- of which those below n are dropped
 drops_from : (n low low' : ℕ) (xs ys : List Bool) → low' ≡ max n low → ((m : ℕ) → low' ≤ m → truth_at ys m ≡ truth_at xs m) → Drops n (those_from low xs) (those_from low' ys)
-drops_from n low low' xs ys is same = record {
-  rest = λ m le. elim (cases_lt m low) [
-    | inl before ↦ those-before low' ys m (omega (arith, is, before)) ∙ sym (those-before low xs m before)
-    | inr from ↦ those-from low' ys m (omega (arith, is, le, from)) ∙ same m (omega (arith, is, le, from)) ∙ sym (those-from low xs m from)
-  ];
-  below = λ m lt. those-before low' ys m (omega (arith, is, lt));
-}
+drops_from n low low' xs ys is same = grind (arith, cases_lt, those-before, those-from)
 
 module _ (n low low' start : ℕ) (marks : List Bool) (lists : List Ahead) (ahead : Head) (have : HaveMarks start marks lists ahead) (is : low' ≡ max n low) where
   pub found_drops : Drops n (truths_marked low start marks lists) (truths_marked low' start marks lists)
   found_drops = drops_from n low low' (marked_or_listed start marks lists) (marked_or_listed start marks lists) is (λ m le. refl)
 
   pub found_first : (number : ℕ) → IsFirstMark start low' marks (Some number) → IsFirst (truths_marked low' start marks lists) (Some number)
-  found_first number found =
-      let xs : List Bool = marked_or_listed start marks lists in
-      let k : ℕ = found.1.0 in
-      let at : number ≡ start + k = found.1.1 in (
-        those-from low' xs number found.0
-            ∙ both-at start marks lists number
-            ∙ or_left (truth_at (replicate start false ++ marks) number) (some_has number lists) (ap (truth_at (replicate start false ++ marks)) at ∙ padded-at start marks k ∙ found.1.2),
-        λ m lt. elim (cases_lt m low') [
-          | inl before ↦ those-before low' xs m before
-          | inr from ↦
-              those-from low' xs m from
-              ∙ both-at start marks lists m
-              ∙ or_from (truth_at (replicate start false ++ marks) m) (some_has m lists) (elim (cases_lt m start) [
-                | inl under ↦ padded-before start marks m under
-                | inr over ↦ padded-from start marks m over ∙ found.1.3 (m - start) (omega (arith, over, from)) (omega (arith, over, lt, at))
-              ]) (lacks (some_has m lists) (λ here. let later : start + k < m = have.before k m found.1.2 here in omega (arith, later, lt, at)))
-        ],
-      )
+  found_first number found = grind (arith, those-from, both-at, or_left, padded-at, cases_lt, those-before, or_from, padded-before, padded-from, lacks)
 
   module _ (start' : ℕ) (now : List Bool) (left : List Ahead) (none : IsFirstMark start low' marks None) (drops : Drops low' (united lists) (marked_or_listed start' now left)) where
     pub windowed_drops : Drops n (truths_marked low start marks lists) (truths_marked low' start' now left)
-    windowed_drops =
-        drops_from n low low' (marked_or_listed start marks lists) (marked_or_listed start' now left) is
-        (λ m le. drops.rest m le ∙ sym (unmarked-at start low' marks lists none m le))
+    windowed_drops = grind (arith, drops_from, unmarked-at)
 
     pub windowed_first : (number : Option ℕ) → IsFirst (marked_or_listed start' now left) number → IsFirst (truths_marked low' start' now left) number
-    windowed_first number first =
-        let ys : List Bool = marked_or_listed start' now left in
-        firsts_same (truth_at ys) (truth_at (those_from low' ys)) number
-        (λ m. elim (cases_lt m low') [
-          | inl before ↦ those-before low' ys m before ∙ sym (drops.below m before)
-          | inr from ↦ those-from low' ys m from
-        ]) first
+    windowed_first number first = grind (arith, firsts_same, cases_lt, those-before, those-from)
 
 -- ---- a walk begins
 
@@ -459,14 +343,7 @@ begins_marked lists marks none m =
     ∙ united-at m lists
 
 pub begins_window : (lists : List Ahead) (marks : List Bool) → marks ≡ replicate 4096 false → AreFew lists → HaveMarks 0 marks lists Unasked
-begins_window lists marks none few = record {
-  window = ap length none ∙ length-replicate 4096 false;
-  listed = few;
-  next = tt;
-  marked = λ k here. absurd (both_ways (truth_at marks k) (none_at marks none k) here);
-  before = λ k m here there. absurd (both_ways (truth_at marks k) (none_at marks none k) here);
-}
+begins_window lists marks none few = grind (arith, length-replicate, both_ways, none_at)
 
 pub if_marked : {E : Type 0} (r : Result Ahead E) (xs : List Bool) (ws : List Ahead) → ((m : ℕ) → truth_at xs m ≡ some_has m ws) → IfOk r (λ w. w.truths ≡ xs) → IfOk r (λ w. (m : ℕ) → truth_at w.truths m ≡ some_has m ws)
-if_marked (Ok w) xs ws told is = λ m. ap (λ (ys : List Bool). truth_at ys m) is ∙ told m
-if_marked (Err e) xs ws told is = tt
+if_marked r xs ws h h2 = grind arith

@@ -1,14 +1,5 @@
 -- Truths of each and of some member of a query.
-use Rattle.std.proofs.Common.{◌≡◌, ◌∙◌, ◌+◌, ◌<◌, ◌≤◌, ℕ, zero, suc, Bool, false, cond, List, [], ◌∷◌, length, drop, get_or, refl, sym, ap, arith}
-use Rattle.std.specs.List.{filter, range_with_len}
-use Rattle.std.proofs.lemmas.List.{drop_more, drop_all}
-use Rattle.std.proofs.lemmas.List.FromFn.{length-map-range_with_len, get_or-map-range_with_len}
-use Rattle.mail_index.specs.Tables.{Table}
-use Rattle.mail_query.specs.declared.node.Node.{Node}
-use Rattle.mail_query.specs.Query.{Query, query_of, queries_of}
-use Rattle.mail_query.specs.Truth.{is_true}
-use Rattle.mail_answer.specs.TableFacts.{facts_at, truths}
-use Rattle.mail_answer.specs.Marks.{truth_at}
+use Rattle.mail_answer.proofs.Words.{◌≡◌, ◌∙◌, ◌+◌, ◌<◌, ◌≤◌, ℕ, zero, suc, Bool, false, cond, List, [], ◌∷◌, length, drop, get_or, refl, sym, ap, arith, filter, range_with_len, drop_more, drop_all, length-map-range_with_len, get_or-map-range_with_len, Table, Node, Query, query_of, queries_of, is_true, facts_at, truths, truth_at}
 
 -- what the list of truths says at a number
 pub truths_at : (t : Table) (q : Query) (n : ℕ) → n < length t.messages → truth_at (truths t q) n ≡ is_true q (facts_at t n)

@@ -1,14 +1,6 @@
 -- What the members of a node have done, member by member.
-use Rattle.std.proofs.Common.{◌≡◌, ◌≢◌, ◌∙◌, ◌+◌, ◌-◌, ◌<◌, ◌≤◌, ℕ, zero, suc, Bool, true, false, ◌&&◌, ◌||◌, max, List, [], ◌∷◌, ◌++◌, length, take, get_or, Option, Some, None, refl, sym, ap, subst, arith, inl, inr}
-use Rattle.std.specs.Prelude.{MatchOption, min}
-use Rattle.std.proofs.Math.ListN.{set}
-use Rattle.std.proofs.lemmas.Bool.{cases_lt, or_left, or_right, or_from, and_left, and_right, and_from}
-use Rattle.std.proofs.lemmas.List.{take_all, take_more, take_more_set, length-set, get_or-set_same, get_or-set_other}
-use Rattle.std.proofs.Math.Bool.{and-true, and_assoc, or-false, or_assoc}
-use Rattle.mail_index.specs.Steps.{add_steps}
-use Rattle.mail_answer.specs.Marks.{truth_at}
-use Rattle.mail_answer.specs.CursorAhead.{Ahead, common, united, left_in, postings_in, levels, CountsPostings, Drops, IsFirst, Reaches, Spends, lesser_of}
-use Rattle.mail_answer.specs.Inside.CursorTexts.{some_has}
+use Rattle.mail_answer.proofs.Words.{◌≡◌, ◌∙◌, ◌+◌, ◌<◌, ◌≤◌, ℕ, zero, suc, Bool, true, false, ◌&&◌, ◌||◌, max, List, [], ◌∷◌, ◌++◌, length, take, get_or, Option, Some, None, refl, sym, ap, arith, inl, inr, MatchOption, set, cases_lt, or_left, or_right, or_from, and_left, and_right, and_from, take_more, take_more_set, length-set, get_or-set_same, get_or-set_other, and-true, and_assoc, or-false, or_assoc, truth_at, Ahead, common, united, left_in, postings_in, levels, CountsPostings, Drops, IsFirst, Reaches, Spends, lesser_of, some_has}
+use Rattle.std.proofs.lemmas.List.{take_all}
 use Rattle.mail_answer.proofs.CursorLaws.TruthReads.{both-at, one_or_other-at}
 use Rattle.mail_answer.proofs.CursorLaws.Turns.{first_from}
 
@@ -31,10 +23,7 @@ below-levels (x ∷ ws) (suc i) w lt is = omega (arith, below-levels ws i w (ome
 
 pub turn_steps : (ws : List Ahead) (i left0 steps0 steps steps1 : ℕ) (w v : Ahead) → i < length ws → w ≡ get_or ws i w
     → Spends left0 (left_in ws) steps0 steps → Spends w.left v.left steps steps1 → Spends left0 (left_in (set ws i v)) steps0 steps1
-turn_steps ws i left0 steps0 steps steps1 w v lt is before now = record {
-  rises = omega (arith, before.rises, now.rises);
-  most = omega (arith, before.most, now.most, left-set ws i w v lt is);
-}
+turn_steps ws i left0 steps0 steps steps1 w v lt is before now = grind (arith, left-set)
 
 postings-set : (ws : List Ahead) (i : ℕ) (w v : Ahead) → i < length ws → w ≡ get_or ws i w → postings_in (set ws i v) + w.postings ≡ postings_in ws + v.postings
 postings-set [] i w v lt is = absurd (omega (arith, lt))
@@ -46,18 +35,11 @@ none_counted postings steps = record { fewer = omega arith; counted = omega arit
 
 pub more_counted : (postings0 postings postings1 steps0 steps steps1 : ℕ) → CountsPostings postings0 postings steps0 steps → CountsPostings postings postings1 steps steps1
     → CountsPostings postings0 postings1 steps0 steps1
-more_counted postings0 postings postings1 steps0 steps steps1 before now = record {
-  fewer = omega (arith, before.fewer, now.fewer);
-  counted = omega (arith, before.fewer, before.counted, now.fewer, now.counted);
-}
+more_counted postings0 postings postings1 steps0 steps steps1 before now = grind arith
 
 pub turn_postings : (ws : List Ahead) (i postings0 steps0 steps steps1 : ℕ) (w v : Ahead) → i < length ws → w ≡ get_or ws i w
     → CountsPostings postings0 (postings_in ws) steps0 steps → CountsPostings w.postings v.postings steps steps1 → CountsPostings postings0 (postings_in (set ws i v)) steps0 steps1
-turn_postings ws i postings0 steps0 steps steps1 w v lt is before now =
-    let both : postings_in (set ws i v) + w.postings ≡ postings_in ws + v.postings = postings-set ws i w v lt is in
-    let fall : w.postings - v.postings ≡ postings_in ws - postings_in (set ws i v) = omega (arith, both, now.fewer) in
-    more_counted postings0 (postings_in ws) (postings_in (set ws i v)) steps0 steps steps1 before
-    (record { fewer = omega (arith, both, now.fewer); counted = subst (λ (n : ℕ). add_steps steps n ≤ steps1) fall now.counted })
+turn_postings ws i postings0 steps0 steps steps1 w v lt is before now = grind (arith, set, postings-set, more_counted)
 
 -- ---- each and some
 
@@ -85,8 +67,7 @@ each-append m [] w = and-true (truth_at w.truths m)
 each-append m (v ∷ ws) w = ap (λ (b : Bool). truth_at v.truths m && b) (each-append m ws w) ∙ sym (and_assoc (truth_at v.truths m) (each_has m ws) (truth_at w.truths m))
 
 front_lacks : (b front whole : Bool) → (front ≡ false → whole ≡ false) → (b && front) ≡ false → (b && whole) ≡ false
-front_lacks true front whole then lacks = then lacks
-front_lacks false front whole then lacks = refl
+front_lacks b front whole h h2 = grind arith
 
 -- one that lacks it, or some front that does
 each-lacks : (m : ℕ) (ws : List Ahead) (i : ℕ) (w : Ahead) → i < length ws → w ≡ get_or ws i w → truth_at w.truths m ≡ false → each_has m ws ≡ false
@@ -110,22 +91,10 @@ Firsts test number =
     MatchOption number ((m : ℕ) → test m ≡ false) (λ n. (test n ≡ true) × ((m : ℕ) → m < n → test m ≡ false))
 
 pub firsts_same : (f g : ℕ → Bool) (r : Option ℕ) → ((m : ℕ) → g m ≡ f m) → Firsts f r → Firsts g r
-firsts_same f g None same first = λ m. same m ∙ first m
-firsts_same f g (Some n) same first = (same n ∙ first.0, λ m lt. same m ∙ first.1 m lt)
+firsts_same f g r h h2 = grind arith
 
 pub firsts_lesser : (f g : ℕ → Bool) (r s : Option ℕ) → Firsts f r → Firsts g s → Firsts (λ m. f m || g m) (lesser_of r s)
-firsts_lesser f g None None p q = λ m. or_from (f m) (g m) (p m) (q m)
-firsts_lesser f g None (Some b) p q = (or_right (f b) (g b) q.0, λ m lt. or_from (f m) (g m) (p m) (q.1 m lt))
-firsts_lesser f g (Some a) None p q = (or_left (f a) (g a) p.0, λ m lt. or_from (f m) (g m) (p.1 m lt) (q m))
-firsts_lesser f g (Some a) (Some b) p q =
-    elim (cases_lt b a) [
-      | inl lt ↦
-          let is : min a b ≡ b = omega (arith, lt) in
-          rw is (or_right (f b) (g b) q.0, λ m below. or_from (f m) (g m) (p.1 m (omega (arith, below, lt))) (q.1 m below))
-      | inr le ↦
-          let is : min a b ≡ a = omega (arith, le) in
-          rw is (or_left (f a) (g a) p.0, λ m below. or_from (f m) (g m) (p.1 m below) (q.1 m (omega (arith, below, le))))
-    ]
+firsts_lesser f g r s h h2 = grind (arith, or_from, or_right, or_left, cases_lt)
 
 -- members that dropped what lies below n, and the first number that is still to come in some of them
 pub record HaveDropped (n : ℕ) (old new : List Ahead) (least : Option ℕ) : Type 0 where
@@ -138,14 +107,7 @@ dropped_none n = record { rest = λ m le. refl; below = λ m lt. refl; first = �
 
 dropped_one : (n : ℕ) (old new : List Ahead) (least : Option ℕ) (w v : Ahead) (number : Option ℕ) → HaveDropped n old new least → Drops n w.truths v.truths → IsFirst v.truths number
     → HaveDropped n (old ++ w ∷ []) (new ++ v ∷ []) (lesser_of least number)
-dropped_one n old new least w v number have drops first = record {
-  rest = λ m le.
-      some-append m new v ∙ ap (λ (b : Bool). b || truth_at v.truths m) (have.rest m le) ∙ ap (λ (b : Bool). some_has m old || b) (drops.rest m le) ∙ sym (some-append m old w);
-  below = λ m lt. some-append m new v ∙ or_from (some_has m new) (truth_at v.truths m) (have.below m lt) (drops.below m lt);
-  first =
-      firsts_same (λ m. some_has m new || truth_at v.truths m) (λ m. some_has m (new ++ v ∷ [])) (lesser_of least number) (λ m. some-append m new v)
-      (firsts_lesser (λ m. some_has m new) (truth_at v.truths) least number have.first first);
-}
+dropped_one n old new least w v number have drops first = grind (arith, some-append, or_from, firsts_same, firsts_lesser)
 
 pub dropped_more : (n : ℕ) (old new : List Ahead) (i : ℕ) (least number result : Option ℕ) (w v : Ahead) → i < length old → length new ≡ length old → w ≡ get_or old i w
     → HaveDropped n (take i old) (take i new) least → Drops n w.truths v.truths → IsFirst v.truths number → result ≡ lesser_of least number
@@ -156,10 +118,7 @@ dropped_more n old new i least number result w v lt long is have drops first les
     rw (fronts, take_more_set new i v within, lesser) (dropped_one n (take i old) (take i new) least w v number have drops first)
 
 pub dropped_drops : (n : ℕ) (old new : List Ahead) (least : Option ℕ) → HaveDropped n old new least → Drops n (united old) (united new)
-dropped_drops n old new least have = record {
-  rest = λ m le. united-at m new ∙ have.rest m le ∙ sym (united-at m old);
-  below = λ m lt. united-at m new ∙ have.below m lt;
-}
+dropped_drops n old new least have = grind (arith, united-at)
 
 pub dropped_first : (n : ℕ) (old new : List Ahead) (least : Option ℕ) → HaveDropped n old new least → IsFirst (united new) least
 dropped_first n old new least have = firsts_same (λ m. some_has m new) (truth_at (united new)) least (λ m. united-at m new) have.first
@@ -258,17 +217,10 @@ abbrev pub Unvisited : List Ahead → List Ahead → ℕ → Type 0
 Unvisited old new i = (length new ≡ length old) × ((k : ℕ) (d : Ahead) → i ≤ k → get_or new k d ≡ get_or old k d)
 
 pub unvisited_more : (old new : List Ahead) (i : ℕ) (v : Ahead) → Unvisited old new i → Unvisited old (set new i v) (i + 1)
-unvisited_more old new i v un =
-    (length-set new i v ∙ un.0, λ k d le. let other : k ≢ i = omega (arith, le) in get_or-set_other new i k v d other ∙ un.1 k d (omega (arith, le)))
+unvisited_more old new i v un = grind (arith, length-set, get_or-set_other)
 
 pub whole_dropped : (n : ℕ) (old new : List Ahead) (i : ℕ) (least : Option ℕ) → length new ≡ length old → length old ≤ i → HaveDropped n (take i old) (take i new) least → HaveDropped n old new least
-whole_dropped n old new i least long past have =
-    let all_old : take i old ≡ old = take_all i old past in
-    let all_new : take i new ≡ new = take_all i new (omega (arith, long, past)) in
-    subst (λ (ws : List Ahead). HaveDropped n ws new least) all_old (subst (λ (ws : List Ahead). HaveDropped n (take i old) ws least) all_new have)
+whole_dropped n old new i least long past have = grind (arith, take_all)
 
 pub whole_reached : (n : ℕ) (old new : List Ahead) (i number : ℕ) → length new ≡ length old → length old ≤ i → HaveReached n (take i old) (take i new) number → HaveReached n old new number
-whole_reached n old new i number long past have =
-    let all_old : take i old ≡ old = take_all i old past in
-    let all_new : take i new ≡ new = take_all i new (omega (arith, long, past)) in
-    subst (λ (ws : List Ahead). HaveReached n ws new number) all_old (subst (λ (ws : List Ahead). HaveReached n (take i old) ws number) all_new have)
+whole_reached n old new i number long past have = grind (arith, take_all)

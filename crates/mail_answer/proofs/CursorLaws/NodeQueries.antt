@@ -1,9 +1,6 @@
 -- What a node asks, by its kind.
-use Rattle.std.proofs.Common.{◌≡◌, ℕ, List, Vec, Global, rules}
-use Rattle.mail_query.specs.declared.kinds.Kinds.{Kinds}
+use Rattle.mail_answer.proofs.Words.{◌≡◌, ℕ, List, Vec, Global, rules, Kinds, Node, the_lemmas, Any, Word, Part, Prefix, Either, query_of, queries_of, members_of}
 use Rattle.mail_query.specs.declared.node.Node as node
-use Rattle.mail_query.specs.declared.node.Node.{Node, the_lemmas}
-use Rattle.mail_query.specs.Query.{Any, Word, Part, Prefix, Either, query_of, queries_of, members_of}
 
 pub query_of-Any : query_of node.Any ≡ Any
 query_of-Any = search (rules, the_lemmas)

@@ -1,12 +1,7 @@
 -- The numbers that a cursor gives.
-use Rattle.std.proofs.Common.{◌≡◌, ◌∙◌, ◌+◌, ◌<◌, ◌≤◌, ℕ, zero, suc, Bool, true, false, cond, ◌&&◌, max, List, [], ◌∷◌, ◌++◌, Option, Some, None, refl, sym, ap, subst, arith, inl, inr}
-use Rattle.std.specs.Prelude.{nat_le}
-use Rattle.std.specs.List.{filter, range_with_len, AllByRecursion}
+use Rattle.mail_answer.proofs.Words.{◌≡◌, ◌∙◌, ◌+◌, ◌<◌, ◌≤◌, ℕ, zero, suc, Bool, true, false, cond, ◌&&◌, max, List, [], ◌∷◌, ◌++◌, Option, Some, None, refl, sym, ap, subst, arith, inl, inr, nat_le, filter, range_with_len, AllByRecursion, cases_lt, lt-leb, both_ways, truth_at, Drops, IsFirst, numbers_from, AreWithin, TakesFirst, TakesFrom}
 use Rattle.std.proofs.lemmas.List.{append-nil}
-use Rattle.std.proofs.lemmas.Bool.{cases_lt, lt-leb, le-leb, both_ways}
-use Rattle.mail_answer.specs.Marks.{truth_at}
-use Rattle.mail_answer.specs.CursorAhead.{Drops, IsFirst}
-use Rattle.mail_answer.specs.CursorNumbers.{numbers_from, AreWithin, TakesFirst, TakesFrom}
+use Rattle.std.proofs.lemmas.Bool.{le-leb}
 
 pub filter_alike : (f g : ℕ → Bool) (a n : ℕ) → ((k : ℕ) → a ≤ k → k < a + n → f k ≡ g k) → filter f (range_with_len a n) ≡ filter g (range_with_len a n)
 filter_alike f g a zero same = refl
@@ -53,25 +48,16 @@ first_of_range f k a (suc n) le lt holds none =
 
 -- the numbers of a list of truths from a number on are those of what is left of it
 same_from : (n count : ℕ) (old new : List Bool) → Drops n old new → numbers_from n count old ≡ filter (truth_at new) (range_with_len 0 count)
-same_from n count old new drops = filter_alike (from n (truth_at old)) (truth_at new) 0 count (λ m a b. elim (cases_lt m n) [
-  | inl before ↦ from-before n (truth_at old) m before ∙ sym (drops.below m before)
-  | inr behind ↦ from-behind n (truth_at old) m behind ∙ sym (drops.rest m behind)
-])
+same_from n count old new drops = grind (arith, filter_alike, cases_lt, from-before, from-behind)
 
 pub within_still : (n count : ℕ) (old new : List Bool) → Drops n old new → AreWithin count old → AreWithin count new
-within_still n count old new drops within m holds = elim (cases_lt m n) [
-  | inl before ↦ absurd (both_ways (truth_at new m) (drops.below m before) holds)
-  | inr behind ↦ within m (sym (drops.rest m behind) ∙ holds)
-]
+within_still n count old new drops within m holds = grind (arith, cases_lt, both_ways)
 
 pub took_none : (n count : ℕ) (old new : List Bool) → Drops n old new → IsFirst new None → numbers_from n count old ≡ []
 took_none n count old new drops none = same_from n count old new drops ∙ none_pass (truth_at new) 0 count (λ m a b. none m)
 
 pub left_none : (low count : ℕ) (new : List Bool) → IsFirst new None → numbers_from low count new ≡ []
-left_none low count new none = none_pass (from low (truth_at new)) 0 count (λ m a b. elim (cases_lt m low) [
-  | inl before ↦ from-before low (truth_at new) m before
-  | inr behind ↦ from-behind low (truth_at new) m behind ∙ none m
-])
+left_none low count new none = grind (arith, none_pass, cases_lt, from-before, from-behind)
 
 pub took_one : (n count k : ℕ) (old new : List Bool) → Drops n old new → IsFirst new (Some k) → k < count → numbers_from n count old ≡ k ∷ numbers_from (k + 1) count new
 took_one n count k old new drops first lt =

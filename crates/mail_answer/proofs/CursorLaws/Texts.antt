@@ -1,25 +1,7 @@
 -- Walks along posting lists, list by list.
-use Rattle.std.proofs.Common.{◌≡◌, ◌∙◌, ◌+◌, ◌*◌, ◌^◌, ◌<◌, ◌≤◌, ℕ, suc, Bool, true, false, cond, ◌&&◌, ◌||◌, List, [], ◌∷◌, ◌++◌, length, map, drop, get_or, refl, sym, ap, subst, arith, Result, Ok, Err, IfOk}
-use Rattle.std.specs.Prelude.{bytes_eq}
-use Rattle.std.specs.List.{list_any, filter, AllByRecursion}
-use Rattle.std.proofs.Math.Nat.{add-mul, suc-mul}
-use Rattle.std.proofs.lemmas.List.{drop_more}
-use Rattle.std.proofs.Math.Bool.{or-false, or_assoc}
+use Rattle.mail_answer.proofs.Words.{◌≡◌, ◌∙◌, ◌+◌, ◌*◌, ◌^◌, ◌<◌, ◌≤◌, ℕ, suc, Bool, true, false, cond, ◌&&◌, ◌||◌, List, [], ◌∷◌, ◌++◌, length, map, drop, get_or, refl, sym, ap, subst, arith, Result, IfOk, bytes_eq, list_any, filter, AllByRecursion, add-mul, suc-mul, drop_more, or-false, or_assoc, Kind, Text, OwnId, Key, Table, IsKey, IsWellFormed, numbers_at, keys_of, keys_beginning, text_and_numbers, TakesDigits, bytes_turned, Kinds, has_kind, some_word, begins_with, text_kinds, is_among, texts_with, facts_at, is_in, kinds_in, numbers_of_keys, numbers_named, LooksUp, Ahead, left_in, AreNumbers, truths_among, some_has, HaveNumbers, numbers_passing, numbers_fitting, some_of_kinds, any_text}
 use Rattle.mail_words.specs.declared.kind.TextKind.{TextKind}
-use Rattle.mail_index.specs.declared.kind.Kind.{Kind}
-use Rattle.mail_index.specs.declared.kind.Kind.TheVariants.{Text, OwnId}
-use Rattle.mail_index.specs.Tables.{Key, Table, IsKey, IsWellFormed}
-use Rattle.mail_index.specs.LookUps.{is_key, is_of_kind, numbers_at, keys_of, keys_beginning, text_and_numbers, TakesDigits}
-use Rattle.mail_index.proofs.ViewLaws.RunLemmas.{bytes_turned}
-use Rattle.mail_query.specs.declared.kinds.Kinds.{Kinds}
-use Rattle.mail_query.specs.Kinds.{has_kind}
-use Rattle.mail_query.specs.Truth.{some_word, begins_with, text_kinds}
-use Rattle.mail_answer.specs.TableFacts.{is_among, texts_with, facts_at}
-use Rattle.mail_answer.specs.Marks.{truth_at}
-use Rattle.mail_answer.specs.Cursors.{is_in, kinds_in, numbers_of_keys, numbers_named, LooksUp}
-use Rattle.mail_answer.specs.CursorAhead.{Ahead, left_in}
-use Rattle.mail_answer.specs.Inside.CursorLists.{AreNumbers, truths_among}
-use Rattle.mail_answer.specs.Inside.CursorTexts.{some_has, Joins, HaveNumbers, numbers_passing, numbers_fitting, some_of_kinds, any_text}
+use Rattle.mail_answer.specs.Inside.CursorTexts.{Joins}
 use Rattle.mail_answer.proofs.CursorLaws.Lists.{among-at, past_all}
 use Rattle.mail_answer.proofs.CursorLaws.Members.{some-append}
 
@@ -29,43 +11,23 @@ left-append (v ∷ ws) w = omega (arith, left-append ws w)
 
 pub joins_list : (count : ℕ) (ns : List ℕ) (w : Ahead) (old new : List Ahead) → AreNumbers count ns → w.truths ≡ truths_among count ns → w.left ≡ length ns → new ≡ old ++ w ∷ []
     → Joins (λ n. is_among n ns) (length ns) old new
-joins_list count ns w old new are told left is = record {
-  each = λ m. ap (some_has m) is ∙ some-append m old w ∙ ap (λ (b : Bool). some_has m old || b) (ap (λ (xs : List Bool). truth_at xs m) told ∙ among-at count m ns are);
-  left = omega (arith, ap left_in is, left-append old w, left);
-}
+joins_list count ns w old new are told left is = grind (arith, some-append, among-at, left-append)
 
 pub joins_more : (f g : ℕ → Bool) (p q : ℕ) (ws bs cs : List Ahead) → Joins f p ws bs → Joins g q bs cs → Joins (λ n. f n || g n) (p + q) ws cs
-joins_more f g p q ws bs cs first then = record {
-  each = λ m. then.each m ∙ ap (λ (b : Bool). b || g m) (first.each m) ∙ or_assoc (some_has m ws) (f m) (g m);
-  left = omega (arith, first.left, then.left);
-}
+joins_more f g p q ws bs cs first then = grind (arith, or_assoc)
 
 pub joins_same : (f g : ℕ → Bool) (p q : ℕ) (ws bs : List Ahead) → Joins f p ws bs → ((m : ℕ) → g m ≡ f m) → p ≤ q → Joins g q ws bs
-joins_same f g p q ws bs joins same le = record {
-  each = λ m. joins.each m ∙ ap (λ (b : Bool). some_has m ws || b) (sym (same m));
-  left = omega (arith, joins.left, le);
-}
+joins_same f g p q ws bs joins same le = grind arith
 
 -- ---- keys of a kind
 
 kind_numbers : (version count : ℕ) (kind : Kind) (ks : List Key) → AllByRecursion (IsKey version count) ks → HaveNumbers count (map text_and_numbers (keys_of kind ks))
 kind_numbers version count kind [] all = tt
-kind_numbers version count kind (k ∷ ks) all = go (is_of_kind kind k) (kind_numbers version count kind ks all.1)
-  where
-    go : (b : Bool) → HaveNumbers count (map text_and_numbers (keys_of kind ks)) → HaveNumbers count (map text_and_numbers (cond b (k ∷ keys_of kind ks) (keys_of kind ks)))
-    go true rest = (record { rises = all.0.rises; below = all.0.below }, rest)
-    go false rest = rest
+kind_numbers version count kind (k ∷ ks) all = grind (arith, kind_numbers version count kind ks all.1)
 
 kept_numbers : (count : ℕ) (passes : List ℕ → Bool) (ks : List Key) → HaveNumbers count (map text_and_numbers ks) → HaveNumbers count (map text_and_numbers (filter (λ k. passes k.text) ks))
 kept_numbers count passes [] all = tt
-kept_numbers count passes (k ∷ ks) all = go (passes k.text) (kept_numbers count passes ks all.1)
-  where
-    kept : List Key
-    kept = filter (λ key. passes key.text) ks
-
-    go : (b : Bool) → HaveNumbers count (map text_and_numbers kept) → HaveNumbers count (map text_and_numbers (cond b (k ∷ kept) kept))
-    go true rest = (all.0, rest)
-    go false rest = rest
+kept_numbers count passes (k ∷ ks) all = grind (arith, kept_numbers count passes ks all.1)
 
 pub beginning_numbers : (t : Table) (kind : Kind) (text : List ℕ) (keys : List (List ℕ × List ℕ)) → IsWellFormed t → keys ≡ map text_and_numbers (keys_beginning kind text t.keys)
     → HaveNumbers (length t.messages) keys
@@ -77,23 +39,14 @@ keys_numbers t kind keys well is = subst (HaveNumbers (length t.messages)) (sym 
 
 found_numbers : (version count : ℕ) (kind : Kind) (text : List ℕ) (ks : List Key) → AllByRecursion (IsKey version count) ks → AreNumbers count (numbers_at kind text ks)
 found_numbers version count kind text [] all = record { rises = tt; below = tt }
-found_numbers version count kind text (k ∷ ks) all = go (is_key kind text k) (found_numbers version count kind text ks all.1)
-  where
-    go : (b : Bool) → AreNumbers count (numbers_at kind text ks) → AreNumbers count (elim b as (λ _. List ℕ) [ true ↦ k.numbers | false ↦ numbers_at kind text ks ])
-    go true rest = record { rises = all.0.rises; below = all.0.below }
-    go false rest = rest
+found_numbers version count kind text (k ∷ ks) all = grind (arith, found_numbers version count kind text ks all.1)
 
 pub list_numbers : (t : Table) (kind : Kind) (text ns : List ℕ) → IsWellFormed t → ns ≡ numbers_at kind text t.keys → AreNumbers (length t.messages) ns
 list_numbers t kind text ns well is = subst (AreNumbers (length t.messages)) (sym is) (found_numbers t.version (length t.messages) kind text t.keys well.keys)
 
 pub fitting_left : (passes : List ℕ → Bool) (ks : List Key) → numbers_passing passes (map text_and_numbers ks) ≡ numbers_of_keys (filter (λ k. passes k.text) ks)
 fitting_left passes [] = refl
-fitting_left passes (k ∷ ks) = go (passes k.text) (fitting_left passes ks)
-  where
-    go : (b : Bool) → numbers_passing passes (map text_and_numbers ks) ≡ numbers_of_keys (filter (λ key. passes key.text) ks)
-        → cond b (length k.numbers) 0 + numbers_passing passes (map text_and_numbers ks) ≡ numbers_of_keys (cond b (k ∷ filter (λ key. passes key.text) ks) (filter (λ key. passes key.text) ks))
-    go true rest = omega (arith, rest)
-    go false rest = omega (arith, rest)
+fitting_left passes (k ∷ ks) = grind (arith, fitting_left passes ks)
 
 pub all_left : (ks : List Key) → numbers_passing any_text (map text_and_numbers ks) ≡ numbers_of_keys ks
 all_left [] = refl
@@ -102,45 +55,15 @@ all_left (k ∷ ks) = ap (λ (n : ℕ). length k.numbers + n) (all_left ks)
 -- the list of a look-up is one of those that are named
 pub found_left : (kind : Kind) (text : List ℕ) (ks : List Key) → length (numbers_at kind text ks) ≤ numbers_fitting (bytes_eq text) ks kind
 found_left kind text [] = omega arith
-found_left kind text (k ∷ ks) = go (is_of_kind kind k) (bytes_eq k.text text) (sym (bytes_turned k.text text)) (found_left kind text ks)
-  where
-    rest_of : List Key
-    rest_of = filter (λ key. bytes_eq text key.text) (keys_of kind ks)
-
-    go : (kind_is same : Bool) → bytes_eq text k.text ≡ same → length (numbers_at kind text ks) ≤ numbers_of_keys rest_of
-        → length (elim (kind_is && same) as (λ _. List ℕ) [ true ↦ k.numbers | false ↦ numbers_at kind text ks ])
-        ≤ numbers_of_keys (filter (λ key. bytes_eq text key.text) (cond kind_is (k ∷ keys_of kind ks) (keys_of kind ks)))
-    go false same e rest = rest
-    go true true e rest = subst (λ (b : Bool). length k.numbers ≤ numbers_of_keys (cond b (k ∷ rest_of) rest_of)) (sym e) (omega arith)
-    go true false e rest = subst (λ (b : Bool). length (numbers_at kind text ks) ≤ numbers_of_keys (cond b (k ∷ rest_of) rest_of)) (sym e) rest
+found_left kind text (k ∷ ks) = grind (arith, bytes_turned, found_left kind text ks)
 
 -- ---- kind by kind
 
 some_filter : (kinds : Kinds) (passes : List ℕ → Bool) (t : Table) (m : ℕ) (ts : List TextKind)
     → some_of_kinds (filter (is_in kinds) (map Text ts ++ OwnId ∷ [])) passes t.keys m
     ≡ (list_any (λ kind. has_kind kinds kind && list_any passes (texts_with (Text kind) m t.keys)) ts || (kinds.own_id && list_any passes (texts_with OwnId m t.keys)))
-some_filter kinds passes t m [] = go kinds.own_id
-  where
-    go : (b : Bool) → some_of_kinds (cond b (OwnId ∷ []) []) passes t.keys m ≡ (b && list_any passes (texts_with OwnId m t.keys))
-    go true = or-false (list_any passes (texts_with OwnId m t.keys))
-    go false = refl
-some_filter kinds passes t m (kind ∷ ts) = go (has_kind kinds kind) (some_filter kinds passes t m ts)
-  where
-    here : Bool
-    here = list_any passes (texts_with (Text kind) m t.keys)
-
-    own : Bool
-    own = kinds.own_id && list_any passes (texts_with OwnId m t.keys)
-
-    rest_of : List Kind
-    rest_of = filter (is_in kinds) (map Text ts ++ OwnId ∷ [])
-
-    later : Bool
-    later = list_any (λ k. has_kind kinds k && list_any passes (texts_with (Text k) m t.keys)) ts
-
-    go : (b : Bool) → some_of_kinds rest_of passes t.keys m ≡ (later || own) → some_of_kinds (cond b (Text kind ∷ rest_of) rest_of) passes t.keys m ≡ (((b && here) || later) || own)
-    go true e = ap (λ (x : Bool). here || x) e ∙ sym (or_assoc here later own)
-    go false e = e
+some_filter kinds passes t m [] = grind (arith, or-false)
+some_filter kinds passes t m (kind ∷ ts) = grind (arith, or_assoc, some_filter kinds passes t m ts)
 
 pub some_of_all : (kinds : Kinds) (passes : List ℕ → Bool) (t : Table) (m : ℕ) → some_of_kinds (kinds_in kinds) passes t.keys m ≡ some_word passes kinds (facts_at t m)
 some_of_all kinds passes t m = some_filter kinds passes t m text_kinds
@@ -177,27 +100,17 @@ module _ (passes : List ℕ → Bool) (keys : List Key) (a : ℕ) (all : List Ki
 
   pub kinds_more : (kind : Kind) (coming : List Kind) (ws vs : List Ahead) (steps1 steps2 : ℕ) → HaveKinds passes keys a all (kind ∷ coming) old ws steps0 steps1
       → Joins (λ n. list_any passes (texts_with kind n keys)) (numbers_fitting passes keys kind) ws vs → LooksUp (length keys) a steps1 steps2 → HaveKinds passes keys a all coming old vs steps0 steps2
-  kinds_more kind coming ws vs steps1 steps2 have joins looks = record {
-    each = λ m.
-        ap (λ (b : Bool). b || some_of_kinds coming passes keys m) (joins.each m) ∙ or_assoc (some_has m ws) (list_any passes (texts_with kind m keys)) (some_of_kinds coming passes keys m) ∙ have.each m;
-    left = omega (arith, joins.left, have.left);
-    rises = omega (arith, have.rises, looks.rises);
-    most = λ digits lt. omega (arith, have.most digits lt, looks.most digits lt, more_times (length coming) a digits);
-  }
+  kinds_more kind coming ws vs steps1 steps2 have joins looks = grind (arith, or_assoc, more_times)
 
   pub kinds_steps : (kind : Kind) (coming : List Kind) (ws : List Ahead) (steps1 steps2 : ℕ) → HaveKinds passes keys a all (kind ∷ coming) old ws steps0 steps1
       → LooksUp (length keys) a steps1 steps2 → LooksUp (length keys) (length all * a) steps0 steps2
-  kinds_steps kind coming ws steps1 steps2 have looks = record {
-    rises = omega (arith, have.rises, looks.rises);
-    most = λ digits lt. omega (arith, have.most digits lt, looks.most digits lt, more_times (length coming) a digits);
-  }
+  kinds_steps kind coming ws steps1 steps2 have looks = grind (arith, more_times)
 
 pub next_kind : (kinds : Kinds) (kind : Kind) (rest : List Kind) (b : Bool) → is_in kinds kind ≡ b → filter (is_in kinds) (kind ∷ rest) ≡ cond b (kind ∷ filter (is_in kinds) rest) (filter (is_in kinds) rest)
 next_kind kinds kind rest b e = ap (λ (x : Bool). cond x (kind ∷ filter (is_in kinds) rest) (filter (is_in kinds) rest)) e
 
 pub if_joins : {A E : Type 0} (r : Result A E) (f g : ℕ → Bool) (p q : ℕ) (ws bs : List Ahead) → IfOk r (λ _. Joins f p ws bs) → ((m : ℕ) → g m ≡ f m) → p ≤ q → IfOk r (λ _. Joins g q ws bs)
-if_joins (Ok v) f g p q ws bs joins same le = joins_same f g p q ws bs joins same le
-if_joins (Err e) f g p q ws bs joins same le = tt
+if_joins r f g p q ws bs h h2 h3 = grind (arith, joins_same)
 
 -- the next kind, in the set or not
 coming_at : (kinds : Kinds) (items : List Kind) (i : ℕ) (d : Kind) (b : Bool) → i < length items → is_in kinds (get_or items i d) ≡ b
@@ -217,17 +130,11 @@ module _ (passes : List ℕ → Bool) (keys : List Key) (a : ℕ) (all : List Ki
 
 texts_past : (version count m : ℕ) (kind : Kind) (ks : List Key) → count ≤ m → AllByRecursion (IsKey version count) ks → texts_with kind m ks ≡ []
 texts_past version count m kind [] past all = refl
-texts_past version count m kind (k ∷ ks) past all = go (is_of_kind kind k) (is_among m k.numbers) (past_all count m k.numbers past all.0.below) (texts_past version count m kind ks past all.1)
-  where
-    go : (kind_is among : Bool) → among ≡ false → texts_with kind m ks ≡ [] → map (λ (key : Key). key.text) (filter (λ key. is_among m key.numbers) (cond kind_is (k ∷ keys_of kind ks) (keys_of kind ks))) ≡ []
-    go false among e rest = rest
-    go true among e rest =
-        ap (λ (b : Bool). map (λ (key : Key). key.text) (cond b (k ∷ filter (λ key. is_among m key.numbers) (keys_of kind ks)) (filter (λ key. is_among m key.numbers) (keys_of kind ks)))) (past_all count m k.numbers past all.0.below) ∙ rest
+texts_past version count m kind (k ∷ ks) past all = grind (arith, past_all, texts_past version count m kind ks past all.1)
 
 kinds_past : (version count m : ℕ) (kinds : List Kind) (passes : List ℕ → Bool) (ks : List Key) → count ≤ m → AllByRecursion (IsKey version count) ks → some_of_kinds kinds passes ks m ≡ false
 kinds_past version count m [] passes ks past all = refl
-kinds_past version count m (kind ∷ kinds) passes ks past all =
-    ap (λ (texts : List (List ℕ)). list_any passes texts || some_of_kinds kinds passes ks m) (texts_past version count m kind ks past all) ∙ kinds_past version count m kinds passes ks past all
+kinds_past version count m (kind ∷ kinds) passes ks past all = grind (arith, texts_past, kinds_past version count m kinds passes ks past all)
 
 pub word_past : (kinds : Kinds) (passes : List ℕ → Bool) (t : Table) (m : ℕ) → IsWellFormed t → length t.messages ≤ m → some_word passes kinds (facts_at t m) ≡ false
 word_past kinds passes t m well past = sym (some_of_all kinds passes t m) ∙ kinds_past t.version (length t.messages) m (kinds_in kinds) passes t.keys past well.keys

@@ -1,11 +1,6 @@
 -- Lists with a truth for each message.
-use Rattle.std.proofs.Common.{◌≡◌, ◌∙◌, ◌+◌, ◌<◌, ℕ, zero, suc, Bool, true, false, cond, not, List, [], ◌∷◌, ◌++◌, length, map, Some, refl, sym, ap, arith}
-use Rattle.std.specs.List.{filter, range_with_len, slice_get}
-use Rattle.std.proofs.lemmas.List.{map-id, ext_get_or, length-map, get_or-map, append-nil}
-use Rattle.std.proofs.lemmas.List.FromFn.{filter_of_map_range_with_len_more, fill_by_all}
-use Rattle.mail_index.specs.declared.record.Record.{Record}
-use Rattle.mail_answer.specs.TableFacts.{record_at}
-use Rattle.mail_answer.specs.Marks.{truth_at, each_number}
+use Rattle.mail_answer.proofs.Words.{◌≡◌, ◌∙◌, ◌+◌, ◌<◌, ℕ, zero, suc, Bool, true, false, cond, not, List, [], ◌∷◌, ◌++◌, length, map, Some, refl, sym, ap, arith, filter, range_with_len, slice_get, map-id, ext_get_or, length-map, get_or-map, filter_of_map_range_with_len_more, fill_by_all, Record, record_at, truth_at, each_number}
+use Rattle.std.proofs.lemmas.List.{append-nil}
 
 -- the record that a list gives
 pub record_known : (messages : List Record) (n : ℕ) → n < length messages → slice_get messages n ≡ Some (record_at messages n)
@@ -34,10 +29,8 @@ filter_more test n =
 
 -- it is true, and joins them
 pub filter_true : (test : ℕ → Bool) (n : ℕ) (xs ys : List ℕ) → xs ≡ filter test (range_with_len 0 n) → test n ≡ true → ys ≡ xs ++ n ∷ [] → ys ≡ filter test (range_with_len 0 (n + 1))
-filter_true test n xs ys front here whole =
-    whole ∙ ap (λ (ms : List ℕ). ms ++ n ∷ []) front ∙ sym (ap (λ (b : Bool). filter test (range_with_len 0 n) ++ cond b (n ∷ []) []) here) ∙ sym (filter_more test n)
+filter_true test n xs ys front here whole = grind (arith, filter_more)
 
 -- it isn't
 pub filter_false : (test : ℕ → Bool) (n : ℕ) (xs : List ℕ) → xs ≡ filter test (range_with_len 0 n) → test n ≡ false → xs ≡ filter test (range_with_len 0 (n + 1))
-filter_false test n xs front here =
-    front ∙ sym (append-nil (filter test (range_with_len 0 n))) ∙ sym (ap (λ (b : Bool). filter test (range_with_len 0 n) ++ cond b (n ∷ []) []) here) ∙ sym (filter_more test n)
+filter_false test n xs front here = grind (arith, append-nil, filter_more)

@@ -1,10 +1,5 @@
 -- What lists of truths say at a number.
-use Rattle.std.proofs.Common.{◌≡◌, ◌<◌, ◌≤◌, ℕ, zero, suc, Bool, false, ◌&&◌, ◌||◌, List, [], ◌∷◌, refl, sym, arith}
-use Rattle.std.proofs.lemmas.List.{get_or_past}
-use Rattle.std.proofs.lemmas.List.FromFn.{length-map-range_with_len, get_or-map-range_with_len}
-use Rattle.std.proofs.Math.Bool.{and-false, or-false}
-use Rattle.mail_answer.specs.Marks.{truth_at, each_number}
-use Rattle.mail_answer.specs.CursorAhead.{both, one_or_other}
+use Rattle.mail_answer.proofs.Words.{◌≡◌, ◌<◌, ◌≤◌, ℕ, zero, suc, Bool, false, ◌&&◌, ◌||◌, List, [], ◌∷◌, refl, sym, arith, get_or_past, length-map-range_with_len, get_or-map-range_with_len, and-false, or-false, truth_at, each_number, both, one_or_other}
 
 pub each-at : (count : ℕ) (test : ℕ → Bool) (n : ℕ) → n < count → truth_at (each_number count test) n ≡ test n
 each-at count test n lt = get_or-map-range_with_len test 0 count n n false lt (omega arith)

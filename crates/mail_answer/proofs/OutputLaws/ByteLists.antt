@@ -1,6 +1,5 @@
 -- Lists of bytes, each of which is changed.
-use Rattle.std.proofs.Common.{◌≡◌, ◌∙◌, ◌<◌, ℕ, List, length, map, get_or, sym, arith}
-use Rattle.std.proofs.lemmas.List.{ext_get_or, length-map, get_or-map}
+use Rattle.mail_answer.proofs.Words.{◌≡◌, ◌∙◌, ◌<◌, ℕ, List, length, map, get_or, sym, arith, ext_get_or, length-map, get_or-map}
 
 pub each_changed : (f : ℕ → ℕ) (xs ys : List ℕ) → length ys ≡ length xs → ((n : ℕ) → n < length xs → get_or ys n 0 ≡ f (get_or xs n 0)) → ys ≡ map f xs
 each_changed f xs ys long each =

@@ -1,12 +1,6 @@
 -- What is chosen are numbers of messages.
-use Rattle.std.proofs.Common.{◌≡◌, ℕ, zero, suc, ◌<◌, true, nat_eq, List, [], ◌∷◌, length, refl, arith, eq-eqb}
-use Rattle.std.specs.List.{All, slice_index_or}
-use Rattle.std.proofs.lemmas.Bool.{or_left, or_right}
-use Rattle.mail_index.specs.Tables.{Table}
-use Rattle.mail_query.specs.Query.{Query}
-use Rattle.mail_query.specs.Truth.{is_true}
-use Rattle.mail_answer.specs.TableFacts.{chosen_numbers, facts_at, is_among}
-use Rattle.mail_answer.specs.Threads.{AreThreads}
+use Rattle.mail_answer.proofs.Words.{◌≡◌, ℕ, zero, suc, ◌<◌, true, nat_eq, List, [], ◌∷◌, length, refl, arith, eq-eqb, slice_index_or, or_left, or_right, Table, Query, is_true, chosen_numbers, facts_at, is_among, AreThreads}
+use Rattle.std.specs.List.{All}
 use Rattle.mail_answer.proofs.ThreadLaws.ChosenThreads.{from_passed}
 
 -- each element is among the list

@@ -1,13 +1,7 @@
 -- A span is closed by what closes its last line.
-use Rattle.std.proofs.Common.{◌≡◌, ℕ, ◌+◌, suc, ◌<◌, ◌≤◌, Bool, true, false, cond, ◌||◌, ◌&&◌, ◌==◌, nat_lt, nat_eq, List, [], ◌∷◌, ◌++◌, Some, length, take, drop, refl, ap, sym, ◌∙◌, append_assoc, append-nil, arith}
+use Rattle.mail_answer.proofs.Words.{◌≡◌, ℕ, ◌+◌, ◌<◌, ◌≤◌, Bool, true, false, cond, ◌||◌, ◌&&◌, ◌==◌, nat_lt, nat_eq, List, [], ◌∷◌, ◌++◌, Some, length, take, drop, refl, ap, sym, ◌∙◌, append_assoc, append-nil, arith, nat_tests, drop-append-le, drop_all, take-append-drop, is_empty, lines, first_length, line_end_of, length_before_feed, line_end-more, first_length-le, length_before_feed-le, length_before_feed-append_out, lines-cons, lines-nil, feed, has_feed, feeds_behind, next_text, behind_next, closed, is_closed, last_of}
 use Rattle.std.specs.Str.{bytes_eq}
-use Rattle.std.proofs.lemmas.Bool.Decides.{nat_tests}
-use Rattle.std.proofs.lemmas.List.{drop-append-le, length-append, length-drop, take_all, drop_all, take-append-drop}
-use Rattle.mbox_cutter.specs.Lines.{is_empty, lines, first_length, line_end_of, length_before_feed}
-use Rattle.mbox_cutter.proofs.FirstLines.{line_end-more, first_length-le, length_before_feed-le, length_before_feed-append_out}
-use Rattle.mbox_cutter.proofs.LineLists.{lines-cons, lines-nil}
-use Rattle.mail_answer.specs.Closing.{feed, has_feed, feeds_behind, next_text, behind_next}
-use Rattle.mail_answer.specs.Shapes.{closed, is_closed, last_of}
+use Rattle.std.proofs.lemmas.List.{length-append, length-drop, take_all}
 
 ended : (b : List ℕ) → first_length b < length b → Some (first_length b) ≡ line_end_of b
 unfolding first_length line_end_of
@@ -33,11 +27,7 @@ closed_behind b x h = ap is_empty (last_behind b x h)
 
 -- a single line
 single : (b : List ℕ) → 0 < length b → first_length b ≡ length b → is_closed b ≡ is_empty b
-single b h e =
-    ap (λ ls. is_empty (last_of ls)) (lines-cons b h)
-    ∙ ap (λ r. is_empty (last_of (take (first_length b) b ∷ lines r))) (drop_all (first_length b) b (omega arith))
-    ∙ ap (λ ls. is_empty (last_of (take (first_length b) b ∷ ls))) lines-nil
-    ∙ ap is_empty (take_all (first_length b) b (omega arith))
+single b h e = grind (arith, lines-cons, drop_all, lines-nil, take_all)
 
 feed_closed : is_closed feed ≡ true
 unfolding lines first_length is_empty
@@ -45,8 +35,7 @@ feed_closed = refl
 
 pub has_feed-is : (b : List ℕ) → has_feed b ≡ nat_lt (length_before_feed b) (length b)
 has_feed-is [] = refl
-has_feed-is (x ∷ xs) = elim (x == 10) as (λ v. (v || has_feed xs) ≡ nat_lt (cond v 0 (suc (length_before_feed xs))) (length (x ∷ xs)))
-    [ true ↦ grind (arith, nat_tests) | false ↦ has_feed-is xs ∙ grind (arith, nat_tests) ]
+has_feed-is (x ∷ xs) = grind (arith, nat_tests, has_feed-is xs)
 
 pub whole_end : (b : List ℕ) → first_length b ≡ length b → nat_lt (length_before_feed b) (length b) ≡ true → Some (first_length b) ≡ line_end_of b
 unfolding first_length line_end_of
@@ -83,21 +72,11 @@ cr_line (x ∷ []) h = elim (x == 13) as (λ v. (((x == 10) && false) || (v && t
 cr_line (x ∷ y ∷ []) h = tests (x == 10) (x == 13) (y == 10)
   where
     tests : (a b c : Bool) → ((a && false) || (b && (c && false))) ≡ (b && false)
-    tests true true true = refl
-    tests true true false = refl
-    tests true false c = refl
-    tests false true true = refl
-    tests false true false = refl
-    tests false false c = refl
+    tests a b c = grind arith
 cr_line (x ∷ y ∷ z ∷ rest) h = tests (x == 10) (x == 13) (y == 10)
   where
     tests : (a b c : Bool) → ((a && false) || (b && (c && false))) ≡ (b && false)
-    tests true true true = refl
-    tests true true false = refl
-    tests true false c = refl
-    tests false true true = refl
-    tests false true false = refl
-    tests false false c = refl
+    tests a b c = grind arith
 
 with_feeds : (b : List ℕ) → (e f g : Bool) → is_closed b ≡ e → is_closed (b ++ feed) ≡ f → closed b ≡ cond e b (cond f (b ++ feed) (b ++ feed ++ feed))
 unfolding closed
@@ -133,9 +112,7 @@ next_front b h = let front : List ℕ = take (first_length b) b in rw (not_last 
 
 -- a span of one line
 pub closed_last : (b : List ℕ) → 0 < length b → length (behind_next b) ≡ 0 → closed b ≡ next_text b
-closed_last b h z =
-    let e : first_length b ≡ length b = omega (arith, behind-length b) in
-    one_line b h e ∙ rw (is_last (first_length b) (length b) e, take_all (first_length b) b (omega arith)) refl
+closed_last b h z = grind (arith, behind-length, one_line, is_last, take_all)
 
 -- the first of several lines
 pub closed_more : (b : List ℕ) → 0 < length (behind_next b) → closed b ≡ next_text b ++ closed (behind_next b)

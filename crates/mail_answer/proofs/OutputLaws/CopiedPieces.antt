@@ -1,20 +1,7 @@
 -- Laws of spans that are copied piece by piece.
-use Rattle.std.proofs.Common.{◌≡◌, ◌∙◌, ℕ, zero, suc, ◌+◌, ◌-◌, ◌<◌, ◌≤◌, Bool, true, false, cond, List, [], ◌∷◌, ◌++◌, Option, None, Some, IfSome, Result, Ok, Err, IsErr, length, take, drop, refl, ap, sym, append_assoc, append-nil, arith, inl, inr}
-use Rattle.std.specs.Option.{option_map}
-use Rattle.std.proofs.lemmas.Bool.{cases_lt}
-use Rattle.std.proofs.lemmas.List.{drop-append-le, drop_all, length-drop, take-append-drop, take_rest}
-use Rattle.mbox_cutter.specs.Lines.{lines, first_length}
-use Rattle.mbox_cutter.proofs.FirstLines.{first_length-le, first_length-positive}
-use Rattle.mail_answer.specs.Archives.{archive_at}
-use Rattle.mail_answer.specs.Closing.{feed, feeds_behind, behind_next}
-use Rattle.mail_answer.specs.Inside.Endings.{ending_of, feeds_of}
-use Rattle.mail_answer.specs.Inside.Readings.{Reading, coming, coming_count, IsInside, ReadsBehind}
-use Rattle.mail_answer.specs.Shapes.{closed, is_closed, last_of}
-use Rattle.mail_answer.specs.Sheets.{Tells, JoinsFront}
+use Rattle.mail_answer.proofs.Words.{◌≡◌, ◌∙◌, ℕ, zero, suc, ◌+◌, ◌-◌, ◌<◌, ◌≤◌, Bool, true, false, cond, List, [], ◌∷◌, ◌++◌, Option, None, Some, Result, IsErr, length, take, drop, refl, ap, sym, append_assoc, append-nil, arith, inl, inr, option_map, cases_lt, drop-append-le, drop_all, take-append-drop, take_rest, lines, first_length, first_length-le, first_length-positive, archive_at, feed, feeds_behind, behind_next, ending_of, feeds_of, Reading, coming, coming_count, IsInside, ReadsBehind, closed, is_closed, last_of, Tells, JoinsFront, Ending, AnswerFaultKind, Sheet}
+use Rattle.std.proofs.lemmas.List.{length-drop}
 use Rattle.mail_answer.specs.Inside.Copies.{Copies}
-use Rattle.mail_answer.specs.declared.output.ending.Ending.{Ending}
-use Rattle.mail_answer.specs.declared.fault.AnswerFaultKind.{AnswerFaultKind}
-use Rattle.mail_answer.specs.declared.output.sheet.Sheet.{Sheet}
 use Rattle.mail_answer.proofs.OutputLaws.ClosedLemmas.{closed_more, next_front, last_behind, one_line}
 use Rattle.mail_answer.proofs.OutputLaws.ClosingLemmas.{count_known}
 use Rattle.mail_answer.proofs.OutputLaws.Endings.{lines_single, feeds_told}
@@ -24,8 +11,7 @@ use Rattle.mail_answer.proofs.OutputLaws.ReadingLemmas.{coming_read}
 
 pub copies_err : (t u : Option (List ℕ)) (a b : Sheet) (coming rest : Option (List ℕ)) (count left : ℕ) (before : Ending) (r : Result Ending AnswerFaultKind) → IsErr r
     → ((text : List ℕ) × Tells coming text × JoinsFront t u a b text × (length text ≡ count)) → Copies t u a b coming rest count left before r
-copies_err t u a b coming rest count left before (Ok ending) err went = absurd (cc err)
-copies_err t u a b coming rest count left before (Err kind) err went = went
+copies_err t u a b coming rest count left before r h h2 = grind arith
 
 -- so many bytes
 pub some_bytes : (count : ℕ) → (bytes : List ℕ) × (length bytes ≡ count)
@@ -40,15 +26,7 @@ some_coming (Some archives) number r inside = (r.unread ++ take r.left (drop r.n
 -- a part behind a piece of it
 pub inside_behind : (number : ℕ) (held : Option (List (List ℕ))) (archive next left n : ℕ) → n ≤ left → IsInside number held (record { archive = archive; unread = []; next = next; left = left })
     → IsInside number held (record { archive = archive; unread = []; next = next + n; left = left - n })
-inside_behind number held archive next left n le h = record {
-  exists = h.exists;
-  fits = omega (arith, h.fits, le);
-  within = known held h.within;
-}
-  where
-    known : (held : Option (List (List ℕ))) → IfSome held (λ archives. next + left ≤ length (archive_at archives archive)) → IfSome held (λ archives. next + n + (left - n) ≤ length (archive_at archives archive))
-    known None within = tt
-    known (Some archives) within = omega (arith, le, within)
+inside_behind number held archive next left n le h = grind arith
 
 -- ---- what closes some bytes closes their last line
 
@@ -99,23 +77,18 @@ piece_read archive next left n held old new r le = sym (coming_read archive next
 
 -- the bytes behind those that were there
 pub behind_gathered : (old piece items : List ℕ) (at : ℕ) → items ≡ old ++ piece → at ≡ length old → take (length items - at) (drop at items) ≡ piece
-behind_gathered old piece items at is long =
-    take_rest items at ∙ ap (drop at) is ∙ ap (λ (k : ℕ). drop k (old ++ piece)) long ∙ drop-append-le (length old) old piece (omega arith)
-    ∙ ap (λ (l : List ℕ). l ++ piece) (drop_all (length old) old (omega arith))
+behind_gathered old piece items at is long = grind (arith, take_rest, drop-append-le, drop_all)
 
 -- a piece and what comes behind it
 pub tells_behind : (known : Option (List ℕ)) (piece rest : List ℕ) → Tells known rest → Tells (option_map (λ bytes. piece ++ bytes) known) (piece ++ rest)
-tells_behind None piece rest told = tt
-tells_behind (Some k) piece rest told = ap (λ (l : List ℕ). piece ++ l) told
+tells_behind known piece rest h = grind arith
 
 -- pieces one behind another
 pub pieces_more : (known : Option (List ℕ)) (text piece : List ℕ) → option_map (λ bytes. text ++ bytes) (option_map (λ bytes. piece ++ bytes) known) ≡ option_map (λ bytes. (text ++ piece) ++ bytes) known
-pieces_more None text piece = refl
-pieces_more (Some k) text piece = ap Some (sym (append_assoc text piece k))
+pieces_more known text piece = grind (arith, append_assoc)
 
 pub pieces_none : (known : Option (List ℕ)) → known ≡ option_map (λ bytes. [] ++ bytes) known
-pieces_none None = refl
-pieces_none (Some k) = refl
+pieces_none known = grind arith
 
 -- of a closed span a front was copied
 pub front_told : (span part : Option (List ℕ)) (text rest : List ℕ) → span ≡ option_map (λ bytes. text ++ bytes) part → Tells part rest

@@ -1,15 +1,6 @@
 -- What is cut out of an archive is a message.
-use Rattle.std.proofs.Common.{◌≡◌, ◌∙◌, ℕ, ◌+◌, Bool, true, false, cond, ◌&&◌, List, [], ◌∷◌, ◌++◌, Option, None, Some, length, take, drop, map, refl, ap, sym, subst}
-use Rattle.std.specs.List.{concat}
-use Rattle.std.specs.Option.{option_map}
-use Rattle.std.proofs.Math.Seq.{take-append_seam, drop-append_seam}
-use Rattle.std.proofs.lemmas.List.{drop-drop}
-use Rattle.std.proofs.lemmas.List.Folds.{concat-append}
-use Rattle.mbox_cutter.specs.Archives.{Message, messages, messages_from, marked, grouped, is_refused, total, span_length}
-use Rattle.mbox_cutter.specs.Lines.{lines, is_empty, AreCut, AreLines}
-use Rattle.mbox_cutter.specs.Separators.{is_separator}
+use Rattle.mail_answer.proofs.Words.{◌≡◌, ◌∙◌, ℕ, ◌+◌, Bool, true, cond, ◌&&◌, List, [], ◌∷◌, ◌++◌, Option, None, Some, length, take, drop, map, refl, ap, sym, subst, arith, concat, option_map, take-append_seam, drop-append_seam, drop-drop, concat-append, Message, messages, messages_from, marked, grouped, is_refused, total, span_length, lines, is_empty, AreCut, AreLines, IsCutOut}
 use Rattle.mbox_cutter.proofs.LinesAreCut.{lines-AreLines}
-use Rattle.mail_answer.specs.CutAgain.{IsCutOut}
 use Rattle.mail_answer.proofs.OutputLaws.MessageLines.{Each, StartsNowhere, Group, IsMessage, lines_of, all_lines, text_of, span_of, total-length}
 
 -- a text is a message's
@@ -25,27 +16,16 @@ record IsGrouped (may : Bool) (ls : List (List ℕ)) (r : List (List ℕ) × Lis
   pub each : Each IsMessage r.1
 
 and-second : (a b : Bool) → (a && b) ≡ true → b ≡ true
-and-second true b e = e
-and-second false b e = absurd (cc e)
+and-second a b h = grind arith
 
 grouped-is : (may : Bool) (ls : List (List ℕ)) → IsGrouped may ls (grouped (marked may ls))
 grouped-is may [] = record { joined = refl; front = tt; each = tt }
-grouped-is may (l ∷ ls) = go (may && is_separator l) refl (grouped-is (is_empty l) ls)
-  where
-    go : (v : Bool) → (may && is_separator l) ≡ v → IsGrouped (is_empty l) ls (grouped (marked (is_empty l) ls))
-        → IsGrouped may (l ∷ ls) (cond v ([], (l, (grouped (marked (is_empty l) ls)).0) ∷ (grouped (marked (is_empty l) ls)).1) (l ∷ (grouped (marked (is_empty l) ls)).0, (grouped (marked (is_empty l) ls)).1))
-    go true e h = record {
-      joined = ap (λ (rest : List (List ℕ)). l ∷ rest) h.joined;
-      front = tt;
-      each = (record { starts = and-second may (is_separator l) e; inside = h.front }, h.each);
-    }
-    go false e h = record { joined = ap (λ (rest : List (List ℕ)). l ∷ rest) h.joined; front = (e, h.front); each = h.each }
+grouped-is may (l ∷ ls) = grind (arith, and-second, grouped-is (is_empty l) ls)
 
 -- ---- lines of a part
 
 rest-cut : (l : List ℕ) (ls : List (List ℕ)) → AreCut (l ∷ ls) → AreCut ls
-rest-cut l [] c = tt
-rest-cut l (m ∷ ls) c = c.2
+rest-cut l ls h = grind arith
 
 cut-front : (l : List ℕ) (ls ms : List (List ℕ)) → AreCut (l ∷ (ls ++ ms)) → AreCut (l ∷ ls)
 cut-front l [] [] c = c
@@ -92,16 +72,13 @@ messages-in archive ms e =
     subst (Each (IsIn archive)) (accepted (is_refused (marked true (lines archive))) (messages_from (total groups.0) groups.1) e) (messages-are archive (total groups.0) groups.1 h.each each behind)
   where
     accepted : (refused : Bool) (all : List Message) → cond refused None (Some all) ≡ Some ms → all ≡ ms
-    accepted true all e = absurd (cc e)
-    accepted false all e = cc e
+    accepted refused all h = grind arith
 
 found : (archive : List ℕ) (ms : List Message) (before : List (ℕ × ℕ)) (here : ℕ × ℕ) (behind : List (ℕ × ℕ)) → Each (IsIn archive) ms → map span_of ms ≡ before ++ here ∷ behind
     → (g : Group) × IsText g (take here.1 (drop here.0 archive))
 found archive [] [] here behind each e = absurd (cc e)
 found archive [] (b ∷ before) here behind each e = absurd (cc e)
-found archive (m ∷ ms) [] here behind each e =
-    let same : span_of m ≡ here = cc e in
-    ((m.separator, m.after), subst (λ (s : ℕ × ℕ). IsText (m.separator, m.after) (take s.1 (drop s.0 archive))) same each.0)
+found archive (m ∷ ms) [] here behind each e = grind (arith, span_of)
 found archive (m ∷ ms) (b ∷ before) here behind each e = found archive ms before here behind each.1 (cc e)
 
 -- what is cut out is a message

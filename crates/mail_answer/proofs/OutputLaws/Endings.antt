@@ -1,17 +1,7 @@
 -- How the last line stands once a byte more is there.
-use Rattle.std.proofs.Common.{◌≡◌, ◌∙◌, ℕ, zero, suc, ◌+◌, ◌<◌, ◌≤◌, Bool, true, false, cond, ◌||◌, ◌&&◌, ◌==◌, nat_lt, List, [], ◌∷◌, ◌++◌, length, take, drop, refl, ap, sym, append_assoc, append-nil, arith, inl, inr}
+use Rattle.mail_answer.proofs.Words.{◌≡◌, ◌∙◌, ℕ, zero, suc, ◌+◌, ◌<◌, ◌≤◌, Bool, true, false, cond, ◌||◌, ◌&&◌, ◌==◌, nat_lt, List, [], ◌∷◌, ◌++◌, length, refl, ap, sym, append_assoc, append-nil, arith, inl, inr, cases_lt, eqb-true, nat_tests, drop-append-le, drop_all, is_empty, lines, first_length, length_before_feed, line_end-more, first_length-le, first_length-positive, length_before_feed-le, length_before_feed-append_out, lines-cons, lines-nil, feed, has_feed, feeds_behind, behind_next, ending_of_line, ending_of, line_of, with_byte, feeds_of, last_of, Ending, Empty, Ended, Return, Open}
 use Rattle.std.specs.Str.{bytes_eq}
-use Rattle.std.proofs.lemmas.Bool.{cases_lt, eqb-true}
-use Rattle.std.proofs.lemmas.Bool.Decides.{nat_tests}
-use Rattle.std.proofs.lemmas.List.{drop-append-le, length-append, length-drop, take_all, drop_all}
-use Rattle.mbox_cutter.specs.Lines.{is_empty, lines, first_length, length_before_feed}
-use Rattle.mbox_cutter.proofs.FirstLines.{line_end-more, first_length-le, first_length-positive, length_before_feed-le, length_before_feed-append_out}
-use Rattle.mbox_cutter.proofs.LineLists.{lines-cons, lines-nil}
-use Rattle.mail_answer.specs.Closing.{feed, has_feed, feeds_behind, behind_next}
-use Rattle.mail_answer.specs.Inside.Endings.{ending_of_line, ending_of, line_of, with_byte, feeds_of}
-use Rattle.mail_answer.specs.Shapes.{last_of}
-use Rattle.mail_answer.specs.declared.output.ending.Ending.{Ending}
-use Rattle.mail_answer.specs.declared.output.ending.Ending.TheVariants.{Empty, Ended, Return, Open}
+use Rattle.std.proofs.lemmas.List.{length-append, length-drop, take_all}
 use Rattle.mail_answer.proofs.OutputLaws.ClosedLemmas.{last_behind, last-cons, whole_end, whole_feed, has_feed-is, cr_line}
 
 -- ---- single lines
@@ -25,17 +15,10 @@ unfolding is_empty
 one_byte b = go (b == 10) (b == 13)
   where
     go : (x y : Bool) → cond ((x && true) || (y && false)) Empty (cond (x || false) Ended (cond (y && true) Return (Open 1))) ≡ cond x Empty (cond y Return (Open 1))
-    go true true = refl
-    go true false = refl
-    go false true = refl
-    go false false = refl
+    go x y = grind arith
 
 pub lines_single : (b : List ℕ) → 0 < length b → first_length b ≡ length b → lines b ≡ b ∷ []
-lines_single b h e =
-    lines-cons b h
-    ∙ ap (λ (r : List ℕ). take (first_length b) b ∷ lines r) (drop_all (first_length b) b (omega arith))
-    ∙ ap (λ (ls : List (List ℕ)). take (first_length b) b ∷ ls) lines-nil
-    ∙ ap (λ (l : List ℕ). l ∷ []) (take_all (first_length b) b (omega arith))
+lines_single b h e = grind (arith, lines-cons, drop_all, lines-nil, take_all)
 
 single_ending : (b : List ℕ) → 0 < length b → first_length b ≡ length b → ending_of b ≡ ending_of_line b
 single_ending b h e = ap (λ (ls : List (List ℕ)). ending_of_line (last_of ls)) (lines_single b h e)
@@ -49,12 +32,7 @@ one_line_of b = single_ending (b ∷ []) (omega arith) (one_length b) ∙ one_by
 
 -- a line that the next byte doesn't join
 cut_behind : (b x : List ℕ) → 0 < length b → 0 < length x → length b ≡ first_length (b ++ x) → last_of (lines (b ++ x)) ≡ last_of (lines x)
-cut_behind b x h some same =
-    let long : length (b ++ x) ≡ length b + length x = length-append b x in
-    ap last_of (lines-cons (b ++ x) (omega arith))
-    ∙ ap (λ (k : ℕ). last_of (take k (b ++ x) ∷ lines (drop k (b ++ x)))) (sym same)
-    ∙ ap (λ (r : List ℕ). last_of (take (length b) (b ++ x) ∷ lines r)) (drop-append-le (length b) b x (omega arith) ∙ ap (λ (r : List ℕ). r ++ x) (drop_all (length b) b (omega arith)))
-    ∙ last-cons (take (length b) (b ++ x)) x some
+cut_behind b x h some same = grind (arith, length-append, lines-cons, drop-append-le, drop_all, last-cons)
 
 not_empty : (b : List ℕ) → has_feed b ≡ false → is_empty b ≡ false
 unfolding is_empty
@@ -62,25 +40,15 @@ not_empty [] none = refl
 not_empty (x ∷ []) none = go (x == 10) (x == 13) none
   where
     go : (a b : Bool) → (a || false) ≡ false → ((a && true) || (b && false)) ≡ false
-    go true b none = absurd (cc none)
-    go false true none = refl
-    go false false none = refl
+    go a b h = grind arith
 not_empty (x ∷ y ∷ []) none = go (x == 10) (x == 13) (y == 10) none
   where
     go : (a b c : Bool) → (a || (c || false)) ≡ false → ((a && false) || (b && (c && true))) ≡ false
-    go true b c none = absurd (cc none)
-    go false b true none = absurd (cc none)
-    go false true false none = refl
-    go false false false none = refl
+    go a b c h = grind arith
 not_empty (x ∷ y ∷ z ∷ rest) none = go (x == 10) (x == 13) (y == 10)
   where
     go : (a b c : Bool) → ((a && false) || (b && (c && false))) ≡ false
-    go true true true = refl
-    go true true false = refl
-    go true false c = refl
-    go false true true = refl
-    go false true false = refl
-    go false false c = refl
+    go a b c = grind arith
 
 -- CR alone is one byte
 return_long : (b : List ℕ) → bytes_eq b (13 ∷ []) ≡ true → length b ≡ 1
@@ -116,15 +84,7 @@ open_ending : (b : List ℕ) → has_feed b ≡ false → ending_of_line b ≡ c
 open_ending b none = rw (not_empty b none, none) refl
 
 feed_more : (b : List ℕ) → 0 < length b → first_length b ≡ length b → has_feed b ≡ false → ending_of (b ++ feed) ≡ with_byte (ending_of_line b) 10
-feed_more b h e none =
-    let long : length (b ++ feed) ≡ length b + 1 = length-append b feed in
-    let ended : has_feed (b ++ feed) ≡ true = has_feed-append b feed ∙ ap (λ (v : Bool). v || true) none in
-    single_ending (b ++ feed) (omega arith) (whole_feed b e (sym (has_feed-is b) ∙ none))
-    ∙ rw (cr_line b h, ended, open_ending b none) (parts (bytes_eq b (13 ∷ [])))
-  where
-    parts : (v : Bool) → cond v Empty Ended ≡ with_byte (cond v Return (Open (length b))) 10
-    parts true = refl
-    parts false = let some : (length b == 0) ≡ false = grind (arith, nat_tests) in rw some refl
+feed_more b h e none = grind (arith, length-append, has_feed-append, single_ending, whole_feed, has_feed-is, cr_line, open_ending, nat_tests)
 
 at_most : (b : List ℕ) → first_length b ≡ length b → length_before_feed b ≡ length b → length b ≤ 65536
 unfolding first_length
@@ -186,13 +146,7 @@ byte_more b x h e none other =
 
 -- a line that has its LF
 ended_more : (b : List ℕ) (x : ℕ) → 0 < length b → first_length b ≡ length b → has_feed b ≡ true → ending_of (b ++ x ∷ []) ≡ with_byte (ending_of_line b) x
-ended_more b x h e ended =
-    let same : length b ≡ first_length (b ++ x ∷ []) = sym e ∙ line_end-more b (x ∷ []) (first_length b) (whole_end b e (sym (has_feed-is b) ∙ ended)) in
-    ap ending_of_line (cut_behind b (x ∷ []) h (omega arith) same) ∙ one_line_of x ∙ rw ended (parts (is_empty b))
-  where
-    parts : (v : Bool) → line_of x ≡ with_byte (cond v Empty Ended) x
-    parts true = refl
-    parts false = refl
+ended_more b x h e ended = grind (arith, line_end-more, whole_end, has_feed-is, cut_behind, one_line_of)
 
 single_more : (b : List ℕ) (x : ℕ) → 0 < length b → first_length b ≡ length b → ending_of (b ++ x ∷ []) ≡ with_byte (ending_of b) x
 single_more b x h e = go (has_feed b) refl (x == 10) refl ∙ ap (λ (a : Ending). with_byte a x) (sym (single_ending b h e))
@@ -240,11 +194,7 @@ ending_behind b (x ∷ xs) some =
     endings_more b (10 ∷ x ∷ xs) ∙ ap (λ (e : Ending). with_bytes e xs) (begins (ending_of b)) ∙ sym (endings_more [] (x ∷ xs) ∙ ap (λ (e : Ending). with_bytes (with_byte e x) xs) no_lines)
   where
     begins : (e : Ending) → with_byte (with_byte e 10) x ≡ line_of x
-    begins Empty = refl
-    begins Ended = refl
-    begins Return = refl
-    begins (Open zero) = refl
-    begins (Open (suc n)) = let some : (suc n == 0) ≡ false = grind (arith, nat_tests) in rw some refl
+    begins e = grind (arith, nat_tests)
 
 -- ---- what closes the last line
 

@@ -1,11 +1,5 @@
 -- Every table answers every search.
-use Rattle.std.proofs.Common.{◌≡◌, ◌∙◌, ℕ, Bool, true, false, List, length, Option, refl, sym, ap}
-use Rattle.mail_index.specs.declared.kind.Kind.TheVariants.{LinkId}
-use Rattle.mail_index.specs.Tables.{Table}
-use Rattle.mail_index.specs.LookUps.{keys_of}
-use Rattle.mail_query.specs.Query.{Query}
-use Rattle.mail_answer.specs.Mail.{Search, AreChosenBy, satisfying}
-use Rattle.mail_answer.specs.TableAnswers.{mail_told, TableAnswer, IsTableAnswer, answer_of_numbers}
+use Rattle.mail_answer.proofs.Words.{◌≡◌, ◌∙◌, ℕ, Bool, true, false, List, length, Option, refl, sym, ap, LinkId, Table, keys_of, Query, Search, AreChosenBy, satisfying, mail_told, TableAnswer, IsTableAnswer, answer_of_numbers}
 use Rattle.mail_answer.proofs.ThreadLaws.EveryThread.{threads_by_keys}
 use Rattle.mail_answer.proofs.ThreadLaws.OneThreadList.{one_thread_list}
 

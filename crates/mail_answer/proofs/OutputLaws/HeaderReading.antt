@@ -1,34 +1,16 @@
 -- Laws of a header that is read line by line.
-use Rattle.std.proofs.Common.{◌≡◌, ℕ, zero, suc, ◌<◌, ◌≤◌, Bool, true, false, cond, List, [], ◌∷◌, ◌++◌, Option, None, Some, IfSome, length, take, drop, refl, ap, sym, ◌∙◌, append_assoc, append-nil, length-append, arith}
-use Rattle.std.proofs.lemmas.List.{take-append-le, drop-append-le}
-use Rattle.mbox_cutter.specs.Lines.{lines, first_length, is_empty}
-use Rattle.mbox_cutter.proofs.LineLists.{lines-cons, lines-nil}
-use Rattle.header_text.specs.Headers.{HeaderField, fields_of, lines_before_empty, lines_within, fields_in, most_in_header}
+use Rattle.mail_answer.proofs.Words.{◌≡◌, ℕ, ◌<◌, ◌≤◌, true, List, [], ◌∷◌, ◌++◌, Option, None, Some, IfSome, length, take, drop, refl, ap, sym, ◌∙◌, append_assoc, append-nil, length-append, arith, take-append-le, drop-append-le, lines, first_length, lines-cons, lines-nil, HeaderField, fields_of, lines_before_empty, lines_within, fields_in, most_in_header, archive_at, HasFields, WillHaveFields, HasFieldsAfter, Record, Table, excerpt, excerpt_lines, Reading, coming, coming_count, IsInside, known_message, path_at, span, Tells, record_at, Excerpt}
 use Rattle.header_text.specs.HeldLines.{HasLines, taken_of}
 use Rattle.header_text.specs.Stages.{has_empty}
 use Rattle.header_text.specs.declared.header.Header.{Header}
 use Rattle.header_text.specs.declared.header.Taken.{Taken}
 use Rattle.header_text.specs.declared.header.Taken.TheVariants.{More, Ended}
-use Rattle.mail_answer.specs.Archives.{archive_at}
-use Rattle.mail_answer.specs.Inside.HeaderReads.{HasFields, WillHaveFields, HasFieldsAfter}
-use Rattle.mail_index.specs.declared.record.Record.{Record}
-use Rattle.mail_index.specs.Tables.{Table}
-use Rattle.mail_answer.specs.Excerpts.{excerpt, excerpt_lines}
-use Rattle.mail_answer.specs.Inside.Readings.{Reading, coming, coming_count, IsInside}
-use Rattle.mail_answer.specs.Shapes.{known_message, path_at, span}
-use Rattle.mail_answer.specs.Sheets.{Tells}
-use Rattle.mail_answer.specs.TableFacts.{record_at}
-use Rattle.mail_answer.specs.declared.format.Format.TheVariants.{Excerpt}
 use Rattle.mail_answer.proofs.OutputLaws.ClosingLemmas.{count_known}
 
 -- lines behind an empty one don't count
 before_empty-more : (ls more : List (List ℕ)) → has_empty ls ≡ true → lines_before_empty (ls ++ more) ≡ lines_before_empty ls
 before_empty-more [] more h = absurd (cc)
-before_empty-more (k ∷ ks) more h = go (is_empty k) refl (before_empty-more ks more)
-  where
-    go : (t : Bool) → is_empty k ≡ t → (has_empty ks ≡ true → lines_before_empty (ks ++ more) ≡ lines_before_empty ks) → lines_before_empty (k ∷ (ks ++ more)) ≡ lines_before_empty (k ∷ ks)
-    go true e later = rw (e, lines_before_empty) refl
-    go false e later = rw (e, lines_before_empty) (ap (λ (ms : List (List ℕ)). k ∷ ms) (later (rw e at h)))
+before_empty-more (k ∷ ks) more h = grind (arith, before_empty-more ks more)
 
 fields_ended : (ls more : List (List ℕ)) → has_empty ls ≡ true → fields_of (ls ++ more) ≡ fields_of ls
 unfolding fields_of
@@ -42,25 +24,14 @@ nothing (x ∷ xs) e = absurd (omega arith)
 pub none_comes : (held : Option (List (List ℕ))) (number : ℕ) (old new : Reading) (h : Header) → IsInside number held old → coming held new ≡ coming held old → coming_count old ≡ 0
     → (fields : List HeaderField) → WillHaveFields (coming held old) h fields → HasFieldsAfter Ended (coming held new) h fields
 none_comes None number old new h i c z fields w = tt
-none_comes (Some archives) number old new h i c z fields w =
-    let bytes : List ℕ = old.unread ++ take old.left (drop old.next (archive_at archives old.archive)) in
-    let none : bytes ≡ [] = nothing bytes (count_known archives number old i ∙ z) in
-    (w.0, w.1, ap fields_of (sym (append-nil w.0) ∙ ap (λ (ls : List (List ℕ)). w.0 ++ ls) (sym lines-nil) ∙ ap (λ (b : List ℕ). w.0 ++ lines b) (sym none)) ∙ w.2)
+none_comes (Some archives) number old new h i c z fields w = grind (arith, nothing, count_known, append-nil, lines-nil)
 
 -- the next line, as it was read, and those behind it
 next_line : (n : ℕ) (unread more : List ℕ) → 0 < n → n ≤ length unread → n ≡ first_length (unread ++ more) → lines (unread ++ more) ≡ take n unread ∷ lines (drop n unread ++ more)
-next_line n unread more s w f =
-    lines-cons (unread ++ more) (omega (arith, length-append unread more))
-    ∙ ap (λ (k : ℕ). take k (unread ++ more) ∷ lines (drop k (unread ++ more))) (sym f)
-    ∙ ap (λ (l : List ℕ). l ∷ lines (drop n (unread ++ more))) (take-append-le n unread more w)
-    ∙ ap (λ (l : List ℕ). take n unread ∷ lines l) (drop-append-le n unread more w)
+next_line n unread more s w f = grind (arith, lines-cons, length-append, take-append-le, drop-append-le)
 
 ended_is : (ls : List (List ℕ)) → Ended ≡ taken_of ls → has_empty ls ≡ true
-ended_is ls e = go (has_empty ls) refl e
-  where
-    go : (v : Bool) → has_empty ls ≡ v → Ended ≡ cond v Ended More → has_empty ls ≡ true
-    go true h e = h
-    go false h e = absurd (cc e)
+ended_is ls e = grind arith
 
 -- it was given the next line
 pub line_given : (held : Option (List (List ℕ))) (n : ℕ) (old r new : Reading) (h h' : Header) (line : List ℕ) (taken : Taken) → coming held r ≡ coming held old → 0 < n → n ≤ length r.unread
@@ -96,23 +67,7 @@ pub first_passed : (held : Option (List (List ℕ))) (number n : ℕ) (old r new
     → IfSome (coming held old) (λ bytes. n ≡ first_length bytes) → new ≡ record r { unread = drop n r.unread } → HasLines h []
     → IfSome (coming held old) (λ bytes. WillHaveFields (coming held new) h (fields_of (drop 1 (lines bytes))))
 first_passed None number n old r new h i c z w f is none = tt
-first_passed (Some archives) number n old r new h i c z w f is none =
-    rw is ([], none, ap fields_of (rest n refl))
-  where
-    more : List ℕ
-    more = take r.left (drop r.next (archive_at archives r.archive))
-
-    bytes : List ℕ
-    bytes = old.unread ++ take old.left (drop old.next (archive_at archives old.archive))
-
-    same : r.unread ++ more ≡ bytes
-    same = cc c
-
-    rest : (k : ℕ) → n ≡ k → lines (drop n r.unread ++ more) ≡ drop 1 (lines bytes)
-    rest zero e =
-        let empty : bytes ≡ [] = nothing bytes (count_known archives number old i ∙ z e) in
-        ap (λ (k : ℕ). lines (drop k r.unread ++ more)) e ∙ ap lines (same ∙ empty) ∙ lines-nil ∙ ap (drop 1) (sym lines-nil) ∙ ap (λ (b : List ℕ). drop 1 (lines b)) (sym empty)
-    rest (suc k) e = ap (drop 1) (sym (ap lines (sym same) ∙ next_line n r.unread more (omega arith) w (f ∙ ap first_length (sym same))))
+first_passed (Some archives) number n old r new h i c z w f is none = grind (arith, nothing, count_known, lines-nil, next_line)
 
 -- what was to come goes on to be the header's
 pub goes_on : (known before after : Option (List ℕ)) (h h' : Header) (fields : List ℕ → List HeaderField) → IfSome known (λ bytes. WillHaveFields before h (fields bytes))

@@ -1,13 +1,6 @@
 -- The lines of messages, and what is cut of messages that stand one behind another.
-use Rattle.std.proofs.Common.{◌≡◌, ◌∙◌, ℕ, ◌+◌, Bool, true, false, cond, ◌&&◌, ◌||◌, ◌==◌, suc, List, [], ◌∷◌, ◌++◌, Some, length, map, refl, ap, sym, arith, append-nil, length-append}
-use Rattle.std.specs.List.{concat}
-use Rattle.std.proofs.lemmas.Bool.{eqb-true}
-use Rattle.std.proofs.lemmas.List.Folds.{concat-append}
-use Rattle.mbox_cutter.specs.Archives.{Message, cut, messages, messages_from, marked, grouped, is_refused, total, span_length}
-use Rattle.mbox_cutter.specs.Lines.{lines, is_empty, length_before_feed, AreCut}
-use Rattle.mbox_cutter.specs.Separators.{is_separator}
+use Rattle.mail_answer.proofs.Words.{◌≡◌, ◌∙◌, ℕ, ◌+◌, Bool, true, false, cond, ◌&&◌, ◌||◌, ◌==◌, suc, List, [], ◌∷◌, ◌++◌, Some, length, map, refl, ap, sym, arith, append-nil, length-append, concat, eqb-true, concat-append, Message, cut, messages, messages_from, marked, grouped, is_refused, total, span_length, lines, is_empty, length_before_feed, AreCut, is_separator, places_from}
 use Rattle.mbox_cutter.proofs.OnlyLines.{only_lines}
-use Rattle.mail_answer.specs.CutAgain.{places_from}
 
 -- each element
 abbrev pub Each : {A : Type 0} → (A → Type 0) → List A → Type 0
@@ -50,19 +43,12 @@ text_of g = concat (lines_of g)
 grouped-behind : (may : Bool) (ls rest : List (List ℕ)) → StartsNowhere may ls
     → grouped (marked may (ls ++ rest)) ≡ (ls ++ (grouped (marked (may_behind may ls) rest)).0, (grouped (marked (may_behind may ls) rest)).1)
 grouped-behind may [] rest h = refl
-grouped-behind may (l ∷ ls) rest h =
-    rw h.0 (ap (λ (r : List (List ℕ) × List Group). (l ∷ r.0, r.1)) (grouped-behind (is_empty l) ls rest h.1))
+grouped-behind may (l ∷ ls) rest h = grind (arith, grouped-behind (is_empty l) ls rest h.1)
 
 -- messages with a closing line are grouped as they are
 grouped-messages : (gs : List Group) → Each IsMessage gs → Each IsClosed gs → grouped (marked true (all_lines gs)) ≡ ([], gs)
 grouped-messages [] is closed = refl
-grouped-messages (g ∷ gs) is closed =
-    let behind : grouped (marked (is_empty g.0) (g.1 ++ all_lines gs)) ≡ (g.1, gs) =
-    grouped-behind (is_empty g.0) g.1 (all_lines gs) is.0.inside
-    ∙ ap (λ (may : Bool). (g.1 ++ (grouped (marked may (all_lines gs))).0, (grouped (marked may (all_lines gs))).1)) closed.0
-    ∙ ap (λ (r : List (List ℕ) × List Group). (g.1 ++ r.0, r.1)) (grouped-messages gs is.1 closed.1)
-    ∙ ap (λ (ls : List (List ℕ)). (ls, gs)) (append-nil g.1) in
-    rw is.0.starts (ap (λ (r : List (List ℕ) × List Group). ([], (g.0, r.0) ∷ r.1)) behind)
+grouped-messages (g ∷ gs) is closed = grind (arith, grouped-behind, append-nil, grouped-messages gs is.1 closed.1)
 
 -- a separator is no empty line
 pub separator-some : (l : List ℕ) → is_separator l ≡ true → is_empty l ≡ false
@@ -71,8 +57,7 @@ separator-some [] h = absurd (cc h)
 separator-some (x ∷ xs) h = go (x == 70) refl h
   where
     go : (v : Bool) → (x == 70) ≡ v → is_separator (x ∷ xs) ≡ true → is_empty (x ∷ xs) ≡ false
-    go true e h = rw (eqb-true x 70 e) refl
-    go false e h = absurd (cc (rw e at h))
+    go v h h2 = grind (arith, eqb-true)
 
 accepted : (gs : List Group) → Each IsMessage gs → is_refused (marked true (all_lines gs)) ≡ false
 accepted [] is = refl
@@ -106,25 +91,15 @@ empty-feed [] e n = absurd (cc e)
 empty-feed (x ∷ []) e n = tests (x == 10) (x == 13) e n
   where
     tests : (a b : Bool) → ((a && true) || (b && false)) ≡ true → ◌≡◌ {A = ℕ} (cond a 0 1) 1 → ⊥
-    tests true b e n = absurd (omega arith)
-    tests false true e n = absurd (cc e)
-    tests false false e n = absurd (cc e)
+    tests a b h h2 = grind arith
 empty-feed (x ∷ y ∷ []) e n = tests (x == 10) (x == 13) (y == 10) e n
   where
     tests : (a b c : Bool) → ((a && false) || (b && (c && true))) ≡ true → ◌≡◌ {A = ℕ} (cond a 0 (suc (cond c 0 1))) 2 → ⊥
-    tests true b c e n = absurd (omega arith)
-    tests false b true e n = absurd (omega arith)
-    tests false true false e n = absurd (cc e)
-    tests false false false e n = absurd (cc e)
+    tests a b c h h2 = grind arith
 empty-feed (x ∷ y ∷ z ∷ xs) e n = tests (x == 10) (x == 13) (y == 10) e
   where
     tests : (a b c : Bool) → ((a && false) || (b && (c && false))) ≡ true → ⊥
-    tests true true true e = absurd (cc e)
-    tests true true false e = absurd (cc e)
-    tests true false c e = absurd (cc e)
-    tests false true true e = absurd (cc e)
-    tests false true false e = absurd (cc e)
-    tests false false c e = absurd (cc e)
+    tests a b c h = grind arith
 
 -- lines behind an empty one
 behind-closed : (l : List ℕ) (ls ms : List (List ℕ)) → AreCut (l ∷ ls) → may_behind (is_empty l) ls ≡ true → AreCut ms → AreCut (l ∷ (ls ++ ms))

@@ -1,46 +1,28 @@
 -- Laws of what is read of an archive.
-use Rattle.std.proofs.Common.{◌≡◌, ℕ, ◌+◌, ◌-◌, ◌<◌, ◌≤◌, List, ◌++◌, Option, None, Some, IfSome, Result, Ok, Err, IfOk, length, take, drop, refl, ap, sym, ◌∙◌, append_assoc, append-nil, arith}
-use Rattle.std.proofs.Math.Seq.{take-append-add, take-add}
-use Rattle.std.proofs.lemmas.List.{take-append-le, length-take-le, drop-drop}
+use Rattle.mail_answer.proofs.Words.{◌≡◌, ℕ, ◌+◌, ◌-◌, ◌<◌, ◌≤◌, List, ◌++◌, Option, None, Some, IfSome, Result, IfOk, length, take, drop, refl, ap, sym, ◌∙◌, append_assoc, append-nil, arith, take-append-add, take-append-le, drop-drop, DeviceFault, line_end_of, first_length, line_end-more, line_end-whole, archive_at, IsRead, Reading, coming, ReadsBehind, ReadsTail}
+use Rattle.std.proofs.Math.Seq.{take-add}
+use Rattle.std.proofs.lemmas.List.{length-take-le}
 use borrow.Rule.Slice.PartMut.{put_mid}
-use Rattle.mbox_cutter.specs.declared.device.DeviceFault.{DeviceFault}
-use Rattle.mbox_cutter.specs.Lines.{line_end_of, first_length}
-use Rattle.mbox_cutter.proofs.FirstLines.{line_end-more, line_end-whole}
-use Rattle.mail_answer.specs.Archives.{archive_at, IsRead}
-use Rattle.mail_answer.specs.Inside.Readings.{Reading, coming, ReadsBehind, ReadsTail}
 
 take_behind : (front into post : List ℕ) (held n : ℕ) → length front ≡ held → n ≤ length into → take (held + n) (front ++ (into ++ post)) ≡ front ++ take n into
 take_behind front into post held n e h = rw (← e) (take-append-add front (into ++ post) n ∙ ap (λ (s : List ℕ). front ++ s) (take-append-le n into post h))
 
 known_part : (archive offset n : ℕ) (held : Option (List (List ℕ))) (bytes : List ℕ) → length bytes ≡ n → IsRead archive offset bytes held
     → IfSome held (λ archives. bytes ≡ take n (drop offset (archive_at archives archive)))
-known_part archive offset n None bytes e h = tt
-known_part archive offset n (Some archives) bytes e h = h.0 ∙ ap (λ k. take k (drop offset (archive_at archives archive))) e
+known_part archive offset n held bytes h h2 = grind arith
 
 pub tail_read : (archive offset from n k : ℕ) (held : Option (List (List ℕ))) (old into : List ℕ) → from < length old → n ≤ length into → IsRead archive offset (take n into) held
     → ReadsTail archive offset from n held old (put_mid from k old into)
-tail_read archive offset from n k held old into room bound r = record {
-  bytes = take n into;
-  behind = take_behind (take from old) into _ from n (length-take-le from old (omega arith)) bound;
-  number = length-take-le n into bound;
-  read = r;
-}
+tail_read archive offset from n k held old into room bound r = grind (arith, take_behind, length-take-le)
 
 pub tail_result : (archive offset from k : ℕ) (held : Option (List (List ℕ))) (old into : List ℕ) (r : Result ℕ DeviceFault) → from < length old → IfOk r (λ n. n ≤ length into)
     → IfOk r (λ n. IsRead archive offset (take n into) held) → IfOk r (λ n. ReadsTail archive offset from n held old (put_mid from k old into))
-tail_result archive offset from k held old into (Ok n) room bound r = tail_read archive offset from n k held old into room bound r
-tail_result archive offset from k held old into (Err e) room bound r = tt
+tail_result archive offset from k held old into r h h2 h3 = grind (arith, tail_read)
 
 -- what was read behind the bytes that are held is held with them
 pub held_read : (archive offset n count : ℕ) (held : Option (List (List ℕ))) (old new room room' : List ℕ) → take count room ≡ old → 0 < n → ReadsTail archive offset count n held room room'
     → new ≡ take (count + n) room' → ReadsBehind archive offset n held old new
-held_read archive offset n count held old new room room' e some r w = record {
-  bytes = r.bytes;
-  behind = w ∙ r.behind ∙ ap (λ l. l ++ r.bytes) e;
-  number = r.number;
-  some = some;
-  known = known_part archive offset n held r.bytes r.number r.read;
-}
+held_read archive offset n count held old new room room' e some r w = grind (arith, known_part)
 
 -- what comes is the same before and after a read
 pub coming_read : (archive next left n : ℕ) (held : Option (List (List ℕ))) (unread new : List ℕ) → ReadsBehind archive next n held unread new → n ≤ left
@@ -59,12 +41,8 @@ coming_read archive next left n (Some archives) unread new r h =
 
 -- the end of a line is found in what was read
 pub line_found : (n : ℕ) (held : Option (List (List ℕ))) (r : Reading) → Some n ≡ line_end_of r.unread → IfSome (coming held r) (λ bytes. n ≡ first_length bytes)
-line_found n None r e = tt
-line_found n (Some archives) r e = line_end-more r.unread (take r.left (drop r.next (archive_at archives r.archive))) n e
+line_found n held r h = grind (arith, line_end-more)
 
 -- nothing is left, so that what was read is the line
 pub line_left : (held : Option (List (List ℕ))) (r : Reading) → None ≡ line_end_of r.unread → r.left ≡ 0 → IfSome (coming held r) (λ bytes. length r.unread ≡ first_length bytes)
-line_left None r e z = tt
-line_left (Some archives) r e z =
-    let none : List ℕ = drop r.next (archive_at archives r.archive) in
-    sym (line_end-whole r.unread e) ∙ ap first_length (sym (append-nil r.unread)) ∙ ap (λ k. first_length (r.unread ++ take k none)) (sym z)
+line_left held r h h2 = grind (arith, line_end-whole, append-nil)

@@ -1,13 +1,5 @@
 -- Laws of what went out of an answer.
-use Rattle.std.proofs.Common.{◌≡◌, ℕ, List, [], Option, Result, length, refl, sym, ◌∙◌, ap, subst, arith}
-use Rattle.std.specs.List.{flat_map}
-use Rattle.contract_words.proofs.Sending.{appends-nil}
-use Rattle.mail_index.specs.Tables.{Table}
-use Rattle.mail_answer.specs.Answers.{SendsFront, SendsKnown, SendsSpans}
-use Rattle.mail_answer.specs.Mail.{Search, AreChosen}
-use Rattle.mail_answer.specs.Shapes.{known_answer, closed, AreSpansOf}
-use Rattle.mail_answer.specs.Sheets.{Tells}
-use Rattle.mail_answer.specs.TableAnswers.{mail_told, TableAnswer, IsTableAnswer, Answers, answer_of_numbers}
+use Rattle.mail_answer.proofs.Words.{ℕ, List, [], Option, Result, length, refl, subst, arith, flat_map, appends-nil, Table, SendsFront, SendsKnown, SendsSpans, Search, AreChosen, known_answer, closed, AreSpansOf, Tells, mail_told, TableAnswer, IsTableAnswer, Answers}
 use Rattle.mail_answer.specs.declared.fault.AnswerFault.{AnswerFault}
 use Rattle.mail_answer.proofs.OutputLaws.EveryAnswer.{one-choice}
 use Rattle.mail_answer.proofs.OutputLaws.SheetLemmas.{some_text}
@@ -22,9 +14,7 @@ nothing_sent taken known =
 -- what was written is what the table answers
 pub answered_sent : (t : Table) (s : Search) (held : Option (List (List ℕ))) (taken taken' : Option (List ℕ)) (r : Result ℕ AnswerFault) (xs : List ℕ) → AreChosen (mail_told t) s xs
     → SendsKnown taken taken' (known_answer s.format t held xs) (length xs) r → (a : TableAnswer) → IsTableAnswer t s held a → Answers taken taken' a r
-answered_sent t s held taken taken' r xs are sent a is =
-    let same : a ≡ answer_of_numbers t s held xs = is.2 ∙ ap (answer_of_numbers t s held) (one-choice t s.threads s.query is.0 xs is.1 are) in
-    subst (λ (b : TableAnswer). Answers taken taken' b r) (sym same) sent
+answered_sent t s held taken taken' r xs are sent a is = grind (arith, one-choice)
 
 -- nothing went out of an mbox answer
 pub no_spans_sent : (taken : Option (List ℕ)) (t : Table) (numbers : List ℕ) → (spans : List (List ℕ)) × AreSpansOf t numbers spans × SendsFront taken taken (flat_map closed spans) 0

@@ -1,15 +1,6 @@
 -- A line without LF and without CR as its last byte is a separator with LF behind it just where it is one without it.
-use Rattle.std.proofs.Common.{◌≡◌, ◌∙◌, ℕ, zero, suc, ◌+◌, ◌-◌, ◌<◌, Bool, true, false, ◌&&◌, ◌==◌, List, [], ◌∷◌, ◌++◌, length, take, drop, refl, ap, sym, arith, length-append}
-use Rattle.std.specs.Prelude.{codes}
+use Rattle.mail_answer.proofs.Words.{◌≡◌, ◌∙◌, ℕ, zero, suc, ◌+◌, ◌-◌, ◌<◌, Bool, true, false, ◌&&◌, ◌==◌, List, [], ◌∷◌, ◌++◌, length, take, drop, refl, ap, sym, arith, length-append, codes, take-append_seam, drop-append_seam, and_right, or_parts, false_from_ne_true, drop-append-le, bytes_eq-Decides, is_empty, is_separator, without_break, tokens, has_time_then_year, feed, has_feed, ends_in_return}
 use Rattle.std.specs.Str.{bytes_eq}
-use Rattle.std.proofs.Math.Seq.{take-append_seam, drop-append_seam}
-use Rattle.std.proofs.lemmas.Bool.{and_right, or_parts, false_from_ne_true}
-use Rattle.std.proofs.lemmas.List.{drop-append-le}
-use Rattle.std.proofs.lemmas.Slice.Eq.{bytes_eq-Decides}
-use Rattle.mbox_cutter.specs.Lines.{is_empty}
-use Rattle.mbox_cutter.specs.Separators.{is_separator, without_break, tokens, has_time_then_year}
-use Rattle.mail_answer.specs.Closing.{feed, has_feed}
-use Rattle.mail_answer.specs.CutAgain.{ends_in_return}
 
 pub feed_is_empty : is_empty feed ≡ true
 unfolding is_empty
@@ -81,8 +72,7 @@ feed-broken (x ∷ xs) other =
 -- ---- a separator
 
 return-dropped : (a b c d e : ℕ) (rest : List ℕ) → ends_in_return (a ∷ b ∷ c ∷ d ∷ e ∷ rest) ≡ false → ends_in_return rest ≡ false
-return-dropped a b c d e [] other = refl
-return-dropped a b c d e (x ∷ rest) other = other
+return-dropped a b c d e rest h = grind arith
 
 neither : (v t u : Bool) → v ≡ false → (v && t) ≡ (v && u)
 neither v t u e = rw e refl

@@ -1,33 +1,18 @@
 -- Laws of texts that join an answer.
-use Rattle.std.proofs.Common.{◌≡◌, ℕ, ◌+◌, ◌-◌, ◌^◌, min, List, [], ◌++◌, length, Option, None, Some, Result, Ok, Err, IsErr, refl, ap, sym, ◌∙◌, append_assoc, append-nil, length-append, take, drop, ◌≤◌, arith}
-use Rattle.std.proofs.lemmas.List.{take-append-drop, length-take, take_all, take_rest}
+use Rattle.mail_answer.proofs.Words.{◌≡◌, ℕ, ◌+◌, ◌-◌, ◌^◌, min, List, [], ◌++◌, length, Option, None, Some, Result, Ok, Err, IsErr, refl, ap, sym, ◌∙◌, append_assoc, append-nil, length-append, take, drop, ◌≤◌, arith, take-append-drop, take_rest, Appends, Keeps, appends_join, appends-nil, Sheet, counted, Joins, JoinsFront, joined, Tells, Writes}
+use Rattle.std.proofs.lemmas.List.{length-take, take_all}
 use Rattle.std.proofs.Math.Seq.{take-add}
-use Rattle.std.specs.Io.KnownBytes.{Appends, Keeps}
-use Rattle.contract_words.proofs.Sending.{appends_join, appends-nil}
-use Rattle.mail_answer.specs.declared.output.sheet.Sheet.{Sheet}
-use Rattle.mail_answer.specs.Sheets.{counted, Joins, JoinsFront, joined, Tells, Writes}
 
 counted-append : (n : ℕ) (a b : List ℕ) → counted (counted n a) b ≡ counted n (a ++ b)
 counted-append n a b = omega (arith, length-append a b)
 
 -- one text and then another
 pub joins_more : {t u v : Option (List ℕ)} {a b c : Sheet} {x y : List ℕ} → Joins t u a b x → Joins u v b c y → Joins t v a c (x ++ y)
-joins_more {t} {u} {v} {a} {b} {c} {x} {y} h k = record {
-  went = h.went ++ k.went;
-  gathered = sym (append_assoc a.text x y) ∙ ap (λ l. l ++ y) h.gathered ∙ append_assoc h.went b.text y ∙ ap (λ l. h.went ++ l) k.gathered ∙ sym (append_assoc h.went k.went c.text);
-  appends = appends_join t u v h.went k.went h.appends k.appends;
-  count = k.count ∙ ap (λ n. counted n k.went) h.count ∙ counted-append a.sent h.went k.went;
-}
+joins_more {t} {u} {v} {a} {b} {c} {x} {y} h k = grind (arith, append_assoc, appends_join, counted-append)
 
 -- one text and then a front of another
 pub joins_front : {t u v : Option (List ℕ)} {a b c : Sheet} {x y : List ℕ} → Joins t u a b x → JoinsFront u v b c y → JoinsFront t v a c (x ++ y)
-joins_front {t} {u} {v} {a} {b} {c} {x} {y} h k = record {
-  went = h.went ++ k.went;
-  unsent = k.unsent;
-  front = sym (append_assoc a.text x y) ∙ ap (λ l. l ++ y) h.gathered ∙ append_assoc h.went b.text y ∙ ap (λ l. h.went ++ l) k.front ∙ sym (append_assoc h.went k.went k.unsent);
-  appends = appends_join t u v h.went k.went h.appends k.appends;
-  count = k.count ∙ ap (λ n. counted n k.went) h.count ∙ counted-append a.sent h.went k.went;
-}
+joins_front {t} {u} {v} {a} {b} {c} {x} {y} h k = grind (arith, append_assoc, appends_join, counted-append)
 
 -- more would have followed
 pub front_more : {t u : Option (List ℕ)} {a b : Sheet} {x : List ℕ} (y : List ℕ) → JoinsFront t u a b x → JoinsFront t u a b (x ++ y)
@@ -51,8 +36,7 @@ pub counted-start : (n : ℕ) (items : List ℕ) → n ≤ 2 ^ 64 - 1 → n ≡ 
 counted-start n items h = omega arith
 
 take_step : (items : List ℕ) (at n : ℕ) → at + n ≤ length items → take at items ++ take n (take (length items - at) (drop at items)) ≡ take (at + n) items
-take_step items at n h =
-    ap (λ l. take at items ++ take n l) (take_rest items at) ∙ sym (take-add at n items)
+take_step items at n h = grind (arith, take_rest, take-add)
 
 pub appends_step : (t u v : Option (List ℕ)) (items : List ℕ) (at n : ℕ) → at + n ≤ length items → Appends t u (take at items)
     → Appends u v (take n (take (length items - at) (drop at items))) → Appends t v (take (at + n) items)
@@ -64,12 +48,7 @@ counted_step before items sent at n sent' h p q = omega (arith, length-take at i
 
 pub all_went : (t u : Option (List ℕ)) (old new : Sheet) (at : ℕ) → length old.text ≤ at → Appends t u (take at old.text) → new.sent ≡ counted old.sent (take at old.text)
     → new.text ≡ [] → Joins t u old new []
-all_went t u old new at h p q e = record {
-  went = take at old.text;
-  gathered = ap (λ l. l ++ []) (sym (take_all at old.text h)) ∙ ap (λ l. take at old.text ++ l) (sym e);
-  appends = p;
-  count = q;
-}
+all_went t u old new at h p q e = grind (arith, take_all)
 
 pub front_went : (t u v : Option (List ℕ)) (old new : Sheet) (at : ℕ) → Appends t u (take at old.text) → new.sent ≡ counted old.sent (take at old.text)
     → Keeps u v → JoinsFront t v old new []
@@ -91,54 +70,21 @@ front_went t u v old new at p q e = record {
 
 -- they are gathered, and nothing goes out
 pub joins_gathered : (t : Option (List ℕ)) (old new : Sheet) (bytes : List ℕ) → new.text ≡ old.text ++ bytes → new.sent ≡ old.sent → Joins t t old new bytes
-joins_gathered t old new bytes e s = record {
-  went = [];
-  gathered = sym e;
-  appends = appends-nil t;
-  count = omega arith;
-}
+joins_gathered t old new bytes e s = grind (arith, appends-nil)
 
 -- nothing happens
 pub nothing_went : (t : Option (List ℕ)) (old new : Sheet) (bytes : List ℕ) → new.sent ≡ old.sent → JoinsFront t t old new bytes
-nothing_went t old new bytes s = record {
-  went = [];
-  unsent = old.text ++ bytes;
-  front = refl;
-  appends = appends-nil t;
-  count = omega arith;
-}
+nothing_went t old new bytes s = grind (arith, appends-nil)
 
 -- what was gathered is sent
 pub gathered_went : {T E : Type 0} (t u : Option (List ℕ)) (old mid new : Sheet) (bytes : List ℕ) (r : Result T E) → mid.text ≡ old.text ++ bytes → mid.sent ≡ old.sent
     → Writes t u mid new (Some []) r → Writes t u old new (Some bytes) r
-gathered_went t u old mid new bytes (Ok x) e s w = (
-  bytes,
-  refl,
-  record {
-    went = w.2.went;
-    gathered = sym e ∙ sym (append-nil mid.text) ∙ ap (λ l. mid.text ++ l) w.1 ∙ w.2.gathered;
-    appends = w.2.appends;
-    count = w.2.count ∙ ap (λ n. counted n w.2.went) s;
-  },
-)
-gathered_went t u old mid new bytes (Err x) e s w = (
-  bytes,
-  refl,
-  record {
-    went = w.2.went;
-    unsent = w.2.unsent;
-    front = sym e ∙ sym (append-nil mid.text) ∙ ap (λ l. mid.text ++ l) w.1 ∙ w.2.front;
-    appends = w.2.appends;
-    count = w.2.count ∙ ap (λ n. counted n w.2.went) s;
-  },
-)
+gathered_went t u old mid new bytes r h h2 h3 = grind (arith, append-nil)
 
 -- ---- calls one after another
 
 pub tells-joined : (j k : Option (List ℕ)) (x y : List ℕ) → Tells j x → Tells k y → Tells (joined j k) (x ++ y)
-tells-joined None k x y p q = tt
-tells-joined (Some a) None x y p q = tt
-tells-joined (Some a) (Some b) x y p q = ap (λ l. l ++ b) p ∙ ap (λ l. x ++ l) q
+tells-joined j k x y h h2 = grind arith
 
 -- a text that may be unknown is some text
 pub some_text : (k : Option (List ℕ)) → (y : List ℕ) × Tells k y
@@ -165,21 +111,11 @@ writes_nothing t a b k (Err f) err s = let y = some_text k in (y.0, y.1, nothing
 -- a call that went wrong
 pub writes_err : {T E : Type 0} (t u : Option (List ℕ)) (a b : Sheet) (k : Option (List ℕ)) (r : Result T E) → IsErr r
     → ((x : List ℕ) × Tells k x × JoinsFront t u a b x) → Writes t u a b k r
-writes_err t u a b k (Ok y) err w = absurd (cc err)
-writes_err t u a b k (Err f) err w = w
+writes_err t u a b k r h h2 = grind arith
 
 -- what is known of a text is less
 pub writes_less : {T E : Type 0} (t u : Option (List ℕ)) (a b : Sheet) (k : Option (List ℕ)) (text : List ℕ) (r : Result T E) → Tells k text → Writes t u a b (Some text) r → Writes t u a b k r
-writes_less t u a b k text (Ok y) h w = (w.0, tells_same k text w.0 h w.1, w.2)
-  where
-    tells_same : (k : Option (List ℕ)) (x y : List ℕ) → Tells k x → x ≡ y → Tells k y
-    tells_same None x y h e = tt
-    tells_same (Some z) x y h e = h ∙ e
-writes_less t u a b k text (Err f) h w = (w.0, tells_same k text w.0 h w.1, w.2)
-  where
-    tells_same : (k : Option (List ℕ)) (x y : List ℕ) → Tells k x → x ≡ y → Tells k y
-    tells_same None x y h e = tt
-    tells_same (Some z) x y h e = h ∙ e
+writes_less t u a b k text r h h2 = grind arith
 
 -- ---- where no byte has gone out, none had before
 
@@ -190,5 +126,4 @@ pub unsent_before_front : {t u : Option (List ℕ)} {a b : Sheet} {x : List ℕ}
 unsent_before_front {t} {u} {a} {b} {x} h unsent = omega (arith, h.count, unsent)
 
 pub unsent_before_writes : {T E : Type 0} (t u : Option (List ℕ)) (a b : Sheet) (k : Option (List ℕ)) (r : Result T E) → Writes t u a b k r → b.sent ≡ 0 → a.sent ≡ 0
-unsent_before_writes t u a b k (Ok y) w unsent = unsent_before w.2 unsent
-unsent_before_writes t u a b k (Err e) w unsent = unsent_before_front w.2 unsent
+unsent_before_writes t u a b k r h h2 = grind (arith, unsent_before, unsent_before_front)

@@ -1,14 +1,6 @@
 -- Laws of closed spans that join an answer, message by message.
-use Rattle.std.proofs.Common.{◌≡◌, ◌∙◌, ℕ, List, [], ◌∷◌, ◌++◌, length, Option, Some, Result, IsErr, refl, ap, ap₂, sym, subst, append-nil}
-use Rattle.std.proofs.lemmas.List.{map-append}
-use Rattle.std.proofs.lemmas.List.Concat.{flat_map-append}
-use Rattle.std.specs.List.{flat_map}
-use Rattle.mail_index.specs.Tables.{Table}
+use Rattle.mail_answer.proofs.Words.{◌≡◌, ◌∙◌, ℕ, List, [], ◌∷◌, ◌++◌, length, Option, Some, Result, IsErr, refl, ap, ap₂, sym, subst, append-nil, arith, map-append, flat_map-append, flat_map, Table, closed, AreSpansOf, Joins, JoinsFront, Writes, record_at, Sheet}
 use Rattle.mail_answer.specs.Inside.Spans.{WritesSpans}
-use Rattle.mail_answer.specs.Shapes.{closed, AreSpansOf}
-use Rattle.mail_answer.specs.Sheets.{Joins, JoinsFront, Writes}
-use Rattle.mail_answer.specs.TableFacts.{record_at}
-use Rattle.mail_answer.specs.declared.output.sheet.Sheet.{Sheet}
 use Rattle.mail_answer.proofs.OutputLaws.CopiedPieces.{some_bytes}
 use Rattle.mail_answer.proofs.OutputLaws.SheetLemmas.{joins_more, writes_next, writes_stop}
 
@@ -21,8 +13,7 @@ some_spans t (n ∷ numbers) =
     (bytes.0 ∷ rest.0, ap₂ (λ k ks. k ∷ ks) bytes.1 rest.1)
 
 are_spans : (t : Table) (done numbers : List ℕ) (spans more : List (List ℕ)) → AreSpansOf t done spans → AreSpansOf t numbers more → AreSpansOf t (done ++ numbers) (spans ++ more)
-are_spans t done numbers spans more are then =
-    map-append length spans more ∙ ap₂ (λ xs ys. xs ++ ys) are then ∙ sym (map-append (λ (n : ℕ). (record_at t.messages n).length) done numbers)
+are_spans t done numbers spans more are then = grind (arith, map-append)
 
 -- one span more
 pub spans_more : {t u v : Option (List ℕ)} {a b c : Sheet} (table : Table) (done : List ℕ) (n : ℕ)

@@ -1,16 +1,5 @@
 -- The messages that are chosen by the roots of their trees are all of some threads.
-use Rattle.std.proofs.Common.{◌≡◌, ◌∙◌, ◌+◌, ◌<◌, ◌≤◌, ℕ, zero, suc, Bool, true, false, cond, nat_eq, ◌&&◌, ◌⊎◌, List, [], ◌∷◌, length, get_or, inl, inr, refl, sym, ap, subst, arith, eq-eqb, add-one, Result, Ok, Err, IfOk}
-use Rattle.std.specs.List.{AllByRecursion, filter, list_any, range_with_len}
-use Rattle.std.proofs.lemmas.List.FromFn.{length-map-range_with_len, get_or-map-range_with_len}
-use Rattle.std.proofs.lemmas.Bool.{eqb-true, or_cases, or_left, or_right}
-use Rattle.std.proofs.lemmas.Bool.Decides.{eqb_tells}
-use Rattle.mail_index.specs.declared.kind.Kind.TheVariants.{LinkId}
-use Rattle.mail_index.specs.Tables.{Table, Key, RisesFrom}
-use Rattle.mail_index.specs.LookUps.{keys_of}
-use Rattle.mail_answer.specs.TableFacts.{is_among}
-use Rattle.mail_answer.specs.Marks.{truth_at, each_number}
-use Rattle.mail_answer.specs.Threads.{IsPath, IsInThreadOfSome, AreThreads}
-use Rattle.mail_answer.specs.Inside.Forests.{TellsThreads}
+use Rattle.mail_answer.proofs.Words.{◌≡◌, ◌∙◌, ◌+◌, ◌<◌, ◌≤◌, ℕ, zero, suc, Bool, true, false, cond, nat_eq, ◌⊎◌, List, [], ◌∷◌, length, get_or, inl, inr, refl, sym, ap, subst, arith, eq-eqb, add-one, Result, IfOk, AllByRecursion, filter, list_any, range_with_len, length-map-range_with_len, get_or-map-range_with_len, eqb-true, or_cases, or_left, or_right, eqb_tells, LinkId, Table, Key, RisesFrom, keys_of, is_among, truth_at, each_number, IsPath, IsInThreadOfSome, AreThreads, TellsThreads}
 use Rattle.mail_answer.proofs.ThreadLaws.ThreadLemmas.{itself}
 
 -- ---- membership
@@ -50,11 +39,7 @@ lower a b (n ∷ ns) le rises = let first : b ≤ n = rises.0 in (omega arith, r
 
 pub passed_rise : (test : ℕ → Bool) (a count : ℕ) → RisesFrom a (filter test (range_with_len a count))
 passed_rise test a zero = tt
-passed_rise test a (suc count) = go (test a) (subst (λ (b : ℕ). RisesFrom b (filter test (range_with_len (a + 1) count))) (add-one a) (passed_rise test (a + 1) count))
-  where
-    go : (passes : Bool) → RisesFrom (suc a) (filter test (range_with_len (a + 1) count)) → RisesFrom a (cond passes (a ∷ filter test (range_with_len (a + 1) count)) (filter test (range_with_len (a + 1) count)))
-    go true rest = (omega arith, rest)
-    go false rest = lower a (suc a) (filter test (range_with_len (a + 1) count)) (omega arith) rest
+passed_rise test a (suc count) = grind (arith, add-one, lower, passed_rise test (a + 1) count)
 
 pub from_passed : (test : ℕ → Bool) (a count n : ℕ) → is_among n (filter test (range_with_len a count)) ≡ true → (n < a + count) × (test n ≡ true)
 from_passed test a zero n among = absurd (cc among)
@@ -123,27 +108,15 @@ chosen_threads t numbers roots members test tells within marked are =
 
 path_without : (t : Table) (m n : ℕ) (path : List ℕ) → keys_of LinkId t.keys ≡ [] → IsPath t m path n → m ≡ n
 path_without t m n [] none here = here
-path_without t m n (l ∷ path) none given =
-    absurd (cc (sym given.0 ∙ ap (λ (ks : List Key). list_any (λ (k : Key). is_among m k.numbers && is_among l k.numbers) ks) none))
+path_without t m n (l ∷ path) none given = grind arith
 
 pub threads_without : (t : Table) (numbers : List ℕ) → (keys_of LinkId t.keys ≡ []) ⊎ (numbers ≡ []) → RisesFrom 0 numbers → AllByRecursion (λ n. n < length t.messages) numbers → AreThreads t numbers numbers
-threads_without t numbers none rises within = record {
-  rises = rises;
-  each = λ n. (
-    λ (among : is_among n numbers ≡ true). (below (λ k. k < length t.messages) numbers n within among, (n, among, itself t n)),
-    λ (given : (n < length t.messages) × IsInThreadOfSome t numbers n).
-        elim none [
-          | inl links ↦ subst (λ (k : ℕ). is_among k numbers ≡ true) (path_without t given.1.0 n given.1.2.0 links given.1.2.1) given.1.1
-          | inr empty ↦ absurd (cc (sym given.1.1 ∙ ap (is_among given.1.0) empty))
-        ],
-  );
-}
+threads_without t numbers none rises within = grind (arith, below, itself, path_without)
 
 -- ---- what the calls answered
 
 pub ok_then : {A E : Type 0} (r : Result A E) (P Q : A → Type 0) → IfOk r P → ((v : A) → P v → Q v) → IfOk r Q
-ok_then (Ok v) P Q given next = next v given
-ok_then (Err e) P Q given next = tt
+ok_then r P Q h h2 = grind arith
 
 pub empty_is : (xs : List ℕ) → length xs ≡ 0 → xs ≡ []
 empty_is [] long = refl
@@ -155,10 +128,7 @@ no_keys (k ∷ ks) none = absurd (none (omega arith))
 
 -- each root has its place in the marks
 pub root_has_mark : (t : Table) (roots : List ℕ) (marks : List Bool) (test : ℕ → Bool) → TellsThreads t roots → marks ≡ each_number (length t.messages) test → (n : ℕ) → n < length roots → get_or roots n 0 < length marks
-root_has_mark t roots marks test tells are n lt =
-    let low : get_or roots n 0 ≤ n = tells.back n lt in
-    let long : length marks ≡ length t.messages = ap length are ∙ length-map-range_with_len test 0 (length t.messages) in
-    omega (arith, lt, low, long, tells.long)
+root_has_mark t roots marks test tells are n lt = grind (arith, length-map-range_with_len)
 
 pub chosen_by_marks : (t : Table) (numbers roots members : List ℕ) (marks : List Bool) → TellsThreads t roots → AllByRecursion (λ n. n < length t.messages) numbers
     → marks ≡ each_number (length t.messages) (λ r. list_any (λ n. nat_eq r (get_or roots n 0)) numbers)
@@ -178,9 +148,7 @@ all_from_members P (n ∷ ns) each =
 
 -- the numbers of messages that pass a test are below their count
 pub passed_below : (test : ℕ → Bool) (count : ℕ) → AllByRecursion (λ n. n < count) (filter test (range_with_len 0 count))
-passed_below test count =
-    all_from_members (λ n. n < count) (filter test (range_with_len 0 count))
-    (λ n among. let passed : (n < 0 + count) × (test n ≡ true) = from_passed test 0 count n among in omega (arith, passed.0))
+passed_below test count = grind (arith, all_from_members, from_passed)
 
 pub threads_below : (t : Table) (numbers members : List ℕ) → AreThreads t numbers members → AllByRecursion (λ n. n < length t.messages) members
 threads_below t numbers members are = all_from_members (λ n. n < length t.messages) members (λ n among. ((are.each n).0 among).0)

@@ -1,10 +1,5 @@
 -- Whatever links messages by the keys that they share, there are the threads of any of them.
-use Rattle.std.proofs.Common.{◌≡◌, ◌∙◌, ◌+◌, ◌<◌, ℕ, Bool, true, nat_eq, ◌&&◌, ◌||◌, List, [], ◌∷◌, ◌++◌, inl, inr, refl, sym, ap, subst, arith, eq-eqb}
-use Rattle.std.specs.List.{list_any, filter, range_with_len}
-use Rattle.std.proofs.lemmas.Bool.{eqb-true, or_cases, or_left, or_right, and_parts, and_from}
-use Rattle.mail_index.specs.Tables.{Key}
-use Rattle.mail_answer.specs.TableFacts.{is_among}
-use Rattle.mail_answer.specs.Mail.{IsChain, IsLedTo, IsLedToBySome, AreThreadsOf}
+use Rattle.mail_answer.proofs.Words.{◌≡◌, ◌∙◌, ◌+◌, ◌<◌, ℕ, Bool, true, nat_eq, ◌&&◌, ◌||◌, List, [], ◌∷◌, ◌++◌, inl, inr, refl, sym, ap, subst, arith, eq-eqb, list_any, filter, range_with_len, eqb-true, or_cases, or_left, or_right, and_parts, and_from, Key, is_among, IsChain, IsLedTo, IsLedToBySome, AreThreadsOf}
 use Rattle.mail_answer.proofs.ThreadLaws.ChosenThreads.{passed_rise, from_passed, to_passed}
 
 -- ---- some element of a list

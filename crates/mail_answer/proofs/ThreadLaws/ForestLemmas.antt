@@ -1,11 +1,6 @@
 -- Trees of messages that get shorter, and are joined.
-use Rattle.std.proofs.Common.{◌≡◌, ◌≢◌, ◌∙◌, ◌+◌, ◌<◌, ◌≤◌, ℕ, List, length, get_or, inl, inr, refl, sym, ap, subst, arith}
-use Rattle.std.proofs.Math.ListN.{set, length-set}
-use Rattle.std.proofs.lemmas.List.{get_or-set_same, get_or-set_other}
-use Rattle.std.proofs.lemmas.Bool.Decides.{eqb_tells}
-use Rattle.mail_index.specs.Tables.{Table}
-use Rattle.mail_answer.specs.Threads.{IsInThread}
-use Rattle.mail_answer.specs.Inside.Forests.{LeadsBack, StaysInThreads, LabelsTrees, Shortens}
+use Rattle.mail_answer.proofs.Words.{◌≡◌, ◌≢◌, ◌∙◌, ◌+◌, ◌<◌, ◌≤◌, ℕ, List, length, get_or, inl, inr, refl, sym, ap, subst, arith, set, get_or-set_same, get_or-set_other, eqb_tells, Table, IsInThread, LeadsBack, StaysInThreads, LabelsTrees, Shortens}
+use Rattle.std.proofs.Math.ListN.{length-set}
 use Rattle.mail_answer.proofs.ThreadLaws.ThreadLemmas.{through}
 
 -- ---- one parent is exchanged
@@ -15,13 +10,7 @@ same_there p i g n lt same = ap (λ (k : ℕ). get_or (set p i g) k 0) same ∙ 
 
 -- what holds of the new parent there, and of the old ones elsewhere, holds of each
 pub each_parent : (P : ℕ → ℕ → Type 0) (p : List ℕ) (i g : ℕ) → i < length p → P i g → ((n : ℕ) → n < length p → n ≢ i → P n (get_or p n 0)) → (n : ℕ) → n < length p → P n (get_or (set p i g) n 0)
-each_parent P p i g lt here elsewhere n within =
-    elim (eqb_tells n i) [
-      | inl this ↦
-          let at_it : P n g = subst (λ (k : ℕ). P k g) (sym this.1) here in
-          subst (P n) (sym (same_there p i g n lt this.1)) at_it
-      | inr other ↦ subst (P n) (sym (get_or-set_other p i n g 0 other.1)) (elsewhere n within other.1)
-    ]
+each_parent P p i g lt here elsewhere n within = grind (arith, eqb_tells, same_there, get_or-set_other)
 
 pub still_back : (p : List ℕ) (i g : ℕ) → i < length p → g ≤ i → LeadsBack p → LeadsBack (set p i g)
 still_back p i g lt before back = λ n within. each_parent (λ m r. r ≤ m) p i g lt before (λ m h ne. back m h) n (subst (λ (k : ℕ). n < k) (length-set p i g) within)
@@ -31,11 +20,7 @@ still_threads t p i g lt leads stays = λ n within. each_parent (IsInThread t) p
 
 -- a label of the new trees is one of the old ones, if it is at the exchanged place
 pub still_labels : (label : ℕ → ℕ) (p : List ℕ) (i g : ℕ) → i < length p → label (get_or p i 0) ≡ label i → LabelsTrees label (set p i g) → LabelsTrees label p
-still_labels label p i g lt here labels = λ n within.
-    elim (eqb_tells n i) [
-      | inl this ↦ subst (λ (k : ℕ). label (get_or p k 0) ≡ label k) (sym this.1) here
-      | inr other ↦ ap label (sym (get_or-set_other p i n g 0 other.1)) ∙ labels n (subst (λ (k : ℕ). n < k) (sym (length-set p i g)) within)
-    ]
+still_labels label p i g lt here labels = grind (arith, eqb_tells, get_or-set_other, length-set)
 
 pub label_there : (label : ℕ → ℕ) (p : List ℕ) (i g : ℕ) → i < length p → LabelsTrees label (set p i g) → label g ≡ label i
 label_there label p i g lt labels = ap label (sym (get_or-set_same p i g 0 lt)) ∙ labels i (subst (λ (k : ℕ). i < k) (sym (length-set p i g)) lt)
@@ -111,36 +96,4 @@ flat_none p n lt = absurd (omega (arith, lt))
 -- one more
 pub flat_more : (p q : List ℕ) (i r : ℕ) → LeadsBack p → i < length p → r ≡ get_or p (get_or p i 0) 0 → q ≡ set p i r
     → ((n : ℕ) → n < i → get_or p (get_or p n 0) 0 ≡ get_or p n 0) → (n : ℕ) → n < i + 1 → get_or q (get_or q n 0) 0 ≡ get_or q n 0
-flat_more p q i r back lt value after flat n within =
-    subst (λ (xs : List ℕ). get_or xs (get_or xs n 0) 0 ≡ get_or xs n 0) (sym after)
-    (elim (eqb_tells n i) [
-      | inl this ↦
-          let there : get_or (set p i r) n 0 ≡ r = same_there p i r n lt this.1 in
-          ap (λ (k : ℕ). get_or (set p i r) k 0) there ∙ at_root ∙ sym there
-      | inr other ↦
-          let there : get_or (set p i r) n 0 ≡ get_or p n 0 = get_or-set_other p i n r 0 other.1 in
-          let before : n < i = before_it other.1 in
-          let parent : get_or p n 0 ≤ n = back n (omega (arith, before, lt)) in
-          let elsewhere : get_or p n 0 ≢ i = (λ (same : get_or p n 0 ≡ i). omega (arith, same, parent, before)) in
-          ap (λ (k : ℕ). get_or (set p i r) k 0) there ∙ get_or-set_other p i (get_or p n 0) r 0 elsewhere ∙ flat n before ∙ sym there
-    ])
-  where
-    before_it : n ≢ i → n < i
-    before_it other = omega (arith, other, within)
-
-    low : get_or p i 0 ≤ i
-    low = back i lt
-
-    lower : get_or p i 0 ≢ i → get_or p i 0 < i
-    lower other = let bound : get_or p i 0 ≤ i = low in omega (arith, other, bound)
-
-    at_root : get_or (set p i r) r 0 ≡ r
-    at_root = elim (eqb_tells r i) [
-      | inl this ↦ same_there p i r r lt this.1
-      | inr other ↦
-          get_or-set_other p i r r 0 other.1
-          ∙ (elim (eqb_tells (get_or p i 0) i) [
-            | inl stays ↦ absurd (other.1 (value ∙ ap (λ (k : ℕ). get_or p k 0) stays.1 ∙ stays.1))
-            | inr moves ↦ ap (λ (k : ℕ). get_or p k 0) value ∙ flat (get_or p i 0) (lower moves.1) ∙ sym value
-          ])
-    ]
+flat_more p q i r back lt value after flat n within = grind (arith, eqb_tells, set, same_there, get_or-set_other)

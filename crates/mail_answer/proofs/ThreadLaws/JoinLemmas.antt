@@ -1,12 +1,6 @@
 -- Trees of messages that become one.
-use Rattle.std.proofs.Common.{◌≡◌, ◌∙◌, ◌<◌, ◌≤◌, ℕ, true, nat_eq, ◌&&◌, List, [], ◌∷◌, length, get_or, inl, inr, refl, sym, ap, eq-eqb}
-use Rattle.std.specs.List.{list_any}
-use Rattle.std.proofs.Math.ListN.{set, length-set}
-use Rattle.std.proofs.lemmas.Bool.{eqb-true, or_cases, or_left, or_right, and_parts, and_from}
-use Rattle.mail_index.specs.Tables.{Table}
-use Rattle.mail_answer.specs.TableFacts.{is_among}
-use Rattle.mail_answer.specs.Threads.{IsInThread}
-use Rattle.mail_answer.specs.Inside.Forests.{StaysInThreads, LabelsTrees, Shortens, Unites, AreBothAmong, ShareKey}
+use Rattle.mail_answer.proofs.Words.{◌≡◌, ◌∙◌, ◌<◌, ◌≤◌, ℕ, true, nat_eq, ◌&&◌, List, [], ◌∷◌, length, get_or, inl, inr, refl, sym, ap, eq-eqb, arith, list_any, set, eqb-true, or_cases, or_left, or_right, and_parts, and_from, Table, is_among, IsInThread, StaysInThreads, LabelsTrees, Shortens, Unites, AreBothAmong, ShareKey}
+use Rattle.std.proofs.Math.ListN.{length-set}
 use Rattle.mail_answer.proofs.ThreadLaws.ThreadLemmas.{through, back_again}
 use Rattle.mail_answer.proofs.ThreadLaws.ForestLemmas.{still_back, still_threads, still_labels, label_there}
 
@@ -37,45 +31,18 @@ behind_first : (first n : ℕ) (ns : List ℕ) → is_among n ns ≡ true → is
 behind_first first n ns among = or_right (nat_eq n first) (is_among n ns) among
 
 between : (first n x : ℕ) (ns : List ℕ) → is_among x (first ∷ ns) ≡ true → is_among x (first ∷ n ∷ ns) ≡ true
-between first n x ns among =
-    elim (or_cases (nat_eq x first) (is_among x ns) among) [
-      | inl this ↦ one_of first x (n ∷ ns) (eqb-true x first this)
-      | inr behind ↦ behind_first first x (n ∷ ns) (behind_first n x ns behind)
-    ]
+between first n x ns among = grind (arith, or_cases, one_of, eqb-true, behind_first)
 
 -- what the second of them has too, all have
 as_first : (label : ℕ → ℕ) (first n : ℕ) (ns : List ℕ) → label n ≡ label first → ((x : ℕ) → is_among x (first ∷ ns) ≡ true → label x ≡ label first)
     → (x : ℕ) → is_among x (first ∷ n ∷ ns) ≡ true → label x ≡ label first
-as_first label first n ns second rest x among =
-    elim (or_cases (nat_eq x first) (is_among x (n ∷ ns)) among) [
-      | inl this ↦ ap label (eqb-true x first this)
-      | inr behind ↦
-          elim (or_cases (nat_eq x n) (is_among x ns) behind) [
-            | inl this ↦ ap label (eqb-true x n this) ∙ second
-            | inr far ↦ rest x (behind_first first x ns far)
-          ]
-    ]
+as_first label first n ns second rest x among = grind (arith, or_cases, eqb-true, behind_first)
 
 pub united_none : (p : List ℕ) → Unites (AreBothAmong []) p p
-united_none p = record {
-  long = refl;
-  back = λ back. back;
-  labels = λ label labels. labels;
-  united = λ m n both. absurd (cc both.0);
-  threads = λ t all stays. stays;
-}
+united_none p = grind arith
 
 pub united_one : (p : List ℕ) (first : ℕ) → Unites (AreBothAmong (first ∷ [])) p p
-united_one p first = record {
-  long = refl;
-  back = λ back. back;
-  labels = λ label labels. labels;
-  united = λ m n both label labels. ap label (the_first m both.0 ∙ sym (the_first n both.1));
-  threads = λ t all stays. stays;
-}
-  where
-    the_first : (m : ℕ) → is_among m (first ∷ []) ≡ true → m ≡ first
-    the_first m among = elim (or_cases (nat_eq m first) (is_among m []) among) [ inl this ↦ eqb-true m first this | inr none ↦ absurd (cc none) ]
+united_one p first = grind (arith, or_cases, eqb-true)
 
 pub united_more : (p q r : List ℕ) (first n : ℕ) (ns : List ℕ) → Unites (λ x y. (x ≡ first) × (y ≡ n)) p q → Unites (AreBothAmong (first ∷ ns)) q r → Unites (AreBothAmong (first ∷ n ∷ ns)) p r
 united_more p q r first n ns one rest = record {
@@ -96,13 +63,7 @@ united_more p q r first n ns one rest = record {
 -- ---- all keys
 
 pub keys_none : (p : List ℕ) → Unites (ShareKey []) p p
-keys_none p = record {
-  long = refl;
-  back = λ back. back;
-  labels = λ label labels. labels;
-  united = λ m n both. absurd (cc both);
-  threads = λ t all stays. stays;
-}
+keys_none p = grind arith
 
 pub keys_more : (p q r : List ℕ) (k : List ℕ × List ℕ) (ks : List (List ℕ × List ℕ)) → Unites (AreBothAmong k.1) p q → Unites (ShareKey ks) q r → Unites (ShareKey (k ∷ ks)) p r
 keys_more p q r k ks one rest = record {

@@ -1,19 +1,6 @@
 -- Lists of numbers of messages, number by number.
-use Rattle.std.proofs.Common.{◌≡◌, ◌∙◌, ℕ, suc, ◌+◌, ◌<◌, ◌≤◌, Bool, true, false, List, [], ◌∷◌, ◌++◌, length, drop, get_or, drop-cons, add-one, Option, None, Some, refl, sym, ap, arith}
-use Rattle.std.specs.List.{AllByRecursion}
-use Rattle.std.proofs.lemmas.List.Concat.{flat_map-cons}
-use Rattle.mail_index.specs.Tables.{Table, RisesFrom}
-use Rattle.mail_query.specs.Query.{Query}
-use Rattle.mail_query.specs.Truth.{is_true}
-use Rattle.mail_answer.specs.Inside.CursorLists.{AreNumbers}
-use Rattle.mail_answer.specs.CursorNumbers.{TakesFirst}
-use Rattle.mail_answer.specs.Mail.{AreChosenBy}
-use Rattle.mail_answer.specs.Shapes.{known_answer, known_message, answer_text, message_text}
-use Rattle.mail_answer.specs.Sheets.{joined, Tells}
-use Rattle.mail_answer.specs.TableAnswers.{mail_told}
-use Rattle.mail_answer.specs.TableFacts.{facts_at, record_at, chosen_numbers}
+use Rattle.mail_answer.proofs.Words.{◌≡◌, ◌∙◌, ℕ, suc, ◌+◌, ◌<◌, ◌≤◌, Bool, true, false, List, [], ◌∷◌, ◌++◌, length, drop, get_or, drop-cons, add-one, Option, Some, sym, ap, arith, AllByRecursion, flat_map-cons, Table, RisesFrom, Query, AreNumbers, TakesFirst, AreChosenBy, known_answer, known_message, answer_text, message_text, joined, Tells, mail_told, record_at, chosen_numbers}
 use Rattle.mail_answer.specs.declared.format.Format.{Format}
-use Rattle.mail_answer.specs.declared.format.Format.TheVariants.{Raw, Excerpt, Mbox}
 use Rattle.mail_answer.proofs.ThreadLaws.ChosenThreads.{passed_rise, passed_below, threads_below, lower}
 
 -- the first number is gone
@@ -23,17 +10,12 @@ numbers_next count n ns are = record { rises = lower 0 (suc n) ns (omega arith) 
 -- rising numbers below another are no more than that
 pub few_numbers : (low high : ℕ) (ns : List ℕ) → low ≤ high → RisesFrom low ns → AllByRecursion (λ n. n < high) ns → low + length ns ≤ high
 few_numbers low high [] le rises below = omega (arith, le)
-few_numbers low high (n ∷ ns) le rises below =
-    let rest : suc n + length ns ≤ high = few_numbers (suc n) high ns (omega (arith, below.0)) rises.1 below.1 in
-    omega (arith, rest, rises.0)
+few_numbers low high (n ∷ ns) le rises below = grind (arith, few_numbers (suc n) high ns (omega (arith, below.0)) rises.1 below.1)
 
 -- ---- those that are chosen are rising numbers of messages
 
 pub numbers_chosen : (t : Table) (q : Query) → AreNumbers (length t.messages) (chosen_numbers t q)
-numbers_chosen t q = record {
-  rises = passed_rise (λ n. is_true q (facts_at t n)) 0 (length t.messages);
-  below = passed_below (λ n. is_true q (facts_at t n)) (length t.messages);
-}
+numbers_chosen t q = grind (arith, passed_rise, passed_below)
 
 pub numbers_are : (t : Table) (q : Query) (threads : Bool) (ns : List ℕ) → AreChosenBy threads (mail_told t) q ns → AreNumbers (length t.messages) ns
 numbers_are t q true ns are = record { rises = are.rises; below = threads_below t (chosen_numbers t q) ns are }
@@ -47,18 +29,10 @@ text_first format t archives n ns = flat_map-cons (λ k. message_text format t.a
 
 pub known_first : (format : Format) (t : Table) (held : Option (List (List ℕ))) (n : ℕ) (ns : List ℕ)
     → known_answer format t held (n ∷ ns) ≡ joined (known_message format t held n) (known_answer format t held ns)
-known_first Raw t held n ns = ap Some (text_first Raw t [] n ns)
-known_first Excerpt t None n ns = refl
-known_first Excerpt t (Some archives) n ns = ap Some (text_first Excerpt t archives n ns)
-known_first Mbox t None n ns = refl
-known_first Mbox t (Some archives) n ns = ap Some (text_first Mbox t archives n ns)
+known_first format t held n ns = grind (arith, text_first)
 
 pub known_none : (format : Format) (t : Table) (held : Option (List (List ℕ))) → Tells (known_answer format t held []) []
-known_none Raw t held = refl
-known_none Excerpt t None = tt
-known_none Excerpt t (Some archives) = refl
-known_none Mbox t None = tt
-known_none Mbox t (Some archives) = refl
+known_none format t held = grind arith
 
 -- ---- a list of which some were given
 

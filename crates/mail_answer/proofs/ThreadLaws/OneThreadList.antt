@@ -1,9 +1,5 @@
 -- The list of the threads of messages is one: what is asked of it leaves no choice.
-use Rattle.std.proofs.Common.{◌≡◌, ◌∙◌, ◌≤◌, ℕ, suc, true, nat_eq, List, [], ◌∷◌, inl, inr, refl, ap, subst, arith, eq-eqb}
-use Rattle.std.proofs.lemmas.Bool.{eqb-true, or_cases, or_left, or_right}
-use Rattle.mail_index.specs.Tables.{Table, RisesFrom}
-use Rattle.mail_answer.specs.TableFacts.{is_among}
-use Rattle.mail_answer.specs.Threads.{AreThreads}
+use Rattle.mail_answer.proofs.Words.{◌≡◌, ◌∙◌, ◌≤◌, ℕ, suc, true, nat_eq, List, [], ◌∷◌, inl, inr, refl, ap, subst, arith, eq-eqb, eqb-true, or_cases, or_left, or_right, Table, RisesFrom, is_among, AreThreads}
 
 not_before : (low : ℕ) (ns : List ℕ) (n : ℕ) → RisesFrom low ns → is_among n ns ≡ true → low ≤ n
 not_before low [] n rises among = absurd (cc among)
@@ -15,11 +11,7 @@ not_before low (m ∷ ns) n rises among =
     ]
 
 behind : (m n : ℕ) (ns : List ℕ) → suc m ≤ n → is_among n (m ∷ ns) ≡ true → is_among n ns ≡ true
-behind m n ns later among =
-    elim (or_cases (nat_eq n m) (is_among n ns) among) [
-      | inl this ↦ let same : n ≡ m = eqb-true n m this in absurd (omega arith)
-      | inr rest ↦ rest
-    ]
+behind m n ns later among = grind (arith, or_cases, eqb-true)
 
 first_of : (m : ℕ) (ns : List ℕ) → is_among m (m ∷ ns) ≡ true
 first_of m ns = or_left (nat_eq m m) (is_among m ns) (eq-eqb m m refl)
@@ -43,5 +35,4 @@ one_list low (x ∷ xs) (y ∷ ys) xs_rise ys_rise forth back =
     behind x n xs (omega arith) (back n (or_right (nat_eq n y) (is_among n ys) among))))
 
 pub one_thread_list : (t : Table) (numbers xs ys : List ℕ) → AreThreads t numbers xs → AreThreads t numbers ys → xs ≡ ys
-one_thread_list t numbers xs ys first second =
-    one_list 0 xs ys first.rises second.rises (λ n among. (second.each n).1 ((first.each n).0 among)) (λ n among. (first.each n).1 ((second.each n).0 among))
+one_thread_list t numbers xs ys first second = grind (arith, one_list)

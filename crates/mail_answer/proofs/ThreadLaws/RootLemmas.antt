@@ -1,33 +1,18 @@
 -- Trees that are threads once they are joined by all link ids.
-use Rattle.std.proofs.Common.{◌≡◌, ◌∙◌, ◌<◌, ℕ, Bool, true, false, cond, ◌&&◌, ◌||◌, List, [], ◌∷◌, length, map, get_or, refl, sym, ap, subst, arith}
-use Rattle.std.specs.List.{AllByRecursion, list_any, range_with_len}
-use Rattle.std.proofs.lemmas.List.FromFn.{get_or-range_with_len, length-range_with_len}
-use Rattle.mail_index.specs.declared.kind.Kind.TheVariants.{LinkId}
-use Rattle.mail_index.specs.Tables.{Table, Key, IsKey, IsWellFormed}
-use Rattle.mail_index.specs.LookUps.{is_of_kind, keys_of, text_and_numbers}
-use Rattle.mail_answer.specs.TableFacts.{is_among}
-use Rattle.mail_answer.specs.Threads.{are_linked, IsPath, IsInThread}
-use Rattle.mail_answer.specs.Inside.Forests.{LeadsBack, StaysInThreads, LabelsTrees, Shortens, Unites, ShareKey, TellsThreads}
+use Rattle.mail_answer.proofs.Words.{◌≡◌, ◌∙◌, ◌<◌, ℕ, Bool, true, ◌&&◌, ◌||◌, List, [], ◌∷◌, length, map, get_or, refl, sym, ap, subst, arith, AllByRecursion, list_any, range_with_len, get_or-range_with_len, length-range_with_len, LinkId, Table, Key, IsKey, IsWellFormed, keys_of, text_and_numbers, is_among, are_linked, IsPath, IsInThread, LeadsBack, StaysInThreads, LabelsTrees, Shortens, Unites, ShareKey, TellsThreads}
 use Rattle.mail_answer.proofs.ThreadLaws.ThreadLemmas.{itself, by_link, through, back_again}
 
 -- ---- single messages, and the keys of an index
 
 at_single : (p : List ℕ) (count n : ℕ) → p ≡ range_with_len 0 count → n < length p → get_or p n 0 ≡ n
-at_single p count n single lt =
-    let long : length p ≡ count = ap length single ∙ length-range_with_len 0 count in
-    ap (λ (xs : List ℕ). get_or xs n 0) single ∙ get_or-range_with_len 0 count n 0 (omega (arith, long, lt)) ∙ omega arith
+at_single p count n single lt = grind (arith, length-range_with_len, get_or-range_with_len)
 
 pub single_back : (p : List ℕ) (count : ℕ) → p ≡ range_with_len 0 count → LeadsBack p
 single_back p count single = λ n lt. let same : get_or p n 0 ≡ n = at_single p count n single lt in omega (arith, same)
 
 keys_below : (version count : ℕ) (ks : List Key) → AllByRecursion (IsKey version count) ks → AllByRecursion (λ (k : List ℕ × List ℕ). AllByRecursion (λ n. n < count) k.1) (map text_and_numbers (keys_of LinkId ks))
 keys_below version count [] all = tt
-keys_below version count (k ∷ ks) all = go (is_of_kind LinkId k) (keys_below version count ks all.1)
-  where
-    go : (of_kind : Bool) → AllByRecursion (λ (key : List ℕ × List ℕ). AllByRecursion (λ n. n < count) key.1) (map text_and_numbers (keys_of LinkId ks))
-        → AllByRecursion (λ (key : List ℕ × List ℕ). AllByRecursion (λ n. n < count) key.1) (map text_and_numbers (cond of_kind (k ∷ keys_of LinkId ks) (keys_of LinkId ks)))
-    go true rest = (all.0.below, rest)
-    go false rest = rest
+keys_below version count (k ∷ ks) all = grind (arith, keys_below version count ks all.1)
 
 pub link_keys_below : (t : Table) (p : List ℕ) → IsWellFormed t → p ≡ range_with_len 0 (length t.messages)
     → AllByRecursion (λ (k : List ℕ × List ℕ). AllByRecursion (λ n. n < length p) k.1) (map text_and_numbers (keys_of LinkId t.keys))

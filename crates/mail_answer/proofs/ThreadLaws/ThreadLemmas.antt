@@ -1,19 +1,10 @@
 -- Paths of links, one after another and back.
-use Rattle.std.proofs.Common.{◌≡◌, ◌∙◌, ℕ, Bool, true, ◌&&◌, ◌||◌, List, [], ◌∷◌, ◌++◌, refl, sym, ap, subst}
-use Rattle.std.specs.List.{list_any}
-use Rattle.std.proofs.Math.Bool.{and_comm}
-use Rattle.mail_index.specs.declared.kind.Kind.TheVariants.{LinkId}
-use Rattle.mail_index.specs.Tables.{Key, Table}
-use Rattle.mail_index.specs.LookUps.{keys_of}
-use Rattle.mail_answer.specs.TableFacts.{is_among}
-use Rattle.mail_answer.specs.Threads.{are_linked, IsPath, IsInThread}
+use Rattle.mail_answer.proofs.Words.{◌≡◌, ◌∙◌, ℕ, true, ◌&&◌, List, [], ◌∷◌, ◌++◌, refl, sym, subst, arith, list_any, and_comm, LinkId, Key, Table, keys_of, is_among, are_linked, IsPath, IsInThread}
 
 -- a key has both, whichever is named first
 both_turned : (m n : ℕ) (ks : List Key) → list_any (λ (k : Key). is_among m k.numbers && is_among n k.numbers) ks ≡ list_any (λ (k : Key). is_among n k.numbers && is_among m k.numbers) ks
 both_turned m n [] = refl
-both_turned m n (k ∷ ks) =
-    ap (λ (b : Bool). b || list_any (λ (key : Key). is_among m key.numbers && is_among n key.numbers) ks) (and_comm (is_among m k.numbers) (is_among n k.numbers))
-    ∙ ap (λ (b : Bool). (is_among n k.numbers && is_among m k.numbers) || b) (both_turned m n ks)
+both_turned m n (k ∷ ks) = grind (arith, and_comm, both_turned m n ks)
 
 linked_turned : (t : Table) (m n : ℕ) → are_linked t m n ≡ true → are_linked t n m ≡ true
 linked_turned t m n linked = both_turned n m (keys_of LinkId t.keys) ∙ linked

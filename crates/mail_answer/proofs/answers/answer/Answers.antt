@@ -1,5 +1,4 @@
-use Rattle.std.proofs.Common.{◌∙◌}
-use Rattle.mail_answer.specs.TableAnswers.{search_of}
+use Rattle.mail_answer.proofs.Words.{◌∙◌, search_of}
 use Rattle.mail_answer.proofs.OutputLaws.SentLemmas.{nothing_sent, answered_sent, no_spans_sent, spans_sent}
 use Rattle.mail_answer.proofs.answers.answer.Goals as goal
 

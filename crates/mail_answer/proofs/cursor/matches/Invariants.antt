@@ -1,4 +1,4 @@
-use Rattle.std.proofs.Common.{◌≡◌, ◌++◌, length}
+use Rattle.mail_answer.proofs.Words.{◌≡◌, ◌++◌, length}
 use Rattle.mail_answer.proofs.cursor.matches.Given as goal
 
 -- the numbers so far, and those to come

@@ -1,6 +1,4 @@
-use Rattle.std.proofs.Common.{◌<◌, ℕ, List, length, sym, subst}
-use Rattle.std.specs.List.{AllByRecursion}
-use Rattle.mail_answer.specs.Inside.Forests.{Unites, ShareKey}
+use Rattle.mail_answer.proofs.Words.{◌<◌, ℕ, List, length, sym, subst, AllByRecursion, Unites, ShareKey}
 use Rattle.mail_answer.proofs.ThreadLaws.RootLemmas.{single_back, link_keys_below, threads_told}
 use Rattle.mail_answer.proofs.threads.join_threads.Goals as goal
 

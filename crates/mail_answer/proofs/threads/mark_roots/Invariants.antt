@@ -1,6 +1,4 @@
-use Rattle.std.proofs.Common.{nat_eq, get_or, take}
-use Rattle.std.specs.List.{list_any}
-use Rattle.mail_answer.specs.Marks.{Adds}
+use Rattle.mail_answer.proofs.Words.{nat_eq, get_or, take, list_any, Adds}
 use Rattle.mail_answer.proofs.threads.mark_roots.Given as goal
 
 abbrev pub invariant-loop-number : goal.invariant-loop-number

@@ -1,12 +1,5 @@
-use Rattle.std.proofs.Common.{◌≡◌, ◌∙◌, ◌<◌, ◌⊎◌, ℕ, nat_eq, List, [], length, get_or, inl, inr, sym, ap, subst, arith}
-use Rattle.std.specs.List.{list_any}
-use Rattle.std.proofs.lemmas.Bool.{eqb-true}
+use Rattle.mail_answer.proofs.Words.{◌≡◌, ◌∙◌, ◌⊎◌, ℕ, nat_eq, List, [], length, get_or, inl, inr, sym, ap, subst, arith, list_any, eqb-true, LinkId, keys_of, each_number, AreThreads, TellsThreads}
 use Rattle.std.proofs.lemmas.List.Elements.{All-from_recursion}
-use Rattle.mail_index.specs.declared.kind.Kind.TheVariants.{LinkId}
-use Rattle.mail_index.specs.LookUps.{keys_of}
-use Rattle.mail_answer.specs.Marks.{each_number}
-use Rattle.mail_answer.specs.Threads.{AreThreads}
-use Rattle.mail_answer.specs.Inside.Forests.{TellsThreads}
 use Rattle.mail_answer.proofs.ThreadLaws.ChosenThreads.{ok_then, empty_is, no_keys, threads_without, root_has_mark, chosen_by_marks}
 use Rattle.mail_answer.proofs.threads.thread_members.Goals as goal
 use Rattle.mail_answer.proofs.threads.thread_members.Goals.{then-is_empty-via-then-is_empty, then-is_empty-via-else-is_empty+then-not-has_links}
@@ -22,15 +15,10 @@ returns-then-is_empty c =
     (λ v same. subst (AreThreads c.args.index.now c.args.numbers.now) (sym same) (threads_without c.args.index.now c.args.numbers.now none c.requires.rises c.requires.within))
 
 pub root_marks-requires-clause-within : goal.root_marks-requires-clause-within
-root_marks-requires-clause-within c = λ k d lt.
-    let within : get_or c.args.numbers.now k d < length c.args.index.now.messages = All-from_recursion (λ n. n < length c.args.index.now.messages) c.args.numbers.now c.requires.within k d lt in
-    omega (arith, ap length c.as_slice.ensures.value, c.in_ok-roots.ensures.long)
+root_marks-requires-clause-within c = grind (arith, All-from_recursion)
 
 pub with_marked_root-requires-clause-marked : goal.with_marked_root-requires-clause-marked
-with_marked_root-requires-clause-marked c =
-    let tells : TellsThreads c.args.index.now c.as_slice-2.result.now = subst (TellsThreads c.args.index.now) (sym c.as_slice-2.ensures.value) c.in_ok-roots.ensures in
-    root_has_mark c.args.index.now c.as_slice-2.result.now c.as_slice-3.result.now (λ r. list_any (λ n. nat_eq r (get_or c.as_slice.result.now n 0)) c.args.numbers.now) tells
-    (c.as_slice-3.ensures.value ∙ c.in_ok-marks.ensures ∙ ap (λ (count : ℕ). each_number count (λ r. list_any (λ n. nat_eq r (get_or c.as_slice.result.now n 0)) c.args.numbers.now)) c.message_count.ensures)
+with_marked_root-requires-clause-marked c = grind (arith, root_has_mark)
 
 pub returns : goal.returns
 returns c =

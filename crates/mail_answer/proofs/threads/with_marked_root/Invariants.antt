@@ -1,6 +1,4 @@
-use Rattle.std.proofs.Common.{◌≡◌, get_or}
-use Rattle.std.specs.List.{filter, range_with_len}
-use Rattle.mail_answer.specs.Marks.{truth_at}
+use Rattle.mail_answer.proofs.Words.{◌≡◌, get_or, filter, range_with_len, truth_at}
 use Rattle.mail_answer.proofs.threads.with_marked_root.Given as goal
 
 abbrev pub invariant-loop-number : goal.invariant-loop-number

@@ -1,7 +1,4 @@
-use Rattle.std.proofs.Common.{◌≡◌, drop, IfSome}
-use Rattle.mail_answer.specs.Asked.{Agree}
-use Rattle.mail_answer.specs.Stale.{first_changed}
-use Rattle.mail_answer.specs.Asked.{HoldsArchives}
+use Rattle.mail_answer.proofs.Words.{◌≡◌, drop, IfSome, Agree, first_changed, HoldsArchives}
 use Rattle.mail_answer.proofs.archives.stale.check_archives.Given as goal
 
 -- the archives before this one are as they were

@@ -1,7 +1,5 @@
-use Rattle.std.proofs.Common.{◌≡◌, drop}
+use Rattle.mail_answer.proofs.Words.{◌≡◌, drop, AreRead, KeepsArchives}
 use Rattle.mail_answer.proofs.ArchiveLaws.VerifiedLemmas.{UnalteredTo}
-use Rattle.mail_answer.specs.Verified.{AreRead}
-use Rattle.mail_answer.specs.Inside.Calls.{KeepsArchives}
 use Rattle.mail_answer.proofs.archives.verified.check_digests.Given as goal
 
 -- the archives before this one are those that were indexed

@@ -1,6 +1,5 @@
-use Rattle.std.proofs.Common.{◌≡◌, ◌≤◌, ◌-◌}
+use Rattle.mail_answer.proofs.Words.{◌≡◌, ◌≤◌, ◌-◌, KeepsArchives}
 use Rattle.mail_answer.proofs.ArchiveLaws.DigestLemmas.{AbsorbedTo}
-use Rattle.mail_answer.specs.Inside.Calls.{KeepsArchives}
 use Rattle.mail_answer.proofs.archives.verified.read_digest.Given as goal
 
 -- the bytes before this place were taken into the digest

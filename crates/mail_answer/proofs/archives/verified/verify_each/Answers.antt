@@ -1,5 +1,4 @@
-use Rattle.std.proofs.Common.{◌≡◌, ◌∙◌, ℕ, List, Option, None, Ok, Err, IfSome, OnOk, length, subst, sym}
-use Rattle.mail_answer.specs.Stale.{stale_archive}
+use Rattle.mail_answer.proofs.Words.{◌≡◌, ◌∙◌, ℕ, List, Option, None, Ok, Err, IfSome, OnOk, length, subst, sym, stale_archive}
 use Rattle.mail_answer.proofs.ArchiveLaws.VerifiedLemmas.{told_by_digests, read_of_all}
 use Rattle.mail_answer.proofs.archives.verified.verify_each.Goals as goal
 

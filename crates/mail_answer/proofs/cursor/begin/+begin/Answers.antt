@@ -1,60 +1,30 @@
-use Rattle.std.proofs.Common.{◌∙◌, ◌+◌, ◌≤◌, ℕ, List, length, drop, sym, ap, subst, arith, IfOk}
+use Rattle.mail_answer.proofs.Words.{◌∙◌, ◌+◌, ◌≤◌, ℕ, List, length, drop, sym, ap, subst, arith, IfOk, eqb-true, Table, truths, Node, Query, query_of, queries_of, members_of, fits, Whole, Within, Front, most_left}
 use Rattle.std.specs.Vec.{vec_len}
-use Rattle.std.proofs.lemmas.Bool.{eqb-true}
-use Rattle.mail_index.specs.Tables.{Table}
-use Rattle.mail_answer.specs.TableFacts.{truths}
-use Rattle.mail_query.specs.declared.node.Node.{Node}
 use Rattle.mail_query.specs.Query as query
-use Rattle.mail_query.specs.Query.{Query, query_of, queries_of, members_of}
 use Rattle.mail_query.proofs.NodeLemmas.{query_of-Flag, query_of-Not}
-use Rattle.mail_answer.specs.Marks.{fits}
-use Rattle.mail_answer.specs.declared.cursor.fit.Fit.TheVariants.{Whole, Within, Front}
-use Rattle.mail_answer.specs.Cursors.{most_left}
 use Rattle.mail_answer.proofs.CursorLaws.NodeQueries.{query_of-Any, query_of-Word, query_of-Part, query_of-Prefix, query_of-Either}
 use Rattle.mail_answer.proofs.CursorLaws.MemberLemmas.{next_member, no_member}
 use Rattle.mail_answer.proofs.CursorLaws.Texts.{word_past}
-use Rattle.mail_answer.proofs.CursorLaws.Begins.{some_walk, query_of-Date, query_of-Size, query_of-All, tells_scanned, scanned_left, tells_text, tells_not, tells_grouped, grouped_left, tells_common, tells_none, walks_more, walks_steps, walks_told}
+use Rattle.mail_answer.proofs.CursorLaws.Begins.{some_walk, query_of-Date, query_of-Size, query_of-All, tells_scanned, tells_text, tells_not, tells_grouped, tells_common, tells_none, walks_more, walks_told}
 use Rattle.mail_answer.proofs.cursor.begin.+begin.Goals as goal
 
 pub walk_of-returns-in-Any-clause-truths : goal.walk_of-returns-in-Any-clause-truths
-walk_of-returns-in-Any-clause-truths t c =
-    tells_scanned c.args.index.now (query_of c.args.node.now) query.Any c.new.result.truths c.scanned.result (ap query_of c.in-Any.is ∙ query_of-Any)
-    (c.new.ensures.truths ∙ ap (λ (table : Table). truths table query.Any) c.again.ensures.same) c.scanned.ensures.truths
-
-pub walk_of-returns-in-Any-clause-left : goal.walk_of-returns-in-Any-clause-left
-walk_of-returns-in-Any-clause-left t c =
-    scanned_left c.args.index.now (query_of c.args.node.now) query.Any c.new.result.left c.scanned.result (ap query_of c.in-Any.is ∙ query_of-Any)
-    (c.new.ensures.left ∙ ap (λ (table : Table). length table.messages) c.again.ensures.same) c.scanned.ensures.left
+walk_of-returns-in-Any-clause-truths t c = grind (arith, tells_scanned, query_of-Any)
 
 pub walk_of-returns-in-Date-clause-truths : goal.walk_of-returns-in-Date-clause-truths
 walk_of-returns-in-Date-clause-truths t c =
     tells_scanned c.args.index.now (query_of c.args.node.now) (query.Date c.in-Date.range) c.new-in-Date.result.truths c.scanned-in-Date.result (ap query_of c.in-Date.is ∙ query_of-Date c.in-Date.range)
     (c.new-in-Date.ensures.truths ∙ ap (λ (table : Table). truths table (query.Date c.in-Date.range)) c.again-in-Date.ensures.same) c.scanned-in-Date.ensures.truths
 
-pub walk_of-returns-in-Date-clause-left : goal.walk_of-returns-in-Date-clause-left
-walk_of-returns-in-Date-clause-left t c =
-    scanned_left c.args.index.now (query_of c.args.node.now) (query.Date c.in-Date.range) c.new-in-Date.result.left c.scanned-in-Date.result (ap query_of c.in-Date.is ∙ query_of-Date c.in-Date.range)
-    (c.new-in-Date.ensures.left ∙ ap (λ (table : Table). length table.messages) c.again-in-Date.ensures.same) c.scanned-in-Date.ensures.left
-
 pub walk_of-returns-in-Size-clause-truths : goal.walk_of-returns-in-Size-clause-truths
 walk_of-returns-in-Size-clause-truths t c =
     tells_scanned c.args.index.now (query_of c.args.node.now) (query.Size c.in-Size.low c.in-Size.high) c.new-in-Size.result.truths c.scanned-in-Size.result (ap query_of c.in-Size.is ∙ query_of-Size c.in-Size.low c.in-Size.high)
     (c.new-in-Size.ensures.truths ∙ ap (λ (table : Table). truths table (query.Size c.in-Size.low c.in-Size.high)) c.again-in-Size.ensures.same) c.scanned-in-Size.ensures.truths
 
-pub walk_of-returns-in-Size-clause-left : goal.walk_of-returns-in-Size-clause-left
-walk_of-returns-in-Size-clause-left t c =
-    scanned_left c.args.index.now (query_of c.args.node.now) (query.Size c.in-Size.low c.in-Size.high) c.new-in-Size.result.left c.scanned-in-Size.result (ap query_of c.in-Size.is ∙ query_of-Size c.in-Size.low c.in-Size.high)
-    (c.new-in-Size.ensures.left ∙ ap (λ (table : Table). length table.messages) c.again-in-Size.ensures.same) c.scanned-in-Size.ensures.left
-
 pub walk_of-returns-in-Flag-clause-truths : goal.walk_of-returns-in-Flag-clause-truths
 walk_of-returns-in-Flag-clause-truths t c =
     tells_scanned c.args.index.now (query_of c.args.node.now) (query.HasFlag c.in-Flag.flag c.in-Flag.wanted) c.new-in-Flag.result.truths c.scanned-in-Flag.result (ap query_of c.in-Flag.is ∙ query_of-Flag c.in-Flag.flag c.in-Flag.wanted)
     (c.new-in-Flag.ensures.truths ∙ ap (λ (table : Table). truths table (query.HasFlag c.in-Flag.flag c.in-Flag.wanted)) c.again-in-Flag.ensures.same) c.scanned-in-Flag.ensures.truths
-
-pub walk_of-returns-in-Flag-clause-left : goal.walk_of-returns-in-Flag-clause-left
-walk_of-returns-in-Flag-clause-left t c =
-    scanned_left c.args.index.now (query_of c.args.node.now) (query.HasFlag c.in-Flag.flag c.in-Flag.wanted) c.new-in-Flag.result.left c.scanned-in-Flag.result (ap query_of c.in-Flag.is ∙ query_of-Flag c.in-Flag.flag c.in-Flag.wanted)
-    (c.new-in-Flag.ensures.left ∙ ap (λ (table : Table). length table.messages) c.again-in-Flag.ensures.same) c.scanned-in-Flag.ensures.left
 
 pub walk_of-returns-in-Word-clause-truths : goal.walk_of-returns-in-Word-clause-truths
 walk_of-returns-in-Word-clause-truths t c =
@@ -97,19 +67,6 @@ walk_of-returns-in_ok-walks-in-Either-clause-truths t c =
     tells_grouped c.args.index.now (query_of c.args.node.now) (queries_of c.deref-in-Either.result.now) c.in_ok-walks-in-Either.walks.items c.united_in_groups.result
     (ap query_of c.in-Either.is ∙ query_of-Either c.in-Either.members ∙ ap (λ (ns : List Node). query.Either (members_of (queries_of ns))) (sym c.deref-in-Either.ensures.value))
     c.in_ok-walks-in-Either.ensures.truths c.united_in_groups.ensures.truths
-
-pub walk_of-returns-in_ok-walks-in-Either-clause-left : goal.walk_of-returns-in_ok-walks-in-Either-clause-left
-walk_of-returns-in_ok-walks-in-Either-clause-left t c =
-    grouped_left c.args.index.now (query_of c.args.node.now) (queries_of c.deref-in-Either.result.now) c.in_ok-walks-in-Either.walks.items c.united_in_groups.result
-    (ap query_of c.in-Either.is ∙ query_of-Either c.in-Either.members ∙ ap (λ (ns : List Node). query.Either (members_of (queries_of ns))) (sym c.deref-in-Either.ensures.value))
-    c.in_ok-walks-in-Either.ensures.left c.united_in_groups.ensures.left
-
-pub walks_of-returns-in_err-walk-clause-steps : goal.walks_of-returns-in_err-walk-clause-steps
-walks_of-returns-in_err-walk-clause-steps t c =
-    let nodes : List Node = c.args.nodes.now in
-    let i : ℕ = c.loop-node.node-index in
-    walks_steps c.args.index.now (queries_of nodes) c.args.steps.now (query_of c.node-item.result) (queries_of (drop i nodes)) (queries_of (drop (i + 1) nodes)) c.loop-node.walks.items c.loop-node.steps c.walk_of.new.steps
-    c.loop-node.invariant (next_member nodes i c.node-item.result c.loop-node-test.true c.node-item.is) c.walk_of.ensures.steps
 
 pub walks_of-loop-node-preserved : goal.walks_of-loop-node-preserved
 walks_of-loop-node-preserved t c =

@@ -1,5 +1,4 @@
-use Rattle.std.proofs.Common.{drop}
-use Rattle.mail_query.specs.Query.{queries_of}
+use Rattle.mail_answer.proofs.Words.{drop, queries_of}
 use Rattle.mail_answer.proofs.CursorLaws.Begins.{HaveWalks}
 use Rattle.mail_answer.proofs.cursor.begin.+begin.Given as goal
 

@@ -1,4 +1,4 @@
-use Rattle.std.proofs.Common.{◌∙◌, sym}
+use Rattle.mail_answer.proofs.Words.{◌∙◌, sym}
 use Rattle.mail_answer.proofs.CursorLaws.Lists.{cut_more}
 use Rattle.mail_answer.proofs.cursor.listed.cut.Goals as goal
 

@@ -1,5 +1,4 @@
-use Rattle.std.proofs.Common.{subst, refl}
-use Rattle.mail_answer.specs.CursorAhead.{IsFirst, united}
+use Rattle.mail_answer.proofs.Words.{subst, refl, IsFirst, united}
 use Rattle.mail_answer.proofs.CursorLaws.MarkedLists.{few_cut, none_marks, none_drops, none_first, begun_marks, begun_drops, begun_first}
 use Rattle.mail_answer.proofs.cursor.marked.begin_window.Goals as goal
 

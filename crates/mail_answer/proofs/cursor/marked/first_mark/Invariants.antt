@@ -1,5 +1,4 @@
-use Rattle.std.proofs.Common.{◌≡◌, ◌-◌, ◌+◌, ◌<◌, ◌≤◌, ℕ, false, length}
-use Rattle.mail_answer.specs.Marks.{truth_at}
+use Rattle.mail_answer.proofs.Words.{◌≡◌, ◌-◌, ◌+◌, ◌<◌, ◌≤◌, ℕ, false, length, truth_at}
 use Rattle.mail_answer.proofs.cursor.marked.first_mark.Given as goal
 
 abbrev pub invariant-loop-place : goal.invariant-loop-place

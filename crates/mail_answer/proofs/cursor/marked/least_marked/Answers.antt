@@ -1,5 +1,4 @@
-use Rattle.std.proofs.Common.{List, Bool, Some, None, subst}
-use Rattle.mail_answer.specs.Inside.CursorMarks.{IsFirstMark}
+use Rattle.mail_answer.proofs.Words.{List, Bool, Some, None, subst, arith, IsFirstMark}
 use Rattle.mail_answer.proofs.CursorLaws.MarkedLists.{found_drops, found_first, windowed_drops, windowed_first}
 use Rattle.mail_answer.proofs.cursor.marked.least_marked.Goals as goal
 
@@ -12,9 +11,7 @@ returns-in-Some-clause-number c =
     (subst (λ (xs : List Bool). IsFirstMark c.args.start.now c.max.result xs (Some c.in-Some.number)) c.as_slice.ensures c.in-Some.ensures)
 
 pub returns-clause-rest : goal.returns-clause-rest
-returns-clause-rest c =
-    windowed_drops c.args.n c.args.low.now c.max.result c.args.start.now c.args.marks.now c.args.lists.now.items c.args.ahead.now c.requires c.max.ensures c.begin_window.new.start c.begin_window.new.marks c.begin_window.new.lists.items
-    (subst (λ (xs : List Bool). IsFirstMark c.args.start.now c.max.result xs None) c.as_slice.ensures c.in_default.ensures) c.begin_window.ensures.rest
+returns-clause-rest c = grind (arith, windowed_drops)
 
 pub returns-clause-number : goal.returns-clause-number
 returns-clause-number c =

@@ -1,6 +1,4 @@
-use Rattle.std.proofs.Common.{◌≡◌}
-use Rattle.std.specs.Prelude.{IfNone}
-use Rattle.mail_answer.specs.CursorAhead.{IsFirst, Counts}
+use Rattle.mail_answer.proofs.Words.{◌≡◌, IfNone, IsFirst, Counts}
 use Rattle.mail_answer.proofs.CursorLaws.MarkedLists.{HasMarked, room_behind}
 use Rattle.mail_answer.proofs.cursor.marked.mark.Given as goal
 

@@ -1,6 +1,4 @@
-use Rattle.std.proofs.Common.{◌≡◌, ◌<◌, ℕ, Option, Some, length, subst, arith}
-use Rattle.std.specs.Prelude.{IfNone}
-use Rattle.mail_answer.specs.CursorAhead.{Ahead, IsFirst, left_in}
+use Rattle.mail_answer.proofs.Words.{◌≡◌, ◌<◌, ℕ, Option, Some, length, subst, arith, IfNone, Ahead, IsFirst, left_in}
 use Rattle.mail_answer.proofs.CursorLaws.MarkedLists.{list_few, marked_on, goes_out, goes_out_steps, turn_counts, all_drops, all_first, all_marks}
 use Rattle.mail_answer.proofs.cursor.marked.mark_all.Goals as goal
 
@@ -37,9 +35,7 @@ loop-place-preserved c =
     }
 
 pub returns-clause-rest : goal.returns-clause-rest
-returns-clause-rest c =
-    all_drops c.args.start c.args.lists.now.items c.args.marks.now c.loop-place.place c.loop-place.lists.items c.loop-place.marks c.loop-place.least c.loop-place.invariant.marked
-    (omega (arith, c.loop-place-test.false, c.len.ensures, c.loop-place.lists.ok.0))
+returns-clause-rest c = grind (arith, all_drops)
 
 pub returns-clause-number : goal.returns-clause-number
 returns-clause-number c =

@@ -1,5 +1,4 @@
-use Rattle.std.proofs.Common.{◌-◌, length}
-use Rattle.mail_answer.specs.CursorAhead.{Counts, left_in}
+use Rattle.mail_answer.proofs.Words.{◌-◌, length, Counts, left_in}
 use Rattle.mail_answer.proofs.CursorLaws.MarkedLists.{HaveMarked}
 use Rattle.mail_answer.proofs.cursor.marked.mark_all.Given as goal
 

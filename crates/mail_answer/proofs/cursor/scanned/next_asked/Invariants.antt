@@ -1,7 +1,4 @@
-use Rattle.std.proofs.Common.{◌≡◌, ◌-◌, ◌<◌, ◌≤◌, ℕ, false, length}
-use Rattle.mail_index.specs.Steps.{add_steps}
-use Rattle.mail_answer.specs.CursorAhead.{Spends}
-use Rattle.mail_answer.specs.Inside.CursorScans.{satisfies}
+use Rattle.mail_answer.proofs.Words.{◌≡◌, ◌-◌, ◌<◌, ◌≤◌, ℕ, false, length, add_steps, Spends, satisfies}
 use Rattle.mail_answer.proofs.cursor.scanned.next_asked.Given as goal
 
 abbrev pub invariant-loop-next : goal.invariant-loop-next

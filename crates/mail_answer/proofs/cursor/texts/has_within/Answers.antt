@@ -1,4 +1,4 @@
-use Rattle.std.proofs.Common.{◌∙◌}
+use Rattle.mail_answer.proofs.Words.{◌∙◌}
 use Rattle.mail_answer.proofs.CursorLaws.Containing.{found}
 use Rattle.mail_answer.proofs.cursor.texts.has_within.Goals as goal
 

@@ -1,7 +1,4 @@
-use Rattle.std.proofs.Common.{◌≡◌, ◌≤◌, ◌+◌, ◌||◌, ℕ, length}
-use Rattle.mail_answer.specs.Marks.{some_key}
-use Rattle.mail_answer.specs.CursorAhead.{left_in}
-use Rattle.mail_answer.specs.Inside.CursorTexts.{some_has, HaveNumbers, numbers_passing, any_text}
+use Rattle.mail_answer.proofs.Words.{◌≡◌, ◌≤◌, ◌+◌, ◌||◌, ℕ, length, some_key, left_in, some_has, HaveNumbers, numbers_passing, any_text}
 use Rattle.mail_answer.proofs.cursor.texts.push_all.Given as goal
 
 -- the walks so far, and those of the keys to come

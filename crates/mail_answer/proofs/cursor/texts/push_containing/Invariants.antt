@@ -1,8 +1,4 @@
-use Rattle.std.proofs.Common.{◌≡◌, ◌≤◌, ◌+◌, ◌||◌, ℕ, length}
-use Rattle.mail_query.specs.Truth.{contains_text}
-use Rattle.mail_answer.specs.Marks.{some_key}
-use Rattle.mail_answer.specs.CursorAhead.{left_in}
-use Rattle.mail_answer.specs.Inside.CursorTexts.{some_has, HaveNumbers, numbers_passing}
+use Rattle.mail_answer.proofs.Words.{◌≡◌, ◌≤◌, ◌+◌, ◌||◌, ℕ, length, contains_text, some_key, left_in, some_has, HaveNumbers, numbers_passing}
 use Rattle.mail_answer.proofs.cursor.texts.push_containing.Given as goal
 
 -- the walks so far, and those of the keys to come

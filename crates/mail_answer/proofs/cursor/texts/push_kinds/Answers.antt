@@ -1,12 +1,4 @@
-use Rattle.std.proofs.Common.{◌∙◌, ◌+◌, ℕ, Bool, List, [], ◌∷◌, ◌++◌, map, drop, get_or, sym}
-use Rattle.std.specs.List.{filter}
-use Rattle.mail_words.specs.declared.kind.TextKind.TheVariants.{To}
-use Rattle.mail_index.specs.declared.kind.Kind.{Kind}
-use Rattle.mail_index.specs.declared.kind.Kind.TheVariants.{Text, OwnId}
-use Rattle.mail_query.specs.Truth.{text_kinds}
-use Rattle.mail_answer.specs.Marks.{fits}
-use Rattle.mail_answer.specs.Cursors.{is_in, kinds_in}
-use Rattle.mail_answer.specs.Inside.CursorTexts.{looked_up_by}
+use Rattle.mail_answer.proofs.Words.{◌∙◌, ◌+◌, ℕ, Bool, List, [], ◌∷◌, ◌++◌, map, drop, get_or, sym, filter, To, Kind, Text, OwnId, text_kinds, fits, is_in, kinds_in, looked_up_by}
 use Rattle.mail_answer.proofs.CursorLaws.Texts.{kinds_more, kinds_steps, kinds_skip, kinds_next}
 use Rattle.mail_answer.proofs.cursor.texts.push_kinds.Goals as goal
 use Rattle.mail_answer.proofs.cursor.texts.push_kinds.Goals.{then-is_in+in_ok-push_kind, else-is_in}

@@ -1,8 +1,4 @@
-use Rattle.std.proofs.Common.{drop}
-use Rattle.std.specs.List.{filter}
-use Rattle.mail_answer.specs.Marks.{fits}
-use Rattle.mail_answer.specs.Cursors.{is_in, kinds_in}
-use Rattle.mail_answer.specs.Inside.CursorTexts.{looked_up_by}
+use Rattle.mail_answer.proofs.Words.{drop, filter, fits, is_in, kinds_in, looked_up_by}
 use Rattle.mail_answer.proofs.CursorLaws.Texts.{HaveKinds}
 use Rattle.mail_answer.proofs.cursor.texts.push_kinds.Given as goal
 

@@ -1,5 +1,4 @@
-use Rattle.std.proofs.Common.{◌-◌, ◌^◌, ◌≡◌, ◌+◌, ◌*◌, ◌<◌, length, take}
-use Rattle.mail_answer.specs.CursorAhead.{CountsPostings, Spends, common, left_in, postings_in, levels}
+use Rattle.mail_answer.proofs.Words.{◌-◌, ◌^◌, ◌≡◌, ◌+◌, ◌*◌, ◌<◌, length, take, CountsPostings, Spends, common, left_in, postings_in, levels}
 use Rattle.mail_answer.specs.Inside.CursorWalks.{ahead}
 use Rattle.mail_answer.proofs.CursorLaws.Turns.{HasPassed}
 use Rattle.mail_answer.proofs.CursorLaws.Members.{HaveDropped, HaveReached, HasRisen}

@@ -1,4 +1,4 @@
-use Rattle.std.proofs.Common.{◌∙◌}
+use Rattle.mail_answer.proofs.Words.{◌∙◌}
 use Rattle.mail_answer.proofs.CursorLaws.AloneLists.{alone_each, alone_left}
 use Rattle.mail_answer.proofs.cursor.walk.each_alone.Goals as goal
 

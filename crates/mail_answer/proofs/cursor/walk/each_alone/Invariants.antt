@@ -1,6 +1,4 @@
-use Rattle.std.proofs.Common.{◌≡◌, ◌||◌, ◌+◌, ℕ, length}
-use Rattle.mail_answer.specs.CursorAhead.{left_in}
-use Rattle.mail_answer.specs.Inside.CursorTexts.{some_has}
+use Rattle.mail_answer.proofs.Words.{◌≡◌, ◌||◌, ◌+◌, ℕ, length, left_in, some_has}
 use Rattle.mail_answer.proofs.cursor.walk.each_alone.Given as goal
 
 -- the walks so far, and the lists that have none yet

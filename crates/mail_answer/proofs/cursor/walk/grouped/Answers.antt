@@ -1,6 +1,5 @@
-use Rattle.std.proofs.Common.{◌≡◌, ◌∙◌, ℕ, List, length, drop, sym, ap, arith}
+use Rattle.mail_answer.proofs.Words.{◌≡◌, ◌∙◌, ℕ, List, length, drop, sym, ap, arith, Ahead, united, left_in}
 use Rattle.std.specs.Vec.{vec_len}
-use Rattle.mail_answer.specs.CursorAhead.{Ahead, united, left_in}
 use Rattle.mail_answer.proofs.CursorLaws.Groups.{grouped_more}
 use Rattle.mail_answer.proofs.CursorLaws.Begins.{some_walk}
 use Rattle.mail_answer.proofs.cursor.walk.grouped.Goals as goal

@@ -1,4 +1,4 @@
-use Rattle.std.proofs.Common.{vec_len}
+use Rattle.mail_answer.proofs.Words.{vec_len}
 use Rattle.mail_answer.proofs.CursorLaws.Groups.{HaveGrouped}
 use Rattle.mail_answer.proofs.cursor.walk.grouped.Given as goal
 

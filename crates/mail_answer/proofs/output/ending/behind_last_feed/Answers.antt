@@ -1,13 +1,10 @@
-use Rattle.std.proofs.Common.{◌≡◌, ◌∙◌, ◌+◌, ◌-◌, ◌<◌, ◌≤◌, ◌==◌, true, suc, ℕ, List, ◌∷◌, ◌++◌, length, get_or, take, drop, drop-cons, add-one, ap, sym, arith}
-use Rattle.std.proofs.lemmas.Bool.{eqb-true}
-use Rattle.std.proofs.lemmas.List.{take-append-drop, take_rest, length-take, length-drop, get_or-take}
+use Rattle.mail_answer.proofs.Words.{◌≡◌, ◌+◌, ◌-◌, ◌<◌, ◌≤◌, ◌==◌, true, ℕ, List, ◌∷◌, ◌++◌, length, get_or, take, drop, drop-cons, add-one, arith, eqb-true, take-append-drop, take_rest, get_or-take}
+use Rattle.std.proofs.lemmas.List.{length-take, length-drop}
 use Rattle.mail_answer.proofs.output.ending.behind_last_feed.Goals as goal
 
 -- an LF stands there, and these bytes behind it
 split_at : (bytes : List ℕ) (at most : ℕ) → at < most → most ≤ length bytes → (get_or (take most bytes) at 0 == 10) ≡ true → bytes ≡ take at bytes ++ 10 ∷ drop (at + 1) bytes
-split_at bytes at most lt le is =
-    let ten : get_or bytes at 0 ≡ 10 = sym (get_or-take most bytes at 0 lt) ∙ eqb-true (get_or (take most bytes) at 0) 10 is in
-    sym (take-append-drop at bytes) ∙ ap (λ (l : List ℕ). take at bytes ++ l) (drop-cons bytes at 0 (omega arith) ∙ ap (λ (b : ℕ). b ∷ drop (suc at) bytes) ten ∙ ap (λ (k : ℕ). 10 ∷ drop k bytes) (sym (add-one at)))
+split_at bytes at most lt le is = grind (arith, get_or-take, eqb-true, take-append-drop, drop-cons, add-one)
 
 pub returns : goal.returns
 returns c =

@@ -1,12 +1,6 @@
-use Rattle.std.proofs.Common.{◌≡◌, ◌∙◌, ◌+◌, ℕ, List, [], ◌∷◌, ◌++◌, get_or, take, ap, sym, append_assoc, append-nil, arith}
-use Rattle.std.proofs.lemmas.List.{take_more, take_all}
-use Rattle.mail_answer.specs.Inside.Endings.{ending_of, with_byte}
-use Rattle.mail_answer.specs.declared.output.ending.Ending.{Ending}
+use Rattle.mail_answer.proofs.Words.{◌≡◌, ◌∙◌, ◌+◌, ℕ, List, [], ◌∷◌, ◌++◌, get_or, take, ap, sym, append_assoc, arith, take_more, ending_of, with_byte, Ending}
 use Rattle.mail_answer.proofs.OutputLaws.Endings.{ending_more}
 use Rattle.mail_answer.proofs.output.ending.with_each.Goals as goal
-
-pub loop-b-init : goal.loop-b-init
-loop-b-init c = λ bytes is. is ∙ ap ending_of (sym (append-nil bytes))
 
 pub loop-b-preserved : goal.loop-b-preserved
 loop-b-preserved c =
@@ -16,6 +10,3 @@ loop-b-preserved c =
     let next : take (i + 1) more ≡ take i more ++ get_or more i 0 ∷ [] = take_more more i 0 (omega arith) in
     c.with_byte-ending.ensures ∙ ap (λ (e : Ending). with_byte e (get_or more i 0)) (c.loop-b.invariant bytes is) ∙ sym (ending_more (bytes ++ take i more) (get_or more i 0))
     ∙ ap ending_of (append_assoc bytes (take i more) (get_or more i 0 ∷ []) ∙ ap (λ (l : List ℕ). bytes ++ l) (sym next))
-
-pub returns : goal.returns
-returns c = λ bytes is. c.loop-b.invariant bytes is ∙ ap (λ (l : List ℕ). ending_of (bytes ++ l)) (take_all c.loop-b.b-index c.args.more.now (omega arith))

@@ -1,5 +1,4 @@
-use Rattle.std.proofs.Common.{◌≡◌, ℕ, List, ◌++◌, take}
-use Rattle.mail_answer.specs.Inside.Endings.{ending_of}
+use Rattle.mail_answer.proofs.Words.{◌≡◌, ℕ, List, ◌++◌, take, ending_of}
 use Rattle.mail_answer.proofs.output.ending.with_each.Given as goal
 
 -- the bytes so far were looked at

@@ -1,5 +1,4 @@
-use Rattle.std.proofs.Common.{◌≡◌, ◌<◌, ◌≤◌, ℕ, get_or, length}
-use Rattle.mail_answer.specs.Excerpts.{shown_byte}
+use Rattle.mail_answer.proofs.Words.{◌≡◌, ◌<◌, ◌≤◌, ℕ, get_or, length, shown_byte}
 use Rattle.mail_answer.proofs.output.excerpt.hide_controls.Given as goal
 
 abbrev pub invariant-loop-b : goal.invariant-loop-b

@@ -1,8 +1,4 @@
-use Rattle.std.proofs.Common.{◌≡◌, ◌<◌, ℕ, List, Option, length, refl, arith}
-use Rattle.mail_answer.specs.Shapes.{known_message}
-use Rattle.mail_answer.specs.Sheets.{Tells}
-use Rattle.mail_answer.specs.TableFacts.{record_at}
-use Rattle.mail_answer.specs.declared.format.Format.TheVariants.{Excerpt}
+use Rattle.mail_answer.proofs.Words.{◌≡◌, ◌<◌, ℕ, List, Option, length, arith, known_message, Tells, record_at, Excerpt}
 use Rattle.mail_answer.proofs.OutputLaws.HeaderReading.{excerpt_told}
 use Rattle.mail_answer.proofs.ArchiveLaws.IndexedLemmas.{message_inside}
 use Rattle.mail_answer.proofs.OutputLaws.SheetLemmas.{writes_nothing, writes_less}
@@ -16,8 +12,7 @@ read_header-requires-clause-inside g c =
     rw is (message_inside t (g.A.Archives.held c.args.archives.now) (g.A.Archives.number c.args.archives.now) c.args.n c.requires.table c.requires.below c.requires.indexed.number c.requires.indexed.fresh)
 
 pub returns-in_err-header-clause-writes : goal.returns-in_err-header-clause-writes
-returns-in_err-header-clause-writes g c =
-    writes_nothing (g.O.Out.taken c.args.out.now) c.args.sheet.now c.args.sheet.now (known_message Excerpt c.args.places.now.table (g.A.Archives.held c.args.archives.now) c.args.n) c.from_residual.result c.from_residual.ensures.0 refl
+returns-in_err-header-clause-writes g c = grind (arith, writes_nothing)
 
 pub path_of-requires : goal.path_of-requires
 path_of-requires g c =
@@ -29,8 +24,7 @@ path_of-requires g c =
     rw is (omega (arith, number, exists))
 
 pub returns-in_err-text-clause-writes : goal.returns-in_err-text-clause-writes
-returns-in_err-text-clause-writes g c =
-    writes_nothing (g.O.Out.taken c.args.out.now) c.args.sheet.now c.args.sheet.now (known_message Excerpt c.args.places.now.table (g.A.Archives.held c.args.archives.now) c.args.n) c.from_residual-in_err-text.result c.from_residual-in_err-text.ensures.0 refl
+returns-in_err-text-clause-writes g c = grind (arith, writes_nothing)
 
 pub returns-clause-writes : goal.returns-clause-writes
 returns-clause-writes g c =

@@ -1,8 +1,4 @@
-use Rattle.std.proofs.Common.{ℕ, List, Option, IfSome, drop, ap, ◌∙◌, subst}
-use Rattle.mbox_cutter.specs.Lines.{lines}
-use Rattle.header_text.specs.Headers.{fields_of}
-use Rattle.mail_answer.specs.Inside.HeaderReads.{WillHaveFields}
-use Rattle.mail_answer.specs.Inside.Readings.{Reading, coming, IsInside}
+use Rattle.mail_answer.proofs.Words.{ℕ, List, Option, IfSome, drop, ap, ◌∙◌, subst, lines, fields_of, WillHaveFields, Reading, coming, IsInside}
 use Rattle.mail_answer.proofs.OutputLaws.HeaderReading.{first_passed}
 use Rattle.mail_answer.proofs.output.header_reads.read_header.Goals as goal
 

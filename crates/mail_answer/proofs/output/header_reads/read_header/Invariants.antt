@@ -1,9 +1,4 @@
-use Rattle.std.proofs.Common.{◌≡◌, IfSome, drop}
-use Rattle.mbox_cutter.specs.Lines.{lines}
-use Rattle.header_text.specs.Headers.{fields_of}
-use Rattle.mail_answer.specs.Inside.HeaderReads.{WillHaveFields}
-use Rattle.mail_answer.specs.Inside.Readings.{coming, coming_count, span_reading, IsInside}
-use Rattle.mail_answer.specs.Inside.Calls.{KeepsArchives}
+use Rattle.mail_answer.proofs.Words.{◌≡◌, IfSome, drop, lines, fields_of, WillHaveFields, coming, coming_count, span_reading, IsInside, KeepsArchives}
 use Rattle.mail_answer.proofs.output.header_reads.read_header.Given as goal
 
 -- with the lines that are left the header has the fields of the message

@@ -1,4 +1,4 @@
-use Rattle.std.proofs.Common.{◌<◌, arith}
+use Rattle.mail_answer.proofs.Words.{◌<◌, arith}
 use Rattle.mail_answer.proofs.OutputLaws.HeaderReading.{none_comes, line_given}
 use Rattle.mail_answer.proofs.output.header_reads.read_line.Goals as goal
 

@@ -1,32 +1,11 @@
-use Rattle.std.proofs.Common.{◌≡◌, ◌∙◌, ℕ, List, [], ◌++◌, length, length-append, Option, Some, ap, sym, refl, append-nil, arith}
-use Rattle.std.proofs.lemmas.Bool.Decides.{nat_tests}
-use Rattle.std.proofs.lemmas.Result.{err_from_is_err_and}
-use Rattle.std.specs.Option.{option_map}
-use Rattle.mail_answer.specs.Inside.Endings.{ending_of, feeds_of}
-use Rattle.mail_answer.specs.Inside.Readings.{Reading, coming, coming_count, span_reading}
-use Rattle.mail_answer.specs.Shapes.{closed}
-use Rattle.mail_answer.specs.Sheets.{Tells}
+use Rattle.mail_answer.proofs.Words.{◌≡◌, ◌∙◌, ℕ, List, ◌++◌, length, length-append, Option, Some, ap, sym, refl, append-nil, arith, nat_tests, err_from_is_err_and, option_map, ending_of, feeds_of, Reading, coming, coming_count, span_reading, closed, Tells}
 use Rattle.mail_answer.proofs.OutputLaws.CopiedPieces.{pieces_none, pieces_more, front_told, closed_told, closed_begins, closed_by_last}
 use Rattle.mail_answer.proofs.OutputLaws.SheetLemmas.{joins_gathered, joins_more, joins_front, front_more, writes_next, writes_less, writes_err, unsent_before, unsent_before_front, unsent_before_writes}
 use Rattle.mail_answer.proofs.ArchiveLaws.CallLemmas.{keeps_self, keeps_join}
 use Rattle.mail_answer.proofs.output.mbox.push_closed.Goals as goal
 
 pub pieces-init : goal.pieces-init
-pieces-init g c = record {
-  keeps = keeps_self g.A.Archives c.args.archives.now;
-  inside = rw c.of-part.ensures c.requires.inside;
-  archive = ap (λ (r : Reading). r.archive) c.of-part.ensures;
-  joins = (
-    [],
-    rw c.of-part.ensures (pieces_none (coming (g.A.Archives.held c.args.archives.now) (span_reading c.args.message))),
-    c.new-ending.ensures,
-    joins_gathered (g.O.Out.taken c.args.out.now) c.args.sheet.now c.args.sheet.now [] (sym (append-nil c.args.sheet.now.text)) refl,
-    omega (arith, ap coming_count c.of-part.ensures),
-  );
-  kept = λ unsent. refl;
-  out_count = refl;
-  archives_count = refl;
-}
+pieces-init g c = grind (arith, keeps_self, pieces_none, joins_gathered, append-nil)
 
 pub copy_piece-requires-clause-some : goal.copy_piece-requires-clause-some
 copy_piece-requires-clause-some g c = grind (arith, nat_tests)
@@ -65,13 +44,7 @@ returns-in_err-ending-clause-writes g c =
     ((j.0 ++ w.0) ++ told.0, told.1, front_more told.0 (joins_front j.3 w.2))
 
 pub returns-in_err-ending-clause-out : goal.returns-in_err-ending-clause-out
-returns-in_err-ending-clause-out g c =
-    let p = err_from_is_err_and c.from_residual.result c.from_residual.ensures.1 in
-    let i = c.pieces.invariant in
-    record {
-      kept = λ unsent own. c.in_err-ending.ensures.out.kept unsent (rw (p.1, p.2) at own) ∙ i.kept (unsent_before_front c.in_err-ending.ensures.copies.2 unsent);
-      count = rw (p.1, p.2) (rw i.out_count at c.in_err-ending.ensures.out.count);
-    }
+returns-in_err-ending-clause-out g c = grind (arith, err_from_is_err_and, unsent_before_front)
 
 pub returns-clause-writes : goal.returns-clause-writes
 returns-clause-writes g c =
@@ -115,9 +88,4 @@ returns-clause-span g c =
     )
 
 pub returns-clause-out : goal.returns-clause-out
-returns-clause-out g c =
-    let i = c.pieces.invariant in
-    record {
-      kept = λ unsent own. c.push.ensures.out.kept unsent own ∙ i.kept (unsent_before_writes _ _ c.pieces.sheet c.push.new.self (Some c.feeds.result.now) c.push.result c.push.ensures.writes unsent);
-      count = rw i.out_count at c.push.ensures.out.count;
-    }
+returns-clause-out g c = grind (arith, unsent_before_writes)

@@ -1,9 +1,4 @@
-use Rattle.std.proofs.Common.{◌≡◌, ◌+◌, ℕ, List, ◌++◌, length}
-use Rattle.std.specs.Option.{option_map}
-use Rattle.mail_answer.specs.Inside.Endings.{ending_of}
-use Rattle.mail_answer.specs.Inside.Readings.{coming, coming_count, span_reading, IsInside}
-use Rattle.mail_answer.specs.Sheets.{Joins}
-use Rattle.mail_answer.specs.Inside.Calls.{KeepsArchives}
+use Rattle.mail_answer.proofs.Words.{◌≡◌, ◌+◌, ℕ, List, ◌++◌, length, option_map, ending_of, coming, coming_count, span_reading, IsInside, Joins, KeepsArchives}
 use Rattle.mail_answer.proofs.output.mbox.push_closed.Given as goal
 
 -- some pieces joined the answer; they and what is left are the span

@@ -1,4 +1,4 @@
-use Rattle.std.proofs.Common.{append_assoc}
+use Rattle.mail_answer.proofs.Words.{append_assoc}
 use Rattle.mail_answer.proofs.output.raw_line.raw_line.Goals as goal
 
 pub returns : goal.returns

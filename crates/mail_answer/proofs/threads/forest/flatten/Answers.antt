@@ -1,10 +1,6 @@
-use Rattle.std.proofs.Common.{◌<◌, ℕ, List, length, arith}
-use Rattle.mail_answer.specs.Inside.Forests.{LeadsBack}
-use Rattle.mail_answer.proofs.ThreadLaws.ForestLemmas.{unchanged, shorter_still, lifted_to, flat_none, flat_more}
+use Rattle.mail_answer.proofs.Words.{◌<◌, ℕ, List, length, arith, LeadsBack}
+use Rattle.mail_answer.proofs.ThreadLaws.ForestLemmas.{shorter_still, lifted_to, flat_more}
 use Rattle.mail_answer.proofs.threads.forest.flatten.Goals as goal
-
-pub loop-number-init : goal.loop-number-init
-loop-number-init c = record { shortened = unchanged c.args.parents.now; flat = flat_none c.args.parents.now }
 
 pub loop-number-preserved : goal.loop-number-preserved
 loop-number-preserved c =

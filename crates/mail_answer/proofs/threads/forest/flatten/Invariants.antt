@@ -1,5 +1,4 @@
-use Rattle.std.proofs.Common.{◌≡◌, ◌<◌, ℕ, get_or}
-use Rattle.mail_answer.specs.Inside.Forests.{Shortens}
+use Rattle.mail_answer.proofs.Words.{◌≡◌, ◌<◌, ℕ, get_or, Shortens}
 use Rattle.mail_answer.proofs.threads.forest.flatten.Given as goal
 
 abbrev pub invariant-loop-number : goal.invariant-loop-number

@@ -1,16 +1,7 @@
-use Rattle.std.proofs.Common.{◌∙◌, ◌<◌, ◌≤◌, ℕ, List, length, get_or, refl, arith}
-use Rattle.mail_answer.specs.Inside.Forests.{LeadsBack, Shortens}
-use Rattle.mail_answer.proofs.ThreadLaws.ThreadLemmas.{itself, through}
-use Rattle.mail_answer.proofs.ThreadLaws.ForestLemmas.{unchanged, shorter_still, lifted_to, lifted_before, lifted_label, lifted_thread}
+use Rattle.mail_answer.proofs.Words.{◌∙◌, ◌<◌, ◌≤◌, ℕ, List, length, get_or, arith, LeadsBack, Shortens}
+use Rattle.mail_answer.proofs.ThreadLaws.ThreadLemmas.{through}
+use Rattle.mail_answer.proofs.ThreadLaws.ForestLemmas.{shorter_still, lifted_to, lifted_before, lifted_label, lifted_thread}
 use Rattle.mail_answer.proofs.threads.forest.root_of.Goals as goal
-
-pub loop-parents-init : goal.loop-parents-init
-loop-parents-init c = record {
-  shortened = unchanged c.args.parents.now;
-  before = omega arith;
-  same = λ label labels. refl;
-  thread = λ t stays. itself t c.args.number;
-}
 
 pub loop-parents-preserved : goal.loop-parents-preserved
 loop-parents-preserved c =
@@ -28,12 +19,3 @@ loop-parents-preserved c =
       same = λ label labels. c.loop-parents.invariant.same label (step.labels label labels) ∙ lifted_label label p root next back within c.lift-root.ensures.value (step.labels label labels);
       thread = λ t stays. through t c.args.number root next (c.loop-parents.invariant.thread t stays) (lifted_thread t p root next back within c.lift-root.ensures.value (c.loop-parents.invariant.shortened.threads t stays));
     }
-
-pub returns : goal.returns
-returns c = record {
-  shortened = c.loop-parents.invariant.shortened;
-  root = c.loop-parents-test.false;
-  before = c.loop-parents.invariant.before;
-  same = c.loop-parents.invariant.same;
-  thread = c.loop-parents.invariant.thread;
-}

@@ -1,7 +1,4 @@
-use Rattle.std.proofs.Common.{◌≤◌}
-use Rattle.mail_index.specs.Tables.{Table}
-use Rattle.mail_answer.specs.Threads.{IsInThread}
-use Rattle.mail_answer.specs.Inside.Forests.{StaysInThreads, AreInOneTree, Shortens}
+use Rattle.mail_answer.proofs.Words.{◌≤◌, Table, IsInThread, StaysInThreads, AreInOneTree, Shortens}
 use Rattle.mail_answer.proofs.threads.forest.root_of.Given as goal
 
 abbrev pub invariant-loop-parents : goal.invariant-loop-parents

@@ -1,5 +1,4 @@
-use Rattle.std.proofs.Common.{◌≡◌}
-use Rattle.std.specs.List.{range_with_len}
+use Rattle.mail_answer.proofs.Words.{◌≡◌, range_with_len}
 use Rattle.mail_answer.proofs.threads.forest.single_messages.Given as goal
 
 abbrev pub invariant-loop-number : goal.invariant-loop-number

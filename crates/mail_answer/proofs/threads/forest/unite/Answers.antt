@@ -1,4 +1,4 @@
-use Rattle.std.proofs.Common.{◌∙◌, sym, arith}
+use Rattle.mail_answer.proofs.Words.{◌∙◌, sym, arith}
 use Rattle.mail_answer.proofs.ThreadLaws.ThreadLemmas.{back_again}
 use Rattle.mail_answer.proofs.ThreadLaws.ForestLemmas.{shorter_still}
 use Rattle.mail_answer.proofs.ThreadLaws.JoinLemmas.{hung, roots_linked}

@@ -1,6 +1,4 @@
-use Rattle.std.proofs.Common.{◌≡◌, ◌<◌, ℕ, List, [], ◌∷◌, length, sym, subst}
-use Rattle.std.specs.List.{AllByRecursion}
-use Rattle.mail_answer.specs.Inside.Forests.{Unites, AreBothAmong}
+use Rattle.mail_answer.proofs.Words.{◌≡◌, ◌<◌, ℕ, List, [], ◌∷◌, length, sym, subst, AllByRecursion, Unites, AreBothAmong}
 use Rattle.mail_answer.proofs.ThreadLaws.JoinLemmas.{united_one, united_more}
 use Rattle.mail_answer.proofs.threads.forest.unite_all.Goals as goal
 

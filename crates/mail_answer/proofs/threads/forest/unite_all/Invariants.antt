@@ -1,6 +1,4 @@
-use Rattle.std.proofs.Common.{◌<◌, ℕ, List, ◌∷◌, length}
-use Rattle.std.specs.List.{AllByRecursion}
-use Rattle.mail_answer.specs.Inside.Forests.{LeadsBack, Unites, AreBothAmong}
+use Rattle.mail_answer.proofs.Words.{◌<◌, ℕ, List, ◌∷◌, length, AllByRecursion, LeadsBack, Unites, AreBothAmong}
 use Rattle.mail_answer.proofs.threads.forest.unite_all.Given as goal
 
 -- what will be made of these trees with the numbers to come is made of those at first with all numbers

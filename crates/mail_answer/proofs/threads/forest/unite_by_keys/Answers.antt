@@ -1,6 +1,4 @@
-use Rattle.std.proofs.Common.{◌≡◌, ◌<◌, ℕ, List, ◌∷◌, length, sym, subst}
-use Rattle.std.specs.List.{AllByRecursion}
-use Rattle.mail_answer.specs.Inside.Forests.{Unites, ShareKey}
+use Rattle.mail_answer.proofs.Words.{◌≡◌, ◌<◌, ℕ, List, ◌∷◌, length, sym, subst, AllByRecursion, Unites, ShareKey}
 use Rattle.mail_answer.proofs.ThreadLaws.JoinLemmas.{keys_more}
 use Rattle.mail_answer.proofs.threads.forest.unite_by_keys.Goals as goal
 

@@ -1,6 +1,4 @@
-use Rattle.std.proofs.Common.{List, Bool, ℕ, sym, ap, subst}
-use Rattle.mail_answer.specs.CursorAhead.{Ahead, Drops, IsFirst}
-use Rattle.mail_answer.specs.Inside.CursorLists.{numbers_ahead, truths_among, AreNumbers}
+use Rattle.mail_answer.proofs.Words.{List, ℕ, sym, subst, arith, IsFirst, numbers_ahead, truths_among, AreNumbers}
 use Rattle.mail_answer.proofs.CursorLaws.Lists.{cut_numbers, cut_drops, first_among}
 use Rattle.mail_answer.proofs.cursor.listed.Listed.least_from.Goals as goal
 
@@ -8,10 +6,7 @@ pub invariant_of-self : goal.invariant_of-self
 invariant_of-self c = cut_numbers c.self.inside.count c.args.n (numbers_ahead c.self.inside.first c.self.inside.postings) (numbers_ahead c.cut.new.first c.cut.new.postings) c.self.invariant c.cut.ensures.cut
 
 pub returns-clause-rest : goal.returns-clause-rest
-returns-clause-rest c =
-    let new : List Bool = truths_among c.self.inside.count (numbers_ahead c.cut.new.first c.cut.new.postings) in
-    subst (λ (xs : List Bool). Drops c.args.n xs new) (ap (λ (a : Ahead). a.truths) c.self.view_is)
-    (cut_drops c.self.inside.count c.args.n (numbers_ahead c.self.inside.first c.self.inside.postings) (numbers_ahead c.cut.new.first c.cut.new.postings) c.self.invariant c.cut.ensures.cut)
+returns-clause-rest c = grind (arith, cut_drops)
 
 pub returns-clause-number : goal.returns-clause-number
 returns-clause-number c =

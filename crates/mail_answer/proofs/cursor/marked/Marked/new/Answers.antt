@@ -1,4 +1,4 @@
-use Rattle.std.proofs.Common.{refl}
+use Rattle.mail_answer.proofs.Words.{refl}
 use Rattle.mail_answer.proofs.CursorLaws.MarkedLists.{begins_marked, begins_window}
 use Rattle.mail_answer.proofs.cursor.marked.Marked.new.Goals as goal
 

@@ -1,5 +1,4 @@
-use Rattle.std.proofs.Common.{◌∙◌, Bool, List, ap}
-use Rattle.mail_answer.specs.Marks.{truth_at}
+use Rattle.mail_answer.proofs.Words.{◌∙◌, Bool, List, ap, truth_at}
 use Rattle.mail_answer.proofs.CursorLaws.Members.{united-at}
 use Rattle.mail_answer.proofs.cursor.walk.Walk.united_in_groups.Goals as goal
 

@@ -1,6 +1,4 @@
-use Rattle.std.proofs.Common.{◌≡◌, ℕ, vec_len}
-use Rattle.mail_answer.specs.CursorAhead.{left_in}
-use Rattle.mail_answer.specs.Inside.CursorTexts.{some_has}
+use Rattle.mail_answer.proofs.Words.{◌≡◌, ℕ, vec_len, left_in, some_has}
 use Rattle.mail_answer.proofs.cursor.walk.Walk.united_in_groups.Given as goal
 
 abbrev pub invariant-loop-alloc : goal.invariant-loop-alloc

@@ -1,8 +1,4 @@
-use Rattle.std.proofs.Common.{◌≡◌, ◌≤◌, ℕ, ◌+◌, List, [], ◌∷◌, ◌++◌, length, Option, Some, Result, Ok, refl, ap, subst, sym, ◌∙◌, append_assoc, append-nil, arith}
-use Rattle.std.proofs.lemmas.Result.{err_from_is_err_and}
-use Rattle.mail_answer.specs.Inside.CursorLists.{AreNumbers}
-use Rattle.mail_answer.specs.Shapes.{known_answer, known_message}
-use Rattle.mail_answer.specs.Sheets.{joined, Tells, Writes}
+use Rattle.mail_answer.proofs.Words.{◌≡◌, ℕ, List, [], ◌∷◌, ◌++◌, length, Option, Some, Result, Ok, refl, ap, subst, sym, ◌∙◌, append_assoc, append-nil, arith, err_from_is_err_and, AreNumbers, known_answer, known_message, joined, Tells, Writes}
 use Rattle.mail_answer.proofs.ThreadLaws.NumberLists.{numbers_next, few_numbers, known_first, known_none}
 use Rattle.mail_answer.proofs.OutputLaws.SheetLemmas.{joins_gathered, writes_next, writes_stop, writes_less, writes_err, tells-joined, joins_more, unsent_before}
 use Rattle.mail_answer.proofs.OutputLaws.ChosenArchives.{is_among_behind, stale_of_some}
@@ -33,9 +29,7 @@ loop-n-init g c = record {
 }
 
 pub push-requires-clause-ready : goal.push-requires-clause-ready
-push-requires-clause-ready g c =
-    let i = c.loop-n.invariant in
-    still_ready g.A.Archives g.O.Out c.args.self.now c.loop-n.self c.args.archives.now c.loop-n.archives c.args.out.now c.loop-n.out c.requires.ready i.same i.keeps i.archives_count i.out_count
+push-requires-clause-ready g c = grind (arith, still_ready)
 
 pub returns-in_err-push-clause-messages : goal.returns-in_err-push-clause-messages
 returns-in_err-push-clause-messages g c =
@@ -59,20 +53,10 @@ returns-in_err-push-clause-messages g c =
     }
 
 pub returns-in_err-push-clause-stale : goal.returns-in_err-push-clause-stale
-returns-in_err-push-clause-stale g c =
-    let t = c.args.self.now.places.table in
-    let i = c.loop-n.invariant in
-    let took : c.loop-n.numbers ≡ c.in-Some.n ∷ c.next.new.self = c.in-Some.ensures in
-    let all : c.args.numbers.now ≡ i.passed.0 ++ c.in-Some.n ∷ c.next.new.self = i.passed.1 ∙ ap (λ (ns : List ℕ). i.passed.0 ++ ns) took in
-    let p = err_from_is_err_and c.from_residual.result c.from_residual.ensures.1 in
-    rw (p.1, p.2) (stale_of_some t c.args.numbers.now c.in-Some.n _ (rw all (is_among_behind c.in-Some.n i.passed.0 c.next.new.self)) (rw i.same.table at c.in_err-push.ensures.stale))
+returns-in_err-push-clause-stale g c = grind (arith, err_from_is_err_and, stale_of_some, is_among_behind)
 
 pub overflow_add-count : goal.overflow_add-count
-overflow_add-count g c =
-    let took : c.loop-n.numbers ≡ c.in-Some.n ∷ c.next.new.self = c.in-Some.ensures in
-    let few : 0 + length c.args.numbers.now ≤ length c.args.self.now.places.table.messages = few_numbers 0 (length c.args.self.now.places.table.messages) c.args.numbers.now (omega arith) c.requires.numbers.rises c.requires.numbers.below in
-    let count : c.loop-n.count + length c.loop-n.numbers ≡ length c.args.numbers.now = c.loop-n.invariant.counted in
-    omega (arith, few, count, ap length took, c.requires.ready.table.message_count)
+overflow_add-count g c = grind (arith, few_numbers)
 
 pub loop-n-preserved : goal.loop-n-preserved
 loop-n-preserved g c =

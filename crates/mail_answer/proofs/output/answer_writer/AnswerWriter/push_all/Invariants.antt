@@ -1,11 +1,4 @@
-use Rattle.std.proofs.Common.{◌≡◌, ◌+◌, ◌++◌, ℕ, List, length, Option}
-use Rattle.std.specs.List.{flat_map}
-use Rattle.mail_answer.specs.Inside.CursorLists.{AreNumbers}
-use Rattle.mail_answer.specs.Shapes.{known_answer, closed, AreSpansOf}
-use Rattle.mail_answer.specs.Sheets.{joined, Tells, Joins}
-use Rattle.mail_answer.specs.declared.format.Format.TheVariants.{Raw, Mbox}
-use Rattle.mail_answer.specs.Inside.Calls.{KeepsArchives}
-use Rattle.mail_answer.specs.Inside.Writing.{IsSameAnswer}
+use Rattle.mail_answer.proofs.Words.{◌≡◌, ◌+◌, ◌++◌, ℕ, List, length, Option, flat_map, AreNumbers, known_answer, closed, AreSpansOf, joined, Tells, Joins, Raw, Mbox, KeepsArchives, IsSameAnswer}
 use Rattle.mail_answer.proofs.output.answer_writer.AnswerWriter.push_all.Given as goal
 
 -- the messages so far joined the answer, and were counted

@@ -1,4 +1,4 @@
-use Rattle.std.proofs.Common.{sym}
+use Rattle.mail_answer.proofs.Words.{sym}
 use Rattle.mail_answer.proofs.OutputLaws.Endings.{no_lines}
 use Rattle.mail_answer.proofs.output.ending.Ending.new.Goals as goal
 

@@ -1,5 +1,4 @@
-use Rattle.std.proofs.Common.{◌∙◌, ℕ, List, [], ◌∷◌, ◌++◌, append_assoc, ap, sym}
-use Rattle.mail_answer.specs.Inside.Endings.{ending_of}
+use Rattle.mail_answer.proofs.Words.{◌∙◌, ℕ, List, [], ◌∷◌, ◌++◌, append_assoc, ap, sym, ending_of}
 use Rattle.mail_answer.proofs.OutputLaws.Endings.{ending_behind}
 use Rattle.mail_answer.proofs.output.ending.Ending.with_bytes.Goals as goal
 

@@ -1,6 +1,4 @@
-use Rattle.std.proofs.Common.{◌≡◌}
-use Rattle.mail_answer.specs.Inside.Readings.{coming, coming_count, IsInside}
-use Rattle.mail_answer.specs.Inside.Calls.{KeepsArchives}
+use Rattle.mail_answer.proofs.Words.{◌≡◌, coming, coming_count, IsInside, KeepsArchives}
 use Rattle.mail_answer.proofs.output.line_reader.LineReader.first_line.Given as goal
 
 -- nothing was passed, and the archives are as they were

@@ -1,9 +1,4 @@
-use Rattle.std.proofs.Common.{◌≡◌, ◌∙◌, ℕ, List, [], ◌++◌, ◌+◌, ◌-◌, ◌≤◌, length-append, Option, Result, Ok, Err, refl, ap, sym, subst, arith}
-use Rattle.std.specs.Option.{option_map}
-use Rattle.mail_answer.specs.Inside.Endings.{ending_of}
-use Rattle.mail_answer.specs.Inside.Readings.{Reading, coming, coming_count, IsInside}
-use Rattle.mail_answer.specs.Sheets.{Joins, JoinsFront}
-use Rattle.mail_answer.specs.declared.fault.AnswerFaultKind.{AnswerFaultKind}
+use Rattle.mail_answer.proofs.Words.{◌≡◌, ◌∙◌, ℕ, List, [], ◌++◌, ◌+◌, ◌-◌, ◌≤◌, length-append, Option, Result, Ok, Err, refl, ap, sym, subst, arith, option_map, ending_of, Reading, coming, coming_count, IsInside, Joins, JoinsFront, AnswerFaultKind}
 use Rattle.mail_answer.proofs.OutputLaws.CopiedPieces.{copies_err, piece_read, behind_gathered, tells_behind, some_coming, inside_behind}
 use Rattle.mail_answer.proofs.OutputLaws.SheetLemmas.{nothing_went, gathered_went, front_more}
 use Rattle.mail_answer.proofs.output.mbox.Part.copy_piece.Goals as goal

@@ -1,14 +1,10 @@
-use Rattle.std.proofs.Common.{◌<◌, ◌∙◌, length, sym, subst}
-use Rattle.mail_index.specs.Layouts.{archive_of}
-use Rattle.mail_answer.specs.Inside.PassedArchives.{Passed}
+use Rattle.mail_answer.proofs.Words.{arith, archive_of}
 use Rattle.mail_answer.proofs.ArchiveLaws.PassedArchives.{passed_more}
 use Rattle.mail_answer.proofs.ArchiveLaws.StaleLemmas.{still_named}
 use Rattle.mail_answer.proofs.output.places.Places.pass.Goals as goal
 
 pub unreachable-requires : goal.unreachable-requires
-unreachable-requires c =
-    let s = c.self.inside in
-    still_named s.index.archives s.passed (subst (λ (v : Passed). v.passed < length v.table.archives) (sym c.self.view_is) c.requires) (sym c.self.invariant.behind ∙ c.in_default.ensures.0)
+unreachable-requires c = grind (arith, still_named)
 
 pub invariant_of-self : goal.invariant_of-self
 invariant_of-self c =

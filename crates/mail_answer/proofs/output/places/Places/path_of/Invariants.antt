@@ -1,4 +1,4 @@
-use Rattle.std.proofs.Common.{◌≡◌, ◌+◌, ◌-◌, ◌≤◌}
+use Rattle.mail_answer.proofs.Words.{◌≡◌, ◌+◌, ◌-◌, ◌≤◌}
 use Rattle.mail_answer.proofs.output.places.Places.path_of.Given as goal
 
 -- the archive isn't passed yet, or was passed last

@@ -1,6 +1,4 @@
-use Rattle.std.proofs.Common.{◌≡◌, ◌≤◌, ◌-◌, length, take}
-use Rattle.std.specs.Io.KnownBytes.{Appends}
-use Rattle.mail_answer.specs.Sheets.{counted}
+use Rattle.mail_answer.proofs.Words.{◌≡◌, ◌≤◌, ◌-◌, length, take, Appends, counted}
 use Rattle.mail_answer.proofs.output.sheet.Sheet.send.Given as goal
 
 -- the first `at` bytes went out
