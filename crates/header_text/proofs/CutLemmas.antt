@@ -1,10 +1,5 @@
 -- Where bytes are cut.
-use Rattle.std.proofs.Common.{◌≡◌, ◌∙◌, ◌<◌, ◌≤◌, ◌-◌, ◌++◌, ◌==◌, ℕ, zero, suc, Bool, true, false, List, [], ◌∷◌, Option, Some, None, length, take, drop, get_or, slice_index, refl, sym, ap, arith}
-use Rattle.std.specs.Prelude.{option_map, unwrap_or, not}
-use Rattle.header_text.specs.Blanks.{split_while}
-use Rattle.std.proofs.lemmas.Bool.{eq-eqb, eqb-true}
-use Rattle.std.proofs.lemmas.List.{take_rest}
-use Rattle.header_text.specs.Cuts.{cut_at}
+use Rattle.header_text.proofs.Words.{◌≡◌, ◌∙◌, ◌<◌, ◌≤◌, ◌-◌, ◌++◌, ◌==◌, ℕ, zero, suc, Bool, true, false, List, [], ◌∷◌, Option, Some, None, length, take, drop, get_or, slice_index, refl, sym, ap, arith, option_map, unwrap_or, not, split_while, eq-eqb, eqb-true, take_rest, cut_at}
 
 -- the byte isn't among the bytes
 abbrev pub Lacks : ℕ → List ℕ → Type 0
@@ -58,13 +53,7 @@ IsCut-from c (b ∷ bs) before behind e = go (b == c) refl (cut_at c bs) refl (I
     parts = (before, behind)
 
     go : (t : Bool) → (b == c) ≡ t → (o : Option (List ℕ × List ℕ)) → cut_at c bs ≡ o → ((x y : List ℕ) → cut_at c bs ≡ Some (x, y) → IsCut c bs x y) → IsCut c (b ∷ bs) before behind
-    go true t o f later =
-        let here : List ℕ × List ℕ = ([], bs) in
-        let same : here ≡ parts = same_parts here parts (sym (cut_at-yes c b bs t) ∙ e) in
-        let front : [] ≡ before = ap (λ (p : List ℕ × List ℕ). p.0) same in
-        let back : bs ≡ behind = ap (λ (p : List ℕ × List ℕ). p.1) same in
-        let is : b ≡ c = eqb-true b c t in
-        record { joined = rw (← front, ← back, is) refl; free = rw (← front) tt }
+    go true t o f later = grind (arith, parts, eqb-true)
     go false t None f later = absurd (cc (sym (cut_at-no c b bs t ∙ ap (put b) f) ∙ e))
     go false t (Some (x, y)) f later =
         let inner = later x y f in
@@ -81,8 +70,7 @@ Lacks-from c (b ∷ bs) e = grind (arith, Lacks-from c bs)
 -- the front up to a byte is what stands before it
 pub split_while-lacks : (c : ℕ) (before behind : List ℕ) → Lacks c before → split_while (λ b. not (b == c)) (before ++ c ∷ behind) ≡ (before, c ∷ behind)
 split_while-lacks c [] behind free = let is : (c == c) ≡ true = grind arith in rw (is, split_while) refl
-split_while-lacks c (b ∷ before) behind free =
-    rw (free.0, split_while) (ap (λ (p : List ℕ × List ℕ). (b ∷ p.0, p.1)) (split_while-lacks c before behind free.1))
+split_while-lacks c (b ∷ before) behind free = grind (arith, split_while-lacks c before behind free.1)
 
 pub split_while-cut : (c : ℕ) (bytes before behind : List ℕ) → cut_at c bytes ≡ Some (before, behind) → (split_while (λ b. not (b == c)) bytes).0 ≡ before
 split_while-cut c bytes before behind e =

@@ -1,3 +1,4 @@
+pub mod Words
 pub mod Fronts
 pub mod CutLemmas
 pub mod OwnTexts

@@ -1,11 +1,5 @@
 -- Bytes that are their own text.
-use Rattle.std.proofs.Common.{◌≡◌, ◌∙◌, ℕ, List, sym}
-use Rattle.std.specs.Str.{IsAscii, IsUtf8}
-use Rattle.std.proofs.lemmas.Str.{IsUtf8-from_ascii}
-use Rattle.bstr.proofs.lemmas.EncodeLemmas.{lossy_chars-utf8}
-use Rattle.header_text.specs.Charsets.{text_of}
-use Rattle.header_text.specs.declared.charset.Charset.{Charset}
-use Rattle.header_text.specs.declared.charset.Charset.TheVariants.{Utf8, Latin1, Latin9, Windows1252, Unknown}
+use Rattle.header_text.proofs.Words.{◌≡◌, ◌∙◌, ℕ, List, sym, IsAscii, IsUtf8, IsUtf8-from_ascii, lossy_chars-utf8, text_of, Charset, Utf8, Latin1, Latin9, Windows1252, Unknown}
 use Rattle.header_text.proofs.WordLaws.CharacterLemmas.{lossy-ascii}
 
 -- valid UTF-8

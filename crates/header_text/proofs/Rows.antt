@@ -1,13 +1,5 @@
 -- Rows of fields, unfolding, ids, escapes and base64; the values on the right come from a separate reading of the rules.
-use Rattle.std.proofs.Common.{◌≡◌, ℕ, List, [], ◌∷◌, map, refl}
-use Rattle.std.specs.Prelude.{codes}
-use Rattle.mbox_cutter.specs.Lines.{is_empty}
-use Rattle.header_text.specs.Blanks.{before_blanks}
-use Rattle.header_text.specs.Headers.{HeaderField, fields_of, lines_within, most_in_header}
-use Rattle.header_text.specs.Unfolding.{unfolded}
-use Rattle.header_text.specs.Ids.{ids_of}
-use Rattle.header_text.specs.Escapes.{q_bytes}
-use Rattle.header_text.specs.Base64.{sextet, bytes_of_sextets, base64_bytes}
+use Rattle.header_text.proofs.Words.{◌≡◌, ℕ, List, [], ◌∷◌, map, refl, codes, is_empty, before_blanks, HeaderField, fields_of, lines_within, most_in_header, unfolded, ids_of, q_bytes, sextet, bytes_of_sextets, base64_bytes}
 
 abbrev field : List ℕ → List ℕ → HeaderField
 field name body = record { name = name; body = body }

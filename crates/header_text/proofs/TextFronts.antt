@@ -1,6 +1,5 @@
 -- Texts that are a front of what a call was to leave.
-use Rattle.std.proofs.Common.{◌≡◌, ℕ, List, [], ◌++◌, sym, ap, ◌∙◌, append_assoc, append-nil}
-use Rattle.bstr.specs.Text.{Extends}
+use Rattle.header_text.proofs.Words.{◌≡◌, ℕ, List, [], ◌++◌, sym, ap, ◌∙◌, append_assoc, append-nil, Extends}
 
 -- all of it
 pub front-whole : (new whole : List ℕ) → new ≡ whole → Extends new whole

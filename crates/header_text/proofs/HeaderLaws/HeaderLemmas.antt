@@ -1,10 +1,6 @@
 -- The fields of lines, and one line more.
-use Rattle.std.proofs.Common.{◌≡◌, ◌∙◌, ◌+◌, ◌≤◌, ◌<◌, ◌++◌, ℕ, Bool, true, false, List, [], ◌∷◌, Option, Some, None, length, refl, sym, ap, subst, arith, length-append, append_assoc, append-nil}
-use Rattle.std.specs.Prelude.{is_some, option_map, IfSome}
+use Rattle.header_text.proofs.Words.{◌≡◌, ◌∙◌, ◌+◌, ◌≤◌, ◌<◌, ◌++◌, ℕ, Bool, true, false, List, [], ◌∷◌, Option, Some, None, length, refl, sym, ap, subst, arith, length-append, append_assoc, append-nil, is_some, option_map, IfSome, HeaderField, is_continuation, field_of_line, with_continuations, continued_and_fields, fields_in, fields_size, named, is_field_name_byte, split_while, after_blanks, onto_last, is_open_after, is_open_behind, fields_with}
 use Rattle.std.specs.Option.{option_to_list}
-use Rattle.header_text.specs.Headers.{HeaderField, is_continuation, field_of_line, with_continuations, continued_and_fields, fields_in, fields_size, named, is_field_name_byte}
-use Rattle.header_text.specs.Blanks.{split_while, after_blanks}
-use Rattle.header_text.specs.OpenFields.{onto_last, is_open_after, is_open_behind, fields_with}
 use Rattle.header_text.proofs.Fronts.{split_while-joined}
 
 -- what comes of one line more in front
@@ -17,8 +13,7 @@ whole o ls = let rest = continued_and_fields ls in with_continuations o rest.0 r
 
 -- a continuation in front of what follows a field
 with_continuations-grown : (o : Option HeaderField) (l more : List ℕ) (later : List HeaderField) → with_continuations o (l ++ more) later ≡ with_continuations (grown o l) more later
-with_continuations-grown None l more later = refl
-with_continuations-grown (Some f) l more later = ap (λ (b : List ℕ). record { name = f.name; body = b } ∷ later) (sym (append_assoc f.body l more))
+with_continuations-grown o l more later = grind (arith, append_assoc)
 
 whole-cons_yes : (o : Option HeaderField) (l : List ℕ) (ls : List (List ℕ)) → is_continuation l ≡ true → whole o (l ∷ ls) ≡ whole (grown o l) ls
 whole-cons_yes o l ls e = rw (e, continued_and_fields) (with_continuations-grown o l (continued_and_fields ls).0 (continued_and_fields ls).1)
@@ -27,12 +22,10 @@ whole-cons_no : (o : Option HeaderField) (l : List ℕ) (ls : List (List ℕ)) �
 whole-cons_no o l ls e = rw (e, continued_and_fields) refl
 
 with_continuations-append : (o : Option HeaderField) (more : List ℕ) (later end : List HeaderField) → with_continuations o more (later ++ end) ≡ with_continuations o more later ++ end
-with_continuations-append None more later end = refl
-with_continuations-append (Some f) more later end = refl
+with_continuations-append o more later end = grind arith
 
 is_some-grown : (o : Option HeaderField) (l : List ℕ) → is_some (grown o l) ≡ is_some o
-is_some-grown None l = refl
-is_some-grown (Some f) l = refl
+is_some-grown o l = grind arith
 
 -- a last line that is no continuation
 whole-push_no : (o : Option HeaderField) (ls : List (List ℕ)) (l : List ℕ) → is_continuation l ≡ false → whole o (ls ++ l ∷ []) ≡ whole o ls ++ whole (field_of_line l) []
@@ -43,9 +36,7 @@ whole-push_no o (k ∷ ks) l e = go (λ p. whole-push_no p ks l e) (is_continuat
         → whole o (k ∷ (ks ++ l ∷ [])) ≡ whole o (k ∷ ks) ++ whole (field_of_line l) []
     go later true f =
         whole-cons_yes o k (ks ++ l ∷ []) f ∙ later (grown o k) ∙ ap (λ (fs : List HeaderField). fs ++ whole (field_of_line l) []) (sym (whole-cons_yes o k ks f))
-    go later false f =
-        whole-cons_no o k (ks ++ l ∷ []) f ∙ ap (λ (fs : List HeaderField). with_continuations o [] fs) (later (field_of_line k))
-        ∙ with_continuations-append o [] (whole (field_of_line k) ks) (whole (field_of_line l) []) ∙ ap (λ (fs : List HeaderField). fs ++ whole (field_of_line l) []) (sym (whole-cons_no o k ks f))
+    go later false f = grind arith
 
 -- a last line that is a continuation goes to the last field where one is open, and else is skipped
 record Continued (o : Option HeaderField) (ls : List (List ℕ)) (l : List ℕ) (opened : Bool) : Type 0 where
@@ -53,20 +44,14 @@ record Continued (o : Option HeaderField) (ls : List (List ℕ)) (l : List ℕ) 
   skips : opened ≡ false → whole o (ls ++ l ∷ []) ≡ whole o ls
 
 onto_last-front : (o : Option HeaderField) (l more : List ℕ) (fs : List HeaderField) → 0 < length fs → with_continuations o more (onto_last l fs) ≡ onto_last l (with_continuations o more fs)
-onto_last-front None l more fs some = refl
-onto_last-front (Some f) l more [] some = absurd (omega arith)
-onto_last-front (Some f) l more (g ∷ gs) some = refl
+onto_last-front o l more fs h = grind arith
 
 length-with_continuations : (o : Option HeaderField) (more : List ℕ) (fs : List HeaderField) → length fs ≤ length (with_continuations o more fs)
-length-with_continuations None more fs = omega arith
-length-with_continuations (Some f) more fs = omega arith
+length-with_continuations o more fs = grind arith
 
 continued : (o : Option HeaderField) (ls : List (List ℕ)) (l : List ℕ) → is_continuation l ≡ true → Continued o ls l (is_open_behind (is_some o) ls)
 continued None [] l e = record { goes = λ no. absurd (cc); skips = λ _. rw (e, continued_and_fields) refl }
-continued (Some f) [] l e = record {
-  goes = λ _. (rw (e, continued_and_fields) (ap (λ (b : List ℕ). record { name = f.name; body = b } ∷ []) (ap (λ (m : List ℕ). f.body ++ m) (append-nil l) ∙ ap (λ (m : List ℕ). m ++ l) (sym (append-nil f.body)))), omega arith);
-  skips = λ no. absurd (cc);
-}
+continued (Some f) [] l e = grind (arith, append-nil)
 continued o (k ∷ ks) l e = go (λ p. continued p ks l e) (is_continuation k) refl
   where
     go : ((p : Option HeaderField) → Continued p ks l (is_open_behind (is_some p) ks)) → (t : Bool) → is_continuation k ≡ t
@@ -98,8 +83,7 @@ pub fields_in-push : (ls : List (List ℕ)) (l : List ℕ) → fields_in (ls ++ 
 fields_in-push ls l = go (is_continuation l) refl (is_open_behind false ls) refl
   where
     last : (o : Option HeaderField) → whole o [] ≡ option_to_list o
-    last None = refl
-    last (Some f) = ap (λ (b : List ℕ). record { name = f.name; body = b } ∷ []) (append-nil f.body)
+    last o = grind (arith, append-nil)
 
     go : (t : Bool) → is_continuation l ≡ t → (u : Bool) → is_open_behind false ls ≡ u → fields_in (ls ++ l ∷ []) ≡ fields_with (is_open_behind false ls) l (fields_in ls)
     go false e u f = whole-push_no None ls l e ∙ rw e (ap (λ (fs : List HeaderField). fields_in ls ++ fs) (last (field_of_line l)))
@@ -126,9 +110,7 @@ length-after_blanks [] = omega arith
 length-after_blanks (b ∷ bs) = grind (arith, length-after_blanks bs)
 
 named-size : (name rest : List ℕ) → fields_size (option_to_list (named name rest)) ≤ length name + length rest
-named-size [] rest = omega arith
-named-size (b ∷ name) [] = omega arith
-named-size (b ∷ name) (c ∷ rest) = grind arith
+named-size name rest = grind arith
 
 field_of_line-size : (l : List ℕ) → fields_size (option_to_list (field_of_line l)) ≤ length l
 field_of_line-size l =

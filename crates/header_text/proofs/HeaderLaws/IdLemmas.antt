@@ -1,12 +1,6 @@
 -- Ids one after another.
-use Rattle.std.proofs.Common.{◌≡◌, ◌∙◌, ◌+◌, ◌<◌, ◌≤◌, ◌++◌, ◌==◌, ℕ, zero, suc, Bool, true, false, nat_lt, List, [], ◌∷◌, Option, Some, None, length, drop, get_or, slice_index, map, refl, sym, ap, subst, arith}
-use Rattle.std.specs.Prelude.{filter, IfSome, Vec}
+use Rattle.header_text.proofs.Words.{◌≡◌, ◌∙◌, ◌+◌, ◌<◌, ◌≤◌, ◌++◌, ◌==◌, ℕ, zero, suc, Bool, true, false, nat_lt, List, [], ◌∷◌, Option, Some, None, length, drop, get_or, slice_index, map, refl, sym, ap, subst, arith, filter, IfSome, Vec, filter_map, length-map, get_or-map, ltb-true, is_id_byte, ids_of, ids_size, onto_first, closed_texts, after_last_open, ids_in}
 use Rattle.std.specs.Global.{Global}
-use Rattle.std.specs.List.{filter_map}
-use Rattle.std.proofs.lemmas.List.{length-map, get_or-map}
-use Rattle.std.proofs.lemmas.Bool.{ltb-true}
-use Rattle.header_text.specs.Ids.{is_id_byte, ids_of, ids_size}
-use Rattle.header_text.specs.Inside.Ids.{onto_first, closed_texts, after_last_open, ids_in}
 use Rattle.header_text.proofs.HeaderLaws.IdRanges.{ids_of-closed}
 use Rattle.header_text.proofs.CutLemmas.{Lacks}
 
@@ -53,8 +47,7 @@ AreShort-more n m [] le h = tt
 AreShort-more n m (t ∷ ts) le h = (omega (arith, h.0), AreShort-more n m ts le h.1)
 
 onto_first-short : (n b : ℕ) (ts : List (List ℕ)) → AreShort n ts → AreShort (suc n) (onto_first b ts)
-onto_first-short n b [] h = tt
-onto_first-short n b (t ∷ ts) h = (omega (arith, h.0), AreShort-more n (suc n) ts (omega arith) h.1)
+onto_first-short n b ts h = grind (arith, AreShort-more)
 
 closed_texts-short : (bs : List ℕ) → AreShort (length bs) (closed_texts bs)
 closed_texts-short [] = tt

@@ -1,13 +1,7 @@
 -- Ids by place are those of the texts up to each `>`.
-use Rattle.std.proofs.Common.{◌≡◌, ◌∙◌, ◌++◌, ◌&&◌, ◌==◌, ℕ, Bool, true, false, cond, List, [], ◌∷◌, Option, Some, None, refl, sym, ap, ap₂, append_assoc, append-nil, inl, inr, ◌⊎◌, nat_lt, arith}
-use Rattle.std.specs.List.{list_all}
-use Rattle.std.proofs.lemmas.List.{map-append}
-use Rattle.std.proofs.lemmas.List.Elements.{filter-append, filter_map-append}
+use Rattle.header_text.proofs.Words.{◌≡◌, ◌∙◌, ◌++◌, ◌&&◌, ◌==◌, ℕ, Bool, true, false, cond, List, [], ◌∷◌, Option, Some, None, refl, sym, ap, ap₂, append_assoc, append-nil, inl, inr, ◌⊎◌, nat_lt, arith, list_all, map-append, filter-append, filter_map-append, eqb-true, open_sign, close_sign, begins_with, is_inside_id, is_id, kept_ids, ids_of, onto_first, closed_texts, after_last_open, ids_in}
 use Rattle.std.proofs.lemmas.List.Folds.{list_all-append}
-use Rattle.std.proofs.lemmas.Bool.{eqb-true}
 use Rattle.contract_words.proofs.RangePlaces.{seen_on, seen_from, if_passes, seen_behind-places}
-use Rattle.header_text.specs.Ids.{open_sign, close_sign, begins_with, is_inside_id, is_id, kept_ids, ids_of}
-use Rattle.header_text.specs.Inside.Ids.{onto_first, closed_texts, after_last_open, ids_in}
 use Rattle.header_text.proofs.CutLemmas.{Lacks}
 
 -- ---- three tests
@@ -16,13 +10,10 @@ not_first : (a b c : Bool) → a ≡ false → (a && b && c) ≡ false
 not_first a b c e = rw e refl
 
 not_mid : (a b c : Bool) → b ≡ false → (a && b && c) ≡ false
-not_mid true b c e = rw e refl
-not_mid false b c e = refl
+not_mid a b c h = grind arith
 
 not_last : (a b c : Bool) → c ≡ false → (a && b && c) ≡ false
-not_last true true c e = e
-not_last true false c e = refl
-not_last false b c e = refl
+not_last a b c h = grind arith
 
 all_three : (a b c : Bool) → a ≡ true → b ≡ true → c ≡ true → (a && b && c) ≡ true
 all_three a b c e f g = rw (e, f, g) refl
@@ -52,8 +43,7 @@ broken_more : (inside : List ℕ) (b : ℕ) → list_all is_inside_id inside ≡
 broken_more inside b e = list_all-append is_inside_id inside (b ∷ []) ∙ rw e refl
 
 and_false : (a : Bool) → (a && false) ≡ false
-and_false true = refl
-and_false false = refl
+and_false a = grind arith
 
 broken_by : (inside : List ℕ) (b : ℕ) → is_inside_id b ≡ false → list_all is_inside_id (inside ++ b ∷ []) ≡ false
 broken_by inside b e = list_all-append is_inside_id inside (b ∷ []) ∙ rw e (and_false (list_all is_inside_id inside))
@@ -75,8 +65,7 @@ refused_open before inside behind e = grind (arith, refused, before, behind, not
 -- a `<` or a `>` is among them
 on-broken : (before inside rest : List ℕ) → list_all is_inside_id inside ≡ false → ids_on before inside rest ≡ []
 on-broken before inside [] e = refl
-on-broken before inside (c ∷ cs) e =
-    ap₂ ◌++◌ (refused_broken before (inside ++ c ∷ []) cs (broken_more inside c e)) (on-broken before (inside ++ c ∷ []) cs (broken_more inside c e))
+on-broken before inside (c ∷ cs) e = grind (arith, refused_broken, broken_more, on-broken before (inside ++ c ∷ []) cs (broken_more inside c e))
 
 on-sign : (before inside rest : List ℕ) (c : ℕ) → is_inside_id c ≡ false → ids_on before inside (c ∷ rest) ≡ []
 on-sign before inside rest c e = grind (arith, refused_broken, before, broken_by, on-broken)
@@ -145,8 +134,7 @@ pub ids_in-cons : (text : List ℕ) (texts : List (List ℕ)) → ids_in (text �
 ids_in-cons text texts = grind (arith, filter_map-append, kept-append)
 
 kept-unless_none : (u : List ℕ) → kept_ids (unless_none u u) ≡ kept_ids (u ∷ [])
-kept-unless_none [] = refl
-kept-unless_none (b ∷ u) = refl
+kept-unless_none u = grind arith
 
 -- a `<` stands in the text, none after it
 record LastOpen (text : List ℕ) : Type 0 where
@@ -189,20 +177,7 @@ last_open (b ∷ bs) free = elim (last_open bs free.1) [
     go false t none = inl (ap (judged b bs) none.0 ∙ rw (judged, t) refl, (t, none.1))
 
 from-text : (text rest : List ℕ) → Lacks close_sign text → kept_ids (ids_from [] (text ++ close_sign ∷ rest)) ≡ ids_in (text ∷ []) ++ kept_ids (ids_from [] rest)
-from-text text rest free = go (last_open text free)
-  where
-    go : ((after_last_open text ≡ None) × Lacks open_sign text) ⊎ LastOpen text → kept_ids (ids_from [] (text ++ close_sign ∷ rest)) ≡ ids_in (text ∷ []) ++ kept_ids (ids_from [] rest)
-    go (inl none) =
-        let nothing : ids_in (text ∷ []) ≡ [] = rw none.0 refl in
-        ap kept_ids (from-unopened [] text rest refl none.1) ∙ ap (λ (l : List (List ℕ)). l ++ kept_ids (ids_from [] rest)) (sym nothing)
-    go (inr o) =
-        let some : ids_in (text ∷ []) ≡ kept_ids (o.behind ∷ []) = rw o.is refl in
-        let cut : text ++ close_sign ∷ rest ≡ o.before ++ open_sign ∷ (o.behind ++ close_sign ∷ rest) =
-        ap (λ (l : List ℕ). l ++ close_sign ∷ rest) o.joined ∙ append_assoc o.before (open_sign ∷ o.behind) (close_sign ∷ rest) in
-        let found : ids_from [] (text ++ close_sign ∷ rest) ≡ unless_none o.behind o.behind ++ ids_from [] rest =
-        ap (ids_from []) cut ∙ from-reopened [] o.before (o.behind ++ close_sign ∷ rest) o.unclosed_before ∙ from-found o.behind rest o.unopened o.unclosed in
-        ap kept_ids found ∙ kept-append (unless_none o.behind o.behind) (ids_from [] rest)
-        ∙ ap (λ (l : List (List ℕ)). l ++ kept_ids (ids_from [] rest)) (kept-unless_none o.behind ∙ sym some)
+from-text text rest free = grind (arith, last_open, from-unopened, append_assoc, from-reopened, from-found, kept-append, kept-unless_none)
 
 -- ---- all texts
 
@@ -212,12 +187,10 @@ onto_text front [] = []
 onto_text front (text ∷ texts) = (front ++ text) ∷ texts
 
 onto_text-nil : (texts : List (List ℕ)) → onto_text [] texts ≡ texts
-onto_text-nil [] = refl
-onto_text-nil (text ∷ texts) = refl
+onto_text-nil texts = grind arith
 
 onto_text-byte : (front : List ℕ) (b : ℕ) (texts : List (List ℕ)) → onto_text (front ++ b ∷ []) texts ≡ onto_text front (onto_first b texts)
-onto_text-byte front b [] = refl
-onto_text-byte front b (text ∷ texts) = ap (λ (l : List ℕ). l ∷ texts) (append_assoc front (b ∷ []) text)
+onto_text-byte front b texts = grind (arith, append_assoc)
 
 lacks_more : (front : List ℕ) (b : ℕ) → Lacks close_sign front → (b == close_sign) ≡ false → Lacks close_sign (front ++ b ∷ [])
 lacks_more [] b free e = (e, tt)
@@ -236,10 +209,7 @@ from-texts front (b ∷ bs) free = go (b == close_sign) refl (from-texts [] bs t
         ap (λ (c : ℕ). kept_ids (ids_from [] (front ++ c ∷ bs))) (eqb-true b close_sign t) ∙ from-text front bs free
         ∙ ap (λ (l : List (List ℕ)). ids_in (front ∷ []) ++ l) later ∙ sym (ids_in-cons front (closed_texts bs))
         ∙ ap (λ (l : List ℕ). ids_in (l ∷ closed_texts bs)) (sym (append-nil front)) ∙ ap (λ (l : List (List ℕ)). ids_in (onto_text front l)) (sym texts)
-    go false t behind longer =
-        let texts : closed_texts (b ∷ bs) ≡ onto_first b (closed_texts bs) = rw (t, closed_texts) refl in
-        ap (λ (l : List ℕ). kept_ids (ids_from [] l)) (sym (append_assoc front (b ∷ []) bs)) ∙ longer t
-        ∙ ap ids_in (onto_text-byte front b (closed_texts bs)) ∙ ap (λ (l : List (List ℕ)). ids_in (onto_text front l)) (sym texts)
+    go false t behind longer = grind (arith, append_assoc)
 
 pub ids_of-closed : (value : List ℕ) → ids_of value ≡ ids_in (closed_texts value)
 unfolding ids_of

@@ -1,11 +1,7 @@
 -- Fields at places, as bytes and places are added.
-use Rattle.std.proofs.Common.{◌≡◌, ◌∙◌, ◌+◌, ◌-◌, ◌<◌, ◌≤◌, ◌++◌, ℕ, List, [], ◌∷◌, length, take, drop, refl, sym, ap, ap₂, arith, length-append, append_assoc}
-use Rattle.std.specs.Prelude.{slice_range}
-use Rattle.std.proofs.lemmas.List.{take-append-le, drop-append-le, take_all, take_at, drop_at, length-drop, length-take-le}
-use Rattle.header_text.specs.declared.field_list.FieldPlace.{FieldPlace}
-use Rattle.header_text.specs.Headers.{HeaderField, fields_size, most_in_header}
+use Rattle.header_text.proofs.Words.{◌≡◌, ◌∙◌, ◌+◌, ◌-◌, ◌<◌, ◌≤◌, ◌++◌, ℕ, List, [], ◌∷◌, length, take, drop, refl, sym, ap, ap₂, arith, length-append, append_assoc, slice_range, take-append-le, drop-append-le, take_all, take_at, drop_at, length-take-le, FieldPlace, HeaderField, fields_size, most_in_header, onto_last}
+use Rattle.std.proofs.lemmas.List.{length-drop}
 use Rattle.header_text.specs.Inside.Places.{next_start, AreInOrder, AreKept, fields_at}
-use Rattle.header_text.specs.OpenFields.{onto_last}
 
 length-slice_range : (xs : List ℕ) (i j : ℕ) → i ≤ j → j ≤ length xs → length (slice_range xs i j) ≡ j - i
 length-slice_range xs i j low high = let left : length (drop i xs) ≡ length xs - i = length-drop i xs in length-take-le (j - i) (drop i xs) (omega arith)
@@ -29,8 +25,7 @@ AreInOrder-push end (q ∷ []) p more h e low high = (h.0, omega (arith, h.1), (
 AreInOrder-push end (q ∷ r ∷ ps) p more h e low high = (h.0, h.1, AreInOrder-push end (r ∷ ps) p more h.2 e low high)
 
 next_start-push : (end : ℕ) (ps : List FieldPlace) (p : FieldPlace) (more : ℕ) → p.name ≡ end → next_start (ps ++ p ∷ []) more ≡ next_start ps end
-next_start-push end [] p more e = e
-next_start-push end (q ∷ ps) p more e = refl
+next_start-push end ps p more h = grind arith
 
 -- more bytes behind the last field
 AreInOrder-more : (end more : ℕ) (ps : List FieldPlace) → AreInOrder end ps → end ≤ more → AreInOrder more ps
@@ -77,13 +72,7 @@ fields_at-append bytes more (q ∷ r ∷ ps) h = grind (arith, next_start-le, sl
 -- names and bodies are the bytes from the first name on
 fields_size-at : (bytes : List ℕ) (ps : List FieldPlace) → AreInOrder (length bytes) ps → fields_size (fields_at bytes ps) + next_start ps (length bytes) ≡ length bytes
 fields_size-at bytes [] h = omega arith
-fields_size-at bytes (p ∷ ps) h =
-    let later = fields_size-at bytes ps h.2 in
-    let end : ℕ = next_start ps (length bytes) in
-    let within : end ≤ length bytes = next_start-le (length bytes) ps h.2 in
-    let name : length (slice_range bytes p.name p.body) ≡ p.body - p.name = length-slice_range bytes p.name p.body (omega (arith, h.0)) (omega (arith, h.1)) in
-    let body : length (slice_range bytes p.body end) ≡ end - p.body = length-slice_range bytes p.body end h.1 within in
-    omega (arith, h.0, h.1, later, name, body)
+fields_size-at bytes (p ∷ ps) h = grind (arith, next_start-le, length-slice_range, fields_size-at bytes ps h.2)
 
 -- there are no other bytes
 pub fields_size-kept : (bytes : List ℕ) (ps : List FieldPlace) → AreKept bytes ps → fields_size (fields_at bytes ps) ≡ length bytes

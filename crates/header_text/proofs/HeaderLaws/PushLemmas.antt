@@ -1,14 +1,7 @@
 -- What a Header holds, behind one line more.
-use Rattle.std.proofs.Common.{◌≡◌, ◌∙◌, ◌+◌, ◌-◌, ◌≤◌, ◌<◌, ◌++◌, ◌||◌, ◌⊎◌, inl, inr, ℕ, Bool, true, false, nat_le, nat_lt, List, [], ◌∷◌, length, refl, sym, ap, ap₂, arith, length-append}
-use Rattle.std.proofs.lemmas.Bool.{cases_lt}
-use Rattle.std.proofs.lemmas.Bool.Decides.{nat_tests}
-use Rattle.mbox_cutter.specs.Lines.{is_empty}
-use Rattle.header_text.specs.Headers.{HeaderField, most_in_header, lines_before_empty, lines_within, header, fields_in, fields_of}
-use Rattle.header_text.specs.OpenFields.{is_open_after, is_open_behind, fields_with}
-use Rattle.header_text.specs.Stages.{has_empty, lines_size, stage_of, stage_behind}
+use Rattle.header_text.proofs.Words.{◌≡◌, ◌∙◌, ◌+◌, ◌-◌, ◌≤◌, ◌<◌, ◌++◌, ◌||◌, ◌⊎◌, inl, inr, ℕ, Bool, true, false, nat_le, nat_lt, List, [], ◌∷◌, length, refl, sym, ap, ap₂, arith, length-append, cases_lt, nat_tests, is_empty, HeaderField, most_in_header, lines_before_empty, lines_within, header, fields_in, fields_of, is_open_after, is_open_behind, fields_with, has_empty, lines_size, stage_of, stage_behind, Open, Full, Ended}
 use Rattle.header_text.specs.HeldLines.{Holds, taken_of}
 use Rattle.header_text.specs.declared.header.Stage.{Stage}
-use Rattle.header_text.specs.declared.header.Stage.TheVariants.{Open, Full, Ended}
 use Rattle.header_text.specs.declared.header.Taken.TheVariants.{More, Ended as HeaderEnded}
 use Rattle.header_text.proofs.HeaderLaws.HeaderLemmas.{fields_in-push, is_open_behind-push}
 
@@ -27,16 +20,8 @@ before_empty-push_end [] l h = rw (h, lines_before_empty) refl
 before_empty-push_end (k ∷ ks) l h = grind (arith, before_empty-push_end ks l h)
 
 pub has_empty-push : (ls : List (List ℕ)) (l : List ℕ) → has_empty (ls ++ l ∷ []) ≡ (has_empty ls || is_empty l)
-has_empty-push [] l = or_false (is_empty l)
-  where
-    or_false : (b : Bool) → (b || false) ≡ b
-    or_false true = refl
-    or_false false = refl
-has_empty-push (k ∷ ks) l = regroup (is_empty k) (has_empty ks) (is_empty l) (has_empty (ks ++ l ∷ [])) (has_empty-push ks l)
-  where
-    regroup : (a b c d : Bool) → d ≡ (b || c) → (a || d) ≡ (a || b || c)
-    regroup true b c d e = refl
-    regroup false b c d e = e
+has_empty-push [] l = grind arith
+has_empty-push (k ∷ ks) l = grind (arith, has_empty-push ks l)
 
 -- ---- the room
 
@@ -118,9 +103,7 @@ steps-end ls l stage size h e =
     }
   where
     ends : (s : Stage) → stage_of (ls ++ l ∷ []) ≡ Ended → stage_behind s size l ≡ stage_of (ls ++ l ∷ [])
-    ends Ended now = sym now
-    ends Full now = rw e (sym now)
-    ends Open now = rw e (sym now)
+    ends s h = grind arith
 
 -- the header is full before the line
 steps-full : (ls : List (List ℕ)) (l : List ℕ) (stage : Stage) (size : ℕ) → has_empty ls ≡ false → is_empty l ≡ false → stage ≡ stage_of ls → most_in_header < lines_size ls → Steps ls l stage size
@@ -253,6 +236,4 @@ module _ (fs : List HeaderField) (size : ℕ) (in_field : Bool) (stage : Stage) 
 -- ---- the bounds
 
 pub room-open : (stage : Stage) (size : ℕ) (l : List ℕ) → size ≤ most_in_header → stage_behind stage size l ≡ Open → size + length l ≤ most_in_header
-room-open Ended size l le e = absurd (cc)
-room-open Full size l le e = grind arith
-room-open Open size l le e = grind arith
+room-open stage size l h h2 = grind arith

@@ -1,14 +1,6 @@
 -- Unfolding part by part.
-use Rattle.std.proofs.Common.{◌≡◌, ◌∙◌, ◌<◌, ◌++◌, ◌==◌, ◌&&◌, ℕ, Bool, true, false, nat_lt, List, [], ◌∷◌, None, length, take, drop, refl, sym, ap, ap₂, arith, length-append, append_assoc, append-nil}
-use Rattle.std.specs.Prelude.{if◌then◌else◌}
-use Rattle.std.proofs.lemmas.Bool.Decides.{nat_tests}
-use Rattle.std.proofs.lemmas.Bool.{lt-ltb}
-use Rattle.std.proofs.lemmas.List.{take_at, drop_at}
-use Rattle.header_text.specs.Blanks.{after_blanks, before_blanks}
-use Rattle.header_text.specs.Unfolding.{without_breaks, unfolded}
-use Rattle.header_text.specs.Inside.Breaks.{without_final_cr, led}
+use Rattle.header_text.proofs.Words.{◌≡◌, ◌∙◌, ◌++◌, ◌==◌, ◌&&◌, ℕ, Bool, true, false, nat_lt, List, [], ◌∷◌, None, length, take, drop, refl, sym, ap, ap₂, arith, length-append, append_assoc, append-nil, if◌then◌else◌, nat_tests, lt-ltb, take_at, drop_at, after_blanks, before_blanks, without_breaks, unfolded, without_final_cr, led, cut_at}
 use Rattle.header_text.proofs.CutLemmas.{Lacks, IsCut, Lacks-from}
-use Rattle.header_text.specs.Cuts.{cut_at}
 
 -- ---- a CR at the end
 
@@ -20,16 +12,14 @@ without_final_cr-push (c ∷ d ∷ bs) b = grind (arith, without_final_cr-push (
 -- ---- breaks
 
 and_false : (b : Bool) → (b && false) ≡ false
-and_false true = refl
-and_false false = refl
+and_false b = grind arith
 
 -- a byte that is dropped, or isn't, before others
 chosen : ℕ → List ℕ → Bool → List ℕ
 chosen b bs t = elim t [ true ↦ without_breaks bs | false ↦ b ∷ without_breaks bs ]
 
 breaks-feed : (later : List ℕ) → without_breaks (0x0A ∷ later) ≡ without_breaks later
-breaks-feed [] = refl
-breaks-feed (b ∷ later) = refl
+breaks-feed later = grind arith
 
 -- a line without LF, its LF, and what follows
 breaks-cut : (line later : List ℕ) → Lacks 0x0A line → without_breaks (line ++ 0x0A ∷ later) ≡ without_final_cr line ++ without_breaks later
@@ -57,12 +47,10 @@ after_blanks-append (b ∷ p) w = grind (arith, after_blanks-append p w)
 
 -- one part more
 led-append : (done p w : List ℕ) → (done ++ led (is_some_bytes done) p) ++ led (is_some_bytes (done ++ led (is_some_bytes done) p)) w ≡ done ++ led (is_some_bytes done) (p ++ w)
-led-append [] p w = after_blanks-append p w
-led-append (d ∷ done) p w = append_assoc (d ∷ done) p w
+led-append done p w = grind (arith, after_blanks-append, append_assoc)
 
 is_some-test : (old done : List ℕ) → nat_lt (length old) (length (old ++ done)) ≡ is_some_bytes done
-is_some-test old [] = let none : nat_lt (length old) (length old) ≡ false = grind (arith, nat_tests) in rw append-nil none
-is_some-test old (d ∷ done) = let less : length old < length (old ++ d ∷ done) = omega (arith, length-append old (d ∷ done)) in lt-ltb (length old) (length (old ++ d ∷ done)) less
+is_some-test old done = grind (arith, nat_tests, append-nil, length-append, lt-ltb)
 
 -- ---- the whole
 

@@ -1,7 +1,5 @@
 -- An unfolded body is no longer than the body.
-use Rattle.std.proofs.Common.{◌≤◌, ◌==◌, ℕ, suc, Bool, true, false, List, [], ◌∷◌, length, ap, arith, length-append}
-use Rattle.header_text.specs.Blanks.{after_blanks, before_blanks}
-use Rattle.header_text.specs.Unfolding.{without_breaks, unfolded}
+use Rattle.header_text.proofs.Words.{◌≤◌, ◌==◌, ℕ, suc, Bool, true, false, List, [], ◌∷◌, length, ap, arith, length-append, after_blanks, before_blanks, without_breaks, unfolded}
 use Rattle.header_text.proofs.Fronts.{after_blanks-joined, before_blanks-joined}
 
 -- a byte that is dropped, or isn't, before others

@@ -1,25 +1,11 @@
 -- The text of bytes of which each is a character.
-use Rattle.std.proofs.Common.{◌≡◌, ◌∙◌, ◌<◌, ◌≤◌, ◌+◌, ◌++◌, ℕ, suc, true, false, inl, inr, nat_lt, nat_le, List, [], ◌∷◌, map, length, slice_index, take, drop, refl, sym, ap, ap₂, subst, arith, encode_utf8_all, append_assoc}
-use Rattle.std.specs.Char.{encode_utf8}
-use Rattle.std.specs.Str.{IsAscii}
-use Rattle.std.proofs.lemmas.Bool.{ne_eqb, cases_lt, lt-ltb}
-use Rattle.std.proofs.lemmas.Bool.Decides.{nat_tests}
-use Rattle.std.proofs.lemmas.List.{map-append, take-append-drop, drop_more, length-take, get_or-take, take_all}
+use Rattle.header_text.proofs.Words.{◌≡◌, ◌∙◌, ◌<◌, ◌≤◌, ◌+◌, ◌++◌, ℕ, suc, true, nat_lt, List, [], ◌∷◌, map, length, slice_index, take, drop, refl, sym, ap, ap₂, subst, arith, encode_utf8_all, append_assoc, encode_utf8, IsAscii, ne_eqb, cases_lt, lt-ltb, nat_tests, map-append, take-append-drop, drop_more, get_or-take, take_all, encodes-append, encodes-IsAscii, IsUtf8-from_ascii, length-encode, lossy_chars, lossy_chars-utf8, character, text_of, Charset, Utf8, Latin1, Latin9, Windows1252, Unknown}
+use Rattle.std.proofs.lemmas.List.{length-take}
 use Rattle.std.proofs.lemmas.Str.Ascii.{IsAscii-from_reads}
-use Rattle.std.proofs.lemmas.Str.{encodes-append, encodes-IsAscii, IsUtf8-from_ascii, length-encode}
-use Rattle.bstr.specs.Utf8.{lossy_chars}
-use Rattle.bstr.proofs.lemmas.EncodeLemmas.{lossy_chars-utf8}
-use Rattle.header_text.specs.Charsets.{character, text_of}
-use Rattle.header_text.specs.declared.charset.Charset.{Charset}
-use Rattle.header_text.specs.declared.charset.Charset.TheVariants.{Utf8, Latin1, Latin9, Windows1252, Unknown}
 
 -- an ASCII byte is its own character in each charset
 character-ascii : (c : Charset) (b : ℕ) → b < 128 → character c b ≡ b
-character-ascii Latin1 b lt = refl
-character-ascii Latin9 b lt = grind (arith, ne_eqb)
-character-ascii Windows1252 b lt = let below : nat_le 0x80 b ≡ false = grind (arith, nat_tests) in rw below refl
-character-ascii Utf8 b lt = let below : nat_lt b 0x80 ≡ true = grind (arith, nat_tests) in rw below refl
-character-ascii Unknown b lt = let below : nat_lt b 0x80 ≡ true = grind (arith, nat_tests) in rw below refl
+character-ascii c b h = grind (arith, ne_eqb, nat_tests)
 
 map-character-ascii : (c : Charset) (bs : List ℕ) → IsAscii bs → map (character c) bs ≡ bs
 map-character-ascii c [] h = refl
@@ -60,12 +46,7 @@ text_of-single Unknown other bs = refl
 
 -- bytes below 128 up to a place
 pub IsAscii-before : (bs : List ℕ) (at : ℕ) → ((k : ℕ) → 0 ≤ k → k < at → nat_lt 127 (slice_index bs k) ≡ true → ⊥) → IsAscii (take at bs)
-IsAscii-before bs at h =
-    IsAscii-from_reads (take at bs) at (omega (arith, length-take at bs))
-    (λ k lt. rw (get_or-take at bs k 0 lt) (low (slice_index bs k) (h k (omega arith) lt)))
-  where
-    low : (b : ℕ) → (nat_lt 127 b ≡ true → ⊥) → b < 128
-    low b no_high = elim (cases_lt 127 b) [ inl high ↦ absurd (no_high (lt-ltb 127 b high)) | inr le ↦ omega arith ]
+IsAscii-before bs at h = grind (arith, IsAscii-from_reads, length-take, get_or-take, slice_index, cases_lt, lt-ltb)
 
 -- all bytes below 128
 pub IsAscii-all : (bs : List ℕ) → ((k : ℕ) → 0 ≤ k → k < length bs → nat_lt 127 (slice_index bs k) ≡ true → ⊥) → IsAscii bs

@@ -1,12 +1,5 @@
 -- Labels, and the text of single bytes.
-use Rattle.std.proofs.Common.{◌≡◌, ◌==◌, ◌<◌, ℕ, zero, suc, Bool, true, nat_lt, List, [], ◌∷◌, get_or, ap, arith}
-use Rattle.std.specs.Prelude.{if◌then◌else◌, not}
-use Rattle.std.specs.List.{list_all}
-use Rattle.std.proofs.lemmas.Bool.{and_parts, ltb-true}
-use Rattle.header_text.specs.Blanks.{split_while}
-use Rattle.header_text.specs.Charsets.{is_among, utf8_labels, latin1_labels, latin9_labels, windows_1252_labels, charset_named, charset_of}
-use Rattle.header_text.specs.declared.charset.Charset.{Charset}
-use Rattle.header_text.specs.declared.charset.Charset.TheVariants.{Utf8, Latin1, Latin9, Windows1252, Unknown}
+use Rattle.header_text.proofs.Words.{◌≡◌, ◌==◌, ◌<◌, ℕ, zero, suc, Bool, true, nat_lt, List, [], ◌∷◌, get_or, ap, arith, if◌then◌else◌, not, list_all, and_parts, ltb-true, split_while, is_among, utf8_labels, latin1_labels, latin9_labels, windows_1252_labels, charset_named, charset_of, Charset, Utf8, Latin1, Latin9, Windows1252, Unknown}
 
 -- the first of four tests that holds
 abbrev pub chosen : Bool → Bool → Bool → Bool → Charset

@@ -1,8 +1,5 @@
 -- The text of a value, word by word.
-use Rattle.std.proofs.Common.{◌≡◌, ◌++◌, ℕ, Bool, true, false, List, refl, ap, append_assoc, arith}
-use Rattle.std.specs.Prelude.{if◌then◌else◌}
-use Rattle.header_text.specs.EncodedWords.{WordAfter, Pieces, pieces, word_text, plain_text, text_between, later_words_text, words_text, decoded}
-use Rattle.header_text.specs.Inside.ShownWords.{no_word, word_first}
+use Rattle.header_text.proofs.Words.{◌≡◌, ◌++◌, ℕ, Bool, true, false, List, refl, append_assoc, arith, if◌then◌else◌, WordAfter, Pieces, pieces, word_text, plain_text, text_between, later_words_text, words_text, decoded, no_word, word_first}
 
 -- the text of words that follow one, or don't
 abbrev pub words_behind : Bool → List WordAfter → List ℕ
@@ -26,5 +23,4 @@ decoded-step follows w p later old new newer e f g = grind (arith, append_assoc)
 
 -- no word more
 pub decoded-end : (follows : Bool) (p : Pieces) (value : List ℕ) → p ≡ no_word value → rest_text follows p ≡ plain_text value
-decoded-end true p value e = ap (rest_text true) e
-decoded-end false p value e = ap (rest_text false) e
+decoded-end follows p value h = grind arith

@@ -1,7 +1,5 @@
 -- Escapes stretch by stretch.
-use Rattle.std.proofs.Common.{◌≡◌, ◌∙◌, ◌==◌, ◌≤◌, ◌++◌, ℕ, false, List, [], ◌∷◌, Option, Some, None, length, refl, sym, ap, arith, append_assoc, append-nil}
-use Rattle.std.specs.Prelude.{if◌then◌else◌}
-use Rattle.header_text.specs.Escapes.{escaped, unescaped_by, unescaped, q_bytes, behind_equals}
+use Rattle.header_text.proofs.Words.{◌≡◌, ◌∙◌, ◌==◌, ◌≤◌, ◌++◌, ℕ, false, List, [], ◌∷◌, Option, Some, None, length, refl, sym, ap, arith, append_assoc, append-nil, if◌then◌else◌, escaped, unescaped_by, unescaped, q_bytes, behind_equals}
 use Rattle.header_text.proofs.CutLemmas.{Lacks, IsCut}
 
 module _ (other : ℕ → ℕ) where
@@ -18,9 +16,7 @@ module _ (other : ℕ → ℕ) where
 
   -- a byte other than `=`
   u-plain : (a : ℕ) (bytes : List ℕ) → (a == 0x3D) ≡ false → unescaped_by other (a ∷ bytes) ≡ other a ∷ unescaped_by other bytes
-  u-plain a [] e = refl
-  u-plain a (b ∷ []) e = refl
-  u-plain a (b ∷ c ∷ bytes) e = u-none a b c bytes (rw e refl)
+  u-plain a bytes h = grind arith
 
   u-size : (bytes : List ℕ) → length (unescaped_by other bytes) ≤ length bytes
   u-size [] = omega arith
@@ -58,9 +54,7 @@ unescaped-equals (b ∷ []) = refl
 unescaped-equals (b ∷ c ∷ bytes) = grind arith
 
 pub length-behind_equals : (bytes : List ℕ) → length (behind_equals bytes).1 ≤ length bytes
-length-behind_equals [] = omega arith
-length-behind_equals (b ∷ []) = omega arith
-length-behind_equals (b ∷ c ∷ bytes) = grind arith
+length-behind_equals bytes = grind arith
 
 -- ---- Q
 
@@ -72,8 +66,7 @@ no_digit a b = grind arith
 
 -- a `_` in front, behind a byte that isn't one
 q-then_space : (a : ℕ) (later : List ℕ) → (a == 0x5F) ≡ false → unescaped_by q (a ∷ 0x5F ∷ later) ≡ a ∷ 0x20 ∷ unescaped_by q later
-q-then_space a [] f = rw f refl
-q-then_space a (c ∷ later) f = grind (arith, u-none q a 0x5F c later, u-plain q 0x5F (c ∷ later))
+q-then_space a later h = grind (arith, u-plain)
 
 pub q_bytes-space : (stretch later : List ℕ) → Lacks 0x5F stretch → q_bytes (stretch ++ 0x5F ∷ later) ≡ unescaped stretch ++ 0x20 ∷ q_bytes later
 unfolding q_bytes unescaped

@@ -1,11 +1,5 @@
 -- Whole groups of base64, as the decoder reads them.
-use Rattle.std.proofs.Common.{◌≡◌, ◌∙◌, ◌==◌, ◌&&◌, ◌<◌, ◌≤◌, ◌+◌, ◌-◌, ◌*◌, ◌/◌, ◌%◌, ◌++◌, ℕ, zero, suc, Bool, true, false, ◌⊎◌, inl, inr, nat_lt, nat_le, List, [], ◌∷◌, Option, Some, None, length, slice_index, slice_set, take, drop, map, refl, sym, ap, subst, arith, length-append, append_assoc, append-nil}
-use Rattle.std.specs.Prelude.{if◌then◌else◌, not, Ok, Result, OnOk, is_none}
-use Rattle.std.specs.List.{filter_map}
-use Rattle.std.proofs.lemmas.Bool.{and_parts, eqb-true, ne_eqb, not-true, cases_lt, cases_eq}
-use Rattle.std.proofs.lemmas.List.Elements.{filter_map-append}
-use Rattle.std.proofs.lemmas.List.{drop_more, drop_all, map-append, length-map, length-take-le, take-append-drop, take_at, take_all, take_more_set, length-set, get_or-set_same, get_or-set_other, get_or-take}
-use Rattle.std.proofs.lemmas.Bool.Decides.{nat_tests}
+use Rattle.header_text.proofs.Words.{◌≡◌, ◌∙◌, ◌==◌, ◌&&◌, ◌<◌, ◌≤◌, ◌+◌, ◌-◌, ◌*◌, ◌/◌, ◌%◌, ◌++◌, ℕ, zero, suc, Bool, true, false, ◌⊎◌, inl, inr, nat_lt, List, [], ◌∷◌, Option, Some, None, length, slice_index, slice_set, take, drop, map, refl, sym, ap, subst, arith, length-append, append_assoc, append-nil, if◌then◌else◌, not, Ok, Result, OnOk, is_none, filter_map, and_parts, eqb-true, ne_eqb, not-true, cases_lt, cases_eq, filter_map-append, drop_more, drop_all, map-append, length-map, length-take-le, take-append-drop, take_at, take_all, take_more_set, length-set, get_or-set_same, get_or-set_other, get_or-take, nat_tests, sextet, bytes_of_sextets, bytes_of_symbols, is_symbol}
 use Rattle.base64.specs.Engines.{standard}
 use Rattle.base64.specs.GeneralPurpose.{decode_slice_of, decoded_bytes_of}
 use Rattle.base64.specs.Decode.{IsWrittenOver, push_leftover, no_leftover, scan, scan_last, suffix_error, suffix_bytes, decode_group, groups_error, groups_bytes, group_error, group_bytes, groups_before_last, symbol_error}
@@ -14,8 +8,6 @@ use Rattle.base64.specs.declared.engine.DecodePaddingMode.TheVariants.{RequireCa
 use Rattle.base64.proofs.Decoding.{length-groups_bytes, scan-cons_ok, scan-nil, suffix_error_of, suffix_bytes_of}
 use Rattle.base64.specs.Tables.{all_below}
 use Rattle.base64.proofs.Tables.{all_below_at}
-use Rattle.header_text.specs.Base64.{sextet, bytes_of_sextets, bytes_of_symbols}
-use Rattle.header_text.specs.Inside.Alphabet.{is_symbol}
 
 abbrev pub dec : List ℕ
 dec = standard.decode_table
@@ -64,8 +56,7 @@ pub sextet-other : (b : ℕ) → b < 256 → is_symbol b ≡ false → sextet b 
 sextet-other b lt no_symbol = none (sextet b) (if_not_parts (is_symbol b) (not (b == 61) && (not (value b == 255) && is_value (sextet b) (value b))) (is_none (sextet b)) no_symbol (all_below_at test 256 b all lt))
   where
     none : (o : Option ℕ) → is_none o ≡ true → o ≡ None
-    none None h = refl
-    none (Some n) h = absurd (cc)
+    none o h = grind arith
 
 -- ---- groups joined
 
@@ -220,20 +211,7 @@ decoded-into s back new r h bytes some whole room e written =
 -- ---- symbols of any text
 
 pub below : (b : ℕ) → is_symbol b ≡ true → b < 256
-below b is = elim (cases_lt b 256) [
-  | inl lt ↦ lt
-  | inr ge ↦
-      let a : nat_le b 0x5A ≡ false = grind (arith, nat_tests) in
-      let l : nat_le b 0x7A ≡ false = grind (arith, nat_tests) in
-      let n : nat_le b 0x39 ≡ false = grind (arith, nat_tests) in
-      let p : (b == 0x2B) ≡ false = ne_eqb b 0x2B (λ e. absurd (omega arith)) in
-      let s : (b == 0x2F) ≡ false = ne_eqb b 0x2F (λ e. absurd (omega arith)) in
-      absurd (cc (rw (a, l, n, p, s, and_no (nat_le 0x41 b), and_no (nat_le 0x61 b), and_no (nat_le 0x30 b)) at is))
-]
-  where
-    and_no : (t : Bool) → (t && false) ≡ false
-    and_no true = refl
-    and_no false = refl
+below b is = grind (arith, cases_lt, nat_tests, ne_eqb)
 
 pub AreBytes-symbols : (s : List ℕ) → AreSymbols s → AreBytes s
 AreBytes-symbols [] h k = omega arith

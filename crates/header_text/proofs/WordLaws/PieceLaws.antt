@@ -1,11 +1,5 @@
 -- The pieces of a value are its leftmost encoded words, and no others are.
-use Rattle.std.proofs.Common.{◌≡◌, ◌∙◌, ◌==◌, ◌&&◌, ◌||◌, ◌≤◌, ◌++◌, ℕ, zero, suc, Bool, true, false, nat_lt, nat_le, List, [], ◌∷◌, Option, Some, None, length, refl, sym, ap, subst, arith, length-append, append-nil}
-use Rattle.std.specs.Prelude.{if◌then◌else◌, not, option_map, unwrap_or}
-use Rattle.std.specs.List.{list_all}
-use Rattle.std.proofs.lemmas.Bool.{eqb-true, and_parts, not-true, ne_eqb}
-use Rattle.header_text.specs.Cuts.{cut_at}
-use Rattle.header_text.specs.EncodedWords.{EncodedWord, spelled, is_charset_byte, is_text_byte, is_q, is_b, is_well_formed, question, equals_sign, ◌>>=◌, word_and_later, word_at, WordAfter, Pieces, pieces, BeginsWord, NoneBegins, AreLeftmost}
-use Rattle.header_text.specs.Inside.ShownWords.{no_word, word_first}
+use Rattle.header_text.proofs.Words.{◌≡◌, ◌∙◌, ◌==◌, ◌&&◌, ◌||◌, ◌≤◌, ◌++◌, ℕ, zero, suc, Bool, true, false, nat_lt, nat_le, List, [], ◌∷◌, Option, Some, None, length, refl, sym, ap, subst, arith, length-append, append-nil, not, option_map, unwrap_or, list_all, eqb-true, and_parts, not-true, ne_eqb, EncodedWord, spelled, is_charset_byte, is_text_byte, is_q, is_b, is_well_formed, question, equals_sign, word_and_later, word_at, WordAfter, Pieces, pieces, BeginsWord, NoneBegins, AreLeftmost, no_word, word_first}
 use Rattle.header_text.proofs.CutLemmas.{Lacks, cut_at-is}
 use Rattle.header_text.proofs.WordLaws.WordLemmas.{spells, spelled-append, chain, with_charset, with_encoding, with_text, with_front, in_front, pieces-none, pieces-some, word_at-equals, word_at-other, in_front-append}
 
@@ -18,11 +12,7 @@ record Parts (w : EncodedWord) : Type 0 where
   text : list_all is_text_byte w.text ≡ true
 
 parts : (w : EncodedWord) → is_well_formed w ≡ true → Parts w
-parts w h =
-    let a = and_parts (nat_lt 0 (length w.charset) && list_all is_charset_byte w.charset && (is_q w.encoding || is_b w.encoding)) (list_all is_text_byte w.text) h in
-    let b = and_parts (nat_lt 0 (length w.charset) && list_all is_charset_byte w.charset) (is_q w.encoding || is_b w.encoding) a.0 in
-    let c = and_parts (nat_lt 0 (length w.charset)) (list_all is_charset_byte w.charset) b.0 in
-    record { some = c.0; charset = c.1; encoding = b.1; text = a.1 }
+parts w h = grind (arith, and_parts)
 
 Lacks-charset : (bs : List ℕ) → list_all is_charset_byte bs ≡ true → Lacks question bs
 Lacks-charset [] h = tt
@@ -41,25 +31,11 @@ letter e h = ne_eqb e question (λ same. absurd (cc (rw same at h)))
 
 found : (w : EncodedWord) (later : List ℕ) → is_well_formed w ≡ true
     → word_and_later (question ∷ (w.charset ++ question ∷ w.encoding ∷ question ∷ (w.text ++ question ∷ equals_sign ∷ later))) ≡ Some (w, later)
-found w later h =
-    let p = parts w h in
-    let rest : List ℕ = w.text ++ question ∷ equals_sign ∷ later in
-    let behind : List ℕ = w.encoding ∷ question ∷ rest in
-    let c0 : cut_at question (w.charset ++ question ∷ behind) ≡ Some (w.charset, behind) = cut_at-is question w.charset behind (Lacks-charset w.charset p.charset) in
-    let c1 : cut_at question behind ≡ Some (w.encoding ∷ [], rest) = cut_at-is question (w.encoding ∷ []) rest (letter w.encoding p.encoding, tt) in
-    let c2 : cut_at question rest ≡ Some (w.text, equals_sign ∷ later) = cut_at-is question w.text (equals_sign ∷ later) (Lacks-text w.text p.text) in
-    chain (question ∷ (w.charset ++ question ∷ behind))
-    ∙ ap (λ (o : Option (List ℕ × List ℕ)). o >>= with_charset) c0
-    ∙ ap (λ (o : Option (List ℕ × List ℕ)). o >>= with_encoding (w.charset, behind)) c1
-    ∙ ap (λ (o : Option (List ℕ × List ℕ)). o >>= with_text (w.charset, behind) (w.encoding ∷ [], rest)) c2
-    ∙ ap (λ (t : Bool). option_map (λ (v : EncodedWord). (v, later)) (if t then Some w else None)) h
+found w later h = grind (arith, parts, cut_at-is, Lacks-charset, letter, Lacks-text, chain, with_charset, with_encoding, with_text)
 
 -- at a place one word begins at most, and it is found
 pub word_at-begins : (bytes : List ℕ) (w : EncodedWord) → BeginsWord bytes w → word_at bytes ≡ Some w
-word_at-begins bytes w h =
-    ap word_at (h.1.1 ∙ spelled-append w h.1.0)
-    ∙ word_at-equals (question ∷ (w.charset ++ question ∷ w.encoding ∷ question ∷ (w.text ++ question ∷ equals_sign ∷ h.1.0)))
-    ∙ ap (option_map (λ (f : EncodedWord × List ℕ). f.0)) (found w h.1.0 h.0)
+word_at-begins bytes w h = grind (arith, spelled-append, word_at-equals, found)
 
 -- what is found begins there
 pub record Begins (bytes : List ℕ) (w : EncodedWord) : Type 0 where
@@ -89,9 +65,7 @@ begins (b ∷ bs) w h = go (b == equals_sign) refl
 
     go : (t : Bool) → (b == equals_sign) ≡ t → Begins (b ∷ bs) w
     go false e = absurd (cc (sym (word_at-other b bs e) ∙ h))
-    go true e =
-        let is : b ≡ equals_sign = eqb-true b equals_sign e in
-        at_equals is (word_and_later bs) refl (ap (λ (x : ℕ). word_at (x ∷ bs)) is ∙ word_at-equals bs)
+    go true e = grind (arith, eqb-true, at_equals, word_at-equals)
 
 none_begins : (bytes : List ℕ) → word_at bytes ≡ None → (w : EncodedWord) → BeginsWord bytes w → ⊥
 none_begins bytes e w h = absurd (cc (sym (word_at-begins bytes w h) ∙ e))

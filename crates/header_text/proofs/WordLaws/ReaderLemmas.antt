@@ -1,13 +1,7 @@
 -- Base64 piece by piece.
-use Rattle.std.proofs.Common.{◌≡◌, ◌∙◌, ◌==◌, ◌<◌, ◌≤◌, ◌+◌, ◌-◌, ◌++◌, ℕ, zero, suc, Bool, true, false, List, [], ◌∷◌, Some, None, length, slice_index, take, drop, refl, sym, ap, ap₂, arith, length-append, append_assoc, append-nil}
-use Rattle.std.specs.Prelude.{not, if◌then◌else◌}
-use Rattle.std.proofs.lemmas.List.{length-take, get_or-take}
-use Rattle.header_text.specs.Blanks.{split_while}
-use Rattle.header_text.specs.Cuts.{cut_at}
-use Rattle.header_text.specs.Base64.{sextet, bytes_of_sextets, bytes_of_symbols, base64_bytes}
-use Rattle.header_text.specs.Inside.Alphabet.{is_symbol}
+use Rattle.header_text.proofs.Words.{◌≡◌, ◌∙◌, ◌==◌, ◌<◌, ◌≤◌, ◌+◌, ◌-◌, ◌++◌, ℕ, zero, suc, Bool, true, false, List, [], ◌∷◌, Some, None, length, slice_index, take, drop, refl, sym, ap, ap₂, arith, length-append, append_assoc, append-nil, not, if◌then◌else◌, get_or-take, split_while, cut_at, sextet, bytes_of_sextets, bytes_of_symbols, base64_bytes, is_symbol, filter_map}
+use Rattle.std.proofs.lemmas.List.{length-take}
 use Rattle.header_text.proofs.CutLemmas.{Lacks, IsCut-from, Lacks-from, split_while-lacks}
-use Rattle.std.specs.List.{filter_map}
 use Rattle.header_text.proofs.Fronts.{split_while-joined}
 use Rattle.header_text.proofs.WordLaws.GroupLemmas.{AreSymbols, symbol, below}
 use Rattle.std.proofs.Math.Seq.{take-append-add}

@@ -1,17 +1,11 @@
 -- Encoded words one after another.
-use Rattle.std.proofs.Common.{◌≡◌, ◌∙◌, ◌==◌, ◌<◌, ◌+◌, ◌-◌, ◌++◌, ℕ, zero, suc, true, false, List, [], ◌∷◌, Option, Some, None, length, take, drop, refl, sym, ap, ap₂, arith, length-append, append_assoc, append-nil}
-use Rattle.std.specs.Prelude.{option_map}
-use Rattle.std.proofs.lemmas.List.{take_at}
-use Rattle.header_text.specs.Cuts.{cut_at}
-use Rattle.header_text.specs.EncodedWords.{EncodedWord, spelled, is_well_formed, question, equals_sign, after, word_of, ◌>>=◌, word_and_later, word_at, WordAfter, Pieces, onto_front, pieces_behind, pieces}
-use Rattle.header_text.specs.Inside.ShownWords.{no_word, word_first}
+use Rattle.header_text.proofs.Words.{◌≡◌, ◌∙◌, ◌==◌, ◌<◌, ◌+◌, ◌-◌, ◌++◌, ℕ, zero, suc, true, false, List, [], ◌∷◌, Option, Some, None, length, take, drop, refl, sym, ap, ap₂, arith, length-append, append_assoc, append-nil, option_map, take_at, cut_at, EncodedWord, spelled, is_well_formed, question, equals_sign, after, word_of, ◌>>=◌, word_and_later, word_at, WordAfter, Pieces, onto_front, pieces_behind, pieces, no_word, word_first}
 use Rattle.header_text.proofs.CutLemmas.{Lacks, IsCut, IsCut-from, Lacks-from}
 
 -- ---- how a word is spelled
 
 after-one : (c : ℕ) (bytes rest : List ℕ) → after (c ∷ []) bytes ≡ Some rest → bytes ≡ c ∷ rest
-after-one c [] rest e = absurd (cc)
-after-one c (b ∷ bytes) rest e = grind arith
+after-one c bytes rest h = grind arith
 
 pub record Spells (bytes : List ℕ) (w : EncodedWord) (later : List ℕ) : Type 0 where
   pub joined : equals_sign ∷ bytes ≡ spelled w ++ later
@@ -27,9 +21,7 @@ abbrev made : List ℕ → ℕ → List ℕ → EncodedWord
 made charset e text = record { charset = charset; encoding = e; text = text }
 
 word_of-is : (charset encoding text : List ℕ) (w : EncodedWord) → word_of charset encoding text ≡ Some w → IsWordOf charset encoding text w
-word_of-is charset [] text w h = absurd (cc)
-word_of-is charset (e ∷ f ∷ encoding) text w h = absurd (cc)
-word_of-is charset (e ∷ []) text w h = grind arith
+word_of-is charset encoding text w h = grind arith
 
 abbrev pub Parts : Type 0
 Parts = List ℕ × List ℕ
@@ -63,12 +55,10 @@ record Passed {A B : Type 0} (o : Option A) (f : A → Option B) (y : B) : Type 
   next : f value ≡ Some y
 
 passed : {A B : Type 0} (o : Option A) (f : A → Option B) (y : B) → (o >>= f) ≡ Some y → Passed o f y
-passed None f y h = absurd (cc)
-passed (Some x) f y h = record { value = x; was = refl; next = h }
+passed o f y h = grind arith
 
 word_made : (o : Option EncodedWord) (later : List ℕ) (f : EncodedWord × List ℕ) → option_map (λ (w : EncodedWord). (w, later)) o ≡ Some f → (o ≡ Some f.0) × (later ≡ f.1)
-word_made None later f h = absurd (cc)
-word_made (Some w) later f h = grind arith
+word_made o later f h = grind arith
 
 -- an encoded word and what follows it, written out
 pub spelled-append : (w : EncodedWord) (later : List ℕ)

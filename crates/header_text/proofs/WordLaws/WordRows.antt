@@ -1,14 +1,5 @@
 -- Rows of encoded words and charsets; the values on the right come from a separate reading of the rules.
-use Rattle.std.proofs.Common.{ℕ, List, [], ◌∷◌, refl}
-use Rattle.std.specs.Prelude.{codes}
-use Rattle.std.specs.Char.{encode_utf8}
-use Rattle.bstr.specs.Utf8.{pieces_from}
-use Rattle.header_text.specs.Escapes.{q_bytes}
-use Rattle.header_text.specs.Base64.{sextet, bytes_of_sextets, base64_bytes}
-use Rattle.header_text.specs.Charsets.{charset_of, text_of}
-use Rattle.header_text.specs.EncodedWords.{word_and_later, word_at, decoded}
-use Rattle.header_text.specs.declared.charset.Charset.{Charset}
-use Rattle.header_text.specs.declared.charset.Charset.TheVariants.{Utf8, Latin1, Latin9, Windows1252, Unknown}
+use Rattle.header_text.proofs.Words.{ℕ, List, [], ◌∷◌, refl, codes, encode_utf8, pieces_from, q_bytes, sextet, bytes_of_sextets, base64_bytes, charset_of, text_of, word_and_later, word_at, decoded, Charset, Utf8, Latin1, Latin9, Windows1252, Unknown}
 use Rattle.header_text.proofs.Rows.{Each}
 
 rows : Each decoded ((codes "=?utf-8*en?q?a_b?=", codes "a b")

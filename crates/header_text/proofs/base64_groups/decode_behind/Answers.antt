@@ -1,4 +1,4 @@
-use Rattle.std.proofs.Common.{slice_index, arith}
+use Rattle.header_text.proofs.Words.{slice_index, arith}
 use Rattle.header_text.proofs.WordLaws.GroupLemmas.{decoded-into}
 use Rattle.header_text.proofs.base64_groups.decode_behind.Goals as goal
 

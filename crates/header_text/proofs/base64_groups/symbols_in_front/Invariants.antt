@@ -1,5 +1,4 @@
-use Rattle.std.proofs.Common.{◌≡◌, ℕ, ◌<◌, true, slice_index}
-use Rattle.header_text.specs.Inside.Alphabet.{is_symbol}
+use Rattle.header_text.proofs.Words.{◌≡◌, ℕ, ◌<◌, true, slice_index, is_symbol}
 use Rattle.header_text.proofs.base64_groups.symbols_in_front.Given as goal
 
 -- all before are symbols

@@ -1,4 +1,4 @@
-use Rattle.std.proofs.Common.{arith, length-append, append-nil}
+use Rattle.header_text.proofs.Words.{arith, length-append, append-nil}
 use Rattle.header_text.proofs.WordLaws.ReaderLemmas.{length-base64_bytes}
 use Rattle.header_text.proofs.base64_reader.decode_base64_into.Goals as goal
 

@@ -1,6 +1,4 @@
-use Rattle.std.proofs.Common.{◌∙◌, ◌++◌, ℕ, List, sym, ap, arith}
-use Rattle.std.proofs.lemmas.List.{take_rest}
-use Rattle.header_text.specs.Symbols.{symbols_of}
+use Rattle.header_text.proofs.Words.{◌∙◌, ◌++◌, ℕ, List, sym, ap, arith, take_rest, symbols_of}
 use Rattle.header_text.proofs.WordLaws.GroupLemmas.{text-groups, text-other, sextet-other}
 use Rattle.header_text.proofs.base64_reader.decode_text.Goals as goal
 

@@ -1,6 +1,4 @@
-use Rattle.std.proofs.Common.{◌≡◌, ◌++◌, ℕ, List, length}
-use Rattle.header_text.specs.Base64.{bytes_of_symbols}
-use Rattle.header_text.specs.Symbols.{symbols_of}
+use Rattle.header_text.proofs.Words.{◌≡◌, ◌++◌, ℕ, List, length, bytes_of_symbols, symbols_of}
 use Rattle.header_text.proofs.base64_reader.decode_text.Given as goal
 
 -- what was written, and what comes of the symbols that are held and the rest, whatever follows

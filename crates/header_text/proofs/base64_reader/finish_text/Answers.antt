@@ -1,6 +1,5 @@
-use Rattle.std.proofs.Common.{◌≡◌, ◌++◌, ℕ, List, [], ◌∷◌, length, drop, sym, ap₂, subst, arith, append-nil}
+use Rattle.header_text.proofs.Words.{◌≡◌, ◌++◌, ℕ, List, [], ◌∷◌, length, drop, sym, ap₂, subst, arith, append-nil, symbols_of}
 use Rattle.std.proofs.lemmas.List.{length-take}
-use Rattle.header_text.specs.Symbols.{symbols_of}
 use Rattle.header_text.proofs.WordLaws.GroupLemmas.{AreSymbols}
 use Rattle.header_text.proofs.WordLaws.ReaderLemmas.{short-bytes, kept, filled-symbols, held-symbols}
 use Rattle.header_text.proofs.base64_reader.finish_text.Goals as goal

@@ -1,4 +1,4 @@
-use Rattle.std.proofs.Common.{arith}
+use Rattle.header_text.proofs.Words.{arith}
 use Rattle.header_text.proofs.WordLaws.GroupLemmas.{hold-symbols, hold-bytes}
 use Rattle.header_text.proofs.base64_reader.hold.Goals as goal
 

@@ -1,4 +1,4 @@
-use Rattle.std.proofs.Common.{◌≡◌, length}
+use Rattle.header_text.proofs.Words.{◌≡◌, length}
 use Rattle.header_text.specs.Blanks.{after_blanks as after_blanks_of}
 use Rattle.header_text.proofs.blanks.after_blanks.Given as goal
 

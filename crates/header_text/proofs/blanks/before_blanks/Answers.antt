@@ -1,5 +1,4 @@
-use Rattle.std.proofs.Common.{arith}
-use Rattle.std.proofs.lemmas.List.{nil_from_length}
+use Rattle.header_text.proofs.Words.{arith, nil_from_length}
 use Rattle.header_text.proofs.Fronts.{before_blanks-last, before_blanks-stops, before_blanks-nil}
 use Rattle.header_text.proofs.blanks.before_blanks.Goals as goal
 

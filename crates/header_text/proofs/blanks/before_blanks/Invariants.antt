@@ -1,4 +1,4 @@
-use Rattle.std.proofs.Common.{◌≡◌, length}
+use Rattle.header_text.proofs.Words.{◌≡◌, length}
 use Rattle.header_text.specs.Blanks.{before_blanks as before_blanks_of}
 use Rattle.header_text.proofs.blanks.before_blanks.Given as goal
 

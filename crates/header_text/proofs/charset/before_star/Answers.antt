@@ -1,4 +1,4 @@
-use Rattle.std.proofs.Common.{sym}
+use Rattle.header_text.proofs.Words.{sym}
 use Rattle.header_text.proofs.CutLemmas.{split_while-cut, split_while-free}
 use Rattle.header_text.proofs.charset.before_star.Goals as goal
 

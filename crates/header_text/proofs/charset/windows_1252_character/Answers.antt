@@ -1,5 +1,4 @@
-use Rattle.std.proofs.Common.{refl}
-use Rattle.header_text.specs.Charsets.{windows_1252_upper}
+use Rattle.header_text.proofs.Words.{refl, windows_1252_upper}
 use Rattle.header_text.proofs.WordLaws.CharsetLemmas.{small-at}
 use Rattle.header_text.proofs.charset.windows_1252_character.Goals as goal
 

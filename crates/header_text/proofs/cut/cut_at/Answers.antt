@@ -1,6 +1,4 @@
-use Rattle.std.proofs.Common.{◌≡◌, ◌∙◌, ◌+◌, ◌-◌, ◌==◌, ℕ, List, Some, length, take, drop, slice_index, suc, refl, sym, ap, arith, add-one}
-use Rattle.std.proofs.lemmas.List.{take_rest}
-use Rattle.std.proofs.lemmas.Bool.{false_from_ne_true}
+use Rattle.header_text.proofs.Words.{◌≡◌, ◌∙◌, ◌+◌, ◌-◌, ◌==◌, ℕ, List, Some, length, take, drop, slice_index, suc, refl, sym, ap, arith, add-one, take_rest, false_from_ne_true}
 use Rattle.header_text.proofs.CutLemmas.{cut_at-begins, cut_at-first, cut_at-none}
 use Rattle.header_text.proofs.cut.cut_at.Goals as goal
 

@@ -1,18 +1,10 @@
-use Rattle.std.proofs.Common.{◌∙◌, ◌++◌, List, ℕ, true, refl, ap, arith, append_assoc}
-use Rattle.std.specs.Prelude.{string_bytes}
-use Rattle.bstr.proofs.lemmas.AppendLemmas.{Extends-refl, Extends-trans}
-use Rattle.header_text.specs.EncodedWords.{pieces, word_text}
-use Rattle.header_text.specs.Inside.ShownWords.{shown_found}
+use Rattle.header_text.proofs.Words.{◌∙◌, ◌++◌, true, refl, arith, append_assoc, string_bytes, Extends-refl, Extends-trans, pieces, word_text, shown_found}
 use Rattle.header_text.proofs.WordLaws.DecodedLemmas.{rest_text, decoded-start, decoded-step, decoded-end}
 use Rattle.header_text.proofs.TextFronts.{front-whole, front-more}
 use Rattle.header_text.proofs.encoded_word.decode_words_into.Goals as goal
 
 pub loop-found-init : goal.loop-found-init
-loop-found-init c = record {
-  sofar = ap (λ (l : List ℕ). string_bytes c.args.into.now ++ l) (decoded-start c.args.unfolded.now);
-  size = omega arith;
-  kept = Extends-refl _;
-}
+loop-found-init c = grind (arith, decoded-start, Extends-refl)
 
 pub loop-found-preserved : goal.loop-found-preserved
 loop-found-preserved c = record {

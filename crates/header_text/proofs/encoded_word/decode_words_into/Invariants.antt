@@ -1,7 +1,4 @@
-use Rattle.std.proofs.Common.{◌≡◌, ◌≤◌, ◌+◌, ◌*◌, ◌++◌, length}
-use Rattle.std.specs.Prelude.{string_bytes}
-use Rattle.bstr.specs.Text.{Extends}
-use Rattle.header_text.specs.EncodedWords.{pieces, plain_text, decoded}
+use Rattle.header_text.proofs.Words.{◌≡◌, ◌≤◌, ◌+◌, ◌*◌, ◌++◌, length, string_bytes, Extends, pieces, plain_text, decoded}
 use Rattle.header_text.proofs.WordLaws.DecodedLemmas.{words_behind}
 use Rattle.header_text.proofs.encoded_word.decode_words_into.Given as goal
 

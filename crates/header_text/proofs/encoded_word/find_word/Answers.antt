@@ -1,11 +1,7 @@
-use Rattle.std.proofs.Common.{◌∷◌, length, sym, ap, arith, length-append}
-use Rattle.header_text.specs.Inside.ShownWords.{shown_word}
+use Rattle.header_text.proofs.Words.{◌∷◌, length, sym, ap, arith, length-append, shown_word}
 use Rattle.header_text.proofs.CutLemmas.{IsCut-from}
-use Rattle.header_text.proofs.WordLaws.WordLemmas.{seen-start, seen-more, seen-first, seen-end, seen-shorter}
+use Rattle.header_text.proofs.WordLaws.WordLemmas.{seen-more, seen-first, seen-end, seen-shorter}
 use Rattle.header_text.proofs.encoded_word.find_word.Goals as goal
-
-pub loop-behind-init : goal.loop-behind-init
-loop-behind-init c = seen-start c.args.value.now
 
 pub overflow_sub-result : goal.overflow_sub-result
 overflow_sub-result c =

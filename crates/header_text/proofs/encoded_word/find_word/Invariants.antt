@@ -1,4 +1,4 @@
-use Rattle.std.proofs.Common.{length}
+use Rattle.header_text.proofs.Words.{length}
 use Rattle.header_text.proofs.WordLaws.WordLemmas.{Seen}
 use Rattle.header_text.proofs.encoded_word.find_word.Given as goal
 

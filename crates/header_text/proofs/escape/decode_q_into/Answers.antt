@@ -1,5 +1,4 @@
-use Rattle.std.proofs.Common.{◌∙◌, ◌++◌, ℕ, List, [], ◌∷◌, length, sym, ap, arith, length-append}
-use Rattle.header_text.specs.Escapes.{unescaped, q_bytes}
+use Rattle.header_text.proofs.Words.{◌∙◌, ◌++◌, ℕ, List, [], ◌∷◌, length, sym, ap, arith, length-append, unescaped, q_bytes}
 use Rattle.header_text.proofs.CutLemmas.{IsCut, IsCut-from, Lacks-from}
 use Rattle.header_text.proofs.WordLaws.EscapeLemmas.{q_bytes-space, q_bytes-free, written, length-q_bytes}
 use Rattle.header_text.proofs.escape.decode_q_into.Goals as goal

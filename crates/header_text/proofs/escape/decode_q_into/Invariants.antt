@@ -1,5 +1,4 @@
-use Rattle.std.proofs.Common.{◌≡◌, ◌++◌, length}
-use Rattle.header_text.specs.Escapes.{q_bytes}
+use Rattle.header_text.proofs.Words.{◌≡◌, ◌++◌, length, q_bytes}
 use Rattle.header_text.proofs.escape.decode_q_into.Given as goal
 
 -- what was written, and what comes of the rest

@@ -1,5 +1,4 @@
-use Rattle.std.proofs.Common.{◌≡◌, ◌++◌, length}
-use Rattle.header_text.specs.Escapes.{unescaped}
+use Rattle.header_text.proofs.Words.{◌≡◌, ◌++◌, length, unescaped}
 use Rattle.header_text.proofs.escape.unescape_into.Given as goal
 
 -- what was written, and what comes of the rest

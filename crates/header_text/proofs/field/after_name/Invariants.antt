@@ -1,5 +1,4 @@
-use Rattle.std.proofs.Common.{◌≡◌, length}
-use Rattle.header_text.specs.Blanks.{split_while}
+use Rattle.header_text.proofs.Words.{◌≡◌, length, split_while}
 use Rattle.header_text.specs.Headers.{is_field_name_byte as is_field_name_byte_of}
 use Rattle.header_text.proofs.field.after_name.Given as goal
 

@@ -1,5 +1,4 @@
-use Rattle.std.proofs.Common.{arith}
-use Rattle.header_text.specs.Headers.{is_field_name_byte}
+use Rattle.header_text.proofs.Words.{arith, is_field_name_byte}
 use Rattle.header_text.proofs.Fronts.{length-split_while, take-split_while}
 use Rattle.header_text.proofs.HeaderLaws.HeaderLemmas.{field_of_line-fits}
 use Rattle.header_text.proofs.field.field_of_line.Goals as goal

@@ -1,6 +1,4 @@
-use Rattle.std.proofs.Common.{slice_index, arith, add-one}
-use Rattle.std.proofs.lemmas.List.{take_rest}
-use Rattle.std.proofs.lemmas.Bool.{false_from_ne_true}
+use Rattle.header_text.proofs.Words.{slice_index, arith, add-one, take_rest, false_from_ne_true}
 use Rattle.header_text.proofs.HeaderLaws.IdLemmas.{after_last_open-last, after_last_open-none}
 use Rattle.header_text.proofs.message_id.after_last_open.Goals as goal
 

@@ -1,6 +1,5 @@
-use Rattle.std.proofs.Common.{◌∙◌, filter, ap, rules}
+use Rattle.header_text.proofs.Words.{◌∙◌, filter, ap, rules, is_id_byte}
 use Rattle.std.proofs.lemmas.Fn.{filter_same}
-use Rattle.header_text.specs.Ids.{is_id_byte}
 use Rattle.header_text.proofs.message_id.id_bytes.Goals as goal
 
 pub returns : goal.returns

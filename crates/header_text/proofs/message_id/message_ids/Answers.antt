@@ -1,5 +1,4 @@
-use Rattle.std.proofs.Common.{◌≡◌, ◌∙◌, ◌++◌, ℕ, List, [], ◌∷◌, length, map, sym, ap, arith, length-append, append_assoc, append-nil}
-use Rattle.header_text.specs.Inside.Ids.{ids_in, closed_texts}
+use Rattle.header_text.proofs.Words.{◌≡◌, ◌∙◌, ◌++◌, ℕ, List, [], ◌∷◌, length, map, sym, ap, arith, length-append, append_assoc, append-nil, ids_in, closed_texts}
 use Rattle.header_text.proofs.CutLemmas.{IsCut, IsCut-from, Lacks-from}
 use Rattle.header_text.proofs.HeaderLaws.IdLemmas.{closed_texts-cut, closed_texts-free, ids_of-sized, ids_of-size}
 use Rattle.header_text.proofs.HeaderLaws.IdRanges.{ids_in-cons, ids_of-closed}

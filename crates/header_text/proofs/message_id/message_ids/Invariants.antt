@@ -1,5 +1,4 @@
-use Rattle.std.proofs.Common.{◌≡◌, ◌++◌, map, length}
-use Rattle.header_text.specs.Inside.Ids.{ids_in, closed_texts}
+use Rattle.header_text.proofs.Words.{◌≡◌, ◌++◌, map, length, ids_in, closed_texts}
 use Rattle.header_text.proofs.message_id.message_ids.Given as goal
 
 -- the ids so far, and those of the rest

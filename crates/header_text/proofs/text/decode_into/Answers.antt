@@ -1,4 +1,4 @@
-use Rattle.header_text.specs.Charsets.{text_of}
+use Rattle.header_text.proofs.Words.{text_of}
 use Rattle.header_text.proofs.WordLaws.CharacterLemmas.{text_of-single}
 use Rattle.header_text.proofs.text.decode_into.Goals as goal
 

@@ -1,16 +1,7 @@
-use Rattle.std.proofs.Common.{◌≡◌, ◌∙◌, ◌≤◌, ◌+◌, ◌-◌, ◌++◌, ℕ, map, length, take, drop, slice_index, encode_utf8_all, ap, sym, refl, arith, append_assoc, length-append, length-drop, length-take}
-use Rattle.std.specs.Prelude.{string_bytes}
-use Rattle.std.specs.Char.{encode_utf8}
-use Rattle.std.proofs.lemmas.List.{take_rest}
-use Rattle.bstr.specs.Utf8.{lossy_chars}
-use Rattle.bstr.proofs.lemmas.AppendLemmas.{Extends-refl, Extends-trans, Extends-append, Extends-tried}
-use Rattle.header_text.specs.Charsets.{character}
+use Rattle.header_text.proofs.Words.{◌≡◌, ◌∙◌, ◌≤◌, ◌+◌, ◌-◌, ◌++◌, ℕ, map, length, take, drop, slice_index, encode_utf8_all, ap, sym, refl, arith, append_assoc, length-append, length-drop, length-take, string_bytes, encode_utf8, take_rest, lossy_chars, Extends-trans, Extends-append, Extends-tried, character}
 use Rattle.header_text.proofs.WordLaws.CharacterLemmas.{characters-step, IsAscii-before, IsAscii-all, length-encode_small, lossy-ascii}
 use Rattle.header_text.proofs.TextFronts.{front-whole, front-more}
 use Rattle.header_text.proofs.text.push_characters.Goals as goal
-
-pub loop-at-init : goal.loop-at-init
-loop-at-init c = record { sofar = refl; size = omega arith; kept = Extends-refl _ }
 
 pub loop-at-preserved : goal.loop-at-preserved
 loop-at-preserved c =
@@ -33,18 +24,6 @@ loop-at-preserved c =
 
 pub returns-clause-text : goal.returns-clause-text
 returns-clause-text c = grind (arith, IsAscii-all, lossy-ascii)
-
-pub returns-in_err-push_lossy-clause-kept : goal.returns-in_err-push_lossy-clause-kept
-returns-in_err-push_lossy-clause-kept c = Extends-trans _ _ _ c.loop-at.invariant.kept c.push_lossy.ensures.kept
-
-pub returns-in_err-push-clause-kept : goal.returns-in_err-push-clause-kept
-returns-in_err-push-clause-kept c = Extends-append _ _ _ _ _ (Extends-trans _ _ _ c.loop-at.invariant.kept c.push_lossy.ensures.kept) c.push.ensures.bytes
-
-pub returns-in_err-push_lossy-2-clause-kept : goal.returns-in_err-push_lossy-2-clause-kept
-returns-in_err-push_lossy-2-clause-kept c = Extends-trans _ _ _ c.loop-at.invariant.kept c.push_lossy-2.ensures.kept
-
-pub returns-clause-kept : goal.returns-clause-kept
-returns-clause-kept c = Extends-trans _ _ _ c.loop-at.invariant.kept c.push_lossy-2.ensures.kept
 
 pub returns-in_err-push_lossy-clause-front : goal.returns-in_err-push_lossy-clause-front
 returns-in_err-push_lossy-clause-front c =

@@ -1,7 +1,4 @@
-use Rattle.std.proofs.Common.{◌≡◌, ◌≤◌, ◌+◌, ◌*◌, ◌++◌, map, length, encode_utf8_all}
-use Rattle.std.specs.Prelude.{string_bytes}
-use Rattle.bstr.specs.Text.{Extends}
-use Rattle.header_text.specs.Charsets.{character}
+use Rattle.header_text.proofs.Words.{◌≡◌, ◌≤◌, ◌+◌, ◌*◌, ◌++◌, map, length, encode_utf8_all, string_bytes, Extends, character}
 use Rattle.header_text.proofs.text.push_characters.Given as goal
 
 -- what was written, and what comes of the rest

@@ -1,4 +1,4 @@
-use Rattle.std.proofs.Common.{arith, length-append}
+use Rattle.header_text.proofs.Words.{arith, length-append}
 use Rattle.header_text.proofs.WordLaws.LossyBytes.{length-lossy}
 use Rattle.header_text.proofs.text.push_lossy.Goals as goal
 

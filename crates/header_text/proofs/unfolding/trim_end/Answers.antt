@@ -1,5 +1,4 @@
-use Rattle.std.proofs.Common.{arith}
-use Rattle.std.proofs.lemmas.List.{take_rest}
+use Rattle.header_text.proofs.Words.{arith, take_rest}
 use Rattle.header_text.proofs.Fronts.{take-before_blanks}
 use Rattle.header_text.proofs.unfolding.trim_end.Goals as goal
 

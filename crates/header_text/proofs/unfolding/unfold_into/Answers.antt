@@ -1,7 +1,4 @@
-use Rattle.std.proofs.Common.{◌≡◌, ◌∙◌, ◌++◌, ℕ, List, ◌∷◌, length, take, drop, nat_lt, sym, ap, ap₂, arith, length-append}
-use Rattle.header_text.specs.Blanks.{before_blanks}
-use Rattle.header_text.specs.Unfolding.{unfolded}
-use Rattle.header_text.specs.Inside.Breaks.{led, without_final_cr}
+use Rattle.header_text.proofs.Words.{◌≡◌, ◌∙◌, ◌++◌, ℕ, List, ◌∷◌, length, take, drop, nat_lt, sym, ap, ap₂, arith, length-append, before_blanks, unfolded, led, without_final_cr}
 use Rattle.header_text.proofs.CutLemmas.{IsCut, IsCut-from}
 use Rattle.header_text.proofs.HeaderLaws.UnfoldSizes.{length-unfolded}
 use Rattle.header_text.proofs.HeaderLaws.UnfoldLemmas.{unfolds-start, unfolds-line, unfolds-rest, unfolded-trimmed}

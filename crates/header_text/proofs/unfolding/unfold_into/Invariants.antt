@@ -1,4 +1,4 @@
-use Rattle.std.proofs.Common.{◌≡◌, length}
+use Rattle.header_text.proofs.Words.{◌≡◌, length}
 use Rattle.header_text.proofs.HeaderLaws.UnfoldLemmas.{Unfolds}
 use Rattle.header_text.proofs.unfolding.unfold_into.Given as goal
 

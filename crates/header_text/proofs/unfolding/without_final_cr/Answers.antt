@@ -1,5 +1,4 @@
-use Rattle.std.proofs.Common.{arith}
-use Rattle.std.proofs.lemmas.Bool.{ne_eqb}
+use Rattle.header_text.proofs.Words.{arith, ne_eqb}
 use Rattle.header_text.proofs.HeaderLaws.UnfoldLemmas.{without_final_cr-push}
 use Rattle.header_text.proofs.unfolding.without_final_cr.Goals as goal
 

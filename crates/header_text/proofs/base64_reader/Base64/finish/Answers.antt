@@ -1,4 +1,4 @@
-use Rattle.header_text.specs.Symbols.{symbols_of}
+use Rattle.header_text.proofs.Words.{symbols_of}
 use Rattle.header_text.proofs.WordLaws.ReaderLemmas.{to_come-end, held-symbols}
 use Rattle.header_text.proofs.base64_reader.Base64.finish.Goals as goal
 

@@ -1,4 +1,4 @@
-use Rattle.std.proofs.Common.{arith}
+use Rattle.header_text.proofs.Words.{arith}
 use Rattle.header_text.proofs.WordLaws.ReaderLemmas.{read-ended, read-on, held-symbols}
 use Rattle.header_text.proofs.base64_reader.Base64.push.Goals as goal
 

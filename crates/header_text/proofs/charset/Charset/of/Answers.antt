@@ -1,4 +1,4 @@
-use Rattle.std.proofs.Common.{true, false, refl}
+use Rattle.header_text.proofs.Words.{true, false, refl}
 use Rattle.header_text.proofs.WordLaws.CharsetLemmas.{charset_of-chosen}
 use Rattle.header_text.proofs.charset.Charset.of.Goals as goal
 

@@ -1,10 +1,9 @@
-use Rattle.std.proofs.Common.{◌≡◌, ◌∙◌, ◌<◌, ◌==◌, ℕ, zero, suc, false, sym, subst, arith}
+use Rattle.header_text.proofs.Words.{◌≡◌, ◌∙◌, ◌<◌, ◌==◌, ℕ, false, sym, subst, arith}
 use Rattle.header_text.proofs.HeaderLaws.PlaceLemmas.{AreKept-more, fields_at-append}
 use Rattle.header_text.proofs.field_list.FieldList.extend_last.Goals as goal
 
 not_zero : (n : ℕ) → (n == 0) ≡ false → 0 < n
-not_zero zero e = absurd (cc e)
-not_zero (suc n) e = omega arith
+not_zero n h = grind arith
 
 pub invariant_of-self-2 : goal.invariant_of-self-2
 invariant_of-self-2 c =

@@ -1,6 +1,4 @@
-use Rattle.std.proofs.Common.{◌≡◌, ◌∙◌, ◌-◌, ◌++◌, ℕ, List, [], ◌∷◌, length, ap}
-use Rattle.header_text.specs.declared.field_list.FieldPlace.{FieldPlace}
-use Rattle.header_text.specs.Headers.{HeaderField}
+use Rattle.header_text.proofs.Words.{◌≡◌, ◌∙◌, ◌-◌, ◌++◌, ℕ, List, [], ◌∷◌, length, ap, FieldPlace, HeaderField}
 use Rattle.header_text.proofs.HeaderLaws.PlaceLemmas.{HoldsPushed, pushed}
 use Rattle.header_text.proofs.field_list.FieldList.push.Goals as goal
 use Rattle.header_text.proofs.field_list.FieldList.push.Goals.{After-unwrap}

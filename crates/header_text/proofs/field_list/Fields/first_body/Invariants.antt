@@ -1,5 +1,4 @@
-use Rattle.std.proofs.Common.{◌≡◌, ◌≤◌}
-use Rattle.header_text.specs.Headers.{fields_size}
+use Rattle.header_text.proofs.Words.{◌≡◌, ◌≤◌, fields_size}
 use Rattle.header_text.specs.Names.{first_body}
 use Rattle.header_text.proofs.field_list.Fields.first_body.Given as goal
 

@@ -1,4 +1,4 @@
-use Rattle.std.proofs.Common.{arith}
+use Rattle.header_text.proofs.Words.{arith}
 use Rattle.header_text.proofs.HeaderLaws.PlaceLemmas.{next_start-le}
 use Rattle.header_text.proofs.field_list.FieldsIterator.next.Goals as goal
 

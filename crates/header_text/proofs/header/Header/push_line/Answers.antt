@@ -1,6 +1,4 @@
-use Rattle.std.proofs.Common.{◌≡◌, refl, sym, arith}
-use Rattle.header_text.specs.Stages.{stage_behind}
-use Rattle.header_text.specs.declared.header.Stage.TheVariants.{Open, Full, Ended}
+use Rattle.header_text.proofs.Words.{◌≡◌, refl, sym, arith, stage_behind, Open, Full, Ended}
 use Rattle.header_text.proofs.HeaderLaws.HeaderLemmas.{fields_size-with}
 use Rattle.header_text.proofs.HeaderLaws.PushLemmas.{holds-counted, holds-skipped, holds-ended, has_empty-ended, never_ended, taken-next_ended, taken-next_more, room-open}
 use Rattle.header_text.proofs.header.Header.push_line.Goals as goal
@@ -15,10 +13,7 @@ pub returns-in_err-self-in-Open-clause-ended : goal.returns-in_err-self-in-Open-
 returns-in_err-self-in-Open-clause-ended c ls h some = absurd (never_ended _ _ _ _ ls c.args.line.now h some c.in_default.not-Ended)
 
 pub invariant_of-self-in-Open : goal.invariant_of-self-in-Open
-invariant_of-self-in-Open c = record {
-  kept = rw c.in_ok-self-in-Open.ensures.fields (omega (arith, c.args.self.now.kept, fields_size-with c.args.self.now.in_field c.args.line.now c.args.self.now.fields));
-  within = room-open c.args.self.now.stage c.args.self.now.size c.args.line.now c.args.self.now.within (sym c.in-Open.ensures);
-}
+invariant_of-self-in-Open c = grind (arith, fields_size-with, room-open)
 
 pub returns-in_ok-self-in-Open : goal.returns-in_ok-self-in-Open
 returns-in_ok-self-in-Open c =
