@@ -1,3 +1,4 @@
+pub mod Words
 pub mod AnswerLemmas
 pub mod PieceLemmas
 pub mod NodeLemmas

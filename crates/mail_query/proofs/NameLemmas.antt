@@ -1,11 +1,7 @@
 -- Names of parts in queries, and what queries without them ask.
-use Rattle.std.proofs.Common.{◌≡◌, ◌∙◌, Bool, false, not, List, refl, sym, ap}
-use Rattle.std.specs.Prelude.{ℕ, ◌&&◌, ◌||◌}
-use Rattle.std.proofs.lemmas.Bool.{or_parts}
+use Rattle.mail_query.proofs.Words.{◌≡◌, ◌∙◌, Bool, false, not, List, refl, sym, ap, ℕ, ◌&&◌, ◌||◌, or_parts, Kinds, Query, Any, Word, Part, Prefix, Date, Size, HasFlag, Not, Either, Queries, End, More, kinds_sought, kinds_inside, have_names, uses_names, Facts, without_names, some_word, is_true, each_is_true, some_is_true}
 use Rattle.std.proofs.lemmas.List.Folds.{list_any-append}
-use Rattle.mail_query.specs.declared.kinds.Kinds.{Kinds}
-use Rattle.mail_query.specs.Query.{Query, Any, Word, Part, Prefix, Date, Size, HasFlag, Not, All, Either, Queries, End, More, kinds_sought, kinds_inside, have_names, uses_names}
-use Rattle.mail_query.specs.Truth.{Facts, without_names, some_word, is_true, each_is_true, some_is_true}
+use Rattle.mail_query.specs.Query.{All}
 
 -- a member has them, or those behind it
 pub names-more : (q : Query) (qs : Queries) → have_names (kinds_inside (More q qs)) ≡ (uses_names q || have_names (kinds_inside qs))

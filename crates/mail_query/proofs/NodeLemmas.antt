@@ -1,9 +1,7 @@
 -- What a node asks, by its kind.
-use Rattle.std.proofs.Common.{◌≡◌, Bool, Box, Global, List, [], ◌∷◌, ◌++◌, refl, ap, rules}
-use Rattle.mail_words.specs.declared.flags.Flag.{Flag}
+use Rattle.mail_query.proofs.Words.{◌≡◌, Bool, Box, Global, List, [], ◌∷◌, ◌++◌, refl, ap, rules, Flag, Query, HasFlag, Not, query_of, queries_of}
 use Rattle.mail_query.specs.declared.node.Node as node
 use Rattle.mail_query.specs.declared.node.Node.{Node, the_lemmas}
-use Rattle.mail_query.specs.Query.{Query, HasFlag, Not, query_of, queries_of}
 
 pub query_of-Flag : (flag : Flag) (wanted : Bool) → query_of (node.Flag flag wanted) ≡ HasFlag flag wanted
 query_of-Flag flag wanted = search (rules, the_lemmas)

@@ -1,16 +1,9 @@
 -- Laws of the pieces of a text.
-use Rattle.std.proofs.Common.{◌≡◌, ◌≢◌, ℕ, suc, ◌-◌, ◌<◌, Bool, true, false, eqb, List, [], ◌∷◌, ◌++◌, length, length-append, take, get_or, Option, Some, None, option_map, MatchOption, refl, sym, ap, ◌∙◌, arith}
-use Rattle.std.specs.Option.{option_copied}
-use Rattle.std.proofs.Math.Seq.{take-append_seam}
-use Rattle.std.specs.List.{list_any}
-use Rattle.std.proofs.lemmas.Bool.{or_parts, or_from}
-use Rattle.std.proofs.lemmas.Bool.Decides.{nat_tests}
-use Rattle.mail_query.specs.Pieces.{is_byte, cut, without_first, without_last}
+use Rattle.mail_query.proofs.Words.{◌≡◌, ◌≢◌, ℕ, suc, ◌-◌, ◌<◌, Bool, true, false, eqb, List, [], ◌∷◌, ◌++◌, length, length-append, take, get_or, Option, Some, None, option_map, MatchOption, refl, sym, ap, ◌∙◌, arith, option_copied, take-append_seam, list_any, or_parts, or_from, nat_tests, is_byte, cut, without_first, without_last}
 use denote.Ref.{Bor}
 
 pub none_unless : {A : Type 0} (o : Option A) → ((x : A) → o ≡ Some x → ⊥) → o ≡ None
-none_unless None h = refl
-none_unless (Some x) h = absurd (h x refl)
+none_unless o h = grind arith
 
 pub same_byte : (b : ℕ) → eqb b b ≡ true
 same_byte b = grind (arith, nat_tests)
@@ -22,10 +15,7 @@ pub without_first-same : (c : ℕ) (bs : List ℕ) → without_first c (c ∷ bs
 without_first-same c bs = rw same_byte refl
 
 pub without_first-other : (c : ℕ) (bs : List ℕ) → ((rest : List ℕ) → bs ≢ c ∷ rest) → without_first c bs ≡ None
-without_first-other c [] h = refl
-without_first-other c (b ∷ bs) h =
-    let differs : b ≢ c = λ e. h bs (ap (λ x. x ∷ bs) e) in
-    rw (other_byte b c differs) refl
+without_first-other c bs h = grind (arith, other_byte)
 
 pub without_last-same : (c : ℕ) (front : List ℕ) → without_last c (front ++ c ∷ []) ≡ Some front
 without_last-same c [] = rw same_byte refl
@@ -81,12 +71,10 @@ before_last {A} front x =
 -- ---- the same of what a call answers
 
 pub first_answer : (c : ℕ) (bs : List ℕ) (r : Option (Bor (List ℕ))) → MatchOption r ((rest : List ℕ) → bs ≢ c ∷ rest) (λ x. bs ≡ c ∷ x.now) → option_copied r ≡ without_first c bs
-first_answer c bs None h = sym (without_first-other c bs h)
-first_answer c bs (Some x) h = sym (ap (without_first c) h ∙ without_first-same c x.now)
+first_answer c bs r h = grind (arith, without_first-other, without_first-same)
 
 pub last_answer : (c : ℕ) (bs : List ℕ) (r : Option (Bor (List ℕ))) → MatchOption r ((front : List ℕ) → bs ≢ front ++ c ∷ []) (λ x. bs ≡ x.now ++ c ∷ []) → option_copied r ≡ without_last c bs
-last_answer c bs None h = sym (without_last-other c bs h)
-last_answer c bs (Some x) h = sym (ap (without_last c) h ∙ without_last-same c x.now)
+last_answer c bs r h = grind (arith, without_last-other, without_last-same)
 
 pub cut_answer : (c : ℕ) (bs : List ℕ) (r : Option (Bor (List ℕ) × Bor (List ℕ)))
     → MatchOption r ((i : ℕ) → i < length bs → get_or bs i 0 ≢ c) (λ x. (bs ≡ x.0.now ++ c ∷ x.1.now) × ((i : ℕ) → i < length x.0.now → get_or x.0.now i 0 ≢ c))

@@ -1,10 +1,5 @@
 -- A lexicon for rows: a word is 1 to 6 letters, a piece has hyphens too, and `ok` names every date.
-use Rattle.std.specs.Prelude.{ℕ, Bool, ◌&&◌, ◌||◌, ◌==◌, nat_le, if◌then◌else◌, List, length, bytes_eq, codes, None, Some}
-use Rattle.std.specs.List.{list_all}
-use Rattle.std.specs.Char.{is_ascii_alphabetic}
-use Rattle.std.specs.Str.{str_to_ascii_lowercase}
-use Rattle.mail_dates.specs.declared.range.Range.{Range}
-use Rattle.mail_query.specs.Lexicon.{Lexicon}
+use Rattle.mail_query.proofs.Words.{ℕ, Bool, ◌&&◌, ◌||◌, ◌==◌, nat_le, if◌then◌else◌, List, length, bytes_eq, codes, None, Some, list_all, is_ascii_alphabetic, str_to_ascii_lowercase, Range, Lexicon}
 
 abbrev pub is_short : List ℕ → Bool
 is_short text = nat_le 1 (length text) && nat_le (length text) 6

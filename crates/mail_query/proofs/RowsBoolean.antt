@@ -1,12 +1,6 @@
 -- What boolean queries ask, by a second reader: what the grammar reads of their tokens, and the first fault by places.
-use Rattle.std.specs.Prelude.{◌≡◌, ℕ, List, codes, None, Some, Ok, Err, refl, true}
-use Rattle.mail_query.specs.declared.fault.QueryFaultKind.{QueryFaultKind}
-use Rattle.mail_query.specs.declared.fault.QueryFaultKind.TheVariants.{NoPattern, BadPrefix, BadWord, BadDate, NeedsOperator, BadParenthesis, MissingTerm, TooDeep, Phrase}
-use Rattle.mail_query.specs.Query.{Query, Word, Prefix, Date, Not, All, Either, End, More}
-use Rattle.mail_query.specs.Kinds.{no_kinds}
-use Rattle.mail_query.specs.Tokens.{tokens}
-use Rattle.mail_query.specs.BooleanFaults.{first_fault}
-use Rattle.mail_query.specs.BooleanReading.{tokens_query}
+use Rattle.mail_query.proofs.Words.{◌≡◌, ℕ, List, codes, None, Some, Ok, Err, refl, true, QueryFaultKind, NoPattern, BadPrefix, BadWord, BadDate, NeedsOperator, BadParenthesis, MissingTerm, TooDeep, Phrase, Query, Word, Prefix, Date, Not, Either, End, More, no_kinds, tokens, first_fault, tokens_query}
+use Rattle.mail_query.specs.Query.{All}
 use Rattle.mail_query.proofs.RowLexicon.{toy, every_date}
 
 abbrev Asks : List ℕ → Query → Type 0

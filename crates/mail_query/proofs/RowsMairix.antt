@@ -1,13 +1,6 @@
 -- What lists of mairix patterns ask, and which fault others show, by a second reader.
-use Rattle.std.specs.Prelude.{◌≡◌, ℕ, List, [], ◌∷◌, codes, Some, Ok, Err, refl, true, false}
-use Rattle.mail_words.specs.declared.flags.Flag.TheVariants.{Seen, Replied}
-use Rattle.mail_query.specs.declared.fault.QueryFaultKind.{QueryFaultKind}
-use Rattle.mail_query.specs.declared.fault.QueryFaultKind.TheVariants.{NoPattern, BadPrefix, BadWord, Approximate, BadDate, BadSize, BadFlag}
-use Rattle.mail_query.specs.Query.{Query, Word, Part, Prefix, Date, Size, HasFlag, Not, All, Either, End, More}
-use Rattle.mail_query.specs.Kinds.{no_kinds}
-use Rattle.mail_query.specs.Sizes.{size_of, sizes_of}
-use Rattle.mail_query.specs.Flags.{flags_of}
-use Rattle.mail_query.specs.Mairix.{patterns_query}
+use Rattle.mail_query.proofs.Words.{◌≡◌, ℕ, List, [], ◌∷◌, codes, Some, Ok, Err, refl, true, false, Seen, Replied, QueryFaultKind, NoPattern, BadPrefix, BadWord, Approximate, BadDate, BadSize, BadFlag, Query, Word, Part, Prefix, Date, Size, HasFlag, Not, Either, End, More, no_kinds, size_of, sizes_of, flags_of, patterns_query}
+use Rattle.mail_query.specs.Query.{All}
 use Rattle.mail_query.proofs.RowLexicon.{toy, every_date}
 
 abbrev Asks : List (List ℕ) → Query → Type 0

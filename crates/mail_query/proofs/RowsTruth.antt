@@ -1,12 +1,8 @@
 -- Which messages satisfy which queries.
-use Rattle.std.specs.Prelude.{◌≡◌, Bool, List, ℕ, [], ◌∷◌, map, codes, None, Some, refl, true, false}
+use Rattle.mail_query.proofs.Words.{◌≡◌, Bool, List, ℕ, [], ◌∷◌, map, codes, None, Some, refl, true, false, Seen, Replied, Flagged, Kinds, no_kinds, Query, Any, Word, Part, Prefix, Date, Size, HasFlag, Not, Either, End, More, uses_names, Facts, is_true}
 use Rattle.mail_words.specs.declared.kind.TextKind.{TextKind}
 use Rattle.mail_words.specs.declared.kind.TextKind.TheVariants.{To, Cc, Bcc, From, Subject, Body, Name}
-use Rattle.mail_words.specs.declared.flags.Flag.TheVariants.{Seen, Replied, Flagged}
-use Rattle.mail_query.specs.declared.kinds.Kinds.{Kinds}
-use Rattle.mail_query.specs.Kinds.{no_kinds}
-use Rattle.mail_query.specs.Query.{Query, Any, Word, Part, Prefix, Date, Size, HasFlag, Not, All, Either, End, More, uses_names}
-use Rattle.mail_query.specs.Truth.{Facts, is_true}
+use Rattle.mail_query.specs.Query.{All}
 
 -- from Alice <alice@example.org>, to bob@x, blind copy to carol, with an attached report.pdf, of 19 bytes, seen, without a date
 abbrev words : TextKind → List (List ℕ)

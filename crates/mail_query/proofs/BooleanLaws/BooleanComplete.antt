@@ -1,37 +1,20 @@
 -- What the grammar reads is what the reader answers: the steps over a tree's tokens.
-use Rattle.std.proofs.Common.{◌≡◌, ℕ, suc, ◌+◌, ◌<◌, Bool, true, false, not, cond, ltb, ltb-true, List, [], ◌∷◌, ◌++◌, length, map, Option, None, Some, Result, Ok, Err, refl, sym, ap, ◌∙◌, append_assoc, append-nil, add-one}
-use Rattle.std.specs.Prelude.{◌&&◌, is_ok, option_and_then}
-use Rattle.std.proofs.lemmas.Bool.{not-true}
-use Rattle.contract_words.specs.Answers.{◌>>=◌, fault_as}
-use Rattle.mail_query.specs.declared.boolean.field.Field.{Field}
-use Rattle.mail_query.specs.declared.boolean.field.Fields.{Fields}
-use Rattle.mail_query.specs.declared.fault.QueryFault.{QueryFault}
-use Rattle.mail_query.specs.declared.fault.QueryFaultKind.{QueryFaultKind}
-use Rattle.mail_query.specs.declared.fault.QueryFaultKind.TheVariants.{Phrase}
-use Rattle.mail_query.specs.Lexicon.{Lexicon}
-use Rattle.mail_query.specs.Query.{Query, Not, all_of, either_of}
-use Rattle.mail_query.specs.Tokens.{Token, Close, AndSign, OrSign}
-use Rattle.mail_query.specs.BooleanTerms.{Parts, parts_of, no_fields, has_field, is_phrase, parts_query, cut_query, term_query}
-use Rattle.mail_query.specs.BooleanGrammar.{Link, Beside, ByAnd, ByOr, Item, NotOf, Group, Leaf, Chain, Last, Then, link_tokens, item_tokens, chain_tokens, into_first, query_or_any, term_prefix, plain_prefix, item_query, chain_queries, tree_query, is_fine_item, is_fine_chain, Reads}
-use Rattle.mail_query.specs.BooleanReading.{Level, Waiting, ForNot, ForClose, State, start, empty_level, with_member, noted, run_ended, each_ended, level_query, is_negated, placed, ended, cut_term_step, parts_step, term_step, step, run_from, tokens_query}
+use Rattle.mail_query.proofs.Words.{◌≡◌, ℕ, suc, ◌+◌, ◌<◌, Bool, true, false, not, cond, ltb, ltb-true, List, [], ◌∷◌, ◌++◌, length, map, Option, None, Some, Result, Ok, Err, refl, sym, ap, ◌∙◌, append_assoc, append-nil, add-one, arith, ◌&&◌, is_ok, option_and_then, not-true, ◌>>=◌, fault_as, Field, Fields, QueryFault, QueryFaultKind, Phrase, Lexicon, Query, Not, all_of, either_of, Token, Close, AndSign, OrSign, Parts, parts_of, no_fields, has_field, is_phrase, parts_query, cut_query, Link, Beside, ByAnd, ByOr, Item, NotOf, Group, Leaf, Chain, Last, Then, link_tokens, item_tokens, chain_tokens, into_first, query_or_any, term_prefix, plain_prefix, item_query, chain_queries, tree_query, is_fine_item, is_fine_chain, Reads, Level, Waiting, ForNot, ForClose, State, start, empty_level, with_member, noted, run_ended, each_ended, level_query, is_negated, placed, ended, cut_term_step, parts_step, term_step, step, run_from, tokens_query}
+use Rattle.mail_query.specs.BooleanTerms.{term_query}
 use Rattle.mail_query.proofs.BooleanLaws.StackLemmas.{placed-settled, deeper-room}
 
 pub and_left : (a b : Bool) → (a && b) ≡ true → a ≡ true
-and_left true b h = refl
-and_left false b h = h
+and_left a b h = grind arith
 
 no_truth : (a : Bool) → (a && false) ≡ true → ⊥
-no_truth true h = cc
-no_truth false h = cc
+no_truth a h = grind arith
 
 pub and_right : (a b : Bool) → (a && b) ≡ true → b ≡ true
-and_right true b h = h
-and_right false b h = absurd cc
+and_right a b h = grind arith
 
 -- a prefix that there isn't is not seen
 pub noted-none : (negated : Bool) (level : Level) → noted negated None level ≡ level
-noted-none true level = refl
-noted-none false level = refl
+noted-none negated level = grind arith
 
 unfoldable pub state : List Waiting → Level → Bool → State
 state waiting level wanted = record { waiting = waiting; level = level; wanted = wanted }
@@ -48,12 +31,10 @@ with_first members [] = members ∷ []
 with_first members (qs ∷ qss) = (members ++ qs) ∷ qss
 
 pub with_first-one : (members : List Query) (q : Query) (qss : List (List Query)) → with_first (members ++ q ∷ []) qss ≡ with_first members (into_first q qss)
-with_first-one members q [] = refl
-with_first-one members q (qs ∷ qss) = ap (λ (first : List Query). first ∷ qss) (append_assoc members (q ∷ []) qs)
+with_first-one members q qss = grind (arith, append_assoc)
 
 with_first-into : (q : Query) (qss : List (List Query)) → with_first [] (into_first q qss) ≡ into_first q qss
-with_first-into q [] = refl
-with_first-into q (qs ∷ qss) = refl
+with_first-into q qss = grind arith
 
 abbrev linked_level : Link → Level → Level
 linked_level Beside level = level
@@ -79,14 +60,9 @@ module _ (lexicon : Lexicon) where
 
   chain_eaches : (c : Chain) (level : Level) → level_eaches (chain_level c level) ≡ level.eaches ++ map all_of (with_first level.members (chain_queries lexicon c))
   chain_eaches (Last i) level = refl
-  chain_eaches (Then i Beside c) level =
-      chain_eaches c (with_item i level) ∙ ap (λ (qss : List (List Query)). level.eaches ++ map all_of qss) (with_first-one level.members (item_query lexicon i) (chain_queries lexicon c))
-  chain_eaches (Then i ByAnd c) level =
-      chain_eaches c (run_ended (with_item i level)) ∙ ap (λ (qss : List (List Query)). level.eaches ++ map all_of qss) (with_first-one level.members (item_query lexicon i) (chain_queries lexicon c))
-  chain_eaches (Then i ByOr c) level =
-      chain_eaches c (each_ended (with_item i level))
-      ∙ ap (λ (qss : List (List Query)). (level.eaches ++ all_of (level.members ++ item_query lexicon i ∷ []) ∷ []) ++ map all_of qss) (with_first-none c)
-      ∙ append_assoc level.eaches (all_of (level.members ++ item_query lexicon i ∷ []) ∷ []) (map all_of (chain_queries lexicon c))
+  chain_eaches (Then i Beside c) level = grind (arith, with_first-one, chain_eaches c (with_item i level))
+  chain_eaches (Then i ByAnd c) level = grind (arith, with_first-one, chain_eaches c (run_ended (with_item i level)))
+  chain_eaches (Then i ByOr c) level = grind (arith, with_first-none, append_assoc, chain_eaches c (each_ended (with_item i level)))
 
   chain_asks : (c : Chain) → level_query (chain_level c empty_level) ≡ tree_query lexicon c
   chain_asks c = ap either_of (chain_eaches c empty_level ∙ ap (map all_of) (with_first-none c))
@@ -98,8 +74,7 @@ module _ (lexicon : Lexicon) where
   steps s (t ∷ ts) = step lexicon s t >>= (λ next. steps next ts)
 
   no_seen_prefix : (negated : Bool) (seen : Fields) (prefix : Option Field) → not (has_field (cond negated no_fields seen) prefix) ≡ true → (not negated && has_field seen prefix) ≡ false
-  no_seen_prefix true seen prefix h = refl
-  no_seen_prefix false seen prefix h = not-true (has_field seen prefix) h
+  no_seen_prefix negated seen prefix h = grind (arith, not-true)
 
   cut_term_fine : (s : State) (prefix : Option Field) (rest : List ℕ) → (not (has_field (seen_at s.waiting s.level) prefix) && is_ok (parts_query lexicon prefix rest)) ≡ true
       → cut_term_step lexicon s prefix rest ≡ Ok (placed s.waiting (noted (is_negated s.waiting) prefix s.level) (query_or_any (parts_query lexicon prefix rest)))
@@ -111,8 +86,7 @@ module _ (lexicon : Lexicon) where
     where
       go : (r : Result Query QueryFaultKind) → is_ok r ≡ true
           → (r >>= (λ q. Ok (placed s.waiting (noted (is_negated s.waiting) prefix s.level) q))) ≡ Ok (placed s.waiting (noted (is_negated s.waiting) prefix s.level) (query_or_any r))
-      go (Ok q) h = refl
-      go (Err kind) h = absurd cc
+      go r h = grind arith
 
   pub term_fine : (s : State) (t : List ℕ) → (not (has_field (seen_at s.waiting s.level) (term_prefix t)) && is_ok (term_query lexicon t)) ≡ true
       → term_step lexicon s t ≡ Ok (placed s.waiting (noted (is_negated s.waiting) (term_prefix t) s.level) (query_or_any (term_query lexicon t)))
@@ -142,16 +116,14 @@ module _ (lexicon : Lexicon) where
       ∙ ap (λ s. steps s ts) (placed-settled waiting (noted false (plain_prefix i) level) (item_query lexicon i) e)
 
   chain_spelled : (i : Item) (l : Link) (c : Chain) (ts : List Token) → chain_tokens (Then i l c) ++ ts ≡ item_tokens i ++ (link_tokens l ++ (chain_tokens c ++ ts))
-  chain_spelled i l c ts =
-      append_assoc (item_tokens i) (link_tokens l ++ chain_tokens c) ts ∙ ap (λ (rest : List Token). item_tokens i ++ rest) (append_assoc (link_tokens l) (chain_tokens c) ts)
+  chain_spelled i l c ts = grind (arith, append_assoc)
 
   mutual
     unfolding steps state seen_at
 
     item_steps : (i : Item) (waiting : List Waiting) (level : Level) (wanted : Bool) (ts : List Token) → is_fine_item lexicon i (length waiting) (seen_at waiting level) ≡ true
         → steps (state waiting level wanted) (item_tokens i ++ ts) ≡ steps (placed waiting (noted (is_negated waiting) (plain_prefix i) level) (item_query lexicon i)) ts
-    item_steps (Leaf t) waiting level wanted ts h =
-        then_steps (term_step lexicon (state waiting level wanted) t) _ ts (term_fine (state waiting level wanted) t h)
+    item_steps (Leaf t) waiting level wanted ts h = grind (arith, then_steps, term_fine)
     item_steps (NotOf i) waiting level wanted ts h =
         let room : length waiting < 30 = ltb-true (length waiting) 30 (and_left (ltb (length waiting) 30) _ h) in
         let fine : is_fine_item lexicon i (suc (length waiting)) no_fields ≡ true =
@@ -200,8 +172,7 @@ module _ (lexicon : Lexicon) where
     where
       go : (r : Result State QueryFaultKind) → (r >>= (λ next. steps next ts)) ≡ Ok last → ((next : State) → steps next ts ≡ Ok last → run_from lexicon (n + 1) next ts ≡ Ok q)
           → (fault_as (λ kind. let f : QueryFault = record { number = n; kind = kind } in f) r >>= (λ next. run_from lexicon (n + 1) next ts)) ≡ Ok q
-      go (Ok next) e k = k next e
-      go (Err kind) e k = absurd cc
+      go r h h2 = grind arith
 
   not_empty : (c : Chain) → chain_tokens c ≡ [] → ⊥
   not_empty (Last (NotOf i)) e = cc

@@ -1,21 +1,7 @@
 -- How deep the queries of the boolean language are.
-use Rattle.std.proofs.Common.{◌≡◌, ℕ, suc, ◌+◌, ◌*◌, ◌-◌, ◌<◌, ◌≤◌, Bool, true, false, cond, ltb, ltb-true, List, [], ◌∷◌, map, Option, None, Some, Result, Err, subst, arith}
-use Rattle.std.specs.Prelude.{bytes_eq, codes}
-use Rattle.std.specs.Str.{str_eq_ignore_ascii_case}
-use Rattle.mail_dates.specs.declared.range.Range.{Range}
-use Rattle.mail_query.specs.declared.boolean.field.Field.{Field}
+use Rattle.mail_query.proofs.Words.{◌≡◌, ℕ, suc, ◌+◌, ◌*◌, ◌-◌, ◌<◌, ◌≤◌, Bool, true, cond, ltb, ltb-true, List, [], ◌∷◌, map, Option, None, Some, Result, Err, subst, arith, bytes_eq, codes, str_eq_ignore_ascii_case, Range, Field, Fields, Kinds, QueryFaultKind, BadWord, Phrase, Query, depth, all_of, either_of, without_last, without_angles, Lexicon, date_query, Token, Parts, parts_of, no_fields, is_phrase, id_query, piece_query, word_query, field_query, parts_query, cut_query, Link, Beside, ByAnd, ByOr, Item, NotOf, Group, Leaf, Chain, Last, Then, linked, query_or_any, seen_behind, item_query, chain_queries, is_fine_item, is_fine_chain, Reads}
 use Rattle.mail_query.specs.declared.boolean.field.Field.TheVariants as field
-use Rattle.mail_query.specs.declared.boolean.field.Fields.{Fields}
-use Rattle.mail_query.specs.declared.kinds.Kinds.{Kinds}
-use Rattle.mail_query.specs.declared.fault.QueryFaultKind.{QueryFaultKind}
-use Rattle.mail_query.specs.declared.fault.QueryFaultKind.TheVariants.{BadWord, Phrase}
-use Rattle.mail_query.specs.Query.{Query, depth, all_of, either_of}
-use Rattle.mail_query.specs.Pieces.{without_last, without_angles}
-use Rattle.mail_query.specs.Lexicon.{Lexicon}
-use Rattle.mail_query.specs.Mairix.{date_query}
-use Rattle.mail_query.specs.Tokens.{Token}
-use Rattle.mail_query.specs.BooleanTerms.{Parts, parts_of, no_fields, is_phrase, id_query, piece_query, word_query, field_query, parts_query, cut_query, term_query}
-use Rattle.mail_query.specs.BooleanGrammar.{Link, Beside, ByAnd, ByOr, Item, NotOf, Group, Leaf, Chain, Last, Then, linked, query_or_any, seen_behind, item_query, chain_queries, is_fine_item, is_fine_chain, Reads}
+use Rattle.mail_query.specs.BooleanTerms.{term_query}
 use Rattle.mail_query.proofs.BooleanLaws.BooleanComplete.{and_left, and_right}
 use Rattle.mail_query.proofs.MairixLaws.DepthLemmas.{AreShallow, depth-all_of, depth-either_of}
 
@@ -25,8 +11,7 @@ IsFlat : Result Query QueryFaultKind → Type 0
 IsFlat r = depth (query_or_any r) ≤ 1
 
 if_flat : (b : Bool) (r s : Result Query QueryFaultKind) → IsFlat r → IsFlat s → IsFlat (cond b r s)
-if_flat true r s h k = h
-if_flat false r s h k = k
+if_flat b r s h h2 = grind arith
 
 id_flat : (id : List ℕ) → IsFlat (id_query id)
 unfolding IsFlat
@@ -68,8 +53,7 @@ module _ (lexicon : Lexicon) where
   term_flat t = if_flat (is_phrase t) (Err Phrase) _ (omega arith) (go (parts_of t))
     where
       go : (o : Option Parts) → IsFlat (cut_query lexicon o)
-      go None = omega arith
-      go (Some parts) = parts_flat parts.prefix parts.rest
+      go o = grind arith
 
 -- ---- what stands where this many wait
 

@@ -1,19 +1,5 @@
 -- The reader's fault at a token is the one that the tokens before it show.
-use Rattle.std.proofs.Common.{◌≡◌, ℕ, zero, suc, ◌+◌, Bool, true, false, not, cond, eqb, leb, List, [], ◌∷◌, ◌++◌, length, Option, None, Some, Result, Ok, Err, refl, sym, ap, subst, ◌∙◌, append-nil, arith}
-use Rattle.std.specs.Prelude.{◌&&◌, ◌||◌, is_none}
-use Rattle.contract_words.specs.Answers.{◌>>=◌, fault_as}
-use Rattle.mail_query.specs.declared.boolean.field.Field.{Field}
-use Rattle.mail_query.specs.declared.boolean.field.Fields.{Fields}
-use Rattle.mail_query.specs.declared.fault.QueryFault.{QueryFault}
-use Rattle.mail_query.specs.declared.fault.QueryFaultKind.{QueryFaultKind}
-use Rattle.mail_query.specs.declared.fault.QueryFaultKind.TheVariants.{Phrase, NeedsOperator, TooDeep, MissingTerm, BadParenthesis}
-use Rattle.mail_query.specs.Lexicon.{Lexicon}
-use Rattle.mail_query.specs.Query.{Query}
-use Rattle.mail_query.specs.Tokens.{Token, Open, Close, AndSign, OrSign, NotSign, Term}
-use Rattle.mail_query.specs.BooleanTerms.{Parts, parts_of, no_fields, has_field, with_field, is_phrase, parts_query}
-use Rattle.mail_query.specs.BooleanGrammar.{Link, Beside, ByAnd, ByOr, Item, NotOf, Group, Leaf, Chain, Last, Then, link_tokens, item_tokens, chain_tokens, plain_prefix, seen_behind, Reads}
-use Rattle.mail_query.specs.BooleanFaults.{is_wanted, open_count, waiting_count, is_not, fields_before, needs_operator, err_of, deep_fault, operator_fault, close_fault, end_fault, first_some, parts_fault, term_fault, token_fault, first_fault_from, first_fault}
-use Rattle.mail_query.specs.BooleanReading.{Level, Waiting, ForNot, ForClose, State, empty_level, placed, noted, run_ended, each_ended, level_query, is_negated, has_open, deeper, popped, closed, ended, cut_term_step, parts_step, term_step, step, run_from, tokens_query}
+use Rattle.mail_query.proofs.Words.{◌≡◌, ℕ, zero, suc, ◌+◌, Bool, true, false, not, cond, eqb, List, [], ◌∷◌, ◌++◌, length, Option, None, Some, Result, Ok, Err, refl, sym, ap, subst, ◌∙◌, append-nil, arith, is_none, ◌>>=◌, fault_as, Field, Fields, QueryFault, QueryFaultKind, NeedsOperator, MissingTerm, Lexicon, Query, Token, Open, Close, AndSign, OrSign, NotSign, no_fields, with_field, parts_query, Link, Beside, ByAnd, ByOr, Item, NotOf, Group, Leaf, Chain, Last, Then, link_tokens, item_tokens, chain_tokens, plain_prefix, seen_behind, Reads, is_wanted, open_count, waiting_count, is_not, fields_before, needs_operator, err_of, deep_fault, operator_fault, close_fault, end_fault, first_some, term_fault, token_fault, first_fault_from, first_fault, Level, Waiting, State, is_negated, has_open, deeper, closed, ended, cut_term_step, term_step, step, run_from, tokens_query}
 use Rattle.mail_query.proofs.BooleanLaws.BooleanComplete.{reading_answered}
 use Rattle.mail_query.proofs.BooleanLaws.BooleanTrees.{Front, Nothing, Behind, Part, Wait, WaitNot, WaitClose, nothing_read, front_tokens, last_tokens, part_tokens, spelled, seen_front, last_prefix, seen_of, wanted_of, waits_not, wanted_behind, front_wanted, is_closed, level_of, waiting_of, state_of, length-waiting_of, negated-waiting_of, Fine, reach, answer_read}
 
@@ -27,12 +13,10 @@ behind-append [] ys back = refl
 behind-append (t ∷ xs) ys back = behind-append xs ys (t ∷ back)
 
 cond_same : {A : Type 0} (b : Bool) (x : A) → cond b x x ≡ x
-cond_same true x = refl
-cond_same false x = refl
+cond_same b x = grind arith
 
 not_passed : (k : ℕ) (back : List Token) → waiting_count false k (NotSign ∷ back) ≡ waiting_count false k back
-not_passed zero back = refl
-not_passed (suc k) back = refl
+not_passed k back = grind arith
 
 -- ---- what a whole item or chain leaves of what stands before
 
@@ -53,29 +37,17 @@ linked_back ByAnd back = AndSign ∷ back
 linked_back ByOr back = OrSign ∷ back
 
 link_behind : (l : Link) (back : List Token) → behind (link_tokens l) back ≡ linked_back l back
-link_behind Beside back = refl
-link_behind ByAnd back = refl
-link_behind ByOr back = refl
+link_behind l back = grind arith
 
 passes_on : (l : Link) (back middle after : List Token) → Passes back middle → Passes (linked_back l middle) after → Passes back after
-passes_on Beside back middle after p q = record { wanted = q.wanted; plain = q.plain; opens = λ k. q.opens k ∙ p.opens k; waits = λ f k. q.waits f k ∙ p.waits false k; inside = λ k. q.inside k ∙ p.inside k }
-passes_on ByAnd back middle after p q = record { wanted = q.wanted; plain = q.plain; opens = λ k. q.opens k ∙ p.opens k; waits = λ f k. q.waits f k ∙ p.waits false k; inside = λ k. q.inside k ∙ p.inside k }
-passes_on ByOr back middle after p q = record { wanted = q.wanted; plain = q.plain; opens = λ k. q.opens k ∙ p.opens k; waits = λ f k. q.waits f k ∙ p.waits false k; inside = λ k. q.inside k ∙ p.inside k }
+passes_on l back middle after h h2 = grind arith
 
 chain_behind : (i : Item) (l : Link) (c : Chain) (back : List Token) → behind (chain_tokens (Then i l c)) back ≡ behind (chain_tokens c) (linked_back l (behind (item_tokens i) back))
-chain_behind i l c back =
-    behind-append (item_tokens i) (link_tokens l ++ chain_tokens c) back
-    ∙ behind-append (link_tokens l) (chain_tokens c) (behind (item_tokens i) back)
-    ∙ ap (behind (chain_tokens c)) (link_behind l (behind (item_tokens i) back))
+chain_behind i l c back = grind (arith, behind-append, link_behind)
 
 mutual
   item_leaves : (i : Item) (back : List Token) → Leaves i back (behind (item_tokens i) back)
-  item_leaves (NotOf i) back =
-      let r = item_leaves i (NotSign ∷ back) in
-      record {
-        passes = record { wanted = r.passes.wanted; plain = r.passes.plain; opens = r.passes.opens; waits = λ f k. r.passes.waits f k ∙ not_passed k back; inside = r.passes.inside };
-        run = r.run ∙ ap (λ (o : Option Field). with_field o (fields_before zero back)) (sym (cond_same (is_not back) None));
-      }
+  item_leaves (NotOf i) back = grind (arith, not_passed, cond_same, item_leaves i (NotSign ∷ back))
   item_leaves (Group c) back =
       let r = chain_passes c (Open ∷ back) in
       let e : behind (chain_tokens c ++ Close ∷ []) (Open ∷ back) ≡ Close ∷ behind (chain_tokens c) (Open ∷ back) = behind-append (chain_tokens c) (Close ∷ []) (Open ∷ back) in
@@ -83,10 +55,7 @@ mutual
         passes = record { wanted = refl; plain = refl; opens = λ k. r.opens (suc k); waits = λ f k. r.waits false (suc k); inside = λ k. r.inside (suc k) };
         run = r.inside zero ∙ ap (λ (o : Option Field). with_field o (fields_before zero back)) (sym (cond_same (is_not back) None));
       })
-  item_leaves (Leaf t) back = record {
-    passes = record { wanted = refl; plain = refl; opens = λ k. refl; waits = λ f k. refl; inside = λ k. refl };
-    run = refl;
-  }
+  item_leaves (Leaf t) back = grind arith
 
   chain_passes : (c : Chain) (back : List Token) → Passes back (behind (chain_tokens c) back)
   chain_passes (Last i) back = (item_leaves i back).passes
@@ -106,11 +75,7 @@ opens_all : Opens []
 opens_all = record { wanted = refl; plain = refl; fields = refl; waits = λ f k. refl }
 
 opens_group : (back : List Token) → Opens (Open ∷ back)
-opens_group back = record { wanted = refl; plain = refl; fields = refl; waits = go }
-  where
-    go : (f : Bool) (k : ℕ) → waiting_count f k (Open ∷ back) ≡ waiting_count false k (Open ∷ back)
-    go f zero = refl
-    go f (suc k) = refl
+opens_group back = grind arith
 
 record Stands (back after : List Token) (wanted : Bool) (seen : Fields) : Type 0 where
   is_so : is_wanted after ≡ wanted
@@ -135,9 +100,7 @@ item_stands i back before w seen s =
 
 link_stands : (i : Item) (l : Link) (back before : List Token) (seen : Fields) → Stands back before false (with_field (plain_prefix i) seen)
     → Stands back (linked_back l before) (wanted_behind l) (seen_behind i l seen)
-link_stands i Beside back before seen s = s
-link_stands i ByAnd back before seen s = record { is_so = refl; plain = refl; fields = refl; opens = s.opens; waits = λ f k. s.waits false k }
-link_stands i ByOr back before seen s = record { is_so = refl; plain = refl; fields = refl; opens = s.opens; waits = λ f k. s.waits false k }
+link_stands i l back before seen h = grind arith
 
 front_stands : (f : Front) (back : List Token) → Opens back → Stands back (behind (front_tokens f) back) (front_wanted f) (seen_front f)
 front_stands Nothing back o = record { is_so = o.wanted; plain = o.plain; fields = o.fields; opens = λ k. refl; waits = o.waits }
@@ -184,8 +147,7 @@ fault_of (Ok x) = None
 fault_of (Err e) = Some e
 
 guarded : {T E : Type 0} (b : Bool) (fault : E) (r : Result T E) → fault_of (cond b (Err fault) r) ≡ cond b (Some fault) (fault_of r)
-guarded true fault r = refl
-guarded false fault r = refl
+guarded b fault r = grind arith
 
 module _ (lexicon : Lexicon) where
   shows : (ws : List Wait) (p : Part) → Fine lexicon ws p → Shows ws p (back_of ws p)
@@ -211,62 +173,27 @@ module _ (lexicon : Lexicon) where
   -- ---- the fault at a token
 
   same_deep : (ws : List Wait) (p : Part) (back : List Token) (what : Waiting) (level : Level) → Shows ws p back → deep_fault back ≡ fault_of (deeper (waiting_of lexicon ws) what level)
-  same_deep ws p back what level s =
-      ap (λ n. cond (leb 30 n) (Some TooDeep) None) (s.waits ∙ sym (length-waiting_of lexicon ws))
-      ∙ sym (guarded {T = State} (leb 30 (length (waiting_of lexicon ws))) TooDeep (Ok (record { waiting = what ∷ waiting_of lexicon ws; level = level; wanted = true })))
+  same_deep ws p back what level s = grind (arith, length-waiting_of, guarded, waiting_of)
 
   same_operator : (ws : List Wait) (p : Part) (back : List Token) (next : State) → Shows ws p back
       → operator_fault back ≡ fault_of {T = State} (cond (wanted_of ws p) (Err MissingTerm) (Ok next))
   same_operator ws p back next s = ap (λ b. cond b (Some MissingTerm) None) s.wanted ∙ sym (guarded {T = State} (wanted_of ws p) MissingTerm (Ok next))
 
   same_close : (ws : List Wait) (p : Part) (back : List Token) → Shows ws p back → close_fault back ≡ fault_of (closed (state_of lexicon ws p))
-  same_close ws p back s = rw (s.opens, s.wanted, open-has_open ws) (go ws (is_none p.last))
-    where
-      under : (o : Bool) → cond (not o) (Some BadParenthesis) (Some MissingTerm) ≡ fault_of {T = State} (cond o (Err MissingTerm) (Err BadParenthesis))
-      under true = refl
-      under false = refl
-
-      go : (vs : List Wait) (none : Bool) → cond (not (has_open (waiting_of lexicon vs))) (Some BadParenthesis) (cond (waits_not vs || none) (Some MissingTerm) None)
-          ≡ fault_of (cond (waits_not vs || none) (cond (has_open (waiting_of lexicon vs)) (Err MissingTerm) (Err BadParenthesis)) (popped (waiting_of lexicon vs) (level_of lexicon p)))
-      go [] true = refl
-      go [] false = refl
-      go (WaitNot ∷ vs) none = under (has_open (waiting_of lexicon vs))
-      go (WaitClose outer ∷ vs) true = refl
-      go (WaitClose outer ∷ vs) false = refl
+  same_close ws p back s = grind (arith, open-has_open, waiting_of, waits_not, level_of)
 
   same_end : (ws : List Wait) (p : Part) (back : List Token) → Shows ws p back → end_fault back ≡ fault_of (ended (state_of lexicon ws p))
-  same_end ws p back s = rw (s.opens, s.wanted, open-has_open ws) (go (wanted_of ws p) (has_open (waiting_of lexicon ws)))
-    where
-      go : (w o : Bool) → cond w (Some MissingTerm) (cond (not o) None (Some BadParenthesis)) ≡ fault_of (cond w (Err MissingTerm) (cond o (Err BadParenthesis) (Ok (level_query (level_of lexicon p)))))
-      go true o = refl
-      go false true = refl
-      go false false = refl
+  same_end ws p back s = grind (arith, open-has_open, wanted_of, waiting_of, level_of)
 
   same_parts : (s : State) (back : List Token) (prefix : Option Field) (rest : List ℕ) → is_not back ≡ is_negated s.waiting → fields_before zero back ≡ s.level.seen
       → cond (needs_operator back prefix) (Some NeedsOperator) (err_of (parts_query lexicon prefix rest)) ≡ fault_of (cut_term_step lexicon s prefix rest)
-  same_parts s back prefix rest e h = rw (e, h) (go (not (is_negated s.waiting) && has_field s.level.seen prefix) (parts_query lexicon prefix rest))
-    where
-      go : (b : Bool) (r : Result Query QueryFaultKind) → cond b (Some NeedsOperator) (err_of r)
-          ≡ fault_of (cond b (Err NeedsOperator) (r >>= (λ q. Ok (placed s.waiting (noted (is_negated s.waiting) prefix s.level) q))))
-      go true r = refl
-      go false (Ok q) = refl
-      go false (Err kind) = refl
+  same_parts s back prefix rest e h = grind arith
 
   same_term : (s : State) (back : List Token) (t : List ℕ) → is_not back ≡ is_negated s.waiting → fields_before zero back ≡ s.level.seen → term_fault lexicon back t ≡ fault_of (term_step lexicon s t)
-  same_term s back t e h = go (is_phrase t) (parts_of t)
-    where
-      go : (b : Bool) (o : Option Parts) → cond b (Some Phrase) (parts_fault lexicon back o) ≡ fault_of (cond b (Err Phrase) (parts_step lexicon s o))
-      go true o = refl
-      go false None = refl
-      go false (Some parts) = same_parts s back parts.prefix parts.rest e h
+  same_term s back t e h = grind (arith, same_parts)
 
   same_fault : (ws : List Wait) (p : Part) (back : List Token) (t : Token) → Shows ws p back → token_fault lexicon back t ≡ fault_of (step lexicon (state_of lexicon ws p) t)
-  same_fault ws p back (Term t) s = same_term (state_of lexicon ws p) back t (s.plain ∙ sym (negated-waiting_of lexicon ws)) s.fields
-  same_fault ws p back NotSign s = same_deep ws p back ForNot (level_of lexicon p) s
-  same_fault ws p back Open s = same_deep ws p back (ForClose (level_of lexicon p)) empty_level s
-  same_fault ws p back Close s = same_close ws p back s
-  same_fault ws p back AndSign s = same_operator ws p back (record { waiting = waiting_of lexicon ws; level = run_ended (level_of lexicon p); wanted = true }) s
-  same_fault ws p back OrSign s = same_operator ws p back (record { waiting = waiting_of lexicon ws; level = each_ended (level_of lexicon p); wanted = true }) s
+  same_fault ws p back t h = grind (arith, same_term, state_of, negated-waiting_of, same_deep, level_of, same_close, same_operator, waiting_of)
 
   -- ---- the first fault of all
 
@@ -277,8 +204,7 @@ module _ (lexicon : Lexicon) where
   same_first n ws p [] fine = ap (λ (o : Option QueryFaultKind). first_some (at_number n) o None) (same_end ws p (back_of ws p) (shows ws p fine)) ∙ go (ended (state_of lexicon ws p))
     where
       go : (r : Result Query QueryFaultKind) → first_some (at_number n) (fault_of r) None ≡ fault_of (fault_as (at_number n) r)
-      go (Ok q) = refl
-      go (Err kind) = refl
+      go r = grind arith
   same_first n ws p (t ∷ ts) fine =
       ap (λ (o : Option QueryFaultKind). first_some (at_number n) o (first_fault_from lexicon (n + 1) (t ∷ back_of ws p) ts)) (same_fault ws p (back_of ws p) t (shows ws p fine))
       ∙ go (step lexicon (state_of lexicon ws p) t) refl (λ vs r h. same_first (n + 1) vs r ts h)
@@ -303,8 +229,7 @@ module _ (lexicon : Lexicon) where
   fault_answered ts f e = go (tokens_query lexicon ts) (sym (first_fault_is ts) ∙ e)
     where
       go : (r : Result Query QueryFault) → fault_of r ≡ Some f → r ≡ Err f
-      go (Ok q) e = absurd cc
-      go (Err g) e = cc
+      go r h = grind arith
 
   pub answer_faulty : (ts : List Token) (f : QueryFault) → tokens_query lexicon ts ≡ Err f → first_fault lexicon ts ≡ Some f
   answer_faulty ts f e = first_fault_is ts ∙ ap fault_of e

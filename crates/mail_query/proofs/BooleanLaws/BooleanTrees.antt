@@ -1,20 +1,6 @@
 -- The tree that was read so far, and what the reader has of it.
-use Rattle.std.proofs.Common.{◌≡◌, ℕ, suc, ◌+◌, ◌<◌, Bool, true, false, not, cond, leb, List, [], ◌∷◌, ◌++◌, length, map, Option, None, Some, Result, Ok, Err, refl, sym, ap, subst, ◌∙◌, append_assoc, append-nil, arith, add-one}
-use Rattle.std.specs.Prelude.{◌&&◌, ◌||◌, is_ok, is_none, option_and_then}
-use Rattle.std.proofs.lemmas.Bool.{and_from, or_parts, or_right, leb-false, lt-ltb}
-use Rattle.contract_words.specs.Answers.{◌>>=◌, fault_as}
-use Rattle.mail_query.specs.declared.boolean.field.Field.{Field}
-use Rattle.mail_query.specs.declared.boolean.field.Field.TheVariants as field
-use Rattle.mail_query.specs.declared.boolean.field.Fields.{Fields}
-use Rattle.mail_query.specs.declared.fault.QueryFault.{QueryFault}
-use Rattle.mail_query.specs.declared.fault.QueryFaultKind.{QueryFaultKind}
-use Rattle.mail_query.specs.declared.fault.QueryFaultKind.TheVariants.{Phrase, NeedsOperator, TooDeep, MissingTerm, BadParenthesis}
-use Rattle.mail_query.specs.Lexicon.{Lexicon}
-use Rattle.mail_query.specs.Query.{Query, Not, all_of, either_of}
-use Rattle.mail_query.specs.Tokens.{Token, Open, Close, AndSign, OrSign, NotSign, Term}
-use Rattle.mail_query.specs.BooleanTerms.{Parts, parts_of, no_fields, has_field, with_field, is_phrase, parts_query, cut_query, term_query}
-use Rattle.mail_query.specs.BooleanGrammar.{Link, Beside, ByAnd, ByOr, Item, NotOf, Group, Leaf, Chain, Last, Then, link_tokens, item_tokens, chain_tokens, term_prefix, plain_prefix, seen_behind, item_query, chain_queries, tree_query, is_fine_item, is_fine_chain, Reads}
-use Rattle.mail_query.specs.BooleanReading.{Level, Waiting, ForNot, ForClose, State, start, empty_level, with_member, noted, run_ended, each_ended, level_query, is_negated, has_open, placed, deeper, joined, parted, popped, closed, ended, parts_step, term_step, step, run_from, tokens_query}
+use Rattle.mail_query.proofs.Words.{◌≡◌, ℕ, suc, ◌+◌, ◌<◌, Bool, true, false, not, cond, leb, List, [], ◌∷◌, ◌++◌, length, map, Option, None, Some, Result, Ok, Err, refl, sym, ap, subst, ◌∙◌, append_assoc, append-nil, arith, add-one, ◌&&◌, ◌||◌, is_ok, is_none, option_and_then, and_from, or_parts, or_right, leb-false, lt-ltb, ◌>>=◌, fault_as, Field, Fields, QueryFault, QueryFaultKind, Phrase, NeedsOperator, TooDeep, MissingTerm, BadParenthesis, Lexicon, Query, all_of, either_of, Token, Open, Close, AndSign, OrSign, NotSign, Term, Parts, parts_of, no_fields, has_field, with_field, is_phrase, cut_query, Link, Beside, ByAnd, ByOr, Item, NotOf, Group, Leaf, Chain, Last, Then, link_tokens, item_tokens, chain_tokens, term_prefix, plain_prefix, seen_behind, item_query, chain_queries, tree_query, is_fine_item, is_fine_chain, Reads, Level, Waiting, ForNot, ForClose, State, start, empty_level, with_member, noted, run_ended, each_ended, level_query, is_negated, has_open, placed, deeper, joined, parted, popped, closed, ended, parts_step, term_step, step, run_from, tokens_query}
+use Rattle.mail_query.specs.BooleanTerms.{term_query}
 use Rattle.mail_query.proofs.BooleanLaws.BooleanComplete.{noted-none, state, seen_at, term_fine, with_first, with_first-one, with_first-none}
 
 -- ---- what was read
@@ -102,13 +88,11 @@ where_ended : (ws : List Wait) (p : Part) (P : Part → Type 0) → wanted_of ws
 where_ended ws p P e h = let parts = or_parts (waits_not ws) (is_none p.last) e in go p.front p.last parts.1 (h parts.0)
   where
     go : (f : Front) (last : Option Item) → is_none last ≡ false → ((g : Front) (i : Item) → P (ended_by g i)) → P (record { front = f; last = last })
-    go f None e k = absurd cc
-    go f (Some i) e k = k f i
+    go f last h h2 = grind arith
 
 -- what a test lets pass
 unguarded : {A E : Type 0} (b : Bool) (fault : E) (r : Result A E) (x : A) → cond b (Err fault) r ≡ Ok x → (b ≡ false) × (r ≡ Ok x)
-unguarded true fault r x e = absurd cc
-unguarded false fault r x e = (refl, e)
+unguarded b fault r x h = grind arith
 
 -- ---- how it is spelled
 
@@ -116,8 +100,7 @@ part_tokens-put : (p : Part) (i : Item) → part_tokens (put p i) ≡ part_token
 part_tokens-put p i = go p.last
   where
     go : (last : Option Item) → front_tokens (beside p.front last) ++ item_tokens i ≡ (front_tokens p.front ++ last_tokens last) ++ item_tokens i
-    go None = ap (λ (ts : List Token). ts ++ item_tokens i) (sym (append-nil (front_tokens p.front)))
-    go (Some j) = ap (λ (ts : List Token). (front_tokens p.front ++ ts) ++ item_tokens i) (append-nil (item_tokens j))
+    go last = grind (arith, append-nil)
 
 -- a `some` must stand behind
 abbrev pub wanted_behind : Link → Bool
@@ -135,16 +118,11 @@ is_closed f None = front_wanted f
 is_closed f (Some i) = true
 
 operator_wanted : (l : Link) (t : Token) → link_tokens l ≡ t ∷ [] → wanted_behind l ≡ true
-operator_wanted Beside t e = absurd cc
-operator_wanted ByAnd t e = refl
-operator_wanted ByOr t e = refl
+operator_wanted l t h = grind arith
 
 -- what follows in the innermost part follows the whole, where no `not` waits nearest
 spelled-more : (ws : List Wait) (p next : Part) (ts : List Token) → waits_not ws ≡ false → part_tokens next ≡ part_tokens p ++ ts → spelled ws next ≡ spelled ws p ++ ts
-spelled-more [] p next ts e h = h
-spelled-more (WaitNot ∷ ws) p next ts e h = absurd cc
-spelled-more (WaitClose outer ∷ ws) p next ts e h =
-    ap (λ (part : List Token). spelled ws outer ++ (Open ∷ part)) h ∙ sym (append_assoc (spelled ws outer) (Open ∷ part_tokens p) ts)
+spelled-more ws p next ts h h2 = grind (arith, append_assoc)
 
 spelled-put : (ws : List Wait) (p : Part) (i : Item) → spelled (put_waits ws) (put_part ws p i) ≡ spelled ws p ++ item_tokens i
 spelled-put [] p i = part_tokens-put p i
@@ -153,14 +131,10 @@ spelled-put (WaitClose outer ∷ ws) p i = spelled-more (WaitClose outer ∷ ws)
 
 chain_tokens-onto : (f : Front) (c : Chain) → chain_tokens (onto f c) ≡ front_tokens f ++ chain_tokens c
 chain_tokens-onto Nothing c = refl
-chain_tokens-onto (Behind f i l) c =
-    chain_tokens-onto f (Then i l c)
-    ∙ ap (λ (ts : List Token). front_tokens f ++ ts) (sym (append_assoc (item_tokens i) (link_tokens l) (chain_tokens c)))
-    ∙ sym (append_assoc (front_tokens f) (item_tokens i ++ link_tokens l) (chain_tokens c))
+chain_tokens-onto (Behind f i l) c = grind (arith, append_assoc, chain_tokens-onto f (Then i l c))
 
 and_assoc : (a b c : Bool) → ((a && b) && c) ≡ (a && (b && c))
-and_assoc true b c = refl
-and_assoc false b c = refl
+and_assoc a b c = grind arith
 
 module _ (lexicon : Lexicon) where
   -- ---- what the reader has of it
@@ -198,35 +172,25 @@ module _ (lexicon : Lexicon) where
   length-waiting_of (WaitClose outer ∷ ws) = ap suc (length-waiting_of ws)
 
   pub negated-waiting_of : (ws : List Wait) → is_negated (waiting_of ws) ≡ waits_not ws
-  negated-waiting_of [] = refl
-  negated-waiting_of (WaitNot ∷ ws) = refl
-  negated-waiting_of (WaitClose outer ∷ ws) = refl
+  negated-waiting_of ws = grind arith
 
   level_of-put : (p : Part) (i : Item) → level_of (put p i) ≡ with_member (noted false (plain_prefix i) (level_of p)) (item_query lexicon i)
   level_of-put p i = go p.front p.last
     where
       go : (f : Front) (last : Option Item) → level_of (put (record { front = f; last = last }) i) ≡ with_member (noted false (plain_prefix i) (level_of (record { front = f; last = last }))) (item_query lexicon i)
-      go f None = ap (λ (ms : List Query). let l : Level = record { eaches = eaches_front f; members = ms ++ item_query lexicon i ∷ []; seen = with_field (plain_prefix i) (seen_front f) } in l) (sym (append-nil (members_front f)))
-      go f (Some j) = refl
+      go f last = grind (arith, append-nil)
 
   placed_is : (ws : List Wait) (p : Part) (i : Item)
       → placed (waiting_of ws) (noted (is_negated (waiting_of ws)) (plain_prefix i) (level_of p)) (item_query lexicon i) ≡ state_of (put_waits ws) (put_part ws p i)
   placed_is [] p i = ap (λ (l : Level). let s : State = record { waiting = []; level = l; wanted = false } in s) (sym (level_of-put p i))
-  placed_is (WaitNot ∷ ws) p i =
-      ap (λ (l : Level). placed (waiting_of ws) l (Not (item_query lexicon i))) (sym (noted-none (is_negated (waiting_of ws)) (level_of p))) ∙ placed_is ws p (NotOf i)
-  placed_is (WaitClose outer ∷ ws) p i =
-      ap (λ (l : Level). let s : State = record { waiting = ForClose (level_of outer) ∷ waiting_of ws; level = l; wanted = false } in s) (sym (level_of-put p i))
+  placed_is (WaitNot ∷ ws) p i = grind (arith, noted-none, placed_is ws p (NotOf i))
+  placed_is (WaitClose outer ∷ ws) p i = grind (arith, level_of-put)
 
   eaches-onto : (f : Front) (c : Chain) → map all_of (chain_queries lexicon (onto f c)) ≡ eaches_front f ++ map all_of (with_first (members_front f) (chain_queries lexicon c))
   eaches-onto Nothing c = ap (map all_of) (sym (with_first-none lexicon c))
-  eaches-onto (Behind f i Beside) c =
-      eaches-onto f (Then i Beside c) ∙ ap (λ (qss : List (List Query)). eaches_front f ++ map all_of qss) (sym (with_first-one (members_front f) (item_query lexicon i) (chain_queries lexicon c)))
-  eaches-onto (Behind f i ByAnd) c =
-      eaches-onto f (Then i ByAnd c) ∙ ap (λ (qss : List (List Query)). eaches_front f ++ map all_of qss) (sym (with_first-one (members_front f) (item_query lexicon i) (chain_queries lexicon c)))
-  eaches-onto (Behind f i ByOr) c =
-      eaches-onto f (Then i ByOr c)
-      ∙ sym (append_assoc (eaches_front f) (all_of (members_front f ++ item_query lexicon i ∷ []) ∷ []) (map all_of (chain_queries lexicon c)))
-      ∙ ap (λ (qss : List (List Query)). (eaches_front f ++ all_of (members_front f ++ item_query lexicon i ∷ []) ∷ []) ++ map all_of qss) (sym (with_first-none lexicon c))
+  eaches-onto (Behind f i Beside) c = grind (arith, with_first-one, eaches-onto f (Then i Beside c))
+  eaches-onto (Behind f i ByAnd) c = grind (arith, with_first-one, eaches-onto f (Then i ByAnd c))
+  eaches-onto (Behind f i ByOr) c = grind (arith, append_assoc, with_first-none, eaches-onto f (Then i ByOr c))
 
   -- what a level asks is what its tree asks
   pub level_asks : (f : Front) (i : Item) → level_query (level_of (ended_by f i)) ≡ tree_query lexicon (onto f (Last i))
@@ -261,12 +225,10 @@ module _ (lexicon : Lexicon) where
     where
       go : (f : Front) (last : Option Item) → is_fine_front f n ≡ true → is_fine_last f last n ≡ true → is_fine_item lexicon i n (with_field (last_prefix last) (seen_front f)) ≡ true
           → FinePart (put (record { front = f; last = last }) i) n
-      go f None h k e = record { front = h; last = e; closed = refl }
-      go f (Some j) h k e = record { front = and_from (is_fine_front f n) (is_fine_item lexicon j n (seen_front f)) h k; last = e; closed = refl }
+      go f last h h2 h3 = grind (arith, and_from)
 
   negate_fine : (i : Item) (n : ℕ) (seen : Fields) → n < 30 → is_fine_item lexicon i (suc n) no_fields ≡ true → is_fine_item lexicon (NotOf i) n seen ≡ true
-  negate_fine i n seen room h =
-      rw (lt-ltb n 30 room) (ap (λ m. is_fine_item lexicon i m no_fields) (add-one n) ∙ h)
+  negate_fine i n seen room h = grind (arith, lt-ltb, add-one)
 
   put_fine : (ws : List Wait) (p : Part) (i : Item) → Fine ws p → is_fine_item lexicon i (length ws) (cond (waits_not ws) no_fields (seen_of p)) ≡ true → Fine (put_waits ws) (put_part ws p i)
   unfolding Fine
@@ -291,17 +253,10 @@ module _ (lexicon : Lexicon) where
     pub fine : Fine waits part
 
   no_fields-have : (prefix : Option Field) → has_field no_fields prefix ≡ false
-  no_fields-have None = refl
-  no_fields-have (Some field.From) = refl
-  no_fields-have (Some field.To) = refl
-  no_fields-have (Some field.Subject) = refl
-  no_fields-have (Some field.Body) = refl
-  no_fields-have (Some field.Id) = refl
-  no_fields-have (Some field.Date) = refl
+  no_fields-have prefix = grind arith
 
   new_prefix : (negated : Bool) (seen : Fields) (prefix : Option Field) → (not negated && has_field seen prefix) ≡ false → not (has_field (cond negated no_fields seen) prefix) ≡ true
-  new_prefix true seen prefix h = ap not (no_fields-have prefix)
-  new_prefix false seen prefix h = ap not h
+  new_prefix negated seen prefix h = grind (arith, no_fields-have)
 
   -- a term that was read is allowed where it stands
   term_ok : (s next : State) (t : List ℕ) → term_step lexicon s t ≡ Ok next
@@ -312,15 +267,11 @@ module _ (lexicon : Lexicon) where
       cut_ok : (prefix : Option Field) (b : Bool) → (not (is_negated s.waiting) && has_field s.level.seen prefix) ≡ b → (r : Result Query QueryFaultKind)
           → cond b (Err NeedsOperator) (r >>= (λ q. Ok (placed s.waiting (noted (is_negated s.waiting) prefix s.level) q))) ≡ Ok next
           → (not (has_field (cond (is_negated s.waiting) no_fields s.level.seen) prefix) && is_ok r) ≡ true
-      cut_ok prefix true i r e = absurd cc
-      cut_ok prefix false i (Err kind) e = absurd cc
-      cut_ok prefix false i (Ok q) e = and_from _ true (new_prefix (is_negated s.waiting) s.level.seen prefix i) refl
+      cut_ok prefix b h r h2 = grind (arith, and_from, new_prefix)
 
       go : (b : Bool) (o : Option Parts) → cond b (Err Phrase) (parts_step lexicon s o) ≡ Ok next
           → (not (has_field (cond (is_negated s.waiting) no_fields s.level.seen) (option_and_then (λ (p : Parts). p.prefix) o)) && is_ok {T = Query} (cond b (Err Phrase) (cut_query lexicon o))) ≡ true
-      go true o e = absurd cc
-      go false None e = absurd cc
-      go false (Some parts) e = cut_ok parts.prefix (not (is_negated s.waiting) && has_field s.level.seen parts.prefix) refl (parts_query lexicon parts.prefix parts.rest) e
+      go b o h = grind (arith, cut_ok)
 
   reach_term : (ws : List Wait) (p : Part) (t : List ℕ) (s : State) → Fine ws p → term_step lexicon (state_of ws p) t ≡ Ok s → Reaches ws p (Term t) s
   unfolding seen_at
@@ -393,8 +344,7 @@ module _ (lexicon : Lexicon) where
 
   -- a group is closed
   group_fine : (f : Front) (i : Item) (n : ℕ) (seen : Fields) → n < 30 → FinePart (ended_by f i) (suc n) → is_fine_item lexicon (Group (onto f (Last i))) n seen ≡ true
-  group_fine f i n seen room h =
-      rw (lt-ltb n 30 room) (ap (λ m. is_fine_chain lexicon (onto f (Last i)) m no_fields) (add-one n) ∙ fine-onto f (Last i) (suc n) ∙ and_from (is_fine_front f (suc n)) _ h.front h.last)
+  group_fine f i n seen room h = grind (arith, lt-ltb, add-one, fine-onto, and_from)
 
   reach_close : (ws : List Wait) (p : Part) (s : State) → Fine ws p → closed (state_of ws p) ≡ Ok s → Reaches ws p Close s
   unfolding Fine
@@ -403,9 +353,7 @@ module _ (lexicon : Lexicon) where
       where_ended ws p (λ r. Fine ws r → popped (waiting_of ws) (level_of r) ≡ Ok s → Reaches ws r Close s) passed.0 (λ no_not f i. go ws f i) fine passed.1
     where
       closed_is : (b o : Bool) (r : Result State QueryFaultKind) → cond b (cond o (Err MissingTerm) (Err BadParenthesis)) r ≡ Ok s → (b ≡ false) × (r ≡ Ok s)
-      closed_is true true r e = absurd cc
-      closed_is true false r e = absurd cc
-      closed_is false o r e = (refl, e)
+      closed_is b o r h = grind arith
 
       go : (vs : List Wait) (f : Front) (i : Item) → Fine vs (ended_by f i) → popped (waiting_of vs) (level_of (ended_by f i)) ≡ Ok s → Reaches vs (ended_by f i) Close s
       go [] f i h e = absurd cc
@@ -443,21 +391,13 @@ module _ (lexicon : Lexicon) where
     where
       go : (vs : List Wait) (f : Front) (i : Item) → waits_not vs ≡ false → has_open (waiting_of vs) ≡ false → Fine vs (ended_by f i) → level_query (level_of (ended_by f i)) ≡ q
           → Reads lexicon (spelled vs (ended_by f i)) q
-      go (WaitNot ∷ vs) f i no_not o h e = absurd cc
-      go (WaitClose outer ∷ vs) f i no_not o h e = absurd cc
-      go [] f i no_not o h e = record {
-        tree = onto f (Last i);
-        spelled = chain_tokens-onto f (Last i);
-        fine = fine-onto f (Last i) 0 ∙ and_from (is_fine_front f 0) _ h.front h.last;
-        asked = sym (level_asks f i) ∙ e;
-      }
+      go vs f i h h2 h3 h4 = grind (arith, chain_tokens-onto, fine-onto, and_from, level_asks)
 
   run_reads : (n : ℕ) (ws : List Wait) (p : Part) (ts : List Token) (q : Query) → Fine ws p → run_from lexicon n (state_of ws p) ts ≡ Ok q → Reads lexicon (spelled ws p ++ ts) q
   run_reads n ws p [] q fine e = subst (λ (xs : List Token). Reads lexicon xs q) (sym (append-nil (spelled ws p))) (end_reads ws p q fine (unnumbered (ended (state_of ws p)) e))
     where
       unnumbered : (r : Result Query QueryFaultKind) → fault_as (λ kind. let f : QueryFault = record { number = n; kind = kind } in f) r ≡ Ok q → r ≡ Ok q
-      unnumbered (Ok x) e = cc
-      unnumbered (Err kind) e = absurd cc
+      unnumbered r h = grind arith
   run_reads n ws p (t ∷ ts) q fine e = go (step lexicon (state_of ws p) t) refl e (λ vs r h k. run_reads (n + 1) vs r ts q h k)
     where
       go : (r : Result State QueryFaultKind) → step lexicon (state_of ws p) t ≡ r

@@ -1,17 +1,9 @@
 -- What waits, the nearest first.
-use Rattle.std.proofs.Common.{◌≡◌, ℕ, suc, ◌+◌, ◌-◌, ◌<◌, ◌≤◌, Bool, true, false, ◌||◌, Ok, Err, List, [], ◌∷◌, ◌++◌, length, take, drop, get_or, drop-cons, refl, sym, ap, ◌∙◌, arith}
-use Rattle.std.specs.List.{IsLastAndRest}
-use Rattle.std.proofs.lemmas.List.{drop_all}
-use Rattle.std.proofs.Math.Bool.{or-false}
-use Rattle.std.proofs.lemmas.Bool.{or_right, le-leb, lt-leb}
-use Rattle.mail_query.specs.declared.fault.QueryFaultKind.TheVariants.{TooDeep, BadParenthesis}
+use Rattle.mail_query.proofs.Words.{◌≡◌, ℕ, ◌+◌, ◌-◌, ◌<◌, ◌≤◌, Bool, true, false, ◌||◌, Ok, Err, List, [], ◌∷◌, ◌++◌, length, take, drop, get_or, drop-cons, refl, sym, ap, ◌∙◌, arith, IsLastAndRest, drop_all, or-false, or_right, le-leb, lt-leb, TooDeep, BadParenthesis, Query, Not, shown_level, shown_waiting, nearest_first, shown_stack, Level, Waiting, ForNot, ForClose, with_member, is_negated, has_open, placed, deeper, popped, level_query}
 use Rattle.mail_query.specs.declared.boolean.level.Level.{Level as CodeLevel}
 use Rattle.mail_query.specs.declared.boolean.reader.Waiting.{Waiting as CodeWaiting}
 use Rattle.mail_query.specs.declared.boolean.reader.Waiting.TheVariants as code_waiting
-use Rattle.mail_query.specs.Query.{Query, Not}
 use Rattle.mail_query.proofs.PieceLemmas.{last_of, before_last}
-use Rattle.mail_query.specs.Inside.Shown.{shown_level, shown_waiting, nearest_first, shown_stack}
-use Rattle.mail_query.specs.BooleanReading.{Level, Waiting, ForNot, ForClose, with_member, is_negated, has_open, placed, deeper, popped, level_query}
 
 nearest_first-push : (ws : List CodeWaiting) (w : CodeWaiting) (behind : List Waiting) → nearest_first (ws ++ w ∷ []) behind ≡ shown_waiting w ∷ nearest_first ws behind
 nearest_first-push [] w behind = refl
@@ -36,9 +28,7 @@ open_last ws front w level h e = ap (λ xs. is_negated (shown_stack xs)) h.0 ∙
 
 -- a `some` that no `not` waits for is a member
 pub placed-settled : (ws : List Waiting) (level : Level) (q : Query) → is_negated ws ≡ false → placed ws level q ≡ record { waiting = ws; level = with_member level q; wanted = false }
-placed-settled [] level q e = refl
-placed-settled (ForNot ∷ ws) level q e = absurd cc
-placed-settled (ForClose outer ∷ ws) level q e = refl
+placed-settled ws level q h = grind arith
 
 -- ---- whether some `(` waits
 
@@ -70,16 +60,10 @@ negated_some [] e = absurd cc
 negated_some (w ∷ ws) e = omega arith
 
 negated_is : (w : CodeWaiting) (behind : List Waiting) → is_negated (shown_waiting w ∷ behind) ≡ true → shown_waiting w ≡ ForNot
-negated_is code_waiting.ForNot behind e = refl
-negated_is (code_waiting.ForClose level) behind e = absurd cc
+negated_is w behind h = grind arith
 
 pub placed-not : (ws : List CodeWaiting) (level : Level) (q : Query) → is_negated (shown_stack ws) ≡ true → placed (shown_stack ws) level q ≡ placed (shown_stack (take (length ws - 1) ws)) level (Not q)
-placed-not ws level q e =
-    let l = last_of ws (negated_some ws e) in
-    let stack : shown_stack ws ≡ shown_waiting l.1 ∷ shown_stack l.0 = ap shown_stack l.2 ∙ shown_stack-push l.0 l.1 in
-    let is : shown_waiting l.1 ≡ ForNot = negated_is l.1 (shown_stack l.0) (sym (ap is_negated stack) ∙ e) in
-    let front : take (length ws - 1) ws ≡ l.0 = ap (λ (xs : List CodeWaiting). take (length xs - 1) xs) l.2 ∙ before_last l.0 l.1 in
-    ap (λ (xs : List Waiting). placed xs level q) (stack ∙ ap (λ (w : Waiting). w ∷ shown_stack l.0) is) ∙ sym (ap (λ xs. placed (shown_stack xs) level (Not q)) front)
+placed-not ws level q e = grind (arith, last_of, negated_some, shown_stack-push, negated_is, before_last)
 
 pub pops-close : (ws rest : List CodeWaiting) (outer : CodeLevel) (level : Level) → ws ≡ rest ++ code_waiting.ForClose outer ∷ []
     → popped (shown_stack ws) level ≡ Ok (placed (shown_stack rest) (shown_level outer) (level_query level))
@@ -92,9 +76,7 @@ pops-not ws rest level e = ap (λ xs. popped (shown_stack xs) level) e ∙ ap (�
 
 pub open_here : (ws : List CodeWaiting) (i : ℕ) (item : CodeWaiting) (level : CodeLevel) → i < length ws → item ≡ get_or ws i item → item ≡ code_waiting.ForClose level
     → has_open_code (drop i ws) ≡ has_open_code ws → true ≡ has_open (shown_stack ws)
-open_here ws i item level below here is h =
-    let e : drop i ws ≡ code_waiting.ForClose level ∷ drop (suc i) ws = drop-cons ws i item below ∙ ap (λ (w : CodeWaiting). w ∷ drop (suc i) ws) (sym here ∙ is) in
-    sym (ap has_open_code e) ∙ h ∙ sym (has_open-shown_stack ws)
+open_here ws i item level below here is h = grind (arith, drop-cons, has_open-shown_stack)
 
 pub none_open : (ws : List CodeWaiting) (i : ℕ) → length ws ≤ i → has_open_code (drop i ws) ≡ has_open_code ws → false ≡ has_open (shown_stack ws)
 none_open ws i past h = sym (ap has_open_code (drop_all i ws past)) ∙ h ∙ sym (has_open-shown_stack ws)

@@ -27,8 +27,7 @@ no_blank_left [] = refl
 no_blank_left (b ∷ bs) = go (is_blank b) refl (no_blank_left bs)
   where
     go : (t : Bool) → is_blank b ≡ t → blank_count (drop (blank_count bs) bs) ≡ 0 → blank_count (drop (cond t (suc (blank_count bs)) 0) (b ∷ bs)) ≡ 0
-    go true e h = h
-    go false e h = rw e refl
+    go t h h2 = grind arith
 
 blank_is_ascii : (b : ℕ) → is_blank b ≡ true → b < 128
 blank_is_ascii b e = grind (arith, nat_tests)
@@ -85,9 +84,7 @@ unfolding tokens
 tokens-run text some nonempty = ap all_tokens (cut-run text) ∙ go (run_length text) text some nonempty
   where
     go : (n : ℕ) (t : List ℕ) → 0 < n → 0 < length t → closed_run (take n t) (tokens (drop (run_length text) text)) ≡ token_of (take n t) ∷ tokens (drop (run_length text) text)
-    go zero t h k = absurd (omega (arith, h))
-    go (suc n) [] h k = absurd (omega (arith, k))
-    go (suc n) (b ∷ bs) h k = refl
+    go n t h h2 = grind arith
 
 -- the byte behind a run can't be part of a character
 pub run_end : (text : List ℕ) → IsCharBoundary text (run_length text)
@@ -98,12 +95,7 @@ run_end text = go (run_place text)
 
     run_place : (t : List ℕ) → (run_length t ≤ length t) × (run_length t < length t → get_or t (run_length t) 0 < 128)
     run_place [] = (omega arith, λ h. absurd (omega (arith, h)))
-    run_place (b ∷ bs) = at (ends_run b) refl (run_place bs)
-      where
-        at : (t : Bool) → ends_run b ≡ t → (run_length bs ≤ length bs) × (run_length bs < length bs → get_or bs (run_length bs) 0 < 128)
-            → (cond t 0 (suc (run_length bs)) ≤ length (b ∷ bs)) × (cond t 0 (suc (run_length bs)) < length (b ∷ bs) → get_or (b ∷ bs) (cond t 0 (suc (run_length bs))) 0 < 128)
-        at true e h = (omega arith, λ k. ascii b e)
-        at false e h = (omega (arith, h.0), λ k. h.1 (omega (arith, k)))
+    run_place (b ∷ bs) = grind (arith, ascii, run_place bs)
 
     go : (run_length text ≤ length text) × (run_length text < length text → get_or text (run_length text) 0 < 128) → IsCharBoundary text (run_length text)
     go h = (h.0, λ below high. absurd (omega (arith, h.1 below, high)))
@@ -114,10 +106,7 @@ begins_run [] h e f g = absurd (omega (arith, h))
 begins_run (b ∷ bs) h e f g = go (is_blank b) (eqb b 0x28) (eqb b 0x29) e f g
   where
     go : (t o c : Bool) → cond t (suc (blank_count bs)) 0 ≡ 0 → cond o (Some bs) None ≡ None → cond c (Some bs) None ≡ None → 0 < cond (t || (o || c)) 0 (suc (run_length bs))
-    go true o c e f g = absurd (omega (arith, e))
-    go false true c e f g = absurd cc
-    go false false true e f g = absurd cc
-    go false false false e f g = omega arith
+    go t o c h h2 h3 = grind arith
 
 -- ---- parentheses in front
 

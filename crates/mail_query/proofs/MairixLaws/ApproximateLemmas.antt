@@ -1,11 +1,5 @@
 -- How the test for an approximate match goes over a text, and what passes it.
-use Rattle.std.proofs.Common.{◌≡◌, ℕ, suc, ◌≤◌, Bool, true, false, ◌||◌, ◌&&◌, eqb, List, [], ◌∷◌, ◌++◌, length, refl, sym, subst, arith}
-use Rattle.std.specs.List.{list_all}
-use Rattle.std.specs.Char.{is_ascii_digit}
-use Rattle.std.proofs.lemmas.Bool.{eqb-true, and_parts, and_from, or_left, or_right}
-use Rattle.mail_query.specs.Pieces.{is_nonempty}
-use Rattle.mail_query.specs.Mairix.{is_approximate}
-use Rattle.mail_query.specs.MairixFaults.{IsApproximate, Digits}
+use Rattle.mail_query.proofs.Words.{◌≡◌, ℕ, suc, ◌≤◌, Bool, true, false, ◌||◌, ◌&&◌, eqb, List, [], ◌∷◌, ◌++◌, length, refl, sym, subst, arith, list_all, is_ascii_digit, eqb-true, and_parts, and_from, or_left, or_right, is_nonempty, is_approximate, IsApproximate, Digits}
 
 -- an `=` stood before and digits alone since, of which there was one or more, or none
 abbrev pub approximate_behind : Bool → Bool → List ℕ → Bool
@@ -18,12 +12,10 @@ nonempty b bs = let e : eqb (suc (length bs)) 0 ≡ false = grind arith in rw e 
 -- ---- what is approximate has an `=`, and digits behind it
 
 filled : (bs : List ℕ) → is_nonempty bs ≡ true → 1 ≤ length bs
-filled [] h = absurd cc
-filled (b ∷ bs) h = omega arith
+filled bs h = grind arith
 
 nonempty_of : (bs : List ℕ) → 1 ≤ length bs → is_nonempty bs ≡ true
-nonempty_of [] h = absurd (omega (arith, h))
-nonempty_of (b ∷ bs) h = nonempty b bs
+nonempty_of bs h = grind (arith, nonempty)
 
 marked_behind : (b : ℕ) (bs : List ℕ) → IsApproximate bs → IsApproximate (b ∷ bs)
 marked_behind b bs (Digits front digits some only) = Digits (b ∷ front) digits some only
@@ -42,9 +34,7 @@ approximate_is (b ∷ bs) e = go (eqb b 0x3D && (is_nonempty bs && list_all is_a
 
 marked : (front digits : List ℕ) → 1 ≤ length digits → list_all is_ascii_digit digits ≡ true → is_approximate (front ++ 0x3D ∷ digits) ≡ true
 marked [] digits some only = or_left (is_nonempty digits && list_all is_ascii_digit digits) (is_approximate digits) (and_from (is_nonempty digits) (list_all is_ascii_digit digits) (nonempty_of digits some) only)
-marked (b ∷ front) digits some only =
-    let rest : List ℕ = front ++ 0x3D ∷ digits in
-    or_right (eqb b 0x3D && (is_nonempty rest && list_all is_ascii_digit rest)) (is_approximate rest) (marked front digits some only)
+marked (b ∷ front) digits some only = grind (arith, or_right, marked front digits some only)
 
 pub is_marked : (text : List ℕ) → IsApproximate text → is_approximate text ≡ true
 is_marked text (Digits front digits some only) = marked front digits some only

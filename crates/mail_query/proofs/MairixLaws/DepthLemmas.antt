@@ -1,12 +1,6 @@
 -- How deep the queries of patterns are.
-use Rattle.std.proofs.Common.{ℕ, suc, ◌≤◌, List, [], ◌∷◌, arith}
-use Rattle.mail_query.specs.Query.{Query, depth, deepest, members_of, all_of, either_of}
-use Rattle.mail_query.specs.SizeGrammar.{IsSizes, Between}
+use Rattle.mail_query.proofs.Words.{ℕ, suc, ◌≤◌, List, [], ◌∷◌, arith, Query, depth, deepest, members_of, all_of, either_of, IsSizes, Between, AreFlags, IsFlags, EachFlag, Lexicon, Forms, Separated, Alone, Before, IsAtom, IsTerm, IsAll, EachTerm, IsRest, SomeAll, IsPattern, ArePatterns, Only, AndAlso, IsAsked, EachPattern}
 use Rattle.mail_query.specs.FlagGrammar as flags
-use Rattle.mail_query.specs.FlagGrammar.{AreFlags, IsFlags, EachFlag}
-use Rattle.mail_query.specs.Lexicon.{Lexicon}
-use Rattle.mail_query.specs.Mairix.{Forms, id_forms, word_forms, plain_kinds}
-use Rattle.mail_query.specs.MairixGrammar.{kinds_named, Separated, Alone, Before, IsAtom, WholeWord, PartOfWord, FrontOfWord, IsTerm, Wanted, Unwanted, IsAll, EachTerm, IsRest, SomeAll, IsPattern, Plain, InKinds, OfId, OfDate, OfSize, OfFlags, ArePatterns, Only, AndAlso, IsAsked, EachPattern}
 
 -- each has at most so many levels
 unfoldable pub AreShallow : ℕ → List Query → Type 0
@@ -40,13 +34,10 @@ separated_shallow n sign Asks one text qs (Before t rest q more a s) = (one t q 
 
 module _ (forms : Forms) where
   atom_depth : (text : List ℕ) (q : Query) → IsAtom forms text q → depth q ≤ 1
-  atom_depth text q (WholeWord word sought e) = omega arith
-  atom_depth text q (PartOfWord sub sought e) = omega arith
-  atom_depth text q (FrontOfWord sub sought e) = omega arith
+  atom_depth text q h = grind arith
 
   term_depth : (text : List ℕ) (q : Query) → IsTerm forms text q → depth q ≤ 2
-  term_depth text q (Wanted atom asked a) = omega (arith, atom_depth atom asked a)
-  term_depth text q (Unwanted atom asked a) = omega (arith, atom_depth atom asked a)
+  term_depth text q h = grind (arith, atom_depth)
 
   all_depth : (text : List ℕ) (q : Query) → IsAll forms text q → depth q ≤ 3
   all_depth text q (EachTerm t qs s) = depth-all_of 2 qs (separated_shallow 2 0x2C (IsTerm forms) term_depth t qs s)
@@ -68,12 +59,7 @@ flag_depth text q (EachFlag t first more f) = omega (arith, depth-all_of 1 (firs
 
 module _ (lexicon : Lexicon) where
   pattern_depth : (text : List ℕ) (q : Query) → IsPattern lexicon text q → depth q ≤ 4
-  pattern_depth text q (Plain rest asked free r) = rest_depth (word_forms lexicon plain_kinds) rest asked r
-  pattern_depth text q (InKinds letters rest asked are r) = rest_depth (word_forms lexicon (kinds_named letters)) rest asked r
-  pattern_depth text q (OfId rest asked r) = rest_depth id_forms rest asked r
-  pattern_depth text q (OfDate dates range e) = omega arith
-  pattern_depth text q (OfSize sizes asked s) = size_depth sizes asked s
-  pattern_depth text q (OfFlags letters asked f) = flag_depth letters asked f
+  pattern_depth text q h = grind (arith, rest_depth, size_depth, flag_depth)
 
   patterns_shallow : (patterns : List (List ℕ)) (qs : List Query) → ArePatterns lexicon patterns qs → AreShallow 4 qs
   unfolding AreShallow

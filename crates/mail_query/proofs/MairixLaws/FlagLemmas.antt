@@ -1,16 +1,7 @@
 -- How flags are read letter by letter, which is as their grammar says.
-use Rattle.std.proofs.Common.{◌≡◌, ℕ, ◌+◌, ◌<◌, Bool, true, false, eqb, List, [], ◌∷◌, ◌++◌, length, get_or, drop, Option, None, Some, Ok, Err, option_map, refl, sym, ap, ◌∙◌, append_assoc, append-nil, arith, add-one, drop-cons, inl, inr, not, cond, subst}
-use Rattle.std.specs.Prelude.{option_and_then, ◌⊎◌}
-use Rattle.std.proofs.lemmas.List.{drop_all}
-use Rattle.mail_words.specs.declared.flags.Flag.{Flag}
-use Rattle.mail_query.specs.declared.fault.QueryFaultKind.TheVariants.{BadFlag}
-use Rattle.mail_query.specs.Query.{Query, HasFlag, all_of}
-use Rattle.mail_query.specs.Flags.{flag_of, with_flag, flags_behind, flags_of, some_of}
-use Rattle.mail_query.specs.Mairix.{flags_query}
-use Rattle.std.proofs.lemmas.Bool.{eqb-true, false_from_ne_true}
-use Rattle.std.proofs.lemmas.Option.{none-some, option_and_then_some}
+use Rattle.mail_query.proofs.Words.{◌≡◌, ℕ, ◌+◌, ◌<◌, Bool, true, false, eqb, List, [], ◌∷◌, ◌++◌, length, get_or, drop, Option, None, Some, Ok, Err, option_map, refl, sym, ap, ◌∙◌, append_assoc, append-nil, arith, add-one, drop-cons, inl, inr, not, cond, subst, option_and_then, ◌⊎◌, drop_all, Flag, BadFlag, Query, HasFlag, all_of, flag_of, with_flag, flags_behind, flags_of, some_of, flags_query, eqb-true, false_from_ne_true, none-some, option_and_then_some, AreFlags, NoFlag, IsFlags, EachFlag}
 use Rattle.mail_query.proofs.MairixLaws.SignLemmas.{map_some}
-use Rattle.mail_query.specs.FlagGrammar.{AreFlags, NoFlag, Wanted, Unwanted, IsFlags, EachFlag}
+use Rattle.mail_query.specs.FlagGrammar.{Wanted, Unwanted}
 
 -- these flags, before those to come
 abbrev pub with_flags : List Query → Option (List Query) → Option (List Query)
@@ -24,18 +15,12 @@ next : (text : List ℕ) (i : ℕ) → i < length text → drop i text ≡ get_o
 next text i h = drop-cons text i 0 h ∙ ap (λ k. get_or text i 0 ∷ drop k text) (sym (add-one i))
 
 pub reads_none : (text : List ℕ) (qs : List Query) → qs ≡ [] → HasRead text qs true 0
-reads_none text qs e = record { whole = rw e (same (flags_behind true text)) }
-  where
-    same : (o : Option (List Query)) → with_flags [] o ≡ o
-    same None = refl
-    same (Some qs) = refl
+reads_none text qs e = grind arith
 
 -- a dash in front
 at_dash : (text : List ℕ) (qs : List Query) (wanted w : Bool) (i : ℕ) → HasRead text qs wanted i → wanted ≡ w → i < length text → get_or text i 0 ≡ 0x2D
     → with_flags qs (flags_behind w (0x2D ∷ drop (i + 1) text)) ≡ flags_behind true text
-at_dash text qs wanted w i h e below is =
-    ap (λ x. with_flags qs (flags_behind x (0x2D ∷ drop (i + 1) text))) (sym e)
-    ∙ sym (ap (λ bs. with_flags qs (flags_behind wanted bs)) (next text i below ∙ ap (λ b. b ∷ drop (i + 1) text) is)) ∙ h.whole
+at_dash text qs wanted w i h e below is = grind (arith, next)
 
 pub dash_read : (text : List ℕ) (qs : List Query) (wanted : Bool) (i : ℕ) → HasRead text qs wanted i → wanted ≡ true → i < length text → get_or text i 0 ≡ 0x2D → HasRead text qs false (i + 1)
 dash_read text qs wanted i h e below is = record { whole = at_dash text qs wanted true i h e below is }
@@ -45,40 +30,20 @@ at_letter wanted b bs e = rw e refl
 
 pub reads_letter : (text : List ℕ) (qs : List Query) (wanted : Bool) (i : ℕ) (flag : Flag) → HasRead text qs wanted i → i < length text
     → eqb (get_or text i 0) 0x2D ≡ false → flag_of (get_or text i 0) ≡ Some flag → HasRead text (qs ++ HasFlag flag wanted ∷ []) true (i + 1)
-reads_letter text qs wanted i flag h below other is =
-    let b = get_or text i 0 in
-    let rest = flags_behind true (drop (i + 1) text) in
-    record {
-      whole = joined qs (HasFlag flag wanted) rest
-          ∙ sym (ap (λ o. with_flags qs (option_and_then (λ f. option_map (λ (xs : List Query). HasFlag f wanted ∷ xs) rest) o)) is)
-          ∙ sym (ap (with_flags qs) (at_letter wanted b (drop (i + 1) text) other))
-          ∙ sym (ap (λ bs. with_flags qs (flags_behind wanted bs)) (next text i below))
-          ∙ h.whole;
-    }
-  where
-    joined : (front : List Query) (q : Query) (o : Option (List Query)) → with_flags (front ++ q ∷ []) o ≡ with_flags front (option_map (λ (qs : List Query). q ∷ qs) o)
-    joined front q None = refl
-    joined front q (Some qs) = ap Some (append_assoc front (q ∷ []) qs)
+reads_letter text qs wanted i flag h below other is = grind (arith, option_map, at_letter, next, append_assoc)
 
 pub no_letter : (text : List ℕ) (qs : List Query) (wanted : Bool) (i : ℕ) → HasRead text qs wanted i → i < length text
     → eqb (get_or text i 0) 0x2D ≡ false → flag_of (get_or text i 0) ≡ None → flags_behind true text ≡ None
-no_letter text qs wanted i h below other is =
-    let b = get_or text i 0 in
-    let rest = flags_behind true (drop (i + 1) text) in
-    sym h.whole ∙ ap (λ bs. with_flags qs (flags_behind wanted bs)) (next text i below)
-    ∙ ap (with_flags qs) (at_letter wanted b (drop (i + 1) text) other)
-    ∙ ap (λ o. with_flags qs (option_and_then (λ f. option_map (λ (xs : List Query). HasFlag f wanted ∷ xs) rest) o)) is
+no_letter text qs wanted i h below other is = grind (arith, next, at_letter, option_map)
 
 at_end : (text : List ℕ) (i : ℕ) → length text ≡ i → drop i text ≡ []
 at_end text i e = drop_all i text (omega (arith, e))
 
 pub reads_all : (text : List ℕ) (qs : List Query) (i : ℕ) → HasRead text qs true i → length text ≡ i → flags_behind true text ≡ Some qs
-reads_all text qs i h e =
-    sym h.whole ∙ ap (λ bs. with_flags qs (flags_behind true bs)) (at_end text i e) ∙ ap Some (append-nil qs)
+reads_all text qs i h e = grind (arith, at_end, append-nil)
 
 pub no_last_letter : (text : List ℕ) (qs : List Query) (i : ℕ) → HasRead text qs false i → length text ≡ i → flags_behind true text ≡ None
-no_last_letter text qs i h e =
-    sym h.whole ∙ ap (λ bs. with_flags qs (flags_behind false bs)) (at_end text i e)
+no_last_letter text qs i h e = grind (arith, at_end)
 
 -- ---- what the whole text asks
 
@@ -141,10 +106,7 @@ record Named (wanted : Bool) (letter : ℕ) (rest : Option (List Query)) (qs : L
   queries : qs ≡ HasFlag flag wanted ∷ more
 
 with_flag_is : (wanted : Bool) (letter : ℕ) (rest : Option (List Query)) (qs : List Query) → with_flag wanted letter rest ≡ Some qs → Named wanted letter rest qs
-with_flag_is wanted letter rest qs e =
-    option_and_then_some (λ flag. option_map (λ (xs : List Query). HasFlag flag wanted ∷ xs) rest) (flag_of letter) qs e (λ flag h k.
-    let m = map_some (λ (xs : List Query). HasFlag flag wanted ∷ xs) rest qs k in
-    record { flag = flag; more = m.0; named = h; behind = m.1; queries = sym m.2 })
+with_flag_is wanted letter rest qs e = grind (arith, option_and_then_some, option_map, map_some)
 
 record Read (text : List ℕ) : Type 0 where
   wanted : (qs : List Query) → flags_behind true text ≡ Some qs → AreFlags text qs
@@ -164,10 +126,7 @@ read_are (b ∷ bs) = record { wanted = λ qs e. first qs (eqb b 0x2D) refl e (r
         subst (AreFlags (b ∷ bs)) (sym n.queries) (Wanted b n.flag bs n.more n.named (r.wanted n.more n.behind))
 
     behind : (qs : List Query) (t : Bool) → eqb b 0x2D ≡ t → cond {A = Option (List Query)} t None (with_flag false b (flags_behind (not t) bs)) ≡ Some qs → Read bs → Behind (b ∷ bs) qs
-    behind qs true h e r = absurd cc
-    behind qs false h e r =
-        let n = with_flag_is false b (flags_behind true bs) qs e in
-        record { letter = b; flag = n.flag; rest = bs; more = n.more; named = n.named; text_is = refl; queries = n.queries; flags = r.wanted n.more n.behind }
+    behind qs t h h2 h3 = grind arith
 
 pub read_flags : (text : List ℕ) (q : Query) → flags_of text ≡ Some q → IsFlags text q
 unfolding flags_of

@@ -1,29 +1,9 @@
 -- What is read of patterns: an answer is what the grammar relates, and a refusal is the first fault.
-use Rattle.std.proofs.Common.{◌≡◌, ℕ, suc, ◌+◌, ◌<◌, true, false, List, [], ◌∷◌, ◌++◌, length, Option, None, Some, option_map, Result, Ok, Err, inl, inr, refl, sym, ap, subst, ◌∙◌, arith, IsUtf8}
-use Rattle.std.specs.Prelude.{◌⊎◌, bytes_eq, codes, ok_or}
-use Rattle.std.specs.Option.{option_or}
-use Rattle.std.specs.Result.{MatchResult}
-use Rattle.std.specs.List.{All, slice_split, join_with_byte}
-use Rattle.std.proofs.lemmas.Bool.{both_ways, cond_both}
-use Rattle.std.proofs.lemmas.List.Elements.{All-nil, All-cons, All-head, All-tail}
+use Rattle.mail_query.proofs.Words.{◌≡◌, ℕ, suc, ◌+◌, ◌<◌, true, false, List, [], ◌∷◌, ◌++◌, length, Option, None, Some, option_map, Result, Ok, Err, inl, inr, refl, sym, ap, subst, ◌∙◌, arith, IsUtf8, ◌⊎◌, bytes_eq, codes, ok_or, option_or, MatchResult, All, slice_split, join_with_byte, both_ways, cond_both, All-nil, All-cons, All-head, All-tail, none-some, option_and_then_some, MatchResult-weaker, bytes_eq-Decides, ◌>>=◌, with_front, fault_as, QueryFault, QueryFaultKind, BadWord, BadPrefix, BadDate, BadSize, BadFlag, Approximate, Kinds, is_byte, cut, without_first, without_last, Lexicon, Query, Word, Part, Prefix, Date, Not, all_of, either_of, sizes_of, flags_of, Forms, plain_kinds, kinds_of, is_approximate, id_forms, word_forms, each_read, part_query, prefix_query, marked_query, found_query, atom_query, term_query, all_query, rest_query, prefixed_query, pattern_query, patterns_from, patterns_query, Separated, Alone, Before, IsAtom, WholeWord, PartOfWord, FrontOfWord, IsTerm, Wanted, Unwanted, IsAll, EachTerm, IsRest, SomeAll, IsPattern, Plain, InKinds, ArePatterns, Only, AndAlso, IsAsked, EachPattern, HasNoSigns, IsFirstOf, Behind, IsAtomFault, AsksApproximately, HasNoForm, IsTermFault, InWanted, InUnwanted, IsAllFault, InTerm, IsRestFault, InAll, IsPatternPrefix, OfKinds, IsPatternFault, HasNoPrefix, InPlain, InWords, InId, HasNoDate, HasNoSize, HasNoFlags, IsFirstFault, HasNone, InPattern}
 use Rattle.std.proofs.lemmas.List.Splits.{length-slice_split, join_with_byte-slice_split}
-use Rattle.std.proofs.lemmas.Option.{none-some, option_and_then_some}
-use Rattle.std.proofs.lemmas.Result.{MatchResult-weaker}
-use Rattle.std.proofs.lemmas.Slice.Eq.{bytes_eq-Decides}
-use Rattle.contract_words.specs.Answers.{◌>>=◌, with_front, fault_as}
-use Rattle.mail_query.specs.declared.fault.QueryFault.{QueryFault}
-use Rattle.mail_query.specs.declared.fault.QueryFaultKind.{QueryFaultKind}
-use Rattle.mail_query.specs.declared.fault.QueryFaultKind.TheVariants.{BadWord, BadPrefix, BadDate, BadSize, BadFlag, Approximate}
-use Rattle.mail_query.specs.declared.kinds.Kinds.{Kinds}
-use Rattle.mail_query.specs.Pieces.{is_byte, cut, without_first, without_last}
-use Rattle.mail_query.specs.Lexicon.{Lexicon}
-use Rattle.mail_query.specs.Query.{Query, Word, Part, Prefix, Date, Not, all_of, either_of}
-use Rattle.mail_query.specs.Sizes.{sizes_of}
-use Rattle.mail_query.specs.Flags.{flags_of}
-use Rattle.mail_query.specs.Mairix.{Forms, plain_kinds, kinds_of, is_approximate, id_forms, word_forms, each_read, word_query, part_query, prefix_query, marked_query, found_query, atom_query, term_query, all_query, rest_query, prefixed_query, pattern_query, patterns_from, patterns_query}
+use Rattle.mail_query.specs.Mairix.{word_query}
 use Rattle.mail_query.specs.MairixGrammar as grammar
-use Rattle.mail_query.specs.MairixGrammar.{Separated, Alone, Before, IsAtom, WholeWord, PartOfWord, FrontOfWord, IsTerm, Wanted, Unwanted, IsAll, EachTerm, IsRest, SomeAll, IsPattern, Plain, InKinds, ArePatterns, Only, AndAlso, IsAsked, EachPattern, HasNoSigns}
-use Rattle.mail_query.specs.MairixFaults.{IsFirstOf, Behind, IsAtomFault, AsksApproximately, HasNoForm, IsTermFault, InWanted, InUnwanted, IsAllFault, InTerm, IsRestFault, InAll, IsPatternPrefix, OfKinds, OfId, OfDate, OfSize, OfFlags, IsPatternFault, HasNoPrefix, InPlain, InWords, InId, HasNoDate, HasNoSize, HasNoFlags, IsFirstFault, HasNone, InPattern}
+use Rattle.mail_query.specs.MairixFaults.{OfId, OfDate, OfSize, OfFlags}
 use Rattle.mail_query.proofs.PieceLemmas.{without_first-same, Free}
 use Rattle.mail_query.proofs.MairixLaws.ApproximateLemmas.{approximate_is, is_marked}
 use Rattle.mail_query.proofs.MairixLaws.EachLemmas.{at_number, unnumbered, numbered_read, each_numbered, patterns_numbered}
@@ -37,21 +17,17 @@ use Rattle.mail_query.proofs.MairixLaws.MairixComplete.{PlainForms, id_plain, wo
 
 then_answers : {A B E : Type 0} (r : Result A E) (f : A → B) {P : A → Type 0} {Q : E → Type 0} (P' : B → Type 0) (Q' : E → Type 0)
     → MatchResult r P Q → ((x : A) → P x → P' (f x)) → ((e : E) → Q e → Q' e) → MatchResult (r >>= (λ x. Ok (f x))) P' Q'
-then_answers (Ok x) f P' Q' h p q = p x h
-then_answers (Err e) f P' Q' h p q = q e h
+then_answers r f P' Q' h h2 h3 = grind arith
 
 ok_or_answers : (o : Option Query) (kind : QueryFaultKind) (P : Query → Type 0) (Q : QueryFaultKind → Type 0)
     → ((q : Query) → o ≡ Some q → P q) → (o ≡ None → Q kind) → MatchResult (ok_or o kind) P Q
-ok_or_answers None kind P Q some none = none refl
-ok_or_answers (Some q) kind P Q some none = some q refl
+ok_or_answers o kind P Q h h2 = grind arith
 
 or_some : {A : Type 0} (o p : Option A) (x : A) → option_or o p ≡ Some x → (o ≡ Some x) ⊎ (p ≡ Some x)
-or_some None p x e = inr e
-or_some (Some y) p x e = inl e
+or_some o p x h = grind arith
 
 unmapped : {A B : Type 0} (f : A → B) (o : Option A) → option_map f o ≡ None → o ≡ None
-unmapped f None h = refl
-unmapped f (Some x) h = absurd cc
+unmapped f o h = grind arith
 
 -- ---- several texts, one after another
 

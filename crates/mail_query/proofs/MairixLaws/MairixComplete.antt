@@ -1,21 +1,5 @@
 -- What the grammar of patterns relates is what is read.
-use Rattle.std.proofs.Common.{◌≡◌, ℕ, ◌+◌, ◌<◌, true, false, eqb, List, [], ◌∷◌, ◌++◌, Option, None, Some, Result, Ok, ap, refl, sym, ◌∙◌, arith, IsUtf8}
-use Rattle.std.specs.Prelude.{◌&&◌, bytes_eq, codes, ok_or}
-use Rattle.std.specs.List.{list_any, list_all, slice_split, All}
-use Rattle.std.proofs.lemmas.Bool.{and_parts, or_from, not-true, both_ways, false_from_ne_true}
-use Rattle.std.proofs.lemmas.List.Elements.{All-head, All-tail}
-use Rattle.std.proofs.lemmas.Option.{cond_some, none-some}
-use Rattle.std.proofs.lemmas.Slice.Eq.{bytes_eq-Decides}
-use Rattle.contract_words.specs.Answers.{◌>>=◌, with_front, fault_as}
-use Rattle.mail_query.specs.declared.fault.QueryFault.{QueryFault}
-use Rattle.mail_query.specs.declared.fault.QueryFaultKind.{QueryFaultKind}
-use Rattle.mail_query.specs.declared.fault.QueryFaultKind.TheVariants.{BadSize, BadFlag}
-use Rattle.mail_query.specs.declared.kinds.Kinds.{Kinds}
-use Rattle.mail_query.specs.Pieces.{is_byte, without_angles, is_nonempty}
-use Rattle.mail_query.specs.Lexicon.{Lexicon}
-use Rattle.mail_query.specs.Query.{Query, Not, all_of, either_of}
-use Rattle.mail_query.specs.Mairix.{Forms, plain_kinds, kinds_of, is_sign, is_id, id_forms, word_forms, each_read, atom_query, term_query, all_query, rest_query, prefixed_query, pattern_query, patterns_from, patterns_query}
-use Rattle.mail_query.specs.MairixGrammar.{is_among, kinds_named, Separated, Alone, Before, IsAtom, WholeWord, PartOfWord, FrontOfWord, IsTerm, Wanted, Unwanted, IsAll, EachTerm, IsRest, SomeAll, IsPattern, Plain, InKinds, OfId, OfDate, OfSize, OfFlags, ArePatterns, Only, AndAlso, IsAsked, EachPattern, HasNoSigns}
+use Rattle.mail_query.proofs.Words.{◌≡◌, ℕ, ◌+◌, ◌<◌, true, false, eqb, List, [], ◌∷◌, ◌++◌, Option, None, Some, Result, Ok, ap, refl, ◌∙◌, arith, IsUtf8, bytes_eq, codes, ok_or, list_any, list_all, slice_split, All, and_parts, or_from, not-true, both_ways, false_from_ne_true, All-head, All-tail, cond_some, none-some, bytes_eq-Decides, ◌>>=◌, with_front, fault_as, QueryFaultKind, BadSize, BadFlag, Kinds, is_byte, is_nonempty, Lexicon, Query, Not, all_of, Forms, plain_kinds, kinds_of, is_sign, is_id, id_forms, word_forms, each_read, atom_query, term_query, all_query, rest_query, prefixed_query, pattern_query, patterns_from, patterns_query, is_among, kinds_named, Separated, Alone, Before, IsAtom, WholeWord, PartOfWord, FrontOfWord, IsTerm, Wanted, Unwanted, IsAll, EachTerm, IsRest, SomeAll, IsPattern, Plain, InKinds, OfId, OfDate, OfSize, OfFlags, ArePatterns, Only, AndAlso, IsAsked, EachPattern, HasNoSigns}
 use Rattle.mail_query.proofs.PieceLemmas.{other_byte, without_last-same, none_unless, Free, cut_none, cut_at}
 use Rattle.mail_query.proofs.MairixLaws.EachLemmas.{at_number}
 use Rattle.mail_query.proofs.MairixLaws.KindLemmas.{letters_read}
@@ -28,9 +12,7 @@ use Rattle.mail_query.proofs.MairixLaws.SignLemmas.{any-append, any-behind, free
 pub separated_read : (sign : ℕ) (Asks : List ℕ → Query → Type 0) (read : List ℕ → Result Query QueryFaultKind) → sign < 128
     → ((text : List ℕ) (q : Query) → Asks text q → IsUtf8 text → (read text ≡ Ok q) × Free sign text)
     → (text : List ℕ) (qs : List Query) → Separated sign Asks text qs → IsUtf8 text → each_read read (slice_split (is_byte sign) text) ≡ Ok qs
-separated_read sign Asks read below one text qs (Alone t q a) utf8 =
-    let h = one t q a utf8 in
-    ap (each_read read) (split_none sign t h.1) ∙ ap (λ (r : Result Query QueryFaultKind). r >>= (λ x. with_front (x ∷ []) (Ok []))) h.0
+separated_read sign Asks read below one text qs (Alone t q a) utf8 = grind (arith, split_none)
 separated_read sign Asks read below one text qs (Before t rest q more a s) utf8 =
     let h = one t q a (utf8_before t rest sign below utf8) in
     let k = separated_read sign Asks read below one rest more s (utf8_behind t rest sign below utf8) in
@@ -68,9 +50,7 @@ module _ (forms : Forms) (plain : PlainForms forms) where
   marked_free sub h c sign differs = any-append (is_byte c) sub (0x3D ∷ []) (free_of c sub sign h) (or_from (eqb 0x3D c) false differs refl)
 
   pub atom_read : (text : List ℕ) (q : Query) → IsAtom forms text q → IsUtf8 text → AtomRead text q
-  atom_read text q (WholeWord word sought e) utf8 =
-      let h = plain.words word sought utf8 e in
-      record { read = rw (not_approximate word h, e) refl; free = λ c sign front mark. free_of c word sign h }
+  atom_read text q (WholeWord word sought e) utf8 = grind (arith, not_approximate, free_of)
   atom_read text q (PartOfWord sub sought e) utf8 =
       let h = plain.parts sub sought (utf8_before sub [] 0x3D (omega arith) utf8) e in
       record {
@@ -99,9 +79,7 @@ module _ (forms : Forms) (plain : PlainForms forms) where
     pub slash : Free 0x2F text
 
   pub term_read : (text : List ℕ) (q : Query) → IsTerm forms text q → IsUtf8 text → TermRead text q
-  term_read text q (Wanted atom asked a) utf8 =
-      let h = atom_read atom asked a utf8 in
-      record { read = rw (first_free 0x7E atom (h.free 0x7E refl refl refl), term_query) h.read; comma = h.free 0x2C refl refl refl; slash = h.free 0x2F refl refl refl }
+  term_read text q (Wanted atom asked a) utf8 = grind (arith, atom_read, first_free)
   term_read text q (Unwanted atom asked a) utf8 =
       let h = atom_read atom asked a (utf8_behind [] atom 0x7E (omega arith) utf8) in
       record { read = ap (λ (r : Result Query QueryFaultKind). r >>= (λ x. Ok (Not x))) h.read; comma = h.free 0x2C refl refl refl; slash = h.free 0x2F refl refl refl }
@@ -114,9 +92,7 @@ module _ (forms : Forms) (plain : PlainForms forms) where
   )
 
   pub rest_read : (text : List ℕ) (q : Query) → IsRest forms text q → IsUtf8 text → rest_query forms text ≡ Ok q
-  rest_read text q (SomeAll t qs s) utf8 =
-      ap (λ (r : Result (List Query) QueryFaultKind). r >>= (λ xs. Ok (either_of xs)))
-      (separated_read 0x2F (IsAll forms) (all_query forms) (omega arith) all_read t qs s utf8)
+  rest_read text q (SomeAll t qs s) utf8 = grind (arith, separated_read, all_read)
 
 -- ---- patterns
 
@@ -124,26 +100,15 @@ id_unsigned : (text : List ℕ) → is_id text ≡ true → list_any is_sign tex
 id_unsigned text h = let parts = and_parts (is_nonempty text) _ h in not-true (list_any is_sign text) parts.1
 
 pub id_plain : PlainForms id_forms
-id_plain = record {
-  words = λ text sought utf8 e.
-      let both = cond_some (is_id text && is_nonempty (without_angles text)) (without_angles text) sought e in
-      let parts = and_parts (is_id text) (is_nonempty (without_angles text)) both.0 in
-      id_unsigned text parts.0;
-  parts = λ text sought utf8 e. let test = cond_some (is_id text) text sought e in id_unsigned text test.0;
-}
+id_plain = grind (arith, cond_some, and_parts, id_unsigned)
 
 module _ (lexicon : Lexicon) (plain : HasNoSigns lexicon) where
   pub word_plain : (kinds : Kinds) → PlainForms (word_forms lexicon kinds)
-  word_plain kinds = record {
-    words = λ text sought utf8 e. let test = cond_some (lexicon.is_word text) (lexicon.folded text) sought e in plain.words text utf8 test.0;
-    parts = λ text sought utf8 e. let test = cond_some (lexicon.is_piece text) (lexicon.folded text) sought e in plain.pieces text utf8 test.0;
-  }
+  word_plain kinds = grind (arith, cond_some)
 
   -- what names kinds is no other prefix
   differs : (letters other : List ℕ) (kinds : Kinds) → kinds_of letters ≡ Some kinds → kinds_of other ≡ None → bytes_eq letters other ≡ false
-  differs letters other kinds e n =
-      let d = bytes_eq-Decides letters other in
-      false_from_ne_true (bytes_eq letters other) (λ h. none-some kinds (sym n ∙ sym (ap kinds_of (d.0 h)) ∙ e))
+  differs letters other kinds e n = grind (arith, bytes_eq-Decides, false_from_ne_true, none-some)
 
   -- letters have no `:`
   pub letters_free : (letters : List ℕ) → list_all (is_among (codes "tcfsban")) letters ≡ true → Free 0x3A letters
@@ -177,9 +142,7 @@ module _ (lexicon : Lexicon) (plain : HasNoSigns lexicon) where
       ∙ ap (with_front (q ∷ [])) (from_read (n + 1) rest more s (All-tail IsUtf8 pattern rest utf8))
 
   first_read : (patterns : List (List ℕ)) (qs : List Query) → ArePatterns lexicon patterns qs → patterns_query lexicon patterns ≡ patterns_from lexicon 1 patterns >>= (λ xs. Ok (all_of xs))
-  first_read patterns qs (Only pattern q a) = refl
-  first_read patterns qs (AndAlso pattern rest q more a s) = refl
+  first_read patterns qs h = grind arith
 
   pub patterns_read : (patterns : List (List ℕ)) (q : Query) → IsAsked lexicon patterns q → All IsUtf8 patterns → patterns_query lexicon patterns ≡ Ok q
-  patterns_read patterns q (EachPattern texts qs s) utf8 =
-      first_read texts qs s ∙ ap (λ (r : Result (List Query) QueryFault). r >>= (λ xs. Ok (all_of xs))) (from_read 1 texts qs s utf8)
+  patterns_read patterns q (EachPattern texts qs s) utf8 = grind (arith, first_read, from_read)

@@ -1,28 +1,7 @@
 -- The grammar of patterns and the reading of them are one, and so are the first fault that they show and what they are refused with.
-use Rattle.std.proofs.Common.{◌≡◌, ℕ, ◌+◌, false, List, [], ◌∷◌, ◌++◌, length, Option, None, option_map, Result, Ok, Err, refl, sym, ap, subst, ◌∙◌, arith, IsUtf8}
-use Rattle.std.specs.Prelude.{◌↔◌, bytes_eq, codes, ok_or}
-use Rattle.std.specs.Result.{result_ok}
-use Rattle.std.specs.List.{All, slice_split}
-use Rattle.std.proofs.lemmas.Bool.{false_from_ne_true}
-use Rattle.std.proofs.lemmas.List.Elements.{All-head, All-tail}
-use Rattle.std.proofs.lemmas.Result.{MatchResult-at_ok, MatchResult-at_err}
-use Rattle.std.proofs.lemmas.Slice.Eq.{bytes_eq-Decides}
-use Rattle.contract_words.specs.Answers.{◌>>=◌, with_front, fault_as}
-use Rattle.mail_dates.specs.declared.range.Range.{Range}
+use Rattle.mail_query.proofs.Words.{◌≡◌, ℕ, ◌+◌, false, List, [], ◌∷◌, ◌++◌, length, Option, None, option_map, Result, Ok, Err, refl, sym, ap, ◌∙◌, arith, IsUtf8, ◌↔◌, bytes_eq, codes, ok_or, result_ok, All, slice_split, false_from_ne_true, All-head, All-tail, MatchResult-at_ok, MatchResult-at_err, bytes_eq-Decides, ◌>>=◌, with_front, fault_as, Range, QueryFault, QueryFaultKind, BadPrefix, BadDate, BadSize, BadFlag, Kinds, is_byte, Lexicon, Query, Date, Not, all_of, sizes_of, flags_of, pattern_lexicon, mairix_query, Forms, kinds_of, is_approximate, id_forms, word_forms, each_read, found_query, atom_query, term_query, all_query, rest_query, prefixed_query, pattern_query, patterns_from, patterns_query, kinds_named, IsTerm, IsPattern, IsAsked, AskNothing, HasNoSigns, IsFirstOf, Behind, IsAtomFault, AsksApproximately, HasNoForm, IsTermFault, InWanted, InUnwanted, IsAllFault, InTerm, IsRestFault, InAll, IsPatternPrefix, OfKinds, IsPatternFault, HasNoPrefix, InPlain, InWords, InId, HasNoDate, HasNoSize, HasNoFlags, IsFirstFault, HasNone, InPattern}
 use Rattle.mail_dates.specs.Ranges.{range_at}
-use Rattle.mail_query.specs.declared.fault.QueryFault.{QueryFault}
-use Rattle.mail_query.specs.declared.fault.QueryFaultKind.{QueryFaultKind}
-use Rattle.mail_query.specs.declared.fault.QueryFaultKind.TheVariants.{BadPrefix, BadDate, BadSize, BadFlag}
-use Rattle.mail_query.specs.declared.kinds.Kinds.{Kinds}
-use Rattle.mail_query.specs.Pieces.{is_byte}
-use Rattle.mail_query.specs.Lexicon.{Lexicon}
-use Rattle.mail_query.specs.Query.{Query, Date, Not, all_of, either_of}
-use Rattle.mail_query.specs.Sizes.{sizes_of}
-use Rattle.mail_query.specs.Flags.{flags_of}
-use Rattle.mail_query.specs.Mail.{pattern_lexicon, mairix_query}
-use Rattle.mail_query.specs.Mairix.{Forms, plain_kinds, kinds_of, is_approximate, id_forms, word_forms, each_read, found_query, atom_query, term_query, all_query, rest_query, prefixed_query, pattern_query, patterns_from, patterns_query}
-use Rattle.mail_query.specs.MairixGrammar.{kinds_named, IsTerm, IsAll, IsPattern, IsAsked, AskNothing, HasNoSigns}
-use Rattle.mail_query.specs.MairixFaults.{IsFirstOf, Behind, IsAtomFault, AsksApproximately, HasNoForm, IsTermFault, InWanted, InUnwanted, IsAllFault, InTerm, IsRestFault, InAll, IsPatternPrefix, OfKinds, OfId, OfDate, OfSize, OfFlags, IsPatternFault, HasNoPrefix, InPlain, InWords, InId, HasNoDate, HasNoSize, HasNoFlags, IsFirstFault, HasNone, InPattern}
+use Rattle.mail_query.specs.MairixFaults.{OfId, OfDate, OfSize, OfFlags}
 use Rattle.mail_query.proofs.PieceLemmas.{without_first-other, none_unless, cut_none, cut_at}
 use Rattle.mail_query.proofs.MairixLaws.ApproximateLemmas.{approximate_is, is_marked}
 use Rattle.mail_query.proofs.MairixLaws.EachLemmas.{at_number, unnumbered, numbered_read, each_numbered, patterns_numbered}
@@ -81,17 +60,12 @@ module _ (forms : Forms) where
         (slice_split (is_byte 0x2C) t) n shown first (split_utf8 0x2C t (omega arith) utf8))
 
     rest_faulty : (text : List ℕ) (kind : QueryFaultKind) → IsRestFault forms text kind → IsUtf8 text → rest_query forms text ≡ Err kind
-    rest_faulty text kind (InAll t n shown first) utf8 =
-        ap (λ (r : Result (List Query) QueryFaultKind). r >>= (λ xs. Ok (either_of xs)))
-        (first_part_faulty (IsAll forms) (IsAllFault forms) (all_query forms) (λ u q a v. let h = all_read forms plain u q a v in h.0) all_faulty
-        (slice_split (is_byte 0x2F) t) n shown first (split_utf8 0x2F t (omega arith) utf8))
+    rest_faulty text kind (InAll t n shown first) utf8 = grind (arith, first_part_faulty, all_read, all_faulty, split_utf8)
 
 -- ---- patterns
 
 other_name : (name known : List ℕ) → ¬ IsPatternPrefix name → IsPatternPrefix known → bytes_eq name known ≡ false
-other_name name known unnamed is =
-    let d = bytes_eq-Decides name known in
-    false_from_ne_true (bytes_eq name known) (λ h. unnamed (subst IsPatternPrefix (sym (d.0 h)) is))
+other_name name known unnamed is = grind (arith, bytes_eq-Decides, false_from_ne_true)
 
 module _ (lexicon : Lexicon) (plain : HasNoSigns lexicon) where
   unprefixed : (name rest : List ℕ) → ¬ IsPatternPrefix name → prefixed_query lexicon name rest ≡ Err BadPrefix
@@ -101,8 +75,7 @@ module _ (lexicon : Lexicon) (plain : HasNoSigns lexicon) where
 
   pattern_faulty : (text : List ℕ) (kind : QueryFaultKind) → IsPatternFault lexicon text kind → IsUtf8 text → pattern_query lexicon text ≡ Err kind
   pattern_faulty text kind (HasNoPrefix name rest free unnamed) utf8 = rw (cut_at 0x3A name rest free, pattern_query) (unprefixed name rest unnamed)
-  pattern_faulty text kind (InPlain rest shown free f) utf8 =
-      rw (cut_none 0x3A rest free, pattern_query) (rest_faulty (word_forms lexicon plain_kinds) (word_plain lexicon plain plain_kinds) rest shown f utf8)
+  pattern_faulty text kind (InPlain rest shown free f) utf8 = grind (arith, cut_none, rest_faulty, word_plain)
   pattern_faulty text kind (InWords letters rest shown are f) utf8 =
       let kinds : Kinds = kinds_named letters in
       rw (cut_at 0x3A letters rest (letters_free lexicon plain letters are.letters), pattern_query)

@@ -1,20 +1,9 @@
 -- The words of mail, and the pieces of them, have no signs of the grammar of patterns.
-use Rattle.std.proofs.Common.{◌≡◌, ℕ, ◌<◌, ◌≤◌, true, false, List, [], ◌∷◌, length, get_or, chars, IsUtf8, Option, inl, inr, refl, sym, ap, ◌∙◌, arith}
-use Rattle.std.specs.Prelude.{◌&&◌, ◌||◌, nat_le}
-use Rattle.std.specs.Char.{is_ascii_alphanumeric}
-use Rattle.std.specs.List.{list_all, list_any}
-use Rattle.std.specs.Str.{NonePass, NoCharPasses}
-use Rattle.std.proofs.lemmas.Bool.{and_parts, and_from, both_ways, false_from_ne_true, agree_below_at, cases_lt}
-use Rattle.std.proofs.lemmas.Bool.Decides.{nat_tests}
-use Rattle.std.proofs.lemmas.Str.{encodes-chars, NoCharPasses-byte}
+use Rattle.mail_query.proofs.Words.{◌≡◌, ℕ, ◌<◌, ◌≤◌, true, false, List, [], ◌∷◌, length, get_or, chars, IsUtf8, Option, inl, inr, refl, sym, ap, ◌∙◌, arith, ◌&&◌, ◌||◌, nat_le, is_ascii_alphanumeric, list_all, list_any, NonePass, NoCharPasses, and_parts, and_from, both_ways, false_from_ne_true, agree_below_at, cases_lt, nat_tests, encodes-chars, NoCharPasses-byte, Range, is_sign, HasNoSigns, mail_lexicon}
 use Rattle.mail_words.specs.Words.{is_joiner, is_one_word, is_part_of_word, word_limit}
 use Rattle.mail_words.proofs.Characters.{is_word_character-ascii}
 use Rattle.mail_words.proofs.OneWord.{is_one_word-parts}
 use Rattle.mail_words.specs.Inside.Runs.{is_piece}
-use Rattle.mail_dates.specs.declared.range.Range.{Range}
-use Rattle.mail_query.specs.Mairix.{is_sign}
-use Rattle.mail_query.specs.MairixGrammar.{HasNoSigns}
-use Rattle.mail_query.specs.Mail.{mail_lexicon}
 use Rattle.mail_query.proofs.PieceLemmas.{none_passes}
 
 sign_below : (b : ℕ) → is_sign b ≡ true → b < 128

@@ -1,13 +1,5 @@
 -- Texts without some byte, and where such a byte cuts them.
-use Rattle.std.proofs.Common.{◌≡◌, ℕ, ◌+◌, ◌<◌, Bool, true, false, cond, eqb, List, [], ◌∷◌, ◌++◌, length, get_or, Option, None, Some, refl, ap, subst, ◌∙◌, arith, length-append, IsUtf8}
-use Rattle.std.specs.Prelude.{option_map}
-use Rattle.std.specs.List.{list_any, slice_split, onto_first}
-use Rattle.std.proofs.Math.Seq.{get_or-append_seam, take-append_seam, drop-append-add}
-use Rattle.std.proofs.lemmas.Bool.{eqb-true, or_parts, or_from, or_left, or_right, both_ways, false_from_ne_true}
-use Rattle.std.proofs.lemmas.Option.{cond_some}
-use Rattle.std.proofs.lemmas.Str.{IsCharBoundary-before_ascii, IsCharBoundary-after_ascii, IsUtf8-take, IsUtf8-drop}
-use Rattle.mail_query.specs.Pieces.{is_byte, cut, without_first, without_last}
-use Rattle.mail_query.specs.Mairix.{is_sign, is_approximate}
+use Rattle.mail_query.proofs.Words.{◌≡◌, ℕ, ◌+◌, ◌<◌, Bool, true, false, cond, eqb, List, [], ◌∷◌, ◌++◌, length, get_or, Option, None, Some, refl, ap, subst, ◌∙◌, arith, length-append, IsUtf8, option_map, list_any, slice_split, onto_first, get_or-append_seam, take-append_seam, drop-append-add, eqb-true, or_parts, or_from, or_left, or_right, both_ways, false_from_ne_true, cond_some, IsCharBoundary-before_ascii, IsCharBoundary-after_ascii, IsUtf8-take, IsUtf8-drop, is_byte, cut, without_first, without_last, is_sign, is_approximate}
 use Rattle.mail_query.proofs.PieceLemmas.{same_byte, Free}
 
 pub any-append : (p : ℕ → Bool) (xs ys : List ℕ) → list_any p xs ≡ false → list_any p ys ≡ false → list_any p (xs ++ ys) ≡ false
@@ -54,26 +46,22 @@ split_at c (b ∷ bs) rest h =
     let parts = or_parts (eqb b c) (list_any (is_byte c) bs) h in rw parts.0 (ap (onto_first b) (split_at c bs rest parts.1))
 
 pub first_free : (c : ℕ) (text : List ℕ) → Free c text → without_first c text ≡ None
-first_free c [] h = refl
-first_free c (b ∷ bs) h = let parts = or_parts (eqb b c) (list_any (is_byte c) bs) h in rw parts.0 refl
+first_free c text h = grind (arith, or_parts)
 
 -- ---- where a text was cut
 
 pub map_some : {A B : Type 0} (f : A → B) (o : Option A) (y : B) → option_map f o ≡ Some y → (x : A) × (o ≡ Some x) × (f x ≡ y)
-map_some f None y e = absurd cc
-map_some f (Some x) y e = (x, refl, cc)
+map_some f o y h = grind arith
 
 pub last_is : (c : ℕ) (text sub : List ℕ) → without_last c text ≡ Some sub → text ≡ sub ++ c ∷ []
 last_is c [] sub e = absurd cc
-last_is c (b ∷ []) sub e =
-    let one = cond_some (eqb b c) [] sub e in ap (λ x. x ∷ []) (eqb-true b c one.0) ∙ ap (λ (t : List ℕ). t ++ c ∷ []) one.1
+last_is c (b ∷ []) sub e = grind (arith, cond_some, eqb-true)
 last_is c (b ∷ d ∷ bs) sub e =
     let m = map_some (λ (t : List ℕ). b ∷ t) (without_last c (d ∷ bs)) sub e in
     ap (λ (t : List ℕ). b ∷ t) (last_is c (d ∷ bs) m.0 m.1) ∙ ap (λ (t : List ℕ). t ++ c ∷ []) m.2
 
 pub first_is : (c : ℕ) (text sub : List ℕ) → without_first c text ≡ Some sub → text ≡ c ∷ sub
-first_is c [] sub e = absurd cc
-first_is c (b ∷ bs) sub e = let same = cond_some (eqb b c) bs sub e in let first = eqb-true b c same.0 in let rest = same.1 in cc
+first_is c text sub h = grind (arith, cond_some, eqb-true)
 
 pub cut_parts : (c : ℕ) (text : List ℕ) (p : List ℕ × List ℕ) → cut c text ≡ Some p → (text ≡ p.0 ++ c ∷ p.1) × Free c p.0
 cut_parts c [] p e = absurd cc
@@ -81,23 +69,11 @@ cut_parts c (b ∷ bs) p e = go (eqb b c) refl e (λ r h. cut_parts c bs r h)
   where
     go : (t : Bool) → eqb b c ≡ t → cond t (Some ([], bs)) (option_map (λ (r : List ℕ × List ℕ). (b ∷ r.0, r.1)) (cut c bs)) ≡ Some p
         → ((r : List ℕ × List ℕ) → cut c bs ≡ Some r → (bs ≡ r.0 ++ c ∷ r.1) × Free c r.0) → (b ∷ bs ≡ p.0 ++ c ∷ p.1) × Free c p.0
-    go true h e k =
-        let s : ([], bs) ≡ p = cc in
-        subst (λ (r : List ℕ × List ℕ). (b ∷ bs ≡ r.0 ++ c ∷ r.1) × Free c r.0) s (ap (λ x. x ∷ bs) (eqb-true b c h), refl)
-    go false h e k =
-        let m = map_some (λ (r : List ℕ × List ℕ). (b ∷ r.0, r.1)) (cut c bs) p e in
-        let rest = k m.0 m.1 in
-        subst (λ (r : List ℕ × List ℕ). (b ∷ bs ≡ r.0 ++ c ∷ r.1) × Free c r.0) m.2 (ap (λ (t : List ℕ). b ∷ t) rest.0, or_from (eqb b c) (list_any (is_byte c) m.0.0) h rest.1)
+    go t h h2 h3 = grind (arith, eqb-true, or_from)
 
 pub uncut_free : (c : ℕ) (text : List ℕ) → cut c text ≡ None → list_any (is_byte c) text ≡ false
 uncut_free c [] e = refl
-uncut_free c (b ∷ bs) e = go (eqb b c) (cut c bs) refl refl e (uncut_free c bs)
-  where
-    go : (t : Bool) (o : Option (List ℕ × List ℕ)) → eqb b c ≡ t → cut c bs ≡ o → cond {A = Option (List ℕ × List ℕ)} t (Some ([], bs)) (option_map (λ (r : List ℕ × List ℕ). (b ∷ r.0, r.1)) o) ≡ None
-        → (cut c bs ≡ None → list_any (is_byte c) bs ≡ false) → list_any (is_byte c) (b ∷ bs) ≡ false
-    go true o h i e k = absurd cc
-    go false None h i e k = or_from (eqb b c) (list_any (is_byte c) bs) h (k i)
-    go false (Some r) h i e k = absurd cc
+uncut_free c (b ∷ bs) e = grind (arith, or_from, uncut_free c bs)
 
 -- ---- both sides of an ASCII byte are texts
 

@@ -1,16 +1,6 @@
 -- How sizes are read, which is as their grammar says.
-use Rattle.std.proofs.Common.{◌≡◌, ℕ, ◌-◌, ◌<◌, List, [], ◌∷◌, ◌++◌, length, Option, Some, None, refl, sym, ap, ◌∙◌, arith, length-append, ◌*◌, ◌≤◌, Bool, true, false, cond, eqb, leb, option_map, subst}
-use Rattle.std.specs.Prelude.{slice_get, option_and_then, ◌&&◌}
-use Rattle.std.specs.List.{IsLastAndRest, list_all, list_any}
-use Rattle.std.proofs.Math.Seq.{get_or-append_seam}
-use Rattle.std.proofs.lemmas.Option.{slice_get-get_or, cond_some, option_and_then_some}
-use Rattle.mail_query.specs.Sizes.{last_byte, before_last_byte, factor_of, scaled, size_with, size_of, size_limit, low_of, high_of, sizes_between, sizes_of}
-use Rattle.std.specs.Char.{is_ascii_digit}
+use Rattle.mail_query.proofs.Words.{◌≡◌, ℕ, ◌-◌, ◌<◌, List, [], ◌∷◌, ◌++◌, length, Option, Some, None, refl, sym, ap, ◌∙◌, arith, length-append, ◌*◌, ◌≤◌, Bool, true, false, eqb, leb, option_map, subst, slice_get, option_and_then, ◌&&◌, IsLastAndRest, list_all, list_any, get_or-append_seam, slice_get-get_or, cond_some, option_and_then_some, last_byte, before_last_byte, factor_of, scaled, size_with, size_of, size_limit, low_of, high_of, sizes_between, sizes_of, is_ascii_digit, leb-true, le-leb, and_parts, and_from, or_from, Query, Size, is_byte, cut, IsNumber, IsSize, InBytes, InUnits, IsLow, FromZero, FromSize, IsHigh, Unbounded, ToSize, IsSizes, Between}
 use Rattle.std.specs.Str.Parse.{digits_value}
-use Rattle.std.proofs.lemmas.Bool.{leb-true, le-leb, and_parts, and_from, or_from}
-use Rattle.mail_query.specs.Query.{Query, Size}
-use Rattle.mail_query.specs.Pieces.{is_byte, cut}
-use Rattle.mail_query.specs.SizeGrammar.{IsNumber, IsSize, InBytes, InUnits, IsLow, FromZero, FromSize, IsHigh, Unbounded, ToSize, IsSizes, Between}
 use Rattle.mail_query.proofs.PieceLemmas.{last_of, before_last, other_byte, Free, cut_at}
 use Rattle.mail_query.proofs.MairixLaws.SignLemmas.{any-append, cut_parts, map_some}
 
@@ -60,23 +50,10 @@ record Scaled (factor : ℕ) (digits : List ℕ) (size : ℕ) : Type 0 where
   size_is : worth digits * factor ≡ size
 
 scaled_is : (factor : ℕ) (digits : List ℕ) (size : ℕ) → scaled factor digits ≡ Some size → Scaled factor digits size
-scaled_is factor digits size e =
-    let test = cond_some ((is_number digits) && (list_all is_ascii_digit digits && leb (worth digits * factor) size_limit)) (worth digits * factor) size e in
-    let parts = and_parts (is_number digits) (list_all is_ascii_digit digits && leb (worth digits * factor) size_limit) test.0 in
-    let long = and_parts (leb 1 (length digits)) (leb (length digits) 18) parts.0 in
-    let rest = and_parts (list_all is_ascii_digit digits) (leb (worth digits * factor) size_limit) parts.1 in
-    record {
-      number = record { some = leb-true 1 (length digits) long.0; few = leb-true (length digits) 18 long.1; digits = rest.0 };
-      small = leb-true (worth digits * factor) size_limit rest.1;
-      size_is = test.1;
-    }
+scaled_is factor digits size e = grind (arith, cond_some, and_parts, leb-true)
 
 number_scaled : (factor : ℕ) (digits : List ℕ) → IsNumber digits → worth digits * factor ≤ size_limit → scaled factor digits ≡ Some (worth digits * factor)
-number_scaled factor digits n small =
-    ap (λ t. cond t (Some (worth digits * factor)) None)
-    (and_from (is_number digits) (list_all is_ascii_digit digits && leb (worth digits * factor) size_limit)
-    (and_from (leb 1 (length digits)) (leb (length digits) 18) (le-leb 1 (length digits) n.some) (le-leb (length digits) 18 n.few))
-    (and_from (list_all is_ascii_digit digits) (leb (worth digits * factor) size_limit) n.digits (le-leb (worth digits * factor) size_limit small)))
+number_scaled factor digits n small = grind (arith, and_from, le-leb)
 
 -- ---- the last byte
 
@@ -118,14 +95,10 @@ read_size (b ∷ bs) size e = go (last_of (b ∷ bs) (omega arith))
             subst (λ (t : List ℕ). IsSize t size) (sym s.2) (subst (IsSize (s.0 ++ s.1 ∷ [])) d.size_is (InUnits s.0 s.1 factor d.number h d.small))
 
 digits_read : (digits : List ℕ) → IsNumber digits → size_of digits ≡ scaled 1 digits
-digits_read [] n = size_of-nothing [] refl
-digits_read (b ∷ bs) n =
-    let s = last_of (b ∷ bs) (omega arith) in
-    size_of-digits (b ∷ bs) s.0 s.1 (last_and_rest (b ∷ bs) s.0 s.1 s.2) (no_unit s.1 (last_digit s.0 s.1 (ap (list_all is_ascii_digit) (sym s.2) ∙ n.digits)))
+digits_read digits h = grind (arith, last_of, size_of-digits, last_and_rest, no_unit, last_digit)
 
 size_read : (text : List ℕ) (size : ℕ) → IsSize text size → size_of text ≡ Some size
-size_read text size (InBytes digits n small) =
-    digits_read digits n ∙ number_scaled 1 digits n (omega (arith, same_worth digits, small)) ∙ ap Some (same_worth digits)
+size_read text size (InBytes digits n small) = grind (arith, digits_read, number_scaled, same_worth)
 size_read text size (InUnits digits letter factor n e small) = size_of-letter (digits ++ letter ∷ []) digits letter factor (last_and_rest (digits ++ letter ∷ []) digits letter refl) e ∙ number_scaled factor digits n small
 
 -- ---- both ends
@@ -140,12 +113,10 @@ unit_differs : (letter factor : ℕ) → factor_of letter ≡ Some factor → eq
 unit_differs letter factor e = other_byte letter 0x2D (λ h. let none : None ≡ Some factor = ap factor_of (sym h) ∙ e in cc)
 
 size_free : (text : List ℕ) (size : ℕ) → IsSize text size → Free 0x2D text
-size_free text size (InBytes digits n small) = digits_free digits n.digits
-size_free text size (InUnits digits letter factor n e small) = any-append (is_byte 0x2D) digits (letter ∷ []) (digits_free digits n.digits) (or_from (eqb letter 0x2D) false (unit_differs letter factor e) refl)
+size_free text size h = grind (arith, digits_free, any-append, or_from, unit_differs)
 
 low_free : (text : List ℕ) (least : ℕ) → IsLow text least → Free 0x2D text
-low_free text least FromZero = refl
-low_free text least (FromSize low size s) = size_free low size s
+low_free text least h = grind (arith, size_free)
 
 nonempty_low : (text : List ℕ) (size : ℕ) → size_of text ≡ Some size → low_of text ≡ Some size
 nonempty_low [] size e = let none : scaled 1 [] ≡ Some size = sym (size_of-nothing [] refl) ∙ e in absurd cc
@@ -156,12 +127,10 @@ nonempty_high [] size e = let none : scaled 1 [] ≡ Some size = sym (size_of-no
 nonempty_high (b ∷ bs) size e = ap (option_map Some) e
 
 low_read : (text : List ℕ) (least : ℕ) → IsLow text least → low_of text ≡ Some least
-low_read text least FromZero = refl
-low_read text least (FromSize low size s) = nonempty_low low size (size_read low size s)
+low_read text least h = grind (arith, nonempty_low, size_read)
 
 high_read : (text : List ℕ) (most : Option ℕ) → IsHigh text most → high_of text ≡ Some most
-high_read text most Unbounded = refl
-high_read text most (ToSize high size s) = nonempty_high high size (size_read high size s)
+high_read text most h = grind (arith, nonempty_high, size_read)
 
 between_read : (low high : List ℕ) (least : ℕ) (most : Option ℕ) → low_of low ≡ Some least → high_of high ≡ Some most → sizes_between low high ≡ Some (Size least most)
 between_read low high least most h k = rw (h, k) refl

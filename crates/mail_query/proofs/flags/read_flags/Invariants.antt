@@ -1,4 +1,4 @@
-use Rattle.mail_query.specs.Query.{queries_of}
+use Rattle.mail_query.proofs.Words.{queries_of}
 use Rattle.mail_query.proofs.MairixLaws.FlagLemmas.{HasRead}
 use Rattle.mail_query.proofs.flags.read_flags.Given as goal
 

@@ -1,6 +1,4 @@
-use Rattle.std.proofs.Common.{◌≡◌, drop}
-use Rattle.mail_query.specs.Kinds.{no_kinds}
-use Rattle.mail_query.specs.Mairix.{kinds_with}
+use Rattle.mail_query.proofs.Words.{◌≡◌, drop, no_kinds, kinds_with}
 use Rattle.mail_query.proofs.mairix.kinds_of.Given as goal
 
 abbrev pub invariant-loop-letter : goal.invariant-loop-letter

@@ -1,13 +1,4 @@
-use Rattle.std.proofs.Common.{◌≡◌, ◌≤◌, ◌<◌, length, map, string_bytes, Ok, Err, sym, ap, ◌∙◌, arith}
-use Rattle.std.proofs.lemmas.List.{length-map}
-use Rattle.std.proofs.lemmas.Bool.Decides.{nat_tests}
-use Rattle.std.proofs.lemmas.Result.{MatchResult-at_ok}
-use Rattle.mail_query.specs.Query.{depth, queries_of, all_of}
-use Rattle.mail_query.specs.Inside.Reading.{followed_by}
-use Rattle.mail_query.specs.Mairix.{pattern_query, patterns_query}
-use Rattle.mail_query.specs.MairixGrammar.{IsAsked}
-use Rattle.mail_query.specs.MairixFaults.{IsFirstFault}
-use Rattle.mail_query.specs.Mail.{pattern_lexicon}
+use Rattle.mail_query.proofs.Words.{◌≡◌, ◌≤◌, ◌<◌, length, map, string_bytes, Ok, Err, arith, length-map, nat_tests, MatchResult-at_ok, depth, queries_of, all_of, followed_by, pattern_query, patterns_query, IsAsked, IsFirstFault, pattern_lexicon}
 use Rattle.mail_query.proofs.MairixLaws.EachLemmas.{at_number, reads_none, refuses, reads_all, patterns_made, adds, unfollowed, numbered_refusal, pattern_here, texts_utf8}
 use Rattle.mail_query.proofs.MairixLaws.DepthLemmas.{asked_depth}
 use Rattle.mail_query.proofs.MairixLaws.MairixAnswers.{patterns_answer}
@@ -15,8 +6,7 @@ use Rattle.mail_query.proofs.MairixLaws.MairixExact.{dates_plain}
 use Rattle.mail_query.proofs.mairix.read_patterns.Goals as goal
 
 pub loop-i-init : goal.loop-i-init
-loop-i-init c =
-    reads_none at_number (pattern_query (pattern_lexicon c.args.now)) (map string_bytes c.args.patterns.now) (queries_of c.new-members.result.items) (ap queries_of c.new-members.ensures.items)
+loop-i-init c = grind (arith, reads_none, at_number, string_bytes)
 
 pub returns-in-Err-clause-answer : goal.returns-in-Err-clause-answer
 returns-in-Err-clause-answer c =
@@ -51,10 +41,4 @@ new-requires c =
     rw c.all_of.ensures (omega (arith, shallow))
 
 pub returns-clause-answer : goal.returns-clause-answer
-returns-clause-answer c =
-    let lexicon = pattern_lexicon c.args.now in
-    let patterns = map string_bytes c.args.patterns.now in
-    let end : c.loop-i.i ≡ length patterns = rw length-map (omega arith) in
-    let some : 0 < length patterns = rw length-map (grind (arith, nat_tests)) in
-    patterns_made lexicon patterns (Ok _) some (reads_all at_number (pattern_query lexicon) patterns (queries_of c.loop-i.members.items) c.loop-i.i c.loop-i.invariant end)
-    ∙ ap Ok (sym c.all_of.ensures ∙ sym c.new.ensures)
+returns-clause-answer c = grind (arith, string_bytes, length-map, nat_tests, patterns_made, reads_all, at_number)

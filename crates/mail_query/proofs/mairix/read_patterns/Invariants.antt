@@ -1,7 +1,4 @@
-use Rattle.std.proofs.Common.{map, string_bytes}
-use Rattle.mail_query.specs.Mail.{pattern_lexicon}
-use Rattle.mail_query.specs.Query.{queries_of}
-use Rattle.mail_query.specs.Mairix.{pattern_query}
+use Rattle.mail_query.proofs.Words.{map, string_bytes, pattern_lexicon, queries_of, pattern_query}
 use Rattle.mail_query.proofs.MairixLaws.EachLemmas.{HasRead, at_number}
 use Rattle.mail_query.proofs.mairix.read_patterns.Given as goal
 

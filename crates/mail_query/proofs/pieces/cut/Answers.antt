@@ -1,4 +1,4 @@
-use Rattle.std.proofs.lemmas.Str.Pattern.{split_parts}
+use Rattle.mail_query.proofs.Words.{split_parts}
 use Rattle.mail_query.proofs.PieceLemmas.{cut_answer}
 use Rattle.mail_query.proofs.pieces.cut.Goals as goal
 

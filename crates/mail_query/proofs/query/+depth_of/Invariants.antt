@@ -1,5 +1,4 @@
-use Rattle.std.proofs.Common.{◌≡◌, suc, max, drop}
-use Rattle.mail_query.specs.Query.{query_of, queries_of, members_of, depth, deepest}
+use Rattle.mail_query.proofs.Words.{◌≡◌, suc, max, drop, query_of, queries_of, members_of, depth, deepest}
 use Rattle.mail_query.proofs.query.+depth_of.Given as goal
 
 abbrev pub decreases-depth_of : goal.decreases-depth_of

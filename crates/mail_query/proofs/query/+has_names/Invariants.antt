@@ -1,5 +1,4 @@
-use Rattle.std.proofs.Common.{◌≡◌, drop}
-use Rattle.mail_query.specs.Query.{query_of, queries_of, members_of, kinds_inside, have_names, uses_names}
+use Rattle.mail_query.proofs.Words.{◌≡◌, drop, query_of, queries_of, members_of, kinds_inside, have_names, uses_names}
 use Rattle.mail_query.proofs.query.+has_names.Given as goal
 
 abbrev pub decreases-has_names : goal.decreases-has_names

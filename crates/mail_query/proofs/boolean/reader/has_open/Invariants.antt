@@ -1,4 +1,4 @@
-use Rattle.std.proofs.Common.{◌≡◌, drop}
+use Rattle.mail_query.proofs.Words.{◌≡◌, drop}
 use Rattle.mail_query.proofs.BooleanLaws.StackLemmas.{has_open_code}
 use Rattle.mail_query.proofs.boolean.reader.has_open.Given as goal
 

@@ -1,7 +1,4 @@
-use Rattle.std.proofs.Common.{◌≡◌, vec_len}
-use Rattle.mail_query.specs.Query.{query_of}
-use Rattle.mail_query.specs.Inside.Shown.{shown_stack, shown_level}
-use Rattle.mail_query.specs.BooleanReading.{placed}
+use Rattle.mail_query.proofs.Words.{◌≡◌, vec_len, query_of, shown_stack, shown_level, placed}
 use Rattle.mail_query.proofs.boolean.reader.placed.Given as goal
 
 abbrev pub decreases-nots : goal.decreases-nots

@@ -1,7 +1,4 @@
-use Rattle.std.proofs.Common.{Ok, ap, sym, ◌∙◌}
-use Rattle.mail_query.specs.Query.{Query}
-use Rattle.mail_query.specs.Inside.Shown.{shown_level, shown_stack}
-use Rattle.mail_query.specs.BooleanReading.{placed}
+use Rattle.mail_query.proofs.Words.{Ok, ap, sym, ◌∙◌, arith, Query, shown_level, shown_stack, placed}
 use Rattle.mail_query.proofs.BooleanLaws.StackLemmas.{pops-close, pops-not}
 use Rattle.mail_query.proofs.boolean.reader.read_close.Goals as goal
 
@@ -15,7 +12,4 @@ returns-in_ok-placed-in-Some-ForClose c =
     ∙ ap Ok (sym c.in_ok-placed-in-Some-ForClose.ensures))
 
 pub returns-in-Some-ForNot : goal.returns-in-Some-ForNot
-returns-in-Some-ForNot c =
-    let reader = c.args.reader in
-    let last = rw c.in-Some-ForNot.field-0-is at c.in-Some-ForNot.ensures.items in
-    rw c.if-reader.false (pops-not reader.waiting.items c.pop.new.self.items (shown_level reader.level) last)
+returns-in-Some-ForNot c = grind (arith, pops-not)

@@ -1,5 +1,4 @@
-use Rattle.std.proofs.Common.{ap, ◌∙◌}
-use Rattle.mail_query.specs.Inside.Shown.{shown_stack}
+use Rattle.mail_query.proofs.Words.{ap, ◌∙◌, shown_stack}
 use Rattle.mail_query.proofs.BooleanLaws.StackLemmas.{shown_stack-push}
 use Rattle.mail_query.proofs.boolean.reader.wait.Goals as goal
 

@@ -1,3 +1,4 @@
+use Rattle.mail_query.proofs.Words.{arith}
 use Rattle.mail_query.proofs.BooleanLaws.TokenLemmas.{blanks_end, tokens-blanks, no_blank_left}
 use Rattle.mail_query.proofs.boolean.token.behind_blanks.Goals as goal
 
@@ -5,9 +6,7 @@ pub split_at-requires : goal.split_at-requires
 split_at-requires c = rw (c.blank_count.ensures.value, c.as_bytes.ensures.value) (blanks_end c.args.text.now c.utf8.text)
 
 pub returns-clause-tokens : goal.returns-clause-tokens
-returns-clause-tokens c =
-    rw (c.split_at.ensures.back, c.blank_count.ensures.value, c.as_bytes.ensures.value) (tokens-blanks c.args.text.now)
+returns-clause-tokens c = grind (arith, tokens-blanks)
 
 pub returns-clause-none : goal.returns-clause-none
-returns-clause-none c =
-    rw (c.split_at.ensures.back, c.blank_count.ensures.value, c.as_bytes.ensures.value) (no_blank_left c.args.text.now)
+returns-clause-none c = grind (arith, no_blank_left)

@@ -1,5 +1,4 @@
-use Rattle.std.proofs.Common.{◌≡◌, ◌+◌, drop}
-use Rattle.mail_query.specs.Inside.Shown.{blank_count}
+use Rattle.mail_query.proofs.Words.{◌≡◌, ◌+◌, drop, blank_count}
 use Rattle.mail_query.proofs.boolean.token.blank_count.Given as goal
 
 abbrev pub invariant-loop-b : goal.invariant-loop-b

@@ -1,5 +1,4 @@
-use Rattle.std.proofs.Common.{◌≡◌, ◌+◌, drop}
-use Rattle.mail_query.specs.Inside.Shown.{run_length}
+use Rattle.mail_query.proofs.Words.{◌≡◌, ◌+◌, drop, run_length}
 use Rattle.mail_query.proofs.boolean.token.run_length.Given as goal
 
 abbrev pub invariant-loop-b : goal.invariant-loop-b

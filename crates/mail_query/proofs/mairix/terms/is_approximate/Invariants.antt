@@ -1,5 +1,4 @@
-use Rattle.std.proofs.Common.{◌≡◌, true, drop}
-use Rattle.mail_query.specs.Mairix.{is_approximate}
+use Rattle.mail_query.proofs.Words.{◌≡◌, true, drop, is_approximate}
 use Rattle.mail_query.proofs.MairixLaws.ApproximateLemmas.{approximate_behind}
 use Rattle.mail_query.proofs.mairix.terms.is_approximate.Given as goal
 

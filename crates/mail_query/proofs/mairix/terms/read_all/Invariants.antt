@@ -1,9 +1,4 @@
-use Rattle.std.proofs.Common.{length}
-use Rattle.std.specs.List.{slice_split}
-use Rattle.mail_query.specs.Query.{queries_of}
-use Rattle.mail_query.specs.Pieces.{is_byte}
-use Rattle.mail_query.specs.Inside.Reading.{forms_of}
-use Rattle.mail_query.specs.Mairix.{term_query}
+use Rattle.mail_query.proofs.Words.{length, slice_split, queries_of, is_byte, forms_of, term_query}
 use Rattle.mail_query.proofs.MairixLaws.EachLemmas.{HasRead, unnumbered}
 use Rattle.mail_query.proofs.mairix.terms.read_all.Given as goal
 

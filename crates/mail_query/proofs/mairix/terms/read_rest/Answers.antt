@@ -1,19 +1,6 @@
-use Rattle.std.proofs.Common.{length, lit<, Ok, ap, sym, ◌∙◌}
-use Rattle.std.specs.List.{slice_split}
-use Rattle.std.proofs.lemmas.List.{length_push}
-use Rattle.std.proofs.lemmas.Iterator.Consumers.{YieldsList-turn, YieldsList-end}
-use Rattle.std.proofs.lemmas.Iterator.Splits.{YieldsList-from_str_split}
-use Rattle.mail_query.specs.Query.{either_of, query_of, queries_of}
-use Rattle.mail_query.specs.Refusals.{kind_refusal}
-use Rattle.mail_query.specs.Pieces.{is_byte}
-use Rattle.mail_query.specs.Inside.Reading.{forms_of}
-use Rattle.mail_query.specs.Mairix.{all_query}
-use Rattle.mail_query.proofs.MairixLaws.EachLemmas.{unnumbered, reads_none, reads_more, part_refused, parts_read}
+use Rattle.mail_query.proofs.Words.{length, lit<, Ok, ap, sym, ◌∙◌, slice_split, length_push, YieldsList-turn, YieldsList-end, YieldsList-from_str_split, either_of, query_of, queries_of, kind_refusal, is_byte, forms_of, all_query}
+use Rattle.mail_query.proofs.MairixLaws.EachLemmas.{unnumbered, reads_more, part_refused, parts_read}
 use Rattle.mail_query.proofs.mairix.terms.read_rest.Goals as goal
-
-pub loop-part-init : goal.loop-part-init
-loop-part-init c =
-    reads_none unnumbered (all_query (forms_of c.args.target)) (slice_split (is_byte 0x2F) c.args.text.now) (queries_of c.new-members.result.items) (ap queries_of c.new-members.ensures.items)
 
 pub loop-part-preserved : goal.loop-part-preserved
 loop-part-preserved c =
