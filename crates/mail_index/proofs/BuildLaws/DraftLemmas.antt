@@ -1,5 +1,5 @@
 -- Laws of drafts: each call keeps archives and keys well-formed.
-use Rattle.mail_index.proofs.Words.{◌≡◌, ℕ, suc, ◌+◌, ◌-◌, ◌^◌, ◌<◌, ◌≤◌, true, false, nat_lt, if◌then◌else◌, List, [], ◌∷◌, ◌++◌, length, Result, Ok, Err, OnOk, OnErr, subst, refl, sym, length-append, arith, Less, Equal, Greater, match_ordering, nat_cmp, slice_cmp, AllByRecursion, nat_tests, Kind, kind_number, newest, leb128, postings_from, end_from, with_number, Key, RisesFrom, IsKey, Draft, with_pair}
+use Rattle.mail_index.proofs.Words.{◌≡◌, ℕ, suc, ◌+◌, ◌^◌, ◌<◌, ◌≤◌, true, false, nat_lt, if◌then◌else◌, List, [], ◌∷◌, ◌++◌, length, Result, OnOk, OnErr, refl, length-append, arith, Less, Equal, Greater, match_ordering, nat_cmp, slice_cmp, AllByRecursion, nat_tests, Kind, kind_number, newest, leb128, postings_from, end_from, with_number, Key, RisesFrom, IsKey, Draft, with_pair}
 use Rattle.mail_index.specs.Inside.Drafts.{IsDraft, message_count}
 use Rattle.mail_index.proofs.ViewLaws.KindNumbers.{kind_number-known}
 use Rattle.mail_index.proofs.BuildLaws.PostingLemmas.{length-leb128}
@@ -29,14 +29,7 @@ key-more count n k is low = record {
 }
 
 pub key-new : (count n : ℕ) (kind : Kind) (text : List ℕ) → 0 < length text → length text < 2 ^ 32 → n < count → IsKey newest count (record { kind = kind; text = text; numbers = n ∷ [] })
-key-new count n kind text some short low = record {
-  kind = kind_number-known kind;
-  some_text = some;
-  short = short;
-  some_number = omega arith;
-  rises = (omega arith, tt);
-  below = (low, tt);
-}
+key-new count n kind text some short low = grind (arith, kind_number-known)
 
 pub with_pair-listed : (count n : ℕ) (kind : Kind) (text : List ℕ) → 0 < length text → length text < 2 ^ 32 → n < count → (ks : List Key) → AllByRecursion (IsKey newest count) ks → AllByRecursion (IsKey newest count) (with_pair kind text n ks)
 with_pair-listed count n kind text some short low [] all = (key-new count n kind text some short low, tt)
@@ -50,8 +43,7 @@ with_pair-listed count n kind text some short low (k ∷ ks) all =
 -- what a call made of the keys keeps them well-formed
 pub listed-after : {T E : Type 0} (r : Result T E) (count n : ℕ) (kind : Kind) (text : List ℕ) → 0 < length text → length text < 2 ^ 32 → n < count → (ks after : List Key)
     → OnOk r (after ≡ with_pair kind text n ks) → OnErr r (after ≡ ks) → AllByRecursion (IsKey newest count) ks → AllByRecursion (IsKey newest count) after
-listed-after (Ok _) count n kind text some short low ks after ok err all = subst (λ x. AllByRecursion (IsKey newest count) x) (sym ok) (with_pair-listed count n kind text some short low ks all)
-listed-after (Err _) count n kind text some short low ks after ok err all = subst (λ x. AllByRecursion (IsKey newest count) x) (sym err) all
+listed-after r count n kind text h h2 h3 ks after h4 h5 h6 = grind (arith, newest, with_pair-listed)
 
 -- keys of so many messages are keys of more
 pub listed-weaker : (count more : ℕ) → count ≤ more → (ks : List Key) → AllByRecursion (IsKey newest count) ks → AllByRecursion (IsKey newest more) ks
@@ -72,9 +64,7 @@ end_from-below count low (n ∷ ns) h all = let next : suc n ≤ count = omega (
 
 length-postings_from : (low : ℕ) (ns : List ℕ) → RisesFrom low ns → length (postings_from low ns) + low ≤ end_from low ns
 length-postings_from low [] r = omega arith
-length-postings_from low (n ∷ ns) r =
-    let gap : 0 < suc n - low = omega (arith, r.0) in
-    omega (arith, r.0, length-append (leb128 5 (suc n - low)) (postings_from (suc n) ns), length-leb128 5 (suc n - low) gap, length-postings_from (suc n) ns r.1)
+length-postings_from low (n ∷ ns) r = grind (arith, length-append, leb128, postings_from, length-leb128, length-postings_from (suc n) ns r.1)
 
 -- a key's postings have at most as many bytes as there are messages
 pub length-postings : (count : ℕ) (k : Key) → IsKey newest count k → length (postings_from 0 k.numbers) ≤ count
@@ -82,7 +72,4 @@ length-postings count k is = omega (arith, length-postings_from 0 k.numbers is.r
 
 -- the message that is open counts within the limit
 pub message_count-within : (d : Draft) → IsDraft d → message_count d ≤ d.most
-message_count-within d is = (elim d.in_message as (λ v. d.in_message ≡ v → (if v then suc (length d.table.messages) else length d.table.messages) ≤ d.most) [
-  | true ↦ λ open_now. omega (arith, is.open_message open_now)
-  | false ↦ λ _. is.messages
-]) refl
+message_count-within d is = grind arith

@@ -15,16 +15,10 @@ behind-none b text =
     ap₂ (λ (n : ℕ) (l : List ℕ). drop n l) long (sym (append-nil (b ∷ text))) ∙ drop-append_seam (b ∷ text) []
 
 entry-none : (kind : Kind) (text bytes : List ℕ) → bytes ≡ kind_number kind ∷ text → AreEntryBytes bytes (length text + 1) 0
-entry-none kind text bytes e = subst (λ (l : List ℕ). AreEntryBytes l (length text + 1) 0) (sym e) (record {
-  long = omega arith;
-  kind = rw (front-all (kind_number kind) text) (ap (λ (k : Kind). kind_number k ∷ text) (kind_of-number kind));
-  posted = rw (behind-none (kind_number kind) text) posted-nil;
-})
+entry-none kind text bytes e = grind (arith, front-all, kind_number, kind_of-number, behind-none, posted-nil)
 
 key-none : (kind : Kind) (text bytes : List ℕ) → bytes ≡ kind_number kind ∷ text → key_in (take (length text + 1) bytes) (drop (length text + 1) bytes) ≡ record { kind = kind; text = text; numbers = [] }
-key-none kind text bytes e =
-    ap₂ key_in (ap (take (length text + 1)) e ∙ front-all (kind_number kind) text) (ap (drop (length text + 1)) e ∙ behind-none (kind_number kind) text)
-    ∙ ap₂ (λ (k : Kind) (ns : List ℕ). let key : Key = record { kind = k; text = text; numbers = ns } in key) (kind_of-number kind) numbers_of-nil
+key-none kind text bytes e = grind (arith, front-all, kind_number, behind-none, kind_of-number, numbers_of-nil)
 
 -- ---- what stands apart
 
@@ -42,22 +36,15 @@ holder-long kept bytes n h long = let e : nat_le n 16 ≡ false = grind (arith, 
 
 -- a short front is the one that is kept apart, and the postings are all the others
 pub behind-short : (kept bytes recent : List ℕ) (n : ℕ) → n ≤ 16 → n ≤ length (front_holder kept n bytes) → bytes ++ recent ≡ drop n (key_bytes kept n bytes recent)
-behind-short kept bytes recent n h long =
-    let e = length-take-le n kept (holder-short kept bytes n h long) in
-    sym (ap (λ (l : List ℕ). drop n (l ++ (bytes ++ recent))) (short-front kept n h) ∙ drop_at (take n kept) (bytes ++ recent) n e)
+behind-short kept bytes recent n h long = grind (arith, length-take-le, holder-short, short-front, drop_at)
 
 -- a long one stands before the others
 pub behind-long : (kept bytes recent : List ℕ) (n : ℕ) → 16 < n → n ≤ length (front_holder kept n bytes) → drop n bytes ++ recent ≡ drop n (key_bytes kept n bytes recent)
-behind-long kept bytes recent n h long =
-    sym (ap (λ (l : List ℕ). drop n (l ++ (bytes ++ recent))) (long-front kept n h) ∙ drop-append-le n bytes recent (holder-long kept bytes n h long))
+behind-long kept bytes recent n h long = grind (arith, long-front, drop-append-le, holder-long)
 
 -- more bytes hold it too
 pub within-more : (kept old new : List ℕ) (n : ℕ) → n ≤ length (front_holder kept n old) → length old ≤ length new → n ≤ length (front_holder kept n new)
-within-more kept old new n long more = go (nat_le n 16) long
-  where
-    go : (b : Bool) → n ≤ length (cond b kept old) → n ≤ length (cond b kept new)
-    go true h = h
-    go false h = omega (arith, h, more)
+within-more kept old new n long more = grind arith
 
 -- bytes that are appended to the last ones are appended to all
 pub key_bytes-more : (kept : List ℕ) (n : ℕ) (bytes recent bytes' recent' more : List ℕ) → bytes' ++ recent' ≡ (bytes ++ recent) ++ more
@@ -77,18 +64,11 @@ entry-more bytes front next n i low high =
 
 pub key-more : (bytes : List ℕ) (front next n : ℕ) → AreEntryBytes bytes front next → next ≤ n → n + 1 < 2 ^ 32
     → key_in (take front (bytes ++ leb128 5 (n + 1 - next))) (drop front (bytes ++ leb128 5 (n + 1 - next))) ≡ with_one (key_in (take front bytes) (drop front bytes)) n
-key-more bytes front next n i low high =
-    let l : List ℕ = leb128 5 (n + 1 - next) in
-    let new : end_from 0 (numbers_of (drop front bytes)) ≤ n = omega (arith, i.posted.ends, low) in
-    ap₂ key_in (take-append-le front bytes l i.long) (drop-append-le front bytes l i.long)
-    ∙ ap (λ (ns : List ℕ). let key : Key = record { kind = kind_of_number (slice_index (take front bytes) 0); text = drop 1 (take front bytes); numbers = ns } in key)
-    (numbers_of-more (drop front bytes) next n i.posted low high ∙ sym (with_number-new (numbers_of (drop front bytes)) n new))
+key-more bytes front next n i low high = grind (arith, leb128, end_from, numbers_of, take-append-le, drop-append-le, kind_of_number, slice_index, numbers_of-more, with_number-new)
 
 -- a number below the end changes nothing
 pub key-same : (bytes : List ℕ) (front next n : ℕ) → AreEntryBytes bytes front next → n < next → key_in (take front bytes) (drop front bytes) ≡ with_one (key_in (take front bytes) (drop front bytes)) n
-key-same bytes front next n i low =
-    let old : n < end_from 0 (numbers_of (drop front bytes)) = omega (arith, i.posted.ends, low) in
-    ap (λ (ns : List ℕ). let key : Key = record { kind = kind_of_number (slice_index (take front bytes) 0); text = drop 1 (take front bytes); numbers = ns } in key) (sym (with_number-low (numbers_of (drop front bytes)) n old))
+key-same bytes front next n i low = grind (arith, end_from, numbers_of, kind_of_number, slice_index, with_number-low)
 
 -- ---- one number
 

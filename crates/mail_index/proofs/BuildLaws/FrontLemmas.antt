@@ -1,6 +1,5 @@
 -- Laws of fronts of keys: keys whose fronts differ lie as their fronts do.
-use Rattle.mail_index.proofs.Words.{◌≡◌, ◌∙◌, ℕ, zero, suc, ◌+◌, ◌-◌, ◌*◌, ◌^◌, ◌<◌, ◌≤◌, Bool, true, false, nat_eq, nat_lt, List, [], ◌∷◌, ◌++◌, length, take, drop, min, replicate, set, get_or, refl, sym, ap, ap₂, subst, arith, length-append, nat_cmp, lit<, Fits, w8, Ordering, Less, Equal, Greater, MatchOrdering, ordering_then, ordering_reverse, slice_cmp, w64, from_be_bytes, AllByRecursion, insert, nat_tests, nat_list_cmp_total, ranked, length-take-le, get_or_append_left, get_or-append_right, get_or-take, get_or-drop, get_or_past, get_or-set_same, get_or-set_other, length-set, get_or-append_seam, mul-le-mul_right, pow-succ', Kind, Text, OwnId, LinkId, Key, kind_number, lies_to, key_at, no_key}
-use Rattle.mail_words.specs.declared.kind.TextKind.TheVariants.{To, Cc, Bcc, From, Subject, Body, Name}
+use Rattle.mail_index.proofs.Words.{◌≡◌, ◌∙◌, ℕ, zero, suc, ◌+◌, ◌*◌, ◌^◌, ◌<◌, ◌≤◌, Bool, nat_eq, nat_lt, List, [], ◌∷◌, ◌++◌, length, take, drop, min, replicate, set, get_or, refl, sym, ap, ap₂, arith, length-append, nat_cmp, lit<, Fits, w8, Ordering, Less, Equal, Greater, MatchOrdering, ordering_then, ordering_reverse, slice_cmp, w64, from_be_bytes, AllByRecursion, insert, nat_tests, nat_list_cmp_total, ranked, length-take-le, get_or_append_left, get_or-append_right, get_or-take, get_or-drop, get_or_past, get_or-set_same, get_or-set_other, length-set, get_or-append_seam, mul-le-mul_right, pow-succ', Kind, Key, kind_number, lies_to, key_at, no_key}
 use Rattle.mail_index.specs.declared.build.key_front.Fronted.{Fronted}
 use Rattle.mail_index.specs.Inside.KeyFronts.{number_of_first, IsFrontOf, IsFronted}
 use Rattle.mail_index.specs.Inside.KeyMaps.{new_key, with_one}
@@ -77,29 +76,15 @@ padded-front kind text part n m e p = eight-bytes (kind ∷ part ++ drop m (zero
     long = length-take-le n text (omega (arith, e))
 
     within : (i : ℕ) → i < 7 → (b : Bool) → nat_lt i n ≡ b → get_or (take n text ++ drop m (zeros 7)) i 0 ≡ get_or text i 0
-    within i lt true t =
-        let low : i < n = grind (arith, nat_tests) in
-        get_or_append_left (take n text) (drop m (zeros 7)) 0 i (omega (arith, low, long)) ∙ get_or-take n text i 0 low
-    within i lt false t =
-        let high : n ≤ i = grind (arith, nat_tests) in
-        get_or-append_right (take n text) (drop m (zeros 7)) n i 0 long high ∙ get_or-drop m (zeros 7) (i - n) 0 ∙ zeros-alone 7 (m + (i - n)) ∙ sym (get_or_past text i 0 (omega (arith, e, high, lt)))
+    within i h b h2 = grind (arith, nat_tests, get_or_append_left, long, get_or-take, get_or-append_right, get_or-drop, get_or_past)
 
     same : (i : ℕ) → i < 8 → get_or (kind ∷ part ++ drop m (zeros 7)) i 0 ≡ get_or (kind ∷ text) i 0
-    same zero lt = refl
-    same (suc i) lt = ap (λ (l : List ℕ). get_or (l ++ drop m (zeros 7)) i 0) p ∙ within i (omega (arith, lt)) (nat_lt i n) refl
+    same i h = grind (arith, within)
 
 -- ---- the order of keys
 
 kind-byte : (kind : Kind) → kind_number kind < 256
-kind-byte (Text To) = lit< tt
-kind-byte (Text Cc) = lit< tt
-kind-byte (Text Bcc) = lit< tt
-kind-byte (Text From) = lit< tt
-kind-byte (Text Subject) = lit< tt
-kind-byte (Text Body) = lit< tt
-kind-byte OwnId = lit< tt
-kind-byte LinkId = lit< tt
-kind-byte (Text Name) = lit< tt
+kind-byte kind = grind (arith, lit<)
 
 pub all-bytes : (text : List ℕ) → ((i : ℕ) → Fits w8 (get_or text i 0)) → AreBytes text
 all-bytes [] fits = tt
@@ -128,26 +113,12 @@ record IsSameKey (old new : Key) : Type 0 where
 -- where the entries keep theirs, the slots keep their fronts
 fronted-kept : (old new : List Key) → length old ≤ length new → ((i : ℕ) → i < length old → IsSameKey (key_at old i) (key_at new i)) → (slots : List Fronted) → AllByRecursion (IsFronted old) slots → AllByRecursion (IsFronted new) slots
 fronted-kept old new more same [] all = tt
-fronted-kept old new more same (slot ∷ slots) all =
-    let is : IsFronted old slot = all.0 in
-    let key = same slot.number is.within in (
-      record {
-        within = omega (arith, is.within, more);
-        front = subst (λ (kind : Kind). IsFrontOf kind (key_at new slot.number).text slot.front) key.kind (subst (λ (text : List ℕ). IsFrontOf (key_at old slot.number).kind text slot.front) key.text is.front);
-      },
-      fronted-kept old new more same slots all.1,
-    )
+fronted-kept old new more same (slot ∷ slots) all = grind (arith, key_at, fronted-kept old new more same slots all.1)
 
 -- a key more, with its slot
 pub fronted-new : (kind : Kind) (text : List ℕ) (n : ℕ) (entries : List Key) (slots : List Fronted) (place front : ℕ) → IsFrontOf kind text front → AllByRecursion (IsFronted entries) slots
     → AllByRecursion (IsFronted (entries ++ new_key kind text n ∷ [])) (insert slots place (record { number = length entries; front = front }))
-fronted-new kind text n entries slots place front new all =
-    let k : Key = new_key kind text n in
-    let long : length (entries ++ k ∷ []) ≡ suc (length entries) = length-append entries (k ∷ []) ∙ omega arith in
-    let here : key_at (entries ++ k ∷ []) (length entries) ≡ k = get_or-append_seam entries k [] no_key in
-    all-inserted (IsFronted (entries ++ k ∷ [])) slots place (record { number = length entries; front = front })
-    (fronted-kept entries (entries ++ k ∷ []) (omega (arith, long)) (λ i lt. let e : key_at (entries ++ k ∷ []) i ≡ key_at entries i = get_or_append_left entries (k ∷ []) no_key i lt in record { kind = ap (λ (k : Key). k.kind) (sym e); text = ap (λ (k : Key). k.text) (sym e) }) slots all)
-    (record { within = omega (arith, long); front = subst (λ (k : Key). IsFrontOf k.kind k.text front) (sym here) new })
+fronted-new kind text n entries slots place front new all = grind (arith, length-append, key_at, get_or-append_seam, no_key, all-inserted, fronted-kept, get_or_append_left)
 
 -- a number more of a key
 pub fronted-found : (entries : List Key) (i n : ℕ) (slots : List Fronted) → i < length entries → AllByRecursion (IsFronted entries) slots → AllByRecursion (IsFronted (set entries i (with_one (key_at entries i) n))) slots
@@ -156,11 +127,4 @@ fronted-found entries i n slots lt all =
     fronted-kept entries (set entries i k) (omega (arith, length-set entries i k)) (λ j h. same j (nat_eq j i) refl) slots all
   where
     same : (j : ℕ) → (t : Bool) → nat_eq j i ≡ t → IsSameKey (key_at entries j) (key_at (set entries i (with_one (key_at entries i) n)) j)
-    same j true t =
-        let e : j ≡ i = grind (arith, nat_tests) in
-        let here : key_at (set entries i (with_one (key_at entries i) n)) j ≡ with_one (key_at entries j) n =
-        ap (key_at (set entries i (with_one (key_at entries i) n))) e ∙ get_or-set_same entries i (with_one (key_at entries i) n) no_key lt ∙ ap (λ (m : ℕ). with_one (key_at entries m) n) (sym e) in
-        record { kind = ap (λ (k : Key). k.kind) (sym here); text = ap (λ (k : Key). k.text) (sym here) }
-    same j false t =
-        let there : key_at (set entries i (with_one (key_at entries i) n)) j ≡ key_at entries j = get_or-set_other entries i j (with_one (key_at entries i) n) no_key (grind (arith, nat_tests)) in
-        record { kind = ap (λ (k : Key). k.kind) (sym there); text = ap (λ (k : Key). k.text) (sym there) }
+    same j t h = grind (arith, nat_tests, key_at, set, get_or-set_same, no_key, get_or-set_other)

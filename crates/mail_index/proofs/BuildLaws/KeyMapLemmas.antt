@@ -26,9 +26,7 @@ pub slots-long : (entries : List Key) (slots : List Fronted) → length (slot_ke
 slots-long entries slots = length-map (numbers_of_slots slots) (key_at entries) ∙ length-map slots (λ (slot : Fronted). slot.number)
 
 pub slot-at : (entries : List Key) (slots : List Fronted) (j : ℕ) (d : Fronted) → j < length slots → key_at (slot_keys entries slots) j ≡ key_at entries (get_or slots j d).number
-slot-at entries slots j d h =
-    placed-at entries (numbers_of_slots slots) j (omega (arith, h, length-map slots (λ (slot : Fronted). slot.number)))
-    ∙ ap (key_at entries) (get_or-map (λ (slot : Fronted). slot.number) slots j d 0 h)
+slot-at entries slots j d h = grind (arith, placed-at, length-map, key_at, get_or-map)
 
 -- the gap of the page, found between the heads and then in the page, is the gap of the whole order
 pub gap-in_pages : (kind : Kind) (text : List ℕ) (entries : List Key) (pages : List (List Fronted)) (heads : List Fronted) (page at : ℕ) → length heads ≡ length pages - 1 → page < length pages
@@ -161,9 +159,7 @@ map-insert {B = B} f (i ∷ order) (suc place) m = ap (λ (l : List B). f i ∷ 
 
 pub placed-new : (entries : List Key) (k : Key) (order : List ℕ) (place : ℕ) → AllByRecursion (λ i. i < length entries) order
     → placed (entries ++ k ∷ []) (insert order place (length entries)) ≡ insert (placed entries order) place k
-placed-new entries k order place all =
-    map-insert (key_at (entries ++ k ∷ [])) order place (length entries)
-    ∙ ap₂ (λ (l : List Key) (x : Key). insert l place x) (placed-more entries k order all) (get_or-append_seam entries k [] no_key)
+placed-new entries k order place all = grind (arith, map-insert, key_at, insert, placed-more, get_or-append_seam, no_key)
 
 pub all-inserted : {A : Type 0} (P : A → Type 0) (order : List A) (place : ℕ) (m : A) → AllByRecursion P order → P m → AllByRecursion P (insert order place m)
 all-inserted P [] zero m all new = (new, tt)
@@ -290,21 +286,11 @@ bytes-same entries i n [] lt = refl
 bytes-same entries i n (j ∷ order) lt = ap₂ (λ (x : List ℕ) (l : List (List ℕ)). x ∷ l) (go (nat_eq j i) refl) (bytes-same entries i n order lt)
   where
     go : (t : Bool) → nat_eq j i ≡ t → key_bytes (key_at (set entries i (with_one (key_at entries i) n)) j) ≡ key_bytes (key_at entries j)
-    go true e =
-        let same : j ≡ i = grind (arith, nat_tests) in
-        ap (λ (m : ℕ). key_bytes (key_at (set entries i (with_one (key_at entries i) n)) m)) same
-        ∙ ap key_bytes (get_or-set_same entries i (with_one (key_at entries i) n) no_key lt) ∙ ap (λ (m : ℕ). key_bytes (key_at entries m)) (sym same)
+    go true e = grind (arith, nat_tests, key_bytes, key_at, set, get_or-set_same, no_key)
     go false e = ap key_bytes (key-other entries i j (with_one (key_at entries i) n) e)
 
 pub order-found : (entries : List Key) (i n : ℕ) (order : List ℕ) → i < length entries → IsOrder entries order → IsOrder (set entries i (with_one (key_at entries i) n)) order
-order-found entries i n order lt o =
-    let long : length (set entries i (with_one (key_at entries i) n)) ≡ length entries = length-set entries i (with_one (key_at entries i) n) in
-    record {
-      sorted = subst (λ (l : List (List ℕ)). IsStrictlySortedBy (slice_cmp nat_cmp) l) (sym (bytes-same entries i n order lt)) o.sorted;
-      within = all-weaker (λ m. m < length entries) (λ m. m < length (set entries i (with_one (key_at entries i) n))) (λ m low. omega (arith, long, low)) order o.within;
-      whole = λ m h. o.whole m (omega (arith, h, long));
-      count = o.count ∙ sym long;
-    }
+order-found entries i n order lt o = grind (arith, set, key_at, length-set, slice_cmp, nat_cmp, bytes-same, all-weaker)
 
 pub all-at : {A : Type 0} (P : A → Type 0) (order : List A) (j : ℕ) (d : A) → AllByRecursion P order → j < length order → P (get_or order j d)
 all-at P [] j d all h = absurd (omega (arith, h))

@@ -1,5 +1,6 @@
 -- A pair that goes to its place keeps the keys in order.
-use Rattle.mail_index.proofs.Words.{◌≡◌, ℕ, List, [], ◌∷◌, Result, Ok, Err, OnOk, OnErr, subst, refl, sym, ap, ◌∙◌, Less, Equal, Greater, match_ordering, ordering_reverse, nat_list_cmp_total, Kind, kind_number, key_cmp, Key, KeyBefore, AllNext, with_number, with_pair}
+use Rattle.std.proofs.Common.{arith}
+use Rattle.mail_index.proofs.Words.{◌≡◌, ℕ, List, [], ◌∷◌, Result, OnOk, OnErr, refl, ap, ◌∙◌, Less, Equal, Greater, match_ordering, ordering_reverse, nat_list_cmp_total, Kind, kind_number, key_cmp, Key, KeyBefore, AllNext, with_number, with_pair}
 
 -- keys one of which comes after another lie the other way round
 turned : (j k : Kind) (xs ys : List ℕ) → key_cmp (kind_number j) xs (kind_number k) ys ≡ Greater → key_cmp (kind_number k) ys (kind_number j) xs ≡ Less
@@ -11,26 +12,18 @@ BeforeFirst k [] = Unit {0}
 BeforeFirst k (j ∷ js) = KeyBefore k j
 
 next-cons : (k : Key) (ks : List Key) → BeforeFirst k ks → AllNext KeyBefore ks → AllNext KeyBefore (k ∷ ks)
-next-cons k [] first rest = tt
-next-cons k (j ∷ js) first rest = (first, rest)
+next-cons k ks h h2 = grind arith
 
 first-next : (k : Key) (ks : List Key) → AllNext KeyBefore (k ∷ ks) → BeforeFirst k ks
-first-next k [] next = tt
-first-next k (j ∷ js) next = next.0
+first-next k ks h = grind arith
 
 next-tail : (k : Key) (ks : List Key) → AllNext KeyBefore (k ∷ ks) → AllNext KeyBefore ks
-next-tail k [] next = tt
-next-tail k (j ∷ js) next = next.1
+next-tail k ks h = grind arith
 
 -- a key stays before the others where the new one comes behind it
 before-with_pair : (k : Key) (kind : Kind) (text : List ℕ) (n : ℕ) → key_cmp (kind_number k.kind) k.text (kind_number kind) text ≡ Less → (ks : List Key) → BeforeFirst k ks → BeforeFirst k (with_pair kind text n ks)
 before-with_pair k kind text n before [] first = before
-before-with_pair k kind text n before (j ∷ js) first =
-    elim (key_cmp (kind_number kind) text (kind_number j.kind) j.text) as (λ o. BeforeFirst k (match_ordering o (record { kind = kind; text = text; numbers = n ∷ [] } ∷ j ∷ js) (record { kind = j.kind; text = j.text; numbers = with_number j.numbers n } ∷ js) (j ∷ with_pair kind text n js))) [
-      | Less ↦ before
-      | Equal ↦ first
-      | Greater ↦ first
-    ]
+before-with_pair k kind text n before (j ∷ js) first = grind (arith, key_cmp, kind_number, match_ordering, with_number, with_pair)
 
 pub with_pair-sorted : (kind : Kind) (text : List ℕ) (n : ℕ) (ks : List Key) → AllNext KeyBefore ks → AllNext KeyBefore (with_pair kind text n ks)
 with_pair-sorted kind text n [] sorted = tt
@@ -43,10 +36,8 @@ with_pair-sorted kind text n (k ∷ ks) sorted =
     ]) refl
   where
     same-first : (js : List Key) → BeforeFirst k js → BeforeFirst (record { kind = k.kind; text = k.text; numbers = with_number k.numbers n }) js
-    same-first [] first = tt
-    same-first (j ∷ js) first = first
+    same-first js h = grind arith
 
 -- what a call made of the keys keeps them in order
 pub sorted-after : {T E : Type 0} (r : Result T E) (kind : Kind) (text : List ℕ) (n : ℕ) (ks after : List Key) → OnOk r (after ≡ with_pair kind text n ks) → OnErr r (after ≡ ks) → AllNext KeyBefore ks → AllNext KeyBefore after
-sorted-after (Ok _) kind text n ks after ok err sorted = subst (λ (x : List Key). AllNext KeyBefore x) (sym ok) (with_pair-sorted kind text n ks sorted)
-sorted-after (Err _) kind text n ks after ok err sorted = subst (λ (x : List Key). AllNext KeyBefore x) (sym err) sorted
+sorted-after r kind text n ks after h h2 h3 = grind (arith, with_pair-sorted)

@@ -1,5 +1,5 @@
 -- Laws of an order that stands in pages, with a head between each and the next.
-use Rattle.mail_index.proofs.Words.{◌≡◌, ◌∙◌, ℕ, zero, suc, ◌+◌, ◌-◌, ◌<◌, ◌≤◌, List, [], ◌∷◌, ◌++◌, length, take, drop, set, get_or, Vec, refl, sym, ap, ap₂, subst, arith, append-nil, length-append, Global, AllByRecursion, insert, length-map, get_or-map, append_assoc, get_or_append_left, get_or-append-add, take-map, drop-map, map-append, take-append-drop, get_or-append_seam, insert-append_left, insert-append_right}
+use Rattle.mail_index.proofs.Words.{◌≡◌, ◌∙◌, ℕ, zero, suc, ◌+◌, ◌-◌, ◌<◌, ◌≤◌, List, [], ◌∷◌, ◌++◌, length, take, drop, set, get_or, Vec, refl, sym, ap, subst, arith, append-nil, length-append, Global, AllByRecursion, insert, length-map, get_or-map, append_assoc, get_or_append_left, get_or-append-add, take-map, drop-map, map-append, take-append-drop, get_or-append_seam, insert-append_left, insert-append_right}
 use Rattle.mail_index.specs.declared.build.key_front.Fronted.{Fronted}
 use Rattle.mail_index.specs.Inside.KeyMaps.{rows, in_pages, position}
 
@@ -13,8 +13,7 @@ behind_page rest (head ∷ heads) = head ∷ in_pages rest heads
 
 -- a page's own numbers, and those behind them
 pub in_pages-front : (row : List Fronted) (rest : List (List Fronted)) (heads : List Fronted) → in_pages (row ∷ rest) heads ≡ row ++ behind_page rest heads
-in_pages-front row rest [] = refl
-in_pages-front row rest (head ∷ heads) = refl
+in_pages-front row rest heads = grind arith
 
 -- ---- an insertion
 
@@ -26,14 +25,9 @@ insert-behind xs y ys i n =
 pub pages-insert : (pages : List (List Fronted)) (heads : List Fronted) (page at : ℕ) (n : Fronted) → length heads ≡ length pages - 1 → page < length pages → at ≤ length (get_or pages page [])
     → in_pages (set pages page (insert (get_or pages page []) at n)) heads ≡ insert (in_pages pages heads) (position pages page at) n
 pages-insert [] heads page at n b h w = absurd (omega (arith, h))
-pages-insert (row ∷ rest) heads zero at n b h w =
-    in_pages-front (insert row at n) rest heads
-    ∙ sym (insert-append_left row (behind_page rest heads) at n w)
-    ∙ ap (λ (l : List Fronted). insert l at n) (sym (in_pages-front row rest heads))
+pages-insert (row ∷ rest) heads zero at n b h w = grind (arith, in_pages-front, insert, insert-append_left)
 pages-insert (row ∷ rest) [] (suc page) at n b h w = absurd (omega (arith, b, h))
-pages-insert (row ∷ rest) (head ∷ heads) (suc page) at n b h w =
-    ap (λ (l : List Fronted). row ++ head ∷ l) (pages-insert rest heads page at n (omega (arith, b, h)) (omega (arith, h)) w)
-    ∙ sym (insert-behind row head (in_pages rest heads) (position rest page at) n)
+pages-insert (row ∷ rest) (head ∷ heads) (suc page) at n b h w = grind (arith, insert-behind, pages-insert rest heads page)
 
 -- ---- positions
 
@@ -57,19 +51,14 @@ position-last [] heads page b h l = absurd (omega (arith, h))
 position-last (row ∷ rest) [] zero b h l = ap length (sym (append-nil row))
 position-last (row ∷ rest) (head ∷ heads) zero b h l = absurd (omega (arith, l))
 position-last (row ∷ rest) [] (suc page) b h l = absurd (omega (arith, b, h))
-position-last (row ∷ rest) (head ∷ heads) (suc page) b h l =
-    ap (λ (n : ℕ). length row + suc n) (position-last rest heads page (omega (arith, b, h)) (omega (arith, h)) (omega (arith, l)))
-    ∙ sym (length-behind row head (in_pages rest heads))
+position-last (row ∷ rest) (head ∷ heads) (suc page) b h l = grind (arith, length-behind, position-last rest heads page (omega (arith, b, h)) (omega (arith, h)) (omega (arith, l)))
 
 pub position-within : (pages : List (List Fronted)) (heads : List Fronted) (page at : ℕ) → length heads ≡ length pages - 1 → page < length pages → at ≤ length (get_or pages page [])
     → position pages page at ≤ length (in_pages pages heads)
 position-within [] heads page at b h w = absurd (omega (arith, h))
-position-within (row ∷ rest) heads zero at b h w =
-    let all : length (in_pages (row ∷ rest) heads) ≡ length row + length (behind_page rest heads) = ap length (in_pages-front row rest heads) ∙ length-append row (behind_page rest heads) in
-    omega (arith, all, w)
+position-within (row ∷ rest) heads zero at b h w = grind (arith, in_pages-front, length-append)
 position-within (row ∷ rest) [] (suc page) at b h w = absurd (omega (arith, b, h))
-position-within (row ∷ rest) (head ∷ heads) (suc page) at b h w =
-    omega (arith, length-behind row head (in_pages rest heads), position-within rest heads page at (omega (arith, b, h)) (omega (arith, h)) w)
+position-within (row ∷ rest) (head ∷ heads) (suc page) at b h w = grind (arith, length-behind, position-within rest heads page)
 
 -- what stands behind a head
 get_or-behind : (xs : List Fronted) (y : Fronted) (ys : List Fronted) (i : ℕ) (d : Fronted) → get_or (xs ++ y ∷ ys) (length xs + suc i) d ≡ get_or ys i d
@@ -80,8 +69,7 @@ pub at-page : (pages : List (List Fronted)) (heads : List Fronted) (page at : �
 at-page [] heads page at d b h w = absurd (omega (arith, h))
 at-page (row ∷ rest) heads zero at d b h w = ap (λ (l : List Fronted). get_or l at d) (in_pages-front row rest heads) ∙ get_or_append_left row (behind_page rest heads) d at w
 at-page (row ∷ rest) [] (suc page) at d b h w = absurd (omega (arith, b, h))
-at-page (row ∷ rest) (head ∷ heads) (suc page) at d b h w =
-    get_or-behind row head (in_pages rest heads) (position rest page at) d ∙ at-page rest heads page at d (omega (arith, b, h)) (omega (arith, h)) w
+at-page (row ∷ rest) (head ∷ heads) (suc page) at d b h w = grind (arith, get_or-behind, at-page rest heads page)
 
 pub at-head : (pages : List (List Fronted)) (heads : List Fronted) (page : ℕ) (d : Fronted) → length heads ≡ length pages - 1 → page < length heads
     → get_or (in_pages pages heads) (position pages page (length (get_or pages page []))) d ≡ get_or heads page d
@@ -111,8 +99,7 @@ pub all-page : (P : Fronted → Type 0) (pages : List (List Fronted)) (heads : L
 all-page P [] heads page b h all = absurd (omega (arith, h))
 all-page P (row ∷ rest) heads zero b h all = (all-append P row (behind_page rest heads) (subst (AllByRecursion P) (in_pages-front row rest heads) all)).0
 all-page P (row ∷ rest) [] (suc page) b h all = absurd (omega (arith, b, h))
-all-page P (row ∷ rest) (head ∷ heads) (suc page) b h all =
-    all-page P rest heads page (omega (arith, b, h)) (omega (arith, h)) (all-append P row (head ∷ in_pages rest heads) all).1.1
+all-page P (row ∷ rest) (head ∷ heads) (suc page) b h all = grind (arith, all-append, all-page P rest heads page (omega (arith, b, h)) (omega (arith, h)) (all-append P row (head ∷ in_pages rest heads) all).1.1)
 
 -- ---- a split
 
@@ -126,39 +113,27 @@ pages-split (row ∷ rest) heads zero half head behind b h w =
     ∙ ap (λ (l : List Fronted). l ++ behind_page rest heads) (take-append-drop half row)
     ∙ sym (in_pages-front row rest heads)
 pages-split (row ∷ rest) [] (suc page) half head behind b h w = absurd (omega (arith, b, h))
-pages-split (row ∷ rest) (next ∷ heads) (suc page) half head behind b h w =
-    ap (λ (l : List Fronted). row ++ next ∷ l) (pages-split rest heads page half head behind (omega (arith, b, h)) (omega (arith, h)) w)
+pages-split (row ∷ rest) (next ∷ heads) (suc page) half head behind b h w = grind (arith, pages-split rest heads page half head behind (omega (arith, b, h)) (omega (arith, h)) w)
 
 -- ---- the pages' vectors
 
 pub rows-insert : (pages : List (Vec Fronted Global)) (page : ℕ) (v : Vec Fronted Global) → rows (insert pages page v) ≡ insert (rows pages) page v.items
-rows-insert pages page v =
-    map-append (λ (p : Vec Fronted Global). p.items) (take page pages) (v ∷ drop page pages)
-    ∙ ap₂ (λ (a b : List (List Fronted)). a ++ v.items ∷ b) (sym (take-map (λ (p : Vec Fronted Global). p.items) page pages)) (sym (drop-map (λ (p : Vec Fronted Global). p.items) page pages))
+rows-insert pages page v = grind (arith, map-append, take-map, drop-map)
 
 pub inserted : (pages : List (Vec Fronted Global)) (heads : List Fronted) (page at : ℕ) (n : Fronted) → length heads ≡ length pages - 1 → page < length pages → at ≤ length (get_or (rows pages) page [])
     → in_pages (set (rows pages) page (insert (get_or (rows pages) page []) at n)) heads ≡ insert (in_pages (rows pages) heads) (position (rows pages) page at) n
-inserted pages heads page at n b h w =
-    let long : length (rows pages) ≡ length pages = length-map pages (λ (p : Vec Fronted Global). p.items) in
-    pages-insert (rows pages) heads page at n (omega (arith, b, long)) (omega (arith, h, long)) w
+inserted pages heads page at n b h w = grind (arith, length-map, pages-insert)
 
 pub parted : (pages : List (Vec Fronted Global)) (heads : List Fronted) (page half : ℕ) (row : List Fronted) (rest : Vec Fronted Global) (head : Fronted) → length heads ≡ length pages - 1 → page < length pages
     → row ≡ get_or (rows pages) page [] → head ∷ rest.items ≡ drop half row
     → in_pages (set (rows (insert pages (page + 1) rest)) page (take half (get_or (rows (insert pages (page + 1) rest)) page []))) (insert heads page head) ≡ in_pages (rows pages) heads
-parted pages heads page half row rest head b h r s =
-    let long : length (rows pages) ≡ length pages = length-map pages (λ (p : Vec Fronted Global). p.items) in
-    let next : page + 1 ≡ suc page = omega arith in
-    let rows_are : rows (insert pages (page + 1) rest) ≡ insert (rows pages) (suc page) rest.items = ap (λ (n : ℕ). rows (insert pages n rest)) next ∙ rows-insert pages (suc page) rest in
-    ap (λ (rs : List (List Fronted)). in_pages (set rs page (take half (get_or rs page []))) (insert heads page head)) rows_are
-    ∙ pages-split (rows pages) heads page half head rest.items (omega (arith, b, long)) (omega (arith, h, long)) (s ∙ ap (drop half) r)
+parted pages heads page half row rest head b h r s = grind (arith, length-map, insert, rows-insert, set, pages-split)
 
 pub row-is : (pages : List (Vec Fronted Global)) (page : ℕ) (v : Vec Fronted Global) → page < length pages → v ≡ get_or pages page v → v.items ≡ get_or (rows pages) page []
 row-is pages page v h e = ap (λ (p : Vec Fronted Global). p.items) e ∙ sym (get_or-map (λ (p : Vec Fronted Global). p.items) pages page v [] h)
 
 pub heads-all : (P : Fronted → Type 0) (pages : List (Vec Fronted Global)) (heads : List Fronted) → length heads ≡ length pages - 1 → AllByRecursion P (in_pages (rows pages) heads) → AllByRecursion P heads
-heads-all P pages heads b all =
-    let long : length (rows pages) ≡ length pages = length-map pages (λ (p : Vec Fronted Global). p.items) in
-    all-heads P (rows pages) heads (omega (arith, b, long)) all
+heads-all P pages heads b all = grind (arith, length-map, all-heads)
 
 pub row-all : (P : Fronted → Type 0) (pages : List (Vec Fronted Global)) (heads : List Fronted) (page : ℕ) (row : List Fronted) → length heads ≡ length pages - 1 → page < length pages → row ≡ get_or (rows pages) page []
     → AllByRecursion P (in_pages (rows pages) heads) → AllByRecursion P row

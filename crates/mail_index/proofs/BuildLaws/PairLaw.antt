@@ -1,5 +1,5 @@
 -- What the keys tell once they have a pair more.
-use Rattle.mail_index.proofs.Words.{◌≡◌, ℕ, suc, ◌<◌, ◌≤◌, true, false, nat_lt, if◌then◌else◌, List, [], ◌∷◌, ◌++◌, refl, ap, sym, ◌∙◌, inl, inr, arith, ◌⊎◌, Ordering, Less, Equal, Greater, match_ordering, ordering_then, nat_cmp, slice_cmp, AllByRecursion, nat_tests, ranked, Kind, kind_number, kind_of_number, Key, RisesFrom, IsKey, end_from, with_number, with_pair, IsIn, Tells}
+use Rattle.mail_index.proofs.Words.{◌≡◌, ℕ, suc, ◌<◌, ◌≤◌, true, false, nat_lt, if◌then◌else◌, List, [], ◌∷◌, ◌++◌, refl, sym, ◌∙◌, inl, inr, arith, ◌⊎◌, Ordering, Less, Equal, Greater, match_ordering, ordering_then, nat_cmp, slice_cmp, AllByRecursion, nat_tests, ranked, Kind, kind_number, kind_of_number, Key, RisesFrom, IsKey, end_from, with_number, with_pair, IsIn, Tells}
 use Rattle.mail_index.proofs.BuildLaws.DraftLemmas.{by-number, end_from-below}
 use Rattle.mail_index.proofs.ViewLaws.KindNumbers.{kind_of-number}
 
@@ -10,16 +10,10 @@ texts-same [] (y ∷ ys) h = absurd cc
 texts-same (x ∷ xs) (y ∷ ys) h = go (nat_cmp x y) refl h (λ e. texts-same xs ys e)
   where
     go : (o : Ordering) → nat_cmp x y ≡ o → ordering_then o (slice_cmp nat_cmp xs ys) ≡ Equal → (slice_cmp nat_cmp xs ys ≡ Equal → xs ≡ ys) → x ∷ xs ≡ y ∷ ys
-    go Less e h r = absurd cc
-    go Equal e h r = let same : x ≡ y = ranked x y Equal (sym e) in let rest : xs ≡ ys = r h in cc
-    go Greater e h r = absurd cc
+    go o h h2 h3 = grind (arith, ranked)
 
 keys-same : (j k : Kind) (xs ys : List ℕ) → slice_cmp nat_cmp (kind_number j ∷ xs) (kind_number k ∷ ys) ≡ Equal → (j ≡ k) × (xs ≡ ys)
-keys-same j k xs ys h =
-    let whole : kind_number j ∷ xs ≡ kind_number k ∷ ys = texts-same (kind_number j ∷ xs) (kind_number k ∷ ys) h in
-    let number : kind_number j ≡ kind_number k = cc in
-    let text : xs ≡ ys = cc in
-    (sym (kind_of-number j) ∙ ap kind_of_number number ∙ kind_of-number k, text)
+keys-same j k xs ys h = grind (arith, kind_number, texts-same, kind_of-number, kind_of_number)
 
 is_in-snoc : (ns : List ℕ) (n m : ℕ) → IsIn (ns ++ n ∷ []) m → IsIn ns m ⊎ (n ≡ m)
 is_in-snoc [] n m h = elim h [ inl e ↦ inr e | inr none ↦ absurd none ]

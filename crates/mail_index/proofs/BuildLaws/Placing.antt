@@ -1,5 +1,5 @@
 -- Messages that are added behind one another are those of a well-formed table.
-use Rattle.mail_index.proofs.Words.{◌≡◌, ℕ, zero, suc, ◌+◌, ◌^◌, ◌<◌, ◌≤◌, Bool, true, false, nat_eq, nat_lt, if◌then◌else◌, List, [], ◌∷◌, ◌++◌, length, Option, None, Some, IsSome, IfSome, FitsSigned, refl, ap, sym, subst, ◌∙◌, inl, inr, length-append, arith, w64, AllByRecursion, nat_tests, Record, IsVersion, newest, Archive, archive_length, IsMessage, Follows, AllNext, IsPath, IsArchive, IsKey, IsWellFormed, Draft, end_of, IsNextMessage, IsInMessage, IsBetweenArchives}
+use Rattle.mail_index.proofs.Words.{◌≡◌, ℕ, zero, suc, ◌+◌, ◌^◌, ◌<◌, ◌≤◌, Bool, false, if◌then◌else◌, List, [], ◌∷◌, ◌++◌, length, Option, None, Some, IsSome, IfSome, FitsSigned, refl, sym, subst, length-append, arith, w64, AllByRecursion, nat_tests, Record, newest, Archive, archive_length, IsMessage, Follows, AllNext, IsPath, IsKey, IsWellFormed, Draft, end_of, IsNextMessage, IsInMessage, IsBetweenArchives}
 use Rattle.mail_index.specs.Inside.Drafts.{with_open, IsDraft}
 use Rattle.mail_index.proofs.BuildLaws.DraftLemmas.{all-snoc, all-weaker, listed-weaker}
 
@@ -14,49 +14,21 @@ archive_length-last (x ∷ archives) a = archive_length-last archives a
 
 -- a message stays one where an archive more comes
 pub message-more : (archives : List Archive) (a : Archive) (m : Record) → IsMessage archives m → IsMessage (archives ++ a ∷ []) m
-message-more archives a m is = record {
-  exists = omega (arith, length-append archives (a ∷ []), is.exists);
-  within = rw (archive_length-before archives a m.archive is.exists) is.within;
-  size = is.size;
-  date = is.date;
-}
+message-more archives a m is = grind (arith, length-append, archive_length-before)
 
 -- a message of the last archive
 pub message-new : (archives : List Archive) (a : Archive) (m : Record) → m.archive ≡ length archives → m.offset + m.length ≤ a.length → m.size < m.length → IfSome m.date (FitsSigned w64) → IsMessage (archives ++ a ∷ []) m
-message-new archives a m last within size date = record {
-  exists = omega (arith, length-append archives (a ∷ []));
-  within = subst (λ (n : ℕ). m.offset + m.length ≤ n) (sym (ap (archive_length (archives ++ a ∷ [])) last ∙ archive_length-last archives a)) within;
-  size = size;
-  date = date;
-}
+message-new archives a m last within size date = grind (arith, length-append, archive_length, archive_length-last)
 
 -- where the last archive gets another length, within which its messages end
 message-ended : (archives : List Archive) (a b : Archive) (m : Record) → (m.archive ≡ length archives → m.offset + m.length ≤ b.length) → IsMessage (archives ++ a ∷ []) m → IsMessage (archives ++ b ∷ []) m
-message-ended archives a b m ends is =
-    let count : length (archives ++ a ∷ []) ≡ suc (length archives) = omega (arith, length-append archives (a ∷ [])) in
-    (elim (nat_lt m.archive (length archives)) as (λ v. nat_lt m.archive (length archives) ≡ v → IsMessage (archives ++ b ∷ []) m) [
-      | true ↦ λ e.
-          let low : m.archive < length archives = grind (arith, nat_tests) in
-          message-more archives b m (record { exists = low; within = rw (archive_length-before archives a m.archive low) at is.within; size = is.size; date = is.date })
-      | false ↦ λ e.
-          let high : length archives ≤ m.archive = grind (arith, nat_tests) in
-          let last : m.archive ≡ length archives = omega (arith, is.exists) in
-          message-new archives b m last (ends last) is.size is.date
-    ]) refl
+message-ended archives a b m ends is = grind (arith, length-append, nat_tests, message-more, archive_length-before, message-new)
 
 -- each message of the archive that was open last ends where the last one does, or before
 ends-within : (a end : ℕ) (ms : List Record) → AllNext Follows ms → AllByRecursion (λ m. m.archive ≤ a) ms → end_of a ms ≤ end → AllByRecursion (λ m. m.archive ≡ a → m.offset + m.length ≤ end) ms
 ends-within a end [] f all h = tt
-ends-within a end (r ∷ []) f all h =
-    (λ same. let e : nat_eq r.archive a ≡ true = grind (arith, nat_tests) in let within : r.offset + r.length ≤ end = rw e at h in within, tt)
-ends-within a end (r ∷ s ∷ rs) f all h =
-    let rest = ends-within a end (s ∷ rs) f.1 all.1 h in (
-      λ same. elim f.0 [
-        | inl earlier ↦ absurd (omega (arith, all.1.0))
-        | inr behind ↦ let next : s.offset + s.length ≤ end = rest.0 (sym behind.0 ∙ same) in omega (arith, behind.1)
-      ],
-      rest,
-    )
+ends-within a end (r ∷ []) f all h = grind (arith, nat_tests)
+ends-within a end (r ∷ s ∷ rs) f all h = grind (arith, ends-within a end (s ∷ rs) f.1 all.1 h)
 
 pub all-ended : (archives : List Archive) (a b : Archive) (ms : List Record) → AllNext Follows ms → AllByRecursion (IsMessage (archives ++ a ∷ [])) ms → end_of (length archives) ms ≤ b.length → AllByRecursion (IsMessage (archives ++ b ∷ [])) ms
 all-ended archives a b ms f all h =
@@ -71,19 +43,11 @@ all-ended archives a b ms f all h =
 -- the next message keeps them in order
 pub in_order-next : (ms : List Record) (r : Record) → AllNext Follows ms → AllByRecursion (λ m. m.archive ≤ r.archive) ms → end_of r.archive ms ≤ r.offset → AllNext Follows (ms ++ r ∷ [])
 in_order-next [] r f all h = tt
-in_order-next (m ∷ []) r f all h = (
-  (elim (nat_eq m.archive r.archive) as (λ v. nat_eq m.archive r.archive ≡ v → Follows m r) [
-    | true ↦ λ e. let same : m.archive ≡ r.archive = grind (arith, nat_tests) in let behind : m.offset + m.length ≤ r.offset = rw e at h in inr (same, behind)
-    | false ↦ λ e. let earlier : m.archive < r.archive = grind (arith, nat_tests, all.0) in inl earlier
-  ]) refl,
-  tt,
-)
+in_order-next (m ∷ []) r f all h = grind (arith, nat_tests)
 in_order-next (m ∷ s ∷ ms) r f all h = (f.0, in_order-next (s ∷ ms) r f.1 all.1 h)
 
 pub archives-low : (archives : List Archive) (a : Archive) (ms : List Record) → AllByRecursion (IsMessage (archives ++ a ∷ [])) ms → AllByRecursion (λ m. m.archive ≤ length archives) ms
-archives-low archives a ms all =
-    let count : length (archives ++ a ∷ []) ≡ suc (length archives) = omega (arith, length-append archives (a ∷ [])) in
-    all-weaker (IsMessage (archives ++ a ∷ [])) (λ m. m.archive ≤ length archives) (λ m is. omega (arith, is.exists)) ms all
+archives-low archives a ms all = grind (arith, length-append, all-weaker)
 
 -- ---- what each call makes of a draft
 
@@ -110,8 +74,7 @@ message-open archives None m some last within size date = absurd cc
 message-open archives (Some p) m some last within size date = message-new archives (record { path = p; length = 2 ^ 40; digest = None }) m last within size date
 
 archives-low_open : (archives : List Archive) (path : Option (List ℕ)) (ms : List Record) → AllByRecursion (IsMessage (with_open archives path)) ms → AllByRecursion (λ m. m.archive ≤ length archives) ms
-archives-low_open archives None ms all = all-weaker (IsMessage archives) (λ m. m.archive ≤ length archives) (λ m is. omega (arith, is.exists)) ms all
-archives-low_open archives (Some p) ms all = archives-low archives (record { path = p; length = 2 ^ 40; digest = None }) ms all
+archives-low_open archives path ms h = grind (arith, all-weaker, archives-low)
 
 pub message-ended_draft : (d : Draft) (r : Record) → IsDraft d → IsInMessage d → IsNextMessage d r → IfSome r.date (FitsSigned w64)
     → IsDraft (record { most = d.most; path = d.path; in_message = false; table = record { version = d.table.version; archives = d.table.archives; messages = d.table.messages ++ r ∷ []; keys = d.table.keys } })
@@ -140,46 +103,14 @@ message-ended_draft d r is inside next date =
 
 pub archive-ended_draft : (d : Draft) (p : List ℕ) (n : ℕ) (h : List ℕ) → IsDraft d → d.path ≡ Some p → n ≤ 2 ^ 40 → length h ≡ 32 → end_of (length d.table.archives) d.table.messages ≤ n
     → IsDraft (record { most = d.most; path = None; in_message = d.in_message; table = record { version = d.table.version; archives = d.table.archives ++ record { path = p; length = n; digest = Some h } ∷ []; messages = d.table.messages; keys = d.table.keys } })
-archive-ended_draft d p n h is open_now small size last =
-    let room = subst (λ (q : Option (List ℕ)). IfSome q (λ p. (length d.table.archives < d.most) × IsPath p)) open_now is.open_archive in
-    let placed = subst (λ (q : Option (List ℕ)). AllByRecursion (IsMessage (with_open d.table.archives q)) d.table.messages) open_now is.placed in
-    let low : length d.table.archives < d.most = room.0 in
-    record {
-      version = is.version;
-      limit = is.limit;
-      archives = omega (arith, length-append {A = Archive} d.table.archives (record { path = p; length = n; digest = Some h } ∷ []));
-      open_archive = tt;
-      messages = is.messages;
-      open_message = is.open_message;
-      keys = is.keys;
-      named = all-snoc (IsArchive newest) d.table.archives (record { path = p; length = n; digest = Some h }) is.named (room.1, small, (refl, size));
-      placed = all-ended d.table.archives (record { path = p; length = 2 ^ 40; digest = None }) (record { path = p; length = n; digest = Some h }) d.table.messages is.in_order placed last;
-      in_order = is.in_order;
-      listed = is.listed;
-      sorted = is.sorted;
-    }
+archive-ended_draft d p n h is open_now small size last = grind (arith, length-append, all-snoc, newest, all-ended)
 
 -- what is open and what has ended is what a well-formed table has
 pub well_formed : (d : Draft) → IsDraft d → IsBetweenArchives d → IsWellFormed d.table
-well_formed d is between = record {
-  version = subst IsVersion (sym is.version) (inr refl);
-  archive_count = omega (arith, is.archives, is.limit);
-  message_count = omega (arith, is.messages, is.limit);
-  key_count = omega (arith, is.keys, is.limit);
-  archives = subst (λ (v : ℕ). AllByRecursion (IsArchive v) d.table.archives) (sym is.version) is.named;
-  messages = subst (λ (p : Option (List ℕ)). AllByRecursion (IsMessage (with_open d.table.archives p)) d.table.messages) between.0 is.placed;
-  in_order = is.in_order;
-  keys = subst (λ (v : ℕ). AllByRecursion (IsKey v (length d.table.messages)) d.table.keys) (sym is.version)
-      (subst (λ (b : Bool). AllByRecursion (IsKey newest (if b then suc (length d.table.messages) else length d.table.messages)) d.table.keys) between.1 is.listed);
-  sorted = is.sorted;
-}
+well_formed d is between = grind (arith, newest)
 
 -- no message is of the archive that comes next
 pub none-of-next : (archives : List Archive) (ms : List Record) → AllByRecursion (IsMessage archives) ms → end_of (length archives) ms ≡ 0
 none-of-next archives [] all = refl
-none-of-next archives (r ∷ []) all = elsewhere (nat_eq r.archive (length archives)) refl
-  where
-    elsewhere : (b : Bool) → nat_eq r.archive (length archives) ≡ b → (if b then r.offset + r.length else 0) ≡ 0
-    elsewhere true same = absurd (grind (arith, nat_tests, same, all.0.exists))
-    elsewhere false other = refl
+none-of-next archives (r ∷ []) all = grind (arith, nat_tests)
 none-of-next archives (r ∷ s ∷ rs) all = none-of-next archives (s ∷ rs) all.1

@@ -11,19 +11,11 @@ differences_from-snoc low (x ∷ ns) n = ap (λ l. (suc x - low) ∷ l) (differe
 
 -- one more number is one more difference
 pub postings-snoc : (ns : List ℕ) (n : ℕ) → postings (ns ++ n ∷ []) ≡ postings ns ++ leb128 5 (suc n - end_from 0 ns)
-postings-snoc ns n =
-    ap (λ ds. flat_map (leb128 5) ds) (differences_from-snoc 0 ns n)
-    ∙ flat_map-append (leb128 5) (differences_from 0 ns) ((suc n - end_from 0 ns) ∷ [])
-    ∙ ap (λ l. postings ns ++ l) (append-nil (leb128 5 (suc n - end_from 0 ns)))
+postings-snoc ns n = grind (arith, flat_map, leb128, differences_from-snoc, flat_map-append, differences_from, end_from, postings, append-nil)
 
 -- the lowest seven bits, and the rest, each at its weight
 weights : (k p w : ℕ) → (p + (128 + k % 128 - 128) * w) + (k / 128) * (128 * w) ≡ p + k * w
-weights k p w =
-    let low : 128 + k % 128 - 128 ≡ k % 128 = omega arith in
-    let all : k ≡ k % 128 + (k / 128) * 128 = omega arith in
-    let moved : (k / 128) * (128 * w) ≡ (k / 128) * 128 * w = sym (mul_assoc (k / 128) 128 w) in
-    let split : k * w ≡ (k % 128) * w + (k / 128) * 128 * w = ap (λ n. n * w) all ∙ add-mul (k % 128) ((k / 128) * 128) w in
-    rw (low, moved, split) (omega arith)
+weights k p w = grind (arith, mul_assoc, add-mul)
 
 told_more-last : (t : Told) (b : ℕ) → b < 128 → told_more t b ≡ told_whole (t.numbers ++ (t.next + (t.part + b * t.weight) - 1) ∷ []) (t.next + (t.part + b * t.weight))
 unfolding told_more

@@ -1,11 +1,9 @@
 -- Laws of lists that are compared by their ends.
-use Rattle.mail_index.proofs.Words.{◌≡◌, ◌∙◌, ℕ, ◌+◌, ◌-◌, ◌≤◌, List, ◌++◌, length, take, drop, sym, ap, ap₂, arith, take-append-drop, drop-drop}
+use Rattle.mail_index.proofs.Words.{◌≡◌, ◌∙◌, ℕ, ◌+◌, ◌-◌, ◌≤◌, List, ◌++◌, length, take, drop, sym, ap₂, arith, take-append-drop, drop-drop}
 
 -- what is behind the first n, of a list of n to 2 * n: it stands among the last n
 behind-first : (n : ℕ) (l : List ℕ) → n ≤ length l → length l ≤ n + n → drop (n - (length l - n)) (drop (length l - n) l) ≡ drop n l
-behind-first n l low high =
-    let e : (length l - n) + (n - (length l - n)) ≡ n = omega (arith, low, high) in
-    drop-drop (n - (length l - n)) (length l - n) l ∙ ap (λ (k : ℕ). drop k l) e
+behind-first n l low high = grind (arith, drop-drop)
 
 -- lists of the same length, n to 2 * n, with the same first n and the same last n are one
 pub same-by-ends : (n : ℕ) (a b : List ℕ) → length a ≡ length b → n ≤ length a → length a ≤ n + n

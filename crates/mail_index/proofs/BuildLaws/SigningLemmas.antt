@@ -1,5 +1,6 @@
 -- Laws of writing in steps.
-use Rattle.mail_index.proofs.Words.{◌≡◌, ℕ, suc, ◌+◌, ◌<◌, List, [], ◌∷◌, ◌++◌, length, flat_map, drop, get_or, Option, Result, Ok, Err, IsErr, OnErr, refl, ap, sym, subst, ◌∙◌, append_assoc, append-nil, add-one, drop-cons, Appends}
+use Rattle.std.proofs.Common.{arith}
+use Rattle.mail_index.proofs.Words.{◌≡◌, ℕ, suc, ◌+◌, ◌<◌, List, [], ◌∷◌, ◌++◌, length, flat_map, drop, get_or, Option, Result, IsErr, OnErr, ap, sym, subst, ◌∙◌, append_assoc, append-nil, add-one, drop-cons, Appends}
 use Rattle.sha2.specs.declared.Sha256.{Sha256}
 use Rattle.sha2.specs.Hashers.{Holds256}
 use Rattle.sha2.specs.Sha256.{sha256}
@@ -16,40 +17,19 @@ absorbs-join h j k x y first second m held = subst (λ z. Holds256 k z) (append_
 
 -- what was only gathered
 pub signs-gathered : {k : Signer} (t : Option (List ℕ)) (s : Signer) (bytes : List ℕ) → k.hasher ≡ s.hasher → k.pending ≡ s.pending ++ bytes → Signs t t s k bytes
-signs-gathered {k} t s bytes same gathered = record {
-  sent = [];
-  split = sym gathered;
-  out = appends-nil t;
-  digest = subst (λ h. Absorbs s.hasher h []) (sym same) (absorbs-nothing s.hasher);
-}
+signs-gathered {k} t s bytes same gathered = grind (arith, appends-nil, absorbs-nothing)
 
 -- all that was gathered
 pub signs-flushed : {t u : Option (List ℕ)} {s k : Signer} → Appends t u s.pending → Absorbs s.hasher k.hasher s.pending → k.pending ≡ [] → Signs t u s k []
-signs-flushed {t} {u} {s} {k} out digest none = record {
-  sent = s.pending;
-  split = ap (λ l. s.pending ++ l) (sym none);
-  out = out;
-  digest = digest;
-}
+signs-flushed {t} {u} {s} {k} out digest none = grind arith
 
 -- what was sent at once, where nothing was gathered
 pub signs-at-once : {t u : Option (List ℕ)} {s k : Signer} {bytes : List ℕ} → s.pending ≡ [] → Appends t u bytes → Absorbs s.hasher k.hasher bytes → k.pending ≡ [] → Signs t u s k bytes
-signs-at-once {t} {u} {s} {k} {bytes} before out digest none = record {
-  sent = bytes;
-  split = ap (λ l. l ++ bytes) before ∙ sym (append-nil bytes) ∙ ap (λ l. bytes ++ l) (sym none);
-  out = out;
-  digest = digest;
-}
+signs-at-once {t} {u} {s} {k} {bytes} before out digest none = grind (arith, append-nil)
 
 -- one after another
 pub signs-join : {t u v : Option (List ℕ)} {h j k : Signer} (x y : List ℕ) → Signs t u h j x → Signs u v j k y → Signs t v h k (x ++ y)
-signs-join {t} {u} {v} {h} {j} {k} x y first second = record {
-  sent = first.sent ++ second.sent;
-  split = sym (append_assoc h.pending x y) ∙ ap (λ l. l ++ y) first.split ∙ append_assoc first.sent j.pending y ∙ ap (λ l. first.sent ++ l) second.split
-      ∙ sym (append_assoc first.sent second.sent k.pending);
-  out = appends_join t u v first.sent second.sent first.out second.out;
-  digest = absorbs-join h.hasher j.hasher k.hasher first.sent second.sent first.digest second.digest;
-}
+signs-join {t} {u} {v} {h} {j} {k} x y first second = grind (arith, append_assoc, appends_join, absorbs-join)
 
 -- one after another, where the second breaks off
 pub breaks-off-later : {t u : Option (List ℕ)} {h j : Signer} (v : Option (List ℕ)) (x y : List ℕ) → Signs t u h j x → BreaksOff u v j y → BreaksOff t v h (x ++ y)
@@ -66,12 +46,10 @@ breaks-off-longer t u s bytes more fault = subst (λ l. Sends t u l) (append_ass
 
 -- a call that failed
 pub on-failure : {T E : Type 0} {A : Type 0} (r : Result T E) → A → OnErr r A
-on-failure (Ok _) a = tt
-on-failure (Err _) a = a
+on-failure r h = grind arith
 
 pub writes-failed : {T E : Type 0} (r : Result T E) (t u : Option (List ℕ)) (s k : Signer) (bytes : List ℕ) → IsErr r → BreaksOff t u s bytes → Writes r t u s k bytes
-writes-failed (Ok _) t u s k bytes failed fault = absurd cc
-writes-failed (Err _) t u s k bytes failed fault = fault
+writes-failed r t u s k bytes h h2 = grind arith
 
 -- ---- all that was gathered goes out, where nothing was gathered at first
 
@@ -79,8 +57,7 @@ pub all-sent : {t u : Option (List ℕ)} {s k : Signer} {whole : List ℕ} → s
 all-sent {t} {u} {s} {k} {whole} none signs = ap (λ l. l ++ whole) (sym none) ∙ signs.split
 
 pub appends-all : {t u : Option (List ℕ)} {s k : Signer} {whole : List ℕ} (v : Option (List ℕ)) → s.pending ≡ [] → Signs t u s k whole → Appends u v k.pending → Appends t v whole
-appends-all {t} {u} {s} {k} {whole} v none signs rest =
-    subst (λ l. Appends t v l) (sym (all-sent none signs)) (appends_join t u v signs.sent k.pending signs.out rest)
+appends-all {t} {u} {s} {k} {whole} v none signs rest = grind (arith, all-sent, appends_join)
 
 pub sends-all : {t u : Option (List ℕ)} {s k : Signer} {whole : List ℕ} (v : Option (List ℕ)) → s.pending ≡ [] → Signs t u s k whole → Sends u v k.pending → Sends t v whole
 sends-all {t} {u} {s} {k} {whole} v none signs rest =
@@ -94,11 +71,7 @@ digests-all {t} {u} {s} {k} {whole} digest none held signs told = told signs.sen
 
 -- nothing yet
 pub signing-start : (t : Option (List ℕ)) (s : Signer) (whole : List ℕ) → IsSigning t t s s whole whole
-signing-start t s whole = record {
-  front = [];
-  split = refl;
-  signs = signs-gathered t s [] refl (sym (append-nil s.pending));
-}
+signing-start t s whole = grind (arith, signs-gathered, append-nil)
 
 -- the next part
 pub signing-step : {t u v : Option (List ℕ)} {h j k : Signer} {whole : List ℕ} (part rest : List ℕ) → IsSigning t u h j whole (part ++ rest) → Signs u v j k part → IsSigning t v h k whole rest

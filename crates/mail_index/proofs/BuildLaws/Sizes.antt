@@ -1,5 +1,5 @@
 -- How many bytes the sections of an index file have.
-use Rattle.mail_index.proofs.Words.{◌≡◌, ℕ, ◌+◌, ◌*◌, ◌^◌, ◌<◌, ◌≤◌, List, [], ◌∷◌, ◌++◌, length, map, flat_map, Option, None, Some, refl, sym, ap, ◌∙◌, length-append, arith, unwrap_or, AllByRecursion, concat, length-map, newest, IsDigest, Archive, Key, Table, IsArchive, IsKey, postings, archive_bytes, record_bytes, entry_of, directory_from, texts_of, postings_of, entries, archive_section, counts, body, index_file, HasSmallSections, magic, be32, be64}
+use Rattle.mail_index.proofs.Words.{◌≡◌, ℕ, ◌+◌, ◌*◌, ◌^◌, ◌<◌, ◌≤◌, List, [], ◌∷◌, ◌++◌, length, map, flat_map, Option, refl, ap, ◌∙◌, length-append, arith, unwrap_or, AllByRecursion, concat, length-map, newest, IsDigest, Archive, Key, Table, IsArchive, IsKey, postings, archive_bytes, record_bytes, entry_of, directory_from, texts_of, postings_of, entries, archive_section, counts, body, index_file, HasSmallSections, magic, be32, be64}
 use Rattle.sha2.specs.Sha256.{sha256}
 use Rattle.sha2.proofs.Facts256.{length-sha256}
 use Rattle.mail_index.specs.declared.build.sections.Counts.{Counts}
@@ -12,8 +12,7 @@ pub length-archive_bytes : (a : Archive) → length (archive_bytes a) ≡ 12 + l
 length-archive_bytes a = omega (arith, length-append a.path (unwrap_or a.digest [] ++ []), length-append (unwrap_or a.digest []) [])
 
 most-digest : (d : Option (List ℕ)) → IsDigest newest d → length (unwrap_or d []) ≤ 32
-most-digest None h = omega arith
-most-digest (Some d) h = omega (arith, digest_size newest d h)
+most-digest d h = grind (arith, digest_size, newest)
 
 pub length-archives : (archives : List Archive) → AllByRecursion (IsArchive newest) archives → length (flat_map archive_bytes archives) ≤ 4140 * length archives
 length-archives [] all = omega arith
@@ -31,21 +30,7 @@ length-counts : (t : Table) → length (concat (counts t)) ≡ 48
 length-counts t = refl
 
 pub length-body : (t : Table) → length (body t) ≡ 48 + length (archive_section t) + 40 * length t.messages + 24 * length t.keys + length (texts_of (entries t)) + length (postings_of (entries t))
-length-body t =
-    let records : List ℕ = flat_map record_bytes t.messages in
-    omega (
-      arith,
-      length-counts t,
-      length_records t.messages,
-      length_directory 0 0 (entries t),
-      length-map t.keys entry_of,
-      length-append (concat (counts t)) (archive_section t ++ (flat_map record_bytes t.messages ++ (directory_from 0 0 (entries t) ++ (texts_of (entries t) ++ (postings_of (entries t) ++ []))))),
-      length-append (archive_section t) (flat_map record_bytes t.messages ++ (directory_from 0 0 (entries t) ++ (texts_of (entries t) ++ (postings_of (entries t) ++ [])))),
-      length-append (flat_map record_bytes t.messages) (directory_from 0 0 (entries t) ++ (texts_of (entries t) ++ (postings_of (entries t) ++ []))),
-      length-append (directory_from 0 0 (entries t)) (texts_of (entries t) ++ (postings_of (entries t) ++ [])),
-      length-append (texts_of (entries t)) (postings_of (entries t) ++ []),
-      length-append (postings_of (entries t)) [],
-    )
+length-body t = grind (arith, flat_map, record_bytes, length-counts, length_records, length_directory, entries, length-map, entry_of, length-append, concat, counts, archive_section, directory_from, texts_of, postings_of)
 
 pub length-index_file : (t : Table) → length (index_file t) ≡ length (body t) + 32
 unfolding index_file
@@ -53,14 +38,7 @@ length-index_file t = length-append (body t) (sha256 (body t)) ∙ ap (λ n. len
 
 -- the counts of a table, as they are written
 pub counted-is : (t : Table) (c : Counts) → IsCountOf t c → concat (counted c) ≡ concat (counts t)
-counted-is t c is =
-    ap (λ (n : ℕ). concat (magic ∷ be32 newest ∷ be32 n ∷ be32 c.messages ∷ be32 c.keys ∷ be64 c.archive_bytes ∷ be64 c.text_bytes ∷ be64 c.posting_bytes ∷ [])) is.archives
-    ∙ ap (λ (n : ℕ). concat (magic ∷ be32 newest ∷ be32 (length t.archives) ∷ be32 n ∷ be32 c.keys ∷ be64 c.archive_bytes ∷ be64 c.text_bytes ∷ be64 c.posting_bytes ∷ [])) is.messages
-    ∙ ap (λ (n : ℕ). concat (magic ∷ be32 newest ∷ be32 (length t.archives) ∷ be32 (length t.messages) ∷ be32 n ∷ be64 c.archive_bytes ∷ be64 c.text_bytes ∷ be64 c.posting_bytes ∷ [])) is.keys
-    ∙ ap (λ (n : ℕ). concat (magic ∷ be32 newest ∷ be32 (length t.archives) ∷ be32 (length t.messages) ∷ be32 (length t.keys) ∷ be64 n ∷ be64 c.text_bytes ∷ be64 c.posting_bytes ∷ [])) is.archive_bytes
-    ∙ ap (λ (n : ℕ). concat (magic ∷ be32 newest ∷ be32 (length t.archives) ∷ be32 (length t.messages) ∷ be32 (length t.keys) ∷ be64 (length (archive_section t)) ∷ be64 n ∷ be64 c.posting_bytes ∷ [])) is.text_bytes
-    ∙ ap (λ (n : ℕ). concat (magic ∷ be32 newest ∷ be32 (length t.archives) ∷ be32 (length t.messages) ∷ be32 (length t.keys) ∷ be64 (length (archive_section t)) ∷ be64 (length (texts_of (entries t))) ∷ be64 n ∷ [])) is.posting_bytes
-    ∙ ap (λ (n : ℕ). concat (magic ∷ be32 n ∷ be32 (length t.archives) ∷ be32 (length t.messages) ∷ be32 (length t.keys) ∷ be64 (length (archive_section t)) ∷ be64 (length (texts_of (entries t))) ∷ be64 (length (postings_of (entries t))) ∷ [])) (sym is.version)
+counted-is t c is = grind (arith, concat, magic, be32, newest, be64, archive_section, texts_of, entries, postings_of)
 
 -- they tell the file's length
 pub counted_length-is : (t : Table) (c : Counts) → IsCountOf t c → counted_length c ≡ length (index_file t)
@@ -69,16 +47,11 @@ counted_length-is t c is = omega (arith, length-index_file t, length-body t, is.
 -- which is below 2 ^ 64
 pub counted_length-small : (t : Table) (c : Counts) (count : ℕ) → IsCountOf t c → length t.archives < 2 ^ 31 → length t.messages < 2 ^ 31 → length t.keys < 2 ^ 31 → count ≤ 2 ^ 31
     → AllByRecursion (IsArchive newest) t.archives → AllByRecursion (IsKey newest count) t.keys → counted_length c < 2 ^ 64
-counted_length-small t c count is archives messages keys h named listed =
-    omega (arith, is.messages, is.keys, is.archive_bytes, is.text_bytes, is.posting_bytes, length-archives t.archives named, length-texts count t.keys listed, length-all_postings count t.keys h listed)
+counted_length-small t c count is archives messages keys h named listed = grind (arith, length-archives, length-texts, length-all_postings)
 
 pub index_file-is : (t : Table) → index_file t ≡ body t ++ sha256 (body t)
 unfolding index_file
 index_file-is t = refl
 
 pub small-sections : (t : Table) (c : Counts) → IsCountOf t c → counted_length c < 2 ^ 64 → HasSmallSections t
-small-sections t c is small = record {
-  archives = omega (arith, is.archive_bytes);
-  texts = omega (arith, is.text_bytes);
-  postings = omega (arith, is.posting_bytes);
-}
+small-sections t c is small = grind (arith, postings)

@@ -36,16 +36,7 @@ pub record TellsCounts (bytes : List ℕ) (t : Table) : Type 0 where
   pub posting_bytes : u64_at bytes 40 ≡ length (postings_of (entries t))
 
 tells : (t : Table) (rest : List ℕ) → IsWellFormed t → length (archive_section t) < 2 ^ 64 → length (texts_of (entries t)) < 2 ^ 64 → length (postings_of (entries t)) < 2 ^ 64 → TellsCounts (before (counts t) rest) t
-tells t rest w a x p = record {
-  marked = refl;
-  known = from_be_bytes-to_be_bytes_4 t.version (small_version t.version w.version);
-  archives = from_be_bytes-to_be_bytes_4 (length t.archives) w.archive_count;
-  messages = from_be_bytes-to_be_bytes_4 (length t.messages) w.message_count;
-  keys = from_be_bytes-to_be_bytes_4 (length t.keys) w.key_count;
-  archive_bytes = from_be_bytes-to_be_bytes_8 (length (archive_section t)) a;
-  text_bytes = from_be_bytes-to_be_bytes_8 (length (texts_of (entries t))) x;
-  posting_bytes = from_be_bytes-to_be_bytes_8 (length (postings_of (entries t))) p;
-}
+tells t rest w a x p = grind (arith, from_be_bytes-to_be_bytes_4, small_version, archive_bytes, from_be_bytes-to_be_bytes_8, archive_section, texts_of, entries, postings_of)
 
 count_entries_of : (ks : List Key) → length (map entry_of ks) ≡ length ks
 count_entries_of [] = refl
@@ -61,16 +52,7 @@ are_entries version count [] h = tt
 are_entries version count (k ∷ ks) h = ((h.0.kind, h.0.some_text, h.0.short, some_postings k.numbers h.0.some_number), are_entries version count ks h.1)
 
 length_body : (t : Table) → length (body t) ≡ 48 + length (archive_section t) + 40 * length t.messages + 24 * length t.keys + length (texts_of (entries t)) + length (postings_of (entries t))
-length_body t =
-    let a = archive_section t in let r = flat_map record_bytes t.messages in let d = directory_from 0 0 (entries t) in let x = texts_of (entries t) in let p = postings_of (entries t) in
-    let e₀ = length-append (concat (counts t)) (a ++ (r ++ (d ++ (x ++ (p ++ []))))) in
-    let e₁ = length-append a (r ++ (d ++ (x ++ (p ++ [])))) in
-    let e₂ = length-append r (d ++ (x ++ (p ++ []))) in
-    let e₃ = length-append d (x ++ (p ++ [])) in
-    let e₄ = length-append x (p ++ []) in
-    let e₅ = length-append p [] in
-    let h : length (concat (counts t)) ≡ 48 = refl in
-    omega (arith, e₀, e₁, e₂, e₃, e₄, e₅, h, length_records t.messages, length_directory 0 0 (entries t), count_entries_of t.keys)
+length_body t = grind (arith, archive_section, flat_map, record_bytes, directory_from, entries, texts_of, postings_of, length-append, concat, counts, length_records, length_directory, count_entries_of)
 
 -- the file of a table that lies in memory keeps all rules
 pub keeps_rules : (bytes : List ℕ) (t : Table) → length bytes < 2 ^ 64 → IsFileOf bytes t → HasPostings bytes t.archives t.messages t.keys
@@ -112,10 +94,7 @@ keeps_rules bytes t few f =
 -- ---- so it has no fault
 
 same_archives : (bytes : List ℕ) (as' bs : List Archive) → HasArchives bytes as' → HasArchives bytes bs → as' ≡ bs
-same_archives bytes as' bs a b =
-    let l : length as' ≡ length bs = a.counted ∙ sym b.counted in
-    let e : flat_map archive_bytes as' ≡ flat_map archive_bytes bs = sym a.spelled ∙ b.spelled in
-    sym (archives_back (version_told bytes) as' a.each) ∙ (λ i. read_archives (version_told bytes) (l i) (e i)) ∙ archives_back (version_told bytes) bs b.each
+same_archives bytes as' bs a b = grind (arith, flat_map, archive_bytes, archives_back, version_told, read_archives)
 
 pub same_records : (bytes : List ℕ) (archives : List Archive) (ms ns : List Record) → length archives < 2 ^ 32 → HasRecords bytes archives ms → HasRecords bytes archives ns → ms ≡ ns
 same_records bytes archives ms ns few a b =
@@ -136,11 +115,7 @@ no_fault bytes t few w f h = go f h (keeps_rules bytes t few w) w.0.archive_coun
     go (BadLayout Records) h k n =
         let a : t.archives ≡ h.0 = same_archives bytes t.archives h.0 k.before.before.before h.1 in
         h.2 t.messages (subst (λ (x : List Archive). HasRecords bytes x t.messages) a k.before.before)
-    go (BadLayout Directory) h k n =
-        let a : t.archives ≡ h.0 = same_archives bytes t.archives h.0 k.before.before.before h.2.before in
-        let r = subst (λ (x : List Archive). HasRecords bytes x t.messages) a k.before.before in
-        let m : t.messages ≡ h.1 = same_records bytes h.0 t.messages h.1 (omega (arith, n, ap length a)) r h.2 in
-        h.3 (map entry_of t.keys) (subst (λ (y : List Record). HasDirectory bytes h.0 y (map entry_of t.keys)) m (subst (λ (x : List Archive). HasDirectory bytes x t.messages (map entry_of t.keys)) a k.before))
+    go (BadLayout Directory) h k n = grind (arith, entry_of)
     go (BadLayout Postings) h k n =
         let a : t.archives ≡ h.0 = same_archives bytes t.archives h.0 k.before.before.before h.3.before.before in
         let r = subst (λ (x : List Archive). HasRecords bytes x t.messages) a k.before.before in

@@ -1,5 +1,5 @@
 -- Numbers read from bytes and written back.
-use Rattle.mail_index.proofs.Words.{length-take-le, ◌≡◌, ℕ, zero, suc, ◌+◌, ◌<◌, ◌≤◌, List, [], ◌∷◌, ◌++◌, length, take, drop, get_or, refl, Bool, true, false, ◌&&◌, sym, ap, ◌∙◌, arith, length-drop, take-append-drop, drop-drop, be_bytes_4, be_bytes_8, byte_at, u32_at, u64_at, be32, be64}
+use Rattle.mail_index.proofs.Words.{length-take-le, ◌≡◌, ℕ, zero, suc, ◌+◌, ◌<◌, ◌≤◌, List, [], ◌∷◌, ◌++◌, length, take, drop, get_or, refl, Bool, true, ◌&&◌, sym, ap, ◌∙◌, arith, length-drop, take-append-drop, drop-drop, be_bytes_4, be_bytes_8, byte_at, u32_at, u64_at, be32, be64}
 
 pub record AreBytes (bytes : List ℕ) : Type 0 where
   pub below : (i : ℕ) → get_or bytes i 0 < 256
@@ -49,6 +49,4 @@ byte_back (b ∷ bs) zero j l e = rw e refl
 byte_back (b ∷ bs) (suc i) j l e = rw (let e' : j ≡ suc (i + 1) = omega (arith, e) in e') (byte_back bs i (i + 1) (omega (arith, l)) refl)
 
 pub both : (a b : Bool) → (a && b) ≡ true → (a ≡ true) × (b ≡ true)
-both true true e = (refl, refl)
-both true false e = absurd cc
-both false b e = absurd cc
+both a b h = grind arith

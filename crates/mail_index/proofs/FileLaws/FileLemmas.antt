@@ -27,18 +27,13 @@ has_archives bytes l f h = record { before = f.counts; spelled = sym f.layout.ar
 
 pub these_archives : (bytes : List ℕ) (l : Layout) → IsLaidOut bytes l → (archives : List Archive) → HasArchives bytes archives
     → (read_archives (version_number l.version) l.archive_count l.archives.now ≡ archives) × SpellsArchives (version_number l.version) l.archive_count l.archives.now
-these_archives bytes l f archives h = spells_these (version_number l.version) l.archive_count l.archives.now archives (f.layout.archives ∙ h.spelled) (h.counted ∙ sym f.layout.archive_count)
-    (subst (λ (v : ℕ). AllByRecursion (IsArchive v) archives) (sym f.layout.version) h.each)
+these_archives bytes l f archives h = grind (arith, spells_these, version_number)
 
 pub record_section : (bytes : List ℕ) (l : Layout) → IsLaidOut bytes l → length l.records.now ≡ 40 * l.message_count
-record_section bytes l f =
-    let n = section_length (records_start bytes) (directory_start bytes) bytes (omega arith) (omega (arith, f.layout.adds_up)) in
-    omega (arith, ap length f.layout.records, n, f.layout.message_count)
+record_section bytes l f = grind (arith, section_length, records_start, directory_start)
 
 pub directory_section : (bytes : List ℕ) (l : Layout) → IsLaidOut bytes l → length l.directory.now ≡ 24 * l.key_count
-directory_section bytes l f =
-    let n = section_length (directory_start bytes) (texts_start bytes) bytes (omega arith) (omega (arith, f.layout.adds_up)) in
-    omega (arith, ap length f.layout.directory, n, f.layout.key_count)
+directory_section bytes l f = grind (arith, section_length, directory_start, texts_start)
 
 pub has_records : (bytes : List ℕ) (l : Layout) → IsLaidOut bytes l → SpellsArchives (version_number l.version) l.archive_count l.archives.now → AreRecords (version_number l.version) l.archive_count 0 0 l.archives.now l.message_count l.records.now
     → HasRecords bytes (read_archives (version_number l.version) l.archive_count l.archives.now) (read_records l.message_count l.records.now)

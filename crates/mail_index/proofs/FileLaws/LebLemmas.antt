@@ -1,5 +1,5 @@
 -- LEB128, split byte by byte.
-use Rattle.mail_index.proofs.Words.{◌≡◌, ◌≢◌, ℕ, zero, suc, ◌+◌, ◌-◌, ◌*◌, ◌/◌, ◌<◌, ◌≤◌, refl, subst, arith, IsShort}
+use Rattle.mail_index.proofs.Words.{◌≡◌, ◌≢◌, ℕ, zero, suc, ◌+◌, ◌-◌, ◌*◌, ◌/◌, ◌<◌, ◌≤◌, refl, arith, IsShort}
 
 -- five groups are 35 bits
 pub IsShort-small : (groups n : ℕ) → groups ≤ 5 → IsShort groups n → n < 34359738368
@@ -22,7 +22,4 @@ IsShort-last (suc groups) b some h = let none : b / 128 ≡ 0 = omega (arith, h)
 
 -- seven bits more below
 pub IsShort-more : (groups b high : ℕ) → groups ≢ 0 → b < 128 → IsShort (groups - 1) high → IsShort groups (b + 128 * high)
-IsShort-more zero b high some h short = absurd (some refl)
-IsShort-more (suc groups) b high some h short = let rest : (b + 128 * high) / 128 ≡ high = omega (arith, h) in
-    let same : suc groups - 1 ≡ groups = omega arith in
-    rw rest (subst (λ (g : ℕ). IsShort g high) same short)
+IsShort-more groups b high h h2 h3 = grind arith

@@ -1,5 +1,5 @@
 -- The whole file: each section in its turn.
-use Rattle.mail_index.proofs.Words.{◌≡◌, ℕ, zero, suc, ◌+◌, ◌^◌, ◌<◌, ◌≤◌, List, [], ◌∷◌, ◌++◌, length, map, get_or, refl, sym, ap, subst, ◌∙◌, append_assoc, inl, inr, arith, flat_map, AllByRecursion, length-append, length-map, Record, kind_number, IsVersion, Archive, Key, Table, IsArchive, IsMessage, IsKey, IsWellFormed, archive_length, zeros, be32, be64, archive_bytes, record_bytes, Entry, entry_of, entry_bytes, directory_from, texts_of, postings_of, archive_section, entries, counts, sections, body, HasSmallSections, index_file}
+use Rattle.mail_index.proofs.Words.{◌≡◌, ℕ, zero, suc, ◌+◌, ◌^◌, ◌<◌, ◌≤◌, List, [], ◌∷◌, ◌++◌, length, map, get_or, refl, sym, ap, subst, ◌∙◌, append_assoc, arith, flat_map, AllByRecursion, length-append, length-map, Record, kind_number, IsVersion, Archive, Key, Table, IsArchive, IsMessage, IsKey, IsWellFormed, archive_length, zeros, be32, be64, archive_bytes, record_bytes, Entry, entry_of, entry_bytes, directory_from, texts_of, postings_of, archive_section, entries, counts, sections, body, HasSmallSections, index_file}
 use Rattle.sha2.specs.Sha256.{sha256}
 use Rattle.mail_index.proofs.FileLaws.Fronts.{split, before, concat_then, same_parts, be32_is, be64_is, front_each, archive_front}
 use Rattle.mail_index.proofs.ViewLaws.KindNumbers.{kind_is}
@@ -88,8 +88,7 @@ short_texts version count [] p = tt
 short_texts version count (k ∷ ks) p = (p.0.short, short_texts version count ks p.1)
 
 pub small_version : (n : ℕ) → IsVersion n → n < 2 ^ 32
-small_version n (inl e) = omega (arith, e)
-small_version n (inr e) = omega (arith, e)
+small_version n h = grind arith
 
 abbrev tail_of : Table → List ℕ → List ℕ
 tail_of t x = before (archive_section t ∷ flat_map record_bytes t.messages ∷ directory_from 0 0 (entries t) ∷ texts_of (entries t) ∷ postings_of (entries t) ∷ []) x

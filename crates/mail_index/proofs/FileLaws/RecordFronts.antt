@@ -1,5 +1,5 @@
 -- Records and lists of numbers that stand at the front of equal bytes are equal.
-use Rattle.mail_index.proofs.Words.{◌≡◌, ℕ, zero, suc, ◌+◌, ◌-◌, ◌*◌, ◌/◌, ◌%◌, ◌^◌, ◌<◌, ◌≤◌, Bool, true, false, cond, ltb, List, [], ◌∷◌, ◌++◌, length, get_or, Option, Some, None, refl, sym, ap, ◌∙◌, arith, ℤ, ltb-true, flat_map, IfSome, FitsSigned, is_some, AllByRecursion, w64, cast_unsigned, cast_signed, to_z-of_z, Fits-of_z, Fits-lt-pow, Record, Archive, IsMessage, RisesFrom, Key, IsKey, archive_length, leb128, differences_from, postings, zeros, be32, be64, bit, flags_byte, date_number, record_bytes}
+use Rattle.mail_index.proofs.Words.{◌≡◌, ℕ, zero, suc, ◌+◌, ◌-◌, ◌*◌, ◌/◌, ◌%◌, ◌^◌, ◌<◌, ◌≤◌, Bool, cond, ltb, List, [], ◌∷◌, ◌++◌, length, get_or, Option, refl, sym, ap, ◌∙◌, arith, ℤ, ltb-true, flat_map, IfSome, FitsSigned, is_some, AllByRecursion, w64, cast_unsigned, cast_signed, to_z-of_z, Fits-of_z, Fits-lt-pow, Record, Archive, IsMessage, RisesFrom, Key, IsKey, archive_length, leb128, differences_from, postings, zeros, be32, be64, bit, flags_byte, date_number, record_bytes}
 use Rattle.mail_index.proofs.FileLaws.Fronts.{concat_then, same_parts, be32_is, be64_is}
 
 abbrev pub at : List (List ℕ) → ℕ → List ℕ
@@ -11,39 +11,19 @@ same_at xs ys i e = ap (λ (l : List (List ℕ)). at l i) e
 -- ---- records
 
 bit_is : (b c : Bool) → bit 1 b ≡ bit 1 c → b ≡ c
-bit_is true true e = refl
-bit_is true false e = absurd (omega (arith, e))
-bit_is false true e = absurd (omega (arith, e))
-bit_is false false e = refl
+bit_is b c h = grind arith
 
 bit_small : (b : Bool) → bit 1 b ≤ 1
-bit_small true = omega arith
-bit_small false = omega arith
+bit_small b = grind arith
 
 bit_by : (n : ℕ) (b : Bool) → bit n b ≡ n * bit 1 b
-bit_by n true = omega arith
-bit_by n false = omega arith
+bit_by n b = grind arith
 
 flags_is : (a b c d e f g h : Bool) → bit 1 a + bit 2 b + bit 4 c + bit 8 d ≡ bit 1 e + bit 2 f + bit 4 g + bit 8 h → (a ≡ e) × (b ≡ f) × (c ≡ g) × (d ≡ h)
-flags_is a b c d e f g h s =
-    let x = bit_small a in let y = bit_small b in let z = bit_small c in let w = bit_small d in
-    let p = bit_small e in let q = bit_small f in let r = bit_small g in let t = bit_small h in
-    let s' : bit 1 a + 2 * bit 1 b + 4 * bit 1 c + 8 * bit 1 d ≡ bit 1 e + 2 * bit 1 f + 4 * bit 1 g + 8 * bit 1 h =
-    omega (arith, s, bit_by 2 b, bit_by 4 c, bit_by 8 d, bit_by 2 f, bit_by 4 g, bit_by 8 h) in (
-      bit_is a e (omega (arith, s', x, y, z, w, p, q, r, t)),
-      bit_is b f (omega (arith, s', x, y, z, w, p, q, r, t)),
-      bit_is c g (omega (arith, s', x, y, z, w, p, q, r, t)),
-      bit_is d h (omega (arith, s', x, y, z, w, p, q, r, t)),
-    )
+flags_is a b c d e f g h s = grind (arith, bit_small, bit, bit_by, bit_is)
 
 date_is : (a b : Option ℤ) → IfSome a (FitsSigned w64) → IfSome b (FitsSigned w64) → is_some a ≡ is_some b → be64 (date_number a) ≡ be64 (date_number b) → a ≡ b
-date_is None None p q s e = refl
-date_is None (Some y) p q s e = absurd cc
-date_is (Some x) None p q s e = absurd cc
-date_is (Some x) (Some y) p q s e =
-    let same : cast_unsigned w64 x ≡ cast_unsigned w64 y = be64_is _ _ (Fits-lt-pow (Fits-of_z p)) (Fits-lt-pow (Fits-of_z q)) e in
-    let z : x ≡ y = sym (to_z-of_z w64 x p) ∙ ap (cast_signed w64) same ∙ to_z-of_z w64 y q in
-    ap (λ (k : ℤ). Some k) z
+date_is a b h h2 h3 h4 = grind (arith, cast_unsigned, w64, be64_is, Fits-lt-pow, Fits-of_z, to_z-of_z, cast_signed)
 
 record_list : Record → List (List ℕ)
 record_list m = be32 m.archive ∷ (flags_byte m ∷ zeros) ∷ be64 m.offset ∷ be64 m.length ∷ be64 m.size ∷ be64 (date_number m.date) ∷ []
@@ -78,21 +58,10 @@ leb_front (suc k) n m x y p q e = go (ltb n 128) refl (ltb m 128) refl e (λ x y
     go : (t : Bool) → ltb n 128 ≡ t → (u : Bool) → ltb m 128 ≡ u
         → cond t (n ∷ []) ((128 + n % 128) ∷ leb128 k (n / 128)) ++ x ≡ cond u (m ∷ []) ((128 + m % 128) ∷ leb128 k (m / 128)) ++ y
         → ((x y : List ℕ) → leb128 k (n / 128) ++ x ≡ leb128 k (m / 128) ++ y → (n / 128 ≡ m / 128) × (x ≡ y)) → (n ≡ m) × (x ≡ y)
-    go true h true g e r = (cc, cc)
-    go true h false g e r = let a : n ≡ 128 + m % 128 = cc in let b : n < 128 = ltb-true n 128 h in absurd (omega (arith, a, b))
-    go false h true g e r = let a : m ≡ 128 + n % 128 = cc in let b : m < 128 = ltb-true m 128 g in absurd (omega (arith, a, b))
-    go false h false g e r =
-        let a : 128 + n % 128 ≡ 128 + m % 128 = cc in
-        let t : leb128 k (n / 128) ++ x ≡ leb128 k (m / 128) ++ y = cc in
-        let s = r x y t in
-        (omega (arith, a, s.0), s.1)
+    go t h u h2 h3 h4 = grind (arith, ltb-true, leb128)
 
 pub leb_some : (k n : ℕ) (x : List ℕ) → leb128 (suc k) n ++ x ≡ [] → ⊥
-leb_some k n x e = go (ltb n 128) e
-  where
-    go : (t : Bool) → cond t (n ∷ []) ((128 + n % 128) ∷ leb128 k (n / 128)) ++ x ≡ [] → ⊥
-    go true e = cc
-    go false e = cc
+leb_some k n x e = grind (arith, ltb, leb128)
 
 whole : (xs ys : List ℕ) → AllByRecursion (Small 5) xs → AllByRecursion (Small 5) ys → flat_map (leb128 5) xs ≡ flat_map (leb128 5) ys → xs ≡ ys
 whole [] [] p q e = refl
@@ -120,5 +89,4 @@ small_differences count low [] h p = tt
 small_differences count low (x ∷ xs) h p = (omega (arith, h, p.0), small_differences count (suc x) xs h p.1)
 
 pub numbers_are : (version count : ℕ) (a b : Key) → count < 2 ^ 32 → IsKey version count a → IsKey version count b → postings a.numbers ≡ postings b.numbers → a.numbers ≡ b.numbers
-numbers_are version count a b h p q e =
-    differences_is 0 a.numbers b.numbers p.rises q.rises (whole _ _ (small_differences count 0 a.numbers h p.below) (small_differences count 0 b.numbers h q.below) e)
+numbers_are version count a b h p q e = grind (arith, differences_is, whole, small_differences)

@@ -1,15 +1,11 @@
 -- Bytes that lie in memory are the file of one table at most.
-use Rattle.mail_index.proofs.Words.{◌≡◌, ◌∙◌, ◌^◌, ◌<◌, ℕ, List, length, sym, ap, arith, Table, HasSmallSections, IsFileOf}
+use Rattle.mail_index.proofs.Words.{◌≡◌, ◌∙◌, ◌^◌, ◌<◌, ℕ, List, length, sym, arith, Table, HasSmallSections, IsFileOf}
 use Rattle.mail_index.proofs.BuildLaws.Sizes.{length-body, length-index_file}
 use Rattle.mail_index.proofs.FileLaws.OneTable.{one_file}
 
 -- no section is longer than the file
 small-file : (bytes : List ℕ) (t : Table) → length bytes < 2 ^ 64 → IsFileOf bytes t → HasSmallSections t
-small-file bytes t few f = record {
-  archives = omega (arith, few, ap length f.1, length-index_file t, length-body t);
-  texts = omega (arith, few, ap length f.1, length-index_file t, length-body t);
-  postings = omega (arith, few, ap length f.1, length-index_file t, length-body t);
-}
+small-file bytes t few f = grind (arith, length-index_file, length-body)
 
 pub same-table : (bytes : List ℕ) (t u : Table) → length bytes < 2 ^ 64 → IsFileOf bytes t → IsFileOf bytes u → u ≡ t
 same-table bytes t u few f h = one_file u t h.0 f.0 (small-file bytes u few h) (small-file bytes t few f) (sym h.1 ∙ f.1)

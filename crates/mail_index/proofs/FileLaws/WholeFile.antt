@@ -30,30 +30,13 @@ entries_of l = read_entries l.texts.now l.postings.now l.key_count l.directory.n
 
 pub has_directory : (bytes : List ℕ) (l : Layout) → IsLaidOut bytes l → HoldsRecords l → AreEntries (version_number l.version) l.texts.now (length l.postings.now) 0 0 0 [] l.key_count l.directory.now
     → HasDirectory bytes (table_of l).archives (table_of l).messages (entries_of l)
-has_directory bytes l f r h =
-    let s = shows_entries (version_number l.version) l.texts.now l.postings.now 0 0 0 [] l.key_count l.directory.now
-    (section_bytes (directory_start bytes) (texts_start bytes) bytes l.directory.now f.layout.directory f.are_bytes) (directory_section bytes l f) h in
-    record {
-      before = has_records bytes l f r.archives r.records;
-      spelled = sym f.layout.directory ∙ s.spelled;
-      texts = sym f.layout.texts ∙ s.texts_spelled;
-      postings = sym f.layout.postings ∙ s.postings_spelled;
-      each = subst (λ (v : ℕ). AllByRecursion (IsEntry v) (entries_of l)) f.layout.version s.each;
-      sorted = sorted 0 [] (entries_of l) s.after;
-    }
+has_directory bytes l f r h = grind (arith, shows_entries, version_number, section_bytes, directory_start, texts_start, directory_section, before, has_records, sorted)
 
 few_section : (i j : ℕ) (xs ys : List ℕ) → ys ≡ slice_range xs i j → i ≤ j → j ≤ length xs → length xs < 2 ^ 64 → length ys < 2 ^ 64
 few_section i j xs ys e l m n = omega (arith, ap length e, section_length i j xs l m, l, m, n)
 
 ahead_of : (bytes : List ℕ) (l : Layout) → IsLaidOut bytes l → (es : List Entry) → HasDirectory bytes (table_of l).archives (table_of l).messages es → IsAhead l.texts.now l.postings.now 0 0 es
-ahead_of bytes l f es h = record {
-  text_bound = omega arith;
-  bound = omega arith;
-  texts_spelled = f.layout.texts ∙ h.texts;
-  postings_spelled = f.layout.postings ∙ h.postings;
-  few_texts = few_section (texts_start bytes) (postings_start bytes) bytes l.texts.now f.layout.texts (omega arith) (omega (arith, f.layout.adds_up)) f.few;
-  few_postings = few_section (postings_start bytes) (digest_start bytes) bytes l.postings.now f.layout.postings (omega arith) (omega (arith, f.layout.adds_up)) f.few;
-}
+ahead_of bytes l f es h = grind (arith, few_section, texts_start, postings_start, digest_start)
 
 counted : (bytes : List ℕ) (l : Layout) → IsLaidOut bytes l → (es : List Entry) → HasDirectory bytes (table_of l).archives (table_of l).messages es → length es ≡ l.key_count
 counted bytes l f es h = omega (arith, ap length (f.layout.directory ∙ h.spelled), length_directory 0 0 es, directory_section bytes l f)

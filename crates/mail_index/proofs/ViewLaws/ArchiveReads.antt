@@ -1,5 +1,5 @@
 -- Archives read back from their bytes, and the bytes of archives that were read.
-use Rattle.mail_index.proofs.Words.{Some, slice_get, ◌≡◌, ◌↔◌, ℕ, zero, suc, ◌+◌, ◌-◌, ◌^◌, ◌<◌, ◌≤◌, List, [], ◌∷◌, ◌++◌, length, take, drop, Option, refl, sym, ap, subst, ◌∙◌, arith, length-append, length-drop, append_assoc, unwrap_or, flat_map, IsTrue, nat_eq, Bool, true, false, nat_tests, take-append_seam, drop-append_seam, take-append-drop, append-nil, AllByRecursion, from_be_bytes-to_be_bytes_4, from_be_bytes-to_be_bytes_8, u32_at, u64_at, be32, be64, archive_bytes, IsDigest, digest_length, read_digest, behind_digest, Archive, IsArchive, IsPath, archive_length, behind_path, read_archive, behind_archive, read_archives, behind_archives, HasArchive, SpellsArchives}
+use Rattle.mail_index.proofs.Words.{Some, slice_get, ◌≡◌, ◌↔◌, ℕ, zero, suc, ◌+◌, ◌-◌, ◌^◌, ◌<◌, ◌≤◌, List, [], ◌∷◌, ◌++◌, length, take, drop, Option, refl, sym, ap, subst, ◌∙◌, arith, length-append, length-drop, append_assoc, unwrap_or, flat_map, IsTrue, nat_eq, Bool, true, nat_tests, take-append_seam, drop-append_seam, take-append-drop, append-nil, AllByRecursion, from_be_bytes-to_be_bytes_4, from_be_bytes-to_be_bytes_8, u32_at, u64_at, be32, be64, archive_bytes, IsDigest, digest_length, read_digest, behind_digest, Archive, IsArchive, IsPath, archive_length, behind_path, read_archive, behind_archive, read_archives, behind_archives, HasArchive, SpellsArchives}
 use Rattle.mail_index.proofs.ViewLaws.DigestReads.{digest_back, digest_kept, digest_room}
 use Rattle.mail_index.proofs.FileLaws.Fronts.{concat_then}
 use Rattle.mail_index.proofs.FileLaws.Bytes.{AreBytes, u32_back, u64_back, length_part}
@@ -40,9 +40,7 @@ has_archive version r h l n p s t =
     record { spelled = sym e; valid = (p, s, t) }
 
 length_archive : (a : Archive) (x : List ℕ) → length (archive_bytes a ++ x) ≡ 12 + length a.path + length (unwrap_or a.digest []) + length x
-length_archive a x =
-    let d = unwrap_or a.digest [] in
-    omega (arith, length-append (archive_bytes a) x, length-append a.path (d ++ []), length-append d [])
+length_archive a x = grind (arith, unwrap_or, length-append, archive_bytes)
 
 -- what bytes that begin with an archive can be relied on for
 pub record ArchiveFront (version : ℕ) (r : List ℕ) : Type 0 where
@@ -126,9 +124,7 @@ found version r tail path behind n s digest rest h l es en et nl ep eb valid mos
 -- ---- the loop over archives
 
 pub spells_begin : (version n : ℕ) (r : List ℕ) → SpellsArchives version n r ↔ SpellsArchives version (n - 0) r
-spells_begin version n r =
-    let e : n - 0 ≡ n = omega arith in
-    (λ h. subst (λ (k : ℕ). SpellsArchives version k r) (sym e) h, λ h. subst (λ (k : ℕ). SpellsArchives version k r) e h)
+spells_begin version n r = grind arith
 
 pub spells_step : (version n i : ℕ) (s r behind : List ℕ) → i < n → (SpellsArchives version n s ↔ SpellsArchives version (n - i) r) → HasArchive version r → behind ≡ behind_archive version r
     → SpellsArchives version n s ↔ SpellsArchives version (n - (i + 1)) behind
@@ -144,22 +140,14 @@ spells_stop version n i s r l h refuses p =
     refuses (spells_front version (n - (i + 1)) r (subst (λ (k : ℕ). SpellsArchives version k r) e (h.0 p)))
 
 pub spells_end : (version n i : ℕ) (s r : List ℕ) → n ≤ i → (SpellsArchives version n s ↔ SpellsArchives version (n - i) r) → (r ≡ []) ↔ SpellsArchives version n s
-spells_end version n i s r l h =
-    let e : n - i ≡ 0 = omega (arith, l) in
-    (λ q. h.1 (subst (λ (k : ℕ). SpellsArchives version k r) (sym e) (record { spelled = q; each = tt })), λ p. (subst (λ (k : ℕ). SpellsArchives version k r) e (h.0 p)).spelled)
+spells_end version n i s r l h = grind arith
 
 pub empty_test : (b : Bool) (r : List ℕ) → b ≡ nat_eq (length r) 0 → IsTrue b ↔ (r ≡ [])
 empty_test b [] e = let t : b ≡ true = e in (λ h. refl, λ q. t)
-empty_test b (x ∷ r) e =
-    let z : nat_eq (suc (length r)) 0 ≡ false = grind (arith, nat_tests) in
-    let f : b ≡ false = e ∙ z in
-    (λ h. absurd (let g : false ≡ true = sym f ∙ h in cc), λ q. absurd cc)
+empty_test b (x ∷ r) e = grind (arith, nat_tests)
 
 pub spells_return : (version n i : ℕ) (s r : List ℕ) (b : Bool) → n ≤ i → (SpellsArchives version n s ↔ SpellsArchives version (n - i) r) → b ≡ nat_eq (length r) 0 → IsTrue b ↔ SpellsArchives version n s
-spells_return version n i s r b l h e =
-    let t = empty_test b r e in
-    let u = spells_end version n i s r l h in
-    (λ q. u.0 (t.0 q), λ q. t.1 (u.1 q))
+spells_return version n i s r b l h e = grind (arith, empty_test, spells_end)
 
 -- ---- the walk behind some archives
 
@@ -176,10 +164,7 @@ pass_step version count n i s r behind l b h e g =
 
 pub pass_end : (version count n i : ℕ) (s r : List ℕ) → n ≤ i → i ≤ n → SpellsArchives version (count - i) r → behind_archives version (n - i) r ≡ behind_archives version n s
     → (r ≡ behind_archives version n s) × SpellsArchives version (count - n) r
-pass_end version count n i s r l m h e =
-    let z : n - i ≡ 0 = omega (arith, l) in
-    let same : i ≡ n = omega (arith, l, m) in
-    (sym (ap (λ (j : ℕ). behind_archives version j r) z) ∙ e, subst (λ (j : ℕ). SpellsArchives version (count - j) r) same h)
+pass_end version count n i s r l m h e = grind (arith, behind_archives)
 
 pub behind_value : (version : ℕ) (r tail behind rest : List ℕ) (n k : ℕ) → n ≡ u32_at r 8 → tail ≡ drop 12 r → behind ≡ drop n tail → k ≡ digest_length version → rest ≡ drop k behind
     → rest ≡ behind_archive version r
@@ -189,10 +174,7 @@ behind_value version r tail behind rest n k en et eb ek er =
     er ∙ ap (λ (j : ℕ). drop j behind) ek ∙ ap (behind_digest version) after
 
 pub behind_some : (version count : ℕ) (r behind : List ℕ) → 0 < count → SpellsArchives version count r → behind ≡ behind_archive version r → SpellsArchives version (count - 1) behind
-behind_some version zero r behind l h e = absurd (omega (arith, l))
-behind_some version (suc n) r behind l h e =
-    let f : suc n - 1 ≡ n = omega arith in
-    rw (f, e) (spells_rest version n r h)
+behind_some version count r behind h h2 h3 = grind (arith, spells_rest)
 
 -- ---- lengths of archives
 
@@ -215,8 +197,7 @@ front_of_some version zero r l h = absurd (omega (arith, l))
 front_of_some version (suc n) r l h = archive_front_of version r (spells_front version n r h)
 
 pub has_first : (version count : ℕ) (r : List ℕ) → 0 < count → SpellsArchives version count r → HasArchive version r
-has_first version zero r l h = absurd (omega (arith, l))
-has_first version (suc n) r l h = spells_front version n r h
+has_first version count r h h2 = grind (arith, spells_front)
 
 pub archive_at : (version count n : ℕ) (r : List ℕ) → n < count → slice_get (read_archives version count r) n ≡ Some (read_archive version (behind_archives version n r))
 archive_at version zero n r l = absurd (omega (arith, l))

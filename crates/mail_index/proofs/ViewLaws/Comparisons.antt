@@ -13,23 +13,18 @@ left most kind text Equal before behind = 0
 left most kind text Greater before behind = comparisons_within most kind text before
 
 pub comparisons-none : (most : ℕ) (kind : Kind) (text : List ℕ) → comparisons_within most kind text [] ≡ 0
-comparisons-none zero kind text = refl
-comparisons-none (suc most) kind text = refl
+comparisons-none most kind text = grind arith
 
 comparisons-more : (most : ℕ) (kind : Kind) (text : List ℕ) (ks : List Key) (k : Key) (before behind : List Key) (o : Ordering)
     → drop (length ks / 2) ks ≡ k ∷ behind → take (length ks / 2) ks ≡ before → lies_to kind text k ≡ o
     → comparisons_within (suc most) kind text ks ≡ suc (left most kind text o before behind)
-comparisons-more most kind text ks k before behind Less from until lies = rw (from, lies, comparisons_within) refl
-comparisons-more most kind text ks k before behind Equal from until lies = rw (from, lies, comparisons_within) refl
-comparisons-more most kind text ks k before behind Greater from until lies = rw (from, lies, until, comparisons_within) refl
+comparisons-more most kind text ks k before behind o h h2 h3 = grind (arith, comparisons_within)
 
 -- ---- they are few
 
 left-few : (most : ℕ) (kind : Kind) (text : List ℕ) (o : Ordering) (before behind : List Key) (few : ℕ)
     → comparisons_within most kind text before ≤ few → comparisons_within most kind text behind ≤ few → left most kind text o before behind ≤ few
-left-few most kind text Less before behind few h g = g
-left-few most kind text Equal before behind few h g = omega arith
-left-few most kind text Greater before behind few h g = h
+left-few most kind text o before behind few h h2 = grind arith
 
 pub comparisons-few : (most : ℕ) (kind : Kind) (text : List ℕ) (ks : List Key) (digits : ℕ) → length ks < 2 ^ digits → comparisons_within most kind text ks ≤ digits
 comparisons-few zero kind text ks digits h = omega arith
@@ -59,9 +54,7 @@ from_place low high n ks d less within =
     ∙ between-next (low + n) high ks d less within
 
 before_place : (low high n : ℕ) (ks : List Key) → low + n < high → take n (keys_between low high ks) ≡ keys_between low (low + n) ks
-before_place low high n ks less =
-    let same : n ≡ low + n - low = omega arith in
-    take-take n (high - low) (drop low ks) (omega (arith, less)) ∙ ap (λ (m : ℕ). take m (drop low ks)) same
+before_place low high n ks less = grind (arith, take-take)
 
 -- the key in the middle of a row lies so to the sought one
 pub record Compared (most : ℕ) (kind : Kind) (text : List ℕ) (ks : List Key) (low high : ℕ) (o : Ordering) : Type 0 where

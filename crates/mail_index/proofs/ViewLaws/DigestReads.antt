@@ -42,14 +42,8 @@ whole_digest v y d x e cut =
 
 -- two digests of a version have as many bytes
 pub same_size : (version : ℕ) (d e : Option (List ℕ)) → IsDigest version d → IsDigest version e → length (unwrap_or d []) ≡ length (unwrap_or e [])
-same_size version None None h k = refl
-same_size version None (Some e) h k = absurd (omega (arith, h, k.0))
-same_size version (Some d) None h k = absurd (omega (arith, h.0, k))
-same_size version (Some d) (Some e) h k = digest_size version d h ∙ sym (digest_size version e k)
+same_size version d e h h2 = grind (arith, digest_size)
 
 -- they are told apart by their bytes
 pub digest_is : (version : ℕ) (d e : Option (List ℕ)) → IsDigest version d → IsDigest version e → unwrap_or d [] ≡ unwrap_or e [] → d ≡ e
-digest_is version None None h k same = refl
-digest_is version None (Some e) h k same = absurd (omega (arith, h, k.0))
-digest_is version (Some d) None h k same = absurd (omega (arith, h.0, k))
-digest_is version (Some d) (Some e) h k same = ap Some same
+digest_is version d e h h2 h3 = grind arith

@@ -1,5 +1,5 @@
 -- Parts of bytes, and the posting lists of a directory.
-use Rattle.mail_index.proofs.Words.{◌≡◌, ◌↔◌, ℕ, suc, ◌+◌, ◌-◌, ◌<◌, Bool, true, false, List, length, take, drop, sym, ap, subst, ◌∙◌, arith, u64_at, end_before, list_at, IsList, AreLists}
+use Rattle.mail_index.proofs.Words.{◌≡◌, ◌↔◌, ℕ, suc, ◌+◌, ◌-◌, ◌<◌, Bool, true, false, List, length, take, drop, sym, subst, arith, u64_at, end_before, list_at, IsList, AreLists}
 
 lists_first : (messages : ℕ) (postings : List ℕ) (n i : ℕ) (d : List ℕ) → i < n → AreLists messages postings (n - i) d → AreLists messages postings (suc (n - (i + 1))) d
 lists_first messages postings n i d l h = let e : n - i ≡ suc (n - (i + 1)) = omega (arith, l) in subst (λ (k : ℕ). AreLists messages postings k d) e h
@@ -14,11 +14,7 @@ lists_step P messages postings n i d behind list b l h eb el s t =
 
 pub lists_stop : (P : Type 0) (messages : ℕ) (postings : List ℕ) (n i : ℕ) (d list : List ℕ) (b : Bool) → i < n → (P ↔ AreLists messages postings (n - i) d) → list ≡ list_at postings d
     → ((b ≡ true) ↔ IsList messages list) → b ≡ false → P → ⊥
-lists_stop P messages postings n i d list b l h el s f q =
-    let t : b ≡ true = s.1 (subst (IsList messages) (sym el) (lists_first messages postings n i d l (h.0 q)).0) in
-    let g : true ≡ false = sym t ∙ f in cc
+lists_stop P messages postings n i d list b l h el s f q = grind (arith, lists_first)
 
 pub list_is : (list postings d behind : List ℕ) (p e : ℕ) → list ≡ take (e - p) (drop p postings) → p ≡ u64_at d 16 → e ≡ end_before behind (length postings) → behind ≡ drop 24 d → list ≡ list_at postings d
-list_is list postings d behind p e h q r b =
-    let e' : e ≡ end_before (drop 24 d) (length postings) = r ∙ ap (λ (x : List ℕ). end_before x (length postings)) b in
-    h ∙ (λ i. take (e' i - q i) (drop (q i) postings))
+list_is list postings d behind p e h q r b = grind (arith, end_before)

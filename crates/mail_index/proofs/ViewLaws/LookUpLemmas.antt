@@ -1,5 +1,5 @@
 -- A key looked up among sorted ones.
-use Rattle.mail_index.proofs.Words.{◌≡◌, ◌∙◌, ℕ, zero, suc, ◌-◌, ◌*◌, ◌^◌, ◌<◌, ◌≤◌, Bool, true, false, List, [], ◌∷◌, ◌/◌, length, map, get_or, refl, sym, ap, ap₂, arith, nat_eq, Ordering, Less, Equal, Greater, nat_cmp, is_eq, ordering_reverse, slice_cmp, length-map, get_or-map, nat_tests, pow-suc, nat_list_cmp_total, is_eq-slice_cmp, Less-from_sorted, Kind, kind_number, Key, is_key, lies_to, numbers_at, AreSorted}
+use Rattle.mail_index.proofs.Words.{◌≡◌, ◌∙◌, ℕ, zero, suc, ◌-◌, ◌^◌, ◌<◌, ◌≤◌, Bool, true, false, List, [], ◌∷◌, ◌/◌, length, map, get_or, refl, sym, ap, ap₂, arith, nat_eq, Ordering, Less, Equal, Greater, nat_cmp, is_eq, ordering_reverse, slice_cmp, length-map, get_or-map, nat_tests, pow-suc, nat_list_cmp_total, is_eq-slice_cmp, Less-from_sorted, Kind, kind_number, Key, is_key, lies_to, numbers_at, AreSorted}
 
 -- a key's bytes, by which keys are sorted
 abbrev pub key_bytes : Key → List ℕ
@@ -60,9 +60,7 @@ before-less kind text ks d m j sorted within less le = go (nat_eq j m) refl
         nat_list_cmp_total.trans (key_bytes (get_or ks j d)) (key_bytes (get_or ks m d)) (kind_number kind ∷ text) here less
 
 reversed : (o : Ordering) → o ≡ Greater → ordering_reverse o ≡ Less
-reversed Less e = absurd cc
-reversed Equal e = absurd cc
-reversed Greater e = refl
+reversed o h = grind arith
 
 -- those behind one that lies behind it do too
 pub behind-greater : (kind : Kind) (text : List ℕ) (ks : List Key) (d : Key) (m j : ℕ) → AreSorted ks → lies_to kind text (get_or ks m d) ≡ Greater → m ≤ j → j < length ks
@@ -94,9 +92,7 @@ pub record Halves (keys digits : ℕ) : Type 0 where
 
 pub halves : (keys digits : ℕ) → 0 < keys → keys < 2 ^ digits → Halves keys digits
 halves keys zero some h = absurd (omega (arith, some, h))
-halves keys (suc fewer) some h =
-    let double : 2 ^ suc fewer ≡ 2 ^ fewer * 2 = pow-suc 2 fewer in
-    record { fewer = fewer; digits_are = refl; lower = omega (arith, h, double); upper = omega (arith, h, double) }
+halves keys (suc fewer) some h = grind (arith, pow-suc)
 
 -- ---- a key that was met
 

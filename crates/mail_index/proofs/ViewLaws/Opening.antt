@@ -1,5 +1,5 @@
 -- What the walks over the sections show of a file, and what they refuse.
-use Rattle.mail_index.proofs.Words.{◌≡◌, ℕ, zero, suc, ◌+◌, ◌-◌, ◌*◌, ◌^◌, ◌<◌, List, [], ◌∷◌, length, map, drop, refl, sym, ap, subst, ◌∙◌, arith, length-append, flat_map, AllByRecursion, Some, slice_get, drop-drop, Record, Entry, entry_of, entry_bytes, archive_bytes, record_bytes, directory_from, Archive, Key, IsArchive, IsKey, AllNext, KeyBefore, RisesFrom, postings, postings_from, IsEntry, EntryBefore, read_archives, SpellsArchives, read_record, read_records, read_entry, read_entries, numbers_read, IsList, AreLists, key_of}
+use Rattle.mail_index.proofs.Words.{◌≡◌, ℕ, zero, suc, ◌+◌, ◌*◌, ◌^◌, ◌<◌, List, [], ◌∷◌, length, map, drop, refl, ap, ◌∙◌, arith, length-append, flat_map, AllByRecursion, Some, slice_get, drop-drop, Record, Entry, entry_of, entry_bytes, archive_bytes, record_bytes, directory_from, Archive, Key, IsArchive, IsKey, AllNext, KeyBefore, RisesFrom, postings, postings_from, IsEntry, EntryBefore, read_archives, SpellsArchives, read_record, read_records, read_entry, read_entries, numbers_read, IsList, AreLists, key_of}
 use Rattle.mail_index.proofs.Items.{all-weaker}
 use Rattle.mail_index.proofs.ViewLaws.ArchiveReads.{archives_back}
 use Rattle.mail_index.proofs.FileLaws.RecordFronts.{leb_some}
@@ -9,9 +9,7 @@ use Rattle.mail_index.proofs.ViewLaws.PostingReadLemmas.{read-posted}
 
 pub spells_these : (version count : ℕ) (s : List ℕ) (archives : List Archive) → s ≡ flat_map archive_bytes archives → length archives ≡ count → AllByRecursion (IsArchive version) archives
     → (read_archives version count s ≡ archives) × SpellsArchives version count s
-spells_these version count s archives e l h =
-    let r : read_archives version count s ≡ archives = (λ i. read_archives version (sym l i) (e i)) ∙ archives_back version archives h in
-    (r, record { spelled = e ∙ ap (flat_map archive_bytes) (sym r); each = subst (AllByRecursion (IsArchive version)) (sym r) h })
+spells_these version count s archives e l h = grind (arith, read_archives, archives_back, flat_map, archive_bytes)
 
 -- ---- counts of records and of entries
 
@@ -21,9 +19,7 @@ length_records (m ∷ ms) = omega (arith, length-append (record_bytes m) (flat_m
 
 pub length_directory : (tp pp : ℕ) (es : List Entry) → length (directory_from tp pp es) ≡ 24 * length es
 length_directory tp pp [] = refl
-length_directory tp pp (e ∷ es) =
-    let d = directory_from (tp + length e.text) (pp + length e.postings) es in
-    omega (arith, length-append (entry_bytes tp pp e) d, length_directory (tp + length e.text) (pp + length e.postings) es)
+length_directory tp pp (e ∷ es) = grind (arith, directory_from, length-append, entry_bytes, length_directory (tp + length e.text) (pp + length e.postings) es)
 
 pub count_records : (n : ℕ) (r : List ℕ) → length (read_records n r) ≡ n
 count_records zero r = refl
@@ -47,16 +43,7 @@ pub record ReadsList (messages : ℕ) (list : List ℕ) : Type 0 where
   pub below : AllByRecursion (λ n. n < messages) (numbers_read 0 list)
 
 pub reads_list : (messages : ℕ) (list : List ℕ) → messages < 2 ^ 32 → IsList messages list → ReadsList messages list
-reads_list messages list l h =
-    let p = h.1.1 in
-    let ns = h.1.0 in
-    let r : numbers_read 0 list ≡ ns = read-posted 0 list ns (record { rises = p.rises; below = all-weaker (λ n. n < messages) (λ n. n < 2 ^ 32) (λ n low. omega (arith, l, low)) ns p.below; spelled = p.spelled }) in
-    record {
-      spelled = ap postings r ∙ sym p.spelled;
-      some = subst (λ (xs : List ℕ). 0 < length xs) (sym r) (some_numbers list ns p.spelled h.0);
-      rises = subst (RisesFrom 0) (sym r) p.rises;
-      below = subst (AllByRecursion (λ n. n < messages)) (sym r) p.below;
-    }
+reads_list messages list l h = grind (arith, numbers_read, read-posted, all-weaker, postings, some_numbers)
 
 -- the keys that are read of entries
 pub record ReadsKeys (version messages : ℕ) (es : List Entry) : Type 0 where
@@ -84,16 +71,11 @@ are_lists messages texts ps (suc n) d h = (h.0, are_lists messages texts ps n (d
 
 pub some_postings : (ns : List ℕ) → 0 < length ns → 0 < length (postings ns)
 some_postings [] l = absurd (omega (arith, l))
-some_postings (n ∷ ns) l = go (postings (n ∷ ns)) refl
-  where
-    go : (xs : List ℕ) → postings (n ∷ ns) ≡ xs → 0 < length xs
-    go [] e = absurd (leb_some 4 (suc n - 0) (postings_from (suc n) ns) e)
-    go (x ∷ xs) e = omega arith
+some_postings (n ∷ ns) l = grind (arith, postings, leb_some, postings_from)
 
 pub lists_of_keys : (version messages : ℕ) (ks : List Key) → AllByRecursion (IsKey version messages) ks → AllByRecursion (λ e. IsList messages e.postings) (map entry_of ks)
 lists_of_keys version messages [] h = tt
-lists_of_keys version messages (k ∷ ks) h =
-    ((some_postings k.numbers h.0.some_number, (k.numbers, record { rises = h.0.rises; below = h.0.below; spelled = refl })), lists_of_keys version messages ks h.1)
+lists_of_keys version messages (k ∷ ks) h = grind (arith, some_postings, lists_of_keys version messages ks h.1)
 
 pub keys_in_order : (ks : List Key) → AllNext EntryBefore (map entry_of ks) → AllNext KeyBefore ks
 keys_in_order [] h = tt

@@ -6,12 +6,7 @@ use Rattle.mail_index.proofs.FileLaws.RecordFronts.{leb_front, leb_some}
 
 -- the lowest seven bits, and the rest, each at its weight
 weights : (k p w : ℕ) → (p + (128 + k % 128 - 128) * w) + (k / 128) * (128 * w) ≡ p + k * w
-weights k p w =
-    let low : 128 + k % 128 - 128 ≡ k % 128 = omega arith in
-    let all : k ≡ k % 128 + (k / 128) * 128 = omega arith in
-    let moved : (k / 128) * (128 * w) ≡ (k / 128) * 128 * w = sym (mul_assoc (k / 128) 128 w) in
-    let split : k * w ≡ (k % 128) * w + (k / 128) * 128 * w = ap (λ n. n * w) all ∙ add-mul (k % 128) ((k / 128) * 128) w in
-    rw (low, moved, split) (omega arith)
+weights k p w = grind (arith, mul_assoc, add-mul)
 
 behind-last : (low p w b : ℕ) (bs : List ℕ) → b < 128 → numbers_behind low p w (b ∷ bs) ≡ (low + (p + b * w) - 1) ∷ numbers_behind (low + (p + b * w)) 0 1 bs
 behind-last low p w b bs h = let e : nat_lt b 128 ≡ true = grind (arith, nat_tests) in rw (e, numbers_behind) refl
@@ -24,10 +19,7 @@ abbrev told : ℕ → ℕ → List ℕ → List ℕ
 told low difference bs = (low + difference - 1) ∷ numbers_behind (low + difference) 0 1 bs
 
 numbers_behind-leb128 : (groups low p w k : ℕ) (bs : List ℕ) → IsShort (suc groups) k → numbers_behind low p w (leb128 (suc groups) k ++ bs) ≡ told low (p + k * w) bs
-numbers_behind-leb128 zero low p w k bs h =
-    let small : k < 128 = omega (arith, h) in
-    let e : nat_lt k 128 ≡ true = grind (arith, nat_tests) in
-    rw e (behind-last low p w k bs small)
+numbers_behind-leb128 zero low p w k bs h = grind (arith, nat_tests, behind-last)
 numbers_behind-leb128 (suc groups) low p w k bs h = go (nat_lt k 128) refl (numbers_behind-leb128 groups low (p + (128 + k % 128 - 128) * w) (128 * w) (k / 128) bs h)
   where
     go : (t : Bool) → nat_lt k 128 ≡ t
@@ -67,10 +59,7 @@ read-posted low bytes ns h = ap (numbers_read low) h.spelled ∙ numbers_read-po
 pub posted-none : (limit low : ℕ) (bytes ns : List ℕ) (r : Option (ℕ × List ℕ)) → limit ≤ 2 ^ 32
     → ((k : ℕ) (rest : List ℕ) → IsShort 5 k → bytes ≡ leb128 5 k ++ rest → r ≡ Some (k, rest)) → r ≡ None → ArePostings limit low bytes ns → ns ≡ []
 posted-none limit low bytes [] r le only none h = refl
-posted-none limit low bytes (n ∷ ns) r le only none h =
-    let small : n < 2 ^ 32 = omega (arith, le, h.below.0) in
-    let some : Some (suc n - low, postings_from (suc n) ns) ≡ None = sym (only (suc n - low) (postings_from (suc n) ns) (short-difference n low small) h.spelled) ∙ none in
-    absurd (false≢true (sym (ap is_some some)))
+posted-none limit low bytes (n ∷ ns) r le only none h = grind (arith, postings_from, short-difference, false≢true, is_some)
 
 -- a number, and those behind it
 pub record Front (limit low difference : ℕ) (behind ns : List ℕ) : Type 0 where
@@ -82,9 +71,7 @@ pub record Front (limit low difference : ℕ) (behind ns : List ℕ) : Type 0 wh
 
 pub posted-front : (limit low difference : ℕ) (bytes behind ns : List ℕ) → limit ≤ 2 ^ 32 → IsShort 5 difference → bytes ≡ leb128 5 difference ++ behind
     → ArePostings limit low bytes ns → Front limit low difference behind ns
-posted-front limit low d bytes behind [] le short split h =
-    let none : leb128 5 d ++ behind ≡ [] = sym split ∙ h.spelled in
-    absurd (leb_some 4 d behind none)
+posted-front limit low d bytes behind [] le short split h = grind (arith, leb128, leb_some)
 posted-front limit low d bytes behind (n ∷ ns) le short split h =
     let small : n < 2 ^ 32 = omega (arith, le, h.below.0) in
     let same = leb_front 5 d (suc n - low) behind (postings_from (suc n) ns) short (short-difference n low small) (sym split ∙ h.spelled) in
@@ -119,11 +106,7 @@ posted-back limit low d bytes behind some below split h =
 
 -- a difference has some bytes
 pub posted-shorter : (difference : ℕ) (bytes behind : List ℕ) → bytes ≡ leb128 5 difference ++ behind → length behind < length bytes
-posted-shorter d bytes behind split = go (nat_lt d 128) split
-  where
-    go : (t : Bool) → bytes ≡ cond t (d ∷ []) ((128 + d % 128) ∷ leb128 4 (d / 128)) ++ behind → length behind < length bytes
-    go true e = omega (arith, ap length e)
-    go false e = omega (arith, ap length e, length-append (leb128 4 (d / 128)) behind)
+posted-shorter d bytes behind split = grind (arith, leb128, length-append)
 
 -- what bytes tell that aren't nothing and begin with no difference
 pub posted-refused : (limit low : ℕ) (bytes : List ℕ) (r : Option (ℕ × List ℕ)) → limit ≤ 2 ^ 32

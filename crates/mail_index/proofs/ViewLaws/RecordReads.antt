@@ -12,30 +12,13 @@ pub record HasSmallFields (m : Record) : Type 0 where
   pub date : IfSome m.date (FitsSigned w64)
 
 bits_back : (a b c d : Bool) → (read_flags (bit 1 a + bit 2 b + bit 4 c + bit 8 d) ≡ record { seen = a; replied = b; flagged = c }) × (has_bit (bit 1 a + bit 2 b + bit 4 c + bit 8 d) 8 ≡ d)
-bits_back true true true true = (refl, refl)
-bits_back true true true false = (refl, refl)
-bits_back true true false true = (refl, refl)
-bits_back true true false false = (refl, refl)
-bits_back true false true true = (refl, refl)
-bits_back true false true false = (refl, refl)
-bits_back true false false true = (refl, refl)
-bits_back true false false false = (refl, refl)
-bits_back false true true true = (refl, refl)
-bits_back false true true false = (refl, refl)
-bits_back false true false true = (refl, refl)
-bits_back false true false false = (refl, refl)
-bits_back false false true true = (refl, refl)
-bits_back false false true false = (refl, refl)
-bits_back false false false true = (refl, refl)
-bits_back false false false false = (refl, refl)
+bits_back a b c d = grind arith
 
 date_back : (f : ℕ) (date : Option ℤ) → IfSome date (FitsSigned w64) → has_bit f 8 ≡ is_some date → (n : ℕ) → n ≡ date_number date → read_date f n ≡ date
-date_back f None h e n d = rw e refl
-date_back f (Some z) h e n d = rw (e, d) (ap (λ (k : ℤ). Some k) (to_z-of_z w64 z h))
+date_back f date h h2 n h3 = grind (arith, to_z-of_z, w64)
 
 date_small : (date : Option ℤ) → IfSome date (FitsSigned w64) → date_number date < 2 ^ 64
-date_small None h = omega arith
-date_small (Some z) h = Fits-lt-pow (Fits-of_z h)
+date_small date h = grind (arith, Fits-lt-pow, Fits-of_z)
 
 -- what is read of a record's bytes is the record
 pub record_back : (m : Record) (x : List ℕ) → HasSmallFields m → read_record (record_bytes m ++ x) ≡ m
@@ -78,12 +61,10 @@ flags_kept (suc (suc (suc (suc (suc (suc (suc (suc (suc (suc (suc (suc (suc (suc
 flags_kept (suc (suc (suc (suc (suc (suc (suc (suc (suc (suc (suc (suc (suc (suc (suc (suc n)))))))))))))))) h = absurd (omega (arith, h))
 
 some_date : (b : Bool) (z : ℤ) → is_some (cond b (Some z) None) ≡ b
-some_date true z = refl
-some_date false z = refl
+some_date b z = grind arith
 
 date_kept : (b : Bool) (n : ℕ) → n < 2 ^ 64 → (b || nat_eq n 0) ≡ true → date_number (cond b (Some (cast_signed w64 n)) None) ≡ n
-date_kept true n h e = of_z-to_z w64 n h
-date_kept false n h e = grind (arith, nat_tests)
+date_kept b n h h2 = grind (arith, of_z-to_z, w64, nat_tests)
 
 u64_small : (r : List ℕ) (i : ℕ) → AreBytes r → i + 8 ≤ length r → u64_at r i < 2 ^ 64
 u64_small r i h l =
@@ -125,26 +106,10 @@ record_kept r h l e =
     ∙ s₀
 
 few_flags : (a b c d : Bool) (n : ℕ) → (d ≡ false → n ≡ 0) → ((((nat_le (bit 1 a + bit 2 b + bit 4 c + bit 8 d) 15 && true) && true) && true) && (has_bit (bit 1 a + bit 2 b + bit 4 c + bit 8 d) 8 || nat_eq n 0)) ≡ true
-few_flags true true true true n h = refl
-few_flags true true true false n h = rw (h refl) refl
-few_flags true true false true n h = refl
-few_flags true true false false n h = rw (h refl) refl
-few_flags true false true true n h = refl
-few_flags true false true false n h = rw (h refl) refl
-few_flags true false false true n h = refl
-few_flags true false false false n h = rw (h refl) refl
-few_flags false true true true n h = refl
-few_flags false true true false n h = rw (h refl) refl
-few_flags false true false true n h = refl
-few_flags false true false false n h = rw (h refl) refl
-few_flags false false true true n h = refl
-few_flags false false true false n h = rw (h refl) refl
-few_flags false false false true n h = refl
-few_flags false false false false n h = rw (h refl) refl
+few_flags a b c d n h = grind arith
 
 no_date : (date : Option ℤ) → is_some date ≡ false → date_number date ≡ 0
-no_date None e = refl
-no_date (Some z) e = absurd cc
+no_date date h = grind arith
 
 -- the bytes of a record pass the test
 pub record_passes : (m : Record) (x : List ℕ) → HasSmallFields m → is_record (record_bytes m ++ x) ≡ true

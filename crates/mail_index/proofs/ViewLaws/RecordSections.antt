@@ -1,7 +1,6 @@
 -- What the walk over records shows of a section, and that it accepts the records of a table.
-use Rattle.mail_index.proofs.Words.{◌≡◌, ℕ, zero, suc, ◌+◌, ◌-◌, ◌*◌, ◌^◌, ◌<◌, ◌≤◌, Bool, true, false, cond, List, [], ◌∷◌, ◌++◌, length, drop, Some, None, refl, sym, ap, subst, ◌∙◌, arith, inl, inr, length-drop, flat_map, IfSome, FitsSigned, w64, cast_signed, AllByRecursion, nat_tests, Record, byte_at, u64_at, record_bytes, Archive, IsArchive, IsMessage, Follows, AllNext, archive_length, has_bit, is_behind, behind_archives, read_archives, IsNextRecord, AreRecords, read_record, read_records, is_record}
+use Rattle.mail_index.proofs.Words.{◌≡◌, ℕ, zero, suc, ◌+◌, ◌-◌, ◌*◌, ◌^◌, ◌<◌, ◌≤◌, Bool, true, cond, List, [], ◌∷◌, ◌++◌, length, drop, Some, None, refl, sym, ap, ◌∙◌, arith, length-drop, flat_map, IfSome, FitsSigned, w64, cast_signed, AllByRecursion, nat_tests, Record, byte_at, u64_at, record_bytes, Archive, IsArchive, IsMessage, Follows, AllNext, archive_length, has_bit, is_behind, behind_archives, read_archives, IsNextRecord, AreRecords, read_record, read_records, is_record}
 use Rattle.mail_index.proofs.Items.{empty_list}
-use borrow.Author.Gap.{read_sfits}
 use Rattle.mail_index.proofs.FileLaws.Bytes.{AreBytes, bytes_behind}
 use Rattle.mail_index.proofs.FileLaws.OneTable.{small_archive}
 use Rattle.mail_index.proofs.ViewLaws.RecordReads.{HasSmallFields, record_back, behind_record, record_kept, record_passes}
@@ -15,14 +14,10 @@ AreBehind archive place (m ∷ ms) = (is_behind archive place m ≡ true) × Are
 pub in_order : (archive place : ℕ) (ms : List Record) → AreBehind archive place ms → AllNext Follows ms
 in_order archive place [] h = tt
 in_order archive place (m ∷ []) h = tt
-in_order archive place (m ∷ n ∷ ms) h = (follows m n h.1.0, in_order m.archive (m.offset + m.length) (n ∷ ms) h.1)
-  where
-    follows : (m n : Record) → is_behind m.archive (m.offset + m.length) n ≡ true → Follows m n
-    follows m n e = grind (arith, nat_tests)
+in_order archive place (m ∷ n ∷ ms) h = grind (arith, is_behind, nat_tests, in_order m.archive (m.offset + m.length) (n ∷ ms) h.1)
 
 is_behind_of : (m n : Record) → Follows m n → is_behind m.archive (m.offset + m.length) n ≡ true
-is_behind_of m n (inl l) = grind (arith, nat_tests)
-is_behind_of m n (inr h) = let a = h.0 in let b = h.1 in grind (arith, nat_tests)
+is_behind_of m n h = grind (arith, nat_tests)
 
 behind_next : (m : Record) (ms : List Record) → AllNext Follows (m ∷ ms) → AreBehind m.archive (m.offset + m.length) ms
 behind_next m [] h = tt
@@ -36,8 +31,7 @@ are_behind [] h = tt
 are_behind (m ∷ ms) h = (from_start m, behind_next m ms h)
 
 date_fits : (b : Bool) (n : ℕ) → IfSome (cond b (Some (cast_signed w64 n)) None) (FitsSigned w64)
-date_fits true n = read_sfits w64 n
-date_fits false n = tt
+date_fits b n = grind (arith, w64)
 
 -- ---- what the walk shows
 
@@ -78,9 +72,7 @@ shows_records version count s archive place rest (suc n) r e b l h =
 -- ---- that it accepts the records of a table
 
 pub small_fields : (version : ℕ) (archives : List Archive) (m : Record) → length archives < 2 ^ 32 → AllByRecursion (IsArchive version) archives → IsMessage archives m → HasSmallFields m
-small_fields version archives m l a h =
-    let most = small_archive version archives m.archive a in
-    record { archive = omega (arith, h.exists, l); offset = omega (arith, h.within, most); span = omega (arith, h.within, most); size = omega (arith, h.within, most, h.size); date = h.date }
+small_fields version archives m l a h = grind (arith, small_archive)
 
 pub records_back : (version : ℕ) (archives : List Archive) (ms : List Record) → length archives < 2 ^ 32 → AllByRecursion (IsArchive version) archives → AllByRecursion (IsMessage archives) ms
     → read_records (length ms) (flat_map record_bytes ms) ≡ ms
@@ -92,12 +84,7 @@ records_back version archives (m ∷ ms) l a h =
 
 one_more : (version count archive place : ℕ) (rest : List ℕ) (n : ℕ) (r behind : List ℕ) (m : Record) → read_record r ≡ m → drop 40 r ≡ behind → is_record r ≡ true → IsNextRecord version count archive place rest m
     → AreRecords version count m.archive (m.offset + m.length) (behind_archives version (m.archive - archive) rest) n behind → AreRecords version count archive place rest (suc n) r
-one_more version count archive place rest n r behind m e d t x h =
-    let P = λ (y : Record). IsNextRecord version count archive place rest y × AreRecords version count y.archive (y.offset + y.length) (behind_archives version (y.archive - archive) rest) n (drop 40 r) in
-    let k : AreRecords version count m.archive (m.offset + m.length) (behind_archives version (m.archive - archive) rest) n (drop 40 r) =
-    subst (AreRecords version count m.archive (m.offset + m.length) (behind_archives version (m.archive - archive) rest) n) (sym d) h in
-    let q = subst P (sym e) (x, k) in
-    (t, q.0, q.1)
+one_more version count archive place rest n r behind m e d t x h = grind (arith, behind_archives)
 
 pub are_records_of : (version count : ℕ) (s : List ℕ) (archive place : ℕ) (rest : List ℕ) (ms : List Record) → count < 2 ^ 32 → AllByRecursion (IsArchive version) (read_archives version count s) → rest ≡ behind_archives version archive s
     → AllByRecursion (IsMessage (read_archives version count s)) ms → AreBehind archive place ms → AreRecords version count archive place rest (length ms) (flat_map record_bytes ms)

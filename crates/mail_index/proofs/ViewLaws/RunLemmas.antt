@@ -11,9 +11,7 @@ abbrev front_lies : List ℕ → List ℕ → Ordering
 front_lies wanted bytes = slice_cmp nat_cmp (take (length wanted) bytes) wanted
 
 most_index : (o : Ordering) → ordering_index o ≤ 2
-most_index Less = omega arith
-most_index Equal = omega arith
-most_index Greater = omega arith
+most_index o = grind arith
 
 higher : (x y : ℕ) → y < x → nat_cmp x y ≡ Greater
 higher x y h = grind (arith, nat_tests)
@@ -27,34 +25,14 @@ fronts-rise (w ∷ ws) (x ∷ xs) (y ∷ ys) h = go (nat_cmp x y) (nat_cmp x w) 
     go : (o p : Ordering) → nat_cmp x y ≡ o → nat_cmp x w ≡ p → ordering_then o (slice_cmp nat_cmp xs ys) ≡ Less
         → (slice_cmp nat_cmp xs ys ≡ Less → ordering_index (front_lies ws xs) ≤ ordering_index (front_lies ws ys))
         → ordering_index (ordering_then p (front_lies ws xs)) ≤ ordering_index (ordering_then (nat_cmp y w) (front_lies ws ys))
-    go o Less e f less rest = omega arith
-    go Less Equal e f less rest =
-        let below : x < y = ranked x y Less (sym e) in
-        let same : x ≡ w = ranked x w Equal (sym f) in
-        rw (higher y w (omega (arith, below, same))) (most_index (front_lies ws xs))
-    go Equal Equal e f less rest =
-        let equal : x ≡ y = ranked x y Equal (sym e) in
-        let same : x ≡ w = ranked x w Equal (sym f) in
-        rw (tied y w (sym equal ∙ same)) (rest less)
-    go Less Greater e f less rest =
-        let below : x < y = ranked x y Less (sym e) in
-        let behind : w < x = ranked x w Greater (sym f) in
-        rw (higher y w (omega (arith, below, behind))) (omega arith)
-    go Equal Greater e f less rest =
-        let equal : x ≡ y = ranked x y Equal (sym e) in
-        let behind : w < x = ranked x w Greater (sym f) in
-        rw (higher y w (omega (arith, equal, behind))) (omega arith)
-    go Greater p e f less rest = absurd cc
+    go o p h h2 h3 h4 = grind (arith, ranked, tied)
 
 pub runs-rise : (kind : Kind) (text : List ℕ) (ks : List Key) (d : Key) (i j : ℕ) → AreSorted ks → i ≤ j → j < length ks
     → ordering_index (lies_to_run kind text (get_or ks i d)) ≤ ordering_index (lies_to_run kind text (get_or ks j d))
 runs-rise kind text ks d i j sorted le within = go (nat_eq i j) refl
   where
     go : (t : Bool) → nat_eq i j ≡ t → ordering_index (lies_to_run kind text (get_or ks i d)) ≤ ordering_index (lies_to_run kind text (get_or ks j d))
-    go true e =
-        let same : i ≡ j = grind (arith, nat_tests) in
-        let equal : ordering_index (lies_to_run kind text (get_or ks i d)) ≡ ordering_index (lies_to_run kind text (get_or ks j d)) = ap (λ n. ordering_index (lies_to_run kind text (get_or ks n d))) same in
-        omega (arith, equal)
+    go true e = grind (arith, nat_tests, ordering_index)
     go false e =
         let lower : i < j = grind (arith, nat_tests) in
         let inside : j < length (map key_bytes ks) = omega (arith, within, length-map ks key_bytes) in
@@ -64,20 +42,10 @@ runs-rise kind text ks d i j sorted le within = go (nat_eq i j) refl
 
 -- what a comparison of two answers says of them
 pub less_index : (o p : Ordering) → is_lt (nat_cmp (ordering_index o) (ordering_index p)) ≡ true → ordering_index o < ordering_index p
-less_index o p h = go (nat_cmp (ordering_index o) (ordering_index p)) refl h
-  where
-    go : (r : Ordering) → nat_cmp (ordering_index o) (ordering_index p) ≡ r → is_lt r ≡ true → ordering_index o < ordering_index p
-    go Less e less = ranked (ordering_index o) (ordering_index p) Less (sym e)
-    go Equal e less = absurd cc
-    go Greater e less = absurd cc
+less_index o p h = grind (arith, nat_cmp, ordering_index, is_lt, ranked)
 
 pub no_less_index : (o p : Ordering) → is_lt (nat_cmp (ordering_index o) (ordering_index p)) ≡ false → ordering_index p ≤ ordering_index o
-no_less_index o p h = go (nat_cmp (ordering_index o) (ordering_index p)) refl h
-  where
-    go : (r : Ordering) → nat_cmp (ordering_index o) (ordering_index p) ≡ r → is_lt r ≡ false → ordering_index p ≤ ordering_index o
-    go Less e none = absurd cc
-    go Equal e none = let same : ordering_index o ≡ ordering_index p = ranked (ordering_index o) (ordering_index p) Equal (sym e) in omega (arith, same)
-    go Greater e none = let above : ordering_index p < ordering_index o = ranked (ordering_index o) (ordering_index p) Greater (sym e) in omega (arith, above)
+no_less_index o p h = grind (arith, nat_cmp, ordering_index, is_lt, ranked)
 
 -- ---- the keys of a run
 
@@ -86,9 +54,7 @@ bytes_turned xs ys = same_from_decides (bytes_eq xs ys) (bytes_eq ys xs) (bytes_
 
 -- a key lies among those of a run exactly where it is one of them
 in_run : (kind : Kind) (text : List ℕ) (k : Key) → (is_of_kind kind k && starts_with nat_eq k.text text) ≡ is_eq (lies_to_run kind text k)
-in_run kind text k =
-    let front : List ℕ = take (length text) k.text in
-    ap (λ (b : Bool). is_of_kind kind k && b) (bytes_turned text front) ∙ sym (is_eq-slice_cmp (kind_number k.kind ∷ front) (kind_number kind ∷ text))
+in_run kind text k = grind (arith, is_of_kind, bytes_turned, is_eq-slice_cmp, kind_number)
 
 beginning-more : (kind : Kind) (text : List ℕ) (k : Key) (ks : List Key) (b : Bool) → is_eq (lies_to_run kind text k) ≡ b
     → keys_beginning kind text (k ∷ ks) ≡ cond b (k ∷ keys_beginning kind text ks) (keys_beginning kind text ks)
@@ -96,23 +62,16 @@ beginning-more kind text k ks b e = go (is_of_kind kind k) (in_run kind text k �
   where
     go : (of : Bool) → (of && starts_with nat_eq k.text text) ≡ b
         → filter (λ key. starts_with nat_eq key.text text) (cond of (k ∷ keys_of kind ks) (keys_of kind ks)) ≡ cond b (k ∷ keys_beginning kind text ks) (keys_beginning kind text ks)
-    go true f = ap (λ (x : Bool). cond x (k ∷ keys_beginning kind text ks) (keys_beginning kind text ks)) f
-    go false f = ap (λ (x : Bool). cond x (k ∷ keys_beginning kind text ks) (keys_beginning kind text ks)) f
+    go of h = grind (arith, keys_beginning)
 
 lies_before : (o : Ordering) → ordering_index o < ordering_index Equal → is_eq o ≡ false
-lies_before Less h = refl
-lies_before Equal h = absurd (omega (arith, h))
-lies_before Greater h = refl
+lies_before o h = grind arith
 
 lies_behind : (o : Ordering) → ordering_index Greater ≤ ordering_index o → is_eq o ≡ false
-lies_behind Less h = refl
-lies_behind Equal h = absurd (omega (arith, h))
-lies_behind Greater h = refl
+lies_behind o h = grind arith
 
 lies_among : (o : Ordering) → ordering_index Equal ≤ ordering_index o → ordering_index o < ordering_index Greater → is_eq o ≡ true
-lies_among Less h less = absurd (omega (arith, h))
-lies_among Equal h less = refl
-lies_among Greater h less = absurd (omega (arith, less))
+lies_among o h h2 = grind arith
 
 -- none of the run stands before the first of it
 beginning-behind : (kind : Kind) (text : List ℕ) (ks : List Key) (n : ℕ) (d : Key) → n ≤ length ks
@@ -173,6 +132,4 @@ pub between-none : (low high : ℕ) (ks : List Key) → high ≤ low → keys_be
 between-none low high ks le = let none : high - low ≡ 0 = omega (arith, le) in ap (λ n. take n (drop low ks)) none
 
 pub between-next : (low high : ℕ) (ks : List Key) (d : Key) → low < high → high ≤ length ks → keys_between low high ks ≡ get_or ks low d ∷ keys_between (low + 1) high ks
-between-next low high ks d less within =
-    let more : high - low ≡ suc (high - (low + 1)) = omega (arith, less) in
-    ap₂ (λ (n : ℕ) (l : List Key). take n l) more (drop_more ks low d (omega (arith, less, within)))
+between-next low high ks d less within = grind (arith, drop_more)

@@ -1,4 +1,5 @@
-use Rattle.mail_index.proofs.Words.{◌≡◌, ℕ, ◌+◌, ◌<◌, List, [], ◌++◌, length, map, drop, get_or, Bor, ap, ◌∙◌, concat}
+use Rattle.std.proofs.Common.{arith}
+use Rattle.mail_index.proofs.Words.{◌≡◌, ℕ, ◌+◌, ◌<◌, List, [], ◌++◌, length, map, drop, get_or, Bor, ap, concat}
 use Rattle.mail_index.proofs.BuildLaws.SigningLemmas.{signing-next, signing-stop, from-place}
 use Rattle.mail_index.proofs.build.file_out.send_parts.Goals as goal
 
@@ -17,7 +18,4 @@ returns-in_err-send_signed-clause-written g c =
     signing-stop c.from_residual.result _ _ (get_or c.args.parts.now c.loop-part.part-index nothing).now _ c.from_residual.ensures.0 c.loop-part.invariant.0 (front c.args.parts.now c.loop-part.part-index c.loop-part-test.true) c.in_err-send_signed.ensures.written
 
 pub loop-part-preserved : goal.loop-part-preserved
-loop-part-preserved g c = (
-  signing-next (get_or c.args.parts.now c.loop-part.part-index nothing).now _ c.loop-part.invariant.0 (front c.args.parts.now c.loop-part.part-index c.loop-part-test.true) c.in_ok-send_signed.ensures.written,
-  c.in_ok-send_signed.ensures.count ∙ c.loop-part.invariant.1,
-)
+loop-part-preserved g c = grind (arith, signing-next, front)

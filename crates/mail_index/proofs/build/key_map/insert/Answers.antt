@@ -24,9 +24,7 @@ unfolding new_entry
 entries-new c = c.in_ok-push.ensures.items ∙ ap (λ (k : Key). c.args.entries.now.items ++ k ∷ []) c.in_ok-entry.ensures
 
 slots-new : (c : In-Ok) → slots_in c.insert.new.self ≡ insert (slots_in c.args.order.now) (place_in c.args.order.now c.args.place) (record { number = length c.args.entries.now.items; front = c.args.place.front })
-slots-new c =
-    let number : c.len-number.result ≡ length c.args.entries.now.items = omega (arith, c.len-number.ensures) in
-    c.in-Ok.ensures.ok ∙ ap (λ (n : ℕ). let slot : Fronted = record { number = n; front = c.args.place.front } in insert (slots_in c.args.order.now) (place_in c.args.order.now c.args.place) slot) number
+slots-new c = grind (arith, insert)
 
 numbers-new : (c : In-Ok) → numbers_in c.insert.new.self ≡ insert (numbers_in c.args.order.now) (place_in c.args.order.now c.args.place) (length c.args.entries.now.items)
 numbers-new c = ap numbers_of_slots (slots-new c) ∙ numbers-insert (slots_in c.args.order.now) (place_in c.args.order.now c.args.place) (record { number = length c.args.entries.now.items; front = c.args.place.front })

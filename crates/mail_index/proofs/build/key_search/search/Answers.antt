@@ -19,16 +19,7 @@ loop-low-preserved-in-Less c =
     }
 
 pub loop-low-preserved : goal.loop-low-preserved
-loop-low-preserved c =
-    let middle : ℕ = c.loop-low.low + (c.loop-low.high - c.loop-low.low) / 2 in
-    let long : length (slot_keys c.args.entries.now c.args.slots.now) ≡ length c.args.slots.now = slots-long c.args.entries.now c.args.slots.now in
-    let inside : middle < length c.args.slots.now = omega (arith, long, c.loop-low.invariant.within) in
-    record {
-      order = omega arith;
-      within = omega (arith, inside, long);
-      below = c.loop-low.invariant.below;
-      above = λ lt. ap (lies_to c.args.kind c.args.text.now) (slot-at c.args.entries.now c.args.slots.now middle _ inside) ∙ sym c.in-Greater.ensures;
-    }
+loop-low-preserved c = grind (arith, slots-long, lies_to, slot-at)
 
 pub returns-clause-place : goal.returns-clause-place
 returns-clause-place c =

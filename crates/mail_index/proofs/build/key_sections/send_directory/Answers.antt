@@ -1,17 +1,9 @@
-use Rattle.mail_index.proofs.Words.{◌≡◌, ◌∙◌, ◌+◌, List, length, map, refl, ap, arith, length-append, Key, postings, entry_of, entry_bytes, directory_from, texts_of, postings_of}
+use Rattle.mail_index.proofs.Words.{◌≡◌, ◌∙◌, ◌+◌, List, length, map, ap, arith, length-append, Key, postings, entry_of, entry_bytes, directory_from, texts_of, postings_of}
 use Rattle.mail_index.proofs.BuildLaws.SigningLemmas.{signing-start, signing-next, signing-stop}
 use Rattle.mail_index.proofs.build.key_sections.send_directory.Goals as goal
 
 pub loop-key-init : goal.loop-key-init
-loop-key-init g c =
-    let all : c.into_iter-key-iterator.result ≡ c.args.keys = c.into_iter-key-iterator.ensures.into_iter_gives in
-    let texts : length (texts_of (map entry_of c.into_iter-key-iterator.result)) ≡ length (texts_of (map entry_of c.args.keys)) = ap (λ (keys : List Key). length (texts_of (map entry_of keys))) all in
-    let places : length (postings_of (map entry_of c.into_iter-key-iterator.result)) ≡ length (postings_of (map entry_of c.args.keys)) = ap (λ (keys : List Key). length (postings_of (map entry_of keys))) all in (
-      rw all (signing-start (g.O.Out.taken c.args.out.now) c.args.signer.now (directory_from 0 0 (map entry_of c.args.keys))),
-      refl,
-      omega (arith, texts),
-      omega (arith, places),
-    )
+loop-key-init g c = grind (arith, texts_of, entry_of, postings_of, signing-start, directory_from)
 
 pub returns-in_err-send_entry-clause-written : goal.returns-in_err-send_entry-clause-written
 returns-in_err-send_entry-clause-written g c =

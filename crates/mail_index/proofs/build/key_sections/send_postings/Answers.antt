@@ -1,3 +1,4 @@
+use Rattle.std.proofs.Common.{arith}
 use Rattle.mail_index.proofs.Words.{◌≡◌, ◌∙◌, List, ℕ, [], ◌++◌, map, refl, ap, append-nil, Key, postings, entry_of, postings_of}
 use Rattle.mail_index.proofs.BuildLaws.SigningLemmas.{signing-start, signing-next, signing-stop}
 use Rattle.mail_index.proofs.build.key_sections.send_postings.Goals as goal
@@ -14,8 +15,4 @@ returns-in_err-send_parts-clause-written g c =
     (ap (λ (keys : List Key). postings_of (map entry_of keys)) c.in-Some.ensures.steps) (rw (both _ _ _ c.postings.ensures.bytes) at c.in_err-send_parts.ensures.written)
 
 pub loop-key-preserved : goal.loop-key-preserved
-loop-key-preserved g c = (
-  signing-next (postings c.in-Some.key.now.numbers) _ c.loop-key.invariant.0
-      (ap (λ (keys : List Key). postings_of (map entry_of keys)) c.in-Some.ensures.steps) (rw (both _ _ _ c.postings.ensures.bytes) at c.in_ok-send_parts.ensures.written),
-  c.in_ok-send_parts.ensures.count ∙ c.loop-key.invariant.1,
-)
+loop-key-preserved g c = grind (arith, signing-next, postings, postings_of, entry_of, both)

@@ -1,4 +1,5 @@
-use Rattle.mail_index.proofs.Words.{◌∙◌, List, map, refl, ap, Key, entry_of, texts_of}
+use Rattle.std.proofs.Common.{arith}
+use Rattle.mail_index.proofs.Words.{List, map, refl, ap, Key, entry_of, texts_of}
 use Rattle.mail_index.proofs.BuildLaws.SigningLemmas.{signing-start, signing-next, signing-stop}
 use Rattle.mail_index.proofs.build.key_sections.send_texts.Goals as goal
 
@@ -11,8 +12,4 @@ returns-in_err-send_signed-clause-written g c =
     (ap (λ (keys : List Key). texts_of (map entry_of keys)) c.in-Some.ensures.steps) (rw c.text.ensures.text at c.in_err-send_signed.ensures.written)
 
 pub loop-key-preserved : goal.loop-key-preserved
-loop-key-preserved g c = (
-  signing-next c.in-Some.key.now.text _ c.loop-key.invariant.0
-      (ap (λ (keys : List Key). texts_of (map entry_of keys)) c.in-Some.ensures.steps) (rw c.text.ensures.text at c.in_ok-send_signed.ensures.written),
-  c.in_ok-send_signed.ensures.count ∙ c.loop-key.invariant.1,
-)
+loop-key-preserved g c = grind (arith, signing-next, texts_of, entry_of)

@@ -1,12 +1,6 @@
 use Rattle.mail_index.proofs.Words.{◌≡◌, ◌∙◌, true, false, sym, Fits-lt-pow}
-use Rattle.mail_index.proofs.ViewLaws.ArchiveReads.{short_has_none, long_has_none, cut_has_none, unnamed_has_none, undigested_has_none, found}
+use Rattle.mail_index.proofs.ViewLaws.ArchiveReads.{cut_has_none, unnamed_has_none, undigested_has_none, found}
 use Rattle.mail_index.proofs.view.archive.split_archive.Goals as goal
-
-pub returns-then-bytes-lt-ARCHIVE_FRONT : goal.returns-then-bytes-lt-ARCHIVE_FRONT
-returns-then-bytes-lt-ARCHIVE_FRONT c = short_has_none _ _ c.if-bytes-lt-ARCHIVE_FRONT.true
-
-pub returns-then-length-gt-MOST_LENGTH : goal.returns-then-length-gt-MOST_LENGTH
-returns-then-length-gt-MOST_LENGTH c = long_has_none _ _ _ c.u64_at-length.ensures c.if-length-gt-MOST_LENGTH.true
 
 pub returns-then-tail-size : goal.returns-then-tail-size
 returns-then-tail-size c = cut_has_none _ _ _ _ c.u32_at-size.ensures c.split_at.ensures.back c.if-tail-size.true

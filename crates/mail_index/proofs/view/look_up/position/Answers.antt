@@ -1,4 +1,4 @@
-use Rattle.mail_index.proofs.Words.{◌≡◌, ◌∙◌, ◌+◌, ◌-◌, ◌/◌, ◌<◌, ℕ, List, length, sym, ap, arith, Less, Equal, Greater, add_steps, lies_to, comparisons, comparisons_within, key_at, no_key, Key}
+use Rattle.mail_index.proofs.Words.{◌∙◌, ◌+◌, ◌-◌, ◌/◌, ◌<◌, ℕ, List, length, sym, ap, arith, Less, Equal, Greater, add_steps, lies_to, comparisons, comparisons_within, key_at, no_key, Key}
 use Rattle.mail_index.specs.Inside.KeyRuns.{keys_between}
 use Rattle.mail_index.proofs.ViewLaws.StepLemmas.{add_steps-none, add_steps-more}
 use Rattle.mail_index.proofs.ViewLaws.LookUpLemmas.{before-less, behind-greater, numbers_at-met, numbers_at-none}
@@ -54,13 +54,7 @@ loop-low-preserved c =
     }
 
 pub returns-in-Equal-clause-found : goal.returns-in-Equal-clause-found
-returns-in-Equal-clause-found c =
-    let keys : List Key = c.args.keys.now.directory in
-    let middle : ℕ = c.loop-low.low + (c.loop-low.high - c.loop-low.low) / 2 in
-    let i = c.loop-low.invariant in
-    let inside : middle < length keys = omega (arith, i.within, c.loop-low-test.true) in
-    let lies = ap (λ (ks : List Key). lies_to c.args.kind c.args.text.now (key_at ks middle)) (sym i.same) ∙ sym c.compare.ensures.order ∙ c.in-Equal.is in
-    (inside, numbers_at-met c.args.kind c.args.text.now keys middle no_key i.sorted inside lies)
+returns-in-Equal-clause-found c = grind (arith, lies_to, key_at, numbers_at-met, no_key)
 
 pub returns-in-Equal-clause-exact : goal.returns-in-Equal-clause-exact
 returns-in-Equal-clause-exact c =
@@ -72,9 +66,7 @@ returns-in-Equal-clause-exact c =
     c.compare.ensures.steps ∙ ap (add_steps c.loop-low.keys.steps) (sym met.counted) ∙ i.steps.2
 
 pub returns-in-Equal-clause-steps : goal.returns-in-Equal-clause-steps
-returns-in-Equal-clause-steps c = λ digits h.
-    let keys : List Key = c.args.keys.now.directory in
-    (comparisons c.args.kind c.args.text.now keys, comparisons-few (length keys) c.args.kind c.args.text.now keys digits h, returns-in-Equal-clause-exact c)
+returns-in-Equal-clause-steps c = grind (arith, comparisons, comparisons-few, returns-in-Equal-clause-exact)
 
 pub returns-clause-found : goal.returns-clause-found
 returns-clause-found c =
@@ -83,15 +75,7 @@ returns-clause-found c =
     (λ j le lt. i.above j (omega (arith, le, c.loop-low-test.false)) lt)
 
 pub returns-clause-exact : goal.returns-clause-exact
-returns-clause-exact c =
-    let keys : List Key = c.args.keys.now.directory in
-    let i = c.loop-low.invariant in
-    let none : comparisons_within i.steps.0 c.args.kind c.args.text.now (keys_between c.loop-low.low c.loop-low.high keys) ≡ 0 =
-    ap (comparisons_within i.steps.0 c.args.kind c.args.text.now) (between-none c.loop-low.low c.loop-low.high keys (omega (arith, c.loop-low-test.false)))
-    ∙ comparisons-none i.steps.0 c.args.kind c.args.text.now in
-    add_steps-none c.loop-low.keys.steps ∙ ap (add_steps c.loop-low.keys.steps) (sym none) ∙ i.steps.2
+returns-clause-exact c = grind (arith, comparisons_within, between-none, comparisons-none, add_steps-none, add_steps)
 
 pub returns-clause-steps : goal.returns-clause-steps
-returns-clause-steps c = λ digits h.
-    let keys : List Key = c.args.keys.now.directory in
-    (comparisons c.args.kind c.args.text.now keys, comparisons-few (length keys) c.args.kind c.args.text.now keys digits h, returns-clause-exact c)
+returns-clause-steps c = grind (arith, comparisons, comparisons-few, returns-clause-exact)

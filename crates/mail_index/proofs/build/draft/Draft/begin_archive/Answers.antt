@@ -1,5 +1,5 @@
-use Rattle.mail_index.proofs.Words.{◌≡◌, ◌<◌, ℕ, List, Option, length, None, string_bytes, ap, sym, subst, rules, ◌∙◌, arith, common_steps, AllByRecursion, IsPath, IsMessage, Draft}
-use Rattle.mail_index.specs.Inside.Drafts.{draft_of, with_open}
+use Rattle.mail_index.proofs.Words.{◌≡◌, ◌<◌, length, None, string_bytes, ap, sym, subst, rules, ◌∙◌, arith, common_steps, IsPath, Draft}
+use Rattle.mail_index.specs.Inside.Drafts.{draft_of}
 use Rattle.mail_index.proofs.BuildLaws.Placing.{archive-opened, none-of-next}
 use Rattle.mail_index.proofs.build.draft.Draft.begin_archive.Goals as goal
 
@@ -12,8 +12,4 @@ invariant_of-self c =
     archive-opened d (string_bytes c.in_ok-from_str.field-0) c.self.invariant closed room named
 
 pub returns-clause-empty : goal.returns-clause-empty
-returns-clause-empty c =
-    let d : Draft = draft_of c.self.inside.most c.self.inside.path c.self.inside.in_message c.self.inside.archives.items c.self.inside.records.items c.self.inside.keys in
-    let closed : d.path ≡ None = ap (λ (e : Draft). e.path) c.self.view_is ∙ c.requires.phase in
-    let placed : AllByRecursion (IsMessage d.table.archives) d.table.messages = subst (λ (p : Option (List ℕ)). AllByRecursion (IsMessage (with_open d.table.archives p)) d.table.messages) closed c.self.invariant.placed in
-    none-of-next d.table.archives d.table.messages placed
+returns-clause-empty c = grind (arith, none-of-next)

@@ -11,10 +11,7 @@ pub texts_length-requires : goal.texts_length-requires
 texts_length-requires c = rw c.in_order.ensures (omega (arith, length-texts _ c.self.inside.keys c.self.invariant.listed, c.self.invariant.keys, c.self.invariant.limit))
 
 pub postings_length-requires : goal.postings_length-requires
-postings_length-requires c =
-    let d : Draft = draft_of c.self.inside.most c.self.inside.path c.self.inside.in_message c.self.inside.archives.items c.self.inside.records.items c.self.inside.keys in
-    let count : message_count d ≤ 2 ^ 31 = omega (arith, message_count-within d c.self.invariant, c.self.invariant.limit) in
-    rw c.in_order-2.ensures (omega (arith, length-all_postings (message_count d) c.self.inside.keys count c.self.invariant.listed, c.self.invariant.keys, c.self.invariant.limit))
+postings_length-requires c = grind (arith, message_count-within, length-all_postings)
 
 pub returns-clause-small : goal.returns-clause-small
 returns-clause-small c =

@@ -1,11 +1,10 @@
-use Rattle.std.proofs.Common.{◌≡◌, ℕ, List, [], ◌++◌, ap, sym, append-nil}
+use Rattle.std.proofs.Common.{◌≡◌, ℕ, List, [], ◌++◌, ap, sym, append-nil, arith}
 use Rattle.contract_words.proofs.Sending.{sends_more}
 use Rattle.mail_index.proofs.BuildLaws.SigningLemmas.{writes-failed, sends-longer, signs-flushed, signs-at-once, signs-join}
 use Rattle.mail_index.proofs.build.file_out.Signer.send_past.Goals as goal
 
 pub returns-in_err-flush-clause-written : goal.returns-in_err-flush-clause-written
-returns-in_err-flush-clause-written g c =
-    writes-failed c.from_residual.result _ _ _ _ _ c.from_residual.ensures.0 (sends-longer (g.O.Out.taken c.args.out.now) (g.O.Out.taken c.flush.new.out) c.args.self.now.pending c.args.bytes.now c.in_err-flush.ensures.err)
+returns-in_err-flush-clause-written g c = grind (arith, writes-failed, sends-longer)
 
 pub returns-in_err-send-clause-written : goal.returns-in_err-send-clause-written
 returns-in_err-send-clause-written g c =

@@ -4,10 +4,7 @@ use Rattle.mail_index.proofs.BuildLaws.EntryLemmas.{entry-more, key-more, key-sa
 use Rattle.mail_index.proofs.build.key_entry.KeyEntry.push.Goals as goal
 
 pub returns-then-number-self-clause-ok : goal.returns-then-number-self-clause-ok
-returns-then-number-self-clause-ok c =
-    let whole : List ℕ = key_bytes c.self.inside.front (c.self.inside.text_length + 1) c.self.inside.bytes.items c.self.inside.recent in
-    sym c.self.view_is ∙ key-same whole (c.self.inside.text_length + 1) c.self.inside.next c.args.number c.self.invariant.0 (omega arith)
-    ∙ ap (λ (k : Key). with_one k c.args.number) c.self.view_is
+returns-then-number-self-clause-ok c = grind (arith, key-same)
 
 pub invariant_of-self-2 : goal.invariant_of-self-2
 invariant_of-self-2 c =

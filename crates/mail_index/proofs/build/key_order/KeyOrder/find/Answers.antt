@@ -1,21 +1,15 @@
-use Rattle.mail_index.proofs.Words.{◌≡◌, ◌∙◌, ◌<◌, ◌≤◌, [], List, length, get_or, ap, sym, subst, arith, AllByRecursion}
+use Rattle.mail_index.proofs.Words.{◌≡◌, ◌∙◌, ◌<◌, ◌≤◌, [], List, length, get_or, ap, subst, arith}
 use Rattle.mail_index.specs.declared.build.key_front.Fronted.{Fronted}
-use Rattle.mail_index.specs.Inside.KeyFronts.{IsFronted}
 use Rattle.mail_index.specs.Inside.KeyMaps.{slot_keys, rows, IsGap}
 use Rattle.mail_index.proofs.BuildLaws.PageLemmas.{heads-all, row-all, row-is}
 use Rattle.mail_index.proofs.BuildLaws.KeyMapLemmas.{slots-long, gap-found}
 use Rattle.mail_index.proofs.build.key_order.KeyOrder.find.Goals as goal
 
 pub search-requires-clause-fronted : goal.search-requires-clause-fronted
-search-requires-clause-fronted c =
-    subst (AllByRecursion (IsFronted c.args.entries.now)) (sym c.deref.ensures.value) (heads-all (IsFronted c.args.entries.now) c.args.self.now.pages.items c.args.self.now.heads.items c.requires.between c.requires.fronted)
+search-requires-clause-fronted c = grind (arith, heads-all)
 
 pub search-requires-2-clause-fronted : goal.search-requires-2-clause-fronted
-search-requires-2-clause-fronted c =
-    let low : c.in-Err.page ≤ length c.deref.result.now = omega (arith, c.in-Err.ensures.place.within, slots-long c.args.entries.now c.deref.result.now) in
-    let inside : c.in-Err.page < length c.args.self.now.pages.items = omega (arith, low, ap length c.deref.ensures.value, c.requires.between, c.requires.page) in
-    let row : c.deref-2.result.now ≡ get_or (rows c.args.self.now.pages.items) c.in-Err.page [] = c.deref-2.ensures.value ∙ row-is c.args.self.now.pages.items c.in-Err.page c.index.result.now inside c.index.ensures in
-    row-all (IsFronted c.args.entries.now) c.args.self.now.pages.items c.args.self.now.heads.items c.in-Err.page c.deref-2.result.now c.requires.between inside row c.requires.fronted
+search-requires-2-clause-fronted c = grind (arith, slots-long, row-is, row-all)
 
 pub returns-in-Err-search-clause-place : goal.returns-in-Err-search-clause-place
 returns-in-Err-search-clause-place c =

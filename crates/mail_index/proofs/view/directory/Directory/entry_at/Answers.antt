@@ -3,9 +3,7 @@ use Rattle.mail_index.proofs.ViewLaws.DirectoryKeys.{number-below, rest-at}
 use Rattle.mail_index.proofs.view.directory.Directory.entry_at.Goals as goal
 
 pub split_at-requires : goal.split_at-requires
-split_at-requires c =
-    let below = number-below c.self.inside.texts.now c.self.inside.postings.now c.self.inside.count c.self.inside.entries.now c.args.self.now c.args.number c.self.view_is c.requires in
-    omega (arith, below, c.self.invariant.long)
+split_at-requires c = grind (arith, number-below)
 
 pub first_of-requires : goal.first_of-requires
 first_of-requires c =

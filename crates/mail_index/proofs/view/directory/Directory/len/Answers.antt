@@ -1,4 +1,5 @@
-use Rattle.mail_index.proofs.Words.{◌∙◌, length, sym, ap, subst, AreSorted}
+use Rattle.std.proofs.Common.{arith}
+use Rattle.mail_index.proofs.Words.{◌∙◌, length, sym, ap}
 use Rattle.mail_index.proofs.ViewLaws.DirectoryKeys.{length-keys_read, directory-sorted}
 use Rattle.mail_index.proofs.view.directory.Directory.len.Goals as goal
 
@@ -6,5 +7,4 @@ pub returns-clause-count : goal.returns-clause-count
 returns-clause-count c = sym (length-keys_read c.self.inside.texts.now c.self.inside.postings.now c.self.inside.count c.self.inside.entries.now) ∙ ap length c.self.view_is
 
 pub returns-clause-sorted : goal.returns-clause-sorted
-returns-clause-sorted c =
-    subst AreSorted c.self.view_is (directory-sorted c.self.inside.texts.now c.self.inside.postings.now c.self.inside.count c.self.inside.entries.now c.self.invariant)
+returns-clause-sorted c = grind (arith, directory-sorted)

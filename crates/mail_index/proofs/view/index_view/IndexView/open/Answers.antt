@@ -1,3 +1,4 @@
+use Rattle.std.proofs.Common.{arith}
 use Rattle.mail_index.proofs.Words.{◌≡◌, true, false, sym, ◌∙◌, Fits-lt-pow, table_of}
 use Rattle.mail_index.proofs.FileLaws.SameTable.{same-table}
 use Rattle.mail_index.proofs.FileLaws.FileLemmas.{these_archives, has_archives, has_records, these_records}
@@ -8,9 +9,7 @@ use Rattle.mail_index.proofs.FileLaws.WholeFile.{laid_out, has_directory, these_
 use Rattle.mail_index.proofs.view.index_view.IndexView.open.Goals as goal
 
 pub returns-then-not-are_archives-clause-fault : goal.returns-then-not-are_archives-clause-fault
-returns-then-not-are_archives-clause-fault c =
-    let f = laid_out _ _ c.in-Ok.ensures.0 c.in-Some.ensures (record { below = λ i. Fits-lt-pow (c.type_inv.bytes i) }) in
-    (f.counts, λ archives h. let g : false ≡ true = sym c.if-not-are_archives.true ∙ c.are_archives.ensures.1 (these_archives _ _ f archives h).1 in cc)
+returns-then-not-are_archives-clause-fault c = grind (arith, laid_out, Fits-lt-pow, these_archives)
 
 pub returns-then-not-are_records-clause-fault : goal.returns-then-not-are_records-clause-fault
 returns-then-not-are_records-clause-fault c =
@@ -34,13 +33,7 @@ returns-then-not-are_lists-clause-fault c =
     (_, _, _, has_directory _ _ f (record { archives = a; records = r }) d, λ ks h. let g : false ≡ true = sym c.if-not-are_lists.true ∙ c.are_lists.ensures.1 (these_lists _ _ f ks h) in cc)
 
 pub returns-clause-ok : goal.returns-clause-ok
-returns-clause-ok c =
-    let f = laid_out _ _ c.in-Ok.ensures.0 c.in-Some.ensures (record { below = λ i. Fits-lt-pow (c.type_inv.bytes i) }) in
-    let a = c.are_archives.ensures.0 c.if-not-are_archives.false in
-    let r = c.are_records.ensures.0 c.if-not-are_records.false in
-    let d = c.are_entries.ensures.0 c.if-not-are_entries.false in
-    let p = c.are_lists.ensures.0 c.if-not-are_lists.false in
-    is_file _ _ f (has_postings _ _ f (record { archives = a; records = r }) d p)
+returns-clause-ok c = grind (arith, laid_out, Fits-lt-pow, is_file, has_postings)
 
 -- ---- bytes with a fault are the file of no table
 
@@ -66,10 +59,4 @@ pub returns-clause-same : goal.returns-clause-same
 returns-clause-same c t f = same-table c.args.bytes.now t (table_of c.in-Some.layout) c.well_formed.0.0 f (returns-clause-ok c)
 
 pub invariant_of-result : goal.invariant_of-result
-invariant_of-result c =
-    let f = laid_out _ _ c.in-Ok.ensures.0 c.in-Some.ensures (record { below = λ i. Fits-lt-pow (c.type_inv.bytes i) }) in
-    let a = c.are_archives.ensures.0 c.if-not-are_archives.false in
-    let r = c.are_records.ensures.0 c.if-not-are_records.false in
-    let d = c.are_entries.ensures.0 c.if-not-are_entries.false in
-    let p = c.are_lists.ensures.0 c.if-not-are_lists.false in
-    checked _ _ f (record { archives = a; records = r }) d p
+invariant_of-result c = grind (arith, laid_out, Fits-lt-pow, checked)

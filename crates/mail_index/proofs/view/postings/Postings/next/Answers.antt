@@ -31,10 +31,7 @@ invariant_of-self c =
     behind-posted c.self.inside.low c.in_ok-difference.difference c.self.inside.bytes.now c.in_ok-difference.behind.now c.in_ok-difference.ensures.short c.in_ok-difference.ensures.some c.self.invariant
 
 pub returns : goal.returns
-returns c = (
-  sym c.self.view_is ∙ numbers c.self.inside.low c.in_ok-difference.difference c.self.inside.bytes.now c.in_ok-difference.behind.now c.in_ok-difference.ensures.short c.in_ok-difference.ensures.some c.self.invariant,
-  c.tick.ensures,
-)
+returns c = grind (arith, numbers)
 
 pub returns-in_err-difference : goal.returns-in_err-difference
 returns-in_err-difference c =

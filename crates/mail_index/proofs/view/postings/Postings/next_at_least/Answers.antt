@@ -1,12 +1,10 @@
-use Rattle.mail_index.proofs.Words.{◌<◌, ◌≡◌, ◌∙◌, ◌-◌, ◌++◌, ℕ, suc, List, [], ◌∷◌, length, refl, sym, ap, arith, append_assoc, length-append, add_steps}
+use Rattle.mail_index.proofs.Words.{◌<◌, ◌≡◌, ◌∙◌, ◌-◌, ◌++◌, ℕ, suc, List, [], ◌∷◌, length, sym, ap, arith, append_assoc, length-append, add_steps}
 use Rattle.mail_index.proofs.ViewLaws.StepLemmas.{add_steps-none, add_steps-one}
 use Rattle.mail_index.proofs.Items.{all-snoc}
 use Rattle.mail_index.proofs.view.postings.Postings.next_at_least.Goals as goal
 
 pub loop-number-init : goal.loop-number-init
-loop-number-init c =
-    let none : length c.args.self.now - length c.args.self.now ≡ 0 = omega arith in
-    record { split = ([], tt, refl); steps = add_steps-none c.args.steps.now ∙ ap (add_steps c.args.steps.now) (sym none) }
+loop-number-init c = grind (arith, add_steps-none, add_steps)
 
 pub loop-number-preserved : goal.loop-number-preserved
 loop-number-preserved c =
