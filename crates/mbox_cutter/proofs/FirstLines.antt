@@ -1,9 +1,6 @@
 -- Where the first LF stands, and how long the first line is.
-use Rattle.std.proofs.Common.{◌≡◌, ℕ, zero, suc, ◌+◌, ◌<◌, ◌≤◌, Bool, true, false, cond, ◌==◌, List, [], ◌∷◌, ◌++◌, Some, None, length, take, get_or, refl, ap, sym, ◌∙◌, arith, min, nat_lt}
-use Rattle.std.proofs.lemmas.Bool.Decides.{nat_tests}
-use Rattle.std.proofs.lemmas.List.{length-append, length-take}
-use Rattle.memchr.specs.Find.{IsFirstByte, is_byte}
-use Rattle.mbox_cutter.specs.Lines.{length_before_feed, line_end_of, first_length}
+use Rattle.mbox_cutter.proofs.Words.{◌≡◌, ℕ, zero, suc, ◌+◌, ◌<◌, ◌≤◌, Bool, true, false, cond, ◌==◌, List, [], ◌∷◌, ◌++◌, Some, None, length, take, get_or, refl, ap, sym, ◌∙◌, arith, min, nat_lt, nat_tests, length-take, IsFirstByte, is_byte, length_before_feed, line_end_of, first_length}
+use Rattle.std.proofs.lemmas.List.{length-append}
 
 pub not_true : (b : Bool) → (b ≡ true → ⊥) → b ≡ false
 not_true b h = grind arith

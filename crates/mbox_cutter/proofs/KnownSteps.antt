@@ -1,16 +1,5 @@
 -- The steps of a cutter where it may be known what comes.
-use Rattle.std.proofs.Common.{◌≡◌, ℕ, ◌+◌, ◌<◌, List, Option, Some, IfSome, take, arith}
-use Rattle.std.specs.Option.{option_map}
-use Rattle.mbox_cutter.specs.declared.event.CutFault.{CutFault}
-use Rattle.mbox_cutter.specs.declared.event.CutFault.TheVariants.{ArchiveTooLong}
-use Rattle.mbox_cutter.specs.declared.scan.Phase.{Phase}
-use Rattle.mbox_cutter.specs.declared.scan.Phase.TheVariants.{Between}
-use Rattle.mbox_cutter.specs.Lines.{first_length}
-use Rattle.mbox_cutter.specs.Events.{ArchiveEvent, Coming, coming_of}
-use Rattle.mbox_cutter.specs.Coming.{Takes, TakesKnown, Refuses}
-use Rattle.mbox_cutter.specs.Places.{CutterPlace}
-use Rattle.mbox_cutter.specs.Inside.Scan.{FailsFirst}
-use Rattle.mbox_cutter.specs.Inside.Resume.{coming_at, resume}
+use Rattle.mbox_cutter.proofs.Words.{◌≡◌, ℕ, ◌+◌, ◌<◌, List, Option, Some, IfSome, take, arith, option_map, CutFault, ArchiveTooLong, Phase, Between, first_length, ArchiveEvent, Coming, coming_of, Takes, TakesKnown, Refuses, CutterPlace, FailsFirst, coming_at, resume}
 use Rattle.mbox_cutter.proofs.Steps.{resume-beginning}
 
 -- ---- facts of known values

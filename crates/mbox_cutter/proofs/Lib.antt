@@ -1,3 +1,4 @@
+pub mod Words
 pub mod FirstLines
 pub mod KnownSteps
 pub mod LineLists

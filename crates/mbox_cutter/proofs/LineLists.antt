@@ -1,7 +1,5 @@
 -- The lines of bytes: the first one, and the lines of what follows it.
-use Rattle.std.proofs.Common.{◌≡◌, ℕ, zero, suc, ◌<◌, ◌≤◌, List, [], ◌∷◌, length, take, drop, refl, ap, arith}
-use Rattle.std.proofs.lemmas.List.{length-drop}
-use Rattle.mbox_cutter.specs.Lines.{lines, first_lines, first_length}
+use Rattle.mbox_cutter.proofs.Words.{◌≡◌, ℕ, zero, suc, ◌<◌, ◌≤◌, List, [], ◌∷◌, length, take, drop, refl, ap, arith, length-drop, lines, first_lines, first_length}
 use Rattle.mbox_cutter.proofs.FirstLines.{first_length-positive}
 
 -- behind their first line there are fewer bytes

@@ -1,9 +1,5 @@
 -- The lines of bytes join to them, and each is cut where a line ends.
-use Rattle.std.proofs.Common.{◌≡◌, None, Some, ℕ, zero, suc, ◌-◌, ◌<◌, ◌≤◌, ◌==◌, true, false, cond, min, List, [], ◌∷◌, ◌++◌, length, take, drop, refl, ap, ◌∙◌, subst, arith}
-use Rattle.std.specs.List.{concat}
-use Rattle.std.proofs.lemmas.Bool.Decides.{nat_tests}
-use Rattle.std.proofs.lemmas.List.{length-drop, length-take-le, take-append-drop, take_all}
-use Rattle.mbox_cutter.specs.Lines.{line_end_of, length_before_feed, first_length, lines, IsLine, AreCut, AreLines}
+use Rattle.mbox_cutter.proofs.Words.{◌≡◌, None, Some, ℕ, zero, suc, ◌-◌, ◌<◌, ◌≤◌, ◌==◌, true, false, cond, min, List, [], ◌∷◌, ◌++◌, length, take, drop, refl, ap, ◌∙◌, subst, arith, concat, nat_tests, length-drop, length-take-le, take-append-drop, take_all, line_end_of, length_before_feed, first_length, lines, IsLine, AreCut, AreLines}
 use Rattle.mbox_cutter.proofs.FirstLines.{line_end-within, line_end-whole, length_before_feed-le, length_before_feed-take, first_length-le, first_length-positive}
 use Rattle.mbox_cutter.proofs.LineLists.{by_lines, lines-cons, lines-nil}
 

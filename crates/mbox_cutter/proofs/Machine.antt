@@ -1,12 +1,7 @@
 -- How what is told goes on from line to line.
-use Rattle.std.proofs.Common.{◌≡◌, ℕ, ◌+◌, ◌-◌, ◌≤◌, Bool, true, false, ◌||◌, ◌⊎◌, inl, inr, List, [], ◌∷◌, length, refl, ap, arith, add_assoc, add-zero, zero-add}
+use Rattle.mbox_cutter.proofs.Words.{◌≡◌, ℕ, ◌+◌, ◌-◌, ◌≤◌, Bool, true, false, ◌||◌, ◌⊎◌, inl, inr, List, [], ◌∷◌, length, refl, ap, arith, add_assoc, add-zero, zero-add, is_empty, is_separator, marked, grouped, without_closing, Start, Line, End, told_between, told_inside}
 use Rattle.std.specs.Str.{bytes_eq}
 use Rattle.std.proofs.lemmas.Slice.Eq.{bytes_eq-Decides}
-use Rattle.mbox_cutter.specs.Lines.{is_empty}
-use Rattle.mbox_cutter.specs.Separators.{is_separator}
-use Rattle.mbox_cutter.specs.Archives.{marked, grouped, without_closing}
-use Rattle.mbox_cutter.specs.Events.{Start, Line, End}
-use Rattle.mbox_cutter.specs.Inside.Resume.{told_between, told_inside}
 use Rattle.mbox_cutter.proofs.FirstLines.{not_true}
 
 -- a line that isn't empty is never the closing one

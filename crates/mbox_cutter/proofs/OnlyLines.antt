@@ -1,10 +1,6 @@
 -- Whatever list of lines joins to the bytes is their lines.
-use Rattle.std.proofs.Common.{◌≡◌, ℕ, zero, suc, ◌+◌, ◌<◌, ◌≤◌, ◌⊎◌, inl, inr, true, false, cond, ◌==◌, List, [], ◌∷◌, ◌++◌, length, append-nil, refl, ap, sym, ◌∙◌, arith}
-use Rattle.std.specs.List.{concat}
-use Rattle.std.proofs.lemmas.Bool.Decides.{nat_tests}
+use Rattle.mbox_cutter.proofs.Words.{◌≡◌, ℕ, zero, suc, ◌+◌, ◌<◌, ◌≤◌, ◌⊎◌, inl, inr, true, false, cond, ◌==◌, List, [], ◌∷◌, ◌++◌, length, append-nil, refl, ap, sym, ◌∙◌, arith, concat, nat_tests, take-append_seam, drop-append_seam, length_before_feed, first_length, lines, IsLine, AreCut, AreLines}
 use Rattle.std.proofs.lemmas.List.{length-append}
-use Rattle.std.proofs.Math.Seq.{take-append_seam, drop-append_seam}
-use Rattle.mbox_cutter.specs.Lines.{length_before_feed, first_length, lines, IsLine, AreCut, AreLines}
 use Rattle.mbox_cutter.proofs.FirstLines.{length_before_feed-le, length_before_feed-append_in, length_before_feed-append_out}
 use Rattle.mbox_cutter.proofs.LineLists.{lines-cons, lines-nil}
 

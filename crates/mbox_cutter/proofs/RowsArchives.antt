@@ -1,10 +1,5 @@
 -- Worked rows: offset, length and size of the messages of archives.
-use Rattle.std.proofs.Common.{◌≡◌, ℕ, List, [], ◌∷◌, ◌++◌, Option, None, Some, map, refl}
-use Rattle.std.specs.Prelude.{codes}
-use Rattle.std.specs.Option.{option_map}
-use Rattle.mbox_cutter.specs.Lines.{lines, first_length, is_empty}
-use Rattle.mbox_cutter.specs.Separators.{is_separator, without_break, has_form}
-use Rattle.mbox_cutter.specs.Archives.{messages, cut, span_length, size}
+use Rattle.mbox_cutter.proofs.Words.{◌≡◌, ℕ, List, [], ◌∷◌, ◌++◌, Option, None, Some, map, refl, codes, option_map, lines, first_length, is_empty, is_separator, without_break, has_form, messages, cut, span_length, size}
 use Rattle.mbox_cutter.proofs.RowTables.{Each}
 
 abbrev cut_with_sizes : List ℕ → Option (List (ℕ × ℕ × ℕ))

@@ -1,12 +1,5 @@
 -- Worked rows: the events of archives, and their refusals.
-use Rattle.std.proofs.Common.{ℕ, List, [], ◌∷◌, ◌++◌, Option, None, Some, refl}
-use Rattle.std.specs.Prelude.{codes}
-use Rattle.mbox_cutter.specs.declared.event.CutFault.{CutFault}
-use Rattle.mbox_cutter.specs.declared.event.CutFault.TheVariants.{NotAnMbox, ArchiveTooLong}
-use Rattle.mbox_cutter.specs.Lines.{lines, first_length, is_empty}
-use Rattle.mbox_cutter.specs.Separators.{is_separator, without_break, has_form}
-use Rattle.mbox_cutter.specs.Archives.{messages}
-use Rattle.mbox_cutter.specs.Events.{events, refusal_of, Start, Line, End, Done}
+use Rattle.mbox_cutter.proofs.Words.{ℕ, List, [], ◌∷◌, ◌++◌, Option, None, Some, refl, codes, CutFault, NotAnMbox, ArchiveTooLong, lines, first_length, is_empty, is_separator, without_break, has_form, messages, events, refusal_of, Start, Line, End, Done}
 use Rattle.mbox_cutter.proofs.RowTables.{Each}
 
 -- the refusal of an archive of which so many bytes are taken at most

@@ -1,7 +1,5 @@
 -- Worked rows: lines, empty lines, and where a line's end is known.
-use Rattle.std.proofs.Common.{◌≡◌, [], ◌∷◌, None, Some, true, false, map, refl}
-use Rattle.std.specs.Prelude.{codes}
-use Rattle.mbox_cutter.specs.Lines.{lines, first_length, is_empty, line_end_of}
+use Rattle.mbox_cutter.proofs.Words.{◌≡◌, [], ◌∷◌, None, Some, true, false, map, refl, codes, lines, first_length, is_empty, line_end_of}
 use Rattle.mbox_cutter.proofs.RowTables.{Each}
 
 rows : Each lines (([], []) ∷ (codes "\n\n", codes "\n" ∷ codes "\n" ∷ [])

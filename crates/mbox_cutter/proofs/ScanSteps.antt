@@ -1,24 +1,9 @@
 -- What the calls of a step make of a scan, and each way that a step ends.
-use Rattle.std.proofs.Common.{◌≡◌, ℕ, ◌+◌, ◌-◌, ◌<◌, ◌≤◌, Bool, true, false, List, Option, Some, Result, Ok, Err, IfSome, IfOk, length, take, drop, ap, sym, ◌∙◌, subst, arith}
-use Rattle.std.specs.Io.KnownBytes.{IsAtEnd}
-use Rattle.std.proofs.lemmas.List.{length-take-le}
-use Rattle.mbox_cutter.specs.declared.device.Source.{Ghosts}
-use Rattle.mbox_cutter.specs.declared.event.CutFault.{CutFault}
-use Rattle.mbox_cutter.specs.declared.event.CutFault.TheVariants.{Device, NotAnMbox, ArchiveTooLong}
-use Rattle.mbox_cutter.specs.declared.scan.Phase.{Phase}
-use Rattle.mbox_cutter.specs.declared.scan.Phase.TheVariants.{Between, Inside, Ended}
+use Rattle.mbox_cutter.proofs.Words.{◌≡◌, ℕ, ◌+◌, ◌-◌, ◌<◌, ◌≤◌, Bool, true, false, List, Option, Some, Result, Ok, Err, IfSome, IfOk, length, take, drop, ap, sym, ◌∙◌, subst, arith, IsAtEnd, length-take-le, Ghosts, CutFault, Device, NotAnMbox, ArchiveTooLong, Phase, Between, Inside, Ended, first_length, is_empty, IsLine, is_separator, ArchiveEvent, Line, Coming, Answers, Refuses, Takes, is_device, CutterPlace, Moves, Nears, ReadsAll, HasLine, known, ReadsOn, resume, closes_at, coming, place_of, told_at, IsPlace, IsWithin, IsScan, IsFresh, FailsFirst, FindsLine, Passes, Steps}
 use Rattle.mbox_cutter.specs.declared.scan.Scan.{Scan}
 use Rattle.mbox_cutter.specs.declared.scan.Step.{Step}
 use Rattle.mbox_cutter.specs.declared.scan.Step.TheVariants as step
-use Rattle.mbox_cutter.specs.Lines.{first_length, is_empty, IsLine}
-use Rattle.mbox_cutter.specs.Separators.{is_separator}
-use Rattle.mbox_cutter.specs.Events.{ArchiveEvent, Line, Coming}
-use Rattle.mbox_cutter.specs.Coming.{Answers, Refuses, Takes, is_device}
-use Rattle.mbox_cutter.specs.Places.{CutterPlace, Moves, Nears, ReadsAll, HasLine}
 use Rattle.mbox_cutter.specs.Progress.{Progress, Advances}
-use Rattle.mbox_cutter.specs.Inside.Ahead.{known, ReadsOn}
-use Rattle.mbox_cutter.specs.Inside.Resume.{resume}
-use Rattle.mbox_cutter.specs.Inside.Scan.{closes_at, coming, place_of, told_at, IsPlace, IsWithin, IsScan, IsFresh, FailsFirst, FindsLine, Passes, Steps}
 use Rattle.mbox_cutter.proofs.KnownSteps.{each_some, at_same, both, IsFirst, known-coming, known-step, known-fault}
 use Rattle.mbox_cutter.proofs.Sources.{Serves, Serves-none, Serves-join, served}
 use Rattle.mbox_cutter.proofs.Steps.{step-done, step-start, step-empty, step-refused, step-long, step-end, step-line, step-open, step-closed, step-long_inside, ended-stays}

@@ -1,9 +1,6 @@
 -- Reads of a source, one after another, leave what each leaves.
-use Rattle.std.proofs.Common.{◌≡◌, Bool, false, refl, ◌∙◌, arith}
+use Rattle.mbox_cutter.proofs.Words.{◌≡◌, Bool, false, refl, ◌∙◌, arith, Counted, Ghosts, Ahead, ReadsOn}
 use Rattle.std.specs.Borrow.{MutBor}
-use Rattle.contract_words.specs.Devices.{Counted}
-use Rattle.mbox_cutter.specs.declared.device.Source.{Ghosts}
-use Rattle.mbox_cutter.specs.Inside.Ahead.{Ahead, ReadsOn}
 use Rattle.mbox_cutter.specs.Sources.{Stays}
 
 pub Stays-self : {S : Type 0} (g : Ghosts S) (s : S) → Stays g s s

@@ -1,18 +1,5 @@
 -- A step of a cutter is a step of what still comes.
-use Rattle.std.proofs.Common.{◌≡◌, ℕ, zero, suc, ◌+◌, ◌-◌, ◌<◌, ◌≤◌, Bool, true, false, cond, ◌&&◌, ◌||◌, nat_eq, nat_lt, nat_le, List, [], ◌∷◌, Option, Some, None, length, take, drop, refl, ap, sym, ◌∙◌, arith, add_assoc, add-zero, zero-add}
-use Rattle.std.proofs.lemmas.Bool.Decides.{nat_tests}
-use Rattle.std.proofs.lemmas.List.{length-drop, length-take-le}
-use Rattle.std.specs.Option.{option_map_or}
-use Rattle.mbox_cutter.specs.declared.event.CutFault.{CutFault}
-use Rattle.mbox_cutter.specs.declared.event.CutFault.TheVariants.{NotAnMbox, ArchiveTooLong}
-use Rattle.mbox_cutter.specs.declared.scan.Phase.TheVariants.{Between, Inside, Ended}
-use Rattle.mbox_cutter.specs.Lines.{lines, first_length, is_empty}
-use Rattle.mbox_cutter.specs.Separators.{is_separator}
-use Rattle.mbox_cutter.specs.Archives.{Message, messages, marked, grouped, is_refused, total, messages_from}
-use Rattle.mbox_cutter.specs.Events.{ArchiveEvent, Start, Line, End, Done, told, events, first_full_end, refusal_of, Coming, coming_of}
-use Rattle.mbox_cutter.specs.Coming.{Takes, Refuses}
-use Rattle.mbox_cutter.specs.Inside.Scan.{closes_at}
-use Rattle.mbox_cutter.specs.Inside.Resume.{told_between, told_inside, refusal_between, too_long, resume}
+use Rattle.mbox_cutter.proofs.Words.{◌≡◌, ℕ, zero, suc, ◌+◌, ◌-◌, ◌<◌, ◌≤◌, Bool, true, false, cond, ◌&&◌, ◌||◌, nat_eq, nat_lt, nat_le, List, [], ◌∷◌, Option, Some, None, length, take, drop, refl, ap, sym, ◌∙◌, arith, add_assoc, add-zero, zero-add, nat_tests, length-drop, length-take-le, option_map_or, CutFault, NotAnMbox, ArchiveTooLong, Between, Inside, Ended, lines, first_length, is_empty, is_separator, Message, messages, marked, grouped, is_refused, total, messages_from, ArchiveEvent, Start, Line, End, Done, told, events, first_full_end, refusal_of, Coming, coming_of, Takes, Refuses, closes_at, told_between, told_inside, refusal_between, too_long, resume}
 use Rattle.mbox_cutter.proofs.FirstLines.{first_length-le, first_length-positive}
 use Rattle.mbox_cutter.proofs.LineLists.{lines-cons, lines-nil}
 use Rattle.mbox_cutter.proofs.Machine.{between-empty, between-start, inside-line, inside-closing_last, inside-closing, inside-empty, inside-nil, separator-full}

@@ -1,11 +1,7 @@
 -- The tokens of a text, one after another.
-use Rattle.std.proofs.Common.{◌≡◌, ℕ, ◌+◌, Bool, true, false, ◌&&◌, ◌||◌, ◌==◌, List, [], ◌∷◌, Some, None, take, drop, get_or, refl, ap, sym, ◌∙◌, subst, arith}
-use Rattle.std.specs.List.{list_any}
-use Rattle.std.proofs.lemmas.List.{get_or_default, drop-drop}
+use Rattle.mbox_cutter.proofs.Words.{◌≡◌, ℕ, ◌+◌, Bool, true, false, ◌&&◌, ◌||◌, ◌==◌, List, [], ◌∷◌, Some, None, take, drop, get_or, refl, ap, sym, ◌∙◌, subst, arith, list_any, get_or_default, drop-drop, IsFirstByte, is_byte, tokens, has_time_then_year, is_time, is_year}
 use Rattle.std.proofs.lemmas.List.Sums.{position_or_len_is}
 use Rattle.std.proofs.lemmas.List.Splits.{slice_split_first, slice_split_none}
-use Rattle.memchr.specs.Find.{IsFirstByte, is_byte}
-use Rattle.mbox_cutter.specs.Separators.{tokens, has_time_then_year, is_time, is_year}
 use Rattle.mbox_cutter.proofs.FirstLines.{not_true}
 
 pub tokens-at : (rest : List ℕ) (k : ℕ) → IsFirstByte (is_byte 32) rest (Some k) → tokens rest ≡ take k rest ∷ tokens (drop (k + 1) rest)

@@ -1,15 +1,9 @@
 -- What a window's steps do to the bytes to come.
-use Rattle.std.proofs.Common.{◌≡◌, ℕ, ◌+◌, ◌-◌, ◌<◌, ◌≤◌, Bool, true, false, Result, List, ◌++◌, Option, Some, None, IfSome, IfOk, length, take, drop, append-nil, ap, ◌∙◌, arith, append_assoc, subst}
+use Rattle.mbox_cutter.proofs.Words.{◌≡◌, ℕ, ◌+◌, ◌-◌, ◌<◌, ◌≤◌, Bool, true, false, Result, List, ◌++◌, Option, Some, None, IfSome, IfOk, length, take, drop, append-nil, ap, ◌∙◌, arith, append_assoc, subst, ReadConsumes, IsAtEnd, prepend_known, take-append-add, take-append-le, length-take-le, drop-append-le, Counted, Ghosts, line_end_of, first_length, Ahead, known, ReadsBehind, ReadsOn, Extends}
 use Rattle.std.specs.Result.{IsErr, is_err}
-use Rattle.std.specs.Io.KnownBytes.{ReadConsumes, IsAtEnd, prepend_known}
-use Rattle.std.proofs.Math.Seq.{take-append-add}
-use Rattle.std.proofs.lemmas.List.{take-append-le, length-take-le, drop-append-le, length-append}
+use Rattle.std.proofs.lemmas.List.{length-append}
 use borrow.Rule.Slice.PartMut.{put_mid}
-use Rattle.contract_words.specs.Devices.{Counted}
 use Rattle.mbox_cutter.specs.declared.device.DeviceFault.{DeviceFault}
-use Rattle.mbox_cutter.specs.declared.device.Source.{Ghosts}
-use Rattle.mbox_cutter.specs.Lines.{line_end_of, first_length}
-use Rattle.mbox_cutter.specs.Inside.Ahead.{Ahead, known, ReadsBehind, ReadsOn, Extends}
 use Rattle.mbox_cutter.proofs.FirstLines.{line_end-more, line_end-whole}
 use Rattle.mbox_cutter.proofs.Parts.{take_front}
 use Rattle.mbox_cutter.proofs.Sources.{Stays-join}

@@ -1,4 +1,4 @@
-use Rattle.std.proofs.Common.{◌++◌, take, ◌∙◌}
+use Rattle.mbox_cutter.proofs.Words.{◌++◌, take, ◌∙◌}
 use Rattle.contract_words.proofs.Sending.{appends_join, send_step}
 use Rattle.mbox_cutter.proofs.device.send.Goals as goal
 

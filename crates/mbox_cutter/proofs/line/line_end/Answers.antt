@@ -1,4 +1,4 @@
-use Rattle.std.proofs.Common.{arith}
+use Rattle.mbox_cutter.proofs.Words.{arith}
 use Rattle.mbox_cutter.proofs.FirstLines.{line_end_found, line_end_full, line_end_open}
 use Rattle.mbox_cutter.proofs.line.line_end.Goals as goal
 

@@ -1,12 +1,9 @@
-use Rattle.std.proofs.Common.{◌≡◌, ◌∙◌, ◌&&◌, ℕ, Bool, nat_eq, List, [], ◌∷◌, length, refl, sym, ap, arith, rules, tests}
+use Rattle.mbox_cutter.proofs.Words.{◌≡◌, ◌∙◌, ◌&&◌, ℕ, Bool, nat_eq, List, [], ◌∷◌, length, refl, sym, ap, arith, rules, tests, nat_tests, list_all, zip, has_form, stands_for}
 use lib.Pointwise.{pointwise_long}
 use Rattle.std.proofs.lemmas.Bool.{eqb-true}
-use Rattle.std.proofs.lemmas.Bool.Decides.{nat_tests}
 use Rattle.std.proofs.lemmas.Iterator.{YieldsList-from_slice, YieldsList-from_zip}
 use Rattle.std.proofs.lemmas.Iterator.Search.{all_from_yields_List}
 use Rattle.std.specs.Cmp.Lexicographic.{pointwise}
-use Rattle.std.specs.List.{list_all, zip}
-use Rattle.mbox_cutter.specs.Separators.{has_form, stands_for}
 use Rattle.mbox_cutter.proofs.FirstLines.{not_true}
 use Rattle.mbox_cutter.proofs.separator.has_form.Goals as goal
 

@@ -1,5 +1,4 @@
-use Rattle.std.proofs.Common.{◌≡◌, Bool, true, false, ◌&&◌, ◌∷◌, drop, refl, sym, ◌∙◌}
-use Rattle.mbox_cutter.specs.Separators.{tokens}
+use Rattle.mbox_cutter.proofs.Words.{◌≡◌, Bool, true, false, ◌&&◌, ◌∷◌, drop, refl, sym, ◌∙◌, tokens}
 use Rattle.mbox_cutter.proofs.Tokens.{tokens-split, tokens-none, turn_untimed, turn_timed, found, last_token}
 use Rattle.mbox_cutter.proofs.separator.has_time_then_year.Goals as goal
 use Rattle.mbox_cutter.proofs.separator.has_time_then_year.Goals.{then-not-timed, else-not-timed+else-is_year}

@@ -1,6 +1,4 @@
-use Rattle.std.proofs.Common.{◌≡◌, ◌&&◌, ◌||◌, length}
-use Rattle.std.specs.List.{list_any}
-use Rattle.mbox_cutter.specs.Separators.{has_time_then_year, tokens, is_year}
+use Rattle.mbox_cutter.proofs.Words.{◌≡◌, ◌&&◌, ◌||◌, length, list_any, has_time_then_year, tokens, is_year}
 use Rattle.mbox_cutter.proofs.separator.has_time_then_year.Given as goal
 
 abbrev pub invariant-tokens : goal.invariant-tokens

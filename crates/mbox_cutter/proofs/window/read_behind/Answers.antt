@@ -1,5 +1,4 @@
-use Rattle.std.proofs.Common.{◌∙◌, arith}
-use Rattle.std.proofs.lemmas.List.{length-take, length-drop}
+use Rattle.mbox_cutter.proofs.Words.{◌∙◌, arith, length-take, length-drop}
 use Rattle.mbox_cutter.proofs.Windows.{reads_behind}
 use Rattle.mbox_cutter.proofs.window.read_behind.Goals as goal
 

@@ -1,4 +1,4 @@
-use Rattle.std.proofs.Common.{arith}
+use Rattle.mbox_cutter.proofs.Words.{arith}
 use Rattle.mbox_cutter.proofs.ScanSteps.{steps-advance}
 use Rattle.mbox_cutter.proofs.cutter.Cutter.step.Goals as goal
 

@@ -1,5 +1,4 @@
-use Rattle.std.proofs.Common.{arith, length-append}
-use Rattle.std.proofs.lemmas.List.{drop_all, length-drop, length-take-le}
+use Rattle.mbox_cutter.proofs.Words.{arith, length-append, drop_all, length-drop, length-take-le}
 use Rattle.mbox_cutter.proofs.Parts.{read_part}
 use Rattle.mbox_cutter.proofs.memory.MemorySourceSource.read_next.Goals as goal
 

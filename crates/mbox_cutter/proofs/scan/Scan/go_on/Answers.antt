@@ -1,5 +1,4 @@
-use Rattle.std.proofs.Common.{◌≡◌, ◌<◌, true, false, arith}
-use Rattle.mbox_cutter.specs.Lines.{is_empty}
+use Rattle.mbox_cutter.proofs.Words.{◌≡◌, ◌<◌, true, false, arith, is_empty}
 use Rattle.mbox_cutter.proofs.Machine.{empty-short}
 use Rattle.mbox_cutter.proofs.ScanSteps.{found, found-on, closes-known, taken, end-steps, line-steps, open-steps, closed-steps, fault_inside-steps, unread-steps}
 use Rattle.mbox_cutter.proofs.scan.Scan.go_on.Goals as goal

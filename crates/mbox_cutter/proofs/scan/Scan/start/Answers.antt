@@ -1,6 +1,4 @@
-use Rattle.std.proofs.Common.{◌≡◌, ◌<◌, true, false, ap, arith}
-use Rattle.mbox_cutter.specs.Lines.{is_empty}
-use Rattle.mbox_cutter.specs.Separators.{is_separator}
+use Rattle.mbox_cutter.proofs.Words.{◌≡◌, ◌<◌, true, false, ap, arith, is_empty, is_separator}
 use Rattle.mbox_cutter.proofs.ScanSteps.{found, taken, taken-nearer, done-steps, start-steps, refused-steps, fault-steps, skipped-none, skipped-one, skipped-steps}
 use Rattle.mbox_cutter.proofs.scan.Scan.start.Goals as goal
 

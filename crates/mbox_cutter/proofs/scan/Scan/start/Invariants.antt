@@ -1,4 +1,4 @@
-use Rattle.std.proofs.Common.{◌-◌}
+use Rattle.mbox_cutter.proofs.Words.{◌-◌}
 use Rattle.mbox_cutter.proofs.ScanSteps.{Skipped}
 use Rattle.mbox_cutter.proofs.scan.Scan.start.Given as goal
 

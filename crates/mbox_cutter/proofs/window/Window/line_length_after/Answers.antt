@@ -1,8 +1,4 @@
-use Rattle.std.proofs.Common.{ℕ, List, ◌<◌, length, take, ap, ◌∙◌, subst, sym, arith}
-use Rattle.std.specs.Io.KnownBytes.{IsAtEnd}
-use Rattle.std.proofs.lemmas.List.{take_all}
-use Rattle.mbox_cutter.specs.Inside.Ahead.{Ahead}
-use Rattle.mbox_cutter.specs.Lines.{IsLine, line_end_of}
+use Rattle.mbox_cutter.proofs.Words.{ℕ, List, ◌<◌, length, take, ap, ◌∙◌, subst, sym, arith, IsAtEnd, take_all, Ahead, IsLine, line_end_of}
 use Rattle.mbox_cutter.proofs.FirstLines.{line_end-positive, line_end-within, line_end-open}
 use Rattle.mbox_cutter.proofs.LinesAreCut.{line_end-IsLine, open_end-IsLine}
 use Rattle.mbox_cutter.proofs.Windows.{at_some, at_end, ReadsOn-join, ReadsOn-failed}

@@ -1,6 +1,5 @@
-use Rattle.std.proofs.Common.{false, ◌+◌, ◌-◌, ◌*◌, length, cond}
+use Rattle.mbox_cutter.proofs.Words.{false, ◌+◌, ◌-◌, ◌*◌, length, cond, ReadsOn}
 use Rattle.mbox_cutter.specs.declared.buffer.TheConstants.{ROOM}
-use Rattle.mbox_cutter.specs.Inside.Ahead.{ReadsOn}
 use Rattle.mbox_cutter.proofs.window.Window.line_length_after.Given as goal
 
 abbrev pub invariant-more : goal.invariant-more
