@@ -1,13 +1,5 @@
 -- What a line with an assignment says, by what a reader finds in it.
-use Rattle.std.proofs.Common.{◌≡◌, ℕ, ◌+◌, ◌≤◌, ◌==◌, Option, List, [], length, Err, refl, sym, ap, ◌∙◌, arith}
-use Rattle.std.specs.List.{before_first, after_first, position_or_len}
-use Rattle.std.specs.Str.{IsUtf8}
-use Rattle.std.proofs.lemmas.Bool.{or_right, false_from_ne_true}
-use Rattle.std.proofs.lemmas.List.{drop_all}
-use Rattle.std.proofs.lemmas.Str.{is_utf8-from_IsUtf8, IsUtf8-from_is_utf8}
-use Rattle.mairix_options.specs.Blanks.{trimmed}
-use Rattle.mairix_options.specs.Rcfile.{entry, assigned}
-use Rattle.mairix_options.specs.declared.rcfile.RcFault.TheVariants.{BadLine}
+use Rattle.mairix_options.proofs.Words.{◌≡◌, ℕ, ◌+◌, ◌≤◌, ◌==◌, Option, List, [], length, Err, refl, sym, ap, ◌∙◌, arith, before_first, after_first, position_or_len, IsUtf8, or_right, false_from_ne_true, drop_all, is_utf8-from_IsUtf8, IsUtf8-from_is_utf8, trimmed, entry, assigned, BadLine}
 
 pub entry-not_utf8 : (base : Option (List ℕ)) (n : ℕ) (text : List ℕ) → ¬ (IsUtf8 text) → entry base n text ≡ Err (BadLine n)
 entry-not_utf8 base n text broken = grind (arith, false_from_ne_true, IsUtf8-from_is_utf8)

@@ -1,15 +1,6 @@
 -- The first line that a base makes no path.
-use Rattle.std.proofs.Common.{◌≡◌, ℕ, ◌+◌, ◌<◌, suc, true, false, List, [], ◌∷◌, ◌++◌, Option, None, Some, Err, map, length, take, drop, get_or, drop-cons, add-one, sym, ap, ◌∙◌, arith}
-use Rattle.std.specs.List.{list_all, filter_map, slice_get}
-use Rattle.std.proofs.lemmas.List.{take_more}
-use Rattle.std.proofs.lemmas.List.{flat_map_more}
-use Rattle.contract_words.specs.Answers.{◌>>=◌}
-use Rattle.mairix_options.specs.Path.{is_path, archive_path}
-use Rattle.mairix_options.specs.Rcfile.{archives_misfit, first_misfit, all_fit, all_paths, rc_fitting, rc_with}
-use Rattle.mairix_options.specs.declared.mail_format.MailFormat.{MailFormat}
-use Rattle.mairix_options.specs.declared.rcfile.RcFault.TheVariants.{BadLine}
-use Rattle.mairix_options.specs.declared.setting.ArchivesLine.{ArchivesLine}
-use Rattle.mairix_options.specs.declared.setting.MfolderLine.{MfolderLine}
+use Rattle.mairix_options.proofs.Words.{◌≡◌, ℕ, ◌+◌, ◌<◌, suc, true, false, List, [], ◌∷◌, ◌++◌, Option, None, Some, Err, map, length, take, drop, get_or, drop-cons, add-one, sym, ap, ◌∙◌, arith, list_all, filter_map, take_more, flat_map_more, ◌>>=◌, is_path, archive_path, archives_misfit, first_misfit, all_fit, all_paths, rc_fitting, rc_with, MailFormat, BadLine, ArchivesLine, MfolderLine}
+use Rattle.std.specs.List.{slice_get}
 
 -- ---- the lines of archives
 

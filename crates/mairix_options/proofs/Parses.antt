@@ -1,17 +1,7 @@
 -- What a parse of the words says of the plan.
-use Rattle.std.proofs.Common.{◌≡◌, ◌⊎◌, true, List, [], Result, Ok, Err, IfOk, IfSome, refl, sym, subst, ap, arith}
-use Rattle.clap.specs.Words.{Kinds, IsAmong, FailsBy, Row, Text, HasMatchesOf, fault_of, matches_of, is_simple, is_simple_and_free, built, rows_of, found_of, kind_of}
-use Rattle.clap.specs.declared.error.Error.{Error}
-use Rattle.clap.specs.declared.error.kind.ErrorKind.{ErrorKind}
+use Rattle.mairix_options.proofs.Words.{◌≡◌, ◌⊎◌, true, List, [], Result, Ok, Err, IfOk, IfSome, refl, sym, subst, ap, arith, FailsBy, Text, HasMatchesOf, fault_of, matches_of, is_simple, is_simple_and_free, rows_of, found_of, kind_of, Error, ErrorKind, ArgMatches, if_some_map, Gives, ◌>>=◌, command, parse, parse_by, plan, plan_of_rows, plan_in, one_format, refusal_of_kind, kind_refusal, error_refusal, fault_of_kind, refusal, Plan, UsageFault, OrMemory}
+use Rattle.clap.specs.Words.{Kinds, IsAmong, Row, built}
 use Rattle.clap.specs.declared.error.kind.ErrorKind.TheVariants as kind
-use Rattle.clap.specs.declared.parser.matches.ArgMatches.{ArgMatches}
-use Rattle.contract_words.proofs.Collecting.{if_some_map}
-use Rattle.contract_words.specs.Answers.{Gives, ◌>>=◌}
-use Rattle.mairix_options.specs.CommandLine.{command, parse, parse_by, plan, plan_of_rows, plan_in, one_format, refusal_of_kind, kind_refusal, error_refusal, fault_of_kind}
-use Rattle.mairix_options.specs.Refusals.{refusal}
-use Rattle.mairix_options.specs.declared.command_line.Plan.{Plan}
-use Rattle.mairix_options.specs.declared.command_line.UsageFault.{UsageFault}
-use Rattle.mairix_options.specs.declared.or_memory.OrMemory.{OrMemory}
 use Rattle.mairix_options.proofs.OneKind.{One, one_fault, only_kind}
 
 -- the command is one of those whose parse clap states

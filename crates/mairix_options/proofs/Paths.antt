@@ -1,11 +1,5 @@
 -- What may name a file in an rcfile may name an archive in an index.
-use Rattle.std.proofs.Common.{◌≡◌, ◌≢◌, ℕ, ◌==◌, true, false, ◌||◌, List, [], ◌∷◌, refl, arith}
-use Rattle.std.specs.List.{AllByRecursion, list_any}
-use Rattle.std.specs.Str.{IsUtf8}
-use Rattle.std.proofs.lemmas.Bool.{and_parts, or_parts, not-true}
-use Rattle.std.proofs.lemmas.Bool.Decides.{nat_tests}
-use Rattle.mail_index.specs.Tables.{IsPath}
-use Rattle.mairix_options.specs.Path.{is_path}
+use Rattle.mairix_options.proofs.Words.{◌≡◌, ◌≢◌, ℕ, ◌==◌, true, false, ◌||◌, List, [], ◌∷◌, refl, arith, AllByRecursion, list_any, IsUtf8, and_parts, or_parts, not-true, nat_tests, IsPath, is_path}
 
 all-clear : (text : List ℕ) → list_any (λ b. b == 10 || b == 0) text ≡ false → AllByRecursion (λ b. (b ≢ 0x0A) × (b ≢ 0)) text
 all-clear [] clear = tt

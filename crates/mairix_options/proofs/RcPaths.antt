@@ -1,36 +1,13 @@
 -- The paths that an accepted rcfile names are paths of an index.
-use Rattle.std.proofs.Common.{◌≡◌, ℕ, zero, suc, ◌+◌, ◌-◌, ◌<◌, ◌==◌, Bool, true, false, not, nat_eq, nat_lt, ◌||◌, ◌&&◌, if◌then◌else◌, lit<, List, [], ◌∷◌, ◌++◌, length, map, drop, get_or, codes, Option, None, Some, unwrap_or, Result, Ok, Err, IfOk, IfSome, refl, sym, ap, ◌∙◌, subst, arith, ⊎_elim}
-use Rattle.std.specs.List.{All, list_all, filter_map, cons_option, last_or, slice_get, slice_index, starts_with, prefix_len, suffix_len, position_or_len, before_first, after_first, slice_split}
-use Rattle.std.specs.Option.{option_and_then}
-use Rattle.std.specs.Str.{IsUtf8, is_utf8}
-use Rattle.std.proofs.lemmas.Bool.{cases_lt, and_parts, or_parts, not-false}
-use Rattle.std.proofs.lemmas.Bool.Decides.{nat_tests}
-use Rattle.std.proofs.lemmas.List.{drop_all, length-drop}
-use Rattle.std.proofs.lemmas.List.Elements.{All-nil, All-cons, All-head, All-tail, All-append, All-filter}
+use Rattle.mairix_options.proofs.Words.{◌≡◌, ℕ, zero, suc, ◌+◌, ◌-◌, ◌<◌, ◌==◌, Bool, true, false, not, nat_eq, nat_lt, ◌||◌, ◌&&◌, if◌then◌else◌, lit<, List, [], ◌∷◌, ◌++◌, length, map, drop, get_or, codes, Option, None, Some, unwrap_or, Result, Ok, Err, IfOk, IfSome, refl, sym, ap, ◌∙◌, subst, arith, ⊎_elim, All, list_all, filter_map, cons_option, last_or, slice_index, starts_with, prefix_len, suffix_len, position_or_len, before_first, after_first, slice_split, option_and_then, IsUtf8, is_utf8, cases_lt, and_parts, or_parts, not-false, nat_tests, drop_all, length-drop, All-nil, All-cons, All-head, All-tail, All-append, All-filter, passes_at_first, IsUtf8-nil, IsUtf8-append, IsUtf8-take, IsUtf8-drop, IsUtf8-from_is_utf8, IsUtf8-from_ascii, IsCharBoundary-before_ascii, IsCharBoundary-after_ascii, Gives, ◌>>=◌, IsPath, is_blank, trimmed, is_path, under, archive_path, mfolder_path, keyword_of, archives_of, names_in, paths_in, format_of, setting_of, supported, assigned, entry, is_skipped, text_settings, line_settings, base_in, archives_in, database_in, mfolder_in, format_in, last_of, lines_in, settings_from, archives_misfit, mfolder_misfit, earlier, first_misfit, all_fit, required, if_any, all_paths, rc_fitting, rc_with, rc_from, rc_of, refusal, ArchivesLine, MailFormat, MfolderLine, OrMemory, Rc, RcFault, BadLine, NotSupported, BadFormat, Setting, Base, Archives, Database, Mfolder, Format}
+use Rattle.std.specs.List.{slice_get}
 use Rattle.std.proofs.lemmas.List.Splits.{slice_split_first}
-use Rattle.std.proofs.lemmas.List.Sums.{passes_at_first}
-use Rattle.std.proofs.lemmas.Str.{IsUtf8-nil, IsUtf8-append, IsUtf8-take, IsUtf8-drop, IsUtf8-from_is_utf8, IsUtf8-from_ascii, IsCharBoundary-before_ascii, IsCharBoundary-after_ascii}
-use Rattle.contract_words.specs.Answers.{Gives, ◌>>=◌}
 use Rattle.mail_dates.proofs.Cuts.{split_none}
-use Rattle.mail_index.specs.Tables.{IsPath}
-use Rattle.mairix_options.specs.Blanks.{is_blank, trimmed}
-use Rattle.mairix_options.specs.Path.{is_path, under, archive_path, mfolder_path}
-use Rattle.mairix_options.specs.Rcfile.{keyword_of, archives_of, names_in, paths_in, format_of, setting_of, supported, assigned, entry, is_skipped, text_settings, line_settings, base_in, archives_in, database_in, mfolder_in, format_in, last_of, lines_in, settings_from, archives_misfit, mfolder_misfit, earlier, first_misfit, all_fit, required, if_any, all_paths, rc_fitting, rc_with, rc_from, rc_of}
-use Rattle.mairix_options.specs.Refusals.{refusal}
-use Rattle.mairix_options.specs.declared.setting.ArchivesLine.{ArchivesLine}
 use Rattle.mairix_options.specs.declared.setting.Keyword.{Keyword}
 use Rattle.mairix_options.specs.declared.setting.Keyword.TheVariants as keyword
-use Rattle.mairix_options.specs.declared.mail_format.MailFormat.{MailFormat}
 use Rattle.mairix_options.specs.declared.mail_format.MailFormat.TheVariants as mail
-use Rattle.mairix_options.specs.declared.setting.MfolderLine.{MfolderLine}
-use Rattle.mairix_options.specs.declared.or_memory.OrMemory.{OrMemory}
 use Rattle.mairix_options.specs.declared.rcfile.Name.{Name}
 use Rattle.mairix_options.specs.declared.rcfile.Name.TheVariants as name
-use Rattle.mairix_options.specs.declared.rcfile.Rc.{Rc}
-use Rattle.mairix_options.specs.declared.rcfile.RcFault.{RcFault}
-use Rattle.mairix_options.specs.declared.rcfile.RcFault.TheVariants.{BadLine, NotSupported, BadFormat}
-use Rattle.mairix_options.specs.declared.setting.Setting.{Setting}
-use Rattle.mairix_options.specs.declared.setting.Setting.TheVariants.{Base, Archives, Database, Mfolder, Format}
 use Rattle.mairix_options.proofs.Paths.{path-from}
 use Rattle.mairix_options.proofs.Trimming.{IsCharBoundary-blanks, IsCharBoundary-end_blanks}
 

@@ -1,10 +1,6 @@
 -- What some words ask for.
-use Rattle.std.proofs.Common.{◌≡◌, ℕ, ◌==◌, codes, refl, List, [], ◌∷◌, map, true, false, None, Some, Ok, Err}
-use Rattle.std.specs.List.{slice_split}
+use Rattle.mairix_options.proofs.Words.{◌≡◌, ℕ, ◌==◌, codes, refl, List, [], ◌∷◌, map, true, false, None, Some, Ok, Err, slice_split, parse, plan, Plan, UsageFault}
 use Rattle.clap.proofs.OnLiterals.{clap_on_literals}
-use Rattle.mairix_options.specs.CommandLine.{parse, plan}
-use Rattle.mairix_options.specs.declared.command_line.Plan.{Plan}
-use Rattle.mairix_options.specs.declared.command_line.UsageFault.{UsageFault}
 use Rattle.mairix_options.specs.declared.command_line.UsageFault.TheVariants.{Parse, TwoFormats, Help, Version}
 
 -- the words of a line, of which a space parts each two

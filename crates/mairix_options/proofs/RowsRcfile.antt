@@ -1,15 +1,8 @@
 -- What some rcfiles say.
-use Rattle.std.proofs.Common.{◌≡◌, ℕ, codes, refl, List, [], ◌∷◌, ◌++◌, None, Some, Ok, Err, replicate, true, false, map}
+use Rattle.mairix_options.proofs.Words.{◌≡◌, ℕ, codes, refl, List, [], ◌∷◌, ◌++◌, None, Some, Ok, Err, replicate, true, false, map, chars, trimmed, is_path, rc_of, RcFault, BadLine, NotSupported, Wildcard, Expansion, Missing, BadFormat, Rc}
 use Rattle.bstr.proofs.Computing.{computing}
-use Rattle.std.specs.Str.{chars}
 use Rattle.std.specs.Char.{encode_utf8}
-use Rattle.mairix_options.specs.Blanks.{trimmed}
-use Rattle.mairix_options.specs.Path.{is_path}
-use Rattle.mairix_options.specs.Rcfile.{rc_of}
 use Rattle.mairix_options.specs.declared.rcfile.Name.TheVariants as name
-use Rattle.mairix_options.specs.declared.rcfile.RcFault.{RcFault}
-use Rattle.mairix_options.specs.declared.rcfile.RcFault.TheVariants.{BadLine, NotSupported, Wildcard, Expansion, Missing, BadFormat}
-use Rattle.mairix_options.specs.declared.rcfile.Rc.{Rc}
 use Rattle.mairix_options.specs.declared.mail_format.MailFormat.TheVariants as format
 
 -- an rcfile without `base` and `mformat`

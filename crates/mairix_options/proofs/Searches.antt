@@ -1,15 +1,9 @@
 -- What a search for bytes tells of the whole list.
-use Rattle.std.proofs.Common.{◌≡◌, ◌↔◌, ℕ, Bool, true, List, [], ◌∷◌, ◌++◌, map, ◌&&◌, ◌||◌, ◌≤◌, length, take, drop, codes, nat_eq, Option, refl, sym, ap, ◌∙◌, arith, is_some, ⊎_elim}
-use Rattle.std.specs.List.{list_any, list_all, starts_with}
-use Rattle.std.specs.Str.Iter.{HasSubslice}
-use Rattle.std.proofs.lemmas.Bool.{or_cases, or_right, false_from_ne_true, false≢true}
-use Rattle.std.proofs.lemmas.Bool.Decides.{Decides-eqb, same_from_decides}
-use Rattle.std.proofs.lemmas.List.{take_all}
+use Rattle.mairix_options.proofs.Words.{◌≡◌, ◌↔◌, ℕ, Bool, true, List, [], ◌∷◌, ◌++◌, map, ◌&&◌, ◌||◌, ◌≤◌, length, take, drop, codes, nat_eq, Option, refl, sym, ap, ◌∙◌, arith, is_some, ⊎_elim, list_any, list_all, starts_with, HasSubslice, or_cases, or_right, false_from_ne_true, false≢true, Decides-eqb, same_from_decides, take_all, has_three_dots}
 use Rattle.std.proofs.lemmas.List.Folds.{list_any_none, list_any_at}
 use Rattle.std.proofs.lemmas.Grind.{get_or_default_zero}
 use Rattle.std.proofs.lemmas.Slice.Eq.{starts_is}
 use Rattle.memchr.specs.Find.{IsFirstByte}
-use Rattle.mairix_options.specs.Path.{has_three_dots}
 
 list_any-searched : (test : ℕ → Bool) (hay : List ℕ) (r : Option ℕ) → IsFirstByte test hay r → list_any test hay ≡ is_some r
 list_any-searched test hay r h = grind (arith, list_any_none, false_from_ne_true, get_or_default_zero, list_any_at)

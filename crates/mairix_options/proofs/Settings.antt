@@ -1,15 +1,5 @@
 -- What one more setting says.
-use Rattle.std.proofs.Common.{◌≡◌, ℕ, ◌+◌, List, [], ◌∷◌, ◌++◌, Option, Some, None, Result, Ok, Err, IfSome, refl, sym, ap, ◌∙◌, arith}
-use Rattle.std.specs.List.{filter_map, last_or}
-use Rattle.std.proofs.lemmas.List.Elements.{filter_map-append}
-use Rattle.contract_words.specs.Answers.{◌>>=◌}
-use Rattle.contract_words.proofs.Collecting.{if_some_map}
-use Rattle.mairix_options.specs.Rcfile.{line_settings, base_in, archives_in, database_in, mfolder_in, format_in, last_of, settings_from}
-use Rattle.mairix_options.specs.declared.setting.ArchivesLine.{ArchivesLine}
-use Rattle.mairix_options.specs.declared.mail_format.MailFormat.{MailFormat}
-use Rattle.mairix_options.specs.declared.setting.MfolderLine.{MfolderLine}
-use Rattle.mairix_options.specs.declared.rcfile.RcFault.{RcFault}
-use Rattle.mairix_options.specs.declared.setting.Setting.{Setting}
+use Rattle.mairix_options.proofs.Words.{◌≡◌, ℕ, ◌+◌, List, [], ◌∷◌, ◌++◌, Option, Some, None, Result, Ok, Err, IfSome, refl, sym, ap, ◌∙◌, arith, filter_map, last_or, filter_map-append, ◌>>=◌, if_some_map, line_settings, base_in, archives_in, database_in, mfolder_in, format_in, last_of, settings_from, ArchivesLine, MailFormat, MfolderLine, RcFault, Setting}
 
 last_or-append : {X : Type 0} (o : Option X) (xs ys : List X) → last_or o (xs ++ ys) ≡ last_or (last_or o xs) ys
 last_or-append o [] ys = refl

@@ -1,13 +1,5 @@
 -- What is left of a text without the blanks at its ends, and that it may be cut there.
-use Rattle.std.proofs.Common.{◌≡◌, ℕ, ◌-◌, ◌<◌, ◌≤◌, true, List, length, take, drop, reverse, get_or, ap, ◌∙◌, subst, arith, ⊎_elim}
-use Rattle.std.specs.List.{prefix_len, suffix_len}
-use Rattle.std.specs.Str.{IsUtf8, IsCharBoundary}
-use Rattle.std.proofs.lemmas.Bool.{cases_lt}
-use Rattle.std.proofs.lemmas.Bool.Decides.{nat_tests}
-use Rattle.std.proofs.lemmas.List.{get_or-reverse}
-use Rattle.std.proofs.lemmas.List.Sums.{prefix_len_passes, prefix_len-le-length, suffix_len-le-length}
-use Rattle.std.proofs.lemmas.Str.{IsCharBoundary-start, IsCharBoundary-end, IsCharBoundary-after_ascii, IsCharBoundary-before_ascii}
-use Rattle.mairix_options.specs.Blanks.{is_blank, trimmed}
+use Rattle.mairix_options.proofs.Words.{◌≡◌, ℕ, ◌-◌, ◌<◌, ◌≤◌, true, List, length, take, drop, reverse, get_or, ap, ◌∙◌, subst, arith, ⊎_elim, prefix_len, suffix_len, IsUtf8, IsCharBoundary, cases_lt, nat_tests, get_or-reverse, prefix_len_passes, prefix_len-le-length, suffix_len-le-length, IsCharBoundary-start, IsCharBoundary-end, IsCharBoundary-after_ascii, IsCharBoundary-before_ascii, is_blank, trimmed}
 
 pub trimmed-parts : (text rest kept : List ℕ) (front end : ℕ) → front ≡ prefix_len is_blank text → rest ≡ drop front text
     → end ≡ suffix_len is_blank rest → kept ≡ take (length rest - end) rest → kept ≡ trimmed text

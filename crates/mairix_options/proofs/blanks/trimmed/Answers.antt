@@ -1,4 +1,4 @@
-use Rattle.std.proofs.Common.{arith}
+use Rattle.mairix_options.proofs.Words.{arith}
 use Rattle.mairix_options.proofs.Trimming.{trimmed-parts}
 use Rattle.mairix_options.proofs.blanks.trimmed.Goals as goal
 

@@ -1,4 +1,4 @@
-use Rattle.std.proofs.Common.{arith}
+use Rattle.mairix_options.proofs.Words.{arith}
 use Rattle.mairix_options.proofs.Trimming.{trimmed-parts, IsCharBoundary-blanks, IsCharBoundary-end_blanks}
 use Rattle.mairix_options.proofs.blanks.trimmed_text.Goals as goal
 

@@ -1,7 +1,4 @@
-use Rattle.std.proofs.Common.{◌≡◌, ◌∙◌, ap₂}
-use Rattle.std.proofs.lemmas.Result.{IfOk-weaker}
-use Rattle.clap.specs.Words.{app_of, with_rule}
-use Rattle.mairix_options.specs.CommandLine.{command}
+use Rattle.mairix_options.proofs.Words.{◌≡◌, ◌∙◌, ap₂, IfOk-weaker, app_of, with_rule, command}
 use Rattle.mairix_options.proofs.command_line.command.Goals as goal
 
 pub returns : goal.returns

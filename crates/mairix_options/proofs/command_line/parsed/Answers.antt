@@ -1,5 +1,5 @@
-use Rattle.std.proofs.Common.{◌≡◌, subst, map, string_bytes, List, IfOk, true}
-use Rattle.clap.specs.Words.{App, Text, FailsBy, HasMatchesOf, fault_of, is_simple_and_free}
+use Rattle.mairix_options.proofs.Words.{◌≡◌, subst, map, string_bytes, List, IfOk, true, Text, FailsBy, HasMatchesOf, fault_of, is_simple_and_free}
+use Rattle.clap.specs.Words.{App}
 use Rattle.mairix_options.proofs.Parses.{Gives-parsed, free}
 use Rattle.mairix_options.proofs.command_line.parsed.Goals as goal
 

@@ -1,9 +1,4 @@
-use Rattle.std.proofs.Common.{◌∙◌, ap, sym, subst, map, string_bytes, Result, Ok}
-use Rattle.clap.specs.Words.{kind_of}
-use Rattle.clap.specs.declared.error.Error.{Error}
-use Rattle.clap.specs.declared.parser.matches.ArgMatches.{ArgMatches}
-use Rattle.contract_words.specs.Answers.{Gives}
-use Rattle.mairix_options.specs.CommandLine.{parse, plan_in, error_refusal}
+use Rattle.mairix_options.proofs.Words.{◌∙◌, ap, sym, subst, map, string_bytes, Result, Ok, kind_of, Error, ArgMatches, Gives, parse, plan_in, error_refusal}
 use Rattle.mairix_options.proofs.Parses.{Gives-one, Gives-refused}
 use Rattle.mairix_options.proofs.command_line.plan_of.Goals as goal
 

@@ -1,7 +1,4 @@
-use Rattle.std.proofs.Common.{List, [], map, Option, option_map, unwrap_or, Bor, arith}
-use Rattle.std.proofs.lemmas.Result.{IfOk-weaker}
-use Rattle.clap.specs.Words.{Text}
-use Rattle.clap.proofs.WalkLemmas.{raw_values-rows}
+use Rattle.mairix_options.proofs.Words.{List, [], map, Option, option_map, unwrap_or, Bor, arith, IfOk-weaker, Text, raw_values-rows}
 use Rattle.mairix_options.proofs.command_line.texts_of.Goals as goal
 
 abbrev seen : List (Bor Text) → List Text

@@ -1,5 +1,4 @@
-use Rattle.std.proofs.Common.{string_bytes, arith}
-use Rattle.mairix_options.specs.Path.{archive_path}
+use Rattle.mairix_options.proofs.Words.{string_bytes, arith, archive_path}
 use Rattle.mairix_options.proofs.Searches.{map-each-taken}
 use Rattle.mairix_options.proofs.path.archive_paths.Goals as goal
 

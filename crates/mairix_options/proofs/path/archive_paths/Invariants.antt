@@ -1,5 +1,4 @@
-use Rattle.std.proofs.Common.{◌≡◌, map, take, string_bytes}
-use Rattle.mairix_options.specs.Path.{archive_path}
+use Rattle.mairix_options.proofs.Words.{◌≡◌, map, take, string_bytes, archive_path}
 use Rattle.mairix_options.proofs.path.archive_paths.Given as goal
 
 -- the paths of the names so far

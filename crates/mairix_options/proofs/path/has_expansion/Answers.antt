@@ -1,6 +1,4 @@
-use Rattle.std.proofs.Common.{codes, ◌≡◌, ◌==◌, false, ◌∙◌, sym}
-use Rattle.std.specs.List.{list_any}
-use Rattle.std.proofs.lemmas.Str.Pattern.{starts_text}
+use Rattle.mairix_options.proofs.Words.{codes, ◌≡◌, ◌==◌, false, ◌∙◌, sym, list_any, starts_text}
 use Rattle.mairix_options.proofs.Searches.{list_any-found}
 use Rattle.mairix_options.proofs.path.has_expansion.Goals as goal
 

@@ -1,6 +1,4 @@
-use Rattle.std.proofs.Common.{codes, ◌≡◌, ◌==◌, ◌||◌, false, ◌∙◌, sym}
-use Rattle.std.specs.List.{list_any}
-use Rattle.std.proofs.lemmas.Str.Pattern.{contains_text}
+use Rattle.mairix_options.proofs.Words.{codes, ◌≡◌, ◌==◌, ◌||◌, false, ◌∙◌, sym, list_any, contains_text}
 use Rattle.mairix_options.proofs.Searches.{list_any-found, has_three_dots-found}
 use Rattle.mairix_options.proofs.path.has_wildcard.Goals as goal
 

@@ -1,5 +1,4 @@
-use Rattle.std.proofs.Common.{arith}
-use Rattle.std.proofs.lemmas.Bool.Decides.{same_from_decides}
+use Rattle.mairix_options.proofs.Words.{arith, same_from_decides}
 use Rattle.mairix_options.proofs.Paths.{path-from, path-passes}
 use Rattle.mairix_options.proofs.path.is_path.Goals as goal
 

@@ -1,5 +1,4 @@
-use Rattle.std.proofs.Common.{◌≡◌, take}
-use Rattle.mairix_options.specs.Rcfile.{all_paths}
+use Rattle.mairix_options.proofs.Words.{◌≡◌, take, all_paths}
 use Rattle.mairix_options.proofs.rcfile.all_paths.Given as goal
 
 -- the paths of the lines so far

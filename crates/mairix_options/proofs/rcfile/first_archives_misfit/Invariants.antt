@@ -1,6 +1,5 @@
-use Rattle.std.proofs.Common.{◌≡◌, drop}
-use Rattle.std.specs.List.{filter_map, slice_get}
-use Rattle.mairix_options.specs.Rcfile.{archives_misfit}
+use Rattle.mairix_options.proofs.Words.{◌≡◌, drop, filter_map, archives_misfit}
+use Rattle.std.specs.List.{slice_get}
 use Rattle.mairix_options.proofs.rcfile.first_archives_misfit.Given as goal
 
 -- the lines so far fit

@@ -1,5 +1,4 @@
-use Rattle.std.proofs.Common.{append-nil, sym}
-use Rattle.mairix_options.specs.declared.setting.Setting.TheVariants.{Base, Archives, Database, Mfolder, Format}
+use Rattle.mairix_options.proofs.Words.{append-nil, sym, Base, Archives, Database, Mfolder, Format}
 use Rattle.mairix_options.proofs.Settings.{says-next}
 use Rattle.mairix_options.proofs.rcfile.rc_from.Goals as goal
 

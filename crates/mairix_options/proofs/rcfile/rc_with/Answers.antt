@@ -1,4 +1,4 @@
-use Rattle.std.proofs.Common.{arith}
+use Rattle.mairix_options.proofs.Words.{arith}
 use Rattle.mairix_options.proofs.Misfits.{rc-misfits}
 use Rattle.mairix_options.proofs.rcfile.rc_with.Goals as goal
 

@@ -1,4 +1,4 @@
-use Rattle.std.proofs.Common.{append-nil, arith}
+use Rattle.mairix_options.proofs.Words.{append-nil, arith}
 use Rattle.mairix_options.proofs.Settings.{settings-more, base-behind}
 use Rattle.mairix_options.proofs.rcfile.settings_in.Goals as goal
 use Rattle.mairix_options.proofs.rcfile.settings_in.Goals.{in-Some-setting+in_ok-push-in-Some-setting, in-None-setting}

@@ -1,5 +1,4 @@
-use Rattle.std.proofs.Common.{◌≡◌, ◌+◌, ◌^◌, ◌≤◌, [], length}
-use Rattle.mairix_options.specs.Rcfile.{base_in, last_of, lines_in, settings_from}
+use Rattle.mairix_options.proofs.Words.{◌≡◌, ◌+◌, ◌^◌, ◌≤◌, [], length, base_in, last_of, lines_in, settings_from}
 use Rattle.mairix_options.proofs.rcfile.settings_in.Given as goal
 
 -- the settings so far, and behind them those of the lines left, are those of all lines; their base is the last; and the lines left

@@ -1,6 +1,4 @@
-use Rattle.std.proofs.Common.{◌∙◌, sym, ap, string_bytes}
-use Rattle.std.specs.List.{list_all}
-use Rattle.mairix_options.specs.Path.{is_path}
+use Rattle.mairix_options.proofs.Words.{◌∙◌, sym, ap, string_bytes, list_all, is_path}
 use Rattle.mairix_options.proofs.Searches.{list_all-map}
 use Rattle.mairix_options.proofs.setting.all_are_paths.Goals as goal
 

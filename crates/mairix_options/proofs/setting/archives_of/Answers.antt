@@ -1,7 +1,6 @@
-use Rattle.std.proofs.Common.{◌∙◌, ap, filter, length, nat_lt, lit<}
+use Rattle.mairix_options.proofs.Words.{◌∙◌, ap, filter, length, nat_lt, lit<, split_text, split_has_more, split_pattern}
 use Rattle.std.proofs.lemmas.Iterator.Consumers.{YieldsList-end}
 use Rattle.std.proofs.lemmas.Iterator.Splits.{YieldsList-from_str_split}
-use Rattle.std.specs.Str.Iter.{split_text, split_has_more, split_pattern}
 use Rattle.mairix_options.proofs.setting.archives_of.Goals as goal
 
 pub returns : goal.returns

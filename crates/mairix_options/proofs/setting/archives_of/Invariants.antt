@@ -1,4 +1,4 @@
-use Rattle.std.proofs.Common.{◌≡◌, map, filter, length, nat_lt}
+use Rattle.mairix_options.proofs.Words.{◌≡◌, map, filter, length, nat_lt}
 use Rattle.mairix_options.proofs.setting.archives_of.Given as goal
 
 -- the names so far are the pieces so far, without the empty ones

@@ -1,11 +1,4 @@
-use Rattle.std.proofs.Common.{◌==◌, ◌∙◌, sym, ap, subst, lit<, Result, Some, None}
-use Rattle.std.specs.List.{before_first, after_first}
-use Rattle.std.proofs.lemmas.Str.Pattern.{split_once_first}
-use Rattle.contract_words.specs.Answers.{Gives}
-use Rattle.mairix_options.specs.Blanks.{trimmed}
-use Rattle.mairix_options.specs.Refusals.{refusal}
-use Rattle.mairix_options.specs.declared.rcfile.RcFault.{RcFault}
-use Rattle.mairix_options.specs.declared.setting.Setting.{Setting}
+use Rattle.mairix_options.proofs.Words.{◌==◌, ◌∙◌, sym, ap, subst, lit<, Result, Some, None, before_first, after_first, split_once_first, Gives, trimmed, refusal, RcFault, Setting}
 use Rattle.mairix_options.proofs.Entries.{entry-not_utf8, entry-assigned, entry-no_value}
 use Rattle.mairix_options.proofs.setting.entry.Goals as goal
 

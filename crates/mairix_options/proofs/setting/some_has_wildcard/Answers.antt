@@ -1,6 +1,4 @@
-use Rattle.std.proofs.Common.{◌∙◌, sym, ap, string_bytes}
-use Rattle.std.specs.List.{list_any}
-use Rattle.mairix_options.specs.Path.{has_wildcard}
+use Rattle.mairix_options.proofs.Words.{◌∙◌, sym, ap, string_bytes, list_any, has_wildcard}
 use Rattle.mairix_options.proofs.Searches.{list_any-map}
 use Rattle.mairix_options.proofs.setting.some_has_wildcard.Goals as goal
 

@@ -1,4 +1,4 @@
-use Rattle.std.proofs.Common.{◌≡◌, map, take}
+use Rattle.mairix_options.proofs.Words.{◌≡◌, map, take}
 use Rattle.mairix_options.proofs.owned_text.Texts.of.Given as goal
 
 -- the copies so far are of the texts so far
