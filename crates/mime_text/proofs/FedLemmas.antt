@@ -1,15 +1,7 @@
 -- Lines fed and pairs given.
-use Rattle.std.proofs.Common.{◌≡◌, ◌∙◌, ◌++◌, ℕ, List, [], ◌∷◌, sym, ap, append_assoc, arith}
-use Rattle.std.specs.Prelude.{Result, Ok, Err, OnOk, IfErr}
+use Rattle.mime_text.proofs.Words.{◌≡◌, ◌∙◌, ◌++◌, ℕ, List, [], ◌∷◌, sym, ap, append_assoc, arith, Result, OnOk, IfErr, TextKind, SinkFault, TextFault, Pair, texts_of_message, Passed, Stopped, Passes, IsOver, Comes, KnowsFacts}
 use Rattle.std.proofs.lemmas.List.{append-nil}
-use Rattle.mail_words.specs.declared.kind.TextKind.{TextKind}
-use Rattle.mime_text.specs.declared.fault.SinkFault.{SinkFault}
-use Rattle.mime_text.specs.declared.fault.TextFault.{TextFault}
 use Rattle.mime_text.specs.declared.message_text.MessageText.{MessageText}
-use Rattle.mime_text.specs.Sinks.{Pair}
-use Rattle.mime_text.specs.Texts.{texts_of_message}
-use Rattle.mime_text.specs.Inside.Passing.{Passed, Stopped, Passes, IsOver}
-use Rattle.mime_text.specs.Feeding.{Comes, KnowsFacts}
 use Rattle.mime_text.specs.Fed.{Feeds, FeedsPart, Finishes, FinishesPart}
 
 abbrev Line : Type 0
@@ -54,10 +46,8 @@ module _ {S : Type 0} (takes : S → TextKind → List ℕ → S → Type 0) (re
       }
 
   pub finishes-at : {T : Type 0} (m : MessageText) (result : Result T TextFault) (s t : S) → Passes takes refuses (Comes m.reader) IsOver (λ c _. c []) result s t → OnOk result (Finishes takes refuses m s t)
-  finishes-at m (Ok x) s t h = finishes m s t h
-  finishes-at m (Err fault) s t h = tt
+  finishes-at m result s t h = grind (arith, finishes)
 
   pub finishes-part_at : {T : Type 0} (m : MessageText) (result : Result T TextFault) (s t : S) → Passes takes refuses (Comes m.reader) IsOver (λ c _. c []) result s t
       → IfErr result (λ fault. FinishesPart takes refuses m fault s t)
-  finishes-part_at m (Ok x) s t h = tt
-  finishes-part_at m (Err fault) s t h = finishes-part m fault s t h
+  finishes-part_at m result s t h = grind (arith, finishes-part)

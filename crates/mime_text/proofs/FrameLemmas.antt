@@ -1,17 +1,8 @@
 -- Delimiter lines, and the multiparts that are open.
-use Rattle.std.proofs.Common.{◌≡◌, ◌∙◌, ◌≤◌, ◌<◌, ◌+◌, ◌-◌, ◌++◌, ℕ, zero, suc, Bool, true, false, cond, List, [], ◌∷◌, Option, Some, None, length, take, drop, refl, sym, ap, arith, add-one, get_or, Bor}
-use Rattle.std.specs.Prelude.{slice_get, option_map, MatchOption}
-use Rattle.std.specs.Str.{bytes_eq}
+use Rattle.mime_text.proofs.Words.{◌≡◌, ◌∙◌, ◌≤◌, ◌<◌, ◌+◌, ◌-◌, ◌++◌, ℕ, zero, suc, Bool, true, false, cond, List, [], ◌∷◌, Option, Some, None, length, take, drop, refl, sym, ap, arith, add-one, get_or, Bor, slice_get, option_map, MatchOption, bytes_eq, without_break, DefaultType, Frame, Delimiter, are_blanks, is_delimiter, is_closing, StreamPlace, Skip, InHeader, or_else, own_hit, hit, dash_dash, dashes, kind_behind, delimiter_of, led, scan, inside_out, opened, AreNested}
 use Rattle.std.proofs.lemmas.Option.{slice_get-get_or}
-use Rattle.mbox_cutter.specs.Separators.{without_break}
 use Rattle.header_text.specs.EncodedWords.{after}
-use Rattle.mime_text.specs.declared.parts.shape.DefaultType.{DefaultType}
-use Rattle.mime_text.specs.declared.parts.frame.Frame.{Frame}
-use Rattle.mime_text.specs.declared.parts.delimiter.Delimiter.{Delimiter}
 use Rattle.mime_text.specs.declared.parts.delimiter.Delimiter.TheVariants.{Next, Closing}
-use Rattle.mime_text.specs.Parts.{are_blanks, is_delimiter, is_closing}
-use Rattle.mime_text.specs.Stream.{StreamPlace, Skip, InHeader, or_else, own_hit, hit}
-use Rattle.mime_text.specs.Frames.{dash_dash, dashes, kind_behind, delimiter_of, led, scan, inside_out, opened, AreNested}
 
 -- ---- a front of some bytes
 
@@ -34,8 +25,7 @@ after-tested (c ∷ front) (x ∷ bytes) = grind (arith, after-tested front byte
 pub after-stripped : (front bytes : List ℕ) (r : Option (Bor (List ℕ)))
     → MatchOption r (bytes_eq (take (length front) bytes) front ≡ false) (λ x. (bytes_eq (take (length front) bytes) front ≡ true) × (x.now ≡ drop (length front) bytes) × (length x.now + length front ≡ length bytes))
     → option_map (λ x. x.now) r ≡ after front bytes
-after-stripped front bytes None h = sym (after-tested front bytes ∙ ap (λ (t : Bool). cond t (Some (drop (length front) bytes)) None) h)
-after-stripped front bytes (Some x) h = ap (λ (t : List ℕ). Some t) h.1 ∙ sym (after-tested front bytes ∙ ap (λ (t : Bool). cond t (Some (drop (length front) bytes)) None) h.0)
+after-stripped front bytes r h = grind (arith, after-tested)
 
 -- ---- delimiters
 
@@ -49,17 +39,13 @@ own_hit-is {A} l f outer =
     rw (after-append dash_dash f.boundary (without_break l), after-append dash_dash (f.boundary ++ dash_dash) (without_break l)) (by_dashes (after dash_dash (without_break l)))
   where
     by_bools : (closing blank : Bool) → own_hit {A = A} closing blank f outer ≡ led (cond closing (Some Closing) (cond blank (Some Next) None)) f outer
-    by_bools true blank = refl
-    by_bools false true = refl
-    by_bools false false = refl
+    by_bools closing blank = grind arith
 
     by_rest : (o : Option (List ℕ)) → own_hit {A = A} (are_blanks (then_after o dash_dash)) (are_blanks o) f outer ≡ led (kind_behind o) f outer
-    by_rest None = refl
-    by_rest (Some rest) = by_bools (are_blanks (after dash_dash rest)) (are_blanks (Some rest))
+    by_rest o = grind (arith, by_bools)
 
     by_dashes : (o : Option (List ℕ)) → own_hit {A = A} (are_blanks (then_after o (f.boundary ++ dash_dash))) (are_blanks (then_after o f.boundary)) f outer ≡ led_by o f outer
-    by_dashes None = refl
-    by_dashes (Some text) = rw (after-append f.boundary dash_dash text) (by_rest (after f.boundary text))
+    by_dashes o = grind (arith, after-append, by_rest)
 
 -- ---- the outermost that a line delimits
 
@@ -68,8 +54,7 @@ scan_by None outer fs = None
 scan_by (Some text) outer fs = scan outer fs text
 
 or_else-assoc : {A : Type 0} (a b c : Option A) → or_else (or_else a b) c ≡ or_else a (or_else b c)
-or_else-assoc None b c = refl
-or_else-assoc (Some x) b c = refl
+or_else-assoc a b c = grind arith
 
 hit_inside : {A : Type 0} (l : List ℕ) (fs outer : List Frame) → hit {A = A} (inside_out fs outer) l ≡ or_else (hit outer l) (scan_by (dashes l) outer fs)
 hit_inside {A} l [] outer = grind arith
@@ -80,8 +65,7 @@ hit_inside {A} l (f ∷ fs) outer =
     ∙ ap (or_else (hit outer l)) (go (dashes l))
   where
     go : (o : Option (List ℕ)) → or_else (led_by {A = A} o f outer) (scan_by o (f ∷ outer) fs) ≡ scan_by o outer (f ∷ fs)
-    go None = refl
-    go (Some text) = refl
+    go o = grind arith
 
 pub hit-is : {A : Type 0} (l : List ℕ) (fs : List Frame) → hit {A = A} (inside_out fs []) l ≡ scan_by (dashes l) [] fs
 hit-is l fs = hit_inside l fs []
@@ -122,14 +106,12 @@ AreNested-at above (g ∷ gs) (suc n) f h e = omega (arith, AreNested-at (above 
 -- a multipart more
 pub open-frames : (fs : List Frame) (left : ℕ) (boundary : List ℕ) (d : DefaultType) → 0 < left
     → inside_out (fs ++ record { boundary = boundary; default = d; left = left - 1 } ∷ []) [] ≡ opened left boundary d (inside_out fs [])
-open-frames fs zero boundary d h = absurd (omega arith)
-open-frames fs (suc left) boundary d h = grind (arith, inside_out-push)
+open-frames fs left boundary d h = grind (arith, inside_out-push)
 
 -- ---- where a delimiter leads
 
 pub or_else-led : {A : Type 0} (k : Delimiter) (f : Frame) (outer : List Frame) (o : Option (List Frame × StreamPlace A)) → or_else (led (Some k) f outer) o ≡ led (Some k) f outer
-or_else-led Next f outer o = refl
-or_else-led Closing f outer o = refl
+or_else-led k f outer o = grind arith
 
 -- the element of an index that a loop or a place reads
 pub got-at : (fs : List Frame) (n : ℕ) (f : Frame) → n < length fs → f ≡ get_or fs n f → slice_get fs n ≡ Some f

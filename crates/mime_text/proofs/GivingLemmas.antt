@@ -1,15 +1,6 @@
 -- Texts of fields that a sink is given.
-use Rattle.std.proofs.Common.{◌≡◌, ◌∙◌, ◌++◌, ℕ, List, [], ◌∷◌, Option, Some, refl, ap, append_assoc, arith}
+use Rattle.mime_text.proofs.Words.{◌≡◌, ◌∙◌, ◌++◌, ℕ, List, [], ◌∷◌, Option, Some, refl, ap, append_assoc, arith, option_map, cons_option, HeaderField, TextKind, SinkFault, TextFault, Sink, Pair, Coming, Gave, Broke, kind_of_field, text_of_body, texts_of_fields}
 use Rattle.std.proofs.lemmas.List.{append-nil}
-use Rattle.std.specs.Prelude.{option_map}
-use Rattle.std.specs.List.{cons_option}
-use Rattle.header_text.specs.Headers.{HeaderField}
-use Rattle.mail_words.specs.declared.kind.TextKind.{TextKind}
-use Rattle.mime_text.specs.declared.fault.SinkFault.{SinkFault}
-use Rattle.mime_text.specs.declared.fault.TextFault.{TextFault}
-use Rattle.mime_text.specs.declared.fault.TextFault.TheVariants.{Sink}
-use Rattle.mime_text.specs.Sinks.{Pair, Coming, Gave, Broke}
-use Rattle.mime_text.specs.FieldTexts.{kind_of_field, text_of_body, texts_of_fields}
 
 abbrev with_text : HeaderField → TextKind → Pair
 with_text f k = (k, text_of_body f.body)

@@ -1,11 +1,5 @@
 -- What a sink was given, call by call.
-use Rattle.std.proofs.Common.{◌≡◌, ◌∙◌, ◌++◌, ℕ, List, [], ◌∷◌, refl, sym, ap, subst, append_assoc, arith}
-use Rattle.std.specs.Prelude.{Result, Ok, Err}
-use Rattle.mail_words.specs.declared.kind.TextKind.{TextKind}
-use Rattle.mime_text.specs.declared.fault.SinkFault.{SinkFault}
-use Rattle.mime_text.specs.declared.fault.TextFault.{TextFault}
-use Rattle.mime_text.specs.declared.fault.TextFault.TheVariants.{OutOfMemory, Sink, Failed}
-use Rattle.mime_text.specs.Sinks.{Pair, Coming, TakesAll, Breaks, Gave, Broke, Hands}
+use Rattle.mime_text.proofs.Words.{◌≡◌, ◌∙◌, ◌++◌, ℕ, List, [], ◌∷◌, refl, sym, ap, subst, append_assoc, arith, Result, Ok, Err, TextKind, SinkFault, TextFault, Pair, Coming, TakesAll, Breaks, Gave, Broke, Hands}
 
 module _ {S : Type 0} (takes : S → TextKind → List ℕ → S → Type 0) (refuses : S → TextKind → List ℕ → SinkFault → S → Type 0) where
   taken-append : (ps qs : List Pair) (s t u : S) → TakesAll takes refuses ps s t → TakesAll takes refuses qs t u → TakesAll takes refuses (ps ++ qs) s u
@@ -13,10 +7,7 @@ module _ {S : Type 0} (takes : S → TextKind → List ℕ → S → Type 0) (re
   taken-append (p ∷ ps) qs s t u h k = (h.0, h.1, taken-append ps qs h.0 t u h.2 k)
 
   breaks-append : (fault : TextFault) (ps qs : List Pair) (s t u : S) → TakesAll takes refuses ps s t → Breaks takes refuses fault qs t u → Breaks takes refuses fault (ps ++ qs) s u
-  breaks-append OutOfMemory ps qs s t u h k = taken-append ps qs s t u h k
-  breaks-append (Sink fault) ps qs s t u h k =
-      (ps ++ k.0, k.1, k.2, ap (λ (l : List Pair). ps ++ l) k.3 ∙ sym (append_assoc ps k.0 (k.1 ∷ [])), taken-append ps k.0 s t k.2 h k.4, k.5)
-  breaks-append Failed ps qs s t u h k = absurd k
+  breaks-append fault ps qs s t u h h2 = grind (arith, taken-append, append_assoc)
 
   -- nothing
   pub gave-nothing : (A : Coming) (s : S) → Gave takes refuses A A s s

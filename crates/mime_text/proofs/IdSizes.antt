@@ -1,12 +1,5 @@
 -- How many bytes ids have together.
-use Rattle.std.proofs.Common.{◌≡◌, ◌∙◌, ◌+◌, ◌≤◌, ◌++◌, ℕ, true, All, List, [], ◌∷◌, length, map, ap, arith, append_assoc}
-use Rattle.std.specs.Prelude.{Vec}
-use Rattle.std.specs.Global.{Global}
-use Rattle.std.proofs.lemmas.List.{map-append}
-use Rattle.std.proofs.lemmas.List.Elements.{All-append}
-use Rattle.header_text.specs.Headers.{HeaderField, fields_size, most_in_header}
-use Rattle.header_text.specs.Ids.{ids_of, ids_size}
-use Rattle.mime_text.specs.MessageFacts.{IsSizedId, is_linking, ids_of_fields}
+use Rattle.mime_text.proofs.Words.{◌≡◌, ◌∙◌, ◌+◌, ◌≤◌, ◌++◌, ℕ, true, All, List, [], ◌∷◌, length, map, ap, arith, append_assoc, Vec, Global, map-append, All-append, HeaderField, fields_size, most_in_header, ids_of, ids_size, IsSizedId, is_linking, ids_of_fields}
 
 pub ids_size_append : (xs ys : List (List ℕ)) → ids_size (xs ++ ys) ≡ ids_size xs + ids_size ys
 ids_size_append [] ys = omega arith

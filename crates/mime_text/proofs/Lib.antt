@@ -1,3 +1,4 @@
+pub mod Words
 mod FlagLemmas
 mod IdSizes
 mod StreamLaws

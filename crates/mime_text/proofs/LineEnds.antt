@@ -1,10 +1,6 @@
 -- A line's end, where its beginning was searched before.
-use Rattle.std.proofs.Common.{◌≡◌, ◌∙◌, ◌+◌, ◌<◌, ◌≤◌, ◌==◌, ◌++◌, ℕ, zero, suc, true, false, cond, List, [], ◌∷◌, Some, None, length, take, drop, sym, ap, arith, min, nat_lt}
-use Rattle.std.proofs.lemmas.Bool.Decides.{nat_tests}
-use Rattle.std.proofs.lemmas.List.{length-take, length-drop, take-append-le}
+use Rattle.mime_text.proofs.Words.{◌≡◌, ◌∙◌, ◌+◌, ◌<◌, ◌≤◌, ◌==◌, ◌++◌, ℕ, zero, suc, true, false, cond, List, [], ◌∷◌, Some, None, length, take, drop, sym, ap, arith, min, nat_lt, nat_tests, length-take, length-drop, take-append-le, length_before_feed, line_end_of, length_before_feed-le, length_before_feed-take, length_before_feed-found, length_before_feed-not_found}
 use Rattle.memchr.specs.Find.{IsFirstByte, is_byte}
-use Rattle.mbox_cutter.specs.Lines.{length_before_feed, line_end_of}
-use Rattle.mbox_cutter.proofs.FirstLines.{length_before_feed-le, length_before_feed-take, length_before_feed-found, length_before_feed-not_found}
 
 before_feed-drop : (n : ℕ) (b : List ℕ) → n ≤ length_before_feed b → length_before_feed b ≡ n + length_before_feed (drop n b)
 before_feed-drop zero b h = omega arith

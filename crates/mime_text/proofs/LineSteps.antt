@@ -1,24 +1,8 @@
 -- A leaf's decoded bytes, line by line.
-use Rattle.std.proofs.Common.{◌≡◌, ◌∙◌, ◌+◌, ◌-◌, ◌<◌, ◌≤◌, ◌==◌, ◌++◌, ℕ, suc, true, false, cond, List, [], ◌∷◌, Some, None, length, take, drop, refl, sym, ap, ap₂, subst, arith, length-append, append-nil}
-use Rattle.std.specs.Prelude.{Result, Ok, Err, OnOk}
-use Rattle.std.specs.List.{concat}
-use Rattle.std.proofs.lemmas.Bool.{eqb-true}
-use Rattle.std.proofs.lemmas.Bool.Decides.{nat_tests}
-use Rattle.std.proofs.lemmas.List.{length-drop, drop-drop, take-append-le, drop-append-le, take_all, drop_all, take-append-drop}
+use Rattle.mime_text.proofs.Words.{◌≡◌, ◌∙◌, ◌+◌, ◌-◌, ◌<◌, ◌≤◌, ◌==◌, ◌++◌, ℕ, suc, true, false, cond, List, [], ◌∷◌, Some, None, length, take, drop, refl, sym, ap, ap₂, subst, arith, length-append, append-nil, Result, Ok, Err, OnOk, concat, eqb-true, nat_tests, length-drop, drop-drop, take-append-le, drop-append-le, take_all, drop_all, take-append-drop, length_before_feed, line_end_of, lines, line_end-more, line_end-positive, line_end-within, line_end-whole, TextKind, SinkFault, TextFault, OutOfMemory, Sink, Failed, LineTexts, Pair, Gave, Broke, Hands, ends_in, line_text, is_open_behind_line, texts_behind, body_pairs, pairs_of_lines, pairs_of_bytes}
 use Rattle.std.proofs.lemmas.Slice.Eq.{bytes_eq-Decides}
-use Rattle.mbox_cutter.specs.Lines.{length_before_feed, line_end_of, lines}
-use Rattle.mbox_cutter.proofs.FirstLines.{line_end-more, line_end-positive, line_end-within, line_end-whole}
 use Rattle.mbox_cutter.proofs.LineLists.{lines-cons, lines-nil}
-use Rattle.mail_words.specs.declared.kind.TextKind.{TextKind}
 use Rattle.mail_words.specs.declared.kind.TextKind.TheVariants as kind
-use Rattle.mime_text.specs.declared.fault.SinkFault.{SinkFault}
-use Rattle.mime_text.specs.declared.fault.TextFault.{TextFault}
-use Rattle.mime_text.specs.declared.fault.TextFault.TheVariants.{OutOfMemory, Sink, Failed}
-use Rattle.mime_text.specs.declared.leaf.line_texts.LineTexts.{LineTexts}
-use Rattle.mime_text.specs.Sinks.{Pair, Gave, Broke, Hands}
-use Rattle.mime_text.specs.Transfer.{ends_in}
-use Rattle.mime_text.specs.OpenTags.{line_text, is_open_behind_line, texts_behind}
-use Rattle.mime_text.specs.LeafReading.{body_pairs, pairs_of_lines, pairs_of_bytes}
 use Rattle.mime_text.specs.Inside.Showing.{Shows}
 use Rattle.mime_text.proofs.Handing.{gave-along, broke-along}
 
@@ -65,8 +49,7 @@ no_bytes [] e = refl
 no_bytes (x ∷ xs) e = let none : length (x ∷ xs) ≡ 0 = eqb-true (length (x ∷ xs)) 0 e in absurd (omega arith)
 
 pub some_bytes : (b : List ℕ) → (length b == 0) ≡ false → 0 < length b
-some_bytes [] e = absurd (cc e)
-some_bytes (x ∷ xs) e = omega arith
+some_bytes b h = grind arith
 
 -- ---- what is left is the end of the bytes
 

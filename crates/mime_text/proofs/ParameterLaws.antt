@@ -1,13 +1,10 @@
 -- The parameters of a value are those of its pieces, and no others are.
-use Rattle.std.proofs.Common.{◌≡◌, ◌∙◌, ◌≤◌, ◌++◌, ℕ, zero, suc, List, [], ◌∷◌, Option, Some, None, length, refl, sym, ap, subst, arith}
-use Rattle.std.specs.Option.{option_to_list}
-use Rattle.mime_text.specs.Parameters.{Parameter, piece_of, AreParameters, none_left, piece_first, parameters_behind}
+use Rattle.mime_text.proofs.Words.{◌≡◌, ◌≤◌, ℕ, zero, suc, List, [], ◌∷◌, Option, Some, None, length, refl, sym, subst, arith, Parameter, piece_of, AreParameters, none_left, piece_first, parameters_behind}
 use Rattle.mime_text.proofs.ParameterLemmas.{behind-step, later-shorter}
 
 pub only_parameters : (begin : Option (List ℕ)) (ps : List Parameter) → AreParameters begin ps → ps ≡ parameters_behind begin
 only_parameters None ps none_left = refl
-only_parameters (Some bs) ps (piece_first {later = later} rest) =
-    ap (λ (l : List Parameter). option_to_list (piece_of bs).parameter ++ l) (only_parameters (piece_of bs).later later rest) ∙ sym (behind-step bs)
+only_parameters (Some bs) ps (piece_first {later = later} rest) = grind (arith, behind-step, only_parameters (piece_of bs).later later rest)
 
 first_piece : (bs : List ℕ) → AreParameters (piece_of bs).later (parameters_behind (piece_of bs).later) → AreParameters (Some bs) (parameters_behind (Some bs))
 first_piece bs later = subst (λ (ps : List Parameter). AreParameters (Some bs) ps) (sym (behind-step bs)) (piece_first later)

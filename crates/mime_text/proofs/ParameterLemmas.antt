@@ -1,14 +1,6 @@
 -- Parameters piece by piece.
-use Rattle.std.proofs.Common.{◌≡◌, ◌∙◌, ◌<◌, ◌≤◌, ◌+◌, ◌++◌, ◌==◌, ℕ, zero, suc, Bool, true, false, List, [], ◌∷◌, Option, Some, None, length, cond, refl, sym, ap, arith, length-append}
-use Rattle.std.specs.Prelude.{option_map, unwrap_or}
-use Rattle.std.specs.List.{find}
-use Rattle.std.specs.Option.{option_map_or, option_to_list}
-use Rattle.header_text.specs.Blanks.{split_while, after_blanks, trimmed}
-use Rattle.header_text.specs.Cuts.{cut_at}
+use Rattle.mime_text.proofs.Words.{◌≡◌, ◌∙◌, ◌<◌, ◌≤◌, ◌+◌, ◌++◌, ◌==◌, ℕ, zero, suc, Bool, true, false, List, [], ◌∷◌, Option, Some, None, length, cond, refl, sym, ap, arith, length-append, option_map, unwrap_or, find, option_map_or, option_to_list, split_while, after_blanks, trimmed, cut_at, length-split_while, split_while-joined, IsCut-from, Parameter, Piece, quoted, value_and_rest, is_parameter_name_byte, behind_semicolon, piece_of, parameters_within, parameters_behind, first_named, parameter}
 use Rattle.header_text.specs.Names.{is_named}
-use Rattle.header_text.proofs.Fronts.{length-split_while, split_while-joined}
-use Rattle.header_text.proofs.CutLemmas.{IsCut-from}
-use Rattle.mime_text.specs.Parameters.{Parameter, Piece, quoted, is_token_byte, value_and_rest, is_parameter_name_byte, behind_semicolon, piece_of, parameters_within, parameters_behind, first_named, parameter}
 
 -- ---- what follows is shorter
 
@@ -23,8 +15,7 @@ length-quoted (b ∷ []) = grind arith
 length-quoted (b ∷ c ∷ bs) = grind (arith, length-quoted bs, length-quoted (c ∷ bs))
 
 length-value_and_rest : (bs : List ℕ) → length (value_and_rest bs).1 ≤ length bs
-length-value_and_rest [] = omega arith
-length-value_and_rest (b ∷ bs) = grind (arith, length-quoted bs, length-split_while is_token_byte (b ∷ bs))
+length-value_and_rest bs = grind (arith, length-quoted, length-split_while)
 
 same_some : (x y : List ℕ) → Some x ≡ Some y → x ≡ y
 same_some x y h = ap (λ (o : Option (List ℕ)). unwrap_or o x) h
@@ -119,8 +110,7 @@ size-front : (p : ℕ → Bool) (bs : List ℕ) → length (split_while p bs).0 
 size-front p bs = let joined = ap length (split_while-joined p bs) in omega (arith, joined, length-append (split_while p bs).0 (split_while p bs).1)
 
 size-value : (bs : List ℕ) → length (value_and_rest bs).0 ≤ length bs
-size-value [] = omega arith
-size-value (b ∷ bs) = grind (arith, length-quoted bs, size-front is_token_byte (b ∷ bs))
+size-value bs = grind (arith, length-quoted, size-front)
 
 -- its value's length, where there is a parameter
 abbrev size_of : Option Parameter → ℕ
@@ -160,12 +150,10 @@ size-within (suc n) name bs found h = by_piece (piece_of bs).parameter refl (λ 
 
     by_piece : (o : Option Parameter) → (piece_of bs).parameter ≡ o → ((rest : List ℕ) → first_named name (parameters_within n rest) ≡ Some found → length found ≤ length rest)
         → first_named name (option_to_list o ++ others (piece_of bs).later) ≡ Some found → length found ≤ length bs
-    by_piece None e same h = by_later (piece_of bs).later refl same h
-    by_piece (Some p) e same h = by_name p e (is_named p.name name) refl same h
+    by_piece o h h2 h3 = grind (arith, by_later, by_name)
 
 size-behind : (name value found : List ℕ) (o : Option (List ℕ)) → behind_semicolon value ≡ o → first_named name (parameters_behind o) ≡ Some found → length found ≤ length value
-size-behind name value found None e h = absurd (cc h)
-size-behind name value found (Some bs) e h = grind (arith, length-behind_semicolon, size-within)
+size-behind name value found o h h2 = grind (arith, length-behind_semicolon, size-within)
 
 pub parameter-size : (name value found : List ℕ) → parameter name value ≡ Some found → length found ≤ length value
 unfolding parameter

@@ -1,47 +1,21 @@
 -- What comes of a reader's calls.
-use Rattle.std.proofs.Common.{◌≡◌, ◌∙◌, ◌++◌, ℕ, Bool, true, false, List, [], ◌∷◌, Option, Some, None, refl, sym, ap, subst, append_assoc, arith, if◌then◌else◌}
-use Rattle.std.specs.Prelude.{Result, Ok, Err, OnOk}
+use Rattle.mime_text.proofs.Words.{◌≡◌, ◌∙◌, ◌++◌, ℕ, Bool, true, false, List, [], ◌∷◌, Option, Some, None, refl, sym, ap, subst, append_assoc, arith, if◌then◌else◌, Result, Ok, Err, OnOk, is_empty, HeaderField, fields_of, HasLines, taken_of, has_empty, More, Ended, TextKind, SinkFault, TextFault, OutOfMemory, DefaultType, TextPlain, Frame, State, PartReader, Pair, Coming, Gave, Broke, Hands, shape_of, facts_of, pairs_to_come, StreamPlace, Skip, InHeader, InLeaf, hit, Nest, lead_to, texts_of_message, Passed, Stopped, Passes, IsOver, given_from, header_texts, ending, given_behind, given_after, ComesAt, Comes, ComesBehindHeader, ComesEndingAt, ComesEnding, KnowsAt, KnowsFacts, Notes}
 use Rattle.std.proofs.lemmas.List.{append-nil}
-use Rattle.mbox_cutter.specs.Lines.{is_empty}
-use Rattle.header_text.specs.Headers.{HeaderField, fields_of}
-use Rattle.header_text.specs.HeldLines.{HasLines, taken_of}
-use Rattle.header_text.specs.Stages.{has_empty}
 use Rattle.header_text.specs.declared.header.Header.{Header}
-use Rattle.header_text.specs.declared.header.Taken.TheVariants.{More, Ended}
-use Rattle.mail_words.specs.declared.kind.TextKind.{TextKind}
-use Rattle.mime_text.specs.declared.fault.SinkFault.{SinkFault}
-use Rattle.mime_text.specs.declared.fault.TextFault.{TextFault}
-use Rattle.mime_text.specs.declared.fault.TextFault.TheVariants.{OutOfMemory}
-use Rattle.mime_text.specs.declared.parts.shape.DefaultType.{DefaultType}
-use Rattle.mime_text.specs.declared.parts.shape.DefaultType.TheVariants.{TextPlain}
-use Rattle.mime_text.specs.declared.parts.frame.Frame.{Frame}
 use Rattle.mime_text.specs.declared.header.facts.Facts.{Facts}
-use Rattle.mime_text.specs.declared.parts.part_reader.State.{State}
 use Rattle.mime_text.specs.declared.parts.part_reader.State.TheVariants as state
-use Rattle.mime_text.specs.declared.parts.part_reader.PartReader.{PartReader}
 use Rattle.mime_text.specs.declared.parts.nesting.Lead.{Lead}
 use Rattle.mime_text.specs.declared.parts.nesting.Lead.TheVariants.{Nowhere, Piece, Behind}
-use Rattle.mime_text.specs.Sinks.{Pair, Coming, Gave, Broke, Hands}
-use Rattle.mime_text.specs.Types.{shape_of}
-use Rattle.mime_text.specs.MessageFacts.{facts_of}
-use Rattle.mime_text.specs.LeafReading.{pairs_to_come}
-use Rattle.mime_text.specs.Stream.{StreamPlace, Skip, InHeader, InLeaf, hit}
-use Rattle.mime_text.specs.Frames.{Nest, lead_to}
-use Rattle.mime_text.specs.Texts.{texts_of_message}
-use Rattle.mime_text.specs.Inside.Passing.{Passed, Stopped, Passes, IsOver}
-use Rattle.mime_text.specs.Feeding.{given_from, header_texts, ending, given_behind, given_after, ComesAt, Comes, ComesBehindHeader, ComesEndingAt, ComesEnding, KnowsAt, KnowsFacts, Notes}
 use Rattle.mime_text.proofs.StepLemmas.{value-header, given-hit, given-leaf_line, given-more, given-ended, given-leaf, empty_ends, fields-on, given-message}
 
 abbrev Line : Type 0
 Line = List ℕ
 
 pub on_ok-map : {T E P Q : Type 0} (result : Result T E) → (P → Q) → OnOk result P → OnOk result Q
-on_ok-map (Ok x) f h = f h
-on_ok-map (Err e) f h = h
+on_ok-map result h h2 = grind arith
 
 pub on_ok-pure : {T E P : Type 0} (result : Result T E) → P → OnOk result P
-on_ok-pure (Ok x) h = h
-on_ok-pure (Err e) h = tt
+on_ok-pure result h = grind arith
 
 more-open : (b : Bool) → More ≡ (if b then Ended else More) → b ≡ false
 more-open b e = grind arith
@@ -57,12 +31,7 @@ comes-first nest header e h = ([], h, refl, λ ms. given-message ms ∙ ap (λ (
 -- what an entity gives that ends here
 ending-is : (r : PartReader) (lead : Lead) (fields : List HeaderField) (c : Coming) → ((ls : List Line) → HasLines r.header ls → fields ≡ fields_of ls) → ComesEnding r lead c
     → (ms : List Line) → c ms ≡ ending r.state fields r.leaf ++ given_after lead r.nesting ms
-ending-is r lead fields c f k = go r.state k
-  where
-    go : (s : State) → ComesEndingAt s r lead c → (ms : List Line) → c ms ≡ ending s fields r.leaf ++ given_after lead r.nesting ms
-    go state.Skipping k ms = k ms
-    go (state.InHeader counted d) k ms = k.2 ms ∙ ap (λ (fs : List HeaderField). header_texts counted fs ++ given_after lead r.nesting ms) (sym (f k.0 k.1))
-    go state.InLeaf k ms = k ms
+ending-is r lead fields c f k = grind arith
 
 -- what the message gives that ends here
 whole-ending : (r : PartReader) (fields : List HeaderField) (c : Coming) → ((ls : List Line) → HasLines r.header ls → fields ≡ fields_of ls) → Comes r c → c [] ≡ ending r.state fields r.leaf
@@ -92,9 +61,7 @@ delimits r n lead l h e q c k = go r.state k
 
 pub delimited : (r : PartReader) (n : Nest) (lead : Lead) (l : Line) → lead_to {A = Pair} lead n ≡ hit r.nesting.frames l → (lead ≡ Nowhere → ⊥)
     → (c : Coming) → Comes r c → ComesEnding (record r { nesting = n }) lead (λ ms. c (l ∷ ms))
-delimited r n Nowhere l e away c k = absurd (away refl)
-delimited r n (Piece d) l e away c k = delimits r n (Piece d) l (n.frames, InHeader false n.left d []) (sym e) (λ ms. refl) c k
-delimited r n Behind l e away c k = delimits r n Behind l (n.frames, Skip) (sym e) (λ ms. refl) c k
+delimited r n lead l h h2 c h3 = grind (arith, delimits)
 
 -- ---- facts
 
@@ -147,13 +114,11 @@ module _ {S : Type 0} (takes : S → TextKind → List ℕ → S → Type 0) (re
   -- what comes before, said otherwise
   pub passes-from : {T : Type 0} (A A' B : Coming → Type 0) (seen : Coming → Coming) (result : Result T TextFault) (s t : S) → ((c : Coming) → A c → A' (seen c))
       → Passes takes refuses A' B (λ c. c) result s t → Passes takes refuses A B seen result s t
-  passes-from A A' B seen (Ok x) s t f h = record { pairs = h.pairs; taken = h.taken; rest = λ c k. h.rest (seen c) (f c k) }
-  passes-from A A' B seen (Err fault) s t f h = record { pairs = h.pairs; broken = h.broken; front = λ c k. h.front (seen c) (f c k) }
+  passes-from A A' B seen result s t h h2 = grind arith
 
   pub passes-before : {T : Type 0} (A A' B : Coming → Type 0) (seen : Coming → Coming) (result : Result T TextFault) (s t : S) → ((c : Coming) → A c → A' c)
       → Passes takes refuses A' B seen result s t → Passes takes refuses A B seen result s t
-  passes-before A A' B seen (Ok x) s t f h = record { pairs = h.pairs; taken = h.taken; rest = λ c k. h.rest c (f c k) }
-  passes-before A A' B seen (Err fault) s t f h = record { pairs = h.pairs; broken = h.broken; front = λ c k. h.front c (f c k) }
+  passes-before A A' B seen result s t h h2 = grind arith
 
   -- a call that gives all that comes in front of something
   passed-front : (before after : Coming → Type 0) (A : Coming) (s t : S) (R : (c : Coming) → before c → Coming) → ((c : Coming) (k : before c) → after (R c k))

@@ -1,5 +1,5 @@
 -- A table of worked rows.
-use Rattle.std.proofs.Common.{◌≡◌, List, map}
+use Rattle.mime_text.proofs.Words.{◌≡◌, List, map}
 
 -- what is read, and what of it
 abbrev pub Each : {A B : Type 0} → (A → B) → List (A × B) → Type 0

@@ -1,19 +1,8 @@
 -- Rows of transfer encodings, tags and the texts of leaves; the values on the right come from a separate reading of the rules.
-use Rattle.std.proofs.Common.{◌≡◌, true, false, [], ◌∷◌, refl}
-use Rattle.std.specs.Prelude.{codes}
+use Rattle.mime_text.proofs.Words.{◌≡◌, true, false, [], ◌∷◌, refl, codes, is_empty, first_length, lines, without_break, before_blanks, sextet, bytes_of_sextets, base64_bytes, charset_of, text_of, Utf8, Latin1, printable_bytes, decoded_bytes, lines_without_tags, leaf_texts, Identity, QuotedPrintable, Base64}
 use Rattle.std.specs.Char.{encode_utf8}
 use Rattle.std.specs.Str.{chars}
-use Rattle.mbox_cutter.specs.Lines.{is_empty, first_length, lines}
-use Rattle.mbox_cutter.specs.Separators.{without_break}
-use Rattle.header_text.specs.Blanks.{before_blanks}
 use Rattle.header_text.specs.Escapes.{unescaped}
-use Rattle.header_text.specs.Base64.{sextet, bytes_of_sextets, base64_bytes}
-use Rattle.header_text.specs.Charsets.{charset_of, text_of}
-use Rattle.header_text.specs.declared.charset.Charset.TheVariants.{Utf8, Latin1}
-use Rattle.mime_text.specs.Transfer.{printable_bytes, decoded_bytes}
-use Rattle.mime_text.specs.Tags.{lines_without_tags}
-use Rattle.mime_text.specs.LeafTexts.{leaf_texts}
-use Rattle.mime_text.specs.declared.leaf.transfer.TransferEncoding.TheVariants.{Identity, QuotedPrintable, Base64}
 use Rattle.mime_text.proofs.RowTables.{Each}
 
 rows : Each (decoded_bytes QuotedPrintable) ((codes "lunch=\n" ∷ codes "break\n" ∷ [], codes "lunchbreak\n")

@@ -1,5 +1,5 @@
 -- Rows of limits: what the texts of a line and of a header come to.
-use Rattle.std.proofs.Common.{◌≡◌, refl}
+use Rattle.mime_text.proofs.Words.{◌≡◌, refl}
 use Rattle.mime_text.specs.Limits.{most_in_line_text, most_in_header_text}
 
 bytes_of_the_text_of_a_line : most_in_line_text ≡ 196611

@@ -1,15 +1,5 @@
 -- Rows of names; the values on the right come from a separate reading of the rules.
-use Rattle.std.proofs.Common.{◌≡◌, ℕ, zero, suc, List, [], ◌∷◌, ◌++◌, replicate, Option, None, Some, refl}
-use Rattle.std.specs.Prelude.{codes}
-use Rattle.mbox_cutter.specs.Lines.{is_empty, lines, first_length}
-use Rattle.mbox_cutter.specs.Separators.{without_break}
-use Rattle.header_text.specs.Blanks.{before_blanks}
-use Rattle.header_text.specs.Headers.{fields_of}
-use Rattle.header_text.specs.Unfolding.{unfolded}
-use Rattle.mime_text.specs.Parameters.{piece_of, parameter}
-use Rattle.mime_text.specs.Types.{shape_of, shape_of_value}
-use Rattle.mime_text.specs.Names.{name_of}
-use Rattle.mime_text.specs.Parts.{Part, Entity, Counted, Leaf, is_delimiter, parts_of_message}
+use Rattle.mime_text.proofs.Words.{◌≡◌, ℕ, zero, suc, List, [], ◌∷◌, ◌++◌, replicate, Option, None, Some, refl, codes, is_empty, lines, first_length, without_break, before_blanks, fields_of, unfolded, piece_of, parameter, shape_of, shape_of_value, name_of, Part, Entity, Counted, Leaf, is_delimiter, parts_of_message}
 use Rattle.mime_text.proofs.RowTables.{Each}
 
 -- the names of the entities, in order, as they are written

@@ -1,14 +1,5 @@
 -- Rows of the tree of parts; the values on the right come from a separate reading of the rules.
-use Rattle.std.proofs.Common.{◌≡◌, ℕ, zero, suc, List, [], ◌∷◌, ◌++◌, length, refl}
-use Rattle.std.specs.Prelude.{codes, map}
-use Rattle.mbox_cutter.specs.Lines.{is_empty, lines, first_length}
-use Rattle.mbox_cutter.specs.Separators.{without_break}
-use Rattle.header_text.specs.Blanks.{before_blanks}
-use Rattle.header_text.specs.Headers.{HeaderField, fields_of}
-use Rattle.header_text.specs.Unfolding.{unfolded}
-use Rattle.mime_text.specs.Parameters.{piece_of, parameter}
-use Rattle.mime_text.specs.Types.{shape_of, shape_of_value}
-use Rattle.mime_text.specs.Parts.{Part, Entity, Counted, Leaf, is_delimiter, parts_of_message}
+use Rattle.mime_text.proofs.Words.{◌≡◌, ℕ, zero, suc, List, [], ◌∷◌, ◌++◌, length, refl, codes, map, is_empty, lines, first_length, without_break, before_blanks, HeaderField, fields_of, unfolded, piece_of, parameter, shape_of, shape_of_value, Part, Entity, Counted, Leaf, is_delimiter, parts_of_message}
 use Rattle.mime_text.proofs.RowTables.{Each}
 
 -- the bodies of the leaves

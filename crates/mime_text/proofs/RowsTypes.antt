@@ -1,17 +1,5 @@
 -- Rows of types and parameters; the values on the right come from a separate reading of the rules.
-use Rattle.std.proofs.Common.{◌≡◌, ℕ, true, false, List, [], ◌∷◌, ◌++◌, refl}
-use Rattle.std.specs.Prelude.{codes}
-use Rattle.mbox_cutter.specs.Lines.{is_empty}
-use Rattle.header_text.specs.Blanks.{before_blanks}
-use Rattle.header_text.specs.Headers.{HeaderField, fields_of}
-use Rattle.header_text.specs.Unfolding.{unfolded}
-use Rattle.header_text.specs.Charsets.{charset_of}
-use Rattle.header_text.specs.declared.charset.Charset.TheVariants.{Utf8, Latin1, Unknown}
-use Rattle.mime_text.specs.Parameters.{Parameter, piece_of, parameters, parameter}
-use Rattle.mime_text.specs.Types.{shape_of, shape_of_value, charset_in, charset_of_value, transfer_in, transfer_named}
-use Rattle.mime_text.specs.declared.parts.shape.DefaultType.TheVariants.{TextPlain, MessageRfc822}
-use Rattle.mime_text.specs.declared.parts.shape.Shape.TheVariants.{Multipart, Message, Text, Other}
-use Rattle.mime_text.specs.declared.leaf.transfer.TransferEncoding.TheVariants.{Identity, QuotedPrintable, Base64}
+use Rattle.mime_text.proofs.Words.{◌≡◌, ℕ, true, false, List, [], ◌∷◌, ◌++◌, refl, codes, is_empty, before_blanks, HeaderField, fields_of, unfolded, charset_of, Utf8, Latin1, Unknown, Parameter, piece_of, parameters, parameter, shape_of, shape_of_value, charset_in, charset_of_value, transfer_in, transfer_named, TextPlain, MessageRfc822, Multipart, Message, Text, Other, Identity, QuotedPrintable, Base64}
 use Rattle.mime_text.proofs.RowTables.{Each}
 
 abbrev typed : List ℕ → List HeaderField

@@ -1,34 +1,7 @@
 -- The places of a reader of lines, one line on.
-use Rattle.std.proofs.Common.{◌≡◌, ◌∙◌, ◌++◌, ℕ, zero, suc, Bool, true, false, ◌||◌, List, [], ◌∷◌, Option, Some, None, refl, sym, ap, append_assoc, arith}
-use Rattle.std.specs.Prelude.{flat_map}
+use Rattle.mime_text.proofs.Words.{◌≡◌, ◌∙◌, ◌++◌, ℕ, zero, suc, Bool, true, false, ◌||◌, List, [], ◌∷◌, Option, Some, None, refl, sym, ap, append_assoc, arith, flat_map, flat_map-append, is_empty, lines, fields_of, before_blanks, unfolded, has_empty, base64_bytes, bytes_of_sextets, Charset, DefaultType, TextPlain, Shape, Multipart, Message, Text, Other, Frame, Identity, QuotedPrintable, Base64, Pair, Coming, texts_of_fields, piece_of, parameter, shape_of, charset_in, transfer_in, name_texts, leaf_texts, body_pairs, body_lines, pieces, parts, parts_by, is_left, StreamPlace, InHeader, InLeaf, hit, counted_part, header_parts, value, behind_header, inner_step, Nest, part_texts, texts_of_message, given_from, counted_texts, header_texts, given_behind}
 use Rattle.std.proofs.lemmas.List.{append-nil}
-use Rattle.std.proofs.lemmas.Grind.{flat_map-append}
-use Rattle.mbox_cutter.specs.Lines.{is_empty, lines}
-use Rattle.header_text.specs.Headers.{fields_of}
-use Rattle.header_text.specs.Blanks.{before_blanks}
-use Rattle.header_text.specs.Unfolding.{unfolded}
-use Rattle.header_text.specs.Stages.{has_empty}
-use Rattle.header_text.specs.Base64.{base64_bytes, bytes_of_sextets}
-use Rattle.header_text.specs.declared.charset.Charset.{Charset}
-use Rattle.mime_text.specs.declared.parts.shape.DefaultType.{DefaultType}
-use Rattle.mime_text.specs.declared.parts.shape.DefaultType.TheVariants.{TextPlain}
-use Rattle.mime_text.specs.declared.parts.shape.Shape.{Shape}
-use Rattle.mime_text.specs.declared.parts.shape.Shape.TheVariants.{Multipart, Message, Text, Other}
-use Rattle.mime_text.specs.declared.parts.frame.Frame.{Frame}
 use Rattle.mime_text.specs.declared.leaf.transfer.TransferEncoding.{TransferEncoding}
-use Rattle.mime_text.specs.declared.leaf.transfer.TransferEncoding.TheVariants.{Identity, QuotedPrintable, Base64}
-use Rattle.mime_text.specs.Sinks.{Pair, Coming}
-use Rattle.mime_text.specs.FieldTexts.{texts_of_fields}
-use Rattle.mime_text.specs.Parameters.{piece_of, parameter}
-use Rattle.mime_text.specs.Types.{shape_of, charset_in, transfer_in}
-use Rattle.mime_text.specs.Names.{name_texts}
-use Rattle.mime_text.specs.LeafTexts.{leaf_texts}
-use Rattle.mime_text.specs.LeafReading.{body_pairs}
-use Rattle.mime_text.specs.Parts.{body_lines, pieces, parts, parts_by, is_left}
-use Rattle.mime_text.specs.Stream.{StreamPlace, InHeader, InLeaf, hit, counted_part, header_parts, value, behind_header, inner_step}
-use Rattle.mime_text.specs.Frames.{Nest}
-use Rattle.mime_text.specs.Texts.{part_texts, texts_of_message}
-use Rattle.mime_text.specs.Feeding.{given_from, counted_texts, header_texts, given_behind}
 use Rattle.mime_text.proofs.StreamLaws.{IsHeader, fields_of-ended, whole_given}
 
 abbrev Line : Type 0
@@ -55,8 +28,7 @@ pub fields-on : (ls : List Line) (l : Line) (ms : List Line) → has_empty ls �
 fields-on ls l ms e t = ap fields_of (append_assoc ls (l ∷ []) ms) ∙ fields_of-ended ls l ms (IsHeader-of ls e) t ∙ sym (fields-ended ls l e t)
 
 counted-is : (c : Bool) (ls : List Line) → flat_map part_texts (counted_part c ls) ≡ counted_texts c (fields_of ls)
-counted-is true ls = append-nil (texts_of_fields (fields_of ls))
-counted-is false ls = refl
+counted-is c ls = grind (arith, append-nil)
 
 header-is : (c : Bool) (ls : List Line) → flat_map part_texts (header_parts c ls) ≡ header_texts c (fields_of ls)
 header-is c ls = grind (arith, flat_map-append, counted-is, append-nil)
@@ -157,12 +129,7 @@ given-leaf fs f g qs e (l ∷ ms) = go (hit fs l) refl (given-leaf fs (λ ks. f 
   where
     go : (o : Option (List Frame × StreamPlace Pair)) → hit fs l ≡ o → given_from fs (InLeaf (λ ks. f (l ∷ ks))) ms ≡ qs ++ given_from fs (InLeaf (λ ks. g (l ∷ ks))) ms
         → given_from fs (InLeaf f) (l ∷ ms) ≡ qs ++ given_from fs (InLeaf g) (l ∷ ms)
-    go None q later =
-        given-leaf_line fs f l ms q ∙ later
-        ∙ ap (λ (ps : List Pair). qs ++ ps) (sym (given-leaf_line fs g l ms q))
-    go (Some h) q later =
-        given-hit fs (InLeaf f) l h ms q ∙ ap (λ (ps : List Pair). ps ++ given_from h.0 h.1 ms) (e []) ∙ append_assoc qs (g []) (given_from h.0 h.1 ms)
-        ∙ ap (λ (ps : List Pair). qs ++ ps) (sym (given-hit fs (InLeaf g) l h ms q))
+    go o h h2 = grind (arith, append_assoc)
 
 -- from the message's first line on
 pub given-message : (ms : List Line) → texts_of_message ms ≡ given_from [] (InHeader true 16 TextPlain []) ms

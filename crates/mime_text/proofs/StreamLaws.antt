@@ -1,17 +1,6 @@
 -- One line at a time gives what the parts of the outermost split first give.
-use Rattle.std.proofs.Common.{◌≡◌, ℕ, zero, suc, Bool, true, false, cond, List, [], ◌∷◌, ◌++◌, Option, Some, None, refl, sym, ap, ◌∙◌, append_assoc, arith}
-use Rattle.std.specs.Prelude.{flat_map}
-use Rattle.std.specs.List.{AllByRecursion}
+use Rattle.mime_text.proofs.Words.{◌≡◌, ℕ, zero, suc, Bool, true, false, cond, List, [], ◌∷◌, ◌++◌, Option, Some, None, refl, sym, ap, ◌∙◌, append_assoc, arith, flat_map, AllByRecursion, flat_map-append, is_empty, HeaderField, lines_before_empty, fields_of, DefaultType, Shape, Multipart, Message, Text, Other, Frame, Part, Entity, Counted, body_lines, is_closing, is_delimiter, preamble_and_pieces, pieces, parts, parts_by, is_left, StreamPlace, Skip, InHeader, InLeaf, or_else, own_hit, hit, counted_part, header_parts, value, behind_header, inner_step, step_by, given}
 use Rattle.std.proofs.lemmas.List.{append-nil}
-use Rattle.std.proofs.lemmas.Grind.{flat_map-append}
-use Rattle.mbox_cutter.specs.Lines.{is_empty}
-use Rattle.header_text.specs.Headers.{HeaderField, lines_before_empty, fields_of}
-use Rattle.mime_text.specs.declared.parts.shape.DefaultType.{DefaultType}
-use Rattle.mime_text.specs.declared.parts.shape.Shape.{Shape}
-use Rattle.mime_text.specs.declared.parts.shape.Shape.TheVariants.{Multipart, Message, Text, Other}
-use Rattle.mime_text.specs.declared.parts.frame.Frame.{Frame}
-use Rattle.mime_text.specs.Parts.{Part, Entity, Counted, body_lines, is_closing, is_delimiter, preamble_and_pieces, pieces, parts, parts_by, is_left}
-use Rattle.mime_text.specs.Stream.{StreamPlace, Skip, InHeader, InLeaf, or_else, own_hit, hit, counted_part, header_parts, value, behind_header, inner_step, step_by, given}
 
 abbrev Line : Type 0
 Line = List ℕ
@@ -97,14 +86,11 @@ module _ {A : Type 0} (shape_of : DefaultType → List HeaderField → Shape) (g
     where
       by_own : (c d : Bool) (p : List Line × List (List Line)) (x : List Line) → p.0 ≡ x
           → (elim c as (λ _. List Line × List (List Line)) [ true ↦ ([], []) | false ↦ cond d ([], p.0 ∷ p.1) (l ∷ p.0, p.1) ]).0 ≡ before_by (own_hit c d f outer) l x
-      by_own true d p x e = refl
-      by_own false true p x e = refl
-      by_own false false p x e = ap (λ (t : List Line). l ∷ t) e
+      by_own c d p x h = grind arith
 
       by_outer : (o : Lead) → (preamble_and_pieces f.boundary (before outer ls)).0 ≡ before (f ∷ outer) ls
           → (preamble_and_pieces f.boundary (before_by o l (before outer ls))).0 ≡ before_by (or_else o (own_hit (is_closing f.boundary l) (is_delimiter f.boundary l) f outer)) l (before (f ∷ outer) ls)
-      by_outer (Some h) e = refl
-      by_outer None e = by_own (is_closing f.boundary l) (is_delimiter f.boundary l) (preamble_and_pieces f.boundary (before outer ls)) (before (f ∷ outer) ls) e
+      by_outer o h = grind (arith, by_own)
 
   -- what pieces of a multipart give
   abbrev of_pieces : ℕ → DefaultType → List (List Line) → List A
@@ -161,28 +147,12 @@ module _ {A : Type 0} (shape_of : DefaultType → List HeaderField → Shape) (g
   by_place : (place : StreamPlace A) (ls : List Line) (fs : List Frame) (l : Line) → AllStreams ls → AllFrames ls → IsFine place
       → (inner_step shape_of gives fs place l).0 ++ given shape_of gives (inner_step shape_of gives fs place l).1.0 (inner_step shape_of gives fs place l).1.1 ls
       ≡ value shape_of gives place (l ∷ before fs ls) ++ later fs ls
-  by_place Skip ls fs l m g h = m fs Skip tt
-  by_place (InLeaf leaf) ls fs l m g h = m fs (InLeaf (λ ms. leaf (l ∷ ms))) tt
-  by_place (InHeader c n d lines) ls fs l m g h = by_line (is_empty l) refl
-    where
-      stepped : Bool → List A × (List Frame × StreamPlace A)
-      stepped t = elim t [
-        | true ↦ (flat_map gives (header_parts c lines), behind_header shape_of gives (shape_of d (fields_of lines)) fs n (fields_of lines))
-        | false ↦ ([], (fs, InHeader c n d (lines ++ l ∷ [])))
-      ]
-
-      by_line : (t : Bool) → is_empty l ≡ t
-          → (stepped t).0 ++ given shape_of gives (stepped t).1.0 (stepped t).1.1 ls ≡ value shape_of gives (InHeader c n d lines) (l ∷ before fs ls) ++ later fs ls
-      by_line true t = by_end ls fs c n d lines l m g h t
-      by_line false t =
-          m fs (InHeader c n d (lines ++ l ∷ [])) (IsHeader-push lines l h t)
-          ∙ ap (λ (ps : List A). ps ++ later fs ls) (one_more c n d lines l (before fs ls))
+  by_place place ls fs l h h2 h3 = grind (arith, by_end, IsHeader-push, one_more)
 
   by_hit : (o : Lead) (place : StreamPlace A) (ls : List Line) (fs : List Frame) (l : Line) → AllStreams ls → AllFrames ls → IsFine place
       → (step_by shape_of gives o fs place l).0 ++ given shape_of gives (step_by shape_of gives o fs place l).1.0 (step_by shape_of gives o fs place l).1.1 ls
       ≡ value shape_of gives place (before_by o l (before fs ls)) ++ later_by o (later fs ls) ls
-  by_hit (Some x) place ls fs l m g h = refl
-  by_hit None place ls fs l m g h = by_place place ls fs l m g h
+  by_hit o place ls fs l h h2 h3 = grind (arith, by_place)
 
   by_own : (c d : Bool) (ls : List Line) (f : Frame) (outer : List Frame) (l : Line) → AllStreams ls → AllFrames ls
       → (step_by shape_of gives (own_hit c d f outer) (f ∷ outer) Skip l).0
@@ -192,17 +162,14 @@ module _ {A : Type 0} (shape_of : DefaultType → List HeaderField → Shape) (g
         | false ↦ cond d ([], (preamble_and_pieces f.boundary (before outer ls)).0 ∷ (preamble_and_pieces f.boundary (before outer ls)).1)
             (l ∷ (preamble_and_pieces f.boundary (before outer ls)).0, (preamble_and_pieces f.boundary (before outer ls)).1)
       ]).1 ++ later outer ls
-  by_own true d ls f outer l m g = m outer Skip tt
-  by_own false true ls f outer l m g = grind (arith, preamble_is, append_assoc, flat_map-append)
-  by_own false false ls f outer l m g = g f outer
+  by_own c d ls f outer l h h2 = grind (arith, preamble_is, append_assoc, flat_map-append)
 
   by_outer : (o : Lead) (ls : List Line) (f : Frame) (outer : List Frame) (l : Line) → AllStreams ls → AllFrames ls
       → (step_by shape_of gives (or_else o (own_hit (is_closing f.boundary l) (is_delimiter f.boundary l) f outer)) (f ∷ outer) Skip l).0
       ++ given shape_of gives (step_by shape_of gives (or_else o (own_hit (is_closing f.boundary l) (is_delimiter f.boundary l) f outer)) (f ∷ outer) Skip l).1.0
       (step_by shape_of gives (or_else o (own_hit (is_closing f.boundary l) (is_delimiter f.boundary l) f outer)) (f ∷ outer) Skip l).1.1 ls
       ≡ of_pieces (suc f.left) f.default (pieces f.boundary (before_by o l (before outer ls))) ++ later_by o (later outer ls) ls
-  by_outer (Some x) ls f outer l m g = refl
-  by_outer None ls f outer l m g = by_own (is_closing f.boundary l) (is_delimiter f.boundary l) ls f outer l m g
+  by_outer o ls f outer l h h2 = grind (arith, by_own)
 
   mutual
     given_is : (ls : List Line) (fs : List Frame) (place : StreamPlace A) → IsFine place → StreamIs ls fs place

@@ -1,16 +1,7 @@
 -- Tags line by line.
-use Rattle.std.proofs.Common.{◌≡◌, ◌∙◌, ◌<◌, ◌==◌, ◌++◌, ℕ, Bool, true, false, List, [], ◌∷◌, map, reverse, refl, sym, ap, ap₂, subst, arith, append_assoc, encode_utf8_all, IsUtf8}
+use Rattle.mime_text.proofs.Words.{◌≡◌, ◌∙◌, ◌<◌, ◌==◌, ◌++◌, ℕ, Bool, true, false, List, [], ◌∷◌, map, reverse, refl, ap, ap₂, arith, append_assoc, encode_utf8_all, IsUtf8, eqb-true, reverse-append, encode_ascii, encodes-chars, Lacks, text_of, Charset, is_open, without_tags, lines_without_tags, texts_of_lines, is_open_after, is_open_behind, blanked, texts_behind}
 use Rattle.std.specs.Char.{encode_utf8}
 use Rattle.std.specs.Str.{chars}
-use Rattle.std.proofs.lemmas.Bool.{eqb-true}
-use Rattle.std.proofs.lemmas.List.{reverse-append}
-use Rattle.std.proofs.lemmas.Str.{encode_ascii, encodes-chars}
-use Rattle.header_text.proofs.CutLemmas.{Lacks}
-use Rattle.header_text.specs.Charsets.{text_of}
-use Rattle.header_text.specs.declared.charset.Charset.{Charset}
-use Rattle.mime_text.specs.Tags.{is_open, without_tags, lines_without_tags}
-use Rattle.mime_text.specs.LeafTexts.{texts_of_lines}
-use Rattle.mime_text.specs.OpenTags.{is_open_after, is_open_behind, blanked, texts_behind}
 
 -- ---- of what stands before, whether a tag is open is all that counts
 
@@ -41,8 +32,7 @@ plain_lines charset o (l ∷ ls) = ap (λ (ts : List (List ℕ)). text_of charse
 
 -- at the beginning no tag is open
 pub texts-begin : (charset : Charset) (is_html : Bool) (ls : List (List ℕ)) → texts_behind charset is_html false ls ≡ texts_of_lines charset is_html ls
-texts-begin charset false ls = sym (plain_lines charset false ls)
-texts-begin charset true ls = sym (tagged_lines charset [] false ls refl)
+texts-begin charset is_html ls = grind (arith, plain_lines, tagged_lines)
 
 -- ---- text without tags
 
@@ -56,13 +46,7 @@ lacks-chars c ascii [] h = tt
 lacks-chars c ascii (x ∷ cs) h = let parts = lacks-append c (encode_utf8 x) (encode_utf8_all cs) h in (go (x == c) refl parts.0, lacks-chars c ascii cs parts.1)
   where
     go : (t : Bool) → (x == c) ≡ t → Lacks c (encode_utf8 x) → (x == c) ≡ false
-    go true e k =
-        let is : encode_utf8 x ≡ c ∷ [] = ap encode_utf8 (eqb-true x c e) ∙ encode_ascii c ascii in
-        let P : List ℕ → Type 0 = λ l. Lacks c l in
-        let no : Lacks c (c ∷ []) = subst P is k in
-        let same : (c == c) ≡ true = grind arith in
-        absurd (cc (no.0, same))
-    go false e k = e
+    go t h h2 = grind (arith, eqb-true, encode_ascii)
 
 pub lacks-text : (c : ℕ) → c < 128 → (text : List ℕ) → IsUtf8 text → Lacks c text → Lacks c (chars text)
 lacks-text c ascii text utf8 h = grind (arith, Lacks, lacks-chars, encodes-chars)

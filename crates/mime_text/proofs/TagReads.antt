@@ -1,17 +1,8 @@
 -- A loop over the spans of a text that blanks its tags.
-use Rattle.std.proofs.Common.{◌≡◌, ℕ, zero, suc, ◌+◌, ◌≤◌, ◌<◌, Bool, true, false, List, [], ◌∷◌, ◌++◌, length, drop, get_or, replicate, chars, encode_utf8, encode_utf8_all, IsUtf8, refl, sym, ap, ap₂, ◌∙◌, subst, arith, length-append, append_assoc}
-use Rattle.std.specs.Prelude.{not, ◌≢◌, ◌==◌, option_map, if◌then◌else◌, is_ok, Option, Some, None, Result, Ok, Err, OnOk}
-use Rattle.std.proofs.lemmas.Bool.{eqb-true, false_from_ne_true}
+use Rattle.mime_text.proofs.Words.{◌≡◌, ℕ, zero, suc, ◌+◌, ◌≤◌, ◌<◌, Bool, true, false, List, [], ◌∷◌, ◌++◌, length, drop, get_or, replicate, chars, encode_utf8, encode_utf8_all, IsUtf8, refl, sym, ap, ap₂, ◌∙◌, subst, arith, length-append, append_assoc, not, ◌≢◌, ◌==◌, option_map, if◌then◌else◌, is_ok, Option, Result, OnOk, eqb-true, false_from_ne_true, IsAscii, take_at, drop_at, get_or_at, length_push, length-replicate, replicate-append-replicate, IsUtf8-take, IsUtf8-drop, IsUtf8-from_ascii, IsCharBoundary-before_ascii, IsCharBoundary-after_ascii, chars-append, chars-IsAscii, encode_ascii, encodes-append, encodes-chars, length-le-encodes, cut_at, Lacks, IsCut, cut_at-none, cut_at-is, is_open_after, is_open_behind, blanked, span_end, shown_span}
 use denote.Ref.{Bor}
-use Rattle.std.specs.Str.{IsAscii}
-use Rattle.std.proofs.lemmas.List.{take_at, drop_at, get_or_at, length_push, length-replicate, replicate-append-replicate}
-use Rattle.std.proofs.lemmas.Str.{IsUtf8-take, IsUtf8-drop, IsUtf8-from_ascii, IsCharBoundary-before_ascii, IsCharBoundary-after_ascii, chars-append, chars-IsAscii, encode_ascii, encodes-append, encodes-chars, length-le-encodes}
 use Rattle.std.proofs.lemmas.Str.Ascii.{IsAscii-nil, IsAscii-cons}
 use Rattle.std.proofs.lemmas.Str.Pattern.{IsSplitOnceResult, split_parts}
-use Rattle.header_text.specs.Cuts.{cut_at}
-use Rattle.header_text.proofs.CutLemmas.{Lacks, IsCut, cut_at-none, cut_at-is}
-use Rattle.mime_text.specs.OpenTags.{is_open_after, is_open_behind, blanked}
-use Rattle.mime_text.specs.Inside.TagSpans.{span_end, shown_span}
 use Rattle.mime_text.proofs.TagLemmas.{lacks-text, blanked-free, is_open-free}
 
 -- ---- characters one behind another
@@ -35,12 +26,10 @@ is_open-tag [] h = refl
 is_open-tag (c ∷ cs) h = rw h.0 (is_open-tag cs h.1)
 
 blanked-span : (o : Bool) (cs : List ℕ) → Lacks (span_end o) cs → blanked o cs ≡ shown_span o cs
-blanked-span true cs h = blanked-tag cs h
-blanked-span false cs h = blanked-free cs h
+blanked-span o cs h = grind (arith, blanked-tag, blanked-free)
 
 is_open-span : (o : Bool) (cs : List ℕ) → Lacks (span_end o) cs → is_open_behind o cs ≡ o
-is_open-span true cs h = is_open-tag cs h
-is_open-span false cs h = is_open-free cs h
+is_open-span o cs h = grind (arith, is_open-tag, is_open-free)
 
 encodes-spaces : (n : ℕ) → encode_utf8_all (replicate n 0x20) ≡ replicate n 0x20
 encodes-spaces zero = refl
@@ -54,8 +43,7 @@ pub written-outside : (text : List ℕ) → IsUtf8 text → text ≡ encode_utf8
 written-outside text utf8 = sym (encodes-chars text utf8)
 
 length-span : (o : Bool) (text : List ℕ) → IsUtf8 text → length (encode_utf8_all (shown_span o (chars text))) ≤ length text
-length-span true text utf8 = omega (arith, ap length (written-tag text), length-replicate {A = ℕ} (length (chars text)) 0x20, length-le-encodes (chars text), ap length (encodes-chars text utf8))
-length-span false text utf8 = omega (arith, ap length (encodes-chars text utf8))
+length-span o text h = grind (arith, written-tag, length-replicate, length-le-encodes, encodes-chars)
 
 -- ---- spaces
 
@@ -69,22 +57,18 @@ spaces-more into new some left n rest are parts added = grind (arith, append_ass
 
 -- what a call that adds all or nothing has added
 pub on_ok : {X E : Type 0} (r : Result X E) (new all none whole : List ℕ) → new ≡ (if is_ok r then all else none) → all ≡ whole → OnOk r (new ≡ whole)
-on_ok (Ok x) new all none whole h e = h ∙ e
-on_ok (Err x) new all none whole h e = tt
+on_ok r new all none whole h h2 = grind arith
 
 -- ---- what ends a span
 
 span_end-ascii : (o : Bool) → span_end o < 128
-span_end-ascii true = omega arith
-span_end-ascii false = omega arith
+span_end-ascii o = grind arith
 
 blanked-end : (o : Bool) (cs : List ℕ) → blanked o (span_end o ∷ cs) ≡ 0x20 ∷ blanked (not o) cs
-blanked-end true cs = refl
-blanked-end false cs = refl
+blanked-end o cs = grind arith
 
 is_open-end : (o : Bool) (cs : List ℕ) → is_open_behind o (span_end o ∷ cs) ≡ is_open_behind (not o) cs
-is_open-end true cs = refl
-is_open-end false cs = refl
+is_open-end o cs = grind arith
 
 -- ---- a text that is cut at an ASCII character
 
@@ -97,10 +81,7 @@ lacks-places c (b ∷ bs) h = (differs b c (h 0 (omega arith)), lacks-places c b
 
 cut-ascii : (c : ℕ) (bs : List ℕ) (r : Option (Bor (List ℕ) × Bor (List ℕ))) → c < 128 → IsSplitOnceResult c bs r
     → option_map (λ parts. (parts.0.now, parts.1.now)) r ≡ cut_at c bs
-cut-ascii c bs None ascii h = let none = split_parts c bs None h ascii in sym (cut_at-none c bs (λ k lt. differs (get_or bs k 0) c (none k lt)))
-cut-ascii c bs (Some x) ascii h =
-    let parts = split_parts c bs (Some x) h ascii in
-    sym (ap (cut_at c) parts.0 ∙ cut_at-is c x.0.now x.1.now (lacks-places c x.0.now parts.1))
+cut-ascii c bs r h h2 = grind (arith, split_parts, cut_at-none, differs, cut_at-is, lacks-places)
 
 pub cut_from_split : (o : Bool) (sign : ℕ) (bs : List ℕ) (r : Option (Bor (List ℕ) × Bor (List ℕ))) → sign ≡ span_end o → IsSplitOnceResult sign bs r
     → option_map (λ parts. (parts.0.now, parts.1.now)) r ≡ cut_at (span_end o) bs
@@ -148,45 +129,8 @@ tags_read-start text start old utf8 = record { utf8 = utf8; sofar = refl; behind
 pub tags_read-step : (text : List ℕ) (start : Bool) (old into : List ℕ) (o : Bool) (rest before behind spanned new : List ℕ) → TagsRead text start old into o rest
     → IsCut (span_end o) rest before behind → spanned ≡ into ++ encode_utf8_all (shown_span o (chars before)) → new ≡ spanned ++ encode_utf8 0x20
     → TagsRead text start old new (not o) behind
-tags_read-step text start old into o rest before behind spanned new h cut written ended =
-    let ascii = span_end-ascii o in
-    let parts = cut_text (span_end o) before behind ascii (subst (λ (l : List ℕ). IsUtf8 l) cut.joined h.utf8) in
-    let cs : List ℕ = chars before in
-    let ds : List ℕ = chars behind in
-    let free : Lacks (span_end o) cs = lacks-text (span_end o) ascii before parts.utf8_before cut.free in
-    let split : chars rest ≡ cs ++ span_end o ∷ ds = ap chars cut.joined ∙ parts.characters in
-    let stays : is_open_behind o cs ≡ o = is_open-span o cs free in
-    let shown : blanked o (chars rest) ≡ shown_span o cs ++ 0x20 ∷ blanked (not o) ds = grind (arith, split, blanked-append, blanked-span o cs free, stays, blanked-end) in
-    let span : List ℕ = encode_utf8_all (shown_span o cs) in
-    let space : List ℕ = encode_utf8 0x20 in
-    let later : List ℕ = encode_utf8_all (blanked (not o) ds) in
-    let encoded : encode_utf8_all (blanked o (chars rest)) ≡ span ++ (space ++ later) = ap encode_utf8_all shown ∙ encodes-append (shown_span o cs) (0x20 ∷ blanked (not o) ds) in
-    let added : new ≡ (into ++ span) ++ space = ended ∙ ap (λ (l : List ℕ). l ++ space) written in
-    let turns : is_open_behind o (chars rest) ≡ is_open_behind (not o) ds = grind (arith, split, is_open_behind-append, stays, is_open-end) in
-    record {
-      utf8 = parts.utf8_behind;
-      sofar = grind (arith, added, append_assoc, encoded, h.sofar);
-      behind = sym turns ∙ h.behind;
-      size = omega (
-        arith,
-        h.size,
-        ap length cut.joined,
-        length-append before (span_end o ∷ behind),
-        ap length added,
-        length-append (into ++ span) space,
-        length-append into span,
-        length-span o before parts.utf8_before,
-        ap length (encode_ascii 0x20 (omega arith)),
-      );
-    }
+tags_read-step text start old into o rest before behind spanned new h cut written ended = grind (arith, span_end-ascii, cut_text, lacks-text, is_open-span, blanked-append, blanked-span, blanked-end, encode_utf8_all, encode_utf8, encodes-append, is_open_behind-append, is_open-end, append_assoc, length-append, length-span, encode_ascii)
 
 pub tags_read-end : (text : List ℕ) (start : Bool) (old into : List ℕ) (o : Bool) (rest new : List ℕ) → TagsRead text start old into o rest → Lacks (span_end o) rest
     → new ≡ into ++ encode_utf8_all (shown_span o (chars rest)) → TagsBlanked text start old new o
-tags_read-end text start old into o rest new h lacks written =
-    let cs : List ℕ = chars rest in
-    let free : Lacks (span_end o) cs = lacks-text (span_end o) (span_end-ascii o) rest h.utf8 lacks in
-    record {
-      whole = written ∙ sym (ap (λ (l : List ℕ). into ++ encode_utf8_all l) (blanked-span o cs free)) ∙ h.sofar;
-      behind = sym (is_open-span o cs free) ∙ h.behind;
-      size = omega (arith, h.size, ap length written, length-append into (encode_utf8_all (shown_span o cs)), length-span o rest h.utf8);
-    }
+tags_read-end text start old into o rest new h lacks written = grind (arith, lacks-text, span_end-ascii, encode_utf8_all, blanked-span, is_open-span, length-append, length-span)

@@ -1,4 +1,4 @@
-use Rattle.mime_text.specs.Parameters.{behind_semicolon}
+use Rattle.mime_text.proofs.Words.{behind_semicolon}
 use Rattle.mime_text.proofs.ParameterLaws.{are_parameters, only_parameters}
 use Rattle.mime_text.proofs.law.parameters_are_of_pieces.Goals as goal
 

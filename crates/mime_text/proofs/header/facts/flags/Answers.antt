@@ -1,6 +1,4 @@
-use Rattle.std.proofs.Common.{◌≡◌, ◌∙◌, true, sym}
-use Rattle.header_text.specs.Headers.{HeaderField}
-use Rattle.mime_text.specs.MessageFacts.{is_status}
+use Rattle.mime_text.proofs.Words.{◌≡◌, ◌∙◌, true, sym, HeaderField, is_status}
 use Rattle.mime_text.proofs.FlagLemmas.{letter-step}
 use Rattle.mime_text.proofs.header.facts.flags.Goals as goal
 

@@ -1,6 +1,4 @@
-use Rattle.std.proofs.Common.{◌≡◌}
-use Rattle.std.specs.Prelude.{◌||◌}
-use Rattle.mime_text.specs.MessageFacts.{has_letter}
+use Rattle.mime_text.proofs.Words.{◌≡◌, ◌||◌, has_letter}
 use Rattle.mime_text.proofs.header.facts.flags.Given as goal
 
 -- a letter stood in a field so far, or stands in one of those that are left

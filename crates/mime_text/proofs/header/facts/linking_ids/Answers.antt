@@ -1,6 +1,4 @@
-use Rattle.std.proofs.Common.{◌≡◌, ◌∙◌, ℕ, List, true, map, sym}
-use Rattle.header_text.specs.Headers.{HeaderField}
-use Rattle.mime_text.specs.MessageFacts.{is_linking}
+use Rattle.mime_text.proofs.Words.{◌≡◌, ◌∙◌, ℕ, List, true, map, sym, HeaderField, is_linking}
 use Rattle.mime_text.proofs.IdSizes.{ids_step, room_step}
 use Rattle.mime_text.proofs.header.facts.linking_ids.Goals as goal
 

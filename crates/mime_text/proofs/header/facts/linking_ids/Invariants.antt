@@ -1,7 +1,4 @@
-use Rattle.header_text.specs.Headers.{fields_size, most_in_header}
-use Rattle.header_text.specs.Ids.{ids_size}
-use Rattle.std.proofs.Common.{◌≡◌, ◌+◌, ◌≤◌, All, ◌++◌}
-use Rattle.mime_text.specs.MessageFacts.{ids_of_fields, IsSizedId}
+use Rattle.mime_text.proofs.Words.{fields_size, most_in_header, ids_size, ◌≡◌, ◌+◌, ◌≤◌, All, ◌++◌, ids_of_fields, IsSizedId}
 use Rattle.mime_text.proofs.header.facts.linking_ids.Given as goal
 
 -- the ids so far, and those of the fields that are left; there is room for both

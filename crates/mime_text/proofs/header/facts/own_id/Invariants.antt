@@ -1,6 +1,4 @@
-use Rattle.header_text.specs.Headers.{fields_size, most_in_header}
-use Rattle.std.proofs.Common.{◌≡◌, ◌≤◌}
-use Rattle.mime_text.specs.MessageFacts.{own_id_of}
+use Rattle.mime_text.proofs.Words.{fields_size, most_in_header, ◌≡◌, ◌≤◌, own_id_of}
 use Rattle.mime_text.proofs.header.facts.own_id.Given as goal
 
 -- no field so far had an id, so the fields that are left decide

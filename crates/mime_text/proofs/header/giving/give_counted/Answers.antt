@@ -1,6 +1,4 @@
-use Rattle.std.proofs.Common.{[], Bool, refl, ap}
-use Rattle.mime_text.specs.FieldTexts.{texts_of_fields}
-use Rattle.mime_text.specs.Feeding.{counted_texts}
+use Rattle.mime_text.proofs.Words.{[], Bool, refl, ap, texts_of_fields, counted_texts}
 use Rattle.mime_text.proofs.Handing.{hands-along}
 use Rattle.mime_text.proofs.header.giving.give_counted.Goals as goal
 

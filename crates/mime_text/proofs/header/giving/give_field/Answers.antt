@@ -1,7 +1,4 @@
-use Rattle.std.proofs.Common.{◌≡◌, ◌∙◌, ℕ, List, [], ◌∷◌, Some, refl, sym, ap}
-use Rattle.header_text.specs.Headers.{HeaderField}
-use Rattle.mime_text.specs.Sinks.{Pair}
-use Rattle.mime_text.specs.FieldTexts.{kind_of_field, text_of_body, texts_of_fields}
+use Rattle.mime_text.proofs.Words.{◌≡◌, ◌∙◌, ℕ, List, [], ◌∷◌, Some, refl, sym, ap, HeaderField, Pair, kind_of_field, text_of_body, texts_of_fields}
 use Rattle.mime_text.proofs.GivingLemmas.{texts-some}
 use Rattle.mime_text.proofs.Handing.{hands-along}
 use Rattle.mime_text.proofs.header.giving.give_field.Goals as goal

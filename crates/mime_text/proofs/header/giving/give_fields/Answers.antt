@@ -1,16 +1,10 @@
-use Rattle.std.proofs.Common.{◌≡◌, ◌∙◌, ◌≤◌, ◌++◌, List, [], ◌∷◌, ap, arith}
-use Rattle.header_text.specs.Headers.{HeaderField, fields_size, most_in_header}
-use Rattle.mime_text.specs.FieldTexts.{texts_of_fields}
-use Rattle.mime_text.specs.Sinks.{Coming}
+use Rattle.mime_text.proofs.Words.{◌≡◌, ◌∙◌, ◌≤◌, ◌++◌, List, [], ◌∷◌, ap, arith, HeaderField, fields_size, most_in_header, texts_of_fields, Coming}
 use Rattle.mime_text.proofs.GivingLemmas.{texts-cons, gave-front, gave-behind, broke-front}
 use Rattle.mime_text.proofs.Handing.{gave-more, broke-later}
 use Rattle.mime_text.proofs.header.giving.give_fields.Goals as goal
 
 abbrev texts : List HeaderField → Coming
 texts fields ms = texts_of_fields fields
-
-pub give_field-requires : goal.give_field-requires
-give_field-requires g c = omega (arith, c.loop-field.invariant.2, ap fields_size c.in-Some.ensures.steps)
 
 pub returns-in-Err : goal.returns-in-Err
 returns-in-Err g c =

@@ -1,7 +1,4 @@
-use Rattle.std.proofs.Common.{◌≤◌}
-use Rattle.header_text.specs.Headers.{fields_size, most_in_header}
-use Rattle.mime_text.specs.FieldTexts.{texts_of_fields}
-use Rattle.mime_text.specs.Sinks.{Gave}
+use Rattle.mime_text.proofs.Words.{◌≤◌, fields_size, most_in_header, texts_of_fields, Gave}
 use Rattle.mime_text.proofs.header.giving.give_fields.Given as goal
 
 -- the texts of the fields so far are given

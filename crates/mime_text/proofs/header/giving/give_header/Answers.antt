@@ -1,7 +1,4 @@
-use Rattle.std.proofs.Common.{◌≡◌, ◌++◌, List, [], sym, ap}
-use Rattle.header_text.specs.Headers.{HeaderField}
-use Rattle.mime_text.specs.Names.{name_texts}
-use Rattle.mime_text.specs.Feeding.{counted_texts, header_texts}
+use Rattle.mime_text.proofs.Words.{◌≡◌, ◌++◌, List, [], sym, ap, HeaderField, name_texts, counted_texts, header_texts}
 use Rattle.mime_text.proofs.Handing.{hands-later}
 use Rattle.mime_text.proofs.GivingLemmas.{gave-front, broke-front}
 use Rattle.mime_text.proofs.header.giving.give_header.Goals as goal

@@ -1,9 +1,5 @@
-use Rattle.std.proofs.Common.{◌≡◌, ℕ, List, [], ◌∷◌, Option, Some, refl, sym, ap}
-use Rattle.std.specs.Prelude.{option_map}
-use Rattle.std.specs.Option.{option_to_list}
+use Rattle.mime_text.proofs.Words.{◌≡◌, ℕ, List, [], ◌∷◌, Option, Some, refl, sym, ap, option_map, option_to_list, Pair, name_text, name_texts}
 use Rattle.mail_words.specs.declared.kind.TextKind.TheVariants as kind
-use Rattle.mime_text.specs.Sinks.{Pair}
-use Rattle.mime_text.specs.Names.{name_text, name_texts}
 use Rattle.mime_text.proofs.Handing.{hands-along}
 use Rattle.mime_text.proofs.header.giving.give_name.Goals as goal
 

@@ -1,4 +1,4 @@
-use Rattle.std.proofs.Common.{[], ◌∷◌, refl}
+use Rattle.mime_text.proofs.Words.{[], ◌∷◌, refl}
 use Rattle.mime_text.proofs.GivingLemmas.{gave-one, broke-one}
 use Rattle.mime_text.proofs.header.giving.give_text.Goals as goal
 

@@ -1,4 +1,4 @@
-use Rattle.std.proofs.Common.{arith}
+use Rattle.mime_text.proofs.Words.{arith}
 use Rattle.mime_text.proofs.NameLemmas.{name-second}
 use Rattle.mime_text.proofs.header.name.read_name.Goals as goal
 

@@ -1,6 +1,4 @@
-use Rattle.std.proofs.Common.{List, ℕ, [], ◌∷◌, refl, sym, arith}
-use Rattle.mbox_cutter.proofs.FirstLines.{line_end-open}
-use Rattle.mime_text.specs.LeafReading.{pairs_of_lines, pairs_of_bytes}
+use Rattle.mime_text.proofs.Words.{List, ℕ, [], ◌∷◌, refl, sym, arith, line_end-open, pairs_of_lines, pairs_of_bytes}
 use Rattle.mime_text.proofs.Handing.{hands-later, hands-along}
 use Rattle.mime_text.proofs.LineSteps.{no_bytes, some_bytes, gave-all, gave-front, broke-front}
 use Rattle.mime_text.proofs.leaf.held_line.give_all.Goals as goal

@@ -1,19 +1,10 @@
-use Rattle.std.proofs.Common.{◌++◌, ℕ, List, arith}
-use Rattle.std.specs.List.{concat}
-use Rattle.mbox_cutter.proofs.FirstLines.{line_end-positive, line_end-within, line_end-short}
-use Rattle.mime_text.specs.LeafReading.{pairs_of_bytes}
+use Rattle.mime_text.proofs.Words.{◌++◌, ℕ, List, arith, concat, line_end-positive, line_end-within, line_end-short, pairs_of_bytes}
 use Rattle.mime_text.proofs.Handing.{gave-nothing, gave-more, broke-later}
 use Rattle.mime_text.proofs.LineSteps.{rest-start, rest-step, gave-line, broke-line}
 use Rattle.mime_text.proofs.leaf.held_line.give_lines.Goals as goal
 
 pub loop-len-init : goal.loop-len-init
-loop-len-init g c = record {
-  free = c.requires.free;
-  few = c.requires.few;
-  fits = omega arith;
-  rest = rest-start c.args.bytes.now;
-  gave = gave-nothing g.S.TextSink.takes g.S.TextSink.refuses (λ ls. pairs_of_bytes c.args.texts.now (c.args.bytes.now ++ concat ls)) c.args.sink.now;
-}
+loop-len-init g c = grind (arith, rest-start, gave-nothing)
 
 pub split_at-requires : goal.split_at-requires
 split_at-requires g c = line_end-within c.loop-len.rest.now c.in-Some.len c.in-Some.ensures

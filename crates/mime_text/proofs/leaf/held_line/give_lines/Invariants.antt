@@ -1,8 +1,4 @@
-use Rattle.std.proofs.Common.{◌≡◌, ◌-◌, ◌≤◌, ◌++◌, length, drop}
-use Rattle.std.specs.List.{concat}
-use Rattle.mbox_cutter.specs.Lines.{length_before_feed}
-use Rattle.mime_text.specs.Sinks.{Gave}
-use Rattle.mime_text.specs.LeafReading.{pairs_of_bytes}
+use Rattle.mime_text.proofs.Words.{◌≡◌, ◌-◌, ◌≤◌, ◌++◌, length, drop, concat, length_before_feed, Gave, pairs_of_bytes}
 use Rattle.mime_text.proofs.leaf.held_line.give_lines.Given as goal
 
 -- the lines before the rest were given

@@ -1,6 +1,4 @@
-use Rattle.std.proofs.Common.{◌∙◌, ◌++◌, [], refl, sym, ap}
-use Rattle.mime_text.specs.Decoders.{still_decoded}
-use Rattle.mime_text.specs.LeafReading.{pairs_of_bytes}
+use Rattle.mime_text.proofs.Words.{◌∙◌, ◌++◌, [], refl, sym, ap, still_decoded, pairs_of_bytes}
 use Rattle.mime_text.proofs.Handing.{hands-along}
 use Rattle.mime_text.proofs.leaf.held_line.give_rest.Goals as goal
 

@@ -1,9 +1,5 @@
-use Rattle.std.proofs.Common.{◌∙◌, ◌++◌, ℕ, List, [], ◌∷◌, sym, ap, arith}
-use Rattle.std.specs.List.{concat}
-use Rattle.mime_text.specs.Decoders.{still_decoded}
-use Rattle.mime_text.specs.LeafReading.{pairs_of_bytes}
+use Rattle.mime_text.proofs.Words.{◌∙◌, ◌++◌, ℕ, List, [], ◌∷◌, sym, ap, arith, concat, still_decoded, pairs_of_bytes, line_end-open}
 use Rattle.mime_text.proofs.Handing.{hands-along}
-use Rattle.mbox_cutter.proofs.FirstLines.{line_end-open}
 use Rattle.mime_text.proofs.LineEnds.{held-free, still-free}
 use Rattle.mime_text.proofs.LineSteps.{concat-one}
 use Rattle.mime_text.proofs.leaf.held_line.take_encoded.Goals as goal

@@ -1,4 +1,4 @@
-use Rattle.std.proofs.Common.{arith}
+use Rattle.mime_text.proofs.Words.{arith}
 use Rattle.mime_text.proofs.LineEnds.{searched-fits, behind-found, behind-full, behind-open}
 use Rattle.mime_text.proofs.leaf.line_end.line_end_behind.Goals as goal
 

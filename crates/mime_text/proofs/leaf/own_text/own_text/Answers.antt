@@ -1,4 +1,4 @@
-use Rattle.std.proofs.Common.{arith}
+use Rattle.mime_text.proofs.Words.{arith}
 use Rattle.header_text.proofs.OwnTexts.{text_of-utf8, text_of-ascii}
 use Rattle.mime_text.proofs.leaf.own_text.own_text.Goals as goal
 

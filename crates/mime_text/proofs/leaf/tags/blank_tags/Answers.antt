@@ -1,6 +1,4 @@
-use Rattle.std.proofs.Common.{◌∷◌, sym, ap, length, length-append, arith, rules}
-use Rattle.header_text.proofs.CutLemmas.{IsCut, IsCut-from, Lacks-from}
-use Rattle.mime_text.specs.Inside.TagSpans.{span_end}
+use Rattle.mime_text.proofs.Words.{◌∷◌, sym, ap, length, length-append, arith, rules, IsCut, IsCut-from, Lacks-from, span_end}
 use Rattle.mime_text.proofs.TagReads.{tags_read-start, tags_read-step, tags_read-end}
 use Rattle.mime_text.proofs.leaf.tags.blank_tags.Goals as goal
 use Rattle.mime_text.proofs.leaf.tags.blank_tags.Goals.{In_ok-push}

@@ -1,7 +1,6 @@
-use Rattle.std.proofs.Common.{sym, ap, length}
+use Rattle.mime_text.proofs.Words.{sym, ap, length, chars-IsAscii}
 use Rattle.std.proofs.lemmas.Iterator.{YieldsList-from_chars}
 use Rattle.std.proofs.lemmas.Iterator.Consumers.{count_from_yields_List}
-use Rattle.std.proofs.lemmas.Str.{chars-IsAscii}
 use Rattle.mime_text.proofs.leaf.tags.character_count.Goals as goal
 
 pub returns-then-is_ascii : goal.returns-then-is_ascii

@@ -1,5 +1,4 @@
-use Rattle.std.proofs.Common.{arith}
-use Rattle.header_text.proofs.CutLemmas.{Lacks-from}
+use Rattle.mime_text.proofs.Words.{arith, Lacks-from}
 use Rattle.mime_text.proofs.TagLemmas.{free-text, free-behind}
 use Rattle.mime_text.proofs.leaf.tags.is_free_of_tags.Goals as goal
 

@@ -1,4 +1,4 @@
-use Rattle.std.proofs.Common.{◌≡◌, ◌++◌, replicate, string_bytes}
+use Rattle.mime_text.proofs.Words.{◌≡◌, ◌++◌, replicate, string_bytes}
 use Rattle.mime_text.proofs.leaf.tags.push_spaces.Given as goal
 
 -- the spaces so far, and those that are left

@@ -1,4 +1,4 @@
-use Rattle.std.proofs.Common.{encode_utf8_all, string_bytes, arith}
+use Rattle.mime_text.proofs.Words.{encode_utf8_all, string_bytes, arith}
 use Rattle.mime_text.proofs.TagReads.{written-tag, written-outside, on_ok}
 use Rattle.mime_text.proofs.leaf.tags.push_span.Goals as goal
 

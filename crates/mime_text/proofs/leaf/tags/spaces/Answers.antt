@@ -1,6 +1,4 @@
-use Rattle.std.proofs.Common.{◌≡◌, ◌∙◌, ◌-◌, ℕ, List, take, replicate, ap, arith}
-use Rattle.std.proofs.lemmas.List.{take-replicate}
-use Rattle.std.proofs.lemmas.Str.{IsCharBoundary-from_ascii}
+use Rattle.mime_text.proofs.Words.{◌≡◌, ◌∙◌, ◌-◌, ℕ, List, take, replicate, ap, arith, take-replicate, IsCharBoundary-from_ascii}
 use Rattle.mime_text.proofs.TagReads.{spaces-ascii}
 use Rattle.mime_text.proofs.leaf.tags.spaces.Goals as goal
 

@@ -1,4 +1,4 @@
-use Rattle.std.proofs.Common.{arith}
+use Rattle.mime_text.proofs.Words.{arith}
 use Rattle.mime_text.proofs.FedLemmas.{feeds, feeds-part}
 use Rattle.mime_text.proofs.message_text.MessageText.line.Goals as goal
 

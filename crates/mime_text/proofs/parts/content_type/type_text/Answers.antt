@@ -1,6 +1,4 @@
-use Rattle.std.proofs.Common.{◌∙◌, sym, ap}
-use Rattle.header_text.specs.Blanks.{trimmed}
-use Rattle.header_text.proofs.CutLemmas.{split_while-cut, split_while-free}
+use Rattle.mime_text.proofs.Words.{◌∙◌, sym, ap, trimmed, split_while-cut, split_while-free}
 use Rattle.mime_text.proofs.parts.content_type.type_text.Goals as goal
 
 pub returns-in-Some : goal.returns-in-Some

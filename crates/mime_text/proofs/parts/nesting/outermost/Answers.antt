@@ -1,9 +1,4 @@
-use Rattle.std.proofs.Common.{◌≡◌, ◌∙◌, suc, [], Option, Some, None, take, drop, ap, arith, add-one}
-use Rattle.std.specs.Prelude.{slice_get}
-use Rattle.mime_text.specs.declared.parts.delimiter.Delimiter.{Delimiter}
-use Rattle.mime_text.specs.Sinks.{Pair}
-use Rattle.mime_text.specs.Stream.{or_else}
-use Rattle.mime_text.specs.Frames.{scan, led, inside_out, delimiter_of}
+use Rattle.mime_text.proofs.Words.{◌≡◌, ◌∙◌, suc, [], Option, Some, None, take, drop, ap, arith, add-one, slice_get, Delimiter, Pair, or_else, scan, led, inside_out, delimiter_of}
 use Rattle.mime_text.proofs.FrameLemmas.{scan-at, got-at, or_else-led}
 use Rattle.mime_text.proofs.parts.nesting.outermost.Goals as goal
 

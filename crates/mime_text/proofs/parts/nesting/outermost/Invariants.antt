@@ -1,6 +1,4 @@
-use Rattle.std.proofs.Common.{◌≡◌, [], take, drop}
-use Rattle.mime_text.specs.Sinks.{Pair}
-use Rattle.mime_text.specs.Frames.{scan, inside_out}
+use Rattle.mime_text.proofs.Words.{◌≡◌, [], take, drop, Pair, scan, inside_out}
 use Rattle.mime_text.proofs.parts.nesting.outermost.Given as goal
 
 abbrev pub invariant-loop-at : goal.invariant-loop-at

@@ -1,5 +1,4 @@
-use Rattle.std.proofs.Common.{◌≡◌, length}
-use Rattle.header_text.specs.Blanks.{split_while}
+use Rattle.mime_text.proofs.Words.{◌≡◌, length, split_while}
 use Rattle.mime_text.specs.Parameters.{is_token_byte as is_token_byte_of}
 use Rattle.mime_text.proofs.parts.parameter.after_token.Given as goal
 

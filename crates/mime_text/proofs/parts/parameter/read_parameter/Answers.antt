@@ -1,6 +1,4 @@
-use Rattle.std.proofs.Common.{◌≡◌, ◌∙◌, List, ℕ, Some, sym, ap}
-use Rattle.std.specs.Prelude.{option_map, Option}
-use Rattle.mime_text.specs.Parameters.{first_named, parameters_behind, parameter}
+use Rattle.mime_text.proofs.Words.{◌≡◌, ◌∙◌, List, ℕ, Some, sym, ap, option_map, Option, first_named, parameters_behind, parameter}
 use Rattle.mime_text.proofs.ParameterLemmas.{piece-other, piece-found, later-measure, parameter-size}
 use Rattle.mime_text.proofs.parts.parameter.read_parameter.Goals as goal
 

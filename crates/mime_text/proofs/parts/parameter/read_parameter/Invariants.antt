@@ -1,7 +1,4 @@
-use Rattle.std.proofs.Common.{◌≡◌, suc, length}
-use Rattle.std.specs.Prelude.{option_map}
-use Rattle.std.specs.Option.{option_map_or}
-use Rattle.mime_text.specs.Parameters.{first_named, parameters_behind, parameter}
+use Rattle.mime_text.proofs.Words.{◌≡◌, suc, length, option_map, option_map_or, first_named, parameters_behind, parameter}
 use Rattle.mime_text.proofs.parts.parameter.read_parameter.Given as goal
 
 -- no parameter so far had the name, so those that are left decide

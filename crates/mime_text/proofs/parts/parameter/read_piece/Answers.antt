@@ -1,7 +1,4 @@
-use Rattle.std.proofs.Common.{◌≡◌, ◌∙◌, ◌-◌, ◌++◌, ℕ, List, Some, length, take, sym, ap, ap₂, eq-eqb}
-use Rattle.header_text.specs.Blanks.{split_while, after_blanks, trimmed}
-use Rattle.header_text.proofs.Fronts.{length-split_while, take-split_while}
-use Rattle.mime_text.specs.Parameters.{Parameter, is_parameter_name_byte, value_and_rest}
+use Rattle.mime_text.proofs.Words.{◌≡◌, ◌∙◌, ◌-◌, ◌++◌, ℕ, List, Some, length, take, sym, ap, ap₂, eq-eqb, split_while, after_blanks, trimmed, length-split_while, take-split_while, Parameter, is_parameter_name_byte, value_and_rest}
 use Rattle.mime_text.proofs.ParameterLemmas.{piece-parameter}
 use Rattle.mime_text.proofs.parts.parameter.read_piece.Goals as goal
 

@@ -1,5 +1,4 @@
-use Rattle.std.proofs.Common.{◌≡◌, ◌++◌, length}
-use Rattle.mime_text.specs.Parameters.{quoted}
+use Rattle.mime_text.proofs.Words.{◌≡◌, ◌++◌, length, quoted}
 use Rattle.mime_text.proofs.parts.parameter.read_quoted.Given as goal
 
 -- what was written, and what comes of the rest

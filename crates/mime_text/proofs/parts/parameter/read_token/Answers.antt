@@ -1,6 +1,4 @@
-use Rattle.std.proofs.Common.{arith}
-use Rattle.header_text.proofs.Fronts.{length-split_while, take-split_while}
-use Rattle.mime_text.specs.Parameters.{is_token_byte}
+use Rattle.mime_text.proofs.Words.{arith, length-split_while, take-split_while, is_token_byte}
 use Rattle.mime_text.proofs.parts.parameter.read_token.Goals as goal
 
 pub slice_bounds-extend_from_slice-count : goal.slice_bounds-extend_from_slice-count

@@ -1,7 +1,4 @@
-use Rattle.std.proofs.Common.{[], refl, ap}
-use Rattle.mime_text.specs.declared.parts.part_reader.State.{State}
-use Rattle.mime_text.specs.LeafReading.{pairs_to_come}
-use Rattle.mime_text.specs.Feeding.{header_texts, ending}
+use Rattle.mime_text.proofs.Words.{[], refl, ap, State, pairs_to_come, header_texts, ending}
 use Rattle.mime_text.proofs.Handing.{hands-along}
 use Rattle.mime_text.proofs.parts.part_reader.end_entity.Goals as goal
 

@@ -1,8 +1,4 @@
-use Rattle.std.proofs.Common.{ℕ, All}
-use Rattle.std.specs.Prelude.{Vec}
-use Rattle.std.specs.Global.{Global}
-use Rattle.std.proofs.lemmas.List.Elements.{All-append, All-map}
-use Rattle.mime_text.specs.MessageFacts.{IsSizedId}
+use Rattle.mime_text.proofs.Words.{ℕ, All, Vec, Global, All-append, All-map, IsSizedId}
 use Rattle.mime_text.proofs.IdSizes.{sized_append}
 use Rattle.mime_text.proofs.header.owned.MessageIds.append.Goals as goal
 

@@ -1,5 +1,4 @@
-use Rattle.std.proofs.Common.{arith}
-use Rattle.mime_text.specs.LeafTexts.{leaf_texts}
+use Rattle.mime_text.proofs.Words.{arith, leaf_texts}
 use Rattle.mime_text.proofs.TagLemmas.{texts-begin}
 use Rattle.mime_text.proofs.leaf.leaf_reader.LeafReader.begin.Goals as goal
 

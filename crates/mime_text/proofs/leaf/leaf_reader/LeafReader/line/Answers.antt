@@ -1,11 +1,6 @@
-use Rattle.std.proofs.Common.{◌≡◌, ◌++◌, ℕ, List, [], ◌∷◌, Some, length, refl, ap}
-use Rattle.std.specs.List.{concat}
-use Rattle.mbox_cutter.specs.Lines.{lines, line_end_of}
-use Rattle.mime_text.specs.Decoders.{still_decoded}
-use Rattle.mime_text.specs.LeafReading.{pairs_of_lines, pairs_of_bytes}
+use Rattle.mime_text.proofs.Words.{◌≡◌, ◌++◌, ℕ, List, [], ◌∷◌, Some, length, refl, ap, concat, lines, line_end_of, still_decoded, pairs_of_lines, pairs_of_bytes, LineTexts}
 use Rattle.mime_text.specs.declared.leaf.decoder.Decoder.{Decoder}
 use Rattle.mime_text.specs.declared.leaf.decoder.Decoder.TheVariants.{Identity}
-use Rattle.mime_text.specs.declared.leaf.line_texts.LineTexts.{LineTexts}
 use Rattle.mime_text.proofs.Handing.{hands-along}
 use Rattle.mime_text.proofs.LineSteps.{lines-whole, feed-end}
 use Rattle.mime_text.proofs.leaf.leaf_reader.LeafReader.line.Goals as goal

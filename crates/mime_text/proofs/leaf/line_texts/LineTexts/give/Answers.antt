@@ -1,4 +1,4 @@
-use Rattle.std.proofs.Common.{arith}
+use Rattle.mime_text.proofs.Words.{arith}
 use Rattle.mime_text.proofs.LineSteps.{hands-line}
 use Rattle.mime_text.proofs.leaf.line_texts.LineTexts.give.Goals as goal
 

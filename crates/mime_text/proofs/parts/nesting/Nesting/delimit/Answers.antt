@@ -1,7 +1,4 @@
-use Rattle.std.proofs.Common.{◌≡◌, ◌∙◌, ◌<◌, ℕ, List, Option, Some, length, sym, ap, arith, Bor}
-use Rattle.std.specs.Prelude.{slice_get, option_map}
-use Rattle.std.proofs.lemmas.List.{length-take}
-use Rattle.mime_text.specs.Frames.{Nest, dashes}
+use Rattle.mime_text.proofs.Words.{◌≡◌, ◌∙◌, ◌<◌, ℕ, List, Option, Some, length, sym, ap, arith, Bor, slice_get, option_map, length-take, Nest, dashes}
 use Rattle.mime_text.proofs.FrameLemmas.{no_dashes, scanned, closing-leads, next-leads, AreNested-take, AreNested-at, got-at}
 use Rattle.mime_text.proofs.parts.nesting.Nesting.delimit.Goals as goal
 
@@ -23,9 +20,6 @@ returns-in-Some-default-Closing-clause-leads c =
     closing-leads c.args.line.now c.in-Some.text.now c.args.self.now.frames c.self.inside.frames.items c.deref.result.now c.truncate.new.self.items
     c.in-Some-default-Closing.at c.in-Some-default-Closing.field-0-1 (ap (λ (n : Nest). n.frames) (sym c.self.view_is)) c.deref.ensures.value e
     c.in-Some-default-Closing.field-0-1-is c.in-Some-default-Closing.ensures.some c.truncate.ensures.items
-
-pub overflow_add-at : goal.overflow_add-at
-overflow_add-at c = grind arith
 
 pub invariant_of-self-in-Some-default-Next : goal.invariant_of-self-in-Some-default-Next
 invariant_of-self-in-Some-default-Next c = grind (arith, length-take, AreNested-take, AreNested-at, got-at)

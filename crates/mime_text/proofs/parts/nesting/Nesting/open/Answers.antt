@@ -1,4 +1,4 @@
-use Rattle.std.proofs.Common.{arith, length-append}
+use Rattle.mime_text.proofs.Words.{arith, length-append}
 use Rattle.mime_text.proofs.FrameLemmas.{AreNested-push, open-frames}
 use Rattle.mime_text.proofs.parts.nesting.Nesting.open.Goals as goal
 

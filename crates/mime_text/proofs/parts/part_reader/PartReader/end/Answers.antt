@@ -1,5 +1,4 @@
-use Rattle.mime_text.specs.declared.fault.TextFault.TheVariants.{OutOfMemory}
-use Rattle.mime_text.specs.Feeding.{ending}
+use Rattle.mime_text.proofs.Words.{OutOfMemory, ending}
 use Rattle.mime_text.proofs.PassingLemmas.{end-passed, end-stopped, broke-memory_behind, facts-whole}
 use Rattle.mime_text.proofs.parts.part_reader.PartReader.end.Goals as goal
 

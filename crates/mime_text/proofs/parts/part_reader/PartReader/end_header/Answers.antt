@@ -1,10 +1,4 @@
-use Rattle.std.proofs.Common.{ℕ, List, subst}
-use Rattle.header_text.specs.Headers.{fields_of}
-use Rattle.header_text.specs.HeldLines.{HasLines}
-use Rattle.mime_text.specs.declared.fault.TextFault.TheVariants.{OutOfMemory}
-use Rattle.mime_text.specs.declared.parts.part_reader.PartReader.{PartReader}
-use Rattle.mime_text.specs.Types.{shape_of}
-use Rattle.mime_text.specs.Feeding.{Comes, header_texts, given_behind}
+use Rattle.mime_text.proofs.Words.{ℕ, List, subst, fields_of, HasLines, OutOfMemory, PartReader, shape_of, Comes, header_texts, given_behind}
 use Rattle.mime_text.proofs.PassingLemmas.{header-passed, header-stopped, broke-memory_behind}
 use Rattle.mime_text.proofs.parts.part_reader.PartReader.end_header.Goals as goal
 

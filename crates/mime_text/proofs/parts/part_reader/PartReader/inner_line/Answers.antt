@@ -1,8 +1,4 @@
-use Rattle.std.proofs.Common.{◌≡◌, ◌∙◌, ◌++◌, ◌∷◌, ℕ, List, [], refl, sym, arith}
-use Rattle.header_text.specs.HeldLines.{HasLines, taken_of}
-use Rattle.header_text.specs.declared.header.Taken.TheVariants.{More, Ended}
-use Rattle.mime_text.specs.declared.parts.part_reader.PartReader.{PartReader}
-use Rattle.mime_text.specs.Feeding.{Comes, ComesBehindHeader}
+use Rattle.mime_text.proofs.Words.{◌≡◌, ◌∙◌, ◌++◌, ◌∷◌, ℕ, List, [], refl, sym, arith, HasLines, taken_of, More, Ended, PartReader, Comes, ComesBehindHeader}
 use Rattle.mime_text.proofs.PassingLemmas.{on_ok-map, passes-from, leaf-passes, more-passed, ended-comes, facts-ended}
 use Rattle.mime_text.proofs.parts.part_reader.PartReader.inner_line.Goals as goal
 

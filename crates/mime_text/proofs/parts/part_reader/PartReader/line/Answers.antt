@@ -1,7 +1,4 @@
-use Rattle.std.proofs.Common.{◌≡◌, ◌∷◌, sym, subst, arith}
-use Rattle.mime_text.specs.declared.parts.part_reader.PartReader.{PartReader}
-use Rattle.mime_text.specs.Frames.{Nest}
-use Rattle.mime_text.specs.Feeding.{Comes}
+use Rattle.mime_text.proofs.Words.{◌≡◌, ◌∷◌, sym, subst, arith, PartReader, Nest, Comes}
 use Rattle.mime_text.proofs.PassingLemmas.{on_ok-pure, passes-from, passes-before, delimited, facts-delimited}
 use Rattle.mime_text.proofs.parts.part_reader.PartReader.line.Goals as goal
 
