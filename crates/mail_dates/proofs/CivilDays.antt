@@ -1,15 +1,7 @@
 -- The test of a day of the calendar, and the fact.
-use Rattle.std.proofs.Common.{◌≡◌, ℕ, ◌≤◌, Bool, true, Some, None, refl, ap, sym, ◌∙◌, arith, ℤ, pos, negsuc, ◌≤ℤ◌, ◌<ℤ◌, unsigned_abs, to_z, w8}
-use Rattle.std.specs.Prelude.{if◌then◌else◌}
-use Rattle.std.proofs.lemmas.Bool.Decides.{nat_tests}
-use Rattle.std.proofs.lemmas.Int.{ints}
+use Rattle.mail_dates.proofs.Words.{◌≡◌, ℕ, ◌≤◌, Bool, true, Some, None, refl, ap, sym, ◌∙◌, arith, ℤ, pos, negsuc, ◌≤ℤ◌, ◌<ℤ◌, unsigned_abs, to_z, w8, if◌then◌else◌, nat_tests, ints, days_from_civil, days_in_month, IsDate, epoch_day, IsYmd, days_in_month_bounds, days_from_civil-day_count, day_count-lt_year, signed_arith, is_civil_day, day_number}
 use Rattle.jiff_core.specs.declared.civil.date.Date.{Date}
-use Rattle.jiff_core.specs.Calendar.{days_from_civil, days_in_month, IsDate}
-use Rattle.jiff_core.specs.Date.{epoch_day, IsYmd}
-use Rattle.jiff_core.proofs.CalendarLemmas.{days_in_month_bounds, days_from_civil-day_count, day_count-lt_year}
 use Rattle.jiff_core.proofs.DateLemmas.{civil}
-use Rattle.jiff_core.proofs.SignedLemmas.{signed_arith}
-use Rattle.mail_dates.specs.Calendar.{is_civil_day, day_number}
 
 pub record IsCivilDay (year : ℤ) (month day : ℕ) : Type 0 where
   pub year_in : unsigned_abs year ≤ 9999

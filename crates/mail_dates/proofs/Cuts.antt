@@ -1,7 +1,5 @@
 -- Lists that are cut where a test passes.
-use Rattle.std.proofs.Common.{◌≡◌, ◌<◌, ◌≤◌, ◌+◌, ℕ, Bool, true, false, cond, List, [], ◌∷◌, length, take, drop, Some, None, refl, arith}
-use Rattle.std.specs.List.{slice_split, onto_first, position, position_or_len}
-use Rattle.std.proofs.lemmas.Bool.Decides.{nat_tests}
+use Rattle.mail_dates.proofs.Words.{◌≡◌, ◌<◌, ◌≤◌, ◌+◌, ℕ, Bool, true, false, cond, List, [], ◌∷◌, length, take, drop, Some, None, refl, arith, slice_split, onto_first, position, position_or_len, nat_tests}
 use Rattle.std.proofs.lemmas.List.Splits.{slice_split_first}
 
 module _ (p : ℕ → Bool) where

@@ -1,14 +1,7 @@
 -- Day numbers in closed form, in which long rows compute.
-use Rattle.std.proofs.Common.{◌≡◌, ℕ, suc, ◌+◌, ◌≤◌, Bool, true, false, Option, Some, None, refl, arith, ℤ, pos, ◌+ℤ◌, ◌-ℤ◌, unsigned_abs, nat_le}
-use Rattle.std.specs.Prelude.{if◌then◌else◌}
-use Rattle.std.proofs.lemmas.Bool.Decides.{nat_tests}
-use Rattle.std.proofs.lemmas.Int.{ints}
-use Rattle.jiff_core.specs.Calendar.{days_from_civil}
+use Rattle.mail_dates.proofs.Words.{◌≡◌, ℕ, suc, ◌+◌, ◌≤◌, Bool, true, false, Option, Some, None, refl, arith, ℤ, pos, ◌+ℤ◌, ◌-ℤ◌, unsigned_abs, nat_le, if◌then◌else◌, nat_tests, ints, days_from_civil, days_from_civil-day_count, signed_arith, is_civil_day, day_number}
 use Rattle.jiff_core.specs.March.{march_days, march_months}
 use Rattle.jiff_core.proofs.MarchLemmas.{day_count-late, day_count-early}
-use Rattle.jiff_core.proofs.CalendarLemmas.{days_from_civil-day_count}
-use Rattle.jiff_core.proofs.SignedLemmas.{signed_arith}
-use Rattle.mail_dates.specs.Calendar.{is_civil_day, day_number}
 use Rattle.mail_dates.proofs.CivilDays.{IsCivilDay, civil_parts}
 
 -- through years that begin in March, counted from the year -10000

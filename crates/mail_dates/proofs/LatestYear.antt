@@ -1,13 +1,8 @@
 -- The latest year that passes, from a year on down.
-use Rattle.std.proofs.Common.{◌≡◌, ℕ, zero, suc, ◌<◌, ◌≤◌, Bool, true, false, Option, Some, None, refl, sym, ap, ◌∙◌, subst, arith, ℤ, pos, negsuc, ◌+ℤ◌, ◌-ℤ◌, ◌≤ℤ◌, ◌<ℤ◌, unsigned_abs}
-use Rattle.std.specs.Prelude.{◌↔◌, option_map, IsTrue, int_le}
-use Rattle.std.proofs.lemmas.Int.{ints}
+use Rattle.mail_dates.proofs.Words.{◌≡◌, ℕ, zero, suc, ◌<◌, ◌≤◌, Bool, true, false, Option, Some, None, refl, sym, ap, ◌∙◌, subst, arith, ℤ, pos, negsuc, ◌+ℤ◌, ◌-ℤ◌, ◌≤ℤ◌, ◌<ℤ◌, unsigned_abs, ◌↔◌, option_map, IsTrue, int_le, ints, ◌>>=◌, day_number, greatest_below, year_at, latest_year, IsLatestYear, HasNoLater, days_from_to, days_in_by, latest_days_by, begin_by, fit_by}
 use Rattle.mail_dates.specs.declared.days.DaysOfYear.{DaysOfYear}
 use Rattle.mail_dates.specs.declared.days.DaysOfYear.TheVariants as days
-use Rattle.mail_dates.specs.Numbers.{◌>>=◌}
-use Rattle.mail_dates.specs.Calendar.{day_number, greatest_below, year_at, latest_year, IsLatestYear, HasNoLater}
 use Rattle.mail_dates.proofs.CivilDays.{year_within, numbered}
-use Rattle.mail_dates.specs.Periods.{days_from_to, days_in_by, latest_days_by, begin_by, fit_by}
 
 -- the place of a year among those of the calendar, from 1
 abbrev pub place : ℤ → ℕ

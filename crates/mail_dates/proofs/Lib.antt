@@ -1,3 +1,4 @@
+pub mod Words
 pub mod CivilDays
 pub mod Cuts
 pub mod Digits

@@ -1,8 +1,5 @@
 -- Tables of worked rows, which compute by the formula of day numbers. The seconds were computed outside.
-use Rattle.std.proofs.Common.{◌≡◌, ℕ, List, map, Option, Some, Result, Ok, ℤ, pos, ap, ◌∙◌}
-use Rattle.mail_dates.specs.declared.fault.DateFault.{DateFault}
-use Rattle.mail_dates.specs.declared.range.Range.{Range}
-use Rattle.mail_dates.specs.Calendar.{day_number}
+use Rattle.mail_dates.proofs.Words.{◌≡◌, ℕ, List, map, Option, Some, Result, Ok, ℤ, pos, ap, ◌∙◌, DateFault, Range, day_number}
 use Rattle.mail_dates.proofs.Formula.{number_by_formula, day_number-formula}
 
 -- what is read, and what it says

@@ -1,9 +1,5 @@
 -- Worked rows of days, moments and what a range has.
-use Rattle.std.proofs.Common.{◌≡◌, ℕ, true, false, [], ◌∷◌, map, refl, Option, Some, None, ℤ, pos, negsuc}
-use Rattle.std.specs.Prelude.{codes, option_map}
-use Rattle.mail_dates.specs.Calendar.{day_number, month_of, start_of_day, end_of_day}
-use Rattle.mail_dates.specs.Ranges.{has_date}
-use Rattle.mail_dates.specs.declared.range.Range.{Range}
+use Rattle.mail_dates.proofs.Words.{◌≡◌, ℕ, true, false, [], ◌∷◌, map, refl, Option, Some, None, ℤ, pos, negsuc, codes, option_map, day_number, month_of, start_of_day, end_of_day, has_date, Range}
 use Rattle.mail_dates.proofs.RowTables.{Holds, hold}
 
 -- a day by its year, month and date, as the calendar numbers it

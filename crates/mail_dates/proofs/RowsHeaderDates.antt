@@ -1,8 +1,5 @@
 -- Worked rows of header dates: fields, and the second that each says.
-use Rattle.std.proofs.Common.{ℕ, List, [], ◌∷◌, ◌++◌, map, refl, Option, Some, None, ℤ, pos, negsuc}
-use Rattle.std.specs.Prelude.{codes}
-use Rattle.mail_dates.specs.Calendar.{month_of}
-use Rattle.mail_dates.specs.HeaderDates.{date_of, date_by, tokens, time_of, offset_of, hours_west}
+use Rattle.mail_dates.proofs.Words.{ℕ, List, [], ◌∷◌, ◌++◌, map, refl, Option, Some, None, ℤ, pos, negsuc, codes, month_of, date_of, date_by, tokens, time_of, offset_of, hours_west}
 use Rattle.mail_dates.proofs.RowTables.{Holds, hold, all_say}
 
 abbrev Dated : List (List ℕ × ℤ) → Type 0

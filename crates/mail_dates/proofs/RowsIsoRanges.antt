@@ -1,8 +1,5 @@
 -- Worked rows of ranges of ISO 8601 dates.
-use Rattle.std.proofs.Common.{[], ◌∷◌, ◌++◌, refl, Some, None, Err, pos, negsuc}
-use Rattle.std.specs.Prelude.{codes}
-use Rattle.mail_dates.specs.declared.fault.DateFault.TheVariants.{BadDate}
-use Rattle.mail_dates.specs.IsoRanges.{iso_range_of, iso_range_by, iso_days_by}
+use Rattle.mail_dates.proofs.Words.{[], ◌∷◌, ◌++◌, refl, Some, None, Err, pos, negsuc, codes, BadDate, iso_range_of, iso_range_by, iso_days_by}
 use Rattle.mail_dates.proofs.RowTables.{Holds, hold, all_say, between, days}
 
 rows : Holds iso_range_of ((codes "2003-02", days 1044057600 1046476799) ∷ (codes "2003-02-28", days 1046390400 1046476799)

@@ -1,12 +1,5 @@
 -- Worked rows of ranges of days.
-use Rattle.std.proofs.Common.{◌≡◌, ℕ, List, [], ◌∷◌, ◌++◌, map, refl, Some, None, Result, Err, pos, negsuc}
-use Rattle.std.specs.Prelude.{codes}
-use Rattle.mail_dates.specs.declared.fault.DateFault.{DateFault}
-use Rattle.mail_dates.specs.declared.fault.DateFault.TheVariants.{BadDate, BadNumber}
-use Rattle.mail_dates.specs.declared.range.Range.{Range}
-use Rattle.mail_dates.specs.Calendar.{month_of}
-use Rattle.mail_dates.specs.Periods.{period_of, latest_days_by}
-use Rattle.mail_dates.specs.Ranges.{range_at, range_by}
+use Rattle.mail_dates.proofs.Words.{◌≡◌, ℕ, List, [], ◌∷◌, ◌++◌, map, refl, Some, None, Result, Err, pos, negsuc, codes, DateFault, BadDate, BadNumber, Range, month_of, period_of, latest_days_by, range_at, range_by}
 use Rattle.mail_dates.proofs.Formula.{number_by_formula}
 use Rattle.mail_dates.proofs.RowTables.{Holds, hold, all_say, between, days}
 

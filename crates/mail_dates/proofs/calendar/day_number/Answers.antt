@@ -1,8 +1,4 @@
-use Rattle.std.proofs.Common.{◌≡◌, ap, ◌∙◌, arith, rules, refl, w8, w16, w32, to_z, of_z, FitsSigned}
-use Rattle.std.proofs.lemmas.Int.{to_z-of_z}
-use Rattle.jiff_core.specs.Calendar.{IsDate}
-use Rattle.jiff_core.specs.Date.{IsYmd, epoch_day}
-use Rattle.jiff_core.proofs.CalendarLemmas.{days_in_month_bounds}
+use Rattle.mail_dates.proofs.Words.{◌≡◌, ap, ◌∙◌, arith, rules, refl, w8, w16, w32, to_z, of_z, FitsSigned, to_z-of_z, IsDate, IsYmd, epoch_day, days_in_month_bounds}
 use Rattle.mail_dates.proofs.CivilDays.{civil_date, date_civil, day_number_none, day_number_at}
 use Rattle.mail_dates.proofs.calendar.day_number.Goals as goal
 use Rattle.mail_dates.proofs.calendar.day_number.Goals.{then-month-gt12-via-then-month-gt12, then-month-gt12-via-else-month-gt12+then-day-gt31}

@@ -1,5 +1,4 @@
-use Rattle.std.proofs.Common.{◌≡◌, ℤ, of_z, to_z, w32, w64, FitsSigned, arith}
-use Rattle.std.proofs.lemmas.Int.{ints, to_z-of_z}
+use Rattle.mail_dates.proofs.Words.{◌≡◌, ℤ, of_z, to_z, w32, w64, FitsSigned, arith, ints, to_z-of_z}
 use Rattle.mail_dates.proofs.CivilDays.{later_number, none_later}
 use Rattle.mail_dates.proofs.calendar.year_of_day.Goals as goal
 

@@ -1,9 +1,4 @@
-use Rattle.std.proofs.Common.{◌≡◌, ◌<◌, ◌^◌, ℕ, ℤ, pos, ◌+ℤ◌, ◌-ℤ◌, ◌*ℤ◌, of_z, to_z, w16, w32, w64, FitsSigned, arith, rules, refl, sym, ◌∙◌, ap, List, Some}
-use Rattle.std.proofs.lemmas.Int.{ints}
-use Rattle.jiff_core.specs.Calendar.{IsEpochDay}
-use Rattle.mail_dates.specs.Calendar.{day_number, month_of, start_of_day}
-use Rattle.mail_dates.specs.Numbers.{number_in}
-use Rattle.mail_dates.specs.HeaderDates.{year_of, time_of, date_of_parts_by}
+use Rattle.mail_dates.proofs.Words.{◌≡◌, ◌<◌, ◌^◌, ℕ, ℤ, pos, ◌+ℤ◌, ◌-ℤ◌, ◌*ℤ◌, of_z, to_z, w16, w32, w64, FitsSigned, arith, rules, refl, sym, ◌∙◌, ap, List, Some, ints, IsEpochDay, day_number, month_of, start_of_day, number_in, year_of, time_of, date_of_parts_by}
 use Rattle.mail_dates.proofs.header_date.date_of_parts.Goals as goal
 
 -- the parts, read

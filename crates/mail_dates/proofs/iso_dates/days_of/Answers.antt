@@ -1,8 +1,4 @@
-use Rattle.std.proofs.Common.{◌≡◌, ℕ, List, ◌∷◌, None, sym, ap, ◌∙◌}
-use Rattle.std.specs.List.{slice_split}
-use Rattle.mail_dates.specs.Calendar.{day_number}
-use Rattle.mail_dates.specs.Ranges.{is_dash}
-use Rattle.mail_dates.specs.IsoRanges.{iso_days_by, iso_parts_by}
+use Rattle.mail_dates.proofs.Words.{◌≡◌, ℕ, List, ◌∷◌, None, sym, ap, ◌∙◌, slice_split, day_number, is_dash, iso_days_by, iso_parts_by}
 use Rattle.mail_dates.proofs.Cuts.{split_front}
 use Rattle.mail_dates.proofs.iso_dates.days_of.Goals as goal
 

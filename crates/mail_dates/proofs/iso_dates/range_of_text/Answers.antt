@@ -1,7 +1,4 @@
-use Rattle.std.proofs.Common.{◌≡◌, ℕ, List, ◌∷◌, None, sym, ap, ◌∙◌, arith}
-use Rattle.std.specs.List.{slice_split}
-use Rattle.mail_dates.specs.Calendar.{day_number}
-use Rattle.mail_dates.specs.IsoRanges.{is_dot, iso_range_of_parts_by}
+use Rattle.mail_dates.proofs.Words.{◌≡◌, ℕ, List, ◌∷◌, None, sym, ap, ◌∙◌, arith, slice_split, day_number, is_dot, iso_range_of_parts_by}
 use Rattle.mail_dates.proofs.Cuts.{split_front}
 use Rattle.mail_dates.proofs.iso_dates.range_of_text.Goals as goal
 

@@ -1,5 +1,4 @@
-use Rattle.std.proofs.Common.{arith}
-use Rattle.std.proofs.Math.Nat.{pow-le-pow_right}
+use Rattle.mail_dates.proofs.Words.{arith, pow-le-pow_right}
 use Rattle.mail_dates.proofs.number.number_in.Goals as goal
 
 pub returns-clause-bound : goal.returns-clause-bound

@@ -1,8 +1,4 @@
-use Rattle.std.proofs.Common.{◌≡◌, ℕ, List, [], ◌∷◌, Err, sym, ◌∙◌, ap}
-use Rattle.std.specs.List.{slice_split}
-use Rattle.mail_dates.specs.declared.fault.DateFault.TheVariants.{BadDate}
-use Rattle.mail_dates.specs.Calendar.{day_number}
-use Rattle.mail_dates.specs.Ranges.{range_at, range_of_parts_by, range_of_period_by, range_between_by, is_dash}
+use Rattle.mail_dates.proofs.Words.{◌≡◌, ℕ, List, [], ◌∷◌, Err, sym, ◌∙◌, ap, slice_split, BadDate, day_number, range_at, range_of_parts_by, range_of_period_by, range_between_by, is_dash}
 use Rattle.mail_dates.proofs.Cuts.{split_front}
 use Rattle.mail_dates.proofs.range_of_days.range_of.Goals as goal
 

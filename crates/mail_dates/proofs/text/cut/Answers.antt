@@ -1,5 +1,4 @@
-use Rattle.std.proofs.Common.{◌==◌, arith}
-use Rattle.std.proofs.lemmas.List.{take_rest}
+use Rattle.mail_dates.proofs.Words.{◌==◌, arith, take_rest}
 use Rattle.mail_dates.proofs.Cuts.{split_none, split_some}
 use Rattle.mail_dates.proofs.text.cut.Goals as goal
 

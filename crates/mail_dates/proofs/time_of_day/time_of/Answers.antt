@@ -1,6 +1,4 @@
-use Rattle.std.proofs.Common.{◌≡◌, ℕ, List, [], ◌∷◌, Option, None, refl, sym, ◌∙◌, ap}
-use Rattle.std.specs.List.{slice_split}
-use Rattle.mail_dates.specs.HeaderDates.{time_of, time_by, time_of_parts, is_colon}
+use Rattle.mail_dates.proofs.Words.{◌≡◌, ℕ, List, [], ◌∷◌, Option, None, refl, sym, ◌∙◌, ap, slice_split, time_of, time_by, time_of_parts, is_colon}
 use Rattle.mail_dates.proofs.Cuts.{split_front}
 use Rattle.mail_dates.proofs.time_of_day.time_of.Goals as goal
 

@@ -1,6 +1,4 @@
-use Rattle.std.proofs.Common.{◌≡◌, ◌==◌, ℕ, List, [], ◌∷◌, true, false, length, refl, sym, ◌∙◌}
-use Rattle.std.specs.List.{slice_split}
-use Rattle.mail_dates.specs.HeaderDates.{tokens, is_gap}
+use Rattle.mail_dates.proofs.Words.{◌≡◌, ◌==◌, ℕ, List, [], ◌∷◌, true, false, length, refl, sym, ◌∙◌, slice_split, tokens, is_gap}
 use Rattle.mail_dates.proofs.token.next_token.Goals as goal
 
 -- an empty piece is no token

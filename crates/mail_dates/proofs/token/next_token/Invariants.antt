@@ -1,5 +1,4 @@
-use Rattle.std.proofs.Common.{◌≡◌, length}
-use Rattle.mail_dates.specs.HeaderDates.{tokens}
+use Rattle.mail_dates.proofs.Words.{◌≡◌, length, tokens}
 use Rattle.mail_dates.proofs.token.next_token.Given as goal
 
 abbrev pub invariant-loop-front : goal.invariant-loop-front

@@ -1,7 +1,4 @@
-use Rattle.std.proofs.Common.{◌≡◌, ◌<◌, ◌*◌, ℕ, ℤ, pos, neg_ℤ, ◌-ℤ◌, ◌*ℤ◌, of_z, to_z, w32, FitsSigned, arith, rules, ◌∙◌, ap, Option}
-use Rattle.std.specs.Prelude.{unwrap_or}
-use Rattle.std.proofs.lemmas.Int.{ints, to_z-of_z}
-use Rattle.mail_dates.specs.HeaderDates.{offset_of, hours_west}
+use Rattle.mail_dates.proofs.Words.{◌≡◌, ◌<◌, ◌*◌, ℕ, ℤ, pos, neg_ℤ, ◌-ℤ◌, ◌*ℤ◌, of_z, to_z, w32, FitsSigned, arith, rules, ◌∙◌, ap, Option, unwrap_or, ints, to_z-of_z, offset_of, hours_west}
 use Rattle.mail_dates.proofs.zone.offset_of.Goals as goal
 
 west : (hours : ℕ) (z : ℤ) → hours < 9 → z ≡ pos hours → to_z w32 (of_z w32 (pos 0 -ℤ to_z w32 (of_z w32 (to_z w32 (of_z w32 z) *ℤ pos 3600)))) ≡ neg_ℤ (pos (hours * 3600))

@@ -1,7 +1,4 @@
-use Rattle.std.proofs.Common.{◌≡◌, ℤ, negsuc, ◌≤ℤ◌, ◌<ℤ◌, true, false, of_z, to_z, w16, w32, arith, sym, ap, ◌∙◌}
-use Rattle.std.proofs.lemmas.Int.{ints, to_z-of_z}
-use Rattle.mail_dates.specs.Calendar.{day_number}
-use Rattle.mail_dates.specs.Periods.{days_in_by, begin_by}
+use Rattle.mail_dates.proofs.Words.{◌≡◌, ℤ, negsuc, ◌≤ℤ◌, ◌<ℤ◌, true, false, of_z, to_z, w16, w32, arith, sym, ap, ◌∙◌, ints, to_z-of_z, day_number, days_in_by, begin_by}
 use Rattle.mail_dates.proofs.LatestYear.{search_start, search_next, search_found, search_over}
 use Rattle.mail_dates.proofs.days.DaysOfYear.latest.Goals as goal
 use lib.Signed.{le_z}
