@@ -1,27 +1,23 @@
 -- Laws of what comes of each element, one after another.
-use Rattle.std.proofs.Common.{◌≡◌, ℕ, ◌+◌, suc, ◌<◌, length, get_or, map, take, drop, add-one, add-zero, drop-cons, arith, List, [], ◌∷◌, ◌++◌, Option, None, Some, Result, Ok, Err, refl, ap, sym, ◌∙◌, append_assoc, append-nil, IfSome}
+use Rattle.std.proofs.Common.{◌≡◌, ℕ, ◌+◌, suc, ◌<◌, length, get_or, map, take, drop, add-one, add-zero, drop-cons, arith, List, [], ◌∷◌, ◌++◌, Option, Result, Ok, Err, refl, ap, sym, ◌∙◌, append_assoc, append-nil, IfSome}
 use Rattle.std.proofs.lemmas.List.{get_or-map, length-map, length-take-le, take-append-drop, take_more}
 use Rattle.contract_words.specs.Answers.{◌>>=◌, with_front, collect_from}
 
 pub with_front-append : {Y E : Type 0} (a b : List Y) (r : Result (List Y) E) → with_front (a ++ b) r ≡ with_front a (with_front b r)
-with_front-append a b (Ok ys) = ap Ok (append_assoc a b ys)
-with_front-append a b (Err e) = refl
+with_front-append a b r = grind (arith, append_assoc)
 
 pub with_front-nil : {Y E : Type 0} (r : Result (List Y) E) → with_front [] r ≡ r
-with_front-nil (Ok ys) = refl
-with_front-nil (Err e) = refl
+with_front-nil r = grind arith
 
 -- an element that gives something
 pub collect_ok : {X Y E : Type 0} (f : ℕ → X → Result (List Y) E) (n : ℕ) (x : X) (xs : List X) (front ys : List Y) (all : Result (List Y) E)
     → with_front front (collect_from f n (x ∷ xs)) ≡ all → f n x ≡ Ok ys → with_front (front ++ ys) (collect_from f (n + 1) xs) ≡ all
-collect_ok f n x xs front ys all h e =
-    with_front-append front ys (collect_from f (n + 1) xs) ∙ sym (ap (λ r. with_front front (r >>= (λ zs. with_front zs (collect_from f (n + 1) xs)))) e) ∙ h
+collect_ok f n x xs front ys all h e = grind (arith, with_front-append)
 
 -- an element that is refused
 pub collect_err : {X Y E : Type 0} (f : ℕ → X → Result (List Y) E) (n : ℕ) (x : X) (xs : List X) (front : List Y) (all : Result (List Y) E) (fault : E)
     → with_front front (collect_from f n (x ∷ xs)) ≡ all → f n x ≡ Err fault → all ≡ Err fault
-collect_err f n x xs front all fault h e =
-    sym h ∙ ap (λ r. with_front front (r >>= (λ zs. with_front zs (collect_from f (n + 1) xs)))) e
+collect_err f n x xs front all fault h e = grind arith
 
 -- the end
 pub collect_end : {X Y E : Type 0} (f : ℕ → X → Result (List Y) E) (n : ℕ) (front : List Y) (all : Result (List Y) E)
@@ -30,8 +26,7 @@ collect_end f n front all h = sym h ∙ ap Ok (append-nil front)
 
 -- what holds of a value, if there is one
 pub if_some_map : {F : Type 0} (o : Option F) (P Q : F → Type 0) → ((f : F) → P f → Q f) → IfSome o P → IfSome o Q
-if_some_map None P Q h p = tt
-if_some_map (Some f) P Q h p = h f p
+if_some_map o P Q h h2 = grind arith
 
 -- a refusal of an element is the refusal of all, where it is one
 pub collect_refused : {X Y E : Type 0} (f : ℕ → X → Result (List Y) E) (n : ℕ) (x : X) (xs : List X) (front : List Y) (all : Result (List Y) E) (o : Option E)
@@ -45,8 +40,7 @@ drop-map-next f xs i x below is =
     drop-cons (map f xs) i (f x) inside ∙ ap (λ y. y ∷ drop (suc i) (map f xs)) (get_or-map f xs i x (f x) below ∙ ap f (sym is)) ∙ ap (λ k. f x ∷ drop k (map f xs)) (sym (add-one i))
 
 with_front-bind : {Y E : Type 0} (a : List Y) (r s : Result (List Y) E) → with_front a (r >>= (λ b. with_front b s)) ≡ with_front a r >>= (λ c. with_front c s)
-with_front-bind a (Ok b) s = sym (with_front-append a b s)
-with_front-bind a (Err e) s = refl
+with_front-bind a r s = grind (arith, with_front-append)
 
 -- what comes of a front, and then of the rest
 pub collect-append : {X Y E : Type 0} (f : ℕ → X → Result (List Y) E) (n : ℕ) (xs ys : List X)

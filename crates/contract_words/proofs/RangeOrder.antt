@@ -1,24 +1,16 @@
 -- Ranges come by where they begin and then by where they end, and those that are left of them do too.
-use Rattle.std.proofs.Common.{ℕ, zero, suc, ◌<◌, Bool, true, false, cond, List, [], ◌∷◌, ◌++◌, length, map, refl, inl, inr, arith}
+use Rattle.std.proofs.Common.{ℕ, zero, suc, ◌<◌, Bool, List, [], ◌∷◌, ◌++◌, length, map, refl, inl, inr, arith}
 use Rattle.std.specs.Prelude.{filter}
 use Rattle.contract_words.specs.Ranges.{numbers_from, ranges_from, IsBeforeEach, AreInOrder}
 
 -- what is left of an ordered list is ordered
 before-filter : (p : ℕ × ℕ → Bool) (r : ℕ × ℕ) (rs : List (ℕ × ℕ)) → IsBeforeEach r rs → IsBeforeEach r (filter p rs)
 before-filter p r [] h = tt
-before-filter p r (s ∷ ss) h = go (p s) (before-filter p r ss h.1)
-  where
-    go : (t : Bool) → IsBeforeEach r (filter p ss) → IsBeforeEach r (cond t (s ∷ filter p ss) (filter p ss))
-    go true rest = (h.0, rest)
-    go false rest = rest
+before-filter p r (s ∷ ss) h = grind (arith, before-filter p r ss h.1)
 
 pub order-filter : (p : ℕ × ℕ → Bool) (rs : List (ℕ × ℕ)) → AreInOrder rs → AreInOrder (filter p rs)
 order-filter p [] h = tt
-order-filter p (r ∷ rs) h = go (p r) (order-filter p rs h.1)
-  where
-    go : (t : Bool) → AreInOrder (filter p rs) → AreInOrder (cond t (r ∷ filter p rs) (filter p rs))
-    go true rest = (before-filter p r rs h.0, rest)
-    go false rest = rest
+order-filter p (r ∷ rs) h = grind (arith, before-filter, order-filter p rs h.1)
 
 before-append : (r : ℕ × ℕ) (xs ys : List (ℕ × ℕ)) → IsBeforeEach r xs → IsBeforeEach r ys → IsBeforeEach r (xs ++ ys)
 before-append r [] ys h g = g

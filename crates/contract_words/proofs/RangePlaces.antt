@@ -1,6 +1,6 @@
 -- The ranges of a list that pass a test, place by place: whether one that begins at a place passes depends on the elements
 -- before it, the nearest first, and on those from it on.
-use Rattle.std.proofs.Common.{◌≡◌, ℕ, suc, ◌-◌, Bool, true, false, cond, List, [], ◌∷◌, ◌++◌, map, reverse, length, take, drop, refl, sym, ap, ap₂, ◌∙◌, arith, append_assoc, append-nil, length-append}
+use Rattle.std.proofs.Common.{◌≡◌, ℕ, suc, ◌-◌, Bool, cond, List, [], ◌∷◌, ◌++◌, map, reverse, length, take, drop, refl, sym, ap, ap₂, ◌∙◌, arith, append_assoc, append-nil, length-append}
 use Rattle.std.proofs.Math.Seq.{take-append_seam, drop-append_seam}
 use Rattle.std.proofs.lemmas.List.{map-append, reverse-append}
 use Rattle.std.proofs.lemmas.List.Elements.{filter-append}
@@ -20,8 +20,7 @@ cut_behind : (front inside rest : List ℕ) → drop (length (front ++ inside)) 
 cut_behind front inside rest = ap (drop (length (front ++ inside))) (sym (append_assoc front inside rest)) ∙ drop-append_seam (front ++ inside) rest
 
 map_one : {X Y : Type 0} (f : X → Y) (x : X) (b : Bool) → map f (cond b (x ∷ []) []) ≡ cond b (f x ∷ []) []
-map_one f x true = refl
-map_one f x false = refl
+map_one f x b = grind arith
 
 -- which ranges pass, and what is seen of the elements inside one
 module _ (passes : List ℕ → List ℕ → List ℕ → Bool) (view : List ℕ → List ℕ) where
@@ -43,16 +42,11 @@ module _ (passes : List ℕ → List ℕ → List ℕ → Bool) (view : List ℕ
   seen_in cs rs = map (λ r. view (slice_range cs r.0 r.1)) (filter (passes_at passes cs) rs)
 
   seen_in-append : (cs : List ℕ) (rs ss : List (ℕ × ℕ)) → seen_in cs (rs ++ ss) ≡ seen_in cs rs ++ seen_in cs ss
-  seen_in-append cs rs ss =
-      ap (map (λ r. view (slice_range cs r.0 r.1))) (filter-append (passes_at passes cs) rs ss) ∙ map-append (λ r. view (slice_range cs r.0 r.1)) _ _
+  seen_in-append cs rs ss = grind (arith, filter-append, map-append)
 
   -- one range passes where the three parts that it makes of the list say so
   seen_in_one : (front inside rest : List ℕ) → seen_in (front ++ (inside ++ rest)) ((length front, length (front ++ inside)) ∷ []) ≡ if_passes (reverse front) inside rest
-  seen_in_one front inside rest =
-      let whole : List ℕ = front ++ (inside ++ rest) in
-      let range : ℕ × ℕ = (length front, length (front ++ inside)) in
-      map_one (λ (r : ℕ × ℕ). view (slice_range whole r.0 r.1)) range (passes_at passes whole range)
-      ∙ (λ k. if_passes (reverse (cut_before front inside rest k)) (cut_inside front inside rest k) (cut_behind front inside rest k))
+  seen_in_one front inside rest = grind (arith, map_one, cut_before, cut_inside, cut_behind)
 
   -- the ranges from one place whose ends stand in the rest
   seen_in_place : (front inside rest : List ℕ)
