@@ -8,7 +8,7 @@ abbrev Line : Type 0
 Line = List ℕ
 
 module _ {S : Type 0} (takes : S → TextKind → List ℕ → S → Type 0) (refuses : S → TextKind → List ℕ → SinkFault → S → Type 0) where
-  pub feeds : (m n : MessageText) (l : Line) (s t : S) → n.failed ≡ m.failed → Passed takes refuses (Comes m.reader) (Comes n.reader) (λ c ms. c (l ∷ ms)) s t
+  pub feeds : (m n : MessageText) (l : Line) (s t : S) → n.ended ≡ m.ended → Passed takes refuses (Comes m.reader) (Comes n.reader) (λ c ms. c (l ∷ ms)) s t
       → ((ls : List Line) → KnowsFacts m.reader ls → KnowsFacts n.reader (ls ++ l ∷ [])) → Feeds takes refuses m n l s t
   feeds m n l s t q h k = grind (arith, append_assoc)
 

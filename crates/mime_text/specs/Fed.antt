@@ -9,13 +9,13 @@ use Rattle.mime_text.specs.Texts.{texts_of_message}
 use Rattle.mime_text.specs.Feeding.{Comes, KnowsFacts}
 
 -- an earlier call has failed, or the message has ended
-abbrev pub has_failed : MessageText → Bool
-has_failed m = m.failed
+abbrev pub has_ended : MessageText → Bool
+has_ended m = m.ended
 
 -- It was fed these lines and gave these pairs: whatever lines come, the message's texts are these pairs and those that it still
 -- gives. What it knows of the message's facts is right too.
 pub record Fed (m : MessageText) (ls : List (List ℕ)) (ps : List Pair) : Type 0 where
-  pub live : m.failed ≡ false
+  pub live : m.ended ≡ false
   pub coming : Coming
   pub comes : Comes m.reader coming
   pub texts : (ms : List (List ℕ)) → texts_of_message (ls ++ ms) ≡ ps ++ coming ms

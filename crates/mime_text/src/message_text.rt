@@ -4,7 +4,7 @@ ghost use Rattle.mbox_cutter.specs.Lines.{length_before_feed};
 ghost use Rattle.header_text.specs.Headers.{fields_of};
 ghost use Rattle.mime_text.specs.MessageFacts.{HasSizedIds, facts_of};
 ghost use Rattle.mime_text.specs.Sinks.{Pair};
-ghost use Rattle.mime_text.specs.Fed.{Fed, Feeds, FeedsPart, Finishes, FinishesPart, has_failed};
+ghost use Rattle.mime_text.specs.Fed.{Fed, Feeds, FeedsPart, Finishes, FinishesPart, has_ended};
 ghost use Rattle.mime_text.specs.Limits.{most_in_line};
 
 use crate::fault::TextFault;
@@ -22,7 +22,7 @@ use std::mem::replace;
 pub struct MessageText {
     reader: PartReader,
     // No more may come: an earlier call has failed, or the message has ended.
-    failed: bool,
+    ended: bool,
 }
 
 impl MessageText {
@@ -32,7 +32,7 @@ impl MessageText {
     {
         Ok(MessageText {
             reader: PartReader::new(alloc),
-            failed: false,
+            ended: false,
         })
     }
 
@@ -44,20 +44,20 @@ impl MessageText {
         requires last { length line.now ≤ length_before_feed line.now + 1 }
         ensures fed { OnOk result
             (Feeds S.takes S.refuses self.old self.new line.now sink.old sink.new) }
-        ensures stopped { has_failed self.old ≡ false
+        ensures stopped { has_ended self.old ≡ false
             → IfErr result
             (λ fault. FeedsPart S.takes S.refuses self.old line.now fault sink.old sink.new) }
-        ensures fails { OnErr result (has_failed self.new ≡ true) }
-        ensures again { has_failed self.old ≡ true
+        ensures fails { OnErr result (has_ended self.new ≡ true) }
+        ensures again { has_ended self.old ≡ true
             → (result ≡ Err TextFault.Failed) × (sink.new ≡ sink.old) }
     {
-        if self.failed {
+        if self.ended {
             return Err(TextFault::Failed);
         }
         match self.reader.line(line, sink) {
             Ok(()) => Ok(()),
             Err(fault) => {
-                self.failed = true;
+                self.ended = true;
                 Err(fault)
             }
         }
@@ -70,14 +70,14 @@ impl MessageText {
         ensures facts { IfOk result (λ facts. (ls : List (List ℕ)) (ps : List Pair)
             → Fed self.old ls ps → facts ≡ facts_of (fields_of ls)) }
         ensures sizes { IfOk result HasSizedIds }
-        ensures stopped { has_failed self.old ≡ false
+        ensures stopped { has_ended self.old ≡ false
             → IfErr result
             (λ fault. FinishesPart S.takes S.refuses self.old fault sink.old sink.new) }
-        ensures again { has_failed self.old ≡ true
+        ensures again { has_ended self.old ≡ true
             → (result ≡ Err TextFault.Failed) × (sink.new ≡ sink.old) }
-        ensures over { has_failed self.new ≡ true }
+        ensures over { has_ended self.new ≡ true }
     {
-        if replace(&mut self.failed, true) {
+        if replace(&mut self.ended, true) {
             return Err(TextFault::Failed);
         }
         self.reader.end(sink)
@@ -89,7 +89,7 @@ impl MessageText {
         ensures { Fed self.new [] [] }
     {
         self.reader.begin_again();
-        self.failed = false;
+        self.ended = false;
     }
 
     /// Ends the last message that is read, as `finish` does.
@@ -98,9 +98,9 @@ impl MessageText {
         ensures facts { IfOk result (λ facts. (ls : List (List ℕ)) (ps : List Pair)
             → Fed self ls ps → facts ≡ facts_of (fields_of ls)) }
         ensures sizes { IfOk result HasSizedIds }
-        ensures stopped { has_failed self ≡ false
+        ensures stopped { has_ended self ≡ false
             → IfErr result (λ fault. FinishesPart S.takes S.refuses self fault sink.old sink.new) }
-        ensures again { has_failed self ≡ true
+        ensures again { has_ended self ≡ true
             → (result ≡ Err TextFault.Failed) × (sink.new ≡ sink.old) }
     {
         self.finish(sink)
