@@ -79,7 +79,7 @@ pub fn once_run<S: Source, A: Archives, O: Out>(
 
     // A refusal of words, rcfile or query is answered whatever the devices hold. Each fault is one that such a run can have; it
     // has its status and no messages. An answer has 0 with messages and 1 without.
-    ensures asked { RefusesAsked (asks words.now rc.now now) result.fault }
+    ensures no_other_cause { RefusesAsked (asks words.now rc.now now) result.fault }
     ensures kinds { IfSome result.fault IsOnceFault }
     ensures status { IsConsistent result result.fault }
 
@@ -128,7 +128,7 @@ fn index_wanted<S: Source>(
         (IsUnindexed (asks words.now rc.now now) bytes) }
     ensures refused { OnTrue (is_early (fault_in result) || is_err (asks words.now rc.now now))
         (sources.new ≡ sources.old) }
-    ensures asked { RefusesAsked (asks words.now rc.now now) (fault_in result) }
+    ensures no_other_cause { RefusesAsked (asks words.now rc.now now) (fault_in result) }
     ensures own { IfErr result (λ fault. IsOnceFault fault) }
     ensures source_failed { CountsSources (fault_in result)
         (map S.failures sources.old) (map S.failures sources.new) }

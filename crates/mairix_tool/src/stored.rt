@@ -95,7 +95,7 @@ pub fn search_run<A: Archives, O: Out>(
 
     // A fault of words, rcfile, query, index or its version is answered only where that is refused with it. Each fault is one that
     // a search can have; it has its status and no messages. An answer has 0 with messages and 1 without.
-    ensures opened { IfSome result.fault
+    ensures no_other_cause { IfSome result.fault
         (IsForNoOtherCause (asks words.now rc.now now) index.now) }
     ensures kinds { IfSome result.fault IsSearchFault }
     ensures status { IsConsistent result result.fault }

@@ -21,8 +21,8 @@ returns-in-Err-clause-verified g c = λ w before bytes is verify paths sound who
     stored-verified w c.args.index.now few before bytes verify sound file apart c.of-in-Err.result (g.O.Out.taken c.args.out.now) (g.O.Out.taken c.args.out.now)
     (rw is at (returns-in-Err-clause-reply g c bytes holds))
 
-pub returns-in-Err-clause-opened : goal.returns-in-Err-clause-opened
-returns-in-Err-clause-opened g c = grind (arith, refused-for, string_bytes)
+pub returns-in-Err-clause-no_other_cause : goal.returns-in-Err-clause-no_other_cause
+returns-in-Err-clause-no_other_cause g c = grind (arith, refused-for, string_bytes)
 
 pub answer_opened-requires-clause-digests : goal.answer_opened-requires-clause-digests
 answer_opened-requires-clause-digests g c = has-digests (wanted c.in-Ok.found.wanted) c.in-Ok.found.view c.in-Ok.ensures.table.0.version c.in-Ok.ensures.fresh
@@ -55,5 +55,5 @@ returns-in-Ok-clause-counted g c = grind (arith, stored-counted)
 pub returns-in-Ok-clause-read : goal.returns-in-Ok-clause-read
 returns-in-Ok-clause-read g c = grind (arith, stored-read)
 
-pub returns-in-Ok-clause-opened : goal.returns-in-Ok-clause-opened
-returns-in-Ok-clause-opened g c = grind (arith, answered-for, string_bytes)
+pub returns-in-Ok-clause-no_other_cause : goal.returns-in-Ok-clause-no_other_cause
+returns-in-Ok-clause-no_other_cause g c = grind (arith, answered-for, string_bytes)
