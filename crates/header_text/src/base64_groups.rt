@@ -49,7 +49,8 @@ fn symbols_in_front(text: &[u8]) -> usize
 pub fn decode_groups(symbols: &[u8], into: &mut Vec<u8>) -> Result<(), AllocError>
     requires some { 0 < length symbols.now }
     requires groups { length symbols.now % 4 ≡ 0 }
-    requires symbols { (k : ℕ) → k < length symbols.now → is_symbol_of (slice_index symbols.now k) ≡ true }
+    requires symbols { (k : ℕ) → k < length symbols.now
+        → is_symbol_of (slice_index symbols.now k) ≡ true }
     ensures { OnOk result (into.new.items ≡ into.old.items ++ bytes_of_symbols symbols.now) }
 {
     let start = into.len();
@@ -63,7 +64,8 @@ pub fn decode_groups(symbols: &[u8], into: &mut Vec<u8>) -> Result<(), AllocErro
 fn decode_behind(symbols: &[u8], into: &mut [u8], start: usize)
     requires some { 0 < length symbols.now }
     requires groups { length symbols.now % 4 ≡ 0 }
-    requires symbols { (k : ℕ) → k < length symbols.now → is_symbol_of (slice_index symbols.now k) ≡ true }
+    requires symbols { (k : ℕ) → k < length symbols.now
+        → is_symbol_of (slice_index symbols.now k) ≡ true }
     requires room { length into.old ≡ start + length symbols.now / 4 * 3 }
     ensures { into.new ≡ take start into.old ++ bytes_of_symbols symbols.now }
 {

@@ -18,7 +18,9 @@ pub struct Base64 {
 /// Holds one symbol more, or decodes its group.
 fn hold(held: Held, symbol: u8, into: &mut Vec<u8>) -> Result<Held, AllocError>
     requires { is_symbol_of symbol ≡ true }
-    ensures { IfOk result (λ after. (later : List ℕ) → into.new.items ++ bytes_of_symbols (symbols_of after ++ later) ≡ into.old.items ++ bytes_of_symbols (symbols_of held ++ symbol ∷ later)) }
+    ensures { IfOk result (λ after. (later : List ℕ)
+        → into.new.items ++ bytes_of_symbols (symbols_of after ++ later)
+        ≡ into.old.items ++ bytes_of_symbols (symbols_of held ++ symbol ∷ later)) }
 {
     let mut symbols = held.symbols;
     symbols[held.count] = symbol;
@@ -48,7 +50,9 @@ fn groups_ahead(held: Held, text: &[u8]) -> usize
 
 /// Decodes a text without `=` behind the symbols that are held.
 fn decode_text(held: Held, text: &[u8], into: &mut Vec<u8>) -> Result<Held, AllocError>
-    ensures { IfOk result (λ after. (later : List ℕ) → into.new.items ++ bytes_of_symbols (symbols_of after ++ later) ≡ into.old.items ++ bytes_of_symbols (symbols_of held ++ (text.now ++ later))) }
+    ensures { IfOk result (λ after. (later : List ℕ)
+        → into.new.items ++ bytes_of_symbols (symbols_of after ++ later)
+        ≡ into.old.items ++ bytes_of_symbols (symbols_of held ++ (text.now ++ later))) }
 {
     let mut held = held;
     let mut rest = text;
@@ -85,7 +89,8 @@ impl Base64 {
     /// Reads a piece, and adds the bytes of the groups that it completes: bytes outside the alphabet are skipped, and the
     /// text ends at its first `=`. What the buffer and the reader hold after an error isn't said.
     pub fn push(&mut self, piece: &[u8], into: &mut Vec<u8>) -> Result<(), AllocError>
-        ensures { OnOk result ((later : List ℕ) → into.new.items ++ bytes_to_come self.new later ≡ into.old.items ++ bytes_to_come self.old (piece.now ++ later)) }
+        ensures { OnOk result ((later : List ℕ) → into.new.items ++ bytes_to_come self.new later
+            ≡ into.old.items ++ bytes_to_come self.old (piece.now ++ later)) }
     {
         if self.ended {
             return Ok(());

@@ -133,8 +133,10 @@ fn word_behind(bytes: &[u8]) -> Option<(EncodedWord<'_>, &[u8])>
 
 /// The leftmost encoded word.
 fn find_word(value: &[u8]) -> Option<Found<'_>>
-    ensures pieces { MatchOption result (pieces value.now ≡ no_word value.now) (λ f. pieces value.now ≡ word_first (shown_found f) f.later.now) }
-    ensures smaller { IfSome result (λ f. length f.between.now + length f.word.text.now + length f.later.now < length value.now) }
+    ensures pieces { MatchOption result (pieces value.now ≡ no_word value.now)
+        (λ f. pieces value.now ≡ word_first (shown_found f) f.later.now) }
+    ensures smaller { IfSome result (λ f. length f.between.now + length f.word.text.now + length
+        f.later.now < length value.now) }
 {
     let mut rest = value;
     while let Some((_, behind)) = cut_at(b'=', rest) {
@@ -152,10 +154,15 @@ fn find_word(value: &[u8]) -> Option<Found<'_>>
 
 /// Adds the text before an encoded word: between two of them nothing, where it is spaces and tabs alone.
 fn push_between(bytes: &[u8], follows_word: bool, into: &mut String) -> Result<(), AllocError>
-    ensures text { OnOk result (string_bytes into.new ≡ string_bytes into.old ++ (if follows_word then text_between bytes.now else plain_text bytes.now)) }
-    ensures size { OnOk result (length (string_bytes into.new) ≤ length (string_bytes into.old) + 3 * length bytes.now) }
+    ensures text { OnOk result (string_bytes into.new
+        ≡ string_bytes into.old ++ (if follows_word then text_between bytes.now else plain_text
+        bytes.now)) }
+    ensures size { OnOk result (length (string_bytes into.new)
+        ≤ length (string_bytes into.old) + 3 * length bytes.now) }
     ensures kept { Extends (string_bytes into.old) (string_bytes into.new) }
-    ensures front { Extends (string_bytes into.new) (string_bytes into.old ++ (if follows_word then text_between bytes.now else plain_text bytes.now)) }
+    ensures front { Extends (string_bytes into.new)
+        (string_bytes into.old ++ (if follows_word then text_between bytes.now else plain_text
+        bytes.now)) }
 {
     if follows_word && are_blanks(bytes) {
         return Ok(());
@@ -176,10 +183,13 @@ fn push_word(
     scratch: &mut Vec<u8>,
     into: &mut String,
 ) -> Result<(), AllocError>
-    ensures text { OnOk result (string_bytes into.new ≡ string_bytes into.old ++ word_text (shown_word word.now)) }
-    ensures size { OnOk result (length (string_bytes into.new) ≤ length (string_bytes into.old) + 3 * length word.now.text.now) }
+    ensures text { OnOk result (string_bytes into.new
+        ≡ string_bytes into.old ++ word_text (shown_word word.now)) }
+    ensures size { OnOk result (length (string_bytes into.new)
+        ≤ length (string_bytes into.old) + 3 * length word.now.text.now) }
     ensures kept { Extends (string_bytes into.old) (string_bytes into.new) }
-    ensures front { Extends (string_bytes into.new) (string_bytes into.old ++ word_text (shown_word word.now)) }
+    ensures front { Extends (string_bytes into.new)
+        (string_bytes into.old ++ word_text (shown_word word.now)) }
 {
     scratch.clear();
     if is_q(word.encoding) {
@@ -199,10 +209,13 @@ pub fn decode_words_into(
     scratch: &mut Vec<u8>,
     into: &mut String,
 ) -> Result<(), AllocError>
-    ensures text { OnOk result (string_bytes into.new ≡ string_bytes into.old ++ decoded unfolded.now) }
-    ensures size { OnOk result (length (string_bytes into.new) ≤ length (string_bytes into.old) + 3 * length unfolded.now) }
+    ensures text { OnOk result (string_bytes into.new
+        ≡ string_bytes into.old ++ decoded unfolded.now) }
+    ensures size { OnOk result (length (string_bytes into.new)
+        ≤ length (string_bytes into.old) + 3 * length unfolded.now) }
     ensures kept { Extends (string_bytes into.old) (string_bytes into.new) }
-    ensures front { Extends (string_bytes into.new) (string_bytes into.old ++ decoded unfolded.now) }
+    ensures front { Extends (string_bytes into.new)
+        (string_bytes into.old ++ decoded unfolded.now) }
 {
     let mut rest = unfolded;
     let mut follows_word = false;

@@ -55,7 +55,8 @@ fn after_name(line: &[u8]) -> &[u8]
 
 /// A name that isn't empty, then what begins with a colon.
 fn named<'a>(name: &'a [u8], rest: &'a [u8]) -> Option<Field<'a>>
-    ensures { option_map (λ f. record { name = f.name.now; body = f.body.now }) result ≡ named_of name.now rest.now }
+    ensures { option_map (λ f. record { name = f.name.now; body = f.body.now }) result
+        ≡ named_of name.now rest.now }
 {
     if name.is_empty() {
         return None;
@@ -68,7 +69,8 @@ fn named<'a>(name: &'a [u8], rest: &'a [u8]) -> Option<Field<'a>>
 
 /// The field that a line begins, without its continuations.
 pub fn field_of_line(line: &[u8]) -> Option<Field<'_>>
-    ensures field { option_map (λ f. record { name = f.name.now; body = f.body.now }) result ≡ field_of_line line.now }
+    ensures field { option_map (λ f. record { name = f.name.now; body = f.body.now }) result
+        ≡ field_of_line line.now }
     ensures name { IfSome result (λ f. 0 < length f.name.now) }
     ensures fits { IfSome result (λ f. length f.name.now + length f.body.now ≤ length line.now) }
 {

@@ -77,7 +77,8 @@ fn reserve_usual(bytes: &mut Vec<u8>, places: &mut Vec<FieldPlace>) -> Result<()
 
 /// Adds both at the end, or neither.
 fn append_both(bytes: &mut Vec<u8>, first: &[u8], second: &[u8]) -> Result<(), AllocError>
-    ensures { bytes.new.items ≡ (if is_ok result then bytes.old.items ++ (first.now ++ second.now) else bytes.old.items) }
+    ensures { bytes.new.items ≡ (if is_ok result then bytes.old.items ++ (first.now ++ second.now)
+        else bytes.old.items) }
 {
     let len = bytes.len();
     bytes.extend_from_slice(first)?;
@@ -111,8 +112,10 @@ impl FieldList {
     /// Adds a field.
     pub fn push(&mut self, field: Field<'_>) -> Result<(), AllocError>
         requires name { 0 < length field.name.now }
-        requires room { fields_size self.old + (length field.name.now + length field.body.now) ≤ most_in_header }
-        ensures ok { OnOk result (self.new ≡ self.old ++ record { name = field.entry.name.now; body = field.entry.body.now } ∷ []) }
+        requires room { fields_size self.old + (length field.name.now + length field.body.now)
+            ≤ most_in_header }
+        ensures ok { OnOk result (self.new ≡ self.old ++ record
+            { name = field.entry.name.now; body = field.entry.body.now } ∷ []) }
         ensures err { OnErr result (self.new ≡ self.old) }
     {
         reserve_usual(&mut self.bytes, &mut self.places)?;

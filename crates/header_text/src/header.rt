@@ -72,11 +72,14 @@ impl Header {
 
     /// Reads the next line. It answers Ended from the first empty line (LF, or CR LF) on, and then changes nothing.
     pub fn push_line(&mut self, line: &[u8]) -> Result<Taken, AllocError>
-        ensures lines { OnOk result ((ls : List (List ℕ)) → HasLines self.old ls → HasLines self.new (ls ++ line.now ∷ [])) }
-        ensures taken { IfOk result (λ taken. (ls : List (List ℕ)) → HasLines self.old ls → taken ≡ taken_of (ls ++ line.now ∷ [])) }
+        ensures lines { OnOk result ((ls : List (List ℕ)) → HasLines self.old ls
+            → HasLines self.new (ls ++ line.now ∷ [])) }
+        ensures taken { IfOk result (λ taken. (ls : List (List ℕ)) → HasLines self.old ls
+            → taken ≡ taken_of (ls ++ line.now ∷ [])) }
 
         // Once it has ended, nothing is refused.
-        ensures ended { (ls : List (List ℕ)) → HasLines self.old ls → has_empty ls ≡ true → (result ≡ Ok Taken.Ended) × (self.new ≡ self.old) }
+        ensures ended { (ls : List (List ℕ)) → HasLines self.old ls → has_empty ls ≡ true
+            → (result ≡ Ok Taken.Ended) × (self.new ≡ self.old) }
         ensures refused { OnErr result (self.new ≡ self.old) }
     {
         if let Stage::Ended = self.stage {

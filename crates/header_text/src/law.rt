@@ -9,5 +9,6 @@ pub fn encoded_words_are_leftmost()
 
 /// No other words are.
 pub fn encoded_words_are_the_only_leftmost()
-    ensures { (value : List ℕ) (ws : List WordAfter) (rest : List ℕ) → AreLeftmost value ws rest → pieces value ≡ record { words = ws; rest = rest } }
+    ensures { (value : List ℕ) (ws : List WordAfter) (rest : List ℕ) → AreLeftmost value ws rest
+        → pieces value ≡ record { words = ws; rest = rest } }
 {}

@@ -34,7 +34,8 @@ fn id_bytes(alloc: Global, text: &[u8]) -> Result<Vec<u8>, AllocError>
 
 /// Adds the id that a text before a `>` ends with, if it does.
 fn push_id(alloc: Global, ids: &mut Vec<Vec<u8>>, text: &[u8]) -> Result<(), AllocError>
-    ensures { OnOk result (map (λ id. id.items) ids.new.items ≡ map (λ id. id.items) ids.old.items ++ ids_in (text.now ∷ [])) }
+    ensures { OnOk result (map (λ id. id.items) ids.new.items
+        ≡ map (λ id. id.items) ids.old.items ++ ids_in (text.now ∷ [])) }
 {
     if let Some(inner) = after_last_open(text) {
         let id = id_bytes(alloc, inner)?;
@@ -49,10 +50,12 @@ fn push_id(alloc: Global, ids: &mut Vec<Vec<u8>>, text: &[u8]) -> Result<(), All
 /// its spaces, tabs, CRs and LFs, if then not empty. Together they have at most as many bytes as the value.
 pub fn message_ids(alloc: Global, value: &[u8]) -> Result<Vec<Vec<u8>>, AllocError>
     ensures ids { IfOk result (λ ids. map (λ id. id.items) ids.items ≡ ids_of value.now) }
-    ensures sizes { IfOk result (λ ids. All (λ id. (0 < length id.items) × (length id.items ≤ length value.now)) ids.items) }
+    ensures sizes { IfOk result (λ ids. All (λ id. (0 < length id.items)
+        × (length id.items ≤ length value.now)) ids.items) }
 
     // All together, with the `<` and the `>` round each.
-    ensures size { IfOk result (λ ids. ids_size (map (λ id. id.items) ids.items) ≤ length value.now) }
+    ensures size { IfOk result (λ ids. ids_size (map (λ id. id.items) ids.items)
+        ≤ length value.now) }
 {
     let mut ids = Vec::new(alloc);
     let mut rest = value;

@@ -10,10 +10,13 @@ use std::alloc::{AllocError, Global};
 
 /// Adds the text of bytes as UTF-8, U+FFFD for each maximal faulty part.
 pub fn push_lossy(bytes: &[u8], into: &mut String) -> Result<(), AllocError>
-    ensures text { OnOk result (string_bytes into.new ≡ string_bytes into.old ++ encode_utf8_all (lossy_chars bytes.now)) }
-    ensures size { OnOk result (length (string_bytes into.new) ≤ length (string_bytes into.old) + 3 * length bytes.now) }
+    ensures text { OnOk result (string_bytes into.new
+        ≡ string_bytes into.old ++ encode_utf8_all (lossy_chars bytes.now)) }
+    ensures size { OnOk result (length (string_bytes into.new)
+        ≤ length (string_bytes into.old) + 3 * length bytes.now) }
     ensures kept { Extends (string_bytes into.old) (string_bytes into.new) }
-    ensures front { Extends (string_bytes into.new) (string_bytes into.old ++ encode_utf8_all (lossy_chars bytes.now)) }
+    ensures front { Extends (string_bytes into.new)
+        (string_bytes into.old ++ encode_utf8_all (lossy_chars bytes.now)) }
 {
     bytes.to_str_lossy_into(into)?;
     Ok(())
@@ -21,10 +24,13 @@ pub fn push_lossy(bytes: &[u8], into: &mut String) -> Result<(), AllocError>
 
 /// Adds the text of bytes of which each is a character.
 fn push_characters(charset: Charset, bytes: &[u8], into: &mut String) -> Result<(), AllocError>
-    ensures text { OnOk result (string_bytes into.new ≡ string_bytes into.old ++ encode_utf8_all (map (character charset) bytes.now)) }
-    ensures size { OnOk result (length (string_bytes into.new) ≤ length (string_bytes into.old) + 3 * length bytes.now) }
+    ensures text { OnOk result (string_bytes into.new
+        ≡ string_bytes into.old ++ encode_utf8_all (map (character charset) bytes.now)) }
+    ensures size { OnOk result (length (string_bytes into.new)
+        ≤ length (string_bytes into.old) + 3 * length bytes.now) }
     ensures kept { Extends (string_bytes into.old) (string_bytes into.new) }
-    ensures front { Extends (string_bytes into.new) (string_bytes into.old ++ encode_utf8_all (map (character charset) bytes.now)) }
+    ensures front { Extends (string_bytes into.new)
+        (string_bytes into.old ++ encode_utf8_all (map (character charset) bytes.now)) }
 {
     let mut rest = bytes;
     while let Some(at) = rest.find_non_ascii_byte() {
@@ -41,10 +47,13 @@ fn push_characters(charset: Charset, bytes: &[u8], into: &mut String) -> Result<
 /// is a character. It has at most three bytes for each of theirs. After an error the buffer holds its old text and a front of
 /// what was to be added.
 pub fn decode_into(charset: Charset, bytes: &[u8], into: &mut String) -> Result<(), AllocError>
-    ensures text { OnOk result (string_bytes into.new ≡ string_bytes into.old ++ text_of charset bytes.now) }
-    ensures size { OnOk result (length (string_bytes into.new) ≤ length (string_bytes into.old) + 3 * length bytes.now) }
+    ensures text { OnOk result (string_bytes into.new
+        ≡ string_bytes into.old ++ text_of charset bytes.now) }
+    ensures size { OnOk result (length (string_bytes into.new)
+        ≤ length (string_bytes into.old) + 3 * length bytes.now) }
     ensures kept { Extends (string_bytes into.old) (string_bytes into.new) }
-    ensures front { Extends (string_bytes into.new) (string_bytes into.old ++ text_of charset bytes.now) }
+    ensures front { Extends (string_bytes into.new)
+        (string_bytes into.old ++ text_of charset bytes.now) }
 {
     match charset {
         Charset::Utf8 => push_lossy(bytes, into),

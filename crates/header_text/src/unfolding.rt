@@ -20,7 +20,8 @@ fn without_final_cr(bytes: &[u8]) -> &[u8]
 
 /// Adds a part, of the first parts only what follows their spaces and tabs: these begin at a place.
 fn add_part(into: &mut Vec<u8>, start: usize, part: &[u8]) -> Result<(), AllocError>
-    ensures { OnOk result (into.new.items ≡ into.old.items ++ led (nat_lt start (length into.old.items)) part.now) }
+    ensures { OnOk result (into.new.items ≡ into.old.items ++ led
+        (nat_lt start (length into.old.items)) part.now) }
 {
     let part = if into.len() > start {
         part
@@ -50,7 +51,8 @@ pub fn unfold_into(body: &[u8], into: &mut Vec<u8>) -> Result<(), AllocError>
 /// Drops the spaces and tabs at the end, down to a place.
 fn trim_end(bytes: &mut Vec<u8>, start: usize)
     requires { start ≤ length bytes.old.items }
-    ensures { bytes.new.items ≡ take start bytes.old.items ++ before_blanks_of (drop start bytes.old.items) }
+    ensures { bytes.new.items ≡ take start bytes.old.items ++ before_blanks_of
+        (drop start bytes.old.items) }
 {
     let len = start + before_blanks(&bytes[start..]).len();
     bytes.truncate(len);

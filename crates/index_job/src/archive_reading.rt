@@ -53,13 +53,16 @@ pub(crate) struct ReadArchive {
 fn next_heading<'a, S: Source>(cutter: &mut Cutter<'a, S>) -> Result<Heading, JobFault>
     requires between { cutter.old.place.phase ≡ Phase.Between }
     requires count { S.failures cutter.old.source.now < 2 ^ 64 - 1 }
-    ensures reads { ReadsSource S.Source (is_source_failure result) cutter.old.source cutter.new.source }
+    ensures reads { ReadsSource S.Source (is_source_failure result) cutter.old.source
+        cutter.new.source }
     ensures most { OnOk result (cutter.new.place.most ≡ cutter.old.place.most) }
     ensures place { IfOk result (λ heading. IsHeading heading cutter.old.place cutter.new.place) }
     ensures end { IfOk result (λ heading. ReadsToEnd heading (S.rest cutter.new.source.now)) }
-    ensures known { IfOk result (λ heading. (all : ℕ) (ms : Option (List Message)) (refusal : Option CutFault) → cutter.old.coming ≡ Some (coming_ahead all ms refusal)
+    ensures known { IfOk result (λ heading. (all : ℕ) (ms : Option (List Message))
+        (refusal : Option CutFault) → cutter.old.coming ≡ Some (coming_ahead all ms refusal)
         → Heads heading all ms refusal cutter.new.coming) }
-    ensures fault { IfErr result (λ fault. (all : ℕ) (ms : Option (List Message)) (refusal : Option CutFault) → cutter.old.coming ≡ Some (coming_ahead all ms refusal)
+    ensures fault { IfErr result (λ fault. (all : ℕ) (ms : Option (List Message))
+        (refusal : Option CutFault) → cutter.old.coming ≡ Some (coming_ahead all ms refusal)
         → IsJobFault refusal ⊥ fault) }
     ensures own { IfErr result IsArchiveFault }
 {
@@ -83,17 +86,24 @@ fn next_line<'a, S: Source>(
     requires inside { IsInside start cutter.old.place }
     requires phase { IfSome builder.old IsInMessage }
     requires count { S.failures cutter.old.source.now < 2 ^ 64 - 1 }
-    ensures reads { ReadsSource S.Source (is_source_failure result) cutter.old.source cutter.new.source }
+    ensures reads { ReadsSource S.Source (is_source_failure result) cutter.old.source
+        cutter.new.source }
     ensures further { OnOk result (GoesFurther cutter.old.place cutter.new.place) }
-    ensures place { IfOk result (λ end. MatchOption end (IsInside start cutter.new.place) (λ e. HasEnded start e cutter.new.place)) }
-    ensures gathers { OnOk result ((d : Option Draft) (ls : List (List ℕ)) → HasGathered text.old builder.old d ls
+    ensures place { IfOk result (λ end. MatchOption end (IsInside start cutter.new.place)
+        (λ e. HasEnded start e cutter.new.place)) }
+    ensures gathers { OnOk result ((d : Option Draft) (ls : List (List ℕ))
+        → HasGathered text.old builder.old d ls
         → (ms : List (List ℕ)) × HasGathered text.new builder.new d ms) }
-    ensures known { IfOk result (λ end. (d : Option Draft) (w : Awaited) (ls rest : List (List ℕ)) → IsReading d w ls rest text.old builder.old cutter.old.coming
-        → MatchOption end ((more left : List (List ℕ)) × IsReading d w more left text.new builder.new cutter.new.coming)
+    ensures known { IfOk result (λ end. (d : Option Draft) (w : Awaited) (ls rest : List (List ℕ))
+        → IsReading d w ls rest text.old builder.old cutter.old.coming
+        → MatchOption end ((more left : List (List ℕ))
+        × IsReading d w more left text.new builder.new cutter.new.coming)
         (λ e. HasReadAll d w e text.new builder.new cutter.new.coming)) }
-    ensures fault { IfErr result (λ fault. (d : Option Draft) (w : Awaited) (ls rest : List (List ℕ)) → IsReading d w ls rest text.old builder.old cutter.old.coming
+    ensures fault { IfErr result (λ fault. (d : Option Draft) (w : Awaited)
+        (ls rest : List (List ℕ)) → IsReading d w ls rest text.old builder.old cutter.old.coming
         → IsMessageFault d w fault) }
-    ensures own { IfErr result (λ fault. (d : Option Draft) (ls : List (List ℕ)) → HasGathered text.old builder.old d ls → IsArchiveFault fault) }
+    ensures own { IfErr result (λ fault. (d : Option Draft) (ls : List (List ℕ))
+        → HasGathered text.old builder.old d ls → IsArchiveFault fault) }
 {
     match cutter.next_event()? {
         Event::Line(line) => {
@@ -120,11 +130,13 @@ fn add_message<'a, S: Source>(
     requires most { cutter.old.place.most ≡ most_in_archive }
     requires count { S.failures cutter.old.source.now < 2 ^ 64 - 1 }
     requires ready { IsBuilderReady archive offset builder.old }
-    ensures reads { ReadsSource S.Source (is_source_failure result) cutter.old.source cutter.new.source }
+    ensures reads { ReadsSource S.Source (is_source_failure result) cutter.old.source
+        cutter.new.source }
     ensures further { OnOk result (GoesFurther cutter.old.place cutter.new.place) }
     ensures between { OnOk result (cutter.new.place.phase ≡ Phase.Between) }
     ensures ready { OnOk result (IsBuilderReady archive cutter.new.place.offset builder.new) }
-    ensures known { (d : Draft) (w : Awaited) → builder.old ≡ Some d → w.message.offset ≡ offset → cutter.old.coming ≡ Some (coming_inside w (text_of w.message))
+    ensures known { (d : Draft) (w : Awaited) → builder.old ≡ Some d → w.message.offset ≡ offset
+        → cutter.old.coming ≡ Some (coming_inside w (text_of w.message))
         → AddsMessage archive d w result builder.new cutter.new.coming }
     ensures own { IfErr result IsArchiveFault }
 {
@@ -155,10 +167,14 @@ fn add_messages<'a, S: Source>(
     requires most { cutter.old.place.most ≡ most_in_archive }
     requires count { S.failures cutter.old.source.now < 2 ^ 64 - 1 }
     requires ready { IsBuilderReady archive cutter.old.place.offset builder.old }
-    ensures reads { ReadsSource S.Source (is_source_failure result) cutter.old.source cutter.new.source }
-    ensures ended { IfOk result (λ read. AwaitsEnd archive (S.rest cutter.new.source.now) read.length builder.new) }
-    ensures known { (d : Draft) (all : ℕ) (ms : Option (List Message)) (refusal : Option CutFault) → builder.old ≡ Some d
-        → cutter.old.coming ≡ Some (coming_ahead all ms refusal) → AddsMessages archive d all ms refusal result builder.new }
+    ensures reads { ReadsSource S.Source (is_source_failure result) cutter.old.source
+        cutter.new.source }
+    ensures ended { IfOk result (λ read. AwaitsEnd archive (S.rest cutter.new.source.now)
+        read.length builder.new) }
+    ensures known { (d : Draft) (all : ℕ) (ms : Option (List Message)) (refusal : Option CutFault)
+        → builder.old ≡ Some d
+        → cutter.old.coming ≡ Some (coming_ahead all ms refusal)
+        → AddsMessages archive d all ms refusal result builder.new }
     ensures own { IfErr result IsArchiveFault }
 {
     let mut messages: u64 = 0;
@@ -184,14 +200,19 @@ fn add_archive<'a, S: Source>(
     path: &str,
     archive: u32,
 ) -> Result<ReadArchive, JobFault>
-    requires fresh { cutter.old.place ≡ record { phase = Phase.Between; offset = 0; most = most_in_archive } }
+    requires fresh { cutter.old.place
+        ≡ record { phase = Phase.Between; offset = 0; most = most_in_archive } }
     requires count { S.failures cutter.old.source.now < 2 ^ 64 - 1 }
     requires idle { IsBuilderIdle archive builder.old }
     requires path { IsPath path.now }
-    ensures reads { ReadsSource S.Source (is_source_failure result) cutter.old.source cutter.new.source }
-    ensures ended { IfOk result (λ read. AwaitsEnd archive (S.rest cutter.new.source.now) read.length builder.new) }
-    ensures known { (d : Draft) (all : ℕ) (ms : Option (List Message)) (refusal : Option CutFault) → builder.old ≡ Some d
-        → cutter.old.coming ≡ Some (coming_ahead all ms refusal) → AddsNamed path.now archive d all ms refusal result builder.new }
+    ensures reads { ReadsSource S.Source (is_source_failure result) cutter.old.source
+        cutter.new.source }
+    ensures ended { IfOk result (λ read. AwaitsEnd archive (S.rest cutter.new.source.now)
+        read.length builder.new) }
+    ensures known { (d : Draft) (all : ℕ) (ms : Option (List Message)) (refusal : Option CutFault)
+        → builder.old ≡ Some d
+        → cutter.old.coming ≡ Some (coming_ahead all ms refusal)
+        → AddsNamed path.now archive d all ms refusal result builder.new }
     ensures own { IfErr result IsArchiveFault }
 {
     builder.begin_archive(path)?;
@@ -213,10 +234,14 @@ pub(crate) fn read_archive<S: Source>(
     requires idle { IsBuilderIdle archive builder.old }
     requires path { IsPath path.now }
     ensures stays { Stays S.Source source.old source.new }
-    ensures count { Counted (is_source_failure result) (S.failures source.old) (S.failures source.new) }
-    ensures ended { IfOk result (λ read. AwaitsEnd archive (S.rest source.new) read.length builder.new) }
-    ensures known { (d : Draft) (bytes : List ℕ) → builder.old ≡ Some d → S.rest source.old ≡ Some bytes
-        → AddsNamed path.now archive d (length bytes) (messages_of bytes) (refusal_of most_in_archive bytes) result builder.new }
+    ensures count { Counted (is_source_failure result) (S.failures source.old)
+        (S.failures source.new) }
+    ensures ended { IfOk result (λ read. AwaitsEnd archive (S.rest source.new) read.length
+        builder.new) }
+    ensures known { (d : Draft) (bytes : List ℕ) → builder.old ≡ Some d
+        → S.rest source.old ≡ Some bytes
+        → AddsNamed path.now archive d (length bytes) (messages_of bytes)
+        (refusal_of most_in_archive bytes) result builder.new }
     ensures own { IfErr result IsArchiveFault }
 {
     let buffer = match kept.take() {

@@ -83,8 +83,11 @@ impl<'a> Batch<'a> {
     ) -> Result<(), BuildFault>
         requires phase { IfSome builder.old IsInMessage }
         requires word { HasTermLength word.now }
-        ensures ok { OnOk result (option_map (draft_with_terms (word_terms kind (self.old ++ word.now ∷ []))) builder.old ≡ option_map (draft_with_terms (word_terms kind self.new)) builder.new) }
-        ensures err { IfErr result (IsTermFault (option_map (draft_with_terms (word_terms kind self.old)) builder.old)) }
+        ensures ok { OnOk result (option_map (draft_with_terms
+            (word_terms kind (self.old ++ word.now ∷ []))) builder.old
+            ≡ option_map (draft_with_terms (word_terms kind self.new)) builder.new) }
+        ensures err { IfErr result (IsTermFault (option_map
+            (draft_with_terms (word_terms kind self.old)) builder.old)) }
         ensures phase { IfSome builder.new IsInMessage }
     {
         if self.is_full() {

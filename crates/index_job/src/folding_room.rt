@@ -49,7 +49,8 @@ impl FoldingRoom {
     /// Folds a word behind the others.
     fn fold_word(&mut self, word: &str) -> Result<(), AllocError>
         requires { HasWordLength word.now }
-        ensures { OnOk result ((ws : List (List ℕ)) → HoldsWords self.old ws → HoldsWords self.new (ws ++ folding word.now ∷ [])) }
+        ensures { OnOk result ((ws : List (List ℕ)) → HoldsWords self.old ws
+            → HoldsWords self.new (ws ++ folding word.now ∷ [])) }
     {
         fold_into(word, &mut self.folded)?;
         self.lengths.push(self.folded.len())?;
@@ -85,7 +86,8 @@ pub(crate) fn add_cut_words(
     requires phase { IfSome builder.old IsInMessage }
     requires within { sum lengths.now ≤ length bytes.now }
     requires sizes { AllByRecursion HasTermLength (cut lengths.now bytes.now) }
-    ensures terms { AddsTerms (word_terms kind (cut lengths.now bytes.now)) result builder.old builder.new }
+    ensures terms { AddsTerms (word_terms kind (cut lengths.now bytes.now)) result
+        builder.old builder.new }
     ensures phase { IfSome builder.new IsInMessage }
 {
     let mut batch = Batch::new();

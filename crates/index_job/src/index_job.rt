@@ -72,16 +72,20 @@ impl IndexJob {
     pub fn archive<S: Source>(&mut self, path: &str, source: &mut S) -> Result<u64, JobFault>
         requires path { IsPath path.now }
         requires count { S.failures source.old < 2 ^ 64 - 1 }
-        ensures ok { IfOk result (λ n. (before : List Mbox) (bytes : List ℕ) → IsIndexOf self.old before → S.rest source.old ≡ Some bytes
+        ensures ok { IfOk result (λ n. (before : List Mbox) (bytes : List ℕ)
+            → IsIndexOf self.old before → S.rest source.old ≡ Some bytes
             → IsAdded before (record { path = path.now; bytes = bytes }) n self.new) }
-        ensures err { IfErr result (λ fault. (before : List Mbox) (bytes : List ℕ) → IsIndexOf self.old before → S.rest source.old ≡ Some bytes
+        ensures err { IfErr result (λ fault. (before : List Mbox) (bytes : List ℕ)
+            → IsIndexOf self.old before → S.rest source.old ≡ Some bytes
             → IsAddFault before (record { path = path.now; bytes = bytes }) fault) }
         ensures end { OnOk result (IsAtEnd (S.rest source.new)) }
-        ensures count { Counted (is_source_failure result) (S.failures source.old) (S.failures source.new) }
+        ensures count { Counted (is_source_failure result) (S.failures source.old)
+            (S.failures source.new) }
         ensures own { IfErr result (λ fault. (IfSome self.old (λ _. IsArchiveFault fault))) }
         ensures lost { OnErr result (self.new ≡ None) }
         ensures kept { OnOk result (IsSome self.new) }
-        ensures failed { self.old ≡ None → (result ≡ Err JobFault.Failed) × (source.new ≡ source.old) }
+        ensures failed { self.old ≡ None → (result ≡ Err JobFault.Failed)
+            × (source.new ≡ source.old) }
     {
         let Some(mut builder) = self.builder.take() else {
             return Err(JobFault::Failed);
@@ -110,9 +114,12 @@ impl IndexJob {
     pub fn finish<O: Out>(self, out: &mut O) -> Result<u64, JobFault>
         requires { O.failures out.old < 2 ^ 64 - 1 }
         ensures formed { IfSome self (λ d. IsWellFormed d.table × HasSmallSections d.table) }
-        ensures ok { IfSome self (λ d. IfOk result (λ n. (n ≡ length (index_file d.table)) × Appends (O.taken out.old) (O.taken out.new) (index_file d.table))) }
-        ensures err { IfSome self (λ d. IfErr result (λ fault. (fault ≡ JobFault.Out) × Sends (O.taken out.old) (O.taken out.new) (index_file d.table))) }
-        ensures count { Counted (is_output_failure result) (O.failures out.old) (O.failures out.new) }
+        ensures ok { IfSome self (λ d. IfOk result (λ n. (n ≡ length (index_file d.table))
+            × Appends (O.taken out.old) (O.taken out.new) (index_file d.table))) }
+        ensures err { IfSome self (λ d. IfErr result (λ fault. (fault ≡ JobFault.Out)
+            × Sends (O.taken out.old) (O.taken out.new) (index_file d.table))) }
+        ensures count { Counted (is_output_failure result) (O.failures out.old)
+            (O.failures out.new) }
         ensures failed { self ≡ None → (result ≡ Err JobFault.Failed) × (out.new ≡ out.old) }
     {
         let Some(builder) = &self.builder else {

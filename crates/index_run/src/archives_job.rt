@@ -42,9 +42,11 @@ pub(crate) fn job_of_archives<S: Source>(
     requires count { All (λ s. S.failures s < 2 ^ 64 - 1) sources.old }
     ensures some { IfOk result IsSome }
     ensures known { (archives : List (List ℕ)) → map S.rest sources.old ≡ map Some archives
-        → MatchResult result (λ job. AreSound (mboxes (map string_bytes paths.now) archives) × IsIndexOf job (mboxes (map string_bytes paths.now) archives))
+        → MatchResult result (λ job. AreSound (mboxes (map string_bytes paths.now) archives)
+        × IsIndexOf job (mboxes (map string_bytes paths.now) archives))
         (IsArchivesFault (mboxes (map string_bytes paths.now) archives)) }
-    ensures count { CountsSources (fault_in result) (map S.failures sources.old) (map S.failures sources.new) }
+    ensures count { CountsSources (fault_in result) (map S.failures sources.old)
+        (map S.failures sources.new) }
     ensures output { is_failed_out (fault_in result) ≡ false }
     ensures early { is_early (fault_in result) ≡ false }
     ensures kinds { IfErr result IsOfIndexing }

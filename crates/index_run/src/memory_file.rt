@@ -26,9 +26,11 @@ pub fn file_of_archives<S: Source>(
     requires count { All (λ s. S.failures s < 2 ^ 64 - 1) sources.old }
     ensures formed { IfOk result (λ file. (t : Table) × IsFileOf file.taken t) }
     ensures known { (archives : List (List ℕ)) → map S.rest sources.old ≡ map Some archives
-        → MatchResult result (λ file. AreSound (mboxes (map string_bytes paths.now) archives) × IsFileOf file.taken (table (mboxes (map string_bytes paths.now) archives)))
+        → MatchResult result (λ file. AreSound (mboxes (map string_bytes paths.now) archives)
+        × IsFileOf file.taken (table (mboxes (map string_bytes paths.now) archives)))
         (IsArchivesFault (mboxes (map string_bytes paths.now) archives)) }
-    ensures count { CountsSources (fault_in result) (map S.failures sources.old) (map S.failures sources.new) }
+    ensures count { CountsSources (fault_in result) (map S.failures sources.old)
+        (map S.failures sources.new) }
     ensures output { is_failed_out (fault_in result) ≡ false }
     ensures early { is_early (fault_in result) ≡ false }
     ensures kinds { IfErr result IsOfIndexing }

@@ -35,15 +35,24 @@ pub fn send_index<S: Source, O: Out>(
     requires count { All (λ s. S.failures s < 2 ^ 64 - 1) sources.old }
     requires out { O.failures out.old < 2 ^ 64 - 1 }
     ensures known { (archives : List (List ℕ)) → map S.rest sources.old ≡ map Some archives
-        → MatchResult result (λ _. AreSound (mboxes (map string_bytes paths.now) archives) × IsWellFormed (table (mboxes (map string_bytes paths.now) archives))
-        × Appends (O.taken out.old) (O.taken out.new) (index_file (table (mboxes (map string_bytes paths.now) archives))))
-        (IsIndexRunFault (mboxes (map string_bytes paths.now) archives) (O.taken out.old) (O.taken out.new)) }
-    ensures source_failed { CountsSources (fault_in result) (map S.failures sources.old) (map S.failures sources.new) }
-    ensures out_failed { Counted (is_failed_out (fault_in result)) (O.failures out.old) (O.failures out.new) }
-    ensures formed { OnOk result ((t : Table) × IsWellFormed t × Appends (O.taken out.old) (O.taken out.new) (index_file t)) }
-    ensures front { OnTrue (is_failed_out (fault_in result)) ((t : Table) × IsWellFormed t × Sends (O.taken out.old) (O.taken out.new) (index_file t)) }
-    ensures kinds { IfErr result (λ fault. OnFalse (is_failed_out (Some fault)) (IsOfIndexing fault)) }
-    ensures silent { IfErr result (λ fault. OnFalse (is_failed_out (Some fault)) (out.new ≡ out.old)) }
+        → MatchResult result (λ _. AreSound (mboxes (map string_bytes paths.now) archives)
+        × IsWellFormed (table (mboxes (map string_bytes paths.now) archives))
+        × Appends (O.taken out.old) (O.taken out.new) (index_file
+        (table (mboxes (map string_bytes paths.now) archives))))
+        (IsIndexRunFault (mboxes (map string_bytes paths.now) archives) (O.taken out.old)
+        (O.taken out.new)) }
+    ensures source_failed { CountsSources (fault_in result) (map S.failures sources.old)
+        (map S.failures sources.new) }
+    ensures out_failed { Counted (is_failed_out (fault_in result)) (O.failures out.old)
+        (O.failures out.new) }
+    ensures formed { OnOk result ((t : Table) × IsWellFormed t
+        × Appends (O.taken out.old) (O.taken out.new) (index_file t)) }
+    ensures front { OnTrue (is_failed_out (fault_in result))
+        ((t : Table) × IsWellFormed t × Sends (O.taken out.old) (O.taken out.new) (index_file t)) }
+    ensures kinds { IfErr result (λ fault. OnFalse (is_failed_out (Some fault))
+        (IsOfIndexing fault)) }
+    ensures silent { IfErr result (λ fault. OnFalse (is_failed_out (Some fault))
+        (out.new ≡ out.old)) }
 {
     let job = match job_of_archives(alloc, paths, sources) {
         Ok(job) => job,

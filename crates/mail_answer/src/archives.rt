@@ -58,7 +58,8 @@ pub trait Archives {
         ensures held { held self.new ≡ held self.old }
         ensures number { number self.new ≡ number self.old }
         ensures bound { IfOk result (λ bytes. bytes ≤ length into.new) }
-        ensures bytes { IfOk result (λ bytes. IsRead n offset (take bytes into.new) (held self.old)) }
+        ensures bytes { IfOk result (λ bytes. IsRead n offset (take bytes into.new)
+            (held self.old)) }
         ensures asked { lengths_asked self.new ≡ lengths_asked self.old }
         ensures read { reads self.old n offset (bytes_told result into.new) self.new }
         ensures count { Counts result (failures self.old) (failures self.new) };

@@ -55,7 +55,8 @@ fn take_from(
     steps: &mut Steps,
 ) -> Option<u32>
     requires { AreWithin count walk.old.truths }
-    ensures takes { TakesFirst (numbers_from n count walk.old.truths) (numbers_from low.new count walk.new.truths) result }
+    ensures takes { TakesFirst (numbers_from n count walk.old.truths)
+        (numbers_from low.new count walk.new.truths) result }
     ensures least { (k : ℕ) → result ≡ Some k → n ≤ k }
     ensures within { AreWithin count walk.new.truths }
     ensures steps { Spends walk.old.left walk.new.left steps.old steps.new }
@@ -86,9 +87,11 @@ impl<'a> Cursor<'a> {
         query: &Query,
         steps: &mut Steps,
     ) -> Result<Cursor<'a>, AllocError>
-        ensures numbers { IfOk result (λ c. c.numbers ≡ chosen_numbers index.now (meaning query.now)) }
+        ensures numbers { IfOk result (λ c. c.numbers ≡ chosen_numbers index.now
+            (meaning query.now)) }
         ensures left { IfOk result (λ c. c.left ≤ most_left index.now (meaning query.now)) }
-        ensures steps { LooksUp (length index.now.keys) (look_ups (meaning query.now)) steps.old steps.new }
+        ensures steps { LooksUp (length index.now.keys) (look_ups (meaning query.now))
+            steps.old steps.new }
     {
         let walk = walk_of(alloc, &index.again(), query.root(), steps)?;
         Ok(Cursor {

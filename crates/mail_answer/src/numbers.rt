@@ -90,7 +90,8 @@ impl<'a> Numbers<'a> {
         query: &Query,
         threads: bool,
     ) -> Result<Self, AllocError>
-        ensures chosen { IfOk result (λ numbers. AreChosenBy threads (mail_told index.now) (meaning query.now) numbers) }
+        ensures chosen { IfOk result (λ numbers. AreChosenBy threads (mail_told index.now)
+            (meaning query.now) numbers) }
         ensures numbers { IfOk result (λ numbers. AreNumbers (length index.now.messages) numbers) }
     {
         if !threads {

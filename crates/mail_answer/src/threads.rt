@@ -44,7 +44,8 @@ fn thread_roots(alloc: Global, index: &IndexView<'_>) -> Result<Vec<u32>, AllocE
 fn mark_roots(numbers: &[u32], roots: &[u32], marks: &mut [bool])
     requires within { All (λ n. n < length roots.now) numbers.now }
     requires marked { (n : ℕ) → n < length roots.now → slice_index roots.now n < length marks.old }
-    ensures { Adds (λ r. list_any (λ n. nat_eq r (slice_index roots.now n)) numbers.now) marks.old marks.new }
+    ensures { Adds (λ r. list_any (λ n. nat_eq r (slice_index roots.now n)) numbers.now)
+        marks.old marks.new }
 {
     for number in numbers {
         marks[roots[*number as usize] as usize] = true;
@@ -60,7 +61,8 @@ fn root_marks(
 ) -> Result<Vec<bool>, AllocError>
     requires within { All (λ n. n < length roots.now) numbers.now }
     requires marked { (n : ℕ) → n < length roots.now → slice_index roots.now n < count }
-    ensures { IfOk result (λ v. v.items ≡ each_number count (λ r. list_any (λ n. nat_eq r (slice_index roots.now n)) numbers.now)) }
+    ensures { IfOk result (λ v. v.items ≡ each_number count
+        (λ r. list_any (λ n. nat_eq r (slice_index roots.now n)) numbers.now)) }
 {
     let mut marks = same_truths(alloc, count, false)?;
     mark_roots(numbers, roots, marks.as_mut_slice());
@@ -80,7 +82,8 @@ fn has_marked_root(number: usize, roots: &[u32], marks: &[bool]) -> bool
 fn with_marked_root(alloc: Global, roots: &[u32], marks: &[bool]) -> Result<Vec<u32>, AllocError>
     requires few { length roots.now < 2 ^ 32 }
     requires marked { (n : ℕ) → n < length roots.now → slice_index roots.now n < length marks.now }
-    ensures { IfOk result (λ v. v.items ≡ filter (λ n. truth_at marks.now (slice_index roots.now n)) (range_with_len 0 (length roots.now))) }
+    ensures { IfOk result (λ v. v.items ≡ filter (λ n. truth_at marks.now (slice_index roots.now n))
+        (range_with_len 0 (length roots.now))) }
 {
     let mut numbers = Vec::new(alloc);
     for number in 0..roots.len() {

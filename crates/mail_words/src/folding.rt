@@ -12,7 +12,8 @@ use std::alloc::{AllocError, Global};
 /// The folding of a word, which has at most 128 bytes, has at most 1,024.
 pub fn fold(alloc: Global, word: &str) -> Result<String, AllocError>
     ensures exact { IfOk result (λ folded. string_bytes folded ≡ folding word.now) }
-    ensures of_word { HasWordLength word.now → IfOk result (λ folded. (1 ≤ string_len folded) × (string_len folded ≤ 1024)) }
+    ensures of_word { HasWordLength word.now → IfOk result
+        (λ folded. (1 ≤ string_len folded) × (string_len folded ≤ 1024)) }
     ensures bound { IfOk result (λ folded. string_len folded ≤ 8 * length word.now) }
 {
     let mut folded = String::new(alloc);
@@ -26,7 +27,8 @@ pub fn fold(alloc: Global, word: &str) -> Result<String, AllocError>
 /// ([`crate::words_fold_with_their_text`]).
 pub fn fold_into(word: &str, into: &mut String) -> Result<(), AllocError>
     ensures exact { OnOk result (string_bytes into.new ≡ folding word.now) }
-    ensures of_word { HasWordLength word.now → OnOk result ((1 ≤ string_len into.new) × (string_len into.new ≤ 1024)) }
+    ensures of_word { HasWordLength word.now → OnOk result
+        ((1 ≤ string_len into.new) × (string_len into.new ≤ 1024)) }
     ensures bound { OnOk result (string_len into.new ≤ 8 * length word.now) }
 
     // Memory is taken only where there is too little room.

@@ -123,7 +123,8 @@ pub(crate) fn joined_len(text: &str) -> usize
 /// How many bytes stand before the joiners at the end.
 fn len_before_joiners(bytes: &[u8]) -> usize
     ensures within { result ≤ length bytes.now }
-    ensures joiners { (k : ℕ) → result ≤ k → k < length bytes.now → is_joiner (slice_index bytes.now k) ≡ true }
+    ensures joiners { (k : ℕ) → result ≤ k → k < length bytes.now
+        → is_joiner (slice_index bytes.now k) ≡ true }
     ensures last { 0 < result → is_joiner (slice_index bytes.now (result - 1)) ≡ false }
 {
     let mut len = bytes.len();

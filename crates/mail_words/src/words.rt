@@ -88,7 +88,9 @@ struct WordPlace<'a> {
 /// The next place of a text where a word is kept. The text may go on with a run whose long word was looked at.
 #[inline(always)]
 fn next_place(text: &str, in_run: bool) -> Option<WordPlace<'_>>
-    ensures { MatchOption result (words_left in_run (chars text.now) ≡ []) (λ p. words_left in_run (chars text.now) ≡ p.plain.now ∷ (option_to_list (option_copied p.long) ++ words_left true (chars p.behind.now))) }
+    ensures { MatchOption result (words_left in_run (chars text.now) ≡ [])
+        (λ p. words_left in_run (chars text.now) ≡ p.plain.now
+        ∷ (option_to_list (option_copied p.long) ++ words_left true (chars p.behind.now))) }
 {
     let mut rest = text;
     let mut goes_on = in_run;
@@ -110,7 +112,8 @@ fn next_place(text: &str, in_run: bool) -> Option<WordPlace<'_>>
 /// The text from its first word character on, and whether it still goes on with the run.
 fn behind_gap(text: &str, in_run: bool) -> (&str, bool)
     ensures left { words_left in_run (chars text.now) ≡ words_left result.1 (chars result.0.now) }
-    ensures begins { 0 < length result.0.now → begins is_word_character (chars result.0.now) ≡ true }
+    ensures begins { 0 < length result.0.now → begins is_word_character (chars result.0.now)
+        ≡ true }
     ensures bound { length result.0.now ≤ length text.now }
 {
     if is_parted_by_a_space(text.as_bytes()) {
@@ -138,7 +141,8 @@ fn has_joiners_alone(text: &str) -> bool
 fn place_at(text: &str, in_run: bool) -> WordPlace<'_>
     ensures plain { result.plain.now ≡ encode_utf8_all (front is_word_character (chars text.now)) }
     ensures long { option_to_list (option_copied result.long) ≡ long_at in_run (chars text.now) }
-    ensures behind { result.behind.now ≡ encode_utf8_all (behind is_word_character (chars text.now)) }
+    ensures behind { result.behind.now ≡ encode_utf8_all
+        (behind is_word_character (chars text.now)) }
     ensures lengths { length result.plain.now + length result.behind.now ≡ length text.now }
     ensures behind_chars { chars result.behind.now ≡ behind is_word_character (chars text.now) }
 {

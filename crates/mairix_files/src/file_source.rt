@@ -75,7 +75,8 @@ fn read_in<F: Read + OpenFile>(
     into: &mut [u8],
 ) -> io::Result<usize>
     ensures bound { IfOk result (λ n. n ≤ length into.new) }
-    ensures bytes { OnOk result (ReadConsumes (F.remaining file.old) (F.remaining file.new) result into.new) }
+    ensures bytes { OnOk result (ReadConsumes (F.remaining file.old) (F.remaining file.new) result
+        into.new) }
 {
     let read = file.read(into)?;
     if let Some(state) = state {
@@ -107,7 +108,8 @@ pub fn sources_of<'p, R: Files>(
     paths: &'p [String],
 ) -> Result<Vec<FileSource<'p, R>>, AllocError>
     ensures count { IfOk result (λ v. vec_len v ≡ length paths.now) }
-    ensures fresh { IfOk result (λ v. All (λ s. ⟦<FileSource<'p, R> as Source>⟧.failures s ≡ 0) v.items) }
+    ensures fresh { IfOk result (λ v. All (λ s. ⟦<FileSource<'p, R> as Source>⟧.failures s ≡ 0)
+        v.items) }
 {
     let mut sources = Vec::new(alloc);
     for path in paths {
@@ -125,7 +127,8 @@ pub fn sources_in<'p, R: Files>(
 ) -> Result<Vec<FileSource<'p, R>>, AllocError>
     requires { length states.now ≡ length paths.now }
     ensures count { IfOk result (λ v. vec_len v ≡ length paths.now) }
-    ensures fresh { IfOk result (λ v. All (λ s. ⟦<FileSource<'p, R> as Source>⟧.failures s ≡ 0) v.items) }
+    ensures fresh { IfOk result (λ v. All (λ s. ⟦<FileSource<'p, R> as Source>⟧.failures s ≡ 0)
+        v.items) }
 {
     let mut sources = Vec::new(alloc);
     for (path, state) in paths.iter().zip(states) {

@@ -33,7 +33,8 @@ fn read_to_end<R: Read>(alloc: Global, reader: &mut R, expected: u64) -> io::Res
 ///
 /// What the system refuses, and want of memory, of the kind `OutOfMemory`.
 pub fn read_rest<R: Read>(reader: &mut R, bytes: &mut Vec<u8>, expected: u64) -> io::Result<()>
-    ensures { OnOk result (IfSome (R.remaining reader.old) (λ rest. bytes.new.items ≡ bytes.old.items ++ rest)) }
+    ensures { OnOk result (IfSome (R.remaining reader.old)
+        (λ rest. bytes.new.items ≡ bytes.old.items ++ rest)) }
 {
     let Ok(expected) = usize::try_from(expected) else {
         return Err(io::ErrorKind::OutOfMemory.into());

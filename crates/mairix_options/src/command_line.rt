@@ -109,7 +109,8 @@ pub fn plan_of(alloc: Global, words: &[String]) -> Result<Plan, OrMemory<UsageFa
 
 /// The parser's own text for words that it refuses, help and version included, and else none.
 pub fn usage_text(alloc: Global, words: &[String]) -> Result<String, AllocError>
-    ensures { is_ok (parse (map string_bytes words.now)) ≡ true → IfOk result (λ text. string_bytes text ≡ []) }
+    ensures { is_ok (parse (map string_bytes words.now)) ≡ true
+        → IfOk result (λ text. string_bytes text ≡ []) }
 {
     match parsed(alloc, words)? {
         Ok(_) => Ok(String::new(alloc)),
@@ -134,7 +135,8 @@ fn parsed<'a>(
     alloc: Global,
     words: &'a [String],
 ) -> Result<Result<ArgMatches<'a>, clap::Error>, AllocError>
-    ensures { IfOk result (λ r. Gives plan_in error_refusal r (parse (map string_bytes words.entry.now))) }
+    ensures { IfOk result (λ r. Gives plan_in error_refusal r
+        (parse (map string_bytes words.entry.now))) }
 {
     Ok(command(alloc)?.try_get_matches_from(words))
 }
@@ -185,7 +187,8 @@ fn is_set(matches: &ArgMatches<'_>, id: &str) -> bool
 }
 
 fn texts_of(alloc: Global, matches: &ArgMatches<'_>, id: &str) -> Result<Texts, AllocError>
-    ensures { IfOk result (λ texts. texts ≡ unwrap_or (all_of id.now (rows_of (found_of matches.now))) []) }
+    ensures { IfOk result (λ texts. texts ≡ unwrap_or
+        (all_of id.now (rows_of (found_of matches.now))) []) }
 {
     match matches.get_strs(id) {
         Some(texts) => Texts::of(alloc, texts),

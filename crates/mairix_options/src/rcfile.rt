@@ -114,7 +114,8 @@ fn base_behind(
     base: Option<Text>,
     setting: &Option<Setting>,
 ) -> Result<Option<Text>, AllocError>
-    ensures { IfOk result (λ b. b ≡ last_or base (filter_map base_in (option_to_list setting.now))) }
+    ensures { IfOk result (λ b. b ≡ last_or base (filter_map base_in
+        (option_to_list setting.now))) }
 {
     match setting {
         Some(Setting::Base(path)) => Ok(Some(Text::new(alloc, path.as_str())?)),
@@ -152,7 +153,8 @@ fn rc_from(alloc: Global, settings: Vec<Setting>) -> Result<Rc, OrMemory<RcFault
 }
 
 fn rc_with(alloc: Global, said: Said) -> Result<Rc, OrMemory<RcFault>>
-    ensures { Gives (λ r. r) refusal result (rc_with said.base said.archives.items said.database said.mfolder said.format) }
+    ensures { Gives (λ r. r) refusal result (rc_with said.base said.archives.items said.database
+        said.mfolder said.format) }
 {
     if let Some(number) = first_misfit(alloc, &said.base, &said.archives, &said.mfolder)? {
         return Err(OrMemory::Refused(RcFault::BadLine(number)));
@@ -161,7 +163,8 @@ fn rc_with(alloc: Global, said: Said) -> Result<Rc, OrMemory<RcFault>>
 }
 
 fn rc_fitting(alloc: Global, said: Said) -> Result<Rc, OrMemory<RcFault>>
-    ensures { Gives (λ r. r) refusal result (rc_fitting said.base said.archives.items said.database said.mfolder said.format) }
+    ensures { Gives (λ r. r) refusal result (rc_fitting said.base said.archives.items said.database
+        said.mfolder said.format) }
 {
     let Said {
         base,
@@ -212,7 +215,8 @@ fn first_archives_misfit(
     base: &Option<Text>,
     archives: &[ArchivesLine],
 ) -> Result<Option<u64>, AllocError>
-    ensures { IfOk result (λ n. n ≡ slice_get (filter_map (archives_misfit base.now) archives.now) 0) }
+    ensures { IfOk result (λ n. n ≡ slice_get (filter_map (archives_misfit base.now) archives.now)
+        0) }
 {
     for line in archives {
         if !all_are_paths(&archive_paths(alloc, base, &line.names)?) {

@@ -150,7 +150,8 @@ fn has_paths(
     keyword: Option<Keyword>,
     value: &str,
 ) -> Result<bool, AllocError>
-    ensures { IfOk result (λ has. has ≡ list_all is_path (names_in keyword value.now) && list_all is_path (paths_in base.now keyword value.now)) }
+    ensures { IfOk result (λ has. has ≡ list_all is_path (names_in keyword value.now) && list_all
+        is_path (paths_in base.now keyword value.now)) }
 {
     match keyword {
         Some(Keyword::Mbox) => {
@@ -200,7 +201,8 @@ fn unexpanded(alloc: Global, number: u64, value: &str) -> Result<Text, OrMemory<
 }
 
 fn archives_line(alloc: Global, number: u64, value: &str) -> Result<ArchivesLine, OrMemory<RcFault>>
-    ensures { Gives (λ line. Setting.Archives line) refusal result (supported number Keyword.Mbox value.now) }
+    ensures { Gives (λ line. Setting.Archives line) refusal result
+        (supported number Keyword.Mbox value.now) }
 {
     let names = archives_of(alloc, value)?;
     if some_has_expansion(&names) {

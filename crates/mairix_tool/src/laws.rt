@@ -31,64 +31,81 @@ use mail_index::IndexView;
 /// of which none has CR as its last byte, the text is cut into one span for each in order, its own with the line feeds that
 /// close it.
 pub fn an_answer_is_cut_into_its_messages()
-    ensures { (archives : List Mbox) (numbers : List ℕ) → All (λ n. n < length (table archives).messages) numbers
+    ensures { (archives : List Mbox) (numbers : List ℕ)
+        → All (λ n. n < length (table archives).messages) numbers
         → All (λ text. ends_in_return text ≡ false) (spans_at archives numbers)
-        → IsCutInto (answer_text format.Mbox (table archives) (bytes_held archives) numbers) (map closed (spans_at archives numbers)) }
+        → IsCutInto (answer_text format.Mbox (table archives) (bytes_held archives) numbers)
+        (map closed (spans_at archives numbers)) }
 {}
 
 /// The table of archives has a message's number at a key exactly where the message has that term: a word of one of its texts of that
 /// kind, its own id, or an id that links it to others.
 pub fn the_table_has_the_terms_of_the_messages()
-    ensures { (archives : List Mbox) (before after : List Message) (message : Message) (kind : Kind) (term : List ℕ) → all_messages archives ≡ before ++ message ∷ after
-        → has_number kind term (length before) (table archives).keys ≡ has_term kind term (message_terms (text message)) }
+    ensures { (archives : List Mbox) (before after : List Message) (message : Message) (kind : Kind)
+        (term : List ℕ) → all_messages archives ≡ before ++ message ∷ after
+        → has_number kind term (length before) (table archives).keys
+        ≡ has_term kind term (message_terms (text message)) }
 {}
 
 /// The table of archives links two messages exactly where they share a link id of their own.
 pub fn the_table_links_as_the_messages()
-    ensures { (archives : List Mbox) (m n : ℕ) → are_linked (table archives) m n ≡ (mail_in archives).linked m n }
+    ensures { (archives : List Mbox) (m n : ℕ) → are_linked (table archives) m n
+        ≡ (mail_in archives).linked m n }
 {}
 
 /// What the table of archives chooses is what their messages choose, threads too.
 pub fn the_table_chooses_as_the_messages()
-    ensures { (archives : List Mbox) (s : Search) (numbers : List ℕ) → AreChosen (mail_told (table archives)) s numbers → AreChosen (mail_in archives) s numbers }
+    ensures { (archives : List Mbox) (s : Search) (numbers : List ℕ)
+        → AreChosen (mail_told (table archives)) s numbers
+        → AreChosen (mail_in archives) s numbers }
 {}
 
 /// And it tells of them what they tell.
 pub fn the_table_shows_the_messages()
-    ensures { (archives : List Mbox) (format : Format) (numbers : List ℕ) → answer_text format (table archives) (map (λ a. a.bytes) archives) numbers ≡ shape archives format numbers }
+    ensures { (archives : List Mbox) (format : Format) (numbers : List ℕ)
+        → answer_text format (table archives) (map (λ a. a.bytes) archives) numbers
+        ≡ shape archives format numbers }
 {}
 
 /// Every run over archives that it indexes itself has a reply, whatever is asked, indexed and held: so what is said of every
 /// reply of a run is never said of none.
 pub fn every_once_run_has_a_reply()
-    ensures { (asked : Result Wanted Fault) (bytes held : List (List ℕ)) → (answer : Answer) × IsOnceReply asked bytes held answer }
+    ensures { (asked : Result Wanted Fault) (bytes held : List (List ℕ)) → (answer : Answer)
+        × IsOnceReply asked bytes held answer }
 {}
 
 /// And so has every run over a stored index, whatever bytes that has: they are the file of a table, or there is a first rule of such
 /// files that they break. This one runs: reading the index tells which.
 pub fn every_stored_run_has_a_reply(index: &[u8])
-    ensures { (asked : Result Wanted Fault) (held : List (List ℕ)) → (answer : Answer) × IsStoredReply asked index.now held answer }
+    ensures { (asked : Result Wanted Fault) (held : List (List ℕ)) → (answer : Answer)
+        × IsStoredReply asked index.now held answer }
 {
     let _read = IndexView::open(index);
 }
 
 /// Where a run searches what it indexed, that is the reply of the archives' own messages.
 pub fn a_table_replies_as_its_archives()
-    ensures { (asked : Result Wanted Fault) (bytes : List (List ℕ)) (answer : Answer) → IfOk asked (λ w. length w.paths ≡ length bytes)
+    ensures { (asked : Result Wanted Fault) (bytes : List (List ℕ)) (answer : Answer)
+        → IfOk asked (λ w. length w.paths ≡ length bytes)
         → IsOnceReply asked bytes bytes answer → IsReply asked bytes answer }
 {}
 
 /// Where SHA-256 tells archives apart, none of them is altered exactly where they are those that were indexed: the same bytes under
 /// the same paths.
 pub fn unaltered_archives_are_those_indexed()
-    ensures only { (before : List Mbox) (paths bytes : List (List ℕ)) → AreToldApart (map (λ a. a.bytes) before ++ bytes) → altered_archive before paths bytes ≡ None → before ≡ mboxes paths bytes }
-    ensures all { (paths bytes : List (List ℕ)) → length paths ≡ length bytes → altered_archive (mboxes paths bytes) paths bytes ≡ None }
+    ensures only { (before : List Mbox) (paths bytes : List (List ℕ))
+        → AreToldApart (map (λ a. a.bytes) before ++ bytes)
+        → altered_archive before paths bytes ≡ None → before ≡ mboxes paths bytes }
+    ensures all { (paths bytes : List (List ℕ)) → length paths ≡ length bytes
+        → altered_archive (mboxes paths bytes) paths bytes ≡ None }
 {}
 
 /// What an index of version 1 has of sound archives is well-formed, as their own table is
 /// ([`index_job::the_table_of_sound_archives_is_well_formed`]); and so is that table with any other digests.
 pub fn other_tables_of_sound_archives_are_well_formed()
-    ensures before { (archives : List Mbox) → All (λ a. IsPath a.path) archives → AreSound archives → IsWellFormed (old_table (table archives)) }
-    ensures otherwise { (archives : List Mbox) (t : Table) → All (λ a. IsPath a.path) archives → AreSound archives
+    ensures before { (archives : List Mbox) → All (λ a. IsPath a.path) archives → AreSound archives
+        → IsWellFormed (old_table (table archives)) }
+    ensures otherwise { (archives : List Mbox) (t : Table) → All (λ a. IsPath a.path) archives
+        → AreSound archives
         → but_digests t ≡ but_digests (table archives) → HasDigests t → IsWellFormed t }
 {}

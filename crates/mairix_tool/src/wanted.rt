@@ -36,7 +36,8 @@ impl Wanted {
         rc: &[u8],
         now: Moment,
     ) -> Result<Wanted, Fault>
-        ensures asked { Gives wanted refusal_of result (asked (map string_bytes words.now) rc.now now) }
+        ensures asked { Gives wanted refusal_of result
+            (asked (map string_bytes words.now) rc.now now) }
         ensures early { IfErr result IsEarly }
     {
         let plan = plan_of(alloc, words)?;

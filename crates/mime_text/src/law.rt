@@ -10,13 +10,16 @@ ghost use Rattle.mime_text.specs.Stream.{given, InHeader, counted_part};
 /// A stack of boundaries, one line at a time, gives the parts of the split that takes the outermost boundaries first. It does
 /// nothing.
 pub fn one_line_at_a_time()
-    ensures { (shape_of : DefaultType → List HeaderField → Shape) (gives : Part → List ℕ) (counted : Bool) (left : ℕ) (default : DefaultType) (lines : List (List ℕ))
-        → given shape_of gives [] (InHeader counted left default []) lines ≡ flat_map gives (counted_part counted lines ++ parts shape_of (suc left) default lines) }
+    ensures { (shape_of : DefaultType → List HeaderField → Shape) (gives : Part → List ℕ)
+        (counted : Bool) (left : ℕ) (default : DefaultType) (lines : List (List ℕ))
+        → given shape_of gives [] (InHeader counted left default []) lines
+        ≡ flat_map gives (counted_part counted lines ++ parts shape_of (suc left) default lines) }
 {}
 
 /// The parameters of a value are those of its pieces, of which the first begins behind its first semicolon, and no other list
 /// is. The function has no code: its contract is the law.
 pub fn parameters_are_of_pieces()
     ensures some { (value : List ℕ) → AreParameters (behind_semicolon value) (parameters value) }
-    ensures only { (value : List ℕ) (ps : List Parameter) → AreParameters (behind_semicolon value) ps → ps ≡ parameters value }
+    ensures only { (value : List ℕ) (ps : List Parameter)
+        → AreParameters (behind_semicolon value) ps → ps ≡ parameters value }
 {}

@@ -69,10 +69,13 @@ impl<A: Archives + Drop> Archives for FailAt<A> {
         ensures held { A.held self.new.inner ≡ A.held self.old.inner }
         ensures number { A.number self.new.inner ≡ A.number self.old.inner }
         ensures bytes { IfOk result (λ bytes. IsLength n bytes (A.held self.old.inner)) }
-        ensures count { Counts result (A.failures self.old.inner + self.old.failures) (A.failures self.new.inner + self.new.failures) }
+        ensures count { Counts result (A.failures self.old.inner + self.old.failures)
+            (A.failures self.new.inner + self.new.failures) }
         ensures fails { self.old.fail_at ≡ 1 → IsErr result × (self.new.inner ≡ self.old.inner) }
-        ensures passes { self.old.fail_at ≢ 1 → Counts result (A.failures self.old.inner) (A.failures self.new.inner) }
-        ensures measured { self.old.fail_at ≢ 1 → A.measures self.old.inner n result self.new.inner }
+        ensures passes { self.old.fail_at ≢ 1 → Counts result (A.failures self.old.inner)
+            (A.failures self.new.inner) }
+        ensures measured { self.old.fail_at ≢ 1 → A.measures self.old.inner n result
+            self.new.inner }
         ensures next { self.new.fail_at ≡ self.old.fail_at - 1 }
     {
         if self.fails() {
@@ -88,12 +91,16 @@ impl<A: Archives + Drop> Archives for FailAt<A> {
         ensures held { A.held self.new.inner ≡ A.held self.old.inner }
         ensures number { A.number self.new.inner ≡ A.number self.old.inner }
         ensures bound { IfOk result (λ bytes. bytes ≤ length into.new) }
-        ensures bytes { IfOk result (λ bytes. IsRead n offset (take bytes into.new) (A.held self.old.inner)) }
-        ensures count { Counts result (A.failures self.old.inner + self.old.failures) (A.failures self.new.inner + self.new.failures) }
+        ensures bytes { IfOk result (λ bytes. IsRead n offset (take bytes into.new)
+            (A.held self.old.inner)) }
+        ensures count { Counts result (A.failures self.old.inner + self.old.failures)
+            (A.failures self.new.inner + self.new.failures) }
         ensures fails { self.old.fail_at ≡ 1 → IsErr result × (self.new.inner ≡ self.old.inner) }
-        ensures passes { self.old.fail_at ≢ 1 → Counts result (A.failures self.old.inner) (A.failures self.new.inner) }
+        ensures passes { self.old.fail_at ≢ 1 → Counts result (A.failures self.old.inner)
+            (A.failures self.new.inner) }
         ensures asked { A.lengths_asked self.new.inner ≡ A.lengths_asked self.old.inner }
-        ensures read { self.old.fail_at ≢ 1 → A.reads self.old.inner n offset (bytes_told result into.new) self.new.inner }
+        ensures read { self.old.fail_at ≢ 1 → A.reads self.old.inner n offset
+            (bytes_told result into.new) self.new.inner }
         ensures next { self.new.fail_at ≡ self.old.fail_at - 1 }
     {
         if self.fails() {

@@ -84,9 +84,11 @@ impl Archives for MemoryArchives {
         ensures held { Some self.new ≡ Some self.old }
         ensures number { length self.new ≡ length self.old }
         ensures bound { IfOk result (λ bytes. bytes ≤ length into.new) }
-        ensures bytes { IfOk result (λ bytes. IsRead n offset (take bytes into.new) (Some self.old)) }
+        ensures bytes { IfOk result (λ bytes. IsRead n offset (take bytes into.new)
+            (Some self.old)) }
         ensures count { Counts result 0 0 }
-        ensures never { result ≡ Ok (min (length (drop offset (archive_at self.old n))) (length into.old)) }
+        ensures never { result ≡ Ok (min (length (drop offset (archive_at self.old n)))
+            (length into.old)) }
     {
         let archive = self.archives[n as usize].as_slice();
         Ok(read_part(archive, offset, into))

@@ -19,14 +19,22 @@ pub(crate) fn check_archives<A: Archives>(
 ) -> Result<(), AnswerFaultKind>
     requires { A.failures archives.old < 2 ^ 64 - 1 }
     ensures keeps { HoldsArchives A.Archives archives.old archives.new }
-    ensures stale { IfSome (A.held archives.old) (λ bytes. TellsStale (stale_archive index.now.archives bytes) result) }
+    ensures stale { IfSome (A.held archives.old) (λ bytes. TellsStale
+        (stale_archive index.now.archives bytes) result) }
     ensures same_count { OnOk result (A.number archives.old ≡ length index.now.archives) }
-    ensures other_count { A.number archives.old ≢ length index.now.archives → result ≡ Err (AnswerFaultKind.Stale (min (A.number archives.old) (length index.now.archives))) }
-    ensures unasked { A.number archives.old ≢ length index.now.archives → archives.new ≡ archives.old }
-    ensures asked { A.number archives.old ≡ length index.now.archives → FindsLengths A.Archives index.now.archives archives.old archives.new result }
-    ensures below { A.number archives.old ≡ length index.now.archives → IfErr result (λ kind. IfStale kind (λ n. n < length index.now.archives)) }
-    ensures count { Counted (has_fault is_of_archives result) (A.failures archives.old) (A.failures archives.new) }
-    ensures own { IfErr result (λ kind. (is_of_output kind ≡ false) × (kind ≢ AnswerFaultKind.OutOfMemory)) }
+    ensures other_count { A.number archives.old ≢ length index.now.archives
+        → result ≡ Err (AnswerFaultKind.Stale (min (A.number archives.old)
+        (length index.now.archives))) }
+    ensures unasked { A.number archives.old ≢ length index.now.archives
+        → archives.new ≡ archives.old }
+    ensures asked { A.number archives.old ≡ length index.now.archives
+        → FindsLengths A.Archives index.now.archives archives.old archives.new result }
+    ensures below { A.number archives.old ≡ length index.now.archives
+        → IfErr result (λ kind. IfStale kind (λ n. n < length index.now.archives)) }
+    ensures count { Counted (has_fault is_of_archives result) (A.failures archives.old)
+        (A.failures archives.new) }
+    ensures own { IfErr result (λ kind. (is_of_output kind ≡ false)
+        × (kind ≢ AnswerFaultKind.OutOfMemory)) }
 {
     let count = archives.count();
     let indexed = index.archive_count();
@@ -50,10 +58,14 @@ fn is_as_long<A: Archives>(archives: &mut A, n: u32, indexed: u64) -> Result<boo
     requires below { n < A.number archives.old }
     requires count { A.failures archives.old < 2 ^ 64 - 1 }
     ensures keeps { HoldsArchives A.Archives archives.old archives.new }
-    ensures same { IfOk result (λ same. IfSome (A.held archives.old) (λ bytes. same ≡ (length (archive_at bytes n) == indexed))) }
-    ensures asked { IfOk result (λ same. (told : ℕ) × A.measures archives.old n (Ok told) archives.new × (same ≡ (told == indexed))) }
-    ensures failed { OnErr result ((fault : DeviceFault) × A.measures archives.old n (Err fault) archives.new) }
-    ensures count { Counted (has_fault is_of_archives result) (A.failures archives.old) (A.failures archives.new) }
+    ensures same { IfOk result (λ same. IfSome (A.held archives.old)
+        (λ bytes. same ≡ (length (archive_at bytes n) == indexed))) }
+    ensures asked { IfOk result (λ same. (told : ℕ)
+        × A.measures archives.old n (Ok told) archives.new × (same ≡ (told == indexed))) }
+    ensures failed { OnErr result ((fault : DeviceFault)
+        × A.measures archives.old n (Err fault) archives.new) }
+    ensures count { Counted (has_fault is_of_archives result) (A.failures archives.old)
+        (A.failures archives.new) }
     ensures own { IfErr result (λ kind. kind ≡ AnswerFaultKind.Device) }
 {
     match archives.length(n) {

@@ -25,7 +25,8 @@ pub(crate) fn walk_of<'a>(
     requires { IsWellFormed index.now }
     ensures truths { IfOk result (λ w. Tells index.now (query_of node.now) w.truths) }
     ensures left { IfOk result (λ w. w.left ≤ most_left index.now (query_of node.now)) }
-    ensures steps { LooksUp (length index.now.keys) (look_ups (query_of node.now)) steps.old steps.new }
+    ensures steps { LooksUp (length index.now.keys) (look_ups (query_of node.now))
+        steps.old steps.new }
 {
     match node {
         Node::Any => Walk::scanned(alloc, Scanned::new(index.again(), Asked::Any)),
@@ -77,8 +78,10 @@ fn walks_of<'a>(
 ) -> Result<Vec<Walk<'a>>, AllocError>
     requires { IsWellFormed index.now }
     ensures truths { IfOk result (λ v. TellAll index.now (queries_of nodes.now) v.items) }
-    ensures left { IfOk result (λ v. left_in v.items ≤ most_left_of_all index.now (members_of (queries_of nodes.now))) }
-    ensures steps { LooksUp (length index.now.keys) (look_ups_of_all (members_of (queries_of nodes.now))) steps.old steps.new }
+    ensures left { IfOk result (λ v. left_in v.items
+        ≤ most_left_of_all index.now (members_of (queries_of nodes.now))) }
+    ensures steps { LooksUp (length index.now.keys)
+        (look_ups_of_all (members_of (queries_of nodes.now))) steps.old steps.new }
 {
     let mut walks = Vec::new(alloc);
     for node in nodes {

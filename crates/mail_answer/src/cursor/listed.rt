@@ -41,7 +41,8 @@ pub(crate) fn is_before(first: Option<u32>, n: u32) -> bool
 /// Drops the numbers below n.
 fn cut(first: &mut Option<u32>, postings: &mut Postings<'_>, n: u32, steps: &mut Steps)
     requires { RisesFrom 0 (numbers_ahead first.old postings.old) }
-    ensures cut { AreCut n (numbers_ahead first.old postings.old) (numbers_ahead first.new postings.new) }
+    ensures cut { AreCut n (numbers_ahead first.old postings.old)
+        (numbers_ahead first.new postings.new) }
     ensures first { first.new ≡ first_of (numbers_ahead first.new postings.new) }
     ensures fewer { length postings.new ≤ length postings.old }
     ensures steps { steps.new ≡ add_steps steps.old (length postings.old - length postings.new) }

@@ -76,7 +76,8 @@ fn mark_all(
     steps: &mut Steps,
 ) -> Option<u32>
     requires { AreFew lists.old.items }
-    ensures rest { Drops (start + length marks.old) (united lists.old.items) (united lists.new.items) }
+    ensures rest { Drops (start + length marks.old) (united lists.old.items)
+        (united lists.new.items) }
     ensures number { IsFirst (united lists.new.items) result }
     ensures marks { Adds (λ k. truth_at (united lists.old.items) (start + k)) marks.old marks.new }
     ensures steps { Counts (left_in lists.old.items) (left_in lists.new.items) steps.old steps.new }
@@ -126,7 +127,8 @@ fn begin_window(
 ) -> Option<u32>
     requires { HaveMarks start.old marks.old lists.old.items ahead.old }
     ensures marks { HaveMarks start.new marks.new lists.new.items ahead.new }
-    ensures rest { Drops n (united lists.old.items) (marked_or_listed start.new marks.new lists.new.items) }
+    ensures rest { Drops n (united lists.old.items)
+        (marked_or_listed start.new marks.new lists.new.items) }
     ensures number { IsFirst (marked_or_listed start.new marks.new lists.new.items) result }
     ensures steps { Counts (left_in lists.old.items) (left_in lists.new.items) steps.old steps.new }
 {
@@ -167,7 +169,8 @@ fn least_marked(
 ) -> Option<u32>
     requires { HaveMarks start.old marks.old lists.old.items ahead.old }
     ensures marks { HaveMarks start.new marks.new lists.new.items ahead.new }
-    ensures rest { Drops n (truths_marked low.old start.old marks.old lists.old.items) (truths_marked low.new start.new marks.new lists.new.items) }
+    ensures rest { Drops n (truths_marked low.old start.old marks.old lists.old.items)
+        (truths_marked low.new start.new marks.new lists.new.items) }
     ensures number { IsFirst (truths_marked low.new start.new marks.new lists.new.items) result }
     ensures steps { Counts (left_in lists.old.items) (left_in lists.new.items) steps.old steps.new }
 {

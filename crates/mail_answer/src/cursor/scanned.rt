@@ -29,7 +29,8 @@ pub(crate) enum Asked {
 
 /// Whether the record is as asked.
 fn is_as_asked(asked: Asked, message: Record) -> bool
-    ensures { (t : Table) (n : ℕ) → result ≡ is_true (asked_query asked) (facts_of_record t n message) }
+    ensures { (t : Table) (n : ℕ) → result ≡ is_true (asked_query asked)
+        (facts_of_record t n message) }
 {
     match asked {
         Asked::Any => true,
@@ -41,9 +42,11 @@ fn is_as_asked(asked: Asked, message: Record) -> bool
 
 /// Looks at the records from the next one on, a step each, up to the first that is as asked.
 fn next_asked(index: &IndexView<'_>, asked: Asked, next: &mut u32, steps: &mut Steps) -> Option<u32>
-    ensures found { Scans (length index.now.messages) (satisfies index.now asked) next.old next.new result }
+    ensures found { Scans (length index.now.messages) (satisfies index.now asked) next.old next.new
+        result }
     ensures looked { steps.new ≡ add_steps steps.old (next.new - next.old) }
-    ensures steps { Spends (length index.now.messages - next.old) (length index.now.messages - next.new) steps.old steps.new }
+    ensures steps { Spends (length index.now.messages - next.old)
+        (length index.now.messages - next.new) steps.old steps.new }
 {
     while *next < index.message_count() {
         let number = *next;
@@ -67,11 +70,14 @@ fn cut(
 )
     requires { IsFound (length index.now.messages) next.old first.old }
     ensures rest { let test = satisfies index.now asked in
-        Drops n (truths_scanned (length index.now.messages) test next.old first.old) (truths_scanned (length index.now.messages) test next.new first.new) }
-    ensures number { IsFirst (truths_scanned (length index.now.messages) (satisfies index.now asked) next.new first.new) first.new }
+        Drops n (truths_scanned (length index.now.messages) test next.old first.old)
+        (truths_scanned (length index.now.messages) test next.new first.new) }
+    ensures number { IsFirst (truths_scanned (length index.now.messages) (satisfies index.now asked)
+        next.new first.new) first.new }
     ensures found { IsFound (length index.now.messages) next.new first.new }
     ensures looked { steps.new ≡ add_steps steps.old (next.new - max n next.old) }
-    ensures steps { Spends (length index.now.messages - next.old) (length index.now.messages - next.new) steps.old steps.new }
+    ensures steps { Spends (length index.now.messages - next.old)
+        (length index.now.messages - next.new) steps.old steps.new }
 {
     if is_before(*first, n) {
         *next = n.max(*next);

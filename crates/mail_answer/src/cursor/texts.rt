@@ -48,7 +48,8 @@ fn push_list<'a>(
     postings: Postings<'a>,
 ) -> Result<(), AllocError>
     requires { AreNumbers count postings }
-    ensures { IfOk result (λ _. Joins (λ n. is_among n postings.entry) (length postings.entry) members.old.items members.new.items) }
+    ensures { IfOk result (λ _. Joins (λ n. is_among n postings.entry) (length postings.entry)
+        members.old.items members.new.items) }
 {
     members.push(Listed::new(count, postings))?;
     Ok(())
@@ -61,7 +62,8 @@ fn push_all<'a>(
     mut keys: Keys<'a>,
 ) -> Result<(), AllocError>
     requires { HaveNumbers count keys }
-    ensures { IfOk result (λ _. Joins (λ n. some_key any_text n keys.entry) (numbers_passing any_text keys.entry) members.old.items members.new.items) }
+    ensures { IfOk result (λ _. Joins (λ n. some_key any_text n keys.entry)
+        (numbers_passing any_text keys.entry) members.old.items members.new.items) }
 {
     while let Some(key) = keys.next() {
         push_list(members, count, key.postings)?;
@@ -84,7 +86,8 @@ fn push_containing<'a>(
     text: &[u8],
 ) -> Result<(), AllocError>
     requires { HaveNumbers count keys }
-    ensures { IfOk result (λ _. Joins (λ n. some_key (contains_text text.now) n keys.entry) (numbers_passing (contains_text text.now) keys.entry) members.old.items members.new.items) }
+    ensures { IfOk result (λ _. Joins (λ n. some_key (contains_text text.now) n keys.entry)
+        (numbers_passing (contains_text text.now) keys.entry) members.old.items members.new.items) }
 {
     while let Some(key) = keys.next() {
         if has_within(key.text, text) {
@@ -104,7 +107,9 @@ fn push_kind<'a>(
     steps: &mut Steps,
 ) -> Result<(), AllocError>
     requires { IsWellFormed index.now }
-    ensures joins { IfOk result (λ _. Joins (λ n. list_any (fits fit text.now) (texts_with kind n index.now.keys)) (numbers_fitting (fits fit text.now) index.now.keys kind) members.old.items members.new.items) }
+    ensures joins { IfOk result (λ _. Joins (λ n. list_any (fits fit text.now)
+        (texts_with kind n index.now.keys)) (numbers_fitting (fits fit text.now) index.now.keys
+        kind) members.old.items members.new.items) }
     ensures steps { LooksUp (length index.now.keys) (looked_up_by fit) steps.old steps.new }
 {
     let count = index.message_count();
@@ -125,8 +130,11 @@ fn push_kinds<'a>(
     steps: &mut Steps,
 ) -> Result<(), AllocError>
     requires { IsWellFormed index.now }
-    ensures joins { IfOk result (λ _. Joins (some_of_kinds (kinds_in kinds) (fits fit text.now) index.now.keys) (numbers_named (fits fit text.now) index.now.keys (kinds_in kinds)) members.old.items members.new.items) }
-    ensures steps { LooksUp (length index.now.keys) (length (kinds_in kinds) * looked_up_by fit) steps.old steps.new }
+    ensures joins { IfOk result (λ _. Joins (some_of_kinds (kinds_in kinds) (fits fit text.now)
+        index.now.keys) (numbers_named (fits fit text.now) index.now.keys (kinds_in kinds))
+        members.old.items members.new.items) }
+    ensures steps { LooksUp (length index.now.keys) (length (kinds_in kinds) * looked_up_by fit)
+        steps.old steps.new }
 {
     for kind in &KINDS {
         if is_in(kinds, *kind) {
@@ -146,9 +154,12 @@ pub(crate) fn with_text<'a>(
     steps: &mut Steps,
 ) -> Result<Walk<'a>, AllocError>
     requires { IsWellFormed index.now }
-    ensures truths { IfOk result (λ w. (m : ℕ) → truth_at w.truths m ≡ some_word (fits fit text.now) kinds (facts_at index.now m)) }
-    ensures left { IfOk result (λ w. w.left ≤ numbers_named (fits fit text.now) index.now.keys (kinds_in kinds)) }
-    ensures steps { LooksUp (length index.now.keys) (length (kinds_in kinds) * looked_up_by fit) steps.old steps.new }
+    ensures truths { IfOk result (λ w. (m : ℕ) → truth_at w.truths m
+        ≡ some_word (fits fit text.now) kinds (facts_at index.now m)) }
+    ensures left { IfOk result (λ w. w.left ≤ numbers_named (fits fit text.now) index.now.keys
+        (kinds_in kinds)) }
+    ensures steps { LooksUp (length index.now.keys) (length (kinds_in kinds) * looked_up_by fit)
+        steps.old steps.new }
 {
     let mut members = Vec::new(alloc);
     push_kinds(&mut members, index, kinds, fit, text.as_bytes(), steps)?;

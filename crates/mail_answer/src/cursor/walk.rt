@@ -89,7 +89,8 @@ impl<'a> Walk<'a> {
     #[tactic(auto, using(crate::proofs::CursorLaws::MarkedLists::if_marked))]
     pub(crate) fn along_some(alloc: Global, lists: Vec<Listed<'a>>) -> Result<Self, AllocError>
         requires { AreFew lists.items }
-        ensures truths { IfOk result (λ w. (m : ℕ) → truth_at w.truths m ≡ some_has m lists.entry.items) }
+        ensures truths { IfOk result (λ w. (m : ℕ) → truth_at w.truths m
+            ≡ some_has m lists.entry.items) }
         ensures left { IfOk result (λ w. w.left ≡ left_in lists.entry.items) }
     {
         if lists.len() > MOST {
@@ -165,7 +166,8 @@ impl<'a> Walk<'a> {
         alloc: Global,
         members: Vec<Walk<'a>>,
     ) -> Result<Self, AllocError>
-        ensures truths { IfOk result (λ w. (m : ℕ) → truth_at w.truths m ≡ some_has m members.entry.items) }
+        ensures truths { IfOk result (λ w. (m : ℕ) → truth_at w.truths m
+            ≡ some_has m members.entry.items) }
         ensures left { IfOk result (λ w. w.left ≡ left_in members.entry.items) }
     {
         let mut walks = members;
@@ -204,7 +206,8 @@ impl<'a> Node<'a> {
         ensures rest { Drops n (ahead self.old).truths (ahead self.new).truths }
         ensures number { IsFirst (ahead self.new).truths result }
         ensures steps { Spends (ahead self.old).left (ahead self.new).left steps.old steps.new }
-        ensures postings { CountsPostings (ahead self.old).postings (ahead self.new).postings steps.old steps.new }
+        ensures postings { CountsPostings (ahead self.old).postings (ahead self.new).postings
+            steps.old steps.new }
         ensures below { (ahead self.new).below ≡ (ahead self.old).below }
     {
         match self {
@@ -258,10 +261,13 @@ fn is_number(number: Option<u32>, n: u32) -> bool
 /// The least number from n on that doesn't come in the inner walk.
 #[cycle(least)]
 fn least_other(walk: &mut Others<'_>, n: u32, steps: &mut Steps) -> Option<u32>
-    ensures rest { Drops n (others walk.old.count walk.old.low walk.old.inner.value.truths) (others walk.new.count walk.new.low walk.new.inner.value.truths) }
-    ensures number { IsFirst (others walk.new.count walk.new.low walk.new.inner.value.truths) result }
+    ensures rest { Drops n (others walk.old.count walk.old.low walk.old.inner.value.truths)
+        (others walk.new.count walk.new.low walk.new.inner.value.truths) }
+    ensures number { IsFirst (others walk.new.count walk.new.low walk.new.inner.value.truths)
+        result }
     ensures steps { Spends walk.old.inner.value.left walk.new.inner.value.left steps.old steps.new }
-    ensures postings { CountsPostings walk.old.inner.value.postings walk.new.inner.value.postings steps.old steps.new }
+    ensures postings { CountsPostings walk.old.inner.value.postings walk.new.inner.value.postings
+        steps.old steps.new }
     ensures below { walk.new.inner.value.below ≡ walk.old.inner.value.below }
 {
     let count = walk.count;
@@ -285,7 +291,8 @@ fn least_common(members: &mut [Walk<'_>], n: u32, steps: &mut Steps) -> Option<u
     ensures rest { Drops n (common members.old) (common members.new) }
     ensures number { IsFirst (common members.new) result }
     ensures steps { Spends (left_in members.old) (left_in members.new) steps.old steps.new }
-    ensures postings { CountsPostings (postings_in members.old) (postings_in members.new) steps.old steps.new }
+    ensures postings { CountsPostings (postings_in members.old) (postings_in members.new)
+        steps.old steps.new }
     ensures below { levels members.new ≡ levels members.old }
 {
     if members.is_empty() {
@@ -311,7 +318,8 @@ fn reach_common(members: &mut [Walk<'_>], n: u32, steps: &mut Steps) -> Option<u
     ensures rest { Drops n (common members.old) (common members.new) }
     ensures number { Reaches n (common members.new) result }
     ensures steps { Spends (left_in members.old) (left_in members.new) steps.old steps.new }
-    ensures postings { CountsPostings (postings_in members.old) (postings_in members.new) steps.old steps.new }
+    ensures postings { CountsPostings (postings_in members.old) (postings_in members.new)
+        steps.old steps.new }
     ensures below { levels members.new ≡ levels members.old }
 {
     let mut number = n;
@@ -330,7 +338,8 @@ fn least_united(members: &mut [Walk<'_>], n: u32, steps: &mut Steps) -> Option<u
     ensures rest { Drops n (united members.old) (united members.new) }
     ensures number { IsFirst (united members.new) result }
     ensures steps { Spends (left_in members.old) (left_in members.new) steps.old steps.new }
-    ensures postings { CountsPostings (postings_in members.old) (postings_in members.new) steps.old steps.new }
+    ensures postings { CountsPostings (postings_in members.old) (postings_in members.new)
+        steps.old steps.new }
     ensures below { levels members.new ≡ levels members.old }
 {
     let mut least = None;

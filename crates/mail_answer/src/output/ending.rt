@@ -80,7 +80,8 @@ fn with_each(before: Ending, more: &[u8]) -> Ending
 
 /// The bytes behind the last LF that isn't the last byte.
 fn behind_last_feed(bytes: &[u8]) -> Option<&[u8]>
-    ensures { IfSome result (λ rest. (front : List ℕ) × (bytes.now ≡ front ++ 10 ∷ rest.now) × (0 < length rest.now)) }
+    ensures { IfSome result (λ rest. (front : List ℕ) × (bytes.now ≡ front ++ 10 ∷ rest.now)
+        × (0 < length rest.now)) }
 {
     let most = bytes.len().checked_sub(1)?;
     let at = memrchr(b'\n', &bytes[..most])?;
@@ -97,7 +98,8 @@ impl Ending {
 
     /// With these bytes more. It looks at the last line alone.
     pub(crate) fn with_bytes(self, more: &[u8]) -> Self
-        ensures { (bytes : List ℕ) → self ≡ ending_of bytes → result ≡ ending_of (bytes ++ more.now) }
+        ensures { (bytes : List ℕ) → self ≡ ending_of bytes
+            → result ≡ ending_of (bytes ++ more.now) }
     {
         match behind_last_feed(more) {
             Some(rest) => with_each(Ending::new(), rest),

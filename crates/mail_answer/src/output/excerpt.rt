@@ -64,7 +64,8 @@ fn push_field(
     name: &str,
     text: &mut Vec<u8>,
 ) -> Result<(), AllocError>
-    ensures { OnOk result ((ls : List (List ℕ)) → HasLines header.now ls → text.new.items ≡ text.old.items ++ field_line (fields_of ls) name.now) }
+    ensures { OnOk result ((ls : List (List ℕ)) → HasLines header.now ls
+        → text.new.items ≡ text.old.items ++ field_line (fields_of ls) name.now) }
 {
     let value = shown_value(alloc, body_of(header.fields(), name))?;
     text.extend_from_slice(name.as_bytes())?;
@@ -79,7 +80,8 @@ fn push_field(
 
 /// The excerpt of a message of this header: the path of its archive, and five fields.
 fn excerpt_text(alloc: Global, path: &str, header: &Header) -> Result<Vec<u8>, AllocError>
-    ensures { IfOk result (λ text. (ls : List (List ℕ)) → HasLines header.now ls → text.items ≡ path.now ++ 10 ∷ excerpt_lines (fields_of ls)) }
+    ensures { IfOk result (λ text. (ls : List (List ℕ)) → HasLines header.now ls
+        → text.items ≡ path.now ++ 10 ∷ excerpt_lines (fields_of ls)) }
 {
     let mut text = Vec::new(alloc);
     text.extend_from_slice(path.as_bytes())?;
@@ -108,9 +110,11 @@ pub(crate) fn push_excerpt<A: Archives, O: Out>(
     requires out { O.failures out.old < 2 ^ 64 - 1 }
     ensures archives { ReadsArchives A.Archives archives.old archives.new result }
     ensures same { places.new.table ≡ places.old.table }
-    ensures writes { Writes (O.taken out.old) (O.taken out.new) sheet.old sheet.new (known_message Excerpt places.old.table (A.held archives.old) n) result }
+    ensures writes { Writes (O.taken out.old) (O.taken out.new) sheet.old sheet.new
+        (known_message Excerpt places.old.table (A.held archives.old) n) result }
     ensures out { WritesOut O.Out sheet.new.sent out.old out.new result }
-    ensures stale { IfErr result (λ kind. IfStale kind (λ archive. archive ≡ (record_at places.old.table.messages n).archive)) }
+    ensures stale { IfErr result (λ kind. IfStale kind
+        (λ archive. archive ≡ (record_at places.old.table.messages n).archive)) }
 {
     let message = places.index().message(n);
     let header = read_header(alloc, message, archives)?;

@@ -24,10 +24,14 @@ fn read_line<A: Archives>(
     requires inside { IsInside (A.number archives.old) (A.held archives.old) reader.old }
     requires count { A.failures archives.old < 2 ^ 64 - 1 }
     ensures archives { ReadsArchives A.Archives archives.old archives.new result }
-    ensures inside { OnOk result (IsInside (A.number archives.old) (A.held archives.old) reader.new) }
-    ensures fields { IfOk result (λ taken. (fields : List HeaderField) → WillHaveFields (coming (A.held archives.old) reader.old) header.old fields → HasFieldsAfter taken (coming (A.held archives.old) reader.new) header.new fields) }
+    ensures inside { OnOk result (IsInside (A.number archives.old) (A.held archives.old)
+        reader.new) }
+    ensures fields { IfOk result (λ taken. (fields : List HeaderField)
+        → WillHaveFields (coming (A.held archives.old) reader.old) header.old fields
+        → HasFieldsAfter taken (coming (A.held archives.old) reader.new) header.new fields) }
     ensures archive { OnOk result (reader.new.archive ≡ reader.old.archive) }
-    ensures less { IfOk result (λ taken. taken ≡ Taken.More → coming_count reader.new < coming_count reader.old) }
+    ensures less { IfOk result (λ taken. taken ≡ Taken.More
+        → coming_count reader.new < coming_count reader.old) }
     ensures own { has_fault is_of_output result ≡ false }
     ensures stale { IfErr result (λ kind. IfStale kind (λ n. n ≡ reader.old.archive)) }
 {
@@ -46,10 +50,12 @@ pub(crate) fn read_header<A: Archives>(
     message: Record,
     archives: &mut A,
 ) -> Result<Header, AnswerFaultKind>
-    requires inside { IsInside (A.number archives.old) (A.held archives.old) (span_reading message) }
+    requires inside { IsInside (A.number archives.old) (A.held archives.old)
+        (span_reading message) }
     requires count { A.failures archives.old < 2 ^ 64 - 1 }
     ensures archives { ReadsArchives A.Archives archives.old archives.new result }
-    ensures fields { IfOk result (λ header. IfSome (A.held archives.old) (λ bytes. HasFields header (fields_of (drop 1 (lines (span bytes message)))))) }
+    ensures fields { IfOk result (λ header. IfSome (A.held archives.old)
+        (λ bytes. HasFields header (fields_of (drop 1 (lines (span bytes message)))))) }
     ensures own { has_fault is_of_output result ≡ false }
     ensures stale { IfErr result (λ kind. IfStale kind (λ n. n ≡ message.archive)) }
 {

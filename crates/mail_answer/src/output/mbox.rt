@@ -72,9 +72,12 @@ impl Part {
         requires archives { A.failures archives.old < 2 ^ 64 - 1 }
         requires out { O.failures out.old < 2 ^ 64 - 1 }
         ensures archives { ReadsArchives A.Archives archives.old archives.new result }
-        ensures inside { OnOk result (IsInside (A.number archives.old) (A.held archives.old) self.new) }
+        ensures inside { OnOk result (IsInside (A.number archives.old) (A.held archives.old)
+            self.new) }
         ensures archive { OnOk result (self.new.archive ≡ self.old.archive) }
-        ensures copies { Copies (O.taken out.old) (O.taken out.new) sheet.old sheet.new (coming (A.held archives.old) self.old) (coming (A.held archives.old) self.new) (coming_count self.old) (coming_count self.new) before result }
+        ensures copies { Copies (O.taken out.old) (O.taken out.new) sheet.old sheet.new
+            (coming (A.held archives.old) self.old) (coming (A.held archives.old) self.new)
+            (coming_count self.old) (coming_count self.new) before result }
         ensures less { OnOk result (coming_count self.new < coming_count self.old) }
         ensures out { WritesOut O.Out sheet.new.sent out.old out.new result }
         ensures stale { IfErr result (λ kind. IfStale kind (λ n. n ≡ self.old.archive)) }
@@ -97,13 +100,16 @@ fn push_closed<A: Archives, O: Out>(
     sheet: &mut Sheet,
     out: &mut O,
 ) -> Result<(), AnswerFaultKind>
-    requires inside { IsInside (A.number archives.old) (A.held archives.old) (span_reading message) }
+    requires inside { IsInside (A.number archives.old) (A.held archives.old)
+        (span_reading message) }
     requires some { 0 < message.length }
     requires archives { A.failures archives.old < 2 ^ 64 - 1 }
     requires out { O.failures out.old < 2 ^ 64 - 1 }
     ensures archives { ReadsArchives A.Archives archives.old archives.new result }
-    ensures writes { Writes (O.taken out.old) (O.taken out.new) sheet.old sheet.new (option_map closed (coming (A.held archives.old) (span_reading message))) result }
-    ensures span { WritesSpan (O.taken out.old) (O.taken out.new) sheet.old sheet.new message.length result }
+    ensures writes { Writes (O.taken out.old) (O.taken out.new) sheet.old sheet.new
+        (option_map closed (coming (A.held archives.old) (span_reading message))) result }
+    ensures span { WritesSpan (O.taken out.old) (O.taken out.new) sheet.old sheet.new message.length
+        result }
     ensures out { WritesOut O.Out sheet.new.sent out.old out.new result }
     ensures stale { IfErr result (λ kind. IfStale kind (λ n. n ≡ message.archive)) }
 {
@@ -130,10 +136,13 @@ pub(crate) fn push_mbox<A: Archives, O: Out>(
     requires archives { A.failures archives.old < 2 ^ 64 - 1 }
     requires out { O.failures out.old < 2 ^ 64 - 1 }
     ensures archives { ReadsArchives A.Archives archives.old archives.new result }
-    ensures writes { Writes (O.taken out.old) (O.taken out.new) sheet.old sheet.new (known_message Mbox index.now (A.held archives.old) n) result }
-    ensures span { WritesSpan (O.taken out.old) (O.taken out.new) sheet.old sheet.new (record_at index.now.messages n).length result }
+    ensures writes { Writes (O.taken out.old) (O.taken out.new) sheet.old sheet.new
+        (known_message Mbox index.now (A.held archives.old) n) result }
+    ensures span { WritesSpan (O.taken out.old) (O.taken out.new) sheet.old sheet.new
+        (record_at index.now.messages n).length result }
     ensures out { WritesOut O.Out sheet.new.sent out.old out.new result }
-    ensures stale { IfErr result (λ kind. IfStale kind (λ archive. archive ≡ (record_at index.now.messages n).archive)) }
+    ensures stale { IfErr result (λ kind. IfStale kind
+        (λ archive. archive ≡ (record_at index.now.messages n).archive)) }
 {
     push_closed(index.message(n), archives, sheet, out)
 }

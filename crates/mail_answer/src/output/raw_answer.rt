@@ -27,7 +27,9 @@ pub(crate) fn push_raw<O: Out>(
     requires below { n < length places.old.table.messages }
     requires out { O.failures out.old < 2 ^ 64 - 1 }
     ensures same { places.new.table ≡ places.old.table }
-    ensures writes { Writes (O.taken out.old) (O.taken out.new) sheet.old sheet.new (Some (message_text Raw places.old.table.archives [] (record_at places.old.table.messages n))) result }
+    ensures writes { Writes (O.taken out.old) (O.taken out.new) sheet.old sheet.new
+        (Some (message_text Raw places.old.table.archives []
+        (record_at places.old.table.messages n))) result }
     ensures out { WritesOut O.Out sheet.new.sent out.old out.new result }
     ensures own { (has_fault is_of_archives result ≡ false) × (has_fault is_stale result ≡ false) }
 {

@@ -37,10 +37,12 @@ impl Sheet {
     /// Adds bytes to the answer.
     pub(crate) fn push<O: Out>(&mut self, out: &mut O, bytes: &[u8]) -> Result<(), AnswerFaultKind>
         requires { O.failures out.old < 2 ^ 64 - 1 }
-        ensures writes { Writes (O.taken out.old) (O.taken out.new) self.old self.new (Some bytes.now) result }
+        ensures writes { Writes (O.taken out.old) (O.taken out.new) self.old self.new
+            (Some bytes.now) result }
         ensures few { OnOk result (length self.new.text < FULL) }
         ensures out { WritesOut O.Out self.new.sent out.old out.new result }
-        ensures own { (has_fault is_of_archives result ≡ false) × (has_fault is_stale result ≡ false) }
+        ensures own { (has_fault is_of_archives result ≡ false)
+            × (has_fault is_stale result ≡ false) }
     {
         self.text.extend(bytes)?;
         self.send_full(out)
@@ -49,7 +51,8 @@ impl Sheet {
     /// Writes all that is gathered, where it is enough.
     pub(crate) fn send_full<O: Out>(&mut self, out: &mut O) -> Result<(), AnswerFaultKind>
         requires { O.failures out.old < 2 ^ 64 - 1 }
-        ensures writes { Writes (O.taken out.old) (O.taken out.new) self.old self.new (Some []) result }
+        ensures writes { Writes (O.taken out.old) (O.taken out.new) self.old self.new (Some [])
+            result }
         ensures few { OnOk result (length self.new.text < FULL) }
         ensures out { WritesOut O.Out self.new.sent out.old out.new result }
         ensures own { IfErr result (λ kind. kind ≡ AnswerFaultKind.OutFailed) }
@@ -63,7 +66,8 @@ impl Sheet {
     /// Writes all that is gathered, in as many calls as it takes.
     pub(crate) fn send<O: Out>(&mut self, out: &mut O) -> Result<(), AnswerFaultKind>
         requires { O.failures out.old < 2 ^ 64 - 1 }
-        ensures writes { Writes (O.taken out.old) (O.taken out.new) self.old self.new (Some []) result }
+        ensures writes { Writes (O.taken out.old) (O.taken out.new) self.old self.new (Some [])
+            result }
         ensures all { OnOk result (self.new.text ≡ []) }
         ensures out { WritesOut O.Out self.new.sent out.old out.new result }
         ensures own { IfErr result (λ kind. kind ≡ AnswerFaultKind.OutFailed) }

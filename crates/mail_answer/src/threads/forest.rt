@@ -96,7 +96,8 @@ pub(crate) fn unite_by_keys(parents: &mut [u32], mut keys: Keys<'_>, steps: &mut
 pub(crate) fn flatten(parents: &mut [u32])
     requires { LeadsBack parents.old }
     ensures shortened { Shortens parents.old parents.new }
-    ensures flat { (n : ℕ) → n < length parents.old → slice_index parents.new (slice_index parents.new n) ≡ slice_index parents.new n }
+    ensures flat { (n : ℕ) → n < length parents.old
+        → slice_index parents.new (slice_index parents.new n) ≡ slice_index parents.new n }
 {
     for number in 0..parents.len() {
         lift(parents, number);

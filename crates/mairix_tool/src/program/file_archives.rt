@@ -46,8 +46,10 @@ impl<'p, R: Files<File = File>> FileArchives<'p, R> {
     ) -> Option<FileArchives<'p, R>>
         requires { length states.now ≡ length paths.now }
         ensures few { IsSome result ↔ length paths.now < 2 ^ 32 }
-        ensures number { IfSome result (λ archives. ⟦<FileArchives<'p, R> as Archives>⟧.number archives ≡ length paths.now) }
-        ensures fresh { IfSome result (λ archives. ⟦<FileArchives<'p, R> as Archives>⟧.failures archives ≡ 0) }
+        ensures number { IfSome result (λ archives. ⟦<FileArchives<'p, R> as Archives>⟧.number
+            archives ≡ length paths.now) }
+        ensures fresh { IfSome result (λ archives. ⟦<FileArchives<'p, R> as Archives>⟧.failures
+            archives ≡ 0) }
     {
         if paths.len() > u32::MAX as usize {
             return None;

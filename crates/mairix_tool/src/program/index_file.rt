@@ -45,7 +45,8 @@ fn index_bytes<F: Read>(alloc: Global, file: &mut F, length: u64) -> io::Result<
 #[tactic(auto, using(crate::proofs::IndexFronts::marked_otherwise, crate::proofs::IndexFronts::unknown_version))]
 fn fault_of_front(front: &[u8]) -> Option<IndexFault>
     ensures own { IfSome result (λ fault. IsFirstFault front.now fault) }
-    ensures whole { (rest : List ℕ) → 80 ≤ length front.now → IfSome result (λ fault. IsFirstFault (front.now ++ rest) fault) }
+    ensures whole { (rest : List ℕ) → 80 ≤ length front.now
+        → IfSome result (λ fault. IsFirstFault (front.now ++ rest) fault) }
 {
     match IndexView::open(front) {
         Err(IndexFault::TooShort) => Some(IndexFault::TooShort),

@@ -32,7 +32,8 @@ impl Facts {
     /// What this header says.
     #[tactic(auto, unfolding(crate::specs::MessageFacts::facts_of))]
     pub(crate) fn of(alloc: Global, header: &Header) -> Result<Facts, AllocError>
-        ensures facts { IfOk result (λ facts. (ls : List (List ℕ)) → HasLines header.now ls → facts ≡ facts_of (fields_of ls)) }
+        ensures facts { IfOk result (λ facts. (ls : List (List ℕ)) → HasLines header.now ls
+            → facts ≡ facts_of (fields_of ls)) }
         ensures sizes { IfOk result HasSizedIds }
     {
         Ok(Facts {

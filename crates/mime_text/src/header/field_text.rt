@@ -108,7 +108,8 @@ impl FieldReader {
     /// Reads the name of a header's entity, and keeps nothing where memory is wanting. The answer is whether it has one.
     fn take_name(&mut self, fields: Fields<'_>) -> Result<bool, AllocError>
         requires { fields_size fields ≤ most_in_header }
-        ensures { IfOk result (λ found. (if found then Some (string_bytes self.new.text) else None) ≡ name_text fields.entry) }
+        ensures { IfOk result (λ found. (if found then Some (string_bytes self.new.text) else None)
+            ≡ name_text fields.entry) }
     {
         let outcome = write_name(
             fields,
@@ -127,8 +128,10 @@ impl FieldReader {
     /// The text of the name of a header's entity, if it has one. It has at most three bytes for each of the name's.
     pub(crate) fn read_name(&mut self, fields: Fields<'_>) -> Result<Option<&str>, AllocError>
         requires { fields_size fields ≤ most_in_header }
-        ensures text { IfOk result (λ name. option_map (λ text. text.now) name ≡ name_text fields.entry) }
-        ensures size { IfOk result (λ name. IfSome name (λ text. length text.now ≤ most_in_header_text)) }
+        ensures text { IfOk result (λ name. option_map (λ text. text.now) name
+            ≡ name_text fields.entry) }
+        ensures size { IfOk result (λ name. IfSome name
+            (λ text. length text.now ≤ most_in_header_text)) }
     {
         if self.take_name(fields)? {
             Ok(Some(self.text.as_str()))

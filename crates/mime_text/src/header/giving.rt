@@ -15,7 +15,8 @@ use mail_words::TextKind;
 /// Gives a text.
 fn give_text<S: TextSink>(kind: TextKind, text: &str, sink: &mut S) -> Result<(), TextFault>
     requires { length text.now ≤ most_in_text kind }
-    ensures { Hands S.takes S.refuses (λ _. (kind, text.now) ∷ []) (λ _. []) result sink.old sink.new }
+    ensures { Hands S.takes S.refuses (λ _. (kind, text.now) ∷ []) (λ _. []) result
+        sink.old sink.new }
 {
     match sink.text(kind, text) {
         Ok(()) => Ok(()),
@@ -30,7 +31,9 @@ fn give_field<S: TextSink>(
     sink: &mut S,
 ) -> Result<(), TextFault>
     requires { length field.body.now ≤ most_in_header }
-    ensures { Hands S.takes S.refuses (λ _. texts_of_fields (record { name = field.entry.name.now; body = field.entry.body.now } ∷ [])) (λ _. []) result sink.old sink.new }
+    ensures { Hands S.takes S.refuses (λ _. texts_of_fields
+        (record { name = field.entry.name.now; body = field.entry.body.now } ∷ [])) (λ _. []) result
+        sink.old sink.new }
 {
     let Some(kind) = kind_of_field(field.name) else {
         return Ok(());
@@ -48,7 +51,8 @@ fn give_fields<S: TextSink>(
     sink: &mut S,
 ) -> Result<(), TextFault>
     requires { fields_size fields ≤ most_in_header }
-    ensures { Hands S.takes S.refuses (λ _. texts_of_fields fields.entry) (λ _. []) result sink.old sink.new }
+    ensures { Hands S.takes S.refuses (λ _. texts_of_fields fields.entry) (λ _. []) result
+        sink.old sink.new }
 {
     for field in fields {
         if let Err(fault) = give_field(field, reader, sink) {
@@ -66,7 +70,8 @@ fn give_counted<S: TextSink>(
     sink: &mut S,
 ) -> Result<(), TextFault>
     requires { fields_size fields ≤ most_in_header }
-    ensures { Hands S.takes S.refuses (λ _. counted_texts counted fields.entry) (λ _. []) result sink.old sink.new }
+    ensures { Hands S.takes S.refuses (λ _. counted_texts counted fields.entry) (λ _. []) result
+        sink.old sink.new }
 {
     if counted {
         give_fields(fields, reader, sink)
@@ -82,7 +87,8 @@ fn give_name<S: TextSink>(
     sink: &mut S,
 ) -> Result<(), TextFault>
     requires { fields_size fields ≤ most_in_header }
-    ensures { Hands S.takes S.refuses (λ _. name_texts fields.entry) (λ _. []) result sink.old sink.new }
+    ensures { Hands S.takes S.refuses (λ _. name_texts fields.entry) (λ _. []) result
+        sink.old sink.new }
 {
     match reader.read_name(fields) {
         Ok(Some(text)) => give_text(TextKind::Name, text, sink),
@@ -99,7 +105,8 @@ pub(crate) fn give_header<S: TextSink>(
     sink: &mut S,
 ) -> Result<(), TextFault>
     requires { fields_size fields ≤ most_in_header }
-    ensures { Hands S.takes S.refuses (λ _. header_texts counted fields.entry) (λ _. []) result sink.old sink.new }
+    ensures { Hands S.takes S.refuses (λ _. header_texts counted fields.entry) (λ _. []) result
+        sink.old sink.new }
 {
     match give_counted(counted, fields.again(), reader, sink) {
         Ok(()) => give_name(fields, reader, sink),

@@ -18,8 +18,10 @@ fn read_filled(
     value: &mut Vec<u8>,
     into: &mut Vec<u8>,
 ) -> Result<bool, AllocError>
-    ensures value { IfOk result (λ found. (if found then Some into.new.items else None) ≡ unless_empty (parameter name.now (first_value field.now fields.entry))) }
-    ensures size { IfOk result (λ found. found ≡ true → length into.new.items ≤ fields_size fields.entry) }
+    ensures value { IfOk result (λ found. (if found then Some into.new.items else None)
+        ≡ unless_empty (parameter name.now (first_value field.now fields.entry))) }
+    ensures size { IfOk result (λ found. found ≡ true
+        → length into.new.items ≤ fields_size fields.entry) }
 {
     read_first_value(fields, field, value)?;
     let found = read_parameter(value, name, into)?;
@@ -33,8 +35,10 @@ fn read_name(
     value: &mut Vec<u8>,
     into: &mut Vec<u8>,
 ) -> Result<bool, AllocError>
-    ensures name { IfOk result (λ found. (if found then Some into.new.items else None) ≡ name_of fields.entry) }
-    ensures size { IfOk result (λ found. found ≡ true → length into.new.items ≤ fields_size fields.entry) }
+    ensures name { IfOk result (λ found. (if found then Some into.new.items else None)
+        ≡ name_of fields.entry) }
+    ensures size { IfOk result (λ found. found ≡ true
+        → length into.new.items ≤ fields_size fields.entry) }
 {
     let again = fields.again();
     if read_filled(again, b"content-disposition", b"filename", value, into)? {
@@ -53,7 +57,8 @@ pub(crate) fn write_name(
     into: &mut String,
 ) -> Result<bool, AllocError>
     requires { fields_size fields ≤ most_in_header }
-    ensures text { IfOk result (λ found. (if found then Some (string_bytes into.new) else None) ≡ name_text fields.entry) }
+    ensures text { IfOk result (λ found. (if found then Some (string_bytes into.new) else None)
+        ≡ name_text fields.entry) }
     ensures name { OnOk result (length name.new.items ≤ most_in_header) }
     ensures size { OnOk result (length (string_bytes into.new) ≤ 3 * most_in_header) }
 {

@@ -111,7 +111,8 @@ impl MessageIds {
 
     pub(crate) fn append(&mut self, mut more: Vec<Vec<u8>>) -> Result<(), AllocError>
         requires sizes { All (λ id. IsSizedId id.items) more.items }
-        requires room { ids_size self.old + ids_size (map (λ id. id.items) more.items) ≤ most_in_header }
+        requires room { ids_size self.old + ids_size (map (λ id. id.items) more.items)
+            ≤ most_in_header }
         ensures ids { OnOk result (self.new ≡ self.old ++ map (λ id. id.items) more.items) }
         ensures sizes { OnOk result (All IsSizedId self.new) }
     {

@@ -47,7 +47,9 @@ impl Decoder {
 
     /// Adds what the next line gives. What the buffer and the decoder hold after an error isn't said.
     pub(crate) fn push(&mut self, line: &[u8], into: &mut Vec<u8>) -> Result<(), AllocError>
-        ensures { OnOk result ((later : List (List ℕ)) → into.new.items ++ still_decoded self.new later ≡ into.old.items ++ still_decoded self.old (line.now ∷ later)) }
+        ensures { OnOk result ((later : List (List ℕ))
+            → into.new.items ++ still_decoded self.new later
+            ≡ into.old.items ++ still_decoded self.old (line.now ∷ later)) }
     {
         match self {
             Decoder::Identity => into.extend_from_slice(line),

@@ -42,9 +42,13 @@ fn give_lines<'a, S: TextSink>(
     requires few { searched ≤ most_before_feed }
     ensures open { IfOk result (λ rest. line_end_of rest.now ≡ None) }
     ensures fits { IfOk result (λ rest. length rest.now ≤ length bytes.now) }
-    ensures rest { IfOk result (λ rest. rest.now ≡ drop (length bytes.now - length rest.now) bytes.now) }
-    ensures gave { IfOk result (λ rest. Gave S.takes S.refuses (λ ls. pairs_of_bytes texts.old (bytes.now ++ concat ls)) (λ ls. pairs_of_bytes texts.new (rest.now ++ concat ls)) sink.old sink.new) }
-    ensures broke { IfErr result (λ fault. Broke S.takes S.refuses (λ ls. pairs_of_bytes texts.old (bytes.now ++ concat ls)) fault sink.old sink.new) }
+    ensures rest { IfOk result (λ rest. rest.now ≡ drop (length bytes.now - length rest.now)
+        bytes.now) }
+    ensures gave { IfOk result (λ rest. Gave S.takes S.refuses
+        (λ ls. pairs_of_bytes texts.old (bytes.now ++ concat ls))
+        (λ ls. pairs_of_bytes texts.new (rest.now ++ concat ls)) sink.old sink.new) }
+    ensures broke { IfErr result (λ fault. Broke S.takes S.refuses
+        (λ ls. pairs_of_bytes texts.old (bytes.now ++ concat ls)) fault sink.old sink.new) }
 {
     let mut rest = bytes;
     let mut searched = searched;
@@ -84,7 +88,9 @@ fn take_lines<S: TextSink>(
     requires free { searched ≤ length_before_feed bytes.old.items }
     requires few { searched ≤ most_before_feed }
     ensures open { OnOk result (line_end_of bytes.new.items ≡ None) }
-    ensures hands { Hands S.takes S.refuses (λ ls. pairs_of_bytes texts.old (bytes.old.items ++ concat ls)) (λ ls. pairs_of_bytes texts.new (bytes.new.items ++ concat ls)) result sink.old sink.new }
+    ensures hands { Hands S.takes S.refuses (λ ls. pairs_of_bytes texts.old
+        (bytes.old.items ++ concat ls)) (λ ls. pairs_of_bytes texts.new
+        (bytes.new.items ++ concat ls)) result sink.old sink.new }
 {
     let left = match give_lines(searched, bytes, texts, sink) {
         Ok(rest) => rest.len(),
@@ -97,7 +103,8 @@ fn take_lines<S: TextSink>(
 
 /// Gives all lines, the last one too, which needn't be whole.
 fn give_all<S: TextSink>(bytes: &[u8], texts: &mut LineTexts, sink: &mut S) -> Result<(), TextFault>
-    ensures { Hands S.takes S.refuses (λ _. pairs_of_bytes texts.old bytes.now) (λ _. []) result sink.old sink.new }
+    ensures { Hands S.takes S.refuses (λ _. pairs_of_bytes texts.old bytes.now) (λ _. []) result
+        sink.old sink.new }
 {
     match give_lines(0, bytes, texts, sink) {
         Ok(rest) => {
@@ -120,7 +127,10 @@ fn take_encoded<S: TextSink>(
 ) -> Result<(), TextFault>
     requires { line_end_of bytes.old.items ≡ None }
     ensures open { OnOk result (line_end_of bytes.new.items ≡ None) }
-    ensures hands { Hands S.takes S.refuses (λ ls. pairs_of_bytes texts.old (bytes.old.items ++ still_decoded decoder.old (line.now ∷ ls))) (λ ls. pairs_of_bytes texts.new (bytes.new.items ++ still_decoded decoder.new ls)) result sink.old sink.new }
+    ensures hands { Hands S.takes S.refuses (λ ls. pairs_of_bytes texts.old
+        (bytes.old.items ++ still_decoded decoder.old (line.now ∷ ls)))
+        (λ ls. pairs_of_bytes texts.new (bytes.new.items ++ still_decoded decoder.new ls)) result
+        sink.old sink.new }
 {
     let held = bytes.len();
     match decoder.push(line, bytes) {
@@ -136,7 +146,8 @@ fn give_rest<S: TextSink>(
     texts: &mut LineTexts,
     sink: &mut S,
 ) -> Result<(), TextFault>
-    ensures { Hands S.takes S.refuses (λ _. pairs_of_bytes texts.old (bytes.old.items ++ still_decoded decoder [])) (λ _. []) result sink.old sink.new }
+    ensures { Hands S.takes S.refuses (λ _. pairs_of_bytes texts.old
+        (bytes.old.items ++ still_decoded decoder [])) (λ _. []) result sink.old sink.new }
 {
     match decoder.finish(bytes) {
         Ok(()) => give_all(bytes, texts, sink),
@@ -175,7 +186,10 @@ impl HeldLine {
         texts: &mut LineTexts,
         sink: &mut S,
     ) -> Result<(), TextFault>
-        ensures { Hands S.takes S.refuses (λ ls. pairs_of_bytes texts.old (self.old ++ still_decoded decoder.old (line.now ∷ ls))) (λ ls. pairs_of_bytes texts.new (self.new ++ still_decoded decoder.new ls)) result sink.old sink.new }
+        ensures { Hands S.takes S.refuses (λ ls. pairs_of_bytes texts.old
+            (self.old ++ still_decoded decoder.old (line.now ∷ ls)))
+            (λ ls. pairs_of_bytes texts.new (self.new ++ still_decoded decoder.new ls)) result
+            sink.old sink.new }
     {
         match take_encoded(&mut self.bytes, decoder, line, texts, sink) {
             Ok(()) => Ok(()),
@@ -194,7 +208,8 @@ impl HeldLine {
         sink: &mut S,
     ) -> Result<(), TextFault>
         ensures held { self.new ≡ [] }
-        ensures hands { Hands S.takes S.refuses (λ _. pairs_of_bytes texts.old (self.old ++ still_decoded decoder [])) (λ _. []) result sink.old sink.new }
+        ensures hands { Hands S.takes S.refuses (λ _. pairs_of_bytes texts.old
+            (self.old ++ still_decoded decoder [])) (λ _. []) result sink.old sink.new }
     {
         let result = give_rest(&mut self.bytes, decoder, texts, sink);
         self.bytes.clear();

@@ -41,7 +41,8 @@ fn is_passed_on(decoder: &Decoder, held: &HeldLine, line: &[u8]) -> bool
 impl LeafReader {
     /// A reader of a body that is plain text in UTF-8 as it stands. It takes no memory.
     pub fn new(alloc: Global) -> Self
-        ensures { (ls : List (List ℕ)) → pairs_to_come result ls ≡ body_pairs (leaf_texts TransferEncoding.Identity Charset.Utf8 false ls) }
+        ensures { (ls : List (List ℕ)) → pairs_to_come result ls
+            ≡ body_pairs (leaf_texts TransferEncoding.Identity Charset.Utf8 false ls) }
     {
         let decoder = Decoder::new(TransferEncoding::Identity);
         let held = HeldLine::new(alloc);
@@ -55,7 +56,8 @@ impl LeafReader {
 
     /// Begins a body.
     pub fn begin(&mut self, transfer: TransferEncoding, charset: Charset, is_html: bool)
-        ensures { (ls : List (List ℕ)) → pairs_to_come self.new ls ≡ body_pairs (leaf_texts transfer charset is_html ls) }
+        ensures { (ls : List (List ℕ)) → pairs_to_come self.new ls
+            ≡ body_pairs (leaf_texts transfer charset is_html ls) }
     {
         self.decoder = Decoder::new(transfer);
         self.held.clear();
@@ -66,7 +68,8 @@ impl LeafReader {
     pub fn line<S: TextSink>(&mut self, line: &[u8], sink: &mut S) -> Result<(), TextFault>
         requires short { length line.now ≤ most_in_line }
         requires last { length line.now ≤ length_before_feed line.now + 1 }
-        ensures { Hands S.takes S.refuses (λ ls. pairs_to_come self.old (line.now ∷ ls)) (λ ls. pairs_to_come self.new ls) result sink.old sink.new }
+        ensures { Hands S.takes S.refuses (λ ls. pairs_to_come self.old (line.now ∷ ls))
+            (λ ls. pairs_to_come self.new ls) result sink.old sink.new }
     {
         if is_passed_on(&self.decoder, &self.held, line) {
             return self.texts.give(line, sink);
@@ -77,7 +80,8 @@ impl LeafReader {
 
     /// Ends the body: gives what is left of it.
     pub fn end<S: TextSink>(&mut self, sink: &mut S) -> Result<(), TextFault>
-        ensures { Hands S.takes S.refuses (λ _. pairs_to_come self.old []) (λ _. []) result sink.old sink.new }
+        ensures { Hands S.takes S.refuses (λ _. pairs_to_come self.old []) (λ _. []) result
+            sink.old sink.new }
     {
         self.held.finish(self.decoder, &mut self.texts, sink)
     }

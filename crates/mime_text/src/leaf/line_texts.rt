@@ -51,10 +51,12 @@ impl LineTexts {
     /// Gives a sink the text of the next line, and keeps whether a tag is open behind it.
     fn show_line<S: TextSink>(&mut self, line: &[u8], sink: &mut S) -> Result<(), TextFault>
         requires { length line.now ≤ most_in_line }
-        ensures shows { Shows S.takes S.refuses (line_text self.old.charset self.old.is_html self.old.is_open line.now) result sink.old sink.new }
+        ensures shows { Shows S.takes S.refuses (line_text self.old.charset self.old.is_html
+            self.old.is_open line.now) result sink.old sink.new }
         ensures charset { self.new.charset ≡ self.old.charset }
         ensures is_html { self.new.is_html ≡ self.old.is_html }
-        ensures is_open { OnOk result (self.new.is_open ≡ is_open_behind_line self.old.charset self.old.is_html self.old.is_open line.now) }
+        ensures is_open { OnOk result (self.new.is_open
+            ≡ is_open_behind_line self.old.charset self.old.is_html self.old.is_open line.now) }
     {
         if !self.is_html {
             return self.buffers.show_plain(self.charset, line, sink);
@@ -74,7 +76,8 @@ impl LineTexts {
     /// Gives a sink the text of the next line.
     pub(crate) fn give<S: TextSink>(&mut self, line: &[u8], sink: &mut S) -> Result<(), TextFault>
         requires { length line.now ≤ most_in_line }
-        ensures { Hands S.takes S.refuses (λ ls. pairs_of_lines self.old (line.now ∷ ls)) (λ ls. pairs_of_lines self.new ls) result sink.old sink.new }
+        ensures { Hands S.takes S.refuses (λ ls. pairs_of_lines self.old (line.now ∷ ls))
+            (λ ls. pairs_of_lines self.new ls) result sink.old sink.new }
     {
         self.show_line(line, sink)
     }

@@ -6,7 +6,8 @@ use header_text::Charset;
 
 /// The text of bytes in a charset, where it is seen to be these bytes: valid UTF-8 as UTF-8, and ASCII in any charset.
 pub(crate) fn own_text(charset: Charset, bytes: &[u8]) -> Option<&str>
-    ensures { IfSome result (λ text. (text.now ≡ bytes.now) × (text.now ≡ text_of charset bytes.now)) }
+    ensures { IfSome result (λ text. (text.now ≡ bytes.now)
+        × (text.now ≡ text_of charset bytes.now)) }
 {
     match std::str::from_utf8(bytes) {
         Ok(text) => match charset {

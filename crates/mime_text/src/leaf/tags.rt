@@ -13,7 +13,8 @@ const SPACES: &str = "                                                          
 
 /// Whether it is plain to see that no character of a text stands in a tag, of which one may be open before it.
 pub(crate) fn is_free_of_tags(open_before: bool, text: &str) -> bool
-    ensures text { result ≡ true → encode_utf8_all (blanked open_before (chars text.now)) ≡ text.now }
+    ensures text { result ≡ true → encode_utf8_all (blanked open_before (chars text.now))
+        ≡ text.now }
     ensures is_open { result ≡ true → is_open_behind open_before (chars text.now) ≡ false }
 {
     if open_before {
@@ -59,7 +60,8 @@ fn push_spaces(count: usize, into: &mut String) -> Result<(), AllocError>
 
 /// Adds what stands in a tag or outside of one, with a space for each character in a tag.
 fn push_span(in_tag: bool, span: &str, into: &mut String) -> Result<(), AllocError>
-    ensures { OnOk result (string_bytes into.new ≡ string_bytes into.old ++ encode_utf8_all (shown_span in_tag (chars span.now))) }
+    ensures { OnOk result (string_bytes into.new ≡ string_bytes into.old ++ encode_utf8_all
+        (shown_span in_tag (chars span.now))) }
 {
     if in_tag {
         push_spaces(character_count(span), into)
@@ -77,7 +79,8 @@ fn end_of_span(in_tag: bool) -> char
 
 /// What stands before the `>` that ends a tag, or the `<` that begins the next one, and what follows it.
 fn cut_span(in_tag: bool, text: &str) -> Option<(&str, &str)>
-    ensures { option_map (λ parts. (parts.0.now, parts.1.now)) result ≡ cut_at_of (span_end in_tag) text.now }
+    ensures { option_map (λ parts. (parts.0.now, parts.1.now)) result
+        ≡ cut_at_of (span_end in_tag) text.now }
 {
     text.split_once(end_of_span(in_tag))
 }
@@ -89,9 +92,11 @@ pub(crate) fn blank_tags(
     text: &str,
     into: &mut String,
 ) -> Result<bool, AllocError>
-    ensures text { OnOk result (string_bytes into.new ≡ string_bytes into.old ++ encode_utf8_all (blanked open_before (chars text.now))) }
+    ensures text { OnOk result (string_bytes into.new
+        ≡ string_bytes into.old ++ encode_utf8_all (blanked open_before (chars text.now))) }
     ensures is_open { IfOk result (λ behind. behind ≡ is_open_behind open_before (chars text.now)) }
-    ensures size { OnOk result (length (string_bytes into.new) ≤ length (string_bytes into.old) + length text.now) }
+    ensures size { OnOk result (length (string_bytes into.new)
+        ≤ length (string_bytes into.old) + length text.now) }
 {
     let mut is_open = open_before;
     let mut rest = text;

@@ -53,7 +53,8 @@ fn write_text(charset: Charset, line: &[u8], into: &mut String) -> Result<(), Al
 /// Writes a text without its tags; nothing where memory is wanting. The answer is whether a tag is open behind it.
 fn write_blanked(open_before: bool, text: &str, into: &mut String) -> Result<bool, AllocError>
     requires { length text.now ≤ most_in_line_text }
-    ensures text { OnOk result (string_bytes into.new ≡ encode_utf8_all (blanked open_before (chars text.now))) }
+    ensures text { OnOk result (string_bytes into.new
+        ≡ encode_utf8_all (blanked open_before (chars text.now))) }
     ensures is_open { IfOk result (λ behind. behind ≡ is_open_behind open_before (chars text.now)) }
     ensures size { length (string_bytes into.new) ≤ most_in_line_text }
 {
@@ -103,8 +104,10 @@ impl TextBuffers {
         line: &[u8],
     ) -> Result<bool, AllocError>
         requires { length line.now ≤ most_in_line }
-        ensures text { OnOk result (string_bytes self.new.blanked ≡ encode_utf8_all (blanked open_before (chars (text_of charset line.now)))) }
-        ensures is_open { IfOk result (λ behind. behind ≡ is_open_behind open_before (chars (text_of charset line.now))) }
+        ensures text { OnOk result (string_bytes self.new.blanked
+            ≡ encode_utf8_all (blanked open_before (chars (text_of charset line.now)))) }
+        ensures is_open { IfOk result (λ behind. behind
+            ≡ is_open_behind open_before (chars (text_of charset line.now))) }
     {
         if let Some(text) = own_text(charset, line) {
             return write_blanked(open_before, text, &mut self.blanked);
@@ -124,8 +127,10 @@ impl TextBuffers {
         sink: &mut S,
     ) -> Result<bool, TextFault>
         requires { length line.now ≤ most_in_line }
-        ensures shows { Shows S.takes S.refuses (encode_utf8_all (blanked open_before (chars (text_of charset line.now)))) result sink.old sink.new }
-        ensures is_open { IfOk result (λ behind. behind ≡ is_open_behind open_before (chars (text_of charset line.now))) }
+        ensures shows { Shows S.takes S.refuses (encode_utf8_all
+            (blanked open_before (chars (text_of charset line.now)))) result sink.old sink.new }
+        ensures is_open { IfOk result (λ behind. behind
+            ≡ is_open_behind open_before (chars (text_of charset line.now))) }
     {
         if let Some(text) = own_text(charset, line) {
             if is_free_of_tags(open_before, text) {

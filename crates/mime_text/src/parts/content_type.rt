@@ -146,9 +146,12 @@ fn read_charset(value: &[u8], buffer: &mut Vec<u8>) -> Result<Charset, AllocErro
 impl EntityType {
     /// What the header of an entity says, where the lines are those that it was given.
     pub fn of(alloc: Global, default: DefaultType, header: &Header) -> Result<Self, AllocError>
-        ensures shape { IfOk result (λ entity. (ls : List (List ℕ)) → HasLines header.now ls → entity.shape ≡ shape_of default (fields_of ls)) }
-        ensures charset { IfOk result (λ entity. (ls : List (List ℕ)) → HasLines header.now ls → entity.charset ≡ charset_in (fields_of ls)) }
-        ensures transfer { IfOk result (λ entity. (ls : List (List ℕ)) → HasLines header.now ls → entity.transfer ≡ transfer_in (fields_of ls)) }
+        ensures shape { IfOk result (λ entity. (ls : List (List ℕ)) → HasLines header.now ls
+            → entity.shape ≡ shape_of default (fields_of ls)) }
+        ensures charset { IfOk result (λ entity. (ls : List (List ℕ)) → HasLines header.now ls
+            → entity.charset ≡ charset_in (fields_of ls)) }
+        ensures transfer { IfOk result (λ entity. (ls : List (List ℕ)) → HasLines header.now ls
+            → entity.transfer ≡ transfer_in (fields_of ls)) }
     {
         let mut value = Vec::new(alloc);
         let mut buffer = Vec::new(alloc);

@@ -52,7 +52,9 @@ pub(crate) enum Lead {
 fn outermost(frames: &[Frame], text: &[u8]) -> Option<(usize, Delimiter)>
     ensures within { IfSome result (λ r. r.0 < length frames.now) }
     ensures none { IfNone result (scan {A = Pair} [] frames.now text.now ≡ None) }
-    ensures some { IfSome result (λ r. (f : Frame) × (slice_get frames.now r.0 ≡ Some f) × (scan {A = Pair} [] frames.now text.now ≡ led (Some r.1) f (inside_out (take r.0 frames.now) []))) }
+    ensures some { IfSome result (λ r. (f : Frame) × (slice_get frames.now r.0 ≡ Some f)
+        × (scan {A = Pair} [] frames.now text.now ≡ led (Some r.1) f
+        (inside_out (take r.0 frames.now) []))) }
 {
     for (at, frame) in frames.iter().enumerate() {
         if let Some(kind) = delimiter_behind(frame.boundary.as_bytes(), text) {
@@ -113,7 +115,8 @@ impl Nesting {
         boundary: Boundary,
         default: DefaultType,
     ) -> Result<(), AllocError>
-        ensures { OnOk result (self.new.frames ≡ opened self.old.left boundary default self.old.frames) }
+        ensures { OnOk result (self.new.frames ≡ opened self.old.left boundary default
+            self.old.frames) }
     {
         if self.left == 0 {
             return Ok(());

@@ -78,7 +78,8 @@ fn read_quoted<'a>(text: &'a [u8], into: &mut Vec<u8>) -> Result<&'a [u8], Alloc
 
 /// Adds the value that begins a text and isn't in quotes, and answers what follows it.
 fn read_token<'a>(text: &'a [u8], into: &mut Vec<u8>) -> Result<&'a [u8], AllocError>
-    ensures value { IfOk result (λ rest. into.new.items ≡ into.old.items ++ (split_while is_token_byte_of text.now).0) }
+    ensures value { IfOk result (λ rest. into.new.items
+        ≡ into.old.items ++ (split_while is_token_byte_of text.now).0) }
     ensures rest { IfOk result (λ rest. rest.now ≡ (split_while is_token_byte_of text.now).1) }
 {
     let rest = after_token(text);
@@ -88,7 +89,8 @@ fn read_token<'a>(text: &'a [u8], into: &mut Vec<u8>) -> Result<&'a [u8], AllocE
 
 /// Adds the value that begins a text, and answers what follows it.
 fn read_value<'a>(text: &'a [u8], into: &mut Vec<u8>) -> Result<&'a [u8], AllocError>
-    ensures value { IfOk result (λ rest. into.new.items ≡ into.old.items ++ (value_and_rest text.now).0) }
+    ensures value { IfOk result (λ rest. into.new.items
+        ≡ into.old.items ++ (value_and_rest text.now).0) }
     ensures rest { IfOk result (λ rest. rest.now ≡ (value_and_rest text.now).1) }
 {
     match text.split_first() {
@@ -117,8 +119,11 @@ fn behind_semicolon(text: &[u8]) -> Option<&[u8]>
 /// Reads what begins behind a semicolon. The buffer then holds its value, where it is a parameter.
 #[tactic(auto, unfolding(crate::specs::Parameters::piece_of))]
 fn read_piece<'a>(text: &'a [u8], into: &mut Vec<u8>) -> Result<Piece<'a>, AllocError>
-    ensures parameter { IfOk result (λ piece. option_map (λ name. record { name = name.now; value = into.new.items }) piece.name ≡ (piece_of text.now).parameter) }
-    ensures later { IfOk result (λ piece. option_map (λ rest. rest.now) piece.later ≡ (piece_of text.now).later) }
+    ensures parameter { IfOk result (λ piece. option_map
+        (λ name. record { name = name.now; value = into.new.items }) piece.name
+        ≡ (piece_of text.now).parameter) }
+    ensures later { IfOk result (λ piece. option_map (λ rest. rest.now) piece.later
+        ≡ (piece_of text.now).later) }
 {
     into.clear();
     let behind = after_name(text);
@@ -155,7 +160,8 @@ fn has_name(found: Option<&[u8]>, name: &[u8]) -> bool
 /// Whether an unfolded value has a parameter of a name, in any ASCII case. The first one counts, and the buffer then holds its
 /// value. What the buffer holds else isn't said.
 pub fn read_parameter(value: &[u8], name: &[u8], into: &mut Vec<u8>) -> Result<bool, AllocError>
-    ensures value { IfOk result (λ found. (if found then Some into.new.items else None) ≡ parameter_of name.now value.now) }
+    ensures value { IfOk result (λ found. (if found then Some into.new.items else None)
+        ≡ parameter_of name.now value.now) }
     ensures size { IfOk result (λ found. found ≡ true → length into.new.items ≤ length value.now) }
 {
     let mut rest = behind_semicolon(value);
