@@ -1,21 +1,10 @@
 -- Archives by their paths and bytes, one after another.
-use Rattle.std.proofs.Common.{◌≡◌, ◌∙◌, ◌+◌, ◌<◌, ◌≤◌, ◌++◌, ℕ, zero, suc, List, [], ◌∷◌, length, take, drop, get_or, None, Some, false, inl, inr, refl, sym, ap, arith, drop-cons}
-use Rattle.std.proofs.lemmas.List.{take_more, take-append-drop, length-take-le}
-use Rattle.std.proofs.lemmas.List.Elements.{All-append, All-cons, All-nil}
-use Rattle.mail_index.specs.Builders.{Draft}
+use Rattle.index_run.proofs.Words.{◌≡◌, ◌∙◌, ◌+◌, ◌<◌, ◌≤◌, ◌++◌, ℕ, zero, suc, List, [], ◌∷◌, length, take, drop, get_or, None, Some, false, inl, inr, refl, sym, ap, arith, drop-cons, take_more, take-append-drop, length-take-le, All-append, All-cons, All-nil, Draft, refusal_of, Mbox, most_in_archive, AreSound, mboxes, Parted, IsArchivesFault, fault_of_job, IsAdded, IsAddFault, Err, ◌≢◌, eqb_tells, is_failed_source}
 use Rattle.mbox_cutter.specs.declared.event.CutFault.TheVariants as cut
-use Rattle.mbox_cutter.specs.Events.{refusal_of}
 use Rattle.index_job.specs.declared.job_fault.JobFault.{JobFault}
 use Rattle.index_job.specs.declared.job_fault.JobFault.TheVariants as job
-use Rattle.index_job.specs.ArchiveTables.{Mbox}
-use Rattle.mail_index.specs.Limits.{most_in_archive}
-use Rattle.index_job.specs.ArchiveRefusals.{AreSound}
-use Rattle.index_run.specs.ArchivesIndexed.{mboxes, Parted, IsArchivesFault, fault_of_job}
-use Rattle.index_job.specs.IndexJobs.{IsAdded, IsAddFault}
-use Rattle.std.specs.Prelude.{Option, Err, ◌≢◌}
-use Rattle.std.proofs.lemmas.Bool.Decides.{eqb_tells}
+use Rattle.std.specs.Prelude.{Option}
 use Rattle.contract_words.specs.Devices.{Counted}
-use Rattle.run_faults.specs.Faults.{is_failed_source}
 use Rattle.index_job.specs.JobFaults.{is_source_failure}
 
 pub mboxes-length : (paths bytes : List (List ℕ)) → length paths ≡ length bytes → length (mboxes paths bytes) ≡ length paths

@@ -1,17 +1,7 @@
 -- Either all archives are sound, or a first one of them is refused.
-use Rattle.std.proofs.Common.{◌≡◌, ◌∙◌, ◌+◌, ◌<◌, ◌≤◌, ◌++◌, ℕ, List, [], ◌∷◌, length, Option, None, Some, refl, sym, subst, arith, append-nil, append_assoc, ⊎_elim, inl, inr}
-use Rattle.std.specs.Prelude.{◌⊎◌}
-use Rattle.std.proofs.lemmas.Bool.Decides.{leb_tells}
-use Rattle.std.proofs.lemmas.List.{length-append, length-map}
-use Rattle.std.proofs.lemmas.List.Elements.{All-append, All-cons, All-nil}
-use Rattle.mbox_cutter.specs.declared.event.CutFault.{CutFault}
-use Rattle.mbox_cutter.specs.Events.{refusal_of}
-use Rattle.run_faults.specs.declared.fault.Fault.{Fault}
+use Rattle.index_run.proofs.Words.{◌≡◌, ◌∙◌, ◌+◌, ◌<◌, ◌≤◌, ◌++◌, ℕ, List, [], ◌∷◌, length, None, Some, refl, sym, subst, arith, append-nil, append_assoc, ⊎_elim, inl, inr, ◌⊎◌, leb_tells, length-append, length-map, All-append, All-cons, All-nil, CutFault, refusal_of, Fault, most_in_archive, most_in_index, AreSound, IsTooMuch, IsWithinLimit, Mbox, table, entry_of, Parted, Refuses}
+use Rattle.std.proofs.Common.{Option}
 use Rattle.run_faults.specs.declared.fault.Fault.TheVariants.{Archive, TooMany}
-use Rattle.mail_index.specs.Limits.{most_in_archive, most_in_index}
-use Rattle.index_job.specs.ArchiveRefusals.{AreSound, IsTooMuch, IsWithinLimit}
-use Rattle.index_job.specs.ArchiveTables.{Mbox, table, entry_of}
-use Rattle.index_run.specs.ArchivesIndexed.{Parted, Refuses}
 
 -- ---- one archive more
 

@@ -1,3 +1,4 @@
 pub mod ArchiveLists
 pub mod ArchivesDecided
 pub mod SoundArchives
+pub mod Words

@@ -1,17 +1,7 @@
 -- Sound archives are refused for nothing.
-use Rattle.std.proofs.Common.{◌≡◌, ◌∙◌, ◌+◌, ◌<◌, ◌≤◌, ◌++◌, List, [], ◌∷◌, length, All, get_or, None, Some, sym, ap, subst, arith, append_assoc, ⊎_elim}
-use Rattle.std.proofs.lemmas.List.{length-append, length-map}
-use Rattle.std.proofs.lemmas.List.Elements.{All-get_or}
-use Rattle.std.proofs.Math.Seq.{get_or-append_seam}
+use Rattle.index_run.proofs.Words.{◌≡◌, ◌∙◌, ◌+◌, ◌<◌, ◌≤◌, ◌++◌, List, [], ◌∷◌, length, All, get_or, None, Some, sym, ap, subst, arith, append_assoc, ⊎_elim, length-append, length-map, All-get_or, get_or-append_seam, CutFault, refusal_of, Fault, most_in_archive, AreSound, IsTooMuch, IsWithinLimit, Mbox, table, all_messages, messages_in, with_messages, entry_of, Refuses}
 use Rattle.std.proofs.lemmas.Grind.{flat_map-append}
-use Rattle.mbox_cutter.specs.declared.event.CutFault.{CutFault}
-use Rattle.mbox_cutter.specs.Events.{refusal_of}
-use Rattle.run_faults.specs.declared.fault.Fault.{Fault}
 use Rattle.run_faults.specs.declared.fault.Fault.TheVariants as of
-use Rattle.mail_index.specs.Limits.{most_in_archive}
-use Rattle.index_job.specs.ArchiveRefusals.{AreSound, IsTooMuch, IsWithinLimit}
-use Rattle.index_job.specs.ArchiveTables.{Mbox, table, all_messages, messages_in, with_messages, entry_of}
-use Rattle.index_run.specs.ArchivesIndexed.{Refuses}
 use Rattle.index_job.proofs.ArchiveSteps.{with_messages-append, with_messages-more}
 use Rattle.index_job.proofs.TableSteps.{records-count}
 

@@ -1,19 +1,6 @@
 -- In ASCII the case of letters tells nothing of where words stand: the words of a folding are the foldings of the words.
-use Rattle.std.proofs.Common.{◌≡◌, ℕ, suc, ◌≤◌, Bool, true, false, not, cond, ◌&&◌, ◌||◌, nat_le, List, [], ◌∷◌, ◌++◌, map, reverse, length, chars, encode_utf8_all, IsAscii, inl, inr, refl, sym, ap, ap₂, ◌∙◌, arith}
-use Rattle.std.proofs.lemmas.Bool.{cases_lt}
-use Rattle.std.proofs.lemmas.List.{length-map, map-append, reverse-append}
-use Rattle.std.proofs.lemmas.Str.{chars-IsAscii, encodes-IsAscii}
-use Rattle.std.proofs.lemmas.Str.Ascii.{IsAscii-nil, IsAscii-push, IsAscii-map, lowercase_ascii, lowercase_is}
-use Rattle.std.specs.Bool.{beq}
-use Rattle.std.specs.Char.{to_ascii_lowercase}
-use Rattle.std.specs.List.{list_all, list_any}
-use Rattle.unicode.proofs.CategoryComputing.{ucd_category}
-use Rattle.unicode.proofs.DerivedComputing.{ucd_derived}
-use Rattle.unicode.proofs.Facts.{same_from_beq}
-use Rattle.unicode.proofs.TrieCheck.{all_below, all_below-at}
-use Rattle.mail_words.specs.Inside.Runs.{is_piece}
-use Rattle.mail_words.specs.Folding.{folding}
-use Rattle.mail_words.specs.Words.{is_word_character, is_joiner, begins, after_joiners, is_word, word_limit, words}
+use Rattle.mail_words.proofs.Imports.{◌≡◌, ℕ, suc, ◌≤◌, Bool, true, false, not, cond, ◌&&◌, ◌||◌, nat_le, List, [], ◌∷◌, ◌++◌, reverse, length, encode_utf8_all, IsAscii, inl, inr, refl, sym, ap, ap₂, ◌∙◌, arith, cases_lt, length-map, map-append, reverse-append, chars-IsAscii, encodes-IsAscii, IsAscii-nil, IsAscii-push, IsAscii-map, lowercase_ascii, lowercase_is, beq, to_ascii_lowercase, list_all, list_any, ucd_category, ucd_derived, same_from_beq, all_below, all_below-at, is_piece, folding, is_word_character, is_joiner, begins, after_joiners, is_word, word_limit, words}
+use Rattle.std.proofs.Common.{map, chars}
 use Rattle.mail_words.proofs.FoldingLemmas.{folding-ascii}
 use Rattle.mail_words.proofs.Places.{if_word, words_on, words_from, words_behind-places}
 use Rattle.mail_words.proofs.RunLemmas.{after_joiners-joiner, after_joiners-other}

@@ -1,10 +1,6 @@
 -- Loops over the bytes of a text, each a character by itself up to the first beyond ASCII, that count the bytes of its front.
-use Rattle.std.proofs.Common.{◌≡◌, ℕ, zero, suc, ◌+◌, ◌<◌, ◌≤◌, Bool, true, false, ◌&&◌, nat_lt, List, ◌++◌, length, drop, get_or, chars, encode_utf8, encode_utf8_all, IsUtf8, refl, sym, ap, subst, ◌∙◌, arith, add-one, drop-cons}
-use Rattle.std.proofs.lemmas.Bool.{and_parts, ltb-true}
-use Rattle.std.proofs.lemmas.Str.{encode_ascii, len_utf8_ascii, IsCharBoundary-from_drop}
-use Rattle.std.specs.Char.{is_ascii}
-use Rattle.std.specs.Str.{IsCharBoundary}
-use Rattle.mail_words.specs.Inside.Runs.{front}
+use Rattle.mail_words.proofs.Imports.{◌≡◌, ℕ, zero, suc, ◌+◌, ◌<◌, ◌≤◌, Bool, true, false, ◌&&◌, nat_lt, List, ◌++◌, length, drop, get_or, encode_utf8, encode_utf8_all, IsUtf8, refl, sym, ap, subst, ◌∙◌, arith, add-one, drop-cons, and_parts, ltb-true, encode_ascii, len_utf8_ascii, IsCharBoundary-from_drop, is_ascii, IsCharBoundary, front}
+use Rattle.std.proofs.Common.{chars}
 use Rattle.mail_words.proofs.FrontReads.{IsRead, FrontRead, front_read-start, front_read-pass, front_read-stop, front_read-end}
 use Rattle.mail_words.proofs.Seams.{front_seam}
 

@@ -1,19 +1,6 @@
 -- Word characters of ASCII, that no joiner is a word character, and the joiners among bytes.
-use Rattle.std.proofs.Common.{◌≡◌, ℕ, ◌<◌, ◌≤◌, Bool, true, false, not, ◌&&◌, nat_lt, List, [], ◌∷◌, get_or, chars, encode_utf8, encode_utf8_all, IsUtf8, inl, inr, refl, sym, ap, ◌∙◌, arith, append-nil}
-use Rattle.std.proofs.Math.Bool.{and-true}
-use Rattle.std.proofs.lemmas.Bool.{cases_lt}
-use Rattle.std.proofs.lemmas.Bool.Decides.{nat_tests}
-use Rattle.std.proofs.lemmas.List.Folds.{list_all-append, list_all_at}
-use Rattle.std.proofs.lemmas.Str.{encode_ascii, encodes-chars, char_from_byte, length-encode, len_utf8_bounds}
-use Rattle.std.specs.Bool.{beq}
-use Rattle.std.specs.Char.{is_ascii_alphanumeric}
-use Rattle.std.specs.List.{list_all}
-use Rattle.unicode.proofs.CategoryComputing.{ucd_category}
-use Rattle.unicode.proofs.DerivedComputing.{ucd_derived}
-use Rattle.unicode.proofs.Facts.{same_from_beq}
-use Rattle.unicode.proofs.TrieCheck.{all_below, all_below-at}
-use Rattle.mail_words.specs.Words.{is_word_character, is_joiner}
-use Rattle.mail_words.specs.Inside.Runs.{is_piece}
+use Rattle.mail_words.proofs.Imports.{◌≡◌, ℕ, ◌<◌, ◌≤◌, Bool, true, false, not, ◌&&◌, nat_lt, List, [], ◌∷◌, get_or, encode_utf8, encode_utf8_all, IsUtf8, inl, inr, refl, sym, ap, ◌∙◌, arith, and-true, cases_lt, nat_tests, list_all-append, list_all_at, encode_ascii, encodes-chars, char_from_byte, length-encode, len_utf8_bounds, beq, is_ascii_alphanumeric, list_all, ucd_category, ucd_derived, same_from_beq, all_below, all_below-at, is_word_character, is_joiner, is_piece}
+use Rattle.std.proofs.Common.{chars, append-nil}
 
 pub is_word_character-ascii : (c : ℕ) → c < 128 → is_word_character c ≡ is_ascii_alphanumeric c
 unfolding all_below ucd_derived ucd_category is_word_character

@@ -1,11 +1,6 @@
 -- Laws of foldings, and what is left of one that is being written.
-use Rattle.std.proofs.Common.{◌≡◌, ℕ, ◌*◌, ◌≤◌, List, [], ◌∷◌, ◌++◌, map, length, None, Some, chars, encode_utf8, encode_utf8_all, IsAscii, IsUtf8, refl, sym, ap, ◌∙◌, arith, append_assoc, append-nil, length-append}
-use Rattle.std.proofs.lemmas.Bool.{cases_lt}
-use Rattle.std.proofs.lemmas.List.{length-map}
-use Rattle.std.proofs.lemmas.Str.{chars-IsAscii, encodes-IsAscii, encodes-chars, length-le-encodes, Chars-gives, len_utf8_bounds, length-encode}
-use Rattle.std.proofs.lemmas.Str.Ascii.{IsAscii-map, lowercase_ascii}
-use Rattle.std.specs.Char.{to_ascii_lowercase}
-use Rattle.std.specs.Str.Iter.{chars_rest, chars_steps}
+use Rattle.mail_words.proofs.Imports.{◌≡◌, ℕ, ◌*◌, ◌≤◌, List, [], ◌∷◌, ◌++◌, length, None, Some, encode_utf8, encode_utf8_all, IsAscii, IsUtf8, refl, sym, ap, ◌∙◌, arith, append_assoc, length-append, cases_lt, length-map, chars-IsAscii, encodes-IsAscii, encodes-chars, length-le-encodes, Chars-gives, len_utf8_bounds, length-encode, IsAscii-map, lowercase_ascii, to_ascii_lowercase, chars_rest, chars_steps, folding}
+use Rattle.std.proofs.Common.{map, chars, append-nil}
 use Rattle.std.specs.declared.str.Chars.{Chars}
 use Rattle.std.specs.Iterator.{AlwaysYields}
 use Rattle.caseless.specs.Caseless.{default_case_fold}
@@ -13,7 +8,6 @@ use Rattle.caseless.specs.CaseFold.{FoldsCaseTo, CaseFoldSteps}
 use Rattle.caseless.specs.declared.CaseFold.{CaseFold}
 use Rattle.unicode.specs.CaseFolding.{full_fold}
 use Rattle.caseless.proofs.CaselessLemmas.{default_case_fold-ascii, default_case_fold-cons, All-chars, length-default_case_fold, full_fold-none, full_fold-some}
-use Rattle.mail_words.specs.Folding.{folding}
 
 -- in ASCII only the capital letters change
 pub folding-ascii : (text : List ℕ) → IsAscii text → folding text ≡ map to_ascii_lowercase text

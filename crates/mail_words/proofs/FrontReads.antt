@@ -1,9 +1,6 @@
 -- Loops over the characters of a text that count the bytes of its front.
-use Rattle.std.proofs.Common.{◌≡◌, ℕ, ◌+◌, ◌≤◌, Bool, true, false, List, [], ◌∷◌, ◌++◌, length, chars, encode_utf8, encode_utf8_all, IsUtf8, ap, ◌∙◌, arith, length-append}
-use Rattle.std.proofs.lemmas.List.{nil_from_length}
-use Rattle.std.proofs.lemmas.Str.{chars_past_char, IsUtf8-past_char, length-encode, chars-nil}
-use Rattle.std.specs.Char.{len_utf8}
-use Rattle.mail_words.specs.Inside.Runs.{front}
+use Rattle.mail_words.proofs.Imports.{◌≡◌, ℕ, ◌+◌, ◌≤◌, Bool, true, false, List, [], ◌∷◌, ◌++◌, length, encode_utf8, encode_utf8_all, IsUtf8, ap, ◌∙◌, arith, length-append, nil_from_length, chars_past_char, IsUtf8-past_char, length-encode, chars-nil, len_utf8, front}
+use Rattle.std.proofs.Common.{chars}
 use Rattle.mail_words.proofs.RunLemmas.{front-pass, front-fail}
 
 -- the text, read so far by this many bytes up to this rest

@@ -1,12 +1,6 @@
 -- The run of word characters and joiners at the front is what is kept of it and the joiners at its end, told by bytes.
-use Rattle.std.proofs.Common.{◌≡◌, ℕ, ◌+◌, ◌-◌, ◌<◌, ◌≤◌, Bool, true, false, ◌&&◌, ◌||◌, List, [], ◌∷◌, ◌++◌, length, reverse, get_or, encode_utf8, encode_utf8_all, inl, inr, refl, sym, ap, ap₂, subst, ◌∙◌, arith, length-append, append-nil}
-use Rattle.std.proofs.lemmas.Bool.{and_parts, cases_lt}
-use Rattle.std.proofs.lemmas.List.{get_or_append_left, get_or-append-add, get_or-append_right}
-use Rattle.std.proofs.lemmas.List.Folds.{list_all_at}
-use Rattle.std.proofs.lemmas.Str.{encode_ascii, encodes-append, inside_one, length-encode, len_utf8_bounds, length-le-encodes}
-use Rattle.std.specs.List.{list_all}
-use Rattle.mail_words.specs.Words.{is_word_character, is_joiner, begins}
-use Rattle.mail_words.specs.Inside.Runs.{front, is_piece, joined_to, joined_front}
+use Rattle.mail_words.proofs.Imports.{◌≡◌, ℕ, ◌+◌, ◌-◌, ◌<◌, ◌≤◌, Bool, true, false, ◌&&◌, ◌||◌, List, [], ◌∷◌, ◌++◌, length, reverse, get_or, encode_utf8, encode_utf8_all, inl, inr, refl, sym, ap, ap₂, subst, ◌∙◌, arith, length-append, and_parts, cases_lt, get_or_append_left, get_or-append-add, get_or-append_right, list_all_at, encode_ascii, encodes-append, inside_one, length-encode, len_utf8_bounds, length-le-encodes, list_all, is_word_character, is_joiner, begins, front, is_piece, joined_to, joined_front}
+use Rattle.std.proofs.Common.{append-nil}
 use Rattle.mail_words.proofs.Characters.{joiner_below, word_character_is_no_joiner}
 use Rattle.mail_words.proofs.OneWord.{ends-cons, ends-joined_front}
 use Rattle.mail_words.proofs.RunLemmas.{front-pass, front-fail, joined_front-word, joined_front-joiner, joined_front-other}

@@ -1,10 +1,6 @@
 -- Words that are short enough, and those that aren't.
-use Rattle.std.proofs.Common.{◌≡◌, ℕ, ◌+◌, ◌≤◌, ◌<◌, Bool, true, false, List, [], ◌∷◌, ◌++◌, length, take, drop, chars, encode_utf8_all, IsUtf8, sym, ap, ◌∙◌, arith, append_assoc, length-append}
-use Rattle.std.proofs.lemmas.Bool.{le-leb}
-use Rattle.std.proofs.lemmas.Bool.Decides.{nat_tests}
-use Rattle.std.proofs.lemmas.Str.{encodes-append}
-use Rattle.mail_words.specs.Words.{is_word_character, begins, word_limit}
-use Rattle.mail_words.specs.Inside.Runs.{front, behind, joined_front, within, joined_on, long_at, words_left}
+use Rattle.mail_words.proofs.Imports.{◌≡◌, ℕ, ◌+◌, ◌≤◌, ◌<◌, Bool, true, false, List, [], ◌∷◌, ◌++◌, length, take, drop, encode_utf8_all, IsUtf8, sym, ap, ◌∙◌, arith, append_assoc, length-append, le-leb, nat_tests, encodes-append, is_word_character, begins, word_limit, front, behind, joined_front, within, joined_on, long_at, words_left}
+use Rattle.std.proofs.Common.{chars}
 use Rattle.mail_words.proofs.RunLemmas.{front-behind, is_some}
 use Rattle.mail_words.proofs.OneWord.{joined_front-prefix}
 use Rattle.mail_words.proofs.Reading.{words_left-word}

@@ -1,12 +1,9 @@
 -- From the mask of one load to the bytes that are word characters.
 use lib.Count.{count_trailing_zeros}
 use lib.Lanes.{Each1, chunk, mask_l, top}
-use Rattle.std.proofs.Common.{◌≡◌, ℕ, ◌+◌, ◌-◌, ◌%◌, ◌^◌, ◌<◌, ◌≤◌, cond, eqb, Bool, true, not, List, [], ◌∷◌, map, length, get_or, Fits, w8, refl, ap, ap₂, ◌∙◌, subst, arith, inl, inr}
-use Rattle.std.proofs.lemmas.Bool.{agree_below, agree_below_at, cases_lt}
-use Rattle.std.proofs.lemmas.List.{length-map}
+use Rattle.mail_words.proofs.Imports.{◌≡◌, ℕ, ◌+◌, ◌-◌, ◌%◌, ◌^◌, ◌<◌, ◌≤◌, cond, eqb, Bool, true, not, List, [], ◌∷◌, length, get_or, Fits, w8, refl, ap, ap₂, ◌∙◌, subst, arith, inl, inr, agree_below, agree_below_at, cases_lt, length-map, map-map, mask_l-mod, length-chunk, get_or-chunk, chunk-fits, first_set_mask_l, prefix_len}
+use Rattle.std.proofs.Common.{map}
 use Rattle.std.proofs.lemmas.List.Sums.{prefix_len-le-length, prefix_len_passes}
-use Rattle.std.proofs.lemmas.Simd.{map-map, mask_l-mod, length-chunk, get_or-chunk, chunk-fits, first_set_mask_l}
-use Rattle.std.specs.List.{prefix_len}
 
 -- of bytes, a test counts for what it says of each byte
 same_prefix : (p q : ℕ → Bool) (xs : List ℕ) → Each1 (Fits w8) xs → agree_below p q 256 ≡ true → prefix_len p xs ≡ prefix_len q xs

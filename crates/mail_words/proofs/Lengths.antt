@@ -1,10 +1,7 @@
 -- Each word that is kept has some bytes, and at most as many as a word may have.
-use Rattle.std.proofs.Common.{◌≡◌, ℕ, zero, suc, ◌≤◌, Bool, true, false, cond, List, [], ◌∷◌, ◌++◌, All, length, chars, encode_utf8_all, nat_le, refl, sym, subst, arith}
-use Rattle.std.proofs.lemmas.Bool.{and_parts, leb-true}
+use Rattle.mail_words.proofs.Imports.{◌≡◌, ℕ, zero, suc, ◌≤◌, Bool, true, false, cond, List, [], ◌∷◌, ◌++◌, All, length, encode_utf8_all, nat_le, refl, sym, subst, arith, and_parts, leb-true, length-le-encodes, is_word_character, begins, is_word, word_limit, words, HasWordLength, words_left}
+use Rattle.std.proofs.Common.{chars}
 use Rattle.std.proofs.lemmas.List.Elements.{All-append}
-use Rattle.std.proofs.lemmas.Str.{length-le-encodes}
-use Rattle.mail_words.specs.Words.{is_word_character, begins, is_word, word_limit, words, HasWordLength}
-use Rattle.mail_words.specs.Inside.Runs.{words_left}
 use Rattle.mail_words.proofs.Places.{if_word, words_on, words_from, words_behind-places}
 use Rattle.mail_words.proofs.WordTests.{none_begins}
 

@@ -3,6 +3,7 @@ pub mod ByteReads
 pub mod Characters
 pub mod FoldingLemmas
 pub mod FrontReads
+pub mod Imports
 pub mod JoinedEnds
 pub mod Kept
 pub mod LaneRuns

@@ -1,13 +1,8 @@
 -- A text is one word where it is a piece of one, begins with a word character, and is its own run without the joiners at its end.
-use Rattle.std.proofs.Common.{◌≡◌, ℕ, ◌≤◌, Bool, true, false, not, ◌&&◌, ◌||◌, List, [], ◌∷◌, ◌++◌, length, reverse, chars, encode_utf8_all, IsUtf8, nat_le, refl, sym, ap, ◌∙◌, arith, length-append}
+use Rattle.mail_words.proofs.Imports.{◌≡◌, ℕ, ◌≤◌, Bool, true, false, not, ◌&&◌, ◌||◌, List, [], ◌∷◌, ◌++◌, length, reverse, encode_utf8_all, IsUtf8, nat_le, refl, sym, ap, ◌∙◌, arith, length-append, and-true, and-false, and_parts, le-leb, eq-eqb, eqb-true, reverse-append, encodes-append, encodes-chars, length-le-encodes, list_all, list_any, is_word_character, is_joiner, begins, is_one_word, is_part_of_word, is_word, word_limit, is_piece, joined_to, joined_front}
+use Rattle.std.proofs.Common.{chars}
 use Rattle.std.specs.Prelude.{◌==◌}
-use Rattle.std.proofs.Math.Bool.{and-true, and-false}
-use Rattle.std.proofs.lemmas.Bool.{and_parts, le-leb, eq-eqb, eqb-true}
-use Rattle.std.proofs.lemmas.List.{reverse-append, append-nil}
-use Rattle.std.proofs.lemmas.Str.{encodes-append, encodes-chars, length-le-encodes}
-use Rattle.std.specs.List.{list_all, list_any}
-use Rattle.mail_words.specs.Words.{is_word_character, is_joiner, begins, is_one_word, is_part_of_word, is_word, word_limit}
-use Rattle.mail_words.specs.Inside.Runs.{is_piece, joined_to, joined_front}
+use Rattle.std.proofs.lemmas.List.{append-nil}
 use Rattle.mail_words.proofs.RunLemmas.{is_some, joined_front-word, joined_front-joiner, joined_front-other}
 
 -- ---- the last character
@@ -44,12 +39,9 @@ joined_front-prefix (c ∷ cs) = go (is_word_character c) (is_joiner c) refl ref
     go false false e f h = (c ∷ cs, ap (λ js. js ++ (c ∷ cs)) (sym (joined_front-other c cs e f)))
 
 -- of word characters and joiners
-all-joined_to : (c : ℕ) (cs : List ℕ) → is_piece c ≡ true → list_all is_piece cs ≡ true → list_all is_piece (joined_to c cs) ≡ true
-all-joined_to c cs h h2 = grind arith
-
 all-joined_front : (cs : List ℕ) → list_all is_piece (joined_front cs) ≡ true
 all-joined_front [] = refl
-all-joined_front (c ∷ cs) = grind (arith, cs, joined_front-word, joined_front-joiner, all-joined_to, joined_front-other, all-joined_front cs)
+all-joined_front (c ∷ cs) = grind (arith, cs, joined_front-word, joined_front-joiner, joined_front-other, all-joined_front cs)
 
 -- that ends with a word character
 ends-word : (c : ℕ) (cs : List ℕ) → is_word_character c ≡ true → (is_some cs ≡ true → begins is_word_character (reverse cs) ≡ true) → begins is_word_character (reverse (c ∷ cs)) ≡ true
@@ -65,9 +57,6 @@ ends-joined_front [] some = some
 ends-joined_front (c ∷ cs) some = grind (arith, cs, is_some, joined_front-word, ends-word, joined_front-joiner, ends-joined_to, joined_front-other, ends-joined_front cs)
 
 -- ---- when it is the whole
-
-joined_to-whole : (c : ℕ) (cs : List ℕ) → is_some cs ≡ true → joined_to c cs ≡ c ∷ cs
-joined_to-whole c cs h = grind arith
 
 joined_front-whole : (cs : List ℕ) → list_all is_piece cs ≡ true → (is_some cs ≡ true → begins is_word_character (reverse cs) ≡ true) → joined_front cs ≡ cs
 joined_front-whole [] pieces ended = refl

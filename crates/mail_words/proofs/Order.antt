@@ -1,8 +1,8 @@
 -- The ranges of words come by where they begin and then by where they end.
-use Rattle.std.proofs.Common.{ℕ, List, chars}
+use Rattle.mail_words.proofs.Imports.{ℕ, List, is_word_character, is_word_range, word_ranges}
+use Rattle.std.proofs.Common.{chars}
 use Rattle.contract_words.specs.Ranges.{ranges_from, AreInOrder}
 use Rattle.contract_words.proofs.RangeOrder.{order-filter, order-ranges_from}
-use Rattle.mail_words.specs.Words.{is_word_character, is_word_range, word_ranges}
 
 pub order-word_ranges : (text : List ℕ) → AreInOrder (word_ranges text)
 order-word_ranges text = order-filter (is_word_range is_word_character (chars text)) (ranges_from 0 (chars text)) (order-ranges_from 0 (chars text))

@@ -1,8 +1,7 @@
 -- The words of a text, place by place: what begins at a place depends on the characters before it, the nearest first, and
 -- on those from it on.
-use Rattle.std.proofs.Common.{◌≡◌, ℕ, List, reverse, encode_utf8_all}
+use Rattle.mail_words.proofs.Imports.{◌≡◌, ℕ, List, reverse, encode_utf8_all, is_word_character, is_word, words_behind}
 use Rattle.contract_words.proofs.RangePlaces.{if_passes, seen_on, seen_from, seen_behind-places}
-use Rattle.mail_words.specs.Words.{is_word_character, is_word, words_behind}
 
 -- the range as a list of words: its bytes, where it is one
 abbrev pub if_word : List ℕ → List ℕ → List ℕ → List (List ℕ)

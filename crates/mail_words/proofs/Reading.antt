@@ -1,9 +1,5 @@
 -- Reading the words of a text from the front: what is left of a text behind a place.
-use Rattle.std.proofs.Common.{◌≡◌, ℕ, Bool, true, false, ◌&&◌, List, [], ◌∷◌, ◌++◌, reverse, refl, sym, ap, ap₂, ◌∙◌, lit<, arith}
-use Rattle.std.proofs.Math.Bool.{and-true, and-false}
-use Rattle.std.specs.List.{list_all}
-use Rattle.mail_words.specs.Words.{is_word_character, is_joiner, begins, after_joiners}
-use Rattle.mail_words.specs.Inside.Runs.{front, behind, is_other, read_front, words_left, within, long_at}
+use Rattle.mail_words.proofs.Imports.{◌≡◌, ℕ, Bool, true, false, ◌&&◌, List, [], ◌∷◌, ◌++◌, reverse, refl, sym, ap, ap₂, ◌∙◌, lit<, arith, and-true, and-false, list_all, is_word_character, is_joiner, begins, after_joiners, front, behind, is_other, read_front, words_left, within, long_at}
 use Rattle.mail_words.proofs.Characters.{joiner_is_no_word_character, word_character_is_no_joiner, is_word_character-ascii}
 use Rattle.mail_words.proofs.RunLemmas.{front-pass, front-fail, behind-pass, behind-fail, begins-behind, is_some, after_joiners-joiner, after_joiners-other, run-word}
 use Rattle.mail_words.proofs.Places.{words_on, words_from, words_behind-places}

@@ -1,5 +1,6 @@
 -- A table of worked rows.
-use Rattle.std.proofs.Common.{◌≡◌, List, map}
+use Rattle.mail_words.proofs.Imports.{◌≡◌, List}
+use Rattle.std.proofs.Common.{map}
 
 -- what is read, and what of it
 abbrev pub Each : {A B : Type 0} → (A → B) → List (A × B) → Type 0

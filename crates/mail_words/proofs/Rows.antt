@@ -1,7 +1,5 @@
 -- Words of texts that are written out, by computation. Word characters are here the letters and digits of ASCII.
-use Rattle.std.proofs.Common.{ℕ, Bool, ◌||◌, ◌&&◌, List, [], ◌∷◌, refl, leb}
-use Rattle.std.specs.Prelude.{codes}
-use Rattle.mail_words.specs.Words.{is_joiner, is_word, words_behind}
+use Rattle.mail_words.proofs.Imports.{ℕ, Bool, ◌||◌, ◌&&◌, List, [], ◌∷◌, refl, leb, codes, is_joiner, is_word, words_behind}
 use Rattle.mail_words.proofs.RowTables.{Each}
 
 abbrev is_ascii_word : ℕ → Bool

@@ -1,9 +1,7 @@
 -- Foldings of texts that are written out, by computation. The values are those of Python's `str.casefold`.
-use Rattle.std.proofs.Common.{[], ◌∷◌, refl}
-use Rattle.std.specs.Prelude.{codes}
+use Rattle.mail_words.proofs.Imports.{[], ◌∷◌, refl, codes, folding}
 use Rattle.std.specs.Str.{chars}
 use Rattle.caseless.proofs.Computing.{caseless}
-use Rattle.mail_words.specs.Folding.{folding}
 use Rattle.mail_words.proofs.RowTables.{Each}
 
 rows : Each folding (([], []) ∷ (codes "ABCxyzZ", codes "abcxyzz") ∷ (codes "a-1_@[`{~", codes "a-1_@[`{~")

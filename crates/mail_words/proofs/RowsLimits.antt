@@ -1,8 +1,6 @@
 -- Words of exactly 128 bytes and of more, by computation. A letter of four bytes keeps these texts short: word characters
 -- are here the characters that aren't ASCII.
-use Rattle.std.proofs.Common.{◌≡◌, ℕ, Bool, true, false, List, [], ◌∷◌, ◌++◌, refl, leb, encode_utf8_all}
-use Rattle.std.specs.Prelude.{replicate}
-use Rattle.mail_words.specs.Words.{is_joiner, is_word, words_behind}
+use Rattle.mail_words.proofs.Imports.{◌≡◌, ℕ, Bool, true, false, List, [], ◌∷◌, ◌++◌, refl, leb, encode_utf8_all, replicate, is_joiner, is_word, words_behind}
 
 abbrev is_wide : ℕ → Bool
 is_wide = leb 0x80

@@ -1,10 +1,7 @@
 -- Words by Unicode's own tables, by computation.
-use Rattle.std.proofs.Common.{◌≡◌, Bool, true, false, List, [], ◌∷◌, map, refl}
-use Rattle.std.specs.Prelude.{codes, replicate}
+use Rattle.mail_words.proofs.Imports.{◌≡◌, Bool, true, false, List, [], ◌∷◌, refl, codes, replicate, ucd_derived, ucd_category, is_word_character, is_joiner, is_word, words, is_one_word, is_part_of_word}
+use Rattle.std.proofs.Common.{map}
 use Rattle.std.specs.Str.{chars}
-use Rattle.unicode.proofs.DerivedComputing.{ucd_derived}
-use Rattle.unicode.proofs.CategoryComputing.{ucd_category}
-use Rattle.mail_words.specs.Words.{is_word_character, is_joiner, is_word, words, is_one_word, is_part_of_word}
 use Rattle.mail_words.proofs.RowTables.{Each}
 
 -- the same answer to each

@@ -1,7 +1,5 @@
 -- Laws of what a reader looks for at the front of the characters that are left.
-use Rattle.std.proofs.Common.{◌≡◌, ℕ, Bool, true, false, List, [], ◌∷◌, ◌++◌, refl, arith}
-use Rattle.mail_words.specs.Words.{is_word_character, is_joiner, begins, after_joiners}
-use Rattle.mail_words.specs.Inside.Runs.{front, behind, joined_to, joined_front}
+use Rattle.mail_words.proofs.Imports.{◌≡◌, ℕ, Bool, true, false, List, [], ◌∷◌, ◌++◌, refl, arith, is_word_character, is_joiner, begins, after_joiners, front, behind, joined_to, joined_front}
 use Rattle.mail_words.proofs.Characters.{joiner_is_no_word_character, word_character_is_no_joiner}
 
 pub front-pass : (p : ℕ → Bool) (c : ℕ) (cs : List ℕ) → p c ≡ true → front p (c ∷ cs) ≡ c ∷ front p cs
@@ -49,13 +47,10 @@ after_joiners-joiner c cs e = rw (e, after_joiners) refl
 pub after_joiners-other : (c : ℕ) (cs : List ℕ) → is_joiner c ≡ false → after_joiners (c ∷ cs) ≡ c ∷ cs
 after_joiners-other c cs e = rw (e, after_joiners) refl
 
-is_some-joined_to : (c : ℕ) (cs : List ℕ) → is_some (joined_to c cs) ≡ is_some cs
-is_some-joined_to c cs = grind arith
-
 -- the run goes on exactly where a word character follows the joiners
 pub is_some-joined_front : (cs : List ℕ) → is_some (joined_front cs) ≡ begins is_word_character (after_joiners cs)
 is_some-joined_front [] = refl
-is_some-joined_front (c ∷ cs) = grind (arith, joined_front-word, after_joiners-other, word_character_is_no_joiner, joined_front-joiner, is_some-joined_to, after_joiners-joiner, joined_front-other, is_some-joined_front cs)
+is_some-joined_front (c ∷ cs) = grind (arith, joined_front-word, after_joiners-other, word_character_is_no_joiner, joined_front-joiner, after_joiners-joiner, joined_front-other, is_some-joined_front cs)
 
 -- behind a word character the run goes on
 pub run-word : (cs : List ℕ) → begins is_word_character cs ≡ true → begins is_word_character (after_joiners cs) ≡ true

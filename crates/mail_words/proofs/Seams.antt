@@ -1,12 +1,9 @@
 -- A text, cut between two of its characters.
 use lib.Utf8.{scalar}
-use Rattle.std.proofs.Common.{◌≡◌, ℕ, ◌+◌, ◌<◌, Bool, true, ◌&&◌, List, [], ◌∷◌, ◌++◌, length, take, drop, chars, encode_utf8_all, IsUtf8, refl, sym, ap, subst, ◌∙◌, arith, length-append}
+use Rattle.mail_words.proofs.Imports.{◌≡◌, ℕ, ◌+◌, ◌<◌, Bool, true, ◌&&◌, List, [], ◌∷◌, ◌++◌, length, take, drop, encode_utf8_all, IsUtf8, refl, sym, ap, subst, ◌∙◌, arith, length-append, and_parts, encodes-append, encodes-chars, chars-encodes, scalars-chars, length-le-encodes, IsCharBoundary-at_seam, IsCharBoundary, front, behind}
+use Rattle.std.proofs.Common.{chars}
 use Rattle.std.proofs.Math.Seq.{take-append_seam, drop-append_seam}
 use Rattle.std.proofs.Math.Utf8.{scalars}
-use Rattle.std.proofs.lemmas.Bool.{and_parts}
-use Rattle.std.proofs.lemmas.Str.{encodes-append, encodes-chars, chars-encodes, scalars-chars, length-le-encodes, IsCharBoundary-at_seam}
-use Rattle.std.specs.Str.{IsCharBoundary}
-use Rattle.mail_words.specs.Inside.Runs.{front, behind}
 use Rattle.mail_words.proofs.RunLemmas.{front-behind, is_some}
 
 scalars-front : (xs ys : List ℕ) → scalars (xs ++ ys) ≡ true → scalars xs ≡ true

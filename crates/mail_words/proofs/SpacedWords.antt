@@ -1,10 +1,6 @@
 -- A space, and a word character of ASCII behind it.
-use Rattle.std.proofs.Common.{◌≡◌, ℕ, ◌<◌, Bool, true, ◌&&◌, ◌==◌, nat_lt, List, ◌∷◌, ◌++◌, length, drop, get_or, chars, encode_utf8, IsUtf8, refl, sym, ap, ◌∙◌, arith}
-use Rattle.std.proofs.lemmas.Bool.{and_parts, ltb-true, eqb-true}
-use Rattle.std.proofs.lemmas.Str.{chars_past_char, IsUtf8-past_char, IsCharBoundary-from_drop}
-use Rattle.std.specs.Str.{IsCharBoundary}
-use Rattle.mail_words.specs.Words.{is_word_character, begins}
-use Rattle.mail_words.specs.Inside.Runs.{is_ascii_word, is_parted}
+use Rattle.mail_words.proofs.Imports.{◌≡◌, ℕ, ◌<◌, Bool, true, ◌&&◌, nat_lt, List, ◌∷◌, ◌++◌, length, drop, get_or, encode_utf8, IsUtf8, refl, sym, ap, ◌∙◌, arith, and_parts, ltb-true, eqb-true, chars_past_char, IsUtf8-past_char, IsCharBoundary-from_drop, IsCharBoundary, is_word_character, begins, is_ascii_word, is_parted}
+use Rattle.std.proofs.Common.{◌==◌, chars}
 use Rattle.mail_words.proofs.ByteReads.{class_byte, next_byte}
 
 pub record IsParted (text : List ℕ) : Type 0 where

@@ -1,21 +1,12 @@
 -- What begins at a place, by what the character there is.
-use Rattle.std.proofs.Common.{◌≡◌, ℕ, Bool, true, false, ◌&&◌, ◌||◌, List, [], ◌∷◌, ◌++◌, reverse, refl, sym, ap, ap₂, ◌∙◌, append_assoc, append-nil, arith}
-use Rattle.std.proofs.Math.Bool.{and-false, or-true}
-use Rattle.std.proofs.lemmas.Bool.{and_parts}
-use Rattle.std.proofs.lemmas.List.{reverse-append}
-use Rattle.std.proofs.lemmas.List.Folds.{list_all-append, list_any-append}
-use Rattle.std.specs.List.{list_all, list_any}
-use Rattle.mail_words.specs.Words.{is_word_character, is_joiner, begins, after_joiners}
-use Rattle.mail_words.specs.Inside.Runs.{is_piece, front, behind, joined_to, joined_front, within, joined_on, long_at}
+use Rattle.mail_words.proofs.Imports.{◌≡◌, ℕ, Bool, true, false, ◌&&◌, ◌||◌, List, [], ◌∷◌, ◌++◌, reverse, refl, sym, ap, ap₂, ◌∙◌, append_assoc, arith, and-false, or-true, and_parts, reverse-append, list_all-append, list_any-append, list_all, list_any, is_word_character, is_joiner, begins, after_joiners, is_piece, front, behind, joined_to, joined_front, within, joined_on, long_at}
+use Rattle.std.proofs.Common.{append-nil}
 use Rattle.mail_words.proofs.Characters.{joiner_is_no_word_character, word_character_is_no_joiner}
 use Rattle.mail_words.proofs.RunLemmas.{front-pass, front-fail, behind-pass, behind-fail, begins-behind, is_some, nil_from_none, joined_front-word, joined_front-joiner, joined_front-other, is_some-joined_front}
 use Rattle.mail_words.proofs.Places.{words_on}
 use Rattle.mail_words.proofs.WordTests.{is_plain, is_long, none_begins, none_inside, none_of_others, none_ends, none_yet, none_in_run, none_before_end}
 
 -- ---- the front of a word that grows by a character
-
-begins-append : (p : ℕ → Bool) (xs ys : List ℕ) → begins p xs ≡ true → begins p (xs ++ ys) ≡ true
-begins-append p xs ys h = grind arith
 
 ends-push : (p : ℕ → Bool) (xs : List ℕ) (c : ℕ) → begins p (reverse (xs ++ c ∷ [])) ≡ p c
 ends-push p xs c = ap (begins p) (reverse-append xs (c ∷ []))
@@ -106,7 +97,7 @@ record BeginsLong (before inside : List ℕ) : Type 0 where
   first : begins is_word_character (after_joiners before) ≡ false
 
 begins_long-push : (before inside : List ℕ) (c : ℕ) → BeginsLong before inside → is_piece c ≡ true → BeginsLong before (inside ++ c ∷ [])
-begins_long-push before inside c h piece = grind (arith, begins-append, all-push)
+begins_long-push before inside c h piece = grind (arith, all-push)
 
 -- some joiner stands in it
 record IsJoined (inside : List ℕ) : Type 0 where

@@ -1,9 +1,5 @@
 -- When three parts of a text make the middle one a word.
-use Rattle.std.proofs.Common.{◌≡◌, ℕ, true, false, List, [], reverse, refl}
-use Rattle.std.proofs.Math.Bool.{and-false, or-true}
-use Rattle.std.specs.List.{list_all, list_any}
-use Rattle.mail_words.specs.Words.{is_word_character, is_joiner, begins, after_joiners, is_word}
-use Rattle.mail_words.specs.Inside.Runs.{is_piece, within}
+use Rattle.mail_words.proofs.Imports.{◌≡◌, ℕ, true, false, List, [], reverse, refl, and-false, or-true, list_all, list_any, is_word_character, is_joiner, begins, after_joiners, is_word, is_piece, within}
 use Rattle.mail_words.proofs.Places.{if_word}
 
 pub is_plain : (before inside behind : List ℕ) → begins is_word_character inside ≡ true → list_all is_word_character inside ≡ true

@@ -1,14 +1,5 @@
-use Rattle.std.proofs.Common.{arith, ◌≡◌, ◌∙◌, ◌<◌, ◌≤◌, ℕ, List, [], length, map, take, get_or, Some, sym, ap, subst, string_bytes}
-use Rattle.std.proofs.lemmas.List.{get_or-map, length-map, take_all}
-use Rattle.std.proofs.lemmas.List.Elements.{All-get_or}
-use Rattle.std.proofs.Math.Seq.{map-set_same}
+use Rattle.index_run.proofs.Words.{arith, ◌≡◌, ◌∙◌, ◌<◌, ◌≤◌, ℕ, List, [], length, map, take, get_or, Some, sym, ap, subst, string_bytes, get_or-map, length-map, take_all, All-get_or, map-set_same, IsPath, Mbox, AreSound, mboxes, fault_of_job, is_failed_source, IsIndexOf, IsAdded, IsAddFault}
 use Rattle.contract_words.proofs.DeviceLists.{same_at, same_behind, known_at, known_length, counted_at}
-use Rattle.mail_index.specs.Tables.{IsPath}
-use Rattle.index_job.specs.ArchiveTables.{Mbox}
-use Rattle.index_job.specs.ArchiveRefusals.{AreSound}
-use Rattle.index_run.specs.ArchivesIndexed.{mboxes, fault_of_job}
-use Rattle.run_faults.specs.Faults.{is_failed_source}
-use Rattle.index_job.specs.IndexJobs.{IsIndexOf, IsAdded, IsAddFault}
 use Rattle.index_run.proofs.ArchiveLists.{mboxes-length, next-taken, parted-here, taken-so-far, sound-more, archive-fault, others-run, here-counts}
 use Rattle.index_run.proofs.archives_job.job_of_archives.Goals as goal
 

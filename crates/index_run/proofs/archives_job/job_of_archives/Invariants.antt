@@ -1,7 +1,4 @@
-use Rattle.std.proofs.Common.{◌≡◌, ℕ, List, map, take, drop, Some, IsSome, string_bytes}
-use Rattle.index_job.specs.ArchiveRefusals.{AreSound}
-use Rattle.index_run.specs.ArchivesIndexed.{mboxes}
-use Rattle.index_job.specs.IndexJobs.{IsIndexOf}
+use Rattle.index_run.proofs.Words.{◌≡◌, ℕ, List, map, take, drop, Some, IsSome, string_bytes, AreSound, mboxes, IsIndexOf}
 use Rattle.index_run.proofs.archives_job.job_of_archives.Given as goal
 
 -- the sources from this number on were not asked yet, none has failed, and the job has the archives so far, which are sound

@@ -1,11 +1,8 @@
-use Rattle.std.proofs.Common.{◌≡◌, ◌∙◌, ℕ, List, ◌++◌, length, map, Option, Some, IfSome, ap, subst, string_bytes}
+use Rattle.index_run.proofs.Words.{◌≡◌, ◌∙◌, ℕ, List, ◌++◌, length, map, Some, IfSome, ap, subst, string_bytes, Draft, IsWellFormed, table, mboxes}
+use Rattle.std.proofs.Common.{Option}
 use Rattle.std.specs.Io.KnownBytes.{Appends}
-use Rattle.mail_index.specs.Builders.{Draft}
 use Rattle.mail_index.specs.Files.{index_file, HasSmallSections}
-use Rattle.mail_index.specs.Tables.{IsWellFormed}
 use Rattle.mbox_cutter.specs.Memory.{Taking}
-use Rattle.index_job.specs.ArchiveTables.{table}
-use Rattle.index_run.specs.ArchivesIndexed.{mboxes}
 use Rattle.index_run.proofs.memory_file.file_of_archives.Goals as goal
 
 pub returns-in-Ok-finish-clause-known : goal.returns-in-Ok-finish-clause-known

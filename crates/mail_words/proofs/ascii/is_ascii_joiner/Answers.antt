@@ -1,8 +1,6 @@
 -- The table is held against the definition at each of the 256 bytes, by computing.
-use Rattle.std.proofs.Common.{◌==◌, get_or, refl, arith}
-use Rattle.std.proofs.lemmas.Bool.{agree_below_at}
-use Rattle.mail_words.specs.Words.{is_joiner}
-use Rattle.mail_words.specs.declared.ascii.TheConstants.{CLASSES}
+use Rattle.mail_words.proofs.Imports.{get_or, refl, arith, agree_below_at, is_joiner, CLASSES}
+use Rattle.std.proofs.Common.{◌==◌}
 use Rattle.mail_words.proofs.ascii.is_ascii_joiner.Goals as goal
 
 pub returns : goal.returns

@@ -1,10 +1,6 @@
 -- The table is held against the definition at each of the 256 bytes, by computing.
-use Rattle.std.proofs.Common.{◌&&◌, ◌==◌, nat_lt, get_or, refl, arith}
-use Rattle.std.proofs.lemmas.Bool.{agree_below_at}
-use Rattle.unicode.proofs.CategoryComputing.{ucd_category}
-use Rattle.unicode.proofs.DerivedComputing.{ucd_derived}
-use Rattle.mail_words.specs.Words.{is_word_character}
-use Rattle.mail_words.specs.declared.ascii.TheConstants.{CLASSES}
+use Rattle.mail_words.proofs.Imports.{◌&&◌, nat_lt, get_or, refl, arith, agree_below_at, ucd_category, ucd_derived, is_word_character, CLASSES}
+use Rattle.std.proofs.Common.{◌==◌}
 use Rattle.mail_words.proofs.ascii.is_ascii_word_character.Goals as goal
 
 pub returns : goal.returns

@@ -1,8 +1,6 @@
-use Rattle.std.proofs.Common.{◌≤◌, ◌++◌, length, encode_utf8, string_bytes, sym, ap, ◌∙◌, arith, length-append}
+use Rattle.mail_words.proofs.Imports.{◌≤◌, ◌++◌, length, encode_utf8, string_bytes, sym, ap, ◌∙◌, arith, length-append, to_ascii_lowercase, folding}
 use Rattle.std.proofs.lemmas.Result.{err_from_is_err_and}
-use Rattle.std.specs.Char.{to_ascii_lowercase}
 use Rattle.std.specs.Prelude.{map}
-use Rattle.mail_words.specs.Folding.{folding}
 use Rattle.mail_words.proofs.FoldingLemmas.{folding-ascii, length-folding-ascii, length-folding, folding_some, folds_from_start, folds_further, folds_to_end, folds_within}
 use Rattle.mail_words.proofs.folding.fold_into.Goals as goal
 

@@ -1,4 +1,4 @@
-use Rattle.std.proofs.Common.{◌≤◌, string_bytes}
+use Rattle.mail_words.proofs.Imports.{◌≤◌, string_bytes}
 use Rattle.std.specs.String.{string_capacity}
 use Rattle.mail_words.proofs.FoldingLemmas.{StillFolds}
 use Rattle.mail_words.proofs.folding.fold_into.Given as goal

@@ -1,5 +1,4 @@
-use Rattle.std.proofs.Common.{arith}
-use Rattle.mail_words.specs.Inside.Runs.{is_ascii_word}
+use Rattle.mail_words.proofs.Imports.{arith, is_ascii_word}
 use Rattle.mail_words.proofs.LaneRuns.{run_bound, passed_on}
 use Rattle.mail_words.proofs.lanes.len_by_lanes.Goals as goal
 

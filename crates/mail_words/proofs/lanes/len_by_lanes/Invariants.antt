@@ -1,5 +1,4 @@
-use Rattle.std.proofs.Common.{◌≡◌, ℕ, ◌-◌, ◌<◌, ◌≤◌, true, length, slice_index}
-use Rattle.mail_words.specs.Inside.Runs.{is_ascii_word}
+use Rattle.mail_words.proofs.Imports.{◌≡◌, ℕ, ◌-◌, ◌<◌, ◌≤◌, true, length, slice_index, is_ascii_word}
 use Rattle.mail_words.proofs.lanes.len_by_lanes.Given as goal
 
 abbrev pub invariant-loop-len : goal.invariant-loop-len

@@ -1,11 +1,6 @@
 -- The lanes are held against the definition at each of the 256 bytes, by computing.
 use lib.Lanes.{chunk}
-use Rattle.std.proofs.Common.{ℕ, leb, cond, bit_and, refl}
-use Rattle.std.proofs.lemmas.Simd.{zip2_splat, zip2_of_maps, splat_is_map, length-chunk}
-use Rattle.unicode.proofs.CategoryComputing.{ucd_category}
-use Rattle.unicode.proofs.DerivedComputing.{ucd_derived}
-use Rattle.mail_words.specs.Words.{is_word_character}
-use Rattle.mail_words.specs.Inside.Runs.{is_ascii_word}
+use Rattle.mail_words.proofs.Imports.{ℕ, leb, cond, bit_and, refl, zip2_splat, zip2_of_maps, splat_is_map, length-chunk, ucd_category, ucd_derived, is_word_character, is_ascii_word}
 use Rattle.mail_words.proofs.LaneRuns.{first_lane}
 use Rattle.mail_words.proofs.lanes.run_at.Goals as goal
 

@@ -1,4 +1,4 @@
-use Rattle.std.proofs.Common.{arith}
+use Rattle.mail_words.proofs.Imports.{arith}
 use Rattle.mail_words.proofs.ByteReads.{class_byte, other_byte, front_bytes-pass, front_bytes-stop, front_bytes-end, front_bytes-boundary, front_bytes-more, length-front}
 use Rattle.mail_words.proofs.runs.front_len.Goals as goal
 

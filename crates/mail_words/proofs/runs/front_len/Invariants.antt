@@ -1,4 +1,4 @@
-use Rattle.std.proofs.Common.{drop}
+use Rattle.mail_words.proofs.Imports.{drop}
 use Rattle.mail_words.proofs.FrontReads.{FrontRead}
 use Rattle.mail_words.proofs.runs.front_len.Given as goal
 

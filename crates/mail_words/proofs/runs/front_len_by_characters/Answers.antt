@@ -1,4 +1,4 @@
-use Rattle.std.proofs.Common.{sym, ◌∙◌}
+use Rattle.mail_words.proofs.Imports.{sym, ◌∙◌}
 use Rattle.mail_words.proofs.FrontReads.{front_read-pass, front_read-stop, front_read-end}
 use Rattle.mail_words.proofs.runs.front_len_by_characters.Goals as goal
 

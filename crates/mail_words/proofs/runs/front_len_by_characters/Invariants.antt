@@ -1,4 +1,4 @@
-use Rattle.std.specs.Str.Iter.{chars_rest}
+use Rattle.mail_words.proofs.Imports.{chars_rest}
 use Rattle.mail_words.proofs.FrontReads.{FrontRead}
 use Rattle.mail_words.proofs.runs.front_len_by_characters.Given as goal
 

@@ -1,5 +1,5 @@
-use Rattle.std.proofs.Common.{chars, ◌∙◌}
-use Rattle.mail_words.specs.Inside.Runs.{is_piece}
+use Rattle.mail_words.proofs.Imports.{◌∙◌, is_piece}
+use Rattle.std.proofs.Common.{chars}
 use Rattle.mail_words.proofs.JoinedEnds.{joined-bytes}
 use Rattle.mail_words.proofs.Seams.{front_seam, seam_boundary, seam_front}
 use Rattle.mail_words.proofs.runs.joined_len.Goals as goal

@@ -1,5 +1,4 @@
-use Rattle.std.proofs.Common.{◌≡◌, ◌<◌, ◌≤◌, ℕ, true, length, slice_index}
-use Rattle.mail_words.specs.Words.{is_joiner}
+use Rattle.mail_words.proofs.Imports.{◌≡◌, ◌<◌, ◌≤◌, ℕ, true, length, slice_index, is_joiner}
 use Rattle.mail_words.proofs.runs.len_before_joiners.Given as goal
 
 -- what was passed is joiners

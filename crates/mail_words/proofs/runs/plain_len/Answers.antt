@@ -1,5 +1,4 @@
-use Rattle.std.proofs.Common.{arith}
-use Rattle.mail_words.specs.Words.{is_word_character}
+use Rattle.mail_words.proofs.Imports.{arith, is_word_character}
 use Rattle.mail_words.proofs.ByteReads.{front_bytes-passed, front_bytes-boundary, front_bytes-more, length-front}
 use Rattle.mail_words.proofs.runs.plain_len.Goals as goal
 

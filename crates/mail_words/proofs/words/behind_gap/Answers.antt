@@ -1,5 +1,4 @@
-use Rattle.std.proofs.Common.{arith}
-use Rattle.mail_words.specs.Inside.Runs.{is_other}
+use Rattle.mail_words.proofs.Imports.{arith, is_other}
 use Rattle.mail_words.proofs.Reading.{words_left-space, words_left-gaps, begins-gaps}
 use Rattle.mail_words.proofs.Seams.{front_seam, seam_boundary, seam_back, chars_front, chars_back, some_from_bytes}
 use Rattle.mail_words.proofs.SpacedWords.{parted}

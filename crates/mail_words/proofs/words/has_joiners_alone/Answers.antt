@@ -1,6 +1,4 @@
-use Rattle.std.proofs.Common.{ap, ◌∙◌}
-use Rattle.std.specs.List.{list_all}
-use Rattle.mail_words.specs.Words.{is_joiner}
+use Rattle.mail_words.proofs.Imports.{ap, ◌∙◌, list_all, is_joiner}
 use Rattle.mail_words.proofs.Characters.{joiners-bytes}
 use Rattle.mail_words.proofs.words.has_joiners_alone.Goals as goal
 

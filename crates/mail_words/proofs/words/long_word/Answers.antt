@@ -1,6 +1,5 @@
-use Rattle.std.proofs.Common.{chars, sym, ap, ◌∙◌, arith}
-use Rattle.mail_words.specs.Words.{is_word_character}
-use Rattle.mail_words.specs.Inside.Runs.{front, behind, joined_front, joined_on}
+use Rattle.mail_words.proofs.Imports.{sym, ap, ◌∙◌, arith, is_word_character, front, behind, joined_front, joined_on}
+use Rattle.std.proofs.Common.{chars}
 use Rattle.mail_words.proofs.Seams.{front_seam, seam_boundary, chars_back, nil_from_bytes}
 use Rattle.mail_words.proofs.Kept.{joined_on-long, length-long_front, long_seam, joined_is, long_at-short}
 use Rattle.mail_words.proofs.RunLemmas.{begins-behind, joined_front-none}

@@ -1,5 +1,4 @@
-use Rattle.std.proofs.Common.{arith}
-use Rattle.std.proofs.lemmas.Bool.{eqb-true, eqb-false}
+use Rattle.mail_words.proofs.Imports.{arith, eqb-true, eqb-false}
 use Rattle.mail_words.proofs.Reading.{words_left-end}
 use Rattle.mail_words.proofs.FrontReads.{no_chars}
 use Rattle.mail_words.proofs.Kept.{words_left-kept, words_left-dropped}

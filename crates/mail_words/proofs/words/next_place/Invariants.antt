@@ -1,7 +1,7 @@
-use Rattle.std.proofs.Common.{◌≡◌, length, chars}
+use Rattle.mail_words.proofs.Imports.{◌≡◌, length, words_left}
+use Rattle.std.proofs.Common.{chars}
 use denote.Text.{Utf8}
 use denote.Shadow.{shadow}
-use Rattle.mail_words.specs.Inside.Runs.{words_left}
 use Rattle.mail_words.proofs.words.next_place.Given as goal
 
 abbrev pub invariant-places : goal.invariant-places

@@ -1,4 +1,4 @@
-use Rattle.mail_words.specs.Words.{is_word_character}
+use Rattle.mail_words.proofs.Imports.{is_word_character}
 use Rattle.mail_words.proofs.Seams.{front_seam, seam_boundary, seam_front, seam_back, chars_back}
 use Rattle.mail_words.proofs.words.place_at.Goals as goal
 

@@ -1,4 +1,4 @@
-use Rattle.std.proofs.Common.{arith}
+use Rattle.mail_words.proofs.Imports.{arith}
 use Rattle.mail_words.proofs.Characters.{piece_byte}
 use Rattle.mail_words.proofs.runs.OfRunsCharacterClass.has_ascii.Goals as goal
 

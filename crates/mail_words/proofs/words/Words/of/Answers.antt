@@ -1,5 +1,4 @@
-use Rattle.std.proofs.Common.{All, sym, subst}
-use Rattle.mail_words.specs.Words.{HasWordLength}
+use Rattle.mail_words.proofs.Imports.{All, sym, subst, HasWordLength}
 use Rattle.mail_words.proofs.Lengths.{words_left-whole, all-words}
 use Rattle.mail_words.proofs.words.Words.of.Goals as goal
 
