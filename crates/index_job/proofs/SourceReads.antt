@@ -54,7 +54,3 @@ module _ {S : Type 0} (g : Ghosts S) where
   event-reads old new r e is h = grind arith
 
 -- ---- the archive's end
-
-pub awaits-end : (number bytes : ℕ) (old new : CutterPlace) (rest : Option (List ℕ)) (builder : Option Draft) → IsHeading (heading.End bytes) old new → new.most ≡ most_in_archive
-    → ReadsToEnd (heading.End bytes) rest → IsBuilderReady number old.offset builder → AwaitsEnd number rest bytes builder
-awaits-end number bytes old new rest builder (behind, within) most end (d, is, h) = grind arith

@@ -98,14 +98,8 @@ waiting-length words n i nothing all below within =
     subst HasTermLength (word-at words n i [] nothing below within) (all-at (map shown (take n words)) i (omega (arith, below, waiting-count words n within)) all)
 
 -- a fact that asks nothing of the draft
-pub of-any-draft : (o : Option Draft) (P : Type 0) → P → IfSome o (λ _. P)
-of-any-draft o P h = grind arith
-
 -- all words that waited are added, and one waits
 pub added-first : (kind : TextKind) (old now : List (List ℕ)) (word : List ℕ) (new : List (List ℕ)) (o n : Option Draft)
     → n ≡ option_map (draft_with_terms (word_terms kind old)) o → now ≡ [] → new ≡ now ++ word ∷ []
     → option_map (draft_with_terms (word_terms kind (old ++ word ∷ []))) o ≡ option_map (draft_with_terms (word_terms kind new)) n
 added-first kind old now word new o n added none is = grind (arith, option_map, map-append, joined)
-
-pub no-terms : (o : Option Draft) → option_map (draft_with_terms []) o ≡ o
-no-terms o = grind arith

@@ -35,9 +35,6 @@ one_values : (i : Bool) (p : ValueParser) (ts : List Text) → One (values_kinds
 one_values i p [] = tt
 one_values i p (t ∷ ts) = one_or_else (value_kinds i p t) (values_kinds i p ts) (one_value i p t) (one_values i p ts)
 
-one_request : (x : ArgAction) → One (request_kinds x)
-one_request x = grind arith
-
 one_count : (a : Rule) (vs : List Text) (rows : List Row) → One (count_fault a vs rows)
 one_count a vs rows = grind (arith, one_value, one_values)
 
@@ -133,7 +130,7 @@ one_walk s w (word ∷ rest) leaf =
     (one_turn s w word leaf) (one_walk s (walked s.rules [] w word) rest leaf)
 
 one_default : (rows : List Row) (a : Rule) → One (default_fault rows a)
-one_default rows a = grind (arith, one_if, one_or_else, one_request, one_values)
+one_default rows a = grind (arith, one_if, one_or_else, one_values)
 
 one_defaults : (rows : List Row) (c : List Rule) → One (defaults_fault rows c)
 unfolding defaults_fault
@@ -157,5 +154,3 @@ pub one_fault : (a : App) (words : List Text) → (built a).subs ≡ [] → (bui
 one_fault a words none leaf = grind (arith, leaf_fault, one_level)
 
 -- such a kind is the whole list
-pub only_kind : (k : ErrorKind) (ks : Kinds) → One ks → IsAmong k ks → ks ≡ k ∷ []
-only_kind k ks h h2 = grind arith

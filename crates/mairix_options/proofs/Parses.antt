@@ -2,7 +2,7 @@
 use Rattle.mairix_options.proofs.Words.{◌≡◌, ◌⊎◌, true, List, [], Result, Ok, Err, IfOk, IfSome, refl, sym, subst, ap, arith, FailsBy, Text, HasMatchesOf, fault_of, matches_of, is_simple, is_simple_and_free, rows_of, found_of, kind_of, Error, ErrorKind, ArgMatches, if_some_map, Gives, ◌>>=◌, command, parse, parse_by, plan, plan_of_rows, plan_in, one_format, refusal_of_kind, kind_refusal, error_refusal, fault_of_kind, refusal, Plan, UsageFault, OrMemory}
 use Rattle.clap.specs.Words.{Kinds, IsAmong, Row, built}
 use Rattle.clap.specs.declared.error.kind.ErrorKind.TheVariants as kind
-use Rattle.mairix_options.proofs.OneKind.{One, one_fault, only_kind}
+use Rattle.mairix_options.proofs.OneKind.{One, one_fault}
 
 -- the command is one of those whose parse clap states
 pub simple : is_simple command ≡ true
@@ -23,7 +23,7 @@ refused k = grind arith
 
 refused_by : (k : ErrorKind) (ks : Kinds) (rows : List Row) → One ks → (k ≡ kind.OutOfMemory) ⊎ IsAmong k ks
     → IfSome (kind_refusal k) (λ f. parse_by ks rows ≡ Err f)
-refused_by k ks rows h h2 = grind (arith, only_kind, if_some_map, refused)
+refused_by k ks rows h h2 = grind (arith, if_some_map, refused)
 
 parse-taken : (words : List Text) (m : ArgMatches) → fault_of command words ≡ [] → rows_of (found_of m) ≡ matches_of command words
     → parse words ≡ Ok (plan_in m)

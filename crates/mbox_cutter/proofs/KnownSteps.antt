@@ -4,15 +4,12 @@ use Rattle.mbox_cutter.proofs.Steps.{resume-beginning}
 
 -- ---- facts of known values
 
-pub if_at : {A : Type 0} (o : Option A) (P : A → Type 0) (x : A) → o ≡ Some x → IfSome o P → P x
-if_at o P x h h2 = grind arith
-
 pub each_some : {A : Type 0} (o : Option A) (P : A → Type 0) → ((x : A) → o ≡ Some x → P x) → IfSome o P
 each_some o P h = grind arith
 
 -- what holds at a second option that has the same value
 pub at_same : {A : Type 0} (o o' : Option A) (P : A → Type 0) → IfSome o (λ x. o' ≡ Some x) → IfSome o' P → IfSome o P
-at_same o o' P h h2 = grind (arith, if_at)
+at_same o o' P h h2 = grind arith
 
 pub both : {A : Type 0} (o : Option A) (P Q : A → Type 0) → IfSome o P → IfSome o Q → IfSome o (λ x. P x × Q x)
 both o P Q h h2 = grind arith
@@ -23,20 +20,16 @@ both o P Q h h2 = grind arith
 abbrev pub IsFirst : ℕ → List ℕ → List ℕ → Type 0
 IsFirst n line b = (n ≡ first_length b) × (line ≡ take n b)
 
-pub known-coming : (bytes : Option (List ℕ)) (p : CutterPlace) (was : Phase) (P : List ℕ → Type 0) (Q : Coming → Type 0) → p.phase ≡ was →
-    IfSome bytes P → ((b : List ℕ) → P b → Q (resume was p.offset p.most b)) → IfSome (coming_at p bytes) Q
-known-coming bytes p was P Q h h2 h3 = grind arith
-
 -- a step that takes the event and leaves these bytes
 pub known-step : (bytes after : Option (List ℕ)) (old new : CutterPlace) (was : Phase) (event : ArchiveEvent) (P : List ℕ → Type 0) (left : List ℕ → List ℕ) → old.phase ≡ was →
     IfSome bytes P → IfSome bytes (λ b. after ≡ Some (left b)) → ((b : List ℕ) → P b → Takes event (resume was old.offset old.most b) (resume new.phase new.offset new.most (left b))) →
     TakesKnown event (coming_at old bytes) (coming_at new after)
-known-step bytes after old new was event P left is h leaves each = grind (arith, known-coming, both)
+known-step bytes after old new was event P left is h leaves each = grind (arith, both)
 
 -- no first line is told
 pub known-fault : (bytes : Option (List ℕ)) (p : CutterPlace) (was : Phase) (fault : CutFault) → p.phase ≡ was → FailsFirst p.offset p.most bytes fault →
     ((b : List ℕ) → p.most < p.offset + first_length b → Refuses ArchiveTooLong (resume was p.offset p.most b)) → IfSome (coming_at p bytes) (Refuses fault)
-known-fault bytes p was fault h h2 h3 = grind (arith, each_some, known-coming)
+known-fault bytes p was fault h h2 h3 = grind (arith, each_some)
 
 -- what comes at the beginning
 pub known-beginning : (bytes window : Option (List ℕ)) (most : ℕ) → window ≡ bytes → option_map (resume Between 0 most) window ≡ option_map (coming_of most) bytes

@@ -4,7 +4,7 @@ use Rattle.mbox_cutter.specs.declared.scan.Scan.{Scan}
 use Rattle.mbox_cutter.specs.declared.scan.Step.{Step}
 use Rattle.mbox_cutter.specs.declared.scan.Step.TheVariants as step
 use Rattle.mbox_cutter.specs.Progress.{Progress, Advances}
-use Rattle.mbox_cutter.proofs.KnownSteps.{each_some, at_same, both, IsFirst, known-coming, known-step, known-fault}
+use Rattle.mbox_cutter.proofs.KnownSteps.{each_some, at_same, both, IsFirst, known-step, known-fault}
 use Rattle.mbox_cutter.proofs.Sources.{Serves, Serves-none, Serves-join, served}
 use Rattle.mbox_cutter.proofs.Steps.{step-done, step-start, step-empty, step-refused, step-long, step-end, step-line, step-open, step-closed, step-long_inside, ended-stays}
 use Rattle.mbox_cutter.proofs.Windows.{known_taken, line_taken, length-Extends, take-Extends, ReadsOn-join}
@@ -77,9 +77,6 @@ module _ {S : Type 0} (g : Ghosts S) (old mid : Scan S) (n : ℕ) (line : List �
   taken new phase h p = grind (arith, served, at_same, known_taken, length-take-le)
 
 -- less is left
-pub taken-nearer : {S : Type 0} (g : Ghosts S) (old new : Scan S) (n : ℕ) (phase : Phase) (line : List ℕ) → Taken g old new n phase line → new.most - new.offset < old.most - old.offset
-taken-nearer g old new n phase line t = grind arith
-
 itself : {A : Type 0} (o : Option A) → IfSome o (λ x. o ≡ Some x)
 itself o = each_some o (λ x. o ≡ Some x) (λ x e. e)
 
@@ -149,9 +146,6 @@ ended-steps g old ended was = grind (arith, told-steps, Serves-none, itself, end
 
 -- ---- steps that fail
 
-is_fresh : (at most : ℕ) (bytes : Option (List ℕ)) (fault : CutFault) → FailsFirst at most bytes fault → IsFresh fault
-is_fresh at most bytes fault h = grind arith
-
 module _ {S : Type 0} (g : Ghosts S) (old mid : Scan S) (fault : CutFault) (was : IsScan g.rest old) where
   -- what fails leaves the scan where it was
   fails-steps : (old.phase ≡ Ended → ⊥) → Serves g (is_device fault) old.window.source mid.window.source → place_of mid ≡ place_of old →
@@ -161,7 +155,7 @@ module _ {S : Type 0} (g : Ghosts S) (old mid : Scan S) (fault : CutFault) (was 
   -- no line was found
   unfound-steps : (before : Phase) → old.phase ≡ before → (old.phase ≡ Ended → ⊥) → ((b : List ℕ) → old.most < old.offset + first_length b → Refuses ArchiveTooLong (resume before old.offset old.most b)) →
       FindsLine g old (Err fault) mid → Steps g old (Err fault) mid
-  unfound-steps before is not_ended long f = grind (arith, fails-steps, served, known-fault, is_fresh)
+  unfound-steps before is not_ended long f = grind (arith, fails-steps, served, known-fault)
 
   pub fault-steps : old.phase ≡ Between → FindsLine g old (Err fault) mid → Steps g old (Err fault) mid
   fault-steps between f = unfound-steps Between between (λ e. cc) (λ b. step-long old.offset old.most b was.place.most) f
@@ -177,7 +171,7 @@ unread-steps g old mid fault was n start size line far inside h same r device = 
 -- the first line that isn't empty starts no message
 pub refused-steps : {S : Type 0} (g : Ghosts S) (old mid : Scan S) (n : ℕ) (line : List ℕ) → IsScan g.rest old → old.phase ≡ Between → Found g old mid n line →
     is_separator line ≡ false → is_empty line ≡ false → Steps g old (Err NotAnMbox) mid
-refused-steps g old mid n line was between h other full = grind (arith, fails-steps, served, known-coming, step-refused)
+refused-steps g old mid n line was between h other full = grind (arith, fails-steps, served, step-refused)
 
 -- ---- empty lines before a step
 
@@ -196,28 +190,16 @@ skipped-none g old between was = grind (arith, Serves-none, itself)
 
 pub skipped-one : {S : Type 0} (g : Ghosts S) (old now new : Scan S) (n : ℕ) (line : List ℕ) → Skipped g old now → Taken g now new n Between line →
     is_separator line ≡ false → is_empty line ≡ true → Skipped g old new
-skipped-one g old now new n line k t other empty = grind (arith, Serves-join, at_same, known-coming, both, step-empty)
-
-answers-behind : (before now after : Option Coming) (r : Result ArchiveEvent CutFault) → IfSome before (λ k. now ≡ Some k) → Answers now r after → Answers before r after
-answers-behind before now after r h h2 = grind arith
-
-moves-behind : (e : ArchiveEvent) (old now new : CutterPlace) → old.phase ≡ Between → now.phase ≡ Between → old.offset ≤ now.offset → Moves e now new → Moves e old new
-moves-behind e old now new h h2 h3 h4 = grind arith
+skipped-one g old now new n line k t other empty = grind (arith, Serves-join, at_same, both, step-empty)
 
 moves-skipped : (result : Result Step CutFault) (line : List ℕ) (old now new : CutterPlace) → old.phase ≡ Between → now.phase ≡ Between → old.offset ≤ now.offset →
     IfOk result (λ s. Moves (told_at s line) now new) → IfOk result (λ s. Moves (told_at s line) old new)
-moves-skipped result line old now new h h2 h3 h4 = grind (arith, moves-behind)
+moves-skipped result line old now new h h2 h3 h4 = grind arith
 
 pub skipped-steps : {S : Type 0} (g : Ghosts S) (old now new : Scan S) (result : Result Step CutFault) → Skipped g old now → Steps g now result new → Steps g old result new
-skipped-steps g old now new result k s = grind (arith, Serves-join, answers-behind, moves-skipped)
+skipped-steps g old now new result k s = grind (arith, Serves-join, moves-skipped)
 
 -- ---- what follows of a step, for callers
-
-pub nears : (e : ArchiveEvent) (old new : CutterPlace) → Moves e old new → HasLine e → new.offset ≤ new.most → new.most ≡ old.most → Nears e old new
-nears e old new h h2 h3 h4 = grind arith
-
-pub reads_all : (e : ArchiveEvent) (old new : CutterPlace) (bytes : Option (List ℕ)) → Moves e old new → (new.phase ≡ Ended → IsAtEnd bytes) → ReadsAll e bytes
-reads_all e old new bytes h h2 = grind arith
 
 -- a cutter over this scan, as its callers see it
 abbrev pub shown_as : {S : Type 0} → Ghosts S → Scan S → Progress S
@@ -225,4 +207,4 @@ shown_as g s = record { coming = coming g.rest s; place = place_of s; line = s.w
 
 -- a step that tells something advances the cutter
 pub steps-advance : {S : Type 0} (g : Ghosts S) (old new : Scan S) (s : Step) → Steps g old (Ok s) new → Advances g (shown_as g old) (Ok (told_at s new.window.line)) (shown_as g new)
-steps-advance g old new s h = grind (arith, nears, reads_all)
+steps-advance g old new s h = grind arith

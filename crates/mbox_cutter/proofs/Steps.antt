@@ -22,11 +22,8 @@ module _ (at most rest : ℕ) (l : List ℕ) (ls lines : List (List ℕ)) (first
 first_full_end-le : (l : List ℕ) (ls : List (List ℕ)) → length l ≤ first_full_end (l ∷ ls)
 first_full_end-le l ls = elim (is_empty l) as (λ v. length l ≤ cond v (length l + first_full_end ls) (length l)) [ true ↦ omega arith | false ↦ omega arith ]
 
-and-no : (a : Bool) → (a && false) ≡ false
-and-no a = grind arith
-
 refusal-long : (at most rest : ℕ) (l : List ℕ) (ls : List (List ℕ)) → most < at + length l → length l ≤ rest → refusal_between at most (l ∷ ls) rest ≡ Some ArchiveTooLong
-refusal-long at most rest l ls h k = grind (arith, first_full_end-le, nat_tests, and-no, too_long-beyond)
+refusal-long at most rest l ls h k = grind (arith, first_full_end-le, nat_tests, too_long-beyond)
 
 same_coming : {a b : List ArchiveEvent} {r q : Option CutFault} → a ≡ b → r ≡ q → ◌≡◌ {A = Coming} (record { events = a; refusal = r }) (record { events = b; refusal = q })
 same_coming e f = cc

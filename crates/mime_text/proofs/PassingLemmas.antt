@@ -11,12 +11,6 @@ use Rattle.mime_text.proofs.StepLemmas.{value-header, given-hit, given-leaf_line
 abbrev Line : Type 0
 Line = List ℕ
 
-pub on_ok-map : {T E P Q : Type 0} (result : Result T E) → (P → Q) → OnOk result P → OnOk result Q
-on_ok-map result h h2 = grind arith
-
-pub on_ok-pure : {T E P : Type 0} (result : Result T E) → P → OnOk result P
-on_ok-pure result h = grind arith
-
 more-open : (b : Bool) → More ≡ (if b then Ended else More) → b ≡ false
 more-open b e = grind arith
 

@@ -56,19 +56,7 @@ pub spaces-more : (into new some : List ℕ) (left n rest : ℕ) → some ≡ re
 spaces-more into new some left n rest are parts added = grind (arith, append_assoc, replicate-append-replicate)
 
 -- what a call that adds all or nothing has added
-pub on_ok : {X E : Type 0} (r : Result X E) (new all none whole : List ℕ) → new ≡ (if is_ok r then all else none) → all ≡ whole → OnOk r (new ≡ whole)
-on_ok r new all none whole h h2 = grind arith
-
 -- ---- what ends a span
-
-span_end-ascii : (o : Bool) → span_end o < 128
-span_end-ascii o = grind arith
-
-blanked-end : (o : Bool) (cs : List ℕ) → blanked o (span_end o ∷ cs) ≡ 0x20 ∷ blanked (not o) cs
-blanked-end o cs = grind arith
-
-is_open-end : (o : Bool) (cs : List ℕ) → is_open_behind o (span_end o ∷ cs) ≡ is_open_behind (not o) cs
-is_open-end o cs = grind arith
 
 -- ---- a text that is cut at an ASCII character
 
@@ -85,7 +73,7 @@ cut-ascii c bs r h h2 = grind (arith, split_parts, cut_at-none, differs, cut_at-
 
 pub cut_from_split : (o : Bool) (sign : ℕ) (bs : List ℕ) (r : Option (Bor (List ℕ) × Bor (List ℕ))) → sign ≡ span_end o → IsSplitOnceResult sign bs r
     → option_map (λ parts. (parts.0.now, parts.1.now)) r ≡ cut_at (span_end o) bs
-cut_from_split o sign bs r is h = grind (arith, cut-ascii, span_end-ascii, IsSplitOnceResult)
+cut_from_split o sign bs r is h = grind (arith, cut-ascii, IsSplitOnceResult)
 
 record CutText (c : ℕ) (before behind : List ℕ) : Type 0 where
   utf8_before : IsUtf8 before
@@ -129,8 +117,8 @@ tags_read-start text start old utf8 = record { utf8 = utf8; sofar = refl; behind
 pub tags_read-step : (text : List ℕ) (start : Bool) (old into : List ℕ) (o : Bool) (rest before behind spanned new : List ℕ) → TagsRead text start old into o rest
     → IsCut (span_end o) rest before behind → spanned ≡ into ++ encode_utf8_all (shown_span o (chars before)) → new ≡ spanned ++ encode_utf8 0x20
     → TagsRead text start old new (not o) behind
-tags_read-step text start old into o rest before behind spanned new h cut written ended = grind (arith, span_end-ascii, cut_text, lacks-text, is_open-span, blanked-append, blanked-span, blanked-end, encode_utf8_all, encode_utf8, encodes-append, is_open_behind-append, is_open-end, append_assoc, length-append, length-span, encode_ascii)
+tags_read-step text start old into o rest before behind spanned new h cut written ended = grind (arith, cut_text, lacks-text, is_open-span, blanked-append, blanked-span, encode_utf8_all, encode_utf8, encodes-append, is_open_behind-append, append_assoc, length-append, length-span, encode_ascii)
 
 pub tags_read-end : (text : List ℕ) (start : Bool) (old into : List ℕ) (o : Bool) (rest new : List ℕ) → TagsRead text start old into o rest → Lacks (span_end o) rest
     → new ≡ into ++ encode_utf8_all (shown_span o (chars rest)) → TagsBlanked text start old new o
-tags_read-end text start old into o rest new h lacks written = grind (arith, lacks-text, span_end-ascii, encode_utf8_all, blanked-span, is_open-span, length-append, length-span)
+tags_read-end text start old into o rest new h lacks written = grind (arith, lacks-text, encode_utf8_all, blanked-span, is_open-span, length-append, length-span)

@@ -9,12 +9,6 @@ use Rattle.header_text.proofs.CutLemmas.{Lacks}
 not_first : (a b c : Bool) → a ≡ false → (a && b && c) ≡ false
 not_first a b c e = rw e refl
 
-not_mid : (a b c : Bool) → b ≡ false → (a && b && c) ≡ false
-not_mid a b c h = grind arith
-
-not_last : (a b c : Bool) → c ≡ false → (a && b && c) ≡ false
-not_last a b c h = grind arith
-
 all_three : (a b c : Bool) → a ≡ true → b ≡ true → c ≡ true → (a && b && c) ≡ true
 all_three a b c e f g = rw (e, f, g) refl
 
@@ -57,10 +51,10 @@ on-unopened before inside [] e = refl
 on-unopened before inside (c ∷ cs) e = grind (arith, refused, before, not_first, on-unopened before (inside ++ c ∷ []) cs e)
 
 refused_broken : (before inside behind : List ℕ) → list_all is_inside_id inside ≡ false → one before inside behind ≡ []
-refused_broken before inside behind e = grind (arith, refused, before, behind, not_mid)
+refused_broken before inside behind e = grind (arith, refused, before, behind)
 
 refused_open : (before inside behind : List ℕ) → begins_with close_sign behind ≡ false → one before inside behind ≡ []
-refused_open before inside behind e = grind (arith, refused, before, behind, not_last)
+refused_open before inside behind e = grind (arith, refused, before, behind)
 
 -- a `<` or a `>` is among them
 on-broken : (before inside rest : List ℕ) → list_all is_inside_id inside ≡ false → ids_on before inside rest ≡ []
@@ -133,9 +127,6 @@ kept-append xs ys = grind (arith, nat_lt, map-append, filter-append)
 pub ids_in-cons : (text : List ℕ) (texts : List (List ℕ)) → ids_in (text ∷ texts) ≡ ids_in (text ∷ []) ++ ids_in texts
 ids_in-cons text texts = grind (arith, filter_map-append, kept-append)
 
-kept-unless_none : (u : List ℕ) → kept_ids (unless_none u u) ≡ kept_ids (u ∷ [])
-kept-unless_none u = grind arith
-
 -- a `<` stands in the text, none after it
 record LastOpen (text : List ℕ) : Type 0 where
   before : List ℕ
@@ -177,7 +168,7 @@ last_open (b ∷ bs) free = elim (last_open bs free.1) [
     go false t none = inl (ap (judged b bs) none.0 ∙ rw (judged, t) refl, (t, none.1))
 
 from-text : (text rest : List ℕ) → Lacks close_sign text → kept_ids (ids_from [] (text ++ close_sign ∷ rest)) ≡ ids_in (text ∷ []) ++ kept_ids (ids_from [] rest)
-from-text text rest free = grind (arith, last_open, from-unopened, append_assoc, from-reopened, from-found, kept-append, kept-unless_none)
+from-text text rest free = grind (arith, last_open, from-unopened, append_assoc, from-reopened, from-found, kept-append)
 
 -- ---- all texts
 

@@ -234,6 +234,3 @@ module _ (fs : List HeaderField) (size : ℕ) (in_field : Bool) (stage : Stage) 
   taken-next_more goes_on = taken-more (ls ++ l ∷ []) (λ e. goes_on (stepped.next ∙ e))
 
 -- ---- the bounds
-
-pub room-open : (stage : Stage) (size : ℕ) (l : List ℕ) → size ≤ most_in_header → stage_behind stage size l ≡ Open → size + length l ≤ most_in_header
-room-open stage size l h h2 = grind arith

@@ -22,5 +22,3 @@ pub decoded-step : (follows : Bool) (w : WordAfter) (p : Pieces) (later old new 
 decoded-step follows w p later old new newer e f g = grind (arith, append_assoc)
 
 -- no word more
-pub decoded-end : (follows : Bool) (p : Pieces) (value : List ℕ) → p ≡ no_word value → rest_text follows p ≡ plain_text value
-decoded-end follows p value h = grind arith

@@ -61,9 +61,6 @@ length-behind_equals bytes = grind arith
 abbrev q : ℕ → ℕ
 q b = if b == 0x5F then 0x20 else b
 
-no_digit : (a b : ℕ) → escaped a b 0x5F ≡ None
-no_digit a b = grind arith
-
 -- a `_` in front, behind a byte that isn't one
 q-then_space : (a : ℕ) (later : List ℕ) → (a == 0x5F) ≡ false → unescaped_by q (a ∷ 0x5F ∷ later) ≡ a ∷ 0x20 ∷ unescaped_by q later
 q-then_space a later h = grind (arith, u-plain)
@@ -72,7 +69,7 @@ pub q_bytes-space : (stretch later : List ℕ) → Lacks 0x5F stretch → q_byte
 unfolding q_bytes unescaped
 q_bytes-space [] later free = u-plain q 0x5F later refl
 q_bytes-space (a ∷ []) later free = q-then_space a later free.0
-q_bytes-space (a ∷ b ∷ []) later free = grind (arith, u-none, no_digit, q-then_space)
+q_bytes-space (a ∷ b ∷ []) later free = grind (arith, u-none, q-then_space)
 q_bytes-space (a ∷ b ∷ c ∷ stretch) later free = grind (arith, q_bytes-space stretch later free.1.1.1, q_bytes-space (b ∷ c ∷ stretch) later free.1)
 
 pub q_bytes-free : (stretch : List ℕ) → Lacks 0x5F stretch → q_bytes stretch ≡ unescaped stretch

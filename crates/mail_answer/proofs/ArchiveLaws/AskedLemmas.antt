@@ -51,5 +51,3 @@ pub all_agree : {A : Type 0} (g : Ghosts A) (named : List Archive) (n : ℕ) (ol
 all_agree g named n old new e so_far = subst (λ (k : ℕ). Agree g named k old new) e so_far
 
 -- what holds of any error
-pub on_error : {T E : Type 0} (r : Result T E) (P : Type 0) → P → OnErr r P
-on_error r P h = grind arith

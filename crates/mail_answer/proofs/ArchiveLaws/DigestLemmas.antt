@@ -14,9 +14,6 @@ length-zero : (bytes : List ℕ) → length bytes ≡ 0 → bytes ≡ []
 length-zero [] e = refl
 length-zero (b ∷ bytes) e = absurd (omega arith)
 
-none_in_front : (held : Option (List (List ℕ))) (archive : ℕ) → IfSome held (λ archives. [] ≡ take 0 (archive_at archives archive))
-none_in_front held archive = grind arith
-
 more_in_front : (held : Option (List (List ℕ))) (archive at count : ℕ) (bytes more : List ℕ) → length more ≡ count → IfSome held (λ archives. bytes ≡ take at (archive_at archives archive))
     → IsRead archive at more held → IfSome held (λ archives. bytes ++ more ≡ take (at + count) (archive_at archives archive))
 more_in_front held archive at count bytes more h h2 h3 = grind (arith, take-add)
@@ -35,7 +32,7 @@ front_at : (held : Option (List (List ℕ))) (archive at : ℕ) (bytes : List �
 front_at held archive at bytes number known = subst (λ (k : ℕ). IfSome held (λ archives. bytes ≡ take k (archive_at archives archive))) number known
 
 pub none_absorbed : {A : Type 0} (g : Ghosts A) (archive : ℕ) (first : A) (h : Sha256) → Holds256 h [] → AbsorbedTo g archive 0 first first h
-none_absorbed g archive first h empty = grind (arith, none_in_front)
+none_absorbed g archive first h empty = grind arith
 
 pub more_absorbed : {A : Type 0} (g : Ghosts A) (archive at count : ℕ) (first before now : A) (h k : Sha256) → AbsorbedTo g archive at first before h
     → AbsorbsPart g archive at count (g.held first) before now h k → AbsorbedTo g archive (at + count) first now k
@@ -59,13 +56,9 @@ more_absorbed {A} g archive at count first before now h k so_far next =
     }
 
 -- a read behind what was read, which isn't all
-pub stops_behind : {A : Type 0} (g : Ghosts A) (archive at indexed : ℕ) (answer : Result (List ℕ) DeviceFault) (first before now : A) (h : Sha256) → AbsorbedTo g archive at first before h → at < indexed
-    → g.reads before archive at answer now → StopsWithin g archive indexed answer first now
-stops_behind {A} g archive at indexed answer first before now h so_far less last = grind arith
-
 pub ends_within : {A : Type 0} (g : Ghosts A) (archive at count indexed : ℕ) (first before now : A) (h k : Sha256) → AbsorbedTo g archive at first before h → at < indexed
     → AbsorbsPart g archive at count (g.held first) before now h k → count ≡ 0 → StopsWithin g archive indexed (Ok []) first now
-ends_within {A} g archive at count indexed first before now h k so_far less next none = grind (arith, stops_behind, length-zero)
+ends_within {A} g archive at count indexed first before now h k so_far less next none = grind (arith, length-zero)
 
 -- an archive with nothing at a place has no more bytes
 pub ends_early : {A : Type 0} (g : Ghosts A) (held : Option (List (List ℕ))) (archive at count indexed : ℕ) (before now : A) (h k : Sha256) → AbsorbsPart g archive at count held before now h k → count ≡ 0 → at < indexed

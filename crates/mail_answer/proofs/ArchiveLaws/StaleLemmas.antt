@@ -60,7 +60,3 @@ all_same named held n number h h2 h3 h4 = grind (arith, same_count, drop_all)
 pub other_count : (named : List Archive) (held : Option (List (List ℕ))) (number : ℕ) → (number ≡ length named → ⊥) → IfSome held (λ bytes. length bytes ≡ number)
     → IfSome held (λ bytes. stale_archive named bytes ≡ Some (min number (length named)))
 other_count named held number h h2 = grind (arith, neq_tells)
-
-pub stale_told : (named : List Archive) (held : Option (List (List ℕ))) (n : ℕ) → IfSome held (λ bytes. stale_archive named bytes ≡ Some n)
-    → IfSome held (λ bytes. TellsStale {T = Unit {0}} (stale_archive named bytes) (Err (Stale n)))
-stale_told named held n h = grind arith

@@ -144,11 +144,8 @@ more_each {A} g n (first ∷ archives) bytes old before new so_far front =
     let behind : n + length (first ∷ archives) ≡ n + 1 + length archives = omega arith in
     (so_far.0, so_far.1, more_each g (n + 1) archives bytes so_far.0 before new so_far.2 (subst (λ (k : ℕ). ReadsFront g k bytes before new) behind front))
 
-none_of : (held : Option (List (List ℕ))) → IfSome held (λ archives. take 0 archives ≡ [])
-none_of held = grind arith
-
 pub none_read : {A : Type 0} (g : Ghosts A) (named : List Archive) (a : A) → AreRead g named 0 a a
-none_read g named a = grind (arith, none_of)
+none_read g named a = grind arith
 
 whole_known : (named : List Archive) (held : Option (List (List ℕ))) (n : ℕ) (a : Archive) (rest : List Archive) (bytes : List ℕ) (archives : List (List ℕ)) → IfSome held (λ archives. stale_archive named archives ≡ None)
     → n < length named → drop n named ≡ a ∷ rest → length bytes ≡ a.length → IfSome held (λ archives. bytes ≡ take (length bytes) (archive_at archives n)) → IfSome held (λ known. take n known ≡ archives)
@@ -185,10 +182,6 @@ pub all_read : {A : Type 0} (g : Ghosts A) (named : List Archive) (n : ℕ) (old
 all_read {A} g named n old new e so_far = subst (λ (k : ℕ). AreRead g named k old new) e so_far
 
 -- a read that failed
-pub failure_read : {A T : Type 0} (g : Ghosts A) (named : List Archive) (n : ℕ) (a : Archive) (rest : List Archive) (old before new : A) (r : Result T AnswerFaultKind) (kind : AnswerFaultKind) → r ≡ Err kind → kind ≡ Device
-    → drop n named ≡ a ∷ rest → AreRead g named n old before → FailsWithin g n a before new → FindsDigests g named old new r
-failure_read {A} {T} g named n a rest old before new r kind e d place so_far fails = grind arith
-
 -- another digest, or an early end
 pub other_read : {A : Type 0} (g : Ghosts A) (named : List Archive) (n : ℕ) (a : Archive) (rest : List Archive) (indexed : List ℕ) (old before new : A) → drop n named ≡ a ∷ rest → a.digest ≡ Some indexed
     → AreRead g named n old before → ComparesDigest g n a.length indexed before new false → ReadsUpTo g named n (ReadsOther g n) old new
@@ -207,9 +200,6 @@ named_archive version [] (suc n) a rest all e = absurd cc
 named_archive version (b ∷ named) zero a rest all e = let first : b ≡ a = cc in subst (λ (t : Archive). IsArchive version t) first all.0
 named_archive version (b ∷ named) (suc n) a rest all e = named_archive version named n a rest all.1 e
 
-without_digest : (version : ℕ) (digest : Option (List ℕ)) → IsDigest version digest → digest ≡ None → version ≡ 1
-without_digest version digest h h2 = grind arith
-
 pub has_some_digest : (version : ℕ) (named : List Archive) (n : ℕ) (a : Archive) (rest : List Archive) → version ≡ 2 → AllByRecursion (IsArchive version) named → drop n named ≡ a ∷ rest
     → a.digest ≡ None → ⊥
-has_some_digest version named n a rest second all e none = grind (arith, named_archive, without_digest)
+has_some_digest version named n a rest second all e none = grind (arith, named_archive)

@@ -40,9 +40,6 @@ some_walk len long same other = grind (arith, cases_order, eqb-false)
 pub tells_scanned : {E : Type 0} (t : Table) (q p : Query) (scan : List Bool) (r : Result Ahead E) → q ≡ p → scan ≡ truths t p → IfOk r (λ w. w.truths ≡ scan) → IfOk r (λ w. Tells t q w.truths)
 tells_scanned t q p scan r h h2 h3 = grind (arith, tells_scan)
 
-pub scanned_left : {E : Type 0} (t : Table) (q p : Query) (left : ℕ) (r : Result Ahead E) → q ≡ p → left ≡ most_left t p → IfOk r (λ w. w.left ≡ left) → IfOk r (λ w. w.left ≤ most_left t q)
-scanned_left t q p left r h h2 h3 = grind arith
-
 -- ---- inner nodes
 
 tells_others : (t : Table) (q : Query) (count : ℕ) (inner xs : List Bool) → count ≡ length t.messages → xs ≡ others count 0 inner → Tells t q inner → Tells t (Not q) xs
@@ -89,10 +86,6 @@ tells_either t q qs ws xs is all tells = grind (arith, tells_united)
 pub tells_grouped : {E : Type 0} (t : Table) (q : Query) (qs : List Query) (ws : List Ahead) (r : Result Ahead E) → q ≡ Either (members_of qs) → TellAll t qs ws
     → IfOk r (λ w. (m : ℕ) → truth_at w.truths m ≡ some_has m ws) → IfOk r (λ w. Tells t q w.truths)
 tells_grouped t q qs ws r h h2 h3 = grind (arith, some_told, some_past)
-
-pub grouped_left : {E : Type 0} (t : Table) (q : Query) (qs : List Query) (ws : List Ahead) (r : Result Ahead E) → q ≡ Either (members_of qs) → left_in ws ≤ most_left_of_all t (members_of qs)
-    → IfOk r (λ w. w.left ≡ left_in ws) → IfOk r (λ w. w.left ≤ most_left t q)
-grouped_left t q qs ws r h h2 h3 = grind arith
 
 pub tells_common : (t : Table) (q : Query) (qs : List Query) (ws : List Ahead) (xs : List Bool) → q ≡ All (members_of qs) → 0 < length ws → xs ≡ common ws → TellAll t qs ws → Tells t q xs
 tells_common t q qs ws xs is some all tells = record {

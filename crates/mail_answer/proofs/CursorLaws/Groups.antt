@@ -39,7 +39,3 @@ grouped_more all groups walks at w is some told left have =
       few = omega (arith, long, more, before, is, some);
       whole = λ still. omega (arith, long, more, before, is, some, still);
     }
-
-pub if_told : {E : Type 0} (r : Result Ahead E) (ws : List Ahead) (test : ℕ → Bool) → ((m : ℕ) → some_has m ws ≡ test m) → IfOk r (λ w. (m : ℕ) → truth_at w.truths m ≡ some_has m ws)
-    → IfOk r (λ w. (m : ℕ) → truth_at w.truths m ≡ test m)
-if_told r ws test h h2 = grind arith

@@ -33,13 +33,9 @@ postings-set (x ∷ ws) (suc i) w v lt is = omega (arith, postings-set ws i w v 
 pub none_counted : (postings steps : ℕ) → CountsPostings postings postings steps steps
 none_counted postings steps = record { fewer = omega arith; counted = omega arith }
 
-pub more_counted : (postings0 postings postings1 steps0 steps steps1 : ℕ) → CountsPostings postings0 postings steps0 steps → CountsPostings postings postings1 steps steps1
-    → CountsPostings postings0 postings1 steps0 steps1
-more_counted postings0 postings postings1 steps0 steps steps1 before now = grind arith
-
 pub turn_postings : (ws : List Ahead) (i postings0 steps0 steps steps1 : ℕ) (w v : Ahead) → i < length ws → w ≡ get_or ws i w
     → CountsPostings postings0 (postings_in ws) steps0 steps → CountsPostings w.postings v.postings steps steps1 → CountsPostings postings0 (postings_in (set ws i v)) steps0 steps1
-turn_postings ws i postings0 steps0 steps steps1 w v lt is before now = grind (arith, set, postings-set, more_counted)
+turn_postings ws i postings0 steps0 steps steps1 w v lt is before now = grind (arith, set, postings-set)
 
 -- ---- each and some
 

@@ -54,20 +54,13 @@ no_second kind text k (other ∷ ks) this later =
     rw (is_key-greater kind text other greater, numbers_at) (no_second kind text k ks this later.1)
 
 -- a key more: of another kind, of this kind without the number, or with it
-skipped : (kind : Kind) (n : ℕ) (k : Key) (ks : List Key) → is_of_kind kind k ≡ false → texts_with kind n (k ∷ ks) ≡ texts_with kind n ks
-skipped kind n k ks e = grind arith
-
-of_kind : (kind : Kind) (n : ℕ) (k : Key) (ks : List Key) (among : Bool) → is_of_kind kind k ≡ true → is_among n k.numbers ≡ among
-    → texts_with kind n (k ∷ ks) ≡ map (λ (key : Key). key.text) (cond among (k ∷ filter (λ key. is_among n key.numbers) (keys_of kind ks)) (filter (λ key. is_among n key.numbers) (keys_of kind ks)))
-of_kind kind n k ks among e f = grind arith
-
 numbers_here : (kind : Kind) (text : List ℕ) (k : Key) (ks : List Key) (here : Bool) → is_key kind text k ≡ here → numbers_at kind text (k ∷ ks) ≡ (elim here [ true ↦ k.numbers | false ↦ numbers_at kind text ks ])
 numbers_here kind text k ks here e = ap (λ (b : Bool). elim b as (λ _. List ℕ) [ true ↦ k.numbers | false ↦ numbers_at kind text ks ]) e
 
 looked_up_more : (kind : Kind) (text : List ℕ) (n : ℕ) (k : Key) (ks : List Key) → AllByRecursion (λ y. slice_cmp nat_cmp (key_bytes k) y ≡ Less) (map key_bytes ks)
     → list_any (bytes_eq text) (texts_with kind n ks) ≡ is_among n (numbers_at kind text ks)
     → list_any (bytes_eq text) (texts_with kind n (k ∷ ks)) ≡ is_among n (numbers_at kind text (k ∷ ks))
-looked_up_more kind text n k ks later rest = grind (arith, and_left, skipped, numbers_here, and_right, of_kind, bytes_turned, and_from, no_second)
+looked_up_more kind text n k ks later rest = grind (arith, and_left, numbers_here, and_right, bytes_turned, and_from, no_second)
 
 -- the numbers of a look-up are those of the messages that have the text
 pub looked_up : (kind : Kind) (text : List ℕ) (n : ℕ) (ks : List Key) → AreSorted ks → list_any (bytes_eq text) (texts_with kind n ks) ≡ is_among n (numbers_at kind text ks)

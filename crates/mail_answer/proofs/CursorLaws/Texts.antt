@@ -16,9 +16,6 @@ joins_list count ns w old new are told left is = grind (arith, some-append, amon
 pub joins_more : (f g : ℕ → Bool) (p q : ℕ) (ws bs cs : List Ahead) → Joins f p ws bs → Joins g q bs cs → Joins (λ n. f n || g n) (p + q) ws cs
 joins_more f g p q ws bs cs first then = grind (arith, or_assoc)
 
-pub joins_same : (f g : ℕ → Bool) (p q : ℕ) (ws bs : List Ahead) → Joins f p ws bs → ((m : ℕ) → g m ≡ f m) → p ≤ q → Joins g q ws bs
-joins_same f g p q ws bs joins same le = grind arith
-
 -- ---- keys of a kind
 
 kind_numbers : (version count : ℕ) (kind : Kind) (ks : List Key) → AllByRecursion (IsKey version count) ks → HaveNumbers count (map text_and_numbers (keys_of kind ks))
@@ -110,7 +107,7 @@ pub next_kind : (kinds : Kinds) (kind : Kind) (rest : List Kind) (b : Bool) → 
 next_kind kinds kind rest b e = ap (λ (x : Bool). cond x (kind ∷ filter (is_in kinds) rest) (filter (is_in kinds) rest)) e
 
 pub if_joins : {A E : Type 0} (r : Result A E) (f g : ℕ → Bool) (p q : ℕ) (ws bs : List Ahead) → IfOk r (λ _. Joins f p ws bs) → ((m : ℕ) → g m ≡ f m) → p ≤ q → IfOk r (λ _. Joins g q ws bs)
-if_joins r f g p q ws bs h h2 h3 = grind (arith, joins_same)
+if_joins r f g p q ws bs h h2 h3 = grind arith
 
 -- the next kind, in the set or not
 coming_at : (kinds : Kinds) (items : List Kind) (i : ℕ) (d : Kind) (b : Bool) → i < length items → is_in kinds (get_or items i d) ≡ b

@@ -21,9 +21,6 @@ pub record HasPassed (n low : ℕ) (old : List Bool) (number : ℕ) (xs : List B
   pub passed : (m : ℕ) → n ≤ m → low ≤ m → m < number → truth_at old m ≡ true
   pub rest : (m : ℕ) → number ≤ m → truth_at xs m ≡ truth_at old m
 
-pub passed_same : (n low : ℕ) (old : List Bool) (number : ℕ) (xs ys : List Bool) → HasPassed n low old number xs → Drops number xs ys → HasPassed n low old number ys
-passed_same n low old number xs ys has drops = grind arith
-
 -- a number is first only where it isn't dropped
 pub first_from : (n : ℕ) (xs ys : List Bool) (k : ℕ) → Drops n xs ys → IsFirst ys (Some k) → n ≤ k
 first_from n xs ys k drops first = grind (arith, cases_lt, both_ways)

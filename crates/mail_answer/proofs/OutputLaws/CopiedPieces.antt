@@ -87,9 +87,6 @@ tells_behind known piece rest h = grind arith
 pub pieces_more : (known : Option (List ℕ)) (text piece : List ℕ) → option_map (λ bytes. text ++ bytes) (option_map (λ bytes. piece ++ bytes) known) ≡ option_map (λ bytes. (text ++ piece) ++ bytes) known
 pieces_more known text piece = grind (arith, append_assoc)
 
-pub pieces_none : (known : Option (List ℕ)) → known ≡ option_map (λ bytes. [] ++ bytes) known
-pieces_none known = grind arith
-
 -- of a closed span a front was copied
 pub front_told : (span part : Option (List ℕ)) (text rest : List ℕ) → span ≡ option_map (λ bytes. text ++ bytes) part → Tells part rest
     → (feeds : List ℕ) × Tells (option_map closed span) ((text ++ rest) ++ feeds)

@@ -7,10 +7,6 @@ use borrow.Rule.Slice.PartMut.{put_mid}
 take_behind : (front into post : List ℕ) (held n : ℕ) → length front ≡ held → n ≤ length into → take (held + n) (front ++ (into ++ post)) ≡ front ++ take n into
 take_behind front into post held n e h = rw (← e) (take-append-add front (into ++ post) n ∙ ap (λ (s : List ℕ). front ++ s) (take-append-le n into post h))
 
-known_part : (archive offset n : ℕ) (held : Option (List (List ℕ))) (bytes : List ℕ) → length bytes ≡ n → IsRead archive offset bytes held
-    → IfSome held (λ archives. bytes ≡ take n (drop offset (archive_at archives archive)))
-known_part archive offset n held bytes h h2 = grind arith
-
 pub tail_read : (archive offset from n k : ℕ) (held : Option (List (List ℕ))) (old into : List ℕ) → from < length old → n ≤ length into → IsRead archive offset (take n into) held
     → ReadsTail archive offset from n held old (put_mid from k old into)
 tail_read archive offset from n k held old into room bound r = grind (arith, take_behind, length-take-le)
@@ -22,7 +18,7 @@ tail_result archive offset from k held old into r h h2 h3 = grind (arith, tail_r
 -- what was read behind the bytes that are held is held with them
 pub held_read : (archive offset n count : ℕ) (held : Option (List (List ℕ))) (old new room room' : List ℕ) → take count room ≡ old → 0 < n → ReadsTail archive offset count n held room room'
     → new ≡ take (count + n) room' → ReadsBehind archive offset n held old new
-held_read archive offset n count held old new room room' e some r w = grind (arith, known_part)
+held_read archive offset n count held old new room room' e some r w = grind arith
 
 -- what comes is the same before and after a read
 pub coming_read : (archive next left n : ℕ) (held : Option (List (List ℕ))) (unread new : List ℕ) → ReadsBehind archive next n held unread new → n ≤ left

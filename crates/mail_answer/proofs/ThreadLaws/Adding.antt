@@ -3,9 +3,6 @@ use Rattle.mail_answer.proofs.Words.{◌≡◌, ℕ, Bool, false, List, replicat
 use Rattle.mail_answer.proofs.CursorLaws.TruthLists.{told}
 
 -- a test that tells the same
-pub adds_same : (f h : ℕ → Bool) (xs ys : List Bool) → Adds f xs ys → ((n : ℕ) → h n ≡ f n) → Adds h xs ys
-adds_same f h xs ys adds all = grind arith
-
 -- those that joined none
 pub adds_to_none : (f : ℕ → Bool) (count : ℕ) (xs ys : List Bool) → xs ≡ replicate count false → Adds f xs ys → ys ≡ each_number count f
 adds_to_none f count xs ys none adds = grind (arith, length-replicate, told, get_or-replicate)

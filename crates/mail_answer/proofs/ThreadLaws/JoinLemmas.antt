@@ -38,9 +38,6 @@ as_first : (label : ℕ → ℕ) (first n : ℕ) (ns : List ℕ) → label n ≡
     → (x : ℕ) → is_among x (first ∷ n ∷ ns) ≡ true → label x ≡ label first
 as_first label first n ns second rest x among = grind (arith, or_cases, eqb-true, behind_first)
 
-pub united_none : (p : List ℕ) → Unites (AreBothAmong []) p p
-united_none p = grind arith
-
 pub united_one : (p : List ℕ) (first : ℕ) → Unites (AreBothAmong (first ∷ [])) p p
 united_one p first = grind (arith, or_cases, eqb-true)
 
@@ -61,9 +58,6 @@ united_more p q r first n ns one rest = record {
         (λ x among. rest.united x first (among, one_of first first ns refl) label labels)
 
 -- ---- all keys
-
-pub keys_none : (p : List ℕ) → Unites (ShareKey []) p p
-keys_none p = grind arith
 
 pub keys_more : (p q r : List ℕ) (k : List ℕ × List ℕ) (ks : List (List ℕ × List ℕ)) → Unites (AreBothAmong k.1) p q → Unites (ShareKey ks) q r → Unites (ShareKey (k ∷ ks)) p r
 keys_more p q r k ks one rest = record {

@@ -1,7 +1,6 @@
 -- Laws of drafts: each call keeps archives and keys well-formed.
 use Rattle.mail_index.proofs.Words.{◌≡◌, ℕ, suc, ◌+◌, ◌^◌, ◌<◌, ◌≤◌, true, false, nat_lt, if◌then◌else◌, List, [], ◌∷◌, ◌++◌, length, Result, OnOk, OnErr, refl, length-append, arith, Less, Equal, Greater, match_ordering, nat_cmp, slice_cmp, AllByRecursion, nat_tests, Kind, kind_number, newest, leb128, postings_from, end_from, with_number, Key, RisesFrom, IsKey, Draft, with_pair}
 use Rattle.mail_index.specs.Inside.Drafts.{IsDraft, message_count}
-use Rattle.mail_index.proofs.ViewLaws.KindNumbers.{kind_number-known}
 use Rattle.mail_index.proofs.BuildLaws.PostingLemmas.{length-leb128}
 pub use Rattle.mail_index.proofs.Items.{all-snoc, all-weaker}
 
@@ -29,7 +28,7 @@ key-more count n k is low = record {
 }
 
 pub key-new : (count n : ℕ) (kind : Kind) (text : List ℕ) → 0 < length text → length text < 2 ^ 32 → n < count → IsKey newest count (record { kind = kind; text = text; numbers = n ∷ [] })
-key-new count n kind text some short low = grind (arith, kind_number-known)
+key-new count n kind text some short low = grind arith
 
 pub with_pair-listed : (count n : ℕ) (kind : Kind) (text : List ℕ) → 0 < length text → length text < 2 ^ 32 → n < count → (ks : List Key) → AllByRecursion (IsKey newest count) ks → AllByRecursion (IsKey newest count) (with_pair kind text n ks)
 with_pair-listed count n kind text some short low [] all = (key-new count n kind text some short low, tt)

@@ -10,17 +10,8 @@ same_at xs ys i e = ap (λ (l : List (List ℕ)). at l i) e
 
 -- ---- records
 
-bit_is : (b c : Bool) → bit 1 b ≡ bit 1 c → b ≡ c
-bit_is b c h = grind arith
-
-bit_small : (b : Bool) → bit 1 b ≤ 1
-bit_small b = grind arith
-
-bit_by : (n : ℕ) (b : Bool) → bit n b ≡ n * bit 1 b
-bit_by n b = grind arith
-
 flags_is : (a b c d e f g h : Bool) → bit 1 a + bit 2 b + bit 4 c + bit 8 d ≡ bit 1 e + bit 2 f + bit 4 g + bit 8 h → (a ≡ e) × (b ≡ f) × (c ≡ g) × (d ≡ h)
-flags_is a b c d e f g h s = grind (arith, bit_small, bit, bit_by, bit_is)
+flags_is a b c d e f g h s = grind (arith, bit)
 
 date_is : (a b : Option ℤ) → IfSome a (FitsSigned w64) → IfSome b (FitsSigned w64) → is_some a ≡ is_some b → be64 (date_number a) ≡ be64 (date_number b) → a ≡ b
 date_is a b h h2 h3 h4 = grind (arith, cast_unsigned, w64, be64_is, Fits-lt-pow, Fits-of_z, to_z-of_z, cast_signed)

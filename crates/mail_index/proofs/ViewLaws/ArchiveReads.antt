@@ -123,9 +123,6 @@ found version r tail path behind n s digest rest h l es en et nl ep eb valid mos
 
 -- ---- the loop over archives
 
-pub spells_begin : (version n : ℕ) (r : List ℕ) → SpellsArchives version n r ↔ SpellsArchives version (n - 0) r
-spells_begin version n r = grind arith
-
 pub spells_step : (version n i : ℕ) (s r behind : List ℕ) → i < n → (SpellsArchives version n s ↔ SpellsArchives version (n - i) r) → HasArchive version r → behind ≡ behind_archive version r
     → SpellsArchives version n s ↔ SpellsArchives version (n - (i + 1)) behind
 spells_step version n i s r behind l h a b =
@@ -139,15 +136,12 @@ spells_stop version n i s r l h refuses p =
     let e : n - i ≡ suc (n - (i + 1)) = omega (arith, l) in
     refuses (spells_front version (n - (i + 1)) r (subst (λ (k : ℕ). SpellsArchives version k r) e (h.0 p)))
 
-pub spells_end : (version n i : ℕ) (s r : List ℕ) → n ≤ i → (SpellsArchives version n s ↔ SpellsArchives version (n - i) r) → (r ≡ []) ↔ SpellsArchives version n s
-spells_end version n i s r l h = grind arith
-
 pub empty_test : (b : Bool) (r : List ℕ) → b ≡ nat_eq (length r) 0 → IsTrue b ↔ (r ≡ [])
 empty_test b [] e = let t : b ≡ true = e in (λ h. refl, λ q. t)
 empty_test b (x ∷ r) e = grind (arith, nat_tests)
 
 pub spells_return : (version n i : ℕ) (s r : List ℕ) (b : Bool) → n ≤ i → (SpellsArchives version n s ↔ SpellsArchives version (n - i) r) → b ≡ nat_eq (length r) 0 → IsTrue b ↔ SpellsArchives version n s
-spells_return version n i s r b l h e = grind (arith, empty_test, spells_end)
+spells_return version n i s r b l h e = grind (arith, empty_test)
 
 -- ---- the walk behind some archives
 

@@ -12,9 +12,6 @@ left most kind text Less before behind = comparisons_within most kind text behin
 left most kind text Equal before behind = 0
 left most kind text Greater before behind = comparisons_within most kind text before
 
-pub comparisons-none : (most : ℕ) (kind : Kind) (text : List ℕ) → comparisons_within most kind text [] ≡ 0
-comparisons-none most kind text = grind arith
-
 comparisons-more : (most : ℕ) (kind : Kind) (text : List ℕ) (ks : List Key) (k : Key) (before behind : List Key) (o : Ordering)
     → drop (length ks / 2) ks ≡ k ∷ behind → take (length ks / 2) ks ≡ before → lies_to kind text k ≡ o
     → comparisons_within (suc most) kind text ks ≡ suc (left most kind text o before behind)

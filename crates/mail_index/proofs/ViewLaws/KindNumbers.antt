@@ -5,9 +5,6 @@ pub kind_of-number : (k : Kind) → kind_of_number (kind_number k) ≡ k
 kind_of-number k = grind arith
 
 -- the newest version has each kind
-pub kind_number-known : (k : Kind) → kind_number k ≤ last_kind newest
-kind_number-known k = grind arith
-
 -- a number that is one of a kind is the number of that kind
 pub kind_kept : (last n : ℕ) → last ≤ 9 → is_kind_number last n ≡ true → kind_number (kind_of_number n) ≡ n
 kind_kept last n h h2 = grind (arith, nat_tests)

@@ -10,9 +10,6 @@ use Rattle.mail_index.proofs.ViewLaws.LookUpLemmas.{key_bytes}
 abbrev front_lies : List ℕ → List ℕ → Ordering
 front_lies wanted bytes = slice_cmp nat_cmp (take (length wanted) bytes) wanted
 
-most_index : (o : Ordering) → ordering_index o ≤ 2
-most_index o = grind arith
-
 higher : (x y : ℕ) → y < x → nat_cmp x y ≡ Greater
 higher x y h = grind (arith, nat_tests)
 

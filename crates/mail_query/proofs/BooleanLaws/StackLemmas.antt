@@ -59,11 +59,8 @@ pub negated_some : (ws : List CodeWaiting) → is_negated (shown_stack ws) ≡ t
 negated_some [] e = absurd cc
 negated_some (w ∷ ws) e = omega arith
 
-negated_is : (w : CodeWaiting) (behind : List Waiting) → is_negated (shown_waiting w ∷ behind) ≡ true → shown_waiting w ≡ ForNot
-negated_is w behind h = grind arith
-
 pub placed-not : (ws : List CodeWaiting) (level : Level) (q : Query) → is_negated (shown_stack ws) ≡ true → placed (shown_stack ws) level q ≡ placed (shown_stack (take (length ws - 1) ws)) level (Not q)
-placed-not ws level q e = grind (arith, last_of, negated_some, shown_stack-push, negated_is, before_last)
+placed-not ws level q e = grind (arith, last_of, negated_some, shown_stack-push, before_last)
 
 pub pops-close : (ws rest : List CodeWaiting) (outer : CodeLevel) (level : Level) → ws ≡ rest ++ code_waiting.ForClose outer ∷ []
     → popped (shown_stack ws) level ≡ Ok (placed (shown_stack rest) (shown_level outer) (level_query level))

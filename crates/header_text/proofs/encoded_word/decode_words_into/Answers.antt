@@ -1,5 +1,5 @@
 use Rattle.header_text.proofs.Words.{◌∙◌, ◌++◌, true, refl, arith, append_assoc, string_bytes, Extends-refl, Extends-trans, pieces, word_text, shown_found}
-use Rattle.header_text.proofs.WordLaws.DecodedLemmas.{rest_text, decoded-start, decoded-step, decoded-end}
+use Rattle.header_text.proofs.WordLaws.DecodedLemmas.{rest_text, decoded-start, decoded-step}
 use Rattle.header_text.proofs.TextFronts.{front-whole, front-more}
 use Rattle.header_text.proofs.encoded_word.decode_words_into.Goals as goal
 
@@ -16,7 +16,7 @@ loop-found-preserved c = record {
 }
 
 pub returns-clause-text : goal.returns-clause-text
-returns-clause-text c = grind (arith, decoded-end)
+returns-clause-text c = grind arith
 
 pub returns-in_err-push_between-clause-kept : goal.returns-in_err-push_between-clause-kept
 returns-in_err-push_between-clause-kept c = Extends-trans _ _ _ c.loop-found.invariant.kept c.push_between.ensures.kept
@@ -41,7 +41,7 @@ returns-in_err-push_word-clause-front c =
     front-more _ some (rest_text true (pieces c.in-Some.found.later.now)) _ c.push_word.ensures.front (step ∙ c.loop-found.invariant.sofar)
 
 pub returns-in_err-push_lossy-clause-front : goal.returns-in_err-push_lossy-clause-front
-returns-in_err-push_lossy-clause-front c = grind (arith, decoded-end)
+returns-in_err-push_lossy-clause-front c = grind arith
 
 pub returns-clause-front : goal.returns-clause-front
 returns-clause-front c = front-whole _ _ (returns-clause-text c)

@@ -2,7 +2,7 @@ use Rattle.index_job.proofs.Words.{◌∙◌, Err, false, ap, subst, arith, err_
 use Rattle.index_job.specs.declared.archive_reading.Heading.{Heading}
 use Rattle.index_job.specs.declared.archive_reading.Heading.TheVariants.{Message, End}
 use Rattle.index_job.proofs.ArchiveSteps.{done-none, between-fault, inside-fault, done-more, archive-done}
-use Rattle.index_job.proofs.SourceReads.{awaits-end, reads-none, reads-join, reads-passed}
+use Rattle.index_job.proofs.SourceReads.{reads-none, reads-join, reads-passed}
 use Rattle.index_job.proofs.archive_reading.add_messages.Goals as goal
 
 pub messages-init : goal.messages-init
@@ -80,4 +80,4 @@ pub returns-in-End-clause-reads : goal.returns-in-End-clause-reads
 returns-in-End-clause-reads g c = grind (arith, reads-join)
 
 pub returns-in-End-clause-ended : goal.returns-in-End-clause-ended
-returns-in-End-clause-ended g c = grind (arith, awaits-end)
+returns-in-End-clause-ended g c = grind arith

@@ -1,6 +1,6 @@
 use Rattle.header_text.proofs.Words.{◌≡◌, refl, sym, arith, stage_behind, Open, Full, Ended}
 use Rattle.header_text.proofs.HeaderLaws.HeaderLemmas.{fields_size-with}
-use Rattle.header_text.proofs.HeaderLaws.PushLemmas.{holds-counted, holds-skipped, holds-ended, has_empty-ended, never_ended, taken-next_ended, taken-next_more, room-open}
+use Rattle.header_text.proofs.HeaderLaws.PushLemmas.{holds-counted, holds-skipped, holds-ended, has_empty-ended, never_ended, taken-next_ended, taken-next_more}
 use Rattle.header_text.proofs.header.Header.push_line.Goals as goal
 
 pub returns-in-Ended-clause-lines : goal.returns-in-Ended-clause-lines
@@ -13,7 +13,7 @@ pub returns-in_err-self-in-Open-clause-ended : goal.returns-in_err-self-in-Open-
 returns-in_err-self-in-Open-clause-ended c ls h some = absurd (never_ended _ _ _ _ ls c.args.line.now h some c.in_default.not-Ended)
 
 pub invariant_of-self-in-Open : goal.invariant_of-self-in-Open
-invariant_of-self-in-Open c = grind (arith, fields_size-with, room-open)
+invariant_of-self-in-Open c = grind (arith, fields_size-with)
 
 pub returns-in_ok-self-in-Open : goal.returns-in_ok-self-in-Open
 returns-in_ok-self-in-Open c =

@@ -1,15 +1,15 @@
 use Rattle.index_job.proofs.Words.{◌≡◌, ◌∙◌, [], ◌∷◌, ◌+◌, ℕ, List, Bor, Option, arith, drop, get_or, option_map, sym, ap, subst, err_from_is_err_and, Text, Draft, draft_with_terms, IsTermFault, word_terms}
-use Rattle.index_job.proofs.Terms.{added-terms, add-fails, in-message-kept, next-waiting, waiting-length, of-any-draft}
+use Rattle.index_job.proofs.Terms.{added-terms, add-fails, in-message-kept, next-waiting, waiting-length}
 use Rattle.index_job.proofs.batch.Batch.add_prefetched.Goals as goal
 
 abbrev nothing : Bor (List ℕ)
 nothing = record { ref_ptr = (0, 0); now = [] }
 
 pub add_prefetched-requires-clause-some : goal.add_prefetched-requires-clause-some
-add_prefetched-requires-clause-some c = grind (arith, waiting-length, of-any-draft)
+add_prefetched-requires-clause-some c = grind (arith, waiting-length)
 
 pub add_prefetched-requires-clause-short : goal.add_prefetched-requires-clause-short
-add_prefetched-requires-clause-short c = grind (arith, waiting-length, of-any-draft)
+add_prefetched-requires-clause-short c = grind (arith, waiting-length)
 
 pub returns-in_err-add_prefetched-clause-terms : goal.returns-in_err-add_prefetched-clause-terms
 returns-in_err-add_prefetched-clause-terms c =

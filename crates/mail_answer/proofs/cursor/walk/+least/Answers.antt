@@ -1,10 +1,10 @@
 use Rattle.mail_answer.proofs.Words.{◌≡◌, ◌∙◌, ◌<◌, ℕ, List, length, get_or, subst, arith, both_ways, get_or_default, Ahead, IsFirst, left_in, postings_in}
-use Rattle.mail_answer.proofs.CursorLaws.Turns.{passed_same, passed_drops, passed_first, passed_all}
+use Rattle.mail_answer.proofs.CursorLaws.Turns.{passed_drops, passed_first, passed_all}
 use Rattle.mail_answer.proofs.CursorLaws.Members.{below-levels, turn_steps, turn_postings, none_counted, levels-set, dropped_more, dropped_drops, dropped_first, reached_none, reached_more, reached_drops, reached_number, ended_none, ended_drops, unvisited_more, whole_dropped, whole_reached}
 use Rattle.mail_answer.proofs.cursor.walk.+least.Goals as goal
 
 pub least_other-returns-then-not-is_number-clause-rest : goal.least_other-returns-then-not-is_number-clause-rest
-least_other-returns-then-not-is_number-clause-rest t c = grind (arith, passed_drops, passed_same)
+least_other-returns-then-not-is_number-clause-rest t c = grind (arith, passed_drops)
 
 pub least_other-returns-then-not-is_number-clause-number : goal.least_other-returns-then-not-is_number-clause-number
 least_other-returns-then-not-is_number-clause-number t c =

@@ -1,11 +1,11 @@
 use Rattle.mail_answer.proofs.Words.{◌≡◌, ◌∙◌, ℕ, List, ◌++◌, length, length-append, Option, Some, ap, sym, refl, append-nil, arith, nat_tests, err_from_is_err_and, option_map, ending_of, feeds_of, Reading, coming, coming_count, span_reading, closed, Tells}
-use Rattle.mail_answer.proofs.OutputLaws.CopiedPieces.{pieces_none, pieces_more, front_told, closed_told, closed_begins, closed_by_last}
+use Rattle.mail_answer.proofs.OutputLaws.CopiedPieces.{pieces_more, front_told, closed_told, closed_begins, closed_by_last}
 use Rattle.mail_answer.proofs.OutputLaws.SheetLemmas.{joins_gathered, joins_more, joins_front, front_more, writes_next, writes_less, writes_err, unsent_before, unsent_before_front, unsent_before_writes}
 use Rattle.mail_answer.proofs.ArchiveLaws.CallLemmas.{keeps_self, keeps_join}
 use Rattle.mail_answer.proofs.output.mbox.push_closed.Goals as goal
 
 pub pieces-init : goal.pieces-init
-pieces-init g c = grind (arith, keeps_self, pieces_none, joins_gathered, append-nil)
+pieces-init g c = grind (arith, keeps_self, joins_gathered, append-nil)
 
 pub copy_piece-requires-clause-some : goal.copy_piece-requires-clause-some
 copy_piece-requires-clause-some g c = grind (arith, nat_tests)

@@ -1,6 +1,5 @@
 use Rattle.mail_answer.proofs.Words.{◌≡◌, arith, record_at}
 use Rattle.mail_answer.proofs.ArchiveLaws.IndexedLemmas.{message_inside, message_some}
-use Rattle.mail_answer.proofs.OutputLaws.KnownAnswers.{mbox_known}
 use Rattle.mail_answer.proofs.CursorLaws.TruthLists.{record_known}
 use Rattle.mail_answer.proofs.output.mbox.push_mbox.Goals as goal
 
@@ -14,7 +13,7 @@ pub push_closed-requires-clause-some : goal.push_closed-requires-clause-some
 push_closed-requires-clause-some g c = grind (arith, record_known, message_some)
 
 pub returns-clause-writes : goal.returns-clause-writes
-returns-clause-writes g c = grind (arith, record_known, mbox_known)
+returns-clause-writes g c = grind (arith, record_known)
 
 pub returns-clause-span : goal.returns-clause-span
 returns-clause-span g c = grind (arith, record_known)

@@ -3,7 +3,7 @@ use Rattle.mail_index.specs.Inside.KeyRuns.{keys_between}
 use Rattle.mail_index.proofs.ViewLaws.StepLemmas.{add_steps-none, add_steps-more}
 use Rattle.mail_index.proofs.ViewLaws.LookUpLemmas.{before-less, behind-greater, numbers_at-met, numbers_at-none}
 use Rattle.mail_index.proofs.ViewLaws.RunLemmas.{between-none}
-use Rattle.mail_index.proofs.ViewLaws.Comparisons.{compared, comparisons-few, comparisons-none}
+use Rattle.mail_index.proofs.ViewLaws.Comparisons.{compared, comparisons-few}
 use Rattle.mail_index.proofs.view.look_up.position.Goals as goal
 
 pub loop-low-preserved-in-Less : goal.loop-low-preserved-in-Less
@@ -75,7 +75,7 @@ returns-clause-found c =
     (λ j le lt. i.above j (omega (arith, le, c.loop-low-test.false)) lt)
 
 pub returns-clause-exact : goal.returns-clause-exact
-returns-clause-exact c = grind (arith, comparisons_within, between-none, comparisons-none, add_steps-none, add_steps)
+returns-clause-exact c = grind (arith, comparisons_within, between-none, add_steps-none, add_steps)
 
 pub returns-clause-steps : goal.returns-clause-steps
 returns-clause-steps c = grind (arith, comparisons, comparisons-few, returns-clause-exact)

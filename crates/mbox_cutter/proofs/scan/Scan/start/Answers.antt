@@ -1,5 +1,5 @@
 use Rattle.mbox_cutter.proofs.Words.{◌≡◌, ◌<◌, true, false, ap, arith, is_empty, is_separator}
-use Rattle.mbox_cutter.proofs.ScanSteps.{found, taken, taken-nearer, done-steps, start-steps, refused-steps, fault-steps, skipped-none, skipped-one, skipped-steps}
+use Rattle.mbox_cutter.proofs.ScanSteps.{found, taken, done-steps, start-steps, refused-steps, fault-steps, skipped-none, skipped-one, skipped-steps}
 use Rattle.mbox_cutter.proofs.scan.Scan.start.Goals as goal
 
 pub empties-init : goal.empties-init
@@ -45,4 +45,4 @@ empties-preserved g c =
     (taken g.S.Source now _ c.in-Ok.n line _ _ (found g.S.Source now _ c.in-Ok.n line c.in-Ok.ensures some c.part-line.ensures.unread) c.pass-in-empties.ensures) other empty
 
 pub empties-smaller : goal.empties-smaller
-empties-smaller g c = grind (arith, taken-nearer, taken, found)
+empties-smaller g c = grind (arith, taken, found)

@@ -1,7 +1,7 @@
 use Rattle.mail_answer.proofs.Words.{◌≡◌, ℕ, List, [], ◌∷◌, ◌++◌, length, Option, Some, Result, Ok, refl, ap, subst, sym, ◌∙◌, append_assoc, append-nil, arith, err_from_is_err_and, AreNumbers, known_answer, known_message, joined, Tells, Writes}
 use Rattle.mail_answer.proofs.ThreadLaws.NumberLists.{numbers_next, few_numbers, known_first, known_none}
 use Rattle.mail_answer.proofs.OutputLaws.SheetLemmas.{joins_gathered, writes_next, writes_stop, writes_less, writes_err, tells-joined, joins_more, unsent_before}
-use Rattle.mail_answer.proofs.OutputLaws.ChosenArchives.{is_among_behind, stale_of_some}
+use Rattle.mail_answer.proofs.OutputLaws.ChosenArchives.{is_among_behind}
 use Rattle.mail_answer.proofs.OutputLaws.SpanWrites.{spans_more, spans_stop, spans_end}
 use Rattle.mail_answer.proofs.OutputLaws.WriterLemmas.{still_ready}
 use Rattle.mail_answer.proofs.OutputLaws.SpanLemmas.{joined-nothing, joined-assoc}
@@ -53,7 +53,7 @@ returns-in_err-push-clause-messages g c =
     }
 
 pub returns-in_err-push-clause-stale : goal.returns-in_err-push-clause-stale
-returns-in_err-push-clause-stale g c = grind (arith, err_from_is_err_and, stale_of_some, is_among_behind)
+returns-in_err-push-clause-stale g c = grind (arith, err_from_is_err_and, is_among_behind)
 
 pub overflow_add-count : goal.overflow_add-count
 overflow_add-count g c = grind (arith, few_numbers)

@@ -1,6 +1,5 @@
 use Rattle.mail_answer.proofs.Words.{arith}
-use Rattle.mail_answer.proofs.OutputLaws.WriterLemmas.{front_sent}
 use Rattle.mail_answer.proofs.output.answer_writer.AnswerWriter.write.Goals as goal
 
 pub returns-clause-messages : goal.returns-clause-messages
-returns-clause-messages g c = grind (arith, front_sent)
+returns-clause-messages g c = grind arith

@@ -1,5 +1,5 @@
 use Rattle.mime_text.proofs.Words.{◌≡◌, ◌∙◌, ◌++◌, ◌∷◌, ℕ, List, [], refl, sym, arith, HasLines, taken_of, More, Ended, PartReader, Comes, ComesBehindHeader}
-use Rattle.mime_text.proofs.PassingLemmas.{on_ok-map, passes-from, leaf-passes, more-passed, ended-comes, facts-ended}
+use Rattle.mime_text.proofs.PassingLemmas.{passes-from, leaf-passes, more-passed, ended-comes, facts-ended}
 use Rattle.mime_text.proofs.parts.part_reader.PartReader.inner_line.Goals as goal
 
 pub returns-in-InLeaf-clause-pairs : goal.returns-in-InLeaf-clause-pairs
@@ -22,4 +22,4 @@ returns-in-Ok-Ended-clause-pairs g c =
     c.end_header.ensures.pairs
 
 pub returns-in-Ok-Ended-clause-facts : goal.returns-in-Ok-Ended-clause-facts
-returns-in-Ok-Ended-clause-facts g c = grind (arith, on_ok-map, facts-ended)
+returns-in-Ok-Ended-clause-facts g c = grind (arith, facts-ended)

@@ -1,5 +1,5 @@
 use Rattle.mime_text.proofs.Words.{◌≡◌, ◌∷◌, sym, subst, arith, PartReader, Nest, Comes}
-use Rattle.mime_text.proofs.PassingLemmas.{on_ok-pure, passes-from, passes-before, delimited, facts-delimited}
+use Rattle.mime_text.proofs.PassingLemmas.{passes-from, passes-before, delimited, facts-delimited}
 use Rattle.mime_text.proofs.parts.part_reader.PartReader.line.Goals as goal
 
 pub returns-in-Nowhere-clause-pairs : goal.returns-in-Nowhere-clause-pairs
@@ -10,4 +10,4 @@ returns-in-Nowhere-clause-pairs g c =
     (λ k h. let P : Nest → Type 0 = λ x. Comes (record c.args.self.now { nesting = x }) k in subst P (sym same) h) c.inner_line.ensures.pairs
 
 pub returns-in_default : goal.returns-in_default
-returns-in_default g c = grind (arith, on_ok-pure, passes-from, delimited, facts-delimited)
+returns-in_default g c = grind (arith, passes-from, delimited, facts-delimited)
