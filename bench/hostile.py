@@ -1,14 +1,15 @@
 #!/usr/bin/env python3
 """Lets the program index and search hostile mail, each shape at a size and at twice that size, beside tame mail of as many bytes.
 
-    hostile.py [--quick] [PROGRAM]
+    hostile.py [--quick] [--only WORD,..] [PROGRAM]
 
 Prints a line for each run: its processor seconds and its peak memory at both sizes, and at the second one how many times those of a tame
-archive it takes, and of C mairix over the same files, where that is installed as `mairix`. No run is refused for its time or memory; one
-with another status or count of messages than was worked out by hand has failed. With `--quick` each shape has a hundredth of its size and
-nothing is measured. The last line is `N passed, M failed`. Past results are kept in bench/results/.
+archive it takes, and of C mairix over the same files, where that is installed as `mairix`. Of an index run it says so too without the time of
+`sha256sum` over the archives, which C mairix doesn't take. No run is refused for its time or memory; one with another status or count of
+messages than was worked out by hand has failed. With `--quick` each shape has a hundredth of its size and nothing is measured. With `--only`
+no shapes are tried but those with one of these words in their names. The last line is `N passed, M failed`. Past results are kept in bench/results/.
 """
-import os, resource, shutil, subprocess, sys, tempfile, time
+import argparse, os, resource, shutil, subprocess, sys, tempfile, time
 from dataclasses import dataclass
 
 from hostile_mail import SHAPES, Room, Search
@@ -95,18 +96,20 @@ def times(value, base):
     return "%8.3g" % (value / base) if base else "%8s" % "-"
 
 
-HEAD = "%-43s %-21s %9s %7s %7s %6s %8s %8s %7s %7s %8s %8s  %s" % (
-    "shape, at n and 2n", "run", "2n is", "s at n", "at 2n", "ratio", "of tame", "of C", "MB at n", "at 2n", "of tame", "of C", "found",
+HEAD = "%-43s %-21s %9s %7s %7s %6s %8s %8s %8s %7s %7s %8s %8s  %s" % (
+    "shape, at n and 2n", "run", "2n is", "s at n", "at 2n", "ratio", "of tame", "of C", "less sha", "MB at n", "at 2n", "of tame", "of C", "found",
 )
 
 
-def row(shape, name, size, first, second, tame, c):
-    """A line of the table; `c` is what C mairix took, or a word that says why there is none."""
+def row(shape, name, size, first, second, tame, c, digest):
+    """A line of the table; `c` is what C mairix took, or a word that says why there is none; `digest` is the seconds of `sha256sum`, if they count."""
     took = c if isinstance(c, Told) else None
+    seconds = took and max(took.seconds, 1e-3)
     note = "" if took else ", C mairix: " + c
-    return "%-43s %-21s %9s %7.2f %7.2f %6.1f %s %s %7.1f %7.1f %s %s  %d%s" % (
+    return "%-43s %-21s %9s %7.2f %7.2f %6.1f %s %s %s %7.1f %7.1f %s %s  %d%s" % (
         shape, name, size_named(size), first.seconds, second.seconds, second.seconds / max(first.seconds, 1e-3),
-        times(second.seconds, max(tame.seconds, 1e-3)), times(second.seconds, took and max(took.seconds, 1e-3)), first.megabytes, second.megabytes,
+        times(second.seconds, max(tame.seconds, 1e-3)), times(second.seconds, seconds),
+        times(second.seconds - digest, seconds if digest else None), first.megabytes, second.megabytes,
         times(second.megabytes, tame.megabytes), times(second.megabytes, took and took.megabytes), second.lines, note,
     )
 
@@ -146,7 +149,7 @@ class Hostile:
             print("hostile: %s: status %d, %d found, wanted %d, %d" % (what, told.status, told.lines, status, found), flush=True)
 
     def at(self, shape, count, beside):
-        """The runs of a shape at a size: the bytes that they read, their names, what they took, and what C mairix took."""
+        """The runs of a shape at a size: the bytes that they read, their names, what they took, and what C mairix and `sha256sum` took."""
         with tempfile.TemporaryDirectory() as folder:
             room = Room(folder)
             searches = shape.make(room, count)
@@ -156,18 +159,22 @@ class Hostile:
                 self.judge(shape.name, count, search, it)
             words = max(sum(len(word) + 1 for word in search.words) for search in searches)
             size = room.size() + (words if words > 1000 else 0)
-            return size, ["index", *(it.name for it in searches)], told, of_c(folder, self.tools, searches) if beside else [None] * len(told)
+            names = ["index", *(it.name for it in searches)]
+            if not beside:
+                return size, names, told, [None] * len(told), 0
+            return size, names, told, of_c(folder, self.tools, searches), measured(folder, self.tools, ["sha256sum", *room.archives]).seconds
 
     def shape(self, shape):
         count = max(1, shape.count // 100) if self.quick else shape.count
-        _, _, first, _ = self.at(shape, count, False)
-        size, names, second, c = self.at(shape, 2 * count, not self.quick)
+        _, _, first, _, _ = self.at(shape, count, False)
+        size, names, second, c, digest = self.at(shape, 2 * count, not self.quick)
         if self.quick:
             return
         tame = self.tame.of(size)
         for number, name in enumerate(names):
             said = "{:,} {}".format(count, shape.name)
-            print(row(said if number == 0 else "", name, size, first[number], second[number], tame[min(number, 1)], c[number]), flush=True)
+            told = first[number], second[number], tame[min(number, 1)], c[number]
+            print(row("" if number else said, name, size, *told, 0 if number else digest), flush=True)
 
 
 def machine():
@@ -185,7 +192,7 @@ bytes as rcfile, archives and words of the query; its search is of one word. Lin
 %d s and %.0f GB a run.""" % (C_SECONDS, C_BYTES / 1e9)
 
 
-def main(program, quick):
+def main(program, quick, wanted):
     with tempfile.TemporaryDirectory() as tools:
         subprocess.run(["cc", "-O2", "-o", os.path.join(tools, "measure"), os.path.join(HERE, "measure.c")], check=True)
         hostile = Hostile(program, quick, tools)
@@ -193,14 +200,18 @@ def main(program, quick):
             print("%s, %s, load %.1f" % (time.strftime("%Y-%m-%d"), machine(), os.getloadavg()[0]))
             print(NOTES)
             print(HEAD, flush=True)
-        for shape in SHAPES:
+        shapes = [shape for shape in SHAPES if any(word in shape.name for word in wanted)]
+        for shape in shapes:
             hostile.shape(shape)
-    print("hostile: %d runs over %d shapes at two sizes" % (hostile.runs, len(SHAPES)))
+    print("hostile: %d runs over %d shapes at two sizes" % (hostile.runs, len(shapes)))
     print("%d passed, %d failed" % (hostile.passed, hostile.failed))
     return 1 if hostile.failed else 0
 
 
 if __name__ == "__main__":
-    WORDS = [it for it in sys.argv[1:] if it != "--quick"]
-    PROGRAM = WORDS[0] if WORDS else os.path.join(HERE, "..", "crates", "mairix", "out", "mairix")
-    sys.exit(main(os.path.abspath(PROGRAM), "--quick" in sys.argv[1:]))
+    asked = argparse.ArgumentParser(description="Lets the program index and search hostile mail.")
+    asked.add_argument("--quick", action="store_true", help="a hundredth of each size, and nothing is measured")
+    asked.add_argument("--only", default="", help="words, by commas: shapes with one of them in their names")
+    asked.add_argument("program", nargs="?", default=os.path.join(HERE, "..", "crates", "mairix", "out", "mairix"))
+    WORDS = asked.parse_args()
+    sys.exit(main(os.path.abspath(WORDS.program), WORDS.quick, WORDS.only.split(",")))

@@ -1,16 +1,19 @@
 #!/usr/bin/env python3
 """Counts the instructions of index runs and searches at two sizes, by valgrind, so that a change shows without a quiet machine.
 
-    instructions.py [PROGRAM]
+    instructions.py [--kinds KIND,..] [PROGRAM]
 
-Each line is a run and its instructions in millions. The mail is that of make_mbox.py, of all three kinds, with 500 and 1,000 messages, and the
-searches are of one word, of a part of words that most messages have, of a negation, and of the three outputs. bench/compare.py compares two results.
-Past results are kept in bench/results/.
+Each line is a run and its instructions in millions. The mail is of the four kinds of bench/rounds.py, with 500 and 1,000 messages, and the searches
+are of one word, of a part of words that most messages have, of a negation, and of the three outputs. Then come shapes of hostile mail, each at a
+hundredth of the size that bench/hostile.py gives them, and at twice that. For each index run at the larger size a line says where its instructions
+go, and where C mairix is installed as `mairix`, how many it takes. bench/compare.py compares two results. Past results are kept in bench/results/.
 """
-import os, re, subprocess, sys, tempfile, time
+import argparse, os, re, subprocess, sys, tempfile, time
+from shutil import which
 
-HERE = os.path.dirname(os.path.abspath(__file__))
-KINDS = {"made mail": [], "mail of lists": ["--lists"], "mail in four scripts": ["--scripts"]}
+from hostile_mail import SHAPES, Room
+from rounds import KINDS, OWN, furnish
+
 SIZES = (500, 1_000)
 SEARCHES = {
     "a word, raw": ["-r", "b:pq"],
@@ -22,33 +25,95 @@ SEARCHES = {
     "a word, raw, verified": ["-r", "--verify", "b:pq"],
     "a word, raw, without an index": ["-r", "--once", "b:pq"],
 }
+# Those that take longer than in C mairix, and a part over very many keys.
+HOSTILE = ("delimiters, 16 deep", "empty parts", "bytes of tags left open", "messages, a chain", "messages, a star", "distinct words, falling")
+SMALLER = 100
+# What functions do, by the beginnings of their names. The first that fits counts.
+PURPOSES = {
+    "SHA-256": ("sha2::",),
+    "words and folding": ("mail_words::", "index_job::term_sink", "index_job::folding_room"),
+    "keys and postings": ("mail_index::", "index_job::batch"),
+    "lines, headers and parts": ("mbox_cutter::", "header_text::", "mime_text::", "mail_dates::", "index_job::", "index_run::", "memchr::"),
+}
+TOLD = re.compile(r"^ *([\d,]+) \(.*?\) +[^:]*:(\S+)", re.M)
 
 
-def instructions(command, folder):
-    how = {"cwd": folder, "stdin": subprocess.DEVNULL, "stdout": subprocess.DEVNULL, "stderr": subprocess.PIPE, "text": True}
-    run = subprocess.run(["valgrind", "--tool=callgrind", "--callgrind-out-file=/dev/null", *command], **how)
-    if run.returncode not in (0, 1):
-        sys.exit(f"{' '.join(command)}: status {run.returncode}")
-    return int(re.search(r"Collected : (\d+)", run.stderr)[1])
+def counted(command, folder):
+    """The instructions of a run, in all and by function."""
+    with tempfile.NamedTemporaryFile() as profile:
+        how = {"cwd": folder, "stdin": subprocess.DEVNULL, "stdout": subprocess.DEVNULL, "stderr": subprocess.PIPE, "text": True}
+        run = subprocess.run(["valgrind", "--tool=callgrind", f"--callgrind-out-file={profile.name}", *command], **how)
+        if run.returncode not in (0, 1):
+            sys.exit(f"{' '.join(command)}: status {run.returncode}")
+        listing = subprocess.run(["callgrind_annotate", "--threshold=100", profile.name], capture_output=True, text=True).stdout
+    functions = [(name, int(count.replace(",", ""))) for count, name in TOLD.findall(listing)]
+    return int(re.search(r"Collected : (\d+)", run.stderr)[1]), functions
 
 
 def tell(name, command, folder):
-    print(f"{name}: {instructions(command, folder) / 1e6:.1f} million", flush=True)
+    """Prints a line for a run, and returns what it took."""
+    count, functions = counted(command, folder)
+    print(f"{name}: {count / 1e6:.1f} million", flush=True)
+    return count, functions
 
 
-def main(program):
+def tell_where(name, count, functions):
+    """Prints where the instructions of a run go."""
+    taken = dict.fromkeys(PURPOSES, 0)
+    for function, own in functions:
+        purpose = next((it for it, fronts in PURPOSES.items() if function.startswith(fronts)), None)
+        if purpose:
+            taken[purpose] += own
+    shares = [f"{purpose} {100 * own / count:.0f} %" for purpose, own in taken.items()]
+    print(f"{name}, where: {', '.join(shares)}, all else {100 * (1 - sum(taken.values()) / count):.0f} %", flush=True)
+
+
+def tell_index_run(name, program, folder, has_where):
+    told = tell(f"{name}, an index run", [program, "-f", "rc"], folder)
+    if has_where:
+        tell_where(f"{name}, an index run", *told)
+        if which("mairix"):
+            tell(f"{name}, an index run of C mairix", ["mairix", "-f", "c-rc"], folder)
+
+
+def tell_kind(kind, program):
+    """The runs over a kind of mail."""
+    title, script = KINDS[kind]
+    for count in SIZES:
+        with tempfile.TemporaryDirectory() as folder:
+            furnish(folder, script, count)
+            tell_index_run(f"{count} messages, {title}", program, folder, count == SIZES[-1])
+            for name, words in SEARCHES.items():
+                tell(f"{count} messages, {title}, {name}", [program, "-f", "rc", *words], folder)
+
+
+def tell_hostile(shape, program):
+    """The runs over a shape of hostile mail."""
+    for count in (shape.count // SMALLER, 2 * shape.count // SMALLER):
+        with tempfile.TemporaryDirectory() as folder:
+            room = Room(folder)
+            searches = shape.make(room, count)
+            room.rcfiles()
+            name = f"{count} {shape.name}"
+            tell_index_run(name, program, folder, count > shape.count // SMALLER)
+            for search in searches:
+                tell(f"{name}, {search.name}", [program, "-f", "rc", "-r", *search.words], folder)
+
+
+def main():
+    asked = argparse.ArgumentParser(description="Counts the instructions of index runs and searches at two sizes.")
+    asked.add_argument("--kinds", default=",".join([*KINDS, "hostile"]), help="the kinds of mail, by their names in bench/rounds.py, and `hostile`")
+    asked.add_argument("program", nargs="?", default=OWN)
+    words = asked.parse_args()
+    program = os.path.abspath(words.program)
     print(time.strftime("%Y-%m-%d"))
-    for title, kind in KINDS.items():
-        for count in SIZES:
-            with tempfile.TemporaryDirectory() as folder:
-                archive = os.path.join(folder, "m.mbox")
-                subprocess.run([sys.executable, os.path.join(HERE, "make_mbox.py"), *kind, "--messages", str(count), archive], check=True)
-                with open(os.path.join(folder, "rc"), "w") as out:
-                    out.write("mbox=m.mbox\ndatabase=m.idx\nmfolder=hits\n")
-                tell(f"{count} messages, {title}, an index run", [program, "-f", "rc"], folder)
-                for name, words in SEARCHES.items():
-                    tell(f"{count} messages, {title}, {name}", [program, "-f", "rc", *words], folder)
+    for kind in words.kinds.split(","):
+        if kind in KINDS:
+            tell_kind(kind, program)
+    if "hostile" in words.kinds.split(","):
+        for shape in (it for it in SHAPES if it.name in HOSTILE):
+            tell_hostile(shape, program)
 
 
 if __name__ == "__main__":
-    main(os.path.abspath(sys.argv[1] if len(sys.argv) > 1 else os.path.join(HERE, "..", "crates", "mairix", "out", "mairix")))
+    main()

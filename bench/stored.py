@@ -2,12 +2,16 @@
 """Times searches of a stored index beside `sha256sum` of that index, `cat` of the answer, and C mairix, notmuch and mu where they are
 installed, over the same 10,000 messages in one run.
 
-    stored.py [PROGRAM]
+    stored.py [--kinds] [PROGRAM]
 
-Prints the processor seconds (the least of the runs), the peak memory, and the ratio to what each line is measured by. Past runs are kept
-in bench/results/.
+Prints the processor seconds (the least of the runs), the peak memory, and the ratio to what each line is measured by. With `--kinds` it
+looks instead for one word in each of the four kinds of mail of bench/rounds.py, for a part of a word in 50,000 messages, and for one among
+2,000,000 keys. Past runs are kept in bench/results/.
 """
 import collections, os, re, shutil, statistics, subprocess, sys, tempfile, time
+
+from hostile_mail import Room, falling_words
+from rounds import KINDS, furnish
 
 HERE = os.path.dirname(os.path.abspath(__file__))
 RUNS = 15
@@ -80,13 +84,54 @@ def peers(folder, word):
 
 def tell(name, told, base=None):
     ratio = "" if base is None else "  %6.2f times %s" % (told[0] / base[1], base[0])
-    print("  %-24s %7.4f s %7.1f MB  %9d bytes%s" % (name, told[0], told[1], told[2], ratio), flush=True)
+    print("  %-26s %7.4f s %7.1f MB  %9d bytes%s" % (name, told[0], told[1], told[2], ratio), flush=True)
     return told[0]
 
 
-def main(program):
+def index_of(folder, program):
+    """Makes the index of a furnished folder, and C mairix's where it is installed. Tells the seconds of `sha256sum` of the former."""
+    subprocess.run(["cc", "-O2", "-o", os.path.join(folder, "measure"), os.path.join(HERE, "measure.c")], check=True)
+    subprocess.run([program, "-f", "rc"], cwd=folder, check=True)
+    if shutil.which("mairix"):
+        subprocess.run(["mairix", "-f", "c-rc"], cwd=folder, capture_output=True)
+    return tell("sha256sum of the index", measured(["sha256sum", "m.idx"], folder))
+
+
+def tell_part(folder, program, part, digest):
+    """A search for a part of a word, beside a search that finds nothing, and C mairix's."""
+    search = [program, "-f", "rc", "-r"]
+    nothing = tell("mairix, raw, no such id", measured(search + ["m:none@example.org"], folder), ("sha256sum", digest))
+    own = tell("mairix, raw, " + part, measured(search + [part], folder), ("sha256sum", digest))
+    print("  beside the search that finds nothing: %.4f s" % (own - nothing))
+    if shutil.which("mairix"):
+        tell("C mairix, raw, " + part, measured(["mairix", "-f", "c-rc", "-r", part], folder))
+
+
+def compare_kinds(program):
+    for title, script in KINDS.values():
+        with tempfile.TemporaryDirectory() as folder:
+            furnish(folder, script, 10_000)
+            print("10,000 messages, " + title)
+            digest = index_of(folder, program)
+            word = frequent_word(os.path.join(folder, "m.mbox"))[0]
+            tell("mairix, raw, a word", measured([program, "-f", "rc", "-r", "b:" + word], folder), ("sha256sum", digest))
+    with tempfile.TemporaryDirectory() as folder:
+        furnish(folder, KINDS["made"][1], 50_000)
+        print("50,000 messages, made mail")
+        tell_part(folder, program, "b:e=", index_of(folder, program))
+    with tempfile.TemporaryDirectory() as folder:
+        room = Room(folder)
+        falling_words(room, 2_000_000)
+        room.rcfiles()
+        print("2,000,000 keys")
+        tell_part(folder, program, "b:a=", index_of(folder, program))
+
+
+def main(program, by_kinds):
     print("%s, processor seconds (user and system) are the least of %d runs, peak memory the most" % (time.strftime("%Y-%m-%d"), RUNS))
     print("load %.1f on %d processors" % (os.getloadavg()[0], os.cpu_count()))
+    if by_kinds:
+        return compare_kinds(program)
     with tempfile.TemporaryDirectory() as folder:
         archive = os.path.join(folder, "m.mbox")
         subprocess.run(["cc", "-O2", "-o", os.path.join(folder, "measure"), os.path.join(HERE, "measure.c")], check=True)
@@ -112,4 +157,5 @@ def main(program):
 
 
 if __name__ == "__main__":
-    main(os.path.abspath(sys.argv[1] if len(sys.argv) > 1 else os.path.join(HERE, "..", "crates", "mairix", "out", "mairix")))
+    words = [it for it in sys.argv[1:] if it != "--kinds"]
+    main(os.path.abspath(words[0] if words else os.path.join(HERE, "..", "crates", "mairix", "out", "mairix")), "--kinds" in sys.argv)
