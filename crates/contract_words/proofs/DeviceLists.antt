@@ -1,5 +1,5 @@
 -- Laws of a list of devices, of which those from an index on were not asked yet.
-use Rattle.std.proofs.Common.{arith, ◌≡◌, ◌≢◌, ℕ, zero, ◌+◌, ◌<◌, List, [], length, get_or, map, drop, Bool, false, inl, inr, Option, Some, ap, sym, ◌∙◌, subst, add-zero, IfSome}
+use Rattle.std.proofs.Common.{arith, ◌≡◌, ◌≢◌, ℕ, zero, ◌+◌, ◌<◌, List, [], length, get_or, map, drop, Bool, false, inl, inr, Option, Some, ap, sym, ◌∙◌, subst, add-zero}
 use Rattle.std.proofs.lemmas.Bool.Decides.{eqb_tells}
 use Rattle.std.proofs.lemmas.List.{get_or-drop, drop-drop, length-map, get_or-map, map-set, get_or-set_same, get_or-set_other, length-set, drop-set-lt}
 use Rattle.std.proofs.Math.ListN.{set}
@@ -25,13 +25,6 @@ known_at r xs contents i d h below =
 
 pub known_length : {X : Type 0} (r : X → Option (List ℕ)) (xs : List X) (contents : List (List ℕ)) → map r xs ≡ map Some contents → length contents ≡ length xs
 known_length r xs contents h = sym (length-map contents Some) ∙ sym (ap length h) ∙ length-map xs r
-
--- what is known of the bytes at an index, where all are known
-pub bytes_at : {X : Type 0} (r : X → Option (List ℕ)) (xs ys : List X) (contents : List (List ℕ)) (i : ℕ) (d : X) (P : List ℕ → Type 0)
-    → drop i xs ≡ drop i ys → map r ys ≡ map Some contents → i < length ys → IfSome (r (get_or xs i d)) P → P (get_or contents i [])
-bytes_at r xs ys contents i d P unread h below p =
-    let e : r (get_or xs i d) ≡ Some (get_or contents i []) = ap r (same_at xs ys i d unread) ∙ known_at r ys contents i d h below in
-    subst (λ o. IfSome o P) e p
 
 -- the counts after a call that changed one device
 pub counted_at : {X : Type 0} (f : X → ℕ) (failed : ℕ → Bool) (xs ys : List X) (i : ℕ) (v d : X) → i < length xs → map f xs ≡ map f ys

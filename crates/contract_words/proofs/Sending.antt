@@ -1,5 +1,5 @@
 -- Laws of bytes that went out, known or not.
-use Rattle.std.proofs.Common.{◌≡◌, ℕ, ◌-◌, List, [], ◌++◌, length, take, drop, Option, refl, append_assoc, append-nil, arith}
+use Rattle.std.proofs.Common.{◌≡◌, ℕ, ◌-◌, List, [], ◌++◌, length, take, drop, Option, append_assoc, append-nil, arith}
 use Rattle.std.proofs.lemmas.List.{take-append-drop}
 use Rattle.std.proofs.lemmas.Grind.{common_steps}
 use Rattle.std.specs.Io.KnownBytes.{Appends}
@@ -11,10 +11,6 @@ appends-nil a = grind (arith, append-nil)
 -- what was appended in two steps was appended at once
 pub appends_join : (a b c : Option (List ℕ)) (x y : List ℕ) → Appends a b x → Appends b c y → Appends a c (x ++ y)
 appends_join a b c x y h h2 = grind (arith, append_assoc)
-
--- nothing went out
-pub sends-nothing : (a : Option (List ℕ)) (bytes : List ℕ) → Sends a a bytes
-sends-nothing a bytes = ([], bytes, refl, appends-nil a)
 
 -- a front goes out, and then some of the rest: some of the whole went out
 pub sends_more : (a b d : Option (List ℕ)) (whole sent next left : List ℕ) → whole ≡ sent ++ (next ++ left) → Appends a b sent → Sends b d next → Sends a d whole

@@ -1,5 +1,5 @@
 -- What gathering a line more, or the end, makes of a builder's draft.
-use Rattle.index_job.proofs.Words.{◌≡◌, ◌∙◌, ℕ, List, [], ◌∷◌, ◌++◌, Option, Some, option_map, flat_map, sym, ap, subst, ⊎_elim, append-nil, arith, ◌⊎◌, Result, Ok, Err, IfErr, OnOk, IfSome, flat_map-append, fields_of, Draft, IsInMessage, TextKind, MessageText, Facts, facts_of, Pair, TakesAll, Breaks, texts_of_message, JobFault, Span, with_texts, HasGathered, IsGathering, IsGatherFault, draft_with_terms, RefusesTerms, IsOpenAt, IsBuilderOpen, ended_with, of_text, Term, text_terms, id_terms, message_terms}
+use Rattle.index_job.proofs.Words.{◌≡◌, ◌∙◌, ℕ, List, [], ◌∷◌, ◌++◌, Option, Some, option_map, flat_map, sym, ap, subst, ⊎_elim, append-nil, arith, ◌⊎◌, Result, Ok, Err, IfErr, flat_map-append, fields_of, Draft, TextKind, MessageText, Facts, facts_of, Pair, TakesAll, Breaks, texts_of_message, JobFault, with_texts, HasGathered, IsGatherFault, draft_with_terms, RefusesTerms, IsOpenAt, IsBuilderOpen, of_text, Term, text_terms, id_terms, message_terms}
 use Rattle.mime_text.specs.declared.fault.SinkFault.{SinkFault}
 use Rattle.mime_text.specs.declared.fault.SinkFault.TheVariants as sink
 use Rattle.mime_text.specs.declared.fault.TextFault.{TextFault}
@@ -85,13 +85,6 @@ still-gather-fails us o f h = grind (arith, still-refuses)
 pub texts-fail : (ls : List (List ℕ)) (d : Option Draft) (f : JobFault) → IsGatherFault (with_texts (texts_of_message ls) d) f → IsGatherFault (option_map (draft_with_terms (message_terms ls)) d) f
 texts-fail ls d f h = grind (arith, texts-and-ids, still-gather-fails)
 
--- texts leave the message open
-pub in-message : (text : MessageText) (builder : Option Draft) (d : Draft) (ls : List (List ℕ)) → HasGathered text builder (Some d) ls → IsInMessage d → IfSome builder IsInMessage
-in-message text builder d ls g phase = subst (λ (o : Option Draft). IfSome o IsInMessage) (sym g.added) phase
-
-pub gathering-in-message : (archive place : ℕ) (text : MessageText) (builder : Option Draft) → IsGathering archive place text builder → IfSome builder IsInMessage
-gathering-in-message archive place text builder (d, ls, g, at) = in-message text builder d ls g at.phase
-
 -- the message is open still behind its texts
 pub open-behind : (archive place : ℕ) (ls : List (List ℕ)) (d : Draft) (builder : Option Draft) → builder ≡ with_texts (texts_of_message ls) (Some d) → IsOpenAt archive place d → IsBuilderOpen archive place builder
 open-behind archive place ls d builder is h = grind (arith, flat_map)
@@ -99,25 +92,12 @@ open-behind archive place ls d builder is h = grind (arith, flat_map)
 module _ (facts : Facts) (text : MessageText) (old mid : Option Draft)
     (facts-are : (ls : List (List ℕ)) (d : Option Draft) → HasGathered text old d ls → facts ≡ facts_of (fields_of ls))
     (texts-are : (ls : List (List ℕ)) (d : Option Draft) → HasGathered text old d ls → mid ≡ with_texts (texts_of_message ls) d) where
-  finished-of : (span : Span) (b : Option Draft) → b ≡ option_map (ended_with facts span) mid → (ls : List (List ℕ)) (d : Option Draft) → HasGathered text old d ls
-      → b ≡ option_map (ended_with (facts_of (fields_of ls)) span) (with_texts (texts_of_message ls) d)
-  finished-of span b is ls d g = is ∙ ap (λ (f : Facts). option_map (ended_with f span) mid) (facts-are ls d g) ∙ ap (option_map (ended_with (facts_of (fields_of ls)) span)) (texts-are ls d g)
-
   ids-fail-of : (f : JobFault) → IsGatherFault (option_map (draft_with_terms (id_terms facts)) mid) f → (ls : List (List ℕ)) (d : Option Draft) → HasGathered text old d ls
       → IsGatherFault (option_map (draft_with_terms (message_terms ls)) d) f
   ids-fail-of f h ls d g =
       subst (λ o. IsGatherFault o f)
       (ap (λ (x : Facts). option_map (draft_with_terms (id_terms x)) mid) (facts-are ls d g) ∙ ap (option_map (draft_with_terms (id_terms (facts_of (fields_of ls))))) (texts-are ls d g) ∙ sym (texts-and-ids ls d))
       h
-
--- the message is ended
-pub finished-is : {T : Type 0} (r : Result T JobFault) (new : Option Draft) (span : Span) (facts : Facts) (text : MessageText) (old mid : Option Draft)
-    → ((ls : List (List ℕ)) (d : Option Draft) → HasGathered text old d ls → facts ≡ facts_of (fields_of ls))
-    → ((ls : List (List ℕ)) (d : Option Draft) → HasGathered text old d ls → mid ≡ with_texts (texts_of_message ls) d)
-    → OnOk r (new ≡ option_map (ended_with facts span) mid)
-    → OnOk r ((ls : List (List ℕ)) (d : Option Draft) → HasGathered text old d ls → new ≡ option_map (ended_with (facts_of (fields_of ls)) span) (with_texts (texts_of_message ls) d))
-finished-is (Ok x) new span facts text old mid facts-are texts-are is = finished-of facts text old mid facts-are texts-are span new is
-finished-is (Err f) new span facts text old mid facts-are texts-are is = tt
 
 -- a fault of its ids
 pub ids-fail : {T : Type 0} (r : Result T JobFault) (facts : Facts) (text : MessageText) (old mid : Option Draft)

@@ -1,5 +1,5 @@
 -- Reads of the source of a cutter, one after another, and the archive's end.
-use Rattle.index_job.proofs.Words.{◌≡◌, ◌∙◌, ℕ, List, Bool, true, false, Option, refl, sym, ap, subst, arith, Result, Ok, Err, BuildFault, Draft, CutFault, Event, CutterPlace, Progress, Advances, shown_result, JobFault, most_in_archive, AwaitsEnd, IsHeading, ReadsSource, ReadsToEnd, IsBuilderReady, is_source_failure, of_build}
+use Rattle.index_job.proofs.Words.{◌≡◌, ◌∙◌, Bool, true, false, refl, sym, ap, subst, arith, Result, Ok, Err, BuildFault, CutFault, Event, Progress, Advances, shown_result, JobFault, ReadsSource, is_source_failure, of_build}
 use Rattle.std.specs.Borrow.{MutBor}
 use Rattle.mbox_cutter.specs.declared.device.Source.{Ghosts}
 use Rattle.mbox_cutter.specs.declared.event.CutFault.TheVariants as cut
@@ -43,11 +43,6 @@ module _ {S : Type 0} (g : Ghosts S) where
     -- the builder fails, and nothing is read
     pub builder-fails : (f : BuildFault) (s : MutBor S) → q ≡ Err (of_build f) → ReadsSource g (is_source_failure q) s s
     builder-fails f s is = reads-before (is_source_failure q) s s (failure-is q (of_build f) is ∙ build-says f) (reads-none s)
-
-    -- the cutter fails
-    pub event-fails : (old new : Progress S) (r : Result Event CutFault) (f : CutFault) → r ≡ Err f → q ≡ Err (job.Cut f) → Advances g old (shown_result r) new
-        → ReadsSource g (is_source_failure q) old.source new.source
-    event-fails old new r f was is h = grind (arith, failure-is)
 
   -- it tells an event
   pub event-reads : (old new : Progress S) (r : Result Event CutFault) (e : Event) → r ≡ Ok e → Advances g old (shown_result r) new → ReadsSource g false old.source new.source

@@ -1,5 +1,5 @@
 -- What adding terms makes of a builder's draft.
-use Rattle.index_job.proofs.Words.{◌≡◌, ◌<◌, ◌≤◌, ℕ, zero, Bor, List, [], ◌∷◌, ◌++◌, length, Option, IfSome, Result, Ok, Err, option_map, refl, ap, ◌∙◌, subst, arith, suc, drop, take, map, append_assoc, get_or, ◌+◌, Vec, BuildFault, Global, AllByRecursion, nat_tests, drop_more, map-append, length-map, length-take-le, LinkId, Text, TextKind, Key, Draft, with_pair, added, refusal, stepped, IsInMessage, with_terms, draft_with_terms, IsTermFault, RefusesTerms, AddsTerms, Term, link_terms, word_terms, HasTermLength}
+use Rattle.index_job.proofs.Words.{◌≡◌, ◌<◌, ◌≤◌, ℕ, zero, Bor, List, [], ◌∷◌, ◌++◌, length, Option, IfSome, Ok, Err, option_map, refl, ap, ◌∙◌, subst, arith, suc, drop, take, map, append_assoc, get_or, ◌+◌, Vec, BuildFault, Global, AllByRecursion, nat_tests, drop_more, map-append, length-map, length-take-le, LinkId, Text, TextKind, Key, Draft, with_pair, added, refusal, stepped, IsInMessage, with_terms, draft_with_terms, IsTermFault, RefusesTerms, Term, link_terms, word_terms, HasTermLength}
 use Rattle.mail_index.specs.declared.kind.Kind.{Kind}
 use Rattle.mail_index.proofs.BuildLaws.BuilderSteps.{added-is}
 
@@ -49,9 +49,6 @@ still-fails us o fault h = grind (arith, with_terms-more)
 
 pub fails-first : (ts us : List Term) (old : Option Draft) (fault : BuildFault) → IsTermFault (option_map (draft_with_terms ts) old) fault → IsTermFault (option_map (draft_with_terms (ts ++ us)) old) fault
 fails-first ts us old fault h = grind (arith, joined, still-fails, option_map)
-
-pub adds-both : {T : Type 0} (ts us : List Term) (r : Result T BuildFault) (old mid new : Option Draft) → mid ≡ option_map (draft_with_terms ts) old → AddsTerms us r mid new → AddsTerms (ts ++ us) r old new
-adds-both ts us r old mid new h h2 = grind (arith, option_map, joined)
 
 pub still-refuses : (us : List Term) (o : Option Draft) → RefusesTerms o → RefusesTerms (option_map (draft_with_terms us) o)
 still-refuses us o h = grind (arith, with_terms-more)

@@ -1,15 +1,15 @@
 -- The words of std and of the definitions that proofs take, from one place.
 pub use Rattle.contract_words.specs.Answers.{◌>>=◌}
-pub use Rattle.header_text.specs.Headers.{HeaderField, continued_and_fields, field_of_line, header, is_continuation, lines_before_empty, lines_within, most_in_header, with_continuations}
+pub use Rattle.header_text.specs.Headers.{HeaderField, continued_and_fields, field_of_line, header, lines_before_empty, lines_within, most_in_header, with_continuations}
 unfoldable pub use Rattle.header_text.specs.Headers.{fields_of}
 pub use Rattle.index_job.specs.ArchiveRefusals.{AreSound, IsTooMuch}
 pub use Rattle.index_job.specs.ArchiveTables.{Mbox, all_messages, date_told, entry_of, messages_in, record_of, records_from, table, with_messages, with_terms}
 pub use Rattle.index_job.specs.IndexJobs.{IsAddFault, IsAdded, IsJobBuilder, draft_in}
-pub use Rattle.index_job.specs.Indexing.{AddsTerms, HasTooMany, IsArchiveFault, IsBuilderIdle, IsBuilderOpen, IsBuilderReady, IsIdle, IsJobFault, IsOpenAt, IsReady, IsTermFault, RefusesTerms, draft_ended, draft_of, draft_with_messages, draft_with_terms, with_open_archive, with_open_message}
-pub use Rattle.index_job.specs.Inside.ArchiveReading.{AddsMessage, AddsMessages, AddsNamed, Awaited, AwaitsEnd, HasDone, HasEnded, HasReadAll, Heads, IsHeading, IsInside, IsMessageFault, IsReading, IsReadingSome, ReadsSource, ReadsToEnd, coming_ahead, coming_between, coming_inside}
+pub use Rattle.index_job.specs.Indexing.{HasTooMany, IsArchiveFault, IsBuilderIdle, IsBuilderOpen, IsBuilderReady, IsJobFault, IsOpenAt, IsReady, IsTermFault, RefusesTerms, draft_ended, draft_of, draft_with_messages, draft_with_terms, with_open_archive, with_open_message}
+pub use Rattle.index_job.specs.Inside.ArchiveReading.{AddsMessage, AddsMessages, AddsNamed, Awaited, HasDone, HasEnded, HasReadAll, Heads, IsHeading, IsInside, IsMessageFault, IsReading, IsReadingSome, ReadsSource, coming_ahead, coming_between, coming_inside}
 pub use Rattle.index_job.specs.Inside.FoldedWords.{HoldsWords, cut}
-pub use Rattle.index_job.specs.Inside.Gathering.{HasGathered, IsGatherFault, IsGathering, with_texts}
-pub use Rattle.index_job.specs.Inside.MessageEnds.{ended_record, ended_with}
+pub use Rattle.index_job.specs.Inside.Gathering.{HasGathered, IsGatherFault, with_texts}
+pub use Rattle.index_job.specs.Inside.MessageEnds.{ended_with}
 pub use Rattle.index_job.specs.JobFaults.{is_source_failure, of_build, of_text}
 pub use Rattle.index_job.specs.MessageTerms.{HasTermLength, Term, id_terms, link_terms, message_terms, own_id_terms, text_terms, word_terms}
 pub use Rattle.index_job.specs.declared.archive_reading.Ended.{Ended}
@@ -17,11 +17,11 @@ pub use Rattle.index_job.specs.declared.archive_reading.ReadArchive.{ReadArchive
 pub use Rattle.index_job.specs.declared.job_fault.JobFault.{JobFault}
 pub use Rattle.index_job.specs.declared.message_end.Span.{Span}
 pub use Rattle.mail_index.specs.Builders.{Draft, IsInArchive, IsInMessage, IsWithinMost, added, archive_count, begun_archive, end_of, ended_archive, refusal, stepped, with_pair}
-pub use Rattle.mail_index.specs.Limits.{most_in_archive, most_in_index}
+pub use Rattle.mail_index.specs.Limits.{most_in_archive}
 pub use Rattle.mail_index.specs.Tables.{AllNext, Archive, Follows, IsArchive, IsKey, IsMessage, IsPath, IsWellFormed, Key, KeyBefore, archive_length}
 pub use Rattle.mail_index.specs.Versions.{newest}
 pub use Rattle.mail_index.specs.declared.build.build_fault.BuildFault.{BuildFault}
-pub use Rattle.mail_index.specs.declared.build.build_fault.BuildFault.TheVariants.{Device, Failed, OutOfMemory, TooMany}
+pub use Rattle.mail_index.specs.declared.build.build_fault.BuildFault.TheVariants.{Device, OutOfMemory, TooMany}
 pub use Rattle.mail_index.specs.declared.kind.Kind.TheVariants.{LinkId, Text}
 pub use Rattle.mail_index.specs.declared.record.Record.{Record}
 pub use Rattle.mail_words.specs.Folding.{folding}
@@ -31,9 +31,9 @@ pub use Rattle.mail_words.specs.declared.kind.TextKind.{TextKind}
 pub use Rattle.mbox_cutter.specs.Archives.{Message, grouped, is_refused, marked, messages_from, size, span_length, text, total, without_closing}
 unfoldable pub use Rattle.mbox_cutter.specs.Archives.{messages}
 pub use Rattle.mbox_cutter.specs.Coming.{Answers, TakesKnown}
-pub use Rattle.mbox_cutter.specs.Events.{Coming, Done, End, Line, Start, coming_of, told, told_rest}
+pub use Rattle.mbox_cutter.specs.Events.{Coming, Done, End, Line, Start, coming_of}
 unfoldable pub use Rattle.mbox_cutter.specs.Events.{events, refusal_of}
-pub use Rattle.mbox_cutter.specs.Places.{CutterPlace, left}
+pub use Rattle.mbox_cutter.specs.Places.{left}
 pub use Rattle.mbox_cutter.specs.Progress.{Advances, Progress, shown_result}
 pub use Rattle.mbox_cutter.specs.declared.event.CutFault.{CutFault}
 pub use Rattle.mbox_cutter.specs.declared.event.Event.{Event}

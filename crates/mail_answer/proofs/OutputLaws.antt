@@ -1,5 +1,4 @@
 -- Laws of what an answer writes.
-pub mod ByteLists
 pub mod ChosenArchives
 pub mod ChosenBelow
 pub mod ClosedLemmas
@@ -11,7 +10,6 @@ pub mod CutMessages
 pub mod Endings
 pub mod EveryAnswer
 pub mod HeaderReading
-pub mod KnownAnswers
 pub mod MessageLines
 pub mod ReadingLemmas
 pub mod SentLemmas

@@ -4,15 +4,15 @@ pub use Rattle.header_text.specs.Headers.{HeaderField, fields_in, lines_before_e
 unfoldable pub use Rattle.header_text.specs.Headers.{fields_of}
 pub use Rattle.mail_answer.specs.Answers.{SendsFront, SendsKnown, SendsSpans}
 pub use Rattle.mail_answer.specs.Archives.{IsRead, archive_at}
-pub use Rattle.mail_answer.specs.Asked.{Agree, AsksUpTo, FindsLengths, HoldsArchives, IsArchiveOfSome, TellLengths, indexed_lengths}
+pub use Rattle.mail_answer.specs.Asked.{Agree, HoldsArchives, TellLengths, indexed_lengths}
 pub use Rattle.mail_answer.specs.Closing.{behind_next, feed, feeds_behind, has_feed, next_text}
 pub use Rattle.mail_answer.specs.CursorAhead.{Ahead, Counts, CountsPostings, Drops, IsFirst, Reaches, Spends, both, common, left_in, lesser_of, levels, one_or_other, others, postings_in, united}
 pub use Rattle.mail_answer.specs.CursorNumbers.{AreWithin, TakesFirst, TakesFrom, numbers_from}
-pub use Rattle.mail_answer.specs.Cursors.{LooksUp, ToCome, is_in, kinds_in, look_ups, look_ups_of_all, most_left, most_left_of_all, numbers_named, numbers_of_keys}
+pub use Rattle.mail_answer.specs.Cursors.{LooksUp, is_in, kinds_in, look_ups, look_ups_of_all, most_left, most_left_of_all, numbers_named, numbers_of_keys}
 pub use Rattle.mail_answer.specs.CutAgain.{IsCutInto, IsCutOut, ends_in_return, places_from}
 pub use Rattle.mail_answer.specs.Excerpts.{excerpt_lines, shown_byte}
 unfoldable pub use Rattle.mail_answer.specs.Excerpts.{excerpt}
-pub use Rattle.mail_answer.specs.Inside.Calls.{AreAsIndexed, KeepsArchives}
+pub use Rattle.mail_answer.specs.Inside.Calls.{KeepsArchives}
 pub use Rattle.mail_answer.specs.Inside.CursorLists.{AreNumbers, first_of, is_before, numbers_ahead, truths_among}
 pub use Rattle.mail_answer.specs.Inside.CursorMarks.{AreFew, HaveMarks, IsFirstMark, marked_or_listed, those_from, truths_marked}
 pub use Rattle.mail_answer.specs.Inside.CursorScans.{IsFound, Scans, is_ahead, satisfies, truths_scanned}
@@ -21,12 +21,12 @@ pub use Rattle.mail_answer.specs.Inside.Digests.{AbsorbsPart, ComparesDigest, Re
 pub use Rattle.mail_answer.specs.Inside.Endings.{ending_of, ending_of_line, feeds_of, line_of, with_byte}
 pub use Rattle.mail_answer.specs.Inside.Forests.{AreBothAmong, AreInOneTree, LabelsTrees, LeadsBack, ShareKey, Shortens, StaysInThreads, TellsThreads, Unites}
 pub use Rattle.mail_answer.specs.Inside.HeaderReads.{HasFields, HasFieldsAfter, WillHaveFields}
-pub use Rattle.mail_answer.specs.Inside.PassedArchives.{ArePassed, Passed}
+pub use Rattle.mail_answer.specs.Inside.PassedArchives.{ArePassed}
 pub use Rattle.mail_answer.specs.Inside.Readings.{IsInside, Reading, ReadsBehind, ReadsTail, coming, coming_count, span_reading}
-pub use Rattle.mail_answer.specs.Inside.Writing.{IsBegun, IsReady, IsSameAnswer}
+pub use Rattle.mail_answer.specs.Inside.Writing.{IsReady, IsSameAnswer}
 pub use Rattle.mail_answer.specs.Mail.{AreChosen, AreChosenBy, AreThreadsOf, IsChain, IsLedTo, IsLedToBySome, Search, satisfying}
 pub use Rattle.mail_answer.specs.Marks.{Adds, each_number, fits, some_key, truth_at}
-pub use Rattle.mail_answer.specs.Pieces.{ReadsFront, StopsWithin, TellPieces}
+pub use Rattle.mail_answer.specs.Pieces.{ReadsFront, TellPieces}
 pub use Rattle.mail_answer.specs.Shapes.{AreSpansOf, answer_text, is_closed, known_answer, known_message, last_of, message_text, path_at, raw_line, span}
 unfoldable pub use Rattle.mail_answer.specs.Shapes.{closed}
 pub use Rattle.mail_answer.specs.Sheets.{Joins, JoinsFront, Tells, Writes, counted, joined}
@@ -34,7 +34,7 @@ pub use Rattle.mail_answer.specs.Stale.{TellsStale, first_changed, length_at, st
 pub use Rattle.mail_answer.specs.TableAnswers.{Answers, IsTableAnswer, TableAnswer, answer_of_numbers, mail_told, search_of}
 pub use Rattle.mail_answer.specs.TableFacts.{chosen_numbers, facts_at, is_among, no_record, record_at, texts_with, truths}
 pub use Rattle.mail_answer.specs.Threads.{AreThreads, IsInThread, IsInThreadOfSome, IsPath, are_linked}
-pub use Rattle.mail_answer.specs.Verified.{AreRead, AreVerified, FailsWithin, FindsDigests, ReadEach, ReadsOther, ReadsUpTo, TellsFound, first_altered, has_digest, unverified_archive}
+pub use Rattle.mail_answer.specs.Verified.{AreRead, AreVerified, FindsDigests, ReadEach, TellsFound, first_altered, has_digest, unverified_archive}
 pub use Rattle.mail_answer.specs.declared.archives.Archives.{Ghosts}
 pub use Rattle.mail_answer.specs.declared.cursor.fit.Fit.TheVariants.{Front, Whole, Within}
 pub use Rattle.mail_answer.specs.declared.fault.AnswerFaultKind.{AnswerFaultKind}
@@ -45,10 +45,10 @@ pub use Rattle.mail_answer.specs.declared.output.ending.Ending.TheVariants.{Empt
 pub use Rattle.mail_answer.specs.declared.output.sheet.Sheet.{Sheet}
 pub use Rattle.mail_index.proofs.ViewLaws.RunLemmas.{bytes_turned}
 pub use Rattle.mail_index.specs.Layouts.{archive_of}
-pub use Rattle.mail_index.specs.LookUps.{AreSorted, TakesDigits, is_key, is_of_kind, keys_beginning, keys_of, lies_to, numbers_at, text_and_numbers}
+pub use Rattle.mail_index.specs.LookUps.{AreSorted, TakesDigits, is_key, keys_beginning, keys_of, lies_to, numbers_at, text_and_numbers}
 pub use Rattle.mail_index.specs.Steps.{add_steps}
 pub use Rattle.mail_index.specs.Tables.{AllNext, Archive, IsArchive, IsKey, IsMessage, IsWellFormed, Key, KeyBefore, RisesFrom, Table, archive_length}
-pub use Rattle.mail_index.specs.Versions.{IsDigest, newest}
+pub use Rattle.mail_index.specs.Versions.{newest}
 pub use Rattle.mail_index.specs.declared.kind.Kind.{Kind}
 pub use Rattle.mail_index.specs.declared.kind.Kind.TheVariants.{LinkId, OwnId, Text}
 pub use Rattle.mail_index.specs.declared.record.Record.{Record}
@@ -68,7 +68,7 @@ pub use Rattle.mbox_cutter.specs.Separators.{has_time_then_year, tokens}
 unfoldable pub use Rattle.mbox_cutter.specs.Separators.{has_form, is_separator, without_break}
 pub use Rattle.mbox_cutter.specs.declared.device.DeviceFault.{DeviceFault}
 pub use Rattle.sha2.specs.Sha256.{sha256}
-pub use Rattle.std.proofs.Common.{Bool, Err, Global, IfOk, IfSome, IsErr, IsTrue, List, None, Ok, OnErr, OnOk, Option, Result, Some, Vec, [], add-one, ap, append-nil, append_assoc, ap₂, arith, bytes_eq, cond, drop, drop-cons, eq-eqb, eqb, false, get_or, inl, inr, le-leb, length, length-append, length-drop, length-take, length-take-le, map, max, min, nat_eq, nat_lt, not, refl, replicate, rules, subst, suc, sym, take, take-add, take_all, true, vec_len, zero, ℕ, ◌&&◌, ◌*◌, ◌++◌, ◌+◌, ◌-◌, ◌<◌, ◌==◌, ◌^◌, ◌||◌, ◌∙◌, ◌∷◌, ◌≡◌, ◌≢◌, ◌≤◌, ◌⊎◌}
+pub use Rattle.std.proofs.Common.{Bool, Err, Global, IfOk, IfSome, IsErr, List, None, Ok, OnOk, Option, Result, Some, Vec, [], add-one, ap, append-nil, append_assoc, ap₂, arith, bytes_eq, cond, drop, drop-cons, eq-eqb, eqb, false, get_or, inl, inr, le-leb, length, length-append, length-drop, length-take, length-take-le, map, max, min, nat_eq, nat_lt, not, refl, replicate, rules, subst, suc, sym, take, take-add, take_all, true, vec_len, zero, ℕ, ◌&&◌, ◌*◌, ◌++◌, ◌+◌, ◌-◌, ◌<◌, ◌==◌, ◌^◌, ◌||◌, ◌∙◌, ◌∷◌, ◌≡◌, ◌≢◌, ◌≤◌, ◌⊎◌}
 pub use Rattle.std.proofs.Math.Bool.{and-false, and-true, and_assoc, and_comm, or-false, or_assoc, or_comm}
 pub use Rattle.std.proofs.Math.ListN.{set}
 pub use Rattle.std.proofs.Math.Nat.{add-mul, suc-mul}

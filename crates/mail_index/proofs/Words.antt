@@ -9,14 +9,13 @@ pub use Rattle.std.proofs.lemmas.Bool.Decides.{Decides-eqb, Decides-like, nat_te
 pub use Rattle.std.proofs.lemmas.Cmp.{nat_list_cmp_total, ranked}
 pub use Rattle.std.proofs.lemmas.Grind.{common_steps, flat_map-append}
 pub use Rattle.std.proofs.lemmas.Int.{of_z-to_z, to_z-of_z}
-pub use Rattle.std.proofs.lemmas.List.{drop-append-le, drop-map, drop-take, drop_at, drop_more, get_or-append-add, get_or-append_right, get_or-drop, get_or-map, get_or-set_other, get_or-set_same, get_or-take, get_or_append_left, get_or_past, length-map, length-set, length-take, map-append, map-set, set-get_or, take-append-drop, take-append-le, take-map, take_rest}
+pub use Rattle.std.proofs.lemmas.List.{drop-append-le, drop-map, drop-take, drop_at, drop_more, get_or-append-add, get_or-append_right, get_or-drop, get_or-map, get_or-set_other, get_or-set_same, get_or-take, get_or_append_left, get_or_past, length-map, length-set, length-take, map-append, map-set, set-get_or, take-append-drop, take-append-le, take-map}
 pub use Rattle.std.proofs.lemmas.List.Edits.{insert-append_left, insert-append_right, length-insert}
 pub use Rattle.std.proofs.lemmas.List.Sums.{fold-append}
 pub use Rattle.std.proofs.lemmas.Map.Keys.{Less-from_sorted}
 pub use Rattle.std.proofs.lemmas.Map.Text.{is_eq-slice_cmp}
 pub use Rattle.std.proofs.lemmas.Nat.{be_bytes_4, be_bytes_8, from_be_bytes-to_be_bytes_4, from_be_bytes-to_be_bytes_8}
 pub use Rattle.std.proofs.lemmas.Slice.Eq.{bytes_eq-Decides, slice_eq-Decides}
-pub use Rattle.std.specs.Bool.{Decides}
 pub use Rattle.std.specs.Cmp.{nat_cmp_is}
 pub use Rattle.std.specs.Cmp.Lexicographic.{slice_cmp}
 pub use Rattle.std.specs.Global.{Global}
@@ -26,7 +25,7 @@ pub use Rattle.std.specs.List.{AllByRecursion, concat, filter, insert, starts_wi
 unfoldable pub use Rattle.std.specs.List.Sorted.{IsStrictlySortedBy}
 pub use Rattle.std.specs.Option.{option_map}
 pub use Rattle.std.specs.Ordering.{MatchOrdering, is_eq, is_lt, match_ordering, ordering_index, ordering_reverse, ordering_then}
-pub use Rattle.std.specs.Prelude.{IsTrue, bytes_eq, is_some, slice_range, unwrap_or, ◌⊎◌}
+pub use Rattle.std.specs.Prelude.{bytes_eq, is_some, slice_range, unwrap_or, ◌⊎◌}
 pub use Rattle.std.specs.declared.cmp.Ordering.{Ordering}
 pub use Rattle.std.specs.declared.cmp.Ordering.TheVariants.{Equal, Greater, Less}
 pub use Rattle.mail_index.specs.Builders.{Draft, IsBetweenArchives, IsInMessage, IsNextMessage, added, archive_count, end_of, with_pair}
@@ -54,5 +53,5 @@ pub use Rattle.mail_index.specs.Steps.{add_steps}
 pub use Rattle.mail_index.specs.Tables.{AllNext, Archive, Follows, IsArchive, IsKey, IsMessage, IsPath, IsWellFormed, Key, KeyBefore, RisesFrom, Table, archive_length}
 pub use Rattle.mail_index.specs.Versions.{IsDigest, IsVersion, behind_digest, digest_length, last_kind, newest, read_digest, version_number}
 pub use Rattle.mail_index.specs.declared.kind.Kind.{Kind}
-pub use Rattle.mail_index.specs.declared.kind.Kind.TheVariants.{LinkId, OwnId, Text}
+pub use Rattle.mail_index.specs.declared.kind.Kind.TheVariants.{LinkId, Text}
 pub use Rattle.mail_index.specs.declared.record.Record.{Record}

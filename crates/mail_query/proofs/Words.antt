@@ -2,10 +2,10 @@
 pub use Rattle.contract_words.proofs.Collecting.{if_some_map, with_front-append, with_front-nil}
 pub use Rattle.contract_words.specs.Answers.{Gives, fault_as, with_front, ◌>>=◌}
 pub use Rattle.mail_dates.specs.declared.range.Range.{Range}
-pub use Rattle.mail_query.specs.BooleanFaults.{close_fault, deep_fault, end_fault, err_of, fields_before, first_fault, first_fault_from, first_some, is_not, is_wanted, needs_operator, open_count, operator_fault, parts_fault, term_fault, token_fault, waiting_count}
+pub use Rattle.mail_query.specs.BooleanFaults.{close_fault, deep_fault, end_fault, err_of, fields_before, first_fault, first_fault_from, first_some, is_not, is_wanted, needs_operator, open_count, operator_fault, term_fault, token_fault, waiting_count}
 pub use Rattle.mail_query.specs.BooleanGrammar.{Beside, ByAnd, ByOr, Chain, Group, Item, Last, Leaf, Link, NotOf, Reads, Then, chain_queries, chain_tokens, into_first, is_fine_chain, is_fine_item, item_query, item_tokens, link_tokens, linked, plain_prefix, query_or_any, seen_behind, term_prefix, tree_query}
 pub use Rattle.mail_query.specs.BooleanReading.{ForClose, ForNot, Level, State, Waiting, closed, cut_term_step, deeper, each_ended, empty_level, ended, has_open, is_negated, joined, level_query, noted, parted, parts_step, placed, popped, run_ended, run_from, start, step, term_step, tokens_query, with_member}
-pub use Rattle.mail_query.specs.BooleanTerms.{Parts, cut_query, field_query, has_field, id_query, is_phrase, no_fields, parts_of, parts_query, piece_query, with_field, word_query}
+pub use Rattle.mail_query.specs.BooleanTerms.{Parts, cut_query, has_field, is_phrase, no_fields, parts_of, parts_query, with_field, word_query}
 pub use Rattle.mail_query.specs.FlagGrammar.{AreFlags, EachFlag, IsFlags, NoFlag}
 pub use Rattle.mail_query.specs.Flags.{flag_of, flags_behind, some_of, with_flag}
 unfoldable pub use Rattle.mail_query.specs.Flags.{flags_of}
@@ -14,10 +14,10 @@ pub use Rattle.mail_query.specs.Inside.Shown.{blank_count, nearest_first, run_le
 pub use Rattle.mail_query.specs.Kinds.{no_kinds, union}
 pub use Rattle.mail_query.specs.Lexicon.{Lexicon}
 pub use Rattle.mail_query.specs.Mail.{mail_lexicon, mairix_query, pattern_lexicon}
-pub use Rattle.mail_query.specs.Mairix.{Forms, all_query, atom_query, date_query, each_read, flags_query, found_query, id_forms, is_approximate, is_id, is_sign, kinds_of, kinds_of_letter, kinds_with, marked_query, part_query, pattern_query, patterns_from, patterns_query, plain_kinds, prefix_query, prefixed_query, rest_query, term_query, word_forms}
+pub use Rattle.mail_query.specs.Mairix.{Forms, all_query, atom_query, each_read, flags_query, found_query, id_forms, is_approximate, is_id, is_sign, kinds_of, kinds_of_letter, kinds_with, marked_query, part_query, pattern_query, patterns_from, patterns_query, plain_kinds, prefix_query, prefixed_query, rest_query, term_query, word_forms}
 pub use Rattle.mail_query.specs.MairixFaults.{AsksApproximately, Behind, Digits, HasNoDate, HasNoFlags, HasNoForm, HasNoPrefix, HasNoSize, HasNone, InAll, InId, InPattern, InPlain, InTerm, InUnwanted, InWanted, InWords, IsAllFault, IsApproximate, IsAtomFault, IsFirstFault, IsFirstOf, IsPatternFault, IsPatternPrefix, IsRestFault, IsTermFault, OfKinds}
 pub use Rattle.mail_query.specs.MairixGrammar.{Alone, AndAlso, AreLetters, ArePatterns, AskNothing, Before, EachPattern, EachTerm, FrontOfWord, HasNoSigns, InKinds, IsAll, IsAsked, IsAtom, IsPattern, IsRest, IsTerm, OfDate, OfFlags, OfId, OfSize, Only, PartOfWord, Plain, Separated, SomeAll, Unwanted, Wanted, WholeWord, is_among, kinds_named}
-pub use Rattle.mail_query.specs.Pieces.{cut, is_byte, is_nonempty, without_angles, without_first, without_last}
+pub use Rattle.mail_query.specs.Pieces.{cut, is_byte, is_nonempty, without_first, without_last}
 pub use Rattle.mail_query.specs.Query.{Any, Date, Either, End, HasFlag, More, Not, Part, Prefix, Queries, Query, Size, Word, all_of, deepest, depth, either_of, have_names, kinds_inside, kinds_sought, members_of, queries_of, query_of, uses_names}
 pub use Rattle.mail_query.specs.Refusals.{kind_refusal, numbered, query_refusal}
 pub use Rattle.mail_query.specs.SizeGrammar.{Between, FromSize, FromZero, InBytes, InUnits, IsHigh, IsLow, IsNumber, IsSize, IsSizes, ToSize, Unbounded}
@@ -30,7 +30,7 @@ pub use Rattle.mail_query.specs.declared.boolean.field.Field.{Field}
 pub use Rattle.mail_query.specs.declared.boolean.field.Fields.{Fields}
 pub use Rattle.mail_query.specs.declared.fault.QueryFault.{QueryFault}
 pub use Rattle.mail_query.specs.declared.fault.QueryFaultKind.{QueryFaultKind}
-pub use Rattle.mail_query.specs.declared.fault.QueryFaultKind.TheVariants.{Approximate, BadDate, BadFlag, BadParenthesis, BadPrefix, BadSize, BadWord, MissingTerm, NeedsOperator, NoPattern, OutOfMemory, Phrase, TooDeep}
+pub use Rattle.mail_query.specs.declared.fault.QueryFaultKind.TheVariants.{Approximate, BadDate, BadFlag, BadParenthesis, BadPrefix, BadSize, BadWord, MissingTerm, NeedsOperator, NoPattern, Phrase, TooDeep}
 pub use Rattle.mail_query.specs.declared.kinds.Kinds.{Kinds}
 pub use Rattle.mail_words.specs.declared.flags.Flag.{Flag}
 pub use Rattle.mail_words.specs.declared.flags.Flag.TheVariants.{Flagged, Replied, Seen}
@@ -53,4 +53,4 @@ pub use Rattle.std.specs.List.{All, IsLastAndRest, join_with_byte, list_all, lis
 pub use Rattle.std.specs.Option.{option_copied, option_or}
 pub use Rattle.std.specs.Prelude.{bytes_eq, codes, if◌then◌else◌, is_none, is_ok, nat_le, ok_or, option_and_then, slice_get, ◌==◌, ◌↔◌, ◌⊎◌}
 pub use Rattle.std.specs.Result.{MatchResult, result_ok}
-pub use Rattle.std.specs.Str.{NoCharPasses, NonePass, str_eq_ignore_ascii_case, str_to_ascii_lowercase}
+pub use Rattle.std.specs.Str.{NoCharPasses, NonePass, str_to_ascii_lowercase}

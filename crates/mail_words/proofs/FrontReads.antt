@@ -45,7 +45,3 @@ front_read-stop p text len rest c rest' h parts stops =
 
 pub front_read-end : (p : ℕ → Bool) (text : List ℕ) (len : ℕ) (rest : List ℕ) → FrontRead p text len rest → length rest ≡ 0 → len ≡ length (encode_utf8_all (front p (chars text)))
 front_read-end p text len rest h none = omega (arith, h.whole, ap (λ cs. length (encode_utf8_all (front p cs))) (no_chars rest none))
-
-pub front_read-within : (p : ℕ → Bool) (text : List ℕ) (len : ℕ) (rest : List ℕ) (c : ℕ) (rest' : List ℕ) → FrontRead p text len rest → rest ≡ encode_utf8 c ++ rest'
-    → len + len_utf8 c ≤ length text
-front_read-within p text len rest c rest' h parts = omega (arith, (is_read-step text len rest c rest' h.read parts).lengths)

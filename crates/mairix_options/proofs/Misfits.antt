@@ -1,5 +1,5 @@
 -- The first line that a base makes no path.
-use Rattle.mairix_options.proofs.Words.{◌≡◌, ℕ, ◌+◌, ◌<◌, suc, true, false, List, [], ◌∷◌, ◌++◌, Option, None, Some, Err, map, length, take, drop, get_or, drop-cons, add-one, sym, ap, ◌∙◌, arith, list_all, filter_map, take_more, flat_map_more, ◌>>=◌, is_path, archive_path, archives_misfit, first_misfit, all_fit, all_paths, rc_fitting, rc_with, MailFormat, BadLine, ArchivesLine, MfolderLine}
+use Rattle.mairix_options.proofs.Words.{◌≡◌, ℕ, ◌+◌, ◌<◌, suc, true, List, [], ◌∷◌, ◌++◌, Option, Some, Err, map, length, drop, get_or, drop-cons, add-one, sym, ap, ◌∙◌, arith, list_all, filter_map, ◌>>=◌, is_path, archive_path, archives_misfit, first_misfit, all_fit, rc_fitting, rc_with, MailFormat, BadLine, ArchivesLine, MfolderLine}
 use Rattle.std.specs.List.{slice_get}
 
 -- ---- the lines of archives
@@ -16,22 +16,8 @@ module _ (base : Option (List ℕ)) where
     pub fits : list_all is_path (map (archive_path base) line.names) ≡ true → first (drop i archives) ≡ first (drop (i + 1) archives)
     fits fit = grind (arith, from-here)
 
-    -- one that doesn't
-    pub misfits : list_all is_path (map (archive_path base) line.names) ≡ false → first (drop i archives) ≡ Some line.number
-    misfits misfit = grind (arith, from-here)
-
-    -- the paths of one more line
-    pub more-paths : all_paths base (take (i + 1) archives) ≡ all_paths base (take i archives) ++ map (archive_path base) line.names
-    more-paths =
-        ap (all_paths base) (take_more archives i line below)
-        ∙ sym (flat_map_more (λ l. map (archive_path base) l.names) [] (take i archives) (get_or archives i line))
-        ∙ ap (λ l. all_paths base (take i archives) ++ map (archive_path base) l.names) (sym is)
-
 -- ---- the whole
 
 module _ (base : Option (List ℕ)) (archives : List ArchivesLine) (database : Option (List ℕ)) (mfolder : Option MfolderLine) (format : Option MailFormat) where
   pub rc-misfits : (n : ℕ) → first_misfit base archives mfolder ≡ Some n → rc_with base archives database mfolder format ≡ Err (BadLine n)
   rc-misfits n is = ap (λ (o : Option ℕ). all_fit o >>= (λ _. rc_fitting base archives database mfolder format)) is
-
-  pub rc-fits : first_misfit base archives mfolder ≡ None → rc_with base archives database mfolder format ≡ rc_fitting base archives database mfolder format
-  rc-fits is = ap (λ (o : Option ℕ). all_fit o >>= (λ _. rc_fitting base archives database mfolder format)) is

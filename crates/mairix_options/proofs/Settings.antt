@@ -1,5 +1,5 @@
 -- What one more setting says.
-use Rattle.mairix_options.proofs.Words.{◌≡◌, ℕ, ◌+◌, List, [], ◌∷◌, ◌++◌, Option, Some, None, Result, Ok, Err, IfSome, refl, sym, ap, ◌∙◌, arith, filter_map, last_or, filter_map-append, ◌>>=◌, if_some_map, line_settings, base_in, archives_in, database_in, mfolder_in, format_in, last_of, settings_from, ArchivesLine, MailFormat, MfolderLine, RcFault, Setting}
+use Rattle.mairix_options.proofs.Words.{◌≡◌, ℕ, ◌+◌, List, [], ◌∷◌, ◌++◌, Option, Some, None, Result, Ok, refl, sym, ap, ◌∙◌, arith, filter_map, last_or, filter_map-append, ◌>>=◌, line_settings, base_in, archives_in, database_in, mfolder_in, format_in, last_of, settings_from, ArchivesLine, MailFormat, MfolderLine, RcFault, Setting}
 
 last_or-append : {X : Type 0} (o : Option X) (xs ys : List X) → last_or o (xs ++ ys) ≡ last_or (last_or o xs) ys
 last_or-append o [] ys = refl
@@ -25,10 +25,6 @@ module _ (before : List Setting) (base : Option (List ℕ)) (n : ℕ) (line : Li
   -- a line that says something, or nothing
   pub settings-more : (said : List Setting) → line_settings base n line ≡ Ok said → settings_from (before ++ said) (n + 1) lines ≡ all
   settings-more said is = here (Ok said) is
-
-  -- a line that is refused
-  pub settings-refused : (o : Option RcFault) → IfSome o (λ f. line_settings base n line ≡ Err f) → IfSome o (λ f. all ≡ Err f)
-  settings-refused o refused = if_some_map o (λ f. line_settings base n line ≡ Err f) (λ f. all ≡ Err f) (λ f is. sym (here (Err f) is)) refused
 
 -- ---- option by option
 

@@ -1,5 +1,5 @@
 -- The steps of a cutter where it may be known what comes.
-use Rattle.mbox_cutter.proofs.Words.{◌≡◌, ℕ, ◌+◌, ◌<◌, List, Option, Some, IfSome, take, arith, option_map, CutFault, ArchiveTooLong, Phase, Between, first_length, ArchiveEvent, Coming, coming_of, Takes, TakesKnown, Refuses, CutterPlace, FailsFirst, coming_at, resume}
+use Rattle.mbox_cutter.proofs.Words.{◌≡◌, ℕ, ◌+◌, ◌<◌, List, Option, Some, IfSome, take, arith, option_map, CutFault, ArchiveTooLong, Phase, Between, first_length, ArchiveEvent, coming_of, Takes, TakesKnown, Refuses, CutterPlace, FailsFirst, coming_at, resume}
 use Rattle.mbox_cutter.proofs.Steps.{resume-beginning}
 
 -- ---- facts of known values

@@ -1,5 +1,5 @@
 -- What the calls of a step make of a scan, and each way that a step ends.
-use Rattle.mbox_cutter.proofs.Words.{◌≡◌, ℕ, ◌+◌, ◌-◌, ◌<◌, ◌≤◌, Bool, true, false, List, Option, Some, Result, Ok, Err, IfSome, IfOk, length, take, drop, ap, sym, ◌∙◌, subst, arith, IsAtEnd, length-take-le, Ghosts, CutFault, Device, NotAnMbox, ArchiveTooLong, Phase, Between, Inside, Ended, first_length, is_empty, IsLine, is_separator, ArchiveEvent, Line, Coming, Answers, Refuses, Takes, is_device, CutterPlace, Moves, Nears, ReadsAll, HasLine, known, ReadsOn, resume, closes_at, coming, place_of, told_at, IsPlace, IsWithin, IsScan, IsFresh, FailsFirst, FindsLine, Passes, Steps}
+use Rattle.mbox_cutter.proofs.Words.{◌≡◌, ℕ, ◌+◌, ◌-◌, ◌<◌, ◌≤◌, Bool, true, false, List, Option, Some, Result, Ok, Err, IfSome, IfOk, length, take, drop, ap, sym, ◌∙◌, subst, arith, IsAtEnd, length-take-le, Ghosts, CutFault, Device, NotAnMbox, ArchiveTooLong, Phase, Between, Inside, Ended, first_length, is_empty, IsLine, is_separator, Line, Refuses, Takes, is_device, CutterPlace, Moves, HasLine, known, ReadsOn, resume, closes_at, coming, place_of, told_at, IsPlace, IsWithin, IsScan, IsFresh, FindsLine, Passes, Steps}
 use Rattle.mbox_cutter.specs.declared.scan.Scan.{Scan}
 use Rattle.mbox_cutter.specs.declared.scan.Step.{Step}
 use Rattle.mbox_cutter.specs.declared.scan.Step.TheVariants as step

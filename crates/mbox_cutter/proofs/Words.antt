@@ -2,7 +2,7 @@
 pub use Rattle.contract_words.specs.Devices.{Counted}
 pub use Rattle.mbox_cutter.specs.Archives.{Message, cut, grouped, is_refused, marked, messages_from, size, span_length, total, without_closing}
 unfoldable pub use Rattle.mbox_cutter.specs.Archives.{messages}
-pub use Rattle.mbox_cutter.specs.Coming.{Answers, Refuses, Takes, TakesKnown, is_device}
+pub use Rattle.mbox_cutter.specs.Coming.{Refuses, Takes, TakesKnown, is_device}
 pub use Rattle.mbox_cutter.specs.Events.{ArchiveEvent, Coming, Done, End, Line, Start, coming_of, first_full_end, told}
 unfoldable pub use Rattle.mbox_cutter.specs.Events.{events, refusal_of}
 pub use Rattle.mbox_cutter.specs.Inside.Ahead.{Ahead, Extends, ReadsBehind, ReadsOn, known}
@@ -11,7 +11,7 @@ unfoldable pub use Rattle.mbox_cutter.specs.Inside.Resume.{resume}
 pub use Rattle.mbox_cutter.specs.Inside.Scan.{FailsFirst, FindsLine, IsFresh, IsPlace, IsScan, IsWithin, Passes, Steps, closes_at, coming, place_of, told_at}
 pub use Rattle.mbox_cutter.specs.Lines.{AreCut, AreLines, IsLine, first_lines, length_before_feed}
 unfoldable pub use Rattle.mbox_cutter.specs.Lines.{first_length, is_empty, line_end_of, lines}
-pub use Rattle.mbox_cutter.specs.Places.{CutterPlace, HasLine, Moves, Nears, ReadsAll}
+pub use Rattle.mbox_cutter.specs.Places.{CutterPlace, HasLine, Moves}
 pub use Rattle.mbox_cutter.specs.Separators.{has_time_then_year, is_time, is_year, stands_for, tokens}
 unfoldable pub use Rattle.mbox_cutter.specs.Separators.{has_form, is_separator, without_break}
 pub use Rattle.mbox_cutter.specs.declared.device.Source.{Ghosts}

@@ -16,7 +16,6 @@ mod RowsParts
 mod RowsLimits
 mod RowsNames
 mod FrameLemmas
-mod NameLemmas
 mod GivingLemmas
 mod StepLemmas
 mod PassingLemmas

@@ -1,5 +1,5 @@
 -- What comes of a reader's calls.
-use Rattle.mime_text.proofs.Words.{◌≡◌, ◌∙◌, ◌++◌, ℕ, Bool, true, false, List, [], ◌∷◌, Option, Some, None, refl, sym, ap, subst, append_assoc, arith, if◌then◌else◌, Result, Ok, Err, OnOk, is_empty, HeaderField, fields_of, HasLines, taken_of, has_empty, More, Ended, TextKind, SinkFault, TextFault, OutOfMemory, DefaultType, TextPlain, Frame, State, PartReader, Pair, Coming, Gave, Broke, Hands, shape_of, facts_of, pairs_to_come, StreamPlace, Skip, InHeader, InLeaf, hit, Nest, lead_to, texts_of_message, Passed, Stopped, Passes, IsOver, given_from, header_texts, ending, given_behind, given_after, ComesAt, Comes, ComesBehindHeader, ComesEndingAt, ComesEnding, KnowsAt, KnowsFacts, Notes}
+use Rattle.mime_text.proofs.Words.{◌≡◌, ◌∙◌, ◌++◌, ℕ, Bool, true, false, List, [], ◌∷◌, Option, Some, None, refl, sym, ap, subst, append_assoc, arith, if◌then◌else◌, Result, Ok, Err, is_empty, HeaderField, fields_of, HasLines, taken_of, has_empty, More, Ended, TextKind, SinkFault, TextFault, OutOfMemory, DefaultType, TextPlain, Frame, State, PartReader, Pair, Coming, Gave, Broke, Hands, shape_of, facts_of, pairs_to_come, StreamPlace, Skip, InHeader, InLeaf, hit, Nest, lead_to, texts_of_message, Passed, Stopped, Passes, IsOver, given_from, header_texts, ending, given_behind, given_after, ComesAt, Comes, ComesBehindHeader, ComesEndingAt, ComesEnding, KnowsAt, KnowsFacts, Notes}
 use Rattle.std.proofs.lemmas.List.{append-nil}
 use Rattle.header_text.specs.declared.header.Header.{Header}
 use Rattle.mime_text.specs.declared.header.facts.Facts.{Facts}

@@ -1,5 +1,5 @@
 -- Ids by place are those of the texts up to each `>`.
-use Rattle.header_text.proofs.Words.{◌≡◌, ◌∙◌, ◌++◌, ◌&&◌, ◌==◌, ℕ, Bool, true, false, cond, List, [], ◌∷◌, Option, Some, None, refl, sym, ap, ap₂, append_assoc, append-nil, inl, inr, ◌⊎◌, nat_lt, arith, list_all, map-append, filter-append, filter_map-append, eqb-true, open_sign, close_sign, begins_with, is_inside_id, is_id, kept_ids, ids_of, onto_first, closed_texts, after_last_open, ids_in}
+use Rattle.header_text.proofs.Words.{◌≡◌, ◌∙◌, ◌++◌, ◌&&◌, ◌==◌, ℕ, Bool, true, false, cond, List, [], ◌∷◌, Option, Some, None, refl, sym, ap, ap₂, append_assoc, append-nil, inl, inr, ◌⊎◌, nat_lt, arith, list_all, map-append, filter-append, filter_map-append, eqb-true, open_sign, close_sign, begins_with, is_inside_id, is_id, kept_ids, ids_of, closed_texts, after_last_open, ids_in}
 use Rattle.std.proofs.lemmas.List.Folds.{list_all-append}
 use Rattle.contract_words.proofs.RangePlaces.{seen_on, seen_from, if_passes, seen_behind-places}
 use Rattle.header_text.proofs.CutLemmas.{Lacks}
@@ -179,9 +179,6 @@ onto_text front (text ∷ texts) = (front ++ text) ∷ texts
 
 onto_text-nil : (texts : List (List ℕ)) → onto_text [] texts ≡ texts
 onto_text-nil texts = grind arith
-
-onto_text-byte : (front : List ℕ) (b : ℕ) (texts : List (List ℕ)) → onto_text (front ++ b ∷ []) texts ≡ onto_text front (onto_first b texts)
-onto_text-byte front b texts = grind (arith, append_assoc)
 
 lacks_more : (front : List ℕ) (b : ℕ) → Lacks close_sign front → (b == close_sign) ≡ false → Lacks close_sign (front ++ b ∷ [])
 lacks_more [] b free e = (e, tt)

@@ -1,5 +1,5 @@
 -- The text of a value, word by word.
-use Rattle.header_text.proofs.Words.{◌≡◌, ◌++◌, ℕ, Bool, true, false, List, refl, append_assoc, arith, if◌then◌else◌, WordAfter, Pieces, pieces, word_text, plain_text, text_between, later_words_text, words_text, decoded, no_word, word_first}
+use Rattle.header_text.proofs.Words.{◌≡◌, ◌++◌, ℕ, Bool, true, false, List, refl, append_assoc, arith, if◌then◌else◌, WordAfter, Pieces, pieces, word_text, plain_text, text_between, later_words_text, words_text, decoded, word_first}
 
 -- the text of words that follow one, or don't
 abbrev pub words_behind : Bool → List WordAfter → List ℕ
@@ -11,9 +11,6 @@ decoded-start value = refl
 
 abbrev pub rest_text : Bool → Pieces → List ℕ
 rest_text follows p = words_behind follows p.words ++ plain_text p.rest
-
-regroup : (old b text ws plain : List ℕ) → ((old ++ b) ++ text) ++ (ws ++ plain) ≡ old ++ ((b ++ (text ++ ws)) ++ plain)
-regroup old b text ws plain = simp append_assoc
 
 -- one word more
 pub decoded-step : (follows : Bool) (w : WordAfter) (p : Pieces) (later old new newer : List ℕ) → p ≡ word_first w later

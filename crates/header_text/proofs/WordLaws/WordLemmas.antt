@@ -157,9 +157,6 @@ pub record Seen (value rest : List ℕ) : Type 0 where
   pub joined : value ≡ seen ++ rest
   pub found : pieces value ≡ in_front seen (pieces rest)
 
-pub seen-start : (value : List ℕ) → Seen value value
-seen-start value = record { seen = []; joined = refl; found = sym (in_front-nil (pieces value)) }
-
 -- an `=` at which none begins
 pub seen-more : (value rest plain behind : List ℕ) → Seen value rest → IsCut equals_sign rest plain behind → word_and_later behind ≡ None → Seen value behind
 seen-more value rest plain behind s cut e =

@@ -22,9 +22,6 @@ any-of o = grind arith
 abbrev IsOffset : ℤ → Type 0
 IsOffset z = IsWithin 86400 z
 
-offset_size-small : (digits : List ℕ) → IfSome (offset_size digits) (λ n. n ≤ 86400)
-offset_size-small digits = grind (arith, bound, any-of, and_parts, leb-true)
-
 east : (o : Option ℕ) → IfSome o (λ n. n ≤ 86400) → IfSome (option_map pos o) IsOffset
 east o h = grind (arith, signed_arith)
 

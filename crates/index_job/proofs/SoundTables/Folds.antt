@@ -100,10 +100,6 @@ ranges-fold : (cs : List ℕ) (rs : List (ℕ × ℕ)) → AllByRecursion HasWor
 ranges-fold cs [] all = tt
 ranges-fold cs (r ∷ rs) all = (word-folds (slice_range cs r.0 r.1) all.0, ranges-fold cs rs all.1)
 
-words-range : (text : List ℕ) → words text ≡ map (range_bytes (chars text)) (word_ranges text)
-unfolding words
-words-range text = refl
-
 pub words-fold : (text : List ℕ) → AllByRecursion (λ w. IsKeyText (folding w)) (words text)
 unfolding words
 words-fold text = ranges-fold (chars text) (word_ranges text) (recursion_from_All HasWordLength (words text) (all-words text))

@@ -1,5 +1,5 @@
 -- Laws of archives that are asked for their lengths in order.
-use Rattle.mail_answer.proofs.Words.{◌≡◌, ℕ, ◌+◌, ◌<◌, Bool, true, false, ◌==◌, List, [], ◌∷◌, ◌++◌, map, length, length-take, take, take-add, drop, drop-cons, Option, IfSome, Result, Ok, Err, OnErr, refl, ap, sym, ◌∙◌, subst, arith, eqb-true, length-map, map-append, DeviceFault, Archive, archive_at, TellLengths, indexed_lengths, Agree, AsksUpTo, FindsLengths, Ghosts, AnswerFaultKind, Device}
+use Rattle.mail_answer.proofs.Words.{◌≡◌, ℕ, ◌+◌, ◌<◌, Bool, true, false, ◌==◌, List, [], ◌∷◌, ◌++◌, map, length, length-take, take, take-add, drop, drop-cons, Option, IfSome, Ok, ap, sym, ◌∙◌, subst, arith, eqb-true, length-map, map-append, Archive, archive_at, TellLengths, indexed_lengths, Agree, Ghosts}
 use Rattle.std.proofs.lemmas.Bool.{eq-eqb}
 
 -- one archive more was asked
@@ -11,12 +11,6 @@ tell_more {A} g n (k ∷ lengths) l old before new told m =
 
 map_one_more : {X : Type 0} (f : X → ℕ) (xs : List X) (n : ℕ) (x : X) (rest : List X) → drop n xs ≡ x ∷ rest → map f (take (n + 1) xs) ≡ map f (take n xs) ++ f x ∷ []
 map_one_more {X} f xs n x rest e = ap (map f) (take-add n 1 xs ∙ ap (λ ys. take n xs ++ take 1 ys) e) ∙ map-append f (take n xs) (x ∷ [])
-
-none_known : (held : Option (List (List ℕ))) (named : List Archive) → IfSome held (λ archives. map length (take 0 archives) ≡ indexed_lengths (take 0 named))
-none_known held named = grind arith
-
-pub none_asked : {A : Type 0} (g : Ghosts A) (named : List Archive) (a : A) → Agree g named 0 a a
-none_asked g named a = record { told = refl; known = none_known (g.held a) named }
 
 known_more : (held : Option (List (List ℕ))) (named : List Archive) (n number : ℕ) (a : Archive) (rest : List Archive) (same : Bool) → n < number → drop n named ≡ a ∷ rest
     → IfSome held (λ archives. length archives ≡ number) → IfSome held (λ archives. same ≡ (length (archive_at archives n) == a.length)) → same ≡ true
@@ -40,14 +34,5 @@ agree_more {A} g named n number a rest told same old before new h as_many e coun
 -- another length was told
 pub other_told : (told indexed : ℕ) (same : Bool) → same ≡ (told == indexed) → same ≡ false → told ≡ indexed → ⊥
 other_told told indexed same asked fails e = absurd (cc (sym fails ∙ asked ∙ eq-eqb told indexed e))
-
--- a call that failed
-pub failure_found : {A T : Type 0} (g : Ghosts A) (named : List Archive) (n : ℕ) (fault : DeviceFault) (old new : A) (r : Result T AnswerFaultKind) (kind : AnswerFaultKind) → r ≡ Err kind → kind ≡ Device
-    → AsksUpTo g named n (Err fault) old new → FindsLengths g named old new r
-failure_found {A} {T} g named n fault old new r kind e d last = subst (λ (s : Result T AnswerFaultKind). FindsLengths g named old new s) (sym (e ∙ ap Err d)) (n, fault, last)
-
--- no archive is left
-pub all_agree : {A : Type 0} (g : Ghosts A) (named : List Archive) (n : ℕ) (old new : A) → n ≡ length named → Agree g named n old new → Agree g named (length named) old new
-all_agree g named n old new e so_far = subst (λ (k : ℕ). Agree g named k old new) e so_far
 
 -- what holds of any error

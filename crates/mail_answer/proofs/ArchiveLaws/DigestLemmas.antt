@@ -1,5 +1,5 @@
 -- Laws of digests that are taken of archives piece by piece.
-use Rattle.mail_answer.proofs.Words.{◌≡◌, ℕ, ◌+◌, ◌<◌, List, [], ◌∷◌, ◌++◌, append-nil, length, length-append, length-drop, length-take, take, take-add, take_all, Option, None, Some, IfSome, Result, Ok, refl, ap, ap₂, sym, ◌∙◌, le-leb, subst, arith, lt-leb, concat-append, concat, DeviceFault, sha256, archive_at, IsRead, front_digest, AbsorbsPart, ReadsDigest, TellPieces, ReadsFront, StopsWithin, Ghosts}
+use Rattle.mail_answer.proofs.Words.{◌≡◌, ℕ, ◌+◌, ◌<◌, List, [], ◌∷◌, ◌++◌, append-nil, length, length-append, take, take-add, take_all, Option, Some, IfSome, Ok, ap, ap₂, sym, ◌∙◌, le-leb, subst, arith, concat-append, concat, sha256, archive_at, IsRead, front_digest, AbsorbsPart, ReadsDigest, TellPieces, ReadsFront, Ghosts}
 use Rattle.sha2.specs.Hashers.{Holds256}
 use Rattle.sha2.specs.declared.Sha256.{Sha256}
 
@@ -9,10 +9,6 @@ pub record AbsorbedTo {A : Type 0} (g : Ghosts A) (archive at : ℕ) (first now 
   pub number : length bytes ≡ at
   pub holds : Holds256 h bytes
   pub read : ReadsFront g archive bytes first now
-
-length-zero : (bytes : List ℕ) → length bytes ≡ 0 → bytes ≡ []
-length-zero [] e = refl
-length-zero (b ∷ bytes) e = absurd (omega arith)
 
 more_in_front : (held : Option (List (List ℕ))) (archive at count : ℕ) (bytes more : List ℕ) → length more ≡ count → IfSome held (λ archives. bytes ≡ take at (archive_at archives archive))
     → IsRead archive at more held → IfSome held (λ archives. bytes ++ more ≡ take (at + count) (archive_at archives archive))
@@ -30,9 +26,6 @@ more_pieces {A} g n offset (p ∷ pieces) piece old before new so_far told =
 front_at : (held : Option (List (List ℕ))) (archive at : ℕ) (bytes : List ℕ) → length bytes ≡ at → IfSome held (λ archives. bytes ≡ take (length bytes) (archive_at archives archive))
     → IfSome held (λ archives. bytes ≡ take at (archive_at archives archive))
 front_at held archive at bytes number known = subst (λ (k : ℕ). IfSome held (λ archives. bytes ≡ take k (archive_at archives archive))) number known
-
-pub none_absorbed : {A : Type 0} (g : Ghosts A) (archive : ℕ) (first : A) (h : Sha256) → Holds256 h [] → AbsorbedTo g archive 0 first first h
-none_absorbed g archive first h empty = grind arith
 
 pub more_absorbed : {A : Type 0} (g : Ghosts A) (archive at count : ℕ) (first before now : A) (h k : Sha256) → AbsorbedTo g archive at first before h
     → AbsorbsPart g archive at count (g.held first) before now h k → AbsorbedTo g archive (at + count) first now k
@@ -54,25 +47,6 @@ more_absorbed {A} g archive at count first before now h k so_far next =
         known = subst (λ (n : ℕ). IfSome (g.held first) (λ archives. bytes ≡ take n (archive_at archives archive))) (sym number) front;
       };
     }
-
--- a read behind what was read, which isn't all
-pub ends_within : {A : Type 0} (g : Ghosts A) (archive at count indexed : ℕ) (first before now : A) (h k : Sha256) → AbsorbedTo g archive at first before h → at < indexed
-    → AbsorbsPart g archive at count (g.held first) before now h k → count ≡ 0 → StopsWithin g archive indexed (Ok []) first now
-ends_within {A} g archive at count indexed first before now h k so_far less next none = grind (arith, length-zero)
-
--- an archive with nothing at a place has no more bytes
-pub ends_early : {A : Type 0} (g : Ghosts A) (held : Option (List (List ℕ))) (archive at count indexed : ℕ) (before now : A) (h k : Sha256) → AbsorbsPart g archive at count held before now h k → count ≡ 0 → at < indexed
-    → IfSome held (λ archives. None ≡ front_digest indexed (archive_at archives archive))
-ends_early g None archive at count indexed before now h k next none less = tt
-ends_early g (Some archives) archive at count indexed before now h k next none less = grind (arith, lt-leb, length-drop)
-
-all_in_front : (held : Option (List (List ℕ))) (archive at indexed : ℕ) (bytes digest : List ℕ) → length bytes ≡ at → IfSome held (λ archives. bytes ≡ take at (archive_at archives archive)) → at ≡ indexed
-    → digest ≡ sha256 bytes → IfSome held (λ archives. Some digest ≡ front_digest indexed (archive_at archives archive))
-all_in_front held archive at indexed bytes digest h h2 h3 h4 = grind (arith, length-take, le-leb)
-
-pub all_absorbed : {A : Type 0} (g : Ghosts A) (archive at indexed : ℕ) (first now : A) (h : Sha256) (digest : List ℕ) → AbsorbedTo g archive at first now h → at ≡ indexed
-    → ((m : List ℕ) → Holds256 h m → digest ≡ sha256 m) → IfSome (g.held first) (λ archives. Some digest ≡ front_digest indexed (archive_at archives archive))
-all_absorbed g archive at indexed first now h digest so_far end told = grind (arith, all_in_front, front_at)
 
 -- what was taken into it are as many bytes as were asked for
 pub all_read : {A : Type 0} (g : Ghosts A) (archive at indexed : ℕ) (first now : A) (h : Sha256) (digest : List ℕ) → AbsorbedTo g archive at first now h → at ≡ indexed

@@ -1,5 +1,5 @@
 -- Laws of archives that have changed.
-use Rattle.mail_answer.proofs.Words.{◌≡◌, ℕ, ◌+◌, suc, ◌<◌, ◌≤◌, Bool, true, false, ◌==◌, cond, min, List, [], ◌∷◌, length, length-drop, drop, drop-cons, get_or, Option, None, Some, IfSome, Err, inl, inr, zero, refl, ap, add-one, arith, drop_all, eqb_tells, Archive, Stale, archive_at, first_changed, stale_archive, length_at, TellsStale}
+use Rattle.mail_answer.proofs.Words.{◌≡◌, ℕ, ◌+◌, suc, ◌<◌, ◌≤◌, Bool, true, false, ◌==◌, cond, min, List, [], ◌∷◌, length, length-drop, drop, drop-cons, get_or, Option, None, Some, IfSome, inl, inr, zero, refl, ap, add-one, arith, eqb_tells, Archive, archive_at, first_changed, stale_archive, length_at}
 
 eq_tells : (a b : ℕ) → a ≡ b → (a == b) ≡ true
 eq_tells a b e = elim (eqb_tells a b) [ inl p ↦ p.0 | inr p ↦ absurd (p.1 e) ]
@@ -43,19 +43,6 @@ goes_on named held n number same h h2 h3 h4 h5 h6 = grind (arith, changed_next)
 
 same_count : (named : List Archive) (bytes : List (List ℕ)) → length bytes ≡ length named → stale_archive named bytes ≡ first_changed 0 named bytes
 same_count named bytes e = rw (eq_tells (length bytes) (length named) e) refl
-
-pub stops_here : (named : List Archive) (held : Option (List (List ℕ))) (n number : ℕ) (same : Bool) → n < length named → number ≡ length named
-    → IfSome held (λ bytes. length bytes ≡ number)
-    → IfSome held (λ bytes. first_changed 0 named bytes ≡ first_changed n (drop n named) (drop n bytes))
-    → IfSome held (λ bytes. same ≡ (length (archive_at bytes n) == length_at named n)) → same ≡ false
-    → IfSome held (λ bytes. stale_archive named bytes ≡ Some n)
-stops_here named held n number same h h2 h3 h4 h5 h6 = grind (arith, same_count, changed_next)
-
-pub all_same : (named : List Archive) (held : Option (List (List ℕ))) (n number : ℕ) → length named ≤ n → number ≡ length named
-    → IfSome held (λ bytes. length bytes ≡ number)
-    → IfSome held (λ bytes. first_changed 0 named bytes ≡ first_changed n (drop n named) (drop n bytes))
-    → IfSome held (λ bytes. stale_archive named bytes ≡ None)
-all_same named held n number h h2 h3 h4 = grind (arith, same_count, drop_all)
 
 pub other_count : (named : List Archive) (held : Option (List (List ℕ))) (number : ℕ) → (number ≡ length named → ⊥) → IfSome held (λ bytes. length bytes ≡ number)
     → IfSome held (λ bytes. stale_archive named bytes ≡ Some (min number (length named)))

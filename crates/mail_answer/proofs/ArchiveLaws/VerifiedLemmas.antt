@@ -1,5 +1,5 @@
 -- Laws of archives with other bytes than those that were indexed.
-use Rattle.mail_answer.proofs.Words.{◌≡◌, ℕ, zero, suc, ◌+◌, ◌<◌, ◌≤◌, Bool, true, false, ◌==◌, cond, List, [], ◌∷◌, ◌++◌, map, length, length-take, take, take-add, take_all, drop, drop-cons, Option, None, Some, IfSome, bytes_eq, refl, ap, ap₂, sym, ◌∙◌, subst, add-one, Result, Ok, Err, OnOk, arith, eqb-true, drop_all, length-map, map-append, bytes_eq-Decides, AllByRecursion, option_map_or, option_or, sha256, Archive, IsArchive, archive_length, IsDigest, archive_at, has_front_digest, ComparesDigest, ReadsFront, first_changed, stale_archive, TellsStale, has_digest, first_altered, unverified_archive, AreVerified, TellsFound, ReadEach, AreRead, ReadsUpTo, ReadsOther, FailsWithin, FindsDigests, Ghosts, AnswerFaultKind, Stale, Device, OutOfMemory, OutFailed}
+use Rattle.mail_answer.proofs.Words.{◌≡◌, ℕ, zero, suc, ◌+◌, ◌<◌, ◌≤◌, Bool, true, false, ◌==◌, cond, List, [], ◌∷◌, ◌++◌, map, length, length-take, take, take-add, take_all, drop, drop-cons, Option, None, Some, IfSome, bytes_eq, refl, ap, ap₂, sym, ◌∙◌, subst, add-one, Result, Ok, Err, OnOk, arith, eqb-true, length-map, map-append, bytes_eq-Decides, AllByRecursion, option_map_or, option_or, sha256, Archive, IsArchive, archive_length, archive_at, has_front_digest, ComparesDigest, ReadsFront, first_changed, stale_archive, TellsStale, has_digest, first_altered, unverified_archive, AreVerified, TellsFound, ReadEach, AreRead, FindsDigests, Ghosts, AnswerFaultKind, Stale, Device, OutOfMemory, OutFailed}
 use Rattle.std.proofs.lemmas.Bool.{eq-eqb}
 use Rattle.mail_answer.proofs.ArchiveLaws.DigestLemmas.{whole_digest}
 use Rattle.mail_answer.proofs.ArchiveLaws.IndexedLemmas.{same_number, unchanged_length}
@@ -60,10 +60,6 @@ verified_are named archives h = grind (arith, neither, same_number, lengths_from
 pub are_verified : (named : List Archive) (archives : List (List ℕ)) → AreVerified named archives → unverified_archive named archives ≡ None
 are_verified named archives are = grind (arith, length-map, eq-eqb, from_lengths, from_digests)
 
--- verified archives aren't stale
-pub verified_fresh : (named : List Archive) (archives : List (List ℕ)) → unverified_archive named archives ≡ None → stale_archive named archives ≡ None
-verified_fresh named archives h = (neither (stale_archive named archives) (first_altered 0 named archives) h).0
-
 -- ---- archive after archive
 
 -- nothing was told of the archives from this one on
@@ -114,16 +110,6 @@ stops_at named (Some archives) n a rest indexed same h e fresh so_far told read 
     so_far ∙ ap (λ t. first_altered n t (drop n archives)) e ∙ altered_next n a rest archives (omega (arith, found.0, h))
     ∙ ap (λ b. cond b (first_altered (n + 1) rest (drop (n + 1) archives)) (Some n)) (found.1 ∙ fails)
 
-pub all_unaltered : (named : List Archive) (held : Option (List (List ℕ))) (n : ℕ) → length named ≤ n → UnalteredTo named held n (drop n named)
-    → IfSome held (λ archives. TellsStale {T = Unit {0}} (first_altered 0 named archives) (Ok tt))
-all_unaltered named held n h h2 = grind (arith, drop_all)
-
--- a device that fails tells nothing
-pub nothing_told : {T : Type 0} (named : List Archive) (held : Option (List (List ℕ))) (r : Result T AnswerFaultKind) (kind : AnswerFaultKind) → r ≡ Err kind → kind ≡ Device
-    → IfSome held (λ archives. TellsStale (first_altered 0 named archives) r)
-nothing_told {T} named None r kind e d = tt
-nothing_told {T} named (Some archives) r kind e d = subst (λ (s : Result T AnswerFaultKind). TellsStale (first_altered 0 named archives) s) (sym (e ∙ ap Err d)) tt
-
 -- by digests, where no archive is stale
 pub told_by_digests : {T : Type 0} (named : List Archive) (held : Option (List (List ℕ))) (r : Result T AnswerFaultKind) → IfSome held (λ archives. stale_archive named archives ≡ None)
     → IfSome held (λ archives. TellsStale (first_altered 0 named archives) r) → IfSome held (λ archives. TellsFound named archives r)
@@ -143,9 +129,6 @@ more_each {A} g n [] bytes old before new e front = grind arith
 more_each {A} g n (first ∷ archives) bytes old before new so_far front =
     let behind : n + length (first ∷ archives) ≡ n + 1 + length archives = omega arith in
     (so_far.0, so_far.1, more_each g (n + 1) archives bytes so_far.0 before new so_far.2 (subst (λ (k : ℕ). ReadsFront g k bytes before new) behind front))
-
-pub none_read : {A : Type 0} (g : Ghosts A) (named : List Archive) (a : A) → AreRead g named 0 a a
-none_read g named a = grind arith
 
 whole_known : (named : List Archive) (held : Option (List (List ℕ))) (n : ℕ) (a : Archive) (rest : List Archive) (bytes : List ℕ) (archives : List (List ℕ)) → IfSome held (λ archives. stale_archive named archives ≡ None)
     → n < length named → drop n named ≡ a ∷ rest → length bytes ≡ a.length → IfSome held (λ archives. bytes ≡ take (length bytes) (archive_at archives n)) → IfSome held (λ known. take n known ≡ archives)
@@ -181,12 +164,6 @@ more_read {A} g named n a rest indexed old before new h e fresh kept told read s
 pub all_read : {A : Type 0} (g : Ghosts A) (named : List Archive) (n : ℕ) (old new : A) → n ≡ length named → AreRead g named n old new → AreRead g named (length named) old new
 all_read {A} g named n old new e so_far = subst (λ (k : ℕ). AreRead g named k old new) e so_far
 
--- a read that failed
--- another digest, or an early end
-pub other_read : {A : Type 0} (g : Ghosts A) (named : List Archive) (n : ℕ) (a : Archive) (rest : List Archive) (indexed : List ℕ) (old before new : A) → drop n named ≡ a ∷ rest → a.digest ≡ Some indexed
-    → AreRead g named n old before → ComparesDigest g n a.length indexed before new false → ReadsUpTo g named n (ReadsOther g n) old new
-other_read {A} g named n a rest indexed old before new place told so_far read = grind (arith, bytes_eq)
-
 -- what was read of all of them
 pub read_of_all : {A T : Type 0} (g : Ghosts A) (named : List Archive) (old new : A) (r : Result T AnswerFaultKind) → FindsDigests g named old new r → OnOk r ((read : List (List ℕ)) × AreVerified named read)
 read_of_all {A} {T} g named old new (Ok x) found = (found.archives, subst (λ (front : List Archive). AreVerified front found.archives) (take_all (length named) named (omega arith)) found.verified)
@@ -199,7 +176,3 @@ named_archive version [] zero a rest all e = absurd cc
 named_archive version [] (suc n) a rest all e = absurd cc
 named_archive version (b ∷ named) zero a rest all e = let first : b ≡ a = cc in subst (λ (t : Archive). IsArchive version t) first all.0
 named_archive version (b ∷ named) (suc n) a rest all e = named_archive version named n a rest all.1 e
-
-pub has_some_digest : (version : ℕ) (named : List Archive) (n : ℕ) (a : Archive) (rest : List Archive) → version ≡ 2 → AllByRecursion (IsArchive version) named → drop n named ≡ a ∷ rest
-    → a.digest ≡ None → ⊥
-has_some_digest version named n a rest second all e none = grind (arith, named_archive)

@@ -120,16 +120,9 @@ pub record HaveWalks (t : Table) (all coming : List Query) (ws : List Ahead) (st
   pub most : (digits : ℕ) → length t.keys < 2 ^ digits → steps_new + look_ups_of_all (members_of coming) * digits ≤ steps_old + look_ups_of_all (members_of all) * digits
 
 module _ (t : Table) (all : List Query) (steps0 : ℕ) where
-  pub walks_begin : (ws : List Ahead) → ws ≡ [] → HaveWalks t all all ws steps0 steps0
-  walks_begin ws none = grind arith
-
   pub walks_more : (q : Query) (last coming : List Query) (ws vs : List Ahead) (w : Ahead) (steps1 steps2 : ℕ) → HaveWalks t all last ws steps0 steps1 → last ≡ q ∷ coming → vs ≡ ws ++ w ∷ []
       → Tells t q w.truths → w.left ≤ most_left t q → LooksUp (length t.keys) (look_ups q) steps1 steps2 → HaveWalks t all coming vs steps0 steps2
   walks_more q last coming ws vs w steps1 steps2 given split joined tells left looks = grind (arith, append_assoc, left-append, add-mul)
-
-  pub walks_steps : (q : Query) (last coming : List Query) (ws : List Ahead) (steps1 steps2 : ℕ) → HaveWalks t all last ws steps0 steps1 → last ≡ q ∷ coming
-      → LooksUp (length t.keys) (look_ups q) steps1 steps2 → LooksUp (length t.keys) (look_ups_of_all (members_of all)) steps0 steps2
-  walks_steps q last coming ws steps1 steps2 given split looks = grind (arith, add-mul)
 
   pub walks_told : (last : List Query) (ws : List Ahead) (steps1 : ℕ) → HaveWalks t all last ws steps0 steps1 → last ≡ [] → TellAll t all ws
   walks_told last ws steps1 given none =

@@ -1,5 +1,5 @@
 -- Walks made one, group by group.
-use Rattle.mail_answer.proofs.Words.{◌≡◌, ◌∙◌, ◌+◌, ◌-◌, ◌*◌, ◌<◌, ◌≤◌, ℕ, Bool, ◌||◌, List, [], ◌∷◌, ◌++◌, length, take, drop, refl, sym, ap, arith, length-append, Result, IfOk, take-append-drop, or_assoc, truth_at, Ahead, united, left_in, some_has}
+use Rattle.mail_answer.proofs.Words.{◌≡◌, ◌∙◌, ◌+◌, ◌-◌, ◌*◌, ◌<◌, ◌≤◌, ℕ, Bool, ◌||◌, List, [], ◌∷◌, ◌++◌, length, take, drop, refl, sym, ap, arith, length-append, take-append-drop, or_assoc, truth_at, Ahead, united, left_in, some_has}
 use Rattle.std.proofs.lemmas.List.{length-take-le}
 use Rattle.mail_answer.proofs.CursorLaws.Members.{united-at, some-append}
 use Rattle.mail_answer.proofs.CursorLaws.Texts.{left-append}

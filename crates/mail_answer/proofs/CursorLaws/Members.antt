@@ -98,9 +98,6 @@ pub record HaveDropped (n : ℕ) (old new : List Ahead) (least : Option ℕ) : T
   pub below : (m : ℕ) → m < n → some_has m new ≡ false
   pub first : Firsts (λ m. some_has m new) least
 
-pub dropped_none : (n : ℕ) → HaveDropped n [] [] None
-dropped_none n = record { rest = λ m le. refl; below = λ m lt. refl; first = λ m. refl }
-
 dropped_one : (n : ℕ) (old new : List Ahead) (least : Option ℕ) (w v : Ahead) (number : Option ℕ) → HaveDropped n old new least → Drops n w.truths v.truths → IsFirst v.truths number
     → HaveDropped n (old ++ w ∷ []) (new ++ v ∷ []) (lesser_of least number)
 dropped_one n old new least w v number have drops first = grind (arith, some-append, or_from, firsts_same, firsts_lesser)

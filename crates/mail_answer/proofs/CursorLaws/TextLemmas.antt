@@ -1,5 +1,5 @@
 -- The messages that have keys of a kind.
-use Rattle.mail_answer.proofs.Words.{◌≡◌, ◌∙◌, ℕ, Bool, true, false, cond, ◌&&◌, List, [], ◌∷◌, map, refl, sym, ap, arith, bytes_eq, list_any, filter, AllByRecursion, and_left, and_right, and_from, and-false, and-true, Kind, Key, KeyBefore, AllNext, is_key, is_of_kind, lies_to, numbers_at, AreSorted, keys_of, text_and_numbers, bytes_turned, is_among, texts_with, some_key, any_text}
+use Rattle.mail_answer.proofs.Words.{◌≡◌, ◌∙◌, ℕ, Bool, true, false, ◌&&◌, List, [], ◌∷◌, map, refl, sym, ap, arith, bytes_eq, list_any, filter, AllByRecursion, and_left, and_right, and_from, and-false, and-true, Kind, Key, KeyBefore, AllNext, is_key, lies_to, numbers_at, AreSorted, text_and_numbers, bytes_turned, is_among, texts_with, some_key, any_text}
 use Rattle.std.specs.declared.cmp.Ordering.{Ordering}
 use Rattle.std.specs.declared.cmp.Ordering.TheVariants.{Less, Equal, Greater}
 use Rattle.std.specs.Ordering.{nat_cmp, is_eq, ordering_reverse}

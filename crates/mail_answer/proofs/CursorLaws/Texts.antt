@@ -92,9 +92,6 @@ more_times : (n a d : ℕ) → (suc n * a) * d ≡ a * d + (n * a) * d
 more_times n a d = omega (arith, times_suc n a d)
 
 module _ (passes : List ℕ → Bool) (keys : List Key) (a : ℕ) (all : List Kind) (old : List Ahead) (steps0 : ℕ) where
-  pub kinds_begin : HaveKinds passes keys a all all old old steps0 steps0
-  kinds_begin = record { each = λ m. refl; left = omega arith; rises = omega arith; most = λ digits lt. omega arith }
-
   pub kinds_more : (kind : Kind) (coming : List Kind) (ws vs : List Ahead) (steps1 steps2 : ℕ) → HaveKinds passes keys a all (kind ∷ coming) old ws steps0 steps1
       → Joins (λ n. list_any passes (texts_with kind n keys)) (numbers_fitting passes keys kind) ws vs → LooksUp (length keys) a steps1 steps2 → HaveKinds passes keys a all coming old vs steps0 steps2
   kinds_more kind coming ws vs steps1 steps2 have joins looks = grind (arith, or_assoc, more_times)

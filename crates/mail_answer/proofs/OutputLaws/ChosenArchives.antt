@@ -1,6 +1,5 @@
 -- Laws of archives that are those of chosen messages.
-use Rattle.mail_answer.proofs.Words.{◌≡◌, ℕ, true, nat_eq, IsTrue, List, ◌∷◌, ◌++◌, [], refl, eq-eqb, arith, or_left, or_right, Table, IsArchiveOfSome, is_among, record_at, AnswerFaultKind}
-use Rattle.mail_answer.specs.Faults.{IfStale}
+use Rattle.mail_answer.proofs.Words.{◌≡◌, ℕ, true, nat_eq, List, ◌∷◌, ◌++◌, [], refl, eq-eqb, or_left, or_right, is_among}
 
 pub is_among_behind : (n : ℕ) (done numbers : List ℕ) → is_among n (done ++ n ∷ numbers) ≡ true
 is_among_behind n [] numbers = or_left (nat_eq n n) (is_among n numbers) (eq-eqb n n refl)

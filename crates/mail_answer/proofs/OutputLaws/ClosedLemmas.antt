@@ -103,16 +103,9 @@ behind-length b = omega (arith, length-drop (first_length b) b, first_length-le 
 not_last : (n m : ℕ) → n < m → nat_eq n m ≡ false
 not_last n m h = grind (arith, nat_tests)
 
-is_last : (n m : ℕ) → n ≡ m → nat_eq n m ≡ true
-is_last n m h = grind (arith, nat_tests)
-
 -- a line that isn't the last
 pub next_front : (b : List ℕ) → first_length b < length b → next_text b ≡ take (first_length b) b
 next_front b h = let front : List ℕ = take (first_length b) b in rw (not_last (first_length b) (length b) h) (append-nil front)
-
--- a span of one line
-pub closed_last : (b : List ℕ) → 0 < length b → length (behind_next b) ≡ 0 → closed b ≡ next_text b
-closed_last b h z = grind (arith, behind-length, one_line, is_last, take_all)
 
 -- the first of several lines
 pub closed_more : (b : List ℕ) → 0 < length (behind_next b) → closed b ≡ next_text b ++ closed (behind_next b)

@@ -1,6 +1,6 @@
 -- Laws of texts that join an answer.
 use Rattle.mail_answer.proofs.Words.{◌≡◌, ℕ, ◌+◌, ◌-◌, ◌^◌, min, List, [], ◌++◌, length, Option, None, Some, Result, Ok, Err, IsErr, refl, ap, sym, ◌∙◌, append_assoc, append-nil, length-append, take, drop, ◌≤◌, arith, take-append-drop, take_rest, Appends, Keeps, appends_join, appends-nil, Sheet, counted, Joins, JoinsFront, joined, Tells, Writes}
-use Rattle.std.proofs.lemmas.List.{length-take, take_all}
+use Rattle.std.proofs.lemmas.List.{length-take}
 use Rattle.std.proofs.Math.Seq.{take-add}
 
 counted-append : (n : ℕ) (a b : List ℕ) → counted (counted n a) b ≡ counted n (a ++ b)
@@ -24,16 +24,7 @@ front_more {t} {u} {a} {b} {x} y h = record {
   count = h.count;
 }
 
-pub joins_as_front : {t u : Option (List ℕ)} {a b : Sheet} {x : List ℕ} → Joins t u a b x → JoinsFront t u a b x
-joins_as_front {t} {u} {a} {b} {x} h = record { went = h.went; unsent = b.text; front = h.gathered; appends = h.appends; count = h.count }
-
 -- ---- while a sheet is sent, `at` bytes of it so far
-
-pub appends-start : (t : Option (List ℕ)) (items : List ℕ) → Appends t t (take 0 items)
-appends-start t items = appends-nil t
-
-pub counted-start : (n : ℕ) (items : List ℕ) → n ≤ 2 ^ 64 - 1 → n ≡ counted n (take 0 items)
-counted-start n items h = omega arith
 
 take_step : (items : List ℕ) (at n : ℕ) → at + n ≤ length items → take at items ++ take n (take (length items - at) (drop at items)) ≡ take (at + n) items
 take_step items at n h = grind (arith, take_rest, take-add)
@@ -45,10 +36,6 @@ appends_step t u v items at n h p q = rw (← take_step items at n h) (appends_j
 pub counted_step : (before : ℕ) (items : List ℕ) (sent at n sent' : ℕ) → at + n ≤ length items → sent ≡ counted before (take at items) → sent' ≡ min (sent + n) (2 ^ 64 - 1)
     → sent' ≡ counted before (take (at + n) items)
 counted_step before items sent at n sent' h p q = omega (arith, length-take at items, length-take (at + n) items)
-
-pub all_went : (t u : Option (List ℕ)) (old new : Sheet) (at : ℕ) → length old.text ≤ at → Appends t u (take at old.text) → new.sent ≡ counted old.sent (take at old.text)
-    → new.text ≡ [] → Joins t u old new []
-all_went t u old new at h p q e = grind (arith, take_all)
 
 pub front_went : (t u v : Option (List ℕ)) (old new : Sheet) (at : ℕ) → Appends t u (take at old.text) → new.sent ≡ counted old.sent (take at old.text)
     → Keeps u v → JoinsFront t v old new []

@@ -1,5 +1,5 @@
 -- Laws of an answer that is being written.
-use Rattle.mail_answer.proofs.Words.{◌≡◌, ℕ, List, Option, arith, Table, SendsFront, AreAsIndexed, KeepsArchives, IsReady, IsSameAnswer, IsBegun, JoinsFront, Ghosts}
+use Rattle.mail_answer.proofs.Words.{◌≡◌, arith, KeepsArchives, IsReady, IsSameAnswer, Ghosts}
 use Rattle.mbox_cutter.specs.declared.device.Out.{Ghosts as OutGhosts}
 use Rattle.mail_answer.specs.declared.output.answer_writer.AnswerWriter.{AnswerWriter}
 

@@ -1,5 +1,5 @@
 -- Trees of messages that get shorter, and are joined.
-use Rattle.mail_answer.proofs.Words.{◌≡◌, ◌≢◌, ◌∙◌, ◌+◌, ◌<◌, ◌≤◌, ℕ, List, length, get_or, inl, inr, refl, sym, ap, subst, arith, set, get_or-set_same, get_or-set_other, eqb_tells, Table, IsInThread, LeadsBack, StaysInThreads, LabelsTrees, Shortens}
+use Rattle.mail_answer.proofs.Words.{◌≡◌, ◌≢◌, ◌∙◌, ◌+◌, ◌<◌, ◌≤◌, ℕ, List, length, get_or, inl, inr, sym, ap, subst, arith, set, get_or-set_same, get_or-set_other, eqb_tells, Table, IsInThread, LeadsBack, StaysInThreads, LabelsTrees, Shortens}
 use Rattle.std.proofs.Math.ListN.{length-set}
 use Rattle.mail_answer.proofs.ThreadLaws.ThreadLemmas.{through}
 
@@ -76,9 +76,6 @@ lifted_thread t p i r back lt value stays =
 
 -- ---- steps after one another
 
-pub unchanged : (p : List ℕ) → Shortens p p
-unchanged p = record { long = refl; back = λ back. back; roots = λ n lt root. root; labels = λ label labels. labels; threads = λ t stays. stays }
-
 pub shorter_still : (p q r : List ℕ) → Shortens p q → Shortens q r → Shortens p r
 shorter_still p q r first second = record {
   long = second.long ∙ first.long;
@@ -89,9 +86,6 @@ shorter_still p q r first second = record {
 }
 
 -- ---- each message its root's child
-
-pub flat_none : (p : List ℕ) (n : ℕ) → n < 0 → get_or p (get_or p n 0) 0 ≡ get_or p n 0
-flat_none p n lt = absurd (omega (arith, lt))
 
 -- one more
 pub flat_more : (p q : List ℕ) (i r : ℕ) → LeadsBack p → i < length p → r ≡ get_or p (get_or p i 0) 0 → q ≡ set p i r

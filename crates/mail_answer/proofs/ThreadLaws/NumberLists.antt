@@ -1,5 +1,5 @@
 -- Lists of numbers of messages, number by number.
-use Rattle.mail_answer.proofs.Words.{◌≡◌, ◌∙◌, ℕ, suc, ◌+◌, ◌<◌, ◌≤◌, Bool, true, false, List, [], ◌∷◌, ◌++◌, length, drop, get_or, drop-cons, add-one, Option, Some, sym, ap, arith, AllByRecursion, flat_map-cons, Table, RisesFrom, Query, AreNumbers, TakesFirst, AreChosenBy, known_answer, known_message, answer_text, message_text, joined, Tells, mail_told, record_at, chosen_numbers}
+use Rattle.mail_answer.proofs.Words.{◌≡◌, ◌∙◌, ℕ, suc, ◌+◌, ◌<◌, ◌≤◌, Bool, true, false, List, [], ◌∷◌, ◌++◌, length, Option, arith, AllByRecursion, flat_map-cons, Table, RisesFrom, Query, AreNumbers, AreChosenBy, known_answer, known_message, answer_text, message_text, joined, Tells, mail_told, record_at, chosen_numbers}
 use Rattle.mail_answer.specs.declared.format.Format.{Format}
 use Rattle.mail_answer.proofs.ThreadLaws.ChosenThreads.{passed_rise, passed_below, threads_below, lower}
 
@@ -35,6 +35,3 @@ pub known_none : (format : Format) (t : Table) (held : Option (List (List ℕ)))
 known_none format t held = grind arith
 
 -- ---- a list of which some were given
-
-pub took_listed : (ns : List ℕ) (given : ℕ) → given < length ns → TakesFirst (drop given ns) (drop (given + 1) ns) (Some (get_or ns given 0))
-took_listed ns given lt = drop-cons ns given 0 lt ∙ ap (λ (k : ℕ). get_or ns given 0 ∷ drop k ns) (sym (add-one given))

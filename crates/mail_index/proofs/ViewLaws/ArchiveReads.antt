@@ -1,5 +1,5 @@
 -- Archives read back from their bytes, and the bytes of archives that were read.
-use Rattle.mail_index.proofs.Words.{Some, slice_get, ◌≡◌, ◌↔◌, ℕ, zero, suc, ◌+◌, ◌-◌, ◌^◌, ◌<◌, ◌≤◌, List, [], ◌∷◌, ◌++◌, length, take, drop, Option, refl, sym, ap, subst, ◌∙◌, arith, length-append, length-drop, append_assoc, unwrap_or, flat_map, IsTrue, nat_eq, Bool, true, nat_tests, take-append_seam, drop-append_seam, take-append-drop, append-nil, AllByRecursion, from_be_bytes-to_be_bytes_4, from_be_bytes-to_be_bytes_8, u32_at, u64_at, be32, be64, archive_bytes, IsDigest, digest_length, read_digest, behind_digest, Archive, IsArchive, IsPath, archive_length, behind_path, read_archive, behind_archive, read_archives, behind_archives, HasArchive, SpellsArchives}
+use Rattle.mail_index.proofs.Words.{Some, slice_get, ◌≡◌, ◌↔◌, ℕ, zero, suc, ◌+◌, ◌-◌, ◌^◌, ◌<◌, ◌≤◌, List, [], ◌∷◌, ◌++◌, length, take, drop, Option, refl, sym, ap, subst, ◌∙◌, arith, length-append, length-drop, append_assoc, unwrap_or, flat_map, take-append_seam, drop-append_seam, take-append-drop, append-nil, AllByRecursion, from_be_bytes-to_be_bytes_4, from_be_bytes-to_be_bytes_8, u32_at, u64_at, be32, be64, archive_bytes, IsDigest, digest_length, read_digest, behind_digest, Archive, IsArchive, IsPath, archive_length, behind_path, read_archive, behind_archive, read_archives, behind_archives, HasArchive, SpellsArchives}
 use Rattle.mail_index.proofs.ViewLaws.DigestReads.{digest_back, digest_kept, digest_room}
 use Rattle.mail_index.proofs.FileLaws.Fronts.{concat_then}
 use Rattle.mail_index.proofs.FileLaws.Bytes.{AreBytes, u32_back, u64_back, length_part}
@@ -84,12 +84,6 @@ archives_back version (a ∷ rest) h =
 
 -- ---- the reader of one archive, from what its calls answer
 
-pub short_has_none : (version : ℕ) (r : List ℕ) → length r < 12 → HasArchive version r → ⊥
-short_has_none version r l h = let f = archive_front_of version r h in absurd (omega (arith, l, f.long))
-
-pub long_has_none : (version : ℕ) (r : List ℕ) (s : ℕ) → s ≡ u64_at r 0 → 2 ^ 40 < s → HasArchive version r → ⊥
-long_has_none version r s e l h = let f = archive_front_of version r h in absurd (omega (arith, e, l, f.size))
-
 pub cut_has_none : (version : ℕ) (r tail : List ℕ) (n : ℕ) → n ≡ u32_at r 8 → tail ≡ drop 12 r → length tail < n → HasArchive version r → ⊥
 cut_has_none version r tail n e t l h = let f = archive_front_of version r h in absurd (omega (arith, e, ap length t, l, f.path))
 
@@ -136,17 +130,7 @@ spells_stop version n i s r l h refuses p =
     let e : n - i ≡ suc (n - (i + 1)) = omega (arith, l) in
     refuses (spells_front version (n - (i + 1)) r (subst (λ (k : ℕ). SpellsArchives version k r) e (h.0 p)))
 
-pub empty_test : (b : Bool) (r : List ℕ) → b ≡ nat_eq (length r) 0 → IsTrue b ↔ (r ≡ [])
-empty_test b [] e = let t : b ≡ true = e in (λ h. refl, λ q. t)
-empty_test b (x ∷ r) e = grind (arith, nat_tests)
-
-pub spells_return : (version n i : ℕ) (s r : List ℕ) (b : Bool) → n ≤ i → (SpellsArchives version n s ↔ SpellsArchives version (n - i) r) → b ≡ nat_eq (length r) 0 → IsTrue b ↔ SpellsArchives version n s
-spells_return version n i s r b l h e = grind (arith, empty_test)
-
 -- ---- the walk behind some archives
-
-pub behind_begin : (version n : ℕ) (r : List ℕ) → behind_archives version (n - 0) r ≡ behind_archives version n r
-behind_begin version n r = let e : n - 0 ≡ n = omega arith in ap (λ (k : ℕ). behind_archives version k r) e
 
 pub pass_step : (version count n i : ℕ) (s r behind : List ℕ) → i < n → n ≤ count → SpellsArchives version (count - i) r → behind_archives version (n - i) r ≡ behind_archives version n s → behind ≡ behind_archive version r
     → SpellsArchives version (count - (i + 1)) behind × (behind_archives version (n - (i + 1)) behind ≡ behind_archives version n s)
@@ -155,10 +139,6 @@ pass_step version count n i s r behind l b h e g =
     let k : n - i ≡ suc (n - (i + 1)) = omega (arith, l) in
     let spelled = spells_rest version (count - (i + 1)) r (subst (λ (j : ℕ). SpellsArchives version j r) f h) in
     (subst (SpellsArchives version (count - (i + 1))) (sym g) spelled, ap (behind_archives version (n - (i + 1))) g ∙ ap (λ (j : ℕ). behind_archives version j r) (sym k) ∙ e)
-
-pub pass_end : (version count n i : ℕ) (s r : List ℕ) → n ≤ i → i ≤ n → SpellsArchives version (count - i) r → behind_archives version (n - i) r ≡ behind_archives version n s
-    → (r ≡ behind_archives version n s) × SpellsArchives version (count - n) r
-pass_end version count n i s r l m h e = grind (arith, behind_archives)
 
 pub behind_value : (version : ℕ) (r tail behind rest : List ℕ) (n k : ℕ) → n ≡ u32_at r 8 → tail ≡ drop 12 r → behind ≡ drop n tail → k ≡ digest_length version → rest ≡ drop k behind
     → rest ≡ behind_archive version r

@@ -1,5 +1,5 @@
 -- How deep the queries of the boolean language are.
-use Rattle.mail_query.proofs.Words.{◌≡◌, ℕ, suc, ◌+◌, ◌*◌, ◌-◌, ◌<◌, ◌≤◌, Bool, true, cond, ltb, ltb-true, List, [], ◌∷◌, map, Option, None, Some, Result, Err, subst, arith, bytes_eq, codes, str_eq_ignore_ascii_case, Range, Field, Fields, Kinds, QueryFaultKind, BadWord, Phrase, Query, depth, all_of, either_of, without_last, without_angles, Lexicon, date_query, Token, Parts, parts_of, no_fields, is_phrase, id_query, piece_query, word_query, field_query, parts_query, cut_query, Link, Beside, ByAnd, ByOr, Item, NotOf, Group, Leaf, Chain, Last, Then, linked, query_or_any, seen_behind, item_query, chain_queries, is_fine_item, is_fine_chain, Reads}
+use Rattle.mail_query.proofs.Words.{◌≡◌, ℕ, suc, ◌+◌, ◌*◌, ◌-◌, ◌<◌, ◌≤◌, Bool, true, cond, ltb, ltb-true, List, [], ◌∷◌, map, Option, Result, Err, subst, arith, Field, Fields, QueryFaultKind, Phrase, Query, depth, all_of, either_of, Lexicon, Token, Parts, parts_of, no_fields, is_phrase, cut_query, Link, Beside, ByAnd, ByOr, Item, NotOf, Group, Leaf, Chain, Last, Then, linked, query_or_any, seen_behind, item_query, chain_queries, is_fine_item, is_fine_chain, Reads}
 use Rattle.mail_query.specs.declared.boolean.field.Field.TheVariants as field
 use Rattle.mail_query.specs.BooleanTerms.{term_query}
 use Rattle.mail_query.proofs.BooleanLaws.BooleanComplete.{and_left, and_right}
@@ -13,41 +13,7 @@ IsFlat r = depth (query_or_any r) ≤ 1
 if_flat : (b : Bool) (r s : Result Query QueryFaultKind) → IsFlat r → IsFlat s → IsFlat (cond b r s)
 if_flat b r s h h2 = grind arith
 
-id_flat : (id : List ℕ) → IsFlat (id_query id)
-unfolding IsFlat
-id_flat [] = omega arith
-id_flat (b ∷ bs) = omega arith
-
-date_flat : (dates : Option Range) → IsFlat (date_query dates)
-unfolding IsFlat
-date_flat None = omega arith
-date_flat (Some range) = omega arith
-
 module _ (lexicon : Lexicon) where
-  piece_flat : (kinds : Kinds) (o : Option (List ℕ)) → IsFlat (piece_query lexicon kinds o)
-  unfolding IsFlat
-  piece_flat kinds None = omega arith
-  piece_flat kinds (Some piece) = if_flat (lexicon.is_piece piece) _ (Err BadWord) (omega arith) (omega arith)
-
-  word_flat : (kinds : Kinds) (text : List ℕ) → IsFlat (word_query lexicon kinds text)
-  unfolding IsFlat
-  word_flat kinds text = if_flat (lexicon.is_word text) _ _ (omega arith) (piece_flat kinds (without_last 0x2A text))
-
-  field_flat : (f : Field) (rest : List ℕ) → IsFlat (field_query lexicon f rest)
-  field_flat field.From rest = word_flat _ rest
-  field_flat field.To rest = word_flat _ rest
-  field_flat field.Subject rest = word_flat _ rest
-  field_flat field.Body rest = word_flat _ rest
-  field_flat field.Id rest = id_flat (without_angles rest)
-  field_flat field.Date rest = date_flat (lexicon.dates rest)
-
-  parts_flat : (prefix : Option Field) (rest : List ℕ) → IsFlat (parts_query lexicon prefix rest)
-  unfolding IsFlat
-  parts_flat None rest =
-      if_flat (bytes_eq rest (codes "*")) _ _ (omega arith) (if_flat (str_eq_ignore_ascii_case rest (codes "xor")) (Err BadWord) _ (omega arith) (word_flat _ rest))
-  parts_flat (Some f) [] = omega arith
-  parts_flat (Some f) (b ∷ bs) = field_flat f (b ∷ bs)
-
   term_flat : (t : List ℕ) → IsFlat (term_query lexicon t)
   unfolding IsFlat
   term_flat t = if_flat (is_phrase t) (Err Phrase) _ (omega arith) (go (parts_of t))
