@@ -2,5 +2,4 @@
 pub mod AskedPaths
 pub mod FirstFaults
 pub mod Renamed
-pub mod SoundBefore
 pub mod Unaltered

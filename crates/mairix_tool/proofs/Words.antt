@@ -5,11 +5,11 @@ pub use Rattle.index_job.specs.ArchiveRefusals.{AreSound}
 pub use Rattle.index_job.specs.ArchiveTables.{Mbox, all_messages, entry_of, messages_in, record_of, records_from, table, with_messages, with_terms}
 pub use Rattle.index_job.specs.MessageTerms.{Term, id_terms, link_terms, message_terms, own_id_terms, text_terms}
 pub use Rattle.index_run.proofs.SoundArchives.{sound-not-refused}
-pub use Rattle.index_run.specs.ArchivesIndexed.{IsArchivesFault, Parted, Refuses, mboxes}
+pub use Rattle.index_run.specs.ArchivesIndexed.{IsArchivesFault, Refuses, mboxes}
 pub use Rattle.mail_answer.proofs.OutputLaws.EveryAnswer.{some-chosen}
 pub use Rattle.mail_answer.specs.Answers.{AnswersStale}
 pub use Rattle.mail_answer.specs.Mail.{AreChosen, AreChosenBy, AreThreadsOf, IsChain, IsLedToBySome, Search, satisfying}
-pub use Rattle.mail_answer.specs.Shapes.{answer_text, closed, known_answer, message_text, path_at, raw_line, span}
+pub use Rattle.mail_answer.specs.Shapes.{answer_text, closed, known_answer, message_text, path_at, span}
 pub use Rattle.mail_answer.specs.Stale.{first_changed, stale_archive}
 pub use Rattle.mail_answer.specs.TableAnswers.{Answers, IsBeforeText, IsTableAnswer, TableAnswer, answer_of_numbers, is_unwritten, mail_told}
 pub use Rattle.mail_answer.specs.TableFacts.{facts_at, is_among, no_record, record_at, texts_with}
@@ -20,7 +20,7 @@ pub use Rattle.mail_answer.specs.declared.format.Format.TheVariants.{Excerpt, Ra
 pub use Rattle.mail_index.proofs.FileLaws.Bytes.{AreBytes}
 pub use Rattle.mail_index.specs.Builders.{with_pair}
 pub use Rattle.mail_index.specs.Faults.{HasArchives, HasCounts, HasDigest, HasDirectory, HasRecords, IsFileOf, IsFirstFault, IsSigned, digest_start, version_told}
-pub use Rattle.mail_index.specs.Files.{Entry, archive_bytes, index_file, magic, record_bytes}
+pub use Rattle.mail_index.specs.Files.{Entry, index_file, magic, record_bytes}
 pub use Rattle.mail_index.specs.Kinds.{kind_number}
 pub use Rattle.mail_index.specs.LookUps.{is_of_kind, keys_of}
 pub use Rattle.mail_index.specs.Tables.{AllNext, Archive, Follows, IsArchive, IsKey, IsMessage, IsPath, IsWellFormed, Key, KeyBefore, Table, archive_length}
@@ -31,11 +31,11 @@ pub use Rattle.mail_index.specs.declared.record.Record.{Record}
 pub use Rattle.mail_index.specs.declared.view.fault.IndexFault.{IndexFault}
 pub use Rattle.mail_index.specs.declared.view.fault.IndexFault.TheVariants.{BadDigest, BadLayout, BadMagic, BadVersion, TooShort}
 pub use Rattle.mail_query.specs.Query.{Any, Date, Either, End, HasFlag, More, Not, Part, Prefix, Queries, Query, Size, Word, uses_names}
-pub use Rattle.mail_query.specs.Truth.{begins_with, contains_text, each_is_true, has_flag, is_same, is_true, some_is_true, some_word, text_kinds, without_names, words_but_names}
+pub use Rattle.mail_query.specs.Truth.{begins_with, contains_text, each_is_true, has_flag, is_same, is_true, some_is_true, some_word, without_names, words_but_names}
 pub use Rattle.mail_words.specs.Folding.{folding}
 pub use Rattle.mail_words.specs.Words.{words}
 pub use Rattle.mail_words.specs.declared.kind.TextKind.{TextKind}
-pub use Rattle.mail_words.specs.declared.kind.TextKind.TheVariants.{Bcc, Body, Cc, From, Name, Subject, To}
+pub use Rattle.mail_words.specs.declared.kind.TextKind.TheVariants.{Name}
 pub use Rattle.mairix_tool.specs.Altered.{AreToldApart, altered_archive}
 pub use Rattle.mairix_tool.specs.Asked.{Wanted, asked, asked_rc, query_asked, wanted, wanted_by}
 pub use Rattle.mairix_tool.specs.Chosen.{facts_of_message, ids_in, is_kind, words_of}
@@ -49,7 +49,7 @@ unfoldable pub use Rattle.mime_text.specs.MessageFacts.{facts_of}
 pub use Rattle.mime_text.specs.Sinks.{Pair}
 pub use Rattle.mime_text.specs.Texts.{texts_of_message}
 pub use Rattle.mime_text.specs.declared.header.facts.Facts.{Facts}
-pub use Rattle.run_faults.specs.Faults.{IsEarly, IsOfAnswer, IsOfIndexing, IsOnceFault, IsSearchFault, is_changed_or_unread, is_early, is_failed_archives, is_failed_out, is_failed_source, is_failure, is_of_index, is_of_indexing, refusal_of}
+pub use Rattle.run_faults.specs.Faults.{IsOfAnswer, IsOnceFault, IsSearchFault, is_changed_or_unread, is_early, is_failed_archives, is_failed_out, is_failed_source, is_failure, is_of_indexing, refusal_of}
 pub use Rattle.run_faults.specs.declared.fault.Fault.{Fault}
 pub use Rattle.std.proofs.Common.{All, Bool, Err, IfErr, IfOk, IfSome, List, None, Ok, Option, Result, Some, [], add-one, ap, append-nil, append_assoc, ap₂, arith, bytes_eq, cond, drop, drop-cons, eq-eqb, false, filter, flat_map, get_or, if◌then◌else◌, inl, inr, length, length-append, length-drop, map, min, nat_eq, not, refl, string_bytes, subst, suc, sym, take, true, unwrap_or, vec_len, zero, ℕ, ◌&&◌, ◌++◌, ◌+◌, ◌-◌, ◌<◌, ◌==◌, ◌^◌, ◌||◌, ◌∙◌, ◌∷◌, ◌≡◌, ◌≤◌}
 pub use Rattle.std.proofs.Math.Bool.{or-false}
@@ -59,7 +59,7 @@ pub use Rattle.std.proofs.lemmas.List.{drop-append-le, get_or-map, get_or_at, le
 pub use Rattle.std.proofs.lemmas.List.Elements.{All-cons, All-head, All-map, All-nil, All-tail, Contains-append_left, Contains-append_right, recursion_from_All}
 pub use Rattle.std.proofs.lemmas.List.Folds.{flat_map-map, list_any-append}
 pub use Rattle.std.proofs.lemmas.Slice.Eq.{bytes_eq-Decides}
-pub use Rattle.std.specs.Bool.{MatchBool, OnTrue}
+pub use Rattle.std.specs.Bool.{OnTrue}
 pub use Rattle.std.specs.Io.KnownBytes.{Appends, Keeps}
 pub use Rattle.std.specs.List.{AllByRecursion, join_by, join_with_byte, list_any, range_with_len, slice_get, slice_index_or}
 pub use Rattle.std.specs.Option.{option_map, option_map_or, option_or}

@@ -31,13 +31,6 @@ many-by planned read queried n more h = grind arith
 pub asked-many : (words : List (List ℕ)) (rc : List ℕ) (now n : ℕ) (more : Rc → Type 0) → IfOk (asked_rc words rc) (λ r. (length r.paths ≡ n) × more r) → IfOk (asked words rc now) (λ w. length w.paths ≡ n)
 asked-many words rc now n more given = many-by (plan words) (rc_of rc) (λ p. query_asked p.boolean p.patterns now) n more given
 
-pub rc-many : (read : Result Rc Fault) (n : ℕ) (more : Rc → Type 0) → IfOk read (λ r. (length r.paths ≡ n) × more r) → IfOk read (λ r. length r.paths ≡ n)
-rc-many read n more h = grind arith
-
--- what is asked for is as many as there are archives
-pub asked-as-many : (read : Result Wanted Fault) (w : Wanted) (n : ℕ) → read ≡ Ok w → IfOk read (λ v. length v.paths ≡ n) → length w.paths ≡ n
-asked-as-many read w n is given = subst (λ (o : Result Wanted Fault). IfOk o (λ v. length v.paths ≡ n)) is given
-
 -- ---- the text of a boolean query
 
 pub joined-by-spaces : {X : Type 0} (f : X → List ℕ) (xs : List X) → join_by f (32 ∷ []) xs ≡ join_with_byte 32 (map f xs)

@@ -1,13 +1,7 @@
 -- Laws of the first archive with another path than was indexed.
-use Rattle.mairix_tool.proofs.Words.{◌≡◌, ◌∙◌, ◌+◌, ◌<◌, ℕ, zero, suc, Bool, cond, List, [], ◌∷◌, length, drop, drop-cons, get_or, Some, min, ap, arith, add-one, eq-eqb, eqb_tells, Archive, first_renamed, renamed_archive}
+use Rattle.mairix_tool.proofs.Words.{◌≡◌, ◌∙◌, ◌+◌, ◌<◌, ℕ, zero, suc, cond, List, [], ◌∷◌, length, drop, drop-cons, get_or, Some, ap, arith, add-one, Archive, first_renamed}
 use Rattle.std.specs.Str.{bytes_eq}
 use Rattle.std.proofs.lemmas.List.{length-drop}
-
-pub as-many : (named : List Archive) (paths : List (List ℕ)) → length paths ≡ length named → renamed_archive named paths ≡ first_renamed 0 named paths
-as-many named paths same = ap (λ (t : Bool). cond t (first_renamed 0 named paths) (Some (min (length paths) (length named)))) (eq-eqb _ _ same)
-
-pub other-many : (named : List Archive) (paths : List (List ℕ)) → (length paths ≡ length named → ⊥) → renamed_archive named paths ≡ Some (min (length paths) (length named))
-other-many named paths other = grind (arith, eqb_tells)
 
 -- what follows an archive that was indexed
 pub behind : (named : List Archive) (n : ℕ) (a : Archive) (rest : List Archive) → drop n named ≡ a ∷ rest → drop (n + 1) named ≡ rest

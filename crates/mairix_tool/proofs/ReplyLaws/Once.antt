@@ -1,8 +1,7 @@
 -- A run that searches the archives that it indexed replies what their own messages say.
-use Rattle.mairix_tool.proofs.Words.{◌≡◌, ℕ, false, append-nil, IfSome, IfErr, List, [], ◌∷◌, map, length, None, Some, Option, Result, Ok, Err, IfOk, refl, ap, subst, arith, inl, inr, OnTrue, Appends, Sends, Table, Search, answer_text, stale_archive, some-chosen, Fault, Reply, Mbox, table, AreSound, mboxes, Refuses, IsArchivesFault, Wanted, refusal_of, is_failure, is_failed_source, is_early, is_of_index, is_of_indexing, IsEarly, IsOfAnswer, IsOfIndexing, IsOnceFault, IsSearchFault, is_failed_out, is_failed_archives, Answer, refused, IsConsistent, AreSoundBefore, IsAnswer, IsTold, IsStaleOr, IsFoundIn, IsReply, IsOnceReply, IsThisOrMemory, IsUnindexed, RepliesBy, reply_of, answered, sound-not-refused}
+use Rattle.mairix_tool.proofs.Words.{◌≡◌, ℕ, false, append-nil, IfSome, List, [], ◌∷◌, map, length, None, Some, Option, Result, Ok, Err, IfOk, refl, ap, subst, arith, inl, inr, Appends, Sends, Table, Search, answer_text, stale_archive, some-chosen, Fault, Reply, Mbox, table, AreSound, mboxes, Refuses, IsArchivesFault, Wanted, is_failure, is_failed_source, is_early, is_of_indexing, IsOnceFault, IsSearchFault, is_failed_out, is_failed_archives, Answer, refused, IsConsistent, AreSoundBefore, IsAnswer, IsTold, IsStaleOr, IsFoundIn, IsReply, IsOnceReply, IsThisOrMemory, IsUnindexed, RepliesBy, reply_of, answered, sound-not-refused}
 use Rattle.run_faults.specs.declared.fault.Fault.TheVariants.{Stale}
 use Rattle.mairix_tool.proofs.TableLaws.MailSame.{chosen-same, chosen-back, shape-same, not-stale}
-use Rattle.mairix_tool.proofs.ArchiveLaws.SoundBefore.{sound-before}
 use Rattle.index_run.proofs.ArchivesDecided.{decided, none-sound}
 
 -- what the table of archives tells over their own bytes is their messages' answer
@@ -46,9 +45,6 @@ some-once-reply (Ok w) bytes held =
       | inr bad ↦ (refused bad.0, inr (bad.0, bad.1, refl))
     ]
 
-pub some-reply : (asked : Result Wanted Fault) (bytes : List (List ℕ)) → IfOk asked (λ w. length w.paths ≡ length bytes) → (answer : Answer) × IsReply asked bytes answer
-some-reply asked bytes many = let some = some-once-reply asked bytes bytes in (some.0, once-reply asked bytes some.0 many some.1)
-
 -- ---- what a run answered
 
 module _ (Is Other : Answer → Type 0) (forth : (answer : Answer) → Is answer → Other answer) (back : (answer : Answer) → Other answer → Is answer) where
@@ -82,13 +78,6 @@ pub refused-once : (asked : Result Wanted Fault) (bytes held : List (List ℕ)) 
     → RepliesBy (IsOnceReply asked bytes held) (reply_of (Err f)) old old
 refused-once asked bytes held f old is = unanswered (IsOnceReply asked bytes held) f old (unindexed-reply asked bytes held f is)
 
-pub unindexed-first : (asked : Result Wanted Fault) (bytes : List (List ℕ)) (f : Fault) → IsUnindexed asked bytes f → AreSoundBefore asked bytes (Some f)
-unindexed-first asked bytes f h = grind (arith, sound-before)
-
--- words, rcfile or query are refused, or memory is wanted before they are read
-pub unindexed-early : (asked : Result Wanted Fault) (bytes : List (List ℕ)) (f : Fault) → IfSome (refusal_of f) (λ g. asked ≡ Err g) → IsEarly f → IsUnindexed asked bytes f
-unindexed-early asked bytes f h h2 = grind arith
-
 -- ---- the archives are indexed
 
 -- sound archives: what their table tells
@@ -112,13 +101,6 @@ pub record IsLast (r : Result ℕ Fault) : Type 0 where
   pub status : IsConsistent (reply_of r) (reply_of r).fault
   pub first : (w : Wanted) (bytes : List (List ℕ)) → AreSoundBefore (Ok w) bytes (reply_of r).fault
 
-pub last-step : (r : Result ℕ Fault) → IfErr r IsOfAnswer → IsLast r
-last-step r h = grind arith
-
--- and never a fault of the index
-pub never-of-index : (P : Fault → Type 0) (r : Result ℕ Fault) → IfErr r IsOfAnswer → IfSome (reply_of r).fault (λ fault. OnTrue (is_of_index (Some fault)) (P fault))
-never-of-index P r h = grind arith
-
 -- ---- what may be answered before the search
 
 -- of the faults of words, rcfile and query, and of those of indexing
@@ -126,9 +108,3 @@ pub record IsFirst (f : Fault) : Type 0 where
   pub archives : is_failed_archives (Some f) ≡ false
   pub out : is_failed_out (Some f) ≡ false
   pub once : IsOnceFault f
-
-pub first-early : (f : Fault) → IsEarly f → IsFirst f
-first-early f h = grind arith
-
-pub first-indexing : (f : Fault) → IsOfIndexing f → IsFirst f
-first-indexing f h = grind arith

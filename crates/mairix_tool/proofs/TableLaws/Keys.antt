@@ -75,10 +75,6 @@ texts-same xs ys e = (bytes_eq-Decides xs ys).0 (sym (is_eq-slice_cmp xs ys) ∙
 one-more : (a b c d r : Bool) → ((a && ((b || c) && d)) || r) ≡ ((a && (b && d)) || ((a && (c && d)) || r))
 one-more a b c d r = grind arith
 
--- the second before the first
-or-swapped : (a b c : Bool) → (a || (b || c)) ≡ (b || (a || c))
-or-swapped a b c = grind arith
-
 -- a new key with one number
 new-says : (kind : Kind) (n : ℕ) (passes : List ℕ → Bool) (m : ℕ) (k : Kind) (text : List ℕ) (ks : List Key)
     → list_any (says kind n passes) (record { kind = k; text = text; numbers = m ∷ [] } ∷ ks) ≡ (pair_says kind n passes m k text || list_any (says kind n passes) ks)

@@ -54,9 +54,6 @@ no-ids : link_ids nobody.1 ≡ []
 unfolding facts_of fields_of
 no-ids = refl
 
-at-message : List Numbered → ℕ → Message
-at-message xs n = (numbered_at xs n).1
-
 past-nobody : (xs : List Numbered) (n : ℕ) → length xs ≤ n → numbered_at xs n ≡ nobody
 past-nobody [] n h = refl
 past-nobody (x ∷ xs) zero h = absurd (omega (arith, h))
