@@ -1,0 +1,146 @@
+#!/usr/bin/env python3
+"""Finds lemmas that no proof, definition or contract cites, names that a proof file imports and doesn't use, and proof files that say nothing.
+
+    tools/uncited.py [--remove] [CRATE ..]
+
+A worked row (proofs/../Rows...antt) is cited by nothing, and an answer only by its goal: these don't count. With --remove lemmas and names are
+taken out until none is left; the prover then has to look at the crates again. The last line is `N passed, M failed`: the proof files without such
+findings, and those with.
+"""
+import argparse
+import re
+import sys
+from collections import Counter
+from pathlib import Path
+
+TOP = Path(__file__).resolve().parent.parent
+# A lemma or a definition with a body: its head, and each of its clauses stands in the same column.
+HEAD = re.compile(r"^( *)(?:pub |abbrev |unfoldable |opaque )*([^\s():{}◌]+) :")
+WORD = re.compile(r"[^\s(){}\[\],;:.|]+")
+IMPORT = re.compile(r"^((?:unfoldable )?(?:pub )?use [\w.+-]+\.\{)([^}]*)\}$")
+# A line that is neither a comment nor an import.
+SAYS = re.compile(r"^(?! *use\b)(?! *--) *[^ \n]", re.M)
+# What goals name, and the modules that only hand on words.
+NO_LEMMAS = {"Answers.antt", "Invariants.antt", "Measures.antt", "Lib.antt"}
+HANDING_ON = {"Words.antt", "Imports.antt"}
+
+
+def words_of(text):
+    return Counter(WORD.findall(text))
+
+
+def begins_with(line, indent, name):
+    """Whether a line in the column of a lemma is one of its clauses."""
+    return line.startswith(indent + name) and line[len(indent + name) :][:1] in ("", " ")
+
+
+class Lemma:
+    """A lemma of a file: its name, its lines from the comment in front of it on, and how often it names itself to be what it is."""
+
+    def __init__(self, lines, at, indent, name):
+        self.name, self.start, self.end = name, at, at + 1
+        while self.start and lines[self.start - 1].startswith(f"{indent}-- ") and not lines[self.start - 1].startswith(f"{indent}-- ----"):
+            self.start -= 1
+        self.own = 1
+        while self.end < len(lines) and self.goes_on(lines[self.end], indent):
+            self.own += begins_with(lines[self.end], indent, name)
+            self.end += 1
+
+    def goes_on(self, line, indent):
+        """Whether a line behind the head is still the lemma's."""
+        deeper = line.startswith(indent + " ")
+        return deeper or line.startswith(f"{indent}unfolding ") or begins_with(line, indent, self.name)
+
+    def has_body(self):
+        return self.own > 1
+
+
+def lemmas_of(lines):
+    """The lemmas of a file that have a body: a field of a record has none."""
+    heads = [(at, HEAD.match(line)) for at, line in enumerate(lines)]
+    found = [Lemma(lines, at, head[1], head[2]) for at, head in heads if head]
+    return [it for it in found if it.has_body()]
+
+
+class Texts:
+    """The files of all crates that may cite a lemma, and how often each word stands in them."""
+
+    def __init__(self):
+        files = [it for part in ("src", "specs", "proofs") for it in sorted(TOP.glob(f"crates/*/{part}/**/*")) if it.suffix in (".rt", ".antt")]
+        self.texts = {it: it.read_text("utf-8") for it in files}
+        self.words = Counter()
+        for text in self.texts.values():
+            self.words.update(words_of(text))
+
+    def proofs(self, crates):
+        return [it for it in self.texts if it.relative_to(TOP).parts[2] == "proofs" and (not crates or it.relative_to(TOP).parts[1] in crates)]
+
+    def uncited(self, file):
+        """The lemmas of a file that nothing cites, and the names that it imports in vain."""
+        lines = self.texts[file].split("\n")
+        lemmas = [] if file.name in NO_LEMMAS | HANDING_ON or file.name.startswith("Rows") else lemmas_of(lines)
+        return [it for it in lemmas if self.words[it.name] <= it.own], self.unused_imports(file)
+
+    def unused_imports(self, file):
+        text = self.texts[file]
+        own = words_of(text)
+        named = [it for line in text.split("\n") for found in [IMPORT.match(line)] if found for it in found[2].split(", ")]
+        plain = [it for it in named if "◌" not in it and WORD.fullmatch(it)]
+        if file.name in HANDING_ON:
+            taken = self.taken_from(file)
+            return [it for it in plain if it not in taken]
+        return [it for it in plain if own[it] <= 1]
+
+    def taken_from(self, file):
+        """The words that the other proof files of a crate have."""
+        folder = next(it for it in file.parents if it.name == "proofs")
+        return set().union(*(words_of(text) for it, text in self.texts.items() if folder in it.parents and it != file))
+
+    def remove(self, file, lemmas, names):
+        """Takes lemmas and imported names out of a file."""
+        lines = self.texts[file].split("\n")
+        for lemma in sorted(lemmas, key=lambda it: -it.start):
+            end = lemma.end + (lemma.end < len(lines) and not lines[lemma.end])
+            del lines[lemma.start : end]
+        kept = [self.without(line, set(names)) for line in lines]
+        text = re.sub(r"\n\n\n+", "\n\n", "\n".join(it for it in kept if it is not None)).rstrip("\n") + "\n"
+        self.words += words_of(text)
+        self.words -= words_of(self.texts[file])
+        self.texts[file] = text
+        file.write_text(text, "utf-8")
+
+    def without(self, line, names):
+        """An import without some names, or None where nothing is left of it; any other line as it is."""
+        found = IMPORT.match(line)
+        if not found or not names:
+            return line
+        kept = [it for it in found[2].split(", ") if it not in names]
+        return f"{found[1]}{', '.join(kept)}}}" if kept else None
+
+
+def main():
+    asked = argparse.ArgumentParser(description="Finds lemmas that nothing cites, and imports that nothing uses.")
+    asked.add_argument("--remove", action="store_true", help="take them out")
+    asked.add_argument("crates", nargs="*", metavar="CRATE", help="the crates to look at; none: all")
+    words = asked.parse_args()
+    texts = Texts()
+    while True:
+        proofs = texts.proofs(words.crates)
+        silent = [it for it in proofs if not SAYS.search(texts.texts[it])]
+        found = {it: told for it in proofs for told in [texts.uncited(it)] if any(told)}
+        for file, (lemmas, names) in found.items():
+            said = ", ".join([it.name for it in lemmas] + [f"{it} (imported)" for it in names])
+            print(f"{file.relative_to(TOP)}: {said}")
+            if words.remove:
+                texts.remove(file, lemmas, names)
+        if not (words.remove and found):
+            break
+    for file in silent:
+        print(f"{file.relative_to(TOP)}: says nothing")
+    failed = len({*found, *silent})
+    print(f"{len(proofs) - failed} passed, {failed} failed")
+    return 1 if failed else 0
+
+
+if __name__ == "__main__":
+    sys.exit(main())
