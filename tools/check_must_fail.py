@@ -123,20 +123,21 @@ logic=not-proved"""
 TOGETHER, ALONE = "refused: ", "refused (alone): "
 HARMLESS = "NOT refused: the crate is still proved"
 
-# Each edit: its pairs of an old text and a new one, and how its line begins. Of two that change one function the second is in the second
-# round, and that one doesn't compile.
+# Each edit: its pairs of an old text and a new one, the clause that it names, and how its line begins. Of two that change one function the
+# second is in the second round, and that one doesn't compile.
 EDITS = {
-    "a_counter_begins_at_one": ([("Counter { count: 0 }", "Counter { count: 1 }")], TOGETHER),
-    "a_lost_name": ([("let mut sum = n;", "let mut total = n;"), ("sum += 1;", "total += 1;"), ("= sum;", "= total;")], "NOT refused but by names"),
-    "a_lost_text": ([("n > 1", "n > 2")], "NOT refused: BAD EDIT: an 'old:' text is in src/lib.rt 0 times"),
-    "a_step_is_two": ([("self.count += 1;", "self.count += 2;")], TOGETHER),
-    "at_least_one": ([("n > 0", "n >= 1")], HARMLESS),
-    "larger_gives_the_first": ([("if b < a { a } else { b }", "if b < a { a } else { a }")], TOGETHER),
-    "larger_gives_the_smaller": ([("if b < a { a } else { b }", "if b < a { b } else { a }")], ALONE),
-    "largest_from_behind": ([("larger(larger(a, b), c)", "larger(a, larger(b, c))")], HARMLESS),
-    "more_than_the_most": ([("MOST: u32 = 100", "MOST: u32 = 101")], ALONE),
-    "smaller_of_equal_ones": ([("if a < b { a } else { b }", "if a <= b { a } else { b }")], HARMLESS),
-    "unknown_name": ([("if a < b { a } else { b }", "if a < c { a } else { b }")], "NOT refused: it didn't reach the prover"),
+    "a_counter_begins_at_one": ([("Counter { count: 0 }", "Counter { count: 1 }")], "returns", TOGETHER),
+    "a_lost_name": ([("let mut sum = n;", "let mut total = n;"), ("sum += 1;", "total += 1;"), ("= sum;", "= total;")], "returns", "NOT refused but by names"),
+    "a_lost_text": ([("n > 1", "n > 2")], "returns", "NOT refused: BAD EDIT: an 'old:' text is in src/lib.rt 0 times"),
+    "a_step_is_two": ([("self.count += 1;", "self.count += 2;")], "returns", TOGETHER),
+    "at_least_one": ([("n > 0", "n >= 1")], "returns", HARMLESS),
+    "larger_gives_the_first": ([("if b < a { a } else { b }", "if b < a { a } else { a }")], "second", TOGETHER),
+    "larger_gives_the_smaller": ([("if b < a { a } else { b }", "if b < a { b } else { a }")], "either", "NOT refused by either, but by first, second"),
+    "largest_from_behind": ([("larger(larger(a, b), c)", "larger(a, larger(b, c))")], "third", HARMLESS),
+    "more_than_the_most": ([("MOST: u32 = 100", "MOST: u32 = 101")], "returns", ALONE),
+    "smaller_of_equal_ones": ([("if a < b { a } else { b }", "if a <= b { a } else { b }")], "either", HARMLESS),
+    "unknown_name": ([("if a < b { a } else { b }", "if a < c { a } else { b }")], "either", "NOT refused: it didn't reach the prover"),
+    "without_a_clause": ([("let whole = sum;", "let whole = n;")], "", "NOT refused by a clause that it names, but by returns"),
 }
 
 
@@ -149,8 +150,9 @@ def write_repository(root):
     (crate / "src/lib.rt").write_text(SOURCE, "utf-8")
     (crate / "specs/Lib.antt").write_text("")
     (crate / "proofs/doubled/Invariants.antt").write_text(INVARIANTS, "utf-8")
-    for name, (pairs, _) in EDITS.items():
-        lines = ["file: src/lib.rt", *[line for old, new in pairs for line in (f"old: {old}", f"new: {new}")]]
+    for name, (pairs, clause, _) in EDITS.items():
+        named = [f"# refused by: {clause}"] if clause else []
+        lines = [*named, "file: src/lib.rt", *[line for old, new in pairs for line in (f"old: {old}", f"new: {new}")]]
         (crate / f"must-fail/{name}.edit").write_text("\n".join(lines) + "\n", "utf-8")
 
 
@@ -160,11 +162,11 @@ def main():
         ran = subprocess.run([sys.executable, TOOL, "--jobs", "1"], cwd=folder, capture_output=True, text=True, errors="replace")
     said = dict(re.findall(r"^must-fail counters/(\w+)\.edit: (.*)", ran.stdout, re.M))
     passed = failed = 0
-    for name, (_, wanted) in EDITS.items():
+    for name, (_, _, wanted) in EDITS.items():
         is_well = said.get(name, "").startswith(wanted)
         passed, failed = passed + is_well, failed + (not is_well)
         print(f"the tool on {name}: {'well' if is_well else 'WRONG'}: {said.get(name, 'no line')}")
-    refused = sum(wanted in (TOGETHER, ALONE) for _, wanted in EDITS.values())
+    refused = sum(wanted in (TOGETHER, ALONE) for _, _, wanted in EDITS.values())
     counts = f"{refused} passed, {len(EDITS) - refused} failed"
     is_well = ran.returncode == 1 and ran.stdout.rstrip("\n").endswith(counts)
     passed, failed = passed + is_well, failed + (not is_well)

@@ -1,7 +1,8 @@
 #!/usr/bin/env python3
 """Tries the edits that the prover must refuse, many of a crate in one check.
 
-    tools/must_fail.py [--jobs N] [--proved FOLDER] [CRATE or CRATE/NAME ..]
+    tools/must_fail.py [--jobs N] [--proved FOLDER] [--write] [CRATE or CRATE/NAME ..]
+    tools/must_fail.py --list [CRATE or CRATE/NAME ..]
 
 An edit, crates/CRATE/must-fail/NAME.edit, turns the meaning of a function, and its crate must then not be proved. A function is
 proved against the contracts of those that it calls, never their bodies, so edits of the bodies of different functions are made
@@ -9,6 +10,9 @@ together, in a copy, at most 25 of them, and one check tries them all: each edit
 That it calls another that isn't proved is none, nor is a proof that only lacks a name that the edit took away. An edit of which
 a round doesn't tell such a reason is tried alone, and so is one that changes more than the bodies of functions. Alone it
 fails where the crate is still proved, where its functions get no reason of their own, and where it doesn't reach the prover.
+
+Its line `# refused by: CLAUSE` names the clause that refuses it, and that clause has to be one of those that the prover couldn't
+show. --write writes that line where it is missing or wrong. --list tries nothing: it prints the edits by the modules that they change.
 
 A check looks at the edited functions and what they call, or at those that name an edited constant; where that tells no reason,
 one of the whole crate decides.
@@ -43,6 +47,11 @@ ERROR = re.compile(r"(?:\./)?(\S+?):\d+:\d+: error\b")
 LOST_NAME = re.compile(r"has no field|is not in scope|has no `|was not admitted|: module `[^`]*`$|: record `[^`]*` \(nearest: ")
 # What is said of a function that is refused only since another isn't proved, also where it is proved together with those it calls.
 ONLY_CALLS = re.compile(r"(?:in `[^`]*`, of this cycle of calls: )?it calls ")
+# The line of an edit that names the clause which refuses it.
+CLAUSE = re.compile(r"^# refused by: (\S+)\n", re.M)
+# The goals that a check couldn't show, as a reason lists them, and as an error names its own.
+UNSHOWN = re.compile(r"`search` did not prove ((?:`[^`]*`(?:, )?)+)")
+GOAL_OF_ERROR = re.compile(r": error: `([\w+-]+)`:")
 CONSTANT = re.compile(r"^(?:pub(?:\([^)]*\))? )?(?:const|static) (\w+)", re.M)
 
 
@@ -58,14 +67,21 @@ class Change:
 
 @dataclass(eq=False)
 class Edit:
-    """An edit: its changes, the texts that it makes by their files, and the functions whose bodies it changes, none where it changes more than
-    bodies; or what is wrong with it."""
+    """An edit: its file, its changes, the texts that it makes by their files, the functions whose bodies it changes, none where it changes more
+    than bodies, and the clause that it says refuses it; or what is wrong with it."""
 
+    file: Path
     name: str
+    clause: str = ""
     changes: list = field(default_factory=list)
     texts: dict = field(default_factory=dict)
     functions: set = field(default_factory=set)
     wrong: str = ""
+
+    def write_clause(self, clause):
+        """Writes the line that names the clause which refuses it, in front."""
+        self.clause = clause
+        self.file.write_text(f"# refused by: {clause}\n" + CLAUSE.sub("", self.file.read_text("utf-8")), "utf-8")
 
 
 def pairs_of(text):
@@ -83,9 +99,10 @@ def pairs_of(text):
 
 def read_edit(file, crate):
     """Reads an edit of this crate."""
-    edit = Edit(f"{crate.name}/{file.name}")
+    text = file.read_text("utf-8")
+    edit = Edit(file, f"{crate.name}/{file.name}", *CLAUSE.findall(text)[:1])
     spread = False
-    for path, old, new in pairs_of(file.read_text("utf-8")):
+    for path, old, new in pairs_of(text):
         if not path or not old or os.path.normpath(path) != path or not path.startswith(("src/", "specs/", "proofs/")):
             edit.wrong = "a 'new:' line stands behind no 'old:' line, or the 'file:' line names no file of the crate"
             return edit
@@ -175,12 +192,20 @@ def joined(lines):
     return whole
 
 
+def clause_of(goal):
+    """The clause that a goal is about, or else the goal: `returns` is a whole contract, whatever the way to the function's end."""
+    clause = re.search(r"clause-(\w+)", goal)
+    return clause[1] if clause else "returns" if goal.startswith("returns") else goal
+
+
 class Verdict:
-    """What a check said: of each function that it names the reason of its own for which it is refused, or an empty text."""
+    """What a check said: of each function that it names the reason of its own for which it is refused, or an empty text, and the clauses that
+    weren't shown."""
 
     def __init__(self, status, lines):
         self.is_proved = status == 0
         self.reasons = {}
+        self.clauses = {}
         self.by_names = {}
         # Functions that call one another are proved together, so such a reason tells of none of them by itself.
         self.in_cycles = {}
@@ -195,24 +220,36 @@ class Verdict:
 
     def take(self, function, verdict, why, errors):
         """Takes what is said of a function."""
-        self.reasons[function] = ""
+        self.reasons[function], self.clauses[function] = "", []
         if verdict == "no proof" and not ONLY_CALLS.match(why):
             self.reasons[function] = why
+            goals = [it.strip("`") for found in UNSHOWN.findall(why) for it in found.split(", ")]
+            self.clauses[function] = [clause_of(it) for it in goals]
         if verdict == "not proved" and not ONLY_CALLS.match(why):
             own = "proofs/" + function.partition("::")[2].replace("::", "/") + "/"
             said = [line for path, line in errors if path.startswith(own)]
-            self.reasons[function] = next((line for line in said if not LOST_NAME.search(line)), "")
-            cycles = [line for path, line in errors if "/+" in path and own.startswith(path.partition("/+")[0] + "/")]
-            in_cycle = next((line for line in cycles if not LOST_NAME.search(line)), "")
-            if in_cycle and not self.reasons[function]:
-                self.in_cycles[function] = in_cycle
-            if said and not self.reasons[function]:
+            of_values = [line for line in said if not LOST_NAME.search(line)]
+            cycles = [line for path, line in errors if "/+" in path and own.startswith(path.partition("/+")[0] + "/") and not LOST_NAME.search(line)]
+            self.reasons[function] = next(iter(of_values), "")
+            self.clauses[function] = [clause_of(it) for line in of_values or cycles for it in GOAL_OF_ERROR.findall(line)]
+            if cycles and not of_values:
+                self.in_cycles[function] = cycles[0]
+            if said and not of_values:
                 self.by_names[function] = said[0]
 
+    def functions_of(self, edit):
+        """The functions of an edit that the check names; all of them where it names none of those."""
+        own = edit.functions & self.reasons.keys()
+        return [name for name in self.reasons if not own or is_within(name, own)]
+
     def of(self, edit, reasons):
-        """The first of these reasons that is one of the edit's functions; of any where it has none that the check names."""
-        functions = edit.functions & self.reasons.keys()
-        return next((why for name, why in reasons.items() if why and (not functions or is_within(name, functions))), "")
+        """The first of these reasons that is one of the edit's functions."""
+        return next((reasons[name] for name in self.functions_of(edit) if reasons.get(name)), "")
+
+    def clauses_of(self, edit):
+        """The clauses of the edit's functions that weren't shown, those of contracts first."""
+        found = dict.fromkeys(it for name in self.functions_of(edit) for it in self.clauses[name])
+        return sorted(found, key=lambda it: "-" in it)
 
     def refuses_others(self, edits):
         """Whether a function that none of the edits changes is refused for a reason of its own."""
@@ -226,11 +263,11 @@ def is_within(name, functions):
 
 
 class Room:
-    """A copy of a crate, in which edits are tried over what the checks before kept."""
+    """A copy of a crate, in which edits are tried over what the checks before kept. It may write the clauses that refuse them."""
 
-    def __init__(self, crate, folder, kept):
+    def __init__(self, crate, folder, kept, writes):
         self.crate, self.folder, self.kept = crate, Path(folder), Path(folder) / "kept"
-        self.checks = 0
+        self.checks, self.writes = 0, writes
         for part in PARTS:
             if (crate.folder / part).is_dir():
                 shutil.copytree(crate.folder / part, self.folder / part)
@@ -275,12 +312,12 @@ def rounds_of(edits):
 
 
 def try_together(room, edits):
-    """The edits of a round that are refused, each with the reason."""
+    """The edits of a round that are refused, each with what to say of it."""
     verdict = room.check(edits, {it for edit in edits for it in edit.functions})
     if verdict.is_proved or verdict.trouble or verdict.refuses_others(edits):
         return {}
     reasons = {edit: verdict.of(edit, verdict.reasons) for edit in edits if edit.functions & verdict.reasons.keys()}
-    return {edit: f"refused: {why}" for edit, why in reasons.items() if why}
+    return {edit: refused_by(room, edit, verdict, f"refused: {why}") for edit, why in reasons.items() if why}
 
 
 def why_alone(room, edit, functions=()):
@@ -290,14 +327,25 @@ def why_alone(room, edit, functions=()):
     return verdict, reached and (verdict.of(edit, verdict.reasons) or verdict.of(edit, verdict.in_cycles))
 
 
+def refused_by(room, edit, verdict, said):
+    """Whether an edit that is refused names a clause that refuses it, and what to say of it."""
+    clauses = verdict.clauses_of(edit)
+    if room.writes and clauses and edit.clause not in clauses:
+        edit.write_clause(clauses[0])
+    if edit.clause in clauses:
+        return True, said
+    named = f"by {edit.clause}" if edit.clause else "by a clause that it names"
+    return False, f"NOT refused {named}, but by {', '.join(clauses) or 'none that the check names'}: {said}"
+
+
 def try_alone(room, edit):
     """Whether an edit is refused, and what to say of it."""
     functions = edit.functions or room.crate.functions_naming(edit)
-    why = functions and why_alone(room, edit, functions)[1]
+    verdict, why = why_alone(room, edit, functions) if functions else (None, "")
     if not why:
         verdict, why = why_alone(room, edit)
     if why:
-        return True, f"refused (alone): {why}"
+        return refused_by(room, edit, verdict, f"refused (alone): {why}")
     if verdict.is_proved:
         return False, "NOT refused: the crate is still proved with it"
     if verdict.trouble:
@@ -313,14 +361,14 @@ def try_edits(room, edits):
     said = {edit: (False, f"NOT refused: BAD EDIT: {edit.wrong}") for edit in edits if edit.wrong}
     for together in rounds_of([it for it in edits if it.functions and not it.wrong]):
         if len(together) > 1:
-            said.update({edit: (True, why) for edit, why in try_together(room, together).items()})
+            said.update(try_together(room, together))
     for edit in edits:
         if edit not in said:
             said[edit] = try_alone(room, edit)
     return [(said[edit][0], f"must-fail {edit.name}: {said[edit][1][:300]}") for edit in edits]
 
 
-def try_crate(crate, files, is_proved):
+def try_crate(crate, files, is_proved, writes):
     """Whether each edit of a crate is refused, and the lines to print."""
     started = time.monotonic()
     if not is_proved:
@@ -330,7 +378,7 @@ def try_crate(crate, files, is_proved):
             return [(False, f"must-fail {crate.name}/{it.name}: NOT tried: the crate isn't proved without it: {why}") for it in files], ""
     edits = [read_edit(it, crate) for it in files]
     with tempfile.TemporaryDirectory(prefix="must-fail-") as folder:
-        room = Room(crate, folder, crate.folder / "out/incremental")
+        room = Room(crate, folder, crate.folder / "out/incremental", writes)
         tried = try_edits(room, edits)
     return tried, f"must-fail {crate.name}: {len(files)} edits, {room.checks} checks, {time.monotonic() - started:.0f} s"
 
@@ -354,15 +402,32 @@ def wanted_of(edits, wanted):
     return found
 
 
+def list_edits(edits):
+    """Prints the edits of each crate by the modules that they change, each with its functions and the clause that refuses it."""
+    crates = Crates(".")
+    for name, files in edits.items():
+        crate = Crate(name, crates.folder(name), 0, [])
+        read = [(next((it.path for it in edit.changes), ""), edit) for edit in (read_edit(it, crate) for it in files)]
+        for path in sorted({path for path, _ in read}):
+            print(f"{name}/{path}")
+            for edit in (it for changed, it in read if changed == path):
+                functions = ", ".join(sorted(it.rpartition("::")[2] for it in edit.functions)) or "more than a body"
+                print(f"    {edit.file.stem}: {functions}, refused by {edit.clause or '?'}")
+
+
 def main():
     Commands.stop_with_this()
     asked = argparse.ArgumentParser(description="Tries the edits that the prover must refuse, many of a crate in one check.")
     asked.add_argument("--jobs", type=int, help="how many crates at a time")
     asked.add_argument("--proved", metavar="FOLDER", help="a copy of the repository that rt ci has just proved")
+    asked.add_argument("--write", action="store_true", help="write the clauses that refuse the edits into them")
+    asked.add_argument("--list", action="store_true", help="print the edits by modules, and try none")
     asked.add_argument("wanted", nargs="*", metavar="CRATE or CRATE/NAME", help="the edits of a crate, or one of them; none: all")
     words = asked.parse_args()
     edits, strays = find_edits()
     edits = wanted_of(edits, words.wanted) if words.wanted else edits
+    if words.list:
+        return list_edits(edits)
     toolchain = Toolchain(Path(words.proved or ".").resolve())
     crates = [toolchain.crate(name) for name in edits]
     passed, failed = 0, len(strays)
@@ -370,7 +435,7 @@ def main():
         print(f"{file}: NOT an edit: an edit stands right in must-fail/, and its name ends in .edit (or in .md, if it is only to be read)")
     with ThreadPoolExecutor(words.jobs or int(os.environ.get("RT_JOBS") or checks_side_by_side())) as pool:
         largest_first = sorted(crates, key=lambda crate: -crate.size)
-        running = [pool.submit(try_crate, it, edits[it.name], bool(words.proved)) for it in largest_first]
+        running = [pool.submit(try_crate, it, edits[it.name], bool(words.proved), words.write) for it in largest_first]
         for tried, summary in (it.result() for it in running):
             for is_refused, text in tried:
                 print(text)
