@@ -4,7 +4,7 @@
     tools/uncited.py [--remove] [CRATE ..]
 
 A worked row (proofs/../Rows...antt) is cited by nothing, and an answer only by its goal: these don't count. With --remove lemmas and names are
-taken out until none is left; the prover then has to look at the crates again. The last line is `N passed, M failed`: the proof files without such
+taken out until none is left; the prover then has to look at the crates again. The last line is `N passed, M failed`: the crates without such
 findings, and those with.
 """
 import argparse
@@ -23,6 +23,10 @@ SAYS = re.compile(r"^(?! *use\b)(?! *--) *[^ \n]", re.M)
 # What goals name, and the modules that only hand on words.
 NO_LEMMAS = {"Answers.antt", "Invariants.antt", "Measures.antt", "Lib.antt"}
 HANDING_ON = {"Words.antt", "Imports.antt"}
+
+
+def crate_of(file):
+    return file.relative_to(TOP).parts[1]
 
 
 def words_of(text):
@@ -73,7 +77,7 @@ class Texts:
             self.words.update(words_of(text))
 
     def proofs(self, crates):
-        return [it for it in self.texts if it.relative_to(TOP).parts[2] == "proofs" and (not crates or it.relative_to(TOP).parts[1] in crates)]
+        return [it for it in self.texts if it.relative_to(TOP).parts[2] == "proofs" and (not crates or crate_of(it) in crates)]
 
     def uncited(self, file):
         """The lemmas of a file that nothing cites, and the names that it imports in vain."""
@@ -137,8 +141,8 @@ def main():
             break
     for file in silent:
         print(f"{file.relative_to(TOP)}: says nothing")
-    failed = len({*found, *silent})
-    print(f"{len(proofs) - failed} passed, {failed} failed")
+    failed = len({crate_of(it) for it in [*found, *silent]})
+    print(f"{len({crate_of(it) for it in proofs}) - failed} passed, {failed} failed")
     return 1 if failed else 0
 
 
