@@ -1,5 +1,5 @@
 -- Delimiter lines, and the multiparts that are open.
-use Rattle.mime_text.proofs.Words.{◌≡◌, ◌∙◌, ◌≤◌, ◌<◌, ◌+◌, ◌-◌, ◌++◌, ℕ, zero, suc, Bool, true, false, cond, List, [], ◌∷◌, Option, Some, None, length, take, drop, refl, sym, ap, arith, add-one, get_or, Bor, slice_get, option_map, MatchOption, bytes_eq, without_break, DefaultType, Frame, Delimiter, are_blanks, is_delimiter, is_closing, StreamPlace, Skip, InHeader, or_else, own_hit, hit, dash_dash, dashes, kind_behind, delimiter_of, led, scan, inside_out, opened, AreNested}
+use Rattle.mime_text.proofs.Words.{◌≡◌, ◌∙◌, ◌≤◌, ◌<◌, ◌+◌, ◌-◌, ◌++◌, ℕ, zero, suc, Bool, true, false, cond, List, [], ◌∷◌, Option, Some, None, length, take, drop, refl, sym, ap, arith, add-one, get_or, Bor, slice_get, option_map, MatchOption, IfSome, eqb-true, bytes_eq, without_break, DefaultType, Frame, Delimiter, are_blanks, is_delimiter, is_closing, StreamPlace, Skip, InHeader, or_else, own_hit, hit, dash_dash, dashes, kind_behind, delimiter_of, led, scan, inside_out, opened, AreNested}
 use Rattle.std.proofs.lemmas.Option.{slice_get-get_or}
 use Rattle.header_text.specs.EncodedWords.{after}
 use Rattle.mime_text.specs.declared.parts.delimiter.Delimiter.TheVariants.{Next, Closing}
@@ -26,6 +26,13 @@ pub after-stripped : (front bytes : List ℕ) (r : Option (Bor (List ℕ)))
     → MatchOption r (bytes_eq (take (length front) bytes) front ≡ false) (λ x. (bytes_eq (take (length front) bytes) front ≡ true) × (x.now ≡ drop (length front) bytes) × (length x.now + length front ≡ length bytes))
     → option_map (λ x. x.now) r ≡ after front bytes
 after-stripped front bytes r h = grind (arith, after-tested)
+
+-- each byte of a front that stands there
+pub after-each : (front bytes : List ℕ) (k : ℕ) → k < length front → IfSome (after front bytes) (λ _. (k < length bytes) × (get_or bytes k 0 ≡ get_or front k 0))
+after-each [] bytes k below = absurd (omega (arith, below))
+after-each (c ∷ front) [] k below = tt
+after-each (c ∷ front) (b ∷ bytes) zero below = grind (arith, eqb-true)
+after-each (c ∷ front) (b ∷ bytes) (suc k) below = grind (arith, after-each front bytes k)
 
 -- ---- delimiters
 

@@ -59,7 +59,7 @@ pub use Rattle.mime_text.specs.declared.parts.shape.DefaultType.{DefaultType}
 pub use Rattle.mime_text.specs.declared.parts.shape.DefaultType.TheVariants.{MessageRfc822, TextPlain}
 pub use Rattle.mime_text.specs.declared.parts.shape.Shape.{Shape}
 pub use Rattle.mime_text.specs.declared.parts.shape.Shape.TheVariants.{Message, Multipart, Other, Text}
-pub use Rattle.std.proofs.Common.{All, Bool, Bor, IsUtf8, List, None, Option, Some, [], add-one, ap, append-nil, append_assoc, ap₂, arith, chars, cond, drop, encode_utf8, encode_utf8_all, eq-eqb, false, get_or, if◌then◌else◌, length, length-append, map, min, nat_lt, refl, replicate, reverse, rules, string_bytes, subst, suc, sym, take, true, zero, ℕ, ◌++◌, ◌+◌, ◌-◌, ◌<◌, ◌==◌, ◌||◌, ◌∙◌, ◌∷◌, ◌≡◌, ◌≤◌}
+pub use Rattle.std.proofs.Common.{All, Bool, Bor, IfSome, IsUtf8, List, None, Option, Some, [], add-one, ap, append-nil, append_assoc, ap₂, arith, chars, cond, drop, encode_utf8, encode_utf8_all, eq-eqb, false, get_or, if◌then◌else◌, length, length-append, map, min, nat_lt, refl, replicate, reverse, rules, string_bytes, subst, suc, sym, take, true, zero, ℕ, ◌++◌, ◌+◌, ◌-◌, ◌<◌, ◌==◌, ◌||◌, ◌∙◌, ◌∷◌, ◌≡◌, ◌≤◌}
 pub use Rattle.std.proofs.lemmas.Bool.{eqb-true, false_from_ne_true}
 pub use Rattle.std.proofs.lemmas.Bool.Decides.{nat_tests}
 pub use Rattle.std.proofs.lemmas.Grind.{flat_map-append}

@@ -1,5 +1,5 @@
 //! Delimiter lines (RFC 2046, 5.1.1).
-ghost use Rattle.std.specs.Prelude.{◌≡◌, Some, option_map};
+ghost use Rattle.std.specs.Prelude.{◌≡◌, false, Some, None, option_map};
 ghost use Rattle.std.specs.List.{list_all};
 ghost use Rattle.header_text.specs.Blanks.{is_blank as is_blank_of};
 ghost use Rattle.header_text.specs.EncodedWords.{after as after_of};
@@ -62,11 +62,22 @@ fn delimiter_of_rest(rest: &[u8]) -> Option<Delimiter>
     }
 }
 
+/// Whether a boundary's last byte stands where the boundary would end. Boundaries of one message mostly begin alike.
+fn has_last_of(boundary: &[u8], text: &[u8]) -> bool
+    ensures { result ≡ false → after_of boundary.now text.now ≡ None }
+{
+    let length = boundary.len();
+    length == 0 || length <= text.len() && text[length - 1] == boundary[length - 1]
+}
+
 /// What a line is to the multipart of a boundary, by what follows the line's two dashes.
 #[tactic(auto, unfolding(crate::specs::Frames::delimiter_of))]
 pub(crate) fn delimiter_behind(boundary: &[u8], text: &[u8]) -> Option<Delimiter>
     ensures { result ≡ delimiter_of boundary.now text.now }
 {
+    if !has_last_of(boundary, text) {
+        return None;
+    }
     match after(boundary, text) {
         Some(rest) => delimiter_of_rest(rest),
         None => None,
