@@ -12,11 +12,11 @@ pub texts-cons : (f : HeaderField) (fs : List HeaderField) → texts_of_fields (
 texts-cons f fs = grind arith
 
 module _ {S : Type 0} (takes : S → TextKind → List ℕ → S → Type 0) (refuses : S → TextKind → List ℕ → SinkFault → S → Type 0) where
-  pub gave-one : (A : Coming) (p : Pair) (s t : S) → ((ms : List (List ℕ)) → A ms ≡ p ∷ []) → takes s p.0 p.1 t → Gave takes refuses A (λ _. []) s t
-  gave-one A p s t e h = record { pairs = p ∷ []; taken = (t, h, refl); rest = e }
+  pub gave-one : (p : Pair) (s t : S) → takes s p.0 p.1 t → Gave takes refuses (λ _. p ∷ []) (λ _. []) s t
+  gave-one p s t h = record { pairs = p ∷ []; taken = (t, h, refl); rest = λ ms. refl }
 
-  pub broke-one : (A : Coming) (p : Pair) (fault : SinkFault) (s t : S) → ((ms : List (List ℕ)) → A ms ≡ p ∷ []) → refuses s p.0 p.1 fault t → Broke takes refuses A (Sink fault) s t
-  broke-one A p fault s t e h = record { pairs = p ∷ []; broken = ([], p, s, refl, refl, h); front = λ ms. ([], e ms) }
+  pub broke-one : (p : Pair) (fault : SinkFault) (s t : S) → refuses s p.0 p.1 fault t → Broke takes refuses (λ _. p ∷ []) (Sink fault) s t
+  broke-one p fault s t h = record { pairs = p ∷ []; broken = ([], p, s, refl, refl, h); front = λ ms. ([], refl) }
 
   -- in front of more
   pub gave-front : (A B R : Coming) (s t : S) → ((ms : List (List ℕ)) → B ms ≡ A ms ++ R ms) → Gave takes refuses A (λ _. []) s t → Gave takes refuses B R s t

@@ -1,5 +1,10 @@
 -- What a sink was given, call by call.
-use Rattle.mime_text.proofs.Words.{◌≡◌, ◌∙◌, ◌++◌, ℕ, List, [], ◌∷◌, refl, sym, ap, subst, append_assoc, arith, Result, Ok, Err, TextKind, SinkFault, TextFault, Pair, Coming, TakesAll, Breaks, Gave, Broke, Hands}
+use Rattle.mime_text.proofs.Words.{◌≡◌, ◌∙◌, ◌++◌, ℕ, List, [], ◌∷◌, refl, sym, ap, subst, append_assoc, arith, Result, Ok, Err, IsErrAnd, TextKind, SinkFault, TextFault, Pair, Coming, TakesAll, Breaks, Gave, Broke, Hands}
+
+-- a fault that goes up
+pub fault-up : {T : Type 0} (result : Result T TextFault) (fault : TextFault) → IsErrAnd result (λ f. f ≡ fault) → result ≡ Err fault
+fault-up (Err f) fault e = ap Err e
+fault-up (Ok x) fault e = absurd e
 
 module _ {S : Type 0} (takes : S → TextKind → List ℕ → S → Type 0) (refuses : S → TextKind → List ℕ → SinkFault → S → Type 0) where
   taken-append : (ps qs : List Pair) (s t u : S) → TakesAll takes refuses ps s t → TakesAll takes refuses qs t u → TakesAll takes refuses (ps ++ qs) s u

@@ -70,4 +70,5 @@ pub use Rattle.std.specs.Global.{Global}
 pub use Rattle.std.specs.List.{AllByRecursion, concat, cons_option, find, list_any}
 pub use Rattle.std.specs.Option.{option_map_or, option_to_list}
 pub use Rattle.std.specs.Prelude.{Err, IfErr, MatchOption, Ok, OnOk, Result, Vec, codes, flat_map, not, option_map, slice_get, unwrap_or, ◌≢◌}
+pub use Rattle.std.specs.Result.{IsErrAnd}
 pub use Rattle.std.specs.Str.{IsAscii, bytes_eq}

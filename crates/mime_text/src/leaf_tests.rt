@@ -27,9 +27,8 @@ impl TextSink for Kept {
             return Err(SinkFault::Refused);
         }
         self.room -= 1;
-        if self.texts.push_str(text).is_err() || self.texts.push('|').is_err() {
-            return Err(SinkFault::OutOfMemory);
-        }
+        self.texts.push_str(text)?;
+        self.texts.push('|')?;
         Ok(())
     }
 }

@@ -18,10 +18,7 @@ fn give_text<S: TextSink>(kind: TextKind, text: &str, sink: &mut S) -> Result<()
     ensures { Hands S.takes S.refuses (λ _. (kind, text.now) ∷ []) (λ _. []) result
         sink.old sink.new }
 {
-    match sink.text(kind, text) {
-        Ok(()) => Ok(()),
-        Err(fault) => Err(TextFault::Sink(fault)),
-    }
+    Ok(sink.text(kind, text)?)
 }
 
 /// Gives the text of a field, if it is one of the five.
@@ -38,10 +35,8 @@ fn give_field<S: TextSink>(
     let Some(kind) = kind_of_field(field.name) else {
         return Ok(());
     };
-    match reader.read(field.body) {
-        Ok(text) => give_text(kind, text, sink),
-        Err(_) => Err(TextFault::OutOfMemory),
-    }
+    let text = reader.read(field.body)?;
+    give_text(kind, text, sink)
 }
 
 /// Gives the texts of a header's fields, in order.
@@ -55,9 +50,7 @@ fn give_fields<S: TextSink>(
         sink.old sink.new }
 {
     for field in fields {
-        if let Err(fault) = give_field(field, reader, sink) {
-            return Err(fault);
-        }
+        give_field(field, reader, sink)?;
     }
     Ok(())
 }
@@ -90,10 +83,9 @@ fn give_name<S: TextSink>(
     ensures { Hands S.takes S.refuses (λ _. name_texts fields.entry) (λ _. []) result
         sink.old sink.new }
 {
-    match reader.read_name(fields) {
-        Ok(Some(text)) => give_text(TextKind::Name, text, sink),
-        Ok(None) => Ok(()),
-        Err(_) => Err(TextFault::OutOfMemory),
+    match reader.read_name(fields)? {
+        Some(text) => give_text(TextKind::Name, text, sink),
+        None => Ok(()),
     }
 }
 
@@ -108,8 +100,6 @@ pub(crate) fn give_header<S: TextSink>(
     ensures { Hands S.takes S.refuses (λ _. header_texts counted fields.entry) (λ _. []) result
         sink.old sink.new }
 {
-    match give_counted(counted, fields.again(), reader, sink) {
-        Ok(()) => give_name(fields, reader, sink),
-        Err(fault) => Err(fault),
-    }
+    give_counted(counted, fields.again(), reader, sink)?;
+    give_name(fields, reader, sink)
 }

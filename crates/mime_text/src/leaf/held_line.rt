@@ -54,13 +54,9 @@ fn give_lines<'a, S: TextSink>(
     let mut searched = searched;
     while let Some(len) = line_end_behind(searched, rest) {
         let (line, later) = rest.split_at(len);
-        match texts.give(line, sink) {
-            Ok(()) => {
-                rest = later;
-                searched = 0;
-            }
-            Err(fault) => return Err(fault),
-        }
+        texts.give(line, sink)?;
+        rest = later;
+        searched = 0;
     }
     Ok(rest)
 }
@@ -92,10 +88,7 @@ fn take_lines<S: TextSink>(
         (bytes.old.items ++ concat ls)) (λ ls. pairs_of_bytes texts.new
         (bytes.new.items ++ concat ls)) result sink.old sink.new }
 {
-    let left = match give_lines(searched, bytes, texts, sink) {
-        Ok(rest) => rest.len(),
-        Err(fault) => return Err(fault),
-    };
+    let left = give_lines(searched, bytes, texts, sink)?.len();
     let at = bytes.len() - left;
     drop_front(bytes, at);
     Ok(())
@@ -106,15 +99,11 @@ fn give_all<S: TextSink>(bytes: &[u8], texts: &mut LineTexts, sink: &mut S) -> R
     ensures { Hands S.takes S.refuses (λ _. pairs_of_bytes texts.old bytes.now) (λ _. []) result
         sink.old sink.new }
 {
-    match give_lines(0, bytes, texts, sink) {
-        Ok(rest) => {
-            if rest.is_empty() {
-                return Ok(());
-            }
-            texts.give(rest, sink)
-        }
-        Err(fault) => Err(fault),
+    let rest = give_lines(0, bytes, texts, sink)?;
+    if rest.is_empty() {
+        return Ok(());
     }
+    texts.give(rest, sink)
 }
 
 /// Decodes the next line of the body behind the bytes that are held, and gives the lines that are whole then.
@@ -133,10 +122,8 @@ fn take_encoded<S: TextSink>(
         sink.old sink.new }
 {
     let held = bytes.len();
-    match decoder.push(line, bytes) {
-        Ok(()) => take_lines(held.min(bytes.len()), bytes, texts, sink),
-        Err(_) => Err(TextFault::OutOfMemory),
-    }
+    decoder.push(line, bytes)?;
+    take_lines(held.min(bytes.len()), bytes, texts, sink)
 }
 
 /// Decodes the body's end behind the bytes that are held, and gives all lines.
@@ -149,10 +136,8 @@ fn give_rest<S: TextSink>(
     ensures { Hands S.takes S.refuses (λ _. pairs_of_bytes texts.old
         (bytes.old.items ++ still_decoded decoder [])) (λ _. []) result sink.old sink.new }
 {
-    match decoder.finish(bytes) {
-        Ok(()) => give_all(bytes, texts, sink),
-        Err(_) => Err(TextFault::OutOfMemory),
-    }
+    decoder.finish(bytes)?;
+    give_all(bytes, texts, sink)
 }
 
 #[tactic(auto, unfolding(mbox_cutter::specs::Lines::line_end_of))]

@@ -61,16 +61,10 @@ impl LineTexts {
         if !self.is_html {
             return self.buffers.show_plain(self.charset, line, sink);
         }
-        match self
+        self.is_open = self
             .buffers
-            .show_html(self.charset, self.is_open, line, sink)
-        {
-            Ok(behind) => {
-                self.is_open = behind;
-                Ok(())
-            }
-            Err(fault) => Err(fault),
-        }
+            .show_html(self.charset, self.is_open, line, sink)?;
+        Ok(())
     }
 
     /// Gives a sink the text of the next line.

@@ -28,10 +28,7 @@ fn show<S: TextSink>(text: &str, sink: &mut S) -> Result<(), TextFault>
     requires { length text.now ≤ most_in_line_text }
     ensures { Shows S.takes S.refuses text.now result sink.old sink.new }
 {
-    match sink.text(TextKind::Body, text) {
-        Ok(()) => Ok(()),
-        Err(fault) => Err(TextFault::Sink(fault)),
-    }
+    Ok(sink.text(TextKind::Body, text)?)
 }
 
 /// Writes the text of a line; nothing where memory is wanting.
@@ -90,10 +87,8 @@ impl TextBuffers {
         if let Some(text) = own_text(charset, line) {
             return show(text, sink);
         }
-        match write_text(charset, line, &mut self.text) {
-            Ok(()) => show(self.text.as_str(), sink),
-            Err(_) => Err(TextFault::OutOfMemory),
-        }
+        write_text(charset, line, &mut self.text)?;
+        show(self.text.as_str(), sink)
     }
 
     /// Writes the text of a line without its tags. The answer is whether a tag is open behind it.
@@ -112,10 +107,8 @@ impl TextBuffers {
         if let Some(text) = own_text(charset, line) {
             return write_blanked(open_before, text, &mut self.blanked);
         }
-        match write_text(charset, line, &mut self.text) {
-            Ok(()) => write_blanked(open_before, self.text.as_str(), &mut self.blanked),
-            Err(error) => Err(error),
-        }
+        write_text(charset, line, &mut self.text)?;
+        write_blanked(open_before, self.text.as_str(), &mut self.blanked)
     }
 
     /// Gives a sink the text of a line without its tags. The answer is whether a tag is open behind it.
@@ -134,18 +127,12 @@ impl TextBuffers {
     {
         if let Some(text) = own_text(charset, line) {
             if is_free_of_tags(open_before, text) {
-                return match show(text, sink) {
-                    Ok(()) => Ok(false),
-                    Err(fault) => Err(fault),
-                };
+                show(text, sink)?;
+                return Ok(false);
             }
         }
-        match self.write_blanked_line(charset, open_before, line) {
-            Ok(behind) => match show(self.blanked.as_str(), sink) {
-                Ok(()) => Ok(behind),
-                Err(fault) => Err(fault),
-            },
-            Err(_) => Err(TextFault::OutOfMemory),
-        }
+        let behind = self.write_blanked_line(charset, open_before, line)?;
+        show(self.blanked.as_str(), sink)?;
+        Ok(behind)
     }
 }

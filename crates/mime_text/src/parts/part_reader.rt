@@ -122,15 +122,13 @@ impl PartReader {
             (λ c. c) result sink.old sink.new }
         ensures facts { self.new.facts ≡ self.old.facts }
     {
-        if let Err(fault) = end_entity(
+        end_entity(
             self.state,
             self.header.fields(),
             &mut self.leaf,
             &mut self.fields,
             sink,
-        ) {
-            return Err(fault);
-        }
+        )?;
         self.follow(lead);
         Ok(())
     }
@@ -165,10 +163,9 @@ impl PartReader {
         match self.state {
             State::Skipping => Ok(()),
             State::InLeaf => self.leaf.line(line, sink),
-            State::InHeader { counted, default } => match self.header.push_line(line) {
-                Ok(Taken::More) => Ok(()),
-                Ok(Taken::Ended) => self.end_header(counted, default, sink),
-                Err(_) => Err(TextFault::OutOfMemory),
+            State::InHeader { counted, default } => match self.header.push_line(line)? {
+                Taken::More => Ok(()),
+                Taken::Ended => self.end_header(counted, default, sink),
             },
         }
     }
@@ -184,16 +181,9 @@ impl PartReader {
             (Comes self.new) (λ c. c) result sink.old sink.new }
         ensures facts { OnOk result (Notes self.old.facts self.new.facts self.old.header) }
     {
-        if let Err(fault) = give_header(counted, self.header.fields(), &mut self.fields, sink) {
-            return Err(fault);
-        }
-        if self.note_facts().is_err() {
-            return Err(TextFault::OutOfMemory);
-        }
-        match self.begin_body(default) {
-            Ok(()) => Ok(()),
-            Err(_) => Err(TextFault::OutOfMemory),
-        }
+        give_header(counted, self.header.fields(), &mut self.fields, sink)?;
+        self.note_facts()?;
+        Ok(self.begin_body(default)?)
     }
 
     /// Keeps what the header says of the message, if it is the first that has ended.
@@ -256,19 +246,14 @@ impl PartReader {
             → facts ≡ facts_of (fields_of ls)) }
         ensures sizes { IfOk result HasSizedIds }
     {
-        if let Err(fault) = end_entity(
+        end_entity(
             self.state,
             self.header.fields(),
             &mut self.leaf,
             &mut self.fields,
             sink,
-        ) {
-            return Err(fault);
-        }
-        match facts_behind(self.alloc, &self.header, self.facts.take()) {
-            Ok(facts) => Ok(facts),
-            Err(_) => Err(TextFault::OutOfMemory),
-        }
+        )?;
+        Ok(facts_behind(self.alloc, &self.header, self.facts.take())?)
     }
 
     /// Before the first line of another message. Nothing of the message before it counts, and the memory is kept.

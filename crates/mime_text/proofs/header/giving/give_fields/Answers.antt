@@ -1,17 +1,18 @@
 use Rattle.mime_text.proofs.Words.{◌≡◌, ◌∙◌, ◌≤◌, ◌++◌, List, [], ◌∷◌, ap, arith, HeaderField, fields_size, most_in_header, texts_of_fields, Coming}
 use Rattle.mime_text.proofs.GivingLemmas.{texts-cons, gave-front, gave-behind, broke-front}
-use Rattle.mime_text.proofs.Handing.{gave-more, broke-later}
+use Rattle.mime_text.proofs.Handing.{fault-up, gave-more, broke-later}
 use Rattle.mime_text.proofs.header.giving.give_fields.Goals as goal
 
 abbrev texts : List HeaderField → Coming
 texts fields ms = texts_of_fields fields
 
-pub returns-in-Err : goal.returns-in-Err
-returns-in-Err g c =
+pub returns-in_err-give_field : goal.returns-in_err-give_field
+returns-in_err-give_field g c =
     let f : HeaderField = record { name = c.in-Some.field.name.now; body = c.in-Some.field.body.now } in
     let e : texts_of_fields c.loop-field.field-iterator ≡ texts_of_fields (f ∷ []) ++ texts_of_fields c.next.new.self = ap texts_of_fields c.in-Some.ensures.steps ∙ texts-cons f c.next.new.self in
-    broke-later g.S.TextSink.takes g.S.TextSink.refuses (texts c.args.fields) (texts c.loop-field.field-iterator) c.in-Err.fault _ _ _ c.loop-field.invariant.3
-    (broke-front g.S.TextSink.takes g.S.TextSink.refuses (texts (f ∷ [])) (texts c.loop-field.field-iterator) (texts c.next.new.self) c.in-Err.fault _ _ (λ ms. e) c.in-Err.ensures)
+    rw (fault-up c.from_residual.result _ c.from_residual.ensures.1)
+    (broke-later g.S.TextSink.takes g.S.TextSink.refuses (texts c.args.fields) (texts c.loop-field.field-iterator) _ _ _ _ c.loop-field.invariant.3
+    (broke-front g.S.TextSink.takes g.S.TextSink.refuses (texts (f ∷ [])) (texts c.loop-field.field-iterator) (texts c.next.new.self) _ _ _ (λ ms. e) c.in_err-give_field.ensures))
 
 pub loop-field-preserved : goal.loop-field-preserved
 loop-field-preserved g c =
@@ -22,7 +23,7 @@ loop-field-preserved g c =
       tt,
       size,
       gave-more g.S.TextSink.takes g.S.TextSink.refuses (texts c.args.fields) (texts c.loop-field.field-iterator) (texts c.next.new.self) _ _ _ c.loop-field.invariant.3
-          (gave-front g.S.TextSink.takes g.S.TextSink.refuses (texts (f ∷ [])) (texts c.loop-field.field-iterator) (texts c.next.new.self) _ _ (λ ms. e) c.in_default.ensures),
+          (gave-front g.S.TextSink.takes g.S.TextSink.refuses (texts (f ∷ [])) (texts c.loop-field.field-iterator) (texts c.next.new.self) _ _ (λ ms. e) c.in_ok-give_field.ensures),
     )
 
 pub returns : goal.returns

@@ -1,5 +1,5 @@
 use Rattle.mime_text.proofs.Words.{◌++◌, ℕ, List, arith, concat, line_end-positive, line_end-within, line_end-short, pairs_of_bytes}
-use Rattle.mime_text.proofs.Handing.{gave-nothing, gave-more, broke-later}
+use Rattle.mime_text.proofs.Handing.{fault-up, gave-nothing, gave-more, broke-later}
 use Rattle.mime_text.proofs.LineSteps.{rest-start, rest-step, gave-line, broke-line}
 use Rattle.mime_text.proofs.leaf.held_line.give_lines.Goals as goal
 
@@ -31,13 +31,14 @@ loop-len-preserved g c =
       gave = gave-more g.S.TextSink.takes g.S.TextSink.refuses (λ ls. pairs_of_bytes c.args.texts.now (c.args.bytes.now ++ concat ls)) (λ ls. pairs_of_bytes c.loop-len.texts (rest ++ concat ls))
           (λ ls. pairs_of_bytes c.give.new.self (later ++ concat ls)) c.args.sink.now c.loop-len.sink c.give.new.sink before.gave
           (gave-line g.S.TextSink.takes g.S.TextSink.refuses c.loop-len.texts c.give.new.self rest line later len c.loop-len.sink c.give.new.sink c.in-Some.ensures
-          c.split_at.ensures.front c.split_at.ensures.back c.in-Ok.ensures);
+          c.split_at.ensures.front c.split_at.ensures.back c.in_ok-give.ensures);
     }
 
-pub returns-in-Err-clause-broke : goal.returns-in-Err-clause-broke
-returns-in-Err-clause-broke g c =
+pub returns-in_err-give-clause-broke : goal.returns-in_err-give-clause-broke
+returns-in_err-give-clause-broke g c =
     let rest : List ℕ = c.loop-len.rest.now in
-    broke-later g.S.TextSink.takes g.S.TextSink.refuses (λ ls. pairs_of_bytes c.args.texts.now (c.args.bytes.now ++ concat ls)) (λ ls. pairs_of_bytes c.loop-len.texts (rest ++ concat ls))
-    c.in-Err.fault c.args.sink.now c.loop-len.sink c.give.new.sink c.loop-len.invariant.gave
-    (broke-line g.S.TextSink.takes g.S.TextSink.refuses c.loop-len.texts rest c.split_at.result.0.now c.in-Some.len c.in-Err.fault c.loop-len.sink c.give.new.sink c.in-Some.ensures
-    c.split_at.ensures.front c.in-Err.ensures)
+    rw (fault-up c.from_residual.result _ c.from_residual.ensures.1)
+    (broke-later g.S.TextSink.takes g.S.TextSink.refuses (λ ls. pairs_of_bytes c.args.texts.now (c.args.bytes.now ++ concat ls)) (λ ls. pairs_of_bytes c.loop-len.texts (rest ++ concat ls))
+    _ _ _ _ c.loop-len.invariant.gave
+    (broke-line g.S.TextSink.takes g.S.TextSink.refuses c.loop-len.texts rest c.split_at.result.0.now c.in-Some.len _ _ _ c.in-Some.ensures
+    c.split_at.ensures.front c.in_err-give.ensures))

@@ -1,4 +1,5 @@
+use Rattle.mime_text.proofs.Handing.{fault-up}
 use Rattle.mime_text.proofs.leaf.held_line.take_lines.Goals as goal
 
-pub returns-in-Err-clause-hands : goal.returns-in-Err-clause-hands
-returns-in-Err-clause-hands g c = rw (← c.deref.ensures.value) c.in-Err.ensures.broke
+pub returns-in_err-left-clause-hands : goal.returns-in_err-left-clause-hands
+returns-in_err-left-clause-hands g c = rw (fault-up c.from_residual.result _ c.from_residual.ensures.1, ← c.deref.ensures.value) c.in_err-left.ensures.broke

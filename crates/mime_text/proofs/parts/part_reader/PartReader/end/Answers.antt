@@ -1,19 +1,21 @@
-use Rattle.mime_text.proofs.Words.{OutOfMemory, ending}
+use Rattle.mime_text.proofs.Handing.{fault-up}
 use Rattle.mime_text.proofs.PassingLemmas.{end-passed, end-stopped, broke-memory_behind, facts-whole}
 use Rattle.mime_text.proofs.parts.part_reader.PartReader.end.Goals as goal
 
-pub returns-in-Err-clause-pairs : goal.returns-in-Err-clause-pairs
-returns-in-Err-clause-pairs g c =
-    end-stopped g.S.TextSink.takes g.S.TextSink.refuses c.args.self.now c.fields.result c.in-Err.fault _ _ c.fields.ensures.fields c.in-Err.ensures
+pub returns-in_err-end_entity-clause-pairs : goal.returns-in_err-end_entity-clause-pairs
+returns-in_err-end_entity-clause-pairs g c =
+    rw (fault-up c.from_residual.result _ c.from_residual.ensures.1)
+    (end-stopped g.S.TextSink.takes g.S.TextSink.refuses c.args.self.now c.fields.result _ _ _ c.fields.ensures.fields c.in_err-end_entity.ensures)
 
-pub returns-in-Ok-clause-pairs : goal.returns-in-Ok-clause-pairs
-returns-in-Ok-clause-pairs g c =
-    end-passed g.S.TextSink.takes g.S.TextSink.refuses c.args.self.now c.fields.result _ _ c.fields.ensures.fields c.in_default.ensures
+pub returns-clause-pairs : goal.returns-clause-pairs
+returns-clause-pairs g c =
+    end-passed g.S.TextSink.takes g.S.TextSink.refuses c.args.self.now c.fields.result _ _ c.fields.ensures.fields c.in_ok-end_entity.ensures
 
-pub returns-in-Ok-clause-facts : goal.returns-in-Ok-clause-facts
-returns-in-Ok-clause-facts g c = facts-whole c.args.self.now c.in-Ok.facts (rw (← c.take.ensures.value) c.in-Ok.ensures.facts)
+pub returns-clause-facts : goal.returns-clause-facts
+returns-clause-facts g c = facts-whole c.args.self.now c.in_ok-facts_behind.field-0 (rw (← c.take.ensures.value) c.in_ok-facts_behind.ensures.facts)
 
-pub returns-in-Err-facts_behind-clause-pairs : goal.returns-in-Err-facts_behind-clause-pairs
-returns-in-Err-facts_behind-clause-pairs g c =
-    end-stopped g.S.TextSink.takes g.S.TextSink.refuses c.args.self.now c.fields.result OutOfMemory _ _ c.fields.ensures.fields
-    (broke-memory_behind g.S.TextSink.takes g.S.TextSink.refuses (λ _. ending c.args.self.now.state c.fields.result c.args.self.now.leaf) _ _ c.in_default.ensures)
+pub returns-in_err-facts_behind-clause-pairs : goal.returns-in_err-facts_behind-clause-pairs
+returns-in_err-facts_behind-clause-pairs g c =
+    rw (fault-up c.from_residual-in_err-facts_behind.result _ c.from_residual-in_err-facts_behind.ensures.1)
+    (end-stopped g.S.TextSink.takes g.S.TextSink.refuses c.args.self.now c.fields.result _ _ _ c.fields.ensures.fields
+    (broke-memory_behind g.S.TextSink.takes g.S.TextSink.refuses _ _ _ c.in_ok-end_entity.ensures))
