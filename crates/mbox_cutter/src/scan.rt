@@ -72,10 +72,7 @@ impl<'a, S: Source> Scan<'a, S> {
         ensures { Steps S.Source self.old result self.new }
     {
         'empties: loop {
-            let n = match self.line_length() {
-                Ok(n) => n,
-                Err(fault) => return Err(fault),
-            };
+            let n = self.line_length()?;
             if n == 0 {
                 self.phase = Phase::Ended;
                 return Ok(Step::Done {
@@ -106,10 +103,7 @@ impl<'a, S: Source> Scan<'a, S> {
         requires count { S.failures self.old.window.source.now < 2 ^ 64 - 1 }
         ensures { Steps S.Source self.old result self.new }
     {
-        let n = match self.line_length() {
-            Ok(n) => n,
-            Err(fault) => return Err(fault),
-        };
+        let n = self.line_length()?;
         if n == 0 {
             self.phase = Phase::Between;
             let length = self.offset - start;
@@ -124,17 +118,13 @@ impl<'a, S: Source> Scan<'a, S> {
             self.pass(n, inside);
             return Ok(Step::Line);
         }
-        match self.closes(n) {
-            Ok(true) => {
-                self.pass(n, Phase::Between);
-                let length = self.offset - start;
-                Ok(Step::End { length, size })
-            }
-            Ok(false) => {
-                self.pass(n, inside);
-                Ok(Step::Line)
-            }
-            Err(fault) => Err(fault),
+        if self.closes(n)? {
+            self.pass(n, Phase::Between);
+            let length = self.offset - start;
+            Ok(Step::End { length, size })
+        } else {
+            self.pass(n, inside);
+            Ok(Step::Line)
         }
     }
 

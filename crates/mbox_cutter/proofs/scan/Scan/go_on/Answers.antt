@@ -3,42 +3,42 @@ use Rattle.mbox_cutter.proofs.Machine.{empty-short}
 use Rattle.mbox_cutter.proofs.ScanSteps.{found, found-on, closes-known, taken, end-steps, line-steps, open-steps, closed-steps, fault_inside-steps, unread-steps}
 use Rattle.mbox_cutter.proofs.scan.Scan.go_on.Goals as goal
 
-pub returns-in-Err : goal.returns-in-Err
-returns-in-Err g c = fault_inside-steps g.S.Source c.args.self.now _ c.in-Err.fault c.requires.scan c.args.start c.args.size c.requires.phase c.in-Err.ensures
+pub returns-in_err-n : goal.returns-in_err-n
+returns-in_err-n g c = grind (arith, fault_inside-steps)
 
 pub returns-then-n-eq0 : goal.returns-then-n-eq0
-returns-then-n-eq0 g c = end-steps g.S.Source c.args.self.now _ c.in-Ok.n c.in-Ok.ensures c.if-n-eq0.true c.requires.scan c.args.start c.args.size c.requires.phase
+returns-then-n-eq0 g c = grind (arith, end-steps)
 
 pub returns-then-not-is_empty_line : goal.returns-then-not-is_empty_line
 returns-then-not-is_empty_line g c =
-    let some : 0 < c.in-Ok.n = omega arith in
+    let some : 0 < c.in_ok-n.n = omega arith in
     let full : is_empty c.part-line.result.now ≡ false = cc in
     let old = c.args.self.now in
-    line-steps g.S.Source old _ c.in-Ok.n c.part-line.result.now c.args.start c.args.size c.requires.phase c.requires.scan full
-    (taken g.S.Source old _ c.in-Ok.n c.part-line.result.now _ _ (found g.S.Source old _ c.in-Ok.n c.part-line.result.now c.in-Ok.ensures some c.part-line.ensures.unread) c.pass.ensures)
+    line-steps g.S.Source old _ c.in_ok-n.n c.part-line.result.now c.args.start c.args.size c.requires.phase c.requires.scan full
+    (taken g.S.Source old _ c.in_ok-n.n c.part-line.result.now _ _ (found g.S.Source old _ c.in_ok-n.n c.part-line.result.now c.in_ok-n.ensures some c.part-line.ensures.unread) c.pass.ensures)
 
 pub closes-requires-clause-near : goal.closes-requires-clause-near
 closes-requires-clause-near g c = grind (arith, empty-short)
 
-pub returns-in-Ok-true : goal.returns-in-Ok-true
-returns-in-Ok-true g c =
-    let some : 0 < c.in-Ok.n = omega arith in
+pub returns-then-branch : goal.returns-then-branch
+returns-then-branch g c =
+    let some : 0 < c.in_ok-n.n = omega arith in
     let empty : is_empty c.part-line.result.now ≡ true = cc in
     let old = c.args.self.now in
     let line = c.part-line.result.now in
-    closed-steps g.S.Source old _ c.in-Ok.n line c.args.start c.args.size c.requires.phase c.requires.scan empty
-    (closes-known g.S.Source old c.line_length.new.self c.in-Ok.n line c.in-Ok-true.field-0 true c.in-Ok.ensures.reads.bytes c.in-Ok-true.ensures.closes c.in-Ok-true.field-0-test)
-    (taken g.S.Source old c.closes.new.self c.in-Ok.n line _ _ (found-on g.S.Source old _ c.in-Ok.n line c.closes.new.self (found g.S.Source old _ c.in-Ok.n line c.in-Ok.ensures some c.part-line.ensures.unread) c.in-Ok-true.ensures.place c.in-Ok-true.ensures.reads) c.pass-in-Ok-true.ensures)
+    closed-steps g.S.Source old _ c.in_ok-n.n line c.args.start c.args.size c.requires.phase c.requires.scan empty
+    (closes-known g.S.Source old c.line_length.new.self c.in_ok-n.n line c.in_ok-closes.field-0 true c.in_ok-n.ensures.reads.bytes c.in_ok-closes.ensures.closes c.if-branch.true)
+    (taken g.S.Source old c.closes.new.self c.in_ok-n.n line _ _ (found-on g.S.Source old _ c.in_ok-n.n line c.closes.new.self (found g.S.Source old _ c.in_ok-n.n line c.in_ok-n.ensures some c.part-line.ensures.unread) c.in_ok-closes.ensures.place c.in_ok-closes.ensures.reads) c.pass-then-branch.ensures)
 
-pub returns-in-Ok-false : goal.returns-in-Ok-false
-returns-in-Ok-false g c =
-    let some : 0 < c.in-Ok.n = omega arith in
+pub returns-else-branch : goal.returns-else-branch
+returns-else-branch g c =
+    let some : 0 < c.in_ok-n.n = omega arith in
     let empty : is_empty c.part-line.result.now ≡ true = cc in
     let old = c.args.self.now in
     let line = c.part-line.result.now in
-    open-steps g.S.Source old _ c.in-Ok.n line c.args.start c.args.size c.requires.phase c.requires.scan empty
-    (closes-known g.S.Source old c.line_length.new.self c.in-Ok.n line c.in-Ok-false.field-0 false c.in-Ok.ensures.reads.bytes c.in-Ok-false.ensures.closes c.in-Ok-false.field-0-test)
-    (taken g.S.Source old c.closes.new.self c.in-Ok.n line _ _ (found-on g.S.Source old _ c.in-Ok.n line c.closes.new.self (found g.S.Source old _ c.in-Ok.n line c.in-Ok.ensures some c.part-line.ensures.unread) c.in-Ok-false.ensures.place c.in-Ok-false.ensures.reads) c.pass-in-Ok-false.ensures)
+    open-steps g.S.Source old _ c.in_ok-n.n line c.args.start c.args.size c.requires.phase c.requires.scan empty
+    (closes-known g.S.Source old c.line_length.new.self c.in_ok-n.n line c.in_ok-closes.field-0 false c.in_ok-n.ensures.reads.bytes c.in_ok-closes.ensures.closes c.if-branch.false)
+    (taken g.S.Source old c.closes.new.self c.in_ok-n.n line _ _ (found-on g.S.Source old _ c.in_ok-n.n line c.closes.new.self (found g.S.Source old _ c.in_ok-n.n line c.in_ok-n.ensures some c.part-line.ensures.unread) c.in_ok-closes.ensures.place c.in_ok-closes.ensures.reads) c.pass-else-branch.ensures)
 
-pub returns-in-Err-closes : goal.returns-in-Err-closes
-returns-in-Err-closes g c = grind (arith, unread-steps, found)
+pub returns-in_err-closes : goal.returns-in_err-closes
+returns-in_err-closes g c = grind (arith, unread-steps, found)

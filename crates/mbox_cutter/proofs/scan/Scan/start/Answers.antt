@@ -5,8 +5,8 @@ use Rattle.mbox_cutter.proofs.scan.Scan.start.Goals as goal
 pub empties-init : goal.empties-init
 empties-init g c = skipped-none g.S.Source c.args.self.now c.requires.phase c.requires.scan
 
-pub returns-in-Err : goal.returns-in-Err
-returns-in-Err g c = grind (arith, skipped-steps, fault-steps)
+pub returns-in_err-n : goal.returns-in_err-n
+returns-in_err-n g c = grind (arith, skipped-steps, fault-steps)
 
 pub returns-then-n-eq0 : goal.returns-then-n-eq0
 returns-then-n-eq0 g c = grind (arith, skipped-steps, done-steps)
@@ -16,33 +16,33 @@ returns-then-is_separator g c =
     let now = c.empties.self in
     let k = c.empties.invariant in
     let line = c.part-line.result.now in
-    let some : 0 < c.in-Ok.n = omega arith in
+    let some : 0 < c.in_ok-n.n = omega arith in
     let starts : is_separator line ≡ true = cc in
     skipped-steps g.S.Source c.args.self.now now _ _ k
-    (start-steps g.S.Source now _ c.in-Ok.n line _ k.phase (ap (λ p. p.offset) c.in-Ok.ensures.place) starts
-    (taken g.S.Source now _ c.in-Ok.n line _ _ (found g.S.Source now _ c.in-Ok.n line c.in-Ok.ensures some c.part-line.ensures.unread) c.pass.ensures))
+    (start-steps g.S.Source now _ c.in_ok-n.n line _ k.phase (ap (λ p. p.offset) c.in_ok-n.ensures.place) starts
+    (taken g.S.Source now _ c.in_ok-n.n line _ _ (found g.S.Source now _ c.in_ok-n.n line c.in_ok-n.ensures some c.part-line.ensures.unread) c.pass.ensures))
 
 pub returns-then-not-is_empty_line : goal.returns-then-not-is_empty_line
 returns-then-not-is_empty_line g c =
     let now = c.empties.self in
     let k = c.empties.invariant in
     let line = c.part-line.result.now in
-    let some : 0 < c.in-Ok.n = omega arith in
+    let some : 0 < c.in_ok-n.n = omega arith in
     let other : is_separator line ≡ false = cc in
     let full : is_empty line ≡ false = cc in
     skipped-steps g.S.Source c.args.self.now now _ _ k
-    (refused-steps g.S.Source now _ c.in-Ok.n line k.scan k.phase (found g.S.Source now _ c.in-Ok.n line c.in-Ok.ensures some c.part-line.ensures.unread) other full)
+    (refused-steps g.S.Source now _ c.in_ok-n.n line k.scan k.phase (found g.S.Source now _ c.in_ok-n.n line c.in_ok-n.ensures some c.part-line.ensures.unread) other full)
 
 pub empties-preserved : goal.empties-preserved
 empties-preserved g c =
     let now = c.empties.self in
     let k = c.empties.invariant in
     let line = c.part-line.result.now in
-    let some : 0 < c.in-Ok.n = omega arith in
+    let some : 0 < c.in_ok-n.n = omega arith in
     let other : is_separator line ≡ false = cc in
     let empty : is_empty line ≡ true = cc in
-    skipped-one g.S.Source c.args.self.now now _ c.in-Ok.n line k
-    (taken g.S.Source now _ c.in-Ok.n line _ _ (found g.S.Source now _ c.in-Ok.n line c.in-Ok.ensures some c.part-line.ensures.unread) c.pass-in-empties.ensures) other empty
+    skipped-one g.S.Source c.args.self.now now _ c.in_ok-n.n line k
+    (taken g.S.Source now _ c.in_ok-n.n line _ _ (found g.S.Source now _ c.in_ok-n.n line c.in_ok-n.ensures some c.part-line.ensures.unread) c.pass-in-empties.ensures) other empty
 
 pub empties-smaller : goal.empties-smaller
 empties-smaller g c = grind (arith, taken, found)
