@@ -44,10 +44,7 @@ fn read_tokens(alloc: Global, text: &str) -> Result<Query, QueryFault>
     let mut rest = text;
     let mut number = 1;
     'tokens: while let Some((token, behind)) = next_token(rest) {
-        match read_token(alloc, reader, token) {
-            Ok(next) => reader = next,
-            Err(kind) => return Err(QueryFault::at(number, kind)),
-        }
+        reader = read_token(alloc, reader, token).map_err(|kind| QueryFault::at(number, kind))?;
         rest = behind;
         number += 1;
     }
@@ -57,8 +54,6 @@ fn read_tokens(alloc: Global, text: &str) -> Result<Query, QueryFault>
             kind: QueryFaultKind::NoPattern,
         });
     }
-    match read_end(reader) {
-        Ok(node) => Ok(Query::new(node)),
-        Err(kind) => Err(QueryFault::at(number, kind)),
-    }
+    let node = read_end(reader).map_err(|kind| QueryFault::at(number, kind))?;
+    Ok(Query::new(node))
 }

@@ -68,6 +68,16 @@ pub struct QueryFault {
     pub kind: QueryFaultKind,
 }
 
+impl From<AllocError> for QueryFault {
+    ghost use Rattle.mail_query.specs.Refusals.{out_of_memory};
+
+    ghost from_gives = { λ _ fault. fault ≡ out_of_memory };
+
+    fn from(_: AllocError) -> Self {
+        QueryFault::OUT_OF_MEMORY
+    }
+}
+
 impl QueryFault {
     pub(crate) const OUT_OF_MEMORY: QueryFault = QueryFault {
         number: 0,

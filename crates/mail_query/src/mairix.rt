@@ -67,9 +67,8 @@ fn read_patterns(alloc: Global, patterns: &[String], now: Moment) -> Result<Quer
     }
     let mut members = Vec::new(alloc);
     for (i, pattern) in patterns.iter().enumerate() {
-        if let Err(kind) = add_pattern(alloc, &mut members, pattern.as_str(), now) {
-            return Err(QueryFault::at(i + 1, kind));
-        }
+        let added = add_pattern(alloc, &mut members, pattern.as_str(), now);
+        added.map_err(|kind| QueryFault::at(i + 1, kind))?;
     }
     Ok(Query::new(all_of(members)))
 }
@@ -85,10 +84,8 @@ fn add_pattern(
         (followed_by (queries_of members.old.items)
         (pattern_query (pattern_lexicon now) pattern.now)) }
 {
-    match read_pattern(alloc, pattern, now) {
-        Ok(node) => Ok(add(members, node)?),
-        Err(kind) => Err(kind),
-    }
+    add(members, read_pattern(alloc, pattern, now)?)?;
+    Ok(())
 }
 
 /// What a pattern asks.
@@ -113,10 +110,9 @@ fn read_prefixed(
 {
     match prefix {
         "m" => read_rest(alloc, Target::OwnId, rest),
-        "d" => match range_of(rest, now) {
-            Ok(range) => Ok(Node::Date(range)),
-            Err(_) => Err(QueryFaultKind::BadDate),
-        },
+        "d" => range_of(rest, now)
+            .map(Node::Date)
+            .map_err(|_| QueryFaultKind::BadDate),
         "z" => sizes_of(rest).ok_or(QueryFaultKind::BadSize),
         "F" => read_flags(alloc, rest.as_bytes()),
         letters => match kinds_of(letters.as_bytes()) {
@@ -135,10 +131,7 @@ fn kinds_of(letters: &[u8]) -> Option<Kinds>
     }
     let mut kinds = Kinds::NONE;
     for letter in letters {
-        match kinds_of_letter(*letter) {
-            Some(more) => kinds = kinds.union(more),
-            None => return None,
-        }
+        kinds = kinds.union(kinds_of_letter(*letter)?);
     }
     Some(kinds)
 }

@@ -15,10 +15,8 @@ const SIZE_LIMIT: u64 = 9_223_372_036_854_775_807;
 pub(crate) fn sizes_of(text: &str) -> Option<Node>
     ensures { option_map query_of result ≡ sizes_of text.now }
 {
-    match cut(text, '-') {
-        None => None,
-        Some((low, high)) => sizes_between(low.as_bytes(), high.as_bytes()),
-    }
+    let (low, high) = cut(text, '-')?;
+    sizes_between(low.as_bytes(), high.as_bytes())
 }
 
 fn sizes_between(low: &[u8], high: &[u8]) -> Option<Node>

@@ -84,10 +84,11 @@ adds lexicon patterns qs next n text h here e = grind (arith, reads_more)
 pub unfollowed : (qs : List Query) (r : Result Query QueryFaultKind) (kind : QueryFaultKind) → followed_by qs r ≡ Err kind → r ≡ Err kind
 unfollowed qs r kind h = grind arith
 
--- a refusal of an item, with the item's number
-pub numbered_refusal : (whole : Result Query QueryFault) (number : ℕ) (kind : QueryFaultKind) (P : QueryFaultKind → Type 0) → IfSome (kind_refusal kind) P
-    → ((k : QueryFaultKind) → P k → whole ≡ Err (record { number = number; kind = k })) → IfSome (query_refusal (numbered number kind)) (λ f. whole ≡ Err f)
-numbered_refusal whole number kind P h h2 = grind arith
+-- a refusal of a pattern, with its number
+pub pattern_refused : (lexicon : Lexicon) (patterns : List (List ℕ)) (qs : List Query) (n : ℕ) (text : List ℕ) (kind : QueryFaultKind) → HasRead at_number (pattern_query lexicon) patterns qs n
+    → (n < length patterns) × (text ≡ get_or patterns n text) → IfSome (kind_refusal kind) (λ k. followed_by qs (pattern_query lexicon text) ≡ Err k)
+    → IfSome (query_refusal (numbered (n + 1) kind)) (λ f. patterns_query lexicon patterns ≡ Err f)
+pattern_refused lexicon patterns qs n text kind h here e = grind (arith, patterns_made, refuses, unfollowed)
 
 -- the text of a pattern at a place
 pub pattern_here : (patterns : List (String Global)) (i : ℕ) (pattern : String Global) (text : List ℕ) → i < length patterns → pattern ≡ get_or patterns i pattern → text ≡ string_bytes pattern

@@ -109,15 +109,9 @@ fn read_cut_term(
     if !negated && reader.level.has_seen(prefix) {
         return Err(QueryFaultKind::NeedsOperator);
     }
-    match read_parts(alloc, prefix, rest) {
-        Ok(node) => Ok(placed(
-            alloc,
-            reader.waiting,
-            reader.level.noted(negated, prefix),
-            node,
-        )?),
-        Err(kind) => Err(kind),
-    }
+    let node = read_parts(alloc, prefix, rest)?;
+    let level = reader.level.noted(negated, prefix);
+    Ok(placed(alloc, reader.waiting, level, node)?)
 }
 
 /// Lets one more `(` or `not` wait, if fewer than 30 do.

@@ -101,10 +101,9 @@ fn read_field(alloc: Global, field: Field, rest: &str) -> Result<Node, QueryFaul
             rest,
         ),
         Field::Id => read_id(alloc, without_angles(rest)),
-        Field::Date => match iso_range(rest) {
-            Ok(range) => Ok(Node::Date(range)),
-            Err(_) => Err(QueryFaultKind::BadDate),
-        },
+        Field::Date => iso_range(rest)
+            .map(Node::Date)
+            .map_err(|_| QueryFaultKind::BadDate),
     }
 }
 

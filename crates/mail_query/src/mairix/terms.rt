@@ -18,10 +18,7 @@ pub(crate) fn read_rest(alloc: Global, target: Target, text: &str) -> Result<Nod
 {
     let mut members = Vec::new(alloc);
     for part in text.split('/') {
-        match read_all(alloc, target, part) {
-            Ok(node) => add(&mut members, node)?,
-            Err(kind) => return Err(kind),
-        }
+        add(&mut members, read_all(alloc, target, part)?)?;
     }
     Ok(either_of(members))
 }
@@ -32,10 +29,7 @@ fn read_all(alloc: Global, target: Target, text: &str) -> Result<Node, QueryFaul
 {
     let mut members = Vec::new(alloc);
     for part in text.split(',') {
-        match read_term(alloc, target, part) {
-            Ok(node) => add(&mut members, node)?,
-            Err(kind) => return Err(kind),
-        }
+        add(&mut members, read_term(alloc, target, part)?)?;
     }
     Ok(all_of(members))
 }
@@ -46,10 +40,7 @@ fn read_term(alloc: Global, target: Target, text: &str) -> Result<Node, QueryFau
 {
     match without_first(text, '~') {
         None => read_atom(alloc, target, text),
-        Some(atom) => match read_atom(alloc, target, atom) {
-            Ok(node) => Ok(negated(alloc, node)?),
-            Err(kind) => Err(kind),
-        },
+        Some(atom) => Ok(negated(alloc, read_atom(alloc, target, atom)?)?),
     }
 }
 
