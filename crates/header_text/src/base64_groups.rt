@@ -15,11 +15,22 @@ pub struct Held {
     ghost all: { (k : ℕ) → k < count → is_symbol_of (slice_index symbols k) ≡ true },
 }
 
-/// A letter, a digit, `+` or `/`.
+/// An `s` for each symbol: a letter, a digit, `+` or `/`. A dot for any other byte.
+static SYMBOLS: [u8; 256] = *b"\
+    ................................\
+    ...........s...sssssssssss......\
+    .ssssssssssssssssssssssssss.....\
+    .ssssssssssssssssssssssssss.....\
+    ................................\
+    ................................\
+    ................................\
+    ................................";
+
+/// Whether it is a symbol, told by one look at the table.
 pub fn is_symbol(b: u8) -> bool
     ensures { result ≡ is_symbol_of b }
 {
-    matches!(b, b'A'..=b'Z' | b'a'..=b'z' | b'0'..=b'9' | b'+' | b'/')
+    SYMBOLS[b as usize] == b's'
 }
 
 /// How many symbols stand in front, in whole groups of four.

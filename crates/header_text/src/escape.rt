@@ -39,6 +39,16 @@ fn behind_equals(bytes: &[u8]) -> (u8, &[u8])
     (b'=', bytes)
 }
 
+/// Adds bytes as they stand, where there are any: in text beyond ASCII mostly one escape follows another.
+fn add_plain(plain: &[u8], into: &mut Vec<u8>) -> Result<(), AllocError>
+    ensures { OnOk result (into.new.items ≡ into.old.items ++ plain.now) }
+{
+    if plain.is_empty() {
+        return Ok(());
+    }
+    into.extend_from_slice(plain)
+}
+
 /// Adds bytes in which `=` and two hexadecimal digits in either case stand for a byte, and any other byte for itself, a
 /// lone `=` too (RFC 2045, 6.7, rule 1). What the buffer holds after an error isn't said.
 pub fn unescape_into(bytes: &[u8], into: &mut Vec<u8>) -> Result<(), AllocError>
@@ -47,7 +57,7 @@ pub fn unescape_into(bytes: &[u8], into: &mut Vec<u8>) -> Result<(), AllocError>
 {
     let mut rest = bytes;
     while let Some((plain, behind)) = cut_at(b'=', rest) {
-        into.extend_from_slice(plain)?;
+        add_plain(plain, into)?;
         let (byte, later) = behind_equals(behind);
         into.push(byte)?;
         rest = later;

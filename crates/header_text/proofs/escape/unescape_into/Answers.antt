@@ -23,7 +23,7 @@ loop-plain-preserved c =
     let items : List ℕ = c.loop-plain.into.items in
     let behind = unescaped c.behind_equals-byte.result.1.now in
     let e : byte ≡ (behind_equals c.in-Some.behind.now).0 = ap (λ (p : ℕ × List ℕ). p.0) c.behind_equals-byte.ensures in
-    ap (λ (l : List ℕ). l ++ behind) (c.in_ok-push.ensures.items ∙ ap (λ (l : List ℕ). l ++ byte ∷ []) c.in_ok-extend_from_slice.ensures.items) ∙ written items plain behind byte
+    ap (λ (l : List ℕ). l ++ behind) (c.in_ok-push.ensures.items ∙ ap (λ (l : List ℕ). l ++ byte ∷ []) c.in_ok-add_plain.ensures) ∙ written items plain behind byte
     ∙ ap (λ (l : List ℕ). items ++ l) (sym (unescaped-step c.loop-plain.rest.now plain c.in-Some.behind.now c.behind_equals-byte.result.1.now byte (cut c) e (later c))) ∙ c.loop-plain.invariant
 
 pub returns-clause-bytes : goal.returns-clause-bytes
