@@ -41,7 +41,7 @@ impl<'a> Batch<'a> {
     {
         Batch {
             words: [&[]; MOST_WAITING],
-            places: [Prefetched::of(Kind::OwnId, &[]); MOST_WAITING],
+            places: [Prefetched::NOWHERE; MOST_WAITING],
             count: 0,
         }
     }

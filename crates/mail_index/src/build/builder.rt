@@ -124,6 +124,8 @@ impl Builder {
     /// # Errors
     ///
     /// `TooMany` where the key is a new one, and there would be one more than `most`.
+    // Inlined, since it is called for each word.
+    #[inline(always)]
     pub fn add_prefetched(
         &mut self,
         kind: Kind,
@@ -204,10 +206,7 @@ impl Builder {
         let Some(draft) = &self.draft else {
             return Err(BuildFault::Failed);
         };
-        match draft.write(out) {
-            Ok(length) => Ok(length),
-            Err(fault) => Err(BuildFault::from(fault)),
-        }
+        Ok(draft.write(out)?)
     }
 
     /// After a refusal nothing is kept.

@@ -164,7 +164,7 @@ impl KeyEntry {
     }
 }
 
-/// Whether two texts are one. Most have four to sixteen bytes, and need no loop.
+/// Whether two texts are one. Most have two to sixteen bytes, and need no loop.
 fn is_same_text(own: &[u8], text: &[u8]) -> bool
     ensures { Decides result (own.now ≡ text.now) }
 {
@@ -175,6 +175,9 @@ fn is_same_text(own: &[u8], text: &[u8]) -> bool
         return same;
     }
     if let Some(same) = have_same_ends::<8>(own, text) {
+        return same;
+    }
+    if let Some(same) = have_same_ends::<2>(own, text) {
         return same;
     }
     own == text

@@ -1,12 +1,14 @@
 //! Where the keys that came last stand among the entries.
-ghost use Rattle.std.specs.Prelude.{◌≡◌, ◌^◌, ◌<◌, [], length, set, OnOk};
-ghost use Rattle.std.specs.List.{slice_get};
+ghost use Rattle.std.specs.Prelude.{◌≡◌, ◌^◌, ◌<◌, [], length, set, slice_index_or, OnOk};
 
 use crate::kind::Kind;
 use std::alloc::{AllocError, Global};
 
 /// How many hints there are.
 const SLOTS: usize = 1048576;
+
+/// What stands in a slot before it has a hint: more than the number of any entry.
+const NOTHING: u32 = u32::MAX;
 
 /// How many bits of a hash stand below the 20 highest, which number its slot.
 const BELOW_SLOT: u32 = 44;
@@ -25,16 +27,18 @@ pub(crate) struct KeyHints {
 /// A slot of the hints.
 #[derive(Clone, Copy)]
 pub(crate) struct Slot {
-    index: usize,
+    index: u32,
 }
 
 impl Slot {
+    pub(crate) const FIRST: Slot = Slot { index: 0 };
+
     /// The slot of a key.
     pub(crate) fn of(kind: Kind, text: &[u8]) -> Self
         ensures { result.index < 2 ^ 20 }
     {
         Slot {
-            index: (hash_of(kind, text) >> BELOW_SLOT) as usize,
+            index: (hash_of(kind, text) >> BELOW_SLOT) as u32,
         }
     }
 }
@@ -89,23 +93,26 @@ impl KeyHints {
         ensures kept { 0 < length self.old.numbers.items → self.new ≡ self.old }
     {
         if self.numbers.is_empty() {
-            self.numbers.resize(SLOTS, u32::MAX)?;
+            self.numbers.resize(SLOTS, NOTHING)?;
         }
         Ok(())
     }
 
-    /// The number that stands in a slot.
-    pub(crate) fn get(&self, slot: Slot) -> Option<u32>
-        ensures { result ≡ slice_get self.now.numbers.items slot.index }
+    /// The number that stands in a slot, or more than all entries have.
+    pub(crate) fn get(&self, slot: Slot) -> u32
+        ensures { result ≡ slice_index_or self.now.numbers.items slot.index u32.MAX }
     {
-        self.numbers.get(slot.index).copied()
+        self.numbers
+            .get(slot.index as usize)
+            .copied()
+            .unwrap_or(NOTHING)
     }
 
     /// Leaves a number in a slot.
     pub(crate) fn note(&mut self, slot: Slot, number: u32)
         ensures { self.new.numbers.items ≡ set self.old.numbers.items slot.index number }
     {
-        if let Some(hint) = self.numbers.get_mut(slot.index) {
+        if let Some(hint) = self.numbers.get_mut(slot.index as usize) {
             *hint = number;
         }
     }

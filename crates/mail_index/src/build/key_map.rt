@@ -135,12 +135,9 @@ impl KeyMap {
 }
 
 /// How long the text of an entry is, where there is that entry.
-fn text_length_at(entries: &[KeyEntry], number: Option<u32>) -> usize {
-    let Some(number) = number else {
-        return 0;
-    };
+fn text_length_at(entries: &[KeyEntry], number: u32) -> u32 {
     match entries.get(number as usize) {
-        Some(entry) => entry.text().len(),
+        Some(entry) => entry.text().len() as u32,
         None => 0,
     }
 }
@@ -159,10 +156,10 @@ fn guessed(entries: &[KeyEntry], place: Prefetched, kind: Kind, text: &[u8]) -> 
     ensures { IfSome result (IsEntryOf kind text.now entries.now) }
 {
     // Mostly the length alone tells another key.
-    if place.text_length != text.len() {
+    if place.text_length as usize != text.len() {
         return None;
     }
-    matching(place.number?, entries, kind, text)
+    matching(place.number, entries, kind, text)
 }
 
 /// Adds a message's number to the key that was found, or inserts the key. Answers the number of its entry.

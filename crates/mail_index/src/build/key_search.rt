@@ -110,22 +110,18 @@ fn bound_at(
     slots.len()
 }
 
-/// The last slot that was looked at whose front is smaller, and the first whose front is larger. Looks at slots that don't hang
+/// The last slot that was looked at whose front is smaller, and the first whose front isn't. Looks at slots that don't hang
 /// on one another, so that the waits for them are one. A guess: nothing hangs on it but time.
 fn guessed_bounds(slots: &[Fronted], front: u64) -> (usize, usize) {
     let stride = slots.len() / PROBES + 1;
     let mut smaller: usize = 0;
-    let mut larger_from: usize = 0;
     for probe in 0..PROBES {
         if let Some(slot) = slots.get(stride.wrapping_mul(probe)) {
             smaller = smaller.wrapping_add((slot.front < front) as usize);
-            larger_from = larger_from.wrapping_add((slot.front <= front) as usize);
         }
     }
-    (
-        stride.wrapping_mul(smaller.wrapping_sub(1)),
-        stride.wrapping_mul(larger_from),
-    )
+    let other = stride.wrapping_mul(smaller);
+    (other.wrapping_sub(stride), other)
 }
 
 /// How the key of a slot lies to this one, of this front. Its entry is read only where the fronts are equal.

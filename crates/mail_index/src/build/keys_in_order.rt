@@ -82,6 +82,8 @@ impl<'a> Iterator for KeysInOrder<'a> {
 
     ghost remaining = { item_count (λ s. s) };
 
+    // Inlined, so that each loop over keys keeps what is left of them in registers.
+    #[inline(always)]
     fn next(&mut self) -> Option<&'a KeyEntry> {
         if self.fetched == 0 {
             self.fetched = fetch(self.entries, self.left.page);
@@ -95,6 +97,7 @@ impl<'a> Iterator for KeysInOrder<'a> {
 
 /// Fetches the entries of the next slots, and answers how many they are. No text is empty, so that each is counted; to learn that of
 /// one needs nothing of another, so that the waits for them are one.
+#[inline(never)]
 fn fetch(entries: &[KeyEntry], page: &[Fronted]) -> usize {
     let mut count: usize = 0;
     for slot in page.iter().take(GROUP) {

@@ -10,18 +10,25 @@ use crate::kind::Kind;
 #[derive(Clone, Copy)]
 pub struct Prefetched {
     pub(crate) slot: Slot,
-    // The entry that the slot named.
-    pub(crate) number: Option<u32>,
+    // The number of the entry that the slot named, or more than all have.
+    pub(crate) number: u32,
     // How long that entry's text is: to learn it is what fetches the entry.
-    pub(crate) text_length: usize,
+    pub(crate) text_length: u32,
 }
 
 impl Prefetched {
+    /// Of no key.
+    pub const NOWHERE: Prefetched = Prefetched {
+        slot: Slot::FIRST,
+        number: 0,
+        text_length: 0,
+    };
+
     /// No guess yet where a key stands.
     pub fn of(kind: Kind, text: &[u8]) -> Self {
         Prefetched {
             slot: Slot::of(kind, text),
-            number: None,
+            number: 0,
             text_length: 0,
         }
     }

@@ -54,10 +54,7 @@ impl<'a> IndexView<'a> {
         ensures accepts { (t : Table) → IsFileOf bytes.entry.now t → IsOk result }
         ensures same { (t : Table) → IsFileOf bytes.entry.now t → IfOk result (λ table. table ≡ t) }
     {
-        let version = match signed_version(bytes) {
-            Ok(version) => version,
-            Err(fault) => return Err(fault),
-        };
+        let version = signed_version(bytes)?;
         let layout = match Layout::of(bytes, version) {
             Some(layout) => layout,
             None => return Err(IndexFault::BadLayout(Section::Counts)),

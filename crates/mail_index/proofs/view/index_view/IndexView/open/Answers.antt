@@ -13,20 +13,20 @@ returns-then-not-are_archives-clause-fault c = grind (arith, laid_out, Fits-lt-p
 
 pub returns-then-not-are_records-clause-fault : goal.returns-then-not-are_records-clause-fault
 returns-then-not-are_records-clause-fault c =
-    let f = laid_out _ _ c.in-Ok.ensures.0 c.in-Some.ensures (record { below = λ i. Fits-lt-pow (c.type_inv.bytes i) }) in
+    let f = laid_out _ _ c.in_ok-version.ensures.0 c.in-Some.ensures (record { below = λ i. Fits-lt-pow (c.type_inv.bytes i) }) in
     let a = c.are_archives.ensures.0 c.if-not-are_archives.false in
     (_, has_archives _ _ f a, λ ms h. let g : false ≡ true = sym c.if-not-are_records.true ∙ c.are_records.ensures.1 (these_records _ _ f a ms h) in cc)
 
 pub returns-then-not-are_entries-clause-fault : goal.returns-then-not-are_entries-clause-fault
 returns-then-not-are_entries-clause-fault c =
-    let f = laid_out _ _ c.in-Ok.ensures.0 c.in-Some.ensures (record { below = λ i. Fits-lt-pow (c.type_inv.bytes i) }) in
+    let f = laid_out _ _ c.in_ok-version.ensures.0 c.in-Some.ensures (record { below = λ i. Fits-lt-pow (c.type_inv.bytes i) }) in
     let a = c.are_archives.ensures.0 c.if-not-are_archives.false in
     let r = c.are_records.ensures.0 c.if-not-are_records.false in
     (_, _, has_records _ _ f a r, λ es h. let g : false ≡ true = sym c.if-not-are_entries.true ∙ c.are_entries.ensures.1 (these_entries _ _ f es h) in cc)
 
 pub returns-then-not-are_lists-clause-fault : goal.returns-then-not-are_lists-clause-fault
 returns-then-not-are_lists-clause-fault c =
-    let f = laid_out _ _ c.in-Ok.ensures.0 c.in-Some.ensures (record { below = λ i. Fits-lt-pow (c.type_inv.bytes i) }) in
+    let f = laid_out _ _ c.in_ok-version.ensures.0 c.in-Some.ensures (record { below = λ i. Fits-lt-pow (c.type_inv.bytes i) }) in
     let a = c.are_archives.ensures.0 c.if-not-are_archives.false in
     let r = c.are_records.ensures.0 c.if-not-are_records.false in
     let d = c.are_entries.ensures.0 c.if-not-are_entries.false in
@@ -37,11 +37,11 @@ returns-clause-ok c = grind (arith, laid_out, Fits-lt-pow, is_file, has_postings
 
 -- ---- bytes with a fault are the file of no table
 
-pub returns-in-Err-clause-accepts : goal.returns-in-Err-clause-accepts
-returns-in-Err-clause-accepts c t f = absurd (no_fault c.args.bytes.now t c.well_formed.0.0 f c.in-Err.fault c.in-Err.ensures)
+pub returns-in_err-version-clause-accepts : goal.returns-in_err-version-clause-accepts
+returns-in_err-version-clause-accepts c t f = absurd (no_fault c.args.bytes.now t c.well_formed.0.0 f c.in_err-version.field-0.0 c.in_err-version.ensures)
 
 pub returns-in-None-clause-accepts : goal.returns-in-None-clause-accepts
-returns-in-None-clause-accepts c t f = absurd (no_fault c.args.bytes.now t c.well_formed.0.0 f (BadLayout Counts) (c.in-Ok.ensures.0, c.in-None.ensures))
+returns-in-None-clause-accepts c t f = absurd (no_fault c.args.bytes.now t c.well_formed.0.0 f (BadLayout Counts) (c.in_ok-version.ensures.0, c.in-None.ensures))
 
 pub returns-then-not-are_archives-clause-accepts : goal.returns-then-not-are_archives-clause-accepts
 returns-then-not-are_archives-clause-accepts c t f = absurd (no_fault c.args.bytes.now t c.well_formed.0.0 f (BadLayout Archives) (returns-then-not-are_archives-clause-fault c))
