@@ -20,22 +20,25 @@ all-push : (ws : List (List ℕ)) (w : List ℕ) → AllByRecursion HasTermLengt
 all-push [] w all sized = (sized, tt)
 all-push (v ∷ ws) w all sized = (all.0, all-push ws w all.1 sized)
 
--- of a word that was folded
-pub sized : (s : String Global) (word : List ℕ) → string_bytes s ≡ word → (1 ≤ string_len s) × (string_len s ≤ 1024) → HasTermLength word
-sized s word is h = subst HasTermLength is (omega (arith, h.0, s.bytes.ok.0), omega (arith, h.1, s.bytes.ok.0))
+-- of a word that was folded behind others
+pub grown : (old new : String Global) (word : List ℕ) → string_bytes new ≡ string_bytes old ++ word → string_len new ≡ string_len old + length word
+grown old new word is = omega (arith, ap length is, length-append (string_bytes old) word, old.bytes.ok.0, new.bytes.ok.0)
 
-pub holds-push : (old new : FoldingRoom) (ws : List (List ℕ)) (w : List ℕ) → HoldsWords old ws → new.bytes.items ≡ old.bytes.items ++ w → new.lengths.items ≡ old.lengths.items ++ length w ∷ []
+pub sized : (old new : String Global) (word : List ℕ) → string_bytes new ≡ string_bytes old ++ word → (string_len old + 1 ≤ string_len new) × (string_len new ≤ string_len old + 1024) → HasTermLength word
+sized old new word is h = (omega (arith, h.0, grown old new word is), omega (arith, h.1, grown old new word is))
+
+pub holds-push : (old new : FoldingRoom) (ws : List (List ℕ)) (w : List ℕ) → HoldsWords old ws → string_bytes new.folded ≡ string_bytes old.folded ++ w → new.lengths.items ≡ old.lengths.items ++ length w ∷ []
     → HasTermLength w → HoldsWords new (ws ++ w ∷ [])
 holds-push old new ws w h bytes lengths sized = grind (arith, append-nil, concat-append, map-append, all-push, sized)
 
 -- what is in a room, cut to its lengths
-pub held-cut : (room : FoldingRoom) (ws : List (List ℕ)) → HoldsWords room ws → cut room.lengths.items room.bytes.items ≡ ws
+pub held-cut : (room : FoldingRoom) (ws : List (List ℕ)) → HoldsWords room ws → cut room.lengths.items (string_bytes room.folded) ≡ ws
 held-cut room ws h = ap₂ cut h.lengths h.bytes ∙ cut-words ws
 
-pub held-within : (room : FoldingRoom) (ws : List (List ℕ)) → HoldsWords room ws → sum room.lengths.items ≤ length room.bytes.items
+pub held-within : (room : FoldingRoom) (ws : List (List ℕ)) → HoldsWords room ws → sum room.lengths.items ≤ length (string_bytes room.folded)
 held-within room ws h = omega (arith, ap sum h.lengths, sum-lengths ws, ap length h.bytes)
 
-pub held-sizes : (room : FoldingRoom) (ws : List (List ℕ)) → HoldsWords room ws → AllByRecursion HasTermLength (cut room.lengths.items room.bytes.items)
+pub held-sizes : (room : FoldingRoom) (ws : List (List ℕ)) → HoldsWords room ws → AllByRecursion HasTermLength (cut room.lengths.items (string_bytes room.folded))
 held-sizes room ws h = subst (AllByRecursion HasTermLength) (sym (held-cut room ws h)) h.sizes
 
 -- ---- the next of the words that are left to cut
@@ -59,5 +62,5 @@ terms-of-ascii kind text folded ascii is = grind (arith, words-folding-ascii, fo
 
 -- those of a text whose words were folded into a room
 pub terms-of-held : (kind : TextKind) (text : List ℕ) (room : FoldingRoom) → HoldsWords room (map folding (words text))
-    → word_terms kind (cut room.lengths.items room.bytes.items) ≡ text_terms (kind, text)
+    → word_terms kind (cut room.lengths.items (string_bytes room.folded)) ≡ text_terms (kind, text)
 terms-of-held kind text room h = ap (word_terms kind) (held-cut room (map folding (words text)) h) ∙ folded-terms kind (words text)

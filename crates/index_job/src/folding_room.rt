@@ -10,17 +10,15 @@ ghost use Rattle.index_job.specs.MessageTerms.{word_terms, HasTermLength};
 
 use crate::batch::Batch;
 use mail_index::{BuildFault, Builder};
-use mail_words::{TextKind, Words, fold_into};
+use mail_words::{TextKind, Words, fold_onto};
 use std::alloc::{AllocError, Global};
 
 /// Memory for the folding of a text. What it holds means nothing to the text that comes next.
 #[derive(Drop)]
 pub(crate) struct FoldingRoom {
-    // Of a text of ASCII, or of one word.
+    // A text of ASCII, folded, or the words of any other text, each folded, one behind another.
     pub(crate) folded: String,
-    // The words of any other text, each folded, one behind another.
-    pub(crate) bytes: Vec<u8>,
-    // How many bytes each of them has.
+    // How many bytes each of these words has.
     pub(crate) lengths: Vec<usize>,
 }
 
@@ -29,7 +27,6 @@ impl FoldingRoom {
     pub(crate) fn new(alloc: Global) -> Self {
         FoldingRoom {
             folded: String::new(alloc),
-            bytes: Vec::new(alloc),
             lengths: Vec::new(alloc),
         }
     }
@@ -38,7 +35,7 @@ impl FoldingRoom {
     pub(crate) fn fold_words(&mut self, text: &str) -> Result<(), AllocError>
         ensures { OnOk result (HoldsWords self.new (map folding (words text.now))) }
     {
-        self.bytes.clear();
+        self.folded.clear();
         self.lengths.clear();
         for word in Words::of(text) {
             self.fold_word(word)?;
@@ -52,9 +49,9 @@ impl FoldingRoom {
         ensures { OnOk result ((ws : List (List ℕ)) → HoldsWords self.old ws
             → HoldsWords self.new (ws ++ folding word.now ∷ [])) }
     {
-        fold_into(word, &mut self.folded)?;
-        self.lengths.push(self.folded.len())?;
-        self.bytes.extend_from_slice(self.folded.as_bytes())?;
+        let start = self.folded.len();
+        fold_onto(word, &mut self.folded)?;
+        self.lengths.push(self.folded.len() - start)?;
         Ok(())
     }
 }

@@ -60,7 +60,7 @@ fn add_words(
     add_cut_words(
         builder,
         kind,
-        room.bytes.as_slice(),
+        room.folded.as_bytes(),
         room.lengths.as_slice(),
     )
 }

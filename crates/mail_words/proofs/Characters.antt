@@ -1,5 +1,5 @@
 -- Word characters of ASCII, that no joiner is a word character, and the joiners among bytes.
-use Rattle.mail_words.proofs.Imports.{◌≡◌, ℕ, ◌<◌, ◌≤◌, Bool, true, false, not, ◌&&◌, nat_lt, List, [], ◌∷◌, get_or, encode_utf8, encode_utf8_all, IsUtf8, inl, inr, refl, sym, ap, ◌∙◌, arith, and-true, cases_lt, nat_tests, list_all-append, list_all_at, encode_ascii, encodes-chars, char_from_byte, length-encode, len_utf8_bounds, beq, is_ascii_alphanumeric, list_all, ucd_category, ucd_derived, same_from_beq, all_below, all_below-at, is_word_character, is_joiner, is_piece}
+use Rattle.mail_words.proofs.Imports.{◌≡◌, ℕ, ◌<◌, ◌≤◌, Bool, true, false, not, ◌&&◌, nat_lt, List, [], ◌∷◌, get_or, encode_utf8, encode_utf8_all, IsUtf8, inl, inr, refl, sym, ap, ◌∙◌, arith, and-true, cases_lt, nat_tests, list_all-append, list_all_at, encode_ascii, encodes-chars, char_from_byte, length-encode, len_utf8_bounds, beq, is_ascii_alphanumeric, list_all, ucd_category, ucd_derived, same_from_beq, all_below, all_below-at, is_word_character, is_joiner, is_piece, begins, length, length-append, get_or_append_left}
 use Rattle.std.proofs.Common.{chars, append-nil}
 
 pub is_word_character-ascii : (c : ℕ) → c < 128 → is_word_character c ≡ is_ascii_alphanumeric c
@@ -71,3 +71,17 @@ joiners-encodes (c ∷ cs) = grind (arith, list_all-append, encode_utf8, encode_
 -- the bytes are joiners alone where the characters are
 pub joiners-bytes : (text : List ℕ) → IsUtf8 text → list_all is_joiner text ≡ list_all is_joiner (chars text)
 joiners-bytes text utf8 = ap (list_all is_joiner) (sym (encodes-chars text utf8)) ∙ joiners-encodes (chars text)
+
+-- the first character is a joiner where the first byte is
+pub joiner-first : (text : List ℕ) → IsUtf8 text → (nat_lt 0 (length text) && is_joiner (get_or text 0 0)) ≡ begins is_joiner (chars text)
+joiner-first text utf8 = ap (λ bytes. nat_lt 0 (length bytes) && is_joiner (get_or bytes 0 0)) (sym (encodes-chars text utf8)) ∙ go (chars text)
+  where
+    byte : (c : ℕ) → is_joiner (get_or (encode_utf8 c) 0 0) ≡ is_joiner c
+    byte c = elim (cases_lt c 128) [
+      | inl ascii ↦ ap (λ bytes. is_joiner (get_or bytes 0 0)) (encode_ascii c ascii)
+      | inr beyond ↦ no_joiner_first c beyond ∙ sym (no_joiner_from c beyond)
+    ]
+
+    go : (cs : List ℕ) → (nat_lt 0 (length (encode_utf8_all cs)) && is_joiner (get_or (encode_utf8_all cs) 0 0)) ≡ begins is_joiner cs
+    go [] = refl
+    go (c ∷ cs) = grind (arith, byte c, encode_utf8_all, length-append, get_or_append_left, length-encode c, len_utf8_bounds c)

@@ -38,20 +38,20 @@ has_chars (c ∷ cs) some = omega arith
 pub folding_some : (text : List ℕ) → IsUtf8 text → 1 ≤ length text → 1 ≤ length (folding text)
 folding_some text utf8 some = folds_to_some (chars text) (has_chars (chars text) (omega (arith, ap length (encodes-chars text utf8))))
 
--- the bytes written so far, and those of the characters that the iterator has left, are the folding
-pub record StillFolds (text written : List ℕ) (iterator : CaseFold Chars) : Type 0 where
+-- the bytes written so far, and those of the characters that the iterator has left, are all that is to be written
+pub record StillFolds (all written : List ℕ) (iterator : CaseFold Chars) : Type 0 where
   pub left : List ℕ
   pub source : FoldsCaseTo chars_steps iterator left
-  pub whole : folding text ≡ written ++ encode_utf8_all left
+  pub whole : all ≡ written ++ encode_utf8_all left
 
-pub folds_from_start : (text : List ℕ) (source : Chars) (iterator : CaseFold Chars) → IsUtf8 text → chars_rest source ≡ text
-    → ((cs : List ℕ) → AlwaysYields chars_steps (λ c. c) source cs → FoldsCaseTo chars_steps iterator (default_case_fold cs)) → StillFolds text [] iterator
-folds_from_start text source iterator utf8 rest folds =
+pub folds_from_start : (before text : List ℕ) (source : Chars) (iterator : CaseFold Chars) → IsUtf8 text → chars_rest source ≡ text
+    → ((cs : List ℕ) → AlwaysYields chars_steps (λ c. c) source cs → FoldsCaseTo chars_steps iterator (default_case_fold cs)) → StillFolds (before ++ folding text) before iterator
+folds_from_start before text source iterator utf8 rest folds =
     record { left = default_case_fold (chars text); source = folds (chars text) (Chars-gives (chars text) source (encodes-chars text utf8 ∙ sym rest)); whole = refl }
 
-pub folds_further : (text written : List ℕ) (old new : CaseFold Chars) (c : ℕ) → StillFolds text written old → CaseFoldSteps chars_steps old (Some c) new
-    → StillFolds text (written ++ encode_utf8 c) new
-folds_further text written old new c h step =
+pub folds_further : (all written : List ℕ) (old new : CaseFold Chars) (c : ℕ) → StillFolds all written old → CaseFoldSteps chars_steps old (Some c) new
+    → StillFolds all (written ++ encode_utf8 c) new
+folds_further all written old new c h step =
     let next = step.first.at h.left h.source in
     record {
       left = next.0;
@@ -59,10 +59,10 @@ folds_further text written old new c h step =
       whole = h.whole ∙ ap (λ cs. written ++ encode_utf8_all cs) next.1 ∙ sym (append_assoc written (encode_utf8 c) (encode_utf8_all next.0));
     }
 
-pub folds_to_end : (text written : List ℕ) (old new : CaseFold Chars) → StillFolds text written old → CaseFoldSteps chars_steps old None new → written ≡ folding text
-folds_to_end text written old new h step =
+pub folds_to_end : (all written : List ℕ) (old new : CaseFold Chars) → StillFolds all written old → CaseFoldSteps chars_steps old None new → written ≡ all
+folds_to_end all written old new h step =
     sym (h.whole ∙ ap (λ cs. written ++ encode_utf8_all cs) (step.first.at h.left h.source) ∙ append-nil written)
 
--- what is written is no longer than the folding
-pub folds_within : (text written : List ℕ) (iterator : CaseFold Chars) → StillFolds text written iterator → length written ≤ length (folding text)
-folds_within text written iterator h = omega (arith, ap length h.whole, length-append written (encode_utf8_all h.left))
+-- what is written is no longer than all
+pub folds_within : (all written : List ℕ) (iterator : CaseFold Chars) → StillFolds all written iterator → length written ≤ length all
+folds_within all written iterator h = omega (arith, ap length h.whole, length-append written (encode_utf8_all h.left))

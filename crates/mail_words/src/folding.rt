@@ -1,5 +1,5 @@
 //! How words are compared: by default caseless folding.
-ghost use Rattle.std.specs.Prelude.{◌≡◌, ◌*◌, ◌<◌, ◌≤◌, length, string_bytes, string_len, IfOk, OnOk, OnErr};
+ghost use Rattle.std.specs.Prelude.{◌≡◌, ◌*◌, ◌+◌, ◌<◌, ◌≤◌, ◌++◌, length, string_bytes, string_len, IfOk, OnOk, OnErr};
 ghost use Rattle.std.specs.String.{string_capacity};
 ghost use Rattle.mail_words.specs.Folding.{folding};
 ghost use Rattle.mail_words.specs.Words.{HasWordLength};
@@ -38,6 +38,30 @@ pub fn fold_into(word: &str, into: &mut String) -> Result<(), AllocError>
     if word.is_ascii() {
         into.push_str(word)?;
         into.make_ascii_lowercase();
+        return Ok(());
+    }
+    fold_onto(word, into)
+}
+
+/// Adds the folding of a word behind what `into` holds. What it holds after an error isn't said.
+pub fn fold_onto(word: &str, into: &mut String) -> Result<(), AllocError>
+    ensures exact { OnOk result
+        (string_bytes into.new ≡ string_bytes into.old ++ folding word.now) }
+    ensures of_word { HasWordLength word.now → OnOk result
+        ((string_len into.old + 1 ≤ string_len into.new)
+        × (string_len into.new ≤ string_len into.old + 1024)) }
+    ensures bound { OnOk result
+        (string_len into.new ≤ string_len into.old + 8 * length word.now) }
+
+    // Memory is taken only where there is too little room.
+    ensures full { OnErr result
+        (string_capacity into.old < string_len into.old + length (folding word.now)) }
+{
+    if word.is_ascii() {
+        // Byte by byte, since words are short.
+        for byte in word.as_bytes() {
+            into.push(char::from(byte.to_ascii_lowercase()))?;
+        }
         return Ok(());
     }
     for c in word.chars().default_case_fold() {

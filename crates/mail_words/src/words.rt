@@ -6,8 +6,7 @@ ghost use Rattle.std.specs.Option.{option_copied};
 ghost use Rattle.mail_words.specs.Words.{words, HasWordLength, is_word_character, is_joiner, begins};
 ghost use Rattle.mail_words.specs.Inside.Runs.{words_left, front, behind, is_parted, long_at};
 
-use crate::ascii::{are_ascii_joiners, is_ascii_word_character};
-use crate::character::is_joiner;
+use crate::ascii::{are_ascii_joiners, is_ascii_joiner, is_ascii_word_character};
 use crate::runs::{gap_len, joined_len, plain_len};
 use std::marker::Model;
 
@@ -176,9 +175,12 @@ fn long_word(text: &str, plain: usize) -> Option<&str>
     Some(text.split_at(len).0)
 }
 
-/// Whether there is a first character, and it is a joiner.
+/// Whether there is a first character, and it is a joiner: each of these is of ASCII.
 fn begins_in_joiner(text: &str) -> bool
     ensures { result ≡ begins is_joiner (chars text.now) }
 {
-    text.chars().next().is_some_and(is_joiner)
+    match text.as_bytes() {
+        [first, ..] => is_ascii_joiner(*first),
+        [] => false,
+    }
 }

@@ -1,5 +1,5 @@
 -- Folded words that lie one behind another.
-use Rattle.std.specs.Prelude.{◌≡◌, ℕ, List, [], ◌∷◌, length, map, take, drop}
+use Rattle.std.specs.Prelude.{◌≡◌, ℕ, List, [], ◌∷◌, length, map, take, drop, string_bytes}
 use Rattle.std.specs.List.{AllByRecursion, concat}
 use Rattle.index_job.specs.declared.folding_room.FoldingRoom.{FoldingRoom}
 use Rattle.index_job.specs.MessageTerms.{HasTermLength}
@@ -11,6 +11,6 @@ cut (n ∷ ns) bytes = take n bytes ∷ cut ns (drop n bytes)
 
 -- the room has these folded words
 pub record HoldsWords (room : FoldingRoom) (ws : List (List ℕ)) : Type 0 where
-  pub bytes : room.bytes.items ≡ concat ws
+  pub bytes : string_bytes room.folded ≡ concat ws
   pub lengths : room.lengths.items ≡ map length ws
   pub sizes : AllByRecursion HasTermLength ws
