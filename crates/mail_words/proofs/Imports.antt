@@ -1,6 +1,6 @@
 -- The words of std and of the definitions that proofs take, from one place.
 pub use Rattle.mail_words.specs.Folding.{folding}
-pub use Rattle.mail_words.specs.Inside.Runs.{behind, front, is_ascii_word, is_other, is_parted, is_piece, joined_front, joined_on, joined_to, long_at, read_front, within}
+pub use Rattle.mail_words.specs.Inside.Runs.{behind, front, HasGapAndWord, is_ascii_other, is_ascii_word, is_no_ascii_word, is_other, is_piece, joined_front, joined_on, joined_to, long_at, read_front, within}
 unfoldable pub use Rattle.mail_words.specs.Inside.Runs.{words_left}
 pub use Rattle.mail_words.specs.Words.{HasWordLength, after_joiners, begins, is_word_range, word_limit, word_ranges, words_behind}
 unfoldable pub use Rattle.mail_words.specs.Words.{is_joiner, is_one_word, is_part_of_word, is_word, is_word_character, words}

@@ -1,34 +1,28 @@
 -- From the mask of one load to the bytes that are word characters.
-use lib.Count.{count_trailing_zeros}
 use lib.Lanes.{Each1, chunk, mask_l, top}
-use Rattle.mail_words.proofs.Imports.{◌≡◌, ℕ, ◌+◌, ◌-◌, ◌%◌, ◌^◌, ◌<◌, ◌≤◌, cond, eqb, Bool, true, not, List, [], ◌∷◌, length, get_or, Fits, w8, refl, ap, ap₂, ◌∙◌, subst, arith, inl, inr, agree_below, agree_below_at, cases_lt, length-map, map-map, mask_l-mod, length-chunk, get_or-chunk, chunk-fits, first_set_mask_l, prefix_len}
+use Rattle.mail_words.proofs.Imports.{◌≡◌, ℕ, ◌+◌, ◌-◌, ◌%◌, ◌^◌, ◌<◌, ◌≤◌, Bool, true, false, not, List, [], ◌∷◌, length, get_or, Fits, w8, refl, ap, ap₂, ◌∙◌, subst, arith, inl, inr, agree_below, agree_below_at, cases_lt, length-map, map-map, mask_l-mod, length-chunk, get_or-chunk, prefix_len}
 use Rattle.std.proofs.Common.{map}
 use Rattle.std.proofs.lemmas.List.Sums.{prefix_len-le-length, prefix_len_passes}
 
 -- of bytes, a test counts for what it says of each byte
-same_prefix : (p q : ℕ → Bool) (xs : List ℕ) → Each1 (Fits w8) xs → agree_below p q 256 ≡ true → prefix_len p xs ≡ prefix_len q xs
-same_prefix p q [] fits all = refl
-same_prefix p q (x ∷ xs) fits all = ap₂ (λ t n. cond t (1 + n) 0) (agree_below_at p q 256 x all fits.0.fits) (same_prefix p q xs fits.1 all)
+same_tests : (p q : ℕ → Bool) (xs : List ℕ) → Each1 (Fits w8) xs → agree_below p q 256 ≡ true → map p xs ≡ map q xs
+same_tests p q [] fits all = refl
+same_tests p q (x ∷ xs) fits all = ap₂ ◌∷◌ (agree_below_at p q 256 x all fits.0.fits) (same_tests p q xs fits.1 all)
 
--- the lanes z, computed from those of a load, stop at just the bytes that fail the test
-pub first_lane : (test : ℕ → Bool) (bytes : List ℕ) (at r : ℕ) (z : List ℕ) (f : ℕ → ℕ) → at + 16 ≤ length bytes → ((k : ℕ) → Fits w8 (get_or bytes k 0))
-    → r ≡ cond (eqb (mask_l (map (top 7) z) % 2 ^ 64) 0) 16 (count_trailing_zeros 64 (mask_l (map (top 7) z) % 2 ^ 64)) → z ≡ map f (chunk at 16 bytes)
-    → agree_below (λ b. not (top 7 (f b))) test 256 ≡ true → r ≡ prefix_len test (chunk at 16 bytes)
-first_lane test bytes at r z f room fits found lanes all =
-    found
-    ∙ ap (λ m. cond (eqb m 0) 16 (count_trailing_zeros 64 m))
-    (ap (λ l. mask_l l % 2 ^ 64) (ap (map (top 7)) lanes ∙ map-map (top 7) f load) ∙ mask_l-mod (map stops load) 64 (omega (arith, length-map load stops, long)))
-    ∙ first_set_mask_l stops load 16 long (omega arith)
-    ∙ same_prefix (λ b. not (stops b)) test load (chunk-fits w8 at 16 bytes fits) all
-  where
-    load : List ℕ
-    load = chunk at 16 bytes
+-- the lanes z, computed from those of a load, tell just the bytes that pass the test
+pub lanes_mask : (test : ℕ → Bool) (f : ℕ → ℕ) (load z : List ℕ) → length load ≤ 64 → Each1 (Fits w8) load → z ≡ map f load → agree_below (λ b. top 7 (f b)) test 256 ≡ true
+    → mask_l (map (top 7) z) % 2 ^ 64 ≡ mask_l (map test load)
+lanes_mask test f load z few fits lanes all =
+    ap (λ l. mask_l l % 2 ^ 64) (ap (map (top 7)) lanes ∙ map-map (top 7) f load ∙ same_tests (λ b. top 7 (f b)) test load fits all)
+    ∙ mask_l-mod (map test load) 64 (omega (arith, few, length-map load test))
 
-    stops : ℕ → Bool
-    stops b = top 7 (f b)
+-- those that don't fail pass
+not_not : (b : Bool) → not (not b) ≡ b
+not_not true = refl
+not_not false = refl
 
-    long : length load ≡ 16
-    long = length-chunk at 16 bytes room
+pub run_of_not : (test : ℕ → Bool) (load : List ℕ) → prefix_len (λ b. not (not (test b))) load ≡ prefix_len test load
+run_of_not test load = λ i. prefix_len (λ b. not_not (test b) i) load
 
 pub run_bound : (test : ℕ → Bool) (bytes : List ℕ) (at r : ℕ) → at + 16 ≤ length bytes → r ≡ prefix_len test (chunk at 16 bytes) → r ≤ 16
 run_bound test bytes at r room run = omega (arith, run, length-chunk at 16 bytes room, prefix_len-le-length test (chunk at 16 bytes))

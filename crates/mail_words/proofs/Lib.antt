@@ -6,6 +6,7 @@ pub mod FrontReads
 pub mod Imports
 pub mod JoinedEnds
 pub mod Kept
+pub mod LaneGaps
 pub mod LaneRuns
 pub mod Lengths
 pub mod OneWord
@@ -19,6 +20,6 @@ mod RowsLimits
 mod RowsUnicode
 pub mod RunLemmas
 pub mod Seams
-pub mod SpacedWords
+pub mod ShownWords
 pub mod Steps
 pub mod WordTests

@@ -66,11 +66,6 @@ words_left-gap in_run c cs other =
         ap (begins is_word_character) (after_joiners-joiner c (before_rest in_run) e) ∙ run_before_rest in_run ∙ sym (ap (λ t. in_run && t) e ∙ and-true in_run)
     go false e = grind (arith, after_joiners-other, and-false)
 
--- past one space
-pub words_left-space : (in_run : Bool) (cs : List ℕ) → words_left in_run (0x20 ∷ cs) ≡ words_left false cs
-unfolding is_joiner
-words_left-space in_run cs = words_left-gap in_run 0x20 cs (is_word_character-ascii 0x20 (lit< tt)) ∙ ap (λ t. words_left t cs) (and-false in_run)
-
 pub words_left-end : (in_run : Bool) → words_left in_run [] ≡ []
 words_left-end in_run = words_left-places in_run []
 

@@ -1,9 +1,9 @@
 //! Word characters of ASCII, looked for sixteen bytes at a time.
-ghost use Rattle.std.specs.Prelude.{◌≡◌, ◌+◌, ◌<◌, ◌≤◌, ◌==◌, ℕ, true, length, slice_index, if◌then◌else◌};
+ghost use Rattle.std.specs.Prelude.{◌≡◌, ◌+◌, ◌<◌, ◌≤◌, ◌==◌, ℕ, true, length, map, slice_index, if◌then◌else◌, IfSome};
 ghost use Rattle.std.specs.Int.{w64, trailing_zeros};
 ghost use Rattle.std.specs.List.{prefix_len};
-ghost use Rattle.std.specs.Simd.Lanes.{chunk};
-ghost use Rattle.mail_words.specs.Inside.Runs.{is_ascii_word};
+ghost use Rattle.std.specs.Simd.Lanes.{chunk, mask_l};
+ghost use Rattle.mail_words.specs.Inside.Runs.{is_ascii_word, is_no_ascii_word, HasGapAndWord};
 
 use std::simd::prelude::*;
 
@@ -33,12 +33,19 @@ fn run_at(bytes: &[u8], at: usize) -> usize
     requires { at + 16 ≤ length bytes.now }
     ensures { result ≡ prefix_len is_ascii_word (chunk at 16 bytes.now) }
 {
-    let lanes = u8x16::from_slice(&bytes[at..]);
+    first_set(others_in(u8x16::from_slice(&bytes[at..])))
+}
+
+/// The bits of the lanes that are no word characters of ASCII.
+#[inline(always)]
+fn others_in(lanes: u8x16) -> u64
+    ensures { result ≡ mask_l (map is_no_ascii_word lanes) }
+{
     // But for its case, a letter stands less than 26 behind `a`, and a digit less than 10 behind `0`.
     let from_a = (lanes | u8x16::splat(0x20)) - u8x16::splat(b'a');
     let from_0 = lanes - u8x16::splat(b'0');
     let others = from_a.simd_ge(u8x16::splat(26)) & from_0.simd_ge(u8x16::splat(10));
-    first_set(others.to_bitmask())
+    others.to_bitmask()
 }
 
 /// The place of the lowest bit that is set, or sixteen.
@@ -51,4 +58,27 @@ fn first_set(mask: u64) -> usize
     } else {
         mask.trailing_zeros() as usize
     }
+}
+
+/// The lengths of the gap in front and of the word behind it, where sixteen bytes of ASCII show both and what ends the word.
+/// To answer none would cost only time.
+#[inline(always)]
+pub(crate) fn gap_and_word(bytes: &[u8]) -> Option<(usize, usize)>
+    ensures { IfSome result (λ found. HasGapAndWord bytes.now found.0 found.1) }
+{
+    if bytes.len() < LANES {
+        return None;
+    }
+    let lanes = u8x16::from_slice(bytes);
+    if lanes.simd_ge(u8x16::splat(0x80)).to_bitmask() != 0 {
+        return None;
+    }
+    let others = others_in(lanes);
+    // The bits of the gap are set, so that a carry goes through them to the first of the word.
+    let gap = (others + 1).trailing_zeros();
+    let rest = others >> gap;
+    if rest == 0 {
+        return None;
+    }
+    Some((gap as usize, rest.trailing_zeros() as usize))
 }

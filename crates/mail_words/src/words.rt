@@ -1,12 +1,13 @@
 //! The words of a text, one after another.
-ghost use Rattle.std.specs.Prelude.{◌≡◌, ◌+◌, [], ◌∷◌, ◌++◌, ◌<◌, ◌≤◌, true, false, length, chars, encode_utf8_all, All, MatchOption, option_to_list};
+ghost use Rattle.std.specs.Prelude.{◌≡◌, ◌+◌, [], ◌∷◌, ◌++◌, ◌<◌, ◌≤◌, true, false, length, chars, encode_utf8_all, All, MatchOption, IfSome, drop, option_to_list};
 ghost use Rattle.std.specs.Iterator.{YieldsFirstRef, item_count};
 ghost use Rattle.std.specs.List.{list_all};
 ghost use Rattle.std.specs.Option.{option_copied};
 ghost use Rattle.mail_words.specs.Words.{words, HasWordLength, is_word_character, is_joiner, begins};
-ghost use Rattle.mail_words.specs.Inside.Runs.{words_left, front, behind, is_parted, long_at};
+ghost use Rattle.mail_words.specs.Inside.Runs.{words_left, front, behind, is_other, long_at};
 
-use crate::ascii::{are_ascii_joiners, is_ascii_joiner, is_ascii_word_character};
+use crate::ascii::{are_ascii_joiners, is_ascii_joiner};
+use crate::lanes::gap_and_word;
 use crate::runs::{gap_len, joined_len, plain_len};
 use std::marker::Model;
 
@@ -91,14 +92,17 @@ fn next_place(text: &str, in_run: bool) -> Option<WordPlace<'_>>
         (λ p. words_left in_run (chars text.now) ≡ p.plain.now
         ∷ (option_to_list (option_copied p.long) ++ words_left true (chars p.behind.now))) }
 {
+    if let Some(place) = place_by_one_load(text, in_run) {
+        return Some(place);
+    }
     let mut rest = text;
     let mut goes_on = in_run;
     'places: loop {
-        let (start, start_goes_on) = behind_gap(rest, goes_on);
+        let (start, start_goes_on) = behind_gap(rest, gap_len(rest), goes_on);
         if start.is_empty() {
             return None;
         }
-        let place = place_at(start, start_goes_on);
+        let place = place_at(start, plain_len(start), start_goes_on);
         if place.plain.len() <= WORD_LIMIT {
             return Some(place);
         }
@@ -108,25 +112,29 @@ fn next_place(text: &str, in_run: bool) -> Option<WordPlace<'_>>
     }
 }
 
-/// The text from its first word character on, and whether it still goes on with the run.
-fn behind_gap(text: &str, in_run: bool) -> (&str, bool)
+/// The same, if one load shows the gap and the word. Such a word is short enough to be kept.
+#[inline(always)]
+fn place_by_one_load(text: &str, in_run: bool) -> Option<WordPlace<'_>>
+    ensures { IfSome result (λ p. words_left in_run (chars text.now) ≡ p.plain.now
+        ∷ (option_to_list (option_copied p.long) ++ words_left true (chars p.behind.now))) }
+{
+    let (gap, word) = gap_and_word(text.as_bytes())?;
+    let (start, goes_on) = behind_gap(text, gap, in_run);
+    Some(place_at(start, word, goes_on))
+}
+
+/// The text behind its gap, which takes so many bytes, and whether it still goes on with the run.
+#[inline(always)]
+fn behind_gap(text: &str, gap: usize, in_run: bool) -> (&str, bool)
+    requires { gap ≡ length (encode_utf8_all (front is_other (chars text.now))) }
+    ensures start { result.0.now ≡ drop gap text.now }
     ensures left { words_left in_run (chars text.now) ≡ words_left result.1 (chars result.0.now) }
     ensures begins { 0 < length result.0.now → begins is_word_character (chars result.0.now)
         ≡ true }
     ensures bound { length result.0.now ≤ length text.now }
 {
-    if is_parted_by_a_space(text.as_bytes()) {
-        return (text.split_at(1).1, false);
-    }
-    let (gap, start) = text.split_at(gap_len(text));
-    (start, in_run && has_joiners_alone(gap))
-}
-
-/// Whether a space and then a word character of ASCII stand first, as behind most words.
-fn is_parted_by_a_space(bytes: &[u8]) -> bool
-    ensures { result ≡ is_parted bytes.now }
-{
-    bytes.len() > 1 && bytes[0] == b' ' && is_ascii_word_character(bytes[1])
+    let (before, start) = text.split_at(gap);
+    (start, in_run && has_joiners_alone(before))
 }
 
 /// Whether each character is a joiner.
@@ -136,8 +144,10 @@ fn has_joiners_alone(text: &str) -> bool
     are_ascii_joiners(text.as_bytes())
 }
 
-/// What begins where a text does.
-fn place_at(text: &str, in_run: bool) -> WordPlace<'_>
+/// What begins where a text does, whose plain word takes so many bytes.
+#[inline(always)]
+fn place_at(text: &str, len: usize, in_run: bool) -> WordPlace<'_>
+    requires { len ≡ length (encode_utf8_all (front is_word_character (chars text.now))) }
     ensures plain { result.plain.now ≡ encode_utf8_all (front is_word_character (chars text.now)) }
     ensures long { option_to_list (option_copied result.long) ≡ long_at in_run (chars text.now) }
     ensures behind { result.behind.now ≡ encode_utf8_all
@@ -145,7 +155,6 @@ fn place_at(text: &str, in_run: bool) -> WordPlace<'_>
     ensures lengths { length result.plain.now + length result.behind.now ≡ length text.now }
     ensures behind_chars { chars result.behind.now ≡ behind is_word_character (chars text.now) }
 {
-    let len = plain_len(text);
     let (plain, behind) = text.split_at(len);
     let long = if in_run { None } else { long_word(text, len) };
     WordPlace {

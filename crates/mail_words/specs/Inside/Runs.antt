@@ -1,5 +1,5 @@
 -- What a reader of words looks for at the front of the characters that are left.
-use Rattle.std.specs.Prelude.{ℕ, Bool, true, false, not, ◌&&◌, ◌||◌, ◌==◌, List, [], ◌∷◌, ◌++◌, length, slice_index, nat_le, nat_lt, codes, encode_utf8_all, if◌then◌else◌}
+use Rattle.std.specs.Prelude.{ℕ, ◌+◌, ◌<◌, ◌≡◌, Bool, true, false, not, ◌&&◌, ◌||◌, List, [], ◌∷◌, ◌++◌, length, slice_index, nat_le, nat_lt, codes, encode_utf8_all, if◌then◌else◌}
 use Rattle.mail_words.specs.Words.{is_word_character, is_joiner, word_limit, words_behind}
 
 -- the characters at the front that pass, and what follows them
@@ -19,9 +19,21 @@ is_other c = not (is_word_character c)
 abbrev pub is_ascii_word : ℕ → Bool
 is_ascii_word b = nat_lt b 128 && is_word_character b
 
--- the bytes begin with a space and a word character of ASCII
-abbrev pub is_parted : List ℕ → Bool
-is_parted bytes = nat_lt 1 (length bytes) && (slice_index bytes 0 == 0x20 && is_ascii_word (slice_index bytes 1))
+abbrev pub is_no_ascii_word : ℕ → Bool
+is_no_ascii_word b = not (is_ascii_word b)
+
+-- a byte that is a character by itself, but no word character
+abbrev pub is_ascii_other : ℕ → Bool
+is_ascii_other b = nat_lt b 128 && is_other b
+
+-- the bytes begin with a gap and a word of these lengths, and with what ends the word: all within sixteen bytes of ASCII
+pub record HasGapAndWord (bytes : List ℕ) (gap word : ℕ) : Type 0 where
+  pub short : gap + word < 16
+  pub within : gap + word < length bytes
+  pub some : 0 < word
+  pub in_gap : (k : ℕ) → k < gap → is_ascii_other (slice_index bytes k) ≡ true
+  pub in_word : (k : ℕ) → k < word → is_ascii_word (slice_index bytes (gap + k)) ≡ true
+  pub end : is_ascii_other (slice_index bytes (gap + word)) ≡ true
 
 -- a word character or a joiner
 abbrev pub is_piece : ℕ → Bool

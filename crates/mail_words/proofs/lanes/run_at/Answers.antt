@@ -1,16 +1,11 @@
--- The lanes are held against the definition at each of the 256 bytes, by computing.
+use lib.Count.{count_trailing_zeros}
 use lib.Lanes.{chunk}
-use Rattle.mail_words.proofs.Imports.{ℕ, leb, cond, bit_and, refl, zip2_splat, zip2_of_maps, splat_is_map, length-chunk, ucd_category, ucd_derived, is_word_character, is_ascii_word}
-use Rattle.mail_words.proofs.LaneRuns.{first_lane}
+use Rattle.mail_words.proofs.Imports.{cond, eqb, ◌∙◌, ap, arith, length-chunk, first_set_mask_l, is_ascii_word, is_no_ascii_word}
+use Rattle.mail_words.proofs.LaneRuns.{run_of_not}
 use Rattle.mail_words.proofs.lanes.run_at.Goals as goal
 
 pub returns : goal.returns
-unfolding ucd_derived ucd_category is_word_character
 returns c =
-    let v = chunk c.args.at 16 c.args.bytes.now in
-    let long = length-chunk c.args.at 16 c.args.bytes.now c.requires in
-    first_lane is_ascii_word c.args.bytes.now c.args.at _ _ _ c.requires c.type_inv.bytes c.first_set.ensures
-    (zip2_of_maps bit_and _ _ v
-    (zip2_of_maps (λ a b. cond (leb a b) 255 0) _ _ v (splat_is_map v 16 _ long) (zip2_of_maps _ _ _ v (zip2_splat {Y = ℕ} _ v 16 _ long) (splat_is_map v 16 _ long)))
-    (zip2_of_maps (λ a b. cond (leb a b) 255 0) _ _ v (splat_is_map v 16 _ long) (zip2_splat {Y = ℕ} _ v 16 _ long)))
-    refl
+    let load = chunk c.args.at 16 c.args.bytes.now in
+    c.first_set.ensures ∙ ap (λ m. cond (eqb m 0) 16 (count_trailing_zeros 64 m)) c.others_in.ensures
+    ∙ first_set_mask_l is_no_ascii_word load 16 (length-chunk c.args.at 16 c.args.bytes.now c.requires) (omega arith) ∙ run_of_not is_ascii_word load
