@@ -9,7 +9,7 @@ ghost use Rattle.run_faults.specs.Faults.{refusal_of, IsEarly};
 
 use mail_answer::Format;
 use mail_dates::Moment;
-use mail_query::{Query, QueryFault, QueryFaultKind, read_boolean, read_mairix};
+use mail_query::{Query, QueryFault, read_boolean, read_mairix};
 use mairix_options::{MailFormat, Texts, answer_format, plan_of, read_rc};
 use run_faults::Fault;
 use std::alloc::Global;
@@ -66,13 +66,8 @@ fn read_query(
         (query_asked boolean (map string_bytes patterns.now) now) }
 {
     if boolean {
-        match patterns.join(alloc, " ") {
-            Ok(text) => read_boolean(alloc, text.as_str(), now),
-            Err(_) => Err(QueryFault {
-                number: 0,
-                kind: QueryFaultKind::OutOfMemory,
-            }),
-        }
+        let text = patterns.join(alloc, " ")?;
+        read_boolean(alloc, text.as_str(), now)
     } else {
         read_mairix(alloc, patterns, now)
     }

@@ -2,5 +2,5 @@ use Rattle.mairix_tool.proofs.Words.{string_bytes, arith}
 use Rattle.mairix_tool.proofs.ArchiveLaws.AskedPaths.{joined-by-spaces}
 use Rattle.mairix_tool.proofs.wanted.read_query.Goals as goal
 
-pub returns-in-Ok : goal.returns-in-Ok
-returns-in-Ok c = grind (arith, joined-by-spaces, string_bytes)
+pub returns-in_ok-text : goal.returns-in_ok-text
+returns-in_ok-text c = grind (arith, joined-by-spaces, string_bytes)
