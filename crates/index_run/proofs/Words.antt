@@ -15,4 +15,4 @@ pub use Rattle.std.proofs.Math.Seq.{get_or-append_seam, map-set_same}
 pub use Rattle.std.proofs.lemmas.Bool.Decides.{eqb_tells, leb_tells}
 pub use Rattle.std.proofs.lemmas.List.{get_or-map, length-append, length-map, length-take-le, take-append-drop, take_all, take_more}
 pub use Rattle.std.proofs.lemmas.List.Elements.{All-append, All-cons, All-get_or, All-nil}
-pub use Rattle.std.specs.Prelude.{Err, ◌≢◌, ◌⊎◌}
+pub use Rattle.std.specs.Prelude.{Err, Ok, ◌≢◌, ◌⊎◌}

@@ -51,15 +51,11 @@ pub(crate) fn job_of_archives<S: Source>(
     ensures early { is_early (fault_in result) ≡ false }
     ensures kinds { IfErr result IsOfIndexing }
 {
-    let mut job = match IndexJob::new(alloc) {
-        Ok(job) => job,
-        // A job that begins wants nothing but memory.
-        Err(_) => return Err(Fault::Memory),
-    };
+    // A job that begins wants nothing but memory.
+    let mut job = IndexJob::new(alloc).map_err(|_| Fault::Memory)?;
     for number in 0..sources.len() {
-        if let Err(fault) = job.archive(paths[number].as_str(), &mut sources[number]) {
-            return Err(fault_of_job(number as u64, fault));
-        }
+        job.archive(paths[number].as_str(), &mut sources[number])
+            .map_err(move |fault| fault_of_job(number as u64, fault))?;
     }
     Ok(job)
 }

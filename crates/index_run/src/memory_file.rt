@@ -35,14 +35,9 @@ pub fn file_of_archives<S: Source>(
     ensures early { is_early (fault_in result) ≡ false }
     ensures kinds { IfErr result IsOfIndexing }
 {
-    let job = match job_of_archives(alloc, paths, sources) {
-        Ok(job) => job,
-        Err(fault) => return Err(fault),
-    };
+    let job = job_of_archives(alloc, paths, sources)?;
     let mut file = MemoryOut::new(alloc, None);
-    match job.finish(&mut file) {
-        Ok(_) => Ok(file),
-        // A job that hasn't failed is refused nothing but its output, and a file in memory fails only for want of memory.
-        Err(_) => Err(Fault::Memory),
-    }
+    // A job that hasn't failed is refused nothing but its output, and a file in memory fails only for want of memory.
+    job.finish(&mut file).map_err(|_| Fault::Memory)?;
+    Ok(file)
 }

@@ -54,13 +54,8 @@ pub fn send_index<S: Source, O: Out>(
     ensures silent { IfErr result (λ fault. OnFalse (is_failed_out (Some fault))
         (out.new ≡ out.old)) }
 {
-    let job = match job_of_archives(alloc, paths, sources) {
-        Ok(job) => job,
-        Err(fault) => return Err(fault),
-    };
-    match job.finish(out) {
-        Ok(_) => Ok(()),
-        // A job that hasn't failed is refused nothing but its output.
-        Err(_) => Err(Fault::Out),
-    }
+    let job = job_of_archives(alloc, paths, sources)?;
+    // A job that hasn't failed is refused nothing but its output.
+    job.finish(out).map_err(|_| Fault::Out)?;
+    Ok(())
 }

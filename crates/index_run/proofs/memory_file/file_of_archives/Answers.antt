@@ -1,13 +1,17 @@
-use Rattle.index_run.proofs.Words.{◌≡◌, ◌∙◌, ℕ, List, ◌++◌, length, map, Some, IfSome, ap, subst, string_bytes, Draft, IsWellFormed, table, mboxes}
-use Rattle.std.proofs.Common.{Option}
+use Rattle.index_run.proofs.Words.{◌≡◌, ℕ, List, [], length, None, Some, IfSome, IsSome, arith, Draft, IsWellFormed}
+use Rattle.std.specs.Prelude.{IfOk, Ok, Option, Result}
 use Rattle.std.specs.Io.KnownBytes.{Appends}
+use Rattle.index_job.specs.declared.job_fault.JobFault.{JobFault}
+use Rattle.mail_index.specs.Faults.{IsFileOf}
 use Rattle.mail_index.specs.Files.{index_file, HasSmallSections}
-use Rattle.mbox_cutter.specs.Memory.{Taking}
+use Rattle.mail_index.specs.Tables.{Table}
 use Rattle.index_run.proofs.memory_file.file_of_archives.Goals as goal
 
-pub returns-in-Ok-finish-clause-known : goal.returns-in-Ok-finish-clause-known
-returns-in-Ok-finish-clause-known g c = λ archives known.
-    let found = c.in-Ok.ensures.known archives known in
-    let written = subst (λ (o : Option Draft). IfSome o (λ d. (c.in-Ok-finish.field-0 ≡ length (index_file d.table)) × Appends (Some c.new-file.result.taken) (Some c.finish.new.out.taken) (index_file d.table))) found.1 c.in-Ok-finish.ensures.ok in
-    let formed = subst (λ (o : Option Draft). IfSome o (λ d. IsWellFormed d.table × HasSmallSections d.table)) found.1 c.in-Ok-finish.ensures.formed in
-    (found.0, (formed.0, written.1 ∙ ap (λ (t : List ℕ). t ++ index_file (table (mboxes (map string_bytes c.args.paths.now) archives))) (ap (λ (f : Taking). f.taken) c.new-file.ensures)))
+finished : (job : Option Draft) (r : Result ℕ JobFault) (n : ℕ) (file : List ℕ) → IsSome job → IfSome job (λ d. IsWellFormed d.table × HasSmallSections d.table)
+    → IfSome job (λ d. IfOk r (λ n. (n ≡ length (index_file d.table)) × Appends (Some []) (Some file) (index_file d.table))) → r ≡ Ok n → (t : Table) × IsFileOf file t
+finished None r n file some formed wrote is = absurd (cc some)
+finished (Some d) r n file some formed wrote is = (d.table, (formed.0, (rw is at wrote).1))
+
+pub returns-clause-formed : goal.returns-clause-formed
+returns-clause-formed g c =
+    finished c.in_ok-job.job c.finish.result c.in_ok-map_err.field-0 c.finish.new.out.taken c.in_ok-job.ensures.some c.finish.ensures.formed (rw c.new-file.ensures at c.finish.ensures.ok) (grind arith)
