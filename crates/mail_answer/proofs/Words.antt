@@ -2,7 +2,7 @@
 pub use Rattle.contract_words.proofs.Sending.{appends-nil, appends_join}
 pub use Rattle.header_text.specs.Headers.{HeaderField, fields_in, lines_before_empty, lines_within, most_in_header}
 unfoldable pub use Rattle.header_text.specs.Headers.{fields_of}
-pub use Rattle.mail_answer.specs.Answers.{SendsFront, SendsKnown, SendsSpans}
+pub use Rattle.mail_answer.specs.Answers.{SendsKnown, SendsSpans}
 pub use Rattle.mail_answer.specs.Archives.{IsRead, archive_at}
 pub use Rattle.mail_answer.specs.Asked.{Agree, HoldsArchives, TellLengths, indexed_lengths}
 pub use Rattle.mail_answer.specs.Closing.{behind_next, feed, feeds_behind, has_feed, next_text}
@@ -75,7 +75,7 @@ pub use Rattle.std.proofs.Math.Nat.{add-mul, suc-mul}
 pub use Rattle.std.proofs.Math.Seq.{drop-append_seam, take-append-add, take-append_seam}
 pub use Rattle.std.proofs.lemmas.Bool.{and_from, and_left, and_parts, and_right, both_ways, cases_lt, cases_order, eqb-false, eqb-true, false_from_ne_true, lt-leb, ltb-false, ltb-true, ne_eqb, or_cases, or_from, or_left, or_parts, or_right}
 pub use Rattle.std.proofs.lemmas.Bool.Decides.{eqb_tells, nat_tests}
-pub use Rattle.std.proofs.lemmas.List.{drop-append-le, drop-drop, drop_all, drop_more, ext_get_or, get_or-append-add, get_or-map, get_or-replicate, get_or-set_other, get_or-set_same, get_or-take, get_or_append_left, get_or_default, get_or_past, length-map, length-replicate, length-set, map-append, map-id, take-append-drop, take-append-le, take-set, take-take, take_at, take_more, take_more_set, take_rest, with_items_is}
+pub use Rattle.std.proofs.lemmas.List.{drop-append-le, drop-drop, drop_all, drop_more, ext_get_or, get_or-append-add, get_or-map, get_or-replicate, get_or-set_other, get_or-set_same, get_or-take, get_or_append_left, get_or_default, get_or_past, length-map, length-replicate, length-set, map-append, map-id, take-append-drop, take-append-le, take-set, take-take, take_at, take_more, take_more_set, take_rest}
 pub use Rattle.std.proofs.lemmas.List.Concat.{concat_is, flat_map-append, flat_map-cons}
 pub use Rattle.std.proofs.lemmas.List.Folds.{concat-append, flat_map-map}
 pub use Rattle.std.proofs.lemmas.List.FromFn.{fill_by_all, filter_of_map_range_with_len_more, get_or-map-range_with_len, get_or-range_with_len, length-map-range_with_len, length-range_with_len, map-range_with_len_more}

@@ -76,14 +76,8 @@ pub fn answer<A: Archives, O: Out>(
     ensures unwritten { OnTrue (is_unwritten result) (out.new ≡ out.old) }
 {
     // Want of memory would hide changed archives if the query came first.
-    if let Err(kind) = check_archives(index, archives) {
-        return Err(AnswerFault { kind, sent: 0 });
-    }
-    match Numbers::chosen(alloc, index, query, threads) {
-        Ok(numbers) => AnswerWriter::new(alloc, index, format).write(numbers, archives, out),
-        Err(_) => Err(AnswerFault {
-            kind: AnswerFaultKind::OutOfMemory,
-            sent: 0,
-        }),
-    }
+    check_archives(index, archives).map_err(AnswerFault::unsent)?;
+    let chosen = Numbers::chosen(alloc, index, query, threads);
+    let numbers = chosen.map_err(|_| AnswerFault::unsent(AnswerFaultKind::OutOfMemory))?;
+    AnswerWriter::new(alloc, index, format).write(numbers, archives, out)
 }

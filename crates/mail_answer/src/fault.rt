@@ -40,3 +40,12 @@ pub struct AnswerFault {
     /// The bytes that went out, up to the greatest number of its type.
     pub sent: u64,
 }
+
+impl AnswerFault {
+    /// A fault that comes before any byte went out.
+    pub(crate) fn unsent(kind: AnswerFaultKind) -> AnswerFault
+        ensures { result ≡ record { kind = kind; sent = 0 } }
+    {
+        AnswerFault { kind, sent: 0 }
+    }
+}

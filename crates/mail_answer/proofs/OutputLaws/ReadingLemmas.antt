@@ -15,11 +15,6 @@ pub tail_result : (archive offset from k : ℕ) (held : Option (List (List ℕ))
     → IfOk r (λ n. IsRead archive offset (take n into) held) → IfOk r (λ n. ReadsTail archive offset from n held old (put_mid from k old into))
 tail_result archive offset from k held old into r h h2 h3 = grind (arith, tail_read)
 
--- what was read behind the bytes that are held is held with them
-pub held_read : (archive offset n count : ℕ) (held : Option (List (List ℕ))) (old new room room' : List ℕ) → take count room ≡ old → 0 < n → ReadsTail archive offset count n held room room'
-    → new ≡ take (count + n) room' → ReadsBehind archive offset n held old new
-held_read archive offset n count held old new room room' e some r w = grind arith
-
 -- what comes is the same before and after a read
 pub coming_read : (archive next left n : ℕ) (held : Option (List (List ℕ))) (unread new : List ℕ) → ReadsBehind archive next n held unread new → n ≤ left
     → coming held (record { archive = archive; unread = drop 0 new; next = next + n; left = left - n }) ≡ coming held (record { archive = archive; unread = unread; next = next; left = left })

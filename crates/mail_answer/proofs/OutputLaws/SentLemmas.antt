@@ -1,28 +1,42 @@
 -- Laws of what went out of an answer.
-use Rattle.mail_answer.proofs.Words.{ℕ, List, [], Option, Result, length, refl, subst, arith, flat_map, appends-nil, Table, SendsFront, SendsKnown, SendsSpans, Search, AreChosen, known_answer, closed, AreSpansOf, Tells, mail_told, TableAnswer, IsTableAnswer, Answers}
+use Rattle.mail_answer.proofs.Words.{◌≡◌, ℕ, List, [], Option, Result, Ok, Err, IfOk, length, refl, subst, arith, append-nil, flat_map, appends-nil, Table, SendsKnown, SendsSpans, Search, AreChosen, known_answer, closed, mail_told, TableAnswer, IsTableAnswer, Answers}
+use Rattle.std.specs.Result.{IsErrAnd, MatchResult}
 use Rattle.mail_answer.specs.declared.fault.AnswerFault.{AnswerFault}
+use Rattle.mail_answer.specs.declared.fault.AnswerFaultKind.{AnswerFaultKind}
+use Rattle.mail_answer.specs.declared.output.answer_writer.AnswerWriter.{AnswerWriter}
+use Rattle.mail_answer.specs.Inside.Writing.{IsBegun, SendsMessages, WritesMessages}
 use Rattle.mail_answer.proofs.OutputLaws.EveryAnswer.{one-choice}
 use Rattle.mail_answer.proofs.OutputLaws.SheetLemmas.{some_text}
 use Rattle.mail_answer.proofs.OutputLaws.SpanWrites.{some_spans}
 
--- nothing went out
-pub nothing_sent : (taken known : Option (List ℕ)) → (text : List ℕ) × Tells known text × SendsFront taken taken text 0
-nothing_sent taken known =
+-- a fault before anything went out
+pub nothing_sent : (taken known : Option (List ℕ)) (messages : ℕ) (r : Result ℕ AnswerFault) → IsErrAnd r (λ fault. fault.sent ≡ 0) → SendsKnown taken taken known messages r
+nothing_sent taken known messages (Ok n) unsent = absurd unsent
+nothing_sent taken known messages (Err fault) unsent =
     let text = some_text known in
-    (text.0, text.1, record { went = []; unsent = text.0; front = refl; appends = appends-nil taken; counted = omega arith })
+    (text.0, text.1, record { went = []; unsent = text.0; front = refl; appends = appends-nil taken; counted = omega (arith, unsent) })
 
 -- what was written is what the table answers
 pub answered_sent : (t : Table) (s : Search) (held : Option (List (List ℕ))) (taken taken' : Option (List ℕ)) (r : Result ℕ AnswerFault) (xs : List ℕ) → AreChosen (mail_told t) s xs
     → SendsKnown taken taken' (known_answer s.format t held xs) (length xs) r → (a : TableAnswer) → IsTableAnswer t s held a → Answers taken taken' a r
 answered_sent t s held taken taken' r xs are sent a is = grind (arith, one-choice)
 
--- nothing went out of an mbox answer
-pub no_spans_sent : (taken : Option (List ℕ)) (t : Table) (numbers : List ℕ) → (spans : List (List ℕ)) × AreSpansOf t numbers spans × SendsFront taken taken (flat_map closed spans) 0
-no_spans_sent taken t numbers =
+-- so of an mbox answer
+pub no_spans_sent : (taken : Option (List ℕ)) (t : Table) (numbers : List ℕ) (r : Result ℕ AnswerFault) → IsErrAnd r (λ fault. fault.sent ≡ 0) → SendsSpans taken taken t numbers r
+no_spans_sent taken t numbers (Ok n) unsent = absurd unsent
+no_spans_sent taken t numbers (Err fault) unsent =
     let spans = some_spans t numbers in
-    (spans.0, spans.1, record { went = []; unsent = flat_map closed spans.0; front = refl; appends = appends-nil taken; counted = omega arith })
+    (spans.0, spans.1, record { went = []; unsent = flat_map closed spans.0; front = refl; appends = appends-nil taken; counted = omega (arith, unsent) })
 
 -- the spans that were written are those of the numbers that are chosen
 pub spans_sent : (t : Table) (s : Search) (taken taken' : Option (List ℕ)) (r : Result ℕ AnswerFault) (xs : List ℕ) → AreChosen (mail_told t) s xs → SendsSpans taken taken' t xs r
     → (numbers : List ℕ) → AreChosen (mail_told t) s numbers → SendsSpans taken taken' t numbers r
 spans_sent t s taken taken' r xs are sent numbers chosen = subst (λ (ns : List ℕ). SendsSpans taken taken' t ns r) (one-choice t s.threads s.query xs numbers are chosen) sent
+
+-- what was written by the end is what was sent, and a fault counts it
+pub sent_by_the_end : (taken taken' : Option (List ℕ)) (held : Option (List (List ℕ))) (numbers : List ℕ) (w w' : AnswerWriter) (r : Result ℕ AnswerFaultKind) (r' : Result ℕ AnswerFault) → IsBegun w
+    → WritesMessages taken taken' held numbers w w' r → IfOk r (λ count. (count ≡ length numbers) × (w'.sheet.text ≡ [])) → MatchResult r (λ count. r' ≡ Ok count) (λ kind. IsErrAnd r' (λ fault. fault.sent ≡ w'.sheet.sent))
+    → SendsMessages taken taken' held numbers w r'
+sent_by_the_end taken taken' held numbers w w' (Ok n) r' begun writes count same = rw same (grind (arith, append-nil))
+sent_by_the_end taken taken' held numbers w w' (Err kind) (Ok n) begun writes count same = absurd same
+sent_by_the_end taken taken' held numbers w w' (Err kind) (Err fault) begun writes count same = grind arith

@@ -3,10 +3,7 @@ use Rattle.mail_answer.proofs.Words.{◌≡◌, arith, KeepsArchives, IsReady, I
 use Rattle.mbox_cutter.specs.declared.device.Out.{Ghosts as OutGhosts}
 use Rattle.mail_answer.specs.declared.output.answer_writer.AnswerWriter.{AnswerWriter}
 
--- archives that were only read are as they were indexed
 -- between two messages the next one can be written
 pub still_ready : {A O : Type 0} (g : Ghosts A) (h : OutGhosts O) (w w' : AnswerWriter) (a a' : A) (o o' : O) → IsReady g h w a o → IsSameAnswer w w' → KeepsArchives g a a'
     → g.failures a' ≡ g.failures a → h.failures o' ≡ h.failures o → IsReady g h w' a' o'
 still_ready g h w w' a a' o o' ready same keeps archives_count out_count = grind arith
-
--- a front of what joined an answer that was only begun is all that went out

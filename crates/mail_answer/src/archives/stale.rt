@@ -68,8 +68,6 @@ fn is_as_long<A: Archives>(archives: &mut A, n: u32, indexed: u64) -> Result<boo
         (A.failures archives.new) }
     ensures own { IfErr result (λ kind. kind ≡ AnswerFaultKind.Device) }
 {
-    match archives.length(n) {
-        Ok(length) => Ok(length == indexed),
-        Err(_) => Err(AnswerFaultKind::Device),
-    }
+    let length = archives.length(n).map_err(|_| AnswerFaultKind::Device)?;
+    Ok(length == indexed)
 }

@@ -45,13 +45,11 @@ fn digest_piece<A: Archives>(
         (A.failures archives.old) (A.failures archives.new) }
     ensures own { IfErr result (λ kind. kind ≡ AnswerFaultKind.Device) }
 {
-    match archives.read_at(archive, offset, room) {
-        Ok(count) => {
-            hasher.update(&room[..count]);
-            Ok(count)
-        }
-        Err(_) => Err(AnswerFaultKind::Device),
-    }
+    let count = archives
+        .read_at(archive, offset, room)
+        .map_err(|_| AnswerFaultKind::Device)?;
+    hasher.update(&room[..count]);
+    Ok(count)
 }
 
 /// The digest of the first `indexed_length` bytes of an archive, read piece by piece through a buffer. None where it ends before them.
@@ -222,8 +220,5 @@ pub fn verify<A: Archives>(
     ensures unwritten { IfErr result
         (λ fault. (fault.sent ≡ 0) × (is_of_output fault.kind ≡ false)) }
 {
-    match verify_each(alloc, &index.again(), archives) {
-        Ok(()) => Ok(()),
-        Err(kind) => Err(AnswerFault { kind, sent: 0 }),
-    }
+    verify_each(alloc, &index.again(), archives).map_err(AnswerFault::unsent)
 }

@@ -136,12 +136,10 @@ impl<'a> AnswerWriter<'a> {
         ensures stale { IfErr result (λ fault. IfStale fault.kind
             (IsArchiveOfSome self.entry.places.table numbers.entry)) }
     {
-        match self.push_all(&mut numbers, archives, out) {
-            Ok(count) => Ok(count),
-            Err(kind) => Err(AnswerFault {
+        self.push_all(&mut numbers, archives, out)
+            .map_err(|kind| AnswerFault {
                 kind,
                 sent: self.sheet.sent,
-            }),
-        }
+            })
     }
 }

@@ -107,21 +107,20 @@ impl HeldBytes {
             (archive_at bytes archive) → has_fault is_stale result ≡ false) }
     {
         make_room(&mut self.room, self.count, most)?;
-        match read_behind(
+        let n = read_behind(
             archives,
             archive,
             offset,
             self.count,
             most,
             self.room.as_mut_slice(),
-        ) {
-            Ok(0) => Err(AnswerFaultKind::Stale(archive)),
-            Ok(n) => {
-                self.count += n;
-                Ok(n)
-            }
-            Err(_) => Err(AnswerFaultKind::Device),
+        )
+        .map_err(|_| AnswerFaultKind::Device)?;
+        if n == 0 {
+            return Err(AnswerFaultKind::Stale(archive));
         }
+        self.count += n;
+        Ok(n)
     }
 }
 

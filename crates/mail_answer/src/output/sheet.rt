@@ -74,13 +74,11 @@ impl Sheet {
     {
         let mut at = 0;
         while at < self.text.len() {
-            match out.put(&self.text.as_slice()[at..]) {
-                Ok(n) => {
-                    at += n;
-                    self.sent = self.sent.saturating_add(n as u64);
-                }
-                Err(_) => return Err(AnswerFaultKind::OutFailed),
-            }
+            let n = out
+                .put(&self.text.as_slice()[at..])
+                .map_err(|_| AnswerFaultKind::OutFailed)?;
+            at += n;
+            self.sent = self.sent.saturating_add(n as u64);
         }
         self.text.clear();
         Ok(())
