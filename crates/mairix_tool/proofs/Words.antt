@@ -1,5 +1,5 @@
 -- The words of std and of the definitions that proofs take, from one place.
-pub use Rattle.contract_words.specs.Devices.{Counted, Sends}
+pub use Rattle.contract_words.specs.Devices.{Sends}
 unfoldable pub use Rattle.header_text.specs.Headers.{fields_of}
 pub use Rattle.index_job.specs.ArchiveRefusals.{AreSound}
 pub use Rattle.index_job.specs.ArchiveTables.{Mbox, all_messages, entry_of, messages_in, record_of, records_from, table, with_messages, with_terms}
@@ -11,7 +11,7 @@ pub use Rattle.mail_answer.specs.Answers.{AnswersStale}
 pub use Rattle.mail_answer.specs.Mail.{AreChosen, AreChosenBy, AreThreadsOf, IsChain, IsLedToBySome, Search, satisfying}
 pub use Rattle.mail_answer.specs.Shapes.{answer_text, closed, known_answer, message_text, path_at, span}
 pub use Rattle.mail_answer.specs.Stale.{first_changed, stale_archive}
-pub use Rattle.mail_answer.specs.TableAnswers.{Answers, IsBeforeText, IsTableAnswer, TableAnswer, answer_of_numbers, is_unwritten, mail_told}
+pub use Rattle.mail_answer.specs.TableAnswers.{Answers, IsTableAnswer, TableAnswer, answer_of_numbers, mail_told}
 pub use Rattle.mail_answer.specs.TableFacts.{facts_at, is_among, no_record, record_at, texts_with}
 pub use Rattle.mail_answer.specs.Threads.{are_linked}
 pub use Rattle.mail_answer.specs.Verified.{unverified_archive}
@@ -42,14 +42,14 @@ pub use Rattle.mairix_tool.specs.Chosen.{facts_of_message, ids_in, is_kind, word
 pub use Rattle.mairix_tool.specs.MailOfArchives.{Numbered, link_ids, mail_in, nobody, numbered_at, numbered_messages, shape, shape_of, share_id}
 pub use Rattle.mairix_tool.specs.OldTables.{HasDigests, ServesFor, but_digests, keys_but_names, old_table, without_digest}
 pub use Rattle.mairix_tool.specs.Replies.{Answer, AreSoundBefore, IsConsistent, refused, status_of_count}
-pub use Rattle.mairix_tool.specs.Runs.{IsAnswer, IsCounted, IsCountedWhere, IsForNoOtherCause, IsFoundIn, IsIndexRefusal, IsOldOr, IsOnceReply, IsProvedAndTold, IsRefusedAs, IsReply, IsStaleOr, IsStoredReply, IsThisOrMemory, IsTold, IsToldOf, IsUnindexed, RepliesBy, TellsProved, WereVerified, answered, fault_of_answer_kind, first_renamed, is_too_old, renamed_archive, reply_of, unproved_archive}
+pub use Rattle.mairix_tool.specs.Runs.{IsAnswer, IsCountedWhere, IsForNoOtherCause, IsFoundIn, IsIndexRefusal, IsOldOr, IsOnceReply, IsProvedAndTold, IsRefusedAs, IsReply, IsStaleOr, IsStoredReply, IsThisOrMemory, IsTold, IsToldOf, IsUnindexed, RepliesBy, TellsProved, WereVerified, answered, fault_of_answer_kind, first_renamed, is_too_old, renamed_archive, reply_of, unproved_archive}
 pub use Rattle.mairix_tool.specs.declared.reply.Reply.{Reply}
 pub use Rattle.mbox_cutter.specs.Archives.{Message, cut, messages, span_length, text}
 unfoldable pub use Rattle.mime_text.specs.MessageFacts.{facts_of}
 pub use Rattle.mime_text.specs.Sinks.{Pair}
 pub use Rattle.mime_text.specs.Texts.{texts_of_message}
 pub use Rattle.mime_text.specs.declared.header.facts.Facts.{Facts}
-pub use Rattle.run_faults.specs.Faults.{IsOfAnswer, IsOnceFault, IsSearchFault, is_changed_or_unread, is_early, is_failed_archives, is_failed_out, is_failed_source, is_failure, is_of_indexing, refusal_of}
+pub use Rattle.run_faults.specs.Faults.{IsOfAnswer, IsOnceFault, IsSearchFault, is_early, is_failed_archives, is_failed_out, is_failed_source, is_failure, is_of_indexing, refusal_of}
 pub use Rattle.run_faults.specs.declared.fault.Fault.{Fault}
 pub use Rattle.std.proofs.Common.{All, Bool, Err, IfErr, IfOk, IfSome, List, None, Ok, Option, Result, Some, [], add-one, ap, append-nil, append_assoc, ap₂, arith, bytes_eq, cond, drop, drop-cons, eq-eqb, false, filter, flat_map, get_or, if◌then◌else◌, inl, inr, length, length-append, length-drop, map, min, nat_eq, not, refl, string_bytes, subst, suc, sym, take, true, unwrap_or, vec_len, zero, ℕ, ◌&&◌, ◌++◌, ◌+◌, ◌-◌, ◌<◌, ◌==◌, ◌^◌, ◌||◌, ◌∙◌, ◌∷◌, ◌≡◌, ◌≤◌}
 pub use Rattle.std.proofs.Math.Bool.{or-false}
@@ -59,7 +59,6 @@ pub use Rattle.std.proofs.lemmas.List.{drop-append-le, get_or-map, get_or_at, le
 pub use Rattle.std.proofs.lemmas.List.Elements.{All-cons, All-head, All-map, All-nil, All-tail, Contains-append_left, Contains-append_right, recursion_from_All}
 pub use Rattle.std.proofs.lemmas.List.Folds.{flat_map-map, list_any-append}
 pub use Rattle.std.proofs.lemmas.Slice.Eq.{bytes_eq-Decides}
-pub use Rattle.std.specs.Bool.{OnTrue}
 pub use Rattle.std.specs.Io.KnownBytes.{Appends, Keeps}
 pub use Rattle.std.specs.List.{AllByRecursion, join_by, join_with_byte, list_any, range_with_len, slice_get, slice_index_or}
 pub use Rattle.std.specs.Option.{option_map, option_map_or, option_or}

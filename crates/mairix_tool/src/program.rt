@@ -75,10 +75,7 @@ fn run_plan<R: Files<File = File>, W: Write>(
     out: &mut W,
 ) -> Result<u8, Stopped> {
     let rcfile = plan.rcfile.as_str();
-    let text = match read_whole(rt, alloc, rcfile) {
-        Ok(text) => text,
-        Err(error) => return Err(Stopped::by(alloc, rcfile, &error)),
-    };
+    let text = read_whole(rt, alloc, rcfile).map_err(|error| Stopped::by(alloc, rcfile, &error))?;
     let rc = read_rc(alloc, &text)?;
     let states = first_states(rt, alloc, rc.paths.as_slice())?;
     if plan.patterns.as_slice().is_empty() && !plan.once {
@@ -107,10 +104,8 @@ fn index_of<R: Files<File = File>>(
     if plan.once {
         return Ok(None);
     }
-    match read_index(rt, alloc, path) {
-        Ok(bytes) => Ok(Some(bytes)),
-        Err(error) => Err(Stopped::by(alloc, path, &error)),
-    }
+    let bytes = read_index(rt, alloc, path).map_err(|error| Stopped::by(alloc, path, &error))?;
+    Ok(Some(bytes))
 }
 
 /// Prints the parser's own text: of refused words on standard error, of help and version on standard output. `-r` with `-x`, which

@@ -164,10 +164,7 @@ fn prove_archives<A: Archives>(
     if !found.wanted.verify {
         return Ok(());
     }
-    match verify(alloc, &found.view, archives) {
-        Ok(()) => Ok(()),
-        Err(fault) => Err(fault_of_answer(fault)),
-    }
+    verify(alloc, &found.view, archives).map_err(fault_of_answer)
 }
 
 /// Reads what is asked, and opens the index, which has to have what that uses, and to be one of the rcfile's paths.
@@ -206,10 +203,7 @@ fn open_for<'a>(index: &'a [u8], wanted: &Wanted) -> Result<IndexView<'a>, Fault
     ensures each { (fault : Fault) → IsIndexRefusal (wanted_of wanted.now) index.entry.now fault
         → fault_in result ≡ Some fault }
 {
-    let view = match IndexView::open(index) {
-        Ok(view) => view,
-        Err(fault) => return Err(Fault::Index(fault)),
-    };
+    let view = IndexView::open(index).map_err(Fault::Index)?;
     if is_too_old(&view, wanted) {
         return Err(Fault::OldIndex);
     }

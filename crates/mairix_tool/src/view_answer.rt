@@ -54,7 +54,7 @@ pub(crate) fn answer_view<A: Archives, O: Out>(
     ensures asks { AsksIndex A.Archives O.Out (wanted_of wanted.now).search
         archives.old archives.new out.old out.new result }
 {
-    match answer(
+    answer(
         alloc,
         index,
         &wanted.query,
@@ -62,10 +62,8 @@ pub(crate) fn answer_view<A: Archives, O: Out>(
         wanted.format,
         archives,
         out,
-    ) {
-        Ok(messages) => Ok(messages),
-        Err(fault) => Err(fault_of_answer(fault)),
-    }
+    )
+    .map_err(fault_of_answer)
 }
 
 /// What a run answers of an answer's fault.

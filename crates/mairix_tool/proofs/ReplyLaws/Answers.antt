@@ -1,10 +1,10 @@
 -- What a run replies of what a table answered.
-use Rattle.mairix_tool.proofs.Words.{◌≡◌, ◌∙◌, ℕ, List, [], length, Option, None, Some, Ok, Err, refl, sym, ap, subst, append-nil, arith, OnTrue, Appends, Keeps, Sends, Table, Format, Raw, Excerpt, AnswersStale, Search, answer_text, known_answer, stale_archive, TableAnswer, IsTableAnswer, Answers, IsBeforeText, is_unwritten, answer_of_numbers, some-chosen, is_changed_or_unread, is_failed_archives, is_failed_out, IsOfAnswer, Answer, status_of_count, answered, IsStaleOr, IsFoundIn, IsTold, RepliesBy, reply_of, fault_of_answer_kind, IsCounted}
+use Rattle.mairix_tool.proofs.Words.{◌≡◌, ◌∙◌, ℕ, List, [], length, Option, None, Some, Result, Ok, Err, refl, sym, ap, subst, append-nil, arith, Appends, Keeps, Sends, Table, Format, Raw, Excerpt, AnswersStale, Search, answer_text, known_answer, stale_archive, TableAnswer, IsTableAnswer, Answers, answer_of_numbers, some-chosen, Fault, Answer, status_of_count, answered, IsStaleOr, IsFoundIn, IsTold, RepliesBy, reply_of, fault_of_answer_kind, IsCountedWhere}
+use Rattle.std.specs.Result.{IsErrAnd, MatchResult}
 use Rattle.mail_answer.specs.declared.format.Format.TheVariants.{Mbox}
 use Rattle.mail_answer.specs.declared.fault.AnswerFault.{AnswerFault}
 use Rattle.mail_answer.specs.declared.fault.AnswerFaultKind.{AnswerFaultKind}
 use Rattle.mail_answer.specs.declared.fault.AnswerFaultKind.TheVariants as kind
-use Rattle.mail_answer.specs.Faults.{is_of_archives, is_of_output}
 use Rattle.mail_answer.specs.Sheets.{Tells}
 
 -- the text that is known is the answer's
@@ -19,8 +19,18 @@ keeps-appends a b h = grind (arith, append-nil)
 keeps-sends : (a b : Option (List ℕ)) (text : List ℕ) → Keeps a b → Sends a b text
 keeps-sends a b text k = ([], text, refl, keeps-appends a b k)
 
+-- what is told of what a table answered
+abbrev pub told_of : Result ℕ AnswerFault → Result ℕ Fault
+told_of (Ok messages) = Ok messages
+told_of (Err fault) = Err (fault_of_answer_kind fault.kind)
+
+pub told-so : (r : Result ℕ AnswerFault) (told : Result ℕ Fault) → MatchResult r (λ messages. told ≡ Ok messages) (λ fault. IsErrAnd told (λ e. e ≡ fault_of_answer_kind fault.kind)) → told ≡ told_of r
+told-so (Ok messages) told h = h
+told-so (Err fault) (Ok messages) h = absurd h
+told-so (Err fault) (Err e) h = ap Err h
+
 module _ (t : Table) (s : Search) (h : List (List ℕ)) (old new : Option (List ℕ)) where
-  pub ok-told : (count : ℕ) → ((a : TableAnswer) → IsTableAnswer t s (Some h) a → Answers old new a (Ok count)) → stale_archive t.archives h ≡ None
+  ok-told : (count : ℕ) → ((a : TableAnswer) → IsTableAnswer t s (Some h) a → Answers old new a (Ok count)) → stale_archive t.archives h ≡ None
       → RepliesBy (IsTold t s h) (reply_of (Ok count)) old new
   ok-told count given fresh =
       let some = some-chosen t s.threads s.query in
@@ -51,28 +61,16 @@ err-by F (Some m) kind.Device sent old new stale sends = λ answer is. keeps-sen
 err-by F (Some m) kind.OutOfMemory sent old new stale sends = let kinds : kind.OutOfMemory ≡ kind.Stale m = ap (λ (f : AnswerFault). f.kind) stale.0 in absurd cc
 err-by F (Some m) kind.OutFailed sent old new stale sends = let kinds : kind.OutFailed ≡ kind.Stale m = ap (λ (f : AnswerFault). f.kind) stale.0 in absurd cc
 
-pub err-told : (t : Table) (s : Search) (h : List (List ℕ)) (old new : Option (List ℕ)) (fault : AnswerFault) → ((a : TableAnswer) → IsTableAnswer t s (Some h) a → Answers old new a (Err fault))
-    → AnswersStale old new (stale_archive t.archives h) (Err fault) → RepliesBy (IsTold t s h) (reply_of (Err (fault_of_answer_kind fault.kind))) old new
-err-told t s h old new fault given stale = err-by (IsFoundIn t s h) (stale_archive t.archives h) fault.kind fault.sent old new stale (front-sent t s h old new fault given)
+pub told-by : (t : Table) (s : Search) (h : List (List ℕ)) (old new : Option (List ℕ)) (r : Result ℕ AnswerFault) → ((a : TableAnswer) → IsTableAnswer t s (Some h) a → Answers old new a r)
+    → AnswersStale old new (stale_archive t.archives h) r → RepliesBy (IsTold t s h) (reply_of (told_of r)) old new
+told-by t s h old new (Ok count) given fresh = ok-told t s h old new count given fresh
+told-by t s h old new (Err fault) given stale = err-by (IsFoundIn t s h) (stale_archive t.archives h) fault.kind fault.sent old new stale (front-sent t s h old new fault given)
 
 -- whatever the archives hold, the messages are counted
-pub ok-counted : (t : Table) (s : Search) (held : Option (List (List ℕ))) (old new : Option (List ℕ)) (count : ℕ) → ((a : TableAnswer) → IsTableAnswer t s held a → Answers old new a (Ok count))
-    → IsCounted t s held (reply_of (Ok count)) old new
-ok-counted t s held old new count given =
+pub counted-by : (t : Table) (s : Search) (held : Option (List (List ℕ))) (old new : Option (List ℕ)) (r : Result ℕ AnswerFault) → ((a : TableAnswer) → IsTableAnswer t s held a → Answers old new a r)
+    → IsCountedWhere t s held (reply_of (told_of r)).fault (reply_of (told_of r)) old new
+counted-by t s held old new (Err fault) given = tt
+counted-by t s held old new (Ok count) given =
     let some = some-chosen t s.threads s.query in
     let went = given (answer_of_numbers t s held some.0) (some.0, some.1, refl) in
     (some.0, some.1, ap (λ (k : ℕ). record { status = status_of_count k; messages = k; fault = None }) went.2.0, went.0, went.1, went.2.1)
-
--- where no byte went out, a raw answer that meets an archive's fault has left the output alone
-pub raw-unwritten : (P : Type 0) (fault : AnswerFault) → IsBeforeText fault.kind fault.sent → OnTrue (is_unwritten (Err fault)) P → OnTrue (is_changed_or_unread (Some (fault_of_answer_kind fault.kind))) P
-raw-unwritten P fault before unwritten = grind arith
-
--- a fault of an answer is told as one, and of the same device
-pub told-own : (k : AnswerFaultKind) → IsOfAnswer (fault_of_answer_kind k)
-told-own k = grind arith
-
-pub told-archives : (k : AnswerFaultKind) → is_of_archives k ≡ is_failed_archives (Some (fault_of_answer_kind k))
-told-archives k = grind arith
-
-pub told-out : (k : AnswerFaultKind) → is_of_output k ≡ is_failed_out (Some (fault_of_answer_kind k))
-told-out k = grind arith

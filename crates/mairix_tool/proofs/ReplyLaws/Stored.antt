@@ -2,7 +2,9 @@
 use Rattle.mairix_tool.proofs.Words.{◌≡◌, ◌∙◌, ◌<◌, ◌^◌, ◌+◌, ◌++◌, ℕ, Bool, true, false, cond, All, IfSome, IfOk, IfErr, List, [], ◌∷◌, map, length, None, Some, Option, Result, Ok, Err, refl, sym, ap, subst, arith, inl, inr, eq-eqb, ◌||◌, false≢true, length-map, bytes_eq-Decides, option_map, option_or, stale_archive, unverified_archive, IndexFault, IsFileOf, IsFirstFault, AreBytes, Archive, IsPath, Table, IsVersion, uses_names, AreSound, Mbox, table, entry_of, Fault, Reply, mboxes, Wanted, refusal_of, is_failure, IsOfAnswer, AreToldApart, altered_archive, ServesFor, but_digests, old_table, Answer, refused, IsTold, IsToldOf, IsProvedAndTold, unproved_archive, TellsProved, IsStaleOr, IsOldOr, is_too_old, IsReply, IsStoredReply, IsForNoOtherCause, IsIndexRefusal, IsRefusedAs, RepliesBy, reply_of, renamed_archive, first_renamed, IsCountedWhere, WereVerified, sound-not-refused}
 use Rattle.mail_index.proofs.FileLaws.Accepts.{no_fault}
 use Rattle.mail_index.proofs.FileLaws.SameTable.{same-table}
+use Rattle.run_faults.specs.Faults.{fault_in}
 use Rattle.run_faults.specs.declared.fault.Fault.TheVariants as of
+use Rattle.std.specs.Result.{IsErrAnd, MatchResult}
 use Rattle.index_run.proofs.ArchiveLists.{mboxes-length}
 use Rattle.mairix_tool.proofs.TableLaws.Formed.{before-file, indexed-file, otherwise-file}
 use Rattle.mairix_tool.proofs.TableLaws.OldTables.{told-old, old-told, told-same, same-told, renamed-old}
@@ -227,8 +229,11 @@ answered-for asked index r h = grind arith
 -- ---- an index is refused in one way
 
 module _ (w : Wanted) (index : List ℕ) (few : length index < 2 ^ 64) where
-  pub one-bad-index : AreBytes index → (f : IndexFault) (fault : Fault) → IsFirstFault index f → IsIndexRefusal w index fault → Some (of.Index f) ≡ Some fault
-  one-bad-index h f fault h2 h3 = grind (arith, one-first-fault, no_fault)
+  pub one-bad-index : {V U : Type 0} → (told : Result U Fault) (r : Result V IndexFault) → MatchResult r (λ _. ⊥) (λ f. IsErrAnd told (λ e. e ≡ of.Index f))
+      → AreBytes index → IfErr r (IsFirstFault index) → (fault : Fault) → IsIndexRefusal w index fault → fault_in told ≡ Some fault
+  one-bad-index told (Ok v) same h h2 fault h3 = absurd same
+  one-bad-index (Ok u) (Err f) same h h2 fault h3 = absurd same
+  one-bad-index (Err e) (Err f) same h h2 fault h3 = grind (arith, one-first-fault, no_fault)
 
   module _ (t : Table) (file : IsFileOf index t) where
     -- of two tables of one file both are too old, or neither

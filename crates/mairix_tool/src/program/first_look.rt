@@ -24,10 +24,9 @@ pub(crate) fn first_states<R: Files>(
 {
     let mut states = Vec::new(alloc);
     for path in paths {
-        match first_state(rt, path.as_str()) {
-            Ok(state) => states.push(state)?,
-            Err(error) => return Err(Stopped::by(alloc, path.as_str(), &error)),
-        }
+        let path = path.as_str();
+        let state = first_state(rt, path).map_err(|error| Stopped::by(alloc, path, &error))?;
+        states.push(state)?;
     }
     Ok(states)
 }

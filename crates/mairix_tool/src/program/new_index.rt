@@ -73,12 +73,8 @@ fn fill_index_file<R: Files>(
     requires { All IsPath (map string_bytes paths.now) }
 {
     let mut sources = sources_of(rt, alloc, paths)?;
-    let Ok(mut writer) = BufWriter::with_capacity(alloc, GATHERED, file) else {
-        return Err(Fault::Memory);
-    };
+    let mut writer = BufWriter::with_capacity(alloc, GATHERED, file).map_err(|_| Fault::Memory)?;
     send_index(alloc, paths, &mut sources, &mut ToWrite::new(&mut writer))?;
-    if writer.flush().is_err() {
-        return Err(Fault::Out);
-    }
+    writer.flush().map_err(|_| Fault::Out)?;
     Ok(DONE)
 }

@@ -39,10 +39,8 @@ pub(crate) fn create_file<'p, R: Files<File = File>>(
     if is_special_file(rt, alloc, name)? {
         return Err(Stopped::at(alloc, name));
     }
-    match NewFile::create(rt, alloc, passing, name, beginning) {
-        Ok(new) => Ok(new),
-        Err(error) => Err(Stopped::by(alloc, passing, &error)),
-    }
+    let new = NewFile::create(rt, alloc, passing, name, beginning);
+    new.map_err(|error| Stopped::by(alloc, passing, &error))
 }
 
 /// Gives a file its name where all of it was written, and removes it else. A name that can't be given is a failed output.
@@ -50,15 +48,10 @@ pub(crate) fn settle_file<R: Files<File = File>>(
     new: NewFile<'_, R>,
     written: Result<u8, Fault>,
 ) -> Result<u8, Fault> {
-    let status = match written {
-        Ok(status) => status,
-        Err(fault) => {
-            new.discard();
-            return Err(fault);
-        }
-    };
-    match new.take_name() {
-        Ok(()) => Ok(status),
-        Err(_) => Err(Fault::Out),
+    if written.is_err() {
+        new.discard();
+        return written;
     }
+    new.take_name().map_err(|_| Fault::Out)?;
+    written
 }

@@ -106,9 +106,7 @@ fn reply_to<R: Files<File = File>, O: Out>(
         now,
     } = *search;
     let paths = rc.paths.as_slice();
-    let Some(mut archives) = FileArchives::new(rt, alloc, paths, states) else {
-        return Err(Fault::TooMany);
-    };
+    let mut archives = FileArchives::new(rt, alloc, paths, states).ok_or(Fault::TooMany)?;
     let Some(index) = index else {
         let mut sources = sources_in(rt, alloc, paths, states)?;
         return Ok(once_run(alloc, words, text, &mut sources, &mut archives, now, out));
