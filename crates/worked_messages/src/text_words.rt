@@ -3,7 +3,7 @@ ghost use Rattle.std.specs.Prelude.{◌≡◌, string_bytes, IfOk};
 ghost use Rattle.std.specs.List.{concat};
 ghost use Rattle.mail_words.specs.Words.{words};
 
-use mail_words::{Words, fold, fold_into, is_one_word, is_part_of_word};
+use mail_words::{Words, fold, fold_into, fold_onto, is_one_word, is_part_of_word};
 use std::alloc::{AllocError, Global};
 
 /// The words of a text, one behind the other.
@@ -51,10 +51,19 @@ fn folds_into(alloc: Global) -> Option<bool> {
     Some(is_first && folded.as_str() == "e-mail")
 }
 
+/// Whether words are folded behind what a text has.
+fn folds_onto(alloc: Global) -> Option<bool> {
+    let mut folded = String::from_str(alloc, "before ").ok()?;
+    fold_onto("ΣΑΣ", &mut folded).ok()?;
+    fold_onto("E-MAIL", &mut folded).ok()?;
+    Some(folded.as_str() == "before σασe-mail")
+}
+
 #[test]
 fn words_fold(rt: HostRuntime) {
     assert!(rt; folds_to(rt.alloc(), "Straße", "strasse") == Some(true));
     assert!(rt; folds_into(rt.alloc()) == Some(true));
+    assert!(rt; folds_onto(rt.alloc()) == Some(true));
 }
 
 #[test]
