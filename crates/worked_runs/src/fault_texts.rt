@@ -1,178 +1,91 @@
 //! What the program says of each fault, and its exit status.
 
-use mail_index::{IndexFault, Section};
-use mail_query::{QueryFault, QueryFaultKind};
-use mairix_tool::{Fault, Name, RcFault, UsageFault, fault_text};
+use mail_index::IndexFault::{self, BadDigest, BadLayout, BadMagic, BadVersion, TooShort};
+use mail_index::Section;
+use mail_query::{QueryFault, QueryFaultKind as Kind};
+use mairix_tool::Fault::{self, Device, Memory, OldIndex, Out, Query, Stale, TooMany, Usage};
+use mairix_tool::UsageFault::{Help, Parse, TwoFormats, Version};
+use mairix_tool::{Name, RcFault, fault_text};
 use mbox_cutter::CutFault;
 use std::alloc::Global;
 use std::fmt::InlineText;
+use std::process::Abort;
 
-/// Each fault, with its status and its text. Of a query's items only the largest number and want of memory are here.
-const SHOWN: [(Fault, u8, &str); 33] = [
-    (Fault::Usage(UsageFault::Parse), 2, "bad words"),
-    (
-        Fault::Usage(UsageFault::TwoFormats),
-        2,
-        "-r and -x exclude each other",
-    ),
-    (Fault::Usage(UsageFault::Help), 0, "help"),
-    (Fault::Usage(UsageFault::Version), 0, "version"),
-    (
-        Fault::Rc(RcFault::BadLine(3)),
-        2,
-        "rcfile line 3: not option=value",
-    ),
-    (
-        Fault::Rc(RcFault::NotSupported(3)),
-        2,
-        "rcfile line 3: option not supported",
-    ),
-    (
-        Fault::Rc(RcFault::Wildcard(3)),
-        2,
-        "rcfile line 3: wildcard not supported",
-    ),
-    (
-        Fault::Rc(RcFault::Expansion(3)),
-        2,
-        "rcfile line 3: expansion not supported",
-    ),
-    (
-        Fault::Rc(RcFault::BadFormat(3)),
-        2,
-        "rcfile line 3: unknown format",
-    ),
-    (
-        Fault::Rc(RcFault::Missing(Name::Mbox)),
-        2,
-        "rcfile: mbox missing",
-    ),
-    (
-        Fault::Rc(RcFault::Missing(Name::Database)),
-        2,
-        "rcfile: database missing",
-    ),
-    (
-        Fault::Rc(RcFault::Missing(Name::Mfolder)),
-        2,
-        "rcfile: mfolder missing",
-    ),
-    (Fault::Index(IndexFault::TooShort), 3, "index: too short"),
-    (Fault::Index(IndexFault::BadMagic), 3, "index: bad magic"),
-    (
-        Fault::Index(IndexFault::BadVersion),
-        3,
-        "index: unknown version",
-    ),
-    (Fault::Index(IndexFault::BadDigest), 3, "index: bad digest"),
-    (
-        Fault::Index(IndexFault::BadLayout(Section::Counts)),
-        3,
-        "index: bad layout in counts",
-    ),
-    (
-        Fault::Index(IndexFault::BadLayout(Section::Archives)),
-        3,
-        "index: bad layout in archives",
-    ),
-    (
-        Fault::Index(IndexFault::BadLayout(Section::Records)),
-        3,
-        "index: bad layout in records",
-    ),
-    (
-        Fault::Index(IndexFault::BadLayout(Section::Directory)),
-        3,
-        "index: bad layout in directory",
-    ),
-    (
-        Fault::Index(IndexFault::BadLayout(Section::Postings)),
-        3,
-        "index: bad layout in postings",
-    ),
-    (Fault::OldIndex, 3, "index: too old, build it again"),
-    (Fault::Out, 4, "output failed"),
-    (Fault::Memory, 5, "out of memory"),
-    (Fault::TooMany, 5, "too many messages or keys"),
-    (
-        Fault::Query(QueryFault {
-            number: usize::MAX,
-            kind: QueryFaultKind::BadWord,
-        }),
-        2,
-        "query item 18446744073709551615: bad word",
-    ),
-    (
-        Fault::Query(QueryFault {
-            number: 7,
-            kind: QueryFaultKind::OutOfMemory,
-        }),
-        5,
-        "out of memory",
-    ),
-    (
-        Fault::Archive {
-            number: 0,
-            fault: CutFault::Device,
-        },
-        4,
-        "archive 1: read failed",
-    ),
-    (
-        Fault::Archive {
-            number: 1,
-            fault: CutFault::NotAnMbox,
-        },
-        4,
-        "archive 2: not an mbox",
-    ),
-    (
-        Fault::Archive {
-            number: u64::MAX,
-            fault: CutFault::ArchiveTooLong,
-        },
-        5,
-        "archive 18446744073709551616: too long",
-    ),
-    (
-        Fault::Archive {
-            number: 0,
-            fault: CutFault::Failed,
-        },
-        4,
-        "archive 1: failed before",
-    ),
-    (
-        Fault::Stale(1),
-        3,
-        "archive 2: changed since it was indexed",
-    ),
-    (Fault::Device, 4, "archive read failed"),
+/// Faults with their statuses and their texts. Those in the tables below have texts that begin alike.
+const SHOWN: [(Fault, u8, &str); 11] = [
+    (Usage(Parse), 2, "bad words"),
+    (Usage(TwoFormats), 2, "-r and -x exclude each other"),
+    (Usage(Help), 0, "help"),
+    (Usage(Version), 0, "version"),
+    (OldIndex, 3, "index: too old, build it again"),
+    (Out, 4, "output failed"),
+    (Memory, 5, "out of memory"),
+    (TooMany, 5, "too many messages or keys"),
+    (Query(WITHOUT_MEMORY), 5, "out of memory"),
+    (Stale(1), 3, "archive 2: changed since it was indexed"),
+    (Device, 4, "archive read failed"),
 ];
 
-/// Faults of the query's seventh item, of status 2, with their texts.
-const OF_SEVENTH_ITEM: [(QueryFaultKind, &str); 12] = [
-    (QueryFaultKind::NoPattern, "query item 7: no pattern"),
-    (QueryFaultKind::BadPrefix, "query item 7: bad prefix"),
-    (QueryFaultKind::BadWord, "query item 7: bad word"),
+const WITHOUT_MEMORY: QueryFault = QueryFault {
+    number: 7,
+    kind: Kind::OutOfMemory,
+};
+
+/// Faults of an rcfile, of status 2, with what their texts have behind `rcfile`.
+const OF_RCFILE: [(RcFault, &str); 9] = [
+    (RcFault::BadLine(3), " line 3: not option=value"),
+    (RcFault::NotSupported(3), " line 3: option not supported"),
+    (RcFault::Wildcard(3), " line 3: wildcard not supported"),
+    (RcFault::Wildcard(12), " line 12: wildcard not supported"),
+    (RcFault::Expansion(3), " line 3: expansion not supported"),
+    (RcFault::BadFormat(3), " line 3: unknown format"),
+    (RcFault::Missing(Name::Mbox), ": mbox missing"),
+    (RcFault::Missing(Name::Database), ": database missing"),
+    (RcFault::Missing(Name::Mfolder), ": mfolder missing"),
+];
+
+/// Faults of an index, of status 3, with what their texts have behind `index: `.
+const OF_INDEX: [(IndexFault, &str); 9] = [
+    (TooShort, "too short"),
+    (BadMagic, "bad magic"),
+    (BadVersion, "unknown version"),
+    (BadDigest, "bad digest"),
+    (BadLayout(Section::Counts), "bad layout in counts"),
+    (BadLayout(Section::Archives), "bad layout in archives"),
+    (BadLayout(Section::Records), "bad layout in records"),
+    (BadLayout(Section::Directory), "bad layout in directory"),
+    (BadLayout(Section::Postings), "bad layout in postings"),
+];
+
+/// Faults of an archive of this number, with their statuses and what their texts have behind `archive `.
+const OF_ARCHIVES: [(u64, CutFault, u8, &str); 4] = [
+    (0, CutFault::Device, 4, "1: read failed"),
+    (1, CutFault::NotAnMbox, 4, "2: not an mbox"),
     (
-        QueryFaultKind::Approximate,
-        "query item 7: approximate match not supported",
+        u64::MAX,
+        CutFault::ArchiveTooLong,
+        5,
+        "18446744073709551616: too long",
     ),
-    (QueryFaultKind::BadDate, "query item 7: bad date"),
-    (QueryFaultKind::BadSize, "query item 7: bad size"),
-    (QueryFaultKind::BadFlag, "query item 7: bad flag"),
-    (
-        QueryFaultKind::NeedsOperator,
-        "query item 7: operator needed",
-    ),
-    (
-        QueryFaultKind::BadParenthesis,
-        "query item 7: bad parenthesis",
-    ),
-    (QueryFaultKind::MissingTerm, "query item 7: term missing"),
-    (QueryFaultKind::TooDeep, "query item 7: too deep"),
-    (QueryFaultKind::Phrase, "query item 7: phrase not supported"),
+    (0, CutFault::Failed, 4, "1: failed before"),
+];
+
+/// Faults of a query's item of this number, of status 2, with what their texts have behind `query item `.
+const OF_ITEMS: [(usize, Kind, &str); 14] = [
+    (7, Kind::NoPattern, "7: no pattern"),
+    (7, Kind::BadPrefix, "7: bad prefix"),
+    (7, Kind::BadWord, "7: bad word"),
+    (7, Kind::Approximate, "7: approximate match not supported"),
+    (7, Kind::BadDate, "7: bad date"),
+    (7, Kind::BadSize, "7: bad size"),
+    (7, Kind::BadFlag, "7: bad flag"),
+    (7, Kind::NeedsOperator, "7: operator needed"),
+    (7, Kind::BadParenthesis, "7: bad parenthesis"),
+    (7, Kind::MissingTerm, "7: term missing"),
+    (7, Kind::TooDeep, "7: too deep"),
+    (7, Kind::Phrase, "7: phrase not supported"),
+    (12, Kind::Approximate, "12: approximate match not supported"),
+    (usize::MAX, Kind::BadWord, "18446744073709551615: bad word"),
 ];
 
 /// Whether the program's text for a fault and its status are these. It is None where memory is wanting.
@@ -181,25 +94,46 @@ fn has_text(alloc: Global, fault: Fault, status: u8, text: &str) -> Option<bool>
     Some(told.as_str() == text && fault.status() == status)
 }
 
-/// Whether a fault's own text is this.
-fn shows(fault: Fault, text: &str) -> bool {
+/// Whether a fault has this status, and its own text and the program's have this front and this behind it.
+fn shows(alloc: Global, fault: Fault, status: u8, front: &str, behind: &str) -> Option<bool> {
+    let text = format!(in alloc; "{front}{behind}").ok()?;
     let shown: InlineText<64> = InlineText::of(fault);
-    shown.as_str() == text
+    Some(has_text(alloc, fault, status, text.as_str())? && shown.as_str() == text.as_str())
+}
+
+/// Asserts that each fault is shown so. Only in a sweep may memory be wanting.
+fn check_texts(rt: &impl Abort, alloc: Global, sweeps: bool) {
+    for (fault, status, text) in SHOWN {
+        let as_wanted = shows(alloc, fault, status, "", text);
+        assert!(rt; as_wanted.unwrap_or(sweeps), "{text}");
+    }
+    for (fault, text) in OF_RCFILE {
+        let as_wanted = shows(alloc, Fault::Rc(fault), 2, "rcfile", text);
+        assert!(rt; as_wanted.unwrap_or(sweeps), "rcfile{text}");
+    }
+    for (fault, text) in OF_INDEX {
+        let as_wanted = shows(alloc, Fault::Index(fault), 3, "index: ", text);
+        assert!(rt; as_wanted.unwrap_or(sweeps), "index: {text}");
+    }
+    for (number, fault, status, text) in OF_ARCHIVES {
+        let fault = Fault::Archive { number, fault };
+        let as_wanted = shows(alloc, fault, status, "archive ", text);
+        assert!(rt; as_wanted.unwrap_or(sweeps), "archive {text}");
+    }
+    for (number, kind, text) in OF_ITEMS {
+        let fault = Query(QueryFault { number, kind });
+        let as_wanted = shows(alloc, fault, 2, "query item ", text);
+        assert!(rt; as_wanted.unwrap_or(sweeps), "query item {text}");
+    }
 }
 
 #[test]
 fn faults_show_their_texts(rt: HostRuntime) {
-    for (fault, status, text) in SHOWN {
-        let as_wanted = has_text(rt.alloc(), fault, status, text) == Some(true);
-        assert!(rt; as_wanted && shows(fault, text), "{text}");
-    }
+    check_texts(&rt, rt.alloc(), false);
 }
 
+/// Each allocation is refused in turn.
 #[test]
-fn faults_of_items_show_their_texts(rt: HostRuntime) {
-    for (kind, text) in OF_SEVENTH_ITEM {
-        let fault = Fault::Query(QueryFault { number: 7, kind });
-        let as_wanted = has_text(rt.alloc(), fault, 2, text) == Some(true);
-        assert!(rt; as_wanted && shows(fault, text), "{text}");
-    }
+fn sweep_fault_text(rt: HostRuntime) {
+    check_texts(&rt, rt.alloc(), true);
 }

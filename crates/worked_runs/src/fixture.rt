@@ -1,11 +1,10 @@
-//! Runs in memory, of words, an rcfile and archives that are given as texts.
+//! Runs in memory, of words, an rcfile and archives that are given as texts, and what they tell.
 ghost use Rattle.std.specs.Prelude.{◌≡◌, ◌<◌, ◌^◌, ◌-◌, length, All, IfSome, vec_len};
 
-use crate::told::told;
 use mail_answer::{Archives, FailAt, MemoryArchives};
 use mail_dates::Moment;
 use mail_index::is_path;
-use mairix_tool::{IndexJob, OrMemory, Reply, once_run, read_rc, search_run};
+use mairix_tool::{IndexJob, OrMemory, Reply, fault_text, once_run, read_rc, search_run};
 use mbox_cutter::{MemoryOut, MemorySource};
 use std::alloc::Global;
 use std::process::Abort;
@@ -18,6 +17,19 @@ const SEPARATOR: &[u8] = b"From a@x.org Thu Jan  2 10:00:00 2003\n";
 
 /// The most archives of a run.
 const MOST: usize = 2;
+
+pub const RC: &str = "mbox=m.mbox|database=m.idx|mfolder=hits|";
+
+const RC_OF_TWO: &str = "mbox=a.mbox:b.mbox|database=m.idx|mfolder=hits|";
+
+pub const HELLO: &str = "^Subject: Hello||hi||";
+
+pub const TWO_MESSAGES: &str =
+    "^Subject: one||a||From here on we go||From - Sat Jan  4 12:00:00 2003|Subject: two||b||";
+
+/// Two messages that refer to a third, which is in neither archive.
+pub const COUSINS: &str =
+    "^Message-ID: <1@x>|References: <0@x>||hi|| & ^Message-ID: <2@x>|References: <0@x>||ho||";
 
 /// The words of some parts of a command line, which `, ` parts.
 pub fn words(alloc: Global, parts: &[&str]) -> Option<Vec<String>> {
@@ -79,71 +91,94 @@ pub const SOUND: Devices = Devices {
     room: None,
 };
 
-/// What is given to a run.
+/// What a run tells. It is None where memory is wanting before it begins or behind it.
+pub type Told = Option<Vec<u8>>;
+
+/// What is given to a run, and what it tells where no device fails.
 #[derive(Drop)]
 pub struct Given {
     words: Vec<String>,
     /// The same with `--verify` behind them.
     verifying: Vec<String>,
     rc: Vec<u8>,
-    archives: Vec<Vec<u8>>,
+    pub archives: Vec<Vec<u8>>,
     /// The index file of the archives, if they have one.
     pub index: Option<Vec<u8>>,
+    pub told: Vec<u8>,
+    /// What goes out, which is told behind `found N: `.
+    pub answer: Vec<u8>,
 }
 
 impl Given {
-    /// Reads two parts of a command line, an rcfile's text, and the texts of archives, which ` & ` parts. It is None where memory is
-    /// wanting.
-    pub fn of(alloc: Global, line: [&str; 2], rc: &str, texts: &str) -> Option<Given> {
-        let rc = bytes_of(alloc, rc)?;
-        let mut archives = Vec::new(alloc);
-        for text in texts.split(" & ") {
-            archives.push(bytes_of(alloc, text)?).ok()?;
-        }
-        let [first, second] = line;
+    /// Reads a row `WORDS => TOLD`, the words before its own, an rcfile's text, and the texts of archives, which ` & ` parts. It is
+    /// None where memory is wanting.
+    pub fn of(alloc: Global, first: &str, row: &str, rc: &str, texts: &str) -> Option<Given> {
+        let (own, told) = row.split_once(" => ")?;
+        let (_, answer) = told.split_once(": ").unwrap_or(("", ""));
+        let (rc, archives) = (bytes_of(alloc, rc)?, archives_of(alloc, texts)?);
         Some(Given {
-            words: words(alloc, &[first, second])?,
-            verifying: words(alloc, &[first, second, "--verify"])?,
+            words: words(alloc, &[first, own])?,
+            verifying: words(alloc, &[first, own, "--verify"])?,
             index: indexed(alloc, &rc, &archives),
             rc,
             archives,
+            told: bytes_of(alloc, told)?,
+            answer: bytes_of(alloc, answer)?,
         })
     }
 
-    /// What a run tells that indexes the archives itself. It is None where memory is wanting before it begins or behind it.
-    pub fn once(&self, rt: &impl Abort, alloc: Global, devices: Devices) -> Option<Vec<u8>> {
+    /// Reads a row with `-f rc` before its words, and the archive `m.mbox`, or `a.mbox` and `b.mbox`. It is None where memory is wanting.
+    pub fn over(alloc: Global, texts: &str, row: &str) -> Option<Given> {
+        let rc = if texts.contains(" & ") { RC_OF_TWO } else { RC };
+        Given::of(alloc, "-f, rc", row, rc, texts)
+    }
+
+    /// What a run tells that indexes the archives itself.
+    pub fn once(&self, rt: &impl Abort, alloc: Global, devices: Devices) -> Told {
         let mut sources = sources(alloc, &self.archives, devices)?;
         let mut out = MemoryOut::new(alloc, devices.room);
-        let reply = run(
-            rt,
-            alloc,
-            &self.words,
-            &self.rc,
-            &self.archives,
-            devices.failing_call,
-            &mut sources,
-            &mut out,
-        )?;
+        let reply = self.run(rt, alloc, devices.failing_call, &mut sources, &mut out)?;
         told(alloc, &reply, &out)
     }
 
-    /// What a search of an index over the archives tells. It is None where memory is wanting before it begins or behind it.
-    pub fn stored(&self, alloc: Global, index: &[u8], devices: Devices) -> Option<Vec<u8>> {
+    /// A run over archives of which this call fails, or none for 0, and over their sources, of which there are as many as the rcfile
+    /// has paths. It is None where memory is wanting before it begins.
+    fn run(
+        &self,
+        rt: &impl Abort,
+        alloc: Global,
+        failing_call: u64,
+        sources: &mut [MemorySource],
+        out: &mut MemoryOut,
+    ) -> Option<Reply>
+        requires sources { All (λ s. s.failures ≡ 0) sources.old }
+        requires out { out.old.failures ≡ 0 }
+    {
+        let (words, rc) = (self.words.as_slice(), self.rc.as_slice());
+        let mut held = FailAt::new(held(alloc, &self.archives)?, failing_call);
+        match read_rc(alloc, rc) {
+            Ok(rc) => {
+                assert_eq!(rt; rc.paths.as_slice().len(), sources.len());
+                assert_eq!(rt; held.count() as usize, sources.len());
+            }
+            Err(OrMemory::Memory) => return None,
+            Err(_) => {}
+        }
+        let now = Moment::new(NOW)?;
+        Some(once_run(alloc, words, rc, sources, &mut held, now, out))
+    }
+
+    /// What a search of an index over the archives tells.
+    pub fn stored(&self, alloc: Global, index: &[u8], devices: Devices) -> Told {
         self.searched(alloc, &self.words, index, devices)
     }
 
     /// The same with `--verify`.
-    pub fn verified(&self, alloc: Global, index: &[u8], devices: Devices) -> Option<Vec<u8>> {
+    pub fn verified(&self, alloc: Global, index: &[u8], devices: Devices) -> Told {
         self.searched(alloc, &self.verifying, index, devices)
     }
 
-    fn searched(
-        &self,
-        alloc: Global,
-        words: &[String],
-        index: &[u8],
-        devices: Devices,
-    ) -> Option<Vec<u8>> {
+    fn searched(&self, alloc: Global, words: &[String], index: &[u8], devices: Devices) -> Told {
         let mut held = FailAt::new(held(alloc, &self.archives)?, devices.failing_call);
         let mut out = MemoryOut::new(alloc, devices.room);
         let now = Moment::new(NOW)?;
@@ -161,34 +196,31 @@ impl Given {
             self.verified(alloc, index, devices)?,
         ])
     }
+
+    /// How many bytes of the answer went out before this refusal. It is None where something else is told.
+    pub fn sent_before(&self, refusal: &[u8], told: &[u8]) -> Option<usize> {
+        let sent = told.strip_prefix(refusal)?;
+        self.answer.starts_with(sent).then_some(sent.len())
+    }
 }
 
-/// A run over these archives, of which this call fails, or none for 0, and their sources, of which there are as many as the rcfile has
-/// paths. It is None where memory is wanting before it begins.
-fn run(
-    rt: &impl Abort,
-    alloc: Global,
-    words: &[String],
-    rc: &[u8],
-    archives: &[Vec<u8>],
-    failing_call: u64,
-    sources: &mut [MemorySource],
-    out: &mut MemoryOut,
-) -> Option<Reply>
-    requires sources { All (λ s. s.failures ≡ 0) sources.old }
-    requires out { out.old.failures ≡ 0 }
-{
-    let mut held = FailAt::new(held(alloc, archives)?, failing_call);
-    match read_rc(alloc, rc) {
-        Ok(rc) => {
-            assert_eq!(rt; rc.paths.as_slice().len(), sources.len());
-            assert_eq!(rt; held.count() as usize, sources.len());
+/// `found 2: ` and the bytes that went out, `none` and them, or `refused 4: `, the fault's text and them. A reply whose parts
+/// don't fit one another is told as `unlike a reply`.
+fn told(alloc: Global, reply: &Reply, out: &MemoryOut) -> Told {
+    let text = match reply.fault {
+        Some(fault) if reply.messages == 0 => {
+            let text = fault_text(alloc, &fault).ok()?;
+            format!(in alloc; "refused {}: {text}", reply.status)
         }
-        Err(OrMemory::Memory) => return None,
-        Err(_) => {}
-    }
-    let now = Moment::new(NOW)?;
-    Some(once_run(alloc, words, rc, sources, &mut held, now, out))
+        None if reply.status == 0 && reply.messages > 0 => {
+            format!(in alloc; "found {}: ", reply.messages)
+        }
+        None if reply.status == 1 && reply.messages == 0 => String::from_str(alloc, "none"),
+        _ => String::from_str(alloc, "unlike a reply"),
+    };
+    let mut told = text.ok()?.as_bytes().to_vec(alloc).ok()?;
+    told.extend_from_slice(out.bytes()).ok()?;
+    Some(told)
 }
 
 /// Sources that give these archives.
@@ -213,6 +245,20 @@ fn held(alloc: Global, archives: &[Vec<u8>]) -> Option<MemoryArchives> {
         held.add(archive).ok()?;
     }
     Some(held)
+}
+
+/// The archives of texts, which ` & ` parts.
+fn archives_of(alloc: Global, texts: &str) -> Option<Vec<Vec<u8>>> {
+    let mut archives = Vec::new(alloc);
+    for text in texts.split(" & ") {
+        archives.push(bytes_of(alloc, text)?).ok()?;
+    }
+    Some(archives)
+}
+
+/// The index file of archives under the paths of an rcfile.
+pub fn index_of(alloc: Global, rc: &str, texts: &str) -> Option<Vec<u8>> {
+    indexed(alloc, &bytes_of(alloc, rc)?, &archives_of(alloc, texts)?)
 }
 
 /// The index file of archives under the paths of an rcfile, or where that is refused of one as `m.mbox`. It is None where memory

@@ -12,7 +12,7 @@ mod fixture;
 #[cfg(test)]
 mod form_rows;
 #[cfg(test)]
-mod old_index;
+mod index_rows;
 #[cfg(test)]
 mod pattern_rows;
 #[cfg(test)]
@@ -27,7 +27,3 @@ mod stored_indexes;
 mod sweeps;
 #[cfg(test)]
 mod text_rows;
-#[cfg(test)]
-mod told;
-#[cfg(test)]
-mod verified;

@@ -1,90 +1,99 @@
 //! Tables of runs, whose answers were worked out by hand.
 //!
-//! `words WORDS`, `rcfile TEXT` and `archives TEXT & TEXT` hold for the rows below them. A row is `WORDS => TOLD`. Words are parted by
-//! `, `, and those of a row come behind those above it. Texts are as [`bytes_of`] reads them, and what is told is as [`told`] says.
+//! `words WORDS`, `rcfile TEXT`, `archives TEXT & TEXT` and `index NAME LENGTH` hold for the rows below them. A row is
+//! `WORDS => TOLD`. Words are parted by `, `, and those of a row come behind those above it. Texts are as [`bytes_of`] reads them, and
+//! what is told is as [`told`] says. So many bytes of a named index are as [`front_of_index`] makes them.
 //!
-//! [`told`]: crate::told::told
+//! [`bytes_of`]: crate::fixture::bytes_of
+//! [`told`]: crate::fixture::told
 
 use crate::date_rows::DATE_ROWS;
-use crate::fixture::{Devices, Given, SOUND, bytes_of};
+use crate::fixture::{Devices, Given, SOUND};
 use crate::form_rows::FORM_ROWS;
+use crate::index_rows::INDEX_ROWS;
 use crate::pattern_rows::PATTERN_ROWS;
 use crate::refusal_rows::REFUSAL_ROWS;
+use crate::stored_indexes::front_of_index;
 use crate::text_rows::TEXT_ROWS;
 use std::alloc::Global;
 use std::process::Abort;
 
 /// The tables, and the number of their rows.
-const TABLES: [(&str, u32); 5] = [
+const TABLES: [(&str, u32); 6] = [
     (TEXT_ROWS, 32),
     (PATTERN_ROWS, 75),
     (DATE_ROWS, 26),
     (FORM_ROWS, 38),
     (REFUSAL_ROWS, 44),
+    (INDEX_ROWS, 39),
 ];
 
 /// The most bytes that a source gives at a read.
 const PIECES: [usize; 3] = [1, 7, 65_536];
 
 /// What holds for the rows below a line.
-#[derive(Clone, Copy)]
+#[derive(Clone, Copy, Default)]
 struct Setting<'a> {
     words: &'a str,
     rcfile: &'a str,
     archives: &'a str,
+    /// The name and the length of the index that is searched; it is empty for that of the archives.
+    index: &'a str,
 }
 
 impl<'a> Setting<'a> {
     /// What holds below a line that sets something.
     fn set_by(self, line: &'a str) -> Option<Setting<'a>> {
-        if let Some(words) = line.strip_prefix("words ") {
-            return Some(Setting { words, ..self });
+        match line.split_once(' ')? {
+            ("words", words) => Some(Setting { words, ..self }),
+            ("rcfile", rcfile) => Some(Setting { rcfile, ..self }),
+            ("archives", archives) => Some(Setting { archives, ..self }),
+            ("index", index) => Some(Setting { index, ..self }),
+            _ => None,
         }
-        if let Some(rcfile) = line.strip_prefix("rcfile ") {
-            return Some(Setting { rcfile, ..self });
-        }
-        let archives = line.strip_prefix("archives ")?;
-        Some(Setting { archives, ..self })
     }
 
-    /// Whether a run that indexes the archives itself, in pieces of each size, and a search of their stored index, also with
-    /// `--verify`, tell what a row says. Archives that are refused have no index. It is None where memory is wanting.
+    /// Whether runs tell what a row says. It is None where memory is wanting.
     fn is_told(self, rt: &impl Abort, alloc: Global, row: &str) -> Option<bool> {
-        let (words, wanted) = row.split_once(" => ")?;
-        let given = Given::of(alloc, [self.words, words], self.rcfile, self.archives)?;
-        let wanted = bytes_of(alloc, wanted)?;
-        let mut as_wanted = match &given.index {
-            Some(index) => {
-                let stored = given.stored(alloc, index, SOUND)?;
-                stored == wanted && given.verified(alloc, index, SOUND)? == wanted
+        let given = Given::of(alloc, self.words, row, self.rcfile, self.archives)?;
+        match self.index.split_once(' ') {
+            Some((name, length)) => {
+                let index = front_of_index(alloc, name, length.parse().ok()?)?;
+                Some(given.stored(alloc, &index, SOUND)? == given.told)
             }
-            None => wanted.starts_with(b"refused 4: archive "),
-        };
-        for piece in PIECES {
-            let devices = Devices { piece, ..SOUND };
-            as_wanted = given.once(rt, alloc, devices)? == wanted && as_wanted;
+            None => is_told_by_all(rt, alloc, &given),
         }
-        Some(as_wanted)
     }
+}
+
+/// Whether a run that indexes the archives itself, in pieces of each size, and a search of their stored index, also with `--verify`,
+/// tell what a row says. Archives that are refused have no index.
+fn is_told_by_all(rt: &impl Abort, alloc: Global, given: &Given) -> Option<bool> {
+    let mut as_wanted = match &given.index {
+        Some(index) => {
+            given.stored(alloc, index, SOUND)? == given.told
+                && given.verified(alloc, index, SOUND)? == given.told
+        }
+        None => given.told.starts_with(b"refused 4: archive "),
+    };
+    for piece in PIECES {
+        let devices = Devices { piece, ..SOUND };
+        as_wanted = given.once(rt, alloc, devices)? == given.told && as_wanted;
+    }
+    Some(as_wanted)
 }
 
 #[test]
 fn rows_are_told(rt: HostRuntime) {
     for (table, count) in TABLES {
-        let mut setting = Setting {
-            words: "",
-            rcfile: "",
-            archives: "",
-        };
+        let mut setting = Setting::default();
         let mut rows = 0u32;
         for line in table.lines() {
             match setting.set_by(line) {
                 Some(next) => setting = next,
                 None => {
-                    assert!(rt;
-                        setting.is_told(&rt, rt.alloc(), line) == Some(true),
-                        "{line}"
-                    );
+                    let as_wanted = setting.is_told(&rt, rt.alloc(), line);
+                    assert!(rt; as_wanted == Some(true), "{line}");
                     rows = rows.saturating_add(1);
                 }
             }
@@ -97,12 +106,12 @@ fn rows_are_told(rt: HostRuntime) {
 const FRONTS: [(&str, &str, usize); 2] = [
     (
         "From a@x.org Thu Jan  2 10:00:00 2003|Content-Type: text/plain; charset=utf-8|Content-Transfer-Encoding: base64||ZsO|8cg==||",
-        "b:für",
+        "-r, b:für",
         120,
     ),
     (
         "From a@x.org Thu Jan  2 10:00:00 2003|Content-Type: multipart/mixed; boundary=o||--o|Content-Type: multipart/mixed; boundary=i||--i||inner|--o||outer|--o--||",
-        "b:inner,outer",
+        "-r, b:inner,outer",
         149,
     ),
 ];
@@ -110,31 +119,21 @@ const FRONTS: [(&str, &str, usize); 2] = [
 /// The bytes of a separator line without its LF.
 const SEPARATOR_SIZE: usize = 37;
 
-/// The row of a front of an archive, in which the pattern is found from so many bytes on. It is None where memory is wanting.
-fn row_of_front(alloc: Global, pattern: &str, enough: usize, size: usize) -> Option<String> {
-    if size >= enough {
-        format!(in alloc; "{pattern} => found 1: 0 {size} m.mbox|").ok()
-    } else if size == 0 || size >= SEPARATOR_SIZE {
-        format!(in alloc; "{pattern} => none").ok()
-    } else {
-        format!(in alloc; "{pattern} => refused 4: archive 1: not an mbox").ok()
-    }
-}
-
-/// Whether a front of an archive is told as its row says. It is None where memory is wanting.
+/// Whether a front of an archive is told as it has to be: the pattern is found in so many bytes and more. It is None where memory is
+/// wanting.
 fn front_is_told(
     rt: &impl Abort,
     alloc: Global,
     (text, pattern, enough): (&str, &str, usize),
     size: usize,
 ) -> Option<bool> {
-    let setting = Setting {
-        words: "-f, rc, -r",
-        rcfile: "mbox=m.mbox|database=m.idx|mfolder=hits|",
-        archives: text.get(..size)?,
+    let row = match size {
+        _ if size >= enough => format!(in alloc; "{pattern} => found 1: 0 {size} m.mbox|"),
+        0 | SEPARATOR_SIZE.. => format!(in alloc; "{pattern} => none"),
+        _ => format!(in alloc; "{pattern} => refused 4: archive 1: not an mbox"),
     };
-    let row = row_of_front(alloc, pattern, enough, size)?;
-    setting.is_told(rt, alloc, row.as_str())
+    let given = Given::over(alloc, text.get(..size)?, row.ok()?.as_str())?;
+    is_told_by_all(rt, alloc, &given)
 }
 
 #[test]

@@ -1,50 +1,50 @@
-//! Searches of stored indexes that are none, or not those of the rcfile or of the archives.
+//! Stored indexes that the rows name, and others that are none.
 
-use crate::fixture::{Given, SOUND, bytes_of};
+use crate::fixture::{Given, HELLO, RC, SOUND, index_of};
 use sha2::{Digest, Sha256};
 use std::alloc::Global;
 
-pub const RC: &str = "mbox=m.mbox|database=m.idx|mfolder=hits|";
+/// Two archives, and an rcfile that names them.
+const TWO: &str = "^Subject: Hello||hi|| & ^Subject: Hello||hi||";
 
-pub const HELLO: &str = "^Subject: Hello||hi||";
+const RC_OF_TWO: &str = "mbox=n.mbox:o.mbox|database=m.idx|mfolder=hits|";
 
-/// The bytes of its index before the digest.
+/// A row over [`HELLO`].
+const ROW: &str = "-r, s:hello => found 1: 0 58 m.mbox|";
+
+/// The bytes of its index.
+const SIZE: usize = 227;
+
+/// Those before the digest.
 const BODY: usize = 195;
+
+/// Where it has the archive's digest.
+const DIGEST: usize = 66;
+
+/// What it was as `m.mbox` before names of parts and digests of archives were in an index: version 1.
+const OLD_INDEX: &[u8; 195] = b"MAIRIX\r\n\
+    \x00\x00\x00\x01\x00\x00\x00\x01\x00\x00\x00\x01\x00\x00\x00\x02\
+    \x00\x00\x00\x00\x00\x00\x00\x12\x00\x00\x00\x00\x00\x00\x00\x07\x00\x00\x00\x00\x00\x00\x00\x02\
+    \x00\x00\x00\x00\x00\x00\x00\x3a\x00\x00\x00\x06m.mbox\
+    \x00\x00\x00\x00\x00\x00\x00\x00\x00\x00\x00\x00\x00\x00\x00\x00\
+    \x00\x00\x00\x00\x00\x00\x00\x3a\x00\x00\x00\x00\x00\x00\x00\x13\x00\x00\x00\x00\x00\x00\x00\x00\
+    \x05\x00\x00\x00\x00\x00\x00\x05\x00\x00\x00\x00\x00\x00\x00\x00\x00\x00\x00\x00\x00\x00\x00\x00\
+    \x06\x00\x00\x00\x00\x00\x00\x02\x00\x00\x00\x00\x00\x00\x00\x05\x00\x00\x00\x00\x00\x00\x00\x01\
+    hellohi\
+    \x01\x01\
+    \xbe\x22\x1b\xc0\x97\xae\xcd\xe7\x1f\x26\x77\x17\xf7\x2e\xdb\xcc\
+    \x9d\x3c\x32\x27\x3e\xe3\x56\xa3\x4b\x24\x92\xd5\x7b\x98\xc0\xc3";
 
 /// The two entries of its directory, exchanged.
 const EXCHANGED: &[u8] =
     b"\x06\x00\x00\x00\x00\x00\x00\x02\x00\x00\x00\x00\x00\x00\x00\x05\x00\x00\x00\x00\x00\x00\x00\x01\
     \x05\x00\x00\x00\x00\x00\x00\x05\x00\x00\x00\x00\x00\x00\x00\x00\x00\x00\x00\x00\x00\x00\x00\x00";
 
-/// Bytes that are put in place of as many others, from a place on, whether the digest is made anew, and what a search of the index
-/// then tells.
-const CHANGES: [(usize, &[u8], bool, &str); 6] = [
-    (0, b"", false, "found 1: 0 58 m.mbox|"),
-    (0, b"m", false, "refused 3: index: bad magic"),
-    (60, b"\x6c", false, "refused 3: index: bad digest"),
-    (11, b"\x09", true, "refused 3: index: unknown version"),
-    (
-        138,
-        EXCHANGED,
-        true,
-        "refused 3: index: bad layout in directory",
-    ),
-    (
-        193,
-        b"\x00\x01",
-        true,
-        "refused 3: index: bad layout in postings",
-    ),
-];
+/// Bytes that are put in place of as many others, from a place on, and whether the digest is made anew.
+type Change<'a> = (usize, &'a [u8], bool);
 
 /// The bytes with such a change.
-pub fn changed(
-    alloc: Global,
-    bytes: &[u8],
-    at: usize,
-    new: &[u8],
-    signs_again: bool,
-) -> Option<Vec<u8>> {
+fn changed(alloc: Global, bytes: &[u8], (at, new, signs_again): Change) -> Option<Vec<u8>> {
     let mut changed = Vec::new(alloc);
     for (i, byte) in bytes.iter().enumerate() {
         let put = i.checked_sub(at).and_then(|k| new.get(k)).unwrap_or(byte);
@@ -58,168 +58,89 @@ pub fn changed(
     Some(changed)
 }
 
-pub const OF_TWO: &str = "mbox=n.mbox:o.mbox|database=m.idx|mfolder=hits|";
+/// The front of an index, as a line `index NAME LENGTH` names it. It is None where memory is wanting, or the index has fewer bytes.
+pub fn front_of_index(alloc: Global, name: &str, length: usize) -> Option<Vec<u8>> {
+    let index = match name {
+        "hello" => index_of(alloc, RC, HELLO)?,
+        "zeros" => {
+            let hello = index_of(alloc, RC, HELLO)?;
+            changed(alloc, &hello, (DIGEST, &[0u8; 32], true))?
+        }
+        "two" => index_of(alloc, RC_OF_TWO, TWO)?,
+        "old" => OLD_INDEX.to_vec(alloc).ok()?,
+        _ => return None,
+    };
+    index.get(..length)?.to_vec(alloc).ok()
+}
 
-pub const OF_ANOTHER: &str = "mbox=n.mbox|database=m.idx|mfolder=hits|";
-
-pub const SHORTER: &str = "^Subject: Hello||hi|";
-
-pub const CHANGED: &str = "refused 3: archive 1: changed since it was indexed";
-
-/// Words, an rcfile, how many bytes of the index there are, an archive's text, and what is told. Each row has one reason less to be
-/// refused than the row before it.
-const REFUSED: [(&str, &str, usize, &str, &str); 9] = [
-    (
-        "-rx, q:x",
-        "mbox=n.mbox|",
-        31,
-        SHORTER,
-        "refused 2: -r and -x exclude each other",
-    ),
-    (
-        "-r, q:x",
-        "mbox=n.mbox|",
-        31,
-        SHORTER,
-        "refused 2: rcfile: database missing",
-    ),
-    (
-        "-r, q:x",
-        OF_TWO,
-        31,
-        SHORTER,
-        "refused 2: query item 1: bad prefix",
-    ),
-    (
-        "-r, s:hello",
-        OF_TWO,
-        31,
-        SHORTER,
-        "refused 3: index: too short",
-    ),
-    (
-        "-r, s:hello",
-        OF_TWO,
-        227,
-        SHORTER,
-        "refused 3: archive 2: changed since it was indexed",
-    ),
-    ("-r, s:hello", OF_ANOTHER, 227, SHORTER, CHANGED),
-    ("-r, s:hello", OF_ANOTHER, 227, HELLO, CHANGED),
-    ("-r, s:hello", RC, 227, SHORTER, CHANGED),
-    ("-r, s:hello", RC, 227, "{}", CHANGED),
+/// Changes, and why the index is then refused.
+const CHANGES: [(Change, &str); 5] = [
+    ((0, b"m", false), "bad magic"),
+    ((60, b"\x6c", false), "bad digest"),
+    ((11, b"\x09", true), "unknown version"),
+    ((138, EXCHANGED, true), "bad layout in directory"),
+    ((193, b"\x00\x01", true), "bad layout in postings"),
 ];
-
-/// The index of the archive, of 227 bytes.
-pub fn whole_index(alloc: Global) -> Option<Vec<u8>> {
-    let given = Given::of(alloc, ["", ""], RC, HELLO)?;
-    given.index.as_ref()?.to_vec(alloc).ok()
-}
-
-/// Whether a search of an index over one archive tells this.
-pub fn is_told(
-    alloc: Global,
-    line: &str,
-    rc: &str,
-    index: &[u8],
-    text: &str,
-    wanted: &str,
-) -> Option<bool> {
-    let given = Given::of(alloc, ["-f, rc", line], rc, text)?;
-    Some(given.stored(alloc, index, SOUND)? == bytes_of(alloc, wanted)?)
-}
-
-/// Whether a search of an index that is changed so tells this.
-fn is_told_of_change(
-    alloc: Global,
-    (at, new, signs_again): (usize, &[u8], bool),
-    wanted: &str,
-) -> Option<bool> {
-    let whole = whole_index(alloc)?;
-    let index = changed(alloc, &whole, at, new, signs_again)?;
-    let as_wanted = is_told(alloc, "-r, s:hello", RC, &index, HELLO, wanted)?;
-    Some(as_wanted && whole.len() == 227)
-}
-
-#[test]
-fn what_is_no_index_is_refused(rt: HostRuntime) {
-    for (at, new, signs_again, wanted) in CHANGES {
-        let as_wanted = is_told_of_change(rt.alloc(), (at, new, signs_again), wanted);
-        assert!(rt; as_wanted == Some(true), "{wanted}");
-    }
-}
-
-/// The bytes of the index.
-const SIZE: usize = 227;
 
 /// Each bit of a byte.
 const BITS: [u8; 8] = [1, 2, 4, 8, 16, 32, 64, 128];
 
-/// Whether a search of an index and one with `--verify` tell this.
-fn are_told(alloc: Global, given: &Given, index: &[u8], wanted: &str) -> Option<bool> {
+/// Whether a search of an index and one with `--verify` refuse it so.
+fn is_refused(alloc: Global, given: &Given, index: &[u8], why: &str) -> Option<bool> {
+    let refusal = format!(in alloc; "refused 3: index: {why}").ok()?;
     let stored = given.stored(alloc, index, SOUND)?;
     let verified = given.verified(alloc, index, SOUND)?;
-    Some(stored.as_slice() == wanted.as_bytes() && verified.as_slice() == wanted.as_bytes())
+    Some(stored.as_slice() == refusal.as_bytes() && verified.as_slice() == refusal.as_bytes())
 }
 
-/// Whether searches of the index with this bit of a byte turned tell this.
-fn are_told_of_bit(
+/// Whether the index with such a change is refused so.
+fn is_refused_with(
     alloc: Global,
-    given: &Given,
-    at: usize,
-    mask: u8,
-    wanted: &str,
+    given: &Option<Given>,
+    change: Change,
+    why: &str,
 ) -> Option<bool> {
+    let given = given.as_ref()?;
     let index = given.index.as_ref()?;
-    let turned = changed(alloc, index, at, &[index.get(at)? ^ mask], false)?;
-    are_told(alloc, given, &turned, wanted)
+    let changed = changed(alloc, index, change)?;
+    Some(is_refused(alloc, given, &changed, why)? && index.len() == SIZE)
 }
 
-/// Whether searches of the bytes of the index before this one, and of the index with each of its bits turned, are refused.
-fn are_refused_at(alloc: Global, at: usize) -> Option<bool> {
-    let given = Given::of(alloc, ["-f, rc", "-r, s:hello"], RC, HELLO)?;
-    let front = given.index.as_ref()?.get(..at)?;
-    let wanted = match at {
-        0..80 => "refused 3: index: too short",
-        _ => "refused 3: index: bad digest",
+/// Whether the bytes of the index before this one, and the index with each of its bits turned, are refused.
+fn are_refused_at(alloc: Global, given: &Option<Given>, at: usize) -> Option<bool> {
+    let index = given.as_ref()?.index.as_ref()?;
+    let (front, byte) = (index.get(..at)?, *index.get(at)?);
+    let why = match at {
+        0..80 => "too short",
+        _ => "bad digest",
     };
-    let mut as_wanted = are_told(alloc, &given, front, wanted)?;
-    let wanted = match at {
-        0..8 => "refused 3: index: bad magic",
-        8..12 => "refused 3: index: unknown version",
-        _ => "refused 3: index: bad digest",
+    let mut as_wanted = is_refused(alloc, given.as_ref()?, front, why)?;
+    let why = match at {
+        0..8 => "bad magic",
+        8..12 => "unknown version",
+        _ => "bad digest",
     };
     for mask in BITS {
-        as_wanted = are_told_of_bit(alloc, &given, at, mask, wanted) == Some(true) && as_wanted;
+        let turned = is_refused_with(alloc, given, (at, &[byte ^ mask], false), why);
+        as_wanted = turned == Some(true) && as_wanted;
     }
     Some(as_wanted)
 }
 
 #[test]
-fn a_front_and_a_turned_bit_are_refused(rt: HostRuntime) {
-    for at in 0..SIZE {
-        let as_wanted = are_refused_at(rt.alloc(), at) == Some(true);
-        assert!(rt; as_wanted, "at {at}");
+fn what_is_no_index_is_refused(rt: HostRuntime) {
+    let given = Given::over(rt.alloc(), HELLO, ROW);
+    for (change, why) in CHANGES {
+        let as_wanted = is_refused_with(rt.alloc(), &given, change, why);
+        assert!(rt; as_wanted == Some(true), "{why}");
     }
 }
 
-/// Whether a search of so many bytes of the index tells this.
-fn is_told_of_front(
-    alloc: Global,
-    line: &str,
-    rc: &str,
-    length: usize,
-    text: &str,
-    wanted: &str,
-) -> Option<bool> {
-    let whole = whole_index(alloc)?;
-    is_told(alloc, line, rc, whole.get(..length)?, text, wanted)
-}
-
 #[test]
-fn refusals_have_their_order(rt: HostRuntime) {
-    for (line, rc, length, text, wanted) in REFUSED {
-        let as_wanted = is_told_of_front(rt.alloc(), line, rc, length, text, wanted);
-        assert!(rt; as_wanted == Some(true), "{wanted}");
+fn a_front_and_a_turned_bit_are_refused(rt: HostRuntime) {
+    let given = Given::over(rt.alloc(), HELLO, ROW);
+    for at in 0..SIZE {
+        let as_wanted = are_refused_at(rt.alloc(), &given, at);
+        assert!(rt; as_wanted == Some(true), "at {at}");
     }
 }
