@@ -4,7 +4,7 @@ use crate::fixture::{NOW, indexed};
 use mail_answer::matches;
 use mail_dates::Moment;
 use mail_index::IndexView;
-use mail_query::{Query, read_boolean};
+use mail_query::read_boolean;
 use std::alloc::Global;
 
 /// Eight messages. The subject of every second is `a`, of every second pair the body is `b`, and the last four are from `c`.
@@ -22,67 +22,16 @@ const BODY_B: Messages = 0b1100_1100;
 
 const FROM_C: Messages = 0b1111_0000;
 
-/// A text round another one, and what it chooses: the messages that the inner text chooses, or where it is `turned` the others,
-/// as far as they are `kept`, and those that are `added`.
-struct Shape {
-    front: &'static str,
-    behind: &'static str,
-    /// How many parentheses and negations wait for the inner text.
-    waits: u32,
-    turned: Messages,
-    kept: Messages,
-    added: Messages,
-}
-
-const SHAPES: [Shape; 6] = [
-    Shape {
-        front: "subject:a or body:b (",
-        behind: ")",
-        waits: 1,
-        turned: 0,
-        kept: BODY_B,
-        added: SUBJECT_A,
-    },
-    Shape {
-        front: "not (",
-        behind: ")",
-        waits: 2,
-        turned: ALL,
-        kept: ALL,
-        added: 0,
-    },
-    Shape {
-        front: "subject:a and (",
-        behind: ") or from:c",
-        waits: 1,
-        turned: 0,
-        kept: SUBJECT_A,
-        added: FROM_C,
-    },
-    Shape {
-        front: "NOT body:b Or (",
-        behind: ")",
-        waits: 1,
-        turned: 0,
-        kept: ALL,
-        added: !BODY_B,
-    },
-    Shape {
-        front: "(",
-        behind: ") and not subject:a",
-        waits: 1,
-        turned: 0,
-        kept: !SUBJECT_A,
-        added: 0,
-    },
-    Shape {
-        front: "body:x or from:c not (",
-        behind: ")",
-        waits: 2,
-        turned: ALL,
-        kept: FROM_C,
-        added: !BODY_B,
-    },
+/// Texts round another one, which stands in place of `_`. Behind each is how many parentheses and negations wait for the inner text,
+/// and what is chosen: the messages that the inner text chooses, or where the next field is ALL the others, as far as the next one
+/// keeps them, and those of the last.
+const SHAPES: [(&str, u32, Messages, Messages, Messages); 6] = [
+    ("subject:a or body:b (_)", 1, 0, BODY_B, SUBJECT_A),
+    ("not (_)", 2, ALL, ALL, 0),
+    ("subject:a and (_) or from:c", 1, 0, SUBJECT_A, FROM_C),
+    ("NOT body:b Or (_)", 1, 0, ALL, !BODY_B),
+    ("(_) and not subject:a", 1, 0, !SUBJECT_A, 0),
+    ("body:x or from:c not (_)", 2, ALL, FROM_C, !BODY_B),
 ];
 
 /// The text that is inmost, and what it chooses.
@@ -91,30 +40,16 @@ const INMOST: (&str, Messages) = ("subject:a or from:c body:b", SUBJECT_A | FROM
 /// The most parentheses and negations that may wait.
 const MOST_WAITS: u32 = 30;
 
-/// Whether a query chooses just these messages. It is None where memory is wanting.
-fn chooses(
-    alloc: Global,
-    index: &IndexView<'_>,
-    query: &Query,
-    messages: Messages,
-) -> Option<bool> {
-    let chosen = matches(alloc, index, query).ok()?;
+/// The depth of the query that this text is, if it chooses just these messages.
+fn depth_of(alloc: Global, index: &IndexView<'_>, text: &str, messages: Messages) -> Option<u32> {
+    let query = read_boolean(alloc, text, Moment::new(NOW)?).ok()?;
+    let chosen = matches(alloc, index, &query).ok()?;
     let mut as_wanted = true;
     for n in 0..8u32 {
         let is_wanted = messages >> n & 1 == 1;
         as_wanted = as_wanted && chosen.as_slice().contains(&n) == is_wanted;
     }
-    Some(as_wanted)
-}
-
-/// The depth of the query that this text is, if it chooses just these messages.
-fn depth_of(alloc: Global, index: &IndexView<'_>, text: &str, messages: Messages) -> Option<u32> {
-    let query = read_boolean(alloc, text, Moment::new(NOW)?).ok()?;
-    if chooses(alloc, index, &query, messages)? {
-        Some(query.depth())
-    } else {
-        None
-    }
+    as_wanted.then_some(query.depth())
 }
 
 /// Puts shapes round the inmost text, from this one on and so many further each time, as deep as a reader takes. It gives the depth
@@ -128,19 +63,17 @@ fn depth_of_nested(alloc: Global, first: usize, step: usize) -> Option<u32> {
     let mut depth = 0;
     for round in 0..=MOST_WAITS as usize {
         depth = depth_of(alloc, &index, text.as_str(), messages)?;
-        let shape = &SHAPES[step.wrapping_mul(round).wrapping_add(first) % 6];
-        waits = shape.waits.saturating_add(waits);
+        let number = step.wrapping_mul(round).wrapping_add(first) % 6;
+        let (shape, more, turned, kept, added) = SHAPES[number];
+        waits = waits.saturating_add(more);
         if waits > MOST_WAITS {
             break;
         }
-        text = format!(in alloc; "{}{text}{}", shape.front, shape.behind).ok()?;
-        messages = (messages ^ shape.turned) & shape.kept | shape.added;
+        let (front, behind) = shape.split_once('_')?;
+        text = format!(in alloc; "{front}{text}{behind}").ok()?;
+        messages = (messages ^ turned) & kept | added;
     }
-    if index.message_count() == 8 {
-        Some(depth)
-    } else {
-        None
-    }
+    (index.message_count() == 8).then_some(depth)
 }
 
 #[test]

@@ -1,37 +1,33 @@
 //! Answers over devices that fail, run full or have changed.
 
-use crate::answers::{COUSIN as A, COUSINS, OTHER_COUSIN as B};
-use crate::fixture::{held, indexed, query_of, text_of};
-use mail_answer::{AnswerFault, AnswerFaultKind, FailAt, Format, answer};
+use crate::fixture::{
+    BOTH_COUSINS, COUSIN as A, COUSINS, OTHER_COUSIN as B, RAW_COUSINS, Told, held, indexed,
+    is_front, is_whole, text_of, told,
+};
+use mail_answer::AnswerFaultKind::{Device, OutFailed, Stale};
+use mail_answer::{FailAt, Format};
 use mail_index::IndexView;
-use mbox_cutter::MemoryOut;
 use std::alloc::Global;
 
-/// Each form's answer to `b:hi` with threads, of two messages, and how many calls of the archives it makes at least: a length of
-/// each, and a read for each message whose bytes it shows.
-pub const FORMS: [(Format, &str, u64); 3] = [
-    (Format::Raw, "0 79 a.mbox|0 79 b.mbox|", 2),
-    (
-        Format::Excerpt,
-        "a.mbox|To:|Cc:|From:|Subject:|Date:|b.mbox|To:|Cc:|From:|Subject:|Date:|",
-        4,
-    ),
-    (
-        Format::Mbox,
-        "^Message-ID: <1@x>|References: <0@x>||hi||^Message-ID: <2@x>|References: <0@x>||ho||",
-        4,
-    ),
+/// The answer to `b:hi` with threads, of two messages, in a form: its text, how many calls of the archives it makes at least, and how
+/// many bytes of each message it reads. The calls are a length of each archive, and a read for each message whose bytes are shown.
+pub type Form = (Format, &'static str, u64, u64);
+
+const EXCERPTS: &str = "a.mbox|To:|Cc:|From:|Subject:|Date:|b.mbox|To:|Cc:|From:|Subject:|Date:|";
+
+/// An excerpt reads no more than the header of 75 bytes.
+pub const FORMS: [Form; 3] = [
+    (Format::Raw, RAW_COUSINS, 2, 0),
+    (Format::Excerpt, EXCERPTS, 4, 75),
+    (Format::Mbox, BOTH_COUSINS, 4, 79),
 ];
 
 /// Calls of the archives that no answer to that query gets to.
 const BEYOND: u64 = 20;
 
-/// What an answer tells, and what it has written.
-type Told = (Result<u64, AnswerFault>, Vec<u8>);
-
 /// What an answer to `b:hi` with threads tells and writes, by an index file, over archives of which this call fails, into so
 /// much room. It is None where memory is wanting, and so are those below.
-fn told(
+fn told_of(
     alloc: Global,
     format: Format,
     file: &[u8],
@@ -40,39 +36,19 @@ fn told(
     room: Option<u64>,
 ) -> Option<Told> {
     let index = IndexView::open(file).ok()?;
-    let query = query_of(alloc, &["b:hi"])?;
     let mut archives = FailAt::new(held(alloc, archives)?, fail_at);
-    let mut out = MemoryOut::new(alloc, room);
-    let told = answer(alloc, &index, &query, true, format, &mut archives, &mut out);
-    Some((told, out.bytes().to_vec(alloc).ok()?))
-}
-
-/// Whether an answer failed so, with a front of the text sent and counted.
-fn is_front((told, sent): &Told, kind: AnswerFaultKind, whole: &[u8]) -> bool {
-    let fault = AnswerFault {
-        kind,
-        sent: sent.len() as u64,
-    };
-    *told == Err(fault) && whole.starts_with(sent)
-}
-
-/// Whether an answer is whole.
-fn is_whole((told, sent): &Told, whole: &[u8]) -> bool {
-    *told == Ok(2) && sent.as_slice() == whole
+    told(alloc, &index, ("b:hi", true, format), &mut archives, room)
 }
 
 /// Whether a failure at one call is answered, and nothing else, where the answer makes that call. A raw answer makes no other calls
 /// than those of the lengths.
-fn tells_failed_call(
-    alloc: Global,
-    (format, text, least): (Format, &str, u64),
-    fail_at: u64,
-) -> Option<bool> {
+fn tells_failed_call(alloc: Global, form: Form, fail_at: u64) -> Option<bool> {
+    let (format, text, least, _) = form;
     let whole = text_of(alloc, text)?;
     let file = indexed(alloc, &COUSINS)?;
-    let told = told(alloc, format, &file, &COUSINS, fail_at, None)?;
-    let failed = is_front(&told, AnswerFaultKind::Device, &whole);
-    let answered = is_whole(&told, &whole);
+    let told = told_of(alloc, format, &file, &COUSINS, fail_at, None)?;
+    let failed = is_front(&told, Device, &whole);
+    let answered = is_whole(&told, 2, &whole);
     Some(if fail_at <= 2 {
         failed && told.1.is_empty()
     } else if fail_at <= least {
@@ -96,15 +72,15 @@ fn a_failed_call_leaves_a_front(rt: HostRuntime) {
 
 /// Whether an output takes just so much of an answer in each room, up to that of the whole. It gives the first room that it doesn't
 /// fill so.
-fn first_unfilled(alloc: Global, (format, text, _): (Format, &str, u64)) -> Option<Option<usize>> {
+fn first_unfilled(alloc: Global, (format, text, _, _): Form) -> Option<Option<usize>> {
     let file = indexed(alloc, &COUSINS)?;
     let whole = text_of(alloc, text)?;
     for room in 0..=whole.len() {
-        let told = told(alloc, format, &file, &COUSINS, 0, Some(room as u64))?;
+        let told = told_of(alloc, format, &file, &COUSINS, 0, Some(room as u64))?;
         let as_wanted = if room == whole.len() {
-            is_whole(&told, &whole)
+            is_whole(&told, 2, &whole)
         } else {
-            is_front(&told, AnswerFaultKind::OutFailed, &whole) && told.1.len() == room
+            is_front(&told, OutFailed, &whole) && told.1.len() == room
         };
         if !as_wanted {
             return Some(Some(room));
@@ -151,17 +127,9 @@ fn is_stale(
     fail_at: u64,
 ) -> Option<bool> {
     let file = indexed(alloc, &[A, B, OTHER])?;
-    let told = told(alloc, format, &file, archives, fail_at, None)?;
-    let asked = if archives.len() == 3 {
-        u64::from(number) + 1
-    } else {
-        0
-    };
-    let kind = if 1 <= fail_at && fail_at <= asked {
-        AnswerFaultKind::Device
-    } else {
-        AnswerFaultKind::Stale(number)
-    };
+    let told = told_of(alloc, format, &file, archives, fail_at, None)?;
+    let is_asked = archives.len() == 3 && 1 <= fail_at && fail_at <= u64::from(number) + 1;
+    let kind = if is_asked { Device } else { Stale(number) };
     Some(is_front(&told, kind, &[]))
 }
 
@@ -170,7 +138,7 @@ fn is_stale(
 #[test]
 fn changed_archives_are_stale(rt: HostRuntime) {
     for (archives, number) in STALE {
-        for (format, _, _) in FORMS {
+        for (format, _, _, _) in FORMS {
             for fail_at in 0..=4 {
                 let as_wanted = is_stale(rt.alloc(), format, archives, number, fail_at);
                 assert!(rt;

@@ -3,12 +3,11 @@ ghost use Rattle.std.specs.Prelude.{◌≡◌, ◌<◌, ◌≤◌, ◌-◌, ◌^
 ghost use Rattle.contract_words.specs.Devices.{Counts};
 ghost use Rattle.mail_answer.specs.Archives.{IsLength, IsRead};
 
-use crate::answers::COUSINS;
-use crate::devices::FORMS;
-use crate::fixture::{held, indexed, query_of, text_of};
-use mail_answer::{AnswerFault, AnswerFaultKind, Archives, Format, MemoryArchives, answer};
+use crate::devices::{FORMS, Form};
+use crate::fixture::{COUSINS, held, indexed, is_front, is_whole, text_of, told};
+use mail_answer::{AnswerFaultKind, Archives, MemoryArchives};
 use mail_index::IndexView;
-use mbox_cutter::{DeviceFault, MemoryOut};
+use mbox_cutter::DeviceFault;
 use std::alloc::Global;
 
 /// Archives of which each from the number `first` on is read as if it ended at an offset, while its length is told as it is.
@@ -53,50 +52,26 @@ impl Archives for EarlyEnd {
     }
 }
 
-/// How many bytes of a message are read: a raw answer reads nothing, an excerpt no more than the header of 75 bytes, and the form of
-/// an mbox each message of 79 bytes.
-fn bytes_read(format: Format) -> u64 {
-    match format {
-        Format::Raw => 0,
-        Format::Excerpt => 75,
-        Format::Mbox => 79,
-    }
-}
-
-/// Whether an answer, with what it wrote, tells the first of the archives that end so early, just where it reads so far.
-fn is_told(
-    (told, sent): (Result<u64, AnswerFault>, &[u8]),
-    format: Format,
-    whole: &[u8],
-    (first, end): (u32, u64),
-) -> bool {
-    match told {
-        Ok(messages) => end >= bytes_read(format) && messages == 2 && sent == whole,
-        Err(fault) => {
-            end < bytes_read(format)
-                && fault.kind == AnswerFaultKind::Stale(first)
-                && fault.sent == sent.len() as u64
-                && whole.starts_with(sent)
-        }
-    }
-}
-
-/// The least end of the archives from a number on, up to that of a message, that isn't told so. It is None where memory is wanting.
+/// The least end of the archives from a number on, up to that of a message, that isn't told just where an answer reads so far: by the
+/// first of these archives. It is None where memory is wanting.
 fn least_untold(
     alloc: Global,
-    (format, text, _): (Format, &str, u64),
+    (format, text, _, bytes_read): Form,
     first: u32,
 ) -> Option<Option<u64>> {
     let file = indexed(alloc, &COUSINS)?;
     let index = IndexView::open(&file).ok()?;
-    let query = query_of(alloc, &["b:hi"])?;
     let whole = text_of(alloc, text)?;
     for end in 0..=79u64 {
         let inner = held(alloc, &COUSINS)?;
         let mut archives = EarlyEnd { inner, first, end };
-        let mut out = MemoryOut::new(alloc, None);
-        let told = answer(alloc, &index, &query, true, format, &mut archives, &mut out);
-        if !is_told((told, out.bytes()), format, &whole, (first, end)) {
+        let told = told(alloc, &index, ("b:hi", true, format), &mut archives, None)?;
+        let as_wanted = if end < bytes_read {
+            is_front(&told, AnswerFaultKind::Stale(first), &whole)
+        } else {
+            is_whole(&told, 2, &whole)
+        };
+        if !as_wanted {
             return Some(Some(end));
         }
     }
@@ -106,15 +81,13 @@ fn least_untold(
 #[test]
 fn an_archive_that_ends_early_is_stale(rt: HostRuntime) {
     for form in FORMS {
-        let untold = least_untold(rt.alloc(), form, 0);
-        assert!(rt; untold == Some(None), "{:?} to {untold:?}", form.0);
-    }
-}
-
-#[test]
-fn a_later_archive_that_ends_early_is_stale(rt: HostRuntime) {
-    for form in FORMS {
-        let untold = least_untold(rt.alloc(), form, 1);
-        assert!(rt; untold == Some(None), "{:?} to {untold:?}", form.0);
+        for first in 0..2u32 {
+            let untold = least_untold(rt.alloc(), form, first);
+            assert!(rt;
+                untold == Some(None),
+                "{:?}, {first}: to {untold:?}",
+                form.0
+            );
+        }
     }
 }

@@ -1,9 +1,10 @@
-//! Archives in memory and their indexes.
+//! Archives in memory, their indexes, and answers from these.
+ghost use Rattle.std.specs.Prelude.{◌<◌, ◌-◌, ◌^◌};
 
 use index_job::IndexJob;
-use mail_answer::{Archives, MemoryArchives};
+use mail_answer::{AnswerFault, AnswerFaultKind, Archives, Format, MemoryArchives, answer};
 use mail_dates::Moment;
-use mail_index::is_path;
+use mail_index::{IndexView, is_path};
 use mail_query::{Query, read_mairix};
 use mbox_cutter::{MemoryOut, MemorySource};
 use std::alloc::Global;
@@ -20,33 +21,44 @@ const SEPARATOR: &[u8] = b"From a@x.org Thu Jan  2 10:00:00 2003\n";
 /// The index of one archive m.mbox with two messages. The first has the subject "hello", the text "hi" and the own id 1@x; it has 19
 /// bytes of text and no date. The second has the subject "hello re", the text "high", the own id 2@x and the link id 1@x; it has 30
 /// bytes of text and the second 1000, and was seen.
-pub const INDEX: &[u8] = b"MAIRIX\x0d\x0a\
-    \x00\x00\x00\x01\x00\x00\x00\x01\x00\x00\x00\x02\x00\x00\x00\x07\
-    \x00\x00\x00\x00\x00\x00\x00\x12\x00\x00\x00\x00\x00\x00\x00\x16\x00\x00\x00\x00\x00\x00\x00\x09\
-    \x00\x00\x00\x00\x00\x00\x00x\
-    \x00\x00\x00\x06\
-    m.mbox\
-    \x00\x00\x00\x00\x00\x00\x00\x00\
-    \x00\x00\x00\x00\x00\x00\x00\x00\x00\x00\x00\x00\x00\x00\x00:\
-    \x00\x00\x00\x00\x00\x00\x00\x13\x00\x00\x00\x00\x00\x00\x00\x00\
-    \x00\x00\x00\x00\x09\x00\x00\x00\
-    \x00\x00\x00\x00\x00\x00\x00:\x00\x00\x00\x00\x00\x00\x00>\
-    \x00\x00\x00\x00\x00\x00\x00\x1e\x00\x00\x00\x00\x00\x00\x03\xe8\
-    \x05\x00\x00\x00\x00\x00\x00\x05\x00\x00\x00\x00\x00\x00\x00\x00\x00\x00\x00\x00\x00\x00\x00\x00\
-    \x05\x00\x00\x00\x00\x00\x00\x02\x00\x00\x00\x00\x00\x00\x00\x05\x00\x00\x00\x00\x00\x00\x00\x02\
-    \x06\x00\x00\x00\x00\x00\x00\x02\x00\x00\x00\x00\x00\x00\x00\x07\x00\x00\x00\x00\x00\x00\x00\x03\
-    \x06\x00\x00\x00\x00\x00\x00\x04\x00\x00\x00\x00\x00\x00\x00\x09\x00\x00\x00\x00\x00\x00\x00\x04\
-    \x07\x00\x00\x00\x00\x00\x00\x03\x00\x00\x00\x00\x00\x00\x00\x0d\x00\x00\x00\x00\x00\x00\x00\x05\
-    \x07\x00\x00\x00\x00\x00\x00\x03\x00\x00\x00\x00\x00\x00\x00\x10\x00\x00\x00\x00\x00\x00\x00\x06\
-    \x08\x00\x00\x00\x00\x00\x00\x03\x00\x00\x00\x00\x00\x00\x00\x13\x00\x00\x00\x00\x00\x00\x00\x07\
+pub const INDEX: &[u8] = b"MAIRIX\r\n\
+    \0\0\0\x01\0\0\0\x01\0\0\0\x02\0\0\0\x07\0\0\0\0\0\0\0\x12\0\0\0\0\0\0\0\x16\0\0\0\0\0\0\0\x09\
+    \0\0\0\0\0\0\0\x78\0\0\0\x06m.mbox\
+    \0\0\0\0\0\0\0\0\0\0\0\0\0\0\0\0\0\0\0\0\0\0\0\x3a\0\0\0\0\0\0\0\x13\0\0\0\0\0\0\0\0\
+    \0\0\0\0\x09\0\0\0\0\0\0\0\0\0\0\x3a\0\0\0\0\0\0\0\x3e\0\0\0\0\0\0\0\x1e\0\0\0\0\0\0\x03\xe8\
+    \x05\0\0\0\0\0\0\x05\0\0\0\0\0\0\0\0\0\0\0\0\0\0\0\0\
+    \x05\0\0\0\0\0\0\x02\0\0\0\0\0\0\0\x05\0\0\0\0\0\0\0\x02\
+    \x06\0\0\0\0\0\0\x02\0\0\0\0\0\0\0\x07\0\0\0\0\0\0\0\x03\
+    \x06\0\0\0\0\0\0\x04\0\0\0\0\0\0\0\x09\0\0\0\0\0\0\0\x04\
+    \x07\0\0\0\0\0\0\x03\0\0\0\0\0\0\0\x0d\0\0\0\0\0\0\0\x05\
+    \x07\0\0\0\0\0\0\x03\0\0\0\0\0\0\0\x10\0\0\0\0\0\0\0\x06\
+    \x08\0\0\0\0\0\0\x03\0\0\0\0\0\0\0\x13\0\0\0\0\0\0\0\x07\
     hellorehihigh1@x2@x1@x\
     \x01\x01\x02\x01\x02\x01\x02\x01\x01\
-    \xddK\xd8q.\x1b\xc8\xe3\xcds\xfe\xe3l\xcc\xa0\xbc\
-    \x0d\x9ap\xf8\x9ds\xe3l\x84\x00OY\xad\xa24\xb4";
+    \xdd\x4b\xd8\x71\x2e\x1b\xc8\xe3\xcd\x73\xfe\xe3\x6c\xcc\xa0\xbc\
+    \x0d\x9a\x70\xf8\x9d\x73\xe3\x6c\x84\0\x4f\x59\xad\xa2\x34\xb4";
 
 /// The archive of that index: a message of 58 bytes, whose last line ends in LF, and one of 62, whose last line has none.
 pub const ARCHIVE: &[u8] = b"From a\nSubject: =?utf-8?q?h=65llo?=\nTo: x@y\n\nhi to us all\n\
     From b\nSUBJECT: hello\n re\tno\nSubject: other\n\nSubject: highways";
+
+/// An archive of two messages, each with a subject and a body of its own: nine keys.
+pub const TWO_MESSAGES: &str =
+    "^Subject: one||a||From here on we go||From - Sat Jan  4 12:00:00 2003|Subject: two||b||";
+
+/// A message that refers to another, which is in no archive.
+pub const COUSIN: (&str, &str) = ("a.mbox", "^Message-ID: <1@x>|References: <0@x>||hi||");
+
+/// A message that refers to the same one.
+pub const OTHER_COUSIN: (&str, &str) = ("b.mbox", "^Message-ID: <2@x>|References: <0@x>||ho||");
+
+pub const COUSINS: [(&str, &str); 2] = [COUSIN, OTHER_COUSIN];
+
+/// Their answers as an mbox and in the raw form.
+pub const BOTH_COUSINS: &str =
+    "^Message-ID: <1@x>|References: <0@x>||hi||^Message-ID: <2@x>|References: <0@x>||ho||";
+
+pub const RAW_COUSINS: &str = "0 79 a.mbox|0 79 b.mbox|";
 
 /// A text, where `^` stands for the separator line and `|` for LF. It is None where memory is wanting, and so are those below.
 pub fn text_of(alloc: Global, text: &str) -> Option<Vec<u8>> {
@@ -97,4 +109,39 @@ pub fn query_of(alloc: Global, patterns: &[&str]) -> Option<Query> {
         words.push(String::from_str(alloc, pattern).ok()?).ok()?;
     }
     read_mairix(alloc, words.as_slice(), now).ok()
+}
+
+/// What an answer tells, and what it has written.
+pub type Told = (Result<u64, AnswerFault>, Vec<u8>);
+
+/// What an answer from an index over archives tells and writes, into so much room. It is to a pattern, with threads or without, in a
+/// form.
+pub fn told<A: Archives>(
+    alloc: Global,
+    index: &IndexView<'_>,
+    search: (&str, bool, Format),
+    archives: &mut A,
+    room: Option<u64>,
+) -> Option<Told>
+    requires { A.failures archives.old < 2 ^ 64 - 1 }
+{
+    let (pattern, threads, format) = search;
+    let query = query_of(alloc, &[pattern])?;
+    let mut out = MemoryOut::new(alloc, room);
+    let told = answer(alloc, index, &query, threads, format, archives, &mut out);
+    Some((told, out.bytes().to_vec(alloc).ok()?))
+}
+
+/// Whether an answer of so many messages is whole.
+pub fn is_whole((told, sent): &Told, messages: u64, whole: &[u8]) -> bool {
+    *told == Ok(messages) && sent.as_slice() == whole
+}
+
+/// Whether an answer failed so, with a front of the text sent and counted.
+pub fn is_front((told, sent): &Told, kind: AnswerFaultKind, whole: &[u8]) -> bool {
+    let fault = AnswerFault {
+        kind,
+        sent: sent.len() as u64,
+    };
+    *told == Err(fault) && whole.starts_with(sent)
 }

@@ -6,8 +6,6 @@ mod answers;
 #[cfg(test)]
 mod booleans;
 #[cfg(test)]
-mod chosen;
-#[cfg(test)]
 mod cursors;
 #[cfg(test)]
 mod devices;

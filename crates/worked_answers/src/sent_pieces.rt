@@ -30,17 +30,14 @@ impl Out for Calls {
 const ARCHIVES: usize = 20;
 
 /// The bytes of the path of each, and of a line of each message.
-const LONG: u32 = 4096;
+const LONG: usize = 4096;
 
 /// So many bytes of an answer are gathered, and then go out.
 const GATHERED: usize = 65_536;
 
 /// The calls in which an answer of those messages goes out. It is None where memory is wanting, or where they aren't all answered.
 fn calls_of(alloc: Global, format: Format) -> Option<Calls> {
-    let mut path = String::new(alloc);
-    for _ in 0..LONG {
-        path.push_str("x").ok()?;
-    }
+    let path = "x".repeat(alloc, LONG).ok()?;
     let text = format!(in alloc; "^Subject: Hello||{path}||").ok()?;
     let archives = [(path.as_str(), text.as_str()); ARCHIVES];
     let file = indexed(alloc, &archives)?;
@@ -49,25 +46,17 @@ fn calls_of(alloc: Global, format: Format) -> Option<Calls> {
     let mut held = held(alloc, &archives)?;
     let mut calls = Calls { count: 0, most: 0 };
     let told = answer(alloc, &index, &query, false, format, &mut held, &mut calls);
-    if told == Ok(ARCHIVES as u64) {
-        Some(calls)
-    } else {
-        None
-    }
+    (told == Ok(ARCHIVES as u64)).then_some(calls)
 }
 
-/// Whether an answer goes out in a call once enough of it is gathered, before much more is, and in another at its end.
-fn goes_out_in_two(alloc: Global, format: Format) -> Option<bool> {
-    let calls = calls_of(alloc, format)?;
-    Some(calls.count == 2 && calls.most >= GATHERED && calls.most < GATHERED + 5_000)
-}
-
+/// An answer goes out in a call once enough of it is gathered, before much more is, and in another at its end.
 #[test]
 fn a_long_answer_goes_out_before_its_end(rt: HostRuntime) {
     for format in [Format::Raw, Format::Excerpt, Format::Mbox] {
-        assert!(rt;
-            goes_out_in_two(rt.alloc(), format) == Some(true),
-            "{format:?}"
-        );
+        let calls = calls_of(rt.alloc(), format);
+        let in_two = calls.is_some_and(|calls| calls.count == 2
+            && calls.most >= GATHERED
+            && calls.most < GATHERED + 5_000);
+        assert!(rt; in_two, "{format:?}");
     }
 }

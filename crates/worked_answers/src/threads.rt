@@ -1,83 +1,72 @@
 //! What no clause says of threads: that they are answered where memory is ample.
 
+use crate::fixture::{COUSINS, indexed};
 use mail_answer::with_threads;
 use mail_index::IndexView;
 use std::alloc::{AllocError, Global};
 
 // The index of six messages by their link ids alone, with no words. The first has the id 1@x, the second 2@x and refers to 1@x, the
 // third 3@x and answers 2@x. The fourth has no id. The fifth has 5@x, the sixth 6@x, and both refer to 0@x, which no message has.
-const LINKED: &[u8] = b"MAIRIX\x0d\x0a\
-    \x00\x00\x00\x01\x00\x00\x00\x01\x00\x00\x00\x06\x00\x00\x00\x06\
-    \x00\x00\x00\x00\x00\x00\x00\x12\x00\x00\x00\x00\x00\x00\x00\x12\x00\x00\x00\x00\x00\x00\x00\x09\
-    \x00\x00\x00\x00\x00\x00\x01\xa5\x00\x00\x00\x06\
-    m.mbox\
-    \x00\x00\x00\x00\x00\x00\x00\x00\x00\x00\x00\x00\x00\x00\x00\x00\x00\x00\x00\x00\x00\x00\x00=\x00\x00\x00\x00\x00\x00\x00\x16\x00\x00\x00\x00\x00\x00\x00\x00\
-    \x00\x00\x00\x00\x00\x00\x00\x00\x00\x00\x00\x00\x00\x00\x00=\x00\x00\x00\x00\x00\x00\x00O\x00\x00\x00\x00\x00\x00\x00(\x00\x00\x00\x00\x00\x00\x00\x00\
-    \x00\x00\x00\x00\x00\x00\x00\x00\x00\x00\x00\x00\x00\x00\x00\x8c\x00\x00\x00\x00\x00\x00\x00P\x00\x00\x00\x00\x00\x00\x00)\x00\x00\x00\x00\x00\x00\x00\x00\
-    \x00\x00\x00\x00\x00\x00\x00\x00\x00\x00\x00\x00\x00\x00\x00\xdc\x00\x00\x00\x00\x00\x00\x00+\x00\x00\x00\x00\x00\x00\x00\x04\x00\x00\x00\x00\x00\x00\x00\x00\
-    \x00\x00\x00\x00\x00\x00\x00\x00\x00\x00\x00\x00\x00\x00\x01\x07\x00\x00\x00\x00\x00\x00\x00O\x00\x00\x00\x00\x00\x00\x00(\x00\x00\x00\x00\x00\x00\x00\x00\
-    \x00\x00\x00\x00\x00\x00\x00\x00\x00\x00\x00\x00\x00\x00\x01V\x00\x00\x00\x00\x00\x00\x00O\x00\x00\x00\x00\x00\x00\x00(\x00\x00\x00\x00\x00\x00\x00\x00\
-    \x08\x00\x00\x00\x00\x00\x00\x03\x00\x00\x00\x00\x00\x00\x00\x00\x00\x00\x00\x00\x00\x00\x00\x00\
-    \x08\x00\x00\x00\x00\x00\x00\x03\x00\x00\x00\x00\x00\x00\x00\x03\x00\x00\x00\x00\x00\x00\x00\x02\
-    \x08\x00\x00\x00\x00\x00\x00\x03\x00\x00\x00\x00\x00\x00\x00\x06\x00\x00\x00\x00\x00\x00\x00\x04\
-    \x08\x00\x00\x00\x00\x00\x00\x03\x00\x00\x00\x00\x00\x00\x00\x09\x00\x00\x00\x00\x00\x00\x00\x06\
-    \x08\x00\x00\x00\x00\x00\x00\x03\x00\x00\x00\x00\x00\x00\x00\x0c\x00\x00\x00\x00\x00\x00\x00\x07\
-    \x08\x00\x00\x00\x00\x00\x00\x03\x00\x00\x00\x00\x00\x00\x00\x0f\x00\x00\x00\x00\x00\x00\x00\x08\
+const LINKED: &[u8] = b"MAIRIX\r\n\
+    \0\0\0\x01\0\0\0\x01\0\0\0\x06\0\0\0\x06\0\0\0\0\0\0\0\x12\0\0\0\0\0\0\0\x12\0\0\0\0\0\0\0\x09\
+    \0\0\0\0\0\0\x01\xa5\0\0\0\x06m.mbox\
+    \0\0\0\0\0\0\0\0\0\0\0\0\0\0\0\0\0\0\0\0\0\0\0\x3d\0\0\0\0\0\0\0\x16\0\0\0\0\0\0\0\0\
+    \0\0\0\0\0\0\0\0\0\0\0\0\0\0\0\x3d\0\0\0\0\0\0\0\x4f\0\0\0\0\0\0\0\x28\0\0\0\0\0\0\0\0\
+    \0\0\0\0\0\0\0\0\0\0\0\0\0\0\0\x8c\0\0\0\0\0\0\0\x50\0\0\0\0\0\0\0\x29\0\0\0\0\0\0\0\0\
+    \0\0\0\0\0\0\0\0\0\0\0\0\0\0\0\xdc\0\0\0\0\0\0\0\x2b\0\0\0\0\0\0\0\x04\0\0\0\0\0\0\0\0\
+    \0\0\0\0\0\0\0\0\0\0\0\0\0\0\x01\x07\0\0\0\0\0\0\0\x4f\0\0\0\0\0\0\0\x28\0\0\0\0\0\0\0\0\
+    \0\0\0\0\0\0\0\0\0\0\0\0\0\0\x01\x56\0\0\0\0\0\0\0\x4f\0\0\0\0\0\0\0\x28\0\0\0\0\0\0\0\0\
+    \x08\0\0\0\0\0\0\x03\0\0\0\0\0\0\0\0\0\0\0\0\0\0\0\0\
+    \x08\0\0\0\0\0\0\x03\0\0\0\0\0\0\0\x03\0\0\0\0\0\0\0\x02\
+    \x08\0\0\0\0\0\0\x03\0\0\0\0\0\0\0\x06\0\0\0\0\0\0\0\x04\
+    \x08\0\0\0\0\0\0\x03\0\0\0\0\0\0\0\x09\0\0\0\0\0\0\0\x06\
+    \x08\0\0\0\0\0\0\x03\0\0\0\0\0\0\0\x0c\0\0\0\0\0\0\0\x07\
+    \x08\0\0\0\0\0\0\x03\0\0\0\0\0\0\0\x0f\0\0\0\0\0\0\0\x08\
     0@x1@x2@x3@x5@x6@x\
     \x05\x01\x01\x01\x02\x01\x03\x05\x06\
-    \xa8\xdc05\xd8\xf7\x04\x8e/\x0b\x81\x188_7\\\x16\xf6\xad\x9ec\x02\x8f`R\xf4\xde\xd5\x9dN\xde\x9d";
+    \xa8\xdc\x30\x35\xd8\xf7\x04\x8e\x2f\x0b\x81\x18\x38\x5f\x37\x5c\
+    \x16\xf6\xad\x9e\x63\x02\x8f\x60\x52\xf4\xde\xd5\x9d\x4e\xde\x9d";
 
 // One message without ids.
-const ALONE: &[u8] = b"MAIRIX\x0d\x0a\
-    \x00\x00\x00\x01\x00\x00\x00\x01\x00\x00\x00\x01\x00\x00\x00\x00\
-    \x00\x00\x00\x00\x00\x00\x00\x12\x00\x00\x00\x00\x00\x00\x00\x00\x00\x00\x00\x00\x00\x00\x00\x00\
-    \x00\x00\x00\x00\x00\x00\x00+\x00\x00\x00\x06\
-    m.mbox\
-    \x00\x00\x00\x00\x00\x00\x00\x00\x00\x00\x00\x00\x00\x00\x00\x00\x00\x00\x00\x00\x00\x00\x00+\x00\x00\x00\x00\x00\x00\x00\x04\x00\x00\x00\x00\x00\x00\x00\x00\
-    \xecl\x1c\xa2\x93\xbdl?\xf6SWI\xdb\x94\x888\x93Hd\xf0\x13\x92{/x8\x95_\xfe\xce\x06V";
+const ALONE: &[u8] = b"MAIRIX\r\n\
+    \0\0\0\x01\0\0\0\x01\0\0\0\x01\0\0\0\0\0\0\0\0\0\0\0\x12\0\0\0\0\0\0\0\0\0\0\0\0\0\0\0\0\
+    \0\0\0\0\0\0\0\x2b\0\0\0\x06m.mbox\
+    \0\0\0\0\0\0\0\0\0\0\0\0\0\0\0\0\0\0\0\0\0\0\0\x2b\0\0\0\0\0\0\0\x04\0\0\0\0\0\0\0\0\
+    \xec\x6c\x1c\xa2\x93\xbd\x6c\x3f\xf6\x53\x57\x49\xdb\x94\x88\x38\
+    \x93\x48\x64\xf0\x13\x92\x7b\x2f\x78\x38\x95\x5f\xfe\xce\x06\x56";
 
 /// Whether memory sufficed for these threads.
 fn are(threads: Result<Vec<u32>, AllocError>, wanted: &[u32]) -> bool {
-    match threads {
-        Ok(threads) => threads.as_slice() == wanted,
-        Err(_) => false,
-    }
+    threads.is_ok_and(|threads| threads.as_slice() == wanted)
 }
 
-/// Whether each choice among the six messages has its threads.
-fn have_threads(alloc: Global) -> Option<[bool; 5]> {
-    let index = IndexView::open(LINKED).ok()?;
-    if index.message_count() != 6 {
+/// Whether each choice of messages has its threads: among the six, of the one without ids, and of two that refer to a third, which no
+/// archive has.
+fn have_threads(alloc: Global) -> Option<[bool; 7]> {
+    let six = IndexView::open(LINKED).ok()?;
+    let alone = IndexView::open(ALONE).ok()?;
+    let file = indexed(alloc, &COUSINS)?;
+    let cousins = IndexView::open(&file).ok()?;
+    if six.message_count() != 6 || alone.message_count() != 1 || cousins.message_count() != 2 {
         return None;
     }
     Some([
-        are(with_threads(alloc, &index, &[]), &[]),
-        are(with_threads(alloc, &index, &[0]), &[0, 1, 2]),
+        are(with_threads(alloc, &six, &[]), &[]),
+        are(with_threads(alloc, &six, &[0]), &[0, 1, 2]),
         // Without ids.
-        are(with_threads(alloc, &index, &[3]), &[3]),
+        are(with_threads(alloc, &six, &[3]), &[3]),
         // By an id that no message has.
-        are(with_threads(alloc, &index, &[4]), &[4, 5]),
-        are(with_threads(alloc, &index, &[1, 2, 3]), &[0, 1, 2, 3]),
+        are(with_threads(alloc, &six, &[4]), &[4, 5]),
+        are(with_threads(alloc, &six, &[1, 2, 3]), &[0, 1, 2, 3]),
+        are(with_threads(alloc, &alone, &[0]), &[0]),
+        are(with_threads(alloc, &cousins, &[0]), &[0, 1]),
     ])
 }
 
 #[test]
 fn messages_have_threads(rt: HostRuntime) {
     let told = have_threads(rt.alloc());
-    assert!(rt; told == Some([true; 5]), "{told:?}");
-}
-
-/// Whether a message without ids has itself alone.
-fn stays_alone(alloc: Global) -> bool {
-    match IndexView::open(ALONE) {
-        Ok(index) if index.message_count() == 1 => are(with_threads(alloc, &index, &[0]), &[0]),
-        _ => false,
-    }
-}
-
-#[test]
-fn without_link_ids_messages_stay_alone(rt: HostRuntime) {
-    assert!(rt; stays_alone(rt.alloc()));
+    assert!(rt; told == Some([true; 7]), "{told:?}");
 }
 
 /// Whether the threads of two messages are whole, or want memory.

@@ -1,11 +1,12 @@
 //! Archives that are compared with the digests in their index.
-ghost use Rattle.std.specs.Prelude.{◌<◌, ◌-◌, ◌^◌};
 
 use crate::early_end::EarlyEnd;
+use crate::verified::Change::{Bit, Longer};
+use mail_answer::AnswerFaultKind::{Device, OutFailed, OutOfMemory, Stale};
 use mail_answer::{AnswerFault, AnswerFaultKind, Archives, FailAt, MemoryArchives, verify};
 use mail_index::{Builder, IndexView, is_path};
 use mbox_cutter::MemoryOut;
-use std::alloc::{AllocError, Global};
+use std::alloc::Global;
 
 /// The digests of the archives `abc`, a million times `a`, and nothing, which FIPS 180-4 publishes.
 const ABC: [u8; 32] = *b"\xba\x78\x16\xbf\x8f\x01\xcf\xea\x41\x41\x40\xde\x5d\xae\x22\x23\
@@ -47,23 +48,19 @@ fn index_file(alloc: Global) -> Option<Vec<u8>> {
     out.bytes().to_vec(alloc).ok()
 }
 
-/// The bytes of the archive of this number as they were indexed, and none behind the last.
-fn indexed_bytes(alloc: Global, n: usize) -> Result<Vec<u8>, AllocError> {
-    match n {
+/// The bytes of the archive of this number as they were indexed, and none behind the last, after those changes that are its own.
+fn changed_bytes(alloc: Global, n: usize, changes: &[(usize, Change)]) -> Option<Vec<u8>> {
+    let indexed = match n {
         0 => b"abc".to_vec(alloc),
         1 => vec![in alloc; b'a'; 1_000_000],
         _ => Ok(Vec::new(alloc)),
-    }
-}
-
-/// The bytes of the archive of this number, which some changes are of.
-fn changed_bytes(alloc: Global, n: usize, changes: &[(usize, Change)]) -> Option<Vec<u8>> {
-    let mut bytes = indexed_bytes(alloc, n).ok()?;
+    };
+    let mut bytes = indexed.ok()?;
     for (archive, change) in changes {
         match *change {
             _ if *archive != n => {}
-            Change::Longer => bytes.push(b'a').ok()?,
-            Change::Bit(at) => *bytes.get_mut(at)? ^= 1,
+            Longer => bytes.push(b'a').ok()?,
+            Bit(at) => *bytes.get_mut(at)? ^= 1,
         }
     }
     Some(bytes)
@@ -81,27 +78,41 @@ fn held(alloc: Global, count: usize, changes: &[(usize, Change)]) -> Option<Memo
     Some(held)
 }
 
-/// What is told of archives by the index of those that were indexed.
-fn told<A: Archives>(alloc: Global, archives: &mut A) -> Option<Result<(), AnswerFault>>
-    requires { A.failures archives.old < 2 ^ 64 - 1 }
-{
+/// An end that no archive gets to.
+const NO_END: u64 = u64::MAX;
+
+/// The answer that tells a fault. Nothing is sent by [`verify`].
+fn failed(kind: AnswerFaultKind) -> Result<(), AnswerFault> {
+    Err(AnswerFault { kind, sent: 0 })
+}
+
+/// What is told of so many archives with these changes, by the index of those that were indexed. This call fails, and none where it is
+/// 0, and each archive is read as if it ended there. An index that can't be read tells what no row wants.
+fn told(
+    alloc: Global,
+    count: usize,
+    changes: &[(usize, Change)],
+    fail_at: u64,
+    end: u64,
+) -> Option<Result<(), AnswerFault>> {
     let file = index_file(alloc)?;
-    let index = IndexView::open(&file).ok()?;
-    if index.version() == 2 {
-        Some(verify(alloc, &index, archives))
-    } else {
-        None
+    let inner = held(alloc, count, changes)?;
+    let first = 0;
+    let ended = EarlyEnd { inner, first, end };
+    match IndexView::open(&file) {
+        Ok(index) if index.version() == 2 => {
+            Some(verify(alloc, &index, &mut FailAt::new(ended, fail_at)))
+        }
+        _ => Some(failed(OutFailed)),
     }
 }
 
-/// The answer that tells this archive, or none.
-fn told_of(stale: Option<u32>) -> Result<(), AnswerFault> {
+/// The answer that tells a failed call, or this archive, or none.
+fn told_of(is_failing: bool, stale: Option<u32>) -> Result<(), AnswerFault> {
     match stale {
+        _ if is_failing => failed(Device),
+        Some(n) => failed(Stale(n)),
         None => Ok(()),
-        Some(n) => Err(AnswerFault {
-            kind: AnswerFaultKind::Stale(n),
-            sent: 0,
-        }),
     }
 }
 
@@ -109,61 +120,36 @@ fn told_of(stale: Option<u32>) -> Result<(), AnswerFault> {
 /// first, then the lengths, then the digests; of each the first archive is told, and none behind it is asked.
 const CHANGED: [(usize, &[(usize, Change)], Option<u32>, u64); 15] = [
     (3, &[], None, CALLS),
-    (3, &[(0, Change::Bit(0))], Some(0), 4),
-    (3, &[(0, Change::Bit(2))], Some(0), 4),
-    (3, &[(1, Change::Bit(0))], Some(1), CALLS),
-    (3, &[(1, Change::Bit(131_071))], Some(1), CALLS),
-    (3, &[(1, Change::Bit(131_072))], Some(1), CALLS),
-    (3, &[(1, Change::Bit(999_999))], Some(1), CALLS),
-    (3, &[(0, Change::Bit(1)), (1, Change::Bit(1))], Some(0), 4),
-    (3, &[(0, Change::Bit(1)), (1, Change::Longer)], Some(1), 2),
-    (3, &[(0, Change::Bit(1)), (2, Change::Longer)], Some(2), 3),
-    (3, &[(0, Change::Longer), (2, Change::Longer)], Some(0), 1),
-    (3, &[(2, Change::Longer)], Some(2), 3),
-    (2, &[(0, Change::Longer)], Some(2), 0),
-    (4, &[(0, Change::Bit(1))], Some(3), 0),
+    (3, &[(0, Bit(0))], Some(0), 4),
+    (3, &[(0, Bit(2))], Some(0), 4),
+    (3, &[(1, Bit(0))], Some(1), CALLS),
+    (3, &[(1, Bit(131_071))], Some(1), CALLS),
+    (3, &[(1, Bit(131_072))], Some(1), CALLS),
+    (3, &[(1, Bit(999_999))], Some(1), CALLS),
+    (3, &[(0, Bit(1)), (1, Bit(1))], Some(0), 4),
+    (3, &[(0, Bit(1)), (1, Longer)], Some(1), 2),
+    (3, &[(0, Bit(1)), (2, Longer)], Some(2), 3),
+    (3, &[(0, Longer), (2, Longer)], Some(0), 1),
+    (3, &[(2, Longer)], Some(2), 3),
+    (2, &[(0, Longer)], Some(2), 0),
+    (4, &[(0, Bit(1))], Some(3), 0),
     (0, &[], Some(0), 0),
 ];
 
-/// What is told of so many archives with these changes, of which this call fails, and none where it is 0.
-fn told_of_changes(
-    alloc: Global,
-    count: usize,
-    changes: &[(usize, Change)],
-    fail_at: u64,
-) -> Option<Result<(), AnswerFault>> {
-    told(
-        alloc,
-        &mut FailAt::new(held(alloc, count, changes)?, fail_at),
-    )
-}
-
-/// The answer that tells a failure.
-const FAILED: Result<(), AnswerFault> = Err(AnswerFault {
-    kind: AnswerFaultKind::Device,
-    sent: 0,
-});
-
-/// Changed archives are told where a call behind the last one would fail, and a failure where the last one fails.
+/// A failure is told where one of these calls fails, and else what has changed, also where a call behind the last one would fail. Where
+/// nothing has changed each call fails in turn, and elsewhere the last one.
 #[test]
 fn changed_archives_are_told(rt: HostRuntime) {
     for (count, changes, stale, calls) in CHANGED {
-        let told = told_of_changes(rt.alloc(), count, changes, calls + 1);
-        let failed = told_of_changes(rt.alloc(), count, changes, calls);
-        let wanted = if calls == 0 { told_of(stale) } else { FAILED };
-        assert!(rt;
-            told == Some(told_of(stale)) && failed == Some(wanted),
-            "{count} archives, {stale:?}: {told:?}, {failed:?}"
-        );
-    }
-}
-
-#[test]
-fn a_failed_call_is_told(rt: HostRuntime) {
-    for fail_at in 1..=CALLS + 1 {
-        let wanted = if fail_at <= CALLS { FAILED } else { Ok(()) };
-        let told = told_of_changes(rt.alloc(), 3, &[], fail_at);
-        assert!(rt; told == Some(wanted), "call {fail_at}: {told:?}");
+        let first = if changes.is_empty() { 0 } else { calls };
+        for fail_at in first..=calls + 1 {
+            let is_failing = 1 <= fail_at && fail_at <= calls;
+            let told = told(rt.alloc(), count, changes, fail_at, NO_END);
+            assert!(rt;
+                told == Some(told_of(is_failing, stale)),
+                "{count} archives, {stale:?}, call {fail_at}: {told:?}"
+            );
+        }
     }
 }
 
@@ -177,61 +163,28 @@ const ENDS: [(u64, Option<u32>); 6] = [
     (1_000_000, None),
 ];
 
-/// What is told of archives that end so early.
-fn told_of_early_end(alloc: Global, end: u64) -> Option<Result<(), AnswerFault>> {
-    let inner = held(alloc, 3, &[])?;
-    told(
-        alloc,
-        &mut EarlyEnd {
-            inner,
-            first: 0,
-            end,
-        },
-    )
-}
-
 #[test]
 fn an_early_end_is_told(rt: HostRuntime) {
     for (end, stale) in ENDS {
-        let told = told_of_early_end(rt.alloc(), end);
-        assert!(rt; told == Some(told_of(stale)), "to {end}: {told:?}");
+        let told = told(rt.alloc(), 3, &[], 0, end);
+        assert!(rt; told == Some(told_of(false, stale)), "to {end}: {told:?}");
     }
 }
 
 /// Changes, and which archive is told.
 const SWEPT: [(&[(usize, Change)], Option<u32>); 3] = [
     (&[], None),
-    (&[(0, Change::Bit(0))], Some(0)),
-    (&[(1, Change::Longer)], Some(1)),
+    (&[(0, Bit(0))], Some(0)),
+    (&[(1, Longer)], Some(1)),
 ];
-
-/// Whether just this is told of archives with these changes, or that memory is wanting, where the count and the lengths are those that
-/// were indexed.
-fn is_told_or_wanting(
-    alloc: Global,
-    changes: &[(usize, Change)],
-    stale: Option<u32>,
-) -> Option<bool> {
-    let file = index_file(alloc)?;
-    let Ok(index) = IndexView::open(&file) else {
-        return Some(false);
-    };
-    if index.version() != 2 {
-        return Some(false);
-    }
-    let told = verify(alloc, &index, &mut held(alloc, 3, changes)?);
-    let refused = Err(AnswerFault {
-        kind: AnswerFaultKind::OutOfMemory,
-        sent: 0,
-    });
-    Some(told == told_of(stale) || (told == refused && stale != Some(1)))
-}
 
 /// Each refused allocation is answered as want of memory, and only where the count and the lengths are those that were indexed.
 #[test]
 fn sweep_verify(rt: HostRuntime) {
     for (changes, stale) in SWEPT {
-        let as_wanted = is_told_or_wanting(rt.alloc(), changes, stale);
-        assert!(rt; as_wanted != Some(false), "{stale:?}");
+        let told = told(rt.alloc(), 3, changes, 0, NO_END);
+        let is_wanting = told == Some(failed(OutOfMemory)) && stale != Some(1);
+        let as_wanted = told.is_none() || told == Some(told_of(false, stale)) || is_wanting;
+        assert!(rt; as_wanted, "{stale:?}: {told:?}");
     }
 }
