@@ -1,32 +1,45 @@
 //! Index files that a job makes of archives, against answers that were worked out by hand.
 ghost use Rattle.std.specs.Prelude.{◌<◌};
 
-use crate::archive_text::archive;
 use index_job::{IndexJob, JobFault};
 use mail_index::{IndexView, Kind, Steps, is_path};
 use mail_words::TextKind;
 use mbox_cutter::{CutFault, MemoryOut, MemorySource};
-use std::alloc::Global;
+use std::alloc::{AllocError, Global};
+
+/// The line at which a message starts.
+const SEPARATOR: &str = "From a@x.org Thu Jan  2 10:00:00 2003\n";
 
 const HELLO: &str = "^Subject: Hello||hi||";
 
-const PATH: &str = "m.mbox";
+pub const PATH: &str = "m.mbox";
 
 /// Its index file, with both digests from outside.
 const FILE: &[u8] = b"MAIRIX\r\n\
-    \x00\x00\x00\x02\x00\x00\x00\x01\x00\x00\x00\x01\x00\x00\x00\x02\
-    \x00\x00\x00\x00\x00\x00\x00\x32\x00\x00\x00\x00\x00\x00\x00\x07\x00\x00\x00\x00\x00\x00\x00\x02\
-    \x00\x00\x00\x00\x00\x00\x00\x3a\x00\x00\x00\x06m.mbox\
+    \0\0\0\x02\0\0\0\x01\0\0\0\x01\0\0\0\x02\0\0\0\0\0\0\0\x32\0\0\0\0\0\0\0\x07\0\0\0\0\0\0\0\x02\
+    \0\0\0\0\0\0\0\x3a\0\0\0\x06m.mbox\
     \xb9\x19\x37\x94\x6f\x36\x32\xee\xda\x9c\x0b\x8f\xeb\xd4\xe6\xfa\
     \x75\x09\x78\xae\x0d\x2d\x98\x45\x9f\xe9\xa1\xc5\x35\x1c\xed\xe4\
-    \x00\x00\x00\x00\x00\x00\x00\x00\x00\x00\x00\x00\x00\x00\x00\x00\
-    \x00\x00\x00\x00\x00\x00\x00\x3a\x00\x00\x00\x00\x00\x00\x00\x13\x00\x00\x00\x00\x00\x00\x00\x00\
-    \x05\x00\x00\x00\x00\x00\x00\x05\x00\x00\x00\x00\x00\x00\x00\x00\x00\x00\x00\x00\x00\x00\x00\x00\
-    \x06\x00\x00\x00\x00\x00\x00\x02\x00\x00\x00\x00\x00\x00\x00\x05\x00\x00\x00\x00\x00\x00\x00\x01\
+    \0\0\0\0\0\0\0\0\0\0\0\0\0\0\0\0\0\0\0\0\0\0\0\x3a\0\0\0\0\0\0\0\x13\0\0\0\0\0\0\0\0\
+    \x05\0\0\0\0\0\0\x05\0\0\0\0\0\0\0\0\0\0\0\0\0\0\0\0\
+    \x06\0\0\0\0\0\0\x02\0\0\0\0\0\0\0\x05\0\0\0\0\0\0\0\x01\
     hellohi\
     \x01\x01\
     \x5f\xe7\xac\x60\x10\x5f\x15\x52\xa1\x0f\xe7\x04\x98\xf7\xc4\x44\
     \xed\xa9\x8a\x70\x3c\xd9\xa8\x95\x83\x4b\x2d\x17\xcf\x2b\xc7\x49";
+
+/// An archive's text, where `^` stands for the separator line and `|` for LF.
+pub fn archive(alloc: Global, text: &str) -> Result<Vec<u8>, AllocError> {
+    let mut bytes = Vec::new(alloc);
+    for b in text.as_bytes() {
+        match *b {
+            b'^' => bytes.extend_from_slice(SEPARATOR.as_bytes())?,
+            b'|' => bytes.push(b'\n')?,
+            b => bytes.push(b)?,
+        }
+    }
+    Ok(bytes)
+}
 
 /// A job and what it answers of an archive under the path, which comes in such pieces and fails at such a read. It is None where
 /// memory is wanting.
@@ -86,6 +99,14 @@ fn is_of_first(view: &IndexView<'_>, kind: TextKind, word: &[u8]) -> bool {
     let mut postings = view.look_up(Kind::Text(kind), word, &mut steps);
     let first = postings.next(&mut steps);
     first == Some(0) && postings.next(&mut steps).is_none()
+}
+
+/// Whether in the file in these bytes message 0 alone has this word in its body.
+pub fn has_body_word(file: &[u8], word: &str) -> bool {
+    match IndexView::open(file) {
+        Ok(view) => is_of_first(&view, TextKind::Body, word.as_bytes()),
+        Err(_) => false,
+    }
 }
 
 /// Whether a subject is indexed by its folded text, in a file of 228 bytes.

@@ -2,8 +2,6 @@
 #![tactic(auto)]
 
 #[cfg(test)]
-mod archive_text;
-#[cfg(test)]
 mod index_jobs;
 #[cfg(test)]
 mod sweeps;

@@ -1,29 +1,16 @@
 //! Calls of which each allocation is refused in turn: the gate runs these tests with a library that refuses the first
 //! allocation, then the second, and so on. Each call answers in full, or its own want of memory with what that leaves. Where a
 //! fixture has no memory the test ends well.
-use crate::archive_text::archive;
+use crate::index_jobs::{PATH, archive, has_body_word};
 use index_job::{IndexJob, JobFault};
-use mail_index::{IndexView, Kind, Steps, is_path};
-use mail_words::TextKind;
+use mail_index::is_path;
 use mbox_cutter::{MemoryOut, MemorySource};
 use std::alloc::Global;
-
-/// Whether the first message of the file in these bytes has this word in its body.
-fn has_body_word(file: &[u8], word: &str) -> bool {
-    let Ok(view) = IndexView::open(file) else {
-        return false;
-    };
-    let mut steps = Steps::new();
-    let body = Kind::Text(TextKind::Body);
-    let mut postings = view.look_up(body, word.as_bytes(), &mut steps);
-    postings.next(&mut steps) == Some(0)
-}
 
 /// Whether an archive with one message, that has this word in its body, is indexed into a file of so many bytes, or memory is told to
 /// be wanting. A job that has wanted memory has failed. It is None where a fixture has no memory.
 fn is_indexed_or_wanting(alloc: Global, text: &str, word: &str, size: u64) -> Option<bool> {
-    let path = "m.mbox";
-    if !is_path(path) {
+    if !is_path(PATH) {
         return Some(false);
     }
     let archive = archive(alloc, text).ok()?;
@@ -34,8 +21,8 @@ fn is_indexed_or_wanting(alloc: Global, text: &str, word: &str, size: u64) -> Op
         Err(fault) => return Some(fault == JobFault::OutOfMemory),
     };
     let mut out = MemoryOut::new(alloc, None);
-    if let Err(fault) = job.archive(path, &mut source) {
-        let again = job.archive(path, &mut again);
+    if let Err(fault) = job.archive(PATH, &mut source) {
+        let again = job.archive(PATH, &mut again);
         let has_failed = again == Err(JobFault::Failed)
             && job.finish(&mut out) == Err(JobFault::Failed);
         return Some(has_failed && fault == JobFault::OutOfMemory);
