@@ -9,12 +9,12 @@ use mail_words::TextKind;
 use mbox_cutter::MemoryOut;
 use std::alloc::Global;
 
-const PATH: &str = "m.mbox";
+pub const PATH: &str = "m.mbox";
 
-/// What a builder writes that is given the archive of [`NEW_BODY`]. It is None where memory is wanting, and so is the next one.
+/// What a builder writes that is given the archive of [`NEW_BODY`]. It is None where memory is wanting.
 ///
 /// [`NEW_BODY`]: crate::index_files::NEW_BODY
-pub fn written(alloc: Global) -> Option<Vec<u8>> {
+pub fn written(alloc: Global) -> Option<MemoryOut> {
     if !is_path(PATH) {
         return None;
     }
@@ -27,21 +27,13 @@ pub fn written(alloc: Global) -> Option<Vec<u8>> {
     builder.end_message(ONLY).ok()?;
     builder.end_archive(58, ARCHIVE_DIGEST).ok()?;
     let mut out = MemoryOut::new(alloc, None);
-    if builder.write(&mut out) == Ok(227) {
-        out.bytes().to_vec(alloc).ok()
-    } else {
-        None
-    }
+    (builder.write(&mut out) == Ok(227)).then_some(out)
 }
 
 /// The file of the table with nothing in it.
-pub fn written_of_none(alloc: Global) -> Option<Vec<u8>> {
+pub fn written_of_none(alloc: Global) -> Option<MemoryOut> {
     let mut out = MemoryOut::new(alloc, None);
-    if Builder::new(alloc, 0).write(&mut out) == Ok(80) {
-        out.bytes().to_vec(alloc).ok()
-    } else {
-        None
-    }
+    (Builder::new(alloc, 0).write(&mut out) == Ok(80)).then_some(out)
 }
 
 /// Whether a call was refused so, and the builder has lost all that it was given: every later call answers that one failed.
@@ -58,7 +50,7 @@ pub fn is_lost(builder: &mut Builder, answer: Result<(), BuildFault>, fault: Bui
         builder.end_message(ONLY),
         builder.end_archive(58, ARCHIVE_DIGEST),
     ];
-    let written = builder.write(&mut Counted::new());
+    let written = builder.write(&mut Counted { bytes: 0 });
     answer == Err(fault)
         && later == [Err(BuildFault::Failed); 5]
         && written == Err(BuildFault::Failed)

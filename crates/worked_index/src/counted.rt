@@ -9,12 +9,6 @@ pub struct Counted {
     pub bytes: u64,
 }
 
-impl Counted {
-    pub fn new() -> Self {
-        Counted { bytes: 0 }
-    }
-}
-
 impl Out for Counted {
     ghost taken = { λ _. None };
 

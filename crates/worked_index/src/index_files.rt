@@ -1,8 +1,10 @@
 //! Index files against answers that were worked out by hand, and the reader in place against the second decoder.
 use crate::builders::{written, written_of_none};
-use crate::compared::{found, record_of};
-use crate::index_decoder::{Decoded, decode};
-use mail_index::{IndexFault, IndexView, Kind, Record, Section, Steps};
+use crate::compared::found;
+use crate::index_decoder::{Decoded, DecodedMessage, decode};
+use mail_index::IndexFault::{self, BadDigest, BadLayout, BadMagic, BadVersion, TooShort};
+use mail_index::Section::{Archives, Counts, Directory, Postings, Records};
+use mail_index::{IndexView, Kind, Record, Steps};
 use mail_words::{Flags, TextKind};
 use sha2::{Digest, Sha256};
 use std::alloc::{AllocError, Global};
@@ -10,13 +12,11 @@ use std::alloc::{AllocError, Global};
 /// The index file of one archive `m.mbox` of 58 bytes, whose one message has the subject `Hello` and the text `hi`, without its
 /// digest. It is of version 1, which isn't written any more: a builder wrote it when that was the only one.
 const BODY: &[u8] = b"MAIRIX\r\n\
-    \x00\x00\x00\x01\x00\x00\x00\x01\x00\x00\x00\x01\x00\x00\x00\x02\
-    \x00\x00\x00\x00\x00\x00\x00\x12\x00\x00\x00\x00\x00\x00\x00\x07\x00\x00\x00\x00\x00\x00\x00\x02\
-    \x00\x00\x00\x00\x00\x00\x00\x3a\x00\x00\x00\x06m.mbox\
-    \x00\x00\x00\x00\x00\x00\x00\x00\x00\x00\x00\x00\x00\x00\x00\x00\
-    \x00\x00\x00\x00\x00\x00\x00\x3a\x00\x00\x00\x00\x00\x00\x00\x13\x00\x00\x00\x00\x00\x00\x00\x00\
-    \x05\x00\x00\x00\x00\x00\x00\x05\x00\x00\x00\x00\x00\x00\x00\x00\x00\x00\x00\x00\x00\x00\x00\x00\
-    \x06\x00\x00\x00\x00\x00\x00\x02\x00\x00\x00\x00\x00\x00\x00\x05\x00\x00\x00\x00\x00\x00\x00\x01\
+    \0\0\0\x01\0\0\0\x01\0\0\0\x01\0\0\0\x02\0\0\0\0\0\0\0\x12\0\0\0\0\0\0\0\x07\0\0\0\0\0\0\0\x02\
+    \0\0\0\0\0\0\0\x3a\0\0\0\x06m.mbox\
+    \0\0\0\0\0\0\0\0\0\0\0\0\0\0\0\0\0\0\0\0\0\0\0\x3a\0\0\0\0\0\0\0\x13\0\0\0\0\0\0\0\0\
+    \x05\0\0\0\0\0\0\x05\0\0\0\0\0\0\0\0\0\0\0\0\0\0\0\0\
+    \x06\0\0\0\0\0\0\x02\0\0\0\0\0\0\0\x05\0\0\0\0\0\0\0\x01\
     hellohi\
     \x01\x01";
 
@@ -31,15 +31,13 @@ pub const ARCHIVE_DIGEST: [u8; 32] = *b"\
 
 /// The index file of the same archive with that digest as it is written now, in version 2, without its own digest.
 pub const NEW_BODY: &[u8] = b"MAIRIX\r\n\
-    \x00\x00\x00\x02\x00\x00\x00\x01\x00\x00\x00\x01\x00\x00\x00\x02\
-    \x00\x00\x00\x00\x00\x00\x00\x32\x00\x00\x00\x00\x00\x00\x00\x07\x00\x00\x00\x00\x00\x00\x00\x02\
-    \x00\x00\x00\x00\x00\x00\x00\x3a\x00\x00\x00\x06m.mbox\
+    \0\0\0\x02\0\0\0\x01\0\0\0\x01\0\0\0\x02\0\0\0\0\0\0\0\x32\0\0\0\0\0\0\0\x07\0\0\0\0\0\0\0\x02\
+    \0\0\0\0\0\0\0\x3a\0\0\0\x06m.mbox\
     \xe0\xe1\xe2\xe3\xe4\xe5\xe6\xe7\xe8\xe9\xea\xeb\xec\xed\xee\xef\
     \xf0\xf1\xf2\xf3\xf4\xf5\xf6\xf7\xf8\xf9\xfa\xfb\xfc\xfd\xfe\xff\
-    \x00\x00\x00\x00\x00\x00\x00\x00\x00\x00\x00\x00\x00\x00\x00\x00\
-    \x00\x00\x00\x00\x00\x00\x00\x3a\x00\x00\x00\x00\x00\x00\x00\x13\x00\x00\x00\x00\x00\x00\x00\x00\
-    \x05\x00\x00\x00\x00\x00\x00\x05\x00\x00\x00\x00\x00\x00\x00\x00\x00\x00\x00\x00\x00\x00\x00\x00\
-    \x06\x00\x00\x00\x00\x00\x00\x02\x00\x00\x00\x00\x00\x00\x00\x05\x00\x00\x00\x00\x00\x00\x00\x01\
+    \0\0\0\0\0\0\0\0\0\0\0\0\0\0\0\0\0\0\0\0\0\0\0\x3a\0\0\0\0\0\0\0\x13\0\0\0\0\0\0\0\0\
+    \x05\0\0\0\0\0\0\x05\0\0\0\0\0\0\0\0\0\0\0\0\0\0\0\0\
+    \x06\0\0\0\0\0\0\x02\0\0\0\0\0\0\0\x05\0\0\0\0\0\0\0\x01\
     hellohi\
     \x01\x01";
 
@@ -47,7 +45,29 @@ pub const NEW_BODY: &[u8] = b"MAIRIX\r\n\
 const NEW_DIGEST: &[u8] = b"\xc1\xb5\x32\xfd\xef\x00\x69\x02\xd2\xeb\x2d\x25\x1c\x05\x04\x45\
     \x3c\x88\x2b\xa1\x8a\xb9\xba\x28\x5b\x6c\x9a\x42\x48\xc1\xd8\x8e";
 
-/// Their message.
+/// The index file of no archive, without its digest.
+const BODY_OF_NONE: &[u8] = b"MAIRIX\r\n\
+    \0\0\0\x02\0\0\0\0\0\0\0\0\0\0\0\0\0\0\0\0\0\0\0\0\0\0\0\0\0\0\0\0\0\0\0\0\0\0\0\0";
+
+/// The index file of two archives with three messages and keys of six kinds, without its digest.
+const BODY_OF_TWO: &[u8] = b"MAIRIX\r\n\
+    \0\0\0\x01\0\0\0\x02\0\0\0\x03\0\0\0\x07\0\0\0\0\0\0\0\x27\0\0\0\0\0\0\0\x1d\0\0\0\0\0\0\0\x09\
+    \0\0\0\0\0\0\0\xc8\0\0\0\x06a.mbox\
+    \0\0\0\0\0\0\0\x25\0\0\0\x09b/\xc3\xbc.mbox\
+    \0\0\0\0\x09\0\0\0\0\0\0\0\0\0\0\0\0\0\0\0\0\0\0\x64\0\0\0\0\0\0\0\x3c\xff\xff\xff\xff\xff\xff\xff\xff\
+    \0\0\0\0\x0f\0\0\0\0\0\0\0\0\0\0\x64\0\0\0\0\0\0\0\x32\0\0\0\0\0\0\0\x14\0\0\0\0\x3e\x14\x0d\xa0\
+    \0\0\0\x01\x02\0\0\0\0\0\0\0\0\0\0\x07\0\0\0\0\0\0\0\x1e\0\0\0\0\0\0\0\0\0\0\0\0\0\0\0\0\
+    \x01\0\0\0\0\0\0\x03\0\0\0\0\0\0\0\0\0\0\0\0\0\0\0\0\
+    \x02\0\0\0\0\0\0\x03\0\0\0\0\0\0\0\x03\0\0\0\0\0\0\0\x01\
+    \x04\0\0\0\0\0\0\x03\0\0\0\0\0\0\0\x06\0\0\0\0\0\0\0\x02\
+    \x06\0\0\0\0\0\0\x02\0\0\0\0\0\0\0\x09\0\0\0\0\0\0\0\x03\
+    \x06\0\0\0\0\0\0\x04\0\0\0\0\0\0\0\x0b\0\0\0\0\0\0\0\x06\
+    \x07\0\0\0\0\0\0\x07\0\0\0\0\0\0\0\x0f\0\0\0\0\0\0\0\x07\
+    \x08\0\0\0\0\0\0\x07\0\0\0\0\0\0\0\x16\0\0\0\0\0\0\0\x08\
+    bobannannhihiya1@x.org1@x.org\
+    \x03\x03\x01\x01\x01\x01\x02\x01\x02";
+
+/// The message of [`BODY`] and [`NEW_BODY`].
 pub const ONLY: Record = Record {
     archive: 0,
     offset: 0,
@@ -61,128 +81,63 @@ pub const ONLY: Record = Record {
     },
 };
 
-/// The index file of two archives with three messages and keys of six kinds, without its digest.
-const BODY_OF_TWO: &[u8] = b"MAIRIX\r\n\
-    \x00\x00\x00\x01\x00\x00\x00\x02\x00\x00\x00\x03\x00\x00\x00\x07\x00\x00\x00\x00\
-    \x00\x00\x00\x27\x00\x00\x00\x00\x00\x00\x00\x1d\x00\x00\x00\x00\x00\x00\x00\x09\
-    \x00\x00\x00\x00\x00\x00\x00\xc8\x00\x00\x00\x06a.mbox\
-    \x00\x00\x00\x00\x00\x00\x00\x25\x00\x00\x00\x09b/\xc3\xbc.mbox\
-    \x00\x00\x00\x00\x09\x00\x00\x00\x00\x00\x00\x00\x00\x00\x00\x00\x00\x00\x00\x00\x00\x00\x00\x64\
-    \x00\x00\x00\x00\x00\x00\x00\x3c\xff\xff\xff\xff\xff\xff\xff\xff\
-    \x00\x00\x00\x00\x0f\x00\x00\x00\x00\x00\x00\x00\x00\x00\x00\x64\x00\x00\x00\x00\x00\x00\x00\x32\
-    \x00\x00\x00\x00\x00\x00\x00\x14\x00\x00\x00\x00\x3e\x14\x0d\xa0\
-    \x00\x00\x00\x01\x02\x00\x00\x00\x00\x00\x00\x00\x00\x00\x00\x07\x00\x00\x00\x00\x00\x00\x00\x1e\
-    \x00\x00\x00\x00\x00\x00\x00\x00\x00\x00\x00\x00\x00\x00\x00\x00\
-    \x01\x00\x00\x00\x00\x00\x00\x03\x00\x00\x00\x00\x00\x00\x00\x00\x00\x00\x00\x00\x00\x00\x00\x00\
-    \x02\x00\x00\x00\x00\x00\x00\x03\x00\x00\x00\x00\x00\x00\x00\x03\x00\x00\x00\x00\x00\x00\x00\x01\
-    \x04\x00\x00\x00\x00\x00\x00\x03\x00\x00\x00\x00\x00\x00\x00\x06\x00\x00\x00\x00\x00\x00\x00\x02\
-    \x06\x00\x00\x00\x00\x00\x00\x02\x00\x00\x00\x00\x00\x00\x00\x09\x00\x00\x00\x00\x00\x00\x00\x03\
-    \x06\x00\x00\x00\x00\x00\x00\x04\x00\x00\x00\x00\x00\x00\x00\x0b\x00\x00\x00\x00\x00\x00\x00\x06\
-    \x07\x00\x00\x00\x00\x00\x00\x07\x00\x00\x00\x00\x00\x00\x00\x0f\x00\x00\x00\x00\x00\x00\x00\x07\
-    \x08\x00\x00\x00\x00\x00\x00\x07\x00\x00\x00\x00\x00\x00\x00\x16\x00\x00\x00\x00\x00\x00\x00\x08\
-    bobannannhihiya1@x.org1@x.org\
-    \x03\x03\x01\x01\x01\x01\x02\x01\x02";
+/// Places in a body, and bytes that are put there.
+type Puts = &'static [(usize, &'static [u8])];
 
-// Its messages.
-const FIRST: Record = Record {
-    archive: 0,
-    offset: 0,
-    length: 100,
-    size: 60,
-    date: Some(-1),
-    flags: Flags {
-        seen: true,
-        replied: false,
-        flagged: false,
-    },
-};
+/// What a file says, in its order: its version, its archives with their digests, its messages, and its keys.
+type Table = (
+    u64,
+    &'static [(&'static str, u64, Option<[u8; 32]>)],
+    &'static [DecodedMessage],
+    &'static [(u64, &'static str, &'static [u32])],
+);
 
-const SECOND: Record = Record {
-    archive: 0,
-    offset: 100,
-    length: 50,
-    size: 20,
-    date: Some(1_041_501_600),
-    flags: Flags {
-        seen: true,
-        replied: true,
-        flagged: true,
-    },
-};
+/// What [`BODY`] and [`NEW_BODY`] say.
+const OF_ONE: Table = (1, &[("m.mbox", 58, None)], MESSAGE, KEYS);
 
-const THIRD: Record = Record {
-    archive: 1,
-    offset: 7,
-    length: 30,
-    size: 0,
-    date: None,
-    flags: Flags {
-        seen: false,
-        replied: true,
-        flagged: false,
-    },
-};
+const OF_ONE_NOW: Table = (2, &[("m.mbox", 58, Some(ARCHIVE_DIGEST))], MESSAGE, KEYS);
 
-/// What a file says, in its order.
-#[derive(Clone, Copy)]
-struct Table {
-    version: u64,
-    archives: &'static [(&'static str, u64, Option<[u8; 32]>)],
-    messages: &'static [Record],
-    keys: &'static [(u8, &'static str, &'static [u32])],
-}
+/// What [`NEW_BODY`] says with other digests of its archive.
+const OF_ONE_ZEROS: Table = (2, &[("m.mbox", 58, Some([0; 32]))], MESSAGE, KEYS);
 
-/// Bodies, their digests as far as they are known from outside, the bytes of their files, and what they say.
-const TABLES: [(&[u8], &[u8], usize, Table); 3] = [
-    (
-        BODY,
-        DIGEST,
-        SIZE,
-        Table {
-            version: 1,
-            archives: &[("m.mbox", 58, None)],
-            messages: &[ONLY],
-            keys: &[(5, "hello", &[0]), (6, "hi", &[0])],
-        },
-    ),
-    (
-        NEW_BODY,
-        NEW_DIGEST,
-        227,
-        Table {
-            version: 2,
-            archives: &[("m.mbox", 58, Some(ARCHIVE_DIGEST))],
-            messages: &[ONLY],
-            keys: &[(5, "hello", &[0]), (6, "hi", &[0])],
-        },
-    ),
-    (
-        BODY_OF_TWO,
-        b"",
-        445,
-        Table {
-            version: 1,
-            archives: &[("a.mbox", 200, None), ("b/\u{fc}.mbox", 37, None)],
-            messages: &[FIRST, SECOND, THIRD],
-            keys: &[
-                (1, "bob", &[2]),
-                (2, "ann", &[2]),
-                (4, "ann", &[0]),
-                (6, "hi", &[0, 1, 2]),
-                (6, "hiya", &[1]),
-                (7, "1@x.org", &[0]),
-                (8, "1@x.org", &[1]),
-            ],
-        },
-    ),
+const OF_ONE_ONES: Table = (2, &[("m.mbox", 58, Some([0xff; 32]))], MESSAGE, KEYS);
+
+const MESSAGE: &[DecodedMessage] = &[(0, [0, 58, 19], None, [false, false, false])];
+
+const KEYS: &[(u64, &str, &[u32])] = &[(5, "hello", &[0]), (6, "hi", &[0])];
+
+/// What [`BODY_OF_TWO`] says.
+const OF_TWO: Table = (
+    1,
+    &[("a.mbox", 200, None), ("b/\u{fc}.mbox", 37, None)],
+    &[
+        (0, [0, 100, 60], Some(-1), [true, false, false]),
+        (0, [100, 50, 20], Some(1_041_501_600), [true, true, true]),
+        (1, [7, 30, 0], None, [false, true, false]),
+    ],
+    &[
+        (1, "bob", &[2]),
+        (2, "ann", &[2]),
+        (4, "ann", &[0]),
+        (6, "hi", &[0, 1, 2]),
+        (6, "hiya", &[1]),
+        (7, "1@x.org", &[0]),
+        (8, "1@x.org", &[1]),
+    ],
+);
+
+/// A body, bytes that are put into it in place of as many others, its digest as far as it is known from outside, the bytes of its
+/// file, and what that says.
+type Row = (&'static [u8], Puts, &'static [u8], usize, Table);
+
+const TABLES: [Row; 6] = [
+    (BODY, &[], DIGEST, 195, OF_ONE),
+    (NEW_BODY, &[], NEW_DIGEST, 227, OF_ONE_NOW),
+    (NEW_BODY, &[(66, &[0; 32])], b"", 227, OF_ONE_ZEROS),
+    (NEW_BODY, &[(66, &[0xff; 32])], b"", 227, OF_ONE_ONES),
+    (BODY_OF_NONE, &[], b"", 80, (2, &[], &[], &[])),
+    (BODY_OF_TWO, &[], b"", 445, OF_TWO),
 ];
-
-const NOTHING: Table = Table {
-    version: 2,
-    archives: &[],
-    messages: &[],
-    keys: &[],
-};
 
 /// Each bit of a byte.
 const BITS: [u8; 8] = [1, 2, 4, 8, 16, 32, 64, 128];
@@ -194,11 +149,13 @@ fn signed(alloc: Global, body: &[u8]) -> Option<Vec<u8>> {
     Some(file)
 }
 
-/// The bytes with those from a place on put in place of as many others.
-fn with_put(alloc: Global, bytes: &[u8], at: usize, new: &[u8]) -> Option<Vec<u8>> {
+/// The bytes with some put from some places on in place of as many others.
+fn with_put(alloc: Global, bytes: &[u8], puts: &[(usize, &[u8])]) -> Option<Vec<u8>> {
     let mut changed = bytes.to_vec(alloc).ok()?;
-    for (byte, new) in changed.iter_mut().skip(at).zip(new) {
-        *byte = *new;
+    for (at, new) in puts {
+        for (byte, new) in changed.iter_mut().skip(*at).zip(*new) {
+            *byte = *new;
+        }
     }
     Some(changed)
 }
@@ -211,21 +168,18 @@ fn with_turned(alloc: Global, bytes: &[u8], at: usize, mask: u8) -> Option<Vec<u
 }
 
 /// Whether a decoded file says this.
-fn says(decoded: &Decoded, table: &Table) -> bool {
-    let mut same = decoded.version == table.version
-        && decoded.archives.len() == table.archives.len()
-        && decoded.messages.len() == table.messages.len()
-        && decoded.keys.len() == table.keys.len();
-    for (archive, (path, length, digest)) in decoded.archives.iter().zip(table.archives) {
+fn says(decoded: &Decoded, (version, archives, messages, keys): Table) -> bool {
+    let mut same = decoded.version == version
+        && decoded.archives.len() == archives.len()
+        && decoded.messages.as_slice() == messages
+        && decoded.keys.len() == keys.len();
+    for (archive, (path, length, digest)) in decoded.archives.iter().zip(archives) {
         same = archive.path.as_str() == *path
             && archive.length == *length
             && archive.digest == *digest
             && same;
     }
-    for (message, record) in decoded.messages.iter().zip(table.messages) {
-        same = record_of(message) == Some(*record) && same;
-    }
-    for (key, (kind, text, numbers)) in decoded.keys.iter().zip(table.keys) {
+    for (key, (kind, text, numbers)) in decoded.keys.iter().zip(keys) {
         same = key.kind == *kind
             && key.text.as_slice() == text.as_bytes()
             && key.numbers.as_slice() == *numbers
@@ -234,34 +188,31 @@ fn says(decoded: &Decoded, table: &Table) -> bool {
     same
 }
 
-/// Whether both readers find this table in a file. It is None where memory is wanting, and so are the answers below.
-fn is_file_of(alloc: Global, file: &[u8], table: &Table) -> Option<bool> {
-    let found = found(alloc, file)?;
-    let decoded = decode(alloc, file).ok()?;
-    Some(found == Ok(()) && says(&decoded, table))
-}
-
-/// Whether the file of a body has such an end, so many bytes, and this table.
-fn is_body_of(alloc: Global, body: &[u8], end: &[u8], size: usize, table: &Table) -> Option<bool> {
-    let file = signed(alloc, body)?;
-    let has_end = file.as_slice().ends_with(end) && file.len() == size;
-    Some(has_end && is_file_of(alloc, &file, table)?)
+/// Whether a file has its digest, so many bytes, and this table, as both readers find. It is None where memory is wanting, and so are
+/// the answers below.
+fn is_file_of(alloc: Global, (body, puts, digest, size, table): Row) -> Option<bool> {
+    let file = changed(alloc, body, puts, b"")?;
+    let has_digest = file.as_slice().ends_with(digest) && file.len() == size;
+    let found = found(alloc, &file)?;
+    let decoded = decode(alloc, &file).ok()?;
+    Some(has_digest && found == Ok(()) && says(&decoded, table))
 }
 
 #[test]
 fn tables_are_read(rt: HostRuntime) {
-    for (body, end, size, table) in TABLES {
-        let as_wanted = is_body_of(rt.alloc(), body, end, size, &table);
-        assert!(rt; as_wanted == Some(true), "{size} bytes");
+    for row in TABLES {
+        let as_wanted = is_file_of(rt.alloc(), row);
+        assert!(rt; as_wanted == Some(true), "{:?}: {} bytes", row.1, row.3);
     }
 }
 
 /// Whether a builder writes the file of [`NEW_BODY`] and that of nothing.
 fn are_written(alloc: Global) -> Option<bool> {
+    let one = written(alloc)?;
     let none = written_of_none(alloc)?;
-    let as_wanted = written(alloc)? == signed(alloc, NEW_BODY)?;
-    let finds_none = finds(&none, TextKind::Body, "hi", 1, None)?;
-    Some(as_wanted && finds_none && is_file_of(alloc, &none, &NOTHING)?)
+    let are_as_wanted = one.bytes() == signed(alloc, NEW_BODY)?.as_slice()
+        && none.bytes() == signed(alloc, BODY_OF_NONE)?.as_slice();
+    Some(are_as_wanted)
 }
 
 #[test]
@@ -269,36 +220,22 @@ fn files_are_written(rt: HostRuntime) {
     assert!(rt; are_written(rt.alloc()) == Some(true));
 }
 
-/// Whether the file of [`NEW_BODY`] with another digest of its archive tells it.
-fn is_told(alloc: Global, digest: [u8; 32]) -> Option<bool> {
-    let file = signed(alloc, &with_put(alloc, NEW_BODY, 66, &digest)?)?;
-    let found = found(alloc, &file)?;
-    let view = IndexView::open(&file).ok()?;
-    Some(found == Ok(()) && view.archive_count() == 1 && view.archive(0).digest == Some(digest))
-}
+/// What is before and behind the messages of a file with 130 of them.
+const FRONT_OF_MANY: &[u8] = b"MAIRIX\r\n\
+    \0\0\0\x01\0\0\0\x01\0\0\0\x82\0\0\0\x01\0\0\0\0\0\0\0\x0d\0\0\0\0\0\0\0\x01\0\0\0\0\0\0\0\x03\
+    \0\0\0\0\0\0\0\x82\0\0\0\x01m";
 
-#[test]
-fn the_digests_of_archives_are_told(rt: HostRuntime) {
-    for digest in [ARCHIVE_DIGEST, [0; 32], [0xff; 32]] {
-        assert!(rt; is_told(rt.alloc(), digest) == Some(true), "{digest:?}");
-    }
-}
+const END_OF_MANY: &[u8] = b"\x06\0\0\0\0\0\0\x01\0\0\0\0\0\0\0\0\0\0\0\0\0\0\0\0x\x01\x81\x01";
 
-/// The file, without its digest, of an archive with 130 messages of a byte each, of which the first and the last have a word.
+/// That file, without its digest, of an archive with messages of a byte each, of which the first and the last have a word.
 fn body_of_many(alloc: Global) -> Result<Vec<u8>, AllocError> {
-    let mut body = b"MAIRIX\r\n\0\0\0\x01\0\0\0\x01\0\0\0\x82\0\0\0\x01".to_vec(alloc)?;
-    for number in [13u64, 1, 3, 130] {
-        body.extend_from_slice(&number.to_be_bytes())?;
-    }
-    body.extend_from_slice(b"\0\0\0\x01m")?;
+    let mut body = FRONT_OF_MANY.to_vec(alloc)?;
     for offset in 0..130u64 {
         for number in [0, offset, 1, 0, 0] {
             body.extend_from_slice(&number.to_be_bytes())?;
         }
     }
-    body.extend_from_slice(b"\x06\0\0\0\0\0\0\x01")?;
-    body.extend_from_slice(&[0; 16])?;
-    body.extend_from_slice(b"x\x01\x81\x01")?;
+    body.extend_from_slice(END_OF_MANY)?;
     Ok(body)
 }
 
@@ -309,11 +246,7 @@ fn is_long_difference_read(alloc: Global) -> Option<bool> {
     let decoded = decode(alloc, &file).ok()?;
     let as_wanted = found(alloc, &file)? == Ok(())
         && decoded.messages.len() == 130
-        && decoded.keys.len() == 1
-        && decoded
-            .keys
-            .iter()
-            .all(|key| key.numbers.as_slice() == [0, 129].as_slice());
+        && matches!(decoded.keys.as_slice(), [key] if key.numbers.as_slice() == [0, 129].as_slice());
     for at in body.len().saturating_sub(4)..body.len() {
         for mask in BITS {
             let changed = with_turned(alloc, &body, at, mask)?;
@@ -332,105 +265,66 @@ fn long_differences_are_read(rt: HostRuntime) {
 const EXCHANGED: &[u8] = b"\x06\0\0\0\0\0\0\x02\0\0\0\0\0\0\0\x05\0\0\0\0\0\0\0\x01\
     \x05\0\0\0\0\0\0\x05\0\0\0\0\0\0\0\0\0\0\0\0\0\0\0\0";
 
-/// A body, bytes that are put into it from a place on in place of as many others, and bytes behind it.
-type Change = (
-    &'static [u8],
-    &'static [(usize, &'static [u8])],
-    &'static [u8],
-);
-
-/// What is found of changed bodies, each with its own digest.
-const CHANGED_BODIES: [(&str, Change, Result<(), IndexFault>); 11] = [
-    (
-        "version 9",
-        (BODY, &[(11, b"\x09")], b""),
-        Err(IndexFault::BadVersion),
-    ),
-    (
-        "keys exchanged",
-        (BODY, &[(106, EXCHANGED)], b""),
-        Err(IndexFault::BadLayout(Section::Directory)),
-    ),
-    (
-        "a difference of 0",
-        (BODY, &[(161, b"\0\x01")], b""),
-        Err(IndexFault::BadLayout(Section::Postings)),
-    ),
-    (
-        "a message that there isn't",
-        (BODY, &[(161, b"\x01\x02")], b""),
-        Err(IndexFault::BadLayout(Section::Postings)),
-    ),
-    (
-        "a byte behind",
-        (BODY, &[], b"\0"),
-        Err(IndexFault::BadLayout(Section::Counts)),
-    ),
-    (
-        "a difference that isn't in its shortest form",
-        (BODY, &[(47, b"\x03"), (161, b"\x01\x81")], b"\0"),
-        Err(IndexFault::BadLayout(Section::Postings)),
-    ),
-    (
-        "version 3",
-        (NEW_BODY, &[(11, b"\x03")], b""),
-        Err(IndexFault::BadVersion),
-    ),
-    (
-        "the entries of version 2 in version 1",
-        (NEW_BODY, &[(11, b"\x01")], b""),
-        Err(IndexFault::BadLayout(Section::Archives)),
-    ),
-    (
-        "kind 10",
-        (NEW_BODY, &[(162, b"\x0a")], b""),
-        Err(IndexFault::BadLayout(Section::Directory)),
-    ),
-    (
-        "a name in version 1",
-        (BODY, &[(130, b"\x09")], b""),
-        Err(IndexFault::BadLayout(Section::Directory)),
-    ),
-    ("a name in version 2", NAME_IN_NEW, Ok(())),
-];
+/// A difference that isn't in its shortest form, with a byte more in the postings.
+const LONG_DIFFERENCE: Puts = &[(47, b"\x03"), (161, b"\x01\x81")];
 
 /// The second key, whose kind is Body, made one of Name.
-const NAME_IN_NEW: Change = (NEW_BODY, &[(162, b"\x09")], b"");
+const NAMED: Puts = &[(162, b"\x09")];
 
-/// The file of a changed body with its own digest.
-fn changed(alloc: Global, (body, puts, behind): Change) -> Option<Vec<u8>> {
-    let mut changed = body.to_vec(alloc).ok()?;
-    for (at, new) in puts {
-        changed = with_put(alloc, &changed, *at, new)?;
-    }
+/// Bodies, bytes that are put into them in place of as many others, and bytes behind them; and what is found, under their own digest.
+const CHANGED_BODIES: [(&[u8], Puts, &[u8], Result<(), IndexFault>); 11] = [
+    // Version 9, keys exchanged, a difference of 0, a message that there isn't, a byte behind.
+    (BODY, &[(11, b"\x09")], b"", Err(BadVersion)),
+    (BODY, &[(106, EXCHANGED)], b"", Err(BadLayout(Directory))),
+    (BODY, &[(161, b"\0\x01")], b"", Err(BadLayout(Postings))),
+    (BODY, &[(161, b"\x01\x02")], b"", Err(BadLayout(Postings))),
+    (BODY, &[], b"\0", Err(BadLayout(Counts))),
+    (BODY, LONG_DIFFERENCE, b"\0", Err(BadLayout(Postings))),
+    // Version 3, the entries of version 2 in version 1, kind 10.
+    (NEW_BODY, &[(11, b"\x03")], b"", Err(BadVersion)),
+    (NEW_BODY, &[(11, b"\x01")], b"", Err(BadLayout(Archives))),
+    (NEW_BODY, &[(162, b"\x0a")], b"", Err(BadLayout(Directory))),
+    // A name in version 1, and in version 2.
+    (BODY, &[(130, b"\x09")], b"", Err(BadLayout(Directory))),
+    (NEW_BODY, NAMED, b"", Ok(())),
+];
+
+/// The file of a body with its own digest, into which bytes are put, and some behind it.
+fn changed(alloc: Global, body: &[u8], puts: &[(usize, &[u8])], behind: &[u8]) -> Option<Vec<u8>> {
+    let mut changed = with_put(alloc, body, puts)?;
     changed.extend_from_slice(behind).ok()?;
     signed(alloc, &changed)
 }
 
 /// What is found of the file of a changed body.
-fn found_of_change(alloc: Global, change: Change) -> Option<Result<(), IndexFault>> {
-    found(alloc, &changed(alloc, change)?)
+fn found_of_change(
+    alloc: Global,
+    body: &[u8],
+    puts: &[(usize, &[u8])],
+    behind: &[u8],
+) -> Option<Result<(), IndexFault>> {
+    found(alloc, &changed(alloc, body, puts, behind)?)
 }
 
 #[test]
 fn changed_bodies_are_refused(rt: HostRuntime) {
-    for (name, change, wanted) in CHANGED_BODIES {
-        let found = found_of_change(rt.alloc(), change);
-        assert!(rt; found == Some(wanted), "{name}");
+    for (body, puts, behind, wanted) in CHANGED_BODIES {
+        let found = found_of_change(rt.alloc(), body, puts, behind);
+        assert!(rt; found == Some(wanted), "{puts:?}, {behind:?}: {found:?}");
     }
 }
 
 /// Bytes that are put into the file of [`BODY`] under the digest that it had, and what is found.
 const CHANGED_FILES: [(usize, &[u8], IndexFault); 3] = [
-    (0, b"m", IndexFault::BadMagic),
-    (11, b"\x09", IndexFault::BadVersion),
-    (60, b"l", IndexFault::BadDigest),
+    (0, b"m", BadMagic),
+    (11, b"\x09", BadVersion),
+    (60, b"l", BadDigest),
 ];
 
 /// What is found where bytes are put into the file of [`BODY`].
 fn found_with_put(alloc: Global, at: usize, new: &[u8]) -> Option<Result<(), IndexFault>> {
     let file = signed(alloc, BODY)?;
-    found(alloc, &with_put(alloc, &file, at, new)?)
+    found(alloc, &with_put(alloc, &file, &[(at, new)])?)
 }
 
 #[test]
@@ -441,11 +335,8 @@ fn changed_files_are_refused(rt: HostRuntime) {
     }
 }
 
-/// The bytes of the file of [`BODY`].
-const SIZE: usize = 195;
-
 /// The files of both versions, each by its body and its bytes.
-const FILES: [(&[u8], usize); 2] = [(BODY, SIZE), (NEW_BODY, 227)];
+const FILES: [(&[u8], usize); 2] = [(BODY, 195), (NEW_BODY, 227)];
 
 /// What is found where bits of a byte of the file of a body are turned.
 fn found_with_turned(
@@ -463,9 +354,9 @@ fn a_turned_bit_is_refused(rt: HostRuntime) {
     for (body, size) in FILES {
         for at in 0..size {
             let fault = match at {
-                0..8 => IndexFault::BadMagic,
-                8..12 => IndexFault::BadVersion,
-                _ => IndexFault::BadDigest,
+                0..8 => BadMagic,
+                8..12 => BadVersion,
+                _ => BadDigest,
             };
             for mask in BITS {
                 let found = found_with_turned(rt.alloc(), body, at, mask);
@@ -486,11 +377,7 @@ fn found_of_front(alloc: Global, body: &[u8], size: usize) -> Option<Result<(), 
 fn a_front_is_refused(rt: HostRuntime) {
     for (body, whole) in FILES {
         for size in 0..whole {
-            let fault = if size < 80 {
-                IndexFault::TooShort
-            } else {
-                IndexFault::BadDigest
-            };
+            let fault = if size < 80 { TooShort } else { BadDigest };
             let found = found_of_front(rt.alloc(), body, size);
             assert!(rt; found == Some(Err(fault)), "{size} bytes of {whole}");
         }
@@ -500,13 +387,13 @@ fn a_front_is_refused(rt: HostRuntime) {
 /// What is found of a file with one bit turned in its body, as tallies count it.
 const OUTCOMES: [Result<(), IndexFault>; 8] = [
     Ok(()),
-    Err(IndexFault::BadMagic),
-    Err(IndexFault::BadVersion),
-    Err(IndexFault::BadLayout(Section::Counts)),
-    Err(IndexFault::BadLayout(Section::Archives)),
-    Err(IndexFault::BadLayout(Section::Records)),
-    Err(IndexFault::BadLayout(Section::Directory)),
-    Err(IndexFault::BadLayout(Section::Postings)),
+    Err(BadMagic),
+    Err(BadVersion),
+    Err(BadLayout(Counts)),
+    Err(BadLayout(Archives)),
+    Err(BadLayout(Records)),
+    Err(BadLayout(Directory)),
+    Err(BadLayout(Postings)),
 ];
 
 /// Bytes that are put into a body, and how often each outcome is found where one of its bits is turned, under a right digest.
@@ -522,56 +409,54 @@ const TALLIES: [(&[u8], usize, &[u8], [usize; 8]); 5] = [
     (BODY_OF_TWO, 0, b"", [576, 64, 32, 256, 163, 793, 1355, 65]),
 ];
 
-/// What is found of each body that has one bit turned, under its own digest.
-fn found_with_turned_bits(alloc: Global, body: &[u8]) -> Option<Vec<Result<(), IndexFault>>> {
-    let mut all = Vec::new(alloc);
+/// How often each outcome is found of a body with bytes put into it, where one of its bits is turned, under its own digest. It is None
+/// also where anything else is found.
+fn tally(alloc: Global, body: &[u8], at: usize, new: &[u8]) -> Option<[usize; 8]> {
+    let body = with_put(alloc, body, &[(at, new)])?;
+    let mut counts = [0usize; 8];
     for at in 0..body.len() {
         for mask in BITS {
-            let changed = with_turned(alloc, body, at, mask)?;
-            all.push(found(alloc, &signed(alloc, &changed)?)?).ok()?;
+            let changed = with_turned(alloc, &body, at, mask)?;
+            let found = found(alloc, &signed(alloc, &changed)?)?;
+            let outcome = OUTCOMES.iter().position(|outcome| *outcome == found)?;
+            let count = counts.get_mut(outcome)?;
+            *count = count.saturating_add(1);
         }
     }
-    Some(all)
-}
-
-/// Whether each outcome is found as often as is told.
-fn has_tally(
-    alloc: Global,
-    body: &[u8],
-    at: usize,
-    new: &[u8],
-    counts: [usize; 8],
-) -> Option<bool> {
-    let all = found_with_turned_bits(alloc, &with_put(alloc, body, at, new)?)?;
-    let mut same = true;
-    for (outcome, count) in OUTCOMES.iter().zip(counts) {
-        same = all.iter().filter(|found| *found == outcome).count() == count && same;
-    }
-    Some(same)
+    Some(counts)
 }
 
 #[test]
 fn turned_bits_under_a_right_digest(rt: HostRuntime) {
     for (body, at, new, counts) in TALLIES {
-        let as_wanted = has_tally(rt.alloc(), body, at, new, counts);
-        assert!(rt; as_wanted == Some(true), "{counts:?}");
+        let found = tally(rt.alloc(), body, at, new);
+        assert!(rt; found == Some(counts), "{counts:?}: {found:?}");
     }
 }
 
-/// Words that are looked up, and the message that has them.
-const LOOKED_UP: [(Change, TextKind, &str, Option<u32>); 7] = [
-    ((BODY, &[], b""), TextKind::Subject, "hello", Some(0)),
-    ((BODY, &[], b""), TextKind::Body, "hi", Some(0)),
-    ((BODY, &[], b""), TextKind::Body, "hello", None),
-    ((BODY, &[], b""), TextKind::Subject, "hi", None),
-    ((BODY, &[], b""), TextKind::To, "hello", None),
-    ((NEW_BODY, &[], b""), TextKind::Subject, "hello", Some(0)),
-    (NAME_IN_NEW, TextKind::Name, "hi", Some(0)),
+/// Files by their bodies and bytes put into these, words that are looked up in them, in how many steps at most, and the message that
+/// has them.
+const LOOKED_UP: [(&[u8], Puts, (TextKind, &str), u64, Option<u32>); 8] = [
+    (BODY_OF_NONE, &[], (TextKind::Body, "hi"), 1, None),
+    (BODY, &[], (TextKind::Subject, "hello"), 3, Some(0)),
+    (BODY, &[], (TextKind::Body, "hi"), 3, Some(0)),
+    (BODY, &[], (TextKind::Body, "hello"), 3, None),
+    (BODY, &[], (TextKind::Subject, "hi"), 3, None),
+    (BODY, &[], (TextKind::To, "hello"), 3, None),
+    (NEW_BODY, &[], (TextKind::Subject, "hello"), 3, Some(0)),
+    (NEW_BODY, NAMED, (TextKind::Name, "hi"), 3, Some(0)),
 ];
 
-/// Whether a word's look-up takes so many steps at most, and gives just this message or none.
-fn finds(file: &[u8], kind: TextKind, word: &str, most: u64, number: Option<u32>) -> Option<bool> {
-    let view = IndexView::open(file).ok()?;
+/// Whether a word's look-up in a file takes so many steps at most, and gives just this message or none.
+fn finds(
+    alloc: Global,
+    (body, puts): (&[u8], Puts),
+    (kind, word): (TextKind, &str),
+    most: u64,
+    number: Option<u32>,
+) -> Option<bool> {
+    let file = changed(alloc, body, puts, b"")?;
+    let view = IndexView::open(&file).ok()?;
     let mut steps = Steps::new();
     let mut postings = view.look_up(Kind::Text(kind), word.as_bytes(), &mut steps);
     let is_short = steps.count() <= most;
@@ -579,21 +464,10 @@ fn finds(file: &[u8], kind: TextKind, word: &str, most: u64, number: Option<u32>
     Some(is_short && first == number && postings.next(&mut steps).is_none())
 }
 
-/// Whether a word is found so in a changed file, whose directory of two keys takes three steps at most.
-fn finds_in(
-    alloc: Global,
-    change: Change,
-    kind: TextKind,
-    word: &str,
-    number: Option<u32>,
-) -> Option<bool> {
-    finds(&changed(alloc, change)?, kind, word, 3, number)
-}
-
 #[test]
 fn look_ups_take_few_steps(rt: HostRuntime) {
-    for (change, kind, word, number) in LOOKED_UP {
-        let as_wanted = finds_in(rt.alloc(), change, kind, word, number);
-        assert!(rt; as_wanted == Some(true), "{word}");
+    for (body, puts, key, most, number) in LOOKED_UP {
+        let as_wanted = finds(rt.alloc(), (body, puts), key, most, number);
+        assert!(rt; as_wanted == Some(true), "{key:?}");
     }
 }

@@ -4,14 +4,12 @@ ghost use Rattle.std.specs.Prelude.{◌≡◌, Some, None, IfSome, OnErr};
 ghost use Rattle.mail_index.specs.Builders.{empty_draft, IsBetweenArchives};
 ghost use Rattle.mail_index.specs.Tables.{IsPath};
 
-use crate::builders::is_lost;
+use crate::builders::{PATH, is_lost};
 use crate::counted::Counted;
 use crate::index_files::{ARCHIVE_DIGEST, ONLY};
 use mail_index::{BuildFault, Builder, Kind, is_path};
 use mail_words::TextKind;
 use std::alloc::Global;
-
-const PATH: &str = "m.mbox";
 
 /// A key that has memory of its own.
 const LONG_ID: &[u8] = b"an.id.of.more.than.15.bytes@x.org";
@@ -44,7 +42,7 @@ fn is_built_or_lost(alloc: Global, writes: bool) -> bool {
     if answer.is_err() {
         return is_lost(&mut builder, answer, BuildFault::OutOfMemory);
     }
-    let mut out = Counted::new();
+    let mut out = Counted { bytes: 0 };
     !writes || (builder.write(&mut out) == Ok(SIZE) && out.bytes == SIZE)
 }
 
