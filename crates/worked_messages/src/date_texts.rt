@@ -2,15 +2,14 @@
 
 use crate::header_dates::HEADER_DATES;
 use mail_dates::{DateFault, Moment, Range, iso_range, range_of, read_date};
-use std::alloc::Global;
+use std::fmt::InlineText;
 
 /// Whether the date of a row is read as its second. It is None where the row has no second or no field.
 fn is_read(row: &str) -> Option<bool> {
     let (second, text) = row.split_once(' ')?;
-    let date = if second == "none" {
-        None
-    } else {
-        Some(second.parse::<i64>().ok()?)
+    let date = match second {
+        "none" => None,
+        number => Some(number.parse::<i64>().ok()?),
     };
     Some(read_date(text) == date)
 }
@@ -58,14 +57,10 @@ fn answers_ranges(rt: HostRuntime) {
     assert!(rt; iso_range("..") == Err(DateFault::BadDate));
 }
 
-/// Whether the text of a fault is this. It is None where memory is wanting.
-fn has_text(alloc: Global, fault: DateFault, text: &str) -> Option<bool> {
-    Some(fault.to_string(alloc).ok()?.as_str() == text)
-}
-
 #[test]
 fn names_faults(rt: HostRuntime) {
-    let alloc = rt.alloc();
-    assert!(rt; has_text(alloc, DateFault::BadDate, "bad date") == Some(true));
-    assert!(rt; has_text(alloc, DateFault::BadNumber, "bad number") == Some(true));
+    let date: InlineText<64> = InlineText::of(DateFault::BadDate);
+    assert_eq!(rt; date.as_str(), "bad date");
+    let number: InlineText<64> = InlineText::of(DateFault::BadNumber);
+    assert_eq!(rt; number.as_str(), "bad number");
 }

@@ -1,8 +1,10 @@
-//! One happy path for each call that can want memory, and the characters of all bytes.
+//! One happy path for each call that can want memory, the same with each allocation refused in turn, and the characters of all
+//! bytes.
 use header_text::{
     Base64, Charset, Field, Header, Taken, decode, decode_words, message_ids, unescape_into, unfold,
 };
 use std::alloc::Global;
+use std::test::Fail;
 
 /// ISO 8859-1, ISO 8859-15 and Windows-1252 from 80 to FF, as `tools/charsets.py` prints them.
 const LATIN_1: &str =
@@ -22,28 +24,17 @@ const UPPER: [(Charset, &str); 3] = [
 
 /// The character of a byte. It is None where memory is wanting, and so are the answers below.
 fn character(alloc: Global, charset: Charset, byte: u8) -> Option<char> {
-    decode(alloc, charset, &[byte])
-        .ok()?
-        .as_str()
-        .chars()
-        .next()
+    let decoded = decode(alloc, charset, &[byte]).ok()?;
+    decoded.as_str().chars().next()
 }
 
 #[test]
 fn all_bytes_of_single_byte_charsets(rt: HostRuntime) {
     for (charset, upper) in UPPER {
-        for byte in 0..0x80 {
-            let wanted = char::from(byte);
-            assert!(rt;
-                character(rt.alloc(), charset, byte) == Some(wanted),
-                "{byte}"
-            );
-        }
-        for (byte, wanted) in (0x80..=0xFFu8).zip(upper.chars()) {
-            assert!(rt;
-                character(rt.alloc(), charset, byte) == Some(wanted),
-                "{byte}"
-            );
+        let all = (0..0x80u8).map(char::from).chain(upper.chars());
+        for (byte, wanted) in (0..=0xFFu8).zip(all) {
+            let told = character(rt.alloc(), charset, byte);
+            assert!(rt; told == Some(wanted), "{byte}");
         }
     }
 }
@@ -77,23 +68,29 @@ fn a_header_of_two_lines(rt: HostRuntime) {
     assert!(rt; has_two_lines(rt.alloc()) == Some(true));
 }
 
-/// Whether encoded words in a value are decoded so.
-fn is_decoded(alloc: Global, value: &[u8], text: &str) -> Option<bool> {
-    Some(decode_words(alloc, value).ok()?.as_str() == text)
-}
+/// Charsets, bytes of them, and their text. Without a charset, the bytes are a value with encoded words.
+const TEXTS: [(Option<&[u8]>, &[u8], &str); 4] = [
+    (None, b"a =?utf-8?B?w7w=?= b", "a \u{FC} b"),
+    (None, b"=?utf-8*en?q?a_b?=", "a b"),
+    (Some(b"windows-1252"), b"\x80", "\u{20AC}"),
+    (Some(b"utf-8"), b"\xC3", "\u{FFFD}"),
+];
 
-/// Whether bytes of a charset of this name are decoded so.
-fn is_decoded_by(alloc: Global, name: &[u8], bytes: &[u8], text: &str) -> Option<bool> {
-    Some(decode(alloc, Charset::of(name), bytes).ok()?.as_str() == text)
+/// Whether bytes are decoded so.
+fn is_decoded(alloc: Global, charset: Option<&[u8]>, bytes: &[u8], text: &str) -> Option<bool> {
+    let decoded = match charset {
+        Some(name) => decode(alloc, Charset::of(name), bytes),
+        None => decode_words(alloc, bytes),
+    };
+    Some(decoded.ok()?.as_str() == text)
 }
 
 #[test]
 fn texts_of_words_and_charsets(rt: HostRuntime) {
-    let alloc = rt.alloc();
-    assert!(rt; is_decoded(alloc, b"a =?utf-8?B?w7w=?= b", "a \u{FC} b") == Some(true));
-    assert!(rt; is_decoded(alloc, b"=?utf-8*en?q?a_b?=", "a b") == Some(true));
-    assert!(rt; is_decoded_by(alloc, b"windows-1252", b"\x80", "\u{20AC}") == Some(true));
-    assert!(rt; is_decoded_by(alloc, b"utf-8", b"\xC3", "\u{FFFD}") == Some(true));
+    for (charset, bytes, text) in TEXTS {
+        let as_wanted = is_decoded(rt.alloc(), charset, bytes, text);
+        assert!(rt; as_wanted == Some(true), "{text}");
+    }
 }
 
 /// Whether a value has two ids, of which one has a space in it.
@@ -109,18 +106,47 @@ fn ids_of_a_value(rt: HostRuntime) {
     assert!(rt; has_two_ids(rt.alloc()) == Some(true));
 }
 
-/// Whether the bytes of base64 and of escapes come one behind the other.
-fn are_read_in_pieces(alloc: Global) -> Option<bool> {
-    let mut bytes = Vec::new(alloc);
+/// The bytes of base64 and of escapes come one behind the other.
+#[test]
+fn base64_and_escapes_in_pieces(rt: HostRuntime) -> Result<(), Fail> {
+    let mut bytes = Vec::new(rt.alloc());
     let mut reader = Base64::new();
-    reader.push(b"ZsO\n", &mut bytes).ok()?;
-    reader.push(b"8cg==\n", &mut bytes).ok()?;
-    reader.finish(&mut bytes).ok()?;
-    unescape_into(b"=41=", &mut bytes).ok()?;
-    Some(bytes.as_slice() == b"f\xC3\xBCrA=".as_slice())
+    reader.push(b"ZsO\n", &mut bytes)?;
+    reader.push(b"8cg==\n", &mut bytes)?;
+    reader.finish(&mut bytes)?;
+    unescape_into(b"=41=", &mut bytes)?;
+    assert!(rt; bytes.as_slice() == b"f\xC3\xBCrA=".as_slice());
+    Ok(())
+}
+
+/// Whether a line is taken so, once more where it was refused.
+fn is_taken(header: &mut Header, line: &[u8], taken: Taken) -> bool {
+    let answer = match header.push_line(line) {
+        Ok(first) => Ok(first),
+        Err(_) => header.push_line(line),
+    };
+    answer == Ok(taken)
+}
+
+/// The gate refuses each allocation of this test in turn, and of the next. A refused line changes nothing, so the same line again
+/// is taken as if it hadn't been refused.
+#[test]
+fn sweep_push_line(rt: HostRuntime) {
+    let mut header = Header::new(rt.alloc());
+    assert!(rt; is_taken(&mut header, b"A: b\n", Taken::More));
+    assert!(rt; is_taken(&mut header, b" c\n", Taken::More));
+    assert!(rt; is_taken(&mut header, b"\n", Taken::Ended));
+    for field in header.fields() {
+        assert!(rt; field.name == b"A".as_slice() && field.body == b" b\n c\n".as_slice());
+    }
 }
 
 #[test]
-fn base64_and_escapes_in_pieces(rt: HostRuntime) {
-    assert!(rt; are_read_in_pieces(rt.alloc()) == Some(true));
+fn sweep_values(rt: HostRuntime) {
+    for (charset, bytes, text) in TEXTS {
+        let as_wanted = is_decoded(rt.alloc(), charset, bytes, text);
+        assert!(rt; as_wanted != Some(false), "{text}");
+    }
+    assert!(rt; has_two_lines(rt.alloc()) != Some(false));
+    assert!(rt; has_two_ids(rt.alloc()) != Some(false));
 }

@@ -12,6 +12,4 @@ mod header_texts;
 #[cfg(test)]
 mod message_texts;
 #[cfg(test)]
-mod sweeps;
-#[cfg(test)]
 mod text_words;
