@@ -1,9 +1,7 @@
 //! Boolean texts, and what is read of them.
 
-use crate::reading::NOW;
+use crate::reading::read_text;
 use crate::told::is_told;
-use mail_dates::Moment;
-use mail_query::read_boolean;
 use std::alloc::Global;
 
 /// How many rows the table has.
@@ -266,8 +264,7 @@ id:x ) and or from:b => query item 2: bad parenthesis
 /// Whether a text is read as its row tells.
 fn row_is_told(alloc: Global, row: &str) -> Option<bool> {
     let (text, told) = row.split_once(" => ")?;
-    let now = Moment::new(NOW)?;
-    Some(is_told(&read_boolean(alloc, text, now), told))
+    Some(is_told(&read_text(alloc, text)?, told))
 }
 
 #[test]

@@ -1,9 +1,7 @@
 //! Mairix patterns, and what is read of them.
 
-use crate::reading::{NOW, patterns_of};
+use crate::reading::read_patterns;
 use crate::told::is_told;
-use mail_dates::Moment;
-use mail_query::read_mairix;
 use std::alloc::Global;
 
 /// How many rows the table has.
@@ -262,9 +260,7 @@ tcfsban:x => word tcfsbn x
 /// Whether patterns are read as their row tells. It is None where memory is wanting before they are read.
 fn row_is_told(alloc: Global, row: &str) -> Option<bool> {
     let (text, told) = row.split_once(" => ")?;
-    let now = Moment::new(NOW)?;
-    let patterns = patterns_of(alloc, text)?;
-    Some(is_told(&read_mairix(alloc, patterns.as_slice(), now), told))
+    Some(is_told(&read_patterns(alloc, text)?, told))
 }
 
 #[test]

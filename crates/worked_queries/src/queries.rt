@@ -1,9 +1,7 @@
 //! What queries say of themselves, and the texts of faults.
 
-use crate::reading::{NOW, patterns_of};
-use mail_dates::Moment;
-use mail_query::{Query, QueryFault, QueryFaultKind, read_boolean, read_mairix};
-use std::alloc::Global;
+use crate::reading::{read_patterns, read_text};
+use mail_query::{Query, QueryFault, QueryFaultKind};
 use std::fmt::InlineText;
 
 /// What a query says of itself.
@@ -39,41 +37,25 @@ const DEEPEST: &str = "\
     a or b c))))))))))))))))))))))))))))))";
 
 /// Whether a text is read, and its query says what is wanted.
-fn is_said(answer: &Result<Query, QueryFault>, wanted: Wanted) -> bool {
+fn is_said(answer: Option<Result<Query, QueryFault>>, wanted: Wanted) -> bool {
     match (answer, wanted) {
-        (Ok(query), Wanted::Depth(depth)) => query.depth() == depth,
-        (Ok(query), Wanted::UsesNames(uses)) => query.uses_names() == uses,
-        (Err(_), _) => false,
+        (Some(Ok(query)), Wanted::Depth(depth)) => query.depth() == depth,
+        (Some(Ok(query)), Wanted::UsesNames(uses)) => query.uses_names() == uses,
+        _ => false,
     }
-}
-
-/// Whether patterns are read as wanted. It is None where memory is wanting before they are read.
-fn patterns_say(alloc: Global, text: &str, wanted: Wanted) -> Option<bool> {
-    let now = Moment::new(NOW)?;
-    let patterns = patterns_of(alloc, text)?;
-    let answer = read_mairix(alloc, patterns.as_slice(), now);
-    Some(is_said(&answer, wanted))
-}
-
-/// Whether a boolean text is read as wanted.
-fn boolean_says(alloc: Global, text: &str, wanted: Wanted) -> Option<bool> {
-    let now = Moment::new(NOW)?;
-    Some(is_said(&read_boolean(alloc, text, now), wanted))
 }
 
 #[test]
 fn queries_of_patterns_say(rt: HostRuntime) {
     for (text, wanted) in PATTERNS {
-        let as_wanted = patterns_say(rt.alloc(), text, wanted);
-        assert!(rt; as_wanted == Some(true), "{text}");
+        assert!(rt; is_said(read_patterns(rt.alloc(), text), wanted), "{text}");
     }
 }
 
 #[test]
 fn queries_of_boolean_texts_say(rt: HostRuntime) {
     for (text, wanted) in BOOLEANS {
-        let as_wanted = boolean_says(rt.alloc(), text, wanted);
-        assert!(rt; as_wanted == Some(true), "{text}");
+        assert!(rt; is_said(read_text(rt.alloc(), text), wanted), "{text}");
     }
 }
 

@@ -6,7 +6,7 @@
 
 use mail_query::{Kinds, Node, Query, QueryFault};
 use mail_words::Flag;
-use std::fmt::InlineText;
+use std::fmt::{Display, InlineText};
 
 /// Whether this is what is told of a reader's answer.
 pub fn is_told(answer: &Result<Query, QueryFault>, told: &str) -> bool {
@@ -23,22 +23,16 @@ pub fn is_told(answer: &Result<Query, QueryFault>, told: &str) -> bool {
 fn behind_node<'a>(told: &'a str, node: &Node) -> Option<&'a str> {
     match node {
         Node::Any => told.strip_prefix("any"),
-        Node::Word { kinds, text } => {
-            behind_sought(told.strip_prefix("word ")?, *kinds, text.as_str())
-        }
-        Node::Part { kinds, text } => {
-            behind_sought(told.strip_prefix("part ")?, *kinds, text.as_str())
-        }
-        Node::Prefix { kinds, text } => {
-            behind_sought(told.strip_prefix("prefix ")?, *kinds, text.as_str())
-        }
+        Node::Word { kinds, text } => behind_sought(told, "word ", *kinds, text.as_str()),
+        Node::Part { kinds, text } => behind_sought(told, "part ", *kinds, text.as_str()),
+        Node::Prefix { kinds, text } => behind_sought(told, "prefix ", *kinds, text.as_str()),
         Node::Date(range) => {
-            let rest = behind_second(told.strip_prefix("date ")?, range.from)?;
-            behind_second(rest.strip_prefix(" ")?, range.until)
+            let rest = behind_bound(told.strip_prefix("date ")?, range.from)?;
+            behind_bound(rest.strip_prefix(" ")?, range.until)
         }
         Node::Size { low, high } => {
-            let rest = behind_size(told.strip_prefix("size ")?, Some(*low))?;
-            behind_size(rest.strip_prefix(" ")?, *high)
+            let rest = behind_bound(told.strip_prefix("size ")?, Some(*low))?;
+            behind_bound(rest.strip_prefix(" ")?, *high)
         }
         Node::Flag { flag, wanted } => behind_flag(told.strip_prefix("flag ")?, *flag, *wanted),
         Node::Not(inner) => behind_node(told.strip_prefix("not ")?, inner),
@@ -55,8 +49,8 @@ fn behind_node<'a>(told: &'a str, node: &Node) -> Option<&'a str> {
     }
 }
 
-fn behind_sought<'a>(told: &'a str, kinds: Kinds, text: &str) -> Option<&'a str> {
-    let (letters, rest) = told.split_once(' ')?;
+fn behind_sought<'a>(told: &'a str, name: &str, kinds: Kinds, text: &str) -> Option<&'a str> {
+    let (letters, rest) = told.strip_prefix(name)?.split_once(' ')?;
     if kinds_of(letters) == Some(kinds) {
         rest.strip_prefix(text)
     } else {
@@ -83,21 +77,11 @@ fn kinds_of(letters: &str) -> Option<Kinds> {
     Some(kinds)
 }
 
-fn behind_second(told: &str, second: Option<i64>) -> Option<&str> {
-    match second {
+fn behind_bound<T: Display + Drop>(told: &str, bound: Option<T>) -> Option<&str> {
+    match bound {
         None => told.strip_prefix("-"),
-        Some(second) => {
-            let text: InlineText<20> = InlineText::of(second);
-            told.strip_prefix(text.as_str())
-        }
-    }
-}
-
-fn behind_size(told: &str, size: Option<u64>) -> Option<&str> {
-    match size {
-        None => told.strip_prefix("-"),
-        Some(size) => {
-            let text: InlineText<20> = InlineText::of(size);
+        Some(number) => {
+            let text: InlineText<20> = InlineText::of(number);
             told.strip_prefix(text.as_str())
         }
     }
