@@ -1,5 +1,5 @@
 //! The text of a line, in memory that is used again.
-ghost use Rattle.std.specs.Prelude.{◌≡◌, ℕ, ◌≤◌, List, length, IfOk, OnOk, string_bytes, encode_utf8_all};
+ghost use Rattle.std.specs.Prelude.{◌≡◌, ℕ, ◌≤◌, List, length, IfSome, IfOk, OnOk, string_bytes, encode_utf8_all};
 ghost use Rattle.std.specs.Str.{chars};
 ghost use Rattle.header_text.specs.Charsets.{text_of};
 ghost use Rattle.mime_text.specs.OpenTags.{blanked, is_open_behind};
@@ -91,20 +91,23 @@ impl TextBuffers {
         show(self.text.as_str(), sink)
     }
 
-    /// Writes the text of a line without its tags. The answer is whether a tag is open behind it.
+    /// Writes the text of a line, which may stand in its own bytes, without its tags. The answer is whether a tag is open behind it.
     fn write_blanked_line(
         &mut self,
         charset: Charset,
         open_before: bool,
         line: &[u8],
+        own: Option<&str>,
     ) -> Result<bool, AllocError>
-        requires { length line.now ≤ most_in_line }
+        requires short { length line.now ≤ most_in_line }
+        requires own { IfSome own (λ text. (text.now ≡ line.now)
+            × (text.now ≡ text_of charset line.now)) }
         ensures text { OnOk result (string_bytes self.new.blanked
             ≡ encode_utf8_all (blanked open_before (chars (text_of charset line.now)))) }
         ensures is_open { IfOk result (λ behind. behind
             ≡ is_open_behind open_before (chars (text_of charset line.now))) }
     {
-        if let Some(text) = own_text(charset, line) {
+        if let Some(text) = own {
             return write_blanked(open_before, text, &mut self.blanked);
         }
         write_text(charset, line, &mut self.text)?;
@@ -125,13 +128,14 @@ impl TextBuffers {
         ensures is_open { IfOk result (λ behind. behind
             ≡ is_open_behind open_before (chars (text_of charset line.now))) }
     {
-        if let Some(text) = own_text(charset, line) {
+        let own = own_text(charset, line);
+        if let Some(text) = own {
             if is_free_of_tags(open_before, text) {
                 show(text, sink)?;
                 return Ok(false);
             }
         }
-        let behind = self.write_blanked_line(charset, open_before, line)?;
+        let behind = self.write_blanked_line(charset, open_before, line, own)?;
         show(self.blanked.as_str(), sink)?;
         Ok(behind)
     }
