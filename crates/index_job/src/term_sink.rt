@@ -8,7 +8,7 @@ ghost use Rattle.index_job.specs.MessageTerms.{text_terms, own_id_terms, link_te
 
 use crate::folding_room::{FoldingRoom, add_cut_words, add_words_of};
 use mail_index::{BuildFault, Builder, Kind};
-use mail_words::{TextKind, fold_into};
+use mail_words::{TextKind, fold_ascii};
 use mime_text::{Facts, MessageId, MessageIds, SinkFault, TextSink};
 
 /// Gives an index the words of the texts of the message that is open, each folded.
@@ -51,9 +51,8 @@ fn add_words(
     ensures terms { AddsTerms (text_terms (kind, text.now)) result builder.old builder.new }
     ensures phase { IfSome builder.new IsInMessage }
 {
-    if text.is_ascii() {
+    if fold_ascii(text, &mut room.folded)? {
         // Its words fold with it: one folding serves them all.
-        fold_into(text, &mut room.folded)?;
         return add_words_of(builder, kind, &room.folded);
     }
     room.fold_words(text)?;

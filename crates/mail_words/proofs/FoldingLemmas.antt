@@ -1,5 +1,5 @@
 -- Laws of foldings, and what is left of one that is being written.
-use Rattle.mail_words.proofs.Imports.{◌≡◌, ℕ, ◌*◌, ◌≤◌, List, [], ◌∷◌, ◌++◌, length, None, Some, encode_utf8, encode_utf8_all, IsAscii, IsUtf8, refl, sym, ap, ◌∙◌, arith, append_assoc, length-append, cases_lt, length-map, chars-IsAscii, encodes-IsAscii, encodes-chars, length-le-encodes, Chars-gives, len_utf8_bounds, length-encode, IsAscii-map, lowercase_ascii, to_ascii_lowercase, chars_rest, chars_steps, folding}
+use Rattle.mail_words.proofs.Imports.{◌≡◌, ℕ, true, list_all, ◌*◌, ◌≤◌, List, [], ◌∷◌, ◌++◌, length, None, Some, encode_utf8, encode_utf8_all, IsAscii, IsUtf8, refl, sym, ap, ap₂, ◌∙◌, ◌<◌, arith, append_assoc, length-append, cases_lt, length-map, chars-IsAscii, encodes-IsAscii, encodes-chars, length-le-encodes, Chars-gives, len_utf8_bounds, length-encode, IsAscii-map, lowercase_ascii, to_ascii_lowercase, chars_rest, chars_steps, folding}
 use Rattle.std.proofs.Common.{map, chars, append-nil}
 use Rattle.std.specs.declared.str.Chars.{Chars}
 use Rattle.std.specs.Iterator.{AlwaysYields}
@@ -7,7 +7,9 @@ use Rattle.caseless.specs.Caseless.{default_case_fold}
 use Rattle.caseless.specs.CaseFold.{FoldsCaseTo, CaseFoldSteps}
 use Rattle.caseless.specs.declared.CaseFold.{CaseFold}
 use Rattle.unicode.specs.CaseFolding.{full_fold}
-use Rattle.caseless.proofs.CaselessLemmas.{default_case_fold-ascii, default_case_fold-cons, All-chars, length-default_case_fold, full_fold-none, full_fold-some}
+use Rattle.mail_words.specs.Inside.Folds.{keeps_itself}
+use Rattle.ucd_case.specs.CaseFolding.{full_folding}
+use Rattle.caseless.proofs.CaselessLemmas.{default_case_fold-ascii, default_case_fold-nil, default_case_fold-cons, All-chars, length-default_case_fold, full_fold-none, full_fold-some}
 
 -- in ASCII only the capital letters change
 pub folding-ascii : (text : List ℕ) → IsAscii text → folding text ≡ map to_ascii_lowercase text
@@ -37,6 +39,19 @@ has_chars (c ∷ cs) some = omega arith
 
 pub folding_some : (text : List ℕ) → IsUtf8 text → 1 ≤ length text → 1 ≤ length (folding text)
 folding_some text utf8 some = folds_to_some (chars text) (has_chars (chars text) (omega (arith, ap length (encodes-chars text utf8))))
+
+-- ---- a text that folding leaves as it is
+
+keeps_characters : (cs : List ℕ) → list_all keeps_itself cs ≡ true → default_case_fold cs ≡ cs
+keeps_characters [] all = default_case_fold-nil
+keeps_characters (c ∷ cs) all =
+    let few : length (full_folding c) < 1 = grind arith in
+    default_case_fold-cons c cs ∙ ap₂ ◌++◌ (full_fold-none c (full_folding c) refl few) (keeps_characters cs (grind arith))
+
+pub folding-same : (text : List ℕ) → IsUtf8 text → list_all keeps_itself (chars text) ≡ true → folding text ≡ text
+folding-same text utf8 all = ap encode_utf8_all (keeps_characters (chars text) all) ∙ encodes-chars text utf8
+
+-- ---- what is left
 
 -- the bytes written so far, and those of the characters that the iterator has left, are all that is to be written
 pub record StillFolds (all written : List ℕ) (iterator : CaseFold Chars) : Type 0 where

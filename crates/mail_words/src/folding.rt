@@ -1,11 +1,15 @@
 //! How words are compared: by default caseless folding.
-ghost use Rattle.std.specs.Prelude.{◌≡◌, ◌*◌, ◌+◌, ◌<◌, ◌≤◌, ◌++◌, length, string_bytes, string_len, IfOk, OnOk, OnErr};
+ghost use Rattle.std.specs.Prelude.{◌≡◌, ◌*◌, ◌+◌, ◌<◌, ◌≤◌, ◌++◌, length, string_bytes, string_len, IfOk, OnOk, OnErr, IsTrue, IsAscii, chars};
+ghost use Rattle.std.specs.List.{list_all};
+ghost use Rattle.std.specs.Bool.{Decides};
 ghost use Rattle.std.specs.String.{string_capacity};
 ghost use Rattle.mail_words.specs.Folding.{folding};
 ghost use Rattle.mail_words.specs.Words.{HasWordLength};
+ghost use Rattle.mail_words.specs.Inside.Folds.{keeps_itself as keeps_itself_of};
 
 use caseless::Caseless;
 use std::alloc::{AllocError, Global};
+use ucd_case::full_folding;
 
 /// The default caseless folding of a text (Unicode D144). Two words are one where their foldings are.
 ///
@@ -17,30 +21,43 @@ pub fn fold(alloc: Global, word: &str) -> Result<String, AllocError>
     ensures bound { IfOk result (λ folded. string_len folded ≤ 8 * length word.now) }
 {
     let mut folded = String::new(alloc);
-    fold_into(word, &mut folded)?;
+    fold_onto(word, &mut folded)?;
     Ok(folded)
 }
 
-/// The same, in place of what `into` holds, which may be anything after an error.
+/// Folds a whole text, if it is of ASCII, in place of what `into` holds, and answers whether it is. In any other case `into`
+/// may hold anything.
 ///
-/// A whole text of ASCII can be folded at once, since its words stand in the folding, each folded
-/// ([`crate::words_fold_with_their_text`]).
-pub fn fold_into(word: &str, into: &mut String) -> Result<(), AllocError>
-    ensures exact { OnOk result (string_bytes into.new ≡ folding word.now) }
-    ensures of_word { HasWordLength word.now → OnOk result
-        ((1 ≤ string_len into.new) × (string_len into.new ≤ 1024)) }
-    ensures bound { OnOk result (string_len into.new ≤ 8 * length word.now) }
+/// The words of such a text stand in its folding, each folded ([`crate::words_fold_with_their_text`]).
+pub fn fold_ascii(text: &str, into: &mut String) -> Result<bool, AllocError>
+    ensures is_ascii { IfOk result (λ is_ascii. Decides is_ascii (IsAscii text.now)) }
+    ensures exact { IfOk result (λ is_ascii. IsTrue is_ascii
+        → string_bytes into.new ≡ folding text.now) }
 
     // Memory is taken only where there is too little room.
-    ensures full { OnErr result (string_capacity into.old < length (folding word.now)) }
+    ensures full { OnErr result (string_capacity into.old < length text.now) }
 {
-    into.clear();
-    if word.is_ascii() {
-        into.push_str(word)?;
-        into.make_ascii_lowercase();
-        return Ok(());
+    if !text.is_ascii() {
+        return Ok(false);
     }
-    fold_onto(word, into)
+    into.clear();
+    into.push_str(text)?;
+    into.make_ascii_lowercase();
+    Ok(true)
+}
+
+/// Whether folding leaves a character as it is.
+fn keeps_itself(c: char) -> bool
+    ensures { result ≡ keeps_itself_of c }
+{
+    full_folding(c).is_empty()
+}
+
+/// Whether it leaves each character of a text as it is.
+fn keeps_all(text: &str) -> bool
+    ensures { result ≡ list_all keeps_itself_of (chars text.now) }
+{
+    text.chars().all(keeps_itself)
 }
 
 /// Adds the folding of a word behind what `into` holds. What it holds after an error isn't said.
@@ -57,12 +74,8 @@ pub fn fold_onto(word: &str, into: &mut String) -> Result<(), AllocError>
     ensures full { OnErr result
         (string_capacity into.old < string_len into.old + length (folding word.now)) }
 {
-    if word.is_ascii() {
-        // Byte by byte, since words are short.
-        for byte in word.as_bytes() {
-            into.push(char::from(byte.to_ascii_lowercase()))?;
-        }
-        return Ok(());
+    if keeps_all(word) {
+        return into.push_str(word);
     }
     for c in word.chars().default_case_fold() {
         into.push(c)?;

@@ -14,7 +14,7 @@ mod runs;
 mod words;
 
 pub use flags::{Flag, Flags};
-pub use folding::{fold, fold_into, fold_onto};
+pub use folding::{fold, fold_ascii, fold_onto};
 pub use kind::TextKind;
 pub use laws::{words_are_in_order, words_fold_with_their_text};
 pub use one_word::{is_one_word, is_part_of_word};

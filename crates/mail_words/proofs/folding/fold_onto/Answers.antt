@@ -1,15 +1,18 @@
-use Rattle.mail_words.proofs.Imports.{◌≡◌, ◌+◌, ◌≤◌, ◌++◌, List, ℕ, length, take, encode_utf8, string_bytes, ap, ◌∙◌, arith, length-append, length-map, length-encode, len_utf8_ascii, lowercase_ascii, to_ascii_lowercase, folding}
-use Rattle.std.proofs.Common.{Global, String, string_len, map, take_all, length-take-le}
+use Rattle.mail_words.proofs.Imports.{◌≡◌, ◌+◌, ◌≤◌, ◌++◌, List, ℕ, length, encode_utf8, string_bytes, ap, arith, length-append, folding}
+use Rattle.std.proofs.Common.{Global, String, string_len}
 use Rattle.std.proofs.lemmas.Result.{err_from_is_err_and}
-use Rattle.mail_words.proofs.FoldingLemmas.{folding-ascii, length-folding-ascii, length-folding, folding_some, folds_from_start, folds_further, folds_to_end, folds_within}
+use Rattle.mail_words.proofs.FoldingLemmas.{length-folding, folding-same, folding_some, folds_from_start, folds_further, folds_to_end, folds_within}
 use Rattle.mail_words.proofs.folding.fold_onto.Goals as goal
 
 -- what it grew by
 grown : (old new : String Global) (word : List ℕ) → string_bytes new ≡ string_bytes old ++ folding word → string_len new ≡ string_len old + length (folding word)
 grown old new word is = omega (arith, ap length is, length-append (string_bytes old) (folding word), old.bytes.ok.0, new.bytes.ok.0)
 
-pub returns-then-is_ascii-clause-exact : goal.returns-then-is_ascii-clause-exact
-returns-then-is_ascii-clause-exact c = grind (arith, folding-ascii, take_all)
+pub returns-then-keeps_all-clause-exact : goal.returns-then-keeps_all-clause-exact
+returns-then-keeps_all-clause-exact c = grind (arith, folding-same)
+
+pub returns-then-keeps_all-clause-full : goal.returns-then-keeps_all-clause-full
+returns-then-keeps_all-clause-full c = grind (arith, folding-same)
 
 pub loop-c-init : goal.loop-c-init
 loop-c-init c = record {
@@ -19,24 +22,16 @@ loop-c-init c = record {
 
 pub loop-c-preserved : goal.loop-c-preserved
 loop-c-preserved c = record {
-  folds = rw c.in_ok-push-2.ensures.bytes (folds_further _ _ _ _ _ c.loop-c.invariant.folds c.in-Some.ensures.steps);
-  roomy = omega (arith, c.in_ok-push-2.ensures.capacity);
+  folds = rw c.in_ok-push.ensures.bytes (folds_further _ _ _ _ _ c.loop-c.invariant.folds c.in-Some.ensures.steps);
+  roomy = omega (arith, c.in_ok-push.ensures.capacity);
 }
 
 pub returns-in_err-push-clause-full : goal.returns-in_err-push-clause-full
 returns-in_err-push-clause-full c =
     let refused = err_from_is_err_and c.from_residual.result c.from_residual.ensures.1 in
-    let so_far : List ℕ = map to_ascii_lowercase (take c.loop-byte.byte-index c.args.word.now) in
-    let few : length so_far ≤ c.loop-byte.byte-index = omega (arith, length-map (take c.loop-byte.byte-index c.args.word.now) to_ascii_lowercase, length-take-le c.loop-byte.byte-index c.args.word.now (omega arith)) in
-    rw refused.1
-    (grind (arith, few, c.in_err-push.ensures.full, length-encode, len_utf8_ascii, lowercase_ascii, c.loop-byte.invariant.written, length-append, length-folding-ascii c.args.word.now c.if-is_ascii.ensures.cases))
-
-pub returns-in_err-push-2-clause-full : goal.returns-in_err-push-2-clause-full
-returns-in_err-push-2-clause-full c =
-    let refused = err_from_is_err_and c.from_residual-in_err-push-2.result c.from_residual-in_err-push-2.ensures.1 in
     let all : List ℕ = string_bytes c.args.into.now ++ folding c.args.word.now in
     let within : length (string_bytes c.loop-c.into ++ encode_utf8 c.in-Some.c) ≤ length all = folds_within _ _ _ (folds_further _ _ _ _ _ c.loop-c.invariant.folds c.in-Some.ensures.steps) in
-    rw refused.1 (omega (arith, c.in_err-push-2.ensures.full, length-append (string_bytes c.loop-c.into) (encode_utf8 c.in-Some.c), length-append (string_bytes c.args.into.now) (folding c.args.word.now), c.args.into.now.bytes.ok.0))
+    rw refused.1 (omega (arith, c.in_err-push.ensures.full, length-append (string_bytes c.loop-c.into) (encode_utf8 c.in-Some.c), length-append (string_bytes c.args.into.now) (folding c.args.word.now), c.args.into.now.bytes.ok.0))
 
 pub returns-clause-exact : goal.returns-clause-exact
 returns-clause-exact c = folds_to_end _ _ _ _ c.loop-c.invariant.folds c.in-None.ensures.steps
