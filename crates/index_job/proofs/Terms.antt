@@ -1,7 +1,9 @@
 -- What adding terms makes of a builder's draft.
 use Rattle.index_job.proofs.Words.{◌≡◌, ◌<◌, ◌≤◌, ℕ, zero, Bor, List, [], ◌∷◌, ◌++◌, length, Option, IfSome, Ok, Err, option_map, refl, ap, ◌∙◌, subst, arith, suc, drop, take, map, append_assoc, get_or, ◌+◌, Vec, BuildFault, Global, AllByRecursion, nat_tests, drop_more, map-append, length-map, length-take-le, LinkId, Text, TextKind, Key, Draft, with_pair, added, refusal, stepped, IsInMessage, with_terms, draft_with_terms, IsTermFault, RefusesTerms, Term, link_terms, word_terms, HasTermLength}
 use Rattle.mail_index.specs.declared.kind.Kind.{Kind}
+use Rattle.mail_index.specs.Builders.{HasPair}
 use Rattle.mail_index.proofs.BuildLaws.BuilderSteps.{added-is}
+use Rattle.mail_index.proofs.BuildLaws.HadPairs.{with_pair-had}
 
 -- ---- keys only become more
 
@@ -54,6 +56,16 @@ pub still-refuses : (us : List Term) (o : Option Draft) → RefusesTerms o → R
 still-refuses us o h = grind (arith, with_terms-more)
 
 -- ---- words that wait
+
+-- a term that the keys have already is there behind others too
+terms-had : (n : ℕ) (ts : List Term) (kind : Kind) (text : List ℕ) (ks : List Key) → with_pair kind text n ks ≡ ks → with_terms n (ts ++ (kind, text) ∷ []) ks ≡ with_terms n ts ks
+terms-had n [] kind text ks had = had
+terms-had n (t ∷ ts) kind text ks had = terms-had n ts kind text (with_pair t.0 t.1 n ks) (with_pair-had n t.0 t.1 ks kind text had)
+
+-- a word that the message has already needn't wait
+pub word-had : (kind : TextKind) (old : List (List ℕ)) (word : List ℕ) (o : Option Draft) → IfSome o (HasPair (Text kind) word)
+    → option_map (draft_with_terms (word_terms kind (old ++ word ∷ []))) o ≡ option_map (draft_with_terms (word_terms kind old)) o
+word-had kind old word o had = grind (arith, map-append, option_map, terms-had)
 
 -- a word waits, or all that waited are added first: what is left to add behind it is the same
 pub waits-next : (kind : TextKind) (old : List (List ℕ)) (word : List ℕ) (new : List (List ℕ)) (us : List Term) (o n : Option Draft)

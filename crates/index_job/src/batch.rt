@@ -9,7 +9,7 @@ use mail_words::TextKind;
 use std::marker::Model;
 
 /// So many words wait: their keys come from memory together, in about the time of one.
-const MOST_WAITING: usize = 16;
+const MOST_WAITING: usize = 8;
 
 /// Folded words that wait for the memory of their keys. It takes no memory of its own.
 #[derive(Drop)]
@@ -73,8 +73,10 @@ impl<'a> Batch<'a> {
         Ok(())
     }
 
-    /// A word waits behind the others. Where so many wait already, they are added first. (Inlined, since it is called for each word.)
-    #[inline]
+    /// A word waits behind the others, unless the message has it already, as half of all words are. Where so many wait already,
+    /// they are added first.
+    // Inlined, since it is called for each word.
+    #[inline(always)]
     pub(crate) fn push(
         &mut self,
         builder: &mut Builder,
@@ -90,10 +92,15 @@ impl<'a> Batch<'a> {
             (draft_with_terms (word_terms kind self.old)) builder.old)) }
         ensures phase { IfSome builder.new IsInMessage }
     {
+        let key = Kind::Text(kind);
+        let place = Prefetched::of(key, word);
+        if builder.has_recent(key, word, place) {
+            return Ok(());
+        }
         if self.is_full() {
             self.add(builder, kind)?;
         }
-        self.wait(kind, word);
+        self.wait(word, place);
         Ok(())
     }
 
@@ -104,15 +111,15 @@ impl<'a> Batch<'a> {
         self.count >= MOST_WAITING
     }
 
-    /// A word waits behind the others.
-    fn wait(&mut self, kind: TextKind, word: &'a [u8])
+    /// A word waits behind the others, with a guess where its key stands.
+    fn wait(&mut self, word: &'a [u8], place: Prefetched)
         requires word { HasTermLength word.now }
         requires room { length self.old < MOST_WAITING }
         ensures { self.new ≡ self.old ++ word.now ∷ [] }
     {
         let count = self.count;
         self.words[count] = word;
-        self.places[count] = Prefetched::of(Kind::Text(kind), word);
+        self.places[count] = place;
         self.count = count + 1;
     }
 }

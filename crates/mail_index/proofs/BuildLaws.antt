@@ -3,6 +3,7 @@ pub mod BuilderSteps
 pub mod DraftLemmas
 pub mod EntryLemmas
 pub mod FrontLemmas
+pub mod HadPairs
 pub mod KeyMapLemmas
 pub mod KeyPlaces
 pub mod PageLemmas

@@ -43,6 +43,10 @@ added kind text d =
     let keys = with_pair kind text (length d.table.messages) d.table.keys in
     if nat_le (length keys) d.most then Ok (record d { table = record d.table { keys = keys } }) else Err TooMany
 
+-- the message that is open has this key already: to add it changes nothing
+abbrev pub HasPair : Kind → List ℕ → Draft → Type 0
+HasPair kind text d = with_pair kind text (length d.table.messages) d.table.keys ≡ d.table.keys
+
 abbrev pub ended_message : Record → Draft → Result Draft BuildFault
 ended_message r d = Ok (record d { in_message = false; table = record d.table { messages = d.table.messages ++ r ∷ [] } })
 

@@ -4,7 +4,7 @@ ghost use Rattle.std.specs.Prelude.{◌≡◌, ◌<◌, ◌≤◌, None, OnErr};
 use crate::compared::have_numbers;
 use crate::counted::Counted;
 use crate::index_files::{ARCHIVE_DIGEST, ONLY};
-use mail_index::{BuildFault, Builder, IndexView, Kind, Steps, is_path};
+use mail_index::{BuildFault, Builder, IndexView, Kind, Prefetched, Steps, is_path};
 use mail_words::TextKind;
 use mbox_cutter::MemoryOut;
 use std::alloc::Global;
@@ -93,6 +93,31 @@ fn one_more_is_too_many(rt: HostRuntime) {
         let as_wanted = has_too_many(rt.alloc(), second) == Some(true);
         assert!(rt; as_wanted, "{second:?}");
     }
+}
+
+/// Whether a builder tells that the open message has a key, once it has it, and neither of another key nor in the next message. It
+/// is None where memory is wanting.
+fn tells_what_it_has(alloc: Global) -> Option<bool> {
+    if !is_path(PATH) {
+        return None;
+    }
+    let place = Prefetched::of(Kind::OwnId, b"1@x");
+    let mut builder = Builder::new(alloc, 2);
+    builder.begin_archive(PATH).ok()?;
+    builder.begin_message().ok()?;
+    let before = builder.has_recent(Kind::OwnId, b"1@x", place);
+    builder.add(Kind::OwnId, b"1@x").ok()?;
+    let behind = builder.has_recent(Kind::OwnId, b"1@x", place);
+    let of_others = builder.has_recent(Kind::LinkId, b"1@x", place);
+    builder.end_message(ONLY).ok()?;
+    builder.begin_message().ok()?;
+    let in_next = builder.has_recent(Kind::OwnId, b"1@x", place);
+    Some([before, behind, of_others, in_next] == [false, true, false, false])
+}
+
+#[test]
+fn keys_that_came_are_told(rt: HostRuntime) {
+    assert!(rt; tells_what_it_has(rt.alloc()) == Some(true));
 }
 
 /// Whether a key of so many bytes is written and found. It is None where memory is wanting.

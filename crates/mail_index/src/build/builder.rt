@@ -1,11 +1,11 @@
 //! Builds an index.
-ghost use Rattle.std.specs.Prelude.{◌≡◌, ◌^◌, ◌<◌, ◌≤◌, ◌-◌, length, Some, None, Err, IfOk, IfErr, IfSome, IfNone, OnErr, is_ok, if◌then◌else◌};
+ghost use Rattle.std.specs.Prelude.{◌≡◌, ◌^◌, ◌<◌, ◌≤◌, ◌-◌, length, Some, None, Err, IfOk, IfErr, IfSome, IfNone, IsTrue, OnErr, is_ok, if◌then◌else◌};
 ghost use Rattle.std.specs.Io.KnownBytes.{Appends};
 ghost use Rattle.contract_words.specs.Answers.{Gives};
 ghost use Rattle.contract_words.specs.Devices.{Counted, Sends};
 ghost use Rattle.mail_index.specs.Files.{HasSmallSections, index_file};
 ghost use Rattle.mail_index.specs.Tables.{IsPath, IsWellFormed};
-ghost use Rattle.mail_index.specs.Builders.{empty_draft, begun_archive, begun_message, added, ended_message, ended_archive, refusal, is_device, stepped, archive_count, end_of, IsNextMessage, IsBetweenArchives, IsInArchive, IsInMessage, IsWithinMost};
+ghost use Rattle.mail_index.specs.Builders.{empty_draft, begun_archive, begun_message, added, ended_message, ended_archive, refusal, is_device, stepped, archive_count, end_of, IsNextMessage, IsBetweenArchives, IsInArchive, IsInMessage, IsWithinMost, HasPair};
 ghost use Rattle.mail_index.specs.Limits.{most_in_archive, most_in_index, most_in_key};
 
 use crate::build::build_fault::BuildFault;
@@ -115,6 +115,18 @@ impl Builder {
     pub fn prefetch(&self, places: &mut [Prefetched]) {
         if let Some(draft) = &self.draft {
             draft.prefetch(places);
+        }
+    }
+
+    /// Whether it is plain to see that the message that is open has a key already, so that to add it would change nothing. To
+    /// answer false would cost only time. It looks at one of the keys that came last, and needs no guess where the key stands.
+    #[inline(always)]
+    pub fn has_recent(&self, kind: Kind, text: &[u8], place: Prefetched) -> bool
+        ensures { IsTrue result → IfSome self.now (HasPair kind text.now) }
+    {
+        match &self.draft {
+            Some(draft) => draft.has_recent(kind, text, place),
+            None => false,
         }
     }
 

@@ -1,5 +1,5 @@
 //! The table that is being built.
-ghost use Rattle.std.specs.Prelude.{None, ◌≡◌, ◌^◌, ◌<◌, ◌≤◌, true, length, IsSome, IfSome, FitsSigned, IfOk, OnOk, OnErr, ◌-◌, flat_map, string_len};
+ghost use Rattle.std.specs.Prelude.{None, ◌≡◌, ◌^◌, ◌<◌, ◌≤◌, true, length, IsSome, IfSome, IsTrue, FitsSigned, IfOk, OnOk, OnErr, ◌-◌, flat_map, string_len};
 ghost use Rattle.std.specs.Int.{w64};
 ghost use Rattle.std.specs.Io.KnownBytes.{Appends};
 ghost use Rattle.sha2.specs.Sha256.{sha256};
@@ -9,7 +9,7 @@ ghost use Rattle.mail_index.specs.Files.{HasSmallSections, body, index_file};
 ghost use Rattle.mail_index.specs.Inside.SectionCounts.{IsCountOf, counted_length, section_of};
 ghost use Rattle.mail_index.specs.Inside.Signing.{Writes};
 ghost use Rattle.mail_index.specs.Tables.{IsPath, IsWellFormed};
-ghost use Rattle.mail_index.specs.Builders.{empty_draft, begun_archive, begun_message, added, ended_message, ended_archive, refusal, archive_count, end_of, IsNextMessage, IsBetweenArchives, IsInMessage, IsWithinMost};
+ghost use Rattle.mail_index.specs.Builders.{empty_draft, begun_archive, begun_message, added, ended_message, ended_archive, refusal, archive_count, end_of, IsNextMessage, IsBetweenArchives, IsInMessage, IsWithinMost, HasPair};
 ghost use Rattle.mail_index.specs.Limits.{four_byte_limit, most_in_archive, most_in_index};
 
 use crate::build::build_fault::BuildFault;
@@ -107,6 +107,15 @@ impl Draft {
     /// Guesses where keys stand.
     pub(crate) fn prefetch(&self, places: &mut [Prefetched]) {
         self.keys.prefetch(places);
+    }
+
+    /// Whether it is plain to see that the message that is open has a key already.
+    #[inline(always)]
+    pub(crate) fn has_recent(&self, kind: Kind, text: &[u8], place: Prefetched) -> bool
+        ensures { IsTrue result → HasPair kind text.now self.now }
+    {
+        self.keys
+            .has_recent(kind, text, self.records.len() as u32, place)
     }
 
     /// Adds a key to the message that is open.

@@ -1,7 +1,8 @@
 //! A key of an index while it is built.
-ghost use Rattle.std.specs.Prelude.{◌≡◌, ◌+◌, ◌<◌, ◌≤◌, [], ◌∷◌, ◌++◌, length, take, IfSome, OnOk, OnErr, IfOk};
+ghost use Rattle.std.specs.Prelude.{◌≡◌, ◌+◌, ◌<◌, ◌≤◌, [], ◌∷◌, ◌++◌, length, take, IfSome, IsTrue, OnOk, OnErr, IfOk};
 ghost use Rattle.std.specs.Bool.{Decides};
 ghost use Rattle.std.specs.Ordering.{is_eq};
+ghost use Rattle.std.specs.declared.cmp.Ordering.TheVariants.{Equal};
 ghost use Rattle.mail_index.specs.Inside.KeyMaps.{new_key, with_one, HoldsFront};
 ghost use Rattle.mail_index.specs.Kinds.{kind_number};
 ghost use Rattle.mail_index.specs.LookUps.{lies_to};
@@ -118,7 +119,17 @@ impl KeyEntry {
         }
     }
 
+    /// Whether it is this key, and has a message's number already.
+    #[inline(always)]
+    pub(crate) fn has(&self, kind: Kind, text: &[u8], number: u32) -> bool
+        ensures { IsTrue result → (lies_to kind text.now self.now ≡ Equal)
+            × (with_one self.now number ≡ self.now) }
+    {
+        number < self.next && self.is_key(kind, text)
+    }
+
     /// Whether it is this key.
+    #[inline(always)]
     pub(crate) fn is_key(&self, kind: Kind, text: &[u8]) -> bool
         ensures { result ≡ is_eq (lies_to kind text.now self.now) }
     {
@@ -165,6 +176,7 @@ impl KeyEntry {
 }
 
 /// Whether two texts are one. Most have two to sixteen bytes, and need no loop.
+#[inline(always)]
 fn is_same_text(own: &[u8], text: &[u8]) -> bool
     ensures { Decides result (own.now ≡ text.now) }
 {

@@ -7,6 +7,9 @@ use std::alloc::{AllocError, Global};
 /// How many hints there are.
 const SLOTS: usize = 1048576;
 
+/// How many of the hints that came last stand apart too, where they are quickly reached.
+const RECENT: usize = 512;
+
 /// What stands in a slot before it has a hint: more than the number of any entry.
 const NOTHING: u32 = u32::MAX;
 
@@ -22,6 +25,8 @@ const SPREAD: u64 = 0x9E37_79B9_7F4A_7C15;
 #[derive(Drop)]
 pub(crate) struct KeyHints {
     numbers: Vec<u32>,
+    // By the lowest bits of their slots.
+    recent: [u32; RECENT],
 }
 
 /// A slot of the hints.
@@ -83,6 +88,7 @@ impl KeyHints {
     {
         KeyHints {
             numbers: Vec::new(alloc),
+            recent: [NOTHING; RECENT],
         }
     }
 
@@ -108,10 +114,25 @@ impl KeyHints {
             .unwrap_or(NOTHING)
     }
 
+    /// The number that came last of those whose slots end alike, or more than all entries have.
+    #[inline]
+    pub(crate) fn recent(&self, slot: Slot) -> u32 {
+        self.recent[slot.index as usize % RECENT]
+    }
+
+    /// Notes that a number has come, which stands in its slot.
+    #[inline]
+    pub(crate) fn note_recent(&mut self, slot: Slot, number: u32)
+        ensures { self.new.numbers ≡ self.old.numbers }
+    {
+        self.recent[slot.index as usize % RECENT] = number;
+    }
+
     /// Leaves a number in a slot.
     pub(crate) fn note(&mut self, slot: Slot, number: u32)
         ensures { self.new.numbers.items ≡ set self.old.numbers.items slot.index number }
     {
+        self.note_recent(slot, number);
         if let Some(hint) = self.numbers.get_mut(slot.index as usize) {
             *hint = number;
         }

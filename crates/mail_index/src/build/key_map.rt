@@ -1,5 +1,5 @@
 //! The keys of an index while it is built.
-ghost use Rattle.std.specs.Prelude.{◌≡◌, ◌-◌, ◌<◌, ◌≤◌, [], length, set, IfSome, IfOk, IfErr, OnOk, OnErr, MatchResult};
+ghost use Rattle.std.specs.Prelude.{◌≡◌, ◌-◌, ◌<◌, ◌≤◌, [], length, set, IfSome, IfOk, IfErr, IsTrue, OnOk, OnErr, MatchResult};
 ghost use Rattle.mail_index.specs.Inside.KeyMaps.{keys_in, with_added, with_one, IsEntryOf, AreInStep, IsPlaceFor, IsWantOf};
 ghost use Rattle.mail_index.specs.KeysRead.{key_at};
 ghost use Rattle.mail_index.specs.Builders.{with_pair};
@@ -69,6 +69,17 @@ impl KeyMap {
         }
     }
 
+    /// Whether it is plain to see that a key has a message's number already. It asks one of the keys that came last.
+    #[inline(always)]
+    pub(crate) fn has_recent(&self, kind: Kind, text: &[u8], number: u32, place: Prefetched) -> bool
+        ensures { IsTrue result → with_pair kind text.now number self.now ≡ self.now }
+    {
+        match self.entries.get(self.hints.recent(place.slot) as usize) {
+            Some(entry) => entry.has(kind, text, number),
+            None => false,
+        }
+    }
+
     /// Adds a message's number to a key's numbers, unless it stands there, and the key where it is new.
     pub(crate) fn add(
         &mut self,
@@ -97,6 +108,7 @@ impl KeyMap {
         // A right guess needs neither the order nor the hints.
         if let Some(entry) = guessed(&self.entries, place, kind, text) {
             add_number(&mut self.entries, &self.order, entry, &key)?;
+            self.hints.note_recent(place.slot, entry);
             return Ok(());
         }
         self.add_searched(alloc, place.slot, key)

@@ -1,4 +1,5 @@
 use Rattle.mail_index.proofs.BuildLaws.PairLaw.{with_pair-has, with_pair-keeps, with_pair-tells}
+use Rattle.mail_index.proofs.BuildLaws.HadPairs.{with_pair-had}
 use Rattle.mail_index.proofs.pairs.pairs_law.Goals as goal
 
 pub returns-clause-added : goal.returns-clause-added
@@ -9,3 +10,6 @@ returns-clause-kept c = with_pair-keeps
 
 pub returns-clause-only : goal.returns-clause-only
 returns-clause-only c = with_pair-tells
+
+pub returns-clause-had : goal.returns-clause-had
+returns-clause-had c = with_pair-had

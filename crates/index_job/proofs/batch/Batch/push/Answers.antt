@@ -1,5 +1,6 @@
+use Rattle.std.proofs.Common.{arith}
 use Rattle.index_job.proofs.Words.{◌∙◌, [], ◌∷◌, ◌++◌, ℕ, List, Option, option_map, sym, ap, Draft, draft_with_terms, word_terms}
-use Rattle.index_job.proofs.Terms.{added-first}
+use Rattle.index_job.proofs.Terms.{added-first, word-had}
 use Rattle.index_job.proofs.batch.Batch.push.Goals.{then-is_full+in_ok-add, else-is_full}
 use Rattle.index_job.proofs.batch.Batch.push.Goals as goal
 
@@ -15,3 +16,6 @@ returns-clause-ok c =
       | else-is_full w ↦ ap (λ (l : List (List ℕ)). option_map (draft_with_terms (word_terms kind l)) before) (sym (c.wait.ensures ∙ ap (λ (l : List (List ℕ)). l ++ word ∷ []) w.self-is))
           ∙ ap (option_map (draft_with_terms (word_terms kind c.wait.new.self))) (sym w.builder-is)
     ]
+
+pub returns-then-has_recent-clause-ok : goal.returns-then-has_recent-clause-ok
+returns-then-has_recent-clause-ok c = word-had c.args.kind c.args.self.now c.args.word.now c.args.builder.now (grind arith)

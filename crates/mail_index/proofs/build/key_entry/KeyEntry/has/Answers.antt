@@ -1,0 +1,7 @@
+use Rattle.std.proofs.Common.{arith}
+use Rattle.mail_index.proofs.Words.{ranked}
+use Rattle.mail_index.proofs.BuildLaws.EntryLemmas.{key-same}
+use Rattle.mail_index.proofs.build.key_entry.KeyEntry.has.Goals as goal
+
+pub returns-then-number-self : goal.returns-then-number-self
+returns-then-number-self c = grind (arith, key-same, ranked)
