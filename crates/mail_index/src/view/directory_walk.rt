@@ -15,9 +15,8 @@ pub(crate) fn compare_keys(number: u8, text: &[u8], other_number: u8, other_text
     ensures { result ≡ key_cmp number text.now other_number other_text.now }
 {
     match number.cmp(&other_number) {
-        Ordering::Less => Ordering::Less,
         Ordering::Equal => text.cmp(other_text),
-        Ordering::Greater => Ordering::Greater,
+        other => other,
     }
 }
 
@@ -74,16 +73,11 @@ fn behind_entry<'a>(
 {
     let text_length = u32_at(entries, TEXT_LENGTH_AT);
     let end = end_before(entries.split_at(ENTRY).1, total);
-    if !is_entry(entries, version) {
-        return None;
-    }
-    if u64_at(entries, TEXT_PLACE_AT) != place.text_place {
-        return None;
-    }
-    if u64_at(entries, POSTING_PLACE_AT) != place.place {
-        return None;
-    }
-    if text_length == 0 {
+    if !is_entry(entries, version)
+        || u64_at(entries, TEXT_PLACE_AT) != place.text_place
+        || u64_at(entries, POSTING_PLACE_AT) != place.place
+        || text_length == 0
+    {
         return None;
     }
     let rest = texts.split_at(place.text_place as usize).1;
@@ -91,10 +85,7 @@ fn behind_entry<'a>(
         return None;
     }
     let text = rest.split_at(text_length as usize).0;
-    if place.place >= end {
-        return None;
-    }
-    if end > total {
+    if place.place >= end || end > total {
         return None;
     }
     match compare_keys(place.number, place.text, entries[KIND_AT], text) {
@@ -104,8 +95,7 @@ fn behind_entry<'a>(
             number: entries[KIND_AT],
             text,
         }),
-        Ordering::Equal => None,
-        Ordering::Greater => None,
+        Ordering::Equal | Ordering::Greater => None,
     }
 }
 
@@ -136,8 +126,5 @@ pub(crate) fn are_entries(
         };
         rest = rest.split_at(ENTRY).1;
     }
-    if place.text_place != texts.len() as u64 {
-        return false;
-    }
-    place.place == total
+    place.text_place == texts.len() as u64 && place.place == total
 }

@@ -63,9 +63,7 @@ pub(crate) fn signed_version(bytes: &[u8]) -> Result<Version, IndexFault>
     if !is_same(bytes.split_at(MAGIC.len()).0, &MAGIC) {
         return Err(IndexFault::BadMagic);
     }
-    let Some(version) = Version::of(u32_at(bytes, VERSION_AT)) else {
-        return Err(IndexFault::BadVersion);
-    };
+    let version = Version::of(u32_at(bytes, VERSION_AT)).ok_or(IndexFault::BadVersion)?;
     if !has_digest(bytes) {
         return Err(IndexFault::BadDigest);
     }

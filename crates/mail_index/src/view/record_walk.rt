@@ -40,10 +40,7 @@ fn behind_message<'a>(
         (λ p. MayFollow (version_number version) count place.entry message
         × IsBehindMessage (version_number version) count place.entry message p) }
 {
-    if !is_behind(place.archive, place.offset, message) {
-        return None;
-    }
-    if message.archive >= count {
+    if !is_behind(place.archive, place.offset, message) || message.archive >= count {
         return None;
     }
     let archives = behind_archives(
@@ -53,14 +50,8 @@ fn behind_message<'a>(
         version,
     );
     let most = first_length(archives, count - message.archive, version);
-    let offset = match message.offset.checked_add(message.length) {
-        Some(offset) => offset,
-        None => return None,
-    };
-    if offset > most {
-        return None;
-    }
-    if message.size >= message.length {
+    let offset = message.offset.checked_add(message.length)?;
+    if offset > most || message.size >= message.length {
         return None;
     }
     Some(RecordPlace {
