@@ -101,20 +101,14 @@ fn word_of<'a>(charset: &'a [u8], encoding: &[u8], text: &'a [u8]) -> Option<Enc
 fn after_question(bytes: &[u8]) -> Option<&[u8]>
     ensures { option_map (λ rest. rest.now) result ≡ after (question ∷ []) bytes.now }
 {
-    match bytes {
-        [b'?', rest @ ..] => Some(rest),
-        _ => None,
-    }
+    bytes.strip_prefix(b"?")
 }
 
 /// What follows `=`.
 fn after_equals(bytes: &[u8]) -> Option<&[u8]>
     ensures { option_map (λ rest. rest.now) result ≡ after (equals_sign ∷ []) bytes.now }
 {
-    match bytes {
-        [b'=', rest @ ..] => Some(rest),
-        _ => None,
-    }
+    bytes.strip_prefix(b"=")
 }
 
 /// The encoded word that begins with `=` and these bytes, and what follows it.

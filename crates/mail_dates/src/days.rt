@@ -82,8 +82,5 @@ impl DaysOfYear {
 fn begin_by(by: i32, days: Option<Days>) -> bool
     ensures { result ≡ begin_by by days }
 {
-    match days {
-        Some(days) => days.first <= by,
-        None => false,
-    }
+    days.is_some_and(|days| days.first <= by)
 }

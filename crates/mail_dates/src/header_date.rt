@@ -42,10 +42,7 @@ fn date_from(day: &[u8], rest: &[u8]) -> Option<i64>
 fn offset_of_first(rest: &[u8]) -> i32
     ensures { result ≡ zone_offset (tokens rest.now) }
 {
-    match next_token(rest) {
-        Some((zone, _)) => offset_of(zone),
-        None => 0,
-    }
+    next_token(rest).map_or(0, |(zone, _)| offset_of(zone))
 }
 
 fn date_of_parts(day: &[u8], month: &[u8], year: &[u8], time: &[u8], offset: i32) -> Option<i64>

@@ -12,10 +12,7 @@ pub fn number_in(least: usize, most: usize, text: &[u8]) -> Option<u16>
     ensures value { result ≡ number_in least most text.now }
     ensures bound { IfSome result (λ number. number < 10 ^ most) }
 {
-    if text.len() < least || text.len() > most {
-        return None;
-    }
-    if !are_digits(text) {
+    if text.len() < least || text.len() > most || !are_digits(text) {
         return None;
     }
     Some(decimal_value(text) as u16)

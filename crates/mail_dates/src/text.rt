@@ -9,10 +9,8 @@ pub fn cut(text: &[u8], byte: u8) -> Option<(&[u8], &[u8])>
         (λ parts. slice_split (λ b. b == byte) text.now
         ≡ parts.0.now ∷ slice_split (λ b. b == byte) parts.1.now) }
 {
-    match place_of(text, byte) {
-        Some(at) => Some((&text[..at], &text[at + 1..])),
-        None => None,
-    }
+    let at = place_of(text, byte)?;
+    Some((&text[..at], &text[at + 1..]))
 }
 
 pub fn place_of(text: &[u8], byte: u8) -> Option<usize>

@@ -11,10 +11,7 @@ use crate::text::place_of;
 pub fn without_comments(text: &[u8]) -> &[u8]
     ensures { result.now ≡ without_comments text.now }
 {
-    match place_of(text, b'(') {
-        Some(at) => &text[..at],
-        None => text,
-    }
+    place_of(text, b'(').map_or(text, |at| &text[..at])
 }
 
 /// The first token, and what stands behind it.
@@ -48,10 +45,8 @@ fn cut_at_gap(text: &[u8]) -> Option<(&[u8], &[u8])>
     ensures parts { MatchOption result (slice_split is_gap text.now ≡ text.now ∷ [])
         (λ parts. slice_split is_gap text.now ≡ parts.0.now ∷ slice_split is_gap parts.1.now) }
 {
-    match place_of_gap(text) {
-        Some(at) => Some((&text[..at], &text[at + 1..])),
-        None => None,
-    }
+    let at = place_of_gap(text)?;
+    Some((&text[..at], &text[at + 1..]))
 }
 
 fn place_of_gap(text: &[u8]) -> Option<usize>

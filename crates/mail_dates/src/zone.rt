@@ -32,14 +32,8 @@ fn numeric_offset(zone: &[u8]) -> Option<i32>
     ensures { result ≡ numeric_offset zone.now }
 {
     match zone {
-        [b'+', digits @ ..] => match offset_size(digits) {
-            Some(east) => Some(east as i32),
-            None => None,
-        },
-        [b'-', digits @ ..] => match offset_size(digits) {
-            Some(west) => Some(-(west as i32)),
-            None => None,
-        },
+        [b'+', digits @ ..] => Some(offset_size(digits)? as i32),
+        [b'-', digits @ ..] => Some(-(offset_size(digits)? as i32)),
         _ => None,
     }
 }
@@ -74,10 +68,7 @@ fn hours_of_zone(lower: [u8; 3]) -> u8
     ensures { result
         ≡ option_map_or (λ zone. zone.1) (find (λ zone. bytes_eq zone.0 lower) zones) 0 }
 {
-    match zone_named(lower) {
-        Some(zone) => zone.1,
-        None => 0,
-    }
+    zone_named(lower).map_or(0, |zone| zone.1)
 }
 
 fn zone_named(lower: [u8; 3]) -> Option<&'static ([u8; 3], u8)>

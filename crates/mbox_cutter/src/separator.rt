@@ -12,10 +12,8 @@ use memchr::memchr;
 pub fn is_separator(line: &[u8]) -> bool
     ensures { result ≡ is_separator line.now }
 {
-    match line.strip_prefix(b"From ") {
-        Some(rest) => has_time_then_year(without_break(rest)),
-        None => false,
-    }
+    line.strip_prefix(b"From ")
+        .is_some_and(|rest| has_time_then_year(without_break(rest)))
 }
 
 /// The line without its final LF and a CR directly before it.
@@ -26,10 +24,7 @@ pub fn without_break(line: &[u8]) -> &[u8]
     if let Some(text) = line.strip_suffix(b"\r\n") {
         return text;
     }
-    match line.strip_suffix(b"\n") {
-        Some(text) => text,
-        None => line,
-    }
+    line.strip_suffix(b"\n").unwrap_or(line)
 }
 
 /// Whether some token is a time, and some later one a year.

@@ -205,8 +205,5 @@ fn bit(value: u8, set: bool) -> u8
 fn date_number(date: Option<i64>) -> u64
     ensures { result ≡ date_number date }
 {
-    match date {
-        Some(second) => second.cast_unsigned(),
-        None => 0,
-    }
+    date.map_or(0, i64::cast_unsigned)
 }

@@ -119,10 +119,7 @@ fn first_id(alloc: Global, body: &[u8]) -> Result<Option<MessageId>, AllocError>
     ensures size { IfOk result (λ id. IfSome id IsSizedId) }
 {
     let ids = message_ids(alloc, body)?;
-    match ids.into_iter().next() {
-        Some(id) => Ok(Some(MessageId::of(id))),
-        None => Ok(None),
-    }
+    Ok(ids.into_iter().next().map(MessageId::of))
 }
 
 /// The first id of the first Message-ID field that has one.

@@ -43,10 +43,7 @@ pub(crate) fn after_dashes(line: &[u8]) -> Option<&[u8]>
 fn closes(text: &[u8]) -> bool
     ensures { result ≡ are_blanks_of (after_of dash_dash text.now) }
 {
-    match after(b"--", text) {
-        Some(behind) => are_blanks(behind),
-        None => false,
-    }
+    after(b"--", text).is_some_and(are_blanks)
 }
 
 /// What a line is to a multipart, by what follows the two dashes and its boundary.
@@ -79,8 +76,5 @@ pub(crate) fn delimiter_behind(boundary: &[u8], text: &[u8]) -> Option<Delimiter
     if !has_last_of(boundary, text) {
         return None;
     }
-    match after(boundary, text) {
-        Some(rest) => delimiter_of_rest(rest),
-        None => None,
-    }
+    delimiter_of_rest(after(boundary, text)?)
 }

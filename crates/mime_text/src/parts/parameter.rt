@@ -151,10 +151,7 @@ fn read_piece<'a>(text: &'a [u8], into: &mut Vec<u8>) -> Result<Piece<'a>, Alloc
 fn has_name(found: Option<&[u8]>, name: &[u8]) -> bool
     ensures { result ≡ option_map_or (λ text. is_named_of text.now name.now) found.entry false }
 {
-    match found {
-        Some(text) => is_named(text, name),
-        None => false,
-    }
+    found.is_some_and(|text| is_named(text, name))
 }
 
 /// Whether an unfolded value has a parameter of a name, in any ASCII case. The first one counts, and the buffer then holds its

@@ -1,9 +1,9 @@
-use Rattle.mail_dates.proofs.Words.{arith, take_rest, is_gap}
+use Rattle.mail_dates.proofs.Words.{arith, take_rest}
 use Rattle.mail_dates.proofs.Cuts.{split_none, split_some}
 use Rattle.mail_dates.proofs.token.cut_at_gap.Goals as goal
 
-pub returns-in-Some-clause-parts : goal.returns-in-Some-clause-parts
-returns-in-Some-clause-parts c = grind (arith, take_rest, split_some)
+pub returns-clause-parts : goal.returns-clause-parts
+returns-clause-parts c = grind (arith, take_rest, split_some)
 
-pub returns-in-None-clause-parts : goal.returns-in-None-clause-parts
-returns-in-None-clause-parts c = split_none is_gap c.args.text.now c.in-None.ensures
+pub returns-in_err-at-clause-parts : goal.returns-in_err-at-clause-parts
+returns-in_err-at-clause-parts c = grind (arith, split_none)
