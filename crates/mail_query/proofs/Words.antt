@@ -9,7 +9,7 @@ pub use Rattle.mail_query.specs.BooleanTerms.{Parts, cut_query, has_field, is_ph
 pub use Rattle.mail_query.specs.FlagGrammar.{AreFlags, EachFlag, IsFlags, NoFlag}
 pub use Rattle.mail_query.specs.Flags.{flag_of, flags_behind, some_of, with_flag}
 unfoldable pub use Rattle.mail_query.specs.Flags.{flags_of}
-pub use Rattle.mail_query.specs.Inside.Reading.{followed_by, forms_of}
+pub use Rattle.mail_query.specs.Inside.Reading.{forms_of}
 pub use Rattle.mail_query.specs.Inside.Shown.{blank_count, nearest_first, run_length, shown_level, shown_stack, shown_waiting}
 pub use Rattle.mail_query.specs.Kinds.{no_kinds, union}
 pub use Rattle.mail_query.specs.Lexicon.{Lexicon}

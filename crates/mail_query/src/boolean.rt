@@ -49,10 +49,7 @@ fn read_tokens(alloc: Global, text: &str) -> Result<Query, QueryFault>
         number += 1;
     }
     if number == 1 {
-        return Err(QueryFault {
-            number: 1,
-            kind: QueryFaultKind::NoPattern,
-        });
+        return Err(QueryFault::at(1, QueryFaultKind::NoPattern));
     }
     let node = read_end(reader).map_err(|kind| QueryFault::at(number, kind))?;
     Ok(Query::new(node))

@@ -16,6 +16,15 @@ pub struct Kinds {
     pub own_id: bool,
 }
 
+/// The set of these fields of `Kinds`.
+macro_rules! kinds {
+    ($($kind:ident),*) => {
+        Kinds { $($kind: true,)* ..Kinds::NONE }
+    };
+}
+
+pub(crate) use kinds;
+
 impl Kinds {
     ghost use Rattle.mail_query.specs.Kinds.{has_kind, union};
 

@@ -1,11 +1,10 @@
 //! Patterns as mairix writes them.
 ghost use Rattle.std.specs.Prelude.{◌≡◌, map, string_bytes, IfOk, IfErr};
 ghost use Rattle.contract_words.specs.Answers.{Gives};
-ghost use Rattle.mail_query.specs.Query.{query_of, queries_of};
+ghost use Rattle.mail_query.specs.Query.{query_of};
 ghost use Rattle.mail_query.specs.Meaning.{meaning};
 ghost use Rattle.mail_query.specs.Refusals.{kind_refusal, query_refusal, IfRefused};
-ghost use Rattle.mail_query.specs.Inside.Reading.{followed_by};
-ghost use Rattle.mail_query.specs.Mairix.{kinds_of, kinds_of_letter, prefixed_query, pattern_query};
+ghost use Rattle.mail_query.specs.Mairix.{kinds_of, kinds_of_letter, pattern_query};
 ghost use Rattle.mail_query.specs.MairixGrammar.{IsAsked, AskNothing};
 ghost use Rattle.mail_query.specs.MairixFaults.{IsFirstFault};
 ghost use Rattle.mail_query.specs.Mail.{pattern_lexicon, mairix_query};
@@ -15,7 +14,7 @@ mod terms;
 
 use crate::fault::{QueryFault, QueryFaultKind};
 use crate::flags::read_flags;
-use crate::kinds::Kinds;
+use crate::kinds::{Kinds, kinds};
 use crate::mairix::forms::Target;
 use crate::mairix::terms::read_rest;
 use crate::node::{Node, add, all_of};
@@ -26,14 +25,7 @@ use mail_dates::{Moment, range_of};
 use std::alloc::Global;
 
 /// Where a pattern without a prefix is sought: in five of the seven kinds, neither in blind copies nor in names of parts.
-const PLAIN_KINDS: Kinds = Kinds {
-    to: true,
-    cc: true,
-    from: true,
-    subject: true,
-    body: true,
-    ..Kinds::NONE
-};
+const PLAIN_KINDS: Kinds = kinds!(to, cc, from, subject, body);
 
 /// What a list of patterns asks: each of them.
 ///
@@ -60,54 +52,24 @@ fn read_patterns(alloc: Global, patterns: &[String], now: Moment) -> Result<Quer
     ensures memory { IfErr result (λ f. f.kind ≡ QueryFaultKind.OutOfMemory → f.number ≡ 0) }
 {
     if patterns.is_empty() {
-        return Err(QueryFault {
-            number: 1,
-            kind: QueryFaultKind::NoPattern,
-        });
+        return Err(QueryFault::at(1, QueryFaultKind::NoPattern));
     }
     let mut members = Vec::new(alloc);
     for (i, pattern) in patterns.iter().enumerate() {
-        let added = add_pattern(alloc, &mut members, pattern.as_str(), now);
-        added.map_err(|kind| QueryFault::at(i + 1, kind))?;
+        let read = read_pattern(alloc, pattern.as_str(), now);
+        let node = read.map_err(|kind| QueryFault::at(i + 1, kind))?;
+        add(&mut members, node)?;
     }
     Ok(Query::new(all_of(members)))
-}
-
-/// Adds what a pattern asks.
-fn add_pattern(
-    alloc: Global,
-    members: &mut Vec<Node>,
-    pattern: &str,
-    now: Moment,
-) -> Result<(), QueryFaultKind>
-    ensures { Gives (λ _. queries_of members.new.items) kind_refusal result
-        (followed_by (queries_of members.old.items)
-        (pattern_query (pattern_lexicon now) pattern.now)) }
-{
-    add(members, read_pattern(alloc, pattern, now)?)?;
-    Ok(())
 }
 
 /// What a pattern asks.
 fn read_pattern(alloc: Global, pattern: &str, now: Moment) -> Result<Node, QueryFaultKind>
     ensures { Gives query_of kind_refusal result (pattern_query (pattern_lexicon now) pattern.now) }
 {
-    match cut(pattern, ':') {
-        None => read_rest(alloc, Target::Words(PLAIN_KINDS), pattern),
-        Some((prefix, rest)) => read_prefixed(alloc, prefix, rest, now),
-    }
-}
-
-/// What a prefix and the rest behind its colon ask.
-fn read_prefixed(
-    alloc: Global,
-    prefix: &str,
-    rest: &str,
-    now: Moment,
-) -> Result<Node, QueryFaultKind>
-    ensures { Gives query_of kind_refusal result
-        (prefixed_query (pattern_lexicon now) prefix.now rest.now) }
-{
+    let Some((prefix, rest)) = cut(pattern, ':') else {
+        return read_rest(alloc, Target::Words(PLAIN_KINDS), pattern);
+    };
     match prefix {
         "m" => read_rest(alloc, Target::OwnId, rest),
         "d" => range_of(rest, now)
@@ -140,36 +102,13 @@ fn kinds_of_letter(letter: u8) -> Option<Kinds>
     ensures { result ≡ kinds_of_letter letter }
 {
     match letter {
-        b't' => Some(Kinds {
-            to: true,
-            ..Kinds::NONE
-        }),
-        b'c' => Some(Kinds {
-            cc: true,
-            ..Kinds::NONE
-        }),
-        b'f' => Some(Kinds {
-            from: true,
-            ..Kinds::NONE
-        }),
-        b's' => Some(Kinds {
-            subject: true,
-            ..Kinds::NONE
-        }),
-        b'b' => Some(Kinds {
-            body: true,
-            ..Kinds::NONE
-        }),
-        b'a' => Some(Kinds {
-            to: true,
-            cc: true,
-            from: true,
-            ..Kinds::NONE
-        }),
-        b'n' => Some(Kinds {
-            name: true,
-            ..Kinds::NONE
-        }),
+        b't' => Some(kinds!(to)),
+        b'c' => Some(kinds!(cc)),
+        b'f' => Some(kinds!(from)),
+        b's' => Some(kinds!(subject)),
+        b'b' => Some(kinds!(body)),
+        b'a' => Some(kinds!(to, cc, from)),
+        b'n' => Some(kinds!(name)),
         _ => None,
     }
 }

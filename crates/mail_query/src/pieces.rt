@@ -31,13 +31,10 @@ pub(crate) fn without_last(text: &str, sign: char) -> Option<&str>
 pub(crate) fn without_angles(text: &str) -> &str
     ensures { result.now ≡ without_angles text.now }
 {
-    match without_first(text, '<') {
-        None => text,
-        Some(behind) => match without_last(behind, '>') {
-            None => text,
-            Some(inside) => inside,
-        },
-    }
+    let behind = without_first(text, '<');
+    behind
+        .and_then(|rest| without_last(rest, '>'))
+        .unwrap_or(text)
 }
 
 /// Whether the two texts are one but for the case of ASCII letters.

@@ -1,6 +1,8 @@
 //! Texts that a query seeks.
 ghost use Rattle.std.specs.Prelude.{◌≡◌, ℕ, List, string_bytes, IfOk};
+ghost use Rattle.mail_words.specs.Folding.{folding};
 
+use mail_words::fold;
 use std::alloc::{AllocError, Global};
 use std::marker::Model;
 
@@ -17,16 +19,18 @@ impl Model for QueryText {
 }
 
 impl QueryText {
-    pub(crate) fn new(text: String) -> Self
-        ensures { result ≡ string_bytes text }
-    {
-        QueryText { text }
-    }
-
     pub(crate) fn copy_of(alloc: Global, text: &str) -> Result<Self, AllocError>
         ensures { IfOk result (λ t. t ≡ text.now) }
     {
-        Ok(QueryText::new(String::from_str(alloc, text)?))
+        let text = String::from_str(alloc, text)?;
+        Ok(QueryText { text })
+    }
+
+    pub(crate) fn folded(alloc: Global, text: &str) -> Result<Self, AllocError>
+        ensures { IfOk result (λ t. t ≡ folding text.now) }
+    {
+        let text = fold(alloc, text)?;
+        Ok(QueryText { text })
     }
 
     pub fn as_str(&self) -> &str

@@ -1,7 +1,7 @@
 //! Sizes, as a pattern names them.
 ghost use Rattle.std.specs.Prelude.{◌≡◌, option_map};
 ghost use Rattle.mail_query.specs.Query.{query_of};
-ghost use Rattle.mail_query.specs.Sizes.{factor_of, scaled, size_of, low_of, high_of, sizes_between, sizes_of};
+ghost use Rattle.mail_query.specs.Sizes.{factor_of, scaled, size_of, low_of, high_of, sizes_of};
 
 use crate::node::Node;
 use crate::pieces::cut;
@@ -16,16 +16,9 @@ pub(crate) fn sizes_of(text: &str) -> Option<Node>
     ensures { option_map query_of result ≡ sizes_of text.now }
 {
     let (low, high) = cut(text, '-')?;
-    sizes_between(low.as_bytes(), high.as_bytes())
-}
-
-fn sizes_between(low: &[u8], high: &[u8]) -> Option<Node>
-    ensures { option_map query_of result ≡ sizes_between low.now high.now }
-{
-    match (low_of(low), high_of(high)) {
-        (Some(low), Some(high)) => Some(Node::Size { low, high }),
-        _ => None,
-    }
+    let low = low_of(low.as_bytes())?;
+    let high = high_of(high.as_bytes())?;
+    Some(Node::Size { low, high })
 }
 
 fn low_of(text: &[u8]) -> Option<u64>

@@ -1,6 +1,5 @@
 -- How deep the queries of the boolean language are.
-use Rattle.mail_query.proofs.Words.{◌≡◌, ℕ, suc, ◌+◌, ◌*◌, ◌-◌, ◌<◌, ◌≤◌, Bool, true, cond, ltb, ltb-true, List, [], ◌∷◌, map, Option, Result, Err, subst, arith, Field, Fields, QueryFaultKind, Phrase, Query, depth, all_of, either_of, Lexicon, Token, Parts, parts_of, no_fields, is_phrase, cut_query, Link, Beside, ByAnd, ByOr, Item, NotOf, Group, Leaf, Chain, Last, Then, linked, query_or_any, seen_behind, item_query, chain_queries, is_fine_item, is_fine_chain, Reads}
-use Rattle.mail_query.specs.declared.boolean.field.Field.TheVariants as field
+use Rattle.mail_query.proofs.Words.{◌≡◌, ℕ, suc, ◌+◌, ◌*◌, ◌-◌, ◌<◌, ◌≤◌, Bool, true, cond, ltb, ltb-true, List, [], ◌∷◌, map, Option, Result, Err, subst, arith, Fields, QueryFaultKind, Phrase, Query, depth, all_of, either_of, Lexicon, Token, Parts, parts_of, no_fields, is_phrase, cut_query, Link, Beside, ByAnd, ByOr, Item, NotOf, Group, Leaf, Chain, Last, Then, linked, query_or_any, seen_behind, item_query, chain_queries, is_fine_item, is_fine_chain, Reads}
 use Rattle.mail_query.specs.BooleanTerms.{term_query}
 use Rattle.mail_query.proofs.BooleanLaws.BooleanComplete.{and_left, and_right}
 use Rattle.mail_query.proofs.MairixLaws.DepthLemmas.{AreShallow, depth-all_of, depth-either_of}

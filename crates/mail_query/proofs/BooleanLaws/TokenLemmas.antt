@@ -1,7 +1,8 @@
 -- How a text is cut into tokens from its front.
-use Rattle.std.proofs.Common.{◌≡◌, ℕ, zero, suc, ◌<◌, ◌≤◌, Bool, true, false, ◌||◌, cond, eqb, List, [], ◌∷◌, length, take, drop, get_or, None, Some, refl, sym, ap, subst, ◌∙◌, arith, add-one}
+use Rattle.std.proofs.Common.{◌≡◌, ℕ, zero, suc, ◌<◌, ◌≤◌, Bool, true, false, not, ◌||◌, cond, eqb, List, [], ◌∷◌, length, take, drop, get_or, None, Some, refl, sym, ap, subst, ◌∙◌, arith, add-one}
 use Rattle.std.proofs.lemmas.Bool.Decides.{nat_tests}
 use Rattle.std.proofs.lemmas.Option.{cond_some}
+use Rattle.std.specs.List.{prefix_len}
 use Rattle.std.specs.Str.{IsUtf8, IsCharBoundary}
 use Rattle.std.proofs.lemmas.Str.{IsCharBoundary-start, IsCharBoundary-after_ascii}
 use Rattle.mail_query.specs.Tokens.{Open, Close, Cut, token_of, is_blank, closed_run, all_tokens, cut_tokens, tokens}
@@ -9,6 +10,10 @@ use Rattle.mail_query.specs.Pieces.{without_first}
 use Rattle.mail_query.specs.Inside.Shown.{blank_count, ends_run, run_length}
 
 -- ---- blanks in front
+
+pub blanks_counted : (text : List ℕ) → prefix_len is_blank text ≡ blank_count text
+blanks_counted [] = refl
+blanks_counted (b ∷ bs) = grind (arith, blanks_counted bs)
 
 pub tokens-blank : (b : ℕ) (bs : List ℕ) → is_blank b ≡ true → tokens (b ∷ bs) ≡ tokens bs
 unfolding tokens
@@ -56,6 +61,10 @@ blanks_end text utf8 = go (blank_count text) refl
         subst (IsCharBoundary text) (add-one n) (IsCharBoundary-after_ascii text n utf8 last.0 last.1)
 
 -- ---- a run
+
+pub run_counted : (text : List ℕ) → prefix_len (λ b. not (ends_run b)) text ≡ run_length text
+run_counted [] = refl
+run_counted (b ∷ bs) = grind (arith, run_counted bs)
 
 pub cut-run : (text : List ℕ) → cut_tokens text ≡ record { run = take (run_length text) text; behind = tokens (drop (run_length text) text) }
 unfolding tokens

@@ -1,5 +1,5 @@
 -- How texts, or patterns, are read one after another.
-use Rattle.mail_query.proofs.Words.{◌≡◌, ℕ, ◌+◌, ◌<◌, List, [], ◌∷◌, ◌++◌, length, get_or, drop, Option, Result, Ok, Err, IfSome, refl, sym, ap, ◌∙◌, arith, add-one, drop-cons, append-nil, map, String, Global, string_bytes, IsUtf8, drop_all, get_or-map, length-map, ◌>>=◌, with_front, fault_as, with_front-append, with_front-nil, if_some_map, QueryFault, QueryFaultKind, Query, all_of, Lexicon, each_read, pattern_query, patterns_from, patterns_query, All, All-map, IsUtf8-string_bytes, kind_refusal, query_refusal, numbered, followed_by}
+use Rattle.mail_query.proofs.Words.{◌≡◌, ℕ, ◌+◌, ◌<◌, List, [], ◌∷◌, ◌++◌, length, get_or, drop, Option, Result, Ok, Err, IfSome, refl, sym, ap, ◌∙◌, arith, add-one, drop-cons, append-nil, map, String, Global, string_bytes, IsUtf8, drop_all, get_or-map, length-map, ◌>>=◌, with_front, fault_as, with_front-append, with_front-nil, if_some_map, QueryFault, QueryFaultKind, Query, all_of, Lexicon, each_read, pattern_query, patterns_from, patterns_query, All, All-map, IsUtf8-string_bytes, kind_refusal, query_refusal, numbered}
 
 -- the text at a place, and those behind it
 drop-next : (texts : List (List ℕ)) (n : ℕ) (text : List ℕ) → (n < length texts) × (text ≡ get_or texts n text) → drop n texts ≡ text ∷ drop (n + 1) texts
@@ -76,19 +76,11 @@ pub patterns_made : (lexicon : Lexicon) (patterns : List (List ℕ)) (r : Result
     → numbered_read at_number (pattern_query lexicon) 1 patterns ≡ r → patterns_query lexicon patterns ≡ r >>= (λ qs. Ok (all_of qs))
 patterns_made lexicon patterns r h h2 = grind (arith, patterns_numbered)
 
--- where one more was read, so far more were, and where it was refused, so are all
-pub adds : (lexicon : Lexicon) (patterns : List (List ℕ)) (qs next : List Query) (n : ℕ) (text : List ℕ) → HasRead at_number (pattern_query lexicon) patterns qs n
-    → (n < length patterns) × (text ≡ get_or patterns n text) → followed_by qs (pattern_query lexicon text) ≡ Ok next → HasRead at_number (pattern_query lexicon) patterns next (n + 1)
-adds lexicon patterns qs next n text h here e = grind (arith, reads_more)
-
-pub unfollowed : (qs : List Query) (r : Result Query QueryFaultKind) (kind : QueryFaultKind) → followed_by qs r ≡ Err kind → r ≡ Err kind
-unfollowed qs r kind h = grind arith
-
 -- a refusal of a pattern, with its number
 pub pattern_refused : (lexicon : Lexicon) (patterns : List (List ℕ)) (qs : List Query) (n : ℕ) (text : List ℕ) (kind : QueryFaultKind) → HasRead at_number (pattern_query lexicon) patterns qs n
-    → (n < length patterns) × (text ≡ get_or patterns n text) → IfSome (kind_refusal kind) (λ k. followed_by qs (pattern_query lexicon text) ≡ Err k)
+    → (n < length patterns) × (text ≡ get_or patterns n text) → IfSome (kind_refusal kind) (λ k. pattern_query lexicon text ≡ Err k)
     → IfSome (query_refusal (numbered (n + 1) kind)) (λ f. patterns_query lexicon patterns ≡ Err f)
-pattern_refused lexicon patterns qs n text kind h here e = grind (arith, patterns_made, refuses, unfollowed)
+pattern_refused lexicon patterns qs n text kind h here e = grind (arith, patterns_made, refuses)
 
 -- the text of a pattern at a place
 pub pattern_here : (patterns : List (String Global)) (i : ℕ) (pattern : String Global) (text : List ℕ) → i < length patterns → pattern ≡ get_or patterns i pattern → text ≡ string_bytes pattern

@@ -40,20 +40,16 @@ pub(crate) struct Fields {
 }
 
 impl Fields {
-    ghost use Rattle.mail_query.specs.BooleanTerms.{no_fields, has_field, with_field};
+    ghost use Rattle.mail_query.specs.BooleanTerms.{has_field, with_field};
 
-    pub(crate) fn none() -> Fields
-        ensures { result ≡ no_fields }
-    {
-        Fields {
-            from: false,
-            to: false,
-            subject: false,
-            body: false,
-            id: false,
-            date: false,
-        }
-    }
+    pub(crate) const NONE: Fields = Fields {
+        from: false,
+        to: false,
+        subject: false,
+        body: false,
+        id: false,
+        date: false,
+    };
 
     /// Whether there is a prefix, and it is in the set.
     pub(crate) fn has(self, prefix: Option<Field>) -> bool

@@ -26,7 +26,7 @@ impl Level {
         Level {
             eaches: Vec::new(alloc),
             members: Vec::new(alloc),
-            seen: Fields::none(),
+            seen: Fields::NONE,
         }
     }
 
@@ -56,7 +56,7 @@ impl Level {
     pub(crate) fn run_ended(mut self) -> Level
         ensures { shown_level result ≡ run_ended (shown_level self) }
     {
-        self.seen = Fields::none();
+        self.seen = Fields::NONE;
         self
     }
 
@@ -68,7 +68,7 @@ impl Level {
         Ok(Level {
             eaches,
             members: Vec::new(alloc),
-            seen: Fields::none(),
+            seen: Fields::NONE,
         })
     }
 

@@ -1,11 +1,11 @@
 //! How far a boolean query was read.
-ghost use Rattle.std.specs.Prelude.{◌≡◌, ◌∷◌, IfOk, OnOk};
+ghost use Rattle.std.specs.Prelude.{◌≡◌, IfOk};
 ghost use Rattle.contract_words.specs.Answers.{Gives};
 ghost use Rattle.mail_query.specs.Query.{query_of};
 ghost use Rattle.mail_query.specs.Refusals.{kind_refusal};
 ghost use Rattle.mail_query.specs.Mail.{boolean_lexicon};
 ghost use Rattle.mail_query.specs.Inside.Shown.{shown, shown_level, shown_waiting, shown_stack, shown_token};
-ghost use Rattle.mail_query.specs.BooleanReading.{start, placed, deeper, joined, parted, closed, ended, step, term_step, cut_term_step, is_negated, has_open};
+ghost use Rattle.mail_query.specs.BooleanReading.{start, placed, deeper, closed, ended, step, term_step, cut_term_step, is_negated, has_open};
 
 use crate::boolean::field::{Field, field_of};
 use crate::boolean::level::Level;
@@ -63,8 +63,17 @@ pub(crate) fn read_token(
             Level::empty(alloc),
         ),
         Token::Close => read_close(alloc, reader),
-        Token::And => read_and(reader),
-        Token::Or => read_or(alloc, reader),
+        Token::And | Token::Or if reader.wanted => Err(QueryFaultKind::MissingTerm),
+        Token::And => Ok(Reader {
+            waiting: reader.waiting,
+            level: reader.level.run_ended(),
+            wanted: true,
+        }),
+        Token::Or => Ok(Reader {
+            waiting: reader.waiting,
+            level: reader.level.each_ended(alloc)?,
+            wanted: true,
+        }),
     }
 }
 
@@ -122,21 +131,12 @@ fn deeper(mut waiting: Vec<Waiting>, what: Waiting, level: Level) -> Result<Read
     if waiting.len() >= MOST_WAITING {
         return Err(QueryFaultKind::TooDeep);
     }
-    wait(&mut waiting, what)?;
+    waiting.push(what).map_err(AllocError::from)?;
     Ok(Reader {
         waiting,
         level,
         wanted: true,
     })
-}
-
-/// Puts it in front of the others that wait.
-fn wait(waiting: &mut Vec<Waiting>, what: Waiting) -> Result<(), AllocError>
-    ensures { OnOk result
-        (shown_stack waiting.new.items ≡ shown_waiting what ∷ shown_stack waiting.old.items) }
-{
-    waiting.push(what)?;
-    Ok(())
 }
 
 fn read_close(alloc: Global, reader: Reader) -> Result<Reader, QueryFaultKind>
@@ -158,32 +158,6 @@ fn read_close(alloc: Global, reader: Reader) -> Result<Reader, QueryFaultKind>
         Some(Waiting::ForNot) => Err(QueryFaultKind::BadParenthesis),
         None => Err(QueryFaultKind::BadParenthesis),
     }
-}
-
-fn read_and(reader: Reader) -> Result<Reader, QueryFaultKind>
-    ensures { Gives shown kind_refusal result (joined (shown reader)) }
-{
-    if reader.wanted {
-        return Err(QueryFaultKind::MissingTerm);
-    }
-    Ok(Reader {
-        waiting: reader.waiting,
-        level: reader.level.run_ended(),
-        wanted: true,
-    })
-}
-
-fn read_or(alloc: Global, reader: Reader) -> Result<Reader, QueryFaultKind>
-    ensures { Gives shown kind_refusal result (parted (shown reader)) }
-{
-    if reader.wanted {
-        return Err(QueryFaultKind::MissingTerm);
-    }
-    Ok(Reader {
-        waiting: reader.waiting,
-        level: reader.level.each_ended(alloc)?,
-        wanted: true,
-    })
 }
 
 /// A `some` ends, and so does each `not` that waited for it.

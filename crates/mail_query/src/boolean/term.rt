@@ -8,24 +8,16 @@ ghost use Rattle.mail_query.specs.Mail.{boolean_lexicon};
 
 use crate::boolean::field::Field;
 use crate::fault::QueryFaultKind;
-use crate::kinds::Kinds;
+use crate::kinds::{Kinds, kinds};
 use crate::node::Node;
 use crate::pieces::{is_in_any_case, without_angles, without_last};
 use crate::query_text::QueryText;
 use mail_dates::iso_range;
-use mail_words::{fold, is_one_word, is_part_of_word};
+use mail_words::{is_one_word, is_part_of_word};
 use std::alloc::Global;
 
 /// Without a prefix a word is sought in each kind of text but names of parts.
-const BARE_KINDS: Kinds = Kinds {
-    to: true,
-    cc: true,
-    bcc: true,
-    from: true,
-    subject: true,
-    body: true,
-    ..Kinds::NONE
-};
+const BARE_KINDS: Kinds = kinds!(to, cc, bcc, from, subject, body);
 
 /// Whether there is a quotation mark.
 pub(crate) fn is_phrase(term: &str) -> bool
@@ -64,42 +56,11 @@ fn read_bare(alloc: Global, term: &str) -> Result<Node, QueryFaultKind>
 fn read_field(alloc: Global, field: Field, rest: &str) -> Result<Node, QueryFaultKind>
     ensures { Gives query_of kind_refusal result (field_query boolean_lexicon field rest.now) }
 {
-    let kinds = Kinds::NONE;
     match field {
-        Field::From => read_word(
-            alloc,
-            Kinds {
-                from: true,
-                ..kinds
-            },
-            rest,
-        ),
-        Field::To => read_word(
-            alloc,
-            Kinds {
-                to: true,
-                cc: true,
-                bcc: true,
-                ..kinds
-            },
-            rest,
-        ),
-        Field::Subject => read_word(
-            alloc,
-            Kinds {
-                subject: true,
-                ..kinds
-            },
-            rest,
-        ),
-        Field::Body => read_word(
-            alloc,
-            Kinds {
-                body: true,
-                ..kinds
-            },
-            rest,
-        ),
+        Field::From => read_word(alloc, kinds!(from), rest),
+        Field::To => read_word(alloc, kinds!(to, cc, bcc), rest),
+        Field::Subject => read_word(alloc, kinds!(subject), rest),
+        Field::Body => read_word(alloc, kinds!(body), rest),
         Field::Id => read_id(alloc, without_angles(rest)),
         Field::Date => iso_range(rest)
             .map(Node::Date)
@@ -114,10 +75,7 @@ fn read_id(alloc: Global, id: &str) -> Result<Node, QueryFaultKind>
         return Err(QueryFaultKind::MissingTerm);
     }
     Ok(Node::Word {
-        kinds: Kinds {
-            own_id: true,
-            ..Kinds::NONE
-        },
+        kinds: kinds!(own_id),
         text: QueryText::copy_of(alloc, id)?,
     })
 }
@@ -127,15 +85,13 @@ fn read_word(alloc: Global, kinds: Kinds, text: &str) -> Result<Node, QueryFault
     ensures { Gives query_of kind_refusal result (word_query boolean_lexicon kinds text.now) }
 {
     if is_one_word(text) {
-        return Ok(Node::Word {
-            kinds,
-            text: QueryText::new(fold(alloc, text)?),
-        });
+        let text = QueryText::folded(alloc, text)?;
+        return Ok(Node::Word { kinds, text });
     }
     match without_last(text, '*') {
         Some(piece) if is_part_of_word(piece) => Ok(Node::Prefix {
             kinds,
-            text: QueryText::new(fold(alloc, piece)?),
+            text: QueryText::folded(alloc, piece)?,
         }),
         _ => Err(QueryFaultKind::BadWord),
     }

@@ -1,7 +1,8 @@
 //! The tokens of a boolean query.
-ghost use Rattle.std.specs.Prelude.{◌≡◌, ◌<◌, ◌≤◌, [], ◌∷◌, length, MatchOption, IfSome};
+ghost use Rattle.std.specs.Prelude.{◌≡◌, ◌<◌, ◌≤◌, not, [], ◌∷◌, length, MatchOption, IfSome};
+ghost use Rattle.std.specs.List.{prefix_len};
 ghost use Rattle.mail_query.specs.Tokens.{tokens, token_of, is_blank};
-ghost use Rattle.mail_query.specs.Inside.Shown.{shown_token, blank_count, run_length};
+ghost use Rattle.mail_query.specs.Inside.Shown.{shown_token, blank_count, ends_run};
 
 use crate::pieces::{is_in_any_case, without_first};
 
@@ -61,32 +62,24 @@ fn behind_blanks(text: &str) -> &str
 
 /// How many blanks stand in front.
 fn blank_count(text: &[u8]) -> usize
-    ensures value { result ≡ blank_count text.now }
+    ensures value { result ≡ prefix_len is_blank text.now }
     ensures within { result ≤ length text.now }
 {
-    let mut count = 0;
-    for b in text {
-        if !is_blank(*b) {
-            return count;
-        }
-        count += 1;
-    }
-    count
+    text.iter().take_while(|b| is_blank(**b)).count()
 }
 
 /// How many bytes stand before the first blank or parenthesis.
 fn run_length(text: &[u8]) -> usize
-    ensures value { result ≡ run_length text.now }
+    ensures value { result ≡ prefix_len (λ b. not (ends_run b)) text.now }
     ensures within { result ≤ length text.now }
 {
-    let mut count = 0;
-    for b in text {
-        if is_blank(*b) || *b == b'(' || *b == b')' {
-            return count;
-        }
-        count += 1;
-    }
-    count
+    text.iter().take_while(|b| !ends_run(**b)).count()
+}
+
+fn ends_run(b: u8) -> bool
+    ensures { result ≡ ends_run b }
+{
+    is_blank(b) || b == b'(' || b == b')'
 }
 
 /// A space, a tab or, unlike a header's or an rcfile's blanks, a line feed, since a query may have several lines.

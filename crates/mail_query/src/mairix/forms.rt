@@ -1,13 +1,13 @@
 //! Where the words of a pattern are sought, and which forms they have.
 ghost use Rattle.std.specs.Prelude.{◌≡◌, IfOk};
-ghost use Rattle.mail_query.specs.Inside.Reading.{forms_of, sought_text};
+ghost use Rattle.mail_query.specs.Inside.Reading.{forms_of};
 ghost use Rattle.std.specs.List.{list_any};
 ghost use Rattle.mail_query.specs.Mairix.{is_id, is_sign};
 
-use crate::kinds::Kinds;
+use crate::kinds::{Kinds, kinds};
 use crate::pieces::without_angles;
 use crate::query_text::QueryText;
-use mail_words::{fold, is_one_word, is_part_of_word};
+use mail_words::{is_one_word, is_part_of_word};
 use std::alloc::{AllocError, Global};
 
 /// Where the words of a pattern are sought.
@@ -27,10 +27,7 @@ impl Target {
     {
         match self {
             Target::Words(kinds) => kinds,
-            Target::OwnId => Kinds {
-                own_id: true,
-                ..Kinds::NONE
-            },
+            Target::OwnId => kinds!(own_id),
         }
     }
 }
@@ -44,15 +41,11 @@ pub(crate) fn word_of(
     ensures { IfOk result (λ word. word ≡ (forms_of target).word text.now) }
 {
     match target {
-        Target::Words(_) => folded_if(alloc, is_one_word(text), text),
-        Target::OwnId => {
-            let inside = without_angles(text);
-            if is_id(text) && !inside.is_empty() {
-                Ok(Some(QueryText::copy_of(alloc, inside)?))
-            } else {
-                Ok(None)
-            }
+        Target::Words(_) if is_one_word(text) => Ok(Some(QueryText::folded(alloc, text)?)),
+        Target::OwnId if is_id(text) && !without_angles(text).is_empty() => {
+            Ok(Some(QueryText::copy_of(alloc, without_angles(text))?))
         }
+        _ => Ok(None),
     }
 }
 
@@ -65,24 +58,9 @@ pub(crate) fn part_of(
     ensures { IfOk result (λ part. part ≡ (forms_of target).part text.now) }
 {
     match target {
-        Target::Words(_) => folded_if(alloc, is_part_of_word(text), text),
-        Target::OwnId => {
-            if is_id(text) {
-                Ok(Some(QueryText::copy_of(alloc, text)?))
-            } else {
-                Ok(None)
-            }
-        }
-    }
-}
-
-fn folded_if(alloc: Global, passes: bool, text: &str) -> Result<Option<QueryText>, AllocError>
-    ensures { IfOk result (λ folded. folded ≡ sought_text passes text.now) }
-{
-    if passes {
-        Ok(Some(QueryText::new(fold(alloc, text)?)))
-    } else {
-        Ok(None)
+        Target::Words(_) if is_part_of_word(text) => Ok(Some(QueryText::folded(alloc, text)?)),
+        Target::OwnId if is_id(text) => Ok(Some(QueryText::copy_of(alloc, text)?)),
+        _ => Ok(None),
     }
 }
 

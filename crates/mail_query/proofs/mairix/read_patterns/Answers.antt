@@ -1,5 +1,5 @@
 use Rattle.mail_query.proofs.Words.{◌≡◌, ◌≤◌, ◌<◌, length, map, string_bytes, Ok, QueryFaultKind, arith, length-map, nat_tests, MatchResult-at_ok, depth, queries_of, all_of, pattern_query, IsAsked, IsFirstFault, pattern_lexicon}
-use Rattle.mail_query.proofs.MairixLaws.EachLemmas.{at_number, reads_none, reads_all, patterns_made, adds, pattern_refused, pattern_here, texts_utf8}
+use Rattle.mail_query.proofs.MairixLaws.EachLemmas.{at_number, reads_none, reads_all, patterns_made, reads_more, pattern_refused, pattern_here, texts_utf8}
 use Rattle.mail_query.proofs.MairixLaws.DepthLemmas.{asked_depth}
 use Rattle.mail_query.proofs.MairixLaws.MairixAnswers.{patterns_answer}
 use Rattle.mail_query.proofs.MairixLaws.MairixExact.{dates_plain}
@@ -8,8 +8,8 @@ use Rattle.mail_query.proofs.mairix.read_patterns.Goals as goal
 pub loop-i-init : goal.loop-i-init
 loop-i-init c = grind (arith, reads_none, at_number, string_bytes)
 
-pub returns-in_err-map_err-clause-answer : goal.returns-in_err-map_err-clause-answer
-returns-in_err-map_err-clause-answer c =
+pub returns-in_err-node-clause-answer : goal.returns-in_err-node-clause-answer
+returns-in_err-node-clause-answer c =
     let here = pattern_here c.args.patterns.now c.loop-i.i-counter c.index-patterns-i.result c.as_str.result.now c.loop-i-test.true c.index-patterns-i.is c.as_str.ensures.value in
     let refused = λ (kind : QueryFaultKind). pattern_refused (pattern_lexicon c.args.now) (map string_bytes c.args.patterns.now) (queries_of c.loop-i.members.items) c.loop-i.i-counter c.as_str.result.now kind c.loop-i.invariant here in
     grind arith
@@ -17,7 +17,7 @@ returns-in_err-map_err-clause-answer c =
 pub loop-i-preserved : goal.loop-i-preserved
 loop-i-preserved c =
     let here = pattern_here c.args.patterns.now c.loop-i.i-counter c.index-patterns-i.result c.as_str.result.now c.loop-i-test.true c.index-patterns-i.is c.as_str.ensures.value in
-    grind (arith, adds)
+    grind (arith, reads_more)
 
 pub new-requires : goal.new-requires
 new-requires c =
