@@ -1,5 +1,5 @@
 -- The first line that a base makes no path.
-use Rattle.mairix_options.proofs.Words.{◌≡◌, ℕ, ◌+◌, ◌<◌, suc, true, List, [], ◌∷◌, ◌++◌, Option, Some, Err, map, length, drop, get_or, drop-cons, add-one, sym, ap, ◌∙◌, arith, list_all, filter_map, ◌>>=◌, is_path, archive_path, archives_misfit, first_misfit, all_fit, rc_fitting, rc_with, MailFormat, BadLine, ArchivesLine, MfolderLine}
+use Rattle.mairix_options.proofs.Words.{◌≡◌, ℕ, ◌+◌, ◌<◌, suc, true, List, ◌∷◌, Option, Some, Err, map, length, drop, get_or, drop-cons, add-one, sym, ap, ◌∙◌, arith, list_all, filter_map, ◌>>=◌, is_path, archive_path, archives_misfit, first_misfit, all_fit, rc_fitting, rc_with, MailFormat, BadLine, ArchivesLine, MfolderLine}
 use Rattle.std.specs.List.{slice_get}
 
 -- ---- the lines of archives

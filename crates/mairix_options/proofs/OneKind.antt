@@ -1,5 +1,5 @@
 -- A command with no subcommand has at most one kind of refusal at any words.
-use Rattle.mairix_options.proofs.Words.{◌≡◌, ◌&&◌, ℕ, zero, suc, Bool, true, false, List, [], ◌∷◌, Option, Some, None, length, drop, slice_get, encode_utf8, sym, subst, arith, if◌then◌else◌, is_some, option_map_or, chars, bytes_eq, ErrorKind}
+use Rattle.mairix_options.proofs.Words.{◌≡◌, ◌&&◌, ℕ, zero, suc, Bool, true, false, List, [], ◌∷◌, Option, Some, None, length, drop, slice_get, encode_utf8, sym, subst, arith, if◌then◌else◌, is_some, option_map_or, chars, bytes_eq}
 use Rattle.clap.specs.Lexer.{long_of, short_of}
 use Rattle.clap.specs.Values.{refused_kind}
 use Rattle.clap.specs.ValueTests.{accepts}

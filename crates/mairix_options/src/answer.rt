@@ -1,6 +1,6 @@
 //! What an answer is, and the file that it goes to.
 ghost use Rattle.std.specs.Prelude.{◌≡◌, IfOk};
-ghost use Rattle.mairix_options.specs.AnswerFiles.{answer_format, mbox_file, answer_file};
+ghost use Rattle.mairix_options.specs.AnswerFiles.{answer_format, answer_file};
 
 use crate::command_line::Plan;
 use crate::mail_format::MailFormat;
@@ -29,20 +29,11 @@ pub fn answer_format(plan: &Plan, rc: &Rc) -> MailFormat
 pub fn answer_file(alloc: Global, plan: &Plan, rc: &Rc) -> Result<Option<Text>, AllocError>
     ensures { IfOk result (λ file. file ≡ answer_file plan.now rc.now) }
 {
-    if plan.stdout {
+    if plan.stdout || answer_format(plan, rc) != MailFormat::Mbox {
         return Ok(None);
     }
-    match answer_format(plan, rc) {
-        MailFormat::Mbox => Ok(Some(mbox_file(alloc, plan, rc)?)),
-        MailFormat::Raw | MailFormat::Excerpt => Ok(None),
-    }
-}
-
-fn mbox_file(alloc: Global, plan: &Plan, rc: &Rc) -> Result<Text, AllocError>
-    ensures { IfOk result (λ file. file ≡ mbox_file plan.now rc.now) }
-{
     match &plan.mfolder {
-        Some(name) => mfolder_path(alloc, &rc.base, name.as_str()),
-        None => Text::new(alloc, rc.mfolder.as_str()),
+        Some(name) => Ok(Some(mfolder_path(alloc, &rc.base, name.as_str())?)),
+        None => Ok(Some(Text::new(alloc, rc.mfolder.as_str())?)),
     }
 }

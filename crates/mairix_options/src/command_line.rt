@@ -16,6 +16,21 @@ const OUTPUT: &str = "Output";
 
 const SEARCHING: &str = "Searching";
 
+// What help says of each flag.
+const RAW: &str = "Print a line for each message: offset, length, archive";
+
+const EXCERPT: &str = "Print the archive and the main header lines of each message";
+
+const THREADS: &str = "Find whole threads: also all messages linked to a match";
+
+const STDOUT: &str = "Print the mbox, and write no file";
+
+const BOOLEAN: &str = "Read the patterns as one query with and, or, not and ( )";
+
+const ONCE: &str = "Index the archives in memory, and search that index";
+
+const VERIFY: &str = "Check first that no archive has changed since it was indexed";
+
 // What stands behind the options in help: where an answer goes, both query languages, in short, examples, and the pages.
 const ANSWERS_AND_QUERIES: &str = "\
 Where the answer goes:
@@ -149,7 +164,9 @@ fn planned(alloc: Global, matches: &ArgMatches<'_>) -> Result<Plan, AllocError>
         raw: is_set(matches, "raw"),
         excerpt: is_set(matches, "excerpt"),
         threads: is_set(matches, "threads"),
-        mfolder: own_text_of(alloc, matches, "mfolder")?,
+        mfolder: text_of(matches, "mfolder")
+            .map(|name| Text::new(alloc, name))
+            .transpose()?,
         stdout: is_set(matches, "stdout"),
         boolean: is_set(matches, "boolean"),
         once: is_set(matches, "once"),
@@ -164,36 +181,17 @@ fn text_of<'a>(matches: &ArgMatches<'a>, id: &str) -> Option<&'a str>
     matches.get_str(id)
 }
 
-fn own_text_of(
-    alloc: Global,
-    matches: &ArgMatches<'_>,
-    id: &str,
-) -> Result<Option<Text>, AllocError>
-    ensures { IfOk result (λ text. text ≡ first_of id.now (rows_of (found_of matches.now))) }
-{
-    match text_of(matches, id) {
-        Some(text) => Ok(Some(Text::new(alloc, text)?)),
-        None => Ok(None),
-    }
-}
-
 fn is_set(matches: &ArgMatches<'_>, id: &str) -> bool
     ensures { result ≡ flag id.now (rows_of (found_of matches.now)) }
 {
-    match text_of(matches, id) {
-        Some(text) => text == "true",
-        None => false,
-    }
+    text_of(matches, id).is_some_and(|text| text == "true")
 }
 
 fn texts_of(alloc: Global, matches: &ArgMatches<'_>, id: &str) -> Result<Texts, AllocError>
     ensures { IfOk result (λ texts. texts ≡ unwrap_or
         (all_of id.now (rows_of (found_of matches.now))) []) }
 {
-    match matches.get_strs(id) {
-        Some(texts) => Texts::of(alloc, texts),
-        None => Ok(Texts::new(alloc)),
-    }
+    Texts::of(alloc, matches.get_strs(id).unwrap_or(&[]))
 }
 
 fn fault_of_kind(kind: ErrorKind) -> OrMemory<UsageFault>
@@ -211,39 +209,11 @@ fn command<'a>(alloc: Global) -> Result<Command<'a>, AllocError>
     ensures { IfOk result (λ c. app_of c ≡ command) }
 {
     let formats = command_of_formats(alloc)?;
-    let mfolder = with_in_group(formats, OUTPUT, mfolder_option(alloc))?;
-    let stdout = with_in_group(
-        mfolder,
-        OUTPUT,
-        long_flag(alloc, "stdout", "Print the mbox, and write no file"),
-    )?;
-    let boolean = with_in_group(
-        stdout,
-        SEARCHING,
-        long_flag(
-            alloc,
-            "boolean",
-            "Read the patterns as one query with and, or, not and ( )",
-        ),
-    )?;
-    let once = with_in_group(
-        boolean,
-        SEARCHING,
-        long_flag(
-            alloc,
-            "once",
-            "Index the archives in memory, and search that index",
-        ),
-    )?;
-    let verify = with_in_group(
-        once,
-        SEARCHING,
-        long_flag(
-            alloc,
-            "verify",
-            "Check first that no archive has changed since it was indexed",
-        ),
-    )?;
+    let mfolder = with(formats, mfolder_option(alloc))?;
+    let stdout = with(mfolder, long_flag(alloc, "stdout", OUTPUT, STDOUT))?;
+    let boolean = with(stdout, long_flag(alloc, "boolean", SEARCHING, BOOLEAN))?;
+    let once = with(boolean, long_flag(alloc, "once", SEARCHING, ONCE))?;
+    let verify = with(once, long_flag(alloc, "verify", SEARCHING, VERIFY))?;
     with(verify, pattern_argument(alloc))
 }
 
@@ -252,48 +222,12 @@ fn command_of_formats<'a>(alloc: Global) -> Result<Command<'a>, AllocError>
     ensures { IfOk result (λ c. app_of c ≡ command_of_formats) }
 {
     let rcfile = with(bare_command(alloc), rcfile_option(alloc))?;
-    let raw = with_in_group(
-        rcfile,
-        OUTPUT,
-        short_flag(
-            alloc,
-            "raw",
-            'r',
-            "Print a line for each message: offset, length, archive",
-        ),
-    )?;
-    let excerpt = with_in_group(
-        raw,
-        OUTPUT,
-        short_flag(
-            alloc,
-            "excerpt",
-            'x',
-            "Print the archive and the main header lines of each message",
-        ),
-    )?;
-    with_in_group(
+    let raw = with(rcfile, short_flag(alloc, "raw", 'r', OUTPUT, RAW))?;
+    let excerpt = with(raw, short_flag(alloc, "excerpt", 'x', OUTPUT, EXCERPT))?;
+    with(
         excerpt,
-        SEARCHING,
-        short_flag(
-            alloc,
-            "threads",
-            't',
-            "Find whole threads: also all messages linked to a match",
-        ),
+        short_flag(alloc, "threads", 't', SEARCHING, THREADS),
     )
-}
-
-/// The command with an option that help shows in a group of its own.
-fn with_in_group<'a>(
-    command: Command<'a>,
-    group: &'a str,
-    arg: Arg<'a>,
-) -> Result<Command<'a>, AllocError>
-    requires { arg.global ≡ false }
-    ensures { IfOk result (λ c. app_of c ≡ with_rule (app_of command.entry) (rule_of arg.entry)) }
-{
-    with(command, arg.help_heading(group))
 }
 
 fn with<'a>(command: Command<'a>, arg: Arg<'a>) -> Result<Command<'a>, AllocError>
@@ -333,6 +267,7 @@ fn mfolder_option<'a>(alloc: Global) -> Arg<'a>
         .short('o')
         .value_name("NAME")
         .action(ArgAction::Set)
+        .help_heading(OUTPUT)
         .help("Write the mbox to this file, not to the rcfile's mfolder")
 }
 
@@ -346,22 +281,30 @@ fn pattern_argument<'a>(alloc: Global) -> Arg<'a>
         .help("What to look for; without a pattern the index is made")
 }
 
-fn short_flag<'a>(alloc: Global, id: &'a str, letter: char, help: &'a str) -> Arg<'a>
+fn short_flag<'a>(
+    alloc: Global,
+    id: &'a str,
+    letter: char,
+    group: &'a str,
+    help: &'a str,
+) -> Arg<'a>
     ensures rule { rule_of result ≡ short_flag id.entry.now letter }
     ensures local { result.global ≡ false }
 {
     Arg::new(alloc, id)
         .short(letter)
         .action(ArgAction::SetTrue)
+        .help_heading(group)
         .help(help)
 }
 
-fn long_flag<'a>(alloc: Global, id: &'a str, help: &'a str) -> Arg<'a>
+fn long_flag<'a>(alloc: Global, id: &'a str, group: &'a str, help: &'a str) -> Arg<'a>
     ensures rule { rule_of result ≡ long_flag id.entry.now }
     ensures local { result.global ≡ false }
 {
     Arg::new(alloc, id)
         .long(id)
         .action(ArgAction::SetTrue)
+        .help_heading(group)
         .help(help)
 }

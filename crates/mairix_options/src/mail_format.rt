@@ -17,15 +17,11 @@ impl MailFormat {
     pub(crate) fn of(value: &str) -> Option<MailFormat>
         ensures { result ≡ format_of value.now }
     {
-        if value == "mbox" {
-            return Some(MailFormat::Mbox);
+        match value {
+            "mbox" => Some(MailFormat::Mbox),
+            "raw" => Some(MailFormat::Raw),
+            "excerpt" => Some(MailFormat::Excerpt),
+            _ => None,
         }
-        if value == "raw" {
-            return Some(MailFormat::Raw);
-        }
-        if value == "excerpt" {
-            return Some(MailFormat::Excerpt);
-        }
-        None
     }
 }

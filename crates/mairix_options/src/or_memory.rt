@@ -1,4 +1,6 @@
 //! A refusal, or want of memory.
+ghost use Rattle.std.specs.Prelude.{◌≡◌};
+ghost use Rattle.mairix_options.specs.declared.or_memory.OrMemory.TheVariants.{Memory};
 
 use std::alloc::{AllocError, AllocFailed};
 
@@ -12,9 +14,6 @@ pub enum OrMemory<E> {
 }
 
 impl<E> From<AllocError> for OrMemory<E> {
-    ghost use Rattle.std.specs.Prelude.{◌≡◌};
-    ghost use Rattle.mairix_options.specs.declared.or_memory.OrMemory.TheVariants.{Memory};
-
     ghost from_gives = { λ _ fault. fault ≡ Memory };
 
     fn from(_: AllocError) -> Self {
@@ -23,9 +22,6 @@ impl<E> From<AllocError> for OrMemory<E> {
 }
 
 impl<E, T: Drop> From<AllocFailed<T>> for OrMemory<E> {
-    ghost use Rattle.std.specs.Prelude.{◌≡◌};
-    ghost use Rattle.mairix_options.specs.declared.or_memory.OrMemory.TheVariants.{Memory};
-
     ghost from_gives = { λ _ fault. fault ≡ Memory };
 
     fn from(_: AllocFailed<T>) -> Self {

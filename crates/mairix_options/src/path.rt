@@ -1,7 +1,6 @@
 //! Texts that name files.
-ghost use Rattle.std.specs.Prelude.{◌≡◌, nat_eq, codes, map, IfOk};
-ghost use Rattle.std.specs.List.{starts_with};
-ghost use Rattle.mairix_options.specs.Path.{is_path, has_expansion, has_wildcard, joined, under, archive_path, mfolder_path};
+ghost use Rattle.std.specs.Prelude.{◌≡◌, map, IfOk};
+ghost use Rattle.mairix_options.specs.Path.{is_path, has_expansion, has_wildcard, under, archive_path, mfolder_path};
 
 use crate::owned_text::{Text, Texts};
 use memchr::{memchr, memchr3};
@@ -36,7 +35,7 @@ pub(crate) fn archive_path(
 ) -> Result<Text, AllocError>
     ensures { IfOk result (λ path. path ≡ archive_path base.now name.now) }
 {
-    under(alloc, base, begins_at_root(name), name)
+    under(alloc, base, name.starts_with("/"), name)
 }
 
 /// The paths of some archives' names.
@@ -67,21 +66,9 @@ pub(crate) fn mfolder_path(
     under(
         alloc,
         base,
-        begins_at_root(name) || begins_with_dot(name),
+        name.starts_with("/") || name.starts_with("."),
         name,
     )
-}
-
-fn begins_at_root(name: &str) -> bool
-    ensures { result ≡ starts_with nat_eq name.now (codes "/") }
-{
-    name.starts_with("/")
-}
-
-fn begins_with_dot(name: &str) -> bool
-    ensures { result ≡ starts_with nat_eq name.now (codes ".") }
-{
-    name.starts_with(".")
 }
 
 fn under(
@@ -93,15 +80,10 @@ fn under(
     ensures { IfOk result (λ path. path ≡ under base.now as_written name.now) }
 {
     match base {
-        Some(base) if !as_written => joined(alloc, base, name),
+        Some(base) if !as_written => {
+            let base = base.as_str();
+            Ok(Text::of(format!(in alloc; "{base}/{name}")?))
+        }
         _ => Text::new(alloc, name),
     }
-}
-
-fn joined(alloc: Global, folder: &Text, name: &str) -> Result<Text, AllocError>
-    ensures { IfOk result (λ path. path ≡ joined folder.now name.now) }
-{
-    let folder = folder.as_str();
-    let path = format!(in alloc; "{folder}/{name}")?;
-    Ok(Text::of(path))
 }

@@ -99,9 +99,8 @@ fn settings_in(alloc: Global, rc: &[u8]) -> Result<Vec<Setting>, OrMemory<RcFaul
     for line in rc.lines() {
         let setting = line_setting(alloc, &base, number, line)?;
         base = base_behind(alloc, base, &setting)?;
-        match setting {
-            Some(setting) => settings.push(setting)?,
-            None => {}
+        if let Some(setting) = setting {
+            settings.push(setting)?;
         }
         number += 1;
     }
@@ -140,16 +139,14 @@ fn rc_from(alloc: Global, settings: Vec<Setting>) -> Result<Rc, OrMemory<RcFault
             Setting::Format(named) => format = Some(named),
         }
     }
-    rc_with(
-        alloc,
-        Said {
-            base,
-            archives,
-            database,
-            mfolder,
-            format,
-        },
-    )
+    let said = Said {
+        base,
+        archives,
+        database,
+        mfolder,
+        format,
+    };
+    rc_with(alloc, said)
 }
 
 fn rc_with(alloc: Global, said: Said) -> Result<Rc, OrMemory<RcFault>>
@@ -166,30 +163,23 @@ fn rc_fitting(alloc: Global, said: Said) -> Result<Rc, OrMemory<RcFault>>
     ensures { Gives (λ r. r) refusal result (rc_fitting said.base said.archives.items said.database
         said.mfolder said.format) }
 {
-    let Said {
-        base,
-        archives,
-        database,
-        mfolder,
-        format,
-    } = said;
-    let paths = all_paths(alloc, &base, &archives)?;
+    let paths = all_paths(alloc, &said.base, &said.archives)?;
     if paths.as_slice().is_empty() {
         return Err(OrMemory::Refused(RcFault::Missing(Name::Mbox)));
     }
-    let Some(database) = database else {
-        return Err(OrMemory::Refused(RcFault::Missing(Name::Database)));
-    };
-    let Some(mfolder) = mfolder else {
-        return Err(OrMemory::Refused(RcFault::Missing(Name::Mfolder)));
-    };
-    let mfolder = mfolder_path(alloc, &base, mfolder.name.as_str())?;
+    let database = said
+        .database
+        .ok_or(OrMemory::Refused(RcFault::Missing(Name::Database)))?;
+    let mfolder = said
+        .mfolder
+        .ok_or(OrMemory::Refused(RcFault::Missing(Name::Mfolder)))?;
+    let mfolder = mfolder_path(alloc, &said.base, mfolder.name.as_str())?;
     Ok(Rc {
-        base,
+        base: said.base,
         paths,
         database,
         mfolder,
-        format: format.unwrap_or(MailFormat::Mbox),
+        format: said.format.unwrap_or(MailFormat::Mbox),
     })
 }
 

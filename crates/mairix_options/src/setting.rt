@@ -88,17 +88,13 @@ pub(crate) fn line_setting(
     if is_skipped(text) {
         return Ok(None);
     }
-    let setting = entry(alloc, base, number, text)?;
-    Ok(Some(setting))
+    Ok(Some(entry(alloc, base, number, text)?))
 }
 
 fn is_skipped(text: &[u8]) -> bool
     ensures { result ≡ is_skipped text.now }
 {
-    match text {
-        [] => true,
-        [first, ..] => *first == b'#',
-    }
+    matches!(text, [] | [b'#', ..])
 }
 
 fn entry(

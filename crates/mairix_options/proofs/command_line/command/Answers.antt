@@ -8,4 +8,4 @@ returns c =
     let boolean = c.in_ok-boolean.ensures ∙ ap₂ with_rule stdout c.long_flag-2.ensures.rule in
     let once = c.in_ok-once.ensures ∙ ap₂ with_rule boolean c.long_flag-3.ensures.rule in
     let verify = c.in_ok-verify.ensures ∙ ap₂ with_rule once c.long_flag-4.ensures.rule in
-    IfOk-weaker c.with.result _ (λ whole. app_of whole ≡ command) (λ whole same. same ∙ ap₂ with_rule verify c.pattern_argument.ensures.rule) c.with.ensures
+    IfOk-weaker c.with-6.result _ (λ whole. app_of whole ≡ command) (λ whole same. same ∙ ap₂ with_rule verify c.pattern_argument.ensures.rule) c.with-6.ensures
