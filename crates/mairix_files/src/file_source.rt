@@ -91,13 +91,11 @@ impl<'p, R: Files> Source for FileSource<'p, R> {
     ghost failures = { λ s. s.failures };
 
     fn read_next(&mut self, into: &mut [u8]) -> Result<usize, DeviceFault> {
-        match self.read_file(into) {
-            Ok(n) => Ok(n),
-            Err(_) => {
-                self.failures += 1;
-                Err(DeviceFault)
-            }
-        }
+        let Ok(n) = self.read_file(into) else {
+            self.failures += 1;
+            return Err(DeviceFault);
+        };
+        Ok(n)
     }
 }
 

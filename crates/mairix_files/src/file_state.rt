@@ -7,13 +7,6 @@ use std::io;
 use std::io::ErrorKind;
 use std::os::unix::fs::MetadataExt;
 
-/// A time by the system's clock.
-#[derive(Clone, Copy, PartialEq, Eq)]
-struct Moment {
-    seconds: i64,
-    nanoseconds: i64,
-}
-
 /// What the system tells of a file: which it is, how long it is, and when its bytes and what else is known of it were changed last.
 ///
 /// Two readings of a file in one state give the same bytes, as far as the system tells of changes: of two within one tick of its
@@ -23,8 +16,10 @@ pub struct FileState {
     device: u64,
     inode: u64,
     length: u64,
-    written: Moment,
-    changed: Moment,
+    /// When its bytes were changed last, by the system's clock: in seconds, and nanoseconds behind them.
+    written: (i64, i64),
+    /// When anything that is known of it was.
+    changed: (i64, i64),
 }
 
 impl FileState {
@@ -34,14 +29,8 @@ impl FileState {
             device: found.dev(),
             inode: found.ino(),
             length: found.len(),
-            written: Moment {
-                seconds: found.mtime(),
-                nanoseconds: found.mtime_nsec(),
-            },
-            changed: Moment {
-                seconds: found.ctime(),
-                nanoseconds: found.ctime_nsec(),
-            },
+            written: (found.mtime(), found.mtime_nsec()),
+            changed: (found.ctime(), found.ctime_nsec()),
         }
     }
 

@@ -44,10 +44,7 @@ impl<'a> Beginning<'a> {
             Beginning::Bytes(bytes) => bytes.starts_with(front),
             Beginning::Separator => match line_end(front) {
                 Some(end) => is_separator(&front[..end]),
-                None if front.len() < SEPARATOR_BEGINS.len() => {
-                    SEPARATOR_BEGINS.starts_with(front)
-                }
-                None => front.starts_with(SEPARATOR_BEGINS),
+                None => front.starts_with(SEPARATOR_BEGINS) || SEPARATOR_BEGINS.starts_with(front),
             },
         }
     }

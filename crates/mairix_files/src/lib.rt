@@ -5,15 +5,13 @@
 mod file_source;
 mod file_state;
 mod leftover;
+mod names;
 mod new_file;
-mod same_file;
-mod special_file;
 mod whole_file;
 
 pub use file_source::{FileSource, sources_in, sources_of};
 pub use file_state::FileState;
 pub use leftover::Beginning;
+pub use names::{is_same_file, is_special_file};
 pub use new_file::NewFile;
-pub use same_file::is_same_file;
-pub use special_file::is_special_file;
 pub use whole_file::{read_rest, read_whole};

@@ -84,16 +84,12 @@ impl<'p, R: Files<File = File>> NewFile<'p, R> {
     ///
     /// What the system refused, or the passing name leads to another file. The old file is as it was, and this one is removed.
     pub fn take_name(self) -> io::Result<()> {
-        match self.rename() {
-            Ok(()) => {
-                self.close();
-                Ok(())
-            }
-            Err(error) => {
-                self.discard();
-                Err(error)
-            }
+        let renamed = self.rename();
+        match &renamed {
+            Ok(()) => self.close(),
+            Err(_) => self.discard(),
         }
+        renamed
     }
 
     /// Removes the file. Where the passing name leads to another one, that is left.

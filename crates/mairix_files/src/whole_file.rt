@@ -1,5 +1,5 @@
 //! A whole file in memory.
-ghost use Rattle.std.specs.Prelude.{◌≡◌, ◌++◌, IfOk, IfSome, OnOk};
+ghost use Rattle.std.specs.Prelude.{◌≡◌, ◌++◌, IfSome, OnOk};
 
 use std::alloc::Global;
 use std::fs::File;
@@ -15,15 +15,8 @@ use std::{fs, io};
 pub fn read_whole<R: Files<File = File>>(rt: &R, alloc: Global, path: &str) -> io::Result<Vec<u8>> {
     let mut file = fs::open(rt, path)?;
     let length = file.metadata()?.len();
-    read_to_end(alloc, &mut file, length)
-}
-
-/// All that a reader has, in one allocation where that is as long as expected.
-fn read_to_end<R: Read>(alloc: Global, reader: &mut R, expected: u64) -> io::Result<Vec<u8>>
-    ensures { IfOk result (λ v. IfSome (R.remaining reader.old) (λ bytes. v.items ≡ bytes)) }
-{
     let mut bytes = Vec::new(alloc);
-    read_rest(reader, &mut bytes, expected)?;
+    read_rest(&mut file, &mut bytes, length)?;
     Ok(bytes)
 }
 
