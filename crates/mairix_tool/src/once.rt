@@ -13,11 +13,12 @@ ghost use Rattle.mairix_tool.specs.Replies.{RefusesAsked, AreSoundBefore, IsCons
 ghost use Rattle.mairix_tool.specs.Runs.{IsReply, IsOnceReply, RepliesBy, IsIndexed, IsUnindexed};
 
 use crate::reply::Reply;
-use crate::view_answer::answer_bytes;
+use crate::view_answer::answer_view;
 use crate::wanted::Wanted;
 use index_run::file_of_archives;
 use mail_answer::Archives;
 use mail_dates::Moment;
+use mail_index::IndexView;
 use mbox_cutter::{MemoryOut, Out, Source};
 use run_faults::Fault;
 use std::alloc::Global;
@@ -92,13 +93,10 @@ pub fn once_run<S: Source, A: Archives, O: Out>(
         (O.failures out.old) (O.failures out.new) }
 {
     match index_wanted(alloc, words, rc, sources, now) {
-        Ok(found) => Reply::of(answer_bytes(
-            alloc,
-            found.file.bytes(),
-            &found.wanted,
-            archives,
-            out,
-        )),
+        Ok(found) => {
+            let index = IndexView::of_file(found.file.bytes());
+            Reply::of(answer_view(alloc, &index, &found.wanted, archives, out))
+        }
         Err(fault) => Reply::of(Err(fault)),
     }
 }

@@ -6,7 +6,6 @@ mod kept_mail;
 mod new_index;
 mod output_file;
 mod read_ahead;
-mod read_files;
 mod search;
 mod stopped;
 
@@ -81,7 +80,13 @@ fn run_plan<R: Files<File = File>, W: Write>(
     if plan.patterns.as_slice().is_empty() && !plan.once {
         return replace_index(rt, alloc, rcfile, &rc);
     }
-    let index = index_of(rt, alloc, plan, rc.database.as_str())?;
+    let database = rc.database.as_str();
+    let index = if plan.once {
+        None
+    } else {
+        let bytes = read_index(rt, alloc, database);
+        Some(bytes.map_err(|error| Stopped::by(alloc, database, &error))?)
+    };
     let index = index.as_deref();
     let search = Search {
         words,
@@ -92,20 +97,6 @@ fn run_plan<R: Files<File = File>, W: Write>(
         now,
     };
     run_search(rt, alloc, plan, &search, out)
-}
-
-/// The bytes of the stored index, where the plan says that it is searched.
-fn index_of<R: Files<File = File>>(
-    rt: &R,
-    alloc: Global,
-    plan: &Plan,
-    path: &str,
-) -> Result<Option<Vec<u8>>, Stopped> {
-    if plan.once {
-        return Ok(None);
-    }
-    let bytes = read_index(rt, alloc, path).map_err(|error| Stopped::by(alloc, path, &error))?;
-    Ok(Some(bytes))
 }
 
 /// Prints the parser's own text: of refused words on standard error, of help and version on standard output. `-r` with `-x`, which

@@ -1,7 +1,5 @@
 //! What an index answers to what is asked.
 ghost use Rattle.std.specs.Prelude.{◌≡◌, ◌<◌, ◌^◌, ◌-◌, ℕ, List, Some};
-ghost use Rattle.mail_index.specs.Faults.{IsFileOf};
-ghost use Rattle.mail_index.specs.Tables.{Table};
 ghost use Rattle.mairix_tool.specs.Asked.{wanted as wanted_of};
 ghost use Rattle.mairix_tool.specs.Inside.Answering.{AsksIndex};
 ghost use Rattle.mairix_tool.specs.Runs.{IsTold, RepliesBy, reply_of, IsCountedWhere, fault_of_answer_kind};
@@ -12,28 +10,6 @@ use mail_index::IndexView;
 use mbox_cutter::Out;
 use run_faults::Fault;
 use std::alloc::Global;
-
-/// What the index file in these bytes answers.
-pub(crate) fn answer_bytes<A: Archives, O: Out>(
-    alloc: Global,
-    bytes: &[u8],
-    wanted: &Wanted,
-    archives: &mut A,
-    out: &mut O,
-) -> Result<u64, Fault>
-    requires file { (t : Table) × IsFileOf bytes.now t }
-    requires archives { A.failures archives.old < 2 ^ 64 - 1 }
-    requires out { O.failures out.old < 2 ^ 64 - 1 }
-    ensures told { (t : Table) (held : List (List ℕ)) → IsFileOf bytes.now t
-        → A.held archives.old ≡ Some held
-        → RepliesBy (IsTold t (wanted_of wanted.now).search held)
-        (reply_of result) (O.taken out.old) (O.taken out.new) }
-    ensures asks { AsksIndex A.Archives O.Out (wanted_of wanted.now).search
-        archives.old archives.new out.old out.new result }
-{
-    let index = IndexView::of_file(bytes);
-    answer_view(alloc, &index, wanted, archives, out)
-}
 
 /// What the index answers, in as many messages as are counted.
 pub(crate) fn answer_view<A: Archives, O: Out>(

@@ -81,9 +81,9 @@ refused-once asked bytes held f old is = unanswered (IsOnceReply asked bytes hel
 -- ---- the archives are indexed
 
 -- sound archives: what their table tells
-pub sound-once : (w : Wanted) (bytes held : List (List ℕ)) (reply : Reply) (old new : Option (List ℕ)) → AreSound (mboxes w.paths bytes)
-    → RepliesBy (IsTold (table (mboxes w.paths bytes)) w.search held) reply old new → RepliesBy (IsOnceReply (Ok w) bytes held) reply old new
-sound-once w bytes held reply old new sound given = grind (arith, replies-as, sound-not-refused)
+pub sound-once : (w : Wanted) (bytes held : List (List ℕ)) (t : Table) (reply : Reply) (old new : Option (List ℕ)) → AreSound (mboxes w.paths bytes)
+    → t ≡ table (mboxes w.paths bytes) → RepliesBy (IsTold t w.search held) reply old new → RepliesBy (IsOnceReply (Ok w) bytes held) reply old new
+sound-once w bytes held t reply old new sound same given = grind (arith, replies-as, sound-not-refused)
 
 -- by the messages themselves
 pub same-bytes : (asked : Result Wanted Fault) (bytes : List (List ℕ)) (reply : Reply) (old new : Option (List ℕ)) → IfOk asked (λ w. length w.paths ≡ length bytes)

@@ -116,22 +116,18 @@ impl<'p, R: Files<File = File>> Archives for FileArchives<'p, R> {
     }
 
     fn length(&mut self, n: u32) -> Result<u64, DeviceFault> {
-        match self.known_length(n) {
-            Ok(length) => Ok(length),
-            Err(_) => {
-                self.failures += 1;
-                Err(DeviceFault)
-            }
-        }
+        let Ok(length) = self.known_length(n) else {
+            self.failures += 1;
+            return Err(DeviceFault);
+        };
+        Ok(length)
     }
 
     fn read_at(&mut self, n: u32, offset: u64, into: &mut [u8]) -> Result<usize, DeviceFault> {
-        match self.read_file(n, offset, into) {
-            Ok(bytes) => Ok(bytes),
-            Err(_) => {
-                self.failures += 1;
-                Err(DeviceFault)
-            }
-        }
+        let Ok(bytes) = self.read_file(n, offset, into) else {
+            self.failures += 1;
+            return Err(DeviceFault);
+        };
+        Ok(bytes)
     }
 }

@@ -28,15 +28,14 @@ pub(crate) fn read_index<R: Files<File = File>>(
 ) -> io::Result<Vec<u8>> {
     let mut file = fs::open(rt, path)?;
     let length = file.metadata()?.len();
-    index_bytes(alloc, &mut file, length)
-}
-
-/// The bytes of an index of this length, as far as they count.
-fn index_bytes<F: Read>(alloc: Global, file: &mut F, length: u64) -> io::Result<Vec<u8>> {
     let mut bytes = Vec::with_capacity(alloc, SHORTEST)?;
     file.by_ref().take(SHORTEST as u64).read_to_end(&mut bytes)?;
     if fault_of_front(&bytes).is_none() {
-        read_rest(file, &mut bytes, length.saturating_sub(SHORTEST as u64))?;
+        read_rest(
+            &mut file,
+            &mut bytes,
+            length.saturating_sub(SHORTEST as u64),
+        )?;
     }
     Ok(bytes)
 }

@@ -19,8 +19,8 @@ pub returns-in-Ok-clause-changed : goal.returns-in-Ok-clause-changed
 returns-in-Ok-clause-changed g c = λ bytes held known holds.
     let w : Wanted = wanted c.in-Ok.found.wanted in
     let indexed = c.in-Ok.ensures.known bytes known in
-    let told = c.answer_bytes.ensures.told (table (mboxes w.paths bytes)) held (subst (λ (b : List ℕ). IsFileOf b (table (mboxes w.paths bytes))) (sym c.bytes.ensures) indexed.1) holds in
-    rw (c.of.ensures, c.in-Ok.ensures.wanted) (sound-once w bytes held (reply_of c.answer_bytes.result) (g.O.Out.taken c.args.out.now) (g.O.Out.taken c.answer_bytes.new.out) indexed.0 told)
+    let same = c.of_file-index.ensures (table (mboxes w.paths bytes)) (subst (λ (b : List ℕ). IsFileOf b (table (mboxes w.paths bytes))) (sym c.bytes.ensures) indexed.1) in
+    rw (c.of.ensures, c.in-Ok.ensures.wanted) (sound-once w bytes held c.of_file-index.result (reply_of c.answer_view.result) (g.O.Out.taken c.args.out.now) (g.O.Out.taken c.answer_view.new.out) indexed.0 same (c.answer_view.ensures.told held holds))
 
 pub returns-in-Ok-clause-reply : goal.returns-in-Ok-clause-reply
 returns-in-Ok-clause-reply g c = grind (arith, known_length, same-bytes, string_bytes, asked-many, returns-in-Ok-clause-changed)
