@@ -9,7 +9,6 @@ ghost use Rattle.mail_query.specs.BooleanGrammar.{Reads};
 ghost use Rattle.mail_query.specs.BooleanFaults.{first_fault};
 
 mod field;
-mod level;
 mod reader;
 mod term;
 mod token;

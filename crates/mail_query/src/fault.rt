@@ -74,16 +74,11 @@ impl From<AllocError> for QueryFault {
     ghost from_gives = { λ _ fault. fault ≡ out_of_memory };
 
     fn from(_: AllocError) -> Self {
-        QueryFault::OUT_OF_MEMORY
+        QueryFault::at(0, QueryFaultKind::OutOfMemory)
     }
 }
 
 impl QueryFault {
-    pub(crate) const OUT_OF_MEMORY: QueryFault = QueryFault {
-        number: 0,
-        kind: QueryFaultKind::OutOfMemory,
-    };
-
     ghost use Rattle.mail_query.specs.Refusals.{numbered};
 
     /// The fault of an item, where want of memory has no number.
@@ -91,7 +86,7 @@ impl QueryFault {
         ensures { result ≡ numbered number kind }
     {
         match kind {
-            QueryFaultKind::OutOfMemory => QueryFault::OUT_OF_MEMORY,
+            QueryFaultKind::OutOfMemory => QueryFault { number: 0, kind },
             _ => QueryFault { number, kind },
         }
     }

@@ -1,6 +1,6 @@
 -- What waits, the nearest first.
 use Rattle.mail_query.proofs.Words.{◌≡◌, ℕ, ◌+◌, ◌-◌, ◌<◌, ◌≤◌, Bool, true, false, ◌||◌, Ok, Err, List, [], ◌∷◌, ◌++◌, length, take, drop, get_or, drop-cons, refl, sym, ap, ◌∙◌, arith, IsLastAndRest, drop_all, or-false, or_right, le-leb, lt-leb, TooDeep, BadParenthesis, Query, Not, shown_level, shown_waiting, nearest_first, shown_stack, Level, Waiting, ForNot, ForClose, with_member, is_negated, has_open, placed, deeper, popped, level_query}
-use Rattle.mail_query.specs.declared.boolean.level.Level.{Level as CodeLevel}
+use Rattle.mail_query.specs.declared.boolean.reader.Level.{Level as CodeLevel}
 use Rattle.mail_query.specs.declared.boolean.reader.Waiting.{Waiting as CodeWaiting}
 use Rattle.mail_query.specs.declared.boolean.reader.Waiting.TheVariants as code_waiting
 use Rattle.mail_query.proofs.PieceLemmas.{last_of, before_last}

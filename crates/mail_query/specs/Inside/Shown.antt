@@ -2,7 +2,7 @@
 use Rattle.std.specs.Prelude.{ℕ, suc, ◌==◌, ◌||◌, Bool, List, [], ◌∷◌, if◌then◌else◌}
 use Rattle.mail_query.specs.declared.boolean.token.Token.{Token as CodeToken}
 use Rattle.mail_query.specs.declared.boolean.token.Token.TheVariants as code
-use Rattle.mail_query.specs.declared.boolean.level.Level.{Level as CodeLevel}
+use Rattle.mail_query.specs.declared.boolean.reader.Level.{Level as CodeLevel}
 use Rattle.mail_query.specs.declared.boolean.reader.Waiting.{Waiting as CodeWaiting}
 use Rattle.mail_query.specs.declared.boolean.reader.Waiting.TheVariants as code_waiting
 use Rattle.mail_query.specs.declared.boolean.reader.Reader.{Reader}

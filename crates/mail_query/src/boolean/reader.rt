@@ -7,17 +7,82 @@ ghost use Rattle.mail_query.specs.Mail.{boolean_lexicon};
 ghost use Rattle.mail_query.specs.Inside.Shown.{shown, shown_level, shown_waiting, shown_stack, shown_token};
 ghost use Rattle.mail_query.specs.BooleanReading.{start, placed, deeper, closed, ended, step, term_step, cut_term_step, is_negated, has_open};
 
-use crate::boolean::field::{Field, field_of};
-use crate::boolean::level::Level;
+use crate::boolean::field::{Field, Fields, field_of};
 use crate::boolean::term::{is_phrase, read_parts};
 use crate::boolean::token::Token;
 use crate::fault::QueryFaultKind;
-use crate::node::{Node, negated};
+use crate::node::{Node, all_of, either_of, negated};
 use crate::pieces::cut;
 use std::alloc::{AllocError, Global};
 
 /// So many `(` and `not` may wait for their end at once.
 const MOST_WAITING: usize = 30;
+
+/// An `either` so far: each `each` that an `or` ended, the members of the last, and the prefixes of the plain terms
+/// in the run that goes on.
+#[derive(Drop)]
+pub(crate) struct Level {
+    eaches: Vec<Node>,
+    members: Vec<Node>,
+    seen: Fields,
+}
+
+impl Level {
+    ghost use Rattle.mail_query.specs.BooleanReading.{empty_level, with_member, noted, run_ended, each_ended, level_query};
+
+    fn empty(alloc: Global) -> Level
+        ensures { shown_level result ≡ empty_level }
+    {
+        Level {
+            eaches: Vec::new(alloc),
+            members: Vec::new(alloc),
+            seen: Fields::NONE,
+        }
+    }
+
+    /// A plain term's prefix is seen in its run; a term under `not` is none.
+    fn noted(mut self, negated: bool, prefix: Option<Field>) -> Level
+        ensures { shown_level result ≡ noted negated prefix (shown_level self) }
+    {
+        self.seen = self.seen.with(if negated { None } else { prefix });
+        self
+    }
+
+    fn with_member(mut self, node: Node) -> Result<Level, AllocError>
+        ensures { IfOk result
+            (λ level. shown_level level ≡ with_member (shown_level self) (query_of node)) }
+    {
+        self.members.push(node)?;
+        Ok(self)
+    }
+
+    fn run_ended(mut self) -> Level
+        ensures { shown_level result ≡ run_ended (shown_level self) }
+    {
+        self.seen = Fields::NONE;
+        self
+    }
+
+    fn each_ended(self, alloc: Global) -> Result<Level, AllocError>
+        ensures { IfOk result (λ level. shown_level level ≡ each_ended (shown_level self)) }
+    {
+        let mut eaches = self.eaches;
+        eaches.push(all_of(self.members))?;
+        Ok(Level {
+            eaches,
+            members: Vec::new(alloc),
+            seen: Fields::NONE,
+        })
+    }
+
+    fn into_node(self) -> Result<Node, AllocError>
+        ensures { IfOk result (λ node. query_of node ≡ level_query (shown_level self)) }
+    {
+        let mut eaches = self.eaches;
+        eaches.push(all_of(self.members))?;
+        Ok(either_of(eaches))
+    }
+}
 
 /// What waits for its end: a `not`, or a `(` with the `either` that it stands in.
 #[derive(Drop)]
@@ -115,7 +180,7 @@ fn read_cut_term(
         (cut_term_step boolean_lexicon (shown reader) prefix rest.now) }
 {
     let negated = is_negated(reader.waiting.as_slice());
-    if !negated && reader.level.has_seen(prefix) {
+    if !negated && reader.level.seen.has(prefix) {
         return Err(QueryFaultKind::NeedsOperator);
     }
     let node = read_parts(alloc, prefix, rest)?;
