@@ -1,5 +1,4 @@
 -- Laws of cursors, which give the numbers that satisfy a query.
-pub mod AloneLists
 pub mod Begins
 pub mod Containing
 pub mod Groups

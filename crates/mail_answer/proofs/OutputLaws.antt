@@ -1,9 +1,7 @@
 -- Laws of what an answer writes.
-pub mod ChosenArchives
 pub mod ChosenBelow
 pub mod ClosedLemmas
 pub mod ClosedMessages
-pub mod ClosingLemmas
 pub mod CopiedPieces
 pub mod CutAgain
 pub mod CutMessages
@@ -15,6 +13,4 @@ pub mod ReadingLemmas
 pub mod SentLemmas
 pub mod Separated
 pub mod SheetLemmas
-pub mod SpanLemmas
 pub mod SpanWrites
-pub mod WriterLemmas

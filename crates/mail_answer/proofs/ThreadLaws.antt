@@ -1,5 +1,4 @@
 -- Laws of threads.
-pub mod Adding
 pub mod ChosenThreads
 pub mod EveryThread
 pub mod ForestLemmas

@@ -13,11 +13,11 @@ pub use Rattle.mail_answer.specs.CutAgain.{IsCutInto, IsCutOut, ends_in_return, 
 pub use Rattle.mail_answer.specs.Excerpts.{excerpt_lines, shown_byte}
 unfoldable pub use Rattle.mail_answer.specs.Excerpts.{excerpt}
 pub use Rattle.mail_answer.specs.Inside.Calls.{KeepsArchives}
-pub use Rattle.mail_answer.specs.Inside.CursorLists.{AreNumbers, first_of, is_before, numbers_ahead, truths_among}
+pub use Rattle.mail_answer.specs.Inside.CursorLists.{AreNumbers, is_before, numbers_ahead, truths_among}
 pub use Rattle.mail_answer.specs.Inside.CursorMarks.{AreFew, HaveMarks, IsFirstMark, marked_or_listed, those_from, truths_marked}
 pub use Rattle.mail_answer.specs.Inside.CursorScans.{IsFound, Scans, is_ahead, satisfies, truths_scanned}
 pub use Rattle.mail_answer.specs.Inside.CursorTexts.{HaveNumbers, any_text, looked_up_by, numbers_fitting, numbers_passing, some_has, some_of_kinds}
-pub use Rattle.mail_answer.specs.Inside.Digests.{AbsorbsPart, ComparesDigest, ReadsDigest, front_digest, has_front_digest}
+pub use Rattle.mail_answer.specs.Inside.Digests.{AbsorbsPart, ReadsDigest, front_digest}
 pub use Rattle.mail_answer.specs.Inside.Endings.{ending_of, ending_of_line, feeds_of, line_of, with_byte}
 pub use Rattle.mail_answer.specs.Inside.Forests.{AreBothAmong, AreInOneTree, LabelsTrees, LeadsBack, ShareKey, Shortens, StaysInThreads, TellsThreads, Unites}
 pub use Rattle.mail_answer.specs.Inside.HeaderReads.{HasFields, HasFieldsAfter, WillHaveFields}
@@ -34,9 +34,9 @@ pub use Rattle.mail_answer.specs.Stale.{TellsStale, first_changed, length_at, st
 pub use Rattle.mail_answer.specs.TableAnswers.{Answers, IsTableAnswer, TableAnswer, answer_of_numbers, mail_told, search_of}
 pub use Rattle.mail_answer.specs.TableFacts.{chosen_numbers, facts_at, is_among, no_record, record_at, texts_with, truths}
 pub use Rattle.mail_answer.specs.Threads.{AreThreads, IsInThread, IsInThreadOfSome, IsPath, are_linked}
-pub use Rattle.mail_answer.specs.Verified.{AreRead, AreVerified, FindsDigests, ReadEach, TellsFound, first_altered, has_digest, unverified_archive}
+pub use Rattle.mail_answer.specs.Verified.{AreRead, AreVerified, FindsDigests, ReadEach, TellsVerified, first_altered, has_digest, unverified_archive}
 pub use Rattle.mail_answer.specs.declared.archives.Archives.{Ghosts}
-pub use Rattle.mail_answer.specs.declared.cursor.fit.Fit.TheVariants.{Front, Whole, Within}
+pub use Rattle.mail_answer.specs.declared.cursor.texts.Fit.TheVariants.{Front, Whole, Within}
 pub use Rattle.mail_answer.specs.declared.fault.AnswerFaultKind.{AnswerFaultKind}
 pub use Rattle.mail_answer.specs.declared.fault.AnswerFaultKind.TheVariants.{Device, OutFailed, OutOfMemory, Stale}
 pub use Rattle.mail_answer.specs.declared.format.Format.TheVariants.{Excerpt, Mbox, Raw}
@@ -75,7 +75,7 @@ pub use Rattle.std.proofs.Math.Nat.{add-mul, suc-mul}
 pub use Rattle.std.proofs.Math.Seq.{drop-append_seam, take-append-add, take-append_seam}
 pub use Rattle.std.proofs.lemmas.Bool.{and_from, and_left, and_parts, and_right, both_ways, cases_lt, cases_order, eqb-false, eqb-true, false_from_ne_true, lt-leb, ltb-false, ltb-true, ne_eqb, or_cases, or_from, or_left, or_parts, or_right}
 pub use Rattle.std.proofs.lemmas.Bool.Decides.{eqb_tells, nat_tests}
-pub use Rattle.std.proofs.lemmas.List.{drop-append-le, drop-drop, drop_all, drop_more, ext_get_or, get_or-append-add, get_or-map, get_or-replicate, get_or-set_other, get_or-set_same, get_or-take, get_or_append_left, get_or_default, get_or_past, length-map, length-replicate, length-set, map-append, map-id, take-append-drop, take-append-le, take-set, take-take, take_at, take_more, take_more_set, take_rest}
+pub use Rattle.std.proofs.lemmas.List.{drop-append-le, drop-drop, drop_all, drop_more, ext_get_or, get_or-append-add, get_or-map, get_or-replicate, get_or-set_other, get_or-set_same, get_or-take, get_or_append_left, get_or_default, get_or_past, length-map, length-replicate, length-set, map-append, map-id, take-append-drop, take-append-le, take-set, take-take, take_more, take_more_set, take_rest}
 pub use Rattle.std.proofs.lemmas.List.Concat.{concat_is, flat_map-append, flat_map-cons}
 pub use Rattle.std.proofs.lemmas.List.Folds.{concat-append, flat_map-map}
 pub use Rattle.std.proofs.lemmas.List.FromFn.{fill_by_all, filter_of_map_range_with_len_more, get_or-map-range_with_len, get_or-range_with_len, length-map-range_with_len, length-range_with_len, map-range_with_len_more}

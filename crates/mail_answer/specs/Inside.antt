@@ -3,7 +3,6 @@ pub mod Calls
 pub mod Copies
 pub mod CursorBegins
 pub mod CursorFalls
-pub mod CursorHeads
 pub mod CursorLists
 pub mod CursorMarks
 pub mod CursorScans

@@ -3,8 +3,8 @@ use Rattle.std.specs.Prelude.{◌≡◌, ℕ, ◌<◌, Bool, false, ◌&&◌, �
 use Rattle.std.specs.List.{list_any, range_with_len, slice_index_or}
 use Rattle.mail_query.specs.Truth.{contains_text, begins_with}
 use Rattle.mail_answer.specs.TableFacts.{is_among}
-use Rattle.mail_answer.specs.declared.cursor.fit.Fit.{Fit}
-use Rattle.mail_answer.specs.declared.cursor.fit.Fit.TheVariants.{Whole, Within, Front}
+use Rattle.mail_answer.specs.declared.cursor.texts.Fit.{Fit}
+use Rattle.mail_answer.specs.declared.cursor.texts.Fit.TheVariants.{Whole, Within, Front}
 
 abbrev pub truth_at : List Bool → ℕ → Bool
 truth_at truths n = slice_index_or truths n false

@@ -42,14 +42,9 @@ TellsFault named archives OutOfMemory = stale_archive named archives ≡ None
 TellsFault named archives OutFailed = ⊥
 
 -- All archives are those that were indexed, or this one isn't.
-abbrev pub TellsVerified : {T : Type 0} → List Archive → List (List ℕ) → Result T AnswerFault → Type 0
+abbrev pub TellsVerified : {T : Type 0} → List Archive → List (List ℕ) → Result T AnswerFaultKind → Type 0
 TellsVerified named archives (Ok _) = unverified_archive named archives ≡ None
-TellsVerified named archives (Err fault) = TellsFault named archives fault.kind
-
--- so of a call that writes nothing
-abbrev pub TellsFound : {T : Type 0} → List Archive → List (List ℕ) → Result T AnswerFaultKind → Type 0
-TellsFound named archives (Ok _) = unverified_archive named archives ≡ None
-TellsFound named archives (Err kind) = TellsFault named archives kind
+TellsVerified named archives (Err kind) = TellsFault named archives kind
 
 -- ---- in which order the archives are read, and what is found, also where their bytes aren't known
 

@@ -2,18 +2,16 @@
 //!
 //! A cursor is a tree of walks (decision 74 in docs/DECISIONS.md), and it counts each posting and record that it looks at
 //! (decision 75).
-ghost use Rattle.std.specs.Prelude.{◌≡◌, ◌≤◌, ℕ, Some, length, IfOk};
+ghost use Rattle.std.specs.Prelude.{◌≡◌, ◌≤◌, length, IfOk};
 ghost use Rattle.mail_query.specs.Meaning.{meaning};
 ghost use Rattle.mail_answer.specs.TableFacts.{chosen_numbers};
 ghost use Rattle.mail_answer.specs.CursorAhead.{CountsPostings, Spends};
-ghost use Rattle.mail_answer.specs.CursorNumbers.{numbers_from, AreWithin, TakesFirst, TakesFrom};
+ghost use Rattle.mail_answer.specs.CursorNumbers.{TakesFirst, TakesFrom};
 
 mod begin;
-mod fit;
 mod head;
 mod listed;
 mod marked;
-mod records;
 mod scanned;
 mod texts;
 mod walk;
@@ -44,30 +42,6 @@ impl<'a> Model for Cursor<'a> {
     ghost view = { λ s. record { numbers = numbers_from s.low s.count s.walk.truths; left = s.walk.left; postings = s.walk.postings } };
 
     ghost invariant = { λ s. AreWithin s.count s.walk.truths };
-}
-
-/// Takes the first number that is at least n.
-fn take_from(
-    walk: &mut Walk<'_>,
-    low: &mut u32,
-    count: u32,
-    n: u32,
-    steps: &mut Steps,
-) -> Option<u32>
-    requires { AreWithin count walk.old.truths }
-    ensures takes { TakesFirst (numbers_from n count walk.old.truths)
-        (numbers_from low.new count walk.new.truths) result }
-    ensures least { (k : ℕ) → result ≡ Some k → n ≤ k }
-    ensures within { AreWithin count walk.new.truths }
-    ensures steps { Spends walk.old.left walk.new.left steps.old steps.new }
-    ensures postings { CountsPostings walk.old.postings walk.new.postings steps.old steps.new }
-{
-    let number = match walk.least_from(n, steps) {
-        Some(number) => number,
-        None => return None,
-    };
-    *low = number + 1;
-    Some(number)
 }
 
 impl<'a> Cursor<'a> {
@@ -103,13 +77,13 @@ impl<'a> Cursor<'a> {
 
     /// The next number. Takes no memory, at most as many steps as `left` falls by, and at least one for
     /// each posting that is dropped.
+    #[tactic(auto, using(crate::proofs::CursorLaws::Numbers::takes_first))]
     pub fn next(&mut self, steps: &mut Steps) -> Option<u32>
         ensures number { TakesFirst self.old.numbers self.new.numbers result }
         ensures steps { Spends self.old.left self.new.left steps.old steps.new }
         ensures postings { CountsPostings self.old.postings self.new.postings steps.old steps.new }
     {
-        let from = self.low;
-        take_from(&mut self.walk, &mut self.low, self.count, from, steps)
+        self.next_at_least(0, steps)
     }
 
     /// The least number to come that is at least n. It and all before it are dropped, or all where there
@@ -120,8 +94,10 @@ impl<'a> Cursor<'a> {
         ensures steps { Spends self.old.left self.new.left steps.old steps.new }
         ensures postings { CountsPostings self.old.postings self.new.postings steps.old steps.new }
     {
-        let from = n.max(self.low);
-        take_from(&mut self.walk, &mut self.low, self.count, from, steps)
+        let number = self.walk.least_from(n.max(self.low), steps)?;
+        prove!(number < self.count);
+        self.low = number + 1;
+        Some(number)
     }
 }
 

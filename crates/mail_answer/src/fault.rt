@@ -1,7 +1,7 @@
 //! Why an answer isn't whole.
 ghost use Rattle.std.specs.Prelude.{◌≡◌};
 
-use std::alloc::{AllocError, AllocFailed};
+use std::alloc::AllocError;
 use thiserror::Error;
 
 /// What an answer failed at.

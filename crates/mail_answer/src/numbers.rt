@@ -1,11 +1,10 @@
 //! The numbers of the messages of an answer, one after another.
-ghost use Rattle.std.specs.Prelude.{◌≡◌, length, drop, IfOk};
+ghost use Rattle.std.specs.Prelude.{length, drop, IfOk};
 ghost use Rattle.mail_query.specs.Meaning.{meaning};
 ghost use Rattle.mail_answer.specs.Inside.CursorLists.{AreNumbers};
 ghost use Rattle.mail_answer.specs.CursorNumbers.{TakesFirst};
 ghost use Rattle.mail_answer.specs.Mail.{AreChosenBy};
 ghost use Rattle.mail_answer.specs.TableAnswers.{mail_told};
-ghost use Rattle.mail_answer.specs.TableFacts.{chosen_numbers};
 
 use crate::cursor::{Cursor, matches};
 use crate::threads::with_threads;
@@ -14,33 +13,21 @@ use mail_query::Query;
 use std::alloc::{AllocError, Global};
 use std::marker::Model;
 
-/// A cursor, and the steps that it has taken.
-#[derive(Drop)]
-struct Walked<'a> {
-    cursor: Cursor<'a>,
-    steps: Steps,
-}
-
-/// A list of numbers, and how many of them were given.
-#[derive(Drop)]
-struct Listed {
-    numbers: Vec<u32>,
-    given: usize,
-}
-
 /// Where numbers come from.
 #[derive(Drop)]
 enum Source<'a> {
     /// The cursor of a query: no list of them is kept.
-    Walked(Walked<'a>),
-    /// A list of them.
-    Listed(Listed),
+    Walked(Cursor<'a>),
+    /// A list of them, of which so many were given.
+    Listed { numbers: Vec<u32>, given: usize },
 }
 
 /// The numbers of the messages of an answer that are still to come, rising.
 #[derive(Drop)]
 pub(crate) struct Numbers<'a> {
     source: Source<'a>,
+    // The steps of the cursor.
+    steps: Steps,
 }
 
 impl<'a> Model for Numbers<'a> {
@@ -62,26 +49,6 @@ fn next_listed(numbers: &[u32], given: &mut usize) -> Option<u32>
 }
 
 impl<'a> Numbers<'a> {
-    /// Those of the messages that satisfy a query.
-    fn walked(alloc: Global, index: &IndexView<'a>, query: &Query) -> Result<Self, AllocError>
-        ensures { IfOk result (λ numbers. numbers ≡ chosen_numbers index.now (meaning query.now)) }
-    {
-        let mut steps = Steps::new();
-        let cursor = Cursor::new(alloc, index, query, &mut steps)?;
-        Ok(Numbers {
-            source: Source::Walked(Walked { cursor, steps }),
-        })
-    }
-
-    /// Those of a list.
-    fn listed(numbers: Vec<u32>) -> Self
-        ensures { result ≡ numbers.items }
-    {
-        Numbers {
-            source: Source::Listed(Listed { numbers, given: 0 }),
-        }
-    }
-
     /// Those of the messages that satisfy a query, or with `threads` of all messages in their threads. Without `threads` no list
     /// of them is made.
     pub(crate) fn chosen(
@@ -94,12 +61,15 @@ impl<'a> Numbers<'a> {
             (meaning query.now) numbers) }
         ensures numbers { IfOk result (λ numbers. AreNumbers (length index.now.messages) numbers) }
     {
+        let mut steps = Steps::new();
         if !threads {
-            return Numbers::walked(alloc, index, query);
+            let source = Source::Walked(Cursor::new(alloc, index, query, &mut steps)?);
+            return Ok(Numbers { source, steps });
         }
         let satisfying = matches(alloc, index, query)?;
-        let members = with_threads(alloc, index, satisfying.as_slice())?;
-        Ok(Numbers::listed(members))
+        let numbers = with_threads(alloc, index, satisfying.as_slice())?;
+        let source = Source::Listed { numbers, given: 0 };
+        Ok(Numbers { source, steps })
     }
 
     /// The next number.
@@ -107,8 +77,8 @@ impl<'a> Numbers<'a> {
         ensures { TakesFirst self.old self.new result }
     {
         match &mut self.source {
-            Source::Walked(walked) => walked.cursor.next(&mut walked.steps),
-            Source::Listed(listed) => next_listed(&listed.numbers, &mut listed.given),
+            Source::Walked(cursor) => cursor.next(&mut self.steps),
+            Source::Listed { numbers, given } => next_listed(numbers, given),
         }
     }
 }

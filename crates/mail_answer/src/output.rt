@@ -9,5 +9,4 @@ pub mod line_reader;
 pub mod mbox;
 pub mod places;
 pub mod raw_answer;
-pub mod raw_line;
 pub mod sheet;

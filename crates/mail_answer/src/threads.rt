@@ -2,33 +2,18 @@
 //!
 //! They are found by union-find over the messages, in one pass over the link ids, since an index has no map from a message to its
 //! ids (decision 73 in docs/DECISIONS.md).
-ghost use Rattle.std.specs.Prelude.{◌≡◌, ◌<◌, ◌^◌, ◌↔◌, ℕ, nat_eq, length, filter, slice_index, IfOk, IsTrue};
+ghost use Rattle.std.specs.Prelude.{◌≡◌, ◌<◌, ◌^◌, ℕ, nat_eq, length, filter, slice_index, IfOk};
 ghost use Rattle.std.specs.List.{All, AllByRecursion, list_any, range_with_len};
 ghost use Rattle.mail_index.specs.Tables.{IsWellFormed, RisesFrom};
-ghost use Rattle.mail_index.specs.declared.kind.Kind.TheVariants.{LinkId};
-ghost use Rattle.mail_index.specs.LookUps.{keys_of};
-ghost use Rattle.mail_answer.specs.Marks.{truth_at, each_number, Adds};
+ghost use Rattle.mail_answer.specs.Marks.{truth_at, each_number};
 ghost use Rattle.mail_answer.specs.Threads.{AreThreads};
 ghost use Rattle.mail_answer.specs.Inside.Forests.{TellsThreads};
 
 mod forest;
-mod marks;
 
 use crate::threads::forest::{flatten, single_messages, unite_by_keys};
-use crate::threads::marks::same_truths;
 use mail_index::{IndexView, Kind, Steps};
 use std::alloc::{AllocError, Global};
-
-/// Joins the messages of each link id. Afterwards `roots` has for each message the one that stands for its thread.
-fn join_threads(roots: &mut [u32], index: &IndexView<'_>)
-    requires table { IsWellFormed index.now }
-    requires single { roots.old ≡ range_with_len 0 (length index.now.messages) }
-    ensures { TellsThreads index.now roots.new }
-{
-    let mut steps = Steps::new();
-    unite_by_keys(roots, index.keys(Kind::LinkId), &mut steps);
-    flatten(roots);
-}
 
 /// For each message the one that stands for its thread, the same for all messages of the thread.
 fn thread_roots(alloc: Global, index: &IndexView<'_>) -> Result<Vec<u32>, AllocError>
@@ -36,46 +21,24 @@ fn thread_roots(alloc: Global, index: &IndexView<'_>) -> Result<Vec<u32>, AllocE
     ensures { IfOk result (λ v. TellsThreads index.now v.items) }
 {
     let mut roots = single_messages(alloc, index.message_count())?;
-    join_threads(roots.as_mut_slice(), index);
+    let keys = index.keys(Kind::LinkId);
+    unite_by_keys(roots.as_mut_slice(), keys, &mut Steps::new());
+    flatten(roots.as_mut_slice());
     Ok(roots)
 }
 
-/// Marks the roots of these messages.
-fn mark_roots(numbers: &[u32], roots: &[u32], marks: &mut [bool])
+/// For each message whether it is the root of one of these.
+fn root_marks(alloc: Global, numbers: &[u32], roots: &[u32]) -> Result<Vec<bool>, AllocError>
     requires within { All (λ n. n < length roots.now) numbers.now }
-    requires marked { (n : ℕ) → n < length roots.now → slice_index roots.now n < length marks.old }
-    ensures { Adds (λ r. list_any (λ n. nat_eq r (slice_index roots.now n)) numbers.now)
-        marks.old marks.new }
+    requires roots { (n : ℕ) → n < length roots.now → slice_index roots.now n < length roots.now }
+    ensures { IfOk result (λ v. v.items ≡ each_number (length roots.now)
+        (λ r. list_any (λ n. nat_eq r (slice_index roots.now n)) numbers.now)) }
 {
+    let mut marks = vec![in alloc; false; roots.len()]?;
     for number in numbers {
         marks[roots[*number as usize] as usize] = true;
     }
-}
-
-/// For each message whether it is the root of one of these.
-fn root_marks(
-    alloc: Global,
-    numbers: &[u32],
-    roots: &[u32],
-    count: u32,
-) -> Result<Vec<bool>, AllocError>
-    requires within { All (λ n. n < length roots.now) numbers.now }
-    requires marked { (n : ℕ) → n < length roots.now → slice_index roots.now n < count }
-    ensures { IfOk result (λ v. v.items ≡ each_number count
-        (λ r. list_any (λ n. nat_eq r (slice_index roots.now n)) numbers.now)) }
-{
-    let mut marks = same_truths(alloc, count, false)?;
-    mark_roots(numbers, roots, marks.as_mut_slice());
     Ok(marks)
-}
-
-/// Whether the root of the message is marked.
-fn has_marked_root(number: usize, roots: &[u32], marks: &[bool]) -> bool
-    requires within { number < length roots.now }
-    requires marked { slice_index roots.now number < length marks.now }
-    ensures { result ≡ truth_at marks.now (slice_index roots.now number) }
-{
-    marks[roots[number] as usize]
 }
 
 /// The numbers of the messages whose roots are marked, rising.
@@ -87,37 +50,11 @@ fn with_marked_root(alloc: Global, roots: &[u32], marks: &[bool]) -> Result<Vec<
 {
     let mut numbers = Vec::new(alloc);
     for number in 0..roots.len() {
-        if has_marked_root(number, roots, marks) {
+        if marks[roots[number] as usize] {
             numbers.push(number as u32)?;
         }
     }
     Ok(numbers)
-}
-
-/// Whether some message of the index has a link id.
-fn has_links(index: &IndexView<'_>) -> bool
-    ensures { IsTrue result ↔ (0 < length (keys_of LinkId index.now.keys)) }
-{
-    index.keys(Kind::LinkId).next().is_some()
-}
-
-/// The numbers of all messages in the threads of these ones, from an index whose table keeps its rules.
-fn thread_members(
-    alloc: Global,
-    index: &IndexView<'_>,
-    numbers: &[u32],
-) -> Result<Vec<u32>, AllocError>
-    requires table { IsWellFormed index.now }
-    requires rises { RisesFrom 0 numbers.now }
-    requires within { AllByRecursion (λ n. n < length index.now.messages) numbers.now }
-    ensures { IfOk result (λ v. AreThreads index.now numbers.now v.items) }
-{
-    if numbers.is_empty() || !has_links(index) {
-        return Vec::from_slice(alloc, numbers);
-    }
-    let roots = thread_roots(alloc, index)?;
-    let marks = root_marks(alloc, numbers, roots.as_slice(), index.message_count())?;
-    with_marked_root(alloc, roots.as_slice(), marks.as_slice())
 }
 
 /// The numbers of all messages in the threads of these ones, rising, each once.
@@ -140,5 +77,11 @@ pub fn with_threads(
     requires within { AllByRecursion (λ n. n < length index.now.messages) numbers.now }
     ensures { IfOk result (λ v. AreThreads index.now numbers.now v.items) }
 {
-    thread_members(alloc, &index.again(), numbers)
+    let index = index.again();
+    if numbers.is_empty() || index.keys(Kind::LinkId).next().is_none() {
+        return Vec::from_slice(alloc, numbers);
+    }
+    let roots = thread_roots(alloc, &index)?;
+    let marks = root_marks(alloc, numbers, roots.as_slice())?;
+    with_marked_root(alloc, roots.as_slice(), marks.as_slice())
 }

@@ -1,6 +1,5 @@
 -- Laws of archives that are asked for their lengths in order.
-use Rattle.mail_answer.proofs.Words.{◌≡◌, ℕ, ◌+◌, ◌<◌, Bool, true, false, ◌==◌, List, [], ◌∷◌, ◌++◌, map, length, length-take, take, take-add, drop, drop-cons, Option, IfSome, Ok, ap, sym, ◌∙◌, subst, arith, eqb-true, length-map, map-append, Archive, archive_at, TellLengths, indexed_lengths, Agree, Ghosts}
-use Rattle.std.proofs.lemmas.Bool.{eq-eqb}
+use Rattle.mail_answer.proofs.Words.{◌≡◌, ℕ, ◌+◌, ◌<◌, List, [], ◌∷◌, ◌++◌, map, length, length-take, take, take-add, drop, drop-cons, Option, IfSome, Ok, ap, sym, ◌∙◌, subst, arith, length-map, map-append, Archive, archive_at, TellLengths, indexed_lengths, Agree, Ghosts}
 
 -- one archive more was asked
 tell_more : {A : Type 0} (g : Ghosts A) (n : ℕ) (lengths : List ℕ) (l : ℕ) (old before new : A) → TellLengths g n lengths old before → g.measures before (n + length lengths) (Ok l) new → TellLengths g n (lengths ++ l ∷ []) old new
@@ -12,27 +11,19 @@ tell_more {A} g n (k ∷ lengths) l old before new told m =
 map_one_more : {X : Type 0} (f : X → ℕ) (xs : List X) (n : ℕ) (x : X) (rest : List X) → drop n xs ≡ x ∷ rest → map f (take (n + 1) xs) ≡ map f (take n xs) ++ f x ∷ []
 map_one_more {X} f xs n x rest e = ap (map f) (take-add n 1 xs ∙ ap (λ ys. take n xs ++ take 1 ys) e) ∙ map-append f (take n xs) (x ∷ [])
 
-known_more : (held : Option (List (List ℕ))) (named : List Archive) (n number : ℕ) (a : Archive) (rest : List Archive) (same : Bool) → n < number → drop n named ≡ a ∷ rest
-    → IfSome held (λ archives. length archives ≡ number) → IfSome held (λ archives. same ≡ (length (archive_at archives n) == a.length)) → same ≡ true
+known_more : (held : Option (List (List ℕ))) (named : List Archive) (n number : ℕ) (a : Archive) (rest : List Archive) → n < number → drop n named ≡ a ∷ rest
+    → IfSome held (λ archives. length archives ≡ number) → IfSome held (λ archives. a.length ≡ length (archive_at archives n))
     → IfSome held (λ archives. map length (take n archives) ≡ indexed_lengths (take n named)) → IfSome held (λ archives. map length (take (n + 1) archives) ≡ indexed_lengths (take (n + 1) named))
-known_more held named n number a rest same h h2 h3 h4 h5 h6 = grind (arith, eqb-true, map_one_more, drop-cons)
+known_more held named n number a rest h h2 h3 h4 h5 = grind (arith, map_one_more, drop-cons)
 
 -- one archive more agrees
-pub agree_more : {A : Type 0} (g : Ghosts A) (named : List Archive) (n number : ℕ) (a : Archive) (rest : List Archive) (told : ℕ) (same : Bool) (old before new : A) → n < number → number ≡ length named → drop n named ≡ a ∷ rest
-    → IfSome (g.held old) (λ archives. length archives ≡ number) → IfSome (g.held old) (λ archives. same ≡ (length (archive_at archives n) == a.length)) → same ≡ (told == a.length) → same ≡ true
-    → g.measures before n (Ok told) new → Agree g named n old before → Agree g named (n + 1) old new
-agree_more {A} g named n number a rest told same old before new h as_many e count is asked holds measured so_far =
+pub agree_more : {A : Type 0} (g : Ghosts A) (named : List Archive) (n number : ℕ) (a : Archive) (rest : List Archive) (old before new : A) → n < number → number ≡ length named → drop n named ≡ a ∷ rest
+    → IfSome (g.held old) (λ archives. length archives ≡ number) → IfSome (g.held old) (λ archives. a.length ≡ length (archive_at archives n))
+    → g.measures before n (Ok a.length) new → Agree g named n old before → Agree g named (n + 1) old new
+agree_more {A} g named n number a rest old before new h as_many e count known measured so_far =
     let many : 0 + length (indexed_lengths (take n named)) ≡ n = omega (arith, length-map (take n named) (λ (t : Archive). t.length), length-take n named, h, as_many) in
-    let as_indexed : told ≡ a.length = eqb-true told a.length (sym asked ∙ holds) in
-    let next : g.measures before (0 + length (indexed_lengths (take n named))) (Ok a.length) new =
-    subst (λ (k : ℕ). g.measures before k (Ok a.length) new) (sym many) (subst (λ (k : ℕ). g.measures before n (Ok k) new) as_indexed measured) in
+    let next : g.measures before (0 + length (indexed_lengths (take n named))) (Ok a.length) new = subst (λ (k : ℕ). g.measures before k (Ok a.length) new) (sym many) measured in
     record {
       told = subst (λ (lengths : List ℕ). TellLengths g 0 lengths old new) (sym (map_one_more (λ (t : Archive). t.length) named n a rest e)) (tell_more g 0 (indexed_lengths (take n named)) a.length old before new so_far.told next);
-      known = known_more (g.held old) named n number a rest same h e count is holds so_far.known;
+      known = known_more (g.held old) named n number a rest h e count known so_far.known;
     }
-
--- another length was told
-pub other_told : (told indexed : ℕ) (same : Bool) → same ≡ (told == indexed) → same ≡ false → told ≡ indexed → ⊥
-other_told told indexed same asked fails e = absurd (cc (sym fails ∙ asked ∙ eq-eqb told indexed e))
-
--- what holds of any error

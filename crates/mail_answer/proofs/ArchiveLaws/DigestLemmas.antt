@@ -1,5 +1,5 @@
 -- Laws of digests that are taken of archives piece by piece.
-use Rattle.mail_answer.proofs.Words.{◌≡◌, ℕ, ◌+◌, ◌<◌, List, [], ◌∷◌, ◌++◌, append-nil, length, length-append, take, take-add, take_all, Option, Some, IfSome, Ok, ap, ap₂, sym, ◌∙◌, le-leb, subst, arith, concat-append, concat, sha256, archive_at, IsRead, front_digest, AbsorbsPart, ReadsDigest, TellPieces, ReadsFront, Ghosts}
+use Rattle.mail_answer.proofs.Words.{◌≡◌, ℕ, ◌+◌, List, [], ◌∷◌, ◌++◌, append-nil, length, length-append, take, take-add, take_all, Option, Some, IfSome, Ok, ap, ap₂, sym, ◌∙◌, le-leb, subst, arith, concat-append, concat, sha256, archive_at, IsRead, front_digest, AbsorbsPart, ReadsDigest, TellPieces, ReadsFront, Ghosts}
 use Rattle.sha2.specs.Hashers.{Holds256}
 use Rattle.sha2.specs.declared.Sha256.{Sha256}
 

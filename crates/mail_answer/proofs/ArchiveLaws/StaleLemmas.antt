@@ -1,11 +1,6 @@
 -- Laws of archives that have changed.
-use Rattle.mail_answer.proofs.Words.{◌≡◌, ℕ, ◌+◌, suc, ◌<◌, ◌≤◌, Bool, true, false, ◌==◌, cond, min, List, [], ◌∷◌, length, length-drop, drop, drop-cons, get_or, Option, None, Some, IfSome, inl, inr, zero, refl, ap, add-one, arith, eqb_tells, Archive, archive_at, first_changed, stale_archive, length_at}
-
-eq_tells : (a b : ℕ) → a ≡ b → (a == b) ≡ true
-eq_tells a b e = elim (eqb_tells a b) [ inl p ↦ p.0 | inr p ↦ absurd (p.1 e) ]
-
-neq_tells : (a b : ℕ) → (a ≡ b → ⊥) → (a == b) ≡ false
-neq_tells a b e = elim (eqb_tells a b) [ inl p ↦ absurd (e p.1) | inr p ↦ p.0 ]
+use Rattle.mail_answer.proofs.Words.{◌≡◌, ℕ, ◌+◌, suc, ◌<◌, ◌==◌, cond, min, List, [], ◌∷◌, length, length-drop, drop, drop-cons, get_or, Option, None, Some, IfSome, zero, refl, ap, add-one, arith, ne_eqb, Archive, archive_at, first_changed, stale_archive, length_at}
+use Rattle.std.proofs.lemmas.Bool.{eq-eqb}
 
 no_archive : Archive
 no_archive = record { path = []; length = 0; digest = None }
@@ -25,25 +20,21 @@ next_named (b ∷ named) (suc n) a rest e = grind (arith, next_named named n a r
 pub still_named : (named : List Archive) (n : ℕ) → n < length named → drop n named ≡ [] → ⊥
 still_named named n h e = let long : length (drop n named) ≡ 0 = ap length e in absurd (omega (arith, long, length-drop n named))
 
-pub as_named : (held : Option (List (List ℕ))) (named : List Archive) (n indexed : ℕ) (same : Bool) → length_at named n ≡ indexed
-    → IfSome held (λ bytes. same ≡ (length (archive_at bytes n) == indexed)) → IfSome held (λ bytes. same ≡ (length (archive_at bytes n) == length_at named n))
-as_named held named n indexed same h h2 = grind arith
-
 -- the answer at an archive, and what is left behind it
 changed_next : (named : List Archive) (bytes : List (List ℕ)) (n : ℕ) → n < length named → n < length bytes
     → first_changed n (drop n named) (drop n bytes) ≡ cond (length (archive_at bytes n) == length_at named n) (first_changed (n + 1) (drop (n + 1) named) (drop (n + 1) bytes)) (Some n)
 changed_next named bytes n h k = grind (arith, drop-cons, no_archive, length_in, add-one)
 
-pub goes_on : (named : List Archive) (held : Option (List (List ℕ))) (n number : ℕ) (same : Bool) → n < length named → number ≡ length named
+pub goes_on : (named : List Archive) (held : Option (List (List ℕ))) (n number : ℕ) → n < length named → number ≡ length named
     → IfSome held (λ bytes. length bytes ≡ number)
     → IfSome held (λ bytes. first_changed 0 named bytes ≡ first_changed n (drop n named) (drop n bytes))
-    → IfSome held (λ bytes. same ≡ (length (archive_at bytes n) == length_at named n)) → same ≡ true
+    → IfSome held (λ bytes. length_at named n ≡ length (archive_at bytes n))
     → IfSome held (λ bytes. first_changed 0 named bytes ≡ first_changed (n + 1) (drop (n + 1) named) (drop (n + 1) bytes))
-goes_on named held n number same h h2 h3 h4 h5 h6 = grind (arith, changed_next)
+goes_on named held n number h h2 h3 h4 h5 = grind (arith, eq-eqb, changed_next)
 
 same_count : (named : List Archive) (bytes : List (List ℕ)) → length bytes ≡ length named → stale_archive named bytes ≡ first_changed 0 named bytes
-same_count named bytes e = rw (eq_tells (length bytes) (length named) e) refl
+same_count named bytes e = rw (eq-eqb (length bytes) (length named) e) refl
 
 pub other_count : (named : List Archive) (held : Option (List (List ℕ))) (number : ℕ) → (number ≡ length named → ⊥) → IfSome held (λ bytes. length bytes ≡ number)
     → IfSome held (λ bytes. stale_archive named bytes ≡ Some (min number (length named)))
-other_count named held number h h2 = grind (arith, neq_tells)
+other_count named held number h h2 = grind (arith, ne_eqb)

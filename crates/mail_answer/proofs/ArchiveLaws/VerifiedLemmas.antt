@@ -1,6 +1,13 @@
 -- Laws of archives with other bytes than those that were indexed.
-use Rattle.mail_answer.proofs.Words.{◌≡◌, ℕ, zero, suc, ◌+◌, ◌<◌, ◌≤◌, Bool, true, false, ◌==◌, cond, List, [], ◌∷◌, ◌++◌, map, length, length-take, take, take-add, take_all, drop, drop-cons, Option, None, Some, IfSome, bytes_eq, refl, ap, ap₂, sym, ◌∙◌, subst, add-one, Result, Ok, Err, OnOk, arith, eqb-true, length-map, map-append, bytes_eq-Decides, AllByRecursion, option_map_or, option_or, sha256, Archive, IsArchive, archive_length, archive_at, has_front_digest, ComparesDigest, ReadsFront, first_changed, stale_archive, TellsStale, has_digest, first_altered, unverified_archive, AreVerified, TellsFound, ReadEach, AreRead, FindsDigests, Ghosts, AnswerFaultKind, Stale, Device, OutOfMemory, OutFailed}
+use Rattle.mail_answer.proofs.Words.{◌≡◌, ℕ, zero, suc, ◌+◌, ◌<◌, Bool, true, false, ◌==◌, cond, List, [], ◌∷◌, ◌++◌, map, length, length-take, take, take-add, take_all, drop, drop-cons, Option, None, Some, IfSome, bytes_eq, refl, ap, ap₂, sym, ◌∙◌, subst, add-one, Result, Ok, Err, OnOk, arith, eqb-true, length-map, map-append, bytes_eq-Decides, AllByRecursion, option_map_or, option_or, sha256, Archive, IsArchive, archive_length, archive_at, front_digest, ReadsDigest, ReadsFront, first_changed, stale_archive, TellsStale, has_digest, first_altered, unverified_archive, AreVerified, TellsVerified, ReadEach, AreRead, FindsDigests, Ghosts, AnswerFaultKind, Stale, Device, OutOfMemory, OutFailed}
 use Rattle.std.proofs.lemmas.Bool.{eq-eqb}
+use Rattle.std.specs.Option.{option_eq}
+use Rattle.std.specs.Prelude.{IfErr}
+use Rattle.std.specs.Result.{MatchResult, IsErrAnd}
+use Rattle.mail_answer.specs.Answers.{fails_by, kind_of}
+use Rattle.mail_answer.specs.Faults.{has_fault}
+use Rattle.mail_answer.specs.declared.fault.AnswerFault.{AnswerFault}
+use Rattle.mail_index.specs.Versions.{IsDigest}
 use Rattle.mail_answer.proofs.ArchiveLaws.DigestLemmas.{whole_digest}
 use Rattle.mail_answer.proofs.ArchiveLaws.IndexedLemmas.{same_number, unchanged_length}
 
@@ -84,35 +91,24 @@ fresh_length : (named : List Archive) (archives : List (List ℕ)) (n : ℕ) (a 
     → (length archives ≡ length named) × (length (archive_at archives n) ≡ a.length)
 fresh_length named archives n a rest fresh h e = grind (arith, same_number, unchanged_length, named_length)
 
--- so that its front has the digest that was indexed where its bytes have
-same_of_fresh : (named : List Archive) (archives : List (List ℕ)) (n : ℕ) (a : Archive) (rest : List Archive) (indexed : List ℕ) (same : Bool) → stale_archive named archives ≡ None → n < length named
-    → drop n named ≡ a ∷ rest → a.digest ≡ Some indexed → same ≡ has_front_digest a.length indexed (archive_at archives n) → (length archives ≡ length named) × (has_digest a (archive_at archives n) ≡ same)
-same_of_fresh named archives n a rest indexed same fresh h e told is = grind (arith, fresh_length, bytes_eq, whole_digest)
-
-pub passes_on : (named : List Archive) (held : Option (List (List ℕ))) (n : ℕ) (a : Archive) (rest : List Archive) (indexed : List ℕ) (same : Bool) → n < length named → drop n named ≡ a ∷ rest
-    → IfSome held (λ archives. stale_archive named archives ≡ None) → UnalteredTo named held n (drop n named) → a.digest ≡ Some indexed
-    → IfSome held (λ archives. same ≡ has_front_digest a.length indexed (archive_at archives n)) → same ≡ true
-    → UnalteredTo named held (n + 1) rest
-passes_on named None n a rest indexed same h e fresh so_far told read holds = tt
-passes_on named (Some archives) n a rest indexed same h e fresh so_far told read holds =
-    let found = same_of_fresh named archives n a rest indexed same fresh h e told read in
-    so_far ∙ ap (λ t. first_altered n t (drop n archives)) e ∙ altered_next n a rest archives (omega (arith, found.0, h))
-    ∙ ap (λ b. cond b (first_altered (n + 1) rest (drop (n + 1) archives)) (Some n)) (found.1 ∙ holds)
-
--- another digest tells the archive
-pub stops_at : (named : List Archive) (held : Option (List (List ℕ))) (n : ℕ) (a : Archive) (rest : List Archive) (indexed : List ℕ) (same : Bool) → n < length named → drop n named ≡ a ∷ rest
-    → IfSome held (λ archives. stale_archive named archives ≡ None) → UnalteredTo named held n (drop n named) → a.digest ≡ Some indexed
-    → IfSome held (λ archives. same ≡ has_front_digest a.length indexed (archive_at archives n)) → same ≡ false
-    → IfSome held (λ archives. TellsStale {T = Unit {0}} (first_altered 0 named archives) (Err (Stale n)))
-stops_at named None n a rest indexed same h e fresh so_far told read fails = tt
-stops_at named (Some archives) n a rest indexed same h e fresh so_far told read fails =
-    let found = same_of_fresh named archives n a rest indexed same fresh h e told read in
-    so_far ∙ ap (λ t. first_altered n t (drop n archives)) e ∙ altered_next n a rest archives (omega (arith, found.0, h))
-    ∙ ap (λ b. cond b (first_altered (n + 1) rest (drop (n + 1) archives)) (Some n)) (found.1 ∙ fails)
+-- so that what was read of its front tells whether the digest is the one that was indexed
+pub told_next : (named : List Archive) (held : Option (List (List ℕ))) (n : ℕ) (a : Archive) (rest : List Archive) (read : Option (List ℕ)) → n < length named → drop n named ≡ a ∷ rest
+    → IfSome held (λ archives. stale_archive named archives ≡ None) → UnalteredTo named held n (drop n named) → IfSome held (λ archives. read ≡ front_digest a.length (archive_at archives n))
+    → IfSome held (λ archives. first_altered 0 named archives ≡ cond (option_eq bytes_eq a.digest read) (first_altered (n + 1) rest (drop (n + 1) archives)) (Some n))
+told_next named None n a rest read h e fresh so_far told = tt
+told_next named (Some archives) n a rest read h e fresh so_far told =
+    let as_long = fresh_length named archives n a rest fresh h e in
+    so_far ∙ ap (λ t. first_altered n t (drop n archives)) e ∙ altered_next n a rest archives (omega (arith, as_long.0, h))
+    ∙ ap (λ b. cond b (first_altered (n + 1) rest (drop (n + 1) archives)) (Some n))
+    (has_is a.digest (sha256 (archive_at archives n)) ∙ ap (option_eq bytes_eq a.digest) (sym (told ∙ whole_digest (archive_at archives n) a.length as_long.1)))
+  where
+    has_is : (digest : Option (List ℕ)) (d : List ℕ) → option_map_or (λ x. bytes_eq x d) digest false ≡ option_eq bytes_eq digest (Some d)
+    has_is None d = refl
+    has_is (Some x) d = refl
 
 -- by digests, where no archive is stale
 pub told_by_digests : {T : Type 0} (named : List Archive) (held : Option (List (List ℕ))) (r : Result T AnswerFaultKind) → IfSome held (λ archives. stale_archive named archives ≡ None)
-    → IfSome held (λ archives. TellsStale (first_altered 0 named archives) r) → IfSome held (λ archives. TellsFound named archives r)
+    → IfSome held (λ archives. TellsStale (first_altered 0 named archives) r) → IfSome held (λ archives. TellsVerified named archives r)
 told_by_digests {T} named None r fresh h = tt
 told_by_digests {T} named (Some archives) (Ok x) fresh h = ap (λ first. option_or first (first_altered 0 named archives)) fresh ∙ h
 told_by_digests {T} named (Some archives) (Err (Stale n)) fresh h = ap (λ first. option_or first (first_altered 0 named archives)) fresh ∙ h
@@ -139,26 +135,40 @@ whole_known named (Some known) n a rest bytes archives fresh h e long front so_f
     let whole : bytes ≡ archive_at known n = front ∙ take_all (length bytes) (archive_at known n) (omega (arith, as_long.1, long)) in
     take-add n 1 known ∙ ap (λ xs. take n known ++ take 1 xs) (drop-cons known n [] (omega (arith, as_long.0, h))) ∙ ap₂ (λ xs x. xs ++ x ∷ []) so_far (sym whole)
 
--- one archive more has the digest that was indexed
-pub more_read : {A : Type 0} (g : Ghosts A) (named : List Archive) (n : ℕ) (a : Archive) (rest : List Archive) (indexed : List ℕ) (old before new : A) → n < length named → drop n named ≡ a ∷ rest
-    → IfSome (g.held old) (λ archives. stale_archive named archives ≡ None) → g.held before ≡ g.held old → a.digest ≡ Some indexed → ComparesDigest g n a.length indexed before new true
-    → AreRead g named n old before → AreRead g named (n + 1) old new
-more_read {A} g named n a rest indexed old before new h e fresh kept told read so_far =
-    let bytes : List ℕ = read.0 in
+-- each archive of version 2 has a digest
+named_archive : (version : ℕ) (named : List Archive) (n : ℕ) (a : Archive) (rest : List Archive) → AllByRecursion (IsArchive version) named → drop n named ≡ a ∷ rest → IsArchive version a
+named_archive version [] zero a rest all e = absurd cc
+named_archive version [] (suc n) a rest all e = absurd cc
+named_archive version (b ∷ named) zero a rest all e = let first : b ≡ a = cc in subst (λ (t : Archive). IsArchive version t) first all.0
+named_archive version (b ∷ named) (suc n) a rest all e = named_archive version named n a rest all.1 e
+
+-- what was read is the digest that was indexed
+same_read : {A : Type 0} (g : Ghosts A) (n count : ℕ) (indexed read : Option (List ℕ)) (before new : A) → (indexed ≡ None → ⊥) → option_eq bytes_eq indexed read ≡ true → ReadsDigest g n count before new read
+    → (bytes : List ℕ) × ReadsFront g n bytes before new × (length bytes ≡ count) × (indexed ≡ Some (sha256 bytes))
+same_read g n count None read before new some same told = absurd (some refl)
+same_read g n count (Some d) None before new some same told = absurd cc
+same_read g n count (Some d) (Some e) before new some same told = (told.0, told.1, told.2, ap Some ((bytes_eq-Decides d e).0 same ∙ told.3))
+
+-- one archive more has it
+pub more_read : {A : Type 0} (g : Ghosts A) (named : List Archive) (n : ℕ) (a : Archive) (rest : List Archive) (read : Option (List ℕ)) (old before new : A) → n < length named → drop n named ≡ a ∷ rest
+    → AllByRecursion (IsArchive 2) named → IfSome (g.held old) (λ archives. stale_archive named archives ≡ None) → g.held before ≡ g.held old → option_eq bytes_eq a.digest read ≡ true
+    → ReadsDigest g n a.length before new read → AreRead g named n old before → AreRead g named (n + 1) old new
+more_read {A} g named n a rest read old before new h e each fresh kept same told so_far =
+    let one = same_read g n a.length a.digest read before new (λ none. omega (arith, subst (IsDigest 2) none (named_archive 2 named n a rest each e).2)) same told in
+    let bytes : List ℕ = one.0 in
     let archives : List (List ℕ) = so_far.archives in
     let more : take (n + 1) named ≡ take n named ++ a ∷ [] = take-add n 1 named ∙ ap (λ xs. take n named ++ take 1 xs) e in
-    let of_bytes : a.digest ≡ Some (sha256 bytes) = told ∙ ap Some read.3 in
     let as_many : length archives ≡ length (take n named) = sym (length-map archives length) ∙ ap length (sym so_far.verified.lengths) ∙ length-map (take n named) (λ (t : Archive). t.length) in
     let many : n ≡ 0 + length archives = omega (arith, as_many, length-take n named, h) in
     record {
       archives = archives ++ bytes ∷ [];
-      each = more_each g 0 archives bytes old before new so_far.each (subst (λ (k : ℕ). ReadsFront g k bytes before new) many read.1);
+      each = more_each g 0 archives bytes old before new so_far.each (subst (λ (k : ℕ). ReadsFront g k bytes before new) many one.1);
       verified = record {
-        lengths = ap (map (λ (t : Archive). t.length)) more ∙ map-append (λ (t : Archive). t.length) (take n named) (a ∷ []) ∙ ap₂ (λ xs ys. xs ++ ys) so_far.verified.lengths (ap (λ k. k ∷ []) (sym read.2)) ∙ sym (map-append length archives (bytes ∷ []));
-        digests = ap (map (λ (t : Archive). t.digest)) more ∙ map-append (λ (t : Archive). t.digest) (take n named) (a ∷ []) ∙ ap₂ (λ xs ys. xs ++ ys) so_far.verified.digests (ap (λ d. d ∷ []) of_bytes)
+        lengths = ap (map (λ (t : Archive). t.length)) more ∙ map-append (λ (t : Archive). t.length) (take n named) (a ∷ []) ∙ ap₂ (λ xs ys. xs ++ ys) so_far.verified.lengths (ap (λ k. k ∷ []) (sym one.2)) ∙ sym (map-append length archives (bytes ∷ []));
+        digests = ap (map (λ (t : Archive). t.digest)) more ∙ map-append (λ (t : Archive). t.digest) (take n named) (a ∷ []) ∙ ap₂ (λ xs ys. xs ++ ys) so_far.verified.digests (ap (λ d. d ∷ []) one.3)
             ∙ sym (map-append (λ (bytes : List ℕ). Some (sha256 bytes)) archives (bytes ∷ []));
       };
-      known = whole_known named (g.held old) n a rest bytes archives fresh h e read.2 (subst (λ (held : Option (List (List ℕ))). IfSome held (λ archives. bytes ≡ take (length bytes) (archive_at archives n))) kept read.1.known) so_far.known;
+      known = whole_known named (g.held old) n a rest bytes archives fresh h e one.2 (subst (λ (held : Option (List (List ℕ))). IfSome held (λ archives. bytes ≡ take (length bytes) (archive_at archives n))) kept one.1.known) so_far.known;
     }
 
 pub all_read : {A : Type 0} (g : Ghosts A) (named : List Archive) (n : ℕ) (old new : A) → n ≡ length named → AreRead g named n old new → AreRead g named (length named) old new
@@ -169,10 +179,23 @@ pub read_of_all : {A T : Type 0} (g : Ghosts A) (named : List Archive) (old new 
 read_of_all {A} {T} g named old new (Ok x) found = (found.archives, subst (λ (front : List Archive). AreVerified front found.archives) (take_all (length named) named (omega arith)) found.verified)
 read_of_all {A} {T} g named old new (Err kind) found = tt
 
--- ---- each archive of version 2 has a digest
+-- ---- faults before any byte went out
 
-named_archive : (version : ℕ) (named : List Archive) (n : ℕ) (a : Archive) (rest : List Archive) → AllByRecursion (IsArchive version) named → drop n named ≡ a ∷ rest → IsArchive version a
-named_archive version [] zero a rest all e = absurd cc
-named_archive version [] (suc n) a rest all e = absurd cc
-named_archive version (b ∷ named) zero a rest all e = let first : b ≡ a = cc in subst (λ (t : Archive). IsArchive version t) first all.0
-named_archive version (b ∷ named) (suc n) a rest all e = named_archive version named n a rest all.1 e
+-- a call's answer, told with the count of bytes that were sent
+abbrev pub IsUnsent : {T : Type 0} → Result T AnswerFaultKind → Result T AnswerFault → Type 0
+IsUnsent r told = MatchResult r (λ x. told ≡ Ok x) (λ kind. IsErrAnd told (λ fault. fault ≡ record { kind = kind; sent = 0 }))
+
+pub unsent_kind : {T : Type 0} (r : Result T AnswerFaultKind) (told : Result T AnswerFault) → IsUnsent r told → r ≡ kind_of told
+unsent_kind r told is = grind arith
+
+pub always_ok : {T E : Type 0} (P : Type 0) (r : Result T E) → P → OnOk r P
+always_ok P r holds = grind arith
+
+pub unsent_ok : {T : Type 0} (P : Type 0) (told : Result T AnswerFault) → OnOk (kind_of told) P → OnOk told P
+unsent_ok P told holds = grind arith
+
+pub unsent_err : {T : Type 0} (P : AnswerFaultKind → Type 0) (told : Result T AnswerFault) → IfErr (kind_of told) P → IfErr told (λ fault. P fault.kind)
+unsent_err P told holds = grind arith
+
+pub unsent_fails : {T : Type 0} (kinds : AnswerFaultKind → Bool) (told : Result T AnswerFault) → has_fault kinds (kind_of told) ≡ fails_by kinds told
+unsent_fails kinds told = grind arith

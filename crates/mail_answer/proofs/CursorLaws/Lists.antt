@@ -1,5 +1,5 @@
 -- A posting list whose front is gone.
-use Rattle.mail_answer.proofs.Words.{◌≡◌, ◌∙◌, ◌<◌, ◌≤◌, ℕ, suc, true, false, List, [], ◌∷◌, ◌++◌, append_assoc, Option, Some, None, refl, sym, ap, subst, arith, MatchOption, AllByRecursion, option_to_list, ltb-true, ltb-false, cases_lt, ne_eqb, RisesFrom, is_among, truth_at, Drops, IsFirst, numbers_ahead, truths_among, AreNumbers, is_before, first_of}
+use Rattle.mail_answer.proofs.Words.{◌≡◌, ◌∙◌, ◌<◌, ◌≤◌, ℕ, suc, true, false, List, [], ◌∷◌, ◌++◌, append_assoc, Option, Some, None, refl, sym, ap, subst, arith, MatchOption, AllByRecursion, option_to_list, ltb-true, ltb-false, cases_lt, ne_eqb, RisesFrom, is_among, truth_at, Drops, IsFirst, numbers_ahead, truths_among, AreNumbers, is_before, slice_get}
 use Rattle.std.proofs.lemmas.List.{append-nil}
 use Rattle.std.proofs.lemmas.Bool.{eq-eqb}
 use Rattle.mail_answer.specs.Inside.CursorLists.{AreCut}
@@ -81,5 +81,24 @@ cut_drops count n old new are cut =
       below = λ m lt. among-at count m new then ∙ not_below n m new lt cut.rises;
     }
 
-pub first_among : (count : ℕ) (ns : List ℕ) → AreNumbers count ns → IsFirst (truths_among count ns) (first_of ns)
-first_among count ns h = grind (arith, among-at, eq-eqb, not_below)
+pub first_among : (count : ℕ) (ns : List ℕ) → AreNumbers count ns → IsFirst (truths_among count ns) (slice_get ns 0)
+first_among count [] h = grind (arith, among-at)
+first_among count (n ∷ ns) h = grind (arith, among-at, eq-eqb, not_below)
+
+-- a first number that is far enough stays
+pub stays_first : (count n : ℕ) (first : Option ℕ) (ns : List ℕ) → is_before first n ≡ false → AreNumbers count (numbers_ahead first ns) → IsFirst (truths_among count (numbers_ahead first ns)) first
+stays_first count n None ns far are = absurd cc
+stays_first count n (Some m) ns far are = first_among count (m ∷ ns) are
+
+gave_first : (count n : ℕ) (old new : List ℕ) (number : Option ℕ) → Gave n old new number → AreNumbers count (numbers_ahead number new) → IsFirst (truths_among count (numbers_ahead number new)) number
+gave_first count n old new None gave are = subst (IsFirst (truths_among count new)) (ap (λ (ns : List ℕ). slice_get ns 0) gave.1) (first_among count new are)
+gave_first count n old new (Some m) gave are = first_among count (m ∷ new) are
+
+-- another one is what the list gives
+pub goes_on : (count n : ℕ) (first : Option ℕ) (old new : List ℕ) (number : Option ℕ) → is_before first n ≡ true → AreNumbers count (numbers_ahead first old) → Gave n old new number
+    → AreNumbers count (numbers_ahead number new) × IsFirst (truths_among count (numbers_ahead number new)) number
+goes_on count n first old new number before are gave =
+    let then : AreNumbers count (numbers_ahead number new) = cut_numbers count n (numbers_ahead first old) (numbers_ahead number new) are (cut_more first n old new number before are.rises gave) in (
+      then,
+      gave_first count n old new number gave then,
+    )

@@ -6,7 +6,7 @@ use Rattle.std.proofs.lemmas.List.Sums.{sum_by-swap_remove, sum_by-cons}
 use Rattle.std.proofs.lemmas.Bool.{le-leb}
 use Rattle.mail_answer.specs.declared.cursor.head.Head.{Head}
 use Rattle.mail_answer.specs.declared.cursor.head.Head.TheVariants.{Unasked, Asked}
-use Rattle.mail_answer.proofs.CursorLaws.AloneLists.{swap_last}
+use Rattle.mail_answer.proofs.CursorLaws.Groups.{swap_last}
 use Rattle.mail_answer.proofs.CursorLaws.Members.{Firsts, some-append, united-at, left-set, firsts_same, firsts_lesser}
 use Rattle.mail_answer.proofs.CursorLaws.TruthReads.{each-at, each-past, one_or_other-at}
 

@@ -2,6 +2,7 @@
 use Rattle.mail_answer.proofs.Words.{◌≡◌, ◌∙◌, ◌+◌, ◌<◌, ◌≤◌, ℕ, zero, suc, Bool, true, false, cond, ◌&&◌, max, List, [], ◌∷◌, ◌++◌, Option, Some, None, refl, sym, ap, subst, arith, inl, inr, nat_le, filter, range_with_len, AllByRecursion, cases_lt, lt-leb, both_ways, truth_at, Drops, IsFirst, numbers_from, AreWithin, TakesFirst, TakesFrom}
 use Rattle.std.proofs.lemmas.List.{append-nil}
 use Rattle.std.proofs.lemmas.Bool.{le-leb}
+use Rattle.mail_answer.proofs.CursorLaws.Turns.{first_from}
 
 pub filter_alike : (f g : ℕ → Bool) (a n : ℕ) → ((k : ℕ) → a ≤ k → k < a + n → f k ≡ g k) → filter f (range_with_len a n) ≡ filter g (range_with_len a n)
 filter_alike f g a zero same = refl
@@ -53,17 +54,6 @@ same_from n count old new drops = grind (arith, filter_alike, cases_lt, from-bef
 pub within_still : (n count : ℕ) (old new : List Bool) → Drops n old new → AreWithin count old → AreWithin count new
 within_still n count old new drops within m holds = grind (arith, cases_lt, both_ways)
 
-pub took_none : (n count : ℕ) (old new : List Bool) → Drops n old new → IsFirst new None → numbers_from n count old ≡ []
-took_none n count old new drops none = same_from n count old new drops ∙ none_pass (truth_at new) 0 count (λ m a b. none m)
-
-pub left_none : (low count : ℕ) (new : List Bool) → IsFirst new None → numbers_from low count new ≡ []
-left_none low count new none = grind (arith, none_pass, cases_lt, from-before, from-behind)
-
-pub took_one : (n count k : ℕ) (old new : List Bool) → Drops n old new → IsFirst new (Some k) → k < count → numbers_from n count old ≡ k ∷ numbers_from (k + 1) count new
-took_one n count k old new drops first lt =
-    same_from n count old new drops ∙ first_of_range (truth_at new) k 0 count (omega arith) (omega (arith, lt)) first.0 first.1
-    ∙ ap (λ (m : ℕ). k ∷ numbers_from m count new) (omega arith)
-
 -- ---- those below n go first
 
 pub record Split (n low : ℕ) (f : ℕ → Bool) (ns : List ℕ) : Type 0 where
@@ -101,16 +91,27 @@ split_range n low f a (suc k) = elim (cases_lt a n) [
       split = skips (from low f) a k fails ∙ rest.split ∙ ap (λ (ns : List ℕ). rest.dropped ++ ns) (sym gone);
     }
 
--- what a call from the greater of n and low on takes is what a call from n on takes of those from low on
-pub takes_from : (n low start low_new count : ℕ) (old new : List Bool) (number : Option ℕ) → start ≡ max n low
-    → TakesFirst (numbers_from start count old) (numbers_from low_new count new) number → ((k : ℕ) → number ≡ Some k → start ≤ k)
-    → TakesFrom n (numbers_from low count old) (numbers_from low_new count new) number
-takes_from n low start low_new count old new None is takes least =
+-- none is below 0: the least from 0 on is the first
+none_below : (ns : List ℕ) → AllByRecursion (λ m. m < 0) ns → ns ≡ []
+none_below [] all = refl
+none_below (n ∷ ns) all = absurd (omega (arith, all.0))
+
+pub takes_first : (old new : List ℕ) (number : Option ℕ) → TakesFrom 0 old new number → TakesFirst old new number
+takes_first old new None h = (none_below old h.0, h.1)
+takes_first old new (Some m) h = h.1.2 ∙ ap (λ (ns : List ℕ). ns ++ m ∷ new) (none_below h.1.0 h.1.1)
+
+-- a walk from the greater of n and low on takes the least from n on
+pub takes_none : (n low start count : ℕ) (old new : List Bool) → start ≡ max n low → Drops start old new → IsFirst new None → TakesFrom n (numbers_from low count old) (numbers_from low count new) None
+takes_none n low start count old new is drops none =
     let s : Split n low (truth_at old) (range_with_len 0 count) = split_range n low (truth_at old) 0 count in
-    let none : numbers_from (max n low) count old ≡ [] = ap (λ (m : ℕ). numbers_from m count old) (sym is) ∙ takes.0 in
-    let all : numbers_from low count old ≡ s.dropped = s.split ∙ ap (λ (ns : List ℕ). s.dropped ++ ns) none ∙ append-nil s.dropped in
-    (subst (AllByRecursion (λ m. m < n)) (sym all) s.below, takes.1)
-takes_from n low start low_new count old new (Some k) is takes least =
+    let gone : numbers_from (max n low) count old ≡ [] = ap (λ (m : ℕ). numbers_from m count old) (sym is) ∙ same_from start count old new drops ∙ none_pass (truth_at new) 0 count (λ m a b. none m) in
+    let all : numbers_from low count old ≡ s.dropped = s.split ∙ ap (λ (ns : List ℕ). s.dropped ++ ns) gone ∙ append-nil s.dropped in
+    (subst (AllByRecursion (λ m. m < n)) (sym all) s.below, grind (arith, none_pass, cases_lt, from-before, from-behind))
+
+pub takes_one : (n low start count k : ℕ) (old new : List Bool) → start ≡ max n low → Drops start old new → IsFirst new (Some k) → k < count
+    → TakesFrom n (numbers_from low count old) (numbers_from (k + 1) count new) (Some k)
+takes_one n low start count k old new is drops first lt =
     let s : Split n low (truth_at old) (range_with_len 0 count) = split_range n low (truth_at old) 0 count in
-    let one : numbers_from (max n low) count old ≡ k ∷ numbers_from low_new count new = ap (λ (m : ℕ). numbers_from m count old) (sym is) ∙ takes in
-    (omega (arith, is, least k refl), (s.dropped, s.below, s.split ∙ ap (λ (ns : List ℕ). s.dropped ++ ns) one))
+    let one : numbers_from (max n low) count old ≡ k ∷ numbers_from (k + 1) count new = ap (λ (m : ℕ). numbers_from m count old) (sym is) ∙ same_from start count old new drops ∙ first_of_range (truth_at new) k 0 count (omega arith) (omega (arith, lt)) first.0 first.1
+    ∙ ap (λ (m : ℕ). k ∷ numbers_from m count new) (omega arith) in
+    (omega (arith, is, first_from start old new k drops first), (s.dropped, s.below, s.split ∙ ap (λ (ns : List ℕ). s.dropped ++ ns) one))

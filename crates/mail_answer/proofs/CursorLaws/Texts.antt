@@ -100,6 +100,18 @@ module _ (passes : List ℕ → Bool) (keys : List Key) (a : ℕ) (all : List Ki
       → LooksUp (length keys) a steps1 steps2 → LooksUp (length keys) (length all * a) steps0 steps2
   kinds_steps kind coming ws steps1 steps2 have looks = grind (arith, more_times)
 
+-- behind the last kind
+pub all_kinds : (passes : List ℕ → Bool) (keys : List Key) (a i : ℕ) (kinds : Kinds) (new : List Ahead) (steps0 steps : ℕ) → 8 ≤ i → i ≤ 8
+    → HaveKinds passes keys a (kinds_in kinds) (filter (is_in kinds) (drop i (map Text text_kinds ++ OwnId ∷ []))) [] new steps0 steps
+    → ((m : ℕ) → some_has m new ≡ some_of_kinds (kinds_in kinds) passes keys m) × (left_in new ≤ numbers_named passes keys (kinds_in kinds)) × LooksUp (length keys) (length (kinds_in kinds) * a) steps0 steps
+all_kinds passes keys a i kinds new steps0 steps from to have =
+    let last : i ≡ 8 = omega (arith, from, to) in
+    let all = rw last at have in (
+      λ m. sym (or-false (some_has m new)) ∙ all.each m,
+      omega (arith, all.left),
+      record { rises = all.rises; most = λ digits lt. omega (arith, all.most digits lt) },
+    )
+
 pub next_kind : (kinds : Kinds) (kind : Kind) (rest : List Kind) (b : Bool) → is_in kinds kind ≡ b → filter (is_in kinds) (kind ∷ rest) ≡ cond b (kind ∷ filter (is_in kinds) rest) (filter (is_in kinds) rest)
 next_kind kinds kind rest b e = ap (λ (x : Bool). cond x (kind ∷ filter (is_in kinds) rest) (filter (is_in kinds) rest)) e
 

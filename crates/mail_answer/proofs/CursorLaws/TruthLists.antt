@@ -1,5 +1,5 @@
 -- Lists with a truth for each message.
-use Rattle.mail_answer.proofs.Words.{◌≡◌, ◌∙◌, ◌+◌, ◌<◌, ℕ, zero, suc, Bool, true, false, cond, not, List, [], ◌∷◌, ◌++◌, length, map, Some, refl, sym, ap, arith, filter, range_with_len, slice_get, map-id, ext_get_or, length-map, get_or-map, filter_of_map_range_with_len_more, fill_by_all, Record, record_at, truth_at, each_number}
+use Rattle.mail_answer.proofs.Words.{◌≡◌, ◌∙◌, ◌+◌, ◌<◌, ℕ, zero, suc, Bool, true, false, cond, not, List, [], ◌∷◌, ◌++◌, length, map, Some, refl, sym, ap, arith, filter, range_with_len, slice_get, map-id, ext_get_or, length-map, get_or-map, filter_of_map_range_with_len_more, fill_by_all, Record, record_at, truth_at, each_number, replicate, get_or-replicate, length-replicate, Adds}
 use Rattle.std.proofs.lemmas.List.{append-nil}
 
 -- the record that a list gives
@@ -34,3 +34,7 @@ filter_true test n xs ys front here whole = grind (arith, filter_more)
 -- it isn't
 pub filter_false : (test : ℕ → Bool) (n : ℕ) (xs : List ℕ) → xs ≡ filter test (range_with_len 0 n) → test n ≡ false → xs ≡ filter test (range_with_len 0 (n + 1))
 filter_false test n xs front here = grind (arith, append-nil, filter_more)
+
+-- those that joined none
+pub adds_to_none : (f : ℕ → Bool) (count : ℕ) (xs ys : List Bool) → xs ≡ replicate count false → Adds f xs ys → ys ≡ each_number count f
+adds_to_none f count xs ys none adds = grind (arith, length-replicate, told, get_or-replicate)

@@ -1,5 +1,5 @@
 -- What is chosen are numbers of messages.
-use Rattle.mail_answer.proofs.Words.{◌≡◌, ℕ, zero, suc, ◌<◌, true, nat_eq, List, [], ◌∷◌, length, refl, arith, eq-eqb, slice_index_or, or_left, or_right, Table, Query, is_true, chosen_numbers, facts_at, is_among, AreThreads}
+use Rattle.mail_answer.proofs.Words.{◌≡◌, ℕ, zero, suc, ◌<◌, true, nat_eq, List, [], ◌∷◌, length, refl, arith, eq-eqb, slice_index_or, or_left, or_right, Table, Query, is_true, chosen_numbers, facts_at, is_among, AreThreads, ◌++◌}
 use Rattle.std.specs.List.{All}
 use Rattle.mail_answer.proofs.ThreadLaws.ChosenThreads.{from_passed}
 
@@ -16,3 +16,7 @@ chosen-below t q k d below =
 
 pub threads-below : (t : Table) (numbers members : List ℕ) → AreThreads t numbers members → All (λ n. n < length t.messages) members
 threads-below t numbers members threads k d below = ((threads.each (slice_index_or members k d)).0 (each-among members k d below)).0
+
+pub is_among_behind : (n : ℕ) (done numbers : List ℕ) → is_among n (done ++ n ∷ numbers) ≡ true
+is_among_behind n [] numbers = or_left (nat_eq n n) (is_among n numbers) (eq-eqb n n refl)
+is_among_behind n (m ∷ done) numbers = or_right (nat_eq n m) (is_among n (done ++ n ∷ numbers)) (is_among_behind n done numbers)

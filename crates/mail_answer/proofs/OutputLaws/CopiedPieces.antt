@@ -1,11 +1,10 @@
 -- Laws of spans that are copied piece by piece.
-use Rattle.mail_answer.proofs.Words.{◌≡◌, ◌∙◌, ℕ, zero, suc, ◌+◌, ◌-◌, ◌<◌, ◌≤◌, Bool, true, false, cond, List, [], ◌∷◌, ◌++◌, Option, None, Some, Result, IsErr, length, take, drop, refl, ap, sym, append_assoc, append-nil, arith, inl, inr, option_map, cases_lt, drop-append-le, drop_all, take-append-drop, take_rest, lines, first_length, first_length-le, first_length-positive, archive_at, feed, feeds_behind, behind_next, ending_of, feeds_of, Reading, coming, coming_count, IsInside, ReadsBehind, closed, is_closed, last_of, Tells, JoinsFront, Ending, AnswerFaultKind, Sheet}
+use Rattle.mail_answer.proofs.Words.{◌≡◌, ◌∙◌, ℕ, zero, suc, ◌+◌, ◌-◌, ◌<◌, ◌≤◌, Bool, true, false, cond, List, [], ◌∷◌, ◌++◌, Option, None, Some, Result, IsErr, length, take, drop, refl, ap, sym, append_assoc, append-nil, arith, inl, inr, option_map, cases_lt, drop-append-le, drop_all, take-append-drop, take_rest, lines, first_length, first_length-le, first_length-positive, archive_at, feed, feeds_behind, behind_next, ending_of, feeds_of, Reading, coming, coming_count, IsInside, ReadsBehind, closed, is_closed, last_of, Tells, JoinsFront, Ending, AnswerFaultKind, Sheet, Table, span_reading, record_at, known_message, Mbox}
 use Rattle.std.proofs.lemmas.List.{length-drop}
 use Rattle.mail_answer.specs.Inside.Copies.{Copies}
 use Rattle.mail_answer.proofs.OutputLaws.ClosedLemmas.{closed_more, next_front, last_behind, one_line}
-use Rattle.mail_answer.proofs.OutputLaws.ClosingLemmas.{count_known}
+use Rattle.mail_answer.proofs.OutputLaws.ReadingLemmas.{count_known, coming_read}
 use Rattle.mail_answer.proofs.OutputLaws.Endings.{lines_single, feeds_told}
-use Rattle.mail_answer.proofs.OutputLaws.ReadingLemmas.{coming_read}
 
 -- ---- calls that fail
 
@@ -111,3 +110,8 @@ closed_told (Some archives) number span part text inside some is none within =
     empty : (l : List ℕ) → length l ≡ 0 → l ≡ []
     empty [] long = refl
     empty (x ∷ xs) long = absurd (omega (arith, long))
+
+-- what is known of a message is what is known of its span, closed
+pub known_closed : (t : Table) (held : Option (List (List ℕ))) (n : ℕ) → option_map closed (coming held (span_reading (record_at t.messages n))) ≡ known_message Mbox t held n
+known_closed t None n = refl
+known_closed t (Some archives) n = refl

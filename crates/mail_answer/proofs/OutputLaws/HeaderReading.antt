@@ -5,7 +5,7 @@ use Rattle.header_text.specs.Stages.{has_empty}
 use Rattle.header_text.specs.declared.header.Header.{Header}
 use Rattle.header_text.specs.declared.header.Taken.{Taken}
 use Rattle.header_text.specs.declared.header.Taken.TheVariants.{More, Ended}
-use Rattle.mail_answer.proofs.OutputLaws.ClosingLemmas.{count_known}
+use Rattle.mail_answer.proofs.OutputLaws.ReadingLemmas.{count_known}
 
 -- lines behind an empty one don't count
 before_empty-more : (ls more : List (List ℕ)) → has_empty ls ≡ true → lines_before_empty (ls ++ more) ≡ lines_before_empty ls

@@ -1,7 +1,7 @@
 -- Laws of what is read of an archive.
-use Rattle.mail_answer.proofs.Words.{◌≡◌, ℕ, ◌+◌, ◌-◌, ◌<◌, ◌≤◌, List, ◌++◌, Option, None, Some, IfSome, Result, IfOk, length, take, drop, refl, ap, sym, ◌∙◌, append_assoc, append-nil, arith, take-append-add, take-append-le, drop-drop, DeviceFault, line_end_of, first_length, line_end-more, line_end-whole, archive_at, IsRead, Reading, coming, ReadsBehind, ReadsTail}
+use Rattle.mail_answer.proofs.Words.{◌≡◌, ℕ, ◌+◌, ◌-◌, ◌<◌, ◌≤◌, List, ◌++◌, Option, None, Some, IfSome, Result, IfOk, length, take, drop, refl, ap, sym, ◌∙◌, append_assoc, append-nil, arith, take-append-add, take-append-le, drop-drop, DeviceFault, line_end_of, first_length, line_end-more, line_end-whole, archive_at, IsRead, Reading, coming, ReadsBehind, ReadsTail, coming_count, IsInside}
 use Rattle.std.proofs.Math.Seq.{take-add}
-use Rattle.std.proofs.lemmas.List.{length-take-le}
+use Rattle.std.proofs.lemmas.List.{length-take-le, length-append, length-drop}
 use borrow.Rule.Slice.PartMut.{put_mid}
 
 take_behind : (front into post : List ℕ) (held n : ℕ) → length front ≡ held → n ≤ length into → take (held + n) (front ++ (into ++ post)) ≡ front ++ take n into
@@ -37,3 +37,8 @@ line_found n held r h = grind (arith, line_end-more)
 -- nothing is left, so that what was read is the line
 pub line_left : (held : Option (List (List ℕ))) (r : Reading) → None ≡ line_end_of r.unread → r.left ≡ 0 → IfSome (coming held r) (λ bytes. length r.unread ≡ first_length bytes)
 line_left held r h h2 = grind (arith, line_end-whole, append-nil)
+
+-- how many bytes come
+pub count_known : (archives : List (List ℕ)) (number : ℕ) (r : Reading) → IsInside number (Some archives) r
+    → length (r.unread ++ take r.left (drop r.next (archive_at archives r.archive))) ≡ coming_count r
+count_known archives number r h = grind (arith, length-drop, length-append, length-take-le)

@@ -1,5 +1,5 @@
 -- Laws of what went out of an answer.
-use Rattle.mail_answer.proofs.Words.{◌≡◌, ℕ, List, [], Option, Result, Ok, Err, IfOk, length, refl, subst, arith, append-nil, flat_map, appends-nil, Table, SendsKnown, SendsSpans, Search, AreChosen, known_answer, closed, mail_told, TableAnswer, IsTableAnswer, Answers}
+use Rattle.mail_answer.proofs.Words.{◌≡◌, ℕ, List, [], Option, Result, Ok, Err, IfOk, length, refl, subst, arith, append-nil, flat_map, appends-nil, Table, SendsKnown, SendsSpans, Search, AreChosen, known_answer, closed, mail_told, TableAnswer, IsTableAnswer, Answers, KeepsArchives, IsReady, IsSameAnswer, Ghosts}
 use Rattle.std.specs.Result.{IsErrAnd, MatchResult}
 use Rattle.mail_answer.specs.declared.fault.AnswerFault.{AnswerFault}
 use Rattle.mail_answer.specs.declared.fault.AnswerFaultKind.{AnswerFaultKind}
@@ -8,6 +8,7 @@ use Rattle.mail_answer.specs.Inside.Writing.{IsBegun, SendsMessages, WritesMessa
 use Rattle.mail_answer.proofs.OutputLaws.EveryAnswer.{one-choice}
 use Rattle.mail_answer.proofs.OutputLaws.SheetLemmas.{some_text}
 use Rattle.mail_answer.proofs.OutputLaws.SpanWrites.{some_spans}
+use Rattle.mbox_cutter.specs.declared.device.Out.{Ghosts as OutGhosts}
 
 -- a fault before anything went out
 pub nothing_sent : (taken known : Option (List ℕ)) (messages : ℕ) (r : Result ℕ AnswerFault) → IsErrAnd r (λ fault. fault.sent ≡ 0) → SendsKnown taken taken known messages r
@@ -40,3 +41,8 @@ pub sent_by_the_end : (taken taken' : Option (List ℕ)) (held : Option (List (L
 sent_by_the_end taken taken' held numbers w w' (Ok n) r' begun writes count same = rw same (grind (arith, append-nil))
 sent_by_the_end taken taken' held numbers w w' (Err kind) (Ok n) begun writes count same = absurd same
 sent_by_the_end taken taken' held numbers w w' (Err kind) (Err fault) begun writes count same = grind arith
+
+-- between two messages the next one can be written
+pub still_ready : {A O : Type 0} (g : Ghosts A) (h : OutGhosts O) (w w' : AnswerWriter) (a a' : A) (o o' : O) → IsReady g h w a o → IsSameAnswer w w' → KeepsArchives g a a'
+    → g.failures a' ≡ g.failures a → h.failures o' ≡ h.failures o → IsReady g h w' a' o'
+still_ready g h w w' a a' o o' ready same keeps archives_count out_count = grind arith

@@ -114,3 +114,9 @@ unsent_before_front {t} {u} {a} {b} {x} h unsent = omega (arith, h.count, unsent
 
 pub unsent_before_writes : {T E : Type 0} (t u : Option (List ℕ)) (a b : Sheet) (k : Option (List ℕ)) (r : Result T E) → Writes t u a b k r → b.sent ≡ 0 → a.sent ≡ 0
 unsent_before_writes t u a b k r h h2 = grind (arith, unsent_before, unsent_before_front)
+
+pub joined-nothing : (k : Option (List ℕ)) → k ≡ joined (Some []) k
+joined-nothing k = grind arith
+
+pub joined-assoc : (a b c : Option (List ℕ)) → joined a (joined b c) ≡ joined (joined a b) c
+joined-assoc a b c = grind (arith, append_assoc)

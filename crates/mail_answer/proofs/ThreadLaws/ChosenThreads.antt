@@ -1,5 +1,5 @@
 -- The messages that are chosen by the roots of their trees are all of some threads.
-use Rattle.mail_answer.proofs.Words.{◌≡◌, ◌∙◌, ◌+◌, ◌<◌, ◌≤◌, ℕ, zero, suc, Bool, true, false, cond, nat_eq, ◌⊎◌, List, [], ◌∷◌, length, get_or, inl, inr, refl, sym, ap, subst, arith, eq-eqb, add-one, Result, IfOk, AllByRecursion, filter, list_any, range_with_len, length-map-range_with_len, get_or-map-range_with_len, eqb-true, or_cases, or_left, or_right, eqb_tells, LinkId, Table, Key, RisesFrom, keys_of, is_among, truth_at, each_number, IsPath, IsInThreadOfSome, AreThreads, TellsThreads}
+use Rattle.mail_answer.proofs.Words.{◌≡◌, ◌∙◌, ◌+◌, ◌<◌, ◌≤◌, ℕ, zero, suc, Bool, true, false, cond, nat_eq, ◌⊎◌, List, [], ◌∷◌, length, get_or, inl, inr, refl, sym, ap, subst, arith, eq-eqb, add-one, Result, IfOk, AllByRecursion, filter, list_any, range_with_len, get_or-map-range_with_len, eqb-true, or_cases, or_left, or_right, eqb_tells, LinkId, Table, Key, RisesFrom, keys_of, is_among, truth_at, each_number, IsPath, IsInThreadOfSome, AreThreads, TellsThreads}
 use Rattle.mail_answer.proofs.ThreadLaws.ThreadLemmas.{itself}
 
 -- ---- membership
@@ -125,10 +125,6 @@ empty_is (x ∷ xs) long = absurd (omega (arith, long))
 pub no_keys : (ks : List Key) → (0 < length ks → ⊥) → ks ≡ []
 no_keys [] none = refl
 no_keys (k ∷ ks) none = absurd (none (omega arith))
-
--- each root has its place in the marks
-pub root_has_mark : (t : Table) (roots : List ℕ) (marks : List Bool) (test : ℕ → Bool) → TellsThreads t roots → marks ≡ each_number (length t.messages) test → (n : ℕ) → n < length roots → get_or roots n 0 < length marks
-root_has_mark t roots marks test tells are n lt = grind (arith, length-map-range_with_len)
 
 pub chosen_by_marks : (t : Table) (numbers roots members : List ℕ) (marks : List Bool) → TellsThreads t roots → AllByRecursion (λ n. n < length t.messages) numbers
     → marks ≡ each_number (length t.messages) (λ r. list_any (λ n. nat_eq r (get_or roots n 0)) numbers)

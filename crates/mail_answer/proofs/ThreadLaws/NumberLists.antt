@@ -1,5 +1,5 @@
 -- Lists of numbers of messages, number by number.
-use Rattle.mail_answer.proofs.Words.{◌≡◌, ◌∙◌, ℕ, suc, ◌+◌, ◌<◌, ◌≤◌, Bool, true, false, List, [], ◌∷◌, ◌++◌, length, Option, arith, AllByRecursion, flat_map-cons, Table, RisesFrom, Query, AreNumbers, AreChosenBy, known_answer, known_message, answer_text, message_text, joined, Tells, mail_told, record_at, chosen_numbers}
+use Rattle.mail_answer.proofs.Words.{◌≡◌, ℕ, suc, ◌+◌, ◌<◌, ◌≤◌, Bool, true, false, List, [], ◌∷◌, ◌++◌, length, Option, arith, AllByRecursion, flat_map-cons, Table, RisesFrom, Query, AreNumbers, AreChosenBy, known_answer, known_message, answer_text, message_text, joined, Tells, mail_told, record_at, chosen_numbers}
 use Rattle.mail_answer.specs.declared.format.Format.{Format}
 use Rattle.mail_answer.proofs.ThreadLaws.ChosenThreads.{passed_rise, passed_below, threads_below, lower}
 

@@ -1,5 +1,5 @@
 -- A posting list along which some walk has begun.
-use Rattle.std.specs.Prelude.{◌≡◌, ℕ, ◌<◌, Bool, true, nat_lt, List, [], ◌∷◌, ◌++◌, Option, Some, None}
+use Rattle.std.specs.Prelude.{◌≡◌, ℕ, ◌<◌, Bool, true, nat_lt, List, ◌++◌, Option, Some, None}
 use Rattle.std.specs.List.{AllByRecursion}
 use Rattle.std.specs.Option.{option_to_list}
 use Rattle.mail_index.specs.Tables.{RisesFrom}
@@ -17,10 +17,6 @@ truths_among count numbers = each_number count (λ n. is_among n numbers)
 pub record AreNumbers (count : ℕ) (numbers : List ℕ) : Type 0 where
   pub rises : RisesFrom 0 numbers
   pub below : AllByRecursion (λ n. n < count) numbers
-
-abbrev pub first_of : List ℕ → Option ℕ
-first_of [] = None
-first_of (n ∷ ns) = Some n
 
 -- there is none yet, or one below n
 abbrev pub is_before : Option ℕ → ℕ → Bool

@@ -1,9 +1,9 @@
 -- A window over the messages of some lists: those that lie in it are marked, and the others are left in the lists.
 use Rattle.std.specs.Prelude.{◌≡◌, ℕ, ◌+◌, ◌^◌, ◌<◌, ◌≤◌, nat_le, Bool, true, false, ◌&&◌, List, ◌++◌, length, replicate, Option, MatchOption}
 use Rattle.mail_answer.specs.Marks.{truth_at, each_number}
-use Rattle.mail_answer.specs.CursorAhead.{Ahead, one_or_other, united}
+use Rattle.mail_answer.specs.CursorAhead.{Ahead, IsFirst, one_or_other, united}
 use Rattle.mail_answer.specs.declared.cursor.head.Head.{Head}
-use Rattle.mail_answer.specs.Inside.CursorHeads.{IsHead}
+use Rattle.mail_answer.specs.declared.cursor.head.Head.TheVariants.{Unasked, Asked}
 use Rattle.mail_answer.specs.Inside.CursorTexts.{some_has}
 
 -- the messages that are marked, from the window's first one on, or come in a list
@@ -16,6 +16,11 @@ those_from low truths = each_number (length truths) (λ n. nat_le low n && truth
 
 abbrev pub truths_marked : ℕ → ℕ → List Bool → List Ahead → List Bool
 truths_marked low start marks lists = those_from low (marked_or_listed start marks lists)
+
+-- what is remembered of the first number is so
+abbrev pub IsHead : List Bool → Head → Type 0
+IsHead truths Unasked = Unit {0}
+IsHead truths (Asked first) = IsFirst truths first
 
 -- each number of the lists has one behind it that fits
 abbrev pub AreFew : List Ahead → Type 0

@@ -5,8 +5,8 @@ use Rattle.mail_index.specs.declared.kind.Kind.{Kind}
 use Rattle.mail_index.specs.Tables.{Key}
 use Rattle.mail_answer.specs.TableFacts.{texts_with}
 use Rattle.mail_index.specs.LookUps.{keys_of}
-use Rattle.mail_answer.specs.declared.cursor.fit.Fit.{Fit}
-use Rattle.mail_answer.specs.declared.cursor.fit.Fit.TheVariants.{Whole, Within, Front}
+use Rattle.mail_answer.specs.declared.cursor.texts.Fit.{Fit}
+use Rattle.mail_answer.specs.declared.cursor.texts.Fit.TheVariants.{Whole, Within, Front}
 use Rattle.mail_answer.specs.Marks.{truth_at}
 use Rattle.mail_answer.specs.Cursors.{numbers_of_keys}
 use Rattle.mail_answer.specs.CursorAhead.{Ahead, left_in}

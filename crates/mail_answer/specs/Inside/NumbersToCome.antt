@@ -4,5 +4,5 @@ use Rattle.mail_answer.specs.declared.numbers.Source.{Source}
 use Rattle.mail_answer.specs.declared.numbers.Source.TheVariants.{Walked, Listed}
 
 abbrev pub to_come : Source → List ℕ
-to_come (Walked walked) = walked.cursor.numbers
-to_come (Listed listed) = drop listed.given listed.numbers.items
+to_come (Walked cursor) = cursor.numbers
+to_come (Listed numbers given) = drop given numbers.items

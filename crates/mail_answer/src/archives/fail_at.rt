@@ -1,7 +1,7 @@
 //! Archives that fail once, for tests.
 ghost use Rattle.std.specs.Prelude.{◌≡◌, ◌≢◌, ◌<◌, ◌≤◌, ◌-◌, ◌+◌, ◌^◌, length, take, nat_eq, IfOk, IsErr};
 ghost use Rattle.contract_words.specs.Devices.{Counted, Counts};
-ghost use Rattle.mail_answer.specs.Archives.{IsCount, IsLength, IsRead, bytes_told};
+ghost use Rattle.mail_answer.specs.Archives.{IsLength, IsRead, bytes_told};
 
 use crate::archives::Archives;
 use mbox_cutter::DeviceFault;

@@ -1,7 +1,7 @@
 //! Archives in memory.
 ghost use Rattle.std.specs.Prelude.{◌≡◌, ◌<◌, ◌≤◌, ◌-◌, ◌^◌, ◌++◌, ◌∷◌, [], Some, Ok, length, take, drop, min, IfOk, OnOk, OnErr};
 ghost use Rattle.contract_words.specs.Devices.{Counts};
-ghost use Rattle.mail_answer.specs.Archives.{archive_at, IsCount, IsLength, IsRead};
+ghost use Rattle.mail_answer.specs.Archives.{archive_at, IsLength, IsRead};
 
 use crate::archives::Archives;
 use mbox_cutter::DeviceFault;

@@ -1,9 +1,7 @@
 //! Whether archives are those that were indexed.
-ghost use Rattle.std.specs.Prelude.{◌≡◌, ◌≢◌, ◌<◌, ◌-◌, ◌^◌, ◌==◌, ℕ, length, min, false, Ok, Err, IfOk, IfErr, OnOk, OnErr, IfSome};
+ghost use Rattle.std.specs.Prelude.{◌≡◌, ◌≢◌, ◌<◌, ◌-◌, ◌^◌, length, min, false, Ok, Err, IfErr, OnOk, IfSome};
 ghost use Rattle.contract_words.specs.Devices.{Counted};
-ghost use Rattle.mbox_cutter.specs.declared.device.DeviceFault.{DeviceFault};
 ghost use Rattle.mail_answer.specs.Asked.{FindsLengths, HoldsArchives};
-ghost use Rattle.mail_answer.specs.Archives.{archive_at};
 ghost use Rattle.mail_answer.specs.Faults.{has_fault, is_of_archives, is_of_output, IfStale};
 ghost use Rattle.mail_answer.specs.Stale.{stale_archive, TellsStale};
 
@@ -46,28 +44,10 @@ pub(crate) fn check_archives<A: Archives>(
         let Some(archive) = named.next() else {
             unreachable!();
         };
-        if !is_as_long(archives, n, archive.length)? {
+        let length = archives.length(n).map_err(|_| AnswerFaultKind::Device)?;
+        if length != archive.length {
             return Err(AnswerFaultKind::Stale(n));
         }
     }
     Ok(())
-}
-
-/// Whether the archive of this number is so long.
-fn is_as_long<A: Archives>(archives: &mut A, n: u32, indexed: u64) -> Result<bool, AnswerFaultKind>
-    requires below { n < A.number archives.old }
-    requires count { A.failures archives.old < 2 ^ 64 - 1 }
-    ensures keeps { HoldsArchives A.Archives archives.old archives.new }
-    ensures same { IfOk result (λ same. IfSome (A.held archives.old)
-        (λ bytes. same ≡ (length (archive_at bytes n) == indexed))) }
-    ensures asked { IfOk result (λ same. (told : ℕ)
-        × A.measures archives.old n (Ok told) archives.new × (same ≡ (told == indexed))) }
-    ensures failed { OnErr result ((fault : DeviceFault)
-        × A.measures archives.old n (Err fault) archives.new) }
-    ensures count { Counted (has_fault is_of_archives result) (A.failures archives.old)
-        (A.failures archives.new) }
-    ensures own { IfErr result (λ kind. kind ≡ AnswerFaultKind.Device) }
-{
-    let length = archives.length(n).map_err(|_| AnswerFaultKind::Device)?;
-    Ok(length == indexed)
 }

@@ -3,15 +3,15 @@ ghost use Rattle.std.specs.Prelude.{◌≡◌, ◌≢◌, ◌<◌, ◌≤◌, �
 ghost use Rattle.contract_words.specs.Devices.{Counted};
 ghost use Rattle.mbox_cutter.specs.declared.device.DeviceFault.{DeviceFault};
 ghost use Rattle.mail_index.specs.Tables.{IsWellFormed};
-ghost use Rattle.mail_answer.specs.Answers.{fails_by};
+ghost use Rattle.mail_answer.specs.Answers.{fails_by, kind_of};
 ghost use Rattle.mail_answer.specs.Archives.{archive_at};
 ghost use Rattle.mail_answer.specs.Asked.{HoldsArchives, RefusesCount};
 ghost use Rattle.mail_answer.specs.Inside.Calls.{AreAsIndexed, KeepsArchives};
-ghost use Rattle.mail_answer.specs.Inside.Digests.{front_digest, has_front_digest as has_front_digest_of, AbsorbsPart, ReadsDigest, ComparesDigest};
+ghost use Rattle.mail_answer.specs.Inside.Digests.{front_digest, AbsorbsPart, ReadsDigest};
 ghost use Rattle.mail_answer.specs.Faults.{has_fault, is_of_archives, is_of_output, IfStale};
-ghost use Rattle.mail_answer.specs.Stale.{stale_archive, TellsStale};
+ghost use Rattle.mail_answer.specs.Stale.{TellsStale};
 ghost use Rattle.mail_answer.specs.Pieces.{StopsWithin};
-ghost use Rattle.mail_answer.specs.Verified.{first_altered, AreVerified, TellsFound, TellsVerified, FindsDigests, LooksThrough, VerifiesArchives};
+ghost use Rattle.mail_answer.specs.Verified.{first_altered, AreVerified, TellsVerified, FindsDigests, VerifiesArchives};
 
 use crate::archives::Archives;
 use crate::archives::stale::check_archives;
@@ -88,37 +88,6 @@ fn read_digest<A: Archives>(
     Ok(Some(hasher.finalize()))
 }
 
-/// Whether the first `indexed_length` bytes of an archive have this digest. One that ends before them has none.
-fn has_front_digest<A: Archives>(
-    archives: &mut A,
-    archive: u32,
-    indexed_length: u64,
-    indexed: [u8; 32],
-    buffer: &mut [u8],
-) -> Result<bool, AnswerFaultKind>
-    requires below { archive < A.number archives.old }
-    requires room { 0 < length buffer.old }
-    requires count { A.failures archives.old < 2 ^ 64 - 1 }
-    ensures keeps { KeepsArchives A.Archives archives.old archives.new }
-    ensures same { IfOk result
-        (λ same. IfSome (A.held archives.old)
-        (λ bytes. same ≡ has_front_digest_of indexed_length indexed (archive_at bytes archive))) }
-    ensures read { IfOk result
-        (λ same. ComparesDigest A.Archives archive indexed_length indexed archives.old
-        archives.new same) }
-    ensures failed { OnErr result
-        ((fault : DeviceFault) × StopsWithin A.Archives archive indexed_length (Err fault)
-        archives.old archives.new) }
-    ensures count { Counted (has_fault is_of_archives result)
-        (A.failures archives.old) (A.failures archives.new) }
-    ensures own { IfErr result (λ kind. kind ≡ AnswerFaultKind.Device) }
-{
-    match read_digest(archives, archive, indexed_length, buffer)? {
-        Some(digest) => Ok(indexed == digest),
-        None => Ok(false),
-    }
-}
-
 /// Finds the first archive with another digest than was indexed, through a buffer. All are as long as they were indexed.
 fn check_digests<A: Archives>(
     index: &IndexView<'_>,
@@ -144,47 +113,11 @@ fn check_digests<A: Archives>(
         let Some(archive) = named.next() else {
             unreachable!();
         };
-        let Some(indexed) = archive.digest else {
-            unreachable!();
-        };
-        if !has_front_digest(archives, n, archive.length, indexed, buffer)? {
+        if archive.digest != read_digest(archives, n, archive.length, buffer)? {
             return Err(AnswerFaultKind::Stale(n));
         }
     }
     Ok(())
-}
-
-/// Finds the first archive that isn't the one that was indexed: by their count, by their lengths, and then by their digests.
-fn verify_each<A: Archives>(
-    alloc: Global,
-    index: &IndexView<'_>,
-    archives: &mut A,
-) -> Result<(), AnswerFaultKind>
-    requires table { IsWellFormed index.now }
-    requires version { index.now.version ≡ 2 }
-    requires count { A.failures archives.old < 2 ^ 64 - 1 }
-    ensures keeps { HoldsArchives A.Archives archives.old archives.new }
-    ensures verified { IfSome (A.held archives.old)
-        (λ bytes. TellsFound index.now.archives bytes result) }
-    ensures found { A.number archives.old ≡ length index.now.archives
-        → LooksThrough A.Archives index.now.archives archives.old archives.new result }
-    ensures unasked { A.number archives.old ≢ length index.now.archives
-        → archives.new ≡ archives.old }
-    ensures read { OnOk result ((read : List (List ℕ)) × AreVerified index.now.archives read) }
-    ensures same_count { OnOk result (A.number archives.old ≡ length index.now.archives) }
-    ensures other_count { A.number archives.old ≢ length index.now.archives
-        → result ≡ Err (AnswerFaultKind.Stale
-        (min (A.number archives.old) (length index.now.archives))) }
-    ensures below { A.number archives.old ≡ length index.now.archives
-        → IfErr result (λ kind. IfStale kind (λ n. n < length index.now.archives)) }
-    ensures count { Counted (has_fault is_of_archives result)
-        (A.failures archives.old) (A.failures archives.new) }
-    ensures own { has_fault is_of_output result ≡ false }
-{
-    // Want of memory would hide changed archives if the buffer came first.
-    check_archives(index, archives)?;
-    let mut buffer = vec![in alloc; 0u8; PIECE]?;
-    check_digests(index, archives, buffer.as_mut_slice())
 }
 
 /// Reads every archive through, and compares the SHA-256 of its bytes with the digest that an index of version 2 has of it. Memory
@@ -204,7 +137,7 @@ pub fn verify<A: Archives>(
     requires archives { A.failures archives.old < 2 ^ 64 - 1 }
     ensures keeps { HoldsArchives A.Archives archives.old archives.new }
     ensures verified { IfSome (A.held archives.old)
-        (λ bytes. TellsVerified index.now.archives bytes result) }
+        (λ bytes. TellsVerified index.now.archives bytes (kind_of result)) }
     // Whether the bytes are known or not, what was read of each archive had the length and the digest that were indexed.
     ensures read { OnOk result ((read : List (List ℕ)) × AreVerified index.now.archives read) }
     ensures same_count { OnOk result (A.number archives.old ≡ length index.now.archives) }
@@ -220,5 +153,10 @@ pub fn verify<A: Archives>(
     ensures unwritten { IfErr result
         (λ fault. (fault.sent ≡ 0) × (is_of_output fault.kind ≡ false)) }
 {
-    verify_each(alloc, &index.again(), archives).map_err(AnswerFault::unsent)
+    let index = index.again();
+    // Want of memory would hide changed archives if the buffer came first.
+    check_archives(&index, archives).map_err(AnswerFault::unsent)?;
+    let buffer = vec![in alloc; 0u8; PIECE];
+    let mut buffer = buffer.map_err(|_| AnswerFault::unsent(AnswerFaultKind::OutOfMemory))?;
+    check_digests(&index, archives, buffer.as_mut_slice()).map_err(AnswerFault::unsent)
 }

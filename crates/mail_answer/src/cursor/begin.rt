@@ -1,14 +1,13 @@
 //! The walk of a query, before its first step.
-ghost use Rattle.std.specs.Prelude.{◌≡◌, ◌≤◌, length, IfOk};
+ghost use Rattle.std.specs.Prelude.{◌≤◌, length, IfOk};
 ghost use Rattle.mail_index.specs.Tables.{IsWellFormed};
 ghost use Rattle.mail_query.specs.Query.{query_of, queries_of, members_of};
 ghost use Rattle.mail_answer.specs.Cursors.{most_left, most_left_of_all, look_ups, look_ups_of_all, LooksUp};
 ghost use Rattle.mail_answer.specs.CursorAhead.{left_in};
 ghost use Rattle.mail_answer.specs.Inside.CursorBegins.{Tells, TellAll};
 
-use crate::cursor::fit::Fit;
 use crate::cursor::scanned::{Asked, Scanned};
-use crate::cursor::texts::with_text;
+use crate::cursor::texts::{Fit, with_text};
 use crate::cursor::walk::Walk;
 use mail_index::{IndexView, Steps};
 use mail_query::Node;

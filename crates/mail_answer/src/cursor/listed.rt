@@ -1,9 +1,7 @@
 //! The walk along a posting list.
-ghost use Rattle.std.specs.Prelude.{◌≡◌, ℕ, ◌-◌, ◌≤◌, length, IfNone};
-ghost use Rattle.mail_index.specs.Steps.{add_steps};
+ghost use Rattle.std.specs.Prelude.{◌≡◌, length, IfNone};
 ghost use Rattle.mail_answer.specs.CursorAhead.{Counts, Drops, IsFirst};
-ghost use Rattle.mail_answer.specs.Inside.CursorLists.{numbers_ahead, truths_among, AreNumbers, AreCut, first_of, is_before as is_before_of};
-ghost use Rattle.mail_index.specs.Tables.{RisesFrom};
+ghost use Rattle.mail_answer.specs.Inside.CursorLists.{truths_among, AreNumbers, is_before as is_before_of};
 
 use mail_index::{Postings, Steps};
 use std::marker::Model;
@@ -38,20 +36,6 @@ pub(crate) fn is_before(first: Option<u32>, n: u32) -> bool
     }
 }
 
-/// Drops the numbers below n.
-fn cut(first: &mut Option<u32>, postings: &mut Postings<'_>, n: u32, steps: &mut Steps)
-    requires { RisesFrom 0 (numbers_ahead first.old postings.old) }
-    ensures cut { AreCut n (numbers_ahead first.old postings.old)
-        (numbers_ahead first.new postings.new) }
-    ensures first { first.new ≡ first_of (numbers_ahead first.new postings.new) }
-    ensures fewer { length postings.new ≤ length postings.old }
-    ensures steps { steps.new ≡ add_steps steps.old (length postings.old - length postings.new) }
-{
-    if is_before(*first, n) {
-        *first = postings.next_at_least(n, steps);
-    }
-}
-
 impl<'a> Listed<'a> {
     /// The messages with these numbers, of so many in all.
     pub(crate) fn new(count: u32, postings: Postings<'a>) -> Self
@@ -74,7 +58,10 @@ impl<'a> Listed<'a> {
         ensures ended { IfNone result (self.new.left ≡ 0) }
         ensures below { self.new.below ≡ self.old.below }
     {
-        cut(&mut self.first, &mut self.postings, n, steps);
+        if !is_before(self.first, n) {
+            return self.first;
+        }
+        self.first = self.postings.next_at_least(n, steps);
         self.first
     }
 }

@@ -4,12 +4,11 @@
 //! wait for memory at nearly every step (decision 74 in docs/DECISIONS.md).
 ghost use Rattle.std.specs.Prelude.{◌≡◌, ◌<◌, ◌^◌, ◌+◌, ℕ, true, length, IfNone};
 ghost use Rattle.mail_answer.specs.CursorAhead.{Counts, Drops, IsFirst, left_in, united};
-ghost use Rattle.mail_answer.specs.Inside.CursorHeads.{IsHead};
-ghost use Rattle.mail_answer.specs.Inside.CursorMarks.{AreFew, HaveMarks, IsFirstMark, marked_or_listed, truths_marked};
+ghost use Rattle.mail_answer.specs.Inside.CursorMarks.{AreFew, HaveMarks, IsFirstMark, IsHead, marked_or_listed, truths_marked};
 ghost use Rattle.mail_answer.specs.Inside.CursorTexts.{some_has};
 ghost use Rattle.mail_answer.specs.Marks.{Adds, truth_at};
 
-use crate::cursor::head::{Head, is_from, lesser_of};
+use crate::cursor::head::{Head, lesser_of};
 use crate::cursor::listed::Listed;
 use mail_index::Steps;
 use std::marker::Model;
@@ -108,7 +107,7 @@ fn least_ahead(lists: &mut Vec<Listed<'_>>, ahead: Head, n: u32, steps: &mut Ste
     ensures steps { Counts (left_in lists.old.items) (left_in lists.new.items) steps.old steps.new }
 {
     if let Head::Asked(first) = ahead
-        && is_from(first, n)
+        && first.is_none_or(|number| n <= number)
     {
         return first;
     }
@@ -157,30 +156,6 @@ fn first_mark(marks: &[bool], start: u32, low: u32) -> Option<u32>
     None
 }
 
-/// Drops the messages below n, and answers the first of the others.
-fn least_marked(
-    lists: &mut Vec<Listed<'_>>,
-    ahead: &mut Head,
-    marks: &mut [bool; WINDOW],
-    start: &mut u32,
-    low: &mut u32,
-    n: u32,
-    steps: &mut Steps,
-) -> Option<u32>
-    requires { HaveMarks start.old marks.old lists.old.items ahead.old }
-    ensures marks { HaveMarks start.new marks.new lists.new.items ahead.new }
-    ensures rest { Drops n (truths_marked low.old start.old marks.old lists.old.items)
-        (truths_marked low.new start.new marks.new lists.new.items) }
-    ensures number { IsFirst (truths_marked low.new start.new marks.new lists.new.items) result }
-    ensures steps { Counts (left_in lists.old.items) (left_in lists.new.items) steps.old steps.new }
-{
-    *low = n.max(*low);
-    if let Some(number) = first_mark(marks.as_slice(), *start, *low) {
-        return Some(number);
-    }
-    begin_window(lists, ahead, marks, start, *low, steps)
-}
-
 impl<'a> Marked<'a> {
     /// The walk through the messages that come in some of these lists.
     pub(crate) fn new(lists: Vec<Listed<'a>>) -> Self
@@ -204,13 +179,16 @@ impl<'a> Marked<'a> {
         ensures steps { Counts self.old.left self.new.left steps.old steps.new }
         ensures below { self.new.below ≡ self.old.below }
     {
-        least_marked(
+        self.low = n.max(self.low);
+        if let Some(number) = first_mark(self.marks.as_slice(), self.start, self.low) {
+            return Some(number);
+        }
+        begin_window(
             &mut self.lists,
             &mut self.ahead,
             &mut self.marks,
             &mut self.start,
-            &mut self.low,
-            n,
+            self.low,
             steps,
         )
     }

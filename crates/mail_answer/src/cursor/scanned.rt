@@ -1,17 +1,17 @@
 //! The walk along the records of the messages.
-ghost use Rattle.std.specs.Prelude.{◌≡◌, ◌-◌, ℕ, max, length};
+ghost use Rattle.std.specs.Prelude.{◌≡◌, ◌-◌, ◌&&◌, ℕ, true, nat_le, length};
+ghost use Rattle.std.specs.Option.{option_map_or};
 ghost use Rattle.mail_index.specs.Steps.{add_steps};
 ghost use Rattle.mail_index.specs.Tables.{Table};
-ghost use Rattle.mail_query.specs.Truth.{is_true};
+ghost use Rattle.mail_query.specs.Truth.{has_flag, is_same, is_true};
 ghost use Rattle.mail_answer.specs.TableFacts.{facts_of_record};
 ghost use Rattle.mail_answer.specs.CursorAhead.{Drops, IsFirst, Spends};
-ghost use Rattle.mail_answer.specs.Inside.CursorScans.{asked_query, satisfies, truths_scanned, IsFound, Scans};
+ghost use Rattle.mail_answer.specs.Inside.CursorScans.{asked_query, satisfies, Scans};
 
 use crate::cursor::listed::is_before;
-use crate::cursor::records::{is_as_wanted, lies_between};
 use mail_dates::Range;
 use mail_index::{IndexView, Record, Steps};
-use mail_words::Flag;
+use mail_words::{Flag, Flags};
 use std::marker::Model;
 
 /// What is asked of a message's record.
@@ -25,6 +25,25 @@ pub(crate) enum Asked {
     Size { low: u64, high: Option<u64> },
     /// That it has the flag, or where `wanted` is false, has it not.
     Flag { flag: Flag, wanted: bool },
+}
+
+/// Whether the size lies between these, both included; a `high` of None is no bound.
+fn lies_between(low: u64, high: Option<u64>, size: u64) -> bool
+    ensures { result ≡ (nat_le low size && option_map_or (λ most. nat_le size most) high true) }
+{
+    low <= size && high.is_none_or(|most| size <= most)
+}
+
+/// Whether the flag is there as is wanted.
+fn is_as_wanted(flag: Flag, wanted: bool, flags: Flags) -> bool
+    ensures { result ≡ is_same wanted (has_flag flag flags) }
+{
+    let has = match flag {
+        Flag::Seen => flags.seen,
+        Flag::Replied => flags.replied,
+        Flag::Flagged => flags.flagged,
+    };
+    has == wanted
 }
 
 /// Whether the record is as asked.
@@ -57,32 +76,6 @@ fn next_asked(index: &IndexView<'_>, asked: Asked, next: &mut u32, steps: &mut S
         }
     }
     None
-}
-
-/// Drops the numbers below n.
-fn cut(
-    index: &IndexView<'_>,
-    asked: Asked,
-    next: &mut u32,
-    first: &mut Option<u32>,
-    n: u32,
-    steps: &mut Steps,
-)
-    requires { IsFound (length index.now.messages) next.old first.old }
-    ensures rest { let test = satisfies index.now asked in
-        Drops n (truths_scanned (length index.now.messages) test next.old first.old)
-        (truths_scanned (length index.now.messages) test next.new first.new) }
-    ensures number { IsFirst (truths_scanned (length index.now.messages) (satisfies index.now asked)
-        next.new first.new) first.new }
-    ensures found { IsFound (length index.now.messages) next.new first.new }
-    ensures looked { steps.new ≡ add_steps steps.old (next.new - max n next.old) }
-    ensures steps { Spends (length index.now.messages - next.old)
-        (length index.now.messages - next.new) steps.old steps.new }
-{
-    if is_before(*first, n) {
-        *next = n.max(*next);
-        *first = next_asked(index, asked, next, steps);
-    }
 }
 
 /// The messages still to come of those whose records are as asked: the first of them may have been found already.
@@ -129,14 +122,11 @@ impl<'a> Scanned<'a> {
         ensures steps { Spends self.old.left self.new.left steps.old steps.new }
         ensures below { self.new.below ≡ self.old.below }
     {
-        cut(
-            &self.index,
-            self.asked,
-            &mut self.next,
-            &mut self.first,
-            n,
-            steps,
-        );
+        if !is_before(self.first, n) {
+            return self.first;
+        }
+        self.next = n.max(self.next);
+        self.first = next_asked(&self.index, self.asked, &mut self.next, steps);
         self.first
     }
 }

@@ -1,5 +1,5 @@
 //! The walk through the messages that have certain texts.
-ghost use Rattle.std.specs.Prelude.{◌≡◌, ◌≤◌, ◌<◌, ◌+◌, ◌*◌, ◌^◌, ℕ, length, IfOk};
+ghost use Rattle.std.specs.Prelude.{◌≡◌, ◌≤◌, ◌<◌, ◌*◌, ℕ, length, IfOk};
 ghost use Rattle.std.specs.List.{list_any};
 ghost use Rattle.mail_index.specs.Tables.{IsWellFormed};
 ghost use Rattle.mail_query.specs.Truth.{contains_text, some_word};
@@ -7,9 +7,8 @@ ghost use Rattle.mail_answer.specs.TableFacts.{texts_with, is_among, facts_at};
 ghost use Rattle.mail_answer.specs.Marks.{fits, some_key, truth_at};
 ghost use Rattle.mail_answer.specs.Cursors.{numbers_named, kinds_in, is_in, LooksUp};
 ghost use Rattle.mail_answer.specs.Inside.CursorLists.{AreNumbers};
-ghost use Rattle.mail_answer.specs.Inside.CursorTexts.{any_text, Joins, HaveNumbers, numbers_passing, numbers_fitting, some_of_kinds, looked_up_by};
+ghost use Rattle.mail_answer.specs.Inside.CursorTexts.{any_text, Joins, HaveNumbers, numbers_passing, numbers_fitting, looked_up_by};
 
-use crate::cursor::fit::Fit;
 use crate::cursor::listed::Listed;
 use crate::cursor::walk::Walk;
 use mail_index::{IndexView, Keys, Kind, Postings, Steps};
@@ -17,6 +16,17 @@ use mail_query::{Kinds, QueryText};
 use mail_words::TextKind;
 use memchr::memmem;
 use std::alloc::{AllocError, Global};
+
+/// How the sought text has to lie in a word or an id.
+#[derive(Clone, Copy, Debug, PartialEq, Eq)]
+pub(crate) enum Fit {
+    /// It is all of it.
+    Whole,
+    /// It stands somewhere in it.
+    Within,
+    /// It begins with it.
+    Front,
+}
 
 /// The kinds that a query may name.
 const KINDS: [Kind; 8] = [
@@ -71,14 +81,8 @@ fn push_all<'a>(
     Ok(())
 }
 
-/// Whether the text stands somewhere in the key.
-fn has_within(key: &[u8], text: &[u8]) -> bool
-    ensures { result ≡ contains_text text.now key.now }
-{
-    memmem::find(key, text).is_some()
-}
-
 /// Adds the lists of those keys in which the text stands somewhere.
+#[tactic(auto, using(crate::proofs::CursorLaws::Containing::found))]
 fn push_containing<'a>(
     members: &mut Vec<Listed<'a>>,
     count: u32,
@@ -90,7 +94,7 @@ fn push_containing<'a>(
         (numbers_passing (contains_text text.now) keys.entry) members.old.items members.new.items) }
 {
     while let Some(key) = keys.next() {
-        if has_within(key.text, text) {
+        if memmem::find(key.text, text).is_some() {
             push_list(members, count, key.postings)?;
         }
     }
@@ -120,30 +124,6 @@ fn push_kind<'a>(
     }
 }
 
-/// Adds the lists of the keys of the kinds of the set in which the text lies so.
-fn push_kinds<'a>(
-    members: &mut Vec<Listed<'a>>,
-    index: &IndexView<'a>,
-    kinds: Kinds,
-    fit: Fit,
-    text: &[u8],
-    steps: &mut Steps,
-) -> Result<(), AllocError>
-    requires { IsWellFormed index.now }
-    ensures joins { IfOk result (λ _. Joins (some_of_kinds (kinds_in kinds) (fits fit text.now)
-        index.now.keys) (numbers_named (fits fit text.now) index.now.keys (kinds_in kinds))
-        members.old.items members.new.items) }
-    ensures steps { LooksUp (length index.now.keys) (length (kinds_in kinds) * looked_up_by fit)
-        steps.old steps.new }
-{
-    for kind in &KINDS {
-        if is_in(kinds, *kind) {
-            push_kind(members, index, *kind, fit, text, steps)?;
-        }
-    }
-    Ok(())
-}
-
 /// The walk through the messages that have a word of a kind of the set, or the own id if it is in it, in which the text lies so.
 pub(crate) fn with_text<'a>(
     alloc: Global,
@@ -162,6 +142,10 @@ pub(crate) fn with_text<'a>(
         steps.old steps.new }
 {
     let mut members = Vec::new(alloc);
-    push_kinds(&mut members, index, kinds, fit, text.as_bytes(), steps)?;
+    for kind in &KINDS {
+        if is_in(kinds, *kind) {
+            push_kind(&mut members, index, *kind, fit, text.as_bytes(), steps)?;
+        }
+    }
     Walk::along_some(alloc, members)
 }

@@ -1,12 +1,12 @@
 //! The tree of walks.
-ghost use Rattle.std.specs.Prelude.{◌≡◌, ◌↔◌, ◌<◌, ℕ, true, IsTrue, IfOk, length};
+ghost use Rattle.std.specs.Prelude.{◌≡◌, ◌<◌, ℕ, IfOk, length};
 ghost use Rattle.std.specs.Vec.{vec_len};
 ghost use Rattle.mail_answer.specs.Marks.{truth_at};
 ghost use Rattle.mail_answer.specs.CursorAhead.{CountsPostings, Drops, IsFirst, Reaches, Spends, common, united, others, left_in, postings_in, levels};
 ghost use Rattle.mail_answer.specs.Inside.CursorMarks.{AreFew};
 ghost use Rattle.mail_answer.specs.Inside.CursorTexts.{some_has};
 
-use crate::cursor::head::{Head, is_from, lesser_of};
+use crate::cursor::head::{Head, lesser_of};
 use crate::cursor::listed::Listed;
 use crate::cursor::marked::Marked;
 use crate::cursor::scanned::Scanned;
@@ -62,7 +62,7 @@ impl<'a> Model for Walk<'a> {
 
     ghost view = { λ s. ahead s.node };
 
-    ghost use Rattle.mail_answer.specs.Inside.CursorHeads.{IsHead};
+    ghost use Rattle.mail_answer.specs.Inside.CursorMarks.{IsHead};
 
     ghost invariant = { λ s. IsHead (ahead s.node).truths s.head };
 
@@ -74,13 +74,14 @@ impl<'a> Model for Walk<'a> {
 }
 
 impl<'a> Walk<'a> {
-    /// The walk along a posting list.
-    pub(crate) fn listed(list: Listed<'a>) -> Self
-        ensures truths { result.truths ≡ list.entry.truths }
-        ensures left { result.left ≡ list.entry.left }
+    ghost use Rattle.mail_answer.specs.Inside.CursorWalks.{ahead};
+
+    /// A walk along this, before its first step.
+    fn of(node: Node<'a>) -> Self
+        ensures { result ≡ ahead node.entry }
     {
         Walk {
-            node: Node::Listed(list),
+            node,
             head: Head::Unasked,
         }
     }
@@ -94,21 +95,10 @@ impl<'a> Walk<'a> {
         ensures left { IfOk result (λ w. w.left ≡ left_in lists.entry.items) }
     {
         if lists.len() > MOST {
-            return Walk::marked(alloc, Marked::new(lists));
+            let marked = Box::new(alloc, Marked::new(lists))?;
+            return Ok(Walk::of(Node::Marked(marked)));
         }
         Ok(Walk::united(each_alone(alloc, lists)?))
-    }
-
-    /// The walk along lists whose messages are marked.
-    fn marked(alloc: Global, marked: Marked<'a>) -> Result<Self, AllocError>
-        ensures truths { IfOk result (λ w. w.truths ≡ marked.entry.truths) }
-        ensures left { IfOk result (λ w. w.left ≡ marked.entry.left) }
-    {
-        let marked = Box::new(alloc, marked)?;
-        Ok(Walk {
-            node: Node::Marked(marked),
-            head: Head::Unasked,
-        })
     }
 
     /// The walk along the records.
@@ -117,10 +107,7 @@ impl<'a> Walk<'a> {
         ensures left { IfOk result (λ w. w.left ≡ scan.entry.left) }
     {
         let scan = Box::new(alloc, scan)?;
-        Ok(Walk {
-            node: Node::Scanned(scan),
-            head: Head::Unasked,
-        })
+        Ok(Walk::of(Node::Scanned(scan)))
     }
 
     /// The walk through those of so many messages that don't come in another walk.
@@ -129,14 +116,11 @@ impl<'a> Walk<'a> {
         ensures left { IfOk result (λ w. w.left ≡ inner.entry.left) }
     {
         let inner = Box::new(alloc, inner)?;
-        Ok(Walk {
-            node: Node::Others(Others {
-                low: 0,
-                count,
-                inner,
-            }),
-            head: Head::Unasked,
-        })
+        Ok(Walk::of(Node::Others(Others {
+            low: 0,
+            count,
+            inner,
+        })))
     }
 
     /// The walk through the messages that come in each of one or more walks.
@@ -144,10 +128,7 @@ impl<'a> Walk<'a> {
         ensures truths { result.truths ≡ common members.entry.items }
         ensures left { result.left ≡ left_in members.entry.items }
     {
-        Walk {
-            node: Node::Common(members),
-            head: Head::Unasked,
-        }
+        Walk::of(Node::Common(members))
     }
 
     /// The walk through the messages that come in some walk.
@@ -155,10 +136,7 @@ impl<'a> Walk<'a> {
         ensures truths { result.truths ≡ united members.entry.items }
         ensures left { result.left ≡ left_in members.entry.items }
     {
-        Walk {
-            node: Node::United(members),
-            head: Head::Unasked,
-        }
+        Walk::of(Node::United(members))
     }
 
     /// The walk through the messages that come in some of any number of walks: a tree, so that a step goes on in few of them.
@@ -187,7 +165,7 @@ impl<'a> Walk<'a> {
         ensures below { self.new.below ≡ self.old.below }
     {
         if let Head::Asked(first) = self.head
-            && is_from(first, n)
+            && first.is_none_or(|number| n <= number)
         {
             return first;
         }
@@ -228,7 +206,7 @@ fn each_alone<'a>(alloc: Global, mut lists: Vec<Listed<'a>>) -> Result<Vec<Walk<
 {
     let mut walks = Vec::with_capacity(alloc, lists.len())?;
     while let Some(list) = lists.pop() {
-        walks.push(Walk::listed(list))?;
+        walks.push(Walk::of(Node::Listed(list)))?;
     }
     Ok(walks)
 }
@@ -248,16 +226,6 @@ fn grouped<'a>(alloc: Global, mut walks: Vec<Walk<'a>>) -> Result<Vec<Walk<'a>>,
     Ok(groups)
 }
 
-/// Whether there is a number and it is n.
-fn is_number(number: Option<u32>, n: u32) -> bool
-    ensures { IsTrue result ↔ (number ≡ Some n) }
-{
-    match number {
-        Some(m) => m == n,
-        None => false,
-    }
-}
-
 /// The least number from n on that doesn't come in the inner walk.
 #[cycle(least)]
 fn least_other(walk: &mut Others<'_>, n: u32, steps: &mut Steps) -> Option<u32>
@@ -273,8 +241,7 @@ fn least_other(walk: &mut Others<'_>, n: u32, steps: &mut Steps) -> Option<u32>
     let count = walk.count;
     let mut number = n.max(walk.low);
     while number < count {
-        let least = walk.inner.least_from(number, steps);
-        if !is_number(least, number) {
+        if walk.inner.least_from(number, steps) != Some(number) {
             walk.low = number;
             return Some(number);
         }
@@ -300,10 +267,7 @@ fn least_common(members: &mut [Walk<'_>], n: u32, steps: &mut Steps) -> Option<u
     }
     let mut number = n;
     loop {
-        let reached = match reach_common(members, number, steps) {
-            Some(reached) => reached,
-            None => return None,
-        };
+        let reached = reach_common(members, number, steps)?;
         if reached == number {
             return Some(number);
         }
@@ -324,10 +288,7 @@ fn reach_common(members: &mut [Walk<'_>], n: u32, steps: &mut Steps) -> Option<u
 {
     let mut number = n;
     for member in members.iter_mut() {
-        match member.least_from(number, steps) {
-            Some(least) => number = least,
-            None => return None,
-        }
+        number = member.least_from(number, steps)?;
     }
     Some(number)
 }

@@ -1,7 +1,6 @@
 //! How the last line of some bytes stands.
 ghost use Rattle.std.specs.Prelude.{◌≡◌, ◌<◌, ℕ, List, [], ◌∷◌, ◌++◌, length, IfSome};
-ghost use Rattle.mail_answer.specs.declared.output.ending.Ending.TheVariants.{Open};
-ghost use Rattle.mail_answer.specs.Inside.Endings.{ending_of, line_of as line_of_byte, with_byte as with_byte_of, feeds_of};
+ghost use Rattle.mail_answer.specs.Inside.Endings.{ending_of, with_byte as with_byte_of, feeds_of};
 
 use memchr::memrchr;
 
@@ -21,49 +20,18 @@ pub(crate) enum Ending {
     Open(u32),
 }
 
-/// A line of this byte.
-fn line_of(b: u8) -> Ending
-    ensures { result ≡ line_of_byte b }
-{
-    if b == b'\n' {
-        Ending::Empty
-    } else if b == b'\r' {
-        Ending::Return
-    } else {
-        Ending::Open(1)
-    }
-}
-
-/// A line of so many bytes without LF, and a byte more.
-fn open_with(n: u32, b: u8) -> Ending
-    ensures { result ≡ with_byte_of (Open n) b }
-{
-    if n == 0 {
-        line_of(b)
-    } else if b == b'\n' {
-        Ending::Ended
-    } else if n < LONGEST {
-        Ending::Open(n + 1)
-    } else {
-        line_of(b)
-    }
-}
-
 /// With a byte more.
 fn with_byte(ending: Ending, b: u8) -> Ending
     ensures { result ≡ with_byte_of ending b }
 {
-    match ending {
-        Ending::Empty => line_of(b),
-        Ending::Ended => line_of(b),
-        Ending::Return => {
-            if b == b'\n' {
-                Ending::Empty
-            } else {
-                Ending::Open(2)
-            }
-        }
-        Ending::Open(n) => open_with(n, b),
+    match (ending, b) {
+        (Ending::Return, b'\n') => Ending::Empty,
+        (Ending::Return, _) => Ending::Open(2),
+        (Ending::Open(n), b'\n') if n > 0 => Ending::Ended,
+        (Ending::Open(n), _) if n > 0 && n < LONGEST => Ending::Open(n + 1),
+        (_, b'\n') => Ending::Empty,
+        (_, b'\r') => Ending::Return,
+        _ => Ending::Open(1),
     }
 }
 
@@ -113,8 +81,7 @@ impl Ending {
     {
         match self {
             Ending::Empty => b"",
-            Ending::Ended => b"\n",
-            Ending::Return => b"\n",
+            Ending::Ended | Ending::Return => b"\n",
             Ending::Open(_) => b"\n\n",
         }
     }

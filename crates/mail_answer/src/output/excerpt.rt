@@ -4,7 +4,7 @@ ghost use Rattle.header_text.specs.EncodedWords.{decoded};
 ghost use Rattle.header_text.specs.HeldLines.{HasLines};
 ghost use Rattle.header_text.specs.Headers.{fields_of};
 ghost use Rattle.header_text.specs.Unfolding.{unfolded};
-ghost use Rattle.mail_answer.specs.Excerpts.{body_of as body_of_name, shown_byte as shown_byte_of, without_controls, field_line, excerpt_lines};
+ghost use Rattle.mail_answer.specs.Excerpts.{without_controls, field_line, excerpt_lines};
 ghost use Rattle.mail_answer.specs.Faults.{IfStale};
 ghost use Rattle.mail_answer.specs.Inside.Calls.{AreAsIndexed, ReadsArchives, WritesOut};
 ghost use Rattle.mail_answer.specs.Shapes.{known_message};
@@ -18,32 +18,18 @@ use crate::fault::AnswerFaultKind;
 use crate::output::header_reads::read_header;
 use crate::output::places::Places;
 use crate::output::sheet::Sheet;
-use header_text::{Fields, Header, decode_words, unfold};
+use header_text::{Header, decode_words, unfold};
 use mbox_cutter::Out;
 use std::alloc::{AllocError, Global};
-
-/// The body of the first field of a name, empty where it is missing.
-fn body_of<'a>(fields: Fields<'a>, name: &str) -> &'a [u8]
-    ensures { result.now ≡ body_of_name name.now fields.entry }
-{
-    match fields.first_body(name.as_bytes()) {
-        Some(body) => body,
-        None => b"",
-    }
-}
-
-fn shown_byte(b: u8) -> u8
-    ensures { result ≡ shown_byte_of b }
-{
-    if b < 32 || b == 127 { b' ' } else { b }
-}
 
 /// Makes a space of each character below U+0020, and of U+007F.
 fn hide_controls(text: &mut [u8])
     ensures { text.new ≡ without_controls text.old }
 {
     for b in text.iter_mut() {
-        *b = shown_byte(*b);
+        if *b < 32 || *b == 127 {
+            *b = b' ';
+        }
     }
 }
 
@@ -67,7 +53,8 @@ fn push_field(
     ensures { OnOk result ((ls : List (List ℕ)) → HasLines header.now ls
         → text.new.items ≡ text.old.items ++ field_line (fields_of ls) name.now) }
 {
-    let value = shown_value(alloc, body_of(header.fields(), name))?;
+    let body = header.fields().first_body(name.as_bytes()).unwrap_or(b"");
+    let value = shown_value(alloc, body)?;
     text.extend_from_slice(name.as_bytes())?;
     text.push(b':')?;
     if !value.is_empty() {

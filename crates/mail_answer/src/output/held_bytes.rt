@@ -148,6 +148,7 @@ fn copy_behind(room: &mut [u8], held: usize, bytes: &[u8])
 }
 
 /// Reads at most so many bytes of an archive, from an offset on, behind the first `held`.
+#[tactic(auto, using(crate::proofs::OutputLaws::ReadingLemmas::tail_result))]
 fn read_behind<A: Archives>(
     archives: &mut A,
     archive: u32,

@@ -78,6 +78,7 @@ impl LineReader {
     }
 
     /// Reads a piece more.
+    #[tactic(auto, using(crate::proofs::OutputLaws::ReadingLemmas::coming_read))]
     fn fill<A: Archives>(&mut self, archives: &mut A) -> Result<(), AnswerFaultKind>
         requires inside { IsInside (A.number archives.old) (A.held archives.old) self.old }
         requires more { 0 < self.old.left }

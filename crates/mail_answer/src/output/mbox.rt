@@ -1,13 +1,12 @@
 //! A message in the form of mbox archives.
 ghost use Rattle.std.specs.Prelude.{◌≡◌, ◌<◌, ◌-◌, ◌^◌, length, nat_eq, IfErr, OnOk};
-ghost use Rattle.std.specs.Option.{option_map};
 ghost use Rattle.mail_index.specs.Tables.{IsWellFormed};
 ghost use Rattle.mail_answer.specs.Faults.{IfStale};
 ghost use Rattle.mail_answer.specs.Inside.Calls.{AreAsIndexed, ReadsArchives, WritesOut};
 ghost use Rattle.mail_answer.specs.Inside.Copies.{Copies};
 ghost use Rattle.mail_answer.specs.Inside.Readings.{coming, coming_count, span_reading, IsInside};
 ghost use Rattle.mail_answer.specs.Inside.Spans.{WritesSpan};
-ghost use Rattle.mail_answer.specs.Shapes.{closed, known_message};
+ghost use Rattle.mail_answer.specs.Shapes.{known_message};
 ghost use Rattle.mail_answer.specs.Sheets.{Writes};
 ghost use Rattle.mail_answer.specs.TableFacts.{record_at};
 ghost use Rattle.mail_answer.specs.declared.format.Format.TheVariants.{Mbox};
@@ -93,34 +92,6 @@ impl Part {
     }
 }
 
-/// Adds the bytes of a message to an answer, and what closes them.
-fn push_closed<A: Archives, O: Out>(
-    message: Record,
-    archives: &mut A,
-    sheet: &mut Sheet,
-    out: &mut O,
-) -> Result<(), AnswerFaultKind>
-    requires inside { IsInside (A.number archives.old) (A.held archives.old)
-        (span_reading message) }
-    requires some { 0 < message.length }
-    requires archives { A.failures archives.old < 2 ^ 64 - 1 }
-    requires out { O.failures out.old < 2 ^ 64 - 1 }
-    ensures archives { ReadsArchives A.Archives archives.old archives.new result }
-    ensures writes { Writes (O.taken out.old) (O.taken out.new) sheet.old sheet.new
-        (option_map closed (coming (A.held archives.old) (span_reading message))) result }
-    ensures span { WritesSpan (O.taken out.old) (O.taken out.new) sheet.old sheet.new message.length
-        result }
-    ensures out { WritesOut O.Out sheet.new.sent out.old out.new result }
-    ensures stale { IfErr result (λ kind. IfStale kind (λ n. n ≡ message.archive)) }
-{
-    let mut part = Part::of(message);
-    let mut ending = Ending::new();
-    'pieces: while !part.is_copied() {
-        ending = part.copy_piece(ending, archives, sheet, out)?;
-    }
-    sheet.push(out, ending.feeds())
-}
-
 /// Adds the bytes of the message of this number to an answer, and what closes them. They are read piece by piece onto the sheet,
 /// which is written whenever it is full: so the memory doesn't grow with the message.
 pub(crate) fn push_mbox<A: Archives, O: Out>(
@@ -144,5 +115,10 @@ pub(crate) fn push_mbox<A: Archives, O: Out>(
     ensures stale { IfErr result (λ kind. IfStale kind
         (λ archive. archive ≡ (record_at index.now.messages n).archive)) }
 {
-    push_closed(index.message(n), archives, sheet, out)
+    let mut part = Part::of(index.message(n));
+    let mut ending = Ending::new();
+    'pieces: while !part.is_copied() {
+        ending = part.copy_piece(ending, archives, sheet, out)?;
+    }
+    sheet.push(out, ending.feeds())
 }

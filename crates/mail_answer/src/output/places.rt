@@ -49,14 +49,6 @@ impl<'a> Places<'a> {
         &self.index
     }
 
-    /// Goes back before the first archive.
-    fn begin_anew(&mut self)
-        ensures { self.new ≡ record self.old { passed = 0 } }
-    {
-        self.rest = self.index.archives();
-        self.passed = 0;
-    }
-
     /// Passes the next archive.
     fn pass(&mut self)
         requires { self.old.passed < length self.old.table.archives }
@@ -69,14 +61,6 @@ impl<'a> Places<'a> {
         self.passed += 1;
     }
 
-    /// The path of the archive that was passed last.
-    fn last(&self) -> &'a str
-        requires { 0 < self.now.passed }
-        ensures { result.now ≡ path_at self.now.table.archives (self.now.passed - 1) }
-    {
-        self.path
-    }
-
     /// The path of the archive of this number. It goes on from the one that was asked for before, and begins anew only for one in
     /// front of it.
     pub(crate) fn path_of(&mut self, archive: u32) -> &'a str
@@ -85,11 +69,12 @@ impl<'a> Places<'a> {
         ensures same { self.new.table ≡ self.old.table }
     {
         if archive < self.passed.saturating_sub(1) {
-            self.begin_anew();
+            self.rest = self.index.archives();
+            self.passed = 0;
         }
         'passing: while self.passed <= archive {
             self.pass();
         }
-        self.last()
+        self.path
     }
 }

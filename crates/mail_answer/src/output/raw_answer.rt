@@ -10,7 +10,6 @@ ghost use Rattle.mail_answer.specs.declared.format.Format.TheVariants.{Raw};
 
 use crate::fault::AnswerFaultKind;
 use crate::output::places::Places;
-use crate::output::raw_line::raw_line;
 use crate::output::sheet::Sheet;
 use mbox_cutter::Out;
 use std::alloc::Global;
@@ -35,6 +34,6 @@ pub(crate) fn push_raw<O: Out>(
 {
     let message = places.index().message(n);
     let path = places.path_of(message.archive);
-    let line = raw_line(alloc, message.offset, message.length, path)?;
+    let line = format!(in alloc; "{} {} {path}\n", message.offset, message.length)?;
     sheet.push(out, line.as_bytes())
 }

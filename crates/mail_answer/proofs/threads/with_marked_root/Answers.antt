@@ -1,7 +1,7 @@
 use Rattle.mail_answer.proofs.Words.{arith}
 use Rattle.mail_answer.proofs.CursorLaws.TruthLists.{filter_true, filter_false}
 use Rattle.mail_answer.proofs.threads.with_marked_root.Goals as goal
-use Rattle.mail_answer.proofs.threads.with_marked_root.Goals.{then-has_marked_root+in_ok-push, else-has_marked_root}
+use Rattle.mail_answer.proofs.threads.with_marked_root.Goals.{then-marks-roots+in_ok-push, else-marks-roots}
 
 pub loop-number-preserved : goal.loop-number-preserved
-loop-number-preserved c = grind (arith, then-has_marked_root+in_ok-push, filter_true, else-has_marked_root, filter_false)
+loop-number-preserved c = grind (arith, then-marks-roots+in_ok-push, filter_true, else-marks-roots, filter_false)

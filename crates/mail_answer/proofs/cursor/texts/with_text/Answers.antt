@@ -1,9 +1,40 @@
-use Rattle.mail_answer.proofs.Words.{arith, cases_lt, both_ways}
-use Rattle.mail_answer.proofs.CursorLaws.Texts.{some_of_all, word_past}
+use Rattle.mail_answer.proofs.Words.{◌∙◌, ℕ, Bool, List, [], ◌∷◌, ◌++◌, map, sym, arith, cases_lt, both_ways, To, Kind, Text, OwnId, text_kinds, fits, kinds_in, looked_up_by}
+use Rattle.mail_answer.proofs.CursorLaws.Texts.{some_of_all, word_past, kinds_more, kinds_steps, kinds_skip, kinds_next, all_kinds}
 use Rattle.mail_answer.proofs.cursor.texts.with_text.Goals as goal
+use Rattle.mail_answer.proofs.cursor.texts.with_text.Goals.{then-is_in+in_ok-push_kind, else-is_in}
 
-pub returns-clause-truths : goal.returns-clause-truths
-returns-clause-truths c = grind (arith, some_of_all)
+pub loop-kind-preserved : goal.loop-kind-preserved
+loop-kind-preserved c =
+    let items : List Kind = map Text text_kinds ++ OwnId ∷ [] in
+    let i : ℕ = c.loop-kind.kind-index in
+    let passes : List ℕ → Bool = fits c.args.fit c.args.text.now in
+    elim c.if-is_in.branch [
+      | then-is_in+in_ok-push_kind w ↦
+          rw (w.members-is, w.steps-is)
+          (kinds_more passes c.args.index.now.keys (looked_up_by c.args.fit) (kinds_in c.args.kinds) [] c.args.steps.now _ _ c.loop-kind.members.items w.push_kind.new.members.items c.loop-kind.steps w.push_kind.new.steps
+          (kinds_next passes c.args.index.now.keys (looked_up_by c.args.fit) (kinds_in c.args.kinds) [] c.args.steps.now c.args.kinds items i (Text To) c.loop-kind.members.items c.loop-kind.steps c.loop-kind-test.true (sym c.is_in.ensures ∙ w.if-is_in.true) c.loop-kind.invariant)
+          (rw w.as_bytes.ensures at w.in_ok-push_kind.ensures.joins) w.push_kind.ensures.steps)
+      | else-is_in w ↦
+          rw (w.members-is, w.steps-is)
+          (kinds_skip passes c.args.index.now.keys (looked_up_by c.args.fit) (kinds_in c.args.kinds) [] c.args.steps.now c.args.kinds items i (Text To) c.loop-kind.members.items c.loop-kind.steps c.loop-kind-test.true (sym c.is_in.ensures ∙ w.if-is_in.false) c.loop-kind.invariant)
+    ]
+
+pub returns-in_err-push_kind-clause-steps : goal.returns-in_err-push_kind-clause-steps
+returns-in_err-push_kind-clause-steps c =
+    let items : List Kind = map Text text_kinds ++ OwnId ∷ [] in
+    let passes : List ℕ → Bool = fits c.args.fit c.args.text.now in
+    kinds_steps passes c.args.index.now.keys (looked_up_by c.args.fit) (kinds_in c.args.kinds) [] c.args.steps.now _ _ c.loop-kind.members.items c.loop-kind.steps c.push_kind.new.steps
+    (kinds_next passes c.args.index.now.keys (looked_up_by c.args.fit) (kinds_in c.args.kinds) [] c.args.steps.now c.args.kinds items c.loop-kind.kind-index (Text To) c.loop-kind.members.items c.loop-kind.steps c.loop-kind-test.true (sym c.is_in.ensures ∙ c.if-is_in.true) c.loop-kind.invariant)
+    c.push_kind.ensures.steps
 
 pub along_some-requires : goal.along_some-requires
-along_some-requires c = grind (arith, some_of_all, word_past, cases_lt, both_ways)
+along_some-requires c = let all = all_kinds (fits c.args.fit c.args.text.now) c.args.index.now.keys (looked_up_by c.args.fit) c.loop-kind.kind-index c.args.kinds c.loop-kind.members.items c.args.steps.now c.loop-kind.steps c.loop-kind-test.false c.loop-kind.auto.kind-index-end c.loop-kind.invariant in grind (arith, all.0, some_of_all, word_past, cases_lt, both_ways)
+
+pub returns-clause-truths : goal.returns-clause-truths
+returns-clause-truths c = let all = all_kinds (fits c.args.fit c.args.text.now) c.args.index.now.keys (looked_up_by c.args.fit) c.loop-kind.kind-index c.args.kinds c.loop-kind.members.items c.args.steps.now c.loop-kind.steps c.loop-kind-test.false c.loop-kind.auto.kind-index-end c.loop-kind.invariant in grind (arith, all.0, some_of_all)
+
+pub returns-clause-left : goal.returns-clause-left
+returns-clause-left c = let all = all_kinds (fits c.args.fit c.args.text.now) c.args.index.now.keys (looked_up_by c.args.fit) c.loop-kind.kind-index c.args.kinds c.loop-kind.members.items c.args.steps.now c.loop-kind.steps c.loop-kind-test.false c.loop-kind.auto.kind-index-end c.loop-kind.invariant in grind (arith, all.1)
+
+pub returns-clause-steps : goal.returns-clause-steps
+returns-clause-steps c = (all_kinds (fits c.args.fit c.args.text.now) c.args.index.now.keys (looked_up_by c.args.fit) c.loop-kind.kind-index c.args.kinds c.loop-kind.members.items c.args.steps.now c.loop-kind.steps c.loop-kind-test.false c.loop-kind.auto.kind-index-end c.loop-kind.invariant).2

@@ -1,16 +1,16 @@
-use Rattle.mail_answer.proofs.Words.{◌≡◌, ◌∙◌, ◌<◌, ℕ, List, length, get_or, subst, arith, both_ways, get_or_default, Ahead, IsFirst, left_in, postings_in}
+use Rattle.mail_answer.proofs.Words.{◌≡◌, ◌∙◌, ◌<◌, ℕ, List, length, get_or, arith, eq-eqb, get_or_default, Ahead, left_in, postings_in}
 use Rattle.mail_answer.proofs.CursorLaws.Turns.{passed_drops, passed_first, passed_all}
 use Rattle.mail_answer.proofs.CursorLaws.Members.{below-levels, turn_steps, turn_postings, none_counted, levels-set, dropped_more, dropped_drops, dropped_first, reached_none, reached_more, reached_drops, reached_number, ended_none, ended_drops, unvisited_more, whole_dropped, whole_reached}
 use Rattle.mail_answer.proofs.cursor.walk.+least.Goals as goal
 
-pub least_other-returns-then-not-is_number-clause-rest : goal.least_other-returns-then-not-is_number-clause-rest
-least_other-returns-then-not-is_number-clause-rest t c = grind (arith, passed_drops)
+pub least_other-returns-then-ne-clause-rest : goal.least_other-returns-then-ne-clause-rest
+least_other-returns-then-ne-clause-rest t c = grind (arith, passed_drops)
 
-pub least_other-returns-then-not-is_number-clause-number : goal.least_other-returns-then-not-is_number-clause-number
-least_other-returns-then-not-is_number-clause-number t c =
-    passed_first c.loop-number.walk.count c.loop-number.number c.deref_mut.result.now.truths c.least_from-least.new.self.truths c.least_from-least.result
-    (omega (arith, c.loop-number-test.true, c.loop-number.invariant.count)) c.least_from-least.ensures.rest c.least_from-least.ensures.number
-    (λ e. both_ways c.is_number.result c.if-not-is_number.true (c.is_number.ensures.1 e))
+pub least_other-returns-then-ne-clause-number : goal.least_other-returns-then-ne-clause-number
+least_other-returns-then-ne-clause-number t c =
+    passed_first c.loop-number.walk.count c.loop-number.number c.deref_mut.result.now.truths c.least_from.new.self.truths c.least_from.result
+    (omega (arith, c.loop-number-test.true, c.loop-number.invariant.count)) c.least_from.ensures.rest c.least_from.ensures.number
+    (λ e. grind (arith, eq-eqb))
 
 pub least_other-returns-clause-rest : goal.least_other-returns-clause-rest
 least_other-returns-clause-rest t c = grind (arith, passed_drops)
@@ -57,14 +57,14 @@ reach_common-loop-member-init t c = grind (arith, reached_none, none_counted)
 pub reach_common-least_from-requires : goal.reach_common-least_from-requires
 reach_common-least_from-requires t c = grind (arith, get_or_default, below-levels)
 
-pub reach_common-returns-in-None-clause-rest : goal.reach_common-returns-in-None-clause-rest
-reach_common-returns-in-None-clause-rest t c = grind (arith, get_or_default, ended_drops)
+pub reach_common-returns-in_err-number-clause-rest : goal.reach_common-returns-in_err-number-clause-rest
+reach_common-returns-in_err-number-clause-rest t c = grind (arith, get_or_default, ended_drops)
 
-pub reach_common-returns-in-None-clause-number : goal.reach_common-returns-in-None-clause-number
-reach_common-returns-in-None-clause-number t c = grind (arith, ended_none)
+pub reach_common-returns-in_err-number-clause-number : goal.reach_common-returns-in_err-number-clause-number
+reach_common-returns-in_err-number-clause-number t c = grind (arith, ended_none)
 
-pub reach_common-returns-in-None-clause-steps : goal.reach_common-returns-in-None-clause-steps
-reach_common-returns-in-None-clause-steps t c =
+pub reach_common-returns-in_err-number-clause-steps : goal.reach_common-returns-in_err-number-clause-steps
+reach_common-returns-in_err-number-clause-steps t c =
     let xs : List Ahead = c.loop-member.members in
     let i : ℕ = c.loop-member.member-index in
     let w : Ahead = get_or xs i c.member-item.result in
@@ -72,8 +72,8 @@ reach_common-returns-in-None-clause-steps t c =
     let is : w ≡ get_or xs i w = get_or_default xs i c.member-item.result w within in
     turn_steps xs i (left_in c.args.members.now) c.args.steps.now c.loop-member.steps c.least_from.new.steps w c.least_from.new.self within is c.loop-member.invariant.steps c.least_from.ensures.steps
 
-pub reach_common-returns-in-None-clause-postings : goal.reach_common-returns-in-None-clause-postings
-reach_common-returns-in-None-clause-postings t c =
+pub reach_common-returns-in_err-number-clause-postings : goal.reach_common-returns-in_err-number-clause-postings
+reach_common-returns-in_err-number-clause-postings t c =
     let xs : List Ahead = c.loop-member.members in
     let i : ℕ = c.loop-member.member-index in
     let w : Ahead = get_or xs i c.member-item.result in
@@ -81,8 +81,8 @@ reach_common-returns-in-None-clause-postings t c =
     let is : w ≡ get_or xs i w = get_or_default xs i c.member-item.result w within in
     turn_postings xs i (postings_in c.args.members.now) c.args.steps.now c.loop-member.steps c.least_from.new.steps w c.least_from.new.self within is c.loop-member.invariant.postings c.least_from.ensures.postings
 
-pub reach_common-returns-in-None-clause-below : goal.reach_common-returns-in-None-clause-below
-reach_common-returns-in-None-clause-below t c = grind (arith, get_or_default, levels-set)
+pub reach_common-returns-in_err-number-clause-below : goal.reach_common-returns-in_err-number-clause-below
+reach_common-returns-in_err-number-clause-below t c = grind (arith, get_or_default, levels-set)
 
 pub reach_common-loop-member-preserved : goal.reach_common-loop-member-preserved
 reach_common-loop-member-preserved t c =
@@ -98,7 +98,7 @@ reach_common-loop-member-preserved t c =
     let was : w ≡ get_or old i w = is ∙ c.loop-member.invariant.unvisited.1 i w (omega arith) in
     record {
       unvisited = unvisited_more old xs i v c.loop-member.invariant.unvisited;
-      reached = reached_more c.args.n old xs i c.loop-member.number c.in-Some.least w v lt long was c.loop-member.invariant.reached c.least_from.ensures.rest (subst (IsFirst v.truths) c.in-Some.is c.least_from.ensures.number);
+      reached = reached_more c.args.n old xs i c.loop-member.number c.in_ok-number.number w v lt long was c.loop-member.invariant.reached c.least_from.ensures.rest c.in_ok-number.ensures.number;
       steps = turn_steps xs i (left_in old) c.args.steps.now c.loop-member.steps c.least_from.new.steps w v within is c.loop-member.invariant.steps c.least_from.ensures.steps;
       postings = turn_postings xs i (postings_in old) c.args.steps.now c.loop-member.steps c.least_from.new.steps w v within is c.loop-member.invariant.postings c.least_from.ensures.postings;
       levels = levels-set xs i w v within is c.least_from.ensures.below ∙ c.loop-member.invariant.levels;

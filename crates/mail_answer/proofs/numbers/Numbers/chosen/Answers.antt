@@ -1,11 +1,11 @@
 use Rattle.mail_answer.proofs.Words.{arith}
 use Rattle.mail_query.specs.Meaning.{meaning}
-use Rattle.mail_answer.proofs.ThreadLaws.ChosenThreads.{ok_then, threads_below}
+use Rattle.mail_answer.proofs.ThreadLaws.ChosenThreads.{threads_below}
 use Rattle.mail_answer.proofs.ThreadLaws.NumberLists.{numbers_chosen}
 use Rattle.mail_answer.proofs.numbers.Numbers.chosen.Goals as goal
 
 pub returns-then-not-threads-clause-numbers : goal.returns-then-not-threads-clause-numbers
-returns-then-not-threads-clause-numbers c = grind (arith, ok_then, numbers_chosen)
+returns-then-not-threads-clause-numbers c = rw c.in_ok-new.ensures.numbers (numbers_chosen c.args.index.now (meaning c.args.query.now))
 
 pub with_threads-requires-clause-rises : goal.with_threads-requires-clause-rises
 with_threads-requires-clause-rises c = grind (arith, numbers_chosen)
@@ -16,5 +16,5 @@ with_threads-requires-clause-within c =
 
 pub returns-clause-numbers : goal.returns-clause-numbers
 returns-clause-numbers c =
-    let are = c.in_ok-members.ensures in
-    rw c.listed.ensures (record { rises = are.rises; below = threads_below c.args.index.now c.as_slice.result.now c.in_ok-members.members.items are })
+    let are = c.in_ok-numbers.ensures in
+    record { rises = are.rises; below = threads_below c.args.index.now c.as_slice.result.now c.in_ok-numbers.numbers.items are }

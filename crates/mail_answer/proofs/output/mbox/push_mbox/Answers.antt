@@ -1,19 +1,101 @@
-use Rattle.mail_answer.proofs.Words.{◌≡◌, arith, record_at}
+use Rattle.mail_answer.proofs.Words.{◌≡◌, ◌∙◌, ℕ, record_at, List, ◌++◌, length, length-append, Option, Some, ap, sym, refl, append-nil, arith, nat_tests, err_from_is_err_and, option_map, ending_of, feeds_of, Reading, coming, coming_count, span_reading, closed, Tells}
+use Rattle.mail_answer.proofs.OutputLaws.CopiedPieces.{known_closed, pieces_more, front_told, closed_told, closed_begins, closed_by_last}
+use Rattle.mail_answer.proofs.OutputLaws.SheetLemmas.{joins_gathered, joins_more, joins_front, front_more, writes_next, writes_less, writes_err, unsent_before, unsent_before_front, unsent_before_writes}
+use Rattle.mail_answer.proofs.ArchiveLaws.CallLemmas.{keeps_self, keeps_join}
 use Rattle.mail_answer.proofs.ArchiveLaws.IndexedLemmas.{message_inside, message_some}
 use Rattle.mail_answer.proofs.CursorLaws.TruthLists.{record_known}
 use Rattle.mail_answer.proofs.output.mbox.push_mbox.Goals as goal
 
-pub push_closed-requires-clause-inside : goal.push_closed-requires-clause-inside
-push_closed-requires-clause-inside g c =
+pub pieces-init : goal.pieces-init
+pieces-init g c =
     let t = c.args.index.now in
-    let is : c.message.result ≡ record_at t.messages c.args.n = cc (c.message.ensures, record_known t.messages c.args.n c.requires.below) in
-    rw is (message_inside t (g.A.Archives.held c.args.archives.now) (g.A.Archives.number c.args.archives.now) c.args.n c.requires.table c.requires.below c.requires.indexed.number c.requires.indexed.fresh)
+    let m = record_at t.messages c.args.n in
+    let is : c.message.result ≡ m = cc (c.message.ensures, record_known t.messages c.args.n c.requires.below) in
+    let part : c.of-part.result ≡ span_reading m = c.of-part.ensures ∙ ap span_reading is in
+    let inside = message_inside t (g.A.Archives.held c.args.archives.now) (g.A.Archives.number c.args.archives.now) c.args.n c.requires.table c.requires.below c.requires.indexed.number c.requires.indexed.fresh in
+    rw part (grind (arith, keeps_self, joins_gathered, append-nil, inside))
 
-pub push_closed-requires-clause-some : goal.push_closed-requires-clause-some
-push_closed-requires-clause-some g c = grind (arith, record_known, message_some)
+pub copy_piece-requires-clause-some : goal.copy_piece-requires-clause-some
+copy_piece-requires-clause-some g c = grind (arith, nat_tests)
+
+pub pieces-preserved : goal.pieces-preserved
+pieces-preserved g c =
+    let held : Option (List ℕ) = coming (g.A.Archives.held c.args.archives.now) c.copy_piece.new.self in
+    let i = c.pieces.invariant in
+    let j = i.joins in
+    let w = rw i.keeps.held at c.in_ok-ending.ensures.copies in
+    record {
+      keeps = keeps_join g.A.Archives _ _ _ i.keeps c.in_ok-ending.ensures.archives.keeps;
+      inside = rw (i.keeps.held, i.keeps.number) at c.in_ok-ending.ensures.inside;
+      archive = c.in_ok-ending.ensures.archive ∙ i.archive;
+      joins = (
+        j.0 ++ w.0,
+        j.1 ∙ ap (option_map (λ bytes. j.0 ++ bytes)) w.1 ∙ pieces_more held j.0 w.0,
+        w.3 j.0 j.2,
+        joins_more j.3 w.2,
+        omega (arith, j.4, w.4, length-append j.0 w.0),
+      );
+      kept = λ unsent. c.in_ok-ending.ensures.out.kept unsent refl ∙ i.kept (unsent_before w.2 unsent);
+      out_count = c.in_ok-ending.ensures.out.count ∙ i.out_count;
+      archives_count = c.in_ok-ending.ensures.archives.count ∙ i.archives_count;
+    }
+
+pub returns-in_err-ending-clause-writes : goal.returns-in_err-ending-clause-writes
+returns-in_err-ending-clause-writes g c =
+    let held : Option (List (List ℕ)) = g.A.Archives.held c.args.archives.now in
+    let span : Option (List ℕ) = coming held (span_reading (record_at c.args.index.now.messages c.args.n)) in
+    let i = c.pieces.invariant in
+    let j = i.joins in
+    let w = rw i.keeps.held at c.in_err-ending.ensures.copies in
+    let told = front_told span (coming held c.pieces.part) j.0 w.0 j.1 w.1 in
+    rw (← known_closed c.args.index.now held c.args.n)
+    (writes_err (g.O.Out.taken c.args.out.now) (g.O.Out.taken c.copy_piece.new.out) c.args.sheet.now c.copy_piece.new.sheet (option_map closed span) c.from_residual.result c.from_residual.ensures.0
+    ((j.0 ++ w.0) ++ told.0, told.1, front_more told.0 (joins_front j.3 w.2)))
+
+pub returns-in_err-ending-clause-out : goal.returns-in_err-ending-clause-out
+returns-in_err-ending-clause-out g c = grind (arith, err_from_is_err_and, unsent_before_front)
 
 pub returns-clause-writes : goal.returns-clause-writes
-returns-clause-writes g c = grind (arith, record_known)
+returns-clause-writes g c =
+    let held : Option (List (List ℕ)) = g.A.Archives.held c.args.archives.now in
+    let span : Reading = span_reading (record_at c.args.index.now.messages c.args.n) in
+    let i = c.pieces.invariant in
+    let j = i.joins in
+    let feeds : List ℕ = c.feeds.result.now in
+    let none : coming_count c.pieces.part ≡ 0 = grind (arith, nat_tests) in
+    let told : Tells (option_map closed (coming held span)) (j.0 ++ feeds_of (ending_of j.0)) = closed_told held (g.A.Archives.number c.args.archives.now) span c.pieces.part j.0 (message_inside c.args.index.now held (g.A.Archives.number c.args.archives.now) c.args.n c.requires.table c.requires.below c.requires.indexed.number c.requires.indexed.fresh) (omega (arith, message_some c.args.index.now c.args.n c.requires.table c.requires.below)) j.1 none i.inside in
+    let same : feeds_of (ending_of j.0) ≡ feeds = ap feeds_of (sym j.2) ∙ sym c.feeds.ensures in
+    rw (← known_closed c.args.index.now held c.args.n)
+    (writes_less (g.O.Out.taken c.args.out.now) (g.O.Out.taken c.push.new.out) c.args.sheet.now c.push.new.self (option_map closed (coming held span)) (j.0 ++ feeds) c.push.result (rw same at told)
+    (writes_next (g.O.Out.taken c.args.out.now) (g.O.Out.taken c.pieces.out) (g.O.Out.taken c.push.new.out) c.args.sheet.now c.pieces.sheet c.push.new.self (Some j.0) (Some feeds) c.push.result (j.0, refl, j.3) c.push.ensures.writes))
+
+pub returns-in_err-ending-clause-span : goal.returns-in_err-ending-clause-span
+returns-in_err-ending-clause-span g c =
+    let i = c.pieces.invariant in
+    let j = i.joins in
+    let w = rw i.keeps.held at c.in_err-ending.ensures.copies in
+    let bytes : List ℕ = j.0 ++ w.0 in
+    let begins = closed_begins bytes in (
+      bytes,
+      omega (arith, length-append j.0 w.0, j.4, w.3),
+      writes_err (g.O.Out.taken c.args.out.now) (g.O.Out.taken c.copy_piece.new.out) c.args.sheet.now c.copy_piece.new.sheet (Some (closed bytes)) c.from_residual.result c.from_residual.ensures.0
+          (bytes ++ begins.0, begins.1, front_more begins.0 (joins_front j.3 w.2)),
+    )
 
 pub returns-clause-span : goal.returns-clause-span
-returns-clause-span g c = grind (arith, record_known)
+returns-clause-span g c =
+    let i = c.pieces.invariant in
+    let j = i.joins in
+    let feeds : List ℕ = c.feeds.result.now in
+    let none : coming_count c.pieces.part ≡ 0 = grind (arith, nat_tests) in
+    let long : length j.0 ≡ (record_at c.args.index.now.messages c.args.n).length = omega (arith, j.4, none) in
+    let same : feeds_of (ending_of j.0) ≡ feeds = ap feeds_of (sym j.2) ∙ sym c.feeds.ensures in
+    let is : closed j.0 ≡ j.0 ++ feeds = closed_by_last j.0 (omega (arith, long, message_some c.args.index.now c.args.n c.requires.table c.requires.below)) ∙ ap (λ (l : List ℕ). j.0 ++ l) same in (
+      j.0,
+      long,
+      writes_less (g.O.Out.taken c.args.out.now) (g.O.Out.taken c.push.new.out) c.args.sheet.now c.push.new.self (Some (closed j.0)) (j.0 ++ feeds) c.push.result is
+          (writes_next (g.O.Out.taken c.args.out.now) (g.O.Out.taken c.pieces.out) (g.O.Out.taken c.push.new.out) c.args.sheet.now c.pieces.sheet c.push.new.self (Some j.0) (Some feeds) c.push.result (j.0, refl, j.3) c.push.ensures.writes),
+    )
+
+pub returns-clause-out : goal.returns-clause-out
+returns-clause-out g c = grind (arith, unsent_before_writes)

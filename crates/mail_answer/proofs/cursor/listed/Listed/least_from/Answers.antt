@@ -1,15 +1,20 @@
-use Rattle.mail_answer.proofs.Words.{List, ℕ, sym, subst, arith, IsFirst, numbers_ahead, truths_among, AreNumbers}
-use Rattle.mail_answer.proofs.CursorLaws.Lists.{cut_numbers, cut_drops, first_among}
+use Rattle.mail_answer.proofs.Words.{◌∙◌, sym, arith}
+use Rattle.mail_answer.proofs.CursorLaws.Lists.{cut_none, cut_more, cut_drops, stays_first, goes_on}
 use Rattle.mail_answer.proofs.cursor.listed.Listed.least_from.Goals as goal
 
+pub returns-then-not-is_before-clause-rest : goal.returns-then-not-is_before-clause-rest
+returns-then-not-is_before-clause-rest c = grind (arith, cut_none, cut_drops)
+
+pub returns-then-not-is_before-clause-number : goal.returns-then-not-is_before-clause-number
+returns-then-not-is_before-clause-number c = grind (arith, stays_first)
+
 pub invariant_of-self : goal.invariant_of-self
-invariant_of-self c = cut_numbers c.self.inside.count c.args.n (numbers_ahead c.self.inside.first c.self.inside.postings) (numbers_ahead c.cut.new.first c.cut.new.postings) c.self.invariant c.cut.ensures.cut
+invariant_of-self c =
+    (goes_on c.self.inside.count c.args.n c.self.inside.first c.self.inside.postings c.next_at_least-self-inside.new.self c.next_at_least-self-inside.result (sym c.is_before.ensures ∙ c.if-not-is_before.false) c.self.invariant c.next_at_least-self-inside.ensures.number).0
 
 pub returns-clause-rest : goal.returns-clause-rest
-returns-clause-rest c = grind (arith, cut_drops)
+returns-clause-rest c = grind (arith, cut_more, cut_drops)
 
 pub returns-clause-number : goal.returns-clause-number
 returns-clause-number c =
-    let ns : List ℕ = numbers_ahead c.cut.new.first c.cut.new.postings in
-    let are : AreNumbers c.self.inside.count ns = cut_numbers c.self.inside.count c.args.n (numbers_ahead c.self.inside.first c.self.inside.postings) ns c.self.invariant c.cut.ensures.cut in
-    subst (IsFirst (truths_among c.self.inside.count ns)) (sym c.cut.ensures.first) (first_among c.self.inside.count ns are)
+    (goes_on c.self.inside.count c.args.n c.self.inside.first c.self.inside.postings c.next_at_least-self-inside.new.self c.next_at_least-self-inside.result (sym c.is_before.ensures ∙ c.if-not-is_before.false) c.self.invariant c.next_at_least-self-inside.ensures.number).1

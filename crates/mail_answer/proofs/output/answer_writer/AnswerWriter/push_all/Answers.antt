@@ -1,10 +1,9 @@
 use Rattle.mail_answer.proofs.Words.{◌≡◌, ℕ, List, [], ◌∷◌, ◌++◌, length, Option, Some, Result, Ok, refl, ap, subst, sym, ◌∙◌, append_assoc, append-nil, arith, err_from_is_err_and, AreNumbers, known_answer, known_message, joined, Tells, Writes}
 use Rattle.mail_answer.proofs.ThreadLaws.NumberLists.{numbers_next, few_numbers, known_first, known_none}
-use Rattle.mail_answer.proofs.OutputLaws.SheetLemmas.{joins_gathered, writes_next, writes_stop, writes_less, writes_err, tells-joined, joins_more, unsent_before}
-use Rattle.mail_answer.proofs.OutputLaws.ChosenArchives.{is_among_behind}
+use Rattle.mail_answer.proofs.OutputLaws.SheetLemmas.{joins_gathered, writes_next, writes_stop, writes_less, writes_err, tells-joined, joins_more, unsent_before, joined-nothing, joined-assoc}
+use Rattle.mail_answer.proofs.OutputLaws.ChosenBelow.{is_among_behind}
 use Rattle.mail_answer.proofs.OutputLaws.SpanWrites.{spans_more, spans_stop, spans_end}
-use Rattle.mail_answer.proofs.OutputLaws.WriterLemmas.{still_ready}
-use Rattle.mail_answer.proofs.OutputLaws.SpanLemmas.{joined-nothing, joined-assoc}
+use Rattle.mail_answer.proofs.OutputLaws.SentLemmas.{still_ready}
 use Rattle.mail_answer.proofs.ArchiveLaws.CallLemmas.{keeps_self, keeps_join}
 use Rattle.mail_answer.proofs.output.answer_writer.AnswerWriter.push_all.Goals as goal
 

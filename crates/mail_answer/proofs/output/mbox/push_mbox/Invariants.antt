@@ -1,16 +1,16 @@
-use Rattle.mail_answer.proofs.Words.{◌≡◌, ◌+◌, ℕ, List, ◌++◌, length, option_map, ending_of, coming, coming_count, span_reading, IsInside, Joins, KeepsArchives}
-use Rattle.mail_answer.proofs.output.mbox.push_closed.Given as goal
+use Rattle.mail_answer.proofs.Words.{◌≡◌, ◌+◌, ℕ, List, ◌++◌, length, option_map, record_at, ending_of, coming, coming_count, span_reading, IsInside, Joins, KeepsArchives}
+use Rattle.mail_answer.proofs.output.mbox.push_mbox.Given as goal
 
 -- some pieces joined the answer; they and what is left are the span
 abbrev pub invariant-pieces : goal.invariant-pieces
 invariant-pieces g l = record {
   keeps : KeepsArchives g.A.Archives l.fn.archives l.archives;
   inside : IsInside (g.A.Archives.number l.fn.archives) (g.A.Archives.held l.fn.archives) l.part;
-  archive : l.part.archive ≡ l.fn.message.archive;
+  archive : l.part.archive ≡ (record_at l.fn.index.messages l.fn.n).archive;
   joins : (text : List ℕ)
-      × (coming (g.A.Archives.held l.fn.archives) (span_reading l.fn.message) ≡ option_map (λ bytes. text ++ bytes) (coming (g.A.Archives.held l.fn.archives) l.part))
+      × (coming (g.A.Archives.held l.fn.archives) (span_reading (record_at l.fn.index.messages l.fn.n)) ≡ option_map (λ bytes. text ++ bytes) (coming (g.A.Archives.held l.fn.archives) l.part))
       × (l.ending ≡ ending_of text) × Joins (g.O.Out.taken l.fn.out) (g.O.Out.taken l.out) l.fn.sheet l.sheet text
-      × (coming_count (span_reading l.fn.message) ≡ length text + coming_count l.part);
+      × (coming_count (span_reading (record_at l.fn.index.messages l.fn.n)) ≡ length text + coming_count l.part);
   kept : l.sheet.sent ≡ 0 → l.out ≡ l.fn.out;
   out_count : g.O.Out.failures l.out ≡ g.O.Out.failures l.fn.out;
   archives_count : g.A.Archives.failures l.archives ≡ g.A.Archives.failures l.fn.archives;

@@ -1,5 +1,0 @@
-use Rattle.mail_answer.proofs.Words.{nat_eq, get_or, take, list_any, Adds}
-use Rattle.mail_answer.proofs.threads.mark_roots.Given as goal
-
-abbrev pub invariant-loop-number : goal.invariant-loop-number
-invariant-loop-number l = Adds (λ r. list_any (λ n. nat_eq r (get_or l.roots n 0)) (take l.number-index l.numbers)) l.initial.marks l.marks

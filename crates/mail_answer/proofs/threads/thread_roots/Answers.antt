@@ -1,0 +1,27 @@
+use Rattle.mail_answer.proofs.Words.{◌≡◌, ◌∙◌, ◌<◌, ℕ, List, length, sym, ap, subst, range_with_len, AllByRecursion, LeadsBack}
+use Rattle.mail_answer.proofs.ThreadLaws.RootLemmas.{single_back, link_keys_below, threads_told, written_over}
+use Rattle.mail_answer.proofs.threads.thread_roots.Goals as goal
+
+pub unite_by_keys-requires-clause-back : goal.unite_by_keys-requires-clause-back
+unite_by_keys-requires-clause-back c = single_back c.as_mut_slice.result.now c.message_count.result (c.as_mut_slice.ensures.value ∙ c.in_ok-roots.ensures)
+
+pub unite_by_keys-requires-clause-within : goal.unite_by_keys-requires-clause-within
+unite_by_keys-requires-clause-within c =
+    let single : c.as_mut_slice.result.now ≡ range_with_len 0 (length c.args.index.now.messages) = c.as_mut_slice.ensures.value ∙ c.in_ok-roots.ensures ∙ ap (range_with_len 0) c.message_count.ensures in
+    subst (λ (ks : List (List ℕ × List ℕ)). AllByRecursion (λ (k : List ℕ × List ℕ). AllByRecursion (λ n. n < length c.as_mut_slice.result.now) k.1) ks) (sym c.keys-keys.ensures)
+    (link_keys_below c.args.index.now c.as_mut_slice.result.now c.requires single)
+
+pub flatten-requires : goal.flatten-requires
+flatten-requires c =
+    let written = written_over c.in_ok-roots.roots.len c.unite_by_keys.new.parents _ (c.unite_by_keys.ensures.long ∙ c.as_mut_slice.ensures.len) in
+    subst LeadsBack (sym (c.as_mut_slice-2.ensures.value ∙ written))
+    (c.unite_by_keys.ensures.back (single_back c.as_mut_slice.result.now c.message_count.result (c.as_mut_slice.ensures.value ∙ c.in_ok-roots.ensures)))
+
+pub returns : goal.returns
+returns c =
+    let t = c.args.index.now in
+    let single : c.as_mut_slice.result.now ≡ range_with_len 0 (length t.messages) = c.as_mut_slice.ensures.value ∙ c.in_ok-roots.ensures ∙ ap (range_with_len 0) c.message_count.ensures in
+    let joined : c.as_mut_slice-2.result.now ≡ c.unite_by_keys.new.parents = c.as_mut_slice-2.ensures.value ∙ written_over c.in_ok-roots.roots.len c.unite_by_keys.new.parents _ (c.unite_by_keys.ensures.long ∙ c.as_mut_slice.ensures.len) in
+    rw (written_over c.in_ok-roots.roots.len c.flatten.new.parents _ (c.flatten.ensures.shortened.long ∙ c.as_mut_slice-2.ensures.len))
+    (threads_told t c.as_mut_slice.result.now c.as_mut_slice-2.result.now c.flatten.new.parents single
+    (rw joined (rw c.keys-keys.ensures at c.unite_by_keys.ensures)) c.flatten.ensures.shortened c.flatten.ensures.flat)
