@@ -32,7 +32,7 @@ def same_query_rows():
 
 
 # The functions that begin a count of steps: `matches`, `with_threads` and `answer` have no caller's count.
-COUNTING = {"mail_answer::cursor::matches", "mail_answer::threads::join_threads", "mail_answer::numbers::Numbers::walked"}
+COUNTING = {"mail_answer::cursor::matches", "mail_answer::threads::thread_roots", "mail_answer::numbers::Numbers::chosen"}
 
 
 def only_whole_searches_begin_counts():

@@ -1,5 +1,5 @@
 -- Laws of foldings, and what is left of one that is being written.
-use Rattle.mail_words.proofs.Imports.{◌≡◌, ℕ, true, list_all, ◌*◌, ◌≤◌, List, [], ◌∷◌, ◌++◌, length, None, Some, encode_utf8, encode_utf8_all, IsAscii, IsUtf8, refl, sym, ap, ap₂, ◌∙◌, ◌<◌, arith, append_assoc, length-append, cases_lt, length-map, chars-IsAscii, encodes-IsAscii, encodes-chars, length-le-encodes, Chars-gives, len_utf8_bounds, length-encode, IsAscii-map, lowercase_ascii, to_ascii_lowercase, chars_rest, chars_steps, folding}
+use Rattle.mail_words.proofs.Imports.{◌≡◌, ℕ, true, list_all, ◌*◌, ◌≤◌, List, [], ◌∷◌, ◌++◌, length, None, Some, encode_utf8, encode_utf8_all, IsAscii, IsUtf8, refl, sym, ap, ap₂, ◌∙◌, ◌<◌, arith, append_assoc, length-append, cases_lt, chars-IsAscii, encodes-IsAscii, encodes-chars, length-le-encodes, Chars-gives, len_utf8_bounds, length-encode, IsAscii-map, lowercase_ascii, to_ascii_lowercase, chars_rest, chars_steps, folding}
 use Rattle.std.proofs.Common.{map, chars, append-nil}
 use Rattle.std.specs.declared.str.Chars.{Chars}
 use Rattle.std.specs.Iterator.{AlwaysYields}
@@ -14,9 +14,6 @@ use Rattle.caseless.proofs.CaselessLemmas.{default_case_fold-ascii, default_case
 -- in ASCII only the capital letters change
 pub folding-ascii : (text : List ℕ) → IsAscii text → folding text ≡ map to_ascii_lowercase text
 folding-ascii text ascii = grind (arith, encode_utf8_all, default_case_fold-ascii, All-chars, chars-IsAscii, encodes-IsAscii, IsAscii-map, lowercase_ascii)
-
-pub length-folding-ascii : (text : List ℕ) → IsAscii text → length (folding text) ≡ length text
-length-folding-ascii text ascii = ap length (folding-ascii text ascii) ∙ simp length-map
 
 length-encodes-le : (cs : List ℕ) → length (encode_utf8_all cs) ≤ 4 * length cs
 length-encodes-le [] = omega arith

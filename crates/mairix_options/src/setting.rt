@@ -30,22 +30,14 @@ impl Keyword {
     fn of(option: &str) -> Option<Keyword>
         ensures { result ≡ keyword_of option.now }
     {
-        if option == "base" {
-            return Some(Keyword::Base);
+        match option {
+            "base" => Some(Keyword::Base),
+            "mbox" => Some(Keyword::Mbox),
+            "database" => Some(Keyword::Database),
+            "mfolder" => Some(Keyword::Mfolder),
+            "mformat" => Some(Keyword::Mformat),
+            _ => None,
         }
-        if option == "mbox" {
-            return Some(Keyword::Mbox);
-        }
-        if option == "database" {
-            return Some(Keyword::Database);
-        }
-        if option == "mfolder" {
-            return Some(Keyword::Mfolder);
-        }
-        if option == "mformat" {
-            return Some(Keyword::Mformat);
-        }
-        None
     }
 }
 

@@ -54,13 +54,9 @@ impl MessageText {
         if self.ended {
             return Err(TextFault::Failed);
         }
-        match self.reader.line(line, sink) {
-            Ok(()) => Ok(()),
-            Err(fault) => {
-                self.ended = true;
-                Err(fault)
-            }
-        }
+        let outcome = self.reader.line(line, sink);
+        self.ended = outcome.is_err();
+        outcome
     }
 
     /// Ends the message, gives the texts that are left, and answers what its own header says beside its texts. From then on every

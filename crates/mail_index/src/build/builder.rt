@@ -66,9 +66,7 @@ impl Builder {
         ensures lost { OnErr result (self.new ≡ None) }
         ensures failed { IfNone self.old (result ≡ Err BuildFault.Failed) }
     {
-        let Some(draft) = &mut self.draft else {
-            return Err(BuildFault::Failed);
-        };
+        let draft = self.draft.as_mut().ok_or(BuildFault::Failed)?;
         let outcome = draft.begin_archive(self.alloc, path);
         self.settled(outcome)
     }
@@ -84,9 +82,7 @@ impl Builder {
         ensures lost { OnErr result (self.new ≡ None) }
         ensures failed { IfNone self.old (result ≡ Err BuildFault.Failed) }
     {
-        let Some(draft) = &mut self.draft else {
-            return Err(BuildFault::Failed);
-        };
+        let draft = self.draft.as_mut().ok_or(BuildFault::Failed)?;
         let outcome = draft.begin_message();
         self.settled(outcome)
     }
@@ -152,9 +148,7 @@ impl Builder {
         ensures lost { OnErr result (self.new ≡ None) }
         ensures failed { IfNone self.old (result ≡ Err BuildFault.Failed) }
     {
-        let Some(draft) = &mut self.draft else {
-            return Err(BuildFault::Failed);
-        };
+        let draft = self.draft.as_mut().ok_or(BuildFault::Failed)?;
         let outcome = draft.add(self.alloc, kind, text, place);
         self.settled(outcome)
     }
@@ -169,9 +163,7 @@ impl Builder {
         ensures lost { OnErr result (self.new ≡ None) }
         ensures failed { IfNone self.old (result ≡ Err BuildFault.Failed) }
     {
-        let Some(draft) = &mut self.draft else {
-            return Err(BuildFault::Failed);
-        };
+        let draft = self.draft.as_mut().ok_or(BuildFault::Failed)?;
         let outcome = draft.end_message(message);
         self.settled(outcome)
     }
@@ -189,9 +181,7 @@ impl Builder {
         ensures lost { OnErr result (self.new ≡ None) }
         ensures failed { IfNone self.old (result ≡ Err BuildFault.Failed) }
     {
-        let Some(draft) = &mut self.draft else {
-            return Err(BuildFault::Failed);
-        };
+        let draft = self.draft.as_mut().ok_or(BuildFault::Failed)?;
         let outcome = draft.end_archive(length, digest);
         self.settled(outcome)
     }
@@ -215,9 +205,7 @@ impl Builder {
             × Sends (O.taken out.old) (O.taken out.new) (index_file d.table))) }
         ensures count { Counted (is_device result) (O.failures out.old) (O.failures out.new) }
     {
-        let Some(draft) = &self.draft else {
-            return Err(BuildFault::Failed);
-        };
+        let draft = self.draft.as_ref().ok_or(BuildFault::Failed)?;
         Ok(draft.write(out)?)
     }
 

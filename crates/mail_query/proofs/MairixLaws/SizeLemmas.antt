@@ -1,5 +1,5 @@
 -- How sizes are read, which is as their grammar says.
-use Rattle.mail_query.proofs.Words.{◌≡◌, ℕ, ◌-◌, ◌<◌, List, [], ◌∷◌, ◌++◌, length, Option, Some, None, refl, sym, ap, ◌∙◌, arith, length-append, ◌*◌, ◌≤◌, Bool, true, false, eqb, leb, option_map, subst, slice_get, option_and_then, ◌&&◌, IsLastAndRest, list_all, list_any, get_or-append_seam, slice_get-get_or, cond_some, option_and_then_some, last_byte, before_last_byte, factor_of, scaled, size_with, size_of, size_limit, low_of, high_of, sizes_between, sizes_of, is_ascii_digit, leb-true, le-leb, and_parts, and_from, or_from, Query, Size, is_byte, cut, IsNumber, IsSize, InBytes, InUnits, IsLow, FromZero, FromSize, IsHigh, Unbounded, ToSize, IsSizes, Between}
+use Rattle.mail_query.proofs.Words.{◌≡◌, ℕ, ◌-◌, ◌<◌, List, [], ◌∷◌, ◌++◌, length, Option, Some, None, refl, sym, ap, ◌∙◌, arith, length-append, ◌*◌, ◌≤◌, true, false, eqb, option_map, subst, slice_get, option_and_then, ◌&&◌, IsLastAndRest, list_all, list_any, get_or-append_seam, slice_get-get_or, cond_some, option_and_then_some, last_byte, before_last_byte, factor_of, scaled, size_with, size_of, size_limit, low_of, high_of, sizes_between, sizes_of, is_ascii_digit, leb-true, le-leb, and_parts, and_from, or_from, Query, Size, is_byte, cut, IsNumber, IsSize, InBytes, InUnits, IsLow, FromZero, FromSize, IsHigh, Unbounded, ToSize, IsSizes, Between}
 use Rattle.std.specs.Str.Parse.{digits_value}
 use Rattle.mail_query.proofs.PieceLemmas.{last_of, before_last, other_byte, Free, cut_at}
 use Rattle.mail_query.proofs.MairixLaws.SignLemmas.{any-append, cut_parts, map_some}
@@ -40,9 +40,6 @@ abbrev worth : List ℕ → ℕ
 worth digits = digits_value 10 digits
 
 -- ---- numbers
-
-abbrev is_number : List ℕ → Bool
-is_number digits = leb 1 (length digits) && leb (length digits) 18
 
 record Scaled (factor : ℕ) (digits : List ℕ) (size : ℕ) : Type 0 where
   number : IsNumber digits

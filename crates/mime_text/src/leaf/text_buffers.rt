@@ -38,13 +38,11 @@ fn write_text(charset: Charset, line: &[u8], into: &mut String) -> Result<(), Al
     ensures size { length (string_bytes into.new) ≤ most_in_line_text }
 {
     into.clear();
-    match decode_into(charset, line, into) {
-        Ok(()) => Ok(()),
-        Err(error) => {
-            into.clear();
-            Err(error)
-        }
+    let outcome = decode_into(charset, line, into);
+    if outcome.is_err() {
+        into.clear();
     }
+    outcome
 }
 
 /// Writes a text without its tags; nothing where memory is wanting. The answer is whether a tag is open behind it.
@@ -56,13 +54,11 @@ fn write_blanked(open_before: bool, text: &str, into: &mut String) -> Result<boo
     ensures size { length (string_bytes into.new) ≤ most_in_line_text }
 {
     into.clear();
-    match blank_tags(open_before, text, into) {
-        Ok(behind) => Ok(behind),
-        Err(error) => {
-            into.clear();
-            Err(error)
-        }
+    let outcome = blank_tags(open_before, text, into);
+    if outcome.is_err() {
+        into.clear();
     }
+    outcome
 }
 
 impl TextBuffers {
