@@ -73,8 +73,8 @@ impl<'a> Batch<'a> {
         Ok(())
     }
 
-    /// A word waits behind the others, unless the message has it already, as half of all words are. Where so many wait already,
-    /// they are added first.
+    /// A word waits behind the others, unless it is seen that the message has it already. Where so many wait already, they are
+    /// added first.
     // Inlined, since it is called for each word.
     #[inline(always)]
     pub(crate) fn push(
