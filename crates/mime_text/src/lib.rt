@@ -15,6 +15,3 @@ pub use header::owned::{DateText, MessageId, MessageIds};
 pub use law::{one_line_at_a_time, parameters_are_of_pieces};
 pub use message_text::MessageText;
 pub use sink::TextSink;
-
-#[cfg(test)]
-mod leaf_tests;

@@ -14,28 +14,32 @@ const ALL: usize = usize::MAX;
 /// How many texts are taken before one is refused, a message, and what is told of it: its texts, those behind `end` where it ends,
 /// and then `none` if it says nothing of itself, or its only id, or `other`. Where it has failed it tells why, and after how many
 /// lines.
-type Row<'a> = (usize, &'a str, &'a str);
+type Row<'a> = (usize, &'a [u8], &'a str);
 
-const MESSAGES: [Row<'static>; 11] = [
+const MESSAGES: [Row<'static>; 20] = [
     // A fault comes once, and then each call has failed, which gives the sink nothing.
-    (0, "Subject: a\n\nb\n", "end, text refused: refused after 1"),
-    (0, "\nlunch\nbreak\n", "end, text refused: refused after 1"),
+    (
+        0,
+        b"Subject: a\n\nb\n",
+        "end, text refused: refused after 1",
+    ),
+    (0, b"\nlunch\nbreak\n", "end, text refused: refused after 1"),
     // A text that has no line feed yet is refused where the message ends.
     (
         1,
-        "Subject: lunch\n\nbreak",
+        b"Subject: lunch\n\nbreak",
         "Subject [lunch], end, text refused: refused after 3",
     ),
     // A soft break joins two lines.
     (
         ALL,
-        "Content-Transfer-Encoding: quoted-printable\n\nlunch=\nbreak\n",
+        b"Content-Transfer-Encoding: quoted-printable\n\nlunch=\nbreak\n",
         "Body [lunchbreak\n], end, none",
     ),
     // An attachment is no text, but it has a name.
     (
         ALL,
-        "Content-Type: multipart/mixed; boundary=o\n\n\
+        b"Content-Type: multipart/mixed; boundary=o\n\n\
         --o\nContent-Type: application/pdf; name=old.pdf\n\
         Content-Disposition: attachment; filename=\"Annual Report.pdf\"\n\n%PDF\n--o--\n",
         "Name [Annual Report.pdf], end, none",
@@ -43,14 +47,14 @@ const MESSAGES: [Row<'static>; 11] = [
     // The name of a message itself, which ends in its header: encoded words in it are decoded.
     (
         ALL,
-        "Subject: lunch\nContent-Disposition: attachment;\n \
+        b"Subject: lunch\nContent-Disposition: attachment;\n \
         filename=\"=?iso-8859-1?Q?Caf=E9?= =?utf-8?B?w7w=?=.pdf\"\n",
         "end, Subject [lunch], Name [Caf\u{e9}\u{fc}.pdf], none",
     ),
     // A file name that is empty leaves the name to the type, and one that decodes to nothing doesn't.
     (
         ALL,
-        "Content-Type: multipart/mixed; boundary=o\n\n\
+        b"Content-Type: multipart/mixed; boundary=o\n\n\
         --o\nContent-Disposition: attachment; filename=\"\"\n\
         Content-Type: application/pdf; name=a.pdf\n\n\
         --o\nContent-Disposition: attachment; filename=\"=?utf-8?Q??=\"\n\
@@ -60,7 +64,7 @@ const MESSAGES: [Row<'static>; 11] = [
     // Parts of each type have names, also one whose type isn't said: a name comes before what its part has in it.
     (
         ALL,
-        "Content-Type: multipart/mixed; boundary=o; name=all\n\n\
+        b"Content-Type: multipart/mixed; boundary=o; name=all\n\n\
         --o\nContent-Type: ; name=lone.txt\n\nlunch\n\
         --o\nContent-Type: message/rfc822; name=note.eml\n\n\
         Content-Disposition: inline; filename=in.txt\nSubject: soup\n\nbreak\n--o--\n",
@@ -70,18 +74,71 @@ const MESSAGES: [Row<'static>; 11] = [
     // A message that ends in a multipart, in a tag and in a group of base64.
     (
         ALL,
-        "Message-ID: <a@x>\nContent-Type: multipart/mixed; boundary=o\n\n\
+        b"Message-ID: <a@x>\nContent-Type: multipart/mixed; boundary=o\n\n\
         --o\nContent-Type: text/html\nContent-Transfer-Encoding: base64\n\nYTxiYw\n",
         "end, Body [a   ], id a@x",
     ),
     // One that has a line that would delimit the one before.
-    (ALL, "\n--o\nb>c\n", "Body [--o\n], Body [b>c\n], end, none"),
+    (
+        ALL,
+        b"\n--o\nb>c\n",
+        "Body [--o\n], Body [b>c\n], end, none",
+    ),
     // One that ends in its header.
     (
         ALL,
-        "Subject: soup\nStatus: R\nContent-Disposition: attachment; filename=a.pdf\n",
+        b"Subject: soup\nStatus: R\nContent-Disposition: attachment; filename=a.pdf\n",
         "end, Subject [soup], Name [a.pdf], other",
     ),
+    // A group of base64, and then a character in quoted-printable, over two lines: each text is told at its line's end.
+    (
+        ALL,
+        b"Content-Transfer-Encoding: base64\n\nbHVuY\n2gKYnJlYWs=\n",
+        "Body [lunch\n], end, Body [break], none",
+    ),
+    (
+        ALL,
+        b"Content-Transfer-Encoding: quoted-printable\n\n=C3=\n=BC=C3\n=BC\n",
+        "Body [\u{FC}\u{FFFD}\n], Body [\u{FFFD}\n], end, none",
+    ),
+    // A tag over two lines, and one that its message leaves open: the next message is outside of it.
+    (
+        ALL,
+        b"Content-Type: text/html; charset=iso-8859-1\n\n\xFC<\xFC\n>a\nb<",
+        "Body [\u{FC}   ], Body [ a\n], end, Body [b ], none",
+    ),
+    (
+        ALL,
+        b"Content-Type: text/html\n\nc>\n",
+        "Body [c>\n], end, none",
+    ),
+    // The sink has room for one text.
+    (
+        1,
+        b"\na\nb\n",
+        "Body [a\n], end, text refused: refused after 2",
+    ),
+    // The first of two boundaries counts, and a part of a digest is a message.
+    (
+        ALL,
+        b"Content-Transfer-Encoding: BASE64\nContent-Type: multipart/digest; charset=latin1;\n \
+        boundary=\"o;\\\"\"; boundary=x\n\n--o;\"\n\nSubject: soup\n\nlunch\n--o;\"--\n",
+        "Subject [soup], Body [lunch\n], end, none",
+    ),
+    // Letters of either case name an encoding and a charset.
+    (
+        ALL,
+        b"Content-Transfer-Encoding: BASE64\nContent-Type: text/plain; charset=latin1\n\n/A==\n",
+        "end, Body [\u{FC}], none",
+    ),
+    // A file name is told before a name of the type, and a message without either has none.
+    (
+        ALL,
+        b"Content-Disposition: attachment; filename=\"=?utf-8?Q?a_b?=\"\n\
+        Content-Type: text/plain; name=c\n\n",
+        "end, Name [a b], none",
+    ),
+    (ALL, b"Content-Type: text/plain\n\n", "end, none"),
 ];
 
 /// A sink that tells each text that it takes, with its kind. It refuses one where it has no room, and none after that.
@@ -150,9 +207,12 @@ fn told_of_facts(facts: &Facts) -> &'static str {
 }
 
 /// Gives a reader the lines of a message in an archive. An empty line that closes it isn't one of them.
-fn read(alloc: Global, room: usize, message: &str, reader: &mut MessageText) -> Option<Told> {
-    let archive = format!(in alloc; "From a@x.org Thu Jan  2 10:00:00 2003\n{message}").ok()?;
-    let mut source = MemorySource::new(alloc, archive.as_bytes(), 4096, None).ok()?;
+fn read(alloc: Global, room: usize, message: &[u8], reader: &mut MessageText) -> Option<Told> {
+    let mut archive = b"From a@x.org Thu Jan  2 10:00:00 2003\n"
+        .to_vec(alloc)
+        .ok()?;
+    archive.extend_from_slice(message).ok()?;
+    let mut source = MemorySource::new(alloc, archive.as_slice(), 4096, None).ok()?;
     let mut cutter = Cutter::new(alloc, &mut source, 1 << 20).ok()?;
     let mut sink = Told {
         told: String::new(alloc),
@@ -176,7 +236,7 @@ fn read(alloc: Global, room: usize, message: &str, reader: &mut MessageText) -> 
 }
 
 /// What a new reader tells of a message.
-fn told_of(alloc: Global, room: usize, message: &str) -> Option<String> {
+fn told_of(alloc: Global, room: usize, message: &[u8]) -> Option<String> {
     let mut reader = MessageText::new(alloc).ok()?;
     let mut sink = read(alloc, room, message, &mut reader)?;
     let ended = reader.end(&mut sink);
@@ -205,7 +265,7 @@ fn one_reader_reads_many_messages(rt: HostRuntime) {
     for row in MESSAGES {
         let is_new = is_told(rt.alloc(), row) == Some(true);
         let is_again = is_told_again(rt.alloc(), &mut reader, row) == Some(true);
-        assert!(rt; is_new && is_again, "{}", row.1);
+        assert!(rt; is_new && is_again, "{}", row.2);
     }
 }
 
@@ -216,7 +276,7 @@ fn names_sixteen_deep(rt: HostRuntime) -> Result<(), Fail> {
     let inner = "Content-Type: message/rfc822; name=a.eml\n\n\
         Content-Type: text/plain; name=b.txt\n\nlunch\n";
     let message = format!(in rt.alloc(); "{outer}{inner}")?;
-    let row = (ALL, message.as_str(), "Name [a.eml], end, none");
+    let row = (ALL, message.as_bytes(), "Name [a.eml], end, none");
     assert!(rt; is_told(rt.alloc(), row) == Some(true));
     Ok(())
 }
@@ -234,7 +294,7 @@ fn decodes_longest(alloc: Global, row: [&str; 5]) -> Option<bool> {
     let message = format!(in alloc; "Content-Transfer-Encoding: {encoding}\n\n{line}\n").ok()?;
     let decoded = text.repeat(alloc, 16_384).ok()?;
     let wanted = format!(in alloc; "{before}{decoded}{behind}").ok()?;
-    is_told(alloc, (ALL, message.as_str(), wanted.as_str()))
+    is_told(alloc, (ALL, message.as_bytes(), wanted.as_str()))
 }
 
 /// A line that has to be decoded may be as long as any.
@@ -249,7 +309,7 @@ fn longest_encoded_lines(rt: HostRuntime) {
 /// The gate refuses each allocation of this test in turn. The message is read in full, or tells that memory is wanting.
 #[test]
 fn sweep_message_text(rt: HostRuntime) {
-    let message = "Message-ID: <a@x>\nSubject: lunch\n\
+    let message = b"Message-ID: <a@x>\nSubject: lunch\n\
         Content-Disposition: inline; filename=\"=?utf-8?Q?menu?=\"\n\nbreak";
     if let Some(told) = told_of(rt.alloc(), ALL, message) {
         let is_read = told.as_str() == "Subject [lunch], Name [menu], end, Body [break], id a@x";
