@@ -4,9 +4,10 @@
     instructions.py [--kinds KIND,..] [PROGRAM]
 
 Each line is a run and its instructions in millions. The mail is of the four kinds of bench/rounds.py, with 500 and 1,000 messages, and the searches
-are of one word, of a part of words that most messages have, of a negation, and of the three outputs. Then come shapes of hostile mail, each at a
-hundredth of the size that bench/hostile.py gives them, and at twice that. For each index run at the larger size a line says where its instructions
-go, and where C mairix is installed as `mairix`, how many it takes. bench/compare.py compares two results. Past results are kept in bench/results/.
+are of one word, of what no message has, of a part of words that most messages have, of a negation, and of the three outputs. Then come shapes of
+hostile mail, each at a hundredth of the size that bench/hostile.py gives them, and at twice that. At the larger size a line says where the
+instructions of each index run and of the search for one word go, and where C mairix is installed as `mairix`, how many it takes for each index run,
+for nothing and for the part. bench/compare.py compares two results. Past results are kept in bench/results/.
 """
 import argparse, os, re, subprocess, sys, tempfile, time
 from shutil import which
@@ -17,6 +18,7 @@ from rounds import KINDS, OWN, furnish
 SIZES = (500, 1_000)
 SEARCHES = {
     "a word, raw": ["-r", "b:pq"],
+    "nothing, raw": ["-r", "b:nowhereatall"],
     "a part, raw": ["-r", "b:e="],
     "a negation, raw": ["-r", "s:~pq"],
     "a part, excerpts": ["-x", "b:e="],
@@ -25,6 +27,9 @@ SEARCHES = {
     "a word, raw, verified": ["-r", "--verify", "b:pq"],
     "a word, raw, without an index": ["-r", "--once", "b:pq"],
 }
+# The search whose instructions are told by what they do, and those that C mairix takes too.
+TOLD_WHERE = "a word, raw"
+OF_BOTH = ("nothing, raw", "a part, raw")
 # Those that take longer than in C mairix, and a part over very many keys.
 HOSTILE = ("delimiters, 16 deep", "empty parts", "bytes of tags left open", "messages, a chain", "messages, a star", "distinct words, falling")
 SMALLER = 100
@@ -76,15 +81,25 @@ def tell_index_run(name, program, folder, has_where):
             tell(f"{name}, an index run of C mairix", ["mairix", "-f", "c-rc"], folder)
 
 
+def tell_search(run, name, program, folder, has_where):
+    words = SEARCHES[name]
+    told = tell(f"{run}, {name}", [program, "-f", "rc", *words], folder)
+    if has_where and name == TOLD_WHERE:
+        tell_where(f"{run}, {name}", *told)
+    if has_where and name in OF_BOTH and which("mairix"):
+        tell(f"{run}, {name}, of C mairix", ["mairix", "-f", "c-rc", *words], folder)
+
+
 def tell_kind(kind, program):
     """The runs over a kind of mail."""
     title, script = KINDS[kind]
     for count in SIZES:
         with tempfile.TemporaryDirectory() as folder:
             furnish(folder, script, count)
-            tell_index_run(f"{count} messages, {title}", program, folder, count == SIZES[-1])
-            for name, words in SEARCHES.items():
-                tell(f"{count} messages, {title}, {name}", [program, "-f", "rc", *words], folder)
+            run = f"{count} messages, {title}"
+            tell_index_run(run, program, folder, count == SIZES[-1])
+            for name in SEARCHES:
+                tell_search(run, name, program, folder, count == SIZES[-1])
 
 
 def tell_hostile(shape, program):
