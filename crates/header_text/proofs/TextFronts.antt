@@ -1,9 +1,5 @@
 -- Texts that are a front of what a call was to leave.
-use Rattle.header_text.proofs.Words.{◌≡◌, ℕ, List, [], ◌++◌, sym, ap, ◌∙◌, append_assoc, append-nil, Extends}
-
--- all of it
-pub front-whole : (new whole : List ℕ) → new ≡ whole → Extends new whole
-front-whole new whole same = ([], sym same ∙ sym (append-nil new))
+use Rattle.header_text.proofs.Words.{◌≡◌, ℕ, List, [], ◌++◌, sym, ap, ◌∙◌, append_assoc, Extends}
 
 -- a front of what the rest follows
 pub front-more : (new some rest whole : List ℕ) → Extends new some → some ++ rest ≡ whole → Extends new whole

@@ -8,7 +8,7 @@ pub use Rattle.header_text.specs.Base64.{bytes_of_symbols}
 unfoldable pub use Rattle.header_text.specs.Base64.{base64_bytes, bytes_of_sextets, sextet}
 pub use Rattle.header_text.specs.Blanks.{after_blanks, is_blank, split_while}
 unfoldable pub use Rattle.header_text.specs.Blanks.{before_blanks}
-pub use Rattle.header_text.specs.Charsets.{character, charset_named, is_among, latin1_labels, latin9_labels, utf8_labels, windows_1252_labels, windows_1252_upper}
+pub use Rattle.header_text.specs.Charsets.{character, charset_named, plain_label, is_among, latin1_labels, latin9_labels, utf8_labels, windows_1252_labels, windows_1252_upper}
 unfoldable pub use Rattle.header_text.specs.Charsets.{charset_of, text_of}
 pub use Rattle.header_text.specs.Cuts.{cut_at}
 pub use Rattle.header_text.specs.EncodedWords.{AreLeftmost, BeginsWord, EncodedWord, NoneBegins, Pieces, WordAfter, after, equals_sign, is_b, is_charset_byte, is_q, is_text_byte, is_well_formed, later_words_text, onto_front, pieces, pieces_behind, plain_text, question, spelled, text_between, word_of, word_text, words_text, ◌>>=◌}
@@ -34,7 +34,7 @@ pub use Rattle.header_text.specs.declared.charset.Charset.TheVariants.{Latin1, L
 pub use Rattle.header_text.specs.declared.field_list.FieldPlace.{FieldPlace}
 pub use Rattle.header_text.specs.declared.header.Stage.TheVariants.{Ended, Full, Open}
 unfoldable pub use Rattle.mbox_cutter.specs.Lines.{is_empty}
-pub use Rattle.std.proofs.Common.{Bool, List, None, Option, Some, [], add-one, ap, append-nil, append_assoc, ap₂, arith, cond, drop, encode_utf8_all, false, filter, get_or, inl, inr, length, length-append, length-drop, length-take, map, nat_le, nat_lt, refl, reverse, rules, slice_index, slice_set, subst, suc, sym, take, true, zero, ℕ, ◌%◌, ◌&&◌, ◌*◌, ◌++◌, ◌+◌, ◌-◌, ◌/◌, ◌<◌, ◌==◌, ◌||◌, ◌∙◌, ◌∷◌, ◌≡◌, ◌≤◌, ◌⊎◌}
+pub use Rattle.std.proofs.Common.{Bool, Bor, List, None, Option, Some, [], add-one, ap, append-nil, append_assoc, ap₂, arith, cond, drop, encode_utf8_all, false, filter, get_or, inl, inr, length, length-append, length-drop, length-take, map, nat_le, nat_lt, refl, reverse, rules, slice_index, slice_set, subst, suc, sym, take, true, zero, ℕ, ◌%◌, ◌&&◌, ◌*◌, ◌++◌, ◌+◌, ◌-◌, ◌/◌, ◌<◌, ◌==◌, ◌||◌, ◌∙◌, ◌∷◌, ◌≡◌, ◌≤◌, ◌⊎◌}
 pub use Rattle.std.proofs.lemmas.Bool.{agree_below_at, and_parts, cases_eq, cases_lt, eq-eqb, eqb-true, false_from_ne_true, lt-ltb, ltb-true, ne_eqb, not-true}
 pub use Rattle.std.proofs.lemmas.Bool.Decides.{nat_tests}
 pub use Rattle.std.proofs.lemmas.List.{drop-append-le, drop_all, drop_at, drop_more, get_or-map, get_or-set_other, get_or-set_same, get_or-take, length-map, length-set, length-take-le, map-append, nil_from_length, reverse-append, reverse-reverse, take-append-drop, take-append-le, take_all, take_at, take_more_set, take_rest}
@@ -42,5 +42,5 @@ pub use Rattle.std.proofs.lemmas.List.Elements.{filter-append, filter_map-append
 pub use Rattle.std.proofs.lemmas.Str.{IsUtf8-from_ascii, encodes-IsAscii, encodes-append, length-encode}
 unfoldable pub use Rattle.std.specs.Char.{encode_utf8}
 pub use Rattle.std.specs.List.{filter_map, list_all}
-pub use Rattle.std.specs.Prelude.{IfSome, Ok, OnOk, Result, Vec, codes, if◌then◌else◌, is_none, is_some, not, option_map, slice_range, string_bytes, unwrap_or}
-pub use Rattle.std.specs.Str.{IsAscii, IsUtf8}
+pub use Rattle.std.specs.Prelude.{IfSome, MatchOption, Ok, OnOk, Result, Vec, codes, if◌then◌else◌, is_none, is_some, not, option_map, slice_range, string_bytes, unwrap_or}
+pub use Rattle.std.specs.Str.{IsAscii, IsUtf8, bytes_eq}

@@ -33,12 +33,16 @@ pub fn is_symbol(b: u8) -> bool
     SYMBOLS[b as usize] == b's'
 }
 
-/// How many symbols stand in front, in whole groups of four.
-pub fn whole_groups(text: &[u8]) -> usize
+/// How many symbols stand in front in whole groups of four, where none is held.
+pub fn whole_groups(held: Held, text: &[u8]) -> usize
     ensures within { result ≤ length text.now }
     ensures groups { result % 4 ≡ 0 }
     ensures symbols { (k : ℕ) → k < result → is_symbol_of (slice_index text.now k) ≡ true }
+    ensures none { 0 < result → held.count ≡ 0 }
 {
+    if held.count > 0 {
+        return 0;
+    }
     let count = symbols_in_front(text);
     count - count % 4
 }

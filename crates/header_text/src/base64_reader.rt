@@ -34,20 +34,6 @@ fn hold(held: Held, symbol: u8, into: &mut Vec<u8>) -> Result<Held, AllocError>
     Ok(Held { symbols, count: 0 })
 }
 
-/// How many symbols stand in front in whole groups, where none is held.
-fn groups_ahead(held: Held, text: &[u8]) -> usize
-    ensures within { result ≤ length text.now }
-    ensures groups { result % 4 ≡ 0 }
-    ensures symbols { (k : ℕ) → k < result → is_symbol_of (slice_index text.now k) ≡ true }
-    ensures none { 0 < result → held.count ≡ 0 }
-{
-    if held.count == 0 {
-        whole_groups(text)
-    } else {
-        0
-    }
-}
-
 /// Decodes a text without `=` behind the symbols that are held.
 fn decode_text(held: Held, text: &[u8], into: &mut Vec<u8>) -> Result<Held, AllocError>
     ensures { IfOk result (λ after. (later : List ℕ)
@@ -57,7 +43,7 @@ fn decode_text(held: Held, text: &[u8], into: &mut Vec<u8>) -> Result<Held, Allo
     let mut held = held;
     let mut rest = text;
     while let Some((first, others)) = rest.split_first() {
-        let count = groups_ahead(held, rest);
+        let count = whole_groups(held, rest);
         if count > 0 {
             decode_groups(&rest[..count], into)?;
             rest = &rest[count..];
@@ -95,13 +81,10 @@ impl Base64 {
         if self.ended {
             return Ok(());
         }
-        match cut_at(b'=', piece) {
-            Some((text, _)) => {
-                self.held = decode_text(self.held, text, into)?;
-                self.ended = true;
-            }
-            None => self.held = decode_text(self.held, piece, into)?,
-        }
+        let cut = cut_at(b'=', piece);
+        let text = cut.map_or(piece, |(text, _)| text);
+        self.held = decode_text(self.held, text, into)?;
+        self.ended = cut.is_some();
         Ok(())
     }
 
@@ -109,23 +92,17 @@ impl Base64 {
     pub fn finish(self, into: &mut Vec<u8>) -> Result<(), AllocError>
         ensures { OnOk result (into.new.items ≡ into.old.items ++ bytes_to_come self []) }
     {
-        finish_text(self.held, into)
+        let held = self.held;
+        if held.count < 2 {
+            return Ok(());
+        }
+        let mut symbols = [b'A'; 4];
+        symbols[..held.count].copy_from_slice(&held.symbols[..held.count]);
+        let end = into.len() + held.count - 1;
+        decode_groups(&symbols, into)?;
+        into.truncate(end);
+        Ok(())
     }
-}
-
-/// Adds what the symbols that are held give.
-fn finish_text(held: Held, into: &mut Vec<u8>) -> Result<(), AllocError>
-    ensures { OnOk result (into.new.items ≡ into.old.items ++ bytes_of_symbols (symbols_of held)) }
-{
-    if held.count < 2 {
-        return Ok(());
-    }
-    let mut symbols = [b'A'; 4];
-    symbols[..held.count].copy_from_slice(&held.symbols[..held.count]);
-    let end = into.len() + held.count - 1;
-    decode_groups(&symbols, into)?;
-    into.truncate(end);
-    Ok(())
 }
 
 /// Adds the bytes of a whole text.
@@ -135,6 +112,5 @@ pub fn decode_base64_into(text: &[u8], into: &mut Vec<u8>) -> Result<(), AllocEr
 {
     let mut reader = Base64::new();
     reader.push(text, into)?;
-    reader.finish(into)?;
-    Ok(())
+    reader.finish(into)
 }

@@ -14,10 +14,9 @@ pub fn after_blanks(bytes: &[u8]) -> &[u8]
     ensures { result.now ≡ after_blanks_of bytes.now }
 {
     let mut rest = bytes;
-    while let Some((first, others)) = rest.split_first() {
-        if !is_blank(*first) {
-            break;
-        }
+    while let Some((first, others)) = rest.split_first()
+        && is_blank(*first)
+    {
         rest = others;
     }
     rest
@@ -28,10 +27,9 @@ pub fn before_blanks(bytes: &[u8]) -> &[u8]
     ensures { result.now ≡ before_blanks_of bytes.now }
 {
     let mut rest = bytes;
-    while let Some((last, others)) = rest.split_last() {
-        if !is_blank(*last) {
-            break;
-        }
+    while let Some((last, others)) = rest.split_last()
+        && is_blank(*last)
+    {
         rest = others;
     }
     rest

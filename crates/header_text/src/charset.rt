@@ -94,7 +94,7 @@ impl Charset {
     pub fn of(label: &[u8]) -> Charset
         ensures { result ≡ charset_of label.now }
     {
-        let name = before_star(label);
+        let (name, _) = cut_at(b'*', label).unwrap_or((label, b""));
         if is_utf8(name) {
             Charset::Utf8
         } else if is_latin1(name) {
@@ -120,15 +120,5 @@ impl Charset {
             Charset::Utf8 | Charset::Unknown if b.is_ascii() => char::from(b),
             Charset::Utf8 | Charset::Unknown => '\u{FFFD}',
         }
-    }
-}
-
-/// What stands before the first `*`.
-fn before_star(label: &[u8]) -> &[u8]
-    ensures { result.now ≡ (split_while (λ b. not (b == 0x2A)) label.now).0 }
-{
-    match cut_at(b'*', label) {
-        Some((name, _)) => name,
-        None => label,
     }
 }

@@ -1,10 +1,9 @@
 //! Encoded words (RFC 2047).
 ghost use Rattle.std.specs.Prelude.{◌≡◌, ◌<◌, ◌≤◌, ◌+◌, ◌*◌, ◌∷◌, ◌++◌, [], Some, None, length, option_map, MatchOption, IfSome, IfOk, OnOk, string_bytes, if◌then◌else◌};
-ghost use Rattle.std.specs.Prelude.{◌&&◌, nat_lt};
 ghost use Rattle.std.specs.List.{list_all};
 ghost use Rattle.bstr.specs.Text.{Extends};
 ghost use Rattle.header_text.specs.Blanks.{is_blank as is_blank_of};
-ghost use Rattle.header_text.specs.EncodedWords.{is_charset_byte as is_charset_byte_of, is_text_byte as is_text_byte_of, is_q as is_q_of, is_b as is_b_of, word_of as word_of_parts, after, question, equals_sign, word_and_later, pieces, text_between, plain_text, word_text, decoded};
+ghost use Rattle.header_text.specs.EncodedWords.{is_charset_byte, is_text_byte, is_q as is_q_of, word_of as word_of_parts, word_and_later, pieces, text_between, plain_text, word_text, decoded};
 ghost use Rattle.header_text.specs.Inside.ShownWords.{shown_word, shown_found, no_word, word_first};
 
 use crate::base64_reader::decode_base64_into;
@@ -31,20 +30,6 @@ struct Found<'a> {
     later: &'a [u8],
 }
 
-/// 33 to 126 but for `?`.
-fn is_charset_byte(b: u8) -> bool
-    ensures { result ≡ is_charset_byte_of b }
-{
-    matches!(b, 33..=126) && b != b'?'
-}
-
-/// 32 to 126 but for `?`.
-fn is_text_byte(b: u8) -> bool
-    ensures { result ≡ is_text_byte_of b }
-{
-    matches!(b, 32..=126) && b != b'?'
-}
-
 /// The letter of Q, in either case.
 fn is_q(encoding: u8) -> bool
     ensures { result ≡ is_q_of encoding }
@@ -52,32 +37,18 @@ fn is_q(encoding: u8) -> bool
     encoding == b'Q' || encoding == b'q'
 }
 
-/// The letter of B, in either case.
-fn is_b(encoding: u8) -> bool
-    ensures { result ≡ is_b_of encoding }
-{
-    encoding == b'B' || encoding == b'b'
-}
-
 /// Whether a charset may have all these bytes.
 fn are_charset_bytes(bytes: &[u8]) -> bool
-    ensures { result ≡ list_all is_charset_byte_of bytes.now }
+    ensures { result ≡ list_all is_charset_byte bytes.now }
 {
-    bytes.iter().all(|b| is_charset_byte(*b))
-}
-
-/// One or more bytes of a charset.
-fn is_charset(bytes: &[u8]) -> bool
-    ensures { result ≡ (nat_lt 0 (length bytes.now) && list_all is_charset_byte_of bytes.now) }
-{
-    !bytes.is_empty() && are_charset_bytes(bytes)
+    bytes.iter().all(|b| matches!(b, 33..=126) && *b != b'?')
 }
 
 /// Whether a text may have all these bytes.
 fn is_text(bytes: &[u8]) -> bool
-    ensures { result ≡ list_all is_text_byte_of bytes.now }
+    ensures { result ≡ list_all is_text_byte bytes.now }
 {
-    bytes.iter().all(|b| is_text_byte(*b))
+    bytes.iter().all(|b| matches!(b, 32..=126) && *b != b'?')
 }
 
 /// The word of three parts, if they make one.
@@ -86,29 +57,16 @@ fn word_of<'a>(charset: &'a [u8], encoding: &[u8], text: &'a [u8]) -> Option<Enc
 {
     match encoding {
         [encoding]
-            if is_charset(charset) && (is_q(*encoding) || is_b(*encoding)) && is_text(text) => Some(
-            EncodedWord {
-                charset,
-                encoding: *encoding,
-                text,
-            },
-        ),
+            if !charset.is_empty()
+                && are_charset_bytes(charset)
+                && (is_q(*encoding) || matches!(encoding, b'B' | b'b'))
+                && is_text(text) => Some(EncodedWord {
+            charset,
+            encoding: *encoding,
+            text,
+        }),
         _ => None,
     }
-}
-
-/// What follows `?`.
-fn after_question(bytes: &[u8]) -> Option<&[u8]>
-    ensures { option_map (λ rest. rest.now) result ≡ after (question ∷ []) bytes.now }
-{
-    bytes.strip_prefix(b"?")
-}
-
-/// What follows `=`.
-fn after_equals(bytes: &[u8]) -> Option<&[u8]>
-    ensures { option_map (λ rest. rest.now) result ≡ after (equals_sign ∷ []) bytes.now }
-{
-    bytes.strip_prefix(b"=")
 }
 
 /// The encoded word that begins with `=` and these bytes, and what follows it.
@@ -116,11 +74,11 @@ fn after_equals(bytes: &[u8]) -> Option<&[u8]>
 fn word_behind(bytes: &[u8]) -> Option<(EncodedWord<'_>, &[u8])>
     ensures { option_map (λ f. (shown_word f.0, f.1.now)) result ≡ word_and_later bytes.now }
 {
-    let rest = after_question(bytes)?;
+    let rest = bytes.strip_prefix(b"?")?;
     let (charset, rest) = cut_at(b'?', rest)?;
     let (encoding, rest) = cut_at(b'?', rest)?;
     let (text, rest) = cut_at(b'?', rest)?;
-    let later = after_equals(rest)?;
+    let later = rest.strip_prefix(b"=")?;
     let word = word_of(charset, encoding, text)?;
     Some((word, later))
 }
@@ -219,8 +177,7 @@ pub fn decode_words_into(
         follows_word = true;
         rest = found.later;
     }
-    push_lossy(rest, into)?;
-    Ok(())
+    push_lossy(rest, into)
 }
 
 /// The text of an unfolded value (RFC 2047), as `decode_words_into` adds it.

@@ -1,6 +1,6 @@
 //! Escapes of bytes as `=` and two hexadecimal digits.
 ghost use Rattle.std.specs.Prelude.{◌≡◌, ◌<◌, ◌≤◌, ◌+◌, ◌++◌, length, IfSome, OnOk};
-ghost use Rattle.header_text.specs.Escapes.{hex_value, escaped as escaped_of, behind_equals as behind_equals_of, unescaped, q_bytes};
+ghost use Rattle.header_text.specs.Escapes.{hex_value, behind_equals as behind_equals_of, unescaped, q_bytes};
 
 use crate::cut::cut_at;
 use std::alloc::AllocError;
@@ -18,23 +18,15 @@ fn hex_digit(b: u8) -> Option<u8>
     }
 }
 
-/// The byte that `=` and two digits stand for.
-fn escaped(high: u8, low: u8) -> Option<u8>
-    ensures { result ≡ escaped_of 0x3D high low }
-{
-    let high = hex_digit(high)?;
-    let low = hex_digit(low)?;
-    Some(high * 16 + low)
-}
-
 /// What `=` and the bytes behind it stand for, and what follows that.
 fn behind_equals(bytes: &[u8]) -> (u8, &[u8])
     ensures { (result.0, result.1.now) ≡ behind_equals_of bytes.now }
 {
-    if let [high, low, rest @ ..] = bytes {
-        if let Some(byte) = escaped(*high, *low) {
-            return (byte, rest);
-        }
+    if let [high, low, rest @ ..] = bytes
+        && let Some(high) = hex_digit(*high)
+        && let Some(low) = hex_digit(*low)
+    {
+        return (high * 16 + low, rest);
     }
     (b'=', bytes)
 }
@@ -62,8 +54,7 @@ pub fn unescape_into(bytes: &[u8], into: &mut Vec<u8>) -> Result<(), AllocError>
         into.push(byte)?;
         rest = later;
     }
-    into.extend_from_slice(rest)?;
-    Ok(())
+    into.extend_from_slice(rest)
 }
 
 /// Adds the bytes of a text in Q: as `unescape_into`, but that `_` is a space (RFC 2047, 4.2).
@@ -77,6 +68,5 @@ pub fn decode_q_into(text: &[u8], into: &mut Vec<u8>) -> Result<(), AllocError>
         into.push(b' ')?;
         rest = behind;
     }
-    unescape_into(rest, into)?;
-    Ok(())
+    unescape_into(rest, into)
 }

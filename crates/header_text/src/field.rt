@@ -2,7 +2,7 @@
 ghost use Rattle.std.specs.Prelude.{◌≡◌, ◌+◌, ◌<◌, ◌≤◌, length, take, drop, IfSome, option_map};
 ghost use Rattle.header_text.specs.Blanks.{split_while};
 ghost use Rattle.header_text.specs.Names.{is_named as is_named_of};
-ghost use Rattle.header_text.specs.Headers.{HeaderField, field_of_line, named as named_of, is_field_name_byte as is_field_name_byte_of, is_continuation as is_continuation_of};
+ghost use Rattle.header_text.specs.Headers.{HeaderField, field_of_line, is_field_name_byte as is_field_name_byte_of, is_continuation as is_continuation_of};
 
 use crate::blanks::after_blanks;
 use crate::names::is_named;
@@ -53,20 +53,6 @@ fn after_name(line: &[u8]) -> &[u8]
     rest
 }
 
-/// A name that isn't empty, then what begins with a colon.
-fn named<'a>(name: &'a [u8], rest: &'a [u8]) -> Option<Field<'a>>
-    ensures { option_map (λ f. record { name = f.name.now; body = f.body.now }) result
-        ≡ named_of name.now rest.now }
-{
-    if name.is_empty() {
-        return None;
-    }
-    match rest {
-        [b':', body @ ..] => Some(Field { name, body }),
-        _ => None,
-    }
-}
-
 /// The field that a line begins, without its continuations.
 pub fn field_of_line(line: &[u8]) -> Option<Field<'_>>
     ensures field { option_map (λ f. record { name = f.name.now; body = f.body.now }) result
@@ -76,5 +62,8 @@ pub fn field_of_line(line: &[u8]) -> Option<Field<'_>>
 {
     let rest = after_name(line);
     let name = &line[..line.len() - rest.len()];
-    named(name, after_blanks(rest))
+    match after_blanks(rest) {
+        [b':', body @ ..] if !name.is_empty() => Some(Field { name, body }),
+        _ => None,
+    }
 }

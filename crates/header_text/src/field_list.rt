@@ -3,7 +3,6 @@ ghost use Rattle.std.specs.Prelude.{◌≡◌, ℕ, ◌+◌, ◌<◌, ◌≤◌,
 ghost use Rattle.std.specs.Iterator.{YieldsFirstBy, item_count};
 ghost use Rattle.header_text.specs.Headers.{HeaderField, fields_size, most_in_header};
 ghost use Rattle.header_text.specs.Names.{first_body as first_body_of};
-ghost use Rattle.header_text.specs.Inside.Places.{next_start as next_start_of};
 
 use crate::field::Field;
 use std::alloc::{AllocError, Global};
@@ -150,30 +149,6 @@ impl FieldList {
     }
 }
 
-/// Where the next field begins, or the bytes end.
-fn next_start(places: &[FieldPlace], end: usize) -> usize
-    ensures { result ≡ next_start_of places.now end }
-{
-    match places {
-        [next, ..] => next.name,
-        [] => end,
-    }
-}
-
-/// The field at a place, whose body ends there.
-fn field_at<'a>(bytes: &'a [u8], place: FieldPlace, end: usize) -> Field<'a>
-    requires name { place.name ≤ place.body }
-    requires body { place.body ≤ end }
-    requires within { end ≤ length bytes.now }
-    ensures name { result.name.now ≡ slice_range bytes.now place.name place.body }
-    ensures body { result.body.now ≡ slice_range bytes.now place.body end }
-{
-    Field {
-        name: &bytes[place.name..place.body],
-        body: &bytes[place.body..end],
-    }
-}
-
 impl<'a> Fields<'a> {
     /// The same fields, to be gone over once more.
     pub fn again(&self) -> Fields<'a>
@@ -208,8 +183,11 @@ impl<'a> Iterator for Fields<'a> {
 
     fn next(&mut self) -> Option<Field<'a>> {
         let (place, others) = self.places.split_first()?;
-        let field = field_at(self.bytes, *place, next_start(others, self.bytes.len()));
+        let end = others.first().map_or(self.bytes.len(), |next| next.name);
         self.places = others;
-        Some(field)
+        Some(Field {
+            name: &self.bytes[place.name..place.body],
+            body: &self.bytes[place.body..end],
+        })
     }
 }

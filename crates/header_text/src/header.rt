@@ -140,11 +140,9 @@ fn add_line(fields: &mut FieldList, in_field: bool, line: &[u8]) -> Result<bool,
         }
         return Ok(in_field);
     }
-    match field_of_line(line) {
-        Some(field) => {
-            fields.push(field)?;
-            Ok(true)
-        }
-        None => Ok(false),
-    }
+    let Some(field) = field_of_line(line) else {
+        return Ok(false);
+    };
+    fields.push(field)?;
+    Ok(true)
 }

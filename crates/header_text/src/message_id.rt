@@ -1,9 +1,8 @@
 //! Message ids.
 ghost use Rattle.std.specs.Prelude.{◌≡◌, ◌<◌, ◌≤◌, ◌∷◌, ◌++◌, length, map, filter, option_map, All, IfOk, OnOk, if◌then◌else◌, nat_lt, []};
-ghost use Rattle.header_text.specs.Ids.{ids_of, ids_size, is_id_byte as is_id_byte_of};
+ghost use Rattle.header_text.specs.Ids.{ids_of, ids_size, is_id_byte};
 ghost use Rattle.header_text.specs.Inside.Ids.{ids_in, after_last_open as after_last_open_of};
 
-use crate::blanks::is_blank;
 use crate::cut::cut_at;
 use memchr::memrchr;
 use std::alloc::{AllocError, Global};
@@ -16,29 +15,14 @@ fn after_last_open(text: &[u8]) -> Option<&[u8]>
     Some(&text[at + 1..])
 }
 
-/// Neither space, tab, CR nor LF.
-fn is_id_byte(b: u8) -> bool
-    ensures { result ≡ is_id_byte_of b }
-{
-    !(is_blank(b) || b == b'\r' || b == b'\n')
-}
-
-/// The bytes without spaces, tabs, CRs and LFs, in memory that is taken at once for all.
-fn id_bytes(alloc: Global, text: &[u8]) -> Result<Vec<u8>, AllocError>
-    ensures { IfOk result (λ id. id.items ≡ filter is_id_byte_of text.now) }
-{
-    let mut id = Vec::from_slice(alloc, text)?;
-    id.retain(|b| is_id_byte(*b));
-    Ok(id)
-}
-
 /// Adds the id that a text before a `>` ends with, if it does.
 fn push_id(alloc: Global, ids: &mut Vec<Vec<u8>>, text: &[u8]) -> Result<(), AllocError>
     ensures { OnOk result (map (λ id. id.items) ids.new.items
         ≡ map (λ id. id.items) ids.old.items ++ ids_in (text.now ∷ [])) }
 {
     if let Some(inner) = after_last_open(text) {
-        let id = id_bytes(alloc, inner)?;
+        let mut id = Vec::from_slice(alloc, inner)?;
+        id.retain(|b| !matches!(b, b' ' | b'\t' | b'\r' | b'\n'));
         if !id.is_empty() {
             ids.push(id)?;
         }

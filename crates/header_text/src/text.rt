@@ -18,8 +18,7 @@ pub fn push_lossy(bytes: &[u8], into: &mut String) -> Result<(), AllocError>
     ensures front { Extends (string_bytes into.new)
         (string_bytes into.old ++ encode_utf8_all (lossy_chars bytes.now)) }
 {
-    bytes.to_str_lossy_into(into)?;
-    Ok(())
+    bytes.to_str_lossy_into(into)
 }
 
 /// Adds the text of bytes of which each is a character.
@@ -34,13 +33,11 @@ fn push_characters(charset: Charset, bytes: &[u8], into: &mut String) -> Result<
 {
     let mut rest = bytes;
     while let Some(at) = rest.find_non_ascii_byte() {
-        let ascii = &rest[..at];
-        push_lossy(ascii, into)?;
+        push_lossy(&rest[..at], into)?;
         into.push(charset.character(rest[at]))?;
         rest = &rest[at + 1..];
     }
-    push_lossy(rest, into)?;
-    Ok(())
+    push_lossy(rest, into)
 }
 
 /// Adds the text of bytes in a charset: in UTF-8 each maximal faulty part is one U+FFFD (Unicode, 3.9), elsewhere each byte
@@ -61,8 +58,7 @@ pub fn decode_into(charset: Charset, bytes: &[u8], into: &mut String) -> Result<
     }
 }
 
-/// The text of bytes in a charset: in UTF-8 each maximal faulty part is one U+FFFD (Unicode, 3.9), elsewhere each byte is a
-/// character. It has at most three bytes for each of theirs.
+/// The text of bytes in a charset, as `decode_into` adds it.
 pub fn decode(alloc: Global, charset: Charset, bytes: &[u8]) -> Result<String, AllocError>
     ensures text { IfOk result (λ text. string_bytes text ≡ text_of charset bytes.now) }
     ensures size { IfOk result (λ text. length (string_bytes text) ≤ 3 * length bytes.now) }

@@ -2,21 +2,11 @@
 ghost use Rattle.std.specs.Prelude.{◌≡◌, ◌++◌, ◌+◌, ◌≤◌, length, take, drop, nat_lt, IfOk, OnOk, is_ok, vec_len, if◌then◌else◌};
 ghost use Rattle.header_text.specs.Blanks.{before_blanks as before_blanks_of};
 ghost use Rattle.header_text.specs.Unfolding.{unfolded};
-ghost use Rattle.header_text.specs.Inside.Breaks.{without_final_cr as without_final_cr_of, led};
+ghost use Rattle.header_text.specs.Inside.Breaks.{led};
 
 use crate::blanks::{after_blanks, before_blanks};
 use crate::cut::cut_at;
 use std::alloc::{AllocError, Global};
-
-/// The bytes without a CR at their end.
-fn without_final_cr(bytes: &[u8]) -> &[u8]
-    ensures { result.now ≡ without_final_cr_of bytes.now }
-{
-    match bytes.split_last() {
-        Some((last, front)) if *last == b'\r' => front,
-        _ => bytes,
-    }
-}
 
 /// Adds a part, of the first parts only what follows their spaces and tabs: these begin at a place.
 fn add_part(into: &mut Vec<u8>, start: usize, part: &[u8]) -> Result<(), AllocError>
@@ -40,7 +30,7 @@ pub fn unfold_into(body: &[u8], into: &mut Vec<u8>) -> Result<(), AllocError>
     let start = into.len();
     let mut rest = body;
     while let Some((line, behind)) = cut_at(b'\n', rest) {
-        add_part(into, start, without_final_cr(line))?;
+        add_part(into, start, line.strip_suffix(b"\r").unwrap_or(line))?;
         rest = behind;
     }
     add_part(into, start, rest)?;

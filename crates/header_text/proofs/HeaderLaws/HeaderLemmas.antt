@@ -1,5 +1,5 @@
 -- The fields of lines, and one line more.
-use Rattle.header_text.proofs.Words.{◌≡◌, ◌∙◌, ◌+◌, ◌≤◌, ◌<◌, ◌++◌, ℕ, Bool, true, false, List, [], ◌∷◌, Option, Some, None, length, refl, sym, ap, subst, arith, length-append, append_assoc, append-nil, is_some, option_map, IfSome, HeaderField, is_continuation, field_of_line, with_continuations, continued_and_fields, fields_in, fields_size, named, is_field_name_byte, split_while, after_blanks, onto_last, is_open_after, is_open_behind, fields_with}
+use Rattle.header_text.proofs.Words.{get_or, take, drop, take_rest, eq-eqb, ◌-◌, ◌≡◌, ◌∙◌, ◌+◌, ◌≤◌, ◌<◌, ◌++◌, ℕ, Bool, true, false, List, [], ◌∷◌, Option, Some, None, length, refl, sym, ap, arith, length-append, append_assoc, append-nil, is_some, HeaderField, is_continuation, field_of_line, with_continuations, continued_and_fields, fields_in, fields_size, named, is_field_name_byte, split_while, after_blanks, onto_last, is_open_after, is_open_behind, fields_with}
 use Rattle.std.specs.Option.{option_to_list}
 use Rattle.header_text.proofs.Fronts.{split_while-joined}
 
@@ -105,7 +105,7 @@ fields_size-onto_last l [] = omega arith
 fields_size-onto_last l (f ∷ []) = omega (arith, length-append f.body l)
 fields_size-onto_last l (f ∷ g ∷ fs) = let later = fields_size-onto_last l (g ∷ fs) in omega arith
 
-length-after_blanks : (bs : List ℕ) → length (after_blanks bs) ≤ length bs
+pub length-after_blanks : (bs : List ℕ) → length (after_blanks bs) ≤ length bs
 length-after_blanks [] = omega arith
 length-after_blanks (b ∷ bs) = grind (arith, length-after_blanks bs)
 
@@ -118,13 +118,13 @@ field_of_line-size l =
     let sizes : length parts.0 + length parts.1 ≡ length l = sym (length-append parts.0 parts.1) ∙ ap length (split_while-joined is_field_name_byte l) in
     omega (arith, named-size parts.0 (after_blanks parts.1), length-after_blanks parts.1, sizes)
 
-pub field_of_line-fits : {A : Type 0} (name body : A → List ℕ) (o : Option A) (l : List ℕ) → option_map (λ f. record { name = name f; body = body f }) o ≡ field_of_line l
-    → IfSome o (λ f. length (name f) + length (body f) ≤ length l)
-field_of_line-fits name body None l e = tt
-field_of_line-fits name body (Some f) l e =
-    let field : HeaderField = record { name = name f; body = body f } in
-    let size : fields_size (option_to_list (Some field)) ≤ length l = subst (λ (o : Option HeaderField). fields_size (option_to_list o) ≤ length l) (sym e) (field_of_line-size l) in
-    omega (arith, size)
+-- a name that isn't empty, and a colon
+pub named-begins : (name rest : List ℕ) → 0 < length name → 1 ≤ length rest → get_or rest 0 0 ≡ 0x3A
+    → Some (record { name = name; body = take (length rest - 1) (drop 1 rest) }) ≡ named name rest
+named-begins [] rest some one is = absurd (omega arith)
+named-begins (b ∷ name) [] some one is = absurd (omega arith)
+named-begins (b ∷ name) (c ∷ rest) some one is =
+    rw (eq-eqb c 0x3A is, named) (ap (λ (l : List ℕ). Some (record { name = b ∷ name; body = l })) (take_rest (c ∷ rest) 1))
 
 -- a line adds no more bytes than it has
 pub fields_size-with : (b : Bool) (l : List ℕ) (fs : List HeaderField) → fields_size (fields_with b l fs) ≤ fields_size fs + length l

@@ -1,13 +1,32 @@
 -- Unfolding part by part.
-use Rattle.header_text.proofs.Words.{◌≡◌, ◌∙◌, ◌++◌, ◌==◌, ◌&&◌, ℕ, Bool, true, false, nat_lt, List, [], ◌∷◌, None, length, take, drop, refl, sym, ap, ap₂, arith, length-append, append_assoc, append-nil, if◌then◌else◌, nat_tests, lt-ltb, take_at, drop_at, after_blanks, before_blanks, without_breaks, unfolded, without_final_cr, led, cut_at}
+use Rattle.header_text.proofs.Words.{suc, Some, ◌≡◌, ◌+◌, ◌-◌, Bor, Option, MatchOption, unwrap_or, bytes_eq, ◌∙◌, ◌++◌, ◌==◌, ◌&&◌, ℕ, Bool, true, false, nat_lt, List, [], ◌∷◌, None, length, take, drop, refl, sym, ap, ap₂, arith, length-append, append_assoc, append-nil, if◌then◌else◌, nat_tests, lt-ltb, take_at, drop_at, after_blanks, before_blanks, without_breaks, unfolded, without_final_cr, led, cut_at}
 use Rattle.header_text.proofs.CutLemmas.{Lacks, IsCut, Lacks-from}
 
 -- ---- a CR at the end
 
-pub without_final_cr-push : (bs : List ℕ) (b : ℕ) → without_final_cr (bs ++ b ∷ []) ≡ (if b == 0x0D then bs else bs ++ b ∷ [])
-without_final_cr-push [] b = refl
-without_final_cr-push (c ∷ []) b = grind arith
-without_final_cr-push (c ∷ d ∷ bs) b = grind (arith, without_final_cr-push (d ∷ bs) b)
+abbrev ends_in_cr : List ℕ → Bool
+ends_in_cr bs = bytes_eq (drop (length bs - 1) bs) (0x0D ∷ [])
+
+cr-goes : (bs : List ℕ) → ends_in_cr bs ≡ true → without_final_cr bs ≡ take (length bs - 1) bs
+cr-goes [] h = refl
+cr-goes (b ∷ []) h = grind arith
+cr-goes (b ∷ c ∷ bs) h =
+    let e : length (b ∷ c ∷ bs) - 1 ≡ suc (length (c ∷ bs) - 1) = omega arith in
+    rw e (ap (λ (l : List ℕ). b ∷ l) (cr-goes (c ∷ bs) (rw e at h)))
+
+no_cr-stays : (bs : List ℕ) → ends_in_cr bs ≡ false → without_final_cr bs ≡ bs
+no_cr-stays [] h = refl
+no_cr-stays (b ∷ []) h = grind arith
+no_cr-stays (b ∷ c ∷ bs) h =
+    let e : length (b ∷ c ∷ bs) - 1 ≡ suc (length (c ∷ bs) - 1) = omega arith in
+    ap (λ (l : List ℕ). b ∷ l) (no_cr-stays (c ∷ bs) (rw e at h))
+
+-- what `strip_suffix` answers
+pub without_final_cr-stripped : (bs : Bor (List ℕ)) (r : Option (Bor (List ℕ)))
+    → MatchOption r (ends_in_cr bs.now ≡ false) (λ x. (ends_in_cr bs.now ≡ true) × (x.now ≡ take (length bs.now - 1) bs.now) × (length x.now + 1 ≡ length bs.now))
+    → (unwrap_or r bs).now ≡ without_final_cr bs.now
+without_final_cr-stripped bs None h = sym (no_cr-stays bs.now h)
+without_final_cr-stripped bs (Some x) h = h.1 ∙ sym (cr-goes bs.now h.0)
 
 -- ---- breaks
 

@@ -1,6 +1,6 @@
 use Rattle.header_text.proofs.Words.{◌∙◌, ◌++◌, true, refl, arith, append_assoc, string_bytes, Extends-refl, Extends-trans, pieces, word_text, shown_found}
 use Rattle.header_text.proofs.WordLaws.DecodedLemmas.{rest_text, decoded-start, decoded-step}
-use Rattle.header_text.proofs.TextFronts.{front-whole, front-more}
+use Rattle.header_text.proofs.TextFronts.{front-more}
 use Rattle.header_text.proofs.encoded_word.decode_words_into.Goals as goal
 
 pub loop-found-init : goal.loop-found-init
@@ -25,8 +25,8 @@ pub returns-in_err-push_word-clause-kept : goal.returns-in_err-push_word-clause-
 returns-in_err-push_word-clause-kept c =
     Extends-trans _ _ _ (Extends-trans _ _ _ c.loop-found.invariant.kept c.push_between.ensures.kept) c.push_word.ensures.kept
 
-pub returns-in_err-push_lossy-clause-kept : goal.returns-in_err-push_lossy-clause-kept
-returns-in_err-push_lossy-clause-kept c = Extends-trans _ _ _ c.loop-found.invariant.kept c.push_lossy.ensures.kept
+pub returns-clause-kept : goal.returns-clause-kept
+returns-clause-kept c = Extends-trans _ _ _ c.loop-found.invariant.kept c.push_lossy.ensures.kept
 
 pub returns-in_err-push_between-clause-front : goal.returns-in_err-push_between-clause-front
 returns-in_err-push_between-clause-front c = grind (arith, append_assoc, rest_text, decoded-step, front-more)
@@ -40,8 +40,5 @@ returns-in_err-push_word-clause-front c =
     c.in-Some.ensures.pieces c.in_ok-push_between.ensures.text refl in
     front-more _ some (rest_text true (pieces c.in-Some.found.later.now)) _ c.push_word.ensures.front (step ∙ c.loop-found.invariant.sofar)
 
-pub returns-in_err-push_lossy-clause-front : goal.returns-in_err-push_lossy-clause-front
-returns-in_err-push_lossy-clause-front c = grind arith
-
 pub returns-clause-front : goal.returns-clause-front
-returns-clause-front c = front-whole _ _ (returns-clause-text c)
+returns-clause-front c = grind arith

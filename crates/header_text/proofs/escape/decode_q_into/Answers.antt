@@ -23,4 +23,4 @@ pub returns-clause-bytes : goal.returns-clause-bytes
 returns-clause-bytes c = grind (arith, Lacks-from, q_bytes-free)
 
 pub returns-clause-size : goal.returns-clause-size
-returns-clause-size c = omega (arith, ap length (returns-clause-bytes c), length-append c.args.into.now.items (q_bytes c.args.text.now), length-q_bytes c.args.text.now)
+returns-clause-size c = let bytes = returns-clause-bytes c in grind (arith, length-append, length-q_bytes)

@@ -30,4 +30,4 @@ pub returns-clause-bytes : goal.returns-clause-bytes
 returns-clause-bytes c = grind (arith, Lacks-from, unescaped-rest)
 
 pub returns-clause-size : goal.returns-clause-size
-returns-clause-size c = omega (arith, ap length (returns-clause-bytes c), length-append c.args.into.now.items (unescaped c.args.bytes.now), length-unescaped c.args.bytes.now)
+returns-clause-size c = let bytes = returns-clause-bytes c in grind (arith, length-append, length-unescaped)

@@ -1,6 +1,6 @@
 use Rattle.header_text.proofs.Words.{◌≡◌, ◌∙◌, ◌≤◌, ◌+◌, ◌-◌, ◌++◌, ℕ, map, length, take, drop, slice_index, encode_utf8_all, ap, sym, refl, arith, append_assoc, length-append, length-drop, length-take, string_bytes, encode_utf8, take_rest, lossy_chars, Extends-trans, Extends-append, Extends-tried, character}
 use Rattle.header_text.proofs.WordLaws.CharacterLemmas.{characters-step, IsAscii-before, IsAscii-all, length-encode_small, lossy-ascii}
-use Rattle.header_text.proofs.TextFronts.{front-whole, front-more}
+use Rattle.header_text.proofs.TextFronts.{front-more}
 use Rattle.header_text.proofs.text.push_characters.Goals as goal
 
 pub loop-at-preserved : goal.loop-at-preserved
@@ -46,8 +46,5 @@ returns-in_err-push-clause-front c =
     c.in_ok-push_lossy.ensures.text (ap (λ (n : ℕ). before ++ encode_utf8 n) c.character.ensures.value) in
     front-more _ some later _ (Extends-tried before _ (encode_utf8 c.character.result) _ c.push.ensures.bytes) (step ∙ c.loop-at.invariant.sofar)
 
-pub returns-in_err-push_lossy-2-clause-front : goal.returns-in_err-push_lossy-2-clause-front
-returns-in_err-push_lossy-2-clause-front c = grind (arith, IsAscii-all, lossy-ascii)
-
 pub returns-clause-front : goal.returns-clause-front
-returns-clause-front c = front-whole _ _ (returns-clause-text c)
+returns-clause-front c = grind (arith, IsAscii-all, lossy-ascii)

@@ -1,7 +1,7 @@
-use Rattle.header_text.proofs.Words.{◌≡◌, ◌∙◌, ◌++◌, ℕ, List, ◌∷◌, length, take, drop, nat_lt, sym, ap, ap₂, arith, length-append, before_blanks, unfolded, led, without_final_cr}
+use Rattle.header_text.proofs.Words.{◌≡◌, Bor, ◌∙◌, ◌++◌, ℕ, List, ◌∷◌, length, take, drop, nat_lt, sym, ap, ap₂, arith, length-append, before_blanks, unfolded, led, without_final_cr}
 use Rattle.header_text.proofs.CutLemmas.{IsCut, IsCut-from}
 use Rattle.header_text.proofs.HeaderLaws.UnfoldSizes.{length-unfolded}
-use Rattle.header_text.proofs.HeaderLaws.UnfoldLemmas.{unfolds-start, unfolds-line, unfolds-rest, unfolded-trimmed}
+use Rattle.header_text.proofs.HeaderLaws.UnfoldLemmas.{without_final_cr-stripped, unfolds-start, unfolds-line, unfolds-rest, unfolded-trimmed}
 use Rattle.header_text.proofs.unfolding.unfold_into.Goals as goal
 use Rattle.header_text.proofs.unfolding.unfold_into.Goals.{In_ok-add_part, After-trim_end}
 
@@ -21,7 +21,8 @@ loop-line-preserved c =
     let line = c.in-Some.line.now in
     let items : List ℕ = c.loop-line.into.items in
     let added : c.add_part.new.into.items ≡ items ++ led (nat_lt (length c.args.into.now.items) (length items)) (without_final_cr line) =
-    c.in_ok-add_part.ensures ∙ ap₂ (λ (n : ℕ) (part : List ℕ). items ++ led (nat_lt n (length items)) part) c.loop-line.invariant.start c.without_final_cr.ensures in
+    c.in_ok-add_part.ensures ∙ ap₂ (λ (n : ℕ) (part : List ℕ). items ++ led (nat_lt n (length items)) part) c.loop-line.invariant.start
+    (ap (λ (b : Bor (List ℕ)). b.now) c.unwrap_or.ensures ∙ without_final_cr-stripped c.in-Some.line c.strip_suffix.result c.strip_suffix.ensures.cases) in
     record {
       start = c.loop-line.invariant.start;
       sofar = unfolds-line c.args.into.now.items c.args.body.now items c.loop-line.rest.now line c.in-Some.behind.now c.add_part.new.into.items c.loop-line.invariant.sofar (cut c) added;

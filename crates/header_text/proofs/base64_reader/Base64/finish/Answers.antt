@@ -1,6 +1,20 @@
-use Rattle.header_text.proofs.Words.{symbols_of}
-use Rattle.header_text.proofs.WordLaws.ReaderLemmas.{to_come-end, held-symbols}
+use Rattle.header_text.proofs.Words.{◌≡◌, ◌++◌, ℕ, List, [], ◌∷◌, length, drop, sym, ap₂, subst, arith, append-nil, symbols_of}
+use Rattle.std.proofs.lemmas.List.{length-take}
+use Rattle.header_text.proofs.WordLaws.GroupLemmas.{AreSymbols}
+use Rattle.header_text.proofs.WordLaws.ReaderLemmas.{short-bytes, kept, to_come-end, filled-symbols, held-symbols}
 use Rattle.header_text.proofs.base64_reader.Base64.finish.Goals as goal
 
+pub returns-then-held-lt2 : goal.returns-then-held-lt2
+returns-then-held-lt2 c = rw (to_come-end (symbols_of c.args.self.held) (held-symbols c.args.self.held.symbols c.args.self.held.count c.args.self.held.all) c.args.self.ended) (grind (arith, append-nil, length-take, short-bytes))
+
+pub decode_groups-requires-clause-symbols : goal.decode_groups-requires-clause-symbols
+decode_groups-requires-clause-symbols c =
+    let held : List ℕ = symbols_of c.args.self.held in
+    let size : length held ≡ c.args.self.held.count = omega (arith, length-take c.args.self.held.count c.args.self.held.symbols) in
+    let are : AreSymbols held = held-symbols c.args.self.held.symbols c.args.self.held.count c.args.self.held.all in
+    subst (λ (l : List ℕ). AreSymbols l)
+    (ap₂ (λ (x : List ℕ) (n : ℕ). x ++ drop n (65 ∷ 65 ∷ 65 ∷ 65 ∷ [])) (sym c.copy_from_slice.ensures.after) size)
+    (filled-symbols held are (omega (arith, c.if-held-lt2.false)) (omega (arith, c.args.self.held.few)))
+
 pub returns : goal.returns
-returns c = rw (to_come-end (symbols_of c.args.self.held) (held-symbols c.args.self.held.symbols c.args.self.held.count c.args.self.held.all) c.args.self.ended) c.finish_text.ensures
+returns c = rw (to_come-end (symbols_of c.args.self.held) (held-symbols c.args.self.held.symbols c.args.self.held.count c.args.self.held.all) c.args.self.ended) (grind (arith, length-take, AreSymbols, kept, held-symbols))
