@@ -74,20 +74,6 @@ fn reserve_usual(bytes: &mut Vec<u8>, places: &mut Vec<FieldPlace>) -> Result<()
     Ok(())
 }
 
-/// Adds both at the end, or neither.
-fn append_both(bytes: &mut Vec<u8>, first: &[u8], second: &[u8]) -> Result<(), AllocError>
-    ensures { bytes.new.items ≡ (if is_ok result then bytes.old.items ++ (first.now ++ second.now)
-        else bytes.old.items) }
-{
-    let len = bytes.len();
-    bytes.extend_from_slice(first)?;
-    if let Err(error) = bytes.extend_from_slice(second) {
-        bytes.truncate(len);
-        return Err(error);
-    }
-    Ok(())
-}
-
 impl FieldList {
     ghost use Rattle.header_text.specs.OpenFields.{onto_last};
 
@@ -119,9 +105,11 @@ impl FieldList {
     {
         reserve_usual(&mut self.bytes, &mut self.places)?;
         self.places.reserve(1)?;
+        self.bytes.reserve(field.name.len() + field.body.len())?;
         let name = self.bytes.len();
-        append_both(&mut self.bytes, field.name, field.body)?;
-        let body = self.bytes.len() - field.body.len();
+        self.bytes.extend_from_slice(field.name).unwrap();
+        let body = self.bytes.len();
+        self.bytes.extend_from_slice(field.body).unwrap();
         self.places.push(FieldPlace { name, body }).unwrap();
         Ok(())
     }

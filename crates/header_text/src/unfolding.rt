@@ -34,18 +34,9 @@ pub fn unfold_into(body: &[u8], into: &mut Vec<u8>) -> Result<(), AllocError>
         rest = behind;
     }
     add_part(into, start, rest)?;
-    trim_end(into, start);
+    let end = start + before_blanks(&into[start..]).len();
+    into.truncate(end);
     Ok(())
-}
-
-/// Drops the spaces and tabs at the end, down to a place.
-fn trim_end(bytes: &mut Vec<u8>, start: usize)
-    requires { start ≤ length bytes.old.items }
-    ensures { bytes.new.items ≡ take start bytes.old.items ++ before_blanks_of
-        (drop start bytes.old.items) }
-{
-    let len = start + before_blanks(&bytes[start..]).len();
-    bytes.truncate(len);
 }
 
 /// A field's body in one line: without line breaks, and without spaces and tabs at both ends (RFC 5322, 2.2.3).

@@ -1,9 +1,10 @@
-use Rattle.header_text.proofs.Words.{◌≡◌, Bor, ◌∙◌, ◌++◌, ℕ, List, ◌∷◌, length, take, drop, nat_lt, sym, ap, ap₂, arith, length-append, before_blanks, unfolded, led, without_final_cr}
+use Rattle.header_text.proofs.Words.{◌≤◌, ◌≡◌, take_rest, Bor, ◌∙◌, ◌++◌, ℕ, List, ◌∷◌, length, take, drop, nat_lt, sym, ap, ap₂, arith, length-append, before_blanks, led, without_final_cr}
+use Rattle.header_text.proofs.Fronts.{take-before_blanks}
 use Rattle.header_text.proofs.CutLemmas.{IsCut, IsCut-from}
 use Rattle.header_text.proofs.HeaderLaws.UnfoldSizes.{length-unfolded}
 use Rattle.header_text.proofs.HeaderLaws.UnfoldLemmas.{without_final_cr-stripped, unfolds-start, unfolds-line, unfolds-rest, unfolded-trimmed}
 use Rattle.header_text.proofs.unfolding.unfold_into.Goals as goal
-use Rattle.header_text.proofs.unfolding.unfold_into.Goals.{In_ok-add_part, After-trim_end}
+use Rattle.header_text.proofs.unfolding.unfold_into.Goals.{In_ok-add_part}
 
 pub loop-line-init : goal.loop-line-init
 loop-line-init c = record { start = c.len-start.ensures ∙ c.args.into.now.ok.0; sofar = unfolds-start c.args.into.now.items c.args.body.now }
@@ -28,20 +29,15 @@ loop-line-preserved c =
       sofar = unfolds-line c.args.into.now.items c.args.body.now items c.loop-line.rest.now line c.in-Some.behind.now c.add_part.new.into.items c.loop-line.invariant.sofar (cut c) added;
     }
 
-pub trim_end-requires : goal.trim_end-requires
-trim_end-requires c = grind (arith, length-append, unfolds-rest)
-
-abbrev pub added : (c : After-trim_end) → c.trim_end.new.bytes.items ≡ c.args.into.now.items ++ unfolded c.args.body.now
-added c =
+pub returns-clause-text : goal.returns-clause-text
+returns-clause-text c =
     let items : List ℕ = c.add_part-2.new.into.items in
     let all = unfolds-rest c.args.into.now.items c.args.body.now c.loop-line.into.items c.loop-line.rest.now items c.len-start.result
     c.loop-line.invariant.start c.loop-line.invariant.sofar (sym c.in_default.ensures) c.in_ok-add_part-2.ensures in
-    c.trim_end.ensures ∙ ap (λ (n : ℕ). take n items ++ before_blanks (drop n items)) c.loop-line.invariant.start
+    let within : c.len-start.result ≤ length items = grind (arith, length-append, unfolds-rest) in
+    let trimmed : c.truncate.new.self.items ≡ take c.len-start.result items ++ before_blanks (drop c.len-start.result items) = grind (arith, take_rest, take-before_blanks) in
+    trimmed ∙ ap (λ (n : ℕ). take n items ++ before_blanks (drop n items)) c.loop-line.invariant.start
     ∙ unfolded-trimmed c.args.into.now.items c.args.body.now items all
 
-pub returns-clause-text : goal.returns-clause-text
-returns-clause-text c = added c
-
 pub returns-clause-size : goal.returns-clause-size
-returns-clause-size c =
-    omega (arith, ap length (added c), length-append c.args.into.now.items (unfolded c.args.body.now), length-unfolded c.args.body.now)
+returns-clause-size c = let text = returns-clause-text c in grind (arith, length-append, length-unfolded)
