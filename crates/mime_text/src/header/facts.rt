@@ -84,13 +84,6 @@ fn is_status(name: &[u8]) -> bool
     is_named(name, b"status") || is_named(name, b"x-status")
 }
 
-/// Whether a letter stands in a value.
-fn has_letter(value: &[u8], letter: u8) -> bool
-    ensures { result ≡ list_any (λ b. b == letter) value.now }
-{
-    value.contains(&letter)
-}
-
 /// The flags that the values of the Status and X-Status fields have together.
 fn flags(alloc: Global, fields: Fields<'_>) -> Result<Flags, AllocError>
     ensures { IfOk result (λ flags. flags ≡ flags_of fields.entry) }
@@ -104,9 +97,9 @@ fn flags(alloc: Global, fields: Fields<'_>) -> Result<Flags, AllocError>
     for field in fields {
         if is_status(field.name) {
             let value = unfold_anew(field.body, &mut unfolded)?;
-            flags.seen |= has_letter(value, b'R');
-            flags.replied |= has_letter(value, b'A');
-            flags.flagged |= has_letter(value, b'F');
+            flags.seen |= value.contains(&b'R');
+            flags.replied |= value.contains(&b'A');
+            flags.flagged |= value.contains(&b'F');
         }
     }
     Ok(flags)
@@ -129,10 +122,10 @@ fn own_id(alloc: Global, fields: Fields<'_>) -> Result<Option<MessageId>, AllocE
     ensures size { IfOk result (λ id. IfSome id IsSizedId) }
 {
     for field in fields {
-        if field.is(b"message-id") {
-            if let Some(id) = first_id(alloc, field.body)? {
-                return Ok(Some(id));
-            }
+        if field.is(b"message-id")
+            && let Some(id) = first_id(alloc, field.body)?
+        {
+            return Ok(Some(id));
         }
     }
     Ok(None)

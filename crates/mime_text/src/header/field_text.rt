@@ -133,10 +133,6 @@ impl FieldReader {
         ensures size { IfOk result (λ name. IfSome name
             (λ text. length text.now ≤ most_in_header_text)) }
     {
-        if self.take_name(fields)? {
-            Ok(Some(self.text.as_str()))
-        } else {
-            Ok(None)
-        }
+        Ok(self.take_name(fields)?.then_some(self.text.as_str()))
     }
 }

@@ -44,13 +44,10 @@ impl LeafReader {
         ensures { (ls : List (List ℕ)) → pairs_to_come result ls
             ≡ body_pairs (leaf_texts TransferEncoding.Identity Charset.Utf8 false ls) }
     {
-        let decoder = Decoder::new(TransferEncoding::Identity);
-        let held = HeldLine::new(alloc);
-        let texts = LineTexts::new(alloc);
         LeafReader {
-            decoder,
-            held,
-            texts,
+            decoder: Decoder::new(TransferEncoding::Identity),
+            held: HeldLine::new(alloc),
+            texts: LineTexts::new(alloc),
         }
     }
 

@@ -9,12 +9,9 @@ pub(crate) fn own_text(charset: Charset, bytes: &[u8]) -> Option<&str>
     ensures { IfSome result (λ text. (text.now ≡ bytes.now)
         × (text.now ≡ text_of charset bytes.now)) }
 {
-    match std::str::from_utf8(bytes) {
-        Ok(text) => match charset {
-            Charset::Utf8 => Some(text),
-            _ if text.is_ascii() => Some(text),
-            _ => None,
-        },
-        Err(_) => None,
+    let text = std::str::from_utf8(bytes).ok()?;
+    match charset {
+        Charset::Utf8 => Some(text),
+        _ => text.is_ascii().then_some(text),
     }
 }

@@ -20,10 +20,7 @@ pub(crate) fn is_free_of_tags(open_before: bool, text: &str) -> bool
     if open_before {
         return false;
     }
-    match cut_at(b'<', text.as_bytes()) {
-        Some(_) => false,
-        None => true,
-    }
+    cut_at(b'<', text.as_bytes()).is_none()
 }
 
 /// How many characters a text has.
@@ -77,14 +74,6 @@ fn end_of_span(in_tag: bool) -> char
     if in_tag { '>' } else { '<' }
 }
 
-/// What stands before the `>` that ends a tag, or the `<` that begins the next one, and what follows it.
-fn cut_span(in_tag: bool, text: &str) -> Option<(&str, &str)>
-    ensures { option_map (λ parts. (parts.0.now, parts.1.now)) result
-        ≡ cut_at_of (span_end in_tag) text.now }
-{
-    text.split_once(end_of_span(in_tag))
-}
-
 /// Adds a text with a space for each character in a tag: from a `<` through the next `>`, or the end. A tag may be open before
 /// it, and the answer is whether one is behind it.
 pub(crate) fn blank_tags(
@@ -100,7 +89,7 @@ pub(crate) fn blank_tags(
 {
     let mut is_open = open_before;
     let mut rest = text;
-    while let Some((span, behind)) = cut_span(is_open, rest) {
+    while let Some((span, behind)) = rest.split_once(end_of_span(is_open)) {
         push_span(is_open, span, into)?;
         // What was cut at is of the tag too.
         into.push(' ')?;

@@ -125,11 +125,11 @@ impl TextBuffers {
             ≡ is_open_behind open_before (chars (text_of charset line.now))) }
     {
         let own = own_text(charset, line);
-        if let Some(text) = own {
-            if is_free_of_tags(open_before, text) {
-                show(text, sink)?;
-                return Ok(false);
-            }
+        if let Some(text) = own
+            && is_free_of_tags(open_before, text)
+        {
+            show(text, sink)?;
+            return Ok(false);
         }
         let behind = self.write_blanked_line(charset, open_before, line, own)?;
         show(self.blanked.as_str(), sink)?;

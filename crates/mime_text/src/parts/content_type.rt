@@ -39,41 +39,18 @@ pub(crate) fn read_first_value(
     Ok(())
 }
 
-/// What stands before the first semicolon, without blanks round it.
-fn type_text(value: &[u8]) -> &[u8]
-    ensures { result.now ≡ type_text_of value.now }
-{
-    match cut_at(b';', value) {
-        Some((front, _)) => trimmed(front),
-        None => trimmed(value),
-    }
-}
-
-fn has_slash(text: &[u8]) -> bool
-    ensures { result ≡ has_slash_of text.now }
-{
-    text.iter().any(|b| *b == b'/')
-}
-
-/// The name of a default.
-fn default_name(default: DefaultType) -> &'static [u8]
-    ensures { result.now ≡ default_type default }
-{
-    match default {
-        DefaultType::TextPlain => b"text/plain",
-        DefaultType::MessageRfc822 => b"message/rfc822",
-    }
-}
-
-/// The type that a Content-Type field's value names, or the default where it names none.
+/// The type that a Content-Type field's value names before its first semicolon, or the default where it names none.
 fn media_type(default: DefaultType, value: &[u8]) -> &[u8]
     ensures { result.now ≡ media_type_of default value.now }
 {
-    let text = type_text(value);
-    if has_slash(text) {
-        text
-    } else {
-        default_name(default)
+    let (front, _) = cut_at(b';', value).unwrap_or((value, b""));
+    let text = trimmed(front);
+    if text.contains(&b'/') {
+        return text;
+    }
+    match default {
+        DefaultType::TextPlain => b"text/plain",
+        DefaultType::MessageRfc822 => b"message/rfc822",
     }
 }
 
@@ -119,16 +96,13 @@ fn read_shape(default: DefaultType, value: &[u8], buffer: &mut Vec<u8>) -> Resul
     if !is_multipart(name) {
         return Ok(shape_of_single(name));
     }
-    if !read_parameter(value, b"boundary", buffer)? {
-        return Ok(Shape::Text { is_html: false });
+    if read_parameter(value, b"boundary", buffer)?
+        && let Some(boundary) = Boundary::new(buffer)
+    {
+        let default = default_in(name);
+        return Ok(Shape::Multipart { boundary, default });
     }
-    match Boundary::new(buffer) {
-        Some(boundary) => Ok(Shape::Multipart {
-            boundary,
-            default: default_in(name),
-        }),
-        None => Ok(Shape::Text { is_html: false }),
-    }
+    Ok(Shape::Text { is_html: false })
 }
 
 /// The charset that a Content-Type field's value names.

@@ -39,26 +39,6 @@ pub(crate) fn after_dashes(line: &[u8]) -> Option<&[u8]>
     after(b"--", without_break(line))
 }
 
-/// Whether two dashes stand there, and then spaces and tabs alone.
-fn closes(text: &[u8]) -> bool
-    ensures { result ≡ are_blanks_of (after_of dash_dash text.now) }
-{
-    after(b"--", text).is_some_and(are_blanks)
-}
-
-/// What a line is to a multipart, by what follows the two dashes and its boundary.
-fn delimiter_of_rest(rest: &[u8]) -> Option<Delimiter>
-    ensures { result ≡ kind_behind (Some rest.now) }
-{
-    if closes(rest) {
-        Some(Delimiter::Closing)
-    } else if are_blanks(rest) {
-        Some(Delimiter::Next)
-    } else {
-        None
-    }
-}
-
 /// Whether a boundary's last byte stands where the boundary would end. Boundaries of one message mostly begin alike.
 /// To answer true would cost only time.
 fn has_last_of(boundary: &[u8], text: &[u8]) -> bool
@@ -76,5 +56,12 @@ pub(crate) fn delimiter_behind(boundary: &[u8], text: &[u8]) -> Option<Delimiter
     if !has_last_of(boundary, text) {
         return None;
     }
-    delimiter_of_rest(after(boundary, text)?)
+    let rest = after(boundary, text)?;
+    if after(b"--", rest).is_some_and(are_blanks) {
+        Some(Delimiter::Closing)
+    } else if are_blanks(rest) {
+        Some(Delimiter::Next)
+    } else {
+        None
+    }
 }

@@ -100,8 +100,7 @@ impl Nesting {
                 Lead::Behind
             }
             Some((at, Delimiter::Next)) => {
-                let frame = &self.frames[at];
-                let (default, left) = (frame.default, frame.left);
+                let Frame { default, left, .. } = self.frames[at];
                 self.frames.truncate(at + 1);
                 self.left = left;
                 Lead::Piece(default)

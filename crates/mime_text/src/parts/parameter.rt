@@ -8,29 +8,16 @@ ghost use Rattle.mime_text.specs.Parameters.{quoted, is_token_byte as is_token_b
 use header_text::{after_blanks, cut_at, is_named, trimmed};
 use std::alloc::AllocError;
 
-/// Whether a value that isn't in quotes may have the byte.
-fn is_token_byte(b: u8) -> bool
-    ensures { result ≡ is_token_byte_of b }
-{
-    !matches!(b, b';' | b' ' | b'\t')
-}
-
-/// Whether a name may have the byte.
-fn is_parameter_name_byte(b: u8) -> bool
-    ensures { result ≡ is_parameter_name_byte_of b }
-{
-    !matches!(b, b';' | b'=')
-}
-
 /// The bytes behind those in front that a value may have that isn't in quotes.
 fn after_token(bytes: &[u8]) -> &[u8]
     ensures { result.now ≡ (split_while is_token_byte_of bytes.now).1 }
 {
     let mut rest = bytes;
-    while let Some((first, others)) = rest.split_first() {
-        if !is_token_byte(*first) {
-            break;
-        }
+    while let Some((first, others)) = rest.split_first()
+        && *first != b';'
+        && *first != b' '
+        && *first != b'\t'
+    {
         rest = others;
     }
     rest
@@ -41,10 +28,10 @@ fn after_name(bytes: &[u8]) -> &[u8]
     ensures { result.now ≡ (split_while is_parameter_name_byte_of bytes.now).1 }
 {
     let mut rest = bytes;
-    while let Some((first, others)) = rest.split_first() {
-        if !is_parameter_name_byte(*first) {
-            break;
-        }
+    while let Some((first, others)) = rest.split_first()
+        && *first != b';'
+        && *first != b'='
+    {
         rest = others;
     }
     rest
@@ -147,13 +134,6 @@ fn read_piece<'a>(text: &'a [u8], into: &mut Vec<u8>) -> Result<Piece<'a>, Alloc
     }
 }
 
-/// Whether there is a name, and it is this one, in any ASCII case.
-fn has_name(found: Option<&[u8]>, name: &[u8]) -> bool
-    ensures { result ≡ option_map_or (λ text. is_named_of text.now name.now) found.entry false }
-{
-    found.is_some_and(|text| is_named(text, name))
-}
-
 /// Whether an unfolded value has a parameter of a name, in any ASCII case. The first one counts, and the buffer then holds its
 /// value. What the buffer holds else isn't said.
 pub fn read_parameter(value: &[u8], name: &[u8], into: &mut Vec<u8>) -> Result<bool, AllocError>
@@ -164,7 +144,7 @@ pub fn read_parameter(value: &[u8], name: &[u8], into: &mut Vec<u8>) -> Result<b
     let mut rest = behind_semicolon(value);
     while let Some(text) = rest {
         let piece = read_piece(text, into)?;
-        if has_name(piece.name, name) {
+        if piece.name.is_some_and(|found| is_named(found, name)) {
             return Ok(true);
         }
         rest = piece.later;

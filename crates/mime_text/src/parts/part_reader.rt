@@ -35,6 +35,12 @@ pub(crate) enum State {
     InLeaf,
 }
 
+/// A message begins with its header.
+const IN_MESSAGE: State = State::InHeader {
+    counted: true,
+    default: DefaultType::TextPlain,
+};
+
 /// Reads the parts of a message one line at a time: of the multiparts that are open it keeps their boundaries, of an entity its
 /// header or the beginning of a line of its text.
 #[derive(Drop)]
@@ -89,10 +95,7 @@ impl PartReader {
     {
         PartReader {
             alloc,
-            state: State::InHeader {
-                counted: true,
-                default: DefaultType::TextPlain,
-            },
+            state: IN_MESSAGE,
             nesting: Nesting::new(alloc),
             header: Header::new(alloc),
             leaf: LeafReader::new(alloc),
@@ -210,7 +213,10 @@ impl PartReader {
         match entity.shape {
             Shape::Multipart { boundary, default } => self.nesting.open(boundary, default),
             Shape::Message => {
-                self.begin_message();
+                if self.nesting.descend() {
+                    self.header.clear();
+                    self.state = IN_MESSAGE;
+                }
                 Ok(())
             }
             Shape::Text { is_html } => {
@@ -219,22 +225,6 @@ impl PartReader {
                 Ok(())
             }
             Shape::Other => Ok(()),
-        }
-    }
-
-    /// Begins a message in the entity, if a depth is left for it.
-    fn begin_message(&mut self)
-        requires { self.old.state ≡ State.Skipping }
-        ensures comes { (fields : List HeaderField)
-            → Comes self.new (given_behind Shape.Message self.old.nesting fields) }
-        ensures facts { self.new.facts ≡ self.old.facts }
-    {
-        if self.nesting.descend() {
-            self.header.clear();
-            self.state = State::InHeader {
-                counted: true,
-                default: DefaultType::TextPlain,
-            };
         }
     }
 
@@ -261,10 +251,7 @@ impl PartReader {
         ensures comes { Comes self.new texts_of_message }
         ensures facts { KnowsFacts self.new [] }
     {
-        self.state = State::InHeader {
-            counted: true,
-            default: DefaultType::TextPlain,
-        };
+        self.state = IN_MESSAGE;
         self.nesting.clear();
         self.header.clear();
         self.facts = None;

@@ -27,9 +27,9 @@ invariant_of-self-in-Some-default-Next c = grind (arith, length-take, AreNested-
 pub returns-in-Some-default-Next-clause-leads : goal.returns-in-Some-default-Next-clause-leads
 returns-in-Some-default-Next-clause-leads c =
     let e : dashes c.args.line.now ≡ Some c.in-Some.text.now = sym c.after_dashes.ensures ∙ ap bytes_of c.in-Some.is in
-    let got : slice_get c.self.inside.frames.items c.in-Some-default-Next.at ≡ Some c.index-frame.result.now =
+    let got : slice_get c.self.inside.frames.items c.in-Some-default-Next.at ≡ Some c.index.result.now =
     (let h : c.in-Some-default-Next.at < length c.deref.result.now = c.in-Some-default-Next.ensures.within in
-    got-at c.self.inside.frames.items c.in-Some-default-Next.at c.index-frame.result.now (omega (arith, h, ap length c.deref.ensures.value)) c.index-frame.ensures) in
+    got-at c.self.inside.frames.items c.in-Some-default-Next.at c.index.result.now (omega (arith, h, ap length c.deref.ensures.value)) c.index.ensures) in
     next-leads c.args.line.now c.in-Some.text.now c.args.self.now.frames c.self.inside.frames.items c.deref.result.now c.truncate-in-Some-default-Next.new.self.items
-    c.in-Some-default-Next.at c.in-Some-default-Next.field-0-1 c.index-frame.result.now (ap (λ (n : Nest). n.frames) (sym c.self.view_is)) c.deref.ensures.value e
+    c.in-Some-default-Next.at c.in-Some-default-Next.field-0-1 c.index.result.now (ap (λ (n : Nest). n.frames) (sym c.self.view_is)) c.deref.ensures.value e
     c.in-Some-default-Next.field-0-1-is c.in-Some-default-Next.ensures.some got c.truncate-in-Some-default-Next.ensures.items
