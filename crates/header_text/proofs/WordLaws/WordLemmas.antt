@@ -1,6 +1,6 @@
 -- Encoded words one after another.
 use Rattle.header_text.proofs.Words.{◌≡◌, ◌∙◌, ◌==◌, ◌<◌, ◌+◌, ◌-◌, ◌++◌, ℕ, zero, suc, true, false, List, [], ◌∷◌, Option, Some, None, length, take, drop, refl, sym, ap, ap₂, arith, length-append, append_assoc, append-nil, option_map, take_at, cut_at, EncodedWord, spelled, is_well_formed, question, equals_sign, after, word_of, ◌>>=◌, word_and_later, word_at, WordAfter, Pieces, onto_front, pieces_behind, pieces, no_word, word_first}
-use Rattle.header_text.proofs.CutLemmas.{Lacks, IsCut, IsCut-from, Lacks-from}
+use Rattle.header_text.proofs.CutLemmas.{Lacks, IsCut-from, Lacks-from}
 
 -- ---- how a word is spelled
 
@@ -158,8 +158,9 @@ pub record Seen (value rest : List ℕ) : Type 0 where
   pub found : pieces value ≡ in_front seen (pieces rest)
 
 -- an `=` at which none begins
-pub seen-more : (value rest plain behind : List ℕ) → Seen value rest → IsCut equals_sign rest plain behind → word_and_later behind ≡ None → Seen value behind
-seen-more value rest plain behind s cut e =
+pub seen-more : (value rest plain behind : List ℕ) → Seen value rest → Some (plain, behind) ≡ cut_at equals_sign rest → word_and_later behind ≡ None → Seen value behind
+seen-more value rest plain behind s h e =
+    let cut = IsCut-from equals_sign rest plain behind (sym h) in
     let none : word_at (equals_sign ∷ behind) ≡ None = word_at-equals behind ∙ ap (option_map (λ (found : EncodedWord × List ℕ). found.0)) e in
     let passed : pieces rest ≡ in_front (plain ++ equals_sign ∷ []) (pieces behind) =
     ap pieces cut.joined ∙ pieces-plain plain (equals_sign ∷ behind) cut.free ∙ ap (in_front plain) (pieces-none equals_sign behind none) ∙ sym (in_front-append plain (equals_sign ∷ []) (pieces behind)) in
@@ -174,8 +175,9 @@ pub record First (value behind later : List ℕ) (w : EncodedWord) : Type 0 wher
   pub found : pieces value ≡ word_first (record { between = take (length value - length behind - 1) value; word = w }) later
   pub size : length (take (length value - length behind - 1) value) + length w.text + length later < length value
 
-pub seen-first : (value rest plain behind later : List ℕ) (w : EncodedWord) → Seen value rest → IsCut equals_sign rest plain behind → word_and_later behind ≡ Some (w, later) → First value behind later w
-seen-first value rest plain behind later w s cut e =
+pub seen-first : (value rest plain behind later : List ℕ) (w : EncodedWord) → Seen value rest → Some (plain, behind) ≡ cut_at equals_sign rest → word_and_later behind ≡ Some (w, later) → First value behind later w
+seen-first value rest plain behind later w s h e =
+    let cut = IsCut-from equals_sign rest plain behind (sym h) in
     let is = spells behind w later e in
     let here : word_at (equals_sign ∷ behind) ≡ Some w = word_at-equals behind ∙ ap (option_map (λ (found : EncodedWord × List ℕ). found.0)) e in
     let front : List ℕ = s.seen ++ plain in
@@ -203,6 +205,7 @@ seen-end value rest s e =
     s.found ∙ ap (in_front s.seen) alone ∙ ap no_word (sym s.joined)
 
 -- what is behind is shorter
-pub seen-shorter : (value rest plain behind : List ℕ) → Seen value rest → IsCut equals_sign rest plain behind → length behind < length value
-seen-shorter value rest plain behind s cut =
+pub seen-shorter : (value rest plain behind : List ℕ) → Seen value rest → Some (plain, behind) ≡ cut_at equals_sign rest → length behind < length value
+seen-shorter value rest plain behind s h =
+    let cut = IsCut-from equals_sign rest plain behind (sym h) in
     omega (arith, ap length s.joined, length-append s.seen rest, ap length cut.joined, length-append plain (equals_sign ∷ behind))

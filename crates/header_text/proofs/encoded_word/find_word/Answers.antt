@@ -4,26 +4,20 @@ use Rattle.header_text.proofs.WordLaws.WordLemmas.{seen-more, seen-first, seen-e
 use Rattle.header_text.proofs.encoded_word.find_word.Goals as goal
 
 pub overflow_sub-result : goal.overflow_sub-result
-overflow_sub-result c =
-    let cut = IsCut-from 0x3D c.loop-behind.rest.now c.in-Some.field-0-0.now c.in-Some.behind.now (sym c.in-Some.ensures) in
-    omega (arith, seen-shorter c.args.value.now c.loop-behind.rest.now c.in-Some.field-0-0.now c.in-Some.behind.now c.loop-behind.invariant cut)
+overflow_sub-result c = omega (arith, seen-shorter c.args.value.now c.loop-behind.rest.now c.in-Some.field-0-0.now c.in-Some.behind.now c.loop-behind.invariant c.in-Some.ensures)
 
 pub slice_bounds-result-count : goal.slice_bounds-result-count
-slice_bounds-result-count c =
-    let cut = IsCut-from 0x3D c.loop-behind.rest.now c.in-Some.field-0-0.now c.in-Some.behind.now (sym c.in-Some.ensures) in
-    omega (arith, seen-shorter c.args.value.now c.loop-behind.rest.now c.in-Some.field-0-0.now c.in-Some.behind.now c.loop-behind.invariant cut)
+slice_bounds-result-count c = omega (arith, seen-shorter c.args.value.now c.loop-behind.rest.now c.in-Some.field-0-0.now c.in-Some.behind.now c.loop-behind.invariant c.in-Some.ensures)
 
 pub returns-in-Some-word_behind-clause-pieces : goal.returns-in-Some-word_behind-clause-pieces
 returns-in-Some-word_behind-clause-pieces c =
-    let cut = IsCut-from 0x3D c.loop-behind.rest.now c.in-Some.field-0-0.now c.in-Some.behind.now (sym c.in-Some.ensures) in
     (seen-first c.args.value.now c.loop-behind.rest.now c.in-Some.field-0-0.now c.in-Some.behind.now c.in-Some-word_behind.later.now (shown_word c.in-Some-word_behind.word)
-    c.loop-behind.invariant cut (sym c.in-Some-word_behind.ensures)).found
+    c.loop-behind.invariant c.in-Some.ensures (sym c.in-Some-word_behind.ensures)).found
 
 pub returns-in-Some-word_behind-clause-smaller : goal.returns-in-Some-word_behind-clause-smaller
 returns-in-Some-word_behind-clause-smaller c =
-    let cut = IsCut-from 0x3D c.loop-behind.rest.now c.in-Some.field-0-0.now c.in-Some.behind.now (sym c.in-Some.ensures) in
     (seen-first c.args.value.now c.loop-behind.rest.now c.in-Some.field-0-0.now c.in-Some.behind.now c.in-Some-word_behind.later.now (shown_word c.in-Some-word_behind.word)
-    c.loop-behind.invariant cut (sym c.in-Some-word_behind.ensures)).size
+    c.loop-behind.invariant c.in-Some.ensures (sym c.in-Some-word_behind.ensures)).size
 
 pub loop-behind-smaller : goal.loop-behind-smaller
 loop-behind-smaller c =
@@ -32,8 +26,7 @@ loop-behind-smaller c =
 
 pub loop-behind-preserved : goal.loop-behind-preserved
 loop-behind-preserved c =
-    let cut = IsCut-from 0x3D c.loop-behind.rest.now c.in-Some.field-0-0.now c.in-Some.behind.now (sym c.in-Some.ensures) in
-    seen-more c.args.value.now c.loop-behind.rest.now c.in-Some.field-0-0.now c.in-Some.behind.now c.loop-behind.invariant cut (sym c.in_default-word_behind.ensures)
+    seen-more c.args.value.now c.loop-behind.rest.now c.in-Some.field-0-0.now c.in-Some.behind.now c.loop-behind.invariant c.in-Some.ensures (sym c.in_default-word_behind.ensures)
 
 pub returns-clause-pieces : goal.returns-clause-pieces
 returns-clause-pieces c = seen-end c.args.value.now c.loop-behind.rest.now c.loop-behind.invariant (sym c.in_default.ensures)
