@@ -94,18 +94,6 @@ fn take_lines<S: TextSink>(
     Ok(())
 }
 
-/// Gives all lines, the last one too, which needn't be whole.
-fn give_all<S: TextSink>(bytes: &[u8], texts: &mut LineTexts, sink: &mut S) -> Result<(), TextFault>
-    ensures { Hands S.takes S.refuses (λ _. pairs_of_bytes texts.old bytes.now) (λ _. []) result
-        sink.old sink.new }
-{
-    let rest = give_lines(0, bytes, texts, sink)?;
-    if rest.is_empty() {
-        return Ok(());
-    }
-    texts.give(rest, sink)
-}
-
 /// Decodes the next line of the body behind the bytes that are held, and gives the lines that are whole then.
 fn take_encoded<S: TextSink>(
     bytes: &mut Vec<u8>,
@@ -126,7 +114,7 @@ fn take_encoded<S: TextSink>(
     take_lines(held.min(bytes.len()), bytes, texts, sink)
 }
 
-/// Decodes the body's end behind the bytes that are held, and gives all lines.
+/// Decodes the body's end behind the bytes that are held, and gives all lines, the last one too, which needn't be whole.
 fn give_rest<S: TextSink>(
     bytes: &mut Vec<u8>,
     decoder: Decoder,
@@ -137,7 +125,11 @@ fn give_rest<S: TextSink>(
         (bytes.old.items ++ still_decoded decoder [])) (λ _. []) result sink.old sink.new }
 {
     decoder.finish(bytes)?;
-    give_all(bytes, texts, sink)
+    let rest = give_lines(0, bytes, texts, sink)?;
+    if rest.is_empty() {
+        return Ok(());
+    }
+    texts.give(rest, sink)
 }
 
 #[tactic(auto, unfolding(mbox_cutter::specs::Lines::line_end_of))]

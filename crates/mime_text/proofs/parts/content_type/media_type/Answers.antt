@@ -8,20 +8,20 @@ front : (value e : Bor (List ℕ)) (o : Option (Bor (List ℕ) × Bor (List ℕ)
 front value e None h = sym (split_while-free 0x3B value.now (sym h))
 front value e (Some (a, b)) h = sym (split_while-cut 0x3B value.now a.now b.now (sym h))
 
-chosen : (default : DefaultType) (value text : List ℕ) (b : Bool) → text ≡ type_text value → has_slash text ≡ b → (if b then text else default_type default) ≡ media_type default value
-chosen default value text b e h = rw (← e, h) refl
+chosen : (default : DefaultType) (value e : Bor (List ℕ)) (o : Option (Bor (List ℕ) × Bor (List ℕ))) (parts : Bor (List ℕ) × Bor (List ℕ)) (text : List ℕ) (b : Bool)
+    → option_map (λ p. (p.0.now, p.1.now)) o ≡ cut_at 0x3B value.now → parts ≡ unwrap_or o (value, e) → text ≡ trimmed parts.0.now → has_slash text ≡ b
+    → (if b then text else default_type default) ≡ media_type default value.now
+chosen default value e o parts text b h i j k =
+    let named : text ≡ type_text value.now = j ∙ ap trimmed (ap (λ p. p.0.now) i ∙ front value e o h) in
+    rw (← named, k) refl
 
 pub returns-then-contains : goal.returns-then-contains
-returns-then-contains c =
-    let text = c.trimmed-text.ensures ∙ ap trimmed (ap (λ p. p.0.now) c.unwrap_or.ensures ∙ front c.args.value _ c.cut_at.result c.cut_at.ensures) in
-    chosen c.args.default c.args.value.now c.trimmed-text.result.now true text (search rules)
+returns-then-contains c = chosen c.args.default c.args.value _ c.cut_at.result _ c.trimmed-text.result.now true c.cut_at.ensures c.unwrap_or.ensures c.trimmed-text.ensures (search rules)
 
 pub returns-in-TextPlain : goal.returns-in-TextPlain
 returns-in-TextPlain c =
-    let text = c.trimmed-text.ensures ∙ ap trimmed (ap (λ p. p.0.now) c.unwrap_or.ensures ∙ front c.args.value _ c.cut_at.result c.cut_at.ensures) in
-    rw c.in-TextPlain.is (chosen TextPlain c.args.value.now c.trimmed-text.result.now false text (search rules))
+    rw c.in-TextPlain.is (chosen TextPlain c.args.value _ c.cut_at.result _ c.trimmed-text.result.now false c.cut_at.ensures c.unwrap_or.ensures c.trimmed-text.ensures (search rules))
 
 pub returns-in-MessageRfc822 : goal.returns-in-MessageRfc822
 returns-in-MessageRfc822 c =
-    let text = c.trimmed-text.ensures ∙ ap trimmed (ap (λ p. p.0.now) c.unwrap_or.ensures ∙ front c.args.value _ c.cut_at.result c.cut_at.ensures) in
-    rw c.in-MessageRfc822.is (chosen MessageRfc822 c.args.value.now c.trimmed-text.result.now false text (search rules))
+    rw c.in-MessageRfc822.is (chosen MessageRfc822 c.args.value _ c.cut_at.result _ c.trimmed-text.result.now false c.cut_at.ensures c.unwrap_or.ensures c.trimmed-text.ensures (search rules))
