@@ -7,10 +7,8 @@ pub(crate) fn u32_at(bytes: &[u8], at: usize) -> u32
     requires { at + 4 ≤ length bytes.now }
     ensures { result ≡ u32_in bytes.now at }
 {
-    match bytes.split_at(at).1.split_first_chunk::<4>() {
-        Some((field, _)) => u32::from_be_bytes(*field),
-        None => unreachable!(),
-    }
+    let field = bytes.split_at(at).1.first_chunk::<4>().unwrap();
+    u32::from_be_bytes(*field)
 }
 
 /// The eight bytes from `at` on, as a number.
@@ -18,8 +16,6 @@ pub(crate) fn u64_at(bytes: &[u8], at: usize) -> u64
     requires { at + 8 ≤ length bytes.now }
     ensures { result ≡ u64_in bytes.now at }
 {
-    match bytes.split_at(at).1.split_first_chunk::<8>() {
-        Some((field, _)) => u64::from_be_bytes(*field),
-        None => unreachable!(),
-    }
+    let field = bytes.split_at(at).1.first_chunk::<8>().unwrap();
+    u64::from_be_bytes(*field)
 }

@@ -1,6 +1,6 @@
 //! What an index tells of one message.
 ghost use Rattle.std.specs.Prelude.{◌≡◌, ◌≤◌, length};
-ghost use Rattle.mail_index.specs.Records.{has_bit as has_bit_of, read_flags as flags_of, read_date as date_of, is_record as is_record_of};
+ghost use Rattle.mail_index.specs.Records.{has_bit as has_bit_of, is_record as is_record_of};
 
 use crate::fields::{u32_at, u64_at};
 use crate::places::{
@@ -33,26 +33,6 @@ fn has_bit(flags: u8, mask: u8) -> bool
     flags & mask == mask
 }
 
-fn read_flags(flags: u8) -> Flags
-    ensures { result ≡ flags_of flags }
-{
-    Flags {
-        seen: has_bit(flags, SEEN),
-        replied: has_bit(flags, REPLIED),
-        flagged: has_bit(flags, FLAGGED),
-    }
-}
-
-fn read_date(flags: u8, date: u64) -> Option<i64>
-    ensures { result ≡ date_of flags date }
-{
-    if has_bit(flags, DATED) {
-        Some(date.cast_signed())
-    } else {
-        None
-    }
-}
-
 impl Record {
     ghost use Rattle.mail_index.specs.Records.{read_record};
 
@@ -68,8 +48,16 @@ impl Record {
             offset: u64_at(bytes, OFFSET_AT),
             length: u64_at(bytes, LENGTH_AT),
             size: u64_at(bytes, SIZE_AT),
-            date: read_date(flags, u64_at(bytes, DATE_AT)),
-            flags: read_flags(flags),
+            date: if has_bit(flags, DATED) {
+                Some(u64_at(bytes, DATE_AT).cast_signed())
+            } else {
+                None
+            },
+            flags: Flags {
+                seen: has_bit(flags, SEEN),
+                replied: has_bit(flags, REPLIED),
+                flagged: has_bit(flags, FLAGGED),
+            },
         }
     }
 }

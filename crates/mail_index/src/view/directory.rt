@@ -63,7 +63,10 @@ impl<'a> Directory<'a> {
         requires { number < length self.now }
         ensures { result ≡ key_at self.now number }
     {
-        let entries = self.entries.split_at(ENTRY * number as usize).1;
-        Entry::first_of(entries, self.texts, self.postings)
+        Entry {
+            entries: self.entries.split_at(ENTRY * number as usize).1,
+            texts: self.texts,
+            postings: self.postings,
+        }
     }
 }

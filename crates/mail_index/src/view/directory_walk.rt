@@ -77,6 +77,8 @@ fn behind_entry<'a>(
         || u64_at(entries, TEXT_PLACE_AT) != place.text_place
         || u64_at(entries, POSTING_PLACE_AT) != place.place
         || text_length == 0
+        || place.place >= end
+        || end > total
     {
         return None;
     }
@@ -85,18 +87,16 @@ fn behind_entry<'a>(
         return None;
     }
     let text = rest.split_at(text_length as usize).0;
-    if place.place >= end || end > total {
+    let number = entries[KIND_AT];
+    if compare_keys(place.number, place.text, number, text) != Ordering::Less {
         return None;
     }
-    match compare_keys(place.number, place.text, entries[KIND_AT], text) {
-        Ordering::Less => Some(EntryPlace {
-            text_place: place.text_place + text_length as u64,
-            place: end,
-            number: entries[KIND_AT],
-            text,
-        }),
-        Ordering::Equal | Ordering::Greater => None,
-    }
+    Some(EntryPlace {
+        text_place: place.text_place + text_length as u64,
+        place: end,
+        number,
+        text,
+    })
 }
 
 /// Whether the directory is so many entries, in order, whose texts fill the section of texts and whose postings fill that of

@@ -55,9 +55,8 @@ impl<'a> IndexView<'a> {
         ensures same { (t : Table) → IsFileOf bytes.entry.now t → IfOk result (λ table. table ≡ t) }
     {
         let version = signed_version(bytes)?;
-        let layout = match Layout::of(bytes, version) {
-            Some(layout) => layout,
-            None => return Err(IndexFault::BadLayout(Section::Counts)),
+        let Some(layout) = Layout::of(bytes, version) else {
+            return Err(IndexFault::BadLayout(Section::Counts));
         };
         if !are_archives(layout.archives, layout.archive_count, layout.version) {
             return Err(IndexFault::BadLayout(Section::Archives));
@@ -138,27 +137,17 @@ impl<'a> IndexView<'a> {
         requires { n < length self.now.archives }
         ensures { slice_get self.now.archives n ≡ Some (archive_of result) }
     {
-        let Layout {
-            archives,
-            archive_count,
-            version,
-            ..
-        } = self.layout;
-        let rest = behind_archives(archives, archive_count, n, version);
-        first_archive(rest, archive_count - n, version)
+        let layout = self.layout;
+        let rest = behind_archives(layout.archives, layout.archive_count, n, layout.version);
+        first_archive(rest, layout.archive_count - n, layout.version)
     }
 
     /// The archives in order. It takes no memory.
     pub fn archives(&self) -> ArchiveList<'a>
         ensures { result ≡ self.now.archives }
     {
-        let Layout {
-            archives,
-            archive_count,
-            version,
-            ..
-        } = self.layout;
-        ArchiveList::of(archives, archive_count, version)
+        let layout = self.layout;
+        ArchiveList::of(layout.archives, layout.archive_count, layout.version)
     }
 
     /// How many messages there are.

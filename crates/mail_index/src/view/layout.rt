@@ -28,29 +28,6 @@ pub(crate) struct Layout<'a> {
     pub(crate) postings: &'a [u8],
 }
 
-fn is_same(bytes: &[u8], other: &[u8]) -> bool
-    ensures { IsTrue result ↔ (bytes.now ≡ other.now) }
-{
-    bytes == other
-}
-
-fn digest_of(bytes: &[u8]) -> [u8; DIGEST]
-    ensures { result ≡ sha256 bytes.now }
-{
-    let mut hasher = Sha256::new();
-    hasher.update(bytes);
-    hasher.finalize()
-}
-
-/// Whether the last 32 bytes are the digest of those before.
-fn has_digest(bytes: &[u8]) -> bool
-    requires { 80 ≤ length bytes.now }
-    ensures { IsTrue result ↔ HasDigest bytes.now }
-{
-    let (signed, digest) = bytes.split_at(bytes.len() - DIGEST);
-    is_same(digest, &digest_of(signed))
-}
-
 /// The version of a file, or what is wrong with its bytes before any section is looked at.
 pub(crate) fn signed_version(bytes: &[u8]) -> Result<Version, IndexFault>
     ensures { MatchResult result
@@ -60,11 +37,14 @@ pub(crate) fn signed_version(bytes: &[u8]) -> Result<Version, IndexFault>
     if bytes.len() < LEAST_FILE {
         return Err(IndexFault::TooShort);
     }
-    if !is_same(bytes.split_at(MAGIC.len()).0, &MAGIC) {
+    if bytes.split_at(MAGIC.len()).0 != MAGIC.as_slice() {
         return Err(IndexFault::BadMagic);
     }
     let version = Version::of(u32_at(bytes, VERSION_AT)).ok_or(IndexFault::BadVersion)?;
-    if !has_digest(bytes) {
+    let (signed, digest) = bytes.split_at(bytes.len() - DIGEST);
+    let mut hasher = Sha256::new();
+    hasher.update(signed);
+    if digest != hasher.finalize().as_slice() {
         return Err(IndexFault::BadDigest);
     }
     Ok(version)

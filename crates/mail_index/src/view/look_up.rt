@@ -9,15 +9,12 @@ use crate::view::directory::compared_keys::ComparedKeys;
 use crate::view::postings::Postings;
 use std::cmp::Ordering;
 
-/// Where the key stands in the directory, if it does: a binary search.
-fn position(keys: &mut ComparedKeys<'_>, kind: Kind, text: &[u8]) -> Option<u32>
-    ensures found { MatchOption result (numbers_at kind text.now keys.old.directory ≡ [])
-        (λ number. (number < length keys.old.directory) × (numbers_at kind text.now
-        keys.old.directory ≡ (key_at keys.old.directory number).numbers)) }
+/// The numbers of the messages that have the key; none where the directory hasn't it. A binary search.
+pub(crate) fn look_up<'a>(keys: &mut ComparedKeys<'a>, kind: Kind, text: &[u8]) -> Postings<'a>
+    ensures numbers { result ≡ numbers_at kind text.now keys.old.directory }
     ensures exact { keys.new.steps
         ≡ add_steps keys.old.steps (comparisons kind text.now keys.old.directory) }
     ensures steps { TakesDigits (length keys.old.directory) keys.old.steps keys.new.steps }
-    ensures keys { keys.new.directory ≡ keys.old.directory }
 {
     let mut low = 0;
     let mut high = keys.len();
@@ -25,22 +22,9 @@ fn position(keys: &mut ComparedKeys<'_>, kind: Kind, text: &[u8]) -> Option<u32>
         let middle = low + (high - low) / 2;
         match keys.compare(middle, kind, text) {
             Ordering::Less => low = middle + 1,
-            Ordering::Equal => return Some(middle),
+            Ordering::Equal => return keys.postings(middle),
             Ordering::Greater => high = middle,
         }
     }
-    None
-}
-
-/// The numbers of the messages that have the key; none where the directory hasn't it.
-pub(crate) fn look_up<'a>(keys: &mut ComparedKeys<'a>, kind: Kind, text: &[u8]) -> Postings<'a>
-    ensures numbers { result ≡ numbers_at kind text.now keys.old.directory }
-    ensures exact { keys.new.steps
-        ≡ add_steps keys.old.steps (comparisons kind text.now keys.old.directory) }
-    ensures steps { TakesDigits (length keys.old.directory) keys.old.steps keys.new.steps }
-{
-    match position(keys, kind, text) {
-        Some(number) => keys.postings(number),
-        None => Postings::none(),
-    }
+    Postings::none()
 }

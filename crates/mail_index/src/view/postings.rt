@@ -85,10 +85,7 @@ pub(crate) fn are_postings(bytes: &[u8], count: u32) -> bool
         let Some((difference, behind)) = split_difference(rest) else {
             return false;
         };
-        if difference == 0 {
-            return false;
-        }
-        if low + difference > u64::from(count) {
+        if difference == 0 || low + difference > u64::from(count) {
             return false;
         }
         rest = behind;

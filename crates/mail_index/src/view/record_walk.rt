@@ -1,7 +1,7 @@
 //! The records of a section, against the archives that they are in.
 ghost use Rattle.std.specs.Prelude.{◌≡◌, ◌↔◌, ◌-◌, ◌*◌, ◌≤◌, length, MatchOption, IsTrue};
 ghost use Rattle.mail_index.specs.Versions.{version_number};
-ghost use Rattle.mail_index.specs.Records.{SpellsArchives, AreRecords, is_behind as is_behind_of};
+ghost use Rattle.mail_index.specs.Records.{SpellsArchives, AreRecords};
 ghost use Rattle.mail_index.specs.Inside.Walks.{MayFollow, IsBehindMessage};
 
 use crate::places::RECORD;
@@ -16,13 +16,6 @@ struct RecordPlace<'a> {
     archive: u32,
     offset: u64,
     archives: &'a [u8],
-}
-
-/// Whether the message lies in a later archive than this one, or in it from the offset on.
-fn is_behind(archive: u32, offset: u64, message: Record) -> bool
-    ensures { result ≡ is_behind_of archive offset message }
-{
-    archive < message.archive || (archive == message.archive && offset <= message.offset)
 }
 
 /// The place behind a message, if it may stand behind the last one and lies in its archive. There are `count` archives.
@@ -40,7 +33,9 @@ fn behind_message<'a>(
         (λ p. MayFollow (version_number version) count place.entry message
         × IsBehindMessage (version_number version) count place.entry message p) }
 {
-    if !is_behind(place.archive, place.offset, message) || message.archive >= count {
+    let is_behind = place.archive < message.archive
+        || (place.archive == message.archive && place.offset <= message.offset);
+    if !is_behind || message.archive >= count {
         return None;
     }
     let archives = behind_archives(

@@ -32,9 +32,7 @@ impl Steps {
     pub fn tick(&mut self)
         ensures { self.new ≡ add_steps self.old 1 }
     {
-        *self = Steps {
-            count: self.count.saturating_add(1),
-        };
+        self.count = self.count.saturating_add(1);
     }
 
     /// The same count once more.

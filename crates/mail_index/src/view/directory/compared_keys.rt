@@ -15,7 +15,7 @@ use std::cmp::Ordering;
 /// A search for a key has them as this alone: it sees no key but by a step, which is counted here and can't be counted elsewhere.
 #[derive(Drop)]
 pub(crate) struct ComparedKeys<'a> {
-    directory: Directory<'a>,
+    pub(super) directory: Directory<'a>,
     steps: Steps,
 }
 
@@ -83,12 +83,5 @@ impl<'a> ComparedKeys<'a> {
         ensures { result ≡ self.entry.steps }
     {
         self.steps
-    }
-
-    /// The directory, without the steps.
-    pub(super) fn into_directory(self) -> Directory<'a>
-        ensures { result ≡ self.entry.directory }
-    {
-        self.directory
     }
 }

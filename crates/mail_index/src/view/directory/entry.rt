@@ -1,8 +1,5 @@
 //! An entry of a directory, read in place.
 ghost use Rattle.std.specs.Prelude.{◌≡◌};
-ghost use Rattle.mail_index.specs.Directory.{read_entry};
-ghost use Rattle.mail_index.specs.KeysRead.{key_of};
-ghost use Rattle.mail_index.specs.Inside.FrontEntries.{IsInFront};
 
 use crate::fields::{u32_at, u64_at};
 use crate::kind::Kind;
@@ -15,9 +12,9 @@ use std::marker::Model;
 /// An entry in front of those behind it, with the texts and the postings of its file.
 #[derive(Drop)]
 pub(super) struct Entry<'a> {
-    entries: &'a [u8],
-    texts: &'a [u8],
-    postings: &'a [u8],
+    pub(super) entries: &'a [u8],
+    pub(super) texts: &'a [u8],
+    pub(super) postings: &'a [u8],
 }
 
 impl<'a> Model for Entry<'a> {
@@ -36,19 +33,6 @@ impl<'a> Model for Entry<'a> {
 impl<'a> Entry<'a> {
     ghost use Rattle.mail_index.specs.LookUps.{lies_to};
     ghost use Rattle.mail_index.specs.Inside.KeyRuns.{lies_to_run};
-
-    /// The first of these entries.
-    pub(super) fn first_of(entries: &'a [u8], texts: &'a [u8], postings: &'a [u8]) -> Self
-        requires { IsInFront texts.now postings.now entries.now }
-        ensures { result
-            ≡ key_of (read_entry texts.entry.now postings.entry.now entries.entry.now) }
-    {
-        Entry {
-            entries,
-            texts,
-            postings,
-        }
-    }
 
     /// The text of its key.
     pub(super) fn text(&self) -> &'a [u8]

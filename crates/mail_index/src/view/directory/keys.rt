@@ -78,7 +78,7 @@ impl<'a> Keys<'a> {
         let next = first_that_lies(Ordering::Equal, &mut keys, kind, text);
         let end = first_that_lies(Ordering::Greater, &mut keys, kind, text);
         Keys {
-            directory: keys.into_directory(),
+            directory: keys.directory,
             next,
             end,
         }

@@ -1,6 +1,7 @@
 use Rattle.mail_index.proofs.Words.{◌<◌, length, ap, arith, false≢true, nat_tests, shown_split}
 use Rattle.mail_index.proofs.ViewLaws.PostingReadLemmas.{posted-refused, posted-front, posted-back, posted-shorter}
 use Rattle.mail_index.proofs.view.postings.are_postings.Goals as goal
+use Rattle.mail_index.proofs.view.postings.are_postings.Goals.{then-difference-eq0-via-then-difference-eq0, then-difference-eq0-via-else-difference-eq0+then-low-difference}
 
 pub returns-in_default : goal.returns-in_default
 returns-in_default c =
@@ -16,16 +17,10 @@ returns-then-difference-eq0 c = (
   λ h.
       let all = c.loop-rest.invariant.forward h.1 in
       let f = posted-front c.args.count c.loop-rest.low c.in-Some.difference c.loop-rest.rest.now c.in-Some.behind.now all.0 (omega (arith, c.ranges.count.fits)) c.in-Some.ensures.short c.in-Some.ensures.some all.1 in
-      absurd (omega (arith, f.some, c.if-difference-eq0.true)),
-)
-
-pub returns-then-low-difference : goal.returns-then-low-difference
-returns-then-low-difference c = (
-  λ t. absurd (false≢true t),
-  λ h.
-      let all = c.loop-rest.invariant.forward h.1 in
-      let f = posted-front c.args.count c.loop-rest.low c.in-Some.difference c.loop-rest.rest.now c.in-Some.behind.now all.0 (omega (arith, c.ranges.count.fits)) c.in-Some.ensures.short c.in-Some.ensures.some all.1 in
-      absurd (omega (arith, f.below, c.if-low-difference.true)),
+      elim c.then-difference-eq0.branch [
+        | then-difference-eq0-via-then-difference-eq0 w ↦ absurd (omega (arith, f.some, w.if-difference-eq0.true))
+        | then-difference-eq0-via-else-difference-eq0+then-low-difference w ↦ absurd (omega (arith, f.below, w.if-low-difference.true))
+      ],
 )
 
 pub loop-rest-smaller : goal.loop-rest-smaller

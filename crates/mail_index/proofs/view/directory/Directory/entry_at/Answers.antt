@@ -1,17 +1,16 @@
-use Rattle.std.proofs.Common.{◌∙◌, sym, arith}
+use Rattle.std.proofs.Common.{sym, arith}
 use Rattle.mail_index.proofs.ViewLaws.DirectoryKeys.{number-below, rest-at}
 use Rattle.mail_index.proofs.view.directory.Directory.entry_at.Goals as goal
 
 pub split_at-requires : goal.split_at-requires
 split_at-requires c = grind (arith, number-below)
 
-pub first_of-requires : goal.first_of-requires
-first_of-requires c =
+pub invariant_of-result : goal.invariant_of-result
+invariant_of-result c =
     (rest-at c.self.inside.texts.now c.self.inside.postings.now c.self.inside.count c.self.inside.entries.now c.args.self.now c.args.number c.split_at.result.1.now
     c.self.invariant c.self.view_is c.requires c.split_at.ensures.back).front
 
 pub returns : goal.returns
 returns c =
-    c.first_of.ensures
-    ∙ sym (rest-at c.self.inside.texts.now c.self.inside.postings.now c.self.inside.count c.self.inside.entries.now c.args.self.now c.args.number c.split_at.result.1.now
+    sym (rest-at c.self.inside.texts.now c.self.inside.postings.now c.self.inside.count c.self.inside.entries.now c.args.self.now c.args.number c.split_at.result.1.now
     c.self.invariant c.self.view_is c.requires c.split_at.ensures.back).key

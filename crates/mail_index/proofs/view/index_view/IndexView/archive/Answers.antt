@@ -5,8 +5,8 @@ use Rattle.mail_index.proofs.view.index_view.IndexView.archive.Goals as goal
 pub behind_archives-rest-requires-clause-bound : goal.behind_archives-rest-requires-clause-bound
 behind_archives-rest-requires-clause-bound c = grind (arith, read_count, version_number)
 
-pub overflow_sub-archive_count : goal.overflow_sub-archive_count
-overflow_sub-archive_count c = grind (arith, read_count, version_number)
+pub overflow_sub-layout : goal.overflow_sub-layout
+overflow_sub-layout c = grind (arith, read_count, version_number)
 
 pub first_archive-requires-clause-some : goal.first_archive-requires-clause-some
 first_archive-requires-clause-some c = grind (arith, read_count, version_number)

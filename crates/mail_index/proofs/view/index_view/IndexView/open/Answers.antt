@@ -40,8 +40,8 @@ returns-clause-ok c = grind (arith, laid_out, Fits-lt-pow, is_file, has_postings
 pub returns-in_err-version-clause-accepts : goal.returns-in_err-version-clause-accepts
 returns-in_err-version-clause-accepts c t f = absurd (no_fault c.args.bytes.now t c.well_formed.0.0 f c.in_err-version.field-0.0 c.in_err-version.ensures)
 
-pub returns-in-None-clause-accepts : goal.returns-in-None-clause-accepts
-returns-in-None-clause-accepts c t f = absurd (no_fault c.args.bytes.now t c.well_formed.0.0 f (BadLayout Counts) (c.in_ok-version.ensures.0, c.in-None.ensures))
+pub returns-in_default-clause-accepts : goal.returns-in_default-clause-accepts
+returns-in_default-clause-accepts c t f = absurd (no_fault c.args.bytes.now t c.well_formed.0.0 f (BadLayout Counts) (c.in_ok-version.ensures.0, c.in_default.ensures))
 
 pub returns-then-not-are_archives-clause-accepts : goal.returns-then-not-are_archives-clause-accepts
 returns-then-not-are_archives-clause-accepts c t f = absurd (no_fault c.args.bytes.now t c.well_formed.0.0 f (BadLayout Archives) (returns-then-not-are_archives-clause-fault c))

@@ -11,6 +11,6 @@ returns c =
     let next = c.first_that_lies-next.ensures in
     let behind = c.first_that_lies-end.ensures in
     let end = subst (λ (ks : List Key). LiesFirst Greater c.args.kind c.args.text.now ks high) next.keys (record { within = behind.within; below = behind.below; above = behind.above }) in
-    ap (λ (ks : List Key). map text_and_numbers (keys_between low high ks)) (c.into_directory.ensures ∙ behind.keys ∙ next.keys)
+    ap (λ (ks : List Key). map text_and_numbers (keys_between low high ks)) (behind.keys ∙ next.keys)
     ∙ ap (map text_and_numbers) (sym (keys_beginning-between c.args.kind c.args.text.now keys low high no_key next.within next.below next.above end.below end.above))
     ∙ ap (λ (ks : List Key). map text_and_numbers (keys_beginning c.args.kind c.args.text.now ks)) c.of-keys.ensures.keys

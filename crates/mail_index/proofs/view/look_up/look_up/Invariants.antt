@@ -1,6 +1,6 @@
 use Rattle.mail_index.proofs.Words.{◌≡◌, ◌-◌, ◌<◌, ◌≤◌, ℕ, length, Less, Greater, add_steps, lies_to, AreSorted, comparisons, comparisons_within, key_at}
 use Rattle.mail_index.specs.Inside.KeyRuns.{keys_between}
-use Rattle.mail_index.proofs.view.look_up.position.Given as goal
+use Rattle.mail_index.proofs.view.look_up.look_up.Given as goal
 
 -- the keys before low lie before the wanted one, those from high on behind it, and the comparisons of those between are left
 abbrev pub invariant-loop-low : goal.invariant-loop-low

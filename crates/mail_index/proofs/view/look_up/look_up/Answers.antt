@@ -4,7 +4,7 @@ use Rattle.mail_index.proofs.ViewLaws.StepLemmas.{add_steps-none, add_steps-more
 use Rattle.mail_index.proofs.ViewLaws.LookUpLemmas.{before-less, behind-greater, numbers_at-met, numbers_at-none}
 use Rattle.mail_index.proofs.ViewLaws.RunLemmas.{between-none}
 use Rattle.mail_index.proofs.ViewLaws.Comparisons.{compared, comparisons-few}
-use Rattle.mail_index.proofs.view.look_up.position.Goals as goal
+use Rattle.mail_index.proofs.view.look_up.look_up.Goals as goal
 
 pub loop-low-preserved-in-Less : goal.loop-low-preserved-in-Less
 loop-low-preserved-in-Less c =
@@ -53,8 +53,8 @@ loop-low-preserved c =
           );
     }
 
-pub returns-in-Equal-clause-found : goal.returns-in-Equal-clause-found
-returns-in-Equal-clause-found c = grind (arith, lies_to, key_at, numbers_at-met, no_key)
+pub returns-in-Equal-clause-numbers : goal.returns-in-Equal-clause-numbers
+returns-in-Equal-clause-numbers c = grind (arith, lies_to, key_at, numbers_at-met, no_key)
 
 pub returns-in-Equal-clause-exact : goal.returns-in-Equal-clause-exact
 returns-in-Equal-clause-exact c =
@@ -68,11 +68,11 @@ returns-in-Equal-clause-exact c =
 pub returns-in-Equal-clause-steps : goal.returns-in-Equal-clause-steps
 returns-in-Equal-clause-steps c = grind (arith, comparisons, comparisons-few, returns-in-Equal-clause-exact)
 
-pub returns-clause-found : goal.returns-clause-found
-returns-clause-found c =
+pub returns-clause-numbers : goal.returns-clause-numbers
+returns-clause-numbers c =
     let i = c.loop-low.invariant in
-    numbers_at-none c.args.kind c.args.text.now c.args.keys.now.directory c.loop-low.low no_key i.below
-    (λ j le lt. i.above j (omega (arith, le, c.loop-low-test.false)) lt)
+    c.none.ensures ∙ sym (numbers_at-none c.args.kind c.args.text.now c.args.keys.now.directory c.loop-low.low no_key i.below
+    (λ j le lt. i.above j (omega (arith, le, c.loop-low-test.false)) lt))
 
 pub returns-clause-exact : goal.returns-clause-exact
 returns-clause-exact c = grind (arith, comparisons_within, between-none, add_steps-none, add_steps)
