@@ -6,7 +6,6 @@ mod build;
 mod fields;
 mod kind;
 mod laws;
-mod pairs;
 mod path;
 mod places;
 mod record;
@@ -17,8 +16,9 @@ pub use build::build_fault::BuildFault;
 pub use build::builder::Builder;
 pub use build::prefetched::Prefetched;
 pub use kind::Kind;
-pub use laws::{few_comparisons, one_table_for_a_file, the_file_of_a_table_has_no_fault};
-pub use pairs::pairs_law;
+pub use laws::{
+    few_comparisons, one_table_for_a_file, pairs_law, the_file_of_a_table_has_no_fault,
+};
 pub use path::is_path;
 pub use record::Record;
 pub use view::archive::Archive;

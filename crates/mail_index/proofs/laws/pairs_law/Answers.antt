@@ -1,6 +1,6 @@
 use Rattle.mail_index.proofs.BuildLaws.PairLaw.{with_pair-has, with_pair-keeps, with_pair-tells}
 use Rattle.mail_index.proofs.BuildLaws.HadPairs.{with_pair-had}
-use Rattle.mail_index.proofs.pairs.pairs_law.Goals as goal
+use Rattle.mail_index.proofs.laws.pairs_law.Goals as goal
 
 pub returns-clause-added : goal.returns-clause-added
 returns-clause-added c = with_pair-has
