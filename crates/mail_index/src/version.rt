@@ -16,14 +16,7 @@ pub enum Version {
 }
 
 impl Version {
-    ghost use Rattle.mail_index.specs.Versions.{newest, last_kind, digest_length};
-
-    /// The version that is written.
-    pub(crate) fn newest() -> Self
-        ensures { version_number result ≡ newest }
-    {
-        Version::Two
-    }
+    ghost use Rattle.mail_index.specs.Versions.{last_kind, digest_length};
 
     /// The version of this number, None where it isn't known.
     pub(crate) fn of(number: u32) -> Option<Self>

@@ -1,6 +1,5 @@
 //! The table that is being built.
-ghost use Rattle.std.specs.Prelude.{None, ◌≡◌, ◌^◌, ◌<◌, ◌≤◌, true, length, IsSome, IfSome, IsTrue, FitsSigned, IfOk, OnOk, OnErr, ◌-◌, flat_map, string_len};
-ghost use Rattle.std.specs.Int.{w64};
+ghost use Rattle.std.specs.Prelude.{None, ◌≡◌, ◌^◌, ◌<◌, ◌≤◌, true, length, IsSome, IsTrue, IfOk, OnOk, OnErr, ◌-◌, flat_map, string_len};
 ghost use Rattle.std.specs.Io.KnownBytes.{Appends};
 ghost use Rattle.sha2.specs.Sha256.{sha256};
 ghost use Rattle.contract_words.specs.Answers.{Gives};
@@ -15,9 +14,7 @@ ghost use Rattle.mail_index.specs.Limits.{four_byte_limit, most_in_archive, most
 use crate::build::build_fault::BuildFault;
 use crate::build::file_out::Signer;
 use crate::build::key_map::KeyMap;
-use crate::build::key_sections::{
-    postings_length, send_directory, send_postings, send_texts, texts_length,
-};
+use crate::build::key_sections::{key_bytes, send_directory, send_postings, send_texts};
 use crate::build::prefetched::Prefetched;
 use crate::build::sections::{
     Counts, FILE_SECTIONS, FileSection, archives_length, send_archives, send_counts, send_records,
@@ -141,7 +138,6 @@ impl Draft {
         requires next { IsNextMessage self.old message }
         ensures { Gives (λ _. self.new) refusal result (ended_message message self.old) }
     {
-        fits_date(&message);
         self.records.push(message)?;
         self.in_message = false;
         Ok(())
@@ -187,7 +183,13 @@ impl Draft {
         let counts = self.counts();
         let digest = self.send_undigested(out, &counts)?;
         send(out, digest.as_slice())?;
-        Ok(file_length(&counts))
+        let length = LEAST_FILE as u64
+            + counts.archive_bytes
+            + RECORD as u64 * counts.messages as u64
+            + ENTRY as u64 * counts.keys as u64
+            + counts.text_bytes
+            + counts.posting_bytes;
+        Ok(length)
     }
 
     /// What the counts section tells.
@@ -196,13 +198,14 @@ impl Draft {
         ensures counts { IsCountOf self.now.table result }
         ensures small { counted_length result < 2 ^ 64 }
     {
+        let (text_bytes, posting_bytes) = key_bytes(self.keys.in_order());
         Counts {
             archives: self.archives.len() as u32,
             messages: self.records.len() as u32,
             keys: self.keys.len() as u32,
             archive_bytes: archives_length(self.archives.as_slice()),
-            text_bytes: texts_length(self.keys.in_order()),
-            posting_bytes: postings_length(self.keys.in_order()),
+            text_bytes,
+            posting_bytes,
         }
     }
 
@@ -268,24 +271,4 @@ impl Draft {
             FileSection::Postings => send_postings(out, signer, self.keys.in_order()),
         }
     }
-}
-
-/// A date is a number of 64 bits, as its type says.
-fn fits_date(message: &Record)
-    ensures { IfSome message.now.date (FitsSigned w64) }
-{
-    if let Some(_second) = message.date {}
-}
-
-/// The length of a file with these counts.
-fn file_length(counts: &Counts) -> u64
-    requires { counted_length counts.now < 2 ^ 64 }
-    ensures { result ≡ counted_length counts.now }
-{
-    LEAST_FILE as u64
-        + counts.archive_bytes
-        + RECORD as u64 * counts.messages as u64
-        + ENTRY as u64 * counts.keys as u64
-        + counts.text_bytes
-        + counts.posting_bytes
 }

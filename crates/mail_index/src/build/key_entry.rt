@@ -91,7 +91,7 @@ impl KeyEntry {
     }
 
     /// The number of its kind in the file, and its text.
-    fn number_and_text(&self) -> (u8, &[u8])
+    pub(crate) fn number_and_text(&self) -> (u8, &[u8])
         ensures number { result.0 ≡ kind_number self.now.kind }
         ensures text { result.1.now ≡ self.now.text }
         ensures short { length result.1.now < four_byte_limit }
@@ -135,13 +135,6 @@ impl KeyEntry {
     {
         let (own_number, own_text) = self.number_and_text();
         own_number == kind.number() && is_same_text(own_text, text)
-    }
-
-    /// The number of its kind in the file.
-    pub(crate) fn kind_number(&self) -> u8
-        ensures { result ≡ kind_number self.now.kind }
-    {
-        self.number_and_text().0
     }
 
     /// Its text.
@@ -255,31 +248,14 @@ fn front_and_bytes(
     requires { length text.now < four_byte_limit }
     ensures { IfOk result (λ parts. HoldsFront kind text.now parts.0 parts.1.items) }
 {
-    if text.len() < SHORT {
-        return Ok((front_of(kind, text), Vec::new(alloc)));
-    }
-    let bytes = front_bytes(alloc, kind, text)?;
-    Ok(([0; SHORT], bytes))
-}
-
-/// The kind's number and the text, with zeros behind them.
-fn front_of(kind: Kind, text: &[u8]) -> [u8; SHORT]
-    requires { length text.now < 16 }
-    ensures { take (length text.now + 1) result ≡ kind_number kind ∷ text.now }
-{
     let mut front = [0; SHORT];
-    front[0] = kind.number();
-    front[1..text.len() + 1].copy_from_slice(text);
-    front
-}
-
-/// The kind's number and the text.
-fn front_bytes(alloc: Global, kind: Kind, text: &[u8]) -> Result<Vec<u8>, AllocError>
-    requires { length text.now < four_byte_limit }
-    ensures { IfOk result (λ bytes. bytes.items ≡ kind_number kind ∷ text.now) }
-{
+    if text.len() < SHORT {
+        front[0] = kind.number();
+        front[1..text.len() + 1].copy_from_slice(text);
+        return Ok((front, Vec::new(alloc)));
+    }
     let mut bytes = Vec::with_capacity(alloc, text.len() + 1)?;
     bytes.push(kind.number())?;
     bytes.extend_from_slice(text)?;
-    Ok(bytes)
+    Ok((front, bytes))
 }

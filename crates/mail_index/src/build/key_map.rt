@@ -1,5 +1,5 @@
 //! The keys of an index while it is built.
-ghost use Rattle.std.specs.Prelude.{◌≡◌, ◌-◌, ◌<◌, ◌≤◌, [], length, set, IfSome, IfOk, IfErr, IsTrue, OnOk, OnErr, MatchResult};
+ghost use Rattle.std.specs.Prelude.{◌≡◌, ◌-◌, ◌<◌, ◌≤◌, [], length, set, IfSome, IfOk, IfErr, IsTrue, OnOk, OnErr};
 ghost use Rattle.mail_index.specs.Inside.KeyMaps.{keys_in, with_added, with_one, IsEntryOf, AreInStep, IsPlaceFor, IsWantOf};
 ghost use Rattle.mail_index.specs.KeysRead.{key_at};
 ghost use Rattle.mail_index.specs.Builders.{with_pair};
@@ -9,7 +9,6 @@ use crate::build::build_fault::BuildFault;
 use crate::build::key_entry::KeyEntry;
 use crate::build::key_hints::{KeyHints, Slot};
 use crate::build::key_order::{KeyOrder, Place};
-use crate::build::key_search::matching;
 use crate::build::keys_in_order::KeysInOrder;
 use crate::build::prefetched::Prefetched;
 use crate::kind::Kind;
@@ -130,10 +129,18 @@ impl KeyMap {
     {
         self.hints.begin()?;
         self.order.begin(alloc)?;
-        let found = self.order.find(&self.entries, key.kind, key.text);
-        let entry = add_at(alloc, &mut self.entries, &mut self.order, found, &key)?;
-        self.hints.note(slot, entry);
-        Ok(())
+        match self.order.find(&self.entries, key.kind, key.text) {
+            Ok(entry) => {
+                add_number(&mut self.entries, &self.order, entry, &key)?;
+                self.hints.note(slot, entry);
+                Ok(())
+            }
+            Err(place) => {
+                let entry = insert(alloc, &mut self.entries, &mut self.order, place, &key)?;
+                self.hints.note(slot, entry);
+                Ok(())
+            }
+        }
     }
 }
 
@@ -171,42 +178,8 @@ fn guessed(entries: &[KeyEntry], place: Prefetched, kind: Kind, text: &[u8]) -> 
     if place.text_length as usize != text.len() {
         return None;
     }
-    matching(place.number, entries, kind, text)
-}
-
-/// Adds a message's number to the key that was found, or inserts the key. Answers the number of its entry.
-fn add_at(
-    alloc: Global,
-    entries: &mut Vec<KeyEntry>,
-    order: &mut KeyOrder,
-    found: Result<u32, Place>,
-    key: &Added<'_>,
-) -> Result<u32, BuildFault>
-    requires number { key.now.number < u32.MAX }
-    requires short { length key.now.text.now < four_byte_limit }
-    requires fits { length entries.old.items ≤ key.now.most }
-    requires step { AreInStep entries.old.items order.old }
-    requires found { IfOk found (IsEntryOf key.now.kind key.now.text.now entries.old.items) }
-    requires place { IfErr found
-        (IsPlaceFor key.now.kind key.now.text.now entries.old.items order.old) }
-    ensures step { AreInStep entries.new.items order.new }
-    ensures ok { OnOk result (keys_in entries.new.items order.new
-        ≡ with_added key.now (keys_in entries.old.items order.old)) }
-    ensures err { OnErr result
-        (keys_in entries.new.items order.new ≡ keys_in entries.old.items order.old) }
-    ensures entry { IfOk result (λ entry.
-        MatchResult found (λ known. entry ≡ known) (λ _. entry ≡ length entries.old.items)) }
-    ensures fits { length entries.new.items ≤ key.now.most }
-    ensures fault { IfErr result (IsWantOf key.now.most
-        (length (with_added key.now (keys_in entries.old.items order.old)))) }
-{
-    match found {
-        Ok(entry) => {
-            add_number(entries, order, entry, key)?;
-            Ok(entry)
-        }
-        Err(place) => insert(alloc, entries, order, place, key),
-    }
+    let entry = entries.get(place.number as usize)?;
+    entry.is_key(kind, text).then_some(place.number)
 }
 
 /// Adds a message's number to the key of an entry.
@@ -225,19 +198,8 @@ fn add_number(
     ensures err { OnErr result (entries.new.items ≡ entries.old.items) }
     ensures same { length entries.new.items ≡ length entries.old.items }
 {
-    push_number(entries, entry, key.number)?;
+    entries[entry as usize].push(key.number)?;
     Ok(())
-}
-
-/// Adds a number to the key of an entry.
-fn push_number(entries: &mut Vec<KeyEntry>, entry: u32, number: u32) -> Result<(), AllocError>
-    requires within { entry < length entries.old.items }
-    requires number { number < u32.MAX }
-    ensures ok { OnOk result (entries.new.items
-        ≡ set entries.old.items entry (with_one (key_at entries.old.items entry) number)) }
-    ensures err { OnErr result (entries.new.items ≡ entries.old.items) }
-{
-    entries[entry as usize].push(number)
 }
 
 /// Inserts a key at its place. Answers the number of its entry.
@@ -258,7 +220,6 @@ fn insert(
         ≡ with_added key.now (keys_in entries.old.items order.old)) }
     ensures err { OnErr result
         (keys_in entries.new.items order.new ≡ keys_in entries.old.items order.old) }
-    ensures entry { IfOk result (λ entry. entry ≡ length entries.old.items) }
     ensures fits { length entries.new.items ≤ key.now.most }
     ensures fault { IfErr result (IsWantOf key.now.most
         (length (with_added key.now (keys_in entries.old.items order.old)))) }

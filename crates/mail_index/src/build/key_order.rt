@@ -94,7 +94,11 @@ impl KeyOrder {
             ≡ insert (slots_in self.old) (place_in self.old place) (slot_for number place)) }
         ensures err { OnErr result (slots_in self.new ≡ slots_in self.old) }
     {
-        insert_in_page(&mut self.pages, place, number)?;
+        let slot = Fronted {
+            number,
+            front: place.front,
+        };
+        self.pages[place.page].insert(place.at, slot)?;
         let length = self.pages[place.page].len();
         if length >= PAGE && length >= self.pages.len() / PAGES_FOR_A_SLOT {
             let _split = split(
@@ -107,26 +111,6 @@ impl KeyOrder {
         }
         Ok(())
     }
-}
-
-/// Inserts a slot in a page.
-fn insert_in_page(
-    pages: &mut Vec<Vec<Fronted>>,
-    place: Place,
-    number: u32,
-) -> Result<(), AllocError>
-    requires { IsPlaceIn pages.old.items place }
-    ensures ok { OnOk result (rows pages.new.items
-        ≡ set (rows pages.old.items) place.page
-        (insert (row_at pages.old.items place.page) place.at (slot_for number place))) }
-    ensures err { OnErr result (rows pages.new.items ≡ rows pages.old.items) }
-{
-    let slot = Fronted {
-        number,
-        front: place.front,
-    };
-    pages[place.page].insert(place.at, slot)?;
-    Ok(())
 }
 
 /// Splits a page in two, of which the first has that length. Without memory for that it stays as it is.
@@ -145,51 +129,12 @@ fn split(
         ≡ in_pages (rows pages.old.items) heads.old.items }
     ensures more { OnOk result (length pages.new.items ≡ length pages.old.items + 1) }
 {
-    let (head, rest) = second_half(alloc, &pages[page], half)?;
-    insert_page(heads, pages, page, head, rest)?;
-    shorten(pages, page, half);
-    Ok(())
-}
-
-/// The head of a page's second half, and the rest of it.
-fn second_half(
-    alloc: Global,
-    row: &[Fronted],
-    half: usize,
-) -> Result<(Fronted, Vec<Fronted>), AllocError>
-    requires { half < length row.now }
-    ensures { IfOk result (λ second. second.0 ∷ second.1.items ≡ drop half row.now) }
-{
-    let rest = Vec::from_slice(alloc, &row[half + 1..])?;
-    Ok((row[half], rest))
-}
-
-/// Inserts a page behind another, and its head.
-fn insert_page(
-    heads: &mut Vec<Fronted>,
-    pages: &mut Vec<Vec<Fronted>>,
-    page: usize,
-    head: Fronted,
-    rest: Vec<Fronted>,
-) -> Result<(), AllocError>
-    requires head { page ≤ length heads.old.items }
-    requires page { page < length pages.old.items }
-    ensures heads { OnOk result (heads.new.items ≡ insert heads.old.items page head) }
-    ensures pages { OnOk result (pages.new.items ≡ insert pages.old.items (page + 1) rest) }
-    ensures err { OnErr result
-        ((heads.new.items ≡ heads.old.items) × (pages.new.items ≡ pages.old.items)) }
-{
     heads.reserve(1)?;
+    let row = pages[page].as_slice();
+    let head = row[half];
+    let rest = Vec::from_slice(alloc, &row[half + 1..])?;
     pages.insert(page + 1, rest)?;
     let _inserted = heads.insert(page, head);
-    Ok(())
-}
-
-/// Leaves the first half of a page.
-fn shorten(pages: &mut Vec<Vec<Fronted>>, page: usize, half: usize)
-    requires { page < length pages.old.items }
-    ensures { rows pages.new.items
-        ≡ set (rows pages.old.items) page (take half (row_at pages.old.items page)) }
-{
     pages[page].truncate(half);
+    Ok(())
 }

@@ -1,6 +1,5 @@
 //! The search for a key among entries in order.
-ghost use Rattle.std.specs.Prelude.{◌≡◌, ◌<◌, ◌≤◌, false, ℕ, suc, length, IfOk, IfErr, IfSome, IfNone};
-ghost use Rattle.std.specs.Ordering.{is_eq};
+ghost use Rattle.std.specs.Prelude.{◌≡◌, ◌<◌, ◌≤◌, ℕ, suc, length, IfOk, IfErr};
 ghost use Rattle.std.specs.declared.cmp.Ordering.TheVariants.{Less, Equal, Greater};
 ghost use Rattle.std.specs.List.{AllByRecursion};
 ghost use Rattle.mail_index.specs.Inside.KeyFronts.{IsFrontOf, IsFronted};
@@ -133,20 +132,5 @@ fn compare(slot: Fronted, entries: &[KeyEntry], front: u64, kind: Kind, text: &[
     match slot.front.cmp(&front) {
         Ordering::Equal => entries[slot.number as usize].compare(kind, text),
         other => other,
-    }
-}
-
-/// The number of an entry, if it is this key's.
-pub(crate) fn matching(number: u32, entries: &[KeyEntry], kind: Kind, text: &[u8]) -> Option<u32>
-    ensures found { IfSome result (λ found.
-        (found ≡ number) × IsEntryOf kind text.now entries.now found) }
-    ensures other { IfNone result (number < length entries.now
-        → is_eq (lies_to kind text.now (key_at entries.now number)) ≡ false) }
-{
-    let entry = entries.get(number as usize)?;
-    if entry.is_key(kind, text) {
-        Some(number)
-    } else {
-        None
     }
 }

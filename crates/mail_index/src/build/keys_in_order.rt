@@ -55,21 +55,13 @@ impl<'a> KeysInOrder<'a> {
             (numbers_of_slots (in_pages (rows pages.now) heads.now)) }
         ensures { result ≡ slot_keys entries.now (in_pages (rows pages.now) heads.now) }
     {
-        let left = match pages {
-            [] => Left {
-                page: &[],
-                heads,
-                pages,
-            },
-            [page, rest @ ..] => Left {
-                page,
-                heads,
-                pages: rest,
-            },
+        let (page, pages) = match pages {
+            [] => (&[][..], pages),
+            [page, rest @ ..] => (page.as_slice(), rest),
         };
         KeysInOrder {
             entries,
-            left,
+            left: Left { page, heads, pages },
             fetched: 0,
         }
     }

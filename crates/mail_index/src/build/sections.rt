@@ -2,7 +2,7 @@
 ghost use Rattle.std.specs.List.{concat};
 ghost use Rattle.std.specs.Prelude.{length, ◌≡◌, ◌-◌, ◌^◌, ◌<◌, ◌≤◌, map, flat_map};
 ghost use Rattle.contract_words.specs.Devices.{Counts as CountsFailures};
-ghost use Rattle.mail_index.specs.Files.{archive_bytes, record_bytes, flags_byte, bit, date_number};
+ghost use Rattle.mail_index.specs.Files.{archive_bytes, record_bytes, bit, date_number};
 ghost use Rattle.mail_index.specs.Inside.Drafts.{kept_archive};
 ghost use Rattle.mail_index.specs.Inside.SectionCounts.{counted};
 ghost use Rattle.mail_index.specs.Inside.Signing.{Writes};
@@ -58,7 +58,7 @@ pub(crate) fn send_counts<O: Out>(
         (concat (counted counts.now)) }
     ensures count { CountsFailures result (O.failures out.old) (O.failures out.new) }
 {
-    let version = Version::newest().number().to_be_bytes();
+    let version = Version::Two.number().to_be_bytes();
     let archives = counts.archives.to_be_bytes();
     let messages = counts.messages.to_be_bytes();
     let keys = counts.keys.to_be_bytes();
@@ -94,7 +94,7 @@ pub(crate) fn archives_length(archives: &[NamedArchive]) -> u64
     total
 }
 
-/// Writes the archives' entries.
+/// Writes the archives' entries: of each its length, the length of its path before the path, and its digest.
 pub(crate) fn send_archives<O: Out>(
     out: &mut O,
     signer: &mut Signer,
@@ -106,38 +106,24 @@ pub(crate) fn send_archives<O: Out>(
     ensures count { CountsFailures result (O.failures out.old) (O.failures out.new) }
 {
     for archive in archives {
-        send_archive(out, signer, archive)?;
+        let path = archive.path.as_bytes();
+        let length = archive.length.to_be_bytes();
+        let path_length = (path.len() as u32).to_be_bytes();
+        send_parts(
+            out,
+            signer,
+            &[
+                length.as_slice(),
+                path_length.as_slice(),
+                path,
+                archive.digest.as_slice(),
+            ],
+        )?;
     }
     Ok(())
 }
 
-/// Its length, the length of its path before the path, and its digest.
-fn send_archive<O: Out>(
-    out: &mut O,
-    signer: &mut Signer,
-    archive: &NamedArchive,
-) -> Result<(), DeviceFault>
-    requires { O.failures out.old < 2 ^ 64 - 1 }
-    ensures written { Writes result (O.taken out.old) (O.taken out.new) signer.old signer.new
-        (archive_bytes (kept_archive archive.now)) }
-    ensures count { CountsFailures result (O.failures out.old) (O.failures out.new) }
-{
-    let path = archive.path.as_bytes();
-    let length = archive.length.to_be_bytes();
-    let path_length = (path.len() as u32).to_be_bytes();
-    send_parts(
-        out,
-        signer,
-        &[
-            length.as_slice(),
-            path_length.as_slice(),
-            path,
-            archive.digest.as_slice(),
-        ],
-    )
-}
-
-/// Writes the messages' records.
+/// Writes the messages' records. What is known of a message is a bit each.
 pub(crate) fn send_records<O: Out>(
     out: &mut O,
     signer: &mut Signer,
@@ -149,49 +135,30 @@ pub(crate) fn send_records<O: Out>(
     ensures count { CountsFailures result (O.failures out.old) (O.failures out.new) }
 {
     for message in messages {
-        send_record(out, signer, message)?;
+        let archive = message.archive.to_be_bytes();
+        let known = bit(SEEN, message.flags.seen)
+            + bit(REPLIED, message.flags.replied)
+            + bit(FLAGGED, message.flags.flagged)
+            + bit(DATED, message.date.is_some());
+        let flags = [known, 0, 0, 0];
+        let offset = message.offset.to_be_bytes();
+        let length = message.length.to_be_bytes();
+        let size = message.size.to_be_bytes();
+        let date = date_number(message.date).to_be_bytes();
+        send_parts(
+            out,
+            signer,
+            &[
+                archive.as_slice(),
+                flags.as_slice(),
+                offset.as_slice(),
+                length.as_slice(),
+                size.as_slice(),
+                date.as_slice(),
+            ],
+        )?;
     }
     Ok(())
-}
-
-fn send_record<O: Out>(
-    out: &mut O,
-    signer: &mut Signer,
-    message: &Record,
-) -> Result<(), DeviceFault>
-    requires { O.failures out.old < 2 ^ 64 - 1 }
-    ensures written { Writes result (O.taken out.old) (O.taken out.new) signer.old signer.new
-        (record_bytes message.now) }
-    ensures count { CountsFailures result (O.failures out.old) (O.failures out.new) }
-{
-    let archive = message.archive.to_be_bytes();
-    let flags = [flags_byte(message), 0, 0, 0];
-    let offset = message.offset.to_be_bytes();
-    let length = message.length.to_be_bytes();
-    let size = message.size.to_be_bytes();
-    let date = date_number(message.date).to_be_bytes();
-    send_parts(
-        out,
-        signer,
-        &[
-            archive.as_slice(),
-            flags.as_slice(),
-            offset.as_slice(),
-            length.as_slice(),
-            size.as_slice(),
-            date.as_slice(),
-        ],
-    )
-}
-
-/// What is known of the message, a bit each.
-fn flags_byte(message: &Record) -> u8
-    ensures { result ≡ flags_byte message.now }
-{
-    bit(SEEN, message.flags.seen)
-        + bit(REPLIED, message.flags.replied)
-        + bit(FLAGGED, message.flags.flagged)
-        + bit(DATED, message.date.is_some())
 }
 
 fn bit(value: u8, set: bool) -> u8

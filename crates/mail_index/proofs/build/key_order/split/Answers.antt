@@ -1,11 +1,20 @@
-use Rattle.mail_index.proofs.Words.{List, Vec, set, arith, Global}
+use Rattle.mail_index.proofs.Words.{rules, List, Vec, set, arith, common_steps, ◌<◌, length, Global, map-set, get_or-map, ◌≡◌, ◌∷◌, get_or, drop}
 use Rattle.mail_index.specs.declared.build.key_front.Fronted.{Fronted}
 use Rattle.mail_index.proofs.BuildLaws.PageLemmas.{parted, row-is}
+use Rattle.mail_index.proofs.BuildLaws.SigningLemmas.{from-place}
 use Rattle.mail_index.proofs.build.key_order.split.Goals as goal
+
+abbrev none : Fronted
+none = record { number = 0; front = 0 }
 
 abbrev items_of : Vec Fronted Global → List Fronted
 items_of v = v.items
 
 -- one page more, where one came behind another, which was shortened then
 pub returns-clause-same : goal.returns-clause-same
-returns-clause-same c = grind (arith, row-is, set, parted)
+returns-clause-same c =
+    let row = c.as_slice-row.result.now in
+    let cut : get_or row c.args.half none ∷ c.in_ok-rest.rest.items ≡ drop c.args.half row =
+    let inside : c.args.half < length row = grind (arith, row-is) in
+    first_of (search (rules, from-place row c.args.half none inside), grind (arith, common_steps, from-place row c.args.half none inside)) in
+    grind (arith, row-is, set, parted, map-set, get_or-map, cut)

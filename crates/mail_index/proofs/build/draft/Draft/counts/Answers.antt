@@ -7,11 +7,11 @@ use Rattle.mail_index.proofs.build.draft.Draft.counts.Goals as goal
 pub archives_length-requires : goal.archives_length-requires
 archives_length-requires c = rw c.as_slice.ensures.value (omega (arith, length-archives (map kept_archive c.self.inside.archives.items) c.self.invariant.named, c.self.invariant.archives, c.self.invariant.limit))
 
-pub texts_length-requires : goal.texts_length-requires
-texts_length-requires c = rw c.in_order.ensures (omega (arith, length-texts _ c.self.inside.keys c.self.invariant.listed, c.self.invariant.keys, c.self.invariant.limit))
+pub key_bytes-text_bytes-requires-clause-texts : goal.key_bytes-text_bytes-requires-clause-texts
+key_bytes-text_bytes-requires-clause-texts c = rw c.in_order.ensures (omega (arith, length-texts _ c.self.inside.keys c.self.invariant.listed, c.self.invariant.keys, c.self.invariant.limit))
 
-pub postings_length-requires : goal.postings_length-requires
-postings_length-requires c = grind (arith, message_count-within, length-all_postings)
+pub key_bytes-text_bytes-requires-clause-postings : goal.key_bytes-text_bytes-requires-clause-postings
+key_bytes-text_bytes-requires-clause-postings c = grind (arith, message_count-within, length-all_postings)
 
 pub returns-clause-small : goal.returns-clause-small
 returns-clause-small c =
@@ -28,6 +28,6 @@ returns-clause-small c =
       messages = message_count_is;
       keys = c.len-3.ensures;
       archive_bytes = rw c.as_slice.ensures.value at c.archives_length.ensures;
-      text_bytes = rw c.in_order.ensures at c.texts_length.ensures;
-      posting_bytes = rw c.in_order-2.ensures at c.postings_length.ensures;
+      text_bytes = rw c.in_order.ensures at c.key_bytes-text_bytes.ensures.texts;
+      posting_bytes = rw c.in_order.ensures at c.key_bytes-text_bytes.ensures.postings;
     }) archives messages keys count c.self.invariant.named c.self.invariant.listed

@@ -1,4 +1,6 @@
-use Rattle.mail_index.proofs.Words.{sym, subst, Draft, IsNextMessage, IsInMessage}
+use Rattle.std.specs.Prelude.{IfSome, FitsSigned}
+use Rattle.std.specs.Int.{w64}
+use Rattle.mail_index.proofs.Words.{arith, sym, subst, Draft, IsNextMessage, IsInMessage}
 use Rattle.mail_index.specs.Inside.Drafts.{draft_of}
 use Rattle.mail_index.proofs.BuildLaws.Placing.{message-ended_draft}
 use Rattle.mail_index.proofs.build.draft.Draft.end_message.Goals as goal
@@ -8,4 +10,6 @@ invariant_of-self-2 c =
     let d : Draft = draft_of c.self.inside.most c.self.inside.path c.self.inside.in_message c.self.inside.archives.items c.self.inside.records.items c.self.inside.keys in
     let inside : IsInMessage d = subst (λ (e : Draft). IsInMessage e) (sym c.self.view_is) c.requires.phase in
     let next : IsNextMessage d c.args.message = subst (λ (e : Draft). IsNextMessage e c.args.message) (sym c.self.view_is) c.requires.next in
-    rw c.in_ok-push.ensures.items (message-ended_draft d c.args.message c.self.invariant inside next c.fits_date.ensures)
+    -- its type says so
+    let date : IfSome c.args.message.date (FitsSigned w64) = grind (arith, c.well_formed) in
+    rw c.in_ok-push.ensures.items (message-ended_draft d c.args.message c.self.invariant inside next date)

@@ -25,7 +25,7 @@ returns-clause-ok g c =
     let digest : c.as_slice.result.now ≡ sha256 (body c.args.self.now.table) = c.as_slice.ensures ∙ c.in_ok-digest.ensures.digest in
     let whole : body c.args.self.now.table ++ c.as_slice.result.now ≡ index_file c.args.self.now.table =
     ap (λ (l : List ℕ). body c.args.self.now.table ++ l) digest ∙ sym (index_file-is c.args.self.now.table) in (
-      c.file_length.ensures ∙ counted_length-is c.args.self.now.table c.counts-counts.result c.counts-counts.ensures.counts,
+      counted_length-is c.args.self.now.table c.counts-counts.result c.counts-counts.ensures.counts,
       subst (λ (l : List ℕ). Appends (g.O.Out.taken c.args.out.now) (g.O.Out.taken c.send.new.out) l) whole
           (appends_join (g.O.Out.taken c.args.out.now) (g.O.Out.taken c.send_undigested.new.out) (g.O.Out.taken c.send.new.out) (body c.args.self.now.table) c.as_slice.result.now c.in_ok-digest.ensures.ok c.in_ok-send.ensures.ok),
     )

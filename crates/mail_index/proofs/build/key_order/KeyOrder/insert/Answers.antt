@@ -1,9 +1,17 @@
 use Rattle.std.proofs.Common.{arith}
+use Rattle.mail_index.proofs.Words.{List, Vec, set, Global, insert, map-set, set-get_or, get_or-map}
+use Rattle.mail_index.specs.declared.build.key_front.Fronted.{Fronted}
 use Rattle.mail_index.proofs.BuildLaws.PageLemmas.{inserted}
 use Rattle.mail_index.proofs.build.key_order.KeyOrder.insert.Goals as goal
 
+abbrev items_of : Vec Fronted Global → List Fronted
+items_of v = v.items
+
+pub returns-in_err-insert-clause-err : goal.returns-in_err-insert-clause-err
+returns-in_err-insert-clause-err c = grind (arith, set, map-set, get_or-map, set-get_or)
+
 pub returns-then-length-len-clause-ok : goal.returns-then-length-len-clause-ok
-returns-then-length-len-clause-ok c = grind (arith, inserted)
+returns-then-length-len-clause-ok c = grind (arith, inserted, map-set, set, insert, get_or-map)
 
 pub returns-else-length-ge-PAGE-clause-ok : goal.returns-else-length-ge-PAGE-clause-ok
-returns-else-length-ge-PAGE-clause-ok c = grind (arith, inserted)
+returns-else-length-ge-PAGE-clause-ok c = grind (arith, inserted, map-set, set, insert, get_or-map)
