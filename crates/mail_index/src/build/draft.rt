@@ -61,6 +61,8 @@ impl Model for Draft {
 }
 
 impl Draft {
+    ghost use Rattle.mail_index.specs.Inside.Drafts.{IsDraft};
+
     /// No archive. Takes no memory.
     pub(crate) fn new(alloc: Global, most: u32) -> Self
         requires { most ≤ most_in_index }
@@ -164,10 +166,6 @@ impl Draft {
         }
         Ok(())
     }
-}
-
-impl Draft {
-    ghost use Rattle.mail_index.specs.Inside.Drafts.{IsDraft};
 
     /// Writes the index file of the table. Answers how many bytes it has.
     pub(crate) fn write<O: Out>(&self, out: &mut O) -> Result<u64, DeviceFault>

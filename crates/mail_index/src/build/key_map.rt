@@ -142,9 +142,7 @@ impl KeyMap {
             }
         }
     }
-}
 
-impl KeyMap {
     /// The entries in the order of the keys.
     pub(crate) fn in_order(&self) -> KeysInOrder<'_>
         ensures { result ≡ self.now }

@@ -27,9 +27,6 @@ pub(crate) fn split_leb128(most: u32, bytes: &[u8]) -> Option<(u64, &[u8])>
     Some((u64::from(*first - 128) + 128 * high, rest))
 }
 
-/// The most bytes of a difference.
-const MOST: u32 = 5;
-
 /// The difference that some postings begin with, and those behind it: a number of at most five bytes, as `split_leb128` splits
 /// it off. Most differences have one byte or two, and these are read here.
 #[inline]
@@ -49,6 +46,6 @@ pub(crate) fn split_difference(bytes: &[u8]) -> Option<(u64, &[u8])>
         return Some((u64::from(*first - 128) + 128 * u64::from(*second), behind));
     }
     // Taken apart and put together, so that only this way's result goes through memory.
-    let (long, behind) = split_leb128(MOST, bytes)?;
+    let (long, behind) = split_leb128(5, bytes)?;
     Some((long, behind))
 }
