@@ -91,11 +91,9 @@ impl<'p, R: Files> Source for FileSource<'p, R> {
     ghost failures = { λ s. s.failures };
 
     fn read_next(&mut self, into: &mut [u8]) -> Result<usize, DeviceFault> {
-        let Ok(n) = self.read_file(into) else {
-            self.failures += 1;
-            return Err(DeviceFault);
-        };
-        Ok(n)
+        let read = self.read_file(into);
+        self.failures += u64::from(read.is_err());
+        read.map_err(|_| DeviceFault)
     }
 }
 

@@ -71,11 +71,16 @@ pub(crate) fn remove_leftover<R: Files<File = File>>(
     // Its lock is held until its name is gone. For a lock some file systems ask that a file is open for writing.
     let mut left = OpenOptions::new().read(true).write(true).open(rt, name)?;
     lock(rt, &left, name)?;
-    if is_private(rt, &left)? && begins_so(alloc, &mut left, beginning)? {
-        fs::remove_file(rt, name)
-    } else {
-        Err(ErrorKind::AlreadyExists.into())
+    if is_private(rt, &left)? {
+        let mut front = Vec::new(alloc);
+        left.by_ref()
+            .take(beginning.length())
+            .read_to_end(&mut front)?;
+        if beginning.agrees_with(&front) {
+            return fs::remove_file(rt, name);
+        }
     }
+    Err(ErrorKind::AlreadyExists.into())
 }
 
 /// Whether a file is of this process's owner, who alone reads and writes it.
@@ -83,14 +88,4 @@ fn is_private<R: Files>(rt: &R, file: &File) -> io::Result<bool> {
     let found = file.metadata()?;
     let owner = fs::metadata(rt, THIS_PROCESS)?.uid();
     Ok(found.uid() == owner && found.mode() & MODE_BITS == PRIVATE)
-}
-
-/// Whether what a reader still has is nothing, or begins so.
-fn begins_so<F: Read>(alloc: Global, reader: &mut F, beginning: Beginning<'_>) -> io::Result<bool> {
-    let mut front = Vec::new(alloc);
-    reader
-        .by_ref()
-        .take(beginning.length())
-        .read_to_end(&mut front)?;
-    Ok(beginning.agrees_with(&front))
 }

@@ -63,13 +63,11 @@ impl<'p, R: Files<File = File>> NewFile<'p, R> {
             file,
         };
         // The process may have been told to make files with less than this mode.
-        match new.set_mode(PRIVATE) {
-            Ok(()) => Ok(new),
-            Err(error) => {
-                new.discard();
-                Err(error)
-            }
+        if let Err(error) = new.set_mode(PRIVATE) {
+            new.discard();
+            return Err(error);
         }
+        Ok(new)
     }
 
     /// The file, to be written from its front.

@@ -29,11 +29,8 @@ pub fn read_rest<R: Read>(reader: &mut R, bytes: &mut Vec<u8>, expected: u64) ->
     ensures { OnOk result (IfSome (R.remaining reader.old)
         (λ rest. bytes.new.items ≡ bytes.old.items ++ rest)) }
 {
-    let Ok(expected) = usize::try_from(expected) else {
-        return Err(io::ErrorKind::OutOfMemory.into());
-    };
     // With room for one byte more the end is seen without growing.
-    bytes.reserve_exact(expected.saturating_add(1))?;
+    bytes.reserve_exact((expected as usize).saturating_add(1))?;
     reader.read_to_end(bytes)?;
     Ok(())
 }
