@@ -32,13 +32,13 @@ pub has_three_dots-found : (text : List ℕ) (r : Bool) → ((r ≡ true) ↔ Ha
 has_three_dots-found text r h = grind (arith, same_from_decides, HasSubslice-three_dots, has_three_dots-inside)
 
 -- a test of each text's bytes
-pub list_any-map : {X Y : Type 0} (f : X → Y) (test : Y → Bool) (xs : List X) → list_any test (map f xs) ≡ list_any (λ x. test (f x)) xs
-list_any-map f test [] = refl
-list_any-map f test (x ∷ xs) = ap (λ b. test (f x) || b) (list_any-map f test xs)
+pub list_any_map : {X Y : Type 0} (f : X → Y) (test : Y → Bool) (xs : List X) → list_any test (map f xs) ≡ list_any (λ x. test (f x)) xs
+list_any_map f test [] = refl
+list_any_map f test (x ∷ xs) = ap (λ b. test (f x) || b) (list_any_map f test xs)
 
-pub list_all-map : {X Y : Type 0} (f : X → Y) (test : Y → Bool) (xs : List X) → list_all test (map f xs) ≡ list_all (λ x. test (f x)) xs
-list_all-map f test [] = refl
-list_all-map f test (x ∷ xs) = ap (λ b. test (f x) && b) (list_all-map f test xs)
+pub list_all_map : {X Y : Type 0} (f : X → Y) (test : Y → Bool) (xs : List X) → list_all test (map f xs) ≡ list_all (λ x. test (f x)) xs
+list_all_map f test [] = refl
+list_all_map f test (x ∷ xs) = ap (λ b. test (f x) && b) (list_all_map f test xs)
 
 map-each : {X Y Z : Type 0} (f : X → Y) (g : Y → Z) (xs : List X) → map g (map f xs) ≡ map (λ x. g (f x)) xs
 map-each f g [] = refl

@@ -25,7 +25,7 @@ pub use Rattle.mairix_options.specs.declared.setting.ArchivesLine.{ArchivesLine}
 pub use Rattle.mairix_options.specs.declared.setting.MfolderLine.{MfolderLine}
 pub use Rattle.mairix_options.specs.declared.setting.Setting.{Setting}
 pub use Rattle.mairix_options.specs.declared.setting.Setting.TheVariants.{Archives, Base, Database, Format, Mfolder}
-pub use Rattle.std.proofs.Common.{Bool, Err, IfOk, IfSome, List, None, Ok, Option, Result, Some, [], add-one, ap, append-nil, ap₂, arith, codes, drop, drop-cons, encode_utf8, false, filter, get_or, if◌then◌else◌, is_some, length, lit<, map, nat_eq, nat_lt, not, option_map, refl, replicate, reverse, slice_get, string_bytes, subst, suc, sym, take, true, unwrap_or, zero, ℕ, ⊎_elim, ◌&&◌, ◌++◌, ◌+◌, ◌-◌, ◌<◌, ◌==◌, ◌^◌, ◌||◌, ◌↔◌, ◌∙◌, ◌∷◌, ◌≡◌, ◌≢◌, ◌≤◌, ◌⊎◌}
+pub use Rattle.std.proofs.Common.{Bool, Err, IfOk, IfSome, List, None, Ok, Option, Result, Some, [], ap, append-nil, ap₂, arith, codes, drop, encode_utf8, false, filter, get_or, if◌then◌else◌, is_some, length, lit<, map, nat_eq, nat_lt, not, option_map, refl, replicate, reverse, slice_get, string_bytes, subst, suc, sym, take, true, unwrap_or, zero, ℕ, ⊎_elim, ◌&&◌, ◌++◌, ◌+◌, ◌-◌, ◌<◌, ◌==◌, ◌^◌, ◌||◌, ◌↔◌, ◌∙◌, ◌∷◌, ◌≡◌, ◌≢◌, ◌≤◌, ◌⊎◌}
 pub use Rattle.std.proofs.lemmas.Bool.{and_parts, cases_lt, false_from_ne_true, false≢true, not-false, not-true, or_cases, or_parts, or_right}
 pub use Rattle.std.proofs.lemmas.Bool.Decides.{Decides-eqb, nat_tests, same_from_decides}
 pub use Rattle.std.proofs.lemmas.List.{drop_all, get_or-reverse, length-drop, take_all}

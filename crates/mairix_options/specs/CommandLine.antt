@@ -18,13 +18,17 @@ use Rattle.mairix_options.specs.declared.or_memory.OrMemory.TheVariants.{Refused
 
 -- ---- the command
 
--- `-c`, once at most
-abbrev pub short_flag : Text → ℕ → Rule
-short_flag id c = record (new_rule id) { short = Some c; action = Some SetTrue }
+-- an option without a value, once at most
+abbrev pub bare_flag : Text → Rule
+bare_flag id = record (new_rule id) { action = Some SetTrue }
 
--- `--id`, once at most
+-- `-c`
+abbrev pub short_flag : Text → ℕ → Rule
+short_flag id c = record (bare_flag id) { short = Some c }
+
+-- `--id`
 abbrev pub long_flag : Text → Rule
-long_flag id = record (new_rule id) { long = Some id; action = Some SetTrue }
+long_flag id = record (bare_flag id) { long = Some id }
 
 -- `-f RCFILE`
 abbrev pub rcfile_option : Rule
@@ -42,19 +46,14 @@ pattern_argument = record (new_rule (codes "pattern")) { value_names = 1; action
 abbrev pub bare_command : App
 bare_command = on_top (λ s. record s { has_version = true; no_binary_name = true }) (new_app (codes "mairix"))
 
--- `mairix -f RCFILE [-r] [-x] [-t]`
-abbrev pub command_of_formats : App
-command_of_formats = fold with_rule bare_command
+-- `mairix -f RCFILE [-r] [-x] [-t] [-o NAME] [--stdout] [--boolean] [--once] [--verify] [PATTERN..]`
+abbrev pub command : App
+command = fold with_rule bare_command
     (rcfile_option
     ∷ short_flag (codes "raw") (byte "r")
     ∷ short_flag (codes "excerpt") (byte "x")
     ∷ short_flag (codes "threads") (byte "t")
-    ∷ [])
-
--- `mairix -f RCFILE [-r] [-x] [-t] [-o NAME] [--stdout] [--boolean] [--once] [--verify] [PATTERN..]`
-abbrev pub command : App
-command = fold with_rule command_of_formats
-    (mfolder_option
+    ∷ mfolder_option
     ∷ long_flag (codes "stdout")
     ∷ long_flag (codes "boolean")
     ∷ long_flag (codes "once")

@@ -1,8 +1,8 @@
 //! What the words of a command line ask for.
 ghost use Rattle.std.specs.Prelude.{◌≡◌, [], true, false, map, option_map, unwrap_or, is_ok, IfOk, codes, string_bytes};
-ghost use Rattle.clap.specs.Words.{app_of, rule_of, with_rule, found_of, rows_of, first_of, all_of};
+ghost use Rattle.clap.specs.Words.{app_of, rule_of, found_of, rows_of, first_of, all_of};
 ghost use Rattle.contract_words.specs.Answers.{Gives};
-ghost use Rattle.mairix_options.specs.CommandLine.{short_flag, long_flag, rcfile_option, mfolder_option, pattern_argument, bare_command, command_of_formats, command, flag, parse, plan, plan_in, one_format, fault_of_kind, error_refusal};
+ghost use Rattle.mairix_options.specs.CommandLine.{bare_flag, rcfile_option, mfolder_option, pattern_argument, bare_command, command, flag, parse, plan, plan_in, fault_of_kind, error_refusal};
 ghost use Rattle.mairix_options.specs.Refusals.{refusal};
 
 use crate::or_memory::OrMemory;
@@ -117,7 +117,13 @@ pub fn plan_of(alloc: Global, words: &[String]) -> Result<Plan, OrMemory<UsageFa
     ensures { Gives (λ p. p) refusal result (plan (map string_bytes words.now)) }
 {
     match parsed(alloc, words)? {
-        Ok(matches) => with_one_format(planned(alloc, &matches)?),
+        Ok(matches) => {
+            let plan = planned(alloc, &matches)?;
+            if plan.raw && plan.excerpt {
+                return Err(OrMemory::Refused(UsageFault::TwoFormats));
+            }
+            Ok(plan)
+        }
         Err(error) => Err(fault_of_kind(error.kind())),
     }
 }
@@ -134,16 +140,6 @@ pub fn usage_text(alloc: Global, words: &[String]) -> Result<String, AllocError>
             _ => error.to_string(alloc),
         },
     }
-}
-
-/// The plan, unless it asks for two formats of the answer.
-fn with_one_format(plan: Plan) -> Result<Plan, OrMemory<UsageFault>>
-    ensures { Gives (λ p. p) refusal result (one_format plan) }
-{
-    if plan.raw && plan.excerpt {
-        return Err(OrMemory::Refused(UsageFault::TwoFormats));
-    }
-    Ok(plan)
 }
 
 fn parsed<'a>(
@@ -208,33 +204,17 @@ fn fault_of_kind(kind: ErrorKind) -> OrMemory<UsageFault>
 fn command<'a>(alloc: Global) -> Result<Command<'a>, AllocError>
     ensures { IfOk result (λ c. app_of c ≡ command) }
 {
-    let formats = command_of_formats(alloc)?;
-    let mfolder = with(formats, mfolder_option(alloc))?;
-    let stdout = with(mfolder, long_flag(alloc, "stdout", OUTPUT, STDOUT))?;
-    let boolean = with(stdout, long_flag(alloc, "boolean", SEARCHING, BOOLEAN))?;
-    let once = with(boolean, long_flag(alloc, "once", SEARCHING, ONCE))?;
-    let verify = with(once, long_flag(alloc, "verify", SEARCHING, VERIFY))?;
-    with(verify, pattern_argument(alloc))
-}
-
-/// The command up to what its answers are and hold.
-fn command_of_formats<'a>(alloc: Global) -> Result<Command<'a>, AllocError>
-    ensures { IfOk result (λ c. app_of c ≡ command_of_formats) }
-{
-    let rcfile = with(bare_command(alloc), rcfile_option(alloc))?;
-    let raw = with(rcfile, short_flag(alloc, "raw", 'r', OUTPUT, RAW))?;
-    let excerpt = with(raw, short_flag(alloc, "excerpt", 'x', OUTPUT, EXCERPT))?;
-    with(
-        excerpt,
-        short_flag(alloc, "threads", 't', SEARCHING, THREADS),
-    )
-}
-
-fn with<'a>(command: Command<'a>, arg: Arg<'a>) -> Result<Command<'a>, AllocError>
-    requires { arg.global ≡ false }
-    ensures { IfOk result (λ c. app_of c ≡ with_rule (app_of command.entry) (rule_of arg.entry)) }
-{
-    command.arg(arg)
+    bare_command(alloc)
+        .arg(rcfile_option(alloc))?
+        .arg(flag(alloc, "raw", OUTPUT, RAW).short('r'))?
+        .arg(flag(alloc, "excerpt", OUTPUT, EXCERPT).short('x'))?
+        .arg(flag(alloc, "threads", SEARCHING, THREADS).short('t'))?
+        .arg(mfolder_option(alloc))?
+        .arg(flag(alloc, "stdout", OUTPUT, STDOUT).long("stdout"))?
+        .arg(flag(alloc, "boolean", SEARCHING, BOOLEAN).long("boolean"))?
+        .arg(flag(alloc, "once", SEARCHING, ONCE).long("once"))?
+        .arg(flag(alloc, "verify", SEARCHING, VERIFY).long("verify"))?
+        .arg(pattern_argument(alloc))
 }
 
 fn bare_command<'a>(alloc: Global) -> Command<'a>
@@ -281,29 +261,11 @@ fn pattern_argument<'a>(alloc: Global) -> Arg<'a>
         .help("What to look for; without a pattern the index is made")
 }
 
-fn short_flag<'a>(
-    alloc: Global,
-    id: &'a str,
-    letter: char,
-    group: &'a str,
-    help: &'a str,
-) -> Arg<'a>
-    ensures rule { rule_of result ≡ short_flag id.entry.now letter }
+fn flag<'a>(alloc: Global, id: &'a str, group: &'a str, help: &'a str) -> Arg<'a>
+    ensures rule { rule_of result ≡ bare_flag id.entry.now }
     ensures local { result.global ≡ false }
 {
     Arg::new(alloc, id)
-        .short(letter)
-        .action(ArgAction::SetTrue)
-        .help_heading(group)
-        .help(help)
-}
-
-fn long_flag<'a>(alloc: Global, id: &'a str, group: &'a str, help: &'a str) -> Arg<'a>
-    ensures rule { rule_of result ≡ long_flag id.entry.now }
-    ensures local { result.global ≡ false }
-{
-    Arg::new(alloc, id)
-        .long(id)
         .action(ArgAction::SetTrue)
         .help_heading(group)
         .help(help)

@@ -20,9 +20,7 @@ impl Text {
     pub(crate) fn new(alloc: Global, text: &str) -> Result<Self, AllocError>
         ensures { IfOk result (λ t. t ≡ text.now) }
     {
-        Ok(Text {
-            text: String::from_str(alloc, text)?,
-        })
+        Ok(Text::of(String::from_str(alloc, text)?))
     }
 
     /// The text that a string is.

@@ -27,18 +27,7 @@ pub(crate) fn has_wildcard(text: &str) -> bool
     memchr3(b'*', b'?', b'[', text.as_bytes()).is_some() || text.contains("...")
 }
 
-/// The path of an archive's name: under the base where there is one, unless it begins with `/`.
-pub(crate) fn archive_path(
-    alloc: Global,
-    base: &Option<Text>,
-    name: &str,
-) -> Result<Text, AllocError>
-    ensures { IfOk result (λ path. path ≡ archive_path base.now name.now) }
-{
-    under(alloc, base, name.starts_with("/"), name)
-}
-
-/// The paths of some archives' names.
+/// The paths of some archives' names: each under the base where there is one, unless it begins with `/`.
 pub(crate) fn archive_paths(
     alloc: Global,
     base: &Option<Text>,
@@ -49,7 +38,8 @@ pub(crate) fn archive_paths(
     let mut paths = Texts::new(alloc);
     let written = names.as_slice();
     for name in written {
-        let path = archive_path(alloc, base, name.as_str())?;
+        let name = name.as_str();
+        let path = under(alloc, base, name.starts_with("/"), name)?;
         paths.push(path.as_str())?;
     }
     Ok(paths)

@@ -4,7 +4,7 @@ ghost use Rattle.std.specs.List.{All, filter_map, last_or, slice_get};
 ghost use Rattle.std.specs.Option.{option_to_list};
 ghost use Rattle.contract_words.specs.Answers.{Gives};
 ghost use Rattle.mail_index.specs.Tables.{IsPath};
-ghost use Rattle.mairix_options.specs.Rcfile.{base_in, lines_in, settings_from, archives_misfit, mfolder_misfit, earlier, first_misfit, all_paths, rc_fitting, rc_with, rc_from, rc_of};
+ghost use Rattle.mairix_options.specs.Rcfile.{base_in, lines_in, settings_from, archives_misfit, first_misfit, all_paths, rc_with, rc_from, rc_of};
 ghost use Rattle.mairix_options.specs.Refusals.{refusal};
 
 use crate::mail_format::MailFormat;
@@ -156,13 +156,6 @@ fn rc_with(alloc: Global, said: Said) -> Result<Rc, OrMemory<RcFault>>
     if let Some(number) = first_misfit(alloc, &said.base, &said.archives, &said.mfolder)? {
         return Err(OrMemory::Refused(RcFault::BadLine(number)));
     }
-    rc_fitting(alloc, said)
-}
-
-fn rc_fitting(alloc: Global, said: Said) -> Result<Rc, OrMemory<RcFault>>
-    ensures { Gives (λ r. r) refusal result (rc_fitting said.base said.archives.items said.database
-        said.mfolder said.format) }
-{
     let paths = all_paths(alloc, &said.base, &said.archives)?;
     if paths.as_slice().is_empty() {
         return Err(OrMemory::Refused(RcFault::Missing(Name::Mbox)));
@@ -192,12 +185,14 @@ fn first_misfit(
 ) -> Result<Option<u64>, AllocError>
     ensures { IfOk result (λ n. n ≡ first_misfit base.now archives.now mfolder.now) }
 {
-    let archives = first_archives_misfit(alloc, base, archives)?;
-    let mfolder = match mfolder {
-        Some(line) => mfolder_misfit(alloc, base, line)?,
-        None => None,
+    let earliest = first_archives_misfit(alloc, base, archives)?;
+    let Some(line) = mfolder else {
+        return Ok(earliest);
     };
-    Ok(earlier(archives, mfolder))
+    if is_path(mfolder_path(alloc, base, line.name.as_str())?.as_str()) {
+        return Ok(earliest);
+    }
+    Ok(Some(earliest.map_or(line.number, |number| number.min(line.number))))
 }
 
 fn first_archives_misfit(
@@ -214,30 +209,6 @@ fn first_archives_misfit(
         }
     }
     Ok(None)
-}
-
-fn mfolder_misfit(
-    alloc: Global,
-    base: &Option<Text>,
-    line: &MfolderLine,
-) -> Result<Option<u64>, AllocError>
-    ensures { IfOk result (λ n. n ≡ mfolder_misfit base.now line.now) }
-{
-    let path = mfolder_path(alloc, base, line.name.as_str())?;
-    if is_path(path.as_str()) {
-        return Ok(None);
-    }
-    Ok(Some(line.number))
-}
-
-fn earlier(a: Option<u64>, b: Option<u64>) -> Option<u64>
-    ensures { result ≡ earlier a b }
-{
-    match (a, b) {
-        (Some(a), Some(b)) => Some(a.min(b)),
-        (Some(a), None) => Some(a),
-        (None, b) => b,
-    }
 }
 
 /// The paths of all archives under the base.

@@ -4,7 +4,7 @@ ghost use Rattle.std.specs.List.{list_any, list_all};
 ghost use Rattle.std.specs.Option.{option_to_list};
 ghost use Rattle.contract_words.specs.Answers.{Gives};
 ghost use Rattle.mairix_options.specs.Path.{is_path, has_expansion, has_wildcard};
-ghost use Rattle.mairix_options.specs.Rcfile.{keyword_of, archives_of, names_in, paths_in, supported, unexpanded, assigned, entry, is_skipped, line_settings};
+ghost use Rattle.mairix_options.specs.Rcfile.{keyword_of, archives_of, names_in, paths_in, supported, unexpanded, assigned, entry, line_settings};
 ghost use Rattle.mairix_options.specs.Refusals.{refusal};
 
 use crate::blanks::{trimmed, trimmed_text};
@@ -77,16 +77,10 @@ pub(crate) fn line_setting(
     ensures { Gives option_to_list refusal result (line_settings base.now number line.now) }
 {
     let text = trimmed(line);
-    if is_skipped(text) {
+    if let [] | [b'#', ..] = text {
         return Ok(None);
     }
     Ok(Some(entry(alloc, base, number, text)?))
-}
-
-fn is_skipped(text: &[u8]) -> bool
-    ensures { result ≡ is_skipped text.now }
-{
-    matches!(text, [] | [b'#', ..])
 }
 
 fn entry(
@@ -188,15 +182,16 @@ fn unexpanded(alloc: Global, number: u64, value: &str) -> Result<Text, OrMemory<
     Ok(Text::new(alloc, value)?)
 }
 
+#[tactic(auto, using(crate::proofs::Searches::list_any_map))]
 fn archives_line(alloc: Global, number: u64, value: &str) -> Result<ArchivesLine, OrMemory<RcFault>>
     ensures { Gives (λ line. Setting.Archives line) refusal result
         (supported number Keyword.Mbox value.now) }
 {
     let names = archives_of(alloc, value)?;
-    if some_has_expansion(&names) {
+    if some_has_expansion(names.as_slice()) {
         return Err(OrMemory::Refused(RcFault::Expansion(number)));
     }
-    if some_has_wildcard(&names) {
+    if some_has_wildcard(names.as_slice()) {
         return Err(OrMemory::Refused(RcFault::Wildcard(number)));
     }
     Ok(ArchivesLine { number, names })
@@ -214,6 +209,7 @@ fn archives_of(alloc: Global, value: &str) -> Result<Texts, AllocError>
     Ok(names)
 }
 
+#[tactic(auto, using(crate::proofs::Searches::list_all_map))]
 pub(crate) fn all_are_paths(texts: &Texts) -> bool
     ensures { result ≡ list_all is_path texts.now }
 {
@@ -226,25 +222,13 @@ fn are_paths(texts: &[String]) -> bool
     texts.iter().all(|text| is_path(text.as_str()))
 }
 
-fn some_has_expansion(texts: &Texts) -> bool
-    ensures { result ≡ list_any has_expansion texts.now }
-{
-    have_expansion(texts.as_slice())
-}
-
-fn have_expansion(texts: &[String]) -> bool
+fn some_has_expansion(texts: &[String]) -> bool
     ensures { result ≡ list_any (λ text. has_expansion (string_bytes text)) texts.now }
 {
     texts.iter().any(|text| has_expansion(text.as_str()))
 }
 
-fn some_has_wildcard(texts: &Texts) -> bool
-    ensures { result ≡ list_any has_wildcard texts.now }
-{
-    have_wildcard(texts.as_slice())
-}
-
-fn have_wildcard(texts: &[String]) -> bool
+fn some_has_wildcard(texts: &[String]) -> bool
     ensures { result ≡ list_any (λ text. has_wildcard (string_bytes text)) texts.now }
 {
     texts.iter().any(|text| has_wildcard(text.as_str()))
