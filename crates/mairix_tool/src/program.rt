@@ -6,6 +6,7 @@ mod kept_mail;
 mod new_index;
 mod output_file;
 mod read_ahead;
+mod read_files;
 mod search;
 mod stopped;
 

@@ -5,7 +5,8 @@ ghost use Rattle.mail_index.specs.Files.{magic};
 ghost use Rattle.mail_index.specs.Tables.{IsPath};
 
 use crate::program::kept_mail::is_mail;
-use crate::program::output_file::{ReadFiles, create_file, passing_name, settle_file};
+use crate::program::output_file::{create_file, passing_name, settle_file};
+use crate::program::read_files::ReadFiles;
 use crate::program::stopped::Stopped;
 use index_run::send_index;
 use mairix_files::{Beginning, sources_of};

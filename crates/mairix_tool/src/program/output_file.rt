@@ -1,8 +1,9 @@
-//! The file that a run makes, and those that it reads.
+//! The file that a run makes.
 ghost use Rattle.std.specs.Prelude.{◌≡◌, ◌++◌, codes, IfOk, string_bytes};
 
+use crate::program::read_files::ReadFiles;
 use crate::program::stopped::Stopped;
-use mairix_files::{Beginning, NewFile, is_same_file, is_special_file};
+use mairix_files::{Beginning, NewFile, is_special_file};
 use run_faults::Fault;
 use std::alloc::{AllocError, Global};
 use std::fs::File;
@@ -53,40 +54,4 @@ pub(crate) fn settle_file<R: Files<File = File>>(
     }
     new.take_name().map_err(|_| Fault::Out)?;
     written
-}
-
-/// The files that a run reads, and in whose place it makes no other.
-#[derive(Clone, Copy)]
-pub(crate) struct ReadFiles<'a> {
-    /// The rcfile's path.
-    pub(crate) rcfile: &'a str,
-    /// The archives' paths.
-    pub(crate) archives: &'a [String],
-    /// The index's path; none where the run makes it.
-    pub(crate) database: Option<&'a str>,
-}
-
-impl<'a> ReadFiles<'a> {
-    /// Whether a name leads to one of them.
-    pub(crate) fn has<R: Files>(
-        &self,
-        rt: &R,
-        alloc: Global,
-        name: &str,
-    ) -> Result<bool, AllocError> {
-        if is_same_file(rt, alloc, name, self.rcfile)? {
-            return Ok(true);
-        }
-        if let Some(database) = self.database
-            && is_same_file(rt, alloc, name, database)?
-        {
-            return Ok(true);
-        }
-        for path in self.archives {
-            if is_same_file(rt, alloc, name, path.as_str())? {
-                return Ok(true);
-            }
-        }
-        Ok(false)
-    }
 }

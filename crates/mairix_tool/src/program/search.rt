@@ -4,7 +4,8 @@ ghost use Rattle.mairix_options.specs.Rcfile.{rc_of};
 
 use crate::once::once_run;
 use crate::program::file_archives::FileArchives;
-use crate::program::output_file::{ReadFiles, create_file, passing_name, settle_file};
+use crate::program::output_file::{create_file, passing_name, settle_file};
+use crate::program::read_files::ReadFiles;
 use crate::program::stopped::Stopped;
 use crate::reply::Reply;
 use crate::stored::search_run;
