@@ -51,7 +51,10 @@ pub fn run_program<R: Files<File = File>, W: Write, E: Write>(
     };
     match run_plan(rt, alloc, words, &plan, now, out) {
         Ok(status) => status,
-        Err(Stopped::CannotOpen(path)) => tell_unopened(path.as_str(), err),
+        Err(Stopped::CannotOpen(path)) => {
+            let _ = writeln!(err, "mairix: {CANNOT_OPEN} {path}");
+            FAILED
+        }
         Err(Stopped::Fault(fault)) => tell_fault(alloc, fault, err),
     }
 }
@@ -123,22 +126,12 @@ fn tell_usage<W: Write, E: Write>(
     Fault::Usage(fault).status()
 }
 
-/// Tells of a file that can't be opened or read.
-fn tell_unopened<E: Write>(path: &str, err: &mut E) -> u8 {
-    let _ = writeln!(err, "mairix: {CANNOT_OPEN} {path}");
-    FAILED
-}
-
 /// Prints a fault in one line. One whose text wants memory that isn't there is told as want of memory.
 fn tell_fault<E: Write>(alloc: Global, fault: Fault, err: &mut E) -> u8 {
-    match fault_text(alloc, &fault) {
-        Ok(text) => {
-            let _ = writeln!(err, "mairix: {text}");
-            fault.status()
-        }
-        Err(_) => {
-            let _ = writeln!(err, "mairix: {OUT_OF_MEMORY}");
-            Fault::Memory.status()
-        }
-    }
+    let Ok(text) = fault_text(alloc, &fault) else {
+        let _ = writeln!(err, "mairix: {OUT_OF_MEMORY}");
+        return Fault::Memory.status();
+    };
+    let _ = writeln!(err, "mairix: {text}");
+    fault.status()
 }

@@ -11,13 +11,6 @@ use std::io::ErrorKind;
 use std::rt::Files;
 use std::{fs, io};
 
-/// An open file, and the number of its path.
-#[derive(Drop)]
-struct OpenArchive {
-    number: u32,
-    file: File,
-}
-
 /// The files of some paths, of which at most one is open at a time: the one that was read last. A length is known without reading.
 /// What is no file has none, as a folder, or a path that leads nowhere.
 ///
@@ -28,7 +21,8 @@ pub(crate) struct FileArchives<'p, R: Files<File = File>> {
     paths: &'p [String],
     /// The state of each.
     states: &'p [FileState],
-    open: Option<OpenArchive>,
+    /// The number of the open one, and its file.
+    open: Option<(u32, File)>,
     /// What was read of the open one.
     ahead: ReadAhead,
     failures: u64,
@@ -84,16 +78,16 @@ impl<'p, R: Files<File = File>> FileArchives<'p, R> {
         ensures bound { IfOk result (λ bytes. bytes ≤ length into.new) }
     {
         let state = self.states[n as usize];
-        if let Some(last) = &self.open
-            && last.number == n
+        if let Some((number, file)) = &self.open
+            && *number == n
         {
-            return self.ahead.read(&last.file, state, offset, into);
+            return self.ahead.read(file, state, offset, into);
         }
         self.open = None;
         self.ahead.forget();
         let file = fs::open(self.rt, self.paths[n as usize].as_str())?;
         let read = self.ahead.read(&file, state, offset, into);
-        self.open = Some(OpenArchive { number: n, file });
+        self.open = Some((n, file));
         read
     }
 }
@@ -116,18 +110,14 @@ impl<'p, R: Files<File = File>> Archives for FileArchives<'p, R> {
     }
 
     fn length(&mut self, n: u32) -> Result<u64, DeviceFault> {
-        let Ok(length) = self.known_length(n) else {
-            self.failures += 1;
-            return Err(DeviceFault);
-        };
-        Ok(length)
+        let length = self.known_length(n);
+        self.failures += u64::from(length.is_err());
+        length.map_err(|_| DeviceFault)
     }
 
     fn read_at(&mut self, n: u32, offset: u64, into: &mut [u8]) -> Result<usize, DeviceFault> {
-        let Ok(bytes) = self.read_file(n, offset, into) else {
-            self.failures += 1;
-            return Err(DeviceFault);
-        };
-        Ok(bytes)
+        let read = self.read_file(n, offset, into);
+        self.failures += u64::from(read.is_err());
+        read.map_err(|_| DeviceFault)
     }
 }

@@ -5,10 +5,11 @@ ghost use Rattle.std.specs.Prelude.{◌≡◌, IfOk, length, vec_len};
 
 use crate::program::stopped::Stopped;
 use mairix_files::FileState;
+use run_faults::Fault;
 use std::alloc::Global;
+use std::fs;
 use std::fs::OpenFile;
 use std::rt::Files;
-use std::{fs, io};
 
 /// Opens each archive in its order, which tells whether it can be opened, and closes it again. Answers the state of each.
 ///
@@ -25,14 +26,10 @@ pub(crate) fn first_states<R: Files>(
     let mut states = Vec::new(alloc);
     for path in paths {
         let path = path.as_str();
-        let state = first_state(rt, path).map_err(|error| Stopped::by(alloc, path, &error))?;
-        states.push(state)?;
+        let found = fs::open(rt, path).and_then(|file| file.metadata());
+        let found = found.map_err(|error| Stopped::by(alloc, path, &error))?;
+        let state = FileState::of(&found);
+        states.push(state).map_err(|_| Fault::Memory)?;
     }
     Ok(states)
-}
-
-/// The state of the file of this path, which can be opened.
-fn first_state<R: Files>(rt: &R, path: &str) -> io::Result<FileState> {
-    let file = fs::open(rt, path)?;
-    Ok(FileState::of(&file.metadata()?))
 }

@@ -31,11 +31,8 @@ pub(crate) fn read_index<R: Files<File = File>>(
     let mut bytes = Vec::with_capacity(alloc, SHORTEST)?;
     file.by_ref().take(SHORTEST as u64).read_to_end(&mut bytes)?;
     if fault_of_front(&bytes).is_none() {
-        read_rest(
-            &mut file,
-            &mut bytes,
-            length.saturating_sub(SHORTEST as u64),
-        )?;
+        let rest = length.saturating_sub(SHORTEST as u64);
+        read_rest(&mut file, &mut bytes, rest)?;
     }
     Ok(bytes)
 }

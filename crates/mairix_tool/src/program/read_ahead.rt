@@ -2,7 +2,7 @@
 ghost use Rattle.std.specs.Prelude.{◌≤◌, IfOk, length};
 
 use mairix_files::FileState;
-use std::alloc::{AllocError, Global};
+use std::alloc::Global;
 use std::fs::File;
 use std::io;
 use std::os::unix::fs::FileExt;
@@ -64,7 +64,11 @@ impl ReadAhead {
                 read_in(file, state, offset, into)?
             };
         }
-        self.note(offset, read as u64);
+        if offset != self.end {
+            self.in_a_row = 0;
+        }
+        self.in_a_row = self.in_a_row.saturating_add(read as u64);
+        self.end = offset.saturating_add(read as u64);
         Ok(read)
     }
 
@@ -93,32 +97,16 @@ impl ReadAhead {
         asked: usize,
     ) -> io::Result<bool> {
         let size = self.in_a_row.min(MOST as u64) as usize;
-        if offset != self.end || size <= asked || self.make_room().is_err() {
+        if offset != self.end || size <= asked {
+            return Ok(false);
+        }
+        if self.room.len() < MOST && self.room.resize(MOST, 0).is_err() {
             return Ok(false);
         }
         self.held = 0;
         self.held = read_in(file, state, offset, &mut self.room.as_mut_slice()[..size])?;
         self.offset = offset;
         Ok(true)
-    }
-
-    /// Makes room for the largest piece.
-    fn make_room(&mut self) -> Result<(), AllocError>
-        ensures { IfOk result (λ _. 65536 ≤ length self.new.room.items) }
-    {
-        if self.room.len() < MOST {
-            self.room.resize(MOST, 0)?;
-        }
-        Ok(())
-    }
-
-    /// Notes a read.
-    fn note(&mut self, offset: u64, read: u64) {
-        if offset != self.end {
-            self.in_a_row = 0;
-        }
-        self.in_a_row = self.in_a_row.saturating_add(read);
-        self.end = offset.saturating_add(read);
     }
 }
 

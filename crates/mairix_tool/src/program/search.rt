@@ -1,5 +1,5 @@
 //! A search of archives' files.
-ghost use Rattle.std.specs.Prelude.{◌≡◌, ◌<◌, ◌^◌, ◌-◌, Ok, length};
+ghost use Rattle.std.specs.Prelude.{◌≡◌, Ok, length};
 ghost use Rattle.mairix_options.specs.Rcfile.{rc_of};
 
 use crate::once::once_run;
@@ -7,12 +7,11 @@ use crate::program::file_archives::FileArchives;
 use crate::program::output_file::{create_file, passing_name, settle_file};
 use crate::program::read_files::ReadFiles;
 use crate::program::stopped::Stopped;
-use crate::reply::Reply;
 use crate::stored::search_run;
 use mail_dates::Moment;
 use mairix_files::{Beginning, FileState, sources_in};
 use mairix_options::{Plan, Rc, answer_file};
-use mbox_cutter::{Out, ToWrite};
+use mbox_cutter::ToWrite;
 use run_faults::Fault;
 use std::alloc::Global;
 use std::fs::File;
@@ -73,30 +72,13 @@ pub(crate) fn run_search<R: Files<File = File>, W: Write>(
     Ok(settle_file(new, answered)?)
 }
 
-/// Writes the answer, and tells its status.
+/// Writes the answer of the run over the archives' files, and tells its status.
 fn answer_to<R: Files<File = File>, W: Write>(
     rt: &R,
     alloc: Global,
     search: &Search<'_>,
     out: &mut W,
 ) -> Result<u8, Fault> {
-    let reply = reply_to(rt, alloc, search, &mut ToWrite::new(&mut *out))?;
-    match reply.fault {
-        Some(fault) => Err(fault),
-        None if out.flush().is_err() => Err(Fault::Out),
-        None => Ok(reply.status),
-    }
-}
-
-/// The reply of the run over the archives' files.
-fn reply_to<R: Files<File = File>, O: Out>(
-    rt: &R,
-    alloc: Global,
-    search: &Search<'_>,
-    out: &mut O,
-) -> Result<Reply, Fault>
-    requires { O.failures out.old < 2 ^ 64 - 1 }
-{
     let Search {
         words,
         text,
@@ -107,9 +89,17 @@ fn reply_to<R: Files<File = File>, O: Out>(
     } = *search;
     let paths = rc.paths.as_slice();
     let mut archives = FileArchives::new(rt, alloc, paths, states).ok_or(Fault::TooMany)?;
-    let Some(index) = index else {
-        let mut sources = sources_in(rt, alloc, paths, states)?;
-        return Ok(once_run(alloc, words, text, &mut sources, &mut archives, now, out));
+    let sink = &mut ToWrite::new(&mut *out);
+    let reply = match index {
+        Some(index) => search_run(alloc, words, text, index, &mut archives, now, sink),
+        None => {
+            let mut sources = sources_in(rt, alloc, paths, states)?;
+            once_run(alloc, words, text, &mut sources, &mut archives, now, sink)
+        }
     };
-    Ok(search_run(alloc, words, text, index, &mut archives, now, out))
+    match reply.fault {
+        Some(fault) => Err(fault),
+        None if out.flush().is_err() => Err(Fault::Out),
+        None => Ok(reply.status),
+    }
 }

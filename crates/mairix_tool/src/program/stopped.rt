@@ -2,7 +2,7 @@
 
 use mairix_options::{OrMemory, RcFault};
 use run_faults::Fault;
-use std::alloc::{AllocError, AllocFailed, Global};
+use std::alloc::{AllocError, Global};
 use std::io;
 use std::io::ErrorKind;
 
@@ -35,12 +35,6 @@ impl Stopped {
 
 impl From<AllocError> for Stopped {
     fn from(_: AllocError) -> Self {
-        Stopped::Fault(Fault::Memory)
-    }
-}
-
-impl<T: Drop> From<AllocFailed<T>> for Stopped {
-    fn from(_: AllocFailed<T>) -> Self {
         Stopped::Fault(Fault::Memory)
     }
 }
