@@ -5,7 +5,7 @@ ghost use Rattle.run_faults.specs.FaultTexts.{text_of_fault, text_of_kind, text_
 
 use crate::fault::Fault;
 use mail_index::{IndexFault, Section};
-use mail_query::{QueryFault, QueryFaultKind};
+use mail_query::QueryFaultKind;
 use mbox_cutter::CutFault;
 use std::alloc::{AllocError, Global};
 use std::error::Error;
@@ -34,15 +34,10 @@ impl fmt::Display for Fault {
         let (what, number, reason) = match *self {
             Fault::Usage(fault) => return fault.fmt(f),
             Fault::Rc(fault) => return fault.fmt(f),
-            Fault::Query(
-                QueryFault {
-                    kind: QueryFaultKind::OutOfMemory,
-                    ..
-                },
-            ) => return f.write_str(OUT_OF_MEMORY),
-            Fault::Query(QueryFault { number, kind }) => {
-                ("query item", number as u128, kind_text(kind))
+            Fault::Query(fault) if matches!(fault.kind, QueryFaultKind::OutOfMemory) => {
+                return f.write_str(OUT_OF_MEMORY);
             }
+            Fault::Query(fault) => ("query item", fault.number as u128, kind_text(fault.kind)),
             Fault::Archive { number, fault } => {
                 ("archive", u128::from(number) + 1, cut_text(fault))
             }

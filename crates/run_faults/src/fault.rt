@@ -63,12 +63,7 @@ impl Fault {
     {
         match self {
             Fault::Usage(UsageFault::Help | UsageFault::Version) => DONE,
-            Fault::Query(
-                QueryFault {
-                    kind: QueryFaultKind::OutOfMemory,
-                    ..
-                },
-            ) => NO_ROOM,
+            Fault::Query(fault) if matches!(fault.kind, QueryFaultKind::OutOfMemory) => NO_ROOM,
             Fault::Usage(_) | Fault::Rc(_) | Fault::Query(_) => REFUSED,
             Fault::Archive {
                 fault: CutFault::ArchiveTooLong,
