@@ -27,3 +27,7 @@ module _ (p : ℕ → Bool) where
       go : (t : Bool) → (part : List ℕ) × (parts : List (List ℕ)) × (slice_split p xs ≡ part ∷ parts) → (part : List ℕ) × (parts : List (List ℕ)) × (cond t ([] ∷ slice_split p xs) (onto_first x (slice_split p xs)) ≡ part ∷ parts)
       go true r = ([], slice_split p xs, refl)
       go false r = (x ∷ r.0, r.1, rw r.2 refl)
+
+  -- a list that is cut three times has four parts and more
+  pub split_four : (xs first ys second zs third ws : List ℕ) → slice_split p xs ≡ first ∷ slice_split p ys → slice_split p ys ≡ second ∷ slice_split p zs → slice_split p zs ≡ third ∷ slice_split p ws → (fourth : List ℕ) × (rest : List (List ℕ)) × (slice_split p xs ≡ first ∷ second ∷ third ∷ fourth ∷ rest)
+  split_four xs first ys second zs third ws e f g = let front = split_front ws in (front.0, front.1, rw (e, f, g, front.2) refl)

@@ -7,7 +7,6 @@ use Rattle.mail_dates.specs.declared.fault.DateFault.{DateFault}
 use Rattle.mail_dates.specs.declared.fault.DateFault.TheVariants.{BadDate}
 use Rattle.mail_dates.specs.declared.days.Days.{Days}
 use Rattle.mail_dates.specs.declared.range.Range.{Range}
-use Rattle.mail_dates.specs.declared.range_of_days.End.{End}
 use Rattle.mail_dates.specs.Calendar.{day_number, start_of_day, end_of_day}
 use Rattle.mail_dates.specs.Periods.{period_of, period_days_by}
 
@@ -31,12 +30,12 @@ module _ (day_number : ℤ → ℕ → ℕ → Option ℤ) where
   named_days_by today by text =
       period_of text >>= (λ period. ok_or (period_days_by day_number today by period) BadDate)
 
-  -- an empty end is now
-  abbrev pub end_by : ℕ → List ℕ → Result End DateFault
-  end_by now [] = Ok (record { day = pos (now / 86400); second = pos now })
+  -- an end's last day, and its last second; an empty one is now
+  abbrev pub end_by : ℕ → List ℕ → Result (ℤ × ℤ) DateFault
+  end_by now [] = Ok (pos (now / 86400), pos now)
   end_by now text = do
     days ← named_days_by (pos (now / 86400)) (pos (now / 86400)) text
-    Ok (record { day = days.last; second = end_of_day days.last })
+    Ok (days.last, end_of_day days.last)
 
   -- an empty start is no bound; one without a year begins by the end's day
   abbrev pub start_by : ℕ → ℤ → List ℕ → Result (Option ℤ) DateFault
@@ -50,8 +49,8 @@ module _ (day_number : ℤ → ℕ → ℕ → Option ℤ) where
   range_between_by now [] [] = Err BadDate
   range_between_by now start end = do
     end ← end_by now end
-    from ← start_by now end.day start
-    Ok (record { from = from; until = Some end.second })
+    from ← start_by now end.0 start
+    Ok (record { from = from; until = Some end.1 })
 
   abbrev pub range_of_period_by : ℕ → List ℕ → Result Range DateFault
   range_of_period_by now text = do

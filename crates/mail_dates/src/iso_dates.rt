@@ -3,7 +3,7 @@
 ghost use Rattle.std.specs.Prelude.{◌≡◌};
 ghost use Rattle.std.specs.List.{slice_split};
 ghost use Rattle.mail_dates.specs.Calendar.{day_number};
-ghost use Rattle.mail_dates.specs.IsoRanges.{is_dot, iso_days_by, iso_month_by, iso_day_by, iso_range_of_one_by, iso_range_of_parts_by, iso_since_by, iso_until_by, iso_between_by, iso_range_of};
+ghost use Rattle.mail_dates.specs.IsoRanges.{is_dot, iso_days_by, iso_month_by, iso_day_by, iso_range_of_parts_by, iso_between_by, iso_range_of};
 
 use crate::days::{Days, DaysOfYear};
 use crate::fault::DateFault;
@@ -21,35 +21,23 @@ use crate::text::cut;
 pub fn iso_range(spec: &str) -> Result<Range, DateFault>
     ensures { result ≡ iso_range_of spec.now }
 {
-    let text = spec.as_bytes();
-    range_of_text(text).ok_or(DateFault::BadDate)
+    range_of_text(spec.as_bytes()).ok_or(DateFault::BadDate)
 }
 
 fn range_of_text(text: &[u8]) -> Option<Range>
     ensures { result ≡ iso_range_of_parts_by day_number (slice_split is_dot text.now) }
 {
     let Some((since, rest)) = cut(text, b'.') else {
-        return range_of_one(text);
+        return Some(range_of_days(days_of(text)?));
     };
-    match cut(rest, b'.') {
-        None => None,
-        Some((between, until)) => {
-            if !between.is_empty() {
-                return None;
-            }
-            match cut(until, b'.') {
-                None => range_between(since, until),
-                Some(_) => None,
-            }
-        }
+    let (between, until) = cut(rest, b'.')?;
+    if !between.is_empty() {
+        return None;
     }
-}
-
-fn range_of_one(text: &[u8]) -> Option<Range>
-    ensures { result ≡ iso_range_of_one_by day_number text.now }
-{
-    let days = days_of(text)?;
-    Some(range_of_days(days))
+    match cut(until, b'.') {
+        None => range_between(since, until),
+        Some(_) => None,
+    }
 }
 
 fn range_between(since: &[u8], until: &[u8]) -> Option<Range>
@@ -58,29 +46,17 @@ fn range_between(since: &[u8], until: &[u8]) -> Option<Range>
     if since.is_empty() && until.is_empty() {
         return None;
     }
-    let from = since_of(since)?;
-    let until = until_of(until)?;
+    let from = if since.is_empty() {
+        None
+    } else {
+        Some(start_of_day(days_of(since)?.first))
+    };
+    let until = if until.is_empty() {
+        None
+    } else {
+        Some(end_of_day(days_of(until)?.last))
+    };
     Some(Range { from, until })
-}
-
-fn since_of(text: &[u8]) -> Option<Option<i64>>
-    ensures { result ≡ iso_since_by day_number text.now }
-{
-    if text.is_empty() {
-        return Some(None);
-    }
-    let days = days_of(text)?;
-    Some(Some(start_of_day(days.first)))
-}
-
-fn until_of(text: &[u8]) -> Option<Option<i64>>
-    ensures { result ≡ iso_until_by day_number text.now }
-{
-    if text.is_empty() {
-        return Some(None);
-    }
-    let days = days_of(text)?;
-    Some(Some(end_of_day(days.last)))
 }
 
 /// The days of an expression.

@@ -2,7 +2,7 @@
 
 ghost use Rattle.std.specs.Prelude.{◌≡◌, ◌≤ℤ◌, pos, Ok, Err};
 ghost use Rattle.mail_dates.specs.Calendar.{day_number, start_of_day, end_of_day};
-ghost use Rattle.mail_dates.specs.Ranges.{named_days_by, end_by, start_by, range_between_by, range_of_period_by, range_of_days, range_at};
+ghost use Rattle.mail_dates.specs.Ranges.{named_days_by, start_by, range_between_by, range_of_period_by, range_of_days, range_at};
 
 use crate::days::Days;
 use crate::fault::DateFault;
@@ -66,41 +66,23 @@ pub fn end_of_day(day: i32) -> i64
     i64::from(day) * 86_400 + 86_399
 }
 
-/// An end: its last day, and its last second.
-#[derive(Clone, Copy)]
-struct End {
-    day: i32,
-    second: i64,
-}
-
 fn range_between(now: Moment, start: &[u8], end: &[u8]) -> Result<Range, DateFault>
     ensures { result ≡ range_between_by day_number now start.now end.now }
 {
     if start.is_empty() && end.is_empty() {
         return Err(DateFault::BadDate);
     }
-    let end = end_at(now, end)?;
-    let from = start_at(now, end.day, start)?;
+    let today = now.day();
+    let (end_day, until) = if end.is_empty() {
+        (today, now.second())
+    } else {
+        let day = named_days(today, today, end)?.last;
+        (day, end_of_day(day))
+    };
+    let from = start_at(now, end_day, start)?;
     Ok(Range {
         from,
-        until: Some(end.second),
-    })
-}
-
-fn end_at(now: Moment, text: &[u8]) -> Result<End, DateFault>
-    ensures { result ≡ end_by day_number now text.now }
-{
-    let today = now.day();
-    if text.is_empty() {
-        return Ok(End {
-            day: today,
-            second: now.second(),
-        });
-    }
-    let days = named_days(today, today, text)?;
-    Ok(End {
-        day: days.last,
-        second: end_of_day(days.last),
+        until: Some(until),
     })
 }
 

@@ -1,5 +1,5 @@
-use Rattle.mail_dates.proofs.Words.{◌≡◌, ℕ, List, [], ◌∷◌, Option, None, refl, sym, ◌∙◌, ap, slice_split, time_of, time_by, time_of_parts, is_colon}
-use Rattle.mail_dates.proofs.Cuts.{split_front}
+use Rattle.mail_dates.proofs.Words.{◌≡◌, ℕ, List, [], ◌∷◌, Option, refl, sym, ◌∙◌, ap, slice_split, time_of, time_by, time_of_parts, is_colon}
+use Rattle.mail_dates.proofs.Cuts.{split_four}
 use Rattle.mail_dates.proofs.time_of_day.time_of.Goals as goal
 
 -- two parts, or three
@@ -10,13 +10,6 @@ two token hour rest e f = rw (e, f) refl
 three : (token hour rest minute second : List ℕ) → slice_split is_colon token ≡ hour ∷ slice_split is_colon rest → slice_split is_colon rest ≡ minute ∷ slice_split is_colon second → time_of token ≡ time_of_parts (hour ∷ minute ∷ slice_split is_colon second)
 unfolding time_of
 three token hour rest minute second e f = rw (e, f) refl
-
--- four parts and more are of no form
-too_many : (token hour rest minute second third fourth : List ℕ) → slice_split is_colon token ≡ hour ∷ slice_split is_colon rest → slice_split is_colon rest ≡ minute ∷ slice_split is_colon second → slice_split is_colon second ≡ third ∷ slice_split is_colon fourth → None ≡ time_of token
-unfolding time_of
-too_many token hour rest minute second third fourth e f g =
-    let front = split_front is_colon fourth in
-    rw (e, f, g, front.2) refl
 
 pub returns-in_err-hour : goal.returns-in_err-hour
 unfolding time_of
@@ -33,6 +26,9 @@ returns-in-None-cut c =
     ∙ ap (λ (second : Option ℕ). time_by c.in_ok-hour.hour.now c.in-Some.minute.now second) c.number_in.ensures.value
     ∙ sym (rw c.in-None-cut.ensures at whole)
 
+-- four parts and more are of no form
 pub returns-in-Some-cut : goal.returns-in-Some-cut
+unfolding time_of
 returns-in-Some-cut c =
-    too_many c.args.token.now c.in_ok-hour.hour.now c.in_ok-hour.rest.now c.in-Some.minute.now c.in-Some.second.now c.in-Some-cut.field-0.0.now c.in-Some-cut.field-0.1.now c.in_ok-hour.ensures c.in-Some.ensures c.in-Some-cut.ensures
+    let four = split_four is_colon c.args.token.now c.in_ok-hour.hour.now c.in_ok-hour.rest.now c.in-Some.minute.now c.in-Some.second.now c.in-Some-cut.field-0.0.now c.in-Some-cut.field-0.1.now c.in_ok-hour.ensures c.in-Some.ensures c.in-Some-cut.ensures in
+    ap time_of_parts (sym four.2)
