@@ -1,6 +1,6 @@
 -- Days and seconds of UTC on the proleptic Gregorian calendar (ISO 8601), where year 0 is a leap year.
-use Rattle.std.specs.Prelude.{◌≡◌, ℕ, zero, suc, nat_le, Bool, true, false, ◌&&◌, IsTrue, ℤ, pos, negsuc, ◌+ℤ◌, ◌-ℤ◌, ◌*ℤ◌, ◌≤ℤ◌, ◌<ℤ◌, unsigned_abs, List, [], ◌∷◌, Option, Some, None, if◌then◌else◌, option_map, position, bytes_eq, codes}
-use Rattle.std.specs.Str.{str_to_ascii_lowercase}
+use Rattle.std.specs.Prelude.{◌≡◌, ℕ, zero, suc, nat_le, Bool, true, false, ◌&&◌, IsTrue, ℤ, pos, negsuc, ◌+ℤ◌, ◌-ℤ◌, ◌*ℤ◌, ◌≤ℤ◌, ◌<ℤ◌, unsigned_abs, List, [], ◌∷◌, Option, Some, None, if◌then◌else◌, option_map, position, codes}
+use Rattle.std.specs.Str.{str_eq_ignore_ascii_case}
 use Rattle.jiff_core.specs.Calendar.{days_from_civil, days_in_month}
 
 -- from 1970-01-01T00:00:00Z to 9999-12-31T23:59:59Z
@@ -31,9 +31,7 @@ month_names =
 
 -- the month that three letters stand for, in either case
 unfoldable pub month_of : List ℕ → Option ℕ
-month_of (a ∷ b ∷ c ∷ []) =
-    option_map suc (position (λ name. bytes_eq name (str_to_ascii_lowercase (a ∷ b ∷ c ∷ []))) month_names)
-month_of _ = None
+month_of name = option_map suc (position (str_eq_ignore_ascii_case name) month_names)
 
 -- the greatest number below a limit that passes
 abbrev pub greatest_below : ℕ → (ℕ → Bool) → Option ℕ

@@ -45,17 +45,15 @@ has_long_count text =
     is_some (last_unit text) && nat_lt 4 (length (before_last_letter text)) && list_all is_ascii_digit (before_last_letter text)
 
 -- YYYYMMDD
-abbrev pub full_date_of : Option ℕ → Option ℕ → Option ℕ → Option Period
-full_date_of year month day = do
-  year ← year
-  month ← month
-  day ← day
+abbrev pub full_date_of : List ℕ → Option Period
+full_date_of text = do
+  year ← number_in 4 4 (take 4 text)
+  month ← number_in 2 2 (slice_range text 4 6)
+  day ← number_in 2 2 (drop 6 text)
   Some (InYear (pos year) (days.Day month day))
 
 abbrev pub full_date : List ℕ → Option Period
-full_date text =
-    if length text == 8 then full_date_of (number_in 4 4 (take 4 text)) (number_in 2 2 (slice_range text 4 6)) (number_in 2 2 (drop 6 text))
-    else None
+full_date text = if length text == 8 then full_date_of text else None
 
 -- YYYY
 abbrev pub whole_year : List ℕ → Option Period

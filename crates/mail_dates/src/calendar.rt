@@ -1,6 +1,7 @@
 //! Days of the calendar by their numbers, and the names of months.
 
-ghost use Rattle.std.specs.Prelude.{◌≡◌, ◌≤◌, ◌<◌, IfSome, position, bytes_eq};
+ghost use Rattle.std.specs.Prelude.{◌≡◌, ◌≤◌, ◌<◌, IfSome, position};
+ghost use Rattle.std.specs.Str.{str_eq_ignore_ascii_case};
 ghost use Rattle.jiff_core.specs.Calendar.{IsEpochDay};
 ghost use Rattle.mail_dates.specs.Calendar.{day_number, month_names, month_of, HasNoLater};
 
@@ -42,18 +43,14 @@ pub fn month_of(name: &[u8]) -> Option<u8>
     ensures value { result ≡ month_of name.now }
     ensures bound { IfSome result (λ month. month ≤ 12) }
 {
-    let [a, b, c] = name else { return None };
-    let lower = [
-        a.to_ascii_lowercase(),
-        b.to_ascii_lowercase(),
-        c.to_ascii_lowercase(),
-    ];
-    Some(index_of_month(lower)? as u8 + 1)
+    Some(index_of_month(name)? as u8 + 1)
 }
 
-fn index_of_month(lower: [u8; 3]) -> Option<usize>
-    ensures value { result ≡ position (λ name. bytes_eq name lower) month_names }
+fn index_of_month(name: &[u8]) -> Option<usize>
+    ensures value { result ≡ position (str_eq_ignore_ascii_case name.now) month_names }
     ensures bound { IfSome result (λ index. index < 12) }
 {
-    MONTH_NAMES.iter().position(|name| *name == lower)
+    MONTH_NAMES
+        .iter()
+        .position(|month| name.eq_ignore_ascii_case(month))
 }

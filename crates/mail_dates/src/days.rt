@@ -2,7 +2,7 @@
 
 ghost use Rattle.std.specs.Prelude.{◌≡◌};
 ghost use Rattle.mail_dates.specs.Calendar.{day_number};
-ghost use Rattle.mail_dates.specs.Periods.{one_day, days_from_to, days_in_by, latest_days_by, begin_by};
+ghost use Rattle.mail_dates.specs.Periods.{days_in_by, latest_days_by, begin_by};
 
 use crate::calendar::{day_number, year_of_day};
 use jiff_core::civil::days_in_month;
@@ -12,26 +12,6 @@ use jiff_core::civil::days_in_month;
 pub struct Days {
     pub first: i32,
     pub last: i32,
-}
-
-impl Days {
-    /// A single day.
-    pub fn one(day: i32) -> Days
-        ensures { result ≡ one_day day }
-    {
-        Days {
-            first: day,
-            last: day,
-        }
-    }
-
-    fn from_to(first: Option<i32>, last: Option<i32>) -> Option<Days>
-        ensures { result ≡ days_from_to first last }
-    {
-        let first = first?;
-        let last = last?;
-        Some(Days { first, last })
-    }
 }
 
 /// Days that years have.
@@ -50,16 +30,19 @@ impl DaysOfYear {
     pub fn in_year(self, year: i16) -> Option<Days>
         ensures { result ≡ days_in_by day_number self year }
     {
-        match self {
-            DaysOfYear::All => Days::from_to(day_number(year, 1, 1), day_number(year, 12, 31)),
-            DaysOfYear::Month(month) => Days::from_to(
+        let (first, last) = match self {
+            DaysOfYear::All => (day_number(year, 1, 1), day_number(year, 12, 31)),
+            DaysOfYear::Month(month) => (
                 day_number(year, month, 1),
                 day_number(year, month, days_in_month(year, month)),
             ),
             DaysOfYear::Day { month, day } => {
-                Days::from_to(day_number(year, month, day), day_number(year, month, day))
+                let number = day_number(year, month, day);
+                (number, number)
             }
-        }
+        };
+        let (first, last) = (first?, last?);
+        Some(Days { first, last })
     }
 
     /// Those of the latest year that has them and in which they begin by this day.

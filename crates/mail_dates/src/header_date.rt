@@ -1,8 +1,8 @@
 //! The date of a Date field (RFC 5322 3.3, and its obsolete forms, 4.3).
 
-ghost use Rattle.std.specs.Prelude.{◌≡◌, ◌<◌, ◌≤◌, ◌∷◌, IfSome};
+ghost use Rattle.std.specs.Prelude.{◌≡◌, ◌<◌, ◌∷◌, IfSome};
 ghost use Rattle.mail_dates.specs.Calendar.{day_number};
-ghost use Rattle.mail_dates.specs.HeaderDates.{year_with_century, year_of, tokens, zone_offset, date_of_parts_by, date_of_tokens_by, date_of};
+ghost use Rattle.mail_dates.specs.HeaderDates.{year_of, tokens, date_of_parts_by, date_of_tokens_by, date_of};
 
 use crate::calendar::{day_number, month_of};
 use crate::number::number_in;
@@ -34,15 +34,8 @@ fn date_from(day: &[u8], rest: &[u8]) -> Option<i64>
     let (month, rest) = next_token(rest)?;
     let (year, rest) = next_token(rest)?;
     let (time, rest) = next_token(rest)?;
-    let offset = offset_of_first(rest);
+    let offset = next_token(rest).map_or(0, |(zone, _)| offset_of(zone));
     date_of_parts(day, month, year, time, offset)
-}
-
-/// The offset of the zone that the rest begins with, if there is one.
-fn offset_of_first(rest: &[u8]) -> i32
-    ensures { result ≡ zone_offset (tokens rest.now) }
-{
-    next_token(rest).map_or(0, |(zone, _)| offset_of(zone))
 }
 
 fn date_of_parts(day: &[u8], month: &[u8], year: &[u8], time: &[u8], offset: i32) -> Option<i64>
@@ -62,16 +55,9 @@ fn year_of(token: &[u8]) -> Option<u16>
     ensures bound { IfSome result (λ year. year < 12000) }
 {
     let year = number_in(2, 4, token)?;
-    Some(year_with_century(token.len(), year))
-}
-
-fn year_with_century(digits: usize, year: u16) -> u16
-    requires { year < 10000 }
-    ensures { result ≡ year_with_century digits year }
-{
-    match digits {
+    Some(match token.len() {
         4 => year,
         2 if year < 50 => year + 2000,
         _ => year + 1900,
-    }
+    })
 }

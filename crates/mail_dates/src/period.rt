@@ -1,8 +1,8 @@
 //! Periods of days, as a range names them.
 
-ghost use Rattle.std.specs.Prelude.{◌≡◌, ◌*◌, ◌≤◌, ◌≤ℤ◌, pos, IfSome};
+ghost use Rattle.std.specs.Prelude.{◌≡◌, ◌≤◌, ◌≤ℤ◌, pos};
 ghost use Rattle.mail_dates.specs.Calendar.{day_number};
-ghost use Rattle.mail_dates.specs.Periods.{unit_of, days_in_unit, ago, has_long_count, full_date_of, full_date, whole_year, yearly_month, day_of, yearly_day, day_and_month, month_and_day, period_of, period_days_by};
+ghost use Rattle.mail_dates.specs.Periods.{unit_of, days_in_unit, ago, has_long_count, full_date, whole_year, yearly_month, day_of, yearly_day, day_and_month, month_and_day, period_of, period_days_by};
 
 use crate::calendar::month_of;
 use crate::days::{Days, DaysOfYear};
@@ -47,7 +47,6 @@ impl Unit {
 }
 
 /// A period of days.
-#[derive(Clone, Copy)]
 pub enum Period {
     /// The day so long before today.
     Ago { count: u16, unit: Unit },
@@ -81,9 +80,13 @@ impl Period {
         ensures { result ≡ period_days_by day_number today by self }
     {
         match self {
-            Period::Ago { count, unit } => Some(Days::one(
-                today - i32::from(count) * i32::from(unit.days()),
-            )),
+            Period::Ago { count, unit } => {
+                let day = today - i32::from(count) * i32::from(unit.days());
+                Some(Days {
+                    first: day,
+                    last: day,
+                })
+            }
             Period::InYear { year, days } => days.in_year(year),
             Period::Yearly(days) => days.latest(by),
         }
@@ -119,22 +122,9 @@ fn full_date(text: &[u8]) -> Option<Period>
     if text.len() != 8 {
         return None;
     }
-    full_date_of(
-        number_in(4, 4, &text[..4]),
-        number_in(2, 2, &text[4..6]),
-        number_in(2, 2, &text[6..]),
-    )
-}
-
-fn full_date_of(year: Option<u16>, month: Option<u16>, day: Option<u16>) -> Option<Period>
-    requires year { IfSome year (λ year. year ≤ 9999) }
-    requires month { IfSome month (λ month. month ≤ 99) }
-    requires day { IfSome day (λ day. day ≤ 99) }
-    ensures { result ≡ full_date_of year month day }
-{
-    let year = year? as i16;
-    let month = month? as u8;
-    let day = day? as u8;
+    let year = number_in(4, 4, &text[..4])? as i16;
+    let month = number_in(2, 2, &text[4..6])? as u8;
+    let day = number_in(2, 2, &text[6..])? as u8;
     Some(Period::InYear {
         year,
         days: DaysOfYear::Day { month, day },
@@ -145,9 +135,9 @@ fn full_date_of(year: Option<u16>, month: Option<u16>, day: Option<u16>) -> Opti
 fn whole_year(text: &[u8]) -> Option<Period>
     ensures { result ≡ whole_year text.now }
 {
-    let year = number_in(4, 4, text)?;
+    let year = number_in(4, 4, text)? as i16;
     Some(Period::InYear {
-        year: year as i16,
+        year,
         days: DaysOfYear::All,
     })
 }
@@ -190,9 +180,5 @@ fn day_of(text: &[u8]) -> Option<u8>
 {
     let [first, ..] = text else { return None };
     let day = number_in(1, 2, text)?;
-    if *first != b'0' && day <= 31 {
-        Some(day as u8)
-    } else {
-        None
-    }
+    (*first != b'0' && day <= 31).then_some(day as u8)
 }

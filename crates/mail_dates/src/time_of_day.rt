@@ -1,7 +1,7 @@
 //! Times of day.
 
-ghost use Rattle.std.specs.Prelude.{◌≡◌, ◌≤◌, IfSome};
-ghost use Rattle.mail_dates.specs.HeaderDates.{second_of_day, time_by, time_of};
+ghost use Rattle.std.specs.Prelude.{◌≡◌};
+ghost use Rattle.mail_dates.specs.HeaderDates.{time_by, time_of};
 
 use crate::number::number_in;
 use crate::text::cut;
@@ -25,12 +25,7 @@ fn time_by(hour: &[u8], minute: &[u8], second: Option<u16>) -> Option<u32>
 {
     let hour = number_in(1, 2, hour)?;
     let minute = number_in(2, 2, minute)?;
-    second_of_day(hour, minute, second?)
-}
-
-fn second_of_day(hour: u16, minute: u16, second: u16) -> Option<u32>
-    ensures { result ≡ second_of_day hour minute second }
-{
+    let second = second?;
     if hour <= 23 && minute <= 59 && second <= 60 {
         Some(u32::from(hour) * 3600 + u32::from(minute) * 60 + u32::from(second))
     } else {

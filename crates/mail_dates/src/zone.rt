@@ -57,17 +57,11 @@ fn hours_west(name: &[u8]) -> u8
     ensures bound { result < 9 }
 {
     let [a, b, c] = name else { return 0 };
-    hours_of_zone([
+    let lower = [
         a.to_ascii_lowercase(),
         b.to_ascii_lowercase(),
         c.to_ascii_lowercase(),
-    ])
-}
-
-fn hours_of_zone(lower: [u8; 3]) -> u8
-    ensures { result
-        ≡ option_map_or (λ zone. zone.1) (find (λ zone. bytes_eq zone.0 lower) zones) 0 }
-{
+    ];
     zone_named(lower).map_or(0, |zone| zone.1)
 }
 
