@@ -146,8 +146,7 @@ fn whole_year(text: &[u8]) -> Option<Period>
 fn yearly_month(text: &[u8]) -> Option<Period>
     ensures { result ≡ yearly_month text.now }
 {
-    let month = month_of(text)?;
-    Some(Period::Yearly(DaysOfYear::Month(month)))
+    Some(Period::Yearly(DaysOfYear::Month(month_of(text)?)))
 }
 
 /// A day and a month's name.
