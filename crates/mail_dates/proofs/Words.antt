@@ -12,7 +12,7 @@ unfoldable pub use Rattle.mail_dates.specs.IsoRanges.{iso_days_by, iso_range_of}
 pub use Rattle.mail_dates.specs.Numbers.{number_in, ◌>>=◌}
 pub use Rattle.mail_dates.specs.Periods.{begin_by, days_from_to, days_in_by, fit_by}
 unfoldable pub use Rattle.mail_dates.specs.Periods.{latest_days_by, period_of}
-pub use Rattle.mail_dates.specs.Ranges.{has_date, is_dash, range_between_by, range_by, range_of_parts_by, range_of_period_by}
+pub use Rattle.mail_dates.specs.Ranges.{has_date, is_dash, range_by, range_of_parts_by}
 unfoldable pub use Rattle.mail_dates.specs.Ranges.{range_at}
 pub use Rattle.mail_dates.specs.declared.fault.DateFault.{DateFault}
 pub use Rattle.mail_dates.specs.declared.fault.DateFault.TheVariants.{BadDate, BadNumber}
