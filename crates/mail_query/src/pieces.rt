@@ -1,6 +1,5 @@
 //! Pieces of a text.
 ghost use Rattle.std.specs.Prelude.{◌≡◌, ◌<◌, option_map, option_copied};
-ghost use Rattle.std.specs.Str.{str_eq_ignore_ascii_case};
 ghost use Rattle.mail_query.specs.Pieces.{cut, without_first, without_last, without_angles};
 
 /// The text before the first such character, and the text behind it.
@@ -35,11 +34,4 @@ pub(crate) fn without_angles(text: &str) -> &str
     behind
         .and_then(|rest| without_last(rest, '>'))
         .unwrap_or(text)
-}
-
-/// Whether the two texts are one but for the case of ASCII letters.
-pub(crate) fn is_in_any_case(text: &str, word: &str) -> bool
-    ensures { result ≡ str_eq_ignore_ascii_case text.now word.now }
-{
-    text.eq_ignore_ascii_case(word)
 }

@@ -1,7 +1,7 @@
 //! Sizes, as a pattern names them.
 ghost use Rattle.std.specs.Prelude.{◌≡◌, option_map};
 ghost use Rattle.mail_query.specs.Query.{query_of};
-ghost use Rattle.mail_query.specs.Sizes.{factor_of, scaled, size_of, low_of, high_of, sizes_of};
+ghost use Rattle.mail_query.specs.Sizes.{factor_of, scaled, size_of, sizes_of};
 
 use crate::node::Node;
 use crate::pieces::cut;
@@ -16,29 +16,15 @@ pub(crate) fn sizes_of(text: &str) -> Option<Node>
     ensures { option_map query_of result ≡ sizes_of text.now }
 {
     let (low, high) = cut(text, '-')?;
-    let low = low_of(low.as_bytes())?;
-    let high = high_of(high.as_bytes())?;
+    let low = match low.as_bytes() {
+        [] => 0,
+        digits => size_of(digits)?,
+    };
+    let high = match high.as_bytes() {
+        [] => None,
+        digits => Some(size_of(digits)?),
+    };
     Some(Node::Size { low, high })
-}
-
-fn low_of(text: &[u8]) -> Option<u64>
-    ensures { result ≡ low_of text.now }
-{
-    if text.is_empty() {
-        Some(0)
-    } else {
-        size_of(text)
-    }
-}
-
-fn high_of(text: &[u8]) -> Option<Option<u64>>
-    ensures { result ≡ high_of text.now }
-{
-    if text.is_empty() {
-        Some(None)
-    } else {
-        size_of(text).map(Some)
-    }
 }
 
 /// One digit to 18, and then a letter that multiplies them or none.

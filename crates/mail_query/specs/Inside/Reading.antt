@@ -17,6 +17,3 @@ mail_forms kinds = record {
 abbrev pub forms_of : Target → Forms
 forms_of (Words kinds) = mail_forms kinds
 forms_of OwnId = id_forms
-
-abbrev pub target_kinds : Target → Kinds
-target_kinds target = (forms_of target).kinds

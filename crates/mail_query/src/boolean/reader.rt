@@ -8,7 +8,7 @@ ghost use Rattle.mail_query.specs.Inside.Shown.{shown, shown_level, shown_waitin
 ghost use Rattle.mail_query.specs.BooleanReading.{start, placed, deeper, closed, ended, step, term_step, cut_term_step, is_negated, has_open};
 
 use crate::boolean::field::{Field, Fields, field_of};
-use crate::boolean::term::{is_phrase, read_parts};
+use crate::boolean::term::read_parts;
 use crate::boolean::token::Token;
 use crate::fault::QueryFaultKind;
 use crate::node::{Node, all_of, either_of, negated};
@@ -28,7 +28,7 @@ pub(crate) struct Level {
 }
 
 impl Level {
-    ghost use Rattle.mail_query.specs.BooleanReading.{empty_level, with_member, noted, run_ended, each_ended, level_query};
+    ghost use Rattle.mail_query.specs.BooleanReading.{empty_level, each_ended, level_query};
 
     fn empty(alloc: Global) -> Level
         ensures { shown_level result ≡ empty_level }
@@ -40,29 +40,6 @@ impl Level {
         }
     }
 
-    /// A plain term's prefix is seen in its run; a term under `not` is none.
-    fn noted(mut self, negated: bool, prefix: Option<Field>) -> Level
-        ensures { shown_level result ≡ noted negated prefix (shown_level self) }
-    {
-        self.seen = self.seen.with(if negated { None } else { prefix });
-        self
-    }
-
-    fn with_member(mut self, node: Node) -> Result<Level, AllocError>
-        ensures { IfOk result
-            (λ level. shown_level level ≡ with_member (shown_level self) (query_of node)) }
-    {
-        self.members.push(node)?;
-        Ok(self)
-    }
-
-    fn run_ended(mut self) -> Level
-        ensures { shown_level result ≡ run_ended (shown_level self) }
-    {
-        self.seen = Fields::NONE;
-        self
-    }
-
     fn each_ended(self, alloc: Global) -> Result<Level, AllocError>
         ensures { IfOk result (λ level. shown_level level ≡ each_ended (shown_level self)) }
     {
@@ -70,8 +47,7 @@ impl Level {
         eaches.push(all_of(self.members))?;
         Ok(Level {
             eaches,
-            members: Vec::new(alloc),
-            seen: Fields::NONE,
+            ..Level::empty(alloc)
         })
     }
 
@@ -113,7 +89,7 @@ pub(crate) fn new_reader(alloc: Global) -> Reader
 /// What is read with one token more.
 pub(crate) fn read_token(
     alloc: Global,
-    reader: Reader,
+    mut reader: Reader,
     token: Token<'_>,
 ) -> Result<Reader, QueryFaultKind>
     ensures { Gives shown kind_refusal result
@@ -129,11 +105,11 @@ pub(crate) fn read_token(
         ),
         Token::Close => read_close(alloc, reader),
         Token::And | Token::Or if reader.wanted => Err(QueryFaultKind::MissingTerm),
-        Token::And => Ok(Reader {
-            waiting: reader.waiting,
-            level: reader.level.run_ended(),
-            wanted: true,
-        }),
+        Token::And => {
+            reader.level.seen = Fields::NONE;
+            reader.wanted = true;
+            Ok(reader)
+        }
         Token::Or => Ok(Reader {
             waiting: reader.waiting,
             level: reader.level.each_ended(alloc)?,
@@ -158,15 +134,15 @@ pub(crate) fn read_end(reader: Reader) -> Result<Node, QueryFaultKind>
 fn read_term(alloc: Global, reader: Reader, term: &str) -> Result<Reader, QueryFaultKind>
     ensures { Gives shown kind_refusal result (term_step boolean_lexicon (shown reader) term.now) }
 {
-    if is_phrase(term) {
+    if term.as_bytes().contains(&b'"') {
         return Err(QueryFaultKind::Phrase);
     }
     match cut(term, ':') {
         None => read_cut_term(alloc, reader, None, term),
-        Some((name, rest)) => match field_of(name) {
-            None => Err(QueryFaultKind::BadPrefix),
-            Some(field) => read_cut_term(alloc, reader, Some(field), rest),
-        },
+        Some((name, rest)) => {
+            let field = field_of(name).ok_or(QueryFaultKind::BadPrefix)?;
+            read_cut_term(alloc, reader, Some(field), rest)
+        }
     }
 }
 
@@ -184,7 +160,10 @@ fn read_cut_term(
         return Err(QueryFaultKind::NeedsOperator);
     }
     let node = read_parts(alloc, prefix, rest)?;
-    let level = reader.level.noted(negated, prefix);
+    let mut level = reader.level;
+    if !negated {
+        level.seen = level.seen.with(prefix);
+    }
     Ok(placed(alloc, reader.waiting, level, node)?)
 }
 
@@ -228,22 +207,21 @@ fn read_close(alloc: Global, reader: Reader) -> Result<Reader, QueryFaultKind>
 /// A `some` ends, and so does each `not` that waited for it.
 fn placed(
     alloc: Global,
-    waiting: Vec<Waiting>,
-    level: Level,
-    node: Node,
+    mut waiting: Vec<Waiting>,
+    mut level: Level,
+    mut node: Node,
 ) -> Result<Reader, AllocError>
     ensures { IfOk result (λ reader. shown reader
         ≡ placed (shown_stack waiting.items) (shown_level level) (query_of node)) }
 {
-    let mut waiting = waiting;
-    let mut node = node;
     'nots: while is_negated(waiting.as_slice()) {
         waiting.truncate(waiting.len() - 1);
         node = negated(alloc, node)?;
     }
+    level.members.push(node)?;
     Ok(Reader {
         waiting,
-        level: level.with_member(node)?,
+        level,
         wanted: false,
     })
 }

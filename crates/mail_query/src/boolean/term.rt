@@ -3,14 +3,14 @@ ghost use Rattle.std.specs.Prelude.{◌≡◌};
 ghost use Rattle.contract_words.specs.Answers.{Gives};
 ghost use Rattle.mail_query.specs.Query.{query_of};
 ghost use Rattle.mail_query.specs.Refusals.{kind_refusal};
-ghost use Rattle.mail_query.specs.BooleanTerms.{is_phrase, word_query, field_query, bare_query, parts_query, id_query};
+ghost use Rattle.mail_query.specs.BooleanTerms.{word_query, parts_query, id_query};
 ghost use Rattle.mail_query.specs.Mail.{boolean_lexicon};
 
 use crate::boolean::field::Field;
 use crate::fault::QueryFaultKind;
 use crate::kinds::{Kinds, kinds};
 use crate::node::Node;
-use crate::pieces::{is_in_any_case, without_angles, without_last};
+use crate::pieces::{without_angles, without_last};
 use crate::query_text::QueryText;
 use mail_dates::iso_range;
 use mail_words::{is_one_word, is_part_of_word};
@@ -18,13 +18,6 @@ use std::alloc::Global;
 
 /// Without a prefix a word is sought in each kind of text but names of parts.
 const BARE_KINDS: Kinds = kinds!(to, cc, bcc, from, subject, body);
-
-/// Whether there is a quotation mark.
-pub(crate) fn is_phrase(term: &str) -> bool
-    ensures { result ≡ is_phrase term.now }
-{
-    term.as_bytes().contains(&b'"')
-}
 
 /// What a term asks, by its prefix, if it has one, and the text behind it.
 pub(crate) fn read_parts(
@@ -35,34 +28,16 @@ pub(crate) fn read_parts(
     ensures { Gives query_of kind_refusal result (parts_query boolean_lexicon prefix rest.now) }
 {
     match prefix {
-        None => read_bare(alloc, rest),
+        None if rest == "*" => Ok(Node::Any),
+        None if rest.eq_ignore_ascii_case("xor") => Err(QueryFaultKind::BadWord),
+        None => read_word(alloc, BARE_KINDS, rest),
         Some(_) if rest.is_empty() => Err(QueryFaultKind::MissingTerm),
-        Some(field) => read_field(alloc, field, rest),
-    }
-}
-
-fn read_bare(alloc: Global, term: &str) -> Result<Node, QueryFaultKind>
-    ensures { Gives query_of kind_refusal result (bare_query boolean_lexicon term.now) }
-{
-    if term == "*" {
-        Ok(Node::Any)
-    } else if is_in_any_case(term, "xor") {
-        Err(QueryFaultKind::BadWord)
-    } else {
-        read_word(alloc, BARE_KINDS, term)
-    }
-}
-
-fn read_field(alloc: Global, field: Field, rest: &str) -> Result<Node, QueryFaultKind>
-    ensures { Gives query_of kind_refusal result (field_query boolean_lexicon field rest.now) }
-{
-    match field {
-        Field::From => read_word(alloc, kinds!(from), rest),
-        Field::To => read_word(alloc, kinds!(to, cc, bcc), rest),
-        Field::Subject => read_word(alloc, kinds!(subject), rest),
-        Field::Body => read_word(alloc, kinds!(body), rest),
-        Field::Id => read_id(alloc, without_angles(rest)),
-        Field::Date => iso_range(rest)
+        Some(Field::From) => read_word(alloc, kinds!(from), rest),
+        Some(Field::To) => read_word(alloc, kinds!(to, cc, bcc), rest),
+        Some(Field::Subject) => read_word(alloc, kinds!(subject), rest),
+        Some(Field::Body) => read_word(alloc, kinds!(body), rest),
+        Some(Field::Id) => read_id(alloc, without_angles(rest)),
+        Some(Field::Date) => iso_range(rest)
             .map(Node::Date)
             .map_err(|_| QueryFaultKind::BadDate),
     }

@@ -4,7 +4,7 @@ ghost use Rattle.std.specs.List.{prefix_len};
 ghost use Rattle.mail_query.specs.Tokens.{tokens, token_of, is_blank};
 ghost use Rattle.mail_query.specs.Inside.Shown.{shown_token, blank_count, ends_run};
 
-use crate::pieces::{is_in_any_case, without_first};
+use crate::pieces::without_first;
 
 /// A token: a parenthesis, an operator in any case, or a term.
 #[derive(Clone, Copy)]
@@ -40,11 +40,11 @@ pub(crate) fn next_token(text: &str) -> Option<(Token<'_>, &str)>
 fn token_of(run: &str) -> Token<'_>
     ensures { shown_token result ≡ token_of run.now }
 {
-    if is_in_any_case(run, "and") {
+    if run.eq_ignore_ascii_case("and") {
         Token::And
-    } else if is_in_any_case(run, "or") {
+    } else if run.eq_ignore_ascii_case("or") {
         Token::Or
-    } else if is_in_any_case(run, "not") {
+    } else if run.eq_ignore_ascii_case("not") {
         Token::Not
     } else {
         Token::Term(run)

@@ -4,7 +4,7 @@ ghost use Rattle.mail_query.specs.Inside.Reading.{forms_of};
 ghost use Rattle.std.specs.List.{list_any};
 ghost use Rattle.mail_query.specs.Mairix.{is_id, is_sign};
 
-use crate::kinds::{Kinds, kinds};
+use crate::kinds::Kinds;
 use crate::pieces::without_angles;
 use crate::query_text::QueryText;
 use mail_words::{is_one_word, is_part_of_word};
@@ -17,19 +17,6 @@ pub(crate) enum Target {
     Words(Kinds),
     /// In the own id, as it is written.
     OwnId,
-}
-
-impl Target {
-    ghost use Rattle.mail_query.specs.Inside.Reading.{target_kinds};
-
-    pub(crate) fn kinds(self) -> Kinds
-        ensures { result ≡ target_kinds self }
-    {
-        match self {
-            Target::Words(kinds) => kinds,
-            Target::OwnId => kinds!(own_id),
-        }
-    }
 }
 
 /// What is sought for a word, if the text is one.

@@ -7,6 +7,7 @@ ghost use Rattle.mail_query.specs.Inside.Reading.{forms_of};
 ghost use Rattle.mail_query.specs.Mairix.{atom_query, term_query, all_query, rest_query, is_approximate};
 
 use crate::fault::QueryFaultKind;
+use crate::kinds::{Kinds, kinds};
 use crate::mairix::forms::{Target, part_of, word_of};
 use crate::node::{Node, add, all_of, either_of, negated};
 use crate::pieces::{without_first, without_last};
@@ -51,7 +52,10 @@ fn read_atom(alloc: Global, target: Target, text: &str) -> Result<Node, QueryFau
     if is_approximate(text.as_bytes()) {
         return Err(QueryFaultKind::Approximate);
     }
-    let kinds = target.kinds();
+    let kinds = match target {
+        Target::Words(kinds) => kinds,
+        Target::OwnId => kinds!(own_id),
+    };
     if let Some(text) = word_of(alloc, target, text)? {
         return Ok(Node::Word { kinds, text });
     }
