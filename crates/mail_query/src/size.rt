@@ -1,7 +1,7 @@
 //! Sizes, as a pattern names them.
 ghost use Rattle.std.specs.Prelude.{◌≡◌, option_map};
 ghost use Rattle.mail_query.specs.Query.{query_of};
-ghost use Rattle.mail_query.specs.Sizes.{factor_of, scaled, size_of, sizes_of};
+ghost use Rattle.mail_query.specs.Sizes.{scaled, size_of, sizes_of};
 
 use crate::node::Node;
 use crate::pieces::cut;
@@ -32,21 +32,13 @@ pub(crate) fn sizes_of(text: &str) -> Option<Node>
 fn size_of(text: &[u8]) -> Option<u64>
     ensures { result ≡ size_of text.now }
 {
-    if let Some((letter, digits)) = text.split_last() {
-        if let Some(factor) = factor_of(*letter) {
-            return scaled(factor, digits);
-        }
-    }
-    scaled(1, text)
-}
-
-fn factor_of(letter: u8) -> Option<u64>
-    ensures { result ≡ factor_of letter }
-{
+    let Some((letter, digits)) = text.split_last() else {
+        return scaled(1, text);
+    };
     match letter {
-        b'k' | b'K' => Some(1 << 10),
-        b'm' | b'M' => Some(1 << 20),
-        _ => None,
+        b'k' | b'K' => scaled(1 << 10, digits),
+        b'm' | b'M' => scaled(1 << 20, digits),
+        _ => scaled(1, text),
     }
 }
 

@@ -3,7 +3,7 @@ ghost use Rattle.std.specs.Prelude.{◌≡◌};
 ghost use Rattle.contract_words.specs.Answers.{Gives};
 ghost use Rattle.mail_query.specs.Query.{query_of};
 ghost use Rattle.mail_query.specs.Refusals.{kind_refusal};
-ghost use Rattle.mail_query.specs.BooleanTerms.{word_query, parts_query, id_query};
+ghost use Rattle.mail_query.specs.BooleanTerms.{word_query, parts_query};
 ghost use Rattle.mail_query.specs.Mail.{boolean_lexicon};
 
 use crate::boolean::field::Field;
@@ -36,23 +36,20 @@ pub(crate) fn read_parts(
         Some(Field::To) => read_word(alloc, kinds!(to, cc, bcc), rest),
         Some(Field::Subject) => read_word(alloc, kinds!(subject), rest),
         Some(Field::Body) => read_word(alloc, kinds!(body), rest),
-        Some(Field::Id) => read_id(alloc, without_angles(rest)),
+        Some(Field::Id) => {
+            let id = without_angles(rest);
+            if id.is_empty() {
+                return Err(QueryFaultKind::MissingTerm);
+            }
+            Ok(Node::Word {
+                kinds: kinds!(own_id),
+                text: QueryText::copy_of(alloc, id)?,
+            })
+        }
         Some(Field::Date) => iso_range(rest)
             .map(Node::Date)
             .map_err(|_| QueryFaultKind::BadDate),
     }
-}
-
-fn read_id(alloc: Global, id: &str) -> Result<Node, QueryFaultKind>
-    ensures { Gives query_of kind_refusal result (id_query id.now) }
-{
-    if id.is_empty() {
-        return Err(QueryFaultKind::MissingTerm);
-    }
-    Ok(Node::Word {
-        kinds: kinds!(own_id),
-        text: QueryText::copy_of(alloc, id)?,
-    })
 }
 
 /// A word, or a piece of one before a star.

@@ -63,7 +63,6 @@ fn behind_blanks(text: &str) -> &str
 /// How many blanks stand in front.
 fn blank_count(text: &[u8]) -> usize
     ensures value { result ≡ prefix_len is_blank text.now }
-    ensures within { result ≤ length text.now }
 {
     text.iter().take_while(|b| is_blank(**b)).count()
 }
@@ -71,7 +70,6 @@ fn blank_count(text: &[u8]) -> usize
 /// How many bytes stand before the first blank or parenthesis.
 fn run_length(text: &[u8]) -> usize
     ensures value { result ≡ prefix_len (λ b. not (ends_run b)) text.now }
-    ensures within { result ≤ length text.now }
 {
     text.iter().take_while(|b| !ends_run(**b)).count()
 }

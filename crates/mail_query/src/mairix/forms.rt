@@ -61,11 +61,6 @@ fn is_id(text: &str) -> bool
 fn has_sign(text: &[u8]) -> bool
     ensures { result ≡ list_any is_sign text.now }
 {
-    text.iter().any(|b| is_sign(*b))
-}
-
-fn is_sign(b: u8) -> bool
-    ensures { result ≡ is_sign b }
-{
-    matches!(b, b'~' | b',' | b'/' | b'=' | b'^')
+    text.iter()
+        .any(|b| matches!(*b, b'~' | b',' | b'/' | b'=' | b'^'))
 }
