@@ -1,8 +1,10 @@
 -- The ids of a message's own header have some bytes, and not too many for a key.
 use Rattle.index_job.proofs.Words.{◌≡◌, ℕ, ◌+◌, ◌-◌, ◌<◌, ◌≤◌, ◌++◌, Bool, true, false, cond, List, [], ◌∷◌, length, map, drop, Option, IfSome, arith, length-append, slice_range, filter, flat_map, AllByRecursion, ltb-true, leb-true, length-take, length-drop, HeaderField, most_in_header, lines_before_empty, lines_within, header, field_of_line, with_continuations, continued_and_fields, fields_of, total, first_of, facts_of}
-use Rattle.std.specs.Option.{option_map}
+use Rattle.header_text.specs.Blanks.{after_blanks, split_while}
+use Rattle.header_text.specs.Headers.{is_field_name_byte, named}
 use Rattle.header_text.specs.Ids.{id_ranges, kept_ids, ids_of}
-use Rattle.header_text.proofs.HeaderLaws.HeaderLemmas.{field_of_line-fits}
+use Rattle.header_text.proofs.Fronts.{length-split_while}
+use Rattle.header_text.proofs.HeaderLaws.HeaderLemmas.{length-after_blanks}
 use Rattle.index_job.proofs.SoundTables.Folds.{IsKeyText}
 
 -- ---- ids of a value
@@ -44,14 +46,16 @@ continued-bodies : (most : ℕ) (o : Option HeaderField) (more : List ℕ) (late
     → AreBodies most (with_continuations o more later)
 continued-bodies most o more later h h2 = grind (arith, length-append)
 
-line-body : (most : ℕ) (l more : List ℕ) → length l + length more ≤ most → IfSome (field_of_line l) (λ f. length f.body + length more ≤ most)
-line-body most l more fits = go (field_of_line l) (field_of_line-fits (λ (f : HeaderField). f.name) (λ (f : HeaderField). f.body) (field_of_line l) l (itself (field_of_line l)))
-  where
-    itself : (o : Option HeaderField) → option_map (λ (f : HeaderField). record { name = f.name; body = f.body }) o ≡ o
-    itself o = grind arith
+named-body : (name rest : List ℕ) → IfSome (named name rest) (λ f. length f.body ≤ length rest)
+named-body name rest = grind arith
 
-    go : (o : Option HeaderField) → IfSome o (λ f. length f.name + length f.body ≤ length l) → IfSome o (λ f. length f.body + length more ≤ most)
-    go o h = grind arith
+line-body : (most : ℕ) (l more : List ℕ) → length l + length more ≤ most → IfSome (field_of_line l) (λ f. length f.body + length more ≤ most)
+line-body most l more fits =
+    let parts : List ℕ × List ℕ = split_while is_field_name_byte l in
+    go (length (after_blanks parts.1)) (omega (arith, length-after_blanks parts.1, length-split_while is_field_name_byte l)) (field_of_line l) (named-body parts.0 (after_blanks parts.1))
+  where
+    go : (k : ℕ) → k ≤ length l → (o : Option HeaderField) → IfSome o (λ f. length f.body ≤ k) → IfSome o (λ f. length f.body + length more ≤ most)
+    go k low o h = grind arith
 
 -- the continuations in front, and each body behind them
 bodies-within : (most : ℕ) (ls : List (List ℕ)) → total ls ≤ most → (length (continued_and_fields ls).0 ≤ total ls) × AreBodies most (continued_and_fields ls).1
