@@ -60,9 +60,27 @@ impl Signer {
         self.flush(out)?;
         Ok(self.hasher.finalize())
     }
+
+    /// Writes what is gathered, and the bytes, unless they have room then.
+    fn send_past<O: Out>(&mut self, out: &mut O, bytes: &[u8]) -> Result<(), DeviceFault>
+        requires { O.failures out.old < 2 ^ 64 - 1 }
+        ensures written { Writes result (O.taken out.old) (O.taken out.new) self.old self.new
+            bytes.now }
+        ensures count { Counts result (O.failures out.old) (O.failures out.new) }
+    {
+        self.flush(out)?;
+        if bytes.len() <= ROOM {
+            self.pending.append(bytes);
+            return Ok(());
+        }
+        send(out, bytes)?;
+        self.hasher.update(bytes);
+        Ok(())
+    }
 }
 
-/// Gathers bytes to be written and taken into the digest, or does that where they are too many.
+/// Writes bytes and takes them into the digest, or gathers them for that. What is rare stands apart: then this is short enough to be
+/// inlined, and a field of four bytes is copied by one move.
 pub(crate) fn send_signed<O: Out>(
     out: &mut O,
     signer: &mut Signer,
@@ -73,17 +91,10 @@ pub(crate) fn send_signed<O: Out>(
         bytes.now }
     ensures count { Counts result (O.failures out.old) (O.failures out.new) }
 {
-    if bytes.len() <= signer.pending.room() {
-        signer.pending.append(bytes);
-        return Ok(());
+    if bytes.len() > signer.pending.room() {
+        return signer.send_past(out, bytes);
     }
-    signer.flush(out)?;
-    if bytes.len() <= ROOM {
-        signer.pending.append(bytes);
-        return Ok(());
-    }
-    send(out, bytes)?;
-    signer.hasher.update(bytes);
+    signer.pending.append(bytes);
     Ok(())
 }
 
