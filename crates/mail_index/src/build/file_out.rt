@@ -79,8 +79,7 @@ impl Signer {
     }
 }
 
-/// Writes bytes and takes them into the digest, or gathers them for that. What is rare stands apart: then this is short enough to be
-/// inlined, and a field of four bytes is copied by one move.
+/// Writes bytes and takes them into the digest, or gathers them for that.
 pub(crate) fn send_signed<O: Out>(
     out: &mut O,
     signer: &mut Signer,

@@ -1,10 +1,11 @@
 //! The sections of an index file that tell of its keys: directory, texts and postings.
 ghost use Rattle.std.specs.Prelude.{◌≡◌, ◌-◌, ◌^◌, ◌<◌, length, map};
 ghost use Rattle.contract_words.specs.Devices.{Counts};
-ghost use Rattle.mail_index.specs.Files.{entry_of, directory_from, texts_of, postings_of};
+ghost use Rattle.mail_index.specs.Files.{entry_of, entry_bytes, directory_from, texts_of, postings_of};
 ghost use Rattle.mail_index.specs.Inside.Signing.{Writes};
 
 use crate::build::file_out::{Signer, send_parts, send_signed};
+use crate::build::key_entry::KeyEntry;
 use crate::build::keys_in_order::KeysInOrder;
 use mbox_cutter::{DeviceFault, Out};
 
@@ -24,7 +25,7 @@ pub(crate) fn key_bytes(keys: KeysInOrder<'_>) -> (u64, u64)
     (texts, postings)
 }
 
-/// Writes the directory: for each key its kind, the length of its text, and the places of its text and of its postings.
+/// Writes the directory: an entry for each key.
 pub(crate) fn send_directory<O: Out>(
     out: &mut O,
     signer: &mut Signer,
@@ -37,28 +38,46 @@ pub(crate) fn send_directory<O: Out>(
         (directory_from 0 0 (map entry_of keys.entry)) }
     ensures count { Counts result (O.failures out.old) (O.failures out.new) }
 {
-    let mut text_place: u64 = 0;
-    let mut place: u64 = 0;
+    let mut text_place = 0;
+    let mut place = 0;
     for key in keys {
-        let (number, text) = key.number_and_text();
-        let kind = [number, 0, 0, 0];
-        let length = (text.len() as u32).to_be_bytes();
-        let text_at = text_place.to_be_bytes();
-        let postings_at = place.to_be_bytes();
-        send_parts(
-            out,
-            signer,
-            &[
-                kind.as_slice(),
-                length.as_slice(),
-                text_at.as_slice(),
-                postings_at.as_slice(),
-            ],
-        )?;
-        text_place += text.len() as u64;
+        send_entry(out, signer, key, text_place, place)?;
+        text_place += key.text().len() as u64;
         place += key.postings_length() as u64;
     }
     Ok(())
+}
+
+/// The entry of a key: its kind, the length of its text, and the places of its text and of its postings.
+///
+/// It stands apart from the loop over keys: in there the compiler would copy each part by a call.
+fn send_entry<O: Out>(
+    out: &mut O,
+    signer: &mut Signer,
+    key: &KeyEntry,
+    text_place: u64,
+    place: u64,
+) -> Result<(), DeviceFault>
+    requires { O.failures out.old < 2 ^ 64 - 1 }
+    ensures written { Writes result (O.taken out.old) (O.taken out.new) signer.old signer.new
+        (entry_bytes text_place place (entry_of key.now)) }
+    ensures count { Counts result (O.failures out.old) (O.failures out.new) }
+{
+    let (number, text) = key.number_and_text();
+    let kind = [number, 0, 0, 0];
+    let length = (text.len() as u32).to_be_bytes();
+    let text_place = text_place.to_be_bytes();
+    let place = place.to_be_bytes();
+    send_parts(
+        out,
+        signer,
+        &[
+            kind.as_slice(),
+            length.as_slice(),
+            text_place.as_slice(),
+            place.as_slice(),
+        ],
+    )
 }
 
 /// Writes the keys' texts.
