@@ -7,7 +7,7 @@ ghost use Rattle.mail_index.specs.Versions.{IsVersion, version_number};
 use crate::places::DIGEST;
 
 /// A version of index files.
-#[derive(Clone, Copy, Debug)]
+#[derive(Clone, Copy, Debug, PartialEq, Eq)]
 pub enum Version {
     /// Without names of parts, and without digests of archives.
     One,
@@ -16,7 +16,14 @@ pub enum Version {
 }
 
 impl Version {
-    ghost use Rattle.mail_index.specs.Versions.{last_kind, digest_length};
+    ghost use Rattle.mail_index.specs.Versions.{newest, last_kind, digest_length};
+
+    /// The version that is written.
+    pub(crate) fn newest() -> Self
+        ensures { version_number result ≡ newest }
+    {
+        Version::Two
+    }
 
     /// The version of this number, None where it isn't known.
     pub(crate) fn of(number: u32) -> Option<Self>

@@ -58,7 +58,7 @@ pub(crate) fn send_counts<O: Out>(
         (concat (counted counts.now)) }
     ensures count { CountsFailures result (O.failures out.old) (O.failures out.new) }
 {
-    let version = Version::Two.number().to_be_bytes();
+    let version = Version::newest().number().to_be_bytes();
     let archives = counts.archives.to_be_bytes();
     let messages = counts.messages.to_be_bytes();
     let keys = counts.keys.to_be_bytes();
