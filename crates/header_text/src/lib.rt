@@ -27,7 +27,7 @@ pub use field::Field;
 pub use field_list::Fields;
 pub use header::{Header, Taken};
 pub use law::{encoded_words_are_leftmost, encoded_words_are_the_only_leftmost};
-pub use message_id::message_ids;
+pub use message_id::{message_ids, push_ids};
 pub use names::is_named;
 pub use text::{decode, decode_into};
 pub use unfolding::{unfold, unfold_into};

@@ -30,8 +30,26 @@ fn push_id(alloc: Global, ids: &mut Vec<Vec<u8>>, text: &[u8]) -> Result<(), All
     Ok(())
 }
 
-/// The ids of a value, in order (RFC 5322, 3.6.4): each text between a `<` and the next `>` with neither between, without
-/// its spaces, tabs, CRs and LFs, if then not empty. Together they have at most as many bytes as the value.
+/// Adds the ids of a value behind others, in order (RFC 5322, 3.6.4): each text between a `<` and the next `>` with neither
+/// between, without its spaces, tabs, CRs and LFs, if then not empty. What the list holds after an error isn't said.
+pub fn push_ids(alloc: Global, value: &[u8], ids: &mut Vec<Vec<u8>>) -> Result<(), AllocError>
+    ensures ids { OnOk result (map (λ id. id.items) ids.new.items
+        ≡ map (λ id. id.items) ids.old.items ++ ids_of value.now) }
+    ensures sizes { OnOk result (All (λ id. (0 < length id) × (length id ≤ length value.now))
+        (ids_of value.now)) }
+
+    // All together, with the `<` and the `>` round each.
+    ensures size { OnOk result (ids_size (ids_of value.now) ≤ length value.now) }
+{
+    let mut rest = value;
+    while let Some((text, behind)) = cut_at(b'>', rest) {
+        push_id(alloc, ids, text)?;
+        rest = behind;
+    }
+    Ok(())
+}
+
+/// The ids of a value, as `push_ids` adds them. Together they have at most as many bytes as the value.
 pub fn message_ids(alloc: Global, value: &[u8]) -> Result<Vec<Vec<u8>>, AllocError>
     ensures ids { IfOk result (λ ids. map (λ id. id.items) ids.items ≡ ids_of value.now) }
     ensures sizes { IfOk result (λ ids. All (λ id. (0 < length id.items)
@@ -42,10 +60,6 @@ pub fn message_ids(alloc: Global, value: &[u8]) -> Result<Vec<Vec<u8>>, AllocErr
         ≤ length value.now) }
 {
     let mut ids = Vec::new(alloc);
-    let mut rest = value;
-    while let Some((text, behind)) = cut_at(b'>', rest) {
-        push_id(alloc, &mut ids, text)?;
-        rest = behind;
-    }
+    push_ids(alloc, value, &mut ids)?;
     Ok(ids)
 }

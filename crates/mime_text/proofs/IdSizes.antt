@@ -1,5 +1,6 @@
 -- How many bytes ids have together.
-use Rattle.mime_text.proofs.Words.{◌≡◌, ◌∙◌, ◌+◌, ◌≤◌, ◌++◌, ℕ, true, All, List, [], ◌∷◌, length, map, ap, arith, append_assoc, Vec, Global, map-append, All-append, HeaderField, fields_size, most_in_header, ids_of, ids_size, IsSizedId, is_linking, ids_of_fields}
+use Rattle.mime_text.proofs.Words.{◌≡◌, ◌+◌, ◌<◌, ◌≤◌, ◌++◌, ℕ, true, All, List, [], ◌∷◌, length, map, refl, ap, arith, append_assoc, Vec, Global, All-append, All-map, HeaderField, fields_size, most_in_header, ids_of, ids_size, IsSizedId, is_linking, ids_of_fields}
+use Rattle.header_text.proofs.HeaderLaws.IdLemmas.{each-kept}
 
 pub ids_size_append : (xs ys : List (List ℕ)) → ids_size (xs ++ ys) ≡ ids_size xs + ids_size ys
 ids_size_append [] ys = omega arith
@@ -12,13 +13,16 @@ texts_of ids = map (λ (id : Vec ℕ Global). id.items) ids
 abbrev AreSized : List (Vec ℕ Global) → Type 0
 AreSized ids = All (λ (id : Vec ℕ Global). IsSizedId id.items) ids × (ids_size (texts_of ids) ≤ most_in_header)
 
--- ids behind others
-pub sized_append : (ids more new : List (Vec ℕ Global)) → AreSized ids → All (λ (id : Vec ℕ Global). IsSizedId id.items) more
-    → ids_size (texts_of ids) + ids_size (texts_of more) ≤ most_in_header → new ≡ ids ++ more → AreSized new
-sized_append ids more new old each room e =
-    let all : ids_size (texts_of (ids ++ more)) ≡ ids_size (texts_of ids) + ids_size (texts_of more) =
-    ap ids_size (map-append (λ (id : Vec ℕ Global). id.items) ids more) ∙ ids_size_append (texts_of ids) (texts_of more) in
-    rw e (All-append (λ (id : Vec ℕ Global). IsSizedId id.items) ids more old.0 each, omega (arith, all))
+-- the ids of a value behind others
+module _ (old new : List (Vec ℕ Global)) (more : List (List ℕ)) (size : ℕ) (each : All (λ (id : Vec ℕ Global). IsSizedId id.items) old) (e : texts_of new ≡ texts_of old ++ more)
+    (some : All (λ id. (0 < length id) × (length id ≤ size)) more) (room : ids_size (texts_of old) + size ≤ most_in_header) where
+  pub all_sized : All IsSizedId (texts_of new)
+  all_sized =
+      let sized : All IsSizedId more = λ k d lt. let here = some k d lt in (here.0, omega (arith, here.1)) in
+      rw e (All-append IsSizedId (texts_of old) more (All-map IsSizedId (λ (id : Vec ℕ Global). id.items) old each) sized)
+
+  pub sized_append : ids_size more ≤ size → AreSized new
+  sized_append small = (each-kept IsSizedId new (texts_of new) refl all_sized, omega (arith, ap ids_size e, ids_size_append (texts_of old) more))
 
 -- the ids of a linking field behind others: they are those of the fields so far, and there is still room for the fields that are left
 module _ (f : HeaderField) (rest fields : List HeaderField) (ids more new : List (List ℕ)) (split : fields ≡ f ∷ rest) (behind : new ≡ ids ++ more) where

@@ -63,7 +63,7 @@ pub use Rattle.std.proofs.Common.{All, Bool, Bor, IfSome, IsUtf8, List, None, Op
 pub use Rattle.std.proofs.lemmas.Bool.{eqb-true, false_from_ne_true}
 pub use Rattle.std.proofs.lemmas.Bool.Decides.{nat_tests}
 pub use Rattle.std.proofs.lemmas.Grind.{flat_map-append}
-pub use Rattle.std.proofs.lemmas.List.{drop-append-le, drop-drop, drop_all, drop_at, get_or_at, length-drop, length-replicate, length-take, length_push, map-append, replicate-append-replicate, reverse-append, take-append-drop, take-append-le, take-replicate, take_all, take_at}
+pub use Rattle.std.proofs.lemmas.List.{drop-append-le, drop-drop, drop_all, drop_at, get_or_at, length-drop, length-replicate, length-take, length_push, replicate-append-replicate, reverse-append, take-append-drop, take-append-le, take-replicate, take_all, take_at}
 pub use Rattle.std.proofs.lemmas.List.Elements.{All-append, All-map}
 pub use Rattle.std.proofs.lemmas.Str.{IsCharBoundary-after_ascii, IsCharBoundary-before_ascii, IsCharBoundary-from_ascii, IsUtf8-drop, IsUtf8-from_ascii, IsUtf8-take, chars-IsAscii, chars-append, encode_ascii, encodes-append, encodes-chars, length-le-encodes}
 pub use Rattle.std.specs.Global.{Global}

@@ -1,6 +1,7 @@
 -- Ids one after another.
 use Rattle.header_text.proofs.Words.{◌≡◌, ◌∙◌, ◌+◌, ◌<◌, ◌≤◌, ◌++◌, ◌==◌, ℕ, zero, suc, Bool, true, false, nat_lt, List, [], ◌∷◌, Option, Some, None, length, drop, get_or, slice_index, map, refl, sym, ap, subst, arith, filter, IfSome, Vec, filter_map, length-map, get_or-map, ltb-true, is_id_byte, ids_of, ids_size, onto_first, closed_texts, after_last_open, ids_in}
 use Rattle.std.specs.Global.{Global}
+use Rattle.std.specs.Prelude.{All}
 use Rattle.header_text.proofs.HeaderLaws.IdRanges.{ids_of-closed}
 use Rattle.header_text.proofs.CutLemmas.{Lacks}
 
@@ -89,20 +90,22 @@ ids_in-size : (ts : List (List ℕ)) → ids_size (ids_in ts) ≤ closed_size ts
 ids_in-size [] = omega arith
 ids_in-size (t ∷ ts) = grind (arith, after_last_open-short t, ids_in-size ts, filter-short)
 
-pub ids_of-size : (value : List ℕ) (ids : List (Vec ℕ Global)) → map (λ (id : Vec ℕ Global). id.items) ids ≡ ids_of value → ids_size (map (λ (id : Vec ℕ Global). id.items) ids) ≤ length value
-ids_of-size value ids e =
+pub ids_of-size : (value : List ℕ) → ids_size (ids_of value) ≤ length value
+ids_of-size value =
     let found : ids_size (ids_of value) ≤ closed_size (closed_texts value) = rw (ids_of-closed value) (ids_in-size (closed_texts value)) in
-    rw e (omega (arith, found, closed_texts-size value))
+    omega (arith, found, closed_texts-size value)
 
 All-sized : (n : ℕ) (ids : List (List ℕ)) → AreSized n ids → (k : ℕ) (d : List ℕ) → k < length ids → (0 < length (get_or ids k d)) × (length (get_or ids k d) ≤ n)
 All-sized n [] h k d lt = absurd (omega arith)
 All-sized n (id ∷ ids) h zero d lt = (h.0, h.1)
 All-sized n (id ∷ ids) h (suc k) d lt = All-sized n ids h.2 k d (omega arith)
 
-pub ids_of-sized : (value : List ℕ) (ids : List (Vec ℕ Global)) → map (λ (id : Vec ℕ Global). id.items) ids ≡ ids_of value
-    → (k : ℕ) (d : Vec ℕ Global) → k < length ids → (0 < length (get_or ids k d).items) × (length (get_or ids k d).items ≤ length value)
-ids_of-sized value ids e k d lt =
-    let sized : AreSized (length value) (ids_of value) = rw (ids_of-closed value) (ids_in-sized (length value) (closed_texts value) (closed_texts-short value)) in
-    let below : k < length (ids_of value) = omega (arith, ap length e, length-map ids (λ (id : Vec ℕ Global). id.items)) in
-    let here : get_or (ids_of value) k d.items ≡ (get_or ids k d).items = ap (λ (l : List (List ℕ)). get_or l k d.items) (sym e) ∙ get_or-map (λ (id : Vec ℕ Global). id.items) ids k d d.items lt in
-    subst (λ (l : List ℕ). (0 < length l) × (length l ≤ length value)) here (All-sized (length value) (ids_of value) sized k d.items below)
+pub ids_of-sized : (value : List ℕ) (k : ℕ) (d : List ℕ) → k < length (ids_of value) → (0 < length (get_or (ids_of value) k d)) × (length (get_or (ids_of value) k d) ≤ length value)
+ids_of-sized value = All-sized (length value) (ids_of value) (rw (ids_of-closed value) (ids_in-sized (length value) (closed_texts value) (closed_texts-short value)))
+
+-- what holds of each text holds of each vector that keeps one
+pub each-kept : (P : List ℕ → Type 0) (ids : List (Vec ℕ Global)) (texts : List (List ℕ)) → map (λ (id : Vec ℕ Global). id.items) ids ≡ texts → All P texts → All (λ (id : Vec ℕ Global). P id.items) ids
+each-kept P ids texts e all k d lt =
+    let below : k < length texts = omega (arith, ap length e, length-map ids (λ (id : Vec ℕ Global). id.items)) in
+    let here : get_or texts k d.items ≡ (get_or ids k d).items = ap (λ (l : List (List ℕ)). get_or l k d.items) (sym e) ∙ get_or-map (λ (id : Vec ℕ Global). id.items) ids k d d.items lt in
+    subst P here (all k d.items below)

@@ -10,6 +10,7 @@ use crate::header::owned::{DateText, MessageId, MessageIds};
 use header_text::{Fields, Header, is_named, message_ids};
 use mail_words::Flags;
 use std::alloc::{AllocError, Global};
+use std::marker::Model;
 
 /// What a message's own header says beside its texts.
 #[derive(Drop)]
@@ -31,48 +32,69 @@ impl Facts {
 
     /// What this header says.
     #[tactic(auto, unfolding(crate::specs::MessageFacts::facts_of))]
-    pub(crate) fn of(alloc: Global, header: &Header) -> Result<Facts, AllocError>
+    pub(crate) fn of(
+        alloc: Global,
+        header: &Header,
+        reader: &mut FieldReader,
+    ) -> Result<Facts, AllocError>
         ensures facts { IfOk result (λ facts. (ls : List (List ℕ)) → HasLines header.now ls
             → facts ≡ facts_of (fields_of ls)) }
         ensures sizes { IfOk result HasSizedIds }
     {
         Ok(Facts {
-            date_text: date_text(alloc, header.fields())?,
+            date_text: date_text(alloc, header.fields(), reader)?,
             flags: flags(alloc, header.fields())?,
             own_id: own_id(alloc, header.fields())?,
             ids: linking_ids(alloc, header.fields())?,
         })
     }
+}
 
-    /// The same, whose ids are known to be sized.
-    pub(crate) fn with_sizes(self) -> Facts
+/// Facts that are kept until the message ends, which contracts see as these facts.
+#[derive(Drop)]
+pub(crate) struct KeptFacts {
+    facts: Facts,
+}
+
+impl Model for KeptFacts {
+    ghost use Rattle.mime_text.specs.declared.header.facts.Facts.{Facts};
+    ghost use Rattle.mime_text.specs.MessageFacts.{HasSizedIds};
+
+    ghost Value = { Facts };
+
+    ghost view = { λ kept. kept.facts };
+
+    ghost invariant = { λ kept. HasSizedIds kept.facts };
+}
+
+impl KeptFacts {
+    pub(crate) fn of(facts: Facts) -> Self
+        requires { HasSizedIds facts }
+        ensures { result ≡ facts }
+    {
+        KeptFacts { facts }
+    }
+
+    pub(crate) fn into_facts(self) -> Facts
         ensures same { result ≡ self }
         ensures sizes { HasSizedIds result }
     {
-        know_size(&self.own_id);
-        self.ids.know_sizes();
-        self
-    }
-}
-
-/// Tells the prover that the length of an id is bounded. At run time it has no effect.
-fn know_size(id: &Option<MessageId>)
-    ensures { IfSome id.now IsSizedId }
-{
-    if let Some(id) = id {
-        let _bytes = id.as_bytes();
+        self.facts
     }
 }
 
 /// The text of the first Date field.
-fn date_text(alloc: Global, fields: Fields<'_>) -> Result<Option<DateText>, AllocError>
+fn date_text(
+    alloc: Global,
+    fields: Fields<'_>,
+    reader: &mut FieldReader,
+) -> Result<Option<DateText>, AllocError>
     requires { fields_size fields ≤ most_in_header }
     ensures { IfOk result (λ text. text ≡ date_text_of fields.entry) }
 {
     let Some(body) = fields.first_body(b"date") else {
         return Ok(None);
     };
-    let mut reader = FieldReader::new(alloc);
     let text = reader.read(body)?;
     Ok(Some(DateText::new(alloc, text)?))
 }
@@ -147,7 +169,7 @@ fn linking_ids(alloc: Global, fields: Fields<'_>) -> Result<MessageIds, AllocErr
     let mut ids = MessageIds::new(alloc);
     for field in fields {
         if is_linking(field.name) {
-            ids.append(message_ids(alloc, field.body)?)?;
+            ids.push_ids_of(alloc, field.body)?;
         }
     }
     Ok(ids)

@@ -1,10 +1,11 @@
 //! What facts keep of a header. Each type bounds by itself what it keeps.
 ghost use Rattle.std.specs.Prelude.{◌≡◌, ◌+◌, ◌≤◌, ℕ, List, [], ◌++◌, All, length, map, IfOk, OnOk, string_bytes};
 ghost use Rattle.header_text.specs.Headers.{most_in_header};
-ghost use Rattle.header_text.specs.Ids.{ids_size};
+ghost use Rattle.header_text.specs.Ids.{ids_of, ids_size};
 ghost use Rattle.mime_text.specs.MessageFacts.{IsSizedId};
 ghost use Rattle.mime_text.specs.Limits.{most_in_header_text};
 
+use header_text::push_ids;
 use std::alloc::{AllocError, Global};
 use std::marker::Model;
 
@@ -109,22 +110,20 @@ impl MessageIds {
         }
     }
 
-    pub(crate) fn append(&mut self, mut more: Vec<Vec<u8>>) -> Result<(), AllocError>
-        requires sizes { All (λ id. IsSizedId id.items) more.items }
-        requires room { ids_size self.old + ids_size (map (λ id. id.items) more.items)
-            ≤ most_in_header }
-        ensures ids { OnOk result (self.new ≡ self.old ++ map (λ id. id.items) more.items) }
+    /// Adds the ids of a field's body, and keeps none where memory is wanting.
+    pub(crate) fn push_ids_of(&mut self, alloc: Global, body: &[u8]) -> Result<(), AllocError>
+        requires room { ids_size self.old + length body.now ≤ most_in_header }
+        ensures ids { OnOk result (self.new ≡ self.old ++ ids_of body.now) }
+        ensures size { OnOk result (ids_size (ids_of body.now) ≤ length body.now) }
         ensures sizes { OnOk result (All IsSizedId self.new) }
     {
-        self.ids.append(&mut more)?;
-        Ok(())
-    }
-
-    /// Tells the prover that the length of each id is bounded. At run time it has no effect.
-    pub(crate) fn know_sizes(&self)
-        ensures { All IsSizedId self.now }
-    {
-        let _ids = &self.ids;
+        match push_ids(alloc, body, &mut self.ids) {
+            Ok(()) => Ok(()),
+            Err(want) => {
+                self.ids.clear();
+                Err(want)
+            }
+        }
     }
 
     /// The ids, in order.

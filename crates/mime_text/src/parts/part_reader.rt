@@ -13,7 +13,7 @@ ghost use Rattle.mime_text.specs.Inside.Passing.{Passes, IsOver};
 ghost use Rattle.mime_text.specs.Limits.{most_in_line};
 
 use crate::fault::TextFault;
-use crate::header::facts::Facts;
+use crate::header::facts::{Facts, KeptFacts};
 use crate::header::field_text::FieldReader;
 use crate::header::giving::give_header;
 use crate::leaf::leaf_reader::LeafReader;
@@ -52,7 +52,7 @@ pub(crate) struct PartReader {
     leaf: LeafReader,
     fields: FieldReader,
     // Of the message's own header, once it has ended.
-    facts: Option<Facts>,
+    facts: Option<KeptFacts>,
 }
 
 /// Gives what an entity still gives where it ends.
@@ -75,13 +75,18 @@ fn end_entity<S: TextSink>(
 }
 
 /// What a message's own header says: what is known of it, or else what this one says.
-fn facts_behind(alloc: Global, header: &Header, known: Option<Facts>) -> Result<Facts, AllocError>
+fn facts_behind(
+    alloc: Global,
+    header: &Header,
+    reader: &mut FieldReader,
+    known: Option<KeptFacts>,
+) -> Result<Facts, AllocError>
     ensures facts { IfOk result (λ facts. Notes known (Some facts) header.now) }
     ensures sizes { IfOk result HasSizedIds }
 {
     match known {
-        Some(facts) => Ok(facts.with_sizes()),
-        None => Facts::of(alloc, header),
+        Some(facts) => Ok(facts.into_facts()),
+        None => Facts::of(alloc, header, reader),
     }
 }
 
@@ -191,12 +196,13 @@ impl PartReader {
 
     /// Keeps what the header says of the message, if it is the first that has ended.
     fn note_facts(&mut self) -> Result<(), AllocError>
-        ensures kept { self.new ≡ record self.old { facts = self.new.facts } }
+        ensures kept { self.new ≡ record self.old
+            { facts = self.new.facts; fields = self.new.fields } }
         ensures facts { OnOk result (Notes self.old.facts self.new.facts self.old.header) }
     {
         if self.facts.is_none() {
-            let facts = Facts::of(self.alloc, &self.header)?;
-            self.facts = Some(facts);
+            let facts = Facts::of(self.alloc, &self.header, &mut self.fields)?;
+            self.facts = Some(KeptFacts::of(facts));
         }
         Ok(())
     }
@@ -243,7 +249,8 @@ impl PartReader {
             &mut self.fields,
             sink,
         )?;
-        Ok(facts_behind(self.alloc, &self.header, self.facts.take())?)
+        let known = self.facts.take();
+        Ok(facts_behind(self.alloc, &self.header, &mut self.fields, known)?)
     }
 
     /// Before the first line of another message. Nothing of the message before it counts, and the memory is kept.

@@ -12,7 +12,7 @@ returns-clause-pairs g c =
     end-passed g.S.TextSink.takes g.S.TextSink.refuses c.args.self.now c.fields.result _ _ c.fields.ensures.fields c.in_ok-end_entity.ensures
 
 pub returns-clause-facts : goal.returns-clause-facts
-returns-clause-facts g c = facts-whole c.args.self.now c.in_ok-facts_behind.field-0 (rw (← c.take.ensures.value) c.in_ok-facts_behind.ensures.facts)
+returns-clause-facts g c = facts-whole c.args.self.now c.in_ok-facts_behind.field-0 (rw (← c.take-known.ensures.value) c.in_ok-facts_behind.ensures.facts)
 
 pub returns-in_err-facts_behind-clause-pairs : goal.returns-in_err-facts_behind-clause-pairs
 returns-in_err-facts_behind-clause-pairs g c =

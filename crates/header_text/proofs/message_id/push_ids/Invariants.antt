@@ -1,9 +1,10 @@
 use Rattle.header_text.proofs.Words.{◌≡◌, ◌++◌, map, length, ids_in, closed_texts}
-use Rattle.header_text.proofs.message_id.message_ids.Given as goal
+use Rattle.header_text.proofs.message_id.push_ids.Given as goal
 
 -- the ids so far, and those of the rest
 abbrev pub invariant-loop-text : goal.invariant-loop-text
-invariant-loop-text l = map (λ id. id.items) l.ids.items ++ ids_in (closed_texts l.rest) ≡ ids_in (closed_texts l.fn.value)
+invariant-loop-text l =
+    map (λ id. id.items) l.ids.items ++ ids_in (closed_texts l.rest) ≡ map (λ id. id.items) l.fn.ids.items ++ ids_in (closed_texts l.fn.value)
 
 abbrev pub decreases-loop-text : goal.decreases-loop-text
 decreases-loop-text l = length l.rest
