@@ -12,6 +12,7 @@ pub mod Directory
 pub mod Lists
 pub mod Layouts
 pub mod Faults
+pub mod FaultTexts
 pub mod Steps
 pub mod LookUps
 pub mod KeysRead

@@ -12,6 +12,7 @@ pub mod FlagGrammar
 pub mod MairixGrammar
 pub mod MairixFaults
 pub mod Refusals
+pub mod FaultTexts
 pub mod Mail
 pub mod Tokens
 pub mod BooleanTerms

@@ -2,49 +2,35 @@
 ghost use Rattle.std.specs.Prelude.{◌≡◌};
 
 use std::alloc::AllocError;
-use thiserror::Error;
 
 /// What is wrong with a query.
-#[derive(Clone, Copy, Debug, PartialEq, Eq, Error)]
+#[derive(Clone, Copy, Debug, PartialEq, Eq)]
 pub enum QueryFaultKind {
     /// There is no pattern, or no term.
-    #[error("no pattern")]
     NoPattern,
     /// A prefix that the language doesn't have.
-    #[error("bad prefix")]
     BadPrefix,
     /// It is of no form that a word has.
-    #[error("bad word")]
     BadWord,
     /// An `=` and digits at the end, which asks for approximate matching.
-    #[error("approximate match not supported")]
     Approximate,
     /// A date of no form, or a day that no year has.
-    #[error("bad date")]
     BadDate,
     /// A size of no form, or one above 2^63 - 1.
-    #[error("bad size")]
     BadSize,
     /// Flags of no form.
-    #[error("bad flag")]
     BadFlag,
     /// A second term with one prefix, side by side with the first.
-    #[error("operator needed")]
     NeedsOperator,
     /// A `)` that no `(` waits for, or the end while a `(` waits.
-    #[error("bad parenthesis")]
     BadParenthesis,
     /// An operator, a `)` or the end where a term must stand, or nothing behind a prefix.
-    #[error("term missing")]
     MissingTerm,
     /// More than 30 `(` and `not` wait for their end.
-    #[error("too deep")]
     TooDeep,
     /// A quoted phrase.
-    #[error("phrase not supported")]
     Phrase,
     /// Want of memory.
-    #[error("out of memory")]
     OutOfMemory,
 }
 
@@ -59,8 +45,7 @@ impl From<AllocError> for QueryFaultKind {
 }
 
 /// Why a query is refused, and where.
-#[derive(Clone, Copy, Debug, PartialEq, Eq, Error)]
-#[error("query item {number}: {kind}")]
+#[derive(Clone, Copy, Debug, PartialEq, Eq)]
 pub struct QueryFault {
     /// The number from 1 of the pattern, or in a boolean query of the token, where the end counts as one; 1 where
     /// there is none, and 0 where memory was wanting.

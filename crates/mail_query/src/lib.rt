@@ -4,6 +4,7 @@
 
 mod boolean;
 mod fault;
+mod fault_text;
 mod flags;
 mod kinds;
 mod laws;

@@ -2,6 +2,7 @@ pub mod Archives
 pub mod Coming
 pub mod Digests
 pub mod Events
+pub mod FaultTexts
 pub mod Inside
 pub mod Lines
 pub mod Memory

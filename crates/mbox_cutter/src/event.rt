@@ -1,22 +1,37 @@
 //! What a cutter answers.
-use thiserror::Error;
+use std::error::Error;
+use std::fmt;
 
 /// Why a cutter gave up.
-#[derive(Clone, Copy, Debug, PartialEq, Eq, Error)]
+#[derive(Clone, Copy, Debug, PartialEq, Eq)]
 pub enum CutFault {
     /// The source failed.
-    #[error("read failed")]
     Device,
     /// The first line that isn't empty starts no message.
-    #[error("not an mbox")]
     NotAnMbox,
     /// The archive has more bytes than are allowed.
-    #[error("too long")]
     ArchiveTooLong,
     /// An earlier call has failed.
-    #[error("failed before")]
     Failed,
 }
+
+impl fmt::Display for CutFault {
+    ghost use Rattle.std.specs.Prelude.{Some};
+    ghost use Rattle.mbox_cutter.specs.FaultTexts.{text_of_cut};
+
+    ghost output = { λ fault. Some (text_of_cut fault) };
+
+    fn fmt<W: fmt::Write>(&self, f: &mut fmt::Formatter<W>) -> fmt::Result {
+        f.write_str(match self {
+            CutFault::Device => "read failed",
+            CutFault::NotAnMbox => "not an mbox",
+            CutFault::ArchiveTooLong => "too long",
+            CutFault::Failed => "failed before",
+        })
+    }
+}
+
+impl Error for CutFault {}
 
 /// A step through an archive. Lines are lent, each with its LF where it has one; all numbers are of bytes.
 #[derive(Clone, Copy)]

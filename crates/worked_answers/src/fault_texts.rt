@@ -1,4 +1,4 @@
-//! The texts that the layers show for their own faults. The program prints those of run_faults.
+//! The texts that the layers show for their own faults.
 use mail_answer::AnswerFaultKind::{self, Stale};
 use mail_index::IndexFault::{self, BadLayout};
 use mail_index::Section;

@@ -1,42 +1,69 @@
 //! What is wrong with bytes that are no index file.
-use thiserror::Error;
+use std::error::Error;
+use std::fmt;
 
 /// A part of an index file.
-#[derive(Clone, Copy, Debug, PartialEq, Eq, Error)]
+#[derive(Clone, Copy, Debug, PartialEq, Eq)]
 pub enum Section {
     /// Magic, version, and the counts of entries and bytes.
-    #[error("counts")]
     Counts,
     /// The archives' paths, lengths and digests.
-    #[error("archives")]
     Archives,
     /// The messages' records.
-    #[error("records")]
     Records,
     /// The directory of the keys, with their texts.
-    #[error("directory")]
     Directory,
     /// The lists of message numbers.
-    #[error("postings")]
     Postings,
 }
 
 /// The first thing that is wrong with bytes that are no index file, looked for in this order.
-#[derive(Clone, Copy, Debug, PartialEq, Eq, Error)]
+#[derive(Clone, Copy, Debug, PartialEq, Eq)]
 pub enum IndexFault {
     /// There are fewer than 80 bytes, those of the least file.
-    #[error("too short")]
     TooShort,
     /// The file does not begin as an index file does.
-    #[error("bad magic")]
     BadMagic,
     /// It is of a version other than 1 and 2.
-    #[error("unknown version")]
     BadVersion,
     /// Its last 32 bytes are not the SHA-256 of those before.
-    #[error("bad digest")]
     BadDigest,
     /// The first section that breaks its rule.
-    #[error("bad layout in {0}")]
     BadLayout(Section),
 }
+
+impl fmt::Display for Section {
+    ghost use Rattle.std.specs.Prelude.{Some};
+    ghost use Rattle.mail_index.specs.FaultTexts.{text_of_section};
+
+    ghost output = { λ section. Some (text_of_section section) };
+
+    fn fmt<W: fmt::Write>(&self, f: &mut fmt::Formatter<W>) -> fmt::Result {
+        f.write_str(match self {
+            Section::Counts => "counts",
+            Section::Archives => "archives",
+            Section::Records => "records",
+            Section::Directory => "directory",
+            Section::Postings => "postings",
+        })
+    }
+}
+
+impl fmt::Display for IndexFault {
+    ghost use Rattle.std.specs.Prelude.{Some};
+    ghost use Rattle.mail_index.specs.FaultTexts.{text_of_index};
+
+    ghost output = { λ fault. Some (text_of_index fault) };
+
+    fn fmt<W: fmt::Write>(&self, f: &mut fmt::Formatter<W>) -> fmt::Result {
+        match *self {
+            IndexFault::TooShort => f.write_str("too short"),
+            IndexFault::BadMagic => f.write_str("bad magic"),
+            IndexFault::BadVersion => f.write_str("unknown version"),
+            IndexFault::BadDigest => f.write_str("bad digest"),
+            IndexFault::BadLayout(section) => write!(f, "bad layout in {section}"),
+        }
+    }
+}
+
+impl Error for IndexFault {}
