@@ -1,7 +1,8 @@
 //! One happy path for each call that can want memory, the same with each allocation refused in turn, and the characters of all
 //! bytes.
 use header_text::{
-    Base64, Charset, Field, Header, Taken, decode, decode_words, message_ids, unescape_into, unfold,
+    Base64, Charset, Field, Header, Taken, decode, decode_words, message_ids, push_ids,
+    unescape_into, unfold,
 };
 use std::alloc::Global;
 use std::test::Fail;
@@ -93,17 +94,19 @@ fn texts_of_words_and_charsets(rt: HostRuntime) {
     }
 }
 
-/// Whether a value has two ids, of which one has a space in it.
-fn has_two_ids(alloc: Global) -> Option<bool> {
-    let ids = message_ids(alloc, b"<a@x> <b @y>").ok()?;
+/// Whether a value has two ids, of which one has a space in it, and that of another value comes behind them.
+fn has_ids(alloc: Global) -> Option<bool> {
+    let mut ids = message_ids(alloc, b"<a@x> <b @y>").ok()?;
+    push_ids(alloc, b"c <d@z>", &mut ids).ok()?;
     let is_first = ids.get(0)?.as_slice() == b"a@x".as_slice();
     let is_second = ids.get(1)?.as_slice() == b"b@y".as_slice();
-    Some(is_first && is_second && ids.len() == 2)
+    let is_third = ids.get(2)?.as_slice() == b"d@z".as_slice();
+    Some(is_first && is_second && is_third && ids.len() == 3)
 }
 
 #[test]
 fn ids_of_a_value(rt: HostRuntime) {
-    assert!(rt; has_two_ids(rt.alloc()) == Some(true));
+    assert!(rt; has_ids(rt.alloc()) == Some(true));
 }
 
 /// The bytes of base64 and of escapes come one behind the other.
@@ -148,5 +151,5 @@ fn sweep_values(rt: HostRuntime) {
         assert!(rt; as_wanted != Some(false), "{text}");
     }
     assert!(rt; has_two_lines(rt.alloc()) != Some(false));
-    assert!(rt; has_two_ids(rt.alloc()) != Some(false));
+    assert!(rt; has_ids(rt.alloc()) != Some(false));
 }
