@@ -154,7 +154,12 @@ def term_texts(path, term, bound):
         return printed(*bound[head])
     file, cases = equations(path, head)
     given = [(path, it, bound) for it in arguments]
-    return set().union(*(printed(file, behind, dict(zip(front, given))) for front, behind in cases))
+    return set().union(*(printed(file, behind, dict(zip(front, given))) for front, behind in cases if is_case_of(front, arguments)))
+
+
+def is_case_of(front, arguments):
+    """Whether an equation is for these arguments: one that is a variant stands for itself alone."""
+    return all(given == wanted for given, wanted in zip(arguments, front) if given[0].isupper() and wanted[0].isupper())
 
 
 def told_texts():
