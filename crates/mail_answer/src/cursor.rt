@@ -24,7 +24,7 @@ use std::alloc::{AllocError, Global};
 use std::marker::Model;
 
 /// The messages of an index that satisfy a query and are still to come, rising. No list of them is kept.
-#[derive(Debug, Drop)]
+#[derive(Drop)]
 pub struct Cursor<'a> {
     walk: Walk<'a>,
     // One past the last number that was given.

@@ -3,7 +3,7 @@ ghost use Rattle.std.specs.Prelude.{◌≡◌};
 ghost use Rattle.mail_answer.specs.CursorAhead.{lesser_of};
 
 /// What a walk remembers of the first number that is still to come.
-#[derive(Clone, Copy, Debug, Drop)]
+#[derive(Clone, Copy, Drop)]
 pub(crate) enum Head {
     /// Nothing: it was not asked yet.
     Unasked,

@@ -7,7 +7,7 @@ use mail_index::{Postings, Steps};
 use std::marker::Model;
 
 /// The messages of a posting list still to come: the first of them may have been taken from it already.
-#[derive(Debug, Drop)]
+#[derive(Drop)]
 pub(crate) struct Listed<'a> {
     count: u32,
     first: Option<u32>,

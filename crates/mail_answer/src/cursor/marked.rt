@@ -19,7 +19,7 @@ const WINDOW: usize = 4096;
 /// The messages that come in some of many posting lists. Those that lie in a window are marked: going
 /// from list to list at each number would wait for memory at each step. Where no mark is left, the
 /// window begins anew at the least number of the lists.
-#[derive(Debug, Drop)]
+#[derive(Drop)]
 pub(crate) struct Marked<'a> {
     // The lists, each from the first number behind the window on. Those at their end are taken out.
     lists: Vec<Listed<'a>>,

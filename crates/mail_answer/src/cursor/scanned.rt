@@ -15,7 +15,7 @@ use mail_words::{Flag, Flags};
 use std::marker::Model;
 
 /// What is asked of a message's record.
-#[derive(Clone, Copy, Debug, Drop)]
+#[derive(Clone, Copy, Drop)]
 pub(crate) enum Asked {
     /// Nothing.
     Any,
@@ -79,7 +79,7 @@ fn next_asked(index: &IndexView<'_>, asked: Asked, next: &mut u32, steps: &mut S
 }
 
 /// The messages still to come of those whose records are as asked: the first of them may have been found already.
-#[derive(Debug, Drop)]
+#[derive(Drop)]
 pub(crate) struct Scanned<'a> {
     index: IndexView<'a>,
     asked: Asked,

@@ -20,7 +20,7 @@ const MOST: usize = 4;
 /// A walk through the messages that satisfy a query. It remembers its first number, so it goes on in its members only where it
 /// has to.
 #[cycle(walk)]
-#[derive(Debug, Drop)]
+#[derive(Drop)]
 pub(crate) struct Walk<'a> {
     node: Node<'a>,
     head: Head,
@@ -28,7 +28,7 @@ pub(crate) struct Walk<'a> {
 
 /// What a walk goes along.
 #[cycle(walk)]
-#[derive(Debug, Drop)]
+#[derive(Drop)]
 enum Node<'a> {
     /// A posting list.
     Listed(Listed<'a>),
@@ -46,7 +46,7 @@ enum Node<'a> {
 
 /// The messages from `low` on, of `count` in all, that don't come in the inner walk.
 #[cycle(walk)]
-#[derive(Debug, Drop)]
+#[derive(Drop)]
 struct Others<'a> {
     low: u32,
     count: u32,

@@ -8,7 +8,7 @@ use memchr::memrchr;
 const LONGEST: u32 = 65_536;
 
 /// How the last line of some bytes stands.
-#[derive(Clone, Copy, Debug)]
+#[derive(Clone, Copy)]
 pub(crate) enum Ending {
     /// It is LF, or CR LF.
     Empty,

@@ -25,7 +25,7 @@ use crate::view::steps::Steps;
 use std::marker::Model;
 
 /// The table of an index file, read in the file's own bytes.
-#[derive(Debug, Drop)]
+#[derive(Drop)]
 pub struct IndexView<'a> {
     layout: Layout<'a>,
 }

@@ -15,7 +15,7 @@ use crate::view::posting_walk::part;
 use sha2::{Digest, Sha256};
 
 /// The sections of a file, by the lengths that its counts tell.
-#[derive(Clone, Copy, Debug)]
+#[derive(Clone, Copy)]
 pub(crate) struct Layout<'a> {
     pub(crate) version: Version,
     pub(crate) archive_count: u32,

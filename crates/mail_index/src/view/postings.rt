@@ -10,7 +10,7 @@ use crate::view::steps::Steps;
 use std::marker::Model;
 
 /// The rising numbers still to come of the messages that have a key.
-#[derive(Debug, Drop)]
+#[derive(Drop)]
 pub struct Postings<'a> {
     bytes: &'a [u8],
     // One past the last number.
