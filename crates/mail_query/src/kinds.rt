@@ -19,7 +19,11 @@ pub struct Kinds {
 /// The set of these fields of `Kinds`.
 macro_rules! kinds {
     ($($kind:ident),*) => {
-        Kinds { $($kind: true,)* ..Kinds::NONE }
+        {
+            let mut kinds = Kinds::NONE;
+            $(kinds.$kind = true;)*
+            kinds
+        }
     };
 }
 

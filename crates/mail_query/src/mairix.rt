@@ -24,9 +24,6 @@ use crate::size::sizes_of;
 use mail_dates::{Moment, range_of};
 use std::alloc::Global;
 
-/// Where a pattern without a prefix is sought: in five of the seven kinds, neither in blind copies nor in names of parts.
-const PLAIN_KINDS: Kinds = kinds!(to, cc, from, subject, body);
-
 /// What a list of patterns asks: each of them.
 ///
 /// A pattern is a prefix, `:` and a rest, cut at the first `:`, or a rest alone. The first faulty pattern is
@@ -68,7 +65,9 @@ fn read_pattern(alloc: Global, pattern: &str, now: Moment) -> Result<Node, Query
     ensures { Gives query_of kind_refusal result (pattern_query (pattern_lexicon now) pattern.now) }
 {
     let Some((prefix, rest)) = cut(pattern, ':') else {
-        return read_rest(alloc, Target::Words(PLAIN_KINDS), pattern);
+        // In five of the seven kinds, neither in blind copies nor in names of parts.
+        let kinds = kinds!(to, cc, from, subject, body);
+        return read_rest(alloc, Target::Words(kinds), pattern);
     };
     match prefix {
         "m" => read_rest(alloc, Target::OwnId, rest),

@@ -16,9 +16,6 @@ use mail_dates::iso_range;
 use mail_words::{is_one_word, is_part_of_word};
 use std::alloc::Global;
 
-/// Without a prefix a word is sought in each kind of text but names of parts.
-const BARE_KINDS: Kinds = kinds!(to, cc, bcc, from, subject, body);
-
 /// What a term asks, by its prefix, if it has one, and the text behind it.
 pub(crate) fn read_parts(
     alloc: Global,
@@ -30,7 +27,8 @@ pub(crate) fn read_parts(
     match prefix {
         None if rest == "*" => Ok(Node::Any),
         None if rest.eq_ignore_ascii_case("xor") => Err(QueryFaultKind::BadWord),
-        None => read_word(alloc, BARE_KINDS, rest),
+        // In each kind of text but names of parts.
+        None => read_word(alloc, kinds!(to, cc, bcc, from, subject, body), rest),
         Some(_) if rest.is_empty() => Err(QueryFaultKind::MissingTerm),
         Some(Field::From) => read_word(alloc, kinds!(from), rest),
         Some(Field::To) => read_word(alloc, kinds!(to, cc, bcc), rest),
