@@ -13,7 +13,7 @@ mod reader;
 mod term;
 mod token;
 
-use crate::boolean::reader::{new_reader, read_end, read_token};
+use crate::boolean::reader::Reader;
 use crate::boolean::token::next_token;
 use crate::fault::{QueryFault, QueryFaultKind};
 use crate::query::Query;
@@ -39,17 +39,19 @@ fn read_tokens(alloc: Global, text: &str) -> Result<Query, QueryFault>
     ensures answer { Gives meaning query_refusal result (boolean_query text.now) }
     ensures memory { IfErr result (λ f. f.kind ≡ QueryFaultKind.OutOfMemory → f.number ≡ 0) }
 {
-    let mut reader = new_reader(alloc);
+    let mut reader = Reader::new(alloc);
     let mut rest = text;
     let mut number = 1;
     'tokens: while let Some((token, behind)) = next_token(rest) {
-        reader = read_token(alloc, reader, token).map_err(|kind| QueryFault::at(number, kind))?;
+        let read = reader.read(alloc, token);
+        read.map_err(|kind| QueryFault::at(number, kind))?;
         rest = behind;
         number += 1;
     }
     if number == 1 {
         return Err(QueryFault::at(1, QueryFaultKind::NoPattern));
     }
-    let node = read_end(reader).map_err(|kind| QueryFault::at(number, kind))?;
+    let ended = reader.end(alloc);
+    let node = ended.map_err(|kind| QueryFault::at(number, kind))?;
     Ok(Query::new(node))
 }

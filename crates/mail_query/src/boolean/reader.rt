@@ -1,5 +1,5 @@
 //! How far a boolean query was read.
-ghost use Rattle.std.specs.Prelude.{◌≡◌, IfOk};
+ghost use Rattle.std.specs.Prelude.{◌≡◌, IfOk, OnOk};
 ghost use Rattle.contract_words.specs.Answers.{Gives};
 ghost use Rattle.mail_query.specs.Query.{query_of};
 ghost use Rattle.mail_query.specs.Refusals.{kind_refusal};
@@ -14,6 +14,7 @@ use crate::fault::QueryFaultKind;
 use crate::node::{Node, all_of, either_of, negated};
 use crate::pieces::cut;
 use std::alloc::{AllocError, Global};
+use std::mem;
 
 /// So many `(` and `not` may wait for their end at once.
 const MOST_WAITING: usize = 30;
@@ -40,23 +41,21 @@ impl Level {
         }
     }
 
-    fn each_ended(self, alloc: Global) -> Result<Level, AllocError>
-        ensures { IfOk result (λ level. shown_level level ≡ each_ended (shown_level self)) }
+    /// An `or` ends an `each`.
+    fn end_each(&mut self, alloc: Global) -> Result<(), AllocError>
+        ensures { OnOk result (shown_level self.new ≡ each_ended (shown_level self.old)) }
     {
-        let mut eaches = self.eaches;
-        eaches.push(all_of(self.members))?;
-        Ok(Level {
-            eaches,
-            ..Level::empty(alloc)
-        })
+        let members = mem::replace(&mut self.members, Vec::new(alloc));
+        self.eaches.push(all_of(members))?;
+        self.seen = Fields::NONE;
+        Ok(())
     }
 
-    fn into_node(self) -> Result<Node, AllocError>
+    fn into_node(mut self, alloc: Global) -> Result<Node, AllocError>
         ensures { IfOk result (λ node. query_of node ≡ level_query (shown_level self)) }
     {
-        let mut eaches = self.eaches;
-        eaches.push(all_of(self.members))?;
-        Ok(either_of(eaches))
+        self.end_each(alloc)?;
+        Ok(either_of(self.eaches))
     }
 }
 
@@ -76,154 +75,140 @@ pub(crate) struct Reader {
     wanted: bool,
 }
 
-pub(crate) fn new_reader(alloc: Global) -> Reader
-    ensures { shown result ≡ start }
-{
-    Reader {
-        waiting: Vec::new(alloc),
-        level: Level::empty(alloc),
-        wanted: true,
-    }
-}
-
-/// What is read with one token more.
-pub(crate) fn read_token(
-    alloc: Global,
-    mut reader: Reader,
-    token: Token<'_>,
-) -> Result<Reader, QueryFaultKind>
-    ensures { Gives shown kind_refusal result
-        (step boolean_lexicon (shown reader) (shown_token token.entry)) }
-{
-    match token {
-        Token::Term(term) => read_term(alloc, reader, term),
-        Token::Not => deeper(reader.waiting, Waiting::ForNot, reader.level),
-        Token::Open => deeper(
-            reader.waiting,
-            Waiting::ForClose(reader.level),
-            Level::empty(alloc),
-        ),
-        Token::Close => read_close(alloc, reader),
-        Token::And | Token::Or if reader.wanted => Err(QueryFaultKind::MissingTerm),
-        Token::And => {
-            reader.level.seen = Fields::NONE;
-            reader.wanted = true;
-            Ok(reader)
-        }
-        Token::Or => Ok(Reader {
-            waiting: reader.waiting,
-            level: reader.level.each_ended(alloc)?,
+impl Reader {
+    pub(crate) fn new(alloc: Global) -> Reader
+        ensures { shown result ≡ start }
+    {
+        Reader {
+            waiting: Vec::new(alloc),
+            level: Level::empty(alloc),
             wanted: true,
-        }),
-    }
-}
-
-/// What the whole asks, where nothing more comes.
-pub(crate) fn read_end(reader: Reader) -> Result<Node, QueryFaultKind>
-    ensures { Gives query_of kind_refusal result (ended (shown reader)) }
-{
-    if reader.wanted {
-        return Err(QueryFaultKind::MissingTerm);
-    }
-    if has_open(reader.waiting.as_slice()) {
-        return Err(QueryFaultKind::BadParenthesis);
-    }
-    Ok(reader.level.into_node()?)
-}
-
-fn read_term(alloc: Global, reader: Reader, term: &str) -> Result<Reader, QueryFaultKind>
-    ensures { Gives shown kind_refusal result (term_step boolean_lexicon (shown reader) term.now) }
-{
-    if term.as_bytes().contains(&b'"') {
-        return Err(QueryFaultKind::Phrase);
-    }
-    match cut(term, ':') {
-        None => read_cut_term(alloc, reader, None, term),
-        Some((name, rest)) => {
-            let field = field_of(name).ok_or(QueryFaultKind::BadPrefix)?;
-            read_cut_term(alloc, reader, Some(field), rest)
         }
     }
-}
 
-fn read_cut_term(
-    alloc: Global,
-    reader: Reader,
-    prefix: Option<Field>,
-    rest: &str,
-) -> Result<Reader, QueryFaultKind>
-    ensures { Gives shown kind_refusal result
-        (cut_term_step boolean_lexicon (shown reader) prefix rest.now) }
-{
-    let negated = is_negated(reader.waiting.as_slice());
-    if !negated && reader.level.seen.has(prefix) {
-        return Err(QueryFaultKind::NeedsOperator);
-    }
-    let node = read_parts(alloc, prefix, rest)?;
-    let mut level = reader.level;
-    if !negated {
-        level.seen = level.seen.with(prefix);
-    }
-    Ok(placed(alloc, reader.waiting, level, node)?)
-}
-
-/// Lets one more `(` or `not` wait, if fewer than 30 do.
-fn deeper(mut waiting: Vec<Waiting>, what: Waiting, level: Level) -> Result<Reader, QueryFaultKind>
-    ensures { Gives shown kind_refusal result
-        (deeper (shown_stack waiting.items) (shown_waiting what) (shown_level level)) }
-{
-    if waiting.len() >= MOST_WAITING {
-        return Err(QueryFaultKind::TooDeep);
-    }
-    waiting.push(what).map_err(AllocError::from)?;
-    Ok(Reader {
-        waiting,
-        level,
-        wanted: true,
-    })
-}
-
-fn read_close(alloc: Global, reader: Reader) -> Result<Reader, QueryFaultKind>
-    ensures { Gives shown kind_refusal result (closed (shown reader)) }
-{
-    let mut waiting = reader.waiting;
-    if reader.wanted {
-        return Err(if has_open(waiting.as_slice()) {
-            QueryFaultKind::MissingTerm
-        } else {
-            QueryFaultKind::BadParenthesis
-        });
-    }
-    match waiting.pop() {
-        Some(Waiting::ForClose(outer)) => {
-            let node = reader.level.into_node()?;
-            Ok(placed(alloc, waiting, outer, node)?)
+    /// Reads one token more.
+    pub(crate) fn read(&mut self, alloc: Global, token: Token<'_>) -> Result<(), QueryFaultKind>
+        ensures { Gives (λ _. shown self.new) kind_refusal result
+            (step boolean_lexicon (shown self.old) (shown_token token.entry)) }
+    {
+        match token {
+            Token::Term(term) => self.read_term(alloc, term),
+            Token::Not => self.wait(Waiting::ForNot),
+            Token::Open => {
+                let outer = mem::replace(&mut self.level, Level::empty(alloc));
+                self.wait(Waiting::ForClose(outer))
+            }
+            Token::Close => self.close(alloc),
+            Token::And | Token::Or if self.wanted => Err(QueryFaultKind::MissingTerm),
+            Token::And => {
+                self.level.seen = Fields::NONE;
+                self.wanted = true;
+                Ok(())
+            }
+            Token::Or => {
+                self.level.end_each(alloc)?;
+                self.wanted = true;
+                Ok(())
+            }
         }
-        Some(Waiting::ForNot) => Err(QueryFaultKind::BadParenthesis),
-        None => Err(QueryFaultKind::BadParenthesis),
     }
-}
 
-/// A `some` ends, and so does each `not` that waited for it.
-fn placed(
-    alloc: Global,
-    mut waiting: Vec<Waiting>,
-    mut level: Level,
-    mut node: Node,
-) -> Result<Reader, AllocError>
-    ensures { IfOk result (λ reader. shown reader
-        ≡ placed (shown_stack waiting.items) (shown_level level) (query_of node)) }
-{
-    'nots: while is_negated(waiting.as_slice()) {
-        waiting.truncate(waiting.len() - 1);
-        node = negated(alloc, node)?;
+    /// What the whole asks, where nothing more comes.
+    pub(crate) fn end(self, alloc: Global) -> Result<Node, QueryFaultKind>
+        ensures { Gives query_of kind_refusal result (ended (shown self)) }
+    {
+        if self.wanted {
+            return Err(QueryFaultKind::MissingTerm);
+        }
+        if has_open(self.waiting.as_slice()) {
+            return Err(QueryFaultKind::BadParenthesis);
+        }
+        Ok(self.level.into_node(alloc)?)
     }
-    level.members.push(node)?;
-    Ok(Reader {
-        waiting,
-        level,
-        wanted: false,
-    })
+
+    fn read_term(&mut self, alloc: Global, term: &str) -> Result<(), QueryFaultKind>
+        ensures { Gives (λ _. shown self.new) kind_refusal result
+            (term_step boolean_lexicon (shown self.old) term.now) }
+    {
+        if term.as_bytes().contains(&b'"') {
+            return Err(QueryFaultKind::Phrase);
+        }
+        match cut(term, ':') {
+            None => self.read_cut_term(alloc, None, term),
+            Some((name, rest)) => {
+                let field = field_of(name).ok_or(QueryFaultKind::BadPrefix)?;
+                self.read_cut_term(alloc, Some(field), rest)
+            }
+        }
+    }
+
+    fn read_cut_term(
+        &mut self,
+        alloc: Global,
+        prefix: Option<Field>,
+        rest: &str,
+    ) -> Result<(), QueryFaultKind>
+        ensures { Gives (λ _. shown self.new) kind_refusal result
+            (cut_term_step boolean_lexicon (shown self.old) prefix rest.now) }
+    {
+        let negated = is_negated(self.waiting.as_slice());
+        if !negated && self.level.seen.has(prefix) {
+            return Err(QueryFaultKind::NeedsOperator);
+        }
+        let node = read_parts(alloc, prefix, rest)?;
+        if !negated {
+            self.level.seen = self.level.seen.with(prefix);
+        }
+        Ok(self.place(alloc, node)?)
+    }
+
+    /// Lets one more `(` or `not` wait, if fewer than 30 do.
+    fn wait(&mut self, what: Waiting) -> Result<(), QueryFaultKind>
+        ensures { Gives (λ _. shown self.new) kind_refusal result
+            (deeper (shown_stack self.old.waiting.items) (shown_waiting what)
+            (shown_level self.old.level)) }
+    {
+        if self.waiting.len() >= MOST_WAITING {
+            return Err(QueryFaultKind::TooDeep);
+        }
+        self.waiting.push(what).map_err(AllocError::from)?;
+        self.wanted = true;
+        Ok(())
+    }
+
+    fn close(&mut self, alloc: Global) -> Result<(), QueryFaultKind>
+        ensures { Gives (λ _. shown self.new) kind_refusal result (closed (shown self.old)) }
+    {
+        if self.wanted {
+            return Err(if has_open(self.waiting.as_slice()) {
+                QueryFaultKind::MissingTerm
+            } else {
+                QueryFaultKind::BadParenthesis
+            });
+        }
+        match self.waiting.pop() {
+            Some(Waiting::ForClose(outer)) => {
+                let inner = mem::replace(&mut self.level, outer);
+                Ok(self.place(alloc, inner.into_node(alloc)?)?)
+            }
+            Some(Waiting::ForNot) => Err(QueryFaultKind::BadParenthesis),
+            None => Err(QueryFaultKind::BadParenthesis),
+        }
+    }
+
+    /// A `some` ends, and so does each `not` that waited for it.
+    fn place(&mut self, alloc: Global, mut node: Node) -> Result<(), AllocError>
+        ensures { OnOk result (shown self.new
+            ≡ placed (shown_stack self.old.waiting.items) (shown_level self.old.level) (query_of node)) }
+    {
+        'nots: while is_negated(self.waiting.as_slice()) {
+            self.waiting.truncate(self.waiting.len() - 1);
+            node = negated(alloc, node)?;
+        }
+        self.level.members.push(node)?;
+        self.wanted = false;
+        Ok(())
+    }
 }
 
 /// Whether a `not` waits nearest.

@@ -1,6 +1,6 @@
 use Rattle.mail_query.proofs.Words.{arith}
 use Rattle.mail_query.proofs.BooleanLaws.StackLemmas.{deeper-full, deeper-room, length-shown_stack, shown_stack-push}
-use Rattle.mail_query.proofs.boolean.reader.deeper.Goals as goal
+use Rattle.mail_query.proofs.boolean.reader.Reader.wait.Goals as goal
 
 pub returns-then-len-ge-MOST_WAITING : goal.returns-then-len-ge-MOST_WAITING
 returns-then-len-ge-MOST_WAITING c = grind (arith, length-shown_stack, deeper-full)

@@ -1,6 +1,6 @@
 use Rattle.mail_query.proofs.Words.{arith}
 use Rattle.mail_query.proofs.BooleanLaws.StackLemmas.{placed-not}
-use Rattle.mail_query.proofs.boolean.reader.placed.Goals as goal
+use Rattle.mail_query.proofs.boolean.reader.Reader.place.Goals as goal
 
 pub nots-preserved : goal.nots-preserved
 nots-preserved c = grind (arith, placed-not)
