@@ -1,6 +1,5 @@
 pub mod Words
 pub mod Entries
-pub mod Misfits
 pub mod OneKind
 pub mod Parses
 mod RowsCommandLine

@@ -1,5 +1,5 @@
 -- What a parse of the words says of the plan.
-use Rattle.mairix_options.proofs.Words.{◌≡◌, ◌∙◌, ◌⊎◌, true, List, [], Result, Ok, Err, IfOk, IfSome, refl, sym, subst, ap, arith, FailsBy, Text, HasMatchesOf, fault_of, matches_of, is_simple, is_simple_and_free, rows_of, found_of, kind_of, Error, ErrorKind, ArgMatches, if_some_map, Gives, ◌>>=◌, command, parse, parse_by, plan, plan_of_rows, plan_in, one_format, refusal_of_kind, kind_refusal, error_refusal, fault_of_kind, refusal, Plan, UsageFault, OrMemory}
+use Rattle.mairix_options.proofs.Words.{◌≡◌, ◌⊎◌, true, List, [], Result, Ok, Err, IfOk, IfSome, refl, sym, subst, ap, arith, FailsBy, Text, HasMatchesOf, fault_of, matches_of, is_simple, is_simple_and_free, rows_of, found_of, kind_of, Error, ErrorKind, ArgMatches, if_some_map, Gives, ◌>>=◌, command, parse, parse_by, plan, plan_of_rows, plan_in, one_format, refusal_of_kind, kind_refusal, error_refusal, fault_of_kind, refusal, Plan, UsageFault, OrMemory}
 use Rattle.clap.specs.Words.{Kinds, IsAmong, Row, built}
 use Rattle.clap.specs.declared.error.kind.ErrorKind.TheVariants as kind
 use Rattle.mairix_options.proofs.OneKind.{One, one_fault}
@@ -43,12 +43,12 @@ Gives-parsed words (Ok m) matches none = parse-taken words m none (matches simpl
 Gives-parsed words (Err e) matches has = parse-refused words (kind_of e) has
 
 -- what the parser takes, with one format
-pub Gives-planned : (words : List Text) (parsed : Result ArgMatches Error) (m : ArgMatches) (p : Plan) (r : Result Plan (OrMemory UsageFault))
-    → Gives plan_in error_refusal parsed (parse words) → parsed ≡ Ok m → p ≡ plan_in m → Gives (λ p. p) refusal r (one_format p) → Gives (λ p. p) refusal r (plan words)
+pub Gives-planned : (words : List Text) (parsed : Result ArgMatches Error) (m : ArgMatches) (r : Result Plan (OrMemory UsageFault))
+    → Gives plan_in error_refusal parsed (parse words) → parsed ≡ Ok m → Gives (λ p. p) refusal r (one_format (plan_in m)) → Gives (λ p. p) refusal r (plan words)
 unfolding plan
-Gives-planned words parsed m p r gives is planned one =
+Gives-planned words parsed m r gives is one =
     let takes = subst (λ (q : Result ArgMatches Error). Gives plan_in error_refusal q (parse words)) is gives in
-    subst (Gives (λ p. p) refusal r) (ap (λ t. t >>= one_format) (ap Ok planned ∙ sym takes)) one
+    subst (Gives (λ p. p) refusal r) (ap (λ t. t >>= one_format) (sym takes)) one
 
 -- a kind is told as its refusal
 told : (k : ErrorKind) (P : UsageFault → Type 0) → IfSome (kind_refusal k) P → IfSome (refusal (fault_of_kind k)) P

@@ -257,22 +257,22 @@ pub paths-are-paths : (rc : List ℕ) (r : Rc) → rc_of rc ≡ Ok r → All IsP
 paths-are-paths rc r is = let all = rc-all-paths rc r is in all.paths
 
 -- the same of what reads it
-module _ (rc : List ℕ) (settings : List Setting) (collects : settings_from [] 1 (lines_in rc) ≡ Ok settings) where
-  read-all : (result : Result Rc (OrMemory RcFault)) → Gives (λ r. r) refusal result (rc_from settings) → IfOk result AllPaths
-  read-all (Ok r) gives = rc-all-paths rc r (ap (λ s. s >>= rc_from) collects ∙ gives)
+module _ (rc : List ℕ) where
+  read-all : (result : Result Rc (OrMemory RcFault)) → Gives (λ r. r) refusal result (rc_of rc) → IfOk result AllPaths
+  read-all (Ok r) gives = rc-all-paths rc r gives
   read-all (Err fault) gives = tt
 
-  read-each : (P : Rc → Type 0) → ((r : Rc) → AllPaths r → P r) → (result : Result Rc (OrMemory RcFault)) → Gives (λ r. r) refusal result (rc_from settings) → IfOk result P
+  read-each : (P : Rc → Type 0) → ((r : Rc) → AllPaths r → P r) → (result : Result Rc (OrMemory RcFault)) → Gives (λ r. r) refusal result (rc_of rc) → IfOk result P
   read-each P h result h2 = grind (arith, read-all)
 
-  pub read-base : (result : Result Rc (OrMemory RcFault)) → Gives (λ r. r) refusal result (rc_from settings) → IfOk result (λ r. IfSome r.base IsPath)
+  pub read-base : (result : Result Rc (OrMemory RcFault)) → Gives (λ r. r) refusal result (rc_of rc) → IfOk result (λ r. IfSome r.base IsPath)
   read-base result gives = read-each (λ r. IfSome r.base IsPath) (λ r all. all.base) result gives
 
-  pub read-paths : (result : Result Rc (OrMemory RcFault)) → Gives (λ r. r) refusal result (rc_from settings) → IfOk result (λ r. All IsPath r.paths)
+  pub read-paths : (result : Result Rc (OrMemory RcFault)) → Gives (λ r. r) refusal result (rc_of rc) → IfOk result (λ r. All IsPath r.paths)
   read-paths result gives = read-each (λ r. All IsPath r.paths) (λ r all. all.paths) result gives
 
-  pub read-database : (result : Result Rc (OrMemory RcFault)) → Gives (λ r. r) refusal result (rc_from settings) → IfOk result (λ r. IsPath r.database)
+  pub read-database : (result : Result Rc (OrMemory RcFault)) → Gives (λ r. r) refusal result (rc_of rc) → IfOk result (λ r. IsPath r.database)
   read-database result gives = read-each (λ r. IsPath r.database) (λ r all. all.database) result gives
 
-  pub read-mfolder : (result : Result Rc (OrMemory RcFault)) → Gives (λ r. r) refusal result (rc_from settings) → IfOk result (λ r. IsPath r.mfolder)
+  pub read-mfolder : (result : Result Rc (OrMemory RcFault)) → Gives (λ r. r) refusal result (rc_of rc) → IfOk result (λ r. IsPath r.mfolder)
   read-mfolder result gives = read-each (λ r. IsPath r.mfolder) (λ r all. all.mfolder) result gives

@@ -32,8 +32,9 @@ pub fn answer_file(alloc: Global, plan: &Plan, rc: &Rc) -> Result<Option<Text>, 
     if plan.stdout || answer_format(plan, rc) != MailFormat::Mbox {
         return Ok(None);
     }
-    match &plan.mfolder {
-        Some(name) => Ok(Some(mfolder_path(alloc, &rc.base, name.as_str())?)),
-        None => Ok(Some(Text::new(alloc, rc.mfolder.as_str())?)),
-    }
+    let file = match &plan.mfolder {
+        Some(name) => mfolder_path(alloc, &rc.base, name.as_str()),
+        None => Text::new(alloc, rc.mfolder.as_str()),
+    };
+    Ok(Some(file?))
 }

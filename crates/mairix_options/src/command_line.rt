@@ -2,7 +2,7 @@
 ghost use Rattle.std.specs.Prelude.{◌≡◌, [], true, false, map, option_map, unwrap_or, is_ok, IfOk, codes, string_bytes};
 ghost use Rattle.clap.specs.Words.{app_of, rule_of, found_of, rows_of, first_of, all_of};
 ghost use Rattle.contract_words.specs.Answers.{Gives};
-ghost use Rattle.mairix_options.specs.CommandLine.{bare_flag, rcfile_option, mfolder_option, pattern_argument, bare_command, command, flag, parse, plan, plan_in, fault_of_kind, error_refusal};
+ghost use Rattle.mairix_options.specs.CommandLine.{bare_flag, long_flag, rcfile_option, mfolder_option, pattern_argument, bare_command, command, flag, parse, plan, plan_in, one_format, fault_of_kind, error_refusal};
 ghost use Rattle.mairix_options.specs.Refusals.{refusal};
 
 use crate::or_memory::OrMemory;
@@ -117,13 +117,7 @@ pub fn plan_of(alloc: Global, words: &[String]) -> Result<Plan, OrMemory<UsageFa
     ensures { Gives (λ p. p) refusal result (plan (map string_bytes words.now)) }
 {
     match parsed(alloc, words)? {
-        Ok(matches) => {
-            let plan = planned(alloc, &matches)?;
-            if plan.raw && plan.excerpt {
-                return Err(OrMemory::Refused(UsageFault::TwoFormats));
-            }
-            Ok(plan)
-        }
+        Ok(matches) => planned(alloc, &matches),
         Err(error) => Err(fault_of_kind(error.kind())),
     }
 }
@@ -152,13 +146,18 @@ fn parsed<'a>(
     Ok(command(alloc)?.try_get_matches_from(words))
 }
 
-fn planned(alloc: Global, matches: &ArgMatches<'_>) -> Result<Plan, AllocError>
-    ensures { IfOk result (λ p. p ≡ plan_in matches.now) }
+fn planned(alloc: Global, matches: &ArgMatches<'_>) -> Result<Plan, OrMemory<UsageFault>>
+    ensures { Gives (λ p. p) refusal result (one_format (plan_in matches.now)) }
 {
+    let raw = is_set(matches, "raw");
+    let excerpt = is_set(matches, "excerpt");
+    if raw && excerpt {
+        return Err(OrMemory::Refused(UsageFault::TwoFormats));
+    }
     Ok(Plan {
         rcfile: Text::new(alloc, text_of(matches, "rcfile").unwrap_or(""))?,
-        raw: is_set(matches, "raw"),
-        excerpt: is_set(matches, "excerpt"),
+        raw,
+        excerpt,
         threads: is_set(matches, "threads"),
         mfolder: text_of(matches, "mfolder")
             .map(|name| Text::new(alloc, name))
@@ -180,7 +179,7 @@ fn text_of<'a>(matches: &ArgMatches<'a>, id: &str) -> Option<&'a str>
 fn is_set(matches: &ArgMatches<'_>, id: &str) -> bool
     ensures { result ≡ flag id.now (rows_of (found_of matches.now)) }
 {
-    text_of(matches, id).is_some_and(|text| text == "true")
+    matches!(text_of(matches, id), Some("true"))
 }
 
 fn texts_of(alloc: Global, matches: &ArgMatches<'_>, id: &str) -> Result<Texts, AllocError>
@@ -204,17 +203,19 @@ fn fault_of_kind(kind: ErrorKind) -> OrMemory<UsageFault>
 fn command<'a>(alloc: Global) -> Result<Command<'a>, AllocError>
     ensures { IfOk result (λ c. app_of c ≡ command) }
 {
-    bare_command(alloc)
-        .arg(rcfile_option(alloc))?
-        .arg(flag(alloc, "raw", OUTPUT, RAW).short('r'))?
-        .arg(flag(alloc, "excerpt", OUTPUT, EXCERPT).short('x'))?
-        .arg(flag(alloc, "threads", SEARCHING, THREADS).short('t'))?
-        .arg(mfolder_option(alloc))?
-        .arg(flag(alloc, "stdout", OUTPUT, STDOUT).long("stdout"))?
-        .arg(flag(alloc, "boolean", SEARCHING, BOOLEAN).long("boolean"))?
-        .arg(flag(alloc, "once", SEARCHING, ONCE).long("once"))?
-        .arg(flag(alloc, "verify", SEARCHING, VERIFY).long("verify"))?
-        .arg(pattern_argument(alloc))
+    let args = vec![in alloc;
+        rcfile_option(alloc),
+        flag(alloc, "raw", OUTPUT, RAW).short('r'),
+        flag(alloc, "excerpt", OUTPUT, EXCERPT).short('x'),
+        flag(alloc, "threads", SEARCHING, THREADS).short('t'),
+        mfolder_option(alloc),
+        named_flag(alloc, "stdout", OUTPUT, STDOUT),
+        named_flag(alloc, "boolean", SEARCHING, BOOLEAN),
+        named_flag(alloc, "once", SEARCHING, ONCE),
+        named_flag(alloc, "verify", SEARCHING, VERIFY),
+        pattern_argument(alloc),
+    ]?;
+    bare_command(alloc).args(args)
 }
 
 fn bare_command<'a>(alloc: Global) -> Command<'a>
@@ -269,4 +270,11 @@ fn flag<'a>(alloc: Global, id: &'a str, group: &'a str, help: &'a str) -> Arg<'a
         .action(ArgAction::SetTrue)
         .help_heading(group)
         .help(help)
+}
+
+fn named_flag<'a>(alloc: Global, name: &'a str, group: &'a str, help: &'a str) -> Arg<'a>
+    ensures rule { rule_of result ≡ long_flag name.entry.now }
+    ensures local { result.global ≡ false }
+{
+    flag(alloc, name, group, help).long(name)
 }

@@ -1,5 +1,6 @@
 //! Texts that name files.
-ghost use Rattle.std.specs.Prelude.{◌≡◌, map, IfOk};
+ghost use Rattle.std.specs.Prelude.{◌≡◌, map, IfOk, string_bytes};
+ghost use Rattle.std.specs.List.{list_all};
 ghost use Rattle.mairix_options.specs.Path.{is_path, has_expansion, has_wildcard, under, archive_path, mfolder_path};
 
 use crate::owned_text::{Text, Texts};
@@ -11,6 +12,20 @@ pub(crate) fn is_path(text: &str) -> bool
     ensures { result ≡ is_path text.now }
 {
     mail_index::is_path(text)
+}
+
+/// Whether each of these texts can name a file.
+#[tactic(auto, using(crate::proofs::Searches::list_all_map))]
+pub(crate) fn all_are_paths(texts: &Texts) -> bool
+    ensures { result ≡ list_all is_path texts.now }
+{
+    are_paths(texts.as_slice())
+}
+
+fn are_paths(texts: &[String]) -> bool
+    ensures { result ≡ list_all (λ text. is_path (string_bytes text)) texts.now }
+{
+    texts.iter().all(|text| is_path(text.as_str()))
 }
 
 /// Whether a shell would put something else in its place: `$` anywhere, or `~` at the front.
@@ -45,6 +60,18 @@ pub(crate) fn archive_paths(
     Ok(paths)
 }
 
+/// Whether these names are paths under the base.
+pub(crate) fn archives_fit(
+    alloc: Global,
+    base: &Option<Text>,
+    names: &Texts,
+) -> Result<bool, AllocError>
+    ensures { IfOk result (λ fit. fit ≡ list_all is_path
+        (map (archive_path base.now) names.now)) }
+{
+    Ok(all_are_paths(&archive_paths(alloc, base, names)?))
+}
+
 /// The path of the mfolder's name: under the base where there is one, unless it begins with `/` or `.`.
 pub(crate) fn mfolder_path(
     alloc: Global,
@@ -59,6 +86,17 @@ pub(crate) fn mfolder_path(
         name.starts_with("/") || name.starts_with("."),
         name,
     )
+}
+
+/// Whether the mfolder's name is a path under the base.
+pub(crate) fn mfolder_fits(
+    alloc: Global,
+    base: &Option<Text>,
+    name: &str,
+) -> Result<bool, AllocError>
+    ensures { IfOk result (λ fits. fits ≡ is_path (mfolder_path base.now name.now)) }
+{
+    Ok(is_path(mfolder_path(alloc, base, name)?.as_str()))
 }
 
 fn under(

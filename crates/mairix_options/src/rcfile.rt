@@ -1,17 +1,18 @@
 //! What an rcfile says.
-ghost use Rattle.std.specs.Prelude.{◌≡◌, [], IfOk, IfSome};
-ghost use Rattle.std.specs.List.{All, filter_map, last_or, slice_get};
-ghost use Rattle.std.specs.Option.{option_to_list};
+ghost use Rattle.std.specs.Prelude.{◌≡◌, ◌++◌, List, [], ◌∷◌, IfOk, IfSome, OnOk};
+ghost use Rattle.std.specs.List.{All, filter_map, slice_get};
 ghost use Rattle.contract_words.specs.Answers.{Gives};
 ghost use Rattle.mail_index.specs.Tables.{IsPath};
-ghost use Rattle.mairix_options.specs.Rcfile.{base_in, lines_in, settings_from, archives_misfit, first_misfit, all_paths, rc_with, rc_from, rc_of};
+ghost use Rattle.mairix_options.specs.Rcfile.{archives_misfit, first_misfit, all_paths, rc_with, rc_of};
+ghost use Rattle.mairix_options.specs.Inside.Said.{Says, rc_behind};
+ghost use Rattle.mairix_options.specs.declared.setting.Setting.{Setting};
 ghost use Rattle.mairix_options.specs.Refusals.{refusal};
 
 use crate::mail_format::MailFormat;
 use crate::or_memory::OrMemory;
 use crate::owned_text::{Text, Texts};
-use crate::path::{archive_paths, is_path, mfolder_path};
-use crate::setting::{ArchivesLine, MfolderLine, Setting, all_are_paths, line_setting};
+use crate::path::{archive_paths, archives_fit, mfolder_fits, mfolder_path};
+use crate::setting::{ArchivesLine, MfolderLine, Setting, line_setting};
 use bstr::ByteSlice;
 use std::alloc::{AllocError, Global};
 
@@ -86,110 +87,83 @@ pub fn read_rc(alloc: Global, rc: &[u8]) -> Result<Rc, OrMemory<RcFault>>
     ensures database { IfOk result (λ r. IsPath r.database) }
     ensures mfolder { IfOk result (λ r. IsPath r.mfolder) }
 {
-    let settings = settings_in(alloc, rc)?;
-    rc_from(alloc, settings)
+    let mut said = Said {
+        base: None,
+        archives: Vec::new(alloc),
+        database: None,
+        mfolder: None,
+        format: None,
+    };
+    rc_behind(alloc, &mut said, rc)
 }
 
-fn settings_in(alloc: Global, rc: &[u8]) -> Result<Vec<Setting>, OrMemory<RcFault>>
-    ensures { Gives (λ v. v.items) refusal result (settings_from [] 1 (lines_in rc.now)) }
+/// What the lines say behind those before.
+fn rc_behind(alloc: Global, said: &mut Said, rc: &[u8]) -> Result<Rc, OrMemory<RcFault>>
+    ensures { (before : List Setting) → Says before said.old
+        → Gives (λ r. r) refusal result (rc_behind before rc.now) }
 {
-    let mut settings = Vec::new(alloc);
-    let mut base = None;
     let mut number = 1;
     for line in rc.lines() {
-        let setting = line_setting(alloc, &base, number, line)?;
-        base = base_behind(alloc, base, &setting)?;
-        if let Some(setting) = setting {
-            settings.push(setting)?;
+        if let Some(setting) = line_setting(alloc, &said.base, number, line)? {
+            said.add(setting)?;
         }
         number += 1;
     }
-    Ok(settings)
-}
-
-/// The base that counts behind a line.
-fn base_behind(
-    alloc: Global,
-    base: Option<Text>,
-    setting: &Option<Setting>,
-) -> Result<Option<Text>, AllocError>
-    ensures { IfOk result (λ b. b ≡ last_or base (filter_map base_in
-        (option_to_list setting.now))) }
-{
-    match setting {
-        Some(Setting::Base(path)) => Ok(Some(Text::new(alloc, path.as_str())?)),
-        _ => Ok(base),
-    }
-}
-
-fn rc_from(alloc: Global, settings: Vec<Setting>) -> Result<Rc, OrMemory<RcFault>>
-    ensures { Gives (λ r. r) refusal result (rc_from settings.items) }
-{
-    let mut archives = Vec::new(alloc);
-    let mut base = None;
-    let mut database = None;
-    let mut mfolder = None;
-    let mut format = None;
-    for setting in settings {
-        match setting {
-            Setting::Base(path) => base = Some(path),
-            Setting::Archives(line) => archives.push(line)?,
-            Setting::Database(path) => database = Some(path),
-            Setting::Mfolder(line) => mfolder = Some(line),
-            Setting::Format(named) => format = Some(named),
-        }
-    }
-    let said = Said {
-        base,
-        archives,
-        database,
-        mfolder,
-        format,
-    };
     rc_with(alloc, said)
 }
 
-fn rc_with(alloc: Global, said: Said) -> Result<Rc, OrMemory<RcFault>>
-    ensures { Gives (λ r. r) refusal result (rc_with said.base said.archives.items said.database
-        said.mfolder said.format) }
+impl Said {
+    fn add(&mut self, setting: Setting) -> Result<(), AllocError>
+        ensures { (before : List Setting) → Says before self.old
+            → OnOk result (Says (before ++ setting ∷ []) self.new) }
+    {
+        match setting {
+            Setting::Base(path) => self.base = Some(path),
+            Setting::Archives(line) => self.archives.push(line)?,
+            Setting::Database(path) => self.database = Some(path),
+            Setting::Mfolder(line) => self.mfolder = Some(line),
+            Setting::Format(named) => self.format = Some(named),
+        }
+        Ok(())
+    }
+}
+
+fn rc_with(alloc: Global, said: &mut Said) -> Result<Rc, OrMemory<RcFault>>
+    ensures { Gives (λ r. r) refusal result (rc_with said.old.base said.old.archives.items
+        said.old.database said.old.mfolder said.old.format) }
 {
-    if let Some(number) = first_misfit(alloc, &said.base, &said.archives, &said.mfolder)? {
+    if let Some(number) = first_misfit(alloc, said)? {
         return Err(OrMemory::Refused(RcFault::BadLine(number)));
     }
     let paths = all_paths(alloc, &said.base, &said.archives)?;
     if paths.as_slice().is_empty() {
         return Err(OrMemory::Refused(RcFault::Missing(Name::Mbox)));
     }
-    let database = said
-        .database
-        .ok_or(OrMemory::Refused(RcFault::Missing(Name::Database)))?;
-    let mfolder = said
-        .mfolder
-        .ok_or(OrMemory::Refused(RcFault::Missing(Name::Mfolder)))?;
-    let mfolder = mfolder_path(alloc, &said.base, mfolder.name.as_str())?;
+    let Some(database) = &said.database else {
+        return Err(OrMemory::Refused(RcFault::Missing(Name::Database)));
+    };
+    let Some(mfolder) = &said.mfolder else {
+        return Err(OrMemory::Refused(RcFault::Missing(Name::Mfolder)));
+    };
     Ok(Rc {
-        base: said.base,
+        database: Text::new(alloc, database.as_str())?,
+        mfolder: mfolder_path(alloc, &said.base, mfolder.name.as_str())?,
+        base: said.base.take(),
         paths,
-        database,
-        mfolder,
         format: said.format.unwrap_or(MailFormat::Mbox),
     })
 }
 
 /// The number of the first line with a path that is none under the base that counts.
-fn first_misfit(
-    alloc: Global,
-    base: &Option<Text>,
-    archives: &[ArchivesLine],
-    mfolder: &Option<MfolderLine>,
-) -> Result<Option<u64>, AllocError>
-    ensures { IfOk result (λ n. n ≡ first_misfit base.now archives.now mfolder.now) }
+fn first_misfit(alloc: Global, said: &Said) -> Result<Option<u64>, AllocError>
+    ensures { IfOk result (λ n. n ≡ first_misfit said.now.base said.now.archives.items
+        said.now.mfolder) }
 {
-    let earliest = first_archives_misfit(alloc, base, archives)?;
-    let Some(line) = mfolder else {
+    let earliest = first_archives_misfit(alloc, &said.base, &said.archives)?;
+    let Some(line) = &said.mfolder else {
         return Ok(earliest);
     };
-    if is_path(mfolder_path(alloc, base, line.name.as_str())?.as_str()) {
+    if mfolder_fits(alloc, &said.base, line.name.as_str())? {
         return Ok(earliest);
     }
     Ok(Some(earliest.map_or(line.number, |number| number.min(line.number))))
@@ -204,7 +178,7 @@ fn first_archives_misfit(
         0) }
 {
     for line in archives {
-        if !all_are_paths(&archive_paths(alloc, base, &line.names)?) {
+        if !archives_fit(alloc, base, &line.names)? {
             return Ok(Some(line.number));
         }
     }

@@ -11,7 +11,9 @@ use crate::blanks::{trimmed, trimmed_text};
 use crate::mail_format::MailFormat;
 use crate::or_memory::OrMemory;
 use crate::owned_text::{Text, Texts};
-use crate::path::{archive_paths, has_expansion, has_wildcard, is_path, mfolder_path};
+use crate::path::{
+    all_are_paths, archives_fit, has_expansion, has_wildcard, is_path, mfolder_fits,
+};
 use crate::rcfile::RcFault;
 use std::alloc::{AllocError, Global};
 use std::str;
@@ -138,13 +140,9 @@ fn has_paths(
     match keyword {
         Some(Keyword::Mbox) => {
             let names = archives_of(alloc, value)?;
-            let paths = archive_paths(alloc, base, &names)?;
-            Ok(all_are_paths(&names) && all_are_paths(&paths))
+            Ok(all_are_paths(&names) && archives_fit(alloc, base, &names)?)
         }
-        Some(Keyword::Mfolder) => {
-            let path = mfolder_path(alloc, base, value)?;
-            Ok(is_path(value) && is_path(path.as_str()))
-        }
+        Some(Keyword::Mfolder) => Ok(is_path(value) && mfolder_fits(alloc, base, value)?),
         _ => Ok(is_path(value)),
     }
 }
@@ -158,9 +156,9 @@ fn supported(
     ensures { Gives (λ s. s) refusal result (supported number keyword value.now) }
 {
     match keyword {
-        Keyword::Base => Ok(Setting::Base(unexpanded(alloc, number, value)?)),
-        Keyword::Mbox => Ok(Setting::Archives(archives_line(alloc, number, value)?)),
-        Keyword::Database => Ok(Setting::Database(unexpanded(alloc, number, value)?)),
+        Keyword::Base => unexpanded(alloc, number, value).map(Setting::Base),
+        Keyword::Mbox => archives_line(alloc, number, value).map(Setting::Archives),
+        Keyword::Database => unexpanded(alloc, number, value).map(Setting::Database),
         Keyword::Mfolder => Ok(Setting::Mfolder(MfolderLine {
             number,
             name: unexpanded(alloc, number, value)?,
@@ -207,19 +205,6 @@ fn archives_of(alloc: Global, value: &str) -> Result<Texts, AllocError>
         }
     }
     Ok(names)
-}
-
-#[tactic(auto, using(crate::proofs::Searches::list_all_map))]
-pub(crate) fn all_are_paths(texts: &Texts) -> bool
-    ensures { result ≡ list_all is_path texts.now }
-{
-    are_paths(texts.as_slice())
-}
-
-fn are_paths(texts: &[String]) -> bool
-    ensures { result ≡ list_all (λ text. is_path (string_bytes text)) texts.now }
-{
-    texts.iter().all(|text| is_path(text.as_str()))
 }
 
 fn some_has_expansion(texts: &[String]) -> bool

@@ -1,14 +1,9 @@
-use Rattle.mairix_options.proofs.Words.{◌∙◌, ap, arith, subst, map, string_bytes, Result, Ok, Err, kind_of, Error, ArgMatches, Gives, parse, plan_in, error_refusal}
-use Rattle.mairix_options.specs.declared.command_line.UsageFault.TheVariants.{TwoFormats}
-use Rattle.mairix_options.specs.declared.or_memory.OrMemory.TheVariants.{Refused}
+use Rattle.mairix_options.proofs.Words.{◌∙◌, ap, subst, map, string_bytes, Result, kind_of, Error, ArgMatches, Gives, parse, plan_in, error_refusal}
 use Rattle.mairix_options.proofs.Parses.{Gives-planned, Gives-refused}
 use Rattle.mairix_options.proofs.command_line.plan_of.Goals as goal
 
-pub returns-then-plan-2 : goal.returns-then-plan-2
-returns-then-plan-2 c = Gives-planned (map string_bytes c.args.words.now) _ c.in-Ok.matches c.in_ok-plan-in-Ok.plan (Err (Refused TwoFormats)) c.in_ok-matches.ensures c.in-Ok.is c.in_ok-plan-in-Ok.ensures (grind arith)
-
-pub returns-else-plan : goal.returns-else-plan
-returns-else-plan c = Gives-planned (map string_bytes c.args.words.now) _ c.in-Ok.matches c.in_ok-plan-in-Ok.plan (Ok c.in_ok-plan-in-Ok.plan) c.in_ok-matches.ensures c.in-Ok.is c.in_ok-plan-in-Ok.ensures (grind arith)
+pub returns-in-Ok : goal.returns-in-Ok
+returns-in-Ok c = Gives-planned (map string_bytes c.args.words.now) _ c.in-Ok.matches c.planned.result c.in_ok-matches.ensures c.in-Ok.is c.planned.ensures
 
 pub returns-in-Err : goal.returns-in-Err
 returns-in-Err c =

@@ -1,0 +1,22 @@
+-- What some settings say of each option.
+use Rattle.std.specs.Prelude.{◌≡◌, ℕ, List, Result}
+use Rattle.std.specs.List.{filter_map}
+use Rattle.mairix_options.specs.Rcfile.{base_in, archives_in, database_in, mfolder_in, format_in, last_of, lines_in, settings_from, rc_from}
+use Rattle.contract_words.specs.Answers.{◌>>=◌}
+use Rattle.mairix_options.specs.declared.rcfile.Rc.{Rc}
+use Rattle.mairix_options.specs.declared.rcfile.RcFault.{RcFault}
+use Rattle.mairix_options.specs.declared.rcfile.Said.{Said}
+use Rattle.mairix_options.specs.declared.setting.Setting.{Setting}
+
+-- of `mbox` all lines, and of the other options the last
+abbrev pub Says : List Setting → Said → Type 0
+Says settings said =
+    (said.base ≡ last_of base_in settings)
+    × (said.archives.items ≡ filter_map archives_in settings)
+    × (said.database ≡ last_of database_in settings)
+    × (said.mfolder ≡ last_of mfolder_in settings)
+    × (said.format ≡ last_of format_in settings)
+
+-- what settings say, and behind them all lines of an rcfile
+abbrev pub rc_behind : List Setting → List ℕ → Result Rc RcFault
+rc_behind before rc = settings_from before 1 (lines_in rc) >>= rc_from
