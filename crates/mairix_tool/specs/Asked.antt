@@ -50,10 +50,14 @@ format_of_mail mail.Excerpt = format.Excerpt
 abbrev pub wanted_by : Plan → Rc → Query → Wanted
 wanted_by p r q = record { paths = r.paths; search = record { query = q; threads = p.threads; format = format_of_mail (answer_format p r) }; verify = p.verify }
 
--- of which archives and for what: of words, then rcfile, then query the first refusal counts
+-- of which archives and for what: of rcfile, then query the first refusal counts
+abbrev pub asked_by : Plan → List ℕ → ℕ → Result Wanted Fault
+asked_by p rc now =
+    fault_as of.Rc (rc_of rc) >>= λ r. fault_as of.Query (query_asked p.boolean p.patterns now) >>= λ q. Ok (wanted_by p r q)
+
+-- the same of words, whose refusal goes before these
 abbrev pub asked : List (List ℕ) → List ℕ → ℕ → Result Wanted Fault
-asked words rc now =
-    fault_as of.Usage (plan words) >>= λ p. fault_as of.Rc (rc_of rc) >>= λ r. fault_as of.Query (query_asked p.boolean p.patterns now) >>= λ q. Ok (wanted_by p r q)
+asked words rc now = fault_as of.Usage (plan words) >>= λ p. asked_by p rc now
 
 -- the same of the words as they lie in memory
 abbrev pub asks : List (String Global) → List ℕ → ℕ → Result Wanted Fault

@@ -1,4 +1,7 @@
 //! The program: files in, standard output, standard error and an exit status out.
+ghost use Rattle.std.specs.Prelude.{All};
+ghost use Rattle.mail_index.specs.Tables.{IsPath};
+
 mod file_archives;
 mod first_look;
 mod index_file;
@@ -13,7 +16,7 @@ mod stopped;
 use crate::program::first_look::first_states;
 use crate::program::index_file::read_index;
 use crate::program::new_index::replace_index;
-use crate::program::search::{Search, run_search};
+use crate::program::search::{Asked, Search, run_search};
 use crate::program::stopped::Stopped;
 use mail_dates::Moment;
 use mairix_files::read_whole;
@@ -51,11 +54,7 @@ pub fn run_program<R: Files<File = File>, W: Write, E: Write>(
     };
     match run_plan(rt, alloc, words, &plan, now, out) {
         Ok(status) => status,
-        Err(Stopped::CannotOpen(path)) => {
-            let _ = writeln!(err, "mairix: {CANNOT_OPEN} {path}");
-            FAILED
-        }
-        Err(Stopped::Fault(fault)) => tell_fault(alloc, fault, err),
+        Err(stopped) => tell_stopped(alloc, stopped, err),
     }
 }
 
@@ -78,29 +77,46 @@ fn run_plan<R: Files<File = File>, W: Write>(
     out: &mut W,
 ) -> Result<u8, Stopped> {
     let rcfile = plan.rcfile.as_str();
-    let text = read_whole(rt, alloc, rcfile).map_err(|error| Stopped::by(alloc, rcfile, &error))?;
+    let text = Stopped::unless(alloc, rcfile, read_whole(rt, alloc, rcfile))?;
     let rc = read_rc(alloc, &text)?;
+    let asked = Asked {
+        words,
+        plan,
+        text: &text,
+        rc: &rc,
+        now,
+    };
+    run_asked(rt, alloc, &asked, out)
+}
+
+/// Indexes the archives, or searches them.
+fn run_asked<R: Files<File = File>, W: Write>(
+    rt: &R,
+    alloc: Global,
+    asked: &Asked<'_>,
+    out: &mut W,
+) -> Result<u8, Stopped>
+    requires { All IsPath asked.now.rc.now.paths }
+{
+    let Asked { plan, rc, .. } = *asked;
     let states = first_states(rt, alloc, rc.paths.as_slice())?;
     if plan.patterns.as_slice().is_empty() && !plan.once {
-        return replace_index(rt, alloc, rcfile, &rc);
+        return replace_index(rt, alloc, plan.rcfile.as_str(), rc);
     }
     let database = rc.database.as_str();
     let index = if plan.once {
         None
     } else {
         let bytes = read_index(rt, alloc, database);
-        Some(bytes.map_err(|error| Stopped::by(alloc, database, &error))?)
+        Some(Stopped::unless(alloc, database, bytes)?)
     };
     let index = index.as_deref();
     let search = Search {
-        words,
-        text: &text,
-        rc: &rc,
+        asked,
         states: &states,
         index,
-        now,
     };
-    run_search(rt, alloc, plan, &search, out)
+    run_search(rt, alloc, &search, out)
 }
 
 /// Prints the parser's own text: of refused words on standard error, of help and version on standard output. `-r` with `-x`, which
@@ -124,6 +140,17 @@ fn tell_usage<W: Write, E: Write>(
         return tell_fault(alloc, Fault::Out, err);
     }
     Fault::Usage(fault).status()
+}
+
+/// Prints in one line why a run was stopped.
+fn tell_stopped<E: Write>(alloc: Global, stopped: Stopped, err: &mut E) -> u8 {
+    match stopped {
+        Stopped::CannotOpen(path) => {
+            let _ = writeln!(err, "mairix: {CANNOT_OPEN} {path}");
+            FAILED
+        }
+        Stopped::Fault(fault) => tell_fault(alloc, fault, err),
+    }
 }
 
 /// Prints a fault in one line. One whose text wants memory that isn't there is told as want of memory.

@@ -10,7 +10,7 @@ ghost use Rattle.run_faults.specs.Faults.{refusal_of, IsEarly};
 use mail_answer::Format;
 use mail_dates::Moment;
 use mail_query::{Query, QueryFault, read_boolean, read_mairix};
-use mairix_options::{MailFormat, Texts, answer_format, plan_of, read_rc};
+use mairix_options::{MailFormat, Plan, Texts, answer_format, plan_of, read_rc};
 use run_faults::Fault;
 use std::alloc::Global;
 
@@ -26,7 +26,7 @@ pub(crate) struct Wanted {
 }
 
 impl Wanted {
-    ghost use Rattle.mairix_tool.specs.Asked.{asked, wanted};
+    ghost use Rattle.mairix_tool.specs.Asked.{asked, asked_by, wanted};
 
     /// The first refusal is that of the words, then of the rcfile, then of the query. Ages and days without a year in the
     /// query are reckoned from `now`.
@@ -41,9 +41,16 @@ impl Wanted {
         ensures early { IfErr result IsEarly }
     {
         let plan = plan_of(alloc, words)?;
+        Wanted::of_plan(alloc, &plan, rc, now)
+    }
+
+    fn of_plan(alloc: Global, plan: &Plan, rc: &[u8], now: Moment) -> Result<Wanted, Fault>
+        ensures asked { Gives wanted refusal_of result (asked_by plan.now rc.now now) }
+        ensures early { IfErr result IsEarly }
+    {
         let rc = read_rc(alloc, rc)?;
         let query = read_query(alloc, plan.patterns.as_slice(), plan.boolean, now)?;
-        let format = format_of_mail(answer_format(&plan, &rc));
+        let format = format_of_mail(answer_format(plan, &rc));
         Ok(Wanted {
             paths: rc.paths,
             query,

@@ -112,12 +112,12 @@ impl<'p, R: Files<File = File>> Archives for FileArchives<'p, R> {
     fn length(&mut self, n: u32) -> Result<u64, DeviceFault> {
         let length = self.known_length(n);
         self.failures += u64::from(length.is_err());
-        length.map_err(|_| DeviceFault)
+        length.or(Err(DeviceFault))
     }
 
     fn read_at(&mut self, n: u32, offset: u64, into: &mut [u8]) -> Result<usize, DeviceFault> {
         let read = self.read_file(n, offset, into);
         self.failures += u64::from(read.is_err());
-        read.map_err(|_| DeviceFault)
+        read.or(Err(DeviceFault))
     }
 }

@@ -27,9 +27,9 @@ pub(crate) fn first_states<R: Files>(
     for path in paths {
         let path = path.as_str();
         let found = fs::open(rt, path).and_then(|file| file.metadata());
-        let found = found.map_err(|error| Stopped::by(alloc, path, &error))?;
+        let found = Stopped::unless(alloc, path, found)?;
         let state = FileState::of(&found);
-        states.push(state).map_err(|_| Fault::Memory)?;
+        states.push(state).or(Err(Fault::Memory))?;
     }
     Ok(states)
 }

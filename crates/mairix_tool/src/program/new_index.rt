@@ -53,7 +53,7 @@ pub(crate) fn replace_index<'p, R: Files<File = File>>(
     let beginning = Beginning::Bytes(index_beginning());
     let new = create_file(rt, alloc, passing.as_str(), name, beginning, &read)?;
     let indexed = fill_index_file(rt, alloc, archives, new.file());
-    Ok(settle_file(new, indexed)?)
+    settle_file(new, indexed).map_err(Stopped::Fault)
 }
 
 /// What each index begins with.
@@ -73,8 +73,8 @@ fn fill_index_file<R: Files>(
     requires { All IsPath (map string_bytes paths.now) }
 {
     let mut sources = sources_of(rt, alloc, paths)?;
-    let mut writer = BufWriter::with_capacity(alloc, GATHERED, file).map_err(|_| Fault::Memory)?;
+    let mut writer = BufWriter::with_capacity(alloc, GATHERED, file).or(Err(Fault::Memory))?;
     send_index(alloc, paths, &mut sources, &mut ToWrite::new(&mut writer))?;
-    writer.flush().map_err(|_| Fault::Out)?;
+    writer.flush().or(Err(Fault::Out))?;
     Ok(DONE)
 }

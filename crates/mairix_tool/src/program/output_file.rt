@@ -40,7 +40,7 @@ pub(crate) fn create_file<'p, R: Files<File = File>>(
         return Err(Stopped::at(alloc, name));
     }
     let new = NewFile::create(rt, alloc, passing, name, beginning);
-    new.map_err(|error| Stopped::by(alloc, passing, &error))
+    Stopped::unless(alloc, passing, new)
 }
 
 /// Gives a file its name where all of it was written, and removes it else. A name that can't be given is a failed output.
@@ -52,6 +52,6 @@ pub(crate) fn settle_file<R: Files<File = File>>(
         new.discard();
         return written;
     }
-    new.take_name().map_err(|_| Fault::Out)?;
+    new.take_name().or(Err(Fault::Out))?;
     written
 }

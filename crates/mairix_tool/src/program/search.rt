@@ -7,6 +7,7 @@ use crate::program::file_archives::FileArchives;
 use crate::program::output_file::{create_file, passing_name, settle_file};
 use crate::program::read_files::ReadFiles;
 use crate::program::stopped::Stopped;
+use crate::reply::Reply;
 use crate::stored::search_run;
 use mail_dates::Moment;
 use mairix_files::{Beginning, FileState, sources_in};
@@ -18,26 +19,34 @@ use std::fs::File;
 use std::io::Write;
 use std::rt::Files;
 
-/// What is searched, and for what.
+/// What is asked.
 #[derive(Clone, Copy)]
-pub(crate) struct Search<'a> {
+pub(crate) struct Asked<'a> {
     /// The words after the program's name.
     pub(crate) words: &'a [String],
+    /// What they plan.
+    pub(crate) plan: &'a Plan,
     /// The rcfile's text.
     pub(crate) text: &'a [u8],
     /// What the rcfile says.
     pub(crate) rc: &'a Rc,
-    /// How the file of each of its archives was when the run first looked at it.
-    pub(crate) states: &'a [FileState],
-    /// The stored index, without which the archives are indexed in memory.
-    pub(crate) index: Option<&'a [u8]>,
     /// What ages and days without a year are reckoned from.
     pub(crate) now: Moment,
     ghost said: { rc_of text.now ≡ Ok rc.now },
-    ghost each: { length states.now ≡ length rc.now.paths },
 }
 
-/// Searches the archives' files, and answers the status, 0 or 1: to `out`, or to the file that the plan and the rcfile name,
+/// What is searched, and for what.
+#[derive(Clone, Copy)]
+pub(crate) struct Search<'a> {
+    pub(crate) asked: &'a Asked<'a>,
+    /// How the file of each archive was when the run first looked at it.
+    pub(crate) states: &'a [FileState],
+    /// The stored index, without which the archives are indexed in memory.
+    pub(crate) index: Option<&'a [u8]>,
+    ghost each: { length states.now ≡ length asked.now.rc.now.paths },
+}
+
+/// Searches the archives' files, and answers the status, 0 or 1: to `out`, or to the file that words and rcfile name,
 /// which then takes the place of an older answer. An archive's file that isn't in its first state has failed.
 ///
 /// # Errors
@@ -47,29 +56,33 @@ pub(crate) struct Search<'a> {
 pub(crate) fn run_search<R: Files<File = File>, W: Write>(
     rt: &R,
     alloc: Global,
-    plan: &Plan,
     search: &Search<'_>,
     out: &mut W,
 ) -> Result<u8, Stopped> {
-    let Some(name) = answer_file(alloc, plan, search.rc)? else {
-        return Ok(answer_to(rt, alloc, search, out)?);
-    };
+    match answer_file(alloc, search.asked.plan, search.asked.rc)? {
+        Some(name) => make_answer_file(rt, alloc, search, name.as_str()),
+        None => answer_to(rt, alloc, search, out).map_err(Stopped::Fault),
+    }
+}
+
+/// Writes the answer to a new file, which takes this name once it is whole.
+fn make_answer_file<R: Files<File = File>>(
+    rt: &R,
+    alloc: Global,
+    search: &Search<'_>,
+    name: &str,
+) -> Result<u8, Stopped> {
+    let Asked { plan, rc, .. } = *search.asked;
     let read = ReadFiles {
         rcfile: plan.rcfile.as_str(),
-        archives: search.rc.paths.as_slice(),
-        database: Some(search.rc.database.as_str()),
+        archives: rc.paths.as_slice(),
+        database: Some(rc.database.as_str()),
     };
-    let passing = passing_name(alloc, name.as_str())?;
-    let new = create_file(
-        rt,
-        alloc,
-        passing.as_str(),
-        name.as_str(),
-        Beginning::Separator,
-        &read,
-    )?;
+    let passing = passing_name(alloc, name)?;
+    let beginning = Beginning::Separator;
+    let new = create_file(rt, alloc, passing.as_str(), name, beginning, &read)?;
     let answered = answer_to(rt, alloc, search, &mut new.file());
-    Ok(settle_file(new, answered)?)
+    settle_file(new, answered).map_err(Stopped::Fault)
 }
 
 /// Writes the answer of the run over the archives' files, and tells its status.
@@ -80,13 +93,17 @@ fn answer_to<R: Files<File = File>, W: Write>(
     out: &mut W,
 ) -> Result<u8, Fault> {
     let Search {
+        asked,
+        states,
+        index,
+    } = *search;
+    let Asked {
         words,
         text,
         rc,
-        states,
-        index,
         now,
-    } = *search;
+        ..
+    } = *asked;
     let paths = rc.paths.as_slice();
     let mut archives = FileArchives::new(rt, alloc, paths, states).ok_or(Fault::TooMany)?;
     let sink = &mut ToWrite::new(&mut *out);
@@ -97,6 +114,11 @@ fn answer_to<R: Files<File = File>, W: Write>(
             once_run(alloc, words, text, &mut sources, &mut archives, now, sink)
         }
     };
+    status_of(&reply, out)
+}
+
+/// The status of a reply, once all of its text is out.
+fn status_of<W: Write>(reply: &Reply, out: &mut W) -> Result<u8, Fault> {
     match reply.fault {
         Some(fault) => Err(fault),
         None if out.flush().is_err() => Err(Fault::Out),

@@ -24,11 +24,14 @@ impl Stopped {
         }
     }
 
-    /// What the system refused of the file of this path, or want of memory.
-    pub(crate) fn by(alloc: Global, path: &str, error: &io::Error) -> Stopped {
-        match error.kind() {
-            ErrorKind::OutOfMemory => Stopped::Fault(Fault::Memory),
-            _ => Stopped::at(alloc, path),
+    /// What the system gives of the file of this path. A refusal stops the run, as want of memory does.
+    pub(crate) fn unless<T>(alloc: Global, path: &str, given: io::Result<T>) -> Result<T, Stopped> {
+        match given {
+            Ok(value) => Ok(value),
+            Err(error) => match error.kind() {
+                ErrorKind::OutOfMemory => Err(Stopped::Fault(Fault::Memory)),
+                _ => Err(Stopped::at(alloc, path)),
+            },
         }
     }
 }
