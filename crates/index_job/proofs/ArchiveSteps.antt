@@ -1,5 +1,5 @@
 -- What the reading of an archive's messages, one after another, makes of a builder's draft.
-use Rattle.index_job.proofs.Words.{true, false, nat_lt, if◌then◌else◌, ◌≡◌, ◌∙◌, ◌+◌, ◌≤◌, ◌<◌, ◌++◌, ℕ, suc, List, [], ◌∷◌, length, Option, Some, option_map, unwrap_or, refl, sym, ap, subst, arith, append_assoc, append-nil, ⊎_elim, Result, Ok, Err, length-map, map-append, ◌>>=◌, Draft, archive_count, begun_archive, stepped, TooMany, nat_tests, Key, Message, text, CutFault, Coming, ReadArchive, JobFault, coming_ahead, Heads, AddsMessages, AddsNamed, HasDone, with_terms, with_messages, with_open_archive, draft_with_messages, HasTooMany, IsJobFault, message_terms}
+use Rattle.index_job.proofs.Words.{true, false, nat_lt, if◌then◌else◌, ◌≡◌, ◌∙◌, ◌+◌, ◌≤◌, ◌<◌, ◌++◌, ℕ, suc, List, [], ◌∷◌, length, Option, Some, option_map, unwrap_or, refl, sym, ap, subst, arith, append_assoc, append-nil, ⊎_elim, Ok, Err, length-map, map-append, ◌>>=◌, Draft, archive_count, begun_archive, stepped, TooMany, nat_tests, Key, Message, text, CutFault, Coming, JobFault, coming_ahead, Heads, AddsMessages, HasDone, with_terms, with_messages, with_open_archive, draft_with_messages, HasTooMany, IsJobFault, message_terms}
 use Rattle.std.proofs.lemmas.List.{length-append}
 use Rattle.index_job.specs.declared.archive_reading.Heading.TheVariants as heading
 use Rattle.index_job.proofs.Terms.{with_terms-more}
@@ -89,14 +89,11 @@ module _ (number : ℕ) (d : Draft) (all : ℕ) (ms : Option (List Message)) (re
 
 -- ---- an archive with its path
 
-pub named-adds : (path : List ℕ) (number : ℕ) (d : Draft) (all : ℕ) (ms : Option (List Message)) (refusal : Option CutFault) (mid new : Option Draft) (r : Result ReadArchive JobFault)
-    → stepped (begun_archive path) (Some d) ≡ Ok mid → ((e : Draft) → mid ≡ Some e → AddsMessages number e all ms refusal r new) → AddsNamed path number d all ms refusal r new
-named-adds path number d all ms refusal mid new r given adds =
+-- where an archive has begun, there was room for it
+pub begun-is : (path : List ℕ) (d : Draft) (new : Option Draft) → stepped (begun_archive path) (Some d) ≡ Ok new → (archive_count d < d.most) × (new ≡ Some (with_open_archive path d))
+begun-is path d new given =
     (elim (nat_lt (length d.table.archives) d.most)
-    as (λ b. nat_lt (length d.table.archives) d.most ≡ b → ((if b then Ok (with_open_archive path d) else Err TooMany) >>= λ e. Ok (Some e)) ≡ Ok mid → AddsNamed path number d all ms refusal r new) [
-      | true ↦ λ few is. named r (grind (arith, nat_tests, few)) (adds (with_open_archive path d) (let same : Some (with_open_archive path d) ≡ mid = cc in sym same))
+    as (λ b. nat_lt (length d.table.archives) d.most ≡ b → ((if b then Ok (with_open_archive path d) else Err TooMany) >>= λ e. Ok (Some e)) ≡ Ok new → (archive_count d < d.most) × (new ≡ Some (with_open_archive path d))) [
+      | true ↦ λ few is. (grind (arith, nat_tests, few), (let same : Some (with_open_archive path d) ≡ new = cc in sym same))
       | false ↦ λ few is. absurd cc
     ]) refl given
-  where
-    named : (r : Result ReadArchive JobFault) → archive_count d < d.most → AddsMessages number (with_open_archive path d) all ms refusal r new → AddsNamed path number d all ms refusal r new
-    named r h h2 = grind arith

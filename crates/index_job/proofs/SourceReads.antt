@@ -1,10 +1,9 @@
 -- Reads of the source of a cutter, one after another, and the archive's end.
-use Rattle.index_job.proofs.Words.{◌≡◌, ◌∙◌, Bool, true, false, refl, sym, ap, subst, arith, Result, Ok, Err, BuildFault, CutFault, Event, Progress, Advances, shown_result, JobFault, ReadsSource, is_source_failure, of_build}
+use Rattle.index_job.proofs.Words.{◌≡◌, ◌∙◌, Bool, true, false, refl, sym, ap, subst, arith, Result, Ok, Err, CutFault, Event, Progress, Advances, shown_result, JobFault, ReadsSource, is_source_failure}
 use Rattle.std.specs.Borrow.{MutBor}
 use Rattle.mbox_cutter.specs.declared.device.Source.{Ghosts}
 use Rattle.mbox_cutter.specs.declared.event.CutFault.TheVariants as cut
 use Rattle.mbox_cutter.proofs.Sources.{Stays-self, Stays-join}
-use Rattle.index_job.specs.declared.archive_reading.Heading.TheVariants as heading
 use Rattle.index_job.specs.declared.job_fault.JobFault.TheVariants as job
 
 -- ---- whether the source failed
@@ -18,9 +17,6 @@ err-says T f = grind arith
 
 failure-is : {T : Type 0} (r : Result T JobFault) (f : JobFault) → r ≡ Err f → is_source_failure r ≡ says_failure f
 failure-is {T = T} r f is = ap (λ (x : Result T JobFault). is_source_failure x) is ∙ err-says T f
-
-build-says : (f : BuildFault) → says_failure (of_build f) ≡ false
-build-says f = grind arith
 
 -- ---- reads
 
@@ -39,10 +35,6 @@ module _ {S : Type 0} (g : Ghosts S) where
     -- a fault is passed on
     pub reads-passed : {T : Type 0} (r : Result T JobFault) (f : JobFault) (a b : MutBor S) → r ≡ Err f → q ≡ Err f → ReadsSource g (is_source_failure r) a b → ReadsSource g (is_source_failure q) a b
     reads-passed r f a b was is h = subst (λ x. ReadsSource g x a b) (failure-is r f was ∙ sym (failure-is q f is)) h
-
-    -- the builder fails, and nothing is read
-    pub builder-fails : (f : BuildFault) (s : MutBor S) → q ≡ Err (of_build f) → ReadsSource g (is_source_failure q) s s
-    builder-fails f s is = reads-before (is_source_failure q) s s (failure-is q (of_build f) is ∙ build-says f) (reads-none s)
 
   -- it tells an event
   pub event-reads : (old new : Progress S) (r : Result Event CutFault) (e : Event) → r ≡ Ok e → Advances g old (shown_result r) new → ReadsSource g false old.source new.source

@@ -1,7 +1,7 @@
 -- The table of archives with one archive more.
-use Rattle.index_job.proofs.Words.{◌≡◌, ◌∙◌, ◌+◌, ◌++◌, ℕ, suc, List, [], ◌∷◌, length, map, Option, Some, refl, sym, ap, arith, append_assoc, append-nil, ⊎_elim, Ok, Err, IfSome, flat_map-append, length-map, map-append, sha256, Draft, IsWithinMost, ended_archive, stepped, messages, coming_of, events, refusal_of, ReadArchive, JobFault, coming_ahead, AddsNamed, most_in_archive, IsTooMuch, Mbox, messages_in, all_messages, record_of, records_from, with_messages, table, IsAdded, IsAddFault, draft_of, draft_with_messages, draft_ended, with_open_archive, HasTooMany, IsBuilderIdle}
+use Rattle.index_job.proofs.Words.{◌≡◌, ◌∙◌, ◌+◌, ◌<◌, ◌++◌, ℕ, suc, List, [], ◌∷◌, length, map, Option, Some, refl, sym, ap, arith, append_assoc, append-nil, ⊎_elim, Result, Ok, Err, IfSome, flat_map-append, length-map, map-append, sha256, Draft, IsWithinMost, begun_archive, ended_archive, stepped, messages, coming_of, events, refusal_of, ReadArchive, JobFault, coming_ahead, AddsMessages, most_in_archive, most_in_index, IsTooMuch, Mbox, messages_in, all_messages, record_of, records_from, with_messages, table, IsAdded, IsAddFault, draft_of, draft_with_messages, draft_ended, with_open_archive, HasTooMany, IsIdle}
 use Rattle.std.proofs.lemmas.List.{length-append}
-use Rattle.index_job.proofs.ArchiveSteps.{with_messages-append}
+use Rattle.index_job.proofs.ArchiveSteps.{begun-is, with_messages-append}
 
 -- what comes of an archive's bytes
 pub comes-known : (bytes : List ℕ) → coming_of most_in_archive bytes ≡ coming_ahead (length bytes) (messages bytes) (refusal_of most_in_archive bytes)
@@ -45,16 +45,27 @@ module _ (archives : List Mbox) (a : Mbox) where
   too-much : HasTooMany read_draft → IsTooMuch (table (archives ++ a ∷ []))
   too-much h = grind (arith, ⊎_elim, messages-are, keys-are)
 
-  -- the archive ended with its length and its digest
-  pub one-added : (number : ℕ) (read : ReadArchive) (builder : Option Draft) (digest : List ℕ) (new : Option Draft) → number ≡ length archives
-      → AddsNamed a.path number (draft_of archives) (length a.bytes) (messages a.bytes) (refusal_of most_in_archive a.bytes) (Ok read) builder
-      → digest ≡ sha256 a.bytes → stepped (ended_archive read.length digest) builder ≡ Ok new → IfSome new IsWithinMost → IsAdded archives a read.messages new
-  one-added number read builder digest new same (few, (sound, is, counted, long)) digest-is gives within = grind (arith, table-more)
+  module _ (number : ℕ) (begun : Option Draft) (same : number ≡ length archives) (given : stepped (begun_archive a.path) (Some (draft_of archives)) ≡ Ok begun) where
+    abbrev Adds : Result ReadArchive JobFault → Option Draft → Type 0
+    Adds r builder = (d : Draft) → begun ≡ Some d → AddsMessages number d (length a.bytes) (messages a.bytes) (refusal_of most_in_archive a.bytes) r builder
 
-  pub add-fault : (number : ℕ) (builder : Option Draft) (f : JobFault) → number ≡ length archives
-      → AddsNamed a.path number (draft_of archives) (length a.bytes) (messages a.bytes) (refusal_of most_in_archive a.bytes) (Err f) builder → IsAddFault archives a f
-  add-fault number builder f h h2 = grind (arith, length-map, length-append, too-much)
+    room : length archives < most_in_index
+    room = grind (arith, length-map, begun-is)
+
+    -- the archive ended with its length and its digest
+    pub one-added : (read : ReadArchive) (builder : Option Draft) (digest : List ℕ) (new : Option Draft) → Adds (Ok read) builder
+        → digest ≡ sha256 a.bytes → stepped (ended_archive read.length digest) builder ≡ Ok new → IfSome new IsWithinMost → IsAdded archives a read.messages new
+    one-added read builder digest new adds digest-is gives within = ended (adds (with_open_archive a.path (draft_of archives)) (begun-is a.path (draft_of archives) begun given).1)
+      where
+        ended : AddsMessages number (with_open_archive a.path (draft_of archives)) (length a.bytes) (messages a.bytes) (refusal_of most_in_archive a.bytes) (Ok read) builder → IsAdded archives a read.messages new
+        ended (sound, is, counted, long) = grind (arith, table-more)
+
+    pub add-fault : (builder : Option Draft) (f : JobFault) → Adds (Err f) builder → IsAddFault archives a f
+    add-fault builder f adds = refused (adds (with_open_archive a.path (draft_of archives)) (begun-is a.path (draft_of archives) begun given).1)
+      where
+        refused : AddsMessages number (with_open_archive a.path (draft_of archives)) (length a.bytes) (messages a.bytes) (refusal_of most_in_archive a.bytes) (Err f) builder → IsAddFault archives a f
+        refused h = grind (arith, room, too-much)
 
 -- the number of archives that have ended
-pub number-is : (number : ℕ) (archives : List Mbox) (builder : Option Draft) → builder ≡ Some (draft_of archives) → IsBuilderIdle number builder → number ≡ length archives
-number-is number archives builder is (d, d-is, idle) = grind (arith, length-map)
+pub number-is : (number : ℕ) (archives : List Mbox) (builder : Option Draft) → builder ≡ Some (draft_of archives) → IfSome builder (IsIdle number) → number ≡ length archives
+number-is number archives builder is idle = grind (arith, length-map)

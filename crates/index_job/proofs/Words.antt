@@ -4,20 +4,20 @@ pub use Rattle.header_text.specs.Headers.{HeaderField, continued_and_fields, fie
 unfoldable pub use Rattle.header_text.specs.Headers.{fields_of}
 pub use Rattle.index_job.specs.ArchiveRefusals.{AreSound, IsTooMuch}
 pub use Rattle.index_job.specs.ArchiveTables.{Mbox, all_messages, date_told, entry_of, messages_in, record_of, records_from, table, with_messages, with_terms}
-pub use Rattle.index_job.specs.IndexJobs.{IsAddFault, IsAdded, IsJobBuilder, draft_in}
-pub use Rattle.index_job.specs.Indexing.{HasTooMany, IsArchiveFault, IsBuilderIdle, IsBuilderOpen, IsBuilderReady, IsJobFault, IsOpenAt, IsReady, IsTermFault, RefusesTerms, draft_ended, draft_of, draft_with_messages, draft_with_terms, with_open_archive, with_open_message}
-pub use Rattle.index_job.specs.Inside.ArchiveReading.{AddsMessage, AddsMessages, AddsNamed, Awaited, HasDone, HasEnded, HasReadAll, Heads, IsHeading, IsInside, IsMessageFault, IsReading, IsReadingSome, ReadsSource, coming_ahead, coming_between, coming_inside}
+pub use Rattle.index_job.specs.IndexJobs.{IsAddFault, IsAdded}
+pub use Rattle.index_job.specs.Indexing.{HasTooMany, IsArchiveFault, IsBuilderOpen, IsBuilderReady, IsIdle, IsJobFault, IsOpenAt, IsReady, IsTermFault, RefusesTerms, draft_ended, draft_of, draft_with_messages, draft_with_terms, with_open_archive, with_open_message}
+pub use Rattle.index_job.specs.Inside.ArchiveReading.{AddsMessage, AddsMessages, Awaited, HasDone, HasEnded, HasReadAll, Heads, IsHeading, IsInside, IsMessageFault, IsReading, IsReadingSome, ReadsSource, coming_ahead, coming_between, coming_inside}
 pub use Rattle.index_job.specs.Inside.FoldedWords.{HoldsWords, cut}
 pub use Rattle.index_job.specs.Inside.Gathering.{HasGathered, IsGatherFault, with_texts}
 pub use Rattle.index_job.specs.Inside.MessageEnds.{ended_with}
-pub use Rattle.index_job.specs.JobFaults.{is_source_failure, of_build, of_text}
+pub use Rattle.index_job.specs.JobFaults.{is_source_failure, of_text}
 pub use Rattle.index_job.specs.MessageTerms.{HasTermLength, Term, id_terms, link_terms, message_terms, own_id_terms, text_terms, word_terms}
 pub use Rattle.index_job.specs.declared.archive_reading.Ended.{Ended}
 pub use Rattle.index_job.specs.declared.archive_reading.ReadArchive.{ReadArchive}
 pub use Rattle.index_job.specs.declared.job_fault.JobFault.{JobFault}
 pub use Rattle.index_job.specs.declared.message_end.Span.{Span}
 pub use Rattle.mail_index.specs.Builders.{Draft, IsInArchive, IsInMessage, IsWithinMost, added, archive_count, begun_archive, end_of, ended_archive, refusal, stepped, with_pair}
-pub use Rattle.mail_index.specs.Limits.{most_in_archive}
+pub use Rattle.mail_index.specs.Limits.{most_in_archive, most_in_index}
 pub use Rattle.mail_index.specs.Tables.{AllNext, Archive, Follows, IsArchive, IsKey, IsMessage, IsPath, IsWellFormed, Key, KeyBefore, archive_length}
 pub use Rattle.mail_index.specs.Versions.{newest}
 pub use Rattle.mail_index.specs.declared.build.build_fault.BuildFault.{BuildFault}

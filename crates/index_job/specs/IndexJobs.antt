@@ -8,17 +8,7 @@ use Rattle.index_job.specs.declared.job_fault.JobFault.TheVariants as job
 use Rattle.index_job.specs.ArchiveTables.{Mbox, messages_in, table}
 use Rattle.mail_index.specs.Limits.{most_in_archive, most_in_index}
 use Rattle.index_job.specs.ArchiveRefusals.{IsTooMuch, IsWithinLimit}
-use Rattle.index_job.specs.Indexing.{draft_of, IsIdle}
-
--- what its builder has, if nothing has failed
-abbrev pub draft_in : Option (Option Draft) → Option Draft
-draft_in None = None
-draft_in (Some builder) = builder
-
--- so many archives have ended in a builder that hasn't failed
-abbrev pub IsJobBuilder : ℕ → Option (Option Draft) → Type 0
-IsJobBuilder number None = ⊤
-IsJobBuilder number (Some builder) = (d : Draft) × (builder ≡ Some d) × IsIdle number d
+use Rattle.index_job.specs.Indexing.{draft_of}
 
 -- it has the table of these archives
 abbrev pub IsIndexOf : Option Draft → List Mbox → Type 0

@@ -1,5 +1,6 @@
 //! The reading of one archive, whose messages are added to a builder.
-ghost use Rattle.std.specs.Prelude.{◌≡◌, ◌<◌, ◌+◌, ◌-◌, ◌^◌, ℕ, List, Option, Some, IfOk, IfErr, IfSome, OnOk, length};
+ghost use Rattle.std.specs.Prelude.{◌≡◌, ◌<◌, ◌+◌, ◌-◌, ◌^◌, ℕ, List, Option, Some, None, Err, IfOk, IfErr, IfSome, OnOk, length};
+ghost use Rattle.std.specs.Io.KnownBytes.{IsAtEnd};
 ghost use Rattle.std.specs.Option.{MatchOption};
 ghost use Rattle.contract_words.specs.Devices.{Counted};
 ghost use Rattle.mail_index.specs.Builders.{Draft, IsInMessage};
@@ -10,9 +11,11 @@ ghost use Rattle.mbox_cutter.specs.declared.event.CutFault.{CutFault};
 ghost use Rattle.mbox_cutter.specs.Events.{refusal_of};
 ghost use Rattle.mbox_cutter.specs.declared.scan.Phase.TheVariants as Phase;
 ghost use Rattle.mail_index.specs.Limits.{most_in_archive};
-ghost use Rattle.index_job.specs.Inside.ArchiveReading.{Awaited, AwaitsEnd, AddsMessages, AddsNamed, coming_inside, coming_ahead, IsHeading, Heads, ReadsToEnd, AddsMessage, IsInside, GoesFurther, HasEnded, IsReading, HasReadAll, IsMessageFault, ReadsSource};
+ghost use Rattle.index_job.specs.Inside.ArchiveReading.{Awaited, AwaitsEnd, AddsMessages, coming_inside, coming_ahead, IsHeading, Heads, ReadsToEnd, AddsMessage, IsInside, GoesFurther, HasEnded, IsReading, HasReadAll, IsMessageFault, ReadsSource};
 ghost use Rattle.index_job.specs.Inside.Gathering.{HasGathered};
-ghost use Rattle.index_job.specs.Indexing.{IsArchiveFault, IsBuilderIdle, IsJobFault, IsBuilderReady};
+ghost use Rattle.index_job.specs.ArchiveTables.{Mbox};
+ghost use Rattle.index_job.specs.IndexJobs.{IsIndexOf, IsAdded, IsAddFault};
+ghost use Rattle.index_job.specs.Indexing.{IsArchiveFault, IsBuilderIdle, IsIdle, IsJobFault, IsBuilderReady};
 ghost use Rattle.index_job.specs.JobFaults.{is_source_failure};
 
 use crate::folding_room::FoldingRoom;
@@ -20,7 +23,7 @@ use crate::gathering::feed_line;
 use crate::job_fault::JobFault;
 use crate::message_end::{Span, finish_message};
 use mail_index::Builder;
-use mbox_cutter::{Buffer, Cutter, Event, Source};
+use mbox_cutter::{Buffer, Cutter, Digested, Event, Source};
 use mime_text::MessageText;
 use std::alloc::Global;
 
@@ -44,9 +47,9 @@ enum Heading {
 
 /// An archive whose messages are indexed, and which hasn't ended in the builder: how many messages and bytes it has.
 #[derive(Clone, Copy)]
-pub(crate) struct ReadArchive {
-    pub(crate) messages: u64,
-    pub(crate) length: u64,
+struct ReadArchive {
+    messages: u64,
+    length: u64,
 }
 
 /// Reads on to the next message, or to the archive's end, where no message is open.
@@ -191,48 +194,18 @@ fn add_messages<'a, S: Source>(
     }
 }
 
-/// Begins an archive, and adds its messages, whose texts one reader reads.
-fn add_archive<'a, S: Source>(
-    alloc: Global,
-    cutter: &mut Cutter<'a, S>,
-    room: &mut FoldingRoom,
-    builder: &mut Builder,
-    path: &str,
-    archive: u32,
-) -> Result<ReadArchive, JobFault>
-    requires fresh { cutter.old.place
-        ≡ record { phase = Phase.Between; offset = 0; most = most_in_archive } }
-    requires count { S.failures cutter.old.source.now < 2 ^ 64 - 1 }
-    requires idle { IsBuilderIdle archive builder.old }
-    requires path { IsPath path.now }
-    ensures reads { ReadsSource S.Source (is_source_failure result) cutter.old.source
-        cutter.new.source }
-    ensures ended { IfOk result (λ read. AwaitsEnd archive (S.rest cutter.new.source.now)
-        read.length builder.new) }
-    ensures known { (d : Draft) (all : ℕ) (ms : Option (List Message)) (refusal : Option CutFault)
-        → builder.old ≡ Some d
-        → cutter.old.coming ≡ Some (coming_ahead all ms refusal)
-        → AddsNamed path.now archive d all ms refusal result builder.new }
-    ensures own { IfErr result IsArchiveFault }
-{
-    builder.begin_archive(path)?;
-    let mut text = MessageText::new(alloc)?;
-    add_messages(&mut text, cutter, room, builder, archive)
-}
-
-/// Reads an archive to its end, and adds its messages. Its end in the builder is left to the caller, who has its digest.
-pub(crate) fn read_archive<S: Source>(
+/// Reads an archive to its end, and adds its messages, whose texts one reader reads. Its end in the builder is left to the
+/// caller, who has its digest.
+fn read_archive<S: Source>(
     alloc: Global,
     source: &mut S,
     kept: &mut Option<Buffer>,
     room: &mut FoldingRoom,
     builder: &mut Builder,
-    path: &str,
     archive: u32,
 ) -> Result<ReadArchive, JobFault>
     requires count { S.failures source.old < 2 ^ 64 - 1 }
-    requires idle { IsBuilderIdle archive builder.old }
-    requires path { IsPath path.now }
+    requires ready { IsBuilderReady archive 0 builder.old }
     ensures stays { Stays S.Source source.old source.new }
     ensures count { Counted (is_source_failure result) (S.failures source.old)
         (S.failures source.new) }
@@ -240,7 +213,7 @@ pub(crate) fn read_archive<S: Source>(
         builder.new) }
     ensures known { (d : Draft) (bytes : List ℕ) → builder.old ≡ Some d
         → S.rest source.old ≡ Some bytes
-        → AddsNamed path.now archive d (length bytes) (messages_of bytes)
+        → AddsMessages archive d (length bytes) (messages_of bytes)
         (refusal_of most_in_archive bytes) result builder.new }
     ensures own { IfErr result IsArchiveFault }
 {
@@ -248,8 +221,51 @@ pub(crate) fn read_archive<S: Source>(
         Some(buffer) => buffer,
         None => Buffer::new(alloc)?,
     };
+    let mut text = MessageText::new(alloc)?;
     let mut cutter = Cutter::over(buffer, source, MOST_IN_ARCHIVE);
-    let read = add_archive(alloc, &mut cutter, room, builder, path, archive);
+    let read = add_messages(&mut text, &mut cutter, room, builder, archive);
     let _source = cutter.into_source_keeping(kept);
     read
+}
+
+/// Adds an archive, with the digest of what one read of its source gives, and counts its messages. After a fault the builder may
+/// have a part of it.
+pub(crate) fn add_archive<S: Source>(
+    alloc: Global,
+    source: &mut S,
+    kept: &mut Option<Buffer>,
+    room: &mut FoldingRoom,
+    builder: &mut Builder,
+    path: &str,
+    archive: u32,
+) -> Result<u64, JobFault>
+    requires count { S.failures source.old < 2 ^ 64 - 1 }
+    requires idle { IfSome builder.old (IsIdle archive) }
+    requires path { IsPath path.now }
+    ensures ok { IfOk result (λ n. (before : List Mbox) (bytes : List ℕ)
+        → IsIndexOf builder.old before → S.rest source.old ≡ Some bytes
+        → IsAdded before (record { path = path.now; bytes = bytes }) n builder.new) }
+    ensures err { IfErr result (λ fault. (before : List Mbox) (bytes : List ℕ)
+        → IsIndexOf builder.old before → S.rest source.old ≡ Some bytes
+        → IsAddFault before (record { path = path.now; bytes = bytes }) fault) }
+    ensures idle { OnOk result (IsBuilderIdle (archive + 1) builder.new) }
+    ensures end { OnOk result (IsAtEnd (S.rest source.new)) }
+    ensures count { Counted (is_source_failure result) (S.failures source.old)
+        (S.failures source.new) }
+    ensures own { IfErr result (λ fault. IfSome builder.old (λ _. IsArchiveFault fault)) }
+    ensures failed { builder.old ≡ None → (result ≡ Err JobFault.Failed)
+        × (source.new ≡ source.old) }
+{
+    builder.begin_archive(path)?;
+    let mut digested = Digested::new(source);
+    let ReadArchive { messages, length } = read_archive(
+        alloc,
+        &mut digested,
+        kept,
+        room,
+        builder,
+        archive,
+    )?;
+    builder.end_archive(length, digested.finish())?;
+    Ok(messages)
 }

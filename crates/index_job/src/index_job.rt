@@ -9,11 +9,11 @@ ghost use Rattle.index_job.specs.IndexJobs.{IsIndexOf, IsAdded, IsAddFault};
 ghost use Rattle.index_job.specs.Indexing.{IsArchiveFault};
 ghost use Rattle.index_job.specs.JobFaults.{is_source_failure, is_output_failure};
 
-use crate::archive_reading::{ReadArchive, read_archive};
+use crate::archive_reading::add_archive;
 use crate::folding_room::FoldingRoom;
 use crate::job_fault::JobFault;
 use mail_index::Builder;
-use mbox_cutter::{Buffer, Digested, Out, Source};
+use mbox_cutter::{Buffer, Out, Source};
 use std::alloc::Global;
 use std::marker::Model;
 
@@ -29,22 +29,22 @@ pub struct IndexJob {
     // Both are kept from one archive to the next.
     buffer: Option<Buffer>,
     room: FoldingRoom,
-    // None once a call has failed.
-    builder: Option<Builder>,
+    // It has lost all once a call has failed.
+    builder: Builder,
     // How many archives have ended.
     archives: u32,
 }
 
 impl Model for IndexJob {
-    ghost use Rattle.std.specs.Prelude.{Option};
+    ghost use Rattle.std.specs.Prelude.{Option, IfSome};
     ghost use Rattle.mail_index.specs.Builders.{Draft};
-    ghost use Rattle.index_job.specs.IndexJobs.{draft_in, IsJobBuilder};
+    ghost use Rattle.index_job.specs.Indexing.{IsIdle};
 
     ghost Value = { Option Draft };
 
-    ghost view = { λ s. draft_in s.builder };
+    ghost view = { λ s. s.builder };
 
-    ghost invariant = { λ s. IsJobBuilder s.archives s.builder };
+    ghost invariant = { λ s. IfSome s.builder (IsIdle s.archives) };
 }
 
 impl IndexJob {
@@ -57,7 +57,7 @@ impl IndexJob {
             alloc,
             buffer: Some(Buffer::new(alloc)?),
             room: FoldingRoom::new(alloc),
-            builder: Some(Builder::new(alloc, MOST_IN_INDEX)),
+            builder: Builder::new(alloc, MOST_IN_INDEX),
             archives: 0,
         })
     }
@@ -87,23 +87,20 @@ impl IndexJob {
         ensures failed { self.old ≡ None → (result ≡ Err JobFault.Failed)
             × (source.new ≡ source.old) }
     {
-        let Some(mut builder) = self.builder.take() else {
-            return Err(JobFault::Failed);
-        };
-        let mut digested = Digested::new(source);
-        let ReadArchive { messages, length } = read_archive(
+        let added = add_archive(
             self.alloc,
-            &mut digested,
+            source,
             &mut self.buffer,
             &mut self.room,
-            &mut builder,
+            &mut self.builder,
             path,
             self.archives,
-        )?;
-        builder.end_archive(length, digested.finish())?;
-        self.builder = Some(builder);
-        self.archives += 1;
-        Ok(messages)
+        );
+        match added {
+            Ok(_) => self.archives += 1,
+            Err(_) => self.builder.lose(),
+        }
+        added
     }
 
     /// Writes the index file of the archives so far, and counts its bytes. It takes no memory, and writes in pieces of some thousand bytes.
@@ -122,9 +119,6 @@ impl IndexJob {
             (O.failures out.new) }
         ensures failed { self ≡ None → (result ≡ Err JobFault.Failed) × (out.new ≡ out.old) }
     {
-        let Some(builder) = &self.builder else {
-            return Err(JobFault::Failed);
-        };
-        Ok(builder.write(out)?)
+        self.builder.write(out).map_err(JobFault::from)
     }
 }

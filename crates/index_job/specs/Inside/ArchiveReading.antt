@@ -1,10 +1,10 @@
 -- An archive while it is indexed: what still comes of it, and what was gathered.
-use Rattle.std.specs.Prelude.{Bool, ◌≡◌, ◌⊎◌, ⊤, ℕ, ◌+◌, ◌<◌, ◌≤◌, List, [], ◌∷◌, ◌++◌, Option, None, Some, option_map, unwrap_or, length, Result, Ok, Err}
+use Rattle.std.specs.Prelude.{Bool, ◌≡◌, ⊤, ℕ, ◌+◌, ◌<◌, ◌≤◌, List, [], ◌∷◌, ◌++◌, Option, None, Some, option_map, unwrap_or, length, Result, Ok, Err}
 use Rattle.std.specs.Option.{option_map_or}
 use Rattle.std.specs.Borrow.{MutBor}
 use Rattle.std.specs.Io.KnownBytes.{IsAtEnd}
 use Rattle.contract_words.specs.Devices.{Counted}
-use Rattle.mail_index.specs.Builders.{Draft, archive_count}
+use Rattle.mail_index.specs.Builders.{Draft}
 use Rattle.mbox_cutter.specs.Archives as archives
 use Rattle.mbox_cutter.specs.Archives.{text, size, span_length}
 use Rattle.mbox_cutter.specs.declared.device.Source.{Ghosts}
@@ -19,10 +19,9 @@ use Rattle.index_job.specs.declared.archive_reading.Heading.{Heading}
 use Rattle.index_job.specs.declared.archive_reading.Heading.TheVariants.{Message, End}
 use Rattle.index_job.specs.declared.archive_reading.ReadArchive.{ReadArchive}
 use Rattle.index_job.specs.declared.job_fault.JobFault.{JobFault}
-use Rattle.index_job.specs.declared.job_fault.JobFault.TheVariants.{OutOfMemory, TooMany}
 use Rattle.mail_index.specs.Limits.{most_in_archive}
 use Rattle.index_job.specs.Inside.Gathering.{HasGathered}
-use Rattle.index_job.specs.Indexing.{draft_with_terms, draft_with_messages, with_open_archive, HasTooMany, RefusesTerms, IsBuilderReady, IsJobFault}
+use Rattle.index_job.specs.Indexing.{draft_with_terms, draft_with_messages, HasTooMany, RefusesTerms, IsBuilderReady, IsJobFault}
 use Rattle.index_job.specs.MessageTerms.{message_terms}
 
 -- ---- what comes
@@ -122,24 +121,11 @@ pub record AwaitsEnd (number : ℕ) (rest : Option (List ℕ)) (bytes : ℕ) (bu
   pub ready : IsBuilderReady number bytes builder
   pub within : bytes ≤ most_in_archive
 
--- there is no room for one archive more, or no memory
-abbrev pub HasNoRoom : Draft → JobFault → Type 0
-HasNoRoom d OutOfMemory = ⊤
-HasNoRoom d TooMany = d.most ≤ archive_count d
-HasNoRoom d _ = ⊥
-
 -- these messages are added to the draft, of an archive of so many bytes; or what is wrong with them
 abbrev pub AddsMessages : ℕ → Draft → ℕ → Option (List archives.Message) → Option CutFault → Result ReadArchive JobFault → Option Draft → Type 0
 AddsMessages number d bytes ms refusal (Ok read) builder =
     (refusal ≡ None) × (builder ≡ Some (draft_with_messages number (unwrap_or ms []) d)) × (read.messages ≡ length (unwrap_or ms [])) × (read.length ≡ bytes)
 AddsMessages number d bytes ms refusal (Err fault) builder = IsJobFault refusal (HasTooMany (draft_with_messages number (unwrap_or ms []) d)) fault
-
--- the same with the archive's path; where there is room for it
-abbrev pub AddsNamed : List ℕ → ℕ → Draft → ℕ → Option (List archives.Message) → Option CutFault → Result ReadArchive JobFault → Option Draft → Type 0
-AddsNamed path number d bytes ms refusal (Ok read) builder =
-    (archive_count d < d.most) × AddsMessages number (with_open_archive path d) bytes ms refusal (Ok read) builder
-AddsNamed path number d bytes ms refusal (Err fault) builder =
-    HasNoRoom d fault ⊎ ((archive_count d < d.most) × AddsMessages number (with_open_archive path d) bytes ms refusal (Err fault) builder)
 
 -- the draft has no room for the message's terms, or the archive is refused
 abbrev pub IsMessageFault : Option Draft → Awaited → JobFault → Type 0

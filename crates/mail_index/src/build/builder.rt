@@ -209,6 +209,16 @@ impl Builder {
         Ok(draft.write(out)?)
     }
 
+    /// Frees all that was built: every later call answers [`BuildFault::Failed`].
+    // It stands apart from the calls that nearly always succeed.
+    #[cold]
+    #[inline(never)]
+    pub fn lose(&mut self)
+        ensures { self.new ≡ None }
+    {
+        self.draft = None;
+    }
+
     /// After a refusal nothing is kept.
     #[inline]
     fn settled(&mut self, outcome: Result<(), BuildFault>) -> Result<(), BuildFault>
@@ -219,14 +229,5 @@ impl Builder {
             self.lose();
         }
         outcome
-    }
-
-    /// Keeps nothing. It frees all that was built, so it stands apart from the calls that nearly always succeed.
-    #[cold]
-    #[inline(never)]
-    fn lose(&mut self)
-        ensures { self.new ≡ None }
-    {
-        self.draft = None;
     }
 }

@@ -1,13 +1,27 @@
-use Rattle.index_job.proofs.Words.{◌≡◌, Option, Ok, subst, arith, Draft, begun_archive, stepped, err_from_is_err_and}
-use Rattle.index_job.proofs.ArchiveSteps.{named-adds}
-use Rattle.index_job.proofs.SourceReads.{builder-fails}
+use Rattle.index_job.proofs.Words.{◌≡◌, ◌∙◌, ℕ, List, Option, Some, Ok, IfSome, ap, subst, err_from_is_err_and, sha256, Draft, begun_archive, stepped, Mbox, draft_of}
+use Rattle.mbox_cutter.specs.Digests.{inner, AreWhole}
+use Rattle.index_job.proofs.TableSteps.{number-is, one-added, add-fault}
 use Rattle.index_job.proofs.archive_reading.add_archive.Goals as goal
 
-pub returns-clause-known : goal.returns-clause-known
-returns-clause-known g c = λ d all ms refusal is comes.
-    named-adds c.args.path.now c.args.archive d all ms refusal c.begin_archive.new.self c.add_messages.new.builder c.add_messages.result
-    (subst (λ (o : Option Draft). stepped (begun_archive c.args.path.now) o ≡ Ok c.begin_archive.new.self) is c.in_ok-begin_archive.ensures.gives)
-    (λ e opened. c.add_messages.ensures.known e all ms refusal opened comes)
+pub returns-in_err-messages-clause-err : goal.returns-in_err-messages-clause-err
+returns-in_err-messages-clause-err g c =
+    let p = err_from_is_err_and c.from_residual-in_err-messages.result c.from_residual-in_err-messages.ensures.1 in
+    rw (p.1, p.2) (λ before bytes is rest.
+    let a : Mbox = record { path = c.args.path.now; bytes = bytes } in
+    let begun : stepped (begun_archive c.args.path.now) (Some (draft_of before)) ≡ Ok c.begin_archive.new.self =
+    subst (λ (o : Option Draft). stepped (begun_archive c.args.path.now) o ≡ Ok c.begin_archive.new.self) is c.in_ok-begin_archive.ensures.gives in
+    let comes : g.S.Source.rest (inner c.new-digested.result).now ≡ Some bytes = ap g.S.Source.rest c.new-digested.ensures.same ∙ rest in
+    add-fault before a c.args.archive c.begin_archive.new.self (number-is c.args.archive before c.args.builder.now is c.requires.idle) begun c.read_archive.new.builder c.in_err-messages.field-0.0
+    (λ d opened. c.in_err-messages.ensures.known d bytes opened comes))
 
-pub returns-in_err-begin_archive-clause-reads : goal.returns-in_err-begin_archive-clause-reads
-returns-in_err-begin_archive-clause-reads g c = grind (arith, err_from_is_err_and, builder-fails)
+pub returns-clause-ok : goal.returns-clause-ok
+returns-clause-ok g c = λ before bytes is rest.
+    let a : Mbox = record { path = c.args.path.now; bytes = bytes } in
+    let begun : stepped (begun_archive c.args.path.now) (Some (draft_of before)) ≡ Ok c.begin_archive.new.self =
+    subst (λ (o : Option Draft). stepped (begun_archive c.args.path.now) o ≡ Ok c.begin_archive.new.self) is c.in_ok-begin_archive.ensures.gives in
+    let comes : g.S.Source.rest (inner c.new-digested.result).now ≡ Some bytes = ap g.S.Source.rest c.new-digested.ensures.same ∙ rest in
+    let at_first : AreWhole g.S.Source.rest c.new-digested.result bytes =
+    subst (λ (o : Option (List ℕ)). IfSome o (λ b. AreWhole g.S.Source.rest c.new-digested.result b)) rest c.new-digested.ensures.whole in
+    let digest : c.finish.result ≡ sha256 bytes = c.finish.ensures.whole bytes (c.in_ok-messages.ensures.stays.whole bytes at_first) c.in_ok-messages.ensures.ended.end in
+    one-added before a c.args.archive c.begin_archive.new.self (number-is c.args.archive before c.args.builder.now is c.requires.idle) begun c.in_ok-messages.field-0 c.read_archive.new.builder c.finish.result c.end_archive.new.self
+    (λ d opened. c.in_ok-messages.ensures.known d bytes opened comes) digest c.in_ok-end_archive.ensures.gives c.in_ok-end_archive.ensures.within
