@@ -3,9 +3,7 @@ use Rattle.index_run.proofs.Words.{◌≡◌, ◌∙◌, ◌+◌, ◌<◌, ◌�
 use Rattle.mbox_cutter.specs.declared.event.CutFault.TheVariants as cut
 use Rattle.index_job.specs.declared.job_fault.JobFault.{JobFault}
 use Rattle.index_job.specs.declared.job_fault.JobFault.TheVariants as job
-use Rattle.std.specs.Prelude.{Option, Result, Ok}
-use Rattle.std.specs.Result.{IsErrAnd, MatchResult}
-use Rattle.run_faults.specs.declared.fault.Fault.{Fault}
+use Rattle.std.specs.Prelude.{Option}
 use Rattle.contract_words.specs.Devices.{Counted}
 use Rattle.index_job.specs.JobFaults.{is_source_failure}
 
@@ -63,13 +61,6 @@ archive-fault archives before a number job.OutOfMemory parted same sound h = tt
 archive-fault archives before a number job.TooMany parted same sound h = (before, a, parted, record { sound = sound; much = h })
 archive-fault archives before a number job.Out parted same sound h = elim h [ ]
 archive-fault archives before a number job.Failed parted same sound h = elim h [ ]
-
--- the fault of the one that is refused is that of all
-pub first-refused : {T U : Type 0} (r : Result T JobFault) (told : Result U Fault) (number : ℕ) → MatchResult r (λ _. ⊥) (λ f. IsErrAnd told (λ e. e ≡ fault_of_job number f))
-    → (f : JobFault) × (r ≡ Err f) × (told ≡ Err (fault_of_job number f))
-first-refused (Ok n) told number h = absurd h
-first-refused (Err f) (Ok x) number h = absurd h
-first-refused (Err f) (Err e) number h = (f, refl, ap Err h)
 
 -- ---- which source has failed
 

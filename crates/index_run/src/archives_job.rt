@@ -52,10 +52,13 @@ pub(crate) fn job_of_archives<S: Source>(
     ensures kinds { IfErr result IsOfIndexing }
 {
     // A job that begins wants nothing but memory.
-    let mut job = IndexJob::new(alloc).map_err(|_| Fault::Memory)?;
+    let Ok(mut job) = IndexJob::new(alloc) else {
+        return Err(Fault::Memory);
+    };
     for number in 0..sources.len() {
-        job.archive(paths[number].as_str(), &mut sources[number])
-            .map_err(move |fault| fault_of_job(number as u64, fault))?;
+        if let Err(fault) = job.archive(paths[number].as_str(), &mut sources[number]) {
+            return Err(fault_of_job(number as u64, fault));
+        }
     }
     Ok(job)
 }

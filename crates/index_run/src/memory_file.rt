@@ -38,6 +38,6 @@ pub fn file_of_archives<S: Source>(
     let job = job_of_archives(alloc, paths, sources)?;
     let mut file = MemoryOut::new(alloc, None);
     // A job that hasn't failed is refused nothing but its output, and a file in memory fails only for want of memory.
-    job.finish(&mut file).map_err(|_| Fault::Memory)?;
+    job.finish(&mut file).or(Err(Fault::Memory))?;
     Ok(file)
 }

@@ -1,6 +1,6 @@
 use Rattle.index_run.proofs.Words.{arith, ◌≡◌, ◌∙◌, ◌<◌, ◌≤◌, ℕ, List, [], length, map, take, get_or, Some, Ok, sym, ap, subst, string_bytes, get_or-map, length-map, take_all, All-get_or, map-set_same, IsPath, Mbox, AreSound, mboxes, fault_of_job, is_failed_source, IsIndexOf, IsAdded, IsAddFault}
 use Rattle.contract_words.proofs.DeviceLists.{same_at, same_behind, known_at, known_length, counted_at}
-use Rattle.index_run.proofs.ArchiveLists.{mboxes-length, next-taken, parted-here, taken-so-far, sound-more, archive-fault, first-refused, others-run, here-counts}
+use Rattle.index_run.proofs.ArchiveLists.{mboxes-length, next-taken, parted-here, taken-so-far, sound-more, archive-fault, others-run, here-counts}
 use Rattle.index_run.proofs.archives_job.job_of_archives.Goals as goal
 
 pub archive-requires-clause-path : goal.archive-requires-clause-path
@@ -17,8 +17,8 @@ archive-requires-clause-count g c =
     rw (same_at _ _ c.loop-number.number c.index-sources-number.result c.loop-number.invariant.unread)
     (All-get_or (λ s. g.S.Source.failures s < 18446744073709551615) c.args.sources.now c.loop-number.number c.index-sources-number.result (omega arith) c.requires.count)
 
-pub returns-in_err-map_err-clause-known : goal.returns-in_err-map_err-clause-known
-returns-in_err-map_err-clause-known g c = λ archives known.
+pub returns-in-Err-clause-known : goal.returns-in-Err-clause-known
+returns-in-Err-clause-known g c = λ archives known.
     let i = c.loop-number.number in
     let paths = map string_bytes c.args.paths.now in
     let below : i < length c.args.paths.now = omega (arith, c.requires.many) in
@@ -29,25 +29,24 @@ returns-in_err-map_err-clause-known g c = λ archives known.
     let rest : g.S.Source.rest (get_or c.loop-number.sources i c.index-sources-number.result) ≡ Some (get_or archives i []) =
     ap g.S.Source.rest (same_at c.loop-number.sources c.args.sources.now i c.index-sources-number.result c.loop-number.invariant.unread) ∙ known_at g.S.Source.rest c.args.sources.now archives i c.index-sources-number.result known (omega arith) in
     let found = c.loop-number.invariant.found archives known in
-    let refused = first-refused c.archive.result c.from_residual-in_err-map_err.result i (grind arith) in
-    let fails : IsAddFault (take i (mboxes paths archives)) (record { path = get_or paths i []; bytes = get_or archives i [] }) refused.0 =
-    subst (λ (t : List ℕ). IsAddFault (take i (mboxes paths archives)) (record { path = t; bytes = get_or archives i [] }) refused.0) text
-    ((rw refused.1 at c.archive.ensures.err) (take i (mboxes paths archives)) (get_or archives i []) found.0 rest) in
-    rw refused.2 (archive-fault (mboxes paths archives) (take i (mboxes paths archives)) (record { path = get_or paths i []; bytes = get_or archives i [] }) i refused.0
+    let fault = c.in-Err.fault in
+    let fails : IsAddFault (take i (mboxes paths archives)) (record { path = get_or paths i []; bytes = get_or archives i [] }) fault =
+    subst (λ (t : List ℕ). IsAddFault (take i (mboxes paths archives)) (record { path = t; bytes = get_or archives i [] }) fault) text
+    ((rw c.in-Err.is at c.archive.ensures.err) (take i (mboxes paths archives)) (get_or archives i []) found.0 rest) in
+    rw c.fault_of_job.ensures (archive-fault (mboxes paths archives) (take i (mboxes paths archives)) (record { path = get_or paths i []; bytes = get_or archives i [] }) i fault
     (parted-here paths archives i many within) (sym (taken-so-far paths archives i many within)) found.1 fails)
 
-pub returns-in_err-map_err-clause-count : goal.returns-in_err-map_err-clause-count
-returns-in_err-map_err-clause-count g c =
+pub returns-in-Err-clause-count : goal.returns-in-Err-clause-count
+returns-in-Err-clause-count g c =
     let i = c.loop-number.number in
-    let refused = first-refused c.archive.result c.from_residual-in_err-map_err.result i (grind arith) in
-    let fault = refused.0 in
-    rw refused.2 (counted_at g.S.Source.failures (λ n. is_failed_source n (Some (fault_of_job i fault))) c.loop-number.sources c.args.sources.now i c.archive.new.source c.index-sources-number.result (omega arith) c.loop-number.invariant.counts
-    (others-run i fault) (here-counts i fault _ _ (rw refused.1 at c.archive.ensures.count)))
+    let fault = c.in-Err.fault in
+    rw c.fault_of_job.ensures (counted_at g.S.Source.failures (λ n. is_failed_source n (Some (fault_of_job i fault))) c.loop-number.sources c.args.sources.now i c.archive.new.source c.index-sources-number.result (omega arith) c.loop-number.invariant.counts
+    (others-run i fault) (here-counts i fault _ _ (rw c.in-Err.is at c.archive.ensures.count)))
 
 pub loop-number-preserved : goal.loop-number-preserved
 loop-number-preserved g c =
     let i = c.loop-number.number in
-    let is : c.archive.result ≡ Ok c.in_ok-map_err.field-0 = grind arith in
+    let is : c.archive.result ≡ Ok c.in_default-archive.field-0 = grind arith in
     record {
       unread = same_behind c.loop-number.sources c.args.sources.now i c.archive.new.source c.loop-number.invariant.unread;
       counts = map-set_same g.S.Source.failures c.loop-number.sources i c.archive.new.source c.index-sources-number.result (rw is at c.archive.ensures.count) ∙ c.loop-number.invariant.counts;
@@ -63,12 +62,12 @@ loop-number-preserved g c =
           ap g.S.Source.rest (same_at c.loop-number.sources c.args.sources.now i c.index-sources-number.result c.loop-number.invariant.unread) ∙ known_at g.S.Source.rest c.args.sources.now archives i c.index-sources-number.result known (omega arith) in
           let before = c.loop-number.invariant.found archives known in
           let a : Mbox = record { path = get_or paths i []; bytes = get_or archives i [] } in
-          let added : IsAdded (take i (mboxes paths archives)) a c.in_ok-map_err.field-0 c.archive.new.self =
-          subst (λ (t : List ℕ). IsAdded (take i (mboxes paths archives)) (record { path = t; bytes = get_or archives i [] }) c.in_ok-map_err.field-0 c.archive.new.self) text
+          let added : IsAdded (take i (mboxes paths archives)) a c.in_default-archive.field-0 c.archive.new.self =
+          subst (λ (t : List ℕ). IsAdded (take i (mboxes paths archives)) (record { path = t; bytes = get_or archives i [] }) c.in_default-archive.field-0 c.archive.new.self) text
           ((rw is at c.archive.ensures.ok) (take i (mboxes paths archives)) (get_or archives i []) before.0 rest) in
           let next = sym (next-taken paths archives i many within) in (
             subst (λ l. IsIndexOf c.archive.new.self l) next added.whole,
-            subst AreSound next (sound-more (take i (mboxes paths archives)) a c.in_ok-map_err.field-0 c.archive.new.self before.1 added),
+            subst AreSound next (sound-more (take i (mboxes paths archives)) a c.in_default-archive.field-0 c.archive.new.self before.1 added),
           );
     }
 

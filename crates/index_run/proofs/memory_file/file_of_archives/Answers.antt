@@ -14,4 +14,4 @@ finished (Some d) r n file some formed wrote is = (d.table, (formed.0, (rw is at
 
 pub returns-clause-formed : goal.returns-clause-formed
 returns-clause-formed g c =
-    finished c.in_ok-job.job c.finish.result c.in_ok-map_err.field-0 c.finish.new.out.taken c.in_ok-job.ensures.some c.finish.ensures.formed (rw c.new-file.ensures at c.finish.ensures.ok) (grind arith)
+    finished c.in_ok-job.job c.finish.result c.in_ok-or.field-0 c.finish.new.out.taken c.in_ok-job.ensures.some c.finish.ensures.formed (rw c.new-file.ensures at c.finish.ensures.ok) (grind arith)
