@@ -1,5 +1,7 @@
 //! What builders write, and a builder's limit with ample memory.
-ghost use Rattle.std.specs.Prelude.{◌≡◌, ◌<◌, ◌≤◌, None, OnErr};
+ghost use Rattle.std.specs.Prelude.{◌≡◌, ◌<◌, ◌≤◌, Some, None, length, IfSome, OnErr};
+ghost use Rattle.mail_index.specs.Builders.{empty_draft, IsBetweenArchives};
+ghost use Rattle.mail_index.specs.Tables.{IsPath};
 
 use crate::compared::have_numbers;
 use crate::counted::Counted;
@@ -11,29 +13,48 @@ use std::alloc::Global;
 
 pub const PATH: &str = "m.mbox";
 
-/// What a builder writes that is given the archive of [`NEW_BODY`]. It is None where memory is wanting.
-///
-/// [`NEW_BODY`]: crate::index_files::NEW_BODY
-pub fn written(alloc: Global) -> Option<MemoryOut> {
-    if !is_path(PATH) {
+/// Gives a builder an archive of one message, with the subject "hello" and a key that comes twice.
+pub fn build(builder: &mut Builder, path: &str, kind: Kind, key: &[u8]) -> Result<(), BuildFault>
+    requires empty { builder.old ≡ Some (empty_draft 2) }
+    requires path { IsPath path.now }
+    requires some { 0 < length key.now }
+    requires short { length key.now ≤ 262144 }
+    ensures lost { OnErr result (builder.new ≡ None) }
+    ensures phase { IfSome builder.new IsBetweenArchives }
+{
+    builder.begin_archive(path)?;
+    builder.begin_message()?;
+    builder.add(kind, key)?;
+    builder.add(Kind::Text(TextKind::Subject), b"hello")?;
+    builder.add(kind, key)?;
+    builder.end_message(ONLY)?;
+    builder.end_archive(58, ARCHIVE_DIGEST)
+}
+
+/// What a builder writes, if it tells how many bytes that are. It is None where memory is wanting, and so are the answers below.
+fn file_of(alloc: Global, builder: &Builder) -> Option<MemoryOut>
+    requires phase { IfSome builder.now IsBetweenArchives }
+{
+    let mut out = MemoryOut::new(alloc, None);
+    let count = builder.write(&mut out);
+    (count == Ok(out.bytes().len() as u64)).then_some(out)
+}
+
+/// The file of the archive of one message.
+pub fn written(alloc: Global, kind: Kind, key: &[u8]) -> Option<MemoryOut>
+    requires some { 0 < length key.now }
+    requires short { length key.now ≤ 262144 }
+{
+    let mut builder = Builder::new(alloc, 2);
+    if !is_path(PATH) || build(&mut builder, PATH, kind, key).is_err() {
         return None;
     }
-    let mut builder = Builder::new(alloc, 2);
-    builder.begin_archive(PATH).ok()?;
-    builder.begin_message().ok()?;
-    builder.add(Kind::Text(TextKind::Body), b"hi").ok()?;
-    builder.add(Kind::Text(TextKind::Subject), b"hello").ok()?;
-    builder.add(Kind::Text(TextKind::Body), b"hi").ok()?;
-    builder.end_message(ONLY).ok()?;
-    builder.end_archive(58, ARCHIVE_DIGEST).ok()?;
-    let mut out = MemoryOut::new(alloc, None);
-    (builder.write(&mut out) == Ok(227)).then_some(out)
+    file_of(alloc, &builder)
 }
 
 /// The file of the table with nothing in it.
 pub fn written_of_none(alloc: Global) -> Option<MemoryOut> {
-    let mut out = MemoryOut::new(alloc, None);
-    (Builder::new(alloc, 0).write(&mut out) == Ok(80)).then_some(out)
+    file_of(alloc, &Builder::new(alloc, 0))
 }
 
 /// Whether a call was refused so, and the builder has lost all that it was given: every later call answers that one failed.
@@ -64,46 +85,57 @@ enum Part {
     Key,
 }
 
-/// Whether a builder of one archive, one message and one key at most answers one more so. It is None where memory is wanting.
-fn has_too_many(alloc: Global, second: Part) -> Option<bool> {
-    if !is_path(PATH) {
-        return None;
-    }
-    let mut builder = Builder::new(alloc, 1);
-    builder.begin_archive(PATH).ok()?;
+/// What a builder answers that has an archive, a message and a key and is given one more of these. It is None where a call before
+/// that is refused.
+fn answer_to_second(
+    builder: &mut Builder,
+    path: &str,
+    second: Part,
+) -> Option<Result<(), BuildFault>>
+    requires empty { builder.old ≡ Some (empty_draft 1) }
+    requires path { IsPath path.now }
+    ensures lost { IfSome result (λ answer. OnErr answer (builder.new ≡ None)) }
+{
+    builder.begin_archive(path).ok()?;
     builder.begin_message().ok()?;
     builder.add(Kind::OwnId, b"1@x").ok()?;
     if let Part::Key = second {
-        let answer = builder.add(Kind::LinkId, b"1@x");
-        return Some(is_lost(&mut builder, answer, BuildFault::TooMany));
+        return Some(builder.add(Kind::LinkId, b"1@x"));
     }
     builder.end_message(ONLY).ok()?;
     if let Part::Message = second {
-        let answer = builder.begin_message();
-        return Some(is_lost(&mut builder, answer, BuildFault::TooMany));
+        return Some(builder.begin_message());
     }
     builder.end_archive(58, ARCHIVE_DIGEST).ok()?;
-    let answer = builder.begin_archive(PATH);
-    Some(is_lost(&mut builder, answer, BuildFault::TooMany))
+    Some(builder.begin_archive(path))
+}
+
+/// Whether a builder of one archive, one message and one key at most answers one more so.
+fn has_too_many(alloc: Global, second: Part) -> bool {
+    if !is_path(PATH) {
+        return false;
+    }
+    let mut builder = Builder::new(alloc, 1);
+    match answer_to_second(&mut builder, PATH, second) {
+        Some(answer) => is_lost(&mut builder, answer, BuildFault::TooMany),
+        None => false,
+    }
 }
 
 #[test]
 fn one_more_is_too_many(rt: HostRuntime) {
     for second in [Part::Archive, Part::Message, Part::Key] {
-        let as_wanted = has_too_many(rt.alloc(), second) == Some(true);
-        assert!(rt; as_wanted, "{second:?}");
+        assert!(rt; has_too_many(rt.alloc(), second), "{second:?}");
     }
 }
 
-/// Whether a builder tells that the open message has a key, once it has it, and neither of another key nor in the next message. It
-/// is None where memory is wanting.
-fn tells_what_it_has(alloc: Global) -> Option<bool> {
-    if !is_path(PATH) {
-        return None;
-    }
+/// Whether a builder tells that the open message has a key: before it has it, then, of another key, and in the next message.
+fn told_of_key(builder: &mut Builder, path: &str) -> Option<[bool; 4]>
+    requires empty { builder.old ≡ Some (empty_draft 2) }
+    requires path { IsPath path.now }
+{
     let place = Prefetched::of(Kind::OwnId, b"1@x");
-    let mut builder = Builder::new(alloc, 2);
-    builder.begin_archive(PATH).ok()?;
+    builder.begin_archive(path).ok()?;
     builder.begin_message().ok()?;
     let before = builder.has_recent(Kind::OwnId, b"1@x", place);
     builder.add(Kind::OwnId, b"1@x").ok()?;
@@ -112,32 +144,28 @@ fn tells_what_it_has(alloc: Global) -> Option<bool> {
     builder.end_message(ONLY).ok()?;
     builder.begin_message().ok()?;
     let in_next = builder.has_recent(Kind::OwnId, b"1@x", place);
-    Some([before, behind, of_others, in_next] == [false, true, false, false])
+    Some([before, behind, of_others, in_next])
+}
+
+/// Whether a builder tells that the open message has a key once it has it, and neither of another key nor in the next message.
+fn tells_what_it_has(alloc: Global) -> bool {
+    let told = [false, true, false, false];
+    is_path(PATH) && told_of_key(&mut Builder::new(alloc, 2), PATH) == Some(told)
 }
 
 #[test]
 fn keys_that_came_are_told(rt: HostRuntime) {
-    assert!(rt; tells_what_it_has(rt.alloc()) == Some(true));
+    assert!(rt; tells_what_it_has(rt.alloc()));
 }
 
-/// Whether a key of so many bytes is written and found. It is None where memory is wanting.
+/// Whether a key of so many bytes is written and found.
 fn is_found(alloc: Global, length: usize) -> Option<bool>
     requires some { 0 < length }
     requires short { length ≤ 262144 }
 {
     let id = vec![in alloc; b'x'; length].ok()?;
-    if !is_path(PATH) {
-        return None;
-    }
-    let mut builder = Builder::new(alloc, 1);
-    builder.begin_archive(PATH).ok()?;
-    builder.begin_message().ok()?;
-    builder.add(Kind::OwnId, &id).ok()?;
-    builder.end_message(ONLY).ok()?;
-    builder.end_archive(58, ARCHIVE_DIGEST).ok()?;
-    let mut out = MemoryOut::new(alloc, None);
-    builder.write(&mut out).ok()?;
-    let view = IndexView::open(out.bytes()).ok()?;
+    let file = written(alloc, Kind::OwnId, &id)?;
+    let view = IndexView::open(file.bytes()).ok()?;
     Some(have_numbers(view.look_up(Kind::OwnId, &id, &mut Steps::new()), &[0]))
 }
 

@@ -37,9 +37,10 @@ pub fn have_numbers(mut postings: Postings<'_>, numbers: &[u32]) -> bool {
 
 /// Whether a key that was met is the decoded one.
 fn is_key(met: Option<Key<'_>>, key: &DecodedKey) -> bool {
-    met.is_some_and(|met| {
-        met.text == key.text.as_slice() && have_numbers(met.postings, &key.numbers)
-    })
+    match met {
+        Some(met) => met.text == key.text.as_slice() && have_numbers(met.postings, &key.numbers),
+        None => false,
+    }
 }
 
 /// Whether keys are the decoded ones with a kind's number that begin with a text, met in their order.
@@ -73,12 +74,15 @@ fn has_archives(view: &IndexView<'_>, decoded: &[DecodedArchive]) -> bool {
     let mut same = view.archive_count() as usize == decoded.len();
     for n in 0..view.archive_count() {
         let archive = view.archive(n);
-        same = same
-            && decoded.get(n as usize).is_some_and(|other| {
+        same = match decoded.get(n as usize) {
+            Some(other) => {
                 other.path.as_str() == archive.path
                     && other.length == archive.length
                     && other.digest == archive.digest
-            });
+                    && same
+            }
+            None => false,
+        };
     }
     same
 }

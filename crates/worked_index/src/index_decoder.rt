@@ -33,6 +33,8 @@ pub struct DecodedKey {
     /// 1 to 9.
     pub kind: u64,
     pub text: Vec<u8>,
+    /// Where its list begins in the postings.
+    pub place: u64,
     pub numbers: Vec<u32>,
 }
 
@@ -40,23 +42,45 @@ pub struct DecodedKey {
 #[derive(Drop)]
 struct Reader<'a> {
     rest: &'a [u8],
+    /// Whether more was asked for than there was. All that was read since is empty or 0.
+    is_short: bool,
 }
 
 impl<'a> Reader<'a> {
-    /// The next so many bytes; None where there are fewer.
-    fn take(&mut self, count: u64) -> Option<&'a [u8]> {
-        let (taken, rest) = self.rest.split_at_checked(usize::try_from(count).ok()?)?;
-        self.rest = rest;
-        Some(taken)
+    fn new(bytes: &'a [u8]) -> Self {
+        Reader {
+            rest: bytes,
+            is_short: false,
+        }
+    }
+
+    /// The next so many bytes.
+    fn take(&mut self, count: u64) -> &'a [u8] {
+        match self.rest.split_at_checked(count as usize) {
+            Some((taken, rest)) => {
+                self.rest = rest;
+                taken
+            }
+            None => {
+                self.rest = b"";
+                self.is_short = true;
+                b""
+            }
+        }
     }
 
     /// The number in the next so many bytes, at most 8, the highest first.
-    fn number(&mut self, count: u64) -> Option<u64> {
+    fn number(&mut self, count: u64) -> u64 {
         let mut number = 0u64;
-        for byte in self.take(count)? {
+        for byte in self.take(count) {
             number = number.wrapping_mul(256).wrapping_add(u64::from(*byte));
         }
-        Some(number)
+        number
+    }
+
+    /// Whether just the bytes that there are were read.
+    fn is_at_end(&self) -> bool {
+        self.rest.is_empty() && !self.is_short
     }
 }
 
@@ -92,68 +116,76 @@ struct Sections<'a> {
 
 /// The sections, which are all that there is.
 fn cut(signed: &[u8]) -> Option<Sections<'_>> {
-    let mut file = Reader { rest: signed };
-    let _magic = file.take(8)?;
-    let version = file.number(4)?;
-    let archive_count = file.number(4)?;
-    let message_count = file.number(4)?;
-    let key_count = file.number(4)?;
-    let archive_bytes = file.number(8)?;
-    let text_bytes = file.number(8)?;
-    let posting_bytes = file.number(8)?;
+    let mut file = Reader::new(signed);
+    let _magic = file.take(8);
+    let version = file.number(4);
+    let archive_count = file.number(4);
+    let message_count = file.number(4);
+    let key_count = file.number(4);
+    let archive_bytes = file.number(8);
+    let text_bytes = file.number(8);
+    let posting_bytes = file.number(8);
     let sections = Sections {
         version,
         archive_count,
         message_count,
-        archives: file.take(archive_bytes)?,
-        records: file.take(message_count.checked_mul(40)?)?,
-        directory: file.take(key_count.checked_mul(24)?)?,
-        texts: file.take(text_bytes)?,
-        postings: file.take(posting_bytes)?,
+        archives: file.take(archive_bytes),
+        records: file.take(message_count.saturating_mul(40)),
+        directory: file.take(key_count.saturating_mul(24)),
+        texts: file.take(text_bytes),
+        postings: file.take(posting_bytes),
     };
-    file.rest.is_empty().then_some(sections)
+    file.is_at_end().then_some(sections)
 }
 
-/// The next archive.
-fn next_archive(alloc: Global, section: &mut Reader<'_>, version: u64) -> Option<DecodedArchive> {
-    let length = section.number(8)?;
-    let size = section.number(4)?;
-    let path = str::from_utf8(section.take(size)?).ok()?;
-    let is_sound = !path.contains('\n') && !path.contains('\0');
-    if length > 1 << 40 || !is_sound || path.is_empty() || path.len() > 4096 {
-        return None;
-    }
+/// Reads the next archive.
+fn read_archive(
+    alloc: Global,
+    section: &mut Reader<'_>,
+    version: u64,
+    archives: &mut Vec<DecodedArchive>,
+) -> Option<()> {
+    let length = section.number(8);
+    let size = section.number(4);
+    let path = str::from_utf8(section.take(size)).ok()?;
     let digest = if version == 1 {
         None
     } else {
-        Some(*section.take(32)?.first_chunk::<32>()?)
+        section.take(32).first_chunk::<32>().copied()
     };
-    Some(DecodedArchive {
-        path: String::from_str(alloc, path).ok()?,
-        length,
-        digest,
-    })
+    let is_sound = !path.contains('\n') && !path.contains('\0');
+    if section.is_short || length > 1 << 40 || !is_sound || path.is_empty() || path.len() > 4096 {
+        return None;
+    }
+    let path = String::from_str(alloc, path).ok()?;
+    archives
+        .push(DecodedArchive {
+            path,
+            length,
+            digest,
+        })
+        .ok()
 }
 
-fn read_archives(alloc: Global, sections: &Sections<'_>) -> Option<Vec<DecodedArchive>> {
-    let mut section = Reader {
-        rest: sections.archives,
-    };
-    let mut archives = Vec::new(alloc);
+fn read_archives(
+    alloc: Global,
+    sections: &Sections<'_>,
+    archives: &mut Vec<DecodedArchive>,
+) -> Option<()> {
+    let mut section = Reader::new(sections.archives);
     for _ in 0..sections.archive_count {
-        let archive = next_archive(alloc, &mut section, sections.version)?;
-        archives.push(archive).ok()?;
+        read_archive(alloc, &mut section, sections.version, archives)?;
     }
-    section.rest.is_empty().then_some(archives)
+    section.is_at_end().then_some(())
 }
 
 fn message_of(record: &[u8]) -> Option<DecodedMessage> {
-    let mut fields = Reader { rest: record };
-    let archive = fields.number(4)?;
-    let flags = fields.number(1)?;
-    let zeros = fields.number(3)?;
-    let place = [fields.number(8)?, fields.number(8)?, fields.number(8)?];
-    let date = fields.number(8)?.cast_signed();
+    let mut fields = Reader::new(record);
+    let archive = fields.number(4);
+    let flags = fields.number(1);
+    let zeros = fields.number(3);
+    let place = [fields.number(8), fields.number(8), fields.number(8)];
+    let date = fields.number(8).cast_signed();
     let is_dated = flags >= 8;
     if flags > 15 || zeros != 0 || (date != 0 && !is_dated) {
         return None;
@@ -165,140 +197,141 @@ fn message_of(record: &[u8]) -> Option<DecodedMessage> {
 /// Where the message ends, if it lies in its archive, and none of it lies before the least place, of an archive and an offset.
 fn end_of(archives: &[DecodedArchive], message: DecodedMessage, least: (u64, u64)) -> Option<u64> {
     let (number, [offset, length, size], _, _) = message;
-    let archive = archives.get(usize::try_from(number).ok()?)?;
-    let end = offset.checked_add(length)?;
+    let archive = archives.get(number as usize)?;
+    let end = offset.saturating_add(length);
     let fits = end <= archive.length && size < length && (number, offset) >= least;
     fits.then_some(end)
 }
 
 fn read_messages(
-    alloc: Global,
     archives: &[DecodedArchive],
     section: &[u8],
-) -> Option<Vec<DecodedMessage>> {
-    let mut messages = Vec::new(alloc);
+    messages: &mut Vec<DecodedMessage>,
+) -> Option<()> {
     let mut least = (0u64, 0u64);
     for record in section.chunks_exact(40) {
         let message = message_of(record)?;
         least = (message.0, end_of(archives, message, least)?);
         messages.push(message).ok()?;
     }
-    Some(messages)
+    Some(())
 }
 
-/// A key with the place of its postings.
-#[derive(Clone, Copy)]
-struct Entry<'a> {
-    kind: u64,
-    text: &'a [u8],
-    place: u64,
-}
-
-/// The entry of these bytes, whose text is the next one, and whose kind is at most the last.
-fn entry_of<'a>(
-    bytes: &[u8],
+/// The key of an entry, whose text is the next one, and whose kind is at most the last. It has no numbers yet.
+fn key_of(
+    alloc: Global,
+    entry: &[u8],
     text_place: u64,
-    texts: &mut Reader<'a>,
+    texts: &mut Reader<'_>,
     last_kind: u64,
-) -> Option<Entry<'a>> {
-    let mut fields = Reader { rest: bytes };
-    let kind = fields.number(1)?;
-    let zeros = fields.number(3)?;
-    let text = texts.take(fields.number(4)?)?;
-    let is_next = fields.number(8)? == text_place;
-    let place = fields.number(8)?;
-    let is_key = !text.is_empty() && zeros == 0 && 1 <= kind && kind <= last_kind;
-    (is_next && is_key).then_some(Entry { kind, text, place })
-}
-
-/// Whether the first entry may stand just before the second.
-fn are_in_order(first: &Entry<'_>, second: &Entry<'_>) -> bool {
-    (first.kind, first.text) < (second.kind, second.text) && first.place < second.place
-}
-
-fn read_directory<'a>(alloc: Global, sections: &Sections<'a>) -> Option<Vec<Entry<'a>>> {
-    let last_kind = if sections.version == 1 { 8 } else { 9 };
-    let posting_bytes = sections.postings.len() as u64;
-    let mut texts = Reader {
-        rest: sections.texts,
-    };
-    let mut entries: Vec<Entry<'a>> = Vec::new(alloc);
-    for bytes in sections.directory.chunks_exact(24) {
-        let text_place = sections.texts.len().saturating_sub(texts.rest.len()) as u64;
-        let entry = entry_of(bytes, text_place, &mut texts, last_kind)?;
-        entries.push(entry).ok()?;
-    }
-    let begins = entries.first().map_or(0, |entry| entry.place);
-    let last = entries.last();
-    let fits = last.map_or(posting_bytes == 0, |last| last.place < posting_bytes);
-    let in_order = entries.windows(2).all(
-        |pair| matches!(pair, [first, second] if are_in_order(first, second)),
-    );
-    (texts.rest.is_empty() && begins == 0 && fits && in_order).then_some(entries)
-}
-
-/// The number of a message that groups of seven bits, the lowest one first, tell behind those below `next`.
-fn number_of(groups: &[u8], next: u64, message_count: u64) -> Option<u32> {
-    // A last group of 0 makes the difference 0 or isn't the shortest form, and from 128 on it isn't the last.
-    if !matches!(groups.last(), Some(1..128)) {
+) -> Option<DecodedKey> {
+    let mut fields = Reader::new(entry);
+    let kind = fields.number(1);
+    let zeros = fields.number(3);
+    let text = texts.take(fields.number(4));
+    let is_next = fields.number(8) == text_place;
+    let place = fields.number(8);
+    if !is_next || text.is_empty() || zeros != 0 || kind < 1 || last_kind < kind {
         return None;
     }
-    let mut difference = 0u64;
-    for group in groups.iter().rev() {
-        difference = difference
-            .checked_mul(128)?
-            .checked_add(u64::from(*group % 128))?;
-    }
-    let number = next.checked_add(difference)?.checked_sub(1)?;
-    (number < message_count).then_some(u32::try_from(number).ok()?)
+    Some(DecodedKey {
+        kind,
+        text: text.to_vec(alloc).ok()?,
+        place,
+        numbers: Vec::new(alloc),
+    })
 }
 
-fn read_numbers(alloc: Global, list: &[u8], message_count: u64) -> Option<Vec<u32>> {
-    let mut numbers = Vec::new(alloc);
-    let mut next = 0u64;
-    for groups in list.split_inclusive(|byte| *byte < 128) {
-        let number = number_of(groups, next, message_count)?;
-        numbers.push(number).ok()?;
-        next = u64::from(number) + 1;
+/// Whether a key may stand just behind another one, or be the first.
+fn may_follow(before: Option<&DecodedKey>, key: &DecodedKey) -> bool {
+    match before {
+        None => key.place == 0,
+        Some(before) => {
+            before.place < key.place
+                && (before.kind, before.text.as_slice()) < (key.kind, key.text.as_slice())
+        }
     }
-    (!numbers.is_empty()).then_some(numbers)
 }
 
-fn read_keys(
+fn read_directory(
     alloc: Global,
-    entries: &[Entry<'_>],
     sections: &Sections<'_>,
-) -> Option<Vec<DecodedKey>> {
-    let mut keys = Vec::new(alloc);
-    let mut postings = Reader {
-        rest: sections.postings,
-    };
-    let ends = entries.iter().skip(1).map(|entry| entry.place);
-    let ends = ends.chain([sections.postings.len() as u64]);
-    for (entry, end) in entries.iter().zip(ends) {
-        let list = postings.take(end.saturating_sub(entry.place))?;
-        keys.push(DecodedKey {
-            kind: entry.kind,
-            text: entry.text.to_vec(alloc).ok()?,
-            numbers: read_numbers(alloc, list, sections.message_count)?,
-        })
-        .ok()?;
+    keys: &mut Vec<DecodedKey>,
+) -> Option<()> {
+    let last_kind = if sections.version == 1 { 8 } else { 9 };
+    let mut texts = Reader::new(sections.texts);
+    for entry in sections.directory.chunks_exact(24) {
+        let text_place = sections.texts.len().saturating_sub(texts.rest.len()) as u64;
+        let key = key_of(alloc, entry, text_place, &mut texts, last_kind)?;
+        if !may_follow(keys.last(), &key) || key.place >= sections.postings.len() as u64 {
+            return None;
+        }
+        keys.push(key).ok()?;
     }
-    Some(keys)
+    (texts.is_at_end() && keys.is_empty() == sections.postings.is_empty()).then_some(())
+}
+
+/// Reads a list of the differences between numbers, each in groups of seven bits, the lowest one first.
+fn read_numbers(list: &[u8], message_count: u64, numbers: &mut Vec<u32>) -> Option<()> {
+    let mut next = 0u64;
+    let mut difference = 0u64;
+    let mut unit = 1u64;
+    for byte in list {
+        let group = u64::from(*byte % 128);
+        difference = difference.saturating_add(unit.saturating_mul(group));
+        unit = unit.saturating_mul(128);
+        // From 128 on it isn't the last group.
+        if *byte < 128 {
+            let number = next.saturating_add(difference).saturating_sub(1);
+            // A last group of 0 makes the difference 0 or isn't the shortest form.
+            if *byte == 0 || number >= message_count {
+                return None;
+            }
+            numbers.push(u32::try_from(number).ok()?).ok()?;
+            next = number.saturating_add(1);
+            difference = 0;
+            unit = 1;
+        }
+    }
+    (unit == 1 && !numbers.is_empty()).then_some(())
+}
+
+/// Reads the lists of all keys. The last one is the end of the postings, and each of the others ends where the next one begins.
+fn read_postings(sections: &Sections<'_>, keys: &mut [DecodedKey]) -> Option<()> {
+    let mut rest = sections.postings;
+    for key in keys.iter_mut().rev() {
+        let (before, list) = rest.split_at_checked(key.place as usize)?;
+        read_numbers(list, sections.message_count, &mut key.numbers)?;
+        rest = before;
+    }
+    Some(())
+}
+
+/// Reads a table section by section, up to the first one that is broken.
+fn read_table(
+    alloc: Global,
+    sections: &Sections<'_>,
+    decoded: &mut Decoded,
+) -> Result<(), Section> {
+    read_archives(alloc, sections, &mut decoded.archives).ok_or(Section::Archives)?;
+    read_messages(&decoded.archives, sections.records, &mut decoded.messages).ok_or(
+        Section::Records,
+    )?;
+    read_directory(alloc, sections, &mut decoded.keys).ok_or(Section::Directory)?;
+    read_postings(sections, &mut decoded.keys).ok_or(Section::Postings)
 }
 
 /// The table of these bytes, or the first rule that they break.
 pub fn decode(alloc: Global, bytes: &[u8]) -> Result<Decoded, IndexFault> {
     let sections = cut(signed_part(bytes)?).ok_or(BadLayout(Section::Counts))?;
-    let archives = read_archives(alloc, &sections).ok_or(BadLayout(Section::Archives))?;
-    let messages = read_messages(alloc, &archives, sections.records);
-    let messages = messages.ok_or(BadLayout(Section::Records))?;
-    let entries = read_directory(alloc, &sections).ok_or(BadLayout(Section::Directory))?;
-    let keys = read_keys(alloc, &entries, &sections).ok_or(BadLayout(Section::Postings))?;
-    Ok(Decoded {
+    let mut decoded = Decoded {
         version: sections.version,
-        archives,
-        messages,
-        keys,
-    })
+        archives: Vec::new(alloc),
+        messages: Vec::new(alloc),
+        keys: Vec::new(alloc),
+    };
+    match read_table(alloc, &sections, &mut decoded) {
+        Ok(()) => Ok(decoded),
+        Err(section) => Err(BadLayout(section)),
+    }
 }

@@ -1,14 +1,9 @@
 //! A builder of which each allocation is refused in turn: the gate runs these tests with a library that refuses the first
 //! allocation, then the second, and so on. Where a call is refused it answers want of memory, and every later call that it failed.
-ghost use Rattle.std.specs.Prelude.{◌≡◌, Some, None, IfSome, OnErr};
-ghost use Rattle.mail_index.specs.Builders.{empty_draft, IsBetweenArchives};
-ghost use Rattle.mail_index.specs.Tables.{IsPath};
 
-use crate::builders::{PATH, is_lost};
+use crate::builders::{PATH, build, is_lost};
 use crate::counted::Counted;
-use crate::index_files::{ARCHIVE_DIGEST, ONLY};
 use mail_index::{BuildFault, Builder, Kind, is_path};
-use mail_words::TextKind;
 use std::alloc::Global;
 
 /// A key that has memory of its own.
@@ -17,28 +12,13 @@ const LONG_ID: &[u8] = b"an.id.of.more.than.15.bytes@x.org";
 /// The bytes of an index file of an archive at [`PATH`] with a message that has two keys, that one and one of five bytes.
 const SIZE: u64 = 80 + 50 + 40 + 2 * 24 + 38 + 2;
 
-/// Gives a builder that archive.
-fn build(builder: &mut Builder, path: &str) -> Result<(), BuildFault>
-    requires empty { builder.old ≡ Some (empty_draft 2) }
-    requires path { IsPath path.now }
-    ensures lost { OnErr result (builder.new ≡ None) }
-    ensures phase { IfSome builder.new IsBetweenArchives }
-{
-    builder.begin_archive(path)?;
-    builder.begin_message()?;
-    builder.add(Kind::Text(TextKind::Subject), b"hello")?;
-    builder.add(Kind::OwnId, LONG_ID)?;
-    builder.end_message(ONLY)?;
-    builder.end_archive(58, ARCHIVE_DIGEST)
-}
-
 /// Whether the archive is built, or the call that is refused leaves nothing. Where it is built it is also written, if that is asked.
 fn is_built_or_lost(alloc: Global, writes: bool) -> bool {
     if !is_path(PATH) {
         return false;
     }
     let mut builder = Builder::new(alloc, 2);
-    let answer = build(&mut builder, PATH);
+    let answer = build(&mut builder, PATH, Kind::OwnId, LONG_ID);
     if answer.is_err() {
         return is_lost(&mut builder, answer, BuildFault::OutOfMemory);
     }
