@@ -1,8 +1,8 @@
 //! Answers that were worked out by hand, over archives in memory and their index.
 
 use crate::fixture::{
-    ARCHIVE, BOTH_COUSINS, COUSINS, INDEX, RAW_COUSINS, TWO_MESSAGES, held, indexed, is_front,
-    is_whole, text_of, told,
+    ARCHIVE, BOTH_COUSINS, COUSINS, INDEX, RAW_COUSINS, TWO_MESSAGES, Told, held, indexed,
+    is_front, is_whole, text_of, told,
 };
 use mail_answer::AnswerFaultKind::{OutFailed, OutOfMemory};
 use mail_answer::Format::{self, Excerpt, Mbox, Raw};
@@ -25,7 +25,7 @@ const EXCERPT_TO_ALICE: &str = "m.mbox|To: alice@x.org|Cc: bob@x.org|From:|Subje
 const EXCERPT_FROM_ALICE: &str = "m.mbox|To:|Cc:|From: Alice <alice@example.org>|Subject:|Date:|";
 
 /// The text of an archive, a pattern, a form, and how many messages are answered with what.
-const OF_ONE_ARCHIVE: [(&str, &str, Format, u64, &str); 20] = [
+const OF_ONE_ARCHIVE: &[(&str, &str, Format, u64, &str)] = &[
     (HELLO_WITHOUT_LAST_LF, "s:hello", Raw, 1, "0 57 m.mbox|"),
     (HELLO_WITHOUT_LAST_LF, "s:hello", Mbox, 1, HELLO),
     ("^Subject: Hello||hi", "s:hello", Mbox, 1, HELLO),
@@ -62,7 +62,7 @@ const CHAIN: [(&str, &str); 1] = [(
 const LINKED: &str = "0 61 m.mbox|61 79 m.mbox|140 80 m.mbox|";
 
 /// Archives, a pattern, whether whole threads are asked for, a form, and how many messages are answered with what.
-const OF_ARCHIVES: [(&[(&str, &str)], (&str, bool, Format), u64, &str); 9] = [
+const OF_ARCHIVES: &[(&[(&str, &str)], (&str, bool, Format), u64, &str)] = &[
     (&TWICE, ("s:hello", false, Mbox), 2, CLOSED),
     (&CHAIN, ("b:hi", true, Raw), 3, LINKED),
     (&CHAIN, ("b:he", true, Raw), 3, LINKED),
@@ -74,7 +74,18 @@ const OF_ARCHIVES: [(&[(&str, &str)], (&str, bool, Format), u64, &str); 9] = [
     (&COUSINS, ("b:absent", true, Mbox), 0, ""),
 ];
 
-/// Whether an answer over archives has so many messages and is this text. It is None where memory is wanting, and so is the next one.
+/// What an answer over archives, from their index, tells and writes. It is None where memory is wanting, and so are those below.
+fn answered(
+    alloc: Global,
+    archives: &[(&str, &str)],
+    search: (&str, bool, Format),
+) -> Option<Told> {
+    let file = indexed(alloc, archives)?;
+    let mut archives = held(alloc, archives)?;
+    told(alloc, &file, search, &mut archives, None)
+}
+
+/// Whether an answer over archives has so many messages and is this text.
 fn is_answered(
     alloc: Global,
     archives: &[(&str, &str)],
@@ -82,17 +93,16 @@ fn is_answered(
     messages: u64,
     text: &str,
 ) -> Option<bool> {
-    let file = indexed(alloc, archives)?;
-    let index = IndexView::open(&file).ok()?;
-    let told = told(alloc, &index, search, &mut held(alloc, archives)?, None)?;
-    Some(is_whole(&told, messages, &text_of(alloc, text)?))
+    let whole = text_of(alloc, text)?;
+    let told = answered(alloc, archives, search)?;
+    Some(is_whole(&told, messages, &whole))
 }
 
 #[test]
 fn one_archive_is_answered(rt: HostRuntime) {
     for (archive, pattern, format, messages, text) in OF_ONE_ARCHIVE {
-        let search = (pattern, false, format);
-        let as_wanted = is_answered(rt.alloc(), &[("m.mbox", archive)], search, messages, text);
+        let search = (*pattern, false, *format);
+        let as_wanted = is_answered(rt.alloc(), &[("m.mbox", *archive)], search, *messages, text);
         assert!(rt; as_wanted == Some(true), "{pattern}: {text}");
     }
 }
@@ -100,12 +110,12 @@ fn one_archive_is_answered(rt: HostRuntime) {
 #[test]
 fn threads_and_several_archives_are_answered(rt: HostRuntime) {
     for (archives, search, messages, text) in OF_ARCHIVES {
-        let as_wanted = is_answered(rt.alloc(), archives, search, messages, text);
+        let as_wanted = is_answered(rt.alloc(), archives, *search, *messages, text);
         assert!(rt; as_wanted == Some(true), "{search:?}: {text}");
     }
 }
 
-const FORMS: [(Format, &str); 3] = [
+const FORMS: &[(Format, &str)] = &[
     (Raw, "0 58 m.mbox|58 62 m.mbox|"),
     (
         Excerpt,
@@ -129,14 +139,14 @@ fn held_again(alloc: Global) -> Option<MemoryArchives> {
 
 /// Whether an answer in a form is whole, or tells that memory is wanting, or that the output in memory failed, with nothing sent.
 fn is_whole_or_wanting(alloc: Global, format: Format, text: &str) -> Option<bool> {
-    let Ok(index) = IndexView::open(INDEX) else {
+    if IndexView::open(INDEX).is_err() {
         return Some(false);
-    };
+    }
     let text = text_of(alloc, text)?;
     let Some(mut archives) = held_again(alloc) else {
         return Some(false);
     };
-    let told = told(alloc, &index, ("s:~re", true, format), &mut archives, None)?;
+    let told = told(alloc, INDEX, ("s:~re", true, format), &mut archives, None)?;
     let is_wanting = is_front(&told, OutOfMemory, &[]) || is_front(&told, OutFailed, &[]);
     Some(is_wanting || is_whole(&told, 2, &text))
 }
@@ -146,7 +156,7 @@ fn is_whole_or_wanting(alloc: Global, format: Format, text: &str) -> Option<bool
 #[test]
 fn sweep_answer_with_threads(rt: HostRuntime) {
     for (format, text) in FORMS {
-        let as_wanted = is_whole_or_wanting(rt.alloc(), format, text);
+        let as_wanted = is_whole_or_wanting(rt.alloc(), *format, text);
         assert!(rt; as_wanted != Some(false), "{format:?}");
     }
 }

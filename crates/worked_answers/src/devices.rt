@@ -6,7 +6,6 @@ use crate::fixture::{
 };
 use mail_answer::AnswerFaultKind::{Device, OutFailed, Stale};
 use mail_answer::{FailAt, Format};
-use mail_index::IndexView;
 use std::alloc::Global;
 
 /// The answer to `b:hi` with threads, of two messages, in a form: its text, how many calls of the archives it makes at least, and how
@@ -16,7 +15,7 @@ pub type Form = (Format, &'static str, u64, u64);
 const EXCERPTS: &str = "a.mbox|To:|Cc:|From:|Subject:|Date:|b.mbox|To:|Cc:|From:|Subject:|Date:|";
 
 /// An excerpt reads no more than the header of 75 bytes.
-pub const FORMS: [Form; 3] = [
+pub const FORMS: &[Form] = &[
     (Format::Raw, RAW_COUSINS, 2, 0),
     (Format::Excerpt, EXCERPTS, 4, 75),
     (Format::Mbox, BOTH_COUSINS, 4, 79),
@@ -25,19 +24,18 @@ pub const FORMS: [Form; 3] = [
 /// Calls of the archives that no answer to that query gets to.
 const BEYOND: u64 = 20;
 
-/// What an answer to `b:hi` with threads tells and writes, by an index file, over archives of which this call fails, into so
-/// much room. It is None where memory is wanting, and so are those below.
+/// What an answer to `b:hi` with threads tells and writes, by the index of some archives, over archives of which this call fails, into
+/// so much room. It is None where memory is wanting, and so are those below.
 fn told_of(
     alloc: Global,
     format: Format,
-    file: &[u8],
-    archives: &[(&str, &str)],
+    (of_index, archives): (&[(&str, &str)], &[(&str, &str)]),
     fail_at: u64,
     room: Option<u64>,
 ) -> Option<Told> {
-    let index = IndexView::open(file).ok()?;
+    let file = indexed(alloc, of_index)?;
     let mut archives = FailAt::new(held(alloc, archives)?, fail_at);
-    told(alloc, &index, ("b:hi", true, format), &mut archives, room)
+    told(alloc, &file, ("b:hi", true, format), &mut archives, room)
 }
 
 /// Whether a failure at one call is answered, and nothing else, where the answer makes that call. A raw answer makes no other calls
@@ -45,12 +43,11 @@ fn told_of(
 fn tells_failed_call(alloc: Global, form: Form, fail_at: u64) -> Option<bool> {
     let (format, text, least, _) = form;
     let whole = text_of(alloc, text)?;
-    let file = indexed(alloc, &COUSINS)?;
-    let told = told_of(alloc, format, &file, &COUSINS, fail_at, None)?;
+    let told = told_of(alloc, format, (&COUSINS, &COUSINS), fail_at, None)?;
     let failed = is_front(&told, Device, &whole);
     let answered = is_whole(&told, 2, &whole);
     Some(if fail_at <= 2 {
-        failed && told.1.is_empty()
+        failed && told.1.bytes().is_empty()
     } else if fail_at <= least {
         failed
     } else if fail_at == BEYOND || format == Format::Raw {
@@ -64,37 +61,31 @@ fn tells_failed_call(alloc: Global, form: Form, fail_at: u64) -> Option<bool> {
 fn a_failed_call_leaves_a_front(rt: HostRuntime) {
     for form in FORMS {
         for fail_at in 1..=BEYOND {
-            let as_wanted = tells_failed_call(rt.alloc(), form, fail_at);
+            let as_wanted = tells_failed_call(rt.alloc(), *form, fail_at);
             assert!(rt; as_wanted == Some(true), "{:?} at call {fail_at}", form.0);
         }
     }
 }
 
-/// Whether an output takes just so much of an answer in each room, up to that of the whole. It gives the first room that it doesn't
-/// fill so.
-fn first_unfilled(alloc: Global, (format, text, _, _): Form) -> Option<Option<usize>> {
-    let file = indexed(alloc, &COUSINS)?;
+/// Whether an output takes just so much of an answer as it has room.
+fn fills(alloc: Global, (format, text, _, _): Form, room: u64) -> Option<bool> {
     let whole = text_of(alloc, text)?;
-    for room in 0..=whole.len() {
-        let told = told_of(alloc, format, &file, &COUSINS, 0, Some(room as u64))?;
-        let as_wanted = if room == whole.len() {
-            is_whole(&told, 2, &whole)
-        } else {
-            is_front(&told, OutFailed, &whole) && told.1.len() == room
-        };
-        if !as_wanted {
-            return Some(Some(room));
-        }
-    }
-    Some(None)
+    let told = told_of(alloc, format, (&COUSINS, &COUSINS), 0, Some(room))?;
+    Some(if room >= whole.len() as u64 {
+        is_whole(&told, 2, &whole)
+    } else {
+        is_front(&told, OutFailed, &whole) && told.1.bytes().len() as u64 == room
+    })
 }
 
-/// An output with too little room takes just so much.
+/// An output with too little room takes just so much. The longest answer has 158 bytes.
 #[test]
 fn a_full_output_has_a_front(rt: HostRuntime) {
     for form in FORMS {
-        let unfilled = first_unfilled(rt.alloc(), form);
-        assert!(rt; unfilled == Some(None), "{:?}: {unfilled:?}", form.0);
+        for room in 0..=158 {
+            let as_wanted = fills(rt.alloc(), *form, room);
+            assert!(rt; as_wanted == Some(true), "{:?} in {room} bytes", form.0);
+        }
     }
 }
 
@@ -105,7 +96,7 @@ const SHORTER: (&str, &str) = ("a.mbox", "^Message-ID: <1@x>|References: <0@x>||
 const LONGER: (&str, &str) = ("m.mbox", "^Subject: x||ho|||");
 
 /// What has become of the archives A, B and OTHER, and which of them is told. Of several that have changed it is the first.
-const STALE: [(&[(&str, &str)], u32); 9] = [
+const STALE: &[(&[(&str, &str)], u32)] = &[
     (&[], 0),
     (&[A], 1),
     (&[A, B], 2),
@@ -126,8 +117,7 @@ fn is_stale(
     number: u32,
     fail_at: u64,
 ) -> Option<bool> {
-    let file = indexed(alloc, &[A, B, OTHER])?;
-    let told = told_of(alloc, format, &file, archives, fail_at, None)?;
+    let told = told_of(alloc, format, (&[A, B, OTHER], archives), fail_at, None)?;
     let is_asked = archives.len() == 3 && 1 <= fail_at && fail_at <= u64::from(number) + 1;
     let kind = if is_asked { Device } else { Stale(number) };
     Some(is_front(&told, kind, &[]))
@@ -140,7 +130,7 @@ fn changed_archives_are_stale(rt: HostRuntime) {
     for (archives, number) in STALE {
         for (format, _, _, _) in FORMS {
             for fail_at in 0..=4 {
-                let as_wanted = is_stale(rt.alloc(), format, archives, number, fail_at);
+                let as_wanted = is_stale(rt.alloc(), *format, archives, *number, fail_at);
                 assert!(rt;
                     as_wanted == Some(true),
                     "{format:?}: {number}, {archives:?}, call {fail_at}"

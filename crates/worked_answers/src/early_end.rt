@@ -4,9 +4,8 @@ ghost use Rattle.contract_words.specs.Devices.{Counts};
 ghost use Rattle.mail_answer.specs.Archives.{IsLength, IsRead};
 
 use crate::devices::{FORMS, Form};
-use crate::fixture::{COUSINS, held, indexed, is_front, is_whole, text_of, told};
-use mail_answer::{AnswerFaultKind, Archives, MemoryArchives};
-use mail_index::IndexView;
+use crate::fixture::{COUSINS, Told, held, indexed, is_front, is_whole, text_of, told};
+use mail_answer::{AnswerFaultKind, Archives, Format, MemoryArchives};
 use mbox_cutter::DeviceFault;
 use std::alloc::Global;
 
@@ -52,42 +51,40 @@ impl Archives for EarlyEnd {
     }
 }
 
-/// The least end of the archives from a number on, up to that of a message, that isn't told just where an answer reads so far: by the
-/// first of these archives. It is None where memory is wanting.
-fn least_untold(
+/// What an answer to `b:hi` with threads tells and writes where archives end so. It is None where memory is wanting, and so is the next
+/// one.
+fn told_to(alloc: Global, format: Format, first: u32, end: u64) -> Option<Told> {
+    let file = indexed(alloc, &COUSINS)?;
+    let inner = held(alloc, &COUSINS)?;
+    let mut archives = EarlyEnd { inner, first, end };
+    told(alloc, &file, ("b:hi", true, format), &mut archives, None)
+}
+
+/// Whether an end of the archives from a number on is told just where an answer reads so far: by the first of these archives.
+fn is_told(
     alloc: Global,
     (format, text, _, bytes_read): Form,
     first: u32,
-) -> Option<Option<u64>> {
-    let file = indexed(alloc, &COUSINS)?;
-    let index = IndexView::open(&file).ok()?;
+    end: u64,
+) -> Option<bool> {
     let whole = text_of(alloc, text)?;
-    for end in 0..=79u64 {
-        let inner = held(alloc, &COUSINS)?;
-        let mut archives = EarlyEnd { inner, first, end };
-        let told = told(alloc, &index, ("b:hi", true, format), &mut archives, None)?;
-        let as_wanted = if end < bytes_read {
-            is_front(&told, AnswerFaultKind::Stale(first), &whole)
-        } else {
-            is_whole(&told, 2, &whole)
-        };
-        if !as_wanted {
-            return Some(Some(end));
-        }
-    }
-    Some(None)
+    let told = told_to(alloc, format, first, end)?;
+    Some(if end < bytes_read {
+        is_front(&told, AnswerFaultKind::Stale(first), &whole)
+    } else {
+        is_whole(&told, 2, &whole)
+    })
 }
 
+/// The archives end anywhere, up to the end of their message.
 #[test]
 fn an_archive_that_ends_early_is_stale(rt: HostRuntime) {
     for form in FORMS {
         for first in 0..2u32 {
-            let untold = least_untold(rt.alloc(), form, first);
-            assert!(rt;
-                untold == Some(None),
-                "{:?}, {first}: to {untold:?}",
-                form.0
-            );
+            for end in 0..=79u64 {
+                let as_wanted = is_told(rt.alloc(), *form, first, end);
+                assert!(rt; as_wanted == Some(true), "{:?}, {first}: to {end}", form.0);
+            }
         }
     }
 }

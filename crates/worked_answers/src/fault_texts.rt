@@ -5,14 +5,14 @@ use mail_index::Section;
 use mbox_cutter::CutFault;
 use std::fmt::{Display, InlineText};
 
-const OF_ARCHIVES: [(CutFault, &str); 4] = [
+const OF_ARCHIVES: &[(CutFault, &str)] = &[
     (CutFault::Device, "read failed"),
     (CutFault::NotAnMbox, "not an mbox"),
     (CutFault::ArchiveTooLong, "too long"),
     (CutFault::Failed, "failed before"),
 ];
 
-const OF_INDEX_FILES: [(IndexFault, &str); 9] = [
+const OF_INDEX_FILES: &[(IndexFault, &str)] = &[
     (IndexFault::TooShort, "too short"),
     (IndexFault::BadMagic, "bad magic"),
     (IndexFault::BadVersion, "unknown version"),
@@ -25,7 +25,7 @@ const OF_INDEX_FILES: [(IndexFault, &str); 9] = [
 ];
 
 /// Archives are counted from 0 in a fault, and from 1 in its text.
-const OF_ANSWERS: [(AnswerFaultKind, &str); 5] = [
+const OF_ANSWERS: &[(AnswerFaultKind, &str)] = &[
     (Stale(0), "archive 1 has changed"),
     (Stale(u32::MAX), "archive 4294967296 has changed"),
     (AnswerFaultKind::Device, "read failed"),
@@ -42,12 +42,12 @@ fn shows<T: Display + Drop>(fault: T, text: &str) -> bool {
 #[test]
 fn faults_show_their_texts(rt: HostRuntime) {
     for (fault, text) in OF_ARCHIVES {
-        assert!(rt; shows(fault, text), "{text}");
+        assert!(rt; shows(*fault, text), "{text}");
     }
     for (fault, text) in OF_INDEX_FILES {
-        assert!(rt; shows(fault, text), "{text}");
+        assert!(rt; shows(*fault, text), "{text}");
     }
     for (fault, text) in OF_ANSWERS {
-        assert!(rt; shows(fault, text), "{text}");
+        assert!(rt; shows(*fault, text), "{text}");
     }
 }

@@ -63,62 +63,84 @@ pub const RAW_COUSINS: &str = "0 79 a.mbox|0 79 b.mbox|";
 /// A text, where `^` stands for the separator line and `|` for LF. It is None where memory is wanting, and so are those below.
 pub fn text_of(alloc: Global, text: &str) -> Option<Vec<u8>> {
     let mut bytes = Vec::new(alloc);
-    for b in text.as_bytes() {
-        match *b {
-            b'^' => bytes.extend_from_slice(SEPARATOR).ok()?,
-            b'|' => bytes.push(b'\n').ok()?,
-            b => bytes.push(b).ok()?,
-        }
+    let mut is_whole = true;
+    for piece in text.as_bytes().chunks(1) {
+        let piece = match piece {
+            [b'^'] => SEPARATOR,
+            [b'|'] => b"\n",
+            piece => piece,
+        };
+        is_whole = bytes.extend_from_slice(piece).is_ok() && is_whole;
     }
-    Some(bytes)
+    is_whole.then_some(bytes)
+}
+
+/// Gives a job an archive by its path and text. It is None also where the archive is refused.
+fn index_archive(alloc: Global, job: &mut IndexJob, path: &str, text: &str) -> Option<u64> {
+    if !is_path(path) {
+        return None;
+    }
+    let bytes = text_of(alloc, text)?;
+    let mut source = MemorySource::new(alloc, &bytes, 7, None).ok()?;
+    job.archive(path, &mut source).ok()
 }
 
 /// The index file of archives, each given by its path and text. It is None also where one of them is refused.
 pub fn indexed(alloc: Global, archives: &[(&str, &str)]) -> Option<Vec<u8>> {
     let mut job = IndexJob::new(alloc).ok()?;
+    let mut are_indexed = true;
     for (path, text) in archives {
-        if !is_path(path) {
-            return None;
-        }
-        let bytes = text_of(alloc, text)?;
-        let mut source = MemorySource::new(alloc, &bytes, 7, None).ok()?;
-        job.archive(path, &mut source).ok()?;
+        are_indexed = index_archive(alloc, &mut job, path, text).is_some() && are_indexed;
     }
     let mut out = MemoryOut::new(alloc, None);
-    job.finish(&mut out).ok()?;
-    out.bytes().to_vec(alloc).ok()
+    match job.finish(&mut out) {
+        Ok(_) if are_indexed => out.bytes().to_vec(alloc).ok(),
+        _ => None,
+    }
+}
+
+/// Adds an archive of this text, if fewer than the most are held.
+fn hold(alloc: Global, held: &mut MemoryArchives, text: &str) -> Option<()> {
+    if held.count() >= MOST {
+        return None;
+    }
+    held.add(&text_of(alloc, text)?).ok()
 }
 
 /// The archives of these texts, which are at most so many.
 pub fn held(alloc: Global, archives: &[(&str, &str)]) -> Option<MemoryArchives> {
     let mut held = MemoryArchives::new(alloc);
+    let mut are_held = true;
     for (_, text) in archives {
-        if held.count() >= MOST {
-            return None;
-        }
-        held.add(&text_of(alloc, text)?).ok()?;
+        are_held = hold(alloc, &mut held, text).is_some() && are_held;
     }
-    Some(held)
+    are_held.then_some(held)
 }
 
-/// What patterns ask together; None also where they are refused.
-pub fn query_of(alloc: Global, patterns: &[&str]) -> Option<Query> {
+/// What a pattern asks; None also where it is refused.
+pub fn query_of(alloc: Global, pattern: &str) -> Option<Query> {
     let now = Moment::new(NOW)?;
-    let mut words = Vec::new(alloc);
-    for pattern in patterns {
-        words.push(String::from_str(alloc, pattern).ok()?).ok()?;
+    let word = String::from_str(alloc, pattern).ok()?;
+    read_mairix(alloc, &[word], now).ok()
+}
+
+/// The index of a file, and what a pattern asks of it; None also where one of them is refused.
+pub fn asked<'a>(alloc: Global, file: &'a [u8], pattern: &str) -> Option<(IndexView<'a>, Query)> {
+    let query = query_of(alloc, pattern)?;
+    match IndexView::open(file) {
+        Ok(index) => Some((index, query)),
+        Err(_) => None,
     }
-    read_mairix(alloc, words.as_slice(), now).ok()
 }
 
 /// What an answer tells, and what it has written.
-pub type Told = (Result<u64, AnswerFault>, Vec<u8>);
+pub type Told = (Result<u64, AnswerFault>, MemoryOut);
 
-/// What an answer from an index over archives tells and writes, into so much room. It is to a pattern, with threads or without, in a
-/// form.
+/// What an answer from an index file over archives tells and writes, into so much room. It is to a pattern, with threads or without,
+/// in a form.
 pub fn told<A: Archives>(
     alloc: Global,
-    index: &IndexView<'_>,
+    file: &[u8],
     search: (&str, bool, Format),
     archives: &mut A,
     room: Option<u64>,
@@ -126,19 +148,20 @@ pub fn told<A: Archives>(
     requires { A.failures archives.old < 2 ^ 64 - 1 }
 {
     let (pattern, threads, format) = search;
-    let query = query_of(alloc, &[pattern])?;
+    let (index, query) = asked(alloc, file, pattern)?;
     let mut out = MemoryOut::new(alloc, room);
-    let told = answer(alloc, index, &query, threads, format, archives, &mut out);
-    Some((told, out.bytes().to_vec(alloc).ok()?))
+    let told = answer(alloc, &index, &query, threads, format, archives, &mut out);
+    Some((told, out))
 }
 
 /// Whether an answer of so many messages is whole.
 pub fn is_whole((told, sent): &Told, messages: u64, whole: &[u8]) -> bool {
-    *told == Ok(messages) && sent.as_slice() == whole
+    *told == Ok(messages) && sent.bytes() == whole
 }
 
 /// Whether an answer failed so, with a front of the text sent and counted.
-pub fn is_front((told, sent): &Told, kind: AnswerFaultKind, whole: &[u8]) -> bool {
+pub fn is_front((told, out): &Told, kind: AnswerFaultKind, whole: &[u8]) -> bool {
+    let sent = out.bytes();
     let fault = AnswerFault {
         kind,
         sent: sent.len() as u64,

@@ -1,9 +1,12 @@
 //! What no clause says of threads: that they are answered where memory is ample.
+ghost use Rattle.std.specs.Prelude.{◌<◌, length};
+ghost use Rattle.std.specs.List.{AllByRecursion};
+ghost use Rattle.mail_index.specs.Tables.{RisesFrom};
 
 use crate::fixture::{COUSINS, indexed};
 use mail_answer::with_threads;
 use mail_index::IndexView;
-use std::alloc::{AllocError, Global};
+use std::alloc::Global;
 
 // The index of six messages by their link ids alone, with no words. The first has the id 1@x, the second 2@x and refers to 1@x, the
 // third 3@x and answers 2@x. The fourth has no id. The fifth has 5@x, the sixth 6@x, and both refer to 0@x, which no message has.
@@ -35,9 +38,15 @@ const ALONE: &[u8] = b"MAIRIX\r\n\
     \xec\x6c\x1c\xa2\x93\xbd\x6c\x3f\xf6\x53\x57\x49\xdb\x94\x88\x38\
     \x93\x48\x64\xf0\x13\x92\x7b\x2f\x78\x38\x95\x5f\xfe\xce\x06\x56";
 
-/// Whether memory sufficed for these threads.
-fn are(threads: Result<Vec<u32>, AllocError>, wanted: &[u32]) -> bool {
-    threads.is_ok_and(|threads| threads.as_slice() == wanted)
+/// Whether memory suffices for the threads of messages, and they are these.
+fn are(alloc: Global, index: &IndexView<'_>, numbers: &[u32], threads: &[u32]) -> bool
+    requires rises { RisesFrom 0 numbers.now }
+    requires within { AllByRecursion (λ n. n < length index.now.messages) numbers.now }
+{
+    match with_threads(alloc, index, numbers) {
+        Ok(found) => found.as_slice() == threads,
+        Err(_) => false,
+    }
 }
 
 /// Whether each choice of messages has its threads: among the six, of the one without ids, and of two that refer to a third, which no
@@ -51,15 +60,15 @@ fn have_threads(alloc: Global) -> Option<[bool; 7]> {
         return None;
     }
     Some([
-        are(with_threads(alloc, &six, &[]), &[]),
-        are(with_threads(alloc, &six, &[0]), &[0, 1, 2]),
+        are(alloc, &six, &[], &[]),
+        are(alloc, &six, &[0], &[0, 1, 2]),
         // Without ids.
-        are(with_threads(alloc, &six, &[3]), &[3]),
+        are(alloc, &six, &[3], &[3]),
         // By an id that no message has.
-        are(with_threads(alloc, &six, &[4]), &[4, 5]),
-        are(with_threads(alloc, &six, &[1, 2, 3]), &[0, 1, 2, 3]),
-        are(with_threads(alloc, &alone, &[0]), &[0]),
-        are(with_threads(alloc, &cousins, &[0]), &[0, 1]),
+        are(alloc, &six, &[4], &[4, 5]),
+        are(alloc, &six, &[1, 2, 3], &[0, 1, 2, 3]),
+        are(alloc, &alone, &[0], &[0]),
+        are(alloc, &cousins, &[0], &[0, 1]),
     ])
 }
 
@@ -73,8 +82,10 @@ fn messages_have_threads(rt: HostRuntime) {
 fn are_whole_or_wanting(alloc: Global) -> bool {
     match IndexView::open(LINKED) {
         Ok(index) if index.message_count() == 6 => {
-            let threads = with_threads(alloc, &index, &[2, 4]);
-            threads.is_err() || are(threads, &[0, 1, 2, 4, 5])
+            match with_threads(alloc, &index, &[2, 4]) {
+                Ok(threads) => threads.as_slice() == [0, 1, 2, 4, 5].as_slice(),
+                Err(_) => true,
+            }
         }
         _ => false,
     }

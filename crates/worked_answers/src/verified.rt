@@ -1,10 +1,13 @@
 //! Archives that are compared with the digests in their index.
+ghost use Rattle.std.specs.Prelude.{◌≡◌, Some, IfSome};
+ghost use Rattle.mail_index.specs.Builders.{empty_draft, IsBetweenArchives};
+ghost use Rattle.mail_index.specs.Tables.{IsPath};
 
 use crate::early_end::EarlyEnd;
 use crate::verified::Change::{Bit, Longer};
 use mail_answer::AnswerFaultKind::{Device, OutFailed, OutOfMemory, Stale};
 use mail_answer::{AnswerFault, AnswerFaultKind, Archives, FailAt, MemoryArchives, verify};
-use mail_index::{Builder, IndexView, is_path};
+use mail_index::{BuildFault, Builder, IndexView, is_path};
 use mbox_cutter::MemoryOut;
 use std::alloc::Global;
 
@@ -22,7 +25,7 @@ const NOTHING: [u8; 32] = *b"\xe3\xb0\xc4\x42\x98\xfc\x1c\x14\x9a\xfb\xf4\xc8\x9
 const CALLS: u64 = 12;
 
 /// What becomes of an archive after it was indexed.
-#[derive(Clone, Copy, Debug)]
+#[derive(Clone, Copy)]
 enum Change {
     /// The lowest bit of the byte at this offset.
     Bit(usize),
@@ -30,22 +33,45 @@ enum Change {
     Longer,
 }
 
-/// The index file of these archives, without messages. It is None where memory is wanting, and so are the answers below.
-fn index_file(alloc: Global) -> Option<Vec<u8>> {
+/// Gives a builder these archives, without messages.
+fn build(builder: &mut Builder, path: &str) -> Result<(), BuildFault>
+    requires empty { builder.old ≡ Some (empty_draft 3) }
+    requires path { IsPath path.now }
+    ensures phase { IfSome builder.new IsBetweenArchives }
+{
+    builder.begin_archive(path)?;
+    builder.end_archive(3, ABC)?;
+    builder.begin_archive(path)?;
+    builder.end_archive(1_000_000, MANY)?;
+    builder.begin_archive(path)?;
+    builder.end_archive(0, NOTHING)
+}
+
+/// Their index file. It is None where memory is wanting, and so are the answers below.
+fn index_file(alloc: Global) -> Option<MemoryOut> {
     let path = "m.mbox";
     if !is_path(path) {
         return None;
     }
     let mut builder = Builder::new(alloc, 3);
-    builder.begin_archive(path).ok()?;
-    builder.end_archive(3, ABC).ok()?;
-    builder.begin_archive(path).ok()?;
-    builder.end_archive(1_000_000, MANY).ok()?;
-    builder.begin_archive(path).ok()?;
-    builder.end_archive(0, NOTHING).ok()?;
-    let mut out = MemoryOut::new(alloc, None);
-    builder.write(&mut out).ok()?;
-    out.bytes().to_vec(alloc).ok()
+    match build(&mut builder, path) {
+        Ok(()) => {
+            let mut out = MemoryOut::new(alloc, None);
+            builder.write(&mut out).is_ok().then_some(out)
+        }
+        Err(_) => None,
+    }
+}
+
+/// Makes a change of an archive's bytes.
+fn make(change: Change, bytes: &mut Vec<u8>) -> Option<()> {
+    match change {
+        Longer => bytes.push(b'a').ok(),
+        Bit(at) => {
+            *bytes.get_mut(at)? ^= 1;
+            Some(())
+        }
+    }
 }
 
 /// The bytes of the archive of this number as they were indexed, and none behind the last, after those changes that are its own.
@@ -56,26 +82,36 @@ fn changed_bytes(alloc: Global, n: usize, changes: &[(usize, Change)]) -> Option
         _ => Ok(Vec::new(alloc)),
     };
     let mut bytes = indexed.ok()?;
+    let mut are_made = true;
     for (archive, change) in changes {
-        match *change {
-            _ if *archive != n => {}
-            Longer => bytes.push(b'a').ok()?,
-            Bit(at) => *bytes.get_mut(at)? ^= 1,
+        if *archive == n {
+            are_made = make(*change, &mut bytes).is_some() && are_made;
         }
     }
-    Some(bytes)
+    are_made.then_some(bytes)
+}
+
+/// Adds the archive of this number behind the others, of which there are few.
+fn hold(
+    alloc: Global,
+    held: &mut MemoryArchives,
+    n: usize,
+    changes: &[(usize, Change)],
+) -> Option<()> {
+    if held.count() >= 10 {
+        return None;
+    }
+    held.add(&changed_bytes(alloc, n, changes)?).ok()
 }
 
 /// So many archives, of which some have changed.
 fn held(alloc: Global, count: usize, changes: &[(usize, Change)]) -> Option<MemoryArchives> {
     let mut held = MemoryArchives::new(alloc);
+    let mut are_held = true;
     for n in 0..count {
-        if held.count() >= 10 {
-            return None;
-        }
-        held.add(&changed_bytes(alloc, n, changes)?).ok()?;
+        are_held = hold(alloc, &mut held, n, changes).is_some() && are_held;
     }
-    Some(held)
+    are_held.then_some(held)
 }
 
 /// An end that no archive gets to.
@@ -98,11 +134,9 @@ fn told(
     let file = index_file(alloc)?;
     let inner = held(alloc, count, changes)?;
     let first = 0;
-    let ended = EarlyEnd { inner, first, end };
-    match IndexView::open(&file) {
-        Ok(index) if index.version() == 2 => {
-            Some(verify(alloc, &index, &mut FailAt::new(ended, fail_at)))
-        }
+    let mut archives = FailAt::new(EarlyEnd { inner, first, end }, fail_at);
+    match IndexView::open(file.bytes()) {
+        Ok(index) if index.version() == 2 => { Some(verify(alloc, &index, &mut archives)) }
         _ => Some(failed(OutFailed)),
     }
 }
@@ -118,7 +152,7 @@ fn told_of(is_failing: bool, stale: Option<u32>) -> Result<(), AnswerFault> {
 
 /// How many archives there are by now, their changes, which is told, and how many calls of the archives are made. The count comes
 /// first, then the lengths, then the digests; of each the first archive is told, and none behind it is asked.
-const CHANGED: [(usize, &[(usize, Change)], Option<u32>, u64); 15] = [
+const CHANGED: &[(usize, &[(usize, Change)], Option<u32>, u64)] = &[
     (3, &[], None, CALLS),
     (3, &[(0, Bit(0))], Some(0), 4),
     (3, &[(0, Bit(2))], Some(0), 4),
@@ -141,12 +175,12 @@ const CHANGED: [(usize, &[(usize, Change)], Option<u32>, u64); 15] = [
 #[test]
 fn changed_archives_are_told(rt: HostRuntime) {
     for (count, changes, stale, calls) in CHANGED {
-        let first = if changes.is_empty() { 0 } else { calls };
-        for fail_at in first..=calls + 1 {
-            let is_failing = 1 <= fail_at && fail_at <= calls;
-            let told = told(rt.alloc(), count, changes, fail_at, NO_END);
+        let first = if changes.is_empty() { 0 } else { *calls };
+        for fail_at in first..=calls.saturating_add(1) {
+            let is_failing = 1 <= fail_at && fail_at <= *calls;
+            let told = told(rt.alloc(), *count, changes, fail_at, NO_END);
             assert!(rt;
-                told == Some(told_of(is_failing, stale)),
+                told == Some(told_of(is_failing, *stale)),
                 "{count} archives, {stale:?}, call {fail_at}: {told:?}"
             );
         }
@@ -154,7 +188,7 @@ fn changed_archives_are_told(rt: HostRuntime) {
 }
 
 /// Where archives end before the lengths that they tell, and which is told as one that has changed.
-const ENDS: [(u64, Option<u32>); 6] = [
+const ENDS: &[(u64, Option<u32>)] = &[
     (0, Some(0)),
     (2, Some(0)),
     (3, Some(1)),
@@ -166,13 +200,13 @@ const ENDS: [(u64, Option<u32>); 6] = [
 #[test]
 fn an_early_end_is_told(rt: HostRuntime) {
     for (end, stale) in ENDS {
-        let told = told(rt.alloc(), 3, &[], 0, end);
-        assert!(rt; told == Some(told_of(false, stale)), "to {end}: {told:?}");
+        let told = told(rt.alloc(), 3, &[], 0, *end);
+        assert!(rt; told == Some(told_of(false, *stale)), "to {end}: {told:?}");
     }
 }
 
 /// Changes, and which archive is told.
-const SWEPT: [(&[(usize, Change)], Option<u32>); 3] = [
+const SWEPT: &[(&[(usize, Change)], Option<u32>)] = &[
     (&[], None),
     (&[(0, Bit(0))], Some(0)),
     (&[(1, Longer)], Some(1)),
@@ -183,8 +217,8 @@ const SWEPT: [(&[(usize, Change)], Option<u32>); 3] = [
 fn sweep_verify(rt: HostRuntime) {
     for (changes, stale) in SWEPT {
         let told = told(rt.alloc(), 3, changes, 0, NO_END);
-        let is_wanting = told == Some(failed(OutOfMemory)) && stale != Some(1);
-        let as_wanted = told.is_none() || told == Some(told_of(false, stale)) || is_wanting;
+        let is_wanting = told == Some(failed(OutOfMemory)) && *stale != Some(1);
+        let as_wanted = told.is_none() || told == Some(told_of(false, *stale)) || is_wanting;
         assert!(rt; as_wanted, "{stale:?}: {told:?}");
     }
 }
