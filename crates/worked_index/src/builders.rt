@@ -1,5 +1,5 @@
 //! What builders write, and a builder's limit with ample memory.
-ghost use Rattle.std.specs.Prelude.{◌≡◌, ◌<◌, ◌≤◌, Some, None, length, IfSome, OnErr};
+ghost use Rattle.std.specs.Prelude.{◌≡◌, ◌<◌, ◌≤◌, Some, None, length, IfOk, IfSome, OnErr};
 ghost use Rattle.mail_index.specs.Builders.{empty_draft, IsBetweenArchives};
 ghost use Rattle.mail_index.specs.Tables.{IsPath};
 
@@ -45,11 +45,14 @@ pub fn written(alloc: Global, kind: Kind, key: &[u8]) -> Option<MemoryOut>
     requires some { 0 < length key.now }
     requires short { length key.now ≤ 262144 }
 {
-    let mut builder = Builder::new(alloc, 2);
-    if !is_path(PATH) || build(&mut builder, PATH, kind, key).is_err() {
+    if !is_path(PATH) {
         return None;
     }
-    file_of(alloc, &builder)
+    let mut builder = Builder::new(alloc, 2);
+    match build(&mut builder, PATH, kind, key) {
+        Ok(()) => file_of(alloc, &builder),
+        Err(_) => None,
+    }
 }
 
 /// The file of the table with nothing in it.
@@ -85,29 +88,28 @@ enum Part {
     Key,
 }
 
-/// What a builder answers that has an archive, a message and a key and is given one more of these. It is None where a call before
-/// that is refused.
+/// What a builder answers that has an archive, a message and a key and is given one more of these, where all before was taken.
 fn answer_to_second(
     builder: &mut Builder,
     path: &str,
     second: Part,
-) -> Option<Result<(), BuildFault>>
+) -> Result<Result<(), BuildFault>, BuildFault>
     requires empty { builder.old ≡ Some (empty_draft 1) }
     requires path { IsPath path.now }
-    ensures lost { IfSome result (λ answer. OnErr answer (builder.new ≡ None)) }
+    ensures lost { IfOk result (λ answer. OnErr answer (builder.new ≡ None)) }
 {
-    builder.begin_archive(path).ok()?;
-    builder.begin_message().ok()?;
-    builder.add(Kind::OwnId, b"1@x").ok()?;
+    builder.begin_archive(path)?;
+    builder.begin_message()?;
+    builder.add(Kind::OwnId, b"1@x")?;
     if let Part::Key = second {
-        return Some(builder.add(Kind::LinkId, b"1@x"));
+        return Ok(builder.add(Kind::LinkId, b"1@x"));
     }
-    builder.end_message(ONLY).ok()?;
+    builder.end_message(ONLY)?;
     if let Part::Message = second {
-        return Some(builder.begin_message());
+        return Ok(builder.begin_message());
     }
-    builder.end_archive(58, ARCHIVE_DIGEST).ok()?;
-    Some(builder.begin_archive(path))
+    builder.end_archive(58, ARCHIVE_DIGEST)?;
+    Ok(builder.begin_archive(path))
 }
 
 /// Whether a builder of one archive, one message and one key at most answers one more so.
@@ -117,8 +119,8 @@ fn has_too_many(alloc: Global, second: Part) -> bool {
     }
     let mut builder = Builder::new(alloc, 1);
     match answer_to_second(&mut builder, PATH, second) {
-        Some(answer) => is_lost(&mut builder, answer, BuildFault::TooMany),
-        None => false,
+        Ok(answer) => is_lost(&mut builder, answer, BuildFault::TooMany),
+        Err(_) => false,
     }
 }
 
@@ -129,33 +131,40 @@ fn one_more_is_too_many(rt: HostRuntime) {
     }
 }
 
-/// Whether a builder tells that the open message has a key: before it has it, then, of another key, and in the next message.
-fn told_of_key(builder: &mut Builder, path: &str) -> Option<[bool; 4]>
+/// Whether a builder tells that the open message has a key once it has it, and neither of another key nor in the next message.
+fn tells_key(builder: &mut Builder, path: &str) -> Result<bool, BuildFault>
     requires empty { builder.old ≡ Some (empty_draft 2) }
     requires path { IsPath path.now }
 {
     let place = Prefetched::of(Kind::OwnId, b"1@x");
-    builder.begin_archive(path).ok()?;
-    builder.begin_message().ok()?;
+    builder.begin_archive(path)?;
+    builder.begin_message()?;
     let before = builder.has_recent(Kind::OwnId, b"1@x", place);
-    builder.add(Kind::OwnId, b"1@x").ok()?;
+    builder.add(Kind::OwnId, b"1@x")?;
     let behind = builder.has_recent(Kind::OwnId, b"1@x", place);
     let of_others = builder.has_recent(Kind::LinkId, b"1@x", place);
-    builder.end_message(ONLY).ok()?;
-    builder.begin_message().ok()?;
+    builder.end_message(ONLY)?;
+    builder.begin_message()?;
     let in_next = builder.has_recent(Kind::OwnId, b"1@x", place);
-    Some([before, behind, of_others, in_next])
+    Ok([before, behind, of_others, in_next] == [false, true, false, false])
 }
 
-/// Whether a builder tells that the open message has a key once it has it, and neither of another key nor in the next message.
+/// Whether a new builder does.
 fn tells_what_it_has(alloc: Global) -> bool {
-    let told = [false, true, false, false];
-    is_path(PATH) && told_of_key(&mut Builder::new(alloc, 2), PATH) == Some(told)
+    is_path(PATH) && tells_key(&mut Builder::new(alloc, 2), PATH) == Ok(true)
 }
 
 #[test]
 fn keys_that_came_are_told(rt: HostRuntime) {
     assert!(rt; tells_what_it_has(rt.alloc()));
+}
+
+/// Whether a file has an id in its first message alone.
+fn has_id(file: &[u8], id: &[u8]) -> bool {
+    match IndexView::open(file) {
+        Ok(view) => have_numbers(view.look_up(Kind::OwnId, id, &mut Steps::new()), &[0]),
+        Err(_) => false,
+    }
 }
 
 /// Whether a key of so many bytes is written and found.
@@ -165,8 +174,7 @@ fn is_found(alloc: Global, length: usize) -> Option<bool>
 {
     let id = vec![in alloc; b'x'; length].ok()?;
     let file = written(alloc, Kind::OwnId, &id)?;
-    let view = IndexView::open(file.bytes()).ok()?;
-    Some(have_numbers(view.look_up(Kind::OwnId, &id, &mut Steps::new()), &[0]))
+    Some(has_id(file.bytes(), &id))
 }
 
 /// An entry has 15 bytes of a key in itself, and the longest key is as long as a header.

@@ -5,7 +5,7 @@ use mail_words::TextKind;
 use std::alloc::Global;
 
 /// The kinds by their numbers, from 1.
-const KINDS: [Kind; 9] = [
+const KINDS: &[Kind] = &[
     Kind::Text(TextKind::To),
     Kind::Text(TextKind::Cc),
     Kind::Text(TextKind::Bcc),
@@ -104,7 +104,7 @@ fn has_table(view: &IndexView<'_>, decoded: &Decoded) -> bool {
     let mut number = 0u64;
     for kind in KINDS {
         number = number.wrapping_add(1);
-        same = has_keys(view, number, kind, &decoded.keys) && same;
+        same = has_keys(view, number, *kind, &decoded.keys) && same;
     }
     same
 }

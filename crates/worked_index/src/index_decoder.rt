@@ -217,40 +217,45 @@ fn read_messages(
     Some(())
 }
 
-/// The key of an entry, whose text is the next one, and whose kind is at most the last. It has no numbers yet.
-fn key_of(
+/// Whether a key may stand just behind another one, or be the first.
+fn may_follow(before: Option<&DecodedKey>, kind: u64, text: &[u8], place: u64) -> bool {
+    match before {
+        None => place == 0,
+        Some(before) => before.place < place
+            && (before.kind, before.text.as_slice()) < (kind, text),
+    }
+}
+
+/// Reads an entry, whose text is the next one. Its key has no numbers yet.
+fn read_entry(
     alloc: Global,
     entry: &[u8],
-    text_place: u64,
+    sections: &Sections<'_>,
     texts: &mut Reader<'_>,
-    last_kind: u64,
-) -> Option<DecodedKey> {
+    keys: &mut Vec<DecodedKey>,
+) -> Option<()> {
+    let text_place = sections.texts.len().saturating_sub(texts.rest.len()) as u64;
     let mut fields = Reader::new(entry);
     let kind = fields.number(1);
     let zeros = fields.number(3);
     let text = texts.take(fields.number(4));
     let is_next = fields.number(8) == text_place;
     let place = fields.number(8);
-    if !is_next || text.is_empty() || zeros != 0 || kind < 1 || last_kind < kind {
+    let last_kind = if sections.version == 1 { 8 } else { 9 };
+    let is_key = !text.is_empty() && zeros == 0 && 1 <= kind && kind <= last_kind;
+    let is_within = place < sections.postings.len() as u64;
+    if !is_next || !is_key || !is_within || !may_follow(keys.last(), kind, text, place) {
         return None;
     }
-    Some(DecodedKey {
+    let text = text.to_vec(alloc).ok()?;
+    let numbers = Vec::new(alloc);
+    keys.push(DecodedKey {
         kind,
-        text: text.to_vec(alloc).ok()?,
+        text,
         place,
-        numbers: Vec::new(alloc),
+        numbers,
     })
-}
-
-/// Whether a key may stand just behind another one, or be the first.
-fn may_follow(before: Option<&DecodedKey>, key: &DecodedKey) -> bool {
-    match before {
-        None => key.place == 0,
-        Some(before) => {
-            before.place < key.place
-                && (before.kind, before.text.as_slice()) < (key.kind, key.text.as_slice())
-        }
-    }
+    .ok()
 }
 
 fn read_directory(
@@ -258,15 +263,9 @@ fn read_directory(
     sections: &Sections<'_>,
     keys: &mut Vec<DecodedKey>,
 ) -> Option<()> {
-    let last_kind = if sections.version == 1 { 8 } else { 9 };
     let mut texts = Reader::new(sections.texts);
     for entry in sections.directory.chunks_exact(24) {
-        let text_place = sections.texts.len().saturating_sub(texts.rest.len()) as u64;
-        let key = key_of(alloc, entry, text_place, &mut texts, last_kind)?;
-        if !may_follow(keys.last(), &key) || key.place >= sections.postings.len() as u64 {
-            return None;
-        }
-        keys.push(key).ok()?;
+        read_entry(alloc, entry, sections, &mut texts, keys)?;
     }
     (texts.is_at_end() && keys.is_empty() == sections.postings.is_empty()).then_some(())
 }
