@@ -1,8 +1,8 @@
 //! Answers that were worked out by hand, over archives in memory and their index.
 
 use crate::fixture::{
-    ARCHIVE, BOTH_COUSINS, COUSINS, INDEX, RAW_COUSINS, TWO_MESSAGES, Told, held, indexed,
-    is_front, is_whole, text_of, told,
+    ARCHIVE, BOTH_COUSINS, COUSINS, INDEX, RAW_COUSINS, TWO_MESSAGES, is_front, is_whole, text_of,
+    told, told_of,
 };
 use mail_answer::AnswerFaultKind::{OutFailed, OutOfMemory};
 use mail_answer::Format::{self, Excerpt, Mbox, Raw};
@@ -74,18 +74,7 @@ const OF_ARCHIVES: &[(&[(&str, &str)], (&str, bool, Format), u64, &str)] = &[
     (&COUSINS, ("b:absent", true, Mbox), 0, ""),
 ];
 
-/// What an answer over archives, from their index, tells and writes. It is None where memory is wanting, and so are those below.
-fn answered(
-    alloc: Global,
-    archives: &[(&str, &str)],
-    search: (&str, bool, Format),
-) -> Option<Told> {
-    let file = indexed(alloc, archives)?;
-    let mut archives = held(alloc, archives)?;
-    told(alloc, &file, search, &mut archives, None)
-}
-
-/// Whether an answer over archives has so many messages and is this text.
+/// Whether an answer over archives has so many messages and is this text. It is None where memory is wanting, and so is the next one.
 fn is_answered(
     alloc: Global,
     archives: &[(&str, &str)],
@@ -94,7 +83,7 @@ fn is_answered(
     text: &str,
 ) -> Option<bool> {
     let whole = text_of(alloc, text)?;
-    let told = answered(alloc, archives, search)?;
+    let told = told_of(alloc, (archives, archives), search, 0, None)?;
     Some(is_whole(&told, messages, &whole))
 }
 

@@ -1,11 +1,11 @@
 //! Answers over devices that fail, run full or have changed.
 
 use crate::fixture::{
-    BOTH_COUSINS, COUSIN as A, COUSINS, OTHER_COUSIN as B, RAW_COUSINS, Told, held, indexed,
-    is_front, is_whole, text_of, told,
+    BOTH_COUSINS, COUSIN as A, COUSINS, OTHER_COUSIN as B, RAW_COUSINS, is_front, is_whole,
+    text_of, told_of,
 };
 use mail_answer::AnswerFaultKind::{Device, OutFailed, Stale};
-use mail_answer::{FailAt, Format};
+use mail_answer::Format;
 use std::alloc::Global;
 
 /// The answer to `b:hi` with threads, of two messages, in a form: its text, how many calls of the archives it makes at least, and how
@@ -24,26 +24,13 @@ pub const FORMS: &[Form] = &[
 /// Calls of the archives that no answer to that query gets to.
 const BEYOND: u64 = 20;
 
-/// What an answer to `b:hi` with threads tells and writes, by the index of some archives, over archives of which this call fails, into
-/// so much room. It is None where memory is wanting, and so are those below.
-fn told_of(
-    alloc: Global,
-    format: Format,
-    (of_index, archives): (&[(&str, &str)], &[(&str, &str)]),
-    fail_at: u64,
-    room: Option<u64>,
-) -> Option<Told> {
-    let file = indexed(alloc, of_index)?;
-    let mut archives = FailAt::new(held(alloc, archives)?, fail_at);
-    told(alloc, &file, ("b:hi", true, format), &mut archives, room)
-}
-
 /// Whether a failure at one call is answered, and nothing else, where the answer makes that call. A raw answer makes no other calls
-/// than those of the lengths.
+/// than those of the lengths. It is None where memory is wanting, and so are those below.
 fn tells_failed_call(alloc: Global, form: Form, fail_at: u64) -> Option<bool> {
     let (format, text, least, _) = form;
     let whole = text_of(alloc, text)?;
-    let told = told_of(alloc, format, (&COUSINS, &COUSINS), fail_at, None)?;
+    let search = ("b:hi", true, format);
+    let told = told_of(alloc, (&COUSINS, &COUSINS), search, fail_at, None)?;
     let failed = is_front(&told, Device, &whole);
     let answered = is_whole(&told, 2, &whole);
     Some(if fail_at <= 2 {
@@ -70,7 +57,8 @@ fn a_failed_call_leaves_a_front(rt: HostRuntime) {
 /// Whether an output takes just so much of an answer as it has room.
 fn fills(alloc: Global, (format, text, _, _): Form, room: u64) -> Option<bool> {
     let whole = text_of(alloc, text)?;
-    let told = told_of(alloc, format, (&COUSINS, &COUSINS), 0, Some(room))?;
+    let search = ("b:hi", true, format);
+    let told = told_of(alloc, (&COUSINS, &COUSINS), search, 0, Some(room))?;
     Some(if room >= whole.len() as u64 {
         is_whole(&told, 2, &whole)
     } else {
@@ -117,7 +105,8 @@ fn is_stale(
     number: u32,
     fail_at: u64,
 ) -> Option<bool> {
-    let told = told_of(alloc, format, (&[A, B, OTHER], archives), fail_at, None)?;
+    let search = ("b:hi", true, format);
+    let told = told_of(alloc, (&[A, B, OTHER], archives), search, fail_at, None)?;
     let is_asked = archives.len() == 3 && 1 <= fail_at && fail_at <= u64::from(number) + 1;
     let kind = if is_asked { Device } else { Stale(number) };
     Some(is_front(&told, kind, &[]))

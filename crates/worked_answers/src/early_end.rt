@@ -53,7 +53,7 @@ impl Archives for EarlyEnd {
 
 /// What an answer to `b:hi` with threads tells and writes where archives end so. It is None where memory is wanting, and so is the next
 /// one.
-fn told_to(alloc: Global, format: Format, first: u32, end: u64) -> Option<Told> {
+fn told_at_end(alloc: Global, format: Format, first: u32, end: u64) -> Option<Told> {
     let file = indexed(alloc, &COUSINS)?;
     let inner = held(alloc, &COUSINS)?;
     let mut archives = EarlyEnd { inner, first, end };
@@ -68,7 +68,7 @@ fn is_told(
     end: u64,
 ) -> Option<bool> {
     let whole = text_of(alloc, text)?;
-    let told = told_to(alloc, format, first, end)?;
+    let told = told_at_end(alloc, format, first, end)?;
     Some(if end < bytes_read {
         is_front(&told, AnswerFaultKind::Stale(first), &whole)
     } else {

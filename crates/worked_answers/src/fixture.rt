@@ -2,11 +2,11 @@
 ghost use Rattle.std.specs.Prelude.{◌<◌, ◌-◌, ◌^◌};
 
 use index_job::IndexJob;
-use mail_answer::{AnswerFault, AnswerFaultKind, Archives, Format, MemoryArchives, answer};
+use mail_answer::{AnswerFault, AnswerFaultKind, Archives, FailAt, Format, MemoryArchives, answer};
 use mail_dates::Moment;
 use mail_index::{IndexView, is_path};
 use mail_query::{Query, read_mairix};
-use mbox_cutter::{MemoryOut, MemorySource};
+use mbox_cutter::{MemoryOut, MemorySource, Out};
 use std::alloc::Global;
 
 /// Noon of 18 May 2003, UTC.
@@ -126,9 +126,8 @@ pub fn query_of(alloc: Global, pattern: &str) -> Option<Query> {
 
 /// The index of a file, and what a pattern asks of it; None also where one of them is refused.
 pub fn asked<'a>(alloc: Global, file: &'a [u8], pattern: &str) -> Option<(IndexView<'a>, Query)> {
-    let query = query_of(alloc, pattern)?;
     match IndexView::open(file) {
-        Ok(index) => Some((index, query)),
+        Ok(index) => Some((index, query_of(alloc, pattern)?)),
         Err(_) => None,
     }
 }
@@ -136,8 +135,24 @@ pub fn asked<'a>(alloc: Global, file: &'a [u8], pattern: &str) -> Option<(IndexV
 /// What an answer tells, and what it has written.
 pub type Told = (Result<u64, AnswerFault>, MemoryOut);
 
-/// What an answer from an index file over archives tells and writes, into so much room. It is to a pattern, with threads or without,
-/// in a form.
+/// What an answer from an index file over archives tells, which goes to an output. It is to a pattern, with threads or without, in a
+/// form.
+pub fn told_to<A: Archives, O: Out>(
+    alloc: Global,
+    file: &[u8],
+    search: (&str, bool, Format),
+    archives: &mut A,
+    out: &mut O,
+) -> Option<Result<u64, AnswerFault>>
+    requires archives { A.failures archives.old < 2 ^ 64 - 1 }
+    requires out { O.failures out.old < 2 ^ 64 - 1 }
+{
+    let (pattern, threads, format) = search;
+    let (index, query) = asked(alloc, file, pattern)?;
+    Some(answer(alloc, &index, &query, threads, format, archives, out))
+}
+
+/// What such an answer tells and writes, into so much room.
 pub fn told<A: Archives>(
     alloc: Global,
     file: &[u8],
@@ -147,11 +162,23 @@ pub fn told<A: Archives>(
 ) -> Option<Told>
     requires { A.failures archives.old < 2 ^ 64 - 1 }
 {
-    let (pattern, threads, format) = search;
-    let (index, query) = asked(alloc, file, pattern)?;
     let mut out = MemoryOut::new(alloc, room);
-    let told = answer(alloc, &index, &query, threads, format, archives, &mut out);
+    let told = told_to(alloc, file, search, archives, &mut out)?;
     Some((told, out))
+}
+
+/// What an answer by the index of some archives tells and writes, into so much room, over archives of which this call fails, and none
+/// where it is 0.
+pub fn told_of(
+    alloc: Global,
+    (of_index, archives): (&[(&str, &str)], &[(&str, &str)]),
+    search: (&str, bool, Format),
+    fail_at: u64,
+    room: Option<u64>,
+) -> Option<Told> {
+    let file = indexed(alloc, of_index)?;
+    let mut archives = FailAt::new(held(alloc, archives)?, fail_at);
+    told(alloc, &file, search, &mut archives, room)
 }
 
 /// Whether an answer of so many messages is whole.

@@ -1,8 +1,8 @@
 //! In how many calls an answer goes out.
 ghost use Rattle.std.specs.Prelude.{None};
 
-use crate::fixture::{asked, held, indexed};
-use mail_answer::{Format, answer};
+use crate::fixture::{held, indexed, told_to};
+use mail_answer::Format;
 use mbox_cutter::{DeviceFault, Out};
 use std::alloc::Global;
 
@@ -38,11 +38,11 @@ const GATHERED: usize = 65_536;
 /// memory is wanting, or where the messages aren't all answered.
 fn calls_over(alloc: Global, archives: &[(&str, &str)], format: Format) -> Option<(u64, usize)> {
     let file = indexed(alloc, archives)?;
-    let (index, query) = asked(alloc, &file, "s:hello")?;
     let mut held = held(alloc, archives)?;
     let mut calls = Calls { count: 0, most: 0 };
-    let told = answer(alloc, &index, &query, false, format, &mut held, &mut calls);
-    (told == Ok(archives.len() as u64)).then_some((calls.count, calls.most))
+    let search = ("s:hello", false, format);
+    let told = told_to(alloc, &file, search, &mut held, &mut calls);
+    (told == Some(Ok(archives.len() as u64))).then_some((calls.count, calls.most))
 }
 
 /// The same over those archives.

@@ -1,5 +1,5 @@
 //! What no clause says of threads: that they are answered where memory is ample.
-ghost use Rattle.std.specs.Prelude.{◌<◌, length};
+ghost use Rattle.std.specs.Prelude.{◌<◌};
 ghost use Rattle.std.specs.List.{AllByRecursion};
 ghost use Rattle.mail_index.specs.Tables.{RisesFrom};
 
@@ -38,37 +38,36 @@ const ALONE: &[u8] = b"MAIRIX\r\n\
     \xec\x6c\x1c\xa2\x93\xbd\x6c\x3f\xf6\x53\x57\x49\xdb\x94\x88\x38\
     \x93\x48\x64\xf0\x13\x92\x7b\x2f\x78\x38\x95\x5f\xfe\xce\x06\x56";
 
-/// Whether memory suffices for the threads of messages, and they are these.
-fn are(alloc: Global, index: &IndexView<'_>, numbers: &[u32], threads: &[u32]) -> bool
+/// Whether an index of so many messages gives these threads of some of them.
+fn are(alloc: Global, file: &[u8], count: u32, numbers: &[u32], threads: &[u32]) -> bool
     requires rises { RisesFrom 0 numbers.now }
-    requires within { AllByRecursion (λ n. n < length index.now.messages) numbers.now }
+    requires within { AllByRecursion (λ n. n < count) numbers.now }
 {
-    match with_threads(alloc, index, numbers) {
-        Ok(found) => found.as_slice() == threads,
-        Err(_) => false,
+    match IndexView::open(file) {
+        Ok(index) if index.message_count() == count => {
+            match with_threads(alloc, &index, numbers) {
+                Ok(found) => found.as_slice() == threads,
+                Err(_) => false,
+            }
+        }
+        _ => false,
     }
 }
 
 /// Whether each choice of messages has its threads: among the six, of the one without ids, and of two that refer to a third, which no
 /// archive has.
 fn have_threads(alloc: Global) -> Option<[bool; 7]> {
-    let six = IndexView::open(LINKED).ok()?;
-    let alone = IndexView::open(ALONE).ok()?;
-    let file = indexed(alloc, &COUSINS)?;
-    let cousins = IndexView::open(&file).ok()?;
-    if six.message_count() != 6 || alone.message_count() != 1 || cousins.message_count() != 2 {
-        return None;
-    }
+    let cousins = indexed(alloc, &COUSINS)?;
     Some([
-        are(alloc, &six, &[], &[]),
-        are(alloc, &six, &[0], &[0, 1, 2]),
+        are(alloc, LINKED, 6, &[], &[]),
+        are(alloc, LINKED, 6, &[0], &[0, 1, 2]),
         // Without ids.
-        are(alloc, &six, &[3], &[3]),
+        are(alloc, LINKED, 6, &[3], &[3]),
         // By an id that no message has.
-        are(alloc, &six, &[4], &[4, 5]),
-        are(alloc, &six, &[1, 2, 3], &[0, 1, 2, 3]),
-        are(alloc, &alone, &[0], &[0]),
-        are(alloc, &cousins, &[0], &[0, 1]),
+        are(alloc, LINKED, 6, &[4], &[4, 5]),
+        are(alloc, LINKED, 6, &[1, 2, 3], &[0, 1, 2, 3]),
+        are(alloc, ALONE, 1, &[0], &[0]),
+        are(alloc, &cousins, 2, &[0], &[0, 1]),
     ])
 }
 
