@@ -3,13 +3,14 @@ ghost use Rattle.std.specs.Prelude.{◌≡◌, ◌-◌, ◌^◌, ◌<◌, None, 
 ghost use Rattle.std.specs.List.{sum_by};
 ghost use Rattle.mbox_cutter.specs.Archives.{messages, size};
 
+use crate::rows::bytes_of;
 use mbox_cutter::{
     Buffer, CutFault, Cutter, DeviceFault, Event, FromRead, MemoryOut, MemorySource, Out, Source,
     ToWrite, send,
 };
 use std::alloc::{AllocError, Global};
-use std::fmt::Write;
-use std::test::Fail;
+use std::fmt::{InlineText, Write};
+use std::str::SplitN;
 
 const ONE: &[u8] = b"From a@x.org Thu Jan  2 10:00:00 2003\nSubject: Hello\n\nhi\n\n";
 
@@ -43,132 +44,135 @@ fn tally_of<S: Source>(buffer: Buffer, source: &mut S, most: u64) -> Result<Tall
     }
 }
 
-/// The events of an archive in words, with the lengths of the lines. The lines are lent one after another.
-fn transcript<S: Source>(
-    alloc: Global,
-    source: &mut S,
-    most: u64,
-    lent: &mut Vec<u8>,
-) -> Result<String, AllocError>
-    requires { S.failures source.old < 2 ^ 64 - 1 }
-{
-    let mut told = String::new(alloc);
-    let mut cutter = Cutter::new(alloc, source, most)?;
-    'events: loop {
-        match cutter.next_event() {
-            Ok(Event::Start { offset, line }) => {
-                lent.extend_from_slice(line)?;
-                write!(told, "start {offset} {}, ", line.len())?;
+/// What is told of an archive: its events in words, with the lengths of the lines, and the lines, which are lent one after another.
+#[derive(Drop)]
+struct Told {
+    text: String,
+    lent: Vec<u8>,
+}
+
+impl Told {
+    fn event(&mut self, event: Event<'_>) -> Result<(), AllocError> {
+        match event {
+            Event::Start { offset, line } => {
+                self.lent.extend_from_slice(line)?;
+                write!(self.text, "start {offset} {}, ", line.len())
             }
-            Ok(Event::Line(line)) => {
-                lent.extend_from_slice(line)?;
-                write!(told, "line {}, ", line.len())?;
+            Event::Line(line) => {
+                self.lent.extend_from_slice(line)?;
+                write!(self.text, "line {}, ", line.len())
             }
-            Ok(Event::End { length, size }) => write!(told, "end {length} {size}, ")?,
-            Ok(Event::Done { length }) => return format!(in alloc; "{told}done {length}"),
-            Err(fault) => return format!(in alloc; "{told}{fault}"),
+            Event::End { length, size } => write!(self.text, "end {length} {size}, "),
+            Event::Done { length } => write!(self.text, "done {length}"),
         }
     }
 }
 
-/// Whether this is the transcript of a source. It is None where memory is wanting, and so are the answers below.
+/// Tells the events of an archive, or the fault that ends them.
+fn transcript<S: Source>(
+    alloc: Global,
+    source: &mut S,
+    most: u64,
+    told: &mut Told,
+) -> Result<(), AllocError>
+    requires { S.failures source.old < 2 ^ 64 - 1 }
+{
+    let mut cutter = Cutter::new(alloc, source, most)?;
+    'events: loop {
+        match cutter.next_event() {
+            Ok(Event::Done { length }) => return told.event(Event::Done { length }),
+            Ok(event) => told.event(event)?,
+            Err(fault) => return write!(told.text, "{fault}"),
+        }
+    }
+}
+
+/// What is told of a source. It is None where memory is wanting, and so are the answers below.
+fn told_of<S: Source>(alloc: Global, source: &mut S, most: u64) -> Option<Told>
+    requires { S.failures source.old < 2 ^ 64 - 1 }
+{
+    let mut told = Told {
+        text: String::new(alloc),
+        lent: Vec::new(alloc),
+    };
+    transcript(alloc, source, most, &mut told).ok()?;
+    Some(told)
+}
+
+/// Whether this is told of a source.
 fn is_told<S: Source>(alloc: Global, source: &mut S, most: u64, wanted: &str) -> Option<bool>
     requires { S.failures source.old < 2 ^ 64 - 1 }
 {
-    let told = transcript(alloc, source, most, &mut Vec::new(alloc)).ok()?;
-    Some(told.as_str() == wanted)
+    Some(told_of(alloc, source, most)?.text.as_str() == wanted)
 }
 
-/// An archive, the most bytes that come at a read, the read that fails, the most bytes that are taken, and what is told.
-type Archive<'a> = (&'a [u8], usize, Option<u64>, u64, &'a str);
+/// In each line the most bytes that come at a read, the read that fails or 0, the most bytes that are taken, an archive, and what is
+/// told of it. A read past the last one isn't met.
+const ARCHIVES: &str = "\
+1 0 58 ^Subject: Hello||hi|| => start 0 38, line 15, line 1, line 3, end 58 19, done 58
+7 0 58 ^Subject: Hello||hi|| => start 0 38, line 15, line 1, line 3, end 58 19, done 58
+58 0 58 ^Subject: Hello||hi|| => start 0 38, line 15, line 1, line 3, end 58 19, done 58
+1000 0 58 ^Subject: Hello||hi|| => start 0 38, line 15, line 1, line 3, end 58 19, done 58
+1 60 1000 ^Subject: Hello||hi|| => start 0 38, line 15, line 1, line 3, end 58 19, done 58
+7 11 1000 ^Subject: Hello||hi|| => start 0 38, line 15, line 1, line 3, end 58 19, done 58
+5 0 10 ^Subject: Hello||hi|| => too long
+5 0 57 ^Subject: Hello||hi|| => start 0 38, line 15, line 1, line 3, too long
+5 0 10 hello| => not an mbox
+5 0 6 hello| => not an mbox
+5 0 3 hello| => too long
+5 0 2 || => done 2
+4096 0 1099511627776 ^{65535*a}| => start 0 38, line 65536, end 65574 65536, done 65574
+4096 0 1099511627776 ^{65536*a}| => start 0 38, line 65537, end 65575 65537, done 65575
+4096 0 1099511627776 ^{65537*a}| => start 0 38, line 65536, line 2, end 65576 65538, done 65576
+4096 0 1099511627776 ^{65535*a}\r| => start 0 38, line 65537, end 65575 65537, done 65575
+4096 0 1099511627776 ^{65536*a}\r| => start 0 38, line 65536, end 65576 65536, done 65576
+4096 0 1099511627776 ^{65537*a}\r| => start 0 38, line 65536, line 3, end 65577 65539, done 65577
+4096 0 1099511627776 ^{65535*a} => start 0 38, line 65535, end 65573 65535, done 65573
+4096 0 1099511627776 ^{65536*a} => start 0 38, line 65536, end 65574 65536, done 65574
+4096 0 1099511627776 ^{65537*a} => start 0 38, line 65536, line 1, end 65575 65537, done 65575
+";
 
-const ARCHIVES: [Archive<'static>; 12] = [
-    (ONE, 1, None, 58, TOLD),
-    (ONE, 7, None, 58, TOLD),
-    (ONE, 58, None, 58, TOLD),
-    (ONE, 1000, None, 58, TOLD),
-    // A read past the last one isn't met.
-    (ONE, 1, Some(60), 1000, TOLD),
-    (ONE, 7, Some(11), 1000, TOLD),
-    (ONE, 5, None, 10, "too long"),
-    (
-        ONE,
-        5,
-        None,
-        57,
-        "start 0 38, line 15, line 1, line 3, too long",
-    ),
-    (b"hello\n", 5, None, 10, "not an mbox"),
-    (b"hello\n", 5, None, 6, "not an mbox"),
-    (b"hello\n", 5, None, 3, "too long"),
-    (b"\n\n", 5, None, 2, "done 2"),
-];
+/// The number before the next space of a row.
+fn next_number(words: &mut SplitN<'_, char>) -> Option<u64> {
+    words.next()?.parse().ok()
+}
 
 /// Whether an archive is told as its row says.
-fn archive_is_told(alloc: Global, row: Archive<'_>) -> Option<bool> {
-    let (bytes, piece, fail_at, most, wanted) = row;
-    let mut source = MemorySource::new(alloc, bytes, piece.max(1), fail_at).ok()?;
+fn row_is_told(alloc: Global, row: &str) -> Option<bool> {
+    let (given, wanted) = row.split_once(" => ")?;
+    let mut words = given.splitn(4, ' ');
+    let piece = next_number(&mut words)? as usize;
+    let fail_at = next_number(&mut words)?;
+    let most = next_number(&mut words)?;
+    let bytes = bytes_of(alloc, words.next()?)?;
+    let fail_at = (fail_at > 0).then_some(fail_at);
+    let mut source = MemorySource::new(alloc, &bytes, piece.max(1), fail_at).ok()?;
     is_told(alloc, &mut source, most, wanted)
 }
 
 #[test]
 fn archives_are_told(rt: HostRuntime) {
-    for row in ARCHIVES {
-        let (_, piece, _, most, told) = row;
-        let as_wanted = archive_is_told(rt.alloc(), row);
-        assert!(rt; as_wanted == Some(true), "{most} bytes by {piece}: {told}");
-    }
-}
-
-/// A message of one line of so many bytes and then an end of the line; the lines that are told of it, the length of its span and
-/// the size of its text.
-type Longest = (usize, &'static [u8], &'static str, u64, u64);
-
-const LONGEST: [Longest; 9] = [
-    (65_535, b"\n", "line 65536", 65_574, 65_536),
-    (65_536, b"\n", "line 65537", 65_575, 65_537),
-    (65_537, b"\n", "line 65536, line 2", 65_576, 65_538),
-    (65_535, b"\r\n", "line 65537", 65_575, 65_537),
-    (65_536, b"\r\n", "line 65536", 65_576, 65_536),
-    (65_537, b"\r\n", "line 65536, line 3", 65_577, 65_539),
-    (65_535, b"", "line 65535", 65_573, 65_535),
-    (65_536, b"", "line 65536", 65_574, 65_536),
-    (65_537, b"", "line 65536, line 1", 65_575, 65_537),
-];
-
-/// Whether an archive of one message is told as its row says.
-fn line_is_told(alloc: Global, row: Longest) -> Option<bool> {
-    let (length, end, lines, span, size) = row;
-    let mut archive = ONE[..38].to_vec(alloc).ok()?;
-    archive.resize(length.saturating_add(38), b'a').ok()?;
-    archive.extend_from_slice(end).ok()?;
-    let told = format!(in alloc; "start 0 38, {lines}, end {span} {size}, done {span}").ok()?;
-    archive_is_told(alloc, (&archive, 4096, None, 1 << 40, told.as_str()))
-}
-
-#[test]
-fn longest_lines(rt: HostRuntime) {
-    for row in LONGEST {
-        let as_wanted = line_is_told(rt.alloc(), row);
-        assert!(rt; as_wanted == Some(true), "{} bytes and {:?}", row.0, row.1);
+    for row in ARCHIVES.lines() {
+        assert!(rt; row_is_told(rt.alloc(), row) == Some(true), "{row}");
     }
 }
 
 #[test]
-fn all_but_the_closing_line_is_lent(rt: HostRuntime) -> Result<(), Fail> {
-    let mut source = MemorySource::new(rt.alloc(), ONE, 7, None)?;
-    let mut lent = Vec::new(rt.alloc());
-    let _told = transcript(rt.alloc(), &mut source, 1000, &mut lent)?;
-    assert!(rt; lent.as_slice() == &ONE[..57]);
-    Ok(())
+fn all_but_the_closing_line_is_lent(rt: HostRuntime) {
+    let mut source = MemorySource::new(rt.alloc(), ONE, 7, None).expect(&rt, "a source");
+    let told = told_of(rt.alloc(), &mut source, 1000).expect(&rt, "a transcript");
+    assert!(rt; told.lent.as_slice() == &ONE[..57]);
 }
 
 /// Whether a read that fails is told after a front of the events.
 fn is_front(alloc: Global, piece: usize, fail_at: u64) -> Option<bool> {
     let mut source = MemorySource::new(alloc, ONE, piece.max(1), Some(fail_at)).ok()?;
-    let told = transcript(alloc, &mut source, 1000, &mut Vec::new(alloc)).ok()?;
-    let front = told.as_str().strip_suffix("read failed")?;
-    Some(TOLD.starts_with(front))
+    let told = told_of(alloc, &mut source, 1000)?;
+    let is_front = match told.text.as_str().strip_suffix("read failed") {
+        Some(front) => TOLD.starts_with(front),
+        None => false,
+    };
+    Some(is_front)
 }
 
 #[test]
@@ -181,16 +185,28 @@ fn each_read_fails(rt: HostRuntime) {
     }
 }
 
+/// Whether each call behind the fault of an archive that is too long has failed.
+fn fails_from_then_on(alloc: Global, source: &mut MemorySource) -> Option<bool>
+    requires { source.old.failures < 2 ^ 64 - 1 }
+{
+    let mut cutter = Cutter::new(alloc, source, 10).ok()?;
+    let as_wanted = matches!(cutter.next_event(), Err(CutFault::ArchiveTooLong))
+        && matches!(cutter.next_event(), Err(CutFault::Failed))
+        && matches!(cutter.next_event(), Err(CutFault::Failed));
+    Some(as_wanted)
+}
+
 #[test]
-fn failed_from_then_on(rt: HostRuntime) -> Result<(), Fail> {
-    let mut source = MemorySource::new(rt.alloc(), ONE, 1000, None)?;
-    let mut cutter = Cutter::new(rt.alloc(), &mut source, 10)?;
-    assert!(rt; matches!(cutter.next_event(), Err(CutFault::ArchiveTooLong)));
-    assert!(rt; matches!(cutter.next_event(), Err(CutFault::Failed)));
-    assert!(rt; matches!(cutter.next_event(), Err(CutFault::Failed)));
-    let told = format!(in rt.alloc(); "{}, {}", CutFault::Failed, DeviceFault)?;
-    assert_eq!(rt; told.as_str(), "failed before, the device failed");
-    Ok(())
+fn failed_from_then_on(rt: HostRuntime) {
+    let mut source = MemorySource::new(rt.alloc(), ONE, 1000, None).expect(&rt, "a source");
+    assert!(rt; fails_from_then_on(rt.alloc(), &mut source) == Some(true));
+}
+
+#[test]
+fn faults_have_texts(rt: HostRuntime) {
+    let cut: InlineText<64> = InlineText::of(CutFault::Failed);
+    let device: InlineText<64> = InlineText::of(DeviceFault);
+    assert!(rt; cut.as_str() == "failed before" && device.as_str() == "the device failed");
 }
 
 /// Line feeds without end.
@@ -213,16 +229,29 @@ fn a_source_without_end(rt: HostRuntime) {
     assert!(rt; is_told(rt.alloc(), &mut Feeds, 10, "too long") == Some(true));
 }
 
-/// The second cutter has the buffer of the first.
-#[test]
-fn one_buffer_for_two(rt: HostRuntime) -> Result<(), Fail> {
-    let mut source = MemorySource::new(rt.alloc(), ONE, 3, None)?;
+/// What is counted with the buffer of a first cutter.
+fn tally_again(alloc: Global, source: &mut MemorySource) -> Option<Tally>
+    requires { source.old.failures < 2 ^ 64 - 1 }
+{
     let mut kept = None;
-    let cutter = Cutter::new(rt.alloc(), &mut source, 1000)?;
-    let _source = cutter.into_source_keeping(&mut kept);
-    let tally = tally_of(kept.ok_or("no buffer")?, &mut source, 1000)?;
-    assert!(rt; tally.count == 1 && tally.bytes == 19);
-    Ok(())
+    let cutter = Cutter::new(alloc, source, 1000).ok()?;
+    let source = cutter.into_source_keeping(&mut kept);
+    tally_of(kept?, source, 1000).ok()
+}
+
+#[test]
+fn one_buffer_for_two(rt: HostRuntime) {
+    let mut source = MemorySource::new(rt.alloc(), ONE, 3, None).expect(&rt, "a source");
+    let tally = tally_again(rt.alloc(), &mut source);
+    assert!(rt;
+        matches!(
+            tally,
+            Some(Tally {
+                count: 1,
+                bytes: 19
+            })
+        )
+    );
 }
 
 /// Whether an output in memory with this room takes just so many bytes.
@@ -232,19 +261,21 @@ fn takes(alloc: Global, room: Option<u64>, length: usize) -> bool {
     is_sent == (length == ONE.len()) && Some(out.bytes()) == ONE.get(..length)
 }
 
+/// Whether a writer of std takes all bytes.
+fn is_written(alloc: Global) -> bool {
+    let mut written = Vec::new(alloc);
+    send(&mut ToWrite::new(&mut written), ONE).is_ok() && written.as_slice() == ONE
+}
+
 #[test]
 fn devices_in_memory_and_of_std(rt: HostRuntime) {
-    assert!(rt; takes(rt.alloc(), Some(13), 13));
-    assert!(rt; takes(rt.alloc(), None, 58));
+    assert!(rt; takes(rt.alloc(), Some(13), 13) && takes(rt.alloc(), None, 58));
     assert!(rt; is_told(rt.alloc(), &mut FromRead::new(ONE), 1000, TOLD) == Some(true));
-    let mut written = Vec::new(rt.alloc());
-    let is_sent = send(&mut ToWrite::new(&mut written), ONE).is_ok();
-    assert!(rt; is_sent && written.as_slice() == ONE);
+    assert!(rt; is_written(rt.alloc()));
 }
 
 /// The gate refuses each allocation of this test in turn.
 #[test]
 fn sweep_cutter(rt: HostRuntime) {
-    let as_wanted = archive_is_told(rt.alloc(), (b"\n", 1, None, 10, "done 1"));
-    assert!(rt; as_wanted != Some(false));
+    assert!(rt; row_is_told(rt.alloc(), "1 0 10 | => done 1") != Some(false));
 }

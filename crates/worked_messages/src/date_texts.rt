@@ -51,16 +51,18 @@ fn has_range() -> Option<bool> {
 
 #[test]
 fn answers_ranges(rt: HostRuntime) {
-    assert!(rt; has_range() == Some(true));
-    assert!(rt; Moment::new(-1).is_none());
-    assert!(rt; iso_range("2003-02") == Ok(FEBRUARY));
-    assert!(rt; iso_range("..") == Err(DateFault::BadDate));
+    assert!(rt; has_range() == Some(true) && Moment::new(-1).is_none());
+    assert!(rt; iso_range("2003-02") == Ok(FEBRUARY) && iso_range("..") == Err(DateFault::BadDate));
+}
+
+/// Whether a fault has this text.
+fn has_text(fault: DateFault, text: &str) -> bool {
+    let shown: InlineText<64> = InlineText::of(fault);
+    shown.as_str() == text
 }
 
 #[test]
 fn names_faults(rt: HostRuntime) {
-    let date: InlineText<64> = InlineText::of(DateFault::BadDate);
-    assert_eq!(rt; date.as_str(), "bad date");
-    let number: InlineText<64> = InlineText::of(DateFault::BadNumber);
-    assert_eq!(rt; number.as_str(), "bad number");
+    assert!(rt; has_text(DateFault::BadDate, "bad date"));
+    assert!(rt; has_text(DateFault::BadNumber, "bad number"));
 }

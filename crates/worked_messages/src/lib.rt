@@ -12,4 +12,6 @@ mod header_texts;
 #[cfg(test)]
 mod message_texts;
 #[cfg(test)]
+mod rows;
+#[cfg(test)]
 mod text_words;

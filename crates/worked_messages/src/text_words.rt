@@ -5,7 +5,6 @@ ghost use Rattle.mail_words.specs.Words.{words};
 
 use mail_words::{Words, fold, fold_ascii, fold_onto, is_one_word, is_part_of_word};
 use std::alloc::{AllocError, Global};
-use std::test::Fail;
 
 /// The words of a text, one behind the other.
 fn joined(alloc: Global, text: &str) -> Result<String, AllocError>
@@ -28,10 +27,9 @@ fn word_count(text: &str) -> u32 {
 }
 
 #[test]
-fn words_come_in_order(rt: HostRuntime) -> Result<(), Fail> {
-    let all = joined(rt.alloc(), "e-mail, a_b!")?;
-    assert_eq!(rt; all.as_str(), "ee-mailmailaa_bb");
-    Ok(())
+fn words_come_in_order(rt: HostRuntime) {
+    let all = joined(rt.alloc(), "e-mail, a_b!").expect(&rt, "all words");
+    assert!(rt; all.as_str() == "ee-mailmailaa_bb");
 }
 
 /// Whether a word folds to this.
@@ -39,27 +37,21 @@ fn folds_to(alloc: Global, word: &str, folded: &str) -> Option<bool> {
     Some(fold(alloc, word).ok()?.as_str() == folded)
 }
 
-/// Whether a text of ASCII alone is folded whole, in the place of what stands there. It is None where memory is wanting.
-fn folds_ascii(alloc: Global) -> Option<bool> {
-    let mut folded = String::from_str(alloc, "before").ok()?;
-    let folds_greek = fold_ascii("ΣΑΣ", &mut folded).ok()?;
-    let folds = fold_ascii("To E-MAIL", &mut folded).ok()?;
-    Some(!folds_greek && folds && folded.as_str() == "to e-mail")
-}
-
-/// Whether words are folded behind what a text has.
-fn folds_onto(alloc: Global) -> Option<bool> {
-    let mut folded = String::from_str(alloc, "before ").ok()?;
-    fold_onto("ΣΑΣ", &mut folded).ok()?;
-    fold_onto("E-MAIL", &mut folded).ok()?;
-    Some(folded.as_str() == "before σασe-mail")
+/// Whether words are folded behind what a text has, and one of ASCII alone is folded whole, in the place of what stands there.
+fn folds_all(folded: &mut String) -> Result<bool, AllocError> {
+    fold_onto("ΣΑΣ", folded)?;
+    fold_onto("E-MAIL", folded)?;
+    let folds_onto = folded.as_str() == "before σασe-mail";
+    let folds_greek = fold_ascii("ΣΑΣ", folded)?;
+    let folds = fold_ascii("To E-MAIL", folded)?;
+    Ok(folds_onto && !folds_greek && folds && folded.as_str() == "to e-mail")
 }
 
 #[test]
 fn words_fold(rt: HostRuntime) {
+    let mut folded = String::from_str(rt.alloc(), "before ").expect(&rt, "a text");
+    assert!(rt; folds_all(&mut folded) == Ok(true));
     assert!(rt; folds_to(rt.alloc(), "Straße", "strasse") == Some(true));
-    assert!(rt; folds_ascii(rt.alloc()) == Some(true));
-    assert!(rt; folds_onto(rt.alloc()) == Some(true));
 }
 
 /// The gate refuses each allocation of this test in turn.
@@ -70,16 +62,14 @@ fn sweep_fold(rt: HostRuntime) {
 
 #[test]
 fn pieces_are_told(rt: HostRuntime) {
-    assert!(rt; is_one_word("e-mail"));
-    assert!(rt; !is_one_word("e-mail-"));
-    assert!(rt; is_part_of_word("e-mail-"));
-    assert!(rt; !is_part_of_word(""));
+    assert!(rt; is_one_word("e-mail") && !is_one_word("e-mail-"));
+    assert!(rt; is_part_of_word("e-mail-") && !is_part_of_word(""));
 }
 
 /// How many words a text has in which a piece comes so many times, between a front and an end.
 fn word_count_of(alloc: Global, front: &str, piece: &str, times: usize, end: &str) -> Option<u32> {
     let run = piece.repeat(alloc, times).ok()?;
-    let text = format!(in alloc; "{front}{run}{end}").ok()?;
+    let text = [front, run.as_str(), end].concat(alloc).ok()?;
     Some(word_count(text.as_str()))
 }
 
