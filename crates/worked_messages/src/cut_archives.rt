@@ -3,14 +3,13 @@ ghost use Rattle.std.specs.Prelude.{◌≡◌, ◌-◌, ◌^◌, ◌<◌, None, 
 ghost use Rattle.std.specs.List.{sum_by};
 ghost use Rattle.mbox_cutter.specs.Archives.{messages, size};
 
-use crate::rows::bytes_of;
+use crate::rows::{bytes_of, has_text};
 use mbox_cutter::{
     Buffer, CutFault, Cutter, DeviceFault, Event, FromRead, MemoryOut, MemorySource, Out, Source,
     ToWrite, send,
 };
 use std::alloc::{AllocError, Global};
-use std::fmt::{InlineText, Write};
-use std::str::SplitN;
+use std::fmt::Write;
 
 const ONE: &[u8] = b"From a@x.org Thu Jan  2 10:00:00 2003\nSubject: Hello\n\nhi\n\n";
 
@@ -106,90 +105,74 @@ fn is_told<S: Source>(alloc: Global, source: &mut S, most: u64, wanted: &str) ->
     Some(told_of(alloc, source, most)?.text.as_str() == wanted)
 }
 
-/// In each line the most bytes that come at a read, the read that fails or 0, the most bytes that are taken, an archive, and what is
-/// told of it. A read past the last one isn't met.
+/// In each line the most bytes that come at a read, the most bytes that are taken, an archive, and what is told of it.
 const ARCHIVES: &str = "\
-1 0 58 ^Subject: Hello||hi|| => start 0 38, line 15, line 1, line 3, end 58 19, done 58
-7 0 58 ^Subject: Hello||hi|| => start 0 38, line 15, line 1, line 3, end 58 19, done 58
-58 0 58 ^Subject: Hello||hi|| => start 0 38, line 15, line 1, line 3, end 58 19, done 58
-1000 0 58 ^Subject: Hello||hi|| => start 0 38, line 15, line 1, line 3, end 58 19, done 58
-1 60 1000 ^Subject: Hello||hi|| => start 0 38, line 15, line 1, line 3, end 58 19, done 58
-7 11 1000 ^Subject: Hello||hi|| => start 0 38, line 15, line 1, line 3, end 58 19, done 58
-5 0 10 ^Subject: Hello||hi|| => too long
-5 0 57 ^Subject: Hello||hi|| => start 0 38, line 15, line 1, line 3, too long
-5 0 10 hello| => not an mbox
-5 0 6 hello| => not an mbox
-5 0 3 hello| => too long
-5 0 2 || => done 2
-4096 0 1099511627776 ^{65535*a}| => start 0 38, line 65536, end 65574 65536, done 65574
-4096 0 1099511627776 ^{65536*a}| => start 0 38, line 65537, end 65575 65537, done 65575
-4096 0 1099511627776 ^{65537*a}| => start 0 38, line 65536, line 2, end 65576 65538, done 65576
-4096 0 1099511627776 ^{65535*a}\r| => start 0 38, line 65537, end 65575 65537, done 65575
-4096 0 1099511627776 ^{65536*a}\r| => start 0 38, line 65536, end 65576 65536, done 65576
-4096 0 1099511627776 ^{65537*a}\r| => start 0 38, line 65536, line 3, end 65577 65539, done 65577
-4096 0 1099511627776 ^{65535*a} => start 0 38, line 65535, end 65573 65535, done 65573
-4096 0 1099511627776 ^{65536*a} => start 0 38, line 65536, end 65574 65536, done 65574
-4096 0 1099511627776 ^{65537*a} => start 0 38, line 65536, line 1, end 65575 65537, done 65575
+1 58 ^Subject: Hello||hi|| => start 0 38, line 15, line 1, line 3, end 58 19, done 58
+7 58 ^Subject: Hello||hi|| => start 0 38, line 15, line 1, line 3, end 58 19, done 58
+58 58 ^Subject: Hello||hi|| => start 0 38, line 15, line 1, line 3, end 58 19, done 58
+1000 58 ^Subject: Hello||hi|| => start 0 38, line 15, line 1, line 3, end 58 19, done 58
+5 10 ^Subject: Hello||hi|| => too long
+5 57 ^Subject: Hello||hi|| => start 0 38, line 15, line 1, line 3, too long
+5 10 hello| => not an mbox
+5 6 hello| => not an mbox
+5 3 hello| => too long
+5 2 || => done 2
+4096 1099511627776 ^{65535*a}| => start 0 38, line 65536, end 65574 65536, done 65574
+4096 1099511627776 ^{65536*a}| => start 0 38, line 65537, end 65575 65537, done 65575
+4096 1099511627776 ^{65537*a}| => start 0 38, line 65536, line 2, end 65576 65538, done 65576
+4096 1099511627776 ^{65535*a}\r| => start 0 38, line 65537, end 65575 65537, done 65575
+4096 1099511627776 ^{65536*a}\r| => start 0 38, line 65536, end 65576 65536, done 65576
+4096 1099511627776 ^{65537*a}\r| => start 0 38, line 65536, line 3, end 65577 65539, done 65577
+4096 1099511627776 ^{65535*a} => start 0 38, line 65535, end 65573 65535, done 65573
+4096 1099511627776 ^{65536*a} => start 0 38, line 65536, end 65574 65536, done 65574
+4096 1099511627776 ^{65537*a} => start 0 38, line 65536, line 1, end 65575 65537, done 65575
 ";
-
-/// The number before the next space of a row.
-fn next_number(words: &mut SplitN<'_, char>) -> Option<u64> {
-    words.next()?.parse().ok()
-}
 
 /// Whether an archive is told as its row says.
 fn row_is_told(alloc: Global, row: &str) -> Option<bool> {
     let (given, wanted) = row.split_once(" => ")?;
-    let mut words = given.splitn(4, ' ');
-    let piece = next_number(&mut words)? as usize;
-    let fail_at = next_number(&mut words)?;
-    let most = next_number(&mut words)?;
-    let bytes = bytes_of(alloc, words.next()?)?;
-    let fail_at = (fail_at > 0).then_some(fail_at);
-    let mut source = MemorySource::new(alloc, &bytes, piece.max(1), fail_at).ok()?;
+    let (piece, given) = given.split_once(' ')?;
+    let (most, archive) = given.split_once(' ')?;
+    let (piece, most) = (piece.parse::<usize>().ok()?, most.parse().ok()?);
+    let bytes = bytes_of(alloc, archive)?;
+    let mut source = MemorySource::new(alloc, &bytes, piece.max(1), None).ok()?;
     is_told(alloc, &mut source, most, wanted)
 }
 
 #[test]
 fn archives_are_told(rt: HostRuntime) {
     for row in ARCHIVES.lines() {
-        assert!(rt; row_is_told(rt.alloc(), row) == Some(true), "{row}");
+        assert!(rt; row_is_told(rt.alloc(), row).unwrap_or(false), "{row}");
     }
 }
 
-#[test]
-fn all_but_the_closing_line_is_lent(rt: HostRuntime) {
-    let mut source = MemorySource::new(rt.alloc(), ONE, 7, None).expect(&rt, "a source");
-    let told = told_of(rt.alloc(), &mut source, 1000).expect(&rt, "a transcript");
-    assert!(rt; told.lent.as_slice() == &ONE[..57]);
-}
-
-/// Whether a read that fails is told after a front of the events.
-fn is_front(alloc: Global, piece: usize, fail_at: u64) -> Option<bool> {
+/// Whether a front of the events is told before a read that fails, or all of them where fewer reads are made. Then all lines but the
+/// closing one are lent.
+fn is_told_up_to(alloc: Global, piece: usize, fail_at: u64, reads: u64) -> Option<bool> {
     let mut source = MemorySource::new(alloc, ONE, piece.max(1), Some(fail_at)).ok()?;
     let told = told_of(alloc, &mut source, 1000)?;
-    let is_front = match told.text.as_str().strip_suffix("read failed") {
-        Some(front) => TOLD.starts_with(front),
-        None => false,
+    let text = told.text.as_str();
+    let as_wanted = match text.strip_suffix("read failed") {
+        Some(front) => fail_at <= reads && TOLD.starts_with(front),
+        None => fail_at > reads && text == TOLD && told.lent.as_slice() == &ONE[..57],
     };
-    Some(is_front)
+    Some(as_wanted)
 }
 
 #[test]
 fn each_read_fails(rt: HostRuntime) {
     for (piece, reads) in [(1, 59), (7, 10)] {
-        for fail_at in 1..reads + 1 {
-            let as_wanted = is_front(rt.alloc(), piece, fail_at);
-            assert!(rt; as_wanted == Some(true), "read {fail_at} by {piece}");
+        for fail_at in 1..reads + 2 {
+            let as_wanted = is_told_up_to(rt.alloc(), piece, fail_at, reads);
+            assert!(rt; as_wanted.unwrap_or(false), "read {fail_at} by {piece}");
         }
     }
 }
 
 /// Whether each call behind the fault of an archive that is too long has failed.
-fn fails_from_then_on(alloc: Global, source: &mut MemorySource) -> Option<bool>
-    requires { source.old.failures < 2 ^ 64 - 1 }
-{
-    let mut cutter = Cutter::new(alloc, source, 10).ok()?;
+fn fails_from_then_on(alloc: Global) -> Option<bool> {
+    let mut source = FromRead::new(ONE);
+    let mut cutter = Cutter::new(alloc, &mut source, 10).ok()?;
     let as_wanted = matches!(cutter.next_event(), Err(CutFault::ArchiveTooLong))
         && matches!(cutter.next_event(), Err(CutFault::Failed))
         && matches!(cutter.next_event(), Err(CutFault::Failed));
@@ -198,15 +181,9 @@ fn fails_from_then_on(alloc: Global, source: &mut MemorySource) -> Option<bool>
 
 #[test]
 fn failed_from_then_on(rt: HostRuntime) {
-    let mut source = MemorySource::new(rt.alloc(), ONE, 1000, None).expect(&rt, "a source");
-    assert!(rt; fails_from_then_on(rt.alloc(), &mut source) == Some(true));
-}
-
-#[test]
-fn faults_have_texts(rt: HostRuntime) {
-    let cut: InlineText<64> = InlineText::of(CutFault::Failed);
-    let device: InlineText<64> = InlineText::of(DeviceFault);
-    assert!(rt; cut.as_str() == "failed before" && device.as_str() == "the device failed");
+    assert!(rt; fails_from_then_on(rt.alloc()).unwrap_or(false));
+    assert!(rt; has_text(CutFault::Failed, "failed before"));
+    assert!(rt; has_text(DeviceFault, "the device failed"));
 }
 
 /// Line feeds without end.
@@ -226,32 +203,24 @@ impl Source for Feeds {
 
 #[test]
 fn a_source_without_end(rt: HostRuntime) {
-    assert!(rt; is_told(rt.alloc(), &mut Feeds, 10, "too long") == Some(true));
+    assert!(rt; is_told(rt.alloc(), &mut Feeds, 10, "too long").unwrap_or(false));
 }
 
-/// What is counted with the buffer of a first cutter.
-fn tally_again(alloc: Global, source: &mut MemorySource) -> Option<Tally>
+/// Whether a cutter counts right with the buffer of a first one.
+fn counts_again(alloc: Global, source: &mut MemorySource) -> Option<bool>
     requires { source.old.failures < 2 ^ 64 - 1 }
 {
     let mut kept = None;
     let cutter = Cutter::new(alloc, source, 1000).ok()?;
     let source = cutter.into_source_keeping(&mut kept);
-    tally_of(kept?, source, 1000).ok()
+    let tally = tally_of(kept?, source, 1000).ok()?;
+    Some(tally.count == 1 && tally.bytes == 19)
 }
 
 #[test]
 fn one_buffer_for_two(rt: HostRuntime) {
     let mut source = MemorySource::new(rt.alloc(), ONE, 3, None).expect(&rt, "a source");
-    let tally = tally_again(rt.alloc(), &mut source);
-    assert!(rt;
-        matches!(
-            tally,
-            Some(Tally {
-                count: 1,
-                bytes: 19
-            })
-        )
-    );
+    assert!(rt; counts_again(rt.alloc(), &mut source).unwrap_or(false));
 }
 
 /// Whether an output in memory with this room takes just so many bytes.
@@ -270,12 +239,12 @@ fn is_written(alloc: Global) -> bool {
 #[test]
 fn devices_in_memory_and_of_std(rt: HostRuntime) {
     assert!(rt; takes(rt.alloc(), Some(13), 13) && takes(rt.alloc(), None, 58));
-    assert!(rt; is_told(rt.alloc(), &mut FromRead::new(ONE), 1000, TOLD) == Some(true));
+    assert!(rt; is_told(rt.alloc(), &mut FromRead::new(ONE), 1000, TOLD).unwrap_or(false));
     assert!(rt; is_written(rt.alloc()));
 }
 
 /// The gate refuses each allocation of this test in turn.
 #[test]
 fn sweep_cutter(rt: HostRuntime) {
-    assert!(rt; row_is_told(rt.alloc(), "1 0 10 | => done 1") != Some(false));
+    assert!(rt; row_is_told(rt.alloc(), "1 10 | => done 1").unwrap_or(true));
 }

@@ -23,10 +23,9 @@ const UPPER: [(Charset, &str); 3] = [
     (Charset::Windows1252, WINDOWS_1252),
 ];
 
-/// The character of a byte. It is None where memory is wanting, and so are the answers below.
-fn character(alloc: Global, charset: Charset, byte: u8) -> Option<char> {
-    let decoded = decode(alloc, charset, &[byte]).ok()?;
-    decoded.as_str().chars().next()
+/// Whether this text was decoded. It is None where memory is wanting, and so are the answers below.
+fn is_text(decoded: Result<String, AllocError>, text: &str) -> Option<bool> {
+    Some(decoded.ok()?.as_str() == text)
 }
 
 #[test]
@@ -35,10 +34,12 @@ fn all_bytes_of_single_byte_charsets(rt: HostRuntime) {
         let mut upper = upper.chars();
         for byte in 0..=0xFFu8 {
             let wanted = match byte {
-                0..0x80 => Some(char::from(byte)),
-                _ => upper.next(),
+                0..0x80 => char::from(byte),
+                _ => upper.next().unwrap_or('\0'),
             };
-            assert!(rt; character(rt.alloc(), charset, byte) == wanted, "{byte}");
+            let decoded = decode(rt.alloc(), charset, &[byte]);
+            let as_wanted = is_text(decoded, wanted.encode_utf8(&mut [0; 4]));
+            assert!(rt; as_wanted.unwrap_or(false), "{byte}");
         }
     }
 }
@@ -68,19 +69,6 @@ fn has_two_lines(alloc: Global, header: &mut Header) -> Option<bool> {
     Some(are_taken && is_only && is_whole && value.as_slice() == b"b c".as_slice())
 }
 
-#[test]
-fn a_header_of_two_lines(rt: HostRuntime) {
-    let mut header = Header::new(rt.alloc());
-    assert!(rt; has_two_lines(rt.alloc(), &mut header) == Some(true));
-}
-
-/// The gate refuses each allocation of this test in turn.
-#[test]
-fn sweep_push_line(rt: HostRuntime) {
-    let mut header = Header::new(rt.alloc());
-    assert!(rt; has_two_lines(rt.alloc(), &mut header) != Some(false));
-}
-
 /// Charsets, bytes of them, and their text. Without a charset, the bytes are a value with encoded words.
 const TEXTS: [(Option<&[u8]>, &[u8], &str); 4] = [
     (None, b"a =?utf-8?B?w7w=?= b", "a \u{FC} b"),
@@ -91,24 +79,10 @@ const TEXTS: [(Option<&[u8]>, &[u8], &str); 4] = [
 
 /// Whether bytes are decoded so.
 fn is_decoded(alloc: Global, charset: Option<&[u8]>, bytes: &[u8], text: &str) -> Option<bool> {
-    let decoded = match charset {
-        Some(name) => decode(alloc, Charset::of(name), bytes),
-        None => decode_words(alloc, bytes),
-    };
-    Some(decoded.ok()?.as_str() == text)
-}
-
-/// Asserts that all are decoded so. Only in a sweep may memory be wanting.
-fn check_texts(rt: &impl Abort, alloc: Global, sweeps: bool) {
-    for (charset, bytes, text) in TEXTS {
-        let as_wanted = is_decoded(alloc, charset, bytes, text);
-        assert!(rt; as_wanted.unwrap_or(sweeps), "{text}");
+    match charset {
+        Some(name) => is_text(decode(alloc, Charset::of(name), bytes), text),
+        None => is_text(decode_words(alloc, bytes), text),
     }
-}
-
-#[test]
-fn texts_of_words_and_charsets(rt: HostRuntime) {
-    check_texts(&rt, rt.alloc(), false);
 }
 
 /// Whether a value has two ids, of which one has a space in it, and that of another value comes behind them.
@@ -126,19 +100,7 @@ fn has_ids(alloc: Global) -> Option<bool> {
     Some(as_wanted)
 }
 
-#[test]
-fn ids_of_a_value(rt: HostRuntime) {
-    assert!(rt; has_ids(rt.alloc()) == Some(true));
-}
-
-/// The gate refuses each allocation of this test in turn.
-#[test]
-fn sweep_values(rt: HostRuntime) {
-    check_texts(&rt, rt.alloc(), true);
-    assert!(rt; has_ids(rt.alloc()) != Some(false));
-}
-
-/// Reads base64 in two pieces, and then escapes.
+/// Reads base64 in two pieces, and then escapes, whose bytes come one behind the other.
 fn push_pieces(bytes: &mut Vec<u8>) -> Result<(), AllocError> {
     let mut reader = Base64::new();
     reader.push(b"ZsO\n", bytes)?;
@@ -147,10 +109,31 @@ fn push_pieces(bytes: &mut Vec<u8>) -> Result<(), AllocError> {
     unescape_into(b"=41=", bytes)
 }
 
-/// The bytes of base64 and of escapes come one behind the other.
+fn has_pieces(alloc: Global) -> Option<bool> {
+    let mut bytes = Vec::new(alloc);
+    push_pieces(&mut bytes).ok()?;
+    Some(bytes.as_slice() == b"f\xC3\xBCrA=".as_slice())
+}
+
+/// Asserts that all values are read so. Only in a sweep may memory be wanting.
+fn check_values(rt: &impl Abort, alloc: Global, sweeps: bool) {
+    for (charset, bytes, text) in TEXTS {
+        let as_wanted = is_decoded(alloc, charset, bytes, text);
+        assert!(rt; as_wanted.unwrap_or(sweeps), "{text}");
+    }
+    let has_two_lines = has_two_lines(alloc, &mut Header::new(alloc));
+    assert!(rt; has_two_lines.unwrap_or(sweeps), "a header");
+    assert!(rt; has_ids(alloc).unwrap_or(sweeps), "ids");
+    assert!(rt; has_pieces(alloc).unwrap_or(sweeps), "base64");
+}
+
 #[test]
-fn base64_and_escapes_in_pieces(rt: HostRuntime) {
-    let mut bytes = Vec::new(rt.alloc());
-    let is_read = push_pieces(&mut bytes).is_ok();
-    assert!(rt; is_read && bytes.as_slice() == b"f\xC3\xBCrA=".as_slice());
+fn values_are_read(rt: HostRuntime) {
+    check_values(&rt, rt.alloc(), false);
+}
+
+/// The gate refuses each allocation of this test in turn.
+#[test]
+fn sweep_values(rt: HostRuntime) {
+    check_values(&rt, rt.alloc(), true);
 }

@@ -196,8 +196,8 @@ fn are_told(alloc: Global, line: &str, reader: &mut MessageText) -> Option<bool>
     let (room, archive) = given.split_once(' ')?;
     let (archive, wanted) = (bytes_of(alloc, archive)?, bytes_of(alloc, wanted)?);
     let row = (room.parse().unwrap_or(ALL), &*archive, &*wanted);
-    let is_new = is_told(alloc, row) == Some(true);
-    Some(is_told_again(alloc, row, reader) == Some(true) && is_new)
+    let is_new = is_told(alloc, row).unwrap_or(false);
+    Some(is_told_again(alloc, row, reader).unwrap_or(false) && is_new)
 }
 
 /// Nothing of one message is left where the next begins, also where a reader has failed.
@@ -209,7 +209,7 @@ fn one_reader_reads_many_messages(rt: HostRuntime) {
             continue;
         }
         assert!(rt;
-            are_told(rt.alloc(), line, &mut reader) == Some(true),
+            are_told(rt.alloc(), line, &mut reader).unwrap_or(false),
             "{line}"
         );
     }
@@ -221,5 +221,5 @@ fn sweep_message_text(rt: HostRuntime) {
     let archive = b"From a@x.org Thu Jan  2 10:00:00 2003\nMessage-ID: <a@x>\nSubject: lunch\n\
         Content-Disposition: inline; filename=\"=?utf-8?Q?menu?=\"\n\nbreak";
     let wanted = b"Subject [lunch], Name [menu], end, Body [break], id a@x";
-    assert!(rt; is_told(rt.alloc(), (ALL, archive, wanted)) != Some(false));
+    assert!(rt; is_told(rt.alloc(), (ALL, archive, wanted)).unwrap_or(true));
 }

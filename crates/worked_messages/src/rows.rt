@@ -1,6 +1,7 @@
 //! Archives and answers as the lines of tables have them.
 
 use std::alloc::{AllocError, Global};
+use std::fmt::{Display, InlineText};
 
 /// The line at which a message starts.
 const SEPARATOR: &[u8] = b"From a@x.org Thu Jan  2 10:00:00 2003\n";
@@ -35,4 +36,10 @@ fn push_signs(bytes: &mut Vec<u8>, signs: &str) -> Result<(), AllocError> {
         }
     }
     Ok(())
+}
+
+/// Whether a fault has this text.
+pub fn has_text<D: Display + Drop>(fault: D, text: &str) -> bool {
+    let shown: InlineText<64> = InlineText::of(fault);
+    shown.as_str() == text
 }

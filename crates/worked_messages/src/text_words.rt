@@ -3,6 +3,7 @@ ghost use Rattle.std.specs.Prelude.{◌≡◌, string_bytes, IfOk};
 ghost use Rattle.std.specs.List.{concat};
 ghost use Rattle.mail_words.specs.Words.{words};
 
+use crate::rows::bytes_of;
 use mail_words::{Words, fold, fold_ascii, fold_onto, is_one_word, is_part_of_word};
 use std::alloc::{AllocError, Global};
 
@@ -50,14 +51,14 @@ fn folds_all(folded: &mut String) -> Result<bool, AllocError> {
 #[test]
 fn words_fold(rt: HostRuntime) {
     let mut folded = String::from_str(rt.alloc(), "before ").expect(&rt, "a text");
-    assert!(rt; folds_all(&mut folded) == Ok(true));
-    assert!(rt; folds_to(rt.alloc(), "Straße", "strasse") == Some(true));
+    assert!(rt; folds_all(&mut folded).unwrap_or(false));
+    assert!(rt; folds_to(rt.alloc(), "Straße", "strasse").unwrap_or(false));
 }
 
 /// The gate refuses each allocation of this test in turn.
 #[test]
 fn sweep_fold(rt: HostRuntime) {
-    assert!(rt; folds_to(rt.alloc(), "Stra\u{df}e", "strasse") != Some(false));
+    assert!(rt; folds_to(rt.alloc(), "Straße", "strasse").unwrap_or(true));
 }
 
 #[test]
@@ -66,15 +67,14 @@ fn pieces_are_told(rt: HostRuntime) {
     assert!(rt; is_part_of_word("e-mail-") && !is_part_of_word(""));
 }
 
-/// How many words a text has in which a piece comes so many times, between a front and an end.
-fn word_count_of(alloc: Global, front: &str, piece: &str, times: usize, end: &str) -> Option<u32> {
-    let run = piece.repeat(alloc, times).ok()?;
-    let text = [front, run.as_str(), end].concat(alloc).ok()?;
-    Some(word_count(text.as_str()))
+/// Whether the text of a row has so many words.
+fn has_words(alloc: Global, row: &str, count: u32) -> Option<bool> {
+    let bytes = bytes_of(alloc, row)?;
+    Some(word_count(str::from_utf8(&bytes).ok()?) == count)
 }
 
 #[test]
 fn long_runs_take_linear_time(rt: HostRuntime) {
-    assert!(rt; word_count_of(rt.alloc(), "", "a-", 393_216, "") == Some(393_216));
-    assert!(rt; word_count_of(rt.alloc(), "a", "-", 100_000, "b") == Some(2));
+    assert!(rt; has_words(rt.alloc(), "{393216*a-}", 393_216).unwrap_or(false));
+    assert!(rt; has_words(rt.alloc(), "a{100000*-}b", 2).unwrap_or(false));
 }
