@@ -42,10 +42,10 @@ impl Facts {
         ensures sizes { IfOk result HasSizedIds }
     {
         Ok(Facts {
-            date_text: date_text(alloc, header.fields(), reader)?,
             flags: flags(alloc, header.fields())?,
-            own_id: own_id(alloc, header.fields())?,
             ids: linking_ids(alloc, header.fields())?,
+            own_id: own_id(alloc, header.fields())?,
+            date_text: date_text(alloc, header.fields(), reader)?,
         })
     }
 }
