@@ -1,8 +1,7 @@
 //! Runs over devices of which one call fails, or that run full: over archives that are indexed, and over their stored index.
 
-use crate::fixture::{COUSINS, Given, HELLO, SOUND, TWO_MESSAGES};
+use crate::fixture::{COUSINS, Given, HELLO, SOUND, TWO_MESSAGES, Told, tells};
 use std::alloc::Global;
-use std::process::Abort;
 
 /// Archives, a row that runs over them tell where nothing fails, and how many messages are shown. The length of each archive is asked,
 /// and then a read is made for each message that is shown. `--verify` has each length asked and each archive read before that, in one
@@ -36,9 +35,12 @@ const BEYOND: u64 = 10;
 
 /// Whether a run that makes so many calls of the archives tells this where one of them fails, or where none does. Nothing is sent
 /// before the first read of what is shown.
-fn is_told(given: &Given, calls: u64, failing_call: u64, shown: u64, told: &[u8]) -> bool {
+fn is_told(given: &Given, calls: u64, failing_call: u64, shown: u64, told: &Told) -> bool {
+    let Some(told) = told else {
+        return false;
+    };
     if failing_call > calls {
-        return told == given.told.as_slice();
+        return *told == given.told;
     }
     let sent = given.sent_before(b"refused 4: archive read failed", told);
     sent == Some(0) || (sent.is_some() && calls.saturating_sub(failing_call) < shown)
@@ -46,12 +48,7 @@ fn is_told(given: &Given, calls: u64, failing_call: u64, shown: u64, told: &[u8]
 
 /// Whether all runs tell each failing call of the archives, with a front of the answer, and go on at the calls behind the last: the run
 /// that indexes them itself, the search of their stored index, and that with `--verify`.
-fn tell_failing_calls(
-    rt: &impl Abort,
-    alloc: Global,
-    (archives, row, shown): (&str, &str, u64),
-) -> Option<bool> {
-    let given = Given::over(alloc, archives, row)?;
+fn tell_failing_calls(alloc: Global, given: &Given, shown: u64) -> Option<bool> {
     let lengths = given.archives.len() as u64;
     let searched = lengths.saturating_add(shown);
     let verified = lengths.saturating_mul(2).saturating_add(searched);
@@ -59,56 +56,53 @@ fn tell_failing_calls(
     let mut as_wanted = true;
     for failing_call in 1..=BEYOND {
         devices.failing_call = failing_call;
-        let told = given.all(rt, alloc, devices)?;
+        let told = given.all(alloc, devices)?;
         for (told, calls) in told.iter().zip([searched, searched, verified]) {
-            as_wanted = is_told(&given, calls, failing_call, shown, told) && as_wanted;
+            as_wanted = is_told(given, calls, failing_call, shown, told) && as_wanted;
         }
     }
     Some(as_wanted)
 }
 
 /// Whether this is told where the output has so much room.
-fn fills(given: &Given, room: usize, told: &[u8]) -> bool {
-    if room < given.answer.len() {
-        given.sent_before(b"refused 4: output failed", told) == Some(room)
-    } else {
-        told == given.told.as_slice()
+fn fills(given: &Given, room: usize, told: &Told) -> bool {
+    match told {
+        Some(told) if room < given.answer().len() => {
+            given.sent_before(b"refused 4: output failed", told) == Some(room)
+        }
+        Some(told) => *told == given.told,
+        None => false,
     }
 }
 
 /// Whether all runs fill an output of each room, up to that of the whole answer.
-fn fill_each_room(rt: &impl Abort, alloc: Global, archives: &str, row: &str) -> Option<bool> {
-    let given = Given::over(alloc, archives, row)?;
+fn fill_each_room(alloc: Global, given: &Given) -> Option<bool> {
     let mut devices = SOUND;
     let mut as_wanted = true;
-    for room in 0..=given.answer.len() {
+    for room in 0..=given.answer().len() {
         devices.room = Some(room as u64);
-        for told in given.all(rt, alloc, devices)? {
-            as_wanted = fills(&given, room, &told) && as_wanted;
+        for told in &given.all(alloc, devices)? {
+            as_wanted = fills(given, room, told) && as_wanted;
         }
     }
     Some(as_wanted)
 }
 
+/// A failed call of the archives leaves a front, and a full output has one.
 #[test]
-fn a_failed_call_of_the_archives_leaves_a_front(rt: HostRuntime) {
-    for answered in ANSWERED {
-        let as_wanted = tell_failing_calls(&rt, rt.alloc(), answered);
-        assert!(rt; as_wanted == Some(true), "{}", answered.1);
-    }
-}
-
-#[test]
-fn a_full_output_has_a_front(rt: HostRuntime) {
-    for (archives, row, _) in ANSWERED {
-        let as_wanted = fill_each_room(&rt, rt.alloc(), archives, row);
-        assert!(rt; as_wanted == Some(true), "{row}");
+fn devices_that_end_leave_a_front(rt: HostRuntime) {
+    for (archives, row, shown) in ANSWERED {
+        let given = Given::over(rt.alloc(), archives, row).expect(&rt, "what is given");
+        let tell = tell_failing_calls(rt.alloc(), &given, shown);
+        assert!(rt; tell.unwrap_or(false), "failing calls: {row}");
+        let fill = fill_each_room(rt.alloc(), &given);
+        assert!(rt; fill.unwrap_or(false), "rooms: {row}");
     }
 }
 
 /// Archives, a row that a run over them tells where no read fails, and how many reads of so many bytes each archive is asked for: the
 /// last one tells its end.
-const READ: [(&str, &str, [(usize, [u64; 2]); 2]); 3] = [
+const READ: [(&str, &str, [(usize, [u64; 2]); 2]); 4] = [
     (
         HELLO,
         "-r, s:hello => found 1: 0 58 m.mbox|",
@@ -124,6 +118,12 @@ const READ: [(&str, &str, [(usize, [u64; 2]); 2]); 3] = [
         "-t, --stdout, b:hi => found 2: ^Message-ID: <1@x>|References: <0@x>||hi||^Message-ID: <2@x>|References: <0@x>||ho||",
         [(1, [80, 80]), (7, [13, 13])],
     ),
+    // A failed read of the first archive goes before a second one that is no mbox.
+    (
+        "^Subject: Hello||hi|| & x|",
+        "-r, s:hello/two => refused 4: archive 2: not an mbox",
+        [(1, [59, 2]), (7, [10, 1])],
+    ),
 ];
 
 /// What is told where these reads fail, and each archive is asked for so many.
@@ -136,49 +136,27 @@ fn told_of_reads(given: &Given, failing: [Option<u64>; 2], [first, second]: [u64
 }
 
 /// Whether each read that fails, of either archive or of both, is told with nothing sent.
-fn tells_failing_reads(
-    rt: &impl Abort,
-    alloc: Global,
-    (archives, row): (&str, &str),
-    piece: usize,
-    reads: [u64; 2],
-) -> Option<bool> {
-    let given = Given::over(alloc, archives, row)?;
+fn tells_failing_reads(alloc: Global, given: &Given, piece: usize, reads: [u64; 2]) -> bool {
     let mut devices = SOUND;
     devices.piece = piece;
     let mut as_wanted = true;
     for n in 1..=reads[0].max(reads[1]).saturating_add(1) {
         for failing in [[Some(n), None], [None, Some(n)], [Some(n), Some(n)]] {
             devices.failing_reads = failing;
-            let told = given.once(rt, alloc, devices)?;
-            as_wanted = told.as_slice() == told_of_reads(&given, failing, reads) && as_wanted;
+            let wanted = told_of_reads(given, failing, reads);
+            as_wanted = tells(given.once(alloc, devices), wanted) && as_wanted;
         }
     }
-    Some(as_wanted)
+    as_wanted
 }
 
 #[test]
 fn a_failed_read_is_told(rt: HostRuntime) {
     for (archives, row, by_pieces) in READ {
+        let given = Given::over(rt.alloc(), archives, row).expect(&rt, "what is given");
         for (piece, reads) in by_pieces {
-            let as_wanted = tells_failing_reads(&rt, rt.alloc(), (archives, row), piece, reads);
-            assert!(rt; as_wanted == Some(true), "{row} by {piece}");
+            let as_wanted = tells_failing_reads(rt.alloc(), &given, piece, reads);
+            assert!(rt; as_wanted, "{row} by {piece}");
         }
     }
-}
-
-/// Whether a run over these archives, of which each one's first read fails, tells what a row says.
-fn tells_first_fault(rt: &impl Abort, alloc: Global, archives: &str, row: &str) -> Option<bool> {
-    let given = Given::over(alloc, archives, row)?;
-    let mut devices = SOUND;
-    devices.failing_reads = [Some(1), Some(1)];
-    Some(given.once(rt, alloc, devices)? == given.told)
-}
-
-/// A failed read of the first archive goes before a second one that is no mbox.
-#[test]
-fn the_first_archive_at_fault_is_told(rt: HostRuntime) {
-    let row = "-r, s:hello/two => refused 4: archive 1: read failed";
-    let archives = "^Subject: Hello||hi|| & x|";
-    assert!(rt; tells_first_fault(&rt, rt.alloc(), archives, row) == Some(true));
 }

@@ -4,10 +4,9 @@ ghost use Rattle.std.specs.Prelude.{◌≡◌, ◌<◌, ◌^◌, ◌-◌, length
 use mail_answer::{Archives, FailAt, MemoryArchives};
 use mail_dates::Moment;
 use mail_index::is_path;
-use mairix_tool::{IndexJob, OrMemory, Reply, fault_text, once_run, read_rc, search_run};
+use mairix_tool::{IndexJob, OrMemory, Reply, once_run, read_rc, search_run};
 use mbox_cutter::{MemoryOut, MemorySource};
-use std::alloc::Global;
-use std::process::Abort;
+use std::alloc::{AllocError, Global};
 
 /// The second of the runs: noon of 18 May 2003, UTC.
 pub const NOW: i64 = 1_053_259_200;
@@ -31,26 +30,11 @@ pub const TWO_MESSAGES: &str =
 pub const COUSINS: &str =
     "^Message-ID: <1@x>|References: <0@x>||hi|| & ^Message-ID: <2@x>|References: <0@x>||ho||";
 
-/// The words of some parts of a command line, which `, ` parts.
-pub fn words(alloc: Global, parts: &[&str]) -> Option<Vec<String>> {
-    let mut words = Vec::new(alloc);
-    for part in parts {
-        for word in part.split(", ") {
-            if !word.is_empty() {
-                words.push(String::from_str(alloc, word).ok()?).ok()?;
-            }
-        }
-    }
-    Some(words)
-}
-
-/// Writes a text, where `^` stands for the separator line and `|` for LF.
-fn push_text(bytes: &mut Vec<u8>, text: &str) -> Option<()> {
-    for b in text.as_bytes() {
-        match *b {
-            b'^' => bytes.extend_from_slice(SEPARATOR).ok()?,
-            b'|' => bytes.push(b'\n').ok()?,
-            b => bytes.push(b).ok()?,
+/// Adds the words of a part of a command line, which `, ` parts.
+pub fn push_words(alloc: Global, words: &mut Vec<String>, part: &str) -> Option<()> {
+    for word in part.split(", ") {
+        if !word.is_empty() {
+            words.push(String::from_str(alloc, word).ok()?).ok()?;
         }
     }
     Some(())
@@ -60,14 +44,30 @@ fn push_text(bytes: &mut Vec<u8>, text: &str) -> Option<()> {
 pub fn bytes_of(alloc: Global, text: &str) -> Option<Vec<u8>> {
     let mut bytes = Vec::new(alloc);
     for piece in text.split('{') {
-        let (repeated, rest) = piece.split_once('}').unwrap_or(("", piece));
-        let (count, repeated) = repeated.split_once('*').unwrap_or(("0", ""));
-        for _ in 0..count.parse::<u32>().ok()? {
-            push_text(&mut bytes, repeated)?;
-        }
-        push_text(&mut bytes, rest)?;
+        push_piece(&mut bytes, piece)?;
     }
     Some(bytes)
+}
+
+/// Writes the text between one `{` and the next.
+fn push_piece(bytes: &mut Vec<u8>, piece: &str) -> Option<()> {
+    let (repeated, rest) = piece.split_once('}').unwrap_or(("", piece));
+    let (count, repeated) = repeated.split_once('*').unwrap_or(("0", ""));
+    for _ in 0..count.parse::<u32>().ok()? {
+        push_signs(bytes, repeated).ok()?;
+    }
+    push_signs(bytes, rest).ok()
+}
+
+fn push_signs(bytes: &mut Vec<u8>, signs: &str) -> Result<(), AllocError> {
+    for sign in signs.as_bytes() {
+        match *sign {
+            b'^' => bytes.extend_from_slice(SEPARATOR)?,
+            b'|' => bytes.push(b'\n')?,
+            other => bytes.push(other)?,
+        }
+    }
+    Ok(())
 }
 
 /// How the devices of a run behave.
@@ -94,37 +94,58 @@ pub const SOUND: Devices = Devices {
 /// What a run tells. It is None where memory is wanting before it begins or behind it.
 pub type Told = Option<Vec<u8>>;
 
+/// Whether a run tells this.
+pub fn tells(told: Told, wanted: &[u8]) -> bool {
+    match told {
+        Some(told) => told.as_slice() == wanted,
+        None => false,
+    }
+}
+
 /// What is given to a run, and what it tells where no device fails.
 #[derive(Drop)]
 pub struct Given {
-    words: Vec<String>,
-    /// The same with `--verify` behind them.
+    /// The words of a run, and `--verify` behind them.
     verifying: Vec<String>,
     rc: Vec<u8>,
     pub archives: Vec<Vec<u8>>,
     /// The index file of the archives, if they have one.
     pub index: Option<Vec<u8>>,
     pub told: Vec<u8>,
-    /// What goes out, which is told behind `found N: `.
-    pub answer: Vec<u8>,
+    /// How much is told before what goes out.
+    front: usize,
 }
 
 impl Given {
     /// Reads a row `WORDS => TOLD`, the words before its own, an rcfile's text, and the texts of archives, which ` & ` parts. It is
     /// None where memory is wanting.
     pub fn of(alloc: Global, first: &str, row: &str, rc: &str, texts: &str) -> Option<Given> {
+        let mut given = Given {
+            verifying: Vec::new(alloc),
+            rc: Vec::new(alloc),
+            archives: Vec::new(alloc),
+            index: None,
+            told: Vec::new(alloc),
+            front: 0,
+        };
+        given.read(alloc, first, row, rc, texts)?;
+        Some(given)
+    }
+
+    fn read(&mut self, alloc: Global, first: &str, row: &str, rc: &str, texts: &str) -> Option<()> {
         let (own, told) = row.split_once(" => ")?;
-        let (_, answer) = told.split_once(": ").unwrap_or(("", ""));
-        let (rc, archives) = (bytes_of(alloc, rc)?, archives_of(alloc, texts)?);
-        Some(Given {
-            words: words(alloc, &[first, own])?,
-            verifying: words(alloc, &[first, own, "--verify"])?,
-            index: indexed(alloc, &rc, &archives),
-            rc,
-            archives,
-            told: bytes_of(alloc, told)?,
-            answer: bytes_of(alloc, answer)?,
-        })
+        for part in [first, own, "--verify"] {
+            push_words(alloc, &mut self.verifying, part)?;
+        }
+        self.rc = bytes_of(alloc, rc)?;
+        self.archives = archives_of(alloc, texts)?;
+        self.index = indexed(alloc, &self.rc, &self.archives);
+        self.told = bytes_of(alloc, told)?;
+        self.front = match told.split_once(": ") {
+            Some((front, _)) => front.len().saturating_add(2),
+            None => told.len(),
+        };
+        Some(())
     }
 
     /// Reads a row with `-f rc` before its words, and the archive `m.mbox`, or `a.mbox` and `b.mbox`. It is None where memory is wanting.
@@ -133,19 +154,30 @@ impl Given {
         Given::of(alloc, "-f, rc", row, rc, texts)
     }
 
-    /// What a run tells that indexes the archives itself.
-    pub fn once(&self, rt: &impl Abort, alloc: Global, devices: Devices) -> Told {
-        let mut sources = sources(alloc, &self.archives, devices)?;
-        let mut out = MemoryOut::new(alloc, devices.room);
-        let reply = self.run(rt, alloc, devices.failing_call, &mut sources, &mut out)?;
-        told(alloc, &reply, &out)
+    fn words(&self) -> &[String] {
+        match self.verifying.split_last() {
+            Some((_, words)) => words,
+            None => &[],
+        }
     }
 
-    /// A run over archives of which this call fails, or none for 0, and over their sources, of which there are as many as the rcfile
-    /// has paths. It is None where memory is wanting before it begins.
+    /// What goes out, which is told behind `found N: `.
+    pub fn answer(&self) -> &[u8] {
+        self.told.get(self.front..).unwrap_or(&[])
+    }
+
+    /// What a run tells that indexes the archives itself.
+    pub fn once(&self, alloc: Global, devices: Devices) -> Told {
+        let mut sources = sources(alloc, &self.archives, devices)?;
+        let mut out = MemoryOut::new(alloc, devices.room);
+        let reply = self.run(alloc, devices.failing_call, &mut sources, &mut out);
+        told(alloc, reply, &out)
+    }
+
+    /// A run over archives of which this call fails, or none for 0, and over their sources. It is None where memory is wanting before it
+    /// begins, or the rcfile has more or fewer paths than there are archives.
     fn run(
         &self,
-        rt: &impl Abort,
         alloc: Global,
         failing_call: u64,
         sources: &mut [MemorySource],
@@ -154,23 +186,27 @@ impl Given {
         requires sources { All (λ s. s.failures ≡ 0) sources.old }
         requires out { out.old.failures ≡ 0 }
     {
-        let (words, rc) = (self.words.as_slice(), self.rc.as_slice());
+        let (words, rc) = (self.words(), self.rc.as_slice());
+        let now = Moment::new(NOW)?;
         let mut held = FailAt::new(held(alloc, &self.archives)?, failing_call);
         match read_rc(alloc, rc) {
             Ok(rc) => {
-                assert_eq!(rt; rc.paths.as_slice().len(), sources.len());
-                assert_eq!(rt; held.count() as usize, sources.len());
+                if rc.paths.as_slice().len() != sources.len() {
+                    return None;
+                }
+                if held.count() as usize != sources.len() {
+                    return None;
+                }
             }
             Err(OrMemory::Memory) => return None,
             Err(_) => {}
         }
-        let now = Moment::new(NOW)?;
         Some(once_run(alloc, words, rc, sources, &mut held, now, out))
     }
 
     /// What a search of an index over the archives tells.
     pub fn stored(&self, alloc: Global, index: &[u8], devices: Devices) -> Told {
-        self.searched(alloc, &self.words, index, devices)
+        self.searched(alloc, self.words(), index, devices)
     }
 
     /// The same with `--verify`.
@@ -179,38 +215,38 @@ impl Given {
     }
 
     fn searched(&self, alloc: Global, words: &[String], index: &[u8], devices: Devices) -> Told {
+        let now = Moment::new(NOW)?;
         let mut held = FailAt::new(held(alloc, &self.archives)?, devices.failing_call);
         let mut out = MemoryOut::new(alloc, devices.room);
-        let now = Moment::new(NOW)?;
         let reply = search_run(alloc, words, &self.rc, index, &mut held, now, &mut out);
-        told(alloc, &reply, &out)
+        told(alloc, Some(reply), &out)
     }
 
-    /// What a run tells that indexes the archives itself, a search of their stored index, and one with `--verify`. It is None also
-    /// where they have no index.
-    pub fn all(&self, rt: &impl Abort, alloc: Global, devices: Devices) -> Option<[Vec<u8>; 3]> {
+    /// What a run tells that indexes the archives itself, a search of their stored index, and one with `--verify`. It is None where
+    /// they have no index.
+    pub fn all(&self, alloc: Global, devices: Devices) -> Option<[Told; 3]> {
         let index = self.index.as_ref()?;
         Some([
-            self.once(rt, alloc, devices)?,
-            self.stored(alloc, index, devices)?,
-            self.verified(alloc, index, devices)?,
+            self.once(alloc, devices),
+            self.stored(alloc, index, devices),
+            self.verified(alloc, index, devices),
         ])
     }
 
     /// How many bytes of the answer went out before this refusal. It is None where something else is told.
     pub fn sent_before(&self, refusal: &[u8], told: &[u8]) -> Option<usize> {
         let sent = told.strip_prefix(refusal)?;
-        self.answer.starts_with(sent).then_some(sent.len())
+        self.answer().starts_with(sent).then_some(sent.len())
     }
 }
 
 /// `found 2: ` and the bytes that went out, `none` and them, or `refused 4: `, the fault's text and them. A reply whose parts
 /// don't fit one another is told as `unlike a reply`.
-fn told(alloc: Global, reply: &Reply, out: &MemoryOut) -> Told {
+fn told(alloc: Global, reply: Option<Reply>, out: &MemoryOut) -> Told {
+    let reply = reply?;
     let text = match reply.fault {
         Some(fault) if reply.messages == 0 => {
-            let text = fault_text(alloc, &fault).ok()?;
-            format!(in alloc; "refused {}: {text}", reply.status)
+            format!(in alloc; "refused {}: {fault}", reply.status)
         }
         None if reply.status == 0 && reply.messages > 0 => {
             format!(in alloc; "found {}: ", reply.messages)
@@ -218,9 +254,9 @@ fn told(alloc: Global, reply: &Reply, out: &MemoryOut) -> Told {
         None if reply.status == 1 && reply.messages == 0 => String::from_str(alloc, "none"),
         _ => String::from_str(alloc, "unlike a reply"),
     };
-    let mut told = text.ok()?.as_bytes().to_vec(alloc).ok()?;
-    told.extend_from_slice(out.bytes()).ok()?;
-    Some(told)
+    [text.ok()?.as_str().as_bytes(), out.bytes()]
+        .concat(alloc)
+        .ok()
 }
 
 /// Sources that give these archives.
@@ -267,13 +303,28 @@ fn indexed(alloc: Global, rc: &[u8], archives: &[Vec<u8>]) -> Option<Vec<u8>> {
     match read_rc(alloc, rc) {
         Ok(rc) => indexed_as(alloc, rc.paths.as_slice(), archives),
         Err(OrMemory::Memory) => None,
-        Err(_) => indexed_as(alloc, &words(alloc, &["m.mbox"])?, archives),
+        Err(_) => {
+            let path = String::from_str(alloc, "m.mbox").ok()?;
+            indexed_as(alloc, &[path], archives)
+        }
     }
 }
 
 /// The index file of archives under these paths.
 fn indexed_as(alloc: Global, paths: &[String], archives: &[Vec<u8>]) -> Option<Vec<u8>> {
     let mut job = IndexJob::new(alloc).ok()?;
+    add_archives(alloc, &mut job, paths, archives)?;
+    let mut out = MemoryOut::new(alloc, None);
+    job.finish(&mut out).ok()?;
+    out.bytes().to_vec(alloc).ok()
+}
+
+fn add_archives(
+    alloc: Global,
+    job: &mut IndexJob,
+    paths: &[String],
+    archives: &[Vec<u8>],
+) -> Option<()> {
     for (path, archive) in paths.iter().zip(archives) {
         if !is_path(path) {
             return None;
@@ -281,7 +332,5 @@ fn indexed_as(alloc: Global, paths: &[String], archives: &[Vec<u8>]) -> Option<V
         let mut source = MemorySource::new(alloc, archive, 7, None).ok()?;
         job.archive(path, &mut source).ok()?;
     }
-    let mut out = MemoryOut::new(alloc, None);
-    job.finish(&mut out).ok()?;
-    out.bytes().to_vec(alloc).ok()
+    Some(())
 }

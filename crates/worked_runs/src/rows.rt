@@ -8,7 +8,7 @@
 //! [`told`]: crate::fixture::told
 
 use crate::date_rows::DATE_ROWS;
-use crate::fixture::{Devices, Given, SOUND};
+use crate::fixture::{Devices, Given, SOUND, tells};
 use crate::form_rows::FORM_ROWS;
 use crate::index_rows::INDEX_ROWS;
 use crate::pattern_rows::PATTERN_ROWS;
@@ -16,7 +16,6 @@ use crate::refusal_rows::REFUSAL_ROWS;
 use crate::stored_indexes::front_of_index;
 use crate::text_rows::TEXT_ROWS;
 use std::alloc::Global;
-use std::process::Abort;
 
 /// The tables, and the number of their rows.
 const TABLES: [(&str, u32); 6] = [
@@ -54,33 +53,37 @@ impl<'a> Setting<'a> {
     }
 
     /// Whether runs tell what a row says. It is None where memory is wanting.
-    fn is_told(self, rt: &impl Abort, alloc: Global, row: &str) -> Option<bool> {
+    fn is_told(self, alloc: Global, row: &str) -> Option<bool> {
         let given = Given::of(alloc, self.words, row, self.rcfile, self.archives)?;
-        match self.index.split_once(' ') {
-            Some((name, length)) => {
-                let index = front_of_index(alloc, name, length.parse().ok()?)?;
-                Some(given.stored(alloc, &index, SOUND)? == given.told)
-            }
-            None => is_told_by_all(rt, alloc, &given),
+        match self.index {
+            "" => Some(is_told_by_all(alloc, &given)),
+            index => is_told_of(alloc, &given, index),
         }
     }
 }
 
+/// Whether a search of an index of this name and length tells what a row says.
+fn is_told_of(alloc: Global, given: &Given, index: &str) -> Option<bool> {
+    let (name, length) = index.split_once(' ')?;
+    let index = front_of_index(alloc, name, length.parse().ok()?)?;
+    Some(tells(given.stored(alloc, &index, SOUND), &given.told))
+}
+
 /// Whether a run that indexes the archives itself, in pieces of each size, and a search of their stored index, also with `--verify`,
 /// tell what a row says. Archives that are refused have no index.
-fn is_told_by_all(rt: &impl Abort, alloc: Global, given: &Given) -> Option<bool> {
+fn is_told_by_all(alloc: Global, given: &Given) -> bool {
     let mut as_wanted = match &given.index {
         Some(index) => {
-            given.stored(alloc, index, SOUND)? == given.told
-                && given.verified(alloc, index, SOUND)? == given.told
+            tells(given.stored(alloc, index, SOUND), &given.told)
+                && tells(given.verified(alloc, index, SOUND), &given.told)
         }
         None => given.told.starts_with(b"refused 4: archive "),
     };
     for piece in PIECES {
         let devices = Devices { piece, ..SOUND };
-        as_wanted = given.once(rt, alloc, devices)? == given.told && as_wanted;
+        as_wanted = tells(given.once(alloc, devices), &given.told) && as_wanted;
     }
-    Some(as_wanted)
+    as_wanted
 }
 
 #[test]
@@ -92,13 +95,13 @@ fn rows_are_told(rt: HostRuntime) {
             match setting.set_by(line) {
                 Some(next) => setting = next,
                 None => {
-                    let as_wanted = setting.is_told(&rt, rt.alloc(), line);
-                    assert!(rt; as_wanted == Some(true), "{line}");
+                    let as_wanted = setting.is_told(rt.alloc(), line);
+                    assert!(rt; as_wanted.unwrap_or(false), "{line}");
                     rows = rows.saturating_add(1);
                 }
             }
         }
-        assert_eq!(rt; rows, count);
+        assert!(rt; rows == count, "{rows} rows");
     }
 }
 
@@ -122,25 +125,25 @@ const SEPARATOR_SIZE: usize = 37;
 /// Whether a front of an archive is told as it has to be: the pattern is found in so many bytes and more. It is None where memory is
 /// wanting.
 fn front_is_told(
-    rt: &impl Abort,
     alloc: Global,
     (text, pattern, enough): (&str, &str, usize),
     size: usize,
 ) -> Option<bool> {
+    let text = text.get(..size)?;
     let row = match size {
         _ if size >= enough => format!(in alloc; "{pattern} => found 1: 0 {size} m.mbox|"),
-        0 | SEPARATOR_SIZE.. => format!(in alloc; "{pattern} => none"),
-        _ => format!(in alloc; "{pattern} => refused 4: archive 1: not an mbox"),
+        0 | SEPARATOR_SIZE.. => [pattern, " => none"].concat(alloc),
+        _ => [pattern, " => refused 4: archive 1: not an mbox"].concat(alloc),
     };
-    let given = Given::over(alloc, text.get(..size)?, row.ok()?.as_str())?;
-    is_told_by_all(rt, alloc, &given)
+    let given = Given::over(alloc, text, row.ok()?.as_str())?;
+    Some(is_told_by_all(alloc, &given))
 }
 
 #[test]
 fn fronts_of_archives_are_told(rt: HostRuntime) {
     for archive in FRONTS {
         for size in 0..=archive.0.len() {
-            let as_wanted = front_is_told(&rt, rt.alloc(), archive, size) == Some(true);
+            let as_wanted = front_is_told(rt.alloc(), archive, size).unwrap_or(false);
             assert!(rt; as_wanted, "{size} bytes of {}", archive.0);
         }
     }

@@ -1,6 +1,6 @@
 //! Stored indexes that the rows name, and others that are none.
 
-use crate::fixture::{Given, HELLO, RC, SOUND, index_of};
+use crate::fixture::{Given, HELLO, RC, SOUND, Told, index_of};
 use sha2::{Digest, Sha256};
 use std::alloc::Global;
 
@@ -45,11 +45,8 @@ type Change<'a> = (usize, &'a [u8], bool);
 
 /// The bytes with such a change.
 fn changed(alloc: Global, bytes: &[u8], (at, new, signs_again): Change) -> Option<Vec<u8>> {
-    let mut changed = Vec::new(alloc);
-    for (i, byte) in bytes.iter().enumerate() {
-        let put = i.checked_sub(at).and_then(|k| new.get(k)).unwrap_or(byte);
-        changed.push(*put).ok()?;
-    }
+    let behind = bytes.get(at.checked_add(new.len())?..)?;
+    let mut changed = [bytes.get(..at)?, new, behind].concat(alloc).ok()?;
     if signs_again {
         changed.truncate(BODY);
         let digest = Sha256::digest(&changed);
@@ -58,18 +55,23 @@ fn changed(alloc: Global, bytes: &[u8], (at, new, signs_again): Change) -> Optio
     Some(changed)
 }
 
-/// The front of an index, as a line `index NAME LENGTH` names it. It is None where memory is wanting, or the index has fewer bytes.
-pub fn front_of_index(alloc: Global, name: &str, length: usize) -> Option<Vec<u8>> {
-    let index = match name {
-        "hello" => index_of(alloc, RC, HELLO)?,
+/// The index of a name. It is None where memory is wanting.
+fn named_index(alloc: Global, name: &str) -> Option<Vec<u8>> {
+    match name {
+        "hello" => index_of(alloc, RC, HELLO),
         "zeros" => {
             let hello = index_of(alloc, RC, HELLO)?;
-            changed(alloc, &hello, (DIGEST, &[0u8; 32], true))?
+            changed(alloc, &hello, (DIGEST, &[0u8; 32], true))
         }
-        "two" => index_of(alloc, RC_OF_TWO, TWO)?,
-        "old" => OLD_INDEX.to_vec(alloc).ok()?,
-        _ => return None,
-    };
+        "two" => index_of(alloc, RC_OF_TWO, TWO),
+        "old" => OLD_INDEX.to_vec(alloc).ok(),
+        _ => None,
+    }
+}
+
+/// The front of an index, as a line `index NAME LENGTH` names it. It is None where memory is wanting, or the index has fewer bytes.
+pub fn front_of_index(alloc: Global, name: &str, length: usize) -> Option<Vec<u8>> {
+    let index = named_index(alloc, name)?;
     index.get(..length)?.to_vec(alloc).ok()
 }
 
@@ -85,36 +87,36 @@ const CHANGES: [(Change, &str); 5] = [
 /// Each bit of a byte.
 const BITS: [u8; 8] = [1, 2, 4, 8, 16, 32, 64, 128];
 
+/// Whether a search refuses its index so.
+fn refuses(told: Told, why: &str) -> bool {
+    match &told {
+        Some(told) => told.strip_prefix(b"refused 3: index: ".as_slice()) == Some(why.as_bytes()),
+        None => false,
+    }
+}
+
 /// Whether a search of an index and one with `--verify` refuse it so.
-fn is_refused(alloc: Global, given: &Given, index: &[u8], why: &str) -> Option<bool> {
-    let refusal = format!(in alloc; "refused 3: index: {why}").ok()?;
-    let stored = given.stored(alloc, index, SOUND)?;
-    let verified = given.verified(alloc, index, SOUND)?;
-    Some(stored.as_slice() == refusal.as_bytes() && verified.as_slice() == refusal.as_bytes())
+fn is_refused(alloc: Global, given: &Given, index: &[u8], why: &str) -> bool {
+    refuses(given.stored(alloc, index, SOUND), why)
+        && refuses(given.verified(alloc, index, SOUND), why)
 }
 
 /// Whether the index with such a change is refused so.
-fn is_refused_with(
-    alloc: Global,
-    given: &Option<Given>,
-    change: Change,
-    why: &str,
-) -> Option<bool> {
-    let given = given.as_ref()?;
+fn is_refused_with(alloc: Global, given: &Given, change: Change, why: &str) -> Option<bool> {
     let index = given.index.as_ref()?;
     let changed = changed(alloc, index, change)?;
-    Some(is_refused(alloc, given, &changed, why)? && index.len() == SIZE)
+    Some(is_refused(alloc, given, &changed, why) && index.len() == SIZE)
 }
 
 /// Whether the bytes of the index before this one, and the index with each of its bits turned, are refused.
-fn are_refused_at(alloc: Global, given: &Option<Given>, at: usize) -> Option<bool> {
-    let index = given.as_ref()?.index.as_ref()?;
+fn are_refused_at(alloc: Global, given: &Given, at: usize) -> Option<bool> {
+    let index = given.index.as_ref()?;
     let (front, byte) = (index.get(..at)?, *index.get(at)?);
     let why = match at {
         0..80 => "too short",
         _ => "bad digest",
     };
-    let mut as_wanted = is_refused(alloc, given.as_ref()?, front, why)?;
+    let mut as_wanted = is_refused(alloc, given, front, why);
     let why = match at {
         0..8 => "bad magic",
         8..12 => "unknown version",
@@ -122,25 +124,22 @@ fn are_refused_at(alloc: Global, given: &Option<Given>, at: usize) -> Option<boo
     };
     for mask in BITS {
         let turned = is_refused_with(alloc, given, (at, &[byte ^ mask], false), why);
-        as_wanted = turned == Some(true) && as_wanted;
+        as_wanted = turned.unwrap_or(false) && as_wanted;
     }
     Some(as_wanted)
 }
 
 #[test]
 fn what_is_no_index_is_refused(rt: HostRuntime) {
-    let given = Given::over(rt.alloc(), HELLO, ROW);
+    let given = Given::over(rt.alloc(), HELLO, ROW).expect(&rt, "what is given");
     for (change, why) in CHANGES {
         let as_wanted = is_refused_with(rt.alloc(), &given, change, why);
-        assert!(rt; as_wanted == Some(true), "{why}");
+        assert!(rt; as_wanted.unwrap_or(false), "{why}");
     }
-}
-
-#[test]
-fn a_front_and_a_turned_bit_are_refused(rt: HostRuntime) {
-    let given = Given::over(rt.alloc(), HELLO, ROW);
     for at in 0..SIZE {
-        let as_wanted = are_refused_at(rt.alloc(), &given, at);
-        assert!(rt; as_wanted == Some(true), "at {at}");
+        assert!(rt;
+            are_refused_at(rt.alloc(), &given, at).unwrap_or(false),
+            "at {at}"
+        );
     }
 }
