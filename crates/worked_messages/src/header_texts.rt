@@ -1,8 +1,8 @@
 //! One happy path for each call that can want memory, the same with each allocation refused in turn, and the characters of all
 //! bytes.
 use header_text::{
-    Base64, Charset, Field, Header, Taken, decode, decode_words, message_ids, push_ids,
-    unescape_into, unfold,
+    Base64, Charset, Header, Taken, decode, decode_words, message_ids, push_ids, unescape_into,
+    unfold,
 };
 use std::alloc::{AllocError, Global};
 use std::process::Abort;
@@ -63,10 +63,10 @@ fn has_two_lines(alloc: Global, header: &mut Header) -> Option<bool> {
     let Some(field) = fields.next() else {
         return Some(false);
     };
-    let is_only = field.name == b"A".as_slice() && fields.next().is_none();
-    let is_whole = field.is(b"a") && field.body == b" b\n c\n".as_slice();
+    let is_only = field.is(b"a") && fields.next().is_none();
     let value = unfold(alloc, field.body).ok()?;
-    Some(are_taken && is_only && is_whole && value.as_slice() == b"b c".as_slice())
+    let wanted: [&[u8]; 3] = [b"A", b" b\n c\n", b"b c"];
+    Some(are_taken && is_only && [field.name, field.body, value.as_slice()] == wanted)
 }
 
 /// Charsets, bytes of them, and their text. Without a charset, the bytes are a value with encoded words.
@@ -91,9 +91,8 @@ fn has_ids(alloc: Global) -> Option<bool> {
     push_ids(alloc, b"c <d@z>", &mut ids).ok()?;
     let as_wanted = match ids.as_slice() {
         [first, second, third] => {
-            first.as_slice() == b"a@x".as_slice()
-                && second.as_slice() == b"b@y".as_slice()
-                && third.as_slice() == b"d@z".as_slice()
+            let wanted: [&[u8]; 3] = [b"a@x", b"b@y", b"d@z"];
+            [first.as_slice(), second.as_slice(), third.as_slice()] == wanted
         }
         _ => false,
     };
@@ -122,9 +121,9 @@ fn check_values(rt: &impl Abort, alloc: Global, sweeps: bool) {
         assert!(rt; as_wanted.unwrap_or(sweeps), "{text}");
     }
     let has_two_lines = has_two_lines(alloc, &mut Header::new(alloc));
-    assert!(rt; has_two_lines.unwrap_or(sweeps), "a header");
-    assert!(rt; has_ids(alloc).unwrap_or(sweeps), "ids");
-    assert!(rt; has_pieces(alloc).unwrap_or(sweeps), "base64");
+    assert!(rt; has_two_lines.unwrap_or(sweeps));
+    assert!(rt; has_ids(alloc).unwrap_or(sweeps));
+    assert!(rt; has_pieces(alloc).unwrap_or(sweeps));
 }
 
 #[test]

@@ -194,8 +194,10 @@ fn is_told_again(alloc: Global, row: Row<'_>, reader: &mut MessageText) -> Optio
 fn are_told(alloc: Global, line: &str, reader: &mut MessageText) -> Option<bool> {
     let (given, wanted) = line.split_once(" => ")?;
     let (room, archive) = given.split_once(' ')?;
-    let (archive, wanted) = (bytes_of(alloc, archive)?, bytes_of(alloc, wanted)?);
-    let row = (room.parse().unwrap_or(ALL), &*archive, &*wanted);
+    let room = room.parse().unwrap_or(ALL);
+    let archive = bytes_of(alloc, archive)?;
+    let wanted = bytes_of(alloc, wanted)?;
+    let row = (room, archive.as_slice(), wanted.as_slice());
     let is_new = is_told(alloc, row).unwrap_or(false);
     Some(is_told_again(alloc, row, reader).unwrap_or(false) && is_new)
 }

@@ -63,8 +63,8 @@ fn sweep_fold(rt: HostRuntime) {
 
 #[test]
 fn pieces_are_told(rt: HostRuntime) {
-    assert!(rt; is_one_word("e-mail") && !is_one_word("e-mail-"));
-    assert!(rt; is_part_of_word("e-mail-") && !is_part_of_word(""));
+    let is_one = is_one_word("e-mail") && !is_one_word("e-mail-");
+    assert!(rt; is_one && is_part_of_word("e-mail-") && !is_part_of_word(""));
 }
 
 /// Whether the text of a row has so many words.
