@@ -78,16 +78,11 @@ fn is_done(rt: &HostRuntime, folder: &str, step: &str) -> Option<bool> {
     Some(tells(found, &bytes))
 }
 
-/// A folder for this process, which has none yet.
-fn new_folder(rt: &HostRuntime, process: u32) -> Option<String> {
-    let folder = format!(in rt.alloc(); "/tmp/mairix-runs-{process}").ok()?;
-    fs::create_dir(rt, folder.as_str()).ok()?;
-    Some(folder)
-}
-
 #[test]
 fn the_program_works_in_a_folder(rt: HostRuntime) {
-    let folder = new_folder(&rt, process::id(rt.process())).expect(&rt, "a folder");
+    let process = process::id(rt.process());
+    let folder = format!(in rt.alloc(); "/tmp/mairix-runs-{process}").expect(&rt, "a name");
+    assert!(rt; fs::create_dir(&rt, folder.as_str()).is_ok());
     for step in STEPS.lines() {
         assert!(rt;
             is_done(&rt, folder.as_str(), step).unwrap_or(false),

@@ -41,19 +41,20 @@ struct Setting<'a> {
 }
 
 impl<'a> Setting<'a> {
-    /// What holds below a line that sets something.
-    fn set_by(self, line: &'a str) -> Option<Setting<'a>> {
-        match line.split_once(' ')? {
-            ("words", words) => Some(Setting { words, ..self }),
-            ("rcfile", rcfile) => Some(Setting { rcfile, ..self }),
-            ("archives", archives) => Some(Setting { archives, ..self }),
-            ("index", index) => Some(Setting { index, ..self }),
-            _ => None,
+    /// Whether a line sets something for the rows below it.
+    fn is_set_by(&mut self, line: &'a str) -> bool {
+        match line.split_once(' ') {
+            Some(("words", words)) => self.words = words,
+            Some(("rcfile", rcfile)) => self.rcfile = rcfile,
+            Some(("archives", archives)) => self.archives = archives,
+            Some(("index", index)) => self.index = index,
+            _ => return false,
         }
+        true
     }
 
     /// Whether runs tell what a row says. It is None where memory is wanting.
-    fn is_told(self, alloc: Global, row: &str) -> Option<bool> {
+    fn is_told(&self, alloc: Global, row: &str) -> Option<bool> {
         let given = Given::of(alloc, self.words, row, self.rcfile, self.archives)?;
         match self.index {
             "" => Some(is_told_by_all(alloc, &given)),
@@ -92,14 +93,12 @@ fn rows_are_told(rt: HostRuntime) {
         let mut setting = Setting::default();
         let mut rows = 0u32;
         for line in table.lines() {
-            match setting.set_by(line) {
-                Some(next) => setting = next,
-                None => {
-                    let as_wanted = setting.is_told(rt.alloc(), line);
-                    assert!(rt; as_wanted.unwrap_or(false), "{line}");
-                    rows = rows.saturating_add(1);
-                }
+            if setting.is_set_by(line) {
+                continue;
             }
+            let as_wanted = setting.is_told(rt.alloc(), line);
+            assert!(rt; as_wanted.unwrap_or(false), "{line}");
+            rows = rows.saturating_add(1);
         }
         assert!(rt; rows == count, "{rows} rows");
     }

@@ -45,8 +45,8 @@ type Change<'a> = (usize, &'a [u8], bool);
 
 /// The bytes with such a change.
 fn changed(alloc: Global, bytes: &[u8], (at, new, signs_again): Change) -> Option<Vec<u8>> {
-    let behind = bytes.get(at.checked_add(new.len())?..)?;
-    let mut changed = [bytes.get(..at)?, new, behind].concat(alloc).ok()?;
+    let (front, rest) = bytes.split_at_checked(at)?;
+    let mut changed = [front, new, rest.get(new.len()..)?].concat(alloc).ok()?;
     if signs_again {
         changed.truncate(BODY);
         let digest = Sha256::digest(&changed);
