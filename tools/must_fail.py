@@ -18,12 +18,11 @@ A check looks at the edited functions and what they call, or at those that name 
 one of the whole crate decides.
 
 Without --proved, each crate is checked first as it stands, and the copies go on from what that check kept. With it, FOLDER is a copy of
-the repository whose crates `rt ci` has just proved and left built: its texts are edited, and a check goes on from what the built crate holds.
+the repository whose crates `rt ci` has just proved and left built: its texts are edited, and what a check looks at is proved anew.
 
 Each edit has a line, each crate one with its seconds. The last line is `N passed, M failed`.
 """
 import argparse
-import json
 import os
 import re
 import shutil
@@ -266,17 +265,15 @@ def is_within(name, functions):
 class Room:
     """A copy of a crate, in which edits are tried over what the checks before kept. It may write the clauses that refuse them."""
 
-    def __init__(self, crate, folder, writes):
+    def __init__(self, crate, folder, kept, writes):
         self.crate, self.folder, self.kept = crate, Path(folder), Path(folder) / "kept"
         self.checks, self.writes = 0, writes
         for part in PARTS:
             if (crate.folder / part).is_dir():
                 shutil.copytree(crate.folder / part, self.folder / part)
-        kept, library = crate.folder / "out/incremental", crate.folder / f"out/rlib/{crate.name}.rlib"
         if kept.is_dir():
             shutil.copytree(kept, self.kept)
-        elif library.is_dir():
-            unpack(library, self.kept)
+        self.kept.mkdir(exist_ok=True)
 
     def texts(self, edits):
         """The texts of the files that the edits change together."""
@@ -299,19 +296,6 @@ class Room:
             (self.folder / path).write_text(self.crate.text(path), "utf-8")
         self.checks += 1
         return verdict
-
-
-def unpack(library, kept):
-    """Puts the proved modules that a library holds where a check looks for those that checks before it kept. One that is out of date is proved
-    anew."""
-    build = re.search(r"^rattle-build (\S+)$", (library / "format").read_text(), re.M)[1]
-    folder = kept / build.replace("/", "_")
-    folder.mkdir(parents=True)
-    with open(library / "toolchain/checked.a", "rb") as archive:
-        for name, start, size in map(json.loads, open(library / "toolchain/checked.json", encoding="utf-8")):
-            if "/" not in name:
-                archive.seek(start)
-                (folder / f"{name}.oantt").write_bytes(archive.read(size))
 
 
 def rounds_of(edits):
@@ -394,7 +378,7 @@ def try_crate(crate, files, is_proved, writes):
             return [(False, f"must-fail {crate.name}/{it.name}: NOT tried: the crate isn't proved without it: {why}") for it in files], ""
     edits = [read_edit(it, crate) for it in files]
     with tempfile.TemporaryDirectory(prefix="must-fail-") as folder:
-        room = Room(crate, folder, writes)
+        room = Room(crate, folder, crate.folder / "out/incremental", writes)
         tried = try_edits(room, edits)
     return tried, f"must-fail {crate.name}: {len(files)} edits, {room.checks} checks, {time.monotonic() - started:.0f} s"
 
