@@ -73,7 +73,7 @@ fn read_pattern(alloc: Global, pattern: &str, now: Moment) -> Result<Node, Query
         "m" => read_rest(alloc, Target::OwnId, rest),
         "d" => range_of(rest, now)
             .map(Node::Date)
-            .map_err(|_| QueryFaultKind::BadDate),
+            .or(Err(QueryFaultKind::BadDate)),
         "z" => sizes_of(rest).ok_or(QueryFaultKind::BadSize),
         "F" => read_flags(alloc, rest.as_bytes()),
         letters => match kinds_of(letters.as_bytes()) {

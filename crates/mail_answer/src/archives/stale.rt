@@ -44,7 +44,7 @@ pub(crate) fn check_archives<A: Archives>(
         let Some(archive) = named.next() else {
             unreachable!();
         };
-        let length = archives.length(n).map_err(|_| AnswerFaultKind::Device)?;
+        let length = archives.length(n).or(Err(AnswerFaultKind::Device))?;
         if length != archive.length {
             return Err(AnswerFaultKind::Stale(n));
         }

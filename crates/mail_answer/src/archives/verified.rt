@@ -47,7 +47,7 @@ fn digest_piece<A: Archives>(
 {
     let count = archives
         .read_at(archive, offset, room)
-        .map_err(|_| AnswerFaultKind::Device)?;
+        .or(Err(AnswerFaultKind::Device))?;
     hasher.update(&room[..count]);
     Ok(count)
 }

@@ -115,7 +115,7 @@ impl HeldBytes {
             most,
             self.room.as_mut_slice(),
         )
-        .map_err(|_| AnswerFaultKind::Device)?;
+        .or(Err(AnswerFaultKind::Device))?;
         if n == 0 {
             return Err(AnswerFaultKind::Stale(archive));
         }

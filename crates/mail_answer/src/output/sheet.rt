@@ -76,7 +76,7 @@ impl Sheet {
         while at < self.text.len() {
             let n = out
                 .put(&self.text.as_slice()[at..])
-                .map_err(|_| AnswerFaultKind::OutFailed)?;
+                .or(Err(AnswerFaultKind::OutFailed))?;
             at += n;
             self.sent = self.sent.saturating_add(n as u64);
         }

@@ -46,7 +46,7 @@ pub(crate) fn read_parts(
         }
         Some(Field::Date) => iso_range(rest)
             .map(Node::Date)
-            .map_err(|_| QueryFaultKind::BadDate),
+            .or(Err(QueryFaultKind::BadDate)),
     }
 }
 
