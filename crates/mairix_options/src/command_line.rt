@@ -2,7 +2,7 @@
 ghost use Rattle.std.specs.Prelude.{◌≡◌, [], true, false, map, option_map, unwrap_or, is_ok, IfOk, codes, string_bytes};
 ghost use Rattle.clap.specs.Words.{app_of, rule_of, found_of, rows_of, first_of, all_of};
 ghost use Rattle.contract_words.specs.Answers.{Gives};
-ghost use Rattle.mairix_options.specs.CommandLine.{bare_flag, long_flag, rcfile_option, mfolder_option, pattern_argument, bare_command, command, flag, parse, plan, plan_in, one_format, fault_of_kind, error_refusal};
+ghost use Rattle.mairix_options.specs.CommandLine.{bare_flag, rcfile_option, mfolder_option, pattern_argument, bare_command, command, flag, parse, plan, plan_in, one_format, fault_of_kind, error_refusal};
 ghost use Rattle.mairix_options.specs.Refusals.{refusal};
 
 use crate::or_memory::OrMemory;
@@ -203,19 +203,17 @@ fn fault_of_kind(kind: ErrorKind) -> OrMemory<UsageFault>
 fn command<'a>(alloc: Global) -> Result<Command<'a>, AllocError>
     ensures { IfOk result (λ c. app_of c ≡ command) }
 {
-    let args = vec![in alloc;
-        rcfile_option(alloc),
-        flag(alloc, "raw", OUTPUT, RAW).short('r'),
-        flag(alloc, "excerpt", OUTPUT, EXCERPT).short('x'),
-        flag(alloc, "threads", SEARCHING, THREADS).short('t'),
-        mfolder_option(alloc),
-        named_flag(alloc, "stdout", OUTPUT, STDOUT),
-        named_flag(alloc, "boolean", SEARCHING, BOOLEAN),
-        named_flag(alloc, "once", SEARCHING, ONCE),
-        named_flag(alloc, "verify", SEARCHING, VERIFY),
-        pattern_argument(alloc),
-    ]?;
-    bare_command(alloc).args(args)
+    bare_command(alloc)
+        .arg(rcfile_option(alloc))?
+        .arg(flag(alloc, "raw", OUTPUT, RAW).short('r'))?
+        .arg(flag(alloc, "excerpt", OUTPUT, EXCERPT).short('x'))?
+        .arg(flag(alloc, "threads", SEARCHING, THREADS).short('t'))?
+        .arg(mfolder_option(alloc))?
+        .arg(flag(alloc, "stdout", OUTPUT, STDOUT).long("stdout"))?
+        .arg(flag(alloc, "boolean", SEARCHING, BOOLEAN).long("boolean"))?
+        .arg(flag(alloc, "once", SEARCHING, ONCE).long("once"))?
+        .arg(flag(alloc, "verify", SEARCHING, VERIFY).long("verify"))?
+        .arg(pattern_argument(alloc))
 }
 
 fn bare_command<'a>(alloc: Global) -> Command<'a>
@@ -270,11 +268,4 @@ fn flag<'a>(alloc: Global, id: &'a str, group: &'a str, help: &'a str) -> Arg<'a
         .action(ArgAction::SetTrue)
         .help_heading(group)
         .help(help)
-}
-
-fn named_flag<'a>(alloc: Global, name: &'a str, group: &'a str, help: &'a str) -> Arg<'a>
-    ensures rule { rule_of result ≡ long_flag name.entry.now }
-    ensures local { result.global ≡ false }
-{
-    flag(alloc, name, group, help).long(name)
 }
