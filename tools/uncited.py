@@ -1,11 +1,12 @@
 #!/usr/bin/env python3
-"""Finds lemmas that no proof, definition or contract cites, names that a proof file imports and doesn't use, and proof files that say nothing.
+"""Finds lemmas and records that no proof, definition or contract cites, names that a proof file imports and doesn't use, and proof files that
+say nothing. What a crate's proofs make public can be cited by the crates that stand on it; anything else only in its own file.
 
     tools/uncited.py [--remove] [CRATE ..]
 
-A worked row (proofs/../Rows...antt) is cited by nothing, and an answer only by its goal: these don't count. With --remove lemmas and names are
-taken out until none is left; the prover then has to look at the crates again. The last line is `N passed, M failed`: the crates without such
-findings, and those with.
+A worked row (its file has Rows in its name) is cited by nothing, and an answer only by its goal: these don't count. With --remove lemmas and
+names are taken out until none is left; the prover then has to look at the crates again. The last line is `N passed, M failed`: the crates without
+such findings, and those with.
 """
 import argparse
 import re
@@ -13,9 +14,13 @@ import sys
 from collections import Counter
 from pathlib import Path
 
+sys.dont_write_bytecode = True
+from crates import Crates
+
 TOP = Path(__file__).resolve().parent.parent
 # A lemma or a definition with a body: its head, and each of its clauses stands in the same column.
-HEAD = re.compile(r"^( *)(?:pub |abbrev |unfoldable |opaque )*([^\s():{}◌]+) :")
+HEAD = re.compile(r"^( *)((?:pub |abbrev |unfoldable |opaque )*)([^\s():{}◌]+) :")
+RECORD = re.compile(r"^( *)((?:pub )?record )([^\s():{}◌]+)")
 WORD = re.compile(r"[^\s(){}\[\],;:.|]+")
 IMPORT = re.compile(r"^((?:unfoldable )?(?:pub )?use [\w.+-]+\.\{)([^}]*)\}$")
 # A line that is neither a comment nor an import.
@@ -29,6 +34,10 @@ def crate_of(file):
     return file.relative_to(TOP).parts[1]
 
 
+def is_proof(file):
+    return file.relative_to(TOP).parts[2] == "proofs"
+
+
 def words_of(text):
     return Counter(WORD.findall(text))
 
@@ -39,10 +48,13 @@ def begins_with(line, indent, name):
 
 
 class Lemma:
-    """A lemma of a file: its name, its lines from the comment in front of it on, and how often it names itself to be what it is."""
+    """A lemma or a record of a file: its name, whether it is public, its lines from the comment in front of it on, and how often it names itself
+    to be what it is."""
 
-    def __init__(self, lines, at, indent, name):
+    def __init__(self, lines, at, head):
+        indent, words, name = head.groups()
         self.name, self.start, self.end = name, at, at + 1
+        self.is_public, self.is_record = "pub " in words, "record " in words
         while self.start and lines[self.start - 1].startswith(f"{indent}-- ") and not lines[self.start - 1].startswith(f"{indent}-- ----"):
             self.start -= 1
         self.own = 1
@@ -56,13 +68,13 @@ class Lemma:
         return deeper or line.startswith(f"{indent}unfolding ") or begins_with(line, indent, self.name)
 
     def has_body(self):
-        return self.own > 1
+        return self.is_record or self.own > 1
 
 
 def lemmas_of(lines):
-    """The lemmas of a file that have a body: a field of a record has none."""
-    heads = [(at, HEAD.match(line)) for at, line in enumerate(lines)]
-    found = [Lemma(lines, at, head[1], head[2]) for at, head in heads if head]
+    """The lemmas and records of a file that have a body: a field of a record has none."""
+    heads = [(at, RECORD.match(line) or HEAD.match(line)) for at, line in enumerate(lines)]
+    found = [Lemma(lines, at, head) for at, head in heads if head]
     return [it for it in found if it.has_body()]
 
 
@@ -72,18 +84,39 @@ class Texts:
     def __init__(self):
         files = [it for part in ("src", "specs", "proofs") for it in sorted(TOP.glob(f"crates/*/{part}/**/*")) if it.suffix in (".rt", ".antt")]
         self.texts = {it: it.read_text("utf-8") for it in files}
-        self.words = Counter()
-        for text in self.texts.values():
-            self.words.update(words_of(text))
+        crates = Crates(TOP)
+        self.above = {name: [it for it in crates.libraries if name in crates.below(it)] for name in crates.libraries}
+        # By crates, of all their files and of their proofs.
+        self.words = {name: Counter() for name in crates.libraries}
+        self.proved = {name: Counter() for name in crates.libraries}
+        for file, text in self.texts.items():
+            self.add(file, words_of(text))
+
+    def add(self, file, words):
+        self.words[crate_of(file)] += words
+        if is_proof(file):
+            self.proved[crate_of(file)] += words
+
+    def take(self, file, words):
+        self.words[crate_of(file)] -= words
+        self.proved[crate_of(file)] -= words
 
     def proofs(self, crates):
-        return [it for it in self.texts if it.relative_to(TOP).parts[2] == "proofs" and (not crates or crate_of(it) in crates)]
+        return [it for it in self.texts if is_proof(it) and (not crates or crate_of(it) in crates)]
 
     def uncited(self, file):
         """The lemmas of a file that nothing cites, and the names that it imports in vain."""
         lines = self.texts[file].split("\n")
-        lemmas = [] if file.name in NO_LEMMAS | HANDING_ON or file.name.startswith("Rows") else lemmas_of(lines)
-        return [it for it in lemmas if self.words[it.name] <= it.own], self.unused_imports(file)
+        lemmas = [] if file.name in NO_LEMMAS | HANDING_ON or "Rows" in file.name else lemmas_of(lines)
+        own = words_of(self.texts[file])
+        return [it for it in lemmas if self.count(file, it, own) <= it.own], self.unused_imports(file)
+
+    def count(self, file, lemma, own):
+        """How often a lemma's name stands where the lemma can be cited, given the words of its file."""
+        if not lemma.is_public:
+            return own[lemma.name]
+        crate = crate_of(file)
+        return self.words[crate][lemma.name] + sum(self.proved[it][lemma.name] for it in self.above[crate])
 
     def unused_imports(self, file):
         text = self.texts[file]
@@ -108,8 +141,8 @@ class Texts:
             del lines[lemma.start : end]
         kept = [self.without(line, set(names)) for line in lines]
         text = re.sub(r"\n\n\n+", "\n\n", "\n".join(it for it in kept if it is not None)).rstrip("\n") + "\n"
-        self.words += words_of(text)
-        self.words -= words_of(self.texts[file])
+        self.take(file, words_of(self.texts[file]))
+        self.add(file, words_of(text))
         self.texts[file] = text
         file.write_text(text, "utf-8")
 

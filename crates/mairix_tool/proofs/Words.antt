@@ -41,7 +41,7 @@ pub use Rattle.mairix_tool.specs.Asked.{Wanted, asked, asked_rc, query_asked, wa
 pub use Rattle.mairix_tool.specs.Chosen.{facts_of_message, ids_in, is_kind, words_of}
 pub use Rattle.mairix_tool.specs.MailOfArchives.{Numbered, link_ids, mail_in, nobody, numbered_at, numbered_messages, shape, shape_of, share_id}
 pub use Rattle.mairix_tool.specs.OldTables.{HasDigests, ServesFor, but_digests, keys_but_names, old_table, without_digest}
-pub use Rattle.mairix_tool.specs.Replies.{Answer, AreSoundBefore, IsConsistent, refused, status_of_count}
+pub use Rattle.mairix_tool.specs.Replies.{Answer, refused, status_of_count}
 pub use Rattle.mairix_tool.specs.Runs.{IsAnswer, IsCountedWhere, IsForNoOtherCause, IsFoundIn, IsIndexRefusal, IsOldOr, IsOnceReply, IsProvedAndTold, IsRefusedAs, IsReply, IsStaleOr, IsStoredReply, IsThisOrMemory, IsTold, IsToldOf, IsUnindexed, RepliesBy, TellsProved, WereVerified, answered, fault_of_answer_kind, first_renamed, is_too_old, renamed_archive, reply_of, unproved_archive}
 pub use Rattle.mairix_tool.specs.declared.reply.Reply.{Reply}
 pub use Rattle.mbox_cutter.specs.Archives.{Message, cut, messages, span_length, text}
@@ -49,7 +49,7 @@ unfoldable pub use Rattle.mime_text.specs.MessageFacts.{facts_of}
 pub use Rattle.mime_text.specs.Sinks.{Pair}
 pub use Rattle.mime_text.specs.Texts.{texts_of_message}
 pub use Rattle.mime_text.specs.declared.header.facts.Facts.{Facts}
-pub use Rattle.run_faults.specs.Faults.{IsOfAnswer, IsOnceFault, IsSearchFault, is_early, is_failed_archives, is_failed_out, is_failed_source, is_failure, is_of_indexing, refusal_of}
+pub use Rattle.run_faults.specs.Faults.{IsOfAnswer, is_failure, refusal_of}
 pub use Rattle.run_faults.specs.declared.fault.Fault.{Fault}
 pub use Rattle.std.proofs.Common.{All, Bool, Err, IfErr, IfOk, IfSome, List, None, Ok, Option, Result, Some, [], add-one, ap, append-nil, append_assoc, ap₂, arith, bytes_eq, cond, drop, drop-cons, eq-eqb, false, filter, flat_map, get_or, if◌then◌else◌, inl, inr, length, length-append, length-drop, map, min, nat_eq, not, refl, string_bytes, subst, suc, sym, take, true, unwrap_or, vec_len, zero, ℕ, ◌&&◌, ◌++◌, ◌+◌, ◌-◌, ◌<◌, ◌==◌, ◌^◌, ◌||◌, ◌∙◌, ◌∷◌, ◌≡◌, ◌≤◌}
 pub use Rattle.std.proofs.Math.Bool.{or-false}

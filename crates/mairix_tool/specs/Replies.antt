@@ -26,10 +26,10 @@ refused fault = record { text = []; reply = record { status = status_of_fault fa
 
 -- ---- what a run answered, against that
 
--- a fault has its status and no messages, an answer the status of its number
-abbrev pub IsConsistent : Reply → Option Fault → Type 0
-IsConsistent reply None = reply.status ≡ status_of_count reply.messages
-IsConsistent reply (Some fault) = (reply.status ≡ status_of_fault fault) × (reply.messages ≡ 0)
+-- a fault is one that such a run can have, with its status and no messages; an answer has the status of its number
+abbrev pub IsConsistent : (Fault → Type 0) → Reply → Option Fault → Type 0
+IsConsistent CanHave reply None = reply.status ≡ status_of_count reply.messages
+IsConsistent CanHave reply (Some fault) = CanHave fault × (reply.status ≡ status_of_fault fault) × (reply.messages ≡ 0)
 
 -- what words, rcfile and query are refused with, whatever the devices hold, unless memory is wanted
 abbrev pub RefusesAsked : Result Wanted Fault → Option Fault → Type 0

@@ -81,8 +81,7 @@ pub fn once_run<S: Source, A: Archives, O: Out>(
     // A refusal of words, rcfile or query is answered whatever the devices hold. Each fault is one that such a run can have; it
     // has its status and no messages. An answer has 0 with messages and 1 without.
     ensures no_other_cause { RefusesAsked (asks words.now rc.now now) result.fault }
-    ensures kinds { IfSome result.fault IsOnceFault }
-    ensures status { IsConsistent result result.fault }
+    ensures status { IsConsistent IsOnceFault result result.fault }
 
     // Each device's count rises by one exactly where its failure is answered.
     ensures source_failed { CountsSources result.fault

@@ -97,8 +97,7 @@ pub fn search_run<A: Archives, O: Out>(
     // a search can have; it has its status and no messages. An answer has 0 with messages and 1 without.
     ensures no_other_cause { IfSome result.fault
         (IsForNoOtherCause (asks words.now rc.now now) index.now) }
-    ensures kinds { IfSome result.fault IsSearchFault }
-    ensures status { IsConsistent result result.fault }
+    ensures status { IsConsistent IsSearchFault result result.fault }
 
     // Each device's count rises by one exactly where its failure is answered.
     ensures archives_failed { Counted (is_failed_archives result.fault)

@@ -1,5 +1,5 @@
 -- A run that searches the archives that it indexed replies what their own messages say.
-use Rattle.mairix_tool.proofs.Words.{◌≡◌, ℕ, false, append-nil, IfSome, List, [], ◌∷◌, map, length, None, Some, Option, Result, Ok, Err, IfOk, refl, ap, subst, arith, inl, inr, Appends, Sends, Table, Search, answer_text, stale_archive, some-chosen, Fault, Reply, Mbox, table, AreSound, mboxes, Refuses, IsArchivesFault, Wanted, is_failure, is_failed_source, is_early, is_of_indexing, IsOnceFault, IsSearchFault, is_failed_out, is_failed_archives, Answer, refused, IsConsistent, AreSoundBefore, IsAnswer, IsTold, IsStaleOr, IsFoundIn, IsReply, IsOnceReply, IsThisOrMemory, IsUnindexed, RepliesBy, reply_of, answered, sound-not-refused}
+use Rattle.mairix_tool.proofs.Words.{◌≡◌, ℕ, false, append-nil, List, [], ◌∷◌, map, length, None, Some, Option, Result, Ok, Err, IfOk, refl, ap, subst, arith, inl, inr, Appends, Sends, Table, Search, answer_text, stale_archive, some-chosen, Fault, Reply, Mbox, table, AreSound, mboxes, Refuses, IsArchivesFault, Wanted, is_failure, Answer, refused, IsAnswer, IsTold, IsStaleOr, IsFoundIn, IsReply, IsOnceReply, IsThisOrMemory, IsUnindexed, RepliesBy, reply_of, answered, sound-not-refused}
 use Rattle.run_faults.specs.declared.fault.Fault.TheVariants.{Stale}
 use Rattle.mairix_tool.proofs.TableLaws.MailSame.{chosen-same, chosen-back, shape-same, not-stale}
 use Rattle.index_run.proofs.ArchivesDecided.{decided, none-sound}
@@ -89,22 +89,3 @@ sound-once w bytes held t reply old new sound same given = grind (arith, replies
 pub same-bytes : (asked : Result Wanted Fault) (bytes : List (List ℕ)) (reply : Reply) (old new : Option (List ℕ)) → IfOk asked (λ w. length w.paths ≡ length bytes)
     → RepliesBy (IsOnceReply asked bytes bytes) reply old new → RepliesBy (IsReply asked bytes) reply old new
 same-bytes asked bytes reply old new many given = grind (arith, replies-as, once-reply, reply-once)
-
--- ---- what the last step may answer
-
-pub record IsLast (r : Result ℕ Fault) : Type 0 where
-  pub source : (n : ℕ) → is_failed_source n (reply_of r).fault ≡ false
-  pub early : is_early (reply_of r).fault ≡ false
-  pub indexing : is_of_indexing (reply_of r).fault ≡ false
-  pub once : IfSome (reply_of r).fault IsOnceFault
-  pub search : IfSome (reply_of r).fault IsSearchFault
-  pub status : IsConsistent (reply_of r) (reply_of r).fault
-  pub first : (w : Wanted) (bytes : List (List ℕ)) → AreSoundBefore (Ok w) bytes (reply_of r).fault
-
--- ---- what may be answered before the search
-
--- of the faults of words, rcfile and query, and of those of indexing
-pub record IsFirst (f : Fault) : Type 0 where
-  pub archives : is_failed_archives (Some f) ≡ false
-  pub out : is_failed_out (Some f) ≡ false
-  pub once : IsOnceFault f
