@@ -9,7 +9,7 @@ use std::marker::Model;
 const LAST_SECOND: u64 = 253_402_300_799;
 
 /// A second of UTC from 1970-01-01T00:00:00Z to 9999-12-31T23:59:59Z.
-#[derive(Clone, Copy, Debug, PartialEq, Eq, PartialOrd, Ord)]
+#[derive(Clone, Copy)]
 pub struct Moment {
     second: u64,
 }

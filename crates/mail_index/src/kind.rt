@@ -6,7 +6,7 @@ use mail_words::TextKind;
 /// What a key is of: a word of one of the kinds of text, a message's own id, or an id that links it to a thread.
 ///
 /// Kinds stand in an index file in the order of their numbers there, 1 to 9.
-#[derive(Clone, Copy, Debug, PartialEq, Eq)]
+#[derive(Clone, Copy)]
 pub enum Kind {
     /// A folded word of a text of this kind.
     Text(TextKind),

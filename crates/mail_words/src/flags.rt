@@ -1,7 +1,7 @@
 //! What a mail program notes of a message.
 
 /// A mark that a message may have, as the letters of its Status and X-Status fields say.
-#[derive(Clone, Copy, Debug, PartialEq, Eq)]
+#[derive(Clone, Copy)]
 pub enum Flag {
     /// It was read: the letter `R`.
     Seen,
@@ -12,7 +12,7 @@ pub enum Flag {
 }
 
 /// Which of the three marks a message has.
-#[derive(Clone, Copy, Debug, PartialEq, Eq)]
+#[derive(Clone, Copy)]
 pub struct Flags {
     /// It was read.
     pub seen: bool,

@@ -3,7 +3,7 @@
 use run_faults::{DONE, Fault, NO_MESSAGE};
 
 /// What a run answers beside the text that goes out.
-#[derive(Clone, Copy, Debug, PartialEq, Eq)]
+#[derive(Clone, Copy)]
 pub struct Reply {
     /// The exit status: 0 with messages, 1 without one, and above 1 with a fault (but Help and Version have 0).
     pub status: u8,
