@@ -1,8 +1,8 @@
 //! The texts of a header's fields, and of the name of its entity.
-ghost use Rattle.std.specs.Prelude.{◌≡◌, ◌≤◌, ◌*◌, length, option_map, if◌then◌else◌, IfOk, IfSome, OnOk, string_bytes};
+ghost use Rattle.std.specs.Prelude.{◌≡◌, ◌≤◌, ◌*◌, length, option_map, IfOk, IfSome, OnOk, string_bytes};
 ghost use Rattle.header_text.specs.Headers.{fields_size, most_in_header};
 ghost use Rattle.header_text.specs.Unfolding.{unfolded as unfolded_of};
-ghost use Rattle.mime_text.specs.Names.{name_text};
+ghost use Rattle.mime_text.specs.Names.{name_text, unless_empty};
 ghost use Rattle.mime_text.specs.FieldTexts.{kind_of_field as kind_of_field_of, text_of_body};
 ghost use Rattle.mime_text.specs.Limits.{most_in_header_text};
 
@@ -15,19 +15,20 @@ use std::alloc::{AllocError, Global};
 pub(crate) fn kind_of_field(name: &[u8]) -> Option<TextKind>
     ensures { result ≡ kind_of_field_of name.now }
 {
-    if is_named(name, b"to") {
-        Some(TextKind::To)
+    let kind = if is_named(name, b"to") {
+        TextKind::To
     } else if is_named(name, b"cc") {
-        Some(TextKind::Cc)
+        TextKind::Cc
     } else if is_named(name, b"bcc") {
-        Some(TextKind::Bcc)
+        TextKind::Bcc
     } else if is_named(name, b"from") {
-        Some(TextKind::From)
+        TextKind::From
     } else if is_named(name, b"subject") {
-        Some(TextKind::Subject)
+        TextKind::Subject
     } else {
-        None
-    }
+        return None;
+    };
+    Some(kind)
 }
 
 /// Writes a body in one line (RFC 5322, 2.2.3), and lends it.
@@ -53,8 +54,7 @@ fn write_text(
     unfolded.clear();
     unfold_into(body, unfolded)?;
     into.clear();
-    decode_words_into(unfolded, scratch, into)?;
-    Ok(())
+    decode_words_into(unfolded, scratch, into)
 }
 
 /// Reads the bodies of fields and the names of entities, into memory that is used again for each and bounded by what a header
@@ -105,11 +105,11 @@ impl FieldReader {
         Ok(self.text.as_str())
     }
 
-    /// Reads the name of a header's entity, and keeps nothing where memory is wanting. The answer is whether it has one.
-    fn take_name(&mut self, fields: Fields<'_>) -> Result<bool, AllocError>
+    /// Reads the name of a header's entity, which is empty where it has none, and keeps nothing where memory is wanting.
+    fn take_name(&mut self, fields: Fields<'_>) -> Result<(), AllocError>
         requires { fields_size fields ≤ most_in_header }
-        ensures { IfOk result (λ found. (if found then Some (string_bytes self.new.text) else None)
-            ≡ name_text fields.entry) }
+        ensures { OnOk result (option_map (λ _. string_bytes self.new.text)
+            (unless_empty (Some self.new.unfolded.items)) ≡ name_text fields.entry) }
     {
         let outcome = write_name(
             fields,
@@ -133,6 +133,7 @@ impl FieldReader {
         ensures size { IfOk result (λ name. IfSome name
             (λ text. length text.now ≤ most_in_header_text)) }
     {
-        Ok(self.take_name(fields)?.then_some(self.text.as_str()))
+        self.take_name(fields)?;
+        Ok((!self.unfolded.is_empty()).then_some(self.text.as_str()))
     }
 }

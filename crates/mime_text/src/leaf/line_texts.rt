@@ -61,10 +61,8 @@ impl LineTexts {
         if !self.is_html {
             return self.buffers.show_plain(self.charset, line, sink);
         }
-        self.is_open = self
-            .buffers
-            .show_html(self.charset, self.is_open, line, sink)?;
-        Ok(())
+        self.buffers
+            .show_html(self.charset, &mut self.is_open, line, sink)
     }
 
     /// Gives a sink the text of the next line.

@@ -15,7 +15,7 @@ const SPACES: &str = "                                                          
 pub(crate) fn is_free_of_tags(open_before: bool, text: &str) -> bool
     ensures text { result ≡ true → encode_utf8_all (blanked open_before (chars text.now))
         ≡ text.now }
-    ensures is_open { result ≡ true → is_open_behind open_before (chars text.now) ≡ false }
+    ensures is_open { result ≡ true → is_open_behind open_before (chars text.now) ≡ open_before }
 {
     if open_before {
         return false;

@@ -110,29 +110,27 @@ impl TextBuffers {
         write_blanked(open_before, self.text.as_str(), &mut self.blanked)
     }
 
-    /// Gives a sink the text of a line without its tags. The answer is whether a tag is open behind it.
+    /// Gives a sink the text of a line without its tags, and keeps whether a tag is open behind it.
     pub(crate) fn show_html<S: TextSink>(
         &mut self,
         charset: Charset,
-        open_before: bool,
+        is_open: &mut bool,
         line: &[u8],
         sink: &mut S,
-    ) -> Result<bool, TextFault>
+    ) -> Result<(), TextFault>
         requires { length line.now ≤ most_in_line }
         ensures shows { Shows S.takes S.refuses (encode_utf8_all
-            (blanked open_before (chars (text_of charset line.now)))) result sink.old sink.new }
-        ensures is_open { IfOk result (λ behind. behind
-            ≡ is_open_behind open_before (chars (text_of charset line.now))) }
+            (blanked is_open.old (chars (text_of charset line.now)))) result sink.old sink.new }
+        ensures is_open { OnOk result (is_open.new
+            ≡ is_open_behind is_open.old (chars (text_of charset line.now))) }
     {
         let own = own_text(charset, line);
         if let Some(text) = own
-            && is_free_of_tags(open_before, text)
+            && is_free_of_tags(*is_open, text)
         {
-            show(text, sink)?;
-            return Ok(false);
+            return show(text, sink);
         }
-        let behind = self.write_blanked_line(charset, open_before, line, own)?;
-        show(self.blanked.as_str(), sink)?;
-        Ok(behind)
+        *is_open = self.write_blanked_line(charset, *is_open, line, own)?;
+        show(self.blanked.as_str(), sink)
     }
 }

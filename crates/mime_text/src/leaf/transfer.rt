@@ -5,7 +5,7 @@ ghost use Rattle.mime_text.specs.Types.{transfer_named};
 use header_text::is_named;
 
 /// How the bytes of a body were made into lines (RFC 2045, 6).
-#[derive(Clone, Copy, Debug, PartialEq, Eq)]
+#[derive(Clone, Copy)]
 pub enum TransferEncoding {
     /// They are the lines.
     Identity,

@@ -96,13 +96,14 @@ fn read_shape(default: DefaultType, value: &[u8], buffer: &mut Vec<u8>) -> Resul
     if !is_multipart(name) {
         return Ok(shape_of_single(name));
     }
-    if read_parameter(value, b"boundary", buffer)?
-        && let Some(boundary) = Boundary::new(buffer)
-    {
-        let default = default_in(name);
-        return Ok(Shape::Multipart { boundary, default });
-    }
-    Ok(Shape::Text { is_html: false })
+    read_parameter(value, b"boundary", buffer)?;
+    Ok(match Boundary::new(buffer) {
+        Some(boundary) => Shape::Multipart {
+            boundary,
+            default: default_in(name),
+        },
+        None => Shape::Text { is_html: false },
+    })
 }
 
 /// The charset that a Content-Type field's value names.
@@ -110,14 +111,34 @@ fn read_shape(default: DefaultType, value: &[u8], buffer: &mut Vec<u8>) -> Resul
 fn read_charset(value: &[u8], buffer: &mut Vec<u8>) -> Result<Charset, AllocError>
     ensures { IfOk result (λ charset. charset ≡ charset_of_value value.now) }
 {
-    if read_parameter(value, b"charset", buffer)? {
-        Ok(Charset::of(buffer))
-    } else {
-        Ok(Charset::of(b""))
-    }
+    read_parameter(value, b"charset", buffer)?;
+    Ok(Charset::of(buffer))
 }
 
 impl EntityType {
+    /// What the fields of an entity's header say. What the buffers hold then isn't said.
+    fn read(
+        default: DefaultType,
+        fields: Fields<'_>,
+        value: &mut Vec<u8>,
+        buffer: &mut Vec<u8>,
+    ) -> Result<Self, AllocError>
+        ensures shape { IfOk result (λ entity. entity.shape ≡ shape_of default fields.entry) }
+        ensures charset { IfOk result (λ entity. entity.charset ≡ charset_in fields.entry) }
+        ensures transfer { IfOk result (λ entity. entity.transfer ≡ transfer_in fields.entry) }
+    {
+        read_first_value(fields.again(), b"content-transfer-encoding", value)?;
+        let transfer = TransferEncoding::named(value);
+        read_first_value(fields, b"content-type", value)?;
+        let charset = read_charset(value, buffer)?;
+        let shape = read_shape(default, value, buffer)?;
+        Ok(EntityType {
+            shape,
+            charset,
+            transfer,
+        })
+    }
+
     /// What the header of an entity says, where the lines are those that it was given.
     pub fn of(alloc: Global, default: DefaultType, header: &Header) -> Result<Self, AllocError>
         ensures shape { IfOk result (λ entity. (ls : List (List ℕ)) → HasLines header.now ls
@@ -129,15 +150,6 @@ impl EntityType {
     {
         let mut value = Vec::new(alloc);
         let mut buffer = Vec::new(alloc);
-        read_first_value(header.fields(), b"content-type", &mut value)?;
-        let shape = read_shape(default, &value, &mut buffer)?;
-        let charset = read_charset(&value, &mut buffer)?;
-        read_first_value(header.fields(), b"content-transfer-encoding", &mut value)?;
-        let transfer = TransferEncoding::named(&value);
-        Ok(EntityType {
-            shape,
-            charset,
-            transfer,
-        })
+        EntityType::read(default, header.fields(), &mut value, &mut buffer)
     }
 }

@@ -6,6 +6,7 @@ ghost use Rattle.header_text.specs.EncodedWords.{after as after_of};
 ghost use Rattle.mime_text.specs.Parts.{are_blanks as are_blanks_of};
 ghost use Rattle.mime_text.specs.Frames.{dash_dash, dashes, delimiter_of, kind_behind};
 
+use header_text::after_blanks;
 use mbox_cutter::without_break;
 
 /// What a delimiter line does to its multipart.
@@ -28,7 +29,7 @@ fn after<'a>(front: &[u8], bytes: &'a [u8]) -> Option<&'a [u8]>
 fn are_blanks(bytes: &[u8]) -> bool
     ensures { result ≡ list_all is_blank_of bytes.now }
 {
-    bytes.iter().all(|b| matches!(b, b' ' | b'\t'))
+    after_blanks(bytes).is_empty()
 }
 
 /// What follows the two dashes that a delimiter line begins with, without the line break.
@@ -57,11 +58,9 @@ pub(crate) fn delimiter_behind(boundary: &[u8], text: &[u8]) -> Option<Delimiter
         return None;
     }
     let rest = after(boundary, text)?;
-    if after(b"--", rest).is_some_and(are_blanks) {
-        Some(Delimiter::Closing)
-    } else if are_blanks(rest) {
-        Some(Delimiter::Next)
-    } else {
-        None
+    match after(b"--", rest) {
+        Some(end) if are_blanks(end) => Some(Delimiter::Closing),
+        _ if are_blanks(rest) => Some(Delimiter::Next),
+        _ => None,
     }
 }

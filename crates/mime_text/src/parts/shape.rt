@@ -3,7 +3,7 @@
 use crate::parts::boundary::Boundary;
 
 /// The type of an entity that doesn't name its own.
-#[derive(Clone, Copy, Debug, PartialEq, Eq)]
+#[derive(Clone, Copy)]
 pub enum DefaultType {
     /// text/plain.
     TextPlain,
