@@ -21,6 +21,11 @@ after-tested [] bytes = refl
 after-tested (c ∷ front) [] = refl
 after-tested (c ∷ front) (x ∷ bytes) = grind (arith, after-tested front bytes)
 
+-- what begins with two dashes isn't blank
+pub not_blank : (rest end : List ℕ) → after dash_dash rest ≡ Some end → are_blanks (Some rest) ≡ false
+not_blank [] end h = absurd (cc h)
+not_blank (x ∷ xs) end h = grind arith
+
 -- what `strip_prefix` answers
 pub after-stripped : (front bytes : List ℕ) (r : Option (Bor (List ℕ)))
     → MatchOption r (bytes_eq (take (length front) bytes) front ≡ false) (λ x. (bytes_eq (take (length front) bytes) front ≡ true) × (x.now ≡ drop (length front) bytes) × (length x.now + length front ≡ length bytes))

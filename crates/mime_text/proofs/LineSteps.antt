@@ -62,7 +62,7 @@ rest-step b rest later n fits is next within = grind (arith, length-drop, drop-d
 
 module _ {S : Type 0} (takes : S → TextKind → List ℕ → S → Type 0) (refuses : S → TextKind → List ℕ → SinkFault → S → Type 0) where
   -- a line that is given
-  pub hands-line : {T : Type 0} (old new : LineTexts) (line : List ℕ) (result : Result T TextFault) (s t : S) → Shows takes refuses (line_text old.charset old.is_html old.is_open line) result s t
+  pub hands-line : {T : Type 0} (old new : LineTexts) (line : List ℕ) (result : Result T TextFault) (s t : S) → Shows takes refuses kind.Body (line_text old.charset old.is_html old.is_open line) result s t
       → new.charset ≡ old.charset → new.is_html ≡ old.is_html → OnOk result (new.is_open ≡ is_open_behind_line old.charset old.is_html old.is_open line)
       → Hands takes refuses (λ ls. pairs_of_lines old (line ∷ ls)) (λ ls. pairs_of_lines new ls) result s t
   hands-line old new line (Ok x) s t h e f g =

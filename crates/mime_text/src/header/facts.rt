@@ -5,7 +5,7 @@ ghost use Rattle.header_text.specs.Headers.{fields_size, most_in_header};
 ghost use Rattle.mime_text.specs.MessageFacts.{date_text_of, flags_of, own_id_of, ids_of_fields, first_of, is_status as is_status_of, is_linking as is_linking_of, IsSizedId, HasSizedIds};
 ghost use Rattle.header_text.specs.Ids.{ids_of};
 
-use crate::header::field_text::{FieldReader, unfold_anew};
+use crate::header::field_text::FieldReader;
 use crate::header::owned::{DateText, MessageId, MessageIds};
 use header_text::{Fields, Header, is_named, message_ids};
 use mail_words::Flags;
@@ -42,7 +42,7 @@ impl Facts {
         ensures sizes { IfOk result HasSizedIds }
     {
         Ok(Facts {
-            flags: flags(alloc, header.fields())?,
+            flags: flags(header.fields()),
             ids: linking_ids(alloc, header.fields())?,
             own_id: own_id(alloc, header.fields())?,
             date_text: date_text(alloc, header.fields(), reader)?,
@@ -128,8 +128,8 @@ fn date_text(
     let Some(body) = fields.first_body(b"date") else {
         return Ok(None);
     };
-    let text = reader.read(body)?;
-    Ok(Some(DateText::new(alloc, text)?))
+    let text = String::from_str(alloc, reader.read(body)?)?;
+    Ok(Some(DateText::of(text)))
 }
 
 /// Whether mail programs note flags in a field of this name.
@@ -140,10 +140,9 @@ fn is_status(name: &[u8]) -> bool
 }
 
 /// The flags that the values of the Status and X-Status fields have together.
-fn flags(alloc: Global, fields: Fields<'_>) -> Result<Flags, AllocError>
-    ensures { IfOk result (λ flags. flags ≡ flags_of fields.entry) }
+fn flags(fields: Fields<'_>) -> Flags
+    ensures { result ≡ flags_of fields.entry }
 {
-    let mut unfolded = Vec::new(alloc);
     let mut flags = Flags {
         seen: false,
         replied: false,
@@ -151,13 +150,13 @@ fn flags(alloc: Global, fields: Fields<'_>) -> Result<Flags, AllocError>
     };
     for field in fields {
         if is_status(field.name) {
-            let value = unfold_anew(field.body, &mut unfolded)?;
-            flags.seen |= value.contains(&b'R');
-            flags.replied |= value.contains(&b'A');
-            flags.flagged |= value.contains(&b'F');
+            // A line break is none of these letters, so the body isn't unfolded.
+            flags.seen |= field.body.contains(&b'R');
+            flags.replied |= field.body.contains(&b'A');
+            flags.flagged |= field.body.contains(&b'F');
         }
     }
-    Ok(flags)
+    flags
 }
 
 /// The first id of a body.

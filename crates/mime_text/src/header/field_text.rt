@@ -31,15 +31,6 @@ pub(crate) fn kind_of_field(name: &[u8]) -> Option<TextKind>
     Some(kind)
 }
 
-/// Writes a body in one line (RFC 5322, 2.2.3), and lends it.
-pub(crate) fn unfold_anew<'a>(body: &[u8], into: &'a mut Vec<u8>) -> Result<&'a [u8], AllocError>
-    ensures { IfOk result (λ value. value.now ≡ unfolded_of body.now) }
-{
-    into.clear();
-    unfold_into(body, into)?;
-    Ok(into.as_slice())
-}
-
 /// Writes the text of a body, and before that the body in one line. What the buffers hold after an error isn't said.
 fn write_text(
     body: &[u8],

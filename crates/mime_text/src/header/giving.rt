@@ -3,23 +3,14 @@ ghost use Rattle.std.specs.Prelude.{◌≡◌, ◌≤◌, [], ◌∷◌, length}
 ghost use Rattle.header_text.specs.Headers.{fields_size, most_in_header};
 ghost use Rattle.mime_text.specs.FieldTexts.{texts_of_fields};
 ghost use Rattle.mime_text.specs.Names.{name_texts};
-ghost use Rattle.mime_text.specs.Sinks.{Hands, most_in_text};
+ghost use Rattle.mime_text.specs.Sinks.{Hands};
 ghost use Rattle.mime_text.specs.Feeding.{counted_texts, header_texts};
 
 use crate::fault::TextFault;
 use crate::header::field_text::{FieldReader, kind_of_field};
-use crate::sink::TextSink;
+use crate::sink::{TextSink, give_text};
 use header_text::{Field, Fields};
 use mail_words::TextKind;
-
-/// Gives a text.
-fn give_text<S: TextSink>(kind: TextKind, text: &str, sink: &mut S) -> Result<(), TextFault>
-    requires { length text.now ≤ most_in_text kind }
-    ensures { Hands S.takes S.refuses (λ _. (kind, text.now) ∷ []) (λ _. []) result
-        sink.old sink.new }
-{
-    Ok(sink.text(kind, text)?)
-}
 
 /// Gives the text of a field, if it is one of the five.
 fn give_field<S: TextSink>(

@@ -106,17 +106,9 @@ fn read_shape(default: DefaultType, value: &[u8], buffer: &mut Vec<u8>) -> Resul
     })
 }
 
-/// The charset that a Content-Type field's value names.
-#[tactic(auto, unfolding(crate::specs::Types::charset_of_value))]
-fn read_charset(value: &[u8], buffer: &mut Vec<u8>) -> Result<Charset, AllocError>
-    ensures { IfOk result (λ charset. charset ≡ charset_of_value value.now) }
-{
-    read_parameter(value, b"charset", buffer)?;
-    Ok(Charset::of(buffer))
-}
-
 impl EntityType {
     /// What the fields of an entity's header say. What the buffers hold then isn't said.
+    #[tactic(auto, unfolding(crate::specs::Types::charset_of_value))]
     fn read(
         default: DefaultType,
         fields: Fields<'_>,
@@ -130,7 +122,8 @@ impl EntityType {
         read_first_value(fields.again(), b"content-transfer-encoding", value)?;
         let transfer = TransferEncoding::named(value);
         read_first_value(fields, b"content-type", value)?;
-        let charset = read_charset(value, buffer)?;
+        read_parameter(value, b"charset", buffer)?;
+        let charset = Charset::of(buffer);
         let shape = read_shape(default, value, buffer)?;
         Ok(EntityType {
             shape,

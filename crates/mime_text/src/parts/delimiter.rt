@@ -50,7 +50,7 @@ fn has_last_of(boundary: &[u8], text: &[u8]) -> bool
 }
 
 /// What a line is to the multipart of a boundary, by what follows the line's two dashes.
-#[tactic(auto, unfolding(crate::specs::Frames::delimiter_of))]
+#[tactic(auto, using(crate::proofs::FrameLemmas::not_blank), unfolding(crate::specs::Frames::delimiter_of))]
 pub(crate) fn delimiter_behind(boundary: &[u8], text: &[u8]) -> Option<Delimiter>
     ensures { result ≡ delimiter_of boundary.now text.now }
 {
@@ -59,8 +59,7 @@ pub(crate) fn delimiter_behind(boundary: &[u8], text: &[u8]) -> Option<Delimiter
     }
     let rest = after(boundary, text)?;
     match after(b"--", rest) {
-        Some(end) if are_blanks(end) => Some(Delimiter::Closing),
-        _ if are_blanks(rest) => Some(Delimiter::Next),
-        _ => None,
+        Some(end) => are_blanks(end).then_some(Delimiter::Closing),
+        None => are_blanks(rest).then_some(Delimiter::Next),
     }
 }
