@@ -1,5 +1,5 @@
 -- Delimiter lines, and the multiparts that are open.
-use Rattle.mime_text.proofs.Words.{◌≡◌, ◌∙◌, ◌≤◌, ◌<◌, ◌+◌, ◌-◌, ◌++◌, ℕ, zero, suc, Bool, true, false, cond, List, [], ◌∷◌, Option, Some, None, length, take, drop, refl, sym, ap, arith, add-one, get_or, Bor, slice_get, option_map, MatchOption, IfSome, eqb-true, bytes_eq, without_break, DefaultType, Frame, Delimiter, are_blanks, is_delimiter, is_closing, StreamPlace, Skip, InHeader, or_else, own_hit, hit, dash_dash, dashes, kind_behind, delimiter_of, led, scan, inside_out, opened, AreNested}
+use Rattle.mime_text.proofs.Words.{◌≡◌, ◌∙◌, ◌≤◌, ◌<◌, ◌+◌, ◌-◌, ◌++◌, ◌==◌, ℕ, zero, suc, Bool, true, false, cond, List, [], ◌∷◌, Option, Some, None, length, take, drop, refl, sym, ap, arith, add-one, get_or, Bor, slice_get, option_map, MatchOption, IfSome, eqb-true, bytes_eq, without_break, after_blanks, DefaultType, Frame, Delimiter, are_blanks, is_delimiter, is_closing, StreamPlace, Skip, InHeader, or_else, own_hit, hit, dash_dash, dashes, kind_behind, delimiter_of, led, scan, inside_out, opened, AreNested}
 use Rattle.std.proofs.lemmas.Option.{slice_get-get_or}
 use Rattle.header_text.specs.EncodedWords.{after}
 use Rattle.mime_text.specs.declared.parts.delimiter.Delimiter.TheVariants.{Next, Closing}
@@ -20,6 +20,11 @@ after-tested : (front bytes : List ℕ) → after front bytes ≡ cond (bytes_eq
 after-tested [] bytes = refl
 after-tested (c ∷ front) [] = refl
 after-tested (c ∷ front) (x ∷ bytes) = grind (arith, after-tested front bytes)
+
+-- nothing stands behind blanks alone
+pub blanks_alone : (bytes : List ℕ) → (length (after_blanks bytes) == 0) ≡ are_blanks (Some bytes)
+blanks_alone [] = refl
+blanks_alone (b ∷ bs) = grind (arith, blanks_alone bs)
 
 -- what begins with two dashes isn't blank
 pub not_blank : (rest end : List ℕ) → after dash_dash rest ≡ Some end → are_blanks (Some rest) ≡ false

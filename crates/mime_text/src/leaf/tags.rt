@@ -34,14 +34,6 @@ fn character_count(text: &str) -> usize
     }
 }
 
-/// So many spaces.
-fn spaces(count: usize) -> &'static str
-    requires { count ≤ 64 }
-    ensures { result.now ≡ replicate count 0x20 }
-{
-    &SPACES[..count]
-}
-
 /// Adds so many spaces.
 fn push_spaces(count: usize, into: &mut String) -> Result<(), AllocError>
     ensures { OnOk result (string_bytes into.new ≡ string_bytes into.old ++ replicate count 0x20) }
@@ -49,7 +41,7 @@ fn push_spaces(count: usize, into: &mut String) -> Result<(), AllocError>
     let mut left = count;
     while left > 0 {
         let some = left.min(SPACES.len());
-        into.push_str(spaces(some))?;
+        into.push_str(&SPACES[..some])?;
         left -= some;
     }
     Ok(())

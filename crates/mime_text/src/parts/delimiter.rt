@@ -26,6 +26,7 @@ fn after<'a>(front: &[u8], bytes: &'a [u8]) -> Option<&'a [u8]>
 }
 
 /// Whether all bytes are spaces and tabs.
+#[tactic(auto, using(crate::proofs::FrameLemmas::blanks_alone))]
 fn are_blanks(bytes: &[u8]) -> bool
     ensures { result ≡ list_all is_blank_of bytes.now }
 {

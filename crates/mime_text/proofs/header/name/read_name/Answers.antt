@@ -1,23 +1,13 @@
-use Rattle.mime_text.proofs.Words.{◌≡◌, ◌∙◌, ◌==◌, true, length, [], ◌∷◌, ℕ, List, Option, Some, None, Result, Ok, Err, OnOk, refl, sym, ap, unwrap_or, rules}
+use Rattle.mime_text.proofs.Words.{◌≡◌, ◌==◌, true, length, [], ℕ, List, Option, Some, Result, OnOk, unwrap_or, arith, rules}
 use Rattle.std.specs.Option.{option_or}
 use Rattle.mime_text.proofs.LineSteps.{no_bytes}
 use Rattle.mime_text.specs.Names.{unless_empty}
 use Rattle.mime_text.proofs.header.name.read_name.Goals as goal
 
-filled : (o : Option (List ℕ)) → unless_empty (Some (unwrap_or o [])) ≡ unless_empty o
-filled None = refl
-filled (Some x) = refl
-
-none-filled : (o p : Option (List ℕ)) → unwrap_or o [] ≡ [] → option_or (unless_empty o) p ≡ p
-none-filled None p h = refl
-none-filled (Some []) p h = refl
-none-filled (Some (b ∷ bs)) p h = absurd (cc h)
-
 -- the second of two values counts where the first is empty or missing
 second : {T E : Type 0} (result : Result T E) (o p : Option (List ℕ)) (first into : List ℕ) → first ≡ unwrap_or o [] → (length first == 0) ≡ true → OnOk result (into ≡ unwrap_or p [])
     → OnOk result (unless_empty (Some into) ≡ option_or (unless_empty o) (unless_empty p))
-second (Ok x) o p first into e h is = ap (λ (l : List ℕ). unless_empty (Some l)) is ∙ filled p ∙ sym (none-filled o (unless_empty p) (sym e ∙ no_bytes first h))
-second (Err x) o p first into e h is = tt
+second result o p first into e h is = grind (arith, no_bytes)
 
 pub returns-then-is_empty-clause-name : goal.returns-then-is_empty-clause-name
 returns-then-is_empty-clause-name c =
