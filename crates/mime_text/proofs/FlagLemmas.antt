@@ -1,5 +1,5 @@
 -- Letters of the Status and X-Status fields, field by field.
-use Rattle.mime_text.proofs.Words.{◌≡◌, ◌∙◌, ◌<◌, ◌==◌, ℕ, Bool, true, List, [], ◌∷◌, refl, ap, arith, ◌||◌, reverse, reverse-append, list_any, HeaderField, after_blanks, before_blanks, unfolded, is_status, has_letter}
+use Rattle.mime_text.proofs.Words.{◌≡◌, ◌∙◌, ◌<◌, ◌==◌, ℕ, Bool, true, List, [], ◌∷◌, refl, arith, ◌||◌, reverse, reverse-append, list_any, HeaderField, after_blanks, before_blanks, unfolded, is_status, has_letter}
 use Rattle.std.proofs.lemmas.List.Folds.{list_any-append}
 use Rattle.header_text.specs.Unfolding.{without_breaks}
 

@@ -106,9 +106,9 @@ inside_out-push (g ∷ gs) outer f = inside_out-push gs (g ∷ outer) f
 
 -- ---- how deep they lie
 
-pub AreNested-push : (above : ℕ) (fs : List Frame) (f : Frame) → AreNested above fs → above + length fs + 1 + f.left ≤ 16 → AreNested above (fs ++ f ∷ [])
-AreNested-push above [] f h e = (omega arith, tt)
-AreNested-push above (g ∷ gs) f h e = (h.0, AreNested-push (above + 1) gs f h.1 (omega arith))
+pub AreNested_push : (above : ℕ) (fs : List Frame) (f : Frame) → AreNested above fs → above + length fs + 1 + f.left ≤ 16 → AreNested above (fs ++ f ∷ [])
+AreNested_push above [] f h e = (omega arith, tt)
+AreNested_push above (g ∷ gs) f h e = (h.0, AreNested_push (above + 1) gs f h.1 (omega arith))
 
 pub AreNested-take : (above : ℕ) (fs : List Frame) (n : ℕ) → AreNested above fs → AreNested above (take n fs)
 AreNested-take above fs zero h = tt
@@ -121,9 +121,9 @@ AreNested-at above (g ∷ gs) zero f h e = grind (arith)
 AreNested-at above (g ∷ gs) (suc n) f h e = omega (arith, AreNested-at (above + 1) gs n f h.1 e)
 
 -- a multipart more
-pub open-frames : (fs : List Frame) (left : ℕ) (boundary : List ℕ) (d : DefaultType) → 0 < left
+pub open_frames : (fs : List Frame) (left : ℕ) (boundary : List ℕ) (d : DefaultType) → 0 < left
     → inside_out (fs ++ record { boundary = boundary; default = d; left = left - 1 } ∷ []) [] ≡ opened left boundary d (inside_out fs [])
-open-frames fs left boundary d h = grind (arith, inside_out-push)
+open_frames fs left boundary d h = grind (arith, inside_out-push)
 
 -- ---- where a delimiter leads
 

@@ -1,30 +1,11 @@
 //! The name of an entity.
-ghost use Rattle.std.specs.Prelude.{◌≡◌, ◌≤◌, ◌*◌, [], length, OnOk, option_map, unwrap_or, string_bytes};
+ghost use Rattle.std.specs.Prelude.{◌≡◌, ◌≤◌, ◌*◌, length, OnOk, option_map, string_bytes};
 ghost use Rattle.header_text.specs.Headers.{fields_size, most_in_header};
-ghost use Rattle.mime_text.specs.Parameters.{parameter};
-ghost use Rattle.mime_text.specs.Types.{first_value};
 ghost use Rattle.mime_text.specs.Names.{unless_empty, name_of, name_text};
 
-use crate::parts::content_type::read_first_value;
-use crate::parts::parameter::read_parameter;
+use crate::parts::content_type::read_parameter_in;
 use header_text::{Fields, decode_words_into};
 use std::alloc::AllocError;
-
-/// Writes the value of the parameter of a name that the first field of a name has into the second buffer; nothing where there is none.
-fn read_parameter_in(
-    fields: Fields<'_>,
-    field: &[u8],
-    name: &[u8],
-    value: &mut Vec<u8>,
-    into: &mut Vec<u8>,
-) -> Result<(), AllocError>
-    ensures value { OnOk result (into.new.items
-        ≡ unwrap_or (parameter name.now (first_value field.now fields.entry)) []) }
-    ensures size { OnOk result (length into.new.items ≤ fields_size fields.entry) }
-{
-    read_first_value(fields, field, value)?;
-    read_parameter(value, name, into)
-}
 
 /// Writes the name of a header's entity, as it stands there, into the second buffer; nothing where it has none.
 fn read_name(fields: Fields<'_>, value: &mut Vec<u8>, into: &mut Vec<u8>) -> Result<(), AllocError>

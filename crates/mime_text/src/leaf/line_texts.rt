@@ -67,6 +67,7 @@ impl LineTexts {
     }
 
     /// Gives a sink the text of the next line.
+    #[tactic(auto, using(crate::proofs::LineSteps::hands_line))]
     pub(crate) fn give<S: TextSink>(&mut self, line: &[u8], sink: &mut S) -> Result<(), TextFault>
         requires { length line.now ≤ most_in_line }
         ensures { Hands S.takes S.refuses (λ ls. pairs_of_lines self.old (line.now ∷ ls))

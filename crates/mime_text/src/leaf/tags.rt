@@ -48,6 +48,7 @@ fn push_spaces(count: usize, into: &mut String) -> Result<(), AllocError>
 }
 
 /// Adds what stands in a tag or outside of one, with a space for each character in a tag.
+#[tactic(auto, using(crate::proofs::TagReads::written_tag, crate::proofs::TagReads::written_outside))]
 fn push_span(in_tag: bool, span: &str, into: &mut String) -> Result<(), AllocError>
     ensures { OnOk result (string_bytes into.new ≡ string_bytes into.old ++ encode_utf8_all
         (shown_span in_tag (chars span.now))) }

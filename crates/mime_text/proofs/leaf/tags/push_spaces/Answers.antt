@@ -1,4 +1,4 @@
-use Rattle.mime_text.proofs.Words.{◌≡◌, ◌∙◌, ◌-◌, ℕ, List, take, replicate, ap, arith, string_bytes, take-replicate, IsCharBoundary-from_ascii}
+use Rattle.mime_text.proofs.Words.{◌≡◌, ◌∙◌, ◌-◌, ℕ, take, replicate, ap, arith, string_bytes, take-replicate, IsCharBoundary-from_ascii}
 use Rattle.mime_text.proofs.TagReads.{spaces-ascii, spaces-more}
 use Rattle.mime_text.proofs.leaf.tags.push_spaces.Goals as goal
 

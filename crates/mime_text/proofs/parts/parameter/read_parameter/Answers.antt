@@ -1,8 +1,8 @@
 use Rattle.mime_text.proofs.Words.{false, true, option_map_or, ◌≡◌, ◌∙◌, List, ℕ, Option, Some, sym, ap, unwrap_or, option_map, first_named, parameters_behind, parameter, [], rules}
 use Rattle.header_text.specs.Names.{is_named}
-use Rattle.mime_text.proofs.ParameterLemmas.{named-none, piece-other, piece-found, later-measure, parameter-size}
+use Rattle.mime_text.proofs.ParameterLemmas.{piece-other, piece-found, later-measure, parameter-size}
 use Rattle.mime_text.proofs.parts.parameter.read_parameter.Goals as goal
-use Rattle.mime_text.proofs.parts.parameter.read_parameter.Goals.{In-Some-name, Then-is_named, in_default-via-in-None-1, in_default-via-in-Some-name+else-is_named}
+use Rattle.mime_text.proofs.parts.parameter.read_parameter.Goals.{Then-is_named, in_default-via-in-None-1, in_default-via-in-Some-name+else-is_named}
 
 pub loop-rest-init : goal.loop-rest-init
 unfolding parameter
