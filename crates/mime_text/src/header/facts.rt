@@ -128,7 +128,8 @@ fn date_text(
     let Some(body) = fields.first_body(b"date") else {
         return Ok(None);
     };
-    let text = String::from_str(alloc, reader.read(body)?)?;
+    reader.read(body)?;
+    let text = String::from_str(alloc, reader.text())?;
     Ok(Some(DateText::of(text)))
 }
 

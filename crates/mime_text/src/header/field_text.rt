@@ -1,7 +1,6 @@
 //! The texts of a header's fields, and of the name of its entity.
-ghost use Rattle.std.specs.Prelude.{◌≡◌, ◌≤◌, ◌*◌, length, option_map, IfOk, IfSome, OnOk, string_bytes};
+ghost use Rattle.std.specs.Prelude.{◌≡◌, ◌≤◌, ◌*◌, length, option_map, IfSome, OnOk, string_bytes};
 ghost use Rattle.header_text.specs.Headers.{fields_size, most_in_header};
-ghost use Rattle.header_text.specs.Unfolding.{unfolded as unfolded_of};
 ghost use Rattle.mime_text.specs.Names.{name_text, unless_empty};
 ghost use Rattle.mime_text.specs.FieldTexts.{kind_of_field as kind_of_field_of, text_of_body};
 ghost use Rattle.mime_text.specs.Limits.{most_in_header_text};
@@ -70,8 +69,9 @@ impl FieldReader {
         }
     }
 
-    /// Reads a body, and keeps nothing where memory is wanting.
-    fn take(&mut self, body: &[u8]) -> Result<(), AllocError>
+    /// Reads the text of a body: in one line, its encoded words decoded (RFC 2047). It has at most three bytes for each of the
+    /// body's. Where memory is wanting nothing is kept.
+    pub(crate) fn read(&mut self, body: &[u8]) -> Result<(), AllocError>
         requires { length body.now ≤ most_in_header }
         ensures text { OnOk result (string_bytes self.new.text ≡ text_of_body body.now) }
         ensures size { OnOk result (length (string_bytes self.new.text) ≤ 3 * length body.now) }
@@ -85,19 +85,16 @@ impl FieldReader {
         outcome
     }
 
-    /// The text of a body: in one line, its encoded words decoded (RFC 2047). It has at most three bytes for each of the
-    /// body's.
-    pub(crate) fn read(&mut self, body: &[u8]) -> Result<&str, AllocError>
-        requires { length body.now ≤ most_in_header }
-        ensures text { IfOk result (λ text. text.now ≡ text_of_body body.now) }
-        ensures size { IfOk result (λ text. length text.now ≤ 3 * length body.now) }
+    /// The text that was read last.
+    pub(crate) fn text(&self) -> &str
+        ensures text { result.now ≡ string_bytes self.now.text }
+        ensures size { length result.now ≤ most_in_header_text }
     {
-        self.take(body)?;
-        Ok(self.text.as_str())
+        self.text.as_str()
     }
 
     /// Reads the name of a header's entity, which is empty where it has none, and keeps nothing where memory is wanting.
-    fn take_name(&mut self, fields: Fields<'_>) -> Result<(), AllocError>
+    pub(crate) fn read_name(&mut self, fields: Fields<'_>) -> Result<(), AllocError>
         requires { fields_size fields ≤ most_in_header }
         ensures { OnOk result (option_map (λ _. string_bytes self.new.text)
             (unless_empty (Some self.new.unfolded.items)) ≡ name_text fields.entry) }
@@ -116,15 +113,13 @@ impl FieldReader {
         outcome
     }
 
-    /// The text of the name of a header's entity, if it has one. It has at most three bytes for each of the name's.
-    pub(crate) fn read_name(&mut self, fields: Fields<'_>) -> Result<Option<&str>, AllocError>
-        requires { fields_size fields ≤ most_in_header }
-        ensures text { IfOk result (λ name. option_map (λ text. text.now) name
-            ≡ name_text fields.entry) }
-        ensures size { IfOk result (λ name. IfSome name
-            (λ text. length text.now ≤ most_in_header_text)) }
+    /// The text of the name that was read last, if the entity has one. It has at most three bytes for each of the name's.
+    pub(crate) fn name(&self) -> Option<&str>
+        ensures text { option_map (λ text. text.now) result
+            ≡ option_map (λ _. string_bytes self.now.text)
+            (unless_empty (Some self.now.unfolded.items)) }
+        ensures size { IfSome result (λ text. length text.now ≤ most_in_header_text) }
     {
-        self.take_name(fields)?;
-        Ok((!self.unfolded.is_empty()).then_some(self.text.as_str()))
+        (!self.unfolded.is_empty()).then_some(self.text.as_str())
     }
 }

@@ -26,8 +26,8 @@ fn give_field<S: TextSink>(
     let Some(kind) = kind_of_field(field.name) else {
         return Ok(());
     };
-    let text = reader.read(field.body)?;
-    give_text(kind, text, sink)
+    reader.read(field.body)?;
+    give_text(kind, reader.text(), sink)
 }
 
 /// Gives the texts of a header's fields, in order.
@@ -74,7 +74,8 @@ fn give_name<S: TextSink>(
     ensures { Hands S.takes S.refuses (λ _. name_texts fields.entry) (λ _. []) result
         sink.old sink.new }
 {
-    match reader.read_name(fields)? {
+    reader.read_name(fields)?;
+    match reader.name() {
         Some(text) => give_text(TextKind::Name, text, sink),
         None => Ok(()),
     }
