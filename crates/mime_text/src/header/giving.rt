@@ -30,23 +30,7 @@ fn give_field<S: TextSink>(
     give_text(kind, reader.text(), sink)
 }
 
-/// Gives the texts of a header's fields, in order.
-fn give_fields<S: TextSink>(
-    fields: Fields<'_>,
-    reader: &mut FieldReader,
-    sink: &mut S,
-) -> Result<(), TextFault>
-    requires { fields_size fields ≤ most_in_header }
-    ensures { Hands S.takes S.refuses (λ _. texts_of_fields fields.entry) (λ _. []) result
-        sink.old sink.new }
-{
-    for field in fields {
-        give_field(field, reader, sink)?;
-    }
-    Ok(())
-}
-
-/// Gives the texts of a header's fields, if it counts.
+/// Gives the texts of a header's fields, in order, if it counts.
 fn give_counted<S: TextSink>(
     counted: bool,
     fields: Fields<'_>,
@@ -57,11 +41,13 @@ fn give_counted<S: TextSink>(
     ensures { Hands S.takes S.refuses (λ _. counted_texts counted fields.entry) (λ _. []) result
         sink.old sink.new }
 {
-    if counted {
-        give_fields(fields, reader, sink)
-    } else {
-        Ok(())
+    if !counted {
+        return Ok(());
     }
+    for field in fields {
+        give_field(field, reader, sink)?;
+    }
+    Ok(())
 }
 
 /// Gives the name of a header's entity, if it has one.

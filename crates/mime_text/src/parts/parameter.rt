@@ -80,9 +80,9 @@ fn read_value<'a>(text: &'a [u8], into: &mut Vec<u8>) -> Result<&'a [u8], AllocE
         ≡ into.old.items ++ (value_and_rest text.now).0) }
     ensures rest { IfOk result (λ rest. rest.now ≡ (value_and_rest text.now).1) }
 {
-    match text.split_first() {
-        Some((first, others)) if *first == b'"' => read_quoted(others, into),
-        _ => read_token(text, into),
+    match text.strip_prefix(b"\"") {
+        Some(quoted) => read_quoted(quoted, into),
+        None => read_token(text, into),
     }
 }
 
