@@ -46,7 +46,7 @@ impl LeafReader {
             ≡ body_pairs (leaf_texts TransferEncoding.Identity Charset.Utf8 false ls) }
     {
         LeafReader {
-            decoder: Decoder::new(TransferEncoding::Identity),
+            decoder: Decoder::Identity,
             held: HeldLine::new(alloc),
             texts: LineTexts::new(alloc),
         }
