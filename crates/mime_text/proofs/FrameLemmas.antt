@@ -1,5 +1,5 @@
 -- Delimiter lines, and the multiparts that are open.
-use Rattle.mime_text.proofs.Words.{◌≡◌, ◌∙◌, ◌≤◌, ◌<◌, ◌+◌, ◌-◌, ◌++◌, ℕ, zero, suc, Bool, true, false, cond, List, [], ◌∷◌, Option, Some, None, length, take, drop, refl, sym, ap, arith, add-one, get_or, Bor, slice_get, option_map, MatchOption, IfSome, eqb-true, bytes_eq, without_break, DefaultType, Frame, Delimiter, are_blanks, is_delimiter, is_closing, StreamPlace, Skip, InHeader, or_else, own_hit, hit, dash_dash, dashes, kind_behind, delimiter_of, led, scan, inside_out, opened, AreNested}
+use Rattle.mime_text.proofs.Words.{◌≡◌, ◌∙◌, ◌≤◌, ◌<◌, ◌+◌, ◌-◌, ◌++◌, ◌==◌, ℕ, zero, suc, Bool, true, false, cond, List, [], ◌∷◌, Option, Some, None, length, take, drop, refl, sym, ap, arith, add-one, get_or, Bor, slice_get, option_map, MatchOption, IfSome, eqb-true, bytes_eq, without_break, after_blanks, DefaultType, Frame, Delimiter, are_blanks, is_delimiter, is_closing, StreamPlace, Skip, InHeader, or_else, own_hit, hit, dash_dash, dashes, kind_behind, delimiter_of, led, scan, inside_out, opened, AreNested}
 use Rattle.std.proofs.lemmas.Option.{slice_get-get_or}
 use Rattle.header_text.specs.EncodedWords.{after}
 use Rattle.mime_text.specs.declared.parts.delimiter.Delimiter.TheVariants.{Next, Closing}
@@ -20,6 +20,16 @@ after-tested : (front bytes : List ℕ) → after front bytes ≡ cond (bytes_eq
 after-tested [] bytes = refl
 after-tested (c ∷ front) [] = refl
 after-tested (c ∷ front) (x ∷ bytes) = grind (arith, after-tested front bytes)
+
+-- nothing stands behind blanks alone
+pub blanks_alone : (bytes : List ℕ) → (length (after_blanks bytes) == 0) ≡ are_blanks (Some bytes)
+blanks_alone [] = refl
+blanks_alone (b ∷ bs) = grind (arith, blanks_alone bs)
+
+-- what begins with two dashes isn't blank
+pub not_blank : (rest end : List ℕ) → after dash_dash rest ≡ Some end → are_blanks (Some rest) ≡ false
+not_blank [] end h = absurd (cc h)
+not_blank (x ∷ xs) end h = grind arith
 
 -- what `strip_prefix` answers
 pub after-stripped : (front bytes : List ℕ) (r : Option (Bor (List ℕ)))
@@ -96,9 +106,9 @@ inside_out-push (g ∷ gs) outer f = inside_out-push gs (g ∷ outer) f
 
 -- ---- how deep they lie
 
-pub AreNested-push : (above : ℕ) (fs : List Frame) (f : Frame) → AreNested above fs → above + length fs + 1 + f.left ≤ 16 → AreNested above (fs ++ f ∷ [])
-AreNested-push above [] f h e = (omega arith, tt)
-AreNested-push above (g ∷ gs) f h e = (h.0, AreNested-push (above + 1) gs f h.1 (omega arith))
+pub AreNested_push : (above : ℕ) (fs : List Frame) (f : Frame) → AreNested above fs → above + length fs + 1 + f.left ≤ 16 → AreNested above (fs ++ f ∷ [])
+AreNested_push above [] f h e = (omega arith, tt)
+AreNested_push above (g ∷ gs) f h e = (h.0, AreNested_push (above + 1) gs f h.1 (omega arith))
 
 pub AreNested-take : (above : ℕ) (fs : List Frame) (n : ℕ) → AreNested above fs → AreNested above (take n fs)
 AreNested-take above fs zero h = tt
@@ -111,9 +121,9 @@ AreNested-at above (g ∷ gs) zero f h e = grind (arith)
 AreNested-at above (g ∷ gs) (suc n) f h e = omega (arith, AreNested-at (above + 1) gs n f h.1 e)
 
 -- a multipart more
-pub open-frames : (fs : List Frame) (left : ℕ) (boundary : List ℕ) (d : DefaultType) → 0 < left
+pub open_frames : (fs : List Frame) (left : ℕ) (boundary : List ℕ) (d : DefaultType) → 0 < left
     → inside_out (fs ++ record { boundary = boundary; default = d; left = left - 1 } ∷ []) [] ≡ opened left boundary d (inside_out fs [])
-open-frames fs left boundary d h = grind (arith, inside_out-push)
+open_frames fs left boundary d h = grind (arith, inside_out-push)
 
 -- ---- where a delimiter leads
 

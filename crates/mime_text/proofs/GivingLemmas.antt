@@ -1,6 +1,7 @@
 -- Texts of fields that a sink is given.
-use Rattle.mime_text.proofs.Words.{◌≡◌, ◌∙◌, ◌++◌, ℕ, List, [], ◌∷◌, Option, Some, refl, ap, append_assoc, arith, option_map, cons_option, HeaderField, TextKind, SinkFault, TextFault, Sink, Pair, Coming, Gave, Broke, kind_of_field, text_of_body, texts_of_fields}
+use Rattle.mime_text.proofs.Words.{◌≡◌, ◌∙◌, ◌++◌, ℕ, List, [], ◌∷◌, Option, Some, refl, ap, append_assoc, arith, Result, Ok, Err, option_map, cons_option, HeaderField, TextKind, SinkFault, TextFault, Failed, OutOfMemory, Sink, Pair, Coming, Gave, Broke, Hands, kind_of_field, text_of_body, texts_of_fields}
 use Rattle.std.proofs.lemmas.List.{append-nil}
+use Rattle.mime_text.specs.Inside.Showing.{Shows}
 
 abbrev with_text : HeaderField → TextKind → Pair
 with_text f k = (k, text_of_body f.body)
@@ -12,11 +13,11 @@ pub texts-cons : (f : HeaderField) (fs : List HeaderField) → texts_of_fields (
 texts-cons f fs = grind arith
 
 module _ {S : Type 0} (takes : S → TextKind → List ℕ → S → Type 0) (refuses : S → TextKind → List ℕ → SinkFault → S → Type 0) where
-  pub gave-one : (p : Pair) (s t : S) → takes s p.0 p.1 t → Gave takes refuses (λ _. p ∷ []) (λ _. []) s t
-  gave-one p s t h = record { pairs = p ∷ []; taken = (t, h, refl); rest = λ ms. refl }
-
-  pub broke-one : (p : Pair) (fault : SinkFault) (s t : S) → refuses s p.0 p.1 fault t → Broke takes refuses (λ _. p ∷ []) (Sink fault) s t
-  broke-one p fault s t h = record { pairs = p ∷ []; broken = ([], p, s, refl, refl, h); front = λ ms. ([], refl) }
+  pub hands-one : {T : Type 0} (p : Pair) (result : Result T TextFault) (s t : S) → Shows takes refuses p.0 p.1 result s t → Hands takes refuses (λ _. p ∷ []) (λ _. []) result s t
+  hands-one p (Ok x) s t h = record { pairs = p ∷ []; taken = (t, h, refl); rest = λ ms. refl }
+  hands-one p (Err OutOfMemory) s t h = record { pairs = []; broken = h; front = λ ms. (p ∷ [], refl) }
+  hands-one p (Err (Sink fault)) s t h = record { pairs = p ∷ []; broken = ([], p, s, refl, refl, h); front = λ ms. ([], refl) }
+  hands-one p (Err Failed) s t h = absurd h
 
   -- in front of more
   pub gave-front : (A B R : Coming) (s t : S) → ((ms : List (List ℕ)) → B ms ≡ A ms ++ R ms) → Gave takes refuses A (λ _. []) s t → Gave takes refuses B R s t

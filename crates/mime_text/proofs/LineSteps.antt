@@ -62,21 +62,21 @@ rest-step b rest later n fits is next within = grind (arith, length-drop, drop-d
 
 module _ {S : Type 0} (takes : S → TextKind → List ℕ → S → Type 0) (refuses : S → TextKind → List ℕ → SinkFault → S → Type 0) where
   -- a line that is given
-  pub hands-line : {T : Type 0} (old new : LineTexts) (line : List ℕ) (result : Result T TextFault) (s t : S) → Shows takes refuses (line_text old.charset old.is_html old.is_open line) result s t
+  pub hands_line : {T : Type 0} (old new : LineTexts) (line : List ℕ) (result : Result T TextFault) (s t : S) → Shows takes refuses kind.Body (line_text old.charset old.is_html old.is_open line) result s t
       → new.charset ≡ old.charset → new.is_html ≡ old.is_html → OnOk result (new.is_open ≡ is_open_behind_line old.charset old.is_html old.is_open line)
       → Hands takes refuses (λ ls. pairs_of_lines old (line ∷ ls)) (λ ls. pairs_of_lines new ls) result s t
-  hands-line old new line (Ok x) s t h e f g =
+  hands_line old new line (Ok x) s t h e f g =
       let p : Pair = (kind.Body, line_text old.charset old.is_html old.is_open line) in
       record { pairs = p ∷ []; taken = (t, h, refl); rest = λ ls. ap (λ (l : List Pair). p ∷ l) (rw (e, f, g) refl) }
-  hands-line old new line (Err OutOfMemory) s t h e f g = grind arith
-  hands-line old new line (Err (Sink fault)) s t h e f g =
+  hands_line old new line (Err OutOfMemory) s t h e f g = grind arith
+  hands_line old new line (Err (Sink fault)) s t h e f g =
       let p : Pair = (kind.Body, line_text old.charset old.is_html old.is_open line) in
       record {
         pairs = p ∷ [];
         broken = ([], p, s, refl, refl, h);
         front = λ ls. (body_pairs (texts_behind old.charset old.is_html (is_open_behind_line old.charset old.is_html old.is_open line) ls), refl);
       }
-  hands-line old new line (Err Failed) s t h e f g = absurd h
+  hands_line old new line (Err Failed) s t h e f g = absurd h
 
   pub gave-line : (old new : LineTexts) (b line later : List ℕ) (n : ℕ) (s t : S) → Some n ≡ line_end_of b → line ≡ take n b → later ≡ drop n b
       → Gave takes refuses (λ ls. pairs_of_lines old (line ∷ ls)) (λ ls. pairs_of_lines new ls) s t

@@ -31,8 +31,8 @@ plain_lines charset o [] = refl
 plain_lines charset o (l ∷ ls) = ap (λ (ts : List (List ℕ)). text_of charset l ∷ ts) (plain_lines charset o ls)
 
 -- at the beginning no tag is open
-pub texts-begin : (charset : Charset) (is_html : Bool) (ls : List (List ℕ)) → texts_behind charset is_html false ls ≡ texts_of_lines charset is_html ls
-texts-begin charset is_html ls = grind (arith, plain_lines, tagged_lines)
+pub texts_begin : (charset : Charset) (is_html : Bool) (ls : List (List ℕ)) → texts_behind charset is_html false ls ≡ texts_of_lines charset is_html ls
+texts_begin charset is_html ls = grind (arith, plain_lines, tagged_lines)
 
 -- ---- text without tags
 

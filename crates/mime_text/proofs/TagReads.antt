@@ -36,14 +36,14 @@ encodes-spaces zero = refl
 encodes-spaces (suc n) = ap₂ (λ (xs ys : List ℕ). xs ++ ys) (encode_ascii 0x20 (omega arith)) (encodes-spaces n)
 
 -- what a span in a tag or outside of one is written as
-pub written-tag : (text : List ℕ) → replicate (length (chars text)) 0x20 ≡ encode_utf8_all (shown_span true (chars text))
-written-tag text = sym (encodes-spaces (length (chars text)))
+pub written_tag : (text : List ℕ) → replicate (length (chars text)) 0x20 ≡ encode_utf8_all (shown_span true (chars text))
+written_tag text = sym (encodes-spaces (length (chars text)))
 
-pub written-outside : (text : List ℕ) → IsUtf8 text → text ≡ encode_utf8_all (shown_span false (chars text))
-written-outside text utf8 = sym (encodes-chars text utf8)
+pub written_outside : (text : List ℕ) → IsUtf8 text → text ≡ encode_utf8_all (shown_span false (chars text))
+written_outside text utf8 = sym (encodes-chars text utf8)
 
 length-span : (o : Bool) (text : List ℕ) → IsUtf8 text → length (encode_utf8_all (shown_span o (chars text))) ≤ length text
-length-span o text h = grind (arith, written-tag, length-replicate, length-le-encodes, encodes-chars)
+length-span o text h = grind (arith, written_tag, length-replicate, length-le-encodes, encodes-chars)
 
 -- ---- spaces
 
@@ -55,7 +55,6 @@ spaces-ascii (suc n) = IsAscii-cons 0x20 (replicate n 0x20) (omega arith) (space
 pub spaces-more : (into new some : List ℕ) (left n rest : ℕ) → some ≡ replicate n 0x20 → n + rest ≡ left → new ≡ into ++ some → new ++ replicate rest 0x20 ≡ into ++ replicate left 0x20
 spaces-more into new some left n rest are parts added = grind (arith, append_assoc, replicate-append-replicate)
 
--- what a call that adds all or nothing has added
 -- ---- what ends a span
 
 -- ---- a text that is cut at an ASCII character

@@ -3,7 +3,7 @@ use std::alloc::AllocError;
 use thiserror::Error;
 
 /// Why a sink refused a text.
-#[derive(Clone, Copy, Debug, PartialEq, Eq, Error)]
+#[derive(Clone, Copy, Debug, Error)]
 pub enum SinkFault {
     /// There was no memory left.
     #[error("out of memory")]
@@ -25,7 +25,7 @@ impl From<AllocError> for SinkFault {
 }
 
 /// Why a message's texts weren't all given.
-#[derive(Clone, Copy, Debug, PartialEq, Eq, Error)]
+#[derive(Clone, Copy, Debug, Error)]
 pub enum TextFault {
     /// There was no memory left.
     #[error("out of memory")]

@@ -3,8 +3,9 @@ ghost use Rattle.std.specs.Prelude.{ℕ, List, ◌≤◌, length, OnOk, IfErr};
 ghost use Rattle.mail_words.specs.declared.kind.TextKind.{TextKind};
 ghost use Rattle.mime_text.specs.declared.fault.SinkFault.{SinkFault};
 ghost use Rattle.mime_text.specs.Sinks.{most_in_text};
+ghost use Rattle.mime_text.specs.Inside.Showing.{Shows};
 
-use crate::fault::SinkFault;
+use crate::fault::{SinkFault, TextFault};
 use mail_words::TextKind;
 
 /// What takes the texts of a message, one at a time, each with its kind.
@@ -20,4 +21,16 @@ pub trait TextSink {
         requires { length text.now ≤ most_in_text kind }
         ensures taken { OnOk result (takes self.old kind text.now self.new) }
         ensures refused { IfErr result (λ fault. refuses self.old kind text.now fault self.new) };
+}
+
+/// Gives a sink a text.
+pub(crate) fn give_text<S: TextSink>(
+    kind: TextKind,
+    text: &str,
+    sink: &mut S,
+) -> Result<(), TextFault>
+    requires { length text.now ≤ most_in_text kind }
+    ensures { Shows S.takes S.refuses kind text.now result sink.old sink.new }
+{
+    Ok(sink.text(kind, text)?)
 }

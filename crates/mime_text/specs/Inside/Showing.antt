@@ -1,19 +1,18 @@
--- What a sink makes of one text of a body.
+-- What a sink makes of one text.
 use Rattle.std.specs.Prelude.{◌≡◌, ℕ, List, Result}
 use Rattle.std.specs.Result.{MatchResult}
 use Rattle.mail_words.specs.declared.kind.TextKind.{TextKind}
-use Rattle.mail_words.specs.declared.kind.TextKind.TheVariants as kind
 use Rattle.mime_text.specs.declared.fault.SinkFault.{SinkFault}
 use Rattle.mime_text.specs.declared.fault.TextFault.{TextFault}
 use Rattle.mime_text.specs.declared.fault.TextFault.TheVariants.{OutOfMemory, Sink, Failed}
 
 module _ {S : Type 0} (takes : S → TextKind → List ℕ → S → Type 0) (refuses : S → TextKind → List ℕ → SinkFault → S → Type 0) where
-  -- before the sink takes a text of a body, memory is wanting, or it refuses the text
-  abbrev pub Stops : TextFault → List ℕ → S → S → Type 0
-  Stops OutOfMemory text old new = new ≡ old
-  Stops (Sink fault) text old new = refuses old kind.Body text fault new
-  Stops Failed text old new = ⊥
+  -- before the sink takes a text, memory is wanting, or it refuses the text
+  abbrev pub Stops : TextFault → TextKind → List ℕ → S → S → Type 0
+  Stops OutOfMemory kind text old new = new ≡ old
+  Stops (Sink fault) kind text old new = refuses old kind text fault new
+  Stops Failed kind text old new = ⊥
 
-  -- the sink is given one text of a body
-  abbrev pub Shows : {T : Type 0} → List ℕ → Result T TextFault → S → S → Type 0
-  Shows text result old new = MatchResult result (λ _. takes old kind.Body text new) (λ fault. Stops fault text old new)
+  -- the sink is given one text
+  abbrev pub Shows : {T : Type 0} → TextKind → List ℕ → Result T TextFault → S → S → Type 0
+  Shows kind text result old new = MatchResult result (λ _. takes old kind text new) (λ fault. Stops fault kind text old new)

@@ -1,11 +1,11 @@
 //! What a message's own header says beside its texts.
-ghost use Rattle.std.specs.Prelude.{◌≡◌, ◌==◌, ◌<◌, ◌≤◌, ℕ, List, length, map, All, IfOk, IfSome, option_map};
+ghost use Rattle.std.specs.Prelude.{◌≡◌, ◌==◌, ◌<◌, ◌≤◌, ℕ, List, length, map, All, IfOk, IfSome, OnOk, option_map};
 ghost use Rattle.std.specs.List.{list_any};
 ghost use Rattle.header_text.specs.Headers.{fields_size, most_in_header};
 ghost use Rattle.mime_text.specs.MessageFacts.{date_text_of, flags_of, own_id_of, ids_of_fields, first_of, is_status as is_status_of, is_linking as is_linking_of, IsSizedId, HasSizedIds};
 ghost use Rattle.header_text.specs.Ids.{ids_of};
 
-use crate::header::field_text::{FieldReader, unfold_anew};
+use crate::header::field_text::FieldReader;
 use crate::header::owned::{DateText, MessageId, MessageIds};
 use header_text::{Fields, Header, is_named, message_ids};
 use mail_words::Flags;
@@ -42,7 +42,7 @@ impl Facts {
         ensures sizes { IfOk result HasSizedIds }
     {
         Ok(Facts {
-            flags: flags(alloc, header.fields())?,
+            flags: flags(header.fields()),
             ids: linking_ids(alloc, header.fields())?,
             own_id: own_id(alloc, header.fields())?,
             date_text: date_text(alloc, header.fields(), reader)?,
@@ -50,36 +50,69 @@ impl Facts {
     }
 }
 
-/// Facts that are kept until the message ends, which contracts see as these facts.
+/// The facts of a message, once its own header has ended, which contracts see as these facts.
 #[derive(Drop)]
 pub(crate) struct KeptFacts {
-    facts: Facts,
+    facts: Option<Facts>,
 }
 
 impl Model for KeptFacts {
+    ghost use Rattle.std.specs.Prelude.{Option, IfSome};
     ghost use Rattle.mime_text.specs.declared.header.facts.Facts.{Facts};
     ghost use Rattle.mime_text.specs.MessageFacts.{HasSizedIds};
 
-    ghost Value = { Facts };
+    ghost Value = { Option Facts };
 
     ghost view = { λ kept. kept.facts };
 
-    ghost invariant = { λ kept. HasSizedIds kept.facts };
+    ghost invariant = { λ kept. IfSome kept.facts HasSizedIds };
 }
 
 impl KeptFacts {
-    pub(crate) fn of(facts: Facts) -> Self
-        requires { HasSizedIds facts }
-        ensures { result ≡ facts }
+    ghost use Rattle.mime_text.specs.Feeding.{Notes};
+
+    pub(crate) fn none() -> Self
+        ensures { result ≡ None }
     {
-        KeptFacts { facts }
+        KeptFacts { facts: None }
     }
 
-    pub(crate) fn into_facts(self) -> Facts
-        ensures same { result ≡ self }
-        ensures sizes { HasSizedIds result }
+    /// Keeps these in place of those before, if any.
+    pub(crate) fn set(&mut self, facts: Option<Facts>)
+        requires { IfSome facts HasSizedIds }
+        ensures { self.new ≡ facts }
     {
-        self.facts
+        self.facts = facts;
+    }
+
+    /// What the message's own header says, which is no longer kept: what is known of it, or else what this one says.
+    pub(crate) fn take(
+        &mut self,
+        alloc: Global,
+        header: &Header,
+        reader: &mut FieldReader,
+    ) -> Result<Facts, AllocError>
+        ensures facts { IfOk result (λ facts. Notes self.old (Some facts) header.now) }
+        ensures sizes { IfOk result HasSizedIds }
+    {
+        match self.facts.take() {
+            Some(facts) => Ok(facts),
+            None => Facts::of(alloc, header, reader),
+        }
+    }
+
+    /// Keeps what the header says of the message, if it is the first that has ended.
+    pub(crate) fn note(
+        &mut self,
+        alloc: Global,
+        header: &Header,
+        reader: &mut FieldReader,
+    ) -> Result<(), AllocError>
+        ensures { OnOk result (Notes self.old self.new header.now) }
+    {
+        let facts = self.take(alloc, header, reader)?;
+        self.set(Some(facts));
+        Ok(())
     }
 }
 
@@ -95,8 +128,9 @@ fn date_text(
     let Some(body) = fields.first_body(b"date") else {
         return Ok(None);
     };
-    let text = reader.read(body)?;
-    Ok(Some(DateText::new(alloc, text)?))
+    reader.read(body)?;
+    let text = String::from_str(alloc, reader.text())?;
+    Ok(Some(DateText::of(text)))
 }
 
 /// Whether mail programs note flags in a field of this name.
@@ -107,10 +141,9 @@ fn is_status(name: &[u8]) -> bool
 }
 
 /// The flags that the values of the Status and X-Status fields have together.
-fn flags(alloc: Global, fields: Fields<'_>) -> Result<Flags, AllocError>
-    ensures { IfOk result (λ flags. flags ≡ flags_of fields.entry) }
+fn flags(fields: Fields<'_>) -> Flags
+    ensures { result ≡ flags_of fields.entry }
 {
-    let mut unfolded = Vec::new(alloc);
     let mut flags = Flags {
         seen: false,
         replied: false,
@@ -118,13 +151,13 @@ fn flags(alloc: Global, fields: Fields<'_>) -> Result<Flags, AllocError>
     };
     for field in fields {
         if is_status(field.name) {
-            let value = unfold_anew(field.body, &mut unfolded)?;
-            flags.seen |= value.contains(&b'R');
-            flags.replied |= value.contains(&b'A');
-            flags.flagged |= value.contains(&b'F');
+            // A line break is none of these letters, so the body isn't unfolded.
+            flags.seen |= field.body.contains(&b'R');
+            flags.replied |= field.body.contains(&b'A');
+            flags.flagged |= field.body.contains(&b'F');
         }
     }
-    Ok(flags)
+    flags
 }
 
 /// The first id of a body.

@@ -1,8 +1,7 @@
 //! The texts of a header's fields, and of the name of its entity.
-ghost use Rattle.std.specs.Prelude.{◌≡◌, ◌≤◌, ◌*◌, length, option_map, if◌then◌else◌, IfOk, IfSome, OnOk, string_bytes};
+ghost use Rattle.std.specs.Prelude.{◌≡◌, ◌≤◌, ◌*◌, length, option_map, IfSome, OnOk, string_bytes};
 ghost use Rattle.header_text.specs.Headers.{fields_size, most_in_header};
-ghost use Rattle.header_text.specs.Unfolding.{unfolded as unfolded_of};
-ghost use Rattle.mime_text.specs.Names.{name_text};
+ghost use Rattle.mime_text.specs.Names.{name_text, unless_empty};
 ghost use Rattle.mime_text.specs.FieldTexts.{kind_of_field as kind_of_field_of, text_of_body};
 ghost use Rattle.mime_text.specs.Limits.{most_in_header_text};
 
@@ -15,28 +14,20 @@ use std::alloc::{AllocError, Global};
 pub(crate) fn kind_of_field(name: &[u8]) -> Option<TextKind>
     ensures { result ≡ kind_of_field_of name.now }
 {
-    if is_named(name, b"to") {
-        Some(TextKind::To)
+    let kind = if is_named(name, b"to") {
+        TextKind::To
     } else if is_named(name, b"cc") {
-        Some(TextKind::Cc)
+        TextKind::Cc
     } else if is_named(name, b"bcc") {
-        Some(TextKind::Bcc)
+        TextKind::Bcc
     } else if is_named(name, b"from") {
-        Some(TextKind::From)
+        TextKind::From
     } else if is_named(name, b"subject") {
-        Some(TextKind::Subject)
+        TextKind::Subject
     } else {
-        None
-    }
-}
-
-/// Writes a body in one line (RFC 5322, 2.2.3), and lends it.
-pub(crate) fn unfold_anew<'a>(body: &[u8], into: &'a mut Vec<u8>) -> Result<&'a [u8], AllocError>
-    ensures { IfOk result (λ value. value.now ≡ unfolded_of body.now) }
-{
-    into.clear();
-    unfold_into(body, into)?;
-    Ok(into.as_slice())
+        return None;
+    };
+    Some(kind)
 }
 
 /// Writes the text of a body, and before that the body in one line. What the buffers hold after an error isn't said.
@@ -53,8 +44,7 @@ fn write_text(
     unfolded.clear();
     unfold_into(body, unfolded)?;
     into.clear();
-    decode_words_into(unfolded, scratch, into)?;
-    Ok(())
+    decode_words_into(unfolded, scratch, into)
 }
 
 /// Reads the bodies of fields and the names of entities, into memory that is used again for each and bounded by what a header
@@ -79,8 +69,9 @@ impl FieldReader {
         }
     }
 
-    /// Reads a body, and keeps nothing where memory is wanting.
-    fn take(&mut self, body: &[u8]) -> Result<(), AllocError>
+    /// Reads the text of a body: in one line, its encoded words decoded (RFC 2047). It has at most three bytes for each of the
+    /// body's. Where memory is wanting nothing is kept.
+    pub(crate) fn read(&mut self, body: &[u8]) -> Result<(), AllocError>
         requires { length body.now ≤ most_in_header }
         ensures text { OnOk result (string_bytes self.new.text ≡ text_of_body body.now) }
         ensures size { OnOk result (length (string_bytes self.new.text) ≤ 3 * length body.now) }
@@ -94,22 +85,19 @@ impl FieldReader {
         outcome
     }
 
-    /// The text of a body: in one line, its encoded words decoded (RFC 2047). It has at most three bytes for each of the
-    /// body's.
-    pub(crate) fn read(&mut self, body: &[u8]) -> Result<&str, AllocError>
-        requires { length body.now ≤ most_in_header }
-        ensures text { IfOk result (λ text. text.now ≡ text_of_body body.now) }
-        ensures size { IfOk result (λ text. length text.now ≤ 3 * length body.now) }
+    /// The text that was read last.
+    pub(crate) fn text(&self) -> &str
+        ensures text { result.now ≡ string_bytes self.now.text }
+        ensures size { length result.now ≤ most_in_header_text }
     {
-        self.take(body)?;
-        Ok(self.text.as_str())
+        self.text.as_str()
     }
 
-    /// Reads the name of a header's entity, and keeps nothing where memory is wanting. The answer is whether it has one.
-    fn take_name(&mut self, fields: Fields<'_>) -> Result<bool, AllocError>
+    /// Reads the name of a header's entity, which is empty where it has none, and keeps nothing where memory is wanting.
+    pub(crate) fn read_name(&mut self, fields: Fields<'_>) -> Result<(), AllocError>
         requires { fields_size fields ≤ most_in_header }
-        ensures { IfOk result (λ found. (if found then Some (string_bytes self.new.text) else None)
-            ≡ name_text fields.entry) }
+        ensures { OnOk result (option_map (λ _. string_bytes self.new.text)
+            (unless_empty (Some self.new.unfolded.items)) ≡ name_text fields.entry) }
     {
         let outcome = write_name(
             fields,
@@ -125,14 +113,13 @@ impl FieldReader {
         outcome
     }
 
-    /// The text of the name of a header's entity, if it has one. It has at most three bytes for each of the name's.
-    pub(crate) fn read_name(&mut self, fields: Fields<'_>) -> Result<Option<&str>, AllocError>
-        requires { fields_size fields ≤ most_in_header }
-        ensures text { IfOk result (λ name. option_map (λ text. text.now) name
-            ≡ name_text fields.entry) }
-        ensures size { IfOk result (λ name. IfSome name
-            (λ text. length text.now ≤ most_in_header_text)) }
+    /// The text of the name that was read last, if the entity has one. It has at most three bytes for each of the name's.
+    pub(crate) fn name(&self) -> Option<&str>
+        ensures text { option_map (λ text. text.now) result
+            ≡ option_map (λ _. string_bytes self.now.text)
+            (unless_empty (Some self.now.unfolded.items)) }
+        ensures size { IfSome result (λ text. length text.now ≤ most_in_header_text) }
     {
-        Ok(self.take_name(fields)?.then_some(self.text.as_str()))
+        (!self.unfolded.is_empty()).then_some(self.text.as_str())
     }
 }

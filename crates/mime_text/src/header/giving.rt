@@ -3,23 +3,14 @@ ghost use Rattle.std.specs.Prelude.{◌≡◌, ◌≤◌, [], ◌∷◌, length}
 ghost use Rattle.header_text.specs.Headers.{fields_size, most_in_header};
 ghost use Rattle.mime_text.specs.FieldTexts.{texts_of_fields};
 ghost use Rattle.mime_text.specs.Names.{name_texts};
-ghost use Rattle.mime_text.specs.Sinks.{Hands, most_in_text};
+ghost use Rattle.mime_text.specs.Sinks.{Hands};
 ghost use Rattle.mime_text.specs.Feeding.{counted_texts, header_texts};
 
 use crate::fault::TextFault;
 use crate::header::field_text::{FieldReader, kind_of_field};
-use crate::sink::TextSink;
+use crate::sink::{TextSink, give_text};
 use header_text::{Field, Fields};
 use mail_words::TextKind;
-
-/// Gives a text.
-fn give_text<S: TextSink>(kind: TextKind, text: &str, sink: &mut S) -> Result<(), TextFault>
-    requires { length text.now ≤ most_in_text kind }
-    ensures { Hands S.takes S.refuses (λ _. (kind, text.now) ∷ []) (λ _. []) result
-        sink.old sink.new }
-{
-    Ok(sink.text(kind, text)?)
-}
 
 /// Gives the text of a field, if it is one of the five.
 fn give_field<S: TextSink>(
@@ -35,27 +26,11 @@ fn give_field<S: TextSink>(
     let Some(kind) = kind_of_field(field.name) else {
         return Ok(());
     };
-    let text = reader.read(field.body)?;
-    give_text(kind, text, sink)
+    reader.read(field.body)?;
+    give_text(kind, reader.text(), sink)
 }
 
-/// Gives the texts of a header's fields, in order.
-fn give_fields<S: TextSink>(
-    fields: Fields<'_>,
-    reader: &mut FieldReader,
-    sink: &mut S,
-) -> Result<(), TextFault>
-    requires { fields_size fields ≤ most_in_header }
-    ensures { Hands S.takes S.refuses (λ _. texts_of_fields fields.entry) (λ _. []) result
-        sink.old sink.new }
-{
-    for field in fields {
-        give_field(field, reader, sink)?;
-    }
-    Ok(())
-}
-
-/// Gives the texts of a header's fields, if it counts.
+/// Gives the texts of a header's fields, in order, if it counts.
 fn give_counted<S: TextSink>(
     counted: bool,
     fields: Fields<'_>,
@@ -66,11 +41,13 @@ fn give_counted<S: TextSink>(
     ensures { Hands S.takes S.refuses (λ _. counted_texts counted fields.entry) (λ _. []) result
         sink.old sink.new }
 {
-    if counted {
-        give_fields(fields, reader, sink)
-    } else {
-        Ok(())
+    if !counted {
+        return Ok(());
     }
+    for field in fields {
+        give_field(field, reader, sink)?;
+    }
+    Ok(())
 }
 
 /// Gives the name of a header's entity, if it has one.
@@ -83,7 +60,8 @@ fn give_name<S: TextSink>(
     ensures { Hands S.takes S.refuses (λ _. name_texts fields.entry) (λ _. []) result
         sink.old sink.new }
 {
-    match reader.read_name(fields)? {
+    reader.read_name(fields)?;
+    match reader.name() {
         Some(text) => give_text(TextKind::Name, text, sink),
         None => Ok(()),
     }

@@ -29,13 +29,11 @@ impl Model for DateText {
 }
 
 impl DateText {
-    pub(crate) fn new(alloc: Global, text: &str) -> Result<Self, AllocError>
-        requires { length text.now ≤ most_in_header_text }
-        ensures { IfOk result (λ t. t ≡ text.now) }
+    pub(crate) fn of(text: String) -> Self
+        requires { length (string_bytes text) ≤ most_in_header_text }
+        ensures { result ≡ string_bytes text }
     {
-        Ok(DateText {
-            text: String::from_str(alloc, text)?,
-        })
+        DateText { text }
     }
 
     pub fn as_str(&self) -> &str

@@ -40,18 +40,20 @@ fn is_passed_on(decoder: &Decoder, held: &HeldLine, line: &[u8]) -> bool
 
 impl LeafReader {
     /// A reader of a body that is plain text in UTF-8 as it stands. It takes no memory.
+    #[tactic(auto, using(crate::proofs::TagLemmas::texts_begin), unfolding(crate::specs::LeafTexts::leaf_texts))]
     pub fn new(alloc: Global) -> Self
         ensures { (ls : List (List ℕ)) → pairs_to_come result ls
             ≡ body_pairs (leaf_texts TransferEncoding.Identity Charset.Utf8 false ls) }
     {
         LeafReader {
-            decoder: Decoder::new(TransferEncoding::Identity),
+            decoder: Decoder::Identity,
             held: HeldLine::new(alloc),
             texts: LineTexts::new(alloc),
         }
     }
 
     /// Begins a body.
+    #[tactic(auto, using(crate::proofs::TagLemmas::texts_begin), unfolding(crate::specs::LeafTexts::leaf_texts))]
     pub fn begin(&mut self, transfer: TransferEncoding, charset: Charset, is_html: bool)
         ensures { (ls : List (List ℕ)) → pairs_to_come self.new ls
             ≡ body_pairs (leaf_texts transfer charset is_html ls) }

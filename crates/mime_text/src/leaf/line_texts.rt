@@ -1,5 +1,6 @@
 //! The texts of a leaf's decoded lines.
 ghost use Rattle.std.specs.Prelude.{◌≡◌, ℕ, ◌≤◌, ◌∷◌, List, false, length, OnOk};
+ghost use Rattle.mail_words.specs.declared.kind.TextKind.TheVariants as kind;
 ghost use Rattle.mime_text.specs.OpenTags.{line_text, is_open_behind_line};
 ghost use Rattle.mime_text.specs.Sinks.{Hands};
 ghost use Rattle.mime_text.specs.Inside.Showing.{Shows};
@@ -51,8 +52,8 @@ impl LineTexts {
     /// Gives a sink the text of the next line, and keeps whether a tag is open behind it.
     fn show_line<S: TextSink>(&mut self, line: &[u8], sink: &mut S) -> Result<(), TextFault>
         requires { length line.now ≤ most_in_line }
-        ensures shows { Shows S.takes S.refuses (line_text self.old.charset self.old.is_html
-            self.old.is_open line.now) result sink.old sink.new }
+        ensures shows { Shows S.takes S.refuses kind.Body (line_text self.old.charset
+            self.old.is_html self.old.is_open line.now) result sink.old sink.new }
         ensures charset { self.new.charset ≡ self.old.charset }
         ensures is_html { self.new.is_html ≡ self.old.is_html }
         ensures is_open { OnOk result (self.new.is_open
@@ -61,13 +62,12 @@ impl LineTexts {
         if !self.is_html {
             return self.buffers.show_plain(self.charset, line, sink);
         }
-        self.is_open = self
-            .buffers
-            .show_html(self.charset, self.is_open, line, sink)?;
-        Ok(())
+        self.buffers
+            .show_html(self.charset, &mut self.is_open, line, sink)
     }
 
     /// Gives a sink the text of the next line.
+    #[tactic(auto, using(crate::proofs::LineSteps::hands_line))]
     pub(crate) fn give<S: TextSink>(&mut self, line: &[u8], sink: &mut S) -> Result<(), TextFault>
         requires { length line.now ≤ most_in_line }
         ensures { Hands S.takes S.refuses (λ ls. pairs_of_lines self.old (line.now ∷ ls))

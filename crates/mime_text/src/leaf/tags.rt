@@ -15,7 +15,7 @@ const SPACES: &str = "                                                          
 pub(crate) fn is_free_of_tags(open_before: bool, text: &str) -> bool
     ensures text { result ≡ true → encode_utf8_all (blanked open_before (chars text.now))
         ≡ text.now }
-    ensures is_open { result ≡ true → is_open_behind open_before (chars text.now) ≡ false }
+    ensures is_open { result ≡ true → is_open_behind open_before (chars text.now) ≡ open_before }
 {
     if open_before {
         return false;
@@ -34,14 +34,6 @@ fn character_count(text: &str) -> usize
     }
 }
 
-/// So many spaces.
-fn spaces(count: usize) -> &'static str
-    requires { count ≤ 64 }
-    ensures { result.now ≡ replicate count 0x20 }
-{
-    &SPACES[..count]
-}
-
 /// Adds so many spaces.
 fn push_spaces(count: usize, into: &mut String) -> Result<(), AllocError>
     ensures { OnOk result (string_bytes into.new ≡ string_bytes into.old ++ replicate count 0x20) }
@@ -49,13 +41,14 @@ fn push_spaces(count: usize, into: &mut String) -> Result<(), AllocError>
     let mut left = count;
     while left > 0 {
         let some = left.min(SPACES.len());
-        into.push_str(spaces(some))?;
+        into.push_str(&SPACES[..some])?;
         left -= some;
     }
     Ok(())
 }
 
 /// Adds what stands in a tag or outside of one, with a space for each character in a tag.
+#[tactic(auto, using(crate::proofs::TagReads::written_tag, crate::proofs::TagReads::written_outside))]
 fn push_span(in_tag: bool, span: &str, into: &mut String) -> Result<(), AllocError>
     ensures { OnOk result (string_bytes into.new ≡ string_bytes into.old ++ encode_utf8_all
         (shown_span in_tag (chars span.now))) }

@@ -9,7 +9,7 @@ ghost use Rattle.mime_text.specs.Limits.{most_in_line, most_in_line_text};
 use crate::fault::TextFault;
 use crate::leaf::own_text::own_text;
 use crate::leaf::tags::{blank_tags, is_free_of_tags};
-use crate::sink::TextSink;
+use crate::sink::{TextSink, give_text};
 use header_text::{Charset, decode_into};
 use mail_words::TextKind;
 use std::alloc::{AllocError, Global};
@@ -21,14 +21,6 @@ pub(crate) struct TextBuffers {
     blanked: String,
     ghost text_fits: { length (string_bytes text) ≤ most_in_line_text },
     ghost blanked_fits: { length (string_bytes blanked) ≤ most_in_line_text },
-}
-
-/// Gives a sink a text of a body.
-fn show<S: TextSink>(text: &str, sink: &mut S) -> Result<(), TextFault>
-    requires { length text.now ≤ most_in_line_text }
-    ensures { Shows S.takes S.refuses text.now result sink.old sink.new }
-{
-    Ok(sink.text(TextKind::Body, text)?)
 }
 
 /// Writes the text of a line; nothing where memory is wanting.
@@ -78,13 +70,14 @@ impl TextBuffers {
         sink: &mut S,
     ) -> Result<(), TextFault>
         requires { length line.now ≤ most_in_line }
-        ensures { Shows S.takes S.refuses (text_of charset line.now) result sink.old sink.new }
+        ensures { Shows S.takes S.refuses TextKind.Body (text_of charset line.now) result
+            sink.old sink.new }
     {
         if let Some(text) = own_text(charset, line) {
-            return show(text, sink);
+            return give_text(TextKind::Body, text, sink);
         }
         write_text(charset, line, &mut self.text)?;
-        show(self.text.as_str(), sink)
+        give_text(TextKind::Body, self.text.as_str(), sink)
     }
 
     /// Writes the text of a line, which may stand in its own bytes, without its tags. The answer is whether a tag is open behind it.
@@ -110,29 +103,27 @@ impl TextBuffers {
         write_blanked(open_before, self.text.as_str(), &mut self.blanked)
     }
 
-    /// Gives a sink the text of a line without its tags. The answer is whether a tag is open behind it.
+    /// Gives a sink the text of a line without its tags, and keeps whether a tag is open behind it.
     pub(crate) fn show_html<S: TextSink>(
         &mut self,
         charset: Charset,
-        open_before: bool,
+        is_open: &mut bool,
         line: &[u8],
         sink: &mut S,
-    ) -> Result<bool, TextFault>
+    ) -> Result<(), TextFault>
         requires { length line.now ≤ most_in_line }
-        ensures shows { Shows S.takes S.refuses (encode_utf8_all
-            (blanked open_before (chars (text_of charset line.now)))) result sink.old sink.new }
-        ensures is_open { IfOk result (λ behind. behind
-            ≡ is_open_behind open_before (chars (text_of charset line.now))) }
+        ensures shows { Shows S.takes S.refuses TextKind.Body (encode_utf8_all
+            (blanked is_open.old (chars (text_of charset line.now)))) result sink.old sink.new }
+        ensures is_open { OnOk result (is_open.new
+            ≡ is_open_behind is_open.old (chars (text_of charset line.now))) }
     {
         let own = own_text(charset, line);
         if let Some(text) = own
-            && is_free_of_tags(open_before, text)
+            && is_free_of_tags(*is_open, text)
         {
-            show(text, sink)?;
-            return Ok(false);
+            return give_text(TextKind::Body, text, sink);
         }
-        let behind = self.write_blanked_line(charset, open_before, line, own)?;
-        show(self.blanked.as_str(), sink)?;
-        Ok(behind)
+        *is_open = self.write_blanked_line(charset, *is_open, line, own)?;
+        give_text(TextKind::Body, self.blanked.as_str(), sink)
     }
 }

@@ -22,11 +22,11 @@ impl TransferEncoding {
         ensures { result ≡ transfer_named name.now }
     {
         if is_named(name, b"quoted-printable") {
-            TransferEncoding::QuotedPrintable
-        } else if is_named(name, b"base64") {
-            TransferEncoding::Base64
-        } else {
-            TransferEncoding::Identity
+            return TransferEncoding::QuotedPrintable;
         }
+        if is_named(name, b"base64") {
+            return TransferEncoding::Base64;
+        }
+        TransferEncoding::Identity
     }
 }

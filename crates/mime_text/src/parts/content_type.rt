@@ -1,5 +1,6 @@
 //! What an entity is, by its header.
-ghost use Rattle.std.specs.Prelude.{◌≡◌, ◌≤◌, ℕ, List, length, IfOk, OnOk};
+ghost use Rattle.std.specs.Prelude.{◌≡◌, ◌≤◌, ℕ, List, [], length, unwrap_or, IfOk, OnOk};
+ghost use Rattle.mime_text.specs.Parameters.{parameter};
 ghost use Rattle.header_text.specs.Headers.{fields_of, fields_size};
 ghost use Rattle.header_text.specs.HeldLines.{HasLines};
 ghost use Rattle.mime_text.specs.Types.{first_value, type_text as type_text_of, has_slash as has_slash_of, media_type as media_type_of, default_type, default_in as default_in_of, is_multipart as is_multipart_of, shape_of_single as shape_of_single_of, shape_of_value, shape_of, charset_of_value, charset_in, transfer_in};
@@ -24,19 +25,33 @@ pub struct EntityType {
 
 /// Writes the unfolded value of the first field of a name, in any ASCII case; nothing where there is none.
 #[tactic(auto, unfolding(header_text::specs::Unfolding::unfolded, header_text::specs::Blanks::before_blanks))]
-pub(crate) fn read_first_value(
-    fields: Fields<'_>,
-    name: &[u8],
-    into: &mut Vec<u8>,
-) -> Result<(), AllocError>
+fn read_first_value(fields: Fields<'_>, name: &[u8], into: &mut Vec<u8>) -> Result<(), AllocError>
     ensures value { OnOk result (into.new.items ≡ first_value name.now fields.entry) }
     ensures size { OnOk result (length into.new.items ≤ fields_size fields.entry) }
 {
     into.clear();
-    if let Some(body) = fields.first_body(name) {
-        unfold_into(body, into)?;
+    match fields.first_body(name) {
+        Some(body) => unfold_into(body, into),
+        None => Ok(()),
     }
-    Ok(())
+}
+
+/// Writes the unfolded value of the first field of a name, and the value of its first parameter of a name; nothing where it is
+/// missing.
+pub(crate) fn read_parameter_in(
+    fields: Fields<'_>,
+    field: &[u8],
+    name: &[u8],
+    value: &mut Vec<u8>,
+    into: &mut Vec<u8>,
+) -> Result<(), AllocError>
+    ensures field { OnOk result (value.new.items ≡ first_value field.now fields.entry) }
+    ensures value { OnOk result (into.new.items
+        ≡ unwrap_or (parameter name.now (first_value field.now fields.entry)) []) }
+    ensures size { OnOk result (length into.new.items ≤ fields_size fields.entry) }
+{
+    read_first_value(fields, field, value)?;
+    read_parameter(value, name, into)
 }
 
 /// The type that a Content-Type field's value names before its first semicolon, or the default where it names none.
@@ -96,28 +111,41 @@ fn read_shape(default: DefaultType, value: &[u8], buffer: &mut Vec<u8>) -> Resul
     if !is_multipart(name) {
         return Ok(shape_of_single(name));
     }
-    if read_parameter(value, b"boundary", buffer)?
-        && let Some(boundary) = Boundary::new(buffer)
-    {
-        let default = default_in(name);
-        return Ok(Shape::Multipart { boundary, default });
-    }
-    Ok(Shape::Text { is_html: false })
-}
-
-/// The charset that a Content-Type field's value names.
-#[tactic(auto, unfolding(crate::specs::Types::charset_of_value))]
-fn read_charset(value: &[u8], buffer: &mut Vec<u8>) -> Result<Charset, AllocError>
-    ensures { IfOk result (λ charset. charset ≡ charset_of_value value.now) }
-{
-    if read_parameter(value, b"charset", buffer)? {
-        Ok(Charset::of(buffer))
-    } else {
-        Ok(Charset::of(b""))
-    }
+    read_parameter(value, b"boundary", buffer)?;
+    Ok(match Boundary::new(buffer) {
+        Some(boundary) => Shape::Multipart {
+            boundary,
+            default: default_in(name),
+        },
+        None => Shape::Text { is_html: false },
+    })
 }
 
 impl EntityType {
+    /// What the fields of an entity's header say. What the buffers hold then isn't said.
+    #[tactic(auto, unfolding(crate::specs::Types::charset_of_value))]
+    fn read(
+        default: DefaultType,
+        fields: Fields<'_>,
+        value: &mut Vec<u8>,
+        buffer: &mut Vec<u8>,
+    ) -> Result<Self, AllocError>
+        ensures shape { IfOk result (λ entity. entity.shape ≡ shape_of default fields.entry) }
+        ensures charset { IfOk result (λ entity. entity.charset ≡ charset_in fields.entry) }
+        ensures transfer { IfOk result (λ entity. entity.transfer ≡ transfer_in fields.entry) }
+    {
+        read_first_value(fields.again(), b"content-transfer-encoding", value)?;
+        let transfer = TransferEncoding::named(value);
+        read_parameter_in(fields, b"content-type", b"charset", value, buffer)?;
+        let charset = Charset::of(buffer);
+        let shape = read_shape(default, value, buffer)?;
+        Ok(EntityType {
+            shape,
+            charset,
+            transfer,
+        })
+    }
+
     /// What the header of an entity says, where the lines are those that it was given.
     pub fn of(alloc: Global, default: DefaultType, header: &Header) -> Result<Self, AllocError>
         ensures shape { IfOk result (λ entity. (ls : List (List ℕ)) → HasLines header.now ls
@@ -129,15 +157,6 @@ impl EntityType {
     {
         let mut value = Vec::new(alloc);
         let mut buffer = Vec::new(alloc);
-        read_first_value(header.fields(), b"content-type", &mut value)?;
-        let shape = read_shape(default, &value, &mut buffer)?;
-        let charset = read_charset(&value, &mut buffer)?;
-        read_first_value(header.fields(), b"content-transfer-encoding", &mut value)?;
-        let transfer = TransferEncoding::named(&value);
-        Ok(EntityType {
-            shape,
-            charset,
-            transfer,
-        })
+        EntityType::read(default, header.fields(), &mut value, &mut buffer)
     }
 }

@@ -6,6 +6,7 @@ ghost use Rattle.header_text.specs.EncodedWords.{after as after_of};
 ghost use Rattle.mime_text.specs.Parts.{are_blanks as are_blanks_of};
 ghost use Rattle.mime_text.specs.Frames.{dash_dash, dashes, delimiter_of, kind_behind};
 
+use header_text::after_blanks;
 use mbox_cutter::without_break;
 
 /// What a delimiter line does to its multipart.
@@ -25,10 +26,11 @@ fn after<'a>(front: &[u8], bytes: &'a [u8]) -> Option<&'a [u8]>
 }
 
 /// Whether all bytes are spaces and tabs.
+#[tactic(auto, using(crate::proofs::FrameLemmas::blanks_alone))]
 fn are_blanks(bytes: &[u8]) -> bool
     ensures { result ≡ list_all is_blank_of bytes.now }
 {
-    bytes.iter().all(|b| matches!(b, b' ' | b'\t'))
+    after_blanks(bytes).is_empty()
 }
 
 /// What follows the two dashes that a delimiter line begins with, without the line break.
@@ -49,7 +51,7 @@ fn has_last_of(boundary: &[u8], text: &[u8]) -> bool
 }
 
 /// What a line is to the multipart of a boundary, by what follows the line's two dashes.
-#[tactic(auto, unfolding(crate::specs::Frames::delimiter_of))]
+#[tactic(auto, using(crate::proofs::FrameLemmas::not_blank), unfolding(crate::specs::Frames::delimiter_of))]
 pub(crate) fn delimiter_behind(boundary: &[u8], text: &[u8]) -> Option<Delimiter>
     ensures { result ≡ delimiter_of boundary.now text.now }
 {
@@ -57,11 +59,8 @@ pub(crate) fn delimiter_behind(boundary: &[u8], text: &[u8]) -> Option<Delimiter
         return None;
     }
     let rest = after(boundary, text)?;
-    if after(b"--", rest).is_some_and(are_blanks) {
-        Some(Delimiter::Closing)
-    } else if are_blanks(rest) {
-        Some(Delimiter::Next)
-    } else {
-        None
+    match after(b"--", rest) {
+        Some(end) => are_blanks(end).then_some(Delimiter::Closing),
+        None => are_blanks(rest).then_some(Delimiter::Next),
     }
 }

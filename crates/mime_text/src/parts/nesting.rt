@@ -109,6 +109,7 @@ impl Nesting {
     }
 
     /// Opens a multipart, the one that is read, where a depth is left for its pieces.
+    #[tactic(auto, using(crate::proofs::FrameLemmas::AreNested_push, crate::proofs::FrameLemmas::open_frames))]
     pub(crate) fn open(
         &mut self,
         boundary: Boundary,

@@ -1,5 +1,5 @@
 //! The parameters of a field (RFC 2045, 5.1; RFC 2183, 2), read leniently.
-ghost use Rattle.std.specs.Prelude.{◌≡◌, ◌<◌, ◌≤◌, ◌++◌, true, false, length, IfOk, IfSome, option_map, if◌then◌else◌};
+ghost use Rattle.std.specs.Prelude.{◌≡◌, ◌<◌, ◌≤◌, ◌++◌, [], length, IfOk, OnOk, option_map, unwrap_or};
 ghost use Rattle.std.specs.Option.{option_map_or};
 ghost use Rattle.header_text.specs.Blanks.{split_while};
 ghost use Rattle.header_text.specs.Names.{is_named as is_named_of};
@@ -80,9 +80,9 @@ fn read_value<'a>(text: &'a [u8], into: &mut Vec<u8>) -> Result<&'a [u8], AllocE
         ≡ into.old.items ++ (value_and_rest text.now).0) }
     ensures rest { IfOk result (λ rest. rest.now ≡ (value_and_rest text.now).1) }
 {
-    match text.split_first() {
-        Some((first, others)) if *first == b'"' => read_quoted(others, into),
-        _ => read_token(text, into),
+    match text.strip_prefix(b"\"") {
+        Some(quoted) => read_quoted(quoted, into),
+        None => read_token(text, into),
     }
 }
 
@@ -134,20 +134,21 @@ fn read_piece<'a>(text: &'a [u8], into: &mut Vec<u8>) -> Result<Piece<'a>, Alloc
     }
 }
 
-/// Whether an unfolded value has a parameter of a name, in any ASCII case. The first one counts, and the buffer then holds its
-/// value. What the buffer holds else isn't said.
-pub fn read_parameter(value: &[u8], name: &[u8], into: &mut Vec<u8>) -> Result<bool, AllocError>
-    ensures value { IfOk result (λ found. (if found then Some into.new.items else None)
-        ≡ parameter_of name.now value.now) }
-    ensures size { IfOk result (λ found. found ≡ true → length into.new.items ≤ length value.now) }
+/// Writes the value of the first parameter of a name, in any ASCII case, that an unfolded value has; nothing where there is none.
+pub fn read_parameter(value: &[u8], name: &[u8], into: &mut Vec<u8>) -> Result<(), AllocError>
+    ensures value { OnOk result (into.new.items ≡ unwrap_or (parameter_of name.now value.now) []) }
+    ensures size { OnOk result (length into.new.items ≤ length value.now) }
 {
     let mut rest = behind_semicolon(value);
     while let Some(text) = rest {
         let piece = read_piece(text, into)?;
-        if piece.name.is_some_and(|found| is_named(found, name)) {
-            return Ok(true);
+        if let Some(found) = piece.name
+            && is_named(found, name)
+        {
+            return Ok(());
         }
         rest = piece.later;
     }
-    Ok(false)
+    into.clear();
+    Ok(())
 }

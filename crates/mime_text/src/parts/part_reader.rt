@@ -51,8 +51,7 @@ pub(crate) struct PartReader {
     header: Header,
     leaf: LeafReader,
     fields: FieldReader,
-    // Of the message's own header, once it has ended.
-    facts: Option<KeptFacts>,
+    facts: KeptFacts,
 }
 
 /// Gives what an entity still gives where it ends.
@@ -74,22 +73,6 @@ fn end_entity<S: TextSink>(
     }
 }
 
-/// What a message's own header says: what is known of it, or else what this one says.
-fn facts_behind(
-    alloc: Global,
-    header: &Header,
-    reader: &mut FieldReader,
-    known: Option<KeptFacts>,
-) -> Result<Facts, AllocError>
-    ensures facts { IfOk result (λ facts. Notes known (Some facts) header.now) }
-    ensures sizes { IfOk result HasSizedIds }
-{
-    match known {
-        Some(facts) => Ok(facts.into_facts()),
-        None => Facts::of(alloc, header, reader),
-    }
-}
-
 impl PartReader {
     ghost use Rattle.mime_text.specs.Feeding.{Comes, ComesBehindHeader, ComesEnding, KnowsFacts, given_after, given_behind};
 
@@ -105,7 +88,7 @@ impl PartReader {
             header: Header::new(alloc),
             leaf: LeafReader::new(alloc),
             fields: FieldReader::new(alloc),
-            facts: None,
+            facts: KeptFacts::none(),
         }
     }
 
@@ -190,21 +173,8 @@ impl PartReader {
         ensures facts { OnOk result (Notes self.old.facts self.new.facts self.old.header) }
     {
         give_header(counted, self.header.fields(), &mut self.fields, sink)?;
-        self.note_facts()?;
+        self.facts.note(self.alloc, &self.header, &mut self.fields)?;
         Ok(self.begin_body(default)?)
-    }
-
-    /// Keeps what the header says of the message, if it is the first that has ended.
-    fn note_facts(&mut self) -> Result<(), AllocError>
-        ensures kept { self.new ≡ record self.old
-            { facts = self.new.facts; fields = self.new.fields } }
-        ensures facts { OnOk result (Notes self.old.facts self.new.facts self.old.header) }
-    {
-        if self.facts.is_none() {
-            let facts = Facts::of(self.alloc, &self.header, &mut self.fields)?;
-            self.facts = Some(KeptFacts::of(facts));
-        }
-        Ok(())
     }
 
     /// Begins the body of the entity whose header has ended.
@@ -249,8 +219,7 @@ impl PartReader {
             &mut self.fields,
             sink,
         )?;
-        let known = self.facts.take();
-        Ok(facts_behind(self.alloc, &self.header, &mut self.fields, known)?)
+        Ok(self.facts.take(self.alloc, &self.header, &mut self.fields)?)
     }
 
     /// Before the first line of another message. Nothing of the message before it counts, and the memory is kept.
@@ -261,6 +230,6 @@ impl PartReader {
         self.state = IN_MESSAGE;
         self.nesting.clear();
         self.header.clear();
-        self.facts = None;
+        self.facts.set(None);
     }
 }

@@ -12,10 +12,10 @@ returns-clause-pairs g c =
     end-passed g.S.TextSink.takes g.S.TextSink.refuses c.args.self.now c.fields.result _ _ c.fields.ensures.fields c.in_ok-end_entity.ensures
 
 pub returns-clause-facts : goal.returns-clause-facts
-returns-clause-facts g c = facts-whole c.args.self.now c.in_ok-facts_behind.field-0 (rw (← c.take-known.ensures.value) c.in_ok-facts_behind.ensures.facts)
+returns-clause-facts g c = facts-whole c.args.self.now c.in_ok-take.field-0 c.in_ok-take.ensures.facts
 
-pub returns-in_err-facts_behind-clause-pairs : goal.returns-in_err-facts_behind-clause-pairs
-returns-in_err-facts_behind-clause-pairs g c =
-    rw (fault-up c.from_residual-in_err-facts_behind.result _ c.from_residual-in_err-facts_behind.ensures.1)
+pub returns-in_err-take-clause-pairs : goal.returns-in_err-take-clause-pairs
+returns-in_err-take-clause-pairs g c =
+    rw (fault-up c.from_residual-in_err-take.result _ c.from_residual-in_err-take.ensures.1)
     (end-stopped g.S.TextSink.takes g.S.TextSink.refuses c.args.self.now c.fields.result _ _ _ c.fields.ensures.fields
     (broke-memory_behind g.S.TextSink.takes g.S.TextSink.refuses _ _ _ c.in_ok-end_entity.ensures))

@@ -8,9 +8,9 @@ returns-in_err-give_header-clause-pairs g c =
     rw (fault-up c.from_residual.result _ c.from_residual.ensures.1)
     (header-stopped g.S.TextSink.takes g.S.TextSink.refuses c.args.self.now c.args.counted c.args.default c.fields.result _ _ _ c.fields.ensures.fields c.in_err-give_header.ensures)
 
-pub returns-in_err-note_facts-clause-pairs : goal.returns-in_err-note_facts-clause-pairs
-returns-in_err-note_facts-clause-pairs g c =
-    rw (fault-up c.from_residual-in_err-note_facts.result _ c.from_residual-in_err-note_facts.ensures.1)
+pub returns-in_err-note-clause-pairs : goal.returns-in_err-note-clause-pairs
+returns-in_err-note-clause-pairs g c =
+    rw (fault-up c.from_residual-in_err-note.result _ c.from_residual-in_err-note.ensures.1)
     (header-stopped g.S.TextSink.takes g.S.TextSink.refuses c.args.self.now c.args.counted c.args.default c.fields.result _ _ _ c.fields.ensures.fields
     (broke-memory_behind g.S.TextSink.takes g.S.TextSink.refuses _ _ _ c.in_ok-give_header.ensures))
 
@@ -23,4 +23,4 @@ returns-in_err-begin_body-clause-pairs g c =
 pub returns-clause-pairs : goal.returns-clause-pairs
 returns-clause-pairs g c =
     header-passed g.S.TextSink.takes g.S.TextSink.refuses c.args.self.now c.args.counted c.args.default c.fields.result (Comes c.begin_body.new.self) _ _ c.fields.ensures.fields c.in_ok-give_header.ensures
-    (rw c.note_facts.ensures.kept at c.in_ok-begin_body.ensures.comes)
+    c.in_ok-begin_body.ensures.comes

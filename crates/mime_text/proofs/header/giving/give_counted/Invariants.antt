@@ -1,5 +1,5 @@
 use Rattle.mime_text.proofs.Words.{◌≤◌, fields_size, most_in_header, texts_of_fields, Gave}
-use Rattle.mime_text.proofs.header.giving.give_fields.Given as goal
+use Rattle.mime_text.proofs.header.giving.give_counted.Given as goal
 
 -- the texts of the fields so far are given
 abbrev pub invariant-loop-field : goal.invariant-loop-field
