@@ -43,9 +43,13 @@ impl<'a> Model for Numbers<'a> {
 fn next_listed(numbers: &[u32], given: &mut usize) -> Option<u32>
     ensures { TakesFirst (drop given.old numbers.now) (drop given.new numbers.now) result }
 {
-    let number = *numbers.get(*given)?;
-    *given += 1;
-    Some(number)
+    match numbers.get(*given) {
+        Some(number) => {
+            *given += 1;
+            Some(*number)
+        }
+        None => None,
+    }
 }
 
 impl<'a> Numbers<'a> {

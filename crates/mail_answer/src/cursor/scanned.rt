@@ -31,7 +31,7 @@ pub(crate) enum Asked {
 fn lies_between(low: u64, high: Option<u64>, size: u64) -> bool
     ensures { result ≡ (nat_le low size && option_map_or (λ most. nat_le size most) high true) }
 {
-    low <= size && high.is_none_or(|most| size <= most)
+    low <= size && size <= high.unwrap_or(u64::MAX)
 }
 
 /// Whether the flag is there as is wanted.

@@ -18,7 +18,7 @@ use memchr::memmem;
 use std::alloc::{AllocError, Global};
 
 /// How the sought text has to lie in a word or an id.
-#[derive(Clone, Copy, PartialEq, Eq)]
+#[derive(Clone, Copy)]
 pub(crate) enum Fit {
     /// It is all of it.
     Whole,

@@ -2,15 +2,17 @@
 ghost use Rattle.std.specs.Prelude.{◌≡◌, ◌<◌, ℕ, IfOk, length};
 ghost use Rattle.std.specs.Vec.{vec_len};
 ghost use Rattle.mail_answer.specs.Marks.{truth_at};
+ghost use Rattle.mail_answer.specs.TableFacts.{truths};
 ghost use Rattle.mail_answer.specs.CursorAhead.{CountsPostings, Drops, IsFirst, Reaches, Spends, common, united, others, left_in, postings_in, levels};
 ghost use Rattle.mail_answer.specs.Inside.CursorMarks.{AreFew};
+ghost use Rattle.mail_answer.specs.Inside.CursorScans.{asked_query};
 ghost use Rattle.mail_answer.specs.Inside.CursorTexts.{some_has};
 
-use crate::cursor::head::{Head, lesser_of};
+use crate::cursor::head::{Head, is_none_below, lesser_of};
 use crate::cursor::listed::Listed;
 use crate::cursor::marked::Marked;
-use crate::cursor::scanned::Scanned;
-use mail_index::Steps;
+use crate::cursor::scanned::{Asked, Scanned};
+use mail_index::{IndexView, Steps};
 use std::alloc::{AllocError, Global};
 use std::marker::Model;
 
@@ -101,12 +103,16 @@ impl<'a> Walk<'a> {
         Ok(Walk::united(each_alone(alloc, lists)?))
     }
 
-    /// The walk along the records.
-    pub(crate) fn scanned(alloc: Global, scan: Scanned<'a>) -> Result<Self, AllocError>
-        ensures truths { IfOk result (λ w. w.truths ≡ scan.entry.truths) }
-        ensures left { IfOk result (λ w. w.left ≡ scan.entry.left) }
+    /// The walk along the records that are as asked.
+    pub(crate) fn scanned(
+        alloc: Global,
+        index: &IndexView<'a>,
+        asked: Asked,
+    ) -> Result<Self, AllocError>
+        ensures truths { IfOk result (λ w. w.truths ≡ truths index.now (asked_query asked)) }
+        ensures left { IfOk result (λ w. w.left ≡ length index.now.messages) }
     {
-        let scan = Box::new(alloc, scan)?;
+        let scan = Box::new(alloc, Scanned::new(index.again(), asked))?;
         Ok(Walk::of(Node::Scanned(scan)))
     }
 
@@ -165,7 +171,7 @@ impl<'a> Walk<'a> {
         ensures below { self.new.below ≡ self.old.below }
     {
         if let Head::Asked(first) = self.head
-            && first.is_none_or(|number| n <= number)
+            && is_none_below(first, n)
         {
             return first;
         }
@@ -204,7 +210,7 @@ fn each_alone<'a>(alloc: Global, mut lists: Vec<Listed<'a>>) -> Result<Vec<Walk<
     ensures each { IfOk result (λ v. (m : ℕ) → some_has m v.items ≡ some_has m lists.entry.items) }
     ensures left { IfOk result (λ v. left_in v.items ≡ left_in lists.entry.items) }
 {
-    let mut walks = Vec::with_capacity(alloc, lists.len())?;
+    let mut walks = Vec::new(alloc);
     while let Some(list) = lists.pop() {
         walks.push(Walk::of(Node::Listed(list)))?;
     }

@@ -24,14 +24,15 @@ pub(crate) enum Ending {
 fn with_byte(ending: Ending, b: u8) -> Ending
     ensures { result ≡ with_byte_of ending b }
 {
-    match (ending, b) {
-        (Ending::Return, b'\n') => Ending::Empty,
-        (Ending::Return, _) => Ending::Open(2),
-        (Ending::Open(n), b'\n') if n > 0 => Ending::Ended,
-        (Ending::Open(n), _) if n > 0 && n < LONGEST => Ending::Open(n + 1),
-        (_, b'\n') => Ending::Empty,
-        (_, b'\r') => Ending::Return,
-        _ => Ending::Open(1),
+    match ending {
+        Ending::Return if b != b'\n' => Ending::Open(2),
+        Ending::Open(n) if n > 0 && b == b'\n' => Ending::Ended,
+        Ending::Open(n) if n > 0 && n < LONGEST => Ending::Open(n + 1),
+        _ => match b {
+            b'\n' => Ending::Empty,
+            b'\r' => Ending::Return,
+            _ => Ending::Open(1),
+        },
     }
 }
 
@@ -51,7 +52,7 @@ fn behind_last_feed(bytes: &[u8]) -> Option<&[u8]>
     ensures { IfSome result (λ rest. (front : List ℕ) × (bytes.now ≡ front ++ 10 ∷ rest.now)
         × (0 < length rest.now)) }
 {
-    let most = bytes.len().checked_sub(1)?;
+    let most = bytes.len().saturating_sub(1);
     let at = memrchr(b'\n', &bytes[..most])?;
     Some(&bytes[at + 1..])
 }

@@ -107,15 +107,10 @@ impl HeldBytes {
             (archive_at bytes archive) → has_fault is_stale result ≡ false) }
     {
         make_room(&mut self.room, self.count, most)?;
-        let n = read_behind(
-            archives,
-            archive,
-            offset,
-            self.count,
-            most,
-            self.room.as_mut_slice(),
-        )
-        .or(Err(AnswerFaultKind::Device))?;
+        let room = self.room.as_mut_slice();
+        let Ok(n) = read_behind(archives, archive, offset, self.count, most, room) else {
+            return Err(AnswerFaultKind::Device);
+        };
         if n == 0 {
             return Err(AnswerFaultKind::Stale(archive));
         }
@@ -132,10 +127,10 @@ fn make_room(room: &mut Vec<u8>, held: usize, more: usize) -> Result<(), AllocEr
     ensures within { held ≤ length room.new.items }
     ensures same { take held room.new.items ≡ take held room.old.items }
 {
-    if room.len() < held + more {
-        room.resize(held + more, 0)?;
+    if held + more <= room.len() {
+        return Ok(());
     }
-    Ok(())
+    room.resize(held + more, 0)
 }
 
 /// Copies bytes behind the first `held`.

@@ -74,9 +74,9 @@ impl Sheet {
     {
         let mut at = 0;
         while at < self.text.len() {
-            let n = out
-                .put(&self.text.as_slice()[at..])
-                .or(Err(AnswerFaultKind::OutFailed))?;
+            let Ok(n) = out.put(&self.text.as_slice()[at..]) else {
+                return Err(AnswerFaultKind::OutFailed);
+            };
             at += n;
             self.sent = self.sent.saturating_add(n as u64);
         }

@@ -10,7 +10,7 @@ pub returns : goal.returns
 returns c =
     let bytes : List ℕ = c.args.bytes.now in
     let at : ℕ = c.in_ok-at.at in
-    let most : ℕ = c.in_ok-most.most in
+    let most : ℕ = c.saturating_sub-most.result in
     let low : at < length (take most bytes) = c.in_ok-at.ensures.0.high in
     let behind : take (length bytes - (at + 1)) (drop (at + 1) bytes) ≡ drop (at + 1) bytes = take_rest bytes (at + 1) in
     let before : at < most = omega (arith, low, length-take most bytes) in (
