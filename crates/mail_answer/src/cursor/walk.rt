@@ -90,7 +90,7 @@ impl<'a> Walk<'a> {
 
     /// The walk through the messages that come in some of these posting lists: by marks, if there are many of them.
     #[tactic(auto, using(crate::proofs::CursorLaws::MarkedLists::if_marked))]
-    pub(crate) fn along_some(alloc: Global, lists: Vec<Listed<'a>>) -> Result<Self, AllocError>
+    pub(crate) fn along_some(alloc: Global, mut lists: Vec<Listed<'a>>) -> Result<Self, AllocError>
         requires { AreFew lists.items }
         ensures truths { IfOk result (λ w. (m : ℕ) → truth_at w.truths m
             ≡ some_has m lists.entry.items) }
@@ -100,7 +100,11 @@ impl<'a> Walk<'a> {
             let marked = Box::new(alloc, Marked::new(lists))?;
             return Ok(Walk::of(Node::Marked(marked)));
         }
-        Ok(Walk::united(each_alone(alloc, lists)?))
+        let mut walks = Vec::new(alloc);
+        while let Some(list) = lists.pop() {
+            walks.push(Walk::of(Node::Listed(list)))?;
+        }
+        Ok(Walk::united(walks))
     }
 
     /// The walk along the records that are as asked.
@@ -156,7 +160,13 @@ impl<'a> Walk<'a> {
     {
         let mut walks = members;
         while walks.len() > MOST {
-            walks = grouped(alloc, walks)?;
+            // Groups of at most four, so that fewer are left.
+            let mut groups = Vec::new(alloc);
+            while !walks.is_empty() {
+                let group = walks.split_off(walks.len().saturating_sub(MOST))?;
+                groups.push(Walk::united(group))?;
+            }
+            walks = groups;
         }
         Ok(Walk::united(walks))
     }
@@ -203,33 +213,6 @@ impl<'a> Node<'a> {
             Node::United(members) => least_united(members, n, steps),
         }
     }
-}
-
-/// A walk along each of the lists.
-fn each_alone<'a>(alloc: Global, mut lists: Vec<Listed<'a>>) -> Result<Vec<Walk<'a>>, AllocError>
-    ensures each { IfOk result (λ v. (m : ℕ) → some_has m v.items ≡ some_has m lists.entry.items) }
-    ensures left { IfOk result (λ v. left_in v.items ≡ left_in lists.entry.items) }
-{
-    let mut walks = Vec::new(alloc);
-    while let Some(list) = lists.pop() {
-        walks.push(Walk::of(Node::Listed(list)))?;
-    }
-    Ok(walks)
-}
-
-/// Unites walks in groups of at most four, so that fewer are left.
-fn grouped<'a>(alloc: Global, mut walks: Vec<Walk<'a>>) -> Result<Vec<Walk<'a>>, AllocError>
-    requires { 4 < vec_len walks }
-    ensures each { IfOk result (λ v. (m : ℕ) → some_has m v.items ≡ some_has m walks.entry.items) }
-    ensures left { IfOk result (λ v. left_in v.items ≡ left_in walks.entry.items) }
-    ensures fewer { IfOk result (λ v. vec_len v < vec_len walks.entry) }
-{
-    let mut groups = Vec::new(alloc);
-    while !walks.is_empty() {
-        let group = walks.split_off(walks.len().saturating_sub(MOST))?;
-        groups.push(Walk::united(group))?;
-    }
-    Ok(groups)
 }
 
 /// The least number from n on that doesn't come in the inner walk.

@@ -16,6 +16,7 @@ use crate::fault::{AnswerFault, AnswerFaultKind};
 use crate::format::Format;
 use crate::numbers::Numbers;
 use crate::output::excerpt::push_excerpt;
+use crate::output::held_bytes::HeldBytes;
 use crate::output::mbox::push_mbox;
 use crate::output::places::Places;
 use crate::output::raw_answer::push_raw;
@@ -47,7 +48,10 @@ impl<'a> AnswerWriter<'a> {
             alloc,
             format,
             places: Places::of(index),
-            sheet: Sheet::new(alloc),
+            sheet: Sheet {
+                text: HeldBytes::new(alloc),
+                sent: 0,
+            },
         }
     }
 

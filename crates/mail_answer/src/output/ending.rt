@@ -1,5 +1,5 @@
 //! How the last line of some bytes stands.
-ghost use Rattle.std.specs.Prelude.{◌≡◌, ◌<◌, ℕ, List, [], ◌∷◌, ◌++◌, length, IfSome};
+ghost use Rattle.std.specs.Prelude.{◌≡◌, ℕ, List, [], ◌++◌};
 ghost use Rattle.mail_answer.specs.Inside.Endings.{ending_of, with_byte as with_byte_of, feeds_of};
 
 use memchr::memrchr;
@@ -47,16 +47,6 @@ fn with_each(before: Ending, more: &[u8]) -> Ending
     ending
 }
 
-/// The bytes behind the last LF that isn't the last byte.
-fn behind_last_feed(bytes: &[u8]) -> Option<&[u8]>
-    ensures { IfSome result (λ rest. (front : List ℕ) × (bytes.now ≡ front ++ 10 ∷ rest.now)
-        × (0 < length rest.now)) }
-{
-    let most = bytes.len().saturating_sub(1);
-    let at = memrchr(b'\n', &bytes[..most])?;
-    Some(&bytes[at + 1..])
-}
-
 impl Ending {
     /// Of no bytes.
     pub(crate) fn new() -> Self
@@ -70,8 +60,10 @@ impl Ending {
         ensures { (bytes : List ℕ) → self ≡ ending_of bytes
             → result ≡ ending_of (bytes ++ more.now) }
     {
-        match behind_last_feed(more) {
-            Some(rest) => with_each(Ending::new(), rest),
+        // Behind the last LF that isn't the last byte the last line begins.
+        let most = more.len().saturating_sub(1);
+        match memrchr(b'\n', &more[..most]) {
+            Some(at) => with_each(Ending::new(), &more[at + 1..]),
             None => with_each(self, more),
         }
     }

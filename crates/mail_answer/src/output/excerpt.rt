@@ -36,16 +36,6 @@ fn hide_controls(text: &mut [u8])
     }
 }
 
-/// The value of a field's body, in one line and without control characters.
-fn shown_value(alloc: Global, body: &[u8]) -> Result<Vec<u8>, AllocError>
-    ensures { IfOk result (λ value. value.items ≡ without_controls (decoded (unfolded body.now))) }
-{
-    let unfolded = unfold(alloc, body)?;
-    let mut value = decode_words(alloc, &unfolded)?.into_bytes();
-    hide_controls(value.as_mut_slice());
-    Ok(value)
-}
-
 /// Adds a line: a name, a colon, a value behind a space, if it isn't empty, and LF.
 fn push_line(name: &str, value: &[u8], text: &mut Vec<u8>) -> Result<(), AllocError>
     ensures { OnOk result (text.new.items
@@ -58,7 +48,7 @@ fn push_line(name: &str, value: &[u8], text: &mut Vec<u8>) -> Result<(), AllocEr
     text.extend_from_slice(b"\n")
 }
 
-/// Adds the line of the field of this name.
+/// Adds the line of the field of this name: its value stands in one line, without control characters.
 fn push_field(
     alloc: Global,
     header: &Header,
@@ -69,7 +59,9 @@ fn push_field(
         → text.new.items ≡ text.old.items ++ field_line (fields_of ls) name.now) }
 {
     let body = header.fields().first_body(name.as_bytes()).unwrap_or(b"");
-    let value = shown_value(alloc, body)?;
+    let unfolded = unfold(alloc, body)?;
+    let mut value = decode_words(alloc, &unfolded)?.into_bytes();
+    hide_controls(value.as_mut_slice());
     push_line(name, &value, text)
 }
 

@@ -75,8 +75,9 @@ impl HeldBytes {
         ensures refused { OnErr result (self.new ≡ self.old) }
     {
         make_room(&mut self.room, self.count, bytes.len())?;
-        copy_behind(self.room.as_mut_slice(), self.count, bytes);
-        self.count += bytes.len();
+        let end = self.count + bytes.len();
+        self.room[self.count..end].copy_from_slice(bytes);
+        self.count = end;
         Ok(())
     }
 
@@ -131,15 +132,6 @@ fn make_room(room: &mut Vec<u8>, held: usize, more: usize) -> Result<(), AllocEr
         return Ok(());
     }
     room.resize(held + more, 0)
-}
-
-/// Copies bytes behind the first `held`.
-fn copy_behind(room: &mut [u8], held: usize, bytes: &[u8])
-    requires { held + length bytes.now ≤ length room.old }
-    ensures bytes { take (held + length bytes.now) room.new ≡ take held room.old ++ bytes.now }
-    ensures room { length room.new ≡ length room.old }
-{
-    room[held..held + bytes.len()].copy_from_slice(bytes);
 }
 
 /// Reads at most so many bytes of an archive, from an offset on, behind the first `held`.

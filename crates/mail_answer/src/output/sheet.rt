@@ -7,7 +7,6 @@ ghost use Rattle.mail_answer.specs.declared.output.sheet.TheConstants.{FULL};
 use crate::fault::AnswerFaultKind;
 use crate::output::held_bytes::HeldBytes;
 use mbox_cutter::Out;
-use std::alloc::Global;
 
 /// So many bytes of an answer are gathered before they go out.
 const FULL: usize = 65_536;
@@ -23,16 +22,6 @@ pub(crate) struct Sheet {
 
 impl Sheet {
     ghost use Rattle.mail_answer.specs.Sheets.{Writes};
-
-    pub(crate) fn new(alloc: Global) -> Self
-        ensures text { result.text ≡ [] }
-        ensures sent { result.sent ≡ 0 }
-    {
-        Sheet {
-            text: HeldBytes::new(alloc),
-            sent: 0,
-        }
-    }
 
     /// Adds bytes to the answer.
     pub(crate) fn push<O: Out>(&mut self, out: &mut O, bytes: &[u8]) -> Result<(), AnswerFaultKind>
