@@ -76,8 +76,11 @@ pub fn answer<A: Archives, O: Out>(
     ensures unwritten { OnTrue (is_unwritten result) (out.new ≡ out.old) }
 {
     // Want of memory would hide changed archives if the query came first.
-    check_archives(index, archives).map_err(AnswerFault::unsent)?;
-    let chosen = Numbers::chosen(alloc, index, query, threads);
-    let numbers = chosen.map_err(|_| AnswerFault::unsent(AnswerFaultKind::OutOfMemory))?;
-    AnswerWriter::new(alloc, index, format).write(numbers, archives, out)
+    if let Err(kind) = check_archives(index, archives) {
+        return Err(AnswerFault::unsent(kind));
+    }
+    let Ok(mut numbers) = Numbers::chosen(alloc, index, query, threads) else {
+        return Err(AnswerFault::unsent(AnswerFaultKind::OutOfMemory));
+    };
+    AnswerWriter::new(alloc, index, format).write(&mut numbers, archives, out)
 }

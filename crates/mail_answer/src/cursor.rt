@@ -101,6 +101,21 @@ impl<'a> Cursor<'a> {
     }
 }
 
+/// The numbers that are to come.
+fn numbers_of(
+    alloc: Global,
+    cursor: &mut Cursor<'_>,
+    steps: &mut Steps,
+) -> Result<Vec<u32>, AllocError>
+    ensures { IfOk result (λ v. v.items ≡ cursor.old.numbers) }
+{
+    let mut numbers = Vec::new(alloc);
+    while let Some(number) = cursor.next(steps) {
+        numbers.push(number)?;
+    }
+    Ok(numbers)
+}
+
 /// The numbers of the messages that satisfy the query, from 0, rising: its cursor, walked to the end.
 ///
 /// # Errors
@@ -111,9 +126,5 @@ pub fn matches(alloc: Global, index: &IndexView<'_>, query: &Query) -> Result<Ve
 {
     let mut steps = Steps::new();
     let mut cursor = Cursor::new(alloc, index, query, &mut steps)?;
-    let mut numbers = Vec::new(alloc);
-    while let Some(number) = cursor.next(&mut steps) {
-        numbers.push(number)?;
-    }
-    Ok(numbers)
+    numbers_of(alloc, &mut cursor, &mut steps)
 }

@@ -39,15 +39,6 @@ impl<'a> Model for Numbers<'a> {
     ghost view = { λ s. to_come s.source };
 }
 
-/// The next number of a list of which some were given.
-fn next_listed(numbers: &[u32], given: &mut usize) -> Option<u32>
-    ensures { TakesFirst (drop given.old numbers.now) (drop given.new numbers.now) result }
-{
-    let number = *numbers.get(*given)?;
-    *given += 1;
-    Some(number)
-}
-
 impl<'a> Numbers<'a> {
     /// Those of the messages that satisfy a query, or with `threads` of all messages in their threads. Without `threads` no list
     /// of them is made.
@@ -78,7 +69,13 @@ impl<'a> Numbers<'a> {
     {
         match &mut self.source {
             Source::Walked(cursor) => cursor.next(&mut self.steps),
-            Source::Listed { numbers, given } => next_listed(numbers, given),
+            Source::Listed { numbers, given } => match numbers.get(*given) {
+                Some(number) => {
+                    *given += 1;
+                    Some(*number)
+                }
+                None => None,
+            },
         }
     }
 }

@@ -11,7 +11,7 @@ ghost use Rattle.mail_answer.specs.Inside.Forests.{TellsThreads};
 
 mod forest;
 
-use crate::threads::forest::{flatten, single_messages, unite_by_keys};
+use crate::threads::forest::{flatten, unite_by_keys};
 use mail_index::{IndexView, Kind, Steps};
 use std::alloc::{AllocError, Global};
 
@@ -20,7 +20,12 @@ fn thread_roots(alloc: Global, index: &IndexView<'_>) -> Result<Vec<u32>, AllocE
     requires { IsWellFormed index.now }
     ensures { IfOk result (λ v. TellsThreads index.now v.items) }
 {
-    let mut roots = single_messages(alloc, index.message_count())?;
+    // At first each message is the root of a tree of its own.
+    let count = index.message_count();
+    let mut roots = Vec::with_capacity(alloc, count as usize)?;
+    for number in 0..count {
+        roots.push(number)?;
+    }
     let keys = index.keys(Kind::LinkId);
     unite_by_keys(roots.as_mut_slice(), keys, &mut Steps::new());
     flatten(roots.as_mut_slice());

@@ -5,7 +5,7 @@ use Rattle.std.specs.Option.{option_eq}
 use Rattle.std.specs.Prelude.{IfErr}
 use Rattle.std.specs.Result.{MatchResult, IsErrAnd}
 use Rattle.mail_answer.specs.Answers.{fails_by, kind_of}
-use Rattle.mail_answer.specs.Faults.{has_fault}
+use Rattle.mail_answer.specs.Faults.{has_fault, is_of_output}
 use Rattle.mail_answer.specs.declared.fault.AnswerFault.{AnswerFault}
 use Rattle.mail_index.specs.Versions.{IsDigest}
 use Rattle.mail_answer.proofs.ArchiveLaws.DigestLemmas.{whole_digest}
@@ -196,6 +196,9 @@ unsent_ok P told holds = grind arith
 
 pub unsent_err : {T : Type 0} (P : AnswerFaultKind → Type 0) (told : Result T AnswerFault) → IfErr (kind_of told) P → IfErr told (λ fault. P fault.kind)
 unsent_err P told holds = grind arith
+
+pub unsent_written : {T : Type 0} (r : Result T AnswerFaultKind) (told : Result T AnswerFault) → IsUnsent r told → has_fault is_of_output r ≡ false → IfErr told (λ fault. (fault.sent ≡ 0) × (is_of_output fault.kind ≡ false))
+unsent_written r told is own = grind arith
 
 pub unsent_fails : {T : Type 0} (kinds : AnswerFaultKind → Bool) (told : Result T AnswerFault) → has_fault kinds (kind_of told) ≡ fails_by kinds told
 unsent_fails kinds told = grind arith

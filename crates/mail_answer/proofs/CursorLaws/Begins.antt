@@ -37,8 +37,8 @@ tells_chosen t q count xs long tells = grind (arith, filter_alike, le-leb)
 pub some_walk : (len long : ℕ) → len ≡ long → eqb len 0 ≡ false → 0 < long
 some_walk len long same other = grind (arith, cases_order, eqb-false)
 
-pub tells_scanned : {E : Type 0} (t : Table) (q p : Query) (scan : List Bool) (r : Result Ahead E) → q ≡ p → scan ≡ truths t p → IfOk r (λ w. w.truths ≡ scan) → IfOk r (λ w. Tells t q w.truths)
-tells_scanned t q p scan r h h2 h3 = grind (arith, tells_scan)
+pub tells_scanned : {E : Type 0} (t : Table) (q p : Query) (r : Result Ahead E) → q ≡ p → IfOk r (λ w. w.truths ≡ truths t p) → IfOk r (λ w. Tells t q w.truths)
+tells_scanned t q p r h h2 = grind (arith, tells_scan)
 
 -- ---- inner nodes
 

@@ -1,10 +1,8 @@
 -- Laws of what went out of an answer.
-use Rattle.mail_answer.proofs.Words.{◌≡◌, ℕ, List, [], Option, Result, Ok, Err, IfOk, length, refl, subst, arith, append-nil, flat_map, appends-nil, Table, SendsKnown, SendsSpans, Search, AreChosen, known_answer, closed, mail_told, TableAnswer, IsTableAnswer, Answers, KeepsArchives, IsReady, IsSameAnswer, Ghosts}
-use Rattle.std.specs.Result.{IsErrAnd, MatchResult}
+use Rattle.mail_answer.proofs.Words.{◌≡◌, ℕ, List, [], Option, Result, Ok, Err, length, refl, subst, arith, flat_map, appends-nil, Table, SendsKnown, SendsSpans, Search, AreChosen, known_answer, closed, mail_told, TableAnswer, IsTableAnswer, Answers, KeepsArchives, IsReady, IsSameAnswer, Ghosts}
+use Rattle.std.specs.Result.{IsErrAnd}
 use Rattle.mail_answer.specs.declared.fault.AnswerFault.{AnswerFault}
-use Rattle.mail_answer.specs.declared.fault.AnswerFaultKind.{AnswerFaultKind}
 use Rattle.mail_answer.specs.declared.output.answer_writer.AnswerWriter.{AnswerWriter}
-use Rattle.mail_answer.specs.Inside.Writing.{IsBegun, SendsMessages, WritesMessages}
 use Rattle.mail_answer.proofs.OutputLaws.EveryAnswer.{one-choice}
 use Rattle.mail_answer.proofs.OutputLaws.SheetLemmas.{some_text}
 use Rattle.mail_answer.proofs.OutputLaws.SpanWrites.{some_spans}
@@ -33,14 +31,6 @@ no_spans_sent taken t numbers (Err fault) unsent =
 pub spans_sent : (t : Table) (s : Search) (taken taken' : Option (List ℕ)) (r : Result ℕ AnswerFault) (xs : List ℕ) → AreChosen (mail_told t) s xs → SendsSpans taken taken' t xs r
     → (numbers : List ℕ) → AreChosen (mail_told t) s numbers → SendsSpans taken taken' t numbers r
 spans_sent t s taken taken' r xs are sent numbers chosen = subst (λ (ns : List ℕ). SendsSpans taken taken' t ns r) (one-choice t s.threads s.query xs numbers are chosen) sent
-
--- what was written by the end is what was sent, and a fault counts it
-pub sent_by_the_end : (taken taken' : Option (List ℕ)) (held : Option (List (List ℕ))) (numbers : List ℕ) (w w' : AnswerWriter) (r : Result ℕ AnswerFaultKind) (r' : Result ℕ AnswerFault) → IsBegun w
-    → WritesMessages taken taken' held numbers w w' r → IfOk r (λ count. (count ≡ length numbers) × (w'.sheet.text ≡ [])) → MatchResult r (λ count. r' ≡ Ok count) (λ kind. IsErrAnd r' (λ fault. fault.sent ≡ w'.sheet.sent))
-    → SendsMessages taken taken' held numbers w r'
-sent_by_the_end taken taken' held numbers w w' (Ok n) r' begun writes count same = rw same (grind (arith, append-nil))
-sent_by_the_end taken taken' held numbers w w' (Err kind) (Ok n) begun writes count same = absurd same
-sent_by_the_end taken taken' held numbers w w' (Err kind) (Err fault) begun writes count same = grind arith
 
 -- between two messages the next one can be written
 pub still_ready : {A O : Type 0} (g : Ghosts A) (h : OutGhosts O) (w w' : AnswerWriter) (a a' : A) (o o' : O) → IsReady g h w a o → IsSameAnswer w w' → KeepsArchives g a a'

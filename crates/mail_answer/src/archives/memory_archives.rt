@@ -91,19 +91,10 @@ impl Archives for MemoryArchives {
             (length into.old)) }
     {
         let archive = self.archives[n as usize].as_slice();
-        Ok(read_part(archive, offset, into))
+        let at = offset.min(archive.len() as u64) as usize;
+        let rest = archive.split_at(at).1;
+        let n = rest.len().min(into.len());
+        into[..n].copy_from_slice(&rest[..n]);
+        Ok(n)
     }
-}
-
-/// Copies the bytes from an offset on, as many as there are and fit.
-fn read_part(archive: &[u8], offset: u64, into: &mut [u8]) -> usize
-    ensures bytes { take result into.new ≡ take result (drop offset archive.now) }
-    ensures number { result ≡ min (length (drop offset archive.now)) (length into.old) }
-    ensures bound { result ≤ length into.new }
-{
-    let at = offset.min(archive.len() as u64) as usize;
-    let rest = archive.split_at(at).1;
-    let n = rest.len().min(into.len());
-    into[..n].copy_from_slice(&rest[..n]);
-    n
 }

@@ -44,7 +44,9 @@ pub(crate) fn check_archives<A: Archives>(
         let Some(archive) = named.next() else {
             unreachable!();
         };
-        let length = archives.length(n).or(Err(AnswerFaultKind::Device))?;
+        let Ok(length) = archives.length(n) else {
+            return Err(AnswerFaultKind::Device);
+        };
         if length != archive.length {
             return Err(AnswerFaultKind::Stale(n));
         }

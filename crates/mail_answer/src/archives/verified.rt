@@ -45,9 +45,9 @@ fn digest_piece<A: Archives>(
         (A.failures archives.old) (A.failures archives.new) }
     ensures own { IfErr result (λ kind. kind ≡ AnswerFaultKind.Device) }
 {
-    let count = archives
-        .read_at(archive, offset, room)
-        .or(Err(AnswerFaultKind::Device))?;
+    let Ok(count) = archives.read_at(archive, offset, room) else {
+        return Err(AnswerFaultKind::Device);
+    };
     hasher.update(&room[..count]);
     Ok(count)
 }
@@ -155,8 +155,11 @@ pub fn verify<A: Archives>(
 {
     let index = index.again();
     // Want of memory would hide changed archives if the buffer came first.
-    check_archives(&index, archives).map_err(AnswerFault::unsent)?;
-    let buffer = vec![in alloc; 0u8; PIECE];
-    let mut buffer = buffer.map_err(|_| AnswerFault::unsent(AnswerFaultKind::OutOfMemory))?;
+    if let Err(kind) = check_archives(&index, archives) {
+        return Err(AnswerFault::unsent(kind));
+    }
+    let Ok(mut buffer) = vec![in alloc; 0u8; PIECE] else {
+        return Err(AnswerFault::unsent(AnswerFaultKind::OutOfMemory));
+    };
     check_digests(&index, archives, buffer.as_mut_slice()).map_err(AnswerFault::unsent)
 }

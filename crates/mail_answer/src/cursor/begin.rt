@@ -6,7 +6,7 @@ ghost use Rattle.mail_answer.specs.Cursors.{most_left, most_left_of_all, look_up
 ghost use Rattle.mail_answer.specs.CursorAhead.{left_in};
 ghost use Rattle.mail_answer.specs.Inside.CursorBegins.{Tells, TellAll};
 
-use crate::cursor::scanned::{Asked, Scanned};
+use crate::cursor::scanned::Asked;
 use crate::cursor::texts::{Fit, with_text};
 use crate::cursor::walk::Walk;
 use mail_index::{IndexView, Steps};
@@ -28,24 +28,24 @@ pub(crate) fn walk_of<'a>(
         steps.old steps.new }
 {
     match node {
-        Node::Any => Walk::scanned(alloc, Scanned::new(index.again(), Asked::Any)),
+        Node::Any => Walk::scanned(alloc, index, Asked::Any),
         Node::Word { kinds, text } => with_text(alloc, index, *kinds, Fit::Whole, text, steps),
         Node::Part { kinds, text } => with_text(alloc, index, *kinds, Fit::Within, text, steps),
         Node::Prefix { kinds, text } => with_text(alloc, index, *kinds, Fit::Front, text, steps),
-        Node::Date(range) => Walk::scanned(alloc, Scanned::new(index.again(), Asked::Date(*range))),
+        Node::Date(range) => Walk::scanned(alloc, index, Asked::Date(*range)),
         Node::Size { low, high } => {
             let asked = Asked::Size {
                 low: *low,
                 high: *high,
             };
-            Walk::scanned(alloc, Scanned::new(index.again(), asked))
+            Walk::scanned(alloc, index, asked)
         }
         Node::Flag { flag, wanted } => {
             let asked = Asked::Flag {
                 flag: *flag,
                 wanted: *wanted,
             };
-            Walk::scanned(alloc, Scanned::new(index.again(), asked))
+            Walk::scanned(alloc, index, asked)
         }
         Node::Not(inner) => {
             let inner = walk_of(alloc, index, inner, steps)?;

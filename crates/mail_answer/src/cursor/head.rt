@@ -1,5 +1,6 @@
 //! What a walk remembers of its first number.
-ghost use Rattle.std.specs.Prelude.{◌≡◌};
+ghost use Rattle.std.specs.Prelude.{◌≡◌, nat_le, true};
+ghost use Rattle.std.specs.Option.{option_map_or};
 ghost use Rattle.mail_answer.specs.CursorAhead.{lesser_of};
 
 /// What a walk remembers of the first number that is still to come.
@@ -9,6 +10,16 @@ pub(crate) enum Head {
     Unasked,
     /// That number, or that there is none.
     Asked(Option<u32>),
+}
+
+/// Whether there is no number, or none below n.
+pub(crate) fn is_none_below(first: Option<u32>, n: u32) -> bool
+    ensures { result ≡ option_map_or (λ number. nat_le n number) first true }
+{
+    match first {
+        Some(number) => n <= number,
+        None => true,
+    }
 }
 
 /// The lesser of two numbers, as far as there are any.

@@ -8,7 +8,7 @@ ghost use Rattle.mail_answer.specs.Inside.CursorMarks.{AreFew, HaveMarks, IsFirs
 ghost use Rattle.mail_answer.specs.Inside.CursorTexts.{some_has};
 ghost use Rattle.mail_answer.specs.Marks.{Adds, truth_at};
 
-use crate::cursor::head::{Head, lesser_of};
+use crate::cursor::head::{Head, is_none_below, lesser_of};
 use crate::cursor::listed::Listed;
 use mail_index::Steps;
 use std::marker::Model;
@@ -107,7 +107,7 @@ fn least_ahead(lists: &mut Vec<Listed<'_>>, ahead: Head, n: u32, steps: &mut Ste
     ensures steps { Counts (left_in lists.old.items) (left_in lists.new.items) steps.old steps.new }
 {
     if let Head::Asked(first) = ahead
-        && first.is_none_or(|number| n <= number)
+        && is_none_below(first, n)
     {
         return first;
     }

@@ -11,7 +11,7 @@ ghost use Rattle.mail_answer.specs.Inside.CursorScans.{asked_query, satisfies, S
 use crate::cursor::listed::is_before;
 use mail_dates::Range;
 use mail_index::{IndexView, Record, Steps};
-use mail_words::{Flag, Flags};
+use mail_words::Flag;
 use std::marker::Model;
 
 /// What is asked of a message's record.
@@ -27,25 +27,6 @@ pub(crate) enum Asked {
     Flag { flag: Flag, wanted: bool },
 }
 
-/// Whether the size lies between these, both included; a `high` of None is no bound.
-fn lies_between(low: u64, high: Option<u64>, size: u64) -> bool
-    ensures { result ≡ (nat_le low size && option_map_or (λ most. nat_le size most) high true) }
-{
-    low <= size && high.is_none_or(|most| size <= most)
-}
-
-/// Whether the flag is there as is wanted.
-fn is_as_wanted(flag: Flag, wanted: bool, flags: Flags) -> bool
-    ensures { result ≡ is_same wanted (has_flag flag flags) }
-{
-    let has = match flag {
-        Flag::Seen => flags.seen,
-        Flag::Replied => flags.replied,
-        Flag::Flagged => flags.flagged,
-    };
-    has == wanted
-}
-
 /// Whether the record is as asked.
 fn is_as_asked(asked: Asked, message: Record) -> bool
     ensures { (t : Table) (n : ℕ) → result ≡ is_true (asked_query asked)
@@ -54,8 +35,17 @@ fn is_as_asked(asked: Asked, message: Record) -> bool
     match asked {
         Asked::Any => true,
         Asked::Date(range) => range.has(message.date),
-        Asked::Size { low, high } => lies_between(low, high, message.size),
-        Asked::Flag { flag, wanted } => is_as_wanted(flag, wanted, message.flags),
+        Asked::Size { low, high } => {
+            low <= message.size && message.size <= high.unwrap_or(u64::MAX)
+        }
+        Asked::Flag { flag, wanted } => {
+            let has = match flag {
+                Flag::Seen => message.flags.seen,
+                Flag::Replied => message.flags.replied,
+                Flag::Flagged => message.flags.flagged,
+            };
+            has == wanted
+        }
     }
 }
 

@@ -2,15 +2,17 @@
 ghost use Rattle.std.specs.Prelude.{◌≡◌, ◌<◌, ℕ, IfOk, length};
 ghost use Rattle.std.specs.Vec.{vec_len};
 ghost use Rattle.mail_answer.specs.Marks.{truth_at};
+ghost use Rattle.mail_answer.specs.TableFacts.{truths};
 ghost use Rattle.mail_answer.specs.CursorAhead.{CountsPostings, Drops, IsFirst, Reaches, Spends, common, united, others, left_in, postings_in, levels};
 ghost use Rattle.mail_answer.specs.Inside.CursorMarks.{AreFew};
+ghost use Rattle.mail_answer.specs.Inside.CursorScans.{asked_query};
 ghost use Rattle.mail_answer.specs.Inside.CursorTexts.{some_has};
 
-use crate::cursor::head::{Head, lesser_of};
+use crate::cursor::head::{Head, is_none_below, lesser_of};
 use crate::cursor::listed::Listed;
 use crate::cursor::marked::Marked;
-use crate::cursor::scanned::Scanned;
-use mail_index::Steps;
+use crate::cursor::scanned::{Asked, Scanned};
+use mail_index::{IndexView, Steps};
 use std::alloc::{AllocError, Global};
 use std::marker::Model;
 
@@ -88,7 +90,7 @@ impl<'a> Walk<'a> {
 
     /// The walk through the messages that come in some of these posting lists: by marks, if there are many of them.
     #[tactic(auto, using(crate::proofs::CursorLaws::MarkedLists::if_marked))]
-    pub(crate) fn along_some(alloc: Global, lists: Vec<Listed<'a>>) -> Result<Self, AllocError>
+    pub(crate) fn along_some(alloc: Global, mut lists: Vec<Listed<'a>>) -> Result<Self, AllocError>
         requires { AreFew lists.items }
         ensures truths { IfOk result (λ w. (m : ℕ) → truth_at w.truths m
             ≡ some_has m lists.entry.items) }
@@ -98,15 +100,23 @@ impl<'a> Walk<'a> {
             let marked = Box::new(alloc, Marked::new(lists))?;
             return Ok(Walk::of(Node::Marked(marked)));
         }
-        Ok(Walk::united(each_alone(alloc, lists)?))
+        let mut walks = Vec::new(alloc);
+        while let Some(list) = lists.pop() {
+            walks.push(Walk::of(Node::Listed(list)))?;
+        }
+        Ok(Walk::united(walks))
     }
 
-    /// The walk along the records.
-    pub(crate) fn scanned(alloc: Global, scan: Scanned<'a>) -> Result<Self, AllocError>
-        ensures truths { IfOk result (λ w. w.truths ≡ scan.entry.truths) }
-        ensures left { IfOk result (λ w. w.left ≡ scan.entry.left) }
+    /// The walk along the records that are as asked.
+    pub(crate) fn scanned(
+        alloc: Global,
+        index: &IndexView<'a>,
+        asked: Asked,
+    ) -> Result<Self, AllocError>
+        ensures truths { IfOk result (λ w. w.truths ≡ truths index.now (asked_query asked)) }
+        ensures left { IfOk result (λ w. w.left ≡ length index.now.messages) }
     {
-        let scan = Box::new(alloc, scan)?;
+        let scan = Box::new(alloc, Scanned::new(index.again(), asked))?;
         Ok(Walk::of(Node::Scanned(scan)))
     }
 
@@ -150,7 +160,13 @@ impl<'a> Walk<'a> {
     {
         let mut walks = members;
         while walks.len() > MOST {
-            walks = grouped(alloc, walks)?;
+            // Groups of at most four, so that fewer are left.
+            let mut groups = Vec::new(alloc);
+            while !walks.is_empty() {
+                let group = walks.split_off(walks.len().saturating_sub(MOST))?;
+                groups.push(Walk::united(group))?;
+            }
+            walks = groups;
         }
         Ok(Walk::united(walks))
     }
@@ -165,7 +181,7 @@ impl<'a> Walk<'a> {
         ensures below { self.new.below ≡ self.old.below }
     {
         if let Head::Asked(first) = self.head
-            && first.is_none_or(|number| n <= number)
+            && is_none_below(first, n)
         {
             return first;
         }
@@ -197,33 +213,6 @@ impl<'a> Node<'a> {
             Node::United(members) => least_united(members, n, steps),
         }
     }
-}
-
-/// A walk along each of the lists.
-fn each_alone<'a>(alloc: Global, mut lists: Vec<Listed<'a>>) -> Result<Vec<Walk<'a>>, AllocError>
-    ensures each { IfOk result (λ v. (m : ℕ) → some_has m v.items ≡ some_has m lists.entry.items) }
-    ensures left { IfOk result (λ v. left_in v.items ≡ left_in lists.entry.items) }
-{
-    let mut walks = Vec::with_capacity(alloc, lists.len())?;
-    while let Some(list) = lists.pop() {
-        walks.push(Walk::of(Node::Listed(list)))?;
-    }
-    Ok(walks)
-}
-
-/// Unites walks in groups of at most four, so that fewer are left.
-fn grouped<'a>(alloc: Global, mut walks: Vec<Walk<'a>>) -> Result<Vec<Walk<'a>>, AllocError>
-    requires { 4 < vec_len walks }
-    ensures each { IfOk result (λ v. (m : ℕ) → some_has m v.items ≡ some_has m walks.entry.items) }
-    ensures left { IfOk result (λ v. left_in v.items ≡ left_in walks.entry.items) }
-    ensures fewer { IfOk result (λ v. vec_len v < vec_len walks.entry) }
-{
-    let mut groups = Vec::new(alloc);
-    while !walks.is_empty() {
-        let group = walks.split_off(walks.len().saturating_sub(MOST))?;
-        groups.push(Walk::united(group))?;
-    }
-    Ok(groups)
 }
 
 /// The least number from n on that doesn't come in the inner walk.

@@ -16,6 +16,7 @@ use crate::fault::{AnswerFault, AnswerFaultKind};
 use crate::format::Format;
 use crate::numbers::Numbers;
 use crate::output::excerpt::push_excerpt;
+use crate::output::held_bytes::HeldBytes;
 use crate::output::mbox::push_mbox;
 use crate::output::places::Places;
 use crate::output::raw_answer::push_raw;
@@ -47,7 +48,10 @@ impl<'a> AnswerWriter<'a> {
             alloc,
             format,
             places: Places::of(index),
-            sheet: Sheet::new(alloc),
+            sheet: Sheet {
+                text: HeldBytes::new(alloc),
+                sent: 0,
+            },
         }
     }
 
@@ -116,30 +120,32 @@ impl<'a> AnswerWriter<'a> {
     /// Writes the whole answer, of the messages of these numbers, over archives that are as they were indexed. It answers how many
     /// messages they are.
     pub(crate) fn write<A: Archives, O: Out>(
-        mut self,
-        mut numbers: Numbers<'_>,
+        &mut self,
+        numbers: &mut Numbers<'_>,
         archives: &mut A,
         out: &mut O,
     ) -> Result<u64, AnswerFault>
-        requires ready { IsReady A.Archives O.Out self archives.old out.old }
-        requires begun { IsBegun self }
-        requires numbers { AreNumbers (length self.places.table.messages) numbers }
+        requires ready { IsReady A.Archives O.Out self.old archives.old out.old }
+        requires begun { IsBegun self.old }
+        requires numbers { AreNumbers (length self.old.places.table.messages) numbers.old }
         ensures messages { SendsMessages (O.taken out.old) (O.taken out.new) (A.held archives.old)
-            numbers.entry self.entry result }
-        ensures archives { AnswersOver A.Archives self.entry.format
+            numbers.old self.old result }
+        ensures archives { AnswersOver A.Archives self.old.format
             archives.old archives.new result }
         ensures out_count { Counted (fails_by is_of_output result)
             (O.failures out.old) (O.failures out.new) }
         ensures unwritten { OnTrue (is_unwritten result) (out.new ≡ out.old) }
         ensures below { IfErr result (λ fault. IfStale fault.kind
-            (λ a. a < length self.entry.places.table.archives)) }
+            (λ a. a < length self.old.places.table.archives)) }
         ensures stale { IfErr result (λ fault. IfStale fault.kind
-            (IsArchiveOfSome self.entry.places.table numbers.entry)) }
+            (IsArchiveOfSome self.old.places.table numbers.old)) }
     {
-        self.push_all(&mut numbers, archives, out)
-            .map_err(|kind| AnswerFault {
+        match self.push_all(numbers, archives, out) {
+            Ok(count) => Ok(count),
+            Err(kind) => Err(AnswerFault {
                 kind,
                 sent: self.sheet.sent,
-            })
+            }),
+        }
     }
 }

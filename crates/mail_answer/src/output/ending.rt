@@ -1,5 +1,5 @@
 //! How the last line of some bytes stands.
-ghost use Rattle.std.specs.Prelude.{◌≡◌, ◌<◌, ℕ, List, [], ◌∷◌, ◌++◌, length, IfSome};
+ghost use Rattle.std.specs.Prelude.{◌≡◌, ℕ, List, [], ◌++◌};
 ghost use Rattle.mail_answer.specs.Inside.Endings.{ending_of, with_byte as with_byte_of, feeds_of};
 
 use memchr::memrchr;
@@ -24,14 +24,15 @@ pub(crate) enum Ending {
 fn with_byte(ending: Ending, b: u8) -> Ending
     ensures { result ≡ with_byte_of ending b }
 {
-    match (ending, b) {
-        (Ending::Return, b'\n') => Ending::Empty,
-        (Ending::Return, _) => Ending::Open(2),
-        (Ending::Open(n), b'\n') if n > 0 => Ending::Ended,
-        (Ending::Open(n), _) if n > 0 && n < LONGEST => Ending::Open(n + 1),
-        (_, b'\n') => Ending::Empty,
-        (_, b'\r') => Ending::Return,
-        _ => Ending::Open(1),
+    match ending {
+        Ending::Return if b != b'\n' => Ending::Open(2),
+        Ending::Open(n) if n > 0 && b == b'\n' => Ending::Ended,
+        Ending::Open(n) if n > 0 && n < LONGEST => Ending::Open(n + 1),
+        _ => match b {
+            b'\n' => Ending::Empty,
+            b'\r' => Ending::Return,
+            _ => Ending::Open(1),
+        },
     }
 }
 
@@ -44,16 +45,6 @@ fn with_each(before: Ending, more: &[u8]) -> Ending
         ending = with_byte(ending, *b);
     }
     ending
-}
-
-/// The bytes behind the last LF that isn't the last byte.
-fn behind_last_feed(bytes: &[u8]) -> Option<&[u8]>
-    ensures { IfSome result (λ rest. (front : List ℕ) × (bytes.now ≡ front ++ 10 ∷ rest.now)
-        × (0 < length rest.now)) }
-{
-    let most = bytes.len().checked_sub(1)?;
-    let at = memrchr(b'\n', &bytes[..most])?;
-    Some(&bytes[at + 1..])
 }
 
 impl Ending {
@@ -69,8 +60,10 @@ impl Ending {
         ensures { (bytes : List ℕ) → self ≡ ending_of bytes
             → result ≡ ending_of (bytes ++ more.now) }
     {
-        match behind_last_feed(more) {
-            Some(rest) => with_each(Ending::new(), rest),
+        // Behind the last LF that isn't the last byte the last line begins.
+        let most = more.len().saturating_sub(1);
+        match memrchr(b'\n', &more[..most]) {
+            Some(at) => with_each(Ending::new(), &more[at + 1..]),
             None => with_each(self, more),
         }
     }

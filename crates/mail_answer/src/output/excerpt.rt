@@ -1,10 +1,10 @@
 //! The excerpt of a message.
-ghost use Rattle.std.specs.Prelude.{◌≡◌, ◌<◌, ◌-◌, ◌^◌, ℕ, List, ◌∷◌, ◌++◌, length, IfOk, IfErr, OnOk};
+ghost use Rattle.std.specs.Prelude.{◌≡◌, ◌<◌, ◌-◌, ◌^◌, ℕ, List, [], ◌∷◌, ◌++◌, length, IfOk, IfErr, OnOk};
 ghost use Rattle.header_text.specs.EncodedWords.{decoded};
 ghost use Rattle.header_text.specs.HeldLines.{HasLines};
 ghost use Rattle.header_text.specs.Headers.{fields_of};
 ghost use Rattle.header_text.specs.Unfolding.{unfolded};
-ghost use Rattle.mail_answer.specs.Excerpts.{without_controls, field_line, excerpt_lines};
+ghost use Rattle.mail_answer.specs.Excerpts.{without_controls, spaced, field_line, excerpt_lines};
 ghost use Rattle.mail_answer.specs.Faults.{IfStale};
 ghost use Rattle.mail_answer.specs.Inside.Calls.{AreAsIndexed, ReadsArchives, WritesOut};
 ghost use Rattle.mail_answer.specs.Shapes.{known_message};
@@ -22,28 +22,33 @@ use header_text::{Header, decode_words, unfold};
 use mbox_cutter::Out;
 use std::alloc::{AllocError, Global};
 
+/// The names of the fields in an excerpt.
+const NAMES: [&str; 5] = ["To", "Cc", "From", "Subject", "Date"];
+
 /// Makes a space of each character below U+0020, and of U+007F.
 fn hide_controls(text: &mut [u8])
     ensures { text.new ≡ without_controls text.old }
 {
     for b in text.iter_mut() {
-        if *b < 32 || *b == 127 {
+        if b.is_ascii_control() {
             *b = b' ';
         }
     }
 }
 
-/// The value of a field's body, in one line and without control characters.
-fn shown_value(alloc: Global, body: &[u8]) -> Result<Vec<u8>, AllocError>
-    ensures { IfOk result (λ value. value.items ≡ without_controls (decoded (unfolded body.now))) }
+/// Adds a line: a name, a colon, a value behind a space, if it isn't empty, and LF.
+fn push_line(name: &str, value: &[u8], text: &mut Vec<u8>) -> Result<(), AllocError>
+    ensures { OnOk result (text.new.items
+        ≡ text.old.items ++ name.now ++ 58 ∷ spaced value.now ++ 10 ∷ []) }
 {
-    let unfolded = unfold(alloc, body)?;
-    let mut value = decode_words(alloc, &unfolded)?.into_bytes();
-    hide_controls(value.as_mut_slice());
-    Ok(value)
+    let colon: &[u8] = if value.is_empty() { b":" } else { b": " };
+    text.extend_from_slice(name.as_bytes())?;
+    text.extend_from_slice(colon)?;
+    text.extend_from_slice(value)?;
+    text.extend_from_slice(b"\n")
 }
 
-/// Adds a field: its name, a colon, its value behind a space, if it isn't empty, and LF.
+/// Adds the line of the field of this name: its value stands in one line, without control characters.
 fn push_field(
     alloc: Global,
     header: &Header,
@@ -54,31 +59,28 @@ fn push_field(
         → text.new.items ≡ text.old.items ++ field_line (fields_of ls) name.now) }
 {
     let body = header.fields().first_body(name.as_bytes()).unwrap_or(b"");
-    let value = shown_value(alloc, body)?;
-    text.extend_from_slice(name.as_bytes())?;
-    text.push(b':')?;
-    if !value.is_empty() {
-        text.push(b' ')?;
-        text.extend_from_slice(&value)?;
-    }
-    text.push(b'\n')?;
-    Ok(())
+    let unfolded = unfold(alloc, body)?;
+    let mut value = decode_words(alloc, &unfolded)?.into_bytes();
+    hide_controls(value.as_mut_slice());
+    push_line(name, &value, text)
 }
 
-/// The excerpt of a message of this header: the path of its archive, and five fields.
-fn excerpt_text(alloc: Global, path: &str, header: &Header) -> Result<Vec<u8>, AllocError>
-    ensures { IfOk result (λ text. (ls : List (List ℕ)) → HasLines header.now ls
-        → text.items ≡ path.now ++ 10 ∷ excerpt_lines (fields_of ls)) }
+/// Adds the excerpt of a message of this header: the path of its archive, and five fields.
+fn push_lines(
+    alloc: Global,
+    path: &str,
+    header: &Header,
+    text: &mut Vec<u8>,
+) -> Result<(), AllocError>
+    ensures { OnOk result ((ls : List (List ℕ)) → HasLines header.now ls
+        → text.new.items ≡ text.old.items ++ path.now ++ 10 ∷ excerpt_lines (fields_of ls)) }
 {
-    let mut text = Vec::new(alloc);
     text.extend_from_slice(path.as_bytes())?;
-    text.push(b'\n')?;
-    push_field(alloc, header, "To", &mut text)?;
-    push_field(alloc, header, "Cc", &mut text)?;
-    push_field(alloc, header, "From", &mut text)?;
-    push_field(alloc, header, "Subject", &mut text)?;
-    push_field(alloc, header, "Date", &mut text)?;
-    Ok(text)
+    text.extend_from_slice(b"\n")?;
+    for name in &NAMES {
+        push_field(alloc, header, name, text)?;
+    }
+    Ok(())
 }
 
 /// Adds the excerpt of the message of this number to an answer.
@@ -105,6 +107,8 @@ pub(crate) fn push_excerpt<A: Archives, O: Out>(
 {
     let message = places.index().message(n);
     let header = read_header(alloc, message, archives)?;
-    let text = excerpt_text(alloc, places.path_of(message.archive), &header)?;
+    let path = places.path_of(message.archive);
+    let mut text = Vec::new(alloc);
+    push_lines(alloc, path, &header, &mut text)?;
     sheet.push(out, &text)
 }

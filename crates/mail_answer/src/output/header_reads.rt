@@ -39,7 +39,7 @@ fn read_line<A: Archives>(
     if n == 0 {
         return Ok(Taken::Ended);
     }
-    let taken = header.push_line(reader.front(n))?;
+    let taken = header.push_line(&reader.unread()[..n])?;
     reader.pass(n);
     Ok(taken)
 }

@@ -75,8 +75,9 @@ impl HeldBytes {
         ensures refused { OnErr result (self.new ≡ self.old) }
     {
         make_room(&mut self.room, self.count, bytes.len())?;
-        copy_behind(self.room.as_mut_slice(), self.count, bytes);
-        self.count += bytes.len();
+        let end = self.count + bytes.len();
+        self.room[self.count..end].copy_from_slice(bytes);
+        self.count = end;
         Ok(())
     }
 
@@ -107,15 +108,10 @@ impl HeldBytes {
             (archive_at bytes archive) → has_fault is_stale result ≡ false) }
     {
         make_room(&mut self.room, self.count, most)?;
-        let n = read_behind(
-            archives,
-            archive,
-            offset,
-            self.count,
-            most,
-            self.room.as_mut_slice(),
-        )
-        .or(Err(AnswerFaultKind::Device))?;
+        let room = self.room.as_mut_slice();
+        let Ok(n) = read_behind(archives, archive, offset, self.count, most, room) else {
+            return Err(AnswerFaultKind::Device);
+        };
         if n == 0 {
             return Err(AnswerFaultKind::Stale(archive));
         }
@@ -132,19 +128,10 @@ fn make_room(room: &mut Vec<u8>, held: usize, more: usize) -> Result<(), AllocEr
     ensures within { held ≤ length room.new.items }
     ensures same { take held room.new.items ≡ take held room.old.items }
 {
-    if room.len() < held + more {
-        room.resize(held + more, 0)?;
+    if held + more <= room.len() {
+        return Ok(());
     }
-    Ok(())
-}
-
-/// Copies bytes behind the first `held`.
-fn copy_behind(room: &mut [u8], held: usize, bytes: &[u8])
-    requires { held + length bytes.now ≤ length room.old }
-    ensures bytes { take (held + length bytes.now) room.new ≡ take held room.old ++ bytes.now }
-    ensures room { length room.new ≡ length room.old }
-{
-    room[held..held + bytes.len()].copy_from_slice(bytes);
+    room.resize(held + more, 0)
 }
 
 /// Reads at most so many bytes of an archive, from an offset on, behind the first `held`.

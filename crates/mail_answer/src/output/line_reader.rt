@@ -53,18 +53,10 @@ impl LineReader {
     }
 
     /// The bytes that were read and not passed.
-    fn unread(&self) -> &[u8]
+    pub(crate) fn unread(&self) -> &[u8]
         ensures { result.now ≡ self.now.unread }
     {
         &self.held.as_slice()[self.from..]
-    }
-
-    /// The next `n` bytes.
-    pub(crate) fn front(&self, n: usize) -> &[u8]
-        requires { n ≤ length self.now.unread }
-        ensures { result.now ≡ take n self.now.unread }
-    {
-        self.unread().split_at(n).0
     }
 
     /// Passes the next `n` bytes.

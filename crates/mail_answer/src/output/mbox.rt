@@ -51,13 +51,6 @@ impl Part {
         }
     }
 
-    /// Whether all of it was copied.
-    fn is_copied(&self) -> bool
-        ensures { result ≡ nat_eq (coming_count self.now) 0 }
-    {
-        self.left == 0
-    }
-
     /// Reads its next piece behind what an answer has gathered, which goes out where it is enough; answers how the last line stands.
     fn copy_piece<A: Archives, O: Out>(
         &mut self,
@@ -117,7 +110,7 @@ pub(crate) fn push_mbox<A: Archives, O: Out>(
 {
     let mut part = Part::of(index.message(n));
     let mut ending = Ending::new();
-    'pieces: while !part.is_copied() {
+    'pieces: while part.left > 0 {
         ending = part.copy_piece(ending, archives, sheet, out)?;
     }
     sheet.push(out, ending.feeds())

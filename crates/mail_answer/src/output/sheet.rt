@@ -7,7 +7,6 @@ ghost use Rattle.mail_answer.specs.declared.output.sheet.TheConstants.{FULL};
 use crate::fault::AnswerFaultKind;
 use crate::output::held_bytes::HeldBytes;
 use mbox_cutter::Out;
-use std::alloc::Global;
 
 /// So many bytes of an answer are gathered before they go out.
 const FULL: usize = 65_536;
@@ -23,16 +22,6 @@ pub(crate) struct Sheet {
 
 impl Sheet {
     ghost use Rattle.mail_answer.specs.Sheets.{Writes};
-
-    pub(crate) fn new(alloc: Global) -> Self
-        ensures text { result.text ≡ [] }
-        ensures sent { result.sent ≡ 0 }
-    {
-        Sheet {
-            text: HeldBytes::new(alloc),
-            sent: 0,
-        }
-    }
 
     /// Adds bytes to the answer.
     pub(crate) fn push<O: Out>(&mut self, out: &mut O, bytes: &[u8]) -> Result<(), AnswerFaultKind>
@@ -74,9 +63,9 @@ impl Sheet {
     {
         let mut at = 0;
         while at < self.text.len() {
-            let n = out
-                .put(&self.text.as_slice()[at..])
-                .or(Err(AnswerFaultKind::OutFailed))?;
+            let Ok(n) = out.put(&self.text.as_slice()[at..]) else {
+                return Err(AnswerFaultKind::OutFailed);
+            };
             at += n;
             self.sent = self.sent.saturating_add(n as u64);
         }

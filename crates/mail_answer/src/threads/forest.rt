@@ -9,18 +9,6 @@ ghost use Rattle.mail_answer.specs.Threads.{IsInThread};
 ghost use Rattle.mail_answer.specs.Inside.Forests.{LeadsBack, StaysInThreads, AreInOneTree, Shortens, Unites, AreBothAmong, ShareKey};
 
 use mail_index::{Keys, Postings, Steps};
-use std::alloc::{AllocError, Global};
-
-/// So many messages, each the root of a tree of its own.
-pub(crate) fn single_messages(alloc: Global, count: u32) -> Result<Vec<u32>, AllocError>
-    ensures { IfOk result (λ v. v.items ≡ range_with_len 0 count) }
-{
-    let mut parents = Vec::with_capacity(alloc, count as usize)?;
-    for number in 0..count {
-        parents.push(number)?;
-    }
-    Ok(parents)
-}
 
 /// Makes a message the child of its parent's parent, which is answered.
 fn lift(parents: &mut [u32], number: usize) -> u32

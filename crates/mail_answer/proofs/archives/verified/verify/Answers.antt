@@ -1,50 +1,51 @@
 use Rattle.mail_answer.proofs.Words.{◌∙◌, ◌<◌, ℕ, List, Ok, length, ap, subst, arith, AreVerified}
-use Rattle.mail_answer.specs.Answers.{kind_of}
 use Rattle.mail_answer.specs.Faults.{has_fault, is_of_archives, IfStale}
 use Rattle.mail_answer.specs.Verified.{LooksThrough}
-use Rattle.mail_answer.proofs.ArchiveLaws.VerifiedLemmas.{told_by_digests, read_of_all, unsent_kind, unsent_ok, unsent_err, unsent_fails, always_ok}
+use Rattle.mail_answer.proofs.ArchiveLaws.VerifiedLemmas.{told_by_digests, read_of_all, unsent_kind, unsent_ok, unsent_err, unsent_written, unsent_fails, always_ok}
 use Rattle.mail_answer.proofs.archives.verified.verify.Goals as goal
 
 pub check_digests-requires-clause-indexed : goal.check_digests-requires-clause-indexed
 check_digests-requires-clause-indexed g c =
-    let passed = unsent_kind c.check_archives.result c.map_err.result c.map_err.ensures.cases ∙ ap kind_of c.in_ok-map_err.was in
     record {
-      number = c.check_archives.ensures.keeps.number ∙ (rw passed at c.check_archives.ensures.same_count);
-      fresh = rw c.check_archives.ensures.keeps.held (rw passed at c.check_archives.ensures.stale);
+      number = c.check_archives.ensures.keeps.number ∙ (rw c.in_default.is at c.check_archives.ensures.same_count);
+      fresh = rw c.check_archives.ensures.keeps.held (rw c.in_default.is at c.check_archives.ensures.stale);
     }
 
 pub check_digests-requires-clause-count : goal.check_digests-requires-clause-count
 check_digests-requires-clause-count g c =
-    let same = rw (unsent_kind c.check_archives.result c.map_err.result c.map_err.ensures.cases ∙ ap kind_of c.in_ok-map_err.was) at c.check_archives.ensures.count in omega (arith, same, c.requires.archives)
+    let same = rw c.in_default.is at c.check_archives.ensures.count in omega (arith, same, c.requires.archives)
 
 pub returns-clause-verified : goal.returns-clause-verified
 returns-clause-verified g c =
-    rw (unsent_kind c.check_digests.result c.map_err-3.result c.map_err-3.ensures.cases) at
+    rw (unsent_kind c.check_digests.result c.map_err.result c.map_err.ensures.cases) at
     (told_by_digests c.args.index.now.archives (g.A.Archives.held c.args.archives.now) c.check_digests.result
-    (rw c.again-index.ensures.same at (rw (unsent_kind c.check_archives.result c.map_err.result c.map_err.ensures.cases ∙ ap kind_of c.in_ok-map_err.was) at c.check_archives.ensures.stale))
+    (rw c.again-index.ensures.same at (rw c.in_default.is at c.check_archives.ensures.stale))
     (rw (c.check_archives.ensures.keeps.held, c.again-index.ensures.same) at c.check_digests.ensures.altered))
 
 pub returns-clause-read : goal.returns-clause-read
 returns-clause-read g c =
-    unsent_ok ((read : List (List ℕ)) × AreVerified c.args.index.now.archives read) c.map_err-3.result
-    (rw (unsent_kind c.check_digests.result c.map_err-3.result c.map_err-3.ensures.cases) at
+    unsent_ok ((read : List (List ℕ)) × AreVerified c.args.index.now.archives read) c.map_err.result
+    (rw (unsent_kind c.check_digests.result c.map_err.result c.map_err.ensures.cases) at
     (read_of_all g.A.Archives c.args.index.now.archives c.check_archives.new.archives c.check_digests.new.archives c.check_digests.result (rw c.again-index.ensures.same at c.check_digests.ensures.found)))
 
 pub returns-clause-same_count : goal.returns-clause-same_count
 returns-clause-same_count g c =
-    always_ok _ c.map_err-3.result (rw c.again-index.ensures.same at (rw (unsent_kind c.check_archives.result c.map_err.result c.map_err.ensures.cases ∙ ap kind_of c.in_ok-map_err.was) at c.check_archives.ensures.same_count))
+    always_ok _ c.map_err.result (rw c.again-index.ensures.same at (rw c.in_default.is at c.check_archives.ensures.same_count))
 
 pub returns-clause-found : goal.returns-clause-found
 returns-clause-found g c = λ same.
-    let asked = rw c.again-index.ensures.same at (rw (unsent_kind c.check_archives.result c.map_err.result c.map_err.ensures.cases ∙ ap kind_of c.in_ok-map_err.was) at c.check_archives.ensures.asked) in
-    let kind = unsent_kind c.check_digests.result c.map_err-3.result c.map_err-3.ensures.cases in
+    let asked = rw c.again-index.ensures.same at (rw c.in_default.is at c.check_archives.ensures.asked) in
+    let kind = unsent_kind c.check_digests.result c.map_err.result c.map_err.ensures.cases in
     record {
       through = subst (LooksThrough g.A.Archives c.args.index.now.archives c.args.archives.now c.check_digests.new.archives) kind
-          (c.check_archives.new.archives, Ok c.in_ok-map_err.field-0, asked same, rw c.again-index.ensures.same at c.check_digests.ensures.found);
-      below = unsent_err (λ kind. IfStale kind (λ n. n < length c.args.index.now.archives)) c.map_err-3.result (rw (kind, c.again-index.ensures.same) at c.check_digests.ensures.below);
+          (c.check_archives.new.archives, Ok c.in_default.field-0, asked same, rw c.again-index.ensures.same at c.check_digests.ensures.found);
+      below = unsent_err (λ kind. IfStale kind (λ n. n < length c.args.index.now.archives)) c.map_err.result (rw (kind, c.again-index.ensures.same) at c.check_digests.ensures.below);
     }
 
 pub returns-clause-archives_count : goal.returns-clause-archives_count
 returns-clause-archives_count g c =
-    let same = rw (unsent_kind c.check_archives.result c.map_err.result c.map_err.ensures.cases ∙ ap kind_of c.in_ok-map_err.was) at c.check_archives.ensures.count in
-    rw (ap (has_fault is_of_archives) (unsent_kind c.check_digests.result c.map_err-3.result c.map_err-3.ensures.cases) ∙ unsent_fails is_of_archives c.map_err-3.result) at (rw same at c.check_digests.ensures.count)
+    let same = rw c.in_default.is at c.check_archives.ensures.count in
+    rw (ap (has_fault is_of_archives) (unsent_kind c.check_digests.result c.map_err.result c.map_err.ensures.cases) ∙ unsent_fails is_of_archives c.map_err.result) at (rw same at c.check_digests.ensures.count)
+
+pub returns-clause-unwritten : goal.returns-clause-unwritten
+returns-clause-unwritten g c = unsent_written c.check_digests.result c.map_err.result c.map_err.ensures.cases c.check_digests.ensures.own

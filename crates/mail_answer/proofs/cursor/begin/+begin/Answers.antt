@@ -1,4 +1,4 @@
-use Rattle.mail_answer.proofs.Words.{◌∙◌, ◌+◌, ◌≤◌, ℕ, List, length, drop, sym, ap, subst, arith, IfOk, eqb-true, Table, truths, Node, Query, query_of, queries_of, members_of, fits, Whole, Within, Front, most_left}
+use Rattle.mail_answer.proofs.Words.{◌∙◌, ◌+◌, ◌≤◌, ℕ, List, length, drop, sym, ap, subst, arith, IfOk, eqb-true, Node, Query, query_of, queries_of, members_of, fits, Whole, Within, Front, most_left}
 use Rattle.std.specs.Vec.{vec_len}
 use Rattle.mail_query.specs.Query as query
 use Rattle.mail_query.proofs.NodeLemmas.{query_of-Flag, query_of-Not}
@@ -13,18 +13,18 @@ walk_of-returns-in-Any-clause-truths t c = grind (arith, tells_scanned, query_of
 
 pub walk_of-returns-in-Date-clause-truths : goal.walk_of-returns-in-Date-clause-truths
 walk_of-returns-in-Date-clause-truths t c =
-    tells_scanned c.args.index.now (query_of c.args.node.now) (query.Date c.in-Date.range) c.new-in-Date.result.truths c.scanned-in-Date.result (ap query_of c.in-Date.is ∙ query_of-Date c.in-Date.range)
-    (c.new-in-Date.ensures.truths ∙ ap (λ (table : Table). truths table (query.Date c.in-Date.range)) c.again-in-Date.ensures.same) c.scanned-in-Date.ensures.truths
+    tells_scanned c.args.index.now (query_of c.args.node.now) (query.Date c.in-Date.range) c.scanned-in-Date.result (ap query_of c.in-Date.is ∙ query_of-Date c.in-Date.range)
+    c.scanned-in-Date.ensures.truths
 
 pub walk_of-returns-in-Size-clause-truths : goal.walk_of-returns-in-Size-clause-truths
 walk_of-returns-in-Size-clause-truths t c =
-    tells_scanned c.args.index.now (query_of c.args.node.now) (query.Size c.in-Size.low c.in-Size.high) c.new-in-Size.result.truths c.scanned-in-Size.result (ap query_of c.in-Size.is ∙ query_of-Size c.in-Size.low c.in-Size.high)
-    (c.new-in-Size.ensures.truths ∙ ap (λ (table : Table). truths table (query.Size c.in-Size.low c.in-Size.high)) c.again-in-Size.ensures.same) c.scanned-in-Size.ensures.truths
+    tells_scanned c.args.index.now (query_of c.args.node.now) (query.Size c.in-Size.low c.in-Size.high) c.scanned-in-Size.result (ap query_of c.in-Size.is ∙ query_of-Size c.in-Size.low c.in-Size.high)
+    c.scanned-in-Size.ensures.truths
 
 pub walk_of-returns-in-Flag-clause-truths : goal.walk_of-returns-in-Flag-clause-truths
 walk_of-returns-in-Flag-clause-truths t c =
-    tells_scanned c.args.index.now (query_of c.args.node.now) (query.HasFlag c.in-Flag.flag c.in-Flag.wanted) c.new-in-Flag.result.truths c.scanned-in-Flag.result (ap query_of c.in-Flag.is ∙ query_of-Flag c.in-Flag.flag c.in-Flag.wanted)
-    (c.new-in-Flag.ensures.truths ∙ ap (λ (table : Table). truths table (query.HasFlag c.in-Flag.flag c.in-Flag.wanted)) c.again-in-Flag.ensures.same) c.scanned-in-Flag.ensures.truths
+    tells_scanned c.args.index.now (query_of c.args.node.now) (query.HasFlag c.in-Flag.flag c.in-Flag.wanted) c.scanned-in-Flag.result (ap query_of c.in-Flag.is ∙ query_of-Flag c.in-Flag.flag c.in-Flag.wanted)
+    c.scanned-in-Flag.ensures.truths
 
 pub walk_of-returns-in-Word-clause-truths : goal.walk_of-returns-in-Word-clause-truths
 walk_of-returns-in-Word-clause-truths t c =

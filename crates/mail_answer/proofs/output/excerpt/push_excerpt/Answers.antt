@@ -14,8 +14,8 @@ read_header-requires-clause-inside g c =
 pub returns-in_err-header-clause-writes : goal.returns-in_err-header-clause-writes
 returns-in_err-header-clause-writes g c = grind (arith, writes_nothing)
 
-pub path_of-requires : goal.path_of-requires
-path_of-requires g c =
+pub path_of-path-requires : goal.path_of-path-requires
+path_of-path-requires g c =
     let t = c.args.places.now.table in
     let is : c.message-message.result ≡ record_at t.messages c.args.n = cc (c.message-message.ensures, c.index.ensures, record_known t.messages c.args.n c.requires.below) in
     let number : g.A.Archives.number c.args.archives.now ≡ length t.archives = c.requires.indexed.number in
@@ -23,8 +23,8 @@ path_of-requires g c =
     (message_inside t (g.A.Archives.held c.args.archives.now) (g.A.Archives.number c.args.archives.now) c.args.n c.requires.table c.requires.below c.requires.indexed.number c.requires.indexed.fresh).exists in
     rw is (omega (arith, number, exists))
 
-pub returns-in_err-text-clause-writes : goal.returns-in_err-text-clause-writes
-returns-in_err-text-clause-writes g c = grind (arith, writes_nothing)
+pub returns-in_err-push_lines-clause-writes : goal.returns-in_err-push_lines-clause-writes
+returns-in_err-push_lines-clause-writes g c = grind (arith, writes_nothing)
 
 pub returns-clause-writes : goal.returns-clause-writes
 returns-clause-writes g c =
@@ -32,5 +32,5 @@ returns-clause-writes g c =
     let held : Option (List (List ℕ)) = g.A.Archives.held c.args.archives.now in
     let is : c.message-message.result ≡ record_at t.messages c.args.n = cc (c.message-message.ensures, c.index.ensures, record_known t.messages c.args.n c.requires.below) in
     let told : Tells (known_message Excerpt t held c.args.n) c.deref.result.now =
-    rw c.deref.ensures.value (excerpt_told t held c.args.n c.message-message.result c.path_of.result.now c.in_ok-text.text.items c.in_ok-header.header is c.path_of.ensures.path c.in_ok-header.ensures.fields c.in_ok-text.ensures) in
+    rw c.deref.ensures.value (excerpt_told t held c.args.n c.message-message.result c.path_of-path.result.now c.push_lines.new.text.items c.in_ok-header.header is c.path_of-path.ensures.path c.in_ok-header.ensures.fields (rw c.new-text.ensures.items at c.in_ok-push_lines.ensures)) in
     writes_less (g.O.Out.taken c.args.out.now) (g.O.Out.taken c.push.new.out) c.args.sheet.now c.push.new.self (known_message Excerpt t held c.args.n) c.deref.result.now c.push.result told c.push.ensures.writes

@@ -1,4 +1,4 @@
-use Rattle.mail_answer.proofs.Words.{◌<◌, arith}
+use Rattle.mail_answer.proofs.Words.{◌<◌, ap, arith, take}
 use Rattle.mail_answer.proofs.OutputLaws.HeaderReading.{none_comes, line_given}
 use Rattle.mail_answer.proofs.output.header_reads.read_line.Goals as goal
 
@@ -9,5 +9,5 @@ returns-then-n-eq0-clause-fields g c =
 pub returns-clause-fields : goal.returns-clause-fields
 returns-clause-fields g c =
     let some : 0 < c.in_ok-n.n = omega (arith, c.if-n-eq0.false) in
-    line_given (g.A.Archives.held c.args.archives.now) c.in_ok-n.n c.args.reader.now c.first_line.new.self c.pass.new.self c.args.header.now c.push_line.new.self c.front.result.now c.in_ok-taken.taken c.in_ok-n.ensures.coming some c.in_ok-n.ensures.within
-    c.in_ok-n.ensures.line c.front.ensures c.pass.ensures c.in_ok-taken.ensures.lines c.in_ok-taken.ensures.taken
+    line_given (g.A.Archives.held c.args.archives.now) c.in_ok-n.n c.args.reader.now c.first_line.new.self c.pass.new.self c.args.header.now c.push_line.new.self _ c.in_ok-taken.taken c.in_ok-n.ensures.coming some c.in_ok-n.ensures.within
+    c.in_ok-n.ensures.line (ap (take c.in_ok-n.n) c.unread.ensures) c.pass.ensures c.in_ok-taken.ensures.lines c.in_ok-taken.ensures.taken

@@ -1,6 +1,20 @@
-use Rattle.mail_answer.proofs.Words.{◌∙◌, Bool, List, ap, truth_at}
+use Rattle.mail_answer.proofs.Words.{◌≡◌, ◌∙◌, Bool, ℕ, List, length, drop, sym, ap, arith, truth_at, Ahead, united, left_in}
+use Rattle.std.specs.Vec.{vec_len}
+use Rattle.mail_answer.proofs.CursorLaws.Groups.{grouped_more}
+use Rattle.mail_answer.proofs.CursorLaws.Begins.{some_walk}
 use Rattle.mail_answer.proofs.CursorLaws.Members.{united-at}
 use Rattle.mail_answer.proofs.cursor.walk.Walk.united_in_groups.Goals as goal
 
+pub loop-walks-preserved : goal.loop-walks-preserved
+loop-walks-preserved c =
+    let walks : List Ahead = c.loop-walks.walks.items in
+    let at : ℕ = c.saturating_sub.result in
+    let items : c.in_ok-group.group.items ≡ drop at walks = c.in_ok-group.ensures.tail in
+    let left : c.united.result.left ≡ left_in (drop at walks) = c.united.ensures.left ∙ ap left_in items in
+    let told : c.united.result.truths ≡ united (drop at walks) = c.united.ensures.truths ∙ ap united items in
+    rw (c.in_ok-push.ensures.items, c.in_ok-group.ensures.items)
+    (grouped_more _ c.loop-walks.groups.items walks at c.united.result (omega (arith, c.saturating_sub.ensures, c.len.ensures, c.loop-walks.walks.ok.0))
+    (some_walk (vec_len c.loop-walks.walks) (length walks) c.loop-walks.walks.ok.0 (sym c.is_empty.ensures ∙ c.loop-walks-test.true)) told left c.loop-walks.invariant)
+
 pub returns-clause-truths : goal.returns-clause-truths
-returns-clause-truths c = λ m. ap (λ (xs : List Bool). truth_at xs m) c.united.ensures.truths ∙ united-at m c.loop-alloc.walks.items ∙ c.loop-alloc.invariant.each m
+returns-clause-truths c = λ m. ap (λ (xs : List Bool). truth_at xs m) c.united-2.ensures.truths ∙ united-at m c.loop-alloc.walks.items ∙ c.loop-alloc.invariant.each m

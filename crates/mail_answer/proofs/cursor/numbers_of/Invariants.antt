@@ -1,9 +1,9 @@
 use Rattle.mail_answer.proofs.Words.{◌≡◌, ◌++◌, length}
-use Rattle.mail_answer.proofs.cursor.matches.Given as goal
+use Rattle.mail_answer.proofs.cursor.numbers_of.Given as goal
 
 -- the numbers so far, and those to come
 abbrev pub invariant-loop-number : goal.invariant-loop-number
-invariant-loop-number l = l.numbers.items ++ l.cursor.numbers ≡ l.initial.cursor.numbers
+invariant-loop-number l = l.numbers.items ++ l.cursor.numbers ≡ l.fn.cursor.numbers
 
 abbrev pub decreases-loop-number : goal.decreases-loop-number
 decreases-loop-number l = length l.cursor.numbers

@@ -1,5 +1,5 @@
 use Rattle.mail_answer.proofs.Words.{◌≡◌, ◌||◌, ◌+◌, ℕ, length, left_in, some_has}
-use Rattle.mail_answer.proofs.cursor.walk.each_alone.Given as goal
+use Rattle.mail_answer.proofs.cursor.walk.Walk.along_some.Given as goal
 
 -- the walks so far, and the lists that have none yet
 abbrev pub invariant-loop-list : goal.invariant-loop-list
