@@ -10,7 +10,7 @@ use crate::places::{
 use mail_words::Flags;
 
 /// A message of an archive, as an index keeps it.
-#[derive(Clone, Copy, Debug, PartialEq, Eq)]
+#[derive(Clone, Copy)]
 pub struct Record {
     /// The archive's number, from 0.
     pub archive: u32,

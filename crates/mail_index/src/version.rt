@@ -7,7 +7,7 @@ ghost use Rattle.mail_index.specs.Versions.{IsVersion, version_number};
 use crate::places::DIGEST;
 
 /// A version of index files.
-#[derive(Clone, Copy, Debug, PartialEq, Eq)]
+#[derive(Clone, Copy)]
 pub enum Version {
     /// Without names of parts, and without digests of archives.
     One,

@@ -64,7 +64,10 @@ impl KeyMap {
             place.number = self.hints.get(place.slot);
         }
         for place in places.iter_mut() {
-            place.text_length = text_length_at(&self.entries, place.number);
+            place.text_length = match self.entries.get(place.number as usize) {
+                Some(entry) => entry.text().len() as u32,
+                None => 0,
+            };
         }
     }
 
@@ -151,14 +154,6 @@ impl KeyMap {
     }
 }
 
-/// How long the text of an entry is, where there is that entry.
-fn text_length_at(entries: &[KeyEntry], number: u32) -> u32 {
-    match entries.get(number as usize) {
-        Some(entry) => entry.text().len() as u32,
-        None => 0,
-    }
-}
-
 /// A key that is added, with the number of a message that has it, and how many keys there may be.
 #[derive(Clone, Copy)]
 struct Added<'a> {
@@ -176,8 +171,10 @@ fn guessed(entries: &[KeyEntry], place: Prefetched, kind: Kind, text: &[u8]) -> 
     if place.text_length as usize != text.len() {
         return None;
     }
-    let entry = entries.get(place.number as usize)?;
-    entry.is_key(kind, text).then_some(place.number)
+    match entries.get(place.number as usize) {
+        Some(entry) if entry.is_key(kind, text) => Some(place.number),
+        _ => None,
+    }
 }
 
 /// Adds a message's number to the key of an entry.

@@ -69,7 +69,9 @@ pub(crate) fn split_archive(bytes: &[u8], version: Version) -> Option<(Archive<'
     if !is_path(path) {
         return None;
     }
-    let (digest, behind) = split_digest(behind, version)?;
+    let Some((digest, behind)) = split_digest(behind, version) else {
+        return None;
+    };
     Some((
         Archive {
             path,

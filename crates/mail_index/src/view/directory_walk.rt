@@ -1,24 +1,13 @@
 //! The directory of a file, against the texts and the postings that its entries name.
 ghost use Rattle.std.specs.Prelude.{◌≡◌, ◌↔◌, ◌+◌, ◌-◌, ◌*◌, ◌≤◌, ◌<◌, [], length, MatchOption, IsTrue};
 ghost use Rattle.mail_index.specs.Versions.{version_number};
-ghost use Rattle.mail_index.specs.OrderOfKeys.{key_cmp};
 ghost use Rattle.mail_index.specs.Directory.{is_entry as is_entry_of, end_before as end_before_of, AreEntries};
 ghost use Rattle.mail_index.specs.Inside.Walks.{MayStandAt, IsBehindEntry};
 
 use crate::fields::{u32_at, u64_at};
+use crate::kind::compare_keys;
 use crate::places::{ENTRY, KIND_AT, POSTING_PLACE_AT, TEXT_LENGTH_AT, TEXT_PLACE_AT};
 use crate::version::Version;
-use std::cmp::Ordering;
-
-/// The order of keys in a file: by the number of their kind, then byte by byte.
-pub(crate) fn compare_keys(number: u8, text: &[u8], other_number: u8, other_text: &[u8]) -> Ordering
-    ensures { result ≡ key_cmp number text.now other_number other_text.now }
-{
-    match number.cmp(&other_number) {
-        Ordering::Equal => text.cmp(other_text),
-        other => other,
-    }
-}
 
 /// Whether an entry begins with the number of a kind that the version has, and three zeros.
 #[tactic(auto, unfolding(crate::specs::Directory::is_entry))]
@@ -88,7 +77,7 @@ fn behind_entry<'a>(
     }
     let text = rest.split_at(text_length as usize).0;
     let number = entries[KIND_AT];
-    if compare_keys(place.number, place.text, number, text) != Ordering::Less {
+    if compare_keys(place.number, place.text, number, text).is_ge() {
         return None;
     }
     Some(EntryPlace {
