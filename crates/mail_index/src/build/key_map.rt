@@ -109,9 +109,9 @@ impl KeyMap {
         };
         // A right guess needs neither the order nor the hints.
         if let Some(entry) = guessed(&self.entries, place, kind, text) {
-            add_number(&mut self.entries, &self.order, entry, &key)?;
+            let added = add_number(&mut self.entries, &self.order, entry, &key);
             self.hints.note_recent(place.slot, entry);
-            return Ok(());
+            return added.or(Err(BuildFault::OutOfMemory));
         }
         self.add_searched(alloc, place.slot, key)
     }
@@ -134,9 +134,9 @@ impl KeyMap {
         self.order.begin(alloc)?;
         match self.order.find(&self.entries, key.kind, key.text) {
             Ok(entry) => {
-                add_number(&mut self.entries, &self.order, entry, &key)?;
+                let added = add_number(&mut self.entries, &self.order, entry, &key);
                 self.hints.note(slot, entry);
-                Ok(())
+                added.or(Err(BuildFault::OutOfMemory))
             }
             Err(place) => {
                 let entry = insert(alloc, &mut self.entries, &mut self.order, place, &key)?;
@@ -171,10 +171,8 @@ fn guessed(entries: &[KeyEntry], place: Prefetched, kind: Kind, text: &[u8]) -> 
     if place.text_length as usize != text.len() {
         return None;
     }
-    match entries.get(place.number as usize) {
-        Some(entry) if entry.is_key(kind, text) => Some(place.number),
-        _ => None,
-    }
+    let entry = entries.get(place.number as usize)?;
+    entry.is_key(kind, text).then_some(place.number)
 }
 
 /// Adds a message's number to the key of an entry.
@@ -228,7 +226,7 @@ fn insert(
     match order.insert(alloc, place, number as u32) {
         Ok(()) => Ok(number as u32),
         Err(_) => {
-            let _removed = entries.pop();
+            entries.truncate(number);
             Err(BuildFault::OutOfMemory)
         }
     }

@@ -37,7 +37,9 @@ fn split_digest(bytes: &[u8], version: Version) -> Option<(Option<[u8; DIGEST]>,
     match version {
         Version::One => Some((None, bytes)),
         Version::Two => {
-            let (digest, behind) = bytes.split_first_chunk::<DIGEST>()?;
+            let Some((digest, behind)) = bytes.split_first_chunk::<DIGEST>() else {
+                return None;
+            };
             Some((Some(*digest), behind))
         }
     }

@@ -50,6 +50,8 @@ pub(crate) fn split_difference(bytes: &[u8]) -> Option<(u64, &[u8])>
         }
     }
     // Taken apart and put together, so that only this way's result goes through memory.
-    let (long, behind) = split_leb128(5, bytes)?;
+    let Some((long, behind)) = split_leb128(5, bytes) else {
+        return None;
+    };
     Some((long, behind))
 }
