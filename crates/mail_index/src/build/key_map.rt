@@ -139,9 +139,10 @@ impl KeyMap {
                 added.or(Err(BuildFault::OutOfMemory))
             }
             Err(place) => {
-                let entry = insert(alloc, &mut self.entries, &mut self.order, place, &key)?;
+                let entry = self.entries.len() as u32;
+                let inserted = insert(alloc, &mut self.entries, &mut self.order, place, &key);
                 self.hints.note(slot, entry);
-                Ok(())
+                inserted
             }
         }
     }
@@ -195,14 +196,14 @@ fn add_number(
     Ok(())
 }
 
-/// Inserts a key at its place. Answers the number of its entry.
+/// Inserts a key at its place. Its entry comes last.
 fn insert(
     alloc: Global,
     entries: &mut Vec<KeyEntry>,
     order: &mut KeyOrder,
     place: Place,
     key: &Added<'_>,
-) -> Result<u32, BuildFault>
+) -> Result<(), BuildFault>
     requires number { key.now.number < u32.MAX }
     requires short { length key.now.text.now < four_byte_limit }
     requires fits { length entries.old.items ≤ key.now.most }
@@ -224,7 +225,7 @@ fn insert(
     let entry = KeyEntry::new(alloc, key.kind, key.text, key.number)?;
     entries.push(entry)?;
     match order.insert(alloc, place, number as u32) {
-        Ok(()) => Ok(number as u32),
+        Ok(()) => Ok(()),
         Err(_) => {
             entries.truncate(number);
             Err(BuildFault::OutOfMemory)
