@@ -60,7 +60,7 @@ fn behind_entry<'a>(
         (λ p. MayStandAt (version_number version) texts.entry.now total place.entry entries.now
         × IsBehindEntry texts.entry.now total place.entry entries.now p) }
 {
-    let text_length = u32_at(entries, TEXT_LENGTH_AT);
+    let text_length = u32_at(entries, TEXT_LENGTH_AT) as usize;
     let end = end_before(entries.split_at(ENTRY).1, total);
     if !is_entry(entries, version)
         || u64_at(entries, TEXT_PLACE_AT) != place.text_place
@@ -72,10 +72,9 @@ fn behind_entry<'a>(
         return None;
     }
     let rest = texts.split_at(place.text_place as usize).1;
-    if rest.len() < text_length as usize {
+    let Some((text, _)) = rest.split_at_checked(text_length) else {
         return None;
-    }
-    let text = rest.split_at(text_length as usize).0;
+    };
     let number = entries[KIND_AT];
     if compare_keys(place.number, place.text, number, text).is_ge() {
         return None;
