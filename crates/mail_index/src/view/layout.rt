@@ -37,7 +37,7 @@ pub(crate) fn signed_version(bytes: &[u8]) -> Result<Version, IndexFault>
     if bytes.len() < LEAST_FILE {
         return Err(IndexFault::TooShort);
     }
-    if bytes.split_at(MAGIC.len()).0 != MAGIC.as_slice() {
+    if !bytes.starts_with(MAGIC.as_slice()) {
         return Err(IndexFault::BadMagic);
     }
     let Some(version) = Version::of(u32_at(bytes, VERSION_AT)) else {
