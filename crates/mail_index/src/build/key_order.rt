@@ -55,10 +55,10 @@ impl KeyOrder {
         ensures between { length self.new.heads.items ≡ length self.new.pages.items - 1 }
         ensures same { slots_in self.new ≡ slots_in self.old }
     {
-        if !self.pages.is_empty() {
-            return Ok(());
+        if self.pages.is_empty() {
+            self.pages.push(Vec::new(alloc))?;
         }
-        self.pages.push(Vec::new(alloc)).or(Err(AllocError))
+        Ok(())
     }
 
     /// The number of the entry of this key; where none is it, the place for it.
