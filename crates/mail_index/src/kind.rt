@@ -1,7 +1,9 @@
-//! What the keys of an index are of.
+//! What the keys of an index are of, and their order.
 ghost use Rattle.std.specs.Prelude.{◌≡◌};
+ghost use Rattle.mail_index.specs.OrderOfKeys.{key_cmp};
 
 use mail_words::TextKind;
+use std::cmp::Ordering;
 
 /// What a key is of: a word of one of the kinds of text, a message's own id, or an id that links it to a thread.
 ///
@@ -34,5 +36,15 @@ impl Kind {
             Kind::LinkId => 8,
             Kind::Text(TextKind::Name) => 9,
         }
+    }
+}
+
+/// The order of keys in a file: by the number of their kind, then byte by byte.
+pub(crate) fn compare_keys(number: u8, text: &[u8], other_number: u8, other_text: &[u8]) -> Ordering
+    ensures { result ≡ key_cmp number text.now other_number other_text.now }
+{
+    match number.cmp(&other_number) {
+        Ordering::Equal => text.cmp(other_text),
+        other => other,
     }
 }

@@ -7,5 +7,5 @@ pub fn is_path(path: &str) -> bool
     ensures { IsTrue result ↔ IsPath path.now }
 {
     let bytes = path.as_bytes();
-    !bytes.is_empty() && bytes.len() <= 4096 && bytes.iter().all(|b| *b != b'\n' && *b != 0)
+    !bytes.is_empty() && bytes.len() <= 4096 && !bytes.contains(&b'\n') && !bytes.contains(&0)
 }

@@ -1,26 +1,35 @@
 //! Why an index isn't built.
 ghost use Rattle.std.specs.Prelude.{◌≡◌};
 
-use mbox_cutter::DeviceFault;
 use std::alloc::{AllocError, AllocFailed};
-use thiserror::Error;
+use std::error::Error;
+use std::fmt;
 
 /// Why a builder gave up.
-#[derive(Clone, Copy, Debug, PartialEq, Eq, Error)]
+#[derive(Clone, Copy, Debug, PartialEq, Eq)]
 pub enum BuildFault {
     /// There was no memory.
-    #[error("out of memory")]
     OutOfMemory,
     /// There would be more archives, messages or keys than are allowed.
-    #[error("too many archives, messages or words")]
     TooMany,
     /// The output failed.
-    #[error("write failed")]
     Device,
     /// An earlier call was out of memory or had too many.
-    #[error("failed before")]
     Failed,
 }
+
+impl fmt::Display for BuildFault {
+    fn fmt<W: fmt::Write>(&self, f: &mut fmt::Formatter<W>) -> fmt::Result {
+        f.write_str(match self {
+            BuildFault::OutOfMemory => "out of memory",
+            BuildFault::TooMany => "too many archives, messages or words",
+            BuildFault::Device => "write failed",
+            BuildFault::Failed => "failed before",
+        })
+    }
+}
+
+impl Error for BuildFault {}
 
 impl From<AllocError> for BuildFault {
     ghost use Rattle.mail_index.specs.declared.build.build_fault.BuildFault.TheVariants.{OutOfMemory};
@@ -39,15 +48,5 @@ impl<T: Drop> From<AllocFailed<T>> for BuildFault {
 
     fn from(_: AllocFailed<T>) -> Self {
         BuildFault::OutOfMemory
-    }
-}
-
-impl From<DeviceFault> for BuildFault {
-    ghost use Rattle.mail_index.specs.declared.build.build_fault.BuildFault.TheVariants.{Device};
-
-    ghost from_gives = { λ _ fault. fault ≡ Device };
-
-    fn from(_: DeviceFault) -> Self {
-        BuildFault::Device
     }
 }

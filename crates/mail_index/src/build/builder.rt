@@ -66,7 +66,9 @@ impl Builder {
         ensures lost { OnErr result (self.new ≡ None) }
         ensures failed { IfNone self.old (result ≡ Err BuildFault.Failed) }
     {
-        let draft = self.draft.as_mut().ok_or(BuildFault::Failed)?;
+        let Some(draft) = &mut self.draft else {
+            return Err(BuildFault::Failed);
+        };
         let outcome = draft.begin_archive(self.alloc, path);
         self.settled(outcome)
     }
@@ -82,7 +84,9 @@ impl Builder {
         ensures lost { OnErr result (self.new ≡ None) }
         ensures failed { IfNone self.old (result ≡ Err BuildFault.Failed) }
     {
-        let draft = self.draft.as_mut().ok_or(BuildFault::Failed)?;
+        let Some(draft) = &mut self.draft else {
+            return Err(BuildFault::Failed);
+        };
         let outcome = draft.begin_message();
         self.settled(outcome)
     }
@@ -148,7 +152,9 @@ impl Builder {
         ensures lost { OnErr result (self.new ≡ None) }
         ensures failed { IfNone self.old (result ≡ Err BuildFault.Failed) }
     {
-        let draft = self.draft.as_mut().ok_or(BuildFault::Failed)?;
+        let Some(draft) = &mut self.draft else {
+            return Err(BuildFault::Failed);
+        };
         let outcome = draft.add(self.alloc, kind, text, place);
         self.settled(outcome)
     }
@@ -163,7 +169,9 @@ impl Builder {
         ensures lost { OnErr result (self.new ≡ None) }
         ensures failed { IfNone self.old (result ≡ Err BuildFault.Failed) }
     {
-        let draft = self.draft.as_mut().ok_or(BuildFault::Failed)?;
+        let Some(draft) = &mut self.draft else {
+            return Err(BuildFault::Failed);
+        };
         let outcome = draft.end_message(message);
         self.settled(outcome)
     }
@@ -181,7 +189,9 @@ impl Builder {
         ensures lost { OnErr result (self.new ≡ None) }
         ensures failed { IfNone self.old (result ≡ Err BuildFault.Failed) }
     {
-        let draft = self.draft.as_mut().ok_or(BuildFault::Failed)?;
+        let Some(draft) = &mut self.draft else {
+            return Err(BuildFault::Failed);
+        };
         let outcome = draft.end_archive(length, digest);
         self.settled(outcome)
     }
@@ -205,8 +215,10 @@ impl Builder {
             × Sends (O.taken out.old) (O.taken out.new) (index_file d.table))) }
         ensures count { Counted (is_device result) (O.failures out.old) (O.failures out.new) }
     {
-        let draft = self.draft.as_ref().ok_or(BuildFault::Failed)?;
-        Ok(draft.write(out)?)
+        match &self.draft {
+            Some(draft) => draft.write(out).or(Err(BuildFault::Device)),
+            None => Err(BuildFault::Failed),
+        }
     }
 
     /// Frees all that was built: every later call answers [`BuildFault::Failed`].

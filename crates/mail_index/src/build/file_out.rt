@@ -42,10 +42,10 @@ impl Signer {
         ensures count { Counts result (O.failures out.old) (O.failures out.new) }
     {
         let gathered = self.pending.as_slice();
-        send(out, gathered)?;
+        let sent = send(out, gathered);
         self.hasher.update(gathered);
         self.pending.clear();
-        Ok(())
+        sent
     }
 
     /// Writes what is gathered. Answers the digest of all that went out.
@@ -57,8 +57,7 @@ impl Signer {
         ensures err { OnErr result (Sends (O.taken out.old) (O.taken out.new) self.pending) }
         ensures count { Counts result (O.failures out.old) (O.failures out.new) }
     {
-        self.flush(out)?;
-        Ok(self.hasher.finalize())
+        self.flush(out).and(Ok(self.hasher.finalize()))
     }
 
     /// Writes what is gathered, and the bytes, unless they have room then.

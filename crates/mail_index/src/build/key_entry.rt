@@ -11,7 +11,7 @@ ghost use Rattle.mail_index.specs.Limits.{four_byte_limit};
 
 use crate::build::leb128_out::leb128_of;
 use crate::build::short_bytes::ShortBytes;
-use crate::kind::Kind;
+use crate::kind::{Kind, compare_keys};
 use std::alloc::{AllocError, Global};
 use std::cmp::Ordering;
 use std::marker::Model;
@@ -113,10 +113,7 @@ impl KeyEntry {
         ensures { result ≡ lies_to kind text.now self.now }
     {
         let (own_number, own_text) = self.number_and_text();
-        match own_number.cmp(&kind.number()) {
-            Ordering::Equal => own_text.cmp(text),
-            other => other,
-        }
+        compare_keys(own_number, own_text, kind.number(), text)
     }
 
     /// Whether it is this key, and has a message's number already.
@@ -194,12 +191,13 @@ fn have_same_ends<const N: usize>(own: &[u8], text: &[u8]) -> Option<bool>
     requires few { N ≤ 8 }
     ensures { IfSome result (λ same. Decides same (own.now ≡ text.now)) }
 {
-    if own.len() > 2 * N {
+    if own.len() < N || own.len() > 2 * N {
         return None;
     }
-    let first = *own.first_chunk::<N>()? == *text.first_chunk::<N>()?;
-    let last = *own.last_chunk::<N>()? == *text.last_chunk::<N>()?;
-    Some(first && last)
+    Some(
+        own.first_chunk::<N>() == text.first_chunk::<N>()
+            && own.last_chunk::<N>() == text.last_chunk::<N>(),
+    )
 }
 
 /// Appends a difference's bytes to the recent ones. Most differences have one byte, for which there mostly is room.

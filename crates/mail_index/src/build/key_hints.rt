@@ -98,10 +98,10 @@ impl KeyHints {
             (length self.old.numbers.items ≡ 0 → length self.new.numbers.items ≡ 2 ^ 20) }
         ensures kept { 0 < length self.old.numbers.items → self.new ≡ self.old }
     {
-        if self.numbers.is_empty() {
-            self.numbers.resize(SLOTS, NOTHING)?;
+        if !self.numbers.is_empty() {
+            return Ok(());
         }
-        Ok(())
+        self.numbers.resize(SLOTS, NOTHING)
     }
 
     /// The number that stands in a slot, or more than all entries have.

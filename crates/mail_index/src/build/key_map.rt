@@ -64,7 +64,10 @@ impl KeyMap {
             place.number = self.hints.get(place.slot);
         }
         for place in places.iter_mut() {
-            place.text_length = text_length_at(&self.entries, place.number);
+            place.text_length = match self.entries.get(place.number as usize) {
+                Some(entry) => entry.text().len() as u32,
+                None => 0,
+            };
         }
     }
 
@@ -106,9 +109,9 @@ impl KeyMap {
         };
         // A right guess needs neither the order nor the hints.
         if let Some(entry) = guessed(&self.entries, place, kind, text) {
-            add_number(&mut self.entries, &self.order, entry, &key)?;
+            let added = add_number(&mut self.entries, &self.order, entry, &key);
             self.hints.note_recent(place.slot, entry);
-            return Ok(());
+            return added.or(Err(BuildFault::OutOfMemory));
         }
         self.add_searched(alloc, place.slot, key)
     }
@@ -131,14 +134,15 @@ impl KeyMap {
         self.order.begin(alloc)?;
         match self.order.find(&self.entries, key.kind, key.text) {
             Ok(entry) => {
-                add_number(&mut self.entries, &self.order, entry, &key)?;
+                let added = add_number(&mut self.entries, &self.order, entry, &key);
                 self.hints.note(slot, entry);
-                Ok(())
+                added.or(Err(BuildFault::OutOfMemory))
             }
             Err(place) => {
-                let entry = insert(alloc, &mut self.entries, &mut self.order, place, &key)?;
+                let entry = self.entries.len() as u32;
+                let inserted = insert(alloc, &mut self.entries, &mut self.order, place, &key);
                 self.hints.note(slot, entry);
-                Ok(())
+                inserted
             }
         }
     }
@@ -148,14 +152,6 @@ impl KeyMap {
         ensures { result ≡ self.now }
     {
         KeysInOrder::of(&self.entries, &self.order.heads, &self.order.pages)
-    }
-}
-
-/// How long the text of an entry is, where there is that entry.
-fn text_length_at(entries: &[KeyEntry], number: u32) -> u32 {
-    match entries.get(number as usize) {
-        Some(entry) => entry.text().len() as u32,
-        None => 0,
     }
 }
 
@@ -200,14 +196,14 @@ fn add_number(
     Ok(())
 }
 
-/// Inserts a key at its place. Answers the number of its entry.
+/// Inserts a key at its place. Its entry comes last.
 fn insert(
     alloc: Global,
     entries: &mut Vec<KeyEntry>,
     order: &mut KeyOrder,
     place: Place,
     key: &Added<'_>,
-) -> Result<u32, BuildFault>
+) -> Result<(), BuildFault>
     requires number { key.now.number < u32.MAX }
     requires short { length key.now.text.now < four_byte_limit }
     requires fits { length entries.old.items ≤ key.now.most }
@@ -229,9 +225,9 @@ fn insert(
     let entry = KeyEntry::new(alloc, key.kind, key.text, key.number)?;
     entries.push(entry)?;
     match order.insert(alloc, place, number as u32) {
-        Ok(()) => Ok(number as u32),
+        Ok(()) => Ok(()),
         Err(_) => {
-            let _removed = entries.pop();
+            entries.truncate(number);
             Err(BuildFault::OutOfMemory)
         }
     }

@@ -64,20 +64,9 @@ fn send_entry<O: Out>(
     ensures count { Counts result (O.failures out.old) (O.failures out.new) }
 {
     let (number, text) = key.number_and_text();
-    let kind = [number, 0, 0, 0];
-    let length = (text.len() as u32).to_be_bytes();
-    let text_place = text_place.to_be_bytes();
-    let place = place.to_be_bytes();
-    send_parts(
-        out,
-        signer,
-        &[
-            kind.as_slice(),
-            length.as_slice(),
-            text_place.as_slice(),
-            place.as_slice(),
-        ],
-    )
+    let front = [[number, 0, 0, 0], (text.len() as u32).to_be_bytes()];
+    let places = [text_place.to_be_bytes(), place.to_be_bytes()];
+    send_parts(out, signer, &[front.as_flattened(), places.as_flattened()])
 }
 
 /// Writes the keys' texts.

@@ -81,7 +81,9 @@ impl<'a> Iterator for KeysInOrder<'a> {
             self.fetched = fetch(self.entries, self.left.page);
         }
         self.fetched = self.fetched.saturating_sub(1);
-        let (slot, left) = next_slot(self.left)?;
+        let Some((slot, left)) = next_slot(self.left) else {
+            return None;
+        };
         self.left = left;
         self.entries.get(slot.number as usize)
     }
@@ -110,7 +112,8 @@ fn next_slot(left: Left<'_>) -> Option<(Fronted, Left<'_>)>
     if let Some((slot, page)) = left.page.split_first() {
         return Some((*slot, Left { page, ..left }));
     }
-    let (slot, heads) = left.heads.split_first()?;
-    let (page, pages) = left.pages.split_first()?;
-    Some((*slot, Left { page, heads, pages }))
+    match (left.heads.split_first(), left.pages.split_first()) {
+        (Some((slot, heads)), Some((page, pages))) => Some((*slot, Left { page, heads, pages })),
+        _ => None,
+    }
 }

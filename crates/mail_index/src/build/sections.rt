@@ -58,25 +58,24 @@ pub(crate) fn send_counts<O: Out>(
         (concat (counted counts.now)) }
     ensures count { CountsFailures result (O.failures out.old) (O.failures out.new) }
 {
-    let version = Version::newest().number().to_be_bytes();
-    let archives = counts.archives.to_be_bytes();
-    let messages = counts.messages.to_be_bytes();
-    let keys = counts.keys.to_be_bytes();
-    let archive_bytes = counts.archive_bytes.to_be_bytes();
-    let text_bytes = counts.text_bytes.to_be_bytes();
-    let posting_bytes = counts.posting_bytes.to_be_bytes();
+    let numbers = [
+        Version::newest().number().to_be_bytes(),
+        counts.archives.to_be_bytes(),
+        counts.messages.to_be_bytes(),
+        counts.keys.to_be_bytes(),
+    ];
+    let lengths = [
+        counts.archive_bytes.to_be_bytes(),
+        counts.text_bytes.to_be_bytes(),
+        counts.posting_bytes.to_be_bytes(),
+    ];
     send_parts(
         out,
         signer,
         &[
             MAGIC.as_slice(),
-            version.as_slice(),
-            archives.as_slice(),
-            messages.as_slice(),
-            keys.as_slice(),
-            archive_bytes.as_slice(),
-            text_bytes.as_slice(),
-            posting_bytes.as_slice(),
+            numbers.as_flattened(),
+            lengths.as_flattened(),
         ],
     )
 }
@@ -135,28 +134,18 @@ pub(crate) fn send_records<O: Out>(
     ensures count { CountsFailures result (O.failures out.old) (O.failures out.new) }
 {
     for message in messages {
-        let archive = message.archive.to_be_bytes();
         let known = bit(SEEN, message.flags.seen)
             + bit(REPLIED, message.flags.replied)
             + bit(FLAGGED, message.flags.flagged)
             + bit(DATED, message.date.is_some());
-        let flags = [known, 0, 0, 0];
-        let offset = message.offset.to_be_bytes();
-        let length = message.length.to_be_bytes();
-        let size = message.size.to_be_bytes();
-        let date = date_number(message.date).to_be_bytes();
-        send_parts(
-            out,
-            signer,
-            &[
-                archive.as_slice(),
-                flags.as_slice(),
-                offset.as_slice(),
-                length.as_slice(),
-                size.as_slice(),
-                date.as_slice(),
-            ],
-        )?;
+        let front = [message.archive.to_be_bytes(), [known, 0, 0, 0]];
+        let numbers = [
+            message.offset.to_be_bytes(),
+            message.length.to_be_bytes(),
+            message.size.to_be_bytes(),
+            date_number(message.date).to_be_bytes(),
+        ];
+        send_parts(out, signer, &[front.as_flattened(), numbers.as_flattened()])?;
     }
     Ok(())
 }

@@ -34,16 +34,6 @@ impl ShortBytes {
         }
     }
 
-    /// These bytes.
-    pub(crate) fn of(bytes: &[u8]) -> Self
-        requires { length bytes.now ≤ 15 }
-        ensures { result ≡ bytes.now }
-    {
-        let mut short = ShortBytes::new();
-        short.append(bytes);
-        short
-    }
-
     /// The bytes.
     pub(crate) fn as_slice(&self) -> &[u8]
         ensures bytes { result.now ≡ self.now }

@@ -37,7 +37,9 @@ fn split_digest(bytes: &[u8], version: Version) -> Option<(Option<[u8; DIGEST]>,
     match version {
         Version::One => Some((None, bytes)),
         Version::Two => {
-            let (digest, behind) = bytes.split_first_chunk::<DIGEST>()?;
+            let Some((digest, behind)) = bytes.split_first_chunk::<DIGEST>() else {
+                return None;
+            };
             Some((Some(*digest), behind))
         }
     }
@@ -69,7 +71,9 @@ pub(crate) fn split_archive(bytes: &[u8], version: Version) -> Option<(Archive<'
     if !is_path(path) {
         return None;
     }
-    let (digest, behind) = split_digest(behind, version)?;
+    let Some((digest, behind)) = split_digest(behind, version) else {
+        return None;
+    };
     Some((
         Archive {
             path,

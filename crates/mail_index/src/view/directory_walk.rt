@@ -1,24 +1,13 @@
 //! The directory of a file, against the texts and the postings that its entries name.
 ghost use Rattle.std.specs.Prelude.{◌≡◌, ◌↔◌, ◌+◌, ◌-◌, ◌*◌, ◌≤◌, ◌<◌, [], length, MatchOption, IsTrue};
 ghost use Rattle.mail_index.specs.Versions.{version_number};
-ghost use Rattle.mail_index.specs.OrderOfKeys.{key_cmp};
 ghost use Rattle.mail_index.specs.Directory.{is_entry as is_entry_of, end_before as end_before_of, AreEntries};
 ghost use Rattle.mail_index.specs.Inside.Walks.{MayStandAt, IsBehindEntry};
 
 use crate::fields::{u32_at, u64_at};
+use crate::kind::compare_keys;
 use crate::places::{ENTRY, KIND_AT, POSTING_PLACE_AT, TEXT_LENGTH_AT, TEXT_PLACE_AT};
 use crate::version::Version;
-use std::cmp::Ordering;
-
-/// The order of keys in a file: by the number of their kind, then byte by byte.
-pub(crate) fn compare_keys(number: u8, text: &[u8], other_number: u8, other_text: &[u8]) -> Ordering
-    ensures { result ≡ key_cmp number text.now other_number other_text.now }
-{
-    match number.cmp(&other_number) {
-        Ordering::Equal => text.cmp(other_text),
-        other => other,
-    }
-}
 
 /// Whether an entry begins with the number of a kind that the version has, and three zeros.
 #[tactic(auto, unfolding(crate::specs::Directory::is_entry))]
@@ -71,7 +60,7 @@ fn behind_entry<'a>(
         (λ p. MayStandAt (version_number version) texts.entry.now total place.entry entries.now
         × IsBehindEntry texts.entry.now total place.entry entries.now p) }
 {
-    let text_length = u32_at(entries, TEXT_LENGTH_AT);
+    let text_length = u32_at(entries, TEXT_LENGTH_AT) as usize;
     let end = end_before(entries.split_at(ENTRY).1, total);
     if !is_entry(entries, version)
         || u64_at(entries, TEXT_PLACE_AT) != place.text_place
@@ -83,12 +72,11 @@ fn behind_entry<'a>(
         return None;
     }
     let rest = texts.split_at(place.text_place as usize).1;
-    if rest.len() < text_length as usize {
+    let Some((text, _)) = rest.split_at_checked(text_length) else {
         return None;
-    }
-    let text = rest.split_at(text_length as usize).0;
+    };
     let number = entries[KIND_AT];
-    if compare_keys(place.number, place.text, number, text) != Ordering::Less {
+    if compare_keys(place.number, place.text, number, text).is_ge() {
         return None;
     }
     Some(EntryPlace {

@@ -56,13 +56,13 @@ impl fmt::Display for IndexFault {
     ghost output = { λ fault. Some (text_of_index fault) };
 
     fn fmt<W: fmt::Write>(&self, f: &mut fmt::Formatter<W>) -> fmt::Result {
-        match *self {
-            IndexFault::TooShort => f.write_str("too short"),
-            IndexFault::BadMagic => f.write_str("bad magic"),
-            IndexFault::BadVersion => f.write_str("unknown version"),
-            IndexFault::BadDigest => f.write_str("bad digest"),
-            IndexFault::BadLayout(section) => write!(f, "bad layout in {section}"),
-        }
+        f.write_str(match *self {
+            IndexFault::TooShort => "too short",
+            IndexFault::BadMagic => "bad magic",
+            IndexFault::BadVersion => "unknown version",
+            IndexFault::BadDigest => "bad digest",
+            IndexFault::BadLayout(section) => return write!(f, "bad layout in {section}"),
+        })
     }
 }
 

@@ -37,14 +37,14 @@ pub(crate) fn signed_version(bytes: &[u8]) -> Result<Version, IndexFault>
     if bytes.len() < LEAST_FILE {
         return Err(IndexFault::TooShort);
     }
-    if bytes.split_at(MAGIC.len()).0 != MAGIC.as_slice() {
+    if !bytes.starts_with(MAGIC.as_slice()) {
         return Err(IndexFault::BadMagic);
     }
-    let version = Version::of(u32_at(bytes, VERSION_AT)).ok_or(IndexFault::BadVersion)?;
+    let Some(version) = Version::of(u32_at(bytes, VERSION_AT)) else {
+        return Err(IndexFault::BadVersion);
+    };
     let (signed, digest) = bytes.split_at(bytes.len() - DIGEST);
-    let mut hasher = Sha256::new();
-    hasher.update(signed);
-    if digest != hasher.finalize().as_slice() {
+    if digest != Sha256::digest(signed).as_slice() {
         return Err(IndexFault::BadDigest);
     }
     Ok(version)
@@ -63,13 +63,13 @@ impl<'a> Layout<'a> {
     {
         let message_count = u32_at(bytes, MESSAGE_COUNT_AT);
         let key_count = u32_at(bytes, KEY_COUNT_AT);
-        let records = u64_at(bytes, ARCHIVE_BYTES_AT).checked_add(FRONT as u64)?;
-        let directory = records.checked_add(RECORD as u64 * message_count as u64)?;
-        let texts = directory.checked_add(ENTRY as u64 * key_count as u64)?;
-        let postings = texts.checked_add(u64_at(bytes, TEXT_BYTES_AT))?;
-        let digest = postings.checked_add(u64_at(bytes, POSTING_BYTES_AT))?;
-        let total = digest.checked_add(DIGEST as u64)?;
-        if total != bytes.len() as u64 {
+        let records = u64_at(bytes, ARCHIVE_BYTES_AT).saturating_add(FRONT as u64);
+        let directory = records.saturating_add(RECORD as u64 * message_count as u64);
+        let texts = directory.saturating_add(ENTRY as u64 * key_count as u64);
+        let postings = texts.saturating_add(u64_at(bytes, TEXT_BYTES_AT));
+        let digest = postings.saturating_add(u64_at(bytes, POSTING_BYTES_AT));
+        // A sum that is too large stays at the greatest number, behind which there is no room for a digest.
+        if digest != (bytes.len() - DIGEST) as u64 {
             return None;
         }
         Some(Layout {

@@ -51,7 +51,9 @@ impl<'a> Postings<'a> {
         ensures { MatchOption result ((self.old ≡ []) × (self.new ≡ []) × (steps.new ≡ steps.old))
             (λ n. (self.old ≡ n ∷ self.new) × (steps.new ≡ add_steps steps.old 1)) }
     {
-        let (difference, behind) = split_difference(self.bytes)?;
+        let Some((difference, behind)) = split_difference(self.bytes) else {
+            return None;
+        };
         self.bytes = behind;
         self.low += difference;
         steps.tick();

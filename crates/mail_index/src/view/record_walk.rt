@@ -45,7 +45,7 @@ fn behind_message<'a>(
         version,
     );
     let most = first_length(archives, count - message.archive, version);
-    let offset = message.offset.checked_add(message.length)?;
+    let offset = message.offset.saturating_add(message.length);
     if offset > most || message.size >= message.length {
         return None;
     }

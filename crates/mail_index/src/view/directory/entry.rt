@@ -2,9 +2,9 @@
 ghost use Rattle.std.specs.Prelude.{◌≡◌};
 
 use crate::fields::{u32_at, u64_at};
-use crate::kind::Kind;
+use crate::kind::{Kind, compare_keys};
 use crate::places::{ENTRY, KIND_AT, POSTING_PLACE_AT, TEXT_LENGTH_AT, TEXT_PLACE_AT};
-use crate::view::directory_walk::{compare_keys, end_before};
+use crate::view::directory_walk::end_before;
 use crate::view::postings::Postings;
 use std::cmp::Ordering;
 use std::marker::Model;

@@ -1,4 +1,4 @@
-use Rattle.mail_index.proofs.Words.{rules, List, Vec, set, arith, common_steps, ◌<◌, length, Global, map-set, get_or-map, ◌≡◌, ◌∷◌, get_or, drop}
+use Rattle.mail_index.proofs.Words.{rules, set, arith, common_steps, ◌<◌, length, map-set, get_or-map, ◌≡◌, ◌∷◌, get_or, drop}
 use Rattle.mail_index.specs.declared.build.key_front.Fronted.{Fronted}
 use Rattle.mail_index.proofs.BuildLaws.PageLemmas.{parted, row-is}
 use Rattle.mail_index.proofs.BuildLaws.SigningLemmas.{from-place}
@@ -6,9 +6,6 @@ use Rattle.mail_index.proofs.build.key_order.split.Goals as goal
 
 abbrev none : Fronted
 none = record { number = 0; front = 0 }
-
-abbrev items_of : Vec Fronted Global → List Fronted
-items_of v = v.items
 
 -- one page more, where one came behind another, which was shortened then
 pub returns-clause-same : goal.returns-clause-same

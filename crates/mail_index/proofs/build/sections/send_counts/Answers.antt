@@ -3,5 +3,5 @@ use Rattle.mail_index.proofs.build.sections.send_counts.Goals as goal
 
 pub returns-clause-written : goal.returns-clause-written
 returns-clause-written g c =
-    let version : c.to_be_bytes-version.result ≡ be32 newest = c.to_be_bytes-version.ensures ∙ ap be32 (c.number.ensures ∙ c.newest.ensures) in
-    rw (c.as_slice.ensures, c.as_slice-2.ensures, version, c.as_slice-3.ensures, c.to_be_bytes-archives.ensures, c.as_slice-4.ensures, c.to_be_bytes-messages.ensures, c.as_slice-5.ensures, c.to_be_bytes-keys.ensures, c.as_slice-6.ensures, c.to_be_bytes-archive_bytes.ensures, c.as_slice-7.ensures, c.to_be_bytes-text_bytes.ensures, c.as_slice-8.ensures, c.to_be_bytes-posting_bytes.ensures) at c.send_parts.ensures.written
+    let version : c.to_be_bytes.result ≡ be32 newest = c.to_be_bytes.ensures ∙ ap be32 (c.number.ensures ∙ c.newest.ensures) in
+    rw (c.as_slice.ensures, c.as_flattened.ensures.value, version, c.to_be_bytes-2.ensures, c.to_be_bytes-3.ensures, c.to_be_bytes-4.ensures, c.as_flattened-2.ensures.value, c.to_be_bytes-5.ensures, c.to_be_bytes-6.ensures, c.to_be_bytes-7.ensures) at c.send_parts.ensures.written

@@ -1,4 +1,4 @@
-use Rattle.mail_index.proofs.Words.{◌≡◌, ◌<◌, ◌≤◌, ◌^◌, length, map, refl, rules, arith, common_steps, Draft}
+use Rattle.mail_index.proofs.Words.{◌≡◌, length, map, refl, rules, arith, common_steps, Draft}
 use Rattle.mail_index.specs.Inside.Drafts.{draft_of, kept_archive, message_count}
 use Rattle.mail_index.proofs.BuildLaws.DraftLemmas.{message_count-within}
 use Rattle.mail_index.proofs.BuildLaws.Sizes.{length-archives, length-texts, length-all_postings, counted_length-small}
@@ -16,10 +16,6 @@ key_bytes-text_bytes-requires-clause-postings c = grind (arith, message_count-wi
 pub returns-clause-small : goal.returns-clause-small
 returns-clause-small c =
     let d : Draft = draft_of c.self.inside.most c.self.inside.path c.self.inside.in_message c.self.inside.archives.items c.self.inside.records.items c.self.inside.keys in
-    let count : message_count d ≤ 2 ^ 31 = omega (arith, message_count-within d c.self.invariant, c.self.invariant.limit) in
-    let archives : length d.table.archives < 2 ^ 31 = omega (arith, c.self.invariant.archives, c.self.invariant.limit) in
-    let messages : length d.table.messages < 2 ^ 31 = omega (arith, c.self.invariant.messages, c.self.invariant.limit) in
-    let keys : length d.table.keys < 2 ^ 31 = omega (arith, c.self.invariant.keys, c.self.invariant.limit) in
     let archive_count : c.len.result ≡ length (map kept_archive c.self.inside.archives.items) = first_of (search rules, grind (arith, common_steps)) in
     let message_count_is : c.len-2.result ≡ length c.self.inside.records.items = first_of (search rules, grind (arith, common_steps)) in
     counted_length-small d.table _ (message_count d) (record {
@@ -30,4 +26,5 @@ returns-clause-small c =
       archive_bytes = rw c.as_slice.ensures.value at c.archives_length.ensures;
       text_bytes = rw c.in_order.ensures at c.key_bytes-text_bytes.ensures.texts;
       posting_bytes = rw c.in_order.ensures at c.key_bytes-text_bytes.ensures.postings;
-    }) archives messages keys count c.self.invariant.named c.self.invariant.listed
+    }) (omega (arith, c.self.invariant.archives, c.self.invariant.limit)) (omega (arith, c.self.invariant.messages, c.self.invariant.limit)) (omega (arith, c.self.invariant.keys, c.self.invariant.limit))
+    (omega (arith, message_count-within d c.self.invariant, c.self.invariant.limit)) c.self.invariant.named c.self.invariant.listed

@@ -1,4 +1,4 @@
-use Rattle.mail_index.proofs.Words.{◌≡◌, ◌∙◌, ℕ, List, ◌+◌, ◌-◌, ◌^◌, ◌<◌, ◌≤◌, ◌++◌, take, drop, ap, sym, subst, arith, Key, leb128}
+use Rattle.mail_index.proofs.Words.{◌≡◌, ◌∙◌, ℕ, List, ◌+◌, ◌-◌, ◌++◌, take, drop, ap, sym, subst, arith, Key, leb128}
 use Rattle.mail_index.specs.Inside.KeyMaps.{with_one, key_in, key_bytes, AreEntryBytes}
 use Rattle.mail_index.proofs.BuildLaws.EntryLemmas.{entry-more, key-more, key-same, key_bytes-more, within-more}
 use Rattle.mail_index.proofs.build.key_entry.KeyEntry.push.Goals as goal
@@ -13,10 +13,8 @@ invariant_of-self-2 c =
     let difference : List ℕ = leb128 5 (c.args.number + 1 - c.self.inside.next) in
     let e : key_bytes c.self.inside.front front c.append.new.bytes.items c.append.new.recent ≡ whole ++ difference =
     key_bytes-more c.self.inside.front front c.self.inside.bytes.items c.self.inside.recent c.append.new.bytes.items c.append.new.recent difference
-    c.in_ok-append.ensures.ok in
-    let low : c.self.inside.next ≤ c.args.number = omega arith in
-    let high : c.args.number + 1 < 2 ^ 32 = omega arith in (
-      subst (λ (l : List ℕ). AreEntryBytes l front (c.args.number + 1)) (sym e) (entry-more whole front c.self.inside.next c.args.number c.self.invariant.0 low high),
+    c.in_ok-append.ensures.ok in (
+      subst (λ (l : List ℕ). AreEntryBytes l front (c.args.number + 1)) (sym e) (entry-more whole front c.self.inside.next c.args.number c.self.invariant.0 (omega arith) (omega arith)),
       within-more c.self.inside.front c.self.inside.bytes.items c.append.new.bytes.items front c.self.invariant.1 c.in_ok-append.ensures.kept,
     )
 
@@ -28,7 +26,5 @@ returns-clause-ok c =
     let e : key_bytes c.self.inside.front front c.append.new.bytes.items c.append.new.recent ≡ whole ++ difference =
     key_bytes-more c.self.inside.front front c.self.inside.bytes.items c.self.inside.recent c.append.new.bytes.items c.append.new.recent difference
     c.in_ok-append.ensures.ok in
-    let low : c.self.inside.next ≤ c.args.number = omega arith in
-    let high : c.args.number + 1 < 2 ^ 32 = omega arith in
     ap (λ (l : List ℕ). key_in (take front l) (drop front l)) e
-    ∙ key-more whole front c.self.inside.next c.args.number c.self.invariant.0 low high ∙ ap (λ (k : Key). with_one k c.args.number) c.self.view_is
+    ∙ key-more whole front c.self.inside.next c.args.number c.self.invariant.0 (omega arith) (omega arith) ∙ ap (λ (k : Key). with_one k c.args.number) c.self.view_is

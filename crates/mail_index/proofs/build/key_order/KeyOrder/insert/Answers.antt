@@ -1,11 +1,7 @@
 use Rattle.std.proofs.Common.{arith}
-use Rattle.mail_index.proofs.Words.{List, Vec, set, Global, insert, map-set, set-get_or, get_or-map}
-use Rattle.mail_index.specs.declared.build.key_front.Fronted.{Fronted}
+use Rattle.mail_index.proofs.Words.{set, insert, map-set, set-get_or, get_or-map}
 use Rattle.mail_index.proofs.BuildLaws.PageLemmas.{inserted}
 use Rattle.mail_index.proofs.build.key_order.KeyOrder.insert.Goals as goal
-
-abbrev items_of : Vec Fronted Global → List Fronted
-items_of v = v.items
 
 pub returns-in_err-insert-clause-err : goal.returns-in_err-insert-clause-err
 returns-in_err-insert-clause-err c = grind (arith, set, map-set, get_or-map, set-get_or)

@@ -1,14 +1,15 @@
-use Rattle.mail_index.proofs.Words.{rules, ◌≡◌, ◌∙◌, ap, ap₂, arith, slice_range, common_steps, records_start, directory_start, texts_start, postings_start, digest_start}
+use Rattle.mail_index.proofs.Words.{rules, ◌≡◌, ◌-◌, ◌^◌, ◌<◌, ◌∙◌, ap, ap₂, arith, slice_range, common_steps, records_start, directory_start, texts_start, postings_start, digest_start}
 use Rattle.mail_index.proofs.view.layout.Layout.of.Goals as goal
 
 pub returns : goal.returns
 returns c =
     let bytes = c.args.bytes.now in
-    let records : c.in_ok-records.records ≡ records_start bytes = first_of (search rules, grind (arith, common_steps)) in
-    let directory : c.in_ok-directory.directory ≡ directory_start bytes = first_of (search (rules, records), grind (arith, common_steps, records)) in
-    let texts : c.in_ok-texts.texts ≡ texts_start bytes = first_of (search (rules, directory), grind (arith, common_steps, directory)) in
-    let postings : c.in_ok-postings.postings ≡ postings_start bytes = first_of (search (rules, texts), grind (arith, common_steps, texts)) in
-    let digest : c.in_ok-digest.digest ≡ digest_start bytes = first_of (search (rules, postings), grind (arith, common_steps, postings)) in
+    let low : c.saturating_add-digest.result < 2 ^ 64 - 1 = grind arith in
+    let records : c.saturating_add-records.result ≡ records_start bytes = grind (arith, low) in
+    let directory : c.saturating_add-directory.result ≡ directory_start bytes = grind (arith, low, records) in
+    let texts : c.saturating_add-texts.result ≡ texts_start bytes = grind (arith, low, directory) in
+    let postings : c.saturating_add-postings.result ≡ postings_start bytes = grind (arith, low, texts) in
+    let digest : c.saturating_add-digest.result ≡ digest_start bytes = grind (arith, low, postings) in
     record {
       adds_up = first_of (search (rules, digest), grind (arith, common_steps, digest));
       few = first_of (search rules, grind (arith, common_steps));
