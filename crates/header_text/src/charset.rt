@@ -7,7 +7,7 @@ use crate::cut::cut_at;
 use crate::names::is_named;
 
 /// A charset that a mail can name.
-#[derive(Clone, Copy, Debug, PartialEq, Eq)]
+#[derive(Clone, Copy)]
 pub enum Charset {
     /// UTF-8, and US-ASCII as its front.
     Utf8,
