@@ -1,5 +1,5 @@
 -- Texts that are a front of what a call was to leave.
-use Rattle.header_text.proofs.Words.{◌≡◌, ℕ, List, [], ◌++◌, sym, ap, ◌∙◌, append_assoc, Extends}
+use Rattle.header_text.proofs.Words.{◌≡◌, ℕ, List, ◌++◌, sym, ap, ◌∙◌, append_assoc, Extends}
 
 -- a front of what the rest follows
 pub front-more : (new some rest whole : List ℕ) → Extends new some → some ++ rest ≡ whole → Extends new whole

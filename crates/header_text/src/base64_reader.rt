@@ -30,8 +30,7 @@ fn hold(held: Held, symbol: u8, into: &mut Vec<u8>) -> Result<Held, AllocError>
             count: held.count + 1,
         });
     }
-    decode_groups(&symbols, into)?;
-    Ok(Held { symbols, count: 0 })
+    decode_groups(&symbols, into).and(Ok(Held { symbols, count: 0 }))
 }
 
 /// Decodes a text without `=` behind the symbols that are held.
@@ -82,7 +81,7 @@ impl Base64 {
             return Ok(());
         }
         let cut = cut_at(b'=', piece);
-        let text = cut.map_or(piece, |(text, _)| text);
+        let (text, _) = cut.unwrap_or((piece, b""));
         self.held = decode_text(self.held, text, into)?;
         self.ended = cut.is_some();
         Ok(())

@@ -1,7 +1,7 @@
 //! Charsets and how they read bytes.
 ghost use Rattle.std.specs.Prelude.{◌≡◌, ◌<◌, not, ◌==◌};
 ghost use Rattle.header_text.specs.Blanks.{split_while};
-ghost use Rattle.header_text.specs.Charsets.{charset_of, is_among, utf8_labels, latin1_labels, latin9_labels, windows_1252_labels, character as character_of, latin9_character as latin9_character_of, windows_1252_character as windows_1252_character_of};
+ghost use Rattle.header_text.specs.Charsets.{charset_of, charset_named as charset_named_of, character as character_of, latin9_character as latin9_character_of, windows_1252_character as windows_1252_character_of};
 
 use crate::cut::cut_at;
 use crate::names::is_named;
@@ -57,36 +57,28 @@ fn windows_1252_character(b: u8) -> char
     }
 }
 
-/// Whether a label is empty or one of UTF-8's.
-fn is_utf8(label: &[u8]) -> bool
-    ensures { result ≡ is_among utf8_labels label.now }
+/// The charset of a label without a language.
+fn charset_named(name: &[u8]) -> Charset
+    ensures { result ≡ charset_named_of name.now }
 {
-    label.is_empty()
-        || is_named(label, b"us-ascii")
-        || is_named(label, b"ascii")
-        || is_named(label, b"utf-8")
-        || is_named(label, b"utf8")
-}
-
-/// Whether a label is one of ISO 8859-1's.
-fn is_latin1(label: &[u8]) -> bool
-    ensures { result ≡ is_among latin1_labels label.now }
-{
-    is_named(label, b"iso-8859-1") || is_named(label, b"iso8859-1") || is_named(label, b"latin1")
-}
-
-/// Whether a label is one of ISO 8859-15's.
-fn is_latin9(label: &[u8]) -> bool
-    ensures { result ≡ is_among latin9_labels label.now }
-{
-    is_named(label, b"iso-8859-15") || is_named(label, b"iso8859-15")
-}
-
-/// Whether a label is one of Windows-1252's.
-fn is_windows_1252(label: &[u8]) -> bool
-    ensures { result ≡ is_among windows_1252_labels label.now }
-{
-    is_named(label, b"windows-1252") || is_named(label, b"cp1252")
+    if name.is_empty()
+        || is_named(name, b"us-ascii")
+        || is_named(name, b"ascii")
+        || is_named(name, b"utf-8")
+        || is_named(name, b"utf8")
+    {
+        return Charset::Utf8;
+    }
+    if is_named(name, b"iso-8859-1") || is_named(name, b"iso8859-1") || is_named(name, b"latin1") {
+        return Charset::Latin1;
+    }
+    if is_named(name, b"iso-8859-15") || is_named(name, b"iso8859-15") {
+        return Charset::Latin9;
+    }
+    if is_named(name, b"windows-1252") || is_named(name, b"cp1252") {
+        return Charset::Windows1252;
+    }
+    Charset::Unknown
 }
 
 impl Charset {
@@ -95,17 +87,7 @@ impl Charset {
         ensures { result ≡ charset_of label.now }
     {
         let (name, _) = cut_at(b'*', label).unwrap_or((label, b""));
-        if is_utf8(name) {
-            Charset::Utf8
-        } else if is_latin1(name) {
-            Charset::Latin1
-        } else if is_latin9(name) {
-            Charset::Latin9
-        } else if is_windows_1252(name) {
-            Charset::Windows1252
-        } else {
-            Charset::Unknown
-        }
+        charset_named(name)
     }
 
     /// The character of a byte that stands alone.

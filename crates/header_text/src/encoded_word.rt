@@ -7,7 +7,7 @@ ghost use Rattle.header_text.specs.EncodedWords.{is_charset_byte, is_text_byte, 
 ghost use Rattle.header_text.specs.Inside.ShownWords.{shown_word, shown_found, no_word, word_first};
 
 use crate::base64_reader::decode_base64_into;
-use crate::blanks::is_blank;
+use crate::blanks::after_blanks;
 use crate::charset::Charset;
 use crate::cut::cut_at;
 use crate::escape::decode_q_into;
@@ -41,32 +41,34 @@ fn is_q(encoding: u8) -> bool
 fn are_charset_bytes(bytes: &[u8]) -> bool
     ensures { result ≡ list_all is_charset_byte bytes.now }
 {
-    bytes.iter().all(|b| matches!(b, 33..=126) && *b != b'?')
+    bytes.iter().all(|b| b.is_ascii_graphic() && *b != b'?')
 }
 
 /// Whether a text may have all these bytes.
 fn is_text(bytes: &[u8]) -> bool
     ensures { result ≡ list_all is_text_byte bytes.now }
 {
-    bytes.iter().all(|b| matches!(b, 32..=126) && *b != b'?')
+    bytes
+        .iter()
+        .all(|b| (b.is_ascii_graphic() || *b == b' ') && *b != b'?')
 }
 
 /// The word of three parts, if they make one.
 fn word_of<'a>(charset: &'a [u8], encoding: &[u8], text: &'a [u8]) -> Option<EncodedWord<'a>>
     ensures { option_map shown_word result ≡ word_of_parts charset.now encoding.now text.now }
 {
-    match encoding {
-        [encoding]
-            if !charset.is_empty()
-                && are_charset_bytes(charset)
-                && (is_q(*encoding) || matches!(encoding, b'B' | b'b'))
-                && is_text(text) => Some(EncodedWord {
+    if let [encoding @ (b'Q' | b'q' | b'B' | b'b')] = encoding
+        && !charset.is_empty()
+        && are_charset_bytes(charset)
+        && is_text(text)
+    {
+        return Some(EncodedWord {
             charset,
             encoding: *encoding,
             text,
-        }),
-        _ => None,
+        });
     }
+    None
 }
 
 /// The encoded word that begins with `=` and these bytes, and what follows it.
@@ -74,13 +76,16 @@ fn word_of<'a>(charset: &'a [u8], encoding: &[u8], text: &'a [u8]) -> Option<Enc
 fn word_behind(bytes: &[u8]) -> Option<(EncodedWord<'_>, &[u8])>
     ensures { option_map (λ f. (shown_word f.0, f.1.now)) result ≡ word_and_later bytes.now }
 {
-    let rest = bytes.strip_prefix(b"?")?;
-    let (charset, rest) = cut_at(b'?', rest)?;
-    let (encoding, rest) = cut_at(b'?', rest)?;
-    let (text, rest) = cut_at(b'?', rest)?;
-    let later = rest.strip_prefix(b"=")?;
-    let word = word_of(charset, encoding, text)?;
-    Some((word, later))
+    if let Some(rest) = bytes.strip_prefix(b"?")
+        && let Some((charset, rest)) = cut_at(b'?', rest)
+        && let Some((encoding, rest)) = cut_at(b'?', rest)
+        && let Some((text, rest)) = cut_at(b'?', rest)
+        && let Some(later) = rest.strip_prefix(b"=")
+        && let Some(word) = word_of(charset, encoding, text)
+    {
+        return Some((word, later));
+    }
+    None
 }
 
 /// The leftmost encoded word.
@@ -126,7 +131,7 @@ fn push_between(bytes: &[u8], follows_word: bool, into: &mut String) -> Result<(
 fn are_blanks(bytes: &[u8]) -> bool
     ensures { result ≡ list_all is_blank_of bytes.now }
 {
-    bytes.iter().all(|b| is_blank(*b))
+    after_blanks(bytes).is_empty()
 }
 
 /// Adds the text of an encoded word.
@@ -144,11 +149,12 @@ fn push_word(
         (string_bytes into.old ++ word_text (shown_word word.now)) }
 {
     scratch.clear();
-    if is_q(word.encoding) {
-        decode_q_into(word.text, scratch)?;
+    let gathered = if is_q(word.encoding) {
+        decode_q_into(word.text, scratch)
     } else {
-        decode_base64_into(word.text, scratch)?;
-    }
+        decode_base64_into(word.text, scratch)
+    };
+    gathered?;
     decode_into(Charset::of(word.charset), scratch, into)
 }
 
@@ -187,6 +193,5 @@ pub fn decode_words(alloc: Global, unfolded: &[u8]) -> Result<String, AllocError
 {
     let mut text = String::new(alloc);
     let mut scratch = Vec::new(alloc);
-    decode_words_into(unfolded, &mut scratch, &mut text)?;
-    Ok(text)
+    decode_words_into(unfolded, &mut scratch, &mut text).and(Ok(text))
 }

@@ -36,7 +36,7 @@ pub fn is_continuation(line: &[u8]) -> bool
 fn is_field_name_byte(b: u8) -> bool
     ensures { result ≡ is_field_name_byte_of b }
 {
-    matches!(b, 33..=126) && b != b':'
+    b.is_ascii_graphic() && b != b':'
 }
 
 /// The bytes behind the name in front.

@@ -1,5 +1,5 @@
 //! Fields kept one behind another, and the iterator over them.
-ghost use Rattle.std.specs.Prelude.{◌≡◌, ℕ, ◌+◌, ◌<◌, ◌≤◌, List, [], ◌∷◌, ◌++◌, length, slice_range, is_ok, option_map, IfSome, OnOk, OnErr, if◌then◌else◌};
+ghost use Rattle.std.specs.Prelude.{◌≡◌, ℕ, ◌+◌, ◌<◌, ◌≤◌, List, [], ◌∷◌, ◌++◌, length, slice_range, vec_len, vec_capacity, is_ok, option_map, IfSome, OnOk, OnErr, if◌then◌else◌};
 ghost use Rattle.std.specs.Iterator.{YieldsFirstBy, item_count};
 ghost use Rattle.header_text.specs.Headers.{HeaderField, fields_size, most_in_header};
 ghost use Rattle.header_text.specs.Names.{first_body as first_body_of};
@@ -62,16 +62,17 @@ impl<'a> Model for Fields<'a> {
     ghost invariant = { λ s. AreInOrder (length s.bytes.now) s.places.now };
 }
 
-/// Takes room with the first field for all that a header usually has, so that few buffers grow more than once.
-fn reserve_usual(bytes: &mut Vec<u8>, places: &mut Vec<FieldPlace>) -> Result<(), AllocError>
+/// Takes room for a place, and with the first one for all that a header usually has, so that few buffers grow more than once.
+fn reserve_place(bytes: &mut Vec<u8>, places: &mut Vec<FieldPlace>) -> Result<(), AllocError>
     ensures bytes { bytes.new.items ≡ bytes.old.items }
     ensures places { places.new.items ≡ places.old.items }
+    ensures room { OnOk result (vec_len places.new < vec_capacity places.new) }
 {
-    if places.is_empty() {
-        bytes.reserve(USUAL_BYTES)?;
-        places.reserve(USUAL_FIELDS)?;
+    if !places.is_empty() {
+        return places.reserve(1);
     }
-    Ok(())
+    bytes.reserve(USUAL_BYTES)?;
+    places.reserve(USUAL_FIELDS)
 }
 
 impl FieldList {
@@ -103,8 +104,7 @@ impl FieldList {
             { name = field.entry.name.now; body = field.entry.body.now } ∷ []) }
         ensures err { OnErr result (self.new ≡ self.old) }
     {
-        reserve_usual(&mut self.bytes, &mut self.places)?;
-        self.places.reserve(1)?;
+        reserve_place(&mut self.bytes, &mut self.places)?;
         self.bytes.reserve(field.name.len() + field.body.len())?;
         let name = self.bytes.len();
         self.bytes.extend_from_slice(field.name).unwrap();
@@ -123,8 +123,7 @@ impl FieldList {
         if self.places.is_empty() {
             return Ok(());
         }
-        self.bytes.extend_from_slice(more)?;
-        Ok(())
+        self.bytes.extend_from_slice(more)
     }
 
     pub fn iter(&self) -> Fields<'_>
@@ -171,7 +170,10 @@ impl<'a> Iterator for Fields<'a> {
 
     fn next(&mut self) -> Option<Field<'a>> {
         let (place, others) = self.places.split_first()?;
-        let end = others.first().map_or(self.bytes.len(), |next| next.name);
+        let end = match others {
+            [next, ..] => next.name,
+            [] => self.bytes.len(),
+        };
         self.places = others;
         Some(Field {
             name: &self.bytes[place.name..place.body],

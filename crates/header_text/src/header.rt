@@ -136,13 +136,12 @@ fn add_line(fields: &mut FieldList, in_field: bool, line: &[u8]) -> Result<bool,
 {
     if is_continuation(line) {
         if in_field {
-            fields.extend_last(line)?;
+            return fields.extend_last(line).and(Ok(true));
         }
-        return Ok(in_field);
+        return Ok(false);
     }
     let Some(field) = field_of_line(line) else {
         return Ok(false);
     };
-    fields.push(field)?;
-    Ok(true)
+    fields.push(field).and(Ok(true))
 }

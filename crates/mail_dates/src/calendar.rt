@@ -43,7 +43,8 @@ pub fn month_of(name: &[u8]) -> Option<u8>
     ensures value { result ≡ month_of name.now }
     ensures bound { IfSome result (λ month. month ≤ 12) }
 {
-    Some(index_of_month(name)? as u8 + 1)
+    let index = index_of_month(name)?;
+    Some(index as u8 + 1)
 }
 
 fn index_of_month(name: &[u8]) -> Option<usize>

@@ -21,8 +21,8 @@ pub enum DaysOfYear {
     All,
     /// A month, from 1.
     Month(u8),
-    /// A day of a month.
-    Day { month: u8, day: u8 },
+    /// A day of a month, by the month and its number.
+    Day(u8, u8),
 }
 
 impl DaysOfYear {
@@ -30,19 +30,21 @@ impl DaysOfYear {
     pub fn in_year(self, year: i16) -> Option<Days>
         ensures { result ≡ days_in_by day_number self year }
     {
-        let (first, last) = match self {
+        let ends = match self {
             DaysOfYear::All => (day_number(year, 1, 1), day_number(year, 12, 31)),
             DaysOfYear::Month(month) => (
                 day_number(year, month, 1),
                 day_number(year, month, days_in_month(year, month)),
             ),
-            DaysOfYear::Day { month, day } => {
+            DaysOfYear::Day(month, day) => {
                 let number = day_number(year, month, day);
                 (number, number)
             }
         };
-        let (first, last) = (first?, last?);
-        Some(Days { first, last })
+        match ends {
+            (Some(first), Some(last)) => Some(Days { first, last }),
+            _ => None,
+        }
     }
 
     /// Those of the latest year that has them and in which they begin by this day.
@@ -65,5 +67,5 @@ impl DaysOfYear {
 fn begin_by(by: i32, days: Option<Days>) -> bool
     ensures { result ≡ begin_by by days }
 {
-    days.is_some_and(|days| days.first <= by)
+    matches!(days, Some(days) if days.first <= by)
 }

@@ -34,7 +34,10 @@ fn date_from(day: &[u8], rest: &[u8]) -> Option<i64>
     let (month, rest) = next_token(rest)?;
     let (year, rest) = next_token(rest)?;
     let (time, rest) = next_token(rest)?;
-    let offset = next_token(rest).map_or(0, |(zone, _)| offset_of(zone));
+    let offset = match next_token(rest) {
+        Some((zone, _)) => offset_of(zone),
+        None => 0,
+    };
     date_of_parts(day, month, year, time, offset)
 }
 
@@ -55,9 +58,10 @@ fn year_of(token: &[u8]) -> Option<u16>
     ensures bound { IfSome result (λ year. year < 12000) }
 {
     let year = number_in(2, 4, token)?;
-    Some(match token.len() {
+    let full = match token.len() {
         4 => year,
         2 if year < 50 => year + 2000,
         _ => year + 1900,
-    })
+    };
+    Some(full)
 }

@@ -28,7 +28,8 @@ fn range_of_text(text: &[u8]) -> Option<Range>
     ensures { result ≡ iso_range_of_parts_by day_number (slice_split is_dot text.now) }
 {
     let Some((since, rest)) = cut(text, b'.') else {
-        return Some(range_of_days(days_of(text)?));
+        let days = days_of(text)?;
+        return Some(range_of_days(days));
     };
     let (between, until) = cut(rest, b'.')?;
     if !between.is_empty() {
@@ -49,12 +50,14 @@ fn range_between(since: &[u8], until: &[u8]) -> Option<Range>
     let from = if since.is_empty() {
         None
     } else {
-        Some(start_of_day(days_of(since)?.first))
+        let days = days_of(since)?;
+        Some(start_of_day(days.first))
     };
     let until = if until.is_empty() {
         None
     } else {
-        Some(end_of_day(days_of(until)?.last))
+        let days = days_of(until)?;
+        Some(end_of_day(days.last))
     };
     Some(Range { from, until })
 }
@@ -77,16 +80,16 @@ fn days_of(text: &[u8]) -> Option<Days>
 fn days_of_month(year: &[u8], month: &[u8]) -> Option<Days>
     ensures { result ≡ iso_month_by day_number year.now month.now }
 {
-    let year = number_in(4, 4, year)? as i16;
-    let month = number_in(2, 2, month)? as u8;
-    DaysOfYear::Month(month).in_year(year)
+    let year = number_in(4, 4, year)?;
+    let month = number_in(2, 2, month)?;
+    DaysOfYear::Month(month as u8).in_year(year as i16)
 }
 
 fn days_of_day(year: &[u8], month: &[u8], day: &[u8]) -> Option<Days>
     ensures { result ≡ iso_day_by day_number year.now month.now day.now }
 {
-    let year = number_in(4, 4, year)? as i16;
-    let month = number_in(2, 2, month)? as u8;
-    let day = number_in(2, 2, day)? as u8;
-    DaysOfYear::Day { month, day }.in_year(year)
+    let year = number_in(4, 4, year)?;
+    let month = number_in(2, 2, month)?;
+    let day = number_in(2, 2, day)?;
+    DaysOfYear::Day(month as u8, day as u8).in_year(year as i16)
 }

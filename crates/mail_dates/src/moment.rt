@@ -6,7 +6,7 @@ ghost use Rattle.mail_dates.specs.Calendar.{IsMoment};
 use std::marker::Model;
 
 /// The last second of the year 9999.
-const LAST_SECOND: u64 = 253_402_300_799;
+const LAST_SECOND: i64 = 253_402_300_799;
 
 /// A second of UTC from 1970-01-01T00:00:00Z to 9999-12-31T23:59:59Z.
 #[derive(Clone, Copy)]
@@ -30,11 +30,11 @@ impl Moment {
         ensures exists { IsSome result ↔ IsMoment second }
         ensures value { IfSome result (λ moment. pos moment ≡ second) }
     {
-        let second = u64::try_from(second).ok()?;
-        if second <= LAST_SECOND {
-            Some(Moment { second })
-        } else {
-            None
+        match second {
+            0..=LAST_SECOND => Some(Moment {
+                second: second as u64,
+            }),
+            _ => None,
         }
     }
 

@@ -22,7 +22,7 @@ pub fn number_in(least: usize, most: usize, text: &[u8]) -> Option<u16>
 pub fn are_digits(text: &[u8]) -> bool
     ensures { result ≡ list_all is_ascii_digit text.now }
 {
-    text.iter().all(|byte| byte.is_ascii_digit())
+    text.iter().all(u8::is_ascii_digit)
 }
 
 /// The number that digits write in decimal.

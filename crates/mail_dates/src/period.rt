@@ -47,6 +47,7 @@ impl Unit {
 }
 
 /// A period of days.
+#[derive(Clone, Copy)]
 pub enum Period {
     /// The day so long before today.
     Ago { count: u16, unit: Unit },
@@ -66,11 +67,11 @@ impl Period {
             return Err(DateFault::BadNumber);
         }
         ago(text)
-            .or_else(|| full_date(text))
-            .or_else(|| whole_year(text))
-            .or_else(|| yearly_month(text))
-            .or_else(|| day_and_month(text))
-            .or_else(|| month_and_day(text))
+            .or(full_date(text))
+            .or(whole_year(text))
+            .or(yearly_month(text))
+            .or(day_and_month(text))
+            .or(month_and_day(text))
             .ok_or(DateFault::BadDate)
     }
 
@@ -122,12 +123,12 @@ fn full_date(text: &[u8]) -> Option<Period>
     if text.len() != 8 {
         return None;
     }
-    let year = number_in(4, 4, &text[..4])? as i16;
-    let month = number_in(2, 2, &text[4..6])? as u8;
-    let day = number_in(2, 2, &text[6..])? as u8;
+    let year = number_in(4, 4, &text[..4])?;
+    let month = number_in(2, 2, &text[4..6])?;
+    let day = number_in(2, 2, &text[6..])?;
     Some(Period::InYear {
-        year,
-        days: DaysOfYear::Day { month, day },
+        year: year as i16,
+        days: DaysOfYear::Day(month as u8, day as u8),
     })
 }
 
@@ -135,9 +136,9 @@ fn full_date(text: &[u8]) -> Option<Period>
 fn whole_year(text: &[u8]) -> Option<Period>
     ensures { result ≡ whole_year text.now }
 {
-    let year = number_in(4, 4, text)? as i16;
+    let year = number_in(4, 4, text)?;
     Some(Period::InYear {
-        year,
+        year: year as i16,
         days: DaysOfYear::All,
     })
 }
@@ -146,7 +147,8 @@ fn whole_year(text: &[u8]) -> Option<Period>
 fn yearly_month(text: &[u8]) -> Option<Period>
     ensures { result ≡ yearly_month text.now }
 {
-    Some(Period::Yearly(DaysOfYear::Month(month_of(text)?)))
+    let month = month_of(text)?;
+    Some(Period::Yearly(DaysOfYear::Month(month)))
 }
 
 /// A day and a month's name.
@@ -170,7 +172,7 @@ fn yearly_day(month: Option<u8>, day: Option<u8>) -> Option<Period>
 {
     let month = month?;
     let day = day?;
-    Some(Period::Yearly(DaysOfYear::Day { month, day }))
+    Some(Period::Yearly(DaysOfYear::Day(month, day)))
 }
 
 /// One or two digits from 1 to 31, without a 0 before others.

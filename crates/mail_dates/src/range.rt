@@ -18,9 +18,7 @@ impl Range {
     pub fn has(&self, date: Option<i64>) -> bool
         ensures { result ≡ has_date self.now date }
     {
-        date.is_some_and(|second| {
-            self.from.is_none_or(|from| from <= second)
-                && self.until.is_none_or(|until| second <= until)
-        })
+        let Some(second) = date else { return false };
+        self.from.unwrap_or(i64::MIN) <= second && second <= self.until.unwrap_or(i64::MAX)
     }
 }

@@ -76,8 +76,8 @@ fn range_between(now: Moment, start: &[u8], end: &[u8]) -> Result<Range, DateFau
     let (end_day, until) = if end.is_empty() {
         (today, now.second())
     } else {
-        let day = named_days(today, today, end)?.last;
-        (day, end_of_day(day))
+        let days = named_days(today, today, end)?;
+        (days.last, end_of_day(days.last))
     };
     let from = start_at(now, end_day, start)?;
     Ok(Range {

@@ -7,6 +7,7 @@ use crate::number::number_in;
 use crate::text::cut;
 
 /// The second of the day that `h:mm`, `hh:mm`, `h:mm:ss` or `hh:mm:ss` says: 86,400 at 23:59:60.
+#[tactic(auto, unfolding(crate::specs::HeaderDates::time_of))]
 pub fn time_of(token: &[u8]) -> Option<u32>
     ensures { result ≡ time_of token.now }
 {

@@ -11,7 +11,10 @@ use crate::text::place_of;
 pub fn without_comments(text: &[u8]) -> &[u8]
     ensures { result.now ≡ without_comments text.now }
 {
-    place_of(text, b'(').map_or(text, |at| &text[..at])
+    match place_of(text, b'(') {
+        Some(at) => &text[..at],
+        None => text,
+    }
 }
 
 /// The first token, and what stands behind it.
@@ -37,7 +40,7 @@ pub fn next_token(text: &[u8]) -> Option<(&[u8], &[u8])>
 pub fn are_letters(token: &[u8]) -> bool
     ensures { result ≡ list_all is_ascii_alphabetic token.now }
 {
-    token.iter().all(|byte| byte.is_ascii_alphabetic())
+    token.iter().all(u8::is_ascii_alphabetic)
 }
 
 fn cut_at_gap(text: &[u8]) -> Option<(&[u8], &[u8])>

@@ -31,9 +31,11 @@ pub fn offset_of(zone: &[u8]) -> i32
 fn numeric_offset(zone: &[u8]) -> Option<i32>
     ensures { result ≡ numeric_offset zone.now }
 {
-    match zone {
-        [b'+', digits @ ..] => Some(offset_size(digits)? as i32),
-        [b'-', digits @ ..] => Some(-(offset_size(digits)? as i32)),
+    let (sign, digits) = zone.split_first()?;
+    let size = offset_size(digits)?;
+    match sign {
+        b'+' => Some(size as i32),
+        b'-' => Some(-(size as i32)),
         _ => None,
     }
 }
@@ -62,7 +64,10 @@ fn hours_west(name: &[u8]) -> u8
         b.to_ascii_lowercase(),
         c.to_ascii_lowercase(),
     ];
-    zone_named(lower).map_or(0, |zone| zone.1)
+    match zone_named(lower) {
+        Some(zone) => zone.1,
+        None => 0,
+    }
 }
 
 fn zone_named(lower: [u8; 3]) -> Option<&'static ([u8; 3], u8)>

@@ -1,22 +1,15 @@
 -- Labels, and the text of single bytes.
 use Rattle.header_text.proofs.CutLemmas.{split_while-cut, split_while-free}
-use Rattle.header_text.proofs.Words.{◌≡◌, ◌∙◌, Option, Some, None, Bor, sym, option_map, unwrap_or, plain_label, cut_at, ◌<◌, ℕ, zero, suc, Bool, true, nat_lt, List, [], ◌∷◌, get_or, ap, arith, if◌then◌else◌, list_all, and_parts, ltb-true, is_among, utf8_labels, latin1_labels, latin9_labels, windows_1252_labels, charset_named, charset_of, Charset, Utf8, Latin1, Latin9, Windows1252, Unknown}
-
--- the first of four tests that holds
-abbrev pub chosen : Bool → Bool → Bool → Bool → Charset
-chosen a b c d = if a then Utf8 else if b then Latin1 else if c then Latin9 else if d then Windows1252 else Unknown
+use Rattle.header_text.proofs.Words.{◌≡◌, ◌∙◌, Option, Some, None, Bor, sym, option_map, unwrap_or, plain_label, cut_at, ◌<◌, ℕ, zero, suc, true, nat_lt, List, [], ◌∷◌, get_or, ap, arith, list_all, and_parts, ltb-true, charset_named, charset_of}
 
 -- what stands before a `*`, where there is one
 before_star : (label e : Bor (List ℕ)) (o : Option (Bor (List ℕ) × Bor (List ℕ))) → option_map (λ p. (p.0.now, p.1.now)) o ≡ cut_at 0x2A label.now → (unwrap_or o (label, e)).0.now ≡ plain_label label.now
 before_star label e None h = sym (split_while-free 0x2A label.now (sym h))
 before_star label e (Some (front, rest)) h = sym (split_while-cut 0x2A label.now front.now rest.now (sym h))
 
-pub charset_of-chosen : (label e : Bor (List ℕ)) (o : Option (Bor (List ℕ) × Bor (List ℕ))) → option_map (λ p. (p.0.now, p.1.now)) o ≡ cut_at 0x2A label.now
-    → (name : List ℕ) → name ≡ (unwrap_or o (label, e)).0.now → (a b c d : Bool)
-    → a ≡ is_among utf8_labels name → b ≡ is_among latin1_labels name → c ≡ is_among latin9_labels name → d ≡ is_among windows_1252_labels name
-    → chosen a b c d ≡ charset_of label.now
+pub charset_of-named : (label e : Bor (List ℕ)) (o : Option (Bor (List ℕ) × Bor (List ℕ))) → option_map (λ p. (p.0.now, p.1.now)) o ≡ cut_at 0x2A label.now → (name : List ℕ) → name ≡ (unwrap_or o (label, e)).0.now → charset_named name ≡ charset_of label.now
 unfolding charset_of
-charset_of-chosen label e o h name n a b c d p q r s = rw (p, q, r, s) (ap charset_named (n ∙ before_star label e o h))
+charset_of-named label e o h name n = ap charset_named (n ∙ before_star label e o h)
 
 -- a table's characters have at most three bytes
 pub small-at : (xs : List ℕ) → list_all (λ x. nat_lt x 65536) xs ≡ true → (i : ℕ) → get_or xs i 0 < 65536

@@ -6,4 +6,4 @@ pub decode_groups-requires-clause-symbols : goal.decode_groups-requires-clause-s
 decode_groups-requires-clause-symbols c = hold-symbols c.args.held.symbols c.args.held.count c.args.symbol (omega arith) (omega arith) c.args.held.all c.requires
 
 pub returns : goal.returns
-returns c later = grind (arith, hold-bytes)
+returns c = grind (arith, hold-bytes)

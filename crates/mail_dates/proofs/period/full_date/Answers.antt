@@ -11,6 +11,6 @@ read text y m d len e f g = rw (len, ← e, ← f, ← g) refl
 
 pub returns : goal.returns
 returns c =
-    let year : to_z w16 c.in_ok-year.field-0 ≡ pos c.in_ok-year.field-0 = let small = c.in_ok-year.ensures.bound in omega (arith, ints) in
-    let day : Some c.in_ok-day.field-0 ≡ number_in 2 2 (drop 6 c.args.text.now) = rw (take_rest c.args.text.now 6) at c.in_ok-day.ensures.value in
-    rw year (read c.args.text.now c.in_ok-year.field-0 c.in_ok-month.field-0 c.in_ok-day.field-0 (omega arith) c.in_ok-year.ensures.value c.in_ok-month.ensures.value day)
+    let year : to_z w16 c.in_ok-year.year ≡ pos c.in_ok-year.year = let small = c.in_ok-year.ensures.bound in omega (arith, ints) in
+    let day : Some c.in_ok-day.day ≡ number_in 2 2 (drop 6 c.args.text.now) = rw (take_rest c.args.text.now 6) at c.in_ok-day.ensures.value in
+    rw year (read c.args.text.now c.in_ok-year.year c.in_ok-month.month c.in_ok-day.day (omega arith) c.in_ok-year.ensures.value c.in_ok-month.ensures.value day)

@@ -7,13 +7,13 @@ field : (c : After-unwrap-3) → HoldsPushed c.self.inside.bytes.items c.args.fi
 field c =
     let p : FieldPlace = record { name = c.len-name.result; body = c.len-body.result } in
     let old : List ℕ = c.self.inside.bytes.items in
-    let same : c.reserve-2.new.self.items ≡ old = c.in_ok-reserve-2.ensures.items ∙ c.reserve_usual.ensures.bytes in
+    let same : c.reserve.new.self.items ≡ old = c.in_ok-reserve.ensures.items ∙ c.reserve_place.ensures.bytes in
     let named : c.extend_from_slice.new.self.items ≡ old ++ c.args.field.name.now =
     rw c.unwrap.ensures at c.extend_from_slice.ensures.items ∙ ap (λ (bs : List ℕ). bs ++ c.args.field.name.now) same in
     let bytes : c.extend_from_slice-2.new.self.items ≡ old ++ (c.args.field.name.now ++ c.args.field.body.now) =
     rw c.unwrap-2.ensures at c.extend_from_slice-2.ensures.items ∙ ap (λ (bs : List ℕ). bs ++ c.args.field.body.now) named ∙ append_assoc old c.args.field.name.now c.args.field.body.now in
     let places : c.push.new.self.items ≡ c.self.inside.places.items ++ p ∷ [] =
-    rw c.unwrap-3.ensures at c.push.ensures.items ∙ ap (λ (ps : List FieldPlace). ps ++ p ∷ []) (c.in_ok-reserve.ensures.items ∙ c.reserve_usual.ensures.places) in
+    rw c.unwrap-3.ensures at c.push.ensures.items ∙ ap (λ (ps : List FieldPlace). ps ++ p ∷ []) c.reserve_place.ensures.places in
     pushed old c.extend_from_slice-2.new.self.items c.args.field.name.now c.args.field.body.now c.self.inside.places.items c.push.new.self.items
     p.name p.body c.self.invariant bytes places (grind arith) (grind (arith, length-append)) c.requires.name (rw c.self.view_is c.requires.room)
 
