@@ -76,16 +76,13 @@ fn word_of<'a>(charset: &'a [u8], encoding: &[u8], text: &'a [u8]) -> Option<Enc
 fn word_behind(bytes: &[u8]) -> Option<(EncodedWord<'_>, &[u8])>
     ensures { option_map (λ f. (shown_word f.0, f.1.now)) result ≡ word_and_later bytes.now }
 {
-    if let Some(rest) = bytes.strip_prefix(b"?")
-        && let Some((charset, rest)) = cut_at(b'?', rest)
-        && let Some((encoding, rest)) = cut_at(b'?', rest)
-        && let Some((text, rest)) = cut_at(b'?', rest)
-        && let Some(later) = rest.strip_prefix(b"=")
-        && let Some(word) = word_of(charset, encoding, text)
-    {
-        return Some((word, later));
-    }
-    None
+    let rest = bytes.strip_prefix(b"?")?;
+    let (charset, rest) = cut_at(b'?', rest)?;
+    let (encoding, rest) = cut_at(b'?', rest)?;
+    let (text, rest) = cut_at(b'?', rest)?;
+    let later = rest.strip_prefix(b"=")?;
+    let word = word_of(charset, encoding, text)?;
+    Some((word, later))
 }
 
 /// The leftmost encoded word.
@@ -193,5 +190,6 @@ pub fn decode_words(alloc: Global, unfolded: &[u8]) -> Result<String, AllocError
 {
     let mut text = String::new(alloc);
     let mut scratch = Vec::new(alloc);
-    decode_words_into(unfolded, &mut scratch, &mut text).and(Ok(text))
+    decode_words_into(unfolded, &mut scratch, &mut text)?;
+    Ok(text)
 }

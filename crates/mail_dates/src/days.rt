@@ -21,8 +21,8 @@ pub enum DaysOfYear {
     All,
     /// A month, from 1.
     Month(u8),
-    /// A day of a month, by the month and its number.
-    Day(u8, u8),
+    /// A day of a month.
+    Day { month: u8, day: u8 },
 }
 
 impl DaysOfYear {
@@ -36,7 +36,7 @@ impl DaysOfYear {
                 day_number(year, month, 1),
                 day_number(year, month, days_in_month(year, month)),
             ),
-            DaysOfYear::Day(month, day) => {
+            DaysOfYear::Day { month, day } => {
                 let number = day_number(year, month, day);
                 (number, number)
             }

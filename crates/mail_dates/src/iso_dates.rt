@@ -91,5 +91,9 @@ fn days_of_day(year: &[u8], month: &[u8], day: &[u8]) -> Option<Days>
     let year = number_in(4, 4, year)?;
     let month = number_in(2, 2, month)?;
     let day = number_in(2, 2, day)?;
-    DaysOfYear::Day(month as u8, day as u8).in_year(year as i16)
+    let days = DaysOfYear::Day {
+        month: month as u8,
+        day: day as u8,
+    };
+    days.in_year(year as i16)
 }

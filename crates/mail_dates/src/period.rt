@@ -128,7 +128,10 @@ fn full_date(text: &[u8]) -> Option<Period>
     let day = number_in(2, 2, &text[6..])?;
     Some(Period::InYear {
         year: year as i16,
-        days: DaysOfYear::Day(month as u8, day as u8),
+        days: DaysOfYear::Day {
+            month: month as u8,
+            day: day as u8,
+        },
     })
 }
 
@@ -172,7 +175,7 @@ fn yearly_day(month: Option<u8>, day: Option<u8>) -> Option<Period>
 {
     let month = month?;
     let day = day?;
-    Some(Period::Yearly(DaysOfYear::Day(month, day)))
+    Some(Period::Yearly(DaysOfYear::Day { month, day }))
 }
 
 /// One or two digits from 1 to 31, without a 0 before others.

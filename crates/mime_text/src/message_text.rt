@@ -87,4 +87,18 @@ impl MessageText {
         self.reader.begin_again();
         self.ended = false;
     }
+
+    /// Ends the last message that is read, as `finish` does.
+    pub fn end<S: TextSink>(mut self, sink: &mut S) -> Result<Facts, TextFault>
+        ensures texts { OnOk result (Finishes S.takes S.refuses self sink.old sink.new) }
+        ensures facts { IfOk result (λ facts. (ls : List (List ℕ)) (ps : List Pair)
+            → Fed self ls ps → facts ≡ facts_of (fields_of ls)) }
+        ensures sizes { IfOk result HasSizedIds }
+        ensures stopped { has_ended self ≡ false
+            → IfErr result (λ fault. FinishesPart S.takes S.refuses self fault sink.old sink.new) }
+        ensures again { has_ended self ≡ true
+            → (result ≡ Err TextFault.Failed) × (sink.new ≡ sink.old) }
+    {
+        self.finish(sink)
+    }
 }

@@ -176,7 +176,7 @@ fn is_told(alloc: Global, row: Row<'_>) -> Option<bool> {
     let mut reader = MessageText::new(alloc).ok()?;
     let mut sink = Told::new(alloc, room);
     sink.is_read = read(alloc, archive, &mut reader, &mut sink).is_some();
-    let ended = reader.finish(&mut sink);
+    let ended = reader.end(&mut sink);
     sink.tells(&ended, wanted)
 }
 

@@ -17,9 +17,6 @@ record IsWordOf (charset encoding text : List ℕ) (w : EncodedWord) : Type 0 wh
   text_is : text ≡ w.text
   well : is_well_formed w ≡ true
 
-abbrev made : List ℕ → ℕ → List ℕ → EncodedWord
-made charset e text = record { charset = charset; encoding = e; text = text }
-
 word_of-is : (charset encoding text : List ℕ) (w : EncodedWord) → word_of charset encoding text ≡ Some w → IsWordOf charset encoding text w
 word_of-is charset encoding text w h = grind arith
 

@@ -32,9 +32,6 @@ pub goes_on : (named : List Archive) (held : Option (List (List ℕ))) (n number
     → IfSome held (λ bytes. first_changed 0 named bytes ≡ first_changed (n + 1) (drop (n + 1) named) (drop (n + 1) bytes))
 goes_on named held n number h h2 h3 h4 h5 = grind (arith, eq-eqb, changed_next)
 
-same_count : (named : List Archive) (bytes : List (List ℕ)) → length bytes ≡ length named → stale_archive named bytes ≡ first_changed 0 named bytes
-same_count named bytes e = rw (eq-eqb (length bytes) (length named) e) refl
-
 pub other_count : (named : List Archive) (held : Option (List (List ℕ))) (number : ℕ) → (number ≡ length named → ⊥) → IfSome held (λ bytes. length bytes ≡ number)
     → IfSome held (λ bytes. stale_archive named bytes ≡ Some (min number (length named)))
 other_count named held number h h2 = grind (arith, ne_eqb)

@@ -87,21 +87,11 @@ kept : (n : ℕ) (xs ys : List Bool) → Drops n xs ys → (m : ℕ) → truth_a
 kept n xs ys drops m here = grind (arith, cases_lt, both_ways)
 
 module _ (start : ℕ) (list marks rest now : List Bool) (has : HasMarked start list marks rest now) where
-  ended : ((m : ℕ) → m < start + length marks → truth_at rest m ≡ false) → Adds (λ k. truth_at list (start + k)) marks now
-  ended none = record {
-    long = has.long;
-    each = λ k lt. sym (or_with_false (truth_at now k) (truth_at rest (start + k)) (none (start + k) (omega (arith, lt)))) ∙ has.moved k lt;
-  }
-
   passed : ((m : ℕ) → m < start + length marks → truth_at rest m ≡ false) → Drops (start + length marks) list rest
   passed none = record { rest = has.behind; below = none }
 
   pub ended_drops : IsFirst rest None → Drops (start + length marks) list rest
   ended_drops none = passed (λ m lt. none m)
-
-  module _ (number : ℕ) (first : IsFirst rest (Some number)) where
-    pub from_start : start ≤ number
-    from_start = grind (arith, cases_lt, both_ways)
 
 -- ---- the messages of all lists
 

@@ -75,13 +75,6 @@ pub goes_on : (known before after : Option (List ℕ)) (h h' : Header) (fields :
 goes_on None before after h h' fields w step = tt
 goes_on (Some bytes) before after h h' fields w step = step (fields bytes) w
 
--- and has become the header's
-pub is_done : (held : Option (List (List ℕ))) (first last new : Reading) (h h' : Header) (fields : List ℕ → List HeaderField) → IfSome (coming held first) (λ bytes. WillHaveFields (coming held last) h (fields bytes))
-    → ((fs : List HeaderField) → WillHaveFields (coming held last) h fs → HasFieldsAfter Ended (coming held new) h' fs)
-    → IfSome held (λ archives. HasFields h' (fields (first.unread ++ take first.left (drop first.next (archive_at archives first.archive)))))
-is_done None first last new h h' fields w step = tt
-is_done (Some archives) first last new h h' fields w step = step (fields (first.unread ++ take first.left (drop first.next (archive_at archives first.archive)))) w
-
 -- the excerpt of a message by a header that has its fields
 pub excerpt_told : (t : Table) (held : Option (List (List ℕ))) (n : ℕ) (m : Record) (path text : List ℕ) (h : Header) → m ≡ record_at t.messages n → path ≡ path_at t.archives m.archive
     → IfSome held (λ archives. HasFields h (fields_of (drop 1 (lines (span archives m))))) → ((ls : List (List ℕ)) → HasLines h ls → text ≡ path ++ 10 ∷ excerpt_lines (fields_of ls))

@@ -1,7 +1,7 @@
 -- Lists of numbers of messages, number by number.
-use Rattle.mail_answer.proofs.Words.{◌≡◌, ℕ, suc, ◌+◌, ◌<◌, ◌≤◌, Bool, true, false, List, [], ◌∷◌, ◌++◌, length, Option, arith, AllByRecursion, flat_map-cons, Table, RisesFrom, Query, AreNumbers, AreChosenBy, known_answer, known_message, answer_text, message_text, joined, Tells, mail_told, record_at, chosen_numbers}
+use Rattle.mail_answer.proofs.Words.{◌≡◌, ℕ, suc, ◌+◌, ◌<◌, ◌≤◌, List, [], ◌∷◌, ◌++◌, length, Option, arith, AllByRecursion, flat_map-cons, Table, RisesFrom, Query, AreNumbers, known_answer, known_message, answer_text, message_text, joined, Tells, record_at, chosen_numbers}
 use Rattle.mail_answer.specs.declared.format.Format.{Format}
-use Rattle.mail_answer.proofs.ThreadLaws.ChosenThreads.{passed_rise, passed_below, threads_below, lower}
+use Rattle.mail_answer.proofs.ThreadLaws.ChosenThreads.{passed_rise, passed_below, lower}
 
 -- the first number is gone
 pub numbers_next : (count n : ℕ) (ns : List ℕ) → AreNumbers count (n ∷ ns) → AreNumbers count ns
@@ -16,10 +16,6 @@ few_numbers low high (n ∷ ns) le rises below = grind (arith, few_numbers (suc 
 
 pub numbers_chosen : (t : Table) (q : Query) → AreNumbers (length t.messages) (chosen_numbers t q)
 numbers_chosen t q = grind (arith, passed_rise, passed_below)
-
-pub numbers_are : (t : Table) (q : Query) (threads : Bool) (ns : List ℕ) → AreChosenBy threads (mail_told t) q ns → AreNumbers (length t.messages) ns
-numbers_are t q true ns are = record { rises = are.rises; below = threads_below t (chosen_numbers t q) ns are }
-numbers_are t q false ns are = rw are (numbers_chosen t q)
 
 -- ---- the text of the first message, and of those behind it
 

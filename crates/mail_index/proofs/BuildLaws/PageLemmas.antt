@@ -3,9 +3,6 @@ use Rattle.mail_index.proofs.Words.{◌≡◌, ◌∙◌, ℕ, zero, suc, ◌+�
 use Rattle.mail_index.specs.declared.build.key_front.Fronted.{Fronted}
 use Rattle.mail_index.specs.Inside.KeyMaps.{rows, in_pages, position}
 
-abbrev row_at : List (List Fronted) → ℕ → List Fronted
-row_at pages page = get_or pages page []
-
 -- those behind a page
 abbrev behind_page : List (List Fronted) → List Fronted → List Fronted
 behind_page rest [] = []

@@ -1,9 +1,9 @@
 -- How many bytes the sections of an index file have.
-use Rattle.mail_index.proofs.Words.{◌≡◌, ℕ, ◌+◌, ◌*◌, ◌^◌, ◌<◌, ◌≤◌, List, [], ◌∷◌, ◌++◌, length, map, flat_map, Option, refl, ap, ◌∙◌, length-append, arith, unwrap_or, AllByRecursion, concat, length-map, newest, IsDigest, Archive, Key, Table, IsArchive, IsKey, postings, archive_bytes, record_bytes, entry_of, directory_from, texts_of, postings_of, entries, archive_section, counts, body, index_file, HasSmallSections, magic, be32, be64}
+use Rattle.mail_index.proofs.Words.{◌≡◌, ℕ, ◌+◌, ◌*◌, ◌^◌, ◌<◌, ◌≤◌, List, [], ◌∷◌, ◌++◌, length, map, flat_map, Option, refl, ap, ◌∙◌, length-append, arith, unwrap_or, AllByRecursion, concat, length-map, newest, IsDigest, Archive, Key, Table, IsArchive, IsKey, postings, archive_bytes, record_bytes, entry_of, directory_from, texts_of, postings_of, entries, archive_section, counts, body, index_file, HasSmallSections}
 use Rattle.sha2.specs.Sha256.{sha256}
 use Rattle.sha2.proofs.Facts256.{length-sha256}
 use Rattle.mail_index.specs.declared.build.sections.Counts.{Counts}
-use Rattle.mail_index.specs.Inside.SectionCounts.{counted, IsCountOf, counted_length}
+use Rattle.mail_index.specs.Inside.SectionCounts.{IsCountOf, counted_length}
 use Rattle.mail_index.proofs.ViewLaws.DigestReads.{digest_size}
 use Rattle.mail_index.proofs.ViewLaws.Opening.{length_records, length_directory}
 use Rattle.mail_index.proofs.BuildLaws.DraftLemmas.{length-postings}
@@ -35,10 +35,6 @@ length-body t = grind (arith, flat_map, record_bytes, length-counts, length_reco
 pub length-index_file : (t : Table) → length (index_file t) ≡ length (body t) + 32
 unfolding index_file
 length-index_file t = length-append (body t) (sha256 (body t)) ∙ ap (λ n. length (body t) + n) (length-sha256 (body t))
-
--- the counts of a table, as they are written
-pub counted-is : (t : Table) (c : Counts) → IsCountOf t c → concat (counted c) ≡ concat (counts t)
-counted-is t c is = grind (arith, concat, magic, be32, newest, be64, archive_section, texts_of, entries, postings_of)
 
 -- they tell the file's length
 pub counted_length-is : (t : Table) (c : Counts) → IsCountOf t c → counted_length c ≡ length (index_file t)

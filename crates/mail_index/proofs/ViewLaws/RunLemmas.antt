@@ -10,9 +10,6 @@ use Rattle.mail_index.proofs.ViewLaws.LookUpLemmas.{key_bytes}
 abbrev front_lies : List ℕ → List ℕ → Ordering
 front_lies wanted bytes = slice_cmp nat_cmp (take (length wanted) bytes) wanted
 
-higher : (x y : ℕ) → y < x → nat_cmp x y ≡ Greater
-higher x y h = grind (arith, nat_tests)
-
 fronts-rise : (wanted a b : List ℕ) → slice_cmp nat_cmp a b ≡ Less → ordering_index (front_lies wanted a) ≤ ordering_index (front_lies wanted b)
 fronts-rise [] a b h = omega arith
 fronts-rise (w ∷ ws) [] b h = omega arith

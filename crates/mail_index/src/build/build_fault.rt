@@ -2,34 +2,24 @@
 ghost use Rattle.std.specs.Prelude.{◌≡◌};
 
 use std::alloc::{AllocError, AllocFailed};
-use std::error::Error;
-use std::fmt;
+use thiserror::Error;
 
 /// Why a builder gave up.
-#[derive(Clone, Copy, Debug, PartialEq, Eq)]
+#[derive(Clone, Copy, Debug, PartialEq, Eq, Error)]
 pub enum BuildFault {
     /// There was no memory.
+    #[error("out of memory")]
     OutOfMemory,
     /// There would be more archives, messages or keys than are allowed.
+    #[error("too many archives, messages or words")]
     TooMany,
     /// The output failed.
+    #[error("write failed")]
     Device,
     /// An earlier call was out of memory or had too many.
+    #[error("failed before")]
     Failed,
 }
-
-impl fmt::Display for BuildFault {
-    fn fmt<W: fmt::Write>(&self, f: &mut fmt::Formatter<W>) -> fmt::Result {
-        f.write_str(match self {
-            BuildFault::OutOfMemory => "out of memory",
-            BuildFault::TooMany => "too many archives, messages or words",
-            BuildFault::Device => "write failed",
-            BuildFault::Failed => "failed before",
-        })
-    }
-}
-
-impl Error for BuildFault {}
 
 impl From<AllocError> for BuildFault {
     ghost use Rattle.mail_index.specs.declared.build.build_fault.BuildFault.TheVariants.{OutOfMemory};

@@ -37,9 +37,7 @@ fn split_digest(bytes: &[u8], version: Version) -> Option<(Option<[u8; DIGEST]>,
     match version {
         Version::One => Some((None, bytes)),
         Version::Two => {
-            let Some((digest, behind)) = bytes.split_first_chunk::<DIGEST>() else {
-                return None;
-            };
+            let (digest, behind) = bytes.split_first_chunk::<DIGEST>()?;
             Some((Some(*digest), behind))
         }
     }
@@ -71,9 +69,7 @@ pub(crate) fn split_archive(bytes: &[u8], version: Version) -> Option<(Archive<'
     if !is_path(path) {
         return None;
     }
-    let Some((digest, behind)) = split_digest(behind, version) else {
-        return None;
-    };
+    let (digest, behind) = split_digest(behind, version)?;
     Some((
         Archive {
             path,

@@ -51,9 +51,7 @@ impl<'a> Postings<'a> {
         ensures { MatchOption result ((self.old ≡ []) × (self.new ≡ []) × (steps.new ≡ steps.old))
             (λ n. (self.old ≡ n ∷ self.new) × (steps.new ≡ add_steps steps.old 1)) }
     {
-        let Some((difference, behind)) = split_difference(self.bytes) else {
-            return None;
-        };
+        let (difference, behind) = split_difference(self.bytes)?;
         self.bytes = behind;
         self.low += difference;
         steps.tick();

@@ -16,26 +16,26 @@ module _ (low d : ℕ) (bytes behind : List ℕ) (short : IsShort 5 d) (split : 
   numbers = front.numbers ∙ ap (λ (ns : List ℕ). (low + d - 1) ∷ ns) later
 
 pub overflow_add-self : goal.overflow_add-self
-overflow_add-self c = omega (arith, (front c.self.inside.low c.in-Some.difference c.self.inside.bytes.now c.in-Some.behind.now c.in-Some.ensures.short c.in-Some.ensures.some c.self.invariant).below)
+overflow_add-self c = omega (arith, (front c.self.inside.low c.in_ok-difference.difference c.self.inside.bytes.now c.in_ok-difference.behind.now c.in_ok-difference.ensures.short c.in_ok-difference.ensures.some c.self.invariant).below)
 
 pub overflow_sub-result : goal.overflow_sub-result
-overflow_sub-result c = omega (arith, (front c.self.inside.low c.in-Some.difference c.self.inside.bytes.now c.in-Some.behind.now c.in-Some.ensures.short c.in-Some.ensures.some c.self.invariant).some)
+overflow_sub-result c = omega (arith, (front c.self.inside.low c.in_ok-difference.difference c.self.inside.bytes.now c.in_ok-difference.behind.now c.in_ok-difference.ensures.short c.in_ok-difference.ensures.some c.self.invariant).some)
 
 pub overflow_cast-result : goal.overflow_cast-result
 overflow_cast-result c =
-    let f = front c.self.inside.low c.in-Some.difference c.self.inside.bytes.now c.in-Some.behind.now c.in-Some.ensures.short c.in-Some.ensures.some c.self.invariant in
+    let f = front c.self.inside.low c.in_ok-difference.difference c.self.inside.bytes.now c.in_ok-difference.behind.now c.in_ok-difference.ensures.short c.in_ok-difference.ensures.some c.self.invariant in
     omega (arith, f.some, f.below)
 
 pub invariant_of-self : goal.invariant_of-self
 invariant_of-self c =
-    behind-posted c.self.inside.low c.in-Some.difference c.self.inside.bytes.now c.in-Some.behind.now c.in-Some.ensures.short c.in-Some.ensures.some c.self.invariant
+    behind-posted c.self.inside.low c.in_ok-difference.difference c.self.inside.bytes.now c.in_ok-difference.behind.now c.in_ok-difference.ensures.short c.in_ok-difference.ensures.some c.self.invariant
 
 pub returns : goal.returns
 returns c = grind (arith, numbers)
 
-pub returns-in_default : goal.returns-in_default
-returns-in_default c =
+pub returns-in_err-difference : goal.returns-in_err-difference
+returns-in_err-difference c =
     let nothing : numbers_read c.self.inside.low c.self.inside.bytes.now ≡ [] =
-    posted-none (2 ^ 32) c.self.inside.low c.self.inside.bytes.now (numbers_read c.self.inside.low c.self.inside.bytes.now) (shown_split c.split_difference.result) (omega arith) c.split_difference.ensures.only (ap shown_split c.in_default.is) c.self.invariant in
+    posted-none (2 ^ 32) c.self.inside.low c.self.inside.bytes.now (numbers_read c.self.inside.low c.self.inside.bytes.now) (shown_split c.split_difference.result) (omega arith) c.split_difference.ensures.only (ap shown_split c.in_err-difference.was) c.self.invariant in
     let empty : c.args.self.now ≡ [] = sym c.self.view_is ∙ nothing in
-    (empty, empty, refl)
+    rw c.from_residual.ensures (empty, empty, refl)
