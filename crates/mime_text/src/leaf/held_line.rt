@@ -61,17 +61,16 @@ fn give_lines<'a, S: TextSink>(
     Ok(rest)
 }
 
-/// Drops the bytes up to a place.
-fn drop_front(bytes: &mut Vec<u8>, at: usize)
-    requires { at ≤ length bytes.old.items }
-    ensures { bytes.new.items ≡ drop at bytes.old.items }
+/// Keeps so many bytes at the end.
+fn keep_last(bytes: &mut Vec<u8>, count: usize)
+    requires { count ≤ length bytes.old.items }
+    ensures { bytes.new.items ≡ drop (length bytes.old.items - count) bytes.old.items }
 {
-    if at == 0 {
-        return;
-    }
     let len = bytes.len();
-    bytes.copy_within(at..len, 0);
-    bytes.truncate(len - at);
+    if count < len {
+        bytes.copy_within(len - count..len, 0);
+        bytes.truncate(count);
+    }
 }
 
 /// Gives the lines in front that are whole, and drops them. So many bytes in front have no LF.
@@ -89,8 +88,7 @@ fn take_lines<S: TextSink>(
         (bytes.new.items ++ concat ls)) result sink.old sink.new }
 {
     let left = give_lines(searched, bytes, texts, sink)?.len();
-    let at = bytes.len() - left;
-    drop_front(bytes, at);
+    keep_last(bytes, left);
     Ok(())
 }
 

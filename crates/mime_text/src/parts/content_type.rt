@@ -92,14 +92,15 @@ fn shape_of_single(name: &[u8]) -> Shape
     ensures { result ≡ shape_of_single_of name.now }
 {
     if is_named(name, b"message/rfc822") {
-        Shape::Message
-    } else if is_named(name, b"text/plain") {
-        Shape::Text { is_html: false }
-    } else if is_named(name, b"text/html") {
-        Shape::Text { is_html: true }
-    } else {
-        Shape::Other
+        return Shape::Message;
     }
+    if is_named(name, b"text/plain") {
+        return Shape::Text { is_html: false };
+    }
+    if is_named(name, b"text/html") {
+        return Shape::Text { is_html: true };
+    }
+    Shape::Other
 }
 
 /// What an entity is whose Content-Type field has this value.
