@@ -8,7 +8,7 @@ pub use Rattle.header_text.specs.Base64.{bytes_of_symbols}
 unfoldable pub use Rattle.header_text.specs.Base64.{base64_bytes, bytes_of_sextets, sextet}
 pub use Rattle.header_text.specs.Blanks.{after_blanks, is_blank, split_while}
 unfoldable pub use Rattle.header_text.specs.Blanks.{before_blanks}
-pub use Rattle.header_text.specs.Charsets.{character, charset_named, plain_label, is_among, latin1_labels, latin9_labels, utf8_labels, windows_1252_labels, windows_1252_upper}
+pub use Rattle.header_text.specs.Charsets.{character, charset_named, plain_label, windows_1252_upper}
 unfoldable pub use Rattle.header_text.specs.Charsets.{charset_of, text_of}
 pub use Rattle.header_text.specs.Cuts.{cut_at}
 pub use Rattle.header_text.specs.EncodedWords.{AreLeftmost, BeginsWord, EncodedWord, NoneBegins, Pieces, WordAfter, after, equals_sign, is_b, is_charset_byte, is_q, is_text_byte, is_well_formed, later_words_text, onto_front, pieces, pieces_behind, plain_text, question, spelled, text_between, word_of, word_text, words_text, ◌>>=◌}
