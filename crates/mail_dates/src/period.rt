@@ -82,11 +82,9 @@ impl Period {
     {
         match self {
             Period::Ago { count, unit } => {
-                let day = today - i32::from(count) * i32::from(unit.days());
-                Some(Days {
-                    first: day,
-                    last: day,
-                })
+                let first = today - i32::from(count) * i32::from(unit.days());
+                let last = first;
+                Some(Days { first, last })
             }
             Period::InYear { year, days } => days.in_year(year),
             Period::Yearly(days) => days.latest(by),

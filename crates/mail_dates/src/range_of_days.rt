@@ -74,16 +74,13 @@ fn range_between(now: Moment, start: &[u8], end: &[u8]) -> Result<Range, DateFau
     }
     let today = now.day();
     let (end_day, until) = if end.is_empty() {
-        (today, now.second())
+        (today, Some(now.second()))
     } else {
         let days = named_days(today, today, end)?;
-        (days.last, end_of_day(days.last))
+        (days.last, Some(end_of_day(days.last)))
     };
     let from = start_at(now, end_day, start)?;
-    Ok(Range {
-        from,
-        until: Some(until),
-    })
+    Ok(Range { from, until })
 }
 
 fn start_at(now: Moment, end: i32, text: &[u8]) -> Result<Option<i64>, DateFault>
