@@ -1,5 +1,5 @@
 //! The numbers of the messages of an answer, one after another.
-ghost use Rattle.std.specs.Prelude.{length, drop, IfOk};
+ghost use Rattle.std.specs.Prelude.{length, IfOk};
 ghost use Rattle.mail_query.specs.Meaning.{meaning};
 ghost use Rattle.mail_answer.specs.Inside.CursorLists.{AreNumbers};
 ghost use Rattle.mail_answer.specs.CursorNumbers.{TakesFirst};

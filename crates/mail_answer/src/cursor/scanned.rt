@@ -1,9 +1,8 @@
 //! The walk along the records of the messages.
-ghost use Rattle.std.specs.Prelude.{◌≡◌, ◌-◌, ◌&&◌, ℕ, true, nat_le, length};
-ghost use Rattle.std.specs.Option.{option_map_or};
+ghost use Rattle.std.specs.Prelude.{◌≡◌, ◌-◌, ℕ, length};
 ghost use Rattle.mail_index.specs.Steps.{add_steps};
 ghost use Rattle.mail_index.specs.Tables.{Table};
-ghost use Rattle.mail_query.specs.Truth.{has_flag, is_same, is_true};
+ghost use Rattle.mail_query.specs.Truth.{is_true};
 ghost use Rattle.mail_answer.specs.TableFacts.{facts_of_record};
 ghost use Rattle.mail_answer.specs.CursorAhead.{Drops, IsFirst, Spends};
 ghost use Rattle.mail_answer.specs.Inside.CursorScans.{asked_query, satisfies, Scans};

@@ -1,9 +1,7 @@
 //! The excerpt of a message.
-ghost use Rattle.std.specs.Prelude.{◌≡◌, ◌<◌, ◌-◌, ◌^◌, ℕ, List, [], ◌∷◌, ◌++◌, length, IfOk, IfErr, OnOk};
-ghost use Rattle.header_text.specs.EncodedWords.{decoded};
+ghost use Rattle.std.specs.Prelude.{◌≡◌, ◌<◌, ◌-◌, ◌^◌, ℕ, List, [], ◌∷◌, ◌++◌, length, IfErr, OnOk};
 ghost use Rattle.header_text.specs.HeldLines.{HasLines};
 ghost use Rattle.header_text.specs.Headers.{fields_of};
-ghost use Rattle.header_text.specs.Unfolding.{unfolded};
 ghost use Rattle.mail_answer.specs.Excerpts.{without_controls, spaced, field_line, excerpt_lines};
 ghost use Rattle.mail_answer.specs.Faults.{IfStale};
 ghost use Rattle.mail_answer.specs.Inside.Calls.{AreAsIndexed, ReadsArchives, WritesOut};

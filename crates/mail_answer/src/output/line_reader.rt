@@ -1,5 +1,5 @@
 //! Part of an archive, read line by line.
-ghost use Rattle.std.specs.Prelude.{◌≡◌, ◌<◌, ◌≤◌, ◌+◌, ◌-◌, ◌^◌, [], false, length, take, drop, IfOk, IfErr, OnOk, IfSome};
+ghost use Rattle.std.specs.Prelude.{◌≡◌, ◌<◌, ◌≤◌, ◌+◌, ◌-◌, ◌^◌, [], false, length, drop, IfOk, IfErr, OnOk, IfSome};
 ghost use Rattle.mbox_cutter.specs.Lines.{first_length};
 ghost use Rattle.mail_answer.specs.Faults.{has_fault, is_of_output, IfStale};
 ghost use Rattle.mail_answer.specs.Inside.Calls.{ReadsArchives};

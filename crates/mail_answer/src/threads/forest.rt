@@ -2,8 +2,8 @@
 //!
 //! A slice has each message's parent: a message before it in its thread, or, of a root, itself. Ways to a root are halved whenever
 //! they are walked, which keeps the joining near linear without ranks.
-ghost use Rattle.std.specs.Prelude.{◌≡◌, ℕ, ◌<◌, ◌≤◌, length, slice_index, slice_set, IfOk};
-ghost use Rattle.std.specs.List.{range_with_len, AllByRecursion};
+ghost use Rattle.std.specs.Prelude.{◌≡◌, ℕ, ◌<◌, ◌≤◌, length, slice_index, slice_set};
+ghost use Rattle.std.specs.List.{AllByRecursion};
 ghost use Rattle.mail_index.specs.Tables.{Table};
 ghost use Rattle.mail_answer.specs.Threads.{IsInThread};
 ghost use Rattle.mail_answer.specs.Inside.Forests.{LeadsBack, StaysInThreads, AreInOneTree, Shortens, Unites, AreBothAmong, ShareKey};
