@@ -92,7 +92,8 @@ fn kinds_of(letters: &[u8]) -> Option<Kinds>
     }
     let mut kinds = Kinds::NONE;
     for letter in letters {
-        kinds = kinds.union(kinds_of_letter(*letter)?);
+        let more = kinds_of_letter(*letter)?;
+        kinds = kinds.union(more);
     }
     Some(kinds)
 }

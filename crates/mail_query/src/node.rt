@@ -49,7 +49,8 @@ pub(crate) fn add(members: &mut Vec<Node>, node: Node) -> Result<(), AllocError>
 pub(crate) fn negated(alloc: Global, node: Node) -> Result<Node, AllocError>
     ensures { IfOk result (λ other. query_of other ≡ asked.Not (query_of node)) }
 {
-    Ok(Node::Not(Box::new(alloc, node)?))
+    let node = Box::new(alloc, node)?;
+    Ok(Node::Not(node))
 }
 
 /// Each of the members, where one alone stands for itself.

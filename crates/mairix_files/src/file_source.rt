@@ -55,7 +55,8 @@ impl<'p, R: Files> FileSource<'p, R> {
         ensures bound { IfOk result (λ n. n ≤ length into.new) }
     {
         if let Reading::Closed = self.file {
-            self.file = Reading::Open(fs::open(self.rt, self.path)?);
+            let file = fs::open(self.rt, self.path)?;
+            self.file = Reading::Open(file);
         }
         let Reading::Open(file) = &mut self.file else {
             return Ok(0);

@@ -36,7 +36,8 @@ impl FileState {
 
     /// Fails where an open file is in another state.
     pub fn check<F: OpenFile>(&self, file: &F) -> io::Result<()> {
-        self.check_told(&file.metadata()?)
+        let told = file.metadata()?;
+        self.check_told(&told)
     }
 
     /// Fails where the system tells another state of a file.

@@ -86,6 +86,6 @@ pub(crate) fn remove_leftover<R: Files<File = File>>(
 /// Whether a file is of this process's owner, who alone reads and writes it.
 fn is_private<R: Files>(rt: &R, file: &File) -> io::Result<bool> {
     let found = file.metadata()?;
-    let owner = fs::metadata(rt, THIS_PROCESS)?.uid();
-    Ok(found.uid() == owner && found.mode() & MODE_BITS == PRIVATE)
+    let process = fs::metadata(rt, THIS_PROCESS)?;
+    Ok(found.uid() == process.uid() && found.mode() & MODE_BITS == PRIVATE)
 }

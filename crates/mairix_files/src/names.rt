@@ -18,8 +18,10 @@ pub fn is_same_file<R: Files>(
     first: &str,
     second: &str,
 ) -> Result<bool, AllocError> {
-    match (real_path(rt, alloc, first)?, real_path(rt, alloc, second)?) {
-        (Some(first), Some(second)) => Ok(first.as_path().as_str() == second.as_path().as_str()),
+    let first_path = real_path(rt, alloc, first)?;
+    let second_path = real_path(rt, alloc, second)?;
+    match (&first_path, &second_path) {
+        (Some(one), Some(other)) => Ok(one.as_path().as_str() == other.as_path().as_str()),
         _ => Ok(is_same_node(rt, first, second)),
     }
 }

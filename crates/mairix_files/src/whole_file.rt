@@ -14,9 +14,9 @@ use std::{fs, io};
 /// What the system refuses, as of a folder, and want of memory, of the kind `OutOfMemory`.
 pub fn read_whole<R: Files<File = File>>(rt: &R, alloc: Global, path: &str) -> io::Result<Vec<u8>> {
     let mut file = fs::open(rt, path)?;
-    let length = file.metadata()?.len();
+    let told = file.metadata()?;
     let mut bytes = Vec::new(alloc);
-    read_rest(&mut file, &mut bytes, length)?;
+    read_rest(&mut file, &mut bytes, told.len())?;
     Ok(bytes)
 }
 

@@ -143,7 +143,8 @@ fn parsed<'a>(
     ensures { IfOk result (λ r. Gives plan_in error_refusal r
         (parse (map string_bytes words.entry.now))) }
 {
-    Ok(command(alloc)?.try_get_matches_from(words))
+    let command = command(alloc)?;
+    Ok(command.try_get_matches_from(words))
 }
 
 fn planned(alloc: Global, matches: &ArgMatches<'_>) -> Result<Plan, OrMemory<UsageFault>>
@@ -154,19 +155,23 @@ fn planned(alloc: Global, matches: &ArgMatches<'_>) -> Result<Plan, OrMemory<Usa
     if raw && excerpt {
         return Err(OrMemory::Refused(UsageFault::TwoFormats));
     }
+    let rcfile = Text::new(alloc, text_of(matches, "rcfile").unwrap_or(""))?;
+    let mfolder = match text_of(matches, "mfolder") {
+        Some(name) => Some(Text::new(alloc, name)?),
+        None => None,
+    };
+    let patterns = texts_of(alloc, matches, "pattern")?;
     Ok(Plan {
-        rcfile: Text::new(alloc, text_of(matches, "rcfile").unwrap_or(""))?,
+        rcfile,
         raw,
         excerpt,
         threads: is_set(matches, "threads"),
-        mfolder: text_of(matches, "mfolder")
-            .map(|name| Text::new(alloc, name))
-            .transpose()?,
+        mfolder,
         stdout: is_set(matches, "stdout"),
         boolean: is_set(matches, "boolean"),
         once: is_set(matches, "once"),
         verify: is_set(matches, "verify"),
-        patterns: texts_of(alloc, matches, "pattern")?,
+        patterns,
     })
 }
 

@@ -20,7 +20,8 @@ impl Text {
     pub(crate) fn new(alloc: Global, text: &str) -> Result<Self, AllocError>
         ensures { IfOk result (λ t. t ≡ text.now) }
     {
-        Ok(Text::of(String::from_str(alloc, text)?))
+        let text = String::from_str(alloc, text)?;
+        Ok(Text::of(text))
     }
 
     /// The text that a string is.

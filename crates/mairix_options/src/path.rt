@@ -69,7 +69,8 @@ pub(crate) fn archives_fit(
     ensures { IfOk result (λ fit. fit ≡ list_all is_path
         (map (archive_path base.now) names.now)) }
 {
-    Ok(all_are_paths(&archive_paths(alloc, base, names)?))
+    let paths = archive_paths(alloc, base, names)?;
+    Ok(all_are_paths(&paths))
 }
 
 /// The path of the mfolder's name: under the base where there is one, unless it begins with `/` or `.`.
@@ -96,7 +97,8 @@ pub(crate) fn mfolder_fits(
 ) -> Result<bool, AllocError>
     ensures { IfOk result (λ fits. fits ≡ is_path (mfolder_path base.now name.now)) }
 {
-    Ok(is_path(mfolder_path(alloc, base, name)?.as_str()))
+    let path = mfolder_path(alloc, base, name)?;
+    Ok(is_path(path.as_str()))
 }
 
 fn under(
@@ -110,7 +112,8 @@ fn under(
     match base {
         Some(base) if !as_written => {
             let base = base.as_str();
-            Ok(Text::of(format!(in alloc; "{base}/{name}")?))
+            let path = format!(in alloc; "{base}/{name}")?;
+            Ok(Text::of(path))
         }
         _ => Text::new(alloc, name),
     }

@@ -145,9 +145,11 @@ fn rc_with(alloc: Global, said: &mut Said) -> Result<Rc, OrMemory<RcFault>>
     let Some(mfolder) = &said.mfolder else {
         return Err(OrMemory::Refused(RcFault::Missing(Name::Mfolder)));
     };
+    let database = Text::new(alloc, database.as_str())?;
+    let mfolder = mfolder_path(alloc, &said.base, mfolder.name.as_str())?;
     Ok(Rc {
-        database: Text::new(alloc, database.as_str())?,
-        mfolder: mfolder_path(alloc, &said.base, mfolder.name.as_str())?,
+        database,
+        mfolder,
         base: said.base.take(),
         paths,
         format: said.format.unwrap_or(MailFormat::Mbox),

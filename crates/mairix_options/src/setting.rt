@@ -82,7 +82,7 @@ pub(crate) fn line_setting(
     if let [] | [b'#', ..] = text {
         return Ok(None);
     }
-    Ok(Some(entry(alloc, base, number, text)?))
+    entry(alloc, base, number, text).map(Some)
 }
 
 fn entry(
@@ -159,10 +159,10 @@ fn supported(
         Keyword::Base => unexpanded(alloc, number, value).map(Setting::Base),
         Keyword::Mbox => archives_line(alloc, number, value).map(Setting::Archives),
         Keyword::Database => unexpanded(alloc, number, value).map(Setting::Database),
-        Keyword::Mfolder => Ok(Setting::Mfolder(MfolderLine {
-            number,
-            name: unexpanded(alloc, number, value)?,
-        })),
+        Keyword::Mfolder => {
+            let name = unexpanded(alloc, number, value)?;
+            Ok(Setting::Mfolder(MfolderLine { number, name }))
+        }
         Keyword::Mformat => match MailFormat::of(value) {
             Some(format) => Ok(Setting::Format(format)),
             None => Err(OrMemory::Refused(RcFault::BadFormat(number))),

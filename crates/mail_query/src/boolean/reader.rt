@@ -189,7 +189,8 @@ impl Reader {
         match self.waiting.pop() {
             Some(Waiting::ForClose(outer)) => {
                 let inner = mem::replace(&mut self.level, outer);
-                Ok(self.place(alloc, inner.into_node(alloc)?)?)
+                let node = inner.into_node(alloc)?;
+                Ok(self.place(alloc, node)?)
             }
             Some(Waiting::ForNot) => Err(QueryFaultKind::BadParenthesis),
             None => Err(QueryFaultKind::BadParenthesis),

@@ -39,10 +39,9 @@ pub(crate) fn read_parts(
             if id.is_empty() {
                 return Err(QueryFaultKind::MissingTerm);
             }
-            Ok(Node::Word {
-                kinds: kinds!(own_id),
-                text: QueryText::copy_of(alloc, id)?,
-            })
+            let text = QueryText::copy_of(alloc, id)?;
+            let kinds = kinds!(own_id);
+            Ok(Node::Word { kinds, text })
         }
         Some(Field::Date) => iso_range(rest)
             .map(Node::Date)
@@ -59,10 +58,10 @@ fn read_word(alloc: Global, kinds: Kinds, text: &str) -> Result<Node, QueryFault
         return Ok(Node::Word { kinds, text });
     }
     match without_last(text, '*') {
-        Some(piece) if is_part_of_word(piece) => Ok(Node::Prefix {
-            kinds,
-            text: QueryText::folded(alloc, piece)?,
-        }),
+        Some(piece) if is_part_of_word(piece) => {
+            let text = QueryText::folded(alloc, piece)?;
+            Ok(Node::Prefix { kinds, text })
+        }
         _ => Err(QueryFaultKind::BadWord),
     }
 }

@@ -28,9 +28,9 @@ pub(crate) fn word_of(
     ensures { IfOk result (λ word. word ≡ (forms_of target).word text.now) }
 {
     match target {
-        Target::Words(_) if is_one_word(text) => Ok(Some(QueryText::folded(alloc, text)?)),
+        Target::Words(_) if is_one_word(text) => QueryText::folded(alloc, text).map(Some),
         Target::OwnId if is_id(text) && !without_angles(text).is_empty() => {
-            Ok(Some(QueryText::copy_of(alloc, without_angles(text))?))
+            QueryText::copy_of(alloc, without_angles(text)).map(Some)
         }
         _ => Ok(None),
     }
@@ -45,8 +45,8 @@ pub(crate) fn part_of(
     ensures { IfOk result (λ part. part ≡ (forms_of target).part text.now) }
 {
     match target {
-        Target::Words(_) if is_part_of_word(text) => Ok(Some(QueryText::folded(alloc, text)?)),
-        Target::OwnId if is_id(text) => Ok(Some(QueryText::copy_of(alloc, text)?)),
+        Target::Words(_) if is_part_of_word(text) => QueryText::folded(alloc, text).map(Some),
+        Target::OwnId if is_id(text) => QueryText::copy_of(alloc, text).map(Some),
         _ => Ok(None),
     }
 }

@@ -41,7 +41,10 @@ fn read_term(alloc: Global, target: Target, text: &str) -> Result<Node, QueryFau
 {
     match without_first(text, '~') {
         None => read_atom(alloc, target, text),
-        Some(atom) => Ok(negated(alloc, read_atom(alloc, target, atom)?)?),
+        Some(atom) => {
+            let node = read_atom(alloc, target, atom)?;
+            Ok(negated(alloc, node)?)
+        }
     }
 }
 

@@ -8,7 +8,7 @@ returns-in_ok-place-in-Some-ForClose c =
     let last = rw c.in-Some-ForClose.field-0-is at c.in-Some-ForClose.ensures.items in
     rw c.if-self.false
     (pops-close reader.waiting.items c.pop.new.self.items c.in-Some-ForClose.outer (shown_level reader.level) last
-    ∙ ap (λ (q : Query). Ok (placed (shown_stack c.pop.new.self.items) (shown_level c.in-Some-ForClose.outer) q)) (sym (rw c.replace-inner.ensures.value at c.in_ok-into_node-in-Some-ForClose.ensures))
+    ∙ ap (λ (q : Query). Ok (placed (shown_stack c.pop.new.self.items) (shown_level c.in-Some-ForClose.outer) q)) (sym (rw c.replace-inner.ensures.value at c.in_ok-node-in-Some-ForClose.ensures))
     ∙ ap Ok (sym (rw c.replace-inner.ensures.after at c.in_ok-place-in-Some-ForClose.ensures)))
 
 pub returns-in-Some-ForNot : goal.returns-in-Some-ForNot
