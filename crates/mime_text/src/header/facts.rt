@@ -110,8 +110,10 @@ impl KeptFacts {
     ) -> Result<(), AllocError>
         ensures { OnOk result (Notes self.old self.new header.now) }
     {
-        let facts = self.take(alloc, header, reader)?;
-        self.set(Some(facts));
+        if self.facts.is_none() {
+            let facts = Facts::of(alloc, header, reader)?;
+            self.set(Some(facts));
+        }
         Ok(())
     }
 }

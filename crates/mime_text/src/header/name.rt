@@ -37,5 +37,9 @@ pub(crate) fn write_name(
 {
     into.clear();
     read_name(fields, scratch, name)?;
+    // Most entities have no name, so none is decoded in vain.
+    if name.is_empty() {
+        return Ok(());
+    }
     decode_words_into(name, scratch, into)
 }
