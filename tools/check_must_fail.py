@@ -21,6 +21,9 @@ ghost use Rattle.std.specs.Prelude.{◌≡◌, ◌≤◌, ◌<◌, ◌+◌, ◌�
 /// The largest number.
 pub const MOST: u32 = 100;
 
+/// The smallest number.
+pub const LEAST: u32 = 1;
+
 /// The larger of two numbers.
 pub fn larger(a: u32, b: u32) -> u32
     ensures first { a ≤ result }
@@ -60,6 +63,13 @@ pub fn at_most(n: u32) -> u32
     ensures { result ≤ 100 }
 {
     smaller(n, MOST)
+}
+
+/// The number, and none below the smallest.
+pub fn at_least(n: u32) -> u32
+    ensures { 1 ≤ result }
+{
+    larger(n, LEAST)
 }
 
 /// A count.
@@ -134,7 +144,8 @@ EDITS = {
     "larger_gives_the_first": ([("if b < a { a } else { b }", "if b < a { a } else { a }")], "second", TOGETHER),
     "larger_gives_the_smaller": ([("if b < a { a } else { b }", "if b < a { b } else { a }")], "either", "NOT refused by either, but by first, second"),
     "largest_from_behind": ([("larger(larger(a, b), c)", "larger(a, larger(b, c))")], "third", HARMLESS),
-    "more_than_the_most": ([("MOST: u32 = 100", "MOST: u32 = 101")], "returns", ALONE),
+    "less_than_the_least": ([("LEAST: u32 = 1", "LEAST: u32 = 0")], "returns", TOGETHER),
+    "more_than_the_most": ([("MOST: u32 = 100", "MOST: u32 = 101")], "returns", TOGETHER),
     "smaller_of_equal_ones": ([("if a < b { a } else { b }", "if a <= b { a } else { b }")], "either", HARMLESS),
     "unknown_name": ([("if a < b { a } else { b }", "if a < c { a } else { b }")], "either", "NOT refused: it didn't reach the prover"),
     "without_a_clause": ([("let whole = sum;", "let whole = n;")], "", "NOT refused by a clause that it names, but by returns"),

@@ -7,15 +7,15 @@
 An edit, crates/CRATE/must-fail/NAME.edit, turns the meaning of a function, and its crate must then not be proved. A function is
 proved against the contracts of those that it calls, never their bodies, so edits of the bodies of different functions are made
 together, in a copy, at most 25 of them, and one check tries them all: each edited function must be refused for a reason of its own.
+So are edits of constants, whose functions are those that name them.
 That it calls another that isn't proved is none, nor is a proof that only lacks a name that the edit took away. An edit of which
-a round doesn't tell such a reason is tried alone, and so is one that changes more than the bodies of functions. Alone it
+a round doesn't tell such a reason is tried alone, and so is one that changes more than bodies and constants. Alone it
 fails where the crate is still proved, where its functions get no reason of their own, and where it doesn't reach the prover.
 
 Its line `# refused by: CLAUSE` names the clause that refuses it, and that clause has to be one of those that the prover couldn't
 show. --write writes that line where it is missing or wrong. --list tries nothing: it prints the edits by the modules that they change.
 
-A check looks at the edited functions and what they call, or at those that name an edited constant; where that tells no reason,
-one of the whole crate decides.
+A check looks at the functions of its edits and what they call; where that tells no reason, one of the whole crate decides.
 
 Without --proved, each crate is checked first as it stands, and the copies go on from what that check kept. With it, FOLDER is a copy of
 the repository whose crates `rt ci` has just proved and left built: its texts are edited, and what a check looks at is proved anew.
@@ -52,7 +52,8 @@ CLAUSE = re.compile(r"^# refused by: (\S+)\n", re.M)
 # The goals that a check couldn't show, as a reason lists them, and as an error names its own.
 UNSHOWN = re.compile(r"`search` did not prove ((?:`[^`]*`(?:, )?)+)")
 GOAL_OF_ERROR = re.compile(r": error: `([\w+-]+)`:")
-CONSTANT = re.compile(r"^(?:pub(?:\([^)]*\))? )?(?:const|static) (\w+)", re.M)
+# A constant of a module, to its end.
+CONSTANT = re.compile(r"^(?:pub(?:\([^)]*\))? )?(?:const|static) (\w+).*?;$", re.M | re.S)
 
 
 @dataclass(frozen=True)
@@ -67,8 +68,8 @@ class Change:
 
 @dataclass(eq=False)
 class Edit:
-    """An edit: its file, its changes, the texts that it makes by their files, the functions whose bodies it changes, none where it changes more
-    than bodies, and the clause that it says refuses it; or what is wrong with it."""
+    """An edit: its file, its changes, the texts that it makes by their files, its functions, whether it changes a constant, or more than bodies and
+    constants, and the clause that it says refuses it; or what is wrong with it."""
 
     file: Path
     name: str
@@ -76,6 +77,8 @@ class Edit:
     changes: list = field(default_factory=list)
     texts: dict = field(default_factory=dict)
     functions: set = field(default_factory=set)
+    is_of_constant: bool = False
+    is_spread: bool = False
     wrong: str = ""
 
     def write_clause(self, clause):
@@ -101,7 +104,6 @@ def read_edit(file, crate):
     """Reads an edit of this crate."""
     text = file.read_text("utf-8")
     edit = Edit(file, f"{crate.name}/{file.name}", *CLAUSE.findall(text)[:1])
-    spread = False
     for path, old, new in pairs_of(text):
         if not path or not old or os.path.normpath(path) != path or not path.startswith(("src/", "specs/", "proofs/")):
             edit.wrong = "a 'new:' line stands behind no 'old:' line, or the 'file:' line names no file of the crate"
@@ -116,11 +118,11 @@ def read_edit(file, crate):
         start = own.find(old) if own.count(old) == 1 else -1
         end = start + len(old)
         inside = [name for begins, ends, name in crate.bodies(path) if begins < start and end < ends]
+        changed = {*inside[-1:]} or crate.functions_naming(path, start, end)
         edit.changes.append(Change(path, start, end, new))
-        edit.functions.update(inside[-1:])
-        spread = spread or not inside
-    if spread:
-        edit.functions.clear()
+        edit.functions.update(changed)
+        edit.is_of_constant = edit.is_of_constant or not inside
+        edit.is_spread = edit.is_spread or not changed
     if not edit.changes:
         edit.wrong = "it has no 'old:' and 'new:' pair"
     return edit
@@ -143,11 +145,9 @@ class Crate:
     def bodies(self, path):
         return bodies_of_file(self.name, path, self.text(path))
 
-    def functions_naming(self, edit):
-        """The functions that name a constant which the edit changes."""
-        names = set()
-        for change in edit.changes:
-            names.update([it[1] for it in CONSTANT.finditer(self.text(change.path)) if it.start() < change.end][-1:])
+    def functions_naming(self, path, start, end):
+        """The functions that name the constant in which a text of the file stands; none where it stands in no constant."""
+        names = [it[1] for it in CONSTANT.finditer(self.text(path)) if it.start() <= start and end <= it.end()]
         named = re.compile(rf"\b({'|'.join(names)})\b" if names else r"(?!)")
         files = [str(it.relative_to(self.folder)) for it in (self.folder / "src").rglob("*.rt")]
         return {name for path in files for start, end, name in self.bodies(path) if named.search(self.text(path), start, end)}
@@ -299,7 +299,7 @@ class Room:
 
 
 def rounds_of(edits):
-    """Parts edits into rounds, in none of which two change one function."""
+    """Parts edits into rounds, in none of which two have one function."""
     rounds = []
     for edit in edits:
         fits = (it for it in rounds if len(it) < MOST_IN_A_ROUND and not any(edit.functions & other.functions for other in it))
@@ -340,8 +340,7 @@ def refused_by(room, edit, verdict, said):
 
 def try_alone(room, edit):
     """Whether an edit is refused, and what to say of it."""
-    functions = edit.functions or room.crate.functions_naming(edit)
-    verdict, why = why_alone(room, edit, functions) if functions else (None, "")
+    verdict, why = why_alone(room, edit, edit.functions) if edit.functions else (None, "")
     if not why:
         verdict, why = why_alone(room, edit)
     if why:
@@ -359,7 +358,9 @@ def try_alone(room, edit):
 def try_edits(room, edits):
     """Whether each edit is refused, and what to say of it."""
     said = {edit: (False, f"NOT refused: BAD EDIT: {edit.wrong}") for edit in edits if edit.wrong}
-    for together in rounds_of([it for it in edits if it.functions and not it.wrong]):
+    fitting = [it for it in edits if it.functions and not it.is_spread and not it.wrong]
+    rounds = [*rounds_of([it for it in fitting if not it.is_of_constant]), *rounds_of([it for it in fitting if it.is_of_constant])]
+    for together in rounds:
         if len(together) > 1:
             said.update(try_together(room, together))
     for edit in edits:
