@@ -66,8 +66,9 @@ impl<'p, R: Files<File = File>> FileArchives<'p, R> {
         if !found.is_file() {
             return Err(ErrorKind::InvalidInput.into());
         }
-        self.states[n as usize].check_told(&found)?;
-        Ok(found.len())
+        self.states[n as usize]
+            .check_told(&found)
+            .and(Ok(found.len()))
     }
 
     /// Reads from the file of this number. Where another one is open that is closed first.

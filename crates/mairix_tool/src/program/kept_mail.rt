@@ -18,8 +18,9 @@ const LOOKED_AT: u64 = 131_072;
 ///
 /// `CannotOpen` where the file can't be read, so that nobody can tell; or want of memory.
 pub(crate) fn is_mail<R: Files>(rt: &R, alloc: Global, path: &str) -> Result<bool, Stopped> {
-    if !fs::metadata(rt, path).is_ok_and(|found| found.is_file()) {
-        return Ok(false);
+    match fs::metadata(rt, path) {
+        Ok(found) if found.is_file() => {}
+        _ => return Ok(false),
     }
     let mut source = FileSource::new(rt, path, None);
     let mut cutter = Cutter::new(alloc, &mut source, LOOKED_AT)?;

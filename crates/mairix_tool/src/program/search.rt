@@ -4,7 +4,7 @@ ghost use Rattle.mairix_options.specs.Rcfile.{rc_of};
 
 use crate::once::once_run;
 use crate::program::file_archives::FileArchives;
-use crate::program::output_file::{create_file, passing_name, settle_file};
+use crate::program::output_file::{create_file, flushed, passing_name, settle_file};
 use crate::program::read_files::ReadFiles;
 use crate::program::stopped::Stopped;
 use crate::reply::Reply;
@@ -14,7 +14,7 @@ use mairix_files::{Beginning, FileState, sources_in};
 use mairix_options::{Plan, Rc, answer_file};
 use mbox_cutter::ToWrite;
 use run_faults::Fault;
-use std::alloc::Global;
+use std::alloc::{AllocError, Global};
 use std::fs::File;
 use std::io::Write;
 use std::rt::Files;
@@ -109,19 +109,12 @@ fn answer_to<R: Files<File = File>, W: Write>(
     let sink = &mut ToWrite::new(&mut *out);
     let reply = match index {
         Some(index) => search_run(alloc, words, text, index, &mut archives, now, sink),
-        None => {
-            let mut sources = sources_in(rt, alloc, paths, states)?;
-            once_run(alloc, words, text, &mut sources, &mut archives, now, sink)
-        }
+        None => match sources_in(rt, alloc, paths, states) {
+            Ok(mut sources) => {
+                once_run(alloc, words, text, &mut sources, &mut archives, now, sink)
+            }
+            Err(AllocError) => Reply::of(Err(Fault::Memory)),
+        },
     };
-    status_of(&reply, out)
-}
-
-/// The status of a reply, once all of its text is out.
-fn status_of<W: Write>(reply: &Reply, out: &mut W) -> Result<u8, Fault> {
-    match reply.fault {
-        Some(fault) => Err(fault),
-        None if out.flush().is_err() => Err(Fault::Out),
-        None => Ok(reply.status),
-    }
+    flushed(reply.given(), out)
 }
