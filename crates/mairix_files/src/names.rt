@@ -29,9 +29,8 @@ pub fn is_same_file<R: Files>(
 
 /// Where a path leads. Where no file is there yet, that is a name in the folder where it would be.
 fn real_path<R: Files>(rt: &R, alloc: Global, path: &str) -> Result<Option<PathBuf>, AllocError> {
-    let real = told(rt.canonicalize(alloc, path))?;
-    if real.is_some() {
-        return Ok(real);
+    if let Some(real) = told(rt.canonicalize(alloc, path))? {
+        return Ok(Some(real));
     }
     let path = Path::new(path);
     let (Some(folder), Some(name)) = (path.parent(), path.file_name()) else {
@@ -42,8 +41,7 @@ fn real_path<R: Files>(rt: &R, alloc: Global, path: &str) -> Result<Option<PathB
     } else {
         folder.as_str()
     };
-    let real = told(rt.canonicalize(alloc, folder))?;
-    let Some(mut real) = real else {
+    let Some(mut real) = told(rt.canonicalize(alloc, folder))? else {
         return Ok(None);
     };
     real.push(name).and(Ok(Some(real)))
@@ -62,16 +60,16 @@ fn is_same_node<R: Files>(rt: &R, first: &str, second: &str) -> bool {
 ///
 /// No run replaces one of these, nor a link to one (decision 58 in docs/DECISIONS.md).
 pub fn is_special_file<R: Files>(rt: &R, alloc: Global, name: &str) -> Result<bool, AllocError> {
-    let target = told(rt.read_link(alloc, name))?;
-    if let Some(target) = target
+    if let Some(target) = told(rt.read_link(alloc, name))?
         && target.as_path().as_str().starts_with(PROCESSES)
     {
         return Ok(true);
     }
-    match fs::metadata(rt, name) {
-        Ok(found) => Ok(!found.is_file() && !found.is_dir()),
-        Err(_) => Ok(false),
-    }
+    let is_special = match fs::metadata(rt, name) {
+        Ok(found) => !found.is_file() && !found.is_dir(),
+        Err(_) => false,
+    };
+    Ok(is_special)
 }
 
 /// What the system tells, if it does. Want of memory alone is an error.

@@ -4,7 +4,7 @@ ghost use Rattle.std.specs.String.{string_bytes};
 ghost use Rattle.mail_index.specs.Files.{magic};
 ghost use Rattle.mail_index.specs.Tables.{IsPath};
 
-use crate::program::kept_mail::is_mail;
+use crate::program::kept_mail::check_no_mail;
 use crate::program::output_file::{create_file, flushed, passing_name, settle_file};
 use crate::program::read_files::ReadFiles;
 use crate::program::stopped::Stopped;
@@ -46,9 +46,7 @@ pub(crate) fn replace_index<'p, R: Files<File = File>>(
         archives,
         database: None,
     };
-    if is_mail(rt, alloc, name)? {
-        return Err(Stopped::at(alloc, name));
-    }
+    check_no_mail(rt, alloc, name)?;
     let passing = passing_name(alloc, name)?;
     let beginning = Beginning::Bytes(index_beginning());
     let new = create_file(rt, alloc, passing.as_str(), name, beginning, &read)?;
