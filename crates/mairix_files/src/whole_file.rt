@@ -30,6 +30,5 @@ pub fn read_rest<R: Read>(reader: &mut R, bytes: &mut Vec<u8>, expected: u64) ->
 {
     // With room for one byte more the end is seen without growing.
     bytes.reserve_exact((expected as usize).saturating_add(1))?;
-    reader.read_to_end(bytes)?;
-    Ok(())
+    reader.read_to_end(bytes).and(Ok(()))
 }

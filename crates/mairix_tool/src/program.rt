@@ -112,16 +112,14 @@ fn run_asked<R: Files<File = File>, W: Write>(
     }
     let database = rc.database.as_str();
     let index = if plan.once {
-        None
+        Vec::new(alloc)
     } else {
-        let bytes = Stopped::unless(alloc, database, read_index(rt, alloc, database))?;
-        Some(bytes)
+        Stopped::unless(alloc, database, read_index(rt, alloc, database))?
     };
-    let index = index.as_deref();
     let search = Search {
         asked,
         states: &states,
-        index,
+        index: &index,
     };
     run_search(rt, alloc, &search, out)
 }

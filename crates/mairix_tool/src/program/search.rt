@@ -41,8 +41,8 @@ pub(crate) struct Search<'a> {
     pub(crate) asked: &'a Asked<'a>,
     /// How the file of each archive was when the run first looked at it.
     pub(crate) states: &'a [FileState],
-    /// The stored index, without which the archives are indexed in memory.
-    pub(crate) index: Option<&'a [u8]>,
+    /// The stored index; nothing with `--once`, where the archives are indexed in memory.
+    pub(crate) index: &'a [u8],
     ghost each: { length states.now ≡ length asked.now.rc.now.paths },
 }
 
@@ -99,22 +99,23 @@ fn answer_to<R: Files<File = File>, W: Write>(
     } = *search;
     let Asked {
         words,
+        plan,
         text,
         rc,
         now,
-        ..
     } = *asked;
     let paths = rc.paths.as_slice();
     let mut archives = FileArchives::new(rt, alloc, paths, states).ok_or(Fault::TooMany)?;
     let sink = &mut ToWrite::new(&mut *out);
-    let reply = match index {
-        Some(index) => search_run(alloc, words, text, index, &mut archives, now, sink),
-        None => match sources_in(rt, alloc, paths, states) {
+    let reply = if plan.once {
+        match sources_in(rt, alloc, paths, states) {
             Ok(mut sources) => {
                 once_run(alloc, words, text, &mut sources, &mut archives, now, sink)
             }
             Err(AllocError) => Reply::of(Err(Fault::Memory)),
-        },
+        }
+    } else {
+        search_run(alloc, words, text, index, &mut archives, now, sink)
     };
     flushed(reply.given(), out)
 }
