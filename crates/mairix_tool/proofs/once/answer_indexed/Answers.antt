@@ -1,4 +1,4 @@
-use Rattle.mairix_tool.proofs.Words.{◌≡◌, ℕ, List, sym, subst, arith, IsFileOf, table, mboxes, Ok, Wanted, wanted, reply_of}
+use Rattle.mairix_tool.proofs.Words.{◌≡◌, ℕ, List, sym, subst, arith, IsFileOf, table, mboxes, Wanted, wanted, reply_of}
 use Rattle.mairix_tool.proofs.ReplyLaws.Once.{refused-once, sound-once}
 use Rattle.mairix_tool.proofs.once.answer_indexed.Goals as goal
 

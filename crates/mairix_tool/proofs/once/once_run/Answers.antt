@@ -1,4 +1,4 @@
-use Rattle.mairix_tool.proofs.Words.{◌≡◌, ℕ, List, map, length, IfOk, sym, subst, string_bytes, arith, Result, Fault, Wanted, wanted, asked}
+use Rattle.mairix_tool.proofs.Words.{◌≡◌, ℕ, map, length, IfOk, sym, subst, string_bytes, arith, Result, Fault, Wanted, wanted, asked}
 use Rattle.contract_words.proofs.DeviceLists.{known_length}
 use Rattle.mairix_tool.proofs.ArchiveLaws.AskedPaths.{asked-many, asked-paths}
 use Rattle.mairix_tool.proofs.ReplyLaws.Once.{early-once, same-bytes}

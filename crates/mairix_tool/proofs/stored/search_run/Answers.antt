@@ -1,7 +1,7 @@
-use Rattle.mairix_tool.proofs.Words.{◌^◌, ◌<◌, map, length, string_bytes, arith, Wanted, wanted, reply_of}
+use Rattle.mairix_tool.proofs.Words.{◌^◌, ◌<◌, map, length, string_bytes, arith}
 use Rattle.mairix_tool.proofs.ArchiveLaws.AskedPaths.{asked-paths}
 use Rattle.mairix_tool.proofs.TableLaws.Formed.{whole-file}
-use Rattle.mairix_tool.proofs.ReplyLaws.Stored.{answered-for, refused-for, refused-stored, has-digests, stored-told, stored-counted, stored-read, stored-serving, stored-verified}
+use Rattle.mairix_tool.proofs.ReplyLaws.Stored.{refused-for, refused-stored, stored-serving, stored-verified}
 use Rattle.mairix_tool.proofs.stored.search_run.Goals as goal
 
 pub returns-in-Err-clause-reply : goal.returns-in-Err-clause-reply
