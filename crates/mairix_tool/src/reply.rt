@@ -34,12 +34,4 @@ impl Reply {
             },
         }
     }
-
-    /// The status of an answer, or the fault.
-    pub(crate) fn given(self) -> Result<u8, Fault> {
-        match self.fault {
-            Some(fault) => Err(fault),
-            None => Ok(self.status),
-        }
-    }
 }

@@ -32,11 +32,8 @@ pub(crate) fn create_file<'p, R: Files<File = File>>(
     beginning: Beginning<'_>,
     read: &ReadFiles<'_>,
 ) -> Result<NewFile<'p, R>, Stopped> {
-    for path in [name, passing] {
-        if read.has(rt, alloc, path)? {
-            return Err(Stopped::at(alloc, path));
-        }
-    }
+    read.check_not_read(rt, alloc, name)?;
+    read.check_not_read(rt, alloc, passing)?;
     if is_special_file(rt, alloc, name)? {
         return Err(Stopped::at(alloc, name));
     }

@@ -117,5 +117,9 @@ fn answer_to<R: Files<File = File>, W: Write>(
     } else {
         search_run(alloc, words, text, index, &mut archives, now, sink)
     };
-    flushed(reply.given(), out)
+    let written = match reply.fault {
+        Some(fault) => Err(fault),
+        None => Ok(reply.status),
+    };
+    flushed(written, out)
 }

@@ -50,9 +50,3 @@ where
         Stopped::Fault(fault.into())
     }
 }
-
-impl From<Fault> for Stopped {
-    fn from(fault: Fault) -> Self {
-        Stopped::Fault(fault)
-    }
-}
