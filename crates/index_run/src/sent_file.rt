@@ -56,6 +56,5 @@ pub fn send_index<S: Source, O: Out>(
 {
     let job = job_of_archives(alloc, paths, sources)?;
     // A job that hasn't failed is refused nothing but its output.
-    job.finish(out).or(Err(Fault::Out))?;
-    Ok(())
+    job.finish(out).or(Err(Fault::Out)).and(Ok(()))
 }

@@ -80,10 +80,10 @@ fn read_in<F: Read + OpenFile>(
         into.new) }
 {
     let read = file.read(into)?;
-    if let Some(state) = state {
-        state.check(file)?;
+    match state {
+        Some(state) => state.check(file).and(Ok(read)),
+        None => Ok(read),
     }
-    Ok(read)
 }
 
 impl<'p, R: Files> Source for FileSource<'p, R> {
@@ -94,7 +94,7 @@ impl<'p, R: Files> Source for FileSource<'p, R> {
     fn read_next(&mut self, into: &mut [u8]) -> Result<usize, DeviceFault> {
         let read = self.read_file(into);
         self.failures += u64::from(read.is_err());
-        read.map_err(|_| DeviceFault)
+        read.or(Err(DeviceFault))
     }
 }
 
@@ -108,11 +108,7 @@ pub fn sources_of<'p, R: Files>(
     ensures fresh { IfOk result (λ v. All (λ s. ⟦<FileSource<'p, R> as Source>⟧.failures s ≡ 0)
         v.items) }
 {
-    let mut sources = Vec::new(alloc);
-    for path in paths {
-        sources.push(FileSource::new(rt, path.as_str(), None))?;
-    }
-    Ok(sources)
+    sources_with(rt, alloc, paths, &[])
 }
 
 /// A source for each path, of a file that has to be in the state of the same place.
@@ -127,9 +123,24 @@ pub fn sources_in<'p, R: Files>(
     ensures fresh { IfOk result (λ v. All (λ s. ⟦<FileSource<'p, R> as Source>⟧.failures s ≡ 0)
         v.items) }
 {
+    sources_with(rt, alloc, paths, states)
+}
+
+/// A source for each path, of a file that has to be in the state of the same place, where there is one.
+fn sources_with<'p, R: Files>(
+    rt: &'p R,
+    alloc: Global,
+    paths: &'p [String],
+    states: &[FileState],
+) -> Result<Vec<FileSource<'p, R>>, AllocError>
+    ensures count { IfOk result (λ v. vec_len v ≡ length paths.now) }
+    ensures fresh { IfOk result (λ v. All (λ s. ⟦<FileSource<'p, R> as Source>⟧.failures s ≡ 0)
+        v.items) }
+{
     let mut sources = Vec::new(alloc);
-    for (path, state) in paths.iter().zip(states) {
-        sources.push(FileSource::new(rt, path.as_str(), Some(*state)))?;
+    for (number, path) in paths.iter().enumerate() {
+        let state = states.get(number).copied();
+        sources.push(FileSource::new(rt, path.as_str(), state))?;
     }
     Ok(sources)
 }

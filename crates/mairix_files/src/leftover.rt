@@ -2,7 +2,7 @@
 //!
 //! A run removes only what is its own (decision 93 in docs/DECISIONS.md).
 
-use crate::new_file::{PRIVATE, lock};
+use crate::new_file::{PRIVATE, open_locked};
 use mbox_cutter::{MOST_IN_LINE, is_separator, line_end};
 use std::alloc::Global;
 use std::fs::{File, OpenOptions};
@@ -65,15 +65,31 @@ pub(crate) fn remove_leftover<R: Files<File = File>>(
     match fs::symlink_metadata(rt, name) {
         Ok(found) if found.is_file() => {}
         Ok(_) => return Err(ErrorKind::AlreadyExists.into()),
-        Err(error) if error.kind() == ErrorKind::NotFound => return Ok(()),
-        Err(error) => return Err(error),
+        Err(error) => {
+            return match error.kind() {
+                ErrorKind::NotFound => Ok(()),
+                _ => Err(error),
+            };
+        }
     }
     // Its lock is held until its name is gone. For a lock some file systems ask that a file is open for writing.
-    let mut left = OpenOptions::new().read(true).write(true).open(rt, name)?;
-    lock(rt, &left, name)?;
-    if is_private(rt, &left)? {
+    let mut left = open_locked(rt, OpenOptions::new().read(true).write(true), name)?;
+    remove_private(rt, alloc, name, &mut left, beginning)
+}
+
+/// Removes the open file of a name, if this process's owner alone reads and writes it, and it begins so.
+fn remove_private<R: Files>(
+    rt: &R,
+    alloc: Global,
+    name: &str,
+    file: &mut File,
+    beginning: Beginning<'_>,
+) -> io::Result<()> {
+    let found = file.metadata()?;
+    let process = fs::metadata(rt, THIS_PROCESS)?;
+    if found.uid() == process.uid() && found.mode() & MODE_BITS == PRIVATE {
         let mut front = Vec::new(alloc);
-        left.by_ref()
+        file.by_ref()
             .take(beginning.length())
             .read_to_end(&mut front)?;
         if beginning.agrees_with(&front) {
@@ -81,11 +97,4 @@ pub(crate) fn remove_leftover<R: Files<File = File>>(
         }
     }
     Err(ErrorKind::AlreadyExists.into())
-}
-
-/// Whether a file is of this process's owner, who alone reads and writes it.
-fn is_private<R: Files>(rt: &R, file: &File) -> io::Result<bool> {
-    let found = file.metadata()?;
-    let process = fs::metadata(rt, THIS_PROCESS)?;
-    Ok(found.uid() == process.uid() && found.mode() & MODE_BITS == PRIVATE)
 }

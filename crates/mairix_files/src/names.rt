@@ -20,10 +20,11 @@ pub fn is_same_file<R: Files>(
 ) -> Result<bool, AllocError> {
     let first_path = real_path(rt, alloc, first)?;
     let second_path = real_path(rt, alloc, second)?;
-    match (&first_path, &second_path) {
-        (Some(one), Some(other)) => Ok(one.as_path().as_str() == other.as_path().as_str()),
-        _ => Ok(is_same_node(rt, first, second)),
-    }
+    let is_same = match (&first_path, &second_path) {
+        (Some(one), Some(other)) => one == other,
+        _ => is_same_node(rt, first, second),
+    };
+    Ok(is_same)
 }
 
 /// Where a path leads. Where no file is there yet, that is a name in the folder where it would be.
@@ -35,15 +36,15 @@ fn real_path<R: Files>(rt: &R, alloc: Global, path: &str) -> Result<Option<PathB
     let (Some(folder), Some(name)) = (path.parent(), path.file_name()) else {
         return Ok(None);
     };
-    let folder = match folder.as_str() {
-        "" => ".",
-        folder => folder,
+    let folder = if folder.as_str().is_empty() {
+        "."
+    } else {
+        folder.as_str()
     };
     let Some(mut real) = told(rt.canonicalize(alloc, folder))? else {
         return Ok(None);
     };
-    real.push(name)?;
-    Ok(Some(real))
+    real.push(name).and(Ok(Some(real)))
 }
 
 /// Whether both paths lead to files, and these are one for the system.
@@ -64,14 +65,20 @@ pub fn is_special_file<R: Files>(rt: &R, alloc: Global, name: &str) -> Result<bo
     {
         return Ok(true);
     }
-    Ok(fs::metadata(rt, name).is_ok_and(|found| !found.is_file() && !found.is_dir()))
+    let is_special = match fs::metadata(rt, name) {
+        Ok(found) => !found.is_file() && !found.is_dir(),
+        Err(_) => false,
+    };
+    Ok(is_special)
 }
 
 /// What the system tells, if it does. Want of memory alone is an error.
 fn told<T: Drop>(found: io::Result<T>) -> Result<Option<T>, AllocError> {
     match found {
         Ok(found) => Ok(Some(found)),
-        Err(error) if error.kind() == ErrorKind::OutOfMemory => Err(AllocError),
-        Err(_) => Ok(None),
+        Err(error) => match error.kind() {
+            ErrorKind::OutOfMemory => Err(AllocError),
+            _ => Ok(None),
+        },
     }
 }

@@ -50,12 +50,9 @@ impl<'p, R: Files<File = File>> NewFile<'p, R> {
         beginning: Beginning<'_>,
     ) -> io::Result<NewFile<'p, R>> {
         remove_leftover(rt, alloc, passing, beginning)?;
-        let file = OpenOptions::new()
-            .write(true)
-            .create_new(true)
-            .mode(PRIVATE)
-            .open(rt, passing)?;
-        lock(rt, &file, passing)?;
+        let mut options = OpenOptions::new();
+        options.write(true).create_new(true).mode(PRIVATE);
+        let file = open_locked(rt, &options, passing)?;
         let new = NewFile {
             rt,
             passing,
@@ -92,7 +89,7 @@ impl<'p, R: Files<File = File>> NewFile<'p, R> {
 
     /// Removes the file. Where the passing name leads to another one, that is left.
     pub fn discard(self) {
-        if let Ok(true) = is_named(self.rt, self.passing, &self.file) {
+        if check_named(self.rt, &self.file, self.passing, ErrorKind::NotFound).is_ok() {
             let _ = fs::remove_file(self.rt, self.passing);
         }
         self.close();
@@ -101,12 +98,12 @@ impl<'p, R: Files<File = File>> NewFile<'p, R> {
     fn rename(&self) -> io::Result<()> {
         self.file.sync_all()?;
         let mode = mode_for(self.rt, &self.file, self.name)?;
-        if !is_named(self.rt, self.passing, &self.file)? {
-            return Err(ErrorKind::NotFound.into());
+        check_named(self.rt, &self.file, self.passing, ErrorKind::NotFound)?;
+        let renamed = fs::rename(self.rt, self.passing, self.name);
+        if renamed.is_ok() {
+            let _ = self.set_mode(mode);
         }
-        fs::rename(self.rt, self.passing, self.name)?;
-        let _ = self.set_mode(mode);
-        Ok(())
+        renamed
     }
 
     fn set_mode(&self, mode: u32) -> io::Result<()> {
@@ -123,21 +120,30 @@ impl<'p, R: Files<File = File>> NewFile<'p, R> {
     }
 }
 
-/// Locks a file that a name leads to, unless another run has its lock, or has renamed or removed it since it was opened.
-pub(crate) fn lock<R: Files>(rt: &R, file: &File, name: &str) -> io::Result<()> {
-    file.try_lock()?;
-    if is_named(rt, name, file)? {
-        Ok(())
-    } else {
-        Err(ErrorKind::WouldBlock.into())
-    }
+/// Opens the file of a name and locks it, unless another run has its lock, or has renamed or removed it since it was opened.
+pub(crate) fn open_locked<R: Files<File = File>>(
+    rt: &R,
+    options: &OpenOptions,
+    name: &str,
+) -> io::Result<File> {
+    let file = options.open(rt, name)?;
+    lock(rt, &file, name).and(Ok(file))
 }
 
-/// Whether a name leads to this very file, and not by a link.
-fn is_named<R: Files>(rt: &R, name: &str, file: &File) -> io::Result<bool> {
+fn lock<R: Files>(rt: &R, file: &File, name: &str) -> io::Result<()> {
+    file.try_lock()?;
+    check_named(rt, file, name, ErrorKind::WouldBlock)
+}
+
+/// Fails with this kind where a name doesn't lead to this very file, or does by a link.
+fn check_named<R: Files>(rt: &R, file: &File, name: &str, other: ErrorKind) -> io::Result<()> {
     let named = fs::symlink_metadata(rt, name)?;
     let open = file.metadata()?;
-    Ok(named.dev() == open.dev() && named.ino() == open.ino())
+    if named.dev() == open.dev() && named.ino() == open.ino() {
+        Ok(())
+    } else {
+        Err(other.into())
+    }
 }
 
 /// The mode of a file that takes a name: that of the file that has it, if the owner is the same, who may have chosen to share it;

@@ -16,8 +16,7 @@ pub fn read_whole<R: Files<File = File>>(rt: &R, alloc: Global, path: &str) -> i
     let mut file = fs::open(rt, path)?;
     let told = file.metadata()?;
     let mut bytes = Vec::new(alloc);
-    read_rest(&mut file, &mut bytes, told.len())?;
-    Ok(bytes)
+    read_rest(&mut file, &mut bytes, told.len()).and(Ok(bytes))
 }
 
 /// All that a reader still has, behind these bytes, which grow at most once where that is as long as expected.
@@ -31,6 +30,5 @@ pub fn read_rest<R: Read>(reader: &mut R, bytes: &mut Vec<u8>, expected: u64) ->
 {
     // With room for one byte more the end is seen without growing.
     bytes.reserve_exact((expected as usize).saturating_add(1))?;
-    reader.read_to_end(bytes)?;
-    Ok(())
+    reader.read_to_end(bytes).and(Ok(()))
 }

@@ -146,10 +146,6 @@ RepliesBy Is reply old new =
 abbrev pub IsThisOrMemory : Fault → Option Fault → Type 0
 IsThisOrMemory refusal fault = MatchBool (is_memory fault) ⊤ (fault ≡ Some refusal)
 
--- what the archives of what is asked are indexed into: they are sound, and this is the file of their table
-abbrev pub IsIndexed : Wanted → List (List ℕ) → List ℕ → Type 0
-IsIndexed w bytes file = AreSound (mboxes w.paths bytes) × IsFileOf file (table (mboxes w.paths bytes))
-
 -- why nothing is indexed: words, rcfile or query are refused, else an archive is at fault; or memory is wanted
 abbrev pub IsUnindexed : Result Wanted Fault → List (List ℕ) → Fault → Type 0
 IsUnindexed (Err refusal) bytes fault = IsThisOrMemory refusal (Some fault)

@@ -1,16 +1,14 @@
 //! A run over archives that it indexes itself.
-ghost use Rattle.std.specs.Prelude.{◌≡◌, ◌<◌, ◌^◌, ◌-◌, ◌||◌, ℕ, List, false, Some, Ok, is_err, length, map, All, IfOk, IfErr, IfSome};
+ghost use Rattle.std.specs.Prelude.{◌≡◌, ◌<◌, ◌^◌, ◌-◌, ◌||◌, ℕ, List, false, Some, Ok, is_err, length, map, All, IfOk, IfErr};
 ghost use Rattle.std.specs.Bool.{OnTrue};
-ghost use Rattle.std.specs.Result.{MatchResult};
 ghost use Rattle.std.specs.String.{string_bytes};
 ghost use Rattle.contract_words.specs.Devices.{Counted};
-ghost use Rattle.mail_index.specs.Faults.{IsFileOf};
-ghost use Rattle.mail_index.specs.Tables.{Table};
+ghost use Rattle.mail_index.specs.Tables.{IsPath};
 ghost use Rattle.mairix_tool.specs.Asked.{asked_rc, asks, wanted as wanted_of};
 ghost use Rattle.index_run.specs.Counts.{CountsSources};
 ghost use Rattle.run_faults.specs.Faults.{fault_in, is_failed_out, is_failed_archives, is_early, is_of_indexing, IsOnceFault};
 ghost use Rattle.mairix_tool.specs.Replies.{RefusesAsked, AreSoundBefore, IsConsistent, KeepsRawBack};
-ghost use Rattle.mairix_tool.specs.Runs.{IsReply, IsOnceReply, RepliesBy, IsIndexed, IsUnindexed};
+ghost use Rattle.mairix_tool.specs.Runs.{IsReply, IsOnceReply, RepliesBy, reply_of};
 
 use crate::reply::Reply;
 use crate::view_answer::answer_view;
@@ -19,7 +17,7 @@ use index_run::file_of_archives;
 use mail_answer::Archives;
 use mail_dates::Moment;
 use mail_index::IndexView;
-use mbox_cutter::{MemoryOut, Out, Source};
+use mbox_cutter::{Out, Source};
 use run_faults::Fault;
 use std::alloc::Global;
 
@@ -91,48 +89,44 @@ pub fn once_run<S: Source, A: Archives, O: Out>(
     ensures out_failed { Counted (is_failed_out result.fault)
         (O.failures out.old) (O.failures out.new) }
 {
-    match index_wanted(alloc, words, rc, sources, now) {
-        Ok(found) => {
-            let index = IndexView::of_file(found.file.bytes());
-            Reply::of(answer_view(alloc, &index, &found.wanted, archives, out))
-        }
+    match Wanted::of(alloc, words, rc, now) {
+        Ok(wanted) => Reply::of(answer_indexed(alloc, &wanted, sources, archives, out)),
         Err(fault) => Reply::of(Err(fault)),
     }
 }
 
-/// What is asked, and the index file of the archives of which it is asked.
-#[derive(Drop)]
-struct Indexed {
-    wanted: Wanted,
-    file: MemoryOut,
-}
-
-/// Reads what is asked, and indexes the archives of which it is asked in memory.
-fn index_wanted<S: Source>(
+/// Indexes the archives of which is asked in memory, and answers from that index, in as many messages as are counted.
+fn answer_indexed<S: Source, A: Archives, O: Out>(
     alloc: Global,
-    words: &[String],
-    rc: &[u8],
+    wanted: &Wanted,
     sources: &mut [S],
-    now: Moment,
-) -> Result<Indexed, Fault>
-    requires many { IfOk (asked_rc (map string_bytes words.now) rc.now)
-        (λ r. length r.paths ≡ length sources.old) }
+    archives: &mut A,
+    out: &mut O,
+) -> Result<u64, Fault>
+    requires many { length (wanted_of wanted.now).paths ≡ length sources.old }
+    requires paths { All IsPath (wanted_of wanted.now).paths }
     requires sources { All (λ s. S.failures s < 2 ^ 64 - 1) sources.old }
-    ensures wanted { IfOk result (λ i. asks words.now rc.now now ≡ Ok (wanted_of i.wanted)) }
-    ensures formed { IfOk result (λ i. (t : Table) × IsFileOf i.file.taken t) }
-    ensures known { (bytes : List (List ℕ)) → map S.rest sources.old ≡ map Some bytes
-        → MatchResult result (λ i. IsIndexed (wanted_of i.wanted) bytes i.file.taken)
-        (IsUnindexed (asks words.now rc.now now) bytes) }
-    ensures refused { OnTrue (is_early (fault_in result) || is_err (asks words.now rc.now now))
-        (sources.new ≡ sources.old) }
-    ensures no_other_cause { RefusesAsked (asks words.now rc.now now) (fault_in result) }
-    ensures own { IfErr result (λ fault. IsOnceFault fault) }
+    requires archives { A.failures archives.old < 2 ^ 64 - 1 }
+    requires out { O.failures out.old < 2 ^ 64 - 1 }
+    ensures told { (bytes held : List (List ℕ)) → map S.rest sources.old ≡ map Some bytes
+        → A.held archives.old ≡ Some held
+        → RepliesBy (IsOnceReply (Ok (wanted_of wanted.now)) bytes held) (reply_of result)
+        (O.taken out.old) (O.taken out.new) }
+    ensures first { (bytes : List (List ℕ)) → map S.rest sources.old ≡ map Some bytes
+        → AreSoundBefore (Ok (wanted_of wanted.now)) bytes (fault_in result) }
+    ensures early { is_early (fault_in result) ≡ false }
+    ensures silent { OnTrue (is_of_indexing (fault_in result))
+        ((archives.new ≡ archives.old) × (out.new ≡ out.old)) }
+    ensures raw { KeepsRawBack (wanted_of wanted.now).search (fault_in result) out.old out.new }
+    ensures own { IfErr result IsOnceFault }
     ensures source_failed { CountsSources (fault_in result)
         (map S.failures sources.old) (map S.failures sources.new) }
-    ensures archives_failed { is_failed_archives (fault_in result) ≡ false }
-    ensures out_failed { is_failed_out (fault_in result) ≡ false }
+    ensures archives_failed { Counted (is_failed_archives (fault_in result))
+        (A.failures archives.old) (A.failures archives.new) }
+    ensures out_failed { Counted (is_failed_out (fault_in result))
+        (O.failures out.old) (O.failures out.new) }
 {
-    let wanted = Wanted::of(alloc, words, rc, now)?;
     let file = file_of_archives(alloc, wanted.paths.as_slice(), sources)?;
-    Ok(Indexed { wanted, file })
+    let index = IndexView::of_file(file.bytes());
+    answer_view(alloc, &index, wanted, archives, out)
 }

@@ -20,7 +20,7 @@ use crate::program::search::{Asked, Search, run_search};
 use crate::program::stopped::Stopped;
 use mail_dates::Moment;
 use mairix_files::read_whole;
-use mairix_options::{OrMemory, Plan, UsageFault, plan_of, read_rc, usage_text};
+use mairix_options::{Plan, UsageFault, plan_of, read_rc, usage_text};
 use run_faults::{CANNOT_OPEN, FAILED, Fault, OUT_OF_MEMORY, fault_text};
 use std::alloc::Global;
 use std::fs::File;
@@ -47,14 +47,9 @@ pub fn run_program<R: Files<File = File>, W: Write, E: Write>(
     out: &mut W,
     err: &mut E,
 ) -> u8 {
-    let plan = match plan_of(alloc, words) {
-        Ok(plan) => plan,
-        Err(OrMemory::Refused(fault)) => return tell_usage(alloc, words, fault, out, err),
-        Err(OrMemory::Memory) => return tell_fault(alloc, Fault::Memory, err),
-    };
-    match run_plan(rt, alloc, words, &plan, now, out) {
+    match run_words(rt, alloc, words, now, out) {
         Ok(status) => status,
-        Err(stopped) => tell_stopped(alloc, stopped, err),
+        Err(stopped) => tell_stopped(alloc, words, stopped, out, err),
     }
 }
 
@@ -68,6 +63,18 @@ pub fn tell_unread_words<E: Write>(alloc: Global, kind: ErrorKind, err: &mut E) 
 }
 
 /// The status of a run that wasn't stopped.
+fn run_words<R: Files<File = File>, W: Write>(
+    rt: &R,
+    alloc: Global,
+    words: &[String],
+    now: Moment,
+    out: &mut W,
+) -> Result<u8, Stopped> {
+    let plan = plan_of(alloc, words)?;
+    run_plan(rt, alloc, words, &plan, now, out)
+}
+
+/// Reads the rcfile, and does what it and the words ask for.
 fn run_plan<R: Files<File = File>, W: Write>(
     rt: &R,
     alloc: Global,
@@ -105,16 +112,14 @@ fn run_asked<R: Files<File = File>, W: Write>(
     }
     let database = rc.database.as_str();
     let index = if plan.once {
-        None
+        Vec::new(alloc)
     } else {
-        let bytes = read_index(rt, alloc, database);
-        Some(Stopped::unless(alloc, database, bytes)?)
+        Stopped::unless(alloc, database, read_index(rt, alloc, database))?
     };
-    let index = index.as_deref();
     let search = Search {
         asked,
         states: &states,
-        index,
+        index: &index,
     };
     run_search(rt, alloc, &search, out)
 }
@@ -142,13 +147,20 @@ fn tell_usage<W: Write, E: Write>(
     Fault::Usage(fault).status()
 }
 
-/// Prints in one line why a run was stopped.
-fn tell_stopped<E: Write>(alloc: Global, stopped: Stopped, err: &mut E) -> u8 {
+/// Prints why a run was stopped: in one line, or for refused words in the parser's own text.
+fn tell_stopped<W: Write, E: Write>(
+    alloc: Global,
+    words: &[String],
+    stopped: Stopped,
+    out: &mut W,
+    err: &mut E,
+) -> u8 {
     match stopped {
         Stopped::CannotOpen(path) => {
             let _ = writeln!(err, "mairix: {CANNOT_OPEN} {path}");
             FAILED
         }
+        Stopped::Fault(Fault::Usage(fault)) => tell_usage(alloc, words, fault, out, err),
         Stopped::Fault(fault) => tell_fault(alloc, fault, err),
     }
 }

@@ -105,91 +105,92 @@ pub fn search_run<A: Archives, O: Out>(
     ensures out_failed { Counted (is_failed_out result.fault)
         (O.failures out.old) (O.failures out.new) }
 {
-    match open_wanted(alloc, words, rc, index, now) {
-        Ok(found) => Reply::of(answer_opened(alloc, &found, archives, out)),
+    match Wanted::of(alloc, words, rc, now) {
+        Ok(wanted) => Reply::of(answer_stored(alloc, index, &wanted, archives, out)),
         Err(fault) => Reply::of(Err(fault)),
     }
 }
 
-/// What is asked, and the index of the archives of which it is asked.
-#[derive(Drop)]
-struct Opened<'a> {
-    wanted: Wanted,
-    view: IndexView<'a>,
+/// Opens the index, which has to be one for what is asked, and answers from it, in as many messages as are counted.
+fn answer_stored<A: Archives, O: Out>(
+    alloc: Global,
+    index: &[u8],
+    wanted: &Wanted,
+    archives: &mut A,
+    out: &mut O,
+) -> Result<u64, Fault>
+    requires archives { A.failures archives.old < 2 ^ 64 - 1 }
+    requires out { O.failures out.old < 2 ^ 64 - 1 }
+    ensures told { (held : List (List ℕ)) → A.held archives.old ≡ Some held
+        → RepliesBy (IsStoredReply (Ok (wanted_of wanted.now)) index.now held) (reply_of result)
+        (O.taken out.old) (O.taken out.new) }
+    ensures counted { (t : Table) → IsFileOf index.now t
+        → IsCountedWhere t (wanted_of wanted.now).search (A.held archives.old)
+        (reply_of result).fault (reply_of result) (O.taken out.old) (O.taken out.new) }
+    ensures read { (t : Table) → IsFileOf index.now t
+        → WereVerified t.archives wanted.now.verify (reply_of result).fault }
+    ensures refused { (fault : Fault) → IsIndexRefusal (wanted_of wanted.now) index.now fault
+        → (fault_in result ≡ Some fault) × (archives.new ≡ archives.old) × (out.new ≡ out.old) }
+    ensures raw { KeepsRawBack (wanted_of wanted.now).search (fault_in result) out.old out.new }
+    ensures no_other_cause { IfSome (reply_of result).fault
+        (IsForNoOtherCause (Ok (wanted_of wanted.now)) index.now) }
+    ensures own { IfErr result IsSearchFault }
+    ensures archives_failed { Counted (is_failed_archives (fault_in result))
+        (A.failures archives.old) (A.failures archives.new) }
+    ensures out_failed { Counted (is_failed_out (fault_in result))
+        (O.failures out.old) (O.failures out.new) }
+{
+    let view = open_for(index, wanted)?;
+    answer_opened(alloc, &view, wanted, archives, out)
 }
 
 /// What the index answers, in as many messages as are counted; with `--verify` once its archives are proved.
 fn answer_opened<A: Archives, O: Out>(
     alloc: Global,
-    found: &Opened<'_>,
+    view: &IndexView<'_>,
+    wanted: &Wanted,
     archives: &mut A,
     out: &mut O,
 ) -> Result<u64, Fault>
-    requires digests { found.now.wanted.verify ≡ true → found.now.view.version ≡ newest }
+    requires digests { wanted.now.verify ≡ true → view.now.version ≡ newest }
     requires archives { A.failures archives.old < 2 ^ 64 - 1 }
     requires out { O.failures out.old < 2 ^ 64 - 1 }
     ensures told { (held : List (List ℕ)) → A.held archives.old ≡ Some held
-        → RepliesBy (IsProvedAndTold (wanted_of found.now.wanted) found.now.view held)
+        → RepliesBy (IsProvedAndTold (wanted_of wanted.now) view.now held)
         (reply_of result) (O.taken out.old) (O.taken out.new) }
-    ensures counted { IsCountedWhere found.now.view (wanted_of found.now.wanted).search
+    ensures counted { IsCountedWhere view.now (wanted_of wanted.now).search
         (A.held archives.old) (reply_of result).fault (reply_of result)
         (O.taken out.old) (O.taken out.new) }
-    ensures read { WereVerified found.now.view.archives found.now.wanted.verify
-        (reply_of result).fault }
-    ensures asks { AsksIndex A.Archives O.Out (wanted_of found.now.wanted).search
+    ensures read { WereVerified view.now.archives wanted.now.verify (reply_of result).fault }
+    ensures asks { AsksIndex A.Archives O.Out (wanted_of wanted.now).search
         archives.old archives.new out.old out.new result }
 {
-    prove_archives(alloc, found, archives)?;
-    answer_view(alloc, &found.view, &found.wanted, archives, out)
+    prove_archives(alloc, view, wanted, archives)?;
+    answer_view(alloc, view, wanted, archives, out)
 }
 
 /// Proves with `--verify` that the archives hold the bytes that were indexed. Nothing is written.
 fn prove_archives<A: Archives>(
     alloc: Global,
-    found: &Opened<'_>,
+    view: &IndexView<'_>,
+    wanted: &Wanted,
     archives: &mut A,
 ) -> Result<(), Fault>
-    requires digests { found.now.wanted.verify ≡ true → found.now.view.version ≡ newest }
+    requires digests { wanted.now.verify ≡ true → view.now.version ≡ newest }
     requires archives { A.failures archives.old < 2 ^ 64 - 1 }
     ensures held { A.held archives.new ≡ A.held archives.old }
     ensures proved { IfSome (A.held archives.old) (λ held. TellsProved
-        (unproved_archive found.now.wanted.verify found.now.view.archives held) result) }
-    ensures read { WereVerified found.now.view.archives found.now.wanted.verify (fault_in result) }
+        (unproved_archive wanted.now.verify view.now.archives held) result) }
+    ensures read { WereVerified view.now.archives wanted.now.verify (fault_in result) }
     ensures own { IfErr result IsOfAnswer }
     ensures archives_failed { Counted (is_failed_archives (fault_in result))
         (A.failures archives.old) (A.failures archives.new) }
     ensures out_failed { is_failed_out (fault_in result) ≡ false }
 {
-    if !found.wanted.verify {
+    if !wanted.verify {
         return Ok(());
     }
-    verify(alloc, &found.view, archives).map_err(fault_of_answer)
-}
-
-/// Reads what is asked, and opens the index, which has to have what that uses, and to be one of the rcfile's paths.
-fn open_wanted<'a>(
-    alloc: Global,
-    words: &[String],
-    rc: &[u8],
-    index: &'a [u8],
-    now: Moment,
-) -> Result<Opened<'a>, Fault>
-    ensures wanted { IfOk result (λ o. asks words.now rc.now now ≡ Ok (wanted_of o.wanted)) }
-    ensures table { IfOk result (λ o. IsFileOf index.entry.now o.view) }
-    ensures fresh { IfOk result (λ o. is_too_old o.view (wanted_of o.wanted) ≡ false) }
-    ensures paths { IfOk result (λ o.
-        renamed_archive o.view.archives (wanted_of o.wanted).paths ≡ None) }
-    ensures refused { IfErr result (λ fault.
-        IfSome (refusal_of fault) (IsRefusedAs (asks words.now rc.now now) index.entry.now)) }
-    ensures each { (fault : Fault) → IsRefusedAs (asks words.now rc.now now) index.entry.now fault
-        → IsThisOrMemory fault (fault_in result) }
-    ensures archives_failed { is_failed_archives (fault_in result) ≡ false }
-    ensures out_failed { is_failed_out (fault_in result) ≡ false }
-    ensures own { IfErr result (λ fault. IsSearchFault fault) }
-{
-    let wanted = Wanted::of(alloc, words, rc, now)?;
-    let view = open_for(index, &wanted)?;
-    Ok(Opened { wanted, view })
+    verify(alloc, view, archives).map_err(fault_of_answer)
 }
 
 /// Opens the index, which has to have what is asked of it, and to be one of the wanted paths. Takes no memory.

@@ -1,5 +1,6 @@
 -- A run that searches the archives that it indexed replies what their own messages say.
-use Rattle.mairix_tool.proofs.Words.{◌≡◌, ℕ, false, append-nil, List, [], ◌∷◌, map, length, None, Some, Option, Result, Ok, Err, IfOk, refl, ap, subst, arith, inl, inr, Appends, Sends, Table, Search, answer_text, stale_archive, some-chosen, Fault, Reply, Mbox, table, AreSound, mboxes, Refuses, IsArchivesFault, Wanted, is_failure, Answer, refused, IsAnswer, IsTold, IsStaleOr, IsFoundIn, IsReply, IsOnceReply, IsThisOrMemory, IsUnindexed, RepliesBy, reply_of, answered, sound-not-refused}
+use Rattle.mairix_tool.proofs.Words.{◌≡◌, ℕ, false, append-nil, List, [], ◌∷◌, map, length, None, Some, Option, Result, Ok, Err, IfOk, IfSome, refl, ap, subst, arith, inl, inr, Appends, Sends, Table, Search, answer_text, stale_archive, some-chosen, Fault, Reply, Mbox, table, AreSound, mboxes, Refuses, IsArchivesFault, Wanted, is_failure, refusal_of, Answer, refused, IsAnswer, IsTold, IsStaleOr, IsFoundIn, IsReply, IsOnceReply, IsThisOrMemory, IsUnindexed, RepliesBy, reply_of, answered, sound-not-refused}
+use Rattle.run_faults.specs.Faults.{IsEarly}
 use Rattle.run_faults.specs.declared.fault.Fault.TheVariants.{Stale}
 use Rattle.mairix_tool.proofs.TableLaws.MailSame.{chosen-same, chosen-back, shape-same, not-stale}
 use Rattle.index_run.proofs.ArchivesDecided.{decided, none-sound}
@@ -77,6 +78,15 @@ unindexed-reply asked bytes held f h h2 = grind (arith, this-fault, this-archive
 pub refused-once : (asked : Result Wanted Fault) (bytes held : List (List ℕ)) (f : Fault) (old : Option (List ℕ)) → IsUnindexed asked bytes f
     → RepliesBy (IsOnceReply asked bytes held) (reply_of (Err f)) old old
 refused-once asked bytes held f old is = unanswered (IsOnceReply asked bytes held) f old (unindexed-reply asked bytes held f is)
+
+-- the refusal of words, rcfile or query, or want of memory before it was found
+early-reply : (asked : Result Wanted Fault) (bytes held : List (List ℕ)) (f : Fault) → IfSome (refusal_of f) (λ r. asked ≡ Err r) → IsEarly f
+    → is_failure (Some f) ≡ false → IsOnceReply asked bytes held (refused f)
+early-reply asked bytes held f h early h2 = grind arith
+
+pub early-once : (asked : Result Wanted Fault) (bytes held : List (List ℕ)) (f : Fault) (old : Option (List ℕ)) → IfSome (refusal_of f) (λ r. asked ≡ Err r) → IsEarly f
+    → RepliesBy (IsOnceReply asked bytes held) (reply_of (Err f)) old old
+early-once asked bytes held f old h early = unanswered (IsOnceReply asked bytes held) f old (early-reply asked bytes held f h early)
 
 -- ---- the archives are indexed
 

@@ -21,8 +21,10 @@ pub(crate) struct FileArchives<'p, R: Files<File = File>> {
     paths: &'p [String],
     /// The state of each.
     states: &'p [FileState],
-    /// The number of the open one, and its file.
-    open: Option<(u32, File)>,
+    /// The number of the one that was opened last.
+    number: u32,
+    /// Its file, while it is open.
+    open: Option<File>,
     /// What was read of the open one.
     ahead: ReadAhead,
     failures: u64,
@@ -52,6 +54,7 @@ impl<'p, R: Files<File = File>> FileArchives<'p, R> {
             rt,
             paths,
             states,
+            number: 0,
             open: None,
             ahead: ReadAhead::new(alloc),
             failures: 0,
@@ -66,8 +69,9 @@ impl<'p, R: Files<File = File>> FileArchives<'p, R> {
         if !found.is_file() {
             return Err(ErrorKind::InvalidInput.into());
         }
-        self.states[n as usize].check_told(&found)?;
-        Ok(found.len())
+        self.states[n as usize]
+            .check_told(&found)
+            .and(Ok(found.len()))
     }
 
     /// Reads from the file of this number. Where another one is open that is closed first.
@@ -78,17 +82,17 @@ impl<'p, R: Files<File = File>> FileArchives<'p, R> {
         ensures bound { IfOk result (λ bytes. bytes ≤ length into.new) }
     {
         let state = self.states[n as usize];
-        if let Some((number, file)) = &self.open
-            && *number == n
+        if let Some(file) = &self.open
+            && self.number == n
         {
             return self.ahead.read(file, state, offset, into);
         }
         self.open = None;
         self.ahead.forget();
+        self.number = n;
         let file = fs::open(self.rt, self.paths[n as usize].as_str())?;
-        let read = self.ahead.read(&file, state, offset, into);
-        self.open = Some((n, file));
-        read
+        let file = self.open.insert(file);
+        self.ahead.read(file, state, offset, into)
     }
 }
 

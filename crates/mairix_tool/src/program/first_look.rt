@@ -5,8 +5,7 @@ ghost use Rattle.std.specs.Prelude.{◌≡◌, IfOk, length, vec_len};
 
 use crate::program::stopped::Stopped;
 use mairix_files::FileState;
-use run_faults::Fault;
-use std::alloc::Global;
+use std::alloc::{AllocError, Global};
 use std::fs;
 use std::fs::OpenFile;
 use std::rt::Files;
@@ -29,7 +28,7 @@ pub(crate) fn first_states<R: Files>(
         let found = fs::open(rt, path).and_then(|file| file.metadata());
         let found = Stopped::unless(alloc, path, found)?;
         let state = FileState::of(&found);
-        states.push(state).or(Err(Fault::Memory))?;
+        states.push(state).or(Err(AllocError))?;
     }
     Ok(states)
 }

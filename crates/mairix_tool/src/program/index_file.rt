@@ -13,7 +13,7 @@ use std::rt::Files;
 use std::{fs, io};
 
 /// How many bytes the shortest index has. So many tell its version, or that the file is none.
-const SHORTEST: usize = 80;
+const SHORTEST: u64 = 80;
 
 /// The bytes of the index of this path. Where the first of them tell that it is none, or of no known version, they are all: a
 /// search refuses them as it would refuse the whole file, however long that is.
@@ -27,14 +27,17 @@ pub(crate) fn read_index<R: Files<File = File>>(
     path: &str,
 ) -> io::Result<Vec<u8>> {
     let mut file = fs::open(rt, path)?;
-    let length = file.metadata()?.len();
-    let mut bytes = Vec::with_capacity(alloc, SHORTEST)?;
-    file.by_ref().take(SHORTEST as u64).read_to_end(&mut bytes)?;
-    if fault_of_front(&bytes).is_none() {
-        let rest = length.saturating_sub(SHORTEST as u64);
-        read_rest(&mut file, &mut bytes, rest)?;
+    let mut bytes = Vec::new(alloc);
+    read_bytes(&mut file, &mut bytes).and(Ok(bytes))
+}
+
+fn read_bytes(file: &mut File, bytes: &mut Vec<u8>) -> io::Result<()> {
+    let found = file.metadata()?;
+    read_rest(&mut file.by_ref().take(SHORTEST), bytes, SHORTEST)?;
+    if fault_of_front(bytes).is_some() {
+        return Ok(());
     }
-    Ok(bytes)
+    read_rest(file, bytes, found.len().saturating_sub(SHORTEST))
 }
 
 /// What is wrong with the first bytes of an index. Of as many as the shortest has that is wrong with the whole, whatever follows.

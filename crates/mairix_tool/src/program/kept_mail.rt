@@ -12,20 +12,23 @@ use std::rt::Files;
 /// How many of a file's first bytes are looked at.
 const LOOKED_AT: u64 = 131_072;
 
-/// Whether a path leads to a file that begins as an mbox: its first line that isn't empty is a separator.
+/// Looks whether a path leads to a file that begins as an mbox: its first line that isn't empty is a separator.
 ///
 /// # Errors
 ///
-/// `CannotOpen` where the file can't be read, so that nobody can tell; or want of memory.
-pub(crate) fn is_mail<R: Files>(rt: &R, alloc: Global, path: &str) -> Result<bool, Stopped> {
-    if !fs::metadata(rt, path).is_ok_and(|found| found.is_file()) {
-        return Ok(false);
+/// `CannotOpen` where it does, and where the file can't be read, so that nobody can tell; or want of memory.
+pub(crate) fn check_no_mail<R: Files>(rt: &R, alloc: Global, path: &str) -> Result<(), Stopped> {
+    let is_file = match fs::metadata(rt, path) {
+        Ok(found) => found.is_file(),
+        Err(_) => false,
+    };
+    if !is_file {
+        return Ok(());
     }
     let mut source = FileSource::new(rt, path, None);
     let mut cutter = Cutter::new(alloc, &mut source, LOOKED_AT)?;
     match cutter.next_event() {
-        Ok(Event::Start { .. }) => Ok(true),
-        Err(CutFault::Device) => Err(Stopped::at(alloc, path)),
-        _ => Ok(false),
+        Ok(Event::Start { .. }) | Err(CutFault::Device) => Err(Stopped::at(alloc, path)),
+        _ => Ok(()),
     }
 }

@@ -4,8 +4,8 @@ ghost use Rattle.std.specs.String.{string_bytes};
 ghost use Rattle.mail_index.specs.Files.{magic};
 ghost use Rattle.mail_index.specs.Tables.{IsPath};
 
-use crate::program::kept_mail::is_mail;
-use crate::program::output_file::{create_file, passing_name, settle_file};
+use crate::program::kept_mail::check_no_mail;
+use crate::program::output_file::{create_file, flushed, passing_name, settle_file};
 use crate::program::read_files::ReadFiles;
 use crate::program::stopped::Stopped;
 use index_run::send_index;
@@ -15,7 +15,7 @@ use mbox_cutter::ToWrite;
 use run_faults::{DONE, Fault};
 use std::alloc::Global;
 use std::fs::File;
-use std::io::{BufWriter, Write};
+use std::io::BufWriter;
 use std::rt::Files;
 
 /// How many bytes of an index are gathered before they are written.
@@ -46,9 +46,7 @@ pub(crate) fn replace_index<'p, R: Files<File = File>>(
         archives,
         database: None,
     };
-    if is_mail(rt, alloc, name)? {
-        return Err(Stopped::at(alloc, name));
-    }
+    check_no_mail(rt, alloc, name)?;
     let passing = passing_name(alloc, name)?;
     let beginning = Beginning::Bytes(index_beginning());
     let new = create_file(rt, alloc, passing.as_str(), name, beginning, &read)?;
@@ -74,7 +72,6 @@ fn fill_index_file<R: Files>(
 {
     let mut sources = sources_of(rt, alloc, paths)?;
     let mut writer = BufWriter::with_capacity(alloc, GATHERED, file).or(Err(Fault::Memory))?;
-    send_index(alloc, paths, &mut sources, &mut ToWrite::new(&mut writer))?;
-    writer.flush().or(Err(Fault::Out))?;
-    Ok(DONE)
+    let sent = send_index(alloc, paths, &mut sources, &mut ToWrite::new(&mut writer));
+    flushed(sent.and(Ok(DONE)), &mut writer)
 }

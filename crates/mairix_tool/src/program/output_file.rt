@@ -7,6 +7,7 @@ use mairix_files::{Beginning, NewFile, is_special_file};
 use run_faults::Fault;
 use std::alloc::{AllocError, Global};
 use std::fs::File;
+use std::io::Write;
 use std::rt::Files;
 
 /// The name that a file has until it is whole.
@@ -31,11 +32,8 @@ pub(crate) fn create_file<'p, R: Files<File = File>>(
     beginning: Beginning<'_>,
     read: &ReadFiles<'_>,
 ) -> Result<NewFile<'p, R>, Stopped> {
-    for path in [name, passing] {
-        if read.has(rt, alloc, path)? {
-            return Err(Stopped::at(alloc, path));
-        }
-    }
+    read.check_not_read(rt, alloc, name)?;
+    read.check_not_read(rt, alloc, passing)?;
     if is_special_file(rt, alloc, name)? {
         return Err(Stopped::at(alloc, name));
     }
@@ -52,6 +50,14 @@ pub(crate) fn settle_file<R: Files<File = File>>(
         new.discard();
         return written;
     }
-    new.take_name().or(Err(Fault::Out))?;
-    written
+    new.take_name().or(Err(Fault::Out)).and(written)
+}
+
+/// What was written, once all of it is out.
+pub(crate) fn flushed<W: Write>(written: Result<u8, Fault>, out: &mut W) -> Result<u8, Fault> {
+    if written.is_ok() && out.flush().is_err() {
+        Err(Fault::Out)
+    } else {
+        written
+    }
 }

@@ -58,11 +58,7 @@ impl ReadAhead {
     {
         let mut read = self.give(offset, into);
         if read == 0 {
-            read = if self.hold(file, state, offset, into.len())? {
-                self.give(offset, into)
-            } else {
-                read_in(file, state, offset, into)?
-            };
+            read = self.read_on(file, state, offset, into)?;
         }
         if offset != self.end {
             self.in_a_row = 0;
@@ -87,26 +83,25 @@ impl ReadAhead {
         count
     }
 
-    /// Holds the piece that begins here, where the read goes on behind the last and the piece is larger than what is asked for. Answers
-    /// whether it does. Without memory for it it doesn't.
-    fn hold(
+    /// Reads what isn't held: as the front of a piece, where the read goes on behind the last and the piece is larger than what is
+    /// asked for. Without memory for a piece it reads no more than that.
+    fn read_on(
         &mut self,
         file: &File,
         state: FileState,
         offset: u64,
-        asked: usize,
-    ) -> io::Result<bool> {
+        into: &mut [u8],
+    ) -> io::Result<usize>
+        ensures bound { IfOk result (λ bytes. bytes ≤ length into.new) }
+    {
         let size = self.in_a_row.min(MOST as u64) as usize;
-        if offset != self.end || size <= asked {
-            return Ok(false);
-        }
-        if self.room.len() < MOST && self.room.resize(MOST, 0).is_err() {
-            return Ok(false);
+        if offset != self.end || size <= into.len() || self.room.resize(MOST, 0).is_err() {
+            return read_in(file, state, offset, into);
         }
         self.held = 0;
         self.held = read_in(file, state, offset, &mut self.room.as_mut_slice()[..size])?;
         self.offset = offset;
-        Ok(true)
+        Ok(self.give(offset, into))
     }
 }
 
@@ -115,6 +110,5 @@ fn read_in(file: &File, state: FileState, offset: u64, into: &mut [u8]) -> io::R
     ensures bound { IfOk result (λ bytes. bytes ≤ length into.new) }
 {
     let read = file.read_at(into, offset)?;
-    state.check(file)?;
-    Ok(read)
+    state.check(file).and(Ok(read))
 }

@@ -1,7 +1,8 @@
 //! The files that a run reads.
 
+use crate::program::stopped::Stopped;
 use mairix_files::is_same_file;
-use std::alloc::{AllocError, Global};
+use std::alloc::Global;
 use std::rt::Files;
 
 /// The files that a run reads, and in whose place it makes no other.
@@ -16,26 +17,30 @@ pub(crate) struct ReadFiles<'a> {
 }
 
 impl<'a> ReadFiles<'a> {
-    /// Whether a name leads to one of them.
-    pub(crate) fn has<R: Files>(
+    /// Looks whether a name leads to one of them.
+    ///
+    /// # Errors
+    ///
+    /// `CannotOpen` where it does, or want of memory.
+    pub(crate) fn check_not_read<R: Files>(
         &self,
         rt: &R,
         alloc: Global,
         name: &str,
-    ) -> Result<bool, AllocError> {
+    ) -> Result<(), Stopped> {
         if is_same_file(rt, alloc, name, self.rcfile)? {
-            return Ok(true);
+            return Err(Stopped::at(alloc, name));
         }
         if let Some(database) = self.database
             && is_same_file(rt, alloc, name, database)?
         {
-            return Ok(true);
+            return Err(Stopped::at(alloc, name));
         }
         for path in self.archives {
             if is_same_file(rt, alloc, name, path.as_str())? {
-                return Ok(true);
+                return Err(Stopped::at(alloc, name));
             }
         }
-        Ok(false)
+        Ok(())
     }
 }

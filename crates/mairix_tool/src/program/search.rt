@@ -4,7 +4,7 @@ ghost use Rattle.mairix_options.specs.Rcfile.{rc_of};
 
 use crate::once::once_run;
 use crate::program::file_archives::FileArchives;
-use crate::program::output_file::{create_file, passing_name, settle_file};
+use crate::program::output_file::{create_file, flushed, passing_name, settle_file};
 use crate::program::read_files::ReadFiles;
 use crate::program::stopped::Stopped;
 use crate::reply::Reply;
@@ -14,7 +14,7 @@ use mairix_files::{Beginning, FileState, sources_in};
 use mairix_options::{Plan, Rc, answer_file};
 use mbox_cutter::ToWrite;
 use run_faults::Fault;
-use std::alloc::Global;
+use std::alloc::{AllocError, Global};
 use std::fs::File;
 use std::io::Write;
 use std::rt::Files;
@@ -41,8 +41,8 @@ pub(crate) struct Search<'a> {
     pub(crate) asked: &'a Asked<'a>,
     /// How the file of each archive was when the run first looked at it.
     pub(crate) states: &'a [FileState],
-    /// The stored index, without which the archives are indexed in memory.
-    pub(crate) index: Option<&'a [u8]>,
+    /// The stored index; nothing with `--once`, where the archives are indexed in memory.
+    pub(crate) index: &'a [u8],
     ghost each: { length states.now ≡ length asked.now.rc.now.paths },
 }
 
@@ -99,29 +99,27 @@ fn answer_to<R: Files<File = File>, W: Write>(
     } = *search;
     let Asked {
         words,
+        plan,
         text,
         rc,
         now,
-        ..
     } = *asked;
     let paths = rc.paths.as_slice();
     let mut archives = FileArchives::new(rt, alloc, paths, states).ok_or(Fault::TooMany)?;
     let sink = &mut ToWrite::new(&mut *out);
-    let reply = match index {
-        Some(index) => search_run(alloc, words, text, index, &mut archives, now, sink),
-        None => {
-            let mut sources = sources_in(rt, alloc, paths, states)?;
-            once_run(alloc, words, text, &mut sources, &mut archives, now, sink)
+    let reply = if plan.once {
+        match sources_in(rt, alloc, paths, states) {
+            Ok(mut sources) => {
+                once_run(alloc, words, text, &mut sources, &mut archives, now, sink)
+            }
+            Err(AllocError) => Reply::of(Err(Fault::Memory)),
         }
+    } else {
+        search_run(alloc, words, text, index, &mut archives, now, sink)
     };
-    status_of(&reply, out)
-}
-
-/// The status of a reply, once all of its text is out.
-fn status_of<W: Write>(reply: &Reply, out: &mut W) -> Result<u8, Fault> {
-    match reply.fault {
+    let written = match reply.fault {
         Some(fault) => Err(fault),
-        None if out.flush().is_err() => Err(Fault::Out),
         None => Ok(reply.status),
-    }
+    };
+    flushed(written, out)
 }

@@ -1,6 +1,6 @@
 //! Why a run over files ended before it was done.
 
-use mairix_options::{OrMemory, RcFault};
+use mairix_options::OrMemory;
 use run_faults::Fault;
 use std::alloc::{AllocError, Global};
 use std::io;
@@ -42,14 +42,11 @@ impl From<AllocError> for Stopped {
     }
 }
 
-impl From<OrMemory<RcFault>> for Stopped {
-    fn from(fault: OrMemory<RcFault>) -> Self {
+impl<E> From<OrMemory<E>> for Stopped
+where
+    Fault: From<E>,
+{
+    fn from(fault: OrMemory<E>) -> Self {
         Stopped::Fault(fault.into())
-    }
-}
-
-impl From<Fault> for Stopped {
-    fn from(fault: Fault) -> Self {
-        Stopped::Fault(fault)
     }
 }

@@ -1,11 +1,18 @@
-use Rattle.mairix_tool.proofs.Words.{◌≡◌, ℕ, List, map, length, IfOk, sym, subst, string_bytes, arith, IsFileOf, table, mboxes, Wanted, wanted, asked, reply_of}
+use Rattle.mairix_tool.proofs.Words.{◌≡◌, ℕ, map, length, IfOk, sym, subst, string_bytes, arith, Result, Fault, Wanted, wanted, asked}
 use Rattle.contract_words.proofs.DeviceLists.{known_length}
-use Rattle.mairix_tool.proofs.ArchiveLaws.AskedPaths.{asked-many}
-use Rattle.mairix_tool.proofs.ReplyLaws.Once.{refused-once, sound-once, same-bytes}
+use Rattle.mairix_tool.proofs.ArchiveLaws.AskedPaths.{asked-many, asked-paths}
+use Rattle.mairix_tool.proofs.ReplyLaws.Once.{early-once, same-bytes}
 use Rattle.mairix_tool.proofs.once.once_run.Goals as goal
 
+pub answer_indexed-requires-clause-paths : goal.answer_indexed-requires-clause-paths
+answer_indexed-requires-clause-paths g c = asked-paths (map string_bytes c.args.words.now) c.args.rc.now c.args.now (wanted c.in-Ok.wanted) c.in-Ok.ensures.asked
+
+pub answer_indexed-requires-clause-many : goal.answer_indexed-requires-clause-many
+answer_indexed-requires-clause-many g c = subst (λ (asks : Result Wanted Fault). IfOk asks (λ w. length w.paths ≡ length c.args.sources.now)) c.in-Ok.ensures.asked
+    (asked-many (map string_bytes c.args.words.now) c.args.rc.now c.args.now (length c.args.sources.now) (λ r. g.A.Archives.number c.args.archives.now ≡ length c.args.sources.now) c.requires.many)
+
 pub returns-in-Err-clause-changed : goal.returns-in-Err-clause-changed
-returns-in-Err-clause-changed g c = grind (arith, refused-once, string_bytes)
+returns-in-Err-clause-changed g c = grind (arith, early-once, string_bytes)
 
 pub returns-in-Err-clause-reply : goal.returns-in-Err-clause-reply
 returns-in-Err-clause-reply g c = λ bytes known holds.
@@ -17,10 +24,7 @@ returns-in-Err-clause-reply g c = λ bytes known holds.
 
 pub returns-in-Ok-clause-changed : goal.returns-in-Ok-clause-changed
 returns-in-Ok-clause-changed g c = λ bytes held known holds.
-    let w : Wanted = wanted c.in-Ok.found.wanted in
-    let indexed = c.in-Ok.ensures.known bytes known in
-    let same = c.of_file-index.ensures (table (mboxes w.paths bytes)) (subst (λ (b : List ℕ). IsFileOf b (table (mboxes w.paths bytes))) (sym c.bytes.ensures) indexed.1) in
-    rw (c.of.ensures, c.in-Ok.ensures.wanted) (sound-once w bytes held c.of_file-index.result (reply_of c.answer_view.result) (g.O.Out.taken c.args.out.now) (g.O.Out.taken c.answer_view.new.out) indexed.0 same (c.answer_view.ensures.told held holds))
+    rw (c.of-in-Ok.ensures, c.in-Ok.ensures.asked) (c.answer_indexed.ensures.told bytes held known holds)
 
 pub returns-in-Ok-clause-reply : goal.returns-in-Ok-clause-reply
 returns-in-Ok-clause-reply g c = grind (arith, known_length, same-bytes, string_bytes, asked-many, returns-in-Ok-clause-changed)

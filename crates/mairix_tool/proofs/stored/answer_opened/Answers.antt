@@ -5,8 +5,8 @@ use Rattle.mairix_tool.proofs.stored.answer_opened.Goals as goal
 
 pub returns-in_err-prove_archives-clause-told : goal.returns-in_err-prove_archives-clause-told
 returns-in_err-prove_archives-clause-told g c = λ held holds.
-    let w = wanted c.args.found.now.wanted in
-    let t = c.args.found.now.view in
+    let w = wanted c.args.wanted.now in
+    let t = c.args.view.now in
     let fault = c.in_err-prove_archives.field-0.0 in
     let p = err_from_is_err_and c.from_residual.result c.from_residual.ensures.1 in
     let tells = subst (λ (o : Option (List (List ℕ))). IfSome o (λ bytes. TellsProved {T = Unit {0}} (unproved_archive w.verify t.archives bytes) (Err fault))) holds c.in_err-prove_archives.ensures.proved in
@@ -14,11 +14,11 @@ returns-in_err-prove_archives-clause-told g c = λ held holds.
 
 pub returns-clause-told : goal.returns-clause-told
 returns-clause-told g c = λ held holds.
-    let w = wanted c.args.found.now.wanted in
-    let t = c.args.found.now.view in
+    let w = wanted c.args.wanted.now in
+    let t = c.args.view.now in
     let none = subst (λ (o : Option (List (List ℕ))). IfSome o (λ bytes. unproved_archive w.verify t.archives bytes ≡ None)) holds c.in_ok-prove_archives.ensures.proved in
     let told = c.answer_view.ensures.told held (c.in_ok-prove_archives.ensures.held ∙ holds) in
     subst (λ (o : Option ℕ). RepliesBy (IsStaleOr o (IsTold t w.search held)) (reply_of c.answer_view.result) (g.O.Out.taken c.args.out.now) (g.O.Out.taken c.answer_view.new.out)) (sym none) told
 
 pub returns-clause-read : goal.returns-clause-read
-returns-clause-read g c = still-verified c.args.found.now.view.archives c.args.found.now.wanted.verify (reply_of c.answer_view.result).fault c.in_ok-prove_archives.ensures.read
+returns-clause-read g c = still-verified c.args.view.now.archives c.args.wanted.now.verify (reply_of c.answer_view.result).fault c.in_ok-prove_archives.ensures.read

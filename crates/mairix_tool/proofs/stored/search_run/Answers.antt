@@ -1,7 +1,7 @@
-use Rattle.mairix_tool.proofs.Words.{◌^◌, ◌<◌, map, length, string_bytes, arith, Wanted, wanted, reply_of}
+use Rattle.mairix_tool.proofs.Words.{◌^◌, ◌<◌, map, length, string_bytes, arith}
 use Rattle.mairix_tool.proofs.ArchiveLaws.AskedPaths.{asked-paths}
 use Rattle.mairix_tool.proofs.TableLaws.Formed.{whole-file}
-use Rattle.mairix_tool.proofs.ReplyLaws.Stored.{answered-for, refused-for, refused-stored, has-digests, stored-told, stored-counted, stored-read, stored-serving, stored-verified}
+use Rattle.mairix_tool.proofs.ReplyLaws.Stored.{refused-for, refused-stored, stored-serving, stored-verified}
 use Rattle.mairix_tool.proofs.stored.search_run.Goals as goal
 
 pub returns-in-Err-clause-reply : goal.returns-in-Err-clause-reply
@@ -24,36 +24,20 @@ returns-in-Err-clause-verified g c = λ w before bytes is verify paths sound who
 pub returns-in-Err-clause-no_other_cause : goal.returns-in-Err-clause-no_other_cause
 returns-in-Err-clause-no_other_cause g c = grind (arith, refused-for, string_bytes)
 
-pub answer_opened-requires-clause-digests : goal.answer_opened-requires-clause-digests
-answer_opened-requires-clause-digests g c = has-digests (wanted c.in-Ok.found.wanted) c.in-Ok.found.view c.in-Ok.ensures.table.0.version c.in-Ok.ensures.fresh
-
 pub returns-in-Ok-clause-reply : goal.returns-in-Ok-clause-reply
 returns-in-Ok-clause-reply g c = λ held holds.
-    let w : Wanted = wanted c.in-Ok.found.wanted in
-    let few : length c.args.index.now < 2 ^ 64 = omega (arith, c.well_formed) in
-    rw (c.of.ensures, c.in-Ok.ensures.wanted)
-    (stored-told w c.args.index.now few c.in-Ok.found.view c.in-Ok.ensures.table held c.in-Ok.ensures.fresh c.in-Ok.ensures.paths (reply_of c.answer_opened.result) (g.O.Out.taken c.args.out.now) (g.O.Out.taken c.answer_opened.new.out)
-    (c.answer_opened.ensures.told held holds))
+    rw (c.of-in-Ok.ensures, c.in-Ok.ensures.asked) (c.answer_stored.ensures.told held holds)
 
 pub returns-in-Ok-clause-indexed : goal.returns-in-Ok-clause-indexed
 returns-in-Ok-clause-indexed g c = λ w bytes is many sound serves holds.
     let few : length c.args.index.now < 2 ^ 64 = omega (arith, c.well_formed) in
     let are = asked-paths (map string_bytes c.args.words.now) c.args.rc.now c.args.now w is in
-    stored-serving w c.args.index.now few bytes many sound are serves c.of.result (g.O.Out.taken c.args.out.now) (g.O.Out.taken c.answer_opened.new.out)
+    stored-serving w c.args.index.now few bytes many sound are serves c.of-in-Ok.result (g.O.Out.taken c.args.out.now) (g.O.Out.taken c.answer_stored.new.out)
     (rw is at (returns-in-Ok-clause-reply g c bytes holds))
 
 pub returns-in-Ok-clause-verified : goal.returns-in-Ok-clause-verified
 returns-in-Ok-clause-verified g c = λ w before bytes is verify paths sound whole holds apart.
     let few : length c.args.index.now < 2 ^ 64 = omega (arith, c.well_formed) in
     let file = whole-file before c.args.index.now paths sound whole in
-    stored-verified w c.args.index.now few before bytes verify sound file apart c.of.result (g.O.Out.taken c.args.out.now) (g.O.Out.taken c.answer_opened.new.out)
+    stored-verified w c.args.index.now few before bytes verify sound file apart c.of-in-Ok.result (g.O.Out.taken c.args.out.now) (g.O.Out.taken c.answer_stored.new.out)
     (rw is at (returns-in-Ok-clause-reply g c bytes holds))
-
-pub returns-in-Ok-clause-counted : goal.returns-in-Ok-clause-counted
-returns-in-Ok-clause-counted g c = grind (arith, stored-counted)
-
-pub returns-in-Ok-clause-read : goal.returns-in-Ok-clause-read
-returns-in-Ok-clause-read g c = grind (arith, stored-read)
-
-pub returns-in-Ok-clause-no_other_cause : goal.returns-in-Ok-clause-no_other_cause
-returns-in-Ok-clause-no_other_cause g c = grind (arith, answered-for, string_bytes)

@@ -1,0 +1,33 @@
+use Rattle.mairix_tool.proofs.Words.{◌^◌, ◌<◌, length, arith, Wanted, wanted, reply_of}
+use Rattle.mairix_tool.proofs.ReplyLaws.Stored.{answered-for, refused-for, refused-stored, has-digests, stored-told, stored-counted, stored-read}
+use Rattle.mairix_tool.proofs.stored.answer_stored.Goals as goal
+
+pub returns-in_err-view-clause-told : goal.returns-in_err-view-clause-told
+returns-in_err-view-clause-told g c = grind (arith, refused-stored)
+
+pub returns-in_err-view-clause-no_other_cause : goal.returns-in_err-view-clause-no_other_cause
+returns-in_err-view-clause-no_other_cause g c = grind (arith, refused-for)
+
+pub answer_opened-requires-clause-digests : goal.answer_opened-requires-clause-digests
+answer_opened-requires-clause-digests g c = has-digests (wanted c.args.wanted.now) c.in_ok-view.view c.in_ok-view.ensures.table.0.version c.in_ok-view.ensures.fresh
+
+pub returns-clause-told : goal.returns-clause-told
+returns-clause-told g c = λ held holds.
+    let w : Wanted = wanted c.args.wanted.now in
+    let few : length c.args.index.now < 2 ^ 64 = omega (arith, c.well_formed) in
+    stored-told w c.args.index.now few c.in_ok-view.view c.in_ok-view.ensures.table held c.in_ok-view.ensures.fresh c.in_ok-view.ensures.paths (reply_of c.answer_opened.result) (g.O.Out.taken c.args.out.now) (g.O.Out.taken c.answer_opened.new.out)
+    (c.answer_opened.ensures.told held holds)
+
+pub returns-clause-counted : goal.returns-clause-counted
+returns-clause-counted g c = λ t file.
+    let few : length c.args.index.now < 2 ^ 64 = omega (arith, c.well_formed) in
+    let reply = reply_of c.answer_opened.result in
+    stored-counted (wanted c.args.wanted.now) c.args.index.now few c.in_ok-view.view c.in_ok-view.ensures.table t (g.A.Archives.held c.args.archives.now) reply.fault reply (g.O.Out.taken c.args.out.now) (g.O.Out.taken c.answer_opened.new.out) file c.answer_opened.ensures.counted
+
+pub returns-clause-read : goal.returns-clause-read
+returns-clause-read g c = λ t file.
+    let few : length c.args.index.now < 2 ^ 64 = omega (arith, c.well_formed) in
+    stored-read (wanted c.args.wanted.now) c.args.index.now few c.in_ok-view.view c.in_ok-view.ensures.table t (reply_of c.answer_opened.result).fault file c.answer_opened.ensures.read
+
+pub returns-clause-no_other_cause : goal.returns-clause-no_other_cause
+returns-clause-no_other_cause g c = grind (arith, answered-for)
