@@ -1,6 +1,7 @@
 -- What comes of a reader's calls.
-use Rattle.mime_text.proofs.Words.{◌≡◌, ◌∙◌, ◌++◌, ℕ, Bool, true, false, List, [], ◌∷◌, Option, Some, None, refl, sym, ap, subst, append_assoc, arith, if◌then◌else◌, Result, Ok, Err, is_empty, HeaderField, fields_of, HasLines, taken_of, has_empty, More, Ended, TextKind, SinkFault, TextFault, OutOfMemory, DefaultType, TextPlain, Frame, State, PartReader, Pair, Coming, Gave, Broke, Hands, shape_of, facts_of, pairs_to_come, StreamPlace, Skip, InHeader, InLeaf, hit, Nest, lead_to, texts_of_message, Passed, Stopped, Passes, IsOver, given_from, header_texts, ending, given_behind, given_after, ComesAt, Comes, ComesBehindHeader, ComesEndingAt, ComesEnding, KnowsAt, KnowsFacts, Notes}
+use Rattle.mime_text.proofs.Words.{◌≡◌, ◌∙◌, ◌++◌, ℕ, Bool, true, false, List, [], ◌∷◌, Option, Some, None, refl, sym, ap, subst, append_assoc, arith, if◌then◌else◌, Result, Ok, Err, OnOk, IfErr, is_empty, HeaderField, fields_of, HasLines, taken_of, has_empty, More, Ended, TextKind, SinkFault, TextFault, OutOfMemory, DefaultType, TextPlain, Frame, State, PartReader, Pair, Coming, Gave, Broke, Hands, shape_of, facts_of, pairs_to_come, StreamPlace, Skip, InHeader, InLeaf, hit, Nest, lead_to, texts_of_message, Passed, Stopped, Passes, IsOver, given_from, header_texts, ending, given_behind, given_after, ComesAt, Comes, ComesBehindHeader, ComesEndingAt, ComesEnding, KnowsAt, KnowsFacts, Notes}
 use Rattle.std.proofs.lemmas.List.{append-nil}
+use Rattle.std.specs.Result.{result_or}
 use Rattle.header_text.specs.declared.header.Header.{Header}
 use Rattle.mime_text.specs.declared.header.facts.Facts.{Facts}
 use Rattle.mime_text.specs.declared.parts.part_reader.State.TheVariants as state
@@ -148,6 +149,14 @@ module _ {S : Type 0} (takes : S → TextKind → List ℕ → S → Type 0) (re
   pub broke-memory_behind : (A : Coming) (s t : S) → Gave takes refuses A (λ _. []) s t → Broke takes refuses A OutOfMemory s t
   broke-memory_behind A s t h = record { pairs = h.pairs; broken = h.taken; front = λ ms. ([], h.rest ms) }
 
+  -- the header's texts were given, and then the body begins or memory is wanting
+  pub header-passes : {T E : Type 0} (r : PartReader) (counted : Bool) (d : DefaultType) (fields : List HeaderField) (after : Coming → Type 0) (begun : Result T E) (s t : S)
+      → ((ls : List Line) → HasLines r.header ls → fields ≡ fields_of ls) → Gave takes refuses (λ _. header_texts counted fields) (λ _. []) s t
+      → OnOk begun ((ls : List Line) → HasLines r.header ls → after (given_behind (shape_of d (fields_of ls)) r.nesting (fields_of ls)))
+      → Passes takes refuses (ComesBehindHeader r counted d) after (λ c. c) (result_or begun (Err OutOfMemory)) s t
+  header-passes r counted d fields after (Ok x) s t f h a = header-passed r counted d fields after s t f h a
+  header-passes r counted d fields after (Err fault) s t f h a = header-stopped r counted d fields OutOfMemory s t f (broke-memory_behind _ s t h)
+
   -- ---- a line in a leaf, and in a header
 
   pub leaf-passes : {T : Type 0} (r n : PartReader) (l : Line) (result : Result T TextFault) (s t : S) → r.state ≡ state.InLeaf → n.state ≡ r.state → n.nesting ≡ r.nesting → hit {A = Pair} r.nesting.frames l ≡ None
@@ -233,3 +242,8 @@ module _ {S : Type 0} (takes : S → TextKind → List ℕ → S → Type 0) (re
   pub end-stopped : (r : PartReader) (fields : List HeaderField) (fault : TextFault) (s t : S) → ((ls : List Line) → HasLines r.header ls → fields ≡ fields_of ls)
       → Broke takes refuses (λ _. ending r.state fields r.leaf) fault s t → Stopped takes refuses (Comes r) (λ c _. c []) fault s t
   end-stopped r fields fault s t f h = record { pairs = h.pairs; broken = h.broken; front = λ c k ms. ((h.front ms).0, whole-ending r fields c f k ∙ (h.front ms).1) }
+
+  pub end-passes : {T : Type 0} (r : PartReader) (fields : List HeaderField) (result : Result T TextFault) (s t : S) → ((ls : List Line) → HasLines r.header ls → fields ≡ fields_of ls)
+      → Gave takes refuses (λ _. ending r.state fields r.leaf) (λ _. []) s t → IfErr result (λ fault. fault ≡ OutOfMemory) → Passes takes refuses (Comes r) IsOver (λ c _. c []) result s t
+  end-passes r fields (Ok x) s t f h e = end-passed r fields s t f h
+  end-passes r fields (Err fault) s t f h e = end-stopped r fields fault s t f (rw e (broke-memory_behind _ s t h))

@@ -174,7 +174,7 @@ impl PartReader {
     {
         give_header(counted, self.header.fields(), &mut self.fields, sink)?;
         self.facts.note(self.alloc, &self.header, &mut self.fields)?;
-        Ok(self.begin_body(default)?)
+        self.begin_body(default).or(Err(TextFault::OutOfMemory))
     }
 
     /// Begins the body of the entity whose header has ended.
@@ -219,7 +219,8 @@ impl PartReader {
             &mut self.fields,
             sink,
         )?;
-        Ok(self.facts.take(self.alloc, &self.header, &mut self.fields)?)
+        self.facts
+            .take(self.alloc, &self.header, &mut self.fields)
     }
 
     /// Before the first line of another message. Nothing of the message before it counts, and the memory is kept.
