@@ -32,10 +32,9 @@ fn numeric_offset(zone: &[u8]) -> Option<i32>
     ensures { result ≡ numeric_offset zone.now }
 {
     let (sign, digits) = zone.split_first()?;
-    let size = offset_size(digits)?;
-    match sign {
-        b'+' => Some(size as i32),
-        b'-' => Some(-(size as i32)),
+    match (sign, offset_size(digits)) {
+        (b'+', Some(size)) => Some(size as i32),
+        (b'-', Some(size)) => Some(-(size as i32)),
         _ => None,
     }
 }
