@@ -57,26 +57,30 @@ fn windows_1252_character(b: u8) -> char
     }
 }
 
+/// The charsets of the labels that are known.
+static LABELS: [(&[u8], Charset); 12] = [
+    (b"", Charset::Utf8),
+    (b"us-ascii", Charset::Utf8),
+    (b"ascii", Charset::Utf8),
+    (b"utf-8", Charset::Utf8),
+    (b"utf8", Charset::Utf8),
+    (b"iso-8859-1", Charset::Latin1),
+    (b"iso8859-1", Charset::Latin1),
+    (b"latin1", Charset::Latin1),
+    (b"iso-8859-15", Charset::Latin9),
+    (b"iso8859-15", Charset::Latin9),
+    (b"windows-1252", Charset::Windows1252),
+    (b"cp1252", Charset::Windows1252),
+];
+
 /// The charset of a label without a language.
 fn charset_named(name: &[u8]) -> Charset
     ensures { result ≡ charset_named_of name.now }
 {
-    if name.is_empty()
-        || is_named(name, b"us-ascii")
-        || is_named(name, b"ascii")
-        || is_named(name, b"utf-8")
-        || is_named(name, b"utf8")
-    {
-        return Charset::Utf8;
-    }
-    if is_named(name, b"iso-8859-1") || is_named(name, b"iso8859-1") || is_named(name, b"latin1") {
-        return Charset::Latin1;
-    }
-    if is_named(name, b"iso-8859-15") || is_named(name, b"iso8859-15") {
-        return Charset::Latin9;
-    }
-    if is_named(name, b"windows-1252") || is_named(name, b"cp1252") {
-        return Charset::Windows1252;
+    for (label, charset) in &LABELS {
+        if is_named(name, label) {
+            return *charset;
+        }
     }
     Charset::Unknown
 }

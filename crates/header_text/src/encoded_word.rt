@@ -76,13 +76,16 @@ fn word_of<'a>(charset: &'a [u8], encoding: &[u8], text: &'a [u8]) -> Option<Enc
 fn word_behind(bytes: &[u8]) -> Option<(EncodedWord<'_>, &[u8])>
     ensures { option_map (λ f. (shown_word f.0, f.1.now)) result ≡ word_and_later bytes.now }
 {
-    let rest = bytes.strip_prefix(b"?")?;
-    let (charset, rest) = cut_at(b'?', rest)?;
-    let (encoding, rest) = cut_at(b'?', rest)?;
-    let (text, rest) = cut_at(b'?', rest)?;
-    let later = rest.strip_prefix(b"=")?;
-    let word = word_of(charset, encoding, text)?;
-    Some((word, later))
+    if let Some(rest) = bytes.strip_prefix(b"?")
+        && let Some((charset, rest)) = cut_at(b'?', rest)
+        && let Some((encoding, rest)) = cut_at(b'?', rest)
+        && let Some((text, rest)) = cut_at(b'?', rest)
+        && let Some(later) = rest.strip_prefix(b"=")
+        && let Some(word) = word_of(charset, encoding, text)
+    {
+        return Some((word, later));
+    }
+    None
 }
 
 /// The leftmost encoded word.
