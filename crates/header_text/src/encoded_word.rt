@@ -3,7 +3,7 @@ ghost use Rattle.std.specs.Prelude.{◌≡◌, ◌<◌, ◌≤◌, ◌+◌, ◌*
 ghost use Rattle.std.specs.List.{list_all};
 ghost use Rattle.bstr.specs.Text.{Extends};
 ghost use Rattle.header_text.specs.Blanks.{is_blank as is_blank_of};
-ghost use Rattle.header_text.specs.EncodedWords.{is_charset_byte, is_text_byte, is_q as is_q_of, word_of as word_of_parts, word_and_later, pieces, text_between, plain_text, word_text, decoded};
+ghost use Rattle.header_text.specs.EncodedWords.{is_charset_byte, is_text_byte, word_of as word_of_parts, word_and_later, pieces, text_between, plain_text, word_text, decoded};
 ghost use Rattle.header_text.specs.Inside.ShownWords.{shown_word, shown_found, no_word, word_first};
 
 use crate::base64_reader::decode_base64_into;
@@ -28,13 +28,6 @@ struct Found<'a> {
     between: &'a [u8],
     word: EncodedWord<'a>,
     later: &'a [u8],
-}
-
-/// The letter of Q, in either case.
-fn is_q(encoding: u8) -> bool
-    ensures { result ≡ is_q_of encoding }
-{
-    encoding == b'Q' || encoding == b'q'
 }
 
 /// Whether a charset may have all these bytes.
@@ -149,7 +142,7 @@ fn push_word(
         (string_bytes into.old ++ word_text (shown_word word.now)) }
 {
     scratch.clear();
-    let gathered = if is_q(word.encoding) {
+    let gathered = if word.encoding.eq_ignore_ascii_case(&b'q') {
         decode_q_into(word.text, scratch)
     } else {
         decode_base64_into(word.text, scratch)
