@@ -106,12 +106,13 @@ fn has_long_count(text: &[u8]) -> bool
 fn ago(text: &[u8]) -> Option<Period>
     ensures { result ≡ ago text.now }
 {
-    let [digits @ .., letter] = text else {
-        return None
-    };
-    let unit = Unit::of(*letter)?;
-    let count = number_in(1, 4, digits)?;
-    Some(Period::Ago { count, unit })
+    if let [digits @ .., letter] = text
+        && let Some(unit) = Unit::of(*letter)
+        && let Some(count) = number_in(1, 4, digits)
+    {
+        return Some(Period::Ago { count, unit });
+    }
+    None
 }
 
 /// `YYYYMMDD`.
@@ -185,7 +186,8 @@ fn yearly_day(month: &[u8], day: &[u8]) -> Option<Period>
 fn day_of(text: &[u8]) -> Option<u8>
     ensures { result ≡ day_of text.now }
 {
-    let [first, ..] = text else { return None };
-    let day = number_in(1, 2, text)?;
-    (*first != b'0' && day <= 31).then_some(day as u8)
+    match (text, number_in(1, 2, text)) {
+        ([first, ..], Some(day)) if *first != b'0' && day <= 31 => Some(day as u8),
+        _ => None,
+    }
 }

@@ -43,11 +43,11 @@ fn offset_size(digits: &[u8]) -> Option<u32>
     ensures value { result ≡ offset_size digits.now }
     ensures bound { IfSome result (λ size. size < 86400) }
 {
-    let digits = number_in(4, 4, digits)?;
-    if digits / 100 <= 23 && digits % 100 <= 59 {
-        Some(u32::from(digits / 100) * 3600 + u32::from(digits % 100) * 60)
-    } else {
-        None
+    match number_in(4, 4, digits) {
+        Some(digits) if digits / 100 <= 23 && digits % 100 <= 59 => {
+            Some(u32::from(digits / 100) * 3600 + u32::from(digits % 100) * 60)
+        }
+        _ => None,
     }
 }
 

@@ -132,13 +132,6 @@ module _ {S : Type 0} (takes : S → TextKind → List ℕ → S → Type 0) (re
 
   -- ---- behind a header
 
-  pub header-passed : (r : PartReader) (counted : Bool) (d : DefaultType) (fields : List HeaderField) (after : Coming → Type 0) (s t : S)
-      → ((ls : List Line) → HasLines r.header ls → fields ≡ fields_of ls) → Gave takes refuses (λ _. header_texts counted fields) (λ _. []) s t
-      → ((ls : List Line) → HasLines r.header ls → after (given_behind (shape_of d (fields_of ls)) r.nesting (fields_of ls)))
-      → Passed takes refuses (ComesBehindHeader r counted d) after (λ c. c) s t
-  header-passed r counted d fields after s t f h a =
-      passed-front (ComesBehindHeader r counted d) after (λ _. header_texts counted fields) s t (λ c k. behind_lines r d k.0) (λ c k. a k.0 k.1) (header-is_first r counted d fields f) h
-
   pub header-stopped : (r : PartReader) (counted : Bool) (d : DefaultType) (fields : List HeaderField) (fault : TextFault) (s t : S)
       → ((ls : List Line) → HasLines r.header ls → fields ≡ fields_of ls) → Broke takes refuses (λ _. header_texts counted fields) fault s t
       → Stopped takes refuses (ComesBehindHeader r counted d) (λ c. c) fault s t
@@ -154,7 +147,8 @@ module _ {S : Type 0} (takes : S → TextKind → List ℕ → S → Type 0) (re
       → ((ls : List Line) → HasLines r.header ls → fields ≡ fields_of ls) → Gave takes refuses (λ _. header_texts counted fields) (λ _. []) s t
       → OnOk begun ((ls : List Line) → HasLines r.header ls → after (given_behind (shape_of d (fields_of ls)) r.nesting (fields_of ls)))
       → Passes takes refuses (ComesBehindHeader r counted d) after (λ c. c) (result_or begun (Err OutOfMemory)) s t
-  header-passes r counted d fields after (Ok x) s t f h a = header-passed r counted d fields after s t f h a
+  header-passes r counted d fields after (Ok x) s t f h a =
+      passed-front (ComesBehindHeader r counted d) after (λ _. header_texts counted fields) s t (λ c k. behind_lines r d k.0) (λ c k. a k.0 k.1) (header-is_first r counted d fields f) h
   header-passes r counted d fields after (Err fault) s t f h a = header-stopped r counted d fields OutOfMemory s t f (broke-memory_behind _ s t h)
 
   -- ---- a line in a leaf, and in a header
@@ -235,15 +229,11 @@ module _ {S : Type 0} (takes : S → TextKind → List ℕ → S → Type 0) (re
   leave-stopped r lead fields fault s t f h =
       stopped-front (ComesEnding r lead) (λ _. ending r.state fields r.leaf) fault s t (λ c k. given_after lead r.nesting) (λ c. ending-is r lead fields c f) h
 
-  pub end-passed : (r : PartReader) (fields : List HeaderField) (s t : S) → ((ls : List Line) → HasLines r.header ls → fields ≡ fields_of ls)
-      → Gave takes refuses (λ _. ending r.state fields r.leaf) (λ _. []) s t → Passed takes refuses (Comes r) IsOver (λ c _. c []) s t
-  end-passed r fields s t f h = record { pairs = h.pairs; taken = h.taken; rest = λ c k. (λ _. [], λ ms. refl, λ ms. whole-ending r fields c f k ∙ h.rest ms) }
-
   pub end-stopped : (r : PartReader) (fields : List HeaderField) (fault : TextFault) (s t : S) → ((ls : List Line) → HasLines r.header ls → fields ≡ fields_of ls)
       → Broke takes refuses (λ _. ending r.state fields r.leaf) fault s t → Stopped takes refuses (Comes r) (λ c _. c []) fault s t
   end-stopped r fields fault s t f h = record { pairs = h.pairs; broken = h.broken; front = λ c k ms. ((h.front ms).0, whole-ending r fields c f k ∙ (h.front ms).1) }
 
   pub end-passes : {T : Type 0} (r : PartReader) (fields : List HeaderField) (result : Result T TextFault) (s t : S) → ((ls : List Line) → HasLines r.header ls → fields ≡ fields_of ls)
       → Gave takes refuses (λ _. ending r.state fields r.leaf) (λ _. []) s t → IfErr result (λ fault. fault ≡ OutOfMemory) → Passes takes refuses (Comes r) IsOver (λ c _. c []) result s t
-  end-passes r fields (Ok x) s t f h e = end-passed r fields s t f h
+  end-passes r fields (Ok x) s t f h e = record { pairs = h.pairs; taken = h.taken; rest = λ c k. (λ _. [], λ ms. refl, λ ms. whole-ending r fields c f k ∙ h.rest ms) }
   end-passes r fields (Err fault) s t f h e = end-stopped r fields fault s t f (rw e (broke-memory_behind _ s t h))

@@ -1,6 +1,6 @@
 -- Labels, and the text of single bytes.
 use Rattle.header_text.proofs.CutLemmas.{split_while-cut, split_while-free}
-use Rattle.header_text.proofs.Words.{◌≡◌, ◌∙◌, Option, Some, None, Bor, sym, option_map, unwrap_or, plain_label, cut_at, ◌<◌, ℕ, zero, suc, true, nat_lt, List, [], ◌∷◌, get_or, ap, arith, list_all, and_parts, ltb-true, charset_named, charset_of, is_named, Bool, false, refl, length, drop, drop_all, add-one, ◌≤◌, if◌then◌else◌, ◌+◌, Charset, Utf8, Latin1, Latin9, Windows1252, Unknown}
+use Rattle.header_text.proofs.Words.{◌≡◌, ◌∙◌, Option, Some, None, Bor, sym, option_map, unwrap_or, plain_label, cut_at, ◌<◌, ℕ, zero, suc, true, nat_lt, List, [], ◌∷◌, get_or, ap, arith, list_all, and_parts, ltb-true, charset_named, charset_of, is_named, Bool, refl, length, drop, add-one, if◌then◌else◌, ◌+◌, Charset, Utf8, Latin1, Latin9, Windows1252, Unknown}
 use Rattle.std.specs.Prelude.{slice_index_or}
 use Rattle.std.specs.List.{list_any}
 
@@ -19,18 +19,10 @@ labelled [] name = Unknown
 labelled (x ∷ xs) name = if is_named name x.0.now then x.1 else labelled xs name
 
 -- the entry at a place fits, or those behind it decide
-pub labelled-here : (xs : List (Bor (List ℕ) × Charset)) (i : ℕ) (d : Bor (List ℕ) × Charset) (name : List ℕ) → i < length xs → is_named name (slice_index_or xs i d).0.now ≡ true → labelled (drop i xs) name ≡ (slice_index_or xs i d).1
-labelled-here [] i d name h e = absurd (omega arith)
-labelled-here (x ∷ xs) zero d name h e = rw e refl
-labelled-here (x ∷ xs) (suc i) d name h e = labelled-here xs i d name (omega arith) e
-
-pub labelled-behind : (xs : List (Bor (List ℕ) × Charset)) (i : ℕ) (d : Bor (List ℕ) × Charset) (name : List ℕ) → i < length xs → is_named name (slice_index_or xs i d).0.now ≡ false → labelled (drop i xs) name ≡ labelled (drop (i + 1) xs) name
-labelled-behind [] i d name h e = absurd (omega arith)
-labelled-behind (x ∷ xs) zero d name h e = rw e refl
-labelled-behind (x ∷ xs) (suc i) d name h e = rw (add-one (suc i)) (labelled-behind xs i d name (omega arith) e ∙ rw (add-one i) refl)
-
-pub labelled-none : (xs : List (Bor (List ℕ) × Charset)) (i : ℕ) (name : List ℕ) → length xs ≤ i → labelled (drop i xs) name ≡ Unknown
-labelled-none xs i name h = rw (drop_all i xs h) refl
+pub labelled-at : (xs : List (Bor (List ℕ) × Charset)) (i : ℕ) (d : Bor (List ℕ) × Charset) (name : List ℕ) (fits : Bool) → i < length xs → fits ≡ is_named name (slice_index_or xs i d).0.now → labelled (drop i xs) name ≡ (if fits then (slice_index_or xs i d).1 else labelled (drop (i + 1) xs) name)
+labelled-at [] i d name fits h e = absurd (omega arith)
+labelled-at (x ∷ xs) zero d name fits h e = rw e refl
+labelled-at (x ∷ xs) (suc i) d name fits h e = rw (add-one (suc i)) (labelled-at xs i d name fits (omega arith) e ∙ rw (add-one i) refl)
 
 pub labels-apart : (a b c d e f g h i j k l : Bool)
     → (if list_any (λ (x : Bool). x) (a ∷ b ∷ c ∷ d ∷ e ∷ []) then Utf8 else if list_any (λ (x : Bool). x) (f ∷ g ∷ h ∷ []) then Latin1 else if list_any (λ (x : Bool). x) (i ∷ j ∷ []) then Latin9 else if list_any (λ (x : Bool). x) (k ∷ l ∷ []) then Windows1252 else Unknown)

@@ -1,4 +1,4 @@
-use Rattle.mail_dates.proofs.Words.{◌≡◌, ◌∙◌, ℕ, ℤ, pos, List, [], ◌∷◌, Option, Some, None, w32, FitsSigned, to_z-of_z, rules, refl, sym, ap, tokens, with_first, without_day_name, number_in, ◌>>=◌, day_number, month_of, year_of, time_of, offset_of, hours_west, date_of_parts_by, date_of_tokens_by, date_of}
+use Rattle.mail_dates.proofs.Words.{◌≡◌, ◌∙◌, ℕ, pos, List, [], ◌∷◌, Option, Some, None, w32, FitsSigned, to_z-of_z, rules, refl, sym, ap, tokens, with_first, without_day_name, number_in, ◌>>=◌, day_number, month_of, year_of, time_of, offset_of, hours_west, date_of_parts_by, date_of_tokens_by, date_of}
 use Rattle.mail_dates.specs.HeaderDates.{without_comments}
 use Rattle.mail_dates.proofs.header_date.read_date.Goals as goal
 
@@ -6,30 +6,16 @@ nothing : {A B : Type 0} (o : Option A) (f : A → Option B) → ((x : A) → f 
 nothing None f h = refl
 nothing (Some x) f h = h x
 
--- a token that is missing
-
-no_month : (day year time : List ℕ) (offset : ℤ) → date_of_parts_by day_number day [] year time offset ≡ None
-unfolding month_of
-no_month day year time offset = nothing (number_in 1 2 day) _ (λ d. refl)
-
-no_year : (day month time : List ℕ) (offset : ℤ) → date_of_parts_by day_number day month [] time offset ≡ None
-no_year day month time offset = nothing (number_in 1 2 day) _ (λ d. nothing (month_of month) _ (λ m. refl))
-
-no_time : (day month year : List ℕ) (offset : ℤ) → date_of_parts_by day_number day month year [] offset ≡ None
-unfolding time_of
-no_time day month year offset = nothing (number_in 1 2 day) _ (λ d. nothing (month_of month) _ (λ m. nothing (year_of year) _ (λ y. nothing (day_number (pos y) m d) _ (λ date. refl))))
-
-no_zone : offset_of [] ≡ pos 0
-unfolding offset_of hours_west
-no_zone = refl
-
+-- what a missing token makes of the date
 read : (day month year time zone r s t u v : List ℕ) → tokens r ≡ with_first month s → tokens s ≡ with_first year t → tokens t ≡ with_first time u → tokens u ≡ with_first zone v
     → date_of_parts_by day_number day month year time (offset_of zone) ≡ date_of_tokens_by day_number (with_first day r)
+unfolding month_of time_of offset_of hours_west
 read [] month year time zone r s t u v e f g h = refl
-read (x ∷ xs) [] year time zone r s t u v e f g h = rw e (no_month (x ∷ xs) year time (offset_of zone))
-read (x ∷ xs) (y ∷ ys) [] time zone r s t u v e f g h = rw (e, f) (no_year (x ∷ xs) (y ∷ ys) time (offset_of zone))
-read (x ∷ xs) (y ∷ ys) (z ∷ zs) [] zone r s t u v e f g h = rw (e, f, g) (no_time (x ∷ xs) (y ∷ ys) (z ∷ zs) (offset_of zone))
-read (x ∷ xs) (y ∷ ys) (z ∷ zs) (a ∷ cs) [] r s t u v e f g h = rw (e, f, g, h, no_zone) refl
+read (x ∷ xs) [] year time zone r s t u v e f g h = rw e (nothing (number_in 1 2 (x ∷ xs)) _ (λ d. refl))
+read (x ∷ xs) (y ∷ ys) [] time zone r s t u v e f g h = rw (e, f) (nothing (number_in 1 2 (x ∷ xs)) _ (λ d. nothing (month_of (y ∷ ys)) _ (λ m. refl)))
+read (x ∷ xs) (y ∷ ys) (z ∷ zs) [] zone r s t u v e f g h =
+    rw (e, f, g) (nothing (number_in 1 2 (x ∷ xs)) _ (λ d. nothing (month_of (y ∷ ys)) _ (λ m. nothing (year_of (z ∷ zs)) _ (λ n. nothing (day_number (pos n) m d) _ (λ date. refl)))))
+read (x ∷ xs) (y ∷ ys) (z ∷ zs) (a ∷ cs) [] r s t u v e f g h = rw (e, f, g, h) refl
 read (x ∷ xs) (y ∷ ys) (z ∷ zs) (a ∷ cs) (b ∷ bs) r s t u v e f g h = rw (e, f, g, h) refl
 
 pub returns : goal.returns
