@@ -186,6 +186,5 @@ pub fn decode_words(alloc: Global, unfolded: &[u8]) -> Result<String, AllocError
 {
     let mut text = String::new(alloc);
     let mut scratch = Vec::new(alloc);
-    decode_words_into(unfolded, &mut scratch, &mut text)?;
-    Ok(text)
+    decode_words_into(unfolded, &mut scratch, &mut text).and(Ok(text))
 }

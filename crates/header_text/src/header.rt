@@ -49,6 +49,7 @@ impl Header {
     ghost use Rattle.header_text.specs.Stages.{has_empty};
 
     /// A header of no lines. It takes no memory.
+    #[tactic(auto, using(crate::proofs::HeaderLaws::PushLemmas::holds_new))]
     pub fn new(alloc: Global) -> Self
         ensures { HasLines result [] }
     {
@@ -61,6 +62,7 @@ impl Header {
     }
 
     /// Drops all lines, and keeps the memory for those of another header.
+    #[tactic(auto, using(crate::proofs::HeaderLaws::PushLemmas::holds_new))]
     pub fn clear(&mut self)
         ensures { HasLines self.new [] }
     {

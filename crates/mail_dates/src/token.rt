@@ -39,6 +39,7 @@ pub fn are_letters(token: &[u8]) -> bool
     token.iter().all(u8::is_ascii_alphabetic)
 }
 
+#[tactic(auto, using(crate::proofs::Cuts::split_some, crate::proofs::Cuts::split_none, std::proofs::lemmas::List::take_rest))]
 fn cut_at_gap(text: &[u8]) -> Option<(&[u8], &[u8])>
     ensures shorter { IfSome result (λ parts. length parts.1.now < length text.now) }
     ensures parts { MatchOption result (slice_split is_gap text.now ≡ text.now ∷ [])
