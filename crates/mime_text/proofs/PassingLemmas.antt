@@ -219,14 +219,11 @@ module _ {S : Type 0} (takes : S → TextKind → List ℕ → S → Type 0) (re
 
   -- ---- an entity's end, and the message's
 
-  pub leave-passed : (r n : PartReader) (lead : Lead) (fields : List HeaderField) (s t : S) → ((ls : List Line) → HasLines r.header ls → fields ≡ fields_of ls)
-      → Gave takes refuses (λ _. ending r.state fields r.leaf) (λ _. []) s t → Comes n (given_after lead r.nesting) → Passed takes refuses (ComesEnding r lead) (Comes n) (λ c. c) s t
-  leave-passed r n lead fields s t f h a =
+  pub leave-passes : {T : Type 0} (r n : PartReader) (lead : Lead) (fields : List HeaderField) (result : Result T TextFault) (s t : S) → ((ls : List Line) → HasLines r.header ls → fields ≡ fields_of ls)
+      → Hands takes refuses (λ _. ending r.state fields r.leaf) (λ _. []) result s t → Comes n (given_after lead r.nesting) → Passes takes refuses (ComesEnding r lead) (Comes n) (λ c. c) result s t
+  leave-passes r n lead fields (Ok x) s t f h a =
       passed-front (ComesEnding r lead) (Comes n) (λ _. ending r.state fields r.leaf) s t (λ c k. given_after lead r.nesting) (λ c k. a) (λ c. ending-is r lead fields c f) h
-
-  pub leave-stopped : (r : PartReader) (lead : Lead) (fields : List HeaderField) (fault : TextFault) (s t : S) → ((ls : List Line) → HasLines r.header ls → fields ≡ fields_of ls)
-      → Broke takes refuses (λ _. ending r.state fields r.leaf) fault s t → Stopped takes refuses (ComesEnding r lead) (λ c. c) fault s t
-  leave-stopped r lead fields fault s t f h =
+  leave-passes r n lead fields (Err fault) s t f h a =
       stopped-front (ComesEnding r lead) (λ _. ending r.state fields r.leaf) fault s t (λ c k. given_after lead r.nesting) (λ c. ending-is r lead fields c f) h
 
   pub end-stopped : (r : PartReader) (fields : List HeaderField) (fault : TextFault) (s t : S) → ((ls : List Line) → HasLines r.header ls → fields ≡ fields_of ls)

@@ -113,15 +113,16 @@ impl PartReader {
             (λ c. c) result sink.old sink.new }
         ensures facts { self.new.facts ≡ self.old.facts }
     {
-        end_entity(
+        let outcome = end_entity(
             self.state,
             self.header.fields(),
             &mut self.leaf,
             &mut self.fields,
             sink,
-        )?;
+        );
+        // After a fault no more is read, wherever the reader stands.
         self.follow(lead);
-        Ok(())
+        outcome
     }
 
     /// Goes on where a delimiter leads.
