@@ -25,13 +25,6 @@ impl Field<'_> {
     }
 }
 
-/// Whether the line continues the field before it.
-pub fn is_continuation(line: &[u8]) -> bool
-    ensures { result ≡ is_continuation_of line.now }
-{
-    matches!(line, [b' ' | b'\t', ..])
-}
-
 /// The bytes behind the name in front, which has bytes from 33 to 126, but no colon.
 fn after_name(line: &[u8]) -> &[u8]
     ensures { result.now ≡ (split_while is_field_name_byte_of line.now).1 }

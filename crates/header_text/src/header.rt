@@ -4,7 +4,7 @@ ghost use Rattle.header_text.specs.Headers.{fields_of, fields_size, most_in_head
 ghost use Rattle.header_text.specs.OpenFields.{is_open_after, fields_with};
 ghost use Rattle.header_text.specs.Stages.{stage_behind as stage_behind_of};
 
-use crate::field::{field_of_line, is_continuation};
+use crate::field::field_of_line;
 use crate::field_list::{FieldList, Fields};
 use mbox_cutter::is_empty_line;
 use std::alloc::{AllocError, Global};
@@ -136,7 +136,8 @@ fn add_line(fields: &mut FieldList, in_field: bool, line: &[u8]) -> Result<bool,
     ensures fields { OnOk result (fields.new ≡ fields_with in_field line.now fields.old) }
     ensures refused { OnErr result (fields.new ≡ fields.old) }
 {
-    if is_continuation(line) {
+    // It continues the field before it.
+    if let [b' ' | b'\t', ..] = line {
         if in_field {
             return fields.extend_last(line).and(Ok(true));
         }
