@@ -25,9 +25,7 @@ fn time_by(hour: &[u8], minute: &[u8], second: Option<u16>) -> Option<u32>
     ensures { result ≡ time_by hour.now minute.now second }
 {
     match (number_in(1, 2, hour), number_in(2, 2, minute), second) {
-        (Some(hour), Some(minute), Some(second))
-            if hour <= 23 && minute <= 59 && second <= 60 =>
-        {
+        (Some(hour), Some(minute), Some(second)) if hour <= 23 && minute <= 59 && second <= 60 => {
             Some(u32::from(hour) * 3600 + u32::from(minute) * 60 + u32::from(second))
         }
         _ => None,

@@ -220,8 +220,7 @@ impl PartReader {
             &mut self.fields,
             sink,
         )?;
-        self.facts
-            .take(self.alloc, &self.header, &mut self.fields)
+        self.facts.take(self.alloc, &self.header, &mut self.fields)
     }
 
     /// Before the first line of another message. Nothing of the message before it counts, and the memory is kept.
