@@ -8,6 +8,7 @@ pub use Rattle.header_text.specs.Base64.{bytes_of_symbols}
 unfoldable pub use Rattle.header_text.specs.Base64.{base64_bytes, bytes_of_sextets, sextet}
 pub use Rattle.header_text.specs.Blanks.{after_blanks, is_blank, split_while}
 unfoldable pub use Rattle.header_text.specs.Blanks.{before_blanks}
+pub use Rattle.header_text.specs.Names.{is_named}
 pub use Rattle.header_text.specs.Charsets.{character, charset_named, plain_label, windows_1252_upper}
 unfoldable pub use Rattle.header_text.specs.Charsets.{charset_of, text_of}
 pub use Rattle.header_text.specs.Cuts.{cut_at}

@@ -43,21 +43,12 @@ pub fn whole_groups(held: Held, text: &[u8]) -> usize
     if held.count > 0 {
         return 0;
     }
-    let count = symbols_in_front(text);
-    count - count % 4
-}
-
-/// How many symbols stand in front.
-fn symbols_in_front(text: &[u8]) -> usize
-    ensures within { result ≤ length text.now }
-    ensures symbols { (k : ℕ) → k < result → is_symbol_of (slice_index text.now k) ≡ true }
-{
     for (i, b) in text.iter().enumerate() {
         if !is_symbol(*b) {
-            return i;
+            return i - i % 4;
         }
     }
-    text.len()
+    text.len() - text.len() % 4
 }
 
 /// Adds the bytes of symbols in whole groups of four, in one call of the decoder.

@@ -98,9 +98,9 @@ impl Base64 {
         let mut symbols = [b'A'; 4];
         symbols[..held.count].copy_from_slice(&held.symbols[..held.count]);
         let end = into.len() + held.count - 1;
-        decode_groups(&symbols, into)?;
+        let outcome = decode_groups(&symbols, into);
         into.truncate(end);
-        Ok(())
+        outcome
     }
 }
 

@@ -1,7 +1,7 @@
 //! Charsets and how they read bytes.
 ghost use Rattle.std.specs.Prelude.{◌≡◌, ◌<◌, not, ◌==◌};
 ghost use Rattle.header_text.specs.Blanks.{split_while};
-ghost use Rattle.header_text.specs.Charsets.{charset_of, charset_named as charset_named_of, character as character_of, latin9_character as latin9_character_of, windows_1252_character as windows_1252_character_of};
+ghost use Rattle.header_text.specs.Charsets.{charset_of, charset_named as charset_named_of, character as character_of};
 
 use crate::cut::cut_at;
 use crate::names::is_named;
@@ -29,54 +29,30 @@ const WINDOWS_1252_UPPER: [char; 32] = [
     '\u{2DC}', '\u{2122}', '\u{161}', '\u{203A}', '\u{153}', '\u{FFFD}', '\u{17E}', '\u{178}',
 ];
 
-/// The character of a byte in ISO 8859-15.
-fn latin9_character(b: u8) -> char
-    ensures { result ≡ latin9_character_of b }
-{
-    match b {
-        0xA4 => '\u{20AC}',
-        0xA6 => '\u{160}',
-        0xA8 => '\u{161}',
-        0xB4 => '\u{17D}',
-        0xB8 => '\u{17E}',
-        0xBC => '\u{152}',
-        0xBD => '\u{153}',
-        0xBE => '\u{178}',
-        _ => char::from(b),
-    }
-}
-
-/// The character of a byte in Windows-1252.
-fn windows_1252_character(b: u8) -> char
-    ensures value { result ≡ windows_1252_character_of b }
-    ensures small { result < 65536 }
-{
-    match b {
-        0x80..=0x9F => WINDOWS_1252_UPPER[usize::from(b - 0x80)],
-        _ => char::from(b),
-    }
-}
+/// The charsets of the labels that are known.
+static LABELS: [(&[u8], Charset); 12] = [
+    (b"", Charset::Utf8),
+    (b"us-ascii", Charset::Utf8),
+    (b"ascii", Charset::Utf8),
+    (b"utf-8", Charset::Utf8),
+    (b"utf8", Charset::Utf8),
+    (b"iso-8859-1", Charset::Latin1),
+    (b"iso8859-1", Charset::Latin1),
+    (b"latin1", Charset::Latin1),
+    (b"iso-8859-15", Charset::Latin9),
+    (b"iso8859-15", Charset::Latin9),
+    (b"windows-1252", Charset::Windows1252),
+    (b"cp1252", Charset::Windows1252),
+];
 
 /// The charset of a label without a language.
 fn charset_named(name: &[u8]) -> Charset
     ensures { result ≡ charset_named_of name.now }
 {
-    if name.is_empty()
-        || is_named(name, b"us-ascii")
-        || is_named(name, b"ascii")
-        || is_named(name, b"utf-8")
-        || is_named(name, b"utf8")
-    {
-        return Charset::Utf8;
-    }
-    if is_named(name, b"iso-8859-1") || is_named(name, b"iso8859-1") || is_named(name, b"latin1") {
-        return Charset::Latin1;
-    }
-    if is_named(name, b"iso-8859-15") || is_named(name, b"iso8859-15") {
-        return Charset::Latin9;
-    }
-    if is_named(name, b"windows-1252") || is_named(name, b"cp1252") {
-        return Charset::Windows1252;
+    for (label, charset) in &LABELS {
+        if is_named(name, label) {
+            return *charset;
+        }
     }
     Charset::Unknown
 }
@@ -95,12 +71,18 @@ impl Charset {
         ensures value { result ≡ character_of self b }
         ensures small { result < 65536 }
     {
-        match self {
-            Charset::Latin1 => char::from(b),
-            Charset::Latin9 => latin9_character(b),
-            Charset::Windows1252 => windows_1252_character(b),
-            Charset::Utf8 | Charset::Unknown if b.is_ascii() => char::from(b),
-            Charset::Utf8 | Charset::Unknown => '\u{FFFD}',
+        match (self, b) {
+            (Charset::Latin9, 0xA4) => '\u{20AC}',
+            (Charset::Latin9, 0xA6) => '\u{160}',
+            (Charset::Latin9, 0xA8) => '\u{161}',
+            (Charset::Latin9, 0xB4) => '\u{17D}',
+            (Charset::Latin9, 0xB8) => '\u{17E}',
+            (Charset::Latin9, 0xBC) => '\u{152}',
+            (Charset::Latin9, 0xBD) => '\u{153}',
+            (Charset::Latin9, 0xBE) => '\u{178}',
+            (Charset::Windows1252, 0x80..=0x9F) => WINDOWS_1252_UPPER[usize::from(b - 0x80)],
+            (Charset::Utf8 | Charset::Unknown, 0x80..) => '\u{FFFD}',
+            _ => char::from(b),
         }
     }
 }

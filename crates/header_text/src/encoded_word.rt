@@ -3,7 +3,7 @@ ghost use Rattle.std.specs.Prelude.{◌≡◌, ◌<◌, ◌≤◌, ◌+◌, ◌*
 ghost use Rattle.std.specs.List.{list_all};
 ghost use Rattle.bstr.specs.Text.{Extends};
 ghost use Rattle.header_text.specs.Blanks.{is_blank as is_blank_of};
-ghost use Rattle.header_text.specs.EncodedWords.{is_charset_byte, is_text_byte, is_q as is_q_of, word_of as word_of_parts, word_and_later, pieces, text_between, plain_text, word_text, decoded};
+ghost use Rattle.header_text.specs.EncodedWords.{is_charset_byte, is_text_byte, word_of as word_of_parts, word_and_later, pieces, text_between, plain_text, word_text, decoded};
 ghost use Rattle.header_text.specs.Inside.ShownWords.{shown_word, shown_found, no_word, word_first};
 
 use crate::base64_reader::decode_base64_into;
@@ -28,13 +28,6 @@ struct Found<'a> {
     between: &'a [u8],
     word: EncodedWord<'a>,
     later: &'a [u8],
-}
-
-/// The letter of Q, in either case.
-fn is_q(encoding: u8) -> bool
-    ensures { result ≡ is_q_of encoding }
-{
-    encoding == b'Q' || encoding == b'q'
 }
 
 /// Whether a charset may have all these bytes.
@@ -76,13 +69,16 @@ fn word_of<'a>(charset: &'a [u8], encoding: &[u8], text: &'a [u8]) -> Option<Enc
 fn word_behind(bytes: &[u8]) -> Option<(EncodedWord<'_>, &[u8])>
     ensures { option_map (λ f. (shown_word f.0, f.1.now)) result ≡ word_and_later bytes.now }
 {
-    let rest = bytes.strip_prefix(b"?")?;
-    let (charset, rest) = cut_at(b'?', rest)?;
-    let (encoding, rest) = cut_at(b'?', rest)?;
-    let (text, rest) = cut_at(b'?', rest)?;
-    let later = rest.strip_prefix(b"=")?;
-    let word = word_of(charset, encoding, text)?;
-    Some((word, later))
+    if let Some(rest) = bytes.strip_prefix(b"?")
+        && let Some((charset, rest)) = cut_at(b'?', rest)
+        && let Some((encoding, rest)) = cut_at(b'?', rest)
+        && let Some((text, rest)) = cut_at(b'?', rest)
+        && let Some(later) = rest.strip_prefix(b"=")
+        && let Some(word) = word_of(charset, encoding, text)
+    {
+        return Some((word, later));
+    }
+    None
 }
 
 /// The leftmost encoded word.
@@ -146,7 +142,7 @@ fn push_word(
         (string_bytes into.old ++ word_text (shown_word word.now)) }
 {
     scratch.clear();
-    let gathered = if is_q(word.encoding) {
+    let gathered = if word.encoding.eq_ignore_ascii_case(&b'q') {
         decode_q_into(word.text, scratch)
     } else {
         decode_base64_into(word.text, scratch)
@@ -190,6 +186,5 @@ pub fn decode_words(alloc: Global, unfolded: &[u8]) -> Result<String, AllocError
 {
     let mut text = String::new(alloc);
     let mut scratch = Vec::new(alloc);
-    decode_words_into(unfolded, &mut scratch, &mut text)?;
-    Ok(text)
+    decode_words_into(unfolded, &mut scratch, &mut text).and(Ok(text))
 }

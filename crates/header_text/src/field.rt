@@ -25,29 +25,15 @@ impl Field<'_> {
     }
 }
 
-/// Whether the line continues the field before it.
-pub fn is_continuation(line: &[u8]) -> bool
-    ensures { result ≡ is_continuation_of line.now }
-{
-    matches!(line, [b' ' | b'\t', ..])
-}
-
-/// Whether a name may have the byte: 33 to 126, but no colon.
-fn is_field_name_byte(b: u8) -> bool
-    ensures { result ≡ is_field_name_byte_of b }
-{
-    b.is_ascii_graphic() && b != b':'
-}
-
-/// The bytes behind the name in front.
+/// The bytes behind the name in front, which has bytes from 33 to 126, but no colon.
 fn after_name(line: &[u8]) -> &[u8]
     ensures { result.now ≡ (split_while is_field_name_byte_of line.now).1 }
 {
     let mut rest = line;
-    while let Some((first, others)) = rest.split_first() {
-        if !is_field_name_byte(*first) {
-            break;
-        }
+    while let Some((first, others)) = rest.split_first()
+        && first.is_ascii_graphic()
+        && *first != b':'
+    {
         rest = others;
     }
     rest

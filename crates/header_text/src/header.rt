@@ -4,7 +4,7 @@ ghost use Rattle.header_text.specs.Headers.{fields_of, fields_size, most_in_head
 ghost use Rattle.header_text.specs.OpenFields.{is_open_after, fields_with};
 ghost use Rattle.header_text.specs.Stages.{stage_behind as stage_behind_of};
 
-use crate::field::{field_of_line, is_continuation};
+use crate::field::field_of_line;
 use crate::field_list::{FieldList, Fields};
 use mbox_cutter::is_empty_line;
 use std::alloc::{AllocError, Global};
@@ -49,6 +49,7 @@ impl Header {
     ghost use Rattle.header_text.specs.Stages.{has_empty};
 
     /// A header of no lines. It takes no memory.
+    #[tactic(auto, using(crate::proofs::HeaderLaws::PushLemmas::holds_new))]
     pub fn new(alloc: Global) -> Self
         ensures { HasLines result [] }
     {
@@ -61,6 +62,7 @@ impl Header {
     }
 
     /// Drops all lines, and keeps the memory for those of another header.
+    #[tactic(auto, using(crate::proofs::HeaderLaws::PushLemmas::holds_new))]
     pub fn clear(&mut self)
         ensures { HasLines self.new [] }
     {
@@ -134,7 +136,8 @@ fn add_line(fields: &mut FieldList, in_field: bool, line: &[u8]) -> Result<bool,
     ensures fields { OnOk result (fields.new ≡ fields_with in_field line.now fields.old) }
     ensures refused { OnErr result (fields.new ≡ fields.old) }
 {
-    if is_continuation(line) {
+    // It continues the field before it.
+    if let [b' ' | b'\t', ..] = line {
         if in_field {
             return fields.extend_last(line).and(Ok(true));
         }

@@ -64,6 +64,5 @@ pub fn decode(alloc: Global, charset: Charset, bytes: &[u8]) -> Result<String, A
     ensures size { IfOk result (λ text. length (string_bytes text) ≤ 3 * length bytes.now) }
 {
     let mut text = String::new(alloc);
-    decode_into(charset, bytes, &mut text)?;
-    Ok(text)
+    decode_into(charset, bytes, &mut text).and(Ok(text))
 }

@@ -45,6 +45,5 @@ pub fn unfold(alloc: Global, body: &[u8]) -> Result<Vec<u8>, AllocError>
     ensures size { IfOk result (λ value. length value.items ≤ length body.now) }
 {
     let mut value = Vec::new(alloc);
-    unfold_into(body, &mut value)?;
-    Ok(value)
+    unfold_into(body, &mut value).and(Ok(value))
 }

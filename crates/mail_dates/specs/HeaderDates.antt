@@ -20,6 +20,11 @@ is_parenthesis b = b == 0x28
 unfoldable pub tokens : List ℕ → List (List ℕ)
 tokens text = filter (λ token. not (length token == 0)) (slice_split is_gap text)
 
+-- a token, which is missing where it is empty, and those behind it
+abbrev pub with_first : List ℕ → List ℕ → List (List ℕ)
+with_first [] rest = []
+with_first (b ∷ bs) rest = (b ∷ bs) ∷ tokens rest
+
 abbrev pub without_comments : List ℕ → List ℕ
 without_comments text = before_first is_parenthesis text
 

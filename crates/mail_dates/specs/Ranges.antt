@@ -44,6 +44,12 @@ module _ (day_number : ℤ → ℕ → ℕ → Option ℤ) where
     days ← named_days_by (pos (now / 86400)) end text
     Ok (Some (start_of_day days.first))
 
+  -- from there to a second
+  abbrev pub range_from_by : ℕ → ℤ → List ℕ → ℤ → Result Range DateFault
+  range_from_by now end start until = do
+    from ← start_by now end start
+    Ok (record { from = from; until = Some until })
+
   -- the end is read first
   abbrev pub range_between_by : ℕ → List ℕ → List ℕ → Result Range DateFault
   range_between_by now [] [] = Err BadDate

@@ -3,7 +3,7 @@
 use thiserror::Error;
 
 /// Why the text of a range is refused.
-#[derive(Clone, Copy, Debug, PartialEq, Eq, Error)]
+#[derive(Clone, Copy, Debug, Error)]
 pub enum DateFault {
     /// It is of no form that the range has, or names a day that no year has.
     #[error("bad date")]

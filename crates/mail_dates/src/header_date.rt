@@ -1,8 +1,8 @@
 //! The date of a Date field (RFC 5322 3.3, and its obsolete forms, 4.3).
 
-ghost use Rattle.std.specs.Prelude.{◌≡◌, ◌<◌, ◌∷◌, IfSome};
+ghost use Rattle.std.specs.Prelude.{◌≡◌, ◌<◌, IfSome};
 ghost use Rattle.mail_dates.specs.Calendar.{day_number};
-ghost use Rattle.mail_dates.specs.HeaderDates.{year_of, tokens, date_of_parts_by, date_of_tokens_by, date_of};
+ghost use Rattle.mail_dates.specs.HeaderDates.{year_of, tokens, with_first, without_day_name, date_of_parts_by, date_of};
 
 use crate::calendar::{day_number, month_of};
 use crate::number::number_in;
@@ -18,38 +18,42 @@ use crate::zone::offset_of;
 pub fn read_date(text: &str) -> Option<i64>
     ensures { result ≡ date_of text.now }
 {
-    let (first, rest) = next_token(without_comments(text.as_bytes()))?;
-    if are_letters(first) {
-        let (day, rest) = next_token(rest)?;
-        date_from(day, rest)
-    } else {
-        date_from(first, rest)
-    }
+    // A token that is missing is read as an empty one: an empty zone is UTC, and nothing else may be empty.
+    let (day, rest) = day_token(without_comments(text.as_bytes()));
+    let (month, rest) = next_token(rest);
+    let (year, rest) = next_token(rest);
+    let (time, rest) = next_token(rest);
+    let (zone, _) = next_token(rest);
+    date_of_parts(day, month, year, time, offset_of(zone))
 }
 
-/// The date whose day is this token, and whose other tokens stand in the rest.
-fn date_from(day: &[u8], rest: &[u8]) -> Option<i64>
-    ensures { result ≡ date_of_tokens_by day_number (day.now ∷ tokens rest.now) }
+/// The first token but for the name of a day of the week, right or not, and what stands behind it.
+fn day_token(text: &[u8]) -> (&[u8], &[u8])
+    ensures { without_day_name (tokens text.now) ≡ with_first result.0.now result.1.now }
 {
-    let (month, rest) = next_token(rest)?;
-    let (year, rest) = next_token(rest)?;
-    let (time, rest) = next_token(rest)?;
-    let offset = match next_token(rest) {
-        Some((zone, _)) => offset_of(zone),
-        None => 0,
-    };
-    date_of_parts(day, month, year, time, offset)
+    let (first, rest) = next_token(text);
+    if are_letters(first) {
+        next_token(rest)
+    } else {
+        (first, rest)
+    }
 }
 
 fn date_of_parts(day: &[u8], month: &[u8], year: &[u8], time: &[u8], offset: i32) -> Option<i64>
     ensures { result ≡ date_of_parts_by day_number day.now month.now year.now time.now offset }
 {
-    let day = number_in(1, 2, day)?;
-    let month = month_of(month)?;
-    let year = year_of(year)?;
-    let date = day_number(year as i16, month, day as u8)?;
-    let second = time_of(time)?;
-    Some(i64::from(date) * 86_400 + i64::from(second) - i64::from(offset))
+    match (
+        number_in(1, 2, day),
+        month_of(month),
+        year_of(year),
+        time_of(time),
+    ) {
+        (Some(day), Some(month), Some(year), Some(second)) => {
+            let date = day_number(year as i16, month, day as u8)?;
+            Some(i64::from(date) * 86_400 + i64::from(second) - i64::from(offset))
+        }
+        _ => None,
+    }
 }
 
 /// The year that a token says: two digits are a year from 1950 to 2049, and three count from 1900.

@@ -80,20 +80,27 @@ fn days_of(text: &[u8]) -> Option<Days>
 fn days_of_month(year: &[u8], month: &[u8]) -> Option<Days>
     ensures { result ≡ iso_month_by day_number year.now month.now }
 {
-    let year = number_in(4, 4, year)?;
-    let month = number_in(2, 2, month)?;
-    DaysOfYear::Month(month as u8).in_year(year as i16)
+    match (number_in(4, 4, year), number_in(2, 2, month)) {
+        (Some(year), Some(month)) => DaysOfYear::Month(month as u8).in_year(year as i16),
+        _ => None,
+    }
 }
 
 fn days_of_day(year: &[u8], month: &[u8], day: &[u8]) -> Option<Days>
     ensures { result ≡ iso_day_by day_number year.now month.now day.now }
 {
-    let year = number_in(4, 4, year)?;
-    let month = number_in(2, 2, month)?;
-    let day = number_in(2, 2, day)?;
-    let days = DaysOfYear::Day {
-        month: month as u8,
-        day: day as u8,
-    };
-    days.in_year(year as i16)
+    match (
+        number_in(4, 4, year),
+        number_in(2, 2, month),
+        number_in(2, 2, day),
+    ) {
+        (Some(year), Some(month), Some(day)) => {
+            let days = DaysOfYear::Day {
+                month: month as u8,
+                day: day as u8,
+            };
+            days.in_year(year as i16)
+        }
+        _ => None,
+    }
 }

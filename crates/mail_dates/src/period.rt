@@ -1,7 +1,7 @@
 //! Periods of days, as a range names them.
 
 ghost use Rattle.std.specs.Prelude.{◌≡◌, ◌≤◌, ◌≤ℤ◌, pos};
-ghost use Rattle.mail_dates.specs.Calendar.{day_number};
+ghost use Rattle.mail_dates.specs.Calendar.{day_number, month_of as month_of_name};
 ghost use Rattle.mail_dates.specs.Periods.{unit_of, days_in_unit, ago, has_long_count, full_date, whole_year, yearly_month, day_of, yearly_day, day_and_month, month_and_day, period_of, period_days_by};
 
 use crate::calendar::month_of;
@@ -106,12 +106,13 @@ fn has_long_count(text: &[u8]) -> bool
 fn ago(text: &[u8]) -> Option<Period>
     ensures { result ≡ ago text.now }
 {
-    let [digits @ .., letter] = text else {
-        return None
-    };
-    let unit = Unit::of(*letter)?;
-    let count = number_in(1, 4, digits)?;
-    Some(Period::Ago { count, unit })
+    if let [digits @ .., letter] = text
+        && let Some(unit) = Unit::of(*letter)
+        && let Some(count) = number_in(1, 4, digits)
+    {
+        return Some(Period::Ago { count, unit });
+    }
+    None
 }
 
 /// `YYYYMMDD`.
@@ -121,16 +122,20 @@ fn full_date(text: &[u8]) -> Option<Period>
     if text.len() != 8 {
         return None;
     }
-    let year = number_in(4, 4, &text[..4])?;
-    let month = number_in(2, 2, &text[4..6])?;
-    let day = number_in(2, 2, &text[6..])?;
-    Some(Period::InYear {
-        year: year as i16,
-        days: DaysOfYear::Day {
-            month: month as u8,
-            day: day as u8,
-        },
-    })
+    match (
+        number_in(4, 4, &text[..4]),
+        number_in(2, 2, &text[4..6]),
+        number_in(2, 2, &text[6..]),
+    ) {
+        (Some(year), Some(month), Some(day)) => Some(Period::InYear {
+            year: year as i16,
+            days: DaysOfYear::Day {
+                month: month as u8,
+                day: day as u8,
+            },
+        }),
+        _ => None,
+    }
 }
 
 /// `YYYY`.
@@ -157,7 +162,7 @@ fn day_and_month(text: &[u8]) -> Option<Period>
     ensures { result ≡ day_and_month text.now }
 {
     let (day, month) = text.split_at(text.len().saturating_sub(3));
-    yearly_day(month_of(month), day_of(day))
+    yearly_day(month, day)
 }
 
 /// A month's name and a day.
@@ -165,22 +170,24 @@ fn month_and_day(text: &[u8]) -> Option<Period>
     ensures { result ≡ month_and_day text.now }
 {
     let (month, day) = text.split_at(text.len().min(3));
-    yearly_day(month_of(month), day_of(day))
+    yearly_day(month, day)
 }
 
-fn yearly_day(month: Option<u8>, day: Option<u8>) -> Option<Period>
-    ensures { result ≡ yearly_day month day }
+fn yearly_day(month: &[u8], day: &[u8]) -> Option<Period>
+    ensures { result ≡ yearly_day (month_of_name month.now) (day_of day.now) }
 {
-    let month = month?;
-    let day = day?;
-    Some(Period::Yearly(DaysOfYear::Day { month, day }))
+    match (month_of(month), day_of(day)) {
+        (Some(month), Some(day)) => Some(Period::Yearly(DaysOfYear::Day { month, day })),
+        _ => None,
+    }
 }
 
 /// One or two digits from 1 to 31, without a 0 before others.
 fn day_of(text: &[u8]) -> Option<u8>
     ensures { result ≡ day_of text.now }
 {
-    let [first, ..] = text else { return None };
-    let day = number_in(1, 2, text)?;
-    (*first != b'0' && day <= 31).then_some(day as u8)
+    match (text, number_in(1, 2, text)) {
+        ([first, ..], Some(day)) if *first != b'0' && day <= 31 => Some(day as u8),
+        _ => None,
+    }
 }

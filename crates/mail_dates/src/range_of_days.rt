@@ -2,7 +2,7 @@
 
 ghost use Rattle.std.specs.Prelude.{◌≡◌, ◌≤ℤ◌, pos, Ok, Err};
 ghost use Rattle.mail_dates.specs.Calendar.{day_number, start_of_day, end_of_day};
-ghost use Rattle.mail_dates.specs.Ranges.{named_days_by, start_by, range_between_by, range_of_period_by, range_of_days, range_at};
+ghost use Rattle.mail_dates.specs.Ranges.{named_days_by, range_from_by, range_between_by, range_of_period_by, range_of_days, range_at};
 
 use crate::days::Days;
 use crate::fault::DateFault;
@@ -73,24 +73,24 @@ fn range_between(now: Moment, start: &[u8], end: &[u8]) -> Result<Range, DateFau
         return Err(DateFault::BadDate);
     }
     let today = now.day();
-    let (end_day, until) = if end.is_empty() {
-        (today, Some(now.second()))
-    } else {
-        let days = named_days(today, today, end)?;
-        (days.last, Some(end_of_day(days.last)))
-    };
-    let from = start_at(now, end_day, start)?;
-    Ok(Range { from, until })
+    if end.is_empty() {
+        return range_from(now, today, start, now.second());
+    }
+    let days = named_days(today, today, end)?;
+    range_from(now, days.last, start, end_of_day(days.last))
 }
 
-fn start_at(now: Moment, end: i32, text: &[u8]) -> Result<Option<i64>, DateFault>
-    ensures { result ≡ start_by day_number now end text.now }
+/// The range from a start to a second of the end's last day.
+fn range_from(now: Moment, end: i32, text: &[u8], until: i64) -> Result<Range, DateFault>
+    ensures { result ≡ range_from_by day_number now end text.now until }
 {
+    let until = Some(until);
     if text.is_empty() {
-        return Ok(None);
+        return Ok(Range { from: None, until });
     }
     let days = named_days(now.day(), end, text)?;
-    Ok(Some(start_of_day(days.first)))
+    let from = Some(start_of_day(days.first));
+    Ok(Range { from, until })
 }
 
 /// The days that a text names, where one without a year begins by this day.

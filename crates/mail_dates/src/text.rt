@@ -4,6 +4,7 @@ ghost use Rattle.std.specs.Prelude.{◌≡◌, ◌==◌, [], ◌∷◌, position
 ghost use Rattle.std.specs.List.{slice_split};
 
 /// What stands before the first such byte, and behind it.
+#[tactic(auto, using(crate::proofs::Cuts::split_some, crate::proofs::Cuts::split_none, std::proofs::lemmas::List::take_rest))]
 pub fn cut(text: &[u8], byte: u8) -> Option<(&[u8], &[u8])>
     ensures { MatchOption result (slice_split (λ b. b == byte) text.now ≡ text.now ∷ [])
         (λ parts. slice_split (λ b. b == byte) text.now

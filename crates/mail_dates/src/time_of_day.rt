@@ -24,12 +24,10 @@ pub fn time_of(token: &[u8]) -> Option<u32>
 fn time_by(hour: &[u8], minute: &[u8], second: Option<u16>) -> Option<u32>
     ensures { result ≡ time_by hour.now minute.now second }
 {
-    let hour = number_in(1, 2, hour)?;
-    let minute = number_in(2, 2, minute)?;
-    let second = second?;
-    if hour <= 23 && minute <= 59 && second <= 60 {
-        Some(u32::from(hour) * 3600 + u32::from(minute) * 60 + u32::from(second))
-    } else {
-        None
+    match (number_in(1, 2, hour), number_in(2, 2, minute), second) {
+        (Some(hour), Some(minute), Some(second)) if hour <= 23 && minute <= 59 && second <= 60 => {
+            Some(u32::from(hour) * 3600 + u32::from(minute) * 60 + u32::from(second))
+        }
+        _ => None,
     }
 }

@@ -3,7 +3,7 @@
 ghost use Rattle.std.specs.Prelude.{◌≡◌, ◌<◌, [], ◌∷◌, length, position, MatchOption, IfSome};
 ghost use Rattle.std.specs.List.{list_all, slice_split};
 ghost use Rattle.std.specs.Char.{is_ascii_alphabetic};
-ghost use Rattle.mail_dates.specs.HeaderDates.{is_gap, tokens, without_comments};
+ghost use Rattle.mail_dates.specs.HeaderDates.{is_gap, tokens, with_first, without_comments};
 
 use crate::text::place_of;
 
@@ -17,23 +17,19 @@ pub fn without_comments(text: &[u8]) -> &[u8]
     }
 }
 
-/// The first token, and what stands behind it.
-pub fn next_token(text: &[u8]) -> Option<(&[u8], &[u8])>
-    ensures { MatchOption result (tokens text.now ≡ [])
-        (λ parts. tokens text.now ≡ parts.0.now ∷ tokens parts.1.now) }
+/// The first token, and what stands behind it. Where there is no token, both are empty.
+pub fn next_token(text: &[u8]) -> (&[u8], &[u8])
+    ensures tokens { tokens text.now ≡ with_first result.0.now result.1.now }
+    ensures none { result.0.now ≡ [] → result.1.now ≡ [] }
 {
     let mut rest = text;
     while let Some((front, back)) = cut_at_gap(rest) {
         if !front.is_empty() {
-            return Some((front, back));
+            return (front, back);
         }
         rest = back;
     }
-    if rest.is_empty() {
-        None
-    } else {
-        Some((rest, b""))
-    }
+    (rest, b"")
 }
 
 /// Whether it is ASCII letters alone.
@@ -43,6 +39,7 @@ pub fn are_letters(token: &[u8]) -> bool
     token.iter().all(u8::is_ascii_alphabetic)
 }
 
+#[tactic(auto, using(crate::proofs::Cuts::split_some, crate::proofs::Cuts::split_none, std::proofs::lemmas::List::take_rest))]
 fn cut_at_gap(text: &[u8]) -> Option<(&[u8], &[u8])>
     ensures shorter { IfSome result (λ parts. length parts.1.now < length text.now) }
     ensures parts { MatchOption result (slice_split is_gap text.now ≡ text.now ∷ [])

@@ -32,10 +32,9 @@ fn numeric_offset(zone: &[u8]) -> Option<i32>
     ensures { result ≡ numeric_offset zone.now }
 {
     let (sign, digits) = zone.split_first()?;
-    let size = offset_size(digits)?;
-    match sign {
-        b'+' => Some(size as i32),
-        b'-' => Some(-(size as i32)),
+    match (sign, offset_size(digits)) {
+        (b'+', Some(size)) => Some(size as i32),
+        (b'-', Some(size)) => Some(-(size as i32)),
         _ => None,
     }
 }
@@ -44,11 +43,11 @@ fn offset_size(digits: &[u8]) -> Option<u32>
     ensures value { result ≡ offset_size digits.now }
     ensures bound { IfSome result (λ size. size < 86400) }
 {
-    let digits = number_in(4, 4, digits)?;
-    if digits / 100 <= 23 && digits % 100 <= 59 {
-        Some(u32::from(digits / 100) * 3600 + u32::from(digits % 100) * 60)
-    } else {
-        None
+    match number_in(4, 4, digits) {
+        Some(digits) if digits / 100 <= 23 && digits % 100 <= 59 => {
+            Some(u32::from(digits / 100) * 3600 + u32::from(digits % 100) * 60)
+        }
+        _ => None,
     }
 }
 

@@ -12,8 +12,8 @@ module _ {S : Type 0} (takes : S → TextKind → List ℕ → S → Type 0) (re
       → ((ls : List Line) → KnowsFacts m.reader ls → KnowsFacts n.reader (ls ++ l ∷ [])) → Feeds takes refuses m n l s t
   feeds m n l s t q h k = grind (arith, append_assoc)
 
-  pub feeds-part : (m : MessageText) (l : Line) (fault : TextFault) (s t : S) → Stopped takes refuses (Comes m.reader) (λ c ms. c (l ∷ ms)) fault s t → FeedsPart takes refuses m l fault s t
-  feeds-part m l fault s t h =
+  pub feeds_part : (m : MessageText) (l : Line) (fault : TextFault) (s t : S) → Stopped takes refuses (Comes m.reader) (λ c ms. c (l ∷ ms)) fault s t → FeedsPart takes refuses m l fault s t
+  feeds_part m l fault s t h =
       record {
         pairs = h.pairs;
         broken = h.broken;

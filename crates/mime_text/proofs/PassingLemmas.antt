@@ -1,6 +1,7 @@
 -- What comes of a reader's calls.
-use Rattle.mime_text.proofs.Words.{◌≡◌, ◌∙◌, ◌++◌, ℕ, Bool, true, false, List, [], ◌∷◌, Option, Some, None, refl, sym, ap, subst, append_assoc, arith, if◌then◌else◌, Result, Ok, Err, is_empty, HeaderField, fields_of, HasLines, taken_of, has_empty, More, Ended, TextKind, SinkFault, TextFault, OutOfMemory, DefaultType, TextPlain, Frame, State, PartReader, Pair, Coming, Gave, Broke, Hands, shape_of, facts_of, pairs_to_come, StreamPlace, Skip, InHeader, InLeaf, hit, Nest, lead_to, texts_of_message, Passed, Stopped, Passes, IsOver, given_from, header_texts, ending, given_behind, given_after, ComesAt, Comes, ComesBehindHeader, ComesEndingAt, ComesEnding, KnowsAt, KnowsFacts, Notes}
+use Rattle.mime_text.proofs.Words.{◌≡◌, ◌∙◌, ◌++◌, ℕ, Bool, true, false, List, [], ◌∷◌, Option, Some, None, refl, sym, ap, subst, append_assoc, arith, if◌then◌else◌, Result, Ok, Err, OnOk, IfErr, is_empty, HeaderField, fields_of, HasLines, taken_of, has_empty, More, Ended, TextKind, SinkFault, TextFault, OutOfMemory, DefaultType, TextPlain, Frame, State, PartReader, Pair, Coming, Gave, Broke, Hands, shape_of, facts_of, pairs_to_come, StreamPlace, Skip, InHeader, InLeaf, hit, Nest, lead_to, texts_of_message, Passed, Stopped, Passes, IsOver, given_from, header_texts, ending, given_behind, given_after, ComesAt, Comes, ComesBehindHeader, ComesEndingAt, ComesEnding, KnowsAt, KnowsFacts, Notes}
 use Rattle.std.proofs.lemmas.List.{append-nil}
+use Rattle.std.specs.Result.{result_or}
 use Rattle.header_text.specs.declared.header.Header.{Header}
 use Rattle.mime_text.specs.declared.header.facts.Facts.{Facts}
 use Rattle.mime_text.specs.declared.parts.part_reader.State.TheVariants as state
@@ -131,13 +132,6 @@ module _ {S : Type 0} (takes : S → TextKind → List ℕ → S → Type 0) (re
 
   -- ---- behind a header
 
-  pub header-passed : (r : PartReader) (counted : Bool) (d : DefaultType) (fields : List HeaderField) (after : Coming → Type 0) (s t : S)
-      → ((ls : List Line) → HasLines r.header ls → fields ≡ fields_of ls) → Gave takes refuses (λ _. header_texts counted fields) (λ _. []) s t
-      → ((ls : List Line) → HasLines r.header ls → after (given_behind (shape_of d (fields_of ls)) r.nesting (fields_of ls)))
-      → Passed takes refuses (ComesBehindHeader r counted d) after (λ c. c) s t
-  header-passed r counted d fields after s t f h a =
-      passed-front (ComesBehindHeader r counted d) after (λ _. header_texts counted fields) s t (λ c k. behind_lines r d k.0) (λ c k. a k.0 k.1) (header-is_first r counted d fields f) h
-
   pub header-stopped : (r : PartReader) (counted : Bool) (d : DefaultType) (fields : List HeaderField) (fault : TextFault) (s t : S)
       → ((ls : List Line) → HasLines r.header ls → fields ≡ fields_of ls) → Broke takes refuses (λ _. header_texts counted fields) fault s t
       → Stopped takes refuses (ComesBehindHeader r counted d) (λ c. c) fault s t
@@ -147,6 +141,15 @@ module _ {S : Type 0} (takes : S → TextKind → List ℕ → S → Type 0) (re
   -- all was given, and then memory is wanting
   pub broke-memory_behind : (A : Coming) (s t : S) → Gave takes refuses A (λ _. []) s t → Broke takes refuses A OutOfMemory s t
   broke-memory_behind A s t h = record { pairs = h.pairs; broken = h.taken; front = λ ms. ([], h.rest ms) }
+
+  -- the header's texts were given, and then the body begins or memory is wanting
+  pub header-passes : {T E : Type 0} (r : PartReader) (counted : Bool) (d : DefaultType) (fields : List HeaderField) (after : Coming → Type 0) (begun : Result T E) (s t : S)
+      → ((ls : List Line) → HasLines r.header ls → fields ≡ fields_of ls) → Gave takes refuses (λ _. header_texts counted fields) (λ _. []) s t
+      → OnOk begun ((ls : List Line) → HasLines r.header ls → after (given_behind (shape_of d (fields_of ls)) r.nesting (fields_of ls)))
+      → Passes takes refuses (ComesBehindHeader r counted d) after (λ c. c) (result_or begun (Err OutOfMemory)) s t
+  header-passes r counted d fields after (Ok x) s t f h a =
+      passed-front (ComesBehindHeader r counted d) after (λ _. header_texts counted fields) s t (λ c k. behind_lines r d k.0) (λ c k. a k.0 k.1) (header-is_first r counted d fields f) h
+  header-passes r counted d fields after (Err fault) s t f h a = header-stopped r counted d fields OutOfMemory s t f (broke-memory_behind _ s t h)
 
   -- ---- a line in a leaf, and in a header
 
@@ -216,20 +219,18 @@ module _ {S : Type 0} (takes : S → TextKind → List ℕ → S → Type 0) (re
 
   -- ---- an entity's end, and the message's
 
-  pub leave-passed : (r n : PartReader) (lead : Lead) (fields : List HeaderField) (s t : S) → ((ls : List Line) → HasLines r.header ls → fields ≡ fields_of ls)
-      → Gave takes refuses (λ _. ending r.state fields r.leaf) (λ _. []) s t → Comes n (given_after lead r.nesting) → Passed takes refuses (ComesEnding r lead) (Comes n) (λ c. c) s t
-  leave-passed r n lead fields s t f h a =
+  pub leave-passes : {T : Type 0} (r n : PartReader) (lead : Lead) (fields : List HeaderField) (result : Result T TextFault) (s t : S) → ((ls : List Line) → HasLines r.header ls → fields ≡ fields_of ls)
+      → Hands takes refuses (λ _. ending r.state fields r.leaf) (λ _. []) result s t → Comes n (given_after lead r.nesting) → Passes takes refuses (ComesEnding r lead) (Comes n) (λ c. c) result s t
+  leave-passes r n lead fields (Ok x) s t f h a =
       passed-front (ComesEnding r lead) (Comes n) (λ _. ending r.state fields r.leaf) s t (λ c k. given_after lead r.nesting) (λ c k. a) (λ c. ending-is r lead fields c f) h
-
-  pub leave-stopped : (r : PartReader) (lead : Lead) (fields : List HeaderField) (fault : TextFault) (s t : S) → ((ls : List Line) → HasLines r.header ls → fields ≡ fields_of ls)
-      → Broke takes refuses (λ _. ending r.state fields r.leaf) fault s t → Stopped takes refuses (ComesEnding r lead) (λ c. c) fault s t
-  leave-stopped r lead fields fault s t f h =
+  leave-passes r n lead fields (Err fault) s t f h a =
       stopped-front (ComesEnding r lead) (λ _. ending r.state fields r.leaf) fault s t (λ c k. given_after lead r.nesting) (λ c. ending-is r lead fields c f) h
-
-  pub end-passed : (r : PartReader) (fields : List HeaderField) (s t : S) → ((ls : List Line) → HasLines r.header ls → fields ≡ fields_of ls)
-      → Gave takes refuses (λ _. ending r.state fields r.leaf) (λ _. []) s t → Passed takes refuses (Comes r) IsOver (λ c _. c []) s t
-  end-passed r fields s t f h = record { pairs = h.pairs; taken = h.taken; rest = λ c k. (λ _. [], λ ms. refl, λ ms. whole-ending r fields c f k ∙ h.rest ms) }
 
   pub end-stopped : (r : PartReader) (fields : List HeaderField) (fault : TextFault) (s t : S) → ((ls : List Line) → HasLines r.header ls → fields ≡ fields_of ls)
       → Broke takes refuses (λ _. ending r.state fields r.leaf) fault s t → Stopped takes refuses (Comes r) (λ c _. c []) fault s t
   end-stopped r fields fault s t f h = record { pairs = h.pairs; broken = h.broken; front = λ c k ms. ((h.front ms).0, whole-ending r fields c f k ∙ (h.front ms).1) }
+
+  pub end-passes : {T : Type 0} (r : PartReader) (fields : List HeaderField) (result : Result T TextFault) (s t : S) → ((ls : List Line) → HasLines r.header ls → fields ≡ fields_of ls)
+      → Gave takes refuses (λ _. ending r.state fields r.leaf) (λ _. []) s t → IfErr result (λ fault. fault ≡ OutOfMemory) → Passes takes refuses (Comes r) IsOver (λ c _. c []) result s t
+  end-passes r fields (Ok x) s t f h e = record { pairs = h.pairs; taken = h.taken; rest = λ c k. (λ _. [], λ ms. refl, λ ms. whole-ending r fields c f k ∙ h.rest ms) }
+  end-passes r fields (Err fault) s t f h e = end-stopped r fields fault s t f (rw e (broke-memory_behind _ s t h))

@@ -38,6 +38,7 @@ impl MessageText {
 
     /// Reads the next line of the message's text, with its LF where it has one: 1 to 65,537 bytes, LF at most the last. After a
     /// fault, and after `finish`, every call but `begin_again` answers Failed.
+    #[tactic(auto, using(crate::proofs::FedLemmas::feeds, crate::proofs::FedLemmas::feeds_part))]
     pub fn line<S: TextSink>(&mut self, line: &[u8], sink: &mut S) -> Result<(), TextFault>
         requires some { 0 < length line.now }
         requires short { length line.now ≤ most_in_line }

@@ -45,14 +45,15 @@ fn has_range() -> Option<bool> {
     let day = range_of("18may", now).ok()?;
     let has_until = day.has(Some(1_053_302_399));
     let has_other = day.has(Some(1_053_302_400)) || day.has(None);
-    let is_refused = range_of("12345d", now) == Err(DateFault::BadNumber);
+    let is_refused = matches!(range_of("12345d", now), Err(DateFault::BadNumber));
     Some(now.second() == NOW && day == DAY_IN_MAY && has_until && !has_other && is_refused)
 }
 
 #[test]
 fn answers_ranges(rt: HostRuntime) {
     assert!(rt; has_range().unwrap_or(false) && Moment::new(-1).is_none());
-    assert!(rt; iso_range("2003-02") == Ok(FEBRUARY) && iso_range("..") == Err(DateFault::BadDate));
+    let is_refused = matches!(iso_range(".."), Err(DateFault::BadDate));
+    assert!(rt; iso_range("2003-02").ok() == Some(FEBRUARY) && is_refused);
 }
 
 #[test]

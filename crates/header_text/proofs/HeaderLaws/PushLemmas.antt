@@ -181,9 +181,9 @@ taken-more ls goes_on = grind (arith, stage_of-ended ls)
 
 -- ---- one line more
 
-pub holds-new : (fs : List HeaderField) → fs ≡ [] → Holds fs 0 false Open []
+pub holds_new : (fs : List HeaderField) → fs ≡ [] → Holds fs 0 false Open []
 unfolding fields_of stage_of
-holds-new fs e = record { fields_are = e; size_is = refl; in_field_is = refl; stage_is = refl }
+holds_new fs e = record { fields_are = e; size_is = refl; in_field_is = refl; stage_is = refl }
 
 module _ (fs : List HeaderField) (size : ℕ) (in_field : Bool) (stage : Stage) (ls : List (List ℕ)) (l : List ℕ) (h : Holds fs size in_field stage ls) where
   stepped : Steps ls l stage size

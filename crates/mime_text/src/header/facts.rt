@@ -1,10 +1,11 @@
 //! What a message's own header says beside its texts.
-ghost use Rattle.std.specs.Prelude.{◌≡◌, ◌==◌, ◌<◌, ◌≤◌, ℕ, List, length, map, All, IfOk, IfSome, OnOk, option_map};
+ghost use Rattle.std.specs.Prelude.{◌≡◌, ◌==◌, ◌<◌, ◌≤◌, ℕ, List, length, map, All, IfOk, IfErr, IfSome, OnOk, option_map};
 ghost use Rattle.std.specs.List.{list_any};
 ghost use Rattle.header_text.specs.Headers.{fields_size, most_in_header};
 ghost use Rattle.mime_text.specs.MessageFacts.{date_text_of, flags_of, own_id_of, ids_of_fields, first_of, is_status as is_status_of, is_linking as is_linking_of, IsSizedId, HasSizedIds};
 ghost use Rattle.header_text.specs.Ids.{ids_of};
 
+use crate::fault::TextFault;
 use crate::header::field_text::FieldReader;
 use crate::header::owned::{DateText, MessageId, MessageIds};
 use header_text::{Fields, Header, is_named, message_ids};
@@ -36,10 +37,11 @@ impl Facts {
         alloc: Global,
         header: &Header,
         reader: &mut FieldReader,
-    ) -> Result<Facts, AllocError>
+    ) -> Result<Facts, TextFault>
         ensures facts { IfOk result (λ facts. (ls : List (List ℕ)) → HasLines header.now ls
             → facts ≡ facts_of (fields_of ls)) }
         ensures sizes { IfOk result HasSizedIds }
+        ensures fault { IfErr result (λ fault. fault ≡ TextFault.OutOfMemory) }
     {
         Ok(Facts {
             flags: flags(header.fields()),
@@ -91,9 +93,10 @@ impl KeptFacts {
         alloc: Global,
         header: &Header,
         reader: &mut FieldReader,
-    ) -> Result<Facts, AllocError>
+    ) -> Result<Facts, TextFault>
         ensures facts { IfOk result (λ facts. Notes self.old (Some facts) header.now) }
         ensures sizes { IfOk result HasSizedIds }
+        ensures fault { IfErr result (λ fault. fault ≡ TextFault.OutOfMemory) }
     {
         match self.facts.take() {
             Some(facts) => Ok(facts),
@@ -107,8 +110,9 @@ impl KeptFacts {
         alloc: Global,
         header: &Header,
         reader: &mut FieldReader,
-    ) -> Result<(), AllocError>
-        ensures { OnOk result (Notes self.old self.new header.now) }
+    ) -> Result<(), TextFault>
+        ensures notes { OnOk result (Notes self.old self.new header.now) }
+        ensures fault { IfErr result (λ fault. fault ≡ TextFault.OutOfMemory) }
     {
         if self.facts.is_none() {
             let facts = Facts::of(alloc, header, reader)?;
@@ -179,10 +183,11 @@ fn own_id(alloc: Global, fields: Fields<'_>) -> Result<Option<MessageId>, AllocE
     ensures size { IfOk result (λ id. IfSome id IsSizedId) }
 {
     for field in fields {
-        if field.is(b"message-id")
-            && let Some(id) = first_id(alloc, field.body)?
-        {
-            return Ok(Some(id));
+        if field.is(b"message-id") {
+            match first_id(alloc, field.body) {
+                Ok(None) => {}
+                found => return found,
+            }
         }
     }
     Ok(None)

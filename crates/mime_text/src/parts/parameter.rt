@@ -63,27 +63,18 @@ fn read_quoted<'a>(text: &'a [u8], into: &mut Vec<u8>) -> Result<&'a [u8], Alloc
     Ok(rest)
 }
 
-/// Adds the value that begins a text and isn't in quotes, and answers what follows it.
-fn read_token<'a>(text: &'a [u8], into: &mut Vec<u8>) -> Result<&'a [u8], AllocError>
-    ensures value { IfOk result (λ rest. into.new.items
-        ≡ into.old.items ++ (split_while is_token_byte_of text.now).0) }
-    ensures rest { IfOk result (λ rest. rest.now ≡ (split_while is_token_byte_of text.now).1) }
-{
-    let rest = after_token(text);
-    into.extend_from_slice(&text[..text.len() - rest.len()])?;
-    Ok(rest)
-}
-
 /// Adds the value that begins a text, and answers what follows it.
 fn read_value<'a>(text: &'a [u8], into: &mut Vec<u8>) -> Result<&'a [u8], AllocError>
     ensures value { IfOk result (λ rest. into.new.items
         ≡ into.old.items ++ (value_and_rest text.now).0) }
     ensures rest { IfOk result (λ rest. rest.now ≡ (value_and_rest text.now).1) }
 {
-    match text.strip_prefix(b"\"") {
-        Some(quoted) => read_quoted(quoted, into),
-        None => read_token(text, into),
+    if let Some(quoted) = text.strip_prefix(b"\"") {
+        return read_quoted(quoted, into);
     }
+    let rest = after_token(text);
+    let token = &text[..text.len() - rest.len()];
+    into.extend_from_slice(token).and(Ok(rest))
 }
 
 /// What stands between a semicolon and the next.

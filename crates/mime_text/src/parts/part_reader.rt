@@ -113,15 +113,16 @@ impl PartReader {
             (λ c. c) result sink.old sink.new }
         ensures facts { self.new.facts ≡ self.old.facts }
     {
-        end_entity(
+        let outcome = end_entity(
             self.state,
             self.header.fields(),
             &mut self.leaf,
             &mut self.fields,
             sink,
-        )?;
+        );
+        // After a fault no more is read, wherever the reader stands.
         self.follow(lead);
-        Ok(())
+        outcome
     }
 
     /// Goes on where a delimiter leads.
@@ -174,7 +175,7 @@ impl PartReader {
     {
         give_header(counted, self.header.fields(), &mut self.fields, sink)?;
         self.facts.note(self.alloc, &self.header, &mut self.fields)?;
-        Ok(self.begin_body(default)?)
+        self.begin_body(default).or(Err(TextFault::OutOfMemory))
     }
 
     /// Begins the body of the entity whose header has ended.
@@ -219,7 +220,7 @@ impl PartReader {
             &mut self.fields,
             sink,
         )?;
-        Ok(self.facts.take(self.alloc, &self.header, &mut self.fields)?)
+        self.facts.take(self.alloc, &self.header, &mut self.fields)
     }
 
     /// Before the first line of another message. Nothing of the message before it counts, and the memory is kept.

@@ -9,10 +9,12 @@ read day month year time offset d m y s date e f g h k = rw (← e, ← f, ← g
 fits : (date offset first second third : ℤ) (s : ℕ) → IsEpochDay date → s < 2 ^ 32 → FitsSigned w32 offset → first ≡ to_z w32 (of_z w32 date) → second ≡ pos s → third ≡ to_z w32 (of_z w32 offset) → to_z w64 (of_z w64 (to_z w64 (of_z w64 (to_z w64 (of_z w64 (to_z w64 (of_z w64 first) *ℤ pos 86400)) +ℤ to_z w64 (of_z w64 second))) -ℤ to_z w64 (of_z w64 third))) ≡ (start_of_day date +ℤ pos s) -ℤ offset
 fits date offset first second third s h small f a b d = omega (arith, ints)
 
-pub returns : goal.returns
-returns c =
-    let year : to_z w16 c.in_ok-year.year ≡ pos c.in_ok-year.year = let small = c.in_ok-year.ensures.bound in omega (arith, ints) in
-    let date : Some c.in_ok-date.date ≡ day_number (pos c.in_ok-year.year) c.in_ok-month.month c.in_ok-day.day = rw year at c.in_ok-date.ensures.value in
-    let same = fits c.in_ok-date.date c.args.offset c.from.result c.from-2.result c.from-3.result c.in_ok-second.second c.in_ok-date.ensures.bound (search rules) c.ranges.offset c.from.ensures c.from-2.ensures c.from-3.ensures in
+pub returns-in_ok-date-in-Some-Some-Some-Some : goal.returns-in_ok-date-in-Some-Some-Some-Some
+returns-in_ok-date-in-Some-Some-Some-Some c =
+    let parts = c.in-Some-Some-Some-Some in
+    let found = c.in_ok-date-in-Some-Some-Some-Some in
+    let year : to_z w16 parts.year ≡ pos parts.year = let small = parts.ensures''.bound in omega (arith, ints) in
+    let date : Some found.date ≡ day_number (pos parts.year) parts.month parts.day = rw year at found.ensures.value in
+    let same = fits found.date c.args.offset c.from.result c.from-in-Some-Some-Some-Some.result c.from-in-Some-Some-Some-Some-2.result parts.second found.ensures.bound (search rules) c.ranges.offset c.from.ensures c.from-in-Some-Some-Some-Some.ensures c.from-in-Some-Some-Some-Some-2.ensures in
     ap Some same
-    ∙ sym (read c.args.day.now c.args.month.now c.args.year.now c.args.time.now c.args.offset c.in_ok-day.day c.in_ok-month.month c.in_ok-year.year c.in_ok-second.second c.in_ok-date.date c.in_ok-day.ensures.value c.in_ok-month.ensures.value c.in_ok-year.ensures.value date c.in_ok-second.ensures)
+    ∙ sym (read c.args.day.now c.args.month.now c.args.year.now c.args.time.now c.args.offset parts.day parts.month parts.year parts.second found.date parts.ensures.value parts.ensures'.value parts.ensures''.value date parts.ensures''')

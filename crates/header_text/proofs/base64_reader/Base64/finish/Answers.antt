@@ -7,8 +7,8 @@ use Rattle.header_text.proofs.base64_reader.Base64.finish.Goals as goal
 pub returns-then-held-lt2 : goal.returns-then-held-lt2
 returns-then-held-lt2 c = rw (to_come-end (symbols_of c.args.self.held) (held-symbols c.args.self.held.symbols c.args.self.held.count c.args.self.held.all) c.args.self.ended) (grind (arith, append-nil, length-take, short-bytes))
 
-pub decode_groups-requires-clause-symbols : goal.decode_groups-requires-clause-symbols
-decode_groups-requires-clause-symbols c =
+pub decode_groups-outcome-requires-clause-symbols : goal.decode_groups-outcome-requires-clause-symbols
+decode_groups-outcome-requires-clause-symbols c =
     let held : List ℕ = symbols_of c.args.self.held in
     let size : length held ≡ c.args.self.held.count = omega (arith, length-take c.args.self.held.count c.args.self.held.symbols) in
     let are : AreSymbols held = held-symbols c.args.self.held.symbols c.args.self.held.count c.args.self.held.all in

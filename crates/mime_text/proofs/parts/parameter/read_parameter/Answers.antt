@@ -1,4 +1,4 @@
-use Rattle.mime_text.proofs.Words.{false, true, option_map_or, ◌≡◌, ◌∙◌, List, ℕ, Option, Some, sym, ap, unwrap_or, option_map, first_named, parameters_behind, parameter, [], rules}
+use Rattle.mime_text.proofs.Words.{false, option_map_or, ◌≡◌, ◌∙◌, List, ℕ, Option, Some, sym, ap, unwrap_or, option_map, first_named, parameters_behind, parameter, [], rules}
 use Rattle.header_text.specs.Names.{is_named}
 use Rattle.mime_text.proofs.ParameterLemmas.{piece-other, piece-found, later-measure, parameter-size}
 use Rattle.mime_text.proofs.parts.parameter.read_parameter.Goals as goal

@@ -1,5 +1,5 @@
 use Rattle.header_text.proofs.Words.{◌≡◌, ℕ, ◌<◌, true, slice_index, is_symbol}
-use Rattle.header_text.proofs.base64_groups.symbols_in_front.Given as goal
+use Rattle.header_text.proofs.base64_groups.whole_groups.Given as goal
 
 -- all before are symbols
 abbrev pub invariant-loop-i : goal.invariant-loop-i

@@ -1,8 +1,0 @@
-use Rattle.mime_text.proofs.Words.{arith, length-split_while, take-split_while, is_token_byte}
-use Rattle.mime_text.proofs.parts.parameter.read_token.Goals as goal
-
-pub slice_bounds-extend_from_slice-count : goal.slice_bounds-extend_from_slice-count
-slice_bounds-extend_from_slice-count c = rw c.after_token-rest.ensures (length-split_while is_token_byte c.args.text.now)
-
-pub returns-clause-value : goal.returns-clause-value
-returns-clause-value c = grind (arith, take-split_while)
