@@ -9,7 +9,7 @@ use thiserror::Error;
 #[derive(Clone, Copy, Debug, PartialEq, Eq, Error)]
 pub enum JobFault {
     /// The archive couldn't be read, or is refused.
-    #[error("{0}")]
+    #[error(transparent)]
     Cut(CutFault),
     /// There was no memory left.
     #[error("out of memory")]
