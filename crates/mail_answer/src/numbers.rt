@@ -54,7 +54,8 @@ impl<'a> Numbers<'a> {
     {
         let mut steps = Steps::new();
         if !threads {
-            let source = Source::Walked(Cursor::new(alloc, index, query, &mut steps)?);
+            let cursor = Cursor::new(alloc, index, query, &mut steps)?;
+            let source = Source::Walked(cursor);
             return Ok(Numbers { source, steps });
         }
         let satisfying = matches(alloc, index, query)?;

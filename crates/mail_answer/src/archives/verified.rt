@@ -109,13 +109,13 @@ fn check_digests<A: Archives>(
     ensures own { has_fault is_of_output result ≡ false }
 {
     let mut named = index.archives();
-    for n in 0..index.archive_count() {
-        let Some(archive) = named.next() else {
-            unreachable!();
-        };
-        if archive.digest != read_digest(archives, n, archive.length, buffer)? {
+    let mut n = 0;
+    while let Some(archive) = named.next() {
+        let digest = read_digest(archives, n, archive.length, buffer)?;
+        if archive.digest != digest {
             return Err(AnswerFaultKind::Stale(n));
         }
+        n += 1;
     }
     Ok(())
 }

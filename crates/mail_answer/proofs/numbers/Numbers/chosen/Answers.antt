@@ -5,7 +5,7 @@ use Rattle.mail_answer.proofs.ThreadLaws.NumberLists.{numbers_chosen}
 use Rattle.mail_answer.proofs.numbers.Numbers.chosen.Goals as goal
 
 pub returns-then-not-threads-clause-numbers : goal.returns-then-not-threads-clause-numbers
-returns-then-not-threads-clause-numbers c = rw c.in_ok-new.ensures.numbers (numbers_chosen c.args.index.now (meaning c.args.query.now))
+returns-then-not-threads-clause-numbers c = rw c.in_ok-cursor.ensures.numbers (numbers_chosen c.args.index.now (meaning c.args.query.now))
 
 pub with_threads-requires-clause-rises : goal.with_threads-requires-clause-rises
 with_threads-requires-clause-rises c = grind (arith, numbers_chosen)
