@@ -33,7 +33,7 @@ impl From<AllocError> for AnswerFaultKind {
 }
 
 /// Why an answer isn't whole, and how much of it went out.
-#[derive(Clone, Copy, Debug, PartialEq, Eq, Error)]
+#[derive(Clone, Copy, Debug, Error)]
 #[error("{kind} after {sent} bytes")]
 pub struct AnswerFault {
     pub kind: AnswerFaultKind,

@@ -183,15 +183,13 @@ pub fn told_of(
 
 /// Whether an answer of so many messages is whole.
 pub fn is_whole((told, sent): &Told, messages: u64, whole: &[u8]) -> bool {
-    *told == Ok(messages) && sent.bytes() == whole
+    matches!(told, Ok(count) if *count == messages) && sent.bytes() == whole
 }
 
 /// Whether an answer failed so, with a front of the text sent and counted.
 pub fn is_front((told, out): &Told, kind: AnswerFaultKind, whole: &[u8]) -> bool {
     let sent = out.bytes();
-    let fault = AnswerFault {
-        kind,
-        sent: sent.len() as u64,
-    };
-    *told == Err(fault) && whole.starts_with(sent)
+    let length = sent.len() as u64;
+    matches!(told, Err(fault) if fault.kind == kind && fault.sent == length)
+        && whole.starts_with(sent)
 }

@@ -6,7 +6,7 @@ ghost use Rattle.mail_index.specs.Tables.{IsPath};
 use crate::early_end::EarlyEnd;
 use crate::verified::Change::{Bit, Longer};
 use mail_answer::AnswerFaultKind::{Device, OutFailed, OutOfMemory, Stale};
-use mail_answer::{AnswerFault, AnswerFaultKind, Archives, FailAt, MemoryArchives, verify};
+use mail_answer::{AnswerFaultKind, Archives, FailAt, MemoryArchives, verify};
 use mail_index::{BuildFault, Builder, IndexView, is_path};
 use mbox_cutter::MemoryOut;
 use std::alloc::Global;
@@ -117,9 +117,12 @@ fn held(alloc: Global, count: usize, changes: &[(usize, Change)]) -> Option<Memo
 /// An end that no archive gets to.
 const NO_END: u64 = u64::MAX;
 
+/// What an answer tells: the kind of its fault, and how many bytes were sent.
+type Told = Result<(), (AnswerFaultKind, u64)>;
+
 /// The answer that tells a fault. Nothing is sent by [`verify`].
-fn failed(kind: AnswerFaultKind) -> Result<(), AnswerFault> {
-    Err(AnswerFault { kind, sent: 0 })
+fn failed(kind: AnswerFaultKind) -> Told {
+    Err((kind, 0))
 }
 
 /// What is told of so many archives with these changes, by the index of those that were indexed. This call fails, and none where it is
@@ -130,19 +133,22 @@ fn told(
     changes: &[(usize, Change)],
     fail_at: u64,
     end: u64,
-) -> Option<Result<(), AnswerFault>> {
+) -> Option<Told> {
     let file = index_file(alloc)?;
     let inner = held(alloc, count, changes)?;
     let first = 0;
     let mut archives = FailAt::new(EarlyEnd { inner, first, end }, fail_at);
     match IndexView::open(file.bytes()) {
-        Ok(index) if index.version() == 2 => { Some(verify(alloc, &index, &mut archives)) }
+        Ok(index) if index.version() == 2 => {
+            let answer = verify(alloc, &index, &mut archives);
+            Some(answer.map_err(|fault| (fault.kind, fault.sent)))
+        }
         _ => Some(failed(OutFailed)),
     }
 }
 
 /// The answer that tells a failed call, or this archive, or none.
-fn told_of(is_failing: bool, stale: Option<u32>) -> Result<(), AnswerFault> {
+fn told_of(is_failing: bool, stale: Option<u32>) -> Told {
     match stale {
         _ if is_failing => failed(Device),
         Some(n) => failed(Stale(n)),
