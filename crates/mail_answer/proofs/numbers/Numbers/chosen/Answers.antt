@@ -17,4 +17,5 @@ with_threads-requires-clause-within c =
 pub returns-clause-numbers : goal.returns-clause-numbers
 returns-clause-numbers c =
     let are = c.in_ok-numbers.ensures in
-    record { rises = are.rises; below = threads_below c.args.index.now c.as_slice.result.now c.in_ok-numbers.numbers.items are }
+    let left = c.into_iter.ensures.rest in
+    record { rises = rw left are.rises; below = rw left (threads_below c.args.index.now c.as_slice.result.now c.in_ok-numbers.numbers.items are) }
