@@ -40,7 +40,7 @@ pub(crate) fn check_archives<A: Archives>(
         return Err(AnswerFaultKind::Stale(count.min(indexed)));
     }
     let mut named = index.archives();
-    let mut n = 0;
+    let mut n: u32 = 0;
     while let Some(archive) = named.next() {
         let Ok(length) = archives.length(n) else {
             return Err(AnswerFaultKind::Device);

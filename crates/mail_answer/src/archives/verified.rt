@@ -84,7 +84,7 @@ fn check_digests<A: Archives>(
     ensures own { has_fault is_of_output result ≡ false }
 {
     let mut named = index.archives();
-    let mut n = 0;
+    let mut n: u32 = 0;
     while let Some(archive) = named.next() {
         let digest = read_digest(archives, n, archive.length, buffer)?;
         if archive.digest != digest {

@@ -17,7 +17,6 @@ pub returns : goal.returns
 returns c =
     let t = c.args.index.now in
     let tells : TellsThreads t c.as_slice.result.now = subst (TellsThreads t) (sym c.as_slice.ensures.value) (rw c.again-index.ensures.same at c.in_ok-roots.ensures) in
-    let roots = c.as_slice.result.now in
-    let marks = ap (λ (count : ℕ). each_number count (λ r. list_any (λ n. nat_eq r (get_or roots n 0)) c.args.numbers.now)) tells.long in
+    let marks = ap (λ (count : ℕ). each_number count (λ r. list_any (λ n. nat_eq r (get_or c.as_slice.result.now n 0)) c.args.numbers.now)) tells.long in
     ok_then c.with_same_root.result _ (λ v. AreThreads t c.args.numbers.now v.items) c.with_same_root.ensures
-    (λ v are. chosen_by_marks t c.args.numbers.now roots v.items _ tells c.requires.within marks are)
+    (λ v are. chosen_by_marks t c.args.numbers.now c.as_slice.result.now v.items _ tells c.requires.within marks are)

@@ -30,5 +30,4 @@ returns-then-length-archive-clause-asked g c = grind (arith, next_named, named_h
 pub returns-clause-asked : goal.returns-clause-asked
 returns-clause-asked g c =
     let i = c.loop-archive.invariant in
-    let named = c.args.index.now.archives in
-    λ _. subst (λ count. Agree g.A.Archives named count c.args.archives.now c.loop-archive.archives) (none_left named c.loop-archive.n i.within (sym i.coming ∙ c.in_default.ensures.0)) i.agree
+    λ _. subst (λ count. Agree g.A.Archives c.args.index.now.archives count c.args.archives.now c.loop-archive.archives) (none_left _ c.loop-archive.n i.within (sym i.coming ∙ c.in_default.ensures.0)) i.agree

@@ -37,5 +37,4 @@ loop-archive-preserved g c =
 pub returns-clause-found : goal.returns-clause-found
 returns-clause-found g c =
     let i = c.loop-archive.invariant in
-    let named = c.args.index.now.archives in
-    subst (λ count. AreRead g.A.Archives named count c.args.archives.now c.loop-archive.archives) (none_left named c.loop-archive.n i.within (sym i.coming ∙ c.in_default.ensures.0)) i.read
+    subst (λ count. AreRead g.A.Archives c.args.index.now.archives count c.args.archives.now c.loop-archive.archives) (none_left _ c.loop-archive.n i.within (sym i.coming ∙ c.in_default.ensures.0)) i.read

@@ -17,5 +17,4 @@ with_threads-requires-clause-within c =
 pub returns-clause-numbers : goal.returns-clause-numbers
 returns-clause-numbers c =
     let are = c.in_ok-numbers.ensures in
-    let left = c.into_iter.ensures.rest in
-    record { rises = rw left are.rises; below = rw left (threads_below c.args.index.now c.as_slice.result.now c.in_ok-numbers.numbers.items are) }
+    record { rises = rw c.into_iter.ensures.rest are.rises; below = rw c.into_iter.ensures.rest (threads_below c.args.index.now c.as_slice.result.now c.in_ok-numbers.numbers.items are) }
