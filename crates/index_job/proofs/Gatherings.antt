@@ -1,9 +1,9 @@
 -- What gathering a line more, or the end, makes of a builder's draft.
-use Rattle.index_job.proofs.Words.{◌≡◌, ◌∙◌, ℕ, List, [], ◌∷◌, ◌++◌, Option, Some, option_map, flat_map, sym, ap, subst, ⊎_elim, append-nil, arith, ◌⊎◌, Result, Ok, Err, IfErr, flat_map-append, fields_of, Draft, TextKind, MessageText, Facts, facts_of, Pair, TakesAll, Breaks, texts_of_message, JobFault, with_texts, HasGathered, IsGatherFault, draft_with_terms, RefusesTerms, IsOpenAt, IsBuilderOpen, of_text, Term, text_terms, id_terms, message_terms}
+use Rattle.index_job.proofs.Words.{◌≡◌, false, ◌∙◌, ℕ, List, [], ◌∷◌, ◌++◌, Option, Some, option_map, flat_map, sym, ap, subst, ⊎_elim, append-nil, arith, ◌⊎◌, Result, Ok, Err, IfErr, flat_map-append, fields_of, Draft, TextKind, MessageText, Facts, facts_of, Pair, TakesAll, Breaks, texts_of_message, JobFault, with_texts, HasGathered, IsGatherFault, draft_with_terms, RefusesTerms, IsOpenAt, IsBuilderOpen, of_text, Term, text_terms, id_terms, message_terms}
 use Rattle.mime_text.specs.declared.fault.SinkFault.{SinkFault}
 use Rattle.mime_text.specs.declared.fault.SinkFault.TheVariants as sink
 use Rattle.mime_text.specs.declared.fault.TextFault.{TextFault}
-use Rattle.mime_text.specs.Fed.{Feeds, FeedsPart, Finishes, FinishesPart}
+use Rattle.mime_text.specs.Fed.{Feeds, FeedsPart, Finishes, FinishesPart, has_ended}
 use Rattle.index_job.specs.declared.term_sink.TermSink.{TermSink}
 use Rattle.index_job.proofs.Terms.{joined, still-refuses}
 
@@ -50,11 +50,13 @@ gathers-line text text' old new line builder h left ls d g = record {
 }
 
 -- a line at which a fault comes
-pub line-fails : (text : MessageText) (old new : TermSink) (line : List ℕ) (f : TextFault) → FeedsPart Takes Refuses text line f old new
-    → (ls ms : List (List ℕ)) (d : Option Draft) → HasGathered text old.builder.now d ls → IsGatherFault (with_texts (texts_of_message (ls ++ line ∷ ms)) d) (of_text f)
-line-fails text old new line f h ls ms d g =
-    let rest = h.front ls g.pairs g.fed ms in
-    subst (λ ps. IsGatherFault (with_texts ps d) (of_text f)) (sym rest.1) (broken f h.pairs old new d g.pairs rest.0 h.broken g.added)
+pub line-fails : {T : Type 0} (r : Result T TextFault) (text : MessageText) (old new : TermSink) (line : List ℕ) → (has_ended text ≡ false → IfErr r (λ f. FeedsPart Takes Refuses text line f old new))
+    → IfErr r (λ f. (ls ms : List (List ℕ)) (d : Option Draft) → HasGathered text old.builder.now d ls → IsGatherFault (with_texts (texts_of_message (ls ++ line ∷ ms)) d) (of_text f))
+line-fails (Ok x) text old new line h = tt
+line-fails (Err f) text old new line h = λ ls ms d g.
+    let part = h g.fed.live in
+    let rest = part.front ls g.pairs g.fed ms in
+    subst (λ ps. IsGatherFault (with_texts ps d) (of_text f)) (sym rest.1) (broken f part.pairs old new d g.pairs rest.0 part.broken g.added)
 
 -- the end
 pub gathers-end : (text : MessageText) (old new : TermSink) (builder : Option Draft) → Finishes Takes Refuses text old new
@@ -65,11 +67,13 @@ gathers-end text old new builder h left ls d g =
     ∙ ap (λ ps. with_texts ps d) (sym (h.whole ls g.pairs g.fed))
 
 -- an end at which a fault comes
-pub end-fails : (text : MessageText) (old new : TermSink) (f : TextFault) → FinishesPart Takes Refuses text f old new
-    → (ls : List (List ℕ)) (d : Option Draft) → HasGathered text old.builder.now d ls → IsGatherFault (with_texts (texts_of_message ls) d) (of_text f)
-end-fails text old new f h ls d g =
-    let rest = h.front ls g.pairs g.fed in
-    subst (λ ps. IsGatherFault (with_texts ps d) (of_text f)) (sym rest.1) (broken f h.pairs old new d g.pairs rest.0 h.broken g.added)
+pub end-fails : {T : Type 0} (r : Result T TextFault) (text : MessageText) (old new : TermSink) → (has_ended text ≡ false → IfErr r (λ f. FinishesPart Takes Refuses text f old new))
+    → IfErr r (λ f. (ls : List (List ℕ)) (d : Option Draft) → HasGathered text old.builder.now d ls → IsGatherFault (with_texts (texts_of_message ls) d) (of_text f))
+end-fails (Ok x) text old new h = tt
+end-fails (Err f) text old new h = λ ls d g.
+    let part = h g.fed.live in
+    let rest = part.front ls g.pairs g.fed in
+    subst (λ ps. IsGatherFault (with_texts ps d) (of_text f)) (sym rest.1) (broken f part.pairs old new d g.pairs rest.0 part.broken g.added)
 
 -- ---- a whole message
 

@@ -1,10 +1,11 @@
 -- Reads of the source of a cutter, one after another, and the archive's end.
-use Rattle.index_job.proofs.Words.{◌≡◌, ◌∙◌, Bool, true, false, refl, sym, ap, subst, arith, Result, Ok, Err, CutFault, Event, Progress, Advances, shown_result, JobFault, ReadsSource, is_source_failure}
+use Rattle.index_job.proofs.Words.{◌≡◌, ◌∙◌, Bool, true, false, refl, sym, ap, subst, arith, Result, Ok, Err, CutFault, Event, Progress, Advances, shown_result, JobFault, ReadsSource, is_source_failure, of_text}
 use Rattle.std.specs.Borrow.{MutBor}
 use Rattle.mbox_cutter.specs.declared.device.Source.{Ghosts}
 use Rattle.mbox_cutter.specs.declared.event.CutFault.TheVariants as cut
 use Rattle.mbox_cutter.proofs.Sources.{Stays-self, Stays-join}
 use Rattle.index_job.specs.declared.job_fault.JobFault.TheVariants as job
+use Rattle.mime_text.specs.declared.fault.TextFault.{TextFault}
 
 -- ---- whether the source failed
 
@@ -17,6 +18,10 @@ err-says T f = grind arith
 
 failure-is : {T : Type 0} (r : Result T JobFault) (f : JobFault) → r ≡ Err f → is_source_failure r ≡ says_failure f
 failure-is {T = T} r f is = ap (λ (x : Result T JobFault). is_source_failure x) is ∙ err-says T f
+
+-- a text has no fault of the source
+pub text-fault : {U : Type 0} (q : Result U JobFault) (f : TextFault) → q ≡ Err (of_text f) → is_source_failure q ≡ false
+text-fault q f is = grind arith
 
 -- ---- reads
 

@@ -1,18 +1,17 @@
 //! A message's lines, as their terms are gathered.
-ghost use Rattle.std.specs.Prelude.{◌≡◌, false, ℕ, List, ◌∷◌, ◌++◌, [], Option, IfOk, IfErr, IfSome, OnOk};
+ghost use Rattle.std.specs.Prelude.{◌≡◌, ℕ, List, ◌∷◌, ◌++◌, [], Option, IfOk, IfErr, IfSome, OnOk};
 ghost use Rattle.header_text.specs.Headers.{fields_of};
 ghost use Rattle.mail_index.specs.Builders.{Draft, IsInMessage};
 ghost use Rattle.mbox_cutter.specs.Lines.{IsLine};
 ghost use Rattle.mime_text.specs.MessageFacts.{HasSizedIds, facts_of};
 ghost use Rattle.mime_text.specs.Texts.{texts_of_message};
-ghost use Rattle.index_job.specs.JobFaults.{is_source_failure};
+ghost use Rattle.index_job.specs.JobFaults.{of_text};
 ghost use Rattle.index_job.specs.Inside.Gathering.{HasGathered, IsGatherFault, with_texts};
 
 use crate::folding_room::FoldingRoom;
-use crate::job_fault::JobFault;
 use crate::term_sink::TermSink;
 use mail_index::Builder;
-use mime_text::{Facts, MessageText};
+use mime_text::{Facts, MessageText, TextFault};
 
 /// Gives the builder the terms of a line of the message's text.
 pub(crate) fn feed_line(
@@ -20,19 +19,18 @@ pub(crate) fn feed_line(
     line: &[u8],
     room: &mut FoldingRoom,
     builder: &mut Builder,
-) -> Result<(), JobFault>
+) -> Result<(), TextFault>
     requires line { IsLine line.now }
     requires phase { IfSome builder.old IsInMessage }
-    ensures source { is_source_failure result ≡ false }
     ensures ok { OnOk result ((ls : List (List ℕ)) (d : Option Draft)
         → HasGathered text.old builder.old d ls
         → HasGathered text.new builder.new d (ls ++ line.now ∷ [])) }
     ensures err { IfErr result (λ fault. (ls ms : List (List ℕ)) (d : Option Draft)
         → HasGathered text.old builder.old d ls
-        → IsGatherFault (with_texts (texts_of_message (ls ++ line.now ∷ ms)) d) fault) }
+        → IsGatherFault (with_texts (texts_of_message (ls ++ line.now ∷ ms)) d) (of_text fault)) }
 {
     let mut terms = TermSink { builder, room };
-    Ok(text.line(line, &mut terms)?)
+    text.line(line, &mut terms)
 }
 
 /// Gives it the terms that are left, and answers what the message's own header says beside them.
@@ -40,9 +38,8 @@ pub(crate) fn end_text(
     text: &mut MessageText,
     room: &mut FoldingRoom,
     builder: &mut Builder,
-) -> Result<Facts, JobFault>
+) -> Result<Facts, TextFault>
     requires { IfSome builder.old IsInMessage }
-    ensures source { is_source_failure result ≡ false }
     ensures sizes { IfOk result HasSizedIds }
     ensures facts { IfOk result (λ facts. (ls : List (List ℕ)) (d : Option Draft)
         → HasGathered text.old builder.old d ls
@@ -52,8 +49,8 @@ pub(crate) fn end_text(
         → builder.new ≡ with_texts (texts_of_message ls) d) }
     ensures err { IfErr result (λ fault. (ls : List (List ℕ)) (d : Option Draft)
         → HasGathered text.old builder.old d ls
-        → IsGatherFault (with_texts (texts_of_message ls) d) fault) }
+        → IsGatherFault (with_texts (texts_of_message ls) d) (of_text fault)) }
 {
     let mut terms = TermSink { builder, room };
-    Ok(text.finish(&mut terms)?)
+    text.finish(&mut terms)
 }

@@ -53,9 +53,10 @@ impl IndexJob {
         ensures empty { IfOk result (λ job. IsIndexOf job []) }
         ensures memory { IfErr result (λ fault. fault ≡ JobFault.OutOfMemory) }
     {
+        let buffer = Buffer::new(alloc)?;
         Ok(IndexJob {
             alloc,
-            buffer: Some(Buffer::new(alloc)?),
+            buffer: Some(buffer),
             room: FoldingRoom::new(alloc),
             builder: Builder::new(alloc, MOST_IN_INDEX),
             archives: 0,

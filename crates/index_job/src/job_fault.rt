@@ -6,10 +6,10 @@ use std::alloc::{AllocError, AllocFailed};
 use thiserror::Error;
 
 /// Why an index isn't made.
-#[derive(Clone, Copy, Debug, PartialEq, Eq, Error)]
+#[derive(Clone, Copy, Debug, Error)]
 pub enum JobFault {
     /// The archive couldn't be read, or is refused.
-    #[error("{0}")]
+    #[error(transparent)]
     Cut(CutFault),
     /// There was no memory left.
     #[error("out of memory")]

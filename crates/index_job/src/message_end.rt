@@ -51,14 +51,15 @@ fn end_message(builder: &mut Builder, facts: &Facts, span: Span) -> Result<(), J
         (IsGatherFault (option_map (draft_with_terms (id_terms facts.now)) builder.old)) }
 {
     add_ids(builder, facts)?;
-    Ok(builder.end_message(Record {
+    builder.end_message(Record {
         archive: span.archive,
         offset: span.offset,
         length: span.length,
         size: span.size,
         date: date_of(facts),
         flags: facts.flags,
-    })?)
+    })?;
+    Ok(())
 }
 
 /// Ends the text of a message, and the message.

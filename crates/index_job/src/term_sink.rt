@@ -9,7 +9,7 @@ ghost use Rattle.index_job.specs.MessageTerms.{text_terms, own_id_terms, link_te
 use crate::folding_room::{FoldingRoom, add_cut_words, add_words_of};
 use mail_index::{BuildFault, Builder, Kind};
 use mail_words::{TextKind, fold_ascii};
-use mime_text::{Facts, MessageId, MessageIds, SinkFault, TextSink};
+use mime_text::{Facts, MessageIds, SinkFault, TextSink};
 
 /// Gives an index the words of the texts of the message that is open, each folded.
 #[derive(Drop)]
@@ -51,7 +51,8 @@ fn add_words(
     ensures terms { AddsTerms (text_terms (kind, text.now)) result builder.old builder.new }
     ensures phase { IfSome builder.new IsInMessage }
 {
-    if fold_ascii(text, &mut room.folded)? {
+    let is_ascii = fold_ascii(text, &mut room.folded)?;
+    if is_ascii {
         // Its words fold with it: one folding serves them all.
         return add_words_of(builder, kind, &room.folded);
     }
@@ -71,21 +72,10 @@ pub(crate) fn add_ids(builder: &mut Builder, facts: &Facts) -> Result<(), BuildF
     ensures terms { AddsTerms (id_terms facts.now) result builder.old builder.new }
     ensures phase { IfSome builder.new IsInMessage }
 {
-    add_own_id(builder, &facts.own_id)?;
-    add_links(builder, &facts.ids)
-}
-
-/// Adds the message's own id, where it has one.
-fn add_own_id(builder: &mut Builder, own_id: &Option<MessageId>) -> Result<(), BuildFault>
-    requires phase { IfSome builder.old IsInMessage }
-    requires size { IfSome own_id.now IsSizedId }
-    ensures terms { AddsTerms (own_id_terms own_id.now) result builder.old builder.new }
-    ensures phase { IfSome builder.new IsInMessage }
-{
-    match own_id {
-        Some(id) => builder.add(Kind::OwnId, id.as_bytes()),
-        None => Ok(()),
+    if let Some(id) = &facts.own_id {
+        builder.add(Kind::OwnId, id.as_bytes())?;
     }
+    add_links(builder, &facts.ids)
 }
 
 /// Adds the ids that link the message to others.

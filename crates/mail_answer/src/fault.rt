@@ -5,7 +5,7 @@ use std::alloc::AllocError;
 use thiserror::Error;
 
 /// What an answer failed at.
-#[derive(Clone, Copy, Debug, PartialEq, Eq, Error)]
+#[derive(Clone, Copy, Debug, Error)]
 pub enum AnswerFaultKind {
     /// The archive of this number, counted from 0, isn't the one that was indexed. Where there are more or fewer archives than were
     /// indexed it is the smaller of both counts.
@@ -33,7 +33,7 @@ impl From<AllocError> for AnswerFaultKind {
 }
 
 /// Why an answer isn't whole, and how much of it went out.
-#[derive(Clone, Copy, Debug, PartialEq, Eq, Error)]
+#[derive(Clone, Copy, Debug, Error)]
 #[error("{kind} after {sent} bytes")]
 pub struct AnswerFault {
     pub kind: AnswerFaultKind,

@@ -12,14 +12,15 @@ use mail_index::{IndexView, Steps};
 use mail_query::Query;
 use std::alloc::{AllocError, Global};
 use std::marker::Model;
+use std::vec::IntoIter;
 
 /// Where numbers come from.
 #[derive(Drop)]
 enum Source<'a> {
     /// The cursor of a query: no list of them is kept.
     Walked(Cursor<'a>),
-    /// A list of them, of which so many were given.
-    Listed { numbers: Vec<u32>, given: usize },
+    /// What is left of a list of them.
+    Listed(IntoIter<u32, Global>),
 }
 
 /// The numbers of the messages of an answer that are still to come, rising.
@@ -54,12 +55,13 @@ impl<'a> Numbers<'a> {
     {
         let mut steps = Steps::new();
         if !threads {
-            let source = Source::Walked(Cursor::new(alloc, index, query, &mut steps)?);
+            let cursor = Cursor::new(alloc, index, query, &mut steps)?;
+            let source = Source::Walked(cursor);
             return Ok(Numbers { source, steps });
         }
         let satisfying = matches(alloc, index, query)?;
         let numbers = with_threads(alloc, index, satisfying.as_slice())?;
-        let source = Source::Listed { numbers, given: 0 };
+        let source = Source::Listed(numbers.into_iter());
         Ok(Numbers { source, steps })
     }
 
@@ -69,13 +71,7 @@ impl<'a> Numbers<'a> {
     {
         match &mut self.source {
             Source::Walked(cursor) => cursor.next(&mut self.steps),
-            Source::Listed { numbers, given } => match numbers.get(*given) {
-                Some(number) => {
-                    *given += 1;
-                    Some(*number)
-                }
-                None => None,
-            },
+            Source::Listed(numbers) => numbers.next(),
         }
     }
 }

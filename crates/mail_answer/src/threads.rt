@@ -32,20 +32,6 @@ fn thread_roots(alloc: Global, index: &IndexView<'_>) -> Result<Vec<u32>, AllocE
     Ok(roots)
 }
 
-/// For each message whether it is the root of one of these.
-fn root_marks(alloc: Global, numbers: &[u32], roots: &[u32]) -> Result<Vec<bool>, AllocError>
-    requires within { All (λ n. n < length roots.now) numbers.now }
-    requires roots { (n : ℕ) → n < length roots.now → slice_index roots.now n < length roots.now }
-    ensures { IfOk result (λ v. v.items ≡ each_number (length roots.now)
-        (λ r. list_any (λ n. nat_eq r (slice_index roots.now n)) numbers.now)) }
-{
-    let mut marks = vec![in alloc; false; roots.len()]?;
-    for number in numbers {
-        marks[roots[*number as usize] as usize] = true;
-    }
-    Ok(marks)
-}
-
 /// The numbers of the messages whose roots are marked, rising.
 fn with_marked_root(alloc: Global, roots: &[u32], marks: &[bool]) -> Result<Vec<u32>, AllocError>
     requires few { length roots.now < 2 ^ 32 }
@@ -60,6 +46,22 @@ fn with_marked_root(alloc: Global, roots: &[u32], marks: &[bool]) -> Result<Vec<
         }
     }
     Ok(numbers)
+}
+
+/// The numbers of the messages that have the root of one of these, rising.
+fn with_same_root(alloc: Global, numbers: &[u32], roots: &[u32]) -> Result<Vec<u32>, AllocError>
+    requires few { length roots.now < 2 ^ 32 }
+    requires within { All (λ n. n < length roots.now) numbers.now }
+    requires roots { (n : ℕ) → n < length roots.now → slice_index roots.now n < length roots.now }
+    ensures { IfOk result (λ v. v.items ≡ filter (λ n. truth_at (each_number (length roots.now)
+        (λ r. list_any (λ m. nat_eq r (slice_index roots.now m)) numbers.now))
+        (slice_index roots.now n)) (range_with_len 0 (length roots.now))) }
+{
+    let mut marks = vec![in alloc; false; roots.len()]?;
+    for number in numbers {
+        marks[roots[*number as usize] as usize] = true;
+    }
+    with_marked_root(alloc, roots, marks.as_slice())
 }
 
 /// The numbers of all messages in the threads of these ones, rising, each once.
@@ -87,6 +89,5 @@ pub fn with_threads(
         return Vec::from_slice(alloc, numbers);
     }
     let roots = thread_roots(alloc, &index)?;
-    let marks = root_marks(alloc, numbers, roots.as_slice())?;
-    with_marked_root(alloc, roots.as_slice(), marks.as_slice())
+    with_same_root(alloc, numbers, roots.as_slice())
 }

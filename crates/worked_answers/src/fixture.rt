@@ -2,6 +2,7 @@
 ghost use Rattle.std.specs.Prelude.{◌<◌, ◌-◌, ◌^◌};
 
 use index_job::IndexJob;
+use mail_answer::AnswerFaultKind::{Device, OutFailed, OutOfMemory, Stale};
 use mail_answer::{AnswerFault, AnswerFaultKind, Archives, FailAt, Format, MemoryArchives, answer};
 use mail_dates::Moment;
 use mail_index::{IndexView, is_path};
@@ -183,15 +184,22 @@ pub fn told_of(
 
 /// Whether an answer of so many messages is whole.
 pub fn is_whole((told, sent): &Told, messages: u64, whole: &[u8]) -> bool {
-    *told == Ok(messages) && sent.bytes() == whole
+    matches!(told, Ok(count) if *count == messages) && sent.bytes() == whole
+}
+
+/// Whether both are the same fault.
+pub fn is_same(one: AnswerFaultKind, other: AnswerFaultKind) -> bool {
+    match (one, other) {
+        (Stale(a), Stale(b)) => a == b,
+        (Device, Device) | (OutOfMemory, OutOfMemory) | (OutFailed, OutFailed) => true,
+        _ => false,
+    }
 }
 
 /// Whether an answer failed so, with a front of the text sent and counted.
 pub fn is_front((told, out): &Told, kind: AnswerFaultKind, whole: &[u8]) -> bool {
     let sent = out.bytes();
-    let fault = AnswerFault {
-        kind,
-        sent: sent.len() as u64,
-    };
-    *told == Err(fault) && whole.starts_with(sent)
+    let length = sent.len() as u64;
+    matches!(told, Err(fault) if is_same(fault.kind, kind) && fault.sent == length)
+        && whole.starts_with(sent)
 }

@@ -42,7 +42,8 @@ fn calls_over(alloc: Global, archives: &[(&str, &str)], format: Format) -> Optio
     let mut calls = Calls { count: 0, most: 0 };
     let search = ("s:hello", false, format);
     let told = told_to(alloc, &file, search, &mut held, &mut calls);
-    (told == Some(Ok(archives.len() as u64))).then_some((calls.count, calls.most))
+    let all = archives.len() as u64;
+    matches!(told, Some(Ok(count)) if count == all).then_some((calls.count, calls.most))
 }
 
 /// The same over those archives.

@@ -68,7 +68,7 @@ fn indexed(alloc: Global, text: &str, piece: usize) -> Option<Vec<u8>>
     let (job, answer) = begun(alloc, text, piece, None)?;
     let mut out = MemoryOut::new(alloc, None);
     let length = job.finish(&mut out).ok()?;
-    if answer == Ok(1) && length == out.bytes().len() as u64 {
+    if matches!(answer, Ok(1)) && length == out.bytes().len() as u64 {
         out.bytes().to_vec(alloc).ok()
     } else {
         None
@@ -137,9 +137,9 @@ fn is_lost(alloc: Global, text: &str, fail_at: Option<u64>, fault: CutFault) -> 
     let mut out = MemoryOut::new(alloc, None);
     let finished = job.finish(&mut out);
     Some(
-        answer == Err(JobFault::Cut(fault))
-            && again == Err(JobFault::Failed)
-            && finished == Err(JobFault::Failed)
+        matches!(answer, Err(JobFault::Cut(told)) if told == fault)
+            && matches!(again, Err(JobFault::Failed))
+            && matches!(finished, Err(JobFault::Failed))
             && out.bytes().is_empty(),
     )
 }
@@ -162,7 +162,8 @@ fn is_front(alloc: Global, room: usize) -> Option<bool> {
     let mut out = MemoryOut::new(alloc, Some(room as u64));
     let finished = job.finish(&mut out);
     let front = FILE.get(..room)?;
-    Some(answer == Ok(1) && finished == Err(JobFault::Out) && out.bytes() == front)
+    let is_refused = matches!(answer, Ok(1)) && matches!(finished, Err(JobFault::Out));
+    Some(is_refused && out.bytes() == front)
 }
 
 /// An output with room for less than the file takes just so much of it.

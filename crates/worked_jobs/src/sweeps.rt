@@ -18,18 +18,18 @@ fn is_indexed_or_wanting(alloc: Global, text: &str, word: &str, size: u64) -> Op
     let mut again = MemorySource::new(alloc, &archive, 7, None).ok()?;
     let mut job = match IndexJob::new(alloc) {
         Ok(job) => job,
-        Err(fault) => return Some(fault == JobFault::OutOfMemory),
+        Err(fault) => return Some(matches!(fault, JobFault::OutOfMemory)),
     };
     let mut out = MemoryOut::new(alloc, None);
     if let Err(fault) = job.archive(PATH, &mut source) {
         let again = job.archive(PATH, &mut again);
-        let has_failed = again == Err(JobFault::Failed)
-            && job.finish(&mut out) == Err(JobFault::Failed);
-        return Some(has_failed && fault == JobFault::OutOfMemory);
+        let has_failed = matches!(again, Err(JobFault::Failed))
+            && matches!(job.finish(&mut out), Err(JobFault::Failed));
+        return Some(has_failed && matches!(fault, JobFault::OutOfMemory));
     }
     Some(match job.finish(&mut out) {
         Ok(written) => written == size && has_body_word(out.bytes(), word),
-        Err(fault) => fault == JobFault::Out,
+        Err(fault) => matches!(fault, JobFault::Out),
     })
 }
 

@@ -1,5 +1,5 @@
 -- Laws of archives that have changed.
-use Rattle.mail_answer.proofs.Words.{◌≡◌, ℕ, ◌+◌, suc, ◌<◌, ◌==◌, cond, min, List, [], ◌∷◌, length, length-drop, drop, drop-cons, get_or, Option, None, Some, IfSome, zero, refl, ap, add-one, arith, ne_eqb, Archive, archive_at, first_changed, stale_archive, length_at}
+use Rattle.mail_answer.proofs.Words.{◌≡◌, ℕ, ◌+◌, suc, ◌<◌, ◌≤◌, ◌==◌, cond, min, List, [], ◌∷◌, length, length-drop, drop, drop-cons, get_or, Option, None, Some, IfSome, zero, refl, ap, add-one, arith, ne_eqb, Archive, archive_at, first_changed, stale_archive, length_at}
 use Rattle.std.proofs.lemmas.Bool.{eq-eqb}
 
 no_archive : Archive
@@ -19,6 +19,12 @@ next_named (b ∷ named) (suc n) a rest e = grind (arith, next_named named n a r
 
 pub still_named : (named : List Archive) (n : ℕ) → n < length named → drop n named ≡ [] → ⊥
 still_named named n h e = let long : length (drop n named) ≡ 0 = ap length e in absurd (omega (arith, long, length-drop n named))
+
+pub named_here : (named : List Archive) (n : ℕ) (a : Archive) (rest : List Archive) → drop n named ≡ a ∷ rest → n < length named
+named_here named n a rest e = let long : length (drop n named) ≡ suc (length rest) = ap length e in omega (arith, long, length-drop n named)
+
+pub none_left : (named : List Archive) (n : ℕ) → n ≤ length named → drop n named ≡ [] → n ≡ length named
+none_left named n h e = let long : length (drop n named) ≡ 0 = ap length e in omega (arith, long, length-drop n named)
 
 -- the answer at an archive, and what is left behind it
 changed_next : (named : List Archive) (bytes : List (List ℕ)) (n : ℕ) → n < length named → n < length bytes

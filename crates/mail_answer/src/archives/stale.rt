@@ -40,16 +40,15 @@ pub(crate) fn check_archives<A: Archives>(
         return Err(AnswerFaultKind::Stale(count.min(indexed)));
     }
     let mut named = index.archives();
-    for n in 0..indexed {
-        let Some(archive) = named.next() else {
-            unreachable!();
-        };
+    let mut n: u32 = 0;
+    while let Some(archive) = named.next() {
         let Ok(length) = archives.length(n) else {
             return Err(AnswerFaultKind::Device);
         };
         if length != archive.length {
             return Err(AnswerFaultKind::Stale(n));
         }
+        n += 1;
     }
     Ok(())
 }

@@ -23,35 +23,6 @@ use std::alloc::Global;
 /// So many bytes are asked for at a read.
 const PIECE: usize = 131_072;
 
-/// Takes the next bytes of an archive, from an offset on, into a digest, and answers how many they are.
-fn digest_piece<A: Archives>(
-    archives: &mut A,
-    archive: u32,
-    offset: u64,
-    room: &mut [u8],
-    hasher: &mut Sha256,
-) -> Result<usize, AnswerFaultKind>
-    requires below { archive < A.number archives.old }
-    requires room { 0 < length room.old }
-    requires count { A.failures archives.old < 2 ^ 64 - 1 }
-    ensures keeps { KeepsArchives A.Archives archives.old archives.new }
-    ensures bound { IfOk result (λ count. count ≤ length room.old) }
-    ensures part { IfOk result
-        (λ count. AbsorbsPart A.Archives archive offset count (A.held archives.old) archives.old
-        archives.new hasher.old hasher.new) }
-    ensures failed { OnErr result
-        ((fault : DeviceFault) × A.reads archives.old archive offset (Err fault) archives.new) }
-    ensures count { Counted (has_fault is_of_archives result)
-        (A.failures archives.old) (A.failures archives.new) }
-    ensures own { IfErr result (λ kind. kind ≡ AnswerFaultKind.Device) }
-{
-    let Ok(count) = archives.read_at(archive, offset, room) else {
-        return Err(AnswerFaultKind::Device);
-    };
-    hasher.update(&room[..count]);
-    Ok(count)
-}
-
 /// The digest of the first `indexed_length` bytes of an archive, read piece by piece through a buffer. None where it ends before them.
 fn read_digest<A: Archives>(
     archives: &mut A,
@@ -79,10 +50,14 @@ fn read_digest<A: Archives>(
     let mut at: u64 = 0;
     'pieces: while at < indexed_length {
         let most = (indexed_length - at).min(buffer.len() as u64) as usize;
-        let count = digest_piece(archives, archive, at, &mut buffer[..most], &mut hasher)?;
+        let room = &mut buffer[..most];
+        let Ok(count) = archives.read_at(archive, at, room) else {
+            return Err(AnswerFaultKind::Device);
+        };
         if count == 0 {
             return Ok(None);
         }
+        hasher.update(&room[..count]);
         at += count as u64;
     }
     Ok(Some(hasher.finalize()))
@@ -109,13 +84,13 @@ fn check_digests<A: Archives>(
     ensures own { has_fault is_of_output result ≡ false }
 {
     let mut named = index.archives();
-    for n in 0..index.archive_count() {
-        let Some(archive) = named.next() else {
-            unreachable!();
-        };
-        if archive.digest != read_digest(archives, n, archive.length, buffer)? {
+    let mut n: u32 = 0;
+    while let Some(archive) = named.next() {
+        let digest = read_digest(archives, n, archive.length, buffer)?;
+        if archive.digest != digest {
             return Err(AnswerFaultKind::Stale(n));
         }
+        n += 1;
     }
     Ok(())
 }

@@ -58,7 +58,8 @@ fn push_field(
 {
     let body = header.fields().first_body(name.as_bytes()).unwrap_or(b"");
     let unfolded = unfold(alloc, body)?;
-    let mut value = decode_words(alloc, &unfolded)?.into_bytes();
+    let decoded = decode_words(alloc, &unfolded)?;
+    let mut value = decoded.into_bytes();
     hide_controls(value.as_mut_slice());
     push_line(name, &value, text)
 }

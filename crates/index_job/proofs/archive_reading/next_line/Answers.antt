@@ -1,6 +1,6 @@
-use Rattle.index_job.proofs.Words.{◌∙◌, [], ap, subst, Result, Ok, Err, err_from_is_err_and, Event, CutFault, Answers, TakesKnown, shown_result, Line, End, is_source_failure}
+use Rattle.index_job.proofs.Words.{◌∙◌, [], ap, subst, Result, Ok, Err, err_from_is_err_and, Event, CutFault, Answers, TakesKnown, shown_result, Line, End}
 use Rattle.index_job.proofs.ReadingLines.{reads-line, reads-end, line-is-fault, gather-own}
-use Rattle.index_job.proofs.SourceReads.{event-reads, reads-before, reads-passed}
+use Rattle.index_job.proofs.SourceReads.{event-reads, reads-before, text-fault}
 use Rattle.index_job.proofs.archive_reading.next_line.Goals as goal
 
 pub returns-in_err-feed_line-in-Line-clause-fault :
@@ -12,13 +12,13 @@ returns-in_err-feed_line-in-Line-clause-fault g c =
     let next = c.next_event.follows.lender-at-none.coming in
     let answers : Answers now (shown_result c.next_event.result) next = a.answers in
     let takes : TakesKnown (Line c.in-Line.line.now) now next = subst (λ (r : Result Event CutFault). Answers now (shown_result r) next) (c.in_ok-line.was ∙ ap Ok c.in-Line.is) answers in
-    rw (p.1, p.2) (λ d w ls rest r. line-is-fault d w ls rest c.args.text.now c.args.builder.now now next c.in-Line.line.now c.in_err-feed_line-in-Line.field-0.0 r takes
+    rw (p.1, p.2) (λ d w ls rest r. line-is-fault d w ls rest c.args.text.now c.args.builder.now now next c.in-Line.line.now _ r takes
     (λ ms. c.in_err-feed_line-in-Line.ensures.err ls ms d r.so_far))
 
 pub returns-in_err-feed_line-in-Line-clause-own : goal.returns-in_err-feed_line-in-Line-clause-own
 returns-in_err-feed_line-in-Line-clause-own g c =
     let p = err_from_is_err_and c.from_residual-in_err-feed_line-in-Line.result c.from_residual-in_err-feed_line-in-Line.ensures.1 in
-    rw (p.1, p.2) (λ d ls h. gather-own _ c.in_err-feed_line-in-Line.field-0.0 (c.in_err-feed_line-in-Line.ensures.err ls [] d h))
+    rw (p.1, p.2) (λ d ls h. gather-own _ _ (c.in_err-feed_line-in-Line.ensures.err ls [] d h))
 
 pub returns-in_ok-feed_line-in-Line-clause-gathers :
     goal.returns-in_ok-feed_line-in-Line-clause-gathers
@@ -49,9 +49,8 @@ returns-in_err-feed_line-in-Line-clause-reads g c =
     let p = err_from_is_err_and c.from_residual-in_err-feed_line-in-Line.result c.from_residual-in_err-feed_line-in-Line.ensures.1 in
     let old = c.args.cutter.now in
     let next = c.next_event.follows.lender-at-none in
-    reads-passed g.S.Source c.from_residual-in_err-feed_line-in-Line.result c.feed_line.result c.in_err-feed_line-in-Line.field-0.0 old.source next.source c.in_err-feed_line-in-Line.was (p.1 ∙ ap Err p.2)
-    (reads-before g.S.Source (is_source_failure c.feed_line.result) old.source next.source c.feed_line.ensures.source
-    (event-reads g.S.Source old next c.next_event.result _ c.in_ok-line.was c.next_event.follows.holds-at-none))
+    reads-before g.S.Source _ old.source next.source (text-fault c.from_residual-in_err-feed_line-in-Line.result c.in_err-feed_line-in-Line.field-0.0 (p.1 ∙ ap Err p.2))
+    (event-reads g.S.Source old next c.next_event.result _ c.in_ok-line.was c.next_event.follows.holds-at-none)
 
 pub returns-in_ok-feed_line-in-Line-clause-reads :
     goal.returns-in_ok-feed_line-in-Line-clause-reads

@@ -5,7 +5,7 @@ use Rattle.index_job.proofs.message_end.finish_message.Goals as goal
 pub returns-in_err-facts-clause-err : goal.returns-in_err-facts-clause-err
 returns-in_err-facts-clause-err c =
     let p = err_from_is_err_and c.from_residual.result c.from_residual.ensures.1 in
-    rw (p.1, p.2) (λ ls d g. texts-fail ls d c.in_err-facts.field-0.0 (c.in_err-facts.ensures.err ls d g))
+    rw (p.1, p.2) (λ ls d g. texts-fail ls d _ (c.in_err-facts.ensures.err ls d g))
 
 pub end_message-requires-clause-opened : goal.end_message-requires-clause-opened
 end_message-requires-clause-opened c =

@@ -1,6 +1,6 @@
 use Rattle.index_job.proofs.Words.{arith, err_from_is_err_and}
-use Rattle.index_job.proofs.Terms.{fails-first}
+use Rattle.index_job.proofs.Terms.{add-fails}
 use Rattle.index_job.proofs.term_sink.add_ids.Goals as goal
 
-pub returns-in_err-add_own_id-clause-terms : goal.returns-in_err-add_own_id-clause-terms
-returns-in_err-add_own_id-clause-terms c = grind (arith, err_from_is_err_and, fails-first)
+pub returns-in_err-add-clause-terms : goal.returns-in_err-add-clause-terms
+returns-in_err-add-clause-terms c = grind (arith, err_from_is_err_and, add-fails)

@@ -2,8 +2,8 @@ use Rattle.index_job.proofs.Words.{arith}
 use Rattle.index_job.proofs.FoldedWords.{held-within, held-sizes, terms-of-ascii, terms-of-held}
 use Rattle.index_job.proofs.term_sink.add_words.Goals as goal
 
-pub returns-then-branch-clause-terms : goal.returns-then-branch-clause-terms
-returns-then-branch-clause-terms c = grind (arith, terms-of-ascii)
+pub returns-then-is_ascii-clause-terms : goal.returns-then-is_ascii-clause-terms
+returns-then-is_ascii-clause-terms c = grind (arith, terms-of-ascii)
 
 pub add_cut_words-requires-clause-within : goal.add_cut_words-requires-clause-within
 add_cut_words-requires-clause-within c = grind (arith, held-within)

@@ -1,4 +1,4 @@
-use Rattle.mail_answer.proofs.Words.{◌≡◌, ◌∙◌, ◌⊎◌, ℕ, nat_eq, List, [], length, get_or, inl, inr, sym, ap, subst, arith, length-map, length-map-range_with_len, list_any, eqb-true, LinkId, keys_of, each_number, AreThreads, TellsThreads}
+use Rattle.mail_answer.proofs.Words.{◌≡◌, ◌∙◌, ◌⊎◌, ℕ, nat_eq, [], length, get_or, inl, inr, sym, ap, subst, arith, length-map, list_any, eqb-true, LinkId, keys_of, each_number, AreThreads, TellsThreads}
 use Rattle.mail_answer.proofs.ThreadLaws.ChosenThreads.{ok_then, empty_is, no_keys, threads_without, chosen_by_marks}
 use Rattle.mail_answer.proofs.threads.with_threads.Goals as goal
 use Rattle.mail_answer.proofs.threads.with_threads.Goals.{then-is_empty-via-then-is_empty, then-is_empty-via-else-is_empty+then-is_none}
@@ -13,17 +13,10 @@ returns-then-is_empty c =
     ok_then c.from_slice.result (λ v. v.items ≡ c.args.numbers.now) (λ v. AreThreads c.args.index.now c.args.numbers.now v.items) c.from_slice.ensures.items
     (λ v same. subst (AreThreads c.args.index.now c.args.numbers.now) (sym same) (threads_without c.args.index.now c.args.numbers.now none c.requires.rises c.requires.within))
 
-pub with_marked_root-requires-clause-marked : goal.with_marked_root-requires-clause-marked
-with_marked_root-requires-clause-marked c = grind (arith, length-map-range_with_len)
-
 pub returns : goal.returns
 returns c =
     let t = c.args.index.now in
-    let tells : TellsThreads t c.as_slice-2.result.now = subst (TellsThreads t) (sym c.as_slice-2.ensures.value) (rw c.again-index.ensures.same at c.in_ok-roots.ensures) in
-    let same_roots : c.as_slice.result.now ≡ c.as_slice-2.result.now = c.as_slice.ensures.value ∙ sym c.as_slice-2.ensures.value in
-    let marks : c.as_slice-3.result.now ≡ each_number (length t.messages) (λ r. list_any (λ n. nat_eq r (get_or c.as_slice-2.result.now n 0)) c.args.numbers.now) =
-    c.as_slice-3.ensures.value ∙ c.in_ok-marks.ensures
-    ∙ ap (λ (roots : List ℕ). each_number (length roots) (λ r. list_any (λ n. nat_eq r (get_or roots n 0)) c.args.numbers.now)) same_roots
-    ∙ ap (λ (count : ℕ). each_number count (λ r. list_any (λ n. nat_eq r (get_or c.as_slice-2.result.now n 0)) c.args.numbers.now)) tells.long in
-    ok_then c.with_marked_root.result _ (λ v. AreThreads t c.args.numbers.now v.items) c.with_marked_root.ensures
-    (λ v are. chosen_by_marks t c.args.numbers.now c.as_slice-2.result.now v.items c.as_slice-3.result.now tells c.requires.within marks are)
+    let tells : TellsThreads t c.as_slice.result.now = subst (TellsThreads t) (sym c.as_slice.ensures.value) (rw c.again-index.ensures.same at c.in_ok-roots.ensures) in
+    let marks = ap (λ (count : ℕ). each_number count (λ r. list_any (λ n. nat_eq r (get_or c.as_slice.result.now n 0)) c.args.numbers.now)) tells.long in
+    ok_then c.with_same_root.result _ (λ v. AreThreads t c.args.numbers.now v.items) c.with_same_root.ensures
+    (λ v are. chosen_by_marks t c.args.numbers.now c.as_slice.result.now v.items _ tells c.requires.within marks are)

@@ -1,7 +1,21 @@
-use Rattle.mail_answer.proofs.Words.{length-take-le, arith}
+use Rattle.mail_answer.proofs.Words.{◌∙◌, take, length-take-le, arith}
 use Rattle.mail_answer.proofs.ArchiveLaws.DigestLemmas.{more_absorbed}
 use Rattle.mail_answer.proofs.ArchiveLaws.CallLemmas.{keeps_join}
 use Rattle.mail_answer.proofs.archives.verified.read_digest.Goals as goal
 
 pub pieces-preserved : goal.pieces-preserved
-pieces-preserved g c = grind (arith, keeps_join, length-take-le, more_absorbed)
+pieces-preserved g c =
+    let i = c.pieces.invariant in
+    let read = c.in-Ok.ensures in
+    record {
+      keeps = keeps_join g.A.Archives _ _ _ i.keeps (record { held = read.held; number = read.number; asked = read.asked });
+      count = read.count ∙ i.count;
+      within = grind (arith, length-take-le);
+      absorbed = more_absorbed g.A.Archives c.args.archive c.pieces.at c.in-Ok.count c.args.archives.now c.pieces.archives c.read_at.new.self c.pieces.hasher c.update.new.self i.absorbed (record {
+        bytes = take c.in-Ok.count c.read_at.new.into;
+        number = length-take-le c.in-Ok.count c.read_at.new.into read.bound;
+        part = c.update.ensures;
+        read = rw i.keeps.held at read.bytes;
+        told = read.read;
+      });
+    }

@@ -5,7 +5,7 @@ use Rattle.mail_answer.proofs.ThreadLaws.NumberLists.{numbers_chosen}
 use Rattle.mail_answer.proofs.numbers.Numbers.chosen.Goals as goal
 
 pub returns-then-not-threads-clause-numbers : goal.returns-then-not-threads-clause-numbers
-returns-then-not-threads-clause-numbers c = rw c.in_ok-new.ensures.numbers (numbers_chosen c.args.index.now (meaning c.args.query.now))
+returns-then-not-threads-clause-numbers c = rw c.in_ok-cursor.ensures.numbers (numbers_chosen c.args.index.now (meaning c.args.query.now))
 
 pub with_threads-requires-clause-rises : goal.with_threads-requires-clause-rises
 with_threads-requires-clause-rises c = grind (arith, numbers_chosen)
@@ -17,4 +17,4 @@ with_threads-requires-clause-within c =
 pub returns-clause-numbers : goal.returns-clause-numbers
 returns-clause-numbers c =
     let are = c.in_ok-numbers.ensures in
-    record { rises = are.rises; below = threads_below c.args.index.now c.as_slice.result.now c.in_ok-numbers.numbers.items are }
+    record { rises = rw c.into_iter.ensures.rest are.rises; below = rw c.into_iter.ensures.rest (threads_below c.args.index.now c.as_slice.result.now c.in_ok-numbers.numbers.items are) }

@@ -1,9 +1,0 @@
-use Rattle.mail_answer.proofs.Words.{length, refl, arith, take_all, length-replicate}
-use Rattle.mail_answer.proofs.CursorLaws.TruthLists.{adds_to_none}
-use Rattle.mail_answer.proofs.threads.root_marks.Goals as goal
-
-pub index_mut-requires : goal.index_mut-requires
-index_mut-requires c = grind (arith, length-replicate)
-
-pub returns : goal.returns
-returns c = adds_to_none _ (length c.args.roots.now) _ c.loop-number.marks.items refl (rw (take_all c.loop-number.number-index c.args.numbers.now c.loop-number-test.false) at c.loop-number.invariant)
