@@ -42,7 +42,7 @@ struct Said {
 }
 
 /// An option that every rcfile has.
-#[derive(Clone, Copy, Debug, PartialEq, Eq)]
+#[derive(Clone, Copy, Debug)]
 pub enum Name {
     Mbox,
     Database,
@@ -50,7 +50,7 @@ pub enum Name {
 }
 
 /// Why an rcfile is refused. Lines are numbered from 1.
-#[derive(Clone, Copy, Debug, PartialEq, Eq)]
+#[derive(Clone, Copy, Debug)]
 pub enum RcFault {
     /// Not UTF-8, no `=`, an empty option or value, or a value (of `mbox`, one of its names) that is no path, or none under the
     /// base.
