@@ -4,7 +4,7 @@ ghost use Rattle.std.specs.Prelude.{◌≡◌};
 use std::alloc::AllocError;
 
 /// What is wrong with a query.
-#[derive(Clone, Copy, Debug, PartialEq, Eq)]
+#[derive(Clone, Copy, Debug)]
 pub enum QueryFaultKind {
     /// There is no pattern, or no term.
     NoPattern,
@@ -45,7 +45,7 @@ impl From<AllocError> for QueryFaultKind {
 }
 
 /// Why a query is refused, and where.
-#[derive(Clone, Copy, Debug, PartialEq, Eq)]
+#[derive(Clone, Copy, Debug)]
 pub struct QueryFault {
     /// The number from 1 of the pattern, or in a boolean query of the token, where the end counts as one; 1 where
     /// there is none, and 0 where memory was wanting.

@@ -114,8 +114,8 @@ impl Reader {
     }
 
     /// What the whole asks, where nothing more comes.
-    pub(crate) fn end(self, alloc: Global) -> Result<Node, QueryFaultKind>
-        ensures { Gives query_of kind_refusal result (ended (shown self)) }
+    pub(crate) fn end(&mut self, alloc: Global) -> Result<Node, QueryFaultKind>
+        ensures { Gives query_of kind_refusal result (ended (shown self.old)) }
     {
         if self.wanted {
             return Err(QueryFaultKind::MissingTerm);
@@ -123,7 +123,8 @@ impl Reader {
         if has_open(self.waiting.as_slice()) {
             return Err(QueryFaultKind::BadParenthesis);
         }
-        Ok(self.level.into_node(alloc)?)
+        let level = mem::replace(&mut self.level, Level::empty(alloc));
+        Ok(level.into_node(alloc)?)
     }
 
     fn read_term(&mut self, alloc: Global, term: &str) -> Result<(), QueryFaultKind>
