@@ -1,7 +1,7 @@
 //! Why a query is refused.
 ghost use Rattle.std.specs.Prelude.{◌≡◌};
 
-use std::alloc::AllocError;
+use std::alloc::{AllocError, AllocFailed};
 
 /// What is wrong with a query.
 #[derive(Clone, Copy, Debug)]
@@ -40,6 +40,16 @@ impl From<AllocError> for QueryFaultKind {
     ghost from_gives = { λ _ kind. kind ≡ OutOfMemory };
 
     fn from(_: AllocError) -> Self {
+        QueryFaultKind::OutOfMemory
+    }
+}
+
+impl<T: Drop> From<AllocFailed<T>> for QueryFaultKind {
+    ghost use Rattle.mail_query.specs.declared.fault.QueryFaultKind.TheVariants.{OutOfMemory};
+
+    ghost from_gives = { λ _ kind. kind ≡ OutOfMemory };
+
+    fn from(_: AllocFailed<T>) -> Self {
         QueryFaultKind::OutOfMemory
     }
 }
