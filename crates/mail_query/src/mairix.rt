@@ -1,11 +1,11 @@
 //! Patterns as mairix writes them.
-ghost use Rattle.std.specs.Prelude.{◌≡◌, map, option_map, string_bytes, IfOk, IfErr};
+ghost use Rattle.std.specs.Prelude.{◌≡◌, map, string_bytes, IfOk, IfErr};
 ghost use Rattle.contract_words.specs.Answers.{Gives};
 ghost use Rattle.mail_query.specs.Query.{query_of};
 ghost use Rattle.mail_query.specs.Meaning.{meaning};
-ghost use Rattle.mail_query.specs.Kinds.{union};
+ghost use Rattle.mail_query.specs.Inside.Reading.{kinds_added};
 ghost use Rattle.mail_query.specs.Refusals.{kind_refusal, query_refusal, IfRefused};
-ghost use Rattle.mail_query.specs.Mairix.{kinds_of, kinds_of_letter, pattern_query};
+ghost use Rattle.mail_query.specs.Mairix.{kinds_of, pattern_query};
 ghost use Rattle.mail_query.specs.MairixGrammar.{IsAsked, AskNothing};
 ghost use Rattle.mail_query.specs.MairixFaults.{IsFirstFault};
 ghost use Rattle.mail_query.specs.Mail.{pattern_lexicon, mairix_query};
@@ -101,7 +101,7 @@ fn kinds_of(letters: &[u8]) -> Option<Kinds>
 
 /// The set with the kinds of a letter.
 fn with_letter(mut kinds: Kinds, letter: u8) -> Option<Kinds>
-    ensures { result ≡ option_map (union kinds) (kinds_of_letter letter) }
+    ensures { result ≡ kinds_added kinds letter }
 {
     match letter {
         b't' => kinds.to = true,
