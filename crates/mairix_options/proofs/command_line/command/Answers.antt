@@ -13,8 +13,7 @@ added : {old new : Command} {a : Arg} (rows : List Argument) (i : ℕ) (row : Ar
     → fold with_rule (app_of new) (map rule_in (drop (i + 1) rows)) ≡ fold with_rule (app_of old) (map rule_in (drop i rows))
 added {old} {new} {a} rows i row within adds local same =
     let first : map rule_in (drop i rows) ≡ rule_in (get_or rows i row) ∷ map rule_in (drop (suc i) rows) = ap (map rule_in) (drop-cons rows i row within) in
-    let grown : app_of new ≡ with_rule (app_of old) (rule_in (get_or rows i row)) = adds.shape local ∙ ap (with_rule (app_of old)) same in
-    rw (add-one, first, grown) refl
+    rw (add-one, first, adds.shape local ∙ ap (with_rule (app_of old)) same) refl
 
 pub loop-argument-preserved : goal.loop-argument-preserved
 loop-argument-preserved c = added _ c.loop-argument.argument-index _ c.loop-argument-test.true c.in_ok-command.ensures c.arg.ensures.local c.arg.ensures.rule ∙ c.loop-argument.invariant

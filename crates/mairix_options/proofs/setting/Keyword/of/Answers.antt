@@ -5,7 +5,6 @@ use Rattle.mairix_options.specs.declared.setting.Keyword.{Keyword}
 use Rattle.mairix_options.proofs.setting.Keyword.of.Invariants.{keyword_in}
 use Rattle.mairix_options.proofs.setting.Keyword.of.Goals as goal
 
--- a row with another name
 passed : (option : List ℕ) (rows : List (Bor (List ℕ) × Keyword)) (i : ℕ) (row : Bor (List ℕ) × Keyword) → i < length rows → bytes_eq option ((get_or rows i row).0).now ≡ false
     → keyword_in option (drop (i + 1) rows) ≡ keyword_in option (drop i rows)
 passed option rows i row within other = rw (add-one, drop-cons rows i row within, other) refl

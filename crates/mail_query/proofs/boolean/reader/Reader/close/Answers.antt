@@ -7,10 +7,9 @@ pub returns-in_ok-node-in-Some-ForClose : goal.returns-in_ok-node-in-Some-ForClo
 returns-in_ok-node-in-Some-ForClose c =
     let reader = c.args.self.now in
     let node = query_of c.in_ok-node-in-Some-ForClose.node in
-    let last = rw c.in-Some-ForClose.field-0-is at c.in-Some-ForClose.ensures.items in
     let asked : Ok (level_query (shown_level reader.level)) ≡ Ok node = rw c.replace-inner.ensures.value at c.in_ok-node-in-Some-ForClose.ensures in
     let whole : closed (shown reader) ≡ Ok (placed (shown_stack c.pop.new.self.items) (shown_level c.in-Some-ForClose.outer) node) =
-    rw c.if-self.false (pops-close reader.waiting.items c.pop.new.self.items c.in-Some-ForClose.outer (shown_level reader.level) last ∙ cc) in
+    rw c.if-self.false (pops-close reader.waiting.items c.pop.new.self.items c.in-Some-ForClose.outer (shown_level reader.level) (rw c.in-Some-ForClose.field-0-is at c.in-Some-ForClose.ensures.items) ∙ cc) in
     subst (λ (r : Result State QueryFaultKind). Gives (λ _. shown c.place.new.self) kind_refusal c.place.result r) (sym whole) (rw c.replace-inner.ensures.after at c.place.ensures)
 
 pub returns-in-Some-ForNot : goal.returns-in-Some-ForNot
