@@ -43,15 +43,17 @@ fn read_tokens(alloc: Global, text: &str) -> Result<Query, QueryFault>
     let mut rest = text;
     let mut number = 1;
     'tokens: while let Some((token, behind)) = next_token(rest) {
-        let read = reader.read(alloc, token);
-        read.map_err(|kind| QueryFault::at(number, kind))?;
+        if let Err(kind) = reader.read(alloc, token) {
+            return Err(QueryFault::at(number, kind));
+        }
         rest = behind;
         number += 1;
     }
     if number == 1 {
         return Err(QueryFault::at(1, QueryFaultKind::NoPattern));
     }
-    let ended = reader.end(alloc);
-    let node = ended.map_err(|kind| QueryFault::at(number, kind))?;
-    Ok(Query::new(node))
+    match reader.end(alloc) {
+        Ok(node) => Ok(Query::new(node)),
+        Err(kind) => Err(QueryFault::at(number, kind)),
+    }
 }

@@ -1,10 +1,10 @@
 //! Why a query is refused.
 ghost use Rattle.std.specs.Prelude.{◌≡◌};
 
-use std::alloc::AllocError;
+use std::alloc::{AllocError, AllocFailed};
 
 /// What is wrong with a query.
-#[derive(Clone, Copy, Debug, PartialEq, Eq)]
+#[derive(Clone, Copy, Debug)]
 pub enum QueryFaultKind {
     /// There is no pattern, or no term.
     NoPattern,
@@ -44,8 +44,18 @@ impl From<AllocError> for QueryFaultKind {
     }
 }
 
+impl<T: Drop> From<AllocFailed<T>> for QueryFaultKind {
+    ghost use Rattle.mail_query.specs.declared.fault.QueryFaultKind.TheVariants.{OutOfMemory};
+
+    ghost from_gives = { λ _ kind. kind ≡ OutOfMemory };
+
+    fn from(_: AllocFailed<T>) -> Self {
+        QueryFaultKind::OutOfMemory
+    }
+}
+
 /// Why a query is refused, and where.
-#[derive(Clone, Copy, Debug, PartialEq, Eq)]
+#[derive(Clone, Copy, Debug)]
 pub struct QueryFault {
     /// The number from 1 of the pattern, or in a boolean query of the token, where the end counts as one; 1 where
     /// there is none, and 0 where memory was wanting.

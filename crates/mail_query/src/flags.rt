@@ -24,7 +24,9 @@ pub(crate) fn read_flags(alloc: Global, text: &[u8]) -> Result<Node, QueryFaultK
             }
             wanted = false;
         } else {
-            let flag = flag_of(*letter).ok_or(QueryFaultKind::BadFlag)?;
+            let Some(flag) = flag_of(*letter) else {
+                return Err(QueryFaultKind::BadFlag);
+            };
             add(&mut members, Node::Flag { flag, wanted })?;
             wanted = true;
         }

@@ -30,7 +30,7 @@ macro_rules! kinds {
 pub(crate) use kinds;
 
 impl Kinds {
-    ghost use Rattle.mail_query.specs.Kinds.{has_kind, union};
+    ghost use Rattle.mail_query.specs.Kinds.{has_kind};
 
     /// The set of nothing.
     pub const NONE: Kinds = Kinds {
@@ -56,22 +56,6 @@ impl Kinds {
             TextKind::Subject => self.subject,
             TextKind::Body => self.body,
             TextKind::Name => self.name,
-        }
-    }
-
-    /// What is in one set or the other.
-    pub fn union(self, other: Kinds) -> Kinds
-        ensures { result ≡ union self other }
-    {
-        Kinds {
-            to: self.to || other.to,
-            cc: self.cc || other.cc,
-            bcc: self.bcc || other.bcc,
-            from: self.from || other.from,
-            subject: self.subject || other.subject,
-            body: self.body || other.body,
-            name: self.name || other.name,
-            own_id: self.own_id || other.own_id,
         }
     }
 }

@@ -3,8 +3,9 @@ ghost use Rattle.std.specs.Prelude.{◌≡◌, map, string_bytes, IfOk, IfErr};
 ghost use Rattle.contract_words.specs.Answers.{Gives};
 ghost use Rattle.mail_query.specs.Query.{query_of};
 ghost use Rattle.mail_query.specs.Meaning.{meaning};
+ghost use Rattle.mail_query.specs.Inside.Reading.{kinds_added};
 ghost use Rattle.mail_query.specs.Refusals.{kind_refusal, query_refusal, IfRefused};
-ghost use Rattle.mail_query.specs.Mairix.{kinds_of, kinds_of_letter, pattern_query};
+ghost use Rattle.mail_query.specs.Mairix.{kinds_of, pattern_query};
 ghost use Rattle.mail_query.specs.MairixGrammar.{IsAsked, AskNothing};
 ghost use Rattle.mail_query.specs.MairixFaults.{IsFirstFault};
 ghost use Rattle.mail_query.specs.Mail.{pattern_lexicon, mairix_query};
@@ -53,9 +54,10 @@ fn read_patterns(alloc: Global, patterns: &[String], now: Moment) -> Result<Quer
     }
     let mut members = Vec::new(alloc);
     for (i, pattern) in patterns.iter().enumerate() {
-        let read = read_pattern(alloc, pattern.as_str(), now);
-        let node = read.map_err(|kind| QueryFault::at(i + 1, kind))?;
-        add(&mut members, node)?;
+        match read_pattern(alloc, pattern.as_str(), now) {
+            Ok(node) => add(&mut members, node)?,
+            Err(kind) => return Err(QueryFault::at(i + 1, kind)),
+        }
     }
     Ok(Query::new(all_of(members)))
 }
@@ -92,23 +94,28 @@ fn kinds_of(letters: &[u8]) -> Option<Kinds>
     }
     let mut kinds = Kinds::NONE;
     for letter in letters {
-        let more = kinds_of_letter(*letter)?;
-        kinds = kinds.union(more);
+        kinds = with_letter(kinds, *letter)?;
     }
     Some(kinds)
 }
 
-fn kinds_of_letter(letter: u8) -> Option<Kinds>
-    ensures { result ≡ kinds_of_letter letter }
+/// The set with the kinds of a letter.
+fn with_letter(mut kinds: Kinds, letter: u8) -> Option<Kinds>
+    ensures { result ≡ kinds_added kinds letter }
 {
     match letter {
-        b't' => Some(kinds!(to)),
-        b'c' => Some(kinds!(cc)),
-        b'f' => Some(kinds!(from)),
-        b's' => Some(kinds!(subject)),
-        b'b' => Some(kinds!(body)),
-        b'a' => Some(kinds!(to, cc, from)),
-        b'n' => Some(kinds!(name)),
-        _ => None,
+        b't' => kinds.to = true,
+        b'c' => kinds.cc = true,
+        b'f' => kinds.from = true,
+        b's' => kinds.subject = true,
+        b'b' => kinds.body = true,
+        b'a' => {
+            kinds.to = true;
+            kinds.cc = true;
+            kinds.from = true;
+        }
+        b'n' => kinds.name = true,
+        _ => return None,
     }
+    Some(kinds)
 }

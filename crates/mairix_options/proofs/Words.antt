@@ -25,13 +25,12 @@ pub use Rattle.mairix_options.specs.declared.setting.ArchivesLine.{ArchivesLine}
 pub use Rattle.mairix_options.specs.declared.setting.MfolderLine.{MfolderLine}
 pub use Rattle.mairix_options.specs.declared.setting.Setting.{Setting}
 pub use Rattle.mairix_options.specs.declared.setting.Setting.TheVariants.{Archives, Base, Database, Format, Mfolder}
-pub use Rattle.std.proofs.Common.{Bool, Err, IfOk, IfSome, List, None, Ok, Option, Result, Some, [], ap, append-nil, ap₂, arith, codes, drop, encode_utf8, false, filter, get_or, if◌then◌else◌, is_some, length, lit<, map, nat_eq, nat_lt, not, option_map, refl, replicate, reverse, slice_get, string_bytes, subst, suc, sym, take, true, unwrap_or, zero, ℕ, ⊎_elim, ◌&&◌, ◌++◌, ◌+◌, ◌-◌, ◌<◌, ◌==◌, ◌^◌, ◌||◌, ◌↔◌, ◌∙◌, ◌∷◌, ◌≡◌, ◌≢◌, ◌≤◌, ◌⊎◌}
+pub use Rattle.std.proofs.Common.{Bool, Err, IfOk, IfSome, List, None, Ok, Option, Result, Some, [], ap, append-nil, arith, codes, drop, encode_utf8, false, filter, get_or, if◌then◌else◌, is_some, length, lit<, map, nat_eq, nat_lt, not, option_map, refl, replicate, reverse, slice_get, string_bytes, subst, suc, sym, take, true, unwrap_or, zero, ℕ, ⊎_elim, ◌&&◌, ◌++◌, ◌+◌, ◌-◌, ◌<◌, ◌==◌, ◌^◌, ◌||◌, ◌↔◌, ◌∙◌, ◌∷◌, ◌≡◌, ◌≢◌, ◌≤◌, ◌⊎◌}
 pub use Rattle.std.proofs.lemmas.Bool.{and_parts, cases_lt, false_from_ne_true, false≢true, not-false, not-true, or_cases, or_parts, or_right}
 pub use Rattle.std.proofs.lemmas.Bool.Decides.{Decides-eqb, nat_tests, same_from_decides}
 pub use Rattle.std.proofs.lemmas.List.{drop_all, get_or-reverse, length-drop, take_all}
 pub use Rattle.std.proofs.lemmas.List.Elements.{All-append, All-cons, All-filter, All-head, All-nil, All-tail, filter_map-append}
 pub use Rattle.std.proofs.lemmas.List.Sums.{passes_at_first, prefix_len-le-length, prefix_len_passes, suffix_len-le-length}
-pub use Rattle.std.proofs.lemmas.Result.{IfOk-weaker}
 pub use Rattle.std.proofs.lemmas.Str.{IsCharBoundary-after_ascii, IsCharBoundary-before_ascii, IsCharBoundary-end, IsCharBoundary-start, IsUtf8-append, IsUtf8-drop, IsUtf8-from_ascii, IsUtf8-from_is_utf8, IsUtf8-nil, IsUtf8-take, is_utf8-from_IsUtf8}
 pub use Rattle.std.proofs.lemmas.Str.Pattern.{contains_text, split_once_first, starts_text}
 pub use Rattle.std.specs.List.{All, AllByRecursion, after_first, before_first, cons_option, filter_map, last_or, list_all, list_any, position_or_len, prefix_len, slice_index, slice_split, starts_with, suffix_len}

@@ -2,7 +2,8 @@
 ghost use Rattle.std.specs.Prelude.{◌≡◌, [], true, false, map, option_map, unwrap_or, is_ok, IfOk, codes, string_bytes};
 ghost use Rattle.clap.specs.Words.{app_of, rule_of, found_of, rows_of, first_of, all_of};
 ghost use Rattle.contract_words.specs.Answers.{Gives};
-ghost use Rattle.mairix_options.specs.CommandLine.{bare_flag, rcfile_option, mfolder_option, pattern_argument, bare_command, command, flag, parse, plan, plan_in, one_format, fault_of_kind, error_refusal};
+ghost use Rattle.mairix_options.specs.CommandLine.{bare_command, command, flag, parse, plan, plan_in, one_format, fault_of_kind, error_refusal};
+ghost use Rattle.mairix_options.specs.Inside.Arguments.{rule_in};
 ghost use Rattle.mairix_options.specs.Refusals.{refusal};
 
 use crate::or_memory::OrMemory;
@@ -11,25 +12,132 @@ use clap::error::ErrorKind;
 use clap::{Arg, ArgAction, ArgMatches, Command};
 use std::alloc::{AllocError, Global};
 
-// The headings of the options' groups in help. An option without one stands below `Options`, as the parser's own do.
-const OUTPUT: &str = "Output";
+/// How an argument is written.
+#[derive(Clone, Copy)]
+enum Form {
+    /// `-c`.
+    Letter(char),
+    /// `--id`.
+    Name,
+    /// A word that is no option.
+    Word,
+}
 
-const SEARCHING: &str = "Searching";
+/// The heading in help that an argument stands below.
+#[derive(Clone, Copy)]
+enum Group {
+    /// That of the parser's own options.
+    Options,
+    Output,
+    Searching,
+}
 
-// What help says of each flag.
-const RAW: &str = "Print a line for each message: offset, length, archive";
+/// An argument of the command, and what help says of it.
+#[derive(Clone, Copy)]
+struct Argument {
+    id: &'static str,
+    form: Form,
+    /// What help calls its values; a flag has none.
+    values: &'static [&'static str],
+    action: ArgAction,
+    required: bool,
+    group: Group,
+    help: &'static str,
+}
 
-const EXCERPT: &str = "Print the archive and the main header lines of each message";
-
-const THREADS: &str = "Find whole threads: also all messages linked to a match";
-
-const STDOUT: &str = "Print the mbox, and write no file";
-
-const BOOLEAN: &str = "Read the patterns as one query with and, or, not and ( )";
-
-const ONCE: &str = "Index the archives in memory, and search that index";
-
-const VERIFY: &str = "Check first that no archive has changed since it was indexed";
+/// The command's arguments, in the order of help.
+const ARGUMENTS: [Argument; 10] = [
+    Argument {
+        id: "rcfile",
+        form: Form::Letter('f'),
+        values: &["RCFILE"],
+        action: ArgAction::Set,
+        required: true,
+        group: Group::Options,
+        help: "The file that names the archives and the index",
+    },
+    Argument {
+        id: "raw",
+        form: Form::Letter('r'),
+        values: &[],
+        action: ArgAction::SetTrue,
+        required: false,
+        group: Group::Output,
+        help: "Print a line for each message: offset, length, archive",
+    },
+    Argument {
+        id: "excerpt",
+        form: Form::Letter('x'),
+        values: &[],
+        action: ArgAction::SetTrue,
+        required: false,
+        group: Group::Output,
+        help: "Print the archive and the main header lines of each message",
+    },
+    Argument {
+        id: "threads",
+        form: Form::Letter('t'),
+        values: &[],
+        action: ArgAction::SetTrue,
+        required: false,
+        group: Group::Searching,
+        help: "Find whole threads: also all messages linked to a match",
+    },
+    Argument {
+        id: "mfolder",
+        form: Form::Letter('o'),
+        values: &["NAME"],
+        action: ArgAction::Set,
+        required: false,
+        group: Group::Output,
+        help: "Write the mbox to this file, not to the rcfile's mfolder",
+    },
+    Argument {
+        id: "stdout",
+        form: Form::Name,
+        values: &[],
+        action: ArgAction::SetTrue,
+        required: false,
+        group: Group::Output,
+        help: "Print the mbox, and write no file",
+    },
+    Argument {
+        id: "boolean",
+        form: Form::Name,
+        values: &[],
+        action: ArgAction::SetTrue,
+        required: false,
+        group: Group::Searching,
+        help: "Read the patterns as one query with and, or, not and ( )",
+    },
+    Argument {
+        id: "once",
+        form: Form::Name,
+        values: &[],
+        action: ArgAction::SetTrue,
+        required: false,
+        group: Group::Searching,
+        help: "Index the archives in memory, and search that index",
+    },
+    Argument {
+        id: "verify",
+        form: Form::Name,
+        values: &[],
+        action: ArgAction::SetTrue,
+        required: false,
+        group: Group::Searching,
+        help: "Check first that no archive has changed since it was indexed",
+    },
+    Argument {
+        id: "pattern",
+        form: Form::Word,
+        values: &["PATTERN"],
+        action: ArgAction::Append,
+        required: false,
+        group: Group::Options,
+        help: "What to look for; without a pattern the index is made",
+    },
+];
 
 // What stands behind the options in help: where an answer goes, both query languages, in short, examples, and the pages.
 const ANSWERS_AND_QUERIES: &str = "\
@@ -90,7 +198,7 @@ pub struct Plan {
 }
 
 /// Why the words of a command line ask for nothing.
-#[derive(Clone, Copy, Debug, PartialEq, Eq)]
+#[derive(Clone, Copy, Debug)]
 pub enum UsageFault {
     /// The parser refuses the words.
     Parse,
@@ -116,7 +224,7 @@ pub enum UsageFault {
 pub fn plan_of(alloc: Global, words: &[String]) -> Result<Plan, OrMemory<UsageFault>>
     ensures { Gives (λ p. p) refusal result (plan (map string_bytes words.now)) }
 {
-    match parsed(alloc, words)? {
+    match parsed(alloc, words) {
         Ok(matches) => planned(alloc, &matches),
         Err(error) => Err(fault_of_kind(error.kind())),
     }
@@ -127,7 +235,7 @@ pub fn usage_text(alloc: Global, words: &[String]) -> Result<String, AllocError>
     ensures { is_ok (parse (map string_bytes words.now)) ≡ true
         → IfOk result (λ text. string_bytes text ≡ []) }
 {
-    match parsed(alloc, words)? {
+    match parsed(alloc, words) {
         Ok(_) => Ok(String::new(alloc)),
         Err(error) => match error.kind() {
             ErrorKind::OutOfMemory => Err(AllocError),
@@ -136,15 +244,11 @@ pub fn usage_text(alloc: Global, words: &[String]) -> Result<String, AllocError>
     }
 }
 
-fn parsed<'a>(
-    alloc: Global,
-    words: &'a [String],
-) -> Result<Result<ArgMatches<'a>, clap::Error>, AllocError>
-    ensures { IfOk result (λ r. Gives plan_in error_refusal r
-        (parse (map string_bytes words.entry.now))) }
+fn parsed<'a>(alloc: Global, words: &'a [String]) -> Result<ArgMatches<'a>, clap::Error>
+    ensures { Gives plan_in error_refusal result (parse (map string_bytes words.entry.now)) }
 {
     let command = command(alloc)?;
-    Ok(command.try_get_matches_from(words))
+    command.try_get_matches_from(words)
 }
 
 fn planned(alloc: Global, matches: &ArgMatches<'_>) -> Result<Plan, OrMemory<UsageFault>>
@@ -208,17 +312,11 @@ fn fault_of_kind(kind: ErrorKind) -> OrMemory<UsageFault>
 fn command<'a>(alloc: Global) -> Result<Command<'a>, AllocError>
     ensures { IfOk result (λ c. app_of c ≡ command) }
 {
-    bare_command(alloc)
-        .arg(rcfile_option(alloc))?
-        .arg(flag(alloc, "raw", OUTPUT, RAW).short('r'))?
-        .arg(flag(alloc, "excerpt", OUTPUT, EXCERPT).short('x'))?
-        .arg(flag(alloc, "threads", SEARCHING, THREADS).short('t'))?
-        .arg(mfolder_option(alloc))?
-        .arg(flag(alloc, "stdout", OUTPUT, STDOUT).long("stdout"))?
-        .arg(flag(alloc, "boolean", SEARCHING, BOOLEAN).long("boolean"))?
-        .arg(flag(alloc, "once", SEARCHING, ONCE).long("once"))?
-        .arg(flag(alloc, "verify", SEARCHING, VERIFY).long("verify"))?
-        .arg(pattern_argument(alloc))
+    let mut command = bare_command(alloc);
+    for argument in &ARGUMENTS {
+        command = command.arg(argument.arg(alloc))?;
+    }
+    Ok(command)
 }
 
 fn bare_command<'a>(alloc: Global) -> Command<'a>
@@ -231,46 +329,26 @@ fn bare_command<'a>(alloc: Global) -> Command<'a>
         .no_binary_name(true)
 }
 
-fn rcfile_option<'a>(alloc: Global) -> Arg<'a>
-    ensures rule { rule_of result ≡ rcfile_option }
-    ensures local { result.global ≡ false }
-{
-    Arg::new(alloc, "rcfile")
-        .short('f')
-        .value_name("RCFILE")
-        .required(true)
-        .action(ArgAction::Set)
-        .help("The file that names the archives and the index")
-}
-
-fn mfolder_option<'a>(alloc: Global) -> Arg<'a>
-    ensures rule { rule_of result ≡ mfolder_option }
-    ensures local { result.global ≡ false }
-{
-    Arg::new(alloc, "mfolder")
-        .short('o')
-        .value_name("NAME")
-        .action(ArgAction::Set)
-        .help_heading(OUTPUT)
-        .help("Write the mbox to this file, not to the rcfile's mfolder")
-}
-
-fn pattern_argument<'a>(alloc: Global) -> Arg<'a>
-    ensures rule { rule_of result ≡ pattern_argument }
-    ensures local { result.global ≡ false }
-{
-    Arg::new(alloc, "pattern")
-        .value_name("PATTERN")
-        .action(ArgAction::Append)
-        .help("What to look for; without a pattern the index is made")
-}
-
-fn flag<'a>(alloc: Global, id: &'a str, group: &'a str, help: &'a str) -> Arg<'a>
-    ensures rule { rule_of result ≡ bare_flag id.entry.now }
-    ensures local { result.global ≡ false }
-{
-    Arg::new(alloc, id)
-        .action(ArgAction::SetTrue)
-        .help_heading(group)
-        .help(help)
+impl Argument {
+    /// The argument, as the parser takes it.
+    fn arg<'a>(&self, alloc: Global) -> Arg<'a>
+        ensures rule { rule_of result ≡ rule_in self.now }
+        ensures local { result.global ≡ false }
+    {
+        let arg = Arg::new(alloc, self.id)
+            .value_names(self.values)
+            .action(self.action)
+            .required(self.required)
+            .help(self.help);
+        let arg = match self.form {
+            Form::Letter(letter) => arg.short(letter),
+            Form::Name => arg.long(self.id),
+            Form::Word => arg,
+        };
+        match self.group {
+            Group::Options => arg,
+            Group::Output => arg.help_heading("Output"),
+            Group::Searching => arg.help_heading("Searching"),
+        }
+    }
 }

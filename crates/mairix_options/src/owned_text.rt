@@ -86,10 +86,10 @@ impl Texts {
         Ok(())
     }
 
-    pub(crate) fn append(&mut self, mut more: Texts) -> Result<(), AllocError>
-        ensures ok { OnOk result (self.new ≡ self.old ++ more) }
-        ensures err { OnErr result (self.new ≡ self.old) }
+    pub(crate) fn add(&mut self, text: Text) -> Result<(), AllocError>
+        ensures { OnOk result (self.new ≡ self.old ++ text ∷ []) }
     {
-        self.texts.append(&mut more.texts)
+        self.texts.push(text.text)?;
+        Ok(())
     }
 }

@@ -1,5 +1,5 @@
 //! Texts that name files.
-ghost use Rattle.std.specs.Prelude.{◌≡◌, map, IfOk, string_bytes};
+ghost use Rattle.std.specs.Prelude.{◌≡◌, ◌++◌, map, IfOk, OnOk, string_bytes};
 ghost use Rattle.std.specs.List.{list_all};
 ghost use Rattle.mairix_options.specs.Path.{is_path, has_expansion, has_wildcard, under, archive_path, mfolder_path};
 
@@ -42,22 +42,22 @@ pub(crate) fn has_wildcard(text: &str) -> bool
     memchr3(b'*', b'?', b'[', text.as_bytes()).is_some() || text.contains("...")
 }
 
-/// The paths of some archives' names: each under the base where there is one, unless it begins with `/`.
-pub(crate) fn archive_paths(
+/// Adds the paths of some archives' names: each under the base where there is one, unless it begins with `/`.
+pub(crate) fn add_archive_paths(
     alloc: Global,
+    paths: &mut Texts,
     base: &Option<Text>,
     names: &Texts,
-) -> Result<Texts, AllocError>
-    ensures { IfOk result (λ paths. paths ≡ map (archive_path base.now) names.now) }
+) -> Result<(), AllocError>
+    ensures { OnOk result (paths.new ≡ paths.old ++ map (archive_path base.now) names.now) }
 {
-    let mut paths = Texts::new(alloc);
     let written = names.as_slice();
     for name in written {
         let name = name.as_str();
         let path = under(alloc, base, name.starts_with("/"), name)?;
-        paths.push(path.as_str())?;
+        paths.add(path)?;
     }
-    Ok(paths)
+    Ok(())
 }
 
 /// Whether these names are paths under the base.
@@ -69,7 +69,8 @@ pub(crate) fn archives_fit(
     ensures { IfOk result (λ fit. fit ≡ list_all is_path
         (map (archive_path base.now) names.now)) }
 {
-    let paths = archive_paths(alloc, base, names)?;
+    let mut paths = Texts::new(alloc);
+    add_archive_paths(alloc, &mut paths, base, names)?;
     Ok(all_are_paths(&paths))
 }
 

@@ -11,7 +11,7 @@ ghost use Rattle.mairix_options.specs.Refusals.{refusal};
 use crate::mail_format::MailFormat;
 use crate::or_memory::OrMemory;
 use crate::owned_text::{Text, Texts};
-use crate::path::{archive_paths, archives_fit, mfolder_fits, mfolder_path};
+use crate::path::{add_archive_paths, archives_fit, mfolder_fits, mfolder_path};
 use crate::setting::{ArchivesLine, MfolderLine, Setting, line_setting};
 use bstr::ByteSlice;
 use std::alloc::{AllocError, Global};
@@ -42,7 +42,7 @@ struct Said {
 }
 
 /// An option that every rcfile has.
-#[derive(Clone, Copy, Debug, PartialEq, Eq)]
+#[derive(Clone, Copy, Debug)]
 pub enum Name {
     Mbox,
     Database,
@@ -50,7 +50,7 @@ pub enum Name {
 }
 
 /// Why an rcfile is refused. Lines are numbered from 1.
-#[derive(Clone, Copy, Debug, PartialEq, Eq)]
+#[derive(Clone, Copy, Debug)]
 pub enum RcFault {
     /// Not UTF-8, no `=`, an empty option or value, or a value (of `mbox`, one of its names) that is no path, or none under the
     /// base.
@@ -139,13 +139,12 @@ fn rc_with(alloc: Global, said: &mut Said) -> Result<Rc, OrMemory<RcFault>>
     if paths.as_slice().is_empty() {
         return Err(OrMemory::Refused(RcFault::Missing(Name::Mbox)));
     }
-    let Some(database) = &said.database else {
+    let Some(database) = said.database.take() else {
         return Err(OrMemory::Refused(RcFault::Missing(Name::Database)));
     };
     let Some(mfolder) = &said.mfolder else {
         return Err(OrMemory::Refused(RcFault::Missing(Name::Mfolder)));
     };
-    let database = Text::new(alloc, database.as_str())?;
     let mfolder = mfolder_path(alloc, &said.base, mfolder.name.as_str())?;
     Ok(Rc {
         database,
@@ -168,7 +167,10 @@ fn first_misfit(alloc: Global, said: &Said) -> Result<Option<u64>, AllocError>
     if mfolder_fits(alloc, &said.base, line.name.as_str())? {
         return Ok(earliest);
     }
-    Ok(Some(earliest.map_or(line.number, |number| number.min(line.number))))
+    match earliest {
+        Some(number) if number < line.number => Ok(earliest),
+        _ => Ok(Some(line.number)),
+    }
 }
 
 fn first_archives_misfit(
@@ -197,7 +199,7 @@ fn all_paths(
 {
     let mut paths = Texts::new(alloc);
     for line in archives {
-        paths.append(archive_paths(alloc, base, &line.names)?)?;
+        add_archive_paths(alloc, &mut paths, base, &line.names)?;
     }
     Ok(paths)
 }

@@ -28,18 +28,25 @@ enum Keyword {
     Mformat,
 }
 
+/// The options by name.
+const KEYWORDS: [(&str, Keyword); 5] = [
+    ("base", Keyword::Base),
+    ("mbox", Keyword::Mbox),
+    ("database", Keyword::Database),
+    ("mfolder", Keyword::Mfolder),
+    ("mformat", Keyword::Mformat),
+];
+
 impl Keyword {
     fn of(option: &str) -> Option<Keyword>
         ensures { result ≡ keyword_of option.now }
     {
-        match option {
-            "base" => Some(Keyword::Base),
-            "mbox" => Some(Keyword::Mbox),
-            "database" => Some(Keyword::Database),
-            "mfolder" => Some(Keyword::Mfolder),
-            "mformat" => Some(Keyword::Mformat),
-            _ => None,
+        for (name, keyword) in &KEYWORDS {
+            if option == *name {
+                return Some(*keyword);
+            }
         }
+        None
     }
 }
 
@@ -140,9 +147,12 @@ fn has_paths(
     match keyword {
         Some(Keyword::Mbox) => {
             let names = archives_of(alloc, value)?;
-            Ok(all_are_paths(&names) && archives_fit(alloc, base, &names)?)
+            if !all_are_paths(&names) {
+                return Ok(false);
+            }
+            archives_fit(alloc, base, &names)
         }
-        Some(Keyword::Mfolder) => Ok(is_path(value) && mfolder_fits(alloc, base, value)?),
+        Some(Keyword::Mfolder) if is_path(value) => mfolder_fits(alloc, base, value),
         _ => Ok(is_path(value)),
     }
 }

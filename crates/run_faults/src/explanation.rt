@@ -28,25 +28,26 @@ impl fmt::Display for Fault {
     ghost output = { λ fault. Some (text_of_fault fault) };
 
     fn fmt<W: fmt::Write>(&self, f: &mut fmt::Formatter<W>) -> fmt::Result {
-        match *self {
-            Fault::Usage(fault) => fault.fmt(f),
-            Fault::Rc(fault) => fault.fmt(f),
-            Fault::Query(fault) => fault.fmt(f),
+        let text = match self {
+            Fault::Usage(fault) => return fault.fmt(f),
+            Fault::Rc(fault) => return fault.fmt(f),
+            Fault::Query(fault) => return fault.fmt(f),
             Fault::Archive { number, fault } => {
-                let number = u128::from(number) + 1;
-                write!(f, "archive {number}: {fault}")
+                let number = u128::from(*number) + 1;
+                return write!(f, "archive {number}: {fault}");
             }
-            Fault::Index(fault) => write!(f, "index: {fault}"),
-            Fault::OldIndex => f.write_str("index: too old, build it again"),
+            Fault::Index(fault) => return write!(f, "index: {fault}"),
             Fault::Stale(number) => {
-                let number = u128::from(number) + 1;
-                write!(f, "archive {number}: changed since it was indexed")
+                let number = u128::from(*number) + 1;
+                return write!(f, "archive {number}: changed since it was indexed");
             }
-            Fault::Device => f.write_str("archive read failed"),
-            Fault::Out => f.write_str("output failed"),
-            Fault::Memory => f.write_str(OUT_OF_MEMORY),
-            Fault::TooMany => f.write_str("too many messages or keys"),
-        }
+            Fault::OldIndex => "index: too old, build it again",
+            Fault::Device => "archive read failed",
+            Fault::Out => "output failed",
+            Fault::Memory => OUT_OF_MEMORY,
+            Fault::TooMany => "too many messages or keys",
+        };
+        f.write_str(text)
     }
 }
 

@@ -25,7 +25,7 @@ pub const FAILED: u8 = 4;
 pub const NO_ROOM: u8 = 5;
 
 /// Why a run has no whole answer. Want of memory in any layer is `Memory`.
-#[derive(Clone, Copy, Debug, PartialEq, Eq)]
+#[derive(Clone, Copy, Debug)]
 pub enum Fault {
     /// The words of the command line are refused.
     Usage(UsageFault),

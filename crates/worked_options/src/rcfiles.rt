@@ -28,7 +28,7 @@ fn an_rcfile_is_accepted(rt: HostRuntime) -> Result<(), Fail> {
 fn sweep_read_rc(rt: HostRuntime) {
     let as_wanted = match read_rc(rt.alloc(), b"mbox=a:b\nmbox=c\ndatabase=d\nmfolder=f\n") {
         Ok(rc) => rc.paths.as_slice().len() == 3,
-        Err(fault) => fault == OrMemory::Memory,
+        Err(fault) => matches!(fault, OrMemory::Memory),
     };
     assert!(rt; as_wanted);
 }

@@ -1,10 +1,15 @@
 -- What the private functions of the readers answer.
+use Rattle.std.specs.Prelude.{ℕ, true, Option, Some, None, option_map}
 use Rattle.mail_words.specs.Words.{is_one_word, is_part_of_word}
 use Rattle.mail_words.specs.Folding.{folding}
 use Rattle.mail_query.specs.declared.kinds.Kinds.{Kinds}
+use Rattle.mail_query.specs.declared.boolean.field.Field.{Field}
+use Rattle.mail_query.specs.declared.boolean.field.Field.TheVariants as field
 use Rattle.mail_query.specs.declared.mairix.forms.Target.{Target}
 use Rattle.mail_query.specs.declared.mairix.forms.Target.TheVariants.{Words, OwnId}
-use Rattle.mail_query.specs.Mairix.{Forms, id_forms, some_if}
+use Rattle.mail_query.specs.BooleanTerms.{bare_kinds}
+use Rattle.mail_query.specs.Kinds.{no_kinds, union}
+use Rattle.mail_query.specs.Mairix.{Forms, id_forms, kinds_of_letter, some_if}
 
 -- words as mail has them
 abbrev pub mail_forms : Kinds → Forms
@@ -17,3 +22,17 @@ mail_forms kinds = record {
 abbrev pub forms_of : Target → Forms
 forms_of (Words kinds) = mail_forms kinds
 forms_of OwnId = id_forms
+
+-- these kinds and those of a letter
+abbrev pub kinds_added : Kinds → ℕ → Option Kinds
+kinds_added kinds letter = option_map (union kinds) (kinds_of_letter letter)
+
+-- where the text behind a prefix is sought
+abbrev pub kinds_sought : Option Field → Kinds
+kinds_sought None = bare_kinds
+kinds_sought (Some field.From) = record no_kinds { from = true }
+kinds_sought (Some field.To) = record no_kinds { to = true; cc = true; bcc = true }
+kinds_sought (Some field.Subject) = record no_kinds { subject = true }
+kinds_sought (Some field.Body) = record no_kinds { body = true }
+kinds_sought (Some field.Id) = record no_kinds { own_id = true }
+kinds_sought (Some field.Date) = no_kinds

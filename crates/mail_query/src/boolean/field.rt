@@ -13,19 +13,26 @@ pub(crate) enum Field {
     Date,
 }
 
+/// The names of the prefixes.
+const NAMES: [(&str, Field); 6] = [
+    ("from", Field::From),
+    ("to", Field::To),
+    ("subject", Field::Subject),
+    ("body", Field::Body),
+    ("id", Field::Id),
+    ("date", Field::Date),
+];
+
 /// The prefix of a name, in lower case.
 pub(crate) fn field_of(name: &str) -> Option<Field>
     ensures { result ≡ terms.field_of name.now }
 {
-    match name {
-        "from" => Some(Field::From),
-        "to" => Some(Field::To),
-        "subject" => Some(Field::Subject),
-        "body" => Some(Field::Body),
-        "id" => Some(Field::Id),
-        "date" => Some(Field::Date),
-        _ => None,
+    for (known, field) in &NAMES {
+        if name == *known {
+            return Some(*field);
+        }
     }
+    None
 }
 
 /// A set of prefixes.

@@ -1,5 +1,5 @@
 //! How far a boolean query was read.
-ghost use Rattle.std.specs.Prelude.{◌≡◌, IfOk, OnOk};
+ghost use Rattle.std.specs.Prelude.{◌≡◌, Ok, OnOk};
 ghost use Rattle.contract_words.specs.Answers.{Gives};
 ghost use Rattle.mail_query.specs.Query.{query_of};
 ghost use Rattle.mail_query.specs.Refusals.{kind_refusal};
@@ -51,8 +51,8 @@ impl Level {
         Ok(())
     }
 
-    fn into_node(mut self, alloc: Global) -> Result<Node, AllocError>
-        ensures { IfOk result (λ node. query_of node ≡ level_query (shown_level self)) }
+    fn into_node(mut self, alloc: Global) -> Result<Node, QueryFaultKind>
+        ensures { Gives query_of kind_refusal result (Ok (level_query (shown_level self))) }
     {
         self.end_each(alloc)?;
         Ok(either_of(self.eaches))
@@ -114,8 +114,8 @@ impl Reader {
     }
 
     /// What the whole asks, where nothing more comes.
-    pub(crate) fn end(self, alloc: Global) -> Result<Node, QueryFaultKind>
-        ensures { Gives query_of kind_refusal result (ended (shown self)) }
+    pub(crate) fn end(&mut self, alloc: Global) -> Result<Node, QueryFaultKind>
+        ensures { Gives query_of kind_refusal result (ended (shown self.old)) }
     {
         if self.wanted {
             return Err(QueryFaultKind::MissingTerm);
@@ -123,7 +123,8 @@ impl Reader {
         if has_open(self.waiting.as_slice()) {
             return Err(QueryFaultKind::BadParenthesis);
         }
-        Ok(self.level.into_node(alloc)?)
+        let level = mem::replace(&mut self.level, Level::empty(alloc));
+        level.into_node(alloc)
     }
 
     fn read_term(&mut self, alloc: Global, term: &str) -> Result<(), QueryFaultKind>
@@ -136,8 +137,11 @@ impl Reader {
         match cut(term, ':') {
             None => self.read_cut_term(alloc, None, term),
             Some((name, rest)) => {
-                let field = field_of(name).ok_or(QueryFaultKind::BadPrefix)?;
-                self.read_cut_term(alloc, Some(field), rest)
+                let field = field_of(name);
+                if field.is_none() {
+                    return Err(QueryFaultKind::BadPrefix);
+                }
+                self.read_cut_term(alloc, field, rest)
             }
         }
     }
@@ -159,7 +163,7 @@ impl Reader {
         if !negated {
             self.level.seen = self.level.seen.with(prefix);
         }
-        Ok(self.place(alloc, node)?)
+        self.place(alloc, node)
     }
 
     /// Lets one more `(` or `not` wait, if fewer than 30 do.
@@ -171,7 +175,7 @@ impl Reader {
         if self.waiting.len() >= MOST_WAITING {
             return Err(QueryFaultKind::TooDeep);
         }
-        self.waiting.push(what).map_err(AllocError::from)?;
+        self.waiting.push(what)?;
         self.wanted = true;
         Ok(())
     }
@@ -190,7 +194,7 @@ impl Reader {
             Some(Waiting::ForClose(outer)) => {
                 let inner = mem::replace(&mut self.level, outer);
                 let node = inner.into_node(alloc)?;
-                Ok(self.place(alloc, node)?)
+                self.place(alloc, node)
             }
             Some(Waiting::ForNot) => Err(QueryFaultKind::BadParenthesis),
             None => Err(QueryFaultKind::BadParenthesis),
@@ -198,9 +202,9 @@ impl Reader {
     }
 
     /// A `some` ends, and so does each `not` that waited for it.
-    fn place(&mut self, alloc: Global, mut node: Node) -> Result<(), AllocError>
-        ensures { OnOk result (shown self.new
-            ≡ placed (shown_stack self.old.waiting.items) (shown_level self.old.level) (query_of node)) }
+    fn place(&mut self, alloc: Global, mut node: Node) -> Result<(), QueryFaultKind>
+        ensures { Gives (λ _. shown self.new) kind_refusal result (Ok (placed
+            (shown_stack self.old.waiting.items) (shown_level self.old.level) (query_of node))) }
     {
         'nots: while is_negated(self.waiting.as_slice()) {
             self.waiting.truncate(self.waiting.len() - 1);

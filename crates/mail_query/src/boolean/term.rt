@@ -4,11 +4,12 @@ ghost use Rattle.contract_words.specs.Answers.{Gives};
 ghost use Rattle.mail_query.specs.Query.{query_of};
 ghost use Rattle.mail_query.specs.Refusals.{kind_refusal};
 ghost use Rattle.mail_query.specs.BooleanTerms.{word_query, parts_query};
+ghost use Rattle.mail_query.specs.Inside.Reading.{kinds_sought};
 ghost use Rattle.mail_query.specs.Mail.{boolean_lexicon};
 
 use crate::boolean::field::Field;
 use crate::fault::QueryFaultKind;
-use crate::kinds::{Kinds, kinds};
+use crate::kinds::Kinds;
 use crate::node::Node;
 use crate::pieces::{without_angles, without_last};
 use crate::query_text::QueryText;
@@ -27,26 +28,50 @@ pub(crate) fn read_parts(
     match prefix {
         None if rest == "*" => Ok(Node::Any),
         None if rest.eq_ignore_ascii_case("xor") => Err(QueryFaultKind::BadWord),
-        // In each kind of text but names of parts.
-        None => read_word(alloc, kinds!(to, cc, bcc, from, subject, body), rest),
         Some(_) if rest.is_empty() => Err(QueryFaultKind::MissingTerm),
-        Some(Field::From) => read_word(alloc, kinds!(from), rest),
-        Some(Field::To) => read_word(alloc, kinds!(to, cc, bcc), rest),
-        Some(Field::Subject) => read_word(alloc, kinds!(subject), rest),
-        Some(Field::Body) => read_word(alloc, kinds!(body), rest),
         Some(Field::Id) => {
             let id = without_angles(rest);
             if id.is_empty() {
                 return Err(QueryFaultKind::MissingTerm);
             }
             let text = QueryText::copy_of(alloc, id)?;
-            let kinds = kinds!(own_id);
+            let kinds = kinds_sought(prefix);
             Ok(Node::Word { kinds, text })
         }
         Some(Field::Date) => iso_range(rest)
             .map(Node::Date)
             .or(Err(QueryFaultKind::BadDate)),
+        _ => read_word(alloc, kinds_sought(prefix), rest),
     }
+}
+
+/// The kinds of text in which the text behind a prefix is sought.
+fn kinds_sought(prefix: Option<Field>) -> Kinds
+    ensures { result ≡ kinds_sought prefix }
+{
+    let mut kinds = Kinds::NONE;
+    match prefix {
+        // In each kind of text but names of parts.
+        None => {
+            kinds.to = true;
+            kinds.cc = true;
+            kinds.bcc = true;
+            kinds.from = true;
+            kinds.subject = true;
+            kinds.body = true;
+        }
+        Some(Field::From) => kinds.from = true,
+        Some(Field::To) => {
+            kinds.to = true;
+            kinds.cc = true;
+            kinds.bcc = true;
+        }
+        Some(Field::Subject) => kinds.subject = true,
+        Some(Field::Body) => kinds.body = true,
+        Some(Field::Id) => kinds.own_id = true,
+        Some(Field::Date) => {}
+    }
+    kinds
 }
 
 /// A word, or a piece of one before a star.

@@ -43,7 +43,7 @@ fn read_term(alloc: Global, target: Target, text: &str) -> Result<Node, QueryFau
         None => read_atom(alloc, target, text),
         Some(atom) => {
             let node = read_atom(alloc, target, atom)?;
-            Ok(negated(alloc, node)?)
+            negated(alloc, node)
         }
     }
 }
@@ -62,13 +62,19 @@ fn read_atom(alloc: Global, target: Target, text: &str) -> Result<Node, QueryFau
     if let Some(text) = word_of(alloc, target, text)? {
         return Ok(Node::Word { kinds, text });
     }
-    let sub = without_last(text, '=').ok_or(QueryFaultKind::BadWord)?;
+    let Some(sub) = without_last(text, '=') else {
+        return Err(QueryFaultKind::BadWord);
+    };
     if let Some(text) = part_of(alloc, target, sub)? {
         return Ok(Node::Part { kinds, text });
     }
-    let sub = without_first(sub, '^').ok_or(QueryFaultKind::BadWord)?;
-    let text = part_of(alloc, target, sub)?.ok_or(QueryFaultKind::BadWord)?;
-    Ok(Node::Prefix { kinds, text })
+    let Some(sub) = without_first(sub, '^') else {
+        return Err(QueryFaultKind::BadWord);
+    };
+    match part_of(alloc, target, sub)? {
+        Some(text) => Ok(Node::Prefix { kinds, text }),
+        None => Err(QueryFaultKind::BadWord),
+    }
 }
 
 /// Whether one digit or more stand between an `=` and the end.

@@ -11,6 +11,6 @@ pub new-requires : goal.new-requires
 new-requires c =
     let lexicon = boolean_lexicon in
     let ts = tokens c.args.text.now in
-    let q = query_of c.in_ok-node.node in
+    let q = query_of c.in-Ok.node in
     let asked : run_from lexicon 1 start ts ≡ Ok q = grind arith in
     omega (arith, reads_depth lexicon ts q (start_read lexicon ts q asked))

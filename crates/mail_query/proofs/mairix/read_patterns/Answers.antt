@@ -8,25 +8,25 @@ use Rattle.mail_query.proofs.mairix.read_patterns.Goals as goal
 pub loop-i-init : goal.loop-i-init
 loop-i-init c = grind (arith, reads_none, at_number, string_bytes)
 
-pub returns-in_err-node-clause-answer : goal.returns-in_err-node-clause-answer
-returns-in_err-node-clause-answer c =
-    let here = pattern_here c.args.patterns.now c.loop-i.i-counter c.index-patterns-i.result c.as_str.result.now c.loop-i-test.true c.index-patterns-i.is c.as_str.ensures.value in
-    let refused = λ (kind : QueryFaultKind). pattern_refused (pattern_lexicon c.args.now) (map string_bytes c.args.patterns.now) (queries_of c.loop-i.members.items) c.loop-i.i-counter c.as_str.result.now kind c.loop-i.invariant here in
+pub returns-in-Err-clause-answer : goal.returns-in-Err-clause-answer
+returns-in-Err-clause-answer c =
+    let here = pattern_here c.args.patterns.now c.loop-i.i c.index-patterns-i.result c.as_str.result.now c.loop-i-test.true c.index-patterns-i.is c.as_str.ensures.value in
+    let refused = λ (kind : QueryFaultKind). pattern_refused (pattern_lexicon c.args.now) (map string_bytes c.args.patterns.now) (queries_of c.loop-i.members.items) c.loop-i.i c.as_str.result.now kind c.loop-i.invariant here in
     grind arith
 
 pub loop-i-preserved : goal.loop-i-preserved
 loop-i-preserved c =
-    let here = pattern_here c.args.patterns.now c.loop-i.i-counter c.index-patterns-i.result c.as_str.result.now c.loop-i-test.true c.index-patterns-i.is c.as_str.ensures.value in
+    let here = pattern_here c.args.patterns.now c.loop-i.i c.index-patterns-i.result c.as_str.result.now c.loop-i-test.true c.index-patterns-i.is c.as_str.ensures.value in
     grind (arith, reads_more)
 
 pub new-requires : goal.new-requires
 new-requires c =
     let lexicon = pattern_lexicon c.args.now in
     let patterns = map string_bytes c.args.patterns.now in
-    let end : c.loop-i.i-counter ≡ length patterns = rw length-map (omega arith) in
+    let end : c.loop-i.i ≡ length patterns = rw length-map (omega arith) in
     let some : 0 < length patterns = rw length-map (grind (arith, nat_tests)) in
     let q = all_of (queries_of c.loop-i.members.items) in
-    let whole = patterns_made lexicon patterns (Ok _) some (reads_all at_number (pattern_query lexicon) patterns (queries_of c.loop-i.members.items) c.loop-i.i-counter c.loop-i.invariant end) in
+    let whole = patterns_made lexicon patterns (Ok _) some (reads_all at_number (pattern_query lexicon) patterns (queries_of c.loop-i.members.items) c.loop-i.i c.loop-i.invariant end) in
     let asked = MatchResult-at_ok (IsAsked lexicon patterns) (IsFirstFault lexicon patterns) q whole (patterns_answer lexicon (dates_plain c.args.now) patterns (texts_utf8 c.args.patterns.now)) in
     let shallow : depth q ≤ 5 = asked_depth lexicon patterns q asked in
     rw c.all_of.ensures (omega (arith, shallow))

@@ -1,8 +1,0 @@
-use Rattle.mairix_options.proofs.Words.{string_bytes, arith, archive_path}
-use Rattle.mairix_options.proofs.Searches.{map-each-taken}
-use Rattle.mairix_options.proofs.path.archive_paths.Goals as goal
-
-pub returns : goal.returns
-returns c =
-    map-each-taken string_bytes (archive_path c.args.base.now) c.loop-name.name-index c.as_slice-written.result.now c.args.names.now c.loop-name.paths
-    (omega (arith, c.loop-name-test.false)) c.as_slice-written.ensures c.loop-name.invariant

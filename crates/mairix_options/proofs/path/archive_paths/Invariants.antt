@@ -1,6 +1,0 @@
-use Rattle.mairix_options.proofs.Words.{◌≡◌, map, take, string_bytes, archive_path}
-use Rattle.mairix_options.proofs.path.archive_paths.Given as goal
-
--- the paths of the names so far
-abbrev pub invariant-loop-name : goal.invariant-loop-name
-invariant-loop-name l = l.paths ≡ map (λ name. archive_path l.base (string_bytes name)) (take l.name-index l.written)
