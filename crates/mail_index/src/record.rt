@@ -70,9 +70,6 @@ pub(crate) fn is_record(bytes: &[u8]) -> bool
     ensures { result ≡ is_record_of bytes.now }
 {
     let flags = bytes[FLAGS_AT];
-    flags <= ALL_FLAGS
-        && bytes[FLAGS_AT + 1] == 0
-        && bytes[FLAGS_AT + 2] == 0
-        && bytes[FLAGS_AT + 3] == 0
+    matches!(&bytes[FLAGS_AT..], [0..=ALL_FLAGS, 0, 0, 0, ..])
         && (has_bit(flags, DATED) || u64_at(bytes, DATE_AT) == 0)
 }

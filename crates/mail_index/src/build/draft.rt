@@ -43,8 +43,8 @@ pub(crate) struct Draft {
     path: Option<String>,
     in_message: bool,
     archives: Vec<NamedArchive>,
-    records: Vec<Record>,
-    keys: KeyMap,
+    pub(super) records: Vec<Record>,
+    pub(super) keys: KeyMap,
 }
 
 impl Model for Draft {
@@ -101,20 +101,6 @@ impl Draft {
         }
         self.in_message = true;
         Ok(())
-    }
-
-    /// Guesses where keys stand.
-    pub(crate) fn prefetch(&self, places: &mut [Prefetched]) {
-        self.keys.prefetch(places);
-    }
-
-    /// Whether it is plain to see that the message that is open has a key already.
-    #[inline(always)]
-    pub(crate) fn has_recent(&self, kind: Kind, text: &[u8], place: Prefetched) -> bool
-        ensures { IsTrue result → HasPair kind text.now self.now }
-    {
-        self.keys
-            .has_recent(kind, text, self.records.len() as u32, place)
     }
 
     /// Adds a key to the message that is open.

@@ -101,7 +101,7 @@ impl KeyOrder {
         self.pages[place.page].insert(place.at, slot)?;
         let length = self.pages[place.page].len();
         if length >= PAGE && length >= self.pages.len() / PAGES_FOR_A_SLOT {
-            let _split = split(
+            split(
                 alloc,
                 &mut self.heads,
                 &mut self.pages,
@@ -120,21 +120,24 @@ fn split(
     pages: &mut Vec<Vec<Fronted>>,
     page: usize,
     half: usize,
-) -> Result<(), AllocError>
+)
     requires between { length heads.old.items ≡ length pages.old.items - 1 }
     requires page { page < length pages.old.items }
     requires half { half < length (row_at pages.old.items page) }
     ensures between { length heads.new.items ≡ length pages.new.items - 1 }
     ensures same { in_pages (rows pages.new.items) heads.new.items
         ≡ in_pages (rows pages.old.items) heads.old.items }
-    ensures more { OnOk result (length pages.new.items ≡ length pages.old.items + 1) }
 {
-    heads.reserve(1)?;
+    if heads.reserve(1).is_err() {
+        return;
+    }
     let row = pages[page].as_slice();
     let head = row[half];
-    let rest = Vec::from_slice(alloc, &row[half + 1..])?;
-    pages.insert(page + 1, rest)?;
-    let _inserted = heads.insert(page, head);
-    pages[page].truncate(half);
-    Ok(())
+    let Ok(rest) = Vec::from_slice(alloc, &row[half + 1..]) else {
+        return;
+    };
+    if pages.insert(page + 1, rest).is_ok() {
+        let _inserted = heads.insert(page, head);
+        pages[page].truncate(half);
+    }
 }

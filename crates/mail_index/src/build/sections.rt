@@ -59,7 +59,7 @@ pub(crate) fn send_counts<O: Out>(
     ensures count { CountsFailures result (O.failures out.old) (O.failures out.new) }
 {
     let numbers = [
-        Version::newest().number().to_be_bytes(),
+        Version::NEWEST.number().to_be_bytes(),
         counts.archives.to_be_bytes(),
         counts.messages.to_be_bytes(),
         counts.keys.to_be_bytes(),
@@ -161,5 +161,5 @@ fn bit(value: u8, set: bool) -> u8
 fn date_number(date: Option<i64>) -> u64
     ensures { result ≡ date_number date }
 {
-    date.map_or(0, i64::cast_unsigned)
+    date.unwrap_or(0).cast_unsigned()
 }

@@ -15,11 +15,8 @@ fn is_entry(entry: &[u8], version: Version) -> bool
     requires { 24 ≤ length entry.now }
     ensures { result ≡ is_entry_of (version_number version) entry.now }
 {
-    1 <= entry[KIND_AT]
-        && entry[KIND_AT] <= version.greatest_kind()
-        && entry[KIND_AT + 1] == 0
-        && entry[KIND_AT + 2] == 0
-        && entry[KIND_AT + 3] == 0
+    let kinds = 1..=version.greatest_kind();
+    matches!(entry, [number, 0, 0, 0, ..] if kinds.contains(number))
 }
 
 /// Where the postings of the entry before these end: where those of the first of them begin, or at the end of all.
