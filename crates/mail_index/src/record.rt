@@ -2,7 +2,7 @@
 ghost use Rattle.std.specs.Prelude.{◌≡◌, ◌≤◌, length};
 ghost use Rattle.mail_index.specs.Records.{has_bit as has_bit_of, is_record as is_record_of};
 
-use crate::fields::{u32_at, u64_at};
+use crate::fields::{are_zeros_at, u32_at, u64_at};
 use crate::places::{
     ALL_FLAGS, ARCHIVE_AT, DATE_AT, DATED, FLAGGED, FLAGS_AT, LENGTH_AT, OFFSET_AT, REPLIED, SEEN,
     SIZE_AT,
@@ -70,6 +70,7 @@ pub(crate) fn is_record(bytes: &[u8]) -> bool
     ensures { result ≡ is_record_of bytes.now }
 {
     let flags = bytes[FLAGS_AT];
-    matches!(&bytes[FLAGS_AT..], [0..=ALL_FLAGS, 0, 0, 0, ..])
+    flags <= ALL_FLAGS
+        && are_zeros_at(bytes, FLAGS_AT + 1)
         && (has_bit(flags, DATED) || u64_at(bytes, DATE_AT) == 0)
 }
