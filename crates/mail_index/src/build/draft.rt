@@ -14,7 +14,7 @@ ghost use Rattle.mail_index.specs.Limits.{four_byte_limit, most_in_archive, most
 use crate::build::build_fault::BuildFault;
 use crate::build::file_out::Signer;
 use crate::build::key_map::KeyMap;
-use crate::build::key_sections::{key_bytes, send_directory, send_postings, send_texts};
+use crate::build::key_sections::{key_bytes, send_keys};
 use crate::build::prefetched::Prefetched;
 use crate::build::sections::{
     Counts, FILE_SECTIONS, FileSection, archives_length, send_archives, send_counts, send_records,
@@ -250,9 +250,7 @@ impl Draft {
             FileSection::Counts => send_counts(out, signer, counts),
             FileSection::Archives => send_archives(out, signer, self.archives.as_slice()),
             FileSection::Records => send_records(out, signer, self.records.as_slice()),
-            FileSection::Directory => send_directory(out, signer, self.keys.in_order()),
-            FileSection::Texts => send_texts(out, signer, self.keys.in_order()),
-            FileSection::Postings => send_postings(out, signer, self.keys.in_order()),
+            FileSection::Keys(part) => send_keys(out, signer, part, self.keys.in_order()),
         }
     }
 }
