@@ -37,17 +37,6 @@ pub(crate) struct Place {
 }
 
 impl KeyOrder {
-    /// No key. Takes no memory.
-    pub(crate) fn new(alloc: Global) -> Self
-        ensures heads { result.heads.items ≡ [] }
-        ensures pages { result.pages.items ≡ [] }
-    {
-        KeyOrder {
-            heads: Vec::new(alloc),
-            pages: Vec::new(alloc),
-        }
-    }
-
     /// Makes the first page, if there is none.
     pub(crate) fn begin(&mut self, alloc: Global) -> Result<(), AllocError>
         requires between { length self.old.heads.items ≡ length self.old.pages.items - 1 }
