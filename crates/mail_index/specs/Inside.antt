@@ -3,6 +3,7 @@ pub mod Drafts
 pub mod FrontEntries
 pub mod KeyFronts
 pub mod KeyMaps
+pub mod KeyParts
 pub mod KeyRuns
 pub mod SectionCounts
 pub mod Signing

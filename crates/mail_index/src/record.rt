@@ -2,7 +2,7 @@
 ghost use Rattle.std.specs.Prelude.{◌≡◌, ◌≤◌, length};
 ghost use Rattle.mail_index.specs.Records.{has_bit as has_bit_of, is_record as is_record_of};
 
-use crate::fields::{u32_at, u64_at};
+use crate::fields::{are_zeros_at, u32_at, u64_at};
 use crate::places::{
     ALL_FLAGS, ARCHIVE_AT, DATE_AT, DATED, FLAGGED, FLAGS_AT, LENGTH_AT, OFFSET_AT, REPLIED, SEEN,
     SIZE_AT,
@@ -71,8 +71,6 @@ pub(crate) fn is_record(bytes: &[u8]) -> bool
 {
     let flags = bytes[FLAGS_AT];
     flags <= ALL_FLAGS
-        && bytes[FLAGS_AT + 1] == 0
-        && bytes[FLAGS_AT + 2] == 0
-        && bytes[FLAGS_AT + 3] == 0
+        && are_zeros_at(bytes, FLAGS_AT + 1)
         && (has_bit(flags, DATED) || u64_at(bytes, DATE_AT) == 0)
 }

@@ -16,14 +16,10 @@ pub enum Version {
 }
 
 impl Version {
-    ghost use Rattle.mail_index.specs.Versions.{newest, last_kind, digest_length};
+    ghost use Rattle.mail_index.specs.Versions.{last_kind, digest_length};
 
     /// The version that is written.
-    pub(crate) fn newest() -> Self
-        ensures { version_number result ≡ newest }
-    {
-        Version::Two
-    }
+    pub(crate) const NEWEST: Version = Version::Two;
 
     /// The version of this number, None where it isn't known.
     pub(crate) fn of(number: u32) -> Option<Self>

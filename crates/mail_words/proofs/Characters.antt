@@ -1,6 +1,7 @@
 -- Word characters of ASCII, that no joiner is a word character, and the joiners among bytes.
-use Rattle.mail_words.proofs.Imports.{◌≡◌, ℕ, ◌<◌, ◌≤◌, Bool, true, false, not, ◌&&◌, nat_lt, List, [], ◌∷◌, get_or, encode_utf8, encode_utf8_all, IsUtf8, inl, inr, refl, sym, ap, ◌∙◌, arith, and-true, cases_lt, nat_tests, list_all-append, list_all_at, encode_ascii, encodes-chars, char_from_byte, length-encode, len_utf8_bounds, beq, is_ascii_alphanumeric, list_all, ucd_category, ucd_derived, same_from_beq, all_below, all_below-at, is_word_character, is_joiner, is_piece, begins, length, length-append, get_or_append_left}
+use Rattle.mail_words.proofs.Imports.{◌≡◌, ℕ, zero, suc, ◌-◌, ◌<◌, ◌≤◌, Bool, true, false, not, ◌&&◌, nat_lt, List, [], ◌∷◌, get_or, encode_utf8, encode_utf8_all, IsUtf8, inl, inr, refl, sym, ap, ◌∙◌, arith, and-true, cases_lt, nat_tests, list_all-append, list_all_at, encode_ascii, encodes-chars, char_from_byte, length-encode, len_utf8_bounds, beq, is_ascii_alphanumeric, list_all, ucd_category, ucd_derived, same_from_beq, all_below, all_below-at, is_word_character, is_joiner, is_piece, begins, length, length-append, get_or_append_left}
 use Rattle.std.proofs.Common.{chars, append-nil}
+use Rattle.std.specs.Prelude.{◌==◌}
 
 pub is_word_character-ascii : (c : ℕ) → c < 128 → is_word_character c ≡ is_ascii_alphanumeric c
 unfolding all_below ucd_derived ucd_category is_word_character
@@ -71,6 +72,19 @@ joiners-encodes (c ∷ cs) = grind (arith, list_all-append, encode_utf8, encode_
 -- the bytes are joiners alone where the characters are
 pub joiners-bytes : (text : List ℕ) → IsUtf8 text → list_all is_joiner text ≡ list_all is_joiner (chars text)
 joiners-bytes text utf8 = ap (list_all is_joiner) (sym (encodes-chars text utf8)) ∙ joiners-encodes (chars text)
+
+-- the bytes are joiners alone where none stands before the joiners at the end
+joiners-from : (bytes : List ℕ) → ((k : ℕ) → k < length bytes → is_joiner (get_or bytes k 0) ≡ true) → list_all is_joiner bytes ≡ true
+joiners-from [] h = refl
+joiners-from (b ∷ bs) h = (λ k. h 0 (omega arith) k && joiners-from bs (λ i below. h (suc i) (omega (arith, below))) k)
+
+pub none-before : (bytes : List ℕ) (n : ℕ) → n ≤ length bytes → ((k : ℕ) → n ≤ k → k < length bytes → is_joiner (get_or bytes k 0) ≡ true) → (0 < n → is_joiner (get_or bytes (n - 1) 0) ≡ false)
+    → (n == 0) ≡ list_all is_joiner bytes
+none-before bytes zero within joiners last = sym (joiners-from bytes (λ k below. joiners k (omega arith) below))
+none-before bytes (suc n) within joiners last =
+    let at : n ≡ suc n - 1 = omega arith in
+    let some : (suc n == 0) ≡ false = grind arith in
+    some ∙ sym (list_all_at is_joiner bytes n 0 (omega (arith, within)) (ap (λ k. is_joiner (get_or bytes k 0)) at ∙ last (omega arith)))
 
 -- the first character is a joiner where the first byte is
 pub joiner-first : (text : List ℕ) → IsUtf8 text → (nat_lt 0 (length text) && is_joiner (get_or text 0 0)) ≡ begins is_joiner (chars text)

@@ -1,9 +1,9 @@
 -- A text is one word where it is a piece of one, begins with a word character, and is its own run without the joiners at its end.
-use Rattle.mail_words.proofs.Imports.{◌≡◌, ℕ, ◌≤◌, Bool, true, false, not, ◌&&◌, ◌||◌, List, [], ◌∷◌, ◌++◌, length, reverse, encode_utf8_all, IsUtf8, nat_le, refl, sym, ap, ◌∙◌, arith, length-append, and-true, and-false, and_parts, le-leb, eq-eqb, eqb-true, reverse-append, encodes-append, encodes-chars, length-le-encodes, list_all, list_any, is_word_character, is_joiner, begins, is_one_word, is_part_of_word, is_word, word_limit, is_piece, joined_to, joined_front}
+use Rattle.mail_words.proofs.Imports.{◌≡◌, ℕ, ◌≤◌, Bool, true, false, not, ◌&&◌, ◌||◌, List, [], ◌∷◌, ◌++◌, length, reverse, encode_utf8_all, IsUtf8, nat_le, nat_lt, refl, sym, ap, ◌∙◌, arith, length-append, and-true, and-false, and_parts, le-leb, eq-eqb, eqb-true, reverse-append, encodes-append, encodes-chars, length-le-encodes, length-encode, len_utf8_bounds, list_all, list_any, is_word_character, is_joiner, begins, is_one_word, is_part_of_word, is_word, word_limit, is_piece, front, behind, joined_to, joined_front}
 use Rattle.std.proofs.Common.{chars}
 use Rattle.std.specs.Prelude.{◌==◌}
 use Rattle.std.proofs.lemmas.List.{append-nil}
-use Rattle.mail_words.proofs.RunLemmas.{is_some, joined_front-word, joined_front-joiner, joined_front-other}
+use Rattle.mail_words.proofs.RunLemmas.{is_some, front-pass, front-fail, front-behind, joined_front-word, joined_front-joiner, joined_front-other}
 
 -- ---- the last character
 
@@ -153,3 +153,33 @@ is_one_word-parts text utf8 =
     bytes = ap length (encodes-chars text utf8)
 
 pub ruleset is_one_word_parts = is_one_word-parts
+
+-- ---- the front that passes
+
+all-front : (p : ℕ → Bool) (cs : List ℕ) → list_all p (front p cs) ≡ true
+all-front p [] = refl
+all-front p (c ∷ cs) = grind (arith, front-pass, front-fail, all-front p cs)
+
+front-all : (p : ℕ → Bool) (cs : List ℕ) → list_all p cs ≡ true → front p cs ≡ cs
+front-all p [] h = refl
+front-all p (c ∷ cs) h =
+    let parts = and_parts (p c) (list_all p cs) h in front-pass p c cs parts.0 ∙ ap (λ ds. c ∷ ds) (front-all p cs parts.1)
+
+-- it has as many bytes as the text where all characters pass
+pub whole-front : (p : ℕ → Bool) (text : List ℕ) → IsUtf8 text → (length (encode_utf8_all (front p (chars text))) == length text) ≡ list_all p (chars text)
+whole-front p text utf8 = go (list_all p (chars text)) (length (encode_utf8_all (front p (chars text))) == length text) refl refl
+  where
+    bytes : length (encode_utf8_all (chars text)) ≡ length text
+    bytes = ap length (encodes-chars text utf8)
+
+    go : (all whole : Bool) → list_all p (chars text) ≡ all → (length (encode_utf8_all (front p (chars text))) == length text) ≡ whole → whole ≡ all
+    go true whole e f = sym f ∙ eq-eqb _ _ (ap (λ ds. length (encode_utf8_all ds)) (front-all p (chars text) e) ∙ bytes)
+    go false true e f =
+        let same = same_length (chars text) (front p (chars text)) (behind p (chars text)) (sym (front-behind p (chars text))) (eqb-true _ _ f ∙ sym bytes) in
+        sym (all-front p (chars text)) ∙ ap (list_all p) same ∙ e
+    go false false e f = refl
+
+-- and some where the first does
+pub some-front : (p : ℕ → Bool) (cs : List ℕ) → nat_lt 0 (length (encode_utf8_all (front p cs))) ≡ begins p cs
+some-front p [] = refl
+some-front p (c ∷ cs) = grind (arith, front-pass, front-fail, encode_utf8_all, length-append, length-encode c, len_utf8_bounds c)

@@ -1,6 +1,5 @@
 //! Word characters and joiners of ASCII, told by one look at a byte.
 ghost use Rattle.std.specs.Prelude.{◌≡◌, ◌&&◌, nat_lt};
-ghost use Rattle.std.specs.List.{list_all};
 ghost use Rattle.mail_words.specs.Words.{is_word_character, is_joiner};
 
 /// A `w` for each word character of ASCII, a `j` for each joiner, and a dot for any other byte.
@@ -26,11 +25,4 @@ pub(crate) fn is_ascii_joiner(byte: u8) -> bool
     ensures { result ≡ is_joiner byte }
 {
     CLASSES[byte as usize] == b'j'
-}
-
-/// Whether each byte is a joiner.
-pub(crate) fn are_ascii_joiners(bytes: &[u8]) -> bool
-    ensures { result ≡ list_all is_joiner bytes.now }
-{
-    bytes.iter().all(|byte| is_ascii_joiner(*byte))
 }

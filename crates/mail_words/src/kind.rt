@@ -3,7 +3,7 @@
 /// Which text of a message a word stands in: one of five header fields (RFC 5322 3.6), the body, or the name of a part (RFC 2183 2.3).
 ///
 /// The kinds have no order.
-#[derive(Clone, Copy, Debug)]
+#[derive(Clone, Copy)]
 pub enum TextKind {
     /// The field To.
     To,

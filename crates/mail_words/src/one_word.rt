@@ -1,10 +1,8 @@
 //! Texts that are a word, or a piece of one.
-ghost use Rattle.std.specs.Prelude.{◌≡◌, ◌||◌, chars};
-ghost use Rattle.std.specs.List.{list_all};
-ghost use Rattle.mail_words.specs.Words.{is_word_character, is_joiner, begins, is_one_word, is_part_of_word};
+ghost use Rattle.std.specs.Prelude.{◌≡◌, chars};
+ghost use Rattle.mail_words.specs.Words.{is_word_character, begins, is_one_word, is_part_of_word};
 
-use crate::character::{is_joiner, is_word_character};
-use crate::runs::joined_len;
+use crate::runs::{has_word_pieces_alone, joined_len, plain_len};
 use crate::words::WORD_LIMIT;
 
 /// Whether the whole text is one plain or long word of at most 128 bytes.
@@ -26,16 +24,9 @@ pub fn is_part_of_word(text: &str) -> bool
     }
 }
 
-/// Whether each character is a word character or a joiner.
-fn has_word_pieces_alone(text: &str) -> bool
-    ensures { result ≡ list_all (λ c. is_word_character c || is_joiner c) (chars text.now) }
-{
-    text.chars().all(|c| is_word_character(c) || is_joiner(c))
-}
-
 /// Whether there is a first character, and it is a word character.
 fn begins_in_word(text: &str) -> bool
     ensures { result ≡ begins is_word_character (chars text.now) }
 {
-    text.chars().next().is_some_and(is_word_character)
+    plain_len(text) > 0
 }

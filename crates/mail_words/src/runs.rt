@@ -1,5 +1,6 @@
 //! Runs of word characters and joiners at the front of a text.
-ghost use Rattle.std.specs.Prelude.{◌≡◌, ◌<◌, ◌≤◌, ◌-◌, ◌&&◌, ℕ, Bool, true, false, nat_lt, length, slice_index, chars, encode_utf8_all};
+ghost use Rattle.std.specs.Prelude.{◌≡◌, ◌<◌, ◌≤◌, ◌-◌, ◌&&◌, ◌||◌, ℕ, Bool, true, false, nat_lt, length, slice_index, chars, encode_utf8_all};
+ghost use Rattle.std.specs.List.{list_all};
 ghost use Rattle.mail_words.specs.Words.{is_word_character, is_joiner};
 ghost use Rattle.mail_words.specs.Inside.Runs.{front, is_other, is_piece, joined_front};
 
@@ -80,6 +81,13 @@ pub(crate) fn gap_len(text: &str) -> usize
     front_len::<OfGaps>(text)
 }
 
+/// Whether each character is a word character or a joiner.
+pub(crate) fn has_word_pieces_alone(text: &str) -> bool
+    ensures { result ≡ list_all (λ c. is_word_character c || is_joiner c) (chars text.now) }
+{
+    front_len::<OfRuns>(text) == text.len()
+}
+
 /// How many bytes the characters of a class take at the front.
 fn front_len<C: CharacterClass>(text: &str) -> usize
     ensures { result ≡ length (encode_utf8_all (front C.holds (chars text.now))) }
@@ -121,7 +129,7 @@ pub(crate) fn joined_len(text: &str) -> usize
 }
 
 /// How many bytes stand before the joiners at the end.
-fn len_before_joiners(bytes: &[u8]) -> usize
+pub(crate) fn len_before_joiners(bytes: &[u8]) -> usize
     ensures within { result ≤ length bytes.now }
     ensures joiners { (k : ℕ) → result ≤ k → k < length bytes.now
         → is_joiner (slice_index bytes.now k) ≡ true }

@@ -6,9 +6,9 @@ ghost use Rattle.std.specs.Option.{option_copied};
 ghost use Rattle.mail_words.specs.Words.{words, HasWordLength, is_word_character, is_joiner, begins};
 ghost use Rattle.mail_words.specs.Inside.Runs.{words_left, front, behind, is_other, long_at};
 
-use crate::ascii::{are_ascii_joiners, is_ascii_joiner};
+use crate::ascii::is_ascii_joiner;
 use crate::lanes::gap_and_word;
-use crate::runs::{gap_len, joined_len, plain_len};
+use crate::runs::{gap_len, joined_len, len_before_joiners, plain_len};
 use std::marker::Model;
 
 /// No word has more bytes than these.
@@ -141,7 +141,7 @@ fn behind_gap(text: &str, gap: usize, in_run: bool) -> (&str, bool)
 fn has_joiners_alone(text: &str) -> bool
     ensures { result ≡ list_all is_joiner (chars text.now) }
 {
-    are_ascii_joiners(text.as_bytes())
+    len_before_joiners(text.as_bytes()) == 0
 }
 
 /// What begins where a text does, whose plain word takes so many bytes.

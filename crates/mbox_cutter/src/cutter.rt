@@ -74,8 +74,8 @@ impl<'a, S: Source> Cutter<'a, S> {
         ensures name { result.ghost_name ≡ self.entry.source.ghost_name }
         ensures same { result.now ≡ self.entry.source.now }
     {
-        let (source, _buffer) = self.into_parts();
-        source
+        let mut kept = None;
+        self.into_source_keeping(&mut kept)
     }
 
     /// The same, and the buffer is kept for the next cutter.
@@ -84,18 +84,11 @@ impl<'a, S: Source> Cutter<'a, S> {
         ensures same { result.now ≡ self.entry.source.now }
         ensures kept { IsSome kept.new }
     {
-        let (source, buffer) = self.into_parts();
-        *kept = Some(buffer);
-        source
-    }
-
-    fn into_parts(self) -> (&'a mut S, Buffer)
-        ensures name { result.0.ghost_name ≡ self.entry.source.ghost_name }
-        ensures same { result.0.now ≡ self.entry.source.now }
-    {
         let Cutter { scan } = self;
         let Scan { window, .. } = scan;
-        window.into_parts()
+        let (source, buffer) = window.into_parts();
+        *kept = Some(buffer);
+        source
     }
 
     /// The next event. It takes no memory.

@@ -6,7 +6,7 @@ ghost use Rattle.contract_words.specs.Devices.{Counts, Sends};
 use thiserror::Error;
 
 /// The device could not do what it was asked.
-#[derive(Clone, Copy, Debug, PartialEq, Eq, Error)]
+#[derive(Clone, Copy, Debug, Error)]
 #[error("the device failed")]
 pub struct DeviceFault;
 

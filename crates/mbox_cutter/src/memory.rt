@@ -70,14 +70,12 @@ impl Source for MemorySource {
         ensures next { (self.new.fail_at ≡ next_failure self.old.fail_at)
             × (self.new.piece ≡ self.old.piece) }
     {
-        let fails = self.fail_at == Some(1);
-        self.fail_at = match self.fail_at {
-            Some(reads) => Some(reads.saturating_sub(1)),
-            None => None,
-        };
-        if fails {
-            self.failures += 1;
-            return Err(DeviceFault);
+        if let Some(read) = self.fail_at {
+            self.fail_at = Some(read.saturating_sub(1));
+            if read == 1 {
+                self.failures += 1;
+                return Err(DeviceFault);
+            }
         }
         let left = self.bytes.len() - self.at;
         let n = left.min(self.piece).min(into.len());
@@ -142,18 +140,15 @@ impl Out for MemoryOut {
             × (self.new.room ≡ room_after self.old.room n)) }
         ensures full { OnErr result (self.new.room ≡ self.old.room) }
     {
-        let fitting = match self.room {
-            None => bytes.len(),
-            Some(room) => (bytes.len() as u64).min(room) as usize,
-        };
+        let room = self.room.unwrap_or(u64::MAX);
+        let fitting = room.min(bytes.len() as u64) as usize;
         if fitting == 0 || self.bytes.extend_from_slice(&bytes[..fitting]).is_err() {
             self.failures += 1;
             return Err(DeviceFault);
         }
-        self.room = match self.room {
-            None => None,
-            Some(room) => Some(room - fitting as u64),
-        };
+        if self.room.is_some() {
+            self.room = Some(room - fitting as u64);
+        }
         Ok(fitting)
     }
 }

@@ -12,8 +12,10 @@ use memchr::memchr;
 pub fn is_separator(line: &[u8]) -> bool
     ensures { result ≡ is_separator line.now }
 {
-    line.strip_prefix(b"From ")
-        .is_some_and(|rest| has_time_then_year(without_break(rest)))
+    match line.strip_prefix(b"From ") {
+        Some(rest) => has_time_then_year(without_break(rest)),
+        None => false,
+    }
 }
 
 /// The line without its final LF and a CR directly before it.

@@ -59,20 +59,14 @@ impl<'a, S: Source> Window<'a, S> {
         (source, Buffer { bytes: buffer })
     }
 
-    /// The bytes that were read and not taken.
-    fn unread(&self) -> &[u8]
-        ensures unread { result.now ≡ self.now.unread }
-        ensures bound { length self.now.unread ≤ ROOM }
-    {
-        &self.buffer[self.from..self.to]
-    }
-
+    /// The bytes that were read and not taken, behind the first `skip` of them.
     fn unread_after(&self, skip: usize) -> &[u8]
         requires { skip ≤ length self.now.unread }
         ensures rest { result.now ≡ drop skip self.now.unread }
         ensures length { skip + length result.now ≡ length self.now.unread }
+        ensures bound { length self.now.unread ≤ ROOM }
     {
-        self.unread().split_at(skip).1
+        &self.buffer[self.from + skip..self.to]
     }
 
     /// The line that was taken last.

@@ -37,7 +37,8 @@ fn file_of(alloc: Global, builder: &Builder) -> Option<MemoryOut>
 {
     let mut out = MemoryOut::new(alloc, None);
     let count = builder.write(&mut out);
-    (count == Ok(out.bytes().len() as u64)).then_some(out)
+    let length = out.bytes().len() as u64;
+    matches!(count, Ok(told) if told == length).then_some(out)
 }
 
 /// The file of the archive of one message.
@@ -60,6 +61,15 @@ pub fn written_of_none(alloc: Global) -> Option<MemoryOut> {
     file_of(alloc, &Builder::new(alloc, 0))
 }
 
+/// Whether both are want of memory, or both a count that is too large.
+fn is_same(one: BuildFault, other: BuildFault) -> bool {
+    matches!(
+        (one, other),
+        (BuildFault::OutOfMemory, BuildFault::OutOfMemory)
+            | (BuildFault::TooMany, BuildFault::TooMany)
+    )
+}
+
 /// Whether a call was refused so, and the builder has lost all that it was given: every later call answers that one failed.
 pub fn is_lost(builder: &mut Builder, answer: Result<(), BuildFault>, fault: BuildFault) -> bool
     requires { OnErr answer (builder.old ≡ None) }
@@ -75,9 +85,14 @@ pub fn is_lost(builder: &mut Builder, answer: Result<(), BuildFault>, fault: Bui
         builder.end_archive(58, ARCHIVE_DIGEST),
     ];
     let written = builder.write(&mut Counted { bytes: 0 });
-    answer == Err(fault)
-        && later == [Err(BuildFault::Failed); 5]
-        && written == Err(BuildFault::Failed)
+    let is_refused = match answer {
+        Ok(()) => false,
+        Err(refusal) => is_same(refusal, fault),
+    };
+    let has_failed = later
+        .iter()
+        .all(|answer| matches!(answer, Err(BuildFault::Failed)));
+    is_refused && has_failed && matches!(written, Err(BuildFault::Failed))
 }
 
 /// What a builder may have one of.
@@ -151,7 +166,7 @@ fn tells_key(builder: &mut Builder, path: &str) -> Result<bool, BuildFault>
 
 /// Whether a new builder does.
 fn tells_what_it_has(alloc: Global) -> bool {
-    is_path(PATH) && tells_key(&mut Builder::new(alloc, 2), PATH) == Ok(true)
+    is_path(PATH) && matches!(tells_key(&mut Builder::new(alloc, 2), PATH), Ok(true))
 }
 
 #[test]

@@ -1,6 +1,7 @@
 //! The reader in place beside the second decoder.
 use crate::index_decoder::{Decoded, DecodedArchive, DecodedKey, DecodedMessage, decode};
-use mail_index::{IndexFault, IndexView, Key, Keys, Kind, Postings, Record, Steps};
+use mail_index::IndexFault::{self, BadDigest, BadLayout, BadMagic, BadVersion, TooShort};
+use mail_index::{IndexView, Key, Keys, Kind, Postings, Record, Section, Steps};
 use mail_words::TextKind;
 use std::alloc::Global;
 
@@ -109,11 +110,35 @@ fn has_table(view: &IndexView<'_>, decoded: &Decoded) -> bool {
     same
 }
 
+/// A number for each thing that can be found, by which two of them are compared. Those that a turned bit of a body can bring come
+/// first.
+pub fn number_of(found: Result<(), IndexFault>) -> usize {
+    match found {
+        Ok(()) => 0,
+        Err(BadMagic) => 1,
+        Err(BadVersion) => 2,
+        Err(BadLayout(Section::Counts)) => 3,
+        Err(BadLayout(Section::Archives)) => 4,
+        Err(BadLayout(Section::Records)) => 5,
+        Err(BadLayout(Section::Directory)) => 6,
+        Err(BadLayout(Section::Postings)) => 7,
+        Err(TooShort) => 8,
+        Err(BadDigest) => 9,
+    }
+}
+
+/// Whether this was found.
+pub fn is_found(found: Option<Result<(), IndexFault>>, wanted: Result<(), IndexFault>) -> bool {
+    found.map(number_of) == Some(number_of(wanted))
+}
+
 /// What both readers find: the same table, or the same fault. It is None where they differ.
 pub fn found(alloc: Global, bytes: &[u8]) -> Option<Result<(), IndexFault>> {
     match (IndexView::open(bytes), decode(alloc, bytes)) {
         (Ok(view), Ok(decoded)) => has_table(&view, &decoded).then_some(Ok(())),
-        (Err(fault), Err(other)) => (fault == other).then_some(Err(fault)),
+        (Err(fault), Err(other)) => {
+            (number_of(Err(fault)) == number_of(Err(other))).then_some(Err(fault))
+        }
         _ => None,
     }
 }

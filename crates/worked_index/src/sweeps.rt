@@ -19,7 +19,7 @@ fn has_size(builder: &Builder) -> bool
     requires phase { IfSome builder.now IsBetweenArchives }
 {
     let mut out = Counted { bytes: 0 };
-    builder.write(&mut out) == Ok(SIZE) && out.bytes == SIZE
+    matches!(builder.write(&mut out), Ok(SIZE)) && out.bytes == SIZE
 }
 
 /// Whether the archive is built, or the call that is refused leaves nothing. Where it is built it is also written, if that is asked.

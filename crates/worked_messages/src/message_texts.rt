@@ -81,6 +81,19 @@ struct Told {
     is_read: bool,
 }
 
+/// The name of a kind.
+fn name_of(kind: TextKind) -> &'static str {
+    match kind {
+        TextKind::To => "To",
+        TextKind::Cc => "Cc",
+        TextKind::Bcc => "Bcc",
+        TextKind::From => "From",
+        TextKind::Subject => "Subject",
+        TextKind::Body => "Body",
+        TextKind::Name => "Name",
+    }
+}
+
 impl TextSink for Told {
     ghost takes = { λ _ _ _ _. Unit {0} };
 
@@ -92,7 +105,8 @@ impl TextSink for Told {
             return Err(SinkFault::Refused);
         }
         self.room -= 1;
-        write!(self.told, "{kind:?} [{text}], ")?;
+        let name = name_of(kind);
+        write!(self.told, "{name} [{text}], ")?;
         Ok(())
     }
 }

@@ -25,22 +25,22 @@ key-none kind text bytes e = grind (arith, front-all, kind_number, behind-none, 
 short-front : (kept : List ℕ) (n : ℕ) → n ≤ 16 → short_front kept n ≡ take n kept
 short-front kept n h = let e : nat_le n 16 ≡ true = grind (arith, nat_tests) in rw e refl
 
-long-front : (kept : List ℕ) (n : ℕ) → 16 < n → short_front kept n ≡ []
+long-front : (kept : List ℕ) (n : ℕ) → 16 < n → short_front kept n ≡ slice_index kept 0 ∷ []
 long-front kept n h = let e : nat_le n 16 ≡ false = grind (arith, nat_tests) in rw e refl
 
 holder-short : (kept bytes : List ℕ) (n : ℕ) → n ≤ 16 → n ≤ length (front_holder kept n bytes) → n ≤ length kept
-holder-short kept bytes n h long = let e : nat_le n 16 ≡ true = grind (arith, nat_tests) in subst (λ (b : Bool). n ≤ length (cond b kept bytes)) e long
+holder-short kept bytes n h long = let e : nat_le n 16 ≡ true = grind (arith, nat_tests) in subst (λ (b : Bool). n ≤ length (cond b kept (slice_index kept 0 ∷ bytes))) e long
 
-holder-long : (kept bytes : List ℕ) (n : ℕ) → 16 < n → n ≤ length (front_holder kept n bytes) → n ≤ length bytes
-holder-long kept bytes n h long = let e : nat_le n 16 ≡ false = grind (arith, nat_tests) in subst (λ (b : Bool). n ≤ length (cond b kept bytes)) e long
+holder-long : (kept bytes : List ℕ) (n : ℕ) → 16 < n → n ≤ length (front_holder kept n bytes) → n ≤ length (slice_index kept 0 ∷ bytes)
+holder-long kept bytes n h long = let e : nat_le n 16 ≡ false = grind (arith, nat_tests) in subst (λ (b : Bool). n ≤ length (cond b kept (slice_index kept 0 ∷ bytes))) e long
 
 -- a short front is the one that is kept apart, and the postings are all the others
 pub behind-short : (kept bytes recent : List ℕ) (n : ℕ) → n ≤ 16 → n ≤ length (front_holder kept n bytes) → bytes ++ recent ≡ drop n (key_bytes kept n bytes recent)
 behind-short kept bytes recent n h long = grind (arith, length-take-le, holder-short, short-front, drop_at)
 
--- a long one stands before the others
-pub behind-long : (kept bytes recent : List ℕ) (n : ℕ) → 16 < n → n ≤ length (front_holder kept n bytes) → drop n bytes ++ recent ≡ drop n (key_bytes kept n bytes recent)
-behind-long kept bytes recent n h long = grind (arith, long-front, drop-append-le, holder-long)
+-- a long text stands before the others
+pub behind-long : (kept bytes recent : List ℕ) (m : ℕ) → 16 < m + 1 → m + 1 ≤ length (front_holder kept (m + 1) bytes) → drop m bytes ++ recent ≡ drop (m + 1) (key_bytes kept (m + 1) bytes recent)
+behind-long kept bytes recent m h long = grind (arith, long-front, drop-append-le, holder-long)
 
 -- more bytes hold it too
 pub within-more : (kept old new : List ℕ) (n : ℕ) → n ≤ length (front_holder kept n old) → length old ≤ length new → n ≤ length (front_holder kept n new)

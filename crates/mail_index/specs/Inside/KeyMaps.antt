@@ -47,13 +47,13 @@ pub record AreEntryBytes (bytes : List ℕ) (front next : ℕ) : Type 0 where
   pub kind : kind_number (kind_of_number (slice_index (take front bytes) 0)) ∷ drop 1 (take front bytes) ≡ take front bytes
   pub posted : IsPosted (drop front bytes) next
 
--- a front of so many bytes, if it is short: then it is kept apart
+-- of a front of so many bytes what is kept apart: all of it, if it is short, and else the number of a kind
 abbrev pub short_front : List ℕ → ℕ → List ℕ
-short_front kept front = if nat_le front 16 then take front kept else []
+short_front kept front = if nat_le front 16 then take front kept else slice_index kept 0 ∷ []
 
--- what it stands in: the place that is kept apart for it, or the other bytes
+-- what it stands in: the place that is kept apart for it, or the number there and the other bytes
 abbrev pub front_holder : List ℕ → ℕ → List ℕ → List ℕ
-front_holder kept front bytes = if nat_le front 16 then kept else bytes
+front_holder kept front bytes = if nat_le front 16 then kept else slice_index kept 0 ∷ bytes
 
 -- all the bytes of an entry: those kept apart, the others, and the last of the postings
 abbrev pub key_bytes : List ℕ → ℕ → List ℕ → List ℕ → List ℕ

@@ -5,8 +5,9 @@ use Rattle.mail_index.specs.declared.build.sections.Counts.{Counts}
 use Rattle.mail_index.specs.Tables.{Table}
 use Rattle.mail_index.specs.Versions.{newest}
 use Rattle.mail_index.specs.declared.build.sections.FileSection.{FileSection}
-use Rattle.mail_index.specs.declared.build.sections.FileSection.TheVariants.{Counts as CountSection, Archives, Records, Directory, Texts, Postings}
-use Rattle.mail_index.specs.Files.{magic, be32, be64, archive_section, record_bytes, directory_from, texts_of, postings_of, entries, counts}
+use Rattle.mail_index.specs.declared.build.sections.FileSection.TheVariants.{Counts as CountSection, Archives, Records, Keys}
+use Rattle.mail_index.specs.Files.{magic, be32, be64, archive_section, record_bytes, texts_of, postings_of, entries, counts}
+use Rattle.mail_index.specs.Inside.KeyParts.{keys_from}
 
 -- as they are written
 abbrev pub counted : Counts → List (List ℕ)
@@ -31,6 +32,4 @@ abbrev pub section_of : Table → FileSection → List ℕ
 section_of t CountSection = concat (counts t)
 section_of t Archives = archive_section t
 section_of t Records = flat_map record_bytes t.messages
-section_of t Directory = directory_from 0 0 (entries t)
-section_of t Texts = texts_of (entries t)
-section_of t Postings = postings_of (entries t)
+section_of t (Keys part) = keys_from part 0 0 (entries t)

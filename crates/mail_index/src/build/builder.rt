@@ -114,7 +114,7 @@ impl Builder {
     /// Guesses where keys stand, for [`Builder::add_prefetched`]. Takes no memory.
     pub fn prefetch(&self, places: &mut [Prefetched]) {
         if let Some(draft) = &self.draft {
-            draft.prefetch(places);
+            draft.keys.prefetch(places);
         }
     }
 
@@ -125,7 +125,10 @@ impl Builder {
         ensures { IsTrue result → IfSome self.now (HasPair kind text.now) }
     {
         match &self.draft {
-            Some(draft) => draft.has_recent(kind, text, place),
+            Some(draft) => {
+                let number = draft.records.len() as u32;
+                draft.keys.has_recent(kind, text, number, place)
+            }
             None => false,
         }
     }

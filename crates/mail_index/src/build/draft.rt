@@ -14,7 +14,7 @@ ghost use Rattle.mail_index.specs.Limits.{four_byte_limit, most_in_archive, most
 use crate::build::build_fault::BuildFault;
 use crate::build::file_out::Signer;
 use crate::build::key_map::KeyMap;
-use crate::build::key_sections::{key_bytes, send_directory, send_postings, send_texts};
+use crate::build::key_sections::{key_bytes, send_keys};
 use crate::build::prefetched::Prefetched;
 use crate::build::sections::{
     Counts, FILE_SECTIONS, FileSection, archives_length, send_archives, send_counts, send_records,
@@ -43,8 +43,8 @@ pub(crate) struct Draft {
     path: Option<String>,
     in_message: bool,
     archives: Vec<NamedArchive>,
-    records: Vec<Record>,
-    keys: KeyMap,
+    pub(super) records: Vec<Record>,
+    pub(super) keys: KeyMap,
 }
 
 impl Model for Draft {
@@ -101,20 +101,6 @@ impl Draft {
         }
         self.in_message = true;
         Ok(())
-    }
-
-    /// Guesses where keys stand.
-    pub(crate) fn prefetch(&self, places: &mut [Prefetched]) {
-        self.keys.prefetch(places);
-    }
-
-    /// Whether it is plain to see that the message that is open has a key already.
-    #[inline(always)]
-    pub(crate) fn has_recent(&self, kind: Kind, text: &[u8], place: Prefetched) -> bool
-        ensures { IsTrue result → HasPair kind text.now self.now }
-    {
-        self.keys
-            .has_recent(kind, text, self.records.len() as u32, place)
     }
 
     /// Adds a key to the message that is open.
@@ -264,9 +250,7 @@ impl Draft {
             FileSection::Counts => send_counts(out, signer, counts),
             FileSection::Archives => send_archives(out, signer, self.archives.as_slice()),
             FileSection::Records => send_records(out, signer, self.records.as_slice()),
-            FileSection::Directory => send_directory(out, signer, self.keys.in_order()),
-            FileSection::Texts => send_texts(out, signer, self.keys.in_order()),
-            FileSection::Postings => send_postings(out, signer, self.keys.in_order()),
+            FileSection::Keys(part) => send_keys(out, signer, part, self.keys.in_order()),
         }
     }
 }

@@ -16,7 +16,7 @@ use std::alloc::{AllocError, Global};
 use std::cmp::Ordering;
 use std::marker::Model;
 
-/// The bytes of a short kind's number and text: more of them stand outside the entry.
+/// The bytes of a kind's number and a short text: a longer text stands outside the entry.
 const SHORT: usize = 16;
 
 /// A key, whose text is shorter than 2^32 bytes, with the numbers of its messages.
@@ -29,12 +29,12 @@ pub(crate) struct KeyEntry {
     text_length: u32,
     // One past the last number.
     next: u32,
-    // The kind's number and the text, if they are short.
+    // The kind's number, and the text if it is short.
     front: [u8; SHORT],
     // The last bytes of the postings.
     recent: ShortBytes,
-    // The kind's number and the text, if they aren't short, and the postings before the recent ones: each number as its
-    // difference from the one before, the first from -1, in the shortest unsigned LEB128.
+    // The text, if it isn't short, and the postings before the recent ones: each number as its difference from the one
+    // before, the first from -1, in the shortest unsigned LEB128.
     bytes: Vec<u8>,
 }
 
@@ -96,16 +96,13 @@ impl KeyEntry {
         ensures text { result.1.now ≡ self.now.text }
         ensures short { length result.1.now < four_byte_limit }
     {
-        let length = self.text_length as usize + 1;
-        let front = if length <= SHORT {
-            self.front.split_at(length).0
+        let length = self.text_length as usize;
+        let text = if length < SHORT {
+            &self.front[1..length + 1]
         } else {
             self.bytes.split_at(length).0
         };
-        match front {
-            [number, text @ ..] => (*number, text),
-            [] => (0, &[]),
-        }
+        (self.front[0], text)
     }
 
     /// How the key lies to another: by the kind's number, then by the text.
@@ -147,8 +144,8 @@ impl KeyEntry {
         ensures bytes { result.0.now ++ result.1.now ≡ postings self.now.numbers }
         ensures small { length result.0.now + length result.1.now < four_byte_limit }
     {
-        let length = self.text_length as usize + 1;
-        let older = if length <= SHORT {
+        let length = self.text_length as usize;
+        let older = if length < SHORT {
             self.bytes.as_slice()
         } else {
             self.bytes.split_at(length).1
@@ -237,7 +234,7 @@ fn append_any(
     Ok(())
 }
 
-/// The kind's number and the text: those that are short apart, and others among the bytes outside the entry.
+/// The kind's number with a short text behind it, and another text as the bytes outside the entry.
 fn front_and_bytes(
     alloc: Global,
     kind: Kind,
@@ -247,13 +244,12 @@ fn front_and_bytes(
     ensures { IfOk result (λ parts. HoldsFront kind text.now parts.0 parts.1.items) }
 {
     let mut front = [0; SHORT];
-    if text.len() < SHORT {
-        front[0] = kind.number();
+    front[0] = kind.number();
+    let bytes = if text.len() < SHORT {
         front[1..text.len() + 1].copy_from_slice(text);
-        return Ok((front, Vec::new(alloc)));
-    }
-    let mut bytes = Vec::with_capacity(alloc, text.len() + 1)?;
-    bytes.push(kind.number())?;
-    bytes.extend_from_slice(text)?;
+        Vec::new(alloc)
+    } else {
+        Vec::from_slice(alloc, text)?
+    };
     Ok((front, bytes))
 }

@@ -38,27 +38,25 @@ pub(crate) struct Slot {
 impl Slot {
     pub(crate) const FIRST: Slot = Slot { index: 0 };
 
-    /// The slot of a key.
+    /// The slot of a key, by a hash whose highest bits hang on all bytes. It takes eight at a time: a longer text's last eight
+    /// come once more than its whole words, so that what fills no word needs no loop of its own.
     pub(crate) fn of(kind: Kind, text: &[u8]) -> Self
         ensures { result.index < 2 ^ 20 }
     {
+        let mut hash = mixed(kind.number() as u64, text.len() as u64);
+        let last = match text.last_chunk::<8>() {
+            Some(last) => {
+                for word in text.as_chunks::<8>().0 {
+                    hash = mixed(hash, u64::from_le_bytes(*word));
+                }
+                u64::from_le_bytes(*last)
+            }
+            None => short_word(text),
+        };
         Slot {
-            index: (hash_of(kind, text) >> BELOW_SLOT) as u32,
+            index: (mixed(hash, last) >> BELOW_SLOT) as u32,
         }
     }
-}
-
-/// A hash of a key, whose highest bits hang on all bytes. It takes eight at a time: a longer text's last eight come once
-/// more than its whole words, so that what fills no word needs no loop of its own.
-fn hash_of(kind: Kind, text: &[u8]) -> u64 {
-    let mut hash = mixed(kind.number() as u64, text.len() as u64);
-    let Some(last) = text.last_chunk::<8>() else {
-        return mixed(hash, short_word(text));
-    };
-    for word in text.as_chunks::<8>().0 {
-        hash = mixed(hash, u64::from_le_bytes(*word));
-    }
-    mixed(hash, u64::from_le_bytes(*last))
 }
 
 /// The bytes of a text of fewer than eight, in one word: its first and its last four, which overlap, or its first byte, its

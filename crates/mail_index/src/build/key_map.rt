@@ -12,7 +12,7 @@ use crate::build::key_order::{KeyOrder, Place};
 use crate::build::keys_in_order::KeysInOrder;
 use crate::build::prefetched::Prefetched;
 use crate::kind::Kind;
-use std::alloc::{AllocError, Global};
+use std::alloc::Global;
 use std::marker::Model;
 
 /// The keys so far in the order of the file, each with the numbers of its messages.
@@ -45,7 +45,10 @@ impl KeyMap {
     {
         KeyMap {
             entries: Vec::new(alloc),
-            order: KeyOrder::new(alloc),
+            order: KeyOrder {
+                heads: Vec::new(alloc),
+                pages: Vec::new(alloc),
+            },
             hints: KeyHints::new(alloc),
         }
     }
@@ -109,9 +112,8 @@ impl KeyMap {
         };
         // A right guess needs neither the order nor the hints.
         if let Some(entry) = guessed(&self.entries, place, kind, text) {
-            let added = add_number(&mut self.entries, &self.order, entry, &key);
             self.hints.note_recent(place.slot, entry);
-            return added.or(Err(BuildFault::OutOfMemory));
+            return add_number(&mut self.entries, &self.order, entry, &key);
         }
         self.add_searched(alloc, place.slot, key)
     }
@@ -134,15 +136,12 @@ impl KeyMap {
         self.order.begin(alloc)?;
         match self.order.find(&self.entries, key.kind, key.text) {
             Ok(entry) => {
-                let added = add_number(&mut self.entries, &self.order, entry, &key);
                 self.hints.note(slot, entry);
-                added.or(Err(BuildFault::OutOfMemory))
+                add_number(&mut self.entries, &self.order, entry, &key)
             }
             Err(place) => {
-                let entry = self.entries.len() as u32;
-                let inserted = insert(alloc, &mut self.entries, &mut self.order, place, &key);
-                self.hints.note(slot, entry);
-                inserted
+                self.hints.note(slot, self.entries.len() as u32);
+                insert(alloc, &mut self.entries, &mut self.order, place, &key)
             }
         }
     }
@@ -182,7 +181,7 @@ fn add_number(
     order: &KeyOrder,
     entry: u32,
     key: &Added<'_>,
-) -> Result<(), AllocError>
+) -> Result<(), BuildFault>
     requires number { key.now.number < u32.MAX }
     requires step { AreInStep entries.old.items order.now }
     requires found { IsEntryOf key.now.kind key.now.text.now entries.old.items entry }
@@ -191,6 +190,7 @@ fn add_number(
         ≡ with_added key.now (keys_in entries.old.items order.now)) }
     ensures err { OnErr result (entries.new.items ≡ entries.old.items) }
     ensures same { length entries.new.items ≡ length entries.old.items }
+    ensures fault { IfErr result (λ fault. fault ≡ BuildFault.OutOfMemory) }
 {
     entries[entry as usize].push(key.number)?;
     Ok(())

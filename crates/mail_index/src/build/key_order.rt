@@ -37,17 +37,6 @@ pub(crate) struct Place {
 }
 
 impl KeyOrder {
-    /// No key. Takes no memory.
-    pub(crate) fn new(alloc: Global) -> Self
-        ensures heads { result.heads.items ≡ [] }
-        ensures pages { result.pages.items ≡ [] }
-    {
-        KeyOrder {
-            heads: Vec::new(alloc),
-            pages: Vec::new(alloc),
-        }
-    }
-
     /// Makes the first page, if there is none.
     pub(crate) fn begin(&mut self, alloc: Global) -> Result<(), AllocError>
         requires between { length self.old.heads.items ≡ length self.old.pages.items - 1 }
@@ -101,7 +90,7 @@ impl KeyOrder {
         self.pages[place.page].insert(place.at, slot)?;
         let length = self.pages[place.page].len();
         if length >= PAGE && length >= self.pages.len() / PAGES_FOR_A_SLOT {
-            let _split = split(
+            split(
                 alloc,
                 &mut self.heads,
                 &mut self.pages,
@@ -120,21 +109,24 @@ fn split(
     pages: &mut Vec<Vec<Fronted>>,
     page: usize,
     half: usize,
-) -> Result<(), AllocError>
+)
     requires between { length heads.old.items ≡ length pages.old.items - 1 }
     requires page { page < length pages.old.items }
     requires half { half < length (row_at pages.old.items page) }
     ensures between { length heads.new.items ≡ length pages.new.items - 1 }
     ensures same { in_pages (rows pages.new.items) heads.new.items
         ≡ in_pages (rows pages.old.items) heads.old.items }
-    ensures more { OnOk result (length pages.new.items ≡ length pages.old.items + 1) }
 {
-    heads.reserve(1)?;
+    if heads.reserve(1).is_err() {
+        return;
+    }
     let row = pages[page].as_slice();
     let head = row[half];
-    let rest = Vec::from_slice(alloc, &row[half + 1..])?;
-    pages.insert(page + 1, rest)?;
-    let _inserted = heads.insert(page, head);
-    pages[page].truncate(half);
-    Ok(())
+    let Ok(rest) = Vec::from_slice(alloc, &row[half + 1..]) else {
+        return;
+    };
+    if pages.insert(page + 1, rest).is_ok() {
+        let _inserted = heads.insert(page, head);
+        pages[page].truncate(half);
+    }
 }

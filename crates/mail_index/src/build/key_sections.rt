@@ -1,7 +1,8 @@
 //! The sections of an index file that tell of its keys: directory, texts and postings.
 ghost use Rattle.std.specs.Prelude.{◌≡◌, ◌-◌, ◌^◌, ◌<◌, length, map};
 ghost use Rattle.contract_words.specs.Devices.{Counts};
-ghost use Rattle.mail_index.specs.Files.{entry_of, entry_bytes, directory_from, texts_of, postings_of};
+ghost use Rattle.mail_index.specs.Files.{entry_of, texts_of, postings_of};
+ghost use Rattle.mail_index.specs.Inside.KeyParts.{key_part, keys_from};
 ghost use Rattle.mail_index.specs.Inside.Signing.{Writes};
 
 use crate::build::file_out::{Signer, send_parts, send_signed};
@@ -25,81 +26,65 @@ pub(crate) fn key_bytes(keys: KeysInOrder<'_>) -> (u64, u64)
     (texts, postings)
 }
 
-/// Writes the directory: an entry for each key.
-pub(crate) fn send_directory<O: Out>(
+/// What is written of each key in one of the sections: its entry in the directory, its text, or its postings.
+#[derive(Clone, Copy)]
+pub(crate) enum KeyPart {
+    Entry,
+    Text,
+    Postings,
+}
+
+/// Writes a part of each key.
+pub(crate) fn send_keys<O: Out>(
     out: &mut O,
     signer: &mut Signer,
+    part: KeyPart,
     keys: KeysInOrder<'_>,
 ) -> Result<(), DeviceFault>
     requires count { O.failures out.old < 2 ^ 64 - 1 }
     requires texts { length (texts_of (map entry_of keys)) < 2 ^ 64 }
     requires postings { length (postings_of (map entry_of keys)) < 2 ^ 64 }
     ensures written { Writes result (O.taken out.old) (O.taken out.new) signer.old signer.new
-        (directory_from 0 0 (map entry_of keys.entry)) }
+        (keys_from part 0 0 (map entry_of keys.entry)) }
     ensures count { Counts result (O.failures out.old) (O.failures out.new) }
 {
     let mut text_place = 0;
     let mut place = 0;
     for key in keys {
-        send_entry(out, signer, key, text_place, place)?;
+        send_key(out, signer, part, key, text_place, place)?;
         text_place += key.text().len() as u64;
         place += key.postings_length() as u64;
     }
     Ok(())
 }
 
-/// The entry of a key: its kind, the length of its text, and the places of its text and of its postings.
+/// Writes a part of a key. Its entry is its kind, the length of its text, and the places of its text and of its postings.
 ///
 /// It stands apart from the loop over keys: in there the compiler would copy each part by a call.
-fn send_entry<O: Out>(
+fn send_key<O: Out>(
     out: &mut O,
     signer: &mut Signer,
+    part: KeyPart,
     key: &KeyEntry,
     text_place: u64,
     place: u64,
 ) -> Result<(), DeviceFault>
     requires { O.failures out.old < 2 ^ 64 - 1 }
     ensures written { Writes result (O.taken out.old) (O.taken out.new) signer.old signer.new
-        (entry_bytes text_place place (entry_of key.now)) }
+        (key_part part text_place place (entry_of key.now)) }
     ensures count { Counts result (O.failures out.old) (O.failures out.new) }
 {
-    let (number, text) = key.number_and_text();
-    let front = [[number, 0, 0, 0], (text.len() as u32).to_be_bytes()];
-    let places = [text_place.to_be_bytes(), place.to_be_bytes()];
-    send_parts(out, signer, &[front.as_flattened(), places.as_flattened()])
-}
-
-/// Writes the keys' texts.
-pub(crate) fn send_texts<O: Out>(
-    out: &mut O,
-    signer: &mut Signer,
-    keys: KeysInOrder<'_>,
-) -> Result<(), DeviceFault>
-    requires { O.failures out.old < 2 ^ 64 - 1 }
-    ensures written { Writes result (O.taken out.old) (O.taken out.new) signer.old signer.new
-        (texts_of (map entry_of keys.entry)) }
-    ensures count { Counts result (O.failures out.old) (O.failures out.new) }
-{
-    for key in keys {
-        send_signed(out, signer, key.text())?;
+    match part {
+        KeyPart::Entry => {
+            let (number, text) = key.number_and_text();
+            let front = [[number, 0, 0, 0], (text.len() as u32).to_be_bytes()];
+            let places = [text_place.to_be_bytes(), place.to_be_bytes()];
+            send_parts(out, signer, &[front.as_flattened(), places.as_flattened()])
+        }
+        KeyPart::Text => send_signed(out, signer, key.text()),
+        KeyPart::Postings => {
+            let (older, recent) = key.postings();
+            send_parts(out, signer, &[older, recent])
+        }
     }
-    Ok(())
-}
-
-/// Writes the keys' postings.
-pub(crate) fn send_postings<O: Out>(
-    out: &mut O,
-    signer: &mut Signer,
-    keys: KeysInOrder<'_>,
-) -> Result<(), DeviceFault>
-    requires { O.failures out.old < 2 ^ 64 - 1 }
-    ensures written { Writes result (O.taken out.old) (O.taken out.new) signer.old signer.new
-        (postings_of (map entry_of keys.entry)) }
-    ensures count { Counts result (O.failures out.old) (O.failures out.new) }
-{
-    for key in keys {
-        let (older, recent) = key.postings();
-        send_parts(out, signer, &[older, recent])?;
-    }
-    Ok(())
 }

@@ -9,6 +9,7 @@ ghost use Rattle.mail_index.specs.Inside.Signing.{Writes};
 
 use crate::build::draft::NamedArchive;
 use crate::build::file_out::{Signer, send_parts};
+use crate::build::key_sections::KeyPart;
 use crate::places::{ARCHIVE_FRONT, DATED, FLAGGED, MAGIC, REPLIED, SEEN};
 use crate::record::Record;
 use crate::version::Version;
@@ -21,9 +22,7 @@ pub(crate) enum FileSection {
     Counts,
     Archives,
     Records,
-    Directory,
-    Texts,
-    Postings,
+    Keys(KeyPart),
 }
 
 /// The order of the file. A loop writes them: a proof of six calls with `?` would tell the chain seven times.
@@ -31,9 +30,9 @@ pub(crate) const FILE_SECTIONS: [FileSection; 6] = [
     FileSection::Counts,
     FileSection::Archives,
     FileSection::Records,
-    FileSection::Directory,
-    FileSection::Texts,
-    FileSection::Postings,
+    FileSection::Keys(KeyPart::Entry),
+    FileSection::Keys(KeyPart::Text),
+    FileSection::Keys(KeyPart::Postings),
 ];
 
 /// The counts that begin an index file: of archives, messages and keys, and of the bytes of three sections.
@@ -59,7 +58,7 @@ pub(crate) fn send_counts<O: Out>(
     ensures count { CountsFailures result (O.failures out.old) (O.failures out.new) }
 {
     let numbers = [
-        Version::newest().number().to_be_bytes(),
+        Version::NEWEST.number().to_be_bytes(),
         counts.archives.to_be_bytes(),
         counts.messages.to_be_bytes(),
         counts.keys.to_be_bytes(),
@@ -161,5 +160,5 @@ fn bit(value: u8, set: bool) -> u8
 fn date_number(date: Option<i64>) -> u64
     ensures { result ≡ date_number date }
 {
-    date.map_or(0, i64::cast_unsigned)
+    date.unwrap_or(0).cast_unsigned()
 }

@@ -1,10 +1,8 @@
 //! Archives as an index names them.
 ghost use Rattle.std.specs.Prelude.{◌≡◌, ◌↔◌, ◌-◌, ◌≤◌, ◌<◌, length, MatchOption, IsTrue};
-ghost use Rattle.mail_index.specs.Fields.{u64_at as u64_in};
 ghost use Rattle.mail_index.specs.Versions.{version_number, IsDigest, read_digest, behind_digest};
 ghost use Rattle.mail_index.specs.Layouts.{archive_of};
 ghost use Rattle.mail_index.specs.Records.{HasArchive, SpellsArchives, read_archive, behind_archive, behind_archives as behind_archives_of};
-ghost use Rattle.mail_index.specs.Limits.{most_in_archive};
 
 use crate::fields::{u32_at, u64_at};
 use crate::path::is_path;
@@ -118,16 +116,6 @@ pub(crate) fn behind_first(section: &[u8], count: u32, version: Version) -> &[u8
     let size = u32_at(section, PATH_LENGTH_AT) as usize;
     let behind = section.split_at(ARCHIVE_FRONT).1.split_at(size).1;
     behind.split_at(version.digest_length()).1
-}
-
-/// The length of the first of the section's archives, of which there are `count`.
-pub(crate) fn first_length(section: &[u8], count: u32, version: Version) -> u64
-    requires some { 0 < count }
-    requires spelled { SpellsArchives (version_number version) count section.now }
-    ensures value { result ≡ u64_in section.now 0 }
-    ensures bound { result ≤ most_in_archive }
-{
-    u64_at(section, ARCHIVE_LENGTH_AT)
 }
 
 /// The first of the section's archives, of which there are `count`.

@@ -4,7 +4,7 @@ ghost use Rattle.mail_index.specs.Versions.{version_number};
 ghost use Rattle.mail_index.specs.Directory.{is_entry as is_entry_of, end_before as end_before_of, AreEntries};
 ghost use Rattle.mail_index.specs.Inside.Walks.{MayStandAt, IsBehindEntry};
 
-use crate::fields::{u32_at, u64_at};
+use crate::fields::{are_zeros_at, u32_at, u64_at};
 use crate::kind::compare_keys;
 use crate::places::{ENTRY, KIND_AT, POSTING_PLACE_AT, TEXT_LENGTH_AT, TEXT_PLACE_AT};
 use crate::version::Version;
@@ -15,11 +15,8 @@ fn is_entry(entry: &[u8], version: Version) -> bool
     requires { 24 ≤ length entry.now }
     ensures { result ≡ is_entry_of (version_number version) entry.now }
 {
-    1 <= entry[KIND_AT]
-        && entry[KIND_AT] <= version.greatest_kind()
-        && entry[KIND_AT + 1] == 0
-        && entry[KIND_AT + 2] == 0
-        && entry[KIND_AT + 3] == 0
+    let number = entry[KIND_AT];
+    1 <= number && number <= version.greatest_kind() && are_zeros_at(entry, KIND_AT + 1)
 }
 
 /// Where the postings of the entry before these end: where those of the first of them begin, or at the end of all.

@@ -3,7 +3,7 @@ use std::error::Error;
 use std::fmt;
 
 /// A part of an index file.
-#[derive(Clone, Copy, Debug, PartialEq, Eq)]
+#[derive(Clone, Copy, Debug)]
 pub enum Section {
     /// Magic, version, and the counts of entries and bytes.
     Counts,
@@ -18,7 +18,7 @@ pub enum Section {
 }
 
 /// The first thing that is wrong with bytes that are no index file, looked for in this order.
-#[derive(Clone, Copy, Debug, PartialEq, Eq)]
+#[derive(Clone, Copy, Debug)]
 pub enum IndexFault {
     /// There are fewer than 80 bytes, those of the least file.
     TooShort,

@@ -20,11 +20,10 @@ pub(crate) fn split_leb128(most: u32, bytes: &[u8]) -> Option<(u64, &[u8])>
     if *first < 128 {
         return Some((u64::from(*first), rest));
     }
-    let (high, rest) = split_leb128(most - 1, rest)?;
-    if high == 0 {
-        return None;
+    match split_leb128(most - 1, rest) {
+        Some((high, rest)) if high > 0 => Some((u64::from(*first - 128) + 128 * high, rest)),
+        _ => None,
     }
-    Some((u64::from(*first - 128) + 128 * high, rest))
 }
 
 /// The difference that some postings begin with, and those behind it: a number of at most five bytes, as `split_leb128` splits
@@ -37,13 +36,15 @@ pub(crate) fn split_difference(bytes: &[u8]) -> Option<(u64, &[u8])>
     ensures only { (k : ℕ) (rest : List ℕ) → IsShort 5 k
         → bytes.now ≡ leb128 5 k ++ rest → shown_split result ≡ Some (k, rest) }
 {
-    let (first, tail) = bytes.split_first()?;
-    if *first < 128 {
-        return Some((u64::from(*first), tail));
-    }
-    let (second, behind) = tail.split_first()?;
-    if 1 <= *second && *second < 128 {
-        return Some((u64::from(*first - 128) + 128 * u64::from(*second), behind));
+    if let Some((first, tail)) = bytes.split_first() {
+        if *first < 128 {
+            return Some((u64::from(*first), tail));
+        }
+        if let Some((second, behind)) = tail.split_first() {
+            if (1..128).contains(second) {
+                return Some((u64::from(*first - 128) + 128 * u64::from(*second), behind));
+            }
+        }
     }
     // Taken apart and put together, so that only this way's result goes through memory.
     let (long, behind) = split_leb128(5, bytes)?;

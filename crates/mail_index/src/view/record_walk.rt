@@ -4,10 +4,11 @@ ghost use Rattle.mail_index.specs.Versions.{version_number};
 ghost use Rattle.mail_index.specs.Records.{SpellsArchives, AreRecords};
 ghost use Rattle.mail_index.specs.Inside.Walks.{MayFollow, IsBehindMessage};
 
-use crate::places::RECORD;
+use crate::fields::u64_at;
+use crate::places::{ARCHIVE_LENGTH_AT, RECORD};
 use crate::record::{Record, is_record};
 use crate::version::Version;
-use crate::view::archive::{behind_archives, first_length};
+use crate::view::archive::behind_archives;
 
 /// Where the walk has come: the archive of the last message, the place in it where that one ended, and the archives from
 /// this one on.
@@ -44,7 +45,7 @@ fn behind_message<'a>(
         message.archive - place.archive,
         version,
     );
-    let most = first_length(archives, count - message.archive, version);
+    let most = u64_at(archives, ARCHIVE_LENGTH_AT);
     let offset = message.offset.saturating_add(message.length);
     if offset > most || message.size >= message.length {
         return None;

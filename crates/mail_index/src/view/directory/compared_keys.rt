@@ -3,7 +3,8 @@ ghost use Rattle.std.specs.Prelude.{◌≡◌, ◌<◌, length};
 ghost use Rattle.mail_index.specs.Steps.{add_steps};
 ghost use Rattle.mail_index.specs.KeysRead.{key_at};
 
-use crate::kind::Kind;
+use crate::kind::{Kind, compare_keys};
+use crate::places::KIND_AT;
 use crate::view::directory::Directory;
 use crate::view::directory::entry::Entry;
 use crate::view::postings::Postings;
@@ -57,7 +58,8 @@ impl<'a> ComparedKeys<'a> {
         ensures steps { self.new.steps ≡ add_steps self.old.steps 1 }
         ensures keys { self.new.directory ≡ self.old.directory }
     {
-        self.counted_entry(number).compare(kind, text)
+        let entry = self.counted_entry(number);
+        compare_keys(entry.entries[KIND_AT], entry.text(), kind.number(), text)
     }
 
     /// How the key of this number lies to those of a kind that begin with a text, which stand in a row: a step.
@@ -67,7 +69,11 @@ impl<'a> ComparedKeys<'a> {
         ensures steps { self.new.steps ≡ add_steps self.old.steps 1 }
         ensures keys { self.new.directory ≡ self.old.directory }
     {
-        self.counted_entry(number).compare_to_run(kind, text)
+        let entry = self.counted_entry(number);
+        let own = entry.text();
+        // Of its own text only so much is compared.
+        let front = own.split_at(own.len().min(text.len())).0;
+        compare_keys(entry.entries[KIND_AT], front, kind.number(), text)
     }
 
     /// The numbers of the messages that have the key of this number.

@@ -2,11 +2,9 @@
 ghost use Rattle.std.specs.Prelude.{◌≡◌};
 
 use crate::fields::{u32_at, u64_at};
-use crate::kind::{Kind, compare_keys};
-use crate::places::{ENTRY, KIND_AT, POSTING_PLACE_AT, TEXT_LENGTH_AT, TEXT_PLACE_AT};
+use crate::places::{ENTRY, POSTING_PLACE_AT, TEXT_LENGTH_AT, TEXT_PLACE_AT};
 use crate::view::directory_walk::end_before;
 use crate::view::postings::Postings;
-use std::cmp::Ordering;
 use std::marker::Model;
 
 /// An entry in front of those behind it, with the texts and the postings of its file.
@@ -31,9 +29,6 @@ impl<'a> Model for Entry<'a> {
 }
 
 impl<'a> Entry<'a> {
-    ghost use Rattle.mail_index.specs.LookUps.{lies_to};
-    ghost use Rattle.mail_index.specs.Inside.KeyRuns.{lies_to_run};
-
     /// The text of its key.
     pub(super) fn text(&self) -> &'a [u8]
         ensures { result.now ≡ self.now.text }
@@ -51,21 +46,5 @@ impl<'a> Entry<'a> {
         let end = end_before(self.entries.split_at(ENTRY).1, self.postings.len() as u64);
         let rest = self.postings.split_at(place as usize).1;
         Postings::of(rest.split_at((end - place) as usize).0)
-    }
-
-    /// How its key lies to another.
-    pub(super) fn compare(&self, kind: Kind, text: &[u8]) -> Ordering
-        ensures { result ≡ lies_to kind text.now self.now }
-    {
-        compare_keys(self.entries[KIND_AT], self.text(), kind.number(), text)
-    }
-
-    /// How its key lies to those of a kind that begin with a text: of its own only so much is compared.
-    pub(super) fn compare_to_run(&self, kind: Kind, text: &[u8]) -> Ordering
-        ensures { result ≡ lies_to_run kind text.now self.now }
-    {
-        let own = self.text();
-        let front = own.split_at(own.len().min(text.len())).0;
-        compare_keys(self.entries[KIND_AT], front, kind.number(), text)
     }
 }

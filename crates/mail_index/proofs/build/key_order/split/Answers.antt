@@ -8,10 +8,10 @@ abbrev none : Fronted
 none = record { number = 0; front = 0 }
 
 -- one page more, where one came behind another, which was shortened then
-pub returns-clause-same : goal.returns-clause-same
-returns-clause-same c =
+pub returns-then-is_ok-clause-same : goal.returns-then-is_ok-clause-same
+returns-then-is_ok-clause-same c =
     let row = c.as_slice-row.result.now in
-    let cut : get_or row c.args.half none ∷ c.in_ok-rest.rest.items ≡ drop c.args.half row =
+    let cut : get_or row c.args.half none ∷ c.in-Ok.rest.items ≡ drop c.args.half row =
     let inside : c.args.half < length row = grind (arith, row-is) in
     first_of (search (rules, from-place row c.args.half none inside), grind (arith, common_steps, from-place row c.args.half none inside)) in
     grind (arith, row-is, set, parted, map-set, get_or-map, cut)

@@ -5,8 +5,8 @@ use Rattle.mail_index.proofs.view.leb128.+split_leb128.Goals as goal
 pub returns-then-first-lt128-clause-short : goal.returns-then-first-lt128-clause-short
 returns-then-first-lt128-clause-short t c = IsShort-last c.args.most c.from.result c.if-most-eq0.false (omega arith)
 
-pub returns-clause-small : goal.returns-clause-small
-returns-clause-small t c =
-    let bound : c.from-2.result < 128 = omega arith in
-    IsShort-small c.args.most (c.from-2.result + 128 * c.in_ok-high.high) c.requires
-    (IsShort-more c.args.most c.from-2.result c.in_ok-high.high c.if-most-eq0.false bound c.in_ok-high.ensures.short)
+pub returns-in-Some-clause-small : goal.returns-in-Some-clause-small
+returns-in-Some-clause-small t c =
+    let bound : c.from-in-Some.result < 128 = omega arith in
+    IsShort-small c.args.most (c.from-in-Some.result + 128 * c.in-Some.high) c.requires
+    (IsShort-more c.args.most c.from-in-Some.result c.in-Some.high c.if-most-eq0.false bound c.in-Some.ensures.short)

@@ -1,0 +1,7 @@
+use Rattle.mail_words.proofs.Imports.{ap, ◌∙◌, length, is_piece}
+use Rattle.std.specs.Prelude.{◌==◌}
+use Rattle.mail_words.proofs.OneWord.{whole-front}
+use Rattle.mail_words.proofs.runs.has_word_pieces_alone.Goals as goal
+
+pub returns : goal.returns
+returns c = ap (λ n. n == length c.args.text.now) c.front_len.ensures ∙ whole-front is_piece c.args.text.now c.utf8.text
