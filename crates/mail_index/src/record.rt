@@ -43,16 +43,17 @@ impl Record {
         ensures { result ≡ read_record bytes.now }
     {
         let flags = bytes[FLAGS_AT];
+        let date = if has_bit(flags, DATED) {
+            Some(u64_at(bytes, DATE_AT).cast_signed())
+        } else {
+            None
+        };
         Record {
             archive: u32_at(bytes, ARCHIVE_AT),
             offset: u64_at(bytes, OFFSET_AT),
             length: u64_at(bytes, LENGTH_AT),
             size: u64_at(bytes, SIZE_AT),
-            date: if has_bit(flags, DATED) {
-                Some(u64_at(bytes, DATE_AT).cast_signed())
-            } else {
-                None
-            },
+            date,
             flags: Flags {
                 seen: has_bit(flags, SEEN),
                 replied: has_bit(flags, REPLIED),

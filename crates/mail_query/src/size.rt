@@ -20,11 +20,14 @@ pub(crate) fn sizes_of(text: &str) -> Option<Node>
         [] => 0,
         digits => size_of(digits)?,
     };
-    let high = match high.as_bytes() {
-        [] => None,
-        digits => Some(size_of(digits)?),
-    };
-    Some(Node::Size { low, high })
+    if high.is_empty() {
+        return Some(Node::Size { low, high: None });
+    }
+    let high = size_of(high.as_bytes())?;
+    Some(Node::Size {
+        low,
+        high: Some(high),
+    })
 }
 
 /// One digit to 18, and then a letter that multiplies them or none.

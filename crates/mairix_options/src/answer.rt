@@ -36,5 +36,5 @@ pub fn answer_file(alloc: Global, plan: &Plan, rc: &Rc) -> Result<Option<Text>, 
         Some(name) => mfolder_path(alloc, &rc.base, name.as_str()),
         None => Text::new(alloc, rc.mfolder.as_str()),
     };
-    Ok(Some(file?))
+    file.map(Some)
 }

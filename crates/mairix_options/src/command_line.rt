@@ -261,7 +261,10 @@ fn planned(alloc: Global, matches: &ArgMatches<'_>) -> Result<Plan, OrMemory<Usa
     }
     let rcfile = Text::new(alloc, text_of(matches, "rcfile").unwrap_or(""))?;
     let mfolder = match text_of(matches, "mfolder") {
-        Some(name) => Some(Text::new(alloc, name)?),
+        Some(name) => {
+            let name = Text::new(alloc, name)?;
+            Some(name)
+        }
         None => None,
     };
     let patterns = texts_of(alloc, matches, "pattern")?;

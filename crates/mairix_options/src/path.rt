@@ -82,12 +82,8 @@ pub(crate) fn mfolder_path(
 ) -> Result<Text, AllocError>
     ensures { IfOk result (λ path. path ≡ mfolder_path base.now name.now) }
 {
-    under(
-        alloc,
-        base,
-        name.starts_with("/") || name.starts_with("."),
-        name,
-    )
+    let is_own = name.starts_with("/") || name.starts_with(".");
+    under(alloc, base, is_own, name)
 }
 
 /// Whether the mfolder's name is a path under the base.

@@ -125,7 +125,11 @@ fn assigned(
     ensures { Gives (λ s. s) refusal result (assigned base.now number option.now value.now) }
 {
     let keyword = Keyword::of(option);
-    if option.is_empty() || value.is_empty() || !has_paths(alloc, base, keyword, value)? {
+    if option.is_empty() || value.is_empty() {
+        return Err(OrMemory::Refused(RcFault::BadLine(number)));
+    }
+    let has_paths = has_paths(alloc, base, keyword, value)?;
+    if !has_paths {
         return Err(OrMemory::Refused(RcFault::BadLine(number)));
     }
     match keyword {
@@ -187,7 +191,8 @@ fn unexpanded(alloc: Global, number: u64, value: &str) -> Result<Text, OrMemory<
     if has_expansion(value) {
         return Err(OrMemory::Refused(RcFault::Expansion(number)));
     }
-    Ok(Text::new(alloc, value)?)
+    let text = Text::new(alloc, value)?;
+    Ok(text)
 }
 
 #[tactic(auto, using(crate::proofs::Searches::list_any_map))]

@@ -42,8 +42,9 @@ impl MemorySource {
         ensures { IfOk result (λ s.
             s ≡ record { rest = bytes.now; piece = piece; fail_at = fail_at; failures = 0 }) }
     {
+        let bytes = bytes.to_vec(alloc)?;
         Ok(MemorySource {
-            bytes: bytes.to_vec(alloc)?,
+            bytes,
             at: 0,
             piece,
             fail_at,

@@ -191,10 +191,9 @@ fn have_same_ends<const N: usize>(own: &[u8], text: &[u8]) -> Option<bool>
     if own.len() < N || own.len() > 2 * N {
         return None;
     }
-    Some(
-        own.first_chunk::<N>() == text.first_chunk::<N>()
-            && own.last_chunk::<N>() == text.last_chunk::<N>(),
-    )
+    let same = own.first_chunk::<N>() == text.first_chunk::<N>()
+        && own.last_chunk::<N>() == text.last_chunk::<N>();
+    Some(same)
 }
 
 /// Appends a difference's bytes to the recent ones. Most differences have one byte, for which there mostly is room.

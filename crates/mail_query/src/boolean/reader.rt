@@ -184,11 +184,11 @@ impl Reader {
         ensures { Gives (λ _. shown self.new) kind_refusal result (closed (shown self.old)) }
     {
         if self.wanted {
-            return Err(if has_open(self.waiting.as_slice()) {
-                QueryFaultKind::MissingTerm
+            return if has_open(self.waiting.as_slice()) {
+                Err(QueryFaultKind::MissingTerm)
             } else {
-                QueryFaultKind::BadParenthesis
-            });
+                Err(QueryFaultKind::BadParenthesis)
+            };
         }
         match self.waiting.pop() {
             Some(Waiting::ForClose(outer)) => {

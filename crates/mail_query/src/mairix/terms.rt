@@ -19,7 +19,8 @@ pub(crate) fn read_rest(alloc: Global, target: Target, text: &str) -> Result<Nod
 {
     let mut members = Vec::new(alloc);
     for part in text.split('/') {
-        add(&mut members, read_all(alloc, target, part)?)?;
+        let alternative = read_all(alloc, target, part)?;
+        add(&mut members, alternative)?;
     }
     Ok(either_of(members))
 }
@@ -30,7 +31,8 @@ fn read_all(alloc: Global, target: Target, text: &str) -> Result<Node, QueryFaul
 {
     let mut members = Vec::new(alloc);
     for part in text.split(',') {
-        add(&mut members, read_term(alloc, target, part)?)?;
+        let term = read_term(alloc, target, part)?;
+        add(&mut members, term)?;
     }
     Ok(all_of(members))
 }

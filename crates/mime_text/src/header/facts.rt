@@ -43,11 +43,14 @@ impl Facts {
         ensures sizes { IfOk result HasSizedIds }
         ensures fault { IfErr result (λ fault. fault ≡ TextFault.OutOfMemory) }
     {
+        let ids = linking_ids(alloc, header.fields())?;
+        let own_id = own_id(alloc, header.fields())?;
+        let date_text = date_text(alloc, header.fields(), reader)?;
         Ok(Facts {
             flags: flags(header.fields()),
-            ids: linking_ids(alloc, header.fields())?,
-            own_id: own_id(alloc, header.fields())?,
-            date_text: date_text(alloc, header.fields(), reader)?,
+            ids,
+            own_id,
+            date_text,
         })
     }
 }

@@ -113,13 +113,14 @@ fn read_shape(default: DefaultType, value: &[u8], buffer: &mut Vec<u8>) -> Resul
         return Ok(shape_of_single(name));
     }
     read_parameter(value, b"boundary", buffer)?;
-    Ok(match Boundary::new(buffer) {
+    let shape = match Boundary::new(buffer) {
         Some(boundary) => Shape::Multipart {
             boundary,
             default: default_in(name),
         },
         None => Shape::Text { is_html: false },
-    })
+    };
+    Ok(shape)
 }
 
 impl EntityType {

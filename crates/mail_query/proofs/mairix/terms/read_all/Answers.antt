@@ -7,12 +7,12 @@ loop-part-preserved c =
     let turn = YieldsList-turn (YieldsList-from_str_split 0x2C c.args.text.now (lit< tt) (cc) (cc) (cc)) c.loop-part.yielded _ c.loop-part.yielded_by _ _ c.in-Some.part c.in-Some.is c.next.ensures.steps in
     grind (arith, length_push, reads_more)
 
-pub returns-in_err-read_term : goal.returns-in_err-read_term
-returns-in_err-read_term c =
+pub returns-in_err-term : goal.returns-in_err-term
+returns-in_err-term c =
     let turn = YieldsList-turn (YieldsList-from_str_split 0x2C c.args.text.now (lit< tt) (cc) (cc) (cc)) c.loop-part.yielded _ c.loop-part.yielded_by _ _ c.in-Some.part c.in-Some.is c.next.ensures.steps in
     let read = term_query (forms_of c.args.target) in
     let parts = slice_split (is_byte 0x2C) c.args.text.now in
-    let refused = part_refused read parts all_of (queries_of c.loop-part.members.items) (length c.loop-part.yielded) c.in-Some.part.now (kind_refusal c.in_err-read_term.field-0.0) c.loop-part.invariant turn c.in_err-read_term.ensures in
+    let refused = part_refused read parts all_of (queries_of c.loop-part.members.items) (length c.loop-part.yielded) c.in-Some.part.now (kind_refusal c.in_err-term.field-0.0) c.loop-part.invariant turn c.in_err-term.ensures in
     grind arith
 
 pub returns : goal.returns
