@@ -13,7 +13,7 @@ use std::alloc::{AllocError, Global};
 const MOST_IN_HEADER: usize = 262_144;
 
 /// What became of a line that was pushed.
-#[derive(Clone, Copy, PartialEq, Eq)]
+#[derive(Clone, Copy)]
 pub enum Taken {
     /// The header goes on.
     More,

@@ -134,7 +134,8 @@ fn behind_gap(text: &str, gap: usize, in_run: bool) -> (&str, bool)
     ensures bound { length result.0.now ≤ length text.now }
 {
     let (before, start) = text.split_at(gap);
-    (start, in_run && has_joiners_alone(before))
+    let goes_on = in_run && has_joiners_alone(before);
+    (start, goes_on)
 }
 
 /// Whether each character is a joiner.

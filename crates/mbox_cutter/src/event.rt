@@ -3,7 +3,7 @@ use std::error::Error;
 use std::fmt;
 
 /// Why a cutter gave up.
-#[derive(Clone, Copy, Debug, PartialEq, Eq)]
+#[derive(Clone, Copy, Debug)]
 pub enum CutFault {
     /// The source failed.
     Device,
