@@ -81,6 +81,9 @@ class Edit:
     is_spread: bool = False
     wrong: str = ""
 
+    def is_of_bodies(self):
+        return not self.is_of_constant and not self.is_spread
+
     def write_clause(self, clause):
         """Writes the line that names the clause which refuses it, in front."""
         self.clause = clause
@@ -237,18 +240,19 @@ class Verdict:
             if said and not of_values:
                 self.by_names[function] = said[0]
 
-    def functions_of(self, edit):
-        """The functions of an edit that the check names; all of them where it names none of those."""
-        own = edit.functions & self.reasons.keys()
+    def functions_of(self, edit, is_alone):
+        """The functions of an edit that the check names; all of them where it names none of those. What is no body may show in any
+        function, which tells of an edit that is tried alone."""
+        own = edit.functions & self.reasons.keys() if edit.is_of_bodies() or not is_alone else set()
         return [name for name in self.reasons if not own or is_within(name, own)]
 
-    def of(self, edit, reasons):
+    def of(self, edit, reasons, is_alone):
         """The first of these reasons that is one of the edit's functions."""
-        return next((reasons[name] for name in self.functions_of(edit) if reasons.get(name)), "")
+        return next((reasons[name] for name in self.functions_of(edit, is_alone) if reasons.get(name)), "")
 
-    def clauses_of(self, edit):
+    def clauses_of(self, edit, is_alone):
         """The clauses of the edit's functions that weren't shown, those of contracts first."""
-        found = dict.fromkeys(it for name in self.functions_of(edit) for it in self.clauses[name])
+        found = dict.fromkeys(it for name in self.functions_of(edit, is_alone) for it in self.clauses[name])
         return sorted(found, key=lambda it: "-" in it)
 
     def refuses_others(self, edits):
@@ -316,7 +320,7 @@ def try_together(room, edits):
     verdict = room.check(edits, {it for edit in edits for it in edit.functions})
     if verdict.is_proved or verdict.trouble or verdict.refuses_others(edits):
         return {}
-    reasons = {edit: verdict.of(edit, verdict.reasons) for edit in edits if edit.functions & verdict.reasons.keys()}
+    reasons = {edit: verdict.of(edit, verdict.reasons, False) for edit in edits if edit.functions & verdict.reasons.keys()}
     return {edit: refused_by(room, edit, verdict, f"refused: {why}") for edit, why in reasons.items() if why}
 
 
@@ -324,12 +328,12 @@ def why_alone(room, edit, functions=()):
     """What a check of these functions, or of all, says of an edit, and for which reason it refuses it, if for one of its own."""
     verdict = room.check([edit], functions)
     reached = not verdict.is_proved and not verdict.trouble
-    return verdict, reached and (verdict.of(edit, verdict.reasons) or verdict.of(edit, verdict.in_cycles))
+    return verdict, reached and (verdict.of(edit, verdict.reasons, True) or verdict.of(edit, verdict.in_cycles, True))
 
 
-def refused_by(room, edit, verdict, said):
+def refused_by(room, edit, verdict, said, is_alone=False):
     """Whether an edit that is refused names a clause that refuses it, and what to say of it."""
-    clauses = verdict.clauses_of(edit)
+    clauses = verdict.clauses_of(edit, is_alone)
     if room.writes and clauses and edit.clause not in clauses:
         edit.write_clause(clauses[0])
     if edit.clause in clauses:
@@ -344,12 +348,12 @@ def try_alone(room, edit):
     if not why:
         verdict, why = why_alone(room, edit)
     if why:
-        return refused_by(room, edit, verdict, f"refused (alone): {why}")
+        return refused_by(room, edit, verdict, f"refused (alone): {why}", True)
     if verdict.is_proved:
         return False, "NOT refused: the crate is still proved with it"
     if verdict.trouble:
         return False, f"NOT refused: it didn't reach the prover: {verdict.trouble}"
-    by_names = verdict.of(edit, verdict.by_names)
+    by_names = verdict.of(edit, verdict.by_names, True)
     if by_names:
         return False, f"NOT refused but by names that it took away, which says nothing of the contract: {by_names}"
     return False, "NOT refused: its functions got no reason of their own"
@@ -359,7 +363,7 @@ def try_edits(room, edits):
     """Whether each edit is refused, and what to say of it."""
     said = {edit: (False, f"NOT refused: BAD EDIT: {edit.wrong}") for edit in edits if edit.wrong}
     fitting = [it for it in edits if it.functions and not it.is_spread and not it.wrong]
-    rounds = [*rounds_of([it for it in fitting if not it.is_of_constant]), *rounds_of([it for it in fitting if it.is_of_constant])]
+    rounds = [*rounds_of([it for it in fitting if it.is_of_bodies()]), *rounds_of([it for it in fitting if it.is_of_constant])]
     for together in rounds:
         if len(together) > 1:
             said.update(try_together(room, together))
