@@ -197,7 +197,7 @@ def tagged_prefixes(name):
 
 
 def rcfile_options():
-    return set(re.findall(r'"(\w+)" => Some\(Keyword::', source("mairix_options/src/setting.rt")))
+    return set(re.findall(r'\("(\w+)", Keyword::', source("mairix_options/src/setting.rt")))
 
 
 def bash_matches(*words):
