@@ -7,6 +7,8 @@ ghost use Rattle.mail_query.specs.Mail.{boolean_lexicon, boolean_query};
 ghost use Rattle.mail_query.specs.Tokens.{tokens};
 ghost use Rattle.mail_query.specs.BooleanGrammar.{Reads};
 ghost use Rattle.mail_query.specs.BooleanFaults.{first_fault};
+ghost use Rattle.mail_query.specs.BooleanReading.{start};
+ghost use Rattle.mail_query.specs.Inside.Shown.{shown};
 
 mod field;
 mod reader;
@@ -31,15 +33,16 @@ pub fn read_boolean(alloc: Global, text: &str, _now: Moment) -> Result<Query, Qu
         (λ f. first_fault boolean_lexicon (tokens text.now) ≡ Some f) }
     ensures memory { IfErr result (λ f. f.kind ≡ QueryFaultKind.OutOfMemory → f.number ≡ 0) }
 {
-    read_tokens(alloc, text)
+    let mut reader = Reader::new(alloc);
+    read_tokens(alloc, &mut reader, text)
 }
 
-/// What the tokens of a text ask.
-fn read_tokens(alloc: Global, text: &str) -> Result<Query, QueryFault>
+/// What the tokens of a text ask, for a reader that has read nothing.
+fn read_tokens(alloc: Global, reader: &mut Reader, text: &str) -> Result<Query, QueryFault>
+    requires { shown reader.old ≡ start }
     ensures answer { Gives meaning query_refusal result (boolean_query text.now) }
     ensures memory { IfErr result (λ f. f.kind ≡ QueryFaultKind.OutOfMemory → f.number ≡ 0) }
 {
-    let mut reader = Reader::new(alloc);
     let mut rest = text;
     let mut number = 1;
     'tokens: while let Some((token, behind)) = next_token(rest) {
