@@ -1,5 +1,5 @@
 //! A key of an index while it is built.
-ghost use Rattle.std.specs.Prelude.{◌≡◌, ◌+◌, ◌<◌, ◌≤◌, [], ◌∷◌, ◌++◌, length, take, IfSome, IsTrue, OnOk, OnErr, IfOk};
+ghost use Rattle.std.specs.Prelude.{◌≡◌, ◌+◌, ◌*◌, ◌<◌, ◌≤◌, [], ◌∷◌, ◌++◌, length, take, IsTrue, OnOk, OnErr, IfOk};
 ghost use Rattle.std.specs.Bool.{Decides};
 ghost use Rattle.std.specs.Ordering.{is_eq};
 ghost use Rattle.std.specs.declared.cmp.Ordering.TheVariants.{Equal};
@@ -167,33 +167,23 @@ impl KeyEntry {
 fn is_same_text(own: &[u8], text: &[u8]) -> bool
     ensures { Decides result (own.now ≡ text.now) }
 {
-    if own.len() != text.len() {
-        return false;
-    }
-    if let Some(same) = have_same_ends::<4>(own, text) {
-        return same;
-    }
-    if let Some(same) = have_same_ends::<8>(own, text) {
-        return same;
-    }
-    if let Some(same) = have_same_ends::<2>(own, text) {
-        return same;
-    }
-    own == text
+    own.len() == text.len()
+        && match own.len() {
+            4..=8 => have_same_ends::<4>(own, text),
+            9..=16 => have_same_ends::<8>(own, text),
+            2..=3 => have_same_ends::<2>(own, text),
+            _ => own == text,
+        }
 }
 
-/// Whether two texts of the same length are one, by their first bytes and their last ones, N each: where these cover them.
-fn have_same_ends<const N: usize>(own: &[u8], text: &[u8]) -> Option<bool>
+/// Whether two texts of the same length are one, by their first bytes and their last ones, N each, which cover them.
+fn have_same_ends<const N: usize>(own: &[u8], text: &[u8]) -> bool
     requires length { length own.now ≡ length text.now }
-    requires few { N ≤ 8 }
-    ensures { IfSome result (λ same. Decides same (own.now ≡ text.now)) }
+    requires covered { (N ≤ length own.now) × (length own.now ≤ 2 * N) }
+    ensures { Decides result (own.now ≡ text.now) }
 {
-    if own.len() < N || own.len() > 2 * N {
-        return None;
-    }
-    let same = own.first_chunk::<N>() == text.first_chunk::<N>()
-        && own.last_chunk::<N>() == text.last_chunk::<N>();
-    Some(same)
+    own.first_chunk::<N>() == text.first_chunk::<N>()
+        && own.last_chunk::<N>() == text.last_chunk::<N>()
 }
 
 /// Appends a difference's bytes to the recent ones. Most differences have one byte, for which there mostly is room.
