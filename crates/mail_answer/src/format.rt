@@ -1,7 +1,7 @@
 //! The forms of an answer.
 
 /// How an answer tells of a message.
-#[derive(Clone, Copy, Debug, PartialEq, Eq)]
+#[derive(Clone, Copy)]
 pub enum Format {
     /// A line: its offset and length in bytes, and the path of its archive.
     Raw,

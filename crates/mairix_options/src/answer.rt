@@ -29,7 +29,7 @@ pub fn answer_format(plan: &Plan, rc: &Rc) -> MailFormat
 pub fn answer_file(alloc: Global, plan: &Plan, rc: &Rc) -> Result<Option<Text>, AllocError>
     ensures { IfOk result (λ file. file ≡ answer_file plan.now rc.now) }
 {
-    if plan.stdout || answer_format(plan, rc) != MailFormat::Mbox {
+    if plan.stdout || !matches!(answer_format(plan, rc), MailFormat::Mbox) {
         return Ok(None);
     }
     let file = match &plan.mfolder {

@@ -3,7 +3,7 @@ ghost use Rattle.std.specs.Prelude.{◌≡◌};
 ghost use Rattle.mairix_options.specs.Rcfile.{format_of};
 
 /// What an answer is.
-#[derive(Clone, Copy, PartialEq, Eq)]
+#[derive(Clone, Copy)]
 pub enum MailFormat {
     /// The messages, as an mbox.
     Mbox,

@@ -100,7 +100,7 @@ fn one_archive_is_answered(rt: HostRuntime) {
 fn threads_and_several_archives_are_answered(rt: HostRuntime) {
     for (archives, search, messages, text) in OF_ARCHIVES {
         let as_wanted = is_answered(rt.alloc(), archives, *search, *messages, text);
-        assert!(rt; as_wanted == Some(true), "{search:?}: {text}");
+        assert!(rt; as_wanted == Some(true), "{}: {text}", search.0);
     }
 }
 
@@ -146,6 +146,6 @@ fn is_whole_or_wanting(alloc: Global, format: Format, text: &str) -> Option<bool
 fn sweep_answer_with_threads(rt: HostRuntime) {
     for (format, text) in FORMS {
         let as_wanted = is_whole_or_wanting(rt.alloc(), *format, text);
-        assert!(rt; as_wanted != Some(false), "{format:?}");
+        assert!(rt; as_wanted != Some(false), "{text}");
     }
 }

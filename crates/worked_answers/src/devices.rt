@@ -37,7 +37,7 @@ fn tells_failed_call(alloc: Global, form: Form, fail_at: u64) -> Option<bool> {
         failed && told.1.bytes().is_empty()
     } else if fail_at <= least {
         failed
-    } else if fail_at == BEYOND || format == Format::Raw {
+    } else if fail_at == BEYOND || matches!(format, Format::Raw) {
         answered
     } else {
         failed || answered
@@ -49,7 +49,7 @@ fn a_failed_call_leaves_a_front(rt: HostRuntime) {
     for form in FORMS {
         for fail_at in 1..=BEYOND {
             let as_wanted = tells_failed_call(rt.alloc(), *form, fail_at);
-            assert!(rt; as_wanted == Some(true), "{:?} at call {fail_at}", form.0);
+            assert!(rt; as_wanted == Some(true), "{} at call {fail_at}", form.1);
         }
     }
 }
@@ -72,7 +72,7 @@ fn a_full_output_has_a_front(rt: HostRuntime) {
     for form in FORMS {
         for room in 0..=158 {
             let as_wanted = fills(rt.alloc(), *form, room);
-            assert!(rt; as_wanted == Some(true), "{:?} in {room} bytes", form.0);
+            assert!(rt; as_wanted == Some(true), "{} in {room} bytes", form.1);
         }
     }
 }
@@ -117,12 +117,12 @@ fn is_stale(
 #[test]
 fn changed_archives_are_stale(rt: HostRuntime) {
     for (archives, number) in STALE {
-        for (format, _, _, _) in FORMS {
+        for (format, text, _, _) in FORMS {
             for fail_at in 0..=4 {
                 let as_wanted = is_stale(rt.alloc(), *format, archives, *number, fail_at);
                 assert!(rt;
                     as_wanted == Some(true),
-                    "{format:?}: {number}, {archives:?}, call {fail_at}"
+                    "{text}: {number}, {archives:?}, call {fail_at}"
                 );
             }
         }

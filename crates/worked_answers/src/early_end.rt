@@ -83,7 +83,7 @@ fn an_archive_that_ends_early_is_stale(rt: HostRuntime) {
         for first in 0..2u32 {
             for end in 0..=79u64 {
                 let as_wanted = is_told(rt.alloc(), *form, first, end);
-                assert!(rt; as_wanted == Some(true), "{:?}, {first}: to {end}", form.0);
+                assert!(rt; as_wanted == Some(true), "{}, {first}: to {end}", form.1);
             }
         }
     }

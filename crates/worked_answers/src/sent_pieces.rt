@@ -56,11 +56,15 @@ fn calls_of(alloc: Global, format: Format) -> Option<(u64, usize)> {
 /// An answer goes out in a call once enough of it is gathered, before much more is, and in another at its end.
 #[test]
 fn a_long_answer_goes_out_before_its_end(rt: HostRuntime) {
-    for format in [Format::Raw, Format::Excerpt, Format::Mbox] {
+    for (name, format) in [
+        ("raw", Format::Raw),
+        ("excerpt", Format::Excerpt),
+        ("mbox", Format::Mbox),
+    ] {
         let in_two = match calls_of(rt.alloc(), format) {
             Some((count, most)) => count == 2 && GATHERED <= most && most < GATHERED + 5_000,
             None => false,
         };
-        assert!(rt; in_two, "{format:?}");
+        assert!(rt; in_two, "{name}");
     }
 }

@@ -158,7 +158,7 @@ fn words_are_refused(rt: HostRuntime) -> Result<(), Fail> {
         let told = plan_of(alloc, &words).err();
         let text = usage_text(alloc, &words)?;
         let as_wanted = is_refusal(told, refusal) && text.as_str().starts_with(front);
-        assert!(rt; as_wanted, "{line}: {told:?}: {text}");
+        assert!(rt; as_wanted, "{line}: not {refusal}: {text}");
     }
     Ok(())
 }
