@@ -54,14 +54,14 @@ impl<'a> Numbers<'a> {
         ensures numbers { IfOk result (λ numbers. AreNumbers (length index.now.messages) numbers) }
     {
         let mut steps = Steps::new();
-        if !threads {
+        let source = if threads {
+            let satisfying = matches(alloc, index, query)?;
+            let numbers = with_threads(alloc, index, satisfying.as_slice())?;
+            Source::Listed(numbers.into_iter())
+        } else {
             let cursor = Cursor::new(alloc, index, query, &mut steps)?;
-            let source = Source::Walked(cursor);
-            return Ok(Numbers { source, steps });
-        }
-        let satisfying = matches(alloc, index, query)?;
-        let numbers = with_threads(alloc, index, satisfying.as_slice())?;
-        let source = Source::Listed(numbers.into_iter());
+            Source::Walked(cursor)
+        };
         Ok(Numbers { source, steps })
     }
 
