@@ -79,6 +79,7 @@ impl Signer {
 }
 
 /// Writes bytes and takes them into the digest, or gathers them for that.
+#[inline(always)]
 pub(crate) fn send_signed<O: Out>(
     out: &mut O,
     signer: &mut Signer,
