@@ -130,8 +130,8 @@ impl FieldList {
         ensures { result ≡ self.now }
     {
         Fields {
-            bytes: &self.bytes,
-            places: &self.places,
+            bytes: self.bytes.as_slice(),
+            places: self.places.as_slice(),
         }
     }
 }

@@ -54,7 +54,7 @@ fn add_words(
     let is_ascii = fold_ascii(text, &mut room.folded)?;
     if is_ascii {
         // Its words fold with it: one folding serves them all.
-        return add_words_of(builder, kind, &room.folded);
+        return add_words_of(builder, kind, room.folded.as_str());
     }
     room.fold_words(text)?;
     add_cut_words(

@@ -92,7 +92,7 @@ fn remove_private<R: Files>(
         file.by_ref()
             .take(beginning.length())
             .read_to_end(&mut front)?;
-        if beginning.agrees_with(&front) {
+        if beginning.agrees_with(front.as_slice()) {
             return fs::remove_file(rt, name);
         }
     }

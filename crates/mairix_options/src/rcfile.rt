@@ -135,7 +135,7 @@ fn rc_with(alloc: Global, said: &mut Said) -> Result<Rc, OrMemory<RcFault>>
     if let Some(number) = first_misfit(alloc, said)? {
         return Err(OrMemory::Refused(RcFault::BadLine(number)));
     }
-    let paths = all_paths(alloc, &said.base, &said.archives)?;
+    let paths = all_paths(alloc, &said.base, said.archives.as_slice())?;
     if paths.as_slice().is_empty() {
         return Err(OrMemory::Refused(RcFault::Missing(Name::Mbox)));
     }
@@ -160,11 +160,12 @@ fn first_misfit(alloc: Global, said: &Said) -> Result<Option<u64>, AllocError>
     ensures { IfOk result (λ n. n ≡ first_misfit said.now.base said.now.archives.items
         said.now.mfolder) }
 {
-    let earliest = first_archives_misfit(alloc, &said.base, &said.archives)?;
+    let earliest = first_archives_misfit(alloc, &said.base, said.archives.as_slice())?;
     let Some(line) = &said.mfolder else {
         return Ok(earliest);
     };
-    if mfolder_fits(alloc, &said.base, line.name.as_str())? {
+    let fits = mfolder_fits(alloc, &said.base, line.name.as_str())?;
+    if fits {
         return Ok(earliest);
     }
     match earliest {
@@ -182,7 +183,8 @@ fn first_archives_misfit(
         0) }
 {
     for line in archives {
-        if !archives_fit(alloc, base, &line.names)? {
+        let fits = archives_fit(alloc, base, &line.names)?;
+        if !fits {
             return Ok(Some(line.number));
         }
     }

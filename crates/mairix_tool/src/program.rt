@@ -85,11 +85,11 @@ fn run_plan<R: Files<File = File>, W: Write>(
 ) -> Result<u8, Stopped> {
     let rcfile = plan.rcfile.as_str();
     let text = Stopped::unless(alloc, rcfile, read_whole(rt, alloc, rcfile))?;
-    let rc = read_rc(alloc, &text)?;
+    let rc = read_rc(alloc, text.as_slice())?;
     let asked = Asked {
         words,
         plan,
-        text: &text,
+        text: text.as_slice(),
         rc: &rc,
         now,
     };
@@ -118,8 +118,8 @@ fn run_asked<R: Files<File = File>, W: Write>(
     };
     let search = Search {
         asked,
-        states: &states,
-        index: &index,
+        states: states.as_slice(),
+        index: index.as_slice(),
     };
     run_search(rt, alloc, &search, out)
 }

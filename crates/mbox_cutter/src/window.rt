@@ -126,11 +126,11 @@ impl<'a, S: Source> Window<'a, S> {
         ensures bound { length self.new.unread ≤ ROOM }
     {
         let held = self.to - self.from;
-        move_to_front(&mut self.buffer, self.from, self.to);
+        move_to_front(self.buffer.as_mut_slice(), self.from, self.to);
         self.taken = 0;
         self.from = 0;
         self.to = held;
-        let n = read_behind(self.source, &mut self.buffer, held)?;
+        let n = read_behind(self.source, self.buffer.as_mut_slice(), held)?;
         self.to += n;
         self.ended = n == 0;
         Ok(())

@@ -52,7 +52,7 @@ pub(crate) fn walk_of<'a>(
             Walk::others(alloc, index.message_count(), inner)
         }
         Node::All(members) => {
-            let walks = walks_of(alloc, index, members, steps)?;
+            let walks = walks_of(alloc, index, members.as_slice(), steps)?;
             if walks.is_empty() {
                 // Where there are no members, every message satisfies each of them. No message comes in a union of no walks, so
                 // all messages are those that don't come in it.
@@ -61,7 +61,7 @@ pub(crate) fn walk_of<'a>(
             Ok(Walk::common(walks))
         }
         Node::Either(members) => {
-            let walks = walks_of(alloc, index, members, steps)?;
+            let walks = walks_of(alloc, index, members.as_slice(), steps)?;
             Walk::united_in_groups(alloc, walks)
         }
     }

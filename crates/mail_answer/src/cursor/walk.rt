@@ -208,8 +208,8 @@ impl<'a> Node<'a> {
             Node::Marked(marked) => marked.least_from(n, steps),
             Node::Scanned(scan) => scan.least_from(n, steps),
             Node::Others(others) => least_other(others, n, steps),
-            Node::Common(members) => least_common(members, n, steps),
-            Node::United(members) => least_united(members, n, steps),
+            Node::Common(members) => least_common(members.as_mut_slice(), n, steps),
+            Node::United(members) => least_united(members.as_mut_slice(), n, steps),
         }
     }
 }

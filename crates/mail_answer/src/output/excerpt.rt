@@ -58,10 +58,10 @@ fn push_field(
 {
     let body = header.fields().first_body(name.as_bytes()).unwrap_or(b"");
     let unfolded = unfold(alloc, body)?;
-    let decoded = decode_words(alloc, &unfolded)?;
+    let decoded = decode_words(alloc, unfolded.as_slice())?;
     let mut value = decoded.into_bytes();
     hide_controls(value.as_mut_slice());
-    push_line(name, &value, text)
+    push_line(name, value.as_slice(), text)
 }
 
 /// Adds the excerpt of a message of this header: the path of its archive, and five fields.
@@ -109,5 +109,5 @@ pub(crate) fn push_excerpt<A: Archives, O: Out>(
     let path = places.path_of(message.archive);
     let mut text = Vec::new(alloc);
     push_lines(alloc, path, &header, &mut text)?;
-    sheet.push(out, &text)
+    sheet.push(out, text.as_slice())
 }

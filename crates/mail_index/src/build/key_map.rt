@@ -111,7 +111,7 @@ impl KeyMap {
             most,
         };
         // A right guess needs neither the order nor the hints.
-        if let Some(entry) = guessed(&self.entries, place, kind, text) {
+        if let Some(entry) = guessed(self.entries.as_slice(), place, kind, text) {
             self.hints.note_recent(place.slot, entry);
             return add_number(&mut self.entries, &self.order, entry, &key);
         }
@@ -134,7 +134,7 @@ impl KeyMap {
     {
         self.hints.begin()?;
         self.order.begin(alloc)?;
-        match self.order.find(&self.entries, key.kind, key.text) {
+        match self.order.find(self.entries.as_slice(), key.kind, key.text) {
             Ok(entry) => {
                 self.hints.note(slot, entry);
                 add_number(&mut self.entries, &self.order, entry, &key)
@@ -150,7 +150,11 @@ impl KeyMap {
     pub(crate) fn in_order(&self) -> KeysInOrder<'_>
         ensures { result ≡ self.now }
     {
-        KeysInOrder::of(&self.entries, &self.order.heads, &self.order.pages)
+        KeysInOrder::of(
+            self.entries.as_slice(),
+            self.order.heads.as_slice(),
+            self.order.pages.as_slice(),
+        )
     }
 }
 

@@ -59,11 +59,11 @@ impl KeyOrder {
         ensures place { IfErr result (IsPlaceFor kind text.now entries.now self.now) }
     {
         let front = front_of_key(kind, text);
-        let page = match search(&self.heads, entries, front, kind, text) {
+        let page = match search(self.heads.as_slice(), entries, front, kind, text) {
             Ok(number) => return Ok(number),
             Err(page) => page,
         };
-        match search(&self.pages[page], entries, front, kind, text) {
+        match search(self.pages[page].as_slice(), entries, front, kind, text) {
             Ok(number) => Ok(number),
             Err(at) => Err(Place { page, at, front }),
         }

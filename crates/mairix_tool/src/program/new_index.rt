@@ -72,6 +72,11 @@ fn fill_index_file<R: Files>(
 {
     let mut sources = sources_of(rt, alloc, paths)?;
     let mut writer = BufWriter::with_capacity(alloc, GATHERED, file).or(Err(Fault::Memory))?;
-    let sent = send_index(alloc, paths, &mut sources, &mut ToWrite::new(&mut writer));
+    let sent = send_index(
+        alloc,
+        paths,
+        sources.as_mut_slice(),
+        &mut ToWrite::new(&mut writer),
+    );
     flushed(sent.and(Ok(DONE)), &mut writer)
 }

@@ -110,7 +110,15 @@ fn answer_to<R: Files<File = File>, W: Write>(
     let reply = if plan.once {
         match sources_in(rt, alloc, paths, states) {
             Ok(mut sources) => {
-                once_run(alloc, words, text, &mut sources, &mut archives, now, sink)
+                once_run(
+                    alloc,
+                    words,
+                    text,
+                    sources.as_mut_slice(),
+                    &mut archives,
+                    now,
+                    sink,
+                )
             }
             Err(AllocError) => Reply::of(Err(Fault::Memory)),
         }

@@ -73,7 +73,7 @@ impl MessageId {
         ensures bytes { result.now ≡ self.now }
         ensures size { IsSizedId result.now }
     {
-        &self.bytes
+        self.bytes.as_slice()
     }
 }
 

@@ -93,7 +93,7 @@ impl Nesting {
         let Some(text) = after_dashes(line) else {
             return Lead::Nowhere;
         };
-        match outermost(&self.frames, text) {
+        match outermost(self.frames.as_slice(), text) {
             None => Lead::Nowhere,
             Some((at, Delimiter::Closing)) => {
                 self.frames.truncate(at);

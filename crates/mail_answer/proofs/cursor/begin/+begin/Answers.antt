@@ -52,20 +52,20 @@ walk_of-returns-in_ok-inner-in-Not-clause-truths t c =
 
 pub walk_of-returns-then-is_empty-clause-truths : goal.walk_of-returns-then-is_empty-clause-truths
 walk_of-returns-then-is_empty-clause-truths t c =
-    tells_none c.args.index.now (query_of c.args.node.now) (queries_of c.deref-in-All.result.now) c.in_ok-walks-in-All.walks.items c.message_count-then-is_empty.result c.united.result.truths c.others-then-is_empty.result
-    (ap query_of c.in-All.is ∙ query_of-All c.in-All.members ∙ ap (λ (ns : List Node). query.All (members_of (queries_of ns))) (sym c.deref-in-All.ensures.value))
+    tells_none c.args.index.now (query_of c.args.node.now) (queries_of c.as_slice.result.now) c.in_ok-walks-in-All.walks.items c.message_count-then-is_empty.result c.united.result.truths c.others-then-is_empty.result
+    (ap query_of c.in-All.is ∙ query_of-All c.in-All.members ∙ ap (λ (ns : List Node). query.All (members_of (queries_of ns))) (sym c.as_slice.ensures.value))
     (omega (arith, c.in_ok-walks-in-All.walks.ok.0, eqb-true (vec_len c.in_ok-walks-in-All.walks) 0 (sym c.is_empty.ensures ∙ c.if-is_empty.true))) c.message_count-then-is_empty.ensures c.united.ensures.truths c.in_ok-walks-in-All.ensures.truths c.others-then-is_empty.ensures.truths
 
 pub walk_of-returns-else-is_empty-clause-truths : goal.walk_of-returns-else-is_empty-clause-truths
 walk_of-returns-else-is_empty-clause-truths t c =
-    tells_common c.args.index.now (query_of c.args.node.now) (queries_of c.deref-in-All.result.now) c.in_ok-walks-in-All.walks.items c.common.result.truths
-    (ap query_of c.in-All.is ∙ query_of-All c.in-All.members ∙ ap (λ (ns : List Node). query.All (members_of (queries_of ns))) (sym c.deref-in-All.ensures.value))
+    tells_common c.args.index.now (query_of c.args.node.now) (queries_of c.as_slice.result.now) c.in_ok-walks-in-All.walks.items c.common.result.truths
+    (ap query_of c.in-All.is ∙ query_of-All c.in-All.members ∙ ap (λ (ns : List Node). query.All (members_of (queries_of ns))) (sym c.as_slice.ensures.value))
     (some_walk (vec_len c.in_ok-walks-in-All.walks) (length c.in_ok-walks-in-All.walks.items) c.in_ok-walks-in-All.walks.ok.0 (sym c.is_empty.ensures ∙ c.if-is_empty.false)) c.common.ensures.truths c.in_ok-walks-in-All.ensures.truths
 
 pub walk_of-returns-in_ok-walks-in-Either-clause-truths : goal.walk_of-returns-in_ok-walks-in-Either-clause-truths
 walk_of-returns-in_ok-walks-in-Either-clause-truths t c =
-    tells_grouped c.args.index.now (query_of c.args.node.now) (queries_of c.deref-in-Either.result.now) c.in_ok-walks-in-Either.walks.items c.united_in_groups.result
-    (ap query_of c.in-Either.is ∙ query_of-Either c.in-Either.members ∙ ap (λ (ns : List Node). query.Either (members_of (queries_of ns))) (sym c.deref-in-Either.ensures.value))
+    tells_grouped c.args.index.now (query_of c.args.node.now) (queries_of c.as_slice-in-Either.result.now) c.in_ok-walks-in-Either.walks.items c.united_in_groups.result
+    (ap query_of c.in-Either.is ∙ query_of-Either c.in-Either.members ∙ ap (λ (ns : List Node). query.Either (members_of (queries_of ns))) (sym c.as_slice-in-Either.ensures.value))
     c.in_ok-walks-in-Either.ensures.truths c.united_in_groups.ensures.truths
 
 pub walks_of-loop-node-preserved : goal.walks_of-loop-node-preserved

@@ -31,6 +31,6 @@ returns-clause-writes g c =
     let t = c.args.places.now.table in
     let held : Option (List (List ℕ)) = g.A.Archives.held c.args.archives.now in
     let is : c.message-message.result ≡ record_at t.messages c.args.n = cc (c.message-message.ensures, c.index.ensures, record_known t.messages c.args.n c.requires.below) in
-    let told : Tells (known_message Excerpt t held c.args.n) c.deref.result.now =
-    rw c.deref.ensures.value (excerpt_told t held c.args.n c.message-message.result c.path_of-path.result.now c.push_lines.new.text.items c.in_ok-header.header is c.path_of-path.ensures.path c.in_ok-header.ensures.fields (rw c.new-text.ensures.items at c.in_ok-push_lines.ensures)) in
-    writes_less (g.O.Out.taken c.args.out.now) (g.O.Out.taken c.push.new.out) c.args.sheet.now c.push.new.self (known_message Excerpt t held c.args.n) c.deref.result.now c.push.result told c.push.ensures.writes
+    let told : Tells (known_message Excerpt t held c.args.n) c.as_slice.result.now =
+    rw c.as_slice.ensures.value (excerpt_told t held c.args.n c.message-message.result c.path_of-path.result.now c.push_lines.new.text.items c.in_ok-header.header is c.path_of-path.ensures.path c.in_ok-header.ensures.fields (rw c.new-text.ensures.items at c.in_ok-push_lines.ensures)) in
+    writes_less (g.O.Out.taken c.args.out.now) (g.O.Out.taken c.push.new.out) c.args.sheet.now c.push.new.self (known_message Excerpt t held c.args.n) c.as_slice.result.now c.push.result told c.push.ensures.writes

@@ -17,8 +17,8 @@ invariant_of-self c = grind (arith, AreNested-take)
 pub returns-in-Some-default-Closing-clause-leads : goal.returns-in-Some-default-Closing-clause-leads
 returns-in-Some-default-Closing-clause-leads c =
     let e : dashes c.args.line.now ≡ Some c.in-Some.text.now = sym c.after_dashes.ensures ∙ ap bytes_of c.in-Some.is in
-    closing-leads c.args.line.now c.in-Some.text.now c.args.self.now.frames c.self.inside.frames.items c.deref.result.now c.truncate.new.self.items
-    c.in-Some-default-Closing.at c.in-Some-default-Closing.field-0-1 (ap (λ (n : Nest). n.frames) (sym c.self.view_is)) c.deref.ensures.value e
+    closing-leads c.args.line.now c.in-Some.text.now c.args.self.now.frames c.self.inside.frames.items c.as_slice.result.now c.truncate.new.self.items
+    c.in-Some-default-Closing.at c.in-Some-default-Closing.field-0-1 (ap (λ (n : Nest). n.frames) (sym c.self.view_is)) c.as_slice.ensures.value e
     c.in-Some-default-Closing.field-0-1-is c.in-Some-default-Closing.ensures.some c.truncate.ensures.items
 
 pub invariant_of-self-in-Some-default-Next : goal.invariant_of-self-in-Some-default-Next
@@ -28,8 +28,8 @@ pub returns-in-Some-default-Next-clause-leads : goal.returns-in-Some-default-Nex
 returns-in-Some-default-Next-clause-leads c =
     let e : dashes c.args.line.now ≡ Some c.in-Some.text.now = sym c.after_dashes.ensures ∙ ap bytes_of c.in-Some.is in
     let got : slice_get c.self.inside.frames.items c.in-Some-default-Next.at ≡ Some c.index.result.now =
-    (let h : c.in-Some-default-Next.at < length c.deref.result.now = c.in-Some-default-Next.ensures.within in
-    got-at c.self.inside.frames.items c.in-Some-default-Next.at c.index.result.now (omega (arith, h, ap length c.deref.ensures.value)) c.index.ensures) in
-    next-leads c.args.line.now c.in-Some.text.now c.args.self.now.frames c.self.inside.frames.items c.deref.result.now c.truncate-in-Some-default-Next.new.self.items
-    c.in-Some-default-Next.at c.in-Some-default-Next.field-0-1 c.index.result.now (ap (λ (n : Nest). n.frames) (sym c.self.view_is)) c.deref.ensures.value e
+    (let h : c.in-Some-default-Next.at < length c.as_slice.result.now = c.in-Some-default-Next.ensures.within in
+    got-at c.self.inside.frames.items c.in-Some-default-Next.at c.index.result.now (omega (arith, h, ap length c.as_slice.ensures.value)) c.index.ensures) in
+    next-leads c.args.line.now c.in-Some.text.now c.args.self.now.frames c.self.inside.frames.items c.as_slice.result.now c.truncate-in-Some-default-Next.new.self.items
+    c.in-Some-default-Next.at c.in-Some-default-Next.field-0-1 c.index.result.now (ap (λ (n : Nest). n.frames) (sym c.self.view_is)) c.as_slice.ensures.value e
     c.in-Some-default-Next.field-0-1-is c.in-Some-default-Next.ensures.some got c.truncate-in-Some-default-Next.ensures.items
