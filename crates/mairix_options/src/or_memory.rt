@@ -5,7 +5,7 @@ ghost use Rattle.mairix_options.specs.declared.or_memory.OrMemory.TheVariants.{M
 use std::alloc::{AllocError, AllocFailed};
 
 /// Why a reader has no answer: what it reads is refused, or memory is wanting. Only the first depends on what is read.
-#[derive(Clone, Copy)]
+#[derive(Debug, Drop)]
 pub enum OrMemory<E> {
     /// What is read is refused.
     Refused(E),
