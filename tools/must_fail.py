@@ -224,9 +224,11 @@ class Verdict:
     def take(self, function, verdict, why, errors):
         """Takes what is said of a function."""
         self.reasons[function], self.clauses[function] = "", []
-        if verdict == "no proof" and not ONLY_CALLS.match(why):
+        goals = [it.strip("`") for found in UNSHOWN.findall(why) for it in found.split(", ")]
+        # Each of functions that call one another is told the goals of all, which begin with the names of their functions.
+        is_of_others = "/+" in why and goals and not any(function.endswith(f"::{it.partition('-')[0]}") for it in goals)
+        if verdict == "no proof" and not ONLY_CALLS.match(why) and not is_of_others:
             self.reasons[function] = why
-            goals = [it.strip("`") for found in UNSHOWN.findall(why) for it in found.split(", ")]
             self.clauses[function] = [clause_of(it) for it in goals]
         if verdict == "not proved" and not ONLY_CALLS.match(why):
             own = "proofs/" + function.partition("::")[2].replace("::", "/") + "/"
@@ -362,11 +364,16 @@ def try_alone(room, edit):
 def try_edits(room, edits):
     """Whether each edit is refused, and what to say of it."""
     said = {edit: (False, f"NOT refused: BAD EDIT: {edit.wrong}") for edit in edits if edit.wrong}
-    fitting = [it for it in edits if it.functions and not it.is_spread and not it.wrong]
-    rounds = [*rounds_of([it for it in fitting if it.is_of_bodies()]), *rounds_of([it for it in fitting if it.is_of_constant])]
-    for together in rounds:
-        if len(together) > 1:
-            said.update(try_together(room, together))
+    left = [it for it in edits if it.functions and not it.is_spread and not it.wrong]
+    found = True
+    while found:
+        # A function may wait for the proof of another that is edited too, so a round of what is left can tell more.
+        found = {}
+        for together in [*rounds_of([it for it in left if it.is_of_bodies()]), *rounds_of([it for it in left if it.is_of_constant])]:
+            if len(together) > 1:
+                found.update(try_together(room, together))
+        said.update(found)
+        left = [it for it in left if it not in found]
     for edit in edits:
         if edit not in said:
             said[edit] = try_alone(room, edit)
