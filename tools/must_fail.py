@@ -47,6 +47,8 @@ ERROR = re.compile(r"(?:\./)?(\S+?):\d+:\d+: error\b")
 LOST_NAME = re.compile(r"has no field|is not in scope|has no `|was not admitted|: module `[^`]*`$|: record `[^`]*` \(nearest: ")
 # What is said of a function that is refused only since another isn't proved, also where it is proved together with those it calls.
 ONLY_CALLS = re.compile(r"(?:in `[^`]*`, of this cycle of calls: )?it calls ")
+# The folder for the answers of a cycle of calls.
+CYCLE = re.compile(r"expected answers in (\S*/\+[^/\s]+)/")
 # The line of an edit that names the clause which refuses it.
 CLAUSE = re.compile(r"^# refused by: (\S+)\n", re.M)
 # The goals that a check couldn't show, as a reason lists them, and as an error names its own.
@@ -216,17 +218,23 @@ class Verdict:
         unread = [line for path, line in errors if path.startswith(("src/", "specs/")) and LOST_NAME.search(line)]
         refused = status == 1 and any(line.startswith(("logic=not-proved", "only=")) for line in lines)
         self.trouble = "" if self.is_proved or refused and not unread else next((line for _, line in errors), lines[-1])
-        for line in lines:
-            told = re.match(r"fn (\S+): (proved|no proof|not proved|could not tell)(?:: )?(.*)", line)
-            if told:
-                self.take(told[1], told[2], told[3], errors)
+        told = [found for line in lines for found in [re.match(r"fn (\S+): (proved|no proof|not proved|could not tell)(?:: )?(.*)", line)] if found]
+        # The folder of each cycle of calls, once for each of its functions that is told to want answers there.
+        self.cycles = [found[1] for it in told for found in [CYCLE.search(it[3])] if found]
+        for it in told:
+            self.take(it[1], it[2], it[3], errors)
+
+    def is_shared(self, why):
+        """Whether more functions than one are told these goals: then they call one another, and each goal begins with its function's name. The goals of
+        one that calls itself alone don't."""
+        found = CYCLE.search(why)
+        return bool(found) and self.cycles.count(found[1]) > 1
 
     def take(self, function, verdict, why, errors):
         """Takes what is said of a function."""
         self.reasons[function], self.clauses[function] = "", []
         goals = [it.strip("`") for found in UNSHOWN.findall(why) for it in found.split(", ")]
-        # Each of functions that call one another is told the goals of all, which begin with the names of their functions.
-        is_of_others = "/+" in why and goals and not any(function.endswith(f"::{it.partition('-')[0]}") for it in goals)
+        is_of_others = goals and self.is_shared(why) and not any(function.endswith(f"::{it.partition('-')[0]}") for it in goals)
         if verdict == "no proof" and not ONLY_CALLS.match(why) and not is_of_others:
             self.reasons[function] = why
             self.clauses[function] = [clause_of(it) for it in goals]
