@@ -137,16 +137,19 @@ TOGETHER, ALONE = "refused: ", "refused (alone): "
 HARMLESS = "NOT refused: the crate is still proved"
 
 # Each edit: its pairs of an old text and a new one, the clause that it names, and how its line begins. Of two that change one function the
-# second is in the second round, and that one doesn't compile.
+# second changes a twin of it, beside the first.
 EDITS = {
     "a_counter_begins_at_one": ([("Counter { count: 0 }", "Counter { count: 1 }")], "returns", TOGETHER),
     "a_lost_name": ([("let mut sum = n;", "let mut total = n;"), ("sum += 1;", "total += 1;"), ("= sum;", "= total;")], "returns", "NOT refused but by names"),
     "a_lost_text": ([("n > 1", "n > 2")], "returns", "NOT refused: BAD EDIT: an 'old:' text is in src/lib.rt 0 times"),
+    "a_step_is_none": ([("self.count += 1;", "self.count += 0;")], "returns", TOGETHER),
     "a_step_is_two": ([("self.count += 1;", "self.count += 2;")], "returns", TOGETHER),
     "at_least_one": ([("n > 0", "n >= 1")], "returns", HARMLESS),
     "larger_gives_the_first": ([("if b < a { a } else { b }", "if b < a { a } else { a }")], "second", TOGETHER),
     "larger_gives_the_smaller": ([("if b < a { a } else { b }", "if b < a { b } else { a }")], "either", "NOT refused by either, but by first, second"),
+    "doubled_in_fewer_steps": ([("in 0..n {", "in 1..n {")], "loop-i-init", TOGETHER),
     "largest_from_behind": ([("larger(larger(a, b), c)", "larger(a, larger(b, c))")], "third", HARMLESS),
+    "largest_of_the_first_two": ([("larger(larger(a, b), c)", "larger(larger(a, b), b)")], "third", TOGETHER),
     "less_than_the_least": ([("LEAST: u32 = 1", "LEAST: u32 = 0")], "returns", TOGETHER),
     "more_than_the_most": ([("MOST: u32 = 100", "MOST: u32 = 101")], "returns", TOGETHER),
     "smaller_of_equal_ones": ([("if a < b { a } else { b }", "if a <= b { a } else { b }")], "either", HARMLESS),

@@ -31,6 +31,8 @@ def impl_name(head):
     """The name that a check gives an impl: `TypeTrait`, or `Type` where it is of no trait."""
     head = re.sub(r"^impl\s*(<(?:[^<>]|<[^<>]*>)*>)?", "", head.strip())
     trait, _, owner = re.sub(r"\bwhere\b.*", "", head, flags=re.S).rpartition(" for ")
+    # The parameters of a trait's own parameters are no part of the name.
+    trait = re.sub(r"(?<=\w)<[^<>]*>(?=.*>)", "", trait)
     base = re.match(r"[\w:]*", owner.strip())[0].rpartition("::")[2]
     return base + "".join(re.findall(r"\w+", re.sub(r"'\w+|\b\w+::", "", trait)))
 
@@ -79,3 +81,15 @@ def bodies_of_file(crate, path, text):
     if not (path.startswith("src/") and path.endswith(".rt")):
         return []
     return list(bodies(blanked(text), module_of(crate, path)))
+
+
+def item_of(text, body):
+    """Where the item of a function stands whose body begins at `body`, with its comments and attributes, and whether it is a method of a trait's impl."""
+    blank = blanked(text)
+    heads = [it for it in ITEM.finditer(blank) if it.end() <= body]
+    start = next(it.start() for it in reversed(heads) if it[3])
+    lines = text[:start].split("\n")[:-1]
+    while lines and lines[-1].lstrip().startswith(("//", "#[")):
+        start -= len(lines.pop()) + 1
+    impls = [it for it in heads if it[2] and body < block_end(blank, it.end() - 1)]
+    return start, any(re.search(r"\bfor\b", it[2]) for it in impls)

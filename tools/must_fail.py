@@ -4,21 +4,22 @@
     tools/must_fail.py [--jobs N] [--proved FOLDER] [--write] [CRATE or CRATE/NAME ..]
     tools/must_fail.py --list [CRATE or CRATE/NAME ..]
 
-An edit, crates/CRATE/must-fail/NAME.edit, turns the meaning of a function, and its crate must then not be proved. A function is
-proved against the contracts of those that it calls, never their bodies, so edits of the bodies of different functions are made
-together, in a copy, at most 25 of them, and one check tries them all: each edited function must be refused for a reason of its own.
-So are edits of constants, whose functions are those that name them.
-That it calls another that isn't proved is none, nor is a proof that only lacks a name that the edit took away. An edit of which
-a round doesn't tell such a reason is tried alone, and so is one that changes more than bodies and constants. Alone it
-fails where the crate is still proved, where its functions get no reason of their own, and where it doesn't reach the prover.
+An edit, crates/CRATE/must-fail/NAME.edit, turns the meaning of a function, and its crate must then not be proved. A function is proved against
+the contracts of those that it calls, never their bodies. So one check tries up to 40 edits, in a copy of the crate. A function that more than
+one of them changes has a twin there for each. All other functions have an empty loop for a body and a hole for a proof: their contracts are
+taken as they stand, and nothing is proved that is proved already. Each edited function must be refused for a reason of its own. That it calls
+another that isn't proved is none, nor is a proof that only lacks a name that the edit took away. An edit of a constant is looked for in the
+functions that name the constant, and in those that its lines `# shows in: FUNCTION` name.
+
+An edit of which such a check tells no reason is tried alone, and so is one that changes more than bodies and constants. If its functions tell no
+reason then either, a check of the whole crate decides, with all bodies and proofs. Alone it fails where the crate is still proved, where its
+functions get no reason of their own, and where it doesn't reach the prover.
 
 Its line `# refused by: CLAUSE` names the clause that refuses it, and that clause has to be one of those that the prover couldn't
 show. --write writes that line where it is missing or wrong. --list tries nothing: it prints the edits by the modules that they change.
 
-A check looks at the functions of its edits and what they call; where that tells no reason, one of the whole crate decides.
-
 Without --proved, each crate is checked first as it stands, and the copies go on from what that check kept. With it, FOLDER is a copy of
-the repository whose crates `rt ci` has just proved and left built: its texts are edited, and what a check looks at is proved anew.
+the repository whose crates `rt ci` has just proved and left built: its texts are edited.
 
 Each edit has a line, each crate one with its seconds. The last line is `N passed, M failed`.
 """
@@ -31,131 +32,28 @@ import sys
 import tempfile
 import time
 from concurrent.futures import ThreadPoolExecutor
-from dataclasses import dataclass, field
 from pathlib import Path
 
 sys.dont_write_bytecode = True
 from commands import Commands
 from crates import PARTS, Crates
-from function_bodies import bodies_of_file
+from edits import Crate, Stub, Twin, read_edit
 from machine import checks_side_by_side, processors
 
 RT = os.environ.get("RT", "rt")
-MOST_IN_A_ROUND = 25
+MOST_IN_A_ROUND = 40
 ERROR = re.compile(r"(?:\./)?(\S+?):\d+:\d+: error\b")
 # What is said of a proof that names what an edit took away, and of what rests on such a proof.
 LOST_NAME = re.compile(r"has no field|is not in scope|has no `|was not admitted|: module `[^`]*`$|: record `[^`]*` \(nearest: ")
+# What a check says of a function; the last two where it is proved as far as the contracts of others are met.
+TOLD = re.compile(r"fn (\S+): (proved|no proof|not proved|could not tell|no holes|depends on a hole in)(?:: )?(.*)")
 # What is said of a function that is refused only since another isn't proved, also where it is proved together with those it calls.
 ONLY_CALLS = re.compile(r"(?:in `[^`]*`, of this cycle of calls: )?it calls ")
 # The folder for the answers of a cycle of calls.
 CYCLE = re.compile(r"expected answers in (\S*/\+[^/\s]+)/")
-# The line of an edit that names the clause which refuses it.
-CLAUSE = re.compile(r"^# refused by: (\S+)\n", re.M)
 # The goals that a check couldn't show, as a reason lists them, and as an error names its own.
 UNSHOWN = re.compile(r"`search` did not prove ((?:`[^`]*`(?:, )?)+)")
 GOAL_OF_ERROR = re.compile(r": error: `([\w+-]+)`:")
-# A constant of a module, to its end.
-CONSTANT = re.compile(r"^(?:pub(?:\([^)]*\))? )?(?:const|static) (\w+).*?;$", re.M | re.S)
-
-
-@dataclass(frozen=True)
-class Change:
-    """A new text for a part of a crate's file."""
-
-    path: str
-    start: int
-    end: int
-    new: str
-
-
-@dataclass(eq=False)
-class Edit:
-    """An edit: its file, its changes, the texts that it makes by their files, its functions, whether it changes a constant, or more than bodies and
-    constants, and the clause that it says refuses it; or what is wrong with it."""
-
-    file: Path
-    name: str
-    clause: str = ""
-    changes: list = field(default_factory=list)
-    texts: dict = field(default_factory=dict)
-    functions: set = field(default_factory=set)
-    is_of_constant: bool = False
-    is_spread: bool = False
-    wrong: str = ""
-
-    def is_of_bodies(self):
-        return not self.is_of_constant and not self.is_spread
-
-    def write_clause(self, clause):
-        """Writes the line that names the clause which refuses it, in front."""
-        self.clause = clause
-        self.file.write_text(f"# refused by: {clause}\n" + CLAUSE.sub("", self.file.read_text("utf-8")), "utf-8")
-
-
-def pairs_of(text):
-    """Yields the file, the old text and the new one of each pair of an edit, None for those that it doesn't give."""
-    path = old = None
-    for line in text.split("\n"):
-        if line.startswith("file: "):
-            path = line[len("file: ") :].strip()
-        elif line.startswith("old: "):
-            old = line[len("old: ") :]
-        elif line.startswith("new:"):
-            yield path, old, line[len("new:") :].removeprefix(" ")
-            old = None
-
-
-def read_edit(file, crate):
-    """Reads an edit of this crate."""
-    text = file.read_text("utf-8")
-    edit = Edit(file, f"{crate.name}/{file.name}", *CLAUSE.findall(text)[:1])
-    for path, old, new in pairs_of(text):
-        if not path or not old or os.path.normpath(path) != path or not path.startswith(("src/", "specs/", "proofs/")):
-            edit.wrong = "a 'new:' line stands behind no 'old:' line, or the 'file:' line names no file of the crate"
-            return edit
-        own = crate.text(path)
-        found = edit.texts.get(path, own).count(old)
-        if found != 1:
-            edit.wrong = f"an 'old:' text is in {path} {found} times, and not once"
-            return edit
-        edit.texts[path] = edit.texts.get(path, own).replace(old, new)
-        # Text that the edit itself put there has no place in the crate's own.
-        start = own.find(old) if own.count(old) == 1 else -1
-        end = start + len(old)
-        inside = [name for begins, ends, name in crate.bodies(path) if begins < start and end < ends]
-        changed = {*inside[-1:]} or crate.functions_naming(path, start, end)
-        edit.changes.append(Change(path, start, end, new))
-        edit.functions.update(changed)
-        edit.is_of_constant = edit.is_of_constant or not inside
-        edit.is_spread = edit.is_spread or not changed
-    if not edit.changes:
-        edit.wrong = "it has no 'old:' and 'new:' pair"
-    return edit
-
-
-@dataclass
-class Crate:
-    """A crate whose text is edited: its name, its folder, how many bytes of text it has, and the command of a check in a copy of it, but for its jobs
-    and the folder of kept work."""
-
-    name: str
-    folder: Path
-    size: int
-    command: list
-
-    def text(self, path):
-        file = self.folder / path
-        return file.read_text("utf-8") if file.is_file() else ""
-
-    def bodies(self, path):
-        return bodies_of_file(self.name, path, self.text(path))
-
-    def functions_naming(self, path, start, end):
-        """The functions that name the constant in which a text of the file stands; none where it stands in no constant."""
-        names = [it[1] for it in CONSTANT.finditer(self.text(path)) if it.start() <= start and end <= it.end()]
-        named = re.compile(rf"\b({'|'.join(names)})\b" if names else r"(?!)")
-        files = [str(it.relative_to(self.folder)) for it in (self.folder / "src").rglob("*.rt")]
-        return {name for path in files for start, end, name in self.bodies(path) if named.search(self.text(path), start, end)}
 
 
 class Toolchain:
@@ -218,7 +116,7 @@ class Verdict:
         unread = [line for path, line in errors if path.startswith(("src/", "specs/")) and LOST_NAME.search(line)]
         refused = status == 1 and any(line.startswith(("logic=not-proved", "only=")) for line in lines)
         self.trouble = "" if self.is_proved or refused and not unread else next((line for _, line in errors), lines[-1])
-        told = [found for line in lines for found in [re.match(r"fn (\S+): (proved|no proof|not proved|could not tell)(?:: )?(.*)", line)] if found]
+        told = [found for line in lines for found in [TOLD.match(line)] if found]
         # The folder of each cycle of calls, once for each of its functions that is told to want answers there.
         self.cycles = [found[1] for it in told for found in [CYCLE.search(it[3])] if found]
         for it in told:
@@ -277,46 +175,49 @@ def is_within(name, functions):
 
 
 class Room:
-    """A copy of a crate, in which edits are tried over what the checks before kept. It may write the clauses that refuse them."""
+    """Where the edits of a crate are tried, each check in a copy of the crate, over what the checks before kept. It may write the clauses that refuse
+    them."""
 
     def __init__(self, crate, folder, kept, writes):
         self.crate, self.folder, self.kept = crate, Path(folder), Path(folder) / "kept"
         self.checks, self.writes = 0, writes
-        for part in PARTS:
-            if (crate.folder / part).is_dir():
-                shutil.copytree(crate.folder / part, self.folder / part)
         if kept.is_dir():
             shutil.copytree(kept, self.kept)
         self.kept.mkdir(exist_ok=True)
 
-    def texts(self, edits):
-        """The texts of the files that the edits change together."""
-        if len(edits) == 1:
-            return edits[0].texts
-        texts = {}
-        for change in sorted((it for edit in edits for it in edit.changes), key=lambda it: -it.start):
-            text = texts.get(change.path, self.crate.text(change.path))
-            texts[change.path] = text[: change.start] + change.new + text[change.end :]
-        return texts
+    def copy(self, texts, changes):
+        """Makes a copy of the crate with these texts, and the proofs that the changes behind them need."""
+        copy = self.folder / "copy"
+        shutil.rmtree(copy, ignore_errors=True)
+        for part in PARTS:
+            if (self.crate.folder / part).is_dir():
+                shutil.copytree(self.crate.folder / part, copy / part)
+        for path, text in texts.items():
+            (copy / path).write_text(text, "utf-8")
+        for change in changes:
+            if isinstance(change, (Stub, Twin)):
+                change.assume(copy)
+        return copy
 
     def check(self, edits, functions=()):
-        """What a check says of the crate with these edits: of these functions and those that they call, or of all where none is named."""
-        texts = self.texts(edits)
-        for path, text in texts.items():
-            (self.folder / path).write_text(text, "utf-8")
-        only = [word for it in sorted(functions) for word in ("--only", it.partition("::")[2])]
-        verdict = Verdict(*Commands.run([*self.crate.command, "--jobs", str(idle_processors()), "--incremental", str(self.kept), *only], self.folder))
-        for path in texts:
-            (self.folder / path).write_text(self.crate.text(path), "utf-8")
+        """What a check says of the crate with these edits: of these functions over the contracts of the others, or of all where none is named."""
+        if any(it.is_spread for it in edits):
+            # It is alone, and its texts are no changes of bodies.
+            crate, changes = self.crate.with_texts(edits[0].texts), []
+        else:
+            crate, changes = self.crate, [it for edit in edits for it in edit.changes]
+        stubs = crate.stubs_beside(functions) if functions else []
+        words = [word for it in sorted(functions) for word in ("--only", it.partition("::")[2])]
+        words += ["--jobs", str(idle_processors()), "--incremental", str(self.kept), *(["--allow-holes"] if stubs else [])]
         self.checks += 1
-        return verdict
+        return Verdict(*Commands.run([*self.crate.command, *words], self.copy(crate.changed([*changes, *stubs]), [*changes, *stubs])))
 
 
-def rounds_of(edits):
-    """Parts edits into rounds, in none of which two have one function."""
+def rounds_of(edits, crate):
+    """Parts edits into rounds, each for one check."""
     rounds = []
     for edit in edits:
-        fits = (it for it in rounds if len(it) < MOST_IN_A_ROUND and not any(edit.functions & other.functions for other in it))
+        fits = (it for it in rounds if len(it) < MOST_IN_A_ROUND and all(edit.fits(other, crate) for other in it))
         together = next(fits, None)
         if together is None:
             rounds.append([edit])
@@ -326,12 +227,16 @@ def rounds_of(edits):
 
 
 def try_together(room, edits):
-    """The edits of a round that are refused, each with what to say of it."""
-    verdict = room.check(edits, {it for edit in edits for it in edit.functions})
-    if verdict.is_proved or verdict.trouble or verdict.refuses_others(edits):
+    """The edits of a round that are refused, each with what to say of it. One that doesn't compile is found by halves."""
+    made = room.crate.side_by_side(edits)
+    verdict = room.check([*made.values()], {it for edit in made.values() for it in edit.functions})
+    half = len(edits) // 2
+    if verdict.trouble and half:
+        return try_together(room, edits[:half]) | try_together(room, edits[half:])
+    if verdict.is_proved or verdict.trouble or verdict.refuses_others(made.values()):
         return {}
-    reasons = {edit: verdict.of(edit, verdict.reasons, False) for edit in edits if edit.functions & verdict.reasons.keys()}
-    return {edit: refused_by(room, edit, verdict, f"refused: {why}") for edit, why in reasons.items() if why}
+    reasons = {edit: verdict.of(it, verdict.reasons, False) for edit, it in made.items() if it.functions & verdict.reasons.keys()}
+    return {edit: refused_by(room, made[edit], verdict, f"refused: {why}") for edit, why in reasons.items() if why}
 
 
 def why_alone(room, edit, functions=()):
@@ -377,7 +282,7 @@ def try_edits(room, edits):
     while found:
         # A function may wait for the proof of another that is edited too, so a round of what is left can tell more.
         found = {}
-        for together in [*rounds_of([it for it in left if it.is_of_bodies()]), *rounds_of([it for it in left if it.is_of_constant])]:
+        for together in rounds_of(left, room.crate):
             if len(together) > 1:
                 found.update(try_together(room, together))
         said.update(found)
@@ -391,11 +296,10 @@ def try_edits(room, edits):
 def try_crate(crate, files, is_proved, writes):
     """Whether each edit of a crate is refused, and the lines to print."""
     started = time.monotonic()
-    if not is_proved:
-        status, lines = Commands.run([RT, "check", "--jobs", "1"], crate.folder)
-        if status:
-            why = next((line for line in lines if "error" in line), lines[-1])[:200]
-            return [(False, f"must-fail {crate.name}/{it.name}: NOT tried: the crate isn't proved without it: {why}") for it in files], ""
+    status, lines = (not crate.is_built(), ["rt ci left no library"]) if is_proved else Commands.run([RT, "check", "--jobs", "1"], crate.folder)
+    if status:
+        why = next((line for line in lines if "error" in line), lines[-1])[:200]
+        return [(False, f"must-fail {crate.name}/{it.name}: NOT tried: the crate isn't proved without it: {why}") for it in files], ""
     edits = [read_edit(it, crate) for it in files]
     with tempfile.TemporaryDirectory(prefix="must-fail-") as folder:
         room = Room(crate, folder, crate.folder / "out/incremental", writes)
