@@ -152,6 +152,7 @@ EDITS = {
     "largest_of_the_first_two": ([("larger(larger(a, b), c)", "larger(larger(a, b), b)")], "third", TOGETHER),
     "less_than_the_least": ([("LEAST: u32 = 1", "LEAST: u32 = 0")], "returns", TOGETHER),
     "more_than_the_most": ([("MOST: u32 = 100", "MOST: u32 = 101")], "returns", TOGETHER),
+    "not_none": ([("n > 0", "n != 0")], "returns", HARMLESS),
     "smaller_of_equal_ones": ([("if a < b { a } else { b }", "if a <= b { a } else { b }")], "either", HARMLESS),
     "unknown_name": ([("if a < b { a } else { b }", "if a < c { a } else { b }")], "either", "NOT refused: it didn't reach the prover"),
     "without_a_clause": ([("let whole = sum;", "let whole = n;")], "", "NOT refused by a clause that it names, but by returns"),
