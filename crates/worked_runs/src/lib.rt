@@ -1,8 +1,20 @@
-//! Tests that cross crates: worked runs over archives in memory. It has no code of its own.
+//! Tests that cross crates: answers from an index, and worked runs over archives in memory. It has no code of its own.
 #![tactic(auto)]
 
 #[cfg(test)]
+mod answered;
+#[cfg(test)]
+mod answers;
+#[cfg(test)]
+mod booleans;
+#[cfg(test)]
+mod cursors;
+#[cfg(test)]
 mod date_rows;
+#[cfg(test)]
+mod devices;
+#[cfg(test)]
+mod early_end;
 #[cfg(test)]
 mod failing_devices;
 #[cfg(test)]
@@ -14,6 +26,8 @@ mod form_rows;
 #[cfg(test)]
 mod index_rows;
 #[cfg(test)]
+mod layer_faults;
+#[cfg(test)]
 mod pattern_rows;
 #[cfg(test)]
 mod program_runs;
@@ -22,8 +36,14 @@ mod refusal_rows;
 #[cfg(test)]
 mod rows;
 #[cfg(test)]
+mod sent_pieces;
+#[cfg(test)]
 mod stored_indexes;
 #[cfg(test)]
 mod sweeps;
 #[cfg(test)]
 mod text_rows;
+#[cfg(test)]
+mod threads;
+#[cfg(test)]
+mod verified;

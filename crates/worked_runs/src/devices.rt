@@ -1,0 +1,130 @@
+//! Answers over devices that fail, run full or have changed.
+
+use crate::answered::{
+    BOTH_COUSINS, COUSIN as A, COUSINS, OTHER_COUSIN as B, RAW_COUSINS, is_front, is_whole,
+    text_of, told_of,
+};
+use mail_answer::AnswerFaultKind::{Device, OutFailed, Stale};
+use mail_answer::Format;
+use std::alloc::Global;
+
+/// The answer to `b:hi` with threads, of two messages, in a form: its text, how many calls of the archives it makes at least, and how
+/// many bytes of each message it reads. The calls are a length of each archive, and a read for each message whose bytes are shown.
+pub type Form = (Format, &'static str, u64, u64);
+
+const EXCERPTS: &str = "a.mbox|To:|Cc:|From:|Subject:|Date:|b.mbox|To:|Cc:|From:|Subject:|Date:|";
+
+/// An excerpt reads no more than the header of 75 bytes.
+pub const FORMS: &[Form] = &[
+    (Format::Raw, RAW_COUSINS, 2, 0),
+    (Format::Excerpt, EXCERPTS, 4, 75),
+    (Format::Mbox, BOTH_COUSINS, 4, 79),
+];
+
+/// Calls of the archives that no answer to that query gets to.
+const BEYOND: u64 = 20;
+
+/// Whether a failure at one call is answered, and nothing else, where the answer makes that call. A raw answer makes no other calls
+/// than those of the lengths. It is None where memory is wanting, and so are those below.
+fn tells_failed_call(alloc: Global, form: Form, fail_at: u64) -> Option<bool> {
+    let (format, text, least, _) = form;
+    let whole = text_of(alloc, text)?;
+    let search = ("b:hi", true, format);
+    let told = told_of(alloc, (&COUSINS, &COUSINS), search, fail_at, None)?;
+    let failed = is_front(&told, Device, &whole);
+    let answered = is_whole(&told, 2, &whole);
+    Some(if fail_at <= 2 {
+        failed && told.1.bytes().is_empty()
+    } else if fail_at <= least {
+        failed
+    } else if fail_at == BEYOND || matches!(format, Format::Raw) {
+        answered
+    } else {
+        failed || answered
+    })
+}
+
+#[test]
+fn a_failed_call_leaves_a_front(rt: HostRuntime) {
+    for form in FORMS {
+        for fail_at in 1..=BEYOND {
+            let as_wanted = tells_failed_call(rt.alloc(), *form, fail_at);
+            assert!(rt; as_wanted == Some(true), "{} at call {fail_at}", form.1);
+        }
+    }
+}
+
+/// Whether an output takes just so much of an answer as it has room.
+fn fills(alloc: Global, (format, text, _, _): Form, room: u64) -> Option<bool> {
+    let whole = text_of(alloc, text)?;
+    let search = ("b:hi", true, format);
+    let told = told_of(alloc, (&COUSINS, &COUSINS), search, 0, Some(room))?;
+    Some(if room >= whole.len() as u64 {
+        is_whole(&told, 2, &whole)
+    } else {
+        is_front(&told, OutFailed, &whole) && told.1.bytes().len() as u64 == room
+    })
+}
+
+/// An output with too little room takes just so much. The longest answer has 158 bytes.
+#[test]
+fn a_full_output_has_a_front(rt: HostRuntime) {
+    for form in FORMS {
+        for room in 0..=158 {
+            let as_wanted = fills(rt.alloc(), *form, room);
+            assert!(rt; as_wanted == Some(true), "{} in {room} bytes", form.1);
+        }
+    }
+}
+
+const OTHER: (&str, &str) = ("m.mbox", "^Subject: x||hi||");
+
+const SHORTER: (&str, &str) = ("a.mbox", "^Message-ID: <1@x>|References: <0@x>||hi|");
+
+const LONGER: (&str, &str) = ("m.mbox", "^Subject: x||ho|||");
+
+/// What has become of the archives A, B and OTHER, and which of them is told. Of several that have changed it is the first.
+const STALE: &[(&[(&str, &str)], u32)] = &[
+    (&[], 0),
+    (&[A], 1),
+    (&[A, B], 2),
+    (&[A, B, OTHER, OTHER], 3),
+    (&[SHORTER, B, OTHER], 0),
+    (&[B, SHORTER, OTHER], 1),
+    (&[A, B, LONGER], 2),
+    (&[SHORTER, B, LONGER], 0),
+    (&[SHORTER, B], 2),
+];
+
+/// Whether an answer over changed archives tells this one, or a failure of this call, where the call is made. Each length is asked in
+/// order up to the first other one, and none of another count of archives. Nothing is written.
+fn is_stale(
+    alloc: Global,
+    format: Format,
+    archives: &[(&str, &str)],
+    number: u32,
+    fail_at: u64,
+) -> Option<bool> {
+    let search = ("b:hi", true, format);
+    let told = told_of(alloc, (&[A, B, OTHER], archives), search, fail_at, None)?;
+    let is_asked = archives.len() == 3 && 1 <= fail_at && fail_at <= u64::from(number) + 1;
+    let kind = if is_asked { Device } else { Stale(number) };
+    Some(is_front(&told, kind, &[]))
+}
+
+/// Archives of another count or length are refused in each form, those too that have no message of the answer; a failure is told
+/// exactly where it comes before.
+#[test]
+fn changed_archives_are_stale(rt: HostRuntime) {
+    for (archives, number) in STALE {
+        for (format, text, _, _) in FORMS {
+            for fail_at in 0..=4 {
+                let as_wanted = is_stale(rt.alloc(), *format, archives, *number, fail_at);
+                assert!(rt;
+                    as_wanted == Some(true),
+                    "{text}: {number}, {archives:?}, call {fail_at}"
+                );
+            }
+        }
+    }
+}

@@ -1,0 +1,70 @@
+//! In how many calls an answer goes out.
+ghost use Rattle.std.specs.Prelude.{None};
+
+use crate::answered::{held, indexed, told_to};
+use mail_answer::Format;
+use mbox_cutter::{DeviceFault, Out};
+use std::alloc::Global;
+
+/// An output that takes all that it is given, and keeps only its calls: how many there were, and the most bytes of one.
+#[derive(Drop)]
+struct Calls {
+    count: u64,
+    most: usize,
+}
+
+impl Out for Calls {
+    ghost taken = { λ _. None };
+
+    ghost failures = { λ _. 0 };
+
+    fn put(&mut self, bytes: &[u8]) -> Result<usize, DeviceFault> {
+        self.count = self.count.saturating_add(1);
+        self.most = self.most.max(bytes.len());
+        Ok(bytes.len())
+    }
+}
+
+/// How many archives are answered, of one message each.
+const ARCHIVES: usize = 20;
+
+/// The bytes of the path of each, and of a line of each message.
+const LONG: usize = 4096;
+
+/// So many bytes of an answer are gathered, and then go out.
+const GATHERED: usize = 65_536;
+
+/// The calls in which an answer to `s:hello` over archives of a message each goes out, and the most bytes of one. It is None where
+/// memory is wanting, or where the messages aren't all answered.
+fn calls_over(alloc: Global, archives: &[(&str, &str)], format: Format) -> Option<(u64, usize)> {
+    let file = indexed(alloc, archives)?;
+    let mut held = held(alloc, archives)?;
+    let mut calls = Calls { count: 0, most: 0 };
+    let search = ("s:hello", false, format);
+    let told = told_to(alloc, &file, search, &mut held, &mut calls);
+    let all = archives.len() as u64;
+    matches!(told, Some(Ok(count)) if count == all).then_some((calls.count, calls.most))
+}
+
+/// The same over those archives.
+fn calls_of(alloc: Global, format: Format) -> Option<(u64, usize)> {
+    let path = "x".repeat(alloc, LONG).ok()?;
+    let text = format!(in alloc; "^Subject: Hello||{path}||").ok()?;
+    calls_over(alloc, &[(path.as_str(), text.as_str()); ARCHIVES], format)
+}
+
+/// An answer goes out in a call once enough of it is gathered, before much more is, and in another at its end.
+#[test]
+fn a_long_answer_goes_out_before_its_end(rt: HostRuntime) {
+    for (name, format) in [
+        ("raw", Format::Raw),
+        ("excerpt", Format::Excerpt),
+        ("mbox", Format::Mbox),
+    ] {
+        let in_two = match calls_of(rt.alloc(), format) {
+            Some((count, most)) => count == 2 && GATHERED <= most && most < GATHERED + 5_000,
+            None => false,
+        };
+        assert!(rt; in_two, "{name}");
+    }
+}
