@@ -6,7 +6,8 @@ from dataclasses import dataclass, field, replace
 from functools import cached_property
 from pathlib import Path
 
-from function_bodies import bodies_of_file, item_of
+from function_bodies import blanked, bodies_of_file, block_end, item_of
+from lemmas import lemmas_of
 
 # The line of an edit that names the clause which refuses it.
 CLAUSE = re.compile(r"^# refused by: (\S+)\n", re.M)
@@ -14,6 +15,12 @@ CLAUSE = re.compile(r"^# refused by: (\S+)\n", re.M)
 SHOWS_IN = re.compile(r"^# shows in: (\S+)$", re.M)
 # What stands above a function that is proved together with others, with a name for all of them.
 IN_A_CYCLE = re.compile(r"^ *#\[cycle\((\w+)\)\]\n(?= *(?:pub(?:\([^)]*\))? )?fn )", re.M)
+# What opens a clause of a contract that has a name.
+CLAUSE_HEAD = re.compile(r"^ *ensures\*? (\w+) (?=\{)", re.M)
+# A clause that holds, beside which another one keeps its name in goals.
+TRIVIAL = "    ensures beside { record {} }"
+# A goal of a clause of a function's own contract that has a name.
+GOAL_OF_CLAUSE = re.compile(r"returns\b.*-clause-(\w+)")
 # A constant of a module, to its end.
 CONSTANT = re.compile(r"^(?:pub(?:\([^)]*\))? )?(?:const|static) (\w+).*?;$", re.M | re.S)
 
@@ -51,18 +58,30 @@ class Stub(Change):
 
 @dataclass(frozen=True)
 class Twin(Change):
-    """An edited function under a second name, behind the one that it is made of, so that a check tries more than one edit of it."""
+    """An edited function under a second name, behind the one that it is made of, so that a check tries more than one edit of it, and the clauses that
+    its contract keeps; None where that is all of them."""
 
     function: str
     name: str
+    kept: frozenset = None
 
     def assume(self, copy):
-        """Gives it the written proofs of the other."""
+        """Gives it the written proofs of the other, but for goals of clauses that it doesn't keep."""
         written, own = proofs_of(copy, self.function), proofs_of(copy, self.name)
-        if written.is_dir():
-            shutil.copytree(written, own)
-        for file in own.rglob("*.antt"):
-            file.write_text(file.read_text("utf-8").replace(f"{module_of(self.function)}.", f"{module_of(self.name)}."), "utf-8")
+        for file in written.rglob("*.antt") if written.is_dir() else []:
+            text = file.read_text("utf-8").replace(f"{module_of(self.function)}.", f"{module_of(self.name)}.")
+            (own / file.relative_to(written)).parent.mkdir(parents=True, exist_ok=True)
+            (own / file.relative_to(written)).write_text(text if self.kept is None else with_answers(text, self.kept), "utf-8")
+
+
+def with_answers(text, kept):
+    """Answers without those to goals of clauses that aren't kept."""
+    lines = text.split("\n")
+    for answer in reversed(lemmas_of(lines)):
+        found = GOAL_OF_CLAUSE.fullmatch(answer.name)
+        if found and found[1] not in kept:
+            del lines[answer.start : answer.end]
+    return "\n".join(lines)
 
 
 def proofs_of(crate, function):
@@ -96,8 +115,7 @@ class Edit:
 
     def fits(self, other, crate):
         """Whether one check tries both: where they change the same function, this one's is a twin."""
-        shared = self.functions & other.functions
-        return not shared or self.is_of_bodies() and other.is_of_bodies() and len(self.functions) == 1 and crate.can_have_twin(*shared)
+        return not self.functions & other.functions or crate.can_have_twin(self) and crate.can_have_twin(other)
 
     def write_clause(self, clause):
         """Writes the line that names the clause which refuses it, in front."""
@@ -210,29 +228,51 @@ class Crate:
                 changes.append(Stub(path, start, end, "{ loop {} }", name, ended[name][1][1] if name in ended else ""))
         return changes
 
-    def can_have_twin(self, function):
-        """Whether the function is none of a trait and calls itself neither directly nor in a cycle."""
+    def can_have_twin(self, edit):
+        """Whether the edit is of the body of one function, which is none of a trait and calls itself neither directly nor in a cycle."""
+        if not edit.is_of_bodies() or len(edit.functions) != 1:
+            return False
+        function = next(iter(edit.functions))
         path, start, end = self.every_body[function]
         calls_itself = re.search(rf"\b{function.rpartition('::')[2]}\b", self.text(path)[start:end])
         return not calls_itself and function not in self.cycles and not item_of(self.text(path), start)[1]
 
     def twin_of(self, edit, number):
-        """The edit with a twin of its function in place of the function."""
+        """The edit with a twin of its function in place of the function. Of the clauses that have names the twin's contract keeps the one that refuses
+        the edit, where it is said to be one of them, and those that this one's proof names."""
         function = next(iter(edit.functions))
         path, body, end = self.every_body[function]
         text = self.text(path)
         start, _ = item_of(text, body)
+        clauses = clauses_of(text[start:body])
+        kept = self.kept_beside(function, edit.clause) & clauses.keys() if clauses and edit.clause not in ("", "returns") else None
         inside = [Change("", it.start - start, it.end - start, it.new) for it in edit.changes]
+        others = [clauses[it] for it in clauses if kept is not None and it not in kept]
+        inside += [Change("", *it, TRIVIAL if it == others[0] else "") for it in others]
         item, name = changed(text[start:end], inside), function.rpartition("::")[2]
         item = re.sub(rf"\bfn {name}\b", f"fn {name}_{number}", item, count=1)
-        return replace(edit, changes=[Twin(path, end, end, f"\n\n{item}", function, f"{function}_{number}")], functions={f"{function}_{number}"})
+        twin = Twin(path, end, end, f"\n\n{item}", function, f"{function}_{number}", kept)
+        return replace(edit, changes=[twin], functions={f"{function}_{number}"})
+
+    def kept_beside(self, function, clause):
+        """The clause, and those whose answers stand in the answers that are kept with it."""
+        file = proofs_of(self.folder, function) / "Answers.antt"
+        lines = file.read_text("utf-8").split("\n") if file.is_file() else []
+        answers = {it.name: "\n".join(lines[it.start : it.end]) for it in lemmas_of(lines)}
+        of_clause = {name: found[1] for name in answers for found in [GOAL_OF_CLAUSE.fullmatch(name)] if found}
+        kept, before = frozenset([clause]), None
+        while kept != before:
+            before = kept
+            texts = [text for name, text in answers.items() if of_clause.get(name, clause) in kept]
+            kept |= {it for name, it in of_clause.items() if any(re.search(rf"(?<![\w.-]){re.escape(name)}(?![\w-])", text) for text in texts)}
+        return kept
 
     def side_by_side(self, edits):
-        """The edits of a round as one check tries them: of those that change one function all but the first have twins."""
+        """The edits of a round as one check tries them: each in a twin of its function, where this can have one."""
         made = {}
         for edit in edits:
             number = 1 + sum(bool(edit.functions & it.functions) for it in made)
-            made[edit] = edit if number == 1 else self.twin_of(edit, number)
+            made[edit] = self.twin_of(edit, number) if self.can_have_twin(edit) else edit
         return made
 
     def functions_naming(self, path, start, end):
@@ -247,3 +287,9 @@ def changed(text, changes):
     for change in sorted(changes, key=lambda it: -it.start):
         text = text[: change.start] + change.new + text[change.end :]
     return text
+
+
+def clauses_of(head):
+    """Where the clauses stand that have names, in what stands before a function's body."""
+    text = blanked(head)
+    return {it[1]: (it.start(), block_end(text, it.end())) for it in CLAUSE_HEAD.finditer(text)}

@@ -5,9 +5,10 @@
     tools/must_fail.py --list [CRATE or CRATE/NAME ..]
 
 An edit, crates/CRATE/must-fail/NAME.edit, turns the meaning of a function, and its crate must then not be proved. A function is proved against
-the contracts of those that it calls, never their bodies. So one check tries up to 40 edits, in a copy of the crate. A function that more than
-one of them changes has a twin there for each. All other functions have an empty loop for a body and a hole for a proof: their contracts are
-taken as they stand, and nothing is proved that is proved already. Each edited function must be refused for a reason of its own. That it calls
+the contracts of those that it calls, never their bodies. So one check tries up to 60 edits, in a copy of the crate. An edited function
+stands there as a twin of its own for each edit. Of the clauses with names, the twin's contract keeps the one that the edit says refuses it, since
+that one has to do so by itself. All other functions have an empty loop for a body and a hole for a proof: their contracts are taken as they
+stand, and nothing is proved that is proved already. Each edited function must be refused for a reason of its own. That it calls
 another that isn't proved is none, nor is a proof that only lacks a name that the edit took away. An edit of a constant is looked for in the
 functions that name the constant, and in those that its lines `# shows in: FUNCTION` name.
 
@@ -41,7 +42,7 @@ from edits import Crate, Stub, Twin, read_edit
 from machine import checks_side_by_side, processors
 
 RT = os.environ.get("RT", "rt")
-MOST_IN_A_ROUND = 40
+MOST_IN_A_ROUND = 60
 ERROR = re.compile(r"(?:\./)?(\S+?):\d+:\d+: error\b")
 # What is said of a proof that names what an edit took away, and of what rests on such a proof.
 LOST_NAME = re.compile(r"has no field|is not in scope|has no `|was not admitted|: module `[^`]*`$|: record `[^`]*` \(nearest: ")
@@ -53,7 +54,7 @@ ONLY_CALLS = re.compile(r"(?:in `[^`]*`, of this cycle of calls: )?it calls ")
 CYCLE = re.compile(r"expected answers in (\S*/\+[^/\s]+)/")
 # The goals that a check couldn't show, as a reason lists them, and as an error names its own.
 UNSHOWN = re.compile(r"`search` did not prove ((?:`[^`]*`(?:, )?)+)")
-GOAL_OF_ERROR = re.compile(r": error: `([\w+-]+)`:")
+GOAL_OF_ERROR = re.compile(r": error: `([\w+:.-]+)`:")
 
 
 class Toolchain:
@@ -132,7 +133,7 @@ class Verdict:
         """Takes what is said of a function."""
         self.reasons[function], self.clauses[function] = "", []
         goals = [it.strip("`") for found in UNSHOWN.findall(why) for it in found.split(", ")]
-        is_of_others = goals and self.is_shared(why) and not any(function.endswith(f"::{it.partition('-')[0]}") for it in goals)
+        is_of_others = goals and self.is_shared(why) and not any(is_goal_of(function, it) for it in goals)
         if verdict == "no proof" and not ONLY_CALLS.match(why) and not is_of_others:
             self.reasons[function] = why
             self.clauses[function] = [clause_of(it) for it in goals]
@@ -141,6 +142,7 @@ class Verdict:
             said = [line for path, line in errors if path.startswith(own)]
             of_values = [line for line in said if not LOST_NAME.search(line)]
             cycles = [line for path, line in errors if "/+" in path and own.startswith(path.partition("/+")[0] + "/") and not LOST_NAME.search(line)]
+            of_values += [line for line in cycles if any(is_goal_of(function, it) for it in GOAL_OF_ERROR.findall(line))]
             self.reasons[function] = next(iter(of_values), "")
             self.clauses[function] = [clause_of(it) for line in of_values or cycles for it in GOAL_OF_ERROR.findall(line)]
             if cycles and not of_values:
@@ -167,6 +169,11 @@ class Verdict:
         """Whether a function that none of the edits changes is refused for a reason of its own."""
         functions = {it for edit in edits for it in edit.functions}
         return any(why and not is_within(name, functions) for name, why in self.reasons.items())
+
+
+def is_goal_of(function, goal):
+    """Whether a goal of a cycle of calls is this function's: its name begins with the function's."""
+    return function.endswith(f"::{goal.partition('-')[0].replace('.', '::')}")
 
 
 def is_within(name, functions):
