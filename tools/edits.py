@@ -6,7 +6,7 @@ from dataclasses import dataclass, field, replace
 from functools import cached_property
 from pathlib import Path
 
-from function_bodies import blanked, bodies_of_file, block_end, item_of
+from function_bodies import blanked, bodies_of_file, block_end, item_of, module_of as module_of_file
 from lemmas import lemmas_of
 
 # The line of an edit that names the clause which refuses it.
@@ -89,6 +89,11 @@ def proofs_of(crate, function):
     return crate / "proofs" / function.partition("::")[2].replace("::", "/")
 
 
+def module_path(crate, path):
+    """The path by which a crate names the module of one of its files."""
+    return "crate" + module_of_file(crate, path).removeprefix(crate)
+
+
 def module_of(function):
     """The module of a function's proofs."""
     crate, _, path = function.partition("::")
@@ -164,8 +169,8 @@ def read_edit(file, crate):
         before[path].append((now.find(old), len(old), len(new)))
         edit.texts[path] = now.replace(old, new)
         inside = [name for begins, ends, name in crate.bodies(path) if begins < start and end < ends]
-        changed = {*inside[-1:]} or crate.functions_naming(path, start, end)
         edit.changes.append(Change(path, start, end, new))
+        changed = {*inside[-1:]} or crate.functions_naming(edit.changes[-1])
         edit.functions.update(changed)
         edit.is_of_constant = edit.is_of_constant or not inside
         edit.is_spread = edit.is_spread or not changed
@@ -229,30 +234,45 @@ class Crate:
         return changes
 
     def can_have_twin(self, edit):
-        """Whether the edit is of the body of one function, which is none of a trait and calls itself neither directly nor in a cycle."""
-        if not edit.is_of_bodies() or len(edit.functions) != 1:
-            return False
-        function = next(iter(edit.functions))
+        """Whether the edit is of bodies alone, or of one constant, and each of its functions can have a twin."""
+        constant = self.constant_at(edit.changes[0]) if edit.is_of_constant and len(edit.changes) == 1 else None
+        is_of_one = constant and not edit.is_spread and self.functions_naming_alone(*constant) == edit.functions
+        return bool(is_of_one or edit.is_of_bodies()) and all(self.is_doubled(it) for it in edit.functions)
+
+    def is_doubled(self, function):
+        """Whether a function can have a twin: it is none of a trait, and calls itself neither directly nor in a cycle."""
         path, start, end = self.every_body[function]
-        calls_itself = re.search(rf"\b{function.rpartition('::')[2]}\b", self.text(path)[start:end])
+        name = function.rpartition("::")[2]
+        calls_itself = re.search(rf"(?<![.:\w]){name}\(|\b(self\.|Self::){name}\(", self.text(path)[start:end])
         return not calls_itself and function not in self.cycles and not item_of(self.text(path), start)[1]
 
     def twin_of(self, edit, number):
-        """The edit with a twin of its function in place of the function. Of the clauses that have names the twin's contract keeps the one that refuses
-        the edit, where it is said to be one of them, and those that this one's proof names."""
-        function = next(iter(edit.functions))
+        """The edit with twins of its functions in place of these; one of a constant has a second constant, which they name."""
+        twins = [self.twin(it, edit, number) for it in sorted(edit.functions)]
+        for change in edit.changes if edit.is_of_constant else []:
+            start, end, name = self.constant_at(change)
+            inside = replace(change, start=change.start - start, end=change.end - start)
+            second = re.sub(rf"\b{name}\b", f"{name}_{number}", changed(self.text(change.path)[start:end], [inside]), count=1)
+            twins.append(Change(change.path, end, end, f"\n{second}"))
+        return replace(edit, changes=twins, functions={f"{it}_{number}" for it in edit.functions})
+
+    def twin(self, function, edit, number):
+        """An edited function under another name. Of the clauses that have names its contract keeps the one that refuses the edit, where it is said to be
+        one of them, and those that this one's proof names."""
         path, body, end = self.every_body[function]
         text = self.text(path)
         start, _ = item_of(text, body)
         clauses = clauses_of(text[start:body])
         kept = self.kept_beside(function, edit.clause) & clauses.keys() if clauses and edit.clause not in ("", "returns") else None
-        inside = [Change("", it.start - start, it.end - start, it.new) for it in edit.changes]
         others = [clauses[it] for it in clauses if kept is not None and it not in kept]
+        inside = [replace(it, start=it.start - start, end=it.end - start) for it in edit.changes if it.path == path and start <= it.start < end]
         inside += [Change("", *it, TRIVIAL if it == others[0] else "") for it in others]
         item, name = changed(text[start:end], inside), function.rpartition("::")[2]
         item = re.sub(rf"\bfn {name}\b", f"fn {name}_{number}", item, count=1)
-        twin = Twin(path, end, end, f"\n\n{item}", function, f"{function}_{number}", kept)
-        return replace(edit, changes=[twin], functions={f"{function}_{number}"})
+        for change in edit.changes if edit.is_of_constant else []:
+            constant = self.constant_at(change)[2]
+            item = re.sub(rf"\b{constant}\b", f"{module_path(self.name, change.path)}::{constant}_{number}", item)
+        return Twin(path, end, end, f"\n\n{item}", function, f"{function}_{number}", kept)
 
     def kept_beside(self, function, clause):
         """The clause, and those whose answers stand in the answers that are kept with it."""
@@ -268,18 +288,27 @@ class Crate:
         return kept
 
     def side_by_side(self, edits):
-        """The edits of a round as one check tries them: each in a twin of its function, where this can have one."""
-        made = {}
-        for edit in edits:
-            number = 1 + sum(bool(edit.functions & it.functions) for it in made)
-            made[edit] = self.twin_of(edit, number) if self.can_have_twin(edit) else edit
-        return made
+        """The edits of a round as one check tries them: in twins of their functions, where these can have some."""
+        return {edit: self.twin_of(edit, number) if self.can_have_twin(edit) else edit for number, edit in enumerate(edits, 1)}
 
-    def functions_naming(self, path, start, end):
-        """The functions that name the constant in which a text of the file stands; none where it stands in no constant."""
-        names = [it[1] for it in CONSTANT.finditer(self.text(path)) if it.start() <= start and end <= it.end()]
-        named = re.compile(rf"\b({'|'.join(names)})\b" if names else r"(?!)")
+    def constant_at(self, change):
+        """Where the constant starts and ends in which a change stands, and its name; None where it stands in none."""
+        constants = ((it.start(), it.end(), it[1]) for it in CONSTANT.finditer(self.text(change.path)))
+        return next((it for it in constants if it[0] <= change.start and change.end <= it[1]), None)
+
+    def functions_naming(self, change):
+        """The functions that name the constant in which a change stands; none where it stands in no constant."""
+        constant = self.constant_at(change)
+        named = re.compile(rf"\b{constant[2]}\b" if constant else r"(?!)")
         return {name for name, (path, start, end) in self.every_body.items() if named.search(self.text(path), start, end)}
+
+    def functions_naming_alone(self, start, end, name):
+        """The functions that name a constant, if nothing else names it but imports; none otherwise."""
+        named = re.compile(rf"\b{name}\b")
+        texts = [re.sub(r"(?m)^ *(?:pub(?:\([^)]*\))? )?use .*?;", "", blanked(self.text(it)), flags=re.S) for it in self.sources()]
+        bodies = {it: len(named.findall(self.text(path), start, end)) for it, (path, start, end) in self.every_body.items()}
+        is_alone = sum(len(named.findall(it)) for it in texts) == 1 + sum(bodies.values())
+        return {it for it, count in bodies.items() if count} if is_alone else set()
 
 
 def changed(text, changes):
