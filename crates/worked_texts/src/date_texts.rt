@@ -1,5 +1,6 @@
 //! Values from outside, and what no clause says.
 
+use crate::day_ranges::DAY_RANGES;
 use crate::header_dates::HEADER_DATES;
 use crate::rows::has_text;
 use mail_dates::{DateFault, Moment, Range, iso_range, range_of, read_date};
@@ -47,6 +48,37 @@ fn has_range() -> Option<bool> {
     let has_other = day.has(Some(1_053_302_400)) || day.has(None);
     let is_refused = matches!(range_of("12345d", now), Err(DateFault::BadNumber));
     Some(now.second() == NOW && day == DAY_IN_MAY && has_until && !has_other && is_refused)
+}
+
+/// The end of a range in a row, where `-` is none. It is None where the text is neither.
+fn end_of(text: &str) -> Option<Option<i64>> {
+    match text {
+        "-" => Some(None),
+        number => Some(Some(number.parse::<i64>().ok()?)),
+    }
+}
+
+/// Whether the text of a row is read as its range, or refused with its fault. It is None where the row has no such form.
+fn is_range(row: &str) -> Option<bool> {
+    let (second, rest) = row.split_once(' ')?;
+    let (first, rest) = rest.split_once(' ')?;
+    let (last, text) = rest.split_once(' ')?;
+    let now = Moment::new(second.parse::<i64>().ok()?)?;
+    match range_of(text, now) {
+        Ok(range) => Some(range.from == end_of(first)? && range.until == end_of(last)?),
+        Err(DateFault::BadDate) => Some(first == "bad" && last == "date"),
+        Err(DateFault::BadNumber) => Some(first == "bad" && last == "number"),
+    }
+}
+
+#[test]
+fn reads_ranges_of_days(rt: HostRuntime) {
+    let mut rows = 0u32;
+    for row in DAY_RANGES.lines() {
+        assert!(rt; is_range(row).unwrap_or(false), "{row}");
+        rows = rows.saturating_add(1);
+    }
+    assert!(rt; rows == 142);
 }
 
 #[test]

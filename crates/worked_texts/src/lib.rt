@@ -10,6 +10,8 @@ mod cut_archives;
 #[cfg(test)]
 mod date_texts;
 #[cfg(test)]
+mod day_ranges;
+#[cfg(test)]
 mod header_dates;
 #[cfg(test)]
 mod header_texts;
