@@ -136,8 +136,7 @@ logic=not-proved"""
 TOGETHER, ALONE = "refused: ", "refused (alone): "
 HARMLESS = "NOT refused: the crate is still proved"
 
-# Each edit: its pairs of an old text and a new one, the clause that it names, and how its line begins. Of two that change one function the
-# second changes a twin of it, beside the first.
+# Each edit: its pairs of an old text and a new one, the clause that it names, and how its line begins.
 EDITS = {
     "a_counter_begins_at_one": ([("Counter { count: 0 }", "Counter { count: 1 }")], "returns", TOGETHER),
     "a_lost_name": ([("let mut sum = n;", "let mut total = n;"), ("sum += 1;", "total += 1;"), ("= sum;", "= total;")], "returns", "NOT refused but by names"),
@@ -152,8 +151,6 @@ EDITS = {
     "largest_of_the_first_two": ([("larger(larger(a, b), c)", "larger(larger(a, b), b)")], "third", TOGETHER),
     "less_than_the_least": ([("LEAST: u32 = 1", "LEAST: u32 = 0")], "returns", TOGETHER),
     "more_than_the_most": ([("MOST: u32 = 100", "MOST: u32 = 101")], "returns", TOGETHER),
-    "not_none": ([("n > 0", "n != 0")], "returns", HARMLESS),
-    "smaller_of_equal_ones": ([("if a < b { a } else { b }", "if a <= b { a } else { b }")], "either", HARMLESS),
     "unknown_name": ([("if a < b { a } else { b }", "if a < c { a } else { b }")], "either", "NOT refused: it didn't reach the prover"),
     "without_a_clause": ([("let whole = sum;", "let whole = n;")], "", "NOT refused by a clause that it names, but by returns"),
 }
