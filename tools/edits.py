@@ -119,7 +119,7 @@ class Edit:
         return not self.is_of_constant and not self.is_spread
 
     def fits(self, other, crate):
-        """Whether one check tries both: where they change the same function, this one's is a twin."""
+        """Whether one check tries both: where they change the same function, each has a twin of it."""
         return not self.functions & other.functions or crate.can_have_twin(self) and crate.can_have_twin(other)
 
     def write_clause(self, clause):

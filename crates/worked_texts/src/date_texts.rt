@@ -78,7 +78,7 @@ fn reads_ranges_of_days(rt: HostRuntime) {
         assert!(rt; is_range(row).unwrap_or(false), "{row}");
         rows = rows.saturating_add(1);
     }
-    assert!(rt; rows == 142);
+    assert!(rt; rows == 138);
 }
 
 #[test]
