@@ -20,7 +20,7 @@ Its line `# refused by: CLAUSE` names the clause that refuses it, and that claus
 show. --write writes that line where it is missing or wrong. --list tries nothing: it prints the edits by the modules that they change.
 
 Without --proved, each crate is checked first as it stands, and the copies go on from what that check kept. With it, FOLDER is a copy of
-the repository whose crates `rt ci` has just proved and left built: its texts are edited.
+the repository whose crates `rt ci` has just proved and left built: its texts are edited, and each check has one job.
 
 Each edit has a line, each crate one with its seconds. The last line is `N passed, M failed`.
 """
@@ -43,7 +43,7 @@ from machine import checks_side_by_side, processors
 
 RT = os.environ.get("RT", "rt")
 MOST_IN_A_ROUND = 70
-ERROR = re.compile(r"(?:\./)?(\S+?):\d+:\d+: error\b")
+ERROR = re.compile(r"(?:\./)?(\S+?):(\d+):\d+: error\b")
 # What is said of a proof that names what an edit took away, and of what rests on such a proof.
 LOST_NAME = re.compile(r"has no field|is not in scope|has no `|was not admitted|: module `[^`]*`$|: record `[^`]*` \(nearest: ")
 # What a check says of a function; the last two where it is proved as far as the contracts of others are met.
@@ -81,7 +81,7 @@ class Toolchain:
 
 
 def idle_processors():
-    """How many jobs a check gets: one, and one more for each processor that idles besides, as far as memory goes."""
+    """How many jobs a check may have: one, and one more for each processor that idles besides, as far as memory goes."""
     return max(1, min(processors() - round(os.getloadavg()[0]), checks_side_by_side()))
 
 
@@ -113,7 +113,8 @@ class Verdict:
         self.by_names = {}
         # Functions that call one another are proved together, so such a reason tells of none of them by itself.
         self.in_cycles = {}
-        errors = [(found[1], line) for line in joined(lines) for found in [ERROR.match(line)] if found]
+        self.places = [(found[1], int(found[2]), line) for line in joined(lines) for found in [ERROR.match(line)] if found]
+        errors = [(path, line) for path, _, line in self.places]
         unread = [line for path, line in errors if path.startswith(("src/", "specs/")) and LOST_NAME.search(line)]
         refused = status == 1 and any(line.startswith(("logic=not-proved", "only=")) for line in lines)
         self.trouble = "" if self.is_proved or refused and not unread else next((line for _, line in errors), lines[-1])
@@ -183,11 +184,11 @@ def is_within(name, functions):
 
 class Room:
     """Where the edits of a crate are tried, each check in a copy of the crate, over what the checks before kept. It may write the clauses that refuse
-    them."""
+    them, and a check may have more jobs than one where that saves time: together these take up to a third more of the processors."""
 
-    def __init__(self, crate, folder, kept, writes):
+    def __init__(self, crate, folder, kept, writes, hurries):
         self.crate, self.folder, self.kept = crate, Path(folder), Path(folder) / "kept"
-        self.checks, self.writes = 0, writes
+        self.checks, self.writes, self.hurries = 0, writes, hurries
         if kept.is_dir():
             shutil.copytree(kept, self.kept)
         self.kept.mkdir(exist_ok=True)
@@ -215,9 +216,19 @@ class Room:
             crate, changes = self.crate, [it for edit in edits for it in edit.changes]
         stubs = crate.stubs_beside(functions) if functions else []
         words = [word for it in sorted(functions) for word in ("--only", it.partition("::")[2])]
-        words += ["--jobs", str(idle_processors()), "--incremental", str(self.kept), *(["--allow-holes"] if stubs else [])]
+        words += ["--jobs", str(idle_processors() if self.hurries else 1), "--incremental", str(self.kept), *(["--allow-holes"] if stubs else [])]
         self.checks += 1
         return Verdict(*Commands.run([*self.crate.command, *words], self.copy(crate.changed([*changes, *stubs]), [*changes, *stubs])))
+
+    def errors_in(self, edit, verdict):
+        """The errors that the last check told in the new texts of an edit."""
+        return [error for path, line, error in verdict.places for it in edit.changes if it.path == path and self.has_line(it, line)]
+
+    def has_line(self, change, line):
+        """Whether a line of the last check's copy stands in the new text of a change."""
+        text = (self.folder / "copy" / change.path).read_text("utf-8")
+        start = text.find(change.new)
+        return text.count("\n", 0, start) < line <= text.count("\n", 0, start + len(change.new)) + 1
 
 
 def rounds_of(edits, crate):
@@ -234,16 +245,22 @@ def rounds_of(edits, crate):
 
 
 def try_together(room, edits):
-    """The edits of a round that are refused, each with what to say of it. One that doesn't compile is found by halves."""
+    """The edits of a round that are refused or don't compile, each with what to say of it. Where some don't compile, the others are tried without
+    them."""
     made = room.crate.side_by_side(edits)
     verdict = room.check([*made.values()], {it for edit in made.values() for it in edit.functions})
-    half = len(edits) // 2
-    if verdict.trouble and half:
-        return try_together(room, edits[:half]) | try_together(room, edits[half:])
-    if verdict.is_proved or verdict.trouble or verdict.refuses_others(made.values()):
+    if verdict.trouble:
+        broken = {edit: (False, unreached(line)) for edit, it in made.items() for line in room.errors_in(it, verdict)}
+        left = [it for it in edits if it not in broken]
+        return broken | (try_together(room, left) if broken and left else {})
+    if verdict.is_proved or verdict.refuses_others(made.values()):
         return {}
     reasons = {edit: verdict.of(it, verdict.reasons, False) for edit, it in made.items() if it.functions & verdict.reasons.keys()}
     return {edit: refused_by(room, made[edit], verdict, f"refused: {why}") for edit, why in reasons.items() if why}
+
+
+def unreached(error):
+    return f"NOT refused: it didn't reach the prover: {error}"
 
 
 def why_alone(room, edit, functions=()):
@@ -274,7 +291,7 @@ def try_alone(room, edit):
     if verdict.is_proved:
         return False, "NOT refused: the crate is still proved with it"
     if verdict.trouble:
-        return False, f"NOT refused: it didn't reach the prover: {verdict.trouble}"
+        return False, unreached(verdict.trouble)
     by_names = verdict.of(edit, verdict.by_names, True)
     if by_names:
         return False, f"NOT refused but by names that it took away, which says nothing of the contract: {by_names}"
@@ -309,7 +326,7 @@ def try_crate(crate, files, is_proved, writes):
         return [(False, f"must-fail {crate.name}/{it.name}: NOT tried: the crate isn't proved without it: {why}") for it in files], ""
     edits = [read_edit(it, crate) for it in files]
     with tempfile.TemporaryDirectory(prefix="must-fail-") as folder:
-        room = Room(crate, folder, crate.folder / "out/incremental", writes)
+        room = Room(crate, folder, crate.folder / "out/incremental", writes, not is_proved)
         tried = try_edits(room, edits)
     return tried, f"must-fail {crate.name}: {len(files)} edits, {room.checks} checks, {time.monotonic() - started:.0f} s"
 
