@@ -5,7 +5,7 @@
     tools/must_fail.py --list [CRATE or CRATE/NAME ..]
 
 An edit, crates/CRATE/must-fail/NAME.edit, turns the meaning of a function, and its crate must then not be proved. A function is proved against
-the contracts of those that it calls, never their bodies. So one check tries up to 70 edits, in a copy of the crate. An edited function
+the contracts of those that it calls, never their bodies. So one check tries up to 150 edits, in a copy of the crate. An edited function
 stands there as a twin of its own for each edit. Of the clauses with names, the twin's contract keeps the one that the edit says refuses it, since
 that one has to do so by itself. All other functions have an empty loop for a body and a hole for a proof: their contracts are taken as they
 stand, and nothing is proved that is proved already. Each edited function must be refused for a reason of its own. That it calls
@@ -42,7 +42,7 @@ from edits import Crate, Stub, Twin, read_edit
 from machine import checks_side_by_side, processors
 
 RT = os.environ.get("RT", "rt")
-MOST_IN_A_ROUND = 70
+MOST_IN_A_ROUND = 150
 ERROR = re.compile(r"(?:\./)?(\S+?):(\d+):\d+: error\b")
 # What is said of a proof that names what an edit took away, and of what rests on such a proof.
 LOST_NAME = re.compile(r"has no field|is not in scope|has no `|was not admitted|: module `[^`]*`$|: record `[^`]*` \(nearest: ")
