@@ -57,8 +57,8 @@ fn tell_failing_calls(alloc: Global, given: &Given, shown: u64) -> Option<bool> 
     for failing_call in 1..=BEYOND {
         devices.failing_call = failing_call;
         let told = given.all(alloc, devices)?;
-        for (told, calls) in told.iter().zip([searched, searched, verified]) {
-            as_wanted = is_told(given, calls, failing_call, shown, told) && as_wanted;
+        for (told, calls) in told.iter().zip(&[searched, searched, verified]) {
+            as_wanted = is_told(given, *calls, failing_call, shown, told) && as_wanted;
         }
     }
     Some(as_wanted)

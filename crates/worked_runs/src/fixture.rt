@@ -134,7 +134,7 @@ impl Given {
 
     fn read(&mut self, alloc: Global, first: &str, row: &str, rc: &str, texts: &str) -> Option<()> {
         let (own, told) = row.split_once(" => ")?;
-        for part in [first, own, "--verify"] {
+        for part in &[first, own, "--verify"] {
             push_words(alloc, &mut self.verifying, part)?;
         }
         self.rc = bytes_of(alloc, rc)?;
@@ -264,8 +264,8 @@ fn sources(alloc: Global, archives: &[Vec<u8>], devices: Devices) -> Option<Vec<
     ensures { IfSome result (λ v. All (λ s. s.failures ≡ 0) v.items) }
 {
     let mut sources = Vec::new(alloc);
-    for (archive, fail_at) in archives.iter().zip(devices.failing_reads) {
-        let source = MemorySource::new(alloc, archive, devices.piece.max(1), fail_at).ok()?;
+    for (archive, fail_at) in archives.iter().zip(&devices.failing_reads) {
+        let source = MemorySource::new(alloc, archive, devices.piece.max(1), *fail_at).ok()?;
         sources.push(source).ok()?;
     }
     Some(sources)

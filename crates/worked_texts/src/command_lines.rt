@@ -104,7 +104,7 @@ fn told_plan(alloc: Global, words: &[String]) -> Result<String, Fail> {
         Some(mfolder) => mfolder.as_str(),
         None => "",
     };
-    for (is_set, name) in [
+    for (is_set, name) in &[
         (plan.raw, "raw"),
         (plan.excerpt, "excerpt"),
         (plan.threads, "threads"),
@@ -114,17 +114,20 @@ fn told_plan(alloc: Global, words: &[String]) -> Result<String, Fail> {
         (plan.once, "once"),
         (plan.verify, "verify"),
     ] {
-        if is_set {
-            told.push_str(" ")?;
-            told.push_str(name)?;
+        if *is_set {
+            push_word(&mut told, name)?;
         }
     }
     told.push_str(":")?;
     for pattern in plan.patterns.as_slice() {
-        told.push_str(" ")?;
-        told.push_str(pattern.as_str())?;
+        push_word(&mut told, pattern.as_str())?;
     }
     Ok(told)
+}
+
+fn push_word(told: &mut String, word: &str) -> Result<(), AllocError> {
+    told.push_str(" ")?;
+    told.push_str(word)
 }
 
 /// Whether it is a refusal of which this is told.

@@ -6,7 +6,7 @@
 
 use mail_query::{Kinds, Node, Query, QueryFault};
 use mail_words::Flag;
-use std::fmt::{Display, InlineText};
+use std::fmt::InlineText;
 
 /// Whether this is what is told of a reader's answer.
 pub fn is_told(answer: &Result<Query, QueryFault>, told: &str) -> bool {
@@ -27,12 +27,12 @@ fn behind_node<'a>(told: &'a str, node: &Node) -> Option<&'a str> {
         Node::Part { kinds, text } => behind_sought(told, "part ", *kinds, text.as_str()),
         Node::Prefix { kinds, text } => behind_sought(told, "prefix ", *kinds, text.as_str()),
         Node::Date(range) => {
-            let rest = behind_bound(told.strip_prefix("date ")?, range.from)?;
-            behind_bound(rest.strip_prefix(" ")?, range.until)
+            let rest = behind_bound(told.strip_prefix("date ")?, range.from.map(i128::from))?;
+            behind_bound(rest.strip_prefix(" ")?, range.until.map(i128::from))
         }
         Node::Size { low, high } => {
-            let rest = behind_bound(told.strip_prefix("size ")?, Some(*low))?;
-            behind_bound(rest.strip_prefix(" ")?, *high)
+            let rest = behind_bound(told.strip_prefix("size ")?, Some(i128::from(*low)))?;
+            behind_bound(rest.strip_prefix(" ")?, high.map(i128::from))
         }
         Node::Flag { flag, wanted } => behind_flag(told.strip_prefix("flag ")?, *flag, *wanted),
         Node::Not(inner) => behind_node(told.strip_prefix("not ")?, inner),
@@ -77,7 +77,7 @@ fn kinds_of(letters: &str) -> Option<Kinds> {
     Some(kinds)
 }
 
-fn behind_bound<T: Display + Drop>(told: &str, bound: Option<T>) -> Option<&str> {
+fn behind_bound(told: &str, bound: Option<i128>) -> Option<&str> {
     match bound {
         None => told.strip_prefix("-"),
         Some(number) => {
