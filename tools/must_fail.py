@@ -246,13 +246,14 @@ def rounds_of(edits, crate):
 
 def try_together(room, edits):
     """The edits of a round that are refused or don't compile, each with what to say of it. Where some don't compile, the others are tried without
-    them."""
+    them; where a check fails and tells no place, as for want of memory, by halves."""
     made = room.crate.side_by_side(edits)
     verdict = room.check([*made.values()], {it for edit in made.values() for it in edit.functions})
     if verdict.trouble:
         broken = {edit: (False, unreached(line)) for edit, it in made.items() for line in room.errors_in(it, verdict)}
-        left = [it for it in edits if it not in broken]
-        return broken | (try_together(room, left) if broken and left else {})
+        left, half = [it for it in edits if it not in broken], len(edits) // 2
+        parts = [left] if broken else [left[:half], left[half:]] if half else []
+        return broken | {edit: said for part in parts if part for edit, said in try_together(room, part).items()}
     if verdict.is_proved or verdict.refuses_others(made.values()):
         return {}
     reasons = {edit: verdict.of(it, verdict.reasons, False) for edit, it in made.items() if it.functions & verdict.reasons.keys()}
