@@ -16,7 +16,7 @@ SOURCE = """\
 //! Numbers.
 #![tactic(auto)]
 
-ghost use Rattle.std.specs.Prelude.{◌≡◌, ◌≤◌, ◌<◌, ◌+◌, ◌⊎◌, nat_lt};
+ghost use Rattle.std.specs.Prelude.{◌≡◌, ◌≤◌, ◌<◌, ◌+◌, ◌⊎◌};
 
 /// The largest number.
 pub const MOST: u32 = 100;
@@ -49,13 +49,6 @@ pub fn largest(a: u32, b: u32, c: u32) -> u32
     ensures third { c ≤ result }
 {
     larger(larger(a, b), c)
-}
-
-/// Whether there is something.
-pub fn is_some(n: u32) -> bool
-    ensures { result ≡ nat_lt 0 n }
-{
-    n > 0
 }
 
 /// The number, and none above the largest.
@@ -94,6 +87,41 @@ impl Counter {
     }
 }
 
+/// What gives a small number.
+pub trait Giver {
+    /// The number.
+    fn give(&self) -> u32
+        ensures { result ≤ 100 };
+}
+
+impl Giver for Counter {
+    fn give(&self) -> u32
+        ensures most { result ≤ 100 }
+        ensures count { self.now.count ≤ 100 → result ≡ self.now.count }
+    {
+        smaller(self.count, 100)
+    }
+}
+
+/// What is left of a number where 2 is taken away as often as it can be.
+#[cycle(halving)]
+pub fn rest_of(n: u32) -> u32
+    ensures less { result < 2 }
+    ensures most { result ≤ n }
+{
+    if n < 2 { n } else { rest_behind(n) }
+}
+
+/// The same of a number that 2 can be taken away from.
+#[cycle(halving)]
+fn rest_behind(n: u32) -> u32
+    requires { 2 ≤ n }
+    ensures less { result < 2 }
+    ensures most { result ≤ n }
+{
+    rest_of(n - 2)
+}
+
 /// The sum of a number with itself, in so many steps.
 pub fn doubled(n: u32) -> u32
     requires { n < 100 }
@@ -114,6 +142,18 @@ use Rattle.counters.proofs.doubled.Given as goal
 
 abbrev pub invariant-loop-i : goal.invariant-loop-i
 invariant-loop-i l = l.sum ≡ l.fn.n + l.i
+"""
+
+# Those of the functions that call one another.
+CYCLE = """\
+use Rattle.std.proofs.Common.{◌+◌, ◌*◌}
+use Rattle.counters.proofs.+halving.Given as goal
+
+abbrev pub decreases-rest_of : goal.decreases-rest_of
+decreases-rest_of l = 2 * l.n + 1
+
+abbrev pub decreases-rest_behind : goal.decreases-rest_behind
+decreases-rest_behind l = 2 * l.n
 """
 
 # What a check says of a function whose proof names what an edit took away, where the name of the record is long.
@@ -143,7 +183,6 @@ EDITS = {
     "a_lost_text": ([("n > 1", "n > 2")], "returns", "NOT refused: BAD EDIT: an 'old:' text is in src/lib.rt 0 times"),
     "a_step_is_none": ([("self.count += 1;", "self.count += 0;")], "returns", TOGETHER),
     "a_step_is_two": ([("self.count += 1;", "self.count += 2;")], "returns", TOGETHER),
-    "at_least_one": ([("n > 0", "n >= 1")], "returns", HARMLESS),
     "larger_gives_the_first": ([("if b < a { a } else { b }", "if b < a { a } else { a }")], "second", TOGETHER),
     "larger_gives_the_smaller": ([("if b < a { a } else { b }", "if b < a { b } else { a }")], "either", "NOT refused by either, but by first, second"),
     "doubled_in_fewer_steps": ([("in 0..n {", "in 1..n {")], "loop-i-init", TOGETHER),
@@ -151,6 +190,11 @@ EDITS = {
     "largest_of_the_first_two": ([("larger(larger(a, b), c)", "larger(larger(a, b), b)")], "third", TOGETHER),
     "less_than_the_least": ([("LEAST: u32 = 1", "LEAST: u32 = 0")], "returns", TOGETHER),
     "more_than_the_most": ([("MOST: u32 = 100", "MOST: u32 = 101")], "returns", TOGETHER),
+    "given_one_more": ([("smaller(self.count, 100)", "smaller(self.count, 101)")], "most", TOGETHER),
+    "given_none": ([("smaller(self.count, 100)", "smaller(self.count, 0)")], "count", TOGETHER),
+    "rest_is_two": ([("if n < 2 { n }", "if n < 3 { n }")], "less", TOGETHER),
+    "rest_is_whole": ([("rest_behind(n) }", "rest_behind(n) + n }")], "less", TOGETHER),
+    "rest_behind_one": ([("rest_of(n - 2)", "rest_of(n - 1)")], "less", HARMLESS),
     "unknown_name": ([("if a < b { a } else { b }", "if a < c { a } else { b }")], "either", "NOT refused: it didn't reach the prover"),
     "without_a_clause": ([("let whole = sum;", "let whole = n;")], "", "NOT refused by a clause that it names, but by returns"),
 }
@@ -159,12 +203,13 @@ EDITS = {
 def write_repository(root):
     """A repository of the one crate, with its edits."""
     crate = root / "crates/counters"
-    for folder in ("src", "specs", "proofs/doubled", "must-fail"):
+    for folder in ("src", "specs", "proofs/doubled", "proofs/+halving", "must-fail"):
         (crate / folder).mkdir(parents=True)
     (root / "crates.txt").write_text("counters:\n")
     (crate / "src/lib.rt").write_text(SOURCE, "utf-8")
     (crate / "specs/Lib.antt").write_text("")
     (crate / "proofs/doubled/Invariants.antt").write_text(INVARIANTS, "utf-8")
+    (crate / "proofs/+halving/Invariants.antt").write_text(CYCLE, "utf-8")
     for name, (pairs, clause, _) in EDITS.items():
         named = [f"# refused by: {clause}"] if clause else []
         lines = [*named, "file: src/lib.rt", *[line for old, new in pairs for line in (f"old: {old}", f"new: {new}")]]

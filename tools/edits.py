@@ -6,7 +6,7 @@ from dataclasses import dataclass, field, replace
 from functools import cached_property
 from pathlib import Path
 
-from function_bodies import blanked, bodies_of_file, block_end, item_of, module_of as module_of_file
+from function_bodies import blanked, bodies_of_file, block_end, impl_name, inherent, item_of, module_of as module_of_file
 from lemmas import lemmas_of
 
 # The line of an edit that names the clause which refuses it.
@@ -21,6 +21,8 @@ CLAUSE_HEAD = re.compile(r"^ *ensures\*? (\w+) (?=\{)", re.M)
 TRIVIAL = "    ensures beside { record {} }"
 # A goal of a clause of a function's own contract that has a name.
 GOAL_OF_CLAUSE = re.compile(r"returns\b.*-clause-(\w+)")
+# A goal of a function that is proved together with others: what is asked, the function, and the goal.
+GOAL_OF_CYCLE = re.compile(r"(invariant-|decreases-|)([^-]+)-?(.*)")
 # A constant of a module, to its end.
 CONSTANT = re.compile(r"^(?:pub(?:\([^)]*\))? )?(?:const|static) (\w+).*?;$", re.M | re.S)
 
@@ -58,20 +60,49 @@ class Stub(Change):
 
 @dataclass(frozen=True)
 class Twin(Change):
-    """An edited function under a second name, behind the one that it is made of, so that a check tries more than one edit of it, and the clauses that
-    its contract keeps; None where that is all of them."""
+    """An edited function under a second name, behind the one that it is made of, so that a check tries more than one edit of it, the clauses that its
+    contract keeps, None where that is all of them, and the name of the other's cycle of calls. It calls the functions of that cycle, and none of
+    them calls it."""
 
     function: str
     name: str
-    kept: frozenset = None
+    kept: frozenset
+    cycle: str
 
     def assume(self, copy):
         """Gives it the written proofs of the other, but for goals of clauses that it doesn't keep."""
-        written, own = proofs_of(copy, self.function), proofs_of(copy, self.name)
-        for file in written.rglob("*.antt") if written.is_dir() else []:
-            text = file.read_text("utf-8").replace(f"{module_of(self.function)}.", f"{module_of(self.name)}.")
-            (own / file.relative_to(written)).parent.mkdir(parents=True, exist_ok=True)
-            (own / file.relative_to(written)).write_text(text if self.kept is None else with_answers(text, self.kept), "utf-8")
+        for path, text in written_proofs(copy, self.function, self.cycle, self.name).items():
+            file = proofs_of(copy, self.name) / path
+            file.parent.mkdir(parents=True, exist_ok=True)
+            file.write_text(text if self.kept is None else with_answers(text, self.kept), "utf-8")
+
+
+def written_proofs(crate, function, cycle, name):
+    """The files of a function's written proofs in this folder of its crate, with their texts under another name of the function. Of one that is proved
+    together with others these are its own proofs, as it has them where no other calls it."""
+    folder = next((crate / "proofs").rglob(f"+{cycle}")) if cycle else proofs_of(crate, function)
+    module = f"Rattle.{function.partition('::')[0]}.{'.'.join(folder.relative_to(crate).parts)}"
+    texts = {it.relative_to(folder): it.read_text("utf-8").replace(f"{module}.", f"{module_of(name)}.") for it in folder.rglob("*.antt")}
+    return {path: with_own_goals(text, function) if cycle else text for path, text in texts.items()}
+
+
+def with_own_goals(text, function):
+    """Of the proofs of a cycle of calls those to this function's goals, as they stand where the function is in no cycle: the goals have other names, the
+    answers one parameter less, and its calls don't have to be of something smaller."""
+    lines, own = text.split("\n"), ""
+    for proof in reversed(lemmas_of(lines)):
+        kind, owner, goal = GOAL_OF_CYCLE.fullmatch(proof.name).groups()
+        if goal and is_goal_of(function, owner) and not goal.endswith("-requires"):
+            own = owner
+        elif kind or goal:
+            del lines[proof.start : proof.end]
+    named = re.sub(rf"(?<![\w.-])((?:goal\.)?(?:\w+-)?){re.escape(own)}-", r"\1", "\n".join(lines)) if own else "\n".join(lines)
+    return re.sub(r"^((?!invariant-|decreases-)[\w:-]+) t (?=c =)", r"\1 ", named, flags=re.M)
+
+
+def is_goal_of(function, goal):
+    """Whether a goal of a cycle of calls is this function's: its name begins with the function's."""
+    return function.endswith(f"::{goal.partition('-')[0].replace('.', '::')}")
 
 
 def with_answers(text, kept):
@@ -223,28 +254,36 @@ class Crate:
         marks = ((path, mark) for path in self.sources() for mark in IN_A_CYCLE.finditer(self.text(path)))
         return {next(name for start, _, name in self.bodies(path) if start > mark.start()): (path, mark) for path, mark in marks}
 
+    def cycle_of(self, function):
+        """The name of the cycle of calls that a function is in, or an empty text."""
+        return self.cycles[function][1][1] if function in self.cycles else ""
+
     def stubs_beside(self, functions):
         """Changes that make stubs of all functions but these and those that are proved together with one of these."""
-        looked_at = {self.cycles[it][1][1] for it in functions if it in self.cycles}
+        looked_at = {self.cycle_of(it) for it in functions}
         ended = {name: at for name, at in self.cycles.items() if at[1][1] not in looked_at}
         changes = [Change(path, mark.start(), mark.end(), "") for path, mark in ended.values()]
         for name, (path, start, end) in self.every_body.items():
             if name not in functions and (name in ended or name not in self.cycles):
-                changes.append(Stub(path, start, end, "{ loop {} }", name, ended[name][1][1] if name in ended else ""))
+                changes.append(Stub(path, start, end, "{ loop {} }", name, self.cycle_of(name)))
         return changes
 
     def can_have_twin(self, edit):
         """Whether the edit is of bodies alone, or of one constant, and each of its functions can have a twin."""
         constant = self.constant_at(edit.changes[0]) if edit.is_of_constant and len(edit.changes) == 1 else None
         is_of_one = constant and not edit.is_spread and self.functions_naming_alone(*constant) == edit.functions
-        return bool(is_of_one or edit.is_of_bodies()) and all(self.is_doubled(it) for it in edit.functions)
+        return bool(is_of_one or edit.is_of_bodies()) and all(self.is_doubled(it, edit) for it in edit.functions)
 
-    def is_doubled(self, function):
-        """Whether a function can have a twin: it is none of a trait, and calls itself neither directly nor in a cycle."""
+    def is_doubled(self, function, edit):
+        """Whether a function can have a twin for an edit: one that calls itself can't, nor one whose contract stands at its trait. In a cycle of
+        calls more is required of those that it calls."""
         path, start, end = self.every_body[function]
-        name = function.rpartition("::")[2]
-        calls_itself = re.search(rf"(?<![.:\w]){name}\(|\b(self\.|Self::){name}\(", self.text(path)[start:end])
-        return not calls_itself and function not in self.cycles and not item_of(self.text(path), start)[1]
+        text, name = self.text(path), function.rpartition("::")[2]
+        if function in self.cycles:
+            return not edit.clause.endswith("-requires")
+        item, impl = item_of(text, start)
+        calls_itself = re.search(rf"(?<![.:\w]){name}\(|\b(self\.|Self::){name}\(", text[start:end])
+        return not calls_itself and not (impl and "ensures" not in text[item:start])
 
     def twin_of(self, edit, number):
         """The edit with twins of its functions in place of these; one of a constant has a second constant, which they name."""
@@ -254,30 +293,35 @@ class Crate:
             inside = replace(change, start=change.start - start, end=change.end - start)
             second = re.sub(rf"\b{name}\b", f"{name}_{number}", changed(self.text(change.path)[start:end], [inside]), count=1)
             twins.append(Change(change.path, end, end, f"\n{second}"))
-        return replace(edit, changes=twins, functions={f"{it}_{number}" for it in edit.functions})
+        return replace(edit, changes=twins, functions={it.name for it in twins if isinstance(it, Twin)})
 
     def twin(self, function, edit, number):
         """An edited function under another name. Of the clauses that have names its contract keeps the one that refuses the edit, where it is said to be
         one of them, and those that this one's proof names."""
         path, body, end = self.every_body[function]
         text = self.text(path)
-        start, _ = item_of(text, body)
+        start, impl = item_of(text, body)
         clauses = clauses_of(text[start:body])
         kept = self.kept_beside(function, edit.clause) & clauses.keys() if clauses and edit.clause not in ("", "returns") else None
         others = [clauses[it] for it in clauses if kept is not None and it not in kept]
         inside = [replace(it, start=it.start - start, end=it.end - start) for it in edit.changes if it.path == path and start <= it.start < end]
         inside += [Change("", *it, TRIVIAL if it == others[0] else "") for it in others]
-        item, name = changed(text[start:end], inside), function.rpartition("::")[2]
+        item, name = IN_A_CYCLE.sub("", changed(text[start:end], inside)), function.rpartition("::")[2]
         item = re.sub(rf"\bfn {name}\b", f"fn {name}_{number}", item, count=1)
         for change in edit.changes if edit.is_of_constant else []:
             constant = self.constant_at(change)[2]
             item = re.sub(rf"\b{constant}\b", f"{module_path(self.name, change.path)}::{constant}_{number}", item)
-        return Twin(path, end, end, f"\n\n{item}", function, f"{function}_{number}", kept)
+        cycle = self.cycle_of(function)
+        if not impl:
+            return Twin(path, end, end, f"\n\n{item}", function, f"{function}_{number}", kept, cycle)
+        head, imports = inherent(text[slice(*impl)])
+        block = "\n".join([f"\n\n{head} {{", *imports, item, "}"])
+        twin = f"{module_of_file(self.name, path)}::{impl_name(head)}::{name}_{number}"
+        return Twin(path, impl[1], impl[1], block, function, twin, kept, cycle)
 
     def kept_beside(self, function, clause):
         """The clause, and those whose answers stand in the answers that are kept with it."""
-        file = proofs_of(self.folder, function) / "Answers.antt"
-        lines = file.read_text("utf-8").split("\n") if file.is_file() else []
+        lines = written_proofs(self.folder, function, self.cycle_of(function), function).get(Path("Answers.antt"), "").split("\n")
         answers = {it.name: "\n".join(lines[it.start : it.end]) for it in lemmas_of(lines)}
         of_clause = {name: found[1] for name in answers for found in [GOAL_OF_CLAUSE.fullmatch(name)] if found}
         kept, before = frozenset([clause]), None

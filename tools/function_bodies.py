@@ -37,6 +37,13 @@ def impl_name(head):
     return base + "".join(re.findall(r"\w+", re.sub(r"'\w+|\b\w+::", "", trait)))
 
 
+def inherent(impl):
+    """The head of a trait's impl, and its imports for contracts, as those of an impl of no trait."""
+    head, _, inside = impl.partition("{")
+    parameters = re.match(r"\s*impl\s*(<(?:[^<>]|<[^<>]*>)*>)?", head)[0].strip()
+    return f"{parameters} {head.rpartition(' for ')[2].strip()}", re.findall(r"^ *ghost use [^;]*;", inside, re.M)
+
+
 def body_of(text, at):
     """The start and the end of the body of the function whose name ends at `at`, or None where it has no body."""
     depth = 0
@@ -84,12 +91,13 @@ def bodies_of_file(crate, path, text):
 
 
 def item_of(text, body):
-    """Where the item of a function stands whose body begins at `body`, with its comments and attributes, and whether it is a method of a trait's impl."""
+    """Where the item of a function starts whose body begins at `body`, with its comments and attributes, and the start and the end of the trait's impl
+    that it stands in, or None."""
     blank = blanked(text)
     heads = [it for it in ITEM.finditer(blank) if it.end() <= body]
     start = next(it.start() for it in reversed(heads) if it[3])
     lines = text[:start].split("\n")[:-1]
     while lines and lines[-1].lstrip().startswith(("//", "#[")):
         start -= len(lines.pop()) + 1
-    impls = [it for it in heads if it[2] and body < block_end(blank, it.end() - 1)]
-    return start, any(re.search(r"\bfor\b", it[2]) for it in impls)
+    impls = [(it.start(), block_end(blank, it.end() - 1)) for it in heads if it[2] and re.search(r"\bfor\b", it[2])]
+    return start, next((it for it in impls if body < it[1]), None)

@@ -2,7 +2,7 @@
 import re
 
 # A lemma or a definition with a body: its head, and each of its clauses stands in the same column.
-HEAD = re.compile(r"^( *)((?:pub |abbrev |unfoldable |opaque )*)([^\s():{}◌]+) :")
+HEAD = re.compile(r"^( *)((?:pub |abbrev |unfoldable |opaque )*)((?:[^\s():{}◌]|::)+) :")
 RECORD = re.compile(r"^( *)((?:pub )?record )([^\s():{}◌]+)")
 
 

@@ -38,7 +38,7 @@ from pathlib import Path
 sys.dont_write_bytecode = True
 from commands import Commands
 from crates import PARTS, Crates
-from edits import Crate, Stub, Twin, read_edit
+from edits import Crate, Stub, Twin, is_goal_of, read_edit
 from machine import checks_side_by_side, processors
 
 RT = os.environ.get("RT", "rt")
@@ -96,10 +96,12 @@ def joined(lines):
     return whole
 
 
-def clause_of(goal):
-    """The clause that a goal is about, or else the goal: `returns` is a whole contract, whatever the way to the function's end."""
+def clause_of(function, goal):
+    """The clause that a function's goal is about, or else the goal, in a cycle of calls without the function's name: `returns` is a whole contract,
+    whatever the way to the function's end."""
     clause = re.search(r"clause-(\w+)", goal)
-    return clause[1] if clause else "returns" if goal.startswith("returns") else goal
+    own = goal.partition("-")[2] if is_goal_of(function, goal) else goal
+    return clause[1] if clause else "returns" if own.startswith("returns") else own
 
 
 class Verdict:
@@ -137,7 +139,7 @@ class Verdict:
         is_of_others = goals and self.is_shared(why) and not any(is_goal_of(function, it) for it in goals)
         if verdict == "no proof" and not ONLY_CALLS.match(why) and not is_of_others:
             self.reasons[function] = why
-            self.clauses[function] = [clause_of(it) for it in goals]
+            self.clauses[function] = [clause_of(function, it) for it in goals]
         if verdict == "not proved" and not ONLY_CALLS.match(why):
             own = "proofs/" + function.partition("::")[2].replace("::", "/") + "/"
             said = [line for path, line in errors if path.startswith(own)]
@@ -145,7 +147,7 @@ class Verdict:
             cycles = [line for path, line in errors if "/+" in path and own.startswith(path.partition("/+")[0] + "/") and not LOST_NAME.search(line)]
             of_values += [line for line in cycles if any(is_goal_of(function, it) for it in GOAL_OF_ERROR.findall(line))]
             self.reasons[function] = next(iter(of_values), "")
-            self.clauses[function] = [clause_of(it) for line in of_values or cycles for it in GOAL_OF_ERROR.findall(line)]
+            self.clauses[function] = [clause_of(function, it) for line in of_values or cycles for it in GOAL_OF_ERROR.findall(line)]
             if cycles and not of_values:
                 self.in_cycles[function] = cycles[0]
             if said and not of_values:
@@ -170,11 +172,6 @@ class Verdict:
         """Whether a function that none of the edits changes is refused for a reason of its own."""
         functions = {it for edit in edits for it in edit.functions}
         return any(why and not is_within(name, functions) for name, why in self.reasons.items())
-
-
-def is_goal_of(function, goal):
-    """Whether a goal of a cycle of calls is this function's: its name begins with the function's."""
-    return function.endswith(f"::{goal.partition('-')[0].replace('.', '::')}")
 
 
 def is_within(name, functions):

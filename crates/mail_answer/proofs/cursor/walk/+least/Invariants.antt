@@ -1,7 +1,7 @@
 use Rattle.mail_answer.proofs.Words.{◌-◌, ◌^◌, ◌≡◌, ◌+◌, ◌*◌, ◌<◌, length, take, CountsPostings, Spends, common, left_in, postings_in, levels}
 use Rattle.mail_answer.specs.Inside.CursorWalks.{ahead}
 use Rattle.mail_answer.proofs.CursorLaws.Turns.{HasPassed}
-use Rattle.mail_answer.proofs.CursorLaws.Members.{HaveDropped, HaveReached, HasRisen}
+use Rattle.mail_answer.proofs.CursorLaws.Members.{Unvisited, HaveDropped, HaveReached, HasRisen}
 use Rattle.mail_answer.proofs.cursor.walk.+least.Given as goal
 
 abbrev pub invariant-least_common-loop-reached : goal.invariant-least_common-loop-reached
@@ -31,7 +31,7 @@ decreases-least_other-loop-number l = l.count - l.number
 
 abbrev pub invariant-least_united-loop-member : goal.invariant-least_united-loop-member
 invariant-least_united-loop-member l = record {
-  unvisited : goal.unvisited-least_united-loop-member l;
+  unvisited : Unvisited l.initial.members l.members l.member-index;
   dropped : HaveDropped l.n (take l.member-index l.initial.members) (take l.member-index l.members) l.least;
   steps : Spends (left_in l.initial.members) (left_in l.members) l.initial.steps l.steps;
   postings : CountsPostings (postings_in l.initial.members) (postings_in l.members) l.initial.steps l.steps;
@@ -40,7 +40,7 @@ invariant-least_united-loop-member l = record {
 
 abbrev pub invariant-reach_common-loop-member : goal.invariant-reach_common-loop-member
 invariant-reach_common-loop-member l = record {
-  unvisited : goal.unvisited-reach_common-loop-member l;
+  unvisited : Unvisited l.initial.members l.members l.member-index;
   reached : HaveReached l.n (take l.member-index l.initial.members) (take l.member-index l.members) l.number;
   steps : Spends (left_in l.initial.members) (left_in l.members) l.initial.steps l.steps;
   postings : CountsPostings (postings_in l.initial.members) (postings_in l.members) l.initial.steps l.steps;
