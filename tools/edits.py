@@ -23,6 +23,8 @@ TRIVIAL = "    ensures beside { record {} }"
 GOAL_OF_CLAUSE = re.compile(r"returns\b.*-clause-(\w+)")
 # A goal of a function that is proved together with others: what is asked, the function, and the goal.
 GOAL_OF_CYCLE = re.compile(r"(invariant-|decreases-|)([^-]+)-?(.*)")
+# What a loop of a function has by name only where the function calls itself, directly or in a cycle.
+ONLY_IN_A_CYCLE = re.compile(r"\bgoal\.(?:unvisited|no_deeper|left|size)-")
 # A constant of a module, to its end.
 CONSTANT = re.compile(r"^(?:pub(?:\([^)]*\))? )?(?:const|static) (\w+).*?;$", re.M | re.S)
 
@@ -276,11 +278,12 @@ class Crate:
 
     def is_doubled(self, function, edit):
         """Whether a function can have a twin for an edit: one that calls itself can't, nor one whose contract stands at its trait. In a cycle of
-        calls more is required of those that it calls."""
+        calls more is required of those that it calls, and its proofs may name what stands only there."""
         path, start, end = self.every_body[function]
         text, name = self.text(path), function.rpartition("::")[2]
         if function in self.cycles:
-            return not edit.clause.endswith("-requires")
+            proofs = written_proofs(self.folder, function, self.cycle_of(function), function).values()
+            return not edit.clause.endswith("-requires") and not any(ONLY_IN_A_CYCLE.search(it) for it in proofs)
         item, impl = item_of(text, start)
         calls_itself = re.search(rf"(?<![.:\w]){name}\(|\b(self\.|Self::){name}\(", text[start:end])
         return not calls_itself and not (impl and "ensures" not in text[item:start])
