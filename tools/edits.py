@@ -25,6 +25,10 @@ GOAL_OF_CLAUSE = re.compile(r"returns\b.*-clause-(\w+)")
 GOAL_OF_CYCLE = re.compile(r"(invariant-|decreases-|)([^-]+)-?(.*)")
 # What a loop of a function has by name only where the function calls itself, directly or in a cycle.
 ONLY_IN_A_CYCLE = re.compile(r"\bgoal\.(?:unvisited|no_deeper|left|size)-")
+# An import, or what stands of a function before its contract.
+IMPORT_OR_HEAD = re.compile(
+    r"^ *(?:pub(?:\([^)]*\))? )?(?:use [^;]*;|(?:const |unsafe )*fn \w+.*?(?=\{|\b(?:requires|ensures|ghost)\b))", re.M | re.S
+)
 # A constant of a module, to its end.
 CONSTANT = re.compile(r"^(?:pub(?:\([^)]*\))? )?(?:const|static) (\w+).*?;$", re.M | re.S)
 
@@ -287,6 +291,16 @@ class Crate:
         item, impl = item_of(text, start)
         calls_itself = re.search(rf"(?<![.:\w]){name}\(|\b(self\.|Self::){name}\(", text[start:end])
         return not calls_itself and not (impl and "ensures" not in text[item:start])
+
+    def stands_beside(self, edit):
+        """Whether an edit can be tried in its place beside others: besides bodies and constants it changes at most imports and what stands of functions
+        before their contracts, so what it doesn't edit means the same with it."""
+        heads = {path: [*IMPORT_OR_HEAD.finditer(blanked(self.text(path)))] for path in edit.texts}
+        outside = (it for it in edit.changes if not self.is_in_body(it) and not self.functions_naming(it))
+        return all(any(head.start() <= it.start and it.end <= head.end() for head in heads[it.path]) for it in outside)
+
+    def is_in_body(self, change):
+        return any(start < change.start and change.end < end for start, end, _ in self.bodies(change.path))
 
     def twin_of(self, edit, number):
         """The edit with twins of its functions in place of these; one of a constant has a second constant, which they name."""

@@ -12,9 +12,9 @@ stand, and nothing is proved that is proved already. Each edited function must b
 another that isn't proved is none, nor is a proof that only lacks a name that the edit took away. An edit of a constant is looked for in the
 functions that name the constant, and in those that its lines `# shows in: FUNCTION` name.
 
-An edit of which such a check tells no reason is tried alone, and so is one that changes more than bodies and constants. If its functions tell no
-reason then either, a check of the whole crate decides, with all bodies and proofs. Alone it fails where the crate is still proved, where its
-functions get no reason of their own, and where it doesn't reach the prover.
+An edit of which such a check tells no reason is tried alone, and so is one that changes more than bodies, constants that these name, imports and
+what stands of functions before their contracts. If its functions tell no reason then either, a check of the whole crate decides, with all bodies and
+proofs. Alone it fails where the crate is still proved, where its functions get no reason of their own, and where it doesn't reach the prover.
 
 Its line `# refused by: CLAUSE` names the clause that refuses it, and that clause has to be one of those that the prover couldn't
 show. --write writes that line where it is missing or wrong. --list tries nothing: it prints the edits by the modules that they change.
@@ -188,6 +188,9 @@ class Room:
         self.checks, self.writes, self.hurries = 0, writes, hurries
         if kept.is_dir():
             shutil.copytree(kept, self.kept)
+
+    def keep(self):
+        """Has each check keep what it did. That takes time, which only later checks make good."""
         self.kept.mkdir(exist_ok=True)
 
     def copy(self, texts, changes):
@@ -206,14 +209,15 @@ class Room:
 
     def check(self, edits, functions=()):
         """What a check says of the crate with these edits: of these functions over the contracts of the others, or of all where none is named."""
-        if any(it.is_spread for it in edits):
-            # It is alone, and its texts are no changes of bodies.
+        if len(edits) == 1 and edits[0].is_spread:
+            # It may have functions of its own, which are no changes of bodies.
             crate, changes = self.crate.with_texts(edits[0].texts), []
         else:
             crate, changes = self.crate, [it for edit in edits for it in edit.changes]
         stubs = crate.stubs_beside(functions) if functions else []
         words = [word for it in sorted(functions) for word in ("--only", it.partition("::")[2])]
-        words += ["--jobs", str(idle_processors() if self.hurries else 1), "--incremental", str(self.kept), *(["--allow-holes"] if stubs else [])]
+        words += ["--jobs", str(idle_processors() if self.hurries else 1), *(["--incremental", str(self.kept)] if self.kept.is_dir() else [])]
+        words += ["--allow-holes"] if stubs else []
         self.checks += 1
         return Verdict(*Commands.run([*self.crate.command, *words], self.copy(crate.changed([*changes, *stubs]), [*changes, *stubs])))
 
@@ -299,7 +303,9 @@ def try_alone(room, edit):
 def try_edits(room, edits):
     """Whether each edit is refused, and what to say of it."""
     said = {edit: (False, f"NOT refused: BAD EDIT: {edit.wrong}") for edit in edits if edit.wrong}
-    left = [it for it in edits if it.functions and not it.is_spread and not it.wrong]
+    left = [it for it in edits if it.functions and not it.wrong and room.crate.stands_beside(it)]
+    if len(rounds_of(left, room.crate)) + len([it for it in edits if it not in left]) > 1:
+        room.keep()
     found = True
     while found:
         # A function may wait for the proof of another that is edited too, so a round of what is left can tell more.
