@@ -116,9 +116,10 @@ class Room:
 
 
 def spread(calls):
-    """The numbers of POINTS calls: of each that is neither a read nor a write, and of others in equal steps."""
-    moves = [n for n, name in enumerate(calls, 1) if name in ("read", "read_at", "write")]
-    others = [n for n, name in enumerate(calls, 1) if name not in ("read", "read_at", "write")]
+    """The numbers of POINTS calls: of each that is neither a read nor a write, nor the look at an archive behind a read of it, and of others in
+    equal steps."""
+    moves = [n for n, (before, name) in enumerate(zip(["", *calls], calls), 1) if name in ("read", "read_at", "write") or before == "read_at"]
+    others = [n for n in range(1, len(calls) + 1) if n not in moves]
     wanted = max(2, POINTS - len(others))
     return sorted({*others, *(moves[k * (len(moves) - 1) // (wanted - 1)] for k in range(wanted))})
 
