@@ -37,7 +37,7 @@ pub use Rattle.mail_words.specs.Words.{words}
 pub use Rattle.mail_words.specs.declared.kind.TextKind.{TextKind}
 pub use Rattle.mail_words.specs.declared.kind.TextKind.TheVariants.{Name}
 pub use Rattle.mairix_tool.specs.Altered.{AreToldApart, altered_archive}
-pub use Rattle.mairix_tool.specs.Asked.{Wanted, asked, asked_rc, query_asked, wanted, wanted_by}
+pub use Rattle.mairix_tool.specs.Asked.{Wanted, asked, asked_by, asked_rc, query_asked, wanted, wanted_by}
 pub use Rattle.mairix_tool.specs.Chosen.{facts_of_message, ids_in, is_kind, words_of}
 pub use Rattle.mairix_tool.specs.MailOfArchives.{Numbered, link_ids, mail_in, nobody, numbered_at, numbered_messages, shape, shape_of, share_id}
 pub use Rattle.mairix_tool.specs.OldTables.{HasDigests, ServesFor, but_digests, keys_but_names, old_table, without_digest}

@@ -1,5 +1,5 @@
 -- The paths of archives that are asked for are paths, and as many as the rcfile has.
-use Rattle.mairix_tool.proofs.Words.{◌≡◌, ◌++◌, ℕ, List, [], ◌∷◌, length, map, append-nil, All, IfOk, Result, Ok, refl, sym, ap, subst, arith, join_by, join_with_byte, IsPath, Query, Fault, Wanted, asked, asked_rc, query_asked, wanted_by}
+use Rattle.mairix_tool.proofs.Words.{◌≡◌, ◌++◌, ℕ, List, [], ◌∷◌, length, map, append-nil, All, IfOk, Result, Ok, refl, sym, ap, subst, arith, join_by, join_with_byte, IsPath, Query, Fault, Wanted, asked, asked_by, asked_rc, query_asked, wanted_by}
 use Rattle.contract_words.specs.Answers.{◌>>=◌, fault_as}
 use Rattle.mail_query.specs.declared.fault.QueryFault.{QueryFault}
 use Rattle.run_faults.specs.declared.fault.Fault.TheVariants as of
@@ -30,6 +30,14 @@ many-by planned read queried n more h = grind arith
 
 pub asked-many : (words : List (List ℕ)) (rc : List ℕ) (now n : ℕ) (more : Rc → Type 0) → IfOk (asked_rc words rc) (λ r. (length r.paths ≡ n) × more r) → IfOk (asked words rc now) (λ w. length w.paths ≡ n)
 asked-many words rc now n more given = many-by (plan words) (rc_of rc) (λ p. query_asked p.boolean p.patterns now) n more given
+
+-- where rcfile and query are accepted, that is what is asked
+answered-by : (read : Result Rc RcFault) (queried : Result Query QueryFault) (p : Plan) (r : Rc) (q : Query) → read ≡ Ok r → queried ≡ Ok q
+    → (fault_as of.Rc read >>= λ r. fault_as of.Query queried >>= λ q. Ok (wanted_by p r q)) ≡ Ok (wanted_by p r q)
+answered-by read queried p r q of_rc of_query = grind arith
+
+pub asked-in-full : (p : Plan) (rc : List ℕ) (now : ℕ) (r : Rc) (q : Query) → rc_of rc ≡ Ok r → query_asked p.boolean p.patterns now ≡ Ok q → asked_by p rc now ≡ Ok (wanted_by p r q)
+asked-in-full p rc now r q of_rc of_query = answered-by (rc_of rc) (query_asked p.boolean p.patterns now) p r q of_rc of_query
 
 -- ---- the text of a boolean query
 

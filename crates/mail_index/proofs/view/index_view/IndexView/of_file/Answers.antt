@@ -1,4 +1,4 @@
-use Rattle.mail_index.proofs.Words.{sym, subst, arith, Fits-lt-pow, IsVersion, table_of}
+use Rattle.mail_index.proofs.Words.{sym, ◌∙◌, subst, arith, Fits-lt-pow, IsVersion, table_of}
 use Rattle.mail_index.proofs.FileLaws.KnownFile.{has_counts, known_file}
 use Rattle.mail_index.proofs.FileLaws.SameTable.{same-table}
 use Rattle.mail_index.proofs.view.index_view.IndexView.of_file.Goals as goal
@@ -8,6 +8,9 @@ u32_at-requires c = omega (arith, (has_counts c.args.bytes.now c.requires.0 c.we
 
 pub unreachable-requires : goal.unreachable-requires
 unreachable-requires c = c.in_default.ensures (subst IsVersion (sym c.u32_at.ensures) (has_counts c.args.bytes.now c.requires.0 c.well_formed.0.0 c.requires.1).0.known)
+
+pub of-requires-2-clause-version : goal.of-requires-2-clause-version
+of-requires-2-clause-version c = c.in-Some.ensures ∙ c.u32_at.ensures
 
 pub of-requires-2-clause-long : goal.of-requires-2-clause-long
 of-requires-2-clause-long c = (has_counts c.args.bytes.now c.requires.0 c.well_formed.0.0 c.requires.1).0.long
