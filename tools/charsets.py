@@ -2,7 +2,7 @@
 """Compares the tables of single-byte charsets with those of Python's codecs, over all 256 bytes.
 
 It reads the definitions in crates/header_text/specs/Charsets.antt and the tables of its test in
-crates/worked_texts/src/header_texts.rt. With --print it writes the test's tables anew.
+crates/worked_parts/src/header_texts.rt. With --print it writes the test's tables anew.
 """
 import os
 import re
@@ -10,7 +10,7 @@ import sys
 
 TOP = os.path.dirname(os.path.dirname(os.path.abspath(__file__)))
 SPEC = os.path.join(TOP, "crates/header_text/specs/Charsets.antt")
-TEST = os.path.join(TOP, "crates/worked_texts/src/header_texts.rt")
+TEST = os.path.join(TOP, "crates/worked_parts/src/header_texts.rt")
 CHARSETS = {"LATIN_1": "iso-8859-1", "LATIN_9": "iso-8859-15", "WINDOWS_1252": "cp1252"}
 
 

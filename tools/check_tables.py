@@ -11,7 +11,7 @@ sys.dont_write_bytecode = True
 from function_bodies import blanked, bodies_of_file
 
 TOOLS = os.path.dirname(os.path.abspath(__file__))
-DATES = os.path.join(TOOLS, "..", "crates", "worked_texts", "src", "header_dates.rt")
+DATES = os.path.join(TOOLS, "..", "crates", "worked_parts", "src", "header_dates.rt")
 
 
 def same_charsets():

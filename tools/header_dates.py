@@ -1,7 +1,7 @@
 #!/usr/bin/env python3
 """Writes the table of header dates that the tests of mail_dates run over, with seconds from outside.
 
-    python3 tools/header_dates.py > crates/worked_texts/src/header_dates.rt
+    python3 tools/header_dates.py > crates/worked_parts/src/header_dates.rt
 
 The seconds come from Python alone: email.utils.parsedate_tz and mktime_tz read each field, and where the field was
 made from a date, datetime's own arithmetic has to agree. Where this product differs by rule, the row is listed under

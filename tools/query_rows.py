@@ -1,6 +1,6 @@
 #!/usr/bin/env python3
 """A second reader of queries, with which the rows of crates/mail_query/proofs/Rows*.antt and the tables of
-crates/worked_texts/src are compared.
+crates/worked_parts/src are compared.
 
 It filters over the grammars: the readings of a text are all its derivations, and a fault shows at the first token behind
 which nothing leads to a reading. Words and dates are of the rows' own lexicon, proofs/RowLexicon.antt, or of mail's.
@@ -10,7 +10,7 @@ import os, re, sys
 
 CRATES = os.path.join(os.path.dirname(os.path.abspath(__file__)), "..", "crates")
 PROOFS = os.path.join(CRATES, "mail_query", "proofs")
-TABLES = os.path.join(CRATES, "worked_texts", "src")
+TABLES = os.path.join(CRATES, "worked_parts", "src")
 FEWEST = 490  # texts, in all
 MOST_WAITING = 30
 SIZE_LIMIT = 2**63 - 1

@@ -61,11 +61,12 @@ fn push_piece(bytes: &mut Vec<u8>, piece: &str) -> Option<()> {
 
 fn push_signs(bytes: &mut Vec<u8>, signs: &str) -> Result<(), AllocError> {
     for sign in signs.as_bytes() {
-        match *sign {
-            b'^' => bytes.extend_from_slice(SEPARATOR)?,
-            b'|' => bytes.push(b'\n')?,
-            other => bytes.push(other)?,
-        }
+        let written: &[u8] = match sign {
+            b'^' => SEPARATOR,
+            b'|' => b"\n",
+            _ => std::slice::from_ref(sign),
+        };
+        bytes.extend_from_slice(written)?;
     }
     Ok(())
 }

@@ -1,0 +1,9 @@
+use Rattle.std.proofs.Common.{◌≡◌}
+use Rattle.mbox_cutter.specs.Places.{left}
+use Rattle.worked_parts.proofs.cut_archives.tell.Given as goal
+
+abbrev pub invariant-events : goal.invariant-events
+invariant-events g l = g.S.Source.failures l.cutter.source.now ≡ g.S.Source.failures l.initial.cutter.source.now
+
+abbrev pub decreases-events : goal.decreases-events
+decreases-events g l = left l.cutter.place

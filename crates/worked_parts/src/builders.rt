@@ -1,0 +1,204 @@
+//! What builders write, and a builder's limit with ample memory.
+ghost use Rattle.std.specs.Prelude.{◌≡◌, ◌<◌, ◌≤◌, Some, None, length, IfOk, IfSome, OnErr};
+ghost use Rattle.mail_index.specs.Builders.{empty_draft, IsBetweenArchives};
+ghost use Rattle.mail_index.specs.Tables.{IsPath};
+
+use crate::compared::have_numbers;
+use crate::counted::Counted;
+use crate::index_files::{ARCHIVE_DIGEST, ONLY};
+use mail_index::{BuildFault, Builder, IndexView, Kind, Prefetched, Steps, is_path};
+use mail_words::TextKind;
+use mbox_cutter::MemoryOut;
+use std::alloc::Global;
+
+pub const PATH: &str = "m.mbox";
+
+/// Gives a builder an archive of one message, with the subject "hello" and a key that comes twice.
+pub fn build(builder: &mut Builder, path: &str, kind: Kind, key: &[u8]) -> Result<(), BuildFault>
+    requires empty { builder.old ≡ Some (empty_draft 2) }
+    requires path { IsPath path.now }
+    requires some { 0 < length key.now }
+    requires short { length key.now ≤ 262144 }
+    ensures lost { OnErr result (builder.new ≡ None) }
+    ensures phase { IfSome builder.new IsBetweenArchives }
+{
+    builder.begin_archive(path)?;
+    builder.begin_message()?;
+    builder.add(kind, key)?;
+    builder.add(Kind::Text(TextKind::Subject), b"hello")?;
+    builder.add(kind, key)?;
+    builder.end_message(ONLY)?;
+    builder.end_archive(58, ARCHIVE_DIGEST)
+}
+
+/// What a builder writes, if it tells how many bytes that are. It is None where memory is wanting, and so are the answers below.
+fn file_of(alloc: Global, builder: &Builder) -> Option<MemoryOut>
+    requires phase { IfSome builder.now IsBetweenArchives }
+{
+    let mut out = MemoryOut::new(alloc, None);
+    let count = builder.write(&mut out);
+    let length = out.bytes().len() as u64;
+    matches!(count, Ok(told) if told == length).then_some(out)
+}
+
+/// The file of the archive of one message.
+pub fn written(alloc: Global, kind: Kind, key: &[u8]) -> Option<MemoryOut>
+    requires some { 0 < length key.now }
+    requires short { length key.now ≤ 262144 }
+{
+    if !is_path(PATH) {
+        return None;
+    }
+    let mut builder = Builder::new(alloc, 2);
+    match build(&mut builder, PATH, kind, key) {
+        Ok(()) => file_of(alloc, &builder),
+        Err(_) => None,
+    }
+}
+
+/// The file of the table with nothing in it.
+pub fn written_of_none(alloc: Global) -> Option<MemoryOut> {
+    file_of(alloc, &Builder::new(alloc, 0))
+}
+
+/// Whether both are want of memory, or both a count that is too large.
+fn is_same(one: BuildFault, other: BuildFault) -> bool {
+    match one {
+        BuildFault::OutOfMemory => matches!(other, BuildFault::OutOfMemory),
+        BuildFault::TooMany => matches!(other, BuildFault::TooMany),
+        _ => false,
+    }
+}
+
+/// Whether a call was refused so, and the builder has lost all that it was given: every later call answers that one failed.
+pub fn is_lost(builder: &mut Builder, answer: Result<(), BuildFault>, fault: BuildFault) -> bool
+    requires { OnErr answer (builder.old ≡ None) }
+{
+    if answer.is_ok() {
+        return false;
+    }
+    let later = [
+        builder.begin_archive(PATH),
+        builder.begin_message(),
+        builder.add(Kind::OwnId, b"hi"),
+        builder.end_message(ONLY),
+        builder.end_archive(58, ARCHIVE_DIGEST),
+    ];
+    let written = builder.write(&mut Counted { bytes: 0 });
+    let is_refused = match answer {
+        Ok(()) => false,
+        Err(refusal) => is_same(refusal, fault),
+    };
+    let has_failed = later
+        .iter()
+        .all(|answer| matches!(answer, Err(BuildFault::Failed)));
+    is_refused && has_failed && matches!(written, Err(BuildFault::Failed))
+}
+
+/// What a builder may have one of.
+#[derive(Clone, Copy, Debug)]
+enum Part {
+    Archive,
+    Message,
+    Key,
+}
+
+/// What a builder answers that has an archive, a message and a key and is given one more of these, where all before was taken.
+fn answer_to_second(
+    builder: &mut Builder,
+    path: &str,
+    second: Part,
+) -> Result<Result<(), BuildFault>, BuildFault>
+    requires empty { builder.old ≡ Some (empty_draft 1) }
+    requires path { IsPath path.now }
+    ensures lost { IfOk result (λ answer. OnErr answer (builder.new ≡ None)) }
+{
+    builder.begin_archive(path)?;
+    builder.begin_message()?;
+    builder.add(Kind::OwnId, b"1@x")?;
+    if let Part::Key = second {
+        return Ok(builder.add(Kind::LinkId, b"1@x"));
+    }
+    builder.end_message(ONLY)?;
+    if let Part::Message = second {
+        return Ok(builder.begin_message());
+    }
+    builder.end_archive(58, ARCHIVE_DIGEST)?;
+    Ok(builder.begin_archive(path))
+}
+
+/// Whether a builder of one archive, one message and one key at most answers one more so.
+fn has_too_many(alloc: Global, second: Part) -> bool {
+    if !is_path(PATH) {
+        return false;
+    }
+    let mut builder = Builder::new(alloc, 1);
+    match answer_to_second(&mut builder, PATH, second) {
+        Ok(answer) => is_lost(&mut builder, answer, BuildFault::TooMany),
+        Err(_) => false,
+    }
+}
+
+#[test]
+fn one_more_is_too_many(rt: HostRuntime) {
+    for second in [Part::Archive, Part::Message, Part::Key] {
+        assert!(rt; has_too_many(rt.alloc(), second), "{second:?}");
+    }
+}
+
+/// Whether a builder tells that the open message has a key once it has it, and neither of another key nor in the next message.
+fn tells_key(builder: &mut Builder, path: &str) -> Result<bool, BuildFault>
+    requires empty { builder.old ≡ Some (empty_draft 2) }
+    requires path { IsPath path.now }
+{
+    let place = Prefetched::of(Kind::OwnId, b"1@x");
+    builder.begin_archive(path)?;
+    builder.begin_message()?;
+    let before = builder.has_recent(Kind::OwnId, b"1@x", place);
+    builder.add(Kind::OwnId, b"1@x")?;
+    let behind = builder.has_recent(Kind::OwnId, b"1@x", place);
+    let of_others = builder.has_recent(Kind::LinkId, b"1@x", place);
+    builder.end_message(ONLY)?;
+    builder.begin_message()?;
+    let in_next = builder.has_recent(Kind::OwnId, b"1@x", place);
+    Ok([before, behind, of_others, in_next] == [false, true, false, false])
+}
+
+/// Whether a new builder does.
+fn tells_what_it_has(alloc: Global) -> bool {
+    is_path(PATH) && matches!(tells_key(&mut Builder::new(alloc, 2), PATH), Ok(true))
+}
+
+#[test]
+fn keys_that_came_are_told(rt: HostRuntime) {
+    assert!(rt; tells_what_it_has(rt.alloc()));
+}
+
+/// Whether a file has an id in its first message alone.
+fn has_id(file: &[u8], id: &[u8]) -> bool {
+    match IndexView::open(file) {
+        Ok(view) => have_numbers(view.look_up(Kind::OwnId, id, &mut Steps::new()), &[0]),
+        Err(_) => false,
+    }
+}
+
+/// Whether a key of so many bytes is written and found.
+fn is_found(alloc: Global, length: usize) -> Option<bool>
+    requires some { 0 < length }
+    requires short { length ≤ 262144 }
+{
+    let id = vec![in alloc; b'x'; length].ok()?;
+    let file = written(alloc, Kind::OwnId, &id)?;
+    Some(has_id(file.bytes(), &id))
+}
+
+/// An entry has 15 bytes of a key in itself, and the longest key is as long as a header.
+#[test]
+fn keys_of_each_length_are_found(rt: HostRuntime) {
+    for length in [1usize, 15, 16, 2_048, 2_049, 65_537, 262_144] {
+        assert!(rt;
+            is_found(rt.alloc(), length) == Some(true),
+            "{length} bytes"
+        );
+    }
+}

@@ -1,0 +1,247 @@
+//! Whole archives through devices that give their bytes in pieces, fail, or never end; and callers over any source.
+ghost use Rattle.std.specs.Prelude.{◌≡◌, ◌-◌, ◌^◌, ◌<◌, None, length, IfOk, IfSome};
+ghost use Rattle.std.specs.List.{sum_by};
+ghost use Rattle.mbox_cutter.specs.Archives.{messages, size};
+
+use crate::rows::{bytes_of, has_text};
+use mbox_cutter::{
+    Buffer, CutFault, Cutter, DeviceFault, Event, FromRead, MemoryOut, MemorySource, Out, Source,
+    ToWrite, send,
+};
+use std::alloc::{AllocError, Global};
+use std::fmt::Write;
+
+const ONE: &[u8] = b"From a@x.org Thu Jan  2 10:00:00 2003\nSubject: Hello\n\nhi\n\n";
+
+const TOLD: &str = "start 0 38, line 15, line 1, line 3, end 58 19, done 58";
+
+/// How many messages an archive has, and how many bytes their texts have.
+#[derive(Clone, Copy)]
+struct Tally {
+    count: u64,
+    bytes: u64,
+}
+
+/// A caller that knows what it has seen where the bytes are known, and is safe where they aren't.
+fn tally_of<S: Source>(buffer: Buffer, source: &mut S, most: u64) -> Result<Tally, CutFault>
+    requires most { most < 2 ^ 62 }
+    requires count { S.failures source.old < 2 ^ 64 - 1 }
+    ensures { IfOk result (λ t. IfSome (S.rest source.old) (λ bytes. IfSome (messages bytes)
+        (λ ms. (t.count ≡ length ms) × (t.bytes ≡ sum_by size ms)))) }
+{
+    let mut cutter = Cutter::over(buffer, source, most);
+    let mut count = 0;
+    let mut bytes = 0;
+    'events: loop {
+        match cutter.next_event() {
+            Ok(Event::Start { .. }) => count += 1,
+            Ok(Event::Line(_)) => {}
+            Ok(Event::End { size, .. }) => bytes += size,
+            Ok(Event::Done { .. }) => return Ok(Tally { count, bytes }),
+            Err(fault) => return Err(fault),
+        }
+    }
+}
+
+/// What is told of an archive: its events in words, with the lengths of the lines, and the lines, which are lent one after another.
+#[derive(Drop)]
+struct Told {
+    text: String,
+    lent: Vec<u8>,
+}
+
+impl Told {
+    fn event(&mut self, event: Event<'_>) -> Result<(), AllocError> {
+        match event {
+            Event::Start { offset, line } => {
+                self.lent.extend_from_slice(line)?;
+                write!(self.text, "start {offset} {}, ", line.len())
+            }
+            Event::Line(line) => {
+                self.lent.extend_from_slice(line)?;
+                write!(self.text, "line {}, ", line.len())
+            }
+            Event::End { length, size } => write!(self.text, "end {length} {size}, "),
+            Event::Done { length } => write!(self.text, "done {length}"),
+        }
+    }
+}
+
+/// Tells the events of an archive, or the fault that ends them.
+fn tell<S: Source>(cutter: &mut Cutter<'_, S>, told: &mut Told) -> Result<(), AllocError>
+    requires { S.failures cutter.old.source.now < 2 ^ 64 - 1 }
+{
+    'events: loop {
+        match cutter.next_event() {
+            Ok(Event::Done { length }) => return told.event(Event::Done { length }),
+            Ok(event) => told.event(event)?,
+            Err(fault) => return write!(told.text, "{fault}"),
+        }
+    }
+}
+
+/// What is told of a source. It is None where memory is wanting, and so are the answers below.
+fn told_of<S: Source>(alloc: Global, source: &mut S, most: u64) -> Option<Told>
+    requires { S.failures source.old < 2 ^ 64 - 1 }
+{
+    let mut told = Told {
+        text: String::new(alloc),
+        lent: Vec::new(alloc),
+    };
+    let mut cutter = Cutter::new(alloc, source, most).ok()?;
+    tell(&mut cutter, &mut told).ok()?;
+    Some(told)
+}
+
+/// Whether this is told of a source.
+fn is_told<S: Source>(alloc: Global, source: &mut S, most: u64, wanted: &str) -> Option<bool>
+    requires { S.failures source.old < 2 ^ 64 - 1 }
+{
+    Some(told_of(alloc, source, most)?.text.as_str() == wanted)
+}
+
+/// In each line the most bytes that come at a read, the most bytes that are taken, an archive, and what is told of it.
+const ARCHIVES: &str = "\
+1 58 ^Subject: Hello||hi|| => start 0 38, line 15, line 1, line 3, end 58 19, done 58
+7 58 ^Subject: Hello||hi|| => start 0 38, line 15, line 1, line 3, end 58 19, done 58
+58 58 ^Subject: Hello||hi|| => start 0 38, line 15, line 1, line 3, end 58 19, done 58
+1000 58 ^Subject: Hello||hi|| => start 0 38, line 15, line 1, line 3, end 58 19, done 58
+5 10 ^Subject: Hello||hi|| => too long
+5 57 ^Subject: Hello||hi|| => start 0 38, line 15, line 1, line 3, too long
+5 10 hello| => not an mbox
+5 6 hello| => not an mbox
+5 3 hello| => too long
+5 2 || => done 2
+4096 1099511627776 ^{65535*a}| => start 0 38, line 65536, end 65574 65536, done 65574
+4096 1099511627776 ^{65536*a}| => start 0 38, line 65537, end 65575 65537, done 65575
+4096 1099511627776 ^{65537*a}| => start 0 38, line 65536, line 2, end 65576 65538, done 65576
+4096 1099511627776 ^{65535*a}\r| => start 0 38, line 65537, end 65575 65537, done 65575
+4096 1099511627776 ^{65536*a}\r| => start 0 38, line 65536, end 65576 65536, done 65576
+4096 1099511627776 ^{65537*a}\r| => start 0 38, line 65536, line 3, end 65577 65539, done 65577
+4096 1099511627776 ^{65535*a} => start 0 38, line 65535, end 65573 65535, done 65573
+4096 1099511627776 ^{65536*a} => start 0 38, line 65536, end 65574 65536, done 65574
+4096 1099511627776 ^{65537*a} => start 0 38, line 65536, line 1, end 65575 65537, done 65575
+";
+
+/// Whether an archive is told as its row says.
+fn row_is_told(alloc: Global, row: &str) -> Option<bool> {
+    let (given, wanted) = row.split_once(" => ")?;
+    let (piece, given) = given.split_once(' ')?;
+    let (most, archive) = given.split_once(' ')?;
+    let piece: usize = piece.parse().ok()?;
+    let most = most.parse().ok()?;
+    let bytes = bytes_of(alloc, archive)?;
+    let mut source = MemorySource::new(alloc, &bytes, piece.max(1), None).ok()?;
+    is_told(alloc, &mut source, most, wanted)
+}
+
+#[test]
+fn archives_are_told(rt: HostRuntime) {
+    for row in ARCHIVES.lines() {
+        assert!(rt; row_is_told(rt.alloc(), row).unwrap_or(false), "{row}");
+    }
+}
+
+/// Whether a front of the events is told before a read that fails, or all of them where fewer reads are made. Then all lines but the
+/// closing one are lent.
+fn is_told_up_to(alloc: Global, piece: usize, fail_at: u64, reads: u64) -> Option<bool> {
+    let mut source = MemorySource::new(alloc, ONE, piece.max(1), Some(fail_at)).ok()?;
+    let told = told_of(alloc, &mut source, 1000)?;
+    let text = told.text.as_str();
+    let as_wanted = match text.strip_suffix("read failed") {
+        Some(front) => fail_at <= reads && TOLD.starts_with(front),
+        None => fail_at > reads && text == TOLD && told.lent.as_slice() == &ONE[..57],
+    };
+    Some(as_wanted)
+}
+
+#[test]
+fn each_read_fails(rt: HostRuntime) {
+    for (piece, reads) in [(1, 59), (7, 10)] {
+        for fail_at in 1..reads + 2 {
+            let as_wanted = is_told_up_to(rt.alloc(), piece, fail_at, reads);
+            assert!(rt; as_wanted.unwrap_or(false), "read {fail_at} by {piece}");
+        }
+    }
+}
+
+/// Whether each call behind the fault of an archive that is too long has failed.
+fn fails_from_then_on(alloc: Global) -> Option<bool> {
+    let mut source = FromRead::new(ONE);
+    let mut cutter = Cutter::new(alloc, &mut source, 10).ok()?;
+    let as_wanted = matches!(cutter.next_event(), Err(CutFault::ArchiveTooLong))
+        && matches!(cutter.next_event(), Err(CutFault::Failed))
+        && matches!(cutter.next_event(), Err(CutFault::Failed));
+    Some(as_wanted)
+}
+
+#[test]
+fn failed_from_then_on(rt: HostRuntime) {
+    assert!(rt; fails_from_then_on(rt.alloc()).unwrap_or(false));
+    let have_texts = has_text(CutFault::Failed, "failed before")
+        && has_text(DeviceFault, "the device failed");
+    assert!(rt; have_texts);
+}
+
+/// Line feeds without end.
+#[derive(Drop)]
+struct Feeds;
+
+impl Source for Feeds {
+    ghost rest = { λ _. None };
+
+    ghost failures = { λ _. 0 };
+
+    fn read_next(&mut self, into: &mut [u8]) -> Result<usize, DeviceFault> {
+        into[0] = b'\n';
+        Ok(1)
+    }
+}
+
+#[test]
+fn a_source_without_end(rt: HostRuntime) {
+    assert!(rt; is_told(rt.alloc(), &mut Feeds, 10, "too long").unwrap_or(false));
+}
+
+/// Whether a cutter counts right with the buffer of a first one.
+fn counts_again(alloc: Global, source: &mut MemorySource) -> Option<bool>
+    requires { source.old.failures < 2 ^ 64 - 1 }
+{
+    let mut kept = None;
+    let cutter = Cutter::new(alloc, source, 1000).ok()?;
+    let source = cutter.into_source_keeping(&mut kept);
+    let tally = tally_of(kept?, source, 1000).ok()?;
+    Some(tally.count == 1 && tally.bytes == 19)
+}
+
+#[test]
+fn one_buffer_for_two(rt: HostRuntime) {
+    let mut source = MemorySource::new(rt.alloc(), ONE, 3, None).expect(&rt, "a source");
+    assert!(rt; counts_again(rt.alloc(), &mut source).unwrap_or(false));
+}
+
+/// Whether an output in memory with this room takes just so many bytes.
+fn takes(alloc: Global, room: Option<u64>, length: usize) -> bool {
+    let mut out = MemoryOut::new(alloc, room);
+    let is_sent = send(&mut out, ONE).is_ok();
+    is_sent == (length == ONE.len()) && Some(out.bytes()) == ONE.get(..length)
+}
+
+/// Whether a writer of std takes all bytes.
+fn is_written(alloc: Global) -> bool {
+    let mut written = Vec::new(alloc);
+    send(&mut ToWrite::new(&mut written), ONE).is_ok() && written.as_slice() == ONE
+}
+
+#[test]
+fn devices_in_memory_and_of_std(rt: HostRuntime) {
+    assert!(rt; takes(rt.alloc(), Some(13), 13) && takes(rt.alloc(), None, 58));
+    assert!(rt; is_told(rt.alloc(), &mut FromRead::new(ONE), 1000, TOLD).unwrap_or(false));
+    assert!(rt; is_written(rt.alloc()));
+}
+
+/// The gate refuses each allocation of this test in turn.
+#[test]
+fn sweep_cutter(rt: HostRuntime) {
+    assert!(rt; row_is_told(rt.alloc(), "1 10 | => done 1").unwrap_or(true));
+}

@@ -1,0 +1,101 @@
+//! What is told of a query, in a line.
+//!
+//! A query is `any`, `word KINDS TEXT`, `part KINDS TEXT`, `prefix KINDS TEXT`, `date FROM UNTIL` in seconds, `size LOW HIGH`,
+//! `flag s` or `flag -s` by its letter, `not QUERY`, `all(QUERY, QUERY)` or `either(QUERY, QUERY)`. A bound that isn't there is `-`. Kinds
+//! are as [`kinds_of`] reads them. A refusal is told as it is printed.
+
+use mail_query::{Kinds, Node, Query, QueryFault};
+use mail_words::Flag;
+use std::fmt::{Display, InlineText};
+
+/// Whether this is what is told of a reader's answer.
+pub fn is_told(answer: &Result<Query, QueryFault>, told: &str) -> bool {
+    match answer {
+        Ok(query) => behind_node(told, query.root()) == Some(""),
+        Err(fault) => {
+            let text: InlineText<64> = InlineText::of(*fault);
+            text.as_str() == told
+        }
+    }
+}
+
+/// What stands behind a query, where the line begins with what is told of it.
+fn behind_node<'a>(told: &'a str, node: &Node) -> Option<&'a str> {
+    match node {
+        Node::Any => told.strip_prefix("any"),
+        Node::Word { kinds, text } => behind_sought(told, "word ", *kinds, text.as_str()),
+        Node::Part { kinds, text } => behind_sought(told, "part ", *kinds, text.as_str()),
+        Node::Prefix { kinds, text } => behind_sought(told, "prefix ", *kinds, text.as_str()),
+        Node::Date(range) => {
+            let rest = behind_bound(told.strip_prefix("date ")?, range.from)?;
+            behind_bound(rest.strip_prefix(" ")?, range.until)
+        }
+        Node::Size { low, high } => {
+            let rest = behind_bound(told.strip_prefix("size ")?, Some(*low))?;
+            behind_bound(rest.strip_prefix(" ")?, *high)
+        }
+        Node::Flag { flag, wanted } => behind_flag(told.strip_prefix("flag ")?, *flag, *wanted),
+        Node::Not(inner) => behind_node(told.strip_prefix("not ")?, inner),
+        Node::All(members) | Node::Either(members) => {
+            let is_all = matches!(node, Node::All(_));
+            let mut rest = told.strip_prefix(if is_all { "all(" } else { "either(" })?;
+            let mut separator = "";
+            for member in members {
+                rest = behind_node(rest.strip_prefix(separator)?, member)?;
+                separator = ", ";
+            }
+            rest.strip_prefix(")")
+        }
+    }
+}
+
+fn behind_sought<'a>(told: &'a str, name: &str, kinds: Kinds, text: &str) -> Option<&'a str> {
+    let (letters, rest) = told.strip_prefix(name)?.split_once(' ')?;
+    if kinds_of(letters) == Some(kinds) {
+        rest.strip_prefix(text)
+    } else {
+        None
+    }
+}
+
+/// The kinds of letters: `h` is the blind copies', `m` the own id's, and each other one is the kind's first.
+fn kinds_of(letters: &str) -> Option<Kinds> {
+    let mut kinds = Kinds::NONE;
+    for letter in letters.as_bytes() {
+        match letter {
+            b't' => kinds.to = true,
+            b'c' => kinds.cc = true,
+            b'h' => kinds.bcc = true,
+            b'f' => kinds.from = true,
+            b's' => kinds.subject = true,
+            b'b' => kinds.body = true,
+            b'n' => kinds.name = true,
+            b'm' => kinds.own_id = true,
+            _ => return None,
+        }
+    }
+    Some(kinds)
+}
+
+fn behind_bound<N: Display + Drop>(told: &str, bound: Option<N>) -> Option<&str> {
+    match bound {
+        None => told.strip_prefix("-"),
+        Some(number) => {
+            let text: InlineText<20> = InlineText::of(number);
+            told.strip_prefix(text.as_str())
+        }
+    }
+}
+
+fn behind_flag(told: &str, flag: Flag, wanted: bool) -> Option<&str> {
+    let rest = if wanted {
+        told
+    } else {
+        told.strip_prefix("-")?
+    };
+    rest.strip_prefix(match flag {
+        Flag::Seen => "s",
+        Flag::Replied => "r",
+        Flag::Flagged => "f",
+    })
+}
