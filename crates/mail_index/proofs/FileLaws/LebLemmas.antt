@@ -1,5 +1,5 @@
 -- LEB128, split byte by byte.
-use Rattle.mail_index.proofs.Words.{◌≡◌, ◌≢◌, ℕ, zero, suc, ◌+◌, ◌-◌, ◌*◌, ◌/◌, ◌<◌, ◌≤◌, refl, arith, IsShort}
+use Rattle.mail_index.proofs.Words.{◌≡◌, ◌≢◌, ℕ, zero, suc, ◌+◌, ◌-◌, ◌*◌, ◌/◌, ◌<◌, ◌≤◌, refl, arith, IsShort, leb128, [], ◌∷◌}
 
 -- five groups are 35 bits
 pub IsShort-small : (groups n : ℕ) → groups ≤ 5 → IsShort groups n → n < 34359738368
@@ -23,3 +23,7 @@ IsShort-last (suc groups) b some h = let none : b / 128 ≡ 0 = omega (arith, h)
 -- seven bits more below
 pub IsShort-more : (groups b high : ℕ) → groups ≢ 0 → b < 128 → IsShort (groups - 1) high → IsShort groups (b + 128 * high)
 IsShort-more groups b high h h2 h3 = grind arith
+
+-- a number of two bytes
+pub leb-two : (low high : ℕ) → low < 128 → 0 < high → high < 128 → leb128 5 (low + 128 * high) ≡ (128 + low) ∷ high ∷ []
+leb-two low high a b h = grind arith

@@ -37,3 +37,6 @@ loop-index-preserved c =
           ∙ ap (λ l. option_map (draft_with_terms l) now) (next-waiting kind c.self.inside.words c.self.inside.count i nothing c.args.self.now c.self.view_is c.loop-index-test.true (omega arith))
           ∙ added-terms (Text kind) word rest now c.add_prefetched.new.self c.in_ok-add_prefetched.ensures.gives;
     }
+
+pub loop-index-init : goal.loop-index-init
+loop-index-init c = grind arith

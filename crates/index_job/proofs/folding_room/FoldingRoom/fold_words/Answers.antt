@@ -1,4 +1,4 @@
-use Rattle.index_job.proofs.Words.{◌≡◌, ◌∙◌, [], ◌∷◌, ◌++◌, All, map, sym, ap, subst, append_assoc, All-tail, folding, HasWordLength}
+use Rattle.index_job.proofs.Words.{arith, ◌≡◌, ◌∙◌, [], ◌∷◌, ◌++◌, All, map, sym, ap, subst, append_assoc, All-tail, folding, HasWordLength}
 use Rattle.index_job.proofs.folding_room.FoldingRoom.fold_words.Goals as goal
 
 pub loop-word-preserved : goal.loop-word-preserved
@@ -17,3 +17,6 @@ loop-word-preserved c =
         append_assoc held.0 (folding word ∷ []) (map folding rest) ∙ sym (ap (λ l. held.0 ++ map folding l) steps) ∙ held.2,
       ),
     )
+
+pub loop-word-init : goal.loop-word-init
+loop-word-init c = grind arith

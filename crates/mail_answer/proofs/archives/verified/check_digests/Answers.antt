@@ -38,3 +38,6 @@ pub returns-clause-found : goal.returns-clause-found
 returns-clause-found g c =
     let i = c.loop-archive.invariant in
     subst (λ count. AreRead g.A.Archives c.args.index.now.archives count c.args.archives.now c.loop-archive.archives) (none_left _ c.loop-archive.n i.within (sym i.coming ∙ c.in_default.ensures.0)) i.read
+
+pub returns-then-ne-clause-keeps : goal.returns-then-ne-clause-keeps
+returns-then-ne-clause-keeps g c = grind arith

@@ -47,3 +47,6 @@ returns-in-Ok-clause-ok c =
     let c = (goal.at.returns-in-Ok-clause-ok c).In-Ok in
     ap₂ placed (entries-new c) (numbers-new c)
     ∙ with_pair-gap c.args.key.now.kind c.args.key.now.text.now c.args.key.now.number c.args.entries.now.items (numbers_in c.args.order.now) (place_in c.args.order.now c.args.place) c.requires.step.sorts c.requires.place.gap
+
+pub returns-in-Ok-clause-fits : goal.returns-in-Ok-clause-fits
+returns-in-Ok-clause-fits c = grind arith

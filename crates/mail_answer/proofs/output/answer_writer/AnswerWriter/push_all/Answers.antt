@@ -134,3 +134,6 @@ returns-clause-messages g c =
       spans = λ mbox.
           spans_end (g.O.Out.taken c.args.out.now) (g.O.Out.taken c.loop-n.out) (g.O.Out.taken c.send.new.out) c.args.self.now.sheet c.loop-n.self.sheet c.send.new.self t c.args.numbers.now done (rw all at (i.passed.2 mbox)) c.in_ok-send.ensures.writes;
     }
+
+pub returns-clause-count : goal.returns-clause-count
+returns-clause-count g c = grind arith

@@ -17,3 +17,6 @@ pub returns-clause-written : goal.returns-clause-written
 returns-clause-written g c =
     signs-join [] c.args.bytes.now (signs-flushed c.in_ok-flush.ensures.ok c.in_ok-flush.ensures.digest c.in_ok-flush.ensures.all)
     (signs-at-once c.in_ok-flush.ensures.all c.in_ok-send.ensures.ok c.update.ensures c.in_ok-flush.ensures.all)
+
+pub returns-then-bytes-le-ROOM-clause-written : goal.returns-then-bytes-le-ROOM-clause-written
+returns-then-bytes-le-ROOM-clause-written g c = grind arith

@@ -1,0 +1,5 @@
+use Rattle.index_job.proofs.Words.{arith}
+use Rattle.index_job.proofs.index_job.IndexJob.finish.Goals as goal
+
+pub returns-clause-ok : goal.returns-clause-ok
+returns-clause-ok g c = grind arith

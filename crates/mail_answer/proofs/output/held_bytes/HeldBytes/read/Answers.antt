@@ -1,0 +1,14 @@
+use Rattle.mail_answer.proofs.Words.{arith}
+use Rattle.mail_answer.proofs.output.held_bytes.HeldBytes.read.Goals as goal
+
+pub returns-then-n-eq0-clause-count : goal.returns-then-n-eq0-clause-count
+returns-then-n-eq0-clause-count g c = grind arith
+
+pub returns-then-n-eq0-clause-stale : goal.returns-then-n-eq0-clause-stale
+returns-then-n-eq0-clause-stale g c = grind arith
+
+pub returns-then-n-eq0-clause-bytes : goal.returns-then-n-eq0-clause-bytes
+returns-then-n-eq0-clause-bytes g c = grind arith
+
+pub returns-then-n-eq0-clause-unread : goal.returns-then-n-eq0-clause-unread
+returns-then-n-eq0-clause-unread g c = grind arith

@@ -1,0 +1,5 @@
+use Rattle.mail_index.proofs.Words.{arith}
+use Rattle.mail_index.proofs.view.directory_walk.behind_entry.Goals as goal
+
+pub returns : goal.returns
+returns c = grind arith

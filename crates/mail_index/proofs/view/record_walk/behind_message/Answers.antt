@@ -1,0 +1,5 @@
+use Rattle.mail_index.proofs.Words.{arith}
+use Rattle.mail_index.proofs.view.record_walk.behind_message.Goals as goal
+
+pub returns : goal.returns
+returns c = grind arith

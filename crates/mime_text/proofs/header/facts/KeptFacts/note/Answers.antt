@@ -1,0 +1,5 @@
+use Rattle.mime_text.proofs.Words.{arith}
+use Rattle.mime_text.proofs.header.facts.KeptFacts.note.Goals as goal
+
+pub returns-in_ok-facts-clause-notes : goal.returns-in_ok-facts-clause-notes
+returns-in_ok-facts-clause-notes c = grind arith

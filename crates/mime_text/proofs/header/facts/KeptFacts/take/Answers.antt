@@ -1,0 +1,5 @@
+use Rattle.mime_text.proofs.Words.{arith}
+use Rattle.mime_text.proofs.header.facts.KeptFacts.take.Goals as goal
+
+pub returns-clause-facts : goal.returns-clause-facts
+returns-clause-facts c = grind arith

@@ -1,0 +1,5 @@
+use Rattle.mime_text.proofs.Words.{arith}
+use Rattle.mime_text.proofs.parts.part_reader.PartReader.begin_body.Goals as goal
+
+pub returns-in-Multipart-clause-comes : goal.returns-in-Multipart-clause-comes
+returns-in-Multipart-clause-comes c = grind arith
