@@ -5,7 +5,7 @@ import os
 import re
 from pathlib import Path
 
-# What a check should have, in bytes: one from nothing has taken 2.5 GB.
+# What a check should have, in bytes: one of a crate of tests takes a little more, all others less.
 MEMORY_OF_A_CHECK = 4_000_000_000
 
 GROUP = Path("/sys/fs/cgroup")
